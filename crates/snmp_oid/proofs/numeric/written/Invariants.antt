@@ -1,0 +1,8 @@
+use Rattle.std.proofs.Common.{◌≡◌, ℕ, ◌+◌, ◌*◌, ◌≤◌, [], ◌∷◌, ◌++◌, decimal, length, take}
+use Rattle.std.specs.List.{flat_map}
+use Rattle.snmp_oid.specs.Numeric.{dot}
+use Rattle.snmp_oid.proofs.Numerals.{IsWritten}
+use Rattle.snmp_oid.proofs.numeric.written.Given as goal
+
+abbrev pub invariant-numbers : goal.invariant-numbers
+invariant-numbers l = IsWritten l.numbers l.number-index l.text.items

@@ -1,0 +1,39 @@
+-- Object identifiers and their order (RFC 2578, sections 3.5 and 7.1.3; RFC 3416, sections 2.4 and 4.1). A contract sees an
+-- identifier as the list of its numbers.
+use Rattle.std.specs.Prelude.{◌≡◌, ◌≢◌, ℕ, ◌+◌, ◌*◌, ◌^◌, ◌<◌, ◌≤◌, ◌⊎◌, List, [], ◌∷◌, ◌++◌, length, All}
+
+-- o stands below root: it begins with root and is longer
+abbrev pub IsBelow : List ℕ → List ℕ → Type 0
+IsBelow o root = (rest : List ℕ) × (rest ≢ []) × (o ≡ root ++ rest)
+
+-- o and p part after a common front, and o has the smaller number there
+pub record PartsBelow (o p : List ℕ) : Type 0 where
+  pub front : List ℕ
+  pub smaller : ℕ
+  pub larger : ℕ
+  pub after : List ℕ
+  pub behind : List ℕ
+  pub this : o ≡ front ++ smaller ∷ after
+  pub that : p ≡ front ++ larger ∷ behind
+  pub is_smaller : smaller < larger
+
+-- o comes before p: it is a proper beginning of p, or has the smaller number at the first place where the two differ
+abbrev pub Precedes : List ℕ → List ℕ → Type 0
+Precedes o p = IsBelow p o ⊎ PartsBelow o p
+
+-- what an identifier holds: at most 128 numbers of 32 bits
+pub record IsIdentifier (o : List ℕ) : Type 0 where
+  pub short : length o ≤ 128
+  pub numbers : All (λ n. n < 2 ^ 32) o
+
+-- what has a BER encoding (X.690, 8.19.4): two numbers at least, the first 0 to 2, the second below 40 behind a 0 or a 1
+abbrev pub IsWire : List ℕ → Type 0
+IsWire (x ∷ y ∷ _) = (x ≤ 2) × (x < 2 → y < 40)
+IsWire (_ ∷ []) = ⊥
+IsWire [] = ⊥
+
+-- the identifier padded with zeros to two numbers
+abbrev pub wire : List ℕ → List ℕ
+wire [] = 0 ∷ 0 ∷ []
+wire (x ∷ []) = x ∷ 0 ∷ []
+wire (x ∷ y ∷ rest) = x ∷ y ∷ rest

@@ -1,0 +1,55 @@
+-- Identifiers as text: decimal numbers with a dot before or between them, as in `.1.3.6.1`.
+use Rattle.std.specs.Prelude.{◌≡◌, ◌≢◌, ℕ, ◌+◌, ◌-◌, ◌*◌, ◌^◌, ◌<◌, ◌≤◌, ◌⊎◌, ◌==◌, not, List, [], ◌∷◌, ◌++◌, length, take_while, drop, slice_index, decimal, codes, All, true}
+use Rattle.std.specs.List.{flat_map}
+use Rattle.std.specs.Str.{all_ascii_digits}
+
+-- the octet of `.`
+abbrev pub dot : ℕ
+dot = 46
+
+-- the value of a text of decimal digits, behind the value of the digits before it
+abbrev pub value_after : ℕ → List ℕ → ℕ
+value_after n [] = n
+value_after n (digit ∷ rest) = value_after (10 * n + (digit - 48)) rest
+
+-- one or more decimal digits, leading zeros among them or not, that spell a number of 32 bits
+pub record IsNumeral (text : List ℕ) (n : ℕ) : Type 0 where
+  pub some : text ≢ []
+  pub digits : all_ascii_digits text ≡ true
+  pub value : value_after 0 text ≡ n
+  pub fits : n < 2 ^ 32
+
+-- a numeral for each number, and a dot between each two
+abbrev pub IsDotted : List ℕ → List ℕ → Type 0
+IsDotted text [] = ⊥
+IsDotted text (n ∷ []) = IsNumeral text n
+IsDotted text (n ∷ m ∷ more) = (first : List ℕ) × (rest : List ℕ) × (text ≡ first ++ dot ∷ rest) × IsNumeral first n × IsDotted rest (m ∷ more)
+
+-- the text names the identifier: a dot alone the empty one, else dotted numerals, behind a dot or not
+abbrev pub IsNumericName : List ℕ → List ℕ → Type 0
+IsNumericName text o =
+    ((text ≡ dot ∷ []) × (o ≡ [])) ⊎ (IsDotted text o ⊎ ((rest : List ℕ) × (text ≡ dot ∷ rest) × IsDotted rest o))
+
+-- a part of the text begins here: at its start, where no dot stands there, and behind each dot
+abbrev pub BeginsPart : List ℕ → ℕ → Type 0
+BeginsPart text at = ((at ≡ 0) × (slice_index text 0 ≢ dot)) ⊎ ((at ≤ length text) × (0 < at) × (slice_index text (at - 1) ≡ dot))
+
+-- the part that begins here: the octets before the next dot
+abbrev pub part_at : List ℕ → ℕ → List ℕ
+part_at text at = take_while (λ octet. not (octet == dot)) (drop at text)
+
+-- the first part that is no numeral begins here
+pub record IsFirstBadPart (text : List ℕ) (at : ℕ) : Type 0 where
+  pub more : text ≢ dot ∷ []
+  pub part : BeginsPart text at
+  pub bad : (n : ℕ) → IsNumeral (part_at text at) n → ⊥
+  pub before : (k : ℕ) → k < at → BeginsPart text k → (n : ℕ) × IsNumeral (part_at text k) n
+
+-- the text names a list of more numbers than an identifier holds
+abbrev pub IsTooLong : List ℕ → Type 0
+IsTooLong text = (o : List ℕ) × IsNumericName text o × (128 < length o)
+
+-- an identifier written out: a dot before each number, and a dot alone for none
+abbrev pub numeric_text : List ℕ → List ℕ
+numeric_text [] = dot ∷ []
+numeric_text (n ∷ more) = flat_map (λ m. dot ∷ decimal m) (n ∷ more)

@@ -1,0 +1,10 @@
+//! Object identifiers: the numbers, their order, and their numeric text.
+//!
+//! The lowest layer. Tables, messages, walks and lines all speak of instances by these identifiers.
+#![tactic(auto)]
+
+mod numeric;
+mod oid;
+
+pub use numeric::{OidTextError, parse_numeric, write_numeric};
+pub use oid::{MAX_LEN, Oid, OidError};

@@ -1,0 +1,235 @@
+//! An object identifier of up to 128 numbers, which lie in the value itself.
+ghost use Rattle.std.specs.Prelude.{◌≡◌, ℕ, ◌+◌, ◌<◌, ◌≤◌, ◌↔◌, List, [], ◌∷◌, ◌++◌, length, IsTrue, IsOk, IfOk, IfErr, OnOk, OnErr, Some, refl};
+ghost use Rattle.std.proofs.Common.{rules};
+ghost use Rattle.std.specs.Ordering.{nat_cmp};
+ghost use Rattle.std.specs.Hash as fed;
+ghost use Rattle.std.specs.Cmp.{partial_equiv_from_equiv};
+ghost use Rattle.std.specs.Cmp.Lexicographic.{pointwise, slice_cmp, nat_list_eq_equiv, nat_list_cmp_total, texts_ties, texts_po};
+ghost use Rattle.std.specs.Cmp.Rules.{hashing};
+ghost use Rattle.std.specs.Bool.{nat_eq};
+ghost use Rattle.std.specs.declared.cmp.Ordering.{Ordering};
+ghost use Rattle.snmp_oid.specs.Identifier.{IsBelow, IsWire, Precedes, wire};
+
+use arrayvec::ArrayVec;
+use std::alloc::AllocError;
+use std::cmp::Ordering;
+use std::fmt;
+use std::hash::{Hash, Hasher};
+use std::marker::Model;
+use thiserror::Error;
+
+/// How many numbers an identifier holds at most (RFC 2578, section 3.5).
+pub const MAX_LEN: usize = 128;
+
+/// Why no identifier was made.
+#[derive(Clone, Copy, Debug, PartialEq, Eq, Error)]
+pub enum OidError {
+    /// It would have more than 128 numbers.
+    #[error("an object identifier has at most 128 numbers")]
+    TooLong,
+    /// It has no encoding in a message, as X.690 (8.19.4) has room for two first numbers of 0 to 2 and, behind 0 and 1, 0 to 39 alone.
+    #[error("the object identifier has no encoding")]
+    NotWire,
+}
+
+/// An object identifier: 0 to 128 numbers of 32 bits (RFC 2578, section 3.5).
+///
+/// Identifiers are ordered by their numbers from the left, a proper beginning first (RFC 3416, section 4.2.2).
+#[derive(Drop)]
+pub struct Oid {
+    numbers: ArrayVec<u32, 128>,
+}
+
+impl Model for Oid {
+    ghost Value = { List ℕ };
+
+    ghost view = { λ o. o.numbers.items };
+}
+
+impl Oid {
+    /// The identifier of no numbers.
+    pub fn new() -> Oid
+        ensures { result ≡ [] }
+    {
+        Oid {
+            numbers: ArrayVec::new(),
+        }
+    }
+
+    /// The identifier of these numbers, or `TooLong` where there are more than 128.
+    pub fn from_slice(numbers: &[u32]) -> Result<Oid, OidError>
+        ensures ok { IfOk result (λ o. o ≡ numbers.now) }
+        ensures variant { IsOk result ↔ (length numbers.now ≤ 128) }
+        ensures err { IfErr result (λ e. e ≡ OidError.TooLong) }
+    {
+        match ArrayVec::try_from(numbers) {
+            Ok(numbers) => Ok(Oid { numbers }),
+            Err(_) => Err(OidError::TooLong),
+        }
+    }
+
+    /// Appends a number, or answers `TooLong`, where there are 128 already, and leaves the identifier as it was.
+    pub fn push(&mut self, number: u32) -> Result<(), OidError>
+        ensures ok { OnOk result (self.new ≡ self.old ++ number ∷ []) }
+        ensures variant { IsOk result ↔ (length self.old < 128) }
+        ensures err { IfErr result (λ e. e ≡ OidError.TooLong) }
+        ensures unchanged { OnErr result (self.new ≡ self.old) }
+    {
+        if self.numbers.is_full() {
+            return Err(OidError::TooLong);
+        }
+        self.numbers.push(number);
+        Ok(())
+    }
+
+    /// The numbers, from the left.
+    #[inline]
+    pub fn as_slice(&self) -> &[u32]
+        ensures value { result.now ≡ self.now }
+        ensures short { length self.now ≤ 128 }
+    {
+        self.numbers.as_slice()
+    }
+
+    /// How many numbers there are, 0 to 128.
+    #[inline]
+    pub fn len(&self) -> usize
+        ensures value { result ≡ length self.now }
+        ensures short { length self.now ≤ 128 }
+    {
+        self.numbers.len()
+    }
+
+    /// Whether there are no numbers.
+    pub fn is_empty(&self) -> bool
+        ensures { IsTrue result ↔ (self.now ≡ []) }
+    {
+        self.numbers.is_empty()
+    }
+
+    /// Whether the identifier begins with `root` and is longer.
+    pub fn is_below(&self, root: &Oid) -> bool
+        ensures { IsTrue result ↔ IsBelow self.now root.now }
+    {
+        let front = root.as_slice();
+        self.len() > front.len() && &self.as_slice()[..front.len()] == front
+    }
+
+    /// Whether the identifier has an encoding (X.690, 8.19.4): two numbers at least, the first 0 to 2, the second below 40 behind a 0 or a 1.
+    pub fn is_wire(&self) -> bool
+        ensures { IsTrue result ↔ IsWire self.now }
+    {
+        match self.as_slice() {
+            [first, second, ..] => *first <= 2 && (*first == 2 || *second < 40),
+            _ => false,
+        }
+    }
+
+    /// The identifier padded with zeros to two numbers, or `NotWire` where that has no encoding.
+    pub fn to_wire(&self) -> Result<Oid, OidError>
+        ensures ok { IfOk result (λ o. o ≡ wire self.now) }
+        ensures variant { IsOk result ↔ IsWire (wire self.now) }
+        ensures err { IfErr result (λ e. e ≡ OidError.NotWire) }
+    {
+        let padded = self.padded();
+        if padded.is_wire() {
+            Ok(padded)
+        } else {
+            Err(OidError::NotWire)
+        }
+    }
+
+    /// The identifier padded with zeros to two numbers.
+    fn padded(&self) -> Oid
+        ensures { result ≡ wire self.now }
+    {
+        let made = match self.as_slice() {
+            [] => Oid::from_slice(&[0, 0]),
+            [first] => Oid::from_slice(&[*first, 0]),
+            numbers => Oid::from_slice(numbers),
+        };
+        match made {
+            Ok(oid) => oid,
+            Err(_) => unreachable!(),
+        }
+    }
+}
+
+/// The order of identifiers is the standard's: a proper beginning first, else the smaller number at the first difference.
+pub fn order()
+    ensures { (o p : List ℕ) → (slice_cmp nat_cmp o p ≡ Ordering.Less) ↔ Precedes o p }
+{
+}
+
+impl Default for Oid {
+    ghost is_default = { λ o. o ≡ [] };
+
+    fn default() -> Oid {
+        Oid::new()
+    }
+}
+
+impl Clone for Oid {
+    ghost is_clone = { λ oid copy. copy ≡ oid };
+
+    fn clone(&self) -> Result<Oid, AllocError> {
+        match Oid::from_slice(self.as_slice()) {
+            Ok(copy) => Ok(copy),
+            Err(_) => unreachable!(),
+        }
+    }
+}
+
+impl PartialEq for Oid {
+    ghost eq = { λ o p. pointwise nat_eq o p };
+
+    ghost laws = { partial_equiv_from_equiv nat_list_eq_equiv };
+
+    fn eq(&self, other: &Oid) -> bool {
+        self.as_slice() == other.as_slice()
+    }
+}
+
+impl Eq for Oid {
+    ghost laws = { nat_list_eq_equiv };
+}
+
+impl PartialOrd for Oid {
+    ghost partial_cmp = { λ o p. Some (slice_cmp nat_cmp o p) };
+
+    ghost laws = { texts_po };
+
+    fn partial_cmp(&self, other: &Oid) -> Option<Ordering> {
+        Some(self.cmp(other))
+    }
+}
+
+impl Ord for Oid {
+    ghost cmp = { λ o p. slice_cmp nat_cmp o p };
+
+    ghost total = { nat_list_cmp_total };
+
+    ghost matches_partial_cmp = { λ o p. refl };
+
+    ghost matches_eq = { texts_ties };
+
+    fn cmp(&self, other: &Oid) -> Ordering {
+        self.as_slice().cmp(other.as_slice())
+    }
+}
+
+impl Hash for Oid {
+    ghost hash_input = { λ o. fed.slice fed.u32 o };
+
+    ghost respects_eq = { Prim.search (hashing, rules) };
+
+    fn hash<H: Hasher>(&self, state: &mut H) {
+        self.as_slice().hash(state);
+    }
+}
+
+impl fmt::Debug for Oid {
+    fn fmt<W: fmt::Write>(&self, f: &mut fmt::Formatter<W>) -> fmt::Result {
+        f.debug_list().entries(self.as_slice()).finish()
+    }
+}
