@@ -1,0 +1,13 @@
+//! Messages of SNMPv2c (RFC 3416) and their BER encoding (X.690, RFC 3417 section 8).
+//!
+//! Stands on the identifiers, whose crate it hands on as its own. Agent and walk exchange octets alone, and read and write them by this crate.
+#![tactic(auto)]
+
+mod binding;
+mod kind;
+mod value;
+
+pub use binding::Binding;
+pub use kind::Kind;
+pub use snmp_oid::{Oid, OidError, OidTextError, parse_numeric, write_numeric};
+pub use value::ValueRef;
