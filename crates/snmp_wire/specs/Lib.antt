@@ -1,1 +1,5 @@
+pub mod Identifier
+pub mod Length
 pub mod Message
+pub mod Number
+pub mod Spelling
