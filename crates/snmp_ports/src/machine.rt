@@ -1,5 +1,5 @@
 //! The machine's own outputs and files, of which nothing is known.
-ghost use Rattle.std.specs.Prelude.{◌≡◌, ◌<◌, ◌≤◌, ℕ, None, IfSome, length};
+ghost use Rattle.std.specs.Prelude.{◌≡◌, ◌<◌, ◌≤◌, ℕ, None, IfOk, IfSome, length, vec_len};
 
 use crate::files::{FileFault, Files};
 use crate::output::{Output, OutputFault};
@@ -84,14 +84,20 @@ impl<R: rt::Files> Files for MachineFiles<R> {
 
     fn read(&self, alloc: Global, path: &str) -> Result<Vec<u8>, FileFault> {
         let file = File::open(&self.rt, path).map_err(|error| fault_of(&error))?;
-        let mut text = Vec::new(alloc);
-        file.take(MOST_OCTETS as u64 + 1)
-            .read_to_end(&mut text)
-            .map_err(|error| fault_of(&error))?;
-        if text.len() > MOST_OCTETS {
-            return Err(FileFault::Unreadable);
-        }
-        Ok(text)
+        read_whole(alloc, file)
+    }
+}
+
+// All that `from` has left, where that is no more than a text may have.
+fn read_whole<R: Read + Drop>(alloc: Global, from: R) -> Result<Vec<u8>, FileFault>
+    ensures whole { IfOk result (λ text. IfSome (R.remaining from) (λ octets. text.items ≡ octets)) }
+    ensures bounded { IfOk result (λ text. vec_len text ≤ MOST_OCTETS) }
+{
+    let mut text = Vec::new(alloc);
+    match from.take(MOST_OCTETS as u64 + 1).read_to_end(&mut text) {
+        Ok(_) if text.len() <= MOST_OCTETS => Ok(text),
+        Ok(_) => Err(FileFault::Unreadable),
+        Err(error) => Err(fault_of(&error)),
     }
 }
 

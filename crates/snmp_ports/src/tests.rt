@@ -57,6 +57,22 @@ fn files_are_read(rt: HostRuntime) {
     assert!(rt; files.read(rt.alloc(), "b").expect(&rt, "b").is_empty());
     assert!(rt; matches!(files.read(rt.alloc(), "c"), Err(FileFault::Unreadable)));
     let machine = MachineFiles { rt: &rt };
-    assert!(rt; matches!(machine.read(rt.alloc(), "no/such/file"), Err(FileFault::Unreadable)));
-    assert!(rt; machine.read(rt.alloc(), "/dev/null").expect(&rt, "null").is_empty());
+    assert!(rt;
+        matches!(
+            machine.read(rt.alloc(), "no/such/file"),
+            Err(FileFault::Unreadable)
+        )
+    );
+    assert!(rt;
+        matches!(
+            machine.read(rt.alloc(), "/dev/zero"),
+            Err(FileFault::Unreadable)
+        )
+    );
+    assert!(rt;
+        machine
+            .read(rt.alloc(), "/dev/null")
+            .expect(&rt, "null")
+            .is_empty()
+    );
 }
