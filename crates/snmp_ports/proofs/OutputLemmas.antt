@@ -39,12 +39,12 @@ pub whole_is_begun : (before after : Option (List ℕ)) (text : List ℕ) → af
 whole_is_begun before after text is = record { front = text; rest = []; parts = sym (append-nil text); taken = is }
 
 -- a whole text, and then a beginning of the next
-pub begun_after : (before after : Option (List ℕ)) (a b : List ℕ) → IsBegun (appended before a) after b → IsBegun before after (a ++ b)
-begun_after before after a b begun = record {
+pub begun_after : (before now after : Option (List ℕ)) (a b : List ℕ) → now ≡ appended before a → IsBegun now after b → IsBegun before after (a ++ b)
+begun_after before now after a b whole begun = record {
   front = a ++ begun.front;
   rest = begun.rest;
   parts = ap (λ t. a ++ t) begun.parts ∙ sym (append_assoc a begun.front begun.rest);
-  taken = begun.taken ∙ appended-twice before a begun.front;
+  taken = begun.taken ∙ ap (λ (o : Option (List ℕ)). appended o begun.front) whole ∙ appended-twice before a begun.front;
 }
 
 -- a beginning of a text is one of a longer text

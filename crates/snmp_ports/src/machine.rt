@@ -1,5 +1,6 @@
 //! The machine's own outputs and files, of which nothing is known.
-ghost use Rattle.std.specs.Prelude.{◌≡◌, ◌<◌, ◌≤◌, ℕ, None, IfOk, IfSome, length, vec_len};
+ghost use Rattle.std.specs.Prelude.{◌≡◌, ◌<◌, ◌≤◌, ℕ, None, IfOk, IfSome};
+ghost use Rattle.std.specs.Prelude.{length, vec_len};
 
 use crate::files::{FileFault, Files};
 use crate::output::{Output, OutputFault};

@@ -1,5 +1,6 @@
 //! Outputs, which take octets, and the loop that writes a whole text to one.
-ghost use Rattle.std.specs.Prelude.{◌≡◌, ◌<◌, ◌≤◌, ℕ, List, Option, IfOk, OnErr, OnOk, length, take};
+ghost use Rattle.std.specs.Prelude.{◌≡◌, ◌<◌, ◌≤◌, ℕ, List, Option, length, take};
+ghost use Rattle.std.specs.Prelude.{IfOk, OnErr, OnOk};
 ghost use Rattle.snmp_ports.specs.Output.{IsBegun, Rose, appended};
 
 use thiserror::Error;

@@ -5,7 +5,8 @@
 //! say.
 #![tactic(auto)]
 
-ghost use Rattle.std.specs.Prelude.{◌≡◌, [], ◌∷◌, List, ℕ, Some, IfErr, IfOk, IsSome, OnOk, codes, false, true};
+ghost use Rattle.std.specs.Prelude.{◌≡◌, [], ◌∷◌, List, ℕ, Some, codes, false, true};
+ghost use Rattle.std.specs.Prelude.{IfErr, IfOk, IsSome, OnOk};
 ghost use Rattle.clap.specs.Walk.{rows_of, rule_of, texts};
 ghost use Rattle.clap.specs.Words.{app_of, found_of, kind_of, subcommand_rows_of};
 ghost use Rattle.snmp_words.specs.Words.{HasFaultOf, IsMemory, Refuses, agent_rule, faults_of};
