@@ -1,0 +1,5 @@
+-- What a call that found no memory leaves: the old text, and perhaps a part of the new one.
+use Rattle.std.specs.Prelude.{◌≡◌, ℕ, List, ◌++◌}
+
+abbrev pub IsBegun : List ℕ → List ℕ → Type 0
+IsBegun old new = (part : List ℕ) × (new ≡ old ++ part)

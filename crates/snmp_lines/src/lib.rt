@@ -1,0 +1,14 @@
+//! Lines: what a tool prints of a variable binding, with names and identifiers in numbers.
+//!
+//! Stands on the values of messages. A walk gives bindings; the tools write each as such a line.
+#![tactic(auto)]
+
+mod append;
+mod binding;
+mod value;
+
+pub use binding::line;
+pub use value::value_text;
+
+#[cfg(test)]
+mod tests;

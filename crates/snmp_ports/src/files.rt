@@ -1,0 +1,30 @@
+//! Files, each of which holds a text at its path.
+ghost use Rattle.std.specs.Prelude.{◌≡◌, ℕ, List, Option, Some, None, IfOk, IsErrOf};
+ghost use Rattle.snmp_ports.specs.Files.{HoldsIfKnown};
+
+use std::alloc::Global;
+use thiserror::Error;
+
+/// Why a file gave no text.
+#[derive(Clone, Copy, Debug, PartialEq, Eq, Error)]
+pub enum FileFault {
+    /// The path holds no text that can be read.
+    #[error("Can't read the file.")]
+    Unreadable,
+    /// Memory ran out.
+    #[error("Out of memory.")]
+    Memory,
+}
+
+/// What holds texts by their paths.
+pub trait Files {
+    /// Where it is known what a path holds: its text, which may be empty, or none.
+    ghost text_at: { Self → List ℕ → Option (Option (List ℕ)) };
+
+    /// The text that the path holds.
+    fn read(&self, alloc: Global, path: &str) -> Result<Vec<u8>, FileFault>
+        ensures text { IfOk result (λ text.
+            HoldsIfKnown (text_at self.now path.now) (Some text.items)) }
+        ensures unreadable { IsErrOf result FileFault.Unreadable
+            → HoldsIfKnown (text_at self.now path.now) None };
+}

@@ -1,0 +1,110 @@
+//! The machine's own outputs and files, of which nothing is known.
+ghost use Rattle.std.specs.Prelude.{◌≡◌, ◌<◌, ◌≤◌, ℕ, None, IfOk, IfSome};
+ghost use Rattle.std.specs.Prelude.{length, vec_len};
+
+use crate::files::{FileFault, Files};
+use crate::output::{Output, OutputFault};
+use std::alloc::Global;
+use std::fs::File;
+use std::io::{ErrorKind, Read, Write};
+use std::marker::Model;
+use std::{io, rt};
+
+/// The octets that are read of a file: one with more, or without an end, is unreadable.
+const MOST_OCTETS: usize = 268_435_456;
+
+/// How often a write is tried that a signal interrupts.
+const TRIES: u8 = 100;
+
+/// An output of the machine, as standard output. It holds nothing back.
+#[derive(Drop)]
+pub struct MachineOutput<W> {
+    to: W,
+    faults: u64,
+}
+
+/// A clause sees the number of writes that failed.
+impl<W> Model for MachineOutput<W> {
+    ghost Value = { ℕ };
+
+    ghost view = { λ o. o.faults };
+}
+
+impl<W> MachineOutput<W> {
+    /// An output to this writer, of which no write has failed.
+    pub fn new(to: W) -> MachineOutput<W>
+        ensures { result ≡ 0 }
+    {
+        MachineOutput { to, faults: 0 }
+    }
+}
+
+impl<W: Write> Output for MachineOutput<W> {
+    ghost taken = { λ _. None };
+
+    ghost fault_count = { λ faults. faults };
+
+    fn write(&mut self, piece: &[u8]) -> Result<usize, OutputFault> {
+        match write_some(&mut self.to, piece) {
+            Some(n) => Ok(n),
+            None => {
+                self.faults = self.faults.saturating_add(1);
+                Err(OutputFault)
+            }
+        }
+    }
+
+    fn faults(&self) -> u64 {
+        self.faults
+    }
+}
+
+fn write_some<W: Write>(to: &mut W, piece: &[u8]) -> Option<usize>
+    ensures some { IfSome result (λ n. 0 < length piece.now → 0 < n) }
+    ensures within { IfSome result (λ n. n ≤ length piece.now) }
+{
+    'tries: for _ in 0..TRIES {
+        match to.write(piece) {
+            Ok(n) if n > 0 || piece.is_empty() => return Some(n),
+            Err(error) if error.kind() == ErrorKind::Interrupted => {}
+            _ => return None,
+        }
+    }
+    None
+}
+
+/// The files of the machine.
+#[derive(Drop)]
+pub struct MachineFiles<R> {
+    /// What opens them.
+    pub rt: R,
+}
+
+impl<R: rt::Files> Files for MachineFiles<R> {
+    ghost text_at = { λ _ _. None };
+
+    fn read(&self, alloc: Global, path: &str) -> Result<Vec<u8>, FileFault> {
+        let file = File::open(&self.rt, path).map_err(|error| fault_of(&error))?;
+        read_whole(alloc, file)
+    }
+}
+
+// All that `from` has left, where that is no more than a text may have.
+fn read_whole<R: Read + Drop>(alloc: Global, from: R) -> Result<Vec<u8>, FileFault>
+    ensures whole { IfOk result (λ text. IfSome (R.remaining from) (λ octets. text.items ≡ octets)) }
+    ensures bounded { IfOk result (λ text. vec_len text ≤ MOST_OCTETS) }
+{
+    let mut text = Vec::new(alloc);
+    match from.take(MOST_OCTETS as u64 + 1).read_to_end(&mut text) {
+        Ok(_) if text.len() <= MOST_OCTETS => Ok(text),
+        Ok(_) => Err(FileFault::Unreadable),
+        Err(error) => Err(fault_of(&error)),
+    }
+}
+
+fn fault_of(error: &io::Error) -> FileFault {
+    match error.kind() {
+        ErrorKind::OutOfMemory => FileFault::Memory,
+        _ => FileFault::Unreadable,
+    }
+}

@@ -1,0 +1,98 @@
+//! An output and files in memory, which keep every fact: for tests of what is written and read.
+ghost use Rattle.std.specs.Prelude.{◌≡◌, [], ◌∷◌, Some, option_map};
+ghost use Rattle.snmp_ports.specs.Memory.{Kept, held_at};
+
+use crate::files::{FileFault, Files};
+use crate::output::{Output, OutputFault};
+use std::alloc::Global;
+use std::marker::Model;
+
+/// An output that keeps the octets that it took.
+#[derive(Drop)]
+pub struct MemoryOutput {
+    octets: Vec<u8>,
+    limit: usize,
+    faults: u64,
+}
+
+impl Model for MemoryOutput {
+    ghost Value = { Kept };
+
+    ghost view = { λ o. record { octets = o.octets.items; limit = o.limit; faults = o.faults } };
+}
+
+impl MemoryOutput {
+    /// An output that fails for want of memory alone.
+    pub fn new(alloc: Global) -> MemoryOutput
+        ensures { result ≡ record { octets = []; limit = usize.MAX; faults = 0 } }
+    {
+        MemoryOutput::with_limit(alloc, usize::MAX)
+    }
+
+    /// An output that fails once it has taken `limit` octets.
+    pub fn with_limit(alloc: Global, limit: usize) -> MemoryOutput
+        ensures { result ≡ record { octets = []; limit = limit; faults = 0 } }
+    {
+        MemoryOutput {
+            octets: Vec::new(alloc),
+            limit,
+            faults: 0,
+        }
+    }
+
+    /// The octets taken so far.
+    pub fn octets(&self) -> &[u8]
+        ensures { result.now ≡ self.now.octets }
+    {
+        self.octets.as_slice()
+    }
+}
+
+impl Output for MemoryOutput {
+    ghost taken = { λ o. Some o.octets };
+
+    ghost fault_count = { λ o. o.faults };
+
+    fn write(&mut self, piece: &[u8]) -> Result<usize, OutputFault> {
+        let room = self.limit.saturating_sub(self.octets.len());
+        let n = piece.len().min(room);
+        if (n > 0 || piece.is_empty()) && self.octets.extend_from_slice(&piece[..n]).is_ok() {
+            return Ok(n);
+        }
+        self.faults = self.faults.saturating_add(1);
+        Err(OutputFault)
+    }
+
+    fn faults(&self) -> u64 {
+        self.faults
+    }
+}
+
+/// Files of which the first with a path holds its text.
+#[derive(Clone, Copy, Debug)]
+pub struct MemoryFiles<'a> {
+    /// Each path with its text.
+    pub files: &'a [(&'a str, &'a [u8])],
+}
+
+impl Files for MemoryFiles<'_> {
+    ghost text_at = { λ f path. Some (held_at f.files.now path) };
+
+    fn read(&self, alloc: Global, path: &str) -> Result<Vec<u8>, FileFault> {
+        match text_at(self.files, path) {
+            Some(text) => Vec::from_slice(alloc, text).map_err(|_| FileFault::Memory),
+            None => Err(FileFault::Unreadable),
+        }
+    }
+}
+
+fn text_at<'a>(files: &[(&'a str, &'a [u8])], path: &str) -> Option<&'a [u8]>
+    ensures { option_map (λ text. text.now) result ≡ held_at files.now path.now }
+{
+    'files: for (held, text) in files {
+        if *held == path {
+            return Some(text);
+        }
+    }
+    None
+}
