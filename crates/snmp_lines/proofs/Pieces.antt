@@ -16,7 +16,7 @@ pub stands_more : {X : Type 0} (f : X → List ℕ) (xs : List X) (count : ℕ) 
     → Stands f xs count old now → count < length xs → new ≡ now ++ f (get_or xs count d) → Stands f xs (count + 1) old new
 stands_more f xs count d old now new h low e = record {
   text = e ∙ ap (λ (s : List ℕ). s ++ f (get_or xs count d)) h.text ∙ flat_map_more f old (take count xs) (get_or xs count d)
-      ∙ ap (λ (s : List _). old ++ flat_map f s) (sym (take_more xs count d low))
+      ∙ ap (λ (s : List _). old ++ flat_map f s) (sym (take_more xs count d low));
 }
 
 pub stands_whole : {X : Type 0} (f : X → List ℕ) (xs : List X) (count : ℕ) (old new : List ℕ)
@@ -30,7 +30,7 @@ pub placed_more : (f : ℕ × ℕ → List ℕ) (xs : List ℕ) (count : ℕ) (o
 placed_more f xs count old now new h low e =
     let long : length (enumerate_from 0 xs) ≡ length xs = length-enumerate_from 0 xs in
     let at : get_or (enumerate_from 0 xs) count (0, 0) ≡ (count, get_or xs count 0) =
-        get_or-enumerate_from 0 xs count (0, 0) low ∙ ap (λ (n : ℕ). let p : ℕ × ℕ = (n, get_or xs count 0) in p) (zero-add count) in
+    get_or-enumerate_from 0 xs count (0, 0) low ∙ ap (λ (n : ℕ). let p : ℕ × ℕ = (n, get_or xs count 0) in p) (zero-add count) in
     stands_more f (enumerate_from 0 xs) count (0, 0) old now new h (omega arith) (e ∙ ap (λ (p : ℕ × ℕ). now ++ f p) (sym at))
 
 pub placed_whole : (f : ℕ × ℕ → List ℕ) (xs : List ℕ) (count : ℕ) (old new : List ℕ)

@@ -89,7 +89,11 @@ fn hexadecimal_octet(out: &mut Vec<u8>, place: usize, octet: u8) -> Result<(), A
     ensures ok { OnOk result (out.new.items ≡ out.old.items ++ hex_octet (place, octet)) }
     ensures err { OnErr result (IsBegun out.old.items out.new.items) }
 {
-    let digits = [hexadecimal_digit(octet / 16), hexadecimal_digit(octet % 16), b' '];
+    let digits = [
+        hexadecimal_digit(octet / 16),
+        hexadecimal_digit(octet % 16),
+        b' ',
+    ];
     if place > 0 && place % 16 == 0 {
         out.push(b'\n')?;
     }

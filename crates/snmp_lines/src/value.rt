@@ -43,8 +43,14 @@ pub(crate) fn typed(out: &mut Vec<u8>, value: &ValueRef<'_>) -> Result<(), Alloc
         ValueRef::TimeTicks(n) => ticks(out, *n),
         ValueRef::Opaque(octets) => opaque(out, octets),
         ValueRef::Counter64(n) => number(out, b"Counter64: ", *n),
-        ValueRef::NoSuchObject => append::octets(out, b"No Such Object available on this agent at this OID"),
-        ValueRef::NoSuchInstance => append::octets(out, b"No Such Instance currently exists at this OID"),
+        ValueRef::NoSuchObject => append::octets(
+            out,
+            b"No Such Object available on this agent at this OID",
+        ),
+        ValueRef::NoSuchInstance => append::octets(
+            out,
+            b"No Such Instance currently exists at this OID",
+        ),
         ValueRef::EndOfMibView => append::octets(
             out,
             b"No more variables left in this MIB View (It is past the end of the MIB tree)",
