@@ -1,5 +1,5 @@
 //! An object identifier of up to 128 numbers, which lie in the value itself.
-ghost use Rattle.std.specs.Prelude.{◌≡◌, ℕ, ◌+◌, ◌<◌, ◌≤◌, ◌↔◌, List, [], ◌∷◌, ◌++◌, length, IsTrue, IsOk, IfOk, IfErr, OnOk, OnErr, Some, refl};
+ghost use Rattle.std.specs.Prelude.{◌≡◌, ℕ, ◌+◌, ◌<◌, ◌≤◌, ◌↔◌, List, [], ◌∷◌, ◌++◌, length, IsTrue, IsOk, IfOk, IfErr, OnOk, OnErr, Some, ⊤, refl};
 ghost use Rattle.std.proofs.Common.{rules};
 ghost use Rattle.std.specs.Ordering.{nat_cmp};
 ghost use Rattle.std.specs.Hash as fed;
@@ -177,6 +177,9 @@ impl Default for Oid {
 
 impl Clone for Oid {
     ghost is_clone = { λ oid copy. copy ≡ oid };
+
+    // Nothing is allocated.
+    ghost is_infallible = { λ _. ⊤ };
 
     fn clone(&self) -> Result<Oid, AllocError> {
         match Oid::from_slice(self.as_slice()) {
