@@ -1,4 +1,6 @@
 //! The kinds of PDU.
+ghost use Rattle.std.specs.Prelude.{◌≡◌};
+ghost use Rattle.snmp_wire.specs.Spelling.{kind_tag};
 
 /// The kind of a PDU (RFC 3416, section 3).
 #[derive(Clone, Copy, Debug, PartialEq, Eq)]
@@ -19,4 +21,21 @@ pub enum Kind {
     Trap,
     /// Report-PDU, tag A8.
     Report,
+}
+
+/// The tag of a PDU (RFC 3416, section 3).
+#[inline]
+pub(crate) fn tag_of_kind(kind: Kind) -> u8
+    ensures { result ≡ kind_tag kind }
+{
+    match kind {
+        Kind::GetRequest => 0xA0,
+        Kind::GetNextRequest => 0xA1,
+        Kind::Response => 0xA2,
+        Kind::SetRequest => 0xA3,
+        Kind::GetBulkRequest => 0xA5,
+        Kind::InformRequest => 0xA6,
+        Kind::Trap => 0xA7,
+        Kind::Report => 0xA8,
+    }
 }

@@ -4,10 +4,18 @@
 #![tactic(auto)]
 
 mod binding;
+#[cfg(test)]
+mod encode_tests;
+mod identifier;
 mod kind;
+mod length;
+mod message;
+mod number;
 mod value;
+mod writing;
 
-pub use binding::Binding;
+pub use binding::{Binding, binding_size, encode_binding};
 pub use kind::Kind;
+pub use message::{Parts, encode, encode_head, head_size, size};
 pub use snmp_oid::{Oid, OidError, OidTextError, parse_numeric, write_numeric};
 pub use value::ValueRef;

@@ -1,0 +1,2 @@
+pub mod CanonLemmas
+pub mod WritingLemmas
