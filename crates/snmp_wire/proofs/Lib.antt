@@ -1,2 +1,3 @@
 pub mod CanonLemmas
+pub mod ElementLemmas
 pub mod WritingLemmas

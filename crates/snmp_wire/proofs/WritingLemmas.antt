@@ -1,5 +1,5 @@
 -- What writers leave, one after the other from the back to the front.
-use Rattle.std.proofs.Common.{◌≡◌, ℕ, ◌+◌, ◌-◌, ◌<◌, ◌≤◌, List, [], ◌∷◌, ◌++◌, length, take, drop, set, refl, sym, ap, ◌∙◌, arith, append_assoc, length-append}
+use Rattle.std.proofs.Common.{◌≡◌, ℕ, ◌+◌, ◌-◌, ◌<◌, ◌≤◌, List, [], ◌∷◌, ◌++◌, length, take, drop, set, refl, sym, ap, subst, ◌∙◌, arith, append_assoc, length-append}
 use Rattle.std.proofs.lemmas.List.{take-take, take-set, drop-set, take-append-le, length-take-le, drop_at, take_at}
 use Rattle.snmp_wire.specs.Writing.{Writes}
 
@@ -39,3 +39,7 @@ writes_copy old text start end e h = record {
   before = take_at (take start old) (text ++ drop end old) start (length-take-le start old (omega arith));
   after = drop_at (take start old) (text ++ drop end old) start (length-take-le start old (omega arith));
 }
+
+-- the text under another name
+pub writes_same : {old : List ℕ} {start end : ℕ} {text new other : List ℕ} → Writes old start end text new → text ≡ other → Writes old start end other new
+writes_same {old} {start} {end} {text} {new} {other} w e = subst (λ (t : List ℕ). Writes old start end t new) e w

@@ -6,19 +6,19 @@ use Rattle.snmp_wire.specs.Identifier.{subidentifiers}
 use Rattle.snmp_wire.specs.Message.{Datum, integer_value, octet_string, null_value, object_id, ip_address, counter32, gauge32, time_ticks, opaque_octets, counter64, no_such_object, no_such_instance, end_of_mib_view, VarBind, Message}
 use Rattle.snmp_wire.specs.Spelling.{value_tag, kind_tag, sequence_tag}
 
--- the first of the limits that a number is below, counted from 1, or one more than there are
-abbrev pub place_below : List ℕ → ℕ → ℕ
-place_below [] n = 1
-place_below (limit ∷ limits) n = if nat_lt n limit then 1 else 1 + place_below limits n
+-- how many digits a number has to a base: one below the limit, and one more for each further power of the base, up to so many more
+abbrev pub digit_count : ℕ → ℕ → ℕ → ℕ → ℕ
+digit_count base limit zero n = 1
+digit_count base limit (suc more) n = if nat_lt n limit then 1 else 1 + digit_count base (limit * base) more n
 
 -- the number's lowest digits to the base 256, so many of them, the most significant first
 unfoldable pub octets : ℕ → ℕ → List ℕ
 octets zero n = []
 octets (suc count) n = (n / 256 ^ count % 256) ∷ octets count n
 
--- how many octets two's complement wants for a number from 0, one bit being the sign
+-- how many octets two's complement wants for a number from 0, the first bit being the sign
 unfoldable pub number_size : ℕ → ℕ
-number_size n = place_below (2 ^ 7 ∷ 2 ^ 15 ∷ 2 ^ 23 ∷ 2 ^ 31 ∷ 2 ^ 39 ∷ 2 ^ 47 ∷ 2 ^ 55 ∷ 2 ^ 63 ∷ []) n
+number_size n = digit_count 256 128 8 n
 
 -- a whole number, or for one below zero its complement: two's complement wants as many octets for either
 abbrev pub magnitude_of : ℤ → ℕ
@@ -32,7 +32,7 @@ canon_number (negsuc n) = octets (number_size n) (256 ^ number_size n - (n + 1))
 
 -- how many octets a length wants
 unfoldable pub length_size : ℕ → ℕ
-length_size n = place_below (2 ^ 8 ∷ 2 ^ 16 ∷ 2 ^ 24 ∷ []) n
+length_size n = digit_count 256 256 3 n
 
 -- the shortest form of a length (X.690, 8.1.3)
 unfoldable pub canon_length : ℕ → List ℕ
@@ -40,7 +40,7 @@ canon_length n = if nat_lt n 128 then n ∷ [] else (128 + length_size n) ∷ oc
 
 -- how many octets a subidentifier wants, of seven bits each
 unfoldable pub subidentifier_size : ℕ → ℕ
-subidentifier_size n = place_below (2 ^ 7 ∷ 2 ^ 14 ∷ 2 ^ 21 ∷ 2 ^ 28 ∷ []) n
+subidentifier_size n = digit_count 128 128 4 n
 
 -- the number's lowest digits to the base 128, so many of them, with the bit that says that the subidentifier goes on
 unfoldable pub septets : ℕ → ℕ → List ℕ

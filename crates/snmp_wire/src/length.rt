@@ -26,7 +26,7 @@ fn digits_size(size: u64) -> usize
 
 /// How many octets a header takes before a content of so many octets.
 #[inline]
-#[tactic(auto, unfolding(crate::specs::Canon::canon_length))]
+#[tactic(auto, using(crate::proofs::CanonLemmas::header_lengths))]
 pub(crate) fn header_size(size: u64) -> u64
     ensures value { result ≡ 1 + length (canon_length size) }
     ensures small { result ≤ 6 }
@@ -47,6 +47,7 @@ pub(crate) fn put_header(out: &mut [u8], end: usize, tag: u8, size: u64) -> usiz
 
 /// Writes a length before `end` in the shortest form, and answers where it begins.
 #[inline]
+#[tactic(auto, using(crate::proofs::CanonLemmas::length_forms))]
 fn put_length(out: &mut [u8], end: usize, size: u64) -> usize
     requires room { length (canon_length size) ≤ end }
     requires within { end ≤ length out.old }

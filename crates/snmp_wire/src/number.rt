@@ -32,6 +32,7 @@ pub(crate) fn unsigned_size(number: u64) -> usize
 
 /// How many octets an INTEGER takes.
 #[inline]
+#[tactic(auto, using(crate::proofs::CanonLemmas::number_lengths))]
 pub(crate) fn integer_size(number: i32) -> usize
     ensures { result ≡ length (canon_number number) }
 {
@@ -63,9 +64,16 @@ pub(crate) fn put_integer(out: &mut [u8], end: usize, number: i32) -> usize
     requires within { end ≤ length out.old }
     ensures { Writes out.old result end (canon_number number) out.new }
 {
+    put_octets(out, end, integer_size(number), sign_extended(number))
+}
+
+/// The two's complement of 64 bits, whose lowest octets are the number's.
+#[inline]
+fn sign_extended(number: i32) -> u64
+    ensures { octets (length (canon_number number)) result ≡ canon_number number }
+{
     let magnitude = magnitude(number);
-    let octets = if number < 0 { u64::MAX - magnitude } else { magnitude };
-    put_octets(out, end, unsigned_size(magnitude), octets)
+    if number < 0 { u64::MAX - magnitude } else { magnitude }
 }
 
 /// Writes the lowest `count` octets of a number before `end`, and answers where they begin.
