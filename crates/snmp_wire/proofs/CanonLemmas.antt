@@ -4,6 +4,7 @@ use Rattle.std.proofs.Math.Nat.{add-mul-div_left, add-mul-mod_self_left, div-div
 use lib.Signed.{lt_z}
 use mir.Val.{SFits}
 use mir.Syntax.{w32}
+use Rattle.std.proofs.lemmas.Int.{to_z-of_z}
 use Rattle.std.proofs.lemmas.Bool.{cases_lt}
 use Rattle.std.proofs.lemmas.Bool.Decides.{nat_tests}
 use Rattle.snmp_wire.specs.Canon.{canon_length, canon_number, canon_subidentifier, subidentifier_size, digit_count, length_size, magnitude_of, number_size, octets, septets}
@@ -24,7 +25,7 @@ octets-suc : (count n : ℕ) → octets (suc count) n ≡ (n / 256 ^ count % 256
 unfolding octets
 octets-suc count n = refl
 
-septets-suc : (count n : ℕ) → septets (suc count) n ≡ (128 + n / 128 ^ count % 128) ∷ septets count n
+pub septets-suc : (count n : ℕ) → septets (suc count) n ≡ (128 + n / 128 ^ count % 128) ∷ septets count n
 unfolding septets
 septets-suc count n = refl
 
@@ -70,7 +71,7 @@ pub digit_most : (base limit more n : ℕ) → digit_count base limit more n ≤
 digit_most base limit zero n = omega arith
 digit_most base limit (suc more) n = ⊎_elim (λ h. omega (arith, taken n limit 1 (1 + digit_count base (limit * base) more n) h)) (λ h. omega (arith, left n limit 1 (1 + digit_count base (limit * base) more n) h, digit_most base (limit * base) more n)) (cases_lt n limit)
 
-count_taken : (base limit more n : ℕ) → n < limit → digit_count base limit (suc more) n ≡ 1
+pub count_taken : (base limit more n : ℕ) → n < limit → digit_count base limit (suc more) n ≡ 1
 count_taken base limit more n h = taken n limit 1 (1 + digit_count base (limit * base) more n) h
 
 count_left : (base limit more n : ℕ) → limit ≤ n → digit_count base limit (suc more) n ≡ 1 + digit_count base (limit * base) more n
@@ -219,51 +220,8 @@ length-canon_length_long n h = omega (arith, header_long n h)
 
 pub ruleset length_forms = (canon_length_short, canon_length_long, length-canon_length_short, length-canon_length_long, length-octets)
 
--- one digit to the base 128 before those that are written
-pub writes_septet : (old out : List ℕ) (at end n rest : ℕ) → Writes old at end (septets (end - at) n) out → rest ≡ n / 128 ^ (end - at) → 0 < at → at ≤ end → at ≤ length out → Writes old (at - 1) end (septets (end - (at - 1)) n) (set out (at - 1) (128 + rest % 128))
-writes_septet old out at end n rest w e some h within =
-    let one_more : end - (at - 1) ≡ suc (end - at) = omega arith in
-    let digits : septets (end - (at - 1)) n ≡ (128 + rest % 128) ∷ septets (end - at) n = ap (λ k. septets k n) one_more ∙ septets-suc (end - at) n ∙ ap (λ r. (128 + r % 128) ∷ septets (end - at) n) (sym e) in
-    subst (λ (text : List ℕ). Writes old (at - 1) end text (set out (at - 1) (128 + rest % 128))) (sym digits) (writes_octet w (at - 1) (128 + rest % 128) (omega arith) within)
+pub length-from_zero : (n : ℕ) → length (canon_number (pos n)) ≡ number_size n
+length-from_zero n = length-canon_number (pos n)
 
-pub rest_septets : (at end n rest : ℕ) → rest ≡ n / 128 ^ (end - at) → 0 < at → at ≤ end → rest / 128 ≡ n / 128 ^ (end - (at - 1))
-rest_septets at end n rest e some h =
-    let one_more : end - (at - 1) ≡ suc (end - at) = omega arith in
-    ap (λ r. r / 128) e ∙ div-div-eq-div-mul n (128 ^ (end - at)) 128 ∙ ap (λ m. n / m) (sym (pow-suc 128 (end - at))) ∙ sym (ap (λ k. n / 128 ^ k) one_more)
-
-pub writes_no_septet : (out : List ℕ) (end n : ℕ) → Writes out end end (septets (end - end) n) out
-unfolding septets
-writes_no_septet out end n =
-    let none : 0 ≡ end - end = omega arith in
-    subst (λ (count : ℕ). Writes out end end (septets count n) out) none (writes_none out end)
-
-pub all_septets : (old out : List ℕ) (at end count n : ℕ) → Writes old at end (septets (end - at) n) out → at ≡ end - count → count ≤ end → Writes old (end - count) end (septets count n) out
-all_septets old out at end count n w e room =
-    let all : end - at ≡ count = omega arith in
-    subst (λ (start : ℕ). Writes old start end (septets count n) out) e (subst (λ (k : ℕ). Writes old at end (septets k n) out) all w)
-
-pub rest-no_septet : (end n : ℕ) → n ≡ n / 128 ^ (end - end)
-rest-no_septet end n = let none : 0 ≡ end - end = omega arith in sym (div-one n) ∙ ap (λ k. n / 128 ^ k) none
-
--- the last digit alone, where there is no other
-pub subidentifier_short : (n : ℕ) → n < 128 → canon_subidentifier n ≡ (n % 128) ∷ []
-unfolding canon_subidentifier subidentifier_size septets
-subidentifier_short n h = ap (λ count. septets (count - 1) (n / 128) ++ (n % 128) ∷ []) (taken n 128 1 (1 + digit_count 128 (128 * 128) 3 n) h)
-
-pub subidentifier_parts : (n : ℕ) → canon_subidentifier n ≡ septets (subidentifier_size n - 1) (n / 128) ++ (n % 128) ∷ []
-unfolding canon_subidentifier
-subidentifier_parts n = refl
-
-pub subidentifier_some : (n : ℕ) → 1 ≤ subidentifier_size n
-unfolding subidentifier_size
-subidentifier_some n = digit_some 128 128 4 n
-
-pub subidentifier_most : (n : ℕ) → subidentifier_size n ≤ 5
-unfolding subidentifier_size
-subidentifier_most n = digit_most 128 128 4 n
-
-pub length-canon_subidentifier : (n : ℕ) → length (canon_subidentifier n) ≡ subidentifier_size n
-length-canon_subidentifier n =
-    let parts : length (canon_subidentifier n) ≡ length (septets (subidentifier_size n - 1) (n / 128)) + 1 =
-        ap length (subidentifier_parts n) ∙ length-append (septets (subidentifier_size n - 1) (n / 128)) ((n % 128) ∷ []) in
-    omega (arith, parts, length-septets (subidentifier_size n - 1) (n / 128), subidentifier_some n)
+-- for the content of a value
+pub ruleset contents = (length-canon_number, length-from_zero, to_z-of_z, writes_none)

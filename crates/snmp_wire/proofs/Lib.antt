@@ -1,3 +1,5 @@
 pub mod CanonLemmas
 pub mod ElementLemmas
+pub mod IdentifierWriting
+pub mod ListWriting
 pub mod WritingLemmas

@@ -1,5 +1,6 @@
 //! Object identifiers as octets: subidentifiers to the base 128 (X.690, 8.19).
 ghost use Rattle.std.specs.Prelude.{◌≡◌, ℕ, ◌+◌, ◌-◌, ◌*◌, ◌^◌, ◌<◌, ◌≤◌, ◌++◌, length};
+ghost use Rattle.std.specs.List.{flat_map};
 ghost use Rattle.snmp_oid.specs.Identifier.{IsWire};
 ghost use Rattle.snmp_wire.specs.Canon.{canon_content, canon_subidentifier, septets, subidentifier_size};
 ghost use Rattle.snmp_wire.specs.Message.{object_id};
@@ -38,8 +39,18 @@ pub(crate) fn identifier_size(name: &Oid) -> u64
     let [first, second, rest @ ..] = name.as_slice() else {
         unreachable!()
     };
-    let mut size = septets_size(first_subidentifier(*first, *second)) as u64;
-    'numbers: for number in rest {
+    septets_size(first_subidentifier(*first, *second)) as u64 + numbers_size(rest)
+}
+
+/// How many octets numbers take, each as a subidentifier.
+#[inline]
+fn numbers_size(numbers: &[u32]) -> u64
+    requires { length numbers.now ≤ 128 }
+    ensures value { result ≡ length (flat_map canon_subidentifier numbers.now) }
+    ensures small { result ≤ 5 * length numbers.now }
+{
+    let mut size = 0;
+    'numbers: for number in numbers {
         size += septets_size(u64::from(*number)) as u64;
     }
     size
@@ -64,11 +75,22 @@ pub(crate) fn put_identifier(out: &mut [u8], end: usize, name: &Oid) -> usize
     let [first, second, rest @ ..] = name.as_slice() else {
         unreachable!()
     };
-    let mut start = end;
-    'numbers: for i in (0..rest.len()).rev() {
-        start = put_subidentifier(out, start, u64::from(rest[i]));
-    }
+    let start = put_numbers(out, end, rest);
     put_subidentifier(out, start, first_subidentifier(*first, *second))
+}
+
+/// Writes numbers before `end`, each as a subidentifier, and answers where they begin.
+#[inline]
+fn put_numbers(out: &mut [u8], end: usize, numbers: &[u32]) -> usize
+    requires room { length (flat_map canon_subidentifier numbers.now) ≤ end }
+    requires within { end ≤ length out.old }
+    ensures { Writes out.old result end (flat_map canon_subidentifier numbers.now) out.new }
+{
+    let mut start = end;
+    'numbers: for i in (0..numbers.len()).rev() {
+        start = put_subidentifier(out, start, u64::from(numbers[i]));
+    }
+    start
 }
 
 /// Writes a subidentifier before `end`, and answers where it begins.

@@ -7,7 +7,8 @@ ghost use Rattle.snmp_wire.specs.Writing.{Writes};
 #[inline]
 #[tactic(auto, unfolding(crate::specs::Canon::number_size))]
 pub(crate) fn unsigned_size(number: u64) -> usize
-    ensures { result ≡ number_size number }
+    ensures value { result ≡ number_size number }
+    ensures small { result ≤ 9 }
 {
     if number < 1 << 7 {
         1
@@ -34,7 +35,8 @@ pub(crate) fn unsigned_size(number: u64) -> usize
 #[inline]
 #[tactic(auto, using(crate::proofs::CanonLemmas::number_lengths))]
 pub(crate) fn integer_size(number: i32) -> usize
-    ensures { result ≡ length (canon_number number) }
+    ensures value { result ≡ length (canon_number number) }
+    ensures small { result ≤ 9 }
 {
     unsigned_size(magnitude(number))
 }

@@ -66,6 +66,7 @@ fn tag_of(value: &ValueRef<'_>) -> u8
 
 /// How many octets the content of a value takes.
 #[inline]
+#[tactic(auto, using(crate::proofs::CanonLemmas::contents), unfolding(crate::specs::Canon::canon_content))]
 fn content_size(value: &ValueRef<'_>) -> u64
     requires { IsEncodableValue (datum value.now) }
     ensures value { result ≡ length (canon_content (datum value.now)) }
@@ -100,6 +101,7 @@ pub(crate) fn value_size(value: &ValueRef<'_>) -> u64
 
 /// Writes the content of a value before `end`, and answers where it begins.
 #[inline]
+#[tactic(auto, using(crate::proofs::CanonLemmas::contents), unfolding(crate::specs::Canon::canon_content))]
 fn put_content(out: &mut [u8], end: usize, value: &ValueRef<'_>) -> usize
     requires encodable { IsEncodableValue (datum value.now) }
     requires room { length (canon_content (datum value.now)) ≤ end }

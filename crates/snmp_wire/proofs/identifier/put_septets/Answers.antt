@@ -1,5 +1,5 @@
 use Rattle.std.proofs.Common.{arith}
-use Rattle.snmp_wire.proofs.CanonLemmas.{writes_no_septet, rest-no_septet, writes_septet, rest_septets, all_septets}
+use Rattle.snmp_wire.proofs.IdentifierWriting.{writes_no_septet, rest-no_septet, writes_septet, rest_septets, all_septets}
 use Rattle.snmp_wire.proofs.identifier.put_septets.Goals as goal
 
 pub septets-init : goal.septets-init

@@ -6,4 +6,4 @@ use Rattle.snmp_wire.proofs.WritingLemmas.{writes_same}
 use Rattle.snmp_wire.proofs.number.put_unsigned.Goals as goal
 
 pub returns : goal.returns
-returns c = writes_same c.put_octets.ensures (ap (λ count. octets count c.args.number) c.unsigned_size.ensures ∙ octets_from_zero c.args.number)
+returns c = writes_same c.put_octets.ensures (ap (λ count. octets count c.args.number) c.unsigned_size.ensures.value ∙ octets_from_zero c.args.number)
