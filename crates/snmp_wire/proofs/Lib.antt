@@ -1,3 +1,4 @@
+pub mod BindingWriting
 pub mod CanonLemmas
 pub mod ElementLemmas
 pub mod IdentifierWriting

@@ -34,3 +34,7 @@ piece_fits f xs i x d some h e w room =
     let step : length (flat_map f (drop (i - 1) xs)) ≡ length (f x) + length (flat_map f (drop i xs)) =
         length-flat_map_drop f xs (i - 1) x d (omega arith) e ∙ ap (λ k. length (f x) + length (flat_map f (drop k xs))) next in
     omega (arith, step, flat_map_rest f xs (i - 1), w.begins)
+
+-- all are written where none is left
+pub writes_pieces : {X : Type 0} {old new : List ℕ} {start end : ℕ} (f : X → List ℕ) (xs : List X) (i : ℕ) → i ≤ 0 → Writes old start end (flat_map f (drop i xs)) new → Writes old start end (flat_map f xs) new
+writes_pieces f xs i h w = let none : i ≡ 0 = omega arith in writes_same w (ap (λ k. flat_map f (drop k xs)) none)

@@ -76,7 +76,7 @@ fn content_size(value: &ValueRef<'_>) -> u64
         ValueRef::Integer(number) => integer_size(*number) as u64,
         ValueRef::Octets(text) | ValueRef::Opaque(text) => text.len() as u64,
         ValueRef::ObjectId(name) => identifier_size(name),
-        ValueRef::IpAddress(address) => address.len() as u64,
+        ValueRef::IpAddress(address) => address_size(*address),
         ValueRef::Counter32(number) | ValueRef::Gauge32(number) | ValueRef::TimeTicks(number) => {
             unsigned_size(u64::from(*number)) as u64
         }
@@ -86,6 +86,15 @@ fn content_size(value: &ValueRef<'_>) -> u64
         | ValueRef::NoSuchInstance
         | ValueRef::EndOfMibView => 0,
     }
+}
+
+/// How many octets an address has.
+#[inline]
+fn address_size(address: [u8; 4]) -> u64
+    ensures value { result ≡ length address }
+    ensures small { result ≤ 4 }
+{
+    address.len() as u64
 }
 
 /// How many octets a value takes.
