@@ -1,4 +1,5 @@
 pub mod BindingLemmas
+pub mod FaultLaws
 pub mod IdentifierLaws
 pub mod IdentifierLemmas
 pub mod LengthLemmas

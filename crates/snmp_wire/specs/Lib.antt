@@ -1,3 +1,4 @@
+pub mod Fault
 pub mod Identifier
 pub mod Length
 pub mod Message

@@ -1,5 +1,6 @@
 //! Messages, read from datagrams.
-ghost use Rattle.std.specs.Prelude.{◌≡◌, ℕ, List, ◌++◌, IfOk, Ok};
+ghost use Rattle.std.specs.Prelude.{◌≡◌, ℕ, List, ◌++◌, IfOk, IfErr, Ok};
+ghost use Rattle.snmp_wire.specs.Fault.{IsFault};
 ghost use Rattle.snmp_wire.specs.Message.{Message};
 ghost use Rattle.snmp_wire.specs.Reading as reading;
 ghost use Rattle.snmp_wire.specs.Reading.{Gives};
@@ -103,6 +104,8 @@ pub fn decode(datagram: &[u8]) -> Result<MessageRef<'_>, BerError>
     ensures found { IfOk result (λ message. Spells message datagram.now) }
     // What is spelt so is read.
     ensures only { (message : Message) → Spells message datagram.now → result ≡ Ok message }
+    // Each error comes only where its sentence holds.
+    ensures fault { IfErr result (λ e. IsFault e datagram.now) }
 {
     message_of(datagram)
 }
