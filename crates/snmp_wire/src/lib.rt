@@ -10,12 +10,14 @@ mod kind;
 mod length;
 mod message;
 mod number;
+mod owned;
 mod value;
 
 pub use binding::{Binding, Bindings};
 pub use error::BerError;
 pub use kind::Kind;
-pub use message::{MessageRef, decode, one_spelling};
+pub use message::{MessageRef, decode, no_fault, one_spelling};
+pub use owned::{OctetString, Value};
 pub use snmp_oid::{Oid, OidError, OidTextError, parse_numeric, write_numeric};
 pub use value::ValueRef;
 
