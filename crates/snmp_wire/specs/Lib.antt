@@ -6,3 +6,6 @@ pub mod Number
 pub mod Owned
 pub mod Reading
 pub mod Spelling
+pub mod Canon
+pub mod Parts
+pub mod Writing
