@@ -89,13 +89,13 @@ digits_fit base limit zero n h = h
 digits_fit base limit (suc more) n h = ⊎_elim
     (λ below. subst (λ (k : ℕ). n < limit * base ^ (k - 1)) (sym (count_taken base limit more n below)) (let one : limit * base ^ (1 - 1) ≡ limit = times_one limit base in omega (arith, one)))
     (λ above. let count : ℕ = digit_count base (limit * base) more n in
-        let longer : digit_count base limit (suc more) n ≡ suc (suc (count - 1)) = omega (arith, count_left base limit more n above, digit_some base (limit * base) more n) in
-        let rest : n < limit * base * base ^ (count - 1) = digits_fit base (limit * base) more n (omega (arith, times_power limit base more)) in
-        subst (λ (k : ℕ). n < limit * base ^ (k - 1)) (sym longer) (let whole : limit * base ^ (suc (suc (count - 1)) - 1) ≡ limit * base * base ^ (count - 1) = ap (λ k. limit * base ^ k) (one_less (count - 1)) ∙ times_power limit base (count - 1) in omega (arith, whole)))
+    let longer : digit_count base limit (suc more) n ≡ suc (suc (count - 1)) = omega (arith, count_left base limit more n above, digit_some base (limit * base) more n) in
+    let rest : n < limit * base * base ^ (count - 1) = digits_fit base (limit * base) more n (omega (arith, times_power limit base more)) in
+    subst (λ (k : ℕ). n < limit * base ^ (k - 1)) (sym longer) (let whole : limit * base ^ (suc (suc (count - 1)) - 1) ≡ limit * base * base ^ (count - 1) = ap (λ k. limit * base ^ k) (one_less (count - 1)) ∙ times_power limit base (count - 1) in omega (arith, whole)))
     (cases_lt n limit)
   where
-  one_less : (k : ℕ) → suc (suc k) - 1 ≡ suc k
-  one_less k = omega arith
+    one_less : (k : ℕ) → suc (suc k) - 1 ≡ suc k
+    one_less k = omega arith
 
 -- a number below a power has no more digits
 pub digits_small : (base limit more n most : ℕ) → n < limit * base ^ most → digit_count base limit more n ≤ 1 + most
@@ -107,7 +107,7 @@ digits_small base limit (suc more) n zero h = ⊎_elim
 digits_small base limit (suc more) n (suc most) h = ⊎_elim
     (λ below. let one : digit_count base limit (suc more) n ≡ 1 = count_taken base limit more n below in omega (arith, one))
     (λ above. let further : digit_count base limit (suc more) n ≡ 1 + digit_count base (limit * base) more n = count_left base limit more n above in
-        omega (arith, further, digits_small base (limit * base) more n most (omega (arith, times_power limit base most))))
+    omega (arith, further, digits_small base (limit * base) more n most (omega (arith, times_power limit base most))))
     (cases_lt n limit)
 
 -- each digit is needed
@@ -142,7 +142,7 @@ octets-add zero a b = refl
 octets-add (suc count) a b =
     let whole : 256 ^ suc count * b ≡ 256 ^ count * (256 * b) = ap (λ p. p * b) (pow-suc 256 count) ∙ mul_assoc (256 ^ count) 256 b in
     let digit : (a + 256 ^ suc count * b) / 256 ^ count % 256 ≡ a / 256 ^ count % 256 =
-        ap (λ m. (a + m) / 256 ^ count % 256) whole ∙ ap (λ m. m % 256) (add-mul-div_left a (256 * b) (one-le-pow count 256 (lit< tt))) ∙ add-mul-mod_self_left (a / 256 ^ count) 256 b in
+    ap (λ m. (a + m) / 256 ^ count % 256) whole ∙ ap (λ m. m % 256) (add-mul-div_left a (256 * b) (one-le-pow count 256 (lit< tt))) ∙ add-mul-mod_self_left (a / 256 ^ count) 256 b in
     let rest : octets count (a + 256 ^ suc count * b) ≡ octets count a = ap (λ m. octets count (a + m)) whole ∙ octets-add count a (256 * b) in
     ap (λ d. d ∷ octets count (a + 256 ^ suc count * b)) digit ∙ ap (λ ds. (a / 256 ^ count % 256) ∷ ds) rest
 
@@ -193,24 +193,25 @@ header_long n h =
     omega (arith, long, length-octets (length_size n) n)
 
 pub ruleset number_lengths = (length-canon_number, length-octets, octets_from_zero)
+
 pub ruleset header_lengths = (header_short, header_long)
 
 -- a number below zero, of 64 bits
 pub extended_below : (z y : ℤ) (m : ℕ) → y ≡ z → SFits w32 z → lt_z y (pos 0) ≡ true → m ≡ magnitude_of y → octets (length (canon_number z)) (18446744073709551615 - m) ≡ canon_number z
 extended_below z y m same fits below e = below_zero z m fits (ap (λ x. lt_z x (pos 0)) (sym same) ∙ below) (e ∙ ap magnitude_of same)
   where
-  below_zero : (z : ℤ) (m : ℕ) → SFits w32 z → lt_z z (pos 0) ≡ true → m ≡ magnitude_of z → octets (length (canon_number z)) (18446744073709551615 - m) ≡ canon_number z
-  below_zero (pos n) m fits below e = absurd (grind (arith, nat_tests))
-  below_zero (negsuc n) m fits below e =
-    ap (λ k. octets k (18446744073709551615 - m)) (length-canon_number (negsuc n)) ∙ ap (λ k. octets (number_size n) (18446744073709551615 - k)) e ∙ octets_below_zero n (omega (arith, fits))
+    below_zero : (z : ℤ) (m : ℕ) → SFits w32 z → lt_z z (pos 0) ≡ true → m ≡ magnitude_of z → octets (length (canon_number z)) (18446744073709551615 - m) ≡ canon_number z
+    below_zero (pos n) m fits below e = absurd (grind (arith, nat_tests))
+    below_zero (negsuc n) m fits below e =
+        ap (λ k. octets k (18446744073709551615 - m)) (length-canon_number (negsuc n)) ∙ ap (λ k. octets (number_size n) (18446744073709551615 - k)) e ∙ octets_below_zero n (omega (arith, fits))
 
 -- a number from zero
 pub extended_above : (z y : ℤ) (m : ℕ) → y ≡ z → lt_z y (pos 0) ≡ false → m ≡ magnitude_of y → octets (length (canon_number z)) m ≡ canon_number z
 extended_above z y m same above e = above_zero z m (ap (λ x. lt_z x (pos 0)) (sym same) ∙ above) (e ∙ ap magnitude_of same)
   where
-  above_zero : (z : ℤ) (m : ℕ) → lt_z z (pos 0) ≡ false → m ≡ magnitude_of z → octets (length (canon_number z)) m ≡ canon_number z
-  above_zero (pos n) m above e = ap (λ k. octets k m) (length-canon_number (pos n)) ∙ ap (octets (number_size n)) e ∙ octets_from_zero n
-  above_zero (negsuc n) m above e = absurd (cc)
+    above_zero : (z : ℤ) (m : ℕ) → lt_z z (pos 0) ≡ false → m ≡ magnitude_of z → octets (length (canon_number z)) m ≡ canon_number z
+    above_zero (pos n) m above e = ap (λ k. octets k m) (length-canon_number (pos n)) ∙ ap (octets (number_size n)) e ∙ octets_from_zero n
+    above_zero (negsuc n) m above e = absurd (cc)
 
 pub length-canon_length_short : (n : ℕ) → n < 128 → length (canon_length n) ≡ 1
 length-canon_length_short n h = ap length (canon_length_short n h)

@@ -56,7 +56,7 @@ subidentifier_most n = digit_most 128 128 4 n
 pub length-canon_subidentifier : (n : ℕ) → length (canon_subidentifier n) ≡ subidentifier_size n
 length-canon_subidentifier n =
     let parts : length (canon_subidentifier n) ≡ length (septets (subidentifier_size n - 1) (n / 128)) + 1 =
-        ap length (subidentifier_parts n) ∙ length-append (septets (subidentifier_size n - 1) (n / 128)) ((n % 128) ∷ []) in
+    ap length (subidentifier_parts n) ∙ length-append (septets (subidentifier_size n - 1) (n / 128)) ((n % 128) ∷ []) in
     omega (arith, parts, length-septets (subidentifier_size n - 1) (n / 128), subidentifier_some n)
 
 -- a subidentifier that goes on before its last octet

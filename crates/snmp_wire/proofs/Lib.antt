@@ -1,3 +1,13 @@
+pub mod BindingLemmas
+pub mod FaultLaws
+pub mod Faultless
+pub mod IdentifierLaws
+pub mod IdentifierLemmas
+pub mod LengthLemmas
+pub mod MessageLaws
+pub mod NumberLemmas
+pub mod ReadingLemmas
+pub mod ValueLaws
 pub mod BindingWriting
 pub mod CanonLemmas
 pub mod ElementLemmas

@@ -17,7 +17,7 @@ writes_octet {old} {at} {end} {text} {mid} w start octet e h = record {
   begins = omega (arith, w.begins);
   before = take-set mid start octet ∙ kept start at old mid (omega arith) w.before;
   after = let below : start < length mid = omega arith in
-    drop-set mid start octet below ∙ ap (λ n. octet ∷ drop n mid) e ∙ ap (λ rest. octet ∷ rest) w.after;
+      drop-set mid start octet below ∙ ap (λ n. octet ∷ drop n mid) e ∙ ap (λ rest. octet ∷ rest) w.after;
 }
 
 -- a single octet

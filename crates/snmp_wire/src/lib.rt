@@ -4,18 +4,27 @@
 #![tactic(auto)]
 
 mod binding;
-#[cfg(test)]
-mod encode_tests;
+mod error;
 mod identifier;
 mod kind;
 mod length;
 mod message;
 mod number;
+mod owned;
 mod value;
 mod writing;
 
-pub use binding::{Binding, binding_size, encode_binding};
+pub use binding::{Binding, Bindings, binding_size, encode_binding};
+pub use error::BerError;
 pub use kind::Kind;
-pub use message::{Parts, encode, encode_head, head_size, size};
+pub use message::{
+    MessageRef, Parts, decode, encode, encode_head, head_size, no_fault, one_spelling, size,
+};
+pub use owned::{OctetString, Value};
 pub use snmp_oid::{Oid, OidError, OidTextError, parse_numeric, write_numeric};
 pub use value::ValueRef;
+
+#[cfg(test)]
+mod encode_tests;
+#[cfg(test)]
+mod tests;
