@@ -18,7 +18,7 @@ fields_shrink octets x e =
     let less : length a.0.1 < length octets = element_shrinks 0x30 octets a.0.0 a.0.1 (inner_takes 0x30 octets a.0 a.1) in
     subst (λ (after : List ℕ). length after < length octets) same less
 
-binding_shrinks : (octets : List ℕ) (x : VarBind × List ℕ) → binding_at octets ≡ Ok x → length x.1 < length octets
+pub binding_shrinks : (octets : List ℕ) (x : VarBind × List ℕ) → binding_at octets ≡ Ok x → length x.1 < length octets
 unfolding binding_at
 binding_shrinks octets x e =
     let a = bind_ok (fields_at octets) (λ fields. binding_of fields.0 >>= λ binding. Ok (binding, fields.1)) x e in

@@ -19,12 +19,12 @@ use Rattle.snmp_wire.proofs.BindingLemmas.{with_rest, bindings_step}
 
 -- ---- integers
 
-record TakesInteger (octets : List ℕ) (x : ℤ × List ℕ) : Type 0 where
-  text : List ℕ
-  spells : SpellsValue lenient (integer_value x.0) text
-  parts : octets ≡ text ++ x.1
+pub record TakesInteger (octets : List ℕ) (x : ℤ × List ℕ) : Type 0 where
+  pub text : List ℕ
+  pub spells : SpellsValue lenient (integer_value x.0) text
+  pub parts : octets ≡ text ++ x.1
 
-integer_at_takes : (octets : List ℕ) (x : ℤ × List ℕ) → integer_at octets ≡ Ok x → TakesInteger octets x
+pub integer_at_takes : (octets : List ℕ) (x : ℤ × List ℕ) → integer_at octets ≡ Ok x → TakesInteger octets x
 unfolding integer_at
 integer_at_takes octets x e =
     let a = bind_ok (inner_at 0x02 octets) (λ element. integer_of element.0 >>= λ z. Ok (z, element.1)) x e in
@@ -36,26 +36,26 @@ integer_at_takes octets x e =
       parts = t.2;
     })
 
-integer_at_again : (z : ℤ) (text rest : List ℕ) → SpellsValue lenient (integer_value z) text → integer_at (text ++ rest) ≡ Ok (z, rest)
+pub integer_at_again : (z : ℤ) (text rest : List ℕ) → SpellsValue lenient (integer_value z) text → integer_at (text ++ rest) ≡ Ok (z, rest)
 unfolding integer_at
 integer_at_again z text rest h = rw (inner_again 0x02 h.content text rest h.element, integer_again h.content z h.is_content) refl
 
 -- ---- bindings
 
-record TakesBinding (octets : List ℕ) (x : VarBind × List ℕ) : Type 0 where
-  text : List ℕ
-  spells : SpellsBinding lenient x.0 text
-  parts : octets ≡ text ++ x.1
+pub record TakesBinding (octets : List ℕ) (x : VarBind × List ℕ) : Type 0 where
+  pub text : List ℕ
+  pub spells : SpellsBinding lenient x.0 text
+  pub parts : octets ≡ text ++ x.1
 
 -- the elements of a binding's content
-record TakesFields (content : List ℕ) (fields : Fields) : Type 0 where
-  name : List ℕ
-  value : List ℕ
-  is_name : IsElement 0x06 fields.name name
-  is_value : IsElement fields.tag fields.content value
-  parts : content ≡ name ++ value
+pub record TakesFields (content : List ℕ) (fields : Fields) : Type 0 where
+  pub name : List ℕ
+  pub value : List ℕ
+  pub is_name : IsElement 0x06 fields.name name
+  pub is_value : IsElement fields.tag fields.content value
+  pub parts : content ≡ name ++ value
 
-fields_take : (content : List ℕ) (fields : Fields) → fields_of content ≡ Ok fields → TakesFields content fields
+pub fields_take : (content : List ℕ) (fields : Fields) → fields_of content ≡ Ok fields → TakesFields content fields
 unfolding fields_of
 fields_take content fields e =
     let a = bind_ok (inner_at 0x06 content) (λ name. element_at name.1 >>= λ value. cond (eqb (length value.2) 0) (Ok (record { name = name.0; tag = value.0; content = value.1 })) (Err error.Content)) fields e in
@@ -74,13 +74,13 @@ fields_take content fields e =
       parts = t.2 ∙ ap (λ (o : List ℕ). t.0 ++ o) value_is;
     })
 
-fields_again : (name value : List ℕ) (fields : Fields) → IsElement 0x06 fields.name name → IsElement fields.tag fields.content value → fields_of (name ++ value) ≡ Ok fields
+pub fields_again : (name value : List ℕ) (fields : Fields) → IsElement 0x06 fields.name name → IsElement fields.tag fields.content value → fields_of (name ++ value) ≡ Ok fields
 unfolding fields_of
 fields_again name value fields is_name is_value =
     let whole : element_at value ≡ Ok (fields.tag, fields.content, []) = ap element_at (sym (append-nil value)) ∙ element_again fields.tag fields.content value [] is_value in
     rw (inner_again 0x06 fields.name name value is_name, whole) refl
 
-binding_takes : (octets : List ℕ) (x : VarBind × List ℕ) → binding_at octets ≡ Ok x → TakesBinding octets x
+pub binding_takes : (octets : List ℕ) (x : VarBind × List ℕ) → binding_at octets ≡ Ok x → TakesBinding octets x
 unfolding binding_at fields_at binding_of
 binding_takes octets x e =
     let a = bind_ok (fields_at octets) (λ fields. binding_of fields.0 >>= λ binding. Ok (binding, fields.1)) x e in
@@ -140,7 +140,7 @@ bindings_again (binding ∷ more) octets h =
 
 -- ---- kinds
 
-kind_takes : (tag : ℕ) (found : Kind) → kind_of tag ≡ Ok found → kind_tag found ≡ tag
+pub kind_takes : (tag : ℕ) (found : Kind) → kind_of tag ≡ Ok found → kind_tag found ≡ tag
 unfolding kind_of
 kind_takes tag =
     by_tag 0xA0 tag kind.GetRequest _ refl (
@@ -160,7 +160,7 @@ kind_takes tag =
           | inr h ↦ that found h.1
         ]
 
-kind_again : (found : Kind) → kind_of (kind_tag found) ≡ Ok found
+pub kind_again : (found : Kind) → kind_of (kind_tag found) ≡ Ok found
 unfolding kind_of
 kind_again kind.GetRequest = refl
 kind_again kind.GetNextRequest = refl
@@ -173,7 +173,7 @@ kind_again kind.Report = refl
 
 -- ---- messages
 
-outermost_takes : (octets content : List ℕ) → outermost_of octets ≡ Ok content → IsElement 0x30 content octets
+pub outermost_takes : (octets content : List ℕ) → outermost_of octets ≡ Ok content → IsElement 0x30 content octets
 unfolding outermost_of
 outermost_takes [] content e = absurd cc
 outermost_takes (tag ∷ rest) content e =
