@@ -14,3 +14,4 @@ pub mod ElementLemmas
 pub mod IdentifierWriting
 pub mod ListWriting
 pub mod WritingLemmas
+pub mod PlainLemmas

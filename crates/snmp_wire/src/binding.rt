@@ -109,7 +109,7 @@ pub(crate) fn check_bindings(octets: &[u8]) -> Result<(), BerError>
 
 /// The fields of the binding at the front, and what follows.
 #[tactic(auto, unfolding(crate::specs::Reading::fields_at))]
-#[inline]
+#[inline(always)]
 fn fields_at<'a>(octets: &'a [u8]) -> Result<(Fields<'a>, &'a [u8]), BerError>
     ensures { Gives (λ x. (reading.fields x.0, x.1.now)) result (reading.fields_at octets.now) }
 {
@@ -119,7 +119,7 @@ fn fields_at<'a>(octets: &'a [u8]) -> Result<(Fields<'a>, &'a [u8]), BerError>
 
 /// The fields of a binding's content.
 #[tactic(auto, unfolding(crate::specs::Reading::fields_of))]
-#[inline]
+#[inline(always)]
 fn fields_of<'a>(content: &'a [u8]) -> Result<Fields<'a>, BerError>
     ensures { Gives reading.fields result (reading.fields_of content.now) }
 {

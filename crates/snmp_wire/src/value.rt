@@ -8,6 +8,7 @@ ghost use Rattle.snmp_wire.specs.Spelling.{value_tag};
 ghost use Rattle.snmp_wire.specs.Writing.{Writes};
 
 use crate::BerError;
+use crate::error::allowed;
 use crate::identifier::{check_identifier, identifier_of, identifier_size, put_identifier};
 use crate::length::{header_size, put_header};
 use crate::number::{
@@ -66,21 +67,9 @@ pub(crate) fn check_value(tag: u8, content: &[u8]) -> Result<(), BerError>
     }
 }
 
-/// The answer of a check of content.
-#[inline]
-fn allowed(is_allowed: bool) -> Result<(), BerError>
-    ensures { Gives (λ u. u) result (reading.allowed is_allowed) }
-{
-    if is_allowed {
-        Ok(())
-    } else {
-        Err(BerError::Content)
-    }
-}
-
 /// The value of this tag and content.
 #[tactic(auto, unfolding(crate::specs::Reading::value_of, crate::specs::Reading::unsigned_of))]
-#[inline]
+#[inline(never)]
 pub(crate) fn value_of<'a>(tag: u8, content: &'a [u8]) -> ValueRef<'a>
     requires { IsOk (reading.value_of tag content.now) }
     ensures { reading.value_of tag content.now ≡ Ok (datum result) }
