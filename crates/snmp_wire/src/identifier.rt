@@ -116,18 +116,28 @@ fn check_numbers(octets: &[u8]) -> Result<(), BerError>
 }
 
 /// The identifier that the content is.
-#[inline(never)]
+#[inline]
 pub(crate) fn identifier_of(content: &[u8]) -> Oid
     requires { IsOk (reading.identifier_of content.now) }
     ensures { reading.identifier_of content.now ≡ Ok result }
 {
     let mut oid = Oid::new();
-    if is_plain(content) {
-        push_plain(&mut oid, content);
-    } else {
-        push_subidentifiers(&mut oid, content);
-    }
+    push_identifier(&mut oid, content);
     oid
+}
+
+/// Appends to the empty identifier the one that the content is. To fill it in place saves moving its 520 octets.
+#[inline]
+pub(crate) fn push_identifier(oid: &mut Oid, content: &[u8])
+    requires is_identifier { IsOk (reading.identifier_of content.now) }
+    requires empty { oid.old ≡ [] }
+    ensures { reading.identifier_of content.now ≡ Ok oid.new }
+{
+    if is_plain(content) {
+        push_plain(oid, content);
+    } else {
+        push_subidentifiers(oid, content);
+    }
 }
 
 /// Appends to the empty identifier the one whose content has one octet for each subidentifier.

@@ -69,7 +69,7 @@ pub(crate) fn check_value(tag: u8, content: &[u8]) -> Result<(), BerError>
 
 /// The value of this tag and content.
 #[tactic(auto, unfolding(crate::specs::Reading::value_of, crate::specs::Reading::unsigned_of))]
-#[inline(never)]
+#[inline]
 pub(crate) fn value_of<'a>(tag: u8, content: &'a [u8]) -> ValueRef<'a>
     requires { IsOk (reading.value_of tag content.now) }
     ensures { reading.value_of tag content.now ≡ Ok (datum result) }

@@ -22,7 +22,7 @@ built content oid started at first second some plain ok is_first is_second is_st
 pub returns : goal.returns
 returns c =
     built c.args.content.now c.octets.oid c.push-2.new.oid c.octets.octet-index c.first_number.result c.second_number.result c.in-len1-up.len_at_least c.requires.plain c.requires.is_identifier
-      (c.first_number.ensures ∙ ap first_number c.from.ensures) (c.second_number.ensures ∙ ap second_number c.from-2.ensures) (two c.args.oid.now c.push.new.oid c.push-2.new.oid c.first_number.result c.second_number.result c.requires.empty c.push.ensures c.push-2.ensures) c.octets.invariant (omega (arith, c.octets-test.false, ap length (take_rest c.args.content.now 1), length-drop 1 c.args.content.now))
+    (c.first_number.ensures ∙ ap first_number c.from.ensures) (c.second_number.ensures ∙ ap second_number c.from-2.ensures) (two c.args.oid.now c.push.new.oid c.push-2.new.oid c.first_number.result c.second_number.result c.requires.empty c.push.ensures c.push-2.ensures) c.octets.invariant (omega (arith, c.octets-test.false, ap length (take_rest c.args.content.now 1), length-drop 1 c.args.content.now))
 
 short : (content oid started : List ℕ) (at first second : ℕ) → All (λ octet. octet < 128) content → IsOk (identifier_of content) → started ≡ first ∷ second ∷ [] → oid ≡ started ++ take at (take (length content - 1) (drop 1 content)) → at < length content - 1 → length oid < 128
 short content oid started at first second plain ok is_started is_oid lt =
