@@ -1,2 +1,6 @@
+pub mod Dotted
 pub mod IdentifierLemmas
-pub mod Numerals
+pub mod Numeral
+pub mod Written
+pub mod Parsing
+pub mod Rank
