@@ -3,8 +3,8 @@ use Rattle.std.proofs.Common.{◌≡◌, ℕ, zero, suc, ◌<◌, ◌≤◌, Lis
 use Rattle.std.specs.Result.{result_unwrap_or}
 use Rattle.std.proofs.lemmas.List.{nil_from_length}
 use Rattle.snmp_wire.specs.declared.error.BerError.{BerError}
-use Rattle.snmp_wire.specs.Message.{VarBind}
-use Rattle.snmp_wire.specs.Reading.{◌>>=◌, checked, inner_at, Fields, fields_of, fields_at, binding_of, binding_at, bindings_within, bindings_of, bindings_in}
+use Rattle.snmp_wire.specs.Message.{Datum, VarBind}
+use Rattle.snmp_wire.specs.Reading.{◌>>=◌, checked, inner_at, identifier_of, value_of, Fields, fields_of, fields_at, binding_of, binding_at, bindings_within, bindings_of, bindings_in}
 use Rattle.snmp_wire.proofs.ReadingLemmas.{done, failed, ok_is, bind_ok, bind_same, ok_value, is_ok_at, checked_err, err_checked, ok_checked}
 use Rattle.snmp_wire.proofs.LengthLemmas.{inner_takes, element_shrinks}
 
@@ -154,3 +154,20 @@ stands octets fields after ok some h =
 
 pub bindings_in_end : (octets : List ℕ) → length octets ≡ 0 → bindings_in octets ≡ []
 bindings_in_end octets none = ap (λ (r : Result (List VarBind) BerError). result_unwrap_or r []) (bindings_end octets none)
+
+-- the parts of a binding
+pub record AreParts (fields : Fields) : Type 0 where
+  pub name : IsOk (identifier_of fields.name)
+  pub value : IsOk (value_of fields.tag fields.content)
+
+pub parts_of : (fields : Fields) → IsOk (binding_of fields) → AreParts fields
+unfolding binding_of
+parts_of fields ok =
+    let whole = ok_value (binding_of fields) ok in
+    let n = bind_ok (identifier_of fields.name) (λ name. value_of fields.tag fields.content >>= λ value. Ok (record { name = name; value = value })) whole.0 whole.1 in
+    let v = bind_ok (value_of fields.tag fields.content) (λ value. Ok (record { name = n.0; value = value })) whole.0 n.2 in
+    record { name = is_ok_at (identifier_of fields.name) n.0 n.1; value = is_ok_at (value_of fields.tag fields.content) v.0 v.1 }
+
+pub binding_made : (fields : Fields) (name : List ℕ) (value : Datum) → identifier_of fields.name ≡ Ok name → value_of fields.tag fields.content ≡ Ok value → binding_of fields ≡ Ok (record { name = name; value = value })
+unfolding binding_of
+binding_made fields name value e f = rw (e, f) refl

@@ -15,3 +15,4 @@ pub mod IdentifierWriting
 pub mod ListWriting
 pub mod MessageWriting
 pub mod WritingLemmas
+pub mod PlainLemmas

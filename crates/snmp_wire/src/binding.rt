@@ -7,7 +7,7 @@ ghost use Rattle.snmp_oid.specs.Identifier.{IsWire};
 ghost use Rattle.snmp_wire.specs.Canon.{IsEncodable, canon_binding, canon_value};
 ghost use Rattle.snmp_wire.specs.Writing.{Writes};
 
-use crate::identifier::{check_identifier, identifier_of, identifier_size, put_identifier};
+use crate::identifier::{check_identifier, identifier_size, push_identifier, put_identifier};
 use crate::length::{SEQUENCE, element_at, header_size, inner_at, put_header};
 use crate::value::{check_value, put_value, value_of, value_size};
 use crate::{BerError, ValueRef};
@@ -79,7 +79,12 @@ impl<'a> Iterator for Bindings<'a> {
             unreachable!()
         };
         self.rest = rest;
-        Some(binding_of(fields))
+        let mut name = Oid::new();
+        push_identifier(&mut name, fields.name);
+        Some(Binding {
+            name,
+            value: value_of(fields.tag, fields.content),
+        })
     }
 }
 
@@ -109,7 +114,7 @@ pub(crate) fn check_bindings(octets: &[u8]) -> Result<(), BerError>
 
 /// The fields of the binding at the front, and what follows.
 #[tactic(auto, unfolding(crate::specs::Reading::fields_at))]
-#[inline]
+#[inline(always)]
 fn fields_at<'a>(octets: &'a [u8]) -> Result<(Fields<'a>, &'a [u8]), BerError>
     ensures { Gives (λ x. (reading.fields x.0, x.1.now)) result (reading.fields_at octets.now) }
 {
@@ -119,7 +124,7 @@ fn fields_at<'a>(octets: &'a [u8]) -> Result<(Fields<'a>, &'a [u8]), BerError>
 
 /// The fields of a binding's content.
 #[tactic(auto, unfolding(crate::specs::Reading::fields_of))]
-#[inline]
+#[inline(always)]
 fn fields_of<'a>(content: &'a [u8]) -> Result<Fields<'a>, BerError>
     ensures { Gives reading.fields result (reading.fields_of content.now) }
 {
@@ -139,19 +144,6 @@ fn check_binding(fields: Fields<'_>) -> Result<(), BerError>
 {
     check_identifier(fields.name)?;
     check_value(fields.tag, fields.content)
-}
-
-/// The binding that has these fields.
-#[tactic(auto, unfolding(crate::specs::Reading::binding_of))]
-#[inline]
-fn binding_of<'a>(fields: Fields<'a>) -> Binding<'a>
-    requires { IsOk (reading.binding_of (reading.fields fields)) }
-    ensures { reading.binding_of (reading.fields fields.entry) ≡ Ok (var_bind result) }
-{
-    Binding {
-        name: identifier_of(fields.name),
-        value: value_of(fields.tag, fields.content),
-    }
 }
 
 /// The tag of an OBJECT IDENTIFIER (X.690, 8.19).

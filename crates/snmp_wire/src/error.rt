@@ -1,4 +1,6 @@
 //! Why octets spell no message.
+ghost use Rattle.snmp_wire.specs.Reading as reading;
+ghost use Rattle.snmp_wire.specs.Reading.{Gives};
 
 use thiserror::Error;
 
@@ -20,4 +22,16 @@ pub enum BerError {
     /// Content is none that its type allows, or octets are left over in a SEQUENCE or PDU.
     #[error("content doesn't fit its type")]
     Content,
+}
+
+/// The answer of a check of content.
+#[inline]
+pub(crate) fn allowed(is_allowed: bool) -> Result<(), BerError>
+    ensures { Gives (λ u. u) result (reading.allowed is_allowed) }
+{
+    if is_allowed {
+        Ok(())
+    } else {
+        Err(BerError::Content)
+    }
 }

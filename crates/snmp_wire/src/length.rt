@@ -14,7 +14,7 @@ pub(crate) const SEQUENCE: u8 = 0x30;
 
 /// The length at the front, and what follows. The octets end before it does: `cut`.
 #[tactic(auto, unfolding(crate::specs::Reading::length_at))]
-#[inline]
+#[inline(always)]
 fn length_at(octets: &[u8], cut: BerError) -> Result<(usize, &[u8]), BerError>
     ensures { Gives (λ x. (x.0, x.1.now)) result (reading.length_at cut octets.now) }
 {
@@ -32,6 +32,7 @@ fn length_at(octets: &[u8], cut: BerError) -> Result<(usize, &[u8]), BerError>
 
 /// A length of the long form behind its first octet, which says how many octets it has.
 #[tactic(auto, unfolding(crate::specs::Reading::long_length_at))]
+#[cold]
 fn long_length_at(first: u8, octets: &[u8], cut: BerError) -> Result<(usize, &[u8]), BerError>
     ensures { Gives (λ x. (x.0, x.1.now)) result (reading.long_length_at cut first octets.now) }
 {
@@ -48,7 +49,7 @@ fn long_length_at(first: u8, octets: &[u8], cut: BerError) -> Result<(usize, &[u
 
 /// The content behind a tag, and what follows. The octets end before it does: `cut`.
 #[tactic(auto, unfolding(crate::specs::Reading::content_at))]
-#[inline]
+#[inline(always)]
 pub(crate) fn content_at(octets: &[u8], cut: BerError) -> Result<(&[u8], &[u8]), BerError>
     ensures { Gives (λ x. (x.0.now, x.1.now)) result (reading.content_at cut octets.now) }
 {
@@ -61,7 +62,7 @@ pub(crate) fn content_at(octets: &[u8], cut: BerError) -> Result<(&[u8], &[u8]),
 
 /// The content of an inner element of this tag, and what follows.
 #[tactic(auto, unfolding(crate::specs::Reading::inner_at))]
-#[inline]
+#[inline(always)]
 pub(crate) fn inner_at(tag: u8, octets: &[u8]) -> Result<(&[u8], &[u8]), BerError>
     ensures { Gives (λ x. (x.0.now, x.1.now)) result (reading.inner_at tag octets.now) }
 {
@@ -79,7 +80,7 @@ pub(crate) fn inner_at(tag: u8, octets: &[u8]) -> Result<(&[u8], &[u8]), BerErro
 
 /// The tag and the content of an inner element, and what follows.
 #[tactic(auto, unfolding(crate::specs::Reading::element_at))]
-#[inline]
+#[inline(always)]
 pub(crate) fn element_at(octets: &[u8]) -> Result<(u8, &[u8], &[u8]), BerError>
     ensures { Gives (λ x. (x.0, x.1.now, x.2.now)) result (reading.element_at octets.now) }
 {

@@ -8,6 +8,7 @@ ghost use Rattle.snmp_wire.specs.Spelling.{value_tag};
 ghost use Rattle.snmp_wire.specs.Writing.{Writes};
 
 use crate::BerError;
+use crate::error::allowed;
 use crate::identifier::{check_identifier, identifier_of, identifier_size, put_identifier};
 use crate::length::{header_size, put_header};
 use crate::number::{
@@ -63,18 +64,6 @@ pub(crate) fn check_value(tag: u8, content: &[u8]) -> Result<(), BerError>
         0x41 | 0x42 | 0x43 => allowed(has_width(4, content)),
         0x46 => allowed(has_width(8, content)),
         _ => Err(BerError::Tag),
-    }
-}
-
-/// The answer of a check of content.
-#[inline]
-fn allowed(is_allowed: bool) -> Result<(), BerError>
-    ensures { Gives (λ u. u) result (reading.allowed is_allowed) }
-{
-    if is_allowed {
-        Ok(())
-    } else {
-        Err(BerError::Content)
     }
 }
 
