@@ -1,0 +1,4 @@
+//! The table of an agent.
+#![tactic(auto)]
+
+mod table;
