@@ -1,2 +1,4 @@
 pub mod Listing
+pub mod Places
+pub mod Row
 pub mod Table

@@ -1,5 +1,5 @@
 -- What an agent answers of one name, computed from the list of its variables: the reading of the relations of `Table` that proofs calculate with.
-use Rattle.std.specs.Prelude.{ℕ, Bool, cond, List, [], ◌∷◌, map, filter, Option, Some, None, nat_eq}
+use Rattle.std.specs.Prelude.{ℕ, zero, suc, Bool, cond, List, [], ◌∷◌, map, filter, Option, Some, None, nat_eq}
 use Rattle.std.specs.List.{list_any, starts_with}
 use Rattle.std.specs.Ordering.{nat_cmp, is_lt}
 use Rattle.std.specs.Cmp.Lexicographic.{slice_cmp}
@@ -37,3 +37,9 @@ value_or (Some v) exception = v
 
 abbrev pub get_of : MibView → List ℕ → VarBind
 get_of view o = record { name = o; value = value_or (get view.rows o) (exception_for view o) }
+
+-- the same asked again, so many times more, where `ps` are the variables behind the name: the next in the list, and past its end the last name with endOfMibView
+abbrev pub nth_or_end : List ℕ → List VarBind → ℕ → VarBind
+nth_or_end o [] rounds = record { name = o; value = end_of_mib_view }
+nth_or_end o (p ∷ ps) zero = p
+nth_or_end o (p ∷ ps) (suc rounds) = nth_or_end p.name ps rounds

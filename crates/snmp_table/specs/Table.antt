@@ -1,5 +1,5 @@
 -- What an agent serves, and what it answers of one name (RFC 3416, sections 4.2.1 and 4.2.2).
-use Rattle.std.specs.Prelude.{◌≡◌, ◌≢◌, ℕ, ◌^◌, ◌<◌, ◌≤◌, true, List, [], ◌++◌, length, All, Some, None, FitsSigned}
+use Rattle.std.specs.Prelude.{◌≡◌, ◌≢◌, ℕ, zero, suc, ◌^◌, ◌<◌, ◌≤◌, true, List, [], ◌++◌, length, All, Some, None, FitsSigned}
 use Rattle.std.specs.Int.{w32}
 use Rattle.std.specs.Ordering.{nat_cmp}
 use Rattle.std.specs.Cmp.Lexicographic.{slice_cmp}
@@ -68,3 +68,8 @@ pub record IsSuccessor (view : MibView) (o : List ℕ) (p : VarBind) : Type 0 wh
 pub data IsNext (view : MibView) (o : List ℕ) (p : VarBind) : Type 0 where
   successor : IsSuccessor view o p → IsNext view o p
   end_of_view : ((q : VarBind) → IsRow view q → Precedes o q.name → ⊥) → p ≡ record { name = o; value = end_of_mib_view } → IsNext view o p
+
+-- the answer to a GetNext that is asked again, so many times more, from the name that it gave
+abbrev pub IsNextAfter : MibView → ℕ → List ℕ → VarBind → Type 0
+IsNextAfter view zero o p = IsNext view o p
+IsNextAfter view (suc rounds) o p = (q : VarBind) × IsNextAfter view rounds o q × IsNext view q.name p

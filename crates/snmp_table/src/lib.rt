@@ -1,4 +1,9 @@
-//! The table of an agent.
+//! The table of an agent: the instances that it serves, and the text file that states them.
+//!
+//! Stands on identifiers and values. The agent answers requests from it.
 #![tactic(auto)]
 
+mod row;
 mod table;
+
+pub use table::Table;

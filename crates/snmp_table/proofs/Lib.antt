@@ -1,0 +1,4 @@
+pub mod Finding
+pub mod Partition
+pub mod Rising
+pub mod Successors
