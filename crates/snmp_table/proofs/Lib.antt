@@ -1,3 +1,4 @@
+pub mod Decimals
 pub mod Finding
 pub mod Partition
 pub mod Rising

@@ -1,5 +1,5 @@
 -- How a table keeps what it serves: rows in the order of their names.
-use Rattle.std.specs.Prelude.{◌≡◌, ℕ, ◌≤◌, T, List, [], ◌∷◌, map, length, All}
+use Rattle.std.specs.Prelude.{◌≡◌, ℕ, ◌≤◌, T, List, [], ◌∷◌, map, length, codes, All}
 use Rattle.std.specs.Ordering.{nat_cmp}
 use Rattle.std.specs.Cmp.Lexicographic.{slice_cmp}
 use Rattle.std.specs.FinMap.{from_sorted, is_sorted}
@@ -7,6 +7,8 @@ use Rattle.std.specs.FinSet.{from_list}
 use Rattle.snmp_wire.specs.Message.{Datum}
 use Rattle.snmp_wire.specs.Message.Datum.{integer_value, octet_string, object_id, ip_address, counter32, gauge32, time_ticks, opaque_octets, counter64}
 use Rattle.snmp_table.specs.declared.row.Row.{Row}
+use Rattle.snmp_table.specs.declared.value.Tag.{Tag}
+use Rattle.snmp_table.specs.declared.value.Tag.TheVariants as tag
 use Rattle.snmp_table.specs.declared.row.RowValue.{RowValue}
 use Rattle.snmp_table.specs.declared.row.RowValue.TheVariants as value
 use Rattle.snmp_table.specs.Table.{MibView}
@@ -39,3 +41,16 @@ view_of rows objects = record { rows = from_sorted (map entry_of rows); objects 
 pub record IsShortRow (row : Row) : Type 0 where
   pub name : length row.name.items ≤ 128
   pub value : IsShort row.value
+
+-- how a tag is written
+abbrev pub tag_text : Tag → List ℕ
+tag_text tag.Integer = codes "2"
+tag_text tag.OctetString = codes "4"
+tag_text tag.HexOctetString = codes "4x"
+tag_text tag.ObjectId = codes "6"
+tag_text tag.IpAddress = codes "64"
+tag_text tag.Counter32 = codes "65"
+tag_text tag.Gauge32 = codes "66"
+tag_text tag.TimeTicks = codes "67"
+tag_text tag.HexOpaque = codes "68x"
+tag_text tag.Counter64 = codes "70"

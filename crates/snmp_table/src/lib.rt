@@ -3,7 +3,10 @@
 //! Stands on identifiers and values. The agent answers requests from it.
 #![tactic(auto)]
 
+mod error;
 mod row;
 mod table;
+mod value;
 
+pub use error::TableError;
 pub use table::Table;
