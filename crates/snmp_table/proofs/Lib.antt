@@ -1,5 +1,7 @@
+pub mod Cuts
 pub mod Decimals
 pub mod Finding
 pub mod Partition
 pub mod Rising
+pub mod Statements
 pub mod Successors

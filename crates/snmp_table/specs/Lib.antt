@@ -1,4 +1,5 @@
 pub mod Exact
+pub mod Line
 pub mod Listing
 pub mod Places
 pub mod Row

@@ -4,6 +4,7 @@
 #![tactic(auto)]
 
 mod error;
+mod line;
 mod row;
 mod table;
 mod value;
