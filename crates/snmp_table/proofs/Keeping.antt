@@ -1,7 +1,6 @@
 -- What lines state is what a table may keep.
-use Rattle.std.proofs.Common.{◌≡◌, ◌≢◌, ℕ, ◌<◌, ◌≤◌, ◌⊎◌, inl, inr, true, List, [], ◌∷◌, map, length, Some, slice_index_or, refl, sym, ◌∙◌}
-use Rattle.std.specs.List.{All, list_any}
-use Rattle.std.specs.Ordering.{nat_cmp, eq_by_cmp}
+use Rattle.std.proofs.Common.{◌≡◌, ◌≢◌, ℕ, inl, inr, true, List, [], ◌∷◌, map, slice_index_or, sym, ◌∙◌}
+use Rattle.std.specs.Ordering.{nat_cmp}
 use Rattle.std.specs.Cmp.Lexicographic.{slice_cmp, nat_list_cmp_total}
 use Rattle.std.specs.FinMap.{get, get-from_sorted, find}
 use Rattle.std.specs.FinSet.{contains, contains-from_list}
@@ -12,10 +11,10 @@ use Rattle.snmp_wire.specs.Message.Datum.{integer_value, octet_string, null_valu
 use Rattle.snmp_table.specs.declared.row.Row.{Row}
 use Rattle.snmp_table.specs.declared.row.RowValue.{RowValue}
 use Rattle.snmp_table.specs.declared.row.RowValue.TheVariants as value
-use Rattle.snmp_table.specs.Table.{MibView, IsRow, IsInstanceName, IsInstanceValue, IsMibView}
+use Rattle.snmp_table.specs.Table.{IsRow, IsInstanceName, IsInstanceValue}
 use Rattle.snmp_table.specs.Row.{entry_of, datum_of, view_of, IsShort, IsShortRow}
 use Rattle.snmp_table.specs.Places.{var_of, IsKept}
-use Rattle.snmp_table.specs.Text.{Statement, object_prefix, instance, States, IsValueText, IsName}
+use Rattle.snmp_table.specs.Text.{object_prefix, instance, IsValueText, IsName}
 use Rattle.snmp_table.specs.Stated.{IsStated, IsTableOf}
 use Rattle.snmp_table.specs.Draft.{Holds}
 use Rattle.snmp_table.proofs.Rising.{Listed, find-listed}

@@ -51,7 +51,9 @@ impl Table {
     ghost use Rattle.snmp_table.specs.Table.{IsGet, IsNext, IsNextAfter};
     ghost use Rattle.snmp_table.specs.Stated.{IsTableOf, IsFirstFault};
 
-    /// The table that a text states, or the fault of its first faulty line (`docs/PROFILE.md`), or `Memory`.
+    /// The table that a text states, or the fault of its first faulty line (`docs/PROFILE.md`). `Memory` may come in place of any answer.
+    ///
+    /// A line ends with LF, CR LF or the text; a CR that no LF follows belongs to its line.
     pub fn read(alloc: Global, text: &[u8]) -> Result<Table, TableError>
         ensures table { IfOk result (IsTableOf (lines text.now)) }
         ensures fault { IfErr result (IsFirstFault (lines text.now)) }

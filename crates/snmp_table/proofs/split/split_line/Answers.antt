@@ -1,4 +1,4 @@
-use Rattle.std.proofs.Common.{◌≡◌, ◌∷◌, ◌++◌, List, ℕ, sym, ◌∙◌, ap}
+use Rattle.std.proofs.Common.{◌∷◌, List, ℕ, sym, ◌∙◌, ap}
 use Rattle.std.specs.Str.Lines.{lines}
 use Rattle.snmp_table.proofs.TextLines.{lines_first, lines_last}
 use Rattle.snmp_table.proofs.split.split_line.Goals as goal

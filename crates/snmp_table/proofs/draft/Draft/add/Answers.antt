@@ -1,11 +1,10 @@
-use Rattle.std.proofs.Common.{◌≡◌, List, ℕ, map, None, Some, Option, sym, ◌∙◌, ap, subst, refl, [], ◌∷◌, ◌++◌}
+use Rattle.std.proofs.Common.{◌≡◌, List, ℕ, map, None, Some, sym, ◌∙◌, ap, subst, refl, [], ◌∷◌, ◌++◌}
 use Rattle.std.specs.List.{list_any}
 use Rattle.std.specs.Option.{option_map}
 use Rattle.std.specs.Ordering.{nat_cmp, eq_by_cmp}
 use Rattle.std.specs.Cmp.Lexicographic.{slice_cmp}
 use Rattle.std.specs.FinMap.{find}
 use Rattle.snmp_wire.specs.Message.{Datum}
-use Rattle.snmp_table.specs.declared.row.RowValue.{RowValue}
 use Rattle.snmp_table.specs.Row.{entry_of, datum_of}
 use Rattle.snmp_table.specs.Places.{var_of}
 use Rattle.snmp_table.specs.Text.{States, nothing, object_prefix, instance}

@@ -1,12 +1,11 @@
-use Rattle.std.proofs.Common.{◌≡◌, ◌+◌, ◌++◌, ◌∷◌, [], ℕ, List, length, map, sym, ◌∙◌, ap, subst, refl, Bool, true, eqb, eqb-true, suc, arith}
+use Rattle.std.proofs.Common.{◌≡◌, ◌∷◌, [], ℕ, List, length, map, sym, ◌∙◌, ap, subst, refl, Bool, true, eqb, eqb-true, suc, arith}
 use Rattle.std.specs.Str.Lines.{lines}
 use Rattle.std.proofs.lemmas.Result.{err_from_is_err_and}
 use Rattle.snmp_wire.specs.Message.{Datum}
 use Rattle.snmp_table.specs.declared.draft.Draft.{Draft}
 use Rattle.snmp_table.specs.declared.row.Row.{Row}
 use Rattle.snmp_table.specs.Row.{entry_of}
-use Rattle.snmp_table.specs.Draft.{Holds, IsDraft, IsFaultBehind, draft_entries, draft_objects, row_of}
-use Rattle.snmp_table.specs.Stated.{IsFirstFault}
+use Rattle.snmp_table.specs.Draft.{Holds, draft_entries, draft_objects, row_of}
 use Rattle.snmp_table.proofs.Drafts.{IsReadTo, read_more, fault_at, all_read, entries_of_rows}
 use Rattle.snmp_table.proofs.Keeping.{kept, table_of}
 use Rattle.snmp_table.proofs.table.Table.read.Goals as goal

@@ -1,5 +1,4 @@
-use Rattle.std.proofs.Common.{◌≡◌, ◌+◌, ◌≤◌, ◌++◌, ℕ, List, length}
-use Rattle.std.specs.Str.Lines.{lines}
+use Rattle.std.proofs.Common.{length}
 use Rattle.snmp_table.proofs.Drafts.{IsReadTo}
 use Rattle.snmp_table.proofs.table.Table.read.Given as goal
 
