@@ -1,0 +1,9 @@
+pub mod Draft
+pub mod Exact
+pub mod Line
+pub mod Listing
+pub mod Places
+pub mod Row
+pub mod Stated
+pub mod Table
+pub mod Text
