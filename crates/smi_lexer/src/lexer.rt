@@ -103,3 +103,6 @@ fn fault_at(text: &[u8], line: usize) -> LexError
 pub fn one_reading()
     ensures { (before text : List ℕ) (xs ys : List Item) → Lexes before text xs → Lexes before text ys → xs ≡ ys }
 {}
+
+#[cfg(test)]
+mod tests;
