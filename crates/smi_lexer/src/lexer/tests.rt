@@ -11,6 +11,9 @@ use std::process::Abort;
 /// A token's kind, text and line.
 type Row = (TokenKind, &'static [u8], usize);
 
+/// A text, its tokens, and the fault where it breaks off.
+type Case = (&'static [u8], &'static [Row], Option<LexError>);
+
 /// Compares the tokens of a text, its fault, and that it has ended then.
 fn expect(rt: &impl Abort, text: &[u8], rows: &[Row], fault: Option<LexError>) {
     let mut lexer = Lexer::new(text);
@@ -40,82 +43,68 @@ fn expect(rt: &impl Abort, text: &[u8], rows: &[Row], fault: Option<LexError>) {
     assert!(rt; lexer.next().is_none(), "no end in {text:?}");
 }
 
-fn bad(line: usize) -> Option<LexError> {
-    Some(LexError::BadByte { line })
-}
-
-fn open(line: usize) -> Option<LexError> {
-    Some(LexError::OpenString { line })
-}
-
-#[test]
-fn gaps(rt: HostRuntime) {
-    expect(&rt, b"", &[], None);
-    expect(&rt, b" \t\r\n\x0b\x0c", &[], None);
-    expect(&rt, b"-- only a comment", &[], None);
-    expect(&rt, b"--", &[], None);
-    expect(&rt, b"-----", &[], None);
-    expect(
-        &rt,
+const GAPS: &[Case] = &[
+    (b"", &[], None),
+    (b" \t\r\n\x0b\x0c", &[], None),
+    (b"-- only a comment", &[], None),
+    (b"--", &[], None),
+    (b"-----", &[], None),
+    (
         b"a\r\nb\x0cc",
         &[(Lower, b"a", 1), (Lower, b"b", 2), (Lower, b"c", 2)],
         None,
-    );
-    expect(
-        &rt,
+    ),
+    (
         b"A -- note -- B",
         &[(Upper, b"A", 1), (Upper, b"B", 1)],
         None,
-    );
-    expect(&rt, b"-- note\nb", &[(Lower, b"b", 2)], None);
-    expect(&rt, b"-- note\r\nb", &[(Lower, b"b", 2)], None);
-    expect(&rt, b"-- ---- title ----", &[(Lower, b"title", 1)], None);
-    expect(&rt, b"--a-b--c---- d", &[(Lower, b"c", 1)], None);
-    expect(&rt, b"-- a -\n- 1", &[], bad(2));
-    expect(&rt, b"---a---b", &[(Lower, b"b", 1)], None);
-    expect(&rt, b"-- \"x\n\"y\"", &[(Text, b"\"y\"", 2)], None);
-}
+    ),
+    (b"-- note\nb", &[(Lower, b"b", 2)], None),
+    (b"-- note\r\nb", &[(Lower, b"b", 2)], None),
+    (b"-- ---- title ----", &[(Lower, b"title", 1)], None),
+    (b"--a-b--c---- d", &[(Lower, b"c", 1)], None),
+    (b"-- a -\n- 1", &[], Some(LexError::BadByte { line: 2 })),
+    (b"---a---b", &[(Lower, b"b", 1)], None),
+    (b"-- \"x\n\"y\"", &[(Text, b"\"y\"", 2)], None),
+];
 
-#[test]
-fn words_and_numbers(rt: HostRuntime) {
-    expect(
-        &rt,
+const WORDS_AND_NUMBERS: &[Case] = &[
+    (
         b"OBJECT-TYPE x1_2",
         &[(Upper, b"OBJECT-TYPE", 1), (Lower, b"x1_2", 1)],
         None,
-    );
-    expect(&rt, b"a--b\nc", &[(Lower, b"a", 1), (Lower, b"c", 2)], None);
-    expect(
-        &rt,
-        b"a---b--c",
-        &[(Lower, b"a", 1), (Lower, b"c", 1)],
-        None,
-    );
-    expect(&rt, b"a-", &[(Lower, b"a", 1)], bad(1));
-    expect(&rt, b"a- b", &[(Lower, b"a", 1)], bad(1));
-    expect(
-        &rt,
-        b"a-5 b-_",
-        &[(Lower, b"a-5", 1), (Lower, b"b-_", 1)],
-        None,
-    );
-    expect(&rt, b"_a", &[], bad(1));
-    expect(&rt, b"12ab", &[(Number, b"12", 1), (Lower, b"ab", 1)], None);
-    expect(
-        &rt,
+    ),
+    (b"a--b\nc", &[(Lower, b"a", 1), (Lower, b"c", 2)], None),
+    (b"a---b--c", &[(Lower, b"a", 1), (Lower, b"c", 1)], None),
+    (
+        b"a-",
+        &[(Lower, b"a", 1)],
+        Some(LexError::BadByte { line: 1 }),
+    ),
+    (
+        b"a- b",
+        &[(Lower, b"a", 1)],
+        Some(LexError::BadByte { line: 1 }),
+    ),
+    (b"a-5 b-_", &[(Lower, b"a-5", 1), (Lower, b"b-_", 1)], None),
+    (b"_a", &[], Some(LexError::BadByte { line: 1 })),
+    (b"12ab", &[(Number, b"12", 1), (Lower, b"ab", 1)], None),
+    (
         b"-5 007 -0",
         &[(Number, b"-5", 1), (Number, b"007", 1), (Number, b"-0", 1)],
         None,
-    );
-    expect(&rt, b"5-3", &[(Number, b"5", 1), (Number, b"-3", 1)], None);
-    expect(&rt, b"1 - 2", &[(Number, b"1", 1)], bad(1));
-    expect(&rt, b"5--3", &[(Number, b"5", 1)], None);
-}
+    ),
+    (b"5-3", &[(Number, b"5", 1), (Number, b"-3", 1)], None),
+    (
+        b"1 - 2",
+        &[(Number, b"1", 1)],
+        Some(LexError::BadByte { line: 1 }),
+    ),
+    (b"5--3", &[(Number, b"5", 1)], None),
+];
 
-#[test]
-fn strings_and_literals(rt: HostRuntime) {
-    expect(
-        &rt,
+const STRINGS_AND_LITERALS: &[Case] = &[
+    (
         b"\"\" \"a\n--b\n\" c",
         &[
             (Text, b"\"\"", 1),
@@ -123,40 +112,43 @@ fn strings_and_literals(rt: HostRuntime) {
             (Lower, b"c", 3),
         ],
         None,
-    );
-    expect(&rt, b"A\n\n\"open", &[(Upper, b"A", 1)], open(3));
-    expect(&rt, b"\"a\" \"\nb\n", &[(Text, b"\"a\"", 1)], open(1));
-    expect(
-        &rt,
+    ),
+    (
+        b"A\n\n\"open",
+        &[(Upper, b"A", 1)],
+        Some(LexError::OpenString { line: 3 }),
+    ),
+    (
+        b"\"a\" \"\nb\n",
+        &[(Text, b"\"a\"", 1)],
+        Some(LexError::OpenString { line: 1 }),
+    ),
+    (
         b"'01'H'01'b''h",
         &[(Hex, b"'01'H", 1), (Binary, b"'01'b", 1), (Hex, b"''h", 1)],
         None,
-    );
-    expect(
-        &rt,
+    ),
+    (
         b"'fF'H ''B",
         &[(Hex, b"'fF'H", 1), (Binary, b"''B", 1)],
         None,
-    );
-    expect(&rt, b"\n'01", &[], open(2));
-    expect(&rt, b"x\n'01'", &[(Lower, b"x", 1)], bad(2));
-    expect(&rt, b"'01'X", &[], bad(1));
-    expect(&rt, b"'0G'H", &[], bad(1));
-    expect(&rt, b"'02'B", &[], bad(1));
-    expect(&rt, b"'01' H", &[], bad(1));
-    expect(&rt, b"'0\n1'H", &[], bad(1));
-    expect(
-        &rt,
-        b"'01'Hx",
-        &[(Hex, b"'01'H", 1), (Lower, b"x", 1)],
-        None,
-    );
-}
+    ),
+    (b"\n'01", &[], Some(LexError::OpenString { line: 2 })),
+    (
+        b"x\n'01'",
+        &[(Lower, b"x", 1)],
+        Some(LexError::BadByte { line: 2 }),
+    ),
+    (b"'01'X", &[], Some(LexError::BadByte { line: 1 })),
+    (b"'0G'H", &[], Some(LexError::BadByte { line: 1 })),
+    (b"'02'B", &[], Some(LexError::BadByte { line: 1 })),
+    (b"'01' H", &[], Some(LexError::BadByte { line: 1 })),
+    (b"'0\n1'H", &[], Some(LexError::BadByte { line: 1 })),
+    (b"'01'Hx", &[(Hex, b"'01'H", 1), (Lower, b"x", 1)], None),
+];
 
-#[test]
-fn symbols(rt: HostRuntime) {
-    expect(
-        &rt,
+const SYMBOLS: &[Case] = &[
+    (
         b"x ::= { iso 1 }",
         &[
             (Lower, b"x", 1),
@@ -167,9 +159,8 @@ fn symbols(rt: HostRuntime) {
             (CloseBrace, b"}", 1),
         ],
         None,
-    );
-    expect(
-        &rt,
+    ),
+    (
         b"z(VALUE)",
         &[
             (Lower, b"z", 1),
@@ -178,9 +169,8 @@ fn symbols(rt: HostRuntime) {
             (CloseParen, b")", 1),
         ],
         None,
-    );
-    expect(
-        &rt,
+    ),
+    (
         b":::==",
         &[
             (Colon, b":", 1),
@@ -188,17 +178,15 @@ fn symbols(rt: HostRuntime) {
             (TokenKind::Equals, b"=", 1),
         ],
         None,
-    );
-    expect(&rt, b"::", &[(Colon, b":", 1), (Colon, b":", 1)], None);
-    expect(
-        &rt,
+    ),
+    (b"::", &[(Colon, b":", 1), (Colon, b":", 1)], None),
+    (
         b"0..9",
         &[(Number, b"0", 1), (Range, b"..", 1), (Number, b"9", 1)],
         None,
-    );
-    expect(&rt, b"...", &[(Range, b"..", 1), (Dot, b".", 1)], None);
-    expect(
-        &rt,
+    ),
+    (b"...", &[(Range, b"..", 1), (Dot, b".", 1)], None),
+    (
         b"[]<>,;|",
         &[
             (TokenKind::OpenBracket, b"[", 1),
@@ -210,20 +198,61 @@ fn symbols(rt: HostRuntime) {
             (TokenKind::Bar, b"|", 1),
         ],
         None,
-    );
+    ),
+];
+
+const FAULTS: &[Case] = &[
+    (
+        b"A BEGIN\n? END",
+        &[(Upper, b"A", 1), (Upper, b"BEGIN", 1)],
+        Some(LexError::BadByte { line: 2 }),
+    ),
+    (
+        b"a\0b",
+        &[(Lower, b"a", 1)],
+        Some(LexError::BadByte { line: 1 }),
+    ),
+    (b"\x80", &[], Some(LexError::BadByte { line: 1 })),
+    (b"\xff a", &[], Some(LexError::BadByte { line: 1 })),
+    (b"-", &[], Some(LexError::BadByte { line: 1 })),
+    (
+        b"x-- y --\n!",
+        &[(Lower, b"x", 1)],
+        Some(LexError::BadByte { line: 2 }),
+    ),
+];
+
+#[test]
+fn gaps_are_lexed(rt: HostRuntime) {
+    for (text, rows, fault) in GAPS {
+        expect(&rt, text, rows, *fault);
+    }
 }
 
 #[test]
-fn faults(rt: HostRuntime) {
-    expect(
-        &rt,
-        b"A BEGIN\n? END",
-        &[(Upper, b"A", 1), (Upper, b"BEGIN", 1)],
-        bad(2),
-    );
-    expect(&rt, b"a\0b", &[(Lower, b"a", 1)], bad(1));
-    expect(&rt, b"\x80", &[], bad(1));
-    expect(&rt, b"\xff a", &[], bad(1));
-    expect(&rt, b"-", &[], bad(1));
-    expect(&rt, b"x-- y --\n!", &[(Lower, b"x", 1)], bad(2));
+fn words_and_numbers_are_lexed(rt: HostRuntime) {
+    for (text, rows, fault) in WORDS_AND_NUMBERS {
+        expect(&rt, text, rows, *fault);
+    }
+}
+
+#[test]
+fn strings_and_literals_are_lexed(rt: HostRuntime) {
+    for (text, rows, fault) in STRINGS_AND_LITERALS {
+        expect(&rt, text, rows, *fault);
+    }
+}
+
+#[test]
+fn symbols_are_lexed(rt: HostRuntime) {
+    for (text, rows, fault) in SYMBOLS {
+        expect(&rt, text, rows, *fault);
+    }
+}
+
+#[test]
+fn faults_are_lexed(rt: HostRuntime) {
+    for (text, rows, fault) in FAULTS {
+        expect(&rt, text, rows, *fault);
+    }
 }
