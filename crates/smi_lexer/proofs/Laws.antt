@@ -1,11 +1,12 @@
 -- The computed items are those that `Lexes` says, and no others are.
-use Rattle.std.proofs.Common.{◌≡◌, ℕ, zero, suc, ◌+◌, ◌<◌, ◌≤◌, cond, Option, Some, None, Ok, List, [], ◌∷◌, ◌++◌, length, take, drop, refl, sym, ap, ◌∙◌, subst, ⊎_elim, arith, length-append, length-take-le, length-drop}
+use Rattle.std.proofs.Common.{◌≡◌, ℕ, zero, suc, ◌+◌, ◌-◌, ◌<◌, ◌≤◌, cond, Option, Some, None, Ok, List, [], ◌∷◌, ◌++◌, length, take, drop, refl, sym, ap, ◌∙◌, subst, ⊎_elim, arith, length-append, length-take-le, length-drop, append_assoc, slice_range}
 use Rattle.std.proofs.lemmas.Bool.{cases_lt}
-use Rattle.std.proofs.lemmas.List.{take_all}
+use Rattle.std.proofs.lemmas.List.{take_all, take-append-drop}
+use Rattle.std.proofs.Math.Seq.{drop-append_seam}
 use Rattle.std.proofs.lemmas.List.Sums.{sum_by-append}
-use Rattle.smi_lexer.specs.Token.{Item}
+use Rattle.smi_lexer.specs.Token.{Item, Lexeme, tokens_of}
 use Rattle.smi_lexer.specs.Lexeme.{Part, gap, is_newline, lexeme}
-use Rattle.smi_lexer.specs.Lexes.{IsLongest, Lexes, breaks, ends, gives, lexeme_behind, passes}
+use Rattle.smi_lexer.specs.Lexes.{AreInOrder, IsLongest, Lexes, breaks, ends, gives, lexeme_behind, passes}
 use Rattle.smi_lexer.specs.Reading.{IsPartFront, items_at, longest_front, newlines, part_of, part_or_shorter}
 use Rattle.smi_lexer.proofs.Items.{front_some, items-front, items-none, items-nothing}
 use Rattle.smi_lexer.proofs.PartLaws.{is_part, part_is}
@@ -108,3 +109,28 @@ sole_items (breaks {before} c cs none) =
 
 pub one_list : (before text : List ℕ) (xs ys : List Item) → Lexes before text xs → Lexes before text ys → xs ≡ ys
 one_list before text xs ys first second = sole_items first ∙ sym (sole_items second)
+
+-- ---- spans
+
+earlier : (source : List ℕ) (low high : ℕ) (tokens : List Lexeme) → low ≤ high → AreInOrder source high tokens → AreInOrder source low tokens
+earlier source low high [] below h = tt
+earlier source low high (t ∷ ts) below h = (omega (arith, h.0), h.1, h.2, h.3, h.4)
+
+-- the octets of a span are those behind what stands before it
+span_of : (before text : List ℕ) (n : ℕ) → n ≤ length text → take n text ≡ slice_range (before ++ text) (length before) (length before + length (take n text))
+span_of before text n within =
+    let len : (length before + length (take n text)) - length before ≡ n = omega (arith, length-take-le n text within) in
+    sym (ap (λ s. take ((length before + length (take n text)) - length before) s) (drop-append_seam before text) ∙ ap (λ k. take k text) len)
+
+pub in_order : {before text : List ℕ} {items : List Item} → Lexes before text items → AreInOrder (before ++ text) (length before) (tokens_of items)
+in_order ends = tt
+in_order (passes {before} {text} {items} n longest rest) =
+    earlier (before ++ text) (length before) (length (before ++ take n text)) (tokens_of items) (omega (arith, length-append before (take n text)))
+    (subst (λ s. AreInOrder s (length (before ++ take n text)) (tokens_of items)) (append_assoc before (take n text) (drop n text) ∙ ap (λ s. before ++ s) (take-append-drop n text)) (in_order rest))
+in_order (gives {before} {text} {items} kind n longest rest) =
+    let some : 0 < n = front_some text (lexeme kind) n (front-longest (lexeme kind) n text longest) in
+    let len = length-take-le n text longest.within in
+    (omega arith, omega (arith, len), omega (arith, len, longest.within, length-append before text), span_of before text n longest.within
+    , subst (λ at. AreInOrder (before ++ text) at (tokens_of items)) (length-append before (take n text))
+        (subst (λ s. AreInOrder s (length (before ++ take n text)) (tokens_of items)) (append_assoc before (take n text) (drop n text) ∙ ap (λ s. before ++ s) (take-append-drop n text)) (in_order rest)))
+in_order (breaks c cs none) = tt

@@ -1,5 +1,5 @@
 -- The tokens of a text.
-use Rattle.std.specs.Prelude.{ℕ, ◌+◌, ◌<◌, ◌≤◌, List, [], ◌∷◌, ◌++◌, length, take, drop, Ok, Err, count_by, if◌then◌else◌}
+use Rattle.std.specs.Prelude.{ℕ, ◌+◌, ◌<◌, ◌≤◌, List, [], ◌∷◌, ◌++◌, length, take, drop, Ok, Err, count_by, slice_range, ◌≡◌, if◌then◌else◌}
 use Rattle.smi_lexer.specs.declared.token.TokenKind.{TokenKind}
 use Rattle.smi_lexer.specs.declared.error.LexError.{LexError}
 use Rattle.smi_lexer.specs.declared.error.LexError.TheVariants.{BadByte, OpenString}
@@ -36,3 +36,8 @@ pub data Lexes : List ℕ → List ℕ → List Item → Type 0 where
       → Lexes before text (Ok (lexeme_behind before kind (take n text)) ∷ items)
   breaks : {before : List ℕ} (c : ℕ) (cs : List ℕ) → ((part : Part) (m : ℕ) → IsPart part (take m (c ∷ cs)) → ⊥)
       → Lexes before (c ∷ cs) (Err (fault_on (line_behind before) (c ∷ cs)) ∷ [])
+
+-- from this place on each token stands behind the one before it, is not empty, and has the source's octets in its span as its text
+abbrev pub AreInOrder : List ℕ → ℕ → List Lexeme → Type 0
+AreInOrder source from [] = Unit {0}
+AreInOrder source from (t ∷ ts) = (from ≤ t.span.start) × (t.span.start < t.span.end) × (t.span.end ≤ length source) × (t.text ≡ slice_range source t.span.start t.span.end) × AreInOrder source t.span.end ts

@@ -1,7 +1,7 @@
 //! The lexer: the tokens of a text one after the other, and last the fault where it breaks off.
 ghost use Rattle.std.specs.Prelude.{◌≡◌, ℕ, List, []};
-ghost use Rattle.smi_lexer.specs.Lexes.{Lexes, fault_on};
-ghost use Rattle.smi_lexer.specs.Token.{Item};
+ghost use Rattle.smi_lexer.specs.Lexes.{AreInOrder, Lexes, fault_on};
+ghost use Rattle.smi_lexer.specs.Token.{Item, tokens_of};
 
 use crate::error::LexError;
 use crate::scan::{gaps_at, is_open, lexeme_at, newlines_in};
@@ -37,7 +37,9 @@ impl<'a> Lexer<'a> {
     /// The lexer of a whole text.
     pub fn new(text: &'a [u8]) -> Self
         // These are the text's tokens, then the fault where it breaks off before its end.
-        ensures { Lexes [] text.now result }
+        ensures tokens { Lexes [] text.now result }
+        // So spans rise.
+        ensures spans { AreInOrder text.now 0 (tokens_of result) }
     {
         Lexer {
             rest: text,
@@ -68,6 +70,7 @@ impl<'a> Iterator for Lexer<'a> {
         }
         let line = lines + 1;
         let Some((kind, len)) = lexeme_at(text) else {
+            // Nothing is left behind a fault.
             self.rest = &[];
             return Some(Err(fault_at(text, line)));
         };
