@@ -16,7 +16,7 @@ use Rattle.smi_lexer.proofs.Classes.{class_is}
 use Rattle.smi_lexer.proofs.Fronts.{and_true, rest_at, rest_of_two}
 use Rattle.smi_lexer.proofs.Items.{newlines-cons, newlines-one, skips_gap}
 use Rattle.smi_lexer.proofs.Parts.{none_some, front_behind_first, front_cons, part_front}
-use Rattle.smi_lexer.proofs.Tests.{begins-take}
+use Rattle.smi_lexer.proofs.Scans.{begins-take}
 
 -- ---- a blank octet
 

@@ -129,8 +129,12 @@ in_order (passes {before} {text} {items} n longest rest) =
     (subst (λ s. AreInOrder s (length (before ++ take n text)) (tokens_of items)) (append_assoc before (take n text) (drop n text) ∙ ap (λ s. before ++ s) (take-append-drop n text)) (in_order rest))
 in_order (gives {before} {text} {items} kind n longest rest) =
     let some : 0 < n = front_some text (lexeme kind) n (front-longest (lexeme kind) n text longest) in
-    let len = length-take-le n text longest.within in
-    (omega arith, omega (arith, len), omega (arith, len, longest.within, length-append before text), span_of before text n longest.within
-    , subst (λ at. AreInOrder (before ++ text) at (tokens_of items)) (length-append before (take n text))
-        (subst (λ s. AreInOrder s (length (before ++ take n text)) (tokens_of items)) (append_assoc before (take n text) (drop n text) ∙ ap (λ s. before ++ s) (take-append-drop n text)) (in_order rest)))
+    let len = length-take-le n text longest.within in (
+      omega arith,
+      omega (arith, len),
+      omega (arith, len, longest.within, length-append before text),
+      span_of before text n longest.within,
+      subst (λ at. AreInOrder (before ++ text) at (tokens_of items)) (length-append before (take n text))
+          (subst (λ s. AreInOrder s (length (before ++ take n text)) (tokens_of items)) (append_assoc before (take n text) (drop n text) ∙ ap (λ s. before ++ s) (take-append-drop n text)) (in_order rest)),
+    )
 in_order (breaks c cs none) = tt

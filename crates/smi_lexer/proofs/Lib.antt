@@ -1,5 +1,5 @@
 pub mod Fronts
-pub mod Tests
+pub mod Scans
 pub mod Parts
 pub mod Classes
 pub mod Items

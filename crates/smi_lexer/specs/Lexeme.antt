@@ -1,5 +1,6 @@
 -- The lexemes of a module text and what may stand between them, each as a relation on octets.
--- SMIv2 takes them from ASN.1 (RFC 2578, section 3; X.208, section 8). Underscores in words are this lexer's own.
+-- SMIv2 takes them from ASN.1 (RFC 2578, section 3; X.208, section 8). This lexer is wider in what texts in use need:
+-- `_` in words, a hyphen before digits as part of the number, and lower-case digits and letters of literals.
 use Rattle.std.specs.Prelude.{◌≡◌, ◌≢◌, ℕ, ◌≤◌, Bool, true, false, not, ◌&&◌, ◌||◌, ◌⊎◌, List, [], ◌∷◌, ◌++◌, length, IsTrue, ◌==◌}
 use Rattle.std.specs.List.{list_all}
 use Rattle.std.specs.Char.{is_ascii_lowercase, is_ascii_uppercase, is_ascii_digit, is_ascii_hexdigit, is_ascii_alphanumeric}
@@ -89,7 +90,8 @@ abbrev pub is_remark : List ℕ → Bool
 is_remark [] = true
 is_remark (c ∷ cs) = not (is_newline c) && not (is_hyphen c && begins is_hyphen cs) && is_remark cs
 
--- a run of hyphens, and what it makes a remark: up to the next run, or to the end of the line
+-- A run of hyphens, a remark, and the next run or nothing. Where no other run follows on the line, the longest
+-- comment ends before the line does.
 abbrev pub IsComment : List ℕ → Type 0
 IsComment text = (opening remark closing : List ℕ) × (text ≡ opening ++ remark ++ closing) × IsRun opening × IsTrue (is_remark remark) × ((closing ≡ []) ⊎ IsRun closing)
 

@@ -38,6 +38,8 @@ impl<'a> Lexer<'a> {
     pub fn new(text: &'a [u8]) -> Self
         // These are the text's tokens, then the fault where it breaks off before its end.
         ensures tokens { Lexes [] text.now result }
+        // They are its only ones.
+        ensures only { (items : List Item) → Lexes [] text.now items → items ≡ result }
         // So spans rise.
         ensures spans { AreInOrder text.now 0 (tokens_of result) }
     {
@@ -104,7 +106,8 @@ fn fault_at(text: &[u8], line: usize) -> LexError
 
 /// A text has one list of tokens, and one fault at most.
 pub fn one_reading()
-    ensures { (before text : List ℕ) (xs ys : List Item) → Lexes before text xs → Lexes before text ys → xs ≡ ys }
+    ensures { (before text : List ℕ) (xs ys : List Item) →
+        Lexes before text xs → Lexes before text ys → xs ≡ ys }
 {}
 
 #[cfg(test)]

@@ -1,4 +1,4 @@
-use Rattle.smi_lexer.proofs.Tests.{comment_front}
+use Rattle.smi_lexer.proofs.Scans.{comment_front}
 use Rattle.smi_lexer.proofs.scan.comment_rest_len.Goals as goal
 
 pub returns : goal.returns

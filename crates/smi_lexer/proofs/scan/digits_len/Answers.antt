@@ -1,6 +1,6 @@
 use Rattle.std.proofs.Common.{sym, ◌∙◌}
 use Rattle.std.specs.Char.{is_ascii_digit}
-use Rattle.smi_lexer.proofs.Tests.{passing_step, passing_stop}
+use Rattle.smi_lexer.proofs.Scans.{passing_step, passing_stop}
 use Rattle.smi_lexer.proofs.scan.digits_len.Goals as goal
 
 pub octets-preserved : goal.octets-preserved

@@ -5,7 +5,7 @@ use Rattle.smi_lexer.specs.Lexeme.{is_hyphen, is_newline}
 use Rattle.smi_lexer.specs.Reading.{IsLongestFront, Skips, is_comment_rest, newlines}
 use Rattle.smi_lexer.proofs.Gaps.{newline_count, skips_blank, skips_comment, gaps_end, gaps_stop}
 use Rattle.smi_lexer.proofs.Items.{newlines-one}
-use Rattle.smi_lexer.proofs.Tests.{begins_at, begins_past}
+use Rattle.smi_lexer.proofs.Scans.{begins_at, begins_past}
 use Rattle.smi_lexer.proofs.scan.gaps_at.Goals as goal
 use Rattle.smi_lexer.proofs.scan.gaps_at.Goals.{else-text-n-eq45-via-then-text-n-eq45+then-n-text+else-text-n-eq45-2, else-text-n-eq45-via-then-text-n-eq45+else-n-text, else-text-n-eq45-via-else-text-n-eq45}
 

@@ -1,7 +1,7 @@
 use Rattle.std.proofs.Common.{eq-eqb}
 use Rattle.std.proofs.lemmas.Bool.{ne_eqb}
 use Rattle.smi_lexer.specs.Lexeme.{is_hyphen}
-use Rattle.smi_lexer.proofs.Tests.{passing_step, passing_stop}
+use Rattle.smi_lexer.proofs.Scans.{passing_step, passing_stop}
 use Rattle.smi_lexer.proofs.scan.hyphens_len.Goals as goal
 
 pub octets-preserved : goal.octets-preserved

@@ -4,7 +4,7 @@ use Rattle.std.proofs.lemmas.Bool.{ne_eqb}
 use Rattle.std.proofs.lemmas.List.{take_all}
 use Rattle.smi_lexer.specs.Reading.{is_other}
 use Rattle.smi_lexer.proofs.Fronts.{scan_all}
-use Rattle.smi_lexer.proofs.Tests.{passing_step, passing_stop}
+use Rattle.smi_lexer.proofs.Scans.{passing_step, passing_stop}
 use Rattle.smi_lexer.proofs.scan.place_of.Goals as goal
 
 pub returns-then-other-octet : goal.returns-then-other-octet

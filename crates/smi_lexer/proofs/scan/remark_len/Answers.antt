@@ -1,7 +1,7 @@
 use Rattle.std.proofs.Common.{◌+◌, ◌∙◌}
 use Rattle.std.proofs.lemmas.Bool.{ne_eqb}
 use Rattle.smi_lexer.specs.Lexeme.{is_hyphen}
-use Rattle.smi_lexer.proofs.Tests.{remark_step, begins_at, begins_past}
+use Rattle.smi_lexer.proofs.Scans.{remark_step, begins_at, begins_past}
 use Rattle.smi_lexer.proofs.scan.remark_len.Goals as goal
 use Rattle.smi_lexer.proofs.scan.remark_len.Goals.{else-octet-eq45-via-then-octet-eq45+then-n-text+else-text-n-eq45, else-octet-eq45-via-then-octet-eq45+else-n-text, else-octet-eq45-via-else-octet-eq45}
 

@@ -1,6 +1,6 @@
 use Rattle.std.proofs.Common.{sym, ◌+◌, ◌∙◌}
 use Rattle.smi_lexer.specs.Lexeme.{is_word_octet}
-use Rattle.smi_lexer.proofs.Tests.{word_step, hyphen_step, word_stop, begins_past, begins_at}
+use Rattle.smi_lexer.proofs.Scans.{word_step, hyphen_step, word_stop, begins_past, begins_at}
 use Rattle.smi_lexer.proofs.scan.word_rest_len.Goals as goal
 use Rattle.smi_lexer.proofs.scan.word_rest_len.Goals.{else-text-n-eq45-via-then-text-n-eq45+then-n-text+else-is_word_octet-2, else-text-n-eq45-via-then-text-n-eq45+else-n-text, else-text-n-eq45-via-else-text-n-eq45}
 
