@@ -2,9 +2,8 @@
 use Rattle.std.proofs.Common.{◌≡◌, ℕ, zero, suc, ◌+◌, ◌<◌, ◌≤◌, ◌⊎◌, Bool, true, false, cond, ◌&&◌, Some, List, [], ◌∷◌, length, get_or, take, drop, refl, sym, ap, ◌∙◌, subst, inl, inr, ⊎_elim, arith, eqb}
 use Rattle.std.specs.List.{list_all}
 use Rattle.std.specs.Bool.{then_some}
-use Rattle.std.specs.Int.{from_bool}
 use Rattle.std.specs.Char.{is_ascii_digit, is_ascii_hexdigit, is_ascii_lowercase, is_ascii_uppercase}
-use Rattle.std.proofs.lemmas.Bool.{eqb-true, false≢true}
+use Rattle.std.proofs.lemmas.Bool.{eqb-true, ne_eqb, false≢true}
 use Rattle.std.proofs.lemmas.List.{drop_all}
 use Rattle.smi_lexer.specs.declared.class.Class.{Class}
 use Rattle.smi_lexer.specs.declared.class.Class.TheVariants.{Blank, Lowercase, Uppercase, Digit, Hyphen, Quote, Apostrophe, Symbol, Other}
@@ -20,13 +19,12 @@ use Rattle.smi_lexer.proofs.Scans.{begins-take}
 
 -- ---- a blank octet
 
--- a newline counts for one
-pub newline_count : (c : ℕ) → from_bool (eqb c 10) ≡ newlines (c ∷ [])
-newline_count c = by_test (eqb c 10) ∙ sym (newlines-one c)
-  where
-    by_test : (b : Bool) → from_bool b ≡ cond b 1 0
-    by_test true = refl
-    by_test false = refl
+-- a newline ends a line, and no other octet does
+pub newlines-newline : (c : ℕ) → c ≡ 10 → newlines (c ∷ []) ≡ 1
+newlines-newline c is = ap (λ d. newlines (d ∷ [])) is
+
+pub newlines-other : (c : ℕ) → (c ≡ 10 → ⊥) → newlines (c ∷ []) ≡ 0
+newlines-other c other = newlines-one c ∙ ap (λ b. cond b 1 0) (ne_eqb c 10 other)
 
 nothing_front : (cs : List ℕ) → IsLongestFront is_nothing cs 0
 nothing_front cs = record { within = omega arith; passes = refl; longest = more cs }

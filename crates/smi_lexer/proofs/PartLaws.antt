@@ -1,5 +1,5 @@
 -- A stretch of octets is a part exactly where it reads as one.
-use Rattle.std.proofs.Common.{◌≡◌, ◌≢◌, ℕ, ◌≤◌, ◌⊎◌, Bool, true, false, cond, not, ◌&&◌, ◌||◌, Some, List, [], ◌∷◌, ◌++◌, length, refl, sym, ap, ◌∙◌, subst, inl, inr, ⊎_elim, arith, eqb, codes, append_assoc, append-nil}
+use Rattle.std.proofs.Common.{◌≡◌, ◌≢◌, ℕ, ◌≤◌, ◌⊎◌, Bool, true, false, cond, not, ◌&&◌, ◌||◌, Some, List, [], ◌∷◌, ◌++◌, length, refl, sym, ap, ◌∙◌, subst, inl, inr, ⊎_elim, arith, eqb, codes, append_assoc, append-nil, ◌+◌}
 use Rattle.std.specs.List.{list_all}
 use Rattle.std.specs.Bool.{then_some}
 use Rattle.std.specs.Char.{is_ascii_digit, is_ascii_hexdigit, is_ascii_lowercase, is_ascii_uppercase}
@@ -10,11 +10,12 @@ use Rattle.smi_lexer.specs.declared.class.Class.{Class}
 use Rattle.smi_lexer.specs.declared.class.Class.TheVariants.{Blank, Lowercase, Uppercase, Digit, Hyphen, Quote, Apostrophe, Symbol, Other}
 use Rattle.smi_lexer.specs.declared.token.TokenKind.{TokenKind}
 use Rattle.smi_lexer.specs.declared.token.TokenKind.TheVariants.{Lower, Upper, Number, Text, Hex, Binary, Assign, Range, OpenBrace, CloseBrace, OpenParen, CloseParen, OpenBracket, CloseBracket, Less, Greater, Comma, Semicolon, Colon, Bar, Dot, Equals}
-use Rattle.smi_lexer.specs.Lexeme.{IsComment, IsLexeme, IsLiteral, IsNumber, IsPart, IsRun, IsString, IsWord, Part, begins, gap, is_binary_digit, is_hyphen, is_newline, is_remark, is_word_rest, lexeme}
-use Rattle.smi_lexer.specs.Reading.{class_of, hyphen_part, is_binary_letter, is_comment_rest, is_hex_letter, is_literal_rest, is_nothing, is_other, is_remark_rest, is_sole, is_string_rest, literal_part, part_in, part_of, symbol_part}
+use Rattle.smi_lexer.specs.Lexeme.{IsComment, IsLexeme, IsLiteral, IsNumber, IsPart, IsRun, IsString, IsWord, Part, begins, gap, is_binary_digit, is_hyphen, is_newline, is_remark, is_word_rest, lexeme, is_word_octet}
+use Rattle.smi_lexer.specs.Reading.{class_of, hyphen_part, is_binary_letter, is_comment_rest, is_hex_letter, is_literal_rest, is_nothing, is_other, is_remark_rest, is_sole, is_string_rest, literal_part, part_in, part_of, symbol_part, newlines}
 use Rattle.smi_lexer.proofs.Classes.{class_is}
 use Rattle.smi_lexer.proofs.Fronts.{and_true}
 use Rattle.smi_lexer.proofs.Gaps.{blank_class}
+use Rattle.smi_lexer.proofs.Items.{newlines-cons, newlines-one}
 use Rattle.smi_lexer.proofs.Parts.{none_some, string_step, literal_reads, literal_exact}
 
 -- ---- what reads as a part is one
@@ -386,3 +387,87 @@ unfolding part_of
 is_part gap s (inl (c, is, blank)) = ap part_of is ∙ ap (λ class. part_in class []) (blank_class c blank)
 is_part gap s (inr comment) = comment_of s comment
 is_part (lexeme kind) s h = lexeme_of_kind kind s h
+
+-- ---- lines
+
+-- no line ends in octets that are other than a newline
+others_one_line : (s : List ℕ) → list_all (is_other 10) s ≡ true → newlines s ≡ 0
+others_one_line [] h = refl
+others_one_line (c ∷ cs) h =
+    let both = and_true (is_other 10 c) (list_all (is_other 10) cs) h in
+    newlines-cons c cs ∙ ap (λ n. n + newlines cs) (newlines-one c) ∙ ap (λ b. cond b 1 0 + newlines cs) (not_true (is_newline c) both.0) ∙ ap (λ n. 0 + n) (others_one_line cs both.1)
+
+word_octet_other : (c : ℕ) → (is_word_octet c || is_hyphen c) ≡ true → is_other 10 c ≡ true
+word_octet_other c h = grind (arith, nat_tests)
+
+digit_other : (c : ℕ) → is_ascii_digit c ≡ true → is_other 10 c ≡ true
+digit_other c h = grind (arith, nat_tests)
+
+hex_other : (c : ℕ) → is_ascii_hexdigit c ≡ true → is_other 10 c ≡ true
+hex_other c h = grind (arith, nat_tests)
+
+binary_other : (c : ℕ) → is_binary_digit c ≡ true → is_other 10 c ≡ true
+binary_other c h = grind (arith, nat_tests)
+
+word_or : (a b d : Bool) → (a || (b && d)) ≡ true → (a || b) ≡ true
+word_or true b d h = refl
+word_or false true d h = refl
+word_or false false d h = h
+
+word_rest_other : (s : List ℕ) → is_word_rest s ≡ true → list_all (is_other 10) s ≡ true
+word_rest_other [] h = refl
+word_rest_other (c ∷ cs) h =
+    let both = and_true (is_word_octet c || (is_hyphen c && begins is_word_octet cs)) (is_word_rest cs) h in
+    ap (λ b. b && list_all (is_other 10) cs) (word_octet_other c (word_or (is_word_octet c) (is_hyphen c) (begins is_word_octet cs) both.0)) ∙ word_rest_other cs both.1
+
+list_all-append : (p : ℕ → Bool) (xs ys : List ℕ) → list_all p xs ≡ true → list_all p ys ≡ true → list_all p (xs ++ ys) ≡ true
+list_all-append p [] ys h k = k
+list_all-append p (c ∷ cs) ys h k =
+    let both = and_true (p c) (list_all p cs) h in
+    ap (λ b. b && list_all p (cs ++ ys)) both.0 ∙ list_all-append p cs ys both.1 k
+
+word_one_line : (is_first : ℕ → Bool) → ((c : ℕ) → is_first c ≡ true → (is_word_octet c || is_hyphen c) ≡ true) → (s : List ℕ) → IsWord is_first s → newlines s ≡ 0
+word_one_line is_first first_is s (c, rest, is, first, others) =
+    ap newlines is ∙ others_one_line (c ∷ rest) (ap (λ b. b && list_all (is_other 10) rest) (word_octet_other c (first_is c first)) ∙ word_rest_other rest others)
+
+lower_word : (c : ℕ) → is_ascii_lowercase c ≡ true → (is_word_octet c || is_hyphen c) ≡ true
+lower_word c h = grind (arith, nat_tests)
+
+upper_word : (c : ℕ) → is_ascii_uppercase c ≡ true → (is_word_octet c || is_hyphen c) ≡ true
+upper_word c h = grind (arith, nat_tests)
+
+number_one_line : (s : List ℕ) → IsNumber s → newlines s ≡ 0
+number_one_line s (sign, digits, is, signs, some, all) =
+    ap newlines is ∙ others_one_line (sign ++ digits) (list_all-append (is_other 10) sign digits (⊎_elim (λ none. ap (list_all (is_other 10)) none) (λ minus. ap (list_all (is_other 10)) minus) signs) (all_other is_ascii_digit 10 digit_other digits all))
+
+literal_one_line : (is_digit : ℕ → Bool) (upper lower : ℕ) → ((c : ℕ) → is_digit c ≡ true → is_other 10 c ≡ true) → is_other 10 upper ≡ true → is_other 10 lower ≡ true
+    → (s : List ℕ) → IsLiteral is_digit upper lower s → newlines s ≡ 0
+literal_one_line is_digit upper lower digits_other upper_other lower_other s (digits, letter, is, all, case) =
+    ap newlines is ∙ others_one_line (codes "'" ++ digits ++ codes "'" ++ letter ∷ [])
+    (list_all-append (is_other 10) (codes "'" ++ digits ++ codes "'") (letter ∷ []) (list_all-append (is_other 10) (codes "'" ++ digits) (codes "'") (all_other is_digit 10 digits_other digits all) refl)
+        (ap (λ b. b && true) (⊎_elim (λ e. ap (is_other 10) e ∙ upper_other) (λ e. ap (is_other 10) e ∙ lower_other) case)))
+
+-- a line ends only in a string
+pub one_line : (kind : TokenKind) → (kind ≡ Text → ⊥) → (s : List ℕ) → IsLexeme kind s → newlines s ≡ 0
+one_line Lower other s h = word_one_line is_ascii_lowercase lower_word s h
+one_line Upper other s h = word_one_line is_ascii_uppercase upper_word s h
+one_line Number other s h = number_one_line s h
+one_line Text other s h = absurd (other refl)
+one_line Hex other s h = literal_one_line is_ascii_hexdigit 72 104 hex_other refl refl s h
+one_line Binary other s h = literal_one_line is_binary_digit 66 98 binary_other refl refl s h
+one_line Assign other s h = ap newlines h
+one_line Range other s h = ap newlines h
+one_line OpenBrace other s h = ap newlines h
+one_line CloseBrace other s h = ap newlines h
+one_line OpenParen other s h = ap newlines h
+one_line CloseParen other s h = ap newlines h
+one_line OpenBracket other s h = ap newlines h
+one_line CloseBracket other s h = ap newlines h
+one_line Less other s h = ap newlines h
+one_line Greater other s h = ap newlines h
+one_line Comma other s h = ap newlines h
+one_line Semicolon other s h = ap newlines h
+one_line Colon other s h = ap newlines h
+one_line Bar other s h = ap newlines h
+one_line Dot other s h = ap newlines h
+one_line Equals other s h = ap newlines h

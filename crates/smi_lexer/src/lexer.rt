@@ -4,7 +4,7 @@ ghost use Rattle.smi_lexer.specs.Lexes.{AreInOrder, Lexes, fault_on};
 ghost use Rattle.smi_lexer.specs.Token.{Item, tokens_of};
 
 use crate::error::LexError;
-use crate::scan::{gaps_at, is_open, lexeme_at, newlines_in};
+use crate::scan::{gaps_at, is_open, lexeme_at, lines_in};
 use crate::token::{Span, Token};
 use std::marker::Model;
 
@@ -83,7 +83,7 @@ impl<'a> Iterator for Lexer<'a> {
         };
         self.rest = rest;
         self.at = span.end;
-        self.lines = lines + newlines_in(octets);
+        self.lines = lines + lines_in(kind, octets);
         Some(Ok(Token {
             kind,
             span,

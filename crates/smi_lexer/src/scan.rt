@@ -3,7 +3,7 @@ ghost use Rattle.std.specs.Prelude.{◌≡◌, ◌≤◌, ◌<◌, ℕ, drop, le
 ghost use Rattle.std.specs.List.{list_all};
 ghost use Rattle.std.specs.Option.{option_map};
 ghost use Rattle.std.specs.Char.{is_ascii_digit, is_ascii_hexdigit};
-ghost use Rattle.smi_lexer.specs.Lexeme.{lexeme, is_binary_digit, is_blank, is_hyphen, is_open_string, is_word_octet, is_word_rest};
+ghost use Rattle.smi_lexer.specs.Lexeme.{IsLexeme, lexeme, is_binary_digit, is_blank, is_hyphen, is_open_string, is_word_octet, is_word_rest};
 ghost use Rattle.smi_lexer.specs.Reading.{GoesOn, HasNoGap, IsFirstPlace, IsLexemeFront, IsLongestFront, IsPartFront, IsRemarkEnd, Skips, is_comment_rest, is_remark_rest, hyphen_part, literal_of, literal_part, newlines, part_in, part_of, string_part, symbol_part};
 
 use crate::class::{Class, class_of_octet};
@@ -202,8 +202,10 @@ pub fn gaps_at(text: &[u8]) -> (usize, usize)
     let mut n = 0;
     let mut lines = 0;
     'gaps: while n < text.len() {
-        if is_blank(text[n]) {
-            lines += usize::from(text[n] == b'\n');
+        if text[n] == b'\n' {
+            lines += 1;
+            n += 1;
+        } else if is_blank(text[n]) {
             n += 1;
         } else if text[n] == b'-' && n + 1 < text.len() && text[n + 1] == b'-' {
             n += 2 + comment_rest_len(&text[n + 2..]);
@@ -214,8 +216,18 @@ pub fn gaps_at(text: &[u8]) -> (usize, usize)
     (n, lines)
 }
 
-/// How many lines end in the text.
-pub fn newlines_in(text: &[u8]) -> usize
+/// How many lines end in a lexeme of this kind, which no kind but a string does.
+pub fn lines_in(kind: TokenKind, octets: &[u8]) -> usize
+    ensures count { IsLexeme kind octets.now → result ≡ newlines octets.now }
+    ensures within { result ≤ length octets.now }
+{
+    match kind {
+        TokenKind::Text => newlines_in(octets),
+        _ => 0,
+    }
+}
+
+fn newlines_in(text: &[u8]) -> usize
     ensures count { result ≡ newlines text.now }
     ensures within { result ≤ length text.now }
 {

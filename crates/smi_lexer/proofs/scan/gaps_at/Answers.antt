@@ -1,32 +1,36 @@
-use Rattle.std.proofs.Common.{◌≡◌, ◌≤◌, ℕ, sym, ◌∙◌, ◌+◌, subst, [], ◌∷◌, drop, arith, get_or, length-drop, add-zero, cond, Bool, true, false}
+use Rattle.std.proofs.Common.{sym, ◌∙◌, ◌+◌, ap, subst, drop, arith, get_or, length-drop, add-zero}
 use Rattle.std.proofs.lemmas.Bool.{ne_eqb}
 use Rattle.std.proofs.lemmas.List.{take_rest}
-use Rattle.smi_lexer.specs.Lexeme.{is_hyphen, is_newline}
-use Rattle.smi_lexer.specs.Reading.{IsLongestFront, Skips, is_comment_rest, newlines}
-use Rattle.smi_lexer.proofs.Gaps.{newline_count, skips_blank, skips_comment, gaps_end, gaps_stop}
-use Rattle.smi_lexer.proofs.Items.{newlines-one}
+use Rattle.smi_lexer.specs.Lexeme.{is_blank, is_hyphen}
+use Rattle.smi_lexer.specs.Reading.{IsLongestFront, Skips, is_comment_rest}
+use Rattle.smi_lexer.proofs.Gaps.{newlines-newline, newlines-other, skips_blank, skips_comment, gaps_end, gaps_stop}
 use Rattle.smi_lexer.proofs.Scans.{begins_at, begins_past}
 use Rattle.smi_lexer.proofs.scan.gaps_at.Goals as goal
 use Rattle.smi_lexer.proofs.scan.gaps_at.Goals.{else-text-n-eq45-via-then-text-n-eq45+then-n-text+else-text-n-eq45-2, else-text-n-eq45-via-then-text-n-eq45+else-n-text, else-text-n-eq45-via-else-text-n-eq45}
 
--- at most one line ends in an octet
-one_at_most : (c : ℕ) → newlines (c ∷ []) ≤ 1
-one_at_most c = omega (arith, newlines-one c, by_test (is_newline c))
-  where
-    by_test : (b : Bool) → cond b 1 0 ≤ 1
-    by_test true = omega arith
-    by_test false = omega arith
+pub gaps-preserved-then-text-n-eq10 : goal.gaps-preserved-then-text-n-eq10
+gaps-preserved-then-text-n-eq10 c =
+    let text = c.args.text.now in
+    let n = c.gaps.n in
+    let octet = get_or text n 0 in
+    let newline = c.if-text-n-eq10.true in
+    record {
+      within = omega arith;
+      lines = omega arith;
+      skips = subst (λ m. Skips text (n + 1) (c.gaps.lines + m)) (newlines-newline octet newline) (skips_blank text n c.gaps.lines c.gaps-test.true (ap is_blank newline) c.gaps.invariant.skips);
+    }
 
 pub gaps-preserved-then-is_blank : goal.gaps-preserved-then-is_blank
 gaps-preserved-then-is_blank c =
     let text = c.args.text.now in
     let n = c.gaps.n in
     let octet = get_or text n 0 in
-    let count : c.from-lines.result ≡ newlines (octet ∷ []) = c.from-lines.ensures ∙ newline_count octet in
     record {
       within = omega arith;
-      lines = omega (arith, one_at_most octet);
-      skips = subst (λ m. Skips text (n + 1) (c.gaps.lines + m)) (sym count) (skips_blank text n c.gaps.lines c.gaps-test.true (sym c.is_blank.ensures ∙ c.if-is_blank.true) c.gaps.invariant.skips);
+      lines = omega arith;
+      skips = subst (Skips text (n + 1)) (add-zero c.gaps.lines)
+          (subst (λ m. Skips text (n + 1) (c.gaps.lines + m)) (newlines-other octet c.if-text-n-eq10.false)
+              (skips_blank text n c.gaps.lines c.gaps-test.true (sym c.is_blank.ensures ∙ c.if-is_blank.true) c.gaps.invariant.skips));
     }
 
 pub gaps-preserved : goal.gaps-preserved
