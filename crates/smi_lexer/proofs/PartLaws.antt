@@ -445,7 +445,7 @@ literal_one_line : (is_digit : ℕ → Bool) (upper lower : ℕ) → ((c : ℕ) 
 literal_one_line is_digit upper lower digits_other upper_other lower_other s (digits, letter, is, all, case) =
     ap newlines is ∙ others_one_line (codes "'" ++ digits ++ codes "'" ++ letter ∷ [])
     (list_all-append (is_other 10) (codes "'" ++ digits ++ codes "'") (letter ∷ []) (list_all-append (is_other 10) (codes "'" ++ digits) (codes "'") (all_other is_digit 10 digits_other digits all) refl)
-        (ap (λ b. b && true) (⊎_elim (λ e. ap (is_other 10) e ∙ upper_other) (λ e. ap (is_other 10) e ∙ lower_other) case)))
+    (ap (λ b. b && true) (⊎_elim (λ e. ap (is_other 10) e ∙ upper_other) (λ e. ap (is_other 10) e ∙ lower_other) case)))
 
 -- a line ends only in a string
 pub one_line : (kind : TokenKind) → (kind ≡ Text → ⊥) → (s : List ℕ) → IsLexeme kind s → newlines s ≡ 0

@@ -231,7 +231,13 @@ fn newlines_in(text: &[u8]) -> usize
     ensures count { result ≡ newlines text.now }
     ensures within { result ≤ length text.now }
 {
-    text.iter().filter(|octet| **octet == b'\n').count()
+    let mut lines = 0;
+    'octets: for octet in text {
+        if *octet == b'\n' {
+            lines += 1;
+        }
+    }
+    lines
 }
 
 /// Whether a `"` or `'` stands at the front, and no other behind it.

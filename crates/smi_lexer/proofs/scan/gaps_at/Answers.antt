@@ -30,7 +30,7 @@ gaps-preserved-then-is_blank c =
       lines = omega arith;
       skips = subst (Skips text (n + 1)) (add-zero c.gaps.lines)
           (subst (λ m. Skips text (n + 1) (c.gaps.lines + m)) (newlines-other octet c.if-text-n-eq10.false)
-              (skips_blank text n c.gaps.lines c.gaps-test.true (sym c.is_blank.ensures ∙ c.if-is_blank.true) c.gaps.invariant.skips));
+          (skips_blank text n c.gaps.lines c.gaps-test.true (sym c.is_blank.ensures ∙ c.if-is_blank.true) c.gaps.invariant.skips));
     }
 
 pub gaps-preserved : goal.gaps-preserved
