@@ -1,0 +1,13 @@
+//! The lexer of SMIv2 module texts (RFC 2578, section 3): the lowest layer of reading a module.
+//! The parser above takes its tokens, and hands these types on as its own.
+#![tactic(auto)]
+
+mod class;
+mod error;
+mod lexer;
+mod scan;
+mod token;
+
+pub use error::LexError;
+pub use lexer::{Lexer, one_reading};
+pub use token::{Span, Token, TokenKind};
