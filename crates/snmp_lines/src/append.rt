@@ -1,54 +1,11 @@
-//! The parts of a line: each function appends its text, or finds no memory and leaves what it has appended so far.
+//! The parts of a line that are made of several pieces: each function appends its text, or finds no memory and leaves what it has appended so far.
 ghost use Rattle.std.specs.Prelude.{◌≡◌, ℕ, ◌<◌, ◌∷◌, ◌++◌, OnOk, OnErr, decimal, List};
-ghost use Rattle.std.specs.Fmt.{signed_decimal};
 ghost use Rattle.std.specs.List.{flat_map};
-ghost use Rattle.snmp_oid.specs.Numeric.{numeric_text};
 ghost use Rattle.snmp_lines.specs.Line.{escaped, hex_digit, hex_octet, hexadecimal, address_text, two_digits, days_text, time_text};
 ghost use Rattle.snmp_lines.specs.Begun.{IsBegun};
 
-use itoa::Buffer;
-use snmp_oid::{LONGEST_TEXT, Oid, write_numeric};
+use crate::pieces::number;
 use std::alloc::AllocError;
-
-/// Octets as they stand.
-pub fn octets(out: &mut Vec<u8>, octets: &[u8]) -> Result<(), AllocError>
-    ensures ok { OnOk result (out.new.items ≡ out.old.items ++ octets.now) }
-    ensures err { OnErr result (IsBegun out.old.items out.new.items) }
-{
-    out.extend_from_slice(octets)
-}
-
-/// A number in decimal digits.
-pub fn number(out: &mut Vec<u8>, n: u64) -> Result<(), AllocError>
-    ensures ok { OnOk result (out.new.items ≡ out.old.items ++ decimal n) }
-    ensures err { OnErr result (IsBegun out.old.items out.new.items) }
-{
-    let mut buffer = Buffer::new();
-    let digits = buffer.format(n).as_bytes();
-    out.extend_from_slice(digits)
-}
-
-/// A signed number in decimal digits.
-pub fn integer(out: &mut Vec<u8>, n: i32) -> Result<(), AllocError>
-    ensures ok { OnOk result (out.new.items ≡ out.old.items ++ signed_decimal n) }
-    ensures err { OnErr result (IsBegun out.old.items out.new.items) }
-{
-    let mut buffer = Buffer::new();
-    let digits = buffer.format(n).as_bytes();
-    out.extend_from_slice(digits)
-}
-
-/// An identifier in numbers.
-pub fn identifier(out: &mut Vec<u8>, oid: &Oid) -> Result<(), AllocError>
-    ensures ok { OnOk result (out.new.items ≡ out.old.items ++ numeric_text oid.now) }
-    ensures err { OnErr result (IsBegun out.old.items out.new.items) }
-{
-    let mut text = [0; LONGEST_TEXT];
-    match write_numeric(oid, &mut text) {
-        Some(len) => out.extend_from_slice(&text[..len]),
-        None => unreachable!(),
-    }
-}
 
 /// Text in which each quote and backslash has a backslash before it.
 pub fn escaped_text(out: &mut Vec<u8>, octets: &[u8]) -> Result<(), AllocError>

@@ -4,7 +4,7 @@ ghost use Rattle.snmp_wire.specs.Message.{var_bind};
 ghost use Rattle.snmp_lines.specs.Begun.{IsBegun};
 ghost use Rattle.snmp_lines.specs.Line.{line_of};
 
-use crate::append;
+use crate::pieces;
 use crate::value::typed;
 use snmp_wire::Binding;
 use std::alloc::AllocError;
@@ -27,8 +27,8 @@ fn parts(out: &mut Vec<u8>, binding: &Binding<'_>) -> Result<(), AllocError>
     ensures ok { OnOk result (out.new.items ≡ out.old.items ++ line_of (var_bind binding.now)) }
     ensures err { OnErr result (IsBegun out.old.items out.new.items) }
 {
-    append::identifier(out, &binding.name)?;
-    append::octets(out, b" = ")?;
+    pieces::identifier(out, &binding.name)?;
+    pieces::octets(out, b" = ")?;
     typed(out, &binding.value)?;
-    append::octets(out, b"\n")
+    pieces::octets(out, b"\n")
 }

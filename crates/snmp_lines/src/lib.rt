@@ -5,6 +5,7 @@
 
 mod append;
 mod binding;
+pub mod pieces;
 mod value;
 
 pub use binding::line;

@@ -7,7 +7,7 @@ ghost use Rattle.snmp_wire.specs.Message.{datum};
 ghost use Rattle.snmp_lines.specs.Begun.{IsBegun};
 ghost use Rattle.snmp_lines.specs.Line.{address_text, escaped, hexadecimal, is_printable, string_text, time_text, value_text};
 
-use crate::append;
+use crate::{append, pieces};
 use snmp_oid::Oid;
 use snmp_wire::ValueRef;
 use std::alloc::AllocError;
@@ -35,7 +35,7 @@ pub(crate) fn typed(out: &mut Vec<u8>, value: &ValueRef<'_>) -> Result<(), Alloc
     match value {
         ValueRef::Integer(n) => integer(out, *n),
         ValueRef::Octets(octets) => string(out, octets),
-        ValueRef::Null => append::octets(out, b"NULL"),
+        ValueRef::Null => pieces::octets(out, b"NULL"),
         ValueRef::ObjectId(oid) => identifier(out, oid),
         ValueRef::IpAddress(octets) => address(out, octets),
         ValueRef::Counter32(n) => number(out, b"Counter32: ", u64::from(*n)),
@@ -43,15 +43,15 @@ pub(crate) fn typed(out: &mut Vec<u8>, value: &ValueRef<'_>) -> Result<(), Alloc
         ValueRef::TimeTicks(n) => ticks(out, *n),
         ValueRef::Opaque(octets) => opaque(out, octets),
         ValueRef::Counter64(n) => number(out, b"Counter64: ", *n),
-        ValueRef::NoSuchObject => append::octets(
+        ValueRef::NoSuchObject => pieces::octets(
             out,
             b"No Such Object available on this agent at this OID",
         ),
-        ValueRef::NoSuchInstance => append::octets(
+        ValueRef::NoSuchInstance => pieces::octets(
             out,
             b"No Such Instance currently exists at this OID",
         ),
-        ValueRef::EndOfMibView => append::octets(
+        ValueRef::EndOfMibView => pieces::octets(
             out,
             b"No more variables left in this MIB View (It is past the end of the MIB tree)",
         ),
@@ -63,8 +63,8 @@ fn number(out: &mut Vec<u8>, name: &[u8], n: u64) -> Result<(), AllocError>
     ensures ok { OnOk result (out.new.items ≡ out.old.items ++ (name.now ++ decimal n)) }
     ensures err { OnErr result (IsBegun out.old.items out.new.items) }
 {
-    append::octets(out, name)?;
-    append::number(out, n)
+    pieces::octets(out, name)?;
+    pieces::number(out, n)
 }
 
 /// An INTEGER.
@@ -72,8 +72,8 @@ fn integer(out: &mut Vec<u8>, n: i32) -> Result<(), AllocError>
     ensures ok { OnOk result (out.new.items ≡ out.old.items ++ (codes "INTEGER: " ++ signed_decimal n)) }
     ensures err { OnErr result (IsBegun out.old.items out.new.items) }
 {
-    append::octets(out, b"INTEGER: ")?;
-    append::integer(out, n)
+    pieces::octets(out, b"INTEGER: ")?;
+    pieces::integer(out, n)
 }
 
 /// An OBJECT IDENTIFIER.
@@ -81,8 +81,8 @@ fn identifier(out: &mut Vec<u8>, oid: &Oid) -> Result<(), AllocError>
     ensures ok { OnOk result (out.new.items ≡ out.old.items ++ (codes "OID: " ++ numeric_text oid.now)) }
     ensures err { OnErr result (IsBegun out.old.items out.new.items) }
 {
-    append::octets(out, b"OID: ")?;
-    append::identifier(out, oid)
+    pieces::octets(out, b"OID: ")?;
+    pieces::identifier(out, oid)
 }
 
 /// An IpAddress.
@@ -90,7 +90,7 @@ fn address(out: &mut Vec<u8>, octets: &[u8; 4]) -> Result<(), AllocError>
     ensures ok { OnOk result (out.new.items ≡ out.old.items ++ (codes "IpAddress: " ++ address_text octets.now)) }
     ensures err { OnErr result (IsBegun out.old.items out.new.items) }
 {
-    append::octets(out, b"IpAddress: ")?;
+    pieces::octets(out, b"IpAddress: ")?;
     append::address(out, octets)
 }
 
@@ -100,7 +100,7 @@ fn ticks(out: &mut Vec<u8>, n: u32) -> Result<(), AllocError>
     ensures err { OnErr result (IsBegun out.old.items out.new.items) }
 {
     number(out, b"Timeticks: (", u64::from(n))?;
-    append::octets(out, b") ")?;
+    pieces::octets(out, b") ")?;
     append::time(out, n)
 }
 
@@ -109,7 +109,7 @@ fn opaque(out: &mut Vec<u8>, octets: &[u8]) -> Result<(), AllocError>
     ensures ok { OnOk result (out.new.items ≡ out.old.items ++ (codes "OPAQUE: " ++ hexadecimal octets.now)) }
     ensures err { OnErr result (IsBegun out.old.items out.new.items) }
 {
-    append::octets(out, b"OPAQUE: ")?;
+    pieces::octets(out, b"OPAQUE: ")?;
     append::hexadecimal_text(out, octets)
 }
 
@@ -119,12 +119,12 @@ fn string(out: &mut Vec<u8>, octets: &[u8]) -> Result<(), AllocError>
     ensures err { OnErr result (IsBegun out.old.items out.new.items) }
 {
     if octets.is_empty() {
-        return append::octets(out, b"\"\"");
+        return pieces::octets(out, b"\"\"");
     }
     if are_printable(octets) {
         quoted(out, octets)
     } else {
-        append::octets(out, b"Hex-STRING: ")?;
+        pieces::octets(out, b"Hex-STRING: ")?;
         append::hexadecimal_text(out, octets)
     }
 }
@@ -134,9 +134,9 @@ fn quoted(out: &mut Vec<u8>, octets: &[u8]) -> Result<(), AllocError>
     ensures ok { OnOk result (out.new.items ≡ out.old.items ++ (codes "STRING: \"" ++ flat_map escaped octets.now ++ codes "\"")) }
     ensures err { OnErr result (IsBegun out.old.items out.new.items) }
 {
-    append::octets(out, b"STRING: \"")?;
+    pieces::octets(out, b"STRING: \"")?;
     append::escaped_text(out, octets)?;
-    append::octets(out, b"\"")
+    pieces::octets(out, b"\"")
 }
 
 /// Whether each octet is a character of printable ASCII.

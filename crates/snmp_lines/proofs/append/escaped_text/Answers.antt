@@ -2,7 +2,7 @@ use Rattle.std.proofs.Common.{take}
 use Rattle.std.specs.List.{flat_map}
 use Rattle.std.proofs.lemmas.Result.{err_from_is_err_and}
 use Rattle.snmp_lines.specs.Line.{escaped}
-use Rattle.snmp_lines.proofs.Pieces.{begun_behind}
+use Rattle.snmp_lines.proofs.Composed.{begun_behind}
 use Rattle.snmp_lines.proofs.append.escaped_text.Goals as goal
 
 pub returns-in_err-escaped_octet-clause-err : goal.returns-in_err-escaped_octet-clause-err

@@ -1,5 +1,5 @@
 use Rattle.snmp_lines.specs.Line.{escaped}
-use Rattle.snmp_lines.proofs.Pieces.{Stands}
+use Rattle.snmp_lines.proofs.Composed.{Stands}
 use Rattle.snmp_lines.proofs.append.escaped_text.Given as goal
 
 abbrev pub invariant-octets : goal.invariant-octets

@@ -2,7 +2,7 @@ use Rattle.std.proofs.Common.{arith}
 use Rattle.std.specs.List.{flat_map}
 use Rattle.std.proofs.lemmas.Result.{err_from_is_err_and}
 use Rattle.snmp_lines.specs.Line.{hex_octet}
-use Rattle.snmp_lines.proofs.Pieces.{begun_behind, placed_more, placed_whole}
+use Rattle.snmp_lines.proofs.Composed.{begun_behind, placed_more, placed_whole}
 use Rattle.snmp_lines.proofs.append.hexadecimal_text.Goals as goal
 
 pub returns-in_err-hexadecimal_octet-clause-err : goal.returns-in_err-hexadecimal_octet-clause-err

@@ -1,6 +1,6 @@
 use Rattle.std.specs.List.{enumerate_from}
 use Rattle.snmp_lines.specs.Line.{hex_octet}
-use Rattle.snmp_lines.proofs.Pieces.{Stands}
+use Rattle.snmp_lines.proofs.Composed.{Stands}
 use Rattle.snmp_lines.proofs.append.hexadecimal_text.Given as goal
 
 abbrev pub invariant-octets : goal.invariant-octets

@@ -1,6 +1,6 @@
 use Rattle.std.proofs.Common.{refl}
 use Rattle.std.proofs.lemmas.Result.{on_ok_weaker}
-use Rattle.snmp_lines.proofs.Pieces.{joined}
+use Rattle.snmp_lines.proofs.Composed.{joined}
 use Rattle.snmp_lines.proofs.value.address.Goals as goal
 
 pub returns-clause-ok : goal.returns-clause-ok

@@ -1,7 +1,7 @@
 use Rattle.std.proofs.Common.{rules, refl, ◌≡◌, ◌++◌, List, ℕ, codes, decimal}
 use Rattle.std.proofs.lemmas.Result.{on_ok_weaker, on_err_weaker}
 use Rattle.snmp_lines.specs.Line.{time_text}
-use Rattle.snmp_lines.proofs.Pieces.{joined, begun_behind}
+use Rattle.snmp_lines.proofs.Composed.{joined, begun_behind}
 use Rattle.snmp_lines.proofs.value.ticks.Goals as goal
 
 pub returns-clause-ok : goal.returns-clause-ok
