@@ -128,7 +128,8 @@ begins octets ok some =
 pub never_fails : (octets : List ℕ) (e : BerError) → IsOk (bindings_of octets) → 0 < length octets → fields_at octets ≡ Err e → ⊥
 never_fails octets e ok some h =
     let b = begins octets ok some in
-    let both : done (b.fields, b.after) ≡ failed e = sym b.are_fields ∙ h in
+    let found : Fields × List ℕ = (b.fields, b.after) in
+    let both : done found ≡ failed {A = Fields × List ℕ} e = sym b.are_fields ∙ h in
     cc
 
 -- what stands at the front is the first binding

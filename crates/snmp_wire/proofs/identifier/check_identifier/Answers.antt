@@ -1,4 +1,3 @@
-use Rattle.std.proofs.Common.{arith}
 use Rattle.snmp_wire.proofs.ReadingLemmas.{some_left, none_left}
 use Rattle.snmp_wire.proofs.PlainLemmas.{plain_none, plain_many, plain_few}
 use Rattle.snmp_wire.proofs.identifier.check_identifier.Goals as goal

@@ -1,4 +1,4 @@
-use Rattle.std.proofs.Common.{◌≡◌, ℕ, ◌+◌, ◌-◌, ◌<◌, ◌≤◌, List, ◌∷◌, ◌++◌, [], length, take, drop, get_or, All, Ok, IsOk, sym, ap, ◌∙◌, arith}
+use Rattle.std.proofs.Common.{◌≡◌, ℕ, ◌+◌, ◌-◌, ◌<◌, ◌≤◌, List, ◌∷◌, ◌++◌, [], length, take, drop, get_or, All, Ok, IsOk, ap, ◌∙◌, arith}
 use Rattle.std.proofs.lemmas.List.{take_rest, take_all, drop_more, length-drop, length-take, length-append}
 use Rattle.snmp_wire.specs.Reading.{first_number, second_number, identifier_of}
 use Rattle.snmp_wire.proofs.PlainLemmas.{plain_some, plain_short, plain_value}
