@@ -21,7 +21,7 @@ unfolding septets
 length-septets zero n = refl
 length-septets (suc count) n = ap suc (length-septets count n)
 
-octets-suc : (count n : ℕ) → octets (suc count) n ≡ (n / 256 ^ count % 256) ∷ octets count n
+pub octets-suc : (count n : ℕ) → octets (suc count) n ≡ (n / 256 ^ count % 256) ∷ octets count n
 unfolding octets
 octets-suc count n = refl
 

@@ -7,6 +7,9 @@ pub mod LengthLemmas
 pub mod MessageLaws
 pub mod NumberLemmas
 pub mod ReadingLemmas
+pub mod StrictIdentifiers
+pub mod StrictMessages
+pub mod StrictNumbers
 pub mod ValueLaws
 pub mod BindingWriting
 pub mod CanonLemmas
