@@ -7,6 +7,7 @@ pub mod LengthLemmas
 pub mod MessageLaws
 pub mod NumberLemmas
 pub mod ReadingLemmas
+pub mod Shortest
 pub mod StrictIdentifiers
 pub mod StrictMessages
 pub mod StrictNumbers

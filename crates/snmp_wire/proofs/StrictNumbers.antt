@@ -63,10 +63,10 @@ sized n h = record {
   below = digits_fit 256 128 8 n (omega arith);
 }
 
-positive : (content : List ℕ) → get_or content 0 0 < 128 → twos_complement content ≡ pos (unsigned content)
+pub positive : (content : List ℕ) → get_or content 0 0 < 128 → twos_complement content ≡ pos (unsigned content)
 positive content h = grind (arith, nat_tests)
 
-negative : (content : List ℕ) → 128 ≤ get_or content 0 0 → twos_complement content ≡ pos (unsigned content) -ℤ pos (256 ^ length content)
+pub negative : (content : List ℕ) → 128 ≤ get_or content 0 0 → twos_complement content ≡ pos (unsigned content) -ℤ pos (256 ^ length content)
 negative content h = grind (arith, nat_tests)
 
 -- from zero
@@ -81,7 +81,7 @@ below_zero : (n : ℕ) → canon_number (negsuc n) ≡ octets (number_size n) (2
 unfolding canon_number
 below_zero n = refl
 
-minus : (u n power : ℕ) → u + (n + 1) ≡ power → pos u -ℤ pos power ≡ negsuc n
+pub minus : (u n power : ℕ) → u + (n + 1) ≡ power → pos u -ℤ pos power ≡ negsuc n
 minus u n power e = omega (arith, ints)
 
 -- below zero

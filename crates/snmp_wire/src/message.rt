@@ -304,6 +304,12 @@ pub fn encoding_is_strict()
     ensures { (m : Message) → IsMessageInRange m → Strict m (canon m) }
 {}
 
+/// No spelling by the standard is shorter than what is written.
+#[tactic(auto, using(crate::proofs::Shortest::no_shorter))]
+pub fn encoding_is_shortest()
+    ensures { (m : Message) (octets : List ℕ) → Strict m octets → length (canon m) ≤ length octets }
+{}
+
 /// How many octets bindings take together.
 fn bindings_size(bindings: &[Binding<'_>]) -> u64
     requires bindings { All (λ b. IsEncodable (var_bind b)) bindings.now }
