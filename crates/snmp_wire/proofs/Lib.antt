@@ -7,6 +7,10 @@ pub mod LengthLemmas
 pub mod MessageLaws
 pub mod NumberLemmas
 pub mod ReadingLemmas
+pub mod Shortest
+pub mod StrictIdentifiers
+pub mod StrictMessages
+pub mod StrictNumbers
 pub mod ValueLaws
 pub mod BindingWriting
 pub mod CanonLemmas
