@@ -7,3 +7,9 @@ pub mod MessageLaws
 pub mod NumberLemmas
 pub mod ReadingLemmas
 pub mod ValueLaws
+pub mod BindingWriting
+pub mod CanonLemmas
+pub mod ElementLemmas
+pub mod IdentifierWriting
+pub mod ListWriting
+pub mod WritingLemmas

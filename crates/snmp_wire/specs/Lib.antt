@@ -5,3 +5,6 @@ pub mod Message
 pub mod Number
 pub mod Reading
 pub mod Spelling
+pub mod Canon
+pub mod Parts
+pub mod Writing

@@ -11,13 +11,16 @@ mod length;
 mod message;
 mod number;
 mod value;
+mod writing;
 
-pub use binding::{Binding, Bindings};
+pub use binding::{Binding, Bindings, binding_size, encode_binding};
 pub use error::BerError;
 pub use kind::Kind;
-pub use message::{MessageRef, decode, one_spelling};
+pub use message::{MessageRef, Parts, decode, encode, encode_head, head_size, one_spelling, size};
 pub use snmp_oid::{Oid, OidError, OidTextError, parse_numeric, write_numeric};
 pub use value::ValueRef;
 
+#[cfg(test)]
+mod encode_tests;
 #[cfg(test)]
 mod tests;
