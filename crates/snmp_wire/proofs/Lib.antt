@@ -1,5 +1,6 @@
 pub mod BindingLemmas
 pub mod FaultLaws
+pub mod Faultless
 pub mod IdentifierLaws
 pub mod IdentifierLemmas
 pub mod LengthLemmas

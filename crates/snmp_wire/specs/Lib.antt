@@ -3,6 +3,7 @@ pub mod Identifier
 pub mod Length
 pub mod Message
 pub mod Number
+pub mod Owned
 pub mod Reading
 pub mod Spelling
 pub mod Canon

@@ -10,13 +10,17 @@ mod kind;
 mod length;
 mod message;
 mod number;
+mod owned;
 mod value;
 mod writing;
 
 pub use binding::{Binding, Bindings, binding_size, encode_binding};
 pub use error::BerError;
 pub use kind::Kind;
-pub use message::{MessageRef, Parts, decode, encode, encode_head, head_size, one_spelling, size};
+pub use message::{
+    MessageRef, Parts, decode, encode, encode_head, head_size, no_fault, one_spelling, size,
+};
+pub use owned::{OctetString, Value};
 pub use snmp_oid::{Oid, OidError, OidTextError, parse_numeric, write_numeric};
 pub use value::ValueRef;
 

@@ -119,6 +119,11 @@ pub fn one_spelling()
     ensures { (m n : Message) (b c rest more : List ℕ) → Spells m b → Spells n c → b ++ rest ≡ c ++ more → (m ≡ n) × (b ≡ c) }
 {}
 
+/// Octets that spell a message have no fault: what each error says is false of them.
+pub fn no_fault()
+    ensures { (message : Message) (octets : List ℕ) (error : BerError) → Spells message octets → IsFault error octets → ⊥ }
+{}
+
 /// The message that the octets are.
 #[tactic(auto, unfolding(crate::specs::Reading::message_of))]
 fn message_of<'a>(octets: &'a [u8]) -> Result<MessageRef<'a>, BerError>
