@@ -1,7 +1,10 @@
 pub mod Cuts
 pub mod Decimals
+pub mod Drafts
 pub mod Finding
+pub mod Keeping
 pub mod Partition
 pub mod Rising
 pub mod Statements
 pub mod Successors
+pub mod TextLines

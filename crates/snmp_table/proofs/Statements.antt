@@ -1,9 +1,8 @@
 -- Facts about what lines state.
-use Rattle.std.proofs.Common.{◌≡◌, ◌≢◌, ℕ, ◌+◌, ◌^◌, ◌<◌, ◌≤◌, inl, inr, List, [], ◌∷◌, ◌++◌, length, Option, Some, None, Result, Ok, Err, IfOk, IfErr, codes, refl, sym, ◌∙◌, ap, subst, append_assoc, arith}
+use Rattle.std.proofs.Common.{◌≡◌, ℕ, ◌^◌, ◌<◌, inl, inr, List, [], ◌∷◌, ◌++◌, Result, Ok, Err, IfOk, refl, sym, ◌∙◌, ap, subst, append_assoc, arith}
 use Rattle.std.specs.List.{All}
 use Rattle.std.proofs.lemmas.List.Elements.{All-nil, All-cons}
-use Rattle.snmp_oid.specs.Numeric.{IsNumeral, IsDotted, IsNumericName}
-use Rattle.snmp_wire.specs.Message.{Datum, VarBind}
+use Rattle.snmp_oid.specs.Numeric.{IsDotted, IsNumericName}
 use Rattle.snmp_table.specs.declared.value.Tag.{Tag}
 use Rattle.snmp_table.specs.declared.value.Tag.TheVariants as tag
 use Rattle.snmp_table.specs.declared.line.Line.{Line}
@@ -11,7 +10,7 @@ use Rattle.snmp_table.specs.declared.line.Line.TheVariants as line
 use Rattle.snmp_table.specs.declared.line.LineFault.{LineFault}
 use Rattle.snmp_table.specs.Row.{entry_of, datum_of, tag_text}
 use Rattle.snmp_table.specs.Places.{var_of}
-use Rattle.snmp_table.specs.Text.{bar, Statement, nothing, object_prefix, instance, States, IsTag, IsBlank, IsObjectLine, IsRowLine, IsInstanceText, IsValueText, IsBadLine}
+use Rattle.snmp_table.specs.Text.{bar, Statement, nothing, object_prefix, instance, States, IsTag, IsObjectLine, IsRowLine, IsInstanceText, IsValueText}
 use Rattle.snmp_table.specs.Line.{statement_of, IsObjectRead, IsInstanceRead}
 use Rattle.snmp_table.proofs.Cuts.{HasNoBar, no_cut, same_cut}
 

@@ -1,3 +1,4 @@
+pub mod Draft
 pub mod Exact
 pub mod Line
 pub mod Listing

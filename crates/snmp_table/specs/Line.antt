@@ -1,6 +1,5 @@
 -- What the steps of reading a line find.
 use Rattle.std.specs.Prelude.{◌≡◌, ℕ, List, Option, Some, None, Result, Ok, Err}
-use Rattle.snmp_oid.specs.Identifier.{IsIdentifier}
 use Rattle.snmp_wire.specs.Message.{Datum, VarBind}
 use Rattle.snmp_table.specs.declared.line.Line.{Line}
 use Rattle.snmp_table.specs.declared.line.Line.TheVariants as line
@@ -8,7 +7,7 @@ use Rattle.snmp_table.specs.declared.line.LineFault.{LineFault}
 use Rattle.snmp_table.specs.declared.line.LineFault.TheVariants as fault
 use Rattle.snmp_table.specs.declared.line.Form.{Form}
 use Rattle.snmp_table.specs.declared.line.Form.TheVariants as form
-use Rattle.snmp_table.specs.Row.{datum_of, entry_of, tag_text}
+use Rattle.snmp_table.specs.Row.{entry_of, tag_text}
 use Rattle.snmp_table.specs.Places.{var_of}
 use Rattle.snmp_table.specs.Text.{Statement, nothing, object_prefix, instance, IsBlank, IsObjectLine, IsRowLine, IsObjectText, IsInstanceText, IsValueText, IsBadLine, IsBadName, IsBadValue}
 

@@ -3,9 +3,11 @@
 //! Stands on identifiers and values. The agent answers requests from it.
 #![tactic(auto)]
 
+mod draft;
 mod error;
 mod line;
 mod row;
+mod split;
 mod table;
 mod value;
 

@@ -1,11 +1,12 @@
 //! The lines of a table's text.
-ghost use Rattle.std.specs.Prelude.{◌≡◌, ◌≢◌, ◌++◌, ◌∷◌, ℕ, List, All, MatchOption, IfOk, IfErr};
+ghost use Rattle.std.specs.Prelude.{◌≡◌, ℕ, List, IfOk, IfErr};
 ghost use Rattle.snmp_table.specs.Exact.{IsOnly};
 ghost use Rattle.snmp_table.specs.Row.{tag_text};
-ghost use Rattle.snmp_table.specs.Text.{bar, Statement, States, IsBlank, IsObjectLine, IsInstanceText};
+ghost use Rattle.snmp_table.specs.Text.{Statement, States, IsBlank, IsObjectLine, IsInstanceText};
 ghost use Rattle.snmp_table.specs.Line.{IsForm, IsObjectRead, IsInstanceRead, IsLineFault, statement_of};
 
 use crate::row::Row;
+use crate::split::split_once;
 use crate::value::{Tag, name, value};
 use snmp_wire::Oid;
 use std::alloc::{AllocError, Global};
@@ -88,21 +89,13 @@ fn row_form(line: &[u8]) -> Option<Form<'_>>
     requires no_object { (text : List ℕ) → IsObjectLine line.now text → ⊥ }
     ensures { IsForm line.now result }
 {
-    let (name, behind) = split_at_bar(line)?;
-    let (tag, text) = split_at_bar(behind)?;
+    let (name, behind) = split_once(line, b'|')?;
+    let (tag, text) = split_once(behind, b'|')?;
     Some(Form::Row {
         name,
         tag: Tag::from_text(tag)?,
         text,
     })
-}
-
-/// What stands before the first bar, and behind it.
-fn split_at_bar(text: &[u8]) -> Option<(&[u8], &[u8])>
-    ensures { MatchOption result (All (λ octet. octet ≢ bar) text.now) (λ parts. (text.now ≡ parts.0.now ++ bar ∷ parts.1.now) × All (λ octet. octet ≢ bar) parts.0.now) }
-{
-    let end = text.iter().position(|octet| *octet == b'|')?;
-    Some((&text[..end], &text[end + 1..]))
 }
 
 /// The object prefix that a text names.

@@ -1,4 +1,4 @@
-use Rattle.std.proofs.Common.{◌≡◌, ◌≤◌, length, List, ℕ, sym, subst, arith, true, false}
+use Rattle.std.proofs.Common.{◌≡◌, ◌≤◌, length, subst, arith, true}
 use Rattle.snmp_oid.specs.Identifier.{IsWire}
 use Rattle.snmp_table.proofs.Statements.{name_numbers}
 use Rattle.snmp_table.proofs.line.instance_name.Goals as goal

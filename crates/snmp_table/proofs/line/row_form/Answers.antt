@@ -1,6 +1,5 @@
-use Rattle.std.proofs.Common.{◌≡◌, List, ℕ, sym, subst, rules}
-use Rattle.snmp_table.specs.Text.{IsRowLine, IsTag}
-use Rattle.snmp_table.specs.Line.{IsForm}
+use Rattle.std.proofs.Common.{◌≡◌, subst}
+use Rattle.snmp_table.specs.Text.{IsTag}
 use Rattle.snmp_table.specs.Row.{tag_text}
 use Rattle.snmp_table.proofs.Cuts.{HasNoBar}
 use Rattle.snmp_table.proofs.Statements.{tag_known, no_row_without_bar, no_row_with_one_bar, same_parts, row_parts}

@@ -1,4 +1,4 @@
-use Rattle.std.proofs.Common.{◌≡◌, List, ℕ, subst, sym, map, take, drop, ap, ◌∙◌}
+use Rattle.std.proofs.Common.{◌≡◌, List, subst, sym, map, take, drop, ap, ◌∙◌}
 use Rattle.snmp_table.specs.declared.row.Row.{Row}
 use Rattle.snmp_table.specs.Row.{entry_of, view_of}
 use Rattle.snmp_table.specs.Places.{IsBeforeNone, IsBeforeAll, bindings_of}
