@@ -1,7 +1,7 @@
 -- Headers and elements: how long they are, and how they are written behind their content.
-use Rattle.std.proofs.Common.{◌≡◌, ℕ, ◌+◌, ◌-◌, ◌≤◌, List, [], ◌∷◌, ◌++◌, length, refl, sym, ap, subst, ◌∙◌, arith, length-append}
-use Rattle.snmp_wire.specs.Canon.{canon_content, canon_element, canon_header, canon_length, canon_value}
-use Rattle.snmp_wire.specs.Message.{Datum}
+use Rattle.std.proofs.Common.{◌≡◌, ℕ, ℤ, ◌+◌, ◌-◌, ◌≤◌, List, [], ◌∷◌, ◌++◌, length, refl, sym, ap, subst, ◌∙◌, arith, length-append}
+use Rattle.snmp_wire.specs.Canon.{canon_content, canon_element, canon_header, canon_length, canon_number, canon_value}
+use Rattle.snmp_wire.specs.Message.{Datum, integer_value, octet_string}
 use Rattle.snmp_wire.specs.Spelling.{value_tag}
 use Rattle.snmp_wire.specs.Writing.{Writes}
 use Rattle.snmp_wire.proofs.WritingLemmas.{writes_same, writes_then}
@@ -58,3 +58,11 @@ value_header_fits {old} {mid} {middle} {end} tag value e w room = header_fits ta
 
 pub writes_value : {old mid new : List ℕ} {start middle end : ℕ} (tag : ℕ) (value : Datum) → tag ≡ value_tag value → Writes old middle end (canon_content value) mid → Writes mid start middle (canon_header tag (end - middle)) new → Writes old start end (canon_value value) new
 writes_value tag value e w v = writes_same (writes_element tag w v) (ap (λ t. canon_element t (canon_content value)) e ∙ sym (value_is value))
+
+pub content_number : (z : ℤ) → canon_content (integer_value z) ≡ canon_number z
+unfolding canon_content
+content_number z = refl
+
+pub content_text : (text : List ℕ) → canon_content (octet_string text) ≡ text
+unfolding canon_content
+content_text text = refl

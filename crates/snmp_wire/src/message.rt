@@ -259,13 +259,17 @@ pub fn head_size(parts: &Parts<'_>, total: u64) -> u64
     ensures value { result ≡ length (canon_head (parts_message parts.now) total) }
     ensures small { result ≤ 70000 }
 {
-    let opening = integer_element_size(parts.version) + text_element_size(parts.community);
-    let fields = integer_element_size(parts.id)
-        + integer_element_size(parts.a)
-        + integer_element_size(parts.b);
+    let version = integer_element_size(parts.version);
+    let community = text_element_size(parts.community);
+    let id = integer_element_size(parts.id);
+    let a = integer_element_size(parts.a);
+    let b = integer_element_size(parts.b);
     let list = header_size(total);
-    let front = opening + header_size(fields + list + total) + fields + list;
-    header_size(front + total) + front
+    let fields = id + a + b + list;
+    let pdu = header_size(fields + total);
+    let front = version + community + pdu + fields;
+    let message = header_size(front + total);
+    message + front
 }
 
 /// Writes the shortest encoding of a message up to the first of its bindings, where these take `total` octets together, to the front of `out`, and answers its length.
@@ -304,9 +308,10 @@ fn bindings_size(bindings: &[Binding<'_>]) -> u64
 #[inline]
 fn integer_element_size(number: i32) -> u64
     ensures value { result ≡ length (canon_value (integer_value number)) }
-    ensures small { result ≤ 6 }
+    ensures small { result ≤ 15 }
 {
-    2 + integer_size(number) as u64
+    let content = integer_size(number) as u64;
+    header_size(content) + content
 }
 
 /// How many octets an OCTET STRING takes.
