@@ -1,0 +1,4 @@
+pub mod Sizes
+pub mod Answers
+pub mod Encodings
+pub mod Requests

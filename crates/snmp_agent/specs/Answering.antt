@@ -1,12 +1,12 @@
 -- How replies are made: what private functions are proved to find and to write.
-use Rattle.std.specs.Prelude.{◌≡◌, ℕ, ◌+◌, ◌≤◌, ◌<◌, List, [], ◌∷◌, ◌++◌, length, take}
+use Rattle.std.specs.Prelude.{◌≡◌, ℕ, ℤ, pos, ◌+◌, ◌≤◌, ◌<◌, List, [], ◌∷◌, ◌++◌, length, take}
 use Rattle.snmp_oid.specs.Identifier.{IsWire}
 use Rattle.snmp_wire.specs.declared.kind.Kind.{Kind}
 use Rattle.snmp_wire.specs.declared.kind.Kind.TheVariants as kind
 use Rattle.snmp_wire.specs.Message.{Datum, object_id, integer_value, octet_string, null_value, ip_address, counter32, gauge32, time_ticks, opaque_octets, counter64, no_such_object, no_such_instance, end_of_mib_view, VarBind, Message}
 use Rattle.snmp_wire.specs.Canon.{canon_binding, canon_bindings, canon_head}
 use Rattle.snmp_table.specs.Table.{MibView, IsGet, IsNext}
-use Rattle.snmp_agent.specs.Reply.{IsResponse}
+use Rattle.snmp_agent.specs.Reply.{not_writable, no_error, failed_place}
 
 -- what a request of the kind is given for one of its bindings
 abbrev pub IsAnswer : MibView → Kind → VarBind → VarBind → Type 0
@@ -74,6 +74,11 @@ pub record IsDraft (m : Message) (limit : ℕ) (bindings : List VarBind) (total 
 abbrev pub PassesLimit : Message → ℕ → List VarBind → Type 0
 PassesLimit m limit bindings = limit < whole_size m (length (canon_bindings bindings))
 
--- the Response that an agent would send that serves the view, with messages of at most so many octets
-abbrev pub IsResponseOf : MibView → ℕ → Message → Message → Type 0
-IsResponseOf view limit q r = IsResponse (record { view = view; community = q.community; max_size = limit }) q r
+-- the error-status and the error-index of the whole Response to a request of the kind
+abbrev pub status_of : Kind → ℤ
+status_of kind.SetRequest = not_writable
+status_of _ = no_error
+
+abbrev pub index_of : Kind → List VarBind → ℤ
+index_of kind.SetRequest bindings = failed_place bindings
+index_of _ bindings = pos 0

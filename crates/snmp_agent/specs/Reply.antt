@@ -85,14 +85,15 @@ pub data IsWhole (view : MibView) (q r : Message) : Type 0 where
     → r ≡ response q no_error (pos 0) bindings → IsWhole view q r
   unwritten : q.kind ≡ kind.SetRequest → r ≡ response q not_writable (failed_place q.bindings) q.bindings → IsWhole view q r
 
--- the message's shortest encoding has no more octets than the agent's messages may have
-abbrev pub Fits : Agent → Message → Type 0
-Fits agent m = length (canon m) ≤ agent.max_size
+-- the message's shortest encoding has at most so many octets
+abbrev pub Fits : ℕ → Message → Type 0
+Fits max_size m = length (canon m) ≤ max_size
 
--- the Response that the agent would send: the whole one where it fits, else an error without bindings (4.2.1, 4.2.2, 4.2.5)
-pub data IsResponse (agent : Agent) (q r : Message) : Type 0 where
-  whole : IsWhole agent.view q r → Fits agent r → IsResponse agent q r
-  shortened : (large : Message) → IsWhole agent.view q large → (Fits agent large → ⊥) → r ≡ response q too_big (pos 0) [] → IsResponse agent q r
+-- the Response that is to be sent where messages have at most so many octets: the whole one where it fits, else an error without bindings
+-- (4.2.1, 4.2.2, 4.2.5)
+pub data IsResponse (view : MibView) (max_size : ℕ) (q r : Message) : Type 0 where
+  whole : IsWhole view q r → Fits max_size r → IsResponse view max_size q r
+  shortened : (large : Message) → IsWhole view q large → (Fits max_size large → ⊥) → r ≡ response q too_big (pos 0) [] → IsResponse view max_size q r
 
 -- ---- replies
 
@@ -101,8 +102,8 @@ pub record IsReply (agent : Agent) (octets reply : List ℕ) : Type 0 where
   pub request : Message
   pub response : Message
   pub is_request : IsRequest agent.community octets request
-  pub is_response : IsResponse agent request response
-  pub fits : Fits agent response
+  pub is_response : IsResponse agent.view agent.max_size request response
+  pub fits : Fits agent.max_size response
   pub encoding : reply ≡ canon response
 
 -- the octets are no request that the agent answers; the reasons come in this order
@@ -115,7 +116,7 @@ IsRefused community octets why.TooLong = ⊥
 
 -- why the agent sends no reply to the octets: they are no request that it answers, or not even its Response without bindings fits
 abbrev pub IsDropped : Agent → List ℕ → Why → Type 0
-IsDropped agent octets why.TooLong = (q : Message) × (r : Message) × IsRequest agent.community octets q × IsResponse agent q r × (Fits agent r → ⊥)
+IsDropped agent octets why.TooLong = (q : Message) × (r : Message) × IsRequest agent.community octets q × IsResponse agent.view agent.max_size q r × (Fits agent.max_size r → ⊥)
 IsDropped agent octets why.Undecodable = IsRefused agent.community octets why.Undecodable
 IsDropped agent octets why.Version = IsRefused agent.community octets why.Version
 IsDropped agent octets why.Community = IsRefused agent.community octets why.Community

@@ -3,8 +3,8 @@ ghost use Rattle.std.specs.Prelude.{◌≡◌, ℕ, pos, ◌≤◌, ◌<◌, [],
 ghost use Rattle.snmp_wire.specs.Message.{Message};
 ghost use Rattle.snmp_wire.specs.Canon.{canon};
 ghost use Rattle.snmp_wire.specs.Parts.{parts_message};
-ghost use Rattle.snmp_agent.specs.Reply.{agent_of, IsReply, IsDropped, IsRequest, IsRefused, IsServed, response, failed_place, too_big};
-ghost use Rattle.snmp_agent.specs.Answering.{IsResponseOf, AreWritable};
+ghost use Rattle.snmp_agent.specs.Reply.{agent_of, IsReply, IsDropped, IsRequest, IsRefused, IsServed, IsResponse, Fits, response, failed_place, too_big};
+ghost use Rattle.snmp_agent.specs.Answering.{AreWritable, status_of, index_of};
 
 use crate::config::{Config, Outcome, Why};
 use crate::draft::{append_answers, seal};
@@ -78,16 +78,23 @@ fn reply(
     requires writable { AreWritable request.now.bindings }
     requires datagram { max_size ≤ 65507 }
     requires room { max_size ≤ length out.old }
-    ensures sent { IfSome result (λ n. (r : Message) × IsResponseOf table.now max_size request.now r × (length (canon r) ≤ max_size) × (take n out.new ≡ canon r) × (n ≡ length (canon r))) }
-    ensures none { IfNone result ((r : Message) × IsResponseOf table.now max_size request.now r × (max_size < length (canon r))) }
+    ensures sent { IfSome result (λ n. (r : Message) × IsResponse table.now max_size request.now r × (length (canon r) ≤ max_size) × (take n out.new ≡ canon r) × (n ≡ length (canon r))) }
+    ensures none { IfNone result ((r : Message) × IsResponse table.now max_size request.now r × (max_size < length (canon r))) }
 {
-    let parts = match request.kind() {
-        Kind::SetRequest => response(request, NOT_WRITABLE, failed_place(request)),
-        _ => response(request, NO_ERROR, 0),
-    };
+    let parts = whole_parts(request);
     match append_answers(table, request.kind(), request.bindings(), &parts, max_size, out) {
         Some(total) => Some(seal(&parts, out, total)),
         None => shortened(request, max_size, out),
+    }
+}
+
+/// The parts of the whole Response to a request, its bindings left out.
+fn whole_parts<'a>(request: &MessageRef<'a>) -> Parts<'a>
+    ensures { parts_message result ≡ response request.now (status_of request.now.kind) (index_of request.now.kind request.now.bindings) [] }
+{
+    match request.kind() {
+        Kind::SetRequest => response(request, NOT_WRITABLE, failed_place(request)),
+        _ => response(request, NO_ERROR, 0),
     }
 }
 
