@@ -2,7 +2,7 @@
 use Rattle.std.proofs.Common.{◌≡◌, ℕ, zero, suc, ◌+◌, ◌≤◌, ◌<◌, ◌⊎◌, inl, inr, Bool, true, false, T, List, [], ◌∷◌, ◌++◌, map, length, take, drop, Option, Some, None, Less, Equal, Greater, Ordering, refl, sym, ap, subst, ◌∙◌, ⊎_elim, arith, length-append}
 use Rattle.std.specs.Ordering.{nat_cmp}
 use Rattle.std.specs.Cmp.Lexicographic.{slice_cmp, nat_list_cmp_total}
-use Rattle.std.specs.FinMap.{get, entries, entries_sorted, find, is_sorted}
+use Rattle.std.specs.FinMap.{get, entries, entries_sorted, get-entries, find, is_sorted}
 use Rattle.std.specs.FinSet.{contains}
 use Rattle.std.proofs.lemmas.Bool.{cases_lt}
 use Rattle.std.proofs.lemmas.List.{take-append-drop, take-append-le}
@@ -22,14 +22,12 @@ use Rattle.snmp_agent.specs.Answering.{IsAnswer}
 
 -- a beginning of the name is an object prefix, or none of its shortest ones is
 
-
-
 seek : (view : MibView) (o : List ℕ) (n : ℕ) → ((k : ℕ) × (contains view.objects (take k o) ≡ true)) ⊎ ((k : ℕ) → k < n → contains view.objects (take k o) ≡ true → ⊥)
 seek view o zero = inr (λ k h e. absurd (omega arith))
 seek view o (suc n) = elim (seek view o n) [
-    | inl found ↦ inl found
-    | inr none ↦ here (contains view.objects (take n o)) refl none
-  ]
+  | inl found ↦ inl found
+  | inr none ↦ here (contains view.objects (take n o)) refl none
+]
   where
     here : (b : Bool) → contains view.objects (take n o) ≡ b → ((k : ℕ) → k < n → contains view.objects (take k o) ≡ true → ⊥)
         → ((k : ℕ) × (contains view.objects (take k o) ≡ true)) ⊎ ((k : ℕ) → k < suc n → contains view.objects (take k o) ≡ true → ⊥)
@@ -41,12 +39,12 @@ seek view o (suc n) = elim (seek view o n) [
 
 object_decided : (view : MibView) (o : List ℕ) → HasObject view o ⊎ (HasObject view o → ⊥)
 object_decided view o = elim (seek view o (suc (length o))) [
-    | inl found ↦ inl (take found.0 o, drop found.0 o, found.1, sym (take-append-drop found.0 o))
-    | inr none ↦ inr (λ has.
-        let front : take (length has.0) o ≡ has.0 = ap (take (length has.0)) has.3 ∙ take-append_seam has.0 has.1 in
-        let long : length o ≡ length has.0 + length has.1 = ap length has.3 ∙ length-append has.0 has.1 in
-        none (length has.0) (omega arith) (ap (contains view.objects) front ∙ has.2))
-  ]
+  | inl found ↦ inl (take found.0 o, drop found.0 o, found.1, sym (take-append-drop found.0 o))
+  | inr none ↦ inr (λ has.
+      let front : take (length has.0) o ≡ has.0 = ap (take (length has.0)) has.3 ∙ take-append_seam has.0 has.1 in
+      let long : length o ≡ length has.0 + length has.1 = ap length has.3 ∙ length-append has.0 has.1 in
+      none (length has.0) (omega arith) (ap (contains view.objects) front ∙ has.2))
+]
 
 got : (view : MibView) (o : List ℕ) → (p : VarBind) × IsGet view o p
 got view o = by_value (get view.rows o) refl
@@ -54,9 +52,9 @@ got view o = by_value (get view.rows o) refl
     by_value : (found : Option Datum) → get view.rows o ≡ found → (p : VarBind) × IsGet view o p
     by_value (Some value) e = (record { name = o; value = value }, variable refl e)
     by_value None e = elim (object_decided view o) [
-        | inl has ↦ (record { name = o; value = no_such_instance }, unknown_instance e has refl)
-        | inr hasnt ↦ (record { name = o; value = no_such_object }, unknown_object e hasnt refl)
-      ]
+      | inl has ↦ (record { name = o; value = no_such_instance }, unknown_instance e has refl)
+      | inr hasnt ↦ (record { name = o; value = no_such_object }, unknown_object e hasnt refl)
+    ]
 
 -- ---- GetNext
 
@@ -78,27 +76,28 @@ not_less r (inr e) h = absurd (cc)
 
 parting : (o : List ℕ) (es : List (List ℕ × Datum)) → T (is_sorted (slice_cmp nat_cmp) es) → Parting o es
 parting o [] rising = record { front = []; back = []; parts = refl; passed = tt; ahead = tt }
-parting o (e ∷ es) rising = by_order (slice_cmp nat_cmp o e.0) refl
+parting o (e ∷ es) rising = by_order (slice_cmp nat_cmp o e.0) refl (parting o es (second_of_both _ _ rising))
   where
-    rest : Parting o es
-    rest = parting o es (second_of_both _ _ rising)
-    later : (slice_cmp nat_cmp o e.0 ≡ Less → ⊥) → Parting o (e ∷ es)
-    later no = record { front = e ∷ rest.front; back = rest.back; parts = ap (λ fs. e ∷ fs) rest.parts; passed = (no, rest.passed); ahead = rest.ahead }
-    by_order : (r : Ordering) → slice_cmp nat_cmp o e.0 ≡ r → Parting o (e ∷ es)
-    by_order Less h = record { front = []; back = e ∷ es; parts = refl; passed = tt; ahead = (h, further o e.0 es h (before_all e.0 es (first_of_both _ _ rising))) }
-    by_order Equal h = later (λ less. not_less (slice_cmp nat_cmp o e.0) (inl h) less)
-    by_order Greater h = later (λ less. not_less (slice_cmp nat_cmp o e.0) (inr h) less)
+    later : (slice_cmp nat_cmp o e.0 ≡ Less → ⊥) → Parting o es → Parting o (e ∷ es)
+    later none rest = record { front = e ∷ rest.front; back = rest.back; parts = ap (λ fs. e ∷ fs) rest.parts; passed = (none, rest.passed); ahead = rest.ahead }
+
+    by_order : (r : Ordering) → slice_cmp nat_cmp o e.0 ≡ r → Parting o es → Parting o (e ∷ es)
+    by_order Less h rest = record { front = []; back = e ∷ es; parts = refl; passed = tt; ahead = (h, further o e.0 es h (before_all e.0 es (first_of_both _ _ rising))) }
+    by_order Equal h rest = later (λ less. not_less (slice_cmp nat_cmp o e.0) (inl h) less) rest
+    by_order Greater h rest = later (λ less. not_less (slice_cmp nat_cmp o e.0) (inr h) less) rest
 
 pub next : (view : MibView) (o : List ℕ) → (p : VarBind) × IsNext view o p
 next view o =
     let es = entries view.rows in
-    let cut : Parting o es = parting o es (entries_sorted view.rows) in
-    (first_or_end o (map var_of cut.back), is_next view o cut.front cut.back (record {
-        found = λ q. ap (find (slice_cmp nat_cmp) q) cut.parts;
+    let cut : Parting o es = parting o es (entries_sorted view.rows) in (
+      first_or_end o (map var_of cut.back),
+      is_next view o cut.front cut.back (record {
+        found = λ q. get-entries view.rows q ∙ ap (find (slice_cmp nat_cmp) q) cut.parts;
         rising = subst (λ (fs : List (List ℕ × Datum)). T (is_sorted (slice_cmp nat_cmp) fs)) cut.parts (entries_sorted view.rows);
         passed = cut.passed;
         ahead = cut.ahead;
-    }))
+      }),
+    )
 
 -- ---- bindings
 

@@ -55,12 +55,12 @@ instance_value end_of_mib_view h = tt
 
 pub got_writable : (view : MibView) (o : List ℕ) (p : VarBind) → IsMibView view → IsWire o → IsGet view o p → IsWritable p
 got_writable view o p lawful wire (variable name row) = record { name = (lawful.names p row).wire; value = instance_value p.value (lawful.values p row) }
-got_writable view o p lawful wire (unknown_object none no same) = subst (λ (x : VarBind). IsWritable x) (sym same) (record { name = wire; value = tt })
-got_writable view o p lawful wire (unknown_instance none has same) = subst (λ (x : VarBind). IsWritable x) (sym same) (record { name = wire; value = tt })
+got_writable view o p lawful wire (unknown_object missing hasnt same) = subst (λ (x : VarBind). IsWritable x) (sym same) (record { name = wire; value = tt })
+got_writable view o p lawful wire (unknown_instance missing has same) = subst (λ (x : VarBind). IsWritable x) (sym same) (record { name = wire; value = tt })
 
 pub next_writable : (view : MibView) (o : List ℕ) (p : VarBind) → IsMibView view → IsWire o → IsNext view o p → IsWritable p
 next_writable view o p lawful wire (successor s) = record { name = (lawful.names p s.row).wire; value = instance_value p.value (lawful.values p s.row) }
-next_writable view o p lawful wire (end_of_view none same) = subst (λ (x : VarBind). IsWritable x) (sym same) (record { name = wire; value = tt })
+next_writable view o p lawful wire (end_of_view last same) = subst (λ (x : VarBind). IsWritable x) (sym same) (record { name = wire; value = tt })
 
 -- ---- what is written
 

@@ -22,9 +22,9 @@ more_digits base limit zero n k h = omega arith
 more_digits base limit (suc more) n k h = ⊎_elim
     (λ below. let one : digit_count base limit (suc more) n ≡ 1 = few n limit 1 (1 + digit_count base (limit * base) more n) below in omega (arith, one, digit_some base limit (suc more) k))
     (λ above.
-        let here : digit_count base limit (suc more) n ≡ 1 + digit_count base (limit * base) more n = many n limit 1 (1 + digit_count base (limit * base) more n) above in
-        let there : digit_count base limit (suc more) k ≡ 1 + digit_count base (limit * base) more k = many k limit 1 (1 + digit_count base (limit * base) more k) (omega arith) in
-        omega (arith, here, there, more_digits base (limit * base) more n k h))
+    let here : digit_count base limit (suc more) n ≡ 1 + digit_count base (limit * base) more n = many n limit 1 (1 + digit_count base (limit * base) more n) above in
+    let there : digit_count base limit (suc more) k ≡ 1 + digit_count base (limit * base) more k = many k limit 1 (1 + digit_count base (limit * base) more k) (omega arith) in
+    omega (arith, here, there, more_digits base (limit * base) more n k h))
     (cases_lt n limit)
 
 more_length_digits : (n k : ℕ) → n ≤ k → length_size n ≤ length_size k
@@ -34,9 +34,9 @@ more_length_digits n k h = more_digits 256 256 3 n k h
 longer_length : (n k : ℕ) → n ≤ k → length (canon_length n) ≤ length (canon_length k)
 longer_length n k h = ⊎_elim
     (λ below. ⊎_elim
-        (λ short. omega (arith, length-canon_length_short n below, length-canon_length_short k short))
-        (λ long. omega (arith, length-canon_length_short n below, length-canon_length_long k long))
-        (cases_lt k 128))
+    (λ short. omega (arith, length-canon_length_short n below, length-canon_length_short k short))
+    (λ long. omega (arith, length-canon_length_short n below, length-canon_length_long k long))
+    (cases_lt k 128))
     (λ above. let further : 128 ≤ k = omega arith in omega (arith, length-canon_length_long n above, length-canon_length_long k further, more_length_digits n k h))
     (cases_lt n 128)
 

@@ -80,9 +80,9 @@ failed_place (_ ∷ _) = pos 1
 -- Set, since nothing can be written, its own bindings and an error (4.2.5)
 pub data IsWhole (view : MibView) (q r : Message) : Type 0 where
   got : (bindings : List VarBind) → q.kind ≡ kind.GetRequest → AreAnswers (λ asked given. IsGet view asked.name given) q.bindings bindings
-    → r ≡ response q no_error (pos 0) bindings → IsWhole view q r
+      → r ≡ response q no_error (pos 0) bindings → IsWhole view q r
   got_next : (bindings : List VarBind) → q.kind ≡ kind.GetNextRequest → AreAnswers (λ asked given. IsNext view asked.name given) q.bindings bindings
-    → r ≡ response q no_error (pos 0) bindings → IsWhole view q r
+      → r ≡ response q no_error (pos 0) bindings → IsWhole view q r
   unwritten : q.kind ≡ kind.SetRequest → r ≡ response q not_writable (failed_place q.bindings) q.bindings → IsWhole view q r
 
 -- the message's shortest encoding has at most so many octets

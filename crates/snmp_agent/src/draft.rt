@@ -101,7 +101,7 @@ fn is_short(value: &ValueRef<'_>) -> bool
 /// Writes what stands before the bindings in the first `total` octets, which make room for it, and answers the length of the message.
 pub fn seal(parts: &Parts<'_>, out: &mut [u8], total: usize) -> usize
     requires community { length parts.now.community.now ≤ 255 }
-    requires datagram { length out.old ≤ 65507 }
+    requires datagram { total ≤ 65507 }
     requires room { whole_size (parts_message parts.now) total ≤ length out.old }
     ensures size { result ≡ whole_size (parts_message parts.now) total }
     ensures message { take result out.new ≡ canon_head (parts_message parts.now) total ++ take total out.old }

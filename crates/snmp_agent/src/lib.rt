@@ -3,9 +3,9 @@
 //! Stands on the table, which answers for one name, and on the messages. A server or a walk in memory hands it the datagrams.
 #![tactic(auto)]
 
-mod answer;
+mod agent;
 mod config;
 mod draft;
 
-pub use answer::answer;
+pub use agent::answer;
 pub use config::{Config, Outcome, Why};

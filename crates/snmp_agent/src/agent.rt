@@ -26,12 +26,7 @@ const NOT_WRITABLE: i32 = 17;
 /// The reply to a datagram, in the front of `out`, or why there is none (RFC 3416, sections 4.2.1, 4.2.2 and 4.2.5).
 ///
 /// What stands behind the reply's octets is left open. Nothing is allocated.
-pub fn answer(
-    table: &Table,
-    config: &Config<'_>,
-    request: &[u8],
-    out: &mut [u8; 65507],
-) -> Outcome
+pub fn answer(table: &Table, config: &Config<'_>, request: &[u8], out: &mut [u8; 65507]) -> Outcome
     ensures reply { (n : ℕ) → result ≡ Outcome.Reply n → IsReply (agent_of table.now config.now) request.now (take n out.new) }
     ensures length { (n : ℕ) → result ≡ Outcome.Reply n → n ≤ config.now.max_size }
     ensures dropped { (why : Why) → result ≡ Outcome.Dropped why → IsDropped (agent_of table.now config.now) request.now why }
@@ -67,12 +62,7 @@ fn accepted<'a>(community: &[u8], octets: &'a [u8]) -> Result<MessageRef<'a>, Wh
 }
 
 /// Writes the Response to a request to the front of `out`, and answers its length. None where it would have more than `max_size` octets, even without bindings.
-fn reply(
-    table: &Table,
-    max_size: usize,
-    request: &MessageRef<'_>,
-    out: &mut [u8],
-) -> Option<usize>
+fn reply(table: &Table, max_size: usize, request: &MessageRef<'_>, out: &mut [u8]) -> Option<usize>
     requires served { IsServed request.now.kind }
     requires community { length request.now.community ≤ 255 }
     requires writable { AreWritable request.now.bindings }
@@ -82,7 +72,14 @@ fn reply(
     ensures none { IfNone result ((r : Message) × IsResponse table.now max_size request.now r × (max_size < length (canon r))) }
 {
     let parts = whole_parts(request);
-    match append_answers(table, request.kind(), request.bindings(), &parts, max_size, out) {
+    match append_answers(
+        table,
+        request.kind(),
+        request.bindings(),
+        &parts,
+        max_size,
+        out,
+    ) {
         Some(total) => Some(seal(&parts, out, total)),
         None => shortened(request, max_size, out),
     }
