@@ -41,6 +41,13 @@ IsInstanceValue no_such_object = ⊥
 IsInstanceValue no_such_instance = ⊥
 IsInstanceValue end_of_mib_view = ⊥
 
+-- what an answer gives a name: a value that an instance may hold, or an exception in its place
+abbrev pub IsAnswerValue : Datum → Type 0
+IsAnswerValue no_such_object = Unit {0}
+IsAnswerValue no_such_instance = Unit {0}
+IsAnswerValue end_of_mib_view = Unit {0}
+IsAnswerValue v = IsInstanceValue v
+
 -- a variable of the view: an instance with its value
 abbrev pub IsRow : MibView → VarBind → Type 0
 IsRow view p = get view.rows p.name ≡ Some p.value

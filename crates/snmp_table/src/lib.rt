@@ -11,5 +11,8 @@ mod split;
 mod table;
 mod value;
 
+#[cfg(test)]
+mod tests;
+
 pub use error::TableError;
 pub use table::Table;

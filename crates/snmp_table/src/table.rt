@@ -48,7 +48,8 @@ impl Table {
     ghost use Rattle.snmp_wire.specs.Message.{datum, var_bind};
     ghost use Rattle.std.specs.Prelude.{IfOk, IfErr};
     ghost use Rattle.std.specs.Str.Lines.{lines};
-    ghost use Rattle.snmp_table.specs.Table.{IsGet, IsNext, IsNextAfter, IsMibView};
+    ghost use Rattle.snmp_table.specs.Table.{IsGet, IsNext, IsNextAfter, IsAnswerValue};
+    ghost use Rattle.snmp_oid.specs.Identifier.{IsWire};
     ghost use Rattle.snmp_table.specs.Stated.{IsTableOf, IsFirstFault};
 
     /// The table that a text states, or the fault of its first faulty line (`docs/PROFILE.md`). `Memory` may come in place of any answer.
@@ -76,7 +77,7 @@ impl Table {
     /// The answer to a Get of the name: its value; else `NoSuchObject` where no object prefix equals the name or begins it, and `NoSuchInstance` where one does (RFC 3416, section 4.2.1).
     pub fn get(&self, name: &Oid) -> ValueRef<'_>
         ensures answer { IsGet self.now name.now (record { name = name.now; value = datum result }) }
-        ensures view { IsMibView self.now }
+        ensures value { IsAnswerValue (datum result) }
     {
         let numbers = name.as_slice();
         match row_at(self.rows.as_slice(), numbers) {
@@ -89,7 +90,8 @@ impl Table {
     /// The answer to a GetNext of the name: the first row behind it, else the name itself with `EndOfMibView` (RFC 3416, section 4.2.2).
     pub fn next(&self, name: &Oid) -> Binding<'_>
         ensures answer { IsNext self.now name.now (var_bind result) }
-        ensures view { IsMibView self.now }
+        ensures name { IsWire name.now → IsWire result.name }
+        ensures value { IsAnswerValue (datum result.value) }
     {
         self.next_after(name, 0)
     }
@@ -97,7 +99,8 @@ impl Table {
     /// The answer to a GetNext that is asked again, `rounds` times more, from the name that it gave, as a GetBulk does (RFC 3416, section 4.2.3).
     pub fn next_after(&self, name: &Oid, rounds: usize) -> Binding<'_>
         ensures answer { IsNextAfter self.now rounds name.now (var_bind result) }
-        ensures view { IsMibView self.now }
+        ensures name { IsWire name.now → IsWire result.name }
+        ensures value { IsAnswerValue (datum result.value) }
     {
         let rows = self.rows.as_slice();
         let (_, behind) = rows.split_at(place_behind(rows, name.as_slice()));

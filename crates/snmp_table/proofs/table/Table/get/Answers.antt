@@ -4,9 +4,10 @@ use Rattle.std.specs.Cmp.Lexicographic.{slice_cmp}
 use Rattle.std.specs.FinMap.{find}
 use Rattle.snmp_wire.specs.Message.{Datum, datum}
 use Rattle.snmp_wire.specs.Message.Datum.{no_such_object, no_such_instance}
-use Rattle.snmp_table.specs.Table.{MibView, IsGet, IsMibView}
-use Rattle.snmp_table.specs.Row.{entry_of, datum_of}
+use Rattle.snmp_table.specs.Table.{MibView, IsGet}
+use Rattle.snmp_table.specs.Row.{entry_of, datum_of, view_of}
 use Rattle.snmp_table.specs.Places.{HasBeginning}
+use Rattle.snmp_table.proofs.Answering.{get_value}
 use Rattle.snmp_table.proofs.Finding.{get_variable, get_no_instance, get_no_object}
 use Rattle.snmp_table.proofs.table.Table.get.Goals as goal
 
@@ -42,11 +43,11 @@ returns-in-None-2-clause-answer c =
     let P : MibView → Type 0 = λ view. IsGet view o (record { name = o; value = no_such_object }) in
     subst P c.self.view_is (get_no_object rows objects o c.self.invariant.rising (sym nothing) never)
 
-pub returns-in-Some-clause-view : goal.returns-in-Some-clause-view
-returns-in-Some-clause-view c = subst IsMibView c.self.view_is c.self.invariant.view
-
-pub returns-in-None-clause-view : goal.returns-in-None-clause-view
-returns-in-None-clause-view c = subst IsMibView c.self.view_is c.self.invariant.view
-
-pub returns-in-None-2-clause-view : goal.returns-in-None-2-clause-view
-returns-in-None-2-clause-view c = subst IsMibView c.self.view_is c.self.invariant.view
+pub returns-in-Some-clause-value : goal.returns-in-Some-clause-value
+returns-in-Some-clause-value c =
+    let rows = c.self.inside.rows.items in
+    let objects = map (λ o. o.items) c.self.inside.objects.keys in
+    let o = c.args.name.now in
+    let value : Some (datum_of c.in-Some.row.now.value) ≡ find (slice_cmp nat_cmp) o (map entry_of rows) = rw (c.as_slice.ensures.value, c.as_slice-numbers.ensures.value) at c.in-Some.ensures.value in
+    let found : find (slice_cmp nat_cmp) o (map entry_of rows) ≡ Some (datum c.as_ref.result) = sym value ∙ ap (λ (v : Datum). Some v) (sym c.as_ref.ensures) in
+    get_value (view_of rows objects) o (record { name = o; value = datum c.as_ref.result }) c.self.invariant.view (get_variable rows objects o c.self.invariant.rising (datum c.as_ref.result) found)
