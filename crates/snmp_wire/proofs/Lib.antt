@@ -3,6 +3,7 @@ pub mod FaultLaws
 pub mod Faultless
 pub mod IdentifierLaws
 pub mod IdentifierLemmas
+pub mod Lenient
 pub mod LengthLemmas
 pub mod MessageLaws
 pub mod NumberLemmas

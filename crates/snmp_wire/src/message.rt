@@ -298,7 +298,13 @@ pub fn pieces()
     ensures { (m : Message) → canon m ≡ canon_head m (length (canon_bindings m.bindings)) ++ canon_bindings m.bindings }
 {}
 
-/// What is written is a spelling by the standard.
+/// What is spelt by the standard is read.
+#[tactic(auto, using(crate::proofs::Lenient::strict_is_read))]
+pub fn strict_is_read()
+    ensures { (m : Message) (octets : List ℕ) → Strict m octets → Spells m octets }
+{}
+
+/// What is written is a spelling by the standard; so [`decode`] gives the message again.
 #[tactic(auto, using(crate::proofs::StrictMessages::strict_canon))]
 pub fn encoding_is_strict()
     ensures { (m : Message) → IsMessageInRange m → Strict m (canon m) }
