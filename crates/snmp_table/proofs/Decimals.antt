@@ -33,7 +33,7 @@ read_more text count number low is_digit h =
     let here = at_front text count number low h in
     record {
       value = value_more text (drop (count + 1) text) (get_or text count 0) number here;
-      digits = let e : all_ascii_digits (get_or text count 0 ∷ drop (count + 1) text) ≡ all_ascii_digits (drop (count + 1) text) = ap (λ b. b && all_ascii_digits (drop (count + 1) text)) is_digit in sym e ∙ here.digits
+      digits = let e : all_ascii_digits (get_or text count 0 ∷ drop (count + 1) text) ≡ all_ascii_digits (drop (count + 1) text) = ap (λ b. b && all_ascii_digits (drop (count + 1) text)) is_digit in sym e ∙ here.digits;
     }
 
 -- all digits

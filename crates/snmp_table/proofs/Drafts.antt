@@ -45,11 +45,13 @@ all_state_more (first ∷ before) line h now = (h.0, all_state_more before line 
 
 names_differ_more : (before : List (List ℕ)) (line : List ℕ) → NamesDiffer before → ((p : VarBind) → States line (instance p) → IsNewName before p.name) → NamesDiffer (before ++ line ∷ [])
 names_differ_more [] line h fresh = (λ p stated q later same. later, tt)
-names_differ_more (first ∷ before) line h fresh =
-    (λ p stated q later same. elim (stated_either before line (instance q) later) [
-      | inl old ↦ h.0 p stated q old same
-      | inr now ↦ fresh q now p (inl stated) (sym same)
-    ], names_differ_more before line h.1 (λ p stated q old same. fresh p stated q (inr old) same))
+names_differ_more (first ∷ before) line h fresh = (
+  λ p stated q later same. elim (stated_either before line (instance q) later) [
+    | inl old ↦ h.0 p stated q old same
+    | inr now ↦ fresh q now p (inl stated) (sym same)
+  ],
+  names_differ_more before line h.1 (λ p stated q old same. fresh p stated q (inr old) same),
+)
 
 good_more : (before : List (List ℕ)) (line : List ℕ) (s : Statement) → AreGood before → States line s → ((p : VarBind) → States line (instance p) → IsNewName before p.name) → AreGood (before ++ line ∷ [])
 good_more before line s h states fresh = record { each = all_state_more before line h.each (s, states); differ = names_differ_more before line h.differ fresh }
@@ -62,21 +64,23 @@ StatesOnly line s = States line s × ((t : Statement) → States line t → t �
 
 module _ (before : List (List ℕ)) (line : List ℕ) (es : List (List ℕ × Datum)) (os : List (List ℕ)) (h : Holds before es os) where
   same_rows : ((p : VarBind) → States line (instance p) → ⊥) → (p : VarBind) → (find (slice_cmp nat_cmp) p.name es ≡ Some p.value) ↔ IsStated (before ++ line ∷ []) (instance p)
-  same_rows never p =
-      (λ found. stated_before before line (instance p) ((h.rows p).0 found),
-        λ stated. elim (stated_either before line (instance p) stated) [ inl old ↦ (h.rows p).1 old | inr now ↦ absurd (never p now) ])
+  same_rows never p = (
+    λ found. stated_before before line (instance p) ((h.rows p).0 found),
+    λ stated. elim (stated_either before line (instance p) stated) [ inl old ↦ (h.rows p).1 old | inr now ↦ absurd (never p now) ],
+  )
 
   same_prefixes : ((o : List ℕ) → States line (object_prefix o) → ⊥) → (o : List ℕ) → (list_any (eq_by_cmp (slice_cmp nat_cmp) o) os ≡ true) ↔ IsStated (before ++ line ∷ []) (object_prefix o)
-  same_prefixes never o =
-      (λ found. stated_before before line (object_prefix o) ((h.prefixes o).0 found),
-        λ stated. elim (stated_either before line (object_prefix o) stated) [ inl old ↦ (h.prefixes o).1 old | inr now ↦ absurd (never o now) ])
+  same_prefixes never o = (
+    λ found. stated_before before line (object_prefix o) ((h.prefixes o).0 found),
+    λ stated. elim (stated_either before line (object_prefix o) stated) [ inl old ↦ (h.prefixes o).1 old | inr now ↦ absurd (never o now) ],
+  )
 
   pub holds_nothing : StatesOnly line nothing → Holds (before ++ line ∷ []) es os
   holds_nothing only = record {
     good = good_more before line nothing h.good only.0 (λ p states. let no_instance : instance p ≡ nothing = only.1 (instance p) states in absurd (cc));
     rising = h.rising;
     rows = same_rows (λ p states. let no_instance : instance p ≡ nothing = only.1 (instance p) states in cc);
-    prefixes = same_prefixes (λ o states. let no_object : object_prefix o ≡ nothing = only.1 (object_prefix o) states in cc)
+    prefixes = same_prefixes (λ o states. let no_object : object_prefix o ≡ nothing = only.1 (object_prefix o) states in cc);
   }
 
   pub holds_object : (object : List ℕ) (more : List (List ℕ)) → StatesOnly line (object_prefix object)
@@ -90,19 +94,19 @@ module _ (before : List (List ℕ)) (line : List ℕ) (es : List (List ℕ × Da
       λ found. elim (slice_cmp nat_cmp o object) as (λ r. slice_cmp nat_cmp o object ≡ r → (is_eq r || list_any (eq_by_cmp (slice_cmp nat_cmp) o) os) ≡ true → IsStated (before ++ line ∷ []) (object_prefix o)) [
         | Less ↦ λ _ old. stated_before before line (object_prefix o) ((h.prefixes o).0 old)
         | Equal ↦ λ tied _.
-          let P : List ℕ → Type 0 = λ p. IsStated (before ++ line ∷ []) (object_prefix p) in
-          subst P (sym (same_name o object tied)) (stated_now before line (object_prefix object) only.0)
+            let P : List ℕ → Type 0 = λ p. IsStated (before ++ line ∷ []) (object_prefix p) in
+            subst P (sym (same_name o object tied)) (stated_now before line (object_prefix object) only.0)
         | Greater ↦ λ _ old. stated_before before line (object_prefix o) ((h.prefixes o).0 old)
       ] refl (sym (has o) ∙ found),
       λ stated. has o ∙ elim (stated_either before line (object_prefix o) stated) [
         | inl old ↦ ap (λ b. is_eq (slice_cmp nat_cmp o object) || b) ((h.prefixes o).1 old) ∙ or_true (is_eq (slice_cmp nat_cmp o object))
         | inr now ↦
-          let same : object_prefix o ≡ object_prefix object = only.1 (object_prefix o) now in
-          let name : o ≡ object = cc in
-          ap (λ p. is_eq (slice_cmp nat_cmp p object) || list_any (eq_by_cmp (slice_cmp nat_cmp) o) os) name
-          ∙ ap (λ r. is_eq r || list_any (eq_by_cmp (slice_cmp nat_cmp) o) os) (tied_itself nat_list_cmp_total object)
-      ]
-    )
+            let same : object_prefix o ≡ object_prefix object = only.1 (object_prefix o) now in
+            let name : o ≡ object = cc in
+            ap (λ p. is_eq (slice_cmp nat_cmp p object) || list_any (eq_by_cmp (slice_cmp nat_cmp) o) os) name
+            ∙ ap (λ r. is_eq r || list_any (eq_by_cmp (slice_cmp nat_cmp) o) os) (tied_itself nat_list_cmp_total object)
+      ],
+    );
   } where
     or_true : (b : Bool) → (b || true) ≡ true
     or_true true = refl
@@ -111,13 +115,13 @@ module _ (before : List (List ℕ)) (line : List ℕ) (es : List (List ℕ × Da
   pub holds_instance : (p : VarBind) → StatesOnly line (instance p) → find (slice_cmp nat_cmp) p.name es ≡ None → Holds (before ++ line ∷ []) (put (slice_cmp nat_cmp) p.name p.value es) os
   holds_instance p only absent = record {
     good = good_more before line (instance p) h.good only.0 (λ q states other old same.
-      let is : instance q ≡ instance p = only.1 (instance q) states in
-      let name : other.name ≡ p.name = cc in
-      let found : find (slice_cmp nat_cmp) other.name es ≡ Some other.value = (h.rows other).1 old in
-      let none : find (slice_cmp nat_cmp) other.name es ≡ None = rw name absent in cc);
+        let is : instance q ≡ instance p = only.1 (instance q) states in
+        let name : other.name ≡ p.name = cc in
+        let found : find (slice_cmp nat_cmp) other.name es ≡ Some other.value = (h.rows other).1 old in
+        let none : find (slice_cmp nat_cmp) other.name es ≡ None = rw name absent in cc);
     rising = is_sorted-put (slice_cmp nat_cmp) nat_list_cmp_total p.name p.value es h.rising;
     rows = λ q. (rows_found q, rows_stated q);
-    prefixes = same_prefixes (λ o states. let no_object : object_prefix o ≡ instance p = only.1 (object_prefix o) states in cc)
+    prefixes = same_prefixes (λ o states. let no_object : object_prefix o ≡ instance p = only.1 (object_prefix o) states in cc);
   } where
     at : (q : List ℕ) → find (slice_cmp nat_cmp) q (put (slice_cmp nat_cmp) p.name p.value es) ≡ cond (eq_by_cmp (slice_cmp nat_cmp) q p.name) (Some p.value) (find (slice_cmp nat_cmp) q es)
     at q = find-put (slice_cmp nat_cmp) nat_list_cmp_total q p.name p.value es
@@ -127,30 +131,30 @@ module _ (before : List (List ℕ)) (line : List ℕ) (es : List (List ℕ × Da
         elim (slice_cmp nat_cmp q.name p.name) as (λ r. slice_cmp nat_cmp q.name p.name ≡ r → cond (is_eq r) (Some p.value) (find (slice_cmp nat_cmp) q.name es) ≡ Some q.value → IsStated (before ++ line ∷ []) (instance q)) [
           | Less ↦ λ _ old. stated_before before line (instance q) ((h.rows q).0 old)
           | Equal ↦ λ tied new.
-            let name : q.name ≡ p.name = same_name q.name p.name tied in
-            let value : q.value ≡ p.value = cc in
-            let same : p ≡ q = λ i. record { name = sym name i; value = sym value i } in
-            subst (λ (x : VarBind). IsStated (before ++ line ∷ []) (instance x)) same (stated_now before line (instance p) only.0)
+              let name : q.name ≡ p.name = same_name q.name p.name tied in
+              let value : q.value ≡ p.value = cc in
+              let same : p ≡ q = λ i. record { name = sym name i; value = sym value i } in
+              subst (λ (x : VarBind). IsStated (before ++ line ∷ []) (instance x)) same (stated_now before line (instance p) only.0)
           | Greater ↦ λ _ old. stated_before before line (instance q) ((h.rows q).0 old)
         ] refl (sym (at q.name) ∙ found)
 
     rows_stated : (q : VarBind) → IsStated (before ++ line ∷ []) (instance q) → find (slice_cmp nat_cmp) q.name (put (slice_cmp nat_cmp) p.name p.value es) ≡ Some q.value
     rows_stated q stated = at q.name ∙ elim (stated_either before line (instance q) stated) [
       | inl old ↦
-        let found : find (slice_cmp nat_cmp) q.name es ≡ Some q.value = (h.rows q).1 old in
-        elim (slice_cmp nat_cmp q.name p.name) as (λ r. slice_cmp nat_cmp q.name p.name ≡ r → cond (is_eq r) (Some p.value) (find (slice_cmp nat_cmp) q.name es) ≡ Some q.value) [
-          | Less ↦ λ _. found
-          | Equal ↦ λ tied.
-            let name : q.name ≡ p.name = same_name q.name p.name tied in
-            let none : find (slice_cmp nat_cmp) q.name es ≡ None = rw name absent in absurd (cc)
-          | Greater ↦ λ _. found
-        ] refl
+          let found : find (slice_cmp nat_cmp) q.name es ≡ Some q.value = (h.rows q).1 old in
+          elim (slice_cmp nat_cmp q.name p.name) as (λ r. slice_cmp nat_cmp q.name p.name ≡ r → cond (is_eq r) (Some p.value) (find (slice_cmp nat_cmp) q.name es) ≡ Some q.value) [
+            | Less ↦ λ _. found
+            | Equal ↦ λ tied.
+                let name : q.name ≡ p.name = same_name q.name p.name tied in
+                let none : find (slice_cmp nat_cmp) q.name es ≡ None = rw name absent in absurd (cc)
+            | Greater ↦ λ _. found
+          ] refl
       | inr now ↦
-        let is : instance q ≡ instance p = only.1 (instance q) now in
-        let name : q.name ≡ p.name = cc in
-        let value : p.value ≡ q.value = cc in
-        ap (λ o. cond (is_eq (slice_cmp nat_cmp o p.name)) (Some p.value) (find (slice_cmp nat_cmp) q.name es)) name
-        ∙ ap (λ r. cond (is_eq r) (Some p.value) (find (slice_cmp nat_cmp) q.name es)) (tied_itself nat_list_cmp_total p.name) ∙ ap (λ (v : Datum). Some v) value
+          let is : instance q ≡ instance p = only.1 (instance q) now in
+          let name : q.name ≡ p.name = cc in
+          let value : p.value ≡ q.value = cc in
+          ap (λ o. cond (is_eq (slice_cmp nat_cmp o p.name)) (Some p.value) (find (slice_cmp nat_cmp) q.name es)) name
+          ∙ ap (λ r. cond (is_eq r) (Some p.value) (find (slice_cmp nat_cmp) q.name es)) (tied_itself nat_list_cmp_total p.name) ∙ ap (λ (v : Datum). Some v) value
     ]
 
   pub double : (p : VarBind) (v : Datum) → States line (instance p) → find (slice_cmp nat_cmp) p.name es ≡ Some v → IsDouble before line
@@ -163,7 +167,7 @@ pub entries-insert : (es : List (Vec ℕ Global × RowValue)) (k : Vec ℕ Globa
 entries-insert [] k v = refl
 entries-insert (e ∷ es) k v =
     elim (slice_cmp nat_cmp k.items e.0.items) as (λ r. map entry_of_pair (match_ordering r ((k, v) ∷ e ∷ es) ((e.0, v) ∷ es) (e ∷ insert_entry (λ x y. slice_cmp nat_cmp x.items y.items) es k v))
-        ≡ by_order r ((k.items, datum_of v) ∷ map entry_of_pair (e ∷ es)) ((e.0.items, datum_of v) ∷ map entry_of_pair es) (entry_of_pair e ∷ put (slice_cmp nat_cmp) k.items (datum_of v) (map entry_of_pair es))) [
+    ≡ by_order r ((k.items, datum_of v) ∷ map entry_of_pair (e ∷ es)) ((e.0.items, datum_of v) ∷ map entry_of_pair es) (entry_of_pair e ∷ put (slice_cmp nat_cmp) k.items (datum_of v) (map entry_of_pair es))) [
       | Less ↦ refl
       | Equal ↦ refl
       | Greater ↦ ap (λ (fs : List (List ℕ × Datum)). entry_of_pair e ∷ fs) (entries-insert es k v)
@@ -174,7 +178,7 @@ pub find-lookup : (es : List (Vec ℕ Global × RowValue)) (k : Vec ℕ Global)
 find-lookup [] k = refl
 find-lookup (e ∷ es) k =
     elim (is_eq (slice_cmp nat_cmp k.items e.0.items)) as (λ b. cond b (Some (datum_of e.1)) (find (slice_cmp nat_cmp) k.items (map entry_of_pair es))
-        ≡ option_map datum_of (cond b (Some e.1) (lookup (is_at (λ y. slice_cmp nat_cmp k.items y.items)) es))) [
+    ≡ option_map datum_of (cond b (Some e.1) (lookup (is_at (λ y. slice_cmp nat_cmp k.items y.items)) es))) [
       | true ↦ refl
       | false ↦ find-lookup es k
     ]
@@ -186,23 +190,23 @@ list_any-insert o [] k = refl
 list_any-insert o (x ∷ ks) k =
     let others = list_any (eq_by_cmp (slice_cmp nat_cmp) o) (map (λ y. y.items) ks) in
     elim (slice_cmp nat_cmp k.items x.items) as (λ r. slice_cmp nat_cmp k.items x.items ≡ r
-        → list_any (eq_by_cmp (slice_cmp nat_cmp) o) (map (λ y. y.items) (match_ordering r (k ∷ x ∷ ks) (x ∷ ks) (x ∷ insert_key (λ y z. slice_cmp nat_cmp y.items z.items) ks k)))
-        ≡ (is_eq (slice_cmp nat_cmp o k.items) || (is_eq (slice_cmp nat_cmp o x.items) || others))) [
+    → list_any (eq_by_cmp (slice_cmp nat_cmp) o) (map (λ y. y.items) (match_ordering r (k ∷ x ∷ ks) (x ∷ ks) (x ∷ insert_key (λ y z. slice_cmp nat_cmp y.items z.items) ks k)))
+    ≡ (is_eq (slice_cmp nat_cmp o k.items) || (is_eq (slice_cmp nat_cmp o x.items) || others))) [
       | Less ↦ λ _. refl
       | Equal ↦ λ tied.
-        twice (is_eq (slice_cmp nat_cmp o x.items)) others
-        ∙ ap (λ (y : List ℕ). is_eq (slice_cmp nat_cmp o y) || (is_eq (slice_cmp nat_cmp o x.items) || others)) (sym (same_name k.items x.items tied))
+          twice (is_eq (slice_cmp nat_cmp o x.items)) others
+          ∙ ap (λ (y : List ℕ). is_eq (slice_cmp nat_cmp o y) || (is_eq (slice_cmp nat_cmp o x.items) || others)) (sym (same_name k.items x.items tied))
       | Greater ↦ λ _. ap (λ b. is_eq (slice_cmp nat_cmp o x.items) || b) (list_any-insert o ks k) ∙ swapped (is_eq (slice_cmp nat_cmp o x.items)) (is_eq (slice_cmp nat_cmp o k.items)) others
     ] refl where
-  twice : (a b : Bool) → (a || b) ≡ (a || (a || b))
-  twice true b = refl
-  twice false b = refl
+      twice : (a b : Bool) → (a || b) ≡ (a || (a || b))
+      twice true b = refl
+      twice false b = refl
 
-  swapped : (a b c : Bool) → (a || (b || c)) ≡ (b || (a || c))
-  swapped true true c = refl
-  swapped true false c = refl
-  swapped false true c = refl
-  swapped false false c = refl
+      swapped : (a b c : Bool) → (a || (b || c)) ≡ (b || (a || c))
+      swapped true true c = refl
+      swapped true false c = refl
+      swapped false true c = refl
+      swapped false false c = refl
 
 -- ---- the lines of a text
 
@@ -222,7 +226,7 @@ read_more text rest line behind old new number h e shorter holds = record {
   parts = h.parts ∙ ap (λ (ls : List (List ℕ)). h.done ++ ls) e ∙ sym (append_assoc h.done (line ∷ []) (lines behind));
   holds = holds;
   place = let now : number ≡ length h.done = h.place in omega (arith, length-append h.done (line ∷ []));
-  few = let before : number + length rest ≤ length text = h.few in omega arith
+  few = let before : number + length rest ≤ length text = h.few in omega arith;
 }
 
 -- the fault of a line that stands behind the ones read
@@ -234,7 +238,7 @@ fault_at text rest line behind draft number h e = cases where
     back = lines behind;
     parts = h.parts ∙ ap (λ (ls : List (List ℕ)). h.done ++ ls) e;
     place = let now : number ≡ length h.done = h.place in omega arith;
-    good = h.holds.good
+    good = h.holds.good;
   }
 
   cases : (f : TableError) → IsFaultBehind h.done line (number + 1) f → IsFirstFault (lines text) f

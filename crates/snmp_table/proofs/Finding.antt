@@ -32,7 +32,7 @@ pub found_last : (rows : List Row) (place last : ℕ) (o : List ℕ) (row : Row)
     → find (slice_cmp nat_cmp) o (map entry_of rows) ≡ Some (datum_of row.value)
 found_last rows place last o row rising at name =
     let listed : Listed (entry_of row) (map entry_of rows) =
-        subst (Listed (entry_of row)) (sym (whole rows place)) (listed_in_first (entry_of row) (map entry_of (take place rows)) (map entry_of (drop place rows)) (listed_at (take place rows) last row at)) in
+    subst (Listed (entry_of row)) (sym (whole rows place)) (listed_in_first (entry_of row) (map entry_of (take place rows)) (map entry_of (drop place rows)) (listed_at (take place rows) last row at)) in
     let P : List ℕ → Type 0 = λ p. find (slice_cmp nat_cmp) p (map entry_of rows) ≡ Some (datum_of row.value) in
     subst P name (find-listed (entry_of row) (map entry_of rows) rising listed)
 
@@ -70,9 +70,9 @@ no_entry : (o : List ℕ) (v : Datum) (rows : List Row) (place : ℕ) → IsRisi
 no_entry o v rows place rising passed ahead other at =
     elim (listed_in_both (o, v) (map entry_of (take place rows)) (map entry_of (drop place rows)) (subst (Listed (o, v)) (whole rows place) at)) [
       | inl here ↦
-        let some : 0 < length (take place rows) = listed_some (o, v) (take place rows) here in
-        let last = is_last o v (take place rows) (length (take place rows) - 1) (omega arith) (rising_front rows place rising) passed here in
-        other last.0 last.1 last.2
+          let some : 0 < length (take place rows) = listed_some (o, v) (take place rows) here in
+          let last = is_last o v (take place rows) (length (take place rows) - 1) (omega arith) (rising_front rows place rising) passed here in
+          other last.0 last.1 last.2
       | inr there ↦ not_before_itself o (before_listed o (o, v) (map entry_of (drop place rows)) ahead there)
     ]
 
@@ -117,6 +117,6 @@ no_beginning objects o never h =
     let front : take (length object) o ≡ object = ap (take (length object)) h.3 ∙ take-append_seam object h.1 in
     let short : length object < length o + 1 = omega (arith, ap length h.3, length-append object h.1) in
     let none : list_any (eq_by_cmp (slice_cmp nat_cmp) object) objects ≡ false =
-        subst (λ (p : List ℕ). list_any (eq_by_cmp (slice_cmp nat_cmp) p) objects ≡ false) front (never (length object) short) in
+    subst (λ (p : List ℕ). list_any (eq_by_cmp (slice_cmp nat_cmp) p) objects ≡ false) front (never (length object) short) in
     let some : list_any (eq_by_cmp (slice_cmp nat_cmp) object) objects ≡ true = h.2 in
     absurd (cc)

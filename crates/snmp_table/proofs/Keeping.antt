@@ -86,7 +86,7 @@ module _ (lines : List (List ℕ)) (rows : List Row) (objects : List (List ℕ))
       let stated : IsStated lines (instance (var_of (entry_of row))) = (h.rows (var_of (entry_of row))).0 (find-listed (entry_of row) (map entry_of rows) h.rising listed) in
       record {
         name = (stated_name lines (var_of (entry_of row)) stated).identifier.short;
-        value = short_value row.value (stated_value lines (var_of (entry_of row)) stated)
+        value = short_value row.value (stated_value lines (var_of (entry_of row)) stated);
       }
 
   pub kept : IsKept rows objects
@@ -96,13 +96,13 @@ module _ (lines : List (List ℕ)) (rows : List Row) (objects : List (List ℕ))
     view = record {
       names = λ p row. stated_name lines p (row_stated p row);
       values = λ p row. stated_value lines p (row_stated p row);
-      objects = λ o has. stated_object lines o (object_stated o has)
-    }
+      objects = λ o has. stated_object lines o (object_stated o has);
+    };
   }
 
   pub table_of : IsTableOf lines (view_of rows objects)
   table_of = record {
     good = h.good;
     rows = λ p. (row_stated p, stated_row p);
-    objects = λ o. (object_stated o, stated_has o)
+    objects = λ o. (object_stated o, stated_has o);
   }

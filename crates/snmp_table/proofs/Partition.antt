@@ -1,10 +1,11 @@
 -- Where the rows behind a name begin.
-use Rattle.std.proofs.Common.{◌≡◌, ℕ, zero, suc, ◌≤◌, ◌<◌, true, false, List, [], ◌∷◌, map, length, take, drop, slice_index_or, refl, sym, ap, arith, Less, Equal, Greater, Ordering}
+use Rattle.std.proofs.Common.{◌≡◌, ℕ, zero, suc, ◌≤◌, ◌<◌, true, false, List, [], ◌∷◌, map, length, take, drop, slice_index_or, refl, sym, ap, subst, arith, add-one, ◌+◌, Some, Less, Equal, Greater, Ordering}
 use Rattle.std.specs.Ordering.{nat_cmp, is_le, is_gt}
 use Rattle.std.specs.Cmp.{upto}
 use Rattle.std.specs.Cmp.Lexicographic.{slice_cmp, nat_list_cmp_total}
-use Rattle.std.specs.List.{AllWithin}
+use Rattle.std.specs.List.{AllWithin, slice_get}
 use Rattle.std.specs.List.Sorted.{IsPartitionedBy}
+use Rattle.snmp_wire.specs.Message.{Datum}
 use Rattle.snmp_table.specs.declared.row.Row.{Row}
 use Rattle.snmp_table.specs.Row.{entry_of}
 use Rattle.snmp_table.specs.Places.{IsRising, IsBeforeNone, IsBeforeAll, is_up_to}
@@ -26,10 +27,10 @@ up_to_earlier o p q less h =
       | Less ↦ λ _. refl
       | Equal ↦ λ _. refl
       | Greater ↦ λ is.
-        let first : is_gt (slice_cmp nat_cmp p q) ≡ false = ap is_gt less in
-        let second : is_gt (slice_cmp nat_cmp q o) ≡ false = not_greater (slice_cmp nat_cmp q o) h in
-        let no : is_gt (slice_cmp nat_cmp p o) ≡ false = upto nat_list_cmp_total p q o first second in
-        let yes : is_gt (slice_cmp nat_cmp p o) ≡ true = ap is_gt is in absurd (cc)
+          let first : is_gt (slice_cmp nat_cmp p q) ≡ false = ap is_gt less in
+          let second : is_gt (slice_cmp nat_cmp q o) ≡ false = not_greater (slice_cmp nat_cmp q o) h in
+          let no : is_gt (slice_cmp nat_cmp p o) ≡ false = upto nat_list_cmp_total p q o first second in
+          let yes : is_gt (slice_cmp nat_cmp p o) ≡ true = ap is_gt is in absurd (cc)
     ] refl
 
 pub partitioned : (o : List ℕ) (rows : List Row) → IsRising rows → IsPartitionedBy (is_up_to o) rows
@@ -64,3 +65,38 @@ ahead_back o [] (suc place) h = tt
 ahead_back o (row ∷ rows) zero h =
     (is_behind o row.name.items (h 0 row (omega arith) (omega arith)), ahead_back o rows zero (λ k d from below. h (suc k) d (omega arith) (omega (arith, below))))
 ahead_back o (row ∷ rows) (suc place) h = ahead_back o rows place (λ k d from below. h (suc k) d (omega (arith, from)) (omega (arith, below)))
+
+-- ---- one row after the other
+
+-- one more row that isn't behind the name
+pub passed_more : (o : List ℕ) (rows : List Row) (place : ℕ) (row : Row) → slice_get rows place ≡ Some row → is_gt (slice_cmp nat_cmp row.name.items o) ≡ false
+    → IsBeforeNone o (map entry_of (take place rows)) → IsBeforeNone o (map entry_of (take (place + 1) rows))
+passed_more o rows place row at other h = subst (λ (n : ℕ). IsBeforeNone o (map entry_of (take n rows))) (sym (add-one place)) (more rows place at h) where
+  not_less : slice_cmp nat_cmp o row.name.items ≡ Less → ⊥
+  not_less less = let greater : slice_cmp nat_cmp row.name.items o ≡ Greater = turned o row.name.items Less less in cc
+
+  more : (rows : List Row) (place : ℕ) → slice_get rows place ≡ Some row → IsBeforeNone o (map entry_of (take place rows)) → IsBeforeNone o (map entry_of (take (suc place) rows))
+  more [] place at h = let no : ⊥ = cc in absurd no
+  more (first ∷ rows) zero at h = let same : row ≡ first = cc in (subst (λ (r : Row). slice_cmp nat_cmp o r.name.items ≡ Less → ⊥) same not_less, tt)
+  more (first ∷ rows) (suc place) at h = (h.0, more rows place at h.1)
+
+-- the rows from the first behind the name on
+pub ahead_from : (o : List ℕ) (rows : List Row) (place : ℕ) (row : Row) → IsRising rows → slice_get rows place ≡ Some row → is_gt (slice_cmp nat_cmp row.name.items o) ≡ true
+    → IsBeforeAll o (map entry_of (drop place rows))
+ahead_from o [] place row rising at behind = let no : ⊥ = cc in absurd no
+ahead_from o (first ∷ rows) zero row rising at behind =
+    let same : first ≡ row = cc in
+    let less : slice_cmp nat_cmp o first.name.items ≡ Less = subst (λ (r : Row). slice_cmp nat_cmp o r.name.items ≡ Less) (sym same) (less_from_greater o row.name.items behind) in
+    (less, before_more o first.name.items (map entry_of rows) less (before_all first.name.items (map entry_of rows) (first_of_both _ _ rising))) where
+      less_from_greater : (o p : List ℕ) → is_gt (slice_cmp nat_cmp p o) ≡ true → slice_cmp nat_cmp o p ≡ Less
+      less_from_greater o p h =
+          elim (slice_cmp nat_cmp p o) as (λ r. slice_cmp nat_cmp p o ≡ r → is_gt r ≡ true → slice_cmp nat_cmp o p ≡ Less) [
+            | Less ↦ λ _ no_greater. absurd (cc)
+            | Equal ↦ λ _ no_greater. absurd (cc)
+            | Greater ↦ λ is _. turned p o Greater is
+          ] refl h
+
+      before_more : (o p : List ℕ) (es : List (List ℕ × Datum)) → slice_cmp nat_cmp o p ≡ Less → IsBeforeAll p es → IsBeforeAll o es
+      before_more o p [] less h = tt
+      before_more o p (e ∷ es) less h = (nat_list_cmp_total.trans o p e.0 less h.0, before_more o p es less h.1)
+ahead_from o (first ∷ rows) (suc place) row rising at behind = ahead_from o rows place row (second_of_both _ _ rising) at behind

@@ -95,10 +95,10 @@ row_only l name tag text e (Ok (line.Instance row)) h = only_instance where
   only_instance nothing k = absurd (e.not_blank k)
   only_instance (object_prefix o) k = absurd (e.no_object k.0 k.1)
   only_instance (instance p) k =
-    let same = same_rows l name tag text k.0 k.1 k.2 e k.3 in
-    let P : List ℕ → Type 0 = λ n. IsInstanceText n p.name in
-    let named : p.name ≡ row.name.items = h.only_name p.name (subst P same.0 k.4) in
-    let Q : List ℕ → Type 0 = λ t. IsValueText t k.2 p.value in
-    let R : List ℕ → Type 0 = λ x. IsValueText tag x p.value in
-    let valued : p.value ≡ datum_of row.value = h.only_value p.value (subst R same.2 (subst Q same.1 k.5)) in
-    λ i. instance (record { name = named i; value = valued i })
+      let same = same_rows l name tag text k.0 k.1 k.2 e k.3 in
+      let P : List ℕ → Type 0 = λ n. IsInstanceText n p.name in
+      let named : p.name ≡ row.name.items = h.only_name p.name (subst P same.0 k.4) in
+      let Q : List ℕ → Type 0 = λ t. IsValueText t k.2 p.value in
+      let R : List ℕ → Type 0 = λ x. IsValueText tag x p.value in
+      let valued : p.value ≡ datum_of row.value = h.only_value p.value (subst R same.2 (subst Q same.1 k.5)) in
+      λ i. instance (record { name = named i; value = valued i })

@@ -47,7 +47,7 @@ is_next view o front [] apart = end_of_view (λ q row behind. later_listed view 
 is_next view o front (p ∷ back) apart = successor record {
   row = apart.found p.0 ∙ find-listed p (front ++ p ∷ back) apart.rising (listed_in_second p front (p ∷ back) (inl refl));
   behind = precedes_from_less o p.0 apart.ahead.0;
-  nearest = λ q row behind. nearest_in p back q (before_later front back p apart.rising) (later_listed view o front (p ∷ back) apart q row behind)
+  nearest = λ q row behind. nearest_in p back q (before_later front back p apart.rising) (later_listed view o front (p ∷ back) apart q row behind);
 }
 
 -- past an entry
@@ -58,7 +58,7 @@ past view o front back p apart =
       found = λ q. apart.found q ∙ ap (find (slice_cmp nat_cmp) q) (sym whole);
       rising = subst (λ (es : List (List ℕ × Datum)). T (is_sorted (slice_cmp nat_cmp) es)) (sym whole) apart.rising;
       passed = before_no_earlier front back p apart.rising;
-      ahead = before_later front back p apart.rising
+      ahead = before_later front back p apart.rising;
     }
 
 -- asked first from o, and then so many times more from what that gave
@@ -83,12 +83,12 @@ apart_at : (rows : List Row) (objects : List (List ℕ)) (o : List ℕ) (place :
     → StandsApart (view_of rows objects) o (map entry_of (take place rows)) (map entry_of (drop place rows))
 apart_at rows objects o place rising passed ahead =
     let whole : map entry_of rows ≡ map entry_of (take place rows) ++ map entry_of (drop place rows) =
-        ap (map entry_of) (sym (take-append-drop place rows)) ∙ map-append entry_of (take place rows) (drop place rows) in
+    ap (map entry_of) (sym (take-append-drop place rows)) ∙ map-append entry_of (take place rows) (drop place rows) in
     record {
       found = λ q. get-from_sorted (slice_cmp nat_cmp) (map entry_of rows) q rising ∙ ap (find (slice_cmp nat_cmp) q) whole;
       rising = subst (λ (es : List (List ℕ × Datum)). T (is_sorted (slice_cmp nat_cmp) es)) whole rising;
       passed = passed;
-      ahead = ahead
+      ahead = ahead;
     }
 
 pub next_after_at : (rows : List Row) (objects : List (List ℕ)) (o : List ℕ) (place rounds : ℕ) → IsRising rows

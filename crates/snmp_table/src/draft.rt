@@ -55,7 +55,10 @@ impl Draft {
         ensures rows { IfOk result (λ parts. parts.0.items ≡ map row_of self.rows.entries) }
         ensures objects { IfOk result (λ parts. parts.1 ≡ self.objects) }
     {
-        let rows = self.rows.into_iter().map(|(name, value)| Row { name, value });
+        let rows = self
+            .rows
+            .into_iter()
+            .map(|(name, value)| Row { name, value });
         Ok((rows.collect(alloc)?, self.objects))
     }
 }

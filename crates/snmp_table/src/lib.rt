@@ -9,10 +9,9 @@ mod line;
 mod row;
 mod split;
 mod table;
-mod value;
-
 #[cfg(test)]
 mod tests;
+mod value;
 
 pub use error::TableError;
 pub use table::Table;

@@ -51,8 +51,14 @@ impl From<AllocError> for LineFault {
 #[derive(Clone, Copy)]
 enum Form<'a> {
     Blank,
-    Object { text: &'a [u8] },
-    Row { name: &'a [u8], tag: Tag, text: &'a [u8] },
+    Object {
+        text: &'a [u8],
+    },
+    Row {
+        name: &'a [u8],
+        tag: Tag,
+        text: &'a [u8],
+    },
 }
 
 /// What a line states.
@@ -129,5 +135,9 @@ fn instance_name(text: &[u8]) -> Option<Oid>
     ensures { IsOnly (IsInstanceText text.now) result }
 {
     let oid = name(text)?;
-    if oid.len() >= 3 && oid.is_wire() { Some(oid) } else { None }
+    if oid.len() >= 3 && oid.is_wire() {
+        Some(oid)
+    } else {
+        None
+    }
 }

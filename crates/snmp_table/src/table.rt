@@ -14,10 +14,10 @@ use crate::draft::Draft;
 use crate::error::TableError;
 use crate::row::{Row, identifier};
 use crate::split::split_line;
+use snmp_wire::{Binding, Oid, ValueRef};
 use std::alloc::Global;
 use std::collections::BTreeSet;
 use std::marker::Model;
-use snmp_wire::{Binding, Oid, ValueRef};
 
 /// What an agent serves.
 #[derive(Drop)]
@@ -116,7 +116,11 @@ fn row_at<'a>(rows: &'a [Row], name: &[u32]) -> Option<&'a Row>
 {
     let (front, _) = rows.split_at(place_behind(rows, name));
     let row = front.last()?;
-    if row.name.as_slice() == name { Some(row) } else { None }
+    if row.name.as_slice() == name {
+        Some(row)
+    } else {
+        None
+    }
 }
 
 /// Whether the name equals one of the object prefixes or begins with it.
@@ -177,5 +181,62 @@ fn end_of_mib_view<'a>(name: &[u32]) -> Binding<'a>
     Binding {
         name: identifier(name),
         value: ValueRef::EndOfMibView,
+    }
+}
+
+#[cfg(test)]
+mod tests {
+    use super::*;
+    use snmp_wire::parse_numeric;
+    use std::test::Fail;
+
+    /// The definition's program for `place_behind`: one row after the other.
+    fn scan(rows: &[Row], name: &[u32]) -> usize
+        requires { IsRising rows.now }
+        ensures bound { result ≤ length rows.now }
+        ensures passed { IsBeforeNone name.now (map entry_of (take result rows.now)) }
+        ensures ahead { IsBeforeAll name.now (map entry_of (drop result rows.now)) }
+    {
+        'rows: for (place, row) in rows.iter().enumerate() {
+            if row.name.as_slice().cmp(name).is_gt() {
+                return place;
+            }
+        }
+        rows.len()
+    }
+
+    const TEXT: &[u8] =
+        b"1.3.6.1|2|1\n1.3.6|2|2\n1.3.6.1.0|2|3\n1.3.7|2|4\n2.999.1|2|5\n0.39.4294967295|2|6\n1.3.6.10|2|7\n1.3.6.2|2|8";
+
+    const NAMES: &[&[u8]] = &[
+        b".",
+        b"0",
+        b"0.39.4294967295",
+        b"1.3",
+        b"1.3.6",
+        b"1.3.6.0",
+        b"1.3.6.1",
+        b"1.3.6.1.0.0",
+        b"1.3.6.2",
+        b"1.3.6.9",
+        b"1.3.6.10",
+        b"1.3.8",
+        b"2.999",
+        b"2.999.1",
+        b"3",
+    ];
+
+    #[test]
+    fn the_search_finds_what_a_scan_finds(rt: HostRuntime) -> Result<(), Fail> {
+        let table = Table::read(rt.alloc(), TEXT)?;
+        let rows = table.rows.as_slice();
+        for name in NAMES {
+            let name = parse_numeric(name)?;
+            assert_eq!(rt;
+                place_behind(rows, name.as_slice()),
+                scan(rows, name.as_slice())
+            );
+        }
+        Ok(())
     }
 }

@@ -94,7 +94,9 @@ fn decimal(text: &[u8]) -> Option<u64>
         if !octet.is_ascii_digit() {
             return None;
         }
-        number = number.checked_mul(10)?.checked_add(u64::from(*octet - b'0'))?;
+        number = number
+            .checked_mul(10)?
+            .checked_add(u64::from(*octet - b'0'))?;
     }
     Some(number)
 }

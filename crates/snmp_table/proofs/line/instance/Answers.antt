@@ -14,5 +14,5 @@ returns-in_ok-from_slice-in-Some-2 c =
       named = subst P (sym name) c.in-Some.ensures.0;
       only_name = λ o h. c.in-Some.ensures.1 o h ∙ sym name;
       valued = value.0;
-      only_value = value.1
+      only_value = value.1;
     }

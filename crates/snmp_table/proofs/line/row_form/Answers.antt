@@ -17,7 +17,7 @@ returns-in_err-tag c =
     rw c.from_residual-in_err-tag.ensures record {
       not_blank = c.requires.not_blank;
       no_object = c.requires.no_object;
-      no_row = λ name tag text row. no_row_with_one_bar c.args.line.now c.in_ok-name.name.now c.in_ok-name.behind.now name tag text cut.0 cut.1 none row
+      no_row = λ name tag text row. no_row_with_one_bar c.args.line.now c.in_ok-name.name.now c.in_ok-name.behind.now name tag text cut.0 cut.1 none row;
     }
 
 pub returns-in_err-from_text : goal.returns-in_err-from_text
@@ -29,8 +29,8 @@ returns-in_err-from_text c =
       not_blank = c.requires.not_blank;
       no_object = c.requires.no_object;
       no_row = λ name tag text row.
-        let same = same_parts c.args.line.now c.in_ok-name.name.now c.in_ok-name.behind.now c.in_ok-tag.tag.now c.in_ok-tag.text.now name tag text cut.0 cut.1 second.0 second.1 row in
-        unknown (subst IsTag same.1 row.known)
+          let same = same_parts c.args.line.now c.in_ok-name.name.now c.in_ok-name.behind.now c.in_ok-tag.tag.now c.in_ok-tag.text.now name tag text cut.0 cut.1 second.0 second.1 row in
+          unknown (subst IsTag same.1 row.known);
     }
 
 pub returns : goal.returns
@@ -44,5 +44,5 @@ returns c =
       parts = row_parts c.args.line.now c.in_ok-name.name.now c.in_ok-name.behind.now c.in_ok-tag.tag.now c.in_ok-tag.text.now (tag_text c.in_ok-from_text.field-0) cut.0 second.0 tag;
       name_ends = cut.1;
       tag_ends = subst HasNoBar tag second.1;
-      known = tag_known c.in_ok-from_text.field-0
+      known = tag_known c.in_ok-from_text.field-0;
     }

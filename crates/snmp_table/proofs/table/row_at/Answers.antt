@@ -24,7 +24,7 @@ returns-then-eq-clause-value c =
     let row = c.in_ok-row.row.now in
     let last : IsLast (take place rows) row = sym (rw c.split_at.ensures.front at c.in_ok-row.ensures.value) in
     let same : Decides c.eq.result (row.name.items ≡ c.args.name.now) =
-        slice_eq-Decides Decides-eqb row.name.items c.args.name.now c.eq.result (cc (c.eq.ensures, c.as_slice.ensures.value)) in
+    slice_eq-Decides Decides-eqb row.name.items c.args.name.now c.eq.result (cc (c.eq.ensures, c.as_slice.ensures.value)) in
     sym (found_last rows place (length (take place rows) - 1) c.args.name.now row c.requires last (same.0 c.if-eq.true))
 
 pub returns-else-eq-clause-value : goal.returns-else-eq-clause-value
@@ -34,7 +34,7 @@ returns-else-eq-clause-value c =
     let row = c.in_ok-row.row.now in
     let last : IsLast (take place rows) row = sym (rw c.split_at.ensures.front at c.in_ok-row.ensures.value) in
     let same : Decides c.eq.result (row.name.items ≡ c.args.name.now) =
-        slice_eq-Decides Decides-eqb row.name.items c.args.name.now c.eq.result (cc (c.eq.ensures, c.as_slice.ensures.value)) in
+    slice_eq-Decides Decides-eqb row.name.items c.args.name.now c.eq.result (cc (c.eq.ensures, c.as_slice.ensures.value)) in
     let other : (r : Row) → IsLast (take place rows) r → r.name.items ≡ c.args.name.now → ⊥ =
-        λ r is_last name. let e : r ≡ row = cc in let yes_same : c.eq.result ≡ true = same.1 (ap (λ (x : Row). x.name.items) (sym e) ∙ name) in absurd (cc (c.if-eq.false)) in
+    λ r is_last name. let e : r ≡ row = cc in let yes_same : c.eq.result ≡ true = same.1 (ap (λ (x : Row). x.name.items) (sym e) ∙ name) in absurd (cc (c.if-eq.false)) in
     sym (found_none rows place c.args.name.now c.requires c.place_behind.ensures.passed c.place_behind.ensures.ahead other)

@@ -29,7 +29,7 @@ returns-in-Ok-None c = λ before h.
     let row = c.in-Ok-Instance.row in
     let only : StatesOnly c.args.line.now (instance (var_of (entry_of row))) = (rw c.in-Ok-Instance.field-0-is at c.in-Ok-Instance.ensures.states, rw c.in-Ok-Instance.field-0-is at c.in-Ok-Instance.ensures.only) in
     let absent : find (slice_cmp nat_cmp) row.name.items (draft_entries c.args.self.now) ≡ None =
-        find-lookup c.args.self.now.rows.entries row.name ∙ ap (option_map datum_of) (sym c.in-Ok-None.ensures.old ∙ c.in-Ok-None.field-0-is) in
+    find-lookup c.args.self.now.rows.entries row.name ∙ ap (option_map datum_of) (sym c.in-Ok-None.ensures.old ∙ c.in-Ok-None.field-0-is) in
     let holds = holds_instance before c.args.line.now (draft_entries c.args.self.now) (draft_objects c.args.self.now) h (var_of (entry_of row)) only absent in
     let entries = ap (map entry_of_pair) c.in-Ok-None.ensures.entries ∙ entries-insert c.args.self.now.rows.entries row.name row.value in
     let P : List (List ℕ × Datum) → Type 0 = λ es. Holds (before ++ c.args.line.now ∷ []) es (draft_objects c.args.self.now) in
@@ -40,5 +40,5 @@ returns-in-Ok-Some c = λ before h.
     let row = c.in-Ok-Instance.row in
     let states : States c.args.line.now (instance (var_of (entry_of row))) = rw c.in-Ok-Instance.field-0-is at c.in-Ok-Instance.ensures.states in
     let found : find (slice_cmp nat_cmp) row.name.items (draft_entries c.args.self.now) ≡ Some (datum_of c.in-Ok-Some.field-0-0) =
-        find-lookup c.args.self.now.rows.entries row.name ∙ ap (option_map datum_of) (sym c.in-Ok-Some.ensures.old ∙ c.in-Ok-Some.field-0-is) in
+    find-lookup c.args.self.now.rows.entries row.name ∙ ap (option_map datum_of) (sym c.in-Ok-Some.ensures.old ∙ c.in-Ok-Some.field-0-is) in
     (refl, double before c.args.line.now (draft_entries c.args.self.now) (draft_objects c.args.self.now) h (var_of (entry_of row)) (datum_of c.in-Ok-Some.field-0-0) states found)

@@ -38,8 +38,8 @@ returns-in-None-2-clause-answer c =
     let o = c.args.name.now in
     let nothing : None ≡ find (slice_cmp nat_cmp) o (map entry_of rows) = rw (c.as_slice.ensures.value, c.as_slice-numbers.ensures.value) at c.in-None.ensures.value in
     let never : HasBeginning objects o → ⊥ = λ h.
-        let h2 : HasBeginning objects c.as_slice-numbers.result.now = rw (← c.as_slice-numbers.ensures.value) at h in
-        let yes_it : c.has_beginning.result ≡ true = c.has_beginning.ensures.1 h2 in absurd (cc (c.if-has_beginning.false)) in
+    let h2 : HasBeginning objects c.as_slice-numbers.result.now = rw (← c.as_slice-numbers.ensures.value) at h in
+    let yes_it : c.has_beginning.result ≡ true = c.has_beginning.ensures.1 h2 in absurd (cc (c.if-has_beginning.false)) in
     let P : MibView → Type 0 = λ view. IsGet view o (record { name = o; value = no_such_object }) in
     subst P c.self.view_is (get_no_object rows objects o c.self.invariant.rising (sym nothing) never)
 

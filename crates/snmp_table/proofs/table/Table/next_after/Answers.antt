@@ -17,9 +17,9 @@ answered c =
     let passed : IsBeforeNone o (map entry_of (take place rows)) = rw (← c.as_slice.ensures.value, ← c.as_slice-rows.ensures.value) c.place_behind.ensures.passed in
     let ahead : IsBeforeAll o (map entry_of (drop place rows)) = rw (← c.as_slice.ensures.value, ← c.as_slice-rows.ensures.value) c.place_behind.ensures.ahead in
     let after : IsNextAfter (view_of rows (map (λ o. o.items) c.self.inside.objects.keys)) c.args.rounds o (nth_or_end o (bindings_of (drop place rows)) c.args.rounds) =
-        next_after_at rows (map (λ o. o.items) c.self.inside.objects.keys) o place c.args.rounds c.self.invariant.rising passed ahead in
+    next_after_at rows (map (λ o. o.items) c.self.inside.objects.keys) o place c.args.rounds c.self.invariant.rising passed ahead in
     let same : var_bind c.nth_or_end.result ≡ nth_or_end o (bindings_of (drop place rows)) c.args.rounds =
-        c.nth_or_end.ensures ∙ ap (λ (rs : List Row). nth_or_end o (bindings_of rs) c.args.rounds) (c.split_at.ensures.back ∙ ap (drop place) c.as_slice-rows.ensures.value) in
+    c.nth_or_end.ensures ∙ ap (λ (rs : List Row). nth_or_end o (bindings_of rs) c.args.rounds) (c.split_at.ensures.back ∙ ap (drop place) c.as_slice-rows.ensures.value) in
     let P : VarBind → Type 0 = λ p. IsNextAfter c.args.self.now c.args.rounds o p in
     let Q : MibView → Type 0 = λ view. IsNextAfter view c.args.rounds o (nth_or_end o (bindings_of (drop place rows)) c.args.rounds) in
     subst P (sym same) (subst Q c.self.view_is after)
@@ -31,5 +31,5 @@ pub returns : goal.returns
 returns c = record {
   answer = answered c;
   name = λ wire. next_after_name c.args.self.now c.args.rounds c.args.name.now (var_bind c.nth_or_end.result) (view c) wire (answered c);
-  value = next_after_value c.args.self.now c.args.rounds c.args.name.now (var_bind c.nth_or_end.result) (view c) (answered c)
+  value = next_after_value c.args.self.now c.args.rounds c.args.name.now (var_bind c.nth_or_end.result) (view c) (answered c);
 }

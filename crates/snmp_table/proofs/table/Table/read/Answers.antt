@@ -14,7 +14,7 @@ pub returns-in_err-add-clause-fault : goal.returns-in_err-add-clause-fault
 returns-in_err-add-clause-fault c =
     let p = err_from_is_err_and c.from_residual.result c.from_residual.ensures.1 in
     let fault = fault_at c.args.text.now c.lines.rest.now c.split_line.result.0.now c.split_line.result.1.now c.lines.draft c.lines.number c.lines.invariant c.split_line.ensures.lines
-      c.in_err-add.field-0.0 (c.in_err-add.ensures c.lines.invariant.done c.lines.invariant.holds) in
+    c.in_err-add.field-0.0 (c.in_err-add.ensures c.lines.invariant.done c.lines.invariant.holds) in
     rw (p.1, p.2) fault
 
 pub lines-preserved : goal.lines-preserved
@@ -40,11 +40,11 @@ invariant_of-result c =
     let end : c.lines.rest.now ≡ [] = nothing_left c.lines.rest.now c.is_empty.result c.is_empty.ensures c.lines-test.false in
     kept (lines c.args.text.now) c.in-Ok.rows.items (map (λ o. o.items) c.in-Ok.objects.keys)
     (held c.args.text.now c.lines.rest.now c.lines.draft c.lines.number c.in-Ok.rows.items (map (λ o. o.items) c.in-Ok.objects.keys) c.lines.invariant end c.in-Ok.ensures.rows
-      (ap (λ objects. map (λ o. o.items) objects.keys) c.in-Ok.ensures.objects))
+    (ap (λ objects. map (λ o. o.items) objects.keys) c.in-Ok.ensures.objects))
 
 pub returns-in-Ok-clause-table : goal.returns-in-Ok-clause-table
 returns-in-Ok-clause-table c =
     let end : c.lines.rest.now ≡ [] = nothing_left c.lines.rest.now c.is_empty.result c.is_empty.ensures c.lines-test.false in
     table_of (lines c.args.text.now) c.in-Ok.rows.items (map (λ o. o.items) c.in-Ok.objects.keys)
     (held c.args.text.now c.lines.rest.now c.lines.draft c.lines.number c.in-Ok.rows.items (map (λ o. o.items) c.in-Ok.objects.keys) c.lines.invariant end c.in-Ok.ensures.rows
-      (ap (λ objects. map (λ o. o.items) objects.keys) c.in-Ok.ensures.objects))
+    (ap (λ objects. map (λ o. o.items) objects.keys) c.in-Ok.ensures.objects))
