@@ -7,7 +7,7 @@ use Rattle.snmp_wire.specs.Number.{Form, lenient}
 use Rattle.snmp_wire.specs.Spelling.{IsContent, SpellsBinding, SpellsBindings, Spells, sequence_tag, value_tag}
 use Rattle.snmp_wire.specs.Canon.{IsEncodable, IsEncodableValue, canon_binding, canon_content, canon_element, canon_value}
 use Rattle.snmp_wire.proofs.ElementLemmas.{length-canon_element}
-use Rattle.snmp_table.specs.Table.{MibView, IsMibView, IsInstanceValue, IsGet, variable, unknown_object, unknown_instance, IsNext, successor, end_of_view}
+use Rattle.snmp_table.specs.Table.{IsAnswerValue}
 use Rattle.snmp_agent.specs.Answering.{HasEncoding, IsWritable, AreWritable, IsShortValue}
 
 -- ---- what is read
@@ -38,29 +38,21 @@ read_message q octets h = read_bindings q.bindings h.is_pdu.bindings h.is_pdu.ar
 
 -- ---- what a table serves
 
-instance_value : (value : Datum) → IsInstanceValue value → HasEncoding value
-instance_value (object_id name) h = h.0
-instance_value (integer_value z) h = tt
-instance_value (octet_string text) h = tt
-instance_value null_value h = tt
-instance_value (ip_address address) h = tt
-instance_value (counter32 n) h = tt
-instance_value (gauge32 n) h = tt
-instance_value (time_ticks n) h = tt
-instance_value (opaque_octets text) h = tt
-instance_value (counter64 n) h = tt
-instance_value no_such_object h = tt
-instance_value no_such_instance h = tt
-instance_value end_of_mib_view h = tt
-
-pub got_writable : (view : MibView) (o : List ℕ) (p : VarBind) → IsMibView view → IsWire o → IsGet view o p → IsWritable p
-got_writable view o p lawful wire (variable name row) = record { name = (lawful.names p row).wire; value = instance_value p.value (lawful.values p row) }
-got_writable view o p lawful wire (unknown_object missing hasnt same) = subst (λ (x : VarBind). IsWritable x) (sym same) (record { name = wire; value = tt })
-got_writable view o p lawful wire (unknown_instance missing has same) = subst (λ (x : VarBind). IsWritable x) (sym same) (record { name = wire; value = tt })
-
-pub next_writable : (view : MibView) (o : List ℕ) (p : VarBind) → IsMibView view → IsWire o → IsNext view o p → IsWritable p
-next_writable view o p lawful wire (successor s) = record { name = (lawful.names p s.row).wire; value = instance_value p.value (lawful.values p s.row) }
-next_writable view o p lawful wire (end_of_view last same) = subst (λ (x : VarBind). IsWritable x) (sym same) (record { name = wire; value = tt })
+-- what a table answers has an encoding
+pub answer_value : (value : Datum) → IsAnswerValue value → HasEncoding value
+answer_value (object_id name) h = h.0
+answer_value (integer_value z) h = tt
+answer_value (octet_string text) h = tt
+answer_value null_value h = tt
+answer_value (ip_address address) h = tt
+answer_value (counter32 n) h = tt
+answer_value (gauge32 n) h = tt
+answer_value (time_ticks n) h = tt
+answer_value (opaque_octets text) h = tt
+answer_value (counter64 n) h = tt
+answer_value no_such_object h = tt
+answer_value no_such_instance h = tt
+answer_value end_of_mib_view h = tt
 
 -- ---- what is written
 

@@ -9,3 +9,6 @@ mod draft;
 
 pub use agent::answer;
 pub use config::{Config, Outcome, Why};
+
+#[cfg(test)]
+mod tests;
