@@ -1,0 +1,38 @@
+-- What a walk gives of the rows of a table, in the order of their names.
+use Rattle.std.specs.Prelude.{ℕ, List, [], ◌∷◌, ◌++◌, filter}
+use Rattle.std.specs.List.{list_any}
+use Rattle.std.specs.Bool.{nat_eq}
+use Rattle.std.specs.Cmp.Lexicographic.{pointwise}
+use Rattle.snmp_oid.specs.Identifier.{wire}
+use Rattle.snmp_wire.specs.Message.{VarBind}
+use Rattle.snmp_walk.specs.declared.mode.Mode.{Mode}
+use Rattle.snmp_walk.specs.declared.mode.Mode.TheVariants.{Plain, Include, NoLast}
+use Rattle.snmp_walk.specs.Names.{is_below, comes_after}
+
+-- the rows below the root
+abbrev pub rows_below : List ℕ → List VarBind → List VarBind
+rows_below root rows = filter (λ row. is_below root row.name) rows
+
+-- the rows behind a name
+abbrev pub rows_after : List ℕ → List VarBind → List VarBind
+rows_after o rows = filter (λ row. comes_after o row.name) rows
+
+-- the row of a name, if there is one
+abbrev pub rows_named : List ℕ → List VarBind → List VarBind
+rows_named o rows = filter (λ row. pointwise nat_eq row.name o) rows
+
+-- the rows, or this binding where there are none
+abbrev pub or_only : VarBind → List VarBind → List VarBind
+or_only got [] = got ∷ []
+or_only got (row ∷ rows) = row ∷ rows
+
+-- What a walk gives, `got` being what a Get of the root answers: the rows below the root, or that answer alone where there are none;
+-- including the root: its own row, if there is one, and then those; or just those.
+abbrev pub walk_of : Mode → List ℕ → VarBind → List VarBind → List VarBind
+walk_of Plain root got rows = or_only got (rows_below root rows)
+walk_of Include root got rows = rows_named (wire root) rows ++ rows_below root rows
+walk_of NoLast root got rows = rows_below root rows
+
+-- what is left of it behind a name
+abbrev pub rest_of : List ℕ → List ℕ → List VarBind → List VarBind
+rest_of root o rows = rows_after o (rows_below root rows)
