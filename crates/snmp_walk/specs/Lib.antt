@@ -1,3 +1,6 @@
 pub mod Names
 pub mod Walk
 pub mod Trail
+pub mod Walker
+pub mod Request
+pub mod Taken

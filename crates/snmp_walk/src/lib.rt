@@ -3,6 +3,14 @@
 //! Stands on the messages. The core says which request to send and reads what comes back; a run hands both to a link and gives each binding to a sink.
 #![tactic(auto)]
 
+mod end;
 mod mode;
+mod phase;
+mod rows;
+mod walker;
 
+pub use end::{LinkFault, SinkFault, StartError, WalkEnd};
 pub use mode::{Method, Mode};
+pub use phase::Phase;
+pub use rows::{Rows, Step};
+pub use walker::WalkCore;
