@@ -1,1 +1,4 @@
 pub mod NameLemmas
+pub mod RequestLemmas
+pub mod FrontLemmas
+pub mod SpelledLemmas

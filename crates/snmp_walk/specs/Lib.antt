@@ -4,3 +4,4 @@ pub mod Trail
 pub mod Walker
 pub mod Request
 pub mod Taken
+pub mod Reading

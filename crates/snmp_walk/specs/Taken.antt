@@ -1,6 +1,6 @@
 -- What a message means to a walk (RFC 3416, section 4.2, and this project's profile): the rules by which a reply is judged, as one function of
 -- the walk's state and the message.
-use Rattle.std.specs.Prelude.{ℕ, zero, suc, unsigned_abs, ℤ, pos, Bool, true, false, ◌&&◌, ◌||◌, not, ◌==◌, nat_lt, if◌then◌else◌, ◌+◌, List, [], ◌∷◌, length, Option, Some, None, take_while}
+use Rattle.std.specs.Prelude.{◌≡◌, ◌⊎◌, ℕ, zero, suc, unsigned_abs, ℤ, pos, Bool, true, false, ◌&&◌, ◌||◌, not, ◌==◌, nat_lt, if◌then◌else◌, ◌+◌, List, [], ◌∷◌, length, Option, Some, None, take_while}
 use Rattle.std.specs.List.{list_any}
 use Rattle.std.specs.Bool.{nat_eq}
 use Rattle.std.specs.Ordering.{int_eq}
@@ -8,6 +8,7 @@ use Rattle.std.specs.Cmp.Lexicographic.{pointwise}
 use Rattle.snmp_wire.specs.declared.kind.Kind.{Kind}
 use Rattle.snmp_wire.specs.declared.kind.Kind.TheVariants as kind
 use Rattle.snmp_wire.specs.Message.{VarBind, Message}
+use Rattle.snmp_wire.specs.Spelling.{Spells}
 use Rattle.snmp_walk.specs.declared.mode.Mode.{Mode}
 use Rattle.snmp_walk.specs.declared.mode.Mode.TheVariants as mode
 use Rattle.snmp_walk.specs.declared.mode.Method.{Method}
@@ -127,3 +128,9 @@ reads_reply w m = if int_eq m.a (pos 0) then reads_for w.phase w m.bindings else
 -- what a message is to a walk, and the walk after it
 abbrev pub take_of : Walker → Message → Step × Walker
 take_of w m = if is_awaited w m then reads_reply w m else (step.Stray, w)
+
+-- The datagram is read by the message that it spells, and one that spells none changes nothing.
+abbrev pub Takes : Walker → List ℕ → Step → Walker → Type 0
+Takes old datagram given new =
+    ((m : Message) × Spells m datagram × (given ≡ (take_of old m).0) × (new ≡ (take_of old m).1))
+    ⊎ (((m : Message) → Spells m datagram → ⊥) × (given ≡ step.Stray) × (new ≡ old))

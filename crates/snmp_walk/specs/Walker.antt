@@ -31,4 +31,4 @@ pub record IsWalker (w : Walker) : Type 0 where
   pub community : length w.community ≤ 255
   pub asked : IsWire w.asked
   pub id : w.id < 2 ^ 31
-  pub count : w.count ≤ w.id * 2 ^ 31
+  pub count : w.count ≤ w.id * 2 ^ 32
