@@ -2,3 +2,5 @@ pub mod NameLemmas
 pub mod RequestLemmas
 pub mod FrontLemmas
 pub mod SpelledLemmas
+pub mod TrailLemmas
+pub mod StandingLemmas

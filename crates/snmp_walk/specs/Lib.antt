@@ -5,3 +5,4 @@ pub mod Walker
 pub mod Request
 pub mod Taken
 pub mod Reading
+pub mod Standing
