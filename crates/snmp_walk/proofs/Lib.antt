@@ -4,3 +4,5 @@ pub mod FrontLemmas
 pub mod SpelledLemmas
 pub mod TrailLemmas
 pub mod StandingLemmas
+pub mod OrderLemmas
+pub mod TableLemmas

@@ -14,6 +14,7 @@ use Rattle.snmp_walk.specs.declared.rows.Step.TheVariants as step
 use Rattle.snmp_walk.specs.Trail.{last_name, IsTrail, IsAtEnd}
 use Rattle.snmp_walk.specs.Taken.{asked_for, if_present}
 use Rattle.snmp_walk.specs.Walker.{Walker}
+use Rattle.snmp_walk.specs.Walk.{AreRising, AreInstances, or_end, rows_after, rows_named}
 
 -- each binding is an answer to a GetNext of the name before it
 abbrev pub IsChain : (List ℕ → VarBind → Type 0) → List ℕ → List VarBind → Type 0
@@ -106,3 +107,11 @@ abbrev pub Advances : (Next Got : List ℕ → VarBind → Type 0) → (VarBind 
 Advances Next Got Large first given step.Stray w = ⊥
 Advances Next Got Large first given (step.Rows more) w = Stands Next Got first w (given ++ more)
 Advances Next Got Large first given (step.Last more why) w = IsPart Next Got first (given ++ more) × Ends Next Got Large first (given ++ more) why
+
+-- The agents are one table: its rows by rising names, what it answers to a GetNext, and `got` to a Get of the name that the walk begins from.
+pub record IsOneTable (rows : List VarBind) (got : VarBind) (Next Got : List ℕ → VarBind → Type 0) (first : Walker) : Type 0 where
+  pub rising : AreRising rows
+  pub instances : AreInstances rows
+  pub next : (o : List ℕ) (p : VarBind) → Next o p → p ≡ or_end o (rows_after o rows)
+  pub answer : (p : VarBind) → Got first.asked p → p ≡ got
+  pub row : if_present got ≡ rows_named first.asked rows
