@@ -6,3 +6,4 @@ pub mod TrailLemmas
 pub mod StandingLemmas
 pub mod OrderLemmas
 pub mod TableLemmas
+pub mod AnyLemmas

@@ -27,17 +27,17 @@ use Rattle.snmp_walk.proofs.TrailLemmas.{last_name-append, trail-append, IsFront
 
 module _ (Next Got : List ℕ → VarBind → Type 0) (Large : VarBind → Type 0) (laws : AreAnswers Next Got) (first : Walker) where
   -- a step as a pair
-  abbrev Goes : List VarBind → Step × Walker → Type 0
+  abbrev pub Goes : List VarBind → Step × Walker → Type 0
   Goes given s = Advances Next Got Large first given s.0 s.1
 
-  part_of_stage : (given : List VarBind) (o : List ℕ) (p : Phase) → IsStage Next Got first given o p → IsPart Next Got first given
+  pub part_of_stage : (given : List VarBind) (o : List ℕ) (p : Phase) → IsStage Next Got first given o p → IsPart Next Got first given
   part_of_stage given o phase.First h = inl h.0
   part_of_stage given o phase.Rows h = inr (inl (o, h))
   part_of_stage given o phase.Last h = inl h.0
   part_of_stage given o phase.Over h = absurd h
 
   -- the walk goes on, or has no id left
-  goes : (given more : List VarBind) (w : Walker) (next : Phase) (s : Bool) → s ≡ nat_lt w.id 2147483647
+  pub goes : (given more : List VarBind) (w : Walker) (next : Phase) (s : Bool) → s ≡ nat_lt w.id 2147483647
       → Stands Next Got first w given → IsStage Next Got first (given ++ more) (last_name w.asked more) next
       → Goes given (cond s (step.Rows more, record w { phase = next; asked = last_name w.asked more; id = w.id + 1; count = w.count + length more }) (stops w more ending.TooManyRequests))
   goes given more w next true e h stage = record {
@@ -70,7 +70,7 @@ module _ (Next Got : List ℕ → VarBind → Type 0) (Large : VarBind → Type 
   mode_is : (w : Walker) (given : List VarBind) → Stands Next Got first w given → w.mode ≡ first.mode
   mode_is w given h = ap (λ (v : Walker). v.mode) h.same
 
-  root_is : (w : Walker) (given : List VarBind) → Stands Next Got first w given → w.root ≡ first.root
+  pub root_is : (w : Walker) (given : List VarBind) → Stands Next Got first w given → w.root ≡ first.root
   root_is w given h = ap (λ (v : Walker). v.root) h.same
 
   no_length : (xs : List VarBind) → length xs ≡ 0 → xs ≡ []
@@ -78,7 +78,7 @@ module _ (Next Got : List ℕ → VarBind → Type 0) (Large : VarBind → Type 
   no_length (x ∷ xs) e = absurd (omega (arith, e))
 
   -- nothing more stands below the root
-  closed : (given more : List VarBind) (w : Walker) (o : List ℕ) (b : Bool) → b ≡ (is_plain w.mode && (w.count + length more == 0))
+  pub closed : (given more : List VarBind) (w : Walker) (o : List ℕ) (b : Bool) → b ≡ (is_plain w.mode && (w.count + length more == 0))
       → Stands Next Got first w given → IsGiven Next Got first given w.asked → IsGiven Next Got first (given ++ more) o → IsAtEnd Next first.root o
       → Goes given (cond b (goes_on w phase.Last []) (stops w more (ending.Done (w.count + length more))))
   closed given more w o true e h before h' end =
@@ -98,7 +98,7 @@ module _ (Next Got : List ℕ → VarBind → Type 0) (Large : VarBind → Type 
         let no : ⊥ = cc in no)
 
   -- more of the trail
-  given_more : (given rows : List VarBind) (o : List ℕ) → IsGiven Next Got first given o → IsTrail Next first.root o rows
+  pub given_more : (given rows : List VarBind) (o : List ℕ) → IsGiven Next Got first given o → IsTrail Next first.root o rows
       → IsGiven Next Got first (given ++ rows) (last_name o rows)
   given_more given rows o h more = record {
       front = h.front; trail = h.trail ++ rows; opening = h.opening;
@@ -153,11 +153,11 @@ module _ (Next Got : List ℕ → VarBind → Type 0) (Large : VarBind → Type 
   present_name o p true e = refl
   present_name o p false e = e
 
-  include_opening : (m : Mode) (o : List ℕ) (p : VarBind) → m ≡ mode.Include → Got o p → IsOpening Got m o (if_present p)
+  pub include_opening : (m : Mode) (o : List ℕ) (p : VarBind) → m ≡ mode.Include → Got o p → IsOpening Got m o (if_present p)
   include_opening m o p e h = let P : Mode → Type 0 = λ n. IsOpening Got n o (if_present p) in subst P (sym e) (p, h, refl)
 
   -- the reply to the Get with which a walk begins
-  reads_root : (given : List VarBind) (w : Walker) (p : VarBind) → Stands Next Got first w given → IsStage Next Got first given w.asked phase.First
+  pub reads_root : (given : List VarBind) (w : Walker) (p : VarBind) → Stands Next Got first w given → IsStage Next Got first given w.asked phase.First
       → Got w.asked p → Goes given (reads_first w (Some p))
   reads_root given w p h stage answer =
       let at : Got first.asked p = subst (λ (o : List ℕ). Got o p) stage.1 answer in
@@ -168,7 +168,7 @@ module _ (Next Got : List ℕ → VarBind → Type 0) (Large : VarBind → Type 
       }
 
   -- the reply to the Get with which a walk ends that gave nothing
-  reads_alone : (given : List VarBind) (w : Walker) (p : VarBind) → Stands Next Got first w given → IsStage Next Got first given w.asked phase.Last
+  pub reads_alone : (given : List VarBind) (w : Walker) (p : VarBind) → Stands Next Got first w given → IsStage Next Got first given w.asked phase.Last
       → Got w.asked p → Goes given (reads_last w (Some p))
   reads_alone given w p h stage answer =
       let alone : IsAlone Next Got first (given ++ p ∷ []) = record {

@@ -1,6 +1,6 @@
 -- Where a walk stands between two replies, and how it may end, when each reply is an honest one to the request that was waiting: agents that answer
 -- GetNext as `Next` says and Get as `Got` says, and whose largest message has no room for a binding that is `Large`.
-use Rattle.std.specs.Prelude.{◌≡◌, ◌≢◌, ℕ, ℤ, pos, ◌≤◌, ◌⊎◌, List, [], ◌∷◌, ◌++◌, length}
+use Rattle.std.specs.Prelude.{◌≡◌, ◌≢◌, ℕ, ◌+◌, ◌^◌, ◌<◌, ℤ, pos, ◌≤◌, ◌⊎◌, true, false, List, [], ◌∷◌, ◌++◌, length}
 use Rattle.snmp_wire.specs.declared.kind.Kind.TheVariants as kind
 use Rattle.snmp_wire.specs.Message.{VarBind, Message}
 use Rattle.snmp_walk.specs.declared.mode.Mode.{Mode}
@@ -11,6 +11,7 @@ use Rattle.snmp_walk.specs.declared.end.WalkEnd.{WalkEnd}
 use Rattle.snmp_walk.specs.declared.end.WalkEnd.TheVariants as ending
 use Rattle.snmp_walk.specs.declared.rows.Step.{Step}
 use Rattle.snmp_walk.specs.declared.rows.Step.TheVariants as step
+use Rattle.snmp_walk.specs.Names.{is_end, is_missing, comes_after}
 use Rattle.snmp_walk.specs.Trail.{last_name, IsTrail, IsAtEnd}
 use Rattle.snmp_walk.specs.Taken.{asked_for, if_present}
 use Rattle.snmp_walk.specs.Walker.{Walker}
@@ -115,3 +116,16 @@ pub record IsOneTable (rows : List VarBind) (got : VarBind) (Next Got : List ℕ
   pub next : (o : List ℕ) (p : VarBind) → Next o p → p ≡ or_end o (rows_after o rows)
   pub answer : (p : VarBind) → Got first.asked p → p ≡ got
   pub row : if_present got ≡ rows_named first.asked rows
+
+-- What may be said of any replies at all: a name that is given for an instance comes after the one before it, and what is given for the root has its name.
+abbrev pub Rises : List ℕ → VarBind → Type 0
+Rises o p = (is_end p.value ≡ false → comes_after o p.name ≡ true) × (is_missing p.value ≡ false)
+
+abbrev pub Named : List ℕ → VarBind → Type 0
+Named o p = (p.name ≡ o) × (is_end p.value ≡ false)
+
+-- Whatever the message is: a stray changes nothing, a next request has the next id, and what was given rises.
+abbrev pub Keeps : Walker → Walker → List VarBind → Step → Walker → Type 0
+Keeps first old given step.Stray w = w ≡ old
+Keeps first old given (step.Rows more) w = (w.id ≡ old.id + 1) × (w.id < 2 ^ 31) × Stands Rises Named first w (given ++ more)
+Keeps first old given (step.Last more why) w = (w.phase ≡ phase.Over) × IsPart Rises Named first (given ++ more)
