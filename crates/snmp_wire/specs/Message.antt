@@ -1,6 +1,5 @@
 -- Values, variable bindings and messages as the standard has them (RFC 3416, section 3; RFC 1901, section 3), without where they lie in memory.
 use Rattle.std.specs.Prelude.{ℕ, ℤ, List, map}
-use Rattle.snmp_oid.specs.declared.oid.Oid.{Oid}
 use Rattle.snmp_wire.specs.declared.kind.Kind.{Kind}
 use Rattle.snmp_wire.specs.declared.value.ValueRef.{ValueRef}
 use Rattle.snmp_wire.specs.declared.value.ValueRef.TheVariants as value

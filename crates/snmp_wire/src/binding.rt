@@ -1,7 +1,16 @@
-//! A variable binding.
+//! Variable bindings, one and a list of them.
+ghost use Rattle.std.specs.Prelude.{◌≡◌, ℕ, List, [], length, IsOk, Ok};
+ghost use Rattle.snmp_wire.specs.Message.{var_bind};
+ghost use Rattle.snmp_wire.specs.Reading as reading;
+ghost use Rattle.snmp_wire.specs.Reading.{Gives, checked};
 
-use crate::ValueRef;
+use crate::identifier::{check_identifier, identifier_of};
+use crate::length::{SEQUENCE, element_at, inner_at};
+use crate::value::{check_value, value_of};
+use crate::{BerError, ValueRef};
 use snmp_oid::Oid;
+use std::alloc::AllocError;
+use std::marker::Model;
 
 /// A variable binding (RFC 3416, section 3): the name of an instance, and its value.
 #[derive(Debug, Drop, PartialEq)]
@@ -10,4 +19,134 @@ pub struct Binding<'a> {
     pub name: Oid,
     /// Its value, or an exception.
     pub value: ValueRef<'a>,
+}
+
+/// The bindings of a message, in order. Their strings lie in its datagram.
+#[derive(Debug, Drop)]
+pub struct Bindings<'a> {
+    rest: &'a [u8],
+}
+
+impl<'a> Model for Bindings<'a> {
+    ghost use Rattle.std.specs.Prelude.{List, IsOk};
+    ghost use Rattle.snmp_wire.specs.Message.{VarBind};
+    ghost use Rattle.snmp_wire.specs.Reading as reading;
+
+    ghost Value = { List VarBind };
+
+    ghost view = { λ s. reading.bindings_in s.rest.now };
+
+    ghost invariant = { λ s. IsOk (reading.bindings_of s.rest.now) };
+}
+
+impl<'a> Bindings<'a> {
+    /// The bindings that the octets are.
+    #[inline]
+    pub(crate) fn new(octets: &'a [u8]) -> Bindings<'a>
+        requires { IsOk (reading.bindings_of octets.now) }
+        ensures { result ≡ reading.bindings_in octets.now }
+    {
+        Bindings { rest: octets }
+    }
+}
+
+impl<'a> Clone for Bindings<'a> {
+    ghost is_clone = { λ bindings copy. copy ≡ bindings };
+
+    fn clone(&self) -> Result<Bindings<'a>, AllocError> {
+        Ok(Bindings { rest: self.rest })
+    }
+}
+
+impl<'a> Iterator for Bindings<'a> {
+    ghost use Rattle.std.specs.Iterator.{YieldsFirstBy, item_count};
+    ghost use Rattle.snmp_wire.specs.Message.{var_bind};
+
+    type Item = Binding<'a>;
+
+    ghost next_gives = { YieldsFirstBy var_bind (λ s. s) };
+
+    ghost remaining = { item_count (λ s. s) };
+
+    fn next(&mut self) -> Option<Binding<'a>> {
+        if self.rest.is_empty() {
+            return None;
+        }
+        let Ok((fields, rest)) = fields_at(self.rest) else {
+            unreachable!()
+        };
+        self.rest = rest;
+        Some(binding_of(fields))
+    }
+}
+
+/// Where a binding's name and value lie.
+#[derive(Clone, Copy)]
+struct Fields<'a> {
+    /// The content of the name.
+    name: &'a [u8],
+    /// The tag of the value.
+    tag: u8,
+    /// The content of the value.
+    content: &'a [u8],
+}
+
+/// Checks that the octets are bindings.
+pub(crate) fn check_bindings(octets: &[u8]) -> Result<(), BerError>
+    ensures { Gives (λ u. u) result (checked (reading.bindings_of octets.now)) }
+{
+    let mut rest = octets;
+    'bindings: while !rest.is_empty() {
+        let (fields, after) = fields_at(rest)?;
+        check_binding(fields)?;
+        rest = after;
+    }
+    Ok(())
+}
+
+/// The fields of the binding at the front, and what follows.
+#[tactic(auto, unfolding(crate::specs::Reading::fields_at))]
+#[inline]
+fn fields_at<'a>(octets: &'a [u8]) -> Result<(Fields<'a>, &'a [u8]), BerError>
+    ensures { Gives (λ x. (reading.fields x.0, x.1.now)) result (reading.fields_at octets.now) }
+{
+    let (content, rest) = inner_at(SEQUENCE, octets)?;
+    Ok((fields_of(content)?, rest))
+}
+
+/// The fields of a binding's content.
+#[tactic(auto, unfolding(crate::specs::Reading::fields_of))]
+#[inline]
+fn fields_of<'a>(content: &'a [u8]) -> Result<Fields<'a>, BerError>
+    ensures { Gives reading.fields result (reading.fields_of content.now) }
+{
+    let (name, rest) = inner_at(0x06, content)?;
+    let (tag, content, rest) = element_at(rest)?;
+    if !rest.is_empty() {
+        return Err(BerError::Content);
+    }
+    Ok(Fields { name, tag, content })
+}
+
+/// Checks that the fields are a binding's.
+#[tactic(auto, unfolding(crate::specs::Reading::binding_of))]
+#[inline]
+fn check_binding(fields: Fields<'_>) -> Result<(), BerError>
+    ensures { Gives (λ u. u) result (checked (reading.binding_of (reading.fields fields.entry))) }
+{
+    check_identifier(fields.name)?;
+    check_value(fields.tag, fields.content)
+}
+
+/// The binding that has these fields.
+#[tactic(auto, unfolding(crate::specs::Reading::binding_of))]
+#[inline]
+fn binding_of<'a>(fields: Fields<'a>) -> Binding<'a>
+    requires { IsOk (reading.binding_of (reading.fields fields)) }
+    ensures { reading.binding_of (reading.fields fields.entry) ≡ Ok (var_bind result) }
+{
+    Binding {
+        name: identifier_of(fields.name),
+        value: value_of(fields.tag, fields.content),
+    }
 }

@@ -1,4 +1,9 @@
 //! The kinds of PDU.
+ghost use Rattle.std.specs.Prelude.{◌≡◌};
+ghost use Rattle.snmp_wire.specs.Reading as reading;
+ghost use Rattle.snmp_wire.specs.Reading.{Gives};
+
+use crate::BerError;
 
 /// The kind of a PDU (RFC 3416, section 3).
 #[derive(Clone, Copy, Debug, PartialEq, Eq)]
@@ -19,4 +24,22 @@ pub enum Kind {
     Trap,
     /// Report-PDU, tag A8.
     Report,
+}
+
+/// The kind that has this tag.
+#[tactic(auto, unfolding(crate::specs::Reading::kind_of))]
+pub(crate) fn kind_of(tag: u8) -> Result<Kind, BerError>
+    ensures { Gives (λ kind. kind) result (reading.kind_of tag) }
+{
+    match tag {
+        0xA0 => Ok(Kind::GetRequest),
+        0xA1 => Ok(Kind::GetNextRequest),
+        0xA2 => Ok(Kind::Response),
+        0xA3 => Ok(Kind::SetRequest),
+        0xA5 => Ok(Kind::GetBulkRequest),
+        0xA6 => Ok(Kind::InformRequest),
+        0xA7 => Ok(Kind::Trap),
+        0xA8 => Ok(Kind::Report),
+        _ => Err(BerError::Tag),
+    }
 }

@@ -4,10 +4,20 @@
 #![tactic(auto)]
 
 mod binding;
+mod error;
+mod identifier;
 mod kind;
+mod length;
+mod message;
+mod number;
 mod value;
 
-pub use binding::Binding;
+pub use binding::{Binding, Bindings};
+pub use error::BerError;
 pub use kind::Kind;
+pub use message::{MessageRef, decode, one_spelling};
 pub use snmp_oid::{Oid, OidError, OidTextError, parse_numeric, write_numeric};
 pub use value::ValueRef;
+
+#[cfg(test)]
+mod tests;

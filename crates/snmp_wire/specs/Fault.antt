@@ -1,0 +1,166 @@
+-- Why octets spell no message: what each fault says of them.
+use Rattle.std.specs.Prelude.{◌≡◌, ◌≢◌, ℕ, ◌≤◌, ◌⊎◌, List, [], ◌∷◌, ◌++◌, Option, Some, None}
+use Rattle.snmp_wire.specs.declared.error.BerError.{BerError}
+use Rattle.snmp_wire.specs.declared.error.BerError.TheVariants as error
+use Rattle.snmp_wire.specs.declared.kind.Kind.{Kind}
+use Rattle.snmp_wire.specs.Number.{lenient}
+use Rattle.snmp_wire.specs.Length.{IsElement}
+use Rattle.snmp_wire.specs.Message.{Datum}
+use Rattle.snmp_wire.specs.Spelling.{sequence_tag, value_tag, IsContent, kind_tag}
+
+-- the octets begin with an element, and the rest follows
+pub record BeginsWith (tag : ℕ) (content octets rest : List ℕ) : Type 0 where
+  pub element : List ℕ
+  pub is_element : IsElement tag content element
+  pub parts : octets ≡ element ++ rest
+
+-- the octets end before their first element does: with those that are missing they would be an element
+pub record EndsEarly (octets : List ℕ) : Type 0 where
+  pub missing : List ℕ
+  pub some : missing ≢ []
+  pub tag : ℕ
+  pub content : List ℕ
+  pub whole : IsElement tag content (octets ++ missing)
+
+-- the first element has a length octet of no allowed form: 80, or 85 and above
+pub record HasForbiddenLength (octets : List ℕ) : Type 0 where
+  pub tag : ℕ
+  pub first : ℕ
+  pub rest : List ℕ
+  pub parts : octets ≡ tag ∷ first ∷ rest
+  pub forbidden : (first ≡ 0x80) ⊎ (0x85 ≤ first)
+
+-- the elements of a message, by their places in it
+pub data Place : Type 0 where
+  at_message : Place
+  at_version : Place
+  at_community : Place
+  at_pdu : Place
+  at_id : Place
+  at_a : Place
+  at_b : Place
+  at_list : Place
+  at_binding : Place
+  at_name : Place
+  at_value : Place
+
+-- the place of the first element in the one at this place, where that is made of elements
+abbrev pub first_inside : Place → Option Place
+first_inside at_message = Some at_version
+first_inside at_version = None
+first_inside at_community = None
+first_inside at_pdu = Some at_id
+first_inside at_id = None
+first_inside at_a = None
+first_inside at_b = None
+first_inside at_list = Some at_binding
+first_inside at_binding = Some at_name
+first_inside at_name = None
+first_inside at_value = None
+
+-- the place of the element that follows in the same one, if any
+abbrev pub next_behind : Place → Option Place
+next_behind at_message = None
+next_behind at_version = Some at_community
+next_behind at_community = Some at_pdu
+next_behind at_pdu = None
+next_behind at_id = Some at_a
+next_behind at_a = Some at_b
+next_behind at_b = Some at_list
+next_behind at_list = None
+next_behind at_binding = Some at_binding
+next_behind at_name = Some at_value
+next_behind at_value = None
+
+-- the tags that a place allows
+abbrev pub Allows : Place → ℕ → Type 0
+Allows at_message tag = tag ≡ sequence_tag
+Allows at_version tag = tag ≡ 0x02
+Allows at_community tag = tag ≡ 0x04
+Allows at_pdu tag = (kind : Kind) × (tag ≡ kind_tag kind)
+Allows at_id tag = tag ≡ 0x02
+Allows at_a tag = tag ≡ 0x02
+Allows at_b tag = tag ≡ 0x02
+Allows at_list tag = tag ≡ sequence_tag
+Allows at_binding tag = tag ≡ sequence_tag
+Allows at_name tag = tag ≡ 0x06
+Allows at_value tag = (value : Datum) × (tag ≡ value_tag value)
+
+-- A binding stands only where octets are left; each other element must be there.
+abbrev pub Calls : Place → List ℕ → Type 0
+Calls at_message here = Unit {0}
+Calls at_version here = Unit {0}
+Calls at_community here = Unit {0}
+Calls at_pdu here = Unit {0}
+Calls at_id here = Unit {0}
+Calls at_a here = Unit {0}
+Calls at_b here = Unit {0}
+Calls at_list here = Unit {0}
+Calls at_binding here = here ≢ []
+Calls at_name here = Unit {0}
+Calls at_value here = Unit {0}
+
+-- an element of the place must stand at the front of `here`, which is what is left of the element round it
+pub data Stands (octets : List ℕ) : Place → List ℕ → Type 0 where
+  starts : Stands octets at_message octets
+  inside : (place next : Place) (here : List ℕ) (tag : ℕ) (content rest : List ℕ) → Stands octets place here → Allows place tag → BeginsWith tag content here rest → first_inside place ≡ Some next → Calls next content → Stands octets next content
+  behind : (place next : Place) (here : List ℕ) (tag : ℕ) (content rest : List ℕ) → Stands octets place here → Allows place tag → BeginsWith tag content here rest → next_behind place ≡ Some next → Calls next rest → Stands octets next rest
+
+-- a length of no allowed form, or an inner element that is missing from the one round it or reaches past it
+pub record HasBadLength (octets : List ℕ) : Type 0 where
+  pub place : Place
+  pub here : List ℕ
+  pub stands : Stands octets place here
+  pub bad : HasForbiddenLength here ⊎ ((place ≢ at_message) × EndsEarly here)
+
+-- a tag that its place doesn't allow
+pub record HasBadTag (octets : List ℕ) : Type 0 where
+  pub place : Place
+  pub here : List ℕ
+  pub stands : Stands octets place here
+  pub tag : ℕ
+  pub after : List ℕ
+  pub parts : here ≡ tag ∷ after
+  pub bad : Allows place tag → ⊥
+
+-- content that no value of the tag has
+pub record HasBadContent (octets : List ℕ) : Type 0 where
+  pub place : Place
+  pub here : List ℕ
+  pub stands : Stands octets place here
+  pub is_value : first_inside place ≡ None
+  pub tag : ℕ
+  pub content : List ℕ
+  pub after : List ℕ
+  pub allowed : Allows place tag
+  pub begins : BeginsWith tag content here after
+  pub bad : (value : Datum) → tag ≡ value_tag value → IsContent lenient value content → ⊥
+
+-- octets behind the last element of a SEQUENCE or a PDU
+pub record HasLeftOver (octets : List ℕ) : Type 0 where
+  pub place : Place
+  pub here : List ℕ
+  pub stands : Stands octets place here
+  pub is_inner : place ≢ at_message
+  pub is_last : next_behind place ≡ None
+  pub tag : ℕ
+  pub content : List ℕ
+  pub after : List ℕ
+  pub begins : BeginsWith tag content here after
+  pub some : after ≢ []
+
+-- octets behind the outermost element
+pub record HasTrailing (octets : List ℕ) : Type 0 where
+  pub tag : ℕ
+  pub content : List ℕ
+  pub after : List ℕ
+  pub begins : BeginsWith tag content octets after
+  pub some : after ≢ []
+
+-- what the fault says of the octets
+abbrev pub IsFault : BerError → List ℕ → Type 0
+IsFault error.Truncated octets = EndsEarly octets
+IsFault error.Trailing octets = HasTrailing octets
+IsFault error.Length octets = HasBadLength octets
+IsFault error.Tag octets = HasBadTag octets
+IsFault error.Content octets = HasBadContent octets ⊎ HasLeftOver octets

@@ -1,0 +1,90 @@
+//! Lengths and elements (X.690, section 8.1): a tag, the length of the content, and the content.
+ghost use Rattle.std.specs.Prelude.{◌≡◌, List, ℕ};
+ghost use Rattle.snmp_wire.specs.Reading as reading;
+ghost use Rattle.snmp_wire.specs.Reading.{Gives};
+
+use crate::BerError;
+use crate::number::unsigned;
+
+/// The tag of a SEQUENCE.
+pub(crate) const SEQUENCE: u8 = 0x30;
+
+/// The length at the front, and what follows. The octets end before it does: `cut`.
+#[tactic(auto, unfolding(crate::specs::Reading::length_at))]
+#[inline]
+fn length_at(octets: &[u8], cut: BerError) -> Result<(usize, &[u8]), BerError>
+    ensures { Gives (λ x. (x.0, x.1.now)) result (reading.length_at cut octets.now) }
+{
+    match octets {
+        [] => Err(cut),
+        [first, rest @ ..] => {
+            if *first < 0x80 {
+                Ok((usize::from(*first), rest))
+            } else {
+                long_length_at(*first, rest, cut)
+            }
+        }
+    }
+}
+
+/// A length of the long form behind its first octet, which says how many octets it has.
+#[tactic(auto, unfolding(crate::specs::Reading::long_length_at))]
+fn long_length_at(first: u8, octets: &[u8], cut: BerError) -> Result<(usize, &[u8]), BerError>
+    ensures { Gives (λ x. (x.0, x.1.now)) result (reading.long_length_at cut first octets.now) }
+{
+    if !(0x80 < first && first < 0x85) {
+        return Err(BerError::Length);
+    }
+    let width = usize::from(first - 0x80);
+    if octets.len() < width {
+        return Err(cut);
+    }
+    let (digits, rest) = octets.split_at(width);
+    Ok((unsigned(digits) as usize, rest))
+}
+
+/// The content behind a tag, and what follows. The octets end before it does: `cut`.
+#[tactic(auto, unfolding(crate::specs::Reading::content_at))]
+#[inline]
+pub(crate) fn content_at(octets: &[u8], cut: BerError) -> Result<(&[u8], &[u8]), BerError>
+    ensures { Gives (λ x. (x.0.now, x.1.now)) result (reading.content_at cut octets.now) }
+{
+    let (length, rest) = length_at(octets, cut)?;
+    if rest.len() < length {
+        return Err(cut);
+    }
+    Ok(rest.split_at(length))
+}
+
+/// The content of an inner element of this tag, and what follows.
+#[tactic(auto, unfolding(crate::specs::Reading::inner_at))]
+#[inline]
+pub(crate) fn inner_at(tag: u8, octets: &[u8]) -> Result<(&[u8], &[u8]), BerError>
+    ensures { Gives (λ x. (x.0.now, x.1.now)) result (reading.inner_at tag octets.now) }
+{
+    match octets {
+        [] => Err(BerError::Length),
+        [found, rest @ ..] => {
+            if *found == tag {
+                content_at(rest, BerError::Length)
+            } else {
+                Err(BerError::Tag)
+            }
+        }
+    }
+}
+
+/// The tag and the content of an inner element, and what follows.
+#[tactic(auto, unfolding(crate::specs::Reading::element_at))]
+#[inline]
+pub(crate) fn element_at(octets: &[u8]) -> Result<(u8, &[u8], &[u8]), BerError>
+    ensures { Gives (λ x. (x.0, x.1.now, x.2.now)) result (reading.element_at octets.now) }
+{
+    match octets {
+        [] => Err(BerError::Length),
+        [tag, rest @ ..] => {
+            let (content, rest) = content_at(rest, BerError::Length)?;
+            Ok((*tag, content, rest))
+        }
+    }
+}
