@@ -1,7 +1,7 @@
 use Rattle.std.proofs.Common.{◌≡◌, ◌≤◌, ℕ, length, arith, w32, to_z, of_z, pos}
 use Rattle.std.proofs.lemmas.Bool.{false≢true}
 use Rattle.std.proofs.lemmas.Int.{to_z_pos, to_z-of_z}
-use Rattle.snmp_walk.proofs.RequestLemmas.{request_fits}
+use Rattle.snmp_walk.proofs.RequestLemmas.{request_fits, name_short, encodable}
 use Rattle.snmp_walk.proofs.walker.WalkCore.request.Goals as goal
 
 pub unreachable-requires : goal.unreachable-requires
@@ -9,3 +9,11 @@ unreachable-requires c =
     let id : to_z w32 c.self.inside.id ≡ pos c.self.inside.id = to_z_pos w32 c.self.inside.id c.self.invariant.id in
     let same : to_z w32 (of_z w32 c.repetitions.result) ≡ c.repetitions.result = to_z-of_z w32 c.repetitions.result (omega arith) in
     false≢true (c.in-None.ensures.variant.1 (rw (c.as_slice.ensures.value, c.kind.ensures, c.copy_of.ensures, id, same, c.repetitions.ensures, ← c.self.view_is, c.told-out) (request_fits _ c.self.invariant)))
+
+pub encode-requires : goal.encode-requires
+encode-requires c =
+    record {
+      community = rw c.as_slice.ensures.value (omega (arith, c.self.invariant.community));
+      bindings = encodable c.copy_of.result (rw c.copy_of.ensures c.self.invariant.asked);
+      total = name_short c.copy_of.result
+    }
