@@ -1,13 +1,13 @@
 -- Facts about identifiers as lists of numbers.
-use Rattle.std.proofs.Common.{◌≡◌, ℕ, ◌+◌, ◌<◌, ◌≤◌, ◌⊎◌, inl, inr, List, [], ◌∷◌, ◌++◌, length, take, drop, refl, sym, ◌∙◌, ap, subst, arith, length-append, length-drop}
+use Rattle.std.proofs.Common.{◌≡◌, ℕ, ◌<◌, inl, inr, List, [], ◌∷◌, ◌++◌, length, take, drop, refl, sym, ◌∙◌, ap, subst, arith, length-drop}
 use Rattle.std.proofs.lemmas.List.{take-append-drop}
 use Rattle.std.proofs.Math.Seq.{take-append_seam}
-use Rattle.std.specs.Ordering.{nat_cmp, ordering_then, MatchOrdering}
+use Rattle.std.specs.Ordering.{nat_cmp, ordering_then}
 use Rattle.std.specs.Cmp.{ranked, nat_cmp_is}
 use Rattle.std.specs.Cmp.Lexicographic.{slice_cmp}
 use Rattle.std.specs.declared.cmp.Ordering.{Ordering}
 use Rattle.std.specs.declared.cmp.Ordering.TheVariants.{Less, Equal, Greater}
-use Rattle.snmp_oid.specs.Identifier.{IsBelow, PartsBelow, Precedes}
+use Rattle.snmp_oid.specs.Identifier.{IsBelow, Precedes}
 
 -- a longer identifier that begins with root stands below it
 pub below_from_front : (o root : List ℕ) → length root < length o → take (length root) o ≡ root → IsBelow o root
@@ -24,8 +24,14 @@ pub precedes_behind : (n : ℕ) (o p : List ℕ) → Precedes o p → Precedes (
 precedes_behind n o p (inl h) = inl (h.0, h.1, ap (λ (s : List ℕ). n ∷ s) h.2)
 precedes_behind n o p (inr h) =
     inr record {
-      front = n ∷ h.front; smaller = h.smaller; larger = h.larger; after = h.after; behind = h.behind;
-      this = ap (λ (s : List ℕ). n ∷ s) h.this; that = ap (λ (s : List ℕ). n ∷ s) h.that; is_smaller = h.is_smaller
+      front = n ∷ h.front;
+      smaller = h.smaller;
+      larger = h.larger;
+      after = h.after;
+      behind = h.behind;
+      this = ap (λ (s : List ℕ). n ∷ s) h.this;
+      that = ap (λ (s : List ℕ). n ∷ s) h.that;
+      is_smaller = h.is_smaller;
     }
 
 parts_at_once : (n m : ℕ) (o p : List ℕ) → n < m → Precedes (n ∷ o) (m ∷ p)

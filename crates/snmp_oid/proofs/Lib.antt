@@ -1,2 +1,5 @@
+pub mod Dotted
 pub mod IdentifierLemmas
+pub mod Numeral
 pub mod Numerals
+pub mod Parsing

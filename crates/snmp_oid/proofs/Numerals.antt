@@ -26,7 +26,7 @@ pub written_more : (numbers : List ℕ) (count : ℕ) (text new : List ℕ) → 
     → new ≡ text ++ dot ∷ decimal (get_or numbers count 0) → length new ≤ length text + 11 → IsWritten numbers (count + 1) new
 written_more numbers count text new h low is long = record {
   text_is = is ∙ ap (λ (s : List ℕ). s ++ dot ∷ decimal (get_or numbers count 0)) h.text_is ∙ sym (text_of-more numbers count low);
-  short = let old : length text ≤ 11 * count + (1 - length numbers) = h.short in omega arith
+  short = let old : length text ≤ 11 * count + (1 - length numbers) = h.short in omega arith;
 }
 
 -- all of them

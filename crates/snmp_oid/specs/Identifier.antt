@@ -1,6 +1,6 @@
 -- Object identifiers and their order (RFC 2578, sections 3.5 and 7.1.3; RFC 3416, sections 2.4 and 4.1). A contract sees an
 -- identifier as the list of its numbers.
-use Rattle.std.specs.Prelude.{◌≡◌, ◌≢◌, ℕ, ◌+◌, ◌*◌, ◌^◌, ◌<◌, ◌≤◌, ◌⊎◌, List, [], ◌∷◌, ◌++◌, length, All}
+use Rattle.std.specs.Prelude.{◌≡◌, ◌≢◌, ℕ, ◌^◌, ◌<◌, ◌≤◌, ◌⊎◌, List, [], ◌∷◌, ◌++◌, length, All}
 
 -- o stands below root: it begins with root and is longer
 abbrev pub IsBelow : List ℕ → List ℕ → Type 0

@@ -1,5 +1,5 @@
 -- Identifiers as text: decimal numbers with a dot before or between them, as in `.1.3.6.1`.
-use Rattle.std.specs.Prelude.{◌≡◌, ◌≢◌, ℕ, ◌+◌, ◌-◌, ◌*◌, ◌^◌, ◌<◌, ◌≤◌, ◌⊎◌, ◌==◌, not, List, [], ◌∷◌, ◌++◌, length, take_while, drop, slice_index, decimal, codes, All, true}
+use Rattle.std.specs.Prelude.{◌≡◌, ◌≢◌, ℕ, ◌+◌, ◌-◌, ◌*◌, ◌^◌, ◌<◌, ◌≤◌, ◌⊎◌, ◌==◌, not, List, [], ◌∷◌, ◌++◌, length, take_while, drop, slice_index, decimal, true}
 use Rattle.std.specs.List.{flat_map}
 use Rattle.std.specs.Str.{all_ascii_digits}
 
@@ -7,16 +7,16 @@ use Rattle.std.specs.Str.{all_ascii_digits}
 abbrev pub dot : ℕ
 dot = 46
 
--- the value of a text of decimal digits, behind the value of the digits before it
-abbrev pub value_after : ℕ → List ℕ → ℕ
-value_after n [] = n
-value_after n (digit ∷ rest) = value_after (10 * n + (digit - 48)) rest
+-- the number that decimal digits spell, each by the weight of its place
+abbrev pub value_of : List ℕ → ℕ
+value_of [] = 0
+value_of (digit ∷ rest) = (digit - 48) * 10 ^ length rest + value_of rest
 
 -- one or more decimal digits, leading zeros among them or not, that spell a number of 32 bits
 pub record IsNumeral (text : List ℕ) (n : ℕ) : Type 0 where
   pub some : text ≢ []
   pub digits : all_ascii_digits text ≡ true
-  pub value : value_after 0 text ≡ n
+  pub value : value_of text ≡ n
   pub fits : n < 2 ^ 32
 
 -- a numeral for each number, and a dot between each two

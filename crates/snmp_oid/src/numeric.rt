@@ -1,6 +1,6 @@
 //! Identifiers as text: decimal numbers with a dot before or between them, as in `.1.3.6.1`.
-ghost use Rattle.std.specs.Prelude.{◌≡◌, ℕ, ◌+◌, ◌<◌, ◌≤◌, ◌↔◌, List, ◌∷◌, ◌++◌, decimal, length, drop, IfOk, IfErr, IfSome, OnErr, IfNone, IsSome, Ok, Err};
-ghost use Rattle.snmp_oid.specs.Numeric.{IsNumericName, dot, numeric_text};
+ghost use Rattle.std.specs.Prelude.{◌≡◌, ◌≢◌, ℕ, ◌+◌, ◌<◌, ◌≤◌, ◌↔◌, ◌⊎◌, List, [], ◌∷◌, ◌++◌, decimal, length, drop, slice_index, All, MatchOption, IsTrue, IfOk, IfSome, IfNone, IsSome, Ok, Err};
+ghost use Rattle.snmp_oid.specs.Numeric.{IsNumericName, IsFirstBadPart, IsTooLong, IsNumeral, dot, numeric_text};
 
 use crate::Oid;
 use arrayvec::ArrayVec;
@@ -18,15 +18,89 @@ pub enum OidTextError {
     TooLong,
 }
 
-/// The identifier that a text names.
+/// The identifier that a text names: decimal numbers with a dot between each two, behind a dot or not, and a dot alone for no numbers. Leading zeros are read.
+///
+/// `BadNumber` comes before `TooLong`, and an empty text has one part, which is empty.
 pub fn parse_numeric(text: &[u8]) -> Result<Oid, OidTextError>
+    ensures found { IfOk result (IsNumericName text.now) }
+    ensures short { IfOk result (λ o. length o ≤ 128) }
+    ensures only { (o : List ℕ) → IsNumericName text.now o → length o ≤ 128 → result ≡ Ok o }
+    ensures bad_number { (at : ℕ) → (result ≡ Err (OidTextError.BadNumber at)) ↔ IsFirstBadPart text.now at }
+    ensures too_long { (result ≡ Err OidTextError.TooLong) ↔ IsTooLong text.now }
 {
-    let _ = text;
-    Err(OidTextError::TooLong)
+    let mut oid = Oid::new();
+    if is_dot(text) {
+        return Ok(oid);
+    }
+    let mut too_long = false;
+    let mut left = Some(without_front_dot(text));
+    'parts: while let Some(here) = left {
+        let (part, behind) = split_part(here);
+        let Some(number) = read_number(part) else {
+            return Err(OidTextError::BadNumber(text.len() - here.len()));
+        };
+        if oid.push(number).is_err() {
+            too_long = true;
+        }
+        left = behind;
+    }
+    if too_long {
+        Err(OidTextError::TooLong)
+    } else {
+        Ok(oid)
+    }
+}
+
+/// Whether the text is a dot alone.
+fn is_dot(text: &[u8]) -> bool
+    ensures { IsTrue result ↔ (text.now ≡ dot ∷ []) }
+{
+    text == b".".as_slice()
+}
+
+/// The text without the dot in front, where one stands there.
+fn without_front_dot(text: &[u8]) -> &[u8]
+    ensures { ((result.now ≡ text.now) × (slice_index text.now 0 ≢ dot)) ⊎ (text.now ≡ dot ∷ result.now) }
+{
+    match text {
+        [b'.', rest @ ..] => rest,
+        _ => text,
+    }
+}
+
+/// The first part of a text, and what stands behind the dot that ends it, None where none does.
+fn split_part(text: &[u8]) -> (&[u8], Option<&[u8]>)
+    ensures part { All (λ octet. octet ≢ dot) result.0.now }
+    ensures behind { MatchOption result.1 (text.now ≡ result.0.now) (λ rest. text.now ≡ result.0.now ++ dot ∷ rest.now) }
+{
+    match text.iter().position(|octet| *octet == b'.') {
+        Some(end) => (&text[..end], Some(&text[end + 1..])),
+        None => (text, None),
+    }
+}
+
+/// The number of 32 bits that decimal digits spell, None where the part is no such numeral.
+fn read_number(part: &[u8]) -> Option<u32>
+    ensures found { IfSome result (IsNumeral part.now) }
+    ensures none { IfNone result ((n : ℕ) → IsNumeral part.now n → ⊥) }
+{
+    if part.is_empty() {
+        return None;
+    }
+    let mut number: u32 = 0;
+    'digits: for octet in part {
+        if !octet.is_ascii_digit() {
+            return None;
+        }
+        number = number
+            .checked_mul(10)?
+            .checked_add(u32::from(*octet - b'0'))?;
+    }
+    Some(number)
 }
 
 /// How many octets the longest numeric text has: a dot and ten digits for each of 128 numbers.
-const LONGEST: usize = 1408;
+pub const LONGEST_TEXT: usize = 1408;
 
 /// Writes the numeric text of an identifier to the front of `out`, a dot before each number or a dot alone for none, and answers its length.
 ///
@@ -35,6 +109,7 @@ pub fn write_numeric(oid: &Oid, out: &mut [u8]) -> Option<usize>
     ensures some { IfSome result (λ n. (n ≡ length (numeric_text oid.now)) × (out.new ≡ numeric_text oid.now ++ drop n out.old)) }
     ensures variant { IsSome result ↔ (length (numeric_text oid.now) ≤ length out.old) }
     ensures unchanged { IfNone result (out.new ≡ out.old) }
+    ensures longest { length (numeric_text oid.now) ≤ 1408 }
 {
     let text = written(oid);
     if out.len() < text.len() {
@@ -45,7 +120,7 @@ pub fn write_numeric(oid: &Oid, out: &mut [u8]) -> Option<usize>
 }
 
 /// The numeric text of an identifier.
-fn written(oid: &Oid) -> ArrayVec<u8, LONGEST>
+fn written(oid: &Oid) -> ArrayVec<u8, LONGEST_TEXT>
     ensures { result.items ≡ numeric_text oid.now }
 {
     let mut text = ArrayVec::new();
@@ -60,7 +135,7 @@ fn written(oid: &Oid) -> ArrayVec<u8, LONGEST>
 }
 
 /// Appends a dot and the number.
-fn push_number(text: &mut ArrayVec<u8, LONGEST>, number: u32)
+fn push_number(text: &mut ArrayVec<u8, LONGEST_TEXT>, number: u32)
     requires { length text.old.items + 11 ≤ 1408 }
     ensures value { text.new.items ≡ text.old.items ++ dot ∷ decimal number }
     ensures short { length text.new.items ≤ length text.old.items + 11 }

@@ -158,8 +158,7 @@ impl Oid {
 /// The order of identifiers is the standard's: a proper beginning first, else the smaller number at the first difference.
 pub fn order()
     ensures { (o p : List ℕ) → (slice_cmp nat_cmp o p ≡ Ordering.Less) ↔ Precedes o p }
-{
-}
+{}
 
 impl Default for Oid {
     ghost is_default = { λ o. o ≡ [] };

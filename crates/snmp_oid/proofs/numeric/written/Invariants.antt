@@ -1,6 +1,3 @@
-use Rattle.std.proofs.Common.{◌≡◌, ℕ, ◌+◌, ◌*◌, ◌≤◌, [], ◌∷◌, ◌++◌, decimal, length, take}
-use Rattle.std.specs.List.{flat_map}
-use Rattle.snmp_oid.specs.Numeric.{dot}
 use Rattle.snmp_oid.proofs.Numerals.{IsWritten}
 use Rattle.snmp_oid.proofs.numeric.written.Given as goal
 

@@ -1,7 +1,7 @@
-use Rattle.std.proofs.Common.{◌≡◌, ◌<◌, List, ℕ, length, take, arith, sym, ◌∙◌, ap, true}
+use Rattle.std.proofs.Common.{◌≡◌, ◌<◌, length, take, arith}
 use Rattle.std.proofs.lemmas.Bool.Decides.{Decides-eqb}
 use Rattle.std.proofs.lemmas.Slice.Eq.{slice_eq-Decides}
-use Rattle.std.specs.Bool.{Decides, nat_eq}
+use Rattle.std.specs.Bool.{Decides}
 use Rattle.snmp_oid.proofs.IdentifierLemmas.{below_from_front, front_from_below}
 use Rattle.snmp_oid.proofs.oid.Oid.is_below.Goals as goal
 

@@ -1,0 +1,141 @@
+-- Facts about dotted names, as the parts between their dots.
+use Rattle.std.proofs.Common.{◌≡◌, ◌≢◌, ℕ, Bool, true, false, not, cond, ◌&&◌, ◌==◌, List, [], ◌∷◌, ◌++◌, length, All, Option, Some, None, MatchOption, refl, sym, ◌∙◌, ap, subst, arith}
+use Rattle.std.proofs.lemmas.Bool.{ne_eqb}
+use Rattle.std.proofs.lemmas.List.Elements.{All-head, All-tail, All-cons, All-nil, All-weaker}
+use Rattle.std.proofs.lemmas.List.Splits.{slice_split_at, slice_split_none, join_with_byte-slice_split, length-slice_split}
+use Rattle.std.proofs.lemmas.List.Sums.{take_while-cons}
+use Rattle.std.specs.Char.{is_ascii_digit}
+use Rattle.std.specs.List.{slice_split, take_while, join_with_byte}
+use Rattle.std.specs.Str.{all_ascii_digits}
+use Rattle.snmp_oid.specs.Numeric.{dot, IsNumeral, IsDotted}
+
+-- the parts between the dots
+abbrev pub parts : List ℕ → List (List ℕ)
+parts text = slice_split (λ octet. octet == dot) text
+
+-- the parts that are left, where a text or nothing is
+abbrev pub parts_left : Option (List ℕ) → List (List ℕ)
+parts_left None = []
+parts_left (Some here) = parts here
+
+-- a numeral for each number
+abbrev pub AreNumerals : List (List ℕ) → List ℕ → Type 0
+AreNumerals [] [] = Unit {0}
+AreNumerals [] (n ∷ ns) = ⊥
+AreNumerals (p ∷ ps) [] = ⊥
+AreNumerals (p ∷ ps) (n ∷ ns) = IsNumeral p n × AreNumerals ps ns
+
+-- no octet is a dot
+abbrev pub HasNoDot : List ℕ → Type 0
+HasNoDot part = All (λ octet. octet ≢ dot) part
+
+both_true : (a b : Bool) → a && b ≡ true → (a ≡ true) × (b ≡ true)
+both_true true true e = (refl, refl)
+both_true true false e = let no : ⊥ = cc in absurd no
+both_true false b e = let no : ⊥ = cc in absurd no
+
+digit_is_no_dot : (octet : ℕ) → is_ascii_digit octet ≡ true → octet ≢ dot
+digit_is_no_dot octet yes_digit same = let P : ℕ → Type 0 = λ n. is_ascii_digit n ≡ true in let no : false ≡ true = subst P same yes_digit in cc
+
+digits_have_no_dot : (part : List ℕ) → all_ascii_digits part ≡ true → HasNoDot part
+digits_have_no_dot [] e = All-nil (λ octet. octet ≢ dot)
+digits_have_no_dot (octet ∷ rest) e =
+    let both = both_true (is_ascii_digit octet) (all_ascii_digits rest) e in
+    All-cons (λ octet. octet ≢ dot) octet rest (digit_is_no_dot octet both.0) (digits_have_no_dot rest both.1)
+
+tests_false : (part : List ℕ) → HasNoDot part → All (λ octet. (octet == dot) ≡ false) part
+tests_false part free = All-weaker (λ octet. octet ≢ dot) (λ octet. (octet == dot) ≡ false) (λ octet other. ne_eqb octet dot other) part free
+
+-- the first part ends at the first dot, or with the text
+pub parts_of_first : (part rest : List ℕ) → HasNoDot part → parts (part ++ dot ∷ rest) ≡ part ∷ parts rest
+parts_of_first part rest free = slice_split_at (λ octet. octet == dot) part dot rest (tests_false part free) refl
+
+pub parts_of_last : (part : List ℕ) → HasNoDot part → parts part ≡ part ∷ []
+parts_of_last part free = slice_split_none (λ octet. octet == dot) part (tests_false part free)
+
+some_part : (text : List ℕ) → parts text ≢ []
+some_part text none = omega (arith, length-slice_split (λ octet. octet == dot) text, ap length none)
+
+-- what is dotted has numerals for parts
+pub numerals_from_dotted : (o text : List ℕ) → IsDotted text o → AreNumerals (parts text) o
+numerals_from_dotted [] text h = absurd h
+numerals_from_dotted (n ∷ []) text h =
+    let P : List (List ℕ) → Type 0 = λ ps. AreNumerals ps (n ∷ []) in
+    subst P (sym (parts_of_last text (digits_have_no_dot text h.digits))) (h, tt)
+numerals_from_dotted (n ∷ m ∷ more) text h =
+    let P : List (List ℕ) → Type 0 = λ ps. AreNumerals ps (n ∷ m ∷ more) in
+    let first : parts text ≡ h.0 ∷ parts h.1 = ap parts h.2 ∙ parts_of_first h.0 h.1 (digits_have_no_dot h.0 h.3.digits) in
+    subst P (sym first) (h.3, numerals_from_dotted (m ∷ more) h.1 h.4)
+
+joined_is_dotted : (ps : List (List ℕ)) (o : List ℕ) → ps ≢ [] → AreNumerals ps o → IsDotted (join_with_byte dot ps) o
+joined_is_dotted [] o some h = absurd (some refl)
+joined_is_dotted (p ∷ []) [] some h = absurd h
+joined_is_dotted (p ∷ []) (n ∷ []) some h = h.0
+joined_is_dotted (p ∷ []) (n ∷ m ∷ more) some h = absurd h.1
+joined_is_dotted (p ∷ q ∷ ps) [] some h = absurd h
+joined_is_dotted (p ∷ q ∷ ps) (n ∷ []) some h = absurd h.1
+joined_is_dotted (p ∷ q ∷ ps) (n ∷ m ∷ more) some h = (p, join_with_byte dot (q ∷ ps), refl, h.0, joined_is_dotted (q ∷ ps) (m ∷ more) (λ none. cc) h.1)
+
+-- and the other way round
+pub dotted_from_numerals : (o text : List ℕ) → AreNumerals (parts text) o → IsDotted text o
+dotted_from_numerals o text h =
+    let P : List ℕ → Type 0 = λ t. IsDotted t o in
+    subst P (join_with_byte-slice_split dot text) (joined_is_dotted (parts text) o (some_part text) h)
+
+-- one list of numbers
+pub same_numerals : (ps : List (List ℕ)) (o p : List ℕ) → AreNumerals ps o → AreNumerals ps p → o ≡ p
+same_numerals [] [] [] h g = refl
+same_numerals [] [] (m ∷ p) h g = absurd g
+same_numerals [] (n ∷ o) p h g = absurd h
+same_numerals (part ∷ ps) [] p h g = absurd h
+same_numerals (part ∷ ps) (n ∷ o) [] h g = absurd g
+same_numerals (part ∷ ps) (n ∷ o) (m ∷ p) h g =
+    let first : n ≡ m = sym h.0.value ∙ g.0.value in
+    let rest : o ≡ p = same_numerals ps o p h.1 g.1 in cc
+
+-- one more
+pub numerals_more : (ps : List (List ℕ)) (o : List ℕ) (part : List ℕ) (n : ℕ) → AreNumerals ps o → IsNumeral part n → AreNumerals (ps ++ part ∷ []) (o ++ n ∷ [])
+numerals_more [] [] part n h one = (one, tt)
+numerals_more [] (m ∷ o) part n h one = absurd h
+numerals_more (p ∷ ps) [] part n h one = absurd h
+numerals_more (p ∷ ps) (m ∷ o) part n h one = (h.0, numerals_more ps o part n h.1 one)
+
+-- each part is one
+pub part_is_numeral : (ps : List (List ℕ)) (part : List ℕ) (qs : List (List ℕ)) (o : List ℕ) → AreNumerals (ps ++ part ∷ qs) o → (n : ℕ) × IsNumeral part n
+part_is_numeral [] part qs [] h = absurd h
+part_is_numeral [] part qs (n ∷ o) h = (n, h.0)
+part_is_numeral (p ∷ ps) part qs [] h = absurd h
+part_is_numeral (p ∷ ps) part qs (n ∷ o) h = part_is_numeral ps part qs o h.1
+
+-- the octets before the next dot
+abbrev to_dot : List ℕ → List ℕ
+to_dot text = take_while (λ octet. not (octet == dot)) text
+
+to_dot-cons : (octet : ℕ) (rest : List ℕ) → octet ≢ dot → to_dot (octet ∷ rest) ≡ octet ∷ to_dot rest
+to_dot-cons octet rest other =
+    let test : not (octet == dot) ≡ true = ap not (ne_eqb octet dot other) in
+    take_while-cons (λ octet. not (octet == dot)) octet rest ∙ ap (λ b. cond b (octet ∷ to_dot rest) []) test
+
+taken_first : (part rest : List ℕ) → HasNoDot part → to_dot (part ++ dot ∷ rest) ≡ part
+taken_first [] rest free = refl
+taken_first (octet ∷ part) rest free =
+    to_dot-cons octet (part ++ dot ∷ rest) (All-head (λ octet. octet ≢ dot) octet part free)
+    ∙ ap (λ (s : List ℕ). octet ∷ s) (taken_first part rest (All-tail (λ octet. octet ≢ dot) octet part free))
+
+taken_last : (part : List ℕ) → HasNoDot part → to_dot part ≡ part
+taken_last [] free = refl
+taken_last (octet ∷ part) free =
+    to_dot-cons octet part (All-head (λ octet. octet ≢ dot) octet part free)
+    ∙ ap (λ (s : List ℕ). octet ∷ s) (taken_last part (All-tail (λ octet. octet ≢ dot) octet part free))
+
+-- the first part of here, and what is behind its dot
+abbrev pub Splits : List ℕ → List ℕ → Option (List ℕ) → Type 0
+Splits here part behind = HasNoDot part × MatchOption behind (here ≡ part) (λ rest. here ≡ part ++ dot ∷ rest)
+
+pub parts_of : (here part : List ℕ) (behind : Option (List ℕ)) → Splits here part behind → parts here ≡ part ∷ parts_left behind
+parts_of here part None h = ap parts h.1 ∙ parts_of_last part h.0
+parts_of here part (Some rest) h = ap parts h.1 ∙ parts_of_first part rest h.0
+
+pub to_dot_is : (here part : List ℕ) (behind : Option (List ℕ)) → Splits here part behind → take_while (λ octet. not (octet == dot)) here ≡ part
+to_dot_is here part None h = ap to_dot h.1 ∙ taken_last part h.0
+to_dot_is here part (Some rest) h = ap to_dot h.1 ∙ taken_first part rest h.0

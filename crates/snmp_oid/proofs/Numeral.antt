@@ -1,0 +1,64 @@
+-- Facts about reading one decimal number.
+use Rattle.std.proofs.Common.{◌≡◌, ◌≢◌, ℕ, ◌+◌, ◌-◌, ◌*◌, ◌^◌, ◌≤◌, ◌<◌, true, false, ◌&&◌, List, [], ◌∷◌, length, drop, get_or, refl, sym, ◌∙◌, ap, subst, arith, drop-cons, add-one, lit<}
+use Rattle.std.proofs.Math.Nat.{pow-suc, one-le-pow, le-mul_of_pos_right}
+use Rattle.std.specs.Char.{is_ascii_digit}
+use Rattle.std.specs.Str.{all_ascii_digits}
+use Rattle.snmp_oid.specs.Numeric.{value_of, IsNumeral}
+
+-- the digits of a part are read but for those left
+pub record IsReadTo (part left : List ℕ) (number : ℕ) : Type 0 where
+  pub value : number * 10 ^ length left + value_of left ≡ value_of part
+  pub digits : all_ascii_digits left ≡ all_ascii_digits part
+  pub fits : number < 2 ^ 32
+
+-- a number and its next digit, before the digits left
+shifted : (number digit power rest : ℕ) → (number * 10 + digit) * power + rest ≡ number * (power * 10) + (digit * power + rest)
+shifted number digit power rest = omega arith
+
+value_more : (part rest : List ℕ) (digit number : ℕ) → IsReadTo part (digit ∷ rest) number → (number * 10 + (digit - 48)) * 10 ^ length rest + value_of rest ≡ value_of part
+value_more part rest digit number h =
+    let e : number * (10 ^ length rest * 10) + ((digit - 48) * 10 ^ length rest + value_of rest) ≡ value_of part = rw (pow-suc 10 (length rest)) at h.value in
+    shifted number (digit - 48) (10 ^ length rest) (value_of rest) ∙ e
+
+-- one more digit
+pub read_more : (part rest : List ℕ) (digit number : ℕ) → is_ascii_digit digit ≡ true → number * 10 + (digit - 48) < 2 ^ 32 → IsReadTo part (digit ∷ rest) number → IsReadTo part rest (number * 10 + (digit - 48))
+read_more part rest digit number is_digit small h = record {
+  fits = small;
+  value = value_more part rest digit number h;
+  digits = let e : all_ascii_digits (digit ∷ rest) ≡ all_ascii_digits rest = ap (λ b. b && all_ascii_digits rest) is_digit in sym e ∙ h.digits;
+}
+
+-- all digits are read
+pub read_all : (part : List ℕ) (number : ℕ) → part ≢ [] → IsReadTo part [] number → IsNumeral part number
+read_all part number some h = record { some = some; digits = sym h.digits; value = let e : number * 1 + 0 ≡ value_of part = h.value in omega arith; fits = h.fits }
+
+-- an octet that is no digit
+pub read_other : (part rest : List ℕ) (octet number : ℕ) → is_ascii_digit octet ≡ false → IsReadTo part (octet ∷ rest) number → (n : ℕ) → IsNumeral part n → ⊥
+read_other part rest octet number other h n numeral =
+    let e : all_ascii_digits (octet ∷ rest) ≡ false = ap (λ b. b && all_ascii_digits rest) other in
+    let yes : all_ascii_digits (octet ∷ rest) ≡ true = h.digits ∙ numeral.digits in cc
+
+-- more than 32 bits
+pub read_large : (part rest : List ℕ) (digit number : ℕ) → 2 ^ 32 ≤ number * 10 + (digit - 48) → IsReadTo part (digit ∷ rest) number → (n : ℕ) → IsNumeral part n → ⊥
+read_large part rest digit number large h n numeral =
+    let more : number * 10 + (digit - 48) ≤ (number * 10 + (digit - 48)) * 10 ^ length rest = le-mul_of_pos_right (number * 10 + (digit - 48)) (one-le-pow (length rest) 10 (lit< tt)) in
+    omega (arith, value_more part rest digit number h, numeral.value, numeral.fits)
+
+-- the same at a place
+front_at : (part : List ℕ) (count : ℕ) → count < length part → drop count part ≡ get_or part count 0 ∷ drop (count + 1) part
+front_at part count low = rw (add-one, drop-cons part count 0) refl
+
+pub read_more_at : (part : List ℕ) (count number : ℕ) → count < length part → is_ascii_digit (get_or part count 0) ≡ true → number * 10 + (get_or part count 0 - 48) < 2 ^ 32 → IsReadTo part (drop count part) number
+    → IsReadTo part (drop (count + 1) part) (number * 10 + (get_or part count 0 - 48))
+read_more_at part count number low is_digit small h =
+    read_more part (drop (count + 1) part) (get_or part count 0) number is_digit small (let P : List ℕ → Type 0 = λ left. IsReadTo part left number in subst P (front_at part count low) h)
+
+pub read_other_at : (part : List ℕ) (count number : ℕ) → count < length part → is_ascii_digit (get_or part count 0) ≡ false → IsReadTo part (drop count part) number
+    → (n : ℕ) → IsNumeral part n → ⊥
+read_other_at part count number low other h =
+    read_other part (drop (count + 1) part) (get_or part count 0) number other (let P : List ℕ → Type 0 = λ left. IsReadTo part left number in subst P (front_at part count low) h)
+
+pub read_large_at : (part : List ℕ) (count number : ℕ) → count < length part → 2 ^ 32 ≤ number * 10 + (get_or part count 0 - 48) → IsReadTo part (drop count part) number
+    → (n : ℕ) → IsNumeral part n → ⊥
+read_large_at part count number low large h =
+    read_large part (drop (count + 1) part) (get_or part count 0) number large (let P : List ℕ → Type 0 = λ left. IsReadTo part left number in subst P (front_at part count low) h)

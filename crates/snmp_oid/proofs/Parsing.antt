@@ -1,0 +1,240 @@
+-- Facts about the state of a parse: the parts read so far, the place of the next, and what the end says.
+use Rattle.std.proofs.Common.{◌≡◌, ◌≢◌, ℕ, min, ◌+◌, ◌-◌, ◌≤◌, ◌<◌, ◌⊎◌, inl, inr, Bool, true, false, List, [], ◌∷◌, ◌++◌, length, take, drop, get_or, slice_index, Option, Some, None, refl, sym, ◌∙◌, ap, subst, arith, length-append, append_assoc}
+use Rattle.std.proofs.lemmas.Bool.{cases_order}
+use Rattle.std.proofs.lemmas.List.{append-nil, take_all, take-append-le, get_or-drop, get_or_append_left, length_push, drop_at, drop-drop, length-take}
+use Rattle.std.proofs.Math.Seq.{get_or-append_seam}
+use Rattle.snmp_oid.specs.Numeric.{dot, IsNumeral, IsDotted, IsNumericName, BeginsPart, part_at, IsFirstBadPart}
+use Rattle.snmp_oid.proofs.Dotted.{parts, parts_left, AreNumerals, Splits, parts_of, to_dot_is, numerals_from_dotted, dotted_from_numerals, same_numerals, numerals_more, part_is_numeral}
+
+-- a text without the dot in front
+abbrev pub IsBehindDot : List ℕ → List ℕ → Type 0
+IsBehindDot text dotted = ((dotted ≡ text) × (slice_index text 0 ≢ dot)) ⊎ (text ≡ dot ∷ dotted)
+
+-- where what is left begins, and with it a part
+abbrev pub StandsAt : List ℕ → Option (List ℕ) → ℕ → Type 0
+StandsAt text None at = at ≡ length text + 1
+StandsAt text (Some here) at = (drop at text ≡ here) × (at + length here ≡ length text) × BeginsPart text at
+
+-- the parts before what is left are numerals, and the first 128 of their numbers are kept
+pub record IsParsedTo (text : List ℕ) (left : Option (List ℕ)) (kept : List ℕ) (too_long : Bool) : Type 0 where
+  pub more : text ≢ dot ∷ []
+  pub dotted : List ℕ
+  pub front : IsBehindDot text dotted
+  pub done : List (List ℕ)
+  pub numbers : List ℕ
+  pub are : AreNumerals done numbers
+  pub whole : parts dotted ≡ done ++ parts_left left
+  pub first : kept ≡ take 128 numbers
+  pub short : too_long ≡ false → length numbers ≤ 128
+  pub long : too_long ≡ true → 128 < length numbers
+  pub at : ℕ
+  pub stands : StandsAt text left at
+  pub before : (k : ℕ) → k < at → BeginsPart text k → (n : ℕ) × IsNumeral (part_at text k) n
+
+-- a name other than a dot alone is dotted, behind a dot or not
+no_empty_first : (rest o : List ℕ) → IsDotted (dot ∷ rest) o → ⊥
+no_empty_first rest o h = (part_is_numeral [] [] (parts rest) o (numerals_from_dotted o (dot ∷ rest) h)).1.some refl
+
+pub dotted_from_name : (text dotted o : List ℕ) → text ≢ dot ∷ [] → IsBehindDot text dotted → IsNumericName text o → IsDotted dotted o
+dotted_from_name text dotted o more front (inl h) = absurd (more h.0)
+dotted_from_name text dotted o more (inl front) (inr (inl h)) = let P : List ℕ → Type 0 = λ t. IsDotted t o in subst P (sym front.0) h
+dotted_from_name text dotted o more (inr front) (inr (inl h)) = let P : List ℕ → Type 0 = λ t. IsDotted t o in absurd (no_empty_first dotted o (subst P front h))
+dotted_from_name text dotted o more (inl front) (inr (inr h)) = absurd (front.1 (ap (λ (t : List ℕ). get_or t 0 0) h.1))
+dotted_from_name text dotted o more (inr front) (inr (inr h)) =
+    let P : List ℕ → Type 0 = λ t. IsDotted t o in
+    let same : h.0 ≡ dotted = cc (h.1, front) in
+    subst P same h.2
+
+pub name_from_dotted : (text dotted o : List ℕ) → IsBehindDot text dotted → IsDotted dotted o → IsNumericName text o
+name_from_dotted text dotted o (inl front) h = let P : List ℕ → Type 0 = λ t. IsDotted t o in inr (inl (subst P front.0 h))
+name_from_dotted text dotted o (inr front) h = inr (inr (dotted, front, h))
+
+-- a dot alone names the empty identifier and no other
+pub dot_alone : (text o : List ℕ) → text ≡ dot ∷ [] → IsNumericName text o → o ≡ []
+dot_alone text o is (inl h) = h.1
+dot_alone text o is (inr (inl h)) = let P : List ℕ → Type 0 = λ t. IsDotted t o in absurd (no_empty_first [] o (subst P is h))
+dot_alone text o is (inr (inr h)) =
+    let none : h.0 ≡ [] = cc (h.1, is) in
+    let P : List ℕ → Type 0 = λ t. IsDotted t o in
+    absurd ((part_is_numeral [] [] [] o (numerals_from_dotted o [] (subst P none h.2))).1.some refl)
+
+-- there is one first bad part
+pub one_bad_part : (text : List ℕ) (at k : ℕ) → IsFirstBadPart text at → IsFirstBadPart text k → at ≡ k
+one_bad_part text at k h g =
+    let not_below : at < k → ⊥ = λ low. (let one = g.before at low h.part in h.bad one.0 one.1) in
+    let not_above : k < at → ⊥ = λ low. (let one = h.before k low g.part in g.bad one.0 one.1) in
+    omega (arith, not_below, not_above)
+
+-- nothing is read yet
+pub parse_begins : (text dotted kept : List ℕ) → text ≢ dot ∷ [] → IsBehindDot text dotted → kept ≡ [] → IsParsedTo text (Some dotted) kept false
+parse_begins text dotted kept more (inl front) none = record {
+  more = more;
+  dotted = dotted;
+  front = inl front;
+  done = [];
+  numbers = [];
+  are = tt;
+  whole = refl;
+  first = none;
+  short = λ _. omega arith;
+  long = λ e. (let no : ⊥ = cc in absurd no);
+  at = 0;
+  stands = (sym front.0, omega (arith, ap length front.0), inl (refl, front.1));
+  before = λ k low part. absurd (omega arith);
+}
+parse_begins text dotted kept more (inr front) none = record {
+  more = more;
+  dotted = dotted;
+  front = inr front;
+  done = [];
+  numbers = [];
+  are = tt;
+  whole = refl;
+  first = none;
+  short = λ _. omega arith;
+  long = λ e. (let no : ⊥ = cc in absurd no);
+  at = 1;
+  stands = (ap (drop 1) front, omega (arith, ap length front), inr (omega (arith, ap length front), omega arith, ap (λ (t : List ℕ). get_or t 0 0) front));
+  before = λ k low part. absurd (none_at_first text dotted k front low part);
+}
+  where
+    none_at_first : (text dotted : List ℕ) (k : ℕ) → text ≡ dot ∷ dotted → k < 1 → BeginsPart text k → ⊥
+    none_at_first text dotted k front low (inl part) = part.1 (ap (λ (t : List ℕ). get_or t 0 0) front)
+    none_at_first text dotted k front low (inr part) = omega arith
+
+-- the octets of a part that stands at a place
+octet_of_part : (text here part : List ℕ) (behind : Option (List ℕ)) (at j : ℕ) → drop at text ≡ here → Splits here part behind → j < length part → get_or text (at + j) 0 ≢ dot
+octet_of_part text here part None at j stands h low same =
+    let this : get_or text (at + j) 0 ≡ get_or part j 0 = sym (get_or-drop at text j 0) ∙ ap (λ (t : List ℕ). get_or t j 0) (stands ∙ h.1) in
+    h.0 j 0 low (sym this ∙ same)
+octet_of_part text here part (Some rest) at j stands h low same =
+    let this : get_or text (at + j) 0 ≡ get_or part j 0 = sym (get_or-drop at text j 0) ∙ ap (λ (t : List ℕ). get_or t j 0) (stands ∙ h.1) ∙ get_or_append_left part (dot ∷ rest) 0 j low in
+    h.0 j 0 low (sym this ∙ same)
+
+-- no part begins inside one
+none_inside : (text here part : List ℕ) (behind : Option (List ℕ)) (at k : ℕ) → drop at text ≡ here → Splits here part behind → at < k → k < at + length part + 1 → BeginsPart text k → ⊥
+none_inside text here part behind at k stands h above below (inl begins) = omega arith
+none_inside text here part behind at k stands h above below (inr begins) =
+    let P : ℕ → Type 0 = λ i. get_or text i 0 ≡ dot in
+    let place : k - 1 ≡ at + (k - 1 - at) = omega arith in
+    octet_of_part text here part behind at (k - 1 - at) stands h (omega arith) (subst P place begins.2)
+
+part_at_is : (text here part : List ℕ) (behind : Option (List ℕ)) (at : ℕ) → drop at text ≡ here → Splits here part behind → part_at text at ≡ part
+part_at_is text here part behind at stands h = ap (λ (t : List ℕ). part_at t 0) stands ∙ to_dot_is here part behind h
+
+before_here : (text here part : List ℕ) (behind : Option (List ℕ)) (at n : ℕ) → drop at text ≡ here → Splits here part behind → IsNumeral part n
+    → ((k : ℕ) → k < at → BeginsPart text k → (m : ℕ) × IsNumeral (part_at text k) m)
+    → (k : ℕ) → k < at + length part + 1 → BeginsPart text k → (k ≡ at) ⊎ ((k < at) ⊎ (at < k)) → (m : ℕ) × IsNumeral (part_at text k) m
+before_here text here part behind at n stands h one before k low begins (inl same) =
+    let P : List ℕ → Type 0 = λ t. IsNumeral t n in
+    (n, subst P (sym (ap (part_at text) same ∙ part_at_is text here part behind at stands h)) one)
+before_here text here part behind at n stands h one before k low begins (inr (inl below)) = before k below begins
+before_here text here part behind at n stands h one before k low begins (inr (inr above)) = absurd (none_inside text here part behind at k stands h above low begins)
+
+before_more : (text here part : List ℕ) (behind : Option (List ℕ)) (at n : ℕ) → drop at text ≡ here → Splits here part behind → IsNumeral part n
+    → ((k : ℕ) → k < at → BeginsPart text k → (m : ℕ) × IsNumeral (part_at text k) m)
+    → (k : ℕ) → k < at + length part + 1 → BeginsPart text k → (m : ℕ) × IsNumeral (part_at text k) m
+before_more text here part behind at n stands h one before k low begins = before_here text here part behind at n stands h one before k low begins (cases_order k at)
+
+-- what stands behind the part
+length_behind : (here part rest : List ℕ) → here ≡ part ++ dot ∷ rest → length here ≡ length part + 1 + length rest
+length_behind here part rest is = omega (arith, ap length is, length-append part (dot ∷ rest))
+
+stands_behind : (text here part : List ℕ) (behind : Option (List ℕ)) (at : ℕ) → StandsAt text (Some here) at → Splits here part behind → StandsAt text behind (at + length part + 1)
+stands_behind text here part None at stands h = omega (arith, stands.1, ap length h.1)
+stands_behind text here part (Some rest) at stands h =
+    let rests : drop (length part + 1) here ≡ rest = ap (drop (length part + 1)) h.1 ∙ drop_behind part rest in
+    let place : drop (at + length part + 1) text ≡ rest = ap (λ n. drop n text) (place_is at (length part)) ∙ sym (drop-drop (length part + 1) at text) ∙ ap (drop (length part + 1)) stands.0 ∙ rests in
+    let octet : get_or text (at + length part) 0 ≡ dot = sym (get_or-drop at text (length part) 0) ∙ ap (λ (t : List ℕ). get_or t (length part) 0) (stands.0 ∙ h.1) ∙ get_or-append_seam part dot rest 0 in
+    let P : ℕ → Type 0 = λ i. get_or text i 0 ≡ dot in
+    let before : at + length part ≡ at + length part + 1 - 1 = omega arith in
+    (place, omega (arith, stands.1, length_behind here part rest h.1), inr (omega (arith, stands.1, length_behind here part rest h.1), omega arith, subst P before octet))
+  where
+    drop_behind : (part rest : List ℕ) → drop (length part + 1) (part ++ dot ∷ rest) ≡ rest
+    drop_behind part rest = sym (drop-drop 1 (length part) (part ++ dot ∷ rest)) ∙ ap (drop 1) (drop_at part (dot ∷ rest) (length part) refl)
+
+    place_is : (at n : ℕ) → at + n + 1 ≡ at + (n + 1)
+    place_is at n = omega arith
+
+-- a number is kept, or there is no room for it
+abbrev pub Keeps : List ℕ → Bool → ℕ → List ℕ → Bool → Type 0
+Keeps kept too_long n new now = ((length kept < 128) × (new ≡ kept ++ n ∷ []) × (now ≡ too_long)) ⊎ ((128 ≤ length kept) × (new ≡ kept) × (now ≡ true))
+
+keeps_more : (numbers kept new : List ℕ) (too_long now : Bool) (n : ℕ) → kept ≡ take 128 numbers → (too_long ≡ true → 128 < length numbers) → Keeps kept too_long n new now
+    → (new ≡ take 128 (numbers ++ n ∷ [])) × (now ≡ false → length (numbers ++ n ∷ []) ≤ 128) × (now ≡ true → 128 < length (numbers ++ n ∷ []))
+keeps_more numbers kept new too_long now n first long (inl keeps) =
+    let count : length kept ≡ min 128 (length numbers) = ap length first ∙ length-take 128 numbers in
+    let room : length numbers < 128 = omega (arith, count, keeps.0) in
+    let whole : kept ≡ numbers = first ∙ take_all 128 numbers (omega arith) in
+    let fits : length (numbers ++ n ∷ []) ≤ 128 = omega (arith, length_push numbers n) in
+    (keeps.1 ∙ ap (λ (s : List ℕ). s ++ n ∷ []) whole ∙ sym (take_all 128 (numbers ++ n ∷ []) fits), λ _. fits, λ e. (let over : 128 < length numbers = long (sym keeps.2 ∙ e) in absurd (omega arith)))
+keeps_more numbers kept new too_long now n first long (inr keeps) =
+    let count : length kept ≡ min 128 (length numbers) = ap length first ∙ length-take 128 numbers in
+    let full : 128 ≤ length numbers = omega (arith, count, keeps.0) in
+    (keeps.1 ∙ first ∙ sym (take-append-le 128 numbers (n ∷ []) full), λ e. (let no : false ≡ true = sym e ∙ keeps.2 in cc), λ _. omega (arith, length_push numbers n))
+
+-- one more part
+pub parse_more : (text here part : List ℕ) (behind : Option (List ℕ)) (kept new : List ℕ) (too_long now : Bool) (n : ℕ)
+    → IsParsedTo text (Some here) kept too_long → Splits here part behind → IsNumeral part n → Keeps kept too_long n new now → IsParsedTo text behind new now
+parse_more text here part behind kept new too_long now n h split one keeps = record {
+  more = h.more;
+  dotted = h.dotted;
+  front = h.front;
+  done = h.done ++ part ∷ [];
+  numbers = h.numbers ++ n ∷ [];
+  are = numerals_more h.done h.numbers part n h.are one;
+  whole = h.whole ∙ ap (λ (ps : List (List ℕ)). h.done ++ ps) (parts_of here part behind split) ∙ sym (append_assoc h.done (part ∷ []) (parts_left behind));
+  first = (keeps_more h.numbers kept new too_long now n h.first h.long keeps).0;
+  short = (keeps_more h.numbers kept new too_long now n h.first h.long keeps).1;
+  long = (keeps_more h.numbers kept new too_long now n h.first h.long keeps).2;
+  at = h.at + length part + 1;
+  stands = stands_behind text here part behind h.at h.stands split;
+  before = before_more text here part behind h.at n h.stands.0 split one h.before;
+}
+
+-- a part that is no numeral is the first bad one, and the text names nothing
+pub bad_part_here : (text here part : List ℕ) (behind : Option (List ℕ)) (kept : List ℕ) (too_long : Bool) → IsParsedTo text (Some here) kept too_long → Splits here part behind
+    → ((n : ℕ) → IsNumeral part n → ⊥) → IsFirstBadPart text (length text - length here)
+bad_part_here text here part behind kept too_long h split bad =
+    let P : ℕ → Type 0 = λ k. IsFirstBadPart text k in
+    let place : h.at ≡ length text - length here = omega (arith, h.stands.1) in
+    let this : IsFirstBadPart text h.at = record {
+      more = h.more;
+      part = h.stands.2;
+      bad = λ n one. bad n (let Q : List ℕ → Type 0 = λ t. IsNumeral t n in subst Q (part_at_is text here part behind h.at h.stands.0 split) one);
+      before = h.before;
+    } in
+    subst P place this
+
+pub bad_part_no_name : (text here part : List ℕ) (behind : Option (List ℕ)) (kept : List ℕ) (too_long : Bool) → IsParsedTo text (Some here) kept too_long → Splits here part behind
+    → ((n : ℕ) → IsNumeral part n → ⊥) → (o : List ℕ) → IsNumericName text o → ⊥
+bad_part_no_name text here part behind kept too_long h split bad o name =
+    let P : List (List ℕ) → Type 0 = λ ps. AreNumerals ps o in
+    let all : AreNumerals (h.done ++ part ∷ parts_left behind) o =
+    subst P (h.whole ∙ ap (λ (ps : List (List ℕ)). h.done ++ ps) (parts_of here part behind split)) (numerals_from_dotted o h.dotted (dotted_from_name text h.dotted o h.more h.front name)) in
+    let one = part_is_numeral h.done part (parts_left behind) o all in
+    bad one.0 one.1
+
+-- at the end the text names the numbers read
+pub parsed_name : (text kept : List ℕ) (too_long : Bool) (h : IsParsedTo text None kept too_long) → IsNumericName text h.numbers
+parsed_name text kept too_long h =
+    let P : List (List ℕ) → Type 0 = λ ps. AreNumerals ps h.numbers in
+    name_from_dotted text h.dotted h.numbers h.front (dotted_from_numerals h.numbers h.dotted (subst P (sym (h.whole ∙ append-nil h.done)) h.are))
+
+-- and nothing else
+pub parsed_only : (text kept : List ℕ) (too_long : Bool) (h : IsParsedTo text None kept too_long) (o : List ℕ) → IsNumericName text o → o ≡ h.numbers
+parsed_only text kept too_long h o name =
+    let P : List (List ℕ) → Type 0 = λ ps. AreNumerals ps o in
+    same_numerals h.done o h.numbers (subst P (h.whole ∙ append-nil h.done) (numerals_from_dotted o h.dotted (dotted_from_name text h.dotted o h.more h.front name))) h.are
+
+-- no part is bad
+pub parsed_no_bad : (text kept : List ℕ) (too_long : Bool) → IsParsedTo text None kept too_long → (at : ℕ) → IsFirstBadPart text at → ⊥
+parsed_no_bad text kept too_long h at bad =
+    let one = h.before at (omega (arith, h.stands, place_below text at bad.part)) bad.part in bad.bad one.0 one.1
+  where
+    place_below : (text : List ℕ) (at : ℕ) → BeginsPart text at → at ≤ length text
+    place_below text at (inl begins) = omega arith
+    place_below text at (inr begins) = begins.0
+
+pub parsed_short : (text kept : List ℕ) → (h : IsParsedTo text None kept false) → (length h.numbers ≤ 128) × (kept ≡ h.numbers)
+parsed_short text kept h = (h.short refl, h.first ∙ take_all 128 h.numbers (h.short refl))

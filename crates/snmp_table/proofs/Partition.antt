@@ -1,0 +1,67 @@
+-- Where the rows behind a name begin.
+use Rattle.std.proofs.Common.{◌≡◌, ℕ, zero, suc, ◌≤◌, ◌<◌, T, Bool, true, false, List, [], ◌∷◌, map, length, take, drop, slice_index_or, refl, sym, ◌∙◌, ap, arith, Less, Equal, Greater, Ordering}
+use Rattle.std.specs.Ordering.{nat_cmp, is_le, is_gt, ordering_reverse}
+use Rattle.std.specs.Cmp.{upto}
+use Rattle.std.specs.Cmp.Lexicographic.{slice_cmp, nat_list_cmp_total}
+use Rattle.std.specs.FinMap.{is_sorted}
+use Rattle.std.specs.List.{AllWithin}
+use Rattle.std.specs.List.Sorted.{IsPartitionedBy}
+use Rattle.snmp_table.specs.declared.row.Row.{Row}
+use Rattle.snmp_table.specs.Row.{entry_of}
+use Rattle.snmp_table.specs.Places.{IsRising, IsBeforeNone, IsBeforeAll, is_up_to}
+use Rattle.snmp_table.proofs.Rising.{turned, before_all, first_of_both, second_of_both}
+
+before_at : (o : List ℕ) (rows : List Row) → IsBeforeAll o (map entry_of rows) → (j : ℕ) (d : Row) → j < length rows → slice_cmp nat_cmp o (slice_index_or rows j d).name.items ≡ Less
+before_at o [] h j d low = absurd (omega (arith, low))
+before_at o (row ∷ rows) h zero d low = h.0
+before_at o (row ∷ rows) h (suc j) d low = before_at o rows h.1 j d (omega (arith, low))
+
+not_greater : (r : Ordering) → is_le r ≡ true → is_gt r ≡ false
+not_greater Less h = refl
+not_greater Equal h = refl
+not_greater Greater h = sym h
+
+up_to_earlier : (o p q : List ℕ) → slice_cmp nat_cmp p q ≡ Less → is_le (slice_cmp nat_cmp q o) ≡ true → is_le (slice_cmp nat_cmp p o) ≡ true
+up_to_earlier o p q less h =
+    elim (slice_cmp nat_cmp p o) as (λ r. slice_cmp nat_cmp p o ≡ r → is_le r ≡ true) [
+      | Less ↦ λ _. refl
+      | Equal ↦ λ _. refl
+      | Greater ↦ λ is.
+        let first : is_gt (slice_cmp nat_cmp p q) ≡ false = ap is_gt less in
+        let second : is_gt (slice_cmp nat_cmp q o) ≡ false = not_greater (slice_cmp nat_cmp q o) h in
+        let no : is_gt (slice_cmp nat_cmp p o) ≡ false = upto nat_list_cmp_total p q o first second in
+        let yes : is_gt (slice_cmp nat_cmp p o) ≡ true = ap is_gt is in absurd (cc)
+    ] refl
+
+pub partitioned : (o : List ℕ) (rows : List Row) → IsRising rows → IsPartitionedBy (is_up_to o) rows
+partitioned o [] rising i j d order low h = absurd (omega (arith, low))
+partitioned o (row ∷ rows) rising zero zero d order low h = h
+partitioned o (row ∷ rows) rising zero (suc j) d order low h =
+    up_to_earlier o row.name.items _ (before_at row.name.items rows (before_all row.name.items (map entry_of rows) (first_of_both _ _ rising)) j d (omega (arith, low))) h
+partitioned o (row ∷ rows) rising (suc i) zero d order low h = absurd (omega (arith, order))
+partitioned o (row ∷ rows) rising (suc i) (suc j) d order low h = partitioned o rows (second_of_both _ _ rising) i j d (omega (arith, order)) (omega (arith, low)) h
+
+not_behind : (o p : List ℕ) → is_le (slice_cmp nat_cmp p o) ≡ true → slice_cmp nat_cmp o p ≡ Less → ⊥
+not_behind o p h less = let turn : slice_cmp nat_cmp p o ≡ Greater = turned o p Less less in cc
+
+is_behind : (o p : List ℕ) → is_le (slice_cmp nat_cmp p o) ≡ false → slice_cmp nat_cmp o p ≡ Less
+is_behind o p h =
+    elim (slice_cmp nat_cmp p o) as (λ r. slice_cmp nat_cmp p o ≡ r → is_le r ≡ false → slice_cmp nat_cmp o p ≡ Less) [
+      | Less ↦ λ _ no. absurd (cc)
+      | Equal ↦ λ _ no. absurd (cc)
+      | Greater ↦ λ is _. turned p o Greater is
+    ] refl h
+
+pub passed_front : (o : List ℕ) (rows : List Row) (place : ℕ) → AllWithin (λ row. is_up_to o row ≡ true) rows 0 place → place ≤ length rows → IsBeforeNone o (map entry_of (take place rows))
+passed_front o [] zero h low = tt
+passed_front o [] (suc place) h low = tt
+passed_front o (row ∷ rows) zero h low = tt
+passed_front o (row ∷ rows) (suc place) h low =
+    (not_behind o row.name.items (h 0 row (omega arith) (omega arith)), passed_front o rows place (λ k d from below. h (suc k) d (omega arith) (omega (arith, below))) (omega (arith, low)))
+
+pub ahead_back : (o : List ℕ) (rows : List Row) (place : ℕ) → AllWithin (λ row. is_up_to o row ≡ false) rows place (length rows) → IsBeforeAll o (map entry_of (drop place rows))
+ahead_back o [] zero h = tt
+ahead_back o [] (suc place) h = tt
+ahead_back o (row ∷ rows) zero h =
+    (is_behind o row.name.items (h 0 row (omega arith) (omega arith)), ahead_back o rows zero (λ k d from below. h (suc k) d (omega arith) (omega (arith, below))))
+ahead_back o (row ∷ rows) (suc place) h = ahead_back o rows place (λ k d from below. h (suc k) d (omega (arith, from)) (omega (arith, below)))

@@ -1,0 +1,43 @@
+use Rattle.std.proofs.Common.{◌≡◌, List, ℕ, map, Some, None, sym, ◌∙◌, ap, subst, true}
+use Rattle.std.specs.Ordering.{nat_cmp}
+use Rattle.std.specs.Cmp.Lexicographic.{slice_cmp}
+use Rattle.std.specs.FinMap.{find}
+use Rattle.snmp_wire.specs.Message.{Datum, datum}
+use Rattle.snmp_wire.specs.Message.Datum.{no_such_object, no_such_instance}
+use Rattle.snmp_table.specs.Table.{MibView, IsGet}
+use Rattle.snmp_table.specs.Row.{entry_of, datum_of}
+use Rattle.snmp_table.specs.Places.{HasBeginning}
+use Rattle.snmp_table.proofs.Finding.{get_variable, get_no_instance, get_no_object}
+use Rattle.snmp_table.proofs.table.Table.get.Goals as goal
+
+pub returns-in-Some : goal.returns-in-Some
+returns-in-Some c =
+    let rows = c.self.inside.rows.items in
+    let objects = map (λ o. o.items) c.self.inside.objects.keys in
+    let o = c.args.name.now in
+    let value : Some (datum_of c.in-Some.row.now.value) ≡ find (slice_cmp nat_cmp) o (map entry_of rows) = rw (c.as_slice.ensures.value, c.as_slice-numbers.ensures.value) at c.in-Some.ensures.value in
+    let found : find (slice_cmp nat_cmp) o (map entry_of rows) ≡ Some (datum c.as_ref.result) = sym value ∙ ap (λ (v : Datum). Some v) (sym c.as_ref.ensures) in
+    let P : MibView → Type 0 = λ view. IsGet view o (record { name = o; value = datum c.as_ref.result }) in
+    subst P c.self.view_is (get_variable rows objects o c.self.invariant.rising (datum c.as_ref.result) found)
+
+pub returns-in-None : goal.returns-in-None
+returns-in-None c =
+    let rows = c.self.inside.rows.items in
+    let objects = map (λ o. o.items) c.self.inside.objects.keys in
+    let o = c.args.name.now in
+    let nothing : None ≡ find (slice_cmp nat_cmp) o (map entry_of rows) = rw (c.as_slice.ensures.value, c.as_slice-numbers.ensures.value) at c.in-None.ensures.value in
+    let some : HasBeginning objects o = rw c.as_slice-numbers.ensures.value at (c.has_beginning.ensures.0 c.if-has_beginning.true) in
+    let P : MibView → Type 0 = λ view. IsGet view o (record { name = o; value = no_such_instance }) in
+    subst P c.self.view_is (get_no_instance rows objects o c.self.invariant.rising (sym nothing) some)
+
+pub returns-in-None-2 : goal.returns-in-None-2
+returns-in-None-2 c =
+    let rows = c.self.inside.rows.items in
+    let objects = map (λ o. o.items) c.self.inside.objects.keys in
+    let o = c.args.name.now in
+    let nothing : None ≡ find (slice_cmp nat_cmp) o (map entry_of rows) = rw (c.as_slice.ensures.value, c.as_slice-numbers.ensures.value) at c.in-None.ensures.value in
+    let never : HasBeginning objects o → ⊥ = λ h.
+        let h2 : HasBeginning objects c.as_slice-numbers.result.now = rw (← c.as_slice-numbers.ensures.value) at h in
+        let yes_it : c.has_beginning.result ≡ true = c.has_beginning.ensures.1 h2 in absurd (cc (c.if-has_beginning.false)) in
+    let P : MibView → Type 0 = λ view. IsGet view o (record { name = o; value = no_such_object }) in
+    subst P c.self.view_is (get_no_object rows objects o c.self.invariant.rising (sym nothing) never)

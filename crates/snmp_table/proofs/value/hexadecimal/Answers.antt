@@ -1,0 +1,16 @@
+use Rattle.std.proofs.Common.{◌≡◌, ◌≤◌, ◌*◌, ℕ, List, Ok, length, sym, ◌∙◌, arith}
+use Rattle.hex.proofs.HexLemmas.{decode_of-ok, decode_of-same}
+use Rattle.snmp_table.proofs.value.hexadecimal.Goals as goal
+
+pub returns-then-text : goal.returns-then-text
+returns-then-text c = λ s h.
+    let long : length c.args.text.now ≡ 2 * length s = (decode_of-ok c.args.text.now s h.0).2 in
+    omega arith
+
+pub returns-in-Ok : goal.returns-in-Ok
+returns-in-Ok c =
+    let text = c.args.text.now in
+    let octets = c.in-Ok.octets.items in
+    let whole = c.in-Ok.ensures.ok in
+    let long : length text ≡ 2 * length octets = (decode_of-ok text octets whole).2 in
+    ((whole, omega arith), λ s h. decode_of-same text s octets h.0 whole)

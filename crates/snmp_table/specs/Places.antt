@@ -1,0 +1,51 @@
+-- Where rows stand: what private functions over the sorted list are proved to find.
+use Rattle.std.specs.Prelude.{◌≡◌, ℕ, T, Bool, true, List, [], ◌∷◌, ◌++◌, map, All}
+use Rattle.std.specs.Ordering.{nat_cmp, is_le, eq_by_cmp}
+use Rattle.std.specs.List.{list_any}
+use Rattle.std.specs.declared.cmp.Ordering.TheVariants.{Less}
+use Rattle.std.specs.Cmp.Lexicographic.{slice_cmp}
+use Rattle.std.specs.FinMap.{is_sorted}
+use Rattle.snmp_wire.specs.Message.{Datum, VarBind}
+use Rattle.snmp_table.specs.declared.row.Row.{Row}
+use Rattle.snmp_table.specs.Row.{entry_of, view_of, IsShortRow}
+use Rattle.snmp_table.specs.Table.{IsMibView}
+
+-- the names of the rows rise
+abbrev pub IsRising : List Row → Type 0
+IsRising rows = T (is_sorted (slice_cmp nat_cmp) (map entry_of rows))
+
+-- whether the row has the name or one before it
+abbrev pub is_up_to : List ℕ → Row → Bool
+is_up_to o row = is_le (slice_cmp nat_cmp row.name.items o)
+
+-- the name comes before each of the list
+abbrev pub IsBeforeAll : List ℕ → List (List ℕ × Datum) → Type 0
+IsBeforeAll o [] = Unit {0}
+IsBeforeAll o (e ∷ es) = (slice_cmp nat_cmp o e.0 ≡ Less) × IsBeforeAll o es
+
+-- the name comes before none of the list
+abbrev pub IsBeforeNone : List ℕ → List (List ℕ × Datum) → Type 0
+IsBeforeNone o [] = Unit {0}
+IsBeforeNone o (e ∷ es) = (slice_cmp nat_cmp o e.0 ≡ Less → ⊥) × IsBeforeNone o es
+
+abbrev pub var_of : List ℕ × Datum → VarBind
+var_of e = record { name = e.0; value = e.1 }
+
+-- the rows as variable bindings
+abbrev pub bindings_of : List Row → List VarBind
+bindings_of rows = map var_of (map entry_of rows)
+
+-- the name of the last row, or another where there is none
+abbrev pub last_name : List ℕ → List Row → List ℕ
+last_name o [] = o
+last_name o (row ∷ rows) = last_name row.name.items rows
+
+-- the name equals one of the object prefixes or begins with it
+abbrev pub HasBeginning : List (List ℕ) → List ℕ → Type 0
+HasBeginning objects o = (object : List ℕ) × (rest : List ℕ) × (list_any (eq_by_cmp (slice_cmp nat_cmp) object) objects ≡ true) × (o ≡ object ++ rest)
+
+-- what a table keeps: rising rows, which are a view's
+pub record IsKept (rows : List Row) (objects : List (List ℕ)) : Type 0 where
+  pub rising : IsRising rows
+  pub short : All IsShortRow rows
+  pub view : IsMibView (view_of rows objects)

@@ -1,0 +1,56 @@
+-- How a table keeps what it serves: rows in the order of their names.
+use Rattle.std.specs.Prelude.{◌≡◌, ℕ, ◌≤◌, T, List, [], ◌∷◌, map, length, codes, All}
+use Rattle.std.specs.Ordering.{nat_cmp}
+use Rattle.std.specs.Cmp.Lexicographic.{slice_cmp}
+use Rattle.std.specs.FinMap.{from_sorted, is_sorted}
+use Rattle.std.specs.FinSet.{from_list}
+use Rattle.snmp_wire.specs.Message.{Datum}
+use Rattle.snmp_wire.specs.Message.Datum.{integer_value, octet_string, object_id, ip_address, counter32, gauge32, time_ticks, opaque_octets, counter64}
+use Rattle.snmp_table.specs.declared.row.Row.{Row}
+use Rattle.snmp_table.specs.declared.value.Tag.{Tag}
+use Rattle.snmp_table.specs.declared.value.Tag.TheVariants as tag
+use Rattle.snmp_table.specs.declared.row.RowValue.{RowValue}
+use Rattle.snmp_table.specs.declared.row.RowValue.TheVariants as value
+use Rattle.snmp_table.specs.Table.{MibView}
+
+-- the value without where it lies
+abbrev pub datum_of : RowValue → Datum
+datum_of (value.Integer n) = integer_value n
+datum_of (value.Octets octets) = octet_string octets.items
+datum_of (value.ObjectId numbers) = object_id numbers.items
+datum_of (value.IpAddress octets) = ip_address octets
+datum_of (value.Counter32 n) = counter32 n
+datum_of (value.Gauge32 n) = gauge32 n
+datum_of (value.TimeTicks n) = time_ticks n
+datum_of (value.Opaque octets) = opaque_octets octets.items
+datum_of (value.Counter64 n) = counter64 n
+
+-- an identifier among values is no longer than identifiers are
+abbrev pub IsShort : RowValue → Type 0
+IsShort (value.ObjectId numbers) = length numbers.items ≤ 128
+IsShort _ = Unit {0}
+
+abbrev pub entry_of : Row → List ℕ × Datum
+entry_of row = (row.name.items, datum_of row.value)
+
+-- what rows and object prefixes are seen as
+abbrev pub view_of : List Row → List (List ℕ) → MibView
+view_of rows objects = record { rows = from_sorted (map entry_of rows); objects = from_list objects }
+
+-- an identifier is no longer than identifiers are, as the name of a row and among values
+pub record IsShortRow (row : Row) : Type 0 where
+  pub name : length row.name.items ≤ 128
+  pub value : IsShort row.value
+
+-- how a tag is written
+abbrev pub tag_text : Tag → List ℕ
+tag_text tag.Integer = codes "2"
+tag_text tag.OctetString = codes "4"
+tag_text tag.HexOctetString = codes "4x"
+tag_text tag.ObjectId = codes "6"
+tag_text tag.IpAddress = codes "64"
+tag_text tag.Counter32 = codes "65"
+tag_text tag.Gauge32 = codes "66"
+tag_text tag.TimeTicks = codes "67"
+tag_text tag.HexOpaque = codes "68x"
+tag_text tag.Counter64 = codes "70"

@@ -1,0 +1,146 @@
+//! The table.
+ghost use Rattle.std.specs.Prelude.{◌≡◌, ◌≤◌, ◌↔◌, length, take, drop, map, IsTrue, true, All, IfSome};
+ghost use Rattle.std.specs.Option.{option_map};
+ghost use Rattle.std.specs.Ordering.{nat_cmp};
+ghost use Rattle.std.specs.Cmp.Lexicographic.{slice_cmp};
+ghost use Rattle.std.specs.FinMap.{find};
+ghost use Rattle.snmp_wire.specs.Message.{datum, var_bind};
+ghost use Rattle.snmp_wire.specs.Message.Datum.{end_of_mib_view};
+ghost use Rattle.snmp_table.specs.Row.{entry_of, datum_of, IsShortRow};
+ghost use Rattle.snmp_table.specs.Places.{IsRising, IsBeforeNone, IsBeforeAll, is_up_to, bindings_of, last_name, HasBeginning};
+ghost use Rattle.snmp_table.specs.Listing.{nth_or_end};
+
+use crate::row::{Row, identifier};
+use std::collections::BTreeSet;
+use std::marker::Model;
+use snmp_wire::{Binding, Oid, ValueRef};
+
+/// What an agent serves.
+#[derive(Drop)]
+pub struct Table {
+    rows: Vec<Row>,
+    objects: BTreeSet<Vec<u32>>,
+}
+
+impl Model for Table {
+    ghost use Rattle.std.specs.Prelude.{map};
+    ghost use Rattle.std.specs.Coded.{codes};
+    ghost use Rattle.std.specs.FinMap.{code};
+    ghost use Rattle.snmp_table.specs.Table.{MibView};
+
+    ghost Value = { MibView };
+
+    ghost coded = { Prim.hlevel (codes, code) };
+
+    ghost use Rattle.snmp_table.specs.Row.{view_of};
+    ghost use Rattle.snmp_table.specs.Places.{IsKept};
+
+    ghost view = { λ t. view_of t.rows.items (map (λ o. o.items) t.objects.keys) };
+
+    ghost invariant = { λ t. IsKept t.rows.items (map (λ o. o.items) t.objects.keys) };
+}
+
+impl Table {
+    ghost use Rattle.snmp_wire.specs.Message.{datum, var_bind};
+    ghost use Rattle.snmp_table.specs.Table.{IsGet, IsNext, IsNextAfter, IsMibView};
+
+    /// The answer to a Get of the name: its value; else `NoSuchObject` where no object prefix equals the name or begins it, and `NoSuchInstance` where one does (RFC 3416, section 4.2.1).
+    pub fn get(&self, name: &Oid) -> ValueRef<'_>
+        ensures { IsGet self.now name.now (record { name = name.now; value = datum result }) }
+    {
+        let numbers = name.as_slice();
+        match row_at(self.rows.as_slice(), numbers) {
+            Some(row) => row.value.as_ref(),
+            None if has_beginning(&self.objects, numbers) => ValueRef::NoSuchInstance,
+            None => ValueRef::NoSuchObject,
+        }
+    }
+
+    /// The answer to a GetNext of the name: the first row behind it, else the name itself with `EndOfMibView` (RFC 3416, section 4.2.2).
+    pub fn next(&self, name: &Oid) -> Binding<'_>
+        ensures { IsNext self.now name.now (var_bind result) }
+    {
+        self.next_after(name, 0)
+    }
+
+    /// The answer to a GetNext that is asked again, `rounds` times more, from the name that it gave, as a GetBulk does (RFC 3416, section 4.2.3).
+    pub fn next_after(&self, name: &Oid, rounds: usize) -> Binding<'_>
+        ensures { IsNextAfter self.now rounds name.now (var_bind result) }
+    {
+        let rows = self.rows.as_slice();
+        let (_, behind) = rows.split_at(place_behind(rows, name.as_slice()));
+        nth_or_end(behind, name, rounds)
+    }
+}
+
+/// The row of this name.
+fn row_at<'a>(rows: &'a [Row], name: &[u32]) -> Option<&'a Row>
+    requires { IsRising rows.now }
+    ensures value { option_map (λ row. datum_of row.now.value) result ≡ find (slice_cmp nat_cmp) name.now (map entry_of rows.now) }
+    ensures short { All IsShortRow rows.now → IfSome result (λ row. IsShortRow row.now) }
+{
+    let (front, _) = rows.split_at(place_behind(rows, name));
+    let row = front.last()?;
+    if row.name.as_slice() == name { Some(row) } else { None }
+}
+
+/// Whether the name equals one of the object prefixes or begins with it.
+fn has_beginning(objects: &BTreeSet<Vec<u32>>, name: &[u32]) -> bool
+    ensures { IsTrue result ↔ HasBeginning (map (λ object. object.items) objects.now.keys) name.now }
+{
+    'ends: for end in 0..=name.len() {
+        if objects.contains(&name[..end]) {
+            return true;
+        }
+    }
+    false
+}
+
+/// How many rows at the front have the name or one before it.
+fn place_behind(rows: &[Row], name: &[u32]) -> usize
+    requires { IsRising rows.now }
+    ensures bound { result ≤ length rows.now }
+    ensures passed { IsBeforeNone name.now (map entry_of (take result rows.now)) }
+    ensures ahead { IsBeforeAll name.now (map entry_of (drop result rows.now)) }
+{
+    rows.partition_point(
+        |row: &Row| -> bool
+            ensures { result ≡ is_up_to name.entry.now row.now }
+        { row.name.as_slice().cmp(name).is_le() },
+    )
+}
+
+/// The row at this place, or past the end the last name, `name` if there is no row, with `EndOfMibView`.
+fn nth_or_end<'a>(rows: &'a [Row], name: &Oid, place: usize) -> Binding<'a>
+    requires { All IsShortRow rows.now }
+    ensures { var_bind result ≡ nth_or_end name.now (bindings_of rows.now) place }
+{
+    match rows.get(place) {
+        Some(row) => row.binding(),
+        None => end_of_mib_view(last_name(rows, name.as_slice())),
+    }
+}
+
+/// The name of the last row, `name` if there is no row.
+fn last_name<'a>(rows: &'a [Row], name: &'a [u32]) -> &'a [u32]
+    requires rows { All IsShortRow rows.now }
+    requires name { length name.now ≤ 128 }
+    ensures value { result.now ≡ last_name name.now rows.now }
+    ensures short { length result.now ≤ 128 }
+{
+    match rows.last() {
+        Some(row) => row.name.as_slice(),
+        None => name,
+    }
+}
+
+/// The name with `EndOfMibView`.
+fn end_of_mib_view<'a>(name: &[u32]) -> Binding<'a>
+    requires { length name.now ≤ 128 }
+    ensures { var_bind result ≡ record { name = name.now; value = end_of_mib_view } }
+{
+    Binding {
+        name: identifier(name),
+        value: ValueRef::EndOfMibView,
+    }
+}
