@@ -89,14 +89,14 @@ module _ (first : Walker) where
 
   -- an honest step is one of any kind
   went_on : (old : Walker) (given more : List VarBind) (next : Phase) (b : Bool) → b ≡ nat_lt old.id 2147483647
-      → Advances Rises Named Small first given (cond b (step.Rows more, record old { phase = next; asked = last_name old.asked more; id = old.id + 1; count = old.count + length more }) (stops old more ending.TooManyRequests)).0
+      → Advances Rises Named Small first old given (cond b (step.Rows more, record old { phase = next; asked = last_name old.asked more; id = old.id + 1; count = old.count + length more }) (stops old more ending.TooManyRequests)).0
           (cond b (step.Rows more, record old { phase = next; asked = last_name old.asked more; id = old.id + 1; count = old.count + length more }) (stops old more ending.TooManyRequests)).1
       → Keeps_step old given (cond b (step.Rows more, record old { phase = next; asked = last_name old.asked more; id = old.id + 1; count = old.count + length more }) (stops old more ending.TooManyRequests))
   went_on old given more next true e h = let low : old.id < 2147483647 = ltb-true _ _ (sym e) in (refl, omega arith, h)
   went_on old given more next false e h = (refl, h.0)
 
   closed_any : (old : Walker) (given more : List VarBind) (b : Bool) (n : ℕ)
-      → Advances Rises Named Small first given (cond b (goes_on old phase.Last []) (stops old more (ending.Done n))).0 (cond b (goes_on old phase.Last []) (stops old more (ending.Done n))).1
+      → Advances Rises Named Small first old given (cond b (goes_on old phase.Last []) (stops old more (ending.Done n))).0 (cond b (goes_on old phase.Last []) (stops old more (ending.Done n))).1
       → Keeps_step old given (cond b (goes_on old phase.Last []) (stops old more (ending.Done n)))
   closed_any old given more true n h = went_on old given [] phase.Last (nat_lt old.id 2147483647) refl h
   closed_any old given more false n h = (refl, h.0)

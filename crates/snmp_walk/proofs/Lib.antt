@@ -7,3 +7,4 @@ pub mod StandingLemmas
 pub mod OrderLemmas
 pub mod TableLemmas
 pub mod AnyLemmas
+pub mod SinkLemmas

@@ -22,13 +22,13 @@ use Rattle.snmp_walk.specs.Trail.{last_name, IsTrail, IsAtEnd, AreAnswers}
 use Rattle.snmp_walk.specs.Walker.{Walker}
 use Rattle.std.specs.Ordering.{int_eq}
 use Rattle.snmp_walk.specs.Taken.{is_over, is_response, is_awaited, is_plain, inside_front, rising_front, asked_for, stops, goes_on, closes, reads, reads_next, got, if_present, reads_first, reads_last, reads_for, reads_reply, take_of}
-use Rattle.snmp_walk.specs.Standing.{IsChain, IsLarge, IsGetContent, IsNextContent, IsContent, IsReplyTo, IsOpening, IsGiven, IsAlone, IsPart, IsWhole, IsStage, Stands, Ends, Advances}
+use Rattle.snmp_walk.specs.Standing.{IsChain, IsLarge, IsGetContent, IsNextContent, IsContent, IsReplyTo, IsOpening, IsGiven, IsAlone, IsPart, IsWhole, IsStage, IsRefused, Stands, Ends, Advances}
 use Rattle.snmp_walk.proofs.TrailLemmas.{last_name-append, trail-append, IsFront, chain_front, chain_has_values}
 
 module _ (Next Got : List ℕ → VarBind → Type 0) (Large : VarBind → Type 0) (laws : AreAnswers Next Got) (first : Walker) where
   -- a step as a pair
-  abbrev pub Goes : List VarBind → Step × Walker → Type 0
-  Goes given s = Advances Next Got Large first given s.0 s.1
+  abbrev pub Goes : Walker → List VarBind → Step × Walker → Type 0
+  Goes old given s = Advances Next Got Large first old given s.0 s.1
 
   pub part_of_stage : (given : List VarBind) (o : List ℕ) (p : Phase) → IsStage Next Got first given o p → IsPart Next Got first given
   part_of_stage given o phase.First h = inl h.0
@@ -39,17 +39,17 @@ module _ (Next Got : List ℕ → VarBind → Type 0) (Large : VarBind → Type 
   -- the walk goes on, or has no id left
   pub goes : (given more : List VarBind) (w : Walker) (next : Phase) (s : Bool) → s ≡ nat_lt w.id 2147483647
       → Stands Next Got first w given → IsStage Next Got first (given ++ more) (last_name w.asked more) next
-      → Goes given (cond s (step.Rows more, record w { phase = next; asked = last_name w.asked more; id = w.id + 1; count = w.count + length more }) (stops w more ending.TooManyRequests))
+      → Goes w given (cond s (step.Rows more, record w { phase = next; asked = last_name w.asked more; id = w.id + 1; count = w.count + length more }) (stops w more ending.TooManyRequests))
   goes given more w next true e h stage = record {
       same = ap (λ (v : Walker). record v { phase = next; asked = last_name w.asked more; id = w.id + 1; count = w.count + length more }) h.same;
       count = omega (arith, h.count, length-append given more);
       stage = stage
   }
-  goes given more w next false e h stage = (part_of_stage (given ++ more) (last_name w.asked more) next stage, tt)
+  goes given more w next false e h stage = (part_of_stage (given ++ more) (last_name w.asked more) next stage, ltb-false _ _ (sym e))
 
   -- the end of a walk after the instances below the root
   whole : (given more : List VarBind) (w : Walker) (o : List ℕ) → w.count ≡ length given → IsGiven Next Got first (given ++ more) o → IsAtEnd Next first.root o
-      → (first.mode ≡ mode.Plain → given ++ more ≡ [] → ⊥) → Goes given (stops w more (ending.Done (w.count + length more)))
+      → (first.mode ≡ mode.Plain → given ++ more ≡ [] → ⊥) → Goes w given (stops w more (ending.Done (w.count + length more)))
   whole given more w o count h end some = (inr (inl (o, h)), (omega (arith, count, length-append given more), inl (o, h, end, some)))
 
   append_none : (xs ys : List VarBind) → xs ++ ys ≡ [] → (xs ≡ []) × (ys ≡ [])
@@ -80,7 +80,7 @@ module _ (Next Got : List ℕ → VarBind → Type 0) (Large : VarBind → Type 
   -- nothing more stands below the root
   pub closed : (given more : List VarBind) (w : Walker) (o : List ℕ) (b : Bool) → b ≡ (is_plain w.mode && (w.count + length more == 0))
       → Stands Next Got first w given → IsGiven Next Got first given w.asked → IsGiven Next Got first (given ++ more) o → IsAtEnd Next first.root o
-      → Goes given (cond b (goes_on w phase.Last []) (stops w more (ending.Done (w.count + length more))))
+      → Goes w given (cond b (goes_on w phase.Last []) (stops w more (ending.Done (w.count + length more))))
   closed given more w o true e h before h' end =
       let parts = and_parts (is_plain w.mode) (w.count + length more == 0) (sym e) in
       let none : w.count + length more ≡ 0 = eqb-true _ _ parts.1 in
@@ -110,7 +110,7 @@ module _ (Next Got : List ℕ → VarBind → Type 0) (Large : VarBind → Type 
   -- a chain of answers
   reads_chain : (given bindings inside rows : List VarBind) (w : Walker) (b : Bool) → b ≡ nat_lt (length rows) (length bindings)
       → Stands Next Got first w given → IsGiven Next Got first given w.asked → IsFront Next first.root w.asked bindings inside rows
-      → Goes given (cond b (closes w rows) (goes_on w phase.Rows rows))
+      → Goes w given (cond b (closes w rows) (goes_on w phase.Rows rows))
   reads_chain given bindings inside rows w true e h before front =
       let trail = subst (IsTrail Next first.root w.asked) (sym front.rising) front.is_trail in
       let fewer : length inside < length bindings = omega (arith, ltb-true-of e, ap length front.rising) in
@@ -126,17 +126,17 @@ module _ (Next Got : List ℕ → VarBind → Type 0) (Large : VarBind → Type 
   reads_front : (given bindings inside rows : List VarBind) (w : Walker)
       → Stands Next Got first w given → IsGiven Next Got first given w.asked → IsFront Next first.root w.asked bindings inside rows
       → (unsorted : Step × Walker)
-      → Goes given (cond (nat_lt (length rows) (length inside)) unsorted (cond (nat_lt (length rows) (length bindings)) (closes w rows) (goes_on w phase.Rows rows)))
+      → Goes w given (cond (nat_lt (length rows) (length inside)) unsorted (cond (nat_lt (length rows) (length bindings)) (closes w rows) (goes_on w phase.Rows rows)))
   reads_front given bindings inside rows w h before front unsorted =
       rw (le-ltb (length rows) (length inside) (omega (arith, ap length front.rising))) (reads_chain given bindings inside rows w _ refl h before front)
 
   -- a reply with the next instances
-  reads_instances : (given bindings : List VarBind) (w : Walker) → Stands Next Got first w given → IsGiven Next Got first given w.asked
+  reads_instances : (given bindings : List VarBind) (w : Walker) → w.phase ≡ phase.Rows → Stands Next Got first w given → IsGiven Next Got first given w.asked
       → IsChain Next w.asked bindings → length bindings ≤ asked_for w.method → (bindings ≡ [] → IsLarge Next Large w.asked)
-      → Goes given (reads_next w bindings)
-  reads_instances given [] w h before chain few large =
-      (inr (inl (w.asked, subst (λ (s : List VarBind). IsGiven Next Got first s w.asked) (sym (append-nil given)) before)), large refl)
-  reads_instances given (b ∷ more) w h before chain few large =
+      → Goes w given (reads_next w bindings)
+  reads_instances given [] w waits h before chain few large =
+      (inr (inl (w.asked, subst (λ (s : List VarBind). IsGiven Next Got first s w.asked) (sym (append-nil given)) before)), (waits, refl, large refl))
+  reads_instances given (b ∷ more) w waits h before chain few large =
       let fine : (nat_lt (asked_for w.method) (length (b ∷ more)) || list_any (λ p. is_missing p.value) (b ∷ more)) ≡ false =
             or_from _ _ (le-ltb _ _ few) (chain_has_values Next Got laws first.root w.asked (b ∷ more) chain) in
       let front = chain_front Next Got laws w.root w.asked (b ∷ more) chain in
@@ -158,7 +158,7 @@ module _ (Next Got : List ℕ → VarBind → Type 0) (Large : VarBind → Type 
 
   -- the reply to the Get with which a walk begins
   pub reads_root : (given : List VarBind) (w : Walker) (p : VarBind) → Stands Next Got first w given → IsStage Next Got first given w.asked phase.First
-      → Got w.asked p → Goes given (reads_first w (Some p))
+      → Got w.asked p → Goes w given (reads_first w (Some p))
   reads_root given w p h stage answer =
       let at : Got first.asked p = subst (λ (o : List ℕ). Got o p) stage.1 answer in
       let name : last_name w.asked (if_present p) ≡ w.asked = present_name w.asked p (is_missing p.value) (laws.same_name w.asked p answer) in
@@ -169,7 +169,7 @@ module _ (Next Got : List ℕ → VarBind → Type 0) (Large : VarBind → Type 
 
   -- the reply to the Get with which a walk ends that gave nothing
   pub reads_alone : (given : List VarBind) (w : Walker) (p : VarBind) → Stands Next Got first w given → IsStage Next Got first given w.asked phase.Last
-      → Got w.asked p → Goes given (reads_last w (Some p))
+      → Got w.asked p → Goes w given (reads_last w (Some p))
   reads_alone given w p h stage answer =
       let alone : IsAlone Next Got first (given ++ p ∷ []) = record {
             plain = stage.2; none = stage.3; answer = p; is_answer = subst (λ (o : List ℕ). Got o p) stage.1 answer; only = ap (λ (s : List VarBind). s ++ p ∷ []) stage.0
@@ -177,29 +177,30 @@ module _ (Next Got : List ℕ → VarBind → Type 0) (Large : VarBind → Type 
       (inr (inr alone), (omega (arith, h.count, length-append given (p ∷ [])), inr alone))
 
   -- tooBig
-  refused : (given : List VarBind) (w : Walker) (m : Message) (o : List ℕ) (p : Phase) → Stands Next Got first w given → IsStage Next Got first given w.asked p
-      → m.a ≡ pos 1 → m.b ≡ pos 0 → (IsLarge Next Large o ⊎ IsLarge Got Large o) → (answered : Step × Walker)
-      → Goes given (cond (int_eq m.a (pos 0)) answered (stops w [] (ending.Fault m.a m.b)))
-  refused given w m o p h stage status index large answered =
+  refused : (given : List VarBind) (w : Walker) (m : Message) (p : Phase) → w.phase ≡ p → Stands Next Got first w given → IsStage Next Got first given w.asked p
+      → m.a ≡ pos 1 → m.b ≡ pos 0 → IsRefused Next Got Large p w.asked → (answered : Step × Walker)
+      → Goes w given (cond (int_eq m.a (pos 0)) answered (stops w [] (ending.Fault m.a m.b)))
+  refused given w m p waits h stage status index large answered =
       let no_zero : int_eq m.a (pos 0) ≡ false = ap (λ (n : ℤ). int_eq n (pos 0)) status in
       let part = subst (IsPart Next Got first) (sym (append-nil given)) (part_of_stage given w.asked p stage) in
-      rw no_zero (part, (status, index, (o, large)))
+      let why : IsRefused Next Got Large w.phase w.asked = subst (λ (q : Phase). IsRefused Next Got Large q w.asked) (sym waits) large in
+      rw no_zero (part, (status, index, why))
 
-  fine : (given : List VarBind) (m : Message) (answered stopped : Step × Walker) → m.a ≡ pos 0 → Goes given answered
-      → Goes given (cond (int_eq m.a (pos 0)) answered stopped)
-  fine given m answered stopped status h = let zero_status : int_eq m.a (pos 0) ≡ true = ap (λ (n : ℤ). int_eq n (pos 0)) status in rw zero_status h
+  fine : (given : List VarBind) (w : Walker) (m : Message) (answered stopped : Step × Walker) → m.a ≡ pos 0 → Goes w given answered
+      → Goes w given (cond (int_eq m.a (pos 0)) answered stopped)
+  fine given w m answered stopped status h = let zero_status : int_eq m.a (pos 0) ≡ true = ap (λ (n : ℤ). int_eq n (pos 0)) status in rw zero_status h
 
-  reads_content : (given : List VarBind) (w : Walker) (m : Message) (p : Phase) → Stands Next Got first w given → IsStage Next Got first given w.asked p
-      → IsContent Next Got Large p w m → Goes given (cond (int_eq m.a (pos 0)) (reads_for p w m.bindings) (stops w [] (ending.Fault m.a m.b)))
-  reads_content given w m phase.First h stage (inl c) =
-      fine given m _ _ c.0 (rw (c.1.2, got_is w.asked c.1.0 c.1.1) (reads_root given w c.1.0 h stage c.1.1))
-  reads_content given w m phase.First h stage (inr c) = refused given w m w.asked phase.First h stage c.0 c.1 (inr c.2) _
-  reads_content given w m phase.Rows h stage (inl c) = fine given m _ _ c.0 (reads_instances given m.bindings w h stage c.1 c.2 c.3)
-  reads_content given w m phase.Rows h stage (inr c) = refused given w m w.asked phase.Rows h stage c.0 c.1 (inl c.2) _
-  reads_content given w m phase.Last h stage (inl c) =
-      fine given m _ _ c.0 (rw (c.1.2, got_is w.asked c.1.0 c.1.1) (reads_alone given w c.1.0 h stage c.1.1))
-  reads_content given w m phase.Last h stage (inr c) = refused given w m w.asked phase.Last h stage c.0 c.1 (inr c.2) _
-  reads_content given w m phase.Over h stage c = absurd c
+  reads_content : (given : List VarBind) (w : Walker) (m : Message) (p : Phase) → w.phase ≡ p → Stands Next Got first w given → IsStage Next Got first given w.asked p
+      → IsContent Next Got Large p w m → Goes w given (cond (int_eq m.a (pos 0)) (reads_for p w m.bindings) (stops w [] (ending.Fault m.a m.b)))
+  reads_content given w m phase.First waits h stage (inl c) =
+      fine given w m _ _ c.0 (rw (c.1.2, got_is w.asked c.1.0 c.1.1) (reads_root given w c.1.0 h stage c.1.1))
+  reads_content given w m phase.First waits h stage (inr c) = refused given w m phase.First waits h stage c.0 c.1 c.2 _
+  reads_content given w m phase.Rows waits h stage (inl c) = fine given w m _ _ c.0 (reads_instances given m.bindings w waits h stage c.1 c.2 c.3)
+  reads_content given w m phase.Rows waits h stage (inr c) = refused given w m phase.Rows waits h stage c.0 c.1 c.2 _
+  reads_content given w m phase.Last waits h stage (inl c) =
+      fine given w m _ _ c.0 (rw (c.1.2, got_is w.asked c.1.0 c.1.1) (reads_alone given w c.1.0 h stage c.1.1))
+  reads_content given w m phase.Last waits h stage (inr c) = refused given w m phase.Last waits h stage c.0 c.1 c.2 _
+  reads_content given w m phase.Over waits h stage c = absurd c
 
   waiting : (given : List VarBind) (o : List ℕ) (p : Phase) → IsStage Next Got first given o p → not (is_over p) ≡ true
   waiting given o phase.First h = refl
@@ -217,5 +218,5 @@ module _ (Next Got : List ℕ → VarBind → Type 0) (Large : VarBind → Type 
 
   -- an honest reply to the waiting request
   pub taken : (given : List VarBind) (w : Walker) (m : Message) → Stands Next Got first w given → IsReplyTo Next Got Large w m
-      → Advances Next Got Large first given (take_of w m).0 (take_of w m).1
-  taken given w m h r = rw (awaited given w m h r) (reads_content given w m w.phase h h.stage r.content)
+      → Advances Next Got Large first w given (take_of w m).0 (take_of w m).1
+  taken given w m h r = rw (awaited given w m h r) (reads_content given w m w.phase refl h h.stage r.content)

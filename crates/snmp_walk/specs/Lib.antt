@@ -6,3 +6,5 @@ pub mod Request
 pub mod Taken
 pub mod Reading
 pub mod Standing
+pub mod Link
+pub mod Sink

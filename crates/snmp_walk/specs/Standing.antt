@@ -94,20 +94,26 @@ pub record Stands (Next Got : List ℕ → VarBind → Type 0) (first w : Walker
   pub count : w.count ≡ length given
   pub stage : IsStage Next Got first given w.asked w.phase
 
--- the walk may end so, after these bindings
-abbrev pub Ends : (Next Got : List ℕ → VarBind → Type 0) → (VarBind → Type 0) → Walker → List VarBind → WalkEnd → Type 0
-Ends Next Got Large first given (ending.Done n) = (n ≡ length given) × IsWhole Next Got first given
-Ends Next Got Large first given (ending.Fault status index) =
-    (status ≡ pos 1) × (index ≡ pos 0) × ((o : List ℕ) × (IsLarge Next Large o ⊎ IsLarge Got Large o))
-Ends Next Got Large first given (ending.NoProgress o) = IsLarge Next Large o
-Ends Next Got Large first given ending.TooManyRequests = Unit {0}
-Ends Next Got Large first given _ = ⊥
+-- the answer to the waiting request has no room
+abbrev pub IsRefused : (Next Got : List ℕ → VarBind → Type 0) → (VarBind → Type 0) → Phase → List ℕ → Type 0
+IsRefused Next Got Large phase.First o = IsLarge Got Large o
+IsRefused Next Got Large phase.Rows o = IsLarge Next Large o
+IsRefused Next Got Large phase.Last o = IsLarge Got Large o
+IsRefused Next Got Large phase.Over o = ⊥
 
--- a step of the walk
-abbrev pub Advances : (Next Got : List ℕ → VarBind → Type 0) → (VarBind → Type 0) → Walker → List VarBind → Step → Walker → Type 0
-Advances Next Got Large first given step.Stray w = ⊥
-Advances Next Got Large first given (step.Rows more) w = Stands Next Got first w (given ++ more)
-Advances Next Got Large first given (step.Last more why) w = IsPart Next Got first (given ++ more) × Ends Next Got Large first (given ++ more) why
+-- the walk may end so, after these bindings, where w was waiting for the reply
+abbrev pub Ends : (Next Got : List ℕ → VarBind → Type 0) → (VarBind → Type 0) → Walker → Walker → List VarBind → WalkEnd → Type 0
+Ends Next Got Large first w given (ending.Done n) = (n ≡ length given) × IsWhole Next Got first given
+Ends Next Got Large first w given (ending.Fault status index) = (status ≡ pos 1) × (index ≡ pos 0) × IsRefused Next Got Large w.phase w.asked
+Ends Next Got Large first w given (ending.NoProgress o) = (w.phase ≡ phase.Rows) × (o ≡ w.asked) × IsLarge Next Large o
+Ends Next Got Large first w given ending.TooManyRequests = 2147483647 ≤ w.id
+Ends Next Got Large first w given _ = ⊥
+
+-- a step of the walk w
+abbrev pub Advances : (Next Got : List ℕ → VarBind → Type 0) → (VarBind → Type 0) → Walker → Walker → List VarBind → Step → Walker → Type 0
+Advances Next Got Large first old given step.Stray w = ⊥
+Advances Next Got Large first old given (step.Rows more) w = Stands Next Got first w (given ++ more)
+Advances Next Got Large first old given (step.Last more why) w = IsPart Next Got first (given ++ more) × Ends Next Got Large first old (given ++ more) why
 
 -- The agents are one table: its rows by rising names, what it answers to a GetNext, and `got` to a Get of the name that the walk begins from.
 pub record IsOneTable (rows : List VarBind) (got : VarBind) (Next Got : List ℕ → VarBind → Type 0) (first : Walker) : Type 0 where

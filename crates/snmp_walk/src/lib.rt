@@ -4,13 +4,17 @@
 #![tactic(auto)]
 
 mod end;
+mod link;
 mod mode;
 mod phase;
 mod rows;
+mod sink;
 mod walker;
 
 pub use end::{LinkFault, SinkFault, StartError, WalkEnd};
+pub use link::Link;
 pub use mode::{Method, Mode};
 pub use phase::Phase;
 pub use rows::{Rows, Step};
+pub use sink::Sink;
 pub use walker::WalkCore;

@@ -93,6 +93,7 @@ impl WalkCore {
         requires first_id { first_id < 2 ^ 31 }
         ensures ok { IfOk result (λ w. w ≡ resumed root after.now method community.now first_id) }
         ensures variant { IsOk result ↔ (IsWire (wire root) × ((after.now ≡ root) ⊎ IsBelow after.now root) × IsWire (wire after.now)) }
+        ensures not_wire { result ≡ Err StartError.NotWire → IsWire (wire root) × IsWire (wire after.now) → ⊥ }
         ensures outside { result ≡ Err StartError.AfterOutsideRoot → IsWire (wire root) × (after.now ≡ root → ⊥) × (IsBelow after.now root → ⊥) }
     {
         if root.to_wire().is_err() {
