@@ -8,3 +8,4 @@ pub mod OrderLemmas
 pub mod TableLemmas
 pub mod AnyLemmas
 pub mod SinkLemmas
+pub mod ReplyLemmas

@@ -8,3 +8,4 @@ pub mod Reading
 pub mod Standing
 pub mod Link
 pub mod Sink
+pub mod Run

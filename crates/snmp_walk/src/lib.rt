@@ -8,6 +8,7 @@ mod link;
 mod mode;
 mod phase;
 mod rows;
+mod run;
 mod sink;
 mod walker;
 

@@ -46,7 +46,9 @@ impl WalkCore {
     ghost use Rattle.std.specs.Prelude.{◌≡◌, ◌<◌, ◌≤◌, ◌⊎◌, ℕ, length, take, IsOk, IfOk, IfErr, ◌↔◌, ◌^◌, true, false, IsTrue, Err};
     ghost use Rattle.snmp_oid.specs.Identifier.{IsWire, IsBelow, wire};
     ghost use Rattle.snmp_wire.specs.Canon.{canon};
-    ghost use Rattle.snmp_walk.specs.Walker.{IsMethod};
+    ghost use Rattle.snmp_wire.specs.Message.{Message};
+    ghost use Rattle.snmp_wire.specs.Spelling.{Spells};
+    ghost use Rattle.snmp_walk.specs.Walker.{IsMethod, IsWalker};
     ghost use Rattle.snmp_walk.specs.Request.{started, resumed, request_of, request_kind, request_repetitions};
     ghost use Rattle.snmp_walk.specs.Taken.{is_over, is_awaited, stops, goes_on, closes, reads_next, reads_first, reads_last, got, take_of, Takes, asked_for};
     ghost use Rattle.std.specs.Option.{option_map};
@@ -151,6 +153,21 @@ impl WalkCore {
         match decode(datagram) {
             Ok(message) => self.take_message(&message),
             Err(_) => Step::Stray,
+        }
+    }
+
+    /// Whether the datagram is the reply that is waited for.
+    pub fn is_reply(&self, datagram: &[u8]) -> bool
+        ensures reply { (m : Message) → Spells m datagram.now → result ≡ is_awaited self.now m }
+        ensures walker { IsWalker self.now }
+        ensures spelt { result ≡ true → (m : Message) × Spells m datagram.now × ((n : Message) → Spells n datagram.now → n ≡ m) }
+    {
+        if let Phase::Over = self.phase {
+            return false;
+        }
+        match decode(datagram) {
+            Ok(message) => self.awaits(&message),
+            Err(_) => false,
         }
     }
 
