@@ -20,7 +20,7 @@ use Rattle.snmp_walk.specs.Names.{is_inside, is_end, is_missing, is_below, comes
 use Rattle.snmp_walk.specs.Trail.{last_name, IsTrail, IsAtEnd, AreAnswers}
 use Rattle.snmp_walk.specs.Walker.{Walker}
 use Rattle.snmp_walk.specs.Taken.{is_awaited, is_plain, inside_front, rising_front, name_at, asked_for, stops, goes_on, closes, reads, reads_next, got, if_present, reads_first, reads_last, reads_for, reads_reply, take_of}
-use Rattle.snmp_walk.specs.Standing.{IsOpening, IsGiven, IsAlone, IsPart, IsStage, Stands, Advances, Rises, Named, Keeps}
+use Rattle.snmp_walk.specs.Standing.{IsOpening, IsGiven, IsAlone, IsPart, IsStage, Stands, Advances, Rises, Named, IsReplyEnd, Keeps}
 use Rattle.snmp_walk.proofs.StandingLemmas.{part_of_stage, goes, closed, given_more, reads_root, reads_alone, root_is}
 
 -- no binding is said to be large here
@@ -64,12 +64,12 @@ module _ (first : Walker) where
   either_way old given true x y p q = p refl
   either_way old given false x y p q = q refl
 
-  stops_any : (old : Walker) (given more : List VarBind) (why : WalkEnd) → IsPart Rises Named first (given ++ more) → Keeps_step old given (stops old more why)
-  stops_any old given more why h = (refl, h)
+  stops_any : (old : Walker) (given more : List VarBind) (why : WalkEnd) → IsReplyEnd why → IsPart Rises Named first (given ++ more) → Keeps_step old given (stops old more why)
+  stops_any old given more why own h = (own, h)
 
-  stops_now : (old : Walker) (given : List VarBind) (why : WalkEnd) → Stands Rises Named first old given → Keeps_step old given (stops old [] why)
-  stops_now old given why h =
-      (refl, subst (IsPart Rises Named first) (sym (append-nil given)) (part_of_stage Rises Named Small rising_answers first given old.asked old.phase h.stage))
+  stops_now : (old : Walker) (given : List VarBind) (why : WalkEnd) → IsReplyEnd why → Stands Rises Named first old given → Keeps_step old given (stops old [] why)
+  stops_now old given why own h =
+      (own, subst (IsPart Rises Named first) (sym (append-nil given)) (part_of_stage Rises Named Small rising_answers first given old.asked old.phase h.stage))
 
   goes_any : (old : Walker) (given more : List VarBind) (next : Phase) → Stands Rises Named first old given
       → IsStage Rises Named first (given ++ more) (last_name old.asked more) next → Keeps_step old given (goes_on old next more)
@@ -77,7 +77,7 @@ module _ (first : Walker) where
       either_way old given (nat_lt old.id 2147483647)
           (step.Rows more, record old { phase = next; asked = last_name old.asked more; id = old.id + 1; count = old.count + length more }) (stops old more ending.TooManyRequests)
         (λ less. let low : old.id < 2147483647 = ltb-true _ _ less in (refl, omega arith, went low less))
-        (λ _. stops_any old given more ending.TooManyRequests (part_of_stage Rises Named Small rising_answers first (given ++ more) (last_name old.asked more) next stage))
+        (λ _. stops_any old given more ending.TooManyRequests tt (part_of_stage Rises Named Small rising_answers first (given ++ more) (last_name old.asked more) next stage))
     where
       went : old.id < 2147483647 → nat_lt old.id 2147483647 ≡ true
           → Stands Rises Named first (record old { phase = next; asked = last_name old.asked more; id = old.id + 1; count = old.count + length more }) (given ++ more)
@@ -93,13 +93,13 @@ module _ (first : Walker) where
           (cond b (step.Rows more, record old { phase = next; asked = last_name old.asked more; id = old.id + 1; count = old.count + length more }) (stops old more ending.TooManyRequests)).1
       → Keeps_step old given (cond b (step.Rows more, record old { phase = next; asked = last_name old.asked more; id = old.id + 1; count = old.count + length more }) (stops old more ending.TooManyRequests))
   went_on old given more next true e h = let low : old.id < 2147483647 = ltb-true _ _ (sym e) in (refl, omega arith, h)
-  went_on old given more next false e h = (refl, h.0)
+  went_on old given more next false e h = (tt, h.0)
 
   closed_any : (old : Walker) (given more : List VarBind) (b : Bool) (n : ℕ)
       → Advances Rises Named Small first old given (cond b (goes_on old phase.Last []) (stops old more (ending.Done n))).0 (cond b (goes_on old phase.Last []) (stops old more (ending.Done n))).1
       → Keeps_step old given (cond b (goes_on old phase.Last []) (stops old more (ending.Done n)))
   closed_any old given more true n h = went_on old given [] phase.Last (nat_lt old.id 2147483647) refl h
-  closed_any old given more false n h = (refl, h.0)
+  closed_any old given more false n h = (tt, h.0)
 
   reads_any : (old : Walker) (given bindings : List VarBind) → Stands Rises Named first old given → IsGiven Rises Named first given old.asked
       → list_any (λ p. is_missing p.value) bindings ≡ false → Keeps_step old given (reads old bindings)
@@ -111,7 +111,7 @@ module _ (first : Walker) where
       let falls : WalkEnd = ending.NotIncreasing (last_name old.asked rows) (name_at (inside_front old.root bindings) (length rows)) in
       either_way old given (nat_lt (length rows) (length (inside_front old.root bindings))) (stops old rows falls)
           (cond (nat_lt (length rows) (length bindings)) (closes old rows) (goes_on old phase.Rows rows))
-        (λ _. stops_any old given rows falls (inr (inl (last_name old.asked rows, after))))
+        (λ _. stops_any old given rows falls tt (inr (inl (last_name old.asked rows, after))))
         (λ _. either_way old given (nat_lt (length rows) (length bindings)) (closes old rows) (goes_on old phase.Rows rows)
           (λ _. closed_any old given rows (is_plain old.mode && (old.count + length rows == 0)) (old.count + length rows)
             (closed Rises Named Small rising_answers first given rows old (last_name old.asked rows) _ refl h before after (anywhere first.root (last_name old.asked rows))))
@@ -119,10 +119,10 @@ module _ (first : Walker) where
 
   reads_next_any : (old : Walker) (given bindings : List VarBind) → Stands Rises Named first old given → IsGiven Rises Named first given old.asked
       → Keeps_step old given (reads_next old bindings)
-  reads_next_any old given [] h before = stops_now old given (ending.NoProgress old.asked) h
+  reads_next_any old given [] h before = stops_now old given (ending.NoProgress old.asked) tt h
   reads_next_any old given (b ∷ more) h before =
       either_way old given (nat_lt (asked_for old.method) (length (b ∷ more)) || list_any (λ p. is_missing p.value) (b ∷ more))
-          (stops old [] ending.BadReply) (reads old (b ∷ more)) (λ _. stops_now old given ending.BadReply h)
+          (stops old [] ending.BadReply) (reads old (b ∷ more)) (λ _. stops_now old given ending.BadReply tt h)
         (λ fine. reads_any old given (b ∷ more) h before (or_parts (nat_lt (asked_for old.method) (length (b ∷ more))) (list_any (λ p. is_missing p.value) (b ∷ more)) fine).1)
 
   -- the binding of a Get's reply is the one asked for
@@ -140,14 +140,14 @@ module _ (first : Walker) where
 
   reads_first_any : (old : Walker) (given : List VarBind) (g : Option VarBind) → Stands Rises Named first old given → IsStage Rises Named first given old.asked phase.First
       → ((p : VarBind) → g ≡ Some p → Named old.asked p) → Keeps_step old given (reads_first old g)
-  reads_first_any old given None h stage named = stops_now old given ending.BadReply h
+  reads_first_any old given None h stage named = stops_now old given ending.BadReply tt h
   reads_first_any old given (Some b) h stage named =
       went_on old given (if_present b) phase.Rows (nat_lt old.id 2147483647) refl (reads_root Rises Named Small rising_answers first given old b h stage (named b refl))
 
   reads_last_any : (old : Walker) (given : List VarBind) (g : Option VarBind) → Stands Rises Named first old given → IsStage Rises Named first given old.asked phase.Last
       → ((p : VarBind) → g ≡ Some p → Named old.asked p) → Keeps_step old given (reads_last old g)
-  reads_last_any old given None h stage named = stops_now old given ending.BadReply h
-  reads_last_any old given (Some b) h stage named = (refl, (reads_alone Rises Named Small rising_answers first given old b h stage (named b refl)).0)
+  reads_last_any old given None h stage named = stops_now old given ending.BadReply tt h
+  reads_last_any old given (Some b) h stage named = (tt, (reads_alone Rises Named Small rising_answers first given old b h stage (named b refl)).0)
 
   reads_for_any : (old : Walker) (given bindings : List VarBind) (p : Phase) → Stands Rises Named first old given → IsStage Rises Named first given old.asked p
       → Keeps_step old given (reads_for p old bindings)
@@ -159,5 +159,5 @@ module _ (first : Walker) where
   pub taken_any : (old : Walker) (given : List VarBind) (m : Message) → Stands Rises Named first old given → Keeps first old given (take_of old m).0 (take_of old m).1
   taken_any old given m h =
       either_way old given (is_awaited old m) (reads_reply old m) (step.Stray, old)
-        (λ _. either_way old given (int_eq m.a (pos 0)) (reads_for old.phase old m.bindings) (stops old [] (ending.Fault m.a m.b)) (λ _. reads_for_any old given m.bindings old.phase h h.stage) (λ _. stops_now old given (ending.Fault m.a m.b) h))
+        (λ _. either_way old given (int_eq m.a (pos 0)) (reads_for old.phase old m.bindings) (stops old [] (ending.Fault m.a m.b)) (λ _. reads_for_any old given m.bindings old.phase h h.stage) (λ _. stops_now old given (ending.Fault m.a m.b) tt h))
         (λ _. refl)

@@ -9,3 +9,4 @@ pub mod TableLemmas
 pub mod AnyLemmas
 pub mod SinkLemmas
 pub mod ReplyLemmas
+pub mod TurnLemmas

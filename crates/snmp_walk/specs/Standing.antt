@@ -130,8 +130,16 @@ Rises o p = (is_end p.value ≡ false → comes_after o p.name ≡ true) × (is_
 abbrev pub Named : List ℕ → VarBind → Type 0
 Named o p = (p.name ≡ o) × (is_end p.value ≡ false)
 
+-- the ends that replies lead to
+abbrev pub IsReplyEnd : WalkEnd → Type 0
+IsReplyEnd ending.RequestTooLong = ⊥
+IsReplyEnd ending.NoResponse = ⊥
+IsReplyEnd ending.Link = ⊥
+IsReplyEnd (ending.Sink fault) = ⊥
+IsReplyEnd _ = Unit {0}
+
 -- Whatever the message is: a stray changes nothing, a next request has the next id, and what was given rises.
 abbrev pub Keeps : Walker → Walker → List VarBind → Step → Walker → Type 0
 Keeps first old given step.Stray w = w ≡ old
 Keeps first old given (step.Rows more) w = (w.id ≡ old.id + 1) × (w.id < 2 ^ 31) × Stands Rises Named first w (given ++ more)
-Keeps first old given (step.Last more why) w = (w.phase ≡ phase.Over) × IsPart Rises Named first (given ++ more)
+Keeps first old given (step.Last more why) w = IsReplyEnd why × IsPart Rises Named first (given ++ more)
