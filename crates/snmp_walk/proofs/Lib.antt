@@ -10,3 +10,5 @@ pub mod AnyLemmas
 pub mod SinkLemmas
 pub mod ReplyLemmas
 pub mod TurnLemmas
+pub mod RunLemmas
+pub mod ViewLemmas

@@ -29,7 +29,7 @@ pub not_after : (o p r : List ℕ) → comes_after o p ≡ true → comes_after 
 not_after o p r a b = false_from_ne_true (comes_after p r) (λ c. let both : comes_after o r ≡ true = after-trans o p r a c in let no : ⊥ = cc in no)
 
 -- equal first numbers
-same_first : (x : ℕ) (o p : List ℕ) → slice_cmp nat_cmp (x ∷ o) (x ∷ p) ≡ slice_cmp nat_cmp o p
+pub same_first : (x : ℕ) (o p : List ℕ) → slice_cmp nat_cmp (x ∷ o) (x ∷ p) ≡ slice_cmp nat_cmp o p
 same_first x o p =
     let same : Equal ≡ nat_cmp x x = nat_cmp_is x x Equal refl in
     ap (λ (r : Ordering). ordering_then r (slice_cmp nat_cmp o p)) (sym same)

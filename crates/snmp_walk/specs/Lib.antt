@@ -9,3 +9,4 @@ pub mod Standing
 pub mod Link
 pub mod Sink
 pub mod Run
+pub mod Facts

@@ -6,12 +6,35 @@ ghost use Rattle.snmp_walk.specs.Taken.{is_over};
 ghost use Rattle.snmp_walk.specs.Link.{Rose, IsSent, IsReply};
 ghost use Rattle.snmp_walk.specs.Run.{IsHeard, Turns};
 ghost use Rattle.snmp_wire.specs.Message.{VarBind};
+ghost use Rattle.snmp_walk.specs.Sink.{Took};
+ghost use Rattle.snmp_walk.specs.Standing.{IsPart, Rises, Named};
+ghost use Rattle.snmp_walk.specs.Trail.{AreAnswers};
+ghost use Rattle.snmp_walk.specs.Link.{next_of, got_of, AreViews};
+ghost use Rattle.snmp_walk.specs.Facts.{IsFresh, WalkFacts};
 
 use crate::sink::give;
 use crate::{Link, LinkFault, Sink, Step, WalkCore, WalkEnd};
 
 /// How many datagrams are received after a request was sent, before it is sent again.
 const RECEIVES: u32 = 64;
+
+/// Walks over the link from a core of which nothing was taken yet: each request is sent at most `retries + 1` times, and each binding of the walk is given to the sink as it comes.
+///
+/// Whatever the link brings, the walk ends, and the names given below the root rise.
+pub fn run_walk<L: Link, S: Sink>(link: &mut L, core: WalkCore, retries: u32, sink: &mut S) -> WalkEnd
+    requires { IsFresh core }
+    ensures given { (rows : List VarBind) × Took S.takes sink.old rows result sink.new × IsPart Rises Named core rows × (L.honest link.old → AreViews (L.agents link.old).tables → WalkFacts (L.agents link.old) core rows result) }
+    ensures fault { result ≡ WalkEnd.Link → Rose (L.fault_count link.old) (L.fault_count link.new) }
+{
+    let mut core = core;
+    let mut request = [0; 65507];
+    let mut buffer = [0; 65507];
+    'turns: loop {
+        if let Some(end) = turn(link, &mut core, retries, sink, &mut request, &mut buffer) {
+            return end;
+        }
+    }
+}
 
 /// Receives until a datagram is the reply that the walk waits for, whose length is the answer, or none comes in time.
 fn hear<L: Link>(link: &mut L, core: &WalkCore, buffer: &mut [u8; 65507]) -> Result<Option<usize>, LinkFault>

@@ -1,0 +1,30 @@
+-- What holds of a whole run.
+use Rattle.std.specs.Prelude.{◌≡◌, ℕ, List, [], ◌∷◌, ◌++◌}
+use Rattle.snmp_wire.specs.Message.{VarBind}
+use Rattle.snmp_wire.specs.Canon.{canon}
+use Rattle.snmp_walk.specs.declared.end.WalkEnd.{WalkEnd}
+use Rattle.snmp_walk.specs.declared.end.WalkEnd.TheVariants as ending
+use Rattle.snmp_walk.specs.Walker.{Walker}
+use Rattle.snmp_walk.specs.Request.{request_of, first_phase}
+use Rattle.snmp_walk.specs.Standing.{Stands, IsPart, Ends}
+use Rattle.snmp_walk.specs.Link.{Agents, next_of, got_of, IsTooLarge, IsReply}
+
+-- a walk of which nothing was taken yet, and which asks for the root or behind a name that begins with it
+pub record IsFresh (w : Walker) : Type 0 where
+  pub phase : w.phase ≡ first_phase w.mode
+  pub count : w.count ≡ 0
+  pub begins : (s : List ℕ) × (w.asked ≡ w.root ++ s)
+
+-- how a run may end over an honest link, after these bindings
+abbrev pub IsLawfulEnd : Agents → Walker → List VarBind → WalkEnd → Type 0
+IsLawfulEnd agents first rows ending.Link = Unit {0}
+IsLawfulEnd agents first rows (ending.Sink fault) = Unit {0}
+IsLawfulEnd agents first rows ending.NoResponse =
+    (w : Walker) × Stands (next_of agents) (got_of agents) first w rows × ((reply : List ℕ) → IsReply agents (canon (request_of w)) reply → ⊥)
+IsLawfulEnd agents first rows why =
+    (w : Walker) × (given : List VarBind) × Stands (next_of agents) (got_of agents) first w given × Ends (next_of agents) (got_of agents) (IsTooLarge agents) first w rows why
+
+-- what is promised of a run over an honest link
+pub record WalkFacts (agents : Agents) (first : Walker) (rows : List VarBind) (end : WalkEnd) : Type 0 where
+  pub part : IsPart (next_of agents) (got_of agents) first rows
+  pub lawful : IsLawfulEnd agents first rows end
