@@ -34,7 +34,7 @@ precedes_behind n o p (inr h) =
       is_smaller = h.is_smaller;
     }
 
-parts_at_once : (n m : ℕ) (o p : List ℕ) → n < m → Precedes (n ∷ o) (m ∷ p)
+pub parts_at_once : (n m : ℕ) (o p : List ℕ) → n < m → Precedes (n ∷ o) (m ∷ p)
 parts_at_once n m o p h =
     inr record { front = []; smaller = n; larger = m; after = o; behind = p; this = refl; that = refl; is_smaller = h }
 

@@ -1,5 +1,6 @@
 pub mod Dotted
 pub mod IdentifierLemmas
 pub mod Numeral
-pub mod Numerals
+pub mod Written
 pub mod Parsing
+pub mod Rank

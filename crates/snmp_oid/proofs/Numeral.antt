@@ -1,6 +1,8 @@
--- Facts about reading one decimal number.
-use Rattle.std.proofs.Common.{◌≡◌, ◌≢◌, ℕ, ◌+◌, ◌-◌, ◌*◌, ◌^◌, ◌≤◌, ◌<◌, true, false, ◌&&◌, List, [], ◌∷◌, length, drop, get_or, refl, sym, ◌∙◌, ap, subst, arith, drop-cons, add-one, lit<}
+-- Facts about one decimal number: reading it, and that what is written reads back.
+use Rattle.std.proofs.Common.{decimal, ◌≡◌, ◌≢◌, ℕ, ◌+◌, ◌-◌, ◌*◌, ◌^◌, ◌≤◌, ◌<◌, true, false, ◌&&◌, List, [], ◌∷◌, length, drop, get_or, refl, sym, ◌∙◌, ap, subst, arith, drop-cons, add-one, lit<}
 use Rattle.std.proofs.Math.Nat.{pow-suc, one-le-pow, le-mul_of_pos_right}
+use Rattle.std.proofs.lemmas.Fmt.{decimal_nonempty, digits_decimal, digits_value-decimal}
+use Rattle.std.proofs.lemmas.Str.Parse.{IsNumeralModel, numerals_by_weight, tells_all_ascii_digits}
 use Rattle.std.specs.Char.{is_ascii_digit}
 use Rattle.std.specs.Str.{all_ascii_digits}
 use Rattle.snmp_oid.specs.Numeric.{value_of, IsNumeral}
@@ -62,3 +64,17 @@ pub read_large_at : (part : List ℕ) (count number : ℕ) → count < length pa
     → (n : ℕ) → IsNumeral part n → ⊥
 read_large_at part count number low large h =
     read_large part (drop (count + 1) part) (get_or part count 0) number large (let P : List ℕ → Type 0 = λ left. IsReadTo part left number in subst P (front_at part count low) h)
+
+-- the digits that are written of a number are a numeral of it
+own : IsNumeralModel (λ ds. all_ascii_digits ds ≡ true) value_of
+own = numerals_by_weight (λ ds. all_ascii_digits ds ≡ true) tells_all_ascii_digits value_of record { empty = refl; more = λ digit rest range. refl }
+
+pub decimal_is_numeral : (n : ℕ) → n < 2 ^ 32 → IsNumeral (decimal n) n
+decimal_is_numeral n small =
+    let wide : n < 2 ^ 64 = omega arith in
+    record {
+      some = λ none. omega (arith, decimal_nonempty n wide, ap length none);
+      digits = digits_decimal own n wide;
+      value = digits_value-decimal own n wide;
+      fits = small;
+    }

@@ -58,6 +58,21 @@ dot_alone text o is (inr (inr h)) =
     let P : List ℕ → Type 0 = λ t. IsDotted t o in
     absurd ((part_is_numeral [] [] [] o (numerals_from_dotted o [] (subst P none h.2))).1.some refl)
 
+-- a text names one list of numbers
+same_dotted : (text o p : List ℕ) → IsDotted text o → IsDotted text p → o ≡ p
+same_dotted text o p h g = same_numerals (parts text) o p (numerals_from_dotted o text h) (numerals_from_dotted p text g)
+
+pub one_name : (text o p : List ℕ) → IsNumericName text o → IsNumericName text p → o ≡ p
+one_name text o p (inl h) g = h.1 ∙ sym (dot_alone text p h.0 g)
+one_name text o p (inr h) (inl g) = dot_alone text o g.0 (inr h) ∙ sym g.1
+one_name text o p (inr (inl h)) (inr (inl g)) = same_dotted text o p h g
+one_name text o p (inr (inl h)) (inr (inr g)) = let P : List ℕ → Type 0 = λ t. IsDotted t o in absurd (no_empty_first g.0 o (subst P g.1 h))
+one_name text o p (inr (inr h)) (inr (inl g)) = let P : List ℕ → Type 0 = λ t. IsDotted t p in absurd (no_empty_first h.0 p (subst P h.1 g))
+one_name text o p (inr (inr h)) (inr (inr g)) =
+    let P : List ℕ → Type 0 = λ t. IsDotted t p in
+    let same : g.0 ≡ h.0 = cc (h.1, g.1) in
+    same_dotted h.0 o p h.2 (subst P same g.2)
+
 -- there is one first bad part
 pub one_bad_part : (text : List ℕ) (at k : ℕ) → IsFirstBadPart text at → IsFirstBadPart text k → at ≡ k
 one_bad_part text at k h g =

@@ -1,6 +1,6 @@
 -- Object identifiers and their order (RFC 2578, sections 3.5 and 7.1.3; RFC 3416, sections 2.4 and 4.1). A contract sees an
 -- identifier as the list of its numbers.
-use Rattle.std.specs.Prelude.{◌≡◌, ◌≢◌, ℕ, ◌^◌, ◌<◌, ◌≤◌, ◌⊎◌, List, [], ◌∷◌, ◌++◌, length, All}
+use Rattle.std.specs.Prelude.{◌≡◌, ◌≢◌, ℕ, ◌+◌, ◌-◌, ◌*◌, ◌^◌, ◌<◌, ◌≤◌, ◌⊎◌, List, [], ◌∷◌, ◌++◌, length, All}
 
 -- o stands below root: it begins with root and is longer
 abbrev pub IsBelow : List ℕ → List ℕ → Type 0
@@ -37,3 +37,11 @@ abbrev pub wire : List ℕ → List ℕ
 wire [] = 0 ∷ 0 ∷ []
 wire (x ∷ []) = x ∷ 0 ∷ []
 wire (x ∷ y ∷ rest) = x ∷ y ∷ rest
+
+-- the rank: the number of so many digits to the base 2^32 + 1, a digit being a number plus 1, or 0 where there is none
+abbrev pub rank_in : ℕ → List ℕ → ℕ
+rank_in digits [] = 0
+rank_in digits (n ∷ rest) = (n + 1) * (2 ^ 32 + 1) ^ (digits - 1) + rank_in (digits - 1) rest
+
+abbrev pub rank : List ℕ → ℕ
+rank o = rank_in 128 o

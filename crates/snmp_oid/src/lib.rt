@@ -6,5 +6,5 @@
 mod numeric;
 mod oid;
 
-pub use numeric::{LONGEST_TEXT, OidTextError, parse_numeric, write_numeric};
-pub use oid::{MAX_LEN, Oid, OidError};
+pub use numeric::{LONGEST_TEXT, OidTextError, names, parse_numeric, write_numeric};
+pub use oid::{MAX_LEN, Oid, OidError, order, ranks};

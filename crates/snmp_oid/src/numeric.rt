@@ -1,5 +1,6 @@
 //! Identifiers as text: decimal numbers with a dot before or between them, as in `.1.3.6.1`.
 ghost use Rattle.std.specs.Prelude.{◌≡◌, ◌≢◌, ℕ, ◌+◌, ◌<◌, ◌≤◌, ◌↔◌, ◌⊎◌, List, [], ◌∷◌, ◌++◌, decimal, length, drop, slice_index, All, MatchOption, IsTrue, IfOk, IfSome, IfNone, IsSome, Ok, Err};
+ghost use Rattle.snmp_oid.specs.Identifier.{IsIdentifier};
 ghost use Rattle.snmp_oid.specs.Numeric.{IsNumericName, IsFirstBadPart, IsTooLong, IsNumeral, dot, numeric_text};
 
 use crate::Oid;
@@ -119,6 +120,12 @@ pub fn write_numeric(oid: &Oid, out: &mut [u8]) -> Option<usize>
     Some(text.len())
 }
 
+/// What is written names the identifier again, and a text names one identifier at most.
+pub fn names()
+    ensures written { (o : List ℕ) → IsIdentifier o → IsNumericName (numeric_text o) o }
+    ensures one { (text o p : List ℕ) → IsNumericName text o → IsNumericName text p → o ≡ p }
+{}
+
 /// The numeric text of an identifier.
 fn written(oid: &Oid) -> ArrayVec<u8, LONGEST_TEXT>
     ensures { result.items ≡ numeric_text oid.now }
@@ -144,4 +151,73 @@ fn push_number(text: &mut ArrayVec<u8, LONGEST_TEXT>, number: u32)
     let digits = digits.format(number).as_bytes();
     text.push(b'.');
     let _fits = text.try_extend_from_slice(digits);
+}
+
+#[cfg(test)]
+mod tests {
+    use super::*;
+    use crate::MAX_LEN;
+    use std::test::Fail;
+
+    #[test]
+    fn names_are_read(rt: HostRuntime) -> Result<(), Fail> {
+        let rows = [
+            (b".".as_slice(), [].as_slice()),
+            (b"0", &[0]),
+            (b"1.3.6.1", &[1, 3, 6, 1]),
+            (b".1.3.6.1", &[1, 3, 6, 1]),
+            (b"2.4294967295.0", &[2, 4294967295, 0]),
+            (b".007", &[7]),
+            (b"00000000000000000000000000000000000000001", &[1]),
+        ];
+        for (text, numbers) in rows {
+            assert_eq!(rt; parse_numeric(text)?, Oid::from_slice(numbers)?);
+        }
+        Ok(())
+    }
+
+    #[test]
+    fn the_first_bad_part_is_told(rt: HostRuntime) {
+        let rows = [
+            (b"".as_slice(), 0),
+            (b"..", 1),
+            (b"1.", 2),
+            (b".1.", 3),
+            (b"1..3", 2),
+            (b"iso", 0),
+            (b"1.3a.b", 2),
+            (b" 1", 0),
+            (b"+1", 0),
+            (b"4294967296", 0),
+            (b"1.3.18446744073709551617.x", 4),
+        ];
+        for (text, at) in rows {
+            assert_eq!(rt; parse_numeric(text), Err(OidTextError::BadNumber(at)));
+        }
+    }
+
+    #[test]
+    fn numbers_are_at_most_128(rt: HostRuntime) -> Result<(), Fail> {
+        let mut text = Vec::from_slice(rt.alloc(), b"1.3.6")?;
+        for _ in 0..125 {
+            text.extend_from_slice(b".4294967295")?;
+        }
+        assert_eq!(rt; parse_numeric(&text)?.len(), 128);
+        text.extend_from_slice(b".0")?;
+        assert_eq!(rt; parse_numeric(&text), Err(OidTextError::TooLong));
+        text.extend_from_slice(b".")?;
+        assert_eq!(rt; parse_numeric(&text), Err(OidTextError::BadNumber(1383)));
+        Ok(())
+    }
+
+    #[test]
+    fn the_longest_text_is_read_again(rt: HostRuntime) -> Result<(), Fail> {
+        let oid = Oid::from_slice(&[4294967295; MAX_LEN])?;
+        let mut text = [0; LONGEST_TEXT];
+        assert_eq!(rt; write_numeric(&oid, &mut text), Some(LONGEST_TEXT));
+        assert_eq!(rt; parse_numeric(&text)?, oid);
+        let mut short = [0; 1407];
+        assert_eq!(rt; write_numeric(&oid, &mut short), None);
+        Ok(())
+    }
 }

@@ -8,7 +8,7 @@ ghost use Rattle.std.specs.Cmp.Lexicographic.{pointwise, slice_cmp, nat_list_eq_
 ghost use Rattle.std.specs.Cmp.Rules.{hashing};
 ghost use Rattle.std.specs.Bool.{nat_eq};
 ghost use Rattle.std.specs.declared.cmp.Ordering.{Ordering};
-ghost use Rattle.snmp_oid.specs.Identifier.{IsBelow, IsWire, Precedes, wire};
+ghost use Rattle.snmp_oid.specs.Identifier.{IsBelow, IsIdentifier, IsWire, Precedes, rank, wire};
 
 use arrayvec::ArrayVec;
 use std::alloc::AllocError;
@@ -87,8 +87,10 @@ impl Oid {
     pub fn as_slice(&self) -> &[u32]
         ensures value { result.now ≡ self.now }
         ensures short { length self.now ≤ 128 }
+        ensures holds { IsIdentifier self.now }
     {
-        self.numbers.as_slice()
+        let numbers = self.numbers.as_slice();
+        numbers
     }
 
     /// How many numbers there are, 0 to 128.
@@ -158,6 +160,11 @@ impl Oid {
 /// The order of identifiers is the standard's: a proper beginning first, else the smaller number at the first difference.
 pub fn order()
     ensures { (o p : List ℕ) → (slice_cmp nat_cmp o p ≡ Ordering.Less) ↔ Precedes o p }
+{}
+
+/// The order of identifiers is that of their ranks, numbers of 128 digits to the base 2^32 + 1.
+pub fn ranks()
+    ensures { (o p : List ℕ) → IsIdentifier o → IsIdentifier p → Precedes o p ↔ (rank o < rank p) }
 {}
 
 impl Default for Oid {
@@ -230,5 +237,54 @@ impl Hash for Oid {
 impl fmt::Debug for Oid {
     fn fmt<W: fmt::Write>(&self, f: &mut fmt::Formatter<W>) -> fmt::Result {
         f.debug_list().entries(self.as_slice()).finish()
+    }
+}
+
+#[cfg(test)]
+mod tests {
+    use super::*;
+    use std::test::Fail;
+
+    #[test]
+    fn ten_comes_behind_two(rt: HostRuntime) -> Result<(), Fail> {
+        let rows = [
+            [].as_slice(),
+            &[1, 3],
+            &[1, 3, 0],
+            &[1, 3, 2],
+            &[1, 3, 10],
+            &[1, 3, 4294967295],
+            &[1, 4],
+        ];
+        for pair in rows.windows(2) {
+            assert!(rt; Oid::from_slice(pair[0])? < Oid::from_slice(pair[1])?);
+        }
+        Ok(())
+    }
+
+    #[test]
+    fn padded_and_refused(rt: HostRuntime) -> Result<(), Fail> {
+        assert_eq!(rt; Oid::new().to_wire()?, Oid::from_slice(&[0, 0])?);
+        assert_eq!(rt;
+            Oid::from_slice(&[1])?.to_wire()?,
+            Oid::from_slice(&[1, 0])?
+        );
+        assert!(rt; Oid::from_slice(&[2, 4294967295, 0])?.is_wire());
+        assert_eq!(rt; Oid::from_slice(&[3])?.to_wire(), Err(OidError::NotWire));
+        assert_eq!(rt;
+            Oid::from_slice(&[1, 40])?.to_wire(),
+            Err(OidError::NotWire)
+        );
+        Ok(())
+    }
+
+    #[test]
+    fn the_129th_number_is_refused(rt: HostRuntime) -> Result<(), Fail> {
+        let mut oid = Oid::from_slice(&[7; 127])?;
+        oid.push(7)?;
+        assert_eq!(rt; oid.push(7), Err(OidError::TooLong));
+        assert_eq!(rt; oid, Oid::from_slice(&[7; MAX_LEN])?);
+        assert_eq!(rt; Oid::from_slice(&[7; 129]), Err(OidError::TooLong));
+        Ok(())
     }
 }

@@ -1,5 +1,6 @@
 pub mod BindingLemmas
 pub mod FaultLaws
+pub mod Faultless
 pub mod IdentifierLaws
 pub mod IdentifierLemmas
 pub mod LengthLemmas
@@ -7,3 +8,10 @@ pub mod MessageLaws
 pub mod NumberLemmas
 pub mod ReadingLemmas
 pub mod ValueLaws
+pub mod BindingWriting
+pub mod CanonLemmas
+pub mod ElementLemmas
+pub mod IdentifierWriting
+pub mod ListWriting
+pub mod MessageWriting
+pub mod WritingLemmas

@@ -3,5 +3,9 @@ pub mod Identifier
 pub mod Length
 pub mod Message
 pub mod Number
+pub mod Owned
 pub mod Reading
 pub mod Spelling
+pub mod Canon
+pub mod Parts
+pub mod Writing

@@ -1,12 +1,15 @@
 //! Variable bindings, one and a list of them.
-ghost use Rattle.std.specs.Prelude.{◌≡◌, ℕ, List, [], length, IsOk, Ok};
-ghost use Rattle.snmp_wire.specs.Message.{var_bind};
+ghost use Rattle.std.specs.Prelude.{◌≡◌, ℕ, List, [], length, IsOk, Ok, ◌+◌, ◌^◌, ◌<◌, ◌≤◌, ◌↔◌, ◌++◌, drop, IfSome, IfNone, IsSome};
+ghost use Rattle.snmp_wire.specs.Message.{var_bind, object_id};
 ghost use Rattle.snmp_wire.specs.Reading as reading;
 ghost use Rattle.snmp_wire.specs.Reading.{Gives, checked};
+ghost use Rattle.snmp_oid.specs.Identifier.{IsWire};
+ghost use Rattle.snmp_wire.specs.Canon.{IsEncodable, canon_binding, canon_value};
+ghost use Rattle.snmp_wire.specs.Writing.{Writes};
 
-use crate::identifier::{check_identifier, identifier_of};
-use crate::length::{SEQUENCE, element_at, inner_at};
-use crate::value::{check_value, value_of};
+use crate::identifier::{check_identifier, identifier_of, identifier_size, put_identifier};
+use crate::length::{SEQUENCE, element_at, header_size, inner_at, put_header};
+use crate::value::{check_value, put_value, value_of, value_size};
 use crate::{BerError, ValueRef};
 use snmp_oid::Oid;
 use std::alloc::AllocError;
@@ -149,4 +152,71 @@ fn binding_of<'a>(fields: Fields<'a>) -> Binding<'a>
         name: identifier_of(fields.name),
         value: value_of(fields.tag, fields.content),
     }
+}
+
+/// The tag of an OBJECT IDENTIFIER (X.690, 8.19).
+const OBJECT_IDENTIFIER: u8 = 0x06;
+
+/// How many octets the shortest encoding of a binding takes.
+///
+/// The caller owes that its name, and its value if it is an identifier, have an encoding ([`Oid::is_wire`]), and that a string has at most 65535 octets.
+pub fn binding_size(binding: &Binding<'_>) -> u64
+    requires { IsEncodable (var_bind binding.now) }
+    ensures value { result ≡ length (canon_binding (var_bind binding.now)) }
+    ensures small { result ≤ 70000 }
+{
+    let content = name_size(&binding.name) + value_size(&binding.value);
+    header_size(content) + content
+}
+
+/// How many octets a name takes.
+#[inline]
+fn name_size(name: &Oid) -> u64
+    requires { IsWire name.now }
+    ensures value { result ≡ length (canon_value (object_id name.now)) }
+    ensures small { result ≤ 646 }
+{
+    let content = identifier_size(name);
+    header_size(content) + content
+}
+
+/// Writes the shortest encoding of a binding to the front of `out`, and answers its length. The caller owes what [`binding_size`] asks.
+///
+/// None only where `out` is shorter, and then it is unchanged.
+pub fn encode_binding(binding: &Binding<'_>, out: &mut [u8]) -> Option<usize>
+    requires { IsEncodable (var_bind binding.now) }
+    ensures some { IfSome result (λ n. (n ≡ length (canon_binding (var_bind binding.now))) × (out.new ≡ canon_binding (var_bind binding.now) ++ drop n out.old)) }
+    ensures variant { IsSome result ↔ (length (canon_binding (var_bind binding.now)) ≤ length out.old) }
+    ensures unchanged { IfNone result (out.new ≡ out.old) }
+{
+    let size = binding_size(binding) as usize;
+    if out.len() < size {
+        return None;
+    }
+    put_binding(out, size, binding);
+    Some(size)
+}
+
+/// Writes a binding before `end`, and answers where it begins.
+pub(crate) fn put_binding(out: &mut [u8], end: usize, binding: &Binding<'_>) -> usize
+    requires encodable { IsEncodable (var_bind binding.now) }
+    requires room { length (canon_binding (var_bind binding.now)) ≤ end }
+    requires within { end ≤ length out.old }
+    ensures { Writes out.old result end (canon_binding (var_bind binding.now)) out.new }
+{
+    let value = put_value(out, end, &binding.value);
+    let name = put_name(out, value, &binding.name);
+    put_header(out, name, SEQUENCE, (end - name) as u64)
+}
+
+/// Writes a name before `end`, and answers where it begins.
+#[inline]
+fn put_name(out: &mut [u8], end: usize, name: &Oid) -> usize
+    requires encodable { IsWire name.now }
+    requires room { length (canon_value (object_id name.now)) ≤ end }
+    requires within { end ≤ length out.old }
+    ensures { Writes out.old result end (canon_value (object_id name.now)) out.new }
+{
+    let start = put_identifier(out, end, name);
+    put_header(out, start, OBJECT_IDENTIFIER, (end - start) as u64)
 }

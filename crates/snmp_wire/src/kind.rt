@@ -2,6 +2,7 @@
 ghost use Rattle.std.specs.Prelude.{◌≡◌};
 ghost use Rattle.snmp_wire.specs.Reading as reading;
 ghost use Rattle.snmp_wire.specs.Reading.{Gives};
+ghost use Rattle.snmp_wire.specs.Spelling.{kind_tag};
 
 use crate::BerError;
 
@@ -41,5 +42,22 @@ pub(crate) fn kind_of(tag: u8) -> Result<Kind, BerError>
         0xA7 => Ok(Kind::Trap),
         0xA8 => Ok(Kind::Report),
         _ => Err(BerError::Tag),
+    }
+}
+
+/// The tag of a PDU (RFC 3416, section 3).
+#[inline]
+pub(crate) fn tag_of_kind(kind: Kind) -> u8
+    ensures { result ≡ kind_tag kind }
+{
+    match kind {
+        Kind::GetRequest => 0xA0,
+        Kind::GetNextRequest => 0xA1,
+        Kind::Response => 0xA2,
+        Kind::SetRequest => 0xA3,
+        Kind::GetBulkRequest => 0xA5,
+        Kind::InformRequest => 0xA6,
+        Kind::Trap => 0xA7,
+        Kind::Report => 0xA8,
     }
 }

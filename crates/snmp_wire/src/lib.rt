@@ -10,14 +10,21 @@ mod kind;
 mod length;
 mod message;
 mod number;
+mod owned;
 mod value;
+mod writing;
 
-pub use binding::{Binding, Bindings};
+pub use binding::{Binding, Bindings, binding_size, encode_binding};
 pub use error::BerError;
 pub use kind::Kind;
-pub use message::{MessageRef, decode, one_spelling};
+pub use message::{
+    MessageRef, Parts, decode, encode, encode_head, head_size, no_fault, one_spelling, size,
+};
+pub use owned::{OctetString, Value};
 pub use snmp_oid::{Oid, OidError, OidTextError, parse_numeric, write_numeric};
 pub use value::ValueRef;
 
+#[cfg(test)]
+mod encode_tests;
 #[cfg(test)]
 mod tests;

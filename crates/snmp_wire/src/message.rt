@@ -1,16 +1,20 @@
 //! Messages, read from datagrams.
-ghost use Rattle.std.specs.Prelude.{◌≡◌, ℕ, List, ◌++◌, IfOk, IfErr, Ok};
+ghost use Rattle.std.specs.Prelude.{◌≡◌, ℕ, List, ◌++◌, IfOk, IfErr, Ok, ◌+◌, ◌^◌, ◌<◌, ◌≤◌, ◌↔◌, length, drop, IfSome, IfNone, IsSome, All};
 ghost use Rattle.snmp_wire.specs.Fault.{IsFault};
-ghost use Rattle.snmp_wire.specs.Message.{Message};
+ghost use Rattle.snmp_wire.specs.Message.{Message, integer_value, octet_string, var_bind, var_binds};
 ghost use Rattle.snmp_wire.specs.Reading as reading;
 ghost use Rattle.snmp_wire.specs.Reading.{Gives};
 ghost use Rattle.snmp_wire.specs.Spelling.{Spells};
+ghost use Rattle.snmp_wire.specs.Canon.{IsEncodable, canon, canon_bindings, canon_front, canon_head, canon_value};
+ghost use Rattle.snmp_wire.specs.Parts.{parts_message};
+ghost use Rattle.snmp_wire.specs.Writing.{Writes};
 
-use crate::binding::check_bindings;
-use crate::kind::kind_of;
-use crate::length::{SEQUENCE, content_at, element_at, inner_at};
-use crate::number::integer_at;
-use crate::{BerError, Bindings, Kind};
+use crate::binding::{binding_size, check_bindings, put_binding};
+use crate::kind::{kind_of, tag_of_kind};
+use crate::length::{SEQUENCE, content_at, element_at, header_size, inner_at, put_header};
+use crate::number::{integer_at, integer_size, put_integer};
+use crate::writing::put_text;
+use crate::{BerError, Binding, Bindings, Kind};
 use std::marker::Model;
 
 /// A message (RFC 1901, section 3) in the datagram that it was read from.
@@ -115,6 +119,11 @@ pub fn one_spelling()
     ensures { (m n : Message) (b c rest more : List ℕ) → Spells m b → Spells n c → b ++ rest ≡ c ++ more → (m ≡ n) × (b ≡ c) }
 {}
 
+/// Octets that spell a message have no fault: what each error says is false of them.
+pub fn no_fault()
+    ensures { (message : Message) (octets : List ℕ) (error : BerError) → Spells message octets → IsFault error octets → ⊥ }
+{}
+
 /// The message that the octets are.
 #[tactic(auto, unfolding(crate::specs::Reading::message_of))]
 fn message_of<'a>(octets: &'a [u8]) -> Result<MessageRef<'a>, BerError>
@@ -180,4 +189,191 @@ fn pdu_of<'a>(
         b,
         bindings,
     })
+}
+
+/// The parts of a message that is to be written.
+#[derive(Clone, Copy, Debug)]
+pub struct Parts<'a> {
+    /// The version: 1 for SNMPv2c.
+    pub version: i32,
+    /// The community.
+    pub community: &'a [u8],
+    /// The kind of the PDU.
+    pub kind: Kind,
+    /// The request-id.
+    pub id: i32,
+    /// The error-status; of a GetBulkRequest, non-repeaters.
+    pub a: i32,
+    /// The error-index; of a GetBulkRequest, max-repetitions.
+    pub b: i32,
+    /// The variable bindings.
+    pub bindings: &'a [Binding<'a>],
+}
+
+/// The tag of an INTEGER (X.690, 8.3).
+const INTEGER: u8 = 0x02;
+
+/// The tag of an OCTET STRING (X.690, 8.7).
+const OCTET_STRING: u8 = 0x04;
+
+/// How many octets the shortest encoding of a message takes.
+///
+/// The caller owes a community of at most 65535 octets, bindings as [`binding_size`] asks, and that these have at most 4,000,000,000 octets together.
+pub fn size(parts: &Parts<'_>) -> u64
+    requires community { length parts.now.community.now ≤ 65535 }
+    requires bindings { All (λ b. IsEncodable (var_bind b)) parts.now.bindings.now }
+    requires total { length (canon_bindings (var_binds parts.now.bindings.now)) ≤ 4000000000 }
+    ensures { result ≡ length (canon (parts_message parts.now)) }
+{
+    let total = bindings_size(parts.bindings);
+    head_size(parts, total) + total
+}
+
+/// Writes the shortest encoding of a message to the front of `out`, and answers its length. The caller owes what [`size`] asks.
+///
+/// None only where `out` is shorter, and then it is unchanged.
+pub fn encode(parts: &Parts<'_>, out: &mut [u8]) -> Option<usize>
+    requires community { length parts.now.community.now ≤ 65535 }
+    requires bindings { All (λ b. IsEncodable (var_bind b)) parts.now.bindings.now }
+    requires total { length (canon_bindings (var_binds parts.now.bindings.now)) ≤ 4000000000 }
+    ensures some { IfSome result (λ n. (n ≡ length (canon (parts_message parts.now))) × (out.new ≡ canon (parts_message parts.now) ++ drop n out.old)) }
+    ensures variant { IsSome result ↔ (length (canon (parts_message parts.now)) ≤ length out.old) }
+    ensures unchanged { IfNone result (out.new ≡ out.old) }
+{
+    let total = bindings_size(parts.bindings);
+    let size = (head_size(parts, total) + total) as usize;
+    if out.len() < size {
+        return None;
+    }
+    let head = put_bindings(out, size, parts.bindings);
+    put_head(out, head, parts, total);
+    Some(size)
+}
+
+/// How many octets the shortest encoding of a message takes up to the first of its bindings, where these take `total` octets together. The bindings of `parts` aren't looked at.
+///
+/// The caller owes a community of at most 65535 octets and a total of at most 4,000,000,000.
+pub fn head_size(parts: &Parts<'_>, total: u64) -> u64
+    requires community { length parts.now.community.now ≤ 65535 }
+    requires total { total ≤ 4000000000 }
+    ensures value { result ≡ length (canon_head (parts_message parts.now) total) }
+    ensures small { result ≤ 70000 }
+{
+    let version = integer_element_size(parts.version);
+    let community = text_element_size(parts.community);
+    let id = integer_element_size(parts.id);
+    let a = integer_element_size(parts.a);
+    let b = integer_element_size(parts.b);
+    let list = header_size(total);
+    let fields = id + a + b + list;
+    let pdu = header_size(fields + total);
+    let front = version + community + pdu + fields;
+    let message = header_size(front + total);
+    message + front
+}
+
+/// Writes the shortest encoding of a message up to the first of its bindings, where these take `total` octets together, to the front of `out`, and answers its length.
+/// The bindings of `parts` aren't looked at. The caller owes what [`head_size`] asks.
+///
+/// None only where `out` is shorter, and then it is unchanged.
+pub fn encode_head(parts: &Parts<'_>, total: u64, out: &mut [u8]) -> Option<usize>
+    requires community { length parts.now.community.now ≤ 65535 }
+    requires total { total ≤ 4000000000 }
+    ensures some { IfSome result (λ n. (n ≡ length (canon_head (parts_message parts.now) total)) × (out.new ≡ canon_head (parts_message parts.now) total ++ drop n out.old)) }
+    ensures variant { IsSome result ↔ (length (canon_head (parts_message parts.now) total) ≤ length out.old) }
+    ensures unchanged { IfNone result (out.new ≡ out.old) }
+{
+    let size = head_size(parts, total) as usize;
+    if out.len() < size {
+        return None;
+    }
+    put_head(out, size, parts, total);
+    Some(size)
+}
+
+/// How many octets bindings take together.
+fn bindings_size(bindings: &[Binding<'_>]) -> u64
+    requires bindings { All (λ b. IsEncodable (var_bind b)) bindings.now }
+    requires total { length (canon_bindings (var_binds bindings.now)) ≤ 4000000000 }
+    ensures { result ≡ length (canon_bindings (var_binds bindings.now)) }
+{
+    let mut total = 0;
+    'bindings: for binding in bindings {
+        total += binding_size(binding);
+    }
+    total
+}
+
+/// How many octets an INTEGER takes.
+#[inline]
+fn integer_element_size(number: i32) -> u64
+    ensures value { result ≡ length (canon_value (integer_value number)) }
+    ensures small { result ≤ 15 }
+{
+    let content = integer_size(number) as u64;
+    header_size(content) + content
+}
+
+/// How many octets an OCTET STRING takes.
+#[inline]
+fn text_element_size(text: &[u8]) -> u64
+    requires { length text.now ≤ 65535 }
+    ensures value { result ≡ length (canon_value (octet_string text.now)) }
+    ensures small { result ≤ 65541 }
+{
+    header_size(text.len() as u64) + text.len() as u64
+}
+
+/// Writes bindings before `end`, and answers where they begin.
+fn put_bindings(out: &mut [u8], end: usize, bindings: &[Binding<'_>]) -> usize
+    requires bindings { All (λ b. IsEncodable (var_bind b)) bindings.now }
+    requires room { length (canon_bindings (var_binds bindings.now)) ≤ end }
+    requires within { end ≤ length out.old }
+    ensures { Writes out.old result end (canon_bindings (var_binds bindings.now)) out.new }
+{
+    let mut start = end;
+    'bindings: for i in (0..bindings.len()).rev() {
+        start = put_binding(out, start, &bindings[i]);
+    }
+    start
+}
+
+/// Writes what stands before bindings that take `total` octets together, before `end`, and answers where it begins.
+fn put_head(out: &mut [u8], end: usize, parts: &Parts<'_>, total: u64) -> usize
+    requires community { length parts.now.community.now ≤ 65535 }
+    requires total { total ≤ 4000000000 }
+    requires room { length (canon_head (parts_message parts.now) total) ≤ end }
+    requires within { end ≤ length out.old }
+    ensures { Writes out.old result end (canon_head (parts_message parts.now) total) out.new }
+{
+    let list = put_header(out, end, SEQUENCE, total);
+    let b = put_integer_element(out, list, parts.b);
+    let a = put_integer_element(out, b, parts.a);
+    let id = put_integer_element(out, a, parts.id);
+    let pdu = put_header(out, id, tag_of_kind(parts.kind), (end - id) as u64 + total);
+    let community = put_text_element(out, pdu, parts.community);
+    let version = put_integer_element(out, community, parts.version);
+    put_header(out, version, SEQUENCE, (end - version) as u64 + total)
+}
+
+/// Writes an INTEGER before `end`, and answers where it begins.
+#[inline]
+fn put_integer_element(out: &mut [u8], end: usize, number: i32) -> usize
+    requires room { length (canon_value (integer_value number)) ≤ end }
+    requires within { end ≤ length out.old }
+    ensures { Writes out.old result end (canon_value (integer_value number)) out.new }
+{
+    let start = put_integer(out, end, number);
+    put_header(out, start, INTEGER, (end - start) as u64)
+}
+
+/// Writes an OCTET STRING before `end`, and answers where it begins.
+#[inline]
+fn put_text_element(out: &mut [u8], end: usize, text: &[u8]) -> usize
+    requires room { length (canon_value (octet_string text.now)) ≤ end }
+    requires within { end ≤ length out.old }
+    ensures { Writes out.old result end (canon_value (octet_string text.now)) out.new }
+{
+    let start = put_text(out, end, text);
+    put_header(out, start, OCTET_STRING, (end - start) as u64)
 }

@@ -1,12 +1,20 @@
 //! The value of a variable binding.
-ghost use Rattle.std.specs.Prelude.{◌≡◌, ℕ, IsOk, IfOk, Ok};
-ghost use Rattle.snmp_wire.specs.Message.{datum};
+ghost use Rattle.std.specs.Prelude.{◌≡◌, ℕ, IsOk, IfOk, Ok, ◌+◌, ◌^◌, ◌<◌, ◌≤◌, length, [], ◌++◌};
+ghost use Rattle.snmp_wire.specs.Message.{datum, octet_string, integer_value};
 ghost use Rattle.snmp_wire.specs.Reading as reading;
 ghost use Rattle.snmp_wire.specs.Reading.{Gives, checked};
+ghost use Rattle.snmp_wire.specs.Canon.{IsEncodableValue, canon_content, canon_element, canon_value, canon_header, canon_length};
+ghost use Rattle.snmp_wire.specs.Spelling.{value_tag};
+ghost use Rattle.snmp_wire.specs.Writing.{Writes};
 
 use crate::BerError;
-use crate::identifier::{check_identifier, identifier_of};
-use crate::number::{has_width, integer_of, unsigned32, unsigned64};
+use crate::identifier::{check_identifier, identifier_of, identifier_size, put_identifier};
+use crate::length::{header_size, put_header};
+use crate::number::{
+    has_width, integer_of, integer_size, put_integer, put_unsigned, unsigned_size, unsigned32,
+    unsigned64,
+};
+use crate::writing::put_text;
 use snmp_oid::Oid;
 
 /// A value, or an exception in its place (RFC 3416, section 3). Its strings lie in the datagram that it was read from.
@@ -99,4 +107,107 @@ pub(crate) fn value_of<'a>(tag: u8, content: &'a [u8]) -> ValueRef<'a>
         0x82 => ValueRef::EndOfMibView,
         _ => unreachable!(),
     }
+}
+
+/// The tag of a value (RFC 3416, section 3).
+#[inline]
+fn tag_of(value: &ValueRef<'_>) -> u8
+    ensures { result ≡ value_tag (datum value.now) }
+{
+    match value {
+        ValueRef::Integer(_) => 0x02,
+        ValueRef::Octets(_) => 0x04,
+        ValueRef::Null => 0x05,
+        ValueRef::ObjectId(_) => 0x06,
+        ValueRef::IpAddress(_) => 0x40,
+        ValueRef::Counter32(_) => 0x41,
+        ValueRef::Gauge32(_) => 0x42,
+        ValueRef::TimeTicks(_) => 0x43,
+        ValueRef::Opaque(_) => 0x44,
+        ValueRef::Counter64(_) => 0x46,
+        ValueRef::NoSuchObject => 0x80,
+        ValueRef::NoSuchInstance => 0x81,
+        ValueRef::EndOfMibView => 0x82,
+    }
+}
+
+/// How many octets the content of a value takes.
+#[inline]
+#[tactic(auto, using(crate::proofs::CanonLemmas::contents), unfolding(crate::specs::Canon::canon_content))]
+fn content_size(value: &ValueRef<'_>) -> u64
+    requires { IsEncodableValue (datum value.now) }
+    ensures value { result ≡ length (canon_content (datum value.now)) }
+    ensures small { result ≤ 65535 }
+{
+    match value {
+        ValueRef::Integer(number) => integer_size(*number) as u64,
+        ValueRef::Octets(text) | ValueRef::Opaque(text) => text.len() as u64,
+        ValueRef::ObjectId(name) => identifier_size(name),
+        ValueRef::IpAddress(address) => address_size(*address),
+        ValueRef::Counter32(number) | ValueRef::Gauge32(number) | ValueRef::TimeTicks(number) => {
+            unsigned_size(u64::from(*number)) as u64
+        }
+        ValueRef::Counter64(number) => unsigned_size(*number) as u64,
+        ValueRef::Null
+        | ValueRef::NoSuchObject
+        | ValueRef::NoSuchInstance
+        | ValueRef::EndOfMibView => 0,
+    }
+}
+
+/// How many octets an address has.
+#[inline]
+fn address_size(address: [u8; 4]) -> u64
+    ensures value { result ≡ length address }
+    ensures small { result ≤ 4 }
+{
+    address.len() as u64
+}
+
+/// How many octets a value takes.
+#[inline]
+pub(crate) fn value_size(value: &ValueRef<'_>) -> u64
+    requires { IsEncodableValue (datum value.now) }
+    ensures value { result ≡ length (canon_value (datum value.now)) }
+    ensures small { result ≤ 65541 }
+{
+    let content = content_size(value);
+    header_size(content) + content
+}
+
+/// Writes the content of a value before `end`, and answers where it begins.
+#[inline]
+#[tactic(auto, using(crate::proofs::CanonLemmas::contents), unfolding(crate::specs::Canon::canon_content))]
+fn put_content(out: &mut [u8], end: usize, value: &ValueRef<'_>) -> usize
+    requires encodable { IsEncodableValue (datum value.now) }
+    requires room { length (canon_content (datum value.now)) ≤ end }
+    requires within { end ≤ length out.old }
+    ensures { Writes out.old result end (canon_content (datum value.now)) out.new }
+{
+    match value {
+        ValueRef::Integer(number) => put_integer(out, end, *number),
+        ValueRef::Octets(text) | ValueRef::Opaque(text) => put_text(out, end, text),
+        ValueRef::ObjectId(name) => put_identifier(out, end, name),
+        ValueRef::IpAddress(address) => put_text(out, end, address),
+        ValueRef::Counter32(number) | ValueRef::Gauge32(number) | ValueRef::TimeTicks(number) => {
+            put_unsigned(out, end, u64::from(*number))
+        }
+        ValueRef::Counter64(number) => put_unsigned(out, end, *number),
+        ValueRef::Null
+        | ValueRef::NoSuchObject
+        | ValueRef::NoSuchInstance
+        | ValueRef::EndOfMibView => end,
+    }
+}
+
+/// Writes a value before `end`, and answers where it begins.
+#[inline]
+pub(crate) fn put_value(out: &mut [u8], end: usize, value: &ValueRef<'_>) -> usize
+    requires encodable { IsEncodableValue (datum value.now) }
+    requires room { length (canon_value (datum value.now)) ≤ end }
+    requires within { end ≤ length out.old }
+    ensures { Writes out.old result end (canon_value (datum value.now)) out.new }
+{
+    let start = put_content(out, end, value);
+    put_header(out, start, tag_of(value), (end - start) as u64)
 }

@@ -1,4 +1,4 @@
-use Rattle.snmp_oid.proofs.Numerals.{IsWritten}
+use Rattle.snmp_oid.proofs.Written.{IsWritten}
 use Rattle.snmp_oid.proofs.numeric.written.Given as goal
 
 abbrev pub invariant-numbers : goal.invariant-numbers

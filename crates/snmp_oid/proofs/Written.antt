@@ -1,9 +1,12 @@
--- Facts about the numeric text of an identifier.
-use Rattle.std.proofs.Common.{◌≡◌, ℕ, ◌+◌, ◌*◌, ◌≤◌, ◌<◌, List, [], ◌∷◌, ◌++◌, ◌-◌, decimal, length, take, get_or, refl, sym, ◌∙◌, ap, arith}
-use Rattle.std.proofs.lemmas.List.{take_more, flat_map_more}
+-- Facts about the numeric text of an identifier: how it is written, and that it names the identifier.
+use Rattle.std.proofs.Common.{inl, inr, All, subst, ◌^◌, ◌≡◌, ℕ, ◌+◌, ◌*◌, ◌≤◌, ◌<◌, List, [], ◌∷◌, ◌++◌, ◌-◌, decimal, length, take, get_or, refl, sym, ◌∙◌, ap, arith}
+use Rattle.std.proofs.lemmas.List.{append-nil, take_more, flat_map_more}
+use Rattle.std.proofs.lemmas.List.Elements.{All-head, All-tail}
 use Rattle.std.proofs.Math.Seq.{take-length}
 use Rattle.std.specs.List.{flat_map}
-use Rattle.snmp_oid.specs.Numeric.{dot, numeric_text}
+use Rattle.snmp_oid.specs.Identifier.{IsIdentifier}
+use Rattle.snmp_oid.specs.Numeric.{dot, numeric_text, IsNumeral, IsDotted, IsNumericName}
+use Rattle.snmp_oid.proofs.Numeral.{decimal_is_numeral}
 
 -- the text of the first numbers, of none a dot alone
 abbrev pub text_of : List ℕ → ℕ → List ℕ
@@ -33,3 +36,19 @@ written_more numbers count text new h low is long = record {
 pub text_of-all : (numbers : List ℕ) → text_of numbers (length numbers) ≡ numeric_text numbers
 text_of-all [] = refl
 text_of-all (n ∷ more) = ap (flat_map (λ (m : ℕ). dot ∷ decimal m)) (take-length (n ∷ more))
+
+-- what is written is dotted
+written_is_dotted : (n : ℕ) (more : List ℕ) → n < 2 ^ 32 → All (λ m. m < 2 ^ 32) more → IsDotted (decimal n ++ flat_map (λ m. dot ∷ decimal m) more) (n ∷ more)
+written_is_dotted n [] small all = let P : List ℕ → Type 0 = λ t. IsNumeral t n in subst P (sym (append-nil (decimal n))) (decimal_is_numeral n small)
+written_is_dotted n (m ∷ more) small all = (
+  decimal n,
+  decimal m ++ flat_map (λ k. dot ∷ decimal k) more,
+  refl,
+  decimal_is_numeral n small,
+  written_is_dotted m more (All-head (λ k. k < 2 ^ 32) m more all) (All-tail (λ k. k < 2 ^ 32) m more all),
+)
+
+pub written_is_name : (o : List ℕ) → IsIdentifier o → IsNumericName (numeric_text o) o
+written_is_name [] is = inl (refl, refl)
+written_is_name (n ∷ more) is =
+    inr (inr (decimal n ++ flat_map (λ m. dot ∷ decimal m) more, refl, written_is_dotted n more (All-head (λ k. k < 2 ^ 32) n more is.numbers) (All-tail (λ k. k < 2 ^ 32) n more is.numbers)))

@@ -1,0 +1,89 @@
+-- Identifiers are ordered as their ranks are.
+use Rattle.std.proofs.Common.{◌≡◌, ◌≢◌, ℕ, suc, ◌+◌, ◌-◌, ◌*◌, ◌^◌, ◌<◌, ◌≤◌, ◌⊎◌, ◌↔◌, inl, inr, List, [], ◌∷◌, ◌++◌, length, drop, All, refl, sym, ◌∙◌, ap, subst, arith, lit<, length-append}
+use Rattle.std.proofs.Math.Nat.{pow-suc, one-le-pow, mul-le-mul_right}
+use Rattle.std.proofs.lemmas.Bool.{cases_order}
+use Rattle.std.proofs.lemmas.List.{append-nil, drop_at, append_assoc}
+use Rattle.std.proofs.lemmas.List.Elements.{All-drop, All-head, All-tail}
+use Rattle.snmp_oid.specs.Identifier.{Precedes, IsIdentifier, rank_in, rank}
+use Rattle.snmp_oid.proofs.IdentifierLemmas.{precedes_behind, parts_at_once}
+
+-- one more digit
+power_step : (digits : ℕ) → 0 < digits → 4294967297 ^ digits ≡ 4294967297 ^ (digits - 1) * 4294967297
+power_step digits some = let e : digits ≡ suc (digits - 1) = omega arith in ap (λ d. 4294967297 ^ d) e ∙ pow-suc 4294967297 (digits - 1)
+
+-- a digit and what follows stay below the next digit
+digit_below : (n m power rest : ℕ) → rest < power → n < m → (n + 1) * power + rest < (m + 1) * power
+digit_below n m power rest low less =
+    let whole : (n + 1) * power + power ≡ (n + 2) * power = omega arith in
+    let more : (n + 2) * power ≤ (m + 1) * power = mul-le-mul_right power (omega arith) in
+    omega arith
+
+-- so many digits are below so many places
+rank_fits : (digits : ℕ) (o : List ℕ) → length o ≤ digits → All (λ n. n < 2 ^ 32) o → rank_in digits o < 4294967297 ^ digits
+rank_fits digits [] short small = one-le-pow digits 4294967297 (lit< tt)
+rank_fits digits (n ∷ rest) short small =
+    let low : rank_in (digits - 1) rest < 4294967297 ^ (digits - 1) = rank_fits (digits - 1) rest (omega arith) (All-tail (λ n. n < 2 ^ 32) n rest small) in
+    let first : n < 4294967296 = All-head (λ n. n < 2 ^ 32) n rest small in
+    let below = digit_below n 4294967296 (4294967297 ^ (digits - 1)) (rank_in (digits - 1) rest) low first in
+    omega (arith, power_step digits (omega arith), below)
+
+-- a common front changes nothing
+rises_behind : (digits : ℕ) (front s t : List ℕ) → rank_in (digits - length front) s < rank_in (digits - length front) t → rank_in digits (front ++ s) < rank_in digits (front ++ t)
+rises_behind digits [] s t h =
+    let P : ℕ → Type 0 = λ d. rank_in d s < rank_in d t in let e : digits - 0 ≡ digits = omega arith in subst P e h
+rises_behind digits (k ∷ front) s t h =
+    let P : ℕ → Type 0 = λ d. rank_in d s < rank_in d t in
+    let e : digits - suc (length front) ≡ digits - 1 - length front = omega arith in
+    let more = rises_behind (digits - 1) front s t (subst P e h) in
+    omega arith
+
+some_rank : (digits : ℕ) (rest : List ℕ) → rest ≢ [] → 0 < rank_in digits rest
+some_rank digits [] some = absurd (some refl)
+some_rank digits (m ∷ rest) some =
+    let one : 1 ≤ 4294967297 ^ (digits - 1) = one-le-pow (digits - 1) 4294967297 (lit< tt) in
+    let least : 1 * 4294967297 ^ (digits - 1) ≤ (m + 1) * 4294967297 ^ (digits - 1) = mul-le-mul_right (4294967297 ^ (digits - 1)) (omega arith) in
+    omega arith
+
+rises_at_once : (digits n m : ℕ) (after behind : List ℕ) → length after < digits → All (λ k. k < 2 ^ 32) after → n < m → rank_in digits (n ∷ after) < rank_in digits (m ∷ behind)
+rises_at_once digits n m after behind short small less =
+    let below = digit_below n m (4294967297 ^ (digits - 1)) (rank_in (digits - 1) after) (rank_fits (digits - 1) after (omega arith) small) less in
+    omega arith
+
+rank_rises : (o p : List ℕ) → IsIdentifier o → Precedes o p → rank o < rank p
+rank_rises o p is (inl below) =
+    let P : List ℕ → Type 0 = λ q. rank q < rank p in
+    let Q : List ℕ → Type 0 = λ q. rank (o ++ []) < rank q in
+    subst P (append-nil o) (subst Q (sym below.2) (rises_behind 128 o [] below.0 (some_rank (128 - length o) below.0 below.1)))
+rank_rises o p is (inr parts) =
+    let P : List ℕ → Type 0 = λ q. rank q < rank p in
+    let Q : List ℕ → Type 0 = λ q. rank (parts.front ++ parts.smaller ∷ parts.after) < rank q in
+    let count : length o ≡ length parts.front + suc (length parts.after) = ap length parts.this ∙ length-append parts.front (parts.smaller ∷ parts.after) in
+    let tail : drop (length parts.front + 1) o ≡ parts.after =
+    ap (drop (length parts.front + 1)) (parts.this ∙ sym (append_assoc parts.front (parts.smaller ∷ []) parts.after))
+    ∙ drop_at (parts.front ++ parts.smaller ∷ []) parts.after (length parts.front + 1) (length-append parts.front (parts.smaller ∷ [])) in
+    let R : List ℕ → Type 0 = λ q. All (λ k. k < 2 ^ 32) q in
+    let small : All (λ k. k < 2 ^ 32) parts.after = subst R tail (All-drop (λ k. k < 2 ^ 32) (length parts.front + 1) o is.numbers) in
+    subst P (sym parts.this) (subst Q (sym parts.that) (rises_behind 128 parts.front (parts.smaller ∷ parts.after) (parts.larger ∷ parts.behind)
+    (rises_at_once (128 - length parts.front) parts.smaller parts.larger parts.after parts.behind (omega (arith, count, is.short)) small parts.is_smaller)))
+
+-- of two identifiers one precedes, or they are the same
+three_ways : (o p : List ℕ) → Precedes o p ⊎ ((o ≡ p) ⊎ Precedes p o)
+three_ways [] [] = inr (inl refl)
+three_ways [] (m ∷ p) = inl (inl (m ∷ p, (λ none. cc), refl))
+three_ways (n ∷ o) [] = inr (inr (inl (n ∷ o, (λ none. cc), refl)))
+three_ways (n ∷ o) (m ∷ p) = by_first n m o p (cases_order n m) (three_ways o p)
+  where
+    by_first : (n m : ℕ) (o p : List ℕ) → (n ≡ m) ⊎ ((n < m) ⊎ (m < n)) → Precedes o p ⊎ ((o ≡ p) ⊎ Precedes p o) → Precedes (n ∷ o) (m ∷ p) ⊎ ((n ∷ o ≡ m ∷ p) ⊎ Precedes (m ∷ p) (n ∷ o))
+    by_first n m o p (inl same) (inl h) = let P : ℕ → Type 0 = λ k. Precedes (n ∷ o) (k ∷ p) in inl (subst P same (precedes_behind n o p h))
+    by_first n m o p (inl same) (inr (inl h)) = inr (inl cc)
+    by_first n m o p (inl same) (inr (inr h)) = let P : ℕ → Type 0 = λ k. Precedes (k ∷ p) (n ∷ o) in inr (inr (subst P same (precedes_behind n p o h)))
+    by_first n m o p (inr (inl less)) rest = inl (parts_at_once n m o p less)
+    by_first n m o p (inr (inr more)) rest = inr (inr (parts_at_once m n p o more))
+
+rank_tells : (o p : List ℕ) → IsIdentifier p → rank o < rank p → Precedes o p ⊎ ((o ≡ p) ⊎ Precedes p o) → Precedes o p
+rank_tells o p is less (inl h) = h
+rank_tells o p is less (inr (inl same)) = absurd (omega (arith, ap rank same))
+rank_tells o p is less (inr (inr h)) = absurd (omega (arith, rank_rises p o is h))
+
+pub ordered_as_ranks : (o p : List ℕ) → IsIdentifier o → IsIdentifier p → Precedes o p ↔ (rank o < rank p)
+ordered_as_ranks o p is are = (rank_rises o p is, λ less. rank_tells o p are less (three_ways o p))

@@ -1,0 +1,51 @@
+-- Bindings: how long they are, and how they are written.
+use Rattle.std.proofs.Common.{◌≡◌, ℕ, ◌+◌, ◌-◌, ◌≤◌, List, [], ◌∷◌, ◌++◌, length, drop, refl, sym, ap, subst, ◌∙◌, arith, length-append}
+use Rattle.std.specs.List.{flat_map}
+use Rattle.snmp_wire.specs.declared.binding.Binding.{Binding}
+use Rattle.snmp_wire.specs.Canon.{canon_binding, canon_bindings, canon_element, canon_header, canon_length, canon_value}
+use Rattle.snmp_wire.specs.Message.{VarBind, object_id, var_bind, var_binds}
+use Rattle.snmp_wire.specs.Spelling.{sequence_tag}
+use Rattle.snmp_wire.specs.Writing.{Writes}
+use Rattle.snmp_wire.proofs.ElementLemmas.{content_fits, element_size, header_fits, writes_element}
+use Rattle.snmp_wire.proofs.WritingLemmas.{writes_same, writes_then}
+
+pub binding_is : (binding : VarBind) → canon_binding binding ≡ canon_element sequence_tag (canon_value (object_id binding.name) ++ canon_value binding.value)
+unfolding canon_binding
+binding_is binding = refl
+
+pub sizes_binding : (header name value : ℕ) (binding : VarBind) → name ≡ length (canon_value (object_id binding.name)) → value ≡ length (canon_value binding.value) → header ≡ 1 + length (canon_length (name + value)) → header + (name + value) ≡ length (canon_binding binding)
+sizes_binding header name value binding n v h =
+    let content : name + value ≡ length (canon_value (object_id binding.name) ++ canon_value binding.value) = omega (arith, n, v, length-append (canon_value (object_id binding.name)) (canon_value binding.value)) in
+    element_size sequence_tag header (name + value) (canon_value (object_id binding.name) ++ canon_value binding.value) content h ∙ ap length (sym (binding_is binding))
+
+length-content : (end : ℕ) (binding : VarBind) → length (canon_binding binding) ≤ end → length (canon_value (object_id binding.name)) + length (canon_value binding.value) ≤ end
+length-content end binding room =
+    let whole : length (canon_value (object_id binding.name) ++ canon_value binding.value) ≤ end = content_fits sequence_tag end (canon_value (object_id binding.name) ++ canon_value binding.value) (subst (λ (octets : List ℕ). length octets ≤ end) (binding_is binding) room) in
+    omega (arith, whole, length-append (canon_value (object_id binding.name)) (canon_value binding.value))
+
+pub binding_value_fits : (end : ℕ) (binding : VarBind) → length (canon_binding binding) ≤ end → length (canon_value binding.value) ≤ end
+binding_value_fits end binding room = omega (arith, length-content end binding room)
+
+pub binding_name_fits : {old mid : List ℕ} {middle end : ℕ} (binding : VarBind) → Writes old middle end (canon_value binding.value) mid → length (canon_binding binding) ≤ end → length (canon_value (object_id binding.name)) ≤ middle
+binding_name_fits {old} {mid} {middle} {end} binding w room = omega (arith, length-content end binding room, w.begins)
+
+pub binding_header_fits : {old mid new : List ℕ} {start middle end : ℕ} (binding : VarBind) → Writes old middle end (canon_value binding.value) mid → Writes mid start middle (canon_value (object_id binding.name)) new → length (canon_binding binding) ≤ end → length (canon_header sequence_tag (end - start)) ≤ start
+binding_header_fits {old} {mid} {new} {start} {middle} {end} binding w v room = header_fits sequence_tag (writes_then w v) (subst (λ (octets : List ℕ). length octets ≤ end) (binding_is binding) room)
+
+pub writes_binding : {old mid out new : List ℕ} {start name middle end : ℕ} (binding : VarBind) → Writes old middle end (canon_value binding.value) mid → Writes mid name middle (canon_value (object_id binding.name)) out → Writes out start name (canon_header sequence_tag (end - name)) new → Writes old start end (canon_binding binding) new
+writes_binding binding w v u = writes_same (writes_element sequence_tag (writes_then w v) u) (sym (binding_is binding))
+
+-- a text that fills the front of a slice
+pub encoded : {old new text : List ℕ} {start size : ℕ} → Writes old start size text new → size ≡ length text → new ≡ text ++ drop size old
+encoded {old} {new} {text} {start} {size} w e =
+    let front : start ≡ 0 = omega (arith, w.begins) in
+    subst (λ (k : ℕ). drop k new ≡ text ++ drop size old) front w.after
+
+-- bindings one after the other
+abbrev pub binding_octets : Binding → List ℕ
+binding_octets binding = canon_binding (var_bind binding)
+
+pub bindings_are : (bindings : List Binding) → flat_map binding_octets bindings ≡ canon_bindings (var_binds bindings)
+unfolding canon_bindings
+bindings_are [] = refl
+bindings_are (binding ∷ more) = ap (λ rest. canon_binding (var_bind binding) ++ rest) (bindings_are more)

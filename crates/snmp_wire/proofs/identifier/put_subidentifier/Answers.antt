@@ -1,0 +1,16 @@
+use Rattle.std.proofs.Common.{arith, sym}
+use Rattle.snmp_wire.proofs.IdentifierWriting.{length-canon_subidentifier, subidentifier_short, subidentifier_some, writes_subidentifier}
+use Rattle.snmp_wire.proofs.WritingLemmas.{writes_same}
+use Rattle.snmp_wire.proofs.identifier.put_subidentifier.Goals as goal
+
+pub put_octet-last-requires-clause-room : goal.put_octet-last-requires-clause-room
+put_octet-last-requires-clause-room c = omega (arith, length-canon_subidentifier c.args.number, subidentifier_some c.args.number)
+
+pub returns-then-number-lt128 : goal.returns-then-number-lt128
+returns-then-number-lt128 c = writes_same c.put_octet-last.ensures (sym (subidentifier_short c.args.number c.if-number-lt128.true))
+
+pub put_septets-requires-clause-room : goal.put_septets-requires-clause-room
+put_septets-requires-clause-room c = omega (arith, length-canon_subidentifier c.args.number)
+
+pub returns : goal.returns
+returns c = writes_subidentifier c.args.number c.septets_size.result c.septets_size.ensures.value c.put_octet-last.ensures c.put_septets.ensures

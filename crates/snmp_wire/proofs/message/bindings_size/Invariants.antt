@@ -1,0 +1,8 @@
+use Rattle.std.proofs.Common.{◌≡◌, ◌+◌, length, drop}
+use Rattle.std.specs.List.{flat_map}
+use Rattle.snmp_wire.proofs.BindingWriting.{binding_octets}
+use Rattle.snmp_wire.proofs.message.bindings_size.Given as goal
+
+-- the octets counted and those of the bindings that are left are all
+abbrev pub invariant-bindings : goal.invariant-bindings
+invariant-bindings l = l.total + length (flat_map binding_octets (drop l.binding-index l.bindings)) ≡ length (flat_map binding_octets l.bindings)

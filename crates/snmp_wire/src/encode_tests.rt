@@ -1,0 +1,213 @@
+//! Written messages against octets that were worked out by hand.
+
+ghost use Rattle.std.specs.Prelude.{IsTrue};
+ghost use Rattle.snmp_wire.specs.Canon.{IsEncodable, IsEncodableValue};
+ghost use Rattle.snmp_wire.specs.Message.{datum, var_bind};
+
+use crate::{
+    Binding, Kind, Oid, Parts, ValueRef, binding_size, encode, encode_binding, encode_head,
+    head_size, size,
+};
+use std::process::Abort;
+
+/// A message of version 1, community `public` and id 1.
+fn message<'a>(kind: Kind, b: i32, bindings: &'a [Binding<'a>]) -> Parts<'a> {
+    Parts {
+        version: 1,
+        community: b"public",
+        kind,
+        id: 1,
+        a: 0,
+        b,
+        bindings,
+    }
+}
+
+/// sysName.0, 1.3.6.1.2.1.1.5.0.
+const NAME: [u32; 9] = [1, 3, 6, 1, 2, 1, 1, 5, 0];
+
+/// The Get of sysName.0.
+const REQUEST: [u8; 40] = [
+    0x30, 0x26, 0x02, 0x01, 0x01, 0x04, 0x06, 0x70, 0x75, 0x62, 0x6C, 0x69, 0x63, 0xA0, 0x19, 0x02,
+    0x01, 0x01, 0x02, 0x01, 0x00, 0x02, 0x01, 0x00, 0x30, 0x0E, 0x30, 0x0C, 0x06, 0x08, 0x2B, 0x06,
+    0x01, 0x02, 0x01, 0x01, 0x05, 0x00, 0x05, 0x00,
+];
+
+/// Its Response, with the string `wes`.
+const RESPONSE: [u8; 43] = [
+    0x30, 0x29, 0x02, 0x01, 0x01, 0x04, 0x06, 0x70, 0x75, 0x62, 0x6C, 0x69, 0x63, 0xA2, 0x1C, 0x02,
+    0x01, 0x01, 0x02, 0x01, 0x00, 0x02, 0x01, 0x00, 0x30, 0x11, 0x30, 0x0F, 0x06, 0x08, 0x2B, 0x06,
+    0x01, 0x02, 0x01, 0x01, 0x05, 0x00, 0x04, 0x03, 0x77, 0x65, 0x73,
+];
+
+/// The GetBulk of 1.3.6.1.4.1.32473.1 with 10 repetitions.
+const BULK: [u8; 41] = [
+    0x30, 0x27, 0x02, 0x01, 0x01, 0x04, 0x06, 0x70, 0x75, 0x62, 0x6C, 0x69, 0x63, 0xA5, 0x1A, 0x02,
+    0x01, 0x01, 0x02, 0x01, 0x00, 0x02, 0x01, 0x0A, 0x30, 0x0F, 0x30, 0x0D, 0x06, 0x09, 0x2B, 0x06,
+    0x01, 0x04, 0x01, 0x81, 0xFD, 0x59, 0x01, 0x05, 0x00,
+];
+
+/// Whether a value has an encoding.
+fn is_encodable(value: &ValueRef<'_>) -> bool
+    ensures { IsTrue result → IsEncodableValue (datum value.now) }
+{
+    match value {
+        ValueRef::Octets(text) | ValueRef::Opaque(text) => text.len() <= 65535,
+        ValueRef::ObjectId(name) => name.is_wire(),
+        _ => true,
+    }
+}
+
+/// A binding that has an encoding.
+fn binding<'a>(rt: &impl Abort, name: &[u32], value: ValueRef<'a>) -> Binding<'a>
+    ensures { IsEncodable (var_bind result) }
+{
+    let name = Oid::from_slice(name).expect(rt, "at most 128 numbers");
+    assert!(rt; name.is_wire());
+    assert!(rt; is_encodable(&value));
+    Binding { name, value }
+}
+
+/// Whether the message of this one binding is these octets: in a slice that is longer, in one that just fits, and in none that is shorter. What stands behind them stays.
+fn assert_message(rt: &impl Abort, kind: Kind, b: i32, binding: Binding<'_>, octets: &[u8])
+    requires { IsEncodable (var_bind binding) }
+{
+    let bindings = [binding];
+    let parts = message(kind, b, &bindings);
+    let len = octets.len();
+    let mut out = [0xEE; 512];
+    assert!(rt; 0 < len && len < out.len());
+    assert_eq!(rt; size(&parts), len as u64);
+    assert_eq!(rt; encode(&parts, &mut out[..len - 1]), None);
+    assert!(rt; out.iter().all(|octet| *octet == 0xEE));
+    assert_eq!(rt; encode(&parts, &mut out[..len]), Some(len));
+    assert_eq!(rt; &out[..len], octets);
+    let mut out = [0xEE; 512];
+    assert_eq!(rt; encode(&parts, &mut out), Some(len));
+    assert_eq!(rt; &out[..len], octets);
+    assert!(rt; out[len..].iter().all(|octet| *octet == 0xEE));
+}
+
+#[test]
+fn a_request(rt: HostRuntime) {
+    let get = binding(&rt, &NAME, ValueRef::Null);
+    assert_message(&rt, Kind::GetRequest, 0, get, &REQUEST);
+}
+
+#[test]
+fn a_response(rt: HostRuntime) {
+    let reply = binding(&rt, &NAME, ValueRef::Octets(b"wes"));
+    assert_message(&rt, Kind::Response, 0, reply, &RESPONSE);
+}
+
+#[test]
+fn a_bulk_request(rt: HostRuntime) {
+    let get = binding(&rt, &[1, 3, 6, 1, 4, 1, 32473, 1], ValueRef::Null);
+    assert_message(&rt, Kind::GetBulkRequest, 10, get, &BULK);
+}
+
+/// Whether the value of a binding of the name 1.3 is these octets.
+fn assert_value(rt: &impl Abort, value: ValueRef<'_>, octets: &[u8]) {
+    let binding = binding(rt, &[1, 3], value);
+    let mut out = [0xEE; 1024];
+    let len = octets.len();
+    assert!(rt; len < 100);
+    assert_eq!(rt; binding_size(&binding), (len + 5) as u64);
+    assert_eq!(rt; encode_binding(&binding, &mut out[..len + 4]), None);
+    assert!(rt; out.iter().all(|octet| *octet == 0xEE));
+    assert_eq!(rt; encode_binding(&binding, &mut out), Some(len + 5));
+    assert_eq!(rt;
+        &out[..5],
+        [0x30, (len + 3) as u8, 0x06, 0x01, 0x2B].as_slice()
+    );
+    assert_eq!(rt; &out[5..len + 5], octets);
+    assert!(rt; out[len + 5..].iter().all(|octet| *octet == 0xEE));
+}
+
+#[test]
+fn whole_numbers_are_minimal(rt: HostRuntime) {
+    assert_value(&rt, ValueRef::Counter32(200), &[0x41, 0x02, 0x00, 0xC8]);
+    assert_value(
+        &rt,
+        ValueRef::Gauge32(4294967295),
+        &[0x42, 0x05, 0x00, 0xFF, 0xFF, 0xFF, 0xFF],
+    );
+    assert_value(&rt, ValueRef::Integer(-129), &[0x02, 0x02, 0xFF, 0x7F]);
+    assert_value(&rt, ValueRef::Integer(-128), &[0x02, 0x01, 0x80]);
+    assert_value(&rt, ValueRef::Integer(-1), &[0x02, 0x01, 0xFF]);
+    assert_value(&rt, ValueRef::Integer(128), &[0x02, 0x02, 0x00, 0x80]);
+    assert_value(
+        &rt,
+        ValueRef::Integer(i32::MIN),
+        &[0x02, 0x04, 0x80, 0x00, 0x00, 0x00],
+    );
+    assert_value(&rt, ValueRef::TimeTicks(0), &[0x43, 0x01, 0x00]);
+    assert_value(
+        &rt,
+        ValueRef::Counter64(u64::MAX),
+        &[
+            0x46, 0x09, 0x00, 0xFF, 0xFF, 0xFF, 0xFF, 0xFF, 0xFF, 0xFF, 0xFF,
+        ],
+    );
+    assert_value(
+        &rt,
+        ValueRef::Counter64(1 << 62),
+        &[0x46, 0x08, 0x40, 0x00, 0x00, 0x00, 0x00, 0x00, 0x00, 0x00],
+    );
+}
+
+#[test]
+fn other_values(rt: HostRuntime) {
+    assert_value(&rt, ValueRef::Octets(b""), &[0x04, 0x00]);
+    assert_value(&rt, ValueRef::Null, &[0x05, 0x00]);
+    assert_value(
+        &rt,
+        ValueRef::IpAddress([192, 0, 2, 255]),
+        &[0x40, 0x04, 0xC0, 0x00, 0x02, 0xFF],
+    );
+    assert_value(
+        &rt,
+        ValueRef::Opaque(&[0x9F, 0x78]),
+        &[0x44, 0x02, 0x9F, 0x78],
+    );
+    assert_value(&rt, ValueRef::NoSuchObject, &[0x80, 0x00]);
+    assert_value(&rt, ValueRef::NoSuchInstance, &[0x81, 0x00]);
+    assert_value(&rt, ValueRef::EndOfMibView, &[0x82, 0x00]);
+    let name = Oid::from_slice(&[2, 4294967295, 0]).expect(&rt, "three numbers");
+    assert_value(
+        &rt,
+        ValueRef::ObjectId(name),
+        &[0x06, 0x06, 0x90, 0x80, 0x80, 0x80, 0x4F, 0x00],
+    );
+}
+
+#[test]
+fn the_longest_name(rt: HostRuntime) {
+    let mut name = [4294967295; 128];
+    name[0] = 1;
+    name[1] = 3;
+    name[2] = 6;
+    let binding = binding(&rt, &name, ValueRef::Null);
+    let mut out = [0xEE; 1024];
+    assert_eq!(rt; encode_binding(&binding, &mut out), Some(637));
+    assert_eq!(rt;
+        &out[..15],
+        [
+            0x30, 0x82, 0x02, 0x79, 0x06, 0x82, 0x02, 0x73, 0x2B, 0x06, 0x8F, 0xFF, 0xFF, 0xFF,
+            0x7F
+        ]
+        .as_slice()
+    );
+}
+
+#[test]
+fn in_pieces(rt: HostRuntime) {
+    let parts = message(Kind::Response, 0, &[]);
+    let mut out = [0xEE; 64];
+    assert_eq!(rt; head_size(&parts, 17), 26);
+    assert_eq!(rt; encode_head(&parts, 17, &mut out[..25]), None);
+    assert_eq!(rt; encode_head(&parts, 17, &mut out), Some(26));
+    assert_eq!(rt; &out[..26], &RESPONSE[..26]);
+    assert!(rt; out[26..].iter().all(|octet| *octet == 0xEE));
+    assert_eq!(rt; head_size(&parts, 4000000000), 38);
+}
