@@ -1,5 +1,11 @@
+pub mod Answering
+pub mod Cuts
 pub mod Decimals
+pub mod Drafts
 pub mod Finding
+pub mod Keeping
 pub mod Partition
 pub mod Rising
+pub mod Statements
 pub mod Successors
+pub mod TextLines

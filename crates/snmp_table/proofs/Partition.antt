@@ -1,9 +1,8 @@
 -- Where the rows behind a name begin.
-use Rattle.std.proofs.Common.{◌≡◌, ℕ, zero, suc, ◌≤◌, ◌<◌, T, Bool, true, false, List, [], ◌∷◌, map, length, take, drop, slice_index_or, refl, sym, ◌∙◌, ap, arith, Less, Equal, Greater, Ordering}
-use Rattle.std.specs.Ordering.{nat_cmp, is_le, is_gt, ordering_reverse}
+use Rattle.std.proofs.Common.{◌≡◌, ℕ, zero, suc, ◌≤◌, ◌<◌, true, false, List, [], ◌∷◌, map, length, take, drop, slice_index_or, refl, sym, ap, arith, Less, Equal, Greater, Ordering}
+use Rattle.std.specs.Ordering.{nat_cmp, is_le, is_gt}
 use Rattle.std.specs.Cmp.{upto}
 use Rattle.std.specs.Cmp.Lexicographic.{slice_cmp, nat_list_cmp_total}
-use Rattle.std.specs.FinMap.{is_sorted}
 use Rattle.std.specs.List.{AllWithin}
 use Rattle.std.specs.List.Sorted.{IsPartitionedBy}
 use Rattle.snmp_table.specs.declared.row.Row.{Row}

@@ -9,7 +9,7 @@ use Rattle.snmp_oid.specs.Identifier.{Precedes}
 use Rattle.snmp_oid.proofs.IdentifierLemmas.{precedes_from_less, less_from_precedes}
 use Rattle.snmp_wire.specs.Message.{Datum, VarBind}
 use Rattle.snmp_wire.specs.Message.Datum.{end_of_mib_view}
-use Rattle.snmp_table.specs.Table.{MibView, IsRow, IsSuccessor, IsNext, successor, end_of_view, IsNextAfter}
+use Rattle.snmp_table.specs.Table.{MibView, IsRow, IsNext, successor, end_of_view, IsNextAfter}
 use Rattle.snmp_table.specs.Listing.{first_or_end, nth_or_end}
 use Rattle.snmp_table.specs.declared.row.Row.{Row}
 use Rattle.snmp_table.specs.Row.{entry_of, view_of}

@@ -1,4 +1,6 @@
+pub mod Draft
 pub mod Exact
+pub mod Line
 pub mod Listing
 pub mod Places
 pub mod Row

@@ -1,8 +1,6 @@
 -- How a table keeps what it serves: rows in the order of their names.
-use Rattle.std.specs.Prelude.{◌≡◌, ℕ, ◌≤◌, T, List, [], ◌∷◌, map, length, codes, All}
-use Rattle.std.specs.Ordering.{nat_cmp}
-use Rattle.std.specs.Cmp.Lexicographic.{slice_cmp}
-use Rattle.std.specs.FinMap.{from_sorted, is_sorted}
+use Rattle.std.specs.Prelude.{ℕ, ◌≤◌, List, map, length, codes}
+use Rattle.std.specs.FinMap.{from_sorted}
 use Rattle.std.specs.FinSet.{from_list}
 use Rattle.snmp_wire.specs.Message.{Datum}
 use Rattle.snmp_wire.specs.Message.Datum.{integer_value, octet_string, object_id, ip_address, counter32, gauge32, time_ticks, opaque_octets, counter64}

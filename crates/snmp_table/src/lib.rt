@@ -3,10 +3,16 @@
 //! Stands on identifiers and values. The agent answers requests from it.
 #![tactic(auto)]
 
+mod draft;
 mod error;
+mod line;
 mod row;
+mod split;
 mod table;
 mod value;
+
+#[cfg(test)]
+mod tests;
 
 pub use error::TableError;
 pub use table::Table;

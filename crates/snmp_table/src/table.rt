@@ -10,7 +10,11 @@ ghost use Rattle.snmp_table.specs.Row.{entry_of, datum_of, IsShortRow};
 ghost use Rattle.snmp_table.specs.Places.{IsRising, IsBeforeNone, IsBeforeAll, is_up_to, bindings_of, last_name, HasBeginning};
 ghost use Rattle.snmp_table.specs.Listing.{nth_or_end};
 
+use crate::draft::Draft;
+use crate::error::TableError;
 use crate::row::{Row, identifier};
+use crate::split::split_line;
+use std::alloc::Global;
 use std::collections::BTreeSet;
 use std::marker::Model;
 use snmp_wire::{Binding, Oid, ValueRef};
@@ -42,11 +46,38 @@ impl Model for Table {
 
 impl Table {
     ghost use Rattle.snmp_wire.specs.Message.{datum, var_bind};
-    ghost use Rattle.snmp_table.specs.Table.{IsGet, IsNext, IsNextAfter, IsMibView};
+    ghost use Rattle.std.specs.Prelude.{IfOk, IfErr};
+    ghost use Rattle.std.specs.Str.Lines.{lines};
+    ghost use Rattle.snmp_table.specs.Table.{IsGet, IsNext, IsNextAfter, IsAnswerValue};
+    ghost use Rattle.snmp_oid.specs.Identifier.{IsWire};
+    ghost use Rattle.snmp_table.specs.Stated.{IsTableOf, IsFirstFault};
+
+    /// The table that a text states, or the fault of its first faulty line (`docs/PROFILE.md`). `Memory` may come in place of any answer.
+    ///
+    /// A line ends with LF, CR LF or the text; a CR that no LF follows belongs to its line.
+    pub fn read(alloc: Global, text: &[u8]) -> Result<Table, TableError>
+        ensures table { IfOk result (IsTableOf (lines text.now)) }
+        ensures fault { IfErr result (IsFirstFault (lines text.now)) }
+    {
+        let mut draft = Draft::new(alloc);
+        let mut rest = text;
+        let mut number = 0;
+        'lines: while !rest.is_empty() {
+            let (line, behind) = split_line(rest);
+            number += 1;
+            draft.add(alloc, line, number)?;
+            rest = behind;
+        }
+        match draft.into_parts(alloc) {
+            Ok((rows, objects)) => Ok(Table { rows, objects }),
+            Err(_) => Err(TableError::Memory),
+        }
+    }
 
     /// The answer to a Get of the name: its value; else `NoSuchObject` where no object prefix equals the name or begins it, and `NoSuchInstance` where one does (RFC 3416, section 4.2.1).
     pub fn get(&self, name: &Oid) -> ValueRef<'_>
-        ensures { IsGet self.now name.now (record { name = name.now; value = datum result }) }
+        ensures answer { IsGet self.now name.now (record { name = name.now; value = datum result }) }
+        ensures value { IsAnswerValue (datum result) }
     {
         let numbers = name.as_slice();
         match row_at(self.rows.as_slice(), numbers) {
@@ -58,14 +89,18 @@ impl Table {
 
     /// The answer to a GetNext of the name: the first row behind it, else the name itself with `EndOfMibView` (RFC 3416, section 4.2.2).
     pub fn next(&self, name: &Oid) -> Binding<'_>
-        ensures { IsNext self.now name.now (var_bind result) }
+        ensures answer { IsNext self.now name.now (var_bind result) }
+        ensures name { IsWire name.now → IsWire result.name }
+        ensures value { IsAnswerValue (datum result.value) }
     {
         self.next_after(name, 0)
     }
 
     /// The answer to a GetNext that is asked again, `rounds` times more, from the name that it gave, as a GetBulk does (RFC 3416, section 4.2.3).
     pub fn next_after(&self, name: &Oid, rounds: usize) -> Binding<'_>
-        ensures { IsNextAfter self.now rounds name.now (var_bind result) }
+        ensures answer { IsNextAfter self.now rounds name.now (var_bind result) }
+        ensures name { IsWire name.now → IsWire result.name }
+        ensures value { IsAnswerValue (datum result.value) }
     {
         let rows = self.rows.as_slice();
         let (_, behind) = rows.split_at(place_behind(rows, name.as_slice()));

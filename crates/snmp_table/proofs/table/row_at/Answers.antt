@@ -1,4 +1,4 @@
-use Rattle.std.proofs.Common.{◌≡◌, ◌-◌, length, take, Some, None, refl, sym, ◌∙◌, ap, Bor, true}
+use Rattle.std.proofs.Common.{◌≡◌, ◌-◌, length, take, None, sym, ◌∙◌, ap, Bor, true}
 use Rattle.std.specs.Option.{option_map}
 use Rattle.std.specs.List.{slice_get}
 use Rattle.std.proofs.lemmas.Bool.Decides.{Decides-eqb}

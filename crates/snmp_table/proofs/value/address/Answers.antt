@@ -1,5 +1,4 @@
-use Rattle.std.proofs.Common.{◌≡◌, ℕ, List, get_or, arith, rules}
-use Rattle.snmp_table.specs.Text.{IsAddressText}
+use Rattle.std.proofs.Common.{◌≡◌, get_or, arith}
 use Rattle.snmp_table.proofs.Decimals.{no_dot_first}
 use Rattle.snmp_table.proofs.value.address.Goals as goal
 

@@ -1,4 +1,4 @@
-use Rattle.std.proofs.Common.{◌≡◌, ◌≤◌, ℕ, List, length, Result, Ok, Err, Option, Some, None, sym, subst, IfOk}
+use Rattle.std.proofs.Common.{◌≡◌, ◌≤◌, ℕ, List, length, Result, Ok, Err, IfOk}
 use Rattle.std.specs.Result.{result_ok}
 use Rattle.snmp_oid.specs.Numeric.{IsNumericName}
 use Rattle.snmp_oid.specs.declared.numeric.OidTextError.{OidTextError}

@@ -1,15 +1,16 @@
-use Rattle.std.proofs.Common.{◌≡◌, List, ℕ, subst, sym, map, take, drop, ap, ◌∙◌}
+use Rattle.std.proofs.Common.{◌≡◌, List, subst, sym, map, take, drop, ap, ◌∙◌}
 use Rattle.snmp_table.specs.declared.row.Row.{Row}
 use Rattle.snmp_table.specs.Row.{entry_of, view_of}
 use Rattle.snmp_table.specs.Places.{IsBeforeNone, IsBeforeAll, bindings_of}
-use Rattle.snmp_table.specs.Table.{MibView, IsNextAfter}
+use Rattle.snmp_table.specs.Table.{MibView, IsMibView, IsNextAfter}
 use Rattle.snmp_table.specs.Listing.{nth_or_end}
 use Rattle.snmp_wire.specs.Message.{VarBind, var_bind}
+use Rattle.snmp_table.proofs.Answering.{next_after_name, next_after_value}
 use Rattle.snmp_table.proofs.Successors.{next_after_at}
 use Rattle.snmp_table.proofs.table.Table.next_after.Goals as goal
 
-pub returns : goal.returns
-returns c =
+answered : (c : goal.After-nth_or_end) → IsNextAfter c.args.self.now c.args.rounds c.args.name.now (var_bind c.nth_or_end.result)
+answered c =
     let rows = c.self.inside.rows.items in
     let o = c.args.name.now in
     let place = c.place_behind.result in
@@ -22,3 +23,13 @@ returns c =
     let P : VarBind → Type 0 = λ p. IsNextAfter c.args.self.now c.args.rounds o p in
     let Q : MibView → Type 0 = λ view. IsNextAfter view c.args.rounds o (nth_or_end o (bindings_of (drop place rows)) c.args.rounds) in
     subst P (sym same) (subst Q c.self.view_is after)
+
+view : (c : goal.After-nth_or_end) → IsMibView c.args.self.now
+view c = subst (λ (v : MibView). IsMibView v) c.self.view_is c.self.invariant.view
+
+pub returns : goal.returns
+returns c = record {
+  answer = answered c;
+  name = λ wire. next_after_name c.args.self.now c.args.rounds c.args.name.now (var_bind c.nth_or_end.result) (view c) wire (answered c);
+  value = next_after_value c.args.self.now c.args.rounds c.args.name.now (var_bind c.nth_or_end.result) (view c) (answered c)
+}

@@ -1,0 +1,33 @@
+//! Texts that are cut at an octet.
+ghost use Rattle.std.specs.Prelude.{◌≡◌, ◌≢◌, ◌<◌, ◌++◌, ◌∷◌, length, All, MatchOption};
+ghost use Rattle.std.specs.Str.Lines.{lines, strip_carriage_return};
+
+/// What stands before the first such octet, and behind it.
+pub fn split_once(text: &[u8], separator: u8) -> Option<(&[u8], &[u8])>
+    ensures { MatchOption result (All (λ octet. octet ≢ separator) text.now) (λ parts. (text.now ≡ parts.0.now ++ separator ∷ parts.1.now) × All (λ octet. octet ≢ separator) parts.0.now) }
+{
+    let end = text.iter().position(|octet| *octet == separator)?;
+    Some((&text[..end], &text[end + 1..]))
+}
+
+/// The first line of a text that has one, without its end, and what follows.
+pub fn split_line(text: &[u8]) -> (&[u8], &[u8])
+    requires { 0 < length text.now }
+    ensures lines { lines text.now ≡ result.0.now ∷ lines result.1.now }
+    ensures shorter { length result.1.now < length text.now }
+{
+    match split_once(text, b'\n') {
+        Some((line, behind)) => (without_return(line), behind),
+        None => (text, &[]),
+    }
+}
+
+/// The text without a CR at its end.
+fn without_return(text: &[u8]) -> &[u8]
+    ensures { result.now ≡ strip_carriage_return text.now }
+{
+    match text {
+        [line @ .., b'\r'] => line,
+        _ => text,
+    }
+}
