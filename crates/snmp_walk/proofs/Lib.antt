@@ -12,3 +12,4 @@ pub mod ReplyLemmas
 pub mod TurnLemmas
 pub mod RunLemmas
 pub mod ViewLemmas
+pub mod JoinLemmas

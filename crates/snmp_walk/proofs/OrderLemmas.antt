@@ -1,5 +1,5 @@
 -- The order of names, and that those below a root lie together in it.
-use Rattle.std.proofs.Common.{append-nil, ◌≡◌, ℕ, zero, suc, ◌+◌, ◌<◌, ◌≤◌, Bool, true, false, List, [], ◌∷◌, ◌++◌, length, refl, sym, ◌∙◌, ap, subst, arith}
+use Rattle.std.proofs.Common.{append-nil, append_assoc, ◌⊎◌, inl, inr, ◌≡◌, ℕ, zero, suc, ◌+◌, ◌<◌, ◌≤◌, Bool, true, false, List, [], ◌∷◌, ◌++◌, length, refl, sym, ◌∙◌, ap, subst, arith}
 use Rattle.std.proofs.lemmas.Bool.{false≢true, false_from_ne_true}
 use Rattle.std.specs.Ordering.{nat_cmp, is_lt, ordering_then, ordering_reverse}
 use Rattle.std.specs.Cmp.{ranked, nat_cmp_is, tied_itself}
@@ -103,3 +103,13 @@ pub wire_begins : (root : List ℕ) → (s : List ℕ) × (wire root ≡ root ++
 wire_begins [] = (0 ∷ 0 ∷ [], refl)
 wire_begins (x ∷ []) = (0 ∷ [], refl)
 wire_begins (x ∷ y ∷ root) = ([], sym (append-nil (x ∷ y ∷ root)))
+
+-- and so does each name behind it
+pub wire_begins_below : (root rest : List ℕ) → (s : List ℕ) × (wire (root ++ rest) ≡ root ++ s)
+wire_begins_below root rest =
+    let h = wire_begins (root ++ rest) in (rest ++ h.0, h.1 ∙ append_assoc root rest h.0)
+
+-- a name that is the root or below it
+pub wire_begins_at : (root name : List ℕ) → (name ≡ root) ⊎ IsBelow name root → (s : List ℕ) × (wire name ≡ root ++ s)
+wire_begins_at root name (inl e) = let h = wire_begins root in (h.0, ap wire e ∙ h.1)
+wire_begins_at root name (inr b) = let h = wire_begins_below root b.0 in (h.0, ap wire b.2 ∙ h.1)

@@ -26,7 +26,7 @@ less_precedes o p (inr h) =
     subst (λ (q : List ℕ). slice_cmp nat_cmp q p ≡ Less) (sym h.this)
       (subst (λ (q : List ℕ). slice_cmp nat_cmp (h.front ++ h.smaller ∷ h.after) q ≡ Less) (sym h.that) (less_parts h.front h.smaller h.larger h.after h.behind h.is_smaller))
 
-value_no_end : (v : Datum) → IsInstanceValue v → is_end v ≡ false
+pub value_no_end : (v : Datum) → IsInstanceValue v → is_end v ≡ false
 value_no_end (integer_value n) h = refl
 value_no_end (octet_string s) h = refl
 value_no_end null_value h = refl
@@ -41,7 +41,7 @@ value_no_end no_such_object h = refl
 value_no_end no_such_instance h = refl
 value_no_end end_of_mib_view h = absurd h
 
-value_no_miss : (v : Datum) → IsInstanceValue v → is_missing v ≡ false
+pub value_no_miss : (v : Datum) → IsInstanceValue v → is_missing v ≡ false
 value_no_miss (integer_value n) h = refl
 value_no_miss (octet_string s) h = refl
 value_no_miss null_value h = refl

@@ -44,7 +44,7 @@ IsTooLarge agents p = (id : ℕ) × (id < 2 ^ 31) × (agents.max_size < length (
 abbrev pub Rose : ℕ → ℕ → Type 0
 Rose before now = (before < now) ⊎ (now ≡ 18446744073709551615)
 
--- STAND-IN for the agent's own relation
+-- The octets may be the agents' reply to the datagram: whichever walk has it as its waiting request, they spell an honest reply to that.
 abbrev pub IsReply : Agents → List ℕ → List ℕ → Type 0
 IsReply agents request reply =
     (w : Walker) → IsWalker w → is_over w.phase ≡ false → request ≡ canon (request_of w)

@@ -4,6 +4,7 @@ ghost use Rattle.std.specs.Bool.{nat_eq};
 ghost use Rattle.snmp_oid.specs.Identifier.{IsWire, IsBelow, wire};
 ghost use Rattle.snmp_walk.specs.Names.{is_below, comes_after, is_inside, is_missing, is_end};
 ghost use Rattle.snmp_wire.specs.Message.{var_bind, datum};
+ghost use Rattle.snmp_walk.specs.Request.{first_phase as phase_at_first};
 
 use crate::{Method, Mode, Phase, Rows, StartError, Step, WalkEnd};
 use arrayvec::ArrayVec;
@@ -49,6 +50,7 @@ impl WalkCore {
     ghost use Rattle.snmp_wire.specs.Message.{Message};
     ghost use Rattle.snmp_wire.specs.Spelling.{Spells};
     ghost use Rattle.snmp_walk.specs.Walker.{IsMethod, IsWalker};
+    ghost use Rattle.snmp_walk.specs.Facts.{IsFresh};
     ghost use Rattle.snmp_walk.specs.Request.{started, resumed, request_of, request_kind, request_repetitions};
     ghost use Rattle.snmp_walk.specs.Taken.{is_over, is_awaited, stops, goes_on, closes, reads_next, reads_first, reads_last, got, take_of, Takes, asked_for};
     ghost use Rattle.std.specs.Option.{option_map};
@@ -63,22 +65,19 @@ impl WalkCore {
         requires community { length community.now ≤ 255 }
         requires first_id { first_id < 2 ^ 31 }
         ensures ok { IfOk result (λ w. w ≡ started root mode method community.now first_id) }
+        ensures fresh { IfOk result IsFresh }
         ensures variant { IsOk result ↔ IsWire (wire root) }
         ensures err { IfErr result (λ e. e ≡ StartError.NotWire) }
     {
         let Ok(asked) = root.to_wire() else {
             return Err(StartError::NotWire);
         };
-        let phase = match mode {
-            Mode::Include => Phase::First,
-            Mode::Plain | Mode::NoLast => Phase::Rows,
-        };
         Ok(WalkCore {
             root,
             mode,
             method,
             community: owned(community),
-            phase,
+            phase: first_phase(mode),
             asked,
             id: first_id,
             count: 0,
@@ -94,6 +93,7 @@ impl WalkCore {
         requires community { length community.now ≤ 255 }
         requires first_id { first_id < 2 ^ 31 }
         ensures ok { IfOk result (λ w. w ≡ resumed root after.now method community.now first_id) }
+        ensures fresh { IfOk result IsFresh }
         ensures variant { IsOk result ↔ (IsWire (wire root) × ((after.now ≡ root) ⊎ IsBelow after.now root) × IsWire (wire after.now)) }
         ensures not_wire { result ≡ Err StartError.NotWire → IsWire (wire root) × IsWire (wire after.now) → ⊥ }
         ensures outside { result ≡ Err StartError.AfterOutsideRoot → IsWire (wire root) × (after.now ≡ root → ⊥) × (IsBelow after.now root → ⊥) }
@@ -399,6 +399,16 @@ enum Ending {
 /// The last id of a request (RFC 3416, section 3).
 const MAX_ID: u32 = 2147483647;
 
+/// Which request a walk begins with.
+fn first_phase(mode: Mode) -> Phase
+    ensures { result ≡ phase_at_first mode }
+{
+    match mode {
+        Mode::Include => Phase::First,
+        Mode::Plain | Mode::NoLast => Phase::Rows,
+    }
+}
+
 /// The community, in the core itself.
 fn owned(community: &[u8]) -> ArrayVec<u8, 255>
     requires { length community.now ≤ 255 }
@@ -412,7 +422,8 @@ fn owned(community: &[u8]) -> ArrayVec<u8, 255>
 
 /// The same identifier, once more.
 fn copy_of(oid: &Oid) -> Oid
-    ensures { result ≡ oid.now }
+    ensures value { result ≡ oid.now }
+    ensures short { length oid.now ≤ 128 }
 {
     match Oid::from_slice(oid.as_slice()) {
         Ok(copy) => copy,
