@@ -13,3 +13,4 @@ pub mod TurnLemmas
 pub mod RunLemmas
 pub mod ViewLemmas
 pub mod JoinLemmas
+pub mod FactLemmas

@@ -22,7 +22,7 @@ use Rattle.snmp_walk.specs.Standing.{IsOpening, IsGiven, IsAlone, IsPart, IsStag
 use Rattle.snmp_walk.specs.Link.{Agents, next_of, got_of, IsTooLarge, IsReply}
 use Rattle.snmp_walk.specs.Sink.{Given, Refused, Took}
 use Rattle.snmp_walk.specs.Run.{IsFrom, Turns, goes_on, ends, is_refused, is_silent, fails, rows_in}
-use Rattle.snmp_walk.specs.Facts.{IsFresh, IsLawfulEnd, WalkFacts}
+use Rattle.snmp_walk.specs.Facts.{IsFresh, IsLawfulEnd}
 use Rattle.snmp_walk.proofs.SinkLemmas.{given-append}
 use Rattle.snmp_walk.proofs.StandingLemmas.{taken, part_of_stage}
 use Rattle.snmp_walk.proofs.AnyLemmas.{taken_any, rising_answers}
@@ -153,6 +153,11 @@ module _ (agents : Agents) (laws : AreAnswers (next_of agents) (got_of agents)) 
   advances_part w v given (step.Rows rows) k = part_of_stage (next_of agents) (got_of agents) (IsTooLarge agents) laws first (given ++ rows) v.asked v.phase k.stage
   advances_part w v given (step.Last rows why) k = k.0
 
+-- what the turns of a run show of it
+pub record RunFacts (agents : Agents) (first : Walker) (rows : List VarBind) (end : WalkEnd) : Type 0 where
+  pub part : IsPart (next_of agents) (got_of agents) first rows
+  pub lawful : IsLawfulEnd agents first rows end
+
 module _ {S : Type 0} (takes : S → VarBind → Result (Unit {0}) SinkFault → S → Type 0) (agents : Agents) (honest : Type 0) (first w : Walker) (before s t : S)
     (given : List VarBind) (sunk : Given takes before given s) (stands : Stands Rises Named first w given) where
   -- the walk after one more turn
@@ -184,7 +189,7 @@ module _ {S : Type 0} (takes : S → VarBind → Result (Unit {0}) SinkFault →
   pub record IsOver (rows : List VarBind) (end : WalkEnd) : Type 0 where
     pub sink : Took takes before (given ++ rows) end t
     pub part : IsPart Rises Named first (given ++ rows)
-    pub facts : honest → AreAnswers (next_of agents) (got_of agents) → Stands (next_of agents) (got_of agents) first w given → WalkFacts agents first (given ++ rows) end
+    pub facts : honest → AreAnswers (next_of agents) (got_of agents) → Stands (next_of agents) (got_of agents) first w given → RunFacts agents first (given ++ rows) end
 
   over_reply : (rows : List VarBind) (m : Message) (why : WalkEnd) → IsFrom agents honest w m → (take_of w m).0 ≡ step.Last rows why → Given takes s rows t → IsOver rows why
   over_reply rows m why from e sink =
@@ -215,7 +220,7 @@ module _ {S : Type 0} (takes : S → VarBind → Result (Unit {0}) SinkFault →
   over_none why sink lawful = record {
       sink = subst (λ (r : List VarBind). Took takes before r why t) (sym (append-nil given)) sink;
       part = subst (IsPart Rises Named first) (sym (append-nil given)) (part_of_stage Rises Named AllSmall rising_answers first given w.asked w.phase stands.stage);
-      facts = λ h laws k. subst (λ (r : List VarBind). WalkFacts agents first r why) (sym (append-nil given)) (record {
+      facts = λ h laws k. subst (λ (r : List VarBind). RunFacts agents first r why) (sym (append-nil given)) (record {
         part = part_of_stage (next_of agents) (got_of agents) (IsTooLarge agents) laws first given w.asked w.phase k.stage; lawful = lawful h laws k })
   }
 

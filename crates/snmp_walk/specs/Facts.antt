@@ -4,6 +4,9 @@ use Rattle.snmp_wire.specs.Message.{VarBind}
 use Rattle.snmp_wire.specs.Canon.{canon}
 use Rattle.snmp_walk.specs.declared.end.WalkEnd.{WalkEnd}
 use Rattle.snmp_walk.specs.declared.end.WalkEnd.TheVariants as ending
+use Rattle.snmp_table.specs.Table.{MibView, IsGet}
+use Rattle.snmp_table.specs.Listing.{variables}
+use Rattle.snmp_walk.specs.Walk.{walk_from}
 use Rattle.snmp_walk.specs.Walker.{Walker}
 use Rattle.snmp_walk.specs.Request.{request_of, first_phase}
 use Rattle.snmp_walk.specs.Standing.{Stands, IsPart, Ends}
@@ -24,7 +27,19 @@ IsLawfulEnd agents first rows ending.NoResponse =
 IsLawfulEnd agents first rows why =
     (w : Walker) × (given : List VarBind) × Stands (next_of agents) (got_of agents) first w given × Ends (next_of agents) (got_of agents) (IsTooLarge agents) first w rows why
 
+-- what the walk gives of one table, `got` being what that answers to a Get of the name from which the walk begins
+abbrev pub walk_at : Walker → MibView → VarBind → List VarBind
+walk_at first view got = walk_from first.mode first.root first.asked got (variables view)
+
+abbrev pub IsDone : WalkEnd → Type 0
+IsDone (ending.Done n) = Unit {0}
+IsDone _ = ⊥
+
 -- what is promised of a run over an honest link
 pub record WalkFacts (agents : Agents) (first : Walker) (rows : List VarBind) (end : WalkEnd) : Type 0 where
   pub part : IsPart (next_of agents) (got_of agents) first rows
   pub lawful : IsLawfulEnd agents first rows end
+  -- over one table what was given is a beginning of the walk,
+  pub beginning : (view : MibView) (got : VarBind) → agents.tables ≡ view ∷ [] → IsGet view first.asked got → (more : List VarBind) × (walk_at first view got ≡ rows ++ more)
+  -- and where the walk is done it is all of it
+  pub all : (view : MibView) (got : VarBind) → agents.tables ≡ view ∷ [] → IsGet view first.asked got → IsDone end → rows ≡ walk_at first view got

@@ -6,6 +6,7 @@ use Rattle.snmp_walk.specs.Link.{Agents, Rose, next_of, got_of}
 use Rattle.snmp_walk.specs.Run.{Turns}
 use Rattle.snmp_walk.specs.Standing.{Rises, Named}
 use Rattle.snmp_walk.proofs.RunLemmas.{fresh_stands, GoesOn, IsOver, turned, over}
+use Rattle.snmp_walk.proofs.FactLemmas.{facts}
 use Rattle.snmp_walk.proofs.ViewLemmas.{views_answer}
 use Rattle.snmp_walk.proofs.run.run_walk.Goals as goal
 
@@ -20,7 +21,9 @@ returns-in-Some-clause-given g c =
     let same = subst (λ (a : Agents). Turns g.S.Sink.takes a (g.L.Link.honest c.turns.link) c.turns.core c.turns.sink t.0 (Some c.in-Some.end) c.turn.new.core c.turn.new.sink) inv.5 t.1 in
     let done = over g.S.Sink.takes (g.L.Link.agents c.args.link.now) (g.L.Link.honest c.turns.link) c.args.core c.turns.core c.args.sink.now c.turns.sink c.turn.new.sink
           inv.0 inv.1 inv.2 t.0 c.turn.new.core c.in-Some.end same in
-    (inv.0 ++ t.0, done.sink, done.part, λ h views. done.facts (inv.4 h) (views_answer (g.L.Link.agents c.args.link.now) views) (inv.3 h views))
+    (inv.0 ++ t.0, done.sink, done.part, λ h views.
+      let shown = done.facts (inv.4 h) (views_answer (g.L.Link.agents c.args.link.now) views) (inv.3 h views) in
+      facts (g.L.Link.agents c.args.link.now) c.args.core (inv.0 ++ t.0) c.in-Some.end c.requires views shown.part shown.lawful)
 
 pub returns-in-Some-clause-fault : goal.returns-in-Some-clause-fault
 returns-in-Some-clause-fault g c = λ link.
