@@ -47,10 +47,13 @@ impl WalkCore {
     ghost use Rattle.std.specs.Prelude.{◌≡◌, ◌<◌, ◌≤◌, ◌⊎◌, ℕ, length, take, IsOk, IfOk, IfErr, ◌↔◌, ◌^◌, true, false, IsTrue, Err};
     ghost use Rattle.snmp_oid.specs.Identifier.{IsWire, IsBelow, wire};
     ghost use Rattle.snmp_wire.specs.Canon.{canon};
-    ghost use Rattle.snmp_wire.specs.Message.{Message};
+    ghost use Rattle.snmp_wire.specs.Message.{Message, VarBind};
     ghost use Rattle.snmp_wire.specs.Spelling.{Spells};
     ghost use Rattle.snmp_walk.specs.Walker.{IsMethod, IsWalker};
-    ghost use Rattle.snmp_walk.specs.Facts.{IsFresh};
+    ghost use Rattle.snmp_walk.specs.Facts.{IsFresh, walk_at};
+    ghost use Rattle.snmp_walk.specs.Walk.{walk_of, rest_of};
+    ghost use Rattle.snmp_table.specs.Table.{MibView, IsMibView};
+    ghost use Rattle.snmp_table.specs.Listing.{variables};
     ghost use Rattle.snmp_walk.specs.Request.{started, resumed, request_of, request_kind, request_repetitions};
     ghost use Rattle.snmp_walk.specs.Taken.{is_over, is_awaited, stops, goes_on, closes, reads_next, reads_first, reads_last, got, take_of, Takes, asked_for};
     ghost use Rattle.std.specs.Option.{option_map};
@@ -66,6 +69,7 @@ impl WalkCore {
         requires first_id { first_id < 2 ^ 31 }
         ensures ok { IfOk result (λ w. w ≡ started root mode method community.now first_id) }
         ensures fresh { IfOk result IsFresh }
+        ensures walk { IfOk result (λ w. (view : MibView) (got : VarBind) → IsMibView view → walk_at w view got ≡ walk_of mode root got (variables view)) }
         ensures variant { IsOk result ↔ IsWire (wire root) }
         ensures err { IfErr result (λ e. e ≡ StartError.NotWire) }
     {
@@ -94,6 +98,7 @@ impl WalkCore {
         requires first_id { first_id < 2 ^ 31 }
         ensures ok { IfOk result (λ w. w ≡ resumed root after.now method community.now first_id) }
         ensures fresh { IfOk result IsFresh }
+        ensures walk { IfOk result (λ w. (view : MibView) (got : VarBind) → walk_at w view got ≡ rest_of root (wire after.now) (variables view)) }
         ensures variant { IsOk result ↔ (IsWire (wire root) × ((after.now ≡ root) ⊎ IsBelow after.now root) × IsWire (wire after.now)) }
         ensures not_wire { result ≡ Err StartError.NotWire → IsWire (wire root) × IsWire (wire after.now) → ⊥ }
         ensures outside { result ≡ Err StartError.AfterOutsideRoot → IsWire (wire root) × (after.now ≡ root → ⊥) × (IsBelow after.now root → ⊥) }
