@@ -75,22 +75,22 @@ module _ (first : Walker) where
       → IsStage Rises Named first (given ++ more) (last_name old.asked more) next → Keeps_step old given (goes_on old next more)
   goes_any old given more next h stage =
       either_way old given (nat_lt old.id 2147483647)
-          (step.Rows more, record old { phase = next; asked = last_name old.asked more; id = old.id + 1; count = old.count + length more }) (stops old more ending.TooManyRequests)
-        (λ less. let low : old.id < 2147483647 = ltb-true _ _ less in (refl, omega arith, went low less))
-        (λ _. stops_any old given more ending.TooManyRequests tt (part_of_stage Rises Named Small rising_answers first (given ++ more) (last_name old.asked more) next stage))
+      (step.Rows more, record old { phase = next; asked = last_name old.asked more; id = old.id + 1; count = old.count + length more }) (stops old more ending.TooManyRequests)
+      (λ less. let low : old.id < 2147483647 = ltb-true _ _ less in (refl, omega arith, went low less))
+      (λ _. stops_any old given more ending.TooManyRequests tt (part_of_stage Rises Named Small rising_answers first (given ++ more) (last_name old.asked more) next stage))
     where
       went : old.id < 2147483647 → nat_lt old.id 2147483647 ≡ true
           → Stands Rises Named first (record old { phase = next; asked = last_name old.asked more; id = old.id + 1; count = old.count + length more }) (given ++ more)
       went low less = record {
-          same = ap (λ (v : Walker). record v { phase = next; asked = last_name old.asked more; id = old.id + 1; count = old.count + length more }) h.same;
-          count = omega (arith, h.count, length-append given more);
-          stage = stage
-        }
+        same = ap (λ (v : Walker). record v { phase = next; asked = last_name old.asked more; id = old.id + 1; count = old.count + length more }) h.same;
+        count = omega (arith, h.count, length-append given more);
+        stage = stage;
+      }
 
   -- an honest step is one of any kind
   went_on : (old : Walker) (given more : List VarBind) (next : Phase) (b : Bool) → b ≡ nat_lt old.id 2147483647
       → Advances Rises Named Small first old given (cond b (step.Rows more, record old { phase = next; asked = last_name old.asked more; id = old.id + 1; count = old.count + length more }) (stops old more ending.TooManyRequests)).0
-          (cond b (step.Rows more, record old { phase = next; asked = last_name old.asked more; id = old.id + 1; count = old.count + length more }) (stops old more ending.TooManyRequests)).1
+      (cond b (step.Rows more, record old { phase = next; asked = last_name old.asked more; id = old.id + 1; count = old.count + length more }) (stops old more ending.TooManyRequests)).1
       → Keeps_step old given (cond b (step.Rows more, record old { phase = next; asked = last_name old.asked more; id = old.id + 1; count = old.count + length more }) (stops old more ending.TooManyRequests))
   went_on old given more next true e h = let low : old.id < 2147483647 = ltb-true _ _ (sym e) in (refl, omega arith, h)
   went_on old given more next false e h = (tt, h.0)
@@ -106,24 +106,24 @@ module _ (first : Walker) where
   reads_any old given bindings h before v =
       let rows = rising_front old.asked (inside_front old.root bindings) in
       let trail : IsTrail Rises first.root old.asked rows =
-            subst (λ (r : List ℕ). IsTrail Rises r old.asked rows) (root_is Rises Named Small rising_answers first old given h) (rising_trail old.root old.asked bindings v) in
+      subst (λ (r : List ℕ). IsTrail Rises r old.asked rows) (root_is Rises Named Small rising_answers first old given h) (rising_trail old.root old.asked bindings v) in
       let after : IsGiven Rises Named first (given ++ rows) (last_name old.asked rows) = given_more Rises Named Small rising_answers first given rows old.asked before trail in
       let falls : WalkEnd = ending.NotIncreasing (last_name old.asked rows) (name_at (inside_front old.root bindings) (length rows)) in
       either_way old given (nat_lt (length rows) (length (inside_front old.root bindings))) (stops old rows falls)
-          (cond (nat_lt (length rows) (length bindings)) (closes old rows) (goes_on old phase.Rows rows))
-        (λ _. stops_any old given rows falls tt (inr (inl (last_name old.asked rows, after))))
-        (λ _. either_way old given (nat_lt (length rows) (length bindings)) (closes old rows) (goes_on old phase.Rows rows)
-          (λ _. closed_any old given rows (is_plain old.mode && (old.count + length rows == 0)) (old.count + length rows)
-            (closed Rises Named Small rising_answers first given rows old (last_name old.asked rows) _ refl h before after (anywhere first.root (last_name old.asked rows))))
-          (λ _. goes_any old given rows phase.Rows h after))
+      (cond (nat_lt (length rows) (length bindings)) (closes old rows) (goes_on old phase.Rows rows))
+      (λ _. stops_any old given rows falls tt (inr (inl (last_name old.asked rows, after))))
+      (λ _. either_way old given (nat_lt (length rows) (length bindings)) (closes old rows) (goes_on old phase.Rows rows)
+      (λ _. closed_any old given rows (is_plain old.mode && (old.count + length rows == 0)) (old.count + length rows)
+      (closed Rises Named Small rising_answers first given rows old (last_name old.asked rows) _ refl h before after (anywhere first.root (last_name old.asked rows))))
+      (λ _. goes_any old given rows phase.Rows h after))
 
   reads_next_any : (old : Walker) (given bindings : List VarBind) → Stands Rises Named first old given → IsGiven Rises Named first given old.asked
       → Keeps_step old given (reads_next old bindings)
   reads_next_any old given [] h before = stops_now old given (ending.NoProgress old.asked) tt h
   reads_next_any old given (b ∷ more) h before =
       either_way old given (nat_lt (asked_for old.method) (length (b ∷ more)) || list_any (λ p. is_missing p.value) (b ∷ more))
-          (stops old [] ending.BadReply) (reads old (b ∷ more)) (λ _. stops_now old given ending.BadReply tt h)
-        (λ fine. reads_any old given (b ∷ more) h before (or_parts (nat_lt (asked_for old.method) (length (b ∷ more))) (list_any (λ p. is_missing p.value) (b ∷ more)) fine).1)
+      (stops old [] ending.BadReply) (reads old (b ∷ more)) (λ _. stops_now old given ending.BadReply tt h)
+      (λ fine. reads_any old given (b ∷ more) h before (or_parts (nat_lt (asked_for old.method) (length (b ∷ more))) (list_any (λ p. is_missing p.value) (b ∷ more)) fine).1)
 
   -- the binding of a Get's reply is the one asked for
   got_by : (o : List ℕ) (b : VarBind) (c : Bool) (p : VarBind) → c ≡ (pointwise nat_eq b.name o && not (is_end b.value)) → cond c (Some b) None ≡ Some p → Named o p
@@ -159,5 +159,5 @@ module _ (first : Walker) where
   pub taken_any : (old : Walker) (given : List VarBind) (m : Message) → Stands Rises Named first old given → Keeps first old given (take_of old m).0 (take_of old m).1
   taken_any old given m h =
       either_way old given (is_awaited old m) (reads_reply old m) (step.Stray, old)
-        (λ _. either_way old given (int_eq m.a (pos 0)) (reads_for old.phase old m.bindings) (stops old [] (ending.Fault m.a m.b)) (λ _. reads_for_any old given m.bindings old.phase h h.stage) (λ _. stops_now old given (ending.Fault m.a m.b) tt h))
-        (λ _. refl)
+      (λ _. either_way old given (int_eq m.a (pos 0)) (reads_for old.phase old m.bindings) (stops old [] (ending.Fault m.a m.b)) (λ _. reads_for_any old given m.bindings old.phase h h.stage) (λ _. stops_now old given (ending.Fault m.a m.b) tt h))
+      (λ _. refl)

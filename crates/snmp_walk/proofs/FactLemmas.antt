@@ -29,7 +29,7 @@ one_table agents first view got views e answer =
       instances = variables_are view good;
       next = λ o p n. next_first view good o p (subst (λ (v : MibView). IsNext v o p) (only_one view n.0 agents.tables e n.1) n.2);
       answer = λ p n. get_one view good first.asked p got (subst (λ (v : MibView). IsGet v first.asked p) (only_one view n.0 agents.tables e n.1) n.2) answer;
-      row = get_row view good first.asked got answer
+      row = get_row view good first.asked got answer;
     }
 
 lawful_whole : (agents : Agents) (first : Walker) (rows : List VarBind) (end : WalkEnd) → IsDone end → IsLawfulEnd agents first rows end → IsWhole (next_of agents) (got_of agents) first rows
@@ -47,11 +47,11 @@ lawful_whole agents first rows (ending.Sink fault) d h = absurd d
 pub facts : (agents : Agents) (first : Walker) (rows : List VarBind) (end : WalkEnd) → IsFresh first → AreViews agents.tables
     → IsPart (next_of agents) (got_of agents) first rows → IsLawfulEnd agents first rows end → WalkFacts agents first rows end
 facts agents first rows end fresh views part lawful = record {
-    part = part;
-    lawful = lawful;
-    beginning = λ view got e answer.
+  part = part;
+  lawful = lawful;
+  beginning = λ view got e answer.
       part_is (variables view) got (next_of agents) (got_of agents) first (one_table agents first view got views e answer) fresh.begins.0 fresh.begins.1 rows part;
-    all = λ view got e answer done.
+  all = λ view got e answer done.
       whole_is (variables view) got (next_of agents) (got_of agents) first (one_table agents first view got views e answer) fresh.begins.0 fresh.begins.1 rows
-        (lawful_whole agents first rows end done lawful)
+      (lawful_whole agents first rows end done lawful);
 }

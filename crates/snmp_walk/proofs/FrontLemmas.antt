@@ -26,13 +26,16 @@ longer (Falls name) b rows inside more h = (omega (arith, h.0), h.1)
 more_rows : (last : List ℕ) (before : ℕ) (b : VarBind) (more inside rows : List VarBind) (front : Front)
     → IsReadAs b.name (before + 1) more inside rows front → IsReadAs last before (b ∷ more) (b ∷ inside) (b ∷ rows) front
 more_rows last before b more inside rows front h = record {
-    count = omega (arith, h.count); taken = ap (λ (s : List VarBind). b ∷ s) h.taken; name = h.name; ends = longer front.ending b rows inside more h.ends
+  count = omega (arith, h.count);
+  taken = ap (λ (s : List VarBind). b ∷ s) h.taken;
+  name = h.name;
+  ends = longer front.ending b rows inside more h.ends;
 }
 
 first_row : (last : List ℕ) (before : ℕ) (b : VarBind) (more inside rows : List VarBind) (front : Front) (is_in rises : Bool)
     → IsReadAs b.name (before + 1) more inside rows front
     → IsReadAs last before (b ∷ more) (cond is_in (b ∷ inside) []) (cond is_in (cond rises (b ∷ rows) []) [])
-        (cond is_in (cond rises front record { rows = before; last = last; ending = Falls b.name }) record { rows = before; last = last; ending = Leaves })
+    (cond is_in (cond rises front record { rows = before; last = last; ending = Falls b.name }) record { rows = before; last = last; ending = Leaves })
 first_row last before b more inside rows front true true h = more_rows last before b more inside rows front h
 first_row last before b more inside rows front true false h = record { count = omega arith; taken = refl; name = refl; ends = (omega arith, refl) }
 first_row last before b more inside rows front false rises h = record { count = omega arith; taken = refl; name = refl; ends = (refl, omega arith) }
@@ -59,8 +62,8 @@ reads_as (Falls name) w rows = stops w rows (walk_end.NotIncreasing (last_name w
 
 reads_by : (w : Walker) (bindings inside rows : List VarBind) (e : Ending) → EndsAs e rows inside bindings
     → (cond (nat_lt (length rows) (length inside)) (stops w rows (walk_end.NotIncreasing (last_name w.asked rows) (name_at inside (length rows))))
-        (cond (nat_lt (length rows) (length bindings)) (closes w rows) (goes_on w phase.Rows rows)))
-      ≡ reads_as e w rows
+    (cond (nat_lt (length rows) (length bindings)) (closes w rows) (goes_on w phase.Rows rows)))
+    ≡ reads_as e w rows
 reads_by w bindings inside rows GoesOn h = rw (le-ltb (length rows) (length inside) (omega (arith, h.0)), le-ltb (length rows) (length bindings) (omega (arith, h.1)))
 reads_by w bindings inside rows Leaves h = rw (le-ltb (length rows) (length inside) (omega (arith, h.0)), lt-ltb (length rows) (length bindings) h.1)
 reads_by w bindings inside rows (Falls name) h = rw (lt-ltb (length rows) (length inside) h.0, h.1)

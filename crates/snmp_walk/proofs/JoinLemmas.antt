@@ -89,19 +89,19 @@ same_test : (o x : List ℕ) (b : Bool) → b ≡ eq_by_cmp (slice_cmp nat_cmp) 
 same_test o x true t = let e : o ≡ x = tie_is o x (sym t) in ap (λ (n : List ℕ). pointwise nat_eq x n) e ∙ nat_list_eq_equiv.refl x
 same_test o x false t =
     false_from_ne_true (pointwise nat_eq x o) (λ h.
-      let e : x ≡ o = same_text x o (sym h) in
-      let tie : eq_by_cmp (slice_cmp nat_cmp) o x ≡ true = ap (λ (n : List ℕ). eq_by_cmp (slice_cmp nat_cmp) o n) e ∙ tie_self o in
-      false≢true (t ∙ tie))
+    let e : x ≡ o = same_text x o (sym h) in
+    let tie : eq_by_cmp (slice_cmp nat_cmp) o x ≡ true = ap (λ (n : List ℕ). eq_by_cmp (slice_cmp nat_cmp) o n) e ∙ tie_self o in
+    false≢true (t ∙ tie))
 
 -- no row behind a name has it
 none_named : (x : List ℕ) (rows : List VarBind) → AreAfter x rows → rows_named x rows ≡ []
 none_named x [] h = refl
 none_named x (q ∷ rows) h =
     let other : pointwise nat_eq q.name x ≡ false =
-          false_from_ne_true (pointwise nat_eq q.name x) (λ t.
-            let same : q.name ≡ x = same_text q.name x (sym t) in
-            let itself : comes_after x x ≡ true = ap (comes_after x) (sym same) ∙ h.0 in
-            false≢true (sym (after-irrefl x) ∙ itself)) in
+    false_from_ne_true (pointwise nat_eq q.name x) (λ t.
+    let same : q.name ≡ x = same_text q.name x (sym t) in
+    let itself : comes_after x x ≡ true = ap (comes_after x) (sym same) ∙ h.0 in
+    false≢true (sym (after-irrefl x) ∙ itself)) in
     cond-false _ (q ∷ rows_named x rows) (rows_named x rows) other ∙ none_named x rows h.1
 
 named_by : (o : List ℕ) (v : Datum) (e : List ℕ × Datum) (es : List (List ℕ × Datum)) (b : Bool) → b ≡ eq_by_cmp (slice_cmp nat_cmp) o e.0 → AreAfter e.0 (map binding_of es)

@@ -70,9 +70,9 @@ behind_gap (x ∷ root) s (y ∷ p) rest h out k =
 pub outside_after : (root s p q : List ℕ) → comes_after (root ++ s) p ≡ true → is_below root p ≡ false → comes_after p q ≡ true → is_below root q ≡ false
 outside_after root s p q a out b =
     false_from_ne_true (is_below root q) (λ below.
-      let h = below_from_test root q below in
-      let not_below : IsBelow p root → ⊥ = λ k. let t : is_below root p ≡ true = test_from_below root p k in cc in
-      behind_gap root s p h.0 (less_from_after (root ++ s) p a) not_below (subst (λ (n : List ℕ). slice_cmp nat_cmp p n ≡ Less) h.2 (less_from_after p q b)))
+    let h = below_from_test root q below in
+    let not_below : IsBelow p root → ⊥ = λ k. let t : is_below root p ≡ true = test_from_below root p k in cc in
+    behind_gap root s p h.0 (less_from_after (root ++ s) p a) not_below (subst (λ (n : List ℕ). slice_cmp nat_cmp p n ≡ Less) h.2 (less_from_after p q b)))
 
 zero_first : (x : ℕ) (o p : List ℕ) → slice_cmp nat_cmp o p ≡ Less → slice_cmp nat_cmp (0 ∷ o) (x ∷ p) ≡ Less
 zero_first zero o p h = same_first 0 o p ∙ h

@@ -43,10 +43,13 @@ pub heard_by : (agents : Agents) (honest : Type 0) (w : Walker) (datagram : List
     → ((m : Message) → Spells m datagram → r ≡ is_awaited w m)
     → ((m : Message) × Spells m datagram × ((n : Message) → Spells n datagram → n ≡ m)) → r ≡ true → IsHeard agents honest w datagram
 heard_by agents honest w datagram r good waits reply awaited spelt is_true = record {
-    message = spelt.0; spelt = spelt.1; only = spelt.2; awaited = sym (awaited spelt.0 spelt.1) ∙ is_true;
-    reply = λ h.
+  message = spelt.0;
+  spelt = spelt.1;
+  only = spelt.2;
+  awaited = sym (awaited spelt.0 spelt.1) ∙ is_true;
+  reply = λ h.
       let given = reply h w good waits refl in
-      subst (IsReplyTo (next_of agents) (got_of agents) (IsTooLarge agents) w) (spelt.2 given.0 given.1) given.2
+      subst (IsReplyTo (next_of agents) (got_of agents) (IsTooLarge agents) w) (spelt.2 given.0 given.1) given.2;
 }
 
 -- an honest reply isn't passed over

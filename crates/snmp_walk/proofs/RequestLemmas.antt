@@ -41,7 +41,7 @@ length_bound : (n : ℕ) → length (canon_length n) ≤ 5
 unfolding canon_length length_size
 length_bound n =
     length_cond (nat_lt n 128) (n ∷ []) ((128 + length_size n) ∷ octets (length_size n) n) 5 (omega arith)
-      (omega (arith, octets_length (length_size n) n, digit_bound 256 256 3 n))
+    (omega (arith, octets_length (length_size n) n, digit_bound 256 256 3 n))
 
 header_bound : (tag size : ℕ) → length (canon_header tag size) ≤ 6
 unfolding canon_header
@@ -91,7 +91,7 @@ binding_bound : (name : List ℕ) → length name ≤ 128 → length (canon_bind
 unfolding canon_binding
 binding_bound name h =
     element_bound sequence_tag (canon_value (object_id name) ++ canon_value null_value) 652
-      (omega (arith, name_bound name h, null_bound, length-append (canon_value (object_id name)) (canon_value null_value)))
+    (omega (arith, name_bound name h, null_bound, length-append (canon_value (object_id name)) (canon_value null_value)))
 
 pub name_short : (name : List ℕ) → length name ≤ 128 → length (canon_bindings (record { name = name; value = null_value } ∷ [])) ≤ 658
 unfolding canon_bindings
@@ -112,7 +112,7 @@ message_bound m h k =
     let pdu = canon_element (kind_tag m.kind) (canon_fields m ++ list) in
     let pdu_bound : length pdu ≤ 715 = element_bound (kind_tag m.kind) (canon_fields m ++ list) 709 pdu_content in
     let opening : length (canon_opening m) ≤ 276 =
-          omega (arith, integer_bound m.version, text_bound m.community h, length-append (canon_value (integer_value m.version)) (canon_value (octet_string m.community))) in
+    omega (arith, integer_bound m.version, text_bound m.community h, length-append (canon_value (integer_value m.version)) (canon_value (octet_string m.community))) in
     let content : length (canon_opening m ++ pdu) ≤ 991 = omega (arith, opening, pdu_bound, length-append (canon_opening m) pdu) in
     let whole : length (canon_element sequence_tag (canon_opening m ++ pdu)) ≤ 997 = element_bound sequence_tag (canon_opening m ++ pdu) 991 content in
     omega (arith, whole)

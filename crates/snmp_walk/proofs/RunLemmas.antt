@@ -74,10 +74,17 @@ module _ (Next Got : List ℕ → VarBind → Type 0) (first : Walker) where
       by_opening (inl none) = inl none
       by_opening (inr whole) = inr (inl (first.asked, record { front = g.front; trail = []; parts = whole ∙ sym (append-nil g.front); opening = g.opening; is_trail = tt; last = refl }))
   given_front xs ys o g (inr h) =
-      inr (inl (last_name first.asked h.0, record {
-        front = g.front; trail = h.0; parts = h.1; opening = g.opening;
-        is_trail = trail_front Next first.root first.asked h.0 ys (subst (IsTrail Next first.root first.asked) h.2 g.is_trail); last = refl
-      }))
+      inr (inl (
+        last_name first.asked h.0,
+        record {
+          front = g.front;
+          trail = h.0;
+          parts = h.1;
+          opening = g.opening;
+          is_trail = trail_front Next first.root first.asked h.0 ys (subst (IsTrail Next first.root first.asked) h.2 g.is_trail);
+          last = refl;
+        },
+      ))
 
   alone_front : (xs ys : List VarBind) → IsAlone Next Got first (xs ++ ys) → IsPart Next Got first xs
   alone_front [] ys h = inl refl
@@ -174,11 +181,14 @@ module _ {S : Type 0} (takes : S → VarBind → Result (Unit {0}) SinkFault →
       let any = subst (λ (st : Step). Keeps first w given st (take_of w m).1) e (taken_any first w given m stands) in
       let here = subst (λ (v : Walker). Keeps first w given (step.Rows rows) v) (sym f) any in
       record {
-        sink = given-append S takes given rows before s t sunk sink; id = here.0; low = here.1; stands_on = here.2;
+        sink = given-append S takes given rows before s t sunk sink;
+        id = here.0;
+        low = here.1;
+        stands_on = here.2;
         honestly = λ h laws k.
-          let step_of = subst (λ (st : Step). Advances (next_of agents) (got_of agents) (IsTooLarge agents) first w given st (take_of w m).1) e
-                (taken (next_of agents) (got_of agents) (IsTooLarge agents) laws first given w m k (from h)) in
-          subst (λ (v : Walker). Stands (next_of agents) (got_of agents) first v (given ++ rows)) (sym f) step_of
+            let step_of = subst (λ (st : Step). Advances (next_of agents) (got_of agents) (IsTooLarge agents) first w given st (take_of w m).1) e
+            (taken (next_of agents) (got_of agents) (IsTooLarge agents) laws first given w m k (from h)) in
+            subst (λ (v : Walker). Stands (next_of agents) (got_of agents) first v (given ++ rows)) (sym f) step_of;
       }
   turned rows new (ends m why from e sink en) = let no : ⊥ = cc in absurd no
   turned rows new (is_refused m fault left between from e sink refused en) = let no : ⊥ = cc in absurd no
@@ -195,11 +205,12 @@ module _ {S : Type 0} (takes : S → VarBind → Result (Unit {0}) SinkFault →
   over_reply rows m why from e sink =
       let any = subst (λ (st : Step). Keeps first w given st (take_of w m).1) e (taken_any first w given m stands) in
       record {
-        sink = took_reply takes before t (given ++ rows) why any.0 (given-append S takes given rows before s t sunk sink); part = any.1;
+        sink = took_reply takes before t (given ++ rows) why any.0 (given-append S takes given rows before s t sunk sink);
+        part = any.1;
         facts = λ h laws k.
-          let step_of = subst (λ (st : Step). Advances (next_of agents) (got_of agents) (IsTooLarge agents) first w given st (take_of w m).1) e
-                (taken (next_of agents) (got_of agents) (IsTooLarge agents) laws first given w m k (from h)) in
-          record { part = step_of.0; lawful = lawful_reply agents first w given (given ++ rows) why any.0 k step_of.1 }
+            let step_of = subst (λ (st : Step). Advances (next_of agents) (got_of agents) (IsTooLarge agents) first w given st (take_of w m).1) e
+            (taken (next_of agents) (got_of agents) (IsTooLarge agents) laws first given w m k (from h)) in
+            record { part = step_of.0; lawful = lawful_reply agents first w given (given ++ rows) why any.0 k step_of.1 };
       }
 
   over_refused : (rows : List VarBind) (m : Message) (fault : SinkFault) (left : List VarBind) (between : S) → IsFrom agents honest w m → rows_in (take_of w m).0 ≡ rows ++ left
@@ -208,20 +219,23 @@ module _ {S : Type 0} (takes : S → VarBind → Result (Unit {0}) SinkFault →
       let cut : given ++ rows_in (take_of w m).0 ≡ (given ++ rows) ++ left = ap (λ (r : List VarBind). given ++ r) e ∙ sym (append_assoc given rows left) in
       let any = subst (IsPart Rises Named first) cut (keeps_part first w (take_of w m).1 given (take_of w m).0 stands (taken_any first w given m stands)) in
       record {
-        sink = (between, given-append S takes given rows before s between sunk sink, refused); part = part_front Rises Named first (given ++ rows) left any;
+        sink = (between, given-append S takes given rows before s between sunk sink, refused);
+        part = part_front Rises Named first (given ++ rows) left any;
         facts = λ h laws k.
-          let whole = subst (IsPart (next_of agents) (got_of agents) first) cut (advances_part agents laws first w (take_of w m).1 given (take_of w m).0
-                (taken (next_of agents) (got_of agents) (IsTooLarge agents) laws first given w m k (from h))) in
-          record { part = part_front (next_of agents) (got_of agents) first (given ++ rows) left whole; lawful = tt }
+            let whole = subst (IsPart (next_of agents) (got_of agents) first) cut (advances_part agents laws first w (take_of w m).1 given (take_of w m).0
+            (taken (next_of agents) (got_of agents) (IsTooLarge agents) laws first given w m k (from h))) in
+            record { part = part_front (next_of agents) (got_of agents) first (given ++ rows) left whole; lawful = tt };
       }
 
   over_none : (why : WalkEnd) → Took takes before given why t → (honest → AreAnswers (next_of agents) (got_of agents) → Stands (next_of agents) (got_of agents) first w given → IsLawfulEnd agents first given why)
       → IsOver [] why
   over_none why sink lawful = record {
-      sink = subst (λ (r : List VarBind). Took takes before r why t) (sym (append-nil given)) sink;
-      part = subst (IsPart Rises Named first) (sym (append-nil given)) (part_of_stage Rises Named AllSmall rising_answers first given w.asked w.phase stands.stage);
-      facts = λ h laws k. subst (λ (r : List VarBind). RunFacts agents first r why) (sym (append-nil given)) (record {
-        part = part_of_stage (next_of agents) (got_of agents) (IsTooLarge agents) laws first given w.asked w.phase k.stage; lawful = lawful h laws k })
+    sink = subst (λ (r : List VarBind). Took takes before r why t) (sym (append-nil given)) sink;
+    part = subst (IsPart Rises Named first) (sym (append-nil given)) (part_of_stage Rises Named AllSmall rising_answers first given w.asked w.phase stands.stage);
+    facts = λ h laws k. subst (λ (r : List VarBind). RunFacts agents first r why) (sym (append-nil given)) (record {
+      part = part_of_stage (next_of agents) (got_of agents) (IsTooLarge agents) laws first given w.asked w.phase k.stage;
+      lawful = lawful h laws k;
+    });
   }
 
   pub over : (rows : List VarBind) (new : Walker) (end : WalkEnd) → Turns takes agents honest w s rows (Some end) new t → IsOver rows end

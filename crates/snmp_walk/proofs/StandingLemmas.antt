@@ -41,9 +41,9 @@ module _ (Next Got : List ℕ → VarBind → Type 0) (Large : VarBind → Type 
       → Stands Next Got first w given → IsStage Next Got first (given ++ more) (last_name w.asked more) next
       → Goes w given (cond s (step.Rows more, record w { phase = next; asked = last_name w.asked more; id = w.id + 1; count = w.count + length more }) (stops w more ending.TooManyRequests))
   goes given more w next true e h stage = record {
-      same = ap (λ (v : Walker). record v { phase = next; asked = last_name w.asked more; id = w.id + 1; count = w.count + length more }) h.same;
-      count = omega (arith, h.count, length-append given more);
-      stage = stage
+    same = ap (λ (v : Walker). record v { phase = next; asked = last_name w.asked more; id = w.id + 1; count = w.count + length more }) h.same;
+    count = omega (arith, h.count, length-append given more);
+    stage = stage;
   }
   goes given more w next false e h stage = (part_of_stage (given ++ more) (last_name w.asked more) next stage, ltb-false _ _ (sym e))
 
@@ -89,22 +89,24 @@ module _ (Next Got : List ℕ → VarBind → Type 0) (Large : VarBind → Type 
       let asked : w.asked ≡ first.asked = none_asked given w.asked no_given before in
       let at : o ≡ first.asked = none_asked (given ++ more) o (ap (λ (s : List VarBind). s ++ more) no_given ∙ no_more) h' in
       goes given [] w phase.Last _ refl h
-        (append-nil given ∙ no_given, asked, sym (mode_is w given h) ∙ plain_from w.mode parts.0, subst (IsAtEnd Next first.root) at end)
+      (append-nil given ∙ no_given, asked, sym (mode_is w given h) ∙ plain_from w.mode parts.0, subst (IsAtEnd Next first.root) at end)
   closed given more w o false e h before h' end =
       whole given more w o h.count h' end (λ plain none.
-        let empty = append_none given more none in
-        let zero_count : w.count + length more ≡ 0 = omega (arith, h.count, ap length empty.0, ap length empty.1) in
-        let yes_both : (is_plain w.mode && (w.count + length more == 0)) ≡ true = and_from _ _ (plain_to w.mode (mode_is w given h ∙ plain)) (eq-eqb _ _ zero_count) in
-        let no : ⊥ = cc in no)
+      let empty = append_none given more none in
+      let zero_count : w.count + length more ≡ 0 = omega (arith, h.count, ap length empty.0, ap length empty.1) in
+      let yes_both : (is_plain w.mode && (w.count + length more == 0)) ≡ true = and_from _ _ (plain_to w.mode (mode_is w given h ∙ plain)) (eq-eqb _ _ zero_count) in
+      let no : ⊥ = cc in no)
 
   -- more of the trail
   pub given_more : (given rows : List VarBind) (o : List ℕ) → IsGiven Next Got first given o → IsTrail Next first.root o rows
       → IsGiven Next Got first (given ++ rows) (last_name o rows)
   given_more given rows o h more = record {
-      front = h.front; trail = h.trail ++ rows; opening = h.opening;
-      parts = ap (λ (s : List VarBind). s ++ rows) h.parts ∙ append_assoc h.front h.trail rows;
-      is_trail = trail-append Next first.root first.asked h.trail rows h.is_trail (subst (λ (n : List ℕ). IsTrail Next first.root n rows) h.last more);
-      last = ap (λ (n : List ℕ). last_name n rows) h.last ∙ sym (last_name-append first.asked h.trail rows)
+    front = h.front;
+    trail = h.trail ++ rows;
+    opening = h.opening;
+    parts = ap (λ (s : List VarBind). s ++ rows) h.parts ∙ append_assoc h.front h.trail rows;
+    is_trail = trail-append Next first.root first.asked h.trail rows h.is_trail (subst (λ (n : List ℕ). IsTrail Next first.root n rows) h.last more);
+    last = ap (λ (n : List ℕ). last_name n rows) h.last ∙ sym (last_name-append first.asked h.trail rows);
   }
 
   -- a chain of answers
@@ -138,10 +140,10 @@ module _ (Next Got : List ℕ → VarBind → Type 0) (Large : VarBind → Type 
       (inr (inl (w.asked, subst (λ (s : List VarBind). IsGiven Next Got first s w.asked) (sym (append-nil given)) before)), (waits, refl, large refl))
   reads_instances given (b ∷ more) w waits h before chain few large =
       let fine : (nat_lt (asked_for w.method) (length (b ∷ more)) || list_any (λ p. is_missing p.value) (b ∷ more)) ≡ false =
-            or_from _ _ (le-ltb _ _ few) (chain_has_values Next Got laws first.root w.asked (b ∷ more) chain) in
+      or_from _ _ (le-ltb _ _ few) (chain_has_values Next Got laws first.root w.asked (b ∷ more) chain) in
       let front = chain_front Next Got laws w.root w.asked (b ∷ more) chain in
       rw fine (reads_front given (b ∷ more) (inside_front w.root (b ∷ more)) (rising_front w.asked (inside_front w.root (b ∷ more))) w h before
-        (subst (λ (r : List ℕ). IsFront Next r w.asked (b ∷ more) (inside_front w.root (b ∷ more)) (rising_front w.asked (inside_front w.root (b ∷ more)))) (root_is w given h) front) _)
+      (subst (λ (r : List ℕ). IsFront Next r w.asked (b ∷ more) (inside_front w.root (b ∷ more)) (rising_front w.asked (inside_front w.root (b ∷ more)))) (root_is w given h) front) _)
 
   -- the binding of a Get's reply
   got_is : (o : List ℕ) (p : VarBind) → Got o p → got o (p ∷ []) ≡ Some p
@@ -163,8 +165,12 @@ module _ (Next Got : List ℕ → VarBind → Type 0) (Large : VarBind → Type 
       let at : Got first.asked p = subst (λ (o : List ℕ). Got o p) stage.1 answer in
       let name : last_name w.asked (if_present p) ≡ w.asked = present_name w.asked p (is_missing p.value) (laws.same_name w.asked p answer) in
       goes given (if_present p) w phase.Rows _ refl h record {
-        front = if_present p; trail = []; parts = ap (λ (s : List VarBind). s ++ if_present p) stage.0 ∙ sym (append-nil (if_present p));
-        opening = include_opening first.mode first.asked p stage.2 at; is_trail = tt; last = name ∙ stage.1
+        front = if_present p;
+        trail = [];
+        parts = ap (λ (s : List VarBind). s ++ if_present p) stage.0 ∙ sym (append-nil (if_present p));
+        opening = include_opening first.mode first.asked p stage.2 at;
+        is_trail = tt;
+        last = name ∙ stage.1;
       }
 
   -- the reply to the Get with which a walk ends that gave nothing
@@ -172,8 +178,12 @@ module _ (Next Got : List ℕ → VarBind → Type 0) (Large : VarBind → Type 
       → Got w.asked p → Goes w given (reads_last w (Some p))
   reads_alone given w p h stage answer =
       let alone : IsAlone Next Got first (given ++ p ∷ []) = record {
-            plain = stage.2; none = stage.3; answer = p; is_answer = subst (λ (o : List ℕ). Got o p) stage.1 answer; only = ap (λ (s : List VarBind). s ++ p ∷ []) stage.0
-          } in
+        plain = stage.2;
+        none = stage.3;
+        answer = p;
+        is_answer = subst (λ (o : List ℕ). Got o p) stage.1 answer;
+        only = ap (λ (s : List VarBind). s ++ p ∷ []) stage.0;
+      } in
       (inr (inr alone), (omega (arith, h.count, length-append given (p ∷ [])), inr alone))
 
   -- tooBig

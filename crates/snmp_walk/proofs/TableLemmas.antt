@@ -69,6 +69,7 @@ value_by : (r : VarBind) (rows : List VarBind) (o : List ℕ) (p : VarBind) (mor
     → cond b (r ∷ rows_after o rows) (rows_after o rows) ≡ p ∷ more → (rows_after o rows ≡ p ∷ more → is_end p.value ≡ false) → is_end p.value ≡ false
 value_by r rows o p more true v e later = let first : r ≡ p = cc in subst (λ (q : VarBind). is_end q.value ≡ false) first v
 value_by r rows o p more false v e later = later e
+
 -- the first row behind a name has a value
 first_value : (rows : List VarBind) (o : List ℕ) (p : VarBind) (more : List VarBind) → AreInstances rows → rows_after o rows ≡ p ∷ more → is_end p.value ≡ false
 first_value [] o p more h e = let no : ⊥ = cc in absurd no
@@ -105,6 +106,7 @@ module _ (rows : List VarBind) (rising : AreRising rows) (instances : AreInstanc
 -- what only holds of a mode
 include≢plain : mode.Include ≡ mode.Plain → ⊥
 include≢plain e = cc
+
 nolast≢plain : mode.NoLast ≡ mode.Plain → ⊥
 nolast≢plain e = cc
 
@@ -158,9 +160,11 @@ module _ (rows : List VarBind) (got : VarBind) (Next Got : List ℕ → VarBind 
       let more = or_only_front got trail (rest_of first.root (last_name first.asked trail) rows) in
       (more.0, ap (or_only got) (trail_rest first.asked trail h) ∙ more.1 ∙ ap (λ (f : List VarBind). (f ++ trail) ++ more.0) (sym opening))
   part_given mode.Include front trail opening h =
-      let rest = rest_of first.root (last_name first.asked trail) rows in
-      (rest, ap (λ (f : List VarBind). f ++ rest_of first.root first.asked rows) (sym (row_of opening.0 opening.1) ∙ sym opening.2)
-        ∙ ap (λ (t : List VarBind). front ++ t) (trail_rest first.asked trail h) ∙ sym (append_assoc front trail rest))
+      let rest = rest_of first.root (last_name first.asked trail) rows in (
+        rest,
+        ap (λ (f : List VarBind). f ++ rest_of first.root first.asked rows) (sym (row_of opening.0 opening.1) ∙ sym opening.2)
+            ∙ ap (λ (t : List VarBind). front ++ t) (trail_rest first.asked trail h) ∙ sym (append_assoc front trail rest),
+      )
   part_given mode.NoLast front trail opening h =
       let rest = rest_of first.root (last_name first.asked trail) rows in
       (rest, trail_rest first.asked trail h ∙ ap (λ (f : List VarBind). (f ++ trail) ++ rest) (sym opening))

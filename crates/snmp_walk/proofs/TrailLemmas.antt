@@ -39,7 +39,7 @@ module _ (Next Got : List ℕ → VarBind → Type 0) (laws : AreAnswers Next Go
         rising = rw rises (ap (λ (s : List VarBind). p ∷ s) h.rising);
         is_trail = (n, e, h.is_trail);
         leaves = λ l. h.leaves (omega (arith, l));
-        short = omega (arith, h.short)
+        short = omega (arith, h.short);
       }
   front_first o p more inside rows false e n h = record { rising = refl; is_trail = tt; leaves = λ _. (p, n, e); short = omega arith }
 

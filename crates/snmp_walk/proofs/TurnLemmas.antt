@@ -71,7 +71,11 @@ pub record IsTaken (agents : Agents) (honest : Type 0) (w : Walker) (given : Ste
 taken_message : (agents : Agents) (honest : Type 0) (w : Walker) (m : Message) (given : Step) (new : Walker) → is_over w.phase ≡ false → is_awaited w m ≡ true → IsFrom agents honest w m
     → given ≡ (take_of w m).0 → new ≡ (take_of w m).1 → IsTaken agents honest w given new
 taken_message agents honest w m given new waits awaited from e f = record {
-    message = m; from = from; given_is = e; new_is = f; news = subst HasNews (sym e) (news_by w m (is_awaited w m) awaited waits)
+  message = m;
+  from = from;
+  given_is = e;
+  new_is = f;
+  news = subst HasNews (sym e) (news_by w m (is_awaited w m) awaited waits);
 }
 
 pub is_taken : (agents : Agents) (honest : Type 0) (w : Walker) (datagram : List ℕ) (given : Step) (new : Walker) → is_over w.phase ≡ false
@@ -79,7 +83,7 @@ pub is_taken : (agents : Agents) (honest : Type 0) (w : Walker) (datagram : List
 is_taken agents honest w datagram given new waits h (inl t) =
     let same : h.message ≡ t.0 = sym (h.only t.0 t.1) in
     taken_message agents honest w t.0 given new waits (subst (λ (m : Message). is_awaited w m ≡ true) same h.awaited)
-      (subst (IsFrom agents honest w) same h.reply) t.2 t.3
+    (subst (IsFrom agents honest w) same h.reply) t.2 t.3
 is_taken agents honest w datagram given new waits h (inr t) = absurd (t.0 h.message h.spelt)
 
 pub if_some : {X : Type 0} (o : Option X) (P : X → Type 0) (x : X) → o ≡ Some x → IfSome o P → P x

@@ -24,7 +24,7 @@ pub less_precedes : (o p : List ℕ) → Precedes o p → slice_cmp nat_cmp o p 
 less_precedes o p (inl h) = subst (λ (q : List ℕ). slice_cmp nat_cmp o q ≡ Less) (sym h.2) (less_longer o h.0 h.1)
 less_precedes o p (inr h) =
     subst (λ (q : List ℕ). slice_cmp nat_cmp q p ≡ Less) (sym h.this)
-      (subst (λ (q : List ℕ). slice_cmp nat_cmp (h.front ++ h.smaller ∷ h.after) q ≡ Less) (sym h.that) (less_parts h.front h.smaller h.larger h.after h.behind h.is_smaller))
+    (subst (λ (q : List ℕ). slice_cmp nat_cmp (h.front ++ h.smaller ∷ h.after) q ≡ Less) (sym h.that) (less_parts h.front h.smaller h.larger h.after h.behind h.is_smaller))
 
 pub value_no_end : (v : Datum) → IsInstanceValue v → is_end v ≡ false
 value_no_end (integer_value n) h = refl
@@ -82,8 +82,8 @@ view_of (v ∷ views) h view (inr one) = view_of views h.1 view one
 
 pub views_answer : (agents : Agents) → AreViews agents.tables → AreAnswers (next_of agents) (got_of agents)
 views_answer agents h = record {
-    rises = λ o p n e. next_rises n.0 o p n.2 e;
-    is_value = λ o p n. next_value n.0 (view_of agents.tables h n.0 n.1) o p n.2;
-    same_name = λ o p n. get_name n.0 o p n.2;
-    is_answer = λ o p n. get_value n.0 (view_of agents.tables h n.0 n.1) o p n.2
+  rises = λ o p n e. next_rises n.0 o p n.2 e;
+  is_value = λ o p n. next_value n.0 (view_of agents.tables h n.0 n.1) o p n.2;
+  same_name = λ o p n. get_name n.0 o p n.2;
+  is_answer = λ o p n. get_value n.0 (view_of agents.tables h n.0 n.1) o p n.2;
 }

@@ -5,7 +5,6 @@ use Rattle.snmp_wire.specs.Message.{VarBind, Message}
 use Rattle.snmp_wire.specs.Canon.{canon}
 use Rattle.snmp_wire.specs.Spelling.{Spells}
 use Rattle.snmp_table.specs.Table.{MibView, IsGet, IsNext, IsMibView}
-
 use Rattle.snmp_walk.specs.Walker.{Walker, IsWalker}
 use Rattle.snmp_walk.specs.Request.{request_of}
 use Rattle.snmp_walk.specs.Taken.{is_over}
@@ -20,7 +19,13 @@ pub record Agents : Type 0 where
 -- the response of one binding
 abbrev pub response : List ℕ → ℕ → VarBind → Message
 response community id p = record {
-    version = pos 1; community = community; kind = kind.Response; id = pos id; a = pos 0; b = pos 0; bindings = p ∷ []
+  version = pos 1;
+  community = community;
+  kind = kind.Response;
+  id = pos id;
+  a = pos 0;
+  b = pos 0;
+  bindings = p ∷ [];
 }
 
 -- one of them

@@ -20,13 +20,27 @@ first_phase _ = phase.Rows
 -- a walk before its first request
 abbrev pub started : List ℕ → Mode → Method → List ℕ → ℕ → Walker
 started root mode method community id = record {
-    root = root; mode = mode; method = method; community = community; phase = first_phase mode; asked = wire root; id = id; count = 0
+  root = root;
+  mode = mode;
+  method = method;
+  community = community;
+  phase = first_phase mode;
+  asked = wire root;
+  id = id;
+  count = 0;
 }
 
 -- a walk that goes on behind a name
 abbrev pub resumed : List ℕ → List ℕ → Method → List ℕ → ℕ → Walker
 resumed root after method community id = record {
-    root = root; mode = mode.NoLast; method = method; community = community; phase = phase.Rows; asked = wire after; id = id; count = 0
+  root = root;
+  mode = mode.NoLast;
+  method = method;
+  community = community;
+  phase = phase.Rows;
+  asked = wire after;
+  id = id;
+  count = 0;
 }
 
 -- by which PDU the next instances are asked for
@@ -50,6 +64,11 @@ request_repetitions _ method = pos 0
 -- the request that is waiting: one name, with the value Null
 abbrev pub request_of : Walker → Message
 request_of w = record {
-    version = pos 1; community = w.community; kind = request_kind w.phase w.method; id = pos w.id;
-    a = pos 0; b = request_repetitions w.phase w.method; bindings = record { name = w.asked; value = null_value } ∷ []
+  version = pos 1;
+  community = w.community;
+  kind = request_kind w.phase w.method;
+  id = pos w.id;
+  a = pos 0;
+  b = request_repetitions w.phase w.method;
+  bindings = record { name = w.asked; value = null_value } ∷ [];
 }

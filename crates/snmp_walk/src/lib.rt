@@ -16,7 +16,7 @@ pub use end::{LinkFault, SinkFault, StartError, WalkEnd};
 pub use link::Link;
 pub use mode::{Method, Mode};
 pub use phase::Phase;
-pub use run::run_walk;
 pub use rows::{Rows, Step};
+pub use run::run_walk;
 pub use sink::Sink;
 pub use walker::WalkCore;

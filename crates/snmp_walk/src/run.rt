@@ -21,7 +21,12 @@ const RECEIVES: u32 = 64;
 /// Walks over the link from a core of which nothing was taken yet: each request is sent at most `retries + 1` times, and each binding of the walk is given to the sink as it comes.
 ///
 /// Whatever the link brings, the walk ends, and the names given below the root rise.
-pub fn run_walk<L: Link, S: Sink>(link: &mut L, core: WalkCore, retries: u32, sink: &mut S) -> WalkEnd
+pub fn run_walk<L: Link, S: Sink>(
+    link: &mut L,
+    core: WalkCore,
+    retries: u32,
+    sink: &mut S,
+) -> WalkEnd
     requires { IsFresh core }
     ensures given { (rows : List VarBind) × Took S.takes sink.old rows result sink.new × IsPart Rises Named core rows × (L.honest link.old → AreViews (L.agents link.old).tables → WalkFacts (L.agents link.old) core rows result) }
     ensures fault { result ≡ WalkEnd.Link → Rose (L.fault_count link.old) (L.fault_count link.new) }
@@ -37,7 +42,11 @@ pub fn run_walk<L: Link, S: Sink>(link: &mut L, core: WalkCore, retries: u32, si
 }
 
 /// Receives until a datagram is the reply that the walk waits for, whose length is the answer, or none comes in time.
-fn hear<L: Link>(link: &mut L, core: &WalkCore, buffer: &mut [u8; 65507]) -> Result<Option<usize>, LinkFault>
+fn hear<L: Link>(
+    link: &mut L,
+    core: &WalkCore,
+    buffer: &mut [u8; 65507],
+) -> Result<Option<usize>, LinkFault>
     requires { is_over core.now.phase ≡ false }
     ensures length { IfOk result (λ heard. IfSome heard (λ n. n ≤ 65507)) }
     ensures reply { IfOk result (λ heard. IfSome heard (λ n. IsHeard (L.agents link.old) (L.honest link.old × IsSent (L.latest link.old) core.now) core.now (take n buffer.new))) }
@@ -59,7 +68,13 @@ fn hear<L: Link>(link: &mut L, core: &WalkCore, buffer: &mut [u8; 65507]) -> Res
 }
 
 /// Sends the request, once and `retries` times more, until the reply that the walk waits for comes, whose length is the answer.
-fn exchange<L: Link>(link: &mut L, core: &WalkCore, retries: u32, request: &[u8], buffer: &mut [u8; 65507]) -> Result<Option<usize>, LinkFault>
+fn exchange<L: Link>(
+    link: &mut L,
+    core: &WalkCore,
+    retries: u32,
+    request: &[u8],
+    buffer: &mut [u8; 65507],
+) -> Result<Option<usize>, LinkFault>
     requires waits { is_over core.now.phase ≡ false }
     requires request { request.now ≡ canon (request_of core.now) }
     ensures length { IfOk result (λ heard. IfSome heard (λ n. n ≤ 65507)) }

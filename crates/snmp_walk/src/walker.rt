@@ -30,17 +30,27 @@ impl Model for WalkCore {
 
     ghost Value = { Walker };
 
-    ghost view = {
-        λ w. record {
-            root = w.root; mode = w.mode; method = w.method; community = w.community.items; phase = w.phase; asked = w.asked; id = w.id; count = w.count
-        }
-    };
+    ghost view = { λ w. record {
+      root = w.root;
+      mode = w.mode;
+      method = w.method;
+      community = w.community.items;
+      phase = w.phase;
+      asked = w.asked;
+      id = w.id;
+      count = w.count;
+    } };
 
-    ghost invariant = {
-        λ w. IsWalker (record {
-            root = w.root; mode = w.mode; method = w.method; community = w.community.items; phase = w.phase; asked = w.asked; id = w.id; count = w.count
-        })
-    };
+    ghost invariant = { λ w. IsWalker (record {
+      root = w.root;
+      mode = w.mode;
+      method = w.method;
+      community = w.community.items;
+      phase = w.phase;
+      asked = w.asked;
+      id = w.id;
+      count = w.count;
+    }) };
 }
 
 impl WalkCore {
@@ -63,7 +73,13 @@ impl WalkCore {
     /// A walk of the instances below `root`, whose requests have this community of at most 255 octets and ids from `first_id` on, which is at most 2147483647.
     ///
     /// `NotWire` where the root, padded with zeros to two numbers, has no encoding (X.690, 8.19.4).
-    pub fn start(root: Oid, mode: Mode, method: Method, community: &[u8], first_id: u32) -> Result<WalkCore, StartError>
+    pub fn start(
+        root: Oid,
+        mode: Mode,
+        method: Method,
+        community: &[u8],
+        first_id: u32,
+    ) -> Result<WalkCore, StartError>
         requires method { IsMethod method }
         requires community { length community.now ≤ 255 }
         requires first_id { first_id < 2 ^ 31 }
@@ -92,7 +108,13 @@ impl WalkCore {
     ///
     /// `NotWire` where one of the names, padded with zeros to two numbers, has no encoding, and `AfterOutsideRoot` where `after` is neither the root nor below it. Of several faults
     /// that of the root comes first, and that of `after` last.
-    pub fn resume(root: Oid, after: &Oid, method: Method, community: &[u8], first_id: u32) -> Result<WalkCore, StartError>
+    pub fn resume(
+        root: Oid,
+        after: &Oid,
+        method: Method,
+        community: &[u8],
+        first_id: u32,
+    ) -> Result<WalkCore, StartError>
         requires method { IsMethod method }
         requires community { length community.now ≤ 255 }
         requires first_id { first_id < 2 ^ 31 }
@@ -303,7 +325,10 @@ impl WalkCore {
         ensures { result ≡ option_map (λ b. is_missing b.value) (got self.now.asked bindings.entry) }
     {
         let binding = bindings.next()?;
-        if bindings.next().is_some() || binding.name != self.asked || matches!(binding.value, ValueRef::EndOfMibView) {
+        if bindings.next().is_some()
+            || binding.name != self.asked
+            || matches!(binding.value, ValueRef::EndOfMibView)
+        {
             return None;
         }
         Some(lacks_value(&binding.value))
@@ -319,7 +344,12 @@ impl WalkCore {
             Some(lacks_value) => {
                 let count = if lacks_value { 0 } else { 1 };
                 let asked = copy_of(&self.asked);
-                self.go_on(Phase::Rows, Rows::front(bindings, count as usize), count, asked)
+                self.go_on(
+                    Phase::Rows,
+                    Rows::front(bindings, count as usize),
+                    count,
+                    asked,
+                )
             }
         }
     }
@@ -368,7 +398,10 @@ impl WalkCore {
         }
         let status = message.a();
         if status != 0 {
-            return self.stop(Rows::front(message.bindings(), 0), WalkEnd::Fault(status, message.b()));
+            return self.stop(
+                Rows::front(message.bindings(), 0),
+                WalkEnd::Fault(status, message.b()),
+            );
         }
         match self.phase {
             Phase::First => self.read_first(message),

@@ -20,10 +20,14 @@ returns-in-Some-clause-given g c =
     let t = c.in-Some.ensures.turns in
     let same = subst (λ (a : Agents). Turns g.S.Sink.takes a (g.L.Link.honest c.turns.link) c.turns.core c.turns.sink t.0 (Some c.in-Some.end) c.turn.new.core c.turn.new.sink) inv.5 t.1 in
     let done = over g.S.Sink.takes (g.L.Link.agents c.args.link.now) (g.L.Link.honest c.turns.link) c.args.core c.turns.core c.args.sink.now c.turns.sink c.turn.new.sink
-          inv.0 inv.1 inv.2 t.0 c.turn.new.core c.in-Some.end same in
-    (inv.0 ++ t.0, done.sink, done.part, λ h views.
-      let shown = done.facts (inv.4 h) (views_answer (g.L.Link.agents c.args.link.now) views) (inv.3 h views) in
-      facts (g.L.Link.agents c.args.link.now) c.args.core (inv.0 ++ t.0) c.in-Some.end c.requires views shown.part shown.lawful)
+    inv.0 inv.1 inv.2 t.0 c.turn.new.core c.in-Some.end same in (
+      inv.0 ++ t.0,
+      done.sink,
+      done.part,
+      λ h views.
+          let shown = done.facts (inv.4 h) (views_answer (g.L.Link.agents c.args.link.now) views) (inv.3 h views) in
+          facts (g.L.Link.agents c.args.link.now) c.args.core (inv.0 ++ t.0) c.in-Some.end c.requires views shown.part shown.lawful,
+    )
 
 pub returns-in-Some-clause-fault : goal.returns-in-Some-clause-fault
 returns-in-Some-clause-fault g c = λ link.
@@ -34,7 +38,7 @@ turns-smaller g c =
     let inv = c.turns.invariant in
     let t = c.in_default.ensures.turns in
     let gone = turned g.S.Sink.takes (g.L.Link.agents c.turns.link) (g.L.Link.honest c.turns.link) c.args.core c.turns.core c.args.sink.now c.turns.sink c.turn.new.sink
-          inv.0 inv.1 inv.2 t.0 c.turn.new.core t.1 in
+    inv.0 inv.1 inv.2 t.0 c.turn.new.core t.1 in
     omega (arith, gone.id, gone.low)
 
 pub turns-preserved : goal.turns-preserved
@@ -43,6 +47,12 @@ turns-preserved g c =
     let t = c.in_default.ensures.turns in
     let same = subst (λ (a : Agents). Turns g.S.Sink.takes a (g.L.Link.honest c.turns.link) c.turns.core c.turns.sink t.0 None c.turn.new.core c.turn.new.sink) inv.5 t.1 in
     let gone = turned g.S.Sink.takes (g.L.Link.agents c.args.link.now) (g.L.Link.honest c.turns.link) c.args.core c.turns.core c.args.sink.now c.turns.sink c.turn.new.sink
-          inv.0 inv.1 inv.2 t.0 c.turn.new.core same in
-    (inv.0 ++ t.0, gone.sink, gone.stands_on, (λ h views. gone.honestly (inv.4 h) (views_answer (g.L.Link.agents c.args.link.now) views) (inv.3 h views)),
-      (λ h. c.turn.ensures.stays (inv.4 h)), c.turn.ensures.agents ∙ inv.5, c.in_default.ensures.count (λ e. cc) ∙ inv.6)
+    inv.0 inv.1 inv.2 t.0 c.turn.new.core same in (
+      inv.0 ++ t.0,
+      gone.sink,
+      gone.stands_on,
+      (λ h views. gone.honestly (inv.4 h) (views_answer (g.L.Link.agents c.args.link.now) views) (inv.3 h views)),
+      (λ h. c.turn.ensures.stays (inv.4 h)),
+      c.turn.ensures.agents ∙ inv.5,
+      c.in_default.ensures.count (λ e. cc) ∙ inv.6,
+    )

@@ -4,7 +4,6 @@ use Rattle.snmp_walk.specs.Run.{IsHeard, is_silent, rows_in}
 use Rattle.snmp_walk.proofs.TurnLemmas.{IsTaken, is_taken, if_some, if_none, no_stray, turn_goes, turn_ends, turn_refused, reply_end}
 use Rattle.snmp_walk.proofs.run.turn.Goals as goal
 
-
 pub returns-in-Ok-None-clause-turns : goal.returns-in-Ok-None-clause-turns
 returns-in-Ok-None-clause-turns g c = ([], is_silent (if_none c.in-Ok-None.field-0 _ c.in-Ok-None.field-0-is c.in-Ok-None.ensures.silent) refl refl refl)
 

@@ -9,7 +9,7 @@ use Rattle.snmp_walk.proofs.walker.WalkCore.resume.Goals.{else-ne-via-then-ne+el
 pub returns-clause-fresh : goal.returns-clause-fresh
 returns-clause-fresh c =
     let at : (c.args.after.now ≡ c.args.root) ⊎ IsBelow c.args.after.now c.args.root =
-          elim c.else-ne.branch [ else-ne-via-then-ne+else-not-is_below w ↦ search rules | else-ne-via-else-ne w ↦ search rules ] in
+    elim c.else-ne.branch [ else-ne-via-then-ne+else-not-is_below w ↦ search rules | else-ne-via-else-ne w ↦ search rules ] in
     let h = wire_begins_at c.args.root c.args.after.now at in
     record { phase = refl; count = refl; begins = (h.0, c.in-Ok.ensures.ok ∙ h.1) }
 
