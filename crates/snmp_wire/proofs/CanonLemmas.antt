@@ -21,7 +21,7 @@ unfolding septets
 length-septets zero n = refl
 length-septets (suc count) n = ap suc (length-septets count n)
 
-octets-suc : (count n : ℕ) → octets (suc count) n ≡ (n / 256 ^ count % 256) ∷ octets count n
+pub octets-suc : (count n : ℕ) → octets (suc count) n ≡ (n / 256 ^ count % 256) ∷ octets count n
 unfolding octets
 octets-suc count n = refl
 
@@ -74,7 +74,7 @@ digit_most base limit (suc more) n = ⊎_elim (λ h. omega (arith, taken n limit
 pub count_taken : (base limit more n : ℕ) → n < limit → digit_count base limit (suc more) n ≡ 1
 count_taken base limit more n h = taken n limit 1 (1 + digit_count base (limit * base) more n) h
 
-count_left : (base limit more n : ℕ) → limit ≤ n → digit_count base limit (suc more) n ≡ 1 + digit_count base (limit * base) more n
+pub count_left : (base limit more n : ℕ) → limit ≤ n → digit_count base limit (suc more) n ≡ 1 + digit_count base (limit * base) more n
 count_left base limit more n h = left n limit 1 (1 + digit_count base (limit * base) more n) h
 
 times_power : (limit base k : ℕ) → limit * base ^ suc k ≡ limit * base * base ^ k

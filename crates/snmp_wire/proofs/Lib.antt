@@ -3,10 +3,15 @@ pub mod FaultLaws
 pub mod Faultless
 pub mod IdentifierLaws
 pub mod IdentifierLemmas
+pub mod Lenient
 pub mod LengthLemmas
 pub mod MessageLaws
 pub mod NumberLemmas
 pub mod ReadingLemmas
+pub mod Shortest
+pub mod StrictIdentifiers
+pub mod StrictMessages
+pub mod StrictNumbers
 pub mod ValueLaws
 pub mod BindingWriting
 pub mod CanonLemmas

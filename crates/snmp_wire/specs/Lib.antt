@@ -1,11 +1,12 @@
+pub mod Canon
 pub mod Fault
 pub mod Identifier
 pub mod Length
 pub mod Message
 pub mod Number
 pub mod Owned
+pub mod Parts
+pub mod Range
 pub mod Reading
 pub mod Spelling
-pub mod Canon
-pub mod Parts
 pub mod Writing

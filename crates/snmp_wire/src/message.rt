@@ -4,7 +4,8 @@ ghost use Rattle.snmp_wire.specs.Fault.{IsFault};
 ghost use Rattle.snmp_wire.specs.Message.{Message, integer_value, octet_string, var_bind, var_binds};
 ghost use Rattle.snmp_wire.specs.Reading as reading;
 ghost use Rattle.snmp_wire.specs.Reading.{Gives};
-ghost use Rattle.snmp_wire.specs.Spelling.{Spells};
+ghost use Rattle.snmp_wire.specs.Range.{IsMessageInRange};
+ghost use Rattle.snmp_wire.specs.Spelling.{Spells, Strict};
 ghost use Rattle.snmp_wire.specs.Canon.{IsEncodable, canon, canon_bindings, canon_front, canon_head, canon_value};
 ghost use Rattle.snmp_wire.specs.Parts.{parts_message};
 ghost use Rattle.snmp_wire.specs.Writing.{Writes};
@@ -290,6 +291,30 @@ pub fn encode_head(parts: &Parts<'_>, total: u64, out: &mut [u8]) -> Option<usiz
     put_head(out, size, parts, total);
     Some(size)
 }
+
+/// A message in pieces: its shortest encoding is its head, and then its bindings in turn.
+#[tactic(auto, using(crate::proofs::MessageWriting::canon_parts))]
+pub fn pieces()
+    ensures { (m : Message) → canon m ≡ canon_head m (length (canon_bindings m.bindings)) ++ canon_bindings m.bindings }
+{}
+
+/// What is spelt by the standard is read.
+#[tactic(auto, using(crate::proofs::Lenient::strict_is_read))]
+pub fn strict_is_read()
+    ensures { (m : Message) (octets : List ℕ) → Strict m octets → Spells m octets }
+{}
+
+/// What is written is a spelling by the standard; so [`decode`] gives the message again.
+#[tactic(auto, using(crate::proofs::StrictMessages::strict_canon))]
+pub fn encoding_is_strict()
+    ensures { (m : Message) → IsMessageInRange m → Strict m (canon m) }
+{}
+
+/// No spelling by the standard is shorter than what is written.
+#[tactic(auto, using(crate::proofs::Shortest::no_shorter))]
+pub fn encoding_is_shortest()
+    ensures { (m : Message) (octets : List ℕ) → Strict m octets → length (canon m) ≤ length octets }
+{}
 
 /// How many octets bindings take together.
 fn bindings_size(bindings: &[Binding<'_>]) -> u64

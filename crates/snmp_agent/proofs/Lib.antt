@@ -1,0 +1,5 @@
+pub mod Sizes
+pub mod Answers
+pub mod Encodings
+pub mod Requests
+pub mod Drafts

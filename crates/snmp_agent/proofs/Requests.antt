@@ -1,0 +1,141 @@
+-- Requests and their Responses.
+use Rattle.std.specs.Cmp.Lexicographic.{pointwise, same_text, other_text}
+use mir.Syntax.{w32}
+use mir.Val.{of_z, to_z, SFits}
+use Rattle.std.proofs.lemmas.Int.{to_z-of_z, ints}
+use Rattle.std.proofs.Common.{◌≡◌, ℕ, ℤ, pos, Bool, true, false, not, nat_eq, ◌⊎◌, inl, inr, ◌+◌, ◌≤◌, ◌<◌, List, [], ◌∷◌, ◌++◌, length, take, refl, sym, ap, subst, ◌∙◌, arith, length-append, append_assoc}
+use Rattle.std.proofs.lemmas.Grind.{flat_map-append}
+use Rattle.std.proofs.lemmas.List.{append-nil}
+use Rattle.snmp_wire.specs.declared.kind.Kind.{Kind}
+use Rattle.snmp_wire.specs.declared.kind.Kind.TheVariants as kind
+use Rattle.snmp_wire.specs.Message.{VarBind, Message}
+use Rattle.snmp_wire.specs.Canon.{canon, canon_binding, canon_bindings, canon_fields, canon_front, canon_head, canon_opening}
+use Rattle.snmp_wire.proofs.MessageWriting.{canon_parts, length-canon}
+use Rattle.snmp_table.specs.Table.{MibView, IsGet, IsNext}
+use Rattle.snmp_agent.specs.Reply.{IsServed, AreAnswers, IsWhole, IsResponse, whole, shortened, too_big, got, got_next, unwritten, response, not_writable, failed_place}
+use Rattle.snmp_agent.specs.Answering.{IsAnswer, IsDraft, PassesLimit, whole_size, status_of, index_of}
+
+-- the head of a message doesn't look at its bindings
+pub same_head : (q : Message) (status index : ℤ) (bindings : List VarBind) (total : ℕ) → canon_head (response q status index []) total ≡ canon_head (response q status index bindings) total
+unfolding canon_head canon_front canon_opening canon_fields
+same_head q status index bindings total = refl
+
+-- one more binding
+pub canon_bindings-push : (bindings : List VarBind) (binding : VarBind) → canon_bindings (bindings ++ binding ∷ []) ≡ canon_bindings bindings ++ canon_binding binding
+unfolding canon_bindings
+canon_bindings-push bindings binding = flat_map-append canon_binding bindings (binding ∷ []) ∙ ap (λ octets. canon_bindings bindings ++ octets) (append-nil (canon_binding binding))
+
+-- the bindings of a Set are its own answers
+own : (asked given : List VarBind) → AreAnswers (λ a g. g ≡ a) asked given → given ≡ asked
+own [] [] h = refl
+own [] (g ∷ gs) h = absurd h
+own (a ∷ more) [] h = absurd h
+own (a ∷ more) (g ∷ gs) h = let rest : gs ≡ more = own more gs h.1 in let first : g ≡ a = h.0 in cc
+
+by_kind : (view : MibView) (q : Message) (given : List VarBind) (k : Kind) → q.kind ≡ k → IsServed k → AreAnswers (IsAnswer view k) q.bindings given
+    → IsWhole view q (response q (status_of k) (index_of k q.bindings) given)
+by_kind view q given kind.GetRequest e h answers = got given e answers refl
+by_kind view q given kind.GetNextRequest e h answers = got_next given e answers refl
+by_kind view q given kind.SetRequest e h answers = unwritten e (ap (λ bs. response q not_writable (failed_place q.bindings) bs) (own q.bindings given answers))
+by_kind view q given kind.GetBulkRequest e h answers = absurd h
+by_kind view q given kind.Response e h answers = absurd h
+by_kind view q given kind.InformRequest e h answers = absurd h
+by_kind view q given kind.Trap e h answers = absurd h
+by_kind view q given kind.Report e h answers = absurd h
+
+-- the Response to a request whose bindings are answered, whatever its size
+pub whole_response : (view : MibView) (q : Message) (given : List VarBind) → IsServed q.kind → AreAnswers (IsAnswer view q.kind) q.bindings given
+    → IsWhole view q (response q (status_of q.kind) (index_of q.kind q.bindings) given)
+whole_response view q given h answers = by_kind view q given q.kind refl h answers
+
+-- ---- sizes
+
+-- how long a Response is
+pub response_size : (q : Message) (status index : ℤ) (given : List VarBind) → whole_size (response q status index []) (length (canon_bindings given)) ≡ length (canon (response q status index given))
+response_size q status index given =
+    ap (λ head. length head + length (canon_bindings given)) (same_head q status index given (length (canon_bindings given))) ∙ sym (length-canon (response q status index given))
+
+-- a head and the bindings behind it are the Response
+pub sealed : (q : Message) (status index : ℤ) (limit : ℕ) (given : List VarBind) (total : ℕ) (out : List ℕ) → IsDraft (response q status index []) limit given total out
+    → canon_head (response q status index []) total ++ take total out ≡ canon (response q status index given)
+sealed q status index limit given total out draft =
+    let r = response q status index given in
+    let head : canon_head (response q status index []) total ≡ canon_head r (length (canon_bindings given)) = same_head q status index given total ∙ ap (canon_head r) draft.total_size in
+    let both : canon_head (response q status index []) total ++ take total out ≡ canon_head r (length (canon_bindings given)) ++ canon_bindings given = cc (head, draft.octets) in
+    both ∙ sym (canon_parts r)
+
+pub sealed_size : (q : Message) (status index : ℤ) (limit : ℕ) (given : List VarBind) (total : ℕ) (out : List ℕ) → IsDraft (response q status index []) limit given total out
+    → whole_size (response q status index []) total ≡ length (canon (response q status index given))
+sealed_size q status index limit given total out draft = ap (whole_size (response q status index [])) draft.total_size ∙ response_size q status index given
+
+-- a Response without bindings is its head
+pub bare : (q : Message) (status index : ℤ) → canon_head (response q status index []) 0 ≡ canon (response q status index [])
+unfolding canon_bindings
+bare q status index = sym (canon_parts (response q status index []) ∙ append-nil (canon_head (response q status index []) 0))
+
+-- ---- what a request is tested for
+
+-- a number that was handed over and is 1
+pub is_one : {handed z : ℤ} → SFits w32 handed → handed ≡ z → of_z w32 handed ≡ 1 → z ≡ pos 1
+is_one {handed} {z} fits e one = sym e ∙ sym (to_z-of_z w32 handed fits) ∙ ap (to_z w32) one
+
+pub other_community : {found : List ℕ} {own theirs : List ℕ} → found ≡ theirs → true ≡ not (pointwise nat_eq found own) → theirs ≡ own → ⊥
+other_community {found} {own} {theirs} e differs same = other_text found own (flip (pointwise nat_eq found own) differs) (e ∙ same)
+  where
+    flip : (b : Bool) → true ≡ not b → false ≡ b
+    flip true h = absurd (cc)
+    flip false h = refl
+
+pub same_community : {found : List ℕ} {own theirs : List ℕ} → found ≡ theirs → false ≡ not (pointwise nat_eq found own) → theirs ≡ own
+same_community {found} {own} {theirs} e agrees = sym e ∙ same_text found own (flip (pointwise nat_eq found own) agrees)
+  where
+    flip : (b : Bool) → false ≡ not b → true ≡ b
+    flip true h = refl
+    flip false h = absurd (cc)
+
+pub served_kinds : {found theirs : Kind} → found ≡ theirs → (found ≡ kind.GetRequest) ⊎ ((found ≡ kind.GetNextRequest) ⊎ (found ≡ kind.SetRequest)) → IsServed theirs
+served_kinds {found} {theirs} e (inl is) = subst (λ (k : Kind). IsServed k) (sym is ∙ e) tt
+served_kinds {found} {theirs} e (inr (inl is)) = subst (λ (k : Kind). IsServed k) (sym is ∙ e) tt
+served_kinds {found} {theirs} e (inr (inr is)) = subst (λ (k : Kind). IsServed k) (sym is ∙ e) tt
+
+pub other_kind : {found theirs : Kind} → found ≡ theirs → (found ≡ kind.GetRequest → ⊥) → (found ≡ kind.GetNextRequest → ⊥) → (found ≡ kind.SetRequest → ⊥) → IsServed theirs → ⊥
+other_kind {found} {theirs} e get next set served = by_cases theirs e served
+  where
+    by_cases : (k : Kind) → found ≡ k → IsServed k → ⊥
+    by_cases kind.GetRequest is h = get is
+    by_cases kind.GetNextRequest is h = next is
+    by_cases kind.SetRequest is h = set is
+    by_cases kind.GetBulkRequest is h = h
+    by_cases kind.Response is h = h
+    by_cases kind.InformRequest is h = h
+    by_cases kind.Trap is h = h
+    by_cases kind.Report is h = h
+
+-- ---- replies
+
+-- the answers of a request are those of its kind
+answers_of : (view : MibView) (q : Message) (k : Kind) (bindings given : List VarBind) → k ≡ q.kind → bindings ≡ q.bindings → AreAnswers (IsAnswer view k) bindings given → AreAnswers (IsAnswer view q.kind) q.bindings given
+answers_of view q k bindings given same_kind same_bindings h =
+    subst (λ (bs : List VarBind). AreAnswers (IsAnswer view q.kind) bs given) same_bindings (subst (λ (j : Kind). AreAnswers (IsAnswer view j) bindings given) same_kind h)
+
+-- a finished draft is the Response
+pub finished : (view : MibView) (limit : ℕ) (q : Message) (k : Kind) (bindings given : List VarBind) (m : Message) (total n : ℕ) (out new : List ℕ) → IsServed q.kind → k ≡ q.kind → bindings ≡ q.bindings
+    → m ≡ response q (status_of q.kind) (index_of q.kind q.bindings) [] → AreAnswers (IsAnswer view k) bindings given → IsDraft m limit given total out → n ≡ whole_size m total → take n new ≡ canon_head m total ++ take total out
+    → (r : Message) × IsResponse view limit q r × (length (canon r) ≤ limit) × (take n new ≡ canon r) × (n ≡ length (canon r))
+finished view limit q k bindings given m total n out new served same_kind same_bindings parts h draft size octets =
+    let st = status_of q.kind in
+    let ix = index_of q.kind q.bindings in
+    let here : IsDraft (response q st ix []) limit given total out = subst (λ (x : Message). IsDraft x limit given total out) parts draft in
+    let long : n ≡ length (canon (response q st ix given)) = size ∙ ap (λ (x : Message). whole_size x total) parts ∙ sealed_size q st ix limit given total out here in
+    let text : take n new ≡ canon (response q st ix given) = octets ∙ ap (λ (x : Message). canon_head x total ++ take total out) parts ∙ sealed q st ix limit given total out here in
+    let fits : length (canon (response q st ix given)) ≤ limit = omega (arith, ap (λ (x : Message). whole_size x total) parts, draft.fits) in
+    (response q st ix given, whole (whole_response view q given served (answers_of view q k bindings given same_kind same_bindings h)) fits, fits, text, long)
+
+-- where the answers pass the limit, the Response is an error
+pub replaced : (view : MibView) (limit : ℕ) (q : Message) (k : Kind) (bindings given : List VarBind) (m : Message) → IsServed q.kind → k ≡ q.kind → bindings ≡ q.bindings
+    → m ≡ response q (status_of q.kind) (index_of q.kind q.bindings) [] → AreAnswers (IsAnswer view k) bindings given → PassesLimit m limit given → IsResponse view limit q (response q too_big (pos 0) [])
+replaced view limit q k bindings given m served same_kind same_bindings parts h large =
+    let st = status_of q.kind in
+    let ix = index_of q.kind q.bindings in
+    let size : whole_size m (length (canon_bindings given)) ≡ length (canon (response q st ix given)) = ap (λ (x : Message). whole_size x (length (canon_bindings given))) parts ∙ response_size q st ix given in
+    shortened (response q st ix given) (whole_response view q given served (answers_of view q k bindings given same_kind same_bindings h)) (λ fits. absurd (omega (arith, size))) refl

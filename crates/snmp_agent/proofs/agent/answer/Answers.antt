@@ -1,0 +1,30 @@
+use Rattle.std.proofs.Common.{◌≡◌, ℕ, List, take, ap, sym, subst, ◌∙◌, arith}
+use Rattle.snmp_wire.specs.Canon.{canon}
+use Rattle.snmp_agent.specs.declared.config.Why.{Why}
+use Rattle.snmp_agent.specs.declared.config.Why.TheVariants as why
+use Rattle.snmp_agent.specs.Reply.{agent_of, IsReply, IsDropped}
+use Rattle.snmp_agent.proofs.Encodings.{read_message}
+use Rattle.snmp_agent.proofs.agent.answer.Goals as goal
+
+pub reply-requires-clause-writable : goal.reply-requires-clause-writable
+reply-requires-clause-writable c = read_message c.in-Ok.message c.args.request.now c.in-Ok.ensures.found.spelt
+
+pub returns-in-Some-clause-reply : goal.returns-in-Some-clause-reply
+returns-in-Some-clause-reply c = λ n e.
+    let same : c.in-Some.size ≡ n = cc in
+    let sent = c.in-Some.ensures.sent in
+    record {
+      request = c.in-Ok.message;
+      response = sent.0;
+      is_request = c.in-Ok.ensures.found;
+      is_response = sent.1;
+      fits = sent.2;
+      encoding = ap (λ k. take k c.reply.new.out) (sym same) ∙ sent.3;
+    }
+
+pub returns-in-None-clause-dropped : goal.returns-in-None-clause-dropped
+returns-in-None-clause-dropped c = λ reason e.
+    let same : why.TooLong ≡ reason = cc in
+    let none = c.in-None.ensures.none in
+    subst (λ (w : Why). IsDropped (agent_of c.args.table.now c.args.config.now) c.args.request.now w) same
+    (c.in-Ok.message, none.0, c.in-Ok.ensures.found, none.1, λ fits. absurd (omega arith))

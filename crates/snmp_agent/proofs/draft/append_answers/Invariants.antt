@@ -1,0 +1,14 @@
+use Rattle.std.proofs.Common.{◌≡◌, ◌++◌, ◌≤◌, List, length}
+use Rattle.snmp_wire.specs.Message.{VarBind}
+use Rattle.snmp_wire.specs.Parts.{parts_message}
+use Rattle.snmp_agent.specs.Reply.{AreAnswers}
+use Rattle.snmp_agent.specs.Answering.{IsAnswer, IsDraft, AreWritable}
+use Rattle.snmp_agent.proofs.draft.append_answers.Given as goal
+
+-- the bindings so far are answered and written, and with answers to the others all are answered
+abbrev pub invariant-bindings : goal.invariant-bindings
+invariant-bindings l =
+    (given : List VarBind)
+    × ((rest : List VarBind) → AreAnswers (IsAnswer l.table l.kind) l.asked-iterator rest → AreAnswers (IsAnswer l.table l.kind) l.fn.bindings (given ++ rest))
+    × IsDraft (parts_message l.parts) l.max_size given l.total l.out
+    × AreWritable l.asked-iterator

@@ -1,0 +1,84 @@
+-- How replies are made: what private functions are proved to find and to write.
+use Rattle.std.specs.Prelude.{◌≡◌, ℕ, ℤ, pos, ◌+◌, ◌≤◌, ◌<◌, List, [], ◌∷◌, ◌++◌, length, take}
+use Rattle.snmp_oid.specs.Identifier.{IsWire}
+use Rattle.snmp_wire.specs.declared.kind.Kind.{Kind}
+use Rattle.snmp_wire.specs.declared.kind.Kind.TheVariants as kind
+use Rattle.snmp_wire.specs.Message.{Datum, object_id, integer_value, octet_string, null_value, ip_address, counter32, gauge32, time_ticks, opaque_octets, counter64, no_such_object, no_such_instance, end_of_mib_view, VarBind, Message}
+use Rattle.snmp_wire.specs.Canon.{canon_binding, canon_bindings, canon_head}
+use Rattle.snmp_table.specs.Table.{MibView, IsGet, IsNext}
+use Rattle.snmp_agent.specs.Reply.{not_writable, no_error, failed_place}
+
+-- what a request of the kind is given for one of its bindings
+abbrev pub IsAnswer : MibView → Kind → VarBind → VarBind → Type 0
+IsAnswer view kind.GetRequest asked given = IsGet view asked.name given
+IsAnswer view kind.GetNextRequest asked given = IsNext view asked.name given
+IsAnswer view kind.SetRequest asked given = given ≡ asked
+IsAnswer view kind.GetBulkRequest asked given = ⊥
+IsAnswer view kind.Response asked given = ⊥
+IsAnswer view kind.InformRequest asked given = ⊥
+IsAnswer view kind.Trap asked given = ⊥
+IsAnswer view kind.Report asked given = ⊥
+
+-- a value that has an encoding, whatever its length
+abbrev pub HasEncoding : Datum → Type 0
+HasEncoding (object_id name) = IsWire name
+HasEncoding (integer_value z) = Unit {0}
+HasEncoding (octet_string text) = Unit {0}
+HasEncoding null_value = Unit {0}
+HasEncoding (ip_address address) = Unit {0}
+HasEncoding (counter32 n) = Unit {0}
+HasEncoding (gauge32 n) = Unit {0}
+HasEncoding (time_ticks n) = Unit {0}
+HasEncoding (opaque_octets text) = Unit {0}
+HasEncoding (counter64 n) = Unit {0}
+HasEncoding no_such_object = Unit {0}
+HasEncoding no_such_instance = Unit {0}
+HasEncoding end_of_mib_view = Unit {0}
+
+-- a binding whose name and value have encodings
+pub record IsWritable (binding : VarBind) : Type 0 where
+  pub name : IsWire binding.name
+  pub value : HasEncoding binding.value
+
+abbrev pub AreWritable : List VarBind → Type 0
+AreWritable [] = Unit {0}
+AreWritable (binding ∷ more) = IsWritable binding × AreWritable more
+
+-- a value of at most 65535 octets
+abbrev pub IsShortValue : Datum → Type 0
+IsShortValue (octet_string text) = length text ≤ 65535
+IsShortValue (opaque_octets text) = length text ≤ 65535
+IsShortValue (object_id name) = Unit {0}
+IsShortValue (integer_value z) = Unit {0}
+IsShortValue null_value = Unit {0}
+IsShortValue (ip_address address) = Unit {0}
+IsShortValue (counter32 n) = Unit {0}
+IsShortValue (gauge32 n) = Unit {0}
+IsShortValue (time_ticks n) = Unit {0}
+IsShortValue (counter64 n) = Unit {0}
+IsShortValue no_such_object = Unit {0}
+IsShortValue no_such_instance = Unit {0}
+IsShortValue end_of_mib_view = Unit {0}
+
+-- how many octets a message has whose bindings take so many
+abbrev pub whole_size : Message → ℕ → ℕ
+whole_size m total = length (canon_head m total) + total
+
+-- the encodings of the bindings stand in the front of the output, and the message with them keeps to the limit
+pub record IsDraft (m : Message) (limit : ℕ) (bindings : List VarBind) (total : ℕ) (out : List ℕ) : Type 0 where
+  pub total_size : total ≡ length (canon_bindings bindings)
+  pub octets : take total out ≡ canon_bindings bindings
+  pub fits : whole_size m total ≤ limit
+
+-- the message with these bindings is longer than the limit
+abbrev pub PassesLimit : Message → ℕ → List VarBind → Type 0
+PassesLimit m limit bindings = limit < whole_size m (length (canon_bindings bindings))
+
+-- the error-status and the error-index of the whole Response to a request of the kind
+abbrev pub status_of : Kind → ℤ
+status_of kind.SetRequest = not_writable
+status_of _ = no_error
+
+abbrev pub index_of : Kind → List VarBind → ℤ
+index_of kind.SetRequest bindings = failed_place bindings
+index_of _ bindings = pos 0

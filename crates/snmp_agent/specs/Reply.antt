@@ -1,0 +1,123 @@
+-- The replies of an agent that reads alone (RFC 3416, section 4.2; RFC 1901, section 3).
+use Rattle.std.specs.Prelude.{◌≡◌, ◌≢◌, ℕ, ℤ, pos, ◌≤◌, List, [], ◌∷◌, length}
+use Rattle.snmp_wire.specs.declared.kind.Kind.{Kind}
+use Rattle.snmp_wire.specs.declared.kind.Kind.TheVariants as kind
+use Rattle.snmp_wire.specs.Message.{VarBind, Message}
+use Rattle.snmp_wire.specs.Spelling.{Spells}
+use Rattle.snmp_wire.specs.Canon.{canon}
+use Rattle.snmp_table.specs.Table.{MibView, IsGet, IsNext}
+use Rattle.snmp_agent.specs.declared.config.Config.{Config}
+use Rattle.snmp_agent.specs.declared.config.Why.{Why}
+use Rattle.snmp_agent.specs.declared.config.Why.TheVariants as why
+
+-- an agent: what it serves, the community that it answers, and how many octets its messages have at most
+pub record Agent : Type 0 where
+  pub view : MibView
+  pub community : List ℕ
+  pub max_size : ℕ
+
+-- the agent of a table that is told this
+abbrev pub agent_of : MibView → Config → Agent
+agent_of view config = record { view = view; community = config.community.now; max_size = config.max_size }
+
+-- ---- requests
+
+-- the kinds of request that are answered
+abbrev pub IsServed : Kind → Type 0
+IsServed kind.GetRequest = Unit {0}
+IsServed kind.GetNextRequest = Unit {0}
+IsServed kind.SetRequest = Unit {0}
+IsServed kind.GetBulkRequest = ⊥
+IsServed kind.Response = ⊥
+IsServed kind.InformRequest = ⊥
+IsServed kind.Trap = ⊥
+IsServed kind.Report = ⊥
+
+-- the octets spell the message, which is of version 1, that of SNMPv2c, of the agent's community, and a request that is answered
+pub record IsRequest (community octets : List ℕ) (q : Message) : Type 0 where
+  pub spelt : Spells q octets
+  pub version : q.version ≡ pos 1
+  pub named : q.community ≡ community
+  pub served : IsServed q.kind
+
+-- ---- responses
+
+-- the Response to a request has its version, community and request-id
+abbrev pub response : Message → ℤ → ℤ → List VarBind → Message
+response q status index bindings = record {
+  version = q.version;
+  community = q.community;
+  kind = kind.Response;
+  id = q.id;
+  a = status;
+  b = index;
+  bindings = bindings;
+}
+
+-- each binding of the request is answered by the one at its place
+abbrev pub AreAnswers : (VarBind → VarBind → Type 0) → List VarBind → List VarBind → Type 0
+AreAnswers IsAnswer [] [] = Unit {0}
+AreAnswers IsAnswer (asked ∷ more) (given ∷ rest) = IsAnswer asked given × AreAnswers IsAnswer more rest
+AreAnswers IsAnswer [] (given ∷ rest) = ⊥
+AreAnswers IsAnswer (asked ∷ more) [] = ⊥
+
+-- the error statuses noError, tooBig and notWritable (RFC 3416, section 3)
+abbrev pub no_error : ℤ
+no_error = pos 0
+
+abbrev pub too_big : ℤ
+too_big = pos 1
+
+abbrev pub not_writable : ℤ
+not_writable = pos 17
+
+-- a Set fails at its first binding, if it has one
+abbrev pub failed_place : List VarBind → ℤ
+failed_place [] = pos 0
+failed_place (_ ∷ _) = pos 1
+
+-- the Response to a request, whatever its size: to a Get the bindings asked for (4.2.1), to a GetNext their successors (4.2.2), and to a
+-- Set, since nothing can be written, its own bindings and an error (4.2.5)
+pub data IsWhole (view : MibView) (q r : Message) : Type 0 where
+  got : (bindings : List VarBind) → q.kind ≡ kind.GetRequest → AreAnswers (λ asked given. IsGet view asked.name given) q.bindings bindings
+      → r ≡ response q no_error (pos 0) bindings → IsWhole view q r
+  got_next : (bindings : List VarBind) → q.kind ≡ kind.GetNextRequest → AreAnswers (λ asked given. IsNext view asked.name given) q.bindings bindings
+      → r ≡ response q no_error (pos 0) bindings → IsWhole view q r
+  unwritten : q.kind ≡ kind.SetRequest → r ≡ response q not_writable (failed_place q.bindings) q.bindings → IsWhole view q r
+
+-- the message's shortest encoding has at most so many octets
+abbrev pub Fits : ℕ → Message → Type 0
+Fits max_size m = length (canon m) ≤ max_size
+
+-- the Response that is to be sent where messages have at most so many octets: the whole one where it fits, else an error without bindings
+-- (4.2.1, 4.2.2, 4.2.5)
+pub data IsResponse (view : MibView) (max_size : ℕ) (q r : Message) : Type 0 where
+  whole : IsWhole view q r → Fits max_size r → IsResponse view max_size q r
+  shortened : (large : Message) → IsWhole view q large → (Fits max_size large → ⊥) → r ≡ response q too_big (pos 0) [] → IsResponse view max_size q r
+
+-- ---- replies
+
+-- the octets are the agent's reply to the others: the shortest encoding of its Response to the request that they spell
+pub record IsReply (agent : Agent) (octets reply : List ℕ) : Type 0 where
+  pub request : Message
+  pub response : Message
+  pub is_request : IsRequest agent.community octets request
+  pub is_response : IsResponse agent.view agent.max_size request response
+  pub fits : Fits agent.max_size response
+  pub encoding : reply ≡ canon response
+
+-- the octets are no request that the agent answers; the reasons come in this order
+abbrev pub IsRefused : List ℕ → List ℕ → Why → Type 0
+IsRefused community octets why.Undecodable = (q : Message) → Spells q octets → ⊥
+IsRefused community octets why.Version = (q : Message) × Spells q octets × (q.version ≢ pos 1)
+IsRefused community octets why.Community = (q : Message) × Spells q octets × (q.version ≡ pos 1) × (q.community ≢ community)
+IsRefused community octets why.Pdu = (q : Message) × Spells q octets × (q.version ≡ pos 1) × (q.community ≡ community) × (IsServed q.kind → ⊥)
+IsRefused community octets why.TooLong = ⊥
+
+-- why the agent sends no reply to the octets: they are no request that it answers, or not even its Response without bindings fits
+abbrev pub IsDropped : Agent → List ℕ → Why → Type 0
+IsDropped agent octets why.TooLong = (q : Message) × (r : Message) × IsRequest agent.community octets q × IsResponse agent.view agent.max_size q r × (Fits agent.max_size r → ⊥)
+IsDropped agent octets why.Undecodable = IsRefused agent.community octets why.Undecodable
+IsDropped agent octets why.Version = IsRefused agent.community octets why.Version
+IsDropped agent octets why.Community = IsRefused agent.community octets why.Community
+IsDropped agent octets why.Pdu = IsRefused agent.community octets why.Pdu

@@ -1,0 +1,135 @@
+//! Requests and their replies.
+ghost use Rattle.std.specs.Prelude.{◌≡◌, ℕ, pos, ◌≤◌, ◌<◌, [], length, take, IfOk, IfErr, IfSome, IfNone};
+ghost use Rattle.snmp_wire.specs.Message.{Message};
+ghost use Rattle.snmp_wire.specs.Canon.{canon};
+ghost use Rattle.snmp_wire.specs.Parts.{parts_message};
+ghost use Rattle.snmp_agent.specs.Reply.{agent_of, IsReply, IsDropped, IsRequest, IsRefused, IsServed, IsResponse, Fits, response, failed_place, too_big};
+ghost use Rattle.snmp_agent.specs.Answering.{AreWritable, status_of, index_of};
+
+use crate::config::{Config, Outcome, Why};
+use crate::draft::{append_answers, seal};
+use snmp_table::Table;
+use snmp_wire::{Kind, MessageRef, Parts, decode, encode_head, head_size};
+
+/// The version of SNMPv2c (RFC 1901, section 3).
+const VERSION: i32 = 1;
+
+/// The error status noError (RFC 3416, section 3).
+const NO_ERROR: i32 = 0;
+
+/// The error status tooBig (RFC 3416, section 3).
+const TOO_BIG: i32 = 1;
+
+/// The error status notWritable (RFC 3416, section 3).
+const NOT_WRITABLE: i32 = 17;
+
+/// The reply to a datagram, in the front of `out`, or why there is none (RFC 3416, sections 4.2.1, 4.2.2 and 4.2.5).
+///
+/// What stands behind the reply's octets is left open. Nothing is allocated.
+pub fn answer(table: &Table, config: &Config<'_>, request: &[u8], out: &mut [u8; 65507]) -> Outcome
+    ensures reply { (n : ℕ) → result ≡ Outcome.Reply n → IsReply (agent_of table.now config.now) request.now (take n out.new) }
+    ensures length { (n : ℕ) → result ≡ Outcome.Reply n → n ≤ config.now.max_size }
+    ensures dropped { (why : Why) → result ≡ Outcome.Dropped why → IsDropped (agent_of table.now config.now) request.now why }
+{
+    match accepted(config.community, request) {
+        Ok(message) => match reply(table, config.max_size, &message, &mut out[..]) {
+            Some(size) => Outcome::Reply(size),
+            None => Outcome::Dropped(Why::TooLong),
+        },
+        Err(why) => Outcome::Dropped(why),
+    }
+}
+
+/// The request that the octets spell, if it is one that the agent answers.
+fn accepted<'a>(community: &[u8], octets: &'a [u8]) -> Result<MessageRef<'a>, Why>
+    ensures found { IfOk result (IsRequest community.now octets.now) }
+    ensures refused { IfErr result (IsRefused community.now octets.now) }
+{
+    let message = match decode(octets) {
+        Ok(message) => message,
+        Err(_) => return Err(Why::Undecodable),
+    };
+    if message.version() != VERSION {
+        return Err(Why::Version);
+    }
+    if message.community() != community {
+        return Err(Why::Community);
+    }
+    match message.kind() {
+        Kind::GetRequest | Kind::GetNextRequest | Kind::SetRequest => Ok(message),
+        _ => Err(Why::Pdu),
+    }
+}
+
+/// Writes the Response to a request to the front of `out`, and answers its length. None where it would have more than `max_size` octets, even without bindings.
+fn reply(table: &Table, max_size: usize, request: &MessageRef<'_>, out: &mut [u8]) -> Option<usize>
+    requires served { IsServed request.now.kind }
+    requires community { length request.now.community ≤ 255 }
+    requires writable { AreWritable request.now.bindings }
+    requires datagram { max_size ≤ 65507 }
+    requires room { max_size ≤ length out.old }
+    ensures sent { IfSome result (λ n. (r : Message) × IsResponse table.now max_size request.now r × (length (canon r) ≤ max_size) × (take n out.new ≡ canon r) × (n ≡ length (canon r))) }
+    ensures none { IfNone result ((r : Message) × IsResponse table.now max_size request.now r × (max_size < length (canon r))) }
+{
+    let parts = whole_parts(request);
+    match append_answers(
+        table,
+        request.kind(),
+        request.bindings(),
+        &parts,
+        max_size,
+        out,
+    ) {
+        Some(total) => Some(seal(&parts, out, total)),
+        None => shortened(request, max_size, out),
+    }
+}
+
+/// The parts of the whole Response to a request, its bindings left out.
+fn whole_parts<'a>(request: &MessageRef<'a>) -> Parts<'a>
+    ensures { parts_message result ≡ response request.now (status_of request.now.kind) (index_of request.now.kind request.now.bindings) [] }
+{
+    match request.kind() {
+        Kind::SetRequest => response(request, NOT_WRITABLE, failed_place(request)),
+        _ => response(request, NO_ERROR, 0),
+    }
+}
+
+/// Where a Set fails: at its first binding, if it has one.
+fn failed_place(request: &MessageRef<'_>) -> i32
+    ensures { result ≡ failed_place request.now.bindings }
+{
+    match request.bindings().next() {
+        Some(_) => 1,
+        None => 0,
+    }
+}
+
+/// A Response to the request, its bindings left out.
+fn response<'a>(request: &MessageRef<'a>, status: i32, index: i32) -> Parts<'a>
+    ensures { parts_message result ≡ response request.now status index [] }
+{
+    Parts {
+        version: request.version(),
+        community: request.community(),
+        kind: Kind::Response,
+        id: request.id(),
+        a: status,
+        b: index,
+        bindings: &[],
+    }
+}
+
+/// Writes the error tooBig in place of a Response that doesn't fit (RFC 3416, section 4.2.1). None where it has more than `max_size` octets itself.
+fn shortened(request: &MessageRef<'_>, max_size: usize, out: &mut [u8]) -> Option<usize>
+    requires community { length request.now.community ≤ 255 }
+    requires room { max_size ≤ length out.old }
+    ensures sent { IfSome result (λ n. let r = response request.now too_big (pos 0) [] in (length (canon r) ≤ max_size) × (take n out.new ≡ canon r) × (n ≡ length (canon r))) }
+    ensures none { IfNone result (max_size < length (canon (response request.now too_big (pos 0) []))) }
+{
+    let parts = response(request, TOO_BIG, 0);
+    if head_size(&parts, 0) > max_size as u64 {
+        return None;
+    }
+    encode_head(&parts, 0, out)
+}

@@ -1,0 +1,46 @@
+//! What an agent is told, and what it answers.
+ghost use Rattle.std.specs.Prelude.{◌≤◌, length};
+
+/// The greatest length of a datagram over UDP and IPv4, in octets.
+pub const LONGEST_DATAGRAM: usize = 65507;
+
+/// What an agent is told.
+#[derive(Clone, Copy, Debug)]
+pub struct Config<'a> {
+    /// The community whose requests it answers, of at most 255 octets.
+    pub community: &'a [u8],
+    /// How many octets its messages have at most, from 1 to 65507.
+    pub max_size: usize,
+    ghost short: { length community.now ≤ 255 },
+    ghost positive: { 1 ≤ max_size },
+    ghost datagram: { max_size ≤ 65507 },
+}
+
+/// What an agent does with a datagram.
+#[derive(Clone, Copy, Debug, PartialEq, Eq)]
+pub enum Outcome {
+    /// It sends the front of the output, of so many octets.
+    Reply(usize),
+    /// It sends nothing.
+    Dropped(Why),
+}
+
+/// Why a datagram isn't answered: the first that applies.
+#[derive(Clone, Copy, Debug, PartialEq, Eq, thiserror::Error)]
+pub enum Why {
+    /// It spells no message.
+    #[error("no message")]
+    Undecodable,
+    /// Its version isn't 1, that of SNMPv2c.
+    #[error("another version than 2c")]
+    Version,
+    /// Its community isn't the agent's.
+    #[error("another community")]
+    Community,
+    /// It is no Get, GetNext or Set.
+    #[error("no request that is served")]
+    Pdu,
+    /// Even the shortest reply has more octets than a message may have.
+    #[error("no reply fits")]
+    TooLong,
+}

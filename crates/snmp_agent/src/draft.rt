@@ -1,0 +1,115 @@
+//! A reply in the making: its bindings are written to the front of the output one behind the other, and make room for what stands before them when they are all there.
+ghost use Rattle.std.specs.Prelude.{◌≡◌, ◌+◌, ◌≤◌, ◌<◌, ◌++◌, List, length, take, IfSome, IfNone, IsTrue, ◌↔◌};
+ghost use Rattle.snmp_wire.specs.Message.{VarBind, var_bind, datum};
+ghost use Rattle.snmp_wire.specs.Canon.{canon_binding, canon_bindings, canon_head};
+ghost use Rattle.snmp_wire.specs.Parts.{parts_message};
+ghost use Rattle.snmp_agent.specs.Reply.{IsServed, AreAnswers};
+ghost use Rattle.snmp_agent.specs.Answering.{IsAnswer, IsWritable, AreWritable, IsShortValue, IsDraft, PassesLimit, whole_size};
+
+use snmp_table::Table;
+use snmp_wire::{
+    Binding, Bindings, Kind, Parts, ValueRef, binding_size, encode_binding, encode_head, head_size,
+};
+
+/// Writes the answers to the bindings of a request to the front of `out`, and answers how many octets they take together.
+/// None where a message of these parts and answers has more than `max_size` octets.
+pub fn append_answers(
+    table: &Table,
+    kind: Kind,
+    bindings: Bindings<'_>,
+    parts: &Parts<'_>,
+    max_size: usize,
+    out: &mut [u8],
+) -> Option<usize>
+    requires served { IsServed kind }
+    requires writable { AreWritable bindings }
+    requires community { length parts.now.community.now ≤ 255 }
+    requires datagram { max_size ≤ 65507 }
+    requires room { max_size ≤ length out.old }
+    ensures written { IfSome result (λ total. (given : List VarBind) × AreAnswers (IsAnswer table.now kind) bindings.entry given × IsDraft (parts_message parts.now) max_size given total out.new) }
+    ensures too_long { IfNone result ((given : List VarBind) × AreAnswers (IsAnswer table.now kind) bindings.entry given × PassesLimit (parts_message parts.now) max_size given) }
+{
+    if head_size(parts, 0) > max_size as u64 {
+        return None;
+    }
+    let mut total = 0;
+    'bindings: for asked in bindings {
+        let given = answer_to(table, kind, asked);
+        total = append(parts, max_size, out, total, &given)?;
+    }
+    Some(total)
+}
+
+/// What a request of this kind is given for one of its bindings: for a Get the variable of its name, for a GetNext the one behind it, and for a Set the binding itself.
+fn answer_to<'a>(table: &'a Table, kind: Kind, asked: Binding<'a>) -> Binding<'a>
+    requires served { IsServed kind }
+    requires writable { IsWritable (var_bind asked) }
+    ensures answer { IsAnswer table.now kind (var_bind asked.entry) (var_bind result) }
+    ensures writable { IsWritable (var_bind result) }
+{
+    match kind {
+        Kind::GetRequest => {
+            let Binding { name, value: _ } = asked;
+            let value = table.get(&name);
+            Binding { name, value }
+        }
+        Kind::GetNextRequest => table.next(&asked.name),
+        _ => asked,
+    }
+}
+
+/// Writes a binding behind the `total` octets of those before it, and answers how many they are now.
+/// None, and nothing is written, where a message of these parts with all of them has more than `max_size` octets.
+fn append(
+    parts: &Parts<'_>,
+    max_size: usize,
+    out: &mut [u8],
+    total: usize,
+    binding: &Binding<'_>,
+) -> Option<usize>
+    requires community { length parts.now.community.now ≤ 255 }
+    requires datagram { max_size ≤ 65507 }
+    requires room { max_size ≤ length out.old }
+    requires total { total ≤ max_size }
+    requires writable { IsWritable (var_bind binding.now) }
+    ensures written { IfSome result (λ n. (n ≡ total + length (canon_binding (var_bind binding.now))) × (take n out.new ≡ take total out.old ++ canon_binding (var_bind binding.now)) × (whole_size (parts_message parts.now) n ≤ max_size)) }
+    ensures too_long { IfNone result (max_size < whole_size (parts_message parts.now) (total + length (canon_binding (var_bind binding.now)))) }
+{
+    if !is_short(&binding.value) {
+        return None;
+    }
+    let end = total + binding_size(binding) as usize;
+    if head_size(parts, end as u64) as usize + end > max_size {
+        return None;
+    }
+    match encode_binding(binding, &mut out[total..]) {
+        Some(_) => Some(end),
+        None => unreachable!(),
+    }
+}
+
+/// Whether a string has at most 65535 octets. Those of a table do; a Set may bring longer ones, which no datagram holds.
+fn is_short(value: &ValueRef<'_>) -> bool
+    ensures { IsTrue result ↔ IsShortValue (datum value.now) }
+{
+    match value {
+        ValueRef::Octets(text) | ValueRef::Opaque(text) => text.len() <= 65535,
+        _ => true,
+    }
+}
+
+/// Writes what stands before the bindings in the first `total` octets, which make room for it, and answers the length of the message.
+pub fn seal(parts: &Parts<'_>, out: &mut [u8], total: usize) -> usize
+    requires community { length parts.now.community.now ≤ 255 }
+    requires datagram { total ≤ 65507 }
+    requires room { whole_size (parts_message parts.now) total ≤ length out.old }
+    ensures size { result ≡ whole_size (parts_message parts.now) total }
+    ensures message { take result out.new ≡ canon_head (parts_message parts.now) total ++ take total out.old }
+{
+    let head = head_size(parts, total as u64) as usize;
+    out.copy_within(..total, head);
+    match encode_head(parts, total as u64, out) {
+        Some(_) => head + total,
+        None => unreachable!(),
+    }
+}

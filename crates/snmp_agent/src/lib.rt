@@ -1,0 +1,14 @@
+//! An agent that reads alone: the replies to the requests of SNMPv2c, octets in and octets out (RFC 3416, section 4.2).
+//!
+//! Stands on the table, which answers for one name, and on the messages. A server or a walk in memory hands it the datagrams.
+#![tactic(auto)]
+
+mod agent;
+mod config;
+mod draft;
+
+pub use agent::answer;
+pub use config::{Config, Outcome, Why};
+
+#[cfg(test)]
+mod tests;

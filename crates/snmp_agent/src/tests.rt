@@ -1,0 +1,132 @@
+//! Datagrams and their replies, worked out by hand.
+
+use crate::{Config, Outcome, Why, answer};
+use snmp_table::Table;
+use std::process::Abort;
+use std::test::Fail;
+
+/// The table of sysName.0 alone.
+const SYS_NAME: &[u8] = b"1.3.6.1.2.1.1.5.0|4|wes";
+
+/// The Get of sysName.0, in community `public` with id 1.
+const GET: [u8; 40] = [
+    0x30, 0x26, 0x02, 0x01, 0x01, 0x04, 0x06, 0x70, 0x75, 0x62, 0x6C, 0x69, 0x63, 0xA0, 0x19, 0x02,
+    0x01, 0x01, 0x02, 0x01, 0x00, 0x02, 0x01, 0x00, 0x30, 0x0E, 0x30, 0x0C, 0x06, 0x08, 0x2B, 0x06,
+    0x01, 0x02, 0x01, 0x01, 0x05, 0x00, 0x05, 0x00,
+];
+
+/// Its Response, with the string `wes`.
+const GOT: [u8; 43] = [
+    0x30, 0x29, 0x02, 0x01, 0x01, 0x04, 0x06, 0x70, 0x75, 0x62, 0x6C, 0x69, 0x63, 0xA2, 0x1C, 0x02,
+    0x01, 0x01, 0x02, 0x01, 0x00, 0x02, 0x01, 0x00, 0x30, 0x11, 0x30, 0x0F, 0x06, 0x08, 0x2B, 0x06,
+    0x01, 0x02, 0x01, 0x01, 0x05, 0x00, 0x04, 0x03, 0x77, 0x65, 0x73,
+];
+
+/// The Response to it where messages have at most 26 octets: tooBig.
+const TOO_BIG: [u8; 26] = [
+    0x30, 0x18, 0x02, 0x01, 0x01, 0x04, 0x06, 0x70, 0x75, 0x62, 0x6C, 0x69, 0x63, 0xA2, 0x0B, 0x02,
+    0x01, 0x01, 0x02, 0x01, 0x01, 0x02, 0x01, 0x00, 0x30, 0x00,
+];
+
+/// A Set of sysName.0.
+const SET: [u8; 41] = [
+    0x30, 0x27, 0x02, 0x01, 0x01, 0x04, 0x06, 0x70, 0x75, 0x62, 0x6C, 0x69, 0x63, 0xA3, 0x1A, 0x02,
+    0x01, 0x01, 0x02, 0x01, 0x00, 0x02, 0x01, 0x00, 0x30, 0x0F, 0x30, 0x0D, 0x06, 0x08, 0x2B, 0x06,
+    0x01, 0x02, 0x01, 0x01, 0x05, 0x00, 0x02, 0x01, 0x01,
+];
+
+/// Its Response: notWritable, at the first binding.
+const NOT_SET: [u8; 41] = [
+    0x30, 0x27, 0x02, 0x01, 0x01, 0x04, 0x06, 0x70, 0x75, 0x62, 0x6C, 0x69, 0x63, 0xA2, 0x1A, 0x02,
+    0x01, 0x01, 0x02, 0x01, 0x11, 0x02, 0x01, 0x01, 0x30, 0x0F, 0x30, 0x0D, 0x06, 0x08, 0x2B, 0x06,
+    0x01, 0x02, 0x01, 0x01, 0x05, 0x00, 0x02, 0x01, 0x01,
+];
+
+/// The agent of `public`, with messages of at most so many octets from 1 to 65507, replies with just these octets.
+fn assert_reply(rt: &impl Abort, table: &Table, max_size: usize, request: &[u8], reply: &[u8]) {
+    let max_size = max_size.clamp(1, 65507);
+    let config = Config {
+        community: b"public",
+        max_size,
+    };
+    let mut out = [0; 65507];
+    match answer(table, &config, request, &mut out) {
+        Outcome::Reply(size) => assert_eq!(rt; &out[..size], reply),
+        Outcome::Dropped(why) => assert!(rt; false, "{why}"),
+    }
+}
+
+/// The agent of `public`, with messages of at most so many octets from 1 to 65507, drops the request for this reason.
+fn assert_dropped(rt: &impl Abort, table: &Table, max_size: usize, request: &[u8], why: Why) {
+    let max_size = max_size.clamp(1, 65507);
+    let config = Config {
+        community: b"public",
+        max_size,
+    };
+    let mut out = [0; 65507];
+    assert_eq!(rt; answer(table, &config, request, &mut out), Outcome::Dropped(why));
+}
+
+#[test]
+fn a_get_is_answered_in_the_shortest_encoding(rt: HostRuntime) -> Result<(), Fail> {
+    let table = Table::read(rt.alloc(), SYS_NAME)?;
+    assert_reply(&rt, &table, 1472, &GET, &GOT);
+    assert_reply(&rt, &table, 43, &GET, &GOT);
+    let mut long_length = [0; 42];
+    long_length[..4].copy_from_slice(&[0x30, 0x82, 0x00, 0x26]);
+    long_length[4..].copy_from_slice(&GET[2..]);
+    assert_reply(&rt, &table, 1472, &long_length, &GOT);
+    Ok(())
+}
+
+#[test]
+fn a_reply_too_long_is_too_big(rt: HostRuntime) -> Result<(), Fail> {
+    let table = Table::read(rt.alloc(), SYS_NAME)?;
+    assert_reply(&rt, &table, 42, &GET, &TOO_BIG);
+    assert_reply(&rt, &table, 26, &GET, &TOO_BIG);
+    assert_dropped(&rt, &table, 25, &GET, Why::TooLong);
+    Ok(())
+}
+
+#[test]
+fn nothing_is_written(rt: HostRuntime) -> Result<(), Fail> {
+    let table = Table::read(rt.alloc(), SYS_NAME)?;
+    assert_reply(&rt, &table, 1472, &SET, &NOT_SET);
+    Ok(())
+}
+
+#[test]
+fn a_get_next_is_answered_by_the_next_variable(rt: HostRuntime) -> Result<(), Fail> {
+    let table = Table::read(rt.alloc(), b"1.3.6.1.2.1.1.5.1|4|wes")?;
+    let mut request = GET;
+    request[13] = 0xA1;
+    let mut reply = GOT;
+    reply[37] = 0x01;
+    assert_reply(&rt, &table, 1472, &request, &reply);
+    Ok(())
+}
+
+#[test]
+fn others_are_dropped(rt: HostRuntime) -> Result<(), Fail> {
+    let table = Table::read(rt.alloc(), SYS_NAME)?;
+    for (place, octet, why) in [
+        (1, 0x80, Why::Undecodable),
+        (4, 0x00, Why::Version),
+        (7, 0x71, Why::Community),
+        (13, 0xA2, Why::Pdu),
+    ] {
+        let mut request = GET;
+        let place: usize = place;
+        if place < 40 {
+            request[place] = octet;
+        }
+        assert_dropped(&rt, &table, 1472, &request, why);
+    }
+    for size in 0..40 {
+        assert_dropped(&rt, &table, 1472, &GET[..size], Why::Undecodable);
+    }
+    let mut longer = [0; 41];
+    longer[..40].copy_from_slice(&GET);
+    assert_dropped(&rt, &table, 1472, &longer, Why::Undecodable);
+    Ok(())
+}
