@@ -1,0 +1,16 @@
+pub mod NameLemmas
+pub mod RequestLemmas
+pub mod FrontLemmas
+pub mod SpelledLemmas
+pub mod TrailLemmas
+pub mod StandingLemmas
+pub mod OrderLemmas
+pub mod TableLemmas
+pub mod AnyLemmas
+pub mod SinkLemmas
+pub mod ReplyLemmas
+pub mod TurnLemmas
+pub mod RunLemmas
+pub mod ViewLemmas
+pub mod JoinLemmas
+pub mod FactLemmas

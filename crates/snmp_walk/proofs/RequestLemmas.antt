@@ -1,0 +1,126 @@
+-- A walk's requests can be encoded, and fit a datagram.
+use Rattle.std.proofs.Common.{◌≡◌, ℕ, zero, suc, ◌+◌, ◌-◌, ◌*◌, ◌/◌, ◌%◌, ◌^◌, ◌≤◌, ◌<◌, Bool, true, false, cond, List, [], ◌∷◌, ◌++◌, length, arith, refl, length-append, ℤ, pos, negsuc}
+use Rattle.std.specs.Prelude.{All, nat_lt}
+use Rattle.std.specs.List.{flat_map}
+use Rattle.std.proofs.lemmas.List.Elements.{All-cons, All-nil}
+use Rattle.snmp_oid.specs.Identifier.{IsWire}
+use Rattle.snmp_wire.specs.Message.{Datum, VarBind, Message, null_value, integer_value, octet_string, object_id, var_bind}
+use Rattle.snmp_wire.specs.Identifier.{subidentifiers}
+use Rattle.snmp_wire.specs.Spelling.{value_tag, kind_tag, sequence_tag}
+use Rattle.snmp_wire.specs.Canon.{digit_count, octets, number_size, canon_number, length_size, canon_length, subidentifier_size, septets, canon_subidentifier, canon_header, canon_element, canon_content, canon_value, canon_binding, canon_bindings, canon_opening, canon_fields, canon, IsEncodable}
+use Rattle.snmp_wire.specs.declared.binding.Binding.{Binding}
+use Rattle.snmp_wire.specs.declared.value.ValueRef.TheVariants as value
+use Rattle.snmp_walk.specs.Walker.{Walker}
+use Rattle.snmp_walk.specs.Request.{request_of}
+
+cond_bound : (b : Bool) (x y n : ℕ) → x ≤ n → y ≤ n → cond b x y ≤ n
+cond_bound true x y n h k = h
+cond_bound false x y n h k = k
+
+digit_bound : (base limit more n : ℕ) → digit_count base limit more n ≤ more + 1
+digit_bound base limit zero n = omega arith
+digit_bound base limit (suc more) n =
+    cond_bound (nat_lt n limit) 1 (1 + digit_count base (limit * base) more n) (suc more + 1) (omega arith) (omega (arith, digit_bound base (limit * base) more n))
+
+octets_length : (count n : ℕ) → length (octets count n) ≡ count
+unfolding octets
+octets_length zero n = refl
+octets_length (suc count) n = omega (arith, octets_length count n)
+
+number_bound : (z : ℤ) → length (canon_number z) ≤ 9
+unfolding canon_number number_size
+number_bound (pos n) = omega (arith, octets_length (number_size n) n, digit_bound 256 128 8 n)
+number_bound (negsuc n) =
+    omega (arith, octets_length (number_size n) (256 ^ number_size n - (n + 1)), digit_bound 256 128 8 n)
+
+length_cond : (b : Bool) (x y : List ℕ) (n : ℕ) → length x ≤ n → length y ≤ n → length (cond b x y) ≤ n
+length_cond true x y n h k = h
+length_cond false x y n h k = k
+
+length_bound : (n : ℕ) → length (canon_length n) ≤ 5
+unfolding canon_length length_size
+length_bound n =
+    length_cond (nat_lt n 128) (n ∷ []) ((128 + length_size n) ∷ octets (length_size n) n) 5 (omega arith)
+    (omega (arith, octets_length (length_size n) n, digit_bound 256 256 3 n))
+
+header_bound : (tag size : ℕ) → length (canon_header tag size) ≤ 6
+unfolding canon_header
+header_bound tag size = omega (arith, length_bound size)
+
+element_bound : (tag : ℕ) (content : List ℕ) (n : ℕ) → length content ≤ n → length (canon_element tag content) ≤ 6 + n
+unfolding canon_element
+element_bound tag content n h = omega (arith, h, header_bound tag (length content), length-append (canon_header tag (length content)) content)
+
+septets_length : (count n : ℕ) → length (septets count n) ≡ count
+unfolding septets
+septets_length zero n = refl
+septets_length (suc count) n = omega (arith, septets_length count n)
+
+subidentifier_bound : (n : ℕ) → length (canon_subidentifier n) ≤ 5
+unfolding canon_subidentifier subidentifier_size
+subidentifier_bound n =
+    omega (arith, length-append (septets (subidentifier_size n - 1) (n / 128)) (n % 128 ∷ []), septets_length (subidentifier_size n - 1) (n / 128), digit_bound 128 128 4 n)
+
+each_bound : (xs : List ℕ) → length (flat_map canon_subidentifier xs) ≤ 5 * length xs
+each_bound [] = omega arith
+each_bound (x ∷ xs) = omega (arith, each_bound xs, subidentifier_bound x, length-append (canon_subidentifier x) (flat_map canon_subidentifier xs))
+
+parts_bound : (name : List ℕ) → length (subidentifiers name) ≤ length name
+parts_bound [] = omega arith
+parts_bound (x ∷ []) = omega arith
+parts_bound (x ∷ y ∷ name) = omega arith
+
+integer_bound : (z : ℤ) → length (canon_value (integer_value z)) ≤ 15
+unfolding canon_value canon_content
+integer_bound z = element_bound (value_tag (integer_value z)) (canon_number z) 9 (number_bound z)
+
+name_bound : (name : List ℕ) → length name ≤ 128 → length (canon_value (object_id name)) ≤ 646
+unfolding canon_value canon_content
+name_bound name h =
+    element_bound (value_tag (object_id name)) (flat_map canon_subidentifier (subidentifiers name)) 640 (omega (arith, each_bound (subidentifiers name), parts_bound name, h))
+
+null_bound : length (canon_value null_value) ≤ 6
+unfolding canon_value canon_content
+null_bound = element_bound (value_tag null_value) [] 0 (omega arith)
+
+text_bound : (text : List ℕ) → length text ≤ 255 → length (canon_value (octet_string text)) ≤ 261
+unfolding canon_value canon_content
+text_bound text h = element_bound (value_tag (octet_string text)) text 255 h
+
+binding_bound : (name : List ℕ) → length name ≤ 128 → length (canon_binding (record { name = name; value = null_value })) ≤ 658
+unfolding canon_binding
+binding_bound name h =
+    element_bound sequence_tag (canon_value (object_id name) ++ canon_value null_value) 652
+    (omega (arith, name_bound name h, null_bound, length-append (canon_value (object_id name)) (canon_value null_value)))
+
+pub name_short : (name : List ℕ) → length name ≤ 128 → length (canon_bindings (record { name = name; value = null_value } ∷ [])) ≤ 658
+unfolding canon_bindings
+name_short name h =
+    let b : VarBind = record { name = name; value = null_value } in
+    omega (arith, binding_bound name h, length-append (canon_binding b) [])
+
+message_bound : (m : Message) → length m.community ≤ 255 → length (canon_bindings m.bindings) ≤ 658 → length (canon m) ≤ 65507
+unfolding canon canon_opening canon_fields
+message_bound m h k =
+    let id = canon_value (integer_value m.id) in
+    let a = canon_value (integer_value m.a) in
+    let b = canon_value (integer_value m.b) in
+    let list = canon_element sequence_tag (canon_bindings m.bindings) in
+    let fields : length (canon_fields m) ≤ 45 = omega (arith, integer_bound m.id, integer_bound m.a, integer_bound m.b, length-append (id ++ a) b, length-append id a) in
+    let list_bound : length list ≤ 664 = element_bound sequence_tag (canon_bindings m.bindings) 658 k in
+    let pdu_content : length (canon_fields m ++ list) ≤ 709 = omega (arith, fields, list_bound, length-append (canon_fields m) list) in
+    let pdu = canon_element (kind_tag m.kind) (canon_fields m ++ list) in
+    let pdu_bound : length pdu ≤ 715 = element_bound (kind_tag m.kind) (canon_fields m ++ list) 709 pdu_content in
+    let opening : length (canon_opening m) ≤ 276 =
+    omega (arith, integer_bound m.version, text_bound m.community h, length-append (canon_value (integer_value m.version)) (canon_value (octet_string m.community))) in
+    let content : length (canon_opening m ++ pdu) ≤ 991 = omega (arith, opening, pdu_bound, length-append (canon_opening m) pdu) in
+    let whole : length (canon_element sequence_tag (canon_opening m ++ pdu)) ≤ 997 = element_bound sequence_tag (canon_opening m ++ pdu) 991 content in
+    omega (arith, whole)
+
+pub request_fits : (w : Walker) → length w.community ≤ 255 → length w.asked ≤ 128 → length (canon (request_of w)) ≤ 65507
+request_fits w h k = message_bound (request_of w) h (name_short w.asked k)
+
+pub encodable : (name : List ℕ) → IsWire name → All (λ (b : Binding). IsEncodable (var_bind b)) (record { name = name; value = value.Null } ∷ [])
+encodable name h =
+    let P : Binding → Type 0 = λ b. IsEncodable (var_bind b) in
+    All-cons P (record { name = name; value = value.Null }) [] (record { name = h; value = tt }) (All-nil P)

@@ -1,0 +1,232 @@
+-- An honest reply to the waiting request takes a walk a step further, or ends it lawfully.
+use Rattle.std.proofs.Common.{◌≡◌, ◌⊎◌, inl, inr, ℕ, zero, suc, ◌+◌, ◌<◌, ◌≤◌, Bool, true, false, cond, List, [], ◌∷◌, ◌++◌, length, refl, sym, ◌∙◌, ap, subst, arith, append_assoc, append-nil, length-append, pos, ℤ, Some, None}
+use Rattle.std.proofs.lemmas.Bool.{ltb-true, le-ltb, lt-ltb, or_from, and_from, and_parts, eqb-true, eqb-false, cases_Bool, ltb-false, eq-eqb, ne_eqb}
+use Rattle.std.proofs.lemmas.Cmp.{int_eq_equiv}
+use Rattle.std.specs.Prelude.{nat_lt, ◌==◌, ◌&&◌, ◌||◌, not}
+use Rattle.std.specs.Bool.{nat_eq}
+use Rattle.std.specs.List.{list_any}
+use Rattle.std.specs.Cmp.Lexicographic.{pointwise, nat_list_eq_equiv}
+use Rattle.snmp_wire.specs.declared.kind.Kind.{Kind}
+use Rattle.snmp_wire.specs.declared.kind.Kind.TheVariants as kind
+use Rattle.snmp_wire.specs.Message.{VarBind, Message}
+use Rattle.snmp_walk.specs.declared.mode.Mode.{Mode}
+use Rattle.snmp_walk.specs.declared.mode.Mode.TheVariants as mode
+use Rattle.snmp_walk.specs.declared.phase.Phase.{Phase}
+use Rattle.snmp_walk.specs.declared.phase.Phase.TheVariants as phase
+use Rattle.snmp_walk.specs.declared.end.WalkEnd.{WalkEnd}
+use Rattle.snmp_walk.specs.declared.end.WalkEnd.TheVariants as ending
+use Rattle.snmp_walk.specs.declared.rows.Step.{Step}
+use Rattle.snmp_walk.specs.declared.rows.Step.TheVariants as step
+use Rattle.snmp_walk.specs.Names.{is_inside, is_end, is_missing}
+use Rattle.snmp_walk.specs.Trail.{last_name, IsTrail, IsAtEnd, AreAnswers}
+use Rattle.snmp_walk.specs.Walker.{Walker}
+use Rattle.std.specs.Ordering.{int_eq}
+use Rattle.snmp_walk.specs.Taken.{is_over, is_response, is_awaited, is_plain, inside_front, rising_front, asked_for, stops, goes_on, closes, reads, reads_next, got, if_present, reads_first, reads_last, reads_for, reads_reply, take_of}
+use Rattle.snmp_walk.specs.Standing.{IsChain, IsLarge, IsGetContent, IsNextContent, IsContent, IsReplyTo, IsOpening, IsGiven, IsAlone, IsPart, IsWhole, IsStage, IsRefused, Stands, Ends, Advances}
+use Rattle.snmp_walk.proofs.TrailLemmas.{last_name-append, trail-append, IsFront, chain_front, chain_has_values}
+
+module _ (Next Got : List ℕ → VarBind → Type 0) (Large : VarBind → Type 0) (laws : AreAnswers Next Got) (first : Walker) where
+  -- a step as a pair
+  abbrev pub Goes : Walker → List VarBind → Step × Walker → Type 0
+  Goes old given s = Advances Next Got Large first old given s.0 s.1
+
+  pub part_of_stage : (given : List VarBind) (o : List ℕ) (p : Phase) → IsStage Next Got first given o p → IsPart Next Got first given
+  part_of_stage given o phase.First h = inl h.0
+  part_of_stage given o phase.Rows h = inr (inl (o, h))
+  part_of_stage given o phase.Last h = inl h.0
+  part_of_stage given o phase.Over h = absurd h
+
+  -- the walk goes on, or has no id left
+  pub goes : (given more : List VarBind) (w : Walker) (next : Phase) (s : Bool) → s ≡ nat_lt w.id 2147483647
+      → Stands Next Got first w given → IsStage Next Got first (given ++ more) (last_name w.asked more) next
+      → Goes w given (cond s (step.Rows more, record w { phase = next; asked = last_name w.asked more; id = w.id + 1; count = w.count + length more }) (stops w more ending.TooManyRequests))
+  goes given more w next true e h stage = record {
+    same = ap (λ (v : Walker). record v { phase = next; asked = last_name w.asked more; id = w.id + 1; count = w.count + length more }) h.same;
+    count = omega (arith, h.count, length-append given more);
+    stage = stage;
+  }
+  goes given more w next false e h stage = (part_of_stage (given ++ more) (last_name w.asked more) next stage, ltb-false _ _ (sym e))
+
+  -- the end of a walk after the instances below the root
+  whole : (given more : List VarBind) (w : Walker) (o : List ℕ) → w.count ≡ length given → IsGiven Next Got first (given ++ more) o → IsAtEnd Next first.root o
+      → (first.mode ≡ mode.Plain → given ++ more ≡ [] → ⊥) → Goes w given (stops w more (ending.Done (w.count + length more)))
+  whole given more w o count h end some = (inr (inl (o, h)), (omega (arith, count, length-append given more), inl (o, h, end, some)))
+
+  append_none : (xs ys : List VarBind) → xs ++ ys ≡ [] → (xs ≡ []) × (ys ≡ [])
+  append_none [] ys e = (refl, e)
+  append_none (x ∷ xs) ys e = absurd (let no : ⊥ = cc in no)
+
+  none_asked : (given : List VarBind) (o : List ℕ) → given ≡ [] → IsGiven Next Got first given o → o ≡ first.asked
+  none_asked given o none h = h.last ∙ ap (last_name first.asked) (append_none h.front h.trail (sym h.parts ∙ none)).1
+
+  plain_from : (m : Mode) → is_plain m ≡ true → m ≡ mode.Plain
+  plain_from mode.Plain e = refl
+  plain_from mode.Include e = let no : ⊥ = cc in absurd no
+  plain_from mode.NoLast e = let no : ⊥ = cc in absurd no
+
+  plain_to : (m : Mode) → m ≡ mode.Plain → is_plain m ≡ true
+  plain_to m e = ap is_plain e
+
+  mode_is : (w : Walker) (given : List VarBind) → Stands Next Got first w given → w.mode ≡ first.mode
+  mode_is w given h = ap (λ (v : Walker). v.mode) h.same
+
+  pub root_is : (w : Walker) (given : List VarBind) → Stands Next Got first w given → w.root ≡ first.root
+  root_is w given h = ap (λ (v : Walker). v.root) h.same
+
+  no_length : (xs : List VarBind) → length xs ≡ 0 → xs ≡ []
+  no_length [] e = refl
+  no_length (x ∷ xs) e = absurd (omega (arith, e))
+
+  -- nothing more stands below the root
+  pub closed : (given more : List VarBind) (w : Walker) (o : List ℕ) (b : Bool) → b ≡ (is_plain w.mode && (w.count + length more == 0))
+      → Stands Next Got first w given → IsGiven Next Got first given w.asked → IsGiven Next Got first (given ++ more) o → IsAtEnd Next first.root o
+      → Goes w given (cond b (goes_on w phase.Last []) (stops w more (ending.Done (w.count + length more))))
+  closed given more w o true e h before h' end =
+      let parts = and_parts (is_plain w.mode) (w.count + length more == 0) (sym e) in
+      let none : w.count + length more ≡ 0 = eqb-true _ _ parts.1 in
+      let no_given : given ≡ [] = no_length given (omega (arith, none, h.count)) in
+      let no_more : more ≡ [] = no_length more (omega (arith, none)) in
+      let asked : w.asked ≡ first.asked = none_asked given w.asked no_given before in
+      let at : o ≡ first.asked = none_asked (given ++ more) o (ap (λ (s : List VarBind). s ++ more) no_given ∙ no_more) h' in
+      goes given [] w phase.Last _ refl h
+      (append-nil given ∙ no_given, asked, sym (mode_is w given h) ∙ plain_from w.mode parts.0, subst (IsAtEnd Next first.root) at end)
+  closed given more w o false e h before h' end =
+      whole given more w o h.count h' end (λ plain none.
+      let empty = append_none given more none in
+      let zero_count : w.count + length more ≡ 0 = omega (arith, h.count, ap length empty.0, ap length empty.1) in
+      let yes_both : (is_plain w.mode && (w.count + length more == 0)) ≡ true = and_from _ _ (plain_to w.mode (mode_is w given h ∙ plain)) (eq-eqb _ _ zero_count) in
+      let no : ⊥ = cc in no)
+
+  -- more of the trail
+  pub given_more : (given rows : List VarBind) (o : List ℕ) → IsGiven Next Got first given o → IsTrail Next first.root o rows
+      → IsGiven Next Got first (given ++ rows) (last_name o rows)
+  given_more given rows o h more = record {
+    front = h.front;
+    trail = h.trail ++ rows;
+    opening = h.opening;
+    parts = ap (λ (s : List VarBind). s ++ rows) h.parts ∙ append_assoc h.front h.trail rows;
+    is_trail = trail-append Next first.root first.asked h.trail rows h.is_trail (subst (λ (n : List ℕ). IsTrail Next first.root n rows) h.last more);
+    last = ap (λ (n : List ℕ). last_name n rows) h.last ∙ sym (last_name-append first.asked h.trail rows);
+  }
+
+  -- a chain of answers
+  reads_chain : (given bindings inside rows : List VarBind) (w : Walker) (b : Bool) → b ≡ nat_lt (length rows) (length bindings)
+      → Stands Next Got first w given → IsGiven Next Got first given w.asked → IsFront Next first.root w.asked bindings inside rows
+      → Goes w given (cond b (closes w rows) (goes_on w phase.Rows rows))
+  reads_chain given bindings inside rows w true e h before front =
+      let trail = subst (IsTrail Next first.root w.asked) (sym front.rising) front.is_trail in
+      let fewer : length inside < length bindings = omega (arith, ltb-true-of e, ap length front.rising) in
+      let end = subst (λ (s : List VarBind). IsAtEnd Next first.root (last_name w.asked s)) (sym front.rising) (front.leaves fewer) in
+      closed given rows w (last_name w.asked rows) _ refl h before (given_more given rows w.asked before trail) end
+    where
+      ltb-true-of : true ≡ nat_lt (length rows) (length bindings) → length rows < length bindings
+      ltb-true-of q = ltb-true (length rows) (length bindings) (sym q)
+  reads_chain given bindings inside rows w false e h before front =
+      let trail = subst (IsTrail Next first.root w.asked) (sym front.rising) front.is_trail in
+      goes given rows w phase.Rows _ refl h (given_more given rows w.asked before trail)
+
+  reads_front : (given bindings inside rows : List VarBind) (w : Walker)
+      → Stands Next Got first w given → IsGiven Next Got first given w.asked → IsFront Next first.root w.asked bindings inside rows
+      → (unsorted : Step × Walker)
+      → Goes w given (cond (nat_lt (length rows) (length inside)) unsorted (cond (nat_lt (length rows) (length bindings)) (closes w rows) (goes_on w phase.Rows rows)))
+  reads_front given bindings inside rows w h before front unsorted =
+      rw (le-ltb (length rows) (length inside) (omega (arith, ap length front.rising))) (reads_chain given bindings inside rows w _ refl h before front)
+
+  -- a reply with the next instances
+  reads_instances : (given bindings : List VarBind) (w : Walker) → w.phase ≡ phase.Rows → Stands Next Got first w given → IsGiven Next Got first given w.asked
+      → IsChain Next w.asked bindings → length bindings ≤ asked_for w.method → (bindings ≡ [] → IsLarge Next Large w.asked)
+      → Goes w given (reads_next w bindings)
+  reads_instances given [] w waits h before chain few large =
+      (inr (inl (w.asked, subst (λ (s : List VarBind). IsGiven Next Got first s w.asked) (sym (append-nil given)) before)), (waits, refl, large refl))
+  reads_instances given (b ∷ more) w waits h before chain few large =
+      let fine : (nat_lt (asked_for w.method) (length (b ∷ more)) || list_any (λ p. is_missing p.value) (b ∷ more)) ≡ false =
+      or_from _ _ (le-ltb _ _ few) (chain_has_values Next Got laws first.root w.asked (b ∷ more) chain) in
+      let front = chain_front Next Got laws w.root w.asked (b ∷ more) chain in
+      rw fine (reads_front given (b ∷ more) (inside_front w.root (b ∷ more)) (rising_front w.asked (inside_front w.root (b ∷ more))) w h before
+      (subst (λ (r : List ℕ). IsFront Next r w.asked (b ∷ more) (inside_front w.root (b ∷ more)) (rising_front w.asked (inside_front w.root (b ∷ more)))) (root_is w given h) front) _)
+
+  -- the binding of a Get's reply
+  got_is : (o : List ℕ) (p : VarBind) → Got o p → got o (p ∷ []) ≡ Some p
+  got_is o p h =
+      let name : pointwise nat_eq p.name o ≡ true = ap (λ (n : List ℕ). pointwise nat_eq n o) (laws.same_name o p h) ∙ nat_list_eq_equiv.refl o in
+      rw (name, laws.is_answer o p h)
+
+  present_name : (o : List ℕ) (p : VarBind) (b : Bool) → p.name ≡ o → last_name o (cond b [] (p ∷ [])) ≡ o
+  present_name o p true e = refl
+  present_name o p false e = e
+
+  pub include_opening : (m : Mode) (o : List ℕ) (p : VarBind) → m ≡ mode.Include → Got o p → IsOpening Got m o (if_present p)
+  include_opening m o p e h = let P : Mode → Type 0 = λ n. IsOpening Got n o (if_present p) in subst P (sym e) (p, h, refl)
+
+  -- the reply to the Get with which a walk begins
+  pub reads_root : (given : List VarBind) (w : Walker) (p : VarBind) → Stands Next Got first w given → IsStage Next Got first given w.asked phase.First
+      → Got w.asked p → Goes w given (reads_first w (Some p))
+  reads_root given w p h stage answer =
+      let at : Got first.asked p = subst (λ (o : List ℕ). Got o p) stage.1 answer in
+      let name : last_name w.asked (if_present p) ≡ w.asked = present_name w.asked p (is_missing p.value) (laws.same_name w.asked p answer) in
+      goes given (if_present p) w phase.Rows _ refl h record {
+        front = if_present p;
+        trail = [];
+        parts = ap (λ (s : List VarBind). s ++ if_present p) stage.0 ∙ sym (append-nil (if_present p));
+        opening = include_opening first.mode first.asked p stage.2 at;
+        is_trail = tt;
+        last = name ∙ stage.1;
+      }
+
+  -- the reply to the Get with which a walk ends that gave nothing
+  pub reads_alone : (given : List VarBind) (w : Walker) (p : VarBind) → Stands Next Got first w given → IsStage Next Got first given w.asked phase.Last
+      → Got w.asked p → Goes w given (reads_last w (Some p))
+  reads_alone given w p h stage answer =
+      let alone : IsAlone Next Got first (given ++ p ∷ []) = record {
+        plain = stage.2;
+        none = stage.3;
+        answer = p;
+        is_answer = subst (λ (o : List ℕ). Got o p) stage.1 answer;
+        only = ap (λ (s : List VarBind). s ++ p ∷ []) stage.0;
+      } in
+      (inr (inr alone), (omega (arith, h.count, length-append given (p ∷ [])), inr alone))
+
+  -- tooBig
+  refused : (given : List VarBind) (w : Walker) (m : Message) (p : Phase) → w.phase ≡ p → Stands Next Got first w given → IsStage Next Got first given w.asked p
+      → m.a ≡ pos 1 → m.b ≡ pos 0 → IsRefused Next Got Large p w.asked → (answered : Step × Walker)
+      → Goes w given (cond (int_eq m.a (pos 0)) answered (stops w [] (ending.Fault m.a m.b)))
+  refused given w m p waits h stage status index large answered =
+      let no_zero : int_eq m.a (pos 0) ≡ false = ap (λ (n : ℤ). int_eq n (pos 0)) status in
+      let part = subst (IsPart Next Got first) (sym (append-nil given)) (part_of_stage given w.asked p stage) in
+      let why : IsRefused Next Got Large w.phase w.asked = subst (λ (q : Phase). IsRefused Next Got Large q w.asked) (sym waits) large in
+      rw no_zero (part, (status, index, why))
+
+  fine : (given : List VarBind) (w : Walker) (m : Message) (answered stopped : Step × Walker) → m.a ≡ pos 0 → Goes w given answered
+      → Goes w given (cond (int_eq m.a (pos 0)) answered stopped)
+  fine given w m answered stopped status h = let zero_status : int_eq m.a (pos 0) ≡ true = ap (λ (n : ℤ). int_eq n (pos 0)) status in rw zero_status h
+
+  reads_content : (given : List VarBind) (w : Walker) (m : Message) (p : Phase) → w.phase ≡ p → Stands Next Got first w given → IsStage Next Got first given w.asked p
+      → IsContent Next Got Large p w m → Goes w given (cond (int_eq m.a (pos 0)) (reads_for p w m.bindings) (stops w [] (ending.Fault m.a m.b)))
+  reads_content given w m phase.First waits h stage (inl c) =
+      fine given w m _ _ c.0 (rw (c.1.2, got_is w.asked c.1.0 c.1.1) (reads_root given w c.1.0 h stage c.1.1))
+  reads_content given w m phase.First waits h stage (inr c) = refused given w m phase.First waits h stage c.0 c.1 c.2 _
+  reads_content given w m phase.Rows waits h stage (inl c) = fine given w m _ _ c.0 (reads_instances given m.bindings w waits h stage c.1 c.2 c.3)
+  reads_content given w m phase.Rows waits h stage (inr c) = refused given w m phase.Rows waits h stage c.0 c.1 c.2 _
+  reads_content given w m phase.Last waits h stage (inl c) =
+      fine given w m _ _ c.0 (rw (c.1.2, got_is w.asked c.1.0 c.1.1) (reads_alone given w c.1.0 h stage c.1.1))
+  reads_content given w m phase.Last waits h stage (inr c) = refused given w m phase.Last waits h stage c.0 c.1 c.2 _
+  reads_content given w m phase.Over waits h stage c = absurd c
+
+  waiting : (given : List VarBind) (o : List ℕ) (p : Phase) → IsStage Next Got first given o p → not (is_over p) ≡ true
+  waiting given o phase.First h = refl
+  waiting given o phase.Rows h = refl
+  waiting given o phase.Last h = refl
+  waiting given o phase.Over h = absurd h
+
+  awaited : (given : List VarBind) (w : Walker) (m : Message) → Stands Next Got first w given → IsReplyTo Next Got Large w m → is_awaited w m ≡ true
+  awaited given w m h r =
+      let version : int_eq m.version (pos 1) ≡ true = ap (λ (n : ℤ). int_eq n (pos 1)) r.version in
+      let community : pointwise nat_eq m.community w.community ≡ true = ap (λ (c : List ℕ). pointwise nat_eq c w.community) r.community ∙ nat_list_eq_equiv.refl w.community in
+      let response : is_response m.kind ≡ true = ap is_response r.kind in
+      let id : int_eq m.id (pos w.id) ≡ true = ap (λ (n : ℤ). int_eq n (pos w.id)) r.id ∙ int_eq_equiv.refl (pos w.id) in
+      and_from _ _ (and_from _ _ (and_from _ _ (and_from _ _ (waiting given w.asked w.phase h.stage) version) community) response) id
+
+  -- an honest reply to the waiting request
+  pub taken : (given : List VarBind) (w : Walker) (m : Message) → Stands Next Got first w given → IsReplyTo Next Got Large w m
+      → Advances Next Got Large first w given (take_of w m).0 (take_of w m).1
+  taken given w m h r = rw (awaited given w m h r) (reads_content given w m w.phase refl h h.stage r.content)

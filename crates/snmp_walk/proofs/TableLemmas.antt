@@ -1,0 +1,217 @@
+-- With one table that doesn't change, a trail is a beginning of the rows below the root, and one that is at its end is all of them.
+use Rattle.std.proofs.Common.{◌≡◌, ◌⊎◌, inl, inr, ℕ, ◌+◌, ◌<◌, ◌≤◌, Bool, true, false, cond, List, [], ◌∷◌, ◌++◌, length, refl, sym, ◌∙◌, ap, subst, arith, append-nil, append_assoc}
+use Rattle.std.proofs.lemmas.Bool.{and_parts, false≢true}
+use Rattle.std.specs.Prelude.{not, ◌&&◌, filter}
+use Rattle.snmp_oid.specs.Identifier.{wire}
+use Rattle.snmp_wire.specs.Message.{Datum, VarBind, end_of_mib_view}
+use Rattle.snmp_walk.specs.declared.mode.Mode.{Mode}
+use Rattle.snmp_walk.specs.declared.mode.Mode.TheVariants as mode
+use Rattle.snmp_walk.specs.Names.{is_below, is_inside, is_end, is_missing, comes_after}
+use Rattle.snmp_walk.specs.Walk.{rows_below, rows_after, rows_named, or_only, walk_of, rest_of, AreAfter, AreRising, AreInstances, or_end, walk_from}
+use Rattle.snmp_walk.specs.Trail.{last_name, IsTrail, IsAtEnd}
+use Rattle.snmp_walk.specs.Taken.{if_present}
+use Rattle.snmp_walk.specs.Walker.{Walker}
+use Rattle.snmp_walk.specs.Standing.{IsOpening, IsGiven, IsAlone, IsPart, IsWhole, IsOneTable}
+use Rattle.snmp_walk.proofs.OrderLemmas.{after-irrefl, not_after, after-trans, outside_after, below_after_wire, wire_begins}
+use Rattle.snmp_walk.proofs.NameLemmas.{below_from_test}
+
+-- two filters in either order
+filter_both : (p q : VarBind → Bool) (x : VarBind) (xs ys : List VarBind) (b c : Bool) → b ≡ p x → c ≡ q x → filter p xs ≡ filter q ys
+    → filter p (cond c (x ∷ xs) xs) ≡ filter q (cond b (x ∷ ys) ys)
+filter_both p q x xs ys true true e f h = rw (← e, ← f) (ap (λ (s : List VarBind). x ∷ s) h)
+filter_both p q x xs ys true false e f h = rw (← f) h
+filter_both p q x xs ys false true e f h = rw (← e) h
+filter_both p q x xs ys false false e f h = h
+
+pub filter-commute : (p q : VarBind → Bool) (xs : List VarBind) → filter p (filter q xs) ≡ filter q (filter p xs)
+filter-commute p q [] = refl
+filter-commute p q (x ∷ xs) = filter_both p q x (filter q xs) (filter p xs) (p x) (q x) refl refl (filter-commute p q xs)
+
+all_after : (o : List ℕ) (rows : List VarBind) → AreAfter o rows → rows_after o rows ≡ rows
+all_after o [] h = refl
+all_after o (r ∷ rows) h = rw h.0 (ap (λ (s : List VarBind). r ∷ s) (all_after o rows h.1))
+
+after_more : (o : List ℕ) (r : VarBind) (rows : List VarBind) → comes_after o r.name ≡ true → AreAfter r.name rows → AreAfter o rows
+after_more o r [] e h = tt
+after_more o r (q ∷ rows) e h = (after-trans o r.name q.name e h.0, after_more o r rows e h.1)
+
+-- the rows behind a name are those behind the first of them, and that first
+pub record IsFirst (rows : List VarBind) (o : List ℕ) (p : VarBind) (more : List VarBind) : Type 0 where
+  pub behind : rows_after p.name rows ≡ more
+  pub after : AreAfter p.name more
+  pub comes : comes_after o p.name ≡ true
+
+first_here : (r : VarBind) (rows : List VarBind) (o : List ℕ) → AreAfter r.name rows → comes_after o r.name ≡ true → IsFirst (r ∷ rows) o r rows
+first_here r rows o h e = record { behind = rw (after-irrefl r.name) (all_after r.name rows h); after = h; comes = e }
+
+first_later : (r : VarBind) (rows : List VarBind) (o : List ℕ) (p : VarBind) (more : List VarBind) → comes_after o r.name ≡ false → IsFirst rows o p more → IsFirst (r ∷ rows) o p more
+first_later r rows o p more e h = record { behind = rw (not_after o p.name r.name h.comes e) h.behind; after = h.after; comes = h.comes }
+
+first_by : (r : VarBind) (rows : List VarBind) (o : List ℕ) (p : VarBind) (more : List VarBind) (b : Bool) → comes_after o r.name ≡ b → AreAfter r.name rows
+    → cond b (r ∷ rows_after o rows) (rows_after o rows) ≡ p ∷ more → (rows_after o rows ≡ p ∷ more → IsFirst rows o p more) → IsFirst (r ∷ rows) o p more
+first_by r rows o p more true e h same later =
+    let first : r ≡ p = cc in
+    let all : rows_after o rows ≡ rows = all_after o rows (after_more o r rows e h) in
+    let rest : rows ≡ more = cc in
+    subst (λ (s : List VarBind). IsFirst (r ∷ rows) o p s) rest (subst (λ (q : VarBind). IsFirst (r ∷ rows) o q rows) first (first_here r rows o h e))
+first_by r rows o p more false e h same later = first_later r rows o p more e (later same)
+
+pub first_of_rows : (rows : List VarBind) (o : List ℕ) (p : VarBind) (more : List VarBind) → AreRising rows → rows_after o rows ≡ p ∷ more → IsFirst rows o p more
+first_of_rows [] o p more h e = let no : ⊥ = cc in absurd no
+first_of_rows (r ∷ rows) o p more h e = first_by r rows o p more (comes_after o r.name) refl h.0 e (first_of_rows rows o p more h.1)
+
+-- none of these is below the root
+none_below : (root s : List ℕ) (p : VarBind) (more : List VarBind) → comes_after (root ++ s) p.name ≡ true → is_below root p.name ≡ false → AreAfter p.name more → rows_below root more ≡ []
+none_below root s p [] c out h = refl
+none_below root s p (q ∷ more) c out h = rw (outside_after root s p.name q.name c out h.0) (none_below root s p more c out h.1)
+
+value_by : (r : VarBind) (rows : List VarBind) (o : List ℕ) (p : VarBind) (more : List VarBind) (b : Bool) → is_end r.value ≡ false
+    → cond b (r ∷ rows_after o rows) (rows_after o rows) ≡ p ∷ more → (rows_after o rows ≡ p ∷ more → is_end p.value ≡ false) → is_end p.value ≡ false
+value_by r rows o p more true v e later = let first : r ≡ p = cc in subst (λ (q : VarBind). is_end q.value ≡ false) first v
+value_by r rows o p more false v e later = later e
+
+-- the first row behind a name has a value
+first_value : (rows : List VarBind) (o : List ℕ) (p : VarBind) (more : List VarBind) → AreInstances rows → rows_after o rows ≡ p ∷ more → is_end p.value ≡ false
+first_value [] o p more h e = let no : ⊥ = cc in absurd no
+first_value (r ∷ rows) o p more h e = value_by r rows o p more (comes_after o r.name) h.1 e (first_value rows o p more h.3)
+
+module _ (rows : List VarBind) (rising : AreRising rows) (instances : AreInstances rows) (root : List ℕ) where
+  outside_parts : (p : VarBind) → is_end p.value ≡ false → is_inside root p ≡ false → is_below root p.name ≡ false
+  outside_parts p v h = let e : (not (is_end p.value) && is_below root p.name) ≡ is_below root p.name = ap (λ (b : Bool). not b && is_below root p.name) v in sym e ∙ h
+
+  -- an answer below the root is the next row of the rest
+  pub rest_next : (o : List ℕ) (p : VarBind) (behind : List VarBind) → behind ≡ rows_after o rows → p ≡ or_end o behind → is_inside root p ≡ true
+      → rest_of root o rows ≡ p ∷ rest_of root p.name rows
+  rest_next o p [] e is inside = let out : is_inside root p ≡ false = ap (is_inside root) is in absurd (false≢true (sym out ∙ inside))
+  rest_next o p (q ∷ more) e is inside =
+      let first = first_of_rows rows o q more rising (sym e) in
+      let here : rows_after p.name rows ≡ more = ap (λ (r : VarBind). rows_after r.name rows) is ∙ first.behind in
+      let below : is_below root p.name ≡ true = (and_parts (not (is_end p.value)) (is_below root p.name) inside).1 in
+      filter-commute (λ row. comes_after o row.name) (λ row. is_below root row.name) rows
+      ∙ ap (rows_below root) (sym e ∙ ap (λ (r : VarBind). r ∷ more) (sym is))
+      ∙ rw below (ap (λ (s : List VarBind). p ∷ s) (ap (rows_below root) (sym here) ∙ sym (filter-commute (λ row. comes_after p.name row.name) (λ row. is_below root row.name) rows)))
+
+  -- an answer that isn't below the root has no row below it behind it
+  pub rest_ends : (o s : List ℕ) (p : VarBind) (behind : List VarBind) → o ≡ root ++ s → behind ≡ rows_after o rows → p ≡ or_end o behind → is_inside root p ≡ false
+      → rest_of root o rows ≡ []
+  rest_ends o s p [] at e is out = filter-commute (λ row. comes_after o row.name) (λ row. is_below root row.name) rows ∙ ap (rows_below root) (sym e)
+  rest_ends o s p (q ∷ more) at e is out =
+      let first = first_of_rows rows o q more rising (sym e) in
+      let value = first_value rows o q more instances (sym e) in
+      let out_q : is_below root q.name ≡ false = outside_parts q value (ap (is_inside root) (sym is) ∙ out) in
+      let comes : comes_after (root ++ s) q.name ≡ true = ap (λ (n : List ℕ). comes_after n q.name) (sym at) ∙ first.comes in
+      filter-commute (λ row. comes_after o row.name) (λ row. is_below root row.name) rows ∙ ap (rows_below root) (sym e)
+      ∙ rw out_q (none_below root s q more comes out_q first.after)
+
+-- what only holds of a mode
+include≢plain : mode.Include ≡ mode.Plain → ⊥
+include≢plain e = cc
+
+nolast≢plain : mode.NoLast ≡ mode.Plain → ⊥
+nolast≢plain e = cc
+
+-- a front of the rows is a front of what a plain walk gives
+or_only_front : (got : VarBind) (xs ys : List VarBind) → (more : List VarBind) × (or_only got (xs ++ ys) ≡ xs ++ more)
+or_only_front got [] ys = (or_only got ys, refl)
+or_only_front got (x ∷ xs) ys = (ys, refl)
+
+or_only_some : (got : VarBind) (xs : List VarBind) → (xs ≡ [] → ⊥) → or_only got xs ≡ xs
+or_only_some got [] some = absurd (some refl)
+or_only_some got (x ∷ xs) some = refl
+
+module _ (rows : List VarBind) (got : VarBind) (Next Got : List ℕ → VarBind → Type 0) (first : Walker) (table : IsOneTable rows got Next Got first)
+    (s : List ℕ) (begins : first.asked ≡ first.root ++ s) where
+  -- a trail is a front of the rest
+  trail_rest : (o : List ℕ) (trail : List VarBind) → IsTrail Next first.root o trail
+      → rest_of first.root o rows ≡ trail ++ rest_of first.root (last_name o trail) rows
+  trail_rest o [] h = refl
+  trail_rest o (p ∷ trail) h =
+      rest_next rows table.rising table.instances first.root o p (rows_after o rows) refl (table.next o p h.0) h.1
+      ∙ ap (λ (t : List VarBind). p ∷ t) (trail_rest p.name trail h.2)
+
+  -- each name of a trail begins with the root
+  trail_begins : (o t : List ℕ) (trail : List VarBind) → o ≡ first.root ++ t → IsTrail Next first.root o trail
+      → (u : List ℕ) × (last_name o trail ≡ first.root ++ u)
+  trail_begins o t [] at h = (t, at)
+  trail_begins o t (p ∷ trail) at h =
+      let below = below_from_test first.root p.name (and_parts (not (is_end p.value)) (is_below first.root p.name) h.1).1 in
+      trail_begins p.name below.0 trail below.2 h.2
+
+  -- a trail that is at its end is the rest
+  trail_ends : (trail : List VarBind) → IsTrail Next first.root first.asked trail → IsAtEnd Next first.root (last_name first.asked trail)
+      → rest_of first.root first.asked rows ≡ trail
+  trail_ends trail h end =
+      let at = trail_begins first.asked s trail begins h in
+      let none = rest_ends rows table.rising table.instances first.root (last_name first.asked trail) at.0 end.0 (rows_after (last_name first.asked trail) rows) at.1 refl (table.next _ _ end.1) end.2 in
+      trail_rest first.asked trail h ∙ ap (λ (t : List VarBind). trail ++ t) none ∙ append-nil trail
+
+  abbrev All : List VarBind
+  All = walk_from first.mode first.root first.asked got rows
+
+  abbrev Of : Mode → List VarBind
+  Of m = walk_from m first.root first.asked got rows
+
+  row_of : (p : VarBind) → Got first.asked p → if_present p ≡ rows_named first.asked rows
+  row_of p h = ap if_present (table.answer p h) ∙ table.row
+
+  part_given : (m : Mode) (front trail : List VarBind) → IsOpening Got m first.asked front → IsTrail Next first.root first.asked trail
+      → (more : List VarBind) × (Of m ≡ (front ++ trail) ++ more)
+  part_given mode.Plain front trail opening h =
+      let more = or_only_front got trail (rest_of first.root (last_name first.asked trail) rows) in
+      (more.0, ap (or_only got) (trail_rest first.asked trail h) ∙ more.1 ∙ ap (λ (f : List VarBind). (f ++ trail) ++ more.0) (sym opening))
+  part_given mode.Include front trail opening h =
+      let rest = rest_of first.root (last_name first.asked trail) rows in (
+        rest,
+        ap (λ (f : List VarBind). f ++ rest_of first.root first.asked rows) (sym (row_of opening.0 opening.1) ∙ sym opening.2)
+            ∙ ap (λ (t : List VarBind). front ++ t) (trail_rest first.asked trail h) ∙ sym (append_assoc front trail rest),
+      )
+  part_given mode.NoLast front trail opening h =
+      let rest = rest_of first.root (last_name first.asked trail) rows in
+      (rest, trail_rest first.asked trail h ∙ ap (λ (f : List VarBind). (f ++ trail) ++ rest) (sym opening))
+
+  alone_whole : (given : List VarBind) → IsAlone Next Got first given → All ≡ given
+  alone_whole given h =
+      ap (λ (m : Mode). Of m) h.plain ∙ ap (or_only got) (trail_ends [] tt h.none) ∙ ap (λ (p : VarBind). p ∷ []) (sym (table.answer h.answer h.is_answer)) ∙ sym h.only
+
+  whole_given : (m : Mode) (front trail : List VarBind) → IsOpening Got m first.asked front → IsTrail Next first.root first.asked trail
+      → IsAtEnd Next first.root (last_name first.asked trail) → (m ≡ mode.Plain → front ++ trail ≡ [] → ⊥) → Of m ≡ front ++ trail
+  whole_given mode.Plain front trail opening h end some =
+      let same : front ++ trail ≡ trail = ap (λ (f : List VarBind). f ++ trail) opening in
+      ap (or_only got) (trail_ends trail h end) ∙ or_only_some got trail (λ none. some refl (same ∙ none)) ∙ sym same
+  whole_given mode.Include front trail opening h end some =
+      ap (λ (f : List VarBind). f ++ rest_of first.root first.asked rows) (sym (row_of opening.0 opening.1) ∙ sym opening.2)
+      ∙ ap (λ (t : List VarBind). front ++ t) (trail_ends trail h end)
+  whole_given mode.NoLast front trail opening h end some =
+      trail_ends trail h end ∙ ap (λ (f : List VarBind). f ++ trail) (sym opening)
+
+  -- what was given is a beginning of the walk
+  pub part_is : (given : List VarBind) → IsPart Next Got first given → (more : List VarBind) × (walk_from first.mode first.root first.asked got rows ≡ given ++ more)
+  part_is given (inl none) = (All, ap (λ (g : List VarBind). g ++ All) (sym none))
+  part_is given (inr (inl h)) =
+      let part = part_given first.mode h.1.front h.1.trail h.1.opening h.1.is_trail in
+      (part.0, part.1 ∙ ap (λ (g : List VarBind). g ++ part.0) (sym h.1.parts))
+  part_is given (inr (inr h)) = ([], alone_whole given h ∙ sym (append-nil given))
+
+  -- at its end it is the walk
+  pub whole_is : (given : List VarBind) → IsWhole Next Got first given → given ≡ walk_from first.mode first.root first.asked got rows
+  whole_is given (inl h) =
+      let g = h.1 in
+      let end = subst (IsAtEnd Next first.root) g.last h.2 in
+      g.parts ∙ sym (whole_given first.mode g.front g.trail g.opening g.is_trail end (λ plain none. h.3 plain (g.parts ∙ none)))
+  whole_is given (inr h) = sym (alone_whole given h)
+
+-- behind the root as it is sent stand all instances below it
+wire_first : (root : List ℕ) (r : VarBind) (rows : List VarBind) (b : Bool) → is_below root r.name ≡ b → 3 ≤ length r.name → rest_of root (wire root) rows ≡ rows_below root rows
+    → rows_after (wire root) (cond b (r ∷ rows_below root rows) (rows_below root rows)) ≡ cond b (r ∷ rows_below root rows) (rows_below root rows)
+wire_first root r rows true e long h = rw (below_after_wire root r.name long e) (ap (λ (t : List VarBind). r ∷ t) h)
+wire_first root r rows false e long h = h
+
+pub rest_from_wire : (root : List ℕ) (rows : List VarBind) → AreInstances rows → rest_of root (wire root) rows ≡ rows_below root rows
+rest_from_wire root [] h = refl
+rest_from_wire root (r ∷ rows) h = wire_first root r rows (is_below root r.name) refl h.0 (rest_from_wire root rows h.3)
+
+-- a walk that isn't resumed
+pub walk_from_wire : (m : Mode) (root : List ℕ) (got : VarBind) (rows : List VarBind) → AreInstances rows → walk_from m root (wire root) got rows ≡ walk_of m root got rows
+walk_from_wire mode.Plain root got rows h = ap (or_only got) (rest_from_wire root rows h)
+walk_from_wire mode.Include root got rows h = ap (λ (t : List VarBind). rows_named (wire root) rows ++ t) (rest_from_wire root rows h)
+walk_from_wire mode.NoLast root got rows h = rest_from_wire root rows h

@@ -1,0 +1,89 @@
+-- What tables answer rises, and is what agents answer.
+use Rattle.std.proofs.Common.{◌≡◌, ◌⊎◌, inl, inr, ℕ, ◌<◌, Bool, true, false, List, [], ◌∷◌, ◌++◌, refl, sym, ◌∙◌, ap, subst}
+use Rattle.std.proofs.lemmas.Bool.{false≢true}
+use Rattle.std.specs.Ordering.{nat_cmp, is_lt, ordering_then}
+use Rattle.std.specs.Cmp.{nat_cmp_is}
+use Rattle.std.specs.Cmp.Lexicographic.{slice_cmp}
+use Rattle.std.specs.declared.cmp.Ordering.{Ordering}
+use Rattle.std.specs.declared.cmp.Ordering.TheVariants.{Less, Equal, Greater}
+use Rattle.snmp_oid.specs.Identifier.{IsBelow, PartsBelow, Precedes}
+use Rattle.snmp_wire.specs.Message.{Datum, VarBind, integer_value, octet_string, null_value, object_id, ip_address, counter32, gauge32, time_ticks, opaque_octets, counter64, no_such_object, no_such_instance, end_of_mib_view}
+use Rattle.snmp_table.specs.Table.{MibView, IsRow, IsInstanceValue, IsMibView, IsGet, variable, unknown_object, unknown_instance, IsSuccessor, IsNext, successor, end_of_view}
+use Rattle.snmp_walk.specs.Names.{is_end, is_missing, comes_after}
+use Rattle.snmp_walk.specs.Trail.{AreAnswers}
+use Rattle.snmp_walk.specs.Link.{Agents, OneOf, next_of, got_of, AreViews}
+use Rattle.snmp_walk.proofs.OrderLemmas.{less_longer, same_first}
+
+less_parts : (front : List ℕ) (n m : ℕ) (after behind : List ℕ) → n < m → slice_cmp nat_cmp (front ++ n ∷ after) (front ++ m ∷ behind) ≡ Less
+less_parts [] n m after behind h =
+    let first : Less ≡ nat_cmp n m = nat_cmp_is n m Less h in
+    ap (λ (r : Ordering). ordering_then r (slice_cmp nat_cmp after behind)) (sym first)
+less_parts (k ∷ front) n m after behind h = same_first k (front ++ n ∷ after) (front ++ m ∷ behind) ∙ less_parts front n m after behind h
+
+pub less_precedes : (o p : List ℕ) → Precedes o p → slice_cmp nat_cmp o p ≡ Less
+less_precedes o p (inl h) = subst (λ (q : List ℕ). slice_cmp nat_cmp o q ≡ Less) (sym h.2) (less_longer o h.0 h.1)
+less_precedes o p (inr h) =
+    subst (λ (q : List ℕ). slice_cmp nat_cmp q p ≡ Less) (sym h.this)
+    (subst (λ (q : List ℕ). slice_cmp nat_cmp (h.front ++ h.smaller ∷ h.after) q ≡ Less) (sym h.that) (less_parts h.front h.smaller h.larger h.after h.behind h.is_smaller))
+
+pub value_no_end : (v : Datum) → IsInstanceValue v → is_end v ≡ false
+value_no_end (integer_value n) h = refl
+value_no_end (octet_string s) h = refl
+value_no_end null_value h = refl
+value_no_end (object_id o) h = refl
+value_no_end (ip_address a) h = refl
+value_no_end (counter32 n) h = refl
+value_no_end (gauge32 n) h = refl
+value_no_end (time_ticks n) h = refl
+value_no_end (opaque_octets s) h = refl
+value_no_end (counter64 n) h = refl
+value_no_end no_such_object h = refl
+value_no_end no_such_instance h = refl
+value_no_end end_of_mib_view h = absurd h
+
+pub value_no_miss : (v : Datum) → IsInstanceValue v → is_missing v ≡ false
+value_no_miss (integer_value n) h = refl
+value_no_miss (octet_string s) h = refl
+value_no_miss null_value h = refl
+value_no_miss (object_id o) h = refl
+value_no_miss (ip_address a) h = refl
+value_no_miss (counter32 n) h = refl
+value_no_miss (gauge32 n) h = refl
+value_no_miss (time_ticks n) h = refl
+value_no_miss (opaque_octets s) h = refl
+value_no_miss (counter64 n) h = refl
+value_no_miss no_such_object h = absurd h
+value_no_miss no_such_instance h = absurd h
+value_no_miss end_of_mib_view h = refl
+
+next_rises : (view : MibView) (o : List ℕ) (p : VarBind) → IsNext view o p → is_end p.value ≡ false → comes_after o p.name ≡ true
+next_rises view o p (successor s) e = ap is_lt (less_precedes o p.name s.behind)
+next_rises view o p (end_of_view none is) e =
+    let last : is_end p.value ≡ true = ap (λ (b : VarBind). is_end b.value) is in absurd (false≢true (sym e ∙ last))
+
+next_value : (view : MibView) → IsMibView view → (o : List ℕ) (p : VarBind) → IsNext view o p → is_missing p.value ≡ false
+next_value view good o p (successor s) = value_no_miss p.value (good.values p s.row)
+next_value view good o p (end_of_view none is) = ap (λ (b : VarBind). is_missing b.value) is
+
+get_name : (view : MibView) (o : List ℕ) (p : VarBind) → IsGet view o p → p.name ≡ o
+get_name view o p (variable e row) = e
+get_name view o p (unknown_object none unknown is) = ap (λ (b : VarBind). b.name) is
+get_name view o p (unknown_instance none has is) = ap (λ (b : VarBind). b.name) is
+
+get_value : (view : MibView) → IsMibView view → (o : List ℕ) (p : VarBind) → IsGet view o p → is_end p.value ≡ false
+get_value view good o p (variable e row) = value_no_end p.value (good.values p row)
+get_value view good o p (unknown_object none unknown is) = ap (λ (b : VarBind). is_end b.value) is
+get_value view good o p (unknown_instance none has is) = ap (λ (b : VarBind). is_end b.value) is
+
+view_of : (views : List MibView) → AreViews views → (view : MibView) → OneOf views view → IsMibView view
+view_of [] h view one = absurd one
+view_of (v ∷ views) h view (inl e) = subst IsMibView (sym e) h.0
+view_of (v ∷ views) h view (inr one) = view_of views h.1 view one
+
+pub views_answer : (agents : Agents) → AreViews agents.tables → AreAnswers (next_of agents) (got_of agents)
+views_answer agents h = record {
+  rises = λ o p n e. next_rises n.0 o p n.2 e;
+  is_value = λ o p n. next_value n.0 (view_of agents.tables h n.0 n.1) o p n.2;
+  same_name = λ o p n. get_name n.0 o p n.2;
+  is_answer = λ o p n. get_value n.0 (view_of agents.tables h n.0 n.1) o p n.2;
+}

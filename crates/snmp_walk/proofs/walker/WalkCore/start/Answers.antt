@@ -1,0 +1,17 @@
+use Rattle.std.proofs.Common.{◌≡◌, ◌∙◌, refl, ap, List, ℕ}
+use Rattle.snmp_table.specs.Listing.{variables}
+use Rattle.snmp_walk.specs.Walk.{walk_from}
+use Rattle.snmp_walk.proofs.JoinLemmas.{variables_are}
+use Rattle.snmp_walk.proofs.TableLemmas.{walk_from_wire}
+use Rattle.snmp_walk.proofs.OrderLemmas.{wire_begins}
+use Rattle.snmp_walk.proofs.walker.WalkCore.start.Goals as goal
+
+pub returns-clause-fresh : goal.returns-clause-fresh
+returns-clause-fresh c =
+    let h = wire_begins c.args.root in
+    record { phase = c.first_phase.ensures; count = refl; begins = (h.0, c.in-Ok.ensures.ok ∙ h.1) }
+
+pub returns-clause-walk : goal.returns-clause-walk
+returns-clause-walk c = λ view got good.
+    ap (λ (o : List ℕ). walk_from c.args.mode c.args.root o got (variables view)) c.in-Ok.ensures.ok
+    ∙ walk_from_wire c.args.mode c.args.root got (variables view) (variables_are view good)

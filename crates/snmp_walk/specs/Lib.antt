@@ -1,0 +1,12 @@
+pub mod Names
+pub mod Walk
+pub mod Trail
+pub mod Walker
+pub mod Request
+pub mod Taken
+pub mod Reading
+pub mod Standing
+pub mod Link
+pub mod Sink
+pub mod Run
+pub mod Facts

@@ -1,0 +1,72 @@
+-- What a link promises, and what may be said of the agents behind it.
+use Rattle.std.specs.Prelude.{pos, false, ◌≡◌, ℕ, ◌+◌, ◌^◌, ◌<◌, ◌≤◌, ◌⊎◌, List, [], ◌∷◌, length, take, Option, Some, None}
+use Rattle.snmp_wire.specs.declared.kind.Kind.TheVariants as kind
+use Rattle.snmp_wire.specs.Message.{VarBind, Message}
+use Rattle.snmp_wire.specs.Canon.{canon}
+use Rattle.snmp_wire.specs.Spelling.{Spells}
+use Rattle.snmp_table.specs.Table.{MibView, IsGet, IsNext, IsMibView}
+use Rattle.snmp_walk.specs.Walker.{Walker, IsWalker}
+use Rattle.snmp_walk.specs.Request.{request_of}
+use Rattle.snmp_walk.specs.Taken.{is_over}
+use Rattle.snmp_walk.specs.Standing.{IsReplyTo}
+
+-- the agents that may answer: the tables that they serve, their community, and the greatest size of their messages
+pub record Agents : Type 0 where
+  pub tables : List MibView
+  pub community : List ℕ
+  pub max_size : ℕ
+
+-- the response of one binding
+abbrev pub response : List ℕ → ℕ → VarBind → Message
+response community id p = record {
+  version = pos 1;
+  community = community;
+  kind = kind.Response;
+  id = pos id;
+  a = pos 0;
+  b = pos 0;
+  bindings = p ∷ [];
+}
+
+-- one of them
+abbrev pub OneOf : {X : Type 0} → List X → X → Type 0
+OneOf [] x = ⊥
+OneOf (y ∷ ys) x = (x ≡ y) ⊎ OneOf ys x
+
+-- what may be answered to a GetNext of the name
+abbrev pub next_of : Agents → List ℕ → VarBind → Type 0
+next_of agents o p = (view : MibView) × OneOf agents.tables view × IsNext view o p
+
+-- what may be answered to a Get of the name
+abbrev pub got_of : Agents → List ℕ → VarBind → Type 0
+got_of agents o p = (view : MibView) × OneOf agents.tables view × IsGet view o p
+
+-- No message of the agents has room for the binding, whatever its id.
+abbrev pub IsTooLarge : Agents → VarBind → Type 0
+IsTooLarge agents p = (id : ℕ) × (id < 2 ^ 31) × (agents.max_size < length (canon (response agents.community id p)))
+
+-- The count rose, or stands at its last value.
+abbrev pub Rose : ℕ → ℕ → Type 0
+Rose before now = (before < now) ⊎ (now ≡ 18446744073709551615)
+
+-- The octets may be the agents' reply to the datagram: whichever walk has it as its waiting request, they spell an honest reply to that.
+abbrev pub IsReply : Agents → List ℕ → List ℕ → Type 0
+IsReply agents request reply =
+    (w : Walker) → IsWalker w → is_over w.phase ≡ false → request ≡ canon (request_of w)
+    → (m : Message) × Spells m reply × IsReplyTo (next_of agents) (got_of agents) (IsTooLarge agents) w m
+
+-- what a receive gives, where each datagram that is sent is answered by the next receive: the reply to the latest one, or nothing where it has none
+abbrev pub Receives : Agents → Option (List ℕ) → Option ℕ → List ℕ → Type 0
+Receives agents None None octets = Unit {0}
+Receives agents None (Some n) octets = ⊥
+Receives agents (Some request) None octets = (reply : List ℕ) → IsReply agents request reply → ⊥
+Receives agents (Some request) (Some n) octets = IsReply agents request (take n octets)
+
+-- the tables are tables of agents
+abbrev pub AreViews : List MibView → Type 0
+AreViews [] = Unit {0}
+AreViews (view ∷ views) = IsMibView view × AreViews views
+
+-- The datagram that was sent last is the request that the walk waits to be answered.
+abbrev pub IsSent : Option (List ℕ) → Walker → Type 0
+IsSent latest w = latest ≡ Some (canon (request_of w))

@@ -1,0 +1,31 @@
+-- Names in a walk as tests: which stand below its root, and which come after another (RFC 3416, section 4.2.2).
+use Rattle.std.specs.Prelude.{ℕ, Bool, true, false, ◌&&◌, not, nat_lt, List, length}
+use Rattle.std.specs.List.{starts_with}
+use Rattle.std.specs.Bool.{nat_eq}
+use Rattle.std.specs.Ordering.{nat_cmp, is_lt}
+use Rattle.std.specs.Cmp.Lexicographic.{slice_cmp}
+use Rattle.snmp_wire.specs.Message.{Datum, VarBind}
+use Rattle.snmp_wire.specs.Message.Datum.{no_such_object, no_such_instance, end_of_mib_view}
+
+-- the name begins with the root and is longer
+abbrev pub is_below : List ℕ → List ℕ → Bool
+is_below root name = starts_with nat_eq name root && nat_lt (length root) (length name)
+
+-- the second name comes after the first
+abbrev pub comes_after : List ℕ → List ℕ → Bool
+comes_after o p = is_lt (slice_cmp nat_cmp o p)
+
+-- endOfMibView, in place of a value
+abbrev pub is_end : Datum → Bool
+is_end end_of_mib_view = true
+is_end _ = false
+
+-- noSuchObject or noSuchInstance, in place of a value
+abbrev pub is_missing : Datum → Bool
+is_missing no_such_object = true
+is_missing no_such_instance = true
+is_missing _ = false
+
+-- the binding is an instance below the root
+abbrev pub is_inside : List ℕ → VarBind → Bool
+is_inside root binding = not (is_end binding.value) && is_below root binding.name

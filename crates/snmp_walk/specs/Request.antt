@@ -1,0 +1,74 @@
+-- Where a walk begins, and which request it sends (RFC 3416, section 4.2).
+use Rattle.std.specs.Prelude.{ℕ, ℤ, pos, List, [], ◌∷◌}
+use Rattle.snmp_oid.specs.Identifier.{wire}
+use Rattle.snmp_wire.specs.declared.kind.Kind.{Kind}
+use Rattle.snmp_wire.specs.declared.kind.Kind.TheVariants as kind
+use Rattle.snmp_wire.specs.Message.{VarBind, Message, null_value}
+use Rattle.snmp_walk.specs.declared.mode.Mode.{Mode}
+use Rattle.snmp_walk.specs.declared.mode.Mode.TheVariants as mode
+use Rattle.snmp_walk.specs.declared.mode.Method.{Method}
+use Rattle.snmp_walk.specs.declared.mode.Method.TheVariants as method
+use Rattle.snmp_walk.specs.declared.phase.Phase.{Phase}
+use Rattle.snmp_walk.specs.declared.phase.Phase.TheVariants as phase
+use Rattle.snmp_walk.specs.Walker.{Walker}
+
+-- a walk that includes its root begins with a Get of it, and any other with the instances behind it
+abbrev pub first_phase : Mode → Phase
+first_phase mode.Include = phase.First
+first_phase _ = phase.Rows
+
+-- a walk before its first request
+abbrev pub started : List ℕ → Mode → Method → List ℕ → ℕ → Walker
+started root mode method community id = record {
+  root = root;
+  mode = mode;
+  method = method;
+  community = community;
+  phase = first_phase mode;
+  asked = wire root;
+  id = id;
+  count = 0;
+}
+
+-- a walk that goes on behind a name
+abbrev pub resumed : List ℕ → List ℕ → Method → List ℕ → ℕ → Walker
+resumed root after method community id = record {
+  root = root;
+  mode = mode.NoLast;
+  method = method;
+  community = community;
+  phase = phase.Rows;
+  asked = wire after;
+  id = id;
+  count = 0;
+}
+
+-- by which PDU the next instances are asked for
+abbrev pub next_kind : Method → Kind
+next_kind method.Next = kind.GetNextRequest
+next_kind (method.Bulk repetitions) = kind.GetBulkRequest
+
+-- its max-repetitions, and 0 where it has none
+abbrev pub repetitions_of : Method → ℤ
+repetitions_of method.Next = pos 0
+repetitions_of (method.Bulk repetitions) = repetitions
+
+abbrev pub request_kind : Phase → Method → Kind
+request_kind phase.Rows method = next_kind method
+request_kind _ method = kind.GetRequest
+
+abbrev pub request_repetitions : Phase → Method → ℤ
+request_repetitions phase.Rows method = repetitions_of method
+request_repetitions _ method = pos 0
+
+-- the request that is waiting: one name, with the value Null
+abbrev pub request_of : Walker → Message
+request_of w = record {
+  version = pos 1;
+  community = w.community;
+  kind = request_kind w.phase w.method;
+  id = pos w.id;
+  a = pos 0;
+  b = request_repetitions w.phase w.method;
+  bindings = record { name = w.asked; value = null_value } ∷ [];
+}

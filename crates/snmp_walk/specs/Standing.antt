@@ -1,0 +1,145 @@
+-- Where a walk stands between two replies, and how it may end, when each reply is an honest one to the request that was waiting: agents that answer
+-- GetNext as `Next` says and Get as `Got` says, and whose largest message has no room for a binding that is `Large`.
+use Rattle.std.specs.Prelude.{◌≡◌, ◌≢◌, ℕ, ◌+◌, ◌^◌, ◌<◌, ℤ, pos, ◌≤◌, ◌⊎◌, true, false, List, [], ◌∷◌, ◌++◌, length}
+use Rattle.snmp_wire.specs.declared.kind.Kind.TheVariants as kind
+use Rattle.snmp_wire.specs.Message.{VarBind, Message}
+use Rattle.snmp_walk.specs.declared.mode.Mode.{Mode}
+use Rattle.snmp_walk.specs.declared.mode.Mode.TheVariants as mode
+use Rattle.snmp_walk.specs.declared.phase.Phase.{Phase}
+use Rattle.snmp_walk.specs.declared.phase.Phase.TheVariants as phase
+use Rattle.snmp_walk.specs.declared.end.WalkEnd.{WalkEnd}
+use Rattle.snmp_walk.specs.declared.end.WalkEnd.TheVariants as ending
+use Rattle.snmp_walk.specs.declared.rows.Step.{Step}
+use Rattle.snmp_walk.specs.declared.rows.Step.TheVariants as step
+use Rattle.snmp_walk.specs.Names.{is_end, is_missing, comes_after}
+use Rattle.snmp_walk.specs.Trail.{last_name, IsTrail, IsAtEnd}
+use Rattle.snmp_walk.specs.Taken.{asked_for, if_present}
+use Rattle.snmp_walk.specs.Walker.{Walker}
+use Rattle.snmp_walk.specs.Walk.{AreRising, AreInstances, or_end, rows_after, rows_named}
+
+-- each binding is an answer to a GetNext of the name before it
+abbrev pub IsChain : (List ℕ → VarBind → Type 0) → List ℕ → List VarBind → Type 0
+IsChain Next o [] = Unit {0}
+IsChain Next o (p ∷ more) = Next o p × IsChain Next p.name more
+
+-- the answer to a request has no room
+abbrev pub IsLarge : (List ℕ → VarBind → Type 0) → (VarBind → Type 0) → List ℕ → Type 0
+IsLarge Answer Large o = (p : VarBind) × Answer o p × Large p
+
+-- an honest reply is the answers, or tooBig where they have no room
+abbrev pub IsGetContent : (List ℕ → VarBind → Type 0) → (VarBind → Type 0) → List ℕ → Message → Type 0
+IsGetContent Got Large o m =
+    ((m.a ≡ pos 0) × ((p : VarBind) × Got o p × (m.bindings ≡ p ∷ [])))
+    ⊎ ((m.a ≡ pos 1) × (m.b ≡ pos 0) × IsLarge Got Large o)
+
+abbrev pub IsNextContent : (List ℕ → VarBind → Type 0) → (VarBind → Type 0) → Walker → Message → Type 0
+IsNextContent Next Large w m =
+    ((m.a ≡ pos 0) × IsChain Next w.asked m.bindings × (length m.bindings ≤ asked_for w.method) × (m.bindings ≡ [] → IsLarge Next Large w.asked))
+    ⊎ ((m.a ≡ pos 1) × (m.b ≡ pos 0) × IsLarge Next Large w.asked)
+
+abbrev pub IsContent : (Next Got : List ℕ → VarBind → Type 0) → (VarBind → Type 0) → Phase → Walker → Message → Type 0
+IsContent Next Got Large phase.First w m = IsGetContent Got Large w.asked m
+IsContent Next Got Large phase.Rows w m = IsNextContent Next Large w m
+IsContent Next Got Large phase.Last w m = IsGetContent Got Large w.asked m
+IsContent Next Got Large phase.Over w m = ⊥
+
+-- the message is an honest reply to the waiting request
+pub record IsReplyTo (Next Got : List ℕ → VarBind → Type 0) (Large : VarBind → Type 0) (w : Walker) (m : Message) : Type 0 where
+  pub version : m.version ≡ pos 1
+  pub community : m.community ≡ w.community
+  pub kind : m.kind ≡ kind.Response
+  pub id : m.id ≡ pos w.id
+  pub content : IsContent Next Got Large w.phase w m
+
+-- what a walk gives before the instances below its root: the root's own, in a walk that includes it
+abbrev pub IsOpening : (List ℕ → VarBind → Type 0) → Mode → List ℕ → List VarBind → Type 0
+IsOpening Got mode.Include o front = (p : VarBind) × Got o p × (front ≡ if_present p)
+IsOpening Got _ o front = front ≡ []
+
+-- these were given, and the walk asks behind the name o
+pub record IsGiven (Next Got : List ℕ → VarBind → Type 0) (first : Walker) (given : List VarBind) (o : List ℕ) : Type 0 where
+  pub front : List VarBind
+  pub trail : List VarBind
+  pub parts : given ≡ front ++ trail
+  pub opening : IsOpening Got first.mode first.asked front
+  pub is_trail : IsTrail Next first.root first.asked trail
+  pub last : o ≡ last_name first.asked trail
+
+-- nothing stood below the root, and its own answer was given
+pub record IsAlone (Next Got : List ℕ → VarBind → Type 0) (first : Walker) (given : List VarBind) : Type 0 where
+  pub plain : first.mode ≡ mode.Plain
+  pub none : IsAtEnd Next first.root first.asked
+  pub answer : VarBind
+  pub is_answer : Got first.asked answer
+  pub only : given ≡ answer ∷ []
+
+-- a beginning of what the walk gives
+abbrev pub IsPart : (Next Got : List ℕ → VarBind → Type 0) → Walker → List VarBind → Type 0
+IsPart Next Got first given = (given ≡ []) ⊎ (((o : List ℕ) × IsGiven Next Got first given o) ⊎ IsAlone Next Got first given)
+
+-- all that the walk gives
+abbrev pub IsWhole : (Next Got : List ℕ → VarBind → Type 0) → Walker → List VarBind → Type 0
+IsWhole Next Got first given =
+    ((o : List ℕ) × IsGiven Next Got first given o × IsAtEnd Next first.root o × (first.mode ≡ mode.Plain → given ≢ [])) ⊎ IsAlone Next Got first given
+
+abbrev pub IsStage : (Next Got : List ℕ → VarBind → Type 0) → Walker → List VarBind → List ℕ → Phase → Type 0
+IsStage Next Got first given o phase.First = (given ≡ []) × (o ≡ first.asked) × (first.mode ≡ mode.Include)
+IsStage Next Got first given o phase.Rows = IsGiven Next Got first given o
+IsStage Next Got first given o phase.Last = (given ≡ []) × (o ≡ first.asked) × (first.mode ≡ mode.Plain) × IsAtEnd Next first.root first.asked
+IsStage Next Got first given o phase.Over = ⊥
+
+-- the walk that began as `first` has given these bindings and waits for a reply
+pub record Stands (Next Got : List ℕ → VarBind → Type 0) (first w : Walker) (given : List VarBind) : Type 0 where
+  pub same : w ≡ record first { phase = w.phase; asked = w.asked; id = w.id; count = w.count }
+  pub count : w.count ≡ length given
+  pub stage : IsStage Next Got first given w.asked w.phase
+
+-- the answer to the waiting request has no room
+abbrev pub IsRefused : (Next Got : List ℕ → VarBind → Type 0) → (VarBind → Type 0) → Phase → List ℕ → Type 0
+IsRefused Next Got Large phase.First o = IsLarge Got Large o
+IsRefused Next Got Large phase.Rows o = IsLarge Next Large o
+IsRefused Next Got Large phase.Last o = IsLarge Got Large o
+IsRefused Next Got Large phase.Over o = ⊥
+
+-- the walk may end so, after these bindings, where w was waiting for the reply
+abbrev pub Ends : (Next Got : List ℕ → VarBind → Type 0) → (VarBind → Type 0) → Walker → Walker → List VarBind → WalkEnd → Type 0
+Ends Next Got Large first w given (ending.Done n) = (n ≡ length given) × IsWhole Next Got first given
+Ends Next Got Large first w given (ending.Fault status index) = (status ≡ pos 1) × (index ≡ pos 0) × IsRefused Next Got Large w.phase w.asked
+Ends Next Got Large first w given (ending.NoProgress o) = (w.phase ≡ phase.Rows) × (o ≡ w.asked) × IsLarge Next Large o
+Ends Next Got Large first w given ending.TooManyRequests = 2147483647 ≤ w.id
+Ends Next Got Large first w given _ = ⊥
+
+-- a step of the walk w
+abbrev pub Advances : (Next Got : List ℕ → VarBind → Type 0) → (VarBind → Type 0) → Walker → Walker → List VarBind → Step → Walker → Type 0
+Advances Next Got Large first old given step.Stray w = ⊥
+Advances Next Got Large first old given (step.Rows more) w = Stands Next Got first w (given ++ more)
+Advances Next Got Large first old given (step.Last more why) w = IsPart Next Got first (given ++ more) × Ends Next Got Large first old (given ++ more) why
+
+-- The agents are one table: its rows by rising names, what it answers to a GetNext, and `got` to a Get of the name that the walk begins from.
+pub record IsOneTable (rows : List VarBind) (got : VarBind) (Next Got : List ℕ → VarBind → Type 0) (first : Walker) : Type 0 where
+  pub rising : AreRising rows
+  pub instances : AreInstances rows
+  pub next : (o : List ℕ) (p : VarBind) → Next o p → p ≡ or_end o (rows_after o rows)
+  pub answer : (p : VarBind) → Got first.asked p → p ≡ got
+  pub row : if_present got ≡ rows_named first.asked rows
+
+-- What may be said of any replies at all: a name that is given for an instance comes after the one before it, and what is given for the root has its name.
+abbrev pub Rises : List ℕ → VarBind → Type 0
+Rises o p = (is_end p.value ≡ false → comes_after o p.name ≡ true) × (is_missing p.value ≡ false)
+
+abbrev pub Named : List ℕ → VarBind → Type 0
+Named o p = (p.name ≡ o) × (is_end p.value ≡ false)
+
+-- the ends that replies lead to
+abbrev pub IsReplyEnd : WalkEnd → Type 0
+IsReplyEnd ending.RequestTooLong = ⊥
+IsReplyEnd ending.NoResponse = ⊥
+IsReplyEnd ending.Link = ⊥
+IsReplyEnd (ending.Sink fault) = ⊥
+IsReplyEnd _ = Unit {0}
+
+-- Whatever the message is: a stray changes nothing, a next request has the next id, and what was given rises.
+abbrev pub Keeps : Walker → Walker → List VarBind → Step → Walker → Type 0
+Keeps first old given step.Stray w = w ≡ old
+Keeps first old given (step.Rows more) w = (w.id ≡ old.id + 1) × (w.id < 2 ^ 31) × Stands Rises Named first w (given ++ more)
+Keeps first old given (step.Last more why) w = IsReplyEnd why × IsPart Rises Named first (given ++ more)

@@ -1,0 +1,136 @@
+-- What a message means to a walk (RFC 3416, section 4.2, and this project's profile): the rules by which a reply is judged, as one function of
+-- the walk's state and the message.
+use Rattle.std.specs.Prelude.{◌≡◌, ◌⊎◌, ℕ, zero, suc, unsigned_abs, ℤ, pos, Bool, true, false, ◌&&◌, ◌||◌, not, ◌==◌, nat_lt, if◌then◌else◌, ◌+◌, List, [], ◌∷◌, length, Option, Some, None, take_while}
+use Rattle.std.specs.List.{list_any}
+use Rattle.std.specs.Bool.{nat_eq}
+use Rattle.std.specs.Ordering.{int_eq}
+use Rattle.std.specs.Cmp.Lexicographic.{pointwise}
+use Rattle.snmp_wire.specs.declared.kind.Kind.{Kind}
+use Rattle.snmp_wire.specs.declared.kind.Kind.TheVariants as kind
+use Rattle.snmp_wire.specs.Message.{VarBind, Message}
+use Rattle.snmp_wire.specs.Spelling.{Spells}
+use Rattle.snmp_walk.specs.declared.mode.Mode.{Mode}
+use Rattle.snmp_walk.specs.declared.mode.Mode.TheVariants as mode
+use Rattle.snmp_walk.specs.declared.mode.Method.{Method}
+use Rattle.snmp_walk.specs.declared.mode.Method.TheVariants as method
+use Rattle.snmp_walk.specs.declared.phase.Phase.{Phase}
+use Rattle.snmp_walk.specs.declared.phase.Phase.TheVariants as phase
+use Rattle.snmp_walk.specs.declared.end.WalkEnd.{WalkEnd}
+use Rattle.snmp_walk.specs.declared.end.WalkEnd.TheVariants as ending
+use Rattle.snmp_walk.specs.declared.rows.Step.{Step}
+use Rattle.snmp_walk.specs.declared.rows.Step.TheVariants as step
+use Rattle.snmp_walk.specs.Names.{is_inside, is_end, is_missing, comes_after}
+use Rattle.snmp_walk.specs.Trail.{last_name}
+use Rattle.snmp_walk.specs.Walker.{Walker}
+
+abbrev pub is_over : Phase → Bool
+is_over phase.Over = true
+is_over _ = false
+
+abbrev pub is_response : Kind → Bool
+is_response kind.Response = true
+is_response _ = false
+
+-- the message is the reply that is waited for
+abbrev pub is_awaited : Walker → Message → Bool
+is_awaited w m =
+    not (is_over w.phase) && int_eq m.version (pos 1) && pointwise nat_eq m.community w.community && is_response m.kind && int_eq m.id (pos w.id)
+
+-- the bindings before the first that ends the walk
+abbrev pub inside_front : List ℕ → List VarBind → List VarBind
+inside_front root bindings = take_while (is_inside root) bindings
+
+-- the bindings whose names rise, from the first on, which comes after the name o
+abbrev pub rising_front : List ℕ → List VarBind → List VarBind
+rising_front o [] = []
+rising_front o (b ∷ more) = if comes_after o b.name then b ∷ rising_front b.name more else []
+
+-- the name of the binding at a place
+abbrev pub name_at : List VarBind → ℕ → List ℕ
+name_at [] k = []
+name_at (b ∷ more) zero = b.name
+name_at (b ∷ more) (suc k) = name_at more k
+
+-- how many bindings a request for the next instances asks for
+abbrev pub asked_for : Method → ℕ
+asked_for method.Next = 1
+asked_for (method.Bulk repetitions) = unsigned_abs repetitions
+
+-- the walk ends, after these bindings
+abbrev pub stops : Walker → List VarBind → WalkEnd → Step × Walker
+stops w rows why = (step.Last rows why, record w { phase = phase.Over })
+
+-- the walk gives these bindings and sends its next request, with the next id, if there is one
+abbrev pub goes_on : Walker → Phase → List VarBind → Step × Walker
+goes_on w next rows =
+    if nat_lt w.id 2147483647
+    then (step.Rows rows, record w { phase = next; asked = last_name w.asked rows; id = w.id + 1; count = w.count + length rows })
+    else stops w rows ending.TooManyRequests
+
+abbrev pub is_plain : Mode → Bool
+is_plain mode.Plain = true
+is_plain _ = false
+
+-- Nothing more stands below the root: where a plain walk gave nothing it asks for the root itself, else the walk is done.
+abbrev pub closes : Walker → List VarBind → Step × Walker
+closes w rows =
+    if is_plain w.mode && (w.count + length rows == 0)
+    then goes_on w phase.Last []
+    else stops w rows (ending.Done (w.count + length rows))
+
+-- the bindings of a reply with the next instances, none of them out of place
+abbrev pub reads : Walker → List VarBind → Step × Walker
+reads w bindings =
+    let inside = inside_front w.root bindings in
+    let rows = rising_front w.asked inside in
+    if nat_lt (length rows) (length inside) then stops w rows (ending.NotIncreasing (last_name w.asked rows) (name_at inside (length rows)))
+    else if nat_lt (length rows) (length bindings) then closes w rows
+    else goes_on w phase.Rows rows
+
+-- a reply with the next instances
+abbrev pub reads_next : Walker → List VarBind → Step × Walker
+reads_next w [] = stops w [] (ending.NoProgress w.asked)
+reads_next w (b ∷ more) =
+    if nat_lt (asked_for w.method) (length (b ∷ more)) || list_any (λ p. is_missing p.value) (b ∷ more)
+    then stops w [] ending.BadReply
+    else reads w (b ∷ more)
+
+-- the one binding of a Get's reply: of the name asked for, and no endOfMibView
+abbrev pub got : List ℕ → List VarBind → Option VarBind
+got asked [] = None
+got asked (b ∷ []) = if pointwise nat_eq b.name asked && not (is_end b.value) then Some b else None
+got asked (b ∷ c ∷ more) = None
+
+-- the binding, where it has a value
+abbrev pub if_present : VarBind → List VarBind
+if_present b = if is_missing b.value then [] else b ∷ []
+
+-- the reply to the Get with which a walk begins that includes the root
+abbrev pub reads_first : Walker → Option VarBind → Step × Walker
+reads_first w None = stops w [] ending.BadReply
+reads_first w (Some b) = goes_on w phase.Rows (if_present b)
+
+-- the reply to the Get with which a plain walk ends that gave nothing
+abbrev pub reads_last : Walker → Option VarBind → Step × Walker
+reads_last w None = stops w [] ending.BadReply
+reads_last w (Some b) = stops w (b ∷ []) (ending.Done (w.count + 1))
+
+abbrev pub reads_for : Phase → Walker → List VarBind → Step × Walker
+reads_for phase.First w bindings = reads_first w (got w.asked bindings)
+reads_for phase.Rows w bindings = reads_next w bindings
+reads_for phase.Last w bindings = reads_last w (got w.asked bindings)
+reads_for phase.Over w bindings = (step.Stray, w)
+
+-- the reply that was waited for: an error status ends the walk, else its bindings decide
+abbrev pub reads_reply : Walker → Message → Step × Walker
+reads_reply w m = if int_eq m.a (pos 0) then reads_for w.phase w m.bindings else stops w [] (ending.Fault m.a m.b)
+
+-- what a message is to a walk, and the walk after it
+abbrev pub take_of : Walker → Message → Step × Walker
+take_of w m = if is_awaited w m then reads_reply w m else (step.Stray, w)
+
+-- The datagram is read by the message that it spells, and one that spells none changes nothing.
+abbrev pub Takes : Walker → List ℕ → Step → Walker → Type 0
+Takes old datagram given new =
+    ((m : Message) × Spells m datagram × (given ≡ (take_of old m).0) × (new ≡ (take_of old m).1))
+    ⊎ (((m : Message) → Spells m datagram → ⊥) × (given ≡ step.Stray) × (new ≡ old))

@@ -1,0 +1,63 @@
+-- What a walk gives of the rows of a table, in the order of their names.
+use Rattle.std.specs.Prelude.{◌≡◌, ℕ, ◌≤◌, true, false, List, [], ◌∷◌, ◌++◌, length, filter}
+use Rattle.std.specs.Bool.{nat_eq}
+use Rattle.std.specs.Cmp.Lexicographic.{pointwise}
+use Rattle.snmp_oid.specs.Identifier.{wire}
+use Rattle.snmp_wire.specs.Message.{VarBind, end_of_mib_view}
+use Rattle.snmp_walk.specs.declared.mode.Mode.{Mode}
+use Rattle.snmp_walk.specs.declared.mode.Mode.TheVariants.{Plain, Include, NoLast}
+use Rattle.snmp_walk.specs.Names.{is_below, is_end, is_missing, comes_after}
+
+-- the rows below the root
+abbrev pub rows_below : List ℕ → List VarBind → List VarBind
+rows_below root rows = filter (λ row. is_below root row.name) rows
+
+-- the rows behind a name
+abbrev pub rows_after : List ℕ → List VarBind → List VarBind
+rows_after o rows = filter (λ row. comes_after o row.name) rows
+
+-- the row of a name, if there is one
+abbrev pub rows_named : List ℕ → List VarBind → List VarBind
+rows_named o rows = filter (λ row. pointwise nat_eq row.name o) rows
+
+-- the rows, or this binding where there are none
+abbrev pub or_only : VarBind → List VarBind → List VarBind
+or_only got [] = got ∷ []
+or_only got (row ∷ rows) = row ∷ rows
+
+-- What a walk gives, `got` being what a Get of the root answers: the rows below the root, or that answer alone where there are none;
+-- including the root: its own row, if there is one, and then those; or just those.
+abbrev pub walk_of : Mode → List ℕ → VarBind → List VarBind → List VarBind
+walk_of Plain root got rows = or_only got (rows_below root rows)
+walk_of Include root got rows = rows_named (wire root) rows ++ rows_below root rows
+walk_of NoLast root got rows = rows_below root rows
+
+-- what is left of it behind a name
+abbrev pub rest_of : List ℕ → List ℕ → List VarBind → List VarBind
+rest_of root o rows = rows_after o (rows_below root rows)
+
+-- the names come after o, each
+abbrev pub AreAfter : List ℕ → List VarBind → Type 0
+AreAfter o [] = Unit {0}
+AreAfter o (row ∷ rows) = (comes_after o row.name ≡ true) × AreAfter o rows
+
+-- each name comes after those before it
+abbrev pub AreRising : List VarBind → Type 0
+AreRising [] = Unit {0}
+AreRising (row ∷ rows) = AreAfter row.name rows × AreRising rows
+
+-- each is an instance that an agent may have: a name of three numbers at least, and a value
+abbrev pub AreInstances : List VarBind → Type 0
+AreInstances [] = Unit {0}
+AreInstances (row ∷ rows) = (3 ≤ length row.name) × (is_end row.value ≡ false) × (is_missing row.value ≡ false) × AreInstances rows
+
+-- the first of the bindings, else the name with endOfMibView
+abbrev pub or_end : List ℕ → List VarBind → VarBind
+or_end o [] = record { name = o; value = end_of_mib_view }
+or_end o (p ∷ more) = p
+
+-- What a walk gives that begins behind the name o, which is the root as it is sent or, where a walk is resumed, a name below it.
+abbrev pub walk_from : Mode → List ℕ → List ℕ → VarBind → List VarBind → List VarBind
+walk_from Plain root o got rows = or_only got (rest_of root o rows)
+walk_from Include root o got rows = rows_named o rows ++ rest_of root o rows
+walk_from NoLast root o got rows = rest_of root o rows

@@ -1,0 +1,34 @@
+-- What a walk knows between two datagrams.
+use Rattle.std.specs.Prelude.{ℕ, ℤ, pos, ◌≤ℤ◌, ◌≡◌, ◌+◌, ◌*◌, ◌^◌, ◌<◌, ◌≤◌, List, length}
+use Rattle.snmp_oid.specs.Identifier.{IsWire, wire}
+use Rattle.snmp_walk.specs.declared.mode.Mode.{Mode}
+use Rattle.snmp_walk.specs.declared.mode.Method.{Method}
+use Rattle.snmp_walk.specs.declared.mode.Method.TheVariants.{Next, Bulk}
+use Rattle.snmp_walk.specs.declared.phase.Phase.{Phase}
+
+pub record Walker : Type 0 where
+  pub root : List ℕ
+  pub mode : Mode
+  pub method : Method
+  pub community : List ℕ
+  -- which request is waiting
+  pub phase : Phase
+  -- the name that it asks for, or behind which it asks
+  pub asked : List ℕ
+  -- its id
+  pub id : ℕ
+  -- how many bindings were given
+  pub count : ℕ
+
+-- repetitions are 1 at least
+abbrev pub IsMethod : Method → Type 0
+IsMethod Next = Unit {0}
+IsMethod (Bulk repetitions) = pos 1 ≤ℤ repetitions
+
+-- what is true of each
+pub record IsWalker (w : Walker) : Type 0 where
+  pub method : IsMethod w.method
+  pub community : length w.community ≤ 255
+  pub asked : IsWire w.asked
+  pub id : w.id < 2 ^ 31
+  pub count : w.count ≤ w.id * 2 ^ 32

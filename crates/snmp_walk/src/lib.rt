@@ -1,0 +1,22 @@
+//! The walk: from the root of a subtree to all its instances, by one request after the other (RFC 3416, section 4.2).
+//!
+//! Stands on the messages. The core says which request to send and reads what comes back; a run hands both to a link and gives each binding to a sink.
+#![tactic(auto)]
+
+mod end;
+mod link;
+mod mode;
+mod phase;
+mod rows;
+mod run;
+mod sink;
+mod walker;
+
+pub use end::{LinkFault, SinkFault, StartError, WalkEnd};
+pub use link::Link;
+pub use mode::{Method, Mode};
+pub use phase::Phase;
+pub use rows::{Rows, Step};
+pub use run::run_walk;
+pub use sink::Sink;
+pub use walker::WalkCore;

@@ -1,0 +1,64 @@
+//! What one datagram brings: the bindings that a walk gives of it.
+ghost use Rattle.std.specs.Prelude.{◌≡◌, ◌≤◌, ℕ, List, take, length};
+
+use crate::WalkEnd;
+use snmp_wire::{Binding, Bindings};
+use std::marker::Model;
+
+/// The bindings that a walk gives of a datagram, in order: the front of the datagram's own.
+#[derive(Drop)]
+pub struct Rows<'a> {
+    bindings: Bindings<'a>,
+    left: usize,
+}
+
+impl<'a> Model for Rows<'a> {
+    ghost use Rattle.std.specs.Prelude.{List, ◌≤◌, take, length};
+    ghost use Rattle.snmp_wire.specs.Message.{VarBind};
+
+    ghost Value = { List VarBind };
+
+    ghost view = { λ rows. take rows.left rows.bindings };
+
+    ghost invariant = { λ rows. rows.left ≤ length rows.bindings };
+}
+
+impl<'a> Rows<'a> {
+    /// The first of these bindings, `left` of them.
+    pub(crate) fn front(bindings: Bindings<'a>, left: usize) -> Rows<'a>
+        requires { left ≤ length bindings }
+        ensures { result ≡ take left bindings.entry }
+    {
+        Rows { bindings, left }
+    }
+}
+
+impl<'a> Iterator for Rows<'a> {
+    ghost use Rattle.std.specs.Iterator.{YieldsFirstBy, item_count};
+    ghost use Rattle.snmp_wire.specs.Message.{var_bind};
+
+    type Item = Binding<'a>;
+
+    ghost next_gives = { YieldsFirstBy var_bind (λ s. s) };
+
+    ghost remaining = { item_count (λ s. s) };
+
+    fn next(&mut self) -> Option<Binding<'a>> {
+        if self.left == 0 {
+            return None;
+        }
+        self.left -= 1;
+        self.bindings.next()
+    }
+}
+
+/// What a datagram was to a walk.
+#[derive(Drop)]
+pub enum Step<'a> {
+    /// Nothing: it isn't the reply that is waited for, and the walk is as it was.
+    Stray,
+    /// The reply: these bindings are given, and the next request is waiting.
+    Rows(Rows<'a>),
+    /// The reply that ends the walk: these bindings are given before the end.
+    Last(Rows<'a>, WalkEnd),
+}

@@ -1,0 +1,33 @@
+//! Where the bindings of a walk go.
+ghost use Rattle.std.specs.Prelude.{◌≡◌, ◌++◌, ◌∷◌, ◌⊎◌, List, ℕ, Result, OnOk, IfErr, Ok, Err};
+
+use crate::{Rows, SinkFault};
+use snmp_wire::Binding;
+
+/// What a walk gives its bindings to, one by one.
+pub trait Sink {
+    ghost use Rattle.std.specs.Prelude.{Result};
+    ghost use Rattle.snmp_wire.specs.Message.{VarBind, var_bind};
+    ghost use Rattle.snmp_walk.specs.declared.end.SinkFault.{SinkFault};
+
+    /// That the state before, a binding and the answer are followed by this state.
+    ghost takes: { Self → VarBind → Result (Unit {0}) SinkFault → Self → Type 0 };
+
+    /// Takes a binding, or refuses it: then the walk ends.
+    fn row(&mut self, binding: &Binding<'_>) -> Result<(), SinkFault>
+        ensures { takes self.old (var_bind binding.now) result self.new };
+}
+
+ghost use Rattle.snmp_wire.specs.Message.{VarBind};
+ghost use Rattle.snmp_walk.specs.Sink.{Given, Refused};
+
+/// Gives the bindings to the sink, in order, until it refuses one.
+pub(crate) fn give<S: Sink>(rows: Rows<'_>, sink: &mut S) -> Result<(), SinkFault>
+    ensures ok { OnOk result (Given S.takes sink.old rows.entry sink.new) }
+    ensures err { IfErr result (λ fault. (front : List VarBind) × (back : List VarBind) × (rows.entry ≡ front ++ back) × (between : S) × Given S.takes sink.old front between × Refused S.takes between fault sink.new) }
+{
+    'rows: for binding in rows {
+        sink.row(&binding)?;
+    }
+    Ok(())
+}

@@ -1,0 +1,501 @@
+//! The core of a walk: which request to send, and what the reply means.
+ghost use Rattle.std.specs.Prelude.{◌≡◌, ◌<◌, ◌≤◌, ℕ, length, IsOk, IfOk, IfErr, ◌↔◌, ◌^◌, true, false, IsTrue};
+ghost use Rattle.std.specs.Bool.{nat_eq};
+ghost use Rattle.snmp_oid.specs.Identifier.{IsWire, IsBelow, wire};
+ghost use Rattle.snmp_walk.specs.Names.{is_below, comes_after, is_inside, is_missing, is_end};
+ghost use Rattle.snmp_wire.specs.Message.{var_bind, datum};
+ghost use Rattle.snmp_walk.specs.Request.{first_phase as phase_at_first};
+
+use crate::{Method, Mode, Phase, Rows, StartError, Step, WalkEnd};
+use arrayvec::ArrayVec;
+use snmp_wire::{Binding, Bindings, Kind, MessageRef, Oid, Parts, ValueRef, decode, encode};
+use std::cmp::Ordering;
+use std::marker::Model;
+
+/// The state of a walk.
+#[derive(Drop)]
+pub struct WalkCore {
+    root: Oid,
+    mode: Mode,
+    method: Method,
+    community: ArrayVec<u8, 255>,
+    phase: Phase,
+    asked: Oid,
+    id: u32,
+    count: u64,
+}
+
+impl Model for WalkCore {
+    ghost use Rattle.snmp_walk.specs.Walker.{Walker, IsWalker};
+
+    ghost Value = { Walker };
+
+    ghost view = { λ w. record {
+      root = w.root;
+      mode = w.mode;
+      method = w.method;
+      community = w.community.items;
+      phase = w.phase;
+      asked = w.asked;
+      id = w.id;
+      count = w.count;
+    } };
+
+    ghost invariant = { λ w. IsWalker (record {
+      root = w.root;
+      mode = w.mode;
+      method = w.method;
+      community = w.community.items;
+      phase = w.phase;
+      asked = w.asked;
+      id = w.id;
+      count = w.count;
+    }) };
+}
+
+impl WalkCore {
+    ghost use Rattle.std.specs.Prelude.{◌≡◌, ◌<◌, ◌≤◌, ◌⊎◌, ℕ, length, take, IsOk, IfOk, IfErr, ◌↔◌, ◌^◌, true, false, IsTrue, Err};
+    ghost use Rattle.snmp_oid.specs.Identifier.{IsWire, IsBelow, wire};
+    ghost use Rattle.snmp_wire.specs.Canon.{canon};
+    ghost use Rattle.snmp_wire.specs.Message.{Message, VarBind};
+    ghost use Rattle.snmp_wire.specs.Spelling.{Spells};
+    ghost use Rattle.snmp_walk.specs.Walker.{IsMethod, IsWalker};
+    ghost use Rattle.snmp_walk.specs.Facts.{IsFresh, walk_at};
+    ghost use Rattle.snmp_walk.specs.Walk.{walk_of, rest_of};
+    ghost use Rattle.snmp_table.specs.Table.{MibView, IsMibView};
+    ghost use Rattle.snmp_table.specs.Listing.{variables};
+    ghost use Rattle.snmp_walk.specs.Request.{started, resumed, request_of, request_kind, request_repetitions};
+    ghost use Rattle.snmp_walk.specs.Taken.{is_over, is_awaited, stops, goes_on, closes, reads_next, reads_first, reads_last, got, take_of, Takes, asked_for};
+    ghost use Rattle.std.specs.Option.{option_map};
+    ghost use Rattle.snmp_walk.specs.Reading.{IsFrontOf, is_misplaced, AreSendable};
+    ghost use Rattle.snmp_walk.specs.Trail.{last_name};
+
+    /// A walk of the instances below `root`, whose requests have this community of at most 255 octets and ids from `first_id` on, which is at most 2147483647.
+    ///
+    /// `NotWire` where the root, padded with zeros to two numbers, has no encoding (X.690, 8.19.4).
+    pub fn start(
+        root: Oid,
+        mode: Mode,
+        method: Method,
+        community: &[u8],
+        first_id: u32,
+    ) -> Result<WalkCore, StartError>
+        requires method { IsMethod method }
+        requires community { length community.now ≤ 255 }
+        requires first_id { first_id < 2 ^ 31 }
+        ensures ok { IfOk result (λ w. w ≡ started root mode method community.now first_id) }
+        ensures fresh { IfOk result IsFresh }
+        ensures walk { IfOk result (λ w. (view : MibView) (got : VarBind) → IsMibView view → walk_at w view got ≡ walk_of mode root got (variables view)) }
+        ensures variant { IsOk result ↔ IsWire (wire root) }
+        ensures err { IfErr result (λ e. e ≡ StartError.NotWire) }
+    {
+        let Ok(asked) = root.to_wire() else {
+            return Err(StartError::NotWire);
+        };
+        Ok(WalkCore {
+            root,
+            mode,
+            method,
+            community: owned(community),
+            phase: first_phase(mode),
+            asked,
+            id: first_id,
+            count: 0,
+        })
+    }
+
+    /// The rest of a walk of the instances below `root`, behind the name `after`, without the root's own instance.
+    ///
+    /// `NotWire` where one of the names, padded with zeros to two numbers, has no encoding, and `AfterOutsideRoot` where `after` is neither the root nor below it. Of several faults
+    /// that of the root comes first, and that of `after` last.
+    pub fn resume(
+        root: Oid,
+        after: &Oid,
+        method: Method,
+        community: &[u8],
+        first_id: u32,
+    ) -> Result<WalkCore, StartError>
+        requires method { IsMethod method }
+        requires community { length community.now ≤ 255 }
+        requires first_id { first_id < 2 ^ 31 }
+        ensures ok { IfOk result (λ w. w ≡ resumed root after.now method community.now first_id) }
+        ensures fresh { IfOk result IsFresh }
+        ensures walk { IfOk result (λ w. (view : MibView) (got : VarBind) → walk_at w view got ≡ rest_of root (wire after.now) (variables view)) }
+        ensures variant { IsOk result ↔ (IsWire (wire root) × ((after.now ≡ root) ⊎ IsBelow after.now root) × IsWire (wire after.now)) }
+        ensures not_wire { result ≡ Err StartError.NotWire → IsWire (wire root) × IsWire (wire after.now) → ⊥ }
+        ensures outside { result ≡ Err StartError.AfterOutsideRoot → IsWire (wire root) × (after.now ≡ root → ⊥) × (IsBelow after.now root → ⊥) }
+    {
+        if root.to_wire().is_err() {
+            return Err(StartError::NotWire);
+        }
+        if *after != root && !after.is_below(&root) {
+            return Err(StartError::AfterOutsideRoot);
+        }
+        let Ok(asked) = after.to_wire() else {
+            return Err(StartError::NotWire);
+        };
+        Ok(WalkCore {
+            root,
+            mode: Mode::NoLast,
+            method,
+            community: owned(community),
+            phase: Phase::Rows,
+            asked,
+            id: first_id,
+            count: 0,
+        })
+    }
+
+    /// The octets of the waiting request (RFC 3416, section 3), at the front of `out`, and how many there are; 0 after the end of the walk.
+    pub fn request(&self, out: &mut [u8; 65507]) -> usize
+        ensures waiting { is_over self.now.phase ≡ false → (result ≡ length (canon (request_of self.now))) × (take result out.new ≡ canon (request_of self.now)) }
+        ensures over { is_over self.now.phase ≡ true → (result ≡ 0) × (out.new ≡ out.old) }
+    {
+        if let Phase::Over = self.phase {
+            return 0;
+        }
+        let bindings = [Binding {
+            name: copy_of(&self.asked),
+            value: ValueRef::Null,
+        }];
+        let parts = Parts {
+            version: 1,
+            community: self.community.as_slice(),
+            kind: self.kind(),
+            id: self.id as i32,
+            a: 0,
+            b: self.repetitions(),
+            bindings: &bindings,
+        };
+        match encode(&parts, out) {
+            Some(length) => length,
+            None => unreachable!(),
+        }
+    }
+
+    /// Reads a datagram: whatever isn't the reply that is waited for is `Stray` and changes nothing, and after the end of the walk everything is.
+    pub fn take<'a>(&mut self, datagram: &'a [u8]) -> Step<'a>
+        ensures { Takes self.old datagram.now result self.new }
+    {
+        match decode(datagram) {
+            Ok(message) => self.take_message(&message),
+            Err(_) => Step::Stray,
+        }
+    }
+
+    /// Whether the datagram is the reply that is waited for.
+    pub fn is_reply(&self, datagram: &[u8]) -> bool
+        ensures reply { (m : Message) → Spells m datagram.now → result ≡ is_awaited self.now m }
+        ensures walker { IsWalker self.now }
+        ensures spelt { result ≡ true → (m : Message) × Spells m datagram.now × ((n : Message) → Spells n datagram.now → n ≡ m) }
+    {
+        if let Phase::Over = self.phase {
+            return false;
+        }
+        match decode(datagram) {
+            Ok(message) => self.awaits(&message),
+            Err(_) => false,
+        }
+    }
+
+    /// The kind of the waiting request.
+    fn kind(&self) -> Kind
+        ensures { result ≡ request_kind self.now.phase self.now.method }
+    {
+        match (self.phase, self.method) {
+            (Phase::Rows, Method::Next) => Kind::GetNextRequest,
+            (Phase::Rows, Method::Bulk(_)) => Kind::GetBulkRequest,
+            _ => Kind::GetRequest,
+        }
+    }
+
+    /// Its max-repetitions, and 0 where it has none.
+    fn repetitions(&self) -> i32
+        ensures { result ≡ request_repetitions self.now.phase self.now.method }
+    {
+        match (self.phase, self.method) {
+            (Phase::Rows, Method::Bulk(repetitions)) => repetitions,
+            _ => 0,
+        }
+    }
+
+    /// Whether the message is the reply that is waited for.
+    fn awaits(&self, message: &MessageRef<'_>) -> bool
+        ensures { result ≡ is_awaited self.now message.now }
+    {
+        self.phase != Phase::Over
+            && message.version() == 1
+            && message.community() == self.community.as_slice()
+            && message.kind() == Kind::Response
+            && message.id() == self.id as i32
+    }
+
+    /// Ends the walk, after these bindings.
+    fn stop<'a>(&mut self, rows: Rows<'a>, why: WalkEnd) -> Step<'a>
+        ensures { (result, self.new) ≡ stops self.old rows.entry why }
+    {
+        self.phase = Phase::Over;
+        Step::Last(rows, why)
+    }
+
+    /// Gives these bindings, `count` of them and the last of them of the name `last`, and waits for the reply to the next request.
+    fn go_on<'a>(&mut self, next: Phase, rows: Rows<'a>, count: u32, last: Oid) -> Step<'a>
+        requires count { count ≡ length rows }
+        requires last { last ≡ last_name self.old.asked rows }
+        requires wire { IsWire last }
+        ensures { (result, self.new) ≡ goes_on self.old next rows.entry }
+    {
+        if self.id >= MAX_ID {
+            return self.stop(rows, WalkEnd::TooManyRequests);
+        }
+        self.phase = next;
+        self.asked = last;
+        self.id += 1;
+        self.count += u64::from(count);
+        Step::Rows(rows)
+    }
+
+    /// Nothing more stands below the root: gives these bindings, `count` of them, and then asks for the root itself or ends the walk.
+    fn close<'a>(&mut self, rows: Rows<'a>, count: u32) -> Step<'a>
+        requires count { count ≡ length rows }
+        ensures { (result, self.new) ≡ closes self.old rows.entry }
+    {
+        let given = self.count + u64::from(count);
+        if self.mode == Mode::Plain && given == 0 {
+            let asked = copy_of(&self.asked);
+            return self.go_on(Phase::Last, rows, 0, asked);
+        }
+        self.stop(rows, WalkEnd::Done(given))
+    }
+
+    /// Whether there are more bindings than were asked for, or noSuchObject or noSuchInstance among them.
+    fn is_misplaced(&self, bindings: Bindings<'_>) -> bool
+        ensures value { result ≡ is_misplaced (asked_for self.now.method) bindings.entry }
+        ensures few { result ≡ false → length bindings.entry < 2 ^ 32 }
+    {
+        let mut room = match self.method {
+            Method::Next => 1,
+            Method::Bulk(repetitions) => repetitions.unsigned_abs(),
+        };
+        'bindings: for binding in bindings {
+            if room == 0 || lacks_value(&binding.value) {
+                return true;
+            }
+            room -= 1;
+        }
+        false
+    }
+
+    /// The instances below the root at the front of these bindings, their names rising from the one asked for.
+    fn front(&self, bindings: Bindings<'_>) -> Front
+        requires few { length bindings < 2 ^ 32 }
+        requires wire { AreSendable bindings }
+        ensures value { IsFrontOf self.now.root self.now.asked 0 bindings.entry result }
+        ensures wire { IsWire result.last }
+    {
+        let mut rows = 0;
+        let mut last = copy_of(&self.asked);
+        'bindings: for binding in bindings {
+            if !is_row(&binding, &self.root) {
+                return Front {
+                    rows,
+                    last,
+                    ending: Ending::Leaves,
+                };
+            }
+            if !comes_behind(&last, &binding.name) {
+                return Front {
+                    rows,
+                    last,
+                    ending: Ending::Falls(binding.name),
+                };
+            }
+            rows += 1;
+            last = binding.name;
+        }
+        Front {
+            rows,
+            last,
+            ending: Ending::GoesOn,
+        }
+    }
+
+    /// What the reply to a Get says of the name asked for: whether it has no value. None where the reply isn't one binding of that name, or has endOfMibView.
+    fn got(&self, mut bindings: Bindings<'_>) -> Option<bool>
+        ensures { result ≡ option_map (λ b. is_missing b.value) (got self.now.asked bindings.entry) }
+    {
+        let binding = bindings.next()?;
+        if bindings.next().is_some()
+            || binding.name != self.asked
+            || matches!(binding.value, ValueRef::EndOfMibView)
+        {
+            return None;
+        }
+        Some(lacks_value(&binding.value))
+    }
+
+    /// Reads the reply to the Get with which a walk begins that includes the root.
+    fn read_first<'a>(&mut self, message: &MessageRef<'a>) -> Step<'a>
+        ensures { (result, self.new) ≡ reads_first self.old (got self.old.asked message.now.bindings) }
+    {
+        let bindings = message.bindings();
+        match self.got(message.bindings()) {
+            None => self.stop(Rows::front(bindings, 0), WalkEnd::BadReply),
+            Some(lacks_value) => {
+                let count = if lacks_value { 0 } else { 1 };
+                let asked = copy_of(&self.asked);
+                self.go_on(
+                    Phase::Rows,
+                    Rows::front(bindings, count as usize),
+                    count,
+                    asked,
+                )
+            }
+        }
+    }
+
+    /// Reads the reply to the Get with which a plain walk ends that gave nothing.
+    fn read_last<'a>(&mut self, message: &MessageRef<'a>) -> Step<'a>
+        ensures { (result, self.new) ≡ reads_last self.old (got self.old.asked message.now.bindings) }
+    {
+        let bindings = message.bindings();
+        if self.got(message.bindings()).is_none() {
+            return self.stop(Rows::front(bindings, 0), WalkEnd::BadReply);
+        }
+        let given = self.count + 1;
+        self.stop(Rows::front(bindings, 1), WalkEnd::Done(given))
+    }
+
+    /// Reads a reply with the next instances.
+    fn read_next<'a>(&mut self, message: &MessageRef<'a>) -> Step<'a>
+        requires { AreSendable message.now.bindings }
+        ensures { (result, self.new) ≡ reads_next self.old message.now.bindings }
+    {
+        let bindings = message.bindings();
+        if message.bindings().next().is_none() {
+            let asked = copy_of(&self.asked);
+            return self.stop(Rows::front(bindings, 0), WalkEnd::NoProgress { asked });
+        }
+        if self.is_misplaced(message.bindings()) {
+            return self.stop(Rows::front(bindings, 0), WalkEnd::BadReply);
+        }
+        let Front { rows, last, ending } = self.front(message.bindings());
+        let given = Rows::front(bindings, rows as usize);
+        match ending {
+            Ending::GoesOn => self.go_on(Phase::Rows, given, rows, last),
+            Ending::Leaves => self.close(given, rows),
+            Ending::Falls(got) => self.stop(given, WalkEnd::NotIncreasing { last, got }),
+        }
+    }
+
+    /// Reads a message.
+    fn take_message<'a>(&mut self, message: &MessageRef<'a>) -> Step<'a>
+        requires { AreSendable message.now.bindings }
+        ensures { (result, self.new) ≡ take_of self.old message.now }
+    {
+        if !self.awaits(message) {
+            return Step::Stray;
+        }
+        let status = message.a();
+        if status != 0 {
+            return self.stop(
+                Rows::front(message.bindings(), 0),
+                WalkEnd::Fault(status, message.b()),
+            );
+        }
+        match self.phase {
+            Phase::First => self.read_first(message),
+            Phase::Rows => self.read_next(message),
+            Phase::Last => self.read_last(message),
+            Phase::Over => Step::Stray,
+        }
+    }
+}
+
+/// The bindings at the front of a reply that a walk gives, and what stands behind them.
+#[derive(Drop)]
+struct Front {
+    /// How many there are.
+    rows: u32,
+    /// The name of the last of them, or the one asked for.
+    last: Oid,
+    /// What stands behind them.
+    ending: Ending,
+}
+
+/// What stands behind the bindings that a walk gives.
+#[derive(Drop)]
+enum Ending {
+    /// Nothing: the walk goes on.
+    GoesOn,
+    /// A binding that ends the walk: endOfMibView, or a name that isn't below the root.
+    Leaves,
+    /// This name below the root, which doesn't come behind the one before it.
+    Falls(Oid),
+}
+
+/// The last id of a request (RFC 3416, section 3).
+const MAX_ID: u32 = 2147483647;
+
+/// Which request a walk begins with.
+fn first_phase(mode: Mode) -> Phase
+    ensures { result ≡ phase_at_first mode }
+{
+    match mode {
+        Mode::Include => Phase::First,
+        Mode::Plain | Mode::NoLast => Phase::Rows,
+    }
+}
+
+/// The community, in the core itself.
+fn owned(community: &[u8]) -> ArrayVec<u8, 255>
+    requires { length community.now ≤ 255 }
+    ensures { result.items ≡ community.now }
+{
+    match ArrayVec::try_from(community) {
+        Ok(owned) => owned,
+        Err(_) => unreachable!(),
+    }
+}
+
+/// The same identifier, once more.
+fn copy_of(oid: &Oid) -> Oid
+    ensures value { result ≡ oid.now }
+    ensures short { length oid.now ≤ 128 }
+{
+    match Oid::from_slice(oid.as_slice()) {
+        Ok(copy) => copy,
+        Err(_) => unreachable!(),
+    }
+}
+
+/// Whether the name is longer than the root and begins with it.
+fn stands_below(name: &Oid, root: &Oid) -> bool
+    ensures { result ≡ is_below root.now name.now }
+{
+    name.is_below(root)
+}
+
+/// Whether the second name comes behind the first.
+fn comes_behind(before: &Oid, name: &Oid) -> bool
+    ensures { result ≡ comes_after before.now name.now }
+{
+    before.cmp(name) == Ordering::Less
+}
+
+/// Whether the binding is an instance below the root.
+fn is_row(binding: &Binding<'_>, root: &Oid) -> bool
+    ensures { result ≡ is_inside root.now (var_bind binding.now) }
+{
+    match binding.value {
+        ValueRef::EndOfMibView => false,
+        _ => stands_below(&binding.name, root),
+    }
+}
+
+/// Whether there is noSuchObject or noSuchInstance in place of a value.
+fn lacks_value(value: &ValueRef<'_>) -> bool
+    ensures { result ≡ is_missing (datum value.now) }
+{
+    matches!(value, ValueRef::NoSuchObject | ValueRef::NoSuchInstance)
+}
