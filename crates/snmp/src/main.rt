@@ -1,0 +1,41 @@
+//! The program `snmp`: it hands the words, files and outputs of the machine to the tools.
+#![tactic(auto)]
+
+use snmp_ports::{MachineFiles, MachineOutput, Output, write_all};
+use snmp_tools::{Lines, tool};
+use std::env::Env;
+use std::io::ErrorKind;
+use std::process::ExitCode;
+use std::rt::Files;
+use std::{env, io};
+
+fn main(rt: HostRuntime) -> ExitCode {
+    let mut out = Lines::new(rt.alloc(), MachineOutput::new(rt.stdout()));
+    let mut err = MachineOutput::new(rt.stderr());
+    let status = match run(&rt, &mut out, &mut err) {
+        Ok(status) => status,
+        Err(error) => refused(&mut err, &error),
+    };
+    ExitCode::from(status)
+}
+
+fn run<R, O, E>(rt: &R, out: &mut Lines<O>, err: &mut E) -> io::Result<u8>
+where
+    R: Env + Files + AllocGlobal,
+    O: Output,
+    E: Output,
+{
+    let words: Vec<String> = env::args(rt)?.collect(rt.alloc())?;
+    let texts: Vec<&str> = words.iter().map(|word| word.as_str()).collect(rt.alloc())?;
+    Ok(tool(rt.alloc(), texts.as_slice(), &MachineFiles { rt }, out, err))
+}
+
+// No words can be had: memory ran out, or one of them is no text.
+fn refused<E: Output>(err: &mut E, error: &io::Error) -> u8 {
+    let text = match error.kind() {
+        ErrorKind::OutOfMemory => "Out of memory.\n",
+        _ => "error: invalid UTF-8 was detected in one or more arguments\n",
+    };
+    let _ = write_all(err, text.as_bytes());
+    1
+}

@@ -1,0 +1,62 @@
+//! The output of the tools: texts as they stand, and a line for each binding of a walk.
+ghost use Rattle.std.specs.Prelude.{◌≡◌, List, ℕ};
+ghost use Rattle.snmp_wire.specs.Message.{VarBind};
+ghost use Rattle.snmp_walk.specs.Facts.{IsFresh, WalkFacts};
+ghost use Rattle.snmp_walk.specs.Link.{AreViews};
+ghost use Rattle.snmp_tools.specs.Lines.{IsPrintedUpTo};
+
+use snmp_lines::line;
+use snmp_ports::{Output, OutputFault, write_all};
+use snmp_walk::{Link, Sink, SinkFault, WalkCore, WalkEnd, run_walk};
+use snmp_wire::Binding;
+use std::alloc::Global;
+
+/// An output to which lines are written, one by one.
+#[derive(Drop)]
+pub struct Lines<O: Output> {
+    /// Where the lines go.
+    pub out: O,
+    /// The line that is being written, whose memory serves for the next.
+    text: Vec<u8>,
+}
+
+impl<O: Output> Lines<O> {
+    /// An output of lines over this one.
+    pub fn new(alloc: Global, out: O) -> Lines<O>
+        ensures { result.out ≡ out }
+    {
+        Lines {
+            out,
+            text: Vec::new(alloc),
+        }
+    }
+}
+
+impl<O: Output> Sink for Lines<O> {
+    ghost use Rattle.snmp_tools.specs.Lines.{TakesLine};
+
+    ghost takes = { λ old binding result new. TakesLine (O.taken old.out) (O.fault_count old.out) binding result (O.taken new.out) (O.fault_count new.out) };
+
+    fn row(&mut self, binding: &Binding<'_>) -> Result<(), SinkFault> {
+        self.text.clear();
+        if line(binding, &mut self.text).is_err() {
+            return Err(SinkFault::Memory);
+        }
+        match write_all(&mut self.out, &self.text) {
+            Ok(()) => Ok(()),
+            Err(OutputFault) => Err(SinkFault::Output),
+        }
+    }
+}
+
+/// How often a request is sent again to which no reply came.
+const RETRIES: u32 = 5;
+
+/// Runs a walk whose bindings become lines on the output.
+pub(crate) fn print_walk<L: Link, O: Output>(link: &mut L, core: WalkCore, out: &mut Lines<O>) -> WalkEnd
+    requires { IsFresh core }
+    ensures { (rows : List VarBind) × IsPrintedUpTo (O.taken out.old.out) (O.fault_count out.old.out) rows result (O.taken out.new.out) (O.fault_count out.new.out)
+        × (L.honest link.old → AreViews (L.agents link.old).tables → WalkFacts (L.agents link.old) core rows result) }
+{
+    run_walk(link, core, RETRIES, out)
+}
