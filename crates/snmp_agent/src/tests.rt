@@ -64,7 +64,10 @@ fn assert_dropped(rt: &impl Abort, table: &Table, max_size: usize, request: &[u8
         max_size,
     };
     let mut out = [0; 65507];
-    assert_eq!(rt; answer(table, &config, request, &mut out), Outcome::Dropped(why));
+    assert_eq!(rt;
+        answer(table, &config, request, &mut out),
+        Outcome::Dropped(why)
+    );
 }
 
 #[test]

@@ -7,7 +7,14 @@ use std::test::Fail;
 
 /// Whether a walk of the table from the name prints this message alone, with status 1.
 fn refuses(rt: &HostRuntime, table: &[u8], root: &str, message: &[u8]) -> bool {
-    prints(rt, table, &["snmp", "snmpwalk", "-On", "table:t.tab", root], b"", message, 1)
+    prints(
+        rt,
+        table,
+        &["snmp", "snmpwalk", "-On", "table:t.tab", root],
+        b"",
+        message,
+        1,
+    )
 }
 
 #[test]
@@ -16,8 +23,23 @@ fn a_reply_that_is_too_big(rt: HostRuntime) -> Result<(), Fail> {
     for _ in 0..1500 {
         table.push(b'x')?;
     }
-    let words = ["snmp", "snmpwalk", "-On", "table:t.tab", ".1.3.6.1.4.1.32473.1"];
-    assert!(rt; prints(&rt, &table, &words, b"", b"Error in packet: tooBig (1), index 0\n", 2));
+    let words = [
+        "snmp",
+        "snmpwalk",
+        "-On",
+        "table:t.tab",
+        ".1.3.6.1.4.1.32473.1",
+    ];
+    assert!(rt;
+        prints(
+            &rt,
+            &table,
+            &words,
+            b"",
+            b"Error in packet: tooBig (1), index 0\n",
+            2
+        )
+    );
     Ok(())
 }
 
@@ -73,16 +95,44 @@ fn a_file_that_is_not_there(rt: HostRuntime) -> Result<(), Fail> {
 
 #[test]
 fn faults_of_a_table_with_their_lines(rt: HostRuntime) -> Result<(), Fail> {
-    assert!(rt; refuses(&rt, b"\n# two lines\n1.3.6.1|2\n", ".1", b"t.tab:3: bad line\n"));
+    assert!(rt;
+        refuses(
+            &rt,
+            b"\n# two lines\n1.3.6.1|2\n",
+            ".1",
+            b"t.tab:3: bad line\n"
+        )
+    );
     assert!(rt; refuses(&rt, b"1.3.6.1|5|\n", ".1", b"t.tab:1: bad line\n"));
     assert!(rt; refuses(&rt, b"1.3|2|1\n", ".1", b"t.tab:1: bad name\n"));
     assert!(rt; refuses(&rt, b"3.3.6|2|1\n", ".1", b"t.tab:1: bad name\n"));
     assert!(rt; refuses(&rt, b"object .\n", ".1", b"t.tab:1: bad name\n"));
-    assert!(rt; refuses(&rt, b"1.3.6.1|2|1\r\n1.3.6.2|2|2147483648\r\n", ".1", b"t.tab:2: bad value\n"));
+    assert!(rt;
+        refuses(
+            &rt,
+            b"1.3.6.1|2|1\r\n1.3.6.2|2|2147483648\r\n",
+            ".1",
+            b"t.tab:2: bad value\n"
+        )
+    );
     assert!(rt; refuses(&rt, b"1.3.6.1|2|\n", ".1", b"t.tab:1: bad value\n"));
     assert!(rt; refuses(&rt, b"1.3.6.1|4x|0\n", ".1", b"t.tab:1: bad value\n"));
-    assert!(rt; refuses(&rt, b"1.3.6.1|2|1\n.1.3.6.01|2|2\n", ".1", b"t.tab:2: double name\n"));
-    assert!(rt; refuses(&rt, b"1.3.6.1|2|1\n1.3.6.1|2|x\n1.3|2|1", ".1", b"t.tab:2: bad value\n"));
+    assert!(rt;
+        refuses(
+            &rt,
+            b"1.3.6.1|2|1\n.1.3.6.01|2|2\n",
+            ".1",
+            b"t.tab:2: double name\n"
+        )
+    );
+    assert!(rt;
+        refuses(
+            &rt,
+            b"1.3.6.1|2|1\n1.3.6.1|2|x\n1.3|2|1",
+            ".1",
+            b"t.tab:2: bad value\n"
+        )
+    );
     Ok(())
 }
 
@@ -92,7 +142,13 @@ fn an_output_that_fails_after_forty_octets(rt: HostRuntime) -> Result<(), Fail> 
     let files = MemoryFiles { files: &held };
     let mut out = Lines::new(rt.alloc(), MemoryOutput::with_limit(rt.alloc(), 40));
     let mut err = MemoryOutput::new(rt.alloc());
-    let words = ["snmp", "snmpwalk", "-On", "table:t.tab", ".1.3.6.1.4.1.32473.1"];
+    let words = [
+        "snmp",
+        "snmpwalk",
+        "-On",
+        "table:t.tab",
+        ".1.3.6.1.4.1.32473.1",
+    ];
     let status = tool(rt.alloc(), &words, &files, &mut out, &mut err);
     assert!(rt; status == 1);
     assert!(rt; out.out.octets() == b".1.3.6.1.4.1.32473.1.1.0 = INTEGER: 1\n.1".as_slice());
@@ -119,10 +175,26 @@ fn words_that_make_no_command(rt: HostRuntime) -> Result<(), Fail> {
     let files = MemoryFiles { files: &held };
     let mut out = Lines::new(rt.alloc(), MemoryOutput::new(rt.alloc()));
     let mut err = MemoryOutput::new(rt.alloc());
-    assert!(rt; tool(rt.alloc(), &["snmp", "snmpwalk"], &files, &mut out, &mut err) == 1);
+    assert!(rt;
+        tool(
+            rt.alloc(),
+            &["snmp", "snmpwalk"],
+            &files,
+            &mut out,
+            &mut err
+        ) == 1
+    );
     assert!(rt; out.out.octets().is_empty() && !err.octets().is_empty());
     let mut err = MemoryOutput::new(rt.alloc());
-    assert!(rt; tool(rt.alloc(), &["snmp", "snmpwalk", "--help"], &files, &mut out, &mut err) == 0);
+    assert!(rt;
+        tool(
+            rt.alloc(),
+            &["snmp", "snmpwalk", "--help"],
+            &files,
+            &mut out,
+            &mut err
+        ) == 0
+    );
     assert!(rt; !out.out.octets().is_empty() && err.octets().is_empty());
     Ok(())
 }

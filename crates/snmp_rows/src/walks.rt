@@ -7,7 +7,16 @@ use std::test::Fail;
 fn three_rows_in_numeric_order(rt: HostRuntime) -> Result<(), Fail> {
     assert!(rt; walks(&rt, THREE, ".1.3.6.1.4.1.32473.1", THREE_LINES));
     assert!(rt; walks(&rt, THREE, "1.3.6.1.4.1.32473.1", THREE_LINES));
-    assert!(rt; prints(&rt, THREE, &["snmp", "snmpwalk", "-O", "n", "table:t.tab", ".1"], THREE_LINES, b"", 0));
+    assert!(rt;
+        prints(
+            &rt,
+            THREE,
+            &["snmp", "snmpwalk", "-O", "n", "table:t.tab", ".1"],
+            THREE_LINES,
+            b"",
+            0
+        )
+    );
     Ok(())
 }
 
@@ -23,17 +32,33 @@ fn an_empty_table_answers_the_root_itself(rt: HostRuntime) -> Result<(), Fail> {
 
 #[test]
 fn the_root_is_an_instance(rt: HostRuntime) -> Result<(), Fail> {
-    assert!(rt; walks(&rt, THREE, ".1.3.6.1.4.1.32473.1.1.0", b".1.3.6.1.4.1.32473.1.1.0 = INTEGER: 1\n"));
+    assert!(rt;
+        walks(
+            &rt,
+            THREE,
+            ".1.3.6.1.4.1.32473.1.1.0",
+            b".1.3.6.1.4.1.32473.1.1.0 = INTEGER: 1\n"
+        )
+    );
     let nested = b"1.3.6.1.4.1.32473.9|2|7\n1.3.6.1.4.1.32473.9.1|2|8\n";
-    assert!(rt; walks(&rt, nested, ".1.3.6.1.4.1.32473.9", b".1.3.6.1.4.1.32473.9.1 = INTEGER: 8\n"));
+    assert!(rt;
+        walks(
+            &rt,
+            nested,
+            ".1.3.6.1.4.1.32473.9",
+            b".1.3.6.1.4.1.32473.9.1 = INTEGER: 8\n"
+        )
+    );
     Ok(())
 }
 
 #[test]
 fn a_walk_ends_where_its_subtree_does(rt: HostRuntime) -> Result<(), Fail> {
-    let table = b"1.3.6.1.9.1|2|1\n1.3.6.1.10.1|2|2\n1.3.6.1.10|2|3\n1.3.6.1.11.0|2|4\n1.3.6.1.100.0|2|5\n";
+    let table =
+        b"1.3.6.1.9.1|2|1\n1.3.6.1.10.1|2|2\n1.3.6.1.10|2|3\n1.3.6.1.11.0|2|4\n1.3.6.1.100.0|2|5\n";
     assert!(rt; walks(&rt, table, ".1.3.6.1.10", b".1.3.6.1.10.1 = INTEGER: 2\n"));
-    let all = b".1.3.6.1.9.1 = INTEGER: 1\n.1.3.6.1.10 = INTEGER: 3\n.1.3.6.1.10.1 = INTEGER: 2\n.1.3.6.1.11.0 = INTEGER: 4\n.1.3.6.1.100.0 = INTEGER: 5\n";
+    let all =
+        b".1.3.6.1.9.1 = INTEGER: 1\n.1.3.6.1.10 = INTEGER: 3\n.1.3.6.1.10.1 = INTEGER: 2\n.1.3.6.1.11.0 = INTEGER: 4\n.1.3.6.1.100.0 = INTEGER: 5\n";
     assert!(rt; walks(&rt, table, ".", all));
     Ok(())
 }
@@ -41,7 +66,14 @@ fn a_walk_ends_where_its_subtree_does(rt: HostRuntime) -> Result<(), Fail> {
 #[test]
 fn lines_end_in_either_way(rt: HostRuntime) -> Result<(), Fail> {
     let table = b"1.3.6.1.2.0|4|a|b\r\n\r\n#\r\n1.3.6.1.1.0|2|-5";
-    assert!(rt; walks(&rt, table, ".1.3", b".1.3.6.1.1.0 = INTEGER: -5\n.1.3.6.1.2.0 = STRING: \"a|b\"\n"));
+    assert!(rt;
+        walks(
+            &rt,
+            table,
+            ".1.3",
+            b".1.3.6.1.1.0 = INTEGER: -5\n.1.3.6.1.2.0 = STRING: \"a|b\"\n"
+        )
+    );
     Ok(())
 }
 

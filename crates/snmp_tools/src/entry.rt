@@ -22,7 +22,10 @@ pub fn tool<F: Files, O: Output, E: Output>(
 {
     match read_words(alloc, words) {
         Ok(job) => run_job(alloc, &job, files, out, err),
-        Err(UsageError::Parse { text, help: true }) => match write_all(&mut out.out, text.as_bytes()) {
+        Err(UsageError::Parse { text, help: true }) => match write_all(
+            &mut out.out,
+            text.as_bytes(),
+        ) {
             Ok(()) => 0,
             Err(_) => {
                 let _ = write_all(err, b"The output failed.\n");

@@ -3,14 +3,14 @@
 //! Stands on the words, on outputs and files, on tables, walks and lines. The program hands it the machine.
 #![tactic(auto)]
 
+mod entry;
 mod failure;
 mod job;
 mod lines;
-mod entry;
 
+pub use entry::tool;
 pub use failure::{Failure, Words};
 pub use job::run_job;
 pub use lines::Lines;
 pub use snmp_ports::{FileFault, Files, Output, OutputFault};
 pub use snmp_words::{Job, UsageError, WalkJob, read_words};
-pub use entry::tool;

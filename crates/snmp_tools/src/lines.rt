@@ -53,7 +53,11 @@ impl<O: Output> Sink for Lines<O> {
 const RETRIES: u32 = 5;
 
 /// Runs a walk whose bindings become lines on the output.
-pub(crate) fn print_walk<L: Link, O: Output>(link: &mut L, core: WalkCore, out: &mut Lines<O>) -> WalkEnd
+pub(crate) fn print_walk<L: Link, O: Output>(
+    link: &mut L,
+    core: WalkCore,
+    out: &mut Lines<O>,
+) -> WalkEnd
     requires { IsFresh core }
     ensures { (rows : List VarBind) × IsPrintedUpTo (O.taken out.old.out) (O.fault_count out.old.out) rows result (O.taken out.new.out) (O.fault_count out.new.out)
         × (L.honest link.old → AreViews (L.agents link.old).tables → WalkFacts (L.agents link.old) core rows result) }

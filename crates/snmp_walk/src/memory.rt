@@ -17,14 +17,22 @@ pub struct MemoryLink<'a> {
 impl<'a> MemoryLink<'a> {
     /// A link to the agent of this table.
     pub fn new(table: &'a Table, config: Config<'a>) -> MemoryLink<'a> {
-        MemoryLink { table, config, reply: [0; 65507], length: None }
+        MemoryLink {
+            table,
+            config,
+            reply: [0; 65507],
+            length: None,
+        }
     }
 }
 
 impl Link for MemoryLink<'_> {
     ghost honest = { λ _. ⊥ };
+
     ghost agents = { λ _. record { tables = []; community = []; max_size = 0 } };
+
     ghost latest = { λ _. None };
+
     ghost fault_count = { λ _. 0 };
 
     fn send(&mut self, datagram: &[u8]) -> Result<(), LinkFault> {

@@ -9,5 +9,5 @@ returns-clause-ok c =
     let first : List ℕ = codes "Error: OID not increasing: " ++ numeric_text c.args.last.now in
     on_ok_weaker c.name_behind-2.result
     (λ e. joined c.args.out.now.items first (codes " >= " ++ numeric_text c.args.got.now) (first ++ codes " >= " ++ numeric_text c.args.got.now) _ _
-        c.in_ok-name_behind.ensures.ok e (append_assoc first (codes " >= ") (numeric_text c.args.got.now)))
+    c.in_ok-name_behind.ensures.ok e (append_assoc first (codes " >= ") (numeric_text c.args.got.now)))
     c.name_behind-2.ensures.ok
