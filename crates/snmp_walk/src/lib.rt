@@ -5,6 +5,7 @@
 
 mod end;
 mod link;
+mod memory;
 mod mode;
 mod phase;
 mod rows;
@@ -14,6 +15,7 @@ mod walker;
 
 pub use end::{LinkFault, SinkFault, StartError, WalkEnd};
 pub use link::Link;
+pub use memory::MemoryLink;
 pub use mode::{Method, Mode};
 pub use phase::Phase;
 pub use rows::{Rows, Step};
