@@ -14,3 +14,4 @@ pub mod RunLemmas
 pub mod ViewLemmas
 pub mod JoinLemmas
 pub mod FactLemmas
+pub mod HonestLemmas

@@ -39,6 +39,8 @@ impl<'a> Link for MemoryLink<'a> {
 
     ghost fault_count = { λ _. 0 };
 
+    ghost lawful = { λ link h. absurd h };
+
     fn send(&mut self, datagram: &[u8]) -> Result<(), LinkFault> {
         self.length = match answer(self.table, &self.config, datagram, &mut self.reply) {
             Outcome::Reply(length) => Some(length),
