@@ -42,10 +42,13 @@ repetitions_fit phase.Over m h = fits_from 0 (omega arith)
 
 request_in_range : (w : Walker) → IsWalker w → IsMessageInRange (request_of w)
 request_in_range w good = record {
-    version = fits_from 1 (omega arith); community = (good.octets, omega (arith, good.community)); id = fits_from w.id good.id;
-    a = fits_from 0 (omega arith); b = repetitions_fit w.phase w.method good.repetitions;
-    bindings = (record { name = (good.asked, good.identifier); value = tt }, tt);
-    total = omega (arith, name_short w.asked good.identifier.short)
+  version = fits_from 1 (omega arith);
+  community = (good.octets, omega (arith, good.community));
+  id = fits_from w.id good.id;
+  a = fits_from 0 (omega arith);
+  b = repetitions_fit w.phase w.method good.repetitions;
+  bindings = (record { name = (good.asked, good.identifier); value = tt }, tt);
+  total = omega (arith, name_short w.asked good.identifier.short);
 }
 
 value_in_range : (v : Datum) → IsInstanceValue v → IsInRange v
@@ -81,9 +84,13 @@ bindings_within m n h =
 response_in_range : (w : Walker) → IsWalker w → (a : ℕ) (bindings : List VarBind) (n : ℕ) → a < 2 → AllByRecursion IsBindingInRange bindings
     → length (canon (response (request_of w) (pos a) (pos 0) bindings)) ≤ n → n ≤ 65507 → IsMessageInRange (response (request_of w) (pos a) (pos 0) bindings)
 response_in_range w good a bindings n small each fits datagram = record {
-    version = fits_from 1 (omega arith); community = (good.octets, omega (arith, good.community)); id = fits_from w.id good.id;
-    a = fits_from a (omega arith); b = fits_from 0 (omega arith); bindings = each;
-    total = omega (arith, datagram, bindings_within (response (request_of w) (pos a) (pos 0) bindings) n fits)
+  version = fits_from 1 (omega arith);
+  community = (good.octets, omega (arith, good.community));
+  id = fits_from w.id good.id;
+  a = fits_from a (omega arith);
+  b = fits_from 0 (omega arith);
+  bindings = each;
+  total = omega (arith, datagram, bindings_within (response (request_of w) (pos a) (pos 0) bindings) n fits);
 }
 
 -- the answers to a request of one name
@@ -136,8 +143,11 @@ module _ (agents : Agents) (lawful : AreLawful agents) (w : Walker) (good : IsWa
   replied : (m : Message) (a : ℕ) (bindings : List VarBind) → m ≡ response (request_of w) (pos a) (pos 0) bindings
       → IsContent (next_of agents) (got_of agents) (IsTooLarge agents) w.phase w m → IsReplyTo (next_of agents) (got_of agents) (IsTooLarge agents) w m
   replied m a bindings e content = record {
-      version = ap (λ (x : Message). x.version) e; community = ap (λ (x : Message). x.community) e; kind = ap (λ (x : Message). x.kind) e;
-      id = ap (λ (x : Message). x.id) e; content = content
+    version = ap (λ (x : Message). x.version) e;
+    community = ap (λ (x : Message). x.community) e;
+    kind = ap (λ (x : Message). x.kind) e;
+    id = ap (λ (x : Message). x.id) e;
+    content = content;
   }
 
   -- what is too large for the agent is too large
@@ -153,7 +163,7 @@ module _ (agents : Agents) (lawful : AreLawful agents) (w : Walker) (good : IsWa
       let p = one_answer (λ asked given. IsGet view asked.name given) w.asked bindings answers in
       let is : m ≡ response (request_of w) (pos 0) (pos 0) bindings = same ∙ e in
       replied m 0 bindings is (of_get m p.0 (get_phase w.phase w.method waits k)
-        (inl (ap (λ (x : Message). x.a) is, (p.0, (view, one, p.2), ap (λ (x : Message). x.bindings) is ∙ p.1))))
+      (inl (ap (λ (x : Message). x.a) is, (p.0, (view, one, p.2), ap (λ (x : Message). x.bindings) is ∙ p.1))))
   content_of m r same (whole (got_next bindings k answers e) fits) =
       let p = one_answer (λ asked given. IsNext view asked.name given) w.asked bindings answers in
       let is : m ≡ response (request_of w) (pos 0) (pos 0) bindings = same ∙ e in
@@ -161,10 +171,10 @@ module _ (agents : Agents) (lawful : AreLawful agents) (w : Walker) (good : IsWa
       let only : m.bindings ≡ p.0 ∷ [] = ap (λ (x : Message). x.bindings) is ∙ p.1 in
       let chain : IsChain (next_of agents) w.asked m.bindings = subst (IsChain (next_of agents) w.asked) (sym only) ((view, one, p.2), tt) in
       let few : length m.bindings ≤ asked_for w.method =
-            subst (λ (x : Method). length m.bindings ≤ asked_for x) (sym at.1) (omega (arith, ap length only)) in
+      subst (λ (x : Method). length m.bindings ≤ asked_for x) (sym at.1) (omega (arith, ap length only)) in
       let some : m.bindings ≡ [] → IsLarge (next_of agents) (IsTooLarge agents) w.asked = λ none. let never : ⊥ = cc in absurd never in
       replied m 0 bindings is (subst (λ (q : Phase). IsContent (next_of agents) (got_of agents) (IsTooLarge agents) q w m) (sym at.0)
-        (inl (ap (λ (x : Message). x.a) is, chain, few, some)))
+      (inl (ap (λ (x : Message). x.a) is, chain, few, some)))
   content_of m r same (whole (unwritten k e) fits) = absurd (set_phase w.phase w.method k)
   content_of m r same (shortened large_one (got bindings k answers e) no_fit is_r) =
       let p = one_answer (λ asked given. IsGet view asked.name given) w.asked bindings answers in
@@ -172,7 +182,7 @@ module _ (agents : Agents) (lawful : AreLawful agents) (w : Walker) (good : IsWa
       let whole_is : large_one ≡ response (request_of w) no_error (pos 0) (p.0 ∷ []) = e ∙ ap (response (request_of w) no_error (pos 0)) p.1 in
       let too_large = large p.0 (λ fit. no_fit (subst (Fits agents.max_size) (sym whole_is) fit)) in
       replied m 1 [] is (of_get m p.0 (get_phase w.phase w.method waits k)
-        (inr (ap (λ (x : Message). x.a) is, ap (λ (x : Message). x.b) is, (p.0, (view, one, p.2), too_large))))
+      (inr (ap (λ (x : Message). x.a) is, ap (λ (x : Message). x.b) is, (p.0, (view, one, p.2), too_large))))
   content_of m r same (shortened large_one (got_next bindings k answers e) no_fit is_r) =
       let p = one_answer (λ asked given. IsNext view asked.name given) w.asked bindings answers in
       let is : m ≡ response (request_of w) (pos 1) (pos 0) [] = same ∙ is_r in
@@ -180,7 +190,7 @@ module _ (agents : Agents) (lawful : AreLawful agents) (w : Walker) (good : IsWa
       let whole_is : large_one ≡ response (request_of w) no_error (pos 0) (p.0 ∷ []) = e ∙ ap (response (request_of w) no_error (pos 0)) p.1 in
       let too_large = large p.0 (λ fit. no_fit (subst (Fits agents.max_size) (sym whole_is) fit)) in
       replied m 1 [] is (subst (λ (q : Phase). IsContent (next_of agents) (got_of agents) (IsTooLarge agents) q w m) (sym at.0)
-        (inr (ap (λ (x : Message). x.a) is, ap (λ (x : Message). x.b) is, (p.0, (view, one, p.2), too_large))))
+      (inr (ap (λ (x : Message). x.a) is, ap (λ (x : Message). x.b) is, (p.0, (view, one, p.2), too_large))))
   content_of m r same (shortened large_one (unwritten k e) no_fit is_r) = absurd (set_phase w.phase w.method k)
 
   in_range : (r : Message) → IsResponse view agents.max_size (request_of w) r → Fits agents.max_size r → IsMessageInRange r

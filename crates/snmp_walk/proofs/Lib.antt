@@ -15,3 +15,4 @@ pub mod ViewLemmas
 pub mod JoinLemmas
 pub mod FactLemmas
 pub mod HonestLemmas
+pub mod MemoryLemmas

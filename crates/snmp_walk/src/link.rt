@@ -22,6 +22,7 @@ pub trait Link {
 
     /// Sends a datagram of at most 65507 octets.
     fn send(&mut self, datagram: &[u8]) -> Result<(), LinkFault>
+        requires { length datagram.now ≤ 65507 }
         ensures sent { honest self.old → OnOk result (latest self.new ≡ Some datagram.now) }
         ensures stays { honest self.old → honest self.new }
         ensures agents { agents self.new ≡ agents self.old }

@@ -77,6 +77,7 @@ fn exchange<L: Link>(
 ) -> Result<Option<usize>, LinkFault>
     requires waits { is_over core.now.phase ≡ false }
     requires request { request.now ≡ canon (request_of core.now) }
+    requires fits { length request.now ≤ 65507 }
     ensures length { IfOk result (λ heard. IfSome heard (λ n. n ≤ 65507)) }
     ensures reply { IfOk result (λ heard. IfSome heard (λ n. IsHeard (L.agents link.old) (L.honest link.old) core.now (take n buffer.new))) }
     ensures silent { IfOk result (λ heard. IfNone heard (L.honest link.old → IsUnanswered (L.agents link.old) (canon (request_of core.now)))) }

@@ -8,7 +8,9 @@ ghost use Rattle.snmp_walk.specs.Request.{first_phase as phase_at_first};
 
 use crate::{Method, Mode, Phase, Rows, StartError, Step, WalkEnd};
 use arrayvec::ArrayVec;
-use snmp_wire::{Binding, Bindings, Kind, MessageRef, Oid, OidError, Parts, ValueRef, decode, encode};
+use snmp_wire::{
+    Binding, Bindings, Kind, MessageRef, Oid, OidError, Parts, ValueRef, decode, encode,
+};
 use std::cmp::Ordering;
 use std::marker::Model;
 

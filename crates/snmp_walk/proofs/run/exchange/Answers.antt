@@ -18,8 +18,9 @@ tries-preserved g c =
       c.hear.ensures.agents ∙ c.send.ensures.agents ∙ inv.1,
       c.in_ok-length.ensures.count ∙ c.in_ok-send.ensures.count ∙ inv.2,
       λ more h.
-        subst (λ (a : Agents). IsUnanswered a (canon (request_of c.args.core.now))) (c.send.ensures.agents ∙ inv.1)
-          (silent (c.send.ensures.stays (inv.0 h)) (sent (inv.0 h) ∙ ap Some c.requires.request)))
+          subst (λ (a : Agents). IsUnanswered a (canon (request_of c.args.core.now))) (c.send.ensures.agents ∙ inv.1)
+          (silent (c.send.ensures.stays (inv.0 h)) (sent (inv.0 h) ∙ ap Some c.requires.request)),
+    )
 
 pub returns-clause-silent : goal.returns-clause-silent
 returns-clause-silent g c = c.tries.invariant.3 (let some : 0 < c.tries.counter = omega arith in some)
