@@ -14,3 +14,5 @@ pub mod RunLemmas
 pub mod ViewLemmas
 pub mod JoinLemmas
 pub mod FactLemmas
+pub mod HonestLemmas
+pub mod MemoryLemmas

@@ -13,8 +13,9 @@ use Rattle.snmp_walk.specs.Walker.{Walker, IsWalker}
 use Rattle.snmp_walk.specs.Request.{request_of}
 use Rattle.snmp_walk.specs.Taken.{is_over, is_response, is_awaited}
 use Rattle.snmp_walk.specs.Standing.{IsReplyTo}
-use Rattle.snmp_walk.specs.Link.{Agents, next_of, got_of, IsTooLarge, IsReply, Receives, IsSent}
+use Rattle.snmp_walk.specs.Link.{Agents, next_of, got_of, IsTooLarge, AreLawful, IsReply, IsUnanswered, Receives, IsSent}
 use Rattle.snmp_walk.specs.Run.{IsHeard}
+use Rattle.snmp_walk.proofs.HonestLemmas.{honest_reply}
 
 -- it is awaited
 pub reply_awaited : (Next Got : List ℕ → VarBind → Type 0) (Large : VarBind → Type 0) (w : Walker) (m : Message) → is_over w.phase ≡ false
@@ -28,9 +29,9 @@ reply_awaited Next Got Large w m waits r =
     and_from _ _ (and_from _ _ (and_from _ _ (and_from _ _ waiting version) community) response) id
 
 pub received_none : (agents : Agents) (latest : Option (List ℕ)) (w : Walker) (octets : List ℕ) → IsSent latest w → Receives agents latest None octets
-    → (reply : List ℕ) → IsReply agents (canon (request_of w)) reply → ⊥
-received_none agents latest w octets sent h reply r =
-    let P : Option (List ℕ) → Type 0 = λ l. Receives agents l None octets in subst P sent h reply r
+    → IsUnanswered agents (canon (request_of w))
+received_none agents latest w octets sent h =
+    let P : Option (List ℕ) → Type 0 = λ l. Receives agents l None octets in subst P sent h
 
 pub received_some : (agents : Agents) (latest : Option (List ℕ)) (w : Walker) (n : ℕ) (octets : List ℕ) → IsSent latest w → Receives agents latest (Some n) octets
     → IsReply agents (canon (request_of w)) (take n octets)
@@ -39,7 +40,7 @@ received_some agents latest w n octets sent h =
 
 -- what was heard, by what `is_reply` says of the datagram
 pub heard_by : (agents : Agents) (honest : Type 0) (w : Walker) (datagram : List ℕ) (r : Bool) → IsWalker w → is_over w.phase ≡ false
-    → (honest → IsReply agents (canon (request_of w)) datagram)
+    → (honest → AreLawful agents × IsReply agents (canon (request_of w)) datagram)
     → ((m : Message) → Spells m datagram → r ≡ is_awaited w m)
     → ((m : Message) × Spells m datagram × ((n : Message) → Spells n datagram → n ≡ m)) → r ≡ true → IsHeard agents honest w datagram
 heard_by agents honest w datagram r good waits reply awaited spelt is_true = record {
@@ -48,15 +49,16 @@ heard_by agents honest w datagram r good waits reply awaited spelt is_true = rec
   only = spelt.2;
   awaited = sym (awaited spelt.0 spelt.1) ∙ is_true;
   reply = λ h.
-      let given = reply h w good waits refl in
+      let fact = reply h in
+      let given = honest_reply agents fact.0 w good waits datagram fact.1 in
       subst (IsReplyTo (next_of agents) (got_of agents) (IsTooLarge agents) w) (spelt.2 given.0 given.1) given.2;
 }
 
 -- an honest reply isn't passed over
-pub not_stray : (agents : Agents) (w : Walker) (datagram : List ℕ) (r : Bool) → IsWalker w → is_over w.phase ≡ false
+pub not_stray : (agents : Agents) (w : Walker) (datagram : List ℕ) (r : Bool) → AreLawful agents → IsWalker w → is_over w.phase ≡ false
     → IsReply agents (canon (request_of w)) datagram → ((m : Message) → Spells m datagram → r ≡ is_awaited w m) → r ≡ false → ⊥
-not_stray agents w datagram r good waits reply awaited stray =
-    let given = reply w good waits refl in
+not_stray agents w datagram r lawful good waits reply awaited stray =
+    let given = honest_reply agents lawful w good waits datagram reply in
     false≢true (sym stray ∙ awaited given.0 given.1 ∙ reply_awaited (next_of agents) (got_of agents) (IsTooLarge agents) w given.0 waits given.2)
 
 -- the same of a link that is as it was
@@ -66,3 +68,10 @@ received_by before after old latest r w n octets same_agents same_latest some se
     let a : Receives after old r octets = subst (λ (x : Agents). Receives x old r octets) same_agents h in
     let b : Receives after latest r octets = subst (λ (x : Option (List ℕ)). Receives after x r octets) same_latest a in
     received_some after latest w n octets sent (subst (λ (x : Option ℕ). Receives after latest x octets) some b)
+
+pub unanswered_by : (before after : Agents) (old latest : Option (List ℕ)) (r : Option ℕ) (w : Walker) (octets : List ℕ) → before ≡ after → old ≡ latest → r ≡ None
+    → IsSent latest w → Receives before old r octets → IsUnanswered after (canon (request_of w))
+unanswered_by before after old latest r w octets same_agents same_latest none sent h =
+    let a : Receives after old r octets = subst (λ (x : Agents). Receives x old r octets) same_agents h in
+    let b : Receives after latest r octets = subst (λ (x : Option (List ℕ)). Receives after x r octets) same_latest a in
+    received_none after latest w octets sent (subst (λ (x : Option ℕ). Receives after latest x octets) none b)

@@ -19,7 +19,7 @@ use Rattle.snmp_walk.specs.Walker.{Walker}
 use Rattle.snmp_walk.specs.Request.{request_of, first_phase}
 use Rattle.snmp_walk.specs.Taken.{is_over, if_present, take_of}
 use Rattle.snmp_walk.specs.Standing.{IsOpening, IsGiven, IsAlone, IsPart, IsStage, IsReplyTo, Stands, Ends, Advances, Rises, Named, IsReplyEnd, Keeps}
-use Rattle.snmp_walk.specs.Link.{Agents, next_of, got_of, IsTooLarge, IsReply}
+use Rattle.snmp_walk.specs.Link.{Agents, next_of, got_of, IsTooLarge}
 use Rattle.snmp_walk.specs.Sink.{Given, Refused, Took}
 use Rattle.snmp_walk.specs.Run.{IsFrom, Turns, goes_on, ends, is_refused, is_silent, fails, rows_in}
 use Rattle.snmp_walk.specs.Facts.{IsFresh, IsLawfulEnd}

@@ -7,7 +7,7 @@ use Rattle.snmp_walk.specs.Reading.{AreSendable}
 
 each_sendable : (bindings : List VarBind) (octets : List ℕ) → SpellsBindings lenient bindings octets → AreSendable bindings
 each_sendable [] octets h = tt
-each_sendable (b ∷ more) octets h = (h.3.is_name.is_content.wire, each_sendable more h.1 h.4)
+each_sendable (b ∷ more) octets h = (h.3.is_name.is_content.wire, h.3.is_name.is_content.identifier, each_sendable more h.1 h.4)
 
 pub sendable : (m : Message) (octets : List ℕ) → Spells m octets → AreSendable m.bindings
 sendable m octets h = each_sendable m.bindings h.is_pdu.bindings h.is_pdu.are_bindings

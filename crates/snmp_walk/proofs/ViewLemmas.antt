@@ -75,7 +75,7 @@ get_value view good o p (variable e row) = value_no_end p.value (good.values p r
 get_value view good o p (unknown_object none unknown is) = ap (λ (b : VarBind). is_end b.value) is
 get_value view good o p (unknown_instance none has is) = ap (λ (b : VarBind). is_end b.value) is
 
-view_of : (views : List MibView) → AreViews views → (view : MibView) → OneOf views view → IsMibView view
+pub view_of : (views : List MibView) → AreViews views → (view : MibView) → OneOf views view → IsMibView view
 view_of [] h view one = absurd one
 view_of (v ∷ views) h view (inl e) = subst IsMibView (sym e) h.0
 view_of (v ∷ views) h view (inr one) = view_of views h.1 view one

@@ -10,7 +10,7 @@ use Rattle.snmp_walk.specs.Walk.{walk_from}
 use Rattle.snmp_walk.specs.Walker.{Walker}
 use Rattle.snmp_walk.specs.Request.{request_of, first_phase}
 use Rattle.snmp_walk.specs.Standing.{Stands, IsPart, Ends}
-use Rattle.snmp_walk.specs.Link.{Agents, next_of, got_of, IsTooLarge, IsReply}
+use Rattle.snmp_walk.specs.Link.{Agents, next_of, got_of, IsTooLarge, IsUnanswered}
 
 -- a walk of which nothing was taken yet, and which asks for the root or behind a name that begins with it
 pub record IsFresh (w : Walker) : Type 0 where
@@ -23,7 +23,7 @@ abbrev pub IsLawfulEnd : Agents → Walker → List VarBind → WalkEnd → Type
 IsLawfulEnd agents first rows ending.Link = Unit {0}
 IsLawfulEnd agents first rows (ending.Sink fault) = Unit {0}
 IsLawfulEnd agents first rows ending.NoResponse =
-    (w : Walker) × Stands (next_of agents) (got_of agents) first w rows × ((reply : List ℕ) → IsReply agents (canon (request_of w)) reply → ⊥)
+    (w : Walker) × Stands (next_of agents) (got_of agents) first w rows × IsUnanswered agents (canon (request_of w))
 IsLawfulEnd agents first rows why =
     (w : Walker) × (given : List VarBind) × Stands (next_of agents) (got_of agents) first w given × Ends (next_of agents) (got_of agents) (IsTooLarge agents) first w rows why
 

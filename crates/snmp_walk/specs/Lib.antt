@@ -10,3 +10,4 @@ pub mod Link
 pub mod Sink
 pub mod Run
 pub mod Facts
+pub mod Memory

@@ -5,10 +5,10 @@ use Rattle.snmp_wire.specs.Message.{VarBind, Message}
 use Rattle.snmp_wire.specs.Canon.{canon}
 use Rattle.snmp_wire.specs.Spelling.{Spells}
 use Rattle.snmp_table.specs.Table.{MibView, IsGet, IsNext, IsMibView}
-use Rattle.snmp_walk.specs.Walker.{Walker, IsWalker}
+use Rattle.snmp_agent.specs.Reply.{Agent, IsReply as IsAgentReply, IsDropped}
+use Rattle.snmp_agent.specs.declared.config.Why.{Why}
+use Rattle.snmp_walk.specs.Walker.{Walker}
 use Rattle.snmp_walk.specs.Request.{request_of}
-use Rattle.snmp_walk.specs.Taken.{is_over}
-use Rattle.snmp_walk.specs.Standing.{IsReplyTo}
 
 -- the agents that may answer: the tables that they serve, their community, and the greatest size of their messages
 pub record Agents : Type 0 where
@@ -49,23 +49,37 @@ IsTooLarge agents p = (id : ℕ) × (id < 2 ^ 31) × (agents.max_size < length (
 abbrev pub Rose : ℕ → ℕ → Type 0
 Rose before now = (before < now) ⊎ (now ≡ 18446744073709551615)
 
--- The octets may be the agents' reply to the datagram: whichever walk has it as its waiting request, they spell an honest reply to that.
+-- one of them, with its table
+abbrev pub agent_in : Agents → MibView → Agent
+agent_in agents view = record { view = view; community = agents.community; max_size = agents.max_size }
+
+-- the octets are the reply of one of the agents to the datagram
 abbrev pub IsReply : Agents → List ℕ → List ℕ → Type 0
-IsReply agents request reply =
-    (w : Walker) → IsWalker w → is_over w.phase ≡ false → request ≡ canon (request_of w)
-    → (m : Message) × Spells m reply × IsReplyTo (next_of agents) (got_of agents) (IsTooLarge agents) w m
+IsReply agents datagram reply = (view : MibView) × OneOf agents.tables view × IsAgentReply (agent_in agents view) datagram reply
+
+-- one of the agents has no reply to the datagram
+pub record IsUnanswered (agents : Agents) (datagram : List ℕ) : Type 0 where
+  pub view : MibView
+  pub one : OneOf agents.tables view
+  pub why : Why
+  pub dropped : IsDropped (agent_in agents view) datagram why
 
 -- what a receive gives, where each datagram that is sent is answered by the next receive: the reply to the latest one, or nothing where it has none
 abbrev pub Receives : Agents → Option (List ℕ) → Option ℕ → List ℕ → Type 0
 Receives agents None None octets = Unit {0}
 Receives agents None (Some n) octets = ⊥
-Receives agents (Some request) None octets = (reply : List ℕ) → IsReply agents request reply → ⊥
-Receives agents (Some request) (Some n) octets = IsReply agents request (take n octets)
+Receives agents (Some datagram) None octets = IsUnanswered agents datagram
+Receives agents (Some datagram) (Some n) octets = IsReply agents datagram (take n octets)
 
 -- the tables are tables of agents
 abbrev pub AreViews : List MibView → Type 0
 AreViews [] = Unit {0}
 AreViews (view ∷ views) = IsMibView view × AreViews views
+
+-- what agents are
+pub record AreLawful (agents : Agents) : Type 0 where
+  pub views : AreViews agents.tables
+  pub size : agents.max_size ≤ 65507
 
 -- The datagram that was sent last is the request that the walk waits to be answered.
 abbrev pub IsSent : Option (List ℕ) → Walker → Type 0

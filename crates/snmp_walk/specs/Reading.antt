@@ -1,7 +1,7 @@
 -- How the bindings of a reply are read in turn: the reading of the rules of `Taken` that proofs calculate with.
 use Rattle.std.specs.Prelude.{◌≡◌, ℕ, ◌+◌, ◌<◌, List, [], ◌∷◌, if◌then◌else◌, Bool, ◌||◌, nat_lt, length, take}
 use Rattle.std.specs.List.{list_any}
-use Rattle.snmp_oid.specs.Identifier.{IsWire}
+use Rattle.snmp_oid.specs.Identifier.{IsIdentifier, IsWire}
 use Rattle.snmp_wire.specs.Message.{VarBind}
 use Rattle.snmp_walk.specs.declared.walker.Ending.{Ending}
 use Rattle.snmp_walk.specs.declared.walker.Ending.TheVariants as ending
@@ -43,4 +43,4 @@ is_misplaced room bindings = nat_lt room (length bindings) || list_any (λ p. is
 -- each name has an encoding
 abbrev pub AreSendable : List VarBind → Type 0
 AreSendable [] = Unit {0}
-AreSendable (b ∷ more) = IsWire b.name × AreSendable more
+AreSendable (b ∷ more) = IsWire b.name × IsIdentifier b.name × AreSendable more

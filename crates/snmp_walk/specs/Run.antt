@@ -13,7 +13,7 @@ use Rattle.snmp_walk.specs.Request.{request_of}
 use Rattle.snmp_walk.specs.Sink.{Given, Refused}
 use Rattle.snmp_walk.specs.Taken.{is_awaited, take_of}
 use Rattle.snmp_walk.specs.Standing.{IsReplyTo}
-use Rattle.snmp_walk.specs.Link.{Agents, next_of, got_of, IsTooLarge, IsReply}
+use Rattle.snmp_walk.specs.Link.{Agents, next_of, got_of, IsTooLarge, IsUnanswered}
 
 -- The datagram spells the reply that the walk waits for, which the agents gave where the link is honest.
 pub record IsHeard (agents : Agents) (honest : Type 0) (w : Walker) (datagram : List ℕ) : Type 0 where
@@ -43,6 +43,6 @@ pub data Turns {S : Type 0} (takes : S → VarBind → Result (Unit {0}) SinkFau
   is_refused : (m : Message) (fault : SinkFault) (left : List VarBind) (between : S) → IsFrom agents honest old m → rows_in (take_of old m).0 ≡ rows ++ left
       → Given takes before rows between → Refused takes between fault after
       → end ≡ Some (ending.Sink fault) → Turns takes agents honest old before rows end new after
-  is_silent : (honest → (reply : List ℕ) → IsReply agents (canon (request_of old)) reply → ⊥) → rows ≡ [] → after ≡ before
+  is_silent : (honest → IsUnanswered agents (canon (request_of old))) → rows ≡ [] → after ≡ before
       → end ≡ Some ending.NoResponse → Turns takes agents honest old before rows end new after
   fails : rows ≡ [] → after ≡ before → end ≡ Some ending.Link → Turns takes agents honest old before rows end new after

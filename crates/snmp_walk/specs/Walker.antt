@@ -1,6 +1,7 @@
 -- What a walk knows between two datagrams.
-use Rattle.std.specs.Prelude.{ℕ, ℤ, pos, ◌≤ℤ◌, ◌≡◌, ◌+◌, ◌*◌, ◌^◌, ◌<◌, ◌≤◌, List, length}
-use Rattle.snmp_oid.specs.Identifier.{IsWire, wire}
+use Rattle.std.specs.Int.{w32}
+use Rattle.std.specs.Prelude.{FitsSigned, All, ℕ, ℤ, pos, ◌≤ℤ◌, ◌≡◌, ◌+◌, ◌*◌, ◌^◌, ◌<◌, ◌≤◌, List, length}
+use Rattle.snmp_oid.specs.Identifier.{IsIdentifier, IsWire, wire}
 use Rattle.snmp_walk.specs.declared.mode.Mode.{Mode}
 use Rattle.snmp_walk.specs.declared.mode.Method.{Method}
 use Rattle.snmp_walk.specs.declared.mode.Method.TheVariants.{Next, Bulk}
@@ -25,10 +26,18 @@ abbrev pub IsMethod : Method → Type 0
 IsMethod Next = Unit {0}
 IsMethod (Bulk repetitions) = pos 1 ≤ℤ repetitions
 
+-- and at most 2147483647
+abbrev pub HasRange : Method → Type 0
+HasRange Next = Unit {0}
+HasRange (Bulk repetitions) = FitsSigned w32 repetitions
+
 -- what is true of each
 pub record IsWalker (w : Walker) : Type 0 where
   pub method : IsMethod w.method
   pub community : length w.community ≤ 255
   pub asked : IsWire w.asked
+  pub identifier : IsIdentifier w.asked
+  pub octets : All (λ octet. octet < 256) w.community
+  pub repetitions : HasRange w.method
   pub id : w.id < 2 ^ 31
   pub count : w.count ≤ w.id * 2 ^ 32

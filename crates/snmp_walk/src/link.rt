@@ -6,7 +6,7 @@ use crate::LinkFault;
 /// A way to send datagrams to an agent and to receive its replies.
 pub trait Link {
     ghost use Rattle.std.specs.Prelude.{Option};
-    ghost use Rattle.snmp_walk.specs.Link.{Agents, Rose, Receives};
+    ghost use Rattle.snmp_walk.specs.Link.{Agents, AreLawful, Rose, Receives};
 
     /// That the facts below hold of this link. A socket states none.
     ghost honest: { Self → Type 0 };
@@ -22,6 +22,7 @@ pub trait Link {
 
     /// Sends a datagram of at most 65507 octets.
     fn send(&mut self, datagram: &[u8]) -> Result<(), LinkFault>
+        requires { length datagram.now ≤ 65507 }
         ensures sent { honest self.old → OnOk result (latest self.new ≡ Some datagram.now) }
         ensures stays { honest self.old → honest self.new }
         ensures agents { agents self.new ≡ agents self.old }
@@ -41,4 +42,7 @@ pub trait Link {
     /// How many sends and receives failed, up to 18446744073709551615.
     fn faults(&self) -> u64
         ensures { result ≡ fault_count self.now };
+
+    /// The agents behind an honest link serve tables, and their messages fit datagrams.
+    ghost lawful: { (link : Self) → honest link → AreLawful (agents link) };
 }

@@ -3,7 +3,7 @@ ghost use Rattle.std.specs.Prelude.{◌≡◌, ◌≢◌, ◌≤◌, ◌⊎◌, 
 ghost use Rattle.snmp_wire.specs.Canon.{canon};
 ghost use Rattle.snmp_walk.specs.Request.{request_of};
 ghost use Rattle.snmp_walk.specs.Taken.{is_over};
-ghost use Rattle.snmp_walk.specs.Link.{Rose, IsSent, IsReply};
+ghost use Rattle.snmp_walk.specs.Link.{Rose, IsSent, IsUnanswered};
 ghost use Rattle.snmp_walk.specs.Run.{IsHeard, Turns};
 ghost use Rattle.snmp_wire.specs.Message.{VarBind};
 ghost use Rattle.snmp_walk.specs.Sink.{Took};
@@ -28,7 +28,7 @@ pub fn run_walk<L: Link, S: Sink>(
     sink: &mut S,
 ) -> WalkEnd
     requires { IsFresh core }
-    ensures given { (rows : List VarBind) × Took S.takes sink.old rows result sink.new × IsPart Rises Named core rows × (L.honest link.old → AreViews (L.agents link.old).tables → WalkFacts (L.agents link.old) core rows result) }
+    ensures given { (rows : List VarBind) × Took S.takes sink.old rows result sink.new × IsPart Rises Named core rows × (L.honest link.old → WalkFacts (L.agents link.old) core rows result) }
     ensures fault { result ≡ WalkEnd.Link → Rose (L.fault_count link.old) (L.fault_count link.new) }
 {
     let mut core = core;
@@ -50,7 +50,7 @@ fn hear<L: Link>(
     requires { is_over core.now.phase ≡ false }
     ensures length { IfOk result (λ heard. IfSome heard (λ n. n ≤ 65507)) }
     ensures reply { IfOk result (λ heard. IfSome heard (λ n. IsHeard (L.agents link.old) (L.honest link.old × IsSent (L.latest link.old) core.now) core.now (take n buffer.new))) }
-    ensures silent { IfOk result (λ heard. IfNone heard (L.honest link.old → IsSent (L.latest link.old) core.now → (reply : List ℕ) → IsReply (L.agents link.old) (canon (request_of core.now)) reply → ⊥)) }
+    ensures silent { IfOk result (λ heard. IfNone heard (L.honest link.old → IsSent (L.latest link.old) core.now → IsUnanswered (L.agents link.old) (canon (request_of core.now)))) }
     ensures stays { L.honest link.old → L.honest link.new }
     ensures agents { L.agents link.new ≡ L.agents link.old }
     ensures count { OnOk result (L.fault_count link.new ≡ L.fault_count link.old) }
@@ -77,9 +77,10 @@ fn exchange<L: Link>(
 ) -> Result<Option<usize>, LinkFault>
     requires waits { is_over core.now.phase ≡ false }
     requires request { request.now ≡ canon (request_of core.now) }
+    requires fits { length request.now ≤ 65507 }
     ensures length { IfOk result (λ heard. IfSome heard (λ n. n ≤ 65507)) }
     ensures reply { IfOk result (λ heard. IfSome heard (λ n. IsHeard (L.agents link.old) (L.honest link.old) core.now (take n buffer.new))) }
-    ensures silent { IfOk result (λ heard. IfNone heard (L.honest link.old → (reply : List ℕ) → IsReply (L.agents link.old) (canon (request_of core.now)) reply → ⊥)) }
+    ensures silent { IfOk result (λ heard. IfNone heard (L.honest link.old → IsUnanswered (L.agents link.old) (canon (request_of core.now)))) }
     ensures stays { L.honest link.old → L.honest link.new }
     ensures agents { L.agents link.new ≡ L.agents link.old }
     ensures count { OnOk result (L.fault_count link.new ≡ L.fault_count link.old) }

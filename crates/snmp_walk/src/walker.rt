@@ -1,14 +1,16 @@
 //! The core of a walk: which request to send, and what the reply means.
-ghost use Rattle.std.specs.Prelude.{◌≡◌, ◌<◌, ◌≤◌, ℕ, length, IsOk, IfOk, IfErr, ◌↔◌, ◌^◌, true, false, IsTrue};
+ghost use Rattle.std.specs.Prelude.{◌≡◌, ◌<◌, ◌≤◌, ℕ, length, All, IsOk, IfOk, IfErr, ◌↔◌, ◌^◌, true, false, IsTrue};
 ghost use Rattle.std.specs.Bool.{nat_eq};
-ghost use Rattle.snmp_oid.specs.Identifier.{IsWire, IsBelow, wire};
+ghost use Rattle.snmp_oid.specs.Identifier.{IsIdentifier, IsWire, IsBelow, wire};
 ghost use Rattle.snmp_walk.specs.Names.{is_below, comes_after, is_inside, is_missing, is_end};
 ghost use Rattle.snmp_wire.specs.Message.{var_bind, datum};
 ghost use Rattle.snmp_walk.specs.Request.{first_phase as phase_at_first};
 
 use crate::{Method, Mode, Phase, Rows, StartError, Step, WalkEnd};
 use arrayvec::ArrayVec;
-use snmp_wire::{Binding, Bindings, Kind, MessageRef, Oid, Parts, ValueRef, decode, encode};
+use snmp_wire::{
+    Binding, Bindings, Kind, MessageRef, Oid, OidError, Parts, ValueRef, decode, encode,
+};
 use std::cmp::Ordering;
 use std::marker::Model;
 
@@ -54,8 +56,8 @@ impl Model for WalkCore {
 }
 
 impl WalkCore {
-    ghost use Rattle.std.specs.Prelude.{◌≡◌, ◌<◌, ◌≤◌, ◌⊎◌, ℕ, length, take, IsOk, IfOk, IfErr, ◌↔◌, ◌^◌, true, false, IsTrue, Err};
-    ghost use Rattle.snmp_oid.specs.Identifier.{IsWire, IsBelow, wire};
+    ghost use Rattle.std.specs.Prelude.{◌≡◌, ◌<◌, ◌≤◌, ◌⊎◌, ℕ, length, take, All, IsOk, IfOk, IfErr, ◌↔◌, ◌^◌, true, false, IsTrue, Err};
+    ghost use Rattle.snmp_oid.specs.Identifier.{IsIdentifier, IsWire, IsBelow, wire};
     ghost use Rattle.snmp_wire.specs.Canon.{canon};
     ghost use Rattle.snmp_wire.specs.Message.{Message, VarBind};
     ghost use Rattle.snmp_wire.specs.Spelling.{Spells};
@@ -89,7 +91,7 @@ impl WalkCore {
         ensures variant { IsOk result ↔ IsWire (wire root) }
         ensures err { IfErr result (λ e. e ≡ StartError.NotWire) }
     {
-        let Ok(asked) = root.to_wire() else {
+        let Ok(asked) = sendable(&root) else {
             return Err(StartError::NotWire);
         };
         Ok(WalkCore {
@@ -131,7 +133,7 @@ impl WalkCore {
         if *after != root && !after.is_below(&root) {
             return Err(StartError::AfterOutsideRoot);
         }
-        let Ok(asked) = after.to_wire() else {
+        let Ok(asked) = sendable(after) else {
             return Err(StartError::NotWire);
         };
         Ok(WalkCore {
@@ -243,6 +245,7 @@ impl WalkCore {
         requires count { count ≡ length rows }
         requires last { last ≡ last_name self.old.asked rows }
         requires wire { IsWire last }
+        requires identifier { IsIdentifier last }
         ensures { (result, self.new) ≡ goes_on self.old next rows.entry }
     {
         if self.id >= MAX_ID {
@@ -292,6 +295,7 @@ impl WalkCore {
         requires wire { AreSendable bindings }
         ensures value { IsFrontOf self.now.root self.now.asked 0 bindings.entry result }
         ensures wire { IsWire result.last }
+        ensures identifier { IsIdentifier result.last }
     {
         let mut rows = 0;
         let mut last = copy_of(&self.asked);
@@ -437,6 +441,16 @@ enum Ending {
 /// The last id of a request (RFC 3416, section 3).
 const MAX_ID: u32 = 2147483647;
 
+/// The identifier as it is sent.
+fn sendable(oid: &Oid) -> Result<Oid, OidError>
+    ensures ok { IfOk result (λ o. o ≡ wire oid.now) }
+    ensures variant { IsOk result ↔ IsWire (wire oid.now) }
+    ensures identifier { IfOk result IsIdentifier }
+{
+    let sent = oid.to_wire()?;
+    Ok(copy_of(&sent))
+}
+
 /// Which request a walk begins with.
 fn first_phase(mode: Mode) -> Phase
     ensures { result ≡ phase_at_first mode }
@@ -450,7 +464,8 @@ fn first_phase(mode: Mode) -> Phase
 /// The community, in the core itself.
 fn owned(community: &[u8]) -> ArrayVec<u8, 255>
     requires { length community.now ≤ 255 }
-    ensures { result.items ≡ community.now }
+    ensures value { result.items ≡ community.now }
+    ensures octets { All (λ octet. octet < 256) community.now }
 {
     match ArrayVec::try_from(community) {
         Ok(owned) => owned,
@@ -461,7 +476,7 @@ fn owned(community: &[u8]) -> ArrayVec<u8, 255>
 /// The same identifier, once more.
 fn copy_of(oid: &Oid) -> Oid
     ensures value { result ≡ oid.now }
-    ensures short { length oid.now ≤ 128 }
+    ensures identifier { IsIdentifier oid.now }
 {
     match Oid::from_slice(oid.as_slice()) {
         Ok(copy) => copy,

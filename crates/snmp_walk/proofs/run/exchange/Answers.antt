@@ -1,8 +1,8 @@
-use Rattle.std.proofs.Common.{◌≡◌, ◌∙◌, sym, ap, subst, List, ℕ, Option, Some, None}
+use Rattle.std.proofs.Common.{◌<◌, arith, ◌≡◌, ◌∙◌, sym, ap, subst, List, ℕ, Option, Some, None}
 use Rattle.std.specs.Prelude.{IfNone}
 use Rattle.snmp_wire.specs.Canon.{canon}
 use Rattle.snmp_walk.specs.Request.{request_of}
-use Rattle.snmp_walk.specs.Link.{Agents, IsSent, IsReply}
+use Rattle.snmp_walk.specs.Link.{Agents, IsUnanswered}
 use Rattle.snmp_walk.proofs.run.exchange.Goals as goal
 
 none_then : {X : Type 0} (o : Option X) (P : Type 0) → o ≡ None → IfNone o P → P
@@ -17,6 +17,10 @@ tries-preserved g c =
       λ h. c.hear.ensures.stays (c.send.ensures.stays (inv.0 h)),
       c.hear.ensures.agents ∙ c.send.ensures.agents ∙ inv.1,
       c.in_ok-length.ensures.count ∙ c.in_ok-send.ensures.count ∙ inv.2,
-      λ more h reply r. silent (c.send.ensures.stays (inv.0 h)) (sent (inv.0 h) ∙ ap Some c.requires.request) reply
-          (subst (λ (a : Agents). IsReply a (canon (request_of c.args.core.now)) reply) (sym (c.send.ensures.agents ∙ inv.1)) r),
+      λ more h.
+          subst (λ (a : Agents). IsUnanswered a (canon (request_of c.args.core.now))) (c.send.ensures.agents ∙ inv.1)
+          (silent (c.send.ensures.stays (inv.0 h)) (sent (inv.0 h) ∙ ap Some c.requires.request)),
     )
+
+pub returns-clause-silent : goal.returns-clause-silent
+returns-clause-silent g c = c.tries.invariant.3 (let some : 0 < c.tries.counter = omega arith in some)

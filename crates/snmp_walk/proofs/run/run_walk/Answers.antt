@@ -24,7 +24,8 @@ returns-in-Some-clause-given g c =
       inv.0 ++ t.0,
       done.sink,
       done.part,
-      λ h views.
+      λ h.
+          let views = (g.met.L.Link.lawful c.args.link.now h).views in
           let shown = done.facts (inv.4 h) (views_answer (g.L.Link.agents c.args.link.now) views) (inv.3 h views) in
           facts (g.L.Link.agents c.args.link.now) c.args.core (inv.0 ++ t.0) c.in-Some.end c.requires views shown.part shown.lawful,
     )

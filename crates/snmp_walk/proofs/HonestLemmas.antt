@@ -1,0 +1,221 @@
+-- An agent's reply to the waiting request is an honest one.
+use Rattle.std.proofs.Common.{false, ◌≡◌, ◌⊎◌, inl, inr, ℕ, suc, ◌+◌, ◌^◌, ◌<◌, ◌≤◌, List, [], ◌∷◌, ◌++◌, length, refl, sym, ◌∙◌, ap, subst, arith, ℤ, pos, length-append}
+use Rattle.std.proofs.lemmas.Bool.{false≢true, cases_lt}
+use Rattle.std.specs.Prelude.{All, FitsSigned}
+use Rattle.std.specs.Int.{w32}
+use Rattle.std.specs.List.{AllByRecursion}
+use Rattle.snmp_oid.specs.Identifier.{IsIdentifier, IsWire}
+use Rattle.snmp_wire.specs.declared.kind.Kind.{Kind}
+use Rattle.snmp_wire.specs.declared.kind.Kind.TheVariants as kind
+use Rattle.snmp_wire.specs.Message.{Datum, VarBind, Message, integer_value, octet_string, null_value, object_id, ip_address, counter32, gauge32, time_ticks, opaque_octets, counter64, no_such_object, no_such_instance, end_of_mib_view}
+use Rattle.snmp_wire.specs.Spelling.{Spells, Strict}
+use Rattle.snmp_wire.specs.Canon.{canon, canon_bindings, canon_head}
+use Rattle.snmp_wire.specs.Range.{IsInRange, IsBindingInRange, IsMessageInRange}
+use Rattle.snmp_wire.proofs.MessageLaws.{one_message}
+use Rattle.snmp_wire.proofs.StrictMessages.{strict_canon}
+use Rattle.snmp_wire.proofs.Lenient.{strict_is_read}
+use Rattle.snmp_wire.proofs.MessageWriting.{canon_parts}
+use Rattle.snmp_table.specs.Table.{MibView, IsRow, IsInstanceValue, IsMibView, IsGet, variable, unknown_object, unknown_instance, IsSuccessor, IsNext, successor, end_of_view}
+use Rattle.snmp_agent.specs.Reply.{Agent, IsRequest, response, AreAnswers, IsWhole, got, got_next, unwritten, Fits, IsResponse, whole, shortened, IsReply as IsAgentReply, no_error, too_big}
+use Rattle.snmp_walk.specs.declared.mode.Method.{Method}
+use Rattle.snmp_walk.specs.declared.mode.Method.TheVariants as method
+use Rattle.snmp_walk.specs.declared.phase.Phase.{Phase}
+use Rattle.snmp_walk.specs.declared.phase.Phase.TheVariants as phase
+use Rattle.snmp_walk.specs.Walker.{Walker, HasRange, IsWalker}
+use Rattle.snmp_walk.specs.Request.{request_of, request_kind, request_repetitions, repetitions_of}
+use Rattle.snmp_walk.specs.Taken.{is_over, asked_for}
+use Rattle.snmp_walk.specs.Standing.{IsChain, IsLarge, IsContent, IsReplyTo}
+use Rattle.snmp_walk.specs.Link.{Agents, OneOf, AreLawful, agent_in, next_of, got_of, IsTooLarge, IsReply}
+use Rattle.snmp_walk.proofs.RequestLemmas.{name_short}
+use Rattle.snmp_walk.proofs.ViewLemmas.{view_of}
+
+-- numbers from 0 below 2^31
+fits_from : (n : ℕ) → n < 2 ^ 31 → FitsSigned w32 (pos n)
+fits_from n h = omega arith
+
+repetitions_fit : (p : Phase) (m : Method) → HasRange m → FitsSigned w32 (request_repetitions p m)
+repetitions_fit phase.First m h = fits_from 0 (omega arith)
+repetitions_fit phase.Rows method.Next h = fits_from 0 (omega arith)
+repetitions_fit phase.Rows (method.Bulk r) h = h
+repetitions_fit phase.Last m h = fits_from 0 (omega arith)
+repetitions_fit phase.Over m h = fits_from 0 (omega arith)
+
+request_in_range : (w : Walker) → IsWalker w → IsMessageInRange (request_of w)
+request_in_range w good = record {
+  version = fits_from 1 (omega arith);
+  community = (good.octets, omega (arith, good.community));
+  id = fits_from w.id good.id;
+  a = fits_from 0 (omega arith);
+  b = repetitions_fit w.phase w.method good.repetitions;
+  bindings = (record { name = (good.asked, good.identifier); value = tt }, tt);
+  total = omega (arith, name_short w.asked good.identifier.short);
+}
+
+value_in_range : (v : Datum) → IsInstanceValue v → IsInRange v
+value_in_range (integer_value n) h = h
+value_in_range (octet_string s) h = (h.1, h.0)
+value_in_range null_value h = absurd h
+value_in_range (object_id o) h = h
+value_in_range (ip_address a) h = (h.1, h.0)
+value_in_range (counter32 n) h = h
+value_in_range (gauge32 n) h = h
+value_in_range (time_ticks n) h = h
+value_in_range (opaque_octets s) h = (h.1, h.0)
+value_in_range (counter64 n) h = h
+value_in_range no_such_object h = tt
+value_in_range no_such_instance h = tt
+value_in_range end_of_mib_view h = tt
+
+get_in_range : (view : MibView) → IsMibView view → (o : List ℕ) (p : VarBind) → IsWire o → IsIdentifier o → IsGet view o p → IsBindingInRange p
+get_in_range view good o p w i (variable e row) = record { name = subst (λ (n : List ℕ). IsInRange (object_id n)) (sym e) (w, i); value = value_in_range p.value (good.values p row) }
+get_in_range view good o p w i (unknown_object none unknown is) = subst IsBindingInRange (sym is) (record { name = (w, i); value = tt })
+get_in_range view good o p w i (unknown_instance none has is) = subst IsBindingInRange (sym is) (record { name = (w, i); value = tt })
+
+next_in_range : (view : MibView) → IsMibView view → (o : List ℕ) (p : VarBind) → IsWire o → IsIdentifier o → IsNext view o p → IsBindingInRange p
+next_in_range view good o p w i (successor s) =
+    let name = good.names p s.row in record { name = (name.wire, name.identifier); value = value_in_range p.value (good.values p s.row) }
+next_in_range view good o p w i (end_of_view none is) = subst IsBindingInRange (sym is) (record { name = (w, i); value = tt })
+
+-- a message of at most so many octets has no more of bindings
+bindings_within : (m : Message) (n : ℕ) → length (canon m) ≤ n → length (canon_bindings m.bindings) ≤ n
+bindings_within m n h =
+    omega (arith, h, ap length (canon_parts m), length-append (canon_head m (length (canon_bindings m.bindings))) (canon_bindings m.bindings))
+
+response_in_range : (w : Walker) → IsWalker w → (a : ℕ) (bindings : List VarBind) (n : ℕ) → a < 2 → AllByRecursion IsBindingInRange bindings
+    → length (canon (response (request_of w) (pos a) (pos 0) bindings)) ≤ n → n ≤ 65507 → IsMessageInRange (response (request_of w) (pos a) (pos 0) bindings)
+response_in_range w good a bindings n small each fits datagram = record {
+  version = fits_from 1 (omega arith);
+  community = (good.octets, omega (arith, good.community));
+  id = fits_from w.id good.id;
+  a = fits_from a (omega arith);
+  b = fits_from 0 (omega arith);
+  bindings = each;
+  total = omega (arith, datagram, bindings_within (response (request_of w) (pos a) (pos 0) bindings) n fits);
+}
+
+-- the answers to a request of one name
+one_answer : (R : VarBind → VarBind → Type 0) (o : List ℕ) (bindings : List VarBind) → AreAnswers R (record { name = o; value = null_value } ∷ []) bindings
+    → (p : VarBind) × (bindings ≡ p ∷ []) × R (record { name = o; value = null_value }) p
+one_answer R o [] h = absurd h
+one_answer R o (p ∷ []) h = (p, refl, h.0)
+one_answer R o (p ∷ q ∷ more) h = absurd h.1
+
+-- which phase asks by which PDU
+get_phase : (p : Phase) (m : Method) → is_over p ≡ false → request_kind p m ≡ kind.GetRequest → (p ≡ phase.First) ⊎ (p ≡ phase.Last)
+get_phase phase.First m waits k = inl refl
+get_phase phase.Rows method.Next waits k = let never : ⊥ = cc in absurd never
+get_phase phase.Rows (method.Bulk r) waits k = let never : ⊥ = cc in absurd never
+get_phase phase.Last m waits k = inr refl
+get_phase phase.Over m waits k = absurd (false≢true (sym waits))
+
+next_phase : (p : Phase) (m : Method) → request_kind p m ≡ kind.GetNextRequest → (p ≡ phase.Rows) × (m ≡ method.Next)
+next_phase phase.First m k = let never : ⊥ = cc in absurd never
+next_phase phase.Rows method.Next k = (refl, refl)
+next_phase phase.Rows (method.Bulk r) k = let never : ⊥ = cc in absurd never
+next_phase phase.Last m k = let never : ⊥ = cc in absurd never
+next_phase phase.Over m k = let never : ⊥ = cc in absurd never
+
+set_phase : (p : Phase) (m : Method) → request_kind p m ≡ kind.SetRequest → ⊥
+set_phase phase.First m k = cc
+set_phase phase.Rows method.Next k = cc
+set_phase phase.Rows (method.Bulk r) k = cc
+set_phase phase.Last m k = cc
+set_phase phase.Over m k = cc
+
+above : (n k : ℕ) → (k ≤ n → ⊥) → n < k
+above n k f = by_cases (cases_lt n k)
+  where
+    by_cases : (n < k) ⊎ (k ≤ n) → n < k
+    by_cases (inl h) = h
+    by_cases (inr h) = absurd (f h)
+
+module _ (agents : Agents) (lawful : AreLawful agents) (w : Walker) (good : IsWalker w) (waits : is_over w.phase ≡ false)
+    (view : MibView) (one : OneOf agents.tables view) (community : w.community ≡ agents.community) where
+  view_good : IsMibView view
+  view_good = view_of agents.tables lawful.views view one
+
+  of_get : (m : Message) (p : VarBind) → (w.phase ≡ phase.First) ⊎ (w.phase ≡ phase.Last)
+      → ((m.a ≡ pos 0) × ((q : VarBind) × got_of agents w.asked q × (m.bindings ≡ q ∷ []))) ⊎ ((m.a ≡ pos 1) × (m.b ≡ pos 0) × IsLarge (got_of agents) (IsTooLarge agents) w.asked)
+      → IsContent (next_of agents) (got_of agents) (IsTooLarge agents) w.phase w m
+  of_get m p (inl e) c = subst (λ (q : Phase). IsContent (next_of agents) (got_of agents) (IsTooLarge agents) q w m) (sym e) c
+  of_get m p (inr e) c = subst (λ (q : Phase). IsContent (next_of agents) (got_of agents) (IsTooLarge agents) q w m) (sym e) c
+
+  replied : (m : Message) (a : ℕ) (bindings : List VarBind) → m ≡ response (request_of w) (pos a) (pos 0) bindings
+      → IsContent (next_of agents) (got_of agents) (IsTooLarge agents) w.phase w m → IsReplyTo (next_of agents) (got_of agents) (IsTooLarge agents) w m
+  replied m a bindings e content = record {
+    version = ap (λ (x : Message). x.version) e;
+    community = ap (λ (x : Message). x.community) e;
+    kind = ap (λ (x : Message). x.kind) e;
+    id = ap (λ (x : Message). x.id) e;
+    content = content;
+  }
+
+  -- what is too large for the agent is too large
+  large : (p : VarBind) → (Fits agents.max_size (response (request_of w) no_error (pos 0) (p ∷ [])) → ⊥) → IsTooLarge agents p
+  large p no_fit =
+      let Response = λ (c : List ℕ). length (canon (record { version = pos 1; community = c; kind = kind.Response; id = pos w.id; a = pos 0; b = pos 0; bindings = p ∷ [] })) in
+      let more : agents.max_size < Response w.community = above agents.max_size (Response w.community) no_fit in
+      (w.id, good.id, subst (λ (c : List ℕ). agents.max_size < Response c) community more)
+
+  content_of : (m r : Message) → m ≡ r → IsResponse view agents.max_size (request_of w) r
+      → IsReplyTo (next_of agents) (got_of agents) (IsTooLarge agents) w m
+  content_of m r same (whole (got bindings k answers e) fits) =
+      let p = one_answer (λ asked given. IsGet view asked.name given) w.asked bindings answers in
+      let is : m ≡ response (request_of w) (pos 0) (pos 0) bindings = same ∙ e in
+      replied m 0 bindings is (of_get m p.0 (get_phase w.phase w.method waits k)
+      (inl (ap (λ (x : Message). x.a) is, (p.0, (view, one, p.2), ap (λ (x : Message). x.bindings) is ∙ p.1))))
+  content_of m r same (whole (got_next bindings k answers e) fits) =
+      let p = one_answer (λ asked given. IsNext view asked.name given) w.asked bindings answers in
+      let is : m ≡ response (request_of w) (pos 0) (pos 0) bindings = same ∙ e in
+      let at = next_phase w.phase w.method k in
+      let only : m.bindings ≡ p.0 ∷ [] = ap (λ (x : Message). x.bindings) is ∙ p.1 in
+      let chain : IsChain (next_of agents) w.asked m.bindings = subst (IsChain (next_of agents) w.asked) (sym only) ((view, one, p.2), tt) in
+      let few : length m.bindings ≤ asked_for w.method =
+      subst (λ (x : Method). length m.bindings ≤ asked_for x) (sym at.1) (omega (arith, ap length only)) in
+      let some : m.bindings ≡ [] → IsLarge (next_of agents) (IsTooLarge agents) w.asked = λ none. let never : ⊥ = cc in absurd never in
+      replied m 0 bindings is (subst (λ (q : Phase). IsContent (next_of agents) (got_of agents) (IsTooLarge agents) q w m) (sym at.0)
+      (inl (ap (λ (x : Message). x.a) is, chain, few, some)))
+  content_of m r same (whole (unwritten k e) fits) = absurd (set_phase w.phase w.method k)
+  content_of m r same (shortened large_one (got bindings k answers e) no_fit is_r) =
+      let p = one_answer (λ asked given. IsGet view asked.name given) w.asked bindings answers in
+      let is : m ≡ response (request_of w) (pos 1) (pos 0) [] = same ∙ is_r in
+      let whole_is : large_one ≡ response (request_of w) no_error (pos 0) (p.0 ∷ []) = e ∙ ap (response (request_of w) no_error (pos 0)) p.1 in
+      let too_large = large p.0 (λ fit. no_fit (subst (Fits agents.max_size) (sym whole_is) fit)) in
+      replied m 1 [] is (of_get m p.0 (get_phase w.phase w.method waits k)
+      (inr (ap (λ (x : Message). x.a) is, ap (λ (x : Message). x.b) is, (p.0, (view, one, p.2), too_large))))
+  content_of m r same (shortened large_one (got_next bindings k answers e) no_fit is_r) =
+      let p = one_answer (λ asked given. IsNext view asked.name given) w.asked bindings answers in
+      let is : m ≡ response (request_of w) (pos 1) (pos 0) [] = same ∙ is_r in
+      let at = next_phase w.phase w.method k in
+      let whole_is : large_one ≡ response (request_of w) no_error (pos 0) (p.0 ∷ []) = e ∙ ap (response (request_of w) no_error (pos 0)) p.1 in
+      let too_large = large p.0 (λ fit. no_fit (subst (Fits agents.max_size) (sym whole_is) fit)) in
+      replied m 1 [] is (subst (λ (q : Phase). IsContent (next_of agents) (got_of agents) (IsTooLarge agents) q w m) (sym at.0)
+      (inr (ap (λ (x : Message). x.a) is, ap (λ (x : Message). x.b) is, (p.0, (view, one, p.2), too_large))))
+  content_of m r same (shortened large_one (unwritten k e) no_fit is_r) = absurd (set_phase w.phase w.method k)
+
+  in_range : (r : Message) → IsResponse view agents.max_size (request_of w) r → Fits agents.max_size r → IsMessageInRange r
+  in_range r (whole (got bindings k answers e) fits) f =
+      let p = one_answer (λ asked given. IsGet view asked.name given) w.asked bindings answers in
+      let each = subst (AllByRecursion IsBindingInRange) (sym p.1) (get_in_range view view_good w.asked p.0 good.asked good.identifier p.2, tt) in
+      subst IsMessageInRange (sym e) (response_in_range w good 0 bindings agents.max_size (omega arith) each (subst (Fits agents.max_size) e f) lawful.size)
+  in_range r (whole (got_next bindings k answers e) fits) f =
+      let p = one_answer (λ asked given. IsNext view asked.name given) w.asked bindings answers in
+      let each = subst (AllByRecursion IsBindingInRange) (sym p.1) (next_in_range view view_good w.asked p.0 good.asked good.identifier p.2, tt) in
+      subst IsMessageInRange (sym e) (response_in_range w good 0 bindings agents.max_size (omega arith) each (subst (Fits agents.max_size) e f) lawful.size)
+  in_range r (whole (unwritten k e) fits) f = absurd (set_phase w.phase w.method k)
+  in_range r (shortened large_one a no_fit e) f =
+      subst IsMessageInRange (sym e) (response_in_range w good 1 [] agents.max_size (omega arith) tt (subst (Fits agents.max_size) e f) lawful.size)
+
+-- the reply of one of the agents to the waiting request
+pub honest_reply : (agents : Agents) → AreLawful agents → (w : Walker) → IsWalker w → is_over w.phase ≡ false → (reply : List ℕ) → IsReply agents (canon (request_of w)) reply
+    → (m : Message) × Spells m reply × IsReplyTo (next_of agents) (got_of agents) (IsTooLarge agents) w m
+honest_reply agents lawful w good waits reply h =
+    let view = h.0 in
+    let agent = h.2 in
+    let own : Spells (request_of w) (canon (request_of w)) = strict_is_read (request_of w) (canon (request_of w)) (strict_canon (request_of w) (request_in_range w good)) in
+    let same : agent.request ≡ request_of w = (one_message agent.request (request_of w) (canon (request_of w)) (canon (request_of w)) [] [] agent.is_request.spelt own refl).0 in
+    let community : w.community ≡ agents.community = ap (λ (m : Message). m.community) (sym same) ∙ agent.is_request.named in
+    let is_response = subst (λ (q : Message). IsResponse view agents.max_size q agent.response) same agent.is_response in
+    let ranged = in_range agents lawful w good waits view h.1 community agent.response is_response agent.fits in
+    let spelt : Spells agent.response (canon agent.response) = strict_is_read agent.response (canon agent.response) (strict_canon agent.response ranged) in
+    (agent.response, subst (Spells agent.response) (sym agent.encoding) spelt, content_of agents lawful w good waits view h.1 community agent.response agent.response refl is_response)
