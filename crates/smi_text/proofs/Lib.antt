@@ -1,0 +1,9 @@
+pub mod Lawful
+pub mod Many
+pub mod Marks
+pub mod Laws
+pub mod Productions
+pub mod Shorter
+pub mod Digits
+pub mod Words
+pub mod Loops
