@@ -2,8 +2,12 @@
 //! The parser above takes its tokens, and hands these types on as its own.
 #![tactic(auto)]
 
+mod class;
 mod error;
+mod lexer;
+mod scan;
 mod token;
 
 pub use error::LexError;
+pub use lexer::{Lexer, one_reading};
 pub use token::{Span, Token, TokenKind};

@@ -1,0 +1,57 @@
+use Rattle.std.proofs.Common.{◌≡◌, ◌≤◌, ℕ, sym, ◌∙◌, ◌+◌, subst, [], ◌∷◌, drop, arith, get_or, length-drop, add-zero, cond, Bool, true, false}
+use Rattle.std.proofs.lemmas.Bool.{ne_eqb}
+use Rattle.std.proofs.lemmas.List.{take_rest}
+use Rattle.smi_lexer.specs.Lexeme.{is_hyphen, is_newline}
+use Rattle.smi_lexer.specs.Reading.{IsLongestFront, Skips, is_comment_rest, newlines}
+use Rattle.smi_lexer.proofs.Gaps.{newline_count, skips_blank, skips_comment, gaps_end, gaps_stop}
+use Rattle.smi_lexer.proofs.Items.{newlines-one}
+use Rattle.smi_lexer.proofs.Tests.{begins_at, begins_past}
+use Rattle.smi_lexer.proofs.scan.gaps_at.Goals as goal
+use Rattle.smi_lexer.proofs.scan.gaps_at.Goals.{else-text-n-eq45-via-then-text-n-eq45+then-n-text+else-text-n-eq45-2, else-text-n-eq45-via-then-text-n-eq45+else-n-text, else-text-n-eq45-via-else-text-n-eq45}
+
+-- at most one line ends in an octet
+one_at_most : (c : ℕ) → newlines (c ∷ []) ≤ 1
+one_at_most c = omega (arith, newlines-one c, by_test (is_newline c))
+  where
+    by_test : (b : Bool) → cond b 1 0 ≤ 1
+    by_test true = omega arith
+    by_test false = omega arith
+
+pub gaps-preserved-then-is_blank : goal.gaps-preserved-then-is_blank
+gaps-preserved-then-is_blank c =
+    let text = c.args.text.now in
+    let n = c.gaps.n in
+    let octet = get_or text n 0 in
+    let count : c.from-lines.result ≡ newlines (octet ∷ []) = c.from-lines.ensures ∙ newline_count octet in
+    record {
+      within = omega arith;
+      lines = omega (arith, one_at_most octet);
+      skips = subst (λ m. Skips text (n + 1) (c.gaps.lines + m)) (sym count) (skips_blank text n c.gaps.lines c.gaps-test.true (sym c.is_blank.ensures ∙ c.if-is_blank.true) c.gaps.invariant.skips);
+    }
+
+pub gaps-preserved : goal.gaps-preserved
+gaps-preserved c =
+    let text = c.args.text.now in
+    let n = c.gaps.n in
+    let k = c.comment_rest_len.result in
+    let front : IsLongestFront is_comment_rest (drop (n + 2) text) k = subst (λ s. IsLongestFront is_comment_rest s k) (take_rest text (n + 2)) c.comment_rest_len.ensures in
+    record {
+      within = omega (arith, front.within, length-drop (n + 2) text);
+      lines = omega arith;
+      skips = subst (Skips text (n + (2 + k))) (add-zero c.gaps.lines)
+          (skips_comment text n c.gaps.lines k c.if-n-text.true c.if-text-n-eq45.true c.if-text-n-eq45-2.true front c.gaps.invariant.skips);
+    }
+
+pub returns-after-gaps-clause-all : goal.returns-after-gaps-clause-all
+returns-after-gaps-clause-all c = gaps_end c.args.text.now c.gaps.n c.gaps-test.false
+
+pub returns-else-text-n-eq45-clause-all : goal.returns-else-text-n-eq45-clause-all
+returns-else-text-n-eq45-clause-all c =
+    let text = c.args.text.now in
+    let n = c.gaps.n in
+    gaps_stop text n c.gaps-test.true (sym c.is_blank.ensures ∙ c.if-is_blank.false)
+    (λ hyphen. elim c.else-text-n-eq45.branch [
+      | else-text-n-eq45-via-then-text-n-eq45+then-n-text+else-text-n-eq45-2 w ↦ begins_at is_hyphen text (n + 1) w.if-n-text.true ∙ ne_eqb _ _ w.if-text-n-eq45-2.false
+      | else-text-n-eq45-via-then-text-n-eq45+else-n-text w ↦ begins_past is_hyphen text (n + 1) w.if-n-text.false
+      | else-text-n-eq45-via-else-text-n-eq45 w ↦ absurd (w.if-text-n-eq45.false hyphen)
+    ])
