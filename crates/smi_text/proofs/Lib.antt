@@ -7,3 +7,5 @@ pub mod Shorter
 pub mod Digits
 pub mod Words
 pub mod Loops
+pub mod Spells
+pub mod DefinitionLists

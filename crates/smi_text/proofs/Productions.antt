@@ -9,9 +9,9 @@ use Rattle.smi_text.specs.Mark.{Mark, sign, spelt, on_line, same_kind, same_text
 use Rattle.smi_text.specs.Reserved.{is_reserved, macros, reserved_words}
 use Rattle.smi_text.specs.Number.{is_arc, is_number, is_bound, is_symbol, is_macro, is_literal}
 use Rattle.smi_text.specs.Format.{Format, Reading, Ahead, a_word, a_name, a_kind, no_word, no_kind, meets, apart, never, one, begins, spell_pieces, before, begins, behind, either, lined, many, maybe, name, pair, separated, shaped, some_of, text, text_where, token, with_front, word}
-use Rattle.smi_text.specs.Grammar.{index_marks, parts_of, implied_name, kept, kept_text, macro_words, to_named_number, from_named_number, to_part, from_part, to_later_part, from_later_part, to_range, from_range, to_refinement, from_refinement, to_base, from_base, to_simple_type, from_simple_type, to_syntax, from_syntax, to_field, from_field, to_status, from_status, to_revision, from_revision, to_index, from_index, depth_after, is_outside, raw_marks, to_module_identity, from_module_identity, to_object_identity, from_object_identity, to_object_type, from_object_type, to_notification_type, from_notification_type, to_group, from_group, to_raw_definition, from_raw_definition, to_textual_convention, from_textual_convention, Lower, to_lower, from_lower, Assigned, to_assigned, from_assigned, from_type, to_macro, from_macro, to_upper, from_upper, arc, assigned, balanced, base, before_assign, before_end, bound, braced, choice, clause, default_value, field, group, identifier, index, index_names, is_balanced, later_part, lower_definition, macro_body, macro_definition, macro_name, module_identity, named_number, names, notification_type, object_identifier, object_identifier_words, object_identity, object_type, objects, octet_string_words, of_row, parenthesized, part, range, ranges, raw_definition, read_balanced, read_index, refinement, revision, sequence, simple_type, size, status, syntax_clause, syntax_type, tag, tagged, textual_convention, upper_definition, value, with_names}
+use Rattle.smi_text.specs.Grammar.{index_marks, parts_of, implied_name, kept, kept_text, macro_words, to_named_number, from_named_number, to_part, from_part, to_later_part, from_later_part, to_range, from_range, to_refinement, from_refinement, to_base, from_base, to_simple_type, from_simple_type, to_syntax, from_syntax, to_field, from_field, to_status, from_status, to_revision, from_revision, to_index, from_index, depth_after, is_outside, raw_marks, to_module_identity, from_module_identity, to_object_identity, from_object_identity, to_object_type, from_object_type, to_notification_type, from_notification_type, to_group, from_group, to_raw_definition, from_raw_definition, to_textual_convention, from_textual_convention, Lower, to_lower, from_lower, Assigned, to_assigned, from_assigned, from_type, to_macro, from_macro, to_upper, from_upper, Labelled, to_def, from_def, def_pieces, to_import, from_import, to_head, from_head, to_module, from_module, head_of, arc, assigned, balanced, base, before_assign, before_end, bound, braced, choice, clause, default_value, definition, field, file, group, head, heading, identifier, import_clause, imports, index, index_names, is_balanced, later_part, lower_definition, macro_body, macro_definition, macro_name, module_identity, module_text, named_number, names, notification_type, object_identifier, object_identifier_words, object_identity, object_type, objects, octet_string_words, of_row, opening, parenthesized, part, range, ranges, raw_definition, read_balanced, read_index, refinement, revision, sequence, simple_type, size, status, symbol, syntax_clause, syntax_type, tag, tagged, textual_convention, upper_definition, value, with_names}
 use Rattle.smi_text.proofs.Lawful.{Lawful, Repeatable}
-use Rattle.smi_text.proofs.Marks.{and-left, and-right, and-both, or-cases, or-left, or-right, or-false, same_kind-eq, same_kind-same, same_text-eq, Stands-append, Stands-split, begins-none, begins-append, map-inv, then-inv}
+use Rattle.smi_text.proofs.Marks.{and-left, and-right, and-both, or-cases, or-left, or-right, or-false, false-from, same_kind-eq, same_kind-same, same_text-eq, Stands-append, Stands-split, begins-none, begins-append, map-inv, then-inv}
 use Rattle.smi_text.proofs.Many.{Stands-length}
 use Rattle.smi_text.proofs.Laws.{IsOne, some-inj, if-some, if-true, any-one, never-stands, one-law, word-law, token-law, text-law, text_where-law, name-law, pair-law, behind-law, before-law, maybe-law, either-law, many-law, shaped-law, lined-law, starts-with}
 use Rattle.smi_text.specs.declared.tree.TokenText.{TokenText}
@@ -19,6 +19,10 @@ use Rattle.smi_text.specs.declared.tree.Part.{Part}
 use Rattle.smi_text.specs.declared.tree.IndexParts.{IndexParts}
 use Rattle.smi_text.specs.declared.tree.Index.TheVariants as I
 use Rattle.smi_text.specs.declared.tree.Index.{Index}
+use Rattle.smi_text.specs.declared.tree.Def.{Def}
+use Rattle.smi_text.specs.declared.tree.Import.{Import}
+use Rattle.smi_text.specs.declared.tree.Module.{Module}
+use Rattle.smi_text.specs.declared.modules.Head.{Head}
 use Rattle.smi_text.specs.declared.tree.DefKind.{DefKind}
 use Rattle.smi_text.specs.declared.tree.DefKind.TheVariants as D
 use Rattle.smi_text.specs.declared.tree.ModuleIdentity.{ModuleIdentity}
@@ -967,3 +971,189 @@ words-any t (w ∷ ws) e = rw (e) (ap (λ (b : Bool). same_text t.text w || b) (
 pub begins-macro : (t : Lexeme) (ts : List Lexeme) → t.kind ≡ K.Upper → begins macro_words (t ∷ ts) ≡ is_macro t.text
 unfolding begins is_macro
 begins-macro t ts e = words-any t macros e
+
+-- definitions
+
+lower-only : (k : DefKind) (ts rest : List Lexeme) → Stands (lower_definition.spell k) ts rest → (p : Labelled) → def_pieces p k ≡ inl p
+unfolding lower_definition shaped
+lower-only (D.ObjectType d) ts rest h p = refl
+lower-only (D.ObjectIdentifier d) ts rest h p = refl
+lower-only (D.ObjectIdentity d) ts rest h p = refl
+lower-only (D.ModuleIdentity d) ts rest h p = refl
+lower-only (D.NotificationType d) ts rest h p = refl
+lower-only (D.ObjectGroup d) ts rest h p = refl
+lower-only (D.NotificationGroup d) ts rest h p = refl
+lower-only (D.ModuleCompliance d) ts rest h p = refl
+lower-only (D.AgentCapabilities d) ts rest h p = refl
+lower-only (D.TextualConvention d) ts rest h p = absurd (never-stands ts rest h)
+lower-only (D.TypeAssignment d) ts rest h p = absurd (never-stands ts rest h)
+lower-only (D.Sequence d) ts rest h p = absurd (never-stands ts rest h)
+lower-only (D.Choice d) ts rest h p = absurd (never-stands ts rest h)
+lower-only (D.Macro d) ts rest h p = absurd (never-stands ts rest h)
+
+-- what stands behind a name in upper case defines no name in lower case
+no-assigned : (k : DefKind) (ts rest : List Lexeme) → from_assigned k ≡ None → Stands (assignment.spell k) ts rest → ⊥
+unfolding behind assigned token
+no-assigned k [] rest e h = h
+no-assigned k (t ∷ ts) rest e h = no-pieces to_assigned from_assigned (either textual_convention (either choice (either tagged (either sequence simple_type)))) k ts rest e h.1
+
+upper-only : (k : DefKind) (ts rest : List Lexeme) → Stands (upper_definition.spell k) ts rest → (p : Labelled) → is_macro p.0.1 ≡ false → def_pieces p k ≡ inr (inl p)
+unfolding upper_definition shaped either
+upper-only (D.ObjectType d) ts rest h p m = absurd (no-assigned (D.ObjectType d) ts rest refl h)
+upper-only (D.ObjectIdentifier d) ts rest h p m = absurd (no-assigned (D.ObjectIdentifier d) ts rest refl h)
+upper-only (D.ObjectIdentity d) ts rest h p m = absurd (no-assigned (D.ObjectIdentity d) ts rest refl h)
+upper-only (D.ModuleIdentity d) ts rest h p m = absurd (no-assigned (D.ModuleIdentity d) ts rest refl h)
+upper-only (D.NotificationType d) ts rest h p m = absurd (no-assigned (D.NotificationType d) ts rest refl h)
+upper-only (D.ObjectGroup d) ts rest h p m = absurd (no-assigned (D.ObjectGroup d) ts rest refl h)
+upper-only (D.NotificationGroup d) ts rest h p m = absurd (no-assigned (D.NotificationGroup d) ts rest refl h)
+upper-only (D.ModuleCompliance d) ts rest h p m = absurd (no-assigned (D.ModuleCompliance d) ts rest refl h)
+upper-only (D.AgentCapabilities d) ts rest h p m = absurd (no-assigned (D.AgentCapabilities d) ts rest refl h)
+upper-only (D.TextualConvention d) ts rest h p m = refl
+upper-only (D.TypeAssignment d) ts rest h p m = refl
+upper-only (D.Sequence d) ts rest h p m = refl
+upper-only (D.Choice d) ts rest h p m = refl
+upper-only (D.Macro d) ts rest h p m = rw m refl
+
+macro-only : (k : DefKind) (ts rest : List Lexeme) → Stands (macro_definition.spell k) ts rest → (p : Labelled) → is_macro p.0.1 ≡ true → def_pieces p k ≡ inr (inr p)
+macro-only k ts rest h p m =
+  let q = macro-pieces k ts rest h in
+  let P : DefKind → Type 0 = λ v. def_pieces p v ≡ inr (inr p) in
+  subst P (sym q.1) (rw m refl)
+
+abbrev by_lower : Format Labelled
+by_lower = pair (lined (text K.Lower)) lower_definition
+
+abbrev by_upper : Format Labelled
+by_upper = pair (lined name) upper_definition
+
+abbrev by_macro : Format Labelled
+by_macro = pair (lined macro_name) macro_definition
+
+-- the mark of a label, with its line
+label-mark : (n : ℕ) (x : List ℕ) (ok : Bool) (k : TokenKind) (ts mid : List Lexeme) → Stands (on_line n (spelt k x ok) ∷ []) ts mid → ok ≡ true
+label-mark n x ok k [] mid h = absurd h
+label-mark n x ok k (t ∷ ts) mid h = h.0.0.2
+
+name-not-macro : (x : List ℕ) → not (is_reserved x) ≡ true → is_macro x ≡ false
+name-not-macro x h = false-from (is_macro x) (λ m. cc (not-true (is_reserved x) h, macro-reserved x m))
+
+def-back : (x : Labelled ⊎ (Labelled ⊎ Labelled)) (ts rest : List Lexeme) → Stands ((either by_lower (either by_upper by_macro)).spell x) ts rest → from_def (to_def x) ≡ Some x
+unfolding either pair lined text name macro_name
+def-back (inl p) ts rest h =
+  let r = Stands-split ((lined (text K.Lower)).spell p.0) (lower_definition.spell p.1) ts rest h in
+  ap (λ (y : Labelled ⊎ (Labelled ⊎ Labelled)). Some y) (lower-only p.1 r.0 rest r.2 p)
+def-back (inr (inl p)) ts rest h =
+  let r = Stands-split ((lined name).spell p.0) (upper_definition.spell p.1) ts rest h in
+  let plain = label-mark p.0.0 p.0.1 (not (is_reserved p.0.1)) K.Upper ts r.0 r.1 in
+  ap (λ (y : Labelled ⊎ (Labelled ⊎ Labelled)). Some y) (upper-only p.1 r.0 rest r.2 p (name-not-macro p.0.1 plain))
+def-back (inr (inr p)) ts rest h =
+  let r = Stands-split ((lined macro_name).spell p.0) (macro_definition.spell p.1) ts rest h in
+  let word = label-mark p.0.0 p.0.1 (is_macro p.0.1) K.Upper ts r.0 r.1 in
+  ap (λ (y : Labelled ⊎ (Labelled ⊎ Labelled)). Some y) (macro-only p.1 r.0 rest r.2 p word)
+
+pieces-def : (p : Labelled) (k : DefKind) → to_def (def_pieces p k) ≡ record { label = p.0.1; line = p.0.0; kind = p.1 }
+pieces-def p (D.Macro xs) =
+  elim (is_macro p.0.1) as (λ b. to_def (if b then inr (inr p) else inr (inl p)) ≡ record { label = p.0.1; line = p.0.0; kind = p.1 }) [ true ↦ refl | false ↦ refl ]
+pieces-def p (D.TextualConvention d) = refl
+pieces-def p (D.TypeAssignment d) = refl
+pieces-def p (D.Sequence d) = refl
+pieces-def p (D.Choice d) = refl
+pieces-def p (D.ObjectType d) = refl
+pieces-def p (D.ObjectIdentifier d) = refl
+pieces-def p (D.ObjectIdentity d) = refl
+pieces-def p (D.ModuleIdentity d) = refl
+pieces-def p (D.NotificationType d) = refl
+pieces-def p (D.ObjectGroup d) = refl
+pieces-def p (D.NotificationGroup d) = refl
+pieces-def p (D.ModuleCompliance d) = refl
+pieces-def p (D.AgentCapabilities d) = refl
+
+def-forth : (y : Def) (x : Labelled ⊎ (Labelled ⊎ Labelled)) → from_def y ≡ Some x → to_def x ≡ y
+def-forth y x e =
+  ap to_def (sym (some-inj (def_pieces ((y.line, y.label), y.kind) y.kind) x e)) ∙ pieces-def ((y.line, y.label), y.kind) y.kind
+
+pub definition-law : Lawful definition
+unfolding arc assigned balanced base before before_assign before_end behind bound braced choice clause default_value definition either field group identifier index index_names is_reserved later_part lined lower_definition macro_body macro_definition macro_name many maybe module_identity name named_number names notification_type object_identifier object_identifier_words object_identity object_type objects octet_string_words of_row pair parenthesized part range ranges raw_definition refinement revision separated sequence shaped simple_type size some_of status syntax_clause syntax_type tag tagged text text_where textual_convention token upper_definition value word
+definition-law =
+  shaped-law to_def from_def (either by_lower (either by_upper by_macro))
+    (either-law by_lower (either by_upper by_macro)
+      (pair-law (lined (text K.Lower)) lower_definition (lined-law (text K.Lower) (text-law K.Lower) refl) lower_definition-law refl)
+      (either-law by_upper by_macro
+        (pair-law (lined name) upper_definition (lined-law name name-law refl) upper_definition-law refl)
+        (pair-law (lined macro_name) macro_definition (lined-law macro_name macro_name-law refl) macro_definition-law refl) refl refl refl)
+      refl refl refl)
+    def-back def-forth
+
+-- imports and modules
+
+symbol-ahead : (t : Lexeme) → is_symbol t.kind t.text ≡ true → list_any (meets t) (a_kind K.Lower ∷ a_name ∷ macro_words) ≡ true
+unfolding is_symbol
+symbol-ahead t h =
+  elim (or-cases (same_kind t.kind K.Lower) (same_kind t.kind K.Upper && (not (is_reserved t.text) || is_macro t.text)) h) [
+    inl e ↦ or-left (same_kind t.kind K.Lower) _ e
+  | inr e ↦
+      let upper = and-left (same_kind t.kind K.Upper) (not (is_reserved t.text) || is_macro t.text) e in
+      or-right (same_kind t.kind K.Lower) (meets t a_name || list_any (meets t) macro_words)
+        (elim (or-cases (not (is_reserved t.text)) (is_macro t.text) (and-right (same_kind t.kind K.Upper) (not (is_reserved t.text) || is_macro t.text) e)) [
+          inl p ↦ or-left (meets t a_name) (list_any (meets t) macro_words) (and-both (same_kind t.kind K.Upper) (not (is_reserved t.text)) upper p)
+        | inr p ↦ or-right (meets t a_name) (list_any (meets t) macro_words) (macro-ahead t upper p) ]) ]
+
+pub symbol-law : Lawful symbol
+unfolding symbol
+symbol-law = kept-law (a_kind K.Lower ∷ a_name ∷ macro_words) is_symbol symbol-ahead
+
+abbrev from_clause : Format (List ℕ)
+from_clause = behind (word (codes "FROM")) name
+
+abbrev import_parts : Format (List TokenText × List ℕ)
+import_parts = pair (separated K.Comma symbol) from_clause
+
+pub import_clause-law : Lawful import_clause
+unfolding behind import_clause is_reserved lined many name pair separated shaped some_of symbol text token word
+import_clause-law =
+  shaped-law to_import from_import (lined import_parts)
+    (lined-law import_parts
+      (pair-law (separated K.Comma symbol) from_clause (separated-law K.Comma symbol symbol-law refl refl)
+        (behind-law (word (codes "FROM")) name (word-law (codes "FROM")) name-law refl refl) refl) refl)
+    (λ x ts rest h. refl) (λ y x e. ap to_import (sym (some-inj (y.line, (y.symbols, y.source)) x e)))
+
+pub imports-law : Lawful imports
+unfolding before behind import_clause imports is_reserved lined many name pair separated shaped some_of symbol text token word
+imports-law =
+  behind-law (word (codes "IMPORTS")) (before (many import_clause) (token K.Semicolon)) (word-law (codes "IMPORTS"))
+    (before-law (many import_clause) (token K.Semicolon) (many-law import_clause import_clause-law refl refl) (token-law K.Semicolon) refl refl) refl refl
+
+pub heading-law : Lawful heading
+unfolding arc before behind braced either heading many maybe pair parenthesized part shaped text text_where token
+heading-law = braced-law (many part) (many-law part part-law refl refl) refl
+
+opening-law : Lawful opening
+unfolding behind opening token word
+opening-law =
+  behind-law (word (codes "DEFINITIONS")) (behind (token K.Assign) (word (codes "BEGIN"))) (word-law (codes "DEFINITIONS"))
+    (behind-law (token K.Assign) (word (codes "BEGIN")) (token-law K.Assign) (word-law (codes "BEGIN")) refl refl) refl refl
+
+pub head-law : Lawful head
+unfolding arc before behind braced either head heading import_clause imports is_reserved lined many maybe name opening pair parenthesized part separated shaped some_of symbol text text_where token word
+head-law =
+  shaped-law to_head from_head (pair name (pair (maybe heading) (behind opening (maybe imports))))
+    (pair-law name (pair (maybe heading) (behind opening (maybe imports))) name-law
+      (pair-law (maybe heading) (behind opening (maybe imports)) (maybe-law heading heading-law refl)
+        (behind-law opening (maybe imports) opening-law (maybe-law imports imports-law refl) refl refl) refl) refl)
+    (λ x ts rest h. refl) (λ y x e. ap to_head (sym (some-inj (y.name, (y.heading, y.imports)) x e)))
+
+pub definitions-law : Lawful (many definition)
+unfolding arc assigned balanced base before before_assign before_end behind bound braced choice clause default_value definition either field group identifier index index_names is_reserved later_part lined lower_definition macro_body macro_definition macro_name many maybe module_identity name named_number names notification_type object_identifier object_identifier_words object_identity object_type objects octet_string_words of_row pair parenthesized part range ranges raw_definition refinement revision separated sequence shaped simple_type size some_of status syntax_clause syntax_type tag tagged text text_where textual_convention token upper_definition value word
+definitions-law = many-law definition definition-law refl refl
+
+pub module_text-law : Lawful module_text
+unfolding arc assigned balanced base before before_assign before_end behind bound braced choice clause default_value definition either field group head heading identifier import_clause imports index index_names is_reserved later_part lined lower_definition macro_body macro_definition macro_name many maybe module_identity module_text name named_number names notification_type object_identifier object_identifier_words object_identity object_type objects octet_string_words of_row opening pair parenthesized part range ranges raw_definition refinement revision separated sequence shaped simple_type size some_of status symbol syntax_clause syntax_type tag tagged text text_where textual_convention token upper_definition value word
+module_text-law =
+  shaped-law to_module from_module (pair head (before (many definition) (word (codes "END"))))
+    (pair-law head (before (many definition) (word (codes "END"))) head-law
+      (before-law (many definition) (word (codes "END")) definitions-law (word-law (codes "END")) refl refl) refl)
+    (λ x ts rest h. refl) (λ y x e. ap to_module (sym (some-inj (head_of y, y.defs) x e)))
+
+pub file-law : Lawful file
+unfolding arc assigned balanced base before before_assign before_end behind bound braced choice clause default_value definition either field file group head heading identifier import_clause imports index index_names is_reserved later_part lined lower_definition macro_body macro_definition macro_name many maybe module_identity module_text name named_number names notification_type object_identifier object_identifier_words object_identity object_type objects octet_string_words of_row opening pair parenthesized part range ranges raw_definition refinement revision separated sequence shaped simple_type size some_of status symbol syntax_clause syntax_type tag tagged text text_where textual_convention token upper_definition value word
+file-law = many-law module_text module_text-law refl refl

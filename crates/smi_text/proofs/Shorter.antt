@@ -8,15 +8,16 @@ use Rattle.smi_text.specs.declared.tree.NamedNumber.{NamedNumber}
 use Rattle.smi_text.specs.declared.tree.Range.{Range}
 use Rattle.smi_text.specs.declared.tree.Field.{Field}
 use Rattle.smi_text.specs.Gives.{Gives}
-use Rattle.smi_text.specs.Format.{Format, before, behind, either, many, maybe, name, pair, separated, shaped, some_of, text, text_where, token, word}
-use Rattle.smi_text.specs.Grammar.{arc, base, before_assign, before_end, bound, braced, clause, field, later_part, named_number, object_identifier_words, octet_string_words, of_row, parenthesized, part, range, ranges, refinement, revision, simple_type, size, syntax_type}
+use Rattle.smi_text.specs.Format.{Format, before, behind, either, lined, many, maybe, name, pair, separated, shaped, some_of, text, text_where, token, word}
+use Rattle.smi_text.specs.Grammar.{arc, base, before_assign, before_end, bound, braced, clause, field, import_clause, later_part, named_number, object_identifier_words, octet_string_words, of_row, parenthesized, part, range, ranges, refinement, revision, simple_type, size, symbol, syntax_type}
 use Rattle.smi_text.proofs.Lawful.{Lawful}
 use Rattle.smi_text.proofs.Many.{reading-shorter}
-use Rattle.smi_text.proofs.Productions.{part-law, later_part-law, named_number-law, range-law, field-law, revision-law, before_assign-law, before_end-law}
+use Rattle.smi_text.proofs.Productions.{part-law, later_part-law, named_number-law, range-law, field-law, revision-law, before_assign-law, before_end-law, symbol-law, import_clause-law}
 use Rattle.smi_text.proofs.Laws.{text-law}
 use Rattle.smi_lexer.specs.declared.token.TokenKind.TheVariants as K
 use Rattle.smi_text.specs.declared.tree.Revision.{Revision}
 use Rattle.smi_text.specs.declared.tree.TokenText.{TokenText}
+use Rattle.smi_text.specs.declared.tree.Import.{Import}
 use Rattle.smi_text.specs.Reserved.{is_reserved}
 
 gives-shorter : {A : Type 0} (f : Format A) → Lawful f → f.empty ≡ false → (r : Result A Stop) (ts rest : List Lexeme) → Gives r rest (f.read ts) → OnOk r (length rest < length ts)
@@ -58,3 +59,11 @@ before_assign_shorter r ts rest h = gives-shorter before_assign before_assign-la
 pub before_end_shorter : (r : Result TokenText Stop) (ts rest : List Lexeme) → Gives r rest (before_end.read ts) → OnOk r (length rest < length ts)
 unfolding before_end
 before_end_shorter r ts rest h = gives-shorter before_end before_end-law refl r ts rest h
+
+pub symbol_shorter : (r : Result TokenText Stop) (ts rest : List Lexeme) → Gives r rest (symbol.read ts) → OnOk r (length rest < length ts)
+unfolding symbol
+symbol_shorter r ts rest h = gives-shorter symbol symbol-law refl r ts rest h
+
+pub import_clause_shorter : (r : Result Import Stop) (ts rest : List Lexeme) → Gives r rest (import_clause.read ts) → OnOk r (length rest < length ts)
+unfolding behind import_clause lined many name pair separated shaped some_of symbol text token word
+import_clause_shorter r ts rest h = gives-shorter import_clause import_clause-law refl r ts rest h

@@ -10,6 +10,7 @@ use Rattle.smi_text.specs.Reserved.{is_reserved, macros}
 use Rattle.smi_text.specs.Number.{is_arc, is_number, is_bound, is_symbol, is_macro}
 use Rattle.smi_text.specs.Format.{Format, Reading, Ahead, a_word, a_name, a_kind, no_word, no_kind, is_word, begins, never, one, word, token, text, text_where, name, pair, behind, before, maybe, either, many, shaped, some_of, separated, lined, with_front}
 use Rattle.smi_text.specs.declared.tree.Module.{Module}
+use Rattle.smi_text.specs.declared.modules.Head.{Head}
 use Rattle.smi_text.specs.declared.tree.Import.{Import}
 use Rattle.smi_text.specs.declared.tree.TokenText.{TokenText}
 use Rattle.smi_text.specs.declared.tree.Def.{Def}
@@ -595,16 +596,27 @@ heading = braced (many part)
 unfoldable pub opening : Format (Unit {0})
 opening = behind (word (codes "DEFINITIONS")) (behind (token K.Assign) (word (codes "BEGIN")))
 
-abbrev pub to_module : List ℕ × (Option (List Part) × (Option (List Import) × List Def)) → Module
-to_module p = record { name = p.0; heading = p.1.0; imports = p.1.1.0; defs = p.1.1.1 }
+abbrev pub to_head : List ℕ × (Option (List Part) × Option (List Import)) → Head
+to_head p = record { name = p.0; heading = p.1.0; imports = p.1.1 }
 
-abbrev pub from_module : Module → Option (List ℕ × (Option (List Part) × (Option (List Import) × List Def)))
-from_module m = Some (m.name, (m.heading, (m.imports, m.defs)))
+abbrev pub from_head : Head → Option (List ℕ × (Option (List Part) × Option (List Import)))
+from_head h = Some (h.name, (h.heading, h.imports))
+
+-- a module up to its definitions
+unfoldable pub head : Format Head
+head = shaped to_head from_head (pair name (pair (maybe heading) (behind opening (maybe imports))))
+
+abbrev pub to_module : Head × List Def → Module
+to_module p = record { name = p.0.name; heading = p.0.heading; imports = p.0.imports; defs = p.1 }
+
+abbrev pub head_of : Module → Head
+head_of m = record { name = m.name; heading = m.heading; imports = m.imports }
+
+abbrev pub from_module : Module → Option (Head × List Def)
+from_module m = Some (head_of m, m.defs)
 
 unfoldable pub module_text : Format Module
-module_text =
-  shaped to_module from_module
-    (pair name (pair (maybe heading) (behind opening (pair (maybe imports) (before (many definition) (word (codes "END")))))))
+module_text = shaped to_module from_module (pair head (before (many definition) (word (codes "END"))))
 
 unfoldable pub file : Format (List Module)
 file = many module_text

@@ -4,3 +4,6 @@ pub mod Number
 pub mod Format
 pub mod Grammar
 pub mod Gives
+pub mod Names
+pub mod Spelling
+pub mod Text

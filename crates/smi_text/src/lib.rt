@@ -3,14 +3,24 @@
 
 mod clauses;
 mod definitions;
+mod error;
+mod file;
 mod items;
 mod stop;
 mod syntax;
 mod tree;
+mod modules;
+mod names;
 mod numbers;
 mod parser;
 mod reserved;
 
+pub use error::ParseError;
+pub use file::parse_modules;
 pub use items::{Items, Text};
-pub use smi_lexer::{LexError, Span, Token, TokenKind};
-pub use tree::{Def, DefKind, Module};
+pub use smi_lexer::{LexError, Lexer, Span, Token, TokenKind};
+pub use tree::{
+    Base, Def, DefKind, Field, Group, Import, Index, IndexParts, Module, ModuleIdentity, NamedNumber,
+    NotificationType, ObjectIdentity, ObjectType, Part, Range, RawDefinition, Refinement, Revision,
+    SimpleType, Status, Syntax, TextualConvention, TokenText, TypeAssignment,
+};

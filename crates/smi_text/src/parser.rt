@@ -15,6 +15,7 @@ use crate::stop::Stop;
 use crate::tree::TokenText;
 use smi_lexer::{Token, TokenKind};
 use std::alloc::Global;
+use std::collections::BTreeSet;
 use std::marker::Model;
 
 /// The tokens that are left of a text, which productions take from the front.
@@ -22,7 +23,7 @@ use std::marker::Model;
 pub(crate) struct Parser<'a> {
     alloc: Global,
     tokens: &'a [Token<'a>],
-    last_line: usize,
+    text: &'a [u8],
 }
 
 impl<'a> Model for Parser<'a> {
@@ -96,15 +97,22 @@ pub(crate) fn keep<T: Drop>(items: &mut Vec<T>, item: T) -> Result<(), Stop>
 }
 
 impl<'a> Parser<'a> {
-    /// The parser of these tokens, the last of which stands before or in `last_line`.
-    pub(crate) fn new(alloc: Global, tokens: &'a [Token<'a>], last_line: usize) -> Parser<'a>
+    /// The parser of these tokens of the text.
+    pub(crate) fn new(alloc: Global, tokens: &'a [Token<'a>], text: &'a [u8]) -> Parser<'a>
         ensures { result ≡ map lexeme_of tokens.now }
     {
         Parser {
             alloc,
             tokens,
-            last_line,
+            text,
         }
+    }
+
+    /// A set with no names in it.
+    pub(crate) fn names(&self) -> BTreeSet<&'a [u8]>
+        ensures { result.keys ≡ [] }
+    {
+        BTreeSet::new(self.alloc)
     }
 
     /// A list with nothing in it.
@@ -169,7 +177,11 @@ impl<'a> Parser<'a> {
     pub(crate) fn syntax(&self) -> Stop
         ensures { (line : ℕ) × (result ≡ Stop.Syntax line) }
     {
-        Stop::Syntax { line: self.peek().map_or(self.last_line, |token| token.line) }
+        let line = match self.peek() {
+            Some(token) => token.line,
+            None => last_line(self.text),
+        };
+        Stop::Syntax { line }
     }
 
     /// Reads this word of the grammar.
@@ -288,5 +300,13 @@ impl<'a> Parser<'a> {
         let mut items = self.list();
         keep(&mut items, first)?;
         self.many_after::<P>(items)
+    }
+}
+
+/// The line of a text's last octet. Lines count from 1, and end with LF.
+fn last_line(text: &[u8]) -> usize {
+    match text.split_last() {
+        Some((_, front)) => front.iter().filter(|octet| **octet == b'\n').count() + 1,
+        None => 1,
     }
 }
