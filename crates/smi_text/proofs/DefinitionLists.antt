@@ -24,27 +24,35 @@ use Rattle.smi_text.proofs.Spells.{def-spells, module-spells, file-spells, lists
 
 -- the label of a definition is the text of its first token
 
-mark-text : (n : ℕ) (x : List ℕ) (b : Bool) (ms : List Mark) (ts rest : List Lexeme) → Stands (on_line n (spelt K.Lower x b) ∷ ms) ts rest ⊎ Stands (on_line n (spelt K.Upper x b) ∷ ms) ts rest → x ≡ text_ahead ts
-mark-text n x b ms [] rest (inl h) = absurd h
-mark-text n x b ms [] rest (inr h) = absurd h
-mark-text n x b ms (t ∷ ts) rest (inl h) = sym h.0.0.1
-mark-text n x b ms (t ∷ ts) rest (inr h) = sym h.0.0.1
-
 kind-label : (n : ℕ) (x : List ℕ) (k : DefKind) (ts rest : List Lexeme) → Stands (of_def_kind n x k) ts rest → x ≡ text_ahead ts
-kind-label n x (D.ObjectIdentifier d) ts rest h = mark-text n x _ _ ts rest (inl h)
-kind-label n x (D.ModuleIdentity d) ts rest h = mark-text n x _ _ ts rest (inl h)
-kind-label n x (D.ObjectIdentity d) ts rest h = mark-text n x _ _ ts rest (inl h)
-kind-label n x (D.ObjectType d) ts rest h = mark-text n x _ _ ts rest (inl h)
-kind-label n x (D.NotificationType d) ts rest h = mark-text n x _ _ ts rest (inl h)
-kind-label n x (D.ObjectGroup d) ts rest h = mark-text n x _ _ ts rest (inl h)
-kind-label n x (D.NotificationGroup d) ts rest h = mark-text n x _ _ ts rest (inl h)
-kind-label n x (D.ModuleCompliance d) ts rest h = mark-text n x _ _ ts rest (inl h)
-kind-label n x (D.AgentCapabilities d) ts rest h = mark-text n x _ _ ts rest (inl h)
-kind-label n x (D.TextualConvention d) ts rest h = mark-text n x _ _ ts rest (inr h)
-kind-label n x (D.TypeAssignment d) ts rest h = mark-text n x _ _ ts rest (inr h)
-kind-label n x (D.Sequence d) ts rest h = mark-text n x _ _ ts rest (inr h)
-kind-label n x (D.Choice d) ts rest h = mark-text n x _ _ ts rest (inr h)
-kind-label n x (D.Macro d) ts rest h = mark-text n x _ _ ts rest (inr h)
+kind-label n x (D.ObjectIdentifier d) [] rest h = absurd h
+kind-label n x (D.ObjectIdentifier d) (t ∷ ts) rest h = sym h.0.0.1
+kind-label n x (D.ModuleIdentity d) [] rest h = absurd h
+kind-label n x (D.ModuleIdentity d) (t ∷ ts) rest h = sym h.0.0.1
+kind-label n x (D.ObjectIdentity d) [] rest h = absurd h
+kind-label n x (D.ObjectIdentity d) (t ∷ ts) rest h = sym h.0.0.1
+kind-label n x (D.ObjectType d) [] rest h = absurd h
+kind-label n x (D.ObjectType d) (t ∷ ts) rest h = sym h.0.0.1
+kind-label n x (D.NotificationType d) [] rest h = absurd h
+kind-label n x (D.NotificationType d) (t ∷ ts) rest h = sym h.0.0.1
+kind-label n x (D.ObjectGroup d) [] rest h = absurd h
+kind-label n x (D.ObjectGroup d) (t ∷ ts) rest h = sym h.0.0.1
+kind-label n x (D.NotificationGroup d) [] rest h = absurd h
+kind-label n x (D.NotificationGroup d) (t ∷ ts) rest h = sym h.0.0.1
+kind-label n x (D.ModuleCompliance d) [] rest h = absurd h
+kind-label n x (D.ModuleCompliance d) (t ∷ ts) rest h = sym h.0.0.1
+kind-label n x (D.AgentCapabilities d) [] rest h = absurd h
+kind-label n x (D.AgentCapabilities d) (t ∷ ts) rest h = sym h.0.0.1
+kind-label n x (D.TextualConvention d) [] rest h = absurd h
+kind-label n x (D.TextualConvention d) (t ∷ ts) rest h = sym h.0.0.1
+kind-label n x (D.TypeAssignment d) [] rest h = absurd h
+kind-label n x (D.TypeAssignment d) (t ∷ ts) rest h = sym h.0.0.1
+kind-label n x (D.Sequence d) [] rest h = absurd h
+kind-label n x (D.Sequence d) (t ∷ ts) rest h = sym h.0.0.1
+kind-label n x (D.Choice d) [] rest h = absurd h
+kind-label n x (D.Choice d) (t ∷ ts) rest h = sym h.0.0.1
+kind-label n x (D.Macro d) [] rest h = absurd h
+kind-label n x (D.Macro d) (t ∷ ts) rest h = sym h.0.0.1
 
 pub read-stands : (d : Def) (ts rest : List Lexeme) → definition.read ts ≡ Some (d, rest) → Stands (of_def d) ts rest
 read-stands d ts rest h = let P : List Mark → Type 0 = λ ms. Stands ms ts rest in subst P (def-spells d) (definition-law.takes ts rest d h)

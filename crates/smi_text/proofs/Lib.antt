@@ -9,3 +9,4 @@ pub mod Words
 pub mod Loops
 pub mod Spells
 pub mod DefinitionLists
+pub mod FileSteps

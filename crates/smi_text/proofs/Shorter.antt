@@ -9,7 +9,7 @@ use Rattle.smi_text.specs.declared.tree.Range.{Range}
 use Rattle.smi_text.specs.declared.tree.Field.{Field}
 use Rattle.smi_text.specs.Gives.{Gives}
 use Rattle.smi_text.specs.Format.{Format, before, behind, either, lined, many, maybe, name, pair, separated, shaped, some_of, text, text_where, token, word}
-use Rattle.smi_text.specs.Grammar.{arc, base, before_assign, before_end, bound, braced, clause, field, import_clause, later_part, named_number, object_identifier_words, octet_string_words, of_row, parenthesized, part, range, ranges, refinement, revision, simple_type, size, symbol, syntax_type}
+use Rattle.smi_text.specs.Grammar.{arc, assigned, balanced, base, before_assign, before_end, bound, braced, choice, clause, default_value, definition, field, group, head, heading, identifier, import_clause, imports, index, index_names, later_part, lower_definition, macro_body, macro_definition, macro_name, module_identity, module_text, named_number, names, notification_type, object_identifier, object_identifier_words, object_identity, object_type, objects, octet_string_words, of_row, opening, parenthesized, part, range, ranges, raw_definition, refinement, revision, sequence, simple_type, size, status, symbol, syntax_clause, syntax_type, tag, tagged, textual_convention, upper_definition, value}
 use Rattle.smi_text.proofs.Lawful.{Lawful}
 use Rattle.smi_text.proofs.Many.{reading-shorter}
 use Rattle.smi_text.proofs.Productions.{part-law, later_part-law, named_number-law, range-law, field-law, revision-law, before_assign-law, before_end-law, symbol-law, import_clause-law}
@@ -67,3 +67,11 @@ symbol_shorter r ts rest h = gives-shorter symbol symbol-law refl r ts rest h
 pub import_clause_shorter : (r : Result Import Stop) (ts rest : List Lexeme) → Gives r rest (import_clause.read ts) → OnOk r (length rest < length ts)
 unfolding behind import_clause lined many name pair separated shaped some_of symbol text token word
 import_clause_shorter r ts rest h = gives-shorter import_clause import_clause-law refl r ts rest h
+
+pub definition-solid : definition.empty ≡ false
+unfolding arc assigned balanced base before before_assign before_end behind bound braced choice clause default_value definition either field group identifier index index_names later_part lined lower_definition macro_body macro_definition macro_name many maybe module_identity name named_number names notification_type object_identifier object_identifier_words object_identity object_type objects octet_string_words of_row pair parenthesized part range ranges raw_definition refinement revision separated sequence shaped simple_type size some_of status syntax_clause syntax_type tag tagged text text_where textual_convention token upper_definition value word
+definition-solid = refl
+
+pub module_text-solid : module_text.empty ≡ false
+unfolding arc assigned balanced base before before_assign before_end behind bound braced choice clause default_value definition either field group head heading identifier import_clause imports index index_names later_part lined lower_definition macro_body macro_definition macro_name many maybe module_identity module_text name named_number names notification_type object_identifier object_identifier_words object_identity object_type objects octet_string_words of_row opening pair parenthesized part range ranges raw_definition refinement revision separated sequence shaped simple_type size some_of status symbol syntax_clause syntax_type tag tagged text text_where textual_convention token upper_definition value word
+module_text-solid = refl

@@ -1,5 +1,6 @@
 -- A set of names.
-use Rattle.std.specs.Prelude.{ℕ, Bool, List, nat_cmp}
+use Rattle.std.specs.Prelude.{ℕ, Bool, List}
+use Rattle.std.specs.Ordering.{nat_cmp}
 use Rattle.std.specs.BTreeSet.{BTreeSet, contains_by}
 use Rattle.std.specs.Borrow.{Bor}
 use Rattle.std.specs.Cmp.Lexicographic.{slice_cmp}

@@ -1,4 +1,5 @@
 //! The whole of a module text: its tokens, and then its modules one after the other.
+#![tactic(auto, unfolding(crate::specs::Format::begins))]
 
 ghost use Rattle.std.specs.Prelude.{◌≡◌, List, IfOk, IfErr, MatchResult, map};
 ghost use Rattle.smi_lexer.specs.Token.{lexeme_of};
@@ -20,10 +21,10 @@ impl<'a> Parser<'a> {
     fn label(&self) -> Option<&'a [u8]>
         ensures { IsLabelAhead result self.now }
     {
-        if !self.at_definition() {
-            return None;
+        match self.peek() {
+            Some(token) if self.at_definition() => Some(token.text),
+            _ => None,
         }
-        self.peek().map(|token| token.text)
     }
 
     /// Reads the definitions of a module, up to a second one of some name.
@@ -31,27 +32,27 @@ impl<'a> Parser<'a> {
         ensures ok { IfOk result (λ defs. ReadsDefinitions defs self.old self.new) }
         ensures fault { IfErr result (λ error. DefinitionsFault error self.old) }
     {
-        let mut names = self.names();
+        let mut names = self.name_set();
         let mut defs = self.list();
         'each: while let Some(label) = self.label() {
-            let def = self.definition().map_err(ParseError::from)?;
-            let is_new = names::add(&mut names, label).map_err(ParseError::from)?;
+            let def = self.definition()?;
+            let is_new = names::add(&mut names, label)?;
             if !is_new {
                 return Err(ParseError::DoubleName { line: def.line });
             }
-            keep(&mut defs, def).map_err(ParseError::from)?;
+            keep(&mut defs, def)?;
         }
         Ok(Items::new(defs))
     }
 
     /// Reads a module.
     fn module(&mut self) -> Result<Module, ParseError>
-        ensures ok { IfOk result (λ module. ReadsModule module self.old self.new) }
+        ensures ok { IfOk result (λ m. ReadsModule m self.old self.new) }
         ensures fault { IfErr result (λ error. ModuleFault error self.old) }
     {
-        let head = self.head().map_err(ParseError::from)?;
+        let head = self.head()?;
         let defs = self.definitions()?;
-        self.word(b"END").map_err(ParseError::from)?;
+        self.word(b"END")?;
         Ok(Module {
             name: head.name,
             heading: head.heading,
@@ -62,13 +63,13 @@ impl<'a> Parser<'a> {
 
     /// Reads modules up to the end of the tokens.
     fn modules(&mut self) -> Result<Vec<Module>, ParseError>
-        ensures ok { IfOk result (λ modules. ReadsModules modules.items self.old) }
+        ensures ok { IfOk result (λ ms. ReadsModules ms.items self.old) }
         ensures fault { IfErr result (λ error. ModulesFault error self.old) }
     {
         let mut modules = self.list();
         'each: while self.peek().is_some() {
             let module = self.module()?;
-            keep(&mut modules, module).map_err(ParseError::from)?;
+            keep(&mut modules, module)?;
         }
         Ok(modules)
     }
@@ -82,7 +83,7 @@ fn tokens_of(alloc: Global, text: &[u8]) -> Result<Vec<Token<'_>>, ParseError>
     let mut tokens = Vec::new(alloc);
     'each: for item in Lexer::new(text) {
         match item {
-            Ok(token) => keep(&mut tokens, token).map_err(ParseError::from)?,
+            Ok(token) => keep(&mut tokens, token)?,
             Err(fault) => return Err(ParseError::Lex(fault)),
         }
     }
@@ -94,9 +95,9 @@ fn tokens_of(alloc: Global, text: &[u8]) -> Result<Vec<Token<'_>>, ParseError>
 /// A fault anywhere refuses the whole text: the first one in the text, save that one of the lexer comes before all others.
 pub fn parse_modules(alloc: Global, text: &[u8]) -> Result<Vec<Module>, ParseError>
     // What is read is what the text spells, and no module of it defines a name twice.
-    ensures found { IfOk result (λ modules. Spells modules.items text.now × HasNoDoubles modules.items) }
+    ensures found { IfOk result (λ ms. Spells ms.items text.now × HasNoDoubles ms.items) }
     // Such modules are read, memory aside.
-    ensures only { (modules : List Tree) → Spells modules text.now → HasNoDoubles modules → MatchResult result (λ found. found.items ≡ modules) (λ error. error ≡ ParseError.Memory) }
+    ensures only { (ms : List Tree) → Spells ms text.now → HasNoDoubles ms → MatchResult result (λ found. found.items ≡ ms) (λ error. error ≡ ParseError.Memory) }
     // Each error comes only with its cause.
     ensures cause { IfErr result (λ error. IsCause error text.now) }
 {

@@ -13,5 +13,8 @@ pub(crate) fn add<'a>(names: &mut BTreeSet<&'a [u8]>, name: &'a [u8]) -> Result<
     ensures added { IfOk result (λ _. (x : List ℕ) → has names.new x ≡ (same_text name.now x || has names.old x)) }
     ensures err { IfErr result (λ e. e ≡ Stop.Memory) }
 {
-    names.insert(name).map_err(|_| Stop::Memory)
+    match names.insert(name) {
+        Ok(is_new) => Ok(is_new),
+        Err(_) => Err(Stop::Memory),
+    }
 }

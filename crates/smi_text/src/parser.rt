@@ -109,7 +109,7 @@ impl<'a> Parser<'a> {
     }
 
     /// A set with no names in it.
-    pub(crate) fn names(&self) -> BTreeSet<&'a [u8]>
+    pub(crate) fn name_set(&self) -> BTreeSet<&'a [u8]>
         ensures { result.keys ≡ [] }
     {
         BTreeSet::new(self.alloc)
