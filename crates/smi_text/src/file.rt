@@ -1,10 +1,10 @@
 //! The whole of a module text: its tokens, and then its modules one after the other.
 #![tactic(auto, unfolding(crate::specs::Format::begins))]
 
-ghost use Rattle.std.specs.Prelude.{◌≡◌, List, IfOk, IfErr, MatchResult, map};
+ghost use Rattle.std.specs.Prelude.{◌≡◌, List, [], IfOk, IfErr, MatchResult, MatchBool, map};
 ghost use Rattle.smi_lexer.specs.Token.{lexeme_of};
 ghost use Rattle.smi_text.specs.Gives.{ReadsDefinitions, ReadsModule, ReadsModules, DefinitionsFault, ModuleFault, ModulesFault, IsLabelAhead, AreTokens, LexFault};
-ghost use Rattle.smi_text.specs.Text.{Spells, HasNoDoubles, IsCause};
+ghost use Rattle.smi_text.specs.Text.{Spells, HasNoDoubles, IsCause, IsAside};
 ghost use Rattle.smi_text.specs.declared.tree.Module.{Module as Tree};
 
 use crate::error::ParseError;
@@ -61,13 +61,23 @@ impl<'a> Parser<'a> {
         })
     }
 
+    /// Whether no token is left.
+    fn is_at_end(&self) -> bool
+        ensures { MatchBool result (self.now ≡ []) (self.now ≡ [] → ⊥) }
+    {
+        match self.peek() {
+            Some(_) => false,
+            None => true,
+        }
+    }
+
     /// Reads modules up to the end of the tokens.
     fn modules(&mut self) -> Result<Vec<Module>, ParseError>
         ensures ok { IfOk result (λ ms. ReadsModules ms.items self.old) }
         ensures fault { IfErr result (λ error. ModulesFault error self.old) }
     {
         let mut modules = self.list();
-        'each: while self.peek().is_some() {
+        'each: while !self.is_at_end() {
             let module = self.module()?;
             keep(&mut modules, module)?;
         }
@@ -96,8 +106,8 @@ fn tokens_of(alloc: Global, text: &[u8]) -> Result<Vec<Token<'_>>, ParseError>
 pub fn parse_modules(alloc: Global, text: &[u8]) -> Result<Vec<Module>, ParseError>
     // What is read is what the text spells, and no module of it defines a name twice.
     ensures found { IfOk result (λ ms. Spells ms.items text.now × HasNoDoubles ms.items) }
-    // Such modules are read, memory aside.
-    ensures only { (ms : List Tree) → Spells ms text.now → HasNoDoubles ms → MatchResult result (λ found. found.items ≡ ms) (λ error. error ≡ ParseError.Memory) }
+    // What the text spells is read, but for a second definition of a name and for want of memory.
+    ensures only { (ms : List Tree) → Spells ms text.now → MatchResult result (λ found. found.items ≡ ms) IsAside }
     // Each error comes only with its cause.
     ensures cause { IfErr result (λ error. IsCause error text.now) }
 {
