@@ -68,23 +68,24 @@ flat-more f (y ∷ ys) x = ap (λ (ms : List Mark). f y ++ ms) (flat-more f ys x
 
 pub stands-more : {A : Type 0} (f : A → List Mark) (xs : List A) (x : A) (ts mid rest : List Lexeme) → Stands (flat_map f xs) ts mid → Stands (f x) mid rest → Stands (flat_map f (xs ++ x ∷ [])) ts rest
 stands-more f xs x ts mid rest h k =
-  let P : List Mark → Type 0 = λ ms. Stands ms ts rest in
-  subst P (sym (flat-more f xs x)) (Stands-append (flat_map f xs) (f x) ts mid rest h k)
+    let P : List Mark → Type 0 = λ ms. Stands ms ts rest in
+    subst P (sym (flat-more f xs x)) (Stands-append (flat_map f xs) (f x) ts mid rest h k)
 
 pub any-more : (x : List ℕ) (ys : List (List ℕ)) (y : List ℕ) → list_any (same_text x) (ys ++ y ∷ []) ≡ (same_text x y || list_any (same_text x) ys)
 any-more x [] y = refl
 any-more x (z ∷ zs) y = ap (λ (b : Bool). same_text x z || b) (any-more x zs y) ∙ swap (same_text x z) (same_text x y) (list_any (same_text x) zs)
   where
-  swap : (a b c : Bool) → (a || (b || c)) ≡ (b || (a || c))
-  swap true true c = refl
-  swap true false c = refl
-  swap false b c = refl
+    swap : (a b c : Bool) → (a || (b || c)) ≡ (b || (a || c))
+    swap true true c = refl
+    swap true false c = refl
+    swap false b c = refl
 
 same-sym : (x y : List ℕ) → same_text x y ≡ same_text y x
 same-sym x y =
-  elim (same_text x y) as (λ b. same_text x y ≡ b → b ≡ same_text y x) [
-    true ↦ λ e. sym (let P : List ℕ → Type 0 = λ z. same_text z x ≡ true in subst P (same_text-eq x y e) (same_text-same x))
-  | false ↦ λ e. sym (false-from (same_text y x) (λ k. cc (e, (let P : List ℕ → Type 0 = λ z. same_text z y ≡ true in subst P (same_text-eq y x k) (same_text-same y))))) ] refl
+    elim (same_text x y) as (λ b. same_text x y ≡ b → b ≡ same_text y x) [
+      | true ↦ λ e. sym (let P : List ℕ → Type 0 = λ z. same_text z x ≡ true in subst P (same_text-eq x y e) (same_text-same x))
+      | false ↦ λ e. sym (false-from (same_text y x) (λ k. cc (e, (let P : List ℕ → Type 0 = λ z. same_text z y ≡ true in subst P (same_text-eq y x k) (same_text-same y)))))
+    ] refl
 
 labels-more : (ds : List Def) (d : Def) → labels (ds ++ d ∷ []) ≡ labels ds ++ d.label ∷ []
 labels-more [] d = refl
@@ -93,9 +94,9 @@ labels-more (e ∷ es) d = ap (λ (xs : List (List ℕ)). e.label ∷ xs) (label
 distinct-text : (xs : List (List ℕ)) (x : List ℕ) → are_distinct xs ≡ true → list_any (same_text x) xs ≡ false → are_distinct (xs ++ x ∷ []) ≡ true
 distinct-text [] x h k = refl
 distinct-text (y ∷ ys) x h k =
-  let apart = or-false (same_text x y) (list_any (same_text x) ys) k in
-  let first = and-left (not (list_any (same_text y) ys)) (are_distinct ys) h in
-  and-both (not (list_any (same_text y) (ys ++ x ∷ []))) (are_distinct (ys ++ x ∷ []))
+    let apart = or-false (same_text x y) (list_any (same_text x) ys) k in
+    let first = and-left (not (list_any (same_text y) ys)) (are_distinct ys) h in
+    and-both (not (list_any (same_text y) (ys ++ x ∷ []))) (are_distinct (ys ++ x ∷ []))
     (rw (any-more y ys x, same-sym y x, apart.0) first)
     (distinct-text ys x (and-right (not (list_any (same_text y) ys)) (are_distinct ys) h) apart.1)
 
@@ -104,7 +105,7 @@ distinct-more ds d h k = rw (labels-more ds d) (distinct-text (labels ds) d.labe
 
 pub among-more : (ds : List Def) (d : Def) (x : List ℕ) → list_any (same_text x) (labels (ds ++ d ∷ [])) ≡ (same_text d.label x || list_any (same_text x) (labels ds))
 among-more ds d x =
-  ap (list_any (same_text x)) (labels-more ds d) ∙ any-more x (labels ds) d.label ∙ ap (λ (b : Bool). b || list_any (same_text x) (labels ds)) (same-sym x d.label)
+    ap (list_any (same_text x)) (labels-more ds d) ∙ any-more x (labels ds) d.label ∙ ap (λ (b : Bool). b || list_any (same_text x) (labels ds)) (same-sym x d.label)
 
 all-more : {A : Type 0} (p : A → Bool) (xs : List A) (x : A) → list_all p xs ≡ true → p x ≡ true → list_all p (xs ++ x ∷ []) ≡ true
 all-more p [] x h k = and-both (p x) true k refl
@@ -126,5 +127,5 @@ file-stands ms ts rest h = let P : List Mark → Type 0 = λ us. Stands us ts re
 
 pub file-reads : (ms : List Module) (ts : List Lexeme) → Stands (spelling ms) ts [] → file.read ts ≡ Some (ms, [])
 file-reads ms ts h =
-  let P : List Mark → Type 0 = λ us. Stands us ts [] in
-  file-law.again ms ts [] (subst P (sym (file-spells ms)) h) (nothing-begins file.stop)
+    let P : List Mark → Type 0 = λ us. Stands us ts [] in
+    file-law.again ms ts [] (subst P (sym (file-spells ms)) h) (nothing-begins file.stop)

@@ -42,43 +42,43 @@ module _ (names : List (List ℕ)) (n : ℕ) (ts : List Lexeme) (enough : length
   unfolding read_index behind with_names
   index-implied x mid rest b w e = by-bound n enough
     where
-    by-bound : (m : ℕ) → length ts ≤ m → with_names names (read_index m ts) ≡ Some (parts_of (names ++ x ∷ []) true, rest)
-    by-bound zero k = absurd (omega (arith, some-token (codes "IMPLIED") ts b))
-    by-bound (suc m) k = rw (b, w, e) refl
+      by-bound : (m : ℕ) → length ts ≤ m → with_names names (read_index m ts) ≡ Some (parts_of (names ++ x ∷ []) true, rest)
+      by-bound zero k = absurd (omega (arith, some-token (codes "IMPLIED") ts b))
+      by-bound (suc m) k = rw (b, w, e) refl
 
   pub index-no_name : (mid : List Lexeme) → begins (a_word (codes "IMPLIED") ∷ []) ts ≡ true → (word (codes "IMPLIED")).read ts ≡ Some (tt, mid) → (text K.Lower).read mid ≡ None → with_names names (read_index n ts) ≡ None
   unfolding read_index behind
   index-no_name mid b w e = with_names-none names (read_index n ts) (by-bound n)
     where
-    by-bound : (m : ℕ) → read_index m ts ≡ None
-    by-bound zero = refl
-    by-bound (suc m) = rw (b, w, e) refl
+      by-bound : (m : ℕ) → read_index m ts ≡ None
+      by-bound zero = refl
+      by-bound (suc m) = rw (b, w, e) refl
 
   pub index-stuck : begins (a_word (codes "IMPLIED") ∷ []) ts ≡ false → (text K.Lower).read ts ≡ None → with_names names (read_index n ts) ≡ None
   unfolding read_index
   index-stuck b e = with_names-none names (read_index n ts) (by-bound n)
     where
-    by-bound : (m : ℕ) → read_index m ts ≡ None
-    by-bound zero = refl
-    by-bound (suc m) = rw (b, e) refl
+      by-bound : (m : ℕ) → read_index m ts ≡ None
+      by-bound zero = refl
+      by-bound (suc m) = rw (b, e) refl
 
   pub index-last : (x : List ℕ) (rest : List Lexeme) → begins (a_word (codes "IMPLIED") ∷ []) ts ≡ false → (text K.Lower).read ts ≡ Some (x, rest) → begins (a_kind K.Comma ∷ []) rest ≡ false → with_names names (read_index n ts) ≡ Some (parts_of (names ++ x ∷ []) false, rest)
   unfolding read_index with_names
   index-last x rest b e c = by-bound n enough
     where
-    by-bound : (m : ℕ) → length ts ≤ m → with_names names (read_index m ts) ≡ Some (parts_of (names ++ x ∷ []) false, rest)
-    by-bound zero k = absurd (omega (arith, text-shorter x ts rest e))
-    by-bound (suc m) k = rw (b, e, c) refl
+      by-bound : (m : ℕ) → length ts ≤ m → with_names names (read_index m ts) ≡ Some (parts_of (names ++ x ∷ []) false, rest)
+      by-bound zero k = absurd (omega (arith, text-shorter x ts rest e))
+      by-bound (suc m) k = rw (b, e, c) refl
 
   pub index-next : (x : List ℕ) (rest : List Lexeme) → begins (a_word (codes "IMPLIED") ∷ []) ts ≡ false → (text K.Lower).read ts ≡ Some (x, rest) → begins (a_kind K.Comma ∷ []) rest ≡ true
-    → (m : ℕ) × (length (drop 1 rest) ≤ m) × (with_names names (read_index n ts) ≡ with_names (names ++ x ∷ []) (read_index m (drop 1 rest)))
+      → (m : ℕ) × (length (drop 1 rest) ≤ m) × (with_names names (read_index n ts) ≡ with_names (names ++ x ∷ []) (read_index m (drop 1 rest)))
   unfolding read_index
   index-next x rest b e c = by-bound n enough
     where
-    by-bound : (k : ℕ) → length ts ≤ k → (m : ℕ) × (length (drop 1 rest) ≤ m) × (with_names names (read_index k ts) ≡ with_names (names ++ x ∷ []) (read_index m (drop 1 rest)))
-    by-bound zero h = absurd (omega (arith, text-shorter x ts rest e))
-    by-bound (suc m) h =
-      (m, omega (arith, text-shorter x ts rest e, length-drop 1 rest), rw (b, e, c) (sym (with_names-append names (x ∷ []) (read_index m (drop 1 rest)))))
+      by-bound : (k : ℕ) → length ts ≤ k → (m : ℕ) × (length (drop 1 rest) ≤ m) × (with_names names (read_index k ts) ≡ with_names (names ++ x ∷ []) (read_index m (drop 1 rest)))
+      by-bound zero h = absurd (omega (arith, text-shorter x ts rest e))
+      by-bound (suc m) h =
+          (m, omega (arith, text-shorter x ts rest e, length-drop 1 rest), rw (b, e, c) (sym (with_names-append names (x ∷ []) (read_index m (drop 1 rest)))))
 
 pub next-shorter : (x : List ℕ) (ts rest : List Lexeme) → (text K.Lower).read ts ≡ Some (x, rest) → length (drop 1 rest) < length ts
 next-shorter x ts rest e = omega (arith, text-shorter x ts rest e, length-drop 1 rest)
@@ -91,9 +91,10 @@ index_names-starts ts = refl
 
 pub depth_after-le : (k : TokenKind) (depth : ℕ) → depth_after k depth ≤ depth + 1
 depth_after-le k depth =
-  elim (same_kind k K.OpenBrace) as (λ b. (if b then depth + 1 else (if same_kind k K.CloseBrace then depth - 1 else depth)) ≤ depth + 1) [
-    true ↦ omega arith
-  | false ↦ elim (same_kind k K.CloseBrace) as (λ b. (if b then depth - 1 else depth) ≤ depth + 1) [ true ↦ omega arith | false ↦ omega arith ] ]
+    elim (same_kind k K.OpenBrace) as (λ b. (if b then depth + 1 else (if same_kind k K.CloseBrace then depth - 1 else depth)) ≤ depth + 1) [
+      | true ↦ omega arith
+      | false ↦ elim (same_kind k K.CloseBrace) as (λ b. (if b then depth - 1 else depth) ≤ depth + 1) [ true ↦ omega arith | false ↦ omega arith ]
+    ]
 
 pub balanced-next : (xs : List TokenText) (depth : ℕ) (t : Lexeme) (ts : List Lexeme) → is_outside t.kind depth ≡ false → with_front xs (read_balanced depth (t ∷ ts)) ≡ with_front (xs ++ kept_text t ∷ []) (read_balanced (depth_after t.kind depth) ts)
 unfolding read_balanced

@@ -17,12 +17,13 @@ begins-nil f = refl
 
 pub shorter : {A : Type 0} (f : Format A) → Lawful f → f.empty ≡ false → (x : A) (ts rest : List Lexeme) → Stands (f.spell x) ts rest → length rest < length ts
 shorter f law solid x ts rest h =
-  elim (f.spell x) as (λ ms. f.spell x ≡ ms → length rest < length ts) [
-    [] ↦ λ e. elim (law.starts x [] [] (let P : List Mark → Type 0 = λ ms. Stands ms [] [] in subst P (sym e) refl)) [
-      inl b ↦ absurd (cc (begins-nil f))
-    | inr b ↦ absurd (cc (b.0)) ]
-  | (m ∷ ms) ↦ λ e. omega (arith, Stands-length (f.spell x) ts rest h, ap length e)
-  ] refl
+    elim (f.spell x) as (λ ms. f.spell x ≡ ms → length rest < length ts) [
+      | [] ↦ λ e. elim (law.starts x [] [] (let P : List Mark → Type 0 = λ ms. Stands ms [] [] in subst P (sym e) refl)) [
+        | inl b ↦ absurd (cc (begins-nil f))
+        | inr b ↦ absurd (cc (b.0))
+      ]
+      | (m ∷ ms) ↦ λ e. omega (arith, Stands-length (f.spell x) ts rest h, ap length e)
+    ] refl
 
 pub reading-shorter : {A : Type 0} (f : Format A) → Lawful f → f.empty ≡ false → (x : A) (ts rest : List Lexeme) → f.read ts ≡ Some (x, rest) → length rest < length ts
 reading-shorter f law solid x ts rest h = shorter f law solid x ts rest (law.takes ts rest x h)
@@ -40,13 +41,13 @@ enough f law solid (suc n) (suc m) [] h k = refl
 enough f law solid zero (suc m) (t ∷ ts) h k = absurd (omega arith)
 enough f law solid (suc n) zero (t ∷ ts) h k = absurd (omega arith)
 enough {A} f law solid (suc n) (suc m) (t ∷ ts) h k =
-  ap (λ (r : Reading (List A)). if begins f.first (t ∷ ts) then r else Some ([], t ∷ ts))
+    ap (λ (r : Reading (List A)). if begins f.first (t ∷ ts) then r else Some ([], t ∷ ts))
     (elim (f.read (t ∷ ts)) as (λ r. f.read (t ∷ ts) ≡ r →
-        option_and_then (put_one f n) r ≡ option_and_then (put_one f m) r) [
-      None ↦ λ e. refl
-    | Some p ↦ λ e.
-        let s : length p.1 < length (t ∷ ts) = reading-shorter f law solid p.0 (t ∷ ts) p.1 e in
-        ap (λ (r : Reading (List A)). option_map (λ (q : List A × List Lexeme). (p.0 ∷ q.0, q.1)) r) (enough f law solid n m p.1 (omega arith) (omega arith))
+    option_and_then (put_one f n) r ≡ option_and_then (put_one f m) r) [
+      | None ↦ λ e. refl
+      | Some p ↦ λ e.
+          let s : length p.1 < length (t ∷ ts) = reading-shorter f law solid p.0 (t ∷ ts) p.1 e in
+          ap (λ (r : Reading (List A)). option_map (λ (q : List A × List Lexeme). (p.0 ∷ q.0, q.1)) r) (enough f law solid n m p.1 (omega arith) (omega arith))
     ] refl)
 
 -- where the part begins and is not read, nor are several
@@ -60,8 +61,8 @@ pub many-goes_on : {A : Type 0} (f : Format A) → Lawful f → f.empty ≡ fals
 unfolding many read_many begins with_front
 many-goes_on f law solid x [] rest b e = absurd (cc)
 many-goes_on {A} f law solid x (t ∷ ts) rest b e =
-  let s : length rest < length (t ∷ ts) = reading-shorter f law solid x (t ∷ ts) rest e in
-  rw (b, e) (ap (λ (r : Reading (List A)). option_map (λ (q : List A × List Lexeme). (x ∷ q.0, q.1)) r) (enough f law solid (length ts) (length rest) rest (omega arith) (omega arith)))
+    let s : length rest < length (t ∷ ts) = reading-shorter f law solid x (t ∷ ts) rest e in
+    rw (b, e) (ap (λ (r : Reading (List A)). option_map (λ (q : List A × List Lexeme). (x ∷ q.0, q.1)) r) (enough f law solid (length ts) (length rest) rest (omega arith) (omega arith)))
 
 -- where the part does not begin, there are none
 pub many-done : {A : Type 0} (f : Format A) (ts : List Lexeme) → begins f.first ts ≡ false → (many f).read ts ≡ Some ([], ts)
@@ -89,7 +90,7 @@ with_front-nil (Some p) = refl
 
 -- one step of a loop that reads several parts: what is left to read, and a bound that is enough for it
 pub next-many : {A : Type 0} (f : Format A) (n : ℕ) (x : A) (ts rest : List Lexeme) → begins f.first ts ≡ true → f.read ts ≡ Some (x, rest) → length ts ≤ n → length rest < length ts
-  → (m : ℕ) × (length rest ≤ m) × (read_many f n ts ≡ with_front (x ∷ []) (read_many f m rest))
+    → (m : ℕ) × (length rest ≤ m) × (read_many f n ts ≡ with_front (x ∷ []) (read_many f m rest))
 unfolding read_many with_front
 next-many f zero x ts rest b e h k = absurd (omega arith)
 next-many f (suc m) x ts rest b e h k = (m, omega arith, rw (b, e) refl)

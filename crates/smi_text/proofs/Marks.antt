@@ -48,8 +48,8 @@ eqb-eq a b h = grind arith
 
 kinds : List TokenKind
 kinds =
-  Lower ∷ Upper ∷ Number ∷ Text ∷ Hex ∷ Binary ∷ Assign ∷ Range ∷ OpenBrace ∷ CloseBrace ∷ OpenParen ∷ CloseParen ∷
-  OpenBracket ∷ CloseBracket ∷ Less ∷ Greater ∷ Comma ∷ Semicolon ∷ Colon ∷ Bar ∷ Dot ∷ Equals ∷ []
+    Lower ∷ Upper ∷ Number ∷ Text ∷ Hex ∷ Binary ∷ Assign ∷ Range ∷ OpenBrace ∷ CloseBrace ∷ OpenParen ∷ CloseParen ∷
+    OpenBracket ∷ CloseBracket ∷ Less ∷ Greater ∷ Comma ∷ Semicolon ∷ Colon ∷ Bar ∷ Dot ∷ Equals ∷ []
 
 kind_at : (k : TokenKind) → get_or kinds (kind_number k) Lower ≡ k
 unfolding kinds
@@ -90,9 +90,9 @@ same_text-eq [] [] h = refl
 same_text-eq [] (b ∷ y) h = absurd (cc)
 same_text-eq (a ∷ x) [] h = absurd (cc)
 same_text-eq (a ∷ x) (b ∷ y) h =
-  let e : a ≡ b = eqb-eq a b (and-left (a == b) (same_text x y) h) in
-  let f : x ≡ y = same_text-eq x y (and-right (a == b) (same_text x y) h) in
-  cc
+    let e : a ≡ b = eqb-eq a b (and-left (a == b) (same_text x y) h) in
+    let f : x ≡ y = same_text-eq x y (and-right (a == b) (same_text x y) h) in
+    cc
 
 pub same_text-same : (x : List ℕ) → same_text x x ≡ true
 same_text-same [] = refl
@@ -109,8 +109,8 @@ pub Stands-split : (xs ys : List Mark) (ts rest : List Lexeme) → Stands (xs ++
 Stands-split [] ys ts rest h = (ts, refl, h)
 Stands-split (x ∷ xs) ys [] rest h = absurd h
 Stands-split (x ∷ xs) ys (t ∷ ts) rest h =
-  let r = Stands-split xs ys ts rest h.1 in
-  (r.0, (h.0, r.1), r.2)
+    let r = Stands-split xs ys ts rest h.1 in
+    (r.0, (h.0, r.1), r.2)
 
 -- readings
 
@@ -131,7 +131,7 @@ or-assoc false b c = refl
 any-append : (t : Lexeme) (cs ds : List Ahead) → list_any (meets t) (cs ++ ds) ≡ (list_any (meets t) cs || list_any (meets t) ds)
 any-append t [] ds = refl
 any-append t (c ∷ cs) ds =
-  ap (λ (b : Bool). meets t c || b) (any-append t cs ds) ∙ or-assoc (meets t c) (list_any (meets t) cs) (list_any (meets t) ds)
+    ap (λ (b : Bool). meets t c || b) (any-append t cs ds) ∙ or-assoc (meets t c) (list_any (meets t) cs) (list_any (meets t) ds)
 
 pub begins-append : (cs ds : List Ahead) (ts : List Lexeme) → begins (cs ++ ds) ts ≡ (begins cs ts || begins ds ts)
 unfolding begins
@@ -159,17 +159,17 @@ module _ (t : Lexeme) where
 
   half-sound : (c d : Ahead) → half_apart c d ≡ true → meets t c ≡ true → meets t d ≡ true → ⊥
   half-sound (a_word v) (a_word w) a h k =
-    true-not (same_text v w) a (rw (← word-text v h, ← word-text w k) (same_text-same t.text))
+      true-not (same_text v w) a (rw (← word-text v h, ← word-text w k) (same_text-same t.text))
   half-sound (a_word v) a_name a h k =
-    true-not (is_reserved t.text) (and-right (same_kind t.kind Upper) (not (is_reserved t.text)) k) (rw (word-text v h) a)
+      true-not (is_reserved t.text) (and-right (same_kind t.kind Upper) (not (is_reserved t.text)) k) (rw (word-text v h) a)
   half-sound (a_word v) (a_kind k) a h e = kind-clash Upper k a (word-kind v h) (same_kind-eq t.kind k e)
   half-sound (a_word v) (no_word w) a h k =
-    true-not (is_word w t) k (let e : v ≡ w = same_text-eq v w a in rw (← e) h)
+      true-not (is_word w t) k (let e : v ≡ w = same_text-eq v w a in rw (← e) h)
   half-sound (a_word v) (no_kind k) a h e = cc
   half-sound a_name (a_word w) a h k = cc
   half-sound a_name a_name a h k = cc
   half-sound a_name (a_kind k) a h e =
-    kind-clash Upper k a (same_kind-eq t.kind Upper (and-left (same_kind t.kind Upper) (not (is_reserved t.text)) h)) (same_kind-eq t.kind k e)
+      kind-clash Upper k a (same_kind-eq t.kind Upper (and-left (same_kind t.kind Upper) (not (is_reserved t.text)) h)) (same_kind-eq t.kind k e)
   half-sound a_name (no_word w) a h k = cc
   half-sound a_name (no_kind k) a h e = cc
   half-sound (a_kind j) (a_word w) a h k = cc
@@ -177,25 +177,28 @@ module _ (t : Lexeme) where
   half-sound (a_kind j) (a_kind k) a h e = kind-clash j k a (same_kind-eq t.kind j h) (same_kind-eq t.kind k e)
   half-sound (a_kind j) (no_word w) a h k = cc
   half-sound (a_kind j) (no_kind k) a h e =
-    true-not (same_kind t.kind k) e (let f : j ≡ k = same_kind-eq j k a in rw (← f) h)
+      true-not (same_kind t.kind k) e (let f : j ≡ k = same_kind-eq j k a in rw (← f) h)
   half-sound (no_word v) d a h k = cc
   half-sound (no_kind j) d a h k = cc
 
   list-sound : (c : Ahead) (ds : List Ahead) → list_all (λ d. half_apart c d || half_apart d c) ds ≡ true → meets t c ≡ true → list_any (meets t) ds ≡ true → ⊥
   list-sound c [] a h k = cc
   list-sound c (d ∷ ds) a h k =
-    elim (or-cases (meets t d) (list_any (meets t) ds) k) [
-      inl e ↦ elim (or-cases (half_apart c d) (half_apart d c) (and-left (half_apart c d || half_apart d c) (list_all (λ x. half_apart c x || half_apart x c) ds) a)) [
-        inl p ↦ half-sound c d p h e
-      | inr p ↦ half-sound d c p e h ]
-    | inr e ↦ list-sound c ds (and-right (half_apart c d || half_apart d c) (list_all (λ x. half_apart c x || half_apart x c) ds) a) h e ]
+      elim (or-cases (meets t d) (list_any (meets t) ds) k) [
+        | inl e ↦ elim (or-cases (half_apart c d) (half_apart d c) (and-left (half_apart c d || half_apart d c) (list_all (λ x. half_apart c x || half_apart x c) ds) a)) [
+          | inl p ↦ half-sound c d p h e
+          | inr p ↦ half-sound d c p e h
+        ]
+        | inr e ↦ list-sound c ds (and-right (half_apart c d || half_apart d c) (list_all (λ x. half_apart c x || half_apart x c) ds) a) h e
+      ]
 
   lists-sound : (cs ds : List Ahead) → apart cs ds ≡ true → list_any (meets t) cs ≡ true → list_any (meets t) ds ≡ true → ⊥
   lists-sound [] ds a h k = cc
   lists-sound (c ∷ cs) ds a h k =
-    elim (or-cases (meets t c) (list_any (meets t) cs) h) [
-      inl e ↦ list-sound c ds (and-left (list_all (λ x. half_apart c x || half_apart x c) ds) (apart cs ds) a) e k
-    | inr e ↦ lists-sound cs ds (and-right (list_all (λ x. half_apart c x || half_apart x c) ds) (apart cs ds) a) e k ]
+      elim (or-cases (meets t c) (list_any (meets t) cs) h) [
+        | inl e ↦ list-sound c ds (and-left (list_all (λ x. half_apart c x || half_apart x c) ds) (apart cs ds) a) e k
+        | inr e ↦ lists-sound cs ds (and-right (list_all (λ x. half_apart c x || half_apart x c) ds) (apart cs ds) a) e k
+      ]
 
 -- a token that begins one of these begins none of those
 pub apart-sound : (cs ds : List Ahead) (ts : List Lexeme) → apart cs ds ≡ true → begins cs ts ≡ true → begins ds ts ≡ true → ⊥

@@ -127,8 +127,8 @@ names-spell xs = λ i. say.braces (lists_between (sign K.Comma) (λ x. say.lower
 status-spells : (s : Status) → status.spell s ≡ say.of_status s
 unfolding status shaped pair maybe clause behind word text
 status-spells s = λ i.
-  say.word (codes "STATUS") ∷ say.lower s.status ∷ say.word (codes "DESCRIPTION") ∷ say.string s.description ∷
-  options (say.of_clause (codes "REFERENCE")) (say.of_clause (codes "REFERENCE")) (λ x. refl) s.reference i
+    say.word (codes "STATUS") ∷ say.lower s.status ∷ say.word (codes "DESCRIPTION") ∷ say.string s.description ∷
+    options (say.of_clause (codes "REFERENCE")) (say.of_clause (codes "REFERENCE")) (λ x. refl) s.reference i
 
 index_marks-same : (xs : List (List ℕ)) (b : Bool) → index_marks xs b ≡ say.of_index_names xs b
 index_marks-same [] b = refl
@@ -151,9 +151,9 @@ revision-spells r = refl
 module_identity-spells : (d : ModuleIdentity) → module_identity.spell d ≡ say.of_module_identity d
 unfolding module_identity shaped pair clause behind word text many
 module_identity-spells d = λ i.
-  say.word (codes "MODULE-IDENTITY") ∷ say.word (codes "LAST-UPDATED") ∷ say.string d.last_updated ∷ say.word (codes "ORGANIZATION") ∷ say.string d.organization ∷
-  say.word (codes "CONTACT-INFO") ∷ say.string d.contact_info ∷ say.word (codes "DESCRIPTION") ∷ say.string d.description ∷
-  (lists revision.spell say.of_revision revision-spells d.revisions i ++ value-spells d.value i)
+    say.word (codes "MODULE-IDENTITY") ∷ say.word (codes "LAST-UPDATED") ∷ say.string d.last_updated ∷ say.word (codes "ORGANIZATION") ∷ say.string d.organization ∷
+    say.word (codes "CONTACT-INFO") ∷ say.string d.contact_info ∷ say.word (codes "DESCRIPTION") ∷ say.string d.description ∷
+    (lists revision.spell say.of_revision revision-spells d.revisions i ++ value-spells d.value i)
 
 object_identity-spells : (d : ObjectIdentity) → object_identity.spell d ≡ say.of_object_identity d
 unfolding object_identity shaped pair behind word
@@ -162,11 +162,11 @@ object_identity-spells d = λ i. say.word (codes "OBJECT-IDENTITY") ∷ (status-
 object_type-spells : (d : ObjectType) → object_type.spell d ≡ say.of_object_type d
 unfolding object_type syntax_clause shaped pair maybe behind word text
 object_type-spells d = λ i.
-  say.word (codes "OBJECT-TYPE") ∷ say.word (codes "SYNTAX") ∷ (syntax-spells d.syntax i ++
-  (options (clause (codes "UNITS")).spell (say.of_clause (codes "UNITS")) (clause-spells (codes "UNITS")) d.units i ++
-  (say.word (codes "MAX-ACCESS") ∷ say.lower d.max_access ∷ (status-spells d.status i ++
-  (options index.spell say.of_index index-spells d.index i ++
-  (options default_value.spell (λ xs. say.word (codes "DEFVAL") ∷ say.braces (say.of_balanced xs)) default-spells d.default i ++ value-spells d.value i))))))
+    say.word (codes "OBJECT-TYPE") ∷ say.word (codes "SYNTAX") ∷ (syntax-spells d.syntax i ++
+    (options (clause (codes "UNITS")).spell (say.of_clause (codes "UNITS")) (clause-spells (codes "UNITS")) d.units i ++
+    (say.word (codes "MAX-ACCESS") ∷ say.lower d.max_access ∷ (status-spells d.status i ++
+    (options index.spell say.of_index index-spells d.index i ++
+    (options default_value.spell (λ xs. say.word (codes "DEFVAL") ∷ say.braces (say.of_balanced xs)) default-spells d.default i ++ value-spells d.value i))))))
 
 objects-spell : (xs : List (List ℕ)) → objects.spell xs ≡ (say.word (codes "OBJECTS") ∷ say.of_names xs)
 unfolding objects behind word
@@ -175,8 +175,8 @@ objects-spell xs = λ i. say.word (codes "OBJECTS") ∷ names-spell xs i
 notification_type-spells : (d : NotificationType) → notification_type.spell d ≡ say.of_notification_type d
 unfolding notification_type shaped pair maybe behind word
 notification_type-spells d = λ i.
-  say.word (codes "NOTIFICATION-TYPE") ∷ (options objects.spell (λ xs. say.word (codes "OBJECTS") ∷ say.of_names xs) objects-spell d.objects i ++
-  (status-spells d.status i ++ value-spells d.value i))
+    say.word (codes "NOTIFICATION-TYPE") ∷ (options objects.spell (λ xs. say.word (codes "OBJECTS") ∷ say.of_names xs) objects-spell d.objects i ++
+    (status-spells d.status i ++ value-spells d.value i))
 
 group-spells : (w v : List ℕ) (d : Group) → (group w v).spell d ≡ say.of_group w v d
 unfolding group shaped pair behind word
@@ -189,8 +189,8 @@ raw_definition-spells w d = λ i. say.word w ∷ (say.of_raw_clauses d.clauses +
 textual_convention-spells : (d : TextualConvention) → textual_convention.spell d ≡ say.of_textual_convention d
 unfolding textual_convention syntax_clause shaped pair maybe behind word
 textual_convention-spells d = λ i.
-  say.word (codes "TEXTUAL-CONVENTION") ∷ (options (clause (codes "DISPLAY-HINT")).spell (say.of_clause (codes "DISPLAY-HINT")) (clause-spells (codes "DISPLAY-HINT")) d.display_hint i ++
-  (status-spells d.status i ++ (say.word (codes "SYNTAX") ∷ syntax-spells d.syntax i)))
+    say.word (codes "TEXTUAL-CONVENTION") ∷ (options (clause (codes "DISPLAY-HINT")).spell (say.of_clause (codes "DISPLAY-HINT")) (clause-spells (codes "DISPLAY-HINT")) d.display_hint i ++
+    (status-spells d.status i ++ (say.word (codes "SYNTAX") ∷ syntax-spells d.syntax i)))
 
 object_identifier-spells : (v : List Part) → object_identifier.spell v ≡ (say.word (codes "OBJECT") ∷ say.word (codes "IDENTIFIER") ∷ say.of_value v)
 unfolding object_identifier object_identifier_words behind word
@@ -232,9 +232,10 @@ kind-spells line x (D.TypeAssignment d) = λ i. on_line line (say.upper x) ∷ s
 kind-spells line x (D.Sequence fs) = λ i. on_line line (say.upper x) ∷ sign K.Assign ∷ say.word (codes "SEQUENCE") ∷ fields-spell fs i
 kind-spells line x (D.Choice xs) = refl
 kind-spells line x (D.Macro xs) =
-  elim (is_macro x) as (λ b. is_macro x ≡ b → def_marks (if b then inr (inr ((line, x), D.Macro xs)) else inr (inl ((line, x), D.Macro xs))) ≡ macro_marks line x xs b) [
-    true ↦ λ e. ap (λ (c : Bool). on_line line (spelt K.Upper x c) ∷ macro_tail xs) e
-  | false ↦ λ e. refl ] refl
+    elim (is_macro x) as (λ b. is_macro x ≡ b → def_marks (if b then inr (inr ((line, x), D.Macro xs)) else inr (inl ((line, x), D.Macro xs))) ≡ macro_marks line x xs b) [
+      | true ↦ λ e. ap (λ (c : Bool). on_line line (spelt K.Upper x c) ∷ macro_tail xs) e
+      | false ↦ λ e. refl
+    ] refl
 
 pub def-spells : (d : Def) → definition.spell d ≡ say.of_def d
 def-spells d = kind-spells d.line d.label d.kind
@@ -244,7 +245,7 @@ def-spells d = kind-spells d.line d.label d.kind
 import-spells : (x : Import) → import_clause.spell x ≡ say.of_import x
 unfolding import_clause shaped lined pair separated some_of symbol behind word name token
 import-spells x = λ i.
-  put_line x.line (lists_between (sign K.Comma) (λ y. say.symbol y ∷ []) (λ y. say.symbol y ∷ []) (λ y. refl) x.symbols i ++ (say.word (codes "FROM") ∷ say.upper x.source ∷ []))
+    put_line x.line (lists_between (sign K.Comma) (λ y. say.symbol y ∷ []) (λ y. say.symbol y ∷ []) (λ y. refl) x.symbols i ++ (say.word (codes "FROM") ∷ say.upper x.source ∷ []))
 
 heading-spells : (ps : List Part) → heading.spell ps ≡ say.braces (flat_map say.of_part ps)
 unfolding heading braced many behind before token
@@ -257,9 +258,9 @@ imports-spells xs = λ i. say.word (codes "IMPORTS") ∷ (lists import_clause.sp
 pub head-spells : (name : List ℕ) (heading : Option (List Part)) (imports : Option (List Import)) → head.spell (record { name = name; heading = heading; imports = imports }) ≡ say.of_head name heading imports
 unfolding head shaped pair maybe behind opening word token name imports before many heading braced
 head-spells n h is = λ i.
-  say.upper n ∷ (options heading.spell (λ ps. say.braces (flat_map say.of_part ps)) heading-spells h i ++
-  (say.word (codes "DEFINITIONS") ∷ sign K.Assign ∷ say.word (codes "BEGIN") ∷
-  options imports.spell (λ xs. say.word (codes "IMPORTS") ∷ (flat_map say.of_import xs ++ sign K.Semicolon ∷ [])) imports-spells is i))
+    say.upper n ∷ (options heading.spell (λ ps. say.braces (flat_map say.of_part ps)) heading-spells h i ++
+    (say.word (codes "DEFINITIONS") ∷ sign K.Assign ∷ say.word (codes "BEGIN") ∷
+    options imports.spell (λ xs. say.word (codes "IMPORTS") ∷ (flat_map say.of_import xs ++ sign K.Semicolon ∷ [])) imports-spells is i))
 
 pub module-spells : (m : Module) → module_text.spell m ≡ say.of_module m
 unfolding module_text shaped pair before many word

@@ -77,7 +77,8 @@ one cs mark pick = record {
   read = read_one pick;
   first = cs;
   stop = [];
-  empty = false }
+  empty = false;
+}
 
 -- a word of the grammar
 unfoldable pub word : List ℕ → Format (Unit {0})
@@ -109,7 +110,8 @@ pair f g = record {
   read = read_pair f.read g.read;
   first = if f.empty then f.first ++ g.first else f.first;
   stop = if g.empty then g.stop ++ f.stop else g.stop;
-  empty = f.empty && g.empty }
+  empty = f.empty && g.empty;
+}
 
 -- a part behind what says nothing more
 unfoldable pub behind : {A : Type 0} → Format (Unit {0}) → Format A → Format A
@@ -118,7 +120,8 @@ behind w f = record {
   read = λ ts. option_and_then (λ p. f.read p.1) (w.read ts);
   first = w.first;
   stop = f.stop;
-  empty = false }
+  empty = false;
+}
 
 -- a part before what says nothing more
 unfoldable pub before : {A : Type 0} → Format A → Format (Unit {0}) → Format A
@@ -127,7 +130,8 @@ before f w = record {
   read = λ ts. option_and_then (λ p. option_map (λ q. (p.0, q.1)) (w.read p.1)) (f.read ts);
   first = if f.empty then f.first ++ w.first else f.first;
   stop = w.stop;
-  empty = false }
+  empty = false;
+}
 
 -- a part that may be left out
 abbrev pub spell_option : {A : Type 0} → (A → List Mark) → Option A → List Mark
@@ -140,7 +144,8 @@ maybe f = record {
   read = λ ts. if begins f.first ts then option_map (λ p. (Some p.0, p.1)) (f.read ts) else Some (None, ts);
   first = f.first;
   stop = f.first ++ f.stop;
-  empty = true }
+  empty = true;
+}
 
 -- one of two parts: the token ahead decides
 abbrev pub spell_either : {A B : Type 0} → (A → List Mark) → (B → List Mark) → A ⊎ B → List Mark
@@ -153,13 +158,14 @@ either f g = record {
   read = λ ts. if begins f.first ts then option_map (λ p. (inl p.0, p.1)) (f.read ts) else option_map (λ p. (inr p.0, p.1)) (g.read ts);
   first = f.first ++ g.first;
   stop = f.stop ++ g.stop;
-  empty = false }
+  empty = false;
+}
 
 -- any number of one part, read as often as it begins; the number bounds the recursion
 unfoldable pub read_many : {A : Type 0} → Format A → ℕ → List Lexeme → Reading (List A)
 read_many f zero ts = Some ([], ts)
 read_many f (suc n) ts =
-  if begins f.first ts then option_and_then (λ p. option_map (λ q. (p.0 ∷ q.0, q.1)) (read_many f n p.1)) (f.read ts) else Some ([], ts)
+    if begins f.first ts then option_and_then (λ p. option_map (λ q. (p.0 ∷ q.0, q.1)) (read_many f n p.1)) (f.read ts) else Some ([], ts)
 
 unfoldable pub many : {A : Type 0} → Format A → Format (List A)
 many f = record {
@@ -167,7 +173,8 @@ many f = record {
   read = λ ts. read_many f (length ts) ts;
   first = f.first;
   stop = f.first ++ f.stop;
-  empty = true }
+  empty = true;
+}
 
 -- a part of the tree, made of its pieces; what has no pieces is not spelt by it
 abbrev pub spell_pieces : {A : Type 0} → (A → List Mark) → Option A → List Mark
@@ -180,7 +187,8 @@ shaped to from f = record {
   read = λ ts. option_map (λ p. (to p.0, p.1)) (f.read ts);
   first = f.first;
   stop = f.stop;
-  empty = f.empty }
+  empty = f.empty;
+}
 
 -- these before what was read
 unfoldable pub with_front : {A : Type 0} → List A → Reading (List A) → Reading (List A)
@@ -197,7 +205,8 @@ some_of f g = record {
   read = λ ts. option_and_then (λ p. with_front (p.0 ∷ []) ((many g).read p.1)) (f.read ts);
   first = f.first;
   stop = (g.first ++ g.stop) ++ f.stop;
-  empty = false }
+  empty = false;
+}
 
 -- parts with a sign between them
 unfoldable pub separated : {A : Type 0} → TokenKind → Format A → Format (List A)
@@ -218,4 +227,5 @@ lined f = record {
   read = λ ts. option_map (λ p. ((line_ahead ts, p.0), p.1)) (f.read ts);
   first = f.first;
   stop = f.stop;
-  empty = false }
+  empty = false;
+}

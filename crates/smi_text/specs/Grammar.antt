@@ -144,7 +144,7 @@ size = behind (word (codes "SIZE")) (parenthesized ranges)
 
 unfoldable pub refinement : Format Refinement
 refinement =
-  shaped to_refinement from_refinement (either (braced (separated K.Comma named_number)) (parenthesized (either size ranges)))
+    shaped to_refinement from_refinement (either (braced (separated K.Comma named_number)) (parenthesized (either size ranges)))
 
 unfoldable pub object_identifier_words : Format (Unit {0})
 object_identifier_words = behind (word (codes "OBJECT")) (word (codes "IDENTIFIER"))
@@ -168,7 +168,7 @@ from_base (B.Named x) = Some (inr (inr (inr (inr x))))
 
 unfoldable pub base : Format Base
 base =
-  shaped to_base from_base
+    shaped to_base from_base
     (either (word (codes "INTEGER")) (either octet_string_words (either object_identifier_words (either (word (codes "BITS")) name))))
 
 abbrev pub to_simple_type : Base × Option Refinement → SimpleType
@@ -216,14 +216,14 @@ from_status s = Some (s.status, (s.description, s.reference))
 
 unfoldable pub status : Format Status
 status =
-  shaped to_status from_status
+    shaped to_status from_status
     (pair (behind (word (codes "STATUS")) (text K.Lower)) (pair (clause (codes "DESCRIPTION")) (maybe (clause (codes "REFERENCE")))))
 
 -- the marks of the names of an index: the last one may stand behind IMPLIED
 abbrev pub index_marks : List (List ℕ) → Bool → List Mark
 index_marks [] implied = never
 index_marks (x ∷ []) implied =
-  (if implied then spelt K.Upper (codes "IMPLIED") true ∷ [] else []) ++ spelt K.Lower x true ∷ []
+    (if implied then spelt K.Upper (codes "IMPLIED") true ∷ [] else []) ++ spelt K.Lower x true ∷ []
 index_marks (x ∷ (y ∷ ys)) implied = spelt K.Lower x true ∷ sign K.Comma ∷ index_marks (y ∷ ys) implied
 
 abbrev pub implied_name : Format (List ℕ)
@@ -240,8 +240,8 @@ with_names xs r = option_map (λ p. (parts_of (xs ++ p.0.names) p.0.implied, p.1
 unfoldable pub read_index : ℕ → List Lexeme → Reading IndexParts
 read_index zero ts = None
 read_index (suc n) ts =
-  if begins (a_word (codes "IMPLIED") ∷ []) ts then option_map (λ p. (parts_of (p.0 ∷ []) true, p.1)) (implied_name.read ts)
-  else option_and_then (λ p.
+    if begins (a_word (codes "IMPLIED") ∷ []) ts then option_map (λ p. (parts_of (p.0 ∷ []) true, p.1)) (implied_name.read ts)
+    else option_and_then (λ p.
     if begins (a_kind K.Comma ∷ []) p.1 then with_names (p.0 ∷ []) (read_index n (drop 1 p.1))
     else Some (parts_of (p.0 ∷ []) false, p.1)) ((text K.Lower).read ts)
 
@@ -251,7 +251,8 @@ index_names = record {
   read = λ ts. read_index (length ts) ts;
   first = a_word (codes "IMPLIED") ∷ a_kind K.Lower ∷ [];
   stop = a_kind K.Comma ∷ [];
-  empty = false }
+  empty = false;
+}
 
 abbrev pub to_index : IndexParts ⊎ List ℕ → Index
 to_index (inl p) = I.Own p
@@ -263,7 +264,7 @@ from_index (I.Augments x) = Some (inr x)
 
 unfoldable pub index : Format Index
 index =
-  shaped to_index from_index
+    shaped to_index from_index
     (either (behind (word (codes "INDEX")) (braced index_names)) (behind (word (codes "AUGMENTS")) (braced (text K.Lower))))
 
 -- raw runs
@@ -277,7 +278,7 @@ before_end = kept (no_word (codes "END") ∷ []) (λ k x. not (same_kind k K.Upp
 -- how many braces are open behind a token of this kind
 abbrev pub depth_after : TokenKind → ℕ → ℕ
 depth_after k depth =
-  if same_kind k K.OpenBrace then depth + 1 else (if same_kind k K.CloseBrace then depth - 1 else depth)
+    if same_kind k K.OpenBrace then depth + 1 else (if same_kind k K.CloseBrace then depth - 1 else depth)
 
 -- such a token closes a brace that is not open
 abbrev pub is_outside : TokenKind → ℕ → Bool
@@ -294,7 +295,7 @@ raw_marks xs = map (λ x. spelt x.kind x.text true) xs
 unfoldable pub read_balanced : ℕ → List Lexeme → Reading (List TokenText)
 read_balanced depth [] = if depth == 0 then Some ([], []) else None
 read_balanced depth (t ∷ ts) =
-  if is_outside t.kind depth then Some ([], t ∷ ts) else with_front (kept_text t ∷ []) (read_balanced (depth_after t.kind depth) ts)
+    if is_outside t.kind depth then Some ([], t ∷ ts) else with_front (kept_text t ∷ []) (read_balanced (depth_after t.kind depth) ts)
 
 unfoldable pub balanced : Format (List TokenText)
 balanced = record {
@@ -302,7 +303,8 @@ balanced = record {
   read = read_balanced 0;
   first = no_kind K.CloseBrace ∷ [];
   stop = no_kind K.CloseBrace ∷ [];
-  empty = true }
+  empty = true;
+}
 
 -- definitions
 
@@ -317,18 +319,23 @@ revision = shaped to_revision from_revision (pair (clause (codes "REVISION")) (c
 
 abbrev pub to_module_identity : List ℕ × (List ℕ × (List ℕ × (List ℕ × (List Revision × List Part)))) → ModuleIdentity
 to_module_identity p = record {
-  last_updated = p.0; organization = p.1.0; contact_info = p.1.1.0; description = p.1.1.1.0;
-  revisions = p.1.1.1.1.0; value = p.1.1.1.1.1 }
+  last_updated = p.0;
+  organization = p.1.0;
+  contact_info = p.1.1.0;
+  description = p.1.1.1.0;
+  revisions = p.1.1.1.1.0;
+  value = p.1.1.1.1.1;
+}
 
 abbrev pub from_module_identity : ModuleIdentity → Option (List ℕ × (List ℕ × (List ℕ × (List ℕ × (List Revision × List Part)))))
 from_module_identity m = Some (m.last_updated, (m.organization, (m.contact_info, (m.description, (m.revisions, m.value)))))
 
 unfoldable pub module_identity : Format ModuleIdentity
 module_identity =
-  behind (word (codes "MODULE-IDENTITY"))
+    behind (word (codes "MODULE-IDENTITY"))
     (shaped to_module_identity from_module_identity
-      (pair (clause (codes "LAST-UPDATED")) (pair (clause (codes "ORGANIZATION")) (pair (clause (codes "CONTACT-INFO"))
-        (pair (clause (codes "DESCRIPTION")) (pair (many revision) value))))))
+    (pair (clause (codes "LAST-UPDATED")) (pair (clause (codes "ORGANIZATION")) (pair (clause (codes "CONTACT-INFO"))
+    (pair (clause (codes "DESCRIPTION")) (pair (many revision) value))))))
 
 abbrev pub to_object_identity : Status × List Part → ObjectIdentity
 to_object_identity p = record { status = p.0; value = p.1 }
@@ -341,8 +348,14 @@ object_identity = behind (word (codes "OBJECT-IDENTITY")) (shaped to_object_iden
 
 abbrev pub to_object_type : Syntax × (Option (List ℕ) × (List ℕ × (Status × (Option Index × (Option (List TokenText) × List Part))))) → ObjectType
 to_object_type p = record {
-  syntax = p.0; units = p.1.0; max_access = p.1.1.0; status = p.1.1.1.0; index = p.1.1.1.1.0;
-  default = p.1.1.1.1.1.0; value = p.1.1.1.1.1.1 }
+  syntax = p.0;
+  units = p.1.0;
+  max_access = p.1.1.0;
+  status = p.1.1.1.0;
+  index = p.1.1.1.1.0;
+  default = p.1.1.1.1.1.0;
+  value = p.1.1.1.1.1.1;
+}
 
 abbrev pub from_object_type : ObjectType → Option (Syntax × (Option (List ℕ) × (List ℕ × (Status × (Option Index × (Option (List TokenText) × List Part))))))
 from_object_type d = Some (d.syntax, (d.units, (d.max_access, (d.status, (d.index, (d.default, d.value))))))
@@ -355,11 +368,11 @@ syntax_clause = behind (word (codes "SYNTAX")) syntax_type
 
 unfoldable pub object_type : Format ObjectType
 object_type =
-  behind (word (codes "OBJECT-TYPE"))
+    behind (word (codes "OBJECT-TYPE"))
     (shaped to_object_type from_object_type
-      (pair syntax_clause (pair (maybe (clause (codes "UNITS")))
-        (pair (behind (word (codes "MAX-ACCESS")) (text K.Lower)) (pair status (pair (maybe index)
-          (pair (maybe default_value) value)))))))
+    (pair syntax_clause (pair (maybe (clause (codes "UNITS")))
+    (pair (behind (word (codes "MAX-ACCESS")) (text K.Lower)) (pair status (pair (maybe index)
+    (pair (maybe default_value) value)))))))
 
 abbrev pub to_notification_type : Option (List (List ℕ)) × (Status × List Part) → NotificationType
 to_notification_type p = record { objects = p.0; status = p.1.0; value = p.1.1 }
@@ -372,7 +385,7 @@ objects = behind (word (codes "OBJECTS")) names
 
 unfoldable pub notification_type : Format NotificationType
 notification_type =
-  behind (word (codes "NOTIFICATION-TYPE"))
+    behind (word (codes "NOTIFICATION-TYPE"))
     (shaped to_notification_type from_notification_type (pair (maybe objects) (pair status value)))
 
 abbrev pub to_group : List (List ℕ) × (Status × List Part) → Group
@@ -405,14 +418,14 @@ from_textual_convention d = Some (d.display_hint, (d.status, d.syntax))
 
 unfoldable pub textual_convention : Format TextualConvention
 textual_convention =
-  behind (word (codes "TEXTUAL-CONVENTION"))
+    behind (word (codes "TEXTUAL-CONVENTION"))
     (shaped to_textual_convention from_textual_convention
-      (pair (maybe (clause (codes "DISPLAY-HINT"))) (pair status syntax_clause)))
+    (pair (maybe (clause (codes "DISPLAY-HINT"))) (pair status syntax_clause)))
 
 -- a definition by a name in lower case, by what stands behind it
 abbrev pub Lower : Type 0
 Lower =
-  ObjectType ⊎ (List Part ⊎ (ObjectIdentity ⊎ (ModuleIdentity ⊎ (NotificationType ⊎ (Group ⊎ (Group ⊎ (RawDefinition ⊎ RawDefinition)))))))
+    ObjectType ⊎ (List Part ⊎ (ObjectIdentity ⊎ (ModuleIdentity ⊎ (NotificationType ⊎ (Group ⊎ (Group ⊎ (RawDefinition ⊎ RawDefinition)))))))
 
 abbrev pub to_lower : Lower → DefKind
 to_lower (inl d) = D.ObjectType d
@@ -443,15 +456,15 @@ from_lower (D.Macro d) = None
 
 unfoldable pub lower_definition : Format DefKind
 lower_definition =
-  shaped to_lower from_lower
+    shaped to_lower from_lower
     (either object_type (either object_identifier (either object_identity (either module_identity (either notification_type
-      (either (group (codes "OBJECT-GROUP") (codes "OBJECTS")) (either (group (codes "NOTIFICATION-GROUP") (codes "NOTIFICATIONS"))
-        (either (raw_definition (codes "MODULE-COMPLIANCE")) (raw_definition (codes "AGENT-CAPABILITIES"))))))))))
+    (either (group (codes "OBJECT-GROUP") (codes "OBJECTS")) (either (group (codes "NOTIFICATION-GROUP") (codes "NOTIFICATIONS"))
+    (either (raw_definition (codes "MODULE-COMPLIANCE")) (raw_definition (codes "AGENT-CAPABILITIES"))))))))))
 
 -- a type, by what stands behind `::=`
 unfoldable pub tag : Format (List ℕ)
 tag =
-  behind (token K.OpenBracket) (behind (word (codes "APPLICATION"))
+    behind (token K.OpenBracket) (behind (word (codes "APPLICATION"))
     (before (text_where K.Number is_number) (behind (token K.CloseBracket) (word (codes "IMPLICIT")))))
 
 abbrev pub Assigned : Type 0
@@ -497,12 +510,12 @@ sequence = behind (word (codes "SEQUENCE")) (either (braced (separated K.Comma f
 
 unfoldable pub assigned : Format DefKind
 assigned =
-  shaped to_assigned from_assigned
+    shaped to_assigned from_assigned
     (either textual_convention (either choice (either tagged (either sequence simple_type))))
 
 unfoldable pub macro_body : Format (List TokenText)
 macro_body =
-  behind (word (codes "MACRO")) (behind (token K.Assign) (behind (word (codes "BEGIN")) (before (many before_end) (word (codes "END")))))
+    behind (word (codes "MACRO")) (behind (token K.Assign) (behind (word (codes "BEGIN")) (before (many before_end) (word (codes "END")))))
 
 abbrev pub to_macro : List TokenText → DefKind
 to_macro xs = D.Macro xs
@@ -567,9 +580,9 @@ from_def d = Some (def_pieces ((d.line, d.label), d.kind) d.kind)
 
 unfoldable pub definition : Format Def
 definition =
-  shaped to_def from_def
+    shaped to_def from_def
     (either (pair (lined (text K.Lower)) lower_definition)
-      (either (pair (lined name) upper_definition) (pair (lined macro_name) macro_definition)))
+    (either (pair (lined name) upper_definition) (pair (lined macro_name) macro_definition)))
 
 -- modules
 
@@ -584,7 +597,7 @@ from_import i = Some (i.line, (i.symbols, i.source))
 
 unfoldable pub import_clause : Format Import
 import_clause =
-  shaped to_import from_import (lined (pair (separated K.Comma symbol) (behind (word (codes "FROM")) name)))
+    shaped to_import from_import (lined (pair (separated K.Comma symbol) (behind (word (codes "FROM")) name)))
 
 unfoldable pub imports : Format (List Import)
 imports = behind (word (codes "IMPORTS")) (before (many import_clause) (token K.Semicolon))

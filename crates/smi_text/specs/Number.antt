@@ -42,7 +42,7 @@ is_literal base x = nat_le (number_value base (take (length x - 3) (drop 1 x))) 
 -- the end of a range
 unfoldable pub is_bound : TokenKind → List ℕ → Bool
 is_bound k x =
-  (same_kind k K.Number && is_number x) || (same_kind k K.Hex && is_literal 16 x) || (same_kind k K.Binary && is_literal 2 x)
+    (same_kind k K.Number && is_number x) || (same_kind k K.Hex && is_literal 16 x) || (same_kind k K.Binary && is_literal 2 x)
 
 -- a word that names a macro
 unfoldable pub is_macro : List ℕ → Bool

@@ -159,7 +159,7 @@ of_names xs = braces (of_list (sign K.Comma) (λ x. lower x ∷ []) xs)
 -- "STATUS" LOWER "DESCRIPTION" STR [ "REFERENCE" STR ]
 abbrev pub of_status : Status → List Mark
 of_status s =
-  word (codes "STATUS") ∷ lower s.status ∷ word (codes "DESCRIPTION") ∷ string s.description ∷ of_option (of_clause (codes "REFERENCE")) s.reference
+    word (codes "STATUS") ∷ lower s.status ∷ word (codes "DESCRIPTION") ∷ string s.description ∷ of_option (of_clause (codes "REFERENCE")) s.reference
 
 -- { LOWER "," } [ "IMPLIED" ] LOWER
 abbrev pub of_index_names : List (List ℕ) → Bool → List Mark
@@ -190,22 +190,22 @@ of_revision r = word (codes "REVISION") ∷ string r.date ∷ word (codes "DESCR
 
 abbrev pub of_module_identity : ModuleIdentity → List Mark
 of_module_identity d =
-  word (codes "MODULE-IDENTITY") ∷ word (codes "LAST-UPDATED") ∷ string d.last_updated ∷ word (codes "ORGANIZATION") ∷ string d.organization ∷
-  word (codes "CONTACT-INFO") ∷ string d.contact_info ∷ word (codes "DESCRIPTION") ∷ string d.description ∷
-  (flat_map of_revision d.revisions ++ of_value d.value)
+    word (codes "MODULE-IDENTITY") ∷ word (codes "LAST-UPDATED") ∷ string d.last_updated ∷ word (codes "ORGANIZATION") ∷ string d.organization ∷
+    word (codes "CONTACT-INFO") ∷ string d.contact_info ∷ word (codes "DESCRIPTION") ∷ string d.description ∷
+    (flat_map of_revision d.revisions ++ of_value d.value)
 
 abbrev pub of_object_identity : ObjectIdentity → List Mark
 of_object_identity d = word (codes "OBJECT-IDENTITY") ∷ (of_status d.status ++ of_value d.value)
 
 abbrev pub of_object_type : ObjectType → List Mark
 of_object_type d =
-  word (codes "OBJECT-TYPE") ∷ word (codes "SYNTAX") ∷ (of_syntax d.syntax ++ (of_option (of_clause (codes "UNITS")) d.units ++
-  (word (codes "MAX-ACCESS") ∷ lower d.max_access ∷ (of_status d.status ++ (of_option of_index d.index ++
-  (of_option (λ xs. word (codes "DEFVAL") ∷ braces (of_balanced xs)) d.default ++ of_value d.value))))))
+    word (codes "OBJECT-TYPE") ∷ word (codes "SYNTAX") ∷ (of_syntax d.syntax ++ (of_option (of_clause (codes "UNITS")) d.units ++
+    (word (codes "MAX-ACCESS") ∷ lower d.max_access ∷ (of_status d.status ++ (of_option of_index d.index ++
+    (of_option (λ xs. word (codes "DEFVAL") ∷ braces (of_balanced xs)) d.default ++ of_value d.value))))))
 
 abbrev pub of_notification_type : NotificationType → List Mark
 of_notification_type d =
-  word (codes "NOTIFICATION-TYPE") ∷ (of_option (λ xs. word (codes "OBJECTS") ∷ of_names xs) d.objects ++ (of_status d.status ++ of_value d.value))
+    word (codes "NOTIFICATION-TYPE") ∷ (of_option (λ xs. word (codes "OBJECTS") ∷ of_names xs) d.objects ++ (of_status d.status ++ of_value d.value))
 
 abbrev pub of_group : List ℕ → List ℕ → Group → List Mark
 of_group w members d = word w ∷ word members ∷ (of_names d.members ++ (of_status d.status ++ of_value d.value))
@@ -215,13 +215,13 @@ of_raw_definition w d = word w ∷ (of_raw_clauses d.clauses ++ of_value d.value
 
 abbrev pub of_textual_convention : TextualConvention → List Mark
 of_textual_convention d =
-  word (codes "TEXTUAL-CONVENTION") ∷ (of_option (of_clause (codes "DISPLAY-HINT")) d.display_hint ++ (of_status d.status ++
-  (word (codes "SYNTAX") ∷ of_syntax d.syntax)))
+    word (codes "TEXTUAL-CONVENTION") ∷ (of_option (of_clause (codes "DISPLAY-HINT")) d.display_hint ++ (of_status d.status ++
+    (word (codes "SYNTAX") ∷ of_syntax d.syntax)))
 
 -- [ "[" "APPLICATION" NUM "]" "IMPLICIT" ] type
 abbrev pub of_type_assignment : TypeAssignment → List Mark
 of_type_assignment d =
-  of_option (λ n. sign K.OpenBracket ∷ word (codes "APPLICATION") ∷ number n ∷ sign K.CloseBracket ∷ word (codes "IMPLICIT") ∷ []) d.tag ++ of_syntax d.syntax
+    of_option (λ n. sign K.OpenBracket ∷ word (codes "APPLICATION") ∷ number n ∷ sign K.CloseBracket ∷ word (codes "IMPLICIT") ∷ []) d.tag ++ of_syntax d.syntax
 
 -- a name in lower case or in upper case, on its line, and what it is defined as
 abbrev pub of_def_kind : ℕ → List ℕ → DefKind → List Mark
@@ -237,12 +237,12 @@ of_def_kind line x (D.AgentCapabilities d) = on_line line (lower x) ∷ of_raw_d
 of_def_kind line x (D.TextualConvention d) = on_line line (upper x) ∷ sign K.Assign ∷ of_textual_convention d
 of_def_kind line x (D.TypeAssignment d) = on_line line (upper x) ∷ sign K.Assign ∷ of_type_assignment d
 of_def_kind line x (D.Sequence fs) =
-  on_line line (upper x) ∷ sign K.Assign ∷ word (codes "SEQUENCE") ∷ braces (of_list (sign K.Comma) of_field fs)
+    on_line line (upper x) ∷ sign K.Assign ∷ word (codes "SEQUENCE") ∷ braces (of_list (sign K.Comma) of_field fs)
 of_def_kind line x (D.Choice xs) = on_line line (upper x) ∷ sign K.Assign ∷ word (codes "CHOICE") ∷ braces (of_balanced xs)
 -- a macro may have its reserved word as its name
 of_def_kind line x (D.Macro xs) =
-  on_line line (spelt K.Upper x (if is_macro x then true else not (is_reserved x))) ∷ word (codes "MACRO") ∷ sign K.Assign ∷ word (codes "BEGIN") ∷
-  (of_raw_body xs ++ word (codes "END") ∷ [])
+    on_line line (spelt K.Upper x (if is_macro x then true else not (is_reserved x))) ∷ word (codes "MACRO") ∷ sign K.Assign ∷ word (codes "BEGIN") ∷
+    (of_raw_body xs ++ word (codes "END") ∷ [])
 
 abbrev pub of_def : Def → List Mark
 of_def d = of_def_kind d.line d.label d.kind
@@ -256,13 +256,13 @@ symbol x = spelt x.kind x.text (is_symbol x.kind x.text)
 -- symbol { "," symbol } "FROM" UPPER, the first token on its line
 abbrev pub of_import : Import → List Mark
 of_import i =
-  put_line i.line (of_list (sign K.Comma) (λ x. symbol x ∷ []) i.symbols ++ (word (codes "FROM") ∷ upper i.source ∷ []))
+    put_line i.line (of_list (sign K.Comma) (λ x. symbol x ∷ []) i.symbols ++ (word (codes "FROM") ∷ upper i.source ∷ []))
 
 -- UPPER [ "{" { part } "}" ] "DEFINITIONS" "::=" "BEGIN" [ "IMPORTS" .. ";" ]
 abbrev pub of_head : List ℕ → Option (List Part) → Option (List Import) → List Mark
 of_head x heading imports =
-  upper x ∷ (of_option (λ ps. braces (flat_map of_part ps)) heading ++ (word (codes "DEFINITIONS") ∷ sign K.Assign ∷ word (codes "BEGIN") ∷
-  of_option (λ is. word (codes "IMPORTS") ∷ (flat_map of_import is ++ sign K.Semicolon ∷ [])) imports))
+    upper x ∷ (of_option (λ ps. braces (flat_map of_part ps)) heading ++ (word (codes "DEFINITIONS") ∷ sign K.Assign ∷ word (codes "BEGIN") ∷
+    of_option (λ is. word (codes "IMPORTS") ∷ (flat_map of_import is ++ sign K.Semicolon ∷ [])) imports))
 
 abbrev pub of_module : Module → List Mark
 of_module m = of_head m.name m.heading m.imports ++ (flat_map of_def m.defs ++ word (codes "END") ∷ [])

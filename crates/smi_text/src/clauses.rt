@@ -163,12 +163,18 @@ impl<'a> Parser<'a> {
                 self.word(b"IMPLIED")?;
                 let name = self.text(TokenKind::Lower)?;
                 keep(&mut names, name)?;
-                return Ok(IndexParts { names: Items::new(names), implied: true });
+                return Ok(IndexParts {
+                    names: Items::new(names),
+                    implied: true,
+                });
             }
             let name = self.text(TokenKind::Lower)?;
             keep(&mut names, name)?;
             if !self.at_kind(TokenKind::Comma) {
-                return Ok(IndexParts { names: Items::new(names), implied: false });
+                return Ok(IndexParts {
+                    names: Items::new(names),
+                    implied: false,
+                });
             }
             self.advance();
         }
@@ -219,7 +225,9 @@ impl<'a> Parser<'a> {
         ensures { Gives result self.new (grammar.before_assign.read self.old) }
     {
         match self.peek() {
-            Some(token) if token.kind != TokenKind::Assign => self.take_token(token.kind, token.text),
+            Some(token) if token.kind != TokenKind::Assign => self.take_token(
+                token.kind, token.text,
+            ),
             _ => Err(self.syntax()),
         }
     }
@@ -239,9 +247,7 @@ impl<'a> Parser<'a> {
         ensures { Gives result self.new (grammar.before_end.read self.old) }
     {
         match self.peek() {
-            Some(token) if !self.at_word(b"END") => {
-                self.take_token(token.kind, token.text)
-            }
+            Some(token) if !self.at_word(b"END") => { self.take_token(token.kind, token.text) }
             _ => Err(self.syntax()),
         }
     }

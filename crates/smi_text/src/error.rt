@@ -5,7 +5,7 @@ use smi_lexer::LexError;
 use thiserror::Error;
 
 /// Why a text is refused as a whole. Lines count from 1.
-#[derive(Clone, Copy, Debug, Error)]
+#[derive(Clone, Copy, Debug, PartialEq, Eq, Error)]
 pub enum ParseError {
     /// The text has something that is no token.
     #[error(transparent)]

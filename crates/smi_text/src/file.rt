@@ -2,7 +2,9 @@
 #![tactic(auto, unfolding(crate::specs::Format::begins))]
 
 ghost use Rattle.std.specs.Prelude.{◌≡◌, List, [], IfOk, IfErr, MatchResult, MatchBool, map};
-ghost use Rattle.smi_lexer.specs.Token.{lexeme_of};
+ghost use Rattle.smi_lexer.specs.Token.{Lexeme, lexeme_of};
+ghost use Rattle.smi_text.specs.Mark.{Stands};
+ghost use Rattle.smi_text.specs.Spelling.{spelling};
 ghost use Rattle.smi_text.specs.Gives.{ReadsDefinitions, ReadsModule, ReadsModules, DefinitionsFault, ModuleFault, ModulesFault, IsLabelAhead, AreTokens, LexFault};
 ghost use Rattle.smi_text.specs.Text.{Spells, HasNoDoubles, IsCause, IsAside};
 ghost use Rattle.smi_text.specs.declared.tree.Module.{Module as Tree};
@@ -114,3 +116,8 @@ pub fn parse_modules(alloc: Global, text: &[u8]) -> Result<Vec<Module>, ParseErr
     let tokens = tokens_of(alloc, text)?;
     Parser::new(alloc, &tokens, text).modules()
 }
+
+/// Tokens spell one list of modules at most.
+pub fn one_reading()
+    ensures { (ms ns : List Tree) (tokens : List Lexeme) → Stands (spelling ms) tokens [] → Stands (spelling ns) tokens [] → ms ≡ ns }
+{}

@@ -6,21 +6,23 @@ mod definitions;
 mod error;
 mod file;
 mod items;
-mod stop;
-mod syntax;
-mod tree;
 mod modules;
 mod names;
 mod numbers;
 mod parser;
 mod reserved;
+mod stop;
+mod syntax;
+#[cfg(test)]
+mod tests;
+mod tree;
 
 pub use error::ParseError;
-pub use file::parse_modules;
+pub use file::{one_reading, parse_modules};
 pub use items::{Items, Text};
 pub use smi_lexer::{LexError, Lexer, Span, Token, TokenKind};
 pub use tree::{
-    Base, Def, DefKind, Field, Group, Import, Index, IndexParts, Module, ModuleIdentity, NamedNumber,
-    NotificationType, ObjectIdentity, ObjectType, Part, Range, RawDefinition, Refinement, Revision,
-    SimpleType, Status, Syntax, TextualConvention, TokenText, TypeAssignment,
+    Base, Def, DefKind, Field, Group, Import, Index, IndexParts, Module, ModuleIdentity,
+    NamedNumber, NotificationType, ObjectIdentity, ObjectType, Part, Range, RawDefinition,
+    Refinement, Revision, SimpleType, Status, Syntax, TextualConvention, TokenText, TypeAssignment,
 };

@@ -65,7 +65,11 @@ pub(crate) fn is_arc(text: &[u8]) -> bool
 pub(crate) fn is_number(text: &[u8]) -> bool
     ensures { result ≡ number.is_number text.now }
 {
-    let most = if is_negative(text) { 9223372036854775808 } else { u64::MAX };
+    let most = if is_negative(text) {
+        9223372036854775808
+    } else {
+        u64::MAX
+    };
     is_at_most(10, digits(text), most)
 }
 
@@ -74,7 +78,11 @@ fn is_literal(base: u64, text: &[u8]) -> bool
     requires { 0 < base }
     ensures { result ≡ number.is_literal base text.now }
 {
-    let digits = if text.len() < 3 { &[] } else { &text[1..text.len() - 2] };
+    let digits = if text.len() < 3 {
+        &[]
+    } else {
+        &text[1..text.len() - 2]
+    };
     is_at_most(base, digits, u64::MAX)
 }
 

@@ -268,7 +268,10 @@ impl<'a> Parser<'a> {
     }
 
     /// Reads any number of a production, and puts them behind those that are there.
-    pub(crate) fn many_after<P: Production>(&mut self, items: Vec<P::Output>) -> Result<Items<P::Output>, Stop>
+    pub(crate) fn many_after<P: Production>(
+        &mut self,
+        items: Vec<P::Output>,
+    ) -> Result<Items<P::Output>, Stop>
     where
         P::Output: Drop,
         ensures { Gives result self.new (with_front items.items ((format.many P.format).read self.old)) }
@@ -292,7 +295,10 @@ impl<'a> Parser<'a> {
     }
 
     /// Reads any number of a production, and puts them behind the first part, which was read before.
-    pub(crate) fn and_more<P: Production>(&mut self, first: P::Output) -> Result<Items<P::Output>, Stop>
+    pub(crate) fn and_more<P: Production>(
+        &mut self,
+        first: P::Output,
+    ) -> Result<Items<P::Output>, Stop>
     where
         P::Output: Drop,
         ensures { Gives result self.new (with_front (first ∷ []) ((format.many P.format).read self.old)) }

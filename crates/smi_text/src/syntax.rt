@@ -12,7 +12,9 @@ use crate::items::{Items, Text};
 use crate::numbers;
 use crate::parser::{AfterBar, AfterComma, Parser, Production};
 use crate::stop::Stop;
-use crate::tree::{Base, Field, NamedNumber, Part, Range, Refinement, SimpleType, Syntax, TokenText};
+use crate::tree::{
+    Base, Field, NamedNumber, Part, Range, Refinement, SimpleType, Syntax, TokenText,
+};
 use smi_lexer::TokenKind;
 
 /// A part of an identifier in a module's heading.
@@ -213,7 +215,10 @@ impl<'a> Parser<'a> {
     {
         match self.peek() {
             Some(token) => {
-                matches!(token.kind, TokenKind::Number | TokenKind::Hex | TokenKind::Binary)
+                matches!(
+                    token.kind,
+                    TokenKind::Number | TokenKind::Hex | TokenKind::Binary
+                )
             }
             None => false,
         }

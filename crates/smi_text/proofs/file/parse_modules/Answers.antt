@@ -19,21 +19,21 @@ use Rattle.smi_text.proofs.file.parse_modules.Goals as goal
 module _ (text : List ℕ) (tokens : List Lexeme) (are : AreTokens tokens text) where
   reads : (ms : List Module) → Spells ms text → file.read tokens ≡ Some (ms, [])
   reads ms s =
-    let same : tokens_of s.items ≡ tokens = ap tokens_of (one_list [] text s.items are.items s.lexed are.lexed) ∙ sym are.same in
-    let P : List Lexeme → Type 0 = λ ts. Stands (spelling ms) ts [] in
-    file-reads ms tokens (subst P same s.spelt)
+      let same : tokens_of s.items ≡ tokens = ap tokens_of (one_list [] text s.items are.items s.lexed are.lexed) ∙ sym are.same in
+      let P : List Lexeme → Type 0 = λ ts. Stands (spelling ms) ts [] in
+      file-reads ms tokens (subst P same s.spelt)
 
   found : (ms : List Module) → ReadsModules ms tokens → Spells ms text × HasNoDoubles ms
   found ms r =
-    let P : List Lexeme → Type 0 = λ ts. Stands (spelling ms) ts [] in
-    (record { items = are.items; lexed = are.lexed; whole = are.whole; spelt = subst P are.same (file-stands ms tokens [] r.read) }, r.distinct)
+      let P : List Lexeme → Type 0 = λ ts. Stands (spelling ms) ts [] in
+      (record { items = are.items; lexed = are.lexed; whole = are.whole; spelt = subst P are.same (file-stands ms tokens [] r.read) }, r.distinct)
 
   cause : (error : ParseError) → ModulesFault error tokens → IsCause error text
   cause (E.Lex fault) f = absurd f
   cause (E.Syntax line) f = λ ms s. f ms (reads ms s)
   cause (E.DoubleName line) f =
-    let P : List Lexeme → Type 0 = λ ts. DefinesAgain line ts in
-    record { items = are.items; lexed = are.lexed; again = subst P are.same f }
+      let P : List Lexeme → Type 0 = λ ts. DefinesAgain line ts in
+      record { items = are.items; lexed = are.lexed; again = subst P are.same f }
   cause E.Memory f = tt
 
   only : (r : Result (Vec Module Global) ParseError) → IfOk r (λ v. ReadsModules v.items tokens) → IfErr r (λ e. ModulesFault e tokens) → (ms : List Module) → Spells ms text → MatchResult r (λ v. v.items ≡ ms) IsAside
@@ -51,20 +51,20 @@ lex-only E.Memory text f ms s = tt
 
 pub returns-in_err-tokens-clause-only : goal.returns-in_err-tokens-clause-only
 returns-in_err-tokens-clause-only c =
-  let p = err_from_is_err_and c.from_residual.result c.from_residual.ensures.1 in
-  rw (p.1, p.2) (lex-only c.in_err-tokens.field-0.0 c.args.text.now c.in_err-tokens.ensures.fault)
+    let p = err_from_is_err_and c.from_residual.result c.from_residual.ensures.1 in
+    rw (p.1, p.2) (lex-only c.in_err-tokens.field-0.0 c.args.text.now c.in_err-tokens.ensures.fault)
 
 pub returns-clause-found : goal.returns-clause-found
 returns-clause-found c =
-  let are : AreTokens c.new.result c.args.text.now = rw (c.new.ensures, c.deref.ensures.value) c.in_ok-tokens.ensures.ok in
-  IfOk-weaker c.modules.result _ _ (λ v r. found c.args.text.now c.new.result are v.items r) c.modules.ensures.ok
+    let are : AreTokens c.new.result c.args.text.now = rw (c.new.ensures, c.deref.ensures.value) c.in_ok-tokens.ensures.ok in
+    IfOk-weaker c.modules.result _ _ (λ v r. found c.args.text.now c.new.result are v.items r) c.modules.ensures.ok
 
 pub returns-clause-only : goal.returns-clause-only
 returns-clause-only c =
-  let are : AreTokens c.new.result c.args.text.now = rw (c.new.ensures, c.deref.ensures.value) c.in_ok-tokens.ensures.ok in
-  only c.args.text.now c.new.result are c.modules.result c.modules.ensures.ok c.modules.ensures.fault
+    let are : AreTokens c.new.result c.args.text.now = rw (c.new.ensures, c.deref.ensures.value) c.in_ok-tokens.ensures.ok in
+    only c.args.text.now c.new.result are c.modules.result c.modules.ensures.ok c.modules.ensures.fault
 
 pub returns-clause-cause : goal.returns-clause-cause
 returns-clause-cause c =
-  let are : AreTokens c.new.result c.args.text.now = rw (c.new.ensures, c.deref.ensures.value) c.in_ok-tokens.ensures.ok in
-  IfErr-weaker c.modules.result _ _ (λ e f. cause c.args.text.now c.new.result are e f) c.modules.ensures.fault
+    let are : AreTokens c.new.result c.args.text.now = rw (c.new.ensures, c.deref.ensures.value) c.in_ok-tokens.ensures.ok in
+    IfErr-weaker c.modules.result _ _ (λ e f. cause c.args.text.now c.new.result are e f) c.modules.ensures.fault

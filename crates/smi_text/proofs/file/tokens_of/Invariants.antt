@@ -5,6 +5,6 @@ use Rattle.smi_text.proofs.file.tokens_of.Given as goal
 
 abbrev pub invariant-each : goal.invariant-each
 invariant-each l =
-  (all : List Item) × Lexes [] l.text all
+    (all : List Item) × Lexes [] l.text all
     × (map lexeme_of l.tokens.items ++ tokens_of l.item-iterator ≡ tokens_of all)
     × (fault_of l.item-iterator ≡ fault_of all)

@@ -11,6 +11,7 @@ pub returns-in-Ok : goal.returns-in-Ok
 returns-in-Ok c = record {
   new = c.in-Ok.ensures.added;
   added = λ x.
-    let q : Bor (List ℕ) = record { ref_ptr = (0, 0); now = x } in
-    c.in-Ok.ensures.updates.0 q ∙ cond-or _ (has c.args.names.now x) ∙ ap (λ (b : Bool). b || has c.args.names.now x) (is_eq-slice_cmp c.args.name.now x);
-  err = tt }
+      let q : Bor (List ℕ) = record { ref_ptr = (0, 0); now = x } in
+      c.in-Ok.ensures.updates.0 q ∙ cond-or _ (has c.args.names.now x) ∙ ap (λ (b : Bool). b || has c.args.names.now x) (is_eq-slice_cmp c.args.name.now x);
+  err = tt;
+}

@@ -6,4 +6,4 @@ use Rattle.smi_text.proofs.reserved.is_among.Given as goal
 
 abbrev pub invariant-loop-word : goal.invariant-loop-word
 invariant-loop-word l =
-  list_any (same_text l.text) (map (λ word. word.now) (drop l.word-index l.words)) ≡ list_any (same_text l.text) (map (λ word. word.now) l.words)
+    list_any (same_text l.text) (map (λ word. word.now) (drop l.word-index l.words)) ≡ list_any (same_text l.text) (map (λ word. word.now) l.words)

@@ -10,5 +10,5 @@ use Rattle.smi_text.proofs.parser.Parser.at_macro.Goals as goal
 
 pub returns-then-eq : goal.returns-then-eq
 returns-then-eq c =
-  let upper : c.in-Some.token.kind ≡ Upper = same_true the_type tt _ _ (sym c.if-eq.ensures) in
-  c.is_macro.ensures ∙ sym (ap (begins macro_words) c.in-Some.ensures.some ∙ begins-macro (lexeme_of c.in-Some.token) _ upper)
+    let upper : c.in-Some.token.kind ≡ Upper = same_true the_type tt _ _ (sym c.if-eq.ensures) in
+    c.is_macro.ensures ∙ sym (ap (begins macro_words) c.in-Some.ensures.some ∙ begins-macro (lexeme_of c.in-Some.token) _ upper)

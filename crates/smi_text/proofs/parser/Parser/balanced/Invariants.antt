@@ -5,7 +5,7 @@ use Rattle.smi_text.proofs.parser.Parser.balanced.Given as goal
 
 abbrev pub invariant-each : goal.invariant-each
 invariant-each l =
-  (l.depth ≤ length l.tokens.items) × (with_front l.tokens.items (read_balanced l.depth l.self) ≡ read_balanced 0 l.fn.self)
+    (l.depth ≤ length l.tokens.items) × (with_front l.tokens.items (read_balanced l.depth l.self) ≡ read_balanced 0 l.fn.self)
 
 abbrev pub decreases-each : goal.decreases-each
 decreases-each l = length l.self

@@ -12,17 +12,17 @@ each-smaller g c = c.in_ok-item.ensures.shorter
 
 pub each-preserved : goal.each-preserved
 each-preserved g c =
-  let i = c.each.invariant in
-  let s = next-many g.P.Production.format i.0 _ _ _ (sym c.is_ahead.ensures ∙ c.each-test.true) c.in_ok-item.ensures.gives i.1 c.in_ok-item.ensures.shorter in
-  (s.0, s.1, rw (c.in_ok-keep.ensures.ok) (with_front-append _ _ _ ∙ ap (with_front c.each.items.items) (sym s.2) ∙ i.2))
+    let i = c.each.invariant in
+    let s = next-many g.P.Production.format i.0 _ _ _ (sym c.is_ahead.ensures ∙ c.each-test.true) c.in_ok-item.ensures.gives i.1 c.in_ok-item.ensures.shorter in
+    (s.0, s.1, rw (c.in_ok-keep.ensures.ok) (with_front-append _ _ _ ∙ ap (with_front c.each.items.items) (sym s.2) ∙ i.2))
 
 pub returns : goal.returns
 returns g c =
-  let i = c.each.invariant in
-  rw (← i.2, end-many g.P.Production.format i.0 c.each.self (sym c.is_ahead.ensures ∙ c.each-test.false), with_front-end, c.new.ensures)
+    let i = c.each.invariant in
+    rw (← i.2, end-many g.P.Production.format i.0 c.each.self (sym c.is_ahead.ensures ∙ c.each-test.false), with_front-end, c.new.ensures)
 
 pub returns-in_err-item : goal.returns-in_err-item
 returns-in_err-item g c =
-  let i = c.each.invariant in
-  let p = err_from_is_err_and c.from_residual.result c.from_residual.ensures.1 in
-  rw (p.1, p.2) (λ h. rw (← i.2) (with_front-none _ _ (stuck-many g.P.Production.format i.0 _ (sym c.is_ahead.ensures ∙ c.each-test.true) (c.in_err-item.ensures.gives h) i.1)))
+    let i = c.each.invariant in
+    let p = err_from_is_err_and c.from_residual.result c.from_residual.ensures.1 in
+    rw (p.1, p.2) (λ h. rw (← i.2) (with_front-none _ _ (stuck-many g.P.Production.format i.0 _ (sym c.is_ahead.ensures ∙ c.each-test.true) (c.in_err-item.ensures.gives h) i.1)))

@@ -16,5 +16,5 @@ returns-clause-ok c = has_modules-done _ _ _ c.each.invariant c.each-test.ensure
 
 pub returns-in_err-module-clause-fault : goal.returns-in_err-module-clause-fault
 returns-in_err-module-clause-fault c =
-  let p = err_from_is_err_and c.from_residual.result c.from_residual.ensures.1 in
-  rw (p.1, p.2) (has_modules-fault _ _ _ c.each.invariant _ c.each-test.ensures c.in_err-module.ensures.fault)
+    let p = err_from_is_err_and c.from_residual.result c.from_residual.ensures.1 in
+    rw (p.1, p.2) (has_modules-fault _ _ _ c.each.invariant _ c.each-test.ensures c.in_err-module.ensures.fault)

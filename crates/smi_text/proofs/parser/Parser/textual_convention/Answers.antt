@@ -11,5 +11,5 @@ returns c = rw (c.in_ok-word.ensures, c.in_ok-display_hint.ensures, c.in_ok-stat
 pub returns-in_err-syntax : goal.returns-in_err-syntax
 unfolding textual_convention behind shaped pair
 returns-in_err-syntax c =
-  let p = err_from_is_err_and c.from_residual-in_err-syntax.result c.from_residual-in_err-syntax.ensures.1 in
-  rw (p.1, p.2) (λ h. rw (c.in_ok-word.ensures, c.in_ok-display_hint.ensures, c.in_ok-status.ensures, c.in_err-syntax.ensures h) refl)
+    let p = err_from_is_err_and c.from_residual-in_err-syntax.result c.from_residual-in_err-syntax.ensures.1 in
+    rw (p.1, p.2) (λ h. rw (c.in_ok-word.ensures, c.in_ok-display_hint.ensures, c.in_ok-status.ensures, c.in_err-syntax.ensures h) refl)
