@@ -54,6 +54,9 @@ kind-label n x (D.Choice d) (t ∷ ts) rest h = sym h.0.0.1
 kind-label n x (D.Macro d) [] rest h = absurd h
 kind-label n x (D.Macro d) (t ∷ ts) rest h = sym h.0.0.1
 
+pub spelt-label : (d : Def) (ts rest : List Lexeme) → Stands (of_def d) ts rest → d.label ≡ text_ahead ts
+spelt-label d ts rest h = kind-label d.line d.label d.kind ts rest h
+
 pub read-stands : (d : Def) (ts rest : List Lexeme) → definition.read ts ≡ Some (d, rest) → Stands (of_def d) ts rest
 read-stands d ts rest h = let P : List Mark → Type 0 = λ ms. Stands ms ts rest in subst P (def-spells d) (definition-law.takes ts rest d h)
 

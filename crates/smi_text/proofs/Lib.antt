@@ -10,3 +10,4 @@ pub mod Loops
 pub mod Spells
 pub mod DefinitionLists
 pub mod FileSteps
+pub mod Doubles

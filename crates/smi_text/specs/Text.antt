@@ -68,10 +68,3 @@ IsCause (E.Lex fault) text = BreaksOff fault text
 IsCause (E.Syntax line) text = (ms : List Module) → Spells ms text → ⊥
 IsCause (E.DoubleName line) text = HasDouble line text
 IsCause E.Memory text = Unit {0}
-
--- a second definition of a name, and want of memory
-abbrev pub IsAside : ParseError → Type 0
-IsAside (E.Lex fault) = ⊥
-IsAside (E.Syntax line) = ⊥
-IsAside (E.DoubleName line) = Unit {0}
-IsAside E.Memory = Unit {0}

@@ -6,7 +6,7 @@ ghost use Rattle.smi_lexer.specs.Token.{Lexeme, lexeme_of};
 ghost use Rattle.smi_text.specs.Mark.{Stands};
 ghost use Rattle.smi_text.specs.Spelling.{spelling};
 ghost use Rattle.smi_text.specs.Gives.{ReadsDefinitions, ReadsModule, ReadsModules, DefinitionsFault, ModuleFault, ModulesFault, IsLabelAhead, AreTokens, LexFault};
-ghost use Rattle.smi_text.specs.Text.{Spells, HasNoDoubles, IsCause, IsAside};
+ghost use Rattle.smi_text.specs.Text.{Spells, HasNoDoubles, IsCause};
 ghost use Rattle.smi_text.specs.declared.tree.Module.{Module as Tree};
 
 use crate::error::ParseError;
@@ -108,8 +108,9 @@ fn tokens_of(alloc: Global, text: &[u8]) -> Result<Vec<Token<'_>>, ParseError>
 pub fn parse_modules(alloc: Global, text: &[u8]) -> Result<Vec<Module>, ParseError>
     // What is read is what the text spells, and no module of it defines a name twice.
     ensures found { IfOk result (λ ms. Spells ms.items text.now × HasNoDoubles ms.items) }
-    // What the text spells is read, but for a second definition of a name and for want of memory.
-    ensures only { (ms : List Tree) → Spells ms text.now → MatchResult result (λ found. found.items ≡ ms) IsAside }
+    // Such modules are read, memory aside.
+    ensures only { (ms : List Tree) → Spells ms text.now → HasNoDoubles ms → MatchResult result (λ found. found.items ≡ ms) (λ error. error ≡ ParseError.Memory) }
+
     // Each error comes only with its cause.
     ensures cause { IfErr result (λ error. IsCause error text.now) }
 {

@@ -9,10 +9,11 @@ use Rattle.smi_text.specs.declared.error.ParseError.TheVariants as E
 use Rattle.smi_text.specs.declared.tree.Module.{Module}
 use Rattle.smi_text.specs.Mark.{Stands}
 use Rattle.smi_text.specs.Spelling.{spelling}
-use Rattle.smi_text.specs.Text.{Spells, HasNoDoubles, IsCause, IsAside, HasDouble, DefinesAgain}
+use Rattle.smi_text.specs.Text.{Spells, HasNoDoubles, IsCause, HasDouble, DefinesAgain}
 use Rattle.smi_text.specs.Gives.{AreTokens, LexFault, ReadsModules, ModulesFault}
 use Rattle.smi_text.proofs.Laws.{some-inj}
 use Rattle.smi_text.proofs.DefinitionLists.{file-stands, file-reads}
+use Rattle.smi_text.proofs.Doubles.{file-twice}
 use Rattle.smi_text.specs.Grammar.{file}
 use Rattle.smi_text.proofs.file.parse_modules.Goals as goal
 
@@ -36,18 +37,18 @@ module _ (text : List ℕ) (tokens : List Lexeme) (are : AreTokens tokens text) 
       record { items = are.items; lexed = are.lexed; again = subst P are.same f }
   cause E.Memory f = tt
 
-  only : (r : Result (Vec Module Global) ParseError) → IfOk r (λ v. ReadsModules v.items tokens) → IfErr r (λ e. ModulesFault e tokens) → (ms : List Module) → Spells ms text → MatchResult r (λ v. v.items ≡ ms) IsAside
-  only (Ok v) ok f ms s = ap (λ (p : List Module × List Lexeme). p.0) (some-inj {A = List Module × List Lexeme} (v.items, []) (ms, []) (sym ok.read ∙ reads ms s))
-  only (Err (E.Lex fault)) ok f ms s = f
-  only (Err (E.Syntax line)) ok f ms s = f ms (reads ms s)
-  only (Err (E.DoubleName line)) ok f ms s = tt
-  only (Err E.Memory) ok f ms s = tt
+  only : (r : Result (Vec Module Global) ParseError) → IfOk r (λ v. ReadsModules v.items tokens) → IfErr r (λ e. ModulesFault e tokens) → (ms : List Module) → Spells ms text → HasNoDoubles ms → MatchResult r (λ v. v.items ≡ ms) (λ e. e ≡ E.Memory)
+  only (Ok v) ok f ms s n = ap (λ (p : List Module × List Lexeme). p.0) (some-inj {A = List Module × List Lexeme} (v.items, []) (ms, []) (sym ok.read ∙ reads ms s))
+  only (Err (E.Lex fault)) ok f ms s n = absurd f
+  only (Err (E.Syntax line)) ok f ms s n = absurd (f ms (reads ms s))
+  only (Err (E.DoubleName line)) ok f ms s n = absurd (file-twice line tokens f ms (reads ms s) n)
+  only (Err E.Memory) ok f ms s n = refl
 
-lex-only : (error : ParseError) (text : List ℕ) → LexFault error text → (ms : List Module) → Spells ms text → IsAside error
-lex-only (E.Lex fault) text f ms s = cc (sym s.whole ∙ ap fault_of (one_list [] text s.items f.items s.lexed f.lexed) ∙ f.at)
-lex-only (E.Syntax line) text f ms s = f
-lex-only (E.DoubleName line) text f ms s = tt
-lex-only E.Memory text f ms s = tt
+lex-only : (error : ParseError) (text : List ℕ) → LexFault error text → (ms : List Module) → Spells ms text → HasNoDoubles ms → error ≡ E.Memory
+lex-only (E.Lex fault) text f ms s n = cc (sym s.whole ∙ ap fault_of (one_list [] text s.items f.items s.lexed f.lexed) ∙ f.at)
+lex-only (E.Syntax line) text f ms s n = absurd f
+lex-only (E.DoubleName line) text f ms s n = absurd f
+lex-only E.Memory text f ms s n = refl
 
 pub returns-in_err-tokens-clause-only : goal.returns-in_err-tokens-clause-only
 returns-in_err-tokens-clause-only c =
