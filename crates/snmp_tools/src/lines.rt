@@ -2,7 +2,6 @@
 ghost use Rattle.std.specs.Prelude.{◌≡◌, List, ℕ};
 ghost use Rattle.snmp_wire.specs.Message.{VarBind};
 ghost use Rattle.snmp_walk.specs.Facts.{IsFresh, WalkFacts};
-ghost use Rattle.snmp_walk.specs.Link.{AreViews};
 ghost use Rattle.snmp_tools.specs.Lines.{IsPrintedUpTo};
 
 use snmp_lines::line;
@@ -60,7 +59,7 @@ pub(crate) fn print_walk<L: Link, O: Output>(
 ) -> WalkEnd
     requires { IsFresh core }
     ensures { (rows : List VarBind) × IsPrintedUpTo (O.taken out.old.out) (O.fault_count out.old.out) rows result (O.taken out.new.out) (O.fault_count out.new.out)
-        × (L.honest link.old → AreViews (L.agents link.old).tables → WalkFacts (L.agents link.old) core rows result) }
+        × (L.honest link.old → WalkFacts (L.agents link.old) core rows result) }
 {
     run_walk(link, core, RETRIES, out)
 }

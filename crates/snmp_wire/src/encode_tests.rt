@@ -199,15 +199,3 @@ fn the_longest_name(rt: HostRuntime) {
         .as_slice()
     );
 }
-
-#[test]
-fn in_pieces(rt: HostRuntime) {
-    let parts = message(Kind::Response, 0, &[]);
-    let mut out = [0xEE; 64];
-    assert_eq!(rt; head_size(&parts, 17), 26);
-    assert_eq!(rt; encode_head(&parts, 17, &mut out[..25]), None);
-    assert_eq!(rt; encode_head(&parts, 17, &mut out), Some(26));
-    assert_eq!(rt; &out[..26], &RESPONSE[..26]);
-    assert!(rt; out[26..].iter().all(|octet| *octet == 0xEE));
-    assert_eq!(rt; head_size(&parts, 4000000000), 38);
-}

@@ -1,9 +1,0 @@
-pub mod Mark
-pub mod Reserved
-pub mod Number
-pub mod Format
-pub mod Grammar
-pub mod Gives
-pub mod Names
-pub mod Spelling
-pub mod Text
