@@ -16,9 +16,11 @@ pdu_size message total = length (canon_fields message) + length (canon_header se
 
 pub length-canon_fields : (message : Message) → length (canon_fields message) ≡ length (canon_value (integer_value message.id)) + length (canon_value (integer_value message.a)) + length (canon_value (integer_value message.b))
 unfolding canon_fields
-length-canon_fields message = omega (arith,
-    length-append (canon_value (integer_value message.id) ++ canon_value (integer_value message.a)) (canon_value (integer_value message.b)),
-    length-append (canon_value (integer_value message.id)) (canon_value (integer_value message.a)))
+length-canon_fields message = omega (
+  arith,
+  length-append (canon_value (integer_value message.id) ++ canon_value (integer_value message.a)) (canon_value (integer_value message.b)),
+  length-append (canon_value (integer_value message.id)) (canon_value (integer_value message.a)),
+)
 
 pub length-canon_opening : (message : Message) → length (canon_opening message) ≡ length (canon_value (integer_value message.version)) + length (canon_value (octet_string message.community))
 unfolding canon_opening
@@ -26,10 +28,12 @@ length-canon_opening message = length-append (canon_value (integer_value message
 
 pub length-canon_front : (message : Message) (total : ℕ) → length (canon_front message total) ≡ length (canon_opening message) + length (canon_header (kind_tag message.kind) (pdu_size message total)) + length (canon_fields message) + length (canon_header sequence_tag total)
 unfolding canon_front
-length-canon_front message total = omega (arith,
-    length-append (canon_opening message) (canon_header (kind_tag message.kind) (pdu_size message total) ++ (canon_fields message ++ canon_header sequence_tag total)),
-    length-append (canon_header (kind_tag message.kind) (pdu_size message total)) (canon_fields message ++ canon_header sequence_tag total),
-    length-append (canon_fields message) (canon_header sequence_tag total))
+length-canon_front message total = omega (
+  arith,
+  length-append (canon_opening message) (canon_header (kind_tag message.kind) (pdu_size message total) ++ (canon_fields message ++ canon_header sequence_tag total)),
+  length-append (canon_header (kind_tag message.kind) (pdu_size message total)) (canon_fields message ++ canon_header sequence_tag total),
+  length-append (canon_fields message) (canon_header sequence_tag total),
+)
 
 pub length-canon_head : (message : Message) (total : ℕ) → length (canon_head message total) ≡ length (canon_header sequence_tag (length (canon_front message total) + total)) + length (canon_front message total)
 unfolding canon_head
@@ -96,14 +100,14 @@ list_fits message total end room = omega (arith, room, length-canon_head message
 pub pdu_header_fits : {old new : List ℕ} {id end : ℕ} (message : Message) (total tag : ℕ) → tag ≡ kind_tag message.kind → Writes old id end (canon_fields message ++ canon_header sequence_tag total) new → length (canon_head message total) ≤ end → length (canon_header tag (end - id + total)) ≤ id
 pdu_header_fits {old} {new} {id} {end} message total tag e w room =
     let same : length (canon_header tag (end - id + total)) ≡ length (canon_header (kind_tag message.kind) (pdu_size message total)) =
-        ap (λ t. length (canon_header t (end - id + total))) e ∙ ap (λ n. length (canon_header (kind_tag message.kind) n)) (pdu_content message total w) in
+    ap (λ t. length (canon_header t (end - id + total))) e ∙ ap (λ n. length (canon_header (kind_tag message.kind) n)) (pdu_content message total w) in
     omega (arith, same, room, w.begins, length-append (canon_fields message) (canon_header sequence_tag total), length-canon_head message total, length-canon_front message total)
 
 pub opening_fits : {old mid new : List ℕ} {pdu id end : ℕ} (message : Message) (total tag : ℕ) → tag ≡ kind_tag message.kind → Writes old id end (canon_fields message ++ canon_header sequence_tag total) mid → Writes mid pdu id (canon_header tag (end - id + total)) new → length (canon_head message total) ≤ end
     → length (canon_value (integer_value message.version)) + length (canon_value (octet_string message.community)) ≤ pdu
 opening_fits {old} {mid} {new} {pdu} {id} {end} message total tag e w v room =
     let same : length (canon_header tag (end - id + total)) ≡ length (canon_header (kind_tag message.kind) (pdu_size message total)) =
-        ap (λ t. length (canon_header t (end - id + total))) e ∙ ap (λ n. length (canon_header (kind_tag message.kind) n)) (pdu_content message total w) in
+    ap (λ t. length (canon_header t (end - id + total))) e ∙ ap (λ n. length (canon_header (kind_tag message.kind) n)) (pdu_content message total w) in
     omega (arith, same, room, w.begins, v.begins, length-append (canon_fields message) (canon_header sequence_tag total), length-canon_opening message, length-canon_head message total, length-canon_front message total)
 
 pub message_header_fits : {old new : List ℕ} {version end : ℕ} (message : Message) (total : ℕ) → Writes old version end (canon_front message total) new → length (canon_head message total) ≤ end → length (canon_header sequence_tag (end - version + total)) ≤ version
@@ -124,11 +128,11 @@ canon_parts message =
     let header : List ℕ = canon_header (kind_tag message.kind) (pdu_size message total) in
     let inner : length (fields ++ (list ++ octets)) ≡ pdu_size message total = omega (arith, length-append fields (list ++ octets), length-append list octets) in
     let pdu : canon_header (kind_tag message.kind) (length (fields ++ (list ++ octets))) ++ (fields ++ (list ++ octets)) ≡ (header ++ (fields ++ list)) ++ octets =
-        ap (λ n. canon_header (kind_tag message.kind) n ++ (fields ++ (list ++ octets))) inner
-        ∙ ap (λ content. header ++ content) (sym (append_assoc fields list octets))
-        ∙ sym (append_assoc header (fields ++ list) octets) in
+    ap (λ n. canon_header (kind_tag message.kind) n ++ (fields ++ (list ++ octets))) inner
+    ∙ ap (λ content. header ++ content) (sym (append_assoc fields list octets))
+    ∙ sym (append_assoc header (fields ++ list) octets) in
     let content : opening ++ (canon_header (kind_tag message.kind) (length (fields ++ (list ++ octets))) ++ (fields ++ (list ++ octets))) ≡ (opening ++ (header ++ (fields ++ list))) ++ octets =
-        ap (λ rest. opening ++ rest) pdu ∙ sym (append_assoc opening (header ++ (fields ++ list)) octets) in
+    ap (λ rest. opening ++ rest) pdu ∙ sym (append_assoc opening (header ++ (fields ++ list)) octets) in
     let size : length ((opening ++ (header ++ (fields ++ list))) ++ octets) ≡ length (opening ++ (header ++ (fields ++ list))) + total = length-append (opening ++ (header ++ (fields ++ list))) octets in
     ap (λ rest. canon_header sequence_tag (length rest) ++ rest) content
     ∙ ap (λ n. canon_header sequence_tag n ++ ((opening ++ (header ++ (fields ++ list))) ++ octets)) size

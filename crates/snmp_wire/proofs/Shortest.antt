@@ -44,25 +44,26 @@ number_shortest (first ∷ rest) z h some e =
     let low : number_of 256 rest < power = below_power 256 rest h.1 in
     ⊎_elim (λ small. from_zero first rest z h low small e) (λ large. from_below first rest z h low large e) (cases_lt first 128)
   where
-  from_zero : (first : ℕ) (rest : List ℕ) (z : ℤ) → Octets (first ∷ rest) → number_of 256 rest < 256 ^ length rest → first < 128 → twos_complement (first ∷ rest) ≡ z → length (canon_number z) ≤ suc (length rest)
-  from_zero first rest z h low small e =
-      let u : ℕ = unsigned (first ∷ rest) in
-      let value : pos u ≡ z = sym (positive (first ∷ rest) small) ∙ e in
-      let bound : first * 256 ^ length rest + number_of 256 rest < 256 ^ length rest * 128 = mul-add-lt first (256 ^ length rest) (number_of 256 rest) 128 small low in
-      let size : number_size u ≤ 1 + length rest = number_small u (length rest) (omega (arith, bound)) in
-      let whole : length (canon_number (pos u)) ≤ suc (length rest) = omega (arith, length-canon_number (pos u), size) in
-      subst (λ (y : ℤ). length (canon_number y) ≤ suc (length rest)) value whole
-  from_below : (first : ℕ) (rest : List ℕ) (z : ℤ) → Octets (first ∷ rest) → number_of 256 rest < 256 ^ length rest → 128 ≤ first → twos_complement (first ∷ rest) ≡ z → length (canon_number z) ≤ suc (length rest)
-  from_below first rest z h low large e =
-      let u : ℕ = unsigned (first ∷ rest) in
-      let n : ℕ = 256 ^ suc (length rest) - u - 1 in
-      let power : 256 ^ suc (length rest) ≡ 256 ^ length rest * 256 = pow-suc 256 (length rest) in
-      let high : first * 256 ^ length rest + number_of 256 rest < 256 ^ length rest * 256 = mul-add-lt first (256 ^ length rest) (number_of 256 rest) 256 h.0 low in
-      let least : 128 * 256 ^ length rest ≤ first * 256 ^ length rest = mul-le-mul_right (256 ^ length rest) large in
-      let value : negsuc n ≡ z = sym (minus u n (256 ^ suc (length rest)) (omega (arith, high, power))) ∙ sym (negative (first ∷ rest) large) ∙ e in
-      let size : number_size n ≤ 1 + length rest = number_small n (length rest) (omega (arith, least, power, high)) in
-      let whole : length (canon_number (negsuc n)) ≤ suc (length rest) = omega (arith, length-canon_number (negsuc n), size) in
-      subst (λ (y : ℤ). length (canon_number y) ≤ suc (length rest)) value whole
+    from_zero : (first : ℕ) (rest : List ℕ) (z : ℤ) → Octets (first ∷ rest) → number_of 256 rest < 256 ^ length rest → first < 128 → twos_complement (first ∷ rest) ≡ z → length (canon_number z) ≤ suc (length rest)
+    from_zero first rest z h low small e =
+        let u : ℕ = unsigned (first ∷ rest) in
+        let value : pos u ≡ z = sym (positive (first ∷ rest) small) ∙ e in
+        let bound : first * 256 ^ length rest + number_of 256 rest < 256 ^ length rest * 128 = mul-add-lt first (256 ^ length rest) (number_of 256 rest) 128 small low in
+        let size : number_size u ≤ 1 + length rest = number_small u (length rest) (omega (arith, bound)) in
+        let whole : length (canon_number (pos u)) ≤ suc (length rest) = omega (arith, length-canon_number (pos u), size) in
+        subst (λ (y : ℤ). length (canon_number y) ≤ suc (length rest)) value whole
+
+    from_below : (first : ℕ) (rest : List ℕ) (z : ℤ) → Octets (first ∷ rest) → number_of 256 rest < 256 ^ length rest → 128 ≤ first → twos_complement (first ∷ rest) ≡ z → length (canon_number z) ≤ suc (length rest)
+    from_below first rest z h low large e =
+        let u : ℕ = unsigned (first ∷ rest) in
+        let n : ℕ = 256 ^ suc (length rest) - u - 1 in
+        let power : 256 ^ suc (length rest) ≡ 256 ^ length rest * 256 = pow-suc 256 (length rest) in
+        let high : first * 256 ^ length rest + number_of 256 rest < 256 ^ length rest * 256 = mul-add-lt first (256 ^ length rest) (number_of 256 rest) 256 h.0 low in
+        let least : 128 * 256 ^ length rest ≤ first * 256 ^ length rest = mul-le-mul_right (256 ^ length rest) large in
+        let value : negsuc n ≡ z = sym (minus u n (256 ^ suc (length rest)) (omega (arith, high, power))) ∙ sym (negative (first ∷ rest) large) ∙ e in
+        let size : number_size n ≤ 1 + length rest = number_small n (length rest) (omega (arith, least, power, high)) in
+        let whole : length (canon_number (negsuc n)) ≤ suc (length rest) = omega (arith, length-canon_number (negsuc n), size) in
+        subst (λ (y : ℤ). length (canon_number y) ≤ suc (length rest)) value whole
 
 unsigned_shortest : (content : List ℕ) (n : ℕ) → Octets content → 1 ≤ length content → get_or content 0 0 < 128 → unsigned content ≡ n → length (canon_number (pos n)) ≤ length content
 unsigned_shortest content n h some first e = number_shortest content (pos n) h some (positive content first ∙ ap pos e)
@@ -77,17 +78,18 @@ digits_fewest n (suc k) some h = omega (arith, digits_small 256 256 3 n k (omega
 length_shortest : (lead : List ℕ) (n : ℕ) → Octets lead → IsLength lead n → length (canon_length n) ≤ length lead
 length_shortest lead n h is = ⊎_elim (λ s. short_form lead n s) (λ l. long_form lead n h l) is
   where
-  short_form : (lead : List ℕ) (n : ℕ) → IsShortLength lead n → length (canon_length n) ≤ length lead
-  short_form lead n s = omega (arith, ap length (canon_length_short n s.small), ap length s.one)
-  long_form : (lead : List ℕ) (n : ℕ) → Octets lead → IsLongLength lead n → length (canon_length n) ≤ length lead
-  long_form lead n h l =
-      let all : Octets ((128 + length l.digits) ∷ l.digits) = subst Octets l.parts h in
-      let size : length lead ≡ suc (length l.digits) = ap length l.parts in
-      let bound : number_of 256 l.digits < 256 ^ length l.digits = below_power 256 l.digits all.1 in
-      ⊎_elim (λ s. omega (arith, size, ap length (canon_length_short n s), l.some))
+    short_form : (lead : List ℕ) (n : ℕ) → IsShortLength lead n → length (canon_length n) ≤ length lead
+    short_form lead n s = omega (arith, ap length (canon_length_short n s.small), ap length s.one)
+
+    long_form : (lead : List ℕ) (n : ℕ) → Octets lead → IsLongLength lead n → length (canon_length n) ≤ length lead
+    long_form lead n h l =
+        let all : Octets ((128 + length l.digits) ∷ l.digits) = subst Octets l.parts h in
+        let size : length lead ≡ suc (length l.digits) = ap length l.parts in
+        let bound : number_of 256 l.digits < 256 ^ length l.digits = below_power 256 l.digits all.1 in
+        ⊎_elim (λ s. omega (arith, size, ap length (canon_length_short n s), l.some))
         (λ g. let few : length_size n ≤ length l.digits = digits_fewest n (length l.digits) l.some (subst (λ (v : ℕ). v < 256 ^ length l.digits) l.value bound) in
-            let whole : length (canon_length n) ≡ suc (length (octets (length_size n) n)) = ap length (canon_length_long n g) in
-            omega (arith, size, whole, few, length-octets (length_size n) n))
+        let whole : length (canon_length n) ≡ suc (length (octets (length_size n) n)) = ap length (canon_length_long n g) in
+        omega (arith, size, whole, few, length-octets (length_size n) n))
         (cases_lt n 128)
 
 -- more content has no shorter length
@@ -96,8 +98,8 @@ count_rises base limit zero m n h = omega arith
 count_rises base limit (suc more) m n h = ⊎_elim
     (λ below. let one : digit_count base limit (suc more) m ≡ 1 = count_taken base limit more m below in omega (arith, one, digit_some base limit (suc more) n))
     (λ above. let this : digit_count base limit (suc more) m ≡ 1 + digit_count base (limit * base) more m = count_left base limit more m above in
-        let that : digit_count base limit (suc more) n ≡ 1 + digit_count base (limit * base) more n = count_left base limit more n (omega (arith, h, above)) in
-        omega (arith, this, that, count_rises base (limit * base) more m n h))
+    let that : digit_count base limit (suc more) n ≡ 1 + digit_count base (limit * base) more n = count_left base limit more n (omega (arith, h, above)) in
+    omega (arith, this, that, count_rises base (limit * base) more m n h))
     (cases_lt m limit)
 
 size_rises : (m n : ℕ) → m ≤ n → length_size m ≤ length_size n
@@ -110,9 +112,9 @@ long_length n h = let whole : length (canon_length n) ≡ suc (length (octets (l
 length_rises : (m n : ℕ) → m ≤ n → length (canon_length m) ≤ length (canon_length n)
 length_rises m n h = ⊎_elim
     (λ short. ⊎_elim
-      (λ less. omega (arith, ap length (canon_length_short m short), ap length (canon_length_short n less)))
-      (λ more. omega (arith, ap length (canon_length_short m short), long_length n more))
-      (cases_lt n 128))
+    (λ less. omega (arith, ap length (canon_length_short m short), ap length (canon_length_short n less)))
+    (λ more. omega (arith, ap length (canon_length_short m short), long_length n more))
+    (cases_lt n 128))
     (λ long. omega (arith, long_length m long, long_length n (omega (arith, long, h)), size_rises m n h))
     (cases_lt m 128)
 
@@ -172,8 +174,14 @@ element_shortest : (tag : ℕ) (content made text : List ℕ) → Octets text �
 element_shortest tag content made text h is shorter =
     let all : Octets (tag ∷ is.length_octets ++ content) = subst Octets is.parts h in
     let size : length text ≡ suc (length (is.length_octets ++ content)) = ap length is.parts in
-    omega (arith, size, length-append is.length_octets content, length-canon_element tag made, length_rises (length made) (length content) shorter,
-      length_shortest is.length_octets (length content) (front_octets is.length_octets content all.1) is.is_length)
+    omega (
+      arith,
+      size,
+      length-append is.length_octets content,
+      length-canon_element tag made,
+      length_rises (length made) (length content) shorter,
+      length_shortest is.length_octets (length content) (front_octets is.length_octets content all.1) is.is_length,
+    )
 
 value_shortest : (value : Datum) (text : List ℕ) → Octets text → SpellsValue strict value text → length (canon_value value) ≤ length text
 unfolding canon_value
@@ -185,16 +193,27 @@ unfolding canon_binding
 binding_shortest binding text h is =
     let inner : Octets (is.name ++ is.value) = content_octets sequence_tag (is.name ++ is.value) text h is.element in
     element_shortest sequence_tag (is.name ++ is.value) (canon_value (object_id binding.name) ++ canon_value binding.value) text h is.element
-      (omega (arith, length-append is.name is.value, length-append (canon_value (object_id binding.name)) (canon_value binding.value),
-        value_shortest (object_id binding.name) is.name (front_octets is.name is.value inner) is.is_name, value_shortest binding.value is.value (back_octets is.name is.value inner) is.is_value))
+    (omega (
+      arith,
+      length-append is.name is.value,
+      length-append (canon_value (object_id binding.name)) (canon_value binding.value),
+      value_shortest (object_id binding.name) is.name (front_octets is.name is.value inner) is.is_name,
+      value_shortest binding.value is.value (back_octets is.name is.value inner) is.is_value,
+    ))
 
 bindings_shortest : (bindings : List VarBind) (text : List ℕ) → Octets text → SpellsBindings strict bindings text → length (canon_bindings bindings) ≤ length text
 unfolding canon_bindings
 bindings_shortest [] text h is = omega arith
 bindings_shortest (binding ∷ more) text h (first, rest, parts, this, others) =
     let all : Octets (first ++ rest) = subst Octets parts h in
-    omega (arith, ap length parts, length-append first rest, length-append (canon_binding binding) (canon_bindings more),
-      binding_shortest binding first (front_octets first rest all) this, bindings_shortest more rest (back_octets first rest all) others)
+    omega (
+      arith,
+      ap length parts,
+      length-append first rest,
+      length-append (canon_binding binding) (canon_bindings more),
+      binding_shortest binding first (front_octets first rest all) this,
+      bindings_shortest more rest (back_octets first rest all) others,
+    )
 
 -- ---- messages
 
@@ -209,9 +228,9 @@ pdu_shortest message text h is =
     let a : length (canon_value (integer_value message.a)) ≤ length is.a = value_shortest (integer_value message.a) is.a (back_octets is.id is.a numbers) is.is_a in
     let b : length (canon_value (integer_value message.b)) ≤ length is.b = value_shortest (integer_value message.b) is.b (back_octets (is.id ++ is.a) is.b fields) is.is_b in
     let bindings : length made ≤ length is.list = element_shortest sequence_tag is.bindings (canon_bindings message.bindings) is.list list is.is_list
-        (bindings_shortest message.bindings is.bindings (content_octets sequence_tag is.bindings is.list list is.is_list) is.are_bindings) in
+    (bindings_shortest message.bindings is.bindings (content_octets sequence_tag is.bindings is.list list is.is_list) is.are_bindings) in
     element_shortest (kind_tag message.kind) (is.id ++ is.a ++ is.b ++ is.list) (canon_fields message ++ made) text h is.element
-      (omega (arith, id, a, b, bindings, length-append (is.id ++ is.a ++ is.b) is.list, length-append (is.id ++ is.a) is.b, length-append is.id is.a, length-append (canon_fields message) made, length-canon_fields message))
+    (omega (arith, id, a, b, bindings, length-append (is.id ++ is.a ++ is.b) is.list, length-append (is.id ++ is.a) is.b, length-append is.id is.a, length-append (canon_fields message) made, length-canon_fields message))
 
 pub no_shorter : (message : Message) (text : List ℕ) → Strict message text → length (canon message) ≤ length text
 unfolding canon
@@ -224,4 +243,4 @@ no_shorter message text is =
     let community : length (canon_value (octet_string message.community)) ≤ length is.community = value_shortest (octet_string message.community) is.community (back_octets is.version is.community opening) is.is_community in
     let pdu : length made ≤ length is.pdu = pdu_shortest message is.pdu (back_octets (is.version ++ is.community) is.pdu inner) is.is_pdu in
     element_shortest sequence_tag (is.version ++ is.community ++ is.pdu) (canon_opening message ++ made) text h is.element
-      (omega (arith, version, community, pdu, length-append (is.version ++ is.community) is.pdu, length-append is.version is.community, length-append (canon_opening message) made, length-canon_opening message))
+    (omega (arith, version, community, pdu, length-append (is.version ++ is.community) is.pdu, length-append is.version is.community, length-append (canon_opening message) made, length-canon_opening message))

@@ -29,9 +29,9 @@ number_of-septets (suc count) n =
     ∙ sym (mod-mul n (lit< tt) (one-le-pow count 128 (lit< tt)))
     ∙ ap (λ m. n % m) (sym (pow-succ' 128 count))
   where
-  length-low_bits : (octets : List ℕ) → length (low_bits octets) ≡ length octets
-  length-low_bits [] = refl
-  length-low_bits (x ∷ xs) = ap suc (length-low_bits xs)
+    length-low_bits : (octets : List ℕ) → length (low_bits octets) ≡ length octets
+    length-low_bits [] = refl
+    length-low_bits (x ∷ xs) = ap suc (length-low_bits xs)
 
 septets_go_on : (count n : ℕ) → All (λ octet. 128 ≤ octet) (septets count n)
 unfolding septets
@@ -65,10 +65,10 @@ long n some h =
       high = subst (λ (k : ℕ). n < 128 * 128 ^ k) same fits;
     }
   where
-  at_least_two : (count n : ℕ) → 128 ≤ n → n < 128 * 128 ^ (count - 1) → 1 ≤ count → 2 ≤ count
-  at_least_two zero n some fits one = omega arith
-  at_least_two (suc zero) n some fits one = omega (arith, fits)
-  at_least_two (suc (suc k)) n some fits one = omega arith
+    at_least_two : (count n : ℕ) → 128 ≤ n → n < 128 * 128 ^ (count - 1) → 1 ≤ count → 2 ≤ count
+    at_least_two zero n some fits one = omega arith
+    at_least_two (suc zero) n some fits one = omega (arith, fits)
+    at_least_two (suc (suc k)) n some fits one = omega arith
 
 one_less : (k : ℕ) → suc (suc k) - 1 ≡ suc k
 one_less k = omega arith
@@ -76,47 +76,49 @@ one_less k = omega arith
 pub is_subidentifier : (n : ℕ) → n < 2 ^ 35 → IsSubidentifier (canon_subidentifier n) n
 is_subidentifier n h = ⊎_elim (λ short. one_octet n short) (λ large. several n h large (long n large h)) (cases_lt n 128)
   where
-  one_octet : (n : ℕ) → n < 128 → IsSubidentifier (canon_subidentifier n) n
-  one_octet n short =
-      let same : n % 128 ≡ n = mod-eq_of_lt short in
-      let text : canon_subidentifier n ≡ n ∷ [] = subidentifier_short n short ∙ ap (λ d. d ∷ []) same in
-      record {
-        front = [];
-        last = n;
-        parts = text;
-        goes_on = All-nil (λ octet. 128 ≤ octet);
-        ends = short;
-        minimal = λ e. omega (arith, ap (λ octets. get_or octets 0 0) text, e);
-        value = ap (λ octets. number_of 128 (low_bits octets)) text ∙ (let value : n % 128 * 128 ^ 0 + 0 ≡ n = omega (arith, same) in value);
-      }
-  several : (n : ℕ) → n < 2 ^ 35 → 128 ≤ n → Long n → IsSubidentifier (canon_subidentifier n) n
-  several n h large l =
-      let m : ℕ = n / 128 in
-      let text : canon_subidentifier n ≡ septets (suc l.more) m ++ (n % 128) ∷ [] = subidentifier_parts n ∙ ap (λ k. septets (k - 1) m ++ (n % 128) ∷ []) l.size ∙ ap (λ k. septets k m ++ (n % 128) ∷ []) (one_less l.more) in
-      let low : 128 ^ l.more ≤ m = (le-div_iff_mul-le (lit< tt)).1 (omega (arith, l.low)) in
-      let high : m < 128 ^ suc l.more = (div-lt_iff_lt-mul (lit< tt)).1 (omega (arith, l.high)) in
-      let digit_low : 1 ≤ m / 128 ^ l.more = (le-div_iff_mul-le (one-le-pow l.more 128 (lit< tt))).1 (omega (arith, low)) in
-      let digit_high : m / 128 ^ l.more < 128 = (div-lt_iff_lt-mul (one-le-pow l.more 128 (lit< tt))).1 (omega (arith, high, pow-suc 128 l.more)) in
-      let digit : m / 128 ^ l.more % 128 ≡ m / 128 ^ l.more = mod-eq_of_lt digit_high in
-      let first : get_or (canon_subidentifier n) 0 0 ≡ 128 + m / 128 ^ l.more % 128 = ap (λ octets. get_or octets 0 0) (text ∙ ap (λ front. front ++ (n % 128) ∷ []) (septets-suc l.more m)) in
-      let sum : m * 128 + n % 128 % 128 ≡ n = omega (arith, mod-mod n 128, mod-add-div' n 128) in
-      record {
-        front = septets (suc l.more) m;
-        last = n % 128;
-        parts = text;
-        goes_on = septets_go_on (suc l.more) m;
-        ends = mod-lt n (lit< tt);
-        minimal = λ e. omega (arith, first, e, digit, digit_low);
-        value = ap (λ octets. number_of 128 (low_bits octets)) text
-            ∙ ap (number_of 128) (map-append (λ octet. octet % 128) (septets (suc l.more) m) ((n % 128) ∷ []))
-            ∙ number_of-push 128 (low_bits (septets (suc l.more) m)) (n % 128 % 128)
-            ∙ ap (λ v. v * 128 + n % 128 % 128) (number_of-septets (suc l.more) m ∙ mod-eq_of_lt high)
-            ∙ sum;
-      }
+    one_octet : (n : ℕ) → n < 128 → IsSubidentifier (canon_subidentifier n) n
+    one_octet n short =
+        let same : n % 128 ≡ n = mod-eq_of_lt short in
+        let text : canon_subidentifier n ≡ n ∷ [] = subidentifier_short n short ∙ ap (λ d. d ∷ []) same in
+        record {
+          front = [];
+          last = n;
+          parts = text;
+          goes_on = All-nil (λ octet. 128 ≤ octet);
+          ends = short;
+          minimal = λ e. omega (arith, ap (λ octets. get_or octets 0 0) text, e);
+          value = ap (λ octets. number_of 128 (low_bits octets)) text ∙ (let value : n % 128 * 128 ^ 0 + 0 ≡ n = omega (arith, same) in value);
+        }
+
+    several : (n : ℕ) → n < 2 ^ 35 → 128 ≤ n → Long n → IsSubidentifier (canon_subidentifier n) n
+    several n h large l =
+        let m : ℕ = n / 128 in
+        let text : canon_subidentifier n ≡ septets (suc l.more) m ++ (n % 128) ∷ [] = subidentifier_parts n ∙ ap (λ k. septets (k - 1) m ++ (n % 128) ∷ []) l.size ∙ ap (λ k. septets k m ++ (n % 128) ∷ []) (one_less l.more) in
+        let low : 128 ^ l.more ≤ m = (le-div_iff_mul-le (lit< tt)).1 (omega (arith, l.low)) in
+        let high : m < 128 ^ suc l.more = (div-lt_iff_lt-mul (lit< tt)).1 (omega (arith, l.high)) in
+        let digit_low : 1 ≤ m / 128 ^ l.more = (le-div_iff_mul-le (one-le-pow l.more 128 (lit< tt))).1 (omega (arith, low)) in
+        let digit_high : m / 128 ^ l.more < 128 = (div-lt_iff_lt-mul (one-le-pow l.more 128 (lit< tt))).1 (omega (arith, high, pow-suc 128 l.more)) in
+        let digit : m / 128 ^ l.more % 128 ≡ m / 128 ^ l.more = mod-eq_of_lt digit_high in
+        let first : get_or (canon_subidentifier n) 0 0 ≡ 128 + m / 128 ^ l.more % 128 = ap (λ octets. get_or octets 0 0) (text ∙ ap (λ front. front ++ (n % 128) ∷ []) (septets-suc l.more m)) in
+        let sum : m * 128 + n % 128 % 128 ≡ n = omega (arith, mod-mod n 128, mod-add-div' n 128) in
+        record {
+          front = septets (suc l.more) m;
+          last = n % 128;
+          parts = text;
+          goes_on = septets_go_on (suc l.more) m;
+          ends = mod-lt n (lit< tt);
+          minimal = λ e. omega (arith, first, e, digit, digit_low);
+          value = ap (λ octets. number_of 128 (low_bits octets)) text
+              ∙ ap (number_of 128) (map-append (λ octet. octet % 128) (septets (suc l.more) m) ((n % 128) ∷ []))
+              ∙ number_of-push 128 (low_bits (septets (suc l.more) m)) (n % 128 % 128)
+              ∙ ap (λ v. v * 128 + n % 128 % 128) (number_of-septets (suc l.more) m ∙ mod-eq_of_lt high)
+              ∙ sum;
+        }
+
 pub subidentifier_octets : (n : ℕ) → AreOctets (canon_subidentifier n)
 subidentifier_octets n = subst AreOctets (sym (subidentifier_parts n))
     (All-append (λ octet. octet < 256) (septets (subidentifier_size n - 1) (n / 128)) ((n % 128) ∷ []) (septets_are_octets (subidentifier_size n - 1) (n / 128))
-      (All-cons (λ octet. octet < 256) (n % 128) [] (omega arith) (All-nil (λ octet. octet < 256))))
+    (All-cons (λ octet. octet < 256) (n % 128) [] (omega arith) (All-nil (λ octet. octet < 256))))
 
 are_subidentifiers : (numbers : List ℕ) → AllByRecursion (λ n. n < 2 ^ 35) numbers → AreSubidentifiers (flat_map canon_subidentifier numbers) numbers
 are_subidentifiers [] h = refl
@@ -131,9 +133,9 @@ small_subidentifiers [] wire h = tt
 small_subidentifiers (x ∷ []) wire h = tt
 small_subidentifiers (x ∷ y ∷ rest) wire h = (omega (arith, wire.0, h.1.0), wider rest h.1.1)
   where
-  wider : (numbers : List ℕ) → AllByRecursion (λ n. n < 2 ^ 32) numbers → AllByRecursion (λ n. n < 2 ^ 35) numbers
-  wider [] h = tt
-  wider (n ∷ more) h = (omega (arith, h.0), wider more h.1)
+    wider : (numbers : List ℕ) → AllByRecursion (λ n. n < 2 ^ 32) numbers → AllByRecursion (λ n. n < 2 ^ 35) numbers
+    wider [] h = tt
+    wider (n ∷ more) h = (omega (arith, h.0), wider more h.1)
 
 content_is_subidentifiers : (name : List ℕ) → canon_content (object_id name) ≡ flat_map canon_subidentifier (subidentifiers name)
 unfolding canon_content
@@ -159,7 +161,7 @@ pub length-name : (name : List ℕ) → length (canon_content (object_id name)) 
 length-name name = let bound : length (flat_map canon_subidentifier (subidentifiers name)) ≤ 5 * length name = fewer name in
     subst (λ (content : List ℕ). length content ≤ 5 * length name) (sym (content_is_subidentifiers name)) bound
   where
-  fewer : (name : List ℕ) → length (flat_map canon_subidentifier (subidentifiers name)) ≤ 5 * length name
-  fewer [] = omega arith
-  fewer (x ∷ []) = omega arith
-  fewer (x ∷ y ∷ rest) = omega (arith, length-subidentifiers ((40 * x + y) ∷ rest))
+    fewer : (name : List ℕ) → length (flat_map canon_subidentifier (subidentifiers name)) ≤ 5 * length name
+    fewer [] = omega arith
+    fewer (x ∷ []) = omega arith
+    fewer (x ∷ y ∷ rest) = omega (arith, length-subidentifiers ((40 * x + y) ∷ rest))

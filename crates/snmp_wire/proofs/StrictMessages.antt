@@ -143,12 +143,27 @@ abbrev pdu_of : Message → List ℕ
 pdu_of message = canon_element (kind_tag message.kind) (canon_fields message ++ list_of message)
 
 length-fields : (message : Message) → IsMessageInRange message → length (canon_fields message ++ list_of message) ≤ 4000200000
-length-fields message h = omega (arith, length-append (canon_fields message) (list_of message), length-canon_fields message, element_most sequence_tag (canon_bindings message.bindings), h.total,
-    value_short (integer_value message.id) h.id, value_short (integer_value message.a) h.a, value_short (integer_value message.b) h.b)
+length-fields message h = omega (
+  arith,
+  length-append (canon_fields message) (list_of message),
+  length-canon_fields message,
+  element_most sequence_tag (canon_bindings message.bindings),
+  h.total,
+  value_short (integer_value message.id) h.id,
+  value_short (integer_value message.a) h.a,
+  value_short (integer_value message.b) h.b,
+)
 
 length-content : (message : Message) → IsMessageInRange message → length (canon_opening message ++ pdu_of message) ≤ 4000400000
-length-content message h = omega (arith, length-append (canon_opening message) (pdu_of message), length-canon_opening message, element_most (kind_tag message.kind) (canon_fields message ++ list_of message), length-fields message h,
-    value_short (integer_value message.version) h.version, value_short (octet_string message.community) h.community)
+length-content message h = omega (
+  arith,
+  length-append (canon_opening message) (pdu_of message),
+  length-canon_opening message,
+  element_most (kind_tag message.kind) (canon_fields message ++ list_of message),
+  length-fields message h,
+  value_short (integer_value message.version) h.version,
+  value_short (octet_string message.community) h.community,
+)
 
 spells_pdu : (message : Message) → IsMessageInRange message → SpellsPdu strict message (pdu_of message)
 unfolding canon_fields
@@ -174,9 +189,9 @@ pdu_octets message h =
     let a : List ℕ = canon_value (integer_value message.a) in
     let b : List ℕ = canon_value (integer_value message.b) in
     element_octets (kind_tag message.kind) (canon_fields message ++ list_of message) (kind_fits message.kind)
-      (All-append P (id ++ a ++ b) (list_of message)
-        (All-append P (id ++ a) b (All-append P id a (value_octets (integer_value message.id) h.id) (value_octets (integer_value message.a) h.a)) (value_octets (integer_value message.b) h.b))
-        (element_octets sequence_tag (canon_bindings message.bindings) (lit< tt) (bindings_octets message.bindings h.bindings)))
+    (All-append P (id ++ a ++ b) (list_of message)
+    (All-append P (id ++ a) b (All-append P id a (value_octets (integer_value message.id) h.id) (value_octets (integer_value message.a) h.a)) (value_octets (integer_value message.b) h.b))
+    (element_octets sequence_tag (canon_bindings message.bindings) (lit< tt) (bindings_octets message.bindings h.bindings)))
 
 -- the encoding is a spelling by the standard
 pub strict_canon : (message : Message) → IsMessageInRange message → Strict message (canon message)

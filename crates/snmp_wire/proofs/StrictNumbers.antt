@@ -136,11 +136,11 @@ is_unsigned_of width n narrow h =
       allowed = u.0;
     }
   where
-  zero_first : (width n : ℕ) → n < 2 ^ 64 → n < 256 ^ width → number_size n ≡ suc width → get_or (canon_number (pos n)) 0 0 ≡ 0
-  zero_first width n fits h e =
-    let text : octets (suc width) n ≡ canon_number (pos n) = ap (λ k. octets k n) (sym e) ∙ octets_from_zero n in
-    let none : n / 256 ^ width ≡ 0 = div-eq_of_lt h in
-    sym (ap (λ content. get_or content 0 0) text) ∙ first_octet width n ∙ ap (λ d. d % 256) none
+    zero_first : (width n : ℕ) → n < 2 ^ 64 → n < 256 ^ width → number_size n ≡ suc width → get_or (canon_number (pos n)) 0 0 ≡ 0
+    zero_first width n fits h e =
+        let text : octets (suc width) n ≡ canon_number (pos n) = ap (λ k. octets k n) (sym e) ∙ octets_from_zero n in
+        let none : n / 256 ^ width ≡ 0 = div-eq_of_lt h in
+        sym (ap (λ content. get_or content 0 0) text) ∙ first_octet width n ∙ ap (λ d. d % 256) none
 
 pub number_octets : (z : ℤ) → AreOctets (canon_number z)
 number_octets (pos n) = subst AreOctets (octets_from_zero n) (are_octets (number_size n) n)

@@ -37,28 +37,28 @@ put_header-pdu-requires-clause-room c = pdu_header_fits (parts_message c.args.pa
 pub put_text_element-community-requires-clause-room : goal.put_text_element-community-requires-clause-room
 put_text_element-community-requires-clause-room c =
     let opening = opening_fits (parts_message c.args.parts.now) c.args.total c.tag_of_kind.result c.tag_of_kind.ensures
-        (writes_fields (parts_message c.args.parts.now) c.args.total c.put_header-list.ensures (written_number c.args.parts.now.b (search rules) c.put_integer_element-b.ensures) (written_number c.args.parts.now.a (search rules) c.put_integer_element-a.ensures) (written_number c.args.parts.now.id (search rules) c.put_integer_element-id.ensures))
-        c.put_header-pdu.ensures c.requires.room in
+    (writes_fields (parts_message c.args.parts.now) c.args.total c.put_header-list.ensures (written_number c.args.parts.now.b (search rules) c.put_integer_element-b.ensures) (written_number c.args.parts.now.a (search rules) c.put_integer_element-a.ensures) (written_number c.args.parts.now.id (search rules) c.put_integer_element-id.ensures))
+    c.put_header-pdu.ensures c.requires.room in
     omega (arith, opening)
 
 pub put_integer_element-version-requires-clause-room : goal.put_integer_element-version-requires-clause-room
 put_integer_element-version-requires-clause-room c =
     let fits : SFits w32 c.args.parts.now.version = search rules in
     let opening = opening_fits (parts_message c.args.parts.now) c.args.total c.tag_of_kind.result c.tag_of_kind.ensures
-        (writes_fields (parts_message c.args.parts.now) c.args.total c.put_header-list.ensures (written_number c.args.parts.now.b (search rules) c.put_integer_element-b.ensures) (written_number c.args.parts.now.a (search rules) c.put_integer_element-a.ensures) (written_number c.args.parts.now.id (search rules) c.put_integer_element-id.ensures))
-        c.put_header-pdu.ensures c.requires.room in
+    (writes_fields (parts_message c.args.parts.now) c.args.total c.put_header-list.ensures (written_number c.args.parts.now.b (search rules) c.put_integer_element-b.ensures) (written_number c.args.parts.now.a (search rules) c.put_integer_element-a.ensures) (written_number c.args.parts.now.id (search rules) c.put_integer_element-id.ensures))
+    c.put_header-pdu.ensures c.requires.room in
     omega (arith, opening, length-handed c.args.parts.now.version fits, c.put_text_element-community.ensures.begins)
 
 pub put_header-requires-clause-room : goal.put_header-requires-clause-room
 put_header-requires-clause-room c = message_header_fits (parts_message c.args.parts.now) c.args.total
     (writes_front (parts_message c.args.parts.now) c.args.total c.tag_of_kind.result c.tag_of_kind.ensures
-        (writes_fields (parts_message c.args.parts.now) c.args.total c.put_header-list.ensures (written_number c.args.parts.now.b (search rules) c.put_integer_element-b.ensures) (written_number c.args.parts.now.a (search rules) c.put_integer_element-a.ensures) (written_number c.args.parts.now.id (search rules) c.put_integer_element-id.ensures))
-        c.put_header-pdu.ensures c.put_text_element-community.ensures (written_number c.args.parts.now.version (search rules) c.put_integer_element-version.ensures))
+    (writes_fields (parts_message c.args.parts.now) c.args.total c.put_header-list.ensures (written_number c.args.parts.now.b (search rules) c.put_integer_element-b.ensures) (written_number c.args.parts.now.a (search rules) c.put_integer_element-a.ensures) (written_number c.args.parts.now.id (search rules) c.put_integer_element-id.ensures))
+    c.put_header-pdu.ensures c.put_text_element-community.ensures (written_number c.args.parts.now.version (search rules) c.put_integer_element-version.ensures))
     c.requires.room
 
 pub returns : goal.returns
 returns c = writes_head (parts_message c.args.parts.now) c.args.total
     (writes_front (parts_message c.args.parts.now) c.args.total c.tag_of_kind.result c.tag_of_kind.ensures
-        (writes_fields (parts_message c.args.parts.now) c.args.total c.put_header-list.ensures (written_number c.args.parts.now.b (search rules) c.put_integer_element-b.ensures) (written_number c.args.parts.now.a (search rules) c.put_integer_element-a.ensures) (written_number c.args.parts.now.id (search rules) c.put_integer_element-id.ensures))
-        c.put_header-pdu.ensures c.put_text_element-community.ensures (written_number c.args.parts.now.version (search rules) c.put_integer_element-version.ensures))
+    (writes_fields (parts_message c.args.parts.now) c.args.total c.put_header-list.ensures (written_number c.args.parts.now.b (search rules) c.put_integer_element-b.ensures) (written_number c.args.parts.now.a (search rules) c.put_integer_element-a.ensures) (written_number c.args.parts.now.id (search rules) c.put_integer_element-id.ensures))
+    c.put_header-pdu.ensures c.put_text_element-community.ensures (written_number c.args.parts.now.version (search rules) c.put_integer_element-version.ensures))
     c.put_header.ensures
