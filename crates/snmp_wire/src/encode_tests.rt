@@ -1,8 +1,8 @@
 //! Written messages against octets that were worked out by hand.
 
-ghost use Rattle.std.specs.Prelude.{IsTrue};
-ghost use Rattle.snmp_wire.specs.Canon.{IsEncodable, IsEncodableValue};
-ghost use Rattle.snmp_wire.specs.Message.{datum, var_bind};
+ghost use Rattle.std.specs.Prelude.{IsTrue, All, ◌≡◌, ◌≤◌, length};
+ghost use Rattle.snmp_wire.specs.Canon.{IsEncodable, IsEncodableValue, canon_bindings};
+ghost use Rattle.snmp_wire.specs.Message.{datum, var_bind, var_binds};
 
 use crate::{
     Binding, Kind, Oid, Parts, ValueRef, binding_size, encode, encode_binding, encode_head,
@@ -11,7 +11,10 @@ use crate::{
 use std::process::Abort;
 
 /// A message of version 1, community `public` and id 1.
-fn message<'a>(kind: Kind, b: i32, bindings: &'a [Binding<'a>]) -> Parts<'a> {
+fn message<'a>(kind: Kind, b: i32, bindings: &'a [Binding<'a>]) -> Parts<'a>
+    ensures community { length result.community.now ≤ 65535 }
+    ensures bindings { result.bindings.now ≡ bindings.now }
+{
     Parts {
         version: 1,
         community: b"public",
@@ -68,11 +71,21 @@ fn binding<'a>(rt: &impl Abort, name: &[u32], value: ValueRef<'a>) -> Binding<'a
     Binding { name, value }
 }
 
+/// How many octets one binding takes: not too many for a message.
+fn octets_of(bindings: &[Binding<'_>]) -> u64
+    requires one { length bindings.now ≡ 1 }
+    requires encodable { All (λ b. IsEncodable (var_bind b)) bindings.now }
+    ensures { length (canon_bindings (var_binds bindings.now)) ≤ 4000000000 }
+{
+    binding_size(&bindings[0])
+}
+
 /// Whether the message of this one binding is these octets: in a slice that is longer, in one that just fits, and in none that is shorter. What stands behind them stays.
 fn assert_message(rt: &impl Abort, kind: Kind, b: i32, binding: Binding<'_>, octets: &[u8])
     requires { IsEncodable (var_bind binding) }
 {
     let bindings = [binding];
+    assert!(rt; octets_of(&bindings) < 512);
     let parts = message(kind, b, &bindings);
     let len = octets.len();
     let mut out = [0xEE; 512];
@@ -198,4 +211,14 @@ fn the_longest_name(rt: HostRuntime) {
         ]
         .as_slice()
     );
+}
+
+#[test]
+fn in_pieces(rt: HostRuntime) {
+    let parts = message(Kind::Response, 0, &[]);
+    let mut out = [0xEE; 64];
+    assert_eq!(rt; head_size(&parts, 17), 26);
+    assert_eq!(rt; encode_head(&parts, 17, &mut out[..25]), None);
+    assert_eq!(rt; encode_head(&parts, 17, &mut out), Some(26));
+    assert_eq!(rt; head_size(&parts, 4000000000), 38);
 }
