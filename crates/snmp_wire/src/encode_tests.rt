@@ -4,10 +4,7 @@ ghost use Rattle.std.specs.Prelude.{IsTrue, All, ◌≡◌, ◌≤◌, length};
 ghost use Rattle.snmp_wire.specs.Canon.{IsEncodable, IsEncodableValue, canon_bindings};
 ghost use Rattle.snmp_wire.specs.Message.{datum, var_bind, var_binds};
 
-use crate::{
-    Binding, Kind, Oid, Parts, ValueRef, binding_size, encode, encode_binding, encode_head,
-    head_size, size,
-};
+use crate::{Binding, Kind, Oid, Parts, ValueRef, binding_size, encode, encode_binding, size};
 use std::process::Abort;
 
 /// A message of version 1, community `public` and id 1.
@@ -211,14 +208,4 @@ fn the_longest_name(rt: HostRuntime) {
         ]
         .as_slice()
     );
-}
-
-#[test]
-fn in_pieces(rt: HostRuntime) {
-    let parts = message(Kind::Response, 0, &[]);
-    let mut out = [0xEE; 64];
-    assert_eq!(rt; head_size(&parts, 17), 26);
-    assert_eq!(rt; encode_head(&parts, 17, &mut out[..25]), None);
-    assert_eq!(rt; encode_head(&parts, 17, &mut out), Some(26));
-    assert_eq!(rt; head_size(&parts, 4000000000), 38);
 }
