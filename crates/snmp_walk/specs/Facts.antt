@@ -35,11 +35,11 @@ abbrev pub IsDone : WalkEnd → Type 0
 IsDone (ending.Done n) = Unit {0}
 IsDone _ = ⊥
 
--- what is promised of a run over an honest link
-pub record WalkFacts (agents : Agents) (first : Walker) (rows : List VarBind) (end : WalkEnd) : Type 0 where
-  pub part : IsPart (next_of agents) (got_of agents) first rows
+-- what is promised of a run over an honest link, which gave these rows to the sink, and then the one that was refused, if any was
+pub record WalkFacts (agents : Agents) (first : Walker) (rows refused : List VarBind) (end : WalkEnd) : Type 0 where
+  pub part : IsPart (next_of agents) (got_of agents) first (rows ++ refused)
   pub lawful : IsLawfulEnd agents first rows end
-  -- over one table what was given is a beginning of the walk,
-  pub beginning : (view : MibView) (got : VarBind) → agents.tables ≡ view ∷ [] → IsGet view first.asked got → (more : List VarBind) × (walk_at first view got ≡ rows ++ more)
+  -- over one table what was given, with what was refused, is a beginning of the walk,
+  pub beginning : (view : MibView) (got : VarBind) → agents.tables ≡ view ∷ [] → IsGet view first.asked got → (more : List VarBind) × (walk_at first view got ≡ (rows ++ refused) ++ more)
   -- and where the walk is done it is all of it
   pub all : (view : MibView) (got : VarBind) → agents.tables ≡ view ∷ [] → IsGet view first.asked got → IsDone end → rows ≡ walk_at first view got
