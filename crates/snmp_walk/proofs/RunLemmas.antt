@@ -223,7 +223,7 @@ module _ {S : Type 0} (takes : S → VarBind → Result (Unit {0}) SinkFault →
       let any = subst (IsPart Rises Named first) cut (keeps_part first w (take_of w m).1 given (take_of w m).0 stands (taken_any first w given m stands)) in
       record {
         refused = p ∷ [];
-        sink = (between, given-append S takes given rows before s between sunk sink, p, refl, refused);
+        sink = (between, given-append S takes given rows before s between sunk sink, (p, refl, refused));
         part = part_front Rises Named first ((given ++ rows) ++ p ∷ []) left any;
         facts = λ h laws k.
             let whole = subst (IsPart (next_of agents) (got_of agents) first) cut (advances_part agents laws first w (take_of w m).1 given (take_of w m).0
