@@ -9,7 +9,7 @@ ghost use Rattle.snmp_wire.specs.Message.Datum.{end_of_mib_view};
 ghost use Rattle.snmp_table.specs.Row.{entry_of, datum_of, IsShortRow};
 ghost use Rattle.snmp_table.specs.Places.{IsRising, IsBeforeNone, IsBeforeAll, is_up_to, bindings_of, last_name, HasBeginning};
 ghost use Rattle.snmp_table.specs.Listing.{nth_or_end};
-ghost use Rattle.snmp_table.specs.Stated.{IsTableOf};
+ghost use Rattle.snmp_table.specs.Stated.{IsTableOf, IsFirstFault};
 ghost use Rattle.snmp_table.specs.Table.{MibView};
 ghost use Rattle.std.specs.Prelude.{List, ℕ};
 
@@ -115,6 +115,11 @@ impl Table {
 /// Lines state one table at most.
 pub fn one_table()
     ensures { (lines : List (List ℕ)) (v w : MibView) → IsTableOf lines v → IsTableOf lines w → v ≡ w }
+{}
+
+/// Lines that state a table have no fault: only want of memory keeps them from being read.
+pub fn no_fault()
+    ensures { (lines : List (List ℕ)) (view : MibView) (fault : TableError) → IsTableOf lines view → IsFirstFault lines fault → fault ≡ TableError.Memory }
 {}
 
 /// The row of this name.

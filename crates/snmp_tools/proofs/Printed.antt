@@ -1,5 +1,5 @@
 -- What a sink of lines writes of the rows that it is given.
-use Rattle.std.proofs.Common.{◌≡◌, ◌<◌, ◌⊎◌, ◌++◌, ℕ, List, [], ◌∷◌, Option, Result, sym, ◌∙◌, ap, subst}
+use Rattle.std.proofs.Common.{◌≡◌, ◌<◌, ◌⊎◌, ◌++◌, ℕ, List, [], ◌∷◌, Option, Result, sym, ◌∙◌, ap, subst, append-nil}
 use Rattle.snmp_wire.specs.Message.{VarBind}
 use Rattle.snmp_walk.specs.declared.end.SinkFault.{SinkFault}
 use Rattle.snmp_walk.specs.declared.end.SinkFault.TheVariants as fault
@@ -22,26 +22,27 @@ module _ {S : Type 0} (taken : S → Option (List ℕ)) (count : S → ℕ) wher
       let rest = printed h.0 new more h.2 in
       (rest.0 ∙ ap (λ (t : Option (List ℕ)). appended t (lines_of more)) h.1.0 ∙ appended-twice (taken old) (line_of p) (lines_of more), rest.1 ∙ h.1.1)
 
-  refused : (old between new : S) (rows : List VarBind) (why : SinkFault) → Given takes old rows between → Refused takes between why new
-      → IsPrintedUpTo (taken old) (count old) rows (ending.Sink why) (taken new) (count new)
-  refused old between new rows fault.Output given refusal =
+  refused : (old between new : S) (rows turned : List VarBind) (why : SinkFault) → Given takes old rows between → Refused takes between turned why new
+      → IsPrintedUpTo (taken old) (count old) rows turned (ending.Sink why) (taken new) (count new)
+  refused old between new rows turned fault.Output given refusal =
       let before = printed old between rows given in
-      let P : Option (List ℕ) → Type 0 = λ t. IsBegun t (taken new) (line_of refusal.0) in
+      let line : lines_of turned ≡ line_of refusal.0 = ap lines_of refusal.1 ∙ append-nil (line_of refusal.0) in
+      let P : Option (List ℕ) → Type 0 = λ t. IsBegun t (taken new) (lines_of turned) in
       let Q : ℕ → Type 0 = λ n. Rose n (count new) in
-      ((refusal.0, subst P before.0 refusal.1.0), subst Q before.1 refusal.1.1)
-  refused old between new rows fault.Memory given refusal =
+      (subst P before.0 (subst (IsBegun (taken between) (taken new)) (sym line) refusal.2.0), subst Q before.1 refusal.2.1)
+  refused old between new rows turned fault.Memory given refusal =
       let before = printed old between rows given in
-      (refusal.1.0 ∙ before.0, refusal.1.1 ∙ before.1)
+      (refusal.2.0 ∙ before.0, refusal.2.1 ∙ before.1)
 
-  pub printed_up_to : (old new : S) (rows : List VarBind) (why : WalkEnd) → Took takes old rows why new
-      → IsPrintedUpTo (taken old) (count old) rows why (taken new) (count new)
-  printed_up_to old new rows (ending.Sink why) h = refused old h.0 new rows why h.1 h.2
-  printed_up_to old new rows (ending.Done n) h = printed old new rows h
-  printed_up_to old new rows (ending.Fault status index) h = printed old new rows h
-  printed_up_to old new rows (ending.NoProgress asked) h = printed old new rows h
-  printed_up_to old new rows ending.BadReply h = printed old new rows h
-  printed_up_to old new rows (ending.NotIncreasing last got) h = printed old new rows h
-  printed_up_to old new rows ending.TooManyRequests h = printed old new rows h
-  printed_up_to old new rows ending.RequestTooLong h = printed old new rows h
-  printed_up_to old new rows ending.NoResponse h = printed old new rows h
-  printed_up_to old new rows ending.Link h = printed old new rows h
+  pub printed_up_to : (old new : S) (rows turned : List VarBind) (why : WalkEnd) → Took takes old rows turned why new
+      → IsPrintedUpTo (taken old) (count old) rows turned why (taken new) (count new)
+  printed_up_to old new rows turned (ending.Sink why) h = refused old h.0 new rows turned why h.1 h.2
+  printed_up_to old new rows turned (ending.Done n) h = printed old new rows h.0
+  printed_up_to old new rows turned (ending.Fault status index) h = printed old new rows h.0
+  printed_up_to old new rows turned (ending.NoProgress asked) h = printed old new rows h.0
+  printed_up_to old new rows turned ending.BadReply h = printed old new rows h.0
+  printed_up_to old new rows turned (ending.NotIncreasing last got) h = printed old new rows h.0
+  printed_up_to old new rows turned ending.TooManyRequests h = printed old new rows h.0
+  printed_up_to old new rows turned ending.RequestTooLong h = printed old new rows h.0
+  printed_up_to old new rows turned ending.NoResponse h = printed old new rows h.0
+  printed_up_to old new rows turned ending.Link h = printed old new rows h.0

@@ -1,2 +1,3 @@
+pub mod Job
 pub mod Lines
 pub mod Message

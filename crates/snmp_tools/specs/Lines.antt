@@ -15,8 +15,8 @@ TakesLine before count binding (Ok _) after now = (after ≡ appended before (li
 TakesLine before count binding (Err fault.Output) after now = IsBegun before after (line_of binding) × Rose count now
 TakesLine before count binding (Err fault.Memory) after now = (after ≡ before) × (now ≡ count)
 
--- The lines of the rows were written, whole but for a walk that the output ended: then a beginning of one more line follows them.
-abbrev pub IsPrintedUpTo : Option (List ℕ) → ℕ → List VarBind → WalkEnd → Option (List ℕ) → ℕ → Type 0
-IsPrintedUpTo before count rows (ending.Sink fault.Output) after now =
-    ((next : VarBind) × IsBegun (appended before (lines_of rows)) after (line_of next)) × Rose count now
-IsPrintedUpTo before count rows _ after now = (after ≡ appended before (lines_of rows)) × (now ≡ count)
+-- The lines of the rows were written, whole, and where the output ended the walk a beginning of the line of the row that it refused.
+abbrev pub IsPrintedUpTo : Option (List ℕ) → ℕ → (rows refused : List VarBind) → WalkEnd → Option (List ℕ) → ℕ → Type 0
+IsPrintedUpTo before count rows refused (ending.Sink fault.Output) after now =
+    IsBegun (appended before (lines_of rows)) after (lines_of refused) × Rose count now
+IsPrintedUpTo before count rows refused _ after now = (after ≡ appended before (lines_of rows)) × (now ≡ count)

@@ -1,8 +1,9 @@
 //! From words to status.
+ghost use Rattle.std.specs.Prelude.{◌≡◌, true, Some};
+ghost use Rattle.snmp_words.specs.Words.{WalkWords, is_taken, stated_job, walk};
+ghost use Rattle.snmp_tools.specs.Job.{texts, Does, WritesABeginning, WritesAll};
 
-ghost use Rattle.std.specs.Prelude.{◌≤◌};
-
-use crate::job::run_job;
+use crate::job::{run_job, tell};
 use crate::lines::Lines;
 use snmp_ports::{Files, Output, write_all};
 use snmp_words::{UsageError, read_words};
@@ -18,26 +19,34 @@ pub fn tool<F: Files, O: Output, E: Output>(
     out: &mut Lines<O>,
     err: &mut E,
 ) -> u8
-    ensures { result ≤ 2 }
+    ensures does { (w : WalkWords) → is_taken (texts words.now) ≡ true → stated_job (texts words.now) ≡ Some (walk w)
+        → Does w (F.text_at files.now) (O.taken out.old.out, O.fault_count out.old.out) (O.taken out.new.out, O.fault_count out.new.out)
+            (E.taken err.old, E.fault_count err.old) (E.taken err.new, E.fault_count err.new) result }
+    ensures beginning { (w : WalkWords) → is_taken (texts words.now) ≡ true → stated_job (texts words.now) ≡ Some (walk w)
+        → WritesABeginning w (F.text_at files.now) (O.taken out.old.out, O.fault_count out.old.out) (O.taken out.new.out, O.fault_count out.new.out) }
+    ensures all { (w : WalkWords) → is_taken (texts words.now) ≡ true → stated_job (texts words.now) ≡ Some (walk w)
+        → WritesAll w (F.text_at files.now) (O.taken out.old.out, O.fault_count out.old.out) (O.taken out.new.out, O.fault_count out.new.out) result }
 {
     match read_words(alloc, words) {
         Ok(job) => run_job(alloc, &job, files, out, err),
-        Err(UsageError::Parse { text, help: true }) => match write_all(
-            &mut out.out,
-            text.as_bytes(),
-        ) {
-            Ok(()) => 0,
-            Err(_) => {
-                let _ = write_all(err, b"The output failed.\n");
-                1
-            }
-        },
+        Err(UsageError::Parse { text, help: true }) => print_help(&text, out, err),
         Err(UsageError::Parse { text, help: false }) => {
-            let _ = write_all(err, text.as_bytes());
+            tell(err, text.as_bytes());
             1
         }
         Err(UsageError::Memory) => {
-            let _ = write_all(err, b"Out of memory.\n");
+            tell(err, b"Out of memory.\n");
+            1
+        }
+    }
+}
+
+/// Prints the help that was asked for, and answers the status.
+fn print_help<O: Output, E: Output>(text: &str, out: &mut Lines<O>, err: &mut E) -> u8 {
+    match write_all(&mut out.out, text.as_bytes()) {
+        Ok(()) => 0,
+        Err(_) => {
+            tell(err, b"The output failed.\n");
             1
         }
     }

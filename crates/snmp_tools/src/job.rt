@@ -1,10 +1,12 @@
 //! A job: its words are judged, and it is done.
-ghost use Rattle.std.specs.Prelude.{◌≡◌, ◌≢◌, ◌≤◌, ◌++◌, [], codes, IfOk, Some};
+ghost use Rattle.std.specs.Prelude.{◌≡◌, ◌++◌, ⊥, List, ℕ, codes, None, Some, OnOk, IfOk, IfErr, IfSome, IfNone};
 ghost use Rattle.std.specs.Str.Lines.{lines};
 ghost use Rattle.snmp_ports.specs.Files.{HoldsIfKnown};
 ghost use Rattle.snmp_table.specs.Stated.{IsTableOf};
-ghost use Rattle.snmp_walk.specs.Facts.{IsFresh};
-ghost use Rattle.snmp_walk.specs.Request.{started};
+ghost use Rattle.snmp_table.specs.Table.{IsMibView};
+ghost use Rattle.snmp_words.specs.Words.{WalkWords, job_words, walk, walk_words};
+ghost use Rattle.snmp_tools.specs.Message.{message_of};
+ghost use Rattle.snmp_tools.specs.Job.{Holdings, other_letter, IsTablePath, IsPathIn, Names, IsFileFault, IsRefusal, IsWalkOver, IsWalkFrom, IsOutcome, IsWritten, IsTold, Does, WritesABeginning, WritesAll};
 
 use crate::failure::{Failure, Words};
 use crate::lines::{Lines, print_walk};
@@ -35,42 +37,67 @@ pub fn run_job<F: Files, O: Output, E: Output>(
     out: &mut Lines<O>,
     err: &mut E,
 ) -> u8
-    ensures { result ≤ 2 }
+    ensures does { (words : WalkWords) → job_words job.now ≡ walk words
+        → Does words (F.text_at files.now) (O.taken out.old.out, O.fault_count out.old.out) (O.taken out.new.out, O.fault_count out.new.out)
+            (E.taken err.old, E.fault_count err.old) (E.taken err.new, E.fault_count err.new) result }
+    ensures beginning { (words : WalkWords) → job_words job.now ≡ walk words
+        → WritesABeginning words (F.text_at files.now) (O.taken out.old.out, O.fault_count out.old.out) (O.taken out.new.out, O.fault_count out.new.out) }
+    ensures all { (words : WalkWords) → job_words job.now ≡ walk words
+        → WritesAll words (F.text_at files.now) (O.taken out.old.out, O.fault_count out.old.out) (O.taken out.new.out, O.fault_count out.new.out) result }
 {
     let Job::Walk(walk) = job;
     match walk_lines(alloc, walk, files, out) {
         Ok(()) => 0,
-        Err(failure) => match report(alloc, &failure, walk, err) {
-            Ok(()) => failure.status(),
-            Err(_) => 1,
-        },
+        Err(failure) => report(alloc, &failure, walk, err),
     }
 }
 
-/// Writes the message of a failure, or that there is no memory for it.
+/// Tells a failure on `err`, and answers its status. Where there is no memory for its message, that is told, and the status is 1.
 fn report<E: Output>(
     alloc: Global,
     failure: &Failure,
     walk: &WalkJob<'_>,
     err: &mut E,
-) -> Result<(), AllocError> {
+) -> u8
+    ensures { IsTold (walk_words walk.now) (Some failure.now) (E.taken err.old, E.fault_count err.old) (E.taken err.new, E.fault_count err.new) result }
+{
+    match message_line(alloc, failure, walk) {
+        Ok(text) => {
+            tell(err, &text);
+            failure.status()
+        }
+        Err(_) => {
+            tell(err, b"Out of memory.\n");
+            1
+        }
+    }
+}
+
+/// The message of a failure, with its newline.
+fn message_line(
+    alloc: Global,
+    failure: &Failure,
+    walk: &WalkJob<'_>,
+) -> Result<Vec<u8>, AllocError>
+    ensures { IfOk result (λ text. (path : List ℕ) × IsPathIn walk.now.agent.now path
+        × (text.items ≡ message_of (record { agent = walk.now.agent.now; path = path; name = walk.now.name.now }) failure.now ++ codes "\n")) }
+{
     let words = Words {
         agent: walk.agent,
-        path: walk.agent.strip_prefix("table:").unwrap_or(""),
+        path: path_in(walk.agent),
         name: walk.name,
     };
     let mut text = Vec::new(alloc);
-    let mut made = failure.message(words, &mut text);
-    if made.is_ok() {
-        made = text.push(b'\n').map_err(AllocError::from);
-    }
-    let told = match made {
-        Ok(()) => write_all(err, &text),
-        Err(_) => write_all(err, b"Out of memory.\n"),
-    };
-    // There is nowhere left to tell a fault of this output.
-    let _ = told;
-    made
+    failure.message(words, &mut text)?;
+    text.push(b'\n')?;
+    Ok(text)
+}
+
+/// Writes a text. A fault is passed over: there is nowhere left to tell it.
+pub(crate) fn tell<E: Output>(err: &mut E, text: &[u8])
+    ensures { IsWritten (E.taken err.old, E.fault_count err.old) text.now (E.taken err.new, E.fault_count err.new) }
+{
+    let _ = write_all(err, text);
 }
 
 /// Writes the lines of a walk over the agent in memory that serves the table of a file.
@@ -79,13 +106,14 @@ fn walk_lines<F: Files, O: Output>(
     walk: &WalkJob<'_>,
     files: &F,
     out: &mut Lines<O>,
-) -> Result<(), Failure> {
-    judge_letters(walk.letters)?;
-    let path = table_path(walk.agent)?;
-    let root = root_of(walk.name)?;
-    let text = text_of(alloc, files, path)?;
-    let table = table_of(alloc, &text)?;
-    let core = core_of(root)?;
+) -> Result<(), Failure>
+    ensures done { OnOk result (IsOutcome (walk_words walk.now) (F.text_at files.now) (O.taken out.old.out, O.fault_count out.old.out) (O.taken out.new.out, O.fault_count out.new.out) None) }
+    ensures failed { IfErr result (λ failure. IsOutcome (walk_words walk.now) (F.text_at files.now) (O.taken out.old.out, O.fault_count out.old.out) (O.taken out.new.out, O.fault_count out.new.out) (Some failure)) }
+{
+    let Start { table, core } = match start_of(alloc, walk, files) {
+        Ok(start) => start,
+        Err(failure) => return Err(failure),
+    };
     let config = Config {
         community: COMMUNITY,
         max_size: MAX_SIZE,
@@ -97,63 +125,97 @@ fn walk_lines<F: Files, O: Output>(
     }
 }
 
-/// The table that the text states.
-fn table_of(alloc: Global, text: &[u8]) -> Result<Table, Failure>
-    ensures ok { IfOk result (IsTableOf (lines text.now)) }
-{
-    match Table::read(alloc, text) {
-        Ok(table) => Ok(table),
-        Err(fault) => Err(Failure::Table(fault)),
-    }
+/// A walk before its first request, and the table that it walks over.
+#[derive(Drop)]
+struct Start {
+    table: Table,
+    core: WalkCore,
 }
 
-/// The walk of the instances below the root, by GetNext.
-fn core_of(root: Oid) -> Result<WalkCore, Failure>
-    ensures fresh { IfOk result IsFresh }
-    ensures started { IfOk result (λ core. core ≡ started root Mode.Plain Method.Next (codes "public") 1) }
+/// The walk that the words name.
+fn start_of<F: Files>(alloc: Global, walk: &WalkJob<'_>, files: &F) -> Result<Start, Failure>
+    ensures ok { IfOk result (λ start. (root : List ℕ) × IsWalkOver (walk_words walk.now) (F.text_at files.now) start.table root
+        × IsMibView start.table × IsWalkFrom root start.core) }
+    ensures err { IfErr result (IsRefusal (walk_words walk.now) (F.text_at files.now)) }
 {
+    let (path, root) = match judge(walk) {
+        Ok(judged) => judged,
+        Err(failure) => return Err(failure),
+    };
+    let table = match table_at(alloc, files, path) {
+        Ok(table) => table,
+        Err(failure) => return Err(failure),
+    };
     match WalkCore::start(root, Mode::Plain, Method::Next, COMMUNITY, FIRST_ID) {
-        Ok(core) => Ok(core),
+        Ok(core) => Ok(Start { table, core }),
         Err(_) => Err(Failure::NotWire),
     }
 }
 
-/// Only `n`, for numeric names, has a meaning.
-pub(crate) fn judge_letters(letters: &str) -> Result<(), Failure> {
-    for letter in letters.as_bytes() {
-        if *letter != b'n' {
-            return Err(Failure::Letter(*letter));
-        }
-    }
-    Ok(())
-}
-
-/// The path behind `table:`, which isn't empty.
-pub(crate) fn table_path(agent: &str) -> Result<&str, Failure>
-    ensures ok { IfOk result (λ path. (path.now ≢ []) × (agent.now ≡ codes "table:" ++ path.now)) }
+/// The path of the table file, and the root, that the words name.
+fn judge<'a>(walk: &WalkJob<'a>) -> Result<(&'a str, Oid), Failure>
+    ensures ok { IfOk result (λ judged. Names (walk_words walk.now) judged.0.now judged.1) }
+    ensures err { (files : Holdings) → IfErr result (IsRefusal (walk_words walk.now) files) }
 {
-    match agent.strip_prefix("table:") {
-        Some(path) if !path.is_empty() => Ok(path),
-        _ => Err(Failure::Agent),
+    if let Some(letter) = other_letter(walk.letters) {
+        return Err(Failure::Letter(letter));
     }
-}
-
-/// The identifier that the name spells.
-pub(crate) fn root_of(name: &str) -> Result<Oid, Failure> {
-    match parse_numeric(name.as_bytes()) {
-        Ok(root) => Ok(root),
+    let Some(path) = table_path(walk.agent) else {
+        return Err(Failure::Agent);
+    };
+    match parse_numeric(walk.name.as_bytes()) {
+        Ok(root) => Ok((path, root)),
         Err(OidTextError::BadNumber(_)) => Err(Failure::BadNumber),
         Err(OidTextError::TooLong) => Err(Failure::NameTooLong),
     }
 }
 
-/// The text of the table file.
-pub(crate) fn text_of<F: Files>(alloc: Global, files: &F, path: &str) -> Result<Vec<u8>, Failure>
-    ensures ok { IfOk result (λ text. HoldsIfKnown (F.text_at files.now path.now) (Some text.items)) }
+/// The first letter that has no meaning: only `n` has one, numeric names.
+pub(crate) fn other_letter(letters: &str) -> Option<u8>
+    ensures { result ≡ other_letter letters.now }
 {
-    match files.read(alloc, path) {
-        Ok(text) => Ok(text),
-        Err(FileFault::Unreadable) => Err(Failure::Unreadable),
-        Err(FileFault::Memory) => Err(Failure::Memory),
+    'letters: for letter in letters.as_bytes() {
+        if *letter != b'n' {
+            return Some(*letter);
+        }
+    }
+    None
+}
+
+/// The path behind `table:`, which isn't empty, where the agent is a table file.
+pub(crate) fn table_path(agent: &str) -> Option<&str>
+    ensures some { IfSome result (λ path. IsTablePath agent.now path.now) }
+    ensures none { IfNone result ((path : List ℕ) → IsTablePath agent.now path → ⊥) }
+{
+    match agent.strip_prefix("table:") {
+        Some(path) if !path.is_empty() => Some(path),
+        _ => None,
+    }
+}
+
+/// The path that messages repeat: nothing where the agent is no table file.
+fn path_in(agent: &str) -> &str
+    ensures { IsPathIn agent.now result.now }
+{
+    match table_path(agent) {
+        Some(path) => path,
+        None => "",
+    }
+}
+
+/// The table that the file at this path states.
+pub(crate) fn table_at<F: Files>(alloc: Global, files: &F, path: &str) -> Result<Table, Failure>
+    ensures view { IfOk result IsMibView }
+    ensures table { IfOk result (λ table. (text : List ℕ) × HoldsIfKnown (F.text_at files.now path.now) (Some text) × IsTableOf (lines text) table) }
+    ensures err { IfErr result (IsFileFault (F.text_at files.now path.now)) }
+{
+    let text = match files.read(alloc, path) {
+        Ok(text) => text,
+        Err(FileFault::Unreadable) => return Err(Failure::Unreadable),
+        Err(FileFault::Memory) => return Err(Failure::Memory),
+    };
+    match Table::read(alloc, &text) {
+        Ok(table) => Ok(table),
+        Err(fault) => Err(Failure::Table(fault)),
     }
 }

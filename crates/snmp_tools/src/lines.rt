@@ -58,8 +58,9 @@ pub(crate) fn print_walk<L: Link, O: Output>(
     out: &mut Lines<O>,
 ) -> WalkEnd
     requires { IsFresh core }
-    ensures { (rows : List VarBind) × IsPrintedUpTo (O.taken out.old.out) (O.fault_count out.old.out) rows result (O.taken out.new.out) (O.fault_count out.new.out)
-        × (L.honest link.old → WalkFacts (L.agents link.old) core rows result) }
+    ensures { (rows : List VarBind) × (refused : List VarBind)
+        × IsPrintedUpTo (O.taken out.old.out) (O.fault_count out.old.out) rows refused result (O.taken out.new.out) (O.fault_count out.new.out)
+        × (L.honest link.old → WalkFacts (L.agents link.old) core rows refused result) }
 {
     run_walk(link, core, RETRIES, out)
 }
