@@ -2,7 +2,7 @@
 
 use crate::{Config, Outcome, Why, answer};
 use snmp_table::Table;
-use snmp_wire::{Binding, Kind, Parts, ValueRef, decode, encode, parse_numeric};
+use snmp_wire::{ValueRef, decode};
 use std::process::Abort;
 use std::test::Fail;
 
@@ -96,51 +96,79 @@ fn a_reply_fits_to_the_octet(rt: HostRuntime) -> Result<(), Fail> {
     Ok(())
 }
 
-/// Asks by a GetBulk with these numbers for three names below 1.3.6.1.4.1.32473.1: itself twice, and its row 5.
+/// The GetBulk of three names, 1.3.6.1.4.1.32473.1 twice and 1.3.6.1.4.1.32473.1.5.0, with non-repeaters and max-repetitions in four octets each.
+const THREE: [u8; 79] = [
+    0x30, 0x4D, 0x02, 0x01, 0x01, 0x04, 0x06, 0x70, 0x75, 0x62, 0x6C, 0x69, 0x63, 0xA5, 0x40, 0x02,
+    0x01, 0x01, 0x02, 0x04, 0x00, 0x00, 0x00, 0x00, 0x02, 0x04, 0x00, 0x00, 0x00, 0x00, 0x30, 0x2F,
+    0x30, 0x0D, 0x06, 0x09, 0x2B, 0x06, 0x01, 0x04, 0x01, 0x81, 0xFD, 0x59, 0x01, 0x05, 0x00, 0x30,
+    0x0D, 0x06, 0x09, 0x2B, 0x06, 0x01, 0x04, 0x01, 0x81, 0xFD, 0x59, 0x01, 0x05, 0x00, 0x30, 0x0F,
+    0x06, 0x0B, 0x2B, 0x06, 0x01, 0x04, 0x01, 0x81, 0xFD, 0x59, 0x01, 0x05, 0x00, 0x05, 0x00,
+];
+
+/// The GetBulk of the three names with these numbers is answered by these rows, in so many octets.
 fn assert_three(
     rt: &impl Abort,
+    table: &Table,
     non_repeaters: i32,
     repetitions: i32,
     octets: usize,
     rows: &[(u32, i32)],
-    table: &Table,
 ) -> Result<(), Fail> {
-    let root = parse_numeric(b"1.3.6.1.4.1.32473.1")?;
-    let same = parse_numeric(b"1.3.6.1.4.1.32473.1")?;
-    let fifth = parse_numeric(b"1.3.6.1.4.1.32473.1.5.0")?;
-    let mut request = [0; 200];
-    let parts = Parts {
-        version: 1,
-        community: b"public",
-        kind: Kind::GetBulkRequest,
-        id: 1,
-        a: non_repeaters,
-        b: repetitions,
-        bindings: &[
-            Binding {
-                name: root,
-                value: ValueRef::Null,
-            },
-            Binding {
-                name: same,
-                value: ValueRef::Null,
-            },
-            Binding {
-                name: fifth,
-                value: ValueRef::Null,
-            },
-        ],
-    };
-    let size = encode(&parts, &mut request);
-    assert!(rt; size.is_some());
-    let size = size.unwrap_or(0).min(200);
-    assert_integers(rt, table, 1472, &request[..size], octets, rows)
+    let mut request = THREE;
+    request[20..24].copy_from_slice(&non_repeaters.to_be_bytes());
+    request[26..30].copy_from_slice(&repetitions.to_be_bytes());
+    assert_integers(rt, table, 1472, &request, octets, rows)
 }
+
+/// The successors of the three names.
+const FIRST: &[(u32, i32)] = &[(1, 1), (1, 1), (6, 6)];
 
 #[test]
 fn names_repeat_behind_those_that_do_not(rt: HostRuntime) -> Result<(), Fail> {
     let table = Table::read(rt.alloc(), SIX)?;
     let wanted = &[(1, 1), (1, 1), (6, 6), (2, 2), (6, -1)];
-    assert_three(&rt, 1, 2, 115, wanted, &table)?;
+    assert_three(&rt, &table, 1, 2, 115, wanted)?;
+    Ok(())
+}
+
+#[test]
+fn numbers_are_taken_within_bounds(rt: HostRuntime) -> Result<(), Fail> {
+    let table = Table::read(rt.alloc(), SIX)?;
+    for few in [-5, -1, 0, i32::MIN] {
+        assert_three(&rt, &table, few, 1, 80, FIRST)?;
+        assert_three(&rt, &table, 1, few, 44, &FIRST[..1])?;
+        assert_three(&rt, &table, few, few, 26, &[])?;
+    }
+    for many in [3, 9, i32::MAX] {
+        assert_three(&rt, &table, many, 1, 80, FIRST)?;
+        assert_three(&rt, &table, many, i32::MAX, 80, FIRST)?;
+        assert_three(&rt, &table, many, -1, 80, FIRST)?;
+    }
+    Ok(())
+}
+
+#[test]
+fn a_round_of_ends_is_the_last(rt: HostRuntime) -> Result<(), Fail> {
+    let table = Table::read(rt.alloc(), SIX)?;
+    let wanted = &[
+        (1, 1),
+        (6, 6),
+        (2, 2),
+        (6, -1),
+        (3, 3),
+        (6, -1),
+        (4, 4),
+        (6, -1),
+        (5, 5),
+        (6, -1),
+        (6, 6),
+        (6, -1),
+        (6, -1),
+        (6, -1),
+    ];
+    let mut all = [(1, 1); 15];
+    all[1..].copy_from_slice(wanted);
+    assert_three(&rt, &table, 1, i32::MAX, 295, &all)?;
+    assert_three(&rt, &table, 1, 7, 295, &all)?;
     Ok(())
 }
