@@ -1,5 +1,7 @@
-use Rattle.std.proofs.Common.{◌≡◌, List, [], ◌∷◌, ◌++◌, ap, sym, ◌∙◌, append_assoc}
+use Rattle.std.proofs.Common.{◌≡◌, List, [], ◌∷◌, ◌++◌, ap, sym, ◌∙◌, append_assoc, subst, Ok}
+use Rattle.std.specs.Prelude.{Result}
 use Rattle.snmp_wire.specs.Message.{VarBind, var_bind}
+use Rattle.snmp_walk.specs.declared.end.SinkFault.{SinkFault}
 use Rattle.snmp_walk.proofs.SinkLemmas.{given-append, given-one}
 use Rattle.snmp_walk.proofs.sink.give.Goals as goal
 

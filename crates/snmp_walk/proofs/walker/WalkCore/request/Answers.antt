@@ -1,4 +1,4 @@
-use Rattle.std.proofs.Common.{◌≡◌, ◌≤◌, length, arith, w32, to_z, of_z, pos}
+use Rattle.std.proofs.Common.{◌≡◌, ◌≤◌, ℕ, length, arith, w32, to_z, of_z, pos}
 use Rattle.std.proofs.lemmas.Bool.{false≢true}
 use Rattle.std.proofs.lemmas.Int.{to_z_pos, to_z-of_z}
 use Rattle.snmp_walk.specs.Walker.{Walker}
