@@ -1,11 +1,11 @@
 -- There is an answer to each name.
-use Rattle.std.proofs.Common.{◌≡◌, ℕ, zero, suc, ◌+◌, ◌≤◌, ◌<◌, ◌⊎◌, inl, inr, Bool, true, false, T, List, [], ◌∷◌, ◌++◌, map, length, take, drop, Option, Some, None, Less, Equal, Greater, Ordering, refl, sym, ap, subst, ◌∙◌, ⊎_elim, arith, length-append}
+use Rattle.std.proofs.Common.{◌≡◌, ℕ, zero, suc, ◌+◌, ◌<◌, ◌⊎◌, inl, inr, Bool, true, false, T, List, [], ◌∷◌, ◌++◌, map, length, take, drop, Option, Some, None, Less, Equal, Greater, Ordering, refl, sym, ap, subst, ◌∙◌, ⊎_elim, arith, length-append}
 use Rattle.std.specs.Ordering.{nat_cmp}
 use Rattle.std.specs.Cmp.Lexicographic.{slice_cmp, nat_list_cmp_total}
 use Rattle.std.specs.FinMap.{get, entries, entries_sorted, get-entries, find, is_sorted}
 use Rattle.std.specs.FinSet.{contains}
 use Rattle.std.proofs.lemmas.Bool.{cases_lt}
-use Rattle.std.proofs.lemmas.List.{take-append-drop, take-append-le}
+use Rattle.std.proofs.lemmas.List.{take-append-drop}
 use Rattle.std.proofs.Math.Seq.{take-append_seam}
 use Rattle.snmp_wire.specs.declared.kind.Kind.{Kind}
 use Rattle.snmp_wire.specs.declared.kind.Kind.TheVariants as kind
@@ -14,7 +14,7 @@ use Rattle.snmp_table.specs.Table.{MibView, HasObject, IsGet, variable, unknown_
 use Rattle.snmp_table.specs.Listing.{first_or_end}
 use Rattle.snmp_table.specs.Places.{IsBeforeAll, IsBeforeNone, var_of}
 use Rattle.snmp_table.proofs.Rising.{before_all, first_of_both, second_of_both}
-use Rattle.snmp_table.proofs.Successors.{StandsApart, is_next}
+use Rattle.snmp_table.proofs.Successors.{is_next}
 use Rattle.snmp_agent.specs.Reply.{AreAnswers}
 use Rattle.snmp_agent.specs.Answering.{IsPaired, IsAnswer, AreGiven}
 

@@ -1,11 +1,11 @@
 -- Replies to a GetBulk.
-use Rattle.std.proofs.Common.{◌≡◌, ◌≢◌, ◌⊎◌, inl, inr, ℕ, pos, ◌+◌, ◌≤◌, ◌<◌, List, [], ◌∷◌, ◌++◌, length, take, refl, sym, ap, subst, ◌∙◌, ⊎_elim, arith}
+use Rattle.std.proofs.Common.{◌≡◌, ℕ, pos, ◌+◌, ◌≤◌, ◌<◌, List, [], ◌∷◌, ◌++◌, length, take, refl, sym, ap, subst, ◌∙◌, ⊎_elim, arith}
 use Rattle.std.proofs.lemmas.Bool.{cases_lt}
 use Rattle.snmp_wire.specs.declared.kind.Kind.TheVariants as kind
 use Rattle.snmp_wire.specs.Message.{VarBind, Message}
 use Rattle.snmp_wire.specs.Canon.{canon, canon_binding, canon_bindings, canon_head}
 use Rattle.snmp_table.specs.Table.{MibView}
-use Rattle.snmp_agent.specs.Reply.{Fits, IsBulk, IsLongestFront, IsResponse, bulk, no_error, response}
+use Rattle.snmp_agent.specs.Reply.{Fits, IsBulk, IsLongestFront, bulk, no_error, response}
 use Rattle.snmp_agent.specs.Answering.{IsDraft, IsSent, IsUnsent, HasNoRoom, HoldsFront, PassesLimit, whole_size}
 use Rattle.snmp_agent.proofs.Requests.{bare, response_size, sealed, sealed_size}
 use Rattle.snmp_agent.proofs.Sizes.{longer}

@@ -2,8 +2,8 @@
 use Rattle.std.specs.Cmp.Lexicographic.{pointwise, same_text, other_text}
 use mir.Syntax.{w32}
 use mir.Val.{of_z, to_z, SFits}
-use Rattle.std.proofs.lemmas.Int.{to_z-of_z, ints}
-use Rattle.std.proofs.Common.{◌≡◌, ℕ, ℤ, pos, Bool, true, false, not, nat_eq, ◌⊎◌, inl, inr, ◌+◌, ◌≤◌, ◌<◌, List, [], ◌∷◌, ◌++◌, length, take, refl, sym, ap, subst, ◌∙◌, arith, length-append, append_assoc}
+use Rattle.std.proofs.lemmas.Int.{to_z-of_z}
+use Rattle.std.proofs.Common.{◌≡◌, ℕ, ℤ, pos, Bool, true, false, not, nat_eq, ◌⊎◌, inl, inr, ◌+◌, ◌≤◌, List, [], ◌∷◌, ◌++◌, length, take, refl, sym, ap, subst, ◌∙◌, arith}
 use Rattle.std.proofs.lemmas.Grind.{flat_map-append}
 use Rattle.std.proofs.lemmas.List.{append-nil}
 use Rattle.snmp_wire.specs.declared.kind.Kind.{Kind}
@@ -11,9 +11,9 @@ use Rattle.snmp_wire.specs.declared.kind.Kind.TheVariants as kind
 use Rattle.snmp_wire.specs.Message.{VarBind, Message}
 use Rattle.snmp_wire.specs.Canon.{canon, canon_binding, canon_bindings, canon_fields, canon_front, canon_head, canon_opening}
 use Rattle.snmp_wire.proofs.MessageWriting.{canon_parts, length-canon}
-use Rattle.snmp_table.specs.Table.{MibView, IsGet, IsNext}
+use Rattle.snmp_table.specs.Table.{MibView}
 use Rattle.snmp_agent.specs.Reply.{IsServed, AreAnswers, IsWhole, IsResponse, whole, shortened, too_big, got, got_next, unwritten, response, not_writable, failed_place}
-use Rattle.snmp_agent.specs.Answering.{IsPaired, IsAnswer, IsSent, IsUnsent, IsDraft, PassesLimit, whole_size, status_of, index_of}
+use Rattle.snmp_agent.specs.Answering.{IsPaired, IsAnswer, IsSent, IsDraft, PassesLimit, whole_size, status_of, index_of}
 
 -- the head of a message doesn't look at its bindings
 pub same_head : (q : Message) (status index : ℤ) (bindings : List VarBind) (total : ℕ) → canon_head (response q status index []) total ≡ canon_head (response q status index bindings) total

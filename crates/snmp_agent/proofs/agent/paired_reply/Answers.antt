@@ -1,9 +1,9 @@
-use Rattle.std.proofs.Common.{◌≡◌, ◌≤◌, ◌<◌, ℕ, pos, List, [], length, take, Option, Some, None, IfSome, IfNone}
+use Rattle.std.proofs.Common.{◌≡◌, ◌≤◌, ◌<◌, ℕ, length, take, Option, Some, None, IfSome, IfNone}
 use Rattle.snmp_wire.specs.Canon.{canon}
 use Rattle.snmp_wire.specs.Message.{Message}
 use Rattle.snmp_wire.specs.Parts.{parts_message}
 use Rattle.snmp_table.specs.Table.{MibView}
-use Rattle.snmp_agent.specs.Reply.{IsResponse, response, too_big}
+use Rattle.snmp_agent.specs.Reply.{IsResponse}
 use Rattle.snmp_agent.proofs.Requests.{finished, replaced}
 use Rattle.snmp_agent.proofs.agent.paired_reply.Goals as goal
 

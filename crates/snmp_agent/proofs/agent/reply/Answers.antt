@@ -1,4 +1,3 @@
-use Rattle.std.proofs.Common.{sym, ◌∙◌}
 use Rattle.snmp_agent.proofs.Requests.{paired_kind}
 use Rattle.snmp_agent.proofs.agent.reply.Goals as goal
 

@@ -1,11 +1,11 @@
 use mir.Syntax.{w32}
 use mir.Val.{of_z, to_z, SFits}
 use Rattle.std.proofs.lemmas.Int.{to_z-of_z}
-use Rattle.std.proofs.Common.{rules, ◌≡◌, refl, ℕ, ℤ, List, ◌++◌, drop, sym, ap, ◌∙◌, subst}
+use Rattle.std.proofs.Common.{rules, ◌≡◌, refl, ℤ, List, ◌++◌, drop, sym, ap, ◌∙◌, subst}
 use Rattle.snmp_wire.specs.Message.{VarBind}
 use Rattle.snmp_wire.specs.Parts.{parts_message}
 use Rattle.snmp_agent.specs.Reply.{joined, or_zero}
-use Rattle.snmp_agent.specs.Answering.{AreWritable, HoldsFront}
+use Rattle.snmp_agent.specs.Answering.{AreWritable}
 use Rattle.snmp_agent.proofs.Fronts.{front_behind, front_before}
 use Rattle.snmp_agent.proofs.Rounds.{all_rounds, bulk_of, writable_drop}
 use Rattle.snmp_agent.proofs.bulk.append_bulk.Goals as goal

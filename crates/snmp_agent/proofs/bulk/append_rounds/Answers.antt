@@ -1,9 +1,9 @@
-use Rattle.std.proofs.Common.{◌≡◌, ◌+◌, ℕ, List, [], ◌∷◌, ◌++◌, sym, ap, ◌∙◌, subst, arith}
+use Rattle.std.proofs.Common.{◌≡◌, ◌+◌, ℕ, List, [], ◌∷◌, ◌++◌, subst, arith}
 use Rattle.std.proofs.lemmas.List.{append-nil}
 use Rattle.snmp_wire.specs.Message.{VarBind}
 use Rattle.snmp_wire.specs.Parts.{parts_message}
 use Rattle.snmp_agent.specs.Reply.{joined}
-use Rattle.snmp_agent.specs.Answering.{AreGiven, AreRoundsFrom, HoldsFront, Extends}
+use Rattle.snmp_agent.specs.Answering.{AreGiven, AreRoundsFrom}
 use Rattle.snmp_agent.proofs.Fronts.{nothing_more, whole_front}
 use Rattle.snmp_agent.proofs.RoundFronts.{others_next, written_next, closed_round}
 use Rattle.snmp_agent.proofs.bulk.append_rounds.Goals as goal

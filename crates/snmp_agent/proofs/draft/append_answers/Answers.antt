@@ -1,10 +1,10 @@
-use Rattle.std.proofs.Common.{◌≡◌, ◌+◌, ◌≤◌, ◌<◌, ℕ, List, [], ◌∷◌, ◌++◌, length, take, refl, sym, ap, ◌∙◌, subst, arith}
+use Rattle.std.proofs.Common.{◌≡◌, List, [], ◌∷◌, ◌++◌, length, sym, subst, arith}
 use Rattle.std.proofs.lemmas.List.{append-nil}
 use Rattle.snmp_wire.specs.Message.{VarBind, var_bind}
-use Rattle.snmp_wire.specs.Canon.{canon_bindings, canon_binding}
+use Rattle.snmp_wire.specs.Canon.{canon_bindings}
 use Rattle.snmp_wire.specs.Parts.{parts_message}
 use Rattle.snmp_agent.specs.Reply.{AreAnswers}
-use Rattle.snmp_agent.specs.Answering.{IsAnswer, IsDraft, AreWritable, whole_size, PassesLimit}
+use Rattle.snmp_agent.specs.Answering.{IsAnswer, AreWritable}
 use Rattle.snmp_agent.proofs.Answers.{all_answered}
 use Rattle.snmp_agent.proofs.Sizes.{longer}
 use Rattle.snmp_agent.proofs.Drafts.{empty_draft, longer_draft, passes, step, none_anyway}
