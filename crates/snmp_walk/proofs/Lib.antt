@@ -14,5 +14,6 @@ pub mod RunLemmas
 pub mod ViewLemmas
 pub mod JoinLemmas
 pub mod FactLemmas
+pub mod BulkLemmas
 pub mod HonestLemmas
 pub mod MemoryLemmas
