@@ -1,5 +1,5 @@
 -- What a job does: its words are judged, its file is read, and the lines of its walk are written.
-use Rattle.std.specs.Prelude.{◌≡◌, ◌≢◌, ⊥, ℕ, ◌⊎◌, ◌==◌, not, List, [], ◌∷◌, ◌++◌, Option, Some, None, codes, find, map}
+use Rattle.std.specs.Prelude.{◌≡◌, ◌≢◌, ℕ, ◌⊎◌, ◌==◌, not, List, [], ◌∷◌, ◌++◌, Option, Some, None, codes, find, map}
 use Rattle.std.specs.Borrow.{Bor}
 use Rattle.std.specs.Str.Lines.{lines}
 use Rattle.snmp_oid.specs.Identifier.{IsWire, wire}

@@ -1,5 +1,5 @@
 //! A job: its words are judged, and it is done.
-ghost use Rattle.std.specs.Prelude.{◌≡◌, ◌++◌, ⊥, List, ℕ, codes, None, Some, OnOk, IfOk, IfErr, IfSome, IfNone};
+ghost use Rattle.std.specs.Prelude.{◌≡◌, ◌++◌, List, ℕ, codes, None, Some, OnOk, IfOk, IfErr, IfSome, IfNone};
 ghost use Rattle.std.specs.Str.Lines.{lines};
 ghost use Rattle.snmp_ports.specs.Files.{HoldsIfKnown};
 ghost use Rattle.snmp_table.specs.Stated.{IsTableOf};
