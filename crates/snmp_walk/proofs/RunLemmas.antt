@@ -18,7 +18,7 @@ use Rattle.snmp_walk.specs.Trail.{last_name, IsTrail, AreAnswers}
 use Rattle.snmp_walk.specs.Walker.{Walker}
 use Rattle.snmp_walk.specs.Request.{request_of, first_phase}
 use Rattle.snmp_walk.specs.Taken.{is_over, if_present, take_of}
-use Rattle.snmp_walk.specs.Standing.{IsOpening, IsGiven, IsAlone, IsPart, IsStage, IsReplyTo, Stands, Ends, Advances, Rises, Named, IsReplyEnd, Keeps}
+use Rattle.snmp_walk.specs.Standing.{IsOpening, IsGiven, IsAlone, IsPart, IsStage, IsReplyTo, IsPaced, Stands, Ends, Advances, Rises, Named, IsReplyEnd, Keeps}
 use Rattle.snmp_walk.specs.Link.{Agents, next_of, got_of, IsTooLarge}
 use Rattle.snmp_walk.specs.Sink.{Given, Refused, Took}
 use Rattle.snmp_walk.specs.Run.{IsFrom, Turns, goes_on, ends, is_refused, is_silent, fails, rows_in}
@@ -105,8 +105,18 @@ module _ (Next Got : List ℕ → VarBind → Type 0) (first : Walker) where
   fresh_stage mode.Include e = (refl, refl, e)
   fresh_stage mode.NoLast e = record { front = []; trail = []; parts = refl; opening = subst (λ (n : Mode). IsOpening Got n first.asked []) (sym e) refl; is_trail = tt; last = refl }
 
+  fresh_pace : (m : Mode) → first.mode ≡ m → IsPaced Got first [] first.id (first_phase m)
+  fresh_pace mode.Plain e = ([], [], refl, subst (λ (n : Mode). IsOpening Got n first.asked []) (sym e) refl, omega arith)
+  fresh_pace mode.Include e = refl
+  fresh_pace mode.NoLast e = ([], [], refl, subst (λ (n : Mode). IsOpening Got n first.asked []) (sym e) refl, omega arith)
+
   pub fresh_stands : IsFresh first → Stands Next Got first first []
-  fresh_stands h = record { same = refl; count = h.count; stage = subst (IsStage Next Got first [] first.asked) (sym h.phase) (fresh_stage first.mode refl) }
+  fresh_stands h = record {
+    same = refl;
+    count = h.count;
+    paced = subst (IsPaced Got first [] first.id) (sym h.phase) (fresh_pace first.mode refl);
+    stage = subst (IsStage Next Got first [] first.asked) (sym h.phase) (fresh_stage first.mode refl);
+  }
 
   pub stands_waits : (w : Walker) (given : List VarBind) → Stands Next Got first w given → is_over w.phase ≡ false
   stands_waits w given h = waits w.phase h.stage
