@@ -15,4 +15,5 @@ pub mod ViewLemmas
 pub mod JoinLemmas
 pub mod FactLemmas
 pub mod HonestLemmas
+pub mod RoomLemmas
 pub mod MemoryLemmas
