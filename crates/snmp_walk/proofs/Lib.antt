@@ -16,4 +16,5 @@ pub mod JoinLemmas
 pub mod FactLemmas
 pub mod HonestLemmas
 pub mod RoomLemmas
+pub mod SwiftLemmas
 pub mod MemoryLemmas

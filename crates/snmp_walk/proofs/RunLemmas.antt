@@ -15,7 +15,7 @@ use Rattle.snmp_walk.specs.declared.rows.Step.{Step}
 use Rattle.snmp_walk.specs.declared.rows.Step.TheVariants as step
 use Rattle.snmp_walk.specs.Names.{is_missing}
 use Rattle.snmp_walk.specs.Trail.{last_name, IsTrail, AreAnswers}
-use Rattle.snmp_walk.specs.Walker.{Walker}
+use Rattle.snmp_walk.specs.Walker.{Walker, IsWalker}
 use Rattle.snmp_walk.specs.Request.{request_of, first_phase}
 use Rattle.snmp_walk.specs.Taken.{is_over, if_present, take_of}
 use Rattle.snmp_walk.specs.Standing.{IsOpening, IsGiven, IsAlone, IsPart, IsStage, IsReplyTo, IsPaced, Stands, Ends, Advances, Rises, Named, IsReplyEnd, Keeps}
@@ -248,19 +248,19 @@ module _ {S : Type 0} (takes : S → VarBind → Result (Unit {0}) SinkFault →
     });
   }
 
-  pub over : (rows : List VarBind) (new : Walker) (end : WalkEnd) → Turns takes agents honest w s rows (Some end) new t → IsOver rows end
-  over rows new end (goes_on m from e f sink en) = let no : ⊥ = cc in absurd no
-  over rows new end (ends m why from e sink en) =
+  pub over : IsWalker w → (rows : List VarBind) (new : Walker) (end : WalkEnd) → Turns takes agents honest w s rows (Some end) new t → IsOver rows end
+  over good rows new end (goes_on m from e f sink en) = let no : ⊥ = cc in absurd no
+  over good rows new end (ends m why from e sink en) =
       let same : why ≡ end = cc in
       subst (IsOver rows) same (over_reply rows m why from e sink)
-  over rows new end (is_refused m fault left between from e sink refused en) =
+  over good rows new end (is_refused m fault left between from e sink refused en) =
       let same : ending.Sink fault ≡ end = cc in
       subst (IsOver rows) same (over_refused rows m fault left between from e sink refused)
-  over rows new end (is_silent none r a en) =
+  over good rows new end (is_silent none r a en) =
       let same : ending.NoResponse ≡ end = cc in
       let sink : Given takes before given t = subst (Given takes before given) (sym a) sunk in
-      subst (λ (x : List VarBind). IsOver x end) (sym r) (subst (IsOver []) same (over_none ending.NoResponse sink (λ h laws k. (w, k, none h))))
-  over rows new end (fails r a en) =
+      subst (λ (x : List VarBind). IsOver x end) (sym r) (subst (IsOver []) same (over_none ending.NoResponse sink (λ h laws k. (w, good, k, none h))))
+  over good rows new end (fails r a en) =
       let same : ending.Link ≡ end = cc in
       let sink : Given takes before given t = subst (Given takes before given) (sym a) sunk in
       subst (λ (x : List VarBind). IsOver x end) (sym r) (subst (IsOver []) same (over_none ending.Link sink (λ h laws k. tt)))
