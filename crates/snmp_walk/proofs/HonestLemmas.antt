@@ -108,7 +108,7 @@ get_phase phase.Rows (method.Bulk r) waits k = let never : ⊥ = cc in absurd ne
 get_phase phase.Last m waits k = inr refl
 get_phase phase.Over m waits k = absurd (false≢true (sym waits))
 
-pub next_phase : (p : Phase) (m : Method) → request_kind p m ≡ kind.GetNextRequest → (p ≡ phase.Rows) × (m ≡ method.Next)
+next_phase : (p : Phase) (m : Method) → request_kind p m ≡ kind.GetNextRequest → (p ≡ phase.Rows) × (m ≡ method.Next)
 next_phase phase.First m k = let never : ⊥ = cc in absurd never
 next_phase phase.Rows method.Next k = (refl, refl)
 next_phase phase.Rows (method.Bulk r) k = let never : ⊥ = cc in absurd never

@@ -1,5 +1,5 @@
 -- How long a response of one binding is: no longer with an exception in place of the value, nor with a lesser id.
-use Rattle.std.proofs.Common.{◌≡◌, ℕ, ◌+◌, ◌^◌, ◌<◌, ◌≤◌, List, [], ◌∷◌, ◌++◌, length, arith, length-append, pos}
+use Rattle.std.proofs.Common.{◌≡◌, ℕ, ◌^◌, ◌<◌, ◌≤◌, List, [], ◌∷◌, ◌++◌, length, arith, length-append, pos}
 use Rattle.snmp_wire.specs.Message.{Datum, VarBind, Message, integer_value, octet_string, null_value, object_id, ip_address, counter32, gauge32, time_ticks, opaque_octets, counter64, no_such_object, no_such_instance, end_of_mib_view}
 use Rattle.snmp_wire.specs.Spelling.{value_tag, kind_tag, sequence_tag}
 use Rattle.snmp_wire.specs.Canon.{number_size, canon_number, canon_element, canon_content, canon_value, canon_binding, canon_bindings, canon_opening, canon_fields, canon}

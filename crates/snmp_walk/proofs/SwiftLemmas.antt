@@ -1,9 +1,8 @@
 -- Where each single binding has room and ids are enough, a walk over one table ends for no other reason than its own, the link's or the sink's.
-use Rattle.std.proofs.Common.{◌≡◌, ◌⊎◌, inl, inr, ℕ, ◌+◌, ◌^◌, ◌<◌, ◌≤◌, false, true, List, [], ◌∷◌, ◌++◌, length, refl, sym, ◌∙◌, ap, subst, arith, ℤ, pos, length-append}
+use Rattle.std.proofs.Common.{◌≡◌, ◌⊎◌, inl, inr, ℕ, ◌+◌, ◌<◌, ◌≤◌, false, true, List, [], ◌∷◌, ◌++◌, length, refl, sym, ◌∙◌, ap, subst, arith, pos, length-append}
 use Rattle.std.proofs.lemmas.Bool.{false≢true}
-use Rattle.snmp_wire.specs.declared.kind.Kind.{Kind}
 use Rattle.snmp_wire.specs.declared.kind.Kind.TheVariants as kind
-use Rattle.snmp_wire.specs.Message.{Datum, VarBind, Message, null_value, end_of_mib_view}
+use Rattle.snmp_wire.specs.Message.{VarBind, Message, end_of_mib_view}
 use Rattle.snmp_wire.specs.Spelling.{Spells}
 use Rattle.snmp_wire.specs.Canon.{canon}
 use Rattle.snmp_wire.proofs.MessageLaws.{one_message}
@@ -26,13 +25,13 @@ use Rattle.snmp_walk.specs.Names.{is_inside}
 use Rattle.snmp_walk.specs.Trail.{last_name, IsTrail}
 use Rattle.snmp_walk.specs.Walker.{Walker, IsWalker}
 use Rattle.snmp_walk.specs.Walk.{rest_of}
-use Rattle.snmp_walk.specs.Request.{request_of, request_kind, next_kind}
+use Rattle.snmp_walk.specs.Request.{request_of, request_kind}
 use Rattle.snmp_walk.specs.Taken.{is_over, if_present}
-use Rattle.snmp_walk.specs.Standing.{IsLarge, IsOpening, IsGiven, IsStage, IsRefused, IsPaced, opening_gets, Stands, Ends, IsOneTable}
-use Rattle.snmp_walk.specs.Link.{Agents, OneOf, agent_in, next_of, got_of, IsTooLarge, IsUnanswered, AreViews}
+use Rattle.snmp_walk.specs.Standing.{IsLarge, IsOpening, IsStage, IsRefused, IsPaced, opening_gets, Stands, IsOneTable}
+use Rattle.snmp_walk.specs.Link.{Agents, agent_in, next_of, got_of, IsTooLarge, IsUnanswered}
 use Rattle.snmp_walk.specs.Room.{HasRoom, HasRoomForEach, HasIds}
 use Rattle.snmp_walk.specs.Facts.{IsLawfulEnd, IsSwiftEnd}
-use Rattle.snmp_walk.proofs.HonestLemmas.{request_in_range, one_answer, get_phase, next_phase, set_phase}
+use Rattle.snmp_walk.proofs.HonestLemmas.{request_in_range, one_answer, get_phase, set_phase}
 use Rattle.snmp_walk.proofs.RoomLemmas.{room_fits, room_small, room_exception}
 use Rattle.snmp_walk.proofs.TableLemmas.{trail_rest}
 use Rattle.snmp_walk.proofs.ViewLemmas.{only_one}

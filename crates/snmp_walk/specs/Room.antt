@@ -1,5 +1,5 @@
 -- What a walk over one table needs to end for no other reason than its own: room for each single binding, and ids enough.
-use Rattle.std.specs.Prelude.{◌≡◌, ℕ, ◌+◌, ◌≤◌, List, length}
+use Rattle.std.specs.Prelude.{◌≡◌, ◌+◌, ◌≤◌, length}
 use Rattle.snmp_wire.specs.Message.{Datum, VarBind, no_such_object, no_such_instance, end_of_mib_view}
 use Rattle.snmp_wire.specs.Canon.{canon}
 use Rattle.snmp_table.specs.Table.{MibView, IsRow}
