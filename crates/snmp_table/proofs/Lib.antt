@@ -9,3 +9,4 @@ pub mod Rising
 pub mod Statements
 pub mod Successors
 pub mod TextLines
+pub mod Unique

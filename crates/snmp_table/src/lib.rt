@@ -14,4 +14,4 @@ mod tests;
 mod value;
 
 pub use error::TableError;
-pub use table::Table;
+pub use table::{Table, one_table};

@@ -9,6 +9,9 @@ ghost use Rattle.snmp_wire.specs.Message.Datum.{end_of_mib_view};
 ghost use Rattle.snmp_table.specs.Row.{entry_of, datum_of, IsShortRow};
 ghost use Rattle.snmp_table.specs.Places.{IsRising, IsBeforeNone, IsBeforeAll, is_up_to, bindings_of, last_name, HasBeginning};
 ghost use Rattle.snmp_table.specs.Listing.{nth_or_end};
+ghost use Rattle.snmp_table.specs.Stated.{IsTableOf};
+ghost use Rattle.snmp_table.specs.Table.{MibView};
+ghost use Rattle.std.specs.Prelude.{List, ℕ};
 
 use crate::draft::Draft;
 use crate::error::TableError;
@@ -48,7 +51,7 @@ impl Table {
     ghost use Rattle.snmp_wire.specs.Message.{datum, var_bind};
     ghost use Rattle.std.specs.Prelude.{IfOk, IfErr};
     ghost use Rattle.std.specs.Str.Lines.{lines};
-    ghost use Rattle.snmp_table.specs.Table.{IsGet, IsNext, IsNextAfter, IsAnswerValue};
+    ghost use Rattle.snmp_table.specs.Table.{IsGet, IsNext, IsNextAfter, IsAnswerValue, IsMibView};
     ghost use Rattle.snmp_oid.specs.Identifier.{IsWire};
     ghost use Rattle.snmp_table.specs.Stated.{IsTableOf, IsFirstFault};
 
@@ -57,6 +60,7 @@ impl Table {
     /// A line ends with LF, CR LF or the text; a CR that no LF follows belongs to its line.
     pub fn read(alloc: Global, text: &[u8]) -> Result<Table, TableError>
         ensures table { IfOk result (IsTableOf (lines text.now)) }
+        ensures view { IfOk result IsMibView }
         ensures fault { IfErr result (IsFirstFault (lines text.now)) }
     {
         let mut draft = Draft::new(alloc);
@@ -107,6 +111,11 @@ impl Table {
         nth_or_end(behind, name, rounds)
     }
 }
+
+/// Lines state one table at most.
+pub fn one_table()
+    ensures { (lines : List (List ℕ)) (v w : MibView) → IsTableOf lines v → IsTableOf lines w → v ≡ w }
+{}
 
 /// The row of this name.
 fn row_at<'a>(rows: &'a [Row], name: &[u32]) -> Option<&'a Row>

@@ -39,13 +39,13 @@ lawful_whole agents first rows ending.NoResponse d h = absurd d
 lawful_whole agents first rows ending.Link d h = absurd d
 lawful_whole agents first rows (ending.Sink fault) d h = absurd d
 
-pub facts : (agents : Agents) (first : Walker) (rows : List VarBind) (end : WalkEnd) → IsFresh first → AreViews agents.tables
-    → IsPart (next_of agents) (got_of agents) first rows → IsLawfulEnd agents first rows end → WalkFacts agents first rows end
-facts agents first rows end fresh views part lawful = record {
+pub facts : (agents : Agents) (first : Walker) (rows refused : List VarBind) (end : WalkEnd) → IsFresh first → AreViews agents.tables
+    → IsPart (next_of agents) (got_of agents) first (rows ++ refused) → IsLawfulEnd agents first rows end → WalkFacts agents first rows refused end
+facts agents first rows refused end fresh views part lawful = record {
   part = part;
   lawful = lawful;
   beginning = λ view got e answer.
-      part_is (variables view) got (next_of agents) (got_of agents) first (one_table agents first view got views e answer) fresh.begins.0 fresh.begins.1 rows part;
+      part_is (variables view) got (next_of agents) (got_of agents) first (one_table agents first view got views e answer) fresh.begins.0 fresh.begins.1 (rows ++ refused) part;
   all = λ view got e answer done.
       whole_is (variables view) got (next_of agents) (got_of agents) first (one_table agents first view got views e answer) fresh.begins.0 fresh.begins.1 rows
       (lawful_whole agents first rows end done lawful);

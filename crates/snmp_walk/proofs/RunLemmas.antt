@@ -1,6 +1,6 @@
 -- A run, turn by turn.
 use Rattle.std.proofs.Common.{◌≡◌, ◌⊎◌, inl, inr, ℕ, ◌+◌, ◌^◌, ◌<◌, ◌≤◌, Bool, true, false, cond, List, [], ◌∷◌, ◌++◌, length, refl, sym, ◌∙◌, ap, subst, arith, append-nil, append_assoc, Option, Some, None}
-use Rattle.std.specs.Prelude.{Result}
+use Rattle.std.specs.Prelude.{Result, Err}
 use Rattle.snmp_wire.specs.Message.{VarBind, Message}
 use Rattle.snmp_wire.specs.Canon.{canon}
 use Rattle.snmp_table.specs.Table.{MibView}
@@ -20,7 +20,7 @@ use Rattle.snmp_walk.specs.Request.{request_of, first_phase}
 use Rattle.snmp_walk.specs.Taken.{is_over, if_present, take_of}
 use Rattle.snmp_walk.specs.Standing.{IsOpening, IsGiven, IsAlone, IsPart, IsStage, IsReplyTo, IsPaced, Stands, Ends, Advances, Rises, Named, IsReplyEnd, Keeps}
 use Rattle.snmp_walk.specs.Link.{Agents, next_of, got_of, IsTooLarge}
-use Rattle.snmp_walk.specs.Sink.{Given, Refused, Took}
+use Rattle.snmp_walk.specs.Sink.{Given, Took}
 use Rattle.snmp_walk.specs.Run.{IsFrom, Turns, goes_on, ends, is_refused, is_silent, fails, rows_in}
 use Rattle.snmp_walk.specs.Facts.{IsFresh, IsLawfulEnd}
 use Rattle.snmp_walk.proofs.SinkLemmas.{given-append}
@@ -129,16 +129,16 @@ module _ (Next Got : List ℕ → VarBind → Type 0) (first : Walker) where
 
 -- what replies end with leaves the sink as it was given
 took_reply : {S : Type 0} (takes : S → VarBind → Result (Unit {0}) SinkFault → S → Type 0) (before after : S) (rows : List VarBind) (why : WalkEnd) → IsReplyEnd why
-    → Given takes before rows after → Took takes before rows why after
-took_reply takes before after rows (ending.Done n) own h = h
-took_reply takes before after rows (ending.Fault a b) own h = h
-took_reply takes before after rows (ending.NoProgress o) own h = h
-took_reply takes before after rows ending.BadReply own h = h
-took_reply takes before after rows (ending.NotIncreasing o p) own h = h
-took_reply takes before after rows ending.TooManyRequests own h = h
-took_reply takes before after rows ending.RequestTooLong own h = h
-took_reply takes before after rows ending.NoResponse own h = h
-took_reply takes before after rows ending.Link own h = h
+    → Given takes before rows after → Took takes before rows [] why after
+took_reply takes before after rows (ending.Done n) own h = (h, refl)
+took_reply takes before after rows (ending.Fault a b) own h = (h, refl)
+took_reply takes before after rows (ending.NoProgress o) own h = (h, refl)
+took_reply takes before after rows ending.BadReply own h = (h, refl)
+took_reply takes before after rows (ending.NotIncreasing o p) own h = (h, refl)
+took_reply takes before after rows ending.TooManyRequests own h = (h, refl)
+took_reply takes before after rows ending.RequestTooLong own h = (h, refl)
+took_reply takes before after rows ending.NoResponse own h = (h, refl)
+took_reply takes before after rows ending.Link own h = (h, refl)
 took_reply takes before after rows (ending.Sink fault) own h = absurd own
 
 lawful_reply : (agents : Agents) (first w : Walker) (given rows : List VarBind) (why : WalkEnd) → IsReplyEnd why → Stands (next_of agents) (got_of agents) first w given
@@ -171,8 +171,8 @@ module _ (agents : Agents) (laws : AreAnswers (next_of agents) (got_of agents)) 
   advances_part w v given (step.Last rows why) k = k.0
 
 -- what the turns of a run show of it
-pub record RunFacts (agents : Agents) (first : Walker) (rows : List VarBind) (end : WalkEnd) : Type 0 where
-  pub part : IsPart (next_of agents) (got_of agents) first rows
+pub record RunFacts (agents : Agents) (first : Walker) (rows refused : List VarBind) (end : WalkEnd) : Type 0 where
+  pub part : IsPart (next_of agents) (got_of agents) first (rows ++ refused)
   pub lawful : IsLawfulEnd agents first rows end
 
 module _ {S : Type 0} (takes : S → VarBind → Result (Unit {0}) SinkFault → S → Type 0) (agents : Agents) (honest : Type 0) (first w : Walker) (before s t : S)
@@ -201,49 +201,55 @@ module _ {S : Type 0} (takes : S → VarBind → Result (Unit {0}) SinkFault →
             subst (λ (v : Walker). Stands (next_of agents) (got_of agents) first v (given ++ rows)) (sym f) step_of;
       }
   turned rows new (ends m why from e sink en) = let no : ⊥ = cc in absurd no
-  turned rows new (is_refused m fault left between from e sink refused en) = let no : ⊥ = cc in absurd no
+  turned rows new (is_refused m fault p left between from e sink refused en) = let no : ⊥ = cc in absurd no
   turned rows new (is_silent none r a en) = let no : ⊥ = cc in absurd no
   turned rows new (fails r a en) = let no : ⊥ = cc in absurd no
 
   -- the end of the run
   pub record IsOver (rows : List VarBind) (end : WalkEnd) : Type 0 where
-    pub sink : Took takes before (given ++ rows) end t
-    pub part : IsPart Rises Named first (given ++ rows)
-    pub facts : honest → AreAnswers (next_of agents) (got_of agents) → Stands (next_of agents) (got_of agents) first w given → RunFacts agents first (given ++ rows) end
+    pub refused : List VarBind
+    pub sink : Took takes before (given ++ rows) refused end t
+    pub part : IsPart Rises Named first ((given ++ rows) ++ refused)
+    pub facts : honest → AreAnswers (next_of agents) (got_of agents) → Stands (next_of agents) (got_of agents) first w given → RunFacts agents first (given ++ rows) refused end
 
   over_reply : (rows : List VarBind) (m : Message) (why : WalkEnd) → IsFrom agents honest w m → (take_of w m).0 ≡ step.Last rows why → Given takes s rows t → IsOver rows why
   over_reply rows m why from e sink =
       let any = subst (λ (st : Step). Keeps first w given st (take_of w m).1) e (taken_any first w given m stands) in
       record {
+        refused = [];
         sink = took_reply takes before t (given ++ rows) why any.0 (given-append S takes given rows before s t sunk sink);
-        part = any.1;
+        part = subst (IsPart Rises Named first) (sym (append-nil (given ++ rows))) any.1;
         facts = λ h laws k.
             let step_of = subst (λ (st : Step). Advances (next_of agents) (got_of agents) (IsTooLarge agents) first w given st (take_of w m).1) e
             (taken (next_of agents) (got_of agents) (IsTooLarge agents) laws first given w m k (from h)) in
-            record { part = step_of.0; lawful = lawful_reply agents first w given (given ++ rows) why any.0 k step_of.1 };
+            record { part = subst (IsPart (next_of agents) (got_of agents) first) (sym (append-nil (given ++ rows))) step_of.0; lawful = lawful_reply agents first w given (given ++ rows) why any.0 k step_of.1 };
       }
 
-  over_refused : (rows : List VarBind) (m : Message) (fault : SinkFault) (left : List VarBind) (between : S) → IsFrom agents honest w m → rows_in (take_of w m).0 ≡ rows ++ left
-      → Given takes s rows between → Refused takes between fault t → IsOver rows (ending.Sink fault)
-  over_refused rows m fault left between from e sink refused =
-      let cut : given ++ rows_in (take_of w m).0 ≡ (given ++ rows) ++ left = ap (λ (r : List VarBind). given ++ r) e ∙ sym (append_assoc given rows left) in
+  over_refused : (rows : List VarBind) (m : Message) (fault : SinkFault) (p : VarBind) (left : List VarBind) (between : S) → IsFrom agents honest w m → rows_in (take_of w m).0 ≡ rows ++ p ∷ left
+      → Given takes s rows between → takes between p (Err fault) t → IsOver rows (ending.Sink fault)
+  over_refused rows m fault p left between from e sink refused =
+      let cut : given ++ rows_in (take_of w m).0 ≡ ((given ++ rows) ++ p ∷ []) ++ left =
+      ap (λ (r : List VarBind). given ++ r) e ∙ sym (append_assoc given rows (p ∷ left)) ∙ sym (append_assoc (given ++ rows) (p ∷ []) left) in
       let any = subst (IsPart Rises Named first) cut (keeps_part first w (take_of w m).1 given (take_of w m).0 stands (taken_any first w given m stands)) in
       record {
-        sink = (between, given-append S takes given rows before s between sunk sink, refused);
-        part = part_front Rises Named first (given ++ rows) left any;
+        refused = p ∷ [];
+        sink = (between, given-append S takes given rows before s between sunk sink, (p, refl, refused));
+        part = part_front Rises Named first ((given ++ rows) ++ p ∷ []) left any;
         facts = λ h laws k.
             let whole = subst (IsPart (next_of agents) (got_of agents) first) cut (advances_part agents laws first w (take_of w m).1 given (take_of w m).0
             (taken (next_of agents) (got_of agents) (IsTooLarge agents) laws first given w m k (from h))) in
-            record { part = part_front (next_of agents) (got_of agents) first (given ++ rows) left whole; lawful = tt };
+            record { part = part_front (next_of agents) (got_of agents) first ((given ++ rows) ++ p ∷ []) left whole; lawful = tt };
       }
 
-  over_none : (why : WalkEnd) → Took takes before given why t → (honest → AreAnswers (next_of agents) (got_of agents) → Stands (next_of agents) (got_of agents) first w given → IsLawfulEnd agents first given why)
+  over_none : (why : WalkEnd) → Took takes before given [] why t → (honest → AreAnswers (next_of agents) (got_of agents) → Stands (next_of agents) (got_of agents) first w given → IsLawfulEnd agents first given why)
       → IsOver [] why
   over_none why sink lawful = record {
-    sink = subst (λ (r : List VarBind). Took takes before r why t) (sym (append-nil given)) sink;
-    part = subst (IsPart Rises Named first) (sym (append-nil given)) (part_of_stage Rises Named AllSmall rising_answers first given w.asked w.phase stands.stage);
-    facts = λ h laws k. subst (λ (r : List VarBind). RunFacts agents first r why) (sym (append-nil given)) (record {
-      part = part_of_stage (next_of agents) (got_of agents) (IsTooLarge agents) laws first given w.asked w.phase k.stage;
+    refused = [];
+    sink = subst (λ (r : List VarBind). Took takes before r [] why t) (sym (append-nil given)) sink;
+    part = subst (λ (r : List VarBind). IsPart Rises Named first (r ++ [])) (sym (append-nil given))
+        (subst (IsPart Rises Named first) (sym (append-nil given)) (part_of_stage Rises Named AllSmall rising_answers first given w.asked w.phase stands.stage));
+    facts = λ h laws k. subst (λ (r : List VarBind). RunFacts agents first r [] why) (sym (append-nil given)) (record {
+      part = subst (IsPart (next_of agents) (got_of agents) first) (sym (append-nil given)) (part_of_stage (next_of agents) (got_of agents) (IsTooLarge agents) laws first given w.asked w.phase k.stage);
       lawful = lawful h laws k;
     });
   }
@@ -253,14 +259,14 @@ module _ {S : Type 0} (takes : S → VarBind → Result (Unit {0}) SinkFault →
   over good rows new end (ends m why from e sink en) =
       let same : why ≡ end = cc in
       subst (IsOver rows) same (over_reply rows m why from e sink)
-  over good rows new end (is_refused m fault left between from e sink refused en) =
+  over good rows new end (is_refused m fault p left between from e sink refused en) =
       let same : ending.Sink fault ≡ end = cc in
-      subst (IsOver rows) same (over_refused rows m fault left between from e sink refused)
+      subst (IsOver rows) same (over_refused rows m fault p left between from e sink refused)
   over good rows new end (is_silent none r a en) =
       let same : ending.NoResponse ≡ end = cc in
       let sink : Given takes before given t = subst (Given takes before given) (sym a) sunk in
-      subst (λ (x : List VarBind). IsOver x end) (sym r) (subst (IsOver []) same (over_none ending.NoResponse sink (λ h laws k. (w, good, k, none h))))
+      subst (λ (x : List VarBind). IsOver x end) (sym r) (subst (IsOver []) same (over_none ending.NoResponse (sink, refl) (λ h laws k. (w, good, k, none h))))
   over good rows new end (fails r a en) =
       let same : ending.Link ≡ end = cc in
       let sink : Given takes before given t = subst (Given takes before given) (sym a) sunk in
-      subst (λ (x : List VarBind). IsOver x end) (sym r) (subst (IsOver []) same (over_none ending.Link sink (λ h laws k. tt)))
+      subst (λ (x : List VarBind). IsOver x end) (sym r) (subst (IsOver []) same (over_none ending.Link (sink, refl) (λ h laws k. tt)))

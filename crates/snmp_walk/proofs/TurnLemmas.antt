@@ -15,7 +15,7 @@ use Rattle.snmp_walk.specs.Taken.{is_over, is_awaited, stops, goes_on, closes, r
 use Rattle.snmp_walk.specs.Standing.{IsReplyEnd}
 use Rattle.snmp_walk.specs.Link.{Agents}
 use Rattle.snmp_walk.specs.declared.end.SinkFault.{SinkFault}
-use Rattle.snmp_walk.specs.Sink.{Given, Refused}
+use Rattle.snmp_walk.specs.Sink.{Given}
 use Rattle.snmp_walk.specs.Run.{IsHeard, IsFrom, Turns, goes_on as turn_on, ends, is_refused, rows_in}
 
 -- no stray, and an end that replies lead to
@@ -107,10 +107,10 @@ module _ {S : Type 0} (takes : S → VarBind → Result (Unit {0}) SinkFault →
   turn_ends given new rows why h e sink = (rows, ends h.message why h.from (sym h.given_is ∙ e) sink refl)
 
   pub turn_refused : (given : Step) (new : Walker) (rows : List VarBind) (fault : SinkFault) → IsTaken agents honest w given new → rows_in given ≡ rows
-      → ((front : List VarBind) × (back : List VarBind) × (rows ≡ front ++ back) × (between : S) × Given takes s front between × Refused takes between fault t)
+      → ((front : List VarBind) × (p : VarBind) × (back : List VarBind) × (rows ≡ front ++ p ∷ back) × (between : S) × Given takes s front between × takes between p (Err fault) t)
       → (r : List VarBind) × Turns takes agents honest w s r (Some (ending.Sink fault)) new t
   turn_refused given new rows fault h e sink =
-      (sink.0, is_refused h.message fault sink.1 sink.3 h.from (ap rows_in (sym h.given_is) ∙ e ∙ sink.2) sink.4 sink.5 refl)
+      (sink.0, is_refused h.message fault sink.1 sink.2 sink.4 h.from (ap rows_in (sym h.given_is) ∙ e ∙ sink.3) sink.5 sink.6 refl)
 
 pub reply_end : (agents : Agents) (honest : Type 0) (w : Walker) (given : Step) (new : Walker) (rows : List VarBind) (why : WalkEnd) → IsTaken agents honest w given new
     → given ≡ step.Last rows why → why ≡ ending.Link → ⊥

@@ -44,12 +44,12 @@ IsSwiftEnd ending.Link = Unit {0}
 IsSwiftEnd (ending.Sink fault) = Unit {0}
 IsSwiftEnd _ = ⊥
 
--- what is promised of a run over an honest link
-pub record WalkFacts (agents : Agents) (first : Walker) (rows : List VarBind) (end : WalkEnd) : Type 0 where
-  pub part : IsPart (next_of agents) (got_of agents) first rows
+-- what is promised of a run over an honest link, which gave these rows to the sink, and then the one that was refused, if any was
+pub record WalkFacts (agents : Agents) (first : Walker) (rows refused : List VarBind) (end : WalkEnd) : Type 0 where
+  pub part : IsPart (next_of agents) (got_of agents) first (rows ++ refused)
   pub lawful : IsLawfulEnd agents first rows end
-  -- over one table what was given is a beginning of the walk,
-  pub beginning : (view : MibView) (got : VarBind) → agents.tables ≡ view ∷ [] → IsGet view first.asked got → (more : List VarBind) × (walk_at first view got ≡ rows ++ more)
+  -- over one table what was given, with what was refused, is a beginning of the walk,
+  pub beginning : (view : MibView) (got : VarBind) → agents.tables ≡ view ∷ [] → IsGet view first.asked got → (more : List VarBind) × (walk_at first view got ≡ (rows ++ refused) ++ more)
   -- and where the walk is done it is all of it
   pub all : (view : MibView) (got : VarBind) → agents.tables ≡ view ∷ [] → IsGet view first.asked got → IsDone end → rows ≡ walk_at first view got
   -- Over one table that has room for each single binding, with ids enough, a walk by GetNext is done unless the link or the sink stops it.

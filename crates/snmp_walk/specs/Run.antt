@@ -1,5 +1,5 @@
 -- What a run of a walk hears and gives.
-use Rattle.std.specs.Prelude.{◌≡◌, ◌≢◌, ℕ, ◌≤◌, true, List, [], ◌++◌, length, take, Option, Some, None, Result}
+use Rattle.std.specs.Prelude.{◌≡◌, ◌≢◌, ℕ, ◌≤◌, true, List, [], ◌∷◌, ◌++◌, length, take, Option, Some, None, Result, Err}
 use Rattle.snmp_wire.specs.Message.{VarBind, Message}
 use Rattle.snmp_wire.specs.Spelling.{Spells}
 use Rattle.snmp_walk.specs.Walker.{Walker}
@@ -10,7 +10,7 @@ use Rattle.snmp_walk.specs.declared.end.WalkEnd.TheVariants as ending
 use Rattle.snmp_walk.specs.declared.rows.Step.{Step}
 use Rattle.snmp_walk.specs.declared.rows.Step.TheVariants as step
 use Rattle.snmp_walk.specs.Request.{request_of}
-use Rattle.snmp_walk.specs.Sink.{Given, Refused}
+use Rattle.snmp_walk.specs.Sink.{Given}
 use Rattle.snmp_walk.specs.Taken.{is_awaited, take_of}
 use Rattle.snmp_walk.specs.Standing.{IsReplyTo}
 use Rattle.snmp_walk.specs.Link.{Agents, next_of, got_of, IsTooLarge, IsUnanswered}
@@ -40,8 +40,8 @@ pub data Turns {S : Type 0} (takes : S → VarBind → Result (Unit {0}) SinkFau
       → end ≡ None → Turns takes agents honest old before rows end new after
   ends : (m : Message) (why : WalkEnd) → IsFrom agents honest old m → (take_of old m).0 ≡ step.Last rows why → Given takes before rows after
       → end ≡ Some why → Turns takes agents honest old before rows end new after
-  is_refused : (m : Message) (fault : SinkFault) (left : List VarBind) (between : S) → IsFrom agents honest old m → rows_in (take_of old m).0 ≡ rows ++ left
-      → Given takes before rows between → Refused takes between fault after
+  is_refused : (m : Message) (fault : SinkFault) (p : VarBind) (left : List VarBind) (between : S) → IsFrom agents honest old m → rows_in (take_of old m).0 ≡ rows ++ p ∷ left
+      → Given takes before rows between → takes between p (Err fault) after
       → end ≡ Some (ending.Sink fault) → Turns takes agents honest old before rows end new after
   is_silent : (honest → IsUnanswered agents (canon (request_of old))) → rows ≡ [] → after ≡ before
       → end ≡ Some ending.NoResponse → Turns takes agents honest old before rows end new after

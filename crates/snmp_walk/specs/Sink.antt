@@ -10,11 +10,11 @@ abbrev pub Given : {S : Type 0} → (S → VarBind → Result (Unit {0}) SinkFau
 Given {S} takes old [] new = new ≡ old
 Given {S} takes old (p ∷ more) new = (between : S) × takes old p (Ok tt) between × Given takes between more new
 
--- it refused a binding
-abbrev pub Refused : {S : Type 0} → (S → VarBind → Result (Unit {0}) SinkFault → S → Type 0) → S → SinkFault → S → Type 0
-Refused {S} takes old fault new = (p : VarBind) × takes old p (Err fault) new
+-- it refused one binding, and these are that one
+abbrev pub Refused : {S : Type 0} → (S → VarBind → Result (Unit {0}) SinkFault → S → Type 0) → S → List VarBind → SinkFault → S → Type 0
+Refused {S} takes old refused fault new = (p : VarBind) × (refused ≡ p ∷ []) × takes old p (Err fault) new
 
--- the bindings were given, and then, where the walk ended for the sink's sake, one was refused
-abbrev pub Took : {S : Type 0} → (S → VarBind → Result (Unit {0}) SinkFault → S → Type 0) → S → List VarBind → WalkEnd → S → Type 0
-Took {S} takes old rows (ending.Sink fault) new = (between : S) × Given takes old rows between × Refused takes between fault new
-Took {S} takes old rows _ new = Given takes old rows new
+-- the bindings were given, and then, where the walk ended for the sink's sake, one was refused, and else none
+abbrev pub Took : {S : Type 0} → (S → VarBind → Result (Unit {0}) SinkFault → S → Type 0) → S → (rows refused : List VarBind) → WalkEnd → S → Type 0
+Took {S} takes old rows refused (ending.Sink fault) new = (between : S) × Given takes old rows between × Refused takes between refused fault new
+Took {S} takes old rows refused _ new = Given takes old rows new × (refused ≡ [])

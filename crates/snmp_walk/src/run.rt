@@ -1,5 +1,5 @@
 //! A walk over a link: from the first request to the end, each binding to a sink as it comes.
-ghost use Rattle.std.specs.Prelude.{◌≡◌, ◌≢◌, ◌≤◌, ◌⊎◌, ℕ, List, length, take, Option, Some, None, Ok, Err, IfOk, IfSome, IfNone, OnOk, OnErr, false};
+ghost use Rattle.std.specs.Prelude.{◌≡◌, ◌≢◌, ◌≤◌, ◌⊎◌, ◌++◌, ℕ, List, length, take, Option, Some, None, Ok, Err, IfOk, IfSome, IfNone, OnOk, OnErr, false};
 ghost use Rattle.snmp_wire.specs.Canon.{canon};
 ghost use Rattle.snmp_walk.specs.Request.{request_of};
 ghost use Rattle.snmp_walk.specs.Taken.{is_over};
@@ -29,7 +29,8 @@ pub fn run_walk<L: Link, S: Sink>(
     sink: &mut S,
 ) -> WalkEnd
     requires { IsFresh core }
-    ensures given { (rows : List VarBind) × Took S.takes sink.old rows result sink.new × IsPart Rises Named core rows × (L.honest link.old → WalkFacts (L.agents link.old) core rows result) }
+    ensures given { (rows : List VarBind) × (refused : List VarBind) × Took S.takes sink.old rows refused result sink.new × IsPart Rises Named core (rows ++ refused)
+        × (L.honest link.old → WalkFacts (L.agents link.old) core rows refused result) }
     ensures fault { result ≡ WalkEnd.Link → Rose (L.fault_count link.old) (L.fault_count link.new) }
 {
     let mut core = core;

@@ -19,12 +19,12 @@ pub trait Sink {
 }
 
 ghost use Rattle.snmp_wire.specs.Message.{VarBind};
-ghost use Rattle.snmp_walk.specs.Sink.{Given, Refused};
+ghost use Rattle.snmp_walk.specs.Sink.{Given};
 
 /// Gives the bindings to the sink, in order, until it refuses one.
 pub(crate) fn give<S: Sink>(rows: Rows<'_>, sink: &mut S) -> Result<(), SinkFault>
     ensures ok { OnOk result (Given S.takes sink.old rows.entry sink.new) }
-    ensures err { IfErr result (λ fault. (front : List VarBind) × (back : List VarBind) × (rows.entry ≡ front ++ back) × (between : S) × Given S.takes sink.old front between × Refused S.takes between fault sink.new) }
+    ensures err { IfErr result (λ fault. (front : List VarBind) × (p : VarBind) × (back : List VarBind) × (rows.entry ≡ front ++ p ∷ back) × (between : S) × Given S.takes sink.old front between × S.takes between p (Err fault) sink.new) }
 {
     'rows: for binding in rows {
         sink.row(&binding)?;

@@ -22,12 +22,13 @@ returns-in-Some-clause-given g c =
     let done = over g.S.Sink.takes (g.L.Link.agents c.args.link.now) (g.L.Link.honest c.turns.link) c.args.core c.turns.core c.args.sink.now c.turns.sink c.turn.new.sink
     inv.0 inv.1 inv.2 c.turn.ensures.walker t.0 c.turn.new.core c.in-Some.end same in (
       inv.0 ++ t.0,
+      done.refused,
       done.sink,
       done.part,
       λ h.
           let views = (g.met.L.Link.lawful c.args.link.now h).views in
           let shown = done.facts (inv.4 h) (views_answer (g.L.Link.agents c.args.link.now) views) (inv.3 h views) in
-          facts (g.L.Link.agents c.args.link.now) c.args.core (inv.0 ++ t.0) c.in-Some.end c.requires views shown.part shown.lawful,
+          facts (g.L.Link.agents c.args.link.now) c.args.core (inv.0 ++ t.0) done.refused c.in-Some.end c.requires views shown.part shown.lawful,
     )
 
 pub returns-in-Some-clause-fault : goal.returns-in-Some-clause-fault

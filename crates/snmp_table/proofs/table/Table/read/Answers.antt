@@ -48,3 +48,10 @@ returns-in-Ok-clause-table c =
     table_of (lines c.args.text.now) c.in-Ok.rows.items (map (λ o. o.items) c.in-Ok.objects.keys)
     (held c.args.text.now c.lines.rest.now c.lines.draft c.lines.number c.in-Ok.rows.items (map (λ o. o.items) c.in-Ok.objects.keys) c.lines.invariant end c.in-Ok.ensures.rows
     (ap (λ objects. map (λ o. o.items) objects.keys) c.in-Ok.ensures.objects))
+
+pub returns-in-Ok-clause-view : goal.returns-in-Ok-clause-view
+returns-in-Ok-clause-view c =
+    let end : c.lines.rest.now ≡ [] = nothing_left c.lines.rest.now c.is_empty.result c.is_empty.ensures c.lines-test.false in
+    (kept (lines c.args.text.now) c.in-Ok.rows.items (map (λ o. o.items) c.in-Ok.objects.keys)
+    (held c.args.text.now c.lines.rest.now c.lines.draft c.lines.number c.in-Ok.rows.items (map (λ o. o.items) c.in-Ok.objects.keys) c.lines.invariant end c.in-Ok.ensures.rows
+    (ap (λ objects. map (λ o. o.items) objects.keys) c.in-Ok.ensures.objects))).view
