@@ -1,22 +1,22 @@
 -- There is an answer to each name.
-use Rattle.std.proofs.Common.{◌≡◌, ℕ, zero, suc, ◌+◌, ◌≤◌, ◌<◌, ◌⊎◌, inl, inr, Bool, true, false, T, List, [], ◌∷◌, ◌++◌, map, length, take, drop, Option, Some, None, Less, Equal, Greater, Ordering, refl, sym, ap, subst, ◌∙◌, ⊎_elim, arith, length-append}
+use Rattle.std.proofs.Common.{◌≡◌, ℕ, zero, suc, ◌+◌, ◌<◌, ◌⊎◌, inl, inr, Bool, true, false, T, List, [], ◌∷◌, ◌++◌, map, length, take, drop, Option, Some, None, Less, Equal, Greater, Ordering, refl, sym, ap, subst, ◌∙◌, ⊎_elim, arith, length-append}
 use Rattle.std.specs.Ordering.{nat_cmp}
 use Rattle.std.specs.Cmp.Lexicographic.{slice_cmp, nat_list_cmp_total}
 use Rattle.std.specs.FinMap.{get, entries, entries_sorted, get-entries, find, is_sorted}
 use Rattle.std.specs.FinSet.{contains}
 use Rattle.std.proofs.lemmas.Bool.{cases_lt}
-use Rattle.std.proofs.lemmas.List.{take-append-drop, take-append-le}
+use Rattle.std.proofs.lemmas.List.{take-append-drop}
 use Rattle.std.proofs.Math.Seq.{take-append_seam}
 use Rattle.snmp_wire.specs.declared.kind.Kind.{Kind}
 use Rattle.snmp_wire.specs.declared.kind.Kind.TheVariants as kind
 use Rattle.snmp_wire.specs.Message.{Datum, no_such_object, no_such_instance, VarBind}
-use Rattle.snmp_table.specs.Table.{MibView, HasObject, IsGet, variable, unknown_object, unknown_instance, IsNext}
+use Rattle.snmp_table.specs.Table.{MibView, HasObject, IsGet, variable, unknown_object, unknown_instance, IsNext, IsNextAfter}
 use Rattle.snmp_table.specs.Listing.{first_or_end}
 use Rattle.snmp_table.specs.Places.{IsBeforeAll, IsBeforeNone, var_of}
 use Rattle.snmp_table.proofs.Rising.{before_all, first_of_both, second_of_both}
-use Rattle.snmp_table.proofs.Successors.{StandsApart, is_next}
-use Rattle.snmp_agent.specs.Reply.{IsServed, AreAnswers}
-use Rattle.snmp_agent.specs.Answering.{IsAnswer}
+use Rattle.snmp_table.proofs.Successors.{is_next}
+use Rattle.snmp_agent.specs.Reply.{AreAnswers}
+use Rattle.snmp_agent.specs.Answering.{IsPaired, IsAnswer, AreGiven}
 
 -- ---- Get
 
@@ -101,7 +101,7 @@ next view o =
 
 -- ---- bindings
 
-answered : (view : MibView) (k : Kind) (asked : VarBind) → IsServed k → (given : VarBind) × IsAnswer view k asked given
+answered : (view : MibView) (k : Kind) (asked : VarBind) → IsPaired k → (given : VarBind) × IsAnswer view k asked given
 answered view kind.GetRequest asked h = got view asked.name
 answered view kind.GetNextRequest asked h = next view asked.name
 answered view kind.SetRequest asked h = (asked, refl)
@@ -111,10 +111,26 @@ answered view kind.InformRequest asked h = absurd h
 answered view kind.Trap asked h = absurd h
 answered view kind.Report asked h = absurd h
 
--- each binding of a request has an answer
-pub all_answered : (view : MibView) (k : Kind) (asked : List VarBind) → IsServed k → (given : List VarBind) × AreAnswers (IsAnswer view k) asked given
-all_answered view k [] h = ([], tt)
-all_answered view k (first ∷ more) h =
-    let here = answered view k first h in
-    let there = all_answered view k more h in
+each : (R : VarBind → VarBind → Type 0) → ((asked : VarBind) → (given : VarBind) × R asked given) → (asked : List VarBind) → (given : List VarBind) × AreAnswers R asked given
+each R one [] = ([], tt)
+each R one (first ∷ more) =
+    let here = one first in
+    let there = each R one more in
     (here.0 ∷ there.0, (here.1, there.1))
+
+-- each binding of a request has an answer
+pub all_answered : (view : MibView) (k : Kind) (asked : List VarBind) → IsPaired k → (given : List VarBind) × AreAnswers (IsAnswer view k) asked given
+all_answered view k asked h = each (IsAnswer view k) (λ (a : VarBind). answered view k a h) asked
+
+-- ---- rounds
+
+next_after : (view : MibView) (round : ℕ) (o : List ℕ) → (p : VarBind) × IsNextAfter view round o p
+next_after view zero o = next view o
+next_after view (suc round) o =
+    let before = next_after view round o in
+    let here = next view before.0.name in
+    (here.0, (before.0, before.1, here.1))
+
+-- each name has an answer in each round
+pub all_given : (view : MibView) (round : ℕ) (names : List VarBind) → (given : List VarBind) × AreGiven view round names given
+all_given view round names = each (λ asked given. IsNextAfter view round asked.name given) (λ (asked : VarBind). next_after view round asked.name) names

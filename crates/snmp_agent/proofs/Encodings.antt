@@ -1,10 +1,9 @@
 -- Which bindings have an encoding, and how long it is.
-use Rattle.std.proofs.Common.{◌≡◌, ℕ, ◌+◌, ◌≤◌, ◌<◌, List, [], ◌∷◌, ◌++◌, length, refl, sym, ap, subst, ◌∙◌, ⊎_elim, arith, length-append}
+use Rattle.std.proofs.Common.{ℕ, ◌<◌, List, [], ◌∷◌, ◌++◌, length, ⊎_elim, arith, length-append}
 use Rattle.std.proofs.lemmas.Bool.{cases_lt}
-use Rattle.snmp_oid.specs.Identifier.{IsWire}
 use Rattle.snmp_wire.specs.Message.{Datum, object_id, integer_value, octet_string, null_value, ip_address, counter32, gauge32, time_ticks, opaque_octets, counter64, no_such_object, no_such_instance, end_of_mib_view, VarBind, Message}
-use Rattle.snmp_wire.specs.Number.{Form, lenient}
-use Rattle.snmp_wire.specs.Spelling.{IsContent, SpellsBinding, SpellsBindings, Spells, sequence_tag, value_tag}
+use Rattle.snmp_wire.specs.Number.{lenient}
+use Rattle.snmp_wire.specs.Spelling.{IsContent, SpellsBindings, Spells, sequence_tag, value_tag}
 use Rattle.snmp_wire.specs.Canon.{IsEncodable, IsEncodableValue, canon_binding, canon_content, canon_element, canon_value}
 use Rattle.snmp_wire.proofs.ElementLemmas.{length-canon_element}
 use Rattle.snmp_table.specs.Table.{IsAnswerValue}

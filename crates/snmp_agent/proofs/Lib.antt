@@ -3,3 +3,7 @@ pub mod Answers
 pub mod Encodings
 pub mod Requests
 pub mod Drafts
+pub mod Rounds
+pub mod Fronts
+pub mod BulkReplies
+pub mod RoundFronts

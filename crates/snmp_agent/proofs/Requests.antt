@@ -2,8 +2,8 @@
 use Rattle.std.specs.Cmp.Lexicographic.{pointwise, same_text, other_text}
 use mir.Syntax.{w32}
 use mir.Val.{of_z, to_z, SFits}
-use Rattle.std.proofs.lemmas.Int.{to_z-of_z, ints}
-use Rattle.std.proofs.Common.{◌≡◌, ℕ, ℤ, pos, Bool, true, false, not, nat_eq, ◌⊎◌, inl, inr, ◌+◌, ◌≤◌, ◌<◌, List, [], ◌∷◌, ◌++◌, length, take, refl, sym, ap, subst, ◌∙◌, arith, length-append, append_assoc}
+use Rattle.std.proofs.lemmas.Int.{to_z-of_z}
+use Rattle.std.proofs.Common.{◌≡◌, ℕ, ℤ, pos, Bool, true, false, not, nat_eq, ◌⊎◌, inl, inr, ◌+◌, ◌≤◌, List, [], ◌∷◌, ◌++◌, length, take, refl, sym, ap, subst, ◌∙◌, arith}
 use Rattle.std.proofs.lemmas.Grind.{flat_map-append}
 use Rattle.std.proofs.lemmas.List.{append-nil}
 use Rattle.snmp_wire.specs.declared.kind.Kind.{Kind}
@@ -11,9 +11,9 @@ use Rattle.snmp_wire.specs.declared.kind.Kind.TheVariants as kind
 use Rattle.snmp_wire.specs.Message.{VarBind, Message}
 use Rattle.snmp_wire.specs.Canon.{canon, canon_binding, canon_bindings, canon_fields, canon_front, canon_head, canon_opening}
 use Rattle.snmp_wire.proofs.MessageWriting.{canon_parts, length-canon}
-use Rattle.snmp_table.specs.Table.{MibView, IsGet, IsNext}
+use Rattle.snmp_table.specs.Table.{MibView}
 use Rattle.snmp_agent.specs.Reply.{IsServed, AreAnswers, IsWhole, IsResponse, whole, shortened, too_big, got, got_next, unwritten, response, not_writable, failed_place}
-use Rattle.snmp_agent.specs.Answering.{IsAnswer, IsDraft, PassesLimit, whole_size, status_of, index_of}
+use Rattle.snmp_agent.specs.Answering.{IsPaired, IsAnswer, IsSent, IsDraft, PassesLimit, whole_size, status_of, index_of}
 
 -- the head of a message doesn't look at its bindings
 pub same_head : (q : Message) (status index : ℤ) (bindings : List VarBind) (total : ℕ) → canon_head (response q status index []) total ≡ canon_head (response q status index bindings) total
@@ -32,7 +32,7 @@ own [] (g ∷ gs) h = absurd h
 own (a ∷ more) [] h = absurd h
 own (a ∷ more) (g ∷ gs) h = let rest : gs ≡ more = own more gs h.1 in let first : g ≡ a = h.0 in cc
 
-by_kind : (view : MibView) (q : Message) (given : List VarBind) (k : Kind) → q.kind ≡ k → IsServed k → AreAnswers (IsAnswer view k) q.bindings given
+by_kind : (view : MibView) (q : Message) (given : List VarBind) (k : Kind) → q.kind ≡ k → IsPaired k → AreAnswers (IsAnswer view k) q.bindings given
     → IsWhole view q (response q (status_of k) (index_of k q.bindings) given)
 by_kind view q given kind.GetRequest e h answers = got given e answers refl
 by_kind view q given kind.GetNextRequest e h answers = got_next given e answers refl
@@ -44,7 +44,7 @@ by_kind view q given kind.Trap e h answers = absurd h
 by_kind view q given kind.Report e h answers = absurd h
 
 -- the Response to a request whose bindings are answered, whatever its size
-pub whole_response : (view : MibView) (q : Message) (given : List VarBind) → IsServed q.kind → AreAnswers (IsAnswer view q.kind) q.bindings given
+pub whole_response : (view : MibView) (q : Message) (given : List VarBind) → IsPaired q.kind → AreAnswers (IsAnswer view q.kind) q.bindings given
     → IsWhole view q (response q (status_of q.kind) (index_of q.kind q.bindings) given)
 whole_response view q given h answers = by_kind view q given q.kind refl h answers
 
@@ -93,23 +93,38 @@ same_community {found} {own} {theirs} e agrees = sym e ∙ same_text found own (
     flip true h = refl
     flip false h = absurd (cc)
 
-pub served_kinds : {found theirs : Kind} → found ≡ theirs → (found ≡ kind.GetRequest) ⊎ ((found ≡ kind.GetNextRequest) ⊎ (found ≡ kind.SetRequest)) → IsServed theirs
+pub served_kinds : {found theirs : Kind} → found ≡ theirs → (found ≡ kind.GetRequest) ⊎ ((found ≡ kind.GetNextRequest) ⊎ ((found ≡ kind.GetBulkRequest) ⊎ (found ≡ kind.SetRequest))) → IsServed theirs
 served_kinds {found} {theirs} e (inl is) = subst (λ (k : Kind). IsServed k) (sym is ∙ e) tt
 served_kinds {found} {theirs} e (inr (inl is)) = subst (λ (k : Kind). IsServed k) (sym is ∙ e) tt
-served_kinds {found} {theirs} e (inr (inr is)) = subst (λ (k : Kind). IsServed k) (sym is ∙ e) tt
+served_kinds {found} {theirs} e (inr (inr (inl is))) = subst (λ (k : Kind). IsServed k) (sym is ∙ e) tt
+served_kinds {found} {theirs} e (inr (inr (inr is))) = subst (λ (k : Kind). IsServed k) (sym is ∙ e) tt
 
-pub other_kind : {found theirs : Kind} → found ≡ theirs → (found ≡ kind.GetRequest → ⊥) → (found ≡ kind.GetNextRequest → ⊥) → (found ≡ kind.SetRequest → ⊥) → IsServed theirs → ⊥
-other_kind {found} {theirs} e get next set served = by_cases theirs e served
+pub other_kind : {found theirs : Kind} → found ≡ theirs → (found ≡ kind.GetRequest → ⊥) → (found ≡ kind.GetNextRequest → ⊥) → (found ≡ kind.GetBulkRequest → ⊥) → (found ≡ kind.SetRequest → ⊥) → IsServed theirs → ⊥
+other_kind {found} {theirs} e get next bulk set served = by_cases theirs e served
   where
     by_cases : (k : Kind) → found ≡ k → IsServed k → ⊥
     by_cases kind.GetRequest is h = get is
     by_cases kind.GetNextRequest is h = next is
     by_cases kind.SetRequest is h = set is
-    by_cases kind.GetBulkRequest is h = h
+    by_cases kind.GetBulkRequest is h = bulk is
     by_cases kind.Response is h = h
     by_cases kind.InformRequest is h = h
     by_cases kind.Trap is h = h
     by_cases kind.Report is h = h
+
+-- what is served and is no GetBulk has one binding for each of the request's
+pub paired_kind : {found theirs : Kind} → found ≡ theirs → (found ≡ kind.GetBulkRequest → ⊥) → IsServed theirs → IsPaired theirs
+paired_kind {found} {theirs} e other served = by_cases theirs e served
+  where
+    by_cases : (k : Kind) → found ≡ k → IsServed k → IsPaired k
+    by_cases kind.GetRequest is h = tt
+    by_cases kind.GetNextRequest is h = tt
+    by_cases kind.SetRequest is h = tt
+    by_cases kind.GetBulkRequest is h = absurd (other is)
+    by_cases kind.Response is h = absurd h
+    by_cases kind.InformRequest is h = absurd h
+    by_cases kind.Trap is h = absurd h
+    by_cases kind.Report is h = absurd h
 
 -- ---- replies
 
@@ -119,9 +134,9 @@ answers_of view q k bindings given same_kind same_bindings h =
     subst (λ (bs : List VarBind). AreAnswers (IsAnswer view q.kind) bs given) same_bindings (subst (λ (j : Kind). AreAnswers (IsAnswer view j) bindings given) same_kind h)
 
 -- a finished draft is the Response
-pub finished : (view : MibView) (limit : ℕ) (q : Message) (k : Kind) (bindings given : List VarBind) (m : Message) (total n : ℕ) (out new : List ℕ) → IsServed q.kind → k ≡ q.kind → bindings ≡ q.bindings
+pub finished : (view : MibView) (limit : ℕ) (q : Message) (k : Kind) (bindings given : List VarBind) (m : Message) (total n : ℕ) (out new : List ℕ) → IsPaired q.kind → k ≡ q.kind → bindings ≡ q.bindings
     → m ≡ response q (status_of q.kind) (index_of q.kind q.bindings) [] → AreAnswers (IsAnswer view k) bindings given → IsDraft m limit given total out → n ≡ whole_size m total → take n new ≡ canon_head m total ++ take total out
-    → (r : Message) × IsResponse view limit q r × (length (canon r) ≤ limit) × (take n new ≡ canon r) × (n ≡ length (canon r))
+    → IsSent view limit q n new
 finished view limit q k bindings given m total n out new served same_kind same_bindings parts h draft size octets =
     let st = status_of q.kind in
     let ix = index_of q.kind q.bindings in
@@ -132,7 +147,7 @@ finished view limit q k bindings given m total n out new served same_kind same_b
     (response q st ix given, whole (whole_response view q given served (answers_of view q k bindings given same_kind same_bindings h)) fits, fits, text, long)
 
 -- where the answers pass the limit, the Response is an error
-pub replaced : (view : MibView) (limit : ℕ) (q : Message) (k : Kind) (bindings given : List VarBind) (m : Message) → IsServed q.kind → k ≡ q.kind → bindings ≡ q.bindings
+pub replaced : (view : MibView) (limit : ℕ) (q : Message) (k : Kind) (bindings given : List VarBind) (m : Message) → IsPaired q.kind → k ≡ q.kind → bindings ≡ q.bindings
     → m ≡ response q (status_of q.kind) (index_of q.kind q.bindings) [] → AreAnswers (IsAnswer view k) bindings given → PassesLimit m limit given → IsResponse view limit q (response q too_big (pos 0) [])
 replaced view limit q k bindings given m served same_kind same_bindings parts h large =
     let st = status_of q.kind in

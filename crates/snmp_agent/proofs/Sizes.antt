@@ -1,14 +1,14 @@
 -- How long messages are: with more octets of bindings a message is longer.
-use Rattle.std.proofs.Common.{◌≡◌, ℕ, zero, suc, ◌+◌, ◌*◌, ◌≤◌, ◌<◌, List, [], ◌∷◌, ◌++◌, length, refl, sym, ap, subst, ◌∙◌, ⊎_elim, nat_lt, if◌then◌else◌, arith, length-append}
+use Rattle.std.proofs.Common.{◌≡◌, ℕ, zero, suc, ◌+◌, ◌*◌, ◌≤◌, ◌<◌, length, ⊎_elim, nat_lt, if◌then◌else◌, arith}
 use Rattle.std.proofs.lemmas.Bool.{cases_lt}
 use Rattle.std.proofs.lemmas.Bool.Decides.{nat_tests}
-use Rattle.snmp_wire.specs.Canon.{canon, canon_bindings, canon_fields, canon_front, canon_head, canon_header, canon_length, canon_opening, digit_count, length_size}
-use Rattle.snmp_wire.specs.Message.{VarBind, Message}
+use Rattle.snmp_wire.specs.Canon.{canon_front, canon_header, canon_length, digit_count, length_size}
+use Rattle.snmp_wire.specs.Message.{Message}
 use Rattle.snmp_wire.specs.Spelling.{kind_tag, sequence_tag}
 use Rattle.snmp_wire.proofs.CanonLemmas.{digit_some, length-canon_length_short, length-canon_length_long}
 use Rattle.snmp_wire.proofs.ElementLemmas.{length-canon_header}
-use Rattle.snmp_wire.proofs.MessageWriting.{pdu_size, length-canon_front, length-canon_head, length-canon}
-use Rattle.snmp_agent.specs.Answering.{whole_size, PassesLimit}
+use Rattle.snmp_wire.proofs.MessageWriting.{pdu_size, length-canon_front, length-canon_head}
+use Rattle.snmp_agent.specs.Answering.{whole_size}
 
 few : (n limit x y : ℕ) → n < limit → (if nat_lt n limit then x else y) ≡ x
 few n limit x y h = grind (arith, nat_tests)

@@ -1,12 +1,25 @@
 -- How replies are made: what private functions are proved to find and to write.
-use Rattle.std.specs.Prelude.{◌≡◌, ℕ, ℤ, pos, ◌+◌, ◌≤◌, ◌<◌, List, [], ◌∷◌, ◌++◌, length, take}
+use Rattle.std.specs.Prelude.{◌≡◌, ◌≢◌, ◌⊎◌, ℕ, zero, suc, ℤ, pos, ◌+◌, ◌≤◌, ◌<◌, List, [], ◌∷◌, ◌++◌, length, take}
 use Rattle.snmp_oid.specs.Identifier.{IsWire}
 use Rattle.snmp_wire.specs.declared.kind.Kind.{Kind}
 use Rattle.snmp_wire.specs.declared.kind.Kind.TheVariants as kind
 use Rattle.snmp_wire.specs.Message.{Datum, object_id, integer_value, octet_string, null_value, ip_address, counter32, gauge32, time_ticks, opaque_octets, counter64, no_such_object, no_such_instance, end_of_mib_view, VarBind, Message}
-use Rattle.snmp_wire.specs.Canon.{canon_binding, canon_bindings, canon_head}
-use Rattle.snmp_table.specs.Table.{MibView, IsGet, IsNext}
-use Rattle.snmp_agent.specs.Reply.{not_writable, no_error, failed_place}
+use Rattle.snmp_wire.specs.Canon.{canon, canon_binding, canon_bindings, canon_head}
+use Rattle.snmp_table.specs.Table.{MibView, IsGet, IsNext, IsNextAfter}
+use Rattle.snmp_agent.specs.declared.bulk.Progress.{Progress}
+use Rattle.snmp_agent.specs.declared.bulk.Progress.TheVariants as progress
+use Rattle.snmp_agent.specs.Reply.{AreAnswers, AreEnds, IsResponse, not_writable, no_error, failed_place}
+
+-- the kinds of request that are given one binding for each of their own
+abbrev pub IsPaired : Kind → Type 0
+IsPaired kind.GetRequest = Unit {0}
+IsPaired kind.GetNextRequest = Unit {0}
+IsPaired kind.SetRequest = Unit {0}
+IsPaired kind.GetBulkRequest = ⊥
+IsPaired kind.Response = ⊥
+IsPaired kind.InformRequest = ⊥
+IsPaired kind.Trap = ⊥
+IsPaired kind.Report = ⊥
 
 -- what a request of the kind is given for one of its bindings
 abbrev pub IsAnswer : MibView → Kind → VarBind → VarBind → Type 0
@@ -82,3 +95,59 @@ status_of _ = no_error
 abbrev pub index_of : Kind → List VarBind → ℤ
 index_of kind.SetRequest bindings = failed_place bindings
 index_of _ bindings = pos 0
+
+-- the first n octets of the output are the Response that is to be sent
+abbrev pub IsSent : MibView → ℕ → Message → ℕ → List ℕ → Type 0
+IsSent view limit q n out = (r : Message) × IsResponse view limit q r × (length (canon r) ≤ limit) × (take n out ≡ canon r) × (n ≡ length (canon r))
+
+-- the Response that is to be sent doesn't fit
+abbrev pub IsUnsent : MibView → ℕ → Message → Type 0
+IsUnsent view limit q = (r : Message) × IsResponse view limit q r × (limit < length (canon r))
+
+-- ---- GetBulk
+
+-- the encodings of these bindings stand behind the first `start` octets of the old output, and the message with them keeps to the limit
+pub record Extends (m : Message) (limit start : ℕ) (old : List ℕ) (added : List VarBind) (total : ℕ) (out : List ℕ) : Type 0 where
+  pub size : total ≡ start + length (canon_bindings added)
+  pub octets : take total out ≡ take start old ++ canon_bindings added
+  pub fits : whole_size m total ≤ limit
+
+-- the first of these bindings has no room behind so many octets
+abbrev pub HasNoRoom : Message → ℕ → ℕ → List VarBind → Type 0
+HasNoRoom m limit total [] = Unit {0}
+HasNoRoom m limit total (p ∷ more) = limit < whole_size m (total + length (canon_binding p))
+
+-- a front of these bindings stands there, and there is no room for one more of them
+pub record HoldsFront (m : Message) (limit start : ℕ) (old : List ℕ) (all : List VarBind) (total : ℕ) (out : List ℕ) : Type 0 where
+  pub added : List VarBind
+  pub more : List VarBind
+  pub front : all ≡ added ++ more
+  pub extends : Extends m limit start old added total out
+  pub no_room : HasNoRoom m limit total more
+
+-- what the names are given in the round behind so many others
+abbrev pub AreGiven : MibView → ℕ → List VarBind → List VarBind → Type 0
+AreGiven view round = AreAnswers (λ asked given. IsNextAfter view round asked.name given)
+
+-- How far a list of bindings was written: all of it, where more may follow, or a front of it. A front is all of it only where no more may follow.
+abbrev pub IsProgress : (IsAll MayGoOn : List VarBind → Type 0) → Message → ℕ → ℕ → List ℕ → Progress → List ℕ → Type 0
+IsProgress IsAll MayGoOn m limit start old (progress.Open total) out = (all : List VarBind) × IsAll all × MayGoOn all × Extends m limit start old all total out
+IsProgress IsAll MayGoOn m limit start old (progress.Closed total) out =
+    (all : List VarBind) × IsAll all × (front : HoldsFront m limit start old all total out) × (MayGoOn all → front.more ≢ [])
+
+-- the names that are left where more may follow
+abbrev pub Leaves : Progress → List VarBind → List VarBind → Type 0
+Leaves (progress.Open total) names left = left ≡ names
+Leaves (progress.Closed total) names left = Unit {0}
+
+-- a round that another may follow: not endOfMibView throughout
+abbrev pub HasRow : List VarBind → Type 0
+HasRow round = AreEnds round → ⊥
+
+-- the rounds from this one on, where so many more are asked for
+abbrev pub AreRoundsFrom : MibView → List VarBind → ℕ → ℕ → List (List VarBind) → Type 0
+AreRoundsFrom view names i zero [] = Unit {0}
+AreRoundsFrom view names i zero (round ∷ more) = ⊥
+AreRoundsFrom view names i (suc left) [] = ⊥
+AreRoundsFrom view names i (suc left) (round ∷ more) =
+    AreGiven view i names round × ((AreEnds round × (more ≡ [])) ⊎ ((AreEnds round → ⊥) × AreRoundsFrom view names (i + 1) left more))

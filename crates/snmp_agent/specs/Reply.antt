@@ -1,11 +1,11 @@
 -- The replies of an agent that reads alone (RFC 3416, section 4.2; RFC 1901, section 3).
-use Rattle.std.specs.Prelude.{◌≡◌, ◌≢◌, ℕ, ℤ, pos, ◌≤◌, List, [], ◌∷◌, length}
+use Rattle.std.specs.Prelude.{◌≡◌, ◌≢◌, ℕ, ℤ, pos, negsuc, ◌≤◌, ◌<◌, List, [], ◌∷◌, ◌++◌, length, take, drop}
 use Rattle.snmp_wire.specs.declared.kind.Kind.{Kind}
 use Rattle.snmp_wire.specs.declared.kind.Kind.TheVariants as kind
-use Rattle.snmp_wire.specs.Message.{VarBind, Message}
+use Rattle.snmp_wire.specs.Message.{VarBind, Message, end_of_mib_view}
 use Rattle.snmp_wire.specs.Spelling.{Spells}
 use Rattle.snmp_wire.specs.Canon.{canon}
-use Rattle.snmp_table.specs.Table.{MibView, IsGet, IsNext}
+use Rattle.snmp_table.specs.Table.{MibView, IsGet, IsNext, IsNextAfter}
 use Rattle.snmp_agent.specs.declared.config.Config.{Config}
 use Rattle.snmp_agent.specs.declared.config.Why.{Why}
 use Rattle.snmp_agent.specs.declared.config.Why.TheVariants as why
@@ -27,7 +27,7 @@ abbrev pub IsServed : Kind → Type 0
 IsServed kind.GetRequest = Unit {0}
 IsServed kind.GetNextRequest = Unit {0}
 IsServed kind.SetRequest = Unit {0}
-IsServed kind.GetBulkRequest = ⊥
+IsServed kind.GetBulkRequest = Unit {0}
 IsServed kind.Response = ⊥
 IsServed kind.InformRequest = ⊥
 IsServed kind.Trap = ⊥
@@ -76,8 +76,8 @@ abbrev pub failed_place : List VarBind → ℤ
 failed_place [] = pos 0
 failed_place (_ ∷ _) = pos 1
 
--- the Response to a request, whatever its size: to a Get the bindings asked for (4.2.1), to a GetNext their successors (4.2.2), and to a
--- Set, since nothing can be written, its own bindings and an error (4.2.5)
+-- the Response to a request that has one binding for each of its own, whatever its size: to a Get the bindings asked for (4.2.1), to a GetNext
+-- their successors (4.2.2), and to a Set, since nothing can be written, its own bindings and an error (4.2.5)
 pub data IsWhole (view : MibView) (q r : Message) : Type 0 where
   got : (bindings : List VarBind) → q.kind ≡ kind.GetRequest → AreAnswers (λ asked given. IsGet view asked.name given) q.bindings bindings
       → r ≡ response q no_error (pos 0) bindings → IsWhole view q r
@@ -89,11 +89,58 @@ pub data IsWhole (view : MibView) (q r : Message) : Type 0 where
 abbrev pub Fits : ℕ → Message → Type 0
 Fits max_size m = length (canon m) ≤ max_size
 
--- the Response that is to be sent where messages have at most so many octets: the whole one where it fits, else an error without bindings
--- (4.2.1, 4.2.2, 4.2.5)
+-- ---- GetBulk (4.2.3)
+
+-- a number that counts as 0 where it is less
+abbrev pub or_zero : ℤ → ℕ
+or_zero (pos n) = n
+or_zero (negsuc n) = 0
+
+-- endOfMibView throughout
+abbrev pub AreEnds : List VarBind → Type 0
+AreEnds [] = Unit {0}
+AreEnds (p ∷ more) = (p.value ≡ end_of_mib_view) × AreEnds more
+
+-- lists, one behind the other
+abbrev pub joined : List (List VarBind) → List VarBind
+joined [] = []
+joined (round ∷ more) = round ++ joined more
+
+-- The rounds of the names that repeat. The round behind i others holds for each name, at its place, what a GetNext gives that is asked i times more
+-- from the name that it gave: the name's successor number i + 1. There are as many rounds as repetitions; fewer only where the last is endOfMibView
+-- throughout, and no round stands behind such a one.
+pub record AreRounds (view : MibView) (repetitions : ℕ) (names : List VarBind) (rounds : List (List VarBind)) : Type 0 where
+  pub few : length rounds ≤ repetitions
+  pub successors : (before later : List (List VarBind)) (round : List VarBind) → rounds ≡ before ++ round ∷ later
+      → AreAnswers (λ asked given. IsNextAfter view (length before) asked.name given) names round
+  pub last : (before later : List (List VarBind)) (round : List VarBind) → rounds ≡ before ++ round ∷ later → AreEnds round → later ≡ []
+  pub closed : length rounds < repetitions → (before : List (List VarBind)) × (round : List VarBind) × (rounds ≡ before ++ round ∷ []) × AreEnds round
+
+-- All variable bindings that a GetBulk asks for, whatever their size: the successors of its first names, as many as non-repeaters says or all that
+-- there are, and then max-repetitions rounds of the other names. Either number counts as 0 where it is less.
+pub record IsBulk (view : MibView) (q : Message) (bindings : List VarBind) : Type 0 where
+  pub singles : List VarBind
+  pub rounds : List (List VarBind)
+  pub parts : bindings ≡ singles ++ joined rounds
+  pub are_singles : AreAnswers (λ asked given. IsNext view asked.name given) (take (or_zero q.a) q.bindings) singles
+  pub are_rounds : AreRounds view (or_zero q.b) (drop (or_zero q.a) q.bindings) rounds
+
+-- the longest front of all these bindings with which the Response fits; no bindings where it fits with none
+pub record IsLongestFront (max_size : ℕ) (q : Message) (all bindings : List VarBind) : Type 0 where
+  pub more : List VarBind
+  pub front : all ≡ bindings ++ more
+  pub fits : bindings ≢ [] → Fits max_size (response q no_error (pos 0) bindings)
+  pub longest : (longer rest : List VarBind) → all ≡ longer ++ rest → Fits max_size (response q no_error (pos 0) longer) → length longer ≤ length bindings
+
+-- ---- sizes
+
+-- The Response that is to be sent where messages have at most so many octets: the whole one where it fits, else an error without bindings
+-- (4.2.1, 4.2.2, 4.2.5); to a GetBulk as many bindings, from the first on, as fit (4.2.3).
 pub data IsResponse (view : MibView) (max_size : ℕ) (q r : Message) : Type 0 where
   whole : IsWhole view q r → Fits max_size r → IsResponse view max_size q r
   shortened : (large : Message) → IsWhole view q large → (Fits max_size large → ⊥) → r ≡ response q too_big (pos 0) [] → IsResponse view max_size q r
+  bulk : (all bindings : List VarBind) → q.kind ≡ kind.GetBulkRequest → IsBulk view q all → IsLongestFront max_size q all bindings
+      → r ≡ response q no_error (pos 0) bindings → IsResponse view max_size q r
 
 -- ---- replies
 

@@ -1,11 +1,12 @@
 //! Requests and their replies.
 ghost use Rattle.std.specs.Prelude.{◌≡◌, ℕ, pos, ◌≤◌, ◌<◌, [], length, take, IfOk, IfErr, IfSome, IfNone};
-ghost use Rattle.snmp_wire.specs.Message.{Message};
+ghost use Rattle.snmp_wire.specs.declared.kind.Kind.TheVariants as kind;
 ghost use Rattle.snmp_wire.specs.Canon.{canon};
 ghost use Rattle.snmp_wire.specs.Parts.{parts_message};
 ghost use Rattle.snmp_agent.specs.Reply.{agent_of, IsReply, IsDropped, IsRequest, IsRefused, IsServed, IsResponse, Fits, response, failed_place, too_big};
-ghost use Rattle.snmp_agent.specs.Answering.{AreWritable, status_of, index_of};
+ghost use Rattle.snmp_agent.specs.Answering.{IsPaired, AreWritable, IsSent, IsUnsent, status_of, index_of};
 
+use crate::bulk::append_bulk;
 use crate::config::{Config, Outcome, Why};
 use crate::draft::{append_answers, seal};
 use snmp_table::Table;
@@ -23,7 +24,7 @@ const TOO_BIG: i32 = 1;
 /// The error status notWritable (RFC 3416, section 3).
 const NOT_WRITABLE: i32 = 17;
 
-/// The reply to a datagram, in the front of `out`, or why there is none (RFC 3416, sections 4.2.1, 4.2.2 and 4.2.5).
+/// The reply to a datagram, in the front of `out`, or why there is none (RFC 3416, sections 4.2.1, 4.2.2, 4.2.3 and 4.2.5).
 ///
 /// What stands behind the reply's octets is left open. Nothing is allocated.
 pub fn answer(table: &Table, config: &Config<'_>, request: &[u8], out: &mut [u8; 65507]) -> Outcome
@@ -56,7 +57,9 @@ fn accepted<'a>(community: &[u8], octets: &'a [u8]) -> Result<MessageRef<'a>, Wh
         return Err(Why::Community);
     }
     match message.kind() {
-        Kind::GetRequest | Kind::GetNextRequest | Kind::SetRequest => Ok(message),
+        Kind::GetRequest | Kind::GetNextRequest | Kind::GetBulkRequest | Kind::SetRequest => {
+            Ok(message)
+        }
         _ => Err(Why::Pdu),
     }
 }
@@ -68,8 +71,52 @@ fn reply(table: &Table, max_size: usize, request: &MessageRef<'_>, out: &mut [u8
     requires writable { AreWritable request.now.bindings }
     requires datagram { max_size ≤ 65507 }
     requires room { max_size ≤ length out.old }
-    ensures sent { IfSome result (λ n. (r : Message) × IsResponse table.now max_size request.now r × (length (canon r) ≤ max_size) × (take n out.new ≡ canon r) × (n ≡ length (canon r))) }
-    ensures none { IfNone result ((r : Message) × IsResponse table.now max_size request.now r × (max_size < length (canon r))) }
+    ensures sent { IfSome result (λ n. IsSent table.now max_size request.now n out.new) }
+    ensures none { IfNone result (IsUnsent table.now max_size request.now) }
+{
+    match request.kind() {
+        Kind::GetBulkRequest => bulk_reply(table, max_size, request, out),
+        _ => paired_reply(table, max_size, request, out),
+    }
+}
+
+/// The reply to a GetBulk: as many bindings as fit.
+fn bulk_reply(
+    table: &Table,
+    max_size: usize,
+    request: &MessageRef<'_>,
+    out: &mut [u8],
+) -> Option<usize>
+    requires bulk { request.now.kind ≡ kind.GetBulkRequest }
+    requires community { length request.now.community ≤ 255 }
+    requires writable { AreWritable request.now.bindings }
+    requires datagram { max_size ≤ 65507 }
+    requires room { max_size ≤ length out.old }
+    ensures sent { IfSome result (λ n. IsSent table.now max_size request.now n out.new) }
+    ensures none { IfNone result (IsUnsent table.now max_size request.now) }
+{
+    let parts = response(request, NO_ERROR, 0);
+    if head_size(&parts, 0) > max_size as u64 {
+        return None;
+    }
+    let total = append_bulk(table, request, &parts, max_size, out);
+    Some(seal(&parts, out, total))
+}
+
+/// The reply to a request that has one binding for each of its own: all of them, or an error where they don't fit.
+fn paired_reply(
+    table: &Table,
+    max_size: usize,
+    request: &MessageRef<'_>,
+    out: &mut [u8],
+) -> Option<usize>
+    requires paired { IsPaired request.now.kind }
+    requires community { length request.now.community ≤ 255 }
+    requires writable { AreWritable request.now.bindings }
+    requires datagram { max_size ≤ 65507 }
+    requires room { max_size ≤ length out.old }
+    ensures sent { IfSome result (λ n. IsSent table.now max_size request.now n out.new) }
+    ensures none { IfNone result (IsUnsent table.now max_size request.now) }
 {
     let parts = whole_parts(request);
     match append_answers(

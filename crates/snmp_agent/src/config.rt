@@ -37,7 +37,7 @@ pub enum Why {
     /// Its community isn't the agent's.
     #[error("another community")]
     Community,
-    /// It is no Get, GetNext or Set.
+    /// It is no Get, GetNext, GetBulk or Set.
     #[error("no request that is served")]
     Pdu,
     /// Even the shortest reply has more octets than a message may have.

@@ -3,8 +3,8 @@ ghost use Rattle.std.specs.Prelude.{◌≡◌, ◌+◌, ◌≤◌, ◌<◌, ◌+
 ghost use Rattle.snmp_wire.specs.Message.{VarBind, var_bind, datum};
 ghost use Rattle.snmp_wire.specs.Canon.{canon_binding, canon_bindings, canon_head};
 ghost use Rattle.snmp_wire.specs.Parts.{parts_message};
-ghost use Rattle.snmp_agent.specs.Reply.{IsServed, AreAnswers};
-ghost use Rattle.snmp_agent.specs.Answering.{IsAnswer, IsWritable, AreWritable, IsShortValue, IsDraft, PassesLimit, whole_size};
+ghost use Rattle.snmp_agent.specs.Reply.{AreAnswers};
+ghost use Rattle.snmp_agent.specs.Answering.{IsPaired, IsAnswer, IsWritable, AreWritable, IsShortValue, IsDraft, PassesLimit, whole_size};
 
 use snmp_table::Table;
 use snmp_wire::{
@@ -21,7 +21,7 @@ pub fn append_answers(
     max_size: usize,
     out: &mut [u8],
 ) -> Option<usize>
-    requires served { IsServed kind }
+    requires paired { IsPaired kind }
     requires writable { AreWritable bindings }
     requires community { length parts.now.community.now ≤ 255 }
     requires datagram { max_size ≤ 65507 }
@@ -42,7 +42,7 @@ pub fn append_answers(
 
 /// What a request of this kind is given for one of its bindings: for a Get the variable of its name, for a GetNext the one behind it, and for a Set the binding itself.
 fn answer_to<'a>(table: &'a Table, kind: Kind, asked: Binding<'a>) -> Binding<'a>
-    requires served { IsServed kind }
+    requires paired { IsPaired kind }
     requires writable { IsWritable (var_bind asked) }
     ensures answer { IsAnswer table.now kind (var_bind asked.entry) (var_bind result) }
     ensures writable { IsWritable (var_bind result) }
@@ -60,7 +60,7 @@ fn answer_to<'a>(table: &'a Table, kind: Kind, asked: Binding<'a>) -> Binding<'a
 
 /// Writes a binding behind the `total` octets of those before it, and answers how many they are now.
 /// None, and nothing is written, where a message of these parts with all of them has more than `max_size` octets.
-fn append(
+pub fn append(
     parts: &Parts<'_>,
     max_size: usize,
     out: &mut [u8],
@@ -74,6 +74,7 @@ fn append(
     requires writable { IsWritable (var_bind binding.now) }
     ensures written { IfSome result (λ n. (n ≡ total + length (canon_binding (var_bind binding.now))) × (take n out.new ≡ take total out.old ++ canon_binding (var_bind binding.now)) × (whole_size (parts_message parts.now) n ≤ max_size)) }
     ensures too_long { IfNone result (max_size < whole_size (parts_message parts.now) (total + length (canon_binding (var_bind binding.now)))) }
+    ensures unchanged { IfNone result (out.new ≡ out.old) }
 {
     if !is_short(&binding.value) {
         return None;

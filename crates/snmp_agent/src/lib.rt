@@ -4,11 +4,14 @@
 #![tactic(auto)]
 
 mod agent;
+mod bulk;
 mod config;
 mod draft;
 
 pub use agent::answer;
 pub use config::{Config, Outcome, Why};
 
+#[cfg(test)]
+mod bulk_tests;
 #[cfg(test)]
 mod tests;

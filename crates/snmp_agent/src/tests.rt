@@ -1,7 +1,9 @@
 //! Datagrams and their replies, worked out by hand.
 
+use crate::draft::{append_answers, seal};
 use crate::{Config, Outcome, Why, answer};
 use snmp_table::Table;
+use snmp_wire::{Kind, Parts, decode};
 use std::process::Abort;
 use std::test::Fail;
 
@@ -117,6 +119,10 @@ fn others_are_dropped(rt: HostRuntime) -> Result<(), Fail> {
         (4, 0x00, Why::Version),
         (7, 0x71, Why::Community),
         (13, 0xA2, Why::Pdu),
+        (13, 0xA6, Why::Pdu),
+        (13, 0xA7, Why::Pdu),
+        (13, 0xA8, Why::Pdu),
+        (13, 0xA4, Why::Undecodable),
     ] {
         let mut request = GET;
         let place: usize = place;
@@ -131,5 +137,125 @@ fn others_are_dropped(rt: HostRuntime) -> Result<(), Fail> {
     let mut longer = [0; 41];
     longer[..40].copy_from_slice(&GET);
     assert_dropped(&rt, &table, 1472, &longer, Why::Undecodable);
+    Ok(())
+}
+
+#[test]
+fn values_of_a_set_come_back_in_the_shortest_encoding(rt: HostRuntime) -> Result<(), Fail> {
+    let table = Table::read(rt.alloc(), SYS_NAME)?;
+    // A Counter32 of 200, without the octet that keeps its sign.
+    let mut request = SET;
+    request[38..].copy_from_slice(&[0x41, 0x01, 0xC8]);
+    let mut reply = [0; 42];
+    reply[..41].copy_from_slice(&NOT_SET);
+    reply[1] = 0x28;
+    reply[14] = 0x1B;
+    reply[25] = 0x10;
+    reply[27] = 0x0E;
+    reply[38..].copy_from_slice(&[0x41, 0x02, 0x00, 0xC8]);
+    assert_reply(&rt, &table, 42, &request, &reply);
+    assert_reply(&rt, &table, 41, &request, &TOO_BIG);
+    Ok(())
+}
+
+/// The GetNext of 1.3.6.
+const NEXT: [u8; 34] = [
+    0x30, 0x20, 0x02, 0x01, 0x01, 0x04, 0x06, 0x70, 0x75, 0x62, 0x6C, 0x69, 0x63, 0xA1, 0x13, 0x02,
+    0x01, 0x01, 0x02, 0x01, 0x00, 0x02, 0x01, 0x00, 0x30, 0x08, 0x30, 0x06, 0x06, 0x02, 0x2B, 0x06,
+    0x05, 0x00,
+];
+
+#[test]
+fn the_longest_name_is_answered(rt: HostRuntime) -> Result<(), Fail> {
+    let mut text = [0; 1384];
+    text[..5].copy_from_slice(b"1.3.6");
+    for place in 0..125 {
+        text[5 + 11 * place..16 + 11 * place].copy_from_slice(b".4294967295");
+    }
+    text[1380..].copy_from_slice(b"|2|1");
+    let table = Table::read(rt.alloc(), &text)?;
+    let config = Config {
+        community: b"public",
+        max_size: 1472,
+    };
+    let mut out = [0; 65507];
+    assert_eq!(&rt;
+        answer(&table, &config, &NEXT, &mut out),
+        Outcome::Reply(670)
+    );
+    assert_eq!(&rt; &out[..4], [0x30, 0x82, 0x02, 0x9A].as_slice());
+    assert_eq!(&rt;
+        &out[36..47],
+        [
+            0x06, 0x82, 0x02, 0x73, 0x2B, 0x06, 0x8F, 0xFF, 0xFF, 0xFF, 0x7F
+        ]
+        .as_slice()
+    );
+    assert_reply(&rt, &table, 669, &NEXT, &TOO_BIG);
+    Ok(())
+}
+
+/// Whether the octets spell a message, and are its shortest encoding.
+fn is_own_encoding(table: &Table, octets: &[u8], room: &mut [u8; 65507]) -> bool {
+    let Ok(message) = decode(octets) else {
+        return false;
+    };
+    let parts = Parts {
+        version: message.version(),
+        community: message.community(),
+        kind: message.kind(),
+        id: message.id(),
+        a: message.a(),
+        b: message.b(),
+        bindings: &[],
+    };
+    if parts.community.len() > 255 {
+        return false;
+    }
+    let bindings = message.bindings();
+    match append_answers(
+        table,
+        Kind::SetRequest,
+        bindings,
+        &parts,
+        65507,
+        &mut room[..],
+    ) {
+        Some(total) => {
+            let size = seal(&parts, &mut room[..], total);
+            &room[..size] == octets
+        }
+        None => false,
+    }
+}
+
+/// Whatever one octet of the request is made, a reply is the shortest encoding of a message.
+fn assert_own_encodings(rt: &impl Abort, table: &Table, request: &mut [u8]) {
+    let config = Config {
+        community: b"public",
+        max_size: 1472,
+    };
+    let mut out = [0; 65507];
+    let mut room = [0; 65507];
+    'places: for place in 0..request.len() {
+        let kept = request[place];
+        'octets: for octet in 0..=255 {
+            request[place] = octet;
+            if let Outcome::Reply(size) = answer(table, &config, request, &mut out) {
+                assert!(rt; is_own_encoding(table, &out[..size], &mut room));
+            }
+        }
+        request[place] = kept;
+    }
+}
+
+#[test]
+fn a_changed_octet_does_no_harm(rt: HostRuntime) -> Result<(), Fail> {
+    let table = Table::read(rt.alloc(), SYS_NAME)?;
+    let mut request = GET;
+    assert_own_encodings(&rt, &table, &mut request);
+    request[13] = 0xA5;
+    request[23] = 0x02;
+    assert_own_encodings(&rt, &table, &mut request);
     Ok(())
 }

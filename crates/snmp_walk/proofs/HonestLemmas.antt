@@ -1,33 +1,33 @@
 -- An agent's reply to the waiting request is an honest one.
-use Rattle.std.proofs.Common.{false, ◌≡◌, ◌⊎◌, inl, inr, ℕ, suc, ◌+◌, ◌^◌, ◌<◌, ◌≤◌, List, [], ◌∷◌, ◌++◌, length, refl, sym, ◌∙◌, ap, subst, arith, ℤ, pos, length-append}
+use Rattle.std.proofs.Common.{false, ◌≡◌, ◌≢◌, ◌≤ℤ◌, ◌⊎◌, inl, inr, ℕ, ◌+◌, ◌^◌, ◌<◌, ◌≤◌, List, [], ◌∷◌, ◌++◌, length, refl, sym, ◌∙◌, ap, subst, arith, ℤ, pos, length-append}
 use Rattle.std.proofs.lemmas.Bool.{false≢true, cases_lt}
-use Rattle.std.specs.Prelude.{All, FitsSigned}
+use Rattle.std.specs.Prelude.{FitsSigned, unsigned_abs}
 use Rattle.std.specs.Int.{w32}
 use Rattle.std.specs.List.{AllByRecursion}
 use Rattle.snmp_oid.specs.Identifier.{IsIdentifier, IsWire}
-use Rattle.snmp_wire.specs.declared.kind.Kind.{Kind}
 use Rattle.snmp_wire.specs.declared.kind.Kind.TheVariants as kind
 use Rattle.snmp_wire.specs.Message.{Datum, VarBind, Message, integer_value, octet_string, null_value, object_id, ip_address, counter32, gauge32, time_ticks, opaque_octets, counter64, no_such_object, no_such_instance, end_of_mib_view}
-use Rattle.snmp_wire.specs.Spelling.{Spells, Strict}
+use Rattle.snmp_wire.specs.Spelling.{Spells}
 use Rattle.snmp_wire.specs.Canon.{canon, canon_bindings, canon_head}
 use Rattle.snmp_wire.specs.Range.{IsInRange, IsBindingInRange, IsMessageInRange}
 use Rattle.snmp_wire.proofs.MessageLaws.{one_message}
 use Rattle.snmp_wire.proofs.StrictMessages.{strict_canon}
 use Rattle.snmp_wire.proofs.Lenient.{strict_is_read}
 use Rattle.snmp_wire.proofs.MessageWriting.{canon_parts}
-use Rattle.snmp_table.specs.Table.{MibView, IsRow, IsInstanceValue, IsMibView, IsGet, variable, unknown_object, unknown_instance, IsSuccessor, IsNext, successor, end_of_view}
-use Rattle.snmp_agent.specs.Reply.{Agent, IsRequest, response, AreAnswers, IsWhole, got, got_next, unwritten, Fits, IsResponse, whole, shortened, IsReply as IsAgentReply, no_error, too_big}
+use Rattle.snmp_table.specs.Table.{MibView, IsInstanceValue, IsMibView, IsGet, variable, unknown_object, unknown_instance, IsNext, successor, end_of_view}
+use Rattle.snmp_agent.specs.Reply.{response, AreAnswers, got, got_next, unwritten, Fits, IsLongestFront, IsResponse, whole, shortened, bulk, no_error}
 use Rattle.snmp_walk.specs.declared.mode.Method.{Method}
 use Rattle.snmp_walk.specs.declared.mode.Method.TheVariants as method
 use Rattle.snmp_walk.specs.declared.phase.Phase.{Phase}
 use Rattle.snmp_walk.specs.declared.phase.Phase.TheVariants as phase
-use Rattle.snmp_walk.specs.Walker.{Walker, HasRange, IsWalker}
-use Rattle.snmp_walk.specs.Request.{request_of, request_kind, request_repetitions, repetitions_of}
+use Rattle.snmp_walk.specs.Walker.{Walker, HasRange, IsMethod, IsWalker}
+use Rattle.snmp_walk.specs.Request.{request_of, request_kind, request_repetitions}
 use Rattle.snmp_walk.specs.Taken.{is_over, asked_for}
 use Rattle.snmp_walk.specs.Standing.{IsChain, IsLarge, IsContent, IsReplyTo}
-use Rattle.snmp_walk.specs.Link.{Agents, OneOf, AreLawful, agent_in, next_of, got_of, IsTooLarge, IsReply}
+use Rattle.snmp_walk.specs.Link.{Agents, OneOf, AreLawful, next_of, got_of, IsTooLarge, IsReply}
 use Rattle.snmp_walk.proofs.RequestLemmas.{name_short}
 use Rattle.snmp_walk.proofs.ViewLemmas.{view_of}
+use Rattle.snmp_walk.proofs.BulkLemmas.{IsOneBulk, one_bulk, chain_front, chain_by}
 
 -- numbers from 0 below 2^31
 fits_from : (n : ℕ) → n < 2 ^ 31 → FitsSigned w32 (pos n)
@@ -76,6 +76,14 @@ next_in_range view good o p w i (successor s) =
     let name = good.names p s.row in record { name = (name.wire, name.identifier); value = value_in_range p.value (good.values p s.row) }
 next_in_range view good o p w i (end_of_view none is) = subst IsBindingInRange (sym is) (record { name = (w, i); value = tt })
 
+-- each of a chain of answers
+chain_in_range : (view : MibView) → IsMibView view → (o : List ℕ) (ps : List VarBind) → IsWire o → IsIdentifier o → IsChain (IsNext view) o ps → AllByRecursion IsBindingInRange ps
+chain_in_range view good o [] w i h = tt
+chain_in_range view good o (p ∷ ps) w i h =
+    let first : IsBindingInRange p = next_in_range view good o p w i h.0 in
+    let name : IsWire p.name × IsIdentifier p.name = first.name in
+    (first, chain_in_range view good p.name ps name.0 name.1 h.1)
+
 -- a message of at most so many octets has no more of bindings
 bindings_within : (m : Message) (n : ℕ) → length (canon m) ≤ n → length (canon_bindings m.bindings) ≤ n
 bindings_within m n h =
@@ -115,12 +123,26 @@ next_phase phase.Rows (method.Bulk r) k = let never : ⊥ = cc in absurd never
 next_phase phase.Last m k = let never : ⊥ = cc in absurd never
 next_phase phase.Over m k = let never : ⊥ = cc in absurd never
 
+pub bulk_phase : (p : Phase) (m : Method) → request_kind p m ≡ kind.GetBulkRequest → (p ≡ phase.Rows) × (repetitions : ℤ) × (m ≡ method.Bulk repetitions)
+bulk_phase phase.First m k = let never : ⊥ = cc in absurd never
+bulk_phase phase.Rows method.Next k = let never : ⊥ = cc in absurd never
+bulk_phase phase.Rows (method.Bulk r) k = (refl, r, refl)
+bulk_phase phase.Last m k = let never : ⊥ = cc in absurd never
+bulk_phase phase.Over m k = let never : ⊥ = cc in absurd never
+
 pub set_phase : (p : Phase) (m : Method) → request_kind p m ≡ kind.SetRequest → ⊥
 set_phase phase.First m k = cc
 set_phase phase.Rows method.Next k = cc
 set_phase phase.Rows (method.Bulk r) k = cc
 set_phase phase.Last m k = cc
 set_phase phase.Over m k = cc
+
+-- a front of the bindings asked for is no more than was asked for
+few_bindings : (these bindings more all : List VarBind) (m : Method) (repetitions : ℤ) → these ≡ bindings → all ≡ bindings ++ more → m ≡ method.Bulk repetitions → length all ≤ unsigned_abs repetitions → length these ≤ asked_for m
+few_bindings these bindings more all m repetitions same front is few =
+    let long : length all ≡ length bindings + length more = ap length front ∙ length-append bindings more in
+    let here : length these ≤ unsigned_abs repetitions = omega (arith, ap length same, long, few) in
+    subst (λ (x : Method). length these ≤ asked_for x) (sym is) here
 
 above : (n k : ℕ) → (k ≤ n → ⊥) → n < k
 above n k f = by_cases (cases_lt n k)
@@ -157,6 +179,18 @@ module _ (agents : Agents) (lawful : AreLawful agents) (w : Walker) (good : IsWa
       let more : agents.max_size < Response w.community = above agents.max_size (Response w.community) no_fit in
       (w.id, good.id, subst (λ (c : List ℕ). agents.max_size < Response c) community more)
 
+  -- where no binding came, the first has no room
+  first_large : (all bindings : List VarBind) → bindings ≡ [] → IsChain (IsNext view) w.asked all → all ≢ [] → IsLongestFront agents.max_size (request_of w) all bindings
+      → IsLarge (next_of agents) (IsTooLarge agents) w.asked
+  first_large [] bindings none chain some longest = absurd (some refl)
+  first_large (p ∷ later) bindings none chain some longest = (
+    p,
+    (view, one, chain.0),
+    large p (λ fit.
+        let short : length (p ∷ []) ≤ length bindings = longest.longest (p ∷ []) later refl fit in
+        absurd (omega (arith, short, ap length none))),
+  )
+
   content_of : (m r : Message) → m ≡ r → IsResponse view agents.max_size (request_of w) r
       → IsReplyTo (next_of agents) (got_of agents) (IsTooLarge agents) w m
   content_of m r same (whole (got bindings k answers e) fits) =
@@ -192,6 +226,22 @@ module _ (agents : Agents) (lawful : AreLawful agents) (w : Walker) (good : IsWa
       replied m 1 [] is (subst (λ (q : Phase). IsContent (next_of agents) (got_of agents) (IsTooLarge agents) q w m) (sym at.0)
       (inr (ap (λ (x : Message). x.a) is, ap (λ (x : Message). x.b) is, (p.0, (view, one, p.2), too_large))))
   content_of m r same (shortened large_one (unwritten k e) no_fit is_r) = absurd (set_phase w.phase w.method k)
+  content_of m r same (bulk all bindings k asked longest e) =
+      let is : m ≡ response (request_of w) (pos 0) (pos 0) bindings = same ∙ e in
+      let at = bulk_phase w.phase w.method k in
+      let repetitions : request_repetitions w.phase w.method ≡ at.1 = ap (λ (q : Phase). request_repetitions q w.method) at.0 ∙ ap (request_repetitions phase.Rows) at.2 in
+      let positive : pos 1 ≤ℤ request_repetitions w.phase w.method = subst (λ (z : ℤ). pos 1 ≤ℤ z) (sym repetitions) (subst IsMethod at.2 good.method) in
+      let one_name : IsOneBulk view view_good w.asked (request_repetitions w.phase w.method) all = one_bulk view view_good (request_of w) w.asked all refl refl asked in
+      let only : m.bindings ≡ bindings = ap (λ (x : Message). x.bindings) is in
+      let own : IsChain (IsNext view) w.asked bindings = chain_front (IsNext view) w.asked bindings longest.more (subst (IsChain (IsNext view) w.asked) longest.front one_name.chain) in
+      let chain : IsChain (next_of agents) w.asked m.bindings =
+      subst (IsChain (next_of agents) w.asked) (sym only) (chain_by (IsNext view) (next_of agents) (λ o p n. (view, one, n)) w.asked bindings own) in
+      let few : length m.bindings ≤ asked_for w.method =
+      few_bindings m.bindings bindings longest.more all w.method at.1 only longest.front at.2 (subst (λ (z : ℤ). length all ≤ unsigned_abs z) repetitions one_name.few) in
+      let some : m.bindings ≡ [] → IsLarge (next_of agents) (IsTooLarge agents) w.asked = λ none.
+      first_large all bindings (sym only ∙ none) one_name.chain (one_name.some positive) longest in
+      replied m 0 bindings is (subst (λ (q : Phase). IsContent (next_of agents) (got_of agents) (IsTooLarge agents) q w m) (sym at.0)
+      (inl (ap (λ (x : Message). x.a) is, chain, few, some)))
 
   in_range : (r : Message) → IsResponse view agents.max_size (request_of w) r → Fits agents.max_size r → IsMessageInRange r
   in_range r (whole (got bindings k answers e) fits) f =
@@ -203,6 +253,11 @@ module _ (agents : Agents) (lawful : AreLawful agents) (w : Walker) (good : IsWa
       let each = subst (AllByRecursion IsBindingInRange) (sym p.1) (next_in_range view view_good w.asked p.0 good.asked good.identifier p.2, tt) in
       subst IsMessageInRange (sym e) (response_in_range w good 0 bindings agents.max_size (omega arith) each (subst (Fits agents.max_size) e f) lawful.size)
   in_range r (whole (unwritten k e) fits) f = absurd (set_phase w.phase w.method k)
+  in_range r (bulk all bindings k asked longest e) f =
+      let one_name : IsOneBulk view view_good w.asked (request_repetitions w.phase w.method) all = one_bulk view view_good (request_of w) w.asked all refl refl asked in
+      let own : IsChain (IsNext view) w.asked bindings = chain_front (IsNext view) w.asked bindings longest.more (subst (IsChain (IsNext view) w.asked) longest.front one_name.chain) in
+      let each = chain_in_range view view_good w.asked bindings good.asked good.identifier own in
+      subst IsMessageInRange (sym e) (response_in_range w good 0 bindings agents.max_size (omega arith) each (subst (Fits agents.max_size) e f) lawful.size)
   in_range r (shortened large_one a no_fit e) f =
       subst IsMessageInRange (sym e) (response_in_range w good 1 [] agents.max_size (omega arith) tt (subst (Fits agents.max_size) e f) lawful.size)
 

@@ -14,6 +14,7 @@ pub mod RunLemmas
 pub mod ViewLemmas
 pub mod JoinLemmas
 pub mod FactLemmas
+pub mod BulkLemmas
 pub mod HonestLemmas
 pub mod RoomLemmas
 pub mod SwiftLemmas

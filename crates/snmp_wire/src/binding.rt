@@ -51,6 +51,14 @@ impl<'a> Bindings<'a> {
     {
         Bindings { rest: octets }
     }
+
+    /// The bindings that are left, as an iterator of their own.
+    #[inline]
+    pub fn left(&self) -> Bindings<'a>
+        ensures { result ≡ self.now }
+    {
+        Bindings { rest: self.rest }
+    }
 }
 
 impl<'a> Clone for Bindings<'a> {

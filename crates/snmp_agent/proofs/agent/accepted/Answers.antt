@@ -29,5 +29,5 @@ returns-in_default-clause-refused c =
       c.in-Ok.ensures.found,
       is_one fits c.version.ensures c.if-version-ne-VERSION.false,
       same_community c.community.ensures (sym c.if-ne.false ∙ c.ne.ensures),
-      other_kind c.kind.ensures c.in_default.not-GetRequest c.in_default.not-GetNextRequest c.in_default.not-SetRequest,
+      other_kind c.kind.ensures c.in_default.not-GetRequest c.in_default.not-GetNextRequest c.in_default.not-GetBulkRequest c.in_default.not-SetRequest,
     )

@@ -1,8 +1,7 @@
-use Rattle.std.proofs.Common.{◌≡◌, ℕ, List, take, ap, sym, subst, ◌∙◌, arith}
-use Rattle.snmp_wire.specs.Canon.{canon}
+use Rattle.std.proofs.Common.{◌≡◌, take, ap, sym, subst, ◌∙◌, arith}
 use Rattle.snmp_agent.specs.declared.config.Why.{Why}
 use Rattle.snmp_agent.specs.declared.config.Why.TheVariants as why
-use Rattle.snmp_agent.specs.Reply.{agent_of, IsReply, IsDropped}
+use Rattle.snmp_agent.specs.Reply.{agent_of, IsDropped}
 use Rattle.snmp_agent.proofs.Encodings.{read_message}
 use Rattle.snmp_agent.proofs.agent.answer.Goals as goal
 

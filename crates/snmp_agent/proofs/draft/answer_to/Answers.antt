@@ -1,4 +1,4 @@
-use Rattle.snmp_wire.specs.Message.{datum, var_bind}
+use Rattle.snmp_wire.specs.Message.{datum}
 use Rattle.snmp_agent.proofs.Encodings.{answer_value}
 use Rattle.snmp_agent.proofs.draft.answer_to.Goals as goal
 

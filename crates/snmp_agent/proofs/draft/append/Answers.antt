@@ -1,4 +1,4 @@
-use Rattle.std.proofs.Common.{◌≡◌, ◌<◌, ◌+◌, true, false, length, arith}
+use Rattle.std.proofs.Common.{◌<◌, length, arith}
 use Rattle.snmp_wire.specs.Canon.{canon_binding}
 use Rattle.snmp_wire.specs.Message.{var_bind}
 use Rattle.snmp_agent.proofs.Encodings.{long_binding}

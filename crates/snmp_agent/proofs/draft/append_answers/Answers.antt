@@ -1,10 +1,10 @@
-use Rattle.std.proofs.Common.{◌≡◌, ◌+◌, ◌≤◌, ◌<◌, ℕ, List, [], ◌∷◌, ◌++◌, length, take, refl, sym, ap, ◌∙◌, subst, arith}
+use Rattle.std.proofs.Common.{◌≡◌, List, [], ◌∷◌, ◌++◌, length, sym, subst, arith}
 use Rattle.std.proofs.lemmas.List.{append-nil}
 use Rattle.snmp_wire.specs.Message.{VarBind, var_bind}
-use Rattle.snmp_wire.specs.Canon.{canon_bindings, canon_binding}
+use Rattle.snmp_wire.specs.Canon.{canon_bindings}
 use Rattle.snmp_wire.specs.Parts.{parts_message}
 use Rattle.snmp_agent.specs.Reply.{AreAnswers}
-use Rattle.snmp_agent.specs.Answering.{IsAnswer, IsDraft, AreWritable, whole_size, PassesLimit}
+use Rattle.snmp_agent.specs.Answering.{IsAnswer, AreWritable}
 use Rattle.snmp_agent.proofs.Answers.{all_answered}
 use Rattle.snmp_agent.proofs.Sizes.{longer}
 use Rattle.snmp_agent.proofs.Drafts.{empty_draft, longer_draft, passes, step, none_anyway}
@@ -12,7 +12,7 @@ use Rattle.snmp_agent.proofs.draft.append_answers.Goals as goal
 
 pub returns-then-head_size-max_size-clause-too_long : goal.returns-then-head_size-max_size-clause-too_long
 returns-then-head_size-max_size-clause-too_long c =
-    let all = all_answered c.args.table.now c.args.kind c.args.bindings c.requires.served in
+    let all = all_answered c.args.table.now c.args.kind c.args.bindings c.requires.paired in
     (all.0, all.1, omega (arith, longer (parts_message c.args.parts.now) 0 (length (canon_bindings all.0)) (omega arith), c.head_size.ensures.value))
 
 pub bindings-init : goal.bindings-init
@@ -30,7 +30,7 @@ returns-in_err-total-clause-too_long c =
     let so_far = c.bindings.invariant in
     let p : VarBind = var_bind c.answer_to-given.result in
     let left : c.bindings.asked-iterator ≡ var_bind c.in-Some.asked ∷ c.next.new.self = c.in-Some.ensures.steps in
-    let later = all_answered c.args.table.now c.args.kind c.next.new.self c.requires.served in
+    let later = all_answered c.args.table.now c.args.kind c.next.new.self c.requires.paired in
     none_anyway c.from_residual.result (
       so_far.0 ++ p ∷ later.0,
       so_far.1 (p ∷ later.0) (subst (λ (bs : List VarBind). AreAnswers R bs (p ∷ later.0)) (sym left) (c.answer_to-given.ensures.answer, later.1)),

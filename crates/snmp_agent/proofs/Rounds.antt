@@ -1,0 +1,194 @@
+-- The rounds of a GetBulk.
+use Rattle.std.proofs.Common.{◌≡◌, ◌⊎◌, inl, inr, ℕ, zero, suc, ◌+◌, ◌≤◌, ◌<◌, List, [], ◌∷◌, ◌++◌, length, take, drop, refl, sym, ap, subst, ◌∙◌, arith, append_assoc}
+use Rattle.std.proofs.lemmas.List.{append-nil}
+use Rattle.snmp_wire.specs.Message.{Datum, integer_value, octet_string, null_value, object_id, ip_address, counter32, gauge32, time_ticks, opaque_octets, counter64, no_such_object, no_such_instance, end_of_mib_view, VarBind, Message}
+use Rattle.snmp_table.specs.Table.{MibView}
+use Rattle.snmp_agent.specs.Reply.{AreEnds, AreRounds, IsBulk, joined, or_zero}
+use Rattle.snmp_agent.specs.Answering.{AreGiven, AreRoundsFrom, AreWritable, HasRow}
+use Rattle.snmp_agent.proofs.Answers.{all_given}
+
+-- ---- endOfMibView throughout
+
+is_end : (v : Datum) → (v ≡ end_of_mib_view) ⊎ (v ≡ end_of_mib_view → ⊥)
+is_end (integer_value z) = inr (λ e. cc)
+is_end (octet_string text) = inr (λ e. cc)
+is_end null_value = inr (λ e. cc)
+is_end (object_id name) = inr (λ e. cc)
+is_end (ip_address address) = inr (λ e. cc)
+is_end (counter32 n) = inr (λ e. cc)
+is_end (gauge32 n) = inr (λ e. cc)
+is_end (time_ticks n) = inr (λ e. cc)
+is_end (opaque_octets text) = inr (λ e. cc)
+is_end (counter64 n) = inr (λ e. cc)
+is_end no_such_object = inr (λ e. cc)
+is_end no_such_instance = inr (λ e. cc)
+is_end end_of_mib_view = inl refl
+
+pub ends_decided : (ps : List VarBind) → AreEnds ps ⊎ HasRow ps
+ends_decided [] = inl tt
+ends_decided (p ∷ more) = elim (is_end p.value) [
+  | inl here ↦ elim (ends_decided more) [
+    | inl there ↦ inl (here, there)
+    | inr none ↦ inr (λ h. none h.1)
+  ]
+  | inr none ↦ inr (λ h. none h.0)
+]
+
+pub ends_push : (ps : List VarBind) (p : VarBind) → AreEnds ps → p.value ≡ end_of_mib_view → AreEnds (ps ++ p ∷ [])
+ends_push [] p ends end = (end, tt)
+ends_push (q ∷ more) p ends end = (ends.0, ends_push more p ends.1 end)
+
+pub row_in_front : (ps rest : List VarBind) → HasRow ps → HasRow (ps ++ rest)
+row_in_front [] rest row ends = row tt
+row_in_front (p ∷ more) rest row ends = row_in_front more rest (λ h. row (ends.0, h)) ends.1
+
+pub row_pushed : (ps : List VarBind) (p : VarBind) → (p.value ≡ end_of_mib_view → ⊥) → HasRow (ps ++ p ∷ [])
+row_pushed [] p other ends = other ends.0
+row_pushed (q ∷ more) p other ends = row_pushed more p other ends.1
+
+-- ---- what is left
+
+-- behind a round more follow, or none where it is endOfMibView throughout
+followed : (view : MibView) (names : List VarBind) (i left : ℕ) (round : List VarBind) → (rest : List (List VarBind)) × AreRoundsFrom view names i left rest
+    → (rest : List (List VarBind)) × ((AreEnds round × (rest ≡ [])) ⊎ (HasRow round × AreRoundsFrom view names i left rest))
+followed view names i left round there = elim (ends_decided round) [
+  | inl ends ↦ ([], inl (ends, refl))
+  | inr row ↦ (there.0, inr (row, there.1))
+]
+
+pub all_rounds : (view : MibView) (names : List VarBind) (i left : ℕ) → (rounds : List (List VarBind)) × AreRoundsFrom view names i left rounds
+all_rounds view names i zero = ([], tt)
+all_rounds view names i (suc left) =
+    let here = all_given view i names in
+    let there = followed view names (i + 1) left here.0 (all_rounds view names (i + 1) left) in
+    (here.0 ∷ there.0, (here.1, there.1))
+
+-- ---- the rounds by their places
+
+few_rounds : (view : MibView) (names : List VarBind) (i left : ℕ) (rounds : List (List VarBind)) → AreRoundsFrom view names i left rounds → length rounds ≤ left
+few_rounds view names i zero [] h = omega arith
+few_rounds view names i zero (round ∷ more) h = absurd h
+few_rounds view names i (suc left) [] h = absurd h
+few_rounds view names i (suc left) (round ∷ more) h = elim h.1 [
+  | inl over ↦ omega (arith, ap (λ (rs : List (List VarBind)). length rs) over.1)
+  | inr goes ↦ omega (arith, few_rounds view names (i + 1) left more goes.1)
+]
+
+not_empty : (before later : List (List VarBind)) (round : List VarBind) → [] ≡ before ++ round ∷ later → ⊥
+not_empty [] later round e = cc
+not_empty (r ∷ before) later round e = cc
+
+given_at : (view : MibView) (names : List VarBind) (i left : ℕ) (rounds before later : List (List VarBind)) (round : List VarBind) → AreRoundsFrom view names i left rounds
+    → rounds ≡ before ++ round ∷ later → AreGiven view (i + length before) names round
+given_at view names i zero [] before later round h e = absurd (not_empty before later round e)
+given_at view names i zero (r ∷ more) before later round h e = absurd h
+given_at view names i (suc left) [] before later round h e = absurd h
+given_at view names i (suc left) (r ∷ more) [] later round h e =
+    let same : r ≡ round = cc in
+    let here : i ≡ i + length {A = List VarBind} [] = omega arith in
+    subst (λ (k : ℕ). AreGiven view k names round) here (subst (λ (ps : List VarBind). AreGiven view i names ps) same h.0)
+given_at view names i (suc left) (r ∷ more) (b ∷ before) later round h e =
+    let rest : more ≡ before ++ round ∷ later = cc in
+    let place : (i + 1) + length before ≡ i + length (b ∷ before) = omega arith in
+    elim h.1 [
+      | inl over ↦ absurd (not_empty before later round (sym over.1 ∙ rest))
+      | inr goes ↦ subst (λ (k : ℕ). AreGiven view k names round) place (given_at view names (i + 1) left more before later round goes.1 rest)
+    ]
+
+last_at : (view : MibView) (names : List VarBind) (i left : ℕ) (rounds before later : List (List VarBind)) (round : List VarBind) → AreRoundsFrom view names i left rounds
+    → rounds ≡ before ++ round ∷ later → AreEnds round → later ≡ []
+last_at view names i zero [] before later round h e ends = absurd (not_empty before later round e)
+last_at view names i zero (r ∷ more) before later round h e ends = absurd h
+last_at view names i (suc left) [] before later round h e ends = absurd h
+last_at view names i (suc left) (r ∷ more) [] later round h e ends =
+    let same : r ≡ round = cc in
+    let rest : more ≡ later = cc in
+    elim h.1 [
+      | inl over ↦ sym rest ∙ over.1
+      | inr goes ↦ absurd (goes.0 (subst (λ (ps : List VarBind). AreEnds ps) (sym same) ends))
+    ]
+last_at view names i (suc left) (r ∷ more) (b ∷ before) later round h e ends =
+    let rest : more ≡ before ++ round ∷ later = cc in
+    elim h.1 [
+      | inl over ↦ absurd (not_empty before later round (sym over.1 ∙ rest))
+      | inr goes ↦ last_at view names (i + 1) left more before later round goes.1 rest ends
+    ]
+
+closed_early : (view : MibView) (names : List VarBind) (i left : ℕ) (rounds : List (List VarBind)) → AreRoundsFrom view names i left rounds → length rounds < left
+    → (before : List (List VarBind)) × (round : List VarBind) × (rounds ≡ before ++ round ∷ []) × AreEnds round
+closed_early view names i zero rounds h short = absurd (omega (arith, short))
+closed_early view names i (suc left) [] h short = absurd h
+closed_early view names i (suc left) (r ∷ more) h short = elim h.1 [
+  | inl over ↦ ([], r, ap (λ rs. r ∷ rs) over.1, over.0)
+  | inr goes ↦
+      let rest = closed_early view names (i + 1) left more goes.1 (omega (arith, short)) in
+      (r ∷ rest.0, rest.1, ap (λ rs. r ∷ rs) rest.2, rest.3)
+]
+
+pub are_rounds : (view : MibView) (repetitions : ℕ) (names : List VarBind) (rounds : List (List VarBind)) → AreRoundsFrom view names 0 repetitions rounds → AreRounds view repetitions names rounds
+are_rounds view repetitions names rounds h = record {
+  few = few_rounds view names 0 repetitions rounds h;
+  successors = λ before later round e.
+      let place : 0 + length before ≡ length before = omega arith in
+      subst (λ (k : ℕ). AreGiven view k names round) place (given_at view names 0 repetitions rounds before later round h e);
+  last = λ before later round e ends. last_at view names 0 repetitions rounds before later round h e ends;
+  closed = λ short. closed_early view names 0 repetitions rounds h short;
+}
+
+-- ---- all bindings
+
+pub joined-append : (a b : List (List VarBind)) → joined (a ++ b) ≡ joined a ++ joined b
+joined-append [] b = refl
+joined-append (round ∷ more) b = ap (λ rest. round ++ rest) (joined-append more b) ∙ sym (append_assoc round (joined more) (joined b))
+
+pub joined-push : (done : List (List VarBind)) (round : List VarBind) → joined (done ++ round ∷ []) ≡ joined done ++ round
+joined-push done round = joined-append done (round ∷ []) ∙ ap (λ rest. joined done ++ rest) (append-nil round)
+
+-- what the first names and the rounds of the others are given is all that is asked for
+pub is_bulk : (view : MibView) (q : Message) (singles : List VarBind) (rounds : List (List VarBind)) → AreGiven view 0 (take (or_zero q.a) q.bindings) singles
+    → AreRoundsFrom view (drop (or_zero q.a) q.bindings) 0 (or_zero q.b) rounds → IsBulk view q (singles ++ joined rounds)
+is_bulk view q singles rounds first others = record {
+  singles = singles;
+  rounds = rounds;
+  parts = refl;
+  are_singles = first;
+  are_rounds = are_rounds view (or_zero q.b) (drop (or_zero q.a) q.bindings) rounds others;
+}
+
+pub all_bulk : (view : MibView) (q : Message) → (all : List VarBind) × IsBulk view q all
+all_bulk view q =
+    let singles = all_given view 0 (take (or_zero q.a) q.bindings) in
+    let rounds = all_rounds view (drop (or_zero q.a) q.bindings) 0 (or_zero q.b) in
+    (singles.0 ++ joined rounds.0, is_bulk view q singles.0 rounds.0 singles.1 rounds.1)
+
+-- the same, as found
+pub bulk_of : (view : MibView) (q : Message) (count repetitions : ℕ) (bindings names singles : List VarBind) (rounds : List (List VarBind)) → count ≡ or_zero q.a → repetitions ≡ or_zero q.b
+    → bindings ≡ q.bindings → names ≡ drop count bindings → AreGiven view 0 (take count bindings) singles → AreRoundsFrom view names 0 repetitions rounds → IsBulk view q (singles ++ joined rounds)
+bulk_of view q count repetitions bindings names singles rounds same_count same_repetitions same_bindings behind first others =
+    let front : take count bindings ≡ take (or_zero q.a) q.bindings = ap (λ k. take k bindings) same_count ∙ ap (take (or_zero q.a)) same_bindings in
+    let back : names ≡ drop (or_zero q.a) q.bindings = behind ∙ ap (λ k. drop k bindings) same_count ∙ ap (drop (or_zero q.a)) same_bindings in
+    is_bulk view q singles rounds (subst (λ (ps : List VarBind). AreGiven view 0 ps singles) front first)
+    (subst (λ (ps : List VarBind). AreRoundsFrom view ps 0 (or_zero q.b) rounds) back (subst (λ (k : ℕ). AreRoundsFrom view names 0 k rounds) same_repetitions others))
+
+-- what is left of the names has encodings
+pub writable_drop : (count : ℕ) (names : List VarBind) → AreWritable names → AreWritable (drop count names)
+writable_drop zero names h = h
+writable_drop (suc count) [] h = tt
+writable_drop (suc count) (name ∷ names) h = writable_drop count names h.1
+
+pub take-nothing : (count : ℕ) (names : List VarBind) → names ≡ [] → take count names ≡ []
+take-nothing zero names none = refl
+take-nothing (suc count) [] none = refl
+take-nothing (suc count) (name ∷ names) none = let never : ⊥ = cc in absurd never
+
+pub drop-nothing : (count : ℕ) (names : List VarBind) → names ≡ [] → drop count names ≡ []
+drop-nothing zero names none = none
+drop-nothing (suc count) [] none = refl
+drop-nothing (suc count) (name ∷ names) none = let never : ⊥ = cc in absurd never
+
+-- taking one more where there is one
+pub take-first : (left : ℕ) (names later : List VarBind) (name : VarBind) → names ≡ name ∷ later → take (suc left) names ≡ name ∷ take left later
+take-first left names later name e = ap (take (suc left)) e
+
+pub drop-first : (left : ℕ) (names later : List VarBind) (name : VarBind) → names ≡ name ∷ later → drop (suc left) names ≡ drop left later
+drop-first left names later name e = ap (drop (suc left)) e

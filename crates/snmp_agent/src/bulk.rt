@@ -1,0 +1,153 @@
+//! The answers to a GetBulk (RFC 3416, section 4.2.3).
+//!
+//! They go to the front of the output as those of the other requests do, but end before the first that has no room.
+ghost use Rattle.std.specs.Prelude.{◌≡◌, ◌≤◌, ◌↔◌, List, length, take, drop, IsTrue};
+ghost use Rattle.snmp_wire.specs.Message.{VarBind, datum, end_of_mib_view};
+ghost use Rattle.snmp_wire.specs.Parts.{parts_message};
+ghost use Rattle.snmp_table.specs.Table.{IsNext};
+ghost use Rattle.snmp_agent.specs.Reply.{AreAnswers, IsBulk, joined, or_zero};
+ghost use Rattle.snmp_agent.specs.Answering.{AreWritable, whole_size, HoldsFront, AreGiven, IsProgress, Leaves, HasRow, AreRoundsFrom};
+
+use crate::draft::append;
+use snmp_table::Table;
+use snmp_wire::{Bindings, MessageRef, Parts, ValueRef};
+
+/// How far bindings were written, and how many octets they and those before them take.
+pub enum Progress {
+    /// All of them, and more may follow.
+    Open(usize),
+    /// Those before the first that has no room; or all of them, which are endOfMibView throughout.
+    Closed(usize),
+}
+
+/// Writes the answers to a GetBulk to the front of `out`, as many as fit, and answers how many octets they take together.
+pub fn append_bulk(
+    table: &Table,
+    request: &MessageRef<'_>,
+    parts: &Parts<'_>,
+    max_size: usize,
+    out: &mut [u8],
+) -> usize
+    requires writable { AreWritable request.now.bindings }
+    requires community { length parts.now.community.now ≤ 255 }
+    requires datagram { max_size ≤ 65507 }
+    requires room { max_size ≤ length out.old }
+    requires fits { whole_size (parts_message parts.now) 0 ≤ max_size }
+    ensures { (all : List VarBind) × IsBulk table.now request.now all × HoldsFront (parts_message parts.now) max_size 0 out.old all result out.new }
+{
+    let mut bindings = request.bindings();
+    let count = or_zero(request.a());
+    match append_singles(table, count, &mut bindings, parts, max_size, out) {
+        Progress::Closed(total) => total,
+        Progress::Open(total) => {
+            let repetitions = or_zero(request.b());
+            append_rounds(table, repetitions, bindings, parts, max_size, out, total)
+        }
+    }
+}
+
+/// The number, and 0 for one below it.
+fn or_zero(number: i32) -> usize
+    ensures { result ≡ or_zero number }
+{
+    usize::try_from(number).unwrap_or(0)
+}
+
+/// Takes the first `count` bindings, or all where there are fewer, and writes what a GetNext gives for each of them.
+fn append_singles(
+    table: &Table,
+    count: usize,
+    bindings: &mut Bindings<'_>,
+    parts: &Parts<'_>,
+    max_size: usize,
+    out: &mut [u8],
+) -> Progress
+    requires writable { AreWritable bindings.old }
+    requires community { length parts.now.community.now ≤ 255 }
+    requires datagram { max_size ≤ 65507 }
+    requires room { max_size ≤ length out.old }
+    requires fits { whole_size (parts_message parts.now) 0 ≤ max_size }
+    ensures progress { IsProgress (AreGiven table.now 0 (take count bindings.old)) (λ all. Unit {0}) (parts_message parts.now) max_size 0 out.old result out.new }
+    ensures left { Leaves result (drop count bindings.old) bindings.new }
+{
+    let mut total = 0;
+    'singles: for _ in 0..count {
+        let Some(asked) = bindings.next() else {
+            return Progress::Open(total);
+        };
+        let given = table.next_after(&asked.name, 0);
+        match append(parts, max_size, out, total, &given) {
+            Some(end) => total = end,
+            None => return Progress::Closed(total),
+        }
+    }
+    Progress::Open(total)
+}
+
+/// Writes the rounds of the bindings, at most `repetitions`, behind the first `start` octets, and answers how many octets there are then.
+fn append_rounds(
+    table: &Table,
+    repetitions: usize,
+    bindings: Bindings<'_>,
+    parts: &Parts<'_>,
+    max_size: usize,
+    out: &mut [u8],
+    start: usize,
+) -> usize
+    requires writable { AreWritable bindings }
+    requires community { length parts.now.community.now ≤ 255 }
+    requires datagram { max_size ≤ 65507 }
+    requires room { max_size ≤ length out.old }
+    requires fits { whole_size (parts_message parts.now) start ≤ max_size }
+    ensures { (rounds : List (List VarBind)) × AreRoundsFrom table.now bindings.entry 0 repetitions rounds × HoldsFront (parts_message parts.now) max_size start out.old (joined rounds) result out.new }
+{
+    let mut total = start;
+    'rounds: for round in 0..repetitions {
+        match append_round(table, round, bindings.left(), parts, max_size, out, total) {
+            Progress::Open(end) => total = end,
+            Progress::Closed(end) => return end,
+        }
+    }
+    total
+}
+
+/// Writes what each binding is given in the round behind so many others, behind the first `start` octets.
+fn append_round(
+    table: &Table,
+    round: usize,
+    bindings: Bindings<'_>,
+    parts: &Parts<'_>,
+    max_size: usize,
+    out: &mut [u8],
+    start: usize,
+) -> Progress
+    requires writable { AreWritable bindings }
+    requires community { length parts.now.community.now ≤ 255 }
+    requires datagram { max_size ≤ 65507 }
+    requires room { max_size ≤ length out.old }
+    requires fits { whole_size (parts_message parts.now) start ≤ max_size }
+    ensures { IsProgress (AreGiven table.now round bindings.entry) HasRow (parts_message parts.now) max_size start out.old result out.new }
+{
+    let mut total = start;
+    let mut over = true;
+    'bindings: for asked in bindings {
+        let given = table.next_after(&asked.name, round);
+        match append(parts, max_size, out, total, &given) {
+            Some(end) => total = end,
+            None => return Progress::Closed(total),
+        }
+        over = over && is_end(&given.value);
+    }
+    if over {
+        Progress::Closed(total)
+    } else {
+        Progress::Open(total)
+    }
+}
+
+/// Whether the value is endOfMibView.
+fn is_end(value: &ValueRef<'_>) -> bool
+    ensures { IsTrue result ↔ (datum value.now ≡ end_of_mib_view) }
+{
+    matches!(value, ValueRef::EndOfMibView)
+}

@@ -1,0 +1,174 @@
+//! GetBulks and their replies, worked out by hand.
+
+use crate::{Config, Outcome, Why, answer};
+use snmp_table::Table;
+use snmp_wire::{ValueRef, decode};
+use std::process::Abort;
+use std::test::Fail;
+
+/// Six integers, each its place: 18 octets a binding.
+const SIX: &[u8] =
+    b"1.3.6.1.4.1.32473.1.1.0|2|1\n1.3.6.1.4.1.32473.1.2.0|2|2\n1.3.6.1.4.1.32473.1.3.0|2|3\n1.3.6.1.4.1.32473.1.4.0|2|4\n1.3.6.1.4.1.32473.1.5.0|2|5\n1.3.6.1.4.1.32473.1.6.0|2|6";
+
+/// The GetBulk of 1.3.6.1.4.1.32473.1 with 10 repetitions, in community `public` with id 1.
+const BULK: [u8; 41] = [
+    0x30, 0x27, 0x02, 0x01, 0x01, 0x04, 0x06, 0x70, 0x75, 0x62, 0x6C, 0x69, 0x63, 0xA5, 0x1A, 0x02,
+    0x01, 0x01, 0x02, 0x01, 0x00, 0x02, 0x01, 0x0A, 0x30, 0x0F, 0x30, 0x0D, 0x06, 0x09, 0x2B, 0x06,
+    0x01, 0x04, 0x01, 0x81, 0xFD, 0x59, 0x01, 0x05, 0x00,
+];
+
+/// What the agent of `public`, with messages of at most so many octets from 1 to 65507, does with the request.
+fn outcome(table: &Table, max_size: usize, request: &[u8], out: &mut [u8; 65507]) -> Outcome {
+    let max_size = max_size.clamp(1, 65507);
+    let config = Config {
+        community: b"public",
+        max_size,
+    };
+    answer(table, &config, request, out)
+}
+
+/// The reply has so many octets, and integers with these numbers: at the end of each name the number of its row, then its value, -1 for endOfMibView.
+fn assert_integers(
+    rt: &impl Abort,
+    table: &Table,
+    max_size: usize,
+    request: &[u8],
+    octets: usize,
+    rows: &[(u32, i32)],
+) -> Result<(), Fail> {
+    let mut out = [0; 65507];
+    match outcome(table, max_size, request, &mut out) {
+        Outcome::Reply(size) => {
+            assert_eq!(rt; size, octets);
+            let message = decode(&out[..octets.min(65507)])?;
+            assert_eq!(rt; message.a(), 0);
+            assert_eq!(rt; message.b(), 0);
+            let mut rows = rows;
+            for binding in message.bindings() {
+                let number = match binding.value {
+                    ValueRef::Integer(number) => number,
+                    ValueRef::EndOfMibView => -1,
+                    _ => -2,
+                };
+                let [(place, value), rest @ ..] = rows else {
+                    assert!(rt; false, "one binding more");
+                    return Ok(());
+                };
+                rows = rest;
+                let numbers = binding.name.as_slice();
+                assert!(rt; numbers.len() == 10);
+                if numbers.len() == 10 {
+                    assert_eq!(rt; numbers[8], *place);
+                }
+                assert_eq!(rt; number, *value);
+            }
+            assert!(rt; rows.is_empty(), "one binding less");
+        }
+        Outcome::Dropped(why) => assert!(rt; false, "{why}"),
+    }
+    Ok(())
+}
+
+const ALL: &[(u32, i32)] = &[(1, 1), (2, 2), (3, 3), (4, 4), (5, 5), (6, 6), (6, -1)];
+
+#[test]
+fn as_many_come_as_fit(rt: HostRuntime) -> Result<(), Fail> {
+    let table = Table::read(rt.alloc(), SIX)?;
+    assert_integers(&rt, &table, 134, &BULK, 116, &ALL[..5])?;
+    assert_integers(&rt, &table, 135, &BULK, 135, &ALL[..6])?;
+    assert_integers(&rt, &table, 1472, &BULK, 153, ALL)?;
+    Ok(())
+}
+
+#[test]
+fn a_reply_fits_to_the_octet(rt: HostRuntime) -> Result<(), Fail> {
+    let table = Table::read(rt.alloc(), SIX)?;
+    assert_integers(&rt, &table, 153, &BULK, 153, ALL)?;
+    assert_integers(&rt, &table, 152, &BULK, 135, &ALL[..6])?;
+    assert_integers(&rt, &table, 44, &BULK, 44, &ALL[..1])?;
+    assert_integers(&rt, &table, 43, &BULK, 26, &[])?;
+    assert_integers(&rt, &table, 26, &BULK, 26, &[])?;
+    let mut out = [0; 65507];
+    assert_eq!(&rt;
+        outcome(&table, 25, &BULK, &mut out),
+        Outcome::Dropped(Why::TooLong)
+    );
+    Ok(())
+}
+
+/// The GetBulk of three names, 1.3.6.1.4.1.32473.1 twice and 1.3.6.1.4.1.32473.1.5.0, with non-repeaters and max-repetitions in four octets each.
+const THREE: [u8; 79] = [
+    0x30, 0x4D, 0x02, 0x01, 0x01, 0x04, 0x06, 0x70, 0x75, 0x62, 0x6C, 0x69, 0x63, 0xA5, 0x40, 0x02,
+    0x01, 0x01, 0x02, 0x04, 0x00, 0x00, 0x00, 0x00, 0x02, 0x04, 0x00, 0x00, 0x00, 0x00, 0x30, 0x2F,
+    0x30, 0x0D, 0x06, 0x09, 0x2B, 0x06, 0x01, 0x04, 0x01, 0x81, 0xFD, 0x59, 0x01, 0x05, 0x00, 0x30,
+    0x0D, 0x06, 0x09, 0x2B, 0x06, 0x01, 0x04, 0x01, 0x81, 0xFD, 0x59, 0x01, 0x05, 0x00, 0x30, 0x0F,
+    0x06, 0x0B, 0x2B, 0x06, 0x01, 0x04, 0x01, 0x81, 0xFD, 0x59, 0x01, 0x05, 0x00, 0x05, 0x00,
+];
+
+/// The GetBulk of the three names with these numbers is answered by these rows, in so many octets.
+fn assert_three(
+    rt: &impl Abort,
+    table: &Table,
+    non_repeaters: i32,
+    repetitions: i32,
+    octets: usize,
+    rows: &[(u32, i32)],
+) -> Result<(), Fail> {
+    let mut request = THREE;
+    request[20..24].copy_from_slice(&non_repeaters.to_be_bytes());
+    request[26..30].copy_from_slice(&repetitions.to_be_bytes());
+    assert_integers(rt, table, 1472, &request, octets, rows)
+}
+
+/// The successors of the three names.
+const FIRST: &[(u32, i32)] = &[(1, 1), (1, 1), (6, 6)];
+
+#[test]
+fn names_repeat_behind_those_that_do_not(rt: HostRuntime) -> Result<(), Fail> {
+    let table = Table::read(rt.alloc(), SIX)?;
+    let wanted = &[(1, 1), (1, 1), (6, 6), (2, 2), (6, -1)];
+    assert_three(&rt, &table, 1, 2, 115, wanted)?;
+    Ok(())
+}
+
+#[test]
+fn numbers_are_taken_within_bounds(rt: HostRuntime) -> Result<(), Fail> {
+    let table = Table::read(rt.alloc(), SIX)?;
+    for few in [-5, -1, 0, i32::MIN] {
+        assert_three(&rt, &table, few, 1, 80, FIRST)?;
+        assert_three(&rt, &table, 1, few, 44, &FIRST[..1])?;
+        assert_three(&rt, &table, few, few, 26, &[])?;
+    }
+    for many in [3, 9, i32::MAX] {
+        assert_three(&rt, &table, many, 1, 80, FIRST)?;
+        assert_three(&rt, &table, many, i32::MAX, 80, FIRST)?;
+        assert_three(&rt, &table, many, -1, 80, FIRST)?;
+    }
+    Ok(())
+}
+
+#[test]
+fn a_round_of_ends_is_the_last(rt: HostRuntime) -> Result<(), Fail> {
+    let table = Table::read(rt.alloc(), SIX)?;
+    let wanted = &[
+        (1, 1),
+        (6, 6),
+        (2, 2),
+        (6, -1),
+        (3, 3),
+        (6, -1),
+        (4, 4),
+        (6, -1),
+        (5, 5),
+        (6, -1),
+        (6, 6),
+        (6, -1),
+        (6, -1),
+        (6, -1),
+    ];
+    let mut all = [(1, 1); 15];
+    all[1..].copy_from_slice(wanted);
+    assert_three(&rt, &table, 1, i32::MAX, 295, &all)?;
+    assert_three(&rt, &table, 1, 7, 295, &all)?;
+    Ok(())
+}

@@ -1,0 +1,113 @@
+-- What a GetBulk of one name is given: each binding is the answer to a GetNext of the name before it.
+use Rattle.std.proofs.Common.{◌≡◌, ◌≢◌, ℕ, zero, suc, ◌<◌, ◌≤◌, ℤ, pos, negsuc, ◌≤ℤ◌, List, [], ◌∷◌, ◌++◌, length, take, drop, refl, sym, ◌∙◌, ap, subst, arith, length-append, append_assoc}
+use Rattle.std.specs.Prelude.{unsigned_abs}
+use Rattle.std.proofs.lemmas.Int.{ints}
+use Rattle.snmp_wire.specs.Message.{VarBind, Message, null_value}
+use Rattle.snmp_table.specs.Table.{MibView, IsMibView, IsNext, IsNextAfter}
+use Rattle.snmp_agent.specs.Reply.{AreAnswers, AreRounds, IsBulk, joined, or_zero}
+use Rattle.snmp_walk.specs.Standing.{IsChain}
+use Rattle.snmp_walk.proofs.JoinLemmas.{next_first}
+
+-- ---- chains
+
+pub chain_front : (Next : List ℕ → VarBind → Type 0) (o : List ℕ) (front more : List VarBind) → IsChain Next o (front ++ more) → IsChain Next o front
+chain_front Next o [] more h = tt
+chain_front Next o (p ∷ front) more h = (h.0, chain_front Next p.name front more h.1)
+
+pub chain_by : (Next Other : List ℕ → VarBind → Type 0) → ((o : List ℕ) (p : VarBind) → Next o p → Other o p) → (o : List ℕ) (ps : List VarBind) → IsChain Next o ps → IsChain Other o ps
+chain_by Next Other by o [] h = tt
+chain_by Next Other by o (p ∷ ps) h = (by o p h.0, chain_by Next Other by p.name ps h.1)
+
+-- ---- one name
+
+-- the request of one name
+abbrev asked_of : List ℕ → List VarBind
+asked_of o = record { name = o; value = null_value } ∷ []
+
+one_given : (R : VarBind → VarBind → Type 0) (o : List ℕ) (round : List VarBind) → AreAnswers R (asked_of o) round → (p : VarBind) × (round ≡ p ∷ []) × R (record { name = o; value = null_value }) p
+one_given R o [] h = absurd h
+one_given R o (p ∷ []) h = (p, refl, h.0)
+one_given R o (p ∷ q ∷ more) h = absurd h.1
+
+no_names : (R : VarBind → VarBind → Type 0) (names given : List VarBind) → AreAnswers R (take 0 names) given → given ≡ []
+no_names R names [] h = refl
+no_names R names (p ∷ given) h = absurd h
+
+no_round : (before later : List (List VarBind)) (round : List VarBind) → [] ≡ before ++ round ∷ later → ⊥
+no_round [] later round e = cc
+no_round (r ∷ before) later round e = cc
+
+repeats : (z : ℤ) → or_zero z ≤ unsigned_abs z
+repeats (pos n) = omega (arith, ints)
+repeats (negsuc n) = omega (arith, ints)
+
+some_rounds : (z : ℤ) → pos 1 ≤ℤ z → 0 < or_zero z
+some_rounds (pos n) h = omega (arith, ints, h)
+some_rounds (negsuc n) h = absurd (omega (arith, ints, h))
+
+module _ (view : MibView) (good : IsMibView view) where
+  -- a name has one successor
+  one_next : (o : List ℕ) (p q : VarBind) → IsNext view o p → IsNext view o q → p ≡ q
+  one_next o p q a b = next_first view good o p a ∙ sym (next_first view good o q b)
+
+  one_after : (i : ℕ) (o : List ℕ) (p q : VarBind) → IsNextAfter view i o p → IsNextAfter view i o q → p ≡ q
+  one_after zero o p q a b = one_next o p q a b
+  one_after (suc i) o p q a b =
+      let same : a.0 ≡ b.0 = one_after i o a.0 b.0 a.1 b.1 in
+      one_next b.0.name p q (subst (λ (r : VarBind). IsNext view r.name p) same a.2) b.2
+
+  -- behind so many rounds this is the name that is asked for
+  abbrev IsBehind : List ℕ → ℕ → List ℕ → Type 0
+  IsBehind asked zero o = o ≡ asked
+  IsBehind asked (suc i) o = (q : VarBind) × IsNextAfter view i asked q × (q.name ≡ o)
+
+  next_behind : (asked : List ℕ) (i : ℕ) (o : List ℕ) (p : VarBind) → IsBehind asked i o → IsNextAfter view i asked p → IsNext view o p
+  next_behind asked zero o p at h = subst (λ (n : List ℕ). IsNext view n p) (sym at) h
+  next_behind asked (suc i) o p at h =
+      let same : h.0 ≡ at.0 = one_after i asked h.0 at.0 h.1 at.1 in
+      subst (λ (n : List ℕ). IsNext view n p) (ap (λ (r : VarBind). r.name) same ∙ at.2) h.2
+
+  -- rounds of one name are a chain
+  chained : (asked : List ℕ) (repetitions : ℕ) (rounds : List (List VarBind)) → AreRounds view repetitions (asked_of asked) rounds
+      → (rest before : List (List VarBind)) (o : List ℕ) → rounds ≡ before ++ rest → IsBehind asked (length before) o → IsChain (IsNext view) o (joined rest) × (length (joined rest) ≡ length rest)
+  chained asked repetitions rounds are [] before o e at = (tt, refl)
+  chained asked repetitions rounds are (round ∷ later) before o e at =
+      let p = one_given (λ a g. IsNextAfter view (length before) a.name g) asked round (are.successors before later round e) in
+      let whole : rounds ≡ (before ++ round ∷ []) ++ later = e ∙ sym (append_assoc before (round ∷ []) later) in
+      let long : suc (length before) ≡ length (before ++ round ∷ []) = omega (arith, length-append before (round ∷ [])) in
+      let there : IsBehind asked (suc (length before)) p.0.name = (p.0, p.2, refl) in
+      let rest = chained asked repetitions rounds are later (before ++ round ∷ []) p.0.name whole (subst (λ (k : ℕ). IsBehind asked k p.0.name) long there) in
+      let first : joined (round ∷ later) ≡ p.0 ∷ joined later = ap (λ (r : List VarBind). r ++ joined later) p.1 in (
+        subst (λ (ps : List VarBind). IsChain (IsNext view) o ps) (sym first) (next_behind asked (length before) o p.0 at p.2, rest.0),
+        ap length first ∙ omega (arith, rest.1),
+      )
+
+  -- what a GetBulk of one name asks for
+  pub record IsOneBulk (asked : List ℕ) (repetitions : ℤ) (all : List VarBind) : Type 0 where
+    pub chain : IsChain (IsNext view) asked all
+    pub few : length all ≤ unsigned_abs repetitions
+    pub some : pos 1 ≤ℤ repetitions → all ≢ []
+
+  bulk_rounds : (asked : List ℕ) (repetitions : ℤ) (rounds : List (List VarBind)) → AreRounds view (or_zero repetitions) (asked_of asked) rounds → IsOneBulk asked repetitions (joined rounds)
+  bulk_rounds asked repetitions rounds are =
+      let h = chained asked (or_zero repetitions) rounds are rounds [] asked refl refl in
+      record {
+        chain = h.0;
+        few = omega (arith, h.1, are.few, repeats repetitions);
+        some = λ positive none.
+            let short : length rounds ≡ 0 = sym h.1 ∙ ap length none in
+            let last = are.closed (omega (arith, short, some_rounds repetitions positive)) in
+            none_left rounds short last.0 last.1 last.2;
+      }
+    where
+      none_left : (rs : List (List VarBind)) → length rs ≡ 0 → (before : List (List VarBind)) (round : List VarBind) → rs ≡ before ++ round ∷ [] → ⊥
+      none_left [] short before round e = no_round before [] round e
+      none_left (r ∷ rs) short before round e = omega (arith, short)
+
+  pub one_bulk : (q : Message) (asked : List ℕ) (all : List VarBind) → q.a ≡ pos 0 → q.bindings ≡ asked_of asked → IsBulk view q all → IsOneBulk asked q.b all
+  one_bulk q asked all a names h =
+      let none : h.singles ≡ [] = no_names (λ n g. IsNext view n.name g) q.bindings h.singles (subst (λ (z : ℤ). AreAnswers (λ n g. IsNext view n.name g) (take (or_zero z) q.bindings) h.singles) a h.are_singles) in
+      let rounds : AreRounds view (or_zero q.b) (asked_of asked) h.rounds =
+      subst (λ (ns : List VarBind). AreRounds view (or_zero q.b) ns h.rounds) names (subst (λ (z : ℤ). AreRounds view (or_zero q.b) (drop (or_zero z) q.bindings) h.rounds) a h.are_rounds) in
+      let is : all ≡ joined h.rounds = h.parts ∙ ap (λ (ps : List VarBind). ps ++ joined h.rounds) none in
+      subst (λ (ps : List VarBind). IsOneBulk asked q.b ps) (sym is) (bulk_rounds asked q.b h.rounds rounds)
