@@ -49,6 +49,6 @@ facts agents first rows refused end fresh views part lawful = record {
   all = λ view got e answer done.
       whole_is (variables view) got (next_of agents) (got_of agents) first (one_table agents first view got views e answer) fresh.begins.0 fresh.begins.1 rows
       (lawful_whole agents first rows end done lawful);
-  swift = λ view got e answer rooms ids next.
-      swift_end agents first view e rooms got (one_table agents first view got views e answer) fresh.begins.0 fresh.begins.1 rows end ids next lawful;
+  swift = λ view got e answer rooms ids.
+      swift_end agents first view views e rooms got (one_table agents first view got views e answer) fresh.begins.0 fresh.begins.1 rows end ids lawful;
 }

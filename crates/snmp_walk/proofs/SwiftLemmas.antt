@@ -1,5 +1,5 @@
 -- Where each single binding has room and ids are enough, a walk over one table ends for no other reason than its own, the link's or the sink's.
-use Rattle.std.proofs.Common.{◌≡◌, ◌⊎◌, inl, inr, ℕ, ◌+◌, ◌<◌, ◌≤◌, false, true, List, [], ◌∷◌, ◌++◌, length, refl, sym, ◌∙◌, ap, subst, arith, pos, length-append}
+use Rattle.std.proofs.Common.{◌≡◌, ◌≢◌, ◌⊎◌, ◌≤ℤ◌, ℤ, inl, inr, ℕ, ◌+◌, ◌<◌, ◌≤◌, false, true, List, [], ◌∷◌, ◌++◌, length, refl, sym, ◌∙◌, ap, subst, arith, pos, length-append}
 use Rattle.std.proofs.lemmas.Bool.{false≢true}
 use Rattle.snmp_wire.specs.declared.kind.Kind.TheVariants as kind
 use Rattle.snmp_wire.specs.Message.{VarBind, Message, end_of_mib_view}
@@ -8,11 +8,11 @@ use Rattle.snmp_wire.specs.Canon.{canon}
 use Rattle.snmp_wire.proofs.MessageLaws.{one_message}
 use Rattle.snmp_wire.proofs.StrictMessages.{strict_canon}
 use Rattle.snmp_wire.proofs.Lenient.{strict_is_read}
-use Rattle.snmp_table.specs.Table.{MibView, IsGet, variable, unknown_object, unknown_instance, IsNext, successor, end_of_view}
+use Rattle.snmp_table.specs.Table.{MibView, IsMibView, IsGet, variable, unknown_object, unknown_instance, IsNext, successor, end_of_view}
 use Rattle.snmp_table.specs.Listing.{variables}
 use Rattle.snmp_agent.specs.declared.config.Why.{Why}
 use Rattle.snmp_agent.specs.declared.config.Why.TheVariants as why
-use Rattle.snmp_agent.specs.Reply.{IsServed, response, IsWhole, got, got_next, unwritten, Fits, IsResponse, whole, shortened, IsDropped, no_error}
+use Rattle.snmp_agent.specs.Reply.{IsServed, response, IsWhole, got, got_next, unwritten, Fits, IsLongestFront, IsResponse, whole, shortened, bulk, IsDropped, no_error}
 use Rattle.snmp_walk.specs.declared.mode.Mode.{Mode}
 use Rattle.snmp_walk.specs.declared.mode.Mode.TheVariants as mode
 use Rattle.snmp_walk.specs.declared.mode.Method.{Method}
@@ -23,15 +23,16 @@ use Rattle.snmp_walk.specs.declared.end.WalkEnd.{WalkEnd}
 use Rattle.snmp_walk.specs.declared.end.WalkEnd.TheVariants as ending
 use Rattle.snmp_walk.specs.Names.{is_inside}
 use Rattle.snmp_walk.specs.Trail.{last_name, IsTrail}
-use Rattle.snmp_walk.specs.Walker.{Walker, IsWalker}
+use Rattle.snmp_walk.specs.Walker.{Walker, IsMethod, IsWalker}
 use Rattle.snmp_walk.specs.Walk.{rest_of}
-use Rattle.snmp_walk.specs.Request.{request_of, request_kind}
+use Rattle.snmp_walk.specs.Request.{request_of, request_kind, request_repetitions}
 use Rattle.snmp_walk.specs.Taken.{is_over, if_present}
-use Rattle.snmp_walk.specs.Standing.{IsLarge, IsOpening, IsStage, IsRefused, IsPaced, opening_gets, Stands, IsOneTable}
-use Rattle.snmp_walk.specs.Link.{Agents, agent_in, next_of, got_of, IsTooLarge, IsUnanswered}
+use Rattle.snmp_walk.specs.Standing.{IsChain, IsLarge, IsOpening, IsStage, IsRefused, IsPaced, opening_gets, Stands, IsOneTable}
+use Rattle.snmp_walk.specs.Link.{Agents, agent_in, next_of, got_of, IsTooLarge, IsUnanswered, AreViews}
 use Rattle.snmp_walk.specs.Room.{HasRoom, HasRoomForEach, HasIds}
 use Rattle.snmp_walk.specs.Facts.{IsLawfulEnd, IsSwiftEnd}
-use Rattle.snmp_walk.proofs.HonestLemmas.{request_in_range, one_answer, get_phase, set_phase}
+use Rattle.snmp_walk.proofs.HonestLemmas.{request_in_range, one_answer, get_phase, bulk_phase, set_phase}
+use Rattle.snmp_walk.proofs.BulkLemmas.{IsOneBulk, one_bulk}
 use Rattle.snmp_walk.proofs.RoomLemmas.{room_fits, room_small, room_exception}
 use Rattle.snmp_walk.proofs.TableLemmas.{trail_rest}
 use Rattle.snmp_walk.proofs.ViewLemmas.{only_one}
@@ -41,17 +42,18 @@ gets_few mode.Plain = omega arith
 gets_few mode.Include = omega arith
 gets_few mode.NoLast = omega arith
 
--- GetNext and Get are served
-served : (p : Phase) (m : Method) → m ≡ method.Next → IsServed (request_kind p m)
-served p m e = subst (λ (n : Method). IsServed (request_kind p n)) (sym e) (by_phase p)
-  where
-    by_phase : (p : Phase) → IsServed (request_kind p method.Next)
-    by_phase phase.First = tt
-    by_phase phase.Rows = tt
-    by_phase phase.Last = tt
-    by_phase phase.Over = tt
+-- each request of a walk is served
+served : (p : Phase) (m : Method) → IsServed (request_kind p m)
+served phase.First m = tt
+served phase.Rows method.Next = tt
+served phase.Rows (method.Bulk r) = tt
+served phase.Last m = tt
+served phase.Over m = tt
 
-module _ (agents : Agents) (first : Walker) (view : MibView) (one_view : agents.tables ≡ view ∷ []) (rooms : HasRoomForEach agents view first) where
+module _ (agents : Agents) (first : Walker) (view : MibView) (good_views : AreViews agents.tables) (one_view : agents.tables ≡ view ∷ []) (rooms : HasRoomForEach agents view first) where
+  view_good : IsMibView view
+  view_good = (subst AreViews one_view good_views).0
+
   -- there is room for the name with endOfMibView
   abbrev EndRoom : List ℕ → Type 0
   EndRoom o = HasRoom agents (record { name = o; value = end_of_mib_view })
@@ -148,27 +150,42 @@ module _ (agents : Agents) (first : Walker) (view : MibView) (one_view : agents.
         subst (Fits agents.max_size) (sym is) (fits p.0 room)
     whole_fits r (unwritten k e) = absurd (set_phase w.phase w.method k)
 
+    -- a GetBulk is answered by a binding at least
+    bulk_fits : (all bindings : List VarBind) → IsChain (IsNext view) w.asked all → all ≢ [] → IsLongestFront agents.max_size (request_of w) all bindings
+        → Fits agents.max_size (response (request_of w) no_error (pos 0) bindings)
+    bulk_fits all (p ∷ more) chain some longest = longest.fits (λ e. let never : ⊥ = cc in never)
+    bulk_fits [] [] chain some longest = absurd (some refl)
+    bulk_fits (p ∷ later) [] chain some longest =
+        let room : HasRoom agents p = next_room w.asked p (stage_room given w.asked w.phase h.stage) chain.0 in
+        let short : 1 ≤ 0 = longest.longest (p ∷ []) later refl (fits p room) in
+        absurd (omega (arith, short))
+
     response_fits : (r : Message) → IsResponse view agents.max_size (request_of w) r → Fits agents.max_size r
     response_fits r (whole is fit) = fit
     response_fits r (shortened large is no_fit e) = absurd (no_fit (whole_fits large is))
+    response_fits r (bulk all bindings k asked longest e) =
+        let at = bulk_phase w.phase w.method k in
+        let repetitions : request_repetitions w.phase w.method ≡ at.1 = ap (λ (q : Phase). request_repetitions q w.method) at.0 ∙ ap (request_repetitions phase.Rows) at.2 in
+        let positive : pos 1 ≤ℤ request_repetitions w.phase w.method = subst (λ (z : ℤ). pos 1 ≤ℤ z) (sym repetitions) (subst IsMethod at.2 good.method) in
+        let one_name : IsOneBulk view view_good w.asked (request_repetitions w.phase w.method) all = one_bulk view view_good (request_of w) w.asked all refl refl asked in
+        subst (Fits agents.max_size) (sym e) (bulk_fits all bindings one_name.chain (one_name.some positive) longest)
 
-    no_drop : (cause : Why) → first.method ≡ method.Next → IsDropped (agent_in agents view) (canon (request_of w)) cause → ⊥
-    no_drop why.Undecodable next d = d (request_of w) own
-    no_drop why.Version next d = d.2 (ap (λ (m : Message). m.version) (the_request d.0 d.1))
-    no_drop why.Community next d = d.3 (ap (λ (m : Message). m.community) (the_request d.0 d.1) ∙ community)
-    no_drop why.Pdu next d =
+    no_drop : (cause : Why) → IsDropped (agent_in agents view) (canon (request_of w)) cause → ⊥
+    no_drop why.Undecodable d = d (request_of w) own
+    no_drop why.Version d = d.2 (ap (λ (m : Message). m.version) (the_request d.0 d.1))
+    no_drop why.Community d = d.3 (ap (λ (m : Message). m.community) (the_request d.0 d.1) ∙ community)
+    no_drop why.Pdu d =
         let is : d.0.kind ≡ request_kind w.phase w.method = ap (λ (m : Message). m.kind) (the_request d.0 d.1) in
-        let same : w.method ≡ method.Next = ap (λ (v : Walker). v.method) h.same ∙ next in
-        d.4 (subst IsServed (sym is) (served w.phase w.method same))
-    no_drop why.TooLong next d =
+        d.4 (subst IsServed (sym is) (served w.phase w.method))
+    no_drop why.TooLong d =
         let same : d.0 ≡ request_of w = the_request d.0 d.2.spelt in
         d.4 (response_fits d.1 (subst (λ (q : Message). IsResponse view agents.max_size q d.1) same d.3))
 
     -- each agent answers
-    answered : first.method ≡ method.Next → IsUnanswered agents (canon (request_of w)) → ⊥
-    answered next u =
+    answered : IsUnanswered agents (canon (request_of w)) → ⊥
+    answered u =
         let same : u.view ≡ view = only_one view u.view agents.tables one_view u.one in
-        no_drop u.why next (subst (λ (v : MibView). IsDropped (agent_in agents v) (canon (request_of w)) u.why) same u.dropped)
+        no_drop u.why (subst (λ (v : MibView). IsDropped (agent_in agents v) (canon (request_of w)) u.why) same u.dropped)
 
   module _ (answer : VarBind) (table : IsOneTable (variables view) answer (next_of agents) (got_of agents) first) (s : List ℕ) (begins : first.asked ≡ first.root ++ s) where
     -- what is given before the instances below the root is the same
@@ -193,17 +210,17 @@ module _ (agents : Agents) (first : Walker) (view : MibView) (one_view : agents.
     low_id w given phase.Over ids stage pace = absurd pace
 
     -- the ends that are left
-    pub swift_end : (rows : List VarBind) (end : WalkEnd) → HasIds first view → first.method ≡ method.Next → IsLawfulEnd agents first rows end → IsSwiftEnd end
-    swift_end rows (ending.Done n) ids next h = tt
-    swift_end rows (ending.Fault status index) ids next h = no_refusal h.1 h.0.asked h.0.phase h.2.stage h.3.2
-    swift_end rows (ending.NoProgress o) ids next h =
+    pub swift_end : (rows : List VarBind) (end : WalkEnd) → HasIds first view → IsLawfulEnd agents first rows end → IsSwiftEnd end
+    swift_end rows (ending.Done n) ids h = tt
+    swift_end rows (ending.Fault status index) ids h = no_refusal h.1 h.0.asked h.0.phase h.2.stage h.3.2
+    swift_end rows (ending.NoProgress o) ids h =
         no_large_next h.0.asked (stage_room h.1 h.0.asked h.0.phase h.2.stage) (subst (IsLarge (next_of agents) (IsTooLarge agents)) h.3.1 h.3.2)
-    swift_end rows ending.BadReply ids next h = h.3
-    swift_end rows (ending.NotIncreasing o p) ids next h = h.3
-    swift_end rows ending.TooManyRequests ids next h =
+    swift_end rows ending.BadReply ids h = h.3
+    swift_end rows (ending.NotIncreasing o p) ids h = h.3
+    swift_end rows ending.TooManyRequests ids h =
         let low : h.0.id < 2147483647 = low_id h.0 h.1 h.0.phase ids h.2.stage h.2.paced in
         absurd (omega (arith, low, h.3))
-    swift_end rows ending.RequestTooLong ids next h = h.3
-    swift_end rows ending.NoResponse ids next h = answered h.0 rows h.1 h.2 next h.3
-    swift_end rows ending.Link ids next h = tt
-    swift_end rows (ending.Sink fault) ids next h = tt
+    swift_end rows ending.RequestTooLong ids h = h.3
+    swift_end rows ending.NoResponse ids h = answered h.0 rows h.1 h.2 h.3
+    swift_end rows ending.Link ids h = tt
+    swift_end rows (ending.Sink fault) ids h = tt

@@ -7,7 +7,6 @@ use Rattle.snmp_walk.specs.declared.end.WalkEnd.TheVariants as ending
 use Rattle.snmp_table.specs.Table.{MibView, IsGet}
 use Rattle.snmp_table.specs.Listing.{variables}
 use Rattle.snmp_walk.specs.Walk.{walk_from}
-use Rattle.snmp_walk.specs.declared.mode.Method.TheVariants as method
 use Rattle.snmp_walk.specs.Walker.{Walker, IsWalker}
 use Rattle.snmp_walk.specs.Request.{request_of, first_phase}
 use Rattle.snmp_walk.specs.Standing.{Stands, IsPart, Ends}
@@ -52,6 +51,6 @@ pub record WalkFacts (agents : Agents) (first : Walker) (rows refused : List Var
   pub beginning : (view : MibView) (got : VarBind) → agents.tables ≡ view ∷ [] → IsGet view first.asked got → (more : List VarBind) × (walk_at first view got ≡ (rows ++ refused) ++ more)
   -- and where the walk is done it is all of it
   pub all : (view : MibView) (got : VarBind) → agents.tables ≡ view ∷ [] → IsGet view first.asked got → IsDone end → rows ≡ walk_at first view got
-  -- Over one table that has room for each single binding, with ids enough, a walk by GetNext is done unless the link or the sink stops it.
+  -- Over one table, where there is room for each single binding and ids are enough, a walk is done unless the link or the sink stops it.
   pub swift : (view : MibView) (got : VarBind) → agents.tables ≡ view ∷ [] → IsGet view first.asked got → HasRoomForEach agents view first → HasIds first view
-      → first.method ≡ method.Next → IsSwiftEnd end
+      → IsSwiftEnd end
