@@ -17,7 +17,7 @@ many : (n limit x y : ℕ) → limit ≤ n → (if nat_lt n limit then x else y)
 many n limit x y h = grind (arith, nat_tests)
 
 -- a greater number has no fewer digits
-more_digits : (base limit more n k : ℕ) → n ≤ k → digit_count base limit more n ≤ digit_count base limit more k
+pub more_digits : (base limit more n k : ℕ) → n ≤ k → digit_count base limit more n ≤ digit_count base limit more k
 more_digits base limit zero n k h = omega arith
 more_digits base limit (suc more) n k h = ⊎_elim
     (λ below. let one : digit_count base limit (suc more) n ≡ 1 = few n limit 1 (1 + digit_count base (limit * base) more n) below in omega (arith, one, digit_some base limit (suc more) k))
@@ -31,7 +31,7 @@ more_length_digits : (n k : ℕ) → n ≤ k → length_size n ≤ length_size k
 unfolding length_size
 more_length_digits n k h = more_digits 256 256 3 n k h
 
-longer_length : (n k : ℕ) → n ≤ k → length (canon_length n) ≤ length (canon_length k)
+pub longer_length : (n k : ℕ) → n ≤ k → length (canon_length n) ≤ length (canon_length k)
 longer_length n k h = ⊎_elim
     (λ below. ⊎_elim
     (λ short. omega (arith, length-canon_length_short n below, length-canon_length_short k short))

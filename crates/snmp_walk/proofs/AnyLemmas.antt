@@ -1,7 +1,7 @@
 -- What holds of a step whatever the message is.
 use Rattle.std.proofs.Common.{◌≡◌, ◌⊎◌, inl, inr, ℕ, ◌+◌, ◌^◌, ◌<◌, ◌≤◌, Bool, true, false, cond, List, [], ◌∷◌, ◌++◌, length, refl, sym, ◌∙◌, ap, subst, arith, append-nil, length-append, Option, Some, None}
 use Rattle.std.proofs.lemmas.List.Sums.{take_while-cons}
-use Rattle.std.proofs.lemmas.Bool.{and_parts, or_parts, not-true, ltb-true, cond_both, cases_Bool}
+use Rattle.std.proofs.lemmas.Bool.{and_parts, or_parts, not-true, ltb-true, ltb-false, cond_both, cases_Bool}
 use Rattle.std.specs.Prelude.{nat_lt, ◌==◌, ◌&&◌, ◌||◌, not, pos}
 use Rattle.std.specs.Bool.{nat_eq}
 use Rattle.std.specs.List.{list_any}
@@ -20,8 +20,8 @@ use Rattle.snmp_walk.specs.Names.{is_inside, is_end, is_missing, is_below, comes
 use Rattle.snmp_walk.specs.Trail.{last_name, IsTrail, IsAtEnd, AreAnswers}
 use Rattle.snmp_walk.specs.Walker.{Walker}
 use Rattle.snmp_walk.specs.Taken.{is_awaited, is_plain, inside_front, rising_front, name_at, asked_for, stops, goes_on, closes, reads, reads_next, got, if_present, reads_first, reads_last, reads_for, reads_reply, take_of}
-use Rattle.snmp_walk.specs.Standing.{IsOpening, IsGiven, IsAlone, IsPart, IsStage, Stands, Advances, Rises, Named, IsReplyEnd, Keeps}
-use Rattle.snmp_walk.proofs.StandingLemmas.{part_of_stage, goes, closed, given_more, reads_root, reads_alone, root_is}
+use Rattle.snmp_walk.specs.Standing.{IsOpening, IsGiven, IsAlone, IsPart, IsStage, IsPaced, Stands, Advances, Rises, Named, IsReplyEnd, Keeps}
+use Rattle.snmp_walk.proofs.StandingLemmas.{part_of_stage, goes, closed, given_more, more_pace, reads_root, reads_alone, root_is}
 
 -- no binding is said to be large here
 abbrev Small : VarBind → Type 0
@@ -72,8 +72,8 @@ module _ (first : Walker) where
       (own, subst (IsPart Rises Named first) (sym (append-nil given)) (part_of_stage Rises Named Small rising_answers first given old.asked old.phase h.stage))
 
   goes_any : (old : Walker) (given more : List VarBind) (next : Phase) → Stands Rises Named first old given
-      → IsStage Rises Named first (given ++ more) (last_name old.asked more) next → Keeps_step old given (goes_on old next more)
-  goes_any old given more next h stage =
+      → IsStage Rises Named first (given ++ more) (last_name old.asked more) next → IsPaced Named first (given ++ more) (old.id + 1) next → Keeps_step old given (goes_on old next more)
+  goes_any old given more next h stage pace =
       either_way old given (nat_lt old.id 2147483647)
       (step.Rows more, record old { phase = next; asked = last_name old.asked more; id = old.id + 1; count = old.count + length more }) (stops old more ending.TooManyRequests)
       (λ less. let low : old.id < 2147483647 = ltb-true _ _ less in (refl, omega arith, went low less))
@@ -84,6 +84,7 @@ module _ (first : Walker) where
       went low less = record {
         same = ap (λ (v : Walker). record v { phase = next; asked = last_name old.asked more; id = old.id + 1; count = old.count + length more }) h.same;
         count = omega (arith, h.count, length-append given more);
+        paced = pace;
         stage = stage;
       }
 
@@ -101,9 +102,9 @@ module _ (first : Walker) where
   closed_any old given more true n h = went_on old given [] phase.Last (nat_lt old.id 2147483647) refl h
   closed_any old given more false n h = (tt, h.0)
 
-  reads_any : (old : Walker) (given bindings : List VarBind) → Stands Rises Named first old given → IsGiven Rises Named first given old.asked
+  reads_any : (old : Walker) (given bindings : List VarBind) → old.phase ≡ phase.Rows → 1 ≤ length bindings → Stands Rises Named first old given → IsGiven Rises Named first given old.asked
       → list_any (λ p. is_missing p.value) bindings ≡ false → Keeps_step old given (reads old bindings)
-  reads_any old given bindings h before v =
+  reads_any old given bindings waits some h before v =
       let rows = rising_front old.asked (inside_front old.root bindings) in
       let trail : IsTrail Rises first.root old.asked rows =
       subst (λ (r : List ℕ). IsTrail Rises r old.asked rows) (root_is Rises Named Small rising_answers first old given h) (rising_trail old.root old.asked bindings v) in
@@ -114,16 +115,17 @@ module _ (first : Walker) where
       (λ _. stops_any old given rows falls tt (inr (inl (last_name old.asked rows, after))))
       (λ _. either_way old given (nat_lt (length rows) (length bindings)) (closes old rows) (goes_on old phase.Rows rows)
       (λ _. closed_any old given rows (is_plain old.mode && (old.count + length rows == 0)) (old.count + length rows)
-      (closed Rises Named Small rising_answers first given rows old (last_name old.asked rows) _ refl h before after (anywhere first.root (last_name old.asked rows))))
-      (λ _. goes_any old given rows phase.Rows h after))
+      (closed Rises Named Small rising_answers first given rows old (last_name old.asked rows) _ refl waits h before after (anywhere first.root (last_name old.asked rows))))
+      (λ all. let long : length bindings ≤ length rows = ltb-false _ _ all in
+      goes_any old given rows phase.Rows h after (more_pace Rises Named Small rising_answers first given rows old waits h (omega (arith, some, long)))))
 
-  reads_next_any : (old : Walker) (given bindings : List VarBind) → Stands Rises Named first old given → IsGiven Rises Named first given old.asked
+  reads_next_any : (old : Walker) (given bindings : List VarBind) → old.phase ≡ phase.Rows → Stands Rises Named first old given → IsGiven Rises Named first given old.asked
       → Keeps_step old given (reads_next old bindings)
-  reads_next_any old given [] h before = stops_now old given (ending.NoProgress old.asked) tt h
-  reads_next_any old given (b ∷ more) h before =
+  reads_next_any old given [] waits h before = stops_now old given (ending.NoProgress old.asked) tt h
+  reads_next_any old given (b ∷ more) waits h before =
       either_way old given (nat_lt (asked_for old.method) (length (b ∷ more)) || list_any (λ p. is_missing p.value) (b ∷ more))
       (stops old [] ending.BadReply) (reads old (b ∷ more)) (λ _. stops_now old given ending.BadReply tt h)
-      (λ fine. reads_any old given (b ∷ more) h before (or_parts (nat_lt (asked_for old.method) (length (b ∷ more))) (list_any (λ p. is_missing p.value) (b ∷ more)) fine).1)
+      (λ fine. reads_any old given (b ∷ more) waits (omega arith) h before (or_parts (nat_lt (asked_for old.method) (length (b ∷ more))) (list_any (λ p. is_missing p.value) (b ∷ more)) fine).1)
 
   -- the binding of a Get's reply is the one asked for
   got_by : (o : List ℕ) (b : VarBind) (c : Bool) (p : VarBind) → c ≡ (pointwise nat_eq b.name o && not (is_end b.value)) → cond c (Some b) None ≡ Some p → Named o p
@@ -138,26 +140,26 @@ module _ (first : Walker) where
   got_named o (b ∷ []) p h = got_by o b _ p refl h
   got_named o (b ∷ c ∷ more) p h = let no : ⊥ = cc in absurd no
 
-  reads_first_any : (old : Walker) (given : List VarBind) (g : Option VarBind) → Stands Rises Named first old given → IsStage Rises Named first given old.asked phase.First
+  reads_first_any : (old : Walker) (given : List VarBind) (g : Option VarBind) → old.phase ≡ phase.First → Stands Rises Named first old given → IsStage Rises Named first given old.asked phase.First
       → ((p : VarBind) → g ≡ Some p → Named old.asked p) → Keeps_step old given (reads_first old g)
-  reads_first_any old given None h stage named = stops_now old given ending.BadReply tt h
-  reads_first_any old given (Some b) h stage named =
-      went_on old given (if_present b) phase.Rows (nat_lt old.id 2147483647) refl (reads_root Rises Named Small rising_answers first given old b h stage (named b refl))
+  reads_first_any old given None waits h stage named = stops_now old given ending.BadReply tt h
+  reads_first_any old given (Some b) waits h stage named =
+      went_on old given (if_present b) phase.Rows (nat_lt old.id 2147483647) refl (reads_root Rises Named Small rising_answers first given old b waits h stage (named b refl))
 
   reads_last_any : (old : Walker) (given : List VarBind) (g : Option VarBind) → Stands Rises Named first old given → IsStage Rises Named first given old.asked phase.Last
       → ((p : VarBind) → g ≡ Some p → Named old.asked p) → Keeps_step old given (reads_last old g)
   reads_last_any old given None h stage named = stops_now old given ending.BadReply tt h
   reads_last_any old given (Some b) h stage named = (tt, (reads_alone Rises Named Small rising_answers first given old b h stage (named b refl)).0)
 
-  reads_for_any : (old : Walker) (given bindings : List VarBind) (p : Phase) → Stands Rises Named first old given → IsStage Rises Named first given old.asked p
+  reads_for_any : (old : Walker) (given bindings : List VarBind) (p : Phase) → old.phase ≡ p → Stands Rises Named first old given → IsStage Rises Named first given old.asked p
       → Keeps_step old given (reads_for p old bindings)
-  reads_for_any old given bindings phase.First h stage = reads_first_any old given (got old.asked bindings) h stage (got_named old.asked bindings)
-  reads_for_any old given bindings phase.Rows h stage = reads_next_any old given bindings h stage
-  reads_for_any old given bindings phase.Last h stage = reads_last_any old given (got old.asked bindings) h stage (got_named old.asked bindings)
-  reads_for_any old given bindings phase.Over h stage = absurd stage
+  reads_for_any old given bindings phase.First waits h stage = reads_first_any old given (got old.asked bindings) waits h stage (got_named old.asked bindings)
+  reads_for_any old given bindings phase.Rows waits h stage = reads_next_any old given bindings waits h stage
+  reads_for_any old given bindings phase.Last waits h stage = reads_last_any old given (got old.asked bindings) h stage (got_named old.asked bindings)
+  reads_for_any old given bindings phase.Over waits h stage = absurd stage
 
   pub taken_any : (old : Walker) (given : List VarBind) (m : Message) → Stands Rises Named first old given → Keeps first old given (take_of old m).0 (take_of old m).1
   taken_any old given m h =
       either_way old given (is_awaited old m) (reads_reply old m) (step.Stray, old)
-      (λ _. either_way old given (int_eq m.a (pos 0)) (reads_for old.phase old m.bindings) (stops old [] (ending.Fault m.a m.b)) (λ _. reads_for_any old given m.bindings old.phase h h.stage) (λ _. stops_now old given (ending.Fault m.a m.b) tt h))
+      (λ _. either_way old given (int_eq m.a (pos 0)) (reads_for old.phase old m.bindings) (stops old [] (ending.Fault m.a m.b)) (λ _. reads_for_any old given m.bindings old.phase refl h h.stage) (λ _. stops_now old given (ending.Fault m.a m.b) tt h))
       (λ _. refl)

@@ -8,17 +8,12 @@ use Rattle.snmp_walk.specs.declared.end.WalkEnd.TheVariants as ending
 use Rattle.snmp_walk.specs.Walker.{Walker}
 use Rattle.snmp_walk.specs.Walk.{rows_after, or_end, walk_from}
 use Rattle.snmp_walk.specs.Standing.{IsPart, IsWhole, IsOneTable}
-use Rattle.snmp_walk.specs.Link.{Agents, OneOf, next_of, got_of, AreViews}
+use Rattle.snmp_walk.specs.Link.{Agents, next_of, got_of, AreViews}
 use Rattle.snmp_walk.specs.Facts.{IsFresh, IsLawfulEnd, IsDone, WalkFacts, walk_at}
 use Rattle.snmp_walk.proofs.JoinLemmas.{variables_rise, variables_are, next_first, get_one, get_row}
 use Rattle.snmp_walk.proofs.TableLemmas.{part_is, whole_is}
-
-only_one : (view v : MibView) (tables : List MibView) → tables ≡ view ∷ [] → OneOf tables v → v ≡ view
-only_one view v tables e one = from_one (subst (λ (t : List MibView). OneOf t v) e one)
-  where
-    from_one : OneOf (view ∷ []) v → v ≡ view
-    from_one (inl same) = same
-    from_one (inr never) = absurd never
+use Rattle.snmp_walk.proofs.ViewLemmas.{only_one}
+use Rattle.snmp_walk.proofs.SwiftLemmas.{swift_end}
 
 pub one_table : (agents : Agents) (first : Walker) (view : MibView) (got : VarBind) → AreViews agents.tables → agents.tables ≡ view ∷ [] → IsGet view first.asked got
     → IsOneTable (variables view) got (next_of agents) (got_of agents) first
@@ -54,4 +49,6 @@ facts agents first rows refused end fresh views part lawful = record {
   all = λ view got e answer done.
       whole_is (variables view) got (next_of agents) (got_of agents) first (one_table agents first view got views e answer) fresh.begins.0 fresh.begins.1 rows
       (lawful_whole agents first rows end done lawful);
+  swift = λ view got e answer rooms ids.
+      swift_end agents first view views e rooms got (one_table agents first view got views e answer) fresh.begins.0 fresh.begins.1 rows end ids lawful;
 }

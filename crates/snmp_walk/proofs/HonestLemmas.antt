@@ -40,7 +40,7 @@ repetitions_fit phase.Rows (method.Bulk r) h = h
 repetitions_fit phase.Last m h = fits_from 0 (omega arith)
 repetitions_fit phase.Over m h = fits_from 0 (omega arith)
 
-request_in_range : (w : Walker) → IsWalker w → IsMessageInRange (request_of w)
+pub request_in_range : (w : Walker) → IsWalker w → IsMessageInRange (request_of w)
 request_in_range w good = record {
   version = fits_from 1 (omega arith);
   community = (good.octets, omega (arith, good.community));
@@ -102,14 +102,14 @@ response_in_range w good a bindings n small each fits datagram = record {
 }
 
 -- the answers to a request of one name
-one_answer : (R : VarBind → VarBind → Type 0) (o : List ℕ) (bindings : List VarBind) → AreAnswers R (record { name = o; value = null_value } ∷ []) bindings
+pub one_answer : (R : VarBind → VarBind → Type 0) (o : List ℕ) (bindings : List VarBind) → AreAnswers R (record { name = o; value = null_value } ∷ []) bindings
     → (p : VarBind) × (bindings ≡ p ∷ []) × R (record { name = o; value = null_value }) p
 one_answer R o [] h = absurd h
 one_answer R o (p ∷ []) h = (p, refl, h.0)
 one_answer R o (p ∷ q ∷ more) h = absurd h.1
 
 -- which phase asks by which PDU
-get_phase : (p : Phase) (m : Method) → is_over p ≡ false → request_kind p m ≡ kind.GetRequest → (p ≡ phase.First) ⊎ (p ≡ phase.Last)
+pub get_phase : (p : Phase) (m : Method) → is_over p ≡ false → request_kind p m ≡ kind.GetRequest → (p ≡ phase.First) ⊎ (p ≡ phase.Last)
 get_phase phase.First m waits k = inl refl
 get_phase phase.Rows method.Next waits k = let never : ⊥ = cc in absurd never
 get_phase phase.Rows (method.Bulk r) waits k = let never : ⊥ = cc in absurd never
@@ -123,14 +123,14 @@ next_phase phase.Rows (method.Bulk r) k = let never : ⊥ = cc in absurd never
 next_phase phase.Last m k = let never : ⊥ = cc in absurd never
 next_phase phase.Over m k = let never : ⊥ = cc in absurd never
 
-bulk_phase : (p : Phase) (m : Method) → request_kind p m ≡ kind.GetBulkRequest → (p ≡ phase.Rows) × (repetitions : ℤ) × (m ≡ method.Bulk repetitions)
+pub bulk_phase : (p : Phase) (m : Method) → request_kind p m ≡ kind.GetBulkRequest → (p ≡ phase.Rows) × (repetitions : ℤ) × (m ≡ method.Bulk repetitions)
 bulk_phase phase.First m k = let never : ⊥ = cc in absurd never
 bulk_phase phase.Rows method.Next k = let never : ⊥ = cc in absurd never
 bulk_phase phase.Rows (method.Bulk r) k = (refl, r, refl)
 bulk_phase phase.Last m k = let never : ⊥ = cc in absurd never
 bulk_phase phase.Over m k = let never : ⊥ = cc in absurd never
 
-set_phase : (p : Phase) (m : Method) → request_kind p m ≡ kind.SetRequest → ⊥
+pub set_phase : (p : Phase) (m : Method) → request_kind p m ≡ kind.SetRequest → ⊥
 set_phase phase.First m k = cc
 set_phase phase.Rows method.Next k = cc
 set_phase phase.Rows (method.Bulk r) k = cc

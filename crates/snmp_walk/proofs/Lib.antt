@@ -16,4 +16,6 @@ pub mod JoinLemmas
 pub mod FactLemmas
 pub mod BulkLemmas
 pub mod HonestLemmas
+pub mod RoomLemmas
+pub mod SwiftLemmas
 pub mod MemoryLemmas

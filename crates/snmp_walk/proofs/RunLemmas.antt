@@ -15,10 +15,10 @@ use Rattle.snmp_walk.specs.declared.rows.Step.{Step}
 use Rattle.snmp_walk.specs.declared.rows.Step.TheVariants as step
 use Rattle.snmp_walk.specs.Names.{is_missing}
 use Rattle.snmp_walk.specs.Trail.{last_name, IsTrail, AreAnswers}
-use Rattle.snmp_walk.specs.Walker.{Walker}
+use Rattle.snmp_walk.specs.Walker.{Walker, IsWalker}
 use Rattle.snmp_walk.specs.Request.{request_of, first_phase}
 use Rattle.snmp_walk.specs.Taken.{is_over, if_present, take_of}
-use Rattle.snmp_walk.specs.Standing.{IsOpening, IsGiven, IsAlone, IsPart, IsStage, IsReplyTo, Stands, Ends, Advances, Rises, Named, IsReplyEnd, Keeps}
+use Rattle.snmp_walk.specs.Standing.{IsOpening, IsGiven, IsAlone, IsPart, IsStage, IsReplyTo, IsPaced, Stands, Ends, Advances, Rises, Named, IsReplyEnd, Keeps}
 use Rattle.snmp_walk.specs.Link.{Agents, next_of, got_of, IsTooLarge}
 use Rattle.snmp_walk.specs.Sink.{Given, Took}
 use Rattle.snmp_walk.specs.Run.{IsFrom, Turns, goes_on, ends, is_refused, is_silent, fails, rows_in}
@@ -105,8 +105,18 @@ module _ (Next Got : List ℕ → VarBind → Type 0) (first : Walker) where
   fresh_stage mode.Include e = (refl, refl, e)
   fresh_stage mode.NoLast e = record { front = []; trail = []; parts = refl; opening = subst (λ (n : Mode). IsOpening Got n first.asked []) (sym e) refl; is_trail = tt; last = refl }
 
+  fresh_pace : (m : Mode) → first.mode ≡ m → IsPaced Got first [] first.id (first_phase m)
+  fresh_pace mode.Plain e = ([], [], refl, subst (λ (n : Mode). IsOpening Got n first.asked []) (sym e) refl, omega arith)
+  fresh_pace mode.Include e = refl
+  fresh_pace mode.NoLast e = ([], [], refl, subst (λ (n : Mode). IsOpening Got n first.asked []) (sym e) refl, omega arith)
+
   pub fresh_stands : IsFresh first → Stands Next Got first first []
-  fresh_stands h = record { same = refl; count = h.count; stage = subst (IsStage Next Got first [] first.asked) (sym h.phase) (fresh_stage first.mode refl) }
+  fresh_stands h = record {
+    same = refl;
+    count = h.count;
+    paced = subst (IsPaced Got first [] first.id) (sym h.phase) (fresh_pace first.mode refl);
+    stage = subst (IsStage Next Got first [] first.asked) (sym h.phase) (fresh_stage first.mode refl);
+  }
 
   pub stands_waits : (w : Walker) (given : List VarBind) → Stands Next Got first w given → is_over w.phase ≡ false
   stands_waits w given h = waits w.phase h.stage
@@ -244,19 +254,19 @@ module _ {S : Type 0} (takes : S → VarBind → Result (Unit {0}) SinkFault →
     });
   }
 
-  pub over : (rows : List VarBind) (new : Walker) (end : WalkEnd) → Turns takes agents honest w s rows (Some end) new t → IsOver rows end
-  over rows new end (goes_on m from e f sink en) = let no : ⊥ = cc in absurd no
-  over rows new end (ends m why from e sink en) =
+  pub over : IsWalker w → (rows : List VarBind) (new : Walker) (end : WalkEnd) → Turns takes agents honest w s rows (Some end) new t → IsOver rows end
+  over good rows new end (goes_on m from e f sink en) = let no : ⊥ = cc in absurd no
+  over good rows new end (ends m why from e sink en) =
       let same : why ≡ end = cc in
       subst (IsOver rows) same (over_reply rows m why from e sink)
-  over rows new end (is_refused m fault p left between from e sink refused en) =
+  over good rows new end (is_refused m fault p left between from e sink refused en) =
       let same : ending.Sink fault ≡ end = cc in
       subst (IsOver rows) same (over_refused rows m fault p left between from e sink refused)
-  over rows new end (is_silent none r a en) =
+  over good rows new end (is_silent none r a en) =
       let same : ending.NoResponse ≡ end = cc in
       let sink : Given takes before given t = subst (Given takes before given) (sym a) sunk in
-      subst (λ (x : List VarBind). IsOver x end) (sym r) (subst (IsOver []) same (over_none ending.NoResponse (sink, refl) (λ h laws k. (w, k, none h))))
-  over rows new end (fails r a en) =
+      subst (λ (x : List VarBind). IsOver x end) (sym r) (subst (IsOver []) same (over_none ending.NoResponse (sink, refl) (λ h laws k. (w, good, k, none h))))
+  over good rows new end (fails r a en) =
       let same : ending.Link ≡ end = cc in
       let sink : Given takes before given t = subst (Given takes before given) (sym a) sunk in
       subst (λ (x : List VarBind). IsOver x end) (sym r) (subst (IsOver []) same (over_none ending.Link (sink, refl) (λ h laws k. tt)))

@@ -22,7 +22,7 @@ use Rattle.snmp_walk.specs.Trail.{last_name, IsTrail, IsAtEnd, AreAnswers}
 use Rattle.snmp_walk.specs.Walker.{Walker}
 use Rattle.std.specs.Ordering.{int_eq}
 use Rattle.snmp_walk.specs.Taken.{is_over, is_response, is_awaited, is_plain, inside_front, rising_front, asked_for, stops, goes_on, closes, reads, reads_next, got, if_present, reads_first, reads_last, reads_for, reads_reply, take_of}
-use Rattle.snmp_walk.specs.Standing.{IsChain, IsLarge, IsGetContent, IsNextContent, IsContent, IsReplyTo, IsOpening, IsGiven, IsAlone, IsPart, IsWhole, IsStage, IsRefused, Stands, Ends, Advances}
+use Rattle.snmp_walk.specs.Standing.{IsChain, IsLarge, IsGetContent, IsNextContent, IsContent, IsReplyTo, IsOpening, IsGiven, IsAlone, IsPart, IsWhole, IsStage, IsRefused, opening_gets, IsPaced, Stands, Ends, Advances}
 use Rattle.snmp_walk.proofs.TrailLemmas.{last_name-append, trail-append, IsFront, chain_front, chain_has_values}
 
 module _ (Next Got : List ℕ → VarBind → Type 0) (Large : VarBind → Type 0) (laws : AreAnswers Next Got) (first : Walker) where
@@ -38,14 +38,15 @@ module _ (Next Got : List ℕ → VarBind → Type 0) (Large : VarBind → Type 
 
   -- the walk goes on, or has no id left
   pub goes : (given more : List VarBind) (w : Walker) (next : Phase) (s : Bool) → s ≡ nat_lt w.id 2147483647
-      → Stands Next Got first w given → IsStage Next Got first (given ++ more) (last_name w.asked more) next
+      → Stands Next Got first w given → IsStage Next Got first (given ++ more) (last_name w.asked more) next → IsPaced Got first (given ++ more) (w.id + 1) next
       → Goes w given (cond s (step.Rows more, record w { phase = next; asked = last_name w.asked more; id = w.id + 1; count = w.count + length more }) (stops w more ending.TooManyRequests))
-  goes given more w next true e h stage = record {
+  goes given more w next true e h stage pace = record {
     same = ap (λ (v : Walker). record v { phase = next; asked = last_name w.asked more; id = w.id + 1; count = w.count + length more }) h.same;
     count = omega (arith, h.count, length-append given more);
+    paced = pace;
     stage = stage;
   }
-  goes given more w next false e h stage = (part_of_stage (given ++ more) (last_name w.asked more) next stage, ltb-false _ _ (sym e))
+  goes given more w next false e h stage pace = (part_of_stage (given ++ more) (last_name w.asked more) next stage, ltb-false _ _ (sym e))
 
   -- the end of a walk after the instances below the root
   whole : (given more : List VarBind) (w : Walker) (o : List ℕ) → w.count ≡ length given → IsGiven Next Got first (given ++ more) o → IsAtEnd Next first.root o
@@ -77,20 +78,36 @@ module _ (Next Got : List ℕ → VarBind → Type 0) (Large : VarBind → Type 
   no_length [] e = refl
   no_length (x ∷ xs) e = absurd (omega (arith, e))
 
+  -- a plain walk that gave nothing has made no request before
+  plain_pace : (given : List VarBind) (w : Walker) → w.phase ≡ phase.Rows → Stands Next Got first w given → given ≡ [] → first.mode ≡ mode.Plain → w.id ≤ first.id
+  plain_pace given w waits h none plain =
+      let p = subst (IsPaced Got first given w.id) waits h.paced in
+      let empty : p.1 ≡ [] = (append_none p.0 p.1 (sym p.2 ∙ none)).1 in
+      let gets : opening_gets first.mode ≡ 0 = ap opening_gets plain in
+      omega (arith, p.4, gets, ap length empty)
+
+  -- a reply with a row at least takes the walk to the next id
+  pub more_pace : (given rows : List VarBind) (w : Walker) → w.phase ≡ phase.Rows → Stands Next Got first w given → 1 ≤ length rows
+      → IsPaced Got first (given ++ rows) (w.id + 1) phase.Rows
+  more_pace given rows w waits h some =
+      let p = subst (IsPaced Got first given w.id) waits h.paced in
+      (p.0, p.1 ++ rows, ap (λ (s : List VarBind). s ++ rows) p.2 ∙ append_assoc p.0 p.1 rows, p.3, omega (arith, p.4, some, length-append p.1 rows))
+
   -- nothing more stands below the root
-  pub closed : (given more : List VarBind) (w : Walker) (o : List ℕ) (b : Bool) → b ≡ (is_plain w.mode && (w.count + length more == 0))
+  pub closed : (given more : List VarBind) (w : Walker) (o : List ℕ) (b : Bool) → b ≡ (is_plain w.mode && (w.count + length more == 0)) → w.phase ≡ phase.Rows
       → Stands Next Got first w given → IsGiven Next Got first given w.asked → IsGiven Next Got first (given ++ more) o → IsAtEnd Next first.root o
       → Goes w given (cond b (goes_on w phase.Last []) (stops w more (ending.Done (w.count + length more))))
-  closed given more w o true e h before h' end =
+  closed given more w o true e waits h before h' end =
       let parts = and_parts (is_plain w.mode) (w.count + length more == 0) (sym e) in
       let none : w.count + length more ≡ 0 = eqb-true _ _ parts.1 in
       let no_given : given ≡ [] = no_length given (omega (arith, none, h.count)) in
       let no_more : more ≡ [] = no_length more (omega (arith, none)) in
       let asked : w.asked ≡ first.asked = none_asked given w.asked no_given before in
       let at : o ≡ first.asked = none_asked (given ++ more) o (ap (λ (s : List VarBind). s ++ more) no_given ∙ no_more) h' in
-      goes given [] w phase.Last _ refl h
-      (append-nil given ∙ no_given, asked, sym (mode_is w given h) ∙ plain_from w.mode parts.0, subst (IsAtEnd Next first.root) at end)
-  closed given more w o false e h before h' end =
+      let plain : first.mode ≡ mode.Plain = sym (mode_is w given h) ∙ plain_from w.mode parts.0 in
+      let pace : w.id ≤ first.id = plain_pace given w waits h no_given plain in
+      goes given [] w phase.Last _ refl h (append-nil given ∙ no_given, asked, plain, subst (IsAtEnd Next first.root) at end) (omega (arith, pace))
+  closed given more w o false e waits h before h' end =
       whole given more w o h.count h' end (λ plain none.
       let empty = append_none given more none in
       let zero_count : w.count + length more ≡ 0 = omega (arith, h.count, ap length empty.0, ap length empty.1) in
@@ -110,27 +127,28 @@ module _ (Next Got : List ℕ → VarBind → Type 0) (Large : VarBind → Type 
   }
 
   -- a chain of answers
-  reads_chain : (given bindings inside rows : List VarBind) (w : Walker) (b : Bool) → b ≡ nat_lt (length rows) (length bindings)
+  reads_chain : (given bindings inside rows : List VarBind) (w : Walker) (b : Bool) → b ≡ nat_lt (length rows) (length bindings) → w.phase ≡ phase.Rows → 1 ≤ length bindings
       → Stands Next Got first w given → IsGiven Next Got first given w.asked → IsFront Next first.root w.asked bindings inside rows
       → Goes w given (cond b (closes w rows) (goes_on w phase.Rows rows))
-  reads_chain given bindings inside rows w true e h before front =
+  reads_chain given bindings inside rows w true e waits some h before front =
       let trail = subst (IsTrail Next first.root w.asked) (sym front.rising) front.is_trail in
       let fewer : length inside < length bindings = omega (arith, ltb-true-of e, ap length front.rising) in
       let end = subst (λ (s : List VarBind). IsAtEnd Next first.root (last_name w.asked s)) (sym front.rising) (front.leaves fewer) in
-      closed given rows w (last_name w.asked rows) _ refl h before (given_more given rows w.asked before trail) end
+      closed given rows w (last_name w.asked rows) _ refl waits h before (given_more given rows w.asked before trail) end
     where
       ltb-true-of : true ≡ nat_lt (length rows) (length bindings) → length rows < length bindings
       ltb-true-of q = ltb-true (length rows) (length bindings) (sym q)
-  reads_chain given bindings inside rows w false e h before front =
+  reads_chain given bindings inside rows w false e waits some h before front =
       let trail = subst (IsTrail Next first.root w.asked) (sym front.rising) front.is_trail in
-      goes given rows w phase.Rows _ refl h (given_more given rows w.asked before trail)
+      let all : length bindings ≤ length rows = ltb-false (length rows) (length bindings) (sym e) in
+      goes given rows w phase.Rows _ refl h (given_more given rows w.asked before trail) (more_pace given rows w waits h (omega (arith, some, all)))
 
-  reads_front : (given bindings inside rows : List VarBind) (w : Walker)
+  reads_front : (given bindings inside rows : List VarBind) (w : Walker) → w.phase ≡ phase.Rows → 1 ≤ length bindings
       → Stands Next Got first w given → IsGiven Next Got first given w.asked → IsFront Next first.root w.asked bindings inside rows
       → (unsorted : Step × Walker)
       → Goes w given (cond (nat_lt (length rows) (length inside)) unsorted (cond (nat_lt (length rows) (length bindings)) (closes w rows) (goes_on w phase.Rows rows)))
-  reads_front given bindings inside rows w h before front unsorted =
-      rw (le-ltb (length rows) (length inside) (omega (arith, ap length front.rising))) (reads_chain given bindings inside rows w _ refl h before front)
+  reads_front given bindings inside rows w waits some h before front unsorted =
+      rw (le-ltb (length rows) (length inside) (omega (arith, ap length front.rising))) (reads_chain given bindings inside rows w _ refl waits some h before front)
 
   -- a reply with the next instances
   reads_instances : (given bindings : List VarBind) (w : Walker) → w.phase ≡ phase.Rows → Stands Next Got first w given → IsGiven Next Got first given w.asked
@@ -142,7 +160,7 @@ module _ (Next Got : List ℕ → VarBind → Type 0) (Large : VarBind → Type 
       let fine : (nat_lt (asked_for w.method) (length (b ∷ more)) || list_any (λ p. is_missing p.value) (b ∷ more)) ≡ false =
       or_from _ _ (le-ltb _ _ few) (chain_has_values Next Got laws first.root w.asked (b ∷ more) chain) in
       let front = chain_front Next Got laws w.root w.asked (b ∷ more) chain in
-      rw fine (reads_front given (b ∷ more) (inside_front w.root (b ∷ more)) (rising_front w.asked (inside_front w.root (b ∷ more))) w h before
+      rw fine (reads_front given (b ∷ more) (inside_front w.root (b ∷ more)) (rising_front w.asked (inside_front w.root (b ∷ more))) w waits (omega arith) h before
       (subst (λ (r : List ℕ). IsFront Next r w.asked (b ∷ more) (inside_front w.root (b ∷ more)) (rising_front w.asked (inside_front w.root (b ∷ more)))) (root_is w given h) front) _)
 
   -- the binding of a Get's reply
@@ -159,19 +177,18 @@ module _ (Next Got : List ℕ → VarBind → Type 0) (Large : VarBind → Type 
   include_opening m o p e h = let P : Mode → Type 0 = λ n. IsOpening Got n o (if_present p) in subst P (sym e) (p, h, refl)
 
   -- the reply to the Get with which a walk begins
-  pub reads_root : (given : List VarBind) (w : Walker) (p : VarBind) → Stands Next Got first w given → IsStage Next Got first given w.asked phase.First
+  pub reads_root : (given : List VarBind) (w : Walker) (p : VarBind) → w.phase ≡ phase.First → Stands Next Got first w given → IsStage Next Got first given w.asked phase.First
       → Got w.asked p → Goes w given (reads_first w (Some p))
-  reads_root given w p h stage answer =
+  reads_root given w p waits h stage answer =
       let at : Got first.asked p = subst (λ (o : List ℕ). Got o p) stage.1 answer in
       let name : last_name w.asked (if_present p) ≡ w.asked = present_name w.asked p (is_missing p.value) (laws.same_name w.asked p answer) in
-      goes given (if_present p) w phase.Rows _ refl h record {
-        front = if_present p;
-        trail = [];
-        parts = ap (λ (s : List VarBind). s ++ if_present p) stage.0 ∙ sym (append-nil (if_present p));
-        opening = include_opening first.mode first.asked p stage.2 at;
-        is_trail = tt;
-        last = name ∙ stage.1;
-      }
+      let parts : given ++ if_present p ≡ if_present p ++ [] = ap (λ (s : List VarBind). s ++ if_present p) stage.0 ∙ sym (append-nil (if_present p)) in
+      let opening = include_opening first.mode first.asked p stage.2 at in
+      let pace : w.id ≡ first.id = subst (IsPaced Got first given w.id) waits h.paced in
+      let gets : opening_gets first.mode ≡ 1 = ap opening_gets stage.2 in
+      goes given (if_present p) w phase.Rows _ refl h
+      (record { front = if_present p; trail = []; parts = parts; opening = opening; is_trail = tt; last = name ∙ stage.1 })
+      (if_present p, [], parts, opening, omega (arith, pace, gets))
 
   -- the reply to the Get with which a walk ends that gave nothing
   pub reads_alone : (given : List VarBind) (w : Walker) (p : VarBind) → Stands Next Got first w given → IsStage Next Got first given w.asked phase.Last
@@ -203,7 +220,7 @@ module _ (Next Got : List ℕ → VarBind → Type 0) (Large : VarBind → Type 
   reads_content : (given : List VarBind) (w : Walker) (m : Message) (p : Phase) → w.phase ≡ p → Stands Next Got first w given → IsStage Next Got first given w.asked p
       → IsContent Next Got Large p w m → Goes w given (cond (int_eq m.a (pos 0)) (reads_for p w m.bindings) (stops w [] (ending.Fault m.a m.b)))
   reads_content given w m phase.First waits h stage (inl c) =
-      fine given w m _ _ c.0 (rw (c.1.2, got_is w.asked c.1.0 c.1.1) (reads_root given w c.1.0 h stage c.1.1))
+      fine given w m _ _ c.0 (rw (c.1.2, got_is w.asked c.1.0 c.1.1) (reads_root given w c.1.0 waits h stage c.1.1))
   reads_content given w m phase.First waits h stage (inr c) = refused given w m phase.First waits h stage c.0 c.1 c.2 _
   reads_content given w m phase.Rows waits h stage (inl c) = fine given w m _ _ c.0 (reads_instances given m.bindings w waits h stage c.1 c.2 c.3)
   reads_content given w m phase.Rows waits h stage (inr c) = refused given w m phase.Rows waits h stage c.0 c.1 c.2 _

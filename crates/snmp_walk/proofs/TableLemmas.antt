@@ -122,7 +122,7 @@ or_only_some got (x ∷ xs) some = refl
 module _ (rows : List VarBind) (got : VarBind) (Next Got : List ℕ → VarBind → Type 0) (first : Walker) (table : IsOneTable rows got Next Got first)
     (s : List ℕ) (begins : first.asked ≡ first.root ++ s) where
   -- a trail is a front of the rest
-  trail_rest : (o : List ℕ) (trail : List VarBind) → IsTrail Next first.root o trail
+  pub trail_rest : (o : List ℕ) (trail : List VarBind) → IsTrail Next first.root o trail
       → rest_of first.root o rows ≡ trail ++ rest_of first.root (last_name o trail) rows
   trail_rest o [] h = refl
   trail_rest o (p ∷ trail) h =

@@ -87,3 +87,11 @@ views_answer agents h = record {
   same_name = λ o p n. get_name n.0 o p n.2;
   is_answer = λ o p n. get_value n.0 (view_of agents.tables h n.0 n.1) o p n.2;
 }
+
+-- with one table each answer is that table's
+pub only_one : (view v : MibView) (tables : List MibView) → tables ≡ view ∷ [] → OneOf tables v → v ≡ view
+only_one view v tables e one = from_one (subst (λ (t : List MibView). OneOf t v) e one)
+  where
+    from_one : OneOf (view ∷ []) v → v ≡ view
+    from_one (inl same) = same
+    from_one (inr never) = absurd never

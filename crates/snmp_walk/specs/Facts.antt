@@ -7,10 +7,11 @@ use Rattle.snmp_walk.specs.declared.end.WalkEnd.TheVariants as ending
 use Rattle.snmp_table.specs.Table.{MibView, IsGet}
 use Rattle.snmp_table.specs.Listing.{variables}
 use Rattle.snmp_walk.specs.Walk.{walk_from}
-use Rattle.snmp_walk.specs.Walker.{Walker}
+use Rattle.snmp_walk.specs.Walker.{Walker, IsWalker}
 use Rattle.snmp_walk.specs.Request.{request_of, first_phase}
 use Rattle.snmp_walk.specs.Standing.{Stands, IsPart, Ends}
 use Rattle.snmp_walk.specs.Link.{Agents, next_of, got_of, IsTooLarge, IsUnanswered}
+use Rattle.snmp_walk.specs.Room.{HasRoomForEach, HasIds}
 
 -- a walk of which nothing was taken yet, and which asks for the root or behind a name that begins with it
 pub record IsFresh (w : Walker) : Type 0 where
@@ -23,7 +24,7 @@ abbrev pub IsLawfulEnd : Agents → Walker → List VarBind → WalkEnd → Type
 IsLawfulEnd agents first rows ending.Link = Unit {0}
 IsLawfulEnd agents first rows (ending.Sink fault) = Unit {0}
 IsLawfulEnd agents first rows ending.NoResponse =
-    (w : Walker) × Stands (next_of agents) (got_of agents) first w rows × IsUnanswered agents (canon (request_of w))
+    (w : Walker) × IsWalker w × Stands (next_of agents) (got_of agents) first w rows × IsUnanswered agents (canon (request_of w))
 IsLawfulEnd agents first rows why =
     (w : Walker) × (given : List VarBind) × Stands (next_of agents) (got_of agents) first w given × Ends (next_of agents) (got_of agents) (IsTooLarge agents) first w rows why
 
@@ -35,6 +36,13 @@ abbrev pub IsDone : WalkEnd → Type 0
 IsDone (ending.Done n) = Unit {0}
 IsDone _ = ⊥
 
+-- the walk is done, or was stopped by the link or the sink
+abbrev pub IsSwiftEnd : WalkEnd → Type 0
+IsSwiftEnd (ending.Done n) = Unit {0}
+IsSwiftEnd ending.Link = Unit {0}
+IsSwiftEnd (ending.Sink fault) = Unit {0}
+IsSwiftEnd _ = ⊥
+
 -- what is promised of a run over an honest link, which gave these rows to the sink, and then the one that was refused, if any was
 pub record WalkFacts (agents : Agents) (first : Walker) (rows refused : List VarBind) (end : WalkEnd) : Type 0 where
   pub part : IsPart (next_of agents) (got_of agents) first (rows ++ refused)
@@ -43,3 +51,6 @@ pub record WalkFacts (agents : Agents) (first : Walker) (rows refused : List Var
   pub beginning : (view : MibView) (got : VarBind) → agents.tables ≡ view ∷ [] → IsGet view first.asked got → (more : List VarBind) × (walk_at first view got ≡ (rows ++ refused) ++ more)
   -- and where the walk is done it is all of it
   pub all : (view : MibView) (got : VarBind) → agents.tables ≡ view ∷ [] → IsGet view first.asked got → IsDone end → rows ≡ walk_at first view got
+  -- Over one table, where there is room for each single binding and ids are enough, a walk is done unless the link or the sink stops it.
+  pub swift : (view : MibView) (got : VarBind) → agents.tables ≡ view ∷ [] → IsGet view first.asked got → HasRoomForEach agents view first → HasIds first view
+      → IsSwiftEnd end

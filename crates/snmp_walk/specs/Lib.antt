@@ -7,6 +7,7 @@ pub mod Taken
 pub mod Reading
 pub mod Standing
 pub mod Link
+pub mod Room
 pub mod Sink
 pub mod Run
 pub mod Facts

@@ -88,10 +88,26 @@ IsStage Next Got first given o phase.Rows = IsGiven Next Got first given o
 IsStage Next Got first given o phase.Last = (given ≡ []) × (o ≡ first.asked) × (first.mode ≡ mode.Plain) × IsAtEnd Next first.root first.asked
 IsStage Next Got first given o phase.Over = ⊥
 
+-- the Get of the root with which a walk begins that includes it
+abbrev pub opening_gets : Mode → ℕ
+opening_gets mode.Include = 1
+opening_gets _ = 0
+
+-- How far the ids have come: each request before the waiting one brought a row behind the root's own at least, but for the Get with which a walk
+-- begins that includes its root, and the request that found nothing, before the Get with which a plain walk ends.
+abbrev pub IsPaced : (List ℕ → VarBind → Type 0) → Walker → List VarBind → ℕ → Phase → Type 0
+IsPaced Got first given id phase.First = id ≡ first.id
+IsPaced Got first given id phase.Rows =
+    (front : List VarBind) × (trail : List VarBind) × (given ≡ front ++ trail) × IsOpening Got first.mode first.asked front
+    × (id ≤ first.id + opening_gets first.mode + length trail)
+IsPaced Got first given id phase.Last = id ≤ first.id + 1
+IsPaced Got first given id phase.Over = ⊥
+
 -- the walk that began as `first` has given these bindings and waits for a reply
 pub record Stands (Next Got : List ℕ → VarBind → Type 0) (first w : Walker) (given : List VarBind) : Type 0 where
   pub same : w ≡ record first { phase = w.phase; asked = w.asked; id = w.id; count = w.count }
   pub count : w.count ≡ length given
+  pub paced : IsPaced Got first given w.id w.phase
   pub stage : IsStage Next Got first given w.asked w.phase
 
 -- the answer to the waiting request has no room

@@ -3,6 +3,7 @@ ghost use Rattle.std.specs.Prelude.{◌≡◌, ◌≢◌, ◌≤◌, ◌⊎◌, 
 ghost use Rattle.snmp_wire.specs.Canon.{canon};
 ghost use Rattle.snmp_walk.specs.Request.{request_of};
 ghost use Rattle.snmp_walk.specs.Taken.{is_over};
+ghost use Rattle.snmp_walk.specs.Walker.{IsWalker};
 ghost use Rattle.snmp_walk.specs.Link.{Rose, IsSent, IsUnanswered};
 ghost use Rattle.snmp_walk.specs.Run.{IsHeard, Turns};
 ghost use Rattle.snmp_wire.specs.Message.{VarBind};
@@ -108,6 +109,7 @@ fn turn<L: Link, S: Sink>(
 ) -> Option<WalkEnd>
     requires { is_over core.old.phase ≡ false }
     ensures turns { (rows : List VarBind) × Turns S.takes (L.agents link.old) (L.honest link.old) core.old sink.old rows result core.new sink.new }
+    ensures walker { IsWalker core.old }
     ensures stays { L.honest link.old → L.honest link.new }
     ensures agents { L.agents link.new ≡ L.agents link.old }
     ensures count { (result ≡ Some WalkEnd.Link → ⊥) → L.fault_count link.new ≡ L.fault_count link.old }

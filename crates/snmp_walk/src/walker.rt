@@ -152,6 +152,7 @@ impl WalkCore {
     pub fn request(&self, out: &mut [u8; 65507]) -> usize
         ensures waiting { is_over self.now.phase ≡ false → (result ≡ length (canon (request_of self.now))) × (take result out.new ≡ canon (request_of self.now)) }
         ensures over { is_over self.now.phase ≡ true → (result ≡ 0) × (out.new ≡ out.old) }
+        ensures walker { IsWalker self.now }
     {
         if let Phase::Over = self.phase {
             return 0;

@@ -20,7 +20,7 @@ returns-in-Some-clause-given g c =
     let t = c.in-Some.ensures.turns in
     let same = subst (λ (a : Agents). Turns g.S.Sink.takes a (g.L.Link.honest c.turns.link) c.turns.core c.turns.sink t.0 (Some c.in-Some.end) c.turn.new.core c.turn.new.sink) inv.5 t.1 in
     let done = over g.S.Sink.takes (g.L.Link.agents c.args.link.now) (g.L.Link.honest c.turns.link) c.args.core c.turns.core c.args.sink.now c.turns.sink c.turn.new.sink
-    inv.0 inv.1 inv.2 t.0 c.turn.new.core c.in-Some.end same in (
+    inv.0 inv.1 inv.2 c.turn.ensures.walker t.0 c.turn.new.core c.in-Some.end same in (
       inv.0 ++ t.0,
       done.refused,
       done.sink,

@@ -1,4 +1,5 @@
-use Rattle.std.proofs.Common.{◌≡◌, ◌≤◌, ℕ, length, arith, w32, to_z, of_z, pos}
+use Rattle.std.proofs.Common.{rules, ◌≡◌, ◌≤◌, length, arith, w32, to_z, of_z, pos}
+use Rattle.std.proofs.lemmas.Grind.{common_steps}
 use Rattle.std.proofs.lemmas.Bool.{false≢true}
 use Rattle.std.proofs.lemmas.Int.{to_z_pos, to_z-of_z}
 use Rattle.snmp_walk.specs.Walker.{Walker}
@@ -28,3 +29,6 @@ encode-requires c =
       bindings = encodable c.copy_of.result (rw c.copy_of.ensures.value c.self.invariant.asked);
       total = (let short : length c.copy_of.result ≤ 128 = rw c.copy_of.ensures.value c.copy_of.ensures.identifier.short in omega (arith, name_short c.copy_of.result short));
     }
+
+pub returns : goal.returns
+returns c = record { waiting = grind (arith, common_steps); over = search rules; walker = search rules }
