@@ -1,2 +1,5 @@
+pub mod Letters
+pub mod NameLemmas
 pub mod Outcomes
 pub mod Printed
+pub mod Walked

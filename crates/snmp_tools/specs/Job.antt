@@ -1,5 +1,5 @@
 -- What a job does: its words are judged, its file is read, and the lines of its walk are written.
-use Rattle.std.specs.Prelude.{◌≡◌, ◌≢◌, ℕ, ◌⊎◌, ◌==◌, not, List, [], ◌∷◌, ◌++◌, Option, Some, None, codes, find, map}
+use Rattle.std.specs.Prelude.{◌≡◌, ◌≢◌, ℕ, ◌<◌, ◌≤◌, length, ◌⊎◌, ◌==◌, not, List, [], ◌∷◌, ◌++◌, Option, Some, None, codes, find, map}
 use Rattle.std.specs.Borrow.{Bor}
 use Rattle.std.specs.Str.Lines.{lines}
 use Rattle.snmp_oid.specs.Identifier.{IsWire, wire}
@@ -15,6 +15,8 @@ use Rattle.snmp_walk.specs.Walk.{walk_of}
 use Rattle.snmp_walk.specs.declared.mode.Method.TheVariants as method
 use Rattle.snmp_walk.specs.Request.{started}
 use Rattle.snmp_walk.specs.Walker.{Walker}
+use Rattle.snmp_walk.specs.Link.{Agents}
+use Rattle.snmp_walk.specs.Room.{HasRoomForEach, HasIds}
 use Rattle.snmp_walk.specs.Facts.{IsDone, IsFresh, walk_at}
 use Rattle.snmp_lines.specs.Line.{lines_of}
 use Rattle.snmp_ports.specs.Files.{HoldsIfKnown}
@@ -67,8 +69,10 @@ IsRefusal words files (failure.Letter letter) = other_letter words.letters ≡ S
 IsRefusal words files failure.Agent = (other_letter words.letters ≡ None) × ((path : List ℕ) → IsTablePath words.agent path → ⊥)
 IsRefusal words files failure.BadNumber =
     (other_letter words.letters ≡ None) × ((path : List ℕ) × IsTablePath words.agent path) × ((at : ℕ) × IsFirstBadPart words.name at)
+    × ((o : List ℕ) → IsNumericName words.name o → ⊥)
 IsRefusal words files failure.NameTooLong =
     (other_letter words.letters ≡ None) × ((path : List ℕ) × IsTablePath words.agent path) × IsTooLong words.name
+    × ((o : List ℕ) → IsNumericName words.name o → 128 < length o)
 IsRefusal words files failure.Unreadable = (path : List ℕ) × (root : List ℕ) × Names words path root × IsFileFault (files path) failure.Unreadable
 IsRefusal words files (failure.Table fault) = (path : List ℕ) × (root : List ℕ) × Names words path root × IsFileFault (files path) (failure.Table fault)
 IsRefusal words files failure.NotWire =
@@ -88,9 +92,17 @@ pub record IsWalkOver (words : WalkWords) (files : Holdings) (view : MibView) (r
   pub table : IsTableOf (lines text) view
   pub sendable : IsWire (wire root)
 
--- a walk from the root that asks by GetNext, before its first request
+-- the agent in memory that serves a table
+abbrev pub agent_over : MibView → Agents
+agent_over view = record { tables = view ∷ []; community = codes "public"; max_size = 1472 }
+
+-- the walk from a root that asks by GetNext, before its first request
+abbrev pub first_of : List ℕ → Walker
+first_of root = started root mode.Plain method.Next (codes "public") 1
+
+-- it is this one
 pub record IsWalkFrom (root : List ℕ) (core : Walker) : Type 0 where
-  pub is : core ≡ started root mode.Plain method.Next (codes "public") 1
+  pub is : core ≡ first_of root
   pub fresh : IsFresh core
   pub gives : (view : MibView) (got : VarBind) → IsMibView view → walk_at core view got ≡ walk_of mode.Plain root got (variables view)
 
@@ -100,10 +112,18 @@ pub record AreRowsOf (view : MibView) (root : List ℕ) (rows : List VarBind) : 
   pub answer : IsGet view (wire root) got
   pub rows_are : rows ≡ walk_of mode.Plain root got (variables view)
 
+-- all was given, or the output or want of memory stopped it
+abbrev pub IsOwnEnd : WalkEnd → Type 0
+IsOwnEnd (ending.Done count) = Unit {0}
+IsOwnEnd (ending.Sink fault) = Unit {0}
+IsOwnEnd _ = ⊥
+
 -- the walk gave these rows, refused one for the output's sake or none, and ended so
 pub record IsWalked (view : MibView) (root : List ℕ) (rows refused : List VarBind) (end : WalkEnd) : Type 0 where
   pub beginning : (whole : List VarBind) → AreRowsOf view root whole → (more : List VarBind) × (whole ≡ (rows ++ refused) ++ more)
   pub all : (whole : List VarBind) → AreRowsOf view root whole → IsDone end → rows ≡ whole
+  -- where there is room for each single binding and ids are enough, nothing but the output ends it early
+  pub ends : (whole : List VarBind) → AreRowsOf view root whole → HasRoomForEach (agent_over view) view (first_of root) → HasIds (first_of root) view → IsOwnEnd end
 
 -- how a walk's end is told
 abbrev pub failure_of : WalkEnd → Option Failure
@@ -163,3 +183,18 @@ WritesABeginning words files before after = (rows : List VarBind) → IsTheWalk 
 abbrev pub WritesAll : WalkWords → Holdings → (before after : Stream) → ℕ → Type 0
 WritesAll words files before after status =
     (rows : List VarBind) → status ≡ 0 → IsTheWalk words files rows → (after.0 ≡ appended before.0 (lines_of rows)) × (after.1 ≡ before.1)
+
+-- what a walk needs beside memory and an output that takes its lines: letters with a meaning, a root that can be sent, room for each single
+-- binding in the agent's messages of at most 1472 octets, and ids enough
+pub record IsFeasible (words : WalkWords) (view : MibView) (root : List ℕ) : Type 0 where
+  pub letters : other_letter words.letters ≡ None
+  pub short : length root ≤ 128
+  pub sendable : IsWire (wire root)
+  pub room : HasRoomForEach (agent_over view) view (first_of root)
+  pub ids : HasIds (first_of root) view
+
+-- Then the status is 0, unless the output failed, or memory ran out and that is told.
+abbrev pub EndsWell : WalkWords → Holdings → (before after err_before err_after : Stream) → ℕ → Type 0
+EndsWell words files before after err_before err_after status =
+    (rows : List VarBind) (h : IsTheWalk words files rows) → IsFeasible words h.view h.root
+    → (status ≡ 0) ⊎ ((status ≡ 1) × (Rose before.1 after.1 ⊎ IsWritten err_before (codes "Out of memory.\n") err_after))

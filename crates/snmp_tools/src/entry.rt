@@ -1,7 +1,7 @@
 //! From words to status.
 ghost use Rattle.std.specs.Prelude.{◌≡◌, true, Some};
 ghost use Rattle.snmp_words.specs.Words.{WalkWords, is_taken, stated_job, walk};
-ghost use Rattle.snmp_tools.specs.Job.{texts, Does, WritesABeginning, WritesAll};
+ghost use Rattle.snmp_tools.specs.Job.{texts, Does, WritesABeginning, WritesAll, EndsWell};
 
 use crate::job::{run_job, tell};
 use crate::lines::Lines;
@@ -26,6 +26,9 @@ pub fn tool<F: Files, O: Output, E: Output>(
         → WritesABeginning w (F.text_at files.now) (O.taken out.old.out, O.fault_count out.old.out) (O.taken out.new.out, O.fault_count out.new.out) }
     ensures all { (w : WalkWords) → is_taken (texts words.now) ≡ true → stated_job (texts words.now) ≡ Some (walk w)
         → WritesAll w (F.text_at files.now) (O.taken out.old.out, O.fault_count out.old.out) (O.taken out.new.out, O.fault_count out.new.out) result }
+    ensures well { (w : WalkWords) → is_taken (texts words.now) ≡ true → stated_job (texts words.now) ≡ Some (walk w)
+        → EndsWell w (F.text_at files.now) (O.taken out.old.out, O.fault_count out.old.out) (O.taken out.new.out, O.fault_count out.new.out)
+            (E.taken err.old, E.fault_count err.old) (E.taken err.new, E.fault_count err.new) result }
 {
     match read_words(alloc, words) {
         Ok(job) => run_job(alloc, &job, files, out, err),

@@ -6,7 +6,7 @@ ghost use Rattle.snmp_table.specs.Stated.{IsTableOf};
 ghost use Rattle.snmp_table.specs.Table.{IsMibView};
 ghost use Rattle.snmp_words.specs.Words.{WalkWords, job_words, walk, walk_words};
 ghost use Rattle.snmp_tools.specs.Message.{message_of};
-ghost use Rattle.snmp_tools.specs.Job.{Holdings, other_letter, IsTablePath, IsPathIn, Names, IsFileFault, IsRefusal, IsWalkOver, IsWalkFrom, IsOutcome, IsWritten, IsTold, Does, WritesABeginning, WritesAll};
+ghost use Rattle.snmp_tools.specs.Job.{Holdings, other_letter, IsTablePath, IsPathIn, Names, IsFileFault, IsRefusal, IsWalkOver, IsWalkFrom, IsOutcome, IsWritten, IsTold, Does, WritesABeginning, WritesAll, EndsWell};
 
 use crate::failure::{Failure, Words};
 use crate::lines::{Lines, print_walk};
@@ -44,8 +44,26 @@ pub fn run_job<F: Files, O: Output, E: Output>(
         → WritesABeginning words (F.text_at files.now) (O.taken out.old.out, O.fault_count out.old.out) (O.taken out.new.out, O.fault_count out.new.out) }
     ensures all { (words : WalkWords) → job_words job.now ≡ walk words
         → WritesAll words (F.text_at files.now) (O.taken out.old.out, O.fault_count out.old.out) (O.taken out.new.out, O.fault_count out.new.out) result }
+    ensures well { (words : WalkWords) → job_words job.now ≡ walk words
+        → EndsWell words (F.text_at files.now) (O.taken out.old.out, O.fault_count out.old.out) (O.taken out.new.out, O.fault_count out.new.out)
+            (E.taken err.old, E.fault_count err.old) (E.taken err.new, E.fault_count err.new) result }
 {
-    let Job::Walk(walk) = job;
+    match job {
+        Job::Walk(walk) => do_walk(alloc, walk, files, out, err),
+    }
+}
+
+/// Does the job of a walk.
+fn do_walk<F: Files, O: Output, E: Output>(
+    alloc: Global,
+    walk: &WalkJob<'_>,
+    files: &F,
+    out: &mut Lines<O>,
+    err: &mut E,
+) -> u8
+    ensures { Does (walk_words walk.now) (F.text_at files.now) (O.taken out.old.out, O.fault_count out.old.out) (O.taken out.new.out, O.fault_count out.new.out)
+        (E.taken err.old, E.fault_count err.old) (E.taken err.new, E.fault_count err.new) result }
+{
     match walk_lines(alloc, walk, files, out) {
         Ok(()) => 0,
         Err(failure) => report(alloc, &failure, walk, err),

@@ -2,6 +2,7 @@
 ghost use Rattle.std.specs.Prelude.{◌≡◌, List, ℕ};
 ghost use Rattle.snmp_wire.specs.Message.{VarBind};
 ghost use Rattle.snmp_walk.specs.Facts.{IsFresh, WalkFacts};
+ghost use Rattle.snmp_walk.specs.Link.{Rose};
 ghost use Rattle.snmp_tools.specs.Lines.{IsPrintedUpTo};
 
 use snmp_lines::line;
@@ -58,9 +59,10 @@ pub(crate) fn print_walk<L: Link, O: Output>(
     out: &mut Lines<O>,
 ) -> WalkEnd
     requires { IsFresh core }
-    ensures { (rows : List VarBind) × (refused : List VarBind)
+    ensures given { (rows : List VarBind) × (refused : List VarBind)
         × IsPrintedUpTo (O.taken out.old.out) (O.fault_count out.old.out) rows refused result (O.taken out.new.out) (O.fault_count out.new.out)
         × (L.honest link.old → WalkFacts (L.agents link.old) core rows refused result) }
+    ensures fault { result ≡ WalkEnd.Link → Rose (L.fault_count link.old) (L.fault_count link.new) }
 {
     run_walk(link, core, RETRIES, out)
 }

@@ -4,4 +4,7 @@ use Rattle.snmp_tools.proofs.lines.print_walk.Goals as goal
 pub returns : goal.returns
 returns g c =
     let given = c.run_walk.ensures.given in
-    (given.0, given.1, printed_up_to (λ s. g.O.Output.taken s.out) (λ s. g.O.Output.fault_count s.out) _ _ given.0 given.1 _ given.2, given.4)
+    record {
+      given = (given.0, given.1, printed_up_to (λ s. g.O.Output.taken s.out) (λ s. g.O.Output.fault_count s.out) _ _ given.0 given.1 _ given.2, given.4);
+      fault = c.run_walk.ensures.fault;
+    }

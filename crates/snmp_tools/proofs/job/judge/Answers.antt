@@ -1,0 +1,39 @@
+use Rattle.std.proofs.Common.{◌≡◌, ◌∙◌, refl, sym, ap, subst, ℕ, List, Ok, Err}
+use Rattle.snmp_oid.specs.Numeric.{IsNumericName, IsFirstBadPart, IsTooLong}
+use Rattle.snmp_oid.specs.declared.numeric.OidTextError.TheVariants as error
+use Rattle.snmp_tools.proofs.NameLemmas.{one_name, no_name, long_name}
+use Rattle.snmp_tools.proofs.job.judge.Goals as goal
+
+pub returns-in-Ok-clause-ok : goal.returns-in-Ok-clause-ok
+returns-in-Ok-clause-ok c =
+    let read = c.in-Ok.ensures in
+    let text = c.as_bytes.ensures.value in
+    record {
+      letters = sym c.in_default.ensures;
+      agent = c.in-Some-table_path.ensures.some;
+      name = subst (λ (t : List ℕ). IsNumericName t c.in-Ok.root) text read.found;
+      only = λ o h. one_name c.as_bytes.result.now _ read.only read.too_long.1 c.in-Ok.root refl o (subst (λ (t : List ℕ). IsNumericName t o) (sym text) h);
+    }
+
+pub returns-in-Err-BadNumber-clause-err : goal.returns-in-Err-BadNumber-clause-err
+returns-in-Err-BadNumber-clause-err c = λ files.
+    let read = c.parse_numeric.ensures in
+    let text = c.as_bytes.ensures.value in
+    let at = c.in-Err-BadNumber.field-0-0 in
+    let is : c.parse_numeric.result ≡ Err (error.BadNumber at) = c.in-Err-BadNumber.is ∙ ap Err c.in-Err-BadNumber.field-0-is in (
+      sym c.in_default.ensures,
+      (c.in-Some-table_path.path.now, c.in-Some-table_path.ensures.some),
+      (at, subst (λ (t : List ℕ). IsFirstBadPart t at) text ((read.bad_number at).0 is)),
+      λ o h. no_name c.as_bytes.result.now c.parse_numeric.result read.only read.too_long.1 at is o (subst (λ (t : List ℕ). IsNumericName t o) (sym text) h),
+    )
+
+pub returns-in-Err-TooLong-clause-err : goal.returns-in-Err-TooLong-clause-err
+returns-in-Err-TooLong-clause-err c = λ files.
+    let read = c.parse_numeric.ensures in
+    let text = c.as_bytes.ensures.value in
+    let is : c.parse_numeric.result ≡ Err error.TooLong = c.in-Err-TooLong.is ∙ ap Err c.in-Err-TooLong.field-0-is in (
+      sym c.in_default.ensures,
+      (c.in-Some-table_path.path.now, c.in-Some-table_path.ensures.some),
+      subst IsTooLong text (read.too_long.0 is),
+      λ o h. long_name c.as_bytes.result.now c.parse_numeric.result read.only read.too_long.1 is o (subst (λ (t : List ℕ). IsNumericName t o) (sym text) h),
+    )
