@@ -22,6 +22,7 @@ const RECEIVES: u32 = 64;
 /// Walks over the link from a core of which nothing was taken yet: each request is sent at most `retries + 1` times, and each binding of the walk is given to the sink as it comes.
 ///
 /// Whatever the link brings, the walk ends, and the names given below the root rise.
+/// Over an honest link to the agent of one table, whose messages have room for each single binding, and with ids enough for a request for each row and two more, it is done unless the link or the sink stops it.
 pub fn run_walk<L: Link, S: Sink>(
     link: &mut L,
     core: WalkCore,
