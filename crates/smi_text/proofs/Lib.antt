@@ -11,3 +11,5 @@ pub mod Spells
 pub mod DefinitionLists
 pub mod FileSteps
 pub mod Doubles
+pub mod Braces
+pub mod Lines

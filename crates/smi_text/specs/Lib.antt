@@ -7,3 +7,5 @@ pub mod Gives
 pub mod Names
 pub mod Spelling
 pub mod Text
+pub mod Braces
+pub mod Lines

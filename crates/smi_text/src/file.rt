@@ -1,13 +1,17 @@
 //! The whole of a module text: its tokens, and then its modules one after the other.
 #![tactic(auto, unfolding(crate::specs::Format::begins))]
 
-ghost use Rattle.std.specs.Prelude.{◌≡◌, List, [], IfOk, IfErr, MatchResult, MatchBool, map};
+ghost use Rattle.std.specs.Prelude.{◌≡◌, List, [], IfOk, IfErr, MatchResult, MatchBool, map, true, ◌↔◌};
 ghost use Rattle.smi_lexer.specs.Token.{Lexeme, lexeme_of};
 ghost use Rattle.smi_text.specs.Mark.{Stands};
 ghost use Rattle.smi_text.specs.Spelling.{spelling};
+ghost use Rattle.smi_text.specs.Lines.{plain, unlined};
 ghost use Rattle.smi_text.specs.Gives.{ReadsDefinitions, ReadsModule, ReadsModules, DefinitionsFault, ModuleFault, ModulesFault, IsLabelAhead, AreTokens, LexFault};
 ghost use Rattle.smi_text.specs.Text.{Spells, HasNoDoubles, IsCause};
+ghost use Rattle.smi_text.specs.Braces.{IsBalanced};
+ghost use Rattle.smi_text.specs.Grammar.{is_balanced};
 ghost use Rattle.smi_text.specs.declared.tree.Module.{Module as Tree};
+ghost use Rattle.smi_text.specs.declared.tree.TokenText.{TokenText};
 
 use crate::error::ParseError;
 use crate::items::Items;
@@ -121,4 +125,15 @@ pub fn parse_modules(alloc: Global, text: &[u8]) -> Result<Vec<Module>, ParseErr
 /// Tokens spell one list of modules at most.
 pub fn one_reading()
     ensures { (ms ns : List Tree) (tokens : List Lexeme) → Stands (spelling ms) tokens [] → Stands (spelling ns) tokens [] → ms ≡ ns }
+{}
+
+/// Kinds and texts of tokens spell one list of modules at most, but for the lines in it.
+pub fn one_reading_without_lines()
+    ensures { (ms ns : List Tree) (tokens : List Lexeme) → Stands (map plain (spelling ms)) tokens [] → Stands (map plain (spelling ns)) tokens [] →
+        map unlined ms ≡ map unlined ns }
+{}
+
+/// The tokens that a spelling takes for balanced are those whose braces are.
+pub fn balanced_braces()
+    ensures { (xs : List TokenText) → is_balanced 0 xs ≡ true ↔ IsBalanced xs }
 {}

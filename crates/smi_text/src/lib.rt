@@ -16,7 +16,7 @@ mod syntax;
 mod tree;
 
 pub use error::ParseError;
-pub use file::{one_reading, parse_modules};
+pub use file::{balanced_braces, one_reading, one_reading_without_lines, parse_modules};
 pub use items::{Items, Text};
 pub use smi_lexer::{LexError, Lexer, Span, Token, TokenKind};
 pub use tree::{
