@@ -83,6 +83,7 @@ module _ (names : BTreeSet (Bor (List ℕ))) (defs : List Def) (from now : List 
     pub has_read-second : has names x ≡ true → HasSecond d.line from
     has_read-second again = record {
       before = defs;
+      once = have.distinct;
       second = d;
       rest = rest;
       stands = Stands-append (flat_map of_def defs) (of_def d) from now rest have.stands (read-stands d now rest read);
@@ -193,6 +194,7 @@ module _ (ms : List Module) (from now : List Lexeme) (have : HasModules ms from 
   has_modules-fault (E.Syntax line) some f = stuck f some
   has_modules-fault (E.DoubleName line) some f = record {
     modules = ms;
+    once = have.distinct;
     name = f.name;
     heading = f.heading;
     imports = f.imports;

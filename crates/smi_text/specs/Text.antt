@@ -38,18 +38,20 @@ pub record BreaksOff (fault : LexError) (text : List ℕ) : Type 0 where
   pub lexed : Lexes [] text items
   pub at : fault_of items ≡ Some fault
 
--- the tokens begin with definitions, the last of which stands on this line and defines a name again
+-- the tokens begin with definitions, the last of which stands on this line and is the first that defines a name again
 pub record HasSecond (line : ℕ) (tokens : List Lexeme) : Type 0 where
   pub before : List Def
+  pub once : are_distinct (labels before) ≡ true
   pub second : Def
   pub rest : List Lexeme
   pub stands : Stands (flat_map of_def before ++ of_def second) tokens rest
   pub defined : list_any (same_text second.label) (labels before) ≡ true
   pub on_line : second.line ≡ line
 
--- such definitions stand in a module of the text, behind other modules
+-- such definitions stand in a module of the text, behind modules of which none defines a name twice
 pub record DefinesAgain (line : ℕ) (tokens : List Lexeme) : Type 0 where
   pub modules : List Module
+  pub once : HasNoDoubles modules
   pub name : List ℕ
   pub heading : Option (List Part)
   pub imports : Option (List Import)
