@@ -2,9 +2,9 @@
 
 use crate::reading::{are, are_tokens, counts, definition, is, is_some};
 use smi_text::{
-    Base, Def, DefKind, Index, Part, Refinement, Status, Syntax, TokenKind, parse_modules,
+    Base, Def, DefKind, Index, Module, ModuleIdentity, ObjectType, Part, Range, Refinement, Status,
+    Syntax, TextualConvention, TokenText, TypeAssignment, parse_modules,
 };
-use std::alloc::Global;
 use std::test::Fail;
 
 #[test]
@@ -27,354 +27,409 @@ fn each_production_broken_off(rt: HostRuntime) -> Result<(), Fail> {
 }
 
 #[test]
-fn modules_and_imports(rt: HostRuntime) -> Result<(), Fail> {
+fn each_production(rt: HostRuntime) -> Result<(), Fail> {
     let modules = parse_modules(rt.alloc(), ALL)?;
-    let [first, second] = modules.as_slice() else {
-        return Err(Fail::from("two modules"));
-    };
-    assert!(rt; is(&first.name, "NAMES") && is(&second.name, "EMPTY"));
-    assert_eq!(rt; (first.defs.len(), second.defs.len()), (26, 0));
-    let Some(heading) = &first.heading else {
-        return Err(Fail::from("a heading"));
-    };
-    assert!(rt; are_parts(heading.as_slice(), "iso org(3) dod 1"));
-    let Some(imports) = &first.imports else {
-        return Err(Fail::from("imports"));
-    };
-    let [from_c, from_e] = imports.as_slice() else {
-        return Err(Fail::from("two imports"));
-    };
-    assert!(rt; are_tokens(from_c.symbols.as_slice(), "a B OBJECT-TYPE MODULE-IDENTITY"));
-    assert!(rt; is(&from_c.source, "C") && is(&from_e.source, "E"));
-    assert!(rt; are_tokens(from_e.symbols.as_slice(), "d"));
-    assert_eq!(rt; (from_c.line, from_e.line), (3, 4));
-    assert!(rt;
-        second
-            .heading
-            .as_ref()
-            .is_some_and(|parts| parts.len() == 0)
-    );
-    assert!(rt;
-        second
-            .imports
-            .as_ref()
-            .is_some_and(|imports| imports.len() == 0)
-    );
+    assert!(rt; has_heads(&modules), "heads");
+    for row in SHAPES {
+        assert!(rt; has_shape(&modules, row), "{row}");
+    }
+    assert_eq!(rt; has_identities(&modules), Some(true), "identities");
+    assert_eq!(rt; has_groups(&modules), Some(true), "groups");
+    assert_eq!(rt; has_objects(&modules), Some(true), "objects");
+    assert_eq!(rt; has_indexes(&modules), Some(true), "indexes");
+    assert_eq!(rt; has_conventions(&modules), Some(true), "conventions");
+    assert_eq!(rt; has_types(&modules), Some(true), "types");
+    assert_eq!(rt; has_raw_tokens(&modules), Some(true), "raw tokens");
     Ok(())
+}
+
+/// The name, line, kind and identifier value of each definition, with `@` between them.
+const SHAPES: [&str; 26] = [
+    "m@5@MODULE-IDENTITY@iso 1",
+    "o@7@OBJECT IDENTIFIER@iso org(3) dod(6) 1",
+    "oi@8@OBJECT-IDENTITY@o 1",
+    "t1@9@OBJECT-TYPE@o 2",
+    "t2@10@OBJECT-TYPE@o 3",
+    "t3@11@OBJECT-TYPE@t2 1",
+    "t4@12@OBJECT-TYPE@o 4",
+    "t5@13@OBJECT-TYPE@1 3",
+    "t6@14@OBJECT-TYPE@o(1) 3",
+    "n1@15@NOTIFICATION-TYPE@o 5",
+    "n2@16@NOTIFICATION-TYPE@o 6",
+    "g1@17@OBJECT-GROUP@o 7",
+    "g2@18@NOTIFICATION-GROUP@o 8",
+    "c1@19@MODULE-COMPLIANCE@o 9",
+    "c2@20@AGENT-CAPABILITIES@o 10",
+    "Tc@21@TEXTUAL-CONVENTION@",
+    "Tc2@22@TEXTUAL-CONVENTION@",
+    "App@23@type@",
+    "Plain@24@type@",
+    "Rows@25@type@",
+    "Row@26@SEQUENCE@",
+    "Ch@27@CHOICE@",
+    "OBJECT-TYPE@28@MACRO@",
+    "MyMacro@29@MACRO@",
+    "t7@30@OBJECT-TYPE@o 11",
+    "Bare@31@type@",
+];
+
+fn has_shape(modules: &[Module], row: &str) -> bool {
+    let (name, rest) = row.split_once('@').unwrap_or(("", ""));
+    let (line, rest) = rest.split_once('@').unwrap_or(("", ""));
+    let (kind, value) = rest.split_once('@').unwrap_or(("", ""));
+    let Ok(line) = line.parse::<usize>() else {
+        return false;
+    };
+    match definition(modules, name) {
+        Some(def) => def.line == line && kind_name(def) == kind && are_parts(value_of(def), value),
+        None => false,
+    }
+}
+
+fn kind_name(def: &Def) -> &'static str {
+    match &def.kind {
+        DefKind::ObjectIdentifier(_) => "OBJECT IDENTIFIER",
+        DefKind::ModuleIdentity(_) => "MODULE-IDENTITY",
+        DefKind::ObjectIdentity(_) => "OBJECT-IDENTITY",
+        DefKind::ObjectType(_) => "OBJECT-TYPE",
+        DefKind::NotificationType(_) => "NOTIFICATION-TYPE",
+        DefKind::ObjectGroup(_) => "OBJECT-GROUP",
+        DefKind::NotificationGroup(_) => "NOTIFICATION-GROUP",
+        DefKind::ModuleCompliance(_) => "MODULE-COMPLIANCE",
+        DefKind::AgentCapabilities(_) => "AGENT-CAPABILITIES",
+        DefKind::TextualConvention(_) => "TEXTUAL-CONVENTION",
+        DefKind::TypeAssignment(_) => "type",
+        DefKind::Sequence(_) => "SEQUENCE",
+        DefKind::Choice(_) => "CHOICE",
+        DefKind::Macro(_) => "MACRO",
+    }
+}
+
+/// The parts of a definition's identifier value, if it has one.
+fn value_of(def: &Def) -> &[Part] {
+    match &def.kind {
+        DefKind::ObjectIdentifier(value) => value.as_slice(),
+        DefKind::ModuleIdentity(d) => d.value.as_slice(),
+        DefKind::ObjectIdentity(d) => d.value.as_slice(),
+        DefKind::ObjectType(d) => d.value.as_slice(),
+        DefKind::NotificationType(d) => d.value.as_slice(),
+        DefKind::ObjectGroup(d) | DefKind::NotificationGroup(d) => d.value.as_slice(),
+        DefKind::ModuleCompliance(d) | DefKind::AgentCapabilities(d) => d.value.as_slice(),
+        _ => &[],
+    }
+}
+
+/// Whether a part is written so.
+fn is_part(part: &Part, word: &str) -> bool {
+    match part {
+        Part::Number(number) => is(number, word),
+        Part::Name(name) => is(name, word),
+        Part::NamedNumber(part) => {
+            let (name, rest) = word.split_once('(').unwrap_or(("", ""));
+            let (number, _) = rest.split_once(')').unwrap_or(("", ""));
+            is(&part.name, name) && is(&part.number, number)
+        }
+    }
 }
 
 /// Whether parts are these, with blanks between them.
 fn are_parts(parts: &[Part], words: &str) -> bool {
     let mut left = words.split_whitespace();
     for part in parts {
-        let Some(word) = left.next() else {
+        match left.next() {
+            Some(word) if is_part(part, word) => {}
+            _ => return false,
+        }
+    }
+    left.next().is_none()
+}
+
+fn has_heads(modules: &[Module]) -> bool {
+    let [first, second] = modules else {
+        return false;
+    };
+    let names = is(&first.name, "NAMES") && is(&second.name, "EMPTY");
+    let headings = match (&first.heading, &second.heading) {
+        (Some(parts), Some(none)) => {
+            are_parts(parts.as_slice(), "iso org(3) dod 1") && none.len() == 0
+        }
+        _ => false,
+    };
+    names
+        && headings
+        && has_imports(first, second)
+        && first.defs.len() == 26
+        && second.defs.len() == 0
+}
+
+fn has_imports(first: &Module, second: &Module) -> bool {
+    let (Some(imports), Some(none)) = (&first.imports, &second.imports) else {
+        return false;
+    };
+    let [c, e] = imports.as_slice() else {
+        return false;
+    };
+    let symbols = are_tokens(c.symbols.as_slice(), "a B OBJECT-TYPE MODULE-IDENTITY")
+        && are_tokens(e.symbols.as_slice(), "d");
+    symbols
+        && is(&c.source, "C")
+        && is(&e.source, "E")
+        && c.line == 3
+        && e.line == 4
+        && none.len() == 0
+}
+
+/// What a name is defined as.
+fn kind<'a>(modules: &'a [Module], name: &str) -> Option<&'a DefKind> {
+    let def = definition(modules, name)?;
+    Some(&def.kind)
+}
+
+/// Whether STATUS, DESCRIPTION and REFERENCE are these; an empty text is none.
+fn is_status(status: &Status, word: &str, description: &str, reference: &str) -> bool {
+    let same = if reference.is_empty() {
+        status.reference.is_none()
+    } else {
+        is_some(&status.reference, reference)
+    };
+    is(&status.status, word) && is(&status.description, description) && same
+}
+
+fn has_identities(modules: &[Module]) -> Option<bool> {
+    let DefKind::ModuleIdentity(m) = kind(modules, "m")? else {
+        return None;
+    };
+    let DefKind::ObjectIdentity(oi) = kind(modules, "oi")? else {
+        return None;
+    };
+    Some(is_identity(m) && is_status(&oi.status, "current", "\"d\"", "\"r\""))
+}
+
+fn is_identity(m: &ModuleIdentity) -> bool {
+    let [one, two] = m.revisions.as_slice() else {
+        return false;
+    };
+    let clauses = is(&m.last_updated, "\"1\"")
+        && is(&m.organization, "\"2\"")
+        && is(&m.contact_info, "\"3\"")
+        && is(&m.description, "\"4\"");
+    clauses
+        && is(&one.date, "\"5\"")
+        && is(&one.description, "\"6\"")
+        && is(&two.date, "\"7\"")
+        && is(&two.description, "\"8\"")
+}
+
+fn has_groups(modules: &[Module]) -> Option<bool> {
+    let DefKind::NotificationType(n1) = kind(modules, "n1")? else {
+        return None;
+    };
+    let DefKind::NotificationType(n2) = kind(modules, "n2")? else {
+        return None;
+    };
+    let DefKind::ObjectGroup(g1) = kind(modules, "g1")? else {
+        return None;
+    };
+    let DefKind::NotificationGroup(g2) = kind(modules, "g2")? else {
+        return None;
+    };
+    let objects = n1.objects.as_ref()?;
+    let notices = are(objects.as_slice(), "t1 t2")
+        && n2.objects.is_none()
+        && is_status(&n1.status, "deprecated", "\"n\"", "");
+    Some(
+        notices
+            && are(g1.members.as_slice(), "t1")
+            && are(g2.members.as_slice(), "n1 n2")
+            && is_status(&g1.status, "current", "\"g\"", ""),
+    )
+}
+
+fn object<'a>(modules: &'a [Module], name: &str) -> Option<&'a ObjectType> {
+    match kind(modules, name)? {
+        DefKind::ObjectType(object) => Some(object),
+        _ => None,
+    }
+}
+
+fn has_objects(modules: &[Module]) -> Option<bool> {
+    let t1 = object(modules, "t1")?;
+    let t2 = object(modules, "t2")?;
+    let t7 = object(modules, "t7")?;
+    let first = is_some(&t1.units, "\"u\"")
+        && is(&t1.max_access, "read-only")
+        && t1.index.is_none()
+        && is_status(&t1.status, "current", "\"d\"", "")
+        && are_tokens(t1.default.as_ref()?.as_slice(), "{ a { } } b")
+        && has_numbers(&t1.syntax)?;
+    let second = t2.units.is_none()
+        && t2.index.is_none()
+        && t2.default.is_none()
+        && is_table_of(&t2.syntax, "Row");
+    let all = is_some(&t7.units, "\"u\"")
+        && is_status(&t7.status, "current", "\"d\"", "\"r\"")
+        && t7.index.is_some()
+        && t7.default.as_ref()?.len() == 0;
+    Some(first && second && all)
+}
+
+/// Whether a type is `INTEGER { a(1), b(-2) }`.
+fn has_numbers(syntax: &Syntax) -> Option<bool> {
+    let Syntax::Simple(simple) = syntax else {
+        return None;
+    };
+    let Some(Refinement::Numbers(numbers)) = &simple.refinement else {
+        return None;
+    };
+    let [a, b] = numbers.as_slice() else {
+        return None;
+    };
+    Some(
+        matches!(simple.base, Base::Integer)
+            && is(&a.name, "a")
+            && is(&a.number, "1")
+            && is(&b.name, "b")
+            && is(&b.number, "-2"),
+    )
+}
+
+/// Whether a type is SEQUENCE OF this row.
+fn is_table_of(syntax: &Syntax, name: &str) -> bool {
+    match syntax {
+        Syntax::SequenceOf(row) => is(row, name),
+        Syntax::Simple(_) => false,
+    }
+}
+
+/// Whether the row of this name is told apart by these objects, the last behind IMPLIED or not.
+fn has_index(modules: &[Module], name: &str, names: &str, implied: bool) -> Option<bool> {
+    match object(modules, name)?.index.as_ref()? {
+        Index::Own(parts) => Some(are(parts.names.as_slice(), names) && parts.implied == implied),
+        Index::Augments(_) => None,
+    }
+}
+
+fn has_indexes(modules: &[Module]) -> Option<bool> {
+    let augments = match object(modules, "t4")?.index.as_ref()? {
+        Index::Augments(row) => is(row, "t3"),
+        Index::Own(_) => false,
+    };
+    Some(
+        augments
+            && has_index(modules, "t3", "a b c", true)?
+            && has_index(modules, "t5", "a", false)?
+            && has_index(modules, "t7", "a", true)?,
+    )
+}
+
+fn convention<'a>(modules: &'a [Module], name: &str) -> Option<&'a TextualConvention> {
+    match kind(modules, name)? {
+        DefKind::TextualConvention(convention) => Some(convention),
+        _ => None,
+    }
+}
+
+fn has_conventions(modules: &[Module]) -> Option<bool> {
+    let tc = convention(modules, "Tc")?;
+    let tc2 = convention(modules, "Tc2")?;
+    let Syntax::Simple(string) = &tc.syntax else {
+        return None;
+    };
+    let Some(Refinement::Size(sizes)) = &string.refinement else {
+        return None;
+    };
+    let Syntax::Simple(named) = &tc2.syntax else {
+        return None;
+    };
+    let (Base::Named(name), Some(Refinement::Values(values))) = (&named.base, &named.refinement)
+    else {
+        return None;
+    };
+    let first = is_some(&tc.display_hint, "\"1d\"")
+        && is_status(&tc.status, "current", "\"d\"", "\"r\"")
+        && matches!(string.base, Base::OctetString)
+        && are_ranges(sizes.as_slice(), "0 8 '10'H '11111'B 99 -");
+    Some(
+        first
+            && tc2.display_hint.is_none()
+            && is(name, "Tc")
+            && are_ranges(values.as_slice(), "1 - 2 3"),
+    )
+}
+
+/// Whether ranges have these ends in turn; a `-` stands for no upper end.
+fn are_ranges(ranges: &[Range], words: &str) -> bool {
+    let mut left = words.split_whitespace();
+    for range in ranges {
+        let (Some(low), Some(high)) = (left.next(), left.next()) else {
             return false;
         };
-        let same = match part {
-            Part::Number(number) => is(number, word),
-            Part::Name(name) => is(name, word),
-            Part::NamedNumber(part) => match word.split_once('(') {
-                Some((name, rest)) => {
-                    is(&part.name, name)
-                        && rest
-                            .split_once(')')
-                            .is_some_and(|(n, _)| is(&part.number, n))
-                }
-                None => false,
-            },
-        };
-        if !same {
+        if !is(&range.low.text, low) || !is_end(&range.high, high) {
             return false;
         }
     }
     left.next().is_none()
 }
 
-/// A line of a definition, its kind and the parts of its identifier value.
-fn shape(def: &Def) -> (&'static str, &[Part]) {
-    match &def.kind {
-        DefKind::ObjectIdentifier(value) => ("OBJECT IDENTIFIER", value.as_slice()),
-        DefKind::ModuleIdentity(d) => ("MODULE-IDENTITY", d.value.as_slice()),
-        DefKind::ObjectIdentity(d) => ("OBJECT-IDENTITY", d.value.as_slice()),
-        DefKind::ObjectType(d) => ("OBJECT-TYPE", d.value.as_slice()),
-        DefKind::NotificationType(d) => ("NOTIFICATION-TYPE", d.value.as_slice()),
-        DefKind::ObjectGroup(d) => ("OBJECT-GROUP", d.value.as_slice()),
-        DefKind::NotificationGroup(d) => ("NOTIFICATION-GROUP", d.value.as_slice()),
-        DefKind::ModuleCompliance(d) => ("MODULE-COMPLIANCE", d.value.as_slice()),
-        DefKind::AgentCapabilities(d) => ("AGENT-CAPABILITIES", d.value.as_slice()),
-        DefKind::TextualConvention(_) => ("TEXTUAL-CONVENTION", &[]),
-        DefKind::TypeAssignment(_) => ("type", &[]),
-        DefKind::Sequence(_) => ("SEQUENCE", &[]),
-        DefKind::Choice(_) => ("CHOICE", &[]),
-        DefKind::Macro(_) => ("MACRO", &[]),
+fn is_end(end: &Option<TokenText>, word: &str) -> bool {
+    match end {
+        Some(end) => is(&end.text, word),
+        None => word == "-",
     }
 }
 
-#[test]
-fn kinds_lines_and_values(rt: HostRuntime) -> Result<(), Fail> {
-    let modules = parse_modules(rt.alloc(), ALL)?;
-    let rows = [
-        ("m", 5, "MODULE-IDENTITY", "iso 1"),
-        ("o", 7, "OBJECT IDENTIFIER", "iso org(3) dod(6) 1"),
-        ("oi", 8, "OBJECT-IDENTITY", "o 1"),
-        ("t1", 9, "OBJECT-TYPE", "o 2"),
-        ("t2", 10, "OBJECT-TYPE", "o 3"),
-        ("t3", 11, "OBJECT-TYPE", "t2 1"),
-        ("t4", 12, "OBJECT-TYPE", "o 4"),
-        ("t5", 13, "OBJECT-TYPE", "1 3"),
-        ("t6", 14, "OBJECT-TYPE", "o(1) 3"),
-        ("n1", 15, "NOTIFICATION-TYPE", "o 5"),
-        ("n2", 16, "NOTIFICATION-TYPE", "o 6"),
-        ("g1", 17, "OBJECT-GROUP", "o 7"),
-        ("g2", 18, "NOTIFICATION-GROUP", "o 8"),
-        ("c1", 19, "MODULE-COMPLIANCE", "o 9"),
-        ("c2", 20, "AGENT-CAPABILITIES", "o 10"),
-        ("Tc", 21, "TEXTUAL-CONVENTION", ""),
-        ("Tc2", 22, "TEXTUAL-CONVENTION", ""),
-        ("App", 23, "type", ""),
-        ("Plain", 24, "type", ""),
-        ("Rows", 25, "type", ""),
-        ("Row", 26, "SEQUENCE", ""),
-        ("Ch", 27, "CHOICE", ""),
-        ("OBJECT-TYPE", 28, "MACRO", ""),
-        ("MyMacro", 29, "MACRO", ""),
-        ("t7", 30, "OBJECT-TYPE", "o 11"),
-        ("Bare", 31, "type", ""),
-    ];
-    for (name, line, kind, value) in rows {
-        let Some(def) = definition(&modules, name) else {
-            return Err(Fail::from(name));
-        };
-        let (found, parts) = shape(def);
-        assert_eq!(rt; (def.line, found), (line, kind), "{name}");
-        assert!(rt; are_parts(parts, value), "{name}");
-    }
-    Ok(())
-}
-
-/// Whether STATUS, DESCRIPTION and REFERENCE are these.
-fn is_status(status: &Status, word: &str, description: &str, reference: Option<&str>) -> bool {
-    let same = match reference {
-        Some(reference) => is_some(&status.reference, reference),
-        None => status.reference.is_none(),
-    };
-    is(&status.status, word) && is(&status.description, description) && same
-}
-
-#[test]
-fn identities_and_notifications(rt: HostRuntime) -> Result<(), Fail> {
-    let modules = parse_modules(rt.alloc(), ALL)?;
-    let Some(DefKind::ModuleIdentity(m)) = kind(&modules, "m") else {
-        return Err(Fail::from("m"));
-    };
-    assert!(rt; is(&m.last_updated, "\"1\"") && is(&m.organization, "\"2\""));
-    assert!(rt; is(&m.contact_info, "\"3\"") && is(&m.description, "\"4\""));
-    let [one, two] = m.revisions.as_slice() else {
-        return Err(Fail::from("two revisions"));
-    };
-    assert!(rt; is(&one.date, "\"5\"") && is(&one.description, "\"6\""));
-    assert!(rt; is(&two.date, "\"7\"") && is(&two.description, "\"8\""));
-    let Some(DefKind::ObjectIdentity(oi)) = kind(&modules, "oi") else {
-        return Err(Fail::from("oi"));
-    };
-    assert!(rt; is_status(&oi.status, "current", "\"d\"", Some("\"r\"")));
-    let Some(DefKind::NotificationType(n1)) = kind(&modules, "n1") else {
-        return Err(Fail::from("n1"));
-    };
-    assert!(rt;
-        n1.objects
-            .as_ref()
-            .is_some_and(|names| are(names.as_slice(), "t1 t2"))
-    );
-    assert!(rt; is_status(&n1.status, "deprecated", "\"n\"", None));
-    let Some(DefKind::NotificationType(n2)) = kind(&modules, "n2") else {
-        return Err(Fail::from("n2"));
-    };
-    assert!(rt; n2.objects.is_none());
-    let Some(DefKind::ObjectGroup(g1)) = kind(&modules, "g1") else {
-        return Err(Fail::from("g1"));
-    };
-    assert!(rt;
-        are(g1.members.as_slice(), "t1") && is_status(&g1.status, "current", "\"g\"", None)
-    );
-    let Some(DefKind::NotificationGroup(g2)) = kind(&modules, "g2") else {
-        return Err(Fail::from("g2"));
-    };
-    assert!(rt; are(g2.members.as_slice(), "n1 n2"));
-    Ok(())
-}
-
-/// What a name is defined as.
-fn kind<'a>(modules: &'a [smi_text::Module], name: &str) -> Option<&'a DefKind> {
-    let def = definition(modules, name)?;
-    Some(&def.kind)
-}
-
-#[test]
-fn objects(rt: HostRuntime) -> Result<(), Fail> {
-    let modules = parse_modules(rt.alloc(), ALL)?;
-    let Some(DefKind::ObjectType(t1)) = kind(&modules, "t1") else {
-        return Err(Fail::from("t1"));
-    };
-    assert!(rt;
-        is_some(&t1.units, "\"u\"") && is(&t1.max_access, "read-only") && t1.index.is_none()
-    );
-    assert!(rt; is_status(&t1.status, "current", "\"d\"", None));
-    assert!(rt;
-        t1.default
-            .as_ref()
-            .is_some_and(|tokens| are_tokens(tokens.as_slice(), "{ a { } } b"))
-    );
-    let Syntax::Simple(integer) = &t1.syntax else {
-        return Err(Fail::from("INTEGER"));
-    };
-    let Some(Refinement::Numbers(numbers)) = &integer.refinement else {
-        return Err(Fail::from("named numbers"));
-    };
-    let [a, b] = numbers.as_slice() else {
-        return Err(Fail::from("two numbers"));
-    };
-    assert!(rt; matches!(integer.base, Base::Integer));
-    assert!(rt; is(&a.name, "a") && is(&a.number, "1") && is(&b.name, "b") && is(&b.number, "-2"));
-    let Some(DefKind::ObjectType(t2)) = kind(&modules, "t2") else {
-        return Err(Fail::from("t2"));
-    };
-    assert!(rt; matches!(&t2.syntax, Syntax::SequenceOf(row) if is(row, "Row")));
-    assert!(rt; t2.units.is_none() && t2.index.is_none() && t2.default.is_none());
-    let Some(DefKind::ObjectType(t7)) = kind(&modules, "t7") else {
-        return Err(Fail::from("t7"));
-    };
-    assert!(rt; is_some(&t7.units, "\"u\"") && is_some(&t7.status.reference, "\"r\""));
-    assert!(rt; t7.index.is_some() && t7.default.as_ref().is_some_and(|tokens| tokens.len() == 0));
-    Ok(())
-}
-
-/// Whether the row of this name is told apart by these objects, the last behind IMPLIED or not.
-fn has_index(modules: &[smi_text::Module], name: &str, names: &str, implied: bool) -> bool {
-    match kind(modules, name) {
-        Some(DefKind::ObjectType(row)) => match &row.index {
-            Some(Index::Own(parts)) => are(parts.names.as_slice(), names)
-                && parts.implied == implied,
-            _ => false,
-        },
-        _ => false,
+fn assignment<'a>(modules: &'a [Module], name: &str) -> Option<&'a TypeAssignment> {
+    match kind(modules, name)? {
+        DefKind::TypeAssignment(assignment) => Some(assignment),
+        _ => None,
     }
 }
 
-#[test]
-fn indexes(rt: HostRuntime) -> Result<(), Fail> {
-    let modules = parse_modules(rt.alloc(), ALL)?;
-    assert!(rt; has_index(&modules, "t3", "a b c", true));
-    assert!(rt; has_index(&modules, "t5", "a", false));
-    assert!(rt; has_index(&modules, "t7", "a", true));
-    let Some(DefKind::ObjectType(t4)) = kind(&modules, "t4") else {
-        return Err(Fail::from("t4"));
+fn has_types(modules: &[Module]) -> Option<bool> {
+    let app = assignment(modules, "App")?;
+    let bare = assignment(modules, "Bare")?;
+    let rows = assignment(modules, "Rows")?;
+    let Syntax::Simple(simple) = &bare.syntax else {
+        return None;
     };
-    assert!(rt; matches!(&t4.index, Some(Index::Augments(row)) if is(row, "t3")));
-    Ok(())
+    let plain = matches!(simple.base, Base::ObjectIdentifier) && simple.refinement.is_none();
+    Some(
+        is_some(&app.tag, "3")
+            && bare.tag.is_none()
+            && plain
+            && rows.tag.is_none()
+            && is_table_of(&rows.syntax, "Row"),
+    )
 }
 
-#[test]
-fn types(rt: HostRuntime) -> Result<(), Fail> {
-    let modules = parse_modules(rt.alloc(), ALL)?;
-    let Some(DefKind::TextualConvention(tc)) = kind(&modules, "Tc") else {
-        return Err(Fail::from("Tc"));
-    };
-    assert!(rt;
-        is_some(&tc.display_hint, "\"1d\"")
-            && is_status(&tc.status, "current", "\"d\"", Some("\"r\""))
-    );
-    let Syntax::Simple(string) = &tc.syntax else {
-        return Err(Fail::from("OCTET STRING"));
-    };
-    let Some(Refinement::Size(ranges)) = &string.refinement else {
-        return Err(Fail::from("SIZE"));
-    };
-    let [first, second, third] = ranges.as_slice() else {
-        return Err(Fail::from("three ranges"));
-    };
-    assert!(rt; matches!(string.base, Base::OctetString));
-    assert!(rt;
-        is(&first.low.text, "0") && first.high.as_ref().is_some_and(|high| is(&high.text, "8"))
-    );
-    assert!(rt; is(&second.low.text, "'10'H") && second.low.kind == TokenKind::Hex);
-    assert!(rt;
-        second.high.as_ref().is_some_and(|high| is(&high.text, "'11111'B")
-            && high.kind == TokenKind::Binary)
-    );
-    assert!(rt; is(&third.low.text, "99") && third.high.is_none());
-    let Some(DefKind::TextualConvention(tc2)) = kind(&modules, "Tc2") else {
-        return Err(Fail::from("Tc2"));
-    };
-    assert!(rt; tc2.display_hint.is_none() && has_values(&tc2.syntax, "Tc", 2));
-    let Some(DefKind::TypeAssignment(app)) = kind(&modules, "App") else {
-        return Err(Fail::from("App"));
-    };
-    assert!(rt; is_some(&app.tag, "3"));
-    let Some(DefKind::TypeAssignment(bare)) = kind(&modules, "Bare") else {
-        return Err(Fail::from("Bare"));
-    };
-    assert!(rt; bare.tag.is_none());
-    assert!(rt;
-        matches!(&bare.syntax, Syntax::Simple(t) if matches!(t.base, Base::ObjectIdentifier) && t.refinement.is_none())
-    );
-    let Some(DefKind::TypeAssignment(rows)) = kind(&modules, "Rows") else {
-        return Err(Fail::from("Rows"));
-    };
-    assert!(rt;
-        rows.tag.is_none() && matches!(&rows.syntax, Syntax::SequenceOf(row) if is(row, "Row"))
-    );
-    Ok(())
-}
-
-/// Whether a type has this name, and so many ranges of values.
-fn has_values(syntax: &Syntax, name: &str, count: usize) -> bool {
-    let Syntax::Simple(simple) = syntax else {
-        return false;
-    };
-    let named = match &simple.base {
-        Base::Named(found) => is(found, name),
-        _ => false,
-    };
-    match &simple.refinement {
-        Some(Refinement::Values(ranges)) => named && ranges.len() == count,
-        _ => false,
+/// The raw tokens of a definition.
+fn raw<'a>(modules: &'a [Module], name: &str) -> Option<&'a [TokenText]> {
+    match kind(modules, name)? {
+        DefKind::ModuleCompliance(d) | DefKind::AgentCapabilities(d) => Some(d.clauses.as_slice()),
+        DefKind::Choice(tokens) | DefKind::Macro(tokens) => Some(tokens.as_slice()),
+        _ => None,
     }
 }
 
-#[test]
-fn rows_and_raw_tokens(rt: HostRuntime) -> Result<(), Fail> {
-    let alloc: Global = rt.alloc();
-    let modules = parse_modules(alloc, ALL)?;
-    let Some(DefKind::Sequence(fields)) = kind(&modules, "Row") else {
-        return Err(Fail::from("Row"));
+fn has_raw_tokens(modules: &[Module]) -> Option<bool> {
+    let DefKind::Sequence(fields) = kind(modules, "Row")? else {
+        return None;
     };
     let [a, b] = fields.as_slice() else {
-        return Err(Fail::from("two columns"));
+        return None;
     };
-    assert!(rt; is(&a.label, "a") && is(&b.label, "b"));
-    assert!(rt; matches!(&a.syntax, Syntax::Simple(t) if matches!(t.base, Base::Bits)));
-    let Some(DefKind::ModuleCompliance(c1)) = kind(&modules, "c1") else {
-        return Err(Fail::from("c1"));
+    let Syntax::Simple(bits) = &a.syntax else {
+        return None;
     };
-    assert!(rt; are_tokens(c1.clauses.as_slice(), "STATUS current END { } }"));
-    let Some(DefKind::AgentCapabilities(c2)) = kind(&modules, "c2") else {
-        return Err(Fail::from("c2"));
-    };
-    assert_eq!(rt; c2.clauses.len(), 0);
-    let Some(DefKind::Choice(choice)) = kind(&modules, "Ch") else {
-        return Err(Fail::from("Ch"));
-    };
-    assert!(rt; are_tokens(choice.as_slice(), "a INTEGER , b { }"));
-    let Some(DefKind::Macro(body)) = kind(&modules, "OBJECT-TYPE") else {
-        return Err(Fail::from("OBJECT-TYPE"));
-    };
-    assert!(rt; are_tokens(body.as_slice(), "a ::= b { ("));
-    let Some(DefKind::Macro(empty)) = kind(&modules, "MyMacro") else {
-        return Err(Fail::from("MyMacro"));
-    };
-    assert_eq!(rt; empty.len(), 0);
-    Ok(())
+    let columns = is(&a.label, "a") && is(&b.label, "b") && matches!(bits.base, Base::Bits);
+    Some(
+        columns
+            && are_tokens(raw(modules, "c1")?, "STATUS current END { } }")
+            && are_tokens(raw(modules, "c2")?, "")
+            && are_tokens(raw(modules, "MyMacro")?, "")
+            && are_tokens(raw(modules, "Ch")?, "a INTEGER , b { }")
+            && are_tokens(raw(modules, "OBJECT-TYPE")?, "a ::= b { ("),
+    )
 }
 
 const TINY: &[u8] = b"TINY-SMI DEFINITIONS ::= BEGIN\n\
