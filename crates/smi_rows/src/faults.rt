@@ -1,0 +1,272 @@
+//! Texts that are refused, with the fault and its line; and the smallest that are not.
+
+use crate::reading::{bad_byte, counts, fault, fault_of, is, open_string, syntax};
+use smi_text::{ParseError, parse_modules};
+use std::alloc::Global;
+use std::test::Fail;
+
+/// The fault of a second definition on this line.
+fn double_name(line: usize) -> Option<ParseError> {
+    Some(ParseError::DoubleName { line })
+}
+
+#[test]
+fn no_modules_and_empty_ones(rt: HostRuntime) -> Result<(), Fail> {
+    let alloc = rt.alloc();
+    for text in [
+        b"".as_slice(),
+        b"-- only a comment",
+        b" \t\r\n\x0b\x0c",
+        b"\n\n",
+        b"--",
+        b"-- one -- -- two\n",
+    ] {
+        assert_eq!(rt; counts(alloc, text), Ok((0, 0)));
+    }
+    for text in [
+        b"A DEFINITIONS ::= BEGIN END".as_slice(),
+        b"A -- note -- DEFINITIONS ::= BEGIN END",
+        b"A---note\nDEFINITIONS::=BEGIN--x--END",
+    ] {
+        assert!(rt; is_empty_module(alloc, text)?);
+    }
+    assert_eq!(rt;
+        counts(
+            alloc,
+            b"A DEFINITIONS ::= BEGIN OBJECT-TYPE MACRO ::= BEGIN x ::= \"y\" z(VALUE) END END"
+        ),
+        Ok((1, 1))
+    );
+    Ok(())
+}
+
+/// Whether a text is one module A, with nothing in it.
+fn is_empty_module(alloc: Global, text: &[u8]) -> Result<bool, Fail> {
+    let Ok(modules) = parse_modules(alloc, text) else {
+        return Ok(false);
+    };
+    let [module] = modules.as_slice() else {
+        return Ok(false);
+    };
+    Ok(
+        is(&module.name, "A")
+            && module.heading.is_none()
+            && module.imports.is_none()
+            && module.defs.len() == 0,
+    )
+}
+
+#[test]
+fn faults_and_their_lines(rt: HostRuntime) -> Result<(), Fail> {
+    let alloc = rt.alloc();
+    let rows = [
+        (b"A DEFINITIONS BEGIN\nEND".as_slice(), syntax(1)),
+        (
+            b"A DEFINITIONS ::= BEGIN\nx OBJECT IDENTIFIER ::= { }\nEND",
+            syntax(2),
+        ),
+        (b"A\n\n\"open", open_string(3)),
+        (b"A DEFINITIONS ::= BEGIN\n? END", bad_byte(2)),
+        // A fault in the first of two lines, and in the middle of a text.
+        (b"::=\nA DEFINITIONS ::= BEGIN END", syntax(1)),
+        (b"END\n\n\n", syntax(1)),
+        (
+            b"A DEFINITIONS ::= BEGIN\nx OBJECT\nIDENTIFER\n::= { iso 1 }\nEND\n",
+            syntax(3),
+        ),
+        (
+            b"A DEFINITIONS ::= BEGIN\nx OBJECT IDENTIFIER ::= {\n\niso org\n\n}\nEND\n",
+            syntax(6),
+        ),
+        (
+            b"A DEFINITIONS ::= BEGIN END\n\nA DEFINITIONS ::= BEGIN END\nEND\n\n",
+            syntax(4),
+        ),
+        // A text that ends too early: the line of its last octet.
+        (b"A", syntax(1)),
+        (b"A\n", syntax(1)),
+        (b"A\n\n", syntax(2)),
+        (b"A DEFINITIONS ::= BEGIN\n\n", syntax(2)),
+        (b"A DEFINITIONS ::= BEGIN\n\n ", syntax(3)),
+        (b"A DEFINITIONS ::= BEGIN\n-- END\n-- END", syntax(3)),
+        (
+            b"A DEFINITIONS ::= BEGIN\nx MODULE-COMPLIANCE END\nEND\n",
+            syntax(3),
+        ),
+        (
+            b"A DEFINITIONS ::= BEGIN\nX ::= CHOICE { {\n}\nEND\n",
+            syntax(4),
+        ),
+        (
+            b"A DEFINITIONS ::= BEGIN\nX MACRO ::= BEGIN\n::=\n",
+            syntax(3),
+        ),
+        (
+            b"A DEFINITIONS ::= BEGIN\nX ::= CHOICE { \"two\nlines\"",
+            syntax(3),
+        ),
+    ];
+    for (text, expected) in rows {
+        assert_eq!(rt; fault(alloc, text), expected);
+    }
+    Ok(())
+}
+
+#[test]
+fn names_that_are_defined_twice(rt: HostRuntime) -> Result<(), Fail> {
+    let alloc = rt.alloc();
+    let rows = [
+        (
+            b"A DEFINITIONS ::= BEGIN\nx OBJECT IDENTIFIER ::= { iso 1 }\nx OBJECT IDENTIFIER ::= { iso 2 }\nEND".as_slice(),
+            double_name(3),
+        ),
+        (
+            b"A DEFINITIONS ::= BEGIN X ::= BITS\ny OBJECT IDENTIFIER ::= { iso 1 } X ::=\nSEQUENCE OF Y\nEND",
+            double_name(2),
+        ),
+        (
+            b"A DEFINITIONS ::= BEGIN\nOBJECT-TYPE MACRO ::= BEGIN END\n\nOBJECT-TYPE MACRO ::=\nBEGIN END END",
+            double_name(4),
+        ),
+        (
+            b"B DEFINITIONS ::= BEGIN END\nA DEFINITIONS ::= BEGIN\na OBJECT IDENTIFIER ::= { iso 1 }\nb OBJECT IDENTIFIER ::= { a 2 }\na MODULE-COMPLIANCE ::= { a 1 }\nEND",
+            double_name(5),
+        ),
+        // The case of letters matters, modules have names of their own, and imports are no definitions.
+        (
+            b"A DEFINITIONS ::= BEGIN x OBJECT IDENTIFIER ::= { iso 1 } X ::= BITS xX ::= BITS END",
+            syntax(1),
+        ),
+        (
+            b"A DEFINITIONS ::= BEGIN x OBJECT IDENTIFIER ::= { iso 1 } X ::= BITS XX ::= BITS END",
+            None,
+        ),
+        (
+            b"A DEFINITIONS ::= BEGIN X ::= BITS END\nA DEFINITIONS ::= BEGIN X ::= BITS END",
+            None,
+        ),
+        (
+            b"A DEFINITIONS ::= BEGIN IMPORTS X, X FROM B X FROM B; X ::= BITS END",
+            None,
+        ),
+        // Where the fault of a definition comes first.
+        (
+            b"A DEFINITIONS ::= BEGIN\nX ::= BITS\nX ::= ;\nX ::= BITS END",
+            syntax(3),
+        ),
+    ];
+    for (text, expected) in rows {
+        assert_eq!(rt; fault(alloc, text), expected);
+    }
+    Ok(())
+}
+
+#[test]
+fn numbers_in_their_ranges(rt: HostRuntime) -> Result<(), Fail> {
+    let alloc = rt.alloc();
+    let good = [
+        "x OBJECT IDENTIFIER ::= { 0 -0 4294967295 000004294967295 a(0) b(4294967295) c(-0) }",
+        "X ::= INTEGER { low(-9223372036854775808), high(18446744073709551615), zero(-0) }",
+        "X ::= INTEGER (-9223372036854775808..18446744073709551615)",
+        "X ::= INTEGER (-0009223372036854775808 | 00018446744073709551615)",
+        "X ::= OCTET STRING (SIZE (''H | ''B | 'ffffFFFFffffFFFF'h | '0000000000000000000000FF'H))",
+        "X ::= INTEGER ('1111111111111111111111111111111111111111111111111111111111111111'b)",
+        "X ::= [APPLICATION 18446744073709551615] IMPLICIT INTEGER",
+        "X ::= [APPLICATION -9223372036854775808] IMPLICIT INTEGER",
+        "x AGENT-CAPABILITIES 99999999999999999999999999 '10000000000000000'H ::= { 1 }",
+    ];
+    for text in good {
+        assert_eq!(rt; fault_of(alloc, text)?, None, "{text}");
+    }
+    let bad = [
+        "x OBJECT IDENTIFIER ::= { 4294967296 }",
+        "x OBJECT IDENTIFIER ::= { -1 }",
+        "x OBJECT IDENTIFIER ::= { iso 4294967296 }",
+        "x OBJECT IDENTIFIER ::= { iso a(4294967296) }",
+        "x OBJECT IDENTIFIER ::= { a(-1) }",
+        "x OBJECT IDENTIFIER ::= { 99999999999999999999999 }",
+        "X ::= INTEGER { low(-9223372036854775809) }",
+        "X ::= INTEGER { high(18446744073709551616) }",
+        "X ::= INTEGER (0..18446744073709551616)",
+        "X ::= INTEGER (-9223372036854775809..0)",
+        "X ::= INTEGER ('10000000000000000'H)",
+        "X ::= INTEGER ('10000000000000000000000000000000000000000000000000000000000000000'B)",
+        "X ::= [APPLICATION 18446744073709551616] IMPLICIT INTEGER",
+        "X ::= [APPLICATION '1'H] IMPLICIT INTEGER",
+        "X ::= INTEGER { a('1'H) }",
+        "x OBJECT IDENTIFIER ::= { '1'H }",
+    ];
+    for text in bad {
+        assert_eq!(rt; fault_of(alloc, text)?, syntax(2), "{text}");
+    }
+    Ok(())
+}
+
+#[test]
+fn clauses_in_wrong_places(rt: HostRuntime) -> Result<(), Fail> {
+    let alloc = rt.alloc();
+    let bad = [
+        "x OBJECT IDENTIFIER ::= iso",
+        "x OBJECT-TYPE SYNTAX BITS STATUS current DESCRIPTION \"\" MAX-ACCESS read-only ::= { iso 1 }",
+        "x OBJECT-TYPE SYNTAX BITS MAX-ACCESS read-only STATUS current DESCRIPTION \"\" DEFVAL { } INDEX { a } ::= { iso 1 }",
+        "x OBJECT-TYPE SYNTAX BITS MAX-ACCESS read-only UNITS \"\" STATUS current DESCRIPTION \"\" ::= { iso 1 }",
+        "x OBJECT-TYPE SYNTAX BITS MAX-ACCESS read-only STATUS current REFERENCE \"\" DESCRIPTION \"\" ::= { iso 1 }",
+        "x OBJECT-TYPE SYNTAX BITS MAX-ACCESS read-only STATUS current DESCRIPTION \"\" INDEX { IMPLIED a, b } ::= { iso 1 }",
+        "x OBJECT-TYPE SYNTAX BITS MAX-ACCESS read-only STATUS current DESCRIPTION \"\" INDEX { } ::= { iso 1 }",
+        "x OBJECT-TYPE SYNTAX BITS MAX-ACCESS read-only STATUS current DESCRIPTION \"\" AUGMENTS { a, b } ::= { iso 1 }",
+        "x OBJECT-TYPE SYNTAX BITS MAX-ACCESS read-only STATUS current DESCRIPTION \"\"",
+        "x NOTIFICATION-TYPE OBJECTS { } STATUS current DESCRIPTION \"\" ::= { iso 1 }",
+        "x OBJECT-GROUP STATUS current DESCRIPTION \"\" ::= { iso 1 }",
+        "x OBJECT-IDENTITY STATUS current ::= { iso 1 }",
+        "x MODULE-IDENTITY LAST-UPDATED \"\" ORGANIZATION \"\" DESCRIPTION \"\" CONTACT-INFO \"\" ::= { iso 1 }",
+        "x MODULE-COMPLIANCE a b",
+        "X ::= SEQUENCE { }",
+        "X ::= SEQUENCE { a BITS, }",
+        "X ::= SEQUENCE OF INTEGER",
+        "X ::= CHOICE { { }",
+        "X ::= CHOICE { } }",
+        "X ::= INTEGER { }",
+        "X ::= INTEGER { a(1), }",
+        "X ::= INTEGER { a }",
+        "X ::= INTEGER ( )",
+        "X ::= INTEGER (1..)",
+        "X ::= INTEGER (1 2)",
+        "X ::= INTEGER (MIN..MAX)",
+        "X ::= OCTET STRING SIZE (1)",
+        "X ::= OCTET STRING (SIZE 1)",
+        "X ::= OCTET STRING (SIZE (1)",
+        "X ::= SEQUENCE OF Y (1)",
+        "X ::= [1] IMPLICIT BITS",
+        "X ::= [APPLICATION 1] BITS",
+        "X ::= TEXTUAL-CONVENTION STATUS current DESCRIPTION \"\" DISPLAY-HINT \"d\" SYNTAX BITS",
+        "x BITS ::= { a }",
+        "x ::= { a }",
+        "X OBJECT IDENTIFIER ::= { a }",
+        "x OBJECT IDENTIFIER ::= { iso } IMPORTS a FROM B;",
+    ];
+    for text in bad {
+        assert!(rt;
+            matches!(fault_of(alloc, text)?, Some(ParseError::Syntax { .. })),
+            "{text}"
+        );
+    }
+    Ok(())
+}
+
+#[test]
+fn deep_braces(rt: HostRuntime) -> Result<(), Fail> {
+    let alloc = rt.alloc();
+    let mut text = Vec::from_slice(alloc, b"A DEFINITIONS ::= BEGIN\nX ::= CHOICE {")?;
+    for _ in 0..10000 {
+        text.push(b'{')?;
+    }
+    let mut open = Vec::from_slice(alloc, &text)?;
+    open.push(b'\n')?;
+    assert_eq!(rt; fault(alloc, &open), syntax(2));
+    for _ in 0..10000 {
+        text.push(b'}')?;
+    }
+    text.extend_from_slice(b"}\nEND\n")?;
+    assert_eq!(rt; counts(alloc, &text), Ok((1, 1)));
+    Ok(())
+}

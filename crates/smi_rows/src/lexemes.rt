@@ -1,0 +1,166 @@
+//! Octets of every kind, as the parser meets them.
+
+use crate::reading::{bad_byte, counts, definition, fault, fault_of, open_string, syntax};
+use smi_text::{LexError, Lexer, ParseError, Span, Token, TokenKind, parse_modules};
+use std::test::Fail;
+
+#[test]
+fn tokens_spans_and_lines(rt: HostRuntime) -> Result<(), Fail> {
+    let text = b"A-b_9 x-- note --'0F'h -07..\n\"two\nlines\"::= :: '';";
+    let expected = [
+        (TokenKind::Upper, "A-b_9", 0, 5, 1),
+        (TokenKind::Lower, "x", 6, 7, 1),
+        (TokenKind::Hex, "'0F'h", 17, 22, 1),
+        (TokenKind::Number, "-07", 23, 26, 1),
+        (TokenKind::Range, "..", 26, 28, 1),
+        (TokenKind::Text, "\"two\nlines\"", 29, 40, 2),
+        (TokenKind::Assign, "::=", 40, 43, 3),
+        (TokenKind::Colon, ":", 44, 45, 3),
+        (TokenKind::Colon, ":", 45, 46, 3),
+    ];
+    let mut lexer = Lexer::new(text);
+    for (kind, octets, start, end, line) in expected {
+        let expected = Token {
+            kind,
+            span: Span { start, end },
+            text: octets.as_bytes(),
+            line,
+        };
+        assert_eq!(rt; lexer.next(), Some(Ok(expected)));
+    }
+    assert_eq!(rt; lexer.next(), Some(Err(LexError::BadByte { line: 3 })));
+    assert_eq!(rt; lexer.next(), None);
+    assert_eq!(rt; lexer.next(), None);
+    Ok(())
+}
+
+#[test]
+fn ends_of_lines_and_pages(rt: HostRuntime) -> Result<(), Fail> {
+    let alloc = rt.alloc();
+    let text =
+        b"A DEFINITIONS ::= BEGIN\r\nIMPORTS a\r\nFROM B;\r\n\x0cx OBJECT IDENTIFIER ::= {\r\niso 1 }\r\nEND\r\n";
+    let modules = parse_modules(alloc, text)?;
+    assert!(rt; definition(&modules, "x").is_some_and(|def| def.line == 4));
+    let rows = [
+        (
+            b"A\x0cDEFINITIONS\x0b::=\tBEGIN\x0cEND\x0c".as_slice(),
+            None,
+        ),
+        // CR alone ends no line, and FF and VT don't.
+        (b"A DEFINITIONS ::= BEGIN\r\x0c\x0b;\r\nEND", syntax(1)),
+        (b"A DEFINITIONS ::= BEGIN\r\n;\r\nEND", syntax(2)),
+        (b"-- a comment that a CR doesn't end \rA", None),
+    ];
+    for (text, expected) in rows {
+        assert_eq!(rt; fault(alloc, text), expected);
+    }
+    Ok(())
+}
+
+#[test]
+fn comments(rt: HostRuntime) -> Result<(), Fail> {
+    let alloc = rt.alloc();
+    let rows = [
+        (
+            b"A DEFINITIONS ::= BEGIN -- note -- x OBJECT IDENTIFIER ::= { iso 1 } -- end\nEND".as_slice(),
+            Ok((1, 1)),
+        ),
+        (
+            b"A DEFINITIONS ::= BEGIN -- x OBJECT IDENTIFIER ::= { iso 1 }\nEND",
+            Ok((1, 0)),
+        ),
+        (
+            b"A DEFINITIONS ::= BEGIN\n-----------------------------------------\nEND",
+            Ok((1, 0)),
+        ),
+        (
+            b"A DEFINITIONS ::= BEGIN\n-- \xff \x00 \" ' ? --\nEND",
+            Ok((1, 0)),
+        ),
+        (b"A DEFINITIONS ::= BEGIN --a-b-c-- END", Ok((1, 0))),
+        (b"A DEFINITIONS ::= BEGIN X ::= A---b\nEND", Ok((1, 1))),
+        // The second run of hyphens ends the comment, so the word stands outside.
+        (
+            b"A DEFINITIONS ::= BEGIN\n-- ---- title ----\nEND",
+            Err(ParseError::Syntax { line: 3 }),
+        ),
+        (b"A DEFINITIONS ::= BEGIN\n-- ---- END ----\n", Ok((1, 0))),
+    ];
+    for (text, expected) in rows {
+        assert_eq!(rt; counts(alloc, text), expected);
+    }
+    Ok(())
+}
+
+#[test]
+fn octets_that_begin_nothing(rt: HostRuntime) -> Result<(), Fail> {
+    let alloc = rt.alloc();
+    let rows = [
+        (b"\x00".as_slice(), bad_byte(1)),
+        (b"A DEFINITIONS\n\x00::= BEGIN END", bad_byte(2)),
+        (
+            b"A DEFINITIONS ::= BEGIN\nX\xc3\xa4 ::= BITS END",
+            bad_byte(2),
+        ),
+        (b"A DEFINITIONS ::= BEGIN\n\n\xff END", bad_byte(3)),
+        (b"A DEFINITIONS ::= BEGIN X ::= A\n-\n1 END", bad_byte(2)),
+        (
+            b"A DEFINITIONS ::= BEGIN\n_x OBJECT IDENTIFIER ::= { iso 1 } END",
+            bad_byte(2),
+        ),
+        (
+            b"A DEFINITIONS ::= BEGIN x OBJECT-IDENTITY STATUS current\nDESCRIPTION \"open\n\nEND\n",
+            open_string(2),
+        ),
+        (
+            b"A DEFINITIONS ::= BEGIN\nX ::= INTEGER ('0F\n) END\n",
+            open_string(2),
+        ),
+        (
+            b"A DEFINITIONS ::= BEGIN\nX ::= INTEGER ('0F)\nY ::= INTEGER ('0F'H) END\n",
+            bad_byte(2),
+        ),
+        (
+            b"A DEFINITIONS ::= BEGIN\nX ::= INTEGER ('0F')\nEND\n",
+            bad_byte(2),
+        ),
+        (
+            b"A DEFINITIONS ::= BEGIN\nX ::= INTEGER ('0F'B)\nEND\n",
+            bad_byte(2),
+        ),
+        (
+            b"A DEFINITIONS ::= BEGIN\nX ::= INTEGER ('0F' H)\nEND\n",
+            bad_byte(2),
+        ),
+    ];
+    for (text, expected) in rows {
+        assert_eq!(rt; fault(alloc, text), expected);
+    }
+    // In a string any octet but its quote may stand.
+    let mut text = Vec::from_slice(alloc, b"A DEFINITIONS ::= BEGIN X ::= CHOICE { \"")?;
+    for octet in 0..=255u8 {
+        if octet != b'"' {
+            text.push(octet)?;
+        }
+    }
+    text.extend_from_slice(b"\" } END")?;
+    assert_eq!(rt; counts(alloc, &text), Ok((1, 1)));
+    Ok(())
+}
+
+#[test]
+fn signs_that_only_raw_text_has(rt: HostRuntime) -> Result<(), Fail> {
+    let alloc = rt.alloc();
+    let raw =
+        "x MODULE-COMPLIANCE { } } ( [ ] < > , ; : | . = .. -5 'a'H '1'B \"\" a B END ::= { iso 1 }";
+    assert_eq!(rt; fault_of(alloc, raw)?, None);
+    let raw = "X ::= CHOICE { ) ( ] [ < > , ; : | . = .. ::= { END } -5 'a'H '1'B \"\" a B }";
+    assert_eq!(rt; fault_of(alloc, raw)?, None);
+    let raw =
+        "OBJECT-TYPE MACRO ::= BEGIN } ( [ < > , ; : | . = .. ::= -5 'a'H '1'B \"\" a BEGIN END";
+    assert_eq!(rt; fault_of(alloc, raw)?, None);
+    for sign in ["<", ">", ":", ".", "=", "|", ")", "]", "-1", "\"\"", "''H"] {
+        assert_eq!(rt; fault_of(alloc, sign)?, syntax(2), "{sign}");
+    }
+    Ok(())
+}

@@ -1,0 +1,104 @@
+//! Readings of texts, and what the tests look at in them.
+
+use smi_text::{Def, LexError, Module, ParseError, Text, TokenText, parse_modules};
+use std::alloc::Global;
+use std::test::Fail;
+
+/// The fault of a text.
+pub(crate) fn fault(alloc: Global, text: &[u8]) -> Option<ParseError> {
+    parse_modules(alloc, text).err()
+}
+
+/// The fault of a syntax on this line.
+pub(crate) fn syntax(line: usize) -> Option<ParseError> {
+    Some(ParseError::Syntax { line })
+}
+
+/// The fault of an octet on this line with which no token begins.
+pub(crate) fn bad_byte(line: usize) -> Option<ParseError> {
+    Some(ParseError::Lex(LexError::BadByte { line }))
+}
+
+/// The fault of a string that begins on this line and has no end.
+pub(crate) fn open_string(line: usize) -> Option<ParseError> {
+    Some(ParseError::Lex(LexError::OpenString { line }))
+}
+
+/// The fault of a text of three pieces, the second of which has the second line for itself.
+pub(crate) fn fault_in_line(
+    alloc: Global,
+    before: &[u8],
+    piece: &str,
+    after: &str,
+) -> Result<Option<ParseError>, Fail> {
+    let mut text = Vec::from_slice(alloc, before)?;
+    text.push(b'\n')?;
+    text.extend_from_slice(piece.as_bytes())?;
+    text.push(b'\n')?;
+    text.extend_from_slice(after.as_bytes())?;
+    Ok(fault(alloc, &text))
+}
+
+/// The fault of a definition between the first and the last line of a module: its line is 2.
+pub(crate) fn fault_of(alloc: Global, definition: &str) -> Result<Option<ParseError>, Fail> {
+    fault_in_line(alloc, b"A DEFINITIONS ::= BEGIN", definition, "END\n")
+}
+
+/// How many modules a text has, and how many definitions they have together.
+pub(crate) fn counts(alloc: Global, text: &[u8]) -> Result<(usize, usize), ParseError> {
+    let modules = parse_modules(alloc, text)?;
+    let mut defs: usize = 0;
+    for module in &modules {
+        defs = defs.saturating_add(module.defs.len());
+    }
+    Ok((modules.len(), defs))
+}
+
+/// Whether a text of the tree has these octets.
+pub(crate) fn is(text: &Text, octets: &str) -> bool {
+    text.as_bytes() == octets.as_bytes()
+}
+
+/// Whether a text is there, and has these octets.
+pub(crate) fn is_some(text: &Option<Text>, octets: &str) -> bool {
+    match text {
+        Some(text) => is(text, octets),
+        None => false,
+    }
+}
+
+/// Whether texts are these words, in this order.
+pub(crate) fn are(texts: &[Text], words: &str) -> bool {
+    let mut left = words.split_whitespace();
+    for text in texts {
+        match left.next() {
+            Some(word) if is(text, word) => {}
+            _ => return false,
+        }
+    }
+    left.next().is_none()
+}
+
+/// Whether tokens are these words, in this order.
+pub(crate) fn are_tokens(tokens: &[TokenText], words: &str) -> bool {
+    let mut left = words.split_whitespace();
+    for token in tokens {
+        match left.next() {
+            Some(word) if is(&token.text, word) => {}
+            _ => return false,
+        }
+    }
+    left.next().is_none()
+}
+
+/// The definition of a name in a list of modules.
+pub(crate) fn definition<'a>(modules: &'a [Module], name: &str) -> Option<&'a Def> {
+    for module in modules {
+        for def in module.defs.as_slice() {
+            if is(&def.label, name) {
+                return Some(def);
+            }
+        }
+    }
+    None
+}

@@ -1,0 +1,179 @@
+-- Where definitions define a name again, no modules without a double name are read.
+use Rattle.std.proofs.Common.{◌≡◌, ℕ, zero, suc, ◌+◌, ◌<◌, ◌≤◌, Bool, true, false, ◌&&◌, ◌||◌, not, List, [], ◌∷◌, ◌++◌, length, Option, Some, None, refl, sym, ◌∙◌, ap, subst, arith, inl, inr, ◌⊎◌}
+use Rattle.std.specs.Prelude.{map, option_map, option_and_then, codes}
+use Rattle.std.specs.List.{flat_map, list_any, list_all}
+use Rattle.smi_lexer.specs.Token.{Lexeme}
+use Rattle.smi_text.specs.Mark.{Mark, same_text, Stands}
+use Rattle.smi_text.specs.Reserved.{is_reserved}
+use Rattle.smi_text.specs.Format.{Format, Reading, begins, apart, read_many, with_front, before, begins, behind, either, lined, many, maybe, name, pair, read_many, separated, shaped, some_of, text, text_where, token, with_front, word}
+use Rattle.smi_text.specs.Grammar.{to_module, arc, assigned, balanced, base, before_assign, before_end, bound, braced, choice, clause, default_value, definition, field, file, group, head, heading, identifier, import_clause, imports, index, index_names, later_part, lower_definition, macro_body, macro_definition, macro_name, module_identity, module_text, named_number, names, notification_type, object_identifier, object_identifier_words, object_identity, object_type, objects, octet_string_words, of_row, opening, parenthesized, part, range, ranges, raw_definition, refinement, revision, sequence, simple_type, size, status, symbol, syntax_clause, syntax_type, tag, tagged, textual_convention, upper_definition, value}
+use Rattle.smi_text.specs.Spelling.{of_def, of_head, of_module, spelling}
+use Rattle.smi_text.specs.Text.{labels, are_distinct, HasNoDoubles, HasSecond, DefinesAgain}
+use Rattle.smi_text.specs.Gives.{text_ahead}
+use Rattle.smi_text.specs.declared.modules.Head.{Head}
+use Rattle.smi_text.specs.declared.tree.Def.{Def}
+use Rattle.smi_text.specs.declared.tree.Module.{Module}
+use Rattle.smi_text.proofs.Lawful.{Lawful}
+use Rattle.smi_text.proofs.Marks.{and-left, and-right, or-cases, or-left, or-right, same_text-eq, same_text-same, Stands-split, map-inv, then-inv, apart-false}
+use Rattle.smi_text.proofs.Many.{many-fails, many-goes_on, with_front-append, with_front-nil}
+use Rattle.smi_text.proofs.Laws.{starts-with, some-inj}
+use Rattle.smi_text.proofs.Productions.{definition-law, head-law, module_text-law}
+use Rattle.smi_text.proofs.Shorter.{definition-solid, module_text-solid}
+use Rattle.smi_text.proofs.Spells.{def-spells, head-spells, module-spells, lists}
+use Rattle.smi_text.proofs.DefinitionLists.{read-label, spelt-label}
+
+front-inv : {A : Type 0} (x : A) (r : Reading (List A)) (xs : List A) (rest : List Lexeme) → with_front (x ∷ []) r ≡ Some (xs, rest) → (more : List A) × (xs ≡ x ∷ more)
+unfolding with_front
+front-inv x None xs rest h = absurd (cc)
+front-inv {A} x (Some p) xs rest h = (p.0, sym (ap (λ (q : List A × List Lexeme). q.0) (some-inj {A = List A × List Lexeme} (x ∷ p.0, p.1) (xs, rest) h)))
+
+fronts-inv : {A : Type 0} (xs : List A) (r : Reading (List A)) (ys : List A) (rest : List Lexeme) → with_front xs r ≡ Some (ys, rest) → (zs : List A) × (r ≡ Some (zs, rest)) × (ys ≡ xs ++ zs)
+unfolding with_front
+fronts-inv xs None ys rest h = absurd (cc)
+fronts-inv {A} xs (Some p) ys rest h =
+    let e = some-inj {A = List A × List Lexeme} (xs ++ p.0, p.1) (ys, rest) h in
+    (p.0, ap (λ (us : List Lexeme). Some (p.0, us)) (ap (λ (q : List A × List Lexeme). q.1) e), sym (ap (λ (q : List A × List Lexeme). q.0) e))
+
+-- parts that are spelt before one that begins again are read first
+module _ {A : Type 0} (f : Format A) (law : Lawful f) (solid : f.empty ≡ false) (far : apart f.stop f.first ≡ true) where
+  begin-again : (xs : List A) (ts mid : List Lexeme) → Stands (flat_map f.spell xs) ts mid → begins f.first mid ≡ true → begins f.first ts ≡ true
+  begin-again [] ts mid h b = ap (begins f.first) h ∙ b
+  begin-again (x ∷ xs) ts mid h b =
+      let r = Stands-split (f.spell x) (flat_map f.spell xs) ts mid h in
+      starts-with f law solid x ts r.0 r.1
+
+  pub many-before : (xs : List A) (ts mid : List Lexeme) → Stands (flat_map f.spell xs) ts mid → begins f.first mid ≡ true → (many f).read ts ≡ with_front xs ((many f).read mid)
+  many-before [] ts mid h b = ap (λ (us : List Lexeme). (many f).read us) h ∙ sym (with_front-nil _)
+  many-before (x ∷ xs) ts mid h b =
+      let r = Stands-split (f.spell x) (flat_map f.spell xs) ts mid h in
+      let on = apart-false f.stop f.first r.0 far (begin-again xs r.0 mid r.2 b) in
+      many-goes_on f law solid x ts r.0 (starts-with f law solid x ts r.0 r.1) (law.again x ts r.0 r.1 on)
+      ∙ ap (with_front (x ∷ [])) (many-before xs r.0 mid r.2 b)
+      ∙ sym (with_front-append (x ∷ []) xs ((many f).read mid))
+
+  -- where one begins and some are read, the first of them is
+  pub many-first : (ts rest : List Lexeme) (xs : List A) → begins f.first ts ≡ true → (many f).read ts ≡ Some (xs, rest) → (x : A) × (more : List A) × (mid : List Lexeme) × (f.read ts ≡ Some (x, mid)) × (xs ≡ x ∷ more)
+  many-first ts rest xs b h =
+      elim (f.read ts) as (λ r. f.read ts ≡ r → (x : A) × (more : List A) × (mid : List Lexeme) × (f.read ts ≡ Some (x, mid)) × (xs ≡ x ∷ more)) [
+        | None ↦ λ e. absurd (cc (h, many-fails f ts b e))
+        | Some p ↦ λ e.
+            let q = front-inv p.0 ((many f).read p.1) xs rest (sym (many-goes_on f law solid p.0 ts p.1 b e) ∙ h) in
+            (p.0, q.0, p.1, e, q.1)
+      ] refl
+
+-- names that stand twice
+
+any-middle : (x y : List ℕ) (xs ys : List (List ℕ)) → same_text x y ≡ true → list_any (same_text x) (xs ++ y ∷ ys) ≡ true
+any-middle x y [] ys h = or-left (same_text x y) (list_any (same_text x) ys) h
+any-middle x y (z ∷ zs) ys h = or-right (same_text x z) (list_any (same_text x) (zs ++ y ∷ ys)) (any-middle x y zs ys h)
+
+twice : (xs ys : List (List ℕ)) (y : List ℕ) → list_any (same_text y) xs ≡ true → are_distinct (xs ++ y ∷ ys) ≡ true → ⊥
+twice [] ys y h k = cc
+twice (x ∷ xs) ys y h k =
+    elim (or-cases (same_text y x) (list_any (same_text y) xs) h) [
+      | inl e ↦
+          let same : y ≡ x = same_text-eq y x e in
+          let there = any-middle x y xs ys (let P : List ℕ → Type 0 = λ z. same_text z y ≡ true in subst P same (same_text-same y)) in
+          cc (there, and-left (not (list_any (same_text x) (xs ++ y ∷ ys))) (are_distinct (xs ++ y ∷ ys)) k)
+      | inr e ↦ twice xs ys y e (and-right (not (list_any (same_text x) (xs ++ y ∷ ys))) (are_distinct (xs ++ y ∷ ys)) k)
+    ]
+
+labels-append : (ds es : List Def) → labels (ds ++ es) ≡ labels ds ++ labels es
+labels-append [] es = refl
+labels-append (d ∷ ds) es = ap (λ (xs : List (List ℕ)). d.label ∷ xs) (labels-append ds es)
+
+-- definitions
+
+definition-apart : apart definition.stop definition.first ≡ true
+unfolding arc assigned balanced base before before_assign before_end behind bound braced choice clause default_value definition either field group identifier index index_names is_reserved later_part lined lower_definition macro_body macro_definition macro_name many maybe module_identity name named_number names notification_type object_identifier object_identifier_words object_identity object_type objects octet_string_words of_row pair parenthesized part range ranges raw_definition refinement revision separated sequence shaped simple_type size some_of status syntax_clause syntax_type tag tagged text text_where textual_convention token upper_definition value word
+definition-apart = refl
+
+module _ (line : ℕ) (body : List Lexeme) (s : HasSecond line body) where
+  halves : (mid : List Lexeme) × Stands (flat_map of_def s.before) body mid × Stands (of_def s.second) mid s.rest
+  halves = Stands-split (flat_map of_def s.before) (of_def s.second) body s.rest s.stands
+
+  first-half : Stands (flat_map definition.spell s.before) body halves.0
+  first-half = let P : List Mark → Type 0 = λ ms. Stands ms body halves.0 in subst P (sym (lists definition.spell of_def def-spells s.before)) halves.1
+
+  second-ahead : begins definition.first halves.0 ≡ true
+  second-ahead =
+      let P : List Mark → Type 0 = λ ms. Stands ms halves.0 s.rest in
+      starts-with definition definition-law definition-solid s.second halves.0 s.rest (subst P (sym (def-spells s.second)) halves.2)
+
+  body-ahead : begins definition.first body ≡ true
+  body-ahead = begin-again definition definition-law definition-solid definition-apart s.before body halves.0 first-half second-ahead
+
+  definitions-twice : (ds : List Def) (rest : List Lexeme) → (many definition).read body ≡ Some (ds, rest) → are_distinct (labels ds) ≡ true → ⊥
+  definitions-twice ds rest h k =
+      let e = many-before definition definition-law definition-solid definition-apart s.before body halves.0 first-half second-ahead in
+      let inv = fronts-inv s.before ((many definition).read halves.0) ds rest (sym e ∙ h) in
+      let f = many-first definition definition-law definition-solid definition-apart halves.0 rest inv.0 second-ahead inv.1 in
+      let same : s.second.label ≡ f.0.label = spelt-label s.second halves.0 s.rest halves.2 ∙ sym (read-label f.0 halves.0 f.2 f.3) in
+      let all : labels ds ≡ labels s.before ++ f.0.label ∷ labels f.1 = ap labels inv.2 ∙ ap (λ (xs : List Def). labels (s.before ++ xs)) f.4 ∙ labels-append s.before (f.0 ∷ f.1) in
+      let P : List ℕ → Type 0 = λ x. list_any (same_text x) (labels s.before) ≡ true in
+      let Q : List (List ℕ) → Type 0 = λ xs. are_distinct xs ≡ true in
+      twice (labels s.before) (labels f.1) f.0.label (subst P same s.defined) (subst Q all k)
+
+-- modules
+
+all-middle : (ms : List Module) (m : Module) (ns : List Module) → HasNoDoubles (ms ++ m ∷ ns) → are_distinct (labels m.defs) ≡ true
+all-middle [] m ns h = and-left (are_distinct (labels m.defs)) (list_all (λ n. are_distinct (labels n.defs)) ns) h
+all-middle (x ∷ xs) m ns h = all-middle xs m ns (and-right (are_distinct (labels x.defs)) (list_all (λ n. are_distinct (labels n.defs)) (xs ++ m ∷ ns)) h)
+
+head-apart : apart head.stop definition.first ≡ true
+unfolding arc assigned balanced base before before_assign before_end behind bound braced choice clause default_value definition either field group head heading identifier import_clause imports index index_names is_reserved later_part lined lower_definition macro_body macro_definition macro_name many maybe module_identity name named_number names notification_type object_identifier object_identifier_words object_identity object_type objects octet_string_words of_row opening pair parenthesized part range ranges raw_definition refinement revision separated sequence shaped simple_type size some_of status symbol syntax_clause syntax_type tag tagged text text_where textual_convention token upper_definition value word
+head-apart = refl
+
+module-first : (ts : List Lexeme) → begins module_text.first ts ≡ begins head.first ts
+unfolding arc assigned balanced base before before_assign before_end behind bound braced choice clause default_value definition either field group head heading identifier import_clause imports index index_names later_part lined lower_definition macro_body macro_definition macro_name many maybe module_identity module_text name named_number names notification_type object_identifier object_identifier_words object_identity object_type objects octet_string_words of_row opening pair parenthesized part range ranges raw_definition refinement revision separated sequence shaped simple_type size some_of status symbol syntax_clause syntax_type tag tagged text text_where textual_convention token upper_definition value word
+module-first ts = refl
+
+module-apart : apart module_text.stop module_text.first ≡ true
+unfolding arc assigned balanced base before before_assign before_end behind bound braced choice clause default_value definition either field group head heading identifier import_clause imports index index_names is_reserved later_part lined lower_definition macro_body macro_definition macro_name many maybe module_identity module_text name named_number names notification_type object_identifier object_identifier_words object_identity object_type objects octet_string_words of_row opening pair parenthesized part range ranges raw_definition refinement revision separated sequence shaped simple_type size some_of status symbol syntax_clause syntax_type tag tagged text text_where textual_convention token upper_definition value word
+module-apart = refl
+
+head-solid : head.empty ≡ false
+unfolding arc before behind braced either head heading import_clause imports lined many maybe name opening pair parenthesized part separated shaped some_of symbol text text_where token word
+head-solid = refl
+
+module-inv : (ts body : List Lexeme) (h : Head) (m : Module) (rest : List Lexeme) → head.read ts ≡ Some (h, body) → module_text.read ts ≡ Some (m, rest) → (after : List Lexeme) × ((many definition).read body ≡ Some (m.defs, after))
+unfolding module_text shaped pair before
+module-inv ts body h m rest e r =
+    elim ((many definition).read body) as (λ o. (many definition).read body ≡ o → (after : List Lexeme) × ((many definition).read body ≡ Some (m.defs, after))) [
+      | None ↦ λ d. absurd (let no : module_text.read ts ≡ None = rw (e, d) refl in cc (no, r))
+      | Some p ↦ λ d.
+          elim ((word (codes "END")).read p.1) as (λ o. (word (codes "END")).read p.1 ≡ o → (after : List Lexeme) × ((many definition).read body ≡ Some (m.defs, after))) [
+            | None ↦ λ w. absurd (let no : module_text.read ts ≡ None = rw (e, d, w) refl in cc (no, r))
+            | Some q ↦ λ w.
+                let yes : module_text.read ts ≡ Some (to_module (h, p.0), q.1) = rw (e, d, w) refl in
+                let same = some-inj {A = Module × List Lexeme} (to_module (h, p.0), q.1) (m, rest) (sym yes ∙ r) in
+                (p.1, d ∙ ap (λ (v : Module × List Lexeme). Some (v.0.defs, p.1)) same)
+          ] refl
+    ] refl
+
+module _ (line : ℕ) (tokens : List Lexeme) (d : DefinesAgain line tokens) where
+  opened : (mid : List Lexeme) × Stands (spelling d.modules) tokens mid × Stands (of_head d.name d.heading d.imports) mid d.body
+  opened = Stands-split (spelling d.modules) (of_head d.name d.heading d.imports) tokens d.body d.stands
+
+  head-stands : Stands (head.spell (record { name = d.name; heading = d.heading; imports = d.imports })) opened.0 d.body
+  head-stands = let P : List Mark → Type 0 = λ ms. Stands ms opened.0 d.body in subst P (sym (head-spells d.name d.heading d.imports)) opened.2
+
+  head-read : head.read opened.0 ≡ Some (record { name = d.name; heading = d.heading; imports = d.imports }, d.body)
+  head-read = head-law.again (record { name = d.name; heading = d.heading; imports = d.imports }) opened.0 d.body head-stands (apart-false head.stop definition.first d.body head-apart (body-ahead line d.body d.twice))
+
+  module-ahead : begins module_text.first opened.0 ≡ true
+  module-ahead = module-first opened.0 ∙ starts-with head head-law head-solid (record { name = d.name; heading = d.heading; imports = d.imports }) opened.0 d.body head-stands
+
+  before-stands : Stands (flat_map module_text.spell d.modules) tokens opened.0
+  before-stands = let P : List Mark → Type 0 = λ ms. Stands ms tokens opened.0 in subst P (sym (lists module_text.spell of_module module-spells d.modules)) opened.1
+
+  pub file-twice : (ns : List Module) → file.read tokens ≡ Some (ns, []) → HasNoDoubles ns → ⊥
+  unfolding file
+  file-twice ns h k =
+      let e = many-before module_text module_text-law module_text-solid module-apart d.modules tokens opened.0 before-stands module-ahead in
+      let inv = fronts-inv d.modules ((many module_text).read opened.0) ns [] (sym e ∙ h) in
+      let f = many-first module_text module_text-law module_text-solid module-apart opened.0 [] inv.0 module-ahead inv.1 in
+      let defs = module-inv opened.0 d.body (record { name = d.name; heading = d.heading; imports = d.imports }) f.0 f.2 head-read f.3 in
+      let all : ns ≡ d.modules ++ f.0 ∷ f.1 = inv.2 ∙ ap (λ (xs : List Module). d.modules ++ xs) f.4 in
+      let P : List Module → Type 0 = λ ms. HasNoDoubles ms in
+      definitions-twice line d.body d.twice f.0.defs defs.0 defs.1 (all-middle d.modules f.0 f.1 (subst P all k))

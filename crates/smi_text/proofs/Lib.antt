@@ -1,0 +1,15 @@
+pub mod Lawful
+pub mod Many
+pub mod Marks
+pub mod Laws
+pub mod Productions
+pub mod Shorter
+pub mod Digits
+pub mod Words
+pub mod Loops
+pub mod Spells
+pub mod DefinitionLists
+pub mod FileSteps
+pub mod Doubles
+pub mod Braces
+pub mod Lines

@@ -1,0 +1,118 @@
+-- One step of the loops that read the names of an index, and tokens between braces.
+use Rattle.std.proofs.Common.{◌≡◌, ℕ, zero, suc, ◌+◌, ◌-◌, ◌<◌, ◌≤◌, Bool, true, false, ◌&&◌, not, List, [], ◌∷◌, ◌++◌, length, Option, Some, None, if◌then◌else◌, refl, sym, ◌∙◌, ap, subst, arith, append_assoc, length-append, length-drop}
+use Rattle.std.specs.Prelude.{◌==◌, codes, drop, option_map, option_and_then}
+use Rattle.smi_lexer.specs.declared.token.TokenKind.{TokenKind}
+use Rattle.smi_lexer.specs.declared.token.TokenKind.TheVariants as K
+use Rattle.smi_lexer.specs.Token.{Lexeme}
+use Rattle.smi_text.specs.declared.tree.TokenText.{TokenText}
+use Rattle.smi_text.specs.declared.tree.IndexParts.{IndexParts}
+use Rattle.smi_text.specs.Mark.{same_kind}
+use Rattle.smi_text.specs.Format.{Format, Reading, a_word, a_kind, begins, word, text, behind, with_front}
+use Rattle.smi_text.specs.Grammar.{index_names, read_index, with_names, parts_of, implied_name, depth_after, is_outside, kept_text, read_balanced, balanced}
+use Rattle.smi_text.proofs.Laws.{text-law}
+use Rattle.smi_text.proofs.Many.{reading-shorter, with_front-append, with_front-end}
+
+-- the names of an index
+
+with_names-none : (xs : List (List ℕ)) (r : Reading IndexParts) → r ≡ None → with_names xs r ≡ None
+unfolding with_names
+with_names-none xs r e = rw e refl
+
+pub with_names-nil : (r : Reading IndexParts) → with_names [] r ≡ r
+unfolding with_names
+with_names-nil None = refl
+with_names-nil (Some p) = refl
+
+with_names-append : (xs ys : List (List ℕ)) (r : Reading IndexParts) → with_names (xs ++ ys) r ≡ with_names xs (with_names ys r)
+unfolding with_names
+with_names-append xs ys None = refl
+with_names-append xs ys (Some p) = ap (λ (zs : List (List ℕ)). Some (parts_of zs p.0.implied, p.1)) (append_assoc xs ys p.0.names)
+
+text-shorter : (x : List ℕ) (ts rest : List Lexeme) → (text K.Lower).read ts ≡ Some (x, rest) → length rest < length ts
+unfolding text
+text-shorter x ts rest h = reading-shorter (text K.Lower) (text-law K.Lower) refl x ts rest h
+
+some-token : (w : List ℕ) (ts : List Lexeme) → begins (a_word w ∷ []) ts ≡ true → 0 < length ts
+unfolding begins
+some-token w [] b = absurd (cc)
+some-token w (t ∷ ts) b = omega arith
+
+module _ (names : List (List ℕ)) (n : ℕ) (ts : List Lexeme) (enough : length ts ≤ n) where
+  pub index-implied : (x : List ℕ) (mid rest : List Lexeme) → begins (a_word (codes "IMPLIED") ∷ []) ts ≡ true → (word (codes "IMPLIED")).read ts ≡ Some (tt, mid) → (text K.Lower).read mid ≡ Some (x, rest) → with_names names (read_index n ts) ≡ Some (parts_of (names ++ x ∷ []) true, rest)
+  unfolding read_index behind with_names
+  index-implied x mid rest b w e = by-bound n enough
+    where
+      by-bound : (m : ℕ) → length ts ≤ m → with_names names (read_index m ts) ≡ Some (parts_of (names ++ x ∷ []) true, rest)
+      by-bound zero k = absurd (omega (arith, some-token (codes "IMPLIED") ts b))
+      by-bound (suc m) k = rw (b, w, e) refl
+
+  pub index-no_name : (mid : List Lexeme) → begins (a_word (codes "IMPLIED") ∷ []) ts ≡ true → (word (codes "IMPLIED")).read ts ≡ Some (tt, mid) → (text K.Lower).read mid ≡ None → with_names names (read_index n ts) ≡ None
+  unfolding read_index behind
+  index-no_name mid b w e = with_names-none names (read_index n ts) (by-bound n)
+    where
+      by-bound : (m : ℕ) → read_index m ts ≡ None
+      by-bound zero = refl
+      by-bound (suc m) = rw (b, w, e) refl
+
+  pub index-stuck : begins (a_word (codes "IMPLIED") ∷ []) ts ≡ false → (text K.Lower).read ts ≡ None → with_names names (read_index n ts) ≡ None
+  unfolding read_index
+  index-stuck b e = with_names-none names (read_index n ts) (by-bound n)
+    where
+      by-bound : (m : ℕ) → read_index m ts ≡ None
+      by-bound zero = refl
+      by-bound (suc m) = rw (b, e) refl
+
+  pub index-last : (x : List ℕ) (rest : List Lexeme) → begins (a_word (codes "IMPLIED") ∷ []) ts ≡ false → (text K.Lower).read ts ≡ Some (x, rest) → begins (a_kind K.Comma ∷ []) rest ≡ false → with_names names (read_index n ts) ≡ Some (parts_of (names ++ x ∷ []) false, rest)
+  unfolding read_index with_names
+  index-last x rest b e c = by-bound n enough
+    where
+      by-bound : (m : ℕ) → length ts ≤ m → with_names names (read_index m ts) ≡ Some (parts_of (names ++ x ∷ []) false, rest)
+      by-bound zero k = absurd (omega (arith, text-shorter x ts rest e))
+      by-bound (suc m) k = rw (b, e, c) refl
+
+  pub index-next : (x : List ℕ) (rest : List Lexeme) → begins (a_word (codes "IMPLIED") ∷ []) ts ≡ false → (text K.Lower).read ts ≡ Some (x, rest) → begins (a_kind K.Comma ∷ []) rest ≡ true
+      → (m : ℕ) × (length (drop 1 rest) ≤ m) × (with_names names (read_index n ts) ≡ with_names (names ++ x ∷ []) (read_index m (drop 1 rest)))
+  unfolding read_index
+  index-next x rest b e c = by-bound n enough
+    where
+      by-bound : (k : ℕ) → length ts ≤ k → (m : ℕ) × (length (drop 1 rest) ≤ m) × (with_names names (read_index k ts) ≡ with_names (names ++ x ∷ []) (read_index m (drop 1 rest)))
+      by-bound zero h = absurd (omega (arith, text-shorter x ts rest e))
+      by-bound (suc m) h =
+          (m, omega (arith, text-shorter x ts rest e, length-drop 1 rest), rw (b, e, c) (sym (with_names-append names (x ∷ []) (read_index m (drop 1 rest)))))
+
+pub next-shorter : (x : List ℕ) (ts rest : List Lexeme) → (text K.Lower).read ts ≡ Some (x, rest) → length (drop 1 rest) < length ts
+next-shorter x ts rest e = omega (arith, text-shorter x ts rest e, length-drop 1 rest)
+
+pub index_names-starts : (ts : List Lexeme) → index_names.read ts ≡ read_index (length ts) ts
+unfolding index_names
+index_names-starts ts = refl
+
+-- tokens between braces
+
+pub depth_after-le : (k : TokenKind) (depth : ℕ) → depth_after k depth ≤ depth + 1
+depth_after-le k depth =
+    elim (same_kind k K.OpenBrace) as (λ b. (if b then depth + 1 else (if same_kind k K.CloseBrace then depth - 1 else depth)) ≤ depth + 1) [
+      | true ↦ omega arith
+      | false ↦ elim (same_kind k K.CloseBrace) as (λ b. (if b then depth - 1 else depth) ≤ depth + 1) [ true ↦ omega arith | false ↦ omega arith ]
+    ]
+
+pub balanced-next : (xs : List TokenText) (depth : ℕ) (t : Lexeme) (ts : List Lexeme) → is_outside t.kind depth ≡ false → with_front xs (read_balanced depth (t ∷ ts)) ≡ with_front (xs ++ kept_text t ∷ []) (read_balanced (depth_after t.kind depth) ts)
+unfolding read_balanced
+balanced-next xs depth t ts o = rw o (sym (with_front-append xs (kept_text t ∷ []) (read_balanced (depth_after t.kind depth) ts)))
+
+pub balanced-open : (xs : List TokenText) (depth : ℕ) → 0 < depth → with_front xs (read_balanced depth []) ≡ None
+unfolding read_balanced with_front
+balanced-open xs zero h = absurd (omega arith)
+balanced-open xs (suc d) h = let e : (suc d == 0) ≡ false = grind arith in rw e refl
+
+pub balanced-outside : (xs : List TokenText) (depth : ℕ) (t : Lexeme) (ts : List Lexeme) → is_outside t.kind depth ≡ true → with_front xs (read_balanced depth (t ∷ ts)) ≡ Some (xs, t ∷ ts)
+unfolding read_balanced
+balanced-outside xs depth t ts o = rw o (with_front-end xs (t ∷ ts))
+
+pub balanced-closed : (xs : List TokenText) (depth : ℕ) → depth ≡ 0 → with_front xs (read_balanced depth []) ≡ Some (xs, [])
+unfolding read_balanced
+balanced-closed xs depth e = rw e (with_front-end xs [])
+
+pub balanced-starts_with : (ts : List Lexeme) → balanced.read ts ≡ read_balanced 0 ts
+unfolding balanced
+balanced-starts_with ts = refl

@@ -1,0 +1,111 @@
+-- Readings of any number of one part.
+use Rattle.std.proofs.Common.{◌≡◌, ℕ, zero, suc, ◌+◌, ◌<◌, ◌≤◌, Bool, true, false, List, [], ◌∷◌, ◌++◌, length, Option, Some, None, if◌then◌else◌, option_map, option_and_then, refl, sym, ◌∙◌, ap, subst, arith, inl, inr, ◌⊎◌, append_assoc, append-nil}
+use Rattle.smi_lexer.specs.Token.{Lexeme}
+use Rattle.smi_text.specs.Mark.{Mark, Fits, Stands}
+use Rattle.smi_text.specs.Format.{Format, Reading, begins, read_many, many, with_front}
+use Rattle.smi_text.proofs.Lawful.{Lawful}
+
+-- tokens that are spelt by no mark are the rest; else the rest is shorter
+pub Stands-length : (ms : List Mark) (ts rest : List Lexeme) → Stands ms ts rest → length ts ≡ length ms + length rest
+Stands-length [] ts rest h = ap length h ∙ omega arith
+Stands-length (m ∷ ms) [] rest h = absurd h
+Stands-length (m ∷ ms) (t ∷ ts) rest h = omega (arith, Stands-length ms ts rest h.1)
+
+begins-nil : {A : Type 0} (f : Format A) → begins f.first [] ≡ false
+unfolding begins
+begins-nil f = refl
+
+pub shorter : {A : Type 0} (f : Format A) → Lawful f → f.empty ≡ false → (x : A) (ts rest : List Lexeme) → Stands (f.spell x) ts rest → length rest < length ts
+shorter f law solid x ts rest h =
+    elim (f.spell x) as (λ ms. f.spell x ≡ ms → length rest < length ts) [
+      | [] ↦ λ e. elim (law.starts x [] [] (let P : List Mark → Type 0 = λ ms. Stands ms [] [] in subst P (sym e) refl)) [
+        | inl b ↦ absurd (cc (begins-nil f))
+        | inr b ↦ absurd (cc (b.0))
+      ]
+      | (m ∷ ms) ↦ λ e. omega (arith, Stands-length (f.spell x) ts rest h, ap length e)
+    ] refl
+
+pub reading-shorter : {A : Type 0} (f : Format A) → Lawful f → f.empty ≡ false → (x : A) (ts rest : List Lexeme) → f.read ts ≡ Some (x, rest) → length rest < length ts
+reading-shorter f law solid x ts rest h = shorter f law solid x ts rest (law.takes ts rest x h)
+
+abbrev put_one : {A : Type 0} → Format A → ℕ → A × List Lexeme → Reading (List A)
+put_one f n p = option_map (λ q. (p.0 ∷ q.0, q.1)) (read_many f n p.1)
+
+-- a longer bound reads the same
+enough : {A : Type 0} (f : Format A) → Lawful f → f.empty ≡ false → (n m : ℕ) (ts : List Lexeme) → length ts ≤ n → length ts ≤ m → read_many f n ts ≡ read_many f m ts
+unfolding read_many begins
+enough f law solid zero zero ts h k = refl
+enough f law solid zero (suc m) [] h k = refl
+enough f law solid (suc n) zero [] h k = refl
+enough f law solid (suc n) (suc m) [] h k = refl
+enough f law solid zero (suc m) (t ∷ ts) h k = absurd (omega arith)
+enough f law solid (suc n) zero (t ∷ ts) h k = absurd (omega arith)
+enough {A} f law solid (suc n) (suc m) (t ∷ ts) h k =
+    ap (λ (r : Reading (List A)). if begins f.first (t ∷ ts) then r else Some ([], t ∷ ts))
+    (elim (f.read (t ∷ ts)) as (λ r. f.read (t ∷ ts) ≡ r →
+    option_and_then (put_one f n) r ≡ option_and_then (put_one f m) r) [
+      | None ↦ λ e. refl
+      | Some p ↦ λ e.
+          let s : length p.1 < length (t ∷ ts) = reading-shorter f law solid p.0 (t ∷ ts) p.1 e in
+          ap (λ (r : Reading (List A)). option_map (λ (q : List A × List Lexeme). (p.0 ∷ q.0, q.1)) r) (enough f law solid n m p.1 (omega arith) (omega arith))
+    ] refl)
+
+-- where the part begins and is not read, nor are several
+pub many-fails : {A : Type 0} (f : Format A) (ts : List Lexeme) → begins f.first ts ≡ true → f.read ts ≡ None → (many f).read ts ≡ None
+unfolding many read_many begins
+many-fails f [] b e = absurd (cc)
+many-fails f (t ∷ ts) b e = rw (b, e) refl
+
+-- a part that is read goes before the others
+pub many-goes_on : {A : Type 0} (f : Format A) → Lawful f → f.empty ≡ false → (x : A) (ts rest : List Lexeme) → begins f.first ts ≡ true → f.read ts ≡ Some (x, rest) → (many f).read ts ≡ with_front (x ∷ []) ((many f).read rest)
+unfolding many read_many begins with_front
+many-goes_on f law solid x [] rest b e = absurd (cc)
+many-goes_on {A} f law solid x (t ∷ ts) rest b e =
+    let s : length rest < length (t ∷ ts) = reading-shorter f law solid x (t ∷ ts) rest e in
+    rw (b, e) (ap (λ (r : Reading (List A)). option_map (λ (q : List A × List Lexeme). (x ∷ q.0, q.1)) r) (enough f law solid (length ts) (length rest) rest (omega arith) (omega arith)))
+
+-- where the part does not begin, there are none
+pub many-done : {A : Type 0} (f : Format A) (ts : List Lexeme) → begins f.first ts ≡ false → (many f).read ts ≡ Some ([], ts)
+unfolding many read_many begins
+many-done f [] b = refl
+many-done f (t ∷ ts) b = rw b refl
+
+pub with_front-append : {A : Type 0} (xs ys : List A) (r : Reading (List A)) → with_front (xs ++ ys) r ≡ with_front xs (with_front ys r)
+unfolding with_front
+with_front-append xs ys None = refl
+with_front-append {A} xs ys (Some p) = ap (λ (zs : List A). Some (zs, p.1)) (append_assoc xs ys p.0)
+
+pub with_front-none : {A : Type 0} (xs : List A) (r : Reading (List A)) → r ≡ None → with_front xs r ≡ None
+unfolding with_front
+with_front-none xs r e = rw e refl
+
+pub with_front-end : {A : Type 0} (xs : List A) (ts : List Lexeme) → with_front xs (Some ([], ts)) ≡ Some (xs, ts)
+unfolding with_front
+with_front-end {A} xs ts = ap (λ (zs : List A). Some (zs, ts)) (append-nil xs)
+
+pub with_front-nil : {A : Type 0} (r : Reading (List A)) → with_front [] r ≡ r
+unfolding with_front
+with_front-nil None = refl
+with_front-nil (Some p) = refl
+
+-- one step of a loop that reads several parts: what is left to read, and a bound that is enough for it
+pub next-many : {A : Type 0} (f : Format A) (n : ℕ) (x : A) (ts rest : List Lexeme) → begins f.first ts ≡ true → f.read ts ≡ Some (x, rest) → length ts ≤ n → length rest < length ts
+    → (m : ℕ) × (length rest ≤ m) × (read_many f n ts ≡ with_front (x ∷ []) (read_many f m rest))
+unfolding read_many with_front
+next-many f zero x ts rest b e h k = absurd (omega arith)
+next-many f (suc m) x ts rest b e h k = (m, omega arith, rw (b, e) refl)
+
+pub stuck-many : {A : Type 0} (f : Format A) (n : ℕ) (ts : List Lexeme) → begins f.first ts ≡ true → f.read ts ≡ None → length ts ≤ n → read_many f n ts ≡ None
+unfolding read_many begins
+stuck-many f n [] b e h = absurd (cc)
+stuck-many f zero (t ∷ ts) b e h = absurd (omega arith)
+stuck-many f (suc m) (t ∷ ts) b e h = rw (b, e) refl
+
+pub end-many : {A : Type 0} (f : Format A) (n : ℕ) (ts : List Lexeme) → begins f.first ts ≡ false → read_many f n ts ≡ Some ([], ts)
+unfolding read_many
+end-many f zero ts b = refl
+end-many f (suc m) ts b = rw b refl
+
+pub many-starts_with : {A : Type 0} (f : Format A) (ts : List Lexeme) → (many f).read ts ≡ read_many f (length ts) ts
+unfolding many
+many-starts_with f ts = refl

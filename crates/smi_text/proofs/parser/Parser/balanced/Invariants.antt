@@ -1,0 +1,11 @@
+use Rattle.std.proofs.Common.{◌≡◌, ◌≤◌, length}
+use Rattle.smi_text.specs.Format.{with_front}
+use Rattle.smi_text.specs.Grammar.{read_balanced}
+use Rattle.smi_text.proofs.parser.Parser.balanced.Given as goal
+
+abbrev pub invariant-each : goal.invariant-each
+invariant-each l =
+    (l.depth ≤ length l.tokens.items) × (with_front l.tokens.items (read_balanced l.depth l.self) ≡ read_balanced 0 l.fn.self)
+
+abbrev pub decreases-each : goal.decreases-each
+decreases-each l = length l.self

@@ -1,0 +1,28 @@
+use Rattle.std.proofs.Common.{◌≡◌, ◌≤◌, ℕ, refl, sym, ◌∙◌, ap, arith, List, [], ◌∷◌, length}
+use Rattle.std.proofs.lemmas.Result.{err_from_is_err_and}
+use Rattle.smi_text.specs.Format.{many, with_front}
+use Rattle.smi_text.proofs.Many.{next-many, stuck-many, end-many, many-starts_with, with_front-append, with_front-none, with_front-end}
+use Rattle.smi_text.proofs.parser.Parser.many_after.Goals as goal
+
+pub each-init : goal.each-init
+each-init g c = (length c.args.self.now, omega arith, ap (with_front c.args.items.items) (sym (many-starts_with _ _)))
+
+pub each-smaller : goal.each-smaller
+each-smaller g c = c.in_ok-item.ensures.shorter
+
+pub each-preserved : goal.each-preserved
+each-preserved g c =
+    let i = c.each.invariant in
+    let s = next-many g.P.Production.format i.0 _ _ _ (sym c.is_ahead.ensures ∙ c.each-test.true) c.in_ok-item.ensures.gives i.1 c.in_ok-item.ensures.shorter in
+    (s.0, s.1, rw (c.in_ok-keep.ensures.ok) (with_front-append _ _ _ ∙ ap (with_front c.each.items.items) (sym s.2) ∙ i.2))
+
+pub returns : goal.returns
+returns g c =
+    let i = c.each.invariant in
+    rw (← i.2, end-many g.P.Production.format i.0 c.each.self (sym c.is_ahead.ensures ∙ c.each-test.false), with_front-end, c.new.ensures)
+
+pub returns-in_err-item : goal.returns-in_err-item
+returns-in_err-item g c =
+    let i = c.each.invariant in
+    let p = err_from_is_err_and c.from_residual.result c.from_residual.ensures.1 in
+    rw (p.1, p.2) (λ h. rw (← i.2) (with_front-none _ _ (stuck-many g.P.Production.format i.0 _ (sym c.is_ahead.ensures ∙ c.each-test.true) (c.in_err-item.ensures.gives h) i.1)))

@@ -1,0 +1,17 @@
+use Rattle.std.proofs.Common.{refl}
+use Rattle.smi_text.specs.Format.{behind, shaped, pair}
+use Rattle.smi_text.specs.Grammar.{module_identity}
+use Rattle.smi_text.proofs.parser.Parser.module_identity.Goals as goal
+
+pub returns : goal.returns
+unfolding module_identity behind shaped pair
+returns c =
+    rw (
+      c.in_ok-word.ensures,
+      c.in_ok-last_updated.ensures,
+      c.in_ok-organization.ensures,
+      c.in_ok-contact_info.ensures,
+      c.in_ok-description.ensures,
+      c.in_ok-revisions.ensures,
+      c.in_ok-value.ensures,
+    ) refl

@@ -1,0 +1,231 @@
+-- Productions as values: how a part of the tree is spelt, how it is read from the front of the tokens, what it begins
+-- with, and what must not follow it.
+use Rattle.std.specs.Prelude.{◌≡◌, ℕ, ◌==◌, Bool, true, false, ◌&&◌, ◌||◌, not, List, [], ◌∷◌, ◌++◌, length, Option, Some, None, if◌then◌else◌, option_and_then, option_map}
+use Rattle.std.specs.List.{list_any, list_all, flat_map}
+use Rattle.std.proofs.Common.{◌⊎◌, inl, inr, zero, suc}
+use Rattle.smi_lexer.specs.declared.token.TokenKind.{TokenKind}
+use Rattle.smi_lexer.specs.declared.token.TokenKind.TheVariants.{Upper}
+use Rattle.smi_lexer.specs.Token.{Lexeme}
+use Rattle.smi_text.specs.Mark.{Mark, sign, spelt, on_line, same_kind, same_text}
+use Rattle.smi_text.specs.Reserved.{is_reserved}
+
+-- which token may stand ahead: a word of the grammar, a name, one of a kind, or any but such a one
+pub data Ahead : Type 0 where
+  a_word : List ℕ → Ahead
+  a_name : Ahead
+  a_kind : TokenKind → Ahead
+  no_word : List ℕ → Ahead
+  no_kind : TokenKind → Ahead
+
+abbrev pub is_word : List ℕ → Lexeme → Bool
+is_word w t = same_kind t.kind Upper && same_text t.text w
+
+abbrev pub meets : Lexeme → Ahead → Bool
+meets t (a_word w) = is_word w t
+meets t a_name = same_kind t.kind Upper && not (is_reserved t.text)
+meets t (a_kind k) = same_kind t.kind k
+meets t (no_word w) = not (is_word w t)
+meets t (no_kind k) = not (same_kind t.kind k)
+
+-- the tokens begin with one of these
+unfoldable pub begins : List Ahead → List Lexeme → Bool
+begins cs [] = false
+begins cs (t ∷ ts) = list_any (meets t) cs
+
+-- no token is both: in one order
+abbrev pub half_apart : Ahead → Ahead → Bool
+half_apart (a_word v) (a_word w) = not (same_text v w)
+half_apart (a_word v) a_name = is_reserved v
+half_apart (a_word v) (a_kind k) = not (same_kind Upper k)
+half_apart (a_word v) (no_word w) = same_text v w
+half_apart a_name (a_kind k) = not (same_kind Upper k)
+half_apart (a_kind j) (a_kind k) = not (same_kind j k)
+half_apart (a_kind j) (no_kind k) = same_kind j k
+half_apart (a_kind j) (no_word w) = false
+half_apart _ _ = false
+
+-- no token is one of both lists
+abbrev pub apart : List Ahead → List Ahead → Bool
+apart cs ds = list_all (λ c. list_all (λ d. half_apart c d || half_apart d c) ds) cs
+
+-- what is read, and the tokens after it
+abbrev pub Reading : Type 0 → Type 0
+Reading A = Option (A × List Lexeme)
+
+pub record Format (A : Type 0) : Type 0 where
+  pub spell : A → List Mark
+  pub read : List Lexeme → Reading A
+  -- what it begins with
+  pub first : List Ahead
+  -- what must not follow it
+  pub stop : List Ahead
+  -- whether it may be spelt by no token
+  pub empty : Bool
+
+-- the mark of no token
+abbrev pub never : List Mark
+never = spelt Upper [] false ∷ []
+
+-- one token: what it begins with, how it is marked, and what is taken from it
+abbrev pub read_one : {A : Type 0} → (Lexeme → Option A) → List Lexeme → Reading A
+read_one pick [] = None
+read_one pick (t ∷ ts) = option_map (λ x. (x, ts)) (pick t)
+
+abbrev pub one : {A : Type 0} → List Ahead → (A → Mark) → (Lexeme → Option A) → Format A
+one cs mark pick = record {
+  spell = λ x. mark x ∷ [];
+  read = read_one pick;
+  first = cs;
+  stop = [];
+  empty = false;
+}
+
+-- a word of the grammar
+unfoldable pub word : List ℕ → Format (Unit {0})
+word w = one (a_word w ∷ []) (λ _. spelt Upper w true) (λ t. if is_word w t then Some tt else None)
+
+-- a sign of the grammar
+unfoldable pub token : TokenKind → Format (Unit {0})
+token k = one (a_kind k ∷ []) (λ _. sign k) (λ t. if same_kind t.kind k then Some tt else None)
+
+-- a token of this kind, by its text
+unfoldable pub text : TokenKind → Format (List ℕ)
+text k = one (a_kind k ∷ []) (λ x. spelt k x true) (λ t. if same_kind t.kind k then Some t.text else None)
+
+-- a token of this kind, by its text, for which a test holds
+unfoldable pub text_where : TokenKind → (List ℕ → Bool) → Format (List ℕ)
+text_where k ok = one (a_kind k ∷ []) (λ x. spelt k x (ok x)) (λ t. if same_kind t.kind k && ok t.text then Some t.text else None)
+
+-- an UPPER that is no reserved word
+unfoldable pub name : Format (List ℕ)
+name = one (a_name ∷ []) (λ x. spelt Upper x (not (is_reserved x))) (λ t. if same_kind t.kind Upper && not (is_reserved t.text) then Some t.text else None)
+
+-- one part, and then another
+abbrev pub read_pair : {A B : Type 0} → (List Lexeme → Reading A) → (List Lexeme → Reading B) → List Lexeme → Reading (A × B)
+read_pair f g ts = option_and_then (λ p. option_map (λ q. ((p.0, q.0), q.1)) (g p.1)) (f ts)
+
+unfoldable pub pair : {A B : Type 0} → Format A → Format B → Format (A × B)
+pair f g = record {
+  spell = λ p. f.spell p.0 ++ g.spell p.1;
+  read = read_pair f.read g.read;
+  first = if f.empty then f.first ++ g.first else f.first;
+  stop = if g.empty then g.stop ++ f.stop else g.stop;
+  empty = f.empty && g.empty;
+}
+
+-- a part behind what says nothing more
+unfoldable pub behind : {A : Type 0} → Format (Unit {0}) → Format A → Format A
+behind w f = record {
+  spell = λ x. w.spell tt ++ f.spell x;
+  read = λ ts. option_and_then (λ p. f.read p.1) (w.read ts);
+  first = w.first;
+  stop = f.stop;
+  empty = false;
+}
+
+-- a part before what says nothing more
+unfoldable pub before : {A : Type 0} → Format A → Format (Unit {0}) → Format A
+before f w = record {
+  spell = λ x. f.spell x ++ w.spell tt;
+  read = λ ts. option_and_then (λ p. option_map (λ q. (p.0, q.1)) (w.read p.1)) (f.read ts);
+  first = if f.empty then f.first ++ w.first else f.first;
+  stop = w.stop;
+  empty = false;
+}
+
+-- a part that may be left out
+abbrev pub spell_option : {A : Type 0} → (A → List Mark) → Option A → List Mark
+spell_option f None = []
+spell_option f (Some x) = f x
+
+unfoldable pub maybe : {A : Type 0} → Format A → Format (Option A)
+maybe f = record {
+  spell = spell_option f.spell;
+  read = λ ts. if begins f.first ts then option_map (λ p. (Some p.0, p.1)) (f.read ts) else Some (None, ts);
+  first = f.first;
+  stop = f.first ++ f.stop;
+  empty = true;
+}
+
+-- one of two parts: the token ahead decides
+abbrev pub spell_either : {A B : Type 0} → (A → List Mark) → (B → List Mark) → A ⊎ B → List Mark
+spell_either f g (inl x) = f x
+spell_either f g (inr y) = g y
+
+unfoldable pub either : {A B : Type 0} → Format A → Format B → Format (A ⊎ B)
+either f g = record {
+  spell = spell_either f.spell g.spell;
+  read = λ ts. if begins f.first ts then option_map (λ p. (inl p.0, p.1)) (f.read ts) else option_map (λ p. (inr p.0, p.1)) (g.read ts);
+  first = f.first ++ g.first;
+  stop = f.stop ++ g.stop;
+  empty = false;
+}
+
+-- any number of one part, read as often as it begins; the number bounds the recursion
+unfoldable pub read_many : {A : Type 0} → Format A → ℕ → List Lexeme → Reading (List A)
+read_many f zero ts = Some ([], ts)
+read_many f (suc n) ts =
+    if begins f.first ts then option_and_then (λ p. option_map (λ q. (p.0 ∷ q.0, q.1)) (read_many f n p.1)) (f.read ts) else Some ([], ts)
+
+unfoldable pub many : {A : Type 0} → Format A → Format (List A)
+many f = record {
+  spell = flat_map f.spell;
+  read = λ ts. read_many f (length ts) ts;
+  first = f.first;
+  stop = f.first ++ f.stop;
+  empty = true;
+}
+
+-- a part of the tree, made of its pieces; what has no pieces is not spelt by it
+abbrev pub spell_pieces : {A : Type 0} → (A → List Mark) → Option A → List Mark
+spell_pieces f None = never
+spell_pieces f (Some x) = f x
+
+unfoldable pub shaped : {A B : Type 0} → (A → B) → (B → Option A) → Format A → Format B
+shaped to from f = record {
+  spell = λ y. spell_pieces f.spell (from y);
+  read = λ ts. option_map (λ p. (to p.0, p.1)) (f.read ts);
+  first = f.first;
+  stop = f.stop;
+  empty = f.empty;
+}
+
+-- these before what was read
+unfoldable pub with_front : {A : Type 0} → List A → Reading (List A) → Reading (List A)
+with_front xs r = option_map (λ p. (xs ++ p.0, p.1)) r
+
+-- one part, and then any number of another, as one list
+abbrev pub spell_some : {A : Type 0} → (A → List Mark) → (A → List Mark) → List A → List Mark
+spell_some f g [] = never
+spell_some f g (x ∷ xs) = f x ++ flat_map g xs
+
+unfoldable pub some_of : {A : Type 0} → Format A → Format A → Format (List A)
+some_of f g = record {
+  spell = spell_some f.spell g.spell;
+  read = λ ts. option_and_then (λ p. with_front (p.0 ∷ []) ((many g).read p.1)) (f.read ts);
+  first = f.first;
+  stop = (g.first ++ g.stop) ++ f.stop;
+  empty = false;
+}
+
+-- parts with a sign between them
+unfoldable pub separated : {A : Type 0} → TokenKind → Format A → Format (List A)
+separated k f = some_of f (behind (token k) f)
+
+-- a part, with the line of its first token
+abbrev pub put_line : ℕ → List Mark → List Mark
+put_line n [] = never
+put_line n (m ∷ ms) = on_line n m ∷ ms
+
+abbrev pub line_ahead : List Lexeme → ℕ
+line_ahead [] = 0
+line_ahead (t ∷ ts) = t.line
+
+unfoldable pub lined : {A : Type 0} → Format A → Format (ℕ × A)
+lined f = record {
+  spell = λ p. put_line p.0 (f.spell p.1);
+  read = λ ts. option_map (λ p. ((line_ahead ts, p.0), p.1)) (f.read ts);
+  first = f.first;
+  stop = f.stop;
+  empty = false;
+}

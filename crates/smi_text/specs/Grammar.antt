@@ -1,0 +1,635 @@
+-- The productions of the grammar as formats: each reads and spells one part of the tree.
+use Rattle.std.specs.Prelude.{◌≡◌, ℕ, ◌+◌, ◌-◌, ◌==◌, Bool, true, false, ◌&&◌, ◌||◌, not, List, [], ◌∷◌, ◌++◌, length, drop, Option, Some, None, codes, map, if◌then◌else◌, option_and_then, option_map}
+use Rattle.std.specs.List.{list_any}
+use Rattle.std.proofs.Common.{◌⊎◌, inl, inr, zero, suc}
+use Rattle.smi_lexer.specs.declared.token.TokenKind.{TokenKind}
+use Rattle.smi_lexer.specs.declared.token.TokenKind.TheVariants as K
+use Rattle.smi_lexer.specs.Token.{Lexeme}
+use Rattle.smi_text.specs.Mark.{Mark, sign, spelt, same_kind, same_text}
+use Rattle.smi_text.specs.Reserved.{is_reserved, macros}
+use Rattle.smi_text.specs.Number.{is_arc, is_number, is_bound, is_symbol, is_macro}
+use Rattle.smi_text.specs.Format.{Format, Reading, Ahead, a_word, a_name, a_kind, no_word, no_kind, is_word, begins, never, one, word, token, text, text_where, name, pair, behind, before, maybe, either, many, shaped, some_of, separated, lined, with_front}
+use Rattle.smi_text.specs.declared.tree.Module.{Module}
+use Rattle.smi_text.specs.declared.modules.Head.{Head}
+use Rattle.smi_text.specs.declared.tree.Import.{Import}
+use Rattle.smi_text.specs.declared.tree.TokenText.{TokenText}
+use Rattle.smi_text.specs.declared.tree.Def.{Def}
+use Rattle.smi_text.specs.declared.tree.DefKind.{DefKind}
+use Rattle.smi_text.specs.declared.tree.DefKind.TheVariants as D
+use Rattle.smi_text.specs.declared.tree.Part.{Part}
+use Rattle.smi_text.specs.declared.tree.Part.TheVariants as P
+use Rattle.smi_text.specs.declared.tree.NamedNumber.{NamedNumber}
+use Rattle.smi_text.specs.declared.tree.ModuleIdentity.{ModuleIdentity}
+use Rattle.smi_text.specs.declared.tree.Revision.{Revision}
+use Rattle.smi_text.specs.declared.tree.ObjectIdentity.{ObjectIdentity}
+use Rattle.smi_text.specs.declared.tree.Status.{Status}
+use Rattle.smi_text.specs.declared.tree.ObjectType.{ObjectType}
+use Rattle.smi_text.specs.declared.tree.Index.{Index}
+use Rattle.smi_text.specs.declared.tree.Index.TheVariants as I
+use Rattle.smi_text.specs.declared.tree.IndexParts.{IndexParts}
+use Rattle.smi_text.specs.declared.tree.NotificationType.{NotificationType}
+use Rattle.smi_text.specs.declared.tree.Group.{Group}
+use Rattle.smi_text.specs.declared.tree.RawDefinition.{RawDefinition}
+use Rattle.smi_text.specs.declared.tree.TextualConvention.{TextualConvention}
+use Rattle.smi_text.specs.declared.tree.TypeAssignment.{TypeAssignment}
+use Rattle.smi_text.specs.declared.tree.Field.{Field}
+use Rattle.smi_text.specs.declared.tree.Syntax.{Syntax}
+use Rattle.smi_text.specs.declared.tree.Syntax.TheVariants as T
+use Rattle.smi_text.specs.declared.tree.SimpleType.{SimpleType}
+use Rattle.smi_text.specs.declared.tree.Base.{Base}
+use Rattle.smi_text.specs.declared.tree.Base.TheVariants as B
+use Rattle.smi_text.specs.declared.tree.Refinement.{Refinement}
+use Rattle.smi_text.specs.declared.tree.Refinement.TheVariants as R
+use Rattle.smi_text.specs.declared.tree.Range.{Range}
+
+-- pieces and parts
+
+-- a clause: its word, and the string behind it
+unfoldable pub clause : List ℕ → Format (List ℕ)
+clause w = behind (word w) (text K.Text)
+
+-- a part in braces
+unfoldable pub braced : {A : Type 0} → Format A → Format A
+braced f = behind (token K.OpenBrace) (before f (token K.CloseBrace))
+
+-- a part in parentheses
+unfoldable pub parenthesized : {A : Type 0} → Format A → Format A
+parenthesized f = behind (token K.OpenParen) (before f (token K.CloseParen))
+
+-- a token as it stands, for which a test holds
+abbrev pub kept_text : Lexeme → TokenText
+kept_text t = record { kind = t.kind; text = t.text }
+
+abbrev pub kept : List Ahead → (TokenKind → List ℕ → Bool) → Format TokenText
+kept cs ok = one cs (λ x. spelt x.kind x.text (ok x.kind x.text)) (λ t. if ok t.kind t.text then Some (kept_text t) else None)
+
+-- identifiers
+
+unfoldable pub arc : Format (List ℕ)
+arc = text_where K.Number is_arc
+
+abbrev pub to_named_number : List ℕ × List ℕ → NamedNumber
+to_named_number p = record { name = p.0; number = p.1 }
+
+abbrev pub from_named_number : NamedNumber → Option (List ℕ × List ℕ)
+from_named_number n = Some (n.name, n.number)
+
+abbrev pub to_part : List ℕ ⊎ (List ℕ × Option (List ℕ)) → Part
+to_part (inl n) = P.Number n
+to_part (inr (x, None)) = P.Name x
+to_part (inr (x, Some n)) = P.NamedNumber (record { name = x; number = n })
+
+abbrev pub from_part : Part → Option (List ℕ ⊎ (List ℕ × Option (List ℕ)))
+from_part (P.Number n) = Some (inl n)
+from_part (P.Name x) = Some (inr (x, None))
+from_part (P.NamedNumber n) = Some (inr (n.name, Some n.number))
+
+-- a part in the first place, or in a heading
+unfoldable pub part : Format Part
+part = shaped to_part from_part (either arc (pair (text K.Lower) (maybe (parenthesized arc))))
+
+abbrev pub to_later_part : List ℕ ⊎ (List ℕ × List ℕ) → Part
+to_later_part (inl n) = P.Number n
+to_later_part (inr (x, n)) = P.NamedNumber (record { name = x; number = n })
+
+abbrev pub from_later_part : Part → Option (List ℕ ⊎ (List ℕ × List ℕ))
+from_later_part (P.Number n) = Some (inl n)
+from_later_part (P.Name x) = None
+from_later_part (P.NamedNumber n) = Some (inr (n.name, n.number))
+
+-- a part in a later place
+unfoldable pub later_part : Format Part
+later_part = shaped to_later_part from_later_part (either arc (pair (text K.Lower) (parenthesized arc)))
+
+unfoldable pub identifier : Format (List Part)
+identifier = braced (some_of part later_part)
+
+-- what a definition ends with
+unfoldable pub value : Format (List Part)
+value = behind (token K.Assign) identifier
+
+-- types
+
+unfoldable pub bound : Format TokenText
+bound = kept (a_kind K.Number ∷ a_kind K.Hex ∷ a_kind K.Binary ∷ []) is_bound
+
+abbrev pub to_range : TokenText × Option TokenText → Range
+to_range p = record { low = p.0; high = p.1 }
+
+abbrev pub from_range : Range → Option (TokenText × Option TokenText)
+from_range r = Some (r.low, r.high)
+
+unfoldable pub range : Format Range
+range = shaped to_range from_range (pair bound (maybe (behind (token K.Range) bound)))
+
+unfoldable pub ranges : Format (List Range)
+ranges = separated K.Bar range
+
+-- a name with a number of any sign
+unfoldable pub named_number : Format NamedNumber
+named_number = shaped to_named_number from_named_number (pair (text K.Lower) (parenthesized (text_where K.Number is_number)))
+
+abbrev pub to_refinement : List NamedNumber ⊎ (List Range ⊎ List Range) → Refinement
+to_refinement (inl ns) = R.Numbers ns
+to_refinement (inr (inl rs)) = R.Size rs
+to_refinement (inr (inr rs)) = R.Values rs
+
+abbrev pub from_refinement : Refinement → Option (List NamedNumber ⊎ (List Range ⊎ List Range))
+from_refinement (R.Numbers ns) = Some (inl ns)
+from_refinement (R.Size rs) = Some (inr (inl rs))
+from_refinement (R.Values rs) = Some (inr (inr rs))
+
+unfoldable pub size : Format (List Range)
+size = behind (word (codes "SIZE")) (parenthesized ranges)
+
+unfoldable pub refinement : Format Refinement
+refinement =
+    shaped to_refinement from_refinement (either (braced (separated K.Comma named_number)) (parenthesized (either size ranges)))
+
+unfoldable pub object_identifier_words : Format (Unit {0})
+object_identifier_words = behind (word (codes "OBJECT")) (word (codes "IDENTIFIER"))
+
+unfoldable pub octet_string_words : Format (Unit {0})
+octet_string_words = behind (word (codes "OCTET")) (word (codes "STRING"))
+
+abbrev pub to_base : Unit {0} ⊎ (Unit {0} ⊎ (Unit {0} ⊎ (Unit {0} ⊎ List ℕ))) → Base
+to_base (inl x) = B.Integer
+to_base (inr (inl x)) = B.OctetString
+to_base (inr (inr (inl x))) = B.ObjectIdentifier
+to_base (inr (inr (inr (inl x)))) = B.Bits
+to_base (inr (inr (inr (inr x)))) = B.Named x
+
+abbrev pub from_base : Base → Option (Unit {0} ⊎ (Unit {0} ⊎ (Unit {0} ⊎ (Unit {0} ⊎ List ℕ))))
+from_base B.Integer = Some (inl tt)
+from_base B.OctetString = Some (inr (inl tt))
+from_base B.ObjectIdentifier = Some (inr (inr (inl tt)))
+from_base B.Bits = Some (inr (inr (inr (inl tt))))
+from_base (B.Named x) = Some (inr (inr (inr (inr x))))
+
+unfoldable pub base : Format Base
+base =
+    shaped to_base from_base
+    (either (word (codes "INTEGER")) (either octet_string_words (either object_identifier_words (either (word (codes "BITS")) name))))
+
+abbrev pub to_simple_type : Base × Option Refinement → SimpleType
+to_simple_type p = record { base = p.0; refinement = p.1 }
+
+abbrev pub from_simple_type : SimpleType → Option (Base × Option Refinement)
+from_simple_type t = Some (t.base, t.refinement)
+
+unfoldable pub simple_type : Format SimpleType
+simple_type = shaped to_simple_type from_simple_type (pair base (maybe refinement))
+
+abbrev pub to_syntax : List ℕ ⊎ SimpleType → Syntax
+to_syntax (inl x) = T.SequenceOf x
+to_syntax (inr t) = T.Simple t
+
+abbrev pub from_syntax : Syntax → Option (List ℕ ⊎ SimpleType)
+from_syntax (T.SequenceOf x) = Some (inl x)
+from_syntax (T.Simple t) = Some (inr t)
+
+unfoldable pub of_row : Format (List ℕ)
+of_row = behind (word (codes "OF")) name
+
+unfoldable pub syntax_type : Format Syntax
+syntax_type = shaped to_syntax from_syntax (either (behind (word (codes "SEQUENCE")) of_row) simple_type)
+
+abbrev pub to_field : List ℕ × Syntax → Field
+to_field p = record { label = p.0; syntax = p.1 }
+
+abbrev pub from_field : Field → Option (List ℕ × Syntax)
+from_field f = Some (f.label, f.syntax)
+
+unfoldable pub field : Format Field
+field = shaped to_field from_field (pair (text K.Lower) syntax_type)
+
+-- clauses
+
+unfoldable pub names : Format (List (List ℕ))
+names = braced (separated K.Comma (text K.Lower))
+
+abbrev pub to_status : List ℕ × (List ℕ × Option (List ℕ)) → Status
+to_status p = record { status = p.0; description = p.1.0; reference = p.1.1 }
+
+abbrev pub from_status : Status → Option (List ℕ × (List ℕ × Option (List ℕ)))
+from_status s = Some (s.status, (s.description, s.reference))
+
+unfoldable pub status : Format Status
+status =
+    shaped to_status from_status
+    (pair (behind (word (codes "STATUS")) (text K.Lower)) (pair (clause (codes "DESCRIPTION")) (maybe (clause (codes "REFERENCE")))))
+
+-- the marks of the names of an index: the last one may stand behind IMPLIED
+abbrev pub index_marks : List (List ℕ) → Bool → List Mark
+index_marks [] implied = never
+index_marks (x ∷ []) implied =
+    (if implied then spelt K.Upper (codes "IMPLIED") true ∷ [] else []) ++ spelt K.Lower x true ∷ []
+index_marks (x ∷ (y ∷ ys)) implied = spelt K.Lower x true ∷ sign K.Comma ∷ index_marks (y ∷ ys) implied
+
+abbrev pub implied_name : Format (List ℕ)
+implied_name = behind (word (codes "IMPLIED")) (text K.Lower)
+
+abbrev pub parts_of : List (List ℕ) → Bool → IndexParts
+parts_of xs implied = record { names = xs; implied = implied }
+
+-- these names before those that were read
+unfoldable pub with_names : List (List ℕ) → Reading IndexParts → Reading IndexParts
+with_names xs r = option_map (λ p. (parts_of (xs ++ p.0.names) p.0.implied, p.1)) r
+
+-- the names one after the other; the number bounds the recursion
+unfoldable pub read_index : ℕ → List Lexeme → Reading IndexParts
+read_index zero ts = None
+read_index (suc n) ts =
+    if begins (a_word (codes "IMPLIED") ∷ []) ts then option_map (λ p. (parts_of (p.0 ∷ []) true, p.1)) (implied_name.read ts)
+    else option_and_then (λ p.
+    if begins (a_kind K.Comma ∷ []) p.1 then with_names (p.0 ∷ []) (read_index n (drop 1 p.1))
+    else Some (parts_of (p.0 ∷ []) false, p.1)) ((text K.Lower).read ts)
+
+unfoldable pub index_names : Format IndexParts
+index_names = record {
+  spell = λ p. index_marks p.names p.implied;
+  read = λ ts. read_index (length ts) ts;
+  first = a_word (codes "IMPLIED") ∷ a_kind K.Lower ∷ [];
+  stop = a_kind K.Comma ∷ [];
+  empty = false;
+}
+
+abbrev pub to_index : IndexParts ⊎ List ℕ → Index
+to_index (inl p) = I.Own p
+to_index (inr x) = I.Augments x
+
+abbrev pub from_index : Index → Option (IndexParts ⊎ List ℕ)
+from_index (I.Own p) = Some (inl p)
+from_index (I.Augments x) = Some (inr x)
+
+unfoldable pub index : Format Index
+index =
+    shaped to_index from_index
+    (either (behind (word (codes "INDEX")) (braced index_names)) (behind (word (codes "AUGMENTS")) (braced (text K.Lower))))
+
+-- raw runs
+
+unfoldable pub before_assign : Format TokenText
+before_assign = kept (no_kind K.Assign ∷ []) (λ k x. not (same_kind k K.Assign))
+
+unfoldable pub before_end : Format TokenText
+before_end = kept (no_word (codes "END") ∷ []) (λ k x. not (same_kind k K.Upper && same_text x (codes "END")))
+
+-- how many braces are open behind a token of this kind
+abbrev pub depth_after : TokenKind → ℕ → ℕ
+depth_after k depth =
+    if same_kind k K.OpenBrace then depth + 1 else (if same_kind k K.CloseBrace then depth - 1 else depth)
+
+-- such a token closes a brace that is not open
+abbrev pub is_outside : TokenKind → ℕ → Bool
+is_outside k depth = same_kind k K.CloseBrace && (depth == 0)
+
+-- with so many braces open, each brace is closed again, and none is closed that is not open
+unfoldable pub is_balanced : ℕ → List TokenText → Bool
+is_balanced depth [] = depth == 0
+is_balanced depth (x ∷ xs) = not (is_outside x.kind depth) && is_balanced (depth_after x.kind depth) xs
+
+abbrev pub raw_marks : List TokenText → List Mark
+raw_marks xs = map (λ x. spelt x.kind x.text true) xs
+
+unfoldable pub read_balanced : ℕ → List Lexeme → Reading (List TokenText)
+read_balanced depth [] = if depth == 0 then Some ([], []) else None
+read_balanced depth (t ∷ ts) =
+    if is_outside t.kind depth then Some ([], t ∷ ts) else with_front (kept_text t ∷ []) (read_balanced (depth_after t.kind depth) ts)
+
+unfoldable pub balanced : Format (List TokenText)
+balanced = record {
+  spell = λ xs. if is_balanced 0 xs then raw_marks xs else never;
+  read = read_balanced 0;
+  first = no_kind K.CloseBrace ∷ [];
+  stop = no_kind K.CloseBrace ∷ [];
+  empty = true;
+}
+
+-- definitions
+
+abbrev pub to_revision : List ℕ × List ℕ → Revision
+to_revision p = record { date = p.0; description = p.1 }
+
+abbrev pub from_revision : Revision → Option (List ℕ × List ℕ)
+from_revision r = Some (r.date, r.description)
+
+unfoldable pub revision : Format Revision
+revision = shaped to_revision from_revision (pair (clause (codes "REVISION")) (clause (codes "DESCRIPTION")))
+
+abbrev pub to_module_identity : List ℕ × (List ℕ × (List ℕ × (List ℕ × (List Revision × List Part)))) → ModuleIdentity
+to_module_identity p = record {
+  last_updated = p.0;
+  organization = p.1.0;
+  contact_info = p.1.1.0;
+  description = p.1.1.1.0;
+  revisions = p.1.1.1.1.0;
+  value = p.1.1.1.1.1;
+}
+
+abbrev pub from_module_identity : ModuleIdentity → Option (List ℕ × (List ℕ × (List ℕ × (List ℕ × (List Revision × List Part)))))
+from_module_identity m = Some (m.last_updated, (m.organization, (m.contact_info, (m.description, (m.revisions, m.value)))))
+
+unfoldable pub module_identity : Format ModuleIdentity
+module_identity =
+    behind (word (codes "MODULE-IDENTITY"))
+    (shaped to_module_identity from_module_identity
+    (pair (clause (codes "LAST-UPDATED")) (pair (clause (codes "ORGANIZATION")) (pair (clause (codes "CONTACT-INFO"))
+    (pair (clause (codes "DESCRIPTION")) (pair (many revision) value))))))
+
+abbrev pub to_object_identity : Status × List Part → ObjectIdentity
+to_object_identity p = record { status = p.0; value = p.1 }
+
+abbrev pub from_object_identity : ObjectIdentity → Option (Status × List Part)
+from_object_identity d = Some (d.status, d.value)
+
+unfoldable pub object_identity : Format ObjectIdentity
+object_identity = behind (word (codes "OBJECT-IDENTITY")) (shaped to_object_identity from_object_identity (pair status value))
+
+abbrev pub to_object_type : Syntax × (Option (List ℕ) × (List ℕ × (Status × (Option Index × (Option (List TokenText) × List Part))))) → ObjectType
+to_object_type p = record {
+  syntax = p.0;
+  units = p.1.0;
+  max_access = p.1.1.0;
+  status = p.1.1.1.0;
+  index = p.1.1.1.1.0;
+  default = p.1.1.1.1.1.0;
+  value = p.1.1.1.1.1.1;
+}
+
+abbrev pub from_object_type : ObjectType → Option (Syntax × (Option (List ℕ) × (List ℕ × (Status × (Option Index × (Option (List TokenText) × List Part))))))
+from_object_type d = Some (d.syntax, (d.units, (d.max_access, (d.status, (d.index, (d.default, d.value))))))
+
+unfoldable pub default_value : Format (List TokenText)
+default_value = behind (word (codes "DEFVAL")) (braced balanced)
+
+unfoldable pub syntax_clause : Format Syntax
+syntax_clause = behind (word (codes "SYNTAX")) syntax_type
+
+unfoldable pub object_type : Format ObjectType
+object_type =
+    behind (word (codes "OBJECT-TYPE"))
+    (shaped to_object_type from_object_type
+    (pair syntax_clause (pair (maybe (clause (codes "UNITS")))
+    (pair (behind (word (codes "MAX-ACCESS")) (text K.Lower)) (pair status (pair (maybe index)
+    (pair (maybe default_value) value)))))))
+
+abbrev pub to_notification_type : Option (List (List ℕ)) × (Status × List Part) → NotificationType
+to_notification_type p = record { objects = p.0; status = p.1.0; value = p.1.1 }
+
+abbrev pub from_notification_type : NotificationType → Option (Option (List (List ℕ)) × (Status × List Part))
+from_notification_type d = Some (d.objects, (d.status, d.value))
+
+unfoldable pub objects : Format (List (List ℕ))
+objects = behind (word (codes "OBJECTS")) names
+
+unfoldable pub notification_type : Format NotificationType
+notification_type =
+    behind (word (codes "NOTIFICATION-TYPE"))
+    (shaped to_notification_type from_notification_type (pair (maybe objects) (pair status value)))
+
+abbrev pub to_group : List (List ℕ) × (Status × List Part) → Group
+to_group p = record { members = p.0; status = p.1.0; value = p.1.1 }
+
+abbrev pub from_group : Group → Option (List (List ℕ) × (Status × List Part))
+from_group d = Some (d.members, (d.status, d.value))
+
+-- a group behind its word, its members behind theirs
+unfoldable pub group : List ℕ → List ℕ → Format Group
+group w v = behind (word w) (shaped to_group from_group (pair (behind (word v) names) (pair status value)))
+
+abbrev pub to_raw_definition : List TokenText × List Part → RawDefinition
+to_raw_definition p = record { clauses = p.0; value = p.1 }
+
+abbrev pub from_raw_definition : RawDefinition → Option (List TokenText × List Part)
+from_raw_definition d = Some (d.clauses, d.value)
+
+unfoldable pub raw_definition : List ℕ → Format RawDefinition
+raw_definition w = behind (word w) (shaped to_raw_definition from_raw_definition (pair (many before_assign) value))
+
+unfoldable pub object_identifier : Format (List Part)
+object_identifier = behind object_identifier_words value
+
+abbrev pub to_textual_convention : Option (List ℕ) × (Status × Syntax) → TextualConvention
+to_textual_convention p = record { display_hint = p.0; status = p.1.0; syntax = p.1.1 }
+
+abbrev pub from_textual_convention : TextualConvention → Option (Option (List ℕ) × (Status × Syntax))
+from_textual_convention d = Some (d.display_hint, (d.status, d.syntax))
+
+unfoldable pub textual_convention : Format TextualConvention
+textual_convention =
+    behind (word (codes "TEXTUAL-CONVENTION"))
+    (shaped to_textual_convention from_textual_convention
+    (pair (maybe (clause (codes "DISPLAY-HINT"))) (pair status syntax_clause)))
+
+-- a definition by a name in lower case, by what stands behind it
+abbrev pub Lower : Type 0
+Lower =
+    ObjectType ⊎ (List Part ⊎ (ObjectIdentity ⊎ (ModuleIdentity ⊎ (NotificationType ⊎ (Group ⊎ (Group ⊎ (RawDefinition ⊎ RawDefinition)))))))
+
+abbrev pub to_lower : Lower → DefKind
+to_lower (inl d) = D.ObjectType d
+to_lower (inr (inl d)) = D.ObjectIdentifier d
+to_lower (inr (inr (inl d))) = D.ObjectIdentity d
+to_lower (inr (inr (inr (inl d)))) = D.ModuleIdentity d
+to_lower (inr (inr (inr (inr (inl d))))) = D.NotificationType d
+to_lower (inr (inr (inr (inr (inr (inl d)))))) = D.ObjectGroup d
+to_lower (inr (inr (inr (inr (inr (inr (inl d))))))) = D.NotificationGroup d
+to_lower (inr (inr (inr (inr (inr (inr (inr (inl d)))))))) = D.ModuleCompliance d
+to_lower (inr (inr (inr (inr (inr (inr (inr (inr d)))))))) = D.AgentCapabilities d
+
+abbrev pub from_lower : DefKind → Option Lower
+from_lower (D.ObjectType d) = Some (inl d)
+from_lower (D.ObjectIdentifier d) = Some (inr (inl d))
+from_lower (D.ObjectIdentity d) = Some (inr (inr (inl d)))
+from_lower (D.ModuleIdentity d) = Some (inr (inr (inr (inl d))))
+from_lower (D.NotificationType d) = Some (inr (inr (inr (inr (inl d)))))
+from_lower (D.ObjectGroup d) = Some (inr (inr (inr (inr (inr (inl d))))))
+from_lower (D.NotificationGroup d) = Some (inr (inr (inr (inr (inr (inr (inl d)))))))
+from_lower (D.ModuleCompliance d) = Some (inr (inr (inr (inr (inr (inr (inr (inl d))))))))
+from_lower (D.AgentCapabilities d) = Some (inr (inr (inr (inr (inr (inr (inr (inr d))))))))
+from_lower (D.TextualConvention d) = None
+from_lower (D.TypeAssignment d) = None
+from_lower (D.Sequence d) = None
+from_lower (D.Choice d) = None
+from_lower (D.Macro d) = None
+
+unfoldable pub lower_definition : Format DefKind
+lower_definition =
+    shaped to_lower from_lower
+    (either object_type (either object_identifier (either object_identity (either module_identity (either notification_type
+    (either (group (codes "OBJECT-GROUP") (codes "OBJECTS")) (either (group (codes "NOTIFICATION-GROUP") (codes "NOTIFICATIONS"))
+    (either (raw_definition (codes "MODULE-COMPLIANCE")) (raw_definition (codes "AGENT-CAPABILITIES"))))))))))
+
+-- a type, by what stands behind `::=`
+unfoldable pub tag : Format (List ℕ)
+tag =
+    behind (token K.OpenBracket) (behind (word (codes "APPLICATION"))
+    (before (text_where K.Number is_number) (behind (token K.CloseBracket) (word (codes "IMPLICIT")))))
+
+abbrev pub Assigned : Type 0
+Assigned = TextualConvention ⊎ (List TokenText ⊎ ((List ℕ × Syntax) ⊎ ((List Field ⊎ List ℕ) ⊎ SimpleType)))
+
+abbrev pub to_assigned : Assigned → DefKind
+to_assigned (inl d) = D.TextualConvention d
+to_assigned (inr (inl d)) = D.Choice d
+to_assigned (inr (inr (inl (n, t)))) = D.TypeAssignment (record { tag = Some n; syntax = t })
+to_assigned (inr (inr (inr (inl (inl d))))) = D.Sequence d
+to_assigned (inr (inr (inr (inl (inr x))))) = D.TypeAssignment (record { tag = None; syntax = T.SequenceOf x })
+to_assigned (inr (inr (inr (inr t)))) = D.TypeAssignment (record { tag = None; syntax = T.Simple t })
+
+abbrev pub from_type : Option (List ℕ) → Syntax → Assigned
+from_type (Some n) t = inr (inr (inl (n, t)))
+from_type None (T.SequenceOf x) = inr (inr (inr (inl (inr x))))
+from_type None (T.Simple t) = inr (inr (inr (inr t)))
+
+abbrev pub from_assigned : DefKind → Option Assigned
+from_assigned (D.TextualConvention d) = Some (inl d)
+from_assigned (D.Choice d) = Some (inr (inl d))
+from_assigned (D.TypeAssignment d) = Some (from_type d.tag d.syntax)
+from_assigned (D.Sequence d) = Some (inr (inr (inr (inl (inl d)))))
+from_assigned (D.ObjectType d) = None
+from_assigned (D.ObjectIdentifier d) = None
+from_assigned (D.ObjectIdentity d) = None
+from_assigned (D.ModuleIdentity d) = None
+from_assigned (D.NotificationType d) = None
+from_assigned (D.ObjectGroup d) = None
+from_assigned (D.NotificationGroup d) = None
+from_assigned (D.ModuleCompliance d) = None
+from_assigned (D.AgentCapabilities d) = None
+from_assigned (D.Macro d) = None
+
+unfoldable pub choice : Format (List TokenText)
+choice = behind (word (codes "CHOICE")) (braced balanced)
+
+unfoldable pub tagged : Format (List ℕ × Syntax)
+tagged = pair tag syntax_type
+
+unfoldable pub sequence : Format (List Field ⊎ List ℕ)
+sequence = behind (word (codes "SEQUENCE")) (either (braced (separated K.Comma field)) of_row)
+
+unfoldable pub assigned : Format DefKind
+assigned =
+    shaped to_assigned from_assigned
+    (either textual_convention (either choice (either tagged (either sequence simple_type))))
+
+unfoldable pub macro_body : Format (List TokenText)
+macro_body =
+    behind (word (codes "MACRO")) (behind (token K.Assign) (behind (word (codes "BEGIN")) (before (many before_end) (word (codes "END")))))
+
+abbrev pub to_macro : List TokenText → DefKind
+to_macro xs = D.Macro xs
+
+abbrev pub from_macro : DefKind → Option (List TokenText)
+from_macro (D.Macro xs) = Some xs
+from_macro (D.TextualConvention d) = None
+from_macro (D.TypeAssignment d) = None
+from_macro (D.Sequence d) = None
+from_macro (D.Choice d) = None
+from_macro (D.ObjectType d) = None
+from_macro (D.ObjectIdentifier d) = None
+from_macro (D.ObjectIdentity d) = None
+from_macro (D.ModuleIdentity d) = None
+from_macro (D.NotificationType d) = None
+from_macro (D.ObjectGroup d) = None
+from_macro (D.NotificationGroup d) = None
+from_macro (D.ModuleCompliance d) = None
+from_macro (D.AgentCapabilities d) = None
+
+unfoldable pub macro_definition : Format DefKind
+macro_definition = shaped to_macro from_macro macro_body
+
+abbrev pub from_upper : DefKind → Option (DefKind ⊎ DefKind)
+from_upper (D.Macro xs) = Some (inr (D.Macro xs))
+from_upper k = Some (inl k)
+
+abbrev pub to_upper : DefKind ⊎ DefKind → DefKind
+to_upper (inl k) = k
+to_upper (inr k) = k
+
+-- what stands behind a name in upper case
+unfoldable pub upper_definition : Format DefKind
+upper_definition = shaped to_upper from_upper (either (behind (token K.Assign) assigned) macro_definition)
+
+-- the name of a macro that is a reserved word
+abbrev pub macro_words : List Ahead
+macro_words = map a_word macros
+
+unfoldable pub macro_name : Format (List ℕ)
+macro_name = one macro_words (λ x. spelt K.Upper x (is_macro x)) (λ t. if same_kind t.kind K.Upper && is_macro t.text then Some t.text else None)
+
+abbrev pub Labelled : Type 0
+Labelled = (ℕ × List ℕ) × DefKind
+
+abbrev pub to_def : Labelled ⊎ (Labelled ⊎ Labelled) → Def
+to_def (inl p) = record { label = p.0.1; line = p.0.0; kind = p.1 }
+to_def (inr (inl p)) = record { label = p.0.1; line = p.0.0; kind = p.1 }
+to_def (inr (inr p)) = record { label = p.0.1; line = p.0.0; kind = p.1 }
+
+-- a definition by its name and kind: a name in lower case, in upper case, or the word of a macro
+abbrev pub def_pieces : Labelled → DefKind → Labelled ⊎ (Labelled ⊎ Labelled)
+def_pieces p (D.Macro xs) = if is_macro p.0.1 then inr (inr p) else inr (inl p)
+def_pieces p (D.TextualConvention d) = inr (inl p)
+def_pieces p (D.TypeAssignment d) = inr (inl p)
+def_pieces p (D.Sequence d) = inr (inl p)
+def_pieces p (D.Choice d) = inr (inl p)
+def_pieces p k = inl p
+
+abbrev pub from_def : Def → Option (Labelled ⊎ (Labelled ⊎ Labelled))
+from_def d = Some (def_pieces ((d.line, d.label), d.kind) d.kind)
+
+unfoldable pub definition : Format Def
+definition =
+    shaped to_def from_def
+    (either (pair (lined (text K.Lower)) lower_definition)
+    (either (pair (lined name) upper_definition) (pair (lined macro_name) macro_definition)))
+
+-- modules
+
+unfoldable pub symbol : Format TokenText
+symbol = kept (a_kind K.Lower ∷ a_name ∷ macro_words) is_symbol
+
+abbrev pub to_import : ℕ × (List TokenText × List ℕ) → Import
+to_import p = record { symbols = p.1.0; source = p.1.1; line = p.0 }
+
+abbrev pub from_import : Import → Option (ℕ × (List TokenText × List ℕ))
+from_import i = Some (i.line, (i.symbols, i.source))
+
+unfoldable pub import_clause : Format Import
+import_clause =
+    shaped to_import from_import (lined (pair (separated K.Comma symbol) (behind (word (codes "FROM")) name)))
+
+unfoldable pub imports : Format (List Import)
+imports = behind (word (codes "IMPORTS")) (before (many import_clause) (token K.Semicolon))
+
+unfoldable pub heading : Format (List Part)
+heading = braced (many part)
+
+-- what opens the body of a module
+unfoldable pub opening : Format (Unit {0})
+opening = behind (word (codes "DEFINITIONS")) (behind (token K.Assign) (word (codes "BEGIN")))
+
+abbrev pub to_head : List ℕ × (Option (List Part) × Option (List Import)) → Head
+to_head p = record { name = p.0; heading = p.1.0; imports = p.1.1 }
+
+abbrev pub from_head : Head → Option (List ℕ × (Option (List Part) × Option (List Import)))
+from_head h = Some (h.name, (h.heading, h.imports))
+
+-- a module up to its definitions
+unfoldable pub head : Format Head
+head = shaped to_head from_head (pair name (pair (maybe heading) (behind opening (maybe imports))))
+
+abbrev pub to_module : Head × List Def → Module
+to_module p = record { name = p.0.name; heading = p.0.heading; imports = p.0.imports; defs = p.1 }
+
+abbrev pub head_of : Module → Head
+head_of m = record { name = m.name; heading = m.heading; imports = m.imports }
+
+abbrev pub from_module : Module → Option (Head × List Def)
+from_module m = Some (head_of m, m.defs)
+
+unfoldable pub module_text : Format Module
+module_text = shaped to_module from_module (pair head (before (many definition) (word (codes "END"))))
+
+unfoldable pub file : Format (List Module)
+file = many module_text

@@ -1,0 +1,27 @@
+-- Module trees and their spelling without lines.
+use Rattle.std.specs.Prelude.{ℕ, List, Option, map, option_map}
+use Rattle.smi_text.specs.Mark.{Mark, sign, spelt, on_line}
+use Rattle.smi_text.specs.declared.tree.Module.{Module}
+use Rattle.smi_text.specs.declared.tree.Import.{Import}
+use Rattle.smi_text.specs.declared.tree.Def.{Def}
+
+-- what a mark says of a token but for its line
+abbrev pub plain : Mark → Mark
+plain (sign k) = sign k
+plain (spelt k x ok) = spelt k x ok
+plain (on_line n m) = plain m
+
+abbrev pub unlined_import : Import → Import
+unlined_import x = record { symbols = x.symbols; source = x.source; line = 0 }
+
+abbrev pub unlined_def : Def → Def
+unlined_def x = record { label = x.label; line = 0; kind = x.kind }
+
+-- the tree with 0 in the place of each line
+abbrev pub unlined : Module → Module
+unlined m = record {
+  name = m.name;
+  heading = m.heading;
+  imports = option_map (map unlined_import) m.imports;
+  defs = map unlined_def m.defs;
+}

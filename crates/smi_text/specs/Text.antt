@@ -1,0 +1,72 @@
+-- What a text says of modules, and its faults.
+use Rattle.std.specs.Prelude.{◌≡◌, ℕ, ◌&&◌, not, Bool, true, false, IsTrue, List, [], ◌∷◌, ◌++◌, Option, Some, None, Result, Ok, Err, map, Contains}
+use Rattle.std.specs.List.{flat_map, list_any, list_all}
+use Rattle.smi_lexer.specs.Token.{Lexeme, Item, tokens_of, fault_of}
+use Rattle.smi_lexer.specs.Lexes.{Lexes}
+use Rattle.smi_lexer.specs.declared.error.LexError.{LexError}
+use Rattle.smi_text.specs.declared.error.ParseError.{ParseError}
+use Rattle.smi_text.specs.declared.error.ParseError.TheVariants as E
+use Rattle.smi_text.specs.declared.tree.Module.{Module}
+use Rattle.smi_text.specs.declared.tree.Part.{Part}
+use Rattle.smi_text.specs.declared.tree.Import.{Import}
+use Rattle.smi_text.specs.declared.tree.Def.{Def}
+use Rattle.smi_text.specs.Mark.{Mark, Stands, same_text}
+use Rattle.smi_text.specs.Spelling.{spelling, of_head, of_def}
+
+-- the text lexes to its end, and its tokens are the spelling of the modules
+pub record Spells (ms : List Module) (text : List ℕ) : Type 0 where
+  pub items : List Item
+  pub lexed : Lexes [] text items
+  pub whole : fault_of items ≡ None
+  pub spelt : Stands (spelling ms) (tokens_of items) []
+
+abbrev pub labels : List Def → List (List ℕ)
+labels ds = map (λ d. d.label) ds
+
+-- no label stands twice
+abbrev pub are_distinct : List (List ℕ) → Bool
+are_distinct [] = true
+are_distinct (x ∷ xs) = not (list_any (same_text x) xs) && are_distinct xs
+
+-- no module defines a name twice
+abbrev pub HasNoDoubles : List Module → Type 0
+HasNoDoubles ms = list_all (λ m. are_distinct (labels m.defs)) ms ≡ true
+
+-- the text breaks off with this fault
+pub record BreaksOff (fault : LexError) (text : List ℕ) : Type 0 where
+  pub items : List Item
+  pub lexed : Lexes [] text items
+  pub at : fault_of items ≡ Some fault
+
+-- the tokens begin with definitions, the last of which stands on this line and is the first that defines a name again
+pub record HasSecond (line : ℕ) (tokens : List Lexeme) : Type 0 where
+  pub before : List Def
+  pub once : are_distinct (labels before) ≡ true
+  pub second : Def
+  pub rest : List Lexeme
+  pub stands : Stands (flat_map of_def before ++ of_def second) tokens rest
+  pub defined : list_any (same_text second.label) (labels before) ≡ true
+  pub on_line : second.line ≡ line
+
+-- such definitions stand in a module of the text, behind modules of which none defines a name twice
+pub record DefinesAgain (line : ℕ) (tokens : List Lexeme) : Type 0 where
+  pub modules : List Module
+  pub once : HasNoDoubles modules
+  pub name : List ℕ
+  pub heading : Option (List Part)
+  pub imports : Option (List Import)
+  pub body : List Lexeme
+  pub stands : Stands (spelling modules ++ of_head name heading imports) tokens body
+  pub twice : HasSecond line body
+
+pub record HasDouble (line : ℕ) (text : List ℕ) : Type 0 where
+  pub items : List Item
+  pub lexed : Lexes [] text items
+  pub again : DefinesAgain line (tokens_of items)
+
+-- when each error comes; want of memory has no cause in the text
+abbrev pub IsCause : ParseError → List ℕ → Type 0
+IsCause (E.Lex fault) text = BreaksOff fault text
+IsCause (E.Syntax line) text = (ms : List Module) → Spells ms text → ⊥
+IsCause (E.DoubleName line) text = HasDouble line text
+IsCause E.Memory text = Unit {0}

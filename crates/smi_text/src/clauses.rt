@@ -1,0 +1,295 @@
+//! Clauses that several definitions have, and raw runs of tokens (RFC 2578, sections 7 and 8).
+#![tactic(auto, unfolding(crate::specs::Format::begins, crate::specs::Format::pair, crate::specs::Format::behind, crate::specs::Format::before, crate::specs::Format::maybe, crate::specs::Format::either, crate::specs::Format::shaped, crate::specs::Format::some_of, crate::specs::Format::separated, crate::specs::Format::lined, crate::specs::Format::word, crate::specs::Format::token, crate::specs::Format::text, crate::specs::Format::text_where, crate::specs::Format::name, crate::specs::Grammar::clause, crate::specs::Grammar::braced, crate::specs::Grammar::names, crate::specs::Grammar::status, crate::specs::Grammar::implied_name, crate::specs::Grammar::index_names, crate::specs::Grammar::index, crate::specs::Grammar::before_assign, crate::specs::Grammar::before_end, crate::specs::Grammar::balanced, crate::specs::Grammar::default_value, crate::specs::Grammar::revision, crate::specs::Grammar::objects))]
+
+ghost use Rattle.std.specs.Prelude.{◌≡◌, ◌+◌, ◌<◌, ◌^◌, List, [], ◌∷◌, codes};
+ghost use Rattle.smi_text.specs.Format.{begins, a_word, a_kind, no_word, no_kind};
+ghost use Rattle.smi_text.specs.Format as format;
+ghost use Rattle.smi_text.specs.Grammar as grammar;
+ghost use Rattle.smi_lexer.specs.declared.token.TokenKind.TheVariants as kinds;
+ghost use Rattle.smi_text.specs.Gives.{Gives};
+
+use crate::items::{Items, Text};
+use crate::parser::{AfterComma, Parser, Production, keep};
+use crate::stop::Stop;
+use crate::tree::{Index, IndexParts, Revision, Status, TokenText};
+use smi_lexer::TokenKind;
+
+/// A name in lower case.
+pub(crate) struct Name;
+
+impl Production for Name {
+    type Output = Text;
+
+    ghost format = { format.text kinds.Lower };
+
+    fn is_ahead(parser: &Parser<'_>) -> bool {
+        parser.at_kind(TokenKind::Lower)
+    }
+
+    #[tactic(auto, using(crate::proofs::Shorter::name_shorter))]
+    fn read(parser: &mut Parser<'_>) -> Result<Text, Stop> {
+        parser.text(TokenKind::Lower)
+    }
+}
+
+/// A REVISION with its DESCRIPTION.
+pub(crate) struct OneRevision;
+
+impl Production for OneRevision {
+    type Output = Revision;
+
+    ghost format = { grammar.revision };
+
+    fn is_ahead(parser: &Parser<'_>) -> bool {
+        parser.at_word(b"REVISION")
+    }
+
+    #[tactic(auto, using(crate::proofs::Shorter::revision_shorter))]
+    fn read(parser: &mut Parser<'_>) -> Result<Revision, Stop> {
+        parser.revision()
+    }
+}
+
+/// A token before `::=`.
+pub(crate) struct BeforeAssign;
+
+impl Production for BeforeAssign {
+    type Output = TokenText;
+
+    ghost format = { grammar.before_assign };
+
+    fn is_ahead(parser: &Parser<'_>) -> bool {
+        parser.at_other_than_assign()
+    }
+
+    #[tactic(auto, using(crate::proofs::Shorter::before_assign_shorter))]
+    fn read(parser: &mut Parser<'_>) -> Result<TokenText, Stop> {
+        parser.before_assign()
+    }
+}
+
+/// A token before END.
+pub(crate) struct BeforeEnd;
+
+impl Production for BeforeEnd {
+    type Output = TokenText;
+
+    ghost format = { grammar.before_end };
+
+    fn is_ahead(parser: &Parser<'_>) -> bool {
+        parser.at_other_than_end()
+    }
+
+    #[tactic(auto, using(crate::proofs::Shorter::before_end_shorter))]
+    fn read(parser: &mut Parser<'_>) -> Result<TokenText, Stop> {
+        parser.before_end()
+    }
+}
+
+/// How many braces are open behind a token of this kind.
+fn depth_after(kind: TokenKind, depth: usize) -> usize
+    requires { depth + 1 < 2 ^ 64 }
+    ensures { result ≡ grammar.depth_after kind depth }
+{
+    match kind {
+        TokenKind::OpenBrace => depth + 1,
+        TokenKind::CloseBrace => depth.saturating_sub(1),
+        _ => depth,
+    }
+}
+
+/// Whether a token of this kind closes a brace that isn't open.
+fn is_outside(kind: TokenKind, depth: usize) -> bool
+    ensures { result ≡ grammar.is_outside kind depth }
+{
+    kind == TokenKind::CloseBrace && depth == 0
+}
+
+impl<'a> Parser<'a> {
+    /// Reads STATUS, DESCRIPTION and REFERENCE.
+    pub(crate) fn status(&mut self) -> Result<Status, Stop>
+        ensures { Gives result self.new (grammar.status.read self.old) }
+    {
+        self.word(b"STATUS")?;
+        let status = self.text(TokenKind::Lower)?;
+        let description = self.clause(b"DESCRIPTION")?;
+        let reference = self.clause_if_any(b"REFERENCE")?;
+        Ok(Status {
+            status,
+            description,
+            reference,
+        })
+    }
+
+    /// Reads a REVISION with its DESCRIPTION.
+    fn revision(&mut self) -> Result<Revision, Stop>
+        ensures { Gives result self.new (grammar.revision.read self.old) }
+    {
+        let date = self.clause(b"REVISION")?;
+        let description = self.clause(b"DESCRIPTION")?;
+        Ok(Revision { date, description })
+    }
+
+    /// Reads names in braces.
+    pub(crate) fn names(&mut self) -> Result<Items<Text>, Stop>
+        ensures { Gives result self.new (grammar.names.read self.old) }
+    {
+        self.sign(TokenKind::OpenBrace)?;
+        let first = self.text(TokenKind::Lower)?;
+        let names = self.and_more::<AfterComma<Name>>(first)?;
+        self.sign(TokenKind::CloseBrace)?;
+        Ok(names)
+    }
+
+    /// Reads the objects of a notification, if OBJECTS is ahead.
+    pub(crate) fn objects_if_any(&mut self) -> Result<Option<Items<Text>>, Stop>
+        ensures { Gives result self.new ((format.maybe grammar.objects).read self.old) }
+    {
+        if self.at_word(b"OBJECTS") {
+            self.word(b"OBJECTS")?;
+            Ok(Some(self.names()?))
+        } else {
+            Ok(None)
+        }
+    }
+
+    /// Reads the names of an INDEX: the last one may stand behind IMPLIED.
+    fn index_names(&mut self) -> Result<IndexParts, Stop>
+        ensures { Gives result self.new (grammar.index_names.read self.old) }
+    {
+        let mut names = self.list();
+        'each: loop {
+            if self.at_word(b"IMPLIED") {
+                self.word(b"IMPLIED")?;
+                let name = self.text(TokenKind::Lower)?;
+                keep(&mut names, name)?;
+                return Ok(IndexParts {
+                    names: Items::new(names),
+                    implied: true,
+                });
+            }
+            let name = self.text(TokenKind::Lower)?;
+            keep(&mut names, name)?;
+            if !self.at_kind(TokenKind::Comma) {
+                return Ok(IndexParts {
+                    names: Items::new(names),
+                    implied: false,
+                });
+            }
+            self.advance();
+        }
+    }
+
+    /// Reads how the rows of a table are told apart.
+    fn index(&mut self) -> Result<Index, Stop>
+        ensures { Gives result self.new (grammar.index.read self.old) }
+    {
+        if self.at_word(b"INDEX") {
+            self.word(b"INDEX")?;
+            self.sign(TokenKind::OpenBrace)?;
+            let parts = self.index_names()?;
+            self.sign(TokenKind::CloseBrace)?;
+            Ok(Index::Own(parts))
+        } else {
+            self.word(b"AUGMENTS")?;
+            self.sign(TokenKind::OpenBrace)?;
+            let row = self.text(TokenKind::Lower)?;
+            self.sign(TokenKind::CloseBrace)?;
+            Ok(Index::Augments(row))
+        }
+    }
+
+    /// Reads how the rows of a table are told apart, if INDEX or AUGMENTS is ahead.
+    pub(crate) fn index_if_any(&mut self) -> Result<Option<Index>, Stop>
+        ensures { Gives result self.new ((format.maybe grammar.index).read self.old) }
+    {
+        if self.at_word(b"INDEX") || self.at_word(b"AUGMENTS") {
+            Ok(Some(self.index()?))
+        } else {
+            Ok(None)
+        }
+    }
+
+    /// Whether a token is ahead that isn't `::=`.
+    fn at_other_than_assign(&self) -> bool
+        ensures { result ≡ begins (no_kind TokenKind.Assign ∷ []) self.now }
+    {
+        match self.peek() {
+            Some(token) => token.kind != TokenKind::Assign,
+            None => false,
+        }
+    }
+
+    /// Reads a token that isn't `::=`.
+    fn before_assign(&mut self) -> Result<TokenText, Stop>
+        ensures { Gives result self.new (grammar.before_assign.read self.old) }
+    {
+        match self.peek() {
+            Some(token) if token.kind != TokenKind::Assign => self.take_token(
+                token.kind, token.text,
+            ),
+            _ => Err(self.syntax()),
+        }
+    }
+
+    /// Whether a token is ahead that isn't END.
+    fn at_other_than_end(&self) -> bool
+        ensures { result ≡ begins (no_word (codes "END") ∷ []) self.now }
+    {
+        match self.peek() {
+            Some(_) => !self.at_word(b"END"),
+            None => false,
+        }
+    }
+
+    /// Reads a token that isn't END.
+    fn before_end(&mut self) -> Result<TokenText, Stop>
+        ensures { Gives result self.new (grammar.before_end.read self.old) }
+    {
+        match self.peek() {
+            Some(token) if !self.at_word(b"END") => { self.take_token(token.kind, token.text) }
+            _ => Err(self.syntax()),
+        }
+    }
+
+    /// Reads tokens up to the brace that closes the one before them. Each brace between them is closed again.
+    fn balanced(&mut self) -> Result<Items<TokenText>, Stop>
+        ensures { Gives result self.new (grammar.balanced.read self.old) }
+    {
+        let mut tokens = self.list();
+        let mut depth: usize = 0;
+        'each: loop {
+            match self.peek() {
+                Some(token) if !is_outside(token.kind, depth) => {
+                    let kept = self.take_token(token.kind, token.text)?;
+                    keep(&mut tokens, kept)?;
+                    depth = depth_after(token.kind, depth);
+                }
+                None if depth > 0 => return Err(self.syntax()),
+                _ => return Ok(Items::new(tokens)),
+            }
+        }
+    }
+
+    /// Reads such tokens with the braces round them.
+    pub(crate) fn braced_tokens(&mut self) -> Result<Items<TokenText>, Stop>
+        ensures { Gives result self.new ((grammar.braced grammar.balanced).read self.old) }
+    {
+        self.sign(TokenKind::OpenBrace)?;
+        let tokens = self.balanced()?;
+        self.sign(TokenKind::CloseBrace)?;
+        Ok(tokens)
+    }
+
+    /// Reads the tokens of a DEFVAL, if it is ahead.
+    pub(crate) fn default_if_any(&mut self) -> Result<Option<Items<TokenText>>, Stop>
+        ensures { Gives result self.new ((format.maybe grammar.default_value).read self.old) }
+    {
+        if self.at_word(b"DEFVAL") {
+            self.word(b"DEFVAL")?;
+            Ok(Some(self.braced_tokens()?))
+        } else {
+            Ok(None)
+        }
+    }
+}

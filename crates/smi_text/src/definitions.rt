@@ -1,0 +1,315 @@
+//! Definitions (RFC 2578, sections 3 to 8; RFC 2579; RFC 2580).
+#![tactic(auto, unfolding(crate::specs::Format::begins, crate::specs::Format::pair, crate::specs::Format::behind, crate::specs::Format::before, crate::specs::Format::maybe, crate::specs::Format::either, crate::specs::Format::shaped, crate::specs::Format::some_of, crate::specs::Format::separated, crate::specs::Format::lined, crate::specs::Format::word, crate::specs::Format::token, crate::specs::Format::text, crate::specs::Format::text_where, crate::specs::Format::name, crate::specs::Grammar::braced, crate::specs::Grammar::module_identity, crate::specs::Grammar::object_identity, crate::specs::Grammar::object_type, crate::specs::Grammar::notification_type, crate::specs::Grammar::group, crate::specs::Grammar::raw_definition, crate::specs::Grammar::object_identifier, crate::specs::Grammar::textual_convention, crate::specs::Grammar::syntax_clause, crate::specs::Grammar::lower_definition, crate::specs::Grammar::tag, crate::specs::Grammar::choice, crate::specs::Grammar::tagged, crate::specs::Grammar::sequence, crate::specs::Grammar::assigned, crate::specs::Grammar::macro_body, crate::specs::Grammar::macro_definition, crate::specs::Grammar::upper_definition, crate::specs::Grammar::macro_name, crate::specs::Grammar::definition, crate::specs::Grammar::objects, crate::specs::Grammar::object_identifier_words, crate::specs::Grammar::default_value))]
+
+ghost use Rattle.std.specs.Prelude.{◌≡◌, List, [], ◌∷◌, codes};
+ghost use Rattle.smi_text.specs.Format.{begins, a_word, a_kind, a_name};
+ghost use Rattle.smi_text.specs.Format as format;
+ghost use Rattle.smi_text.specs.Grammar as grammar;
+ghost use Rattle.smi_text.specs.Gives.{Gives};
+
+use crate::clauses::{BeforeAssign, BeforeEnd, OneRevision};
+use crate::items::{Items, Text};
+use crate::parser::{AfterComma, Parser};
+use crate::reserved::{is_macro, is_reserved};
+use crate::stop::Stop;
+use crate::syntax::OneField;
+use crate::tree::{
+    Def, DefKind, Field, Group, ModuleIdentity, NotificationType, ObjectIdentity, ObjectType, Part,
+    RawDefinition, Syntax, TextualConvention, TokenText, TypeAssignment,
+};
+use smi_lexer::TokenKind;
+
+impl<'a> Parser<'a> {
+    /// Reads SYNTAX and its type.
+    fn syntax_clause(&mut self) -> Result<Syntax, Stop>
+        ensures { Gives result self.new (grammar.syntax_clause.read self.old) }
+    {
+        self.word(b"SYNTAX")?;
+        self.syntax_type()
+    }
+
+    /// Reads OBJECT-TYPE and its clauses.
+    fn object_type(&mut self) -> Result<ObjectType, Stop>
+        ensures { Gives result self.new (grammar.object_type.read self.old) }
+    {
+        self.word(b"OBJECT-TYPE")?;
+        let syntax = self.syntax_clause()?;
+        let units = self.clause_if_any(b"UNITS")?;
+        self.word(b"MAX-ACCESS")?;
+        let max_access = self.text(TokenKind::Lower)?;
+        let status = self.status()?;
+        let index = self.index_if_any()?;
+        let default = self.default_if_any()?;
+        let value = self.value()?;
+        Ok(ObjectType {
+            syntax,
+            units,
+            max_access,
+            status,
+            index,
+            default,
+            value,
+        })
+    }
+
+    /// Reads OBJECT IDENTIFIER and its value.
+    fn object_identifier(&mut self) -> Result<Items<Part>, Stop>
+        ensures { Gives result self.new (grammar.object_identifier.read self.old) }
+    {
+        self.object_identifier_words()?;
+        self.value()
+    }
+
+    /// Reads OBJECT-IDENTITY and its clauses.
+    fn object_identity(&mut self) -> Result<ObjectIdentity, Stop>
+        ensures { Gives result self.new (grammar.object_identity.read self.old) }
+    {
+        self.word(b"OBJECT-IDENTITY")?;
+        let status = self.status()?;
+        let value = self.value()?;
+        Ok(ObjectIdentity { status, value })
+    }
+
+    /// Reads MODULE-IDENTITY and its clauses.
+    fn module_identity(&mut self) -> Result<ModuleIdentity, Stop>
+        ensures { Gives result self.new (grammar.module_identity.read self.old) }
+    {
+        self.word(b"MODULE-IDENTITY")?;
+        let last_updated = self.clause(b"LAST-UPDATED")?;
+        let organization = self.clause(b"ORGANIZATION")?;
+        let contact_info = self.clause(b"CONTACT-INFO")?;
+        let description = self.clause(b"DESCRIPTION")?;
+        let revisions = self.many::<OneRevision>()?;
+        let value = self.value()?;
+        Ok(ModuleIdentity {
+            last_updated,
+            organization,
+            contact_info,
+            description,
+            revisions,
+            value,
+        })
+    }
+
+    /// Reads NOTIFICATION-TYPE and its clauses.
+    fn notification_type(&mut self) -> Result<NotificationType, Stop>
+        ensures { Gives result self.new (grammar.notification_type.read self.old) }
+    {
+        self.word(b"NOTIFICATION-TYPE")?;
+        let objects = self.objects_if_any()?;
+        let status = self.status()?;
+        let value = self.value()?;
+        Ok(NotificationType {
+            objects,
+            status,
+            value,
+        })
+    }
+
+    /// Reads a group behind its word, its members behind theirs.
+    fn group(&mut self, word: &[u8], members: &[u8]) -> Result<Group, Stop>
+        ensures { Gives result self.new ((grammar.group word.now members.now).read self.old) }
+    {
+        self.word(word)?;
+        self.word(members)?;
+        let members = self.names()?;
+        let status = self.status()?;
+        let value = self.value()?;
+        Ok(Group {
+            members,
+            status,
+            value,
+        })
+    }
+
+    /// Reads a definition behind its word whose clauses are kept as tokens.
+    fn raw_definition(&mut self, word: &[u8]) -> Result<RawDefinition, Stop>
+        ensures { Gives result self.new ((grammar.raw_definition word.now).read self.old) }
+    {
+        self.word(word)?;
+        let clauses = self.many::<BeforeAssign>()?;
+        let value = self.value()?;
+        Ok(RawDefinition { clauses, value })
+    }
+
+    /// Reads what stands behind a name in lower case.
+    fn lower_definition(&mut self) -> Result<DefKind, Stop>
+        ensures { Gives result self.new (grammar.lower_definition.read self.old) }
+    {
+        if self.at_word(b"OBJECT-TYPE") {
+            Ok(DefKind::ObjectType(self.object_type()?))
+        } else if self.at_word(b"OBJECT") {
+            Ok(DefKind::ObjectIdentifier(self.object_identifier()?))
+        } else if self.at_word(b"OBJECT-IDENTITY") {
+            Ok(DefKind::ObjectIdentity(self.object_identity()?))
+        } else if self.at_word(b"MODULE-IDENTITY") {
+            Ok(DefKind::ModuleIdentity(self.module_identity()?))
+        } else if self.at_word(b"NOTIFICATION-TYPE") {
+            Ok(DefKind::NotificationType(self.notification_type()?))
+        } else if self.at_word(b"OBJECT-GROUP") {
+            Ok(DefKind::ObjectGroup(self.group(b"OBJECT-GROUP", b"OBJECTS")?))
+        } else if self.at_word(b"NOTIFICATION-GROUP") {
+            Ok(DefKind::NotificationGroup(self.group(b"NOTIFICATION-GROUP", b"NOTIFICATIONS")?))
+        } else if self.at_word(b"MODULE-COMPLIANCE") {
+            Ok(DefKind::ModuleCompliance(self.raw_definition(b"MODULE-COMPLIANCE")?))
+        } else {
+            Ok(DefKind::AgentCapabilities(self.raw_definition(b"AGENT-CAPABILITIES")?))
+        }
+    }
+
+    /// Reads TEXTUAL-CONVENTION and its clauses.
+    fn textual_convention(&mut self) -> Result<TextualConvention, Stop>
+        ensures { Gives result self.new (grammar.textual_convention.read self.old) }
+    {
+        self.word(b"TEXTUAL-CONVENTION")?;
+        let display_hint = self.clause_if_any(b"DISPLAY-HINT")?;
+        let status = self.status()?;
+        let syntax = self.syntax_clause()?;
+        Ok(TextualConvention {
+            display_hint,
+            status,
+            syntax,
+        })
+    }
+
+    /// Reads CHOICE and its tokens.
+    fn choice(&mut self) -> Result<Items<TokenText>, Stop>
+        ensures { Gives result self.new (grammar.choice.read self.old) }
+    {
+        self.word(b"CHOICE")?;
+        self.braced_tokens()
+    }
+
+    /// Reads `[APPLICATION n] IMPLICIT`.
+    fn tag(&mut self) -> Result<Text, Stop>
+        ensures { Gives result self.new (grammar.tag.read self.old) }
+    {
+        self.sign(TokenKind::OpenBracket)?;
+        self.word(b"APPLICATION")?;
+        let number = self.number()?;
+        self.sign(TokenKind::CloseBracket)?;
+        self.word(b"IMPLICIT")?;
+        Ok(number)
+    }
+
+    /// Reads the columns of a row with their braces.
+    fn fields(&mut self) -> Result<Items<Field>, Stop>
+        ensures { Gives result self.new ((grammar.braced (format.separated TokenKind.Comma grammar.field)).read self.old) }
+    {
+        self.sign(TokenKind::OpenBrace)?;
+        let first = self.field()?;
+        let fields = self.and_more::<AfterComma<OneField>>(first)?;
+        self.sign(TokenKind::CloseBrace)?;
+        Ok(fields)
+    }
+
+    /// Reads what stands behind a name and `::=`.
+    fn assigned(&mut self) -> Result<DefKind, Stop>
+        ensures { Gives result self.new (grammar.assigned.read self.old) }
+    {
+        if self.at_word(b"TEXTUAL-CONVENTION") {
+            return Ok(DefKind::TextualConvention(self.textual_convention()?));
+        }
+        if self.at_word(b"CHOICE") {
+            return Ok(DefKind::Choice(self.choice()?));
+        }
+        if self.at_kind(TokenKind::OpenBracket) {
+            let tag = Some(self.tag()?);
+            let syntax = self.syntax_type()?;
+            return Ok(DefKind::TypeAssignment(TypeAssignment { tag, syntax }));
+        }
+        if self.at_word(b"SEQUENCE") {
+            self.word(b"SEQUENCE")?;
+            if self.at_kind(TokenKind::OpenBrace) {
+                return Ok(DefKind::Sequence(self.fields()?));
+            }
+            let syntax = Syntax::SequenceOf(self.of_row()?);
+            return Ok(DefKind::TypeAssignment(TypeAssignment { tag: None, syntax }));
+        }
+        let syntax = Syntax::Simple(self.simple_type()?);
+        Ok(DefKind::TypeAssignment(TypeAssignment { tag: None, syntax }))
+    }
+
+    /// Reads MACRO and its tokens.
+    fn macro_definition(&mut self) -> Result<DefKind, Stop>
+        ensures { Gives result self.new (grammar.macro_definition.read self.old) }
+    {
+        self.word(b"MACRO")?;
+        self.sign(TokenKind::Assign)?;
+        self.word(b"BEGIN")?;
+        let tokens = self.many::<BeforeEnd>()?;
+        self.word(b"END")?;
+        Ok(DefKind::Macro(tokens))
+    }
+
+    /// Reads what stands behind a name in upper case.
+    fn upper_definition(&mut self) -> Result<DefKind, Stop>
+        ensures { Gives result self.new (grammar.upper_definition.read self.old) }
+    {
+        if self.at_kind(TokenKind::Assign) {
+            self.sign(TokenKind::Assign)?;
+            self.assigned()
+        } else {
+            self.macro_definition()
+        }
+    }
+
+    /// Whether a name in upper case is ahead.
+    fn at_name(&self) -> bool
+        ensures { result ≡ begins (a_name ∷ []) self.now }
+    {
+        match self.peek() {
+            Some(token) => token.kind == TokenKind::Upper && !is_reserved(token.text),
+            None => false,
+        }
+    }
+
+    /// Whether the word of a macro is ahead.
+    fn at_macro(&self) -> bool
+        ensures { result ≡ begins grammar.macro_words self.now }
+    {
+        match self.peek() {
+            Some(token) => token.kind == TokenKind::Upper && is_macro(token.text),
+            None => false,
+        }
+    }
+
+    /// Reads the word of a macro.
+    fn macro_name(&mut self) -> Result<Text, Stop>
+        ensures { Gives result self.new (grammar.macro_name.read self.old) }
+    {
+        match self.peek() {
+            Some(token) if token.kind == TokenKind::Upper && is_macro(token.text) => {
+                self.take_text(token.text)
+            }
+            _ => Err(self.syntax()),
+        }
+    }
+
+    /// Whether a definition is ahead.
+    pub(crate) fn at_definition(&self) -> bool
+        ensures { result ≡ begins grammar.definition.first self.now }
+    {
+        self.at_kind(TokenKind::Lower) || self.at_name() || self.at_macro()
+    }
+
+    /// Reads a definition.
+    pub(crate) fn definition(&mut self) -> Result<Def, Stop>
+        ensures { Gives result self.new (grammar.definition.read self.old) }
+    {
+        let line = self.line();
+        if self.at_kind(TokenKind::Lower) {
+            let label = self.text(TokenKind::Lower)?;
+            let kind = self.lower_definition()?;
+            return Ok(Def { label, line, kind });
+        }
+        if self.at_name() {
+            let label = self.name()?;
+            let kind = self.upper_definition()?;
+            return Ok(Def { label, line, kind });
+        }
+        let label = self.macro_name()?;
+        let kind = self.macro_definition()?;
+        Ok(Def { label, line, kind })
+    }
+}

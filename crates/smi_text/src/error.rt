@@ -1,0 +1,36 @@
+//! Why a module text is refused.
+
+use crate::stop::Stop;
+use smi_lexer::LexError;
+use thiserror::Error;
+
+/// Why a text is refused as a whole. Lines count from 1.
+#[derive(Clone, Copy, Debug, PartialEq, Eq, Error)]
+pub enum ParseError {
+    /// The text has something that is no token.
+    #[error(transparent)]
+    Lex(LexError),
+    /// No module text can go on with the token in this line, or the text ends too early in its last line.
+    #[error("line {line}: no module goes on like this")]
+    Syntax { line: usize },
+    /// The definition in this line gives a name that its module has defined before.
+    #[error("line {line}: a second definition of the name")]
+    DoubleName { line: usize },
+    /// An allocation was refused.
+    #[error("out of memory")]
+    Memory,
+}
+
+impl From<Stop> for ParseError {
+    ghost use Rattle.std.specs.Prelude.{◌≡◌};
+    ghost use Rattle.smi_text.specs.Gives.{error_of};
+
+    ghost from_gives = { λ stop error. error ≡ error_of stop };
+
+    fn from(stop: Stop) -> ParseError {
+        match stop {
+            Stop::Syntax { line } => ParseError::Syntax { line },
+            Stop::Memory => ParseError::Memory,
+        }
+    }
+}

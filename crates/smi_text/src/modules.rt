@@ -1,0 +1,176 @@
+//! Modules, with what they import (RFC 2578, section 3).
+#![tactic(auto, unfolding(crate::specs::Format::begins, crate::specs::Format::pair, crate::specs::Format::behind, crate::specs::Format::before, crate::specs::Format::maybe, crate::specs::Format::either, crate::specs::Format::shaped, crate::specs::Format::some_of, crate::specs::Format::separated, crate::specs::Format::lined, crate::specs::Format::word, crate::specs::Format::token, crate::specs::Format::text, crate::specs::Format::text_where, crate::specs::Format::name, crate::specs::Grammar::braced, crate::specs::Grammar::symbol, crate::specs::Grammar::import_clause, crate::specs::Grammar::imports, crate::specs::Grammar::heading, crate::specs::Grammar::opening, crate::specs::Grammar::head, crate::specs::Grammar::module_text, crate::specs::Number::is_symbol))]
+
+ghost use Rattle.std.specs.Prelude.{◌≡◌, List, [], ◌∷◌, codes};
+ghost use Rattle.smi_text.specs.Format.{begins, a_word, a_kind, a_name};
+ghost use Rattle.smi_text.specs.Format as format;
+ghost use Rattle.smi_text.specs.Grammar as grammar;
+ghost use Rattle.smi_lexer.specs.declared.token.TokenKind.TheVariants as kinds;
+ghost use Rattle.smi_text.specs.Number as number;
+ghost use Rattle.smi_text.specs.Gives.{Gives};
+
+use crate::items::{Items, Text};
+use crate::parser::{AfterComma, Parser, Production};
+use crate::reserved::{is_macro, is_reserved};
+use crate::stop::Stop;
+use crate::syntax::HeadingPart;
+use crate::tree::{Import, Part, TokenText};
+use smi_lexer::TokenKind;
+
+/// A module up to its definitions.
+#[derive(Debug, Drop)]
+pub(crate) struct Head {
+    pub(crate) name: Text,
+    pub(crate) heading: Option<Items<Part>>,
+    pub(crate) imports: Option<Items<Import>>,
+}
+
+/// A symbol that is imported.
+pub(crate) struct Symbol;
+
+impl Production for Symbol {
+    type Output = TokenText;
+
+    ghost format = { grammar.symbol };
+
+    fn is_ahead(parser: &Parser<'_>) -> bool {
+        parser.at_symbol()
+    }
+
+    #[tactic(auto, using(crate::proofs::Shorter::symbol_shorter))]
+    fn read(parser: &mut Parser<'_>) -> Result<TokenText, Stop> {
+        parser.symbol()
+    }
+}
+
+/// The symbols of one FROM clause.
+pub(crate) struct OneImport;
+
+impl Production for OneImport {
+    type Output = Import;
+
+    ghost format = { grammar.import_clause };
+
+    fn is_ahead(parser: &Parser<'_>) -> bool {
+        parser.at_symbol()
+    }
+
+    #[tactic(auto, using(crate::proofs::Shorter::import_clause_shorter))]
+    fn read(parser: &mut Parser<'_>) -> Result<Import, Stop> {
+        parser.import_clause()
+    }
+}
+
+impl<'a> Parser<'a> {
+    /// Whether a symbol is ahead.
+    fn at_symbol(&self) -> bool
+        ensures { result ≡ begins grammar.symbol.first self.now }
+    {
+        self.at_definition()
+    }
+
+    /// Reads a symbol that is imported: a name, or the word of a macro.
+    fn symbol(&mut self) -> Result<TokenText, Stop>
+        ensures { Gives result self.new (grammar.symbol.read self.old) }
+    {
+        match self.peek() {
+            Some(token) if is_symbol(token.kind, token.text) => {
+                self.take_token(token.kind, token.text)
+            }
+            _ => Err(self.syntax()),
+        }
+    }
+
+    /// Reads the symbols of one FROM clause.
+    fn import_clause(&mut self) -> Result<Import, Stop>
+        ensures { Gives result self.new (grammar.import_clause.read self.old) }
+    {
+        let line = self.line();
+        let first = self.symbol()?;
+        let symbols = self.and_more::<AfterComma<Symbol>>(first)?;
+        self.word(b"FROM")?;
+        let source = self.name()?;
+        Ok(Import {
+            symbols,
+            source,
+            line,
+        })
+    }
+
+    /// Reads what is imported.
+    fn imports(&mut self) -> Result<Items<Import>, Stop>
+        ensures { Gives result self.new (grammar.imports.read self.old) }
+    {
+        self.word(b"IMPORTS")?;
+        let imports = self.many::<OneImport>()?;
+        self.sign(TokenKind::Semicolon)?;
+        Ok(imports)
+    }
+
+    /// Reads what is imported, if IMPORTS is ahead.
+    fn imports_if_any(&mut self) -> Result<Option<Items<Import>>, Stop>
+        ensures { Gives result self.new ((format.maybe grammar.imports).read self.old) }
+    {
+        if self.at_word(b"IMPORTS") {
+            Ok(Some(self.imports()?))
+        } else {
+            Ok(None)
+        }
+    }
+
+    /// Reads the identifier behind a module's name.
+    fn heading(&mut self) -> Result<Items<Part>, Stop>
+        ensures { Gives result self.new (grammar.heading.read self.old) }
+    {
+        self.sign(TokenKind::OpenBrace)?;
+        let parts = self.many::<HeadingPart>()?;
+        self.sign(TokenKind::CloseBrace)?;
+        Ok(parts)
+    }
+
+    /// Reads the identifier behind a module's name, if a brace is ahead.
+    fn heading_if_any(&mut self) -> Result<Option<Items<Part>>, Stop>
+        ensures { Gives result self.new ((format.maybe grammar.heading).read self.old) }
+    {
+        if self.at_kind(TokenKind::OpenBrace) {
+            Ok(Some(self.heading()?))
+        } else {
+            Ok(None)
+        }
+    }
+
+    /// Reads what opens the body of a module.
+    fn opening(&mut self) -> Result<(), Stop>
+        ensures { Gives result self.new (grammar.opening.read self.old) }
+    {
+        self.word(b"DEFINITIONS")?;
+        self.sign(TokenKind::Assign)?;
+        self.word(b"BEGIN")
+    }
+
+    /// Reads a module up to its definitions.
+    pub(crate) fn head(&mut self) -> Result<Head, Stop>
+        ensures { Gives result self.new (grammar.head.read self.old) }
+    {
+        let name = self.name()?;
+        let heading = self.heading_if_any()?;
+        self.opening()?;
+        let imports = self.imports_if_any()?;
+        Ok(Head {
+            name,
+            heading,
+            imports,
+        })
+    }
+}
+
+/// Whether a token can be imported.
+fn is_symbol(kind: TokenKind, text: &[u8]) -> bool
+    ensures { result ≡ number.is_symbol kind text.now }
+{
+    match kind {
+        TokenKind::Lower => true,
+        TokenKind::Upper => !is_reserved(text) || is_macro(text),
+        _ => false,
+    }
+}

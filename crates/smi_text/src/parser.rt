@@ -1,0 +1,318 @@
+//! The tokens that are left of a text, and the steps in which every production is read.
+#![tactic(auto, unfolding(crate::specs::Format::word, crate::specs::Format::token, crate::specs::Format::text, crate::specs::Format::text_where, crate::specs::Format::name, crate::specs::Format::begins, crate::specs::Format::maybe, crate::specs::Format::behind, crate::specs::Grammar::clause))]
+
+ghost use Rattle.std.specs.Prelude.{◌≡◌, ℕ, List, [], ◌∷◌, codes, map, drop, IfNone, IfSome, IfOk, IfErr, OnOk, ◌++◌, ◌<◌, length};
+ghost use Rattle.smi_lexer.specs.Token.{Lexeme, lexeme_of};
+ghost use Rattle.smi_text.specs.Format.{Format, begins, a_word, a_kind, a_name, line_ahead, with_front};
+ghost use Rattle.smi_text.specs.Format as format;
+ghost use Rattle.smi_text.specs.Gives.{Gives};
+ghost use Rattle.smi_text.specs.Grammar as grammar;
+ghost use Rattle.smi_lexer.specs.declared.token.TokenKind.TheVariants as kinds;
+
+use crate::items::{Items, Text};
+use crate::reserved::is_reserved;
+use crate::stop::Stop;
+use crate::tree::TokenText;
+use smi_lexer::{Token, TokenKind};
+use std::alloc::Global;
+use std::collections::BTreeSet;
+use std::marker::Model;
+
+/// The tokens that are left of a text, which productions take from the front.
+#[derive(Drop)]
+pub(crate) struct Parser<'a> {
+    alloc: Global,
+    tokens: &'a [Token<'a>],
+    text: &'a [u8],
+}
+
+impl<'a> Model for Parser<'a> {
+    ghost use Rattle.std.specs.Prelude.{List, map};
+    ghost use Rattle.smi_lexer.specs.Token.{Lexeme, lexeme_of};
+
+    ghost Value = { List Lexeme };
+
+    ghost view = { λ p. map lexeme_of p.tokens.now };
+}
+
+/// A production of which there may be several in a row.
+pub(crate) trait Production {
+    /// The part of the tree that it reads.
+    type Output;
+
+    ghost format: { Format Self.Output };
+
+    /// Whether it begins with the token ahead.
+    fn is_ahead(parser: &Parser<'_>) -> bool
+        ensures { result ≡ begins format.first parser.now };
+
+    /// Reads it, and takes a token at least.
+    fn read(parser: &mut Parser<'_>) -> Result<Self::Output, Stop>
+        ensures gives { Gives result parser.new (format.read parser.old) }
+        ensures shorter { OnOk result (length parser.new < length parser.old) };
+}
+
+/// A production behind a comma.
+pub(crate) struct AfterComma<P>(P);
+
+impl<P: Production> Production for AfterComma<P> {
+    type Output = P::Output;
+
+    ghost format = { format.behind (format.token kinds.Comma) P.format };
+
+    fn is_ahead(parser: &Parser<'_>) -> bool {
+        parser.at_kind(TokenKind::Comma)
+    }
+
+    fn read(parser: &mut Parser<'_>) -> Result<P::Output, Stop> {
+        parser.sign(TokenKind::Comma)?;
+        P::read(parser)
+    }
+}
+
+/// A production behind a bar.
+pub(crate) struct AfterBar<P>(P);
+
+impl<P: Production> Production for AfterBar<P> {
+    type Output = P::Output;
+
+    ghost format = { format.behind (format.token kinds.Bar) P.format };
+
+    fn is_ahead(parser: &Parser<'_>) -> bool {
+        parser.at_kind(TokenKind::Bar)
+    }
+
+    fn read(parser: &mut Parser<'_>) -> Result<P::Output, Stop> {
+        parser.sign(TokenKind::Bar)?;
+        P::read(parser)
+    }
+}
+
+/// Puts a part behind those that are there.
+pub(crate) fn keep<T: Drop>(items: &mut Vec<T>, item: T) -> Result<(), Stop>
+    ensures ok { OnOk result (items.new.items ≡ items.old.items ++ item ∷ []) }
+    ensures err { IfErr result (λ e. e ≡ Stop.Memory) }
+{
+    items.push(item).map_err(|_| Stop::Memory)
+}
+
+impl<'a> Parser<'a> {
+    /// The parser of these tokens of the text.
+    pub(crate) fn new(alloc: Global, tokens: &'a [Token<'a>], text: &'a [u8]) -> Parser<'a>
+        ensures { result ≡ map lexeme_of tokens.now }
+    {
+        Parser {
+            alloc,
+            tokens,
+            text,
+        }
+    }
+
+    /// A set with no names in it.
+    pub(crate) fn name_set(&self) -> BTreeSet<&'a [u8]>
+        ensures { result.keys ≡ [] }
+    {
+        BTreeSet::new(self.alloc)
+    }
+
+    /// A list with nothing in it.
+    pub(crate) fn list<T>(&self) -> Vec<T>
+        ensures { result.items ≡ [] }
+    {
+        Vec::new(self.alloc)
+    }
+
+    /// The token ahead.
+    pub(crate) fn peek(&self) -> Option<Token<'a>>
+        ensures none { IfNone result (self.now ≡ []) }
+        ensures some { IfSome result (λ t. self.now ≡ lexeme_of t ∷ drop 1 self.now) }
+    {
+        self.tokens.first().copied()
+    }
+
+    /// Moves past the token ahead.
+    pub(crate) fn advance(&mut self)
+        ensures { self.new ≡ drop 1 self.old }
+    {
+        if let [_, rest @ ..] = self.tokens {
+            self.tokens = rest;
+        }
+    }
+
+    /// The line of the token ahead; 0 at the end, where no part stands.
+    pub(crate) fn line(&self) -> usize
+        ensures { result ≡ line_ahead self.now }
+    {
+        self.peek().map_or(0, |token| token.line)
+    }
+
+    /// Whether this word of the grammar is ahead.
+    pub(crate) fn at_word(&self, word: &[u8]) -> bool
+        ensures { result ≡ begins (a_word word.now ∷ []) self.now }
+    {
+        match self.peek() {
+            Some(token) => token.kind == TokenKind::Upper && token.text == word,
+            None => false,
+        }
+    }
+
+    /// Whether a token of this kind is ahead.
+    pub(crate) fn at_kind(&self, kind: TokenKind) -> bool
+        ensures { result ≡ begins (a_kind kind ∷ []) self.now }
+    {
+        match self.peek() {
+            Some(token) => token.kind == kind,
+            None => false,
+        }
+    }
+
+    /// Whether a token of one of these two kinds is ahead.
+    pub(crate) fn at_either(&self, first: TokenKind, second: TokenKind) -> bool
+        ensures { result ≡ begins (a_kind first ∷ a_kind second ∷ []) self.now }
+    {
+        self.at_kind(first) || self.at_kind(second)
+    }
+
+    /// The stop of a text that can't go on with the token ahead.
+    pub(crate) fn syntax(&self) -> Stop
+        ensures { (line : ℕ) × (result ≡ Stop.Syntax line) }
+    {
+        let line = match self.peek() {
+            Some(token) => token.line,
+            None => last_line(self.text),
+        };
+        Stop::Syntax { line }
+    }
+
+    /// Reads this word of the grammar.
+    pub(crate) fn word(&mut self, word: &[u8]) -> Result<(), Stop>
+        ensures { Gives result self.new ((format.word word.now).read self.old) }
+    {
+        if !self.at_word(word) {
+            return Err(self.syntax());
+        }
+        self.advance();
+        Ok(())
+    }
+
+    /// Reads a sign of the grammar.
+    pub(crate) fn sign(&mut self, kind: TokenKind) -> Result<(), Stop>
+        ensures gives { Gives result self.new ((format.token kind).read self.old) }
+        ensures shorter { OnOk result (length self.new < length self.old) }
+    {
+        if !self.at_kind(kind) {
+            return Err(self.syntax());
+        }
+        self.advance();
+        Ok(())
+    }
+
+    /// Moves past the token ahead, whose text is handed in, and keeps that text.
+    pub(crate) fn take_text(&mut self, text: &[u8]) -> Result<Text, Stop>
+        ensures ok { IfOk result (λ x. (x ≡ text.now) × (self.new ≡ drop 1 self.old)) }
+        ensures err { IfErr result (λ e. e ≡ Stop.Memory) }
+    {
+        let text = Vec::from_slice(self.alloc, text).map_err(|_| Stop::Memory)?;
+        self.advance();
+        Ok(Text::new(text))
+    }
+
+    /// Reads a token of this kind, and keeps its text.
+    pub(crate) fn text(&mut self, kind: TokenKind) -> Result<Text, Stop>
+        ensures { Gives result self.new ((format.text kind).read self.old) }
+    {
+        match self.peek() {
+            Some(token) if token.kind == kind => self.take_text(token.text),
+            _ => Err(self.syntax()),
+        }
+    }
+
+    /// Reads an UPPER that is no reserved word, and keeps its text.
+    pub(crate) fn name(&mut self) -> Result<Text, Stop>
+        ensures { Gives result self.new (format.name.read self.old) }
+    {
+        match self.peek() {
+            Some(token) if token.kind == TokenKind::Upper && !is_reserved(token.text) => {
+                self.take_text(token.text)
+            }
+            _ => Err(self.syntax()),
+        }
+    }
+
+    /// Reads a word and the string behind it.
+    pub(crate) fn clause(&mut self, word: &[u8]) -> Result<Text, Stop>
+        ensures { Gives result self.new ((grammar.clause word.now).read self.old) }
+    {
+        self.word(word)?;
+        self.text(TokenKind::Text)
+    }
+
+    /// Reads a word and the string behind it, if the word is ahead.
+    pub(crate) fn clause_if_any(&mut self, word: &[u8]) -> Result<Option<Text>, Stop>
+        ensures { Gives result self.new ((format.maybe (grammar.clause word.now)).read self.old) }
+    {
+        if self.at_word(word) {
+            Ok(Some(self.clause(word)?))
+        } else {
+            Ok(None)
+        }
+    }
+
+    /// Moves past the token ahead, whose kind and text are handed in, and keeps them.
+    pub(crate) fn take_token(&mut self, kind: TokenKind, text: &[u8]) -> Result<TokenText, Stop>
+        ensures ok { IfOk result (λ x. (x ≡ record { kind = kind; text = text.now }) × (self.new ≡ drop 1 self.old)) }
+        ensures err { IfErr result (λ e. e ≡ Stop.Memory) }
+    {
+        let text = self.take_text(text)?;
+        Ok(TokenText { kind, text })
+    }
+
+    /// Reads any number of a production, and puts them behind those that are there.
+    pub(crate) fn many_after<P: Production>(
+        &mut self,
+        items: Vec<P::Output>,
+    ) -> Result<Items<P::Output>, Stop>
+    where
+        P::Output: Drop,
+        ensures { Gives result self.new (with_front items.items ((format.many P.format).read self.old)) }
+    {
+        let mut items = items;
+        'each: while P::is_ahead(self) {
+            let item = P::read(self)?;
+            keep(&mut items, item)?;
+        }
+        Ok(Items::new(items))
+    }
+
+    /// Reads any number of a production.
+    pub(crate) fn many<P: Production>(&mut self) -> Result<Items<P::Output>, Stop>
+    where
+        P::Output: Drop,
+        ensures { Gives result self.new ((format.many P.format).read self.old) }
+    {
+        let items = self.list();
+        self.many_after::<P>(items)
+    }
+
+    /// Reads any number of a production, and puts them behind the first part, which was read before.
+    pub(crate) fn and_more<P: Production>(
+        &mut self,
+        first: P::Output,
+    ) -> Result<Items<P::Output>, Stop>
+    where
+        P::Output: Drop,
+        ensures { Gives result self.new (with_front (first ∷ []) ((format.many P.format).read self.old)) }
+    {
+        let mut items = self.list();
+        keep(&mut items, first)?;
+        self.many_after::<P>(items)
+    }
+}
+
+/// The line of a text's last octet. Lines count from 1, and end with LF.
+fn last_line(text: &[u8]) -> usize {
+    match text.split_last() {
+        Some((_, front)) => front.iter().filter(|octet| **octet == b'\n').count() + 1,
+        None => 1,
+    }
+}
