@@ -1,0 +1,6 @@
+use Rattle.std.proofs.Common.{◌≡◌}
+use Rattle.codec_bench.specs.Bench.{has_number}
+use Rattle.codec_bench.proofs.has_number.Given as goal
+
+abbrev pub invariant-bindings : goal.invariant-bindings
+invariant-bindings l = has_number l.number l.fn.bindings ≡ has_number l.number l.binding-iterator
