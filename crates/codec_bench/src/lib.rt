@@ -8,7 +8,7 @@ ghost use Rattle.snmp_wire.specs.Canon.{IsEncodable, canon, canon_bindings};
 ghost use Rattle.snmp_wire.specs.Parts.{parts_message};
 ghost use Rattle.codec_bench.specs.Bench.{IsSpelt, counts, ends_in, has_number};
 
-use snmp_wire::{Binding, Bindings, MessageRef, Parts, ValueRef, binding_size, decode, encode};
+use snmp_wire::{Binding, Bindings, MessageRef, Oid, Parts, ValueRef, binding_size, decode, encode};
 use std::alloc::Global;
 
 /// Whether the octets are a message.
@@ -36,10 +36,14 @@ pub extern "C" fn codec_bench_walk(datagram: &[u8], number: u32) -> bool
 }
 
 /// Whether some binding's name ends in the number, or its value is the Counter32 of the number.
-fn has_number(bindings: Bindings<'_>, number: u32) -> bool
+fn has_number(mut bindings: Bindings<'_>, number: u32) -> bool
     ensures { result ≡ has_number number bindings.entry }
 {
-    'bindings: for binding in bindings {
+    let mut binding = Binding {
+        name: Oid::new(),
+        value: ValueRef::Null,
+    };
+    'bindings: while bindings.read_next(&mut binding) {
         if ends_in(binding.name.as_slice(), number) || counts(&binding.value, number) {
             return true;
         }

@@ -69,6 +69,7 @@ impl Oid {
     }
 
     /// Appends a number, or answers `TooLong`, where there are 128 already, and leaves the identifier as it was.
+    #[inline]
     pub fn push(&mut self, number: u32) -> Result<(), OidError>
         ensures ok { OnOk result (self.new ≡ self.old ++ number ∷ []) }
         ensures variant { IsOk result ↔ (length self.old < 128) }
@@ -80,6 +81,14 @@ impl Oid {
         }
         self.numbers.push(number);
         Ok(())
+    }
+
+    /// Takes all numbers away.
+    #[inline]
+    pub fn clear(&mut self)
+        ensures { self.new ≡ [] }
+    {
+        self.numbers.clear();
     }
 
     /// The numbers, from the left.

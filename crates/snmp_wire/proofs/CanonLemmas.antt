@@ -1,5 +1,5 @@
 -- Numbers as octets, and how long an encoding is.
-use Rattle.std.proofs.Common.{true, false, ◌≡◌, ◌≢◌, ℕ, ◌+◌, ◌-◌, ◌*◌, ◌/◌, ◌%◌, ◌^◌, ◌<◌, ◌≤◌, ℤ, pos, negsuc, lit<, suc, zero, List, [], ◌∷◌, ◌++◌, length, take, drop, set, refl, sym, ap, subst, ◌∙◌, sub-one, pow-add, ⊎_elim, nat_lt, if◌then◌else◌, arith, append_assoc, length-append}
+use Rattle.std.proofs.Common.{true, false, ◌≡◌, ℕ, ◌+◌, ◌-◌, ◌*◌, ◌/◌, ◌%◌, ◌^◌, ◌<◌, ◌≤◌, ℤ, pos, negsuc, lit<, suc, zero, List, [], ◌∷◌, length, set, refl, sym, ap, subst, ◌∙◌, sub-one, pow-add, ⊎_elim, nat_lt, if◌then◌else◌, arith}
 use Rattle.std.proofs.Math.Nat.{add-mul-div_left, add-mul-mod_self_left, div-div-eq-div-mul, div-one, mul_assoc, mul-suc, one-le-pow, pow-suc, pow-zero}
 use lib.Signed.{lt_z}
 use mir.Val.{SFits}
@@ -7,7 +7,7 @@ use mir.Syntax.{w32}
 use Rattle.std.proofs.lemmas.Int.{to_z-of_z}
 use Rattle.std.proofs.lemmas.Bool.{cases_lt}
 use Rattle.std.proofs.lemmas.Bool.Decides.{nat_tests}
-use Rattle.snmp_wire.specs.Canon.{canon_length, canon_number, canon_subidentifier, subidentifier_size, digit_count, length_size, magnitude_of, number_size, octets, septets}
+use Rattle.snmp_wire.specs.Canon.{canon_length, canon_number, digit_count, length_size, magnitude_of, number_size, octets, septets}
 use Rattle.snmp_wire.specs.Writing.{Writes}
 use Rattle.snmp_wire.proofs.WritingLemmas.{writes_none, writes_octet}
 

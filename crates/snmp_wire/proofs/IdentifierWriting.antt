@@ -1,9 +1,9 @@
 -- Identifiers: subidentifiers, how long they are, and how they are written.
-use Rattle.std.proofs.Common.{◌≡◌, ℕ, ◌+◌, ◌-◌, ◌*◌, ◌/◌, ◌%◌, ◌^◌, ◌<◌, ◌≤◌, suc, zero, List, [], ◌∷◌, ◌++◌, length, take, drop, set, get_or, refl, sym, ap, subst, ◌∙◌, arith, append_assoc, length-append, take_all}
+use Rattle.std.proofs.Common.{◌≡◌, ℕ, ◌+◌, ◌-◌, ◌*◌, ◌/◌, ◌%◌, ◌^◌, ◌<◌, ◌≤◌, suc, List, [], ◌∷◌, ◌++◌, length, take, drop, set, get_or, refl, sym, ap, subst, ◌∙◌, arith, length-append, take_all}
 use Rattle.std.proofs.Math.Nat.{div-div-eq-div-mul, div-one, pow-suc}
 use Rattle.std.specs.List.{flat_map}
 use Rattle.snmp_oid.specs.Identifier.{IsWire}
-use Rattle.snmp_wire.specs.Canon.{canon_content, canon_subidentifier, digit_count, septets, subidentifier_size}
+use Rattle.snmp_wire.specs.Canon.{canon_content, canon_subidentifier, septets, subidentifier_size}
 use Rattle.snmp_wire.specs.Message.{object_id}
 use Rattle.snmp_wire.specs.Writing.{Writes}
 use Rattle.snmp_wire.proofs.CanonLemmas.{count_taken, digit_most, digit_some, length-septets, septets-suc}

@@ -1,5 +1,5 @@
 //! Variable bindings, one and a list of them.
-ghost use Rattle.std.specs.Prelude.{◌≡◌, ℕ, List, [], length, IsOk, Ok, ◌+◌, ◌^◌, ◌<◌, ◌≤◌, ◌↔◌, ◌++◌, drop, IfSome, IfNone, IsSome};
+ghost use Rattle.std.specs.Prelude.{◌≡◌, ℕ, List, [], ◌∷◌, true, false, length, IsOk, Ok, ◌+◌, ◌^◌, ◌<◌, ◌≤◌, ◌↔◌, ◌++◌, drop, IfSome, IfNone, IsSome};
 ghost use Rattle.snmp_wire.specs.Message.{var_bind, object_id};
 ghost use Rattle.snmp_wire.specs.Reading as reading;
 ghost use Rattle.snmp_wire.specs.Reading.{Gives, checked};
@@ -51,6 +51,26 @@ impl<'a> Bindings<'a> {
     {
         Bindings { rest: octets }
     }
+
+    /// Reads the next binding into one that is there, and answers whether there was one. It stays as it was where none is left.
+    ///
+    /// This is [`Iterator::next`] for whoever reads many: a binding has over a thousand octets, and here none of them is moved.
+    pub fn read_next(&mut self, into: &mut Binding<'a>) -> bool
+        ensures some { result ≡ true → self.old ≡ var_bind into.new ∷ self.new }
+        ensures none { result ≡ false → (self.old ≡ []) × (self.new ≡ []) × (into.new ≡ into.old) }
+    {
+        if self.rest.is_empty() {
+            return false;
+        }
+        let Ok((fields, rest)) = fields_at(self.rest) else {
+            unreachable!()
+        };
+        self.rest = rest;
+        into.name.clear();
+        push_identifier(&mut into.name, fields.name);
+        into.value = value_of(fields.tag, fields.content);
+        true
+    }
 }
 
 impl<'a> Clone for Bindings<'a> {
@@ -72,19 +92,15 @@ impl<'a> Iterator for Bindings<'a> {
     ghost remaining = { item_count (λ s. s) };
 
     fn next(&mut self) -> Option<Binding<'a>> {
-        if self.rest.is_empty() {
-            return None;
-        }
-        let Ok((fields, rest)) = fields_at(self.rest) else {
-            unreachable!()
+        let mut binding = Binding {
+            name: Oid::new(),
+            value: ValueRef::Null,
         };
-        self.rest = rest;
-        let mut name = Oid::new();
-        push_identifier(&mut name, fields.name);
-        Some(Binding {
-            name,
-            value: value_of(fields.tag, fields.content),
-        })
+        if self.read_next(&mut binding) {
+            Some(binding)
+        } else {
+            None
+        }
     }
 }
 

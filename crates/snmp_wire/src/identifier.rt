@@ -15,21 +15,25 @@ use snmp_oid::Oid;
 /// The largest subidentifier: that of 2 and the largest number.
 const LARGEST_SUBIDENTIFIER: u64 = 4294967375;
 
-/// How many subidentifiers there may be: one for the first two of 128 numbers, and one for each other.
-const MAX_SUBIDENTIFIERS: usize = 127;
-
 /// How many numbers may follow the first two.
 const MORE_NUMBERS: usize = 126;
 
 /// The subidentifier at the front, and what follows.
-#[tactic(auto, unfolding(crate::specs::Reading::subidentifier_at))]
+#[tactic(auto, unfolding(crate::specs::Reading::subidentifier_at, crate::specs::Reading::subidentifier_from))]
 #[inline]
 fn subidentifier_at(octets: &[u8]) -> Result<(u64, &[u8]), BerError>
     ensures { Gives (λ x. (x.0, x.1.now)) result (reading.subidentifier_at octets.now) }
 {
     match octets {
         [] | [0x80, ..] => Err(BerError::Content),
-        [_, ..] => digits_at(octets),
+        [octet, rest @ ..] => {
+            // Most have one octet.
+            if *octet < 0x80 {
+                Ok((u64::from(*octet), rest))
+            } else {
+                digits_at(octets)
+            }
+        }
     }
 }
 
@@ -64,34 +68,9 @@ fn number_at(octets: &[u8]) -> Result<(u32, &[u8]), BerError>
 }
 
 /// Checks that the content is an identifier.
+#[tactic(auto, unfolding(crate::specs::Reading::identifier_of))]
 #[inline]
 pub(crate) fn check_identifier(content: &[u8]) -> Result<(), BerError>
-    ensures { Gives (λ u. u) result (checked (reading.identifier_of content.now)) }
-{
-    // In most names each subidentifier has one octet, and to count them is enough.
-    if !is_plain(content) {
-        return check_subidentifiers(content);
-    }
-    if content.is_empty() {
-        return Err(BerError::Content);
-    }
-    if content.len() > MAX_SUBIDENTIFIERS {
-        return Err(BerError::Content);
-    }
-    Ok(())
-}
-
-/// Whether each octet is a subidentifier of its own.
-#[inline]
-fn is_plain(octets: &[u8]) -> bool
-    ensures { IsTrue result ↔ All (λ octet. octet < 128) octets.now }
-{
-    octets.iter().all(|octet| *octet < 0x80)
-}
-
-/// Checks that the content is an identifier, a subidentifier after the other.
-#[tactic(auto, unfolding(crate::specs::Reading::identifier_of))]
-fn check_subidentifiers(content: &[u8]) -> Result<(), BerError>
     ensures { Gives (λ u. u) result (checked (reading.identifier_of content.now)) }
 {
     let (_, rest) = subidentifier_at(content)?;
@@ -127,40 +106,9 @@ pub(crate) fn identifier_of(content: &[u8]) -> Oid
 }
 
 /// Appends to the empty identifier the one that the content is. To fill it in place saves moving its 520 octets.
+#[tactic(auto, unfolding(crate::specs::Reading::identifier_of))]
 #[inline]
 pub(crate) fn push_identifier(oid: &mut Oid, content: &[u8])
-    requires is_identifier { IsOk (reading.identifier_of content.now) }
-    requires empty { oid.old ≡ [] }
-    ensures { reading.identifier_of content.now ≡ Ok oid.new }
-{
-    if is_plain(content) {
-        push_plain(oid, content);
-    } else {
-        push_subidentifiers(oid, content);
-    }
-}
-
-/// Appends to the empty identifier the one whose content has one octet for each subidentifier.
-#[inline]
-fn push_plain(oid: &mut Oid, content: &[u8])
-    requires plain { All (λ octet. octet < 128) content.now }
-    requires is_identifier { IsOk (reading.identifier_of content.now) }
-    requires empty { oid.old ≡ [] }
-    ensures { reading.identifier_of content.now ≡ Ok oid.new }
-{
-    let [first, rest @ ..] = content else {
-        unreachable!()
-    };
-    push(oid, first_number(u64::from(*first)));
-    push(oid, second_number(u64::from(*first)));
-    'octets: for octet in rest {
-        push(oid, u32::from(*octet));
-    }
-}
-
-/// Appends to the empty identifier the one of this content.
-#[tactic(auto, unfolding(crate::specs::Reading::identifier_of))]
-fn push_subidentifiers(oid: &mut Oid, content: &[u8])
     requires is_identifier { IsOk (reading.identifier_of content.now) }
     requires empty { oid.old ≡ [] }
     ensures { reading.identifier_of content.now ≡ Ok oid.new }

@@ -1,5 +1,5 @@
 use Rattle.snmp_wire.proofs.IdentifierLaws.{subidentifier_small}
-use Rattle.snmp_wire.proofs.identifier.push_subidentifiers.Goals as goal
+use Rattle.snmp_wire.proofs.identifier.push_identifier.Goals as goal
 
 pub first_number-requires : goal.first_number-requires
 first_number-requires c = subidentifier_small c.args.content.now _ c.in-Ok.ensures
