@@ -9,7 +9,7 @@ ghost use Rattle.snmp_wire.specs.Writing.{Writes};
 
 use crate::identifier::{check_identifier, identifier_size, push_identifier, put_identifier};
 use crate::length::{SEQUENCE, element_at, header_size, inner_at, put_header};
-use crate::value::{check_value, put_value, value_of, value_size};
+use crate::value::{check_value, put_value, read_value, value_size};
 use crate::{BerError, ValueRef};
 use snmp_oid::Oid;
 use std::alloc::AllocError;
@@ -68,7 +68,7 @@ impl<'a> Bindings<'a> {
         self.rest = rest;
         into.name.clear();
         push_identifier(&mut into.name, fields.name);
-        into.value = value_of(fields.tag, fields.content);
+        read_value(fields.tag, fields.content, &mut into.value);
         true
     }
 }

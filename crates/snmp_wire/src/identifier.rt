@@ -1,5 +1,5 @@
 //! The content of an OBJECT IDENTIFIER (X.690, section 8.19).
-ghost use Rattle.std.specs.Prelude.{◌≡◌, ℕ, ◌+◌, ◌-◌, ◌<◌, ◌≤◌, ◌↔◌, List, [], ◌∷◌, ◌++◌, length, All, IsTrue, IsOk, Ok, ◌*◌, ◌^◌};
+ghost use Rattle.std.specs.Prelude.{◌≡◌, ℕ, ◌+◌, ◌-◌, ◌<◌, ◌≤◌, ◌↔◌, List, [], ◌∷◌, ◌++◌, length, IsOk, IfOk, IfErr, IfSome, Ok, Err, ◌*◌, ◌^◌};
 ghost use Rattle.snmp_wire.specs.Reading as reading;
 ghost use Rattle.snmp_wire.specs.Reading.{Gives, checked};
 ghost use Rattle.std.specs.List.{flat_map};
@@ -25,11 +25,13 @@ fn subidentifier_at(octets: &[u8]) -> Result<(u64, &[u8]), BerError>
     ensures { Gives (λ x. (x.0, x.1.now)) result (reading.subidentifier_at octets.now) }
 {
     match octets {
-        [] | [0x80, ..] => Err(BerError::Content),
+        [] => Err(BerError::Content),
         [octet, rest @ ..] => {
             // Most have one octet.
             if *octet < 0x80 {
                 Ok((u64::from(*octet), rest))
+            } else if *octet == 0x80 {
+                Err(BerError::Content)
             } else {
                 digits_at(octets)
             }
@@ -84,14 +86,47 @@ fn check_numbers(octets: &[u8]) -> Result<(), BerError>
     let mut rest = octets;
     let mut room = MORE_NUMBERS;
     'numbers: while !rest.is_empty() {
-        if room == 0 {
-            return Err(BerError::Content);
-        }
-        let (_, after) = number_at(rest)?;
+        let (count, after) = some_numbers_at(room, rest)?;
         rest = after;
-        room -= 1;
+        room -= count;
     }
     Ok(())
+}
+
+/// How many numbers stand at the front, one or four of at most `room`, and what follows them.
+#[inline(always)]
+fn some_numbers_at(room: usize, octets: &[u8]) -> Result<(usize, &[u8]), BerError>
+    requires { 0 < length octets.now }
+    ensures ok { IfOk result (λ x. (1 ≤ x.0) × (x.0 ≤ room) × (checked (reading.numbers_of (room - x.0) x.1.now) ≡ checked (reading.numbers_of room octets.now))) }
+    ensures err { IfErr result (λ e. checked (reading.numbers_of room octets.now) ≡ Err e) }
+{
+    if room == 0 {
+        return Err(BerError::Content);
+    }
+    if room >= 4 {
+        if let Some((_, rest)) = four_at(octets) {
+            return Ok((4, rest));
+        }
+    }
+    let (_, rest) = number_at(octets)?;
+    Ok((1, rest))
+}
+
+/// The four octets at the front, where each is a number of its own, as in most names, and what follows them.
+#[inline(always)]
+fn four_at(octets: &[u8]) -> Option<(&[u8], &[u8])>
+    ensures { IfSome result (λ x. reading.IsPlainFront x.0.now x.1.now octets.now) }
+{
+    match octets {
+        [a, b, c, d, ..] => {
+            if *a | *b | *c | *d < 0x80 {
+                Some(octets.split_at(4))
+            } else {
+                None
+            }
+        }
+        _ => None,
+    }
 }
 
 /// The identifier that the content is.
@@ -156,11 +191,34 @@ fn push_numbers(oid: &mut Oid, octets: &[u8])
 {
     let mut rest = octets;
     'numbers: while !rest.is_empty() {
-        let Ok((number, after)) = number_at(rest) else {
-            unreachable!()
-        };
-        push(oid, number);
-        rest = after;
+        match four_at(rest) {
+            Some((octets, after)) => {
+                push_four(oid, octets);
+                rest = after;
+            }
+            None => {
+                let Ok((number, after)) = number_at(rest) else {
+                    unreachable!()
+                };
+                push(oid, number);
+                rest = after;
+            }
+        }
+    }
+}
+
+/// Appends four numbers, each of one octet, to an identifier that has room for them.
+#[inline]
+fn push_four(oid: &mut Oid, octets: &[u8])
+    requires four { length octets.now ≡ 4 }
+    requires room { length oid.old + length octets.now ≤ 128 }
+    ensures { oid.new ≡ oid.old ++ octets.now }
+{
+    let [a, b, c, d] = octets else { unreachable!() };
+    let numbers = [u32::from(*a), u32::from(*b), u32::from(*c), u32::from(*d)];
+    match oid.extend_from_slice(&numbers) {
+        Ok(()) => {}
+        Err(_) => unreachable!(),
     }
 }
 

@@ -19,8 +19,8 @@ push_identifier-requires-clause-is_identifier c =
     let s = stands c.self.inside.rest.now (fields c.in-Ok.fields) c.in-Ok.rest.now c.self.invariant (some_left _ _ c.is_empty.ensures c.if-is_empty.false) c.in-Ok.ensures in
     (parts_of (fields c.in-Ok.fields) s.is_binding).name
 
-pub value_of-into-requires : goal.value_of-into-requires
-value_of-into-requires c =
+pub read_value-requires : goal.read_value-requires
+read_value-requires c =
     let s = stands c.self.inside.rest.now (fields c.in-Ok.fields) c.in-Ok.rest.now c.self.invariant (some_left _ _ c.is_empty.ensures c.if-is_empty.false) c.in-Ok.ensures in
     (parts_of (fields c.in-Ok.fields) s.is_binding).value
 
@@ -31,5 +31,5 @@ invariant_of-self c =
 pub returns-clause-some : goal.returns-clause-some
 returns-clause-some c = λ _.
     let s = stands c.self.inside.rest.now (fields c.in-Ok.fields) c.in-Ok.rest.now c.self.invariant (some_left _ _ c.is_empty.ensures c.if-is_empty.false) c.in-Ok.ensures in
-    let made : VarBind = record { name = c.push_identifier.new.oid; value = datum c.value_of-into.result } in
-    sym c.self.view_is ∙ s.all made (binding_made (fields c.in-Ok.fields) c.push_identifier.new.oid (datum c.value_of-into.result) c.push_identifier.ensures c.value_of-into.ensures)
+    let made : VarBind = record { name = c.push_identifier.new.oid; value = datum c.read_value.new.into } in
+    sym c.self.view_is ∙ s.all made (binding_made (fields c.in-Ok.fields) c.push_identifier.new.oid (datum c.read_value.new.into) c.push_identifier.ensures c.read_value.ensures)
