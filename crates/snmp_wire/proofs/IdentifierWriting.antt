@@ -3,10 +3,10 @@ use Rattle.std.proofs.Common.{◌≡◌, ℕ, ◌+◌, ◌-◌, ◌*◌, ◌/◌
 use Rattle.std.proofs.Math.Nat.{div-div-eq-div-mul, div-one, pow-suc}
 use Rattle.std.specs.List.{flat_map}
 use Rattle.snmp_oid.specs.Identifier.{IsWire}
-use Rattle.snmp_wire.specs.Canon.{canon_content, canon_subidentifier, septets, subidentifier_size}
+use Rattle.snmp_wire.specs.Canon.{digit_count, canon_content, canon_subidentifier, septets, subidentifier_size}
 use Rattle.snmp_wire.specs.Message.{object_id}
 use Rattle.snmp_wire.specs.Writing.{Writes}
-use Rattle.snmp_wire.proofs.CanonLemmas.{count_taken, digit_most, digit_some, length-septets, septets-suc}
+use Rattle.snmp_wire.proofs.CanonLemmas.{count_left, count_taken, digit_most, digit_some, length-septets, septets-suc}
 use Rattle.snmp_wire.proofs.ListWriting.{length-flat_map_drop}
 use Rattle.snmp_wire.proofs.WritingLemmas.{writes_none, writes_octet, writes_same, writes_then}
 
@@ -62,6 +62,18 @@ length-canon_subidentifier n =
 -- a subidentifier that goes on before its last octet
 pub writes_subidentifier : {old mid new : List ℕ} {start middle end : ℕ} (n count : ℕ) → count ≡ subidentifier_size n → Writes old middle end ((n % 128) ∷ []) mid → Writes mid start middle (septets (count - 1) (n / 128)) new → Writes old start end (canon_subidentifier n) new
 writes_subidentifier n count e w v = writes_same (writes_then w v) (ap (λ k. septets (k - 1) (n / 128) ++ (n % 128) ∷ []) e ∙ sym (subidentifier_parts n))
+
+-- a subidentifier of two octets
+pub subidentifier_two : (n : ℕ) → 128 ≤ n → n < 16384 → 2 ≡ subidentifier_size n
+unfolding subidentifier_size
+subidentifier_two n more below =
+    let first = count_left 128 128 3 n more in
+    let second : digit_count 128 (128 * 128) 3 n ≡ 1 = count_taken 128 (128 * 128) 2 n below in
+    sym (first ∙ ap (λ k. 1 + k) second)
+
+pub one_septet : (n : ℕ) → n < 128 → (128 + n) ∷ [] ≡ septets 1 n
+unfolding septets
+one_septet n below = let same : n / 1 % 128 ≡ n = omega (arith, below) in sym (ap (λ m. (128 + m) ∷ []) same)
 
 -- what an identifier's content is, by its first two numbers and the others
 pub content_parts : (name : List ℕ) → IsWire name → canon_content (object_id name) ≡ canon_subidentifier (40 * get_or name 0 0 + get_or name 1 0) ++ flat_map canon_subidentifier (take (length name - 2) (drop 2 name))

@@ -25,17 +25,13 @@ fn subidentifier_at(octets: &[u8]) -> Result<(u64, &[u8]), BerError>
     ensures { Gives (λ x. (x.0, x.1.now)) result (reading.subidentifier_at octets.now) }
 {
     match octets {
-        [] => Err(BerError::Content),
-        [octet, rest @ ..] => {
-            // Most have one octet.
-            if *octet < 0x80 {
-                Ok((u64::from(*octet), rest))
-            } else if *octet == 0x80 {
-                Err(BerError::Content)
-            } else {
-                digits_at(octets)
-            }
+        // Most have one octet, and most others two.
+        [octet, rest @ ..] if *octet < 0x80 => Ok((u64::from(*octet), rest)),
+        [] | [0x80, ..] => Err(BerError::Content),
+        [high, low, rest @ ..] if *low < 0x80 => {
+            Ok((u64::from(*high % 128) * 128 + u64::from(*low), rest))
         }
+        _ => digits_at(octets),
     }
 }
 
@@ -328,6 +324,9 @@ fn put_subidentifier(out: &mut [u8], end: usize, number: u64) -> usize
     let last = put_octet(out, end, (number % 128) as u8);
     if number < 128 {
         return last;
+    }
+    if number < 16384 {
+        return put_octet(out, last, 128 + (number / 128) as u8);
     }
     put_septets(out, last, septets_size(number) - 1, number / 128)
 }
