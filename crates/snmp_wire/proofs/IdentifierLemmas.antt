@@ -3,7 +3,7 @@ use Rattle.std.proofs.Common.{◌≡◌, ℕ, zero, suc, ◌+◌, ◌-◌, ◌*�
 use Rattle.std.proofs.lemmas.Bool.{lt-ltb, le-ltb}
 use Rattle.std.proofs.lemmas.Grind.{common_steps}
 use Rattle.std.proofs.lemmas.List.Elements.{All-head, All-tail, All-cons}
-use Rattle.std.proofs.lemmas.Nat.{le_or_l, le_or_r}
+use Rattle.snmp_wire.proofs.CanonLemmas.{below_128}
 use Rattle.std.specs.Int.Bits.{bit_or}
 use Rattle.std.specs.Result.{result_unwrap_or}
 use Rattle.std.proofs.lemmas.List.{at_drop_more, at_drop_all, length_push, append-nil, nil_from_length}
@@ -161,16 +161,9 @@ plain_front (a ∷ []) long low = absurd (omega arith)
 plain_front (a ∷ b ∷ []) long low = absurd (omega arith)
 plain_front (a ∷ b ∷ c ∷ []) long low = absurd (omega arith)
 plain_front (a ∷ b ∷ c ∷ d ∷ rest) long low =
-    let ab = bit_or a b in
-    let abc = bit_or ab c in
-    let d_low : d < 128 = omega (arith, le_or_r abc d, low) in
-    let abc_low : abc < 128 = omega (arith, le_or_l abc d, low) in
-    let c_low : c < 128 = omega (arith, le_or_r ab c, abc_low) in
-    let ab_low : ab < 128 = omega (arith, le_or_l ab c, abc_low) in
-    let b_low : b < 128 = omega (arith, le_or_r a b, ab_low) in
-    let a_low : a < 128 = omega (arith, le_or_l a b, ab_low) in
+    let small = below_128 a b c d low in
     let none : All is_plain [] = λ k e h. absurd (omega (arith, h)) in
-    (refl, refl, All-cons is_plain a (b ∷ c ∷ d ∷ []) a_low (All-cons is_plain b (c ∷ d ∷ []) b_low (All-cons is_plain c (d ∷ []) c_low (All-cons is_plain d [] d_low none))))
+    (refl, refl, All-cons is_plain a (b ∷ c ∷ d ∷ []) small.0 (All-cons is_plain b (c ∷ d ∷ []) small.1 (All-cons is_plain c (d ∷ []) small.2 (All-cons is_plain d [] small.3 none))))
 
 pub check_plain : (numbers rest octets : List ℕ) (room : ℕ) → IsPlainFront numbers rest octets → 4 ≤ room → checked (numbers_of (room - 4) rest) ≡ checked (numbers_of room octets)
 check_plain numbers rest octets room front fits =

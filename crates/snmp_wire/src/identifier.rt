@@ -1,5 +1,5 @@
 //! The content of an OBJECT IDENTIFIER (X.690, section 8.19).
-ghost use Rattle.std.specs.Prelude.{◌≡◌, ℕ, ◌+◌, ◌-◌, ◌<◌, ◌≤◌, ◌↔◌, List, [], ◌∷◌, ◌++◌, length, IsOk, IfOk, IfErr, IfSome, Ok, Err, ◌*◌, ◌^◌};
+ghost use Rattle.std.specs.Prelude.{◌≡◌, ℕ, ◌+◌, ◌-◌, ◌<◌, ◌≤◌, ◌↔◌, List, [], ◌∷◌, ◌++◌, length, drop, IsOk, IfOk, IfErr, IfSome, Ok, Err, ◌*◌, ◌^◌};
 ghost use Rattle.snmp_wire.specs.Reading as reading;
 ghost use Rattle.snmp_wire.specs.Reading.{Gives, checked};
 ghost use Rattle.std.specs.List.{flat_map};
@@ -9,7 +9,7 @@ ghost use Rattle.snmp_wire.specs.Message.{object_id};
 ghost use Rattle.snmp_wire.specs.Writing.{Writes};
 
 use crate::BerError;
-use crate::writing::put_octet;
+use crate::writing::{put_octet, put_text};
 use snmp_oid::Oid;
 
 /// The largest subidentifier: that of 2 and the largest number.
@@ -271,10 +271,40 @@ fn numbers_size(numbers: &[u32]) -> u64
     ensures small { result ≤ 5 * length numbers.now }
 {
     let mut size = 0;
-    'numbers: for number in numbers {
-        size += septets_size(u64::from(*number)) as u64;
+    let mut left = numbers.len();
+    'numbers: while left > 0 {
+        match four_before(numbers, left) {
+            Some(_) => {
+                left -= 4;
+                size += 4;
+            }
+            None => {
+                left -= 1;
+                size += septets_size(u64::from(numbers[left])) as u64;
+            }
+        }
     }
     size
+}
+
+/// The subidentifiers of the four numbers before the place `left`, where each has one octet, as in most names.
+#[inline(always)]
+fn four_before(numbers: &[u32], left: usize) -> Option<(u8, u8, u8, u8)>
+    requires { left ≤ length numbers.now }
+    ensures { IfSome result (λ x. (4 ≤ left) × (flat_map canon_subidentifier (drop (left - 4) numbers.now) ≡ (x.0 ∷ x.1 ∷ x.2 ∷ x.3 ∷ []) ++ flat_map canon_subidentifier (drop left numbers.now))) }
+{
+    if left < 4 {
+        return None;
+    }
+    let a = numbers[left - 4];
+    let b = numbers[left - 3];
+    let c = numbers[left - 2];
+    let d = numbers[left - 1];
+    if a | b | c | d < 128 {
+        Some((a as u8, b as u8, c as u8, d as u8))
+    } else {
+        None
+    }
 }
 
 /// The subidentifier of the first two numbers (X.690, 8.19.4).
@@ -308,8 +338,18 @@ fn put_numbers(out: &mut [u8], end: usize, numbers: &[u32]) -> usize
     ensures { Writes out.old result end (flat_map canon_subidentifier numbers.now) out.new }
 {
     let mut start = end;
-    'numbers: for i in (0..numbers.len()).rev() {
-        start = put_subidentifier(out, start, u64::from(numbers[i]));
+    let mut left = numbers.len();
+    'numbers: while left > 0 {
+        match four_before(numbers, left) {
+            Some((a, b, c, d)) => {
+                left -= 4;
+                start = put_text(out, start, &[a, b, c, d]);
+            }
+            None => {
+                left -= 1;
+                start = put_subidentifier(out, start, u64::from(numbers[left]));
+            }
+        }
     }
     start
 }
