@@ -69,6 +69,7 @@ impl Oid {
     }
 
     /// Appends a number, or answers `TooLong`, where there are 128 already, and leaves the identifier as it was.
+    #[inline]
     pub fn push(&mut self, number: u32) -> Result<(), OidError>
         ensures ok { OnOk result (self.new ≡ self.old ++ number ∷ []) }
         ensures variant { IsOk result ↔ (length self.old < 128) }
@@ -80,6 +81,28 @@ impl Oid {
         }
         self.numbers.push(number);
         Ok(())
+    }
+
+    /// Appends numbers, or answers `TooLong`, where there would be more than 128, and leaves the identifier as it was.
+    #[inline]
+    pub fn extend_from_slice(&mut self, numbers: &[u32]) -> Result<(), OidError>
+        ensures ok { OnOk result (self.new ≡ self.old ++ numbers.now) }
+        ensures variant { IsOk result ↔ (length self.old + length numbers.now ≤ 128) }
+        ensures err { IfErr result (λ e. e ≡ OidError.TooLong) }
+        ensures unchanged { OnErr result (self.new ≡ self.old) }
+    {
+        match self.numbers.try_extend_from_slice(numbers) {
+            Ok(()) => Ok(()),
+            Err(_) => Err(OidError::TooLong),
+        }
+    }
+
+    /// Takes all numbers away.
+    #[inline]
+    pub fn clear(&mut self)
+        ensures { self.new ≡ [] }
+    {
+        self.numbers.clear();
     }
 
     /// The numbers, from the left.

@@ -1,5 +1,5 @@
 -- Numbers as octets, and how long an encoding is.
-use Rattle.std.proofs.Common.{true, false, ◌≡◌, ◌≢◌, ℕ, ◌+◌, ◌-◌, ◌*◌, ◌/◌, ◌%◌, ◌^◌, ◌<◌, ◌≤◌, ℤ, pos, negsuc, lit<, suc, zero, List, [], ◌∷◌, ◌++◌, length, take, drop, set, refl, sym, ap, subst, ◌∙◌, sub-one, pow-add, ⊎_elim, nat_lt, if◌then◌else◌, arith, append_assoc, length-append}
+use Rattle.std.proofs.Common.{true, false, ◌≡◌, ℕ, ◌+◌, ◌-◌, ◌*◌, ◌/◌, ◌%◌, ◌^◌, ◌<◌, ◌≤◌, ℤ, pos, negsuc, lit<, suc, zero, List, [], ◌∷◌, length, set, refl, sym, ap, subst, ◌∙◌, sub-one, pow-add, ⊎_elim, nat_lt, if◌then◌else◌, arith}
 use Rattle.std.proofs.Math.Nat.{add-mul-div_left, add-mul-mod_self_left, div-div-eq-div-mul, div-one, mul_assoc, mul-suc, one-le-pow, pow-suc, pow-zero}
 use lib.Signed.{lt_z}
 use mir.Val.{SFits}
@@ -7,7 +7,9 @@ use mir.Syntax.{w32}
 use Rattle.std.proofs.lemmas.Int.{to_z-of_z}
 use Rattle.std.proofs.lemmas.Bool.{cases_lt}
 use Rattle.std.proofs.lemmas.Bool.Decides.{nat_tests}
-use Rattle.snmp_wire.specs.Canon.{canon_length, canon_number, canon_subidentifier, subidentifier_size, digit_count, length_size, magnitude_of, number_size, octets, septets}
+use Rattle.std.proofs.lemmas.Nat.{le_or_l, le_or_r}
+use Rattle.std.specs.Int.Bits.{bit_or}
+use Rattle.snmp_wire.specs.Canon.{canon_length, canon_number, digit_count, length_size, magnitude_of, number_size, octets, septets}
 use Rattle.snmp_wire.specs.Writing.{Writes}
 use Rattle.snmp_wire.proofs.WritingLemmas.{writes_none, writes_octet}
 
@@ -226,3 +228,12 @@ length-from_zero n = length-canon_number (pos n)
 
 -- for the content of a value
 pub ruleset contents = (length-canon_number, length-from_zero, to_z-of_z, writes_none)
+
+-- each of four numbers is below 128 where the four have no higher bit
+pub below_128 : (a b c d : ℕ) → bit_or (bit_or (bit_or a b) c) d < 128 → (a < 128) × (b < 128) × (c < 128) × (d < 128)
+below_128 a b c d low =
+    let ab = bit_or a b in
+    let abc = bit_or ab c in
+    let abc_low : abc < 128 = omega (arith, le_or_l abc d, low) in
+    let ab_low : ab < 128 = omega (arith, le_or_l ab c, abc_low) in
+    (omega (arith, le_or_l a b, ab_low), omega (arith, le_or_r a b, ab_low), omega (arith, le_or_r ab c, abc_low), omega (arith, le_or_r abc d, low))

@@ -1,15 +1,15 @@
 -- Octets that spell a message have no fault.
-use Rattle.std.proofs.Common.{◌≡◌, ◌≢◌, ℕ, ℤ, suc, ◌+◌, ◌<◌, ◌≤◌, ◌⊎◌, Option, Some, None, List, [], ◌∷◌, ◌++◌, length, Result, Ok, Err, refl, sym, ap, subst, ◌∙◌, append_assoc, arith, inl, inr}
+use Rattle.std.proofs.Common.{◌≡◌, ◌≢◌, ℕ, ℤ, ◌+◌, Some, None, List, [], ◌∷◌, ◌++◌, length, Ok, refl, sym, ap, subst, ◌∙◌, append_assoc, arith, inl, inr}
 use Rattle.std.proofs.lemmas.List.{append-nil}
 use Rattle.snmp_wire.specs.declared.error.BerError.{BerError}
 use Rattle.snmp_wire.specs.declared.error.BerError.TheVariants as error
 use Rattle.snmp_wire.specs.Number.{lenient}
 use Rattle.snmp_wire.specs.Length.{IsElement}
 use Rattle.snmp_wire.specs.Message.{Datum, integer_value, octet_string, object_id, VarBind, Message}
-use Rattle.snmp_wire.specs.Spelling.{value_tag, IsContent, SpellsValue, SpellsBinding, SpellsBindings, kind_tag, SpellsPdu, Spells}
+use Rattle.snmp_wire.specs.Spelling.{value_tag, IsContent, SpellsValue, SpellsBindings, kind_tag, SpellsPdu, Spells}
 use Rattle.snmp_wire.specs.Reading.{element_at}
-use Rattle.snmp_wire.specs.Fault.{BeginsWith, EndsEarly, HasForbiddenLength, Place, at_message, at_version, at_community, at_pdu, at_id, at_a, at_b, at_list, at_binding, at_name, at_value, first_inside, next_behind, Allows, Calls, Stands, starts, inside, behind, HasBadLength, HasBadTag, HasBadContent, HasLeftOver, HasTrailing, IsFault}
-use Rattle.snmp_wire.proofs.ReadingLemmas.{done, ok_is}
+use Rattle.snmp_wire.specs.Fault.{BeginsWith, EndsEarly, HasForbiddenLength, Place, at_message, at_version, at_community, at_pdu, at_id, at_a, at_b, at_list, at_binding, at_name, at_value, first_inside, next_behind, Allows, Calls, Stands, starts, inside, behind, IsFault}
+use Rattle.snmp_wire.proofs.ReadingLemmas.{ok_is}
 use Rattle.snmp_wire.proofs.LengthLemmas.{element_again}
 
 -- an element stands here as the place wants it, and the elements inside it and behind it do

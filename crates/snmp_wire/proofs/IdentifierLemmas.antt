@@ -1,11 +1,15 @@
 -- Reading an identifier's content, a subidentifier or a number at a time.
-use Rattle.std.proofs.Common.{◌≡◌, ℕ, zero, suc, ◌+◌, ◌-◌, ◌*◌, ◌%◌, ◌<◌, ◌≤◌, cond, ltb, List, [], ◌∷◌, ◌++◌, length, get_or, drop, Result, Ok, Err, IsOk, refl, sym, ap, ◌∙◌, append_assoc, arith}
+use Rattle.std.proofs.Common.{◌≡◌, ℕ, zero, suc, ◌+◌, ◌-◌, ◌*◌, ◌%◌, ◌<◌, ◌≤◌, cond, ltb, List, [], ◌∷◌, ◌++◌, length, get_or, take, drop, All, Result, Ok, Err, IsOk, refl, sym, ap, ◌∙◌, append_assoc, arith}
 use Rattle.std.proofs.lemmas.Bool.{lt-ltb, le-ltb}
+use Rattle.std.proofs.lemmas.Grind.{common_steps}
+use Rattle.std.proofs.lemmas.List.Elements.{All-head, All-tail, All-cons}
+use Rattle.snmp_wire.proofs.CanonLemmas.{below_128}
+use Rattle.std.specs.Int.Bits.{bit_or}
 use Rattle.std.specs.Result.{result_unwrap_or}
 use Rattle.std.proofs.lemmas.List.{at_drop_more, at_drop_all, length_push, append-nil, nil_from_length}
 use Rattle.snmp_wire.specs.declared.error.BerError.{BerError}
 use Rattle.snmp_wire.specs.declared.error.BerError.TheVariants as error
-use Rattle.snmp_wire.specs.Reading.{◌>>=◌, checked, largest_subidentifier, subidentifier_from, number_at, numbers_of, numbers_in}
+use Rattle.snmp_wire.specs.Reading.{◌>>=◌, checked, largest_subidentifier, subidentifier_from, subidentifier_at, number_at, numbers_of, numbers_in, IsPlainFront}
 use Rattle.snmp_wire.proofs.ReadingLemmas.{done, failed, ok_is, checked_err}
 
 -- ---- the loop over the octets of a subidentifier
@@ -113,3 +117,63 @@ pub start : (front octets : List ℕ) → length front ≡ 2 → IsOk (numbers_o
 start front octets two h =
     let room : 128 - length front ≡ 126 = omega arith in
     rw room (kept (numbers_of 126 octets) front h)
+
+-- ---- numbers of one octet each
+
+pub plain_number : (n : ℕ) (rest : List ℕ) → n < 128 → number_at (n ∷ rest) ≡ Ok (n, rest)
+unfolding number_at subidentifier_at subidentifier_from
+plain_number n rest lt =
+    let same : n % 128 ≡ n = omega (arith, lt) in
+    grind (arith, common_steps)
+
+abbrev is_plain : ℕ → Type 0
+is_plain n = n < 128
+
+pub check_skips : (numbers rest : List ℕ) (room : ℕ) → All (λ n. n < 128) numbers → length numbers ≤ room → checked (numbers_of (room - length numbers) rest) ≡ checked (numbers_of room (numbers ++ rest))
+check_skips [] rest room plain fits =
+    let none : room - length {A = ℕ} [] ≡ room = omega arith in
+    rw none refl
+check_skips (n ∷ ns) rest room plain fits =
+    let one = check_goes_on room (n ∷ (ns ++ rest)) n (ns ++ rest) _ (omega arith) (omega arith) (plain_number n (ns ++ rest) (All-head is_plain n ns plain)) refl in
+    let less : room - length (n ∷ ns) ≡ room - 1 - length ns = omega arith in
+    rw less (check_skips ns rest (room - 1) (All-tail is_plain n ns plain) (omega arith) ∙ one)
+
+pub push_fits : (front numbers rest whole : List ℕ) → length front ≤ 128 → All (λ n. n < 128) numbers → with_front front (numbers_of (128 - length front) (numbers ++ rest)) ≡ Ok whole → length front + length numbers ≤ 128
+push_fits front [] rest whole short plain so_far = omega arith
+push_fits front (n ∷ ns) rest whole short plain so_far =
+    let room = push_has_room front (n ∷ (ns ++ rest)) whole (128 - length front) (omega arith) so_far in
+    let more = push_goes_on front (n ∷ (ns ++ rest)) whole n (ns ++ rest) (omega arith) (plain_number n (ns ++ rest) (All-head is_plain n ns plain)) so_far in
+    let all = push_fits (front ++ n ∷ []) ns rest whole (omega (arith, length_push front n)) (All-tail is_plain n ns plain) more in
+    omega (arith, length_push front n)
+
+pub push_skips : (front numbers rest whole : List ℕ) → All (λ n. n < 128) numbers → with_front front (numbers_of (128 - length front) (numbers ++ rest)) ≡ Ok whole
+    → with_front (front ++ numbers) (numbers_of (128 - length (front ++ numbers)) rest) ≡ Ok whole
+push_skips front [] rest whole plain so_far = rw (append-nil front) so_far
+push_skips front (n ∷ ns) rest whole plain so_far =
+    let more = push_goes_on front (n ∷ (ns ++ rest)) whole n (ns ++ rest) (omega arith) (plain_number n (ns ++ rest) (All-head is_plain n ns plain)) so_far in
+    let all = push_skips (front ++ n ∷ []) ns rest whole (All-tail is_plain n ns plain) more in
+    let same : (front ++ n ∷ []) ++ ns ≡ front ++ (n ∷ ns) = append_assoc front (n ∷ []) ns in
+    rw same at all
+
+pub plain_front : (octets : List ℕ) → 4 ≤ length octets → bit_or (bit_or (bit_or (get_or octets 0 0) (get_or octets 1 0)) (get_or octets 2 0)) (get_or octets 3 0) < 128 → IsPlainFront (take 4 octets) (drop 4 octets) octets
+plain_front [] long low = absurd (omega arith)
+plain_front (a ∷ []) long low = absurd (omega arith)
+plain_front (a ∷ b ∷ []) long low = absurd (omega arith)
+plain_front (a ∷ b ∷ c ∷ []) long low = absurd (omega arith)
+plain_front (a ∷ b ∷ c ∷ d ∷ rest) long low =
+    let small = below_128 a b c d low in
+    let none : All is_plain [] = λ k e h. absurd (omega (arith, h)) in
+    (refl, refl, All-cons is_plain a (b ∷ c ∷ d ∷ []) small.0 (All-cons is_plain b (c ∷ d ∷ []) small.1 (All-cons is_plain c (d ∷ []) small.2 (All-cons is_plain d [] small.3 none))))
+
+pub check_plain : (numbers rest octets : List ℕ) (room : ℕ) → IsPlainFront numbers rest octets → 4 ≤ room → checked (numbers_of (room - 4) rest) ≡ checked (numbers_of room octets)
+check_plain numbers rest octets room front fits =
+    let skipped = check_skips numbers rest room front.2 (omega (arith, front.1)) in
+    rw front.0 (rw front.1 at skipped)
+
+pub plain_fits : (front numbers rest octets whole : List ℕ) → 0 < length octets → IsPlainFront numbers rest octets → with_front front (numbers_of (128 - length front) octets) ≡ Ok whole → length front + length numbers ≤ 128
+plain_fits front numbers rest octets whole some plain so_far =
+    let room = push_has_room front octets whole (128 - length front) some so_far in
+    push_fits front numbers rest whole (omega arith) plain.2 (rw plain.0 at so_far)
+
+pub push_plain : (front numbers rest octets whole : List ℕ) → IsPlainFront numbers rest octets → with_front front (numbers_of (128 - length front) octets) ≡ Ok whole → with_front (front ++ numbers) (numbers_of (128 - length (front ++ numbers)) rest) ≡ Ok whole
+push_plain front numbers rest octets whole plain so_far = push_skips front numbers rest whole plain.2 (rw plain.0 at so_far)

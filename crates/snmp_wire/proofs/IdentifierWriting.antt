@@ -1,13 +1,15 @@
 -- Identifiers: subidentifiers, how long they are, and how they are written.
-use Rattle.std.proofs.Common.{◌≡◌, ℕ, ◌+◌, ◌-◌, ◌*◌, ◌/◌, ◌%◌, ◌^◌, ◌<◌, ◌≤◌, suc, zero, List, [], ◌∷◌, ◌++◌, length, take, drop, set, get_or, refl, sym, ap, subst, ◌∙◌, arith, append_assoc, length-append, take_all}
+use Rattle.std.proofs.Common.{◌≡◌, ℕ, ◌+◌, ◌-◌, ◌*◌, ◌/◌, ◌%◌, ◌^◌, ◌<◌, ◌≤◌, suc, List, [], ◌∷◌, ◌++◌, length, take, drop, set, get_or, refl, sym, ap, subst, ◌∙◌, arith, length-append, take_all}
 use Rattle.std.proofs.Math.Nat.{div-div-eq-div-mul, div-one, pow-suc}
 use Rattle.std.specs.List.{flat_map}
 use Rattle.snmp_oid.specs.Identifier.{IsWire}
-use Rattle.snmp_wire.specs.Canon.{canon_content, canon_subidentifier, digit_count, septets, subidentifier_size}
+use Rattle.snmp_wire.specs.Canon.{digit_count, canon_content, canon_subidentifier, septets, subidentifier_size}
 use Rattle.snmp_wire.specs.Message.{object_id}
 use Rattle.snmp_wire.specs.Writing.{Writes}
-use Rattle.snmp_wire.proofs.CanonLemmas.{count_taken, digit_most, digit_some, length-septets, septets-suc}
-use Rattle.snmp_wire.proofs.ListWriting.{length-flat_map_drop}
+use Rattle.snmp_wire.proofs.CanonLemmas.{count_left, count_taken, digit_most, digit_some, length-septets, septets-suc}
+use Rattle.snmp_wire.proofs.ListWriting.{flat_map-drop, flat_map_rest, length-flat_map_drop}
+use Rattle.std.specs.Int.Bits.{bit_or}
+use Rattle.snmp_wire.proofs.CanonLemmas.{below_128}
 use Rattle.snmp_wire.proofs.WritingLemmas.{writes_none, writes_octet, writes_same, writes_then}
 
 -- one digit to the base 128 before those that are written
@@ -63,6 +65,18 @@ length-canon_subidentifier n =
 pub writes_subidentifier : {old mid new : List ℕ} {start middle end : ℕ} (n count : ℕ) → count ≡ subidentifier_size n → Writes old middle end ((n % 128) ∷ []) mid → Writes mid start middle (septets (count - 1) (n / 128)) new → Writes old start end (canon_subidentifier n) new
 writes_subidentifier n count e w v = writes_same (writes_then w v) (ap (λ k. septets (k - 1) (n / 128) ++ (n % 128) ∷ []) e ∙ sym (subidentifier_parts n))
 
+-- a subidentifier of two octets
+pub subidentifier_two : (n : ℕ) → 128 ≤ n → n < 16384 → 2 ≡ subidentifier_size n
+unfolding subidentifier_size
+subidentifier_two n more below =
+    let first = count_left 128 128 3 n more in
+    let second : digit_count 128 (128 * 128) 3 n ≡ 1 = count_taken 128 (128 * 128) 2 n below in
+    sym (first ∙ ap (λ k. 1 + k) second)
+
+pub one_septet : (n : ℕ) → n < 128 → (128 + n) ∷ [] ≡ septets 1 n
+unfolding septets
+one_septet n below = let same : n / 1 % 128 ≡ n = omega (arith, below) in sym (ap (λ m. (128 + m) ∷ []) same)
+
 -- what an identifier's content is, by its first two numbers and the others
 pub content_parts : (name : List ℕ) → IsWire name → canon_content (object_id name) ≡ canon_subidentifier (40 * get_or name 0 0 + get_or name 1 0) ++ flat_map canon_subidentifier (take (length name - 2) (drop 2 name))
 unfolding canon_content
@@ -93,3 +107,41 @@ length-content numbers name wire same =
     let first : ℕ = 40 * get_or numbers 0 0 + get_or numbers 1 0 in
     let rest : List ℕ = flat_map canon_subidentifier (take (length numbers - 2) (drop 2 numbers)) in
     ap length (content_is numbers name first wire same refl) ∙ length-append (canon_subidentifier first) rest ∙ ap (λ n. n + length rest) (length-canon_subidentifier first)
+
+-- ---- numbers of one octet each
+
+plain_octet : (numbers : List ℕ) (i number : ℕ) → i < length numbers → number ≡ get_or numbers i 0 → number < 128
+    → flat_map canon_subidentifier (drop i numbers) ≡ number ∷ flat_map canon_subidentifier (drop (i + 1) numbers)
+plain_octet numbers i number h e low =
+    let same : number % 128 ≡ number = omega (arith, low) in
+    let one : canon_subidentifier number ≡ number ∷ [] = subidentifier_short number low ∙ ap (λ n. n ∷ []) same in
+    flat_map-drop canon_subidentifier numbers i number 0 h e ∙ ap (λ octets. octets ++ flat_map canon_subidentifier (drop (i + 1) numbers)) one
+
+pub plain_before : (numbers : List ℕ) (left a b c d : ℕ) → 4 ≤ left → left ≤ length numbers → a ≡ get_or numbers (left - 4) 0 → b ≡ get_or numbers (left - 3) 0 → c ≡ get_or numbers (left - 2) 0 → d ≡ get_or numbers (left - 1) 0
+    → bit_or (bit_or (bit_or a b) c) d < 128 → flat_map canon_subidentifier (drop (left - 4) numbers) ≡ (a ∷ b ∷ c ∷ d ∷ []) ++ flat_map canon_subidentifier (drop left numbers)
+plain_before numbers left a b c d some within is_a is_b is_c is_d low =
+    let small = below_128 a b c d low in
+    let i : ℕ = left - 4 in
+    let second : left - 3 ≡ i + 1 = omega (arith, some) in
+    let third : left - 2 ≡ i + 1 + 1 = omega (arith, some) in
+    let fourth : left - 1 ≡ i + 1 + 1 + 1 = omega (arith, some) in
+    let last : i + 1 + 1 + 1 + 1 ≡ left = omega (arith, some) in
+    let at_a = plain_octet numbers i a (omega (arith, some)) is_a small.0 in
+    let at_b = plain_octet numbers (i + 1) b (omega (arith, some)) (is_b ∙ ap (λ k. get_or numbers k 0) second) small.1 in
+    let at_c = plain_octet numbers (i + 1 + 1) c (omega (arith, some)) (is_c ∙ ap (λ k. get_or numbers k 0) third) small.2 in
+    let at_d = plain_octet numbers (i + 1 + 1 + 1) d (omega (arith, some)) (is_d ∙ ap (λ k. get_or numbers k 0) fourth) small.3 in
+    at_a ∙ ap (λ more. a ∷ more) (at_b ∙ ap (λ more. b ∷ more) (at_c ∙ ap (λ more. c ∷ more) (at_d ∙ ap (λ k. d ∷ flat_map canon_subidentifier (drop k numbers)) last)))
+
+-- four octets more before those that are written
+pub writes_four : {old mid new : List ℕ} {start middle end : ℕ} (numbers octets : List ℕ) (left : ℕ) → flat_map canon_subidentifier (drop (left - 4) numbers) ≡ octets ++ flat_map canon_subidentifier (drop left numbers)
+    → Writes old middle end (flat_map canon_subidentifier (drop left numbers)) mid → Writes mid start middle octets new → Writes old start end (flat_map canon_subidentifier (drop (left - 4) numbers)) new
+writes_four numbers octets left e w v = writes_same (writes_then w v) (sym e)
+
+pub four_fit : {old mid : List ℕ} {middle end : ℕ} (numbers octets : List ℕ) (left : ℕ) → length octets ≡ 4 → flat_map canon_subidentifier (drop (left - 4) numbers) ≡ octets ++ flat_map canon_subidentifier (drop left numbers)
+    → Writes old middle end (flat_map canon_subidentifier (drop left numbers)) mid → length (flat_map canon_subidentifier numbers) ≤ end → 4 ≤ middle
+four_fit numbers octets left four e w room =
+    omega (arith, four, ap length e ∙ length-append octets (flat_map canon_subidentifier (drop left numbers)), flat_map_rest canon_subidentifier numbers (left - 4), w.begins)
+
+pub small_before : (numbers : List ℕ) (left : ℕ) → bit_or (bit_or (bit_or (get_or numbers (left - 4) 0) (get_or numbers (left - 3) 0)) (get_or numbers (left - 2) 0)) (get_or numbers (left - 1) 0) < 128
+    → (get_or numbers (left - 4) 0 < 128) × (get_or numbers (left - 3) 0 < 128) × (get_or numbers (left - 2) 0 < 128) × (get_or numbers (left - 1) 0 < 128)
+small_before numbers left low = below_128 (get_or numbers (left - 4) 0) (get_or numbers (left - 3) 0) (get_or numbers (left - 2) 0) (get_or numbers (left - 1) 0) low

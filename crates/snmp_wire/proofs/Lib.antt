@@ -20,4 +20,3 @@ pub mod IdentifierWriting
 pub mod ListWriting
 pub mod MessageWriting
 pub mod WritingLemmas
-pub mod PlainLemmas

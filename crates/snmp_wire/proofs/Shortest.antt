@@ -1,16 +1,16 @@
 -- No spelling by the standard is shorter than the one that is written.
-use Rattle.std.proofs.Common.{◌≡◌, ◌≢◌, ℕ, ℤ, pos, negsuc, ◌+◌, ◌-◌, ◌-ℤ◌, ◌*◌, ◌/◌, ◌%◌, ◌^◌, ◌<◌, ◌≤◌, suc, zero, List, [], ◌∷◌, ◌++◌, length, get_or, map, refl, sym, ap, subst, ◌∙◌, ⊎_elim, lit<, arith, length-append, All}
+use Rattle.std.proofs.Common.{◌≡◌, ℕ, ℤ, pos, negsuc, ◌+◌, ◌-◌, ◌*◌, ◌%◌, ◌^◌, ◌<◌, ◌≤◌, suc, zero, List, [], ◌∷◌, ◌++◌, length, get_or, map, refl, sym, ap, subst, ◌∙◌, ⊎_elim, arith, length-append}
 use Rattle.std.proofs.Math.Nat.{mul-le-mul_right, pow-suc, pow-zero}
 use Rattle.std.proofs.lemmas.Nat.{mul-add-lt}
 use Rattle.std.proofs.lemmas.Bool.{cases_lt}
 use Rattle.std.proofs.lemmas.List.Elements.{recursion_from_All}
 use Rattle.std.specs.List.{AllByRecursion, flat_map}
-use Rattle.snmp_wire.specs.Canon.{canon, canon_binding, canon_bindings, canon_content, canon_element, canon_fields, canon_length, canon_number, canon_opening, canon_subidentifier, canon_value, digit_count, length_size, magnitude_of, number_size, octets, subidentifier_size}
-use Rattle.snmp_wire.specs.Identifier.{AreSubidentifiers, IsObjectId, IsSubidentifier, subidentifiers}
+use Rattle.snmp_wire.specs.Canon.{canon, canon_binding, canon_bindings, canon_content, canon_element, canon_fields, canon_length, canon_number, canon_opening, canon_subidentifier, canon_value, digit_count, length_size, number_size, octets, subidentifier_size}
+use Rattle.snmp_wire.specs.Identifier.{AreSubidentifiers, IsSubidentifier, subidentifiers}
 use Rattle.snmp_wire.specs.Length.{IsElement, IsLength, IsLongLength, IsShortLength}
 use Rattle.snmp_wire.specs.Message.{Datum, integer_value, octet_string, null_value, object_id, ip_address, counter32, gauge32, time_ticks, opaque_octets, counter64, no_such_object, no_such_instance, end_of_mib_view, VarBind, Message}
-use Rattle.snmp_wire.specs.Number.{IsInteger, IsUnsigned, number_of, strict, twos_complement, unsigned}
-use Rattle.snmp_wire.specs.Spelling.{IsContent, SpellsBinding, SpellsBindings, SpellsMessage, SpellsPdu, SpellsValue, Strict, kind_tag, sequence_tag, value_tag}
+use Rattle.snmp_wire.specs.Number.{number_of, strict, twos_complement, unsigned}
+use Rattle.snmp_wire.specs.Spelling.{IsContent, SpellsBinding, SpellsBindings, SpellsPdu, SpellsValue, Strict, kind_tag, sequence_tag, value_tag}
 use Rattle.snmp_wire.proofs.CanonLemmas.{canon_length_long, canon_length_short, count_left, count_taken, digit_some, digits_small, length-canon_number, length-octets, number_small}
 use Rattle.snmp_wire.proofs.ElementLemmas.{length-canon_element}
 use Rattle.snmp_wire.proofs.IdentifierWriting.{length-canon_subidentifier}

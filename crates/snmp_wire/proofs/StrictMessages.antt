@@ -1,5 +1,5 @@
 -- Messages as they are written are spelt by the standard.
-use Rattle.std.proofs.Common.{◌≡◌, ℕ, ◌+◌, ◌*◌, ◌^◌, ◌<◌, ◌≤◌, suc, zero, List, [], ◌∷◌, ◌++◌, length, ℤ, pos, negsuc, refl, sym, ap, subst, ◌∙◌, lit<, lit≤, arith, length-append, All}
+use Rattle.std.proofs.Common.{ℕ, ◌+◌, ◌^◌, ◌<◌, ◌≤◌, List, [], ◌∷◌, ◌++◌, length, ℤ, pos, negsuc, refl, lit<, lit≤, arith, length-append}
 use Rattle.std.proofs.lemmas.List.Elements.{All-append, All-cons, All-nil}
 use Rattle.std.specs.List.{AllByRecursion}
 use Rattle.snmp_wire.specs.declared.kind.Kind.{Kind}
@@ -9,7 +9,7 @@ use Rattle.snmp_wire.specs.Length.{IsElement}
 use Rattle.snmp_wire.specs.Message.{Datum, integer_value, octet_string, null_value, object_id, ip_address, counter32, gauge32, time_ticks, opaque_octets, counter64, no_such_object, no_such_instance, end_of_mib_view, VarBind, Message}
 use Rattle.snmp_wire.specs.Number.{AreOctets, strict}
 use Rattle.snmp_wire.specs.Range.{IsBindingInRange, IsInRange, IsMessageInRange}
-use Rattle.snmp_wire.specs.Spelling.{IsContent, SpellsBinding, SpellsBindings, SpellsMessage, SpellsPdu, SpellsValue, Strict, kind_tag, sequence_tag, value_tag}
+use Rattle.snmp_wire.specs.Spelling.{IsContent, SpellsBinding, SpellsBindings, SpellsPdu, SpellsValue, Strict, kind_tag, sequence_tag, value_tag}
 use Rattle.snmp_wire.proofs.CanonLemmas.{digit_most, length-canon_number}
 use Rattle.snmp_wire.proofs.ElementLemmas.{length-canon_element}
 use Rattle.snmp_wire.proofs.MessageWriting.{length-canon_fields, length-canon_opening}

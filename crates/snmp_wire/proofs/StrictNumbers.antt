@@ -1,18 +1,17 @@
 -- Numbers, lengths and subidentifiers as they are written are forms by the standard.
-use Rattle.std.proofs.Common.{true, false, ◌≡◌, ◌≢◌, ℕ, ℤ, pos, negsuc, ◌+◌, ◌-◌, ◌-ℤ◌, ◌*◌, ◌/◌, ◌%◌, ◌^◌, ◌<◌, ◌≤◌, suc, zero, List, [], ◌∷◌, ◌++◌, length, get_or, map, refl, sym, ap, subst, ◌∙◌, inl, inr, ⊎_elim, nat_lt, if◌then◌else◌, lit<, arith, length-append, All}
+use Rattle.std.proofs.Common.{◌≡◌, ℕ, ℤ, pos, negsuc, ◌+◌, ◌-◌, ◌-ℤ◌, ◌*◌, ◌/◌, ◌%◌, ◌^◌, ◌<◌, ◌≤◌, suc, zero, List, [], ◌∷◌, length, get_or, refl, sym, ap, subst, ◌∙◌, inl, inr, ⊎_elim, lit<, arith}
 use Rattle.std.proofs.Math.Nat.{div-eq_of_lt, div-lt_iff_lt-mul, le-div_iff_mul-le, mod-eq_of_lt, mod-lt, mod-one, one-le-pow, pow-le-pow_right, pow-suc, pow-succ'}
 use Rattle.std.proofs.Math.Arith.{mod-mul}
 use Rattle.std.proofs.lemmas.Int.{ints}
 use Rattle.std.proofs.lemmas.Bool.{cases_lt}
 use Rattle.std.proofs.lemmas.Bool.Decides.{nat_tests}
-use Rattle.std.proofs.lemmas.List.Elements.{All-append, All-cons, All-nil}
+use Rattle.std.proofs.lemmas.List.Elements.{All-cons, All-nil}
 use mir.Val.{SFits}
 use mir.Syntax.{w32}
-use Rattle.snmp_wire.specs.Canon.{canon_length, canon_number, canon_subidentifier, digit_count, length_size, number_size, octets, septets, subidentifier_size}
-use Rattle.snmp_wire.specs.Identifier.{IsSubidentifier}
-use Rattle.snmp_wire.specs.Length.{IsLength, IsLongLength, IsShortLength}
-use Rattle.snmp_wire.specs.Number.{AreOctets, IsInteger, IsUnsigned, number_of, strict, twos_complement, unsigned}
-use Rattle.snmp_wire.proofs.CanonLemmas.{canon_length_long, canon_length_short, digit_most, digit_some, digits_fit, digits_needed, digits_small, length-canon_number, length-octets, length-septets, number_fits, number_small, octets_from_zero, octets-suc, septets-suc}
+use Rattle.snmp_wire.specs.Canon.{canon_length, canon_number, digit_count, length_size, number_size, octets}
+use Rattle.snmp_wire.specs.Length.{IsLength}
+use Rattle.snmp_wire.specs.Number.{AreOctets, IsInteger, IsUnsigned, strict, twos_complement, unsigned}
+use Rattle.snmp_wire.proofs.CanonLemmas.{canon_length_long, canon_length_short, digit_most, digit_some, digits_fit, length-canon_number, length-octets, number_small, octets_from_zero, octets-suc}
 
 -- ---- numbers
 

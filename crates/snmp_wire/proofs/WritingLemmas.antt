@@ -1,6 +1,6 @@
 -- What writers leave, one after the other from the back to the front.
 use Rattle.std.proofs.Common.{◌≡◌, ℕ, ◌+◌, ◌-◌, ◌<◌, ◌≤◌, List, [], ◌∷◌, ◌++◌, length, take, drop, set, refl, sym, ap, subst, ◌∙◌, arith, append_assoc, length-append}
-use Rattle.std.proofs.lemmas.List.{take-take, take-set, drop-set, take-append-le, length-take-le, drop_at, take_at}
+use Rattle.std.proofs.lemmas.List.{take-take, take-set, drop-set, length-take-le, drop_at, take_at}
 use Rattle.snmp_wire.specs.Writing.{Writes}
 
 -- the front stays as it was, and so does each front of it

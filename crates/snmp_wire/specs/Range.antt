@@ -1,5 +1,5 @@
 -- What has an encoding by the standard: numbers of their types' ranges, octets, and identifiers with a form on the wire (RFC 2578, section 7.1).
-use Rattle.std.specs.Prelude.{◌≡◌, ℕ, ◌^◌, ◌<◌, ◌≤◌, length, FitsSigned}
+use Rattle.std.specs.Prelude.{◌≡◌, ◌^◌, ◌<◌, ◌≤◌, length, FitsSigned}
 use Rattle.std.specs.Int.{w32}
 use Rattle.std.specs.List.{AllByRecursion}
 use Rattle.snmp_oid.specs.Identifier.{IsIdentifier, IsWire}

@@ -1,5 +1,5 @@
 -- Reading from the front, with the first fault that is met: what private functions are proved to compute. Public clauses cite what octets spell.
-use Rattle.std.specs.Prelude.{◌≡◌, ℕ, zero, suc, ℤ, ◌+◌, ◌-◌, ◌*◌, ◌/◌, ◌%◌, ◌^◌, Bool, true, false, ◌&&◌, ◌||◌, ◌==◌, nat_lt, nat_le, if◌then◌else◌, List, [], ◌∷◌, length, take, drop, Result, Ok, Err}
+use Rattle.std.specs.Prelude.{◌≡◌, ℕ, zero, suc, ℤ, ◌+◌, ◌-◌, ◌*◌, ◌/◌, ◌%◌, ◌^◌, ◌<◌, ◌++◌, All, Bool, true, false, ◌&&◌, ◌||◌, ◌==◌, nat_lt, nat_le, if◌then◌else◌, List, [], ◌∷◌, length, take, drop, Result, Ok, Err}
 use Rattle.std.specs.Result.{result_unwrap_or}
 use Rattle.snmp_wire.specs.declared.error.BerError.{BerError}
 use Rattle.snmp_wire.specs.declared.error.BerError.TheVariants as error
@@ -114,6 +114,10 @@ numbers_of (suc room) (octet ∷ rest) = do
 -- the numbers of octets that are at most 126
 abbrev pub numbers_in : List ℕ → List ℕ
 numbers_in octets = result_unwrap_or (numbers_of 126 octets) []
+
+-- the octets begin with four numbers that have an octet each
+abbrev pub IsPlainFront : List ℕ → List ℕ → List ℕ → Type 0
+IsPlainFront numbers rest octets = (octets ≡ numbers ++ rest) × (length numbers ≡ 4) × All (λ n. n < 128) numbers
 
 abbrev pub first_number : ℕ → ℕ
 first_number n = if nat_lt n 80 then n / 40 else 2

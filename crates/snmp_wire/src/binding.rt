@@ -1,5 +1,5 @@
 //! Variable bindings, one and a list of them.
-ghost use Rattle.std.specs.Prelude.{◌≡◌, ℕ, List, [], length, IsOk, Ok, ◌+◌, ◌^◌, ◌<◌, ◌≤◌, ◌↔◌, ◌++◌, drop, IfSome, IfNone, IsSome};
+ghost use Rattle.std.specs.Prelude.{◌≡◌, ℕ, List, [], ◌∷◌, true, false, length, IsOk, Ok, ◌+◌, ◌^◌, ◌<◌, ◌≤◌, ◌↔◌, ◌++◌, drop, IfSome, IfNone, IsSome};
 ghost use Rattle.snmp_wire.specs.Message.{var_bind, object_id};
 ghost use Rattle.snmp_wire.specs.Reading as reading;
 ghost use Rattle.snmp_wire.specs.Reading.{Gives, checked};
@@ -9,7 +9,7 @@ ghost use Rattle.snmp_wire.specs.Writing.{Writes};
 
 use crate::identifier::{check_identifier, identifier_size, push_identifier, put_identifier};
 use crate::length::{SEQUENCE, element_at, header_size, inner_at, put_header};
-use crate::value::{check_value, put_value, value_of, value_size};
+use crate::value::{check_value, put_value, read_value, value_size};
 use crate::{BerError, ValueRef};
 use snmp_oid::Oid;
 use std::alloc::AllocError;
@@ -59,6 +59,26 @@ impl<'a> Bindings<'a> {
     {
         Bindings { rest: self.rest }
     }
+
+    /// Reads the next binding into one that is there, and answers whether there was one. It stays as it was where none is left.
+    ///
+    /// This is [`Iterator::next`] for whoever reads many: a binding has over a thousand octets, and here none of them is moved.
+    pub fn read_next(&mut self, into: &mut Binding<'a>) -> bool
+        ensures some { result ≡ true → self.old ≡ var_bind into.new ∷ self.new }
+        ensures none { result ≡ false → (self.old ≡ []) × (self.new ≡ []) × (into.new ≡ into.old) }
+    {
+        if self.rest.is_empty() {
+            return false;
+        }
+        let Ok((fields, rest)) = fields_at(self.rest) else {
+            unreachable!()
+        };
+        self.rest = rest;
+        into.name.clear();
+        push_identifier(&mut into.name, fields.name);
+        read_value(fields.tag, fields.content, &mut into.value);
+        true
+    }
 }
 
 impl<'a> Clone for Bindings<'a> {
@@ -80,19 +100,15 @@ impl<'a> Iterator for Bindings<'a> {
     ghost remaining = { item_count (λ s. s) };
 
     fn next(&mut self) -> Option<Binding<'a>> {
-        if self.rest.is_empty() {
-            return None;
-        }
-        let Ok((fields, rest)) = fields_at(self.rest) else {
-            unreachable!()
+        let mut binding = Binding {
+            name: Oid::new(),
+            value: ValueRef::Null,
         };
-        self.rest = rest;
-        let mut name = Oid::new();
-        push_identifier(&mut name, fields.name);
-        Some(Binding {
-            name,
-            value: value_of(fields.tag, fields.content),
-        })
+        if self.read_next(&mut binding) {
+            Some(binding)
+        } else {
+            None
+        }
     }
 }
 

@@ -1,5 +1,5 @@
 //! The content of an OBJECT IDENTIFIER (X.690, section 8.19).
-ghost use Rattle.std.specs.Prelude.{◌≡◌, ℕ, ◌+◌, ◌-◌, ◌<◌, ◌≤◌, ◌↔◌, List, [], ◌∷◌, ◌++◌, length, All, IsTrue, IsOk, Ok, ◌*◌, ◌^◌};
+ghost use Rattle.std.specs.Prelude.{◌≡◌, ℕ, ◌+◌, ◌-◌, ◌<◌, ◌≤◌, ◌↔◌, List, [], ◌∷◌, ◌++◌, length, drop, IsOk, IfOk, IfErr, IfSome, Ok, Err, ◌*◌, ◌^◌};
 ghost use Rattle.snmp_wire.specs.Reading as reading;
 ghost use Rattle.snmp_wire.specs.Reading.{Gives, checked};
 ghost use Rattle.std.specs.List.{flat_map};
@@ -9,27 +9,29 @@ ghost use Rattle.snmp_wire.specs.Message.{object_id};
 ghost use Rattle.snmp_wire.specs.Writing.{Writes};
 
 use crate::BerError;
-use crate::writing::put_octet;
+use crate::writing::{put_octet, put_text};
 use snmp_oid::Oid;
 
 /// The largest subidentifier: that of 2 and the largest number.
 const LARGEST_SUBIDENTIFIER: u64 = 4294967375;
 
-/// How many subidentifiers there may be: one for the first two of 128 numbers, and one for each other.
-const MAX_SUBIDENTIFIERS: usize = 127;
-
 /// How many numbers may follow the first two.
 const MORE_NUMBERS: usize = 126;
 
 /// The subidentifier at the front, and what follows.
-#[tactic(auto, unfolding(crate::specs::Reading::subidentifier_at))]
+#[tactic(auto, unfolding(crate::specs::Reading::subidentifier_at, crate::specs::Reading::subidentifier_from))]
 #[inline]
 fn subidentifier_at(octets: &[u8]) -> Result<(u64, &[u8]), BerError>
     ensures { Gives (λ x. (x.0, x.1.now)) result (reading.subidentifier_at octets.now) }
 {
     match octets {
+        // Most have one octet, and most others two.
+        [octet, rest @ ..] if *octet < 0x80 => Ok((u64::from(*octet), rest)),
         [] | [0x80, ..] => Err(BerError::Content),
-        [_, ..] => digits_at(octets),
+        [high, low, rest @ ..] if *low < 0x80 => {
+            Ok((u64::from(*high % 128) * 128 + u64::from(*low), rest))
+        }
+        _ => digits_at(octets),
     }
 }
 
@@ -64,34 +66,9 @@ fn number_at(octets: &[u8]) -> Result<(u32, &[u8]), BerError>
 }
 
 /// Checks that the content is an identifier.
+#[tactic(auto, unfolding(crate::specs::Reading::identifier_of))]
 #[inline]
 pub(crate) fn check_identifier(content: &[u8]) -> Result<(), BerError>
-    ensures { Gives (λ u. u) result (checked (reading.identifier_of content.now)) }
-{
-    // In most names each subidentifier has one octet, and to count them is enough.
-    if !is_plain(content) {
-        return check_subidentifiers(content);
-    }
-    if content.is_empty() {
-        return Err(BerError::Content);
-    }
-    if content.len() > MAX_SUBIDENTIFIERS {
-        return Err(BerError::Content);
-    }
-    Ok(())
-}
-
-/// Whether each octet is a subidentifier of its own.
-#[inline]
-fn is_plain(octets: &[u8]) -> bool
-    ensures { IsTrue result ↔ All (λ octet. octet < 128) octets.now }
-{
-    octets.iter().all(|octet| *octet < 0x80)
-}
-
-/// Checks that the content is an identifier, a subidentifier after the other.
-#[tactic(auto, unfolding(crate::specs::Reading::identifier_of))]
-fn check_subidentifiers(content: &[u8]) -> Result<(), BerError>
     ensures { Gives (λ u. u) result (checked (reading.identifier_of content.now)) }
 {
     let (_, rest) = subidentifier_at(content)?;
@@ -105,14 +82,47 @@ fn check_numbers(octets: &[u8]) -> Result<(), BerError>
     let mut rest = octets;
     let mut room = MORE_NUMBERS;
     'numbers: while !rest.is_empty() {
-        if room == 0 {
-            return Err(BerError::Content);
-        }
-        let (_, after) = number_at(rest)?;
+        let (count, after) = some_numbers_at(room, rest)?;
         rest = after;
-        room -= 1;
+        room -= count;
     }
     Ok(())
+}
+
+/// How many numbers stand at the front, one or four of at most `room`, and what follows them.
+#[inline(always)]
+fn some_numbers_at(room: usize, octets: &[u8]) -> Result<(usize, &[u8]), BerError>
+    requires { 0 < length octets.now }
+    ensures ok { IfOk result (λ x. (1 ≤ x.0) × (x.0 ≤ room) × (checked (reading.numbers_of (room - x.0) x.1.now) ≡ checked (reading.numbers_of room octets.now))) }
+    ensures err { IfErr result (λ e. checked (reading.numbers_of room octets.now) ≡ Err e) }
+{
+    if room == 0 {
+        return Err(BerError::Content);
+    }
+    if room >= 4 {
+        if let Some((_, rest)) = four_at(octets) {
+            return Ok((4, rest));
+        }
+    }
+    let (_, rest) = number_at(octets)?;
+    Ok((1, rest))
+}
+
+/// The four octets at the front, where each is a number of its own, as in most names, and what follows them.
+#[inline(always)]
+fn four_at(octets: &[u8]) -> Option<(&[u8], &[u8])>
+    ensures { IfSome result (λ x. reading.IsPlainFront x.0.now x.1.now octets.now) }
+{
+    match octets {
+        [a, b, c, d, ..] => {
+            if *a | *b | *c | *d < 0x80 {
+                Some(octets.split_at(4))
+            } else {
+                None
+            }
+        }
+        _ => None,
+    }
 }
 
 /// The identifier that the content is.
@@ -127,40 +137,9 @@ pub(crate) fn identifier_of(content: &[u8]) -> Oid
 }
 
 /// Appends to the empty identifier the one that the content is. To fill it in place saves moving its 520 octets.
+#[tactic(auto, unfolding(crate::specs::Reading::identifier_of))]
 #[inline]
 pub(crate) fn push_identifier(oid: &mut Oid, content: &[u8])
-    requires is_identifier { IsOk (reading.identifier_of content.now) }
-    requires empty { oid.old ≡ [] }
-    ensures { reading.identifier_of content.now ≡ Ok oid.new }
-{
-    if is_plain(content) {
-        push_plain(oid, content);
-    } else {
-        push_subidentifiers(oid, content);
-    }
-}
-
-/// Appends to the empty identifier the one whose content has one octet for each subidentifier.
-#[inline]
-fn push_plain(oid: &mut Oid, content: &[u8])
-    requires plain { All (λ octet. octet < 128) content.now }
-    requires is_identifier { IsOk (reading.identifier_of content.now) }
-    requires empty { oid.old ≡ [] }
-    ensures { reading.identifier_of content.now ≡ Ok oid.new }
-{
-    let [first, rest @ ..] = content else {
-        unreachable!()
-    };
-    push(oid, first_number(u64::from(*first)));
-    push(oid, second_number(u64::from(*first)));
-    'octets: for octet in rest {
-        push(oid, u32::from(*octet));
-    }
-}
-
-/// Appends to the empty identifier the one of this content.
-#[tactic(auto, unfolding(crate::specs::Reading::identifier_of))]
-fn push_subidentifiers(oid: &mut Oid, content: &[u8])
     requires is_identifier { IsOk (reading.identifier_of content.now) }
     requires empty { oid.old ≡ [] }
     ensures { reading.identifier_of content.now ≡ Ok oid.new }
@@ -208,11 +187,34 @@ fn push_numbers(oid: &mut Oid, octets: &[u8])
 {
     let mut rest = octets;
     'numbers: while !rest.is_empty() {
-        let Ok((number, after)) = number_at(rest) else {
-            unreachable!()
-        };
-        push(oid, number);
-        rest = after;
+        match four_at(rest) {
+            Some((octets, after)) => {
+                push_four(oid, octets);
+                rest = after;
+            }
+            None => {
+                let Ok((number, after)) = number_at(rest) else {
+                    unreachable!()
+                };
+                push(oid, number);
+                rest = after;
+            }
+        }
+    }
+}
+
+/// Appends four numbers, each of one octet, to an identifier that has room for them.
+#[inline]
+fn push_four(oid: &mut Oid, octets: &[u8])
+    requires four { length octets.now ≡ 4 }
+    requires room { length oid.old + length octets.now ≤ 128 }
+    ensures { oid.new ≡ oid.old ++ octets.now }
+{
+    let [a, b, c, d] = octets else { unreachable!() };
+    let numbers = [u32::from(*a), u32::from(*b), u32::from(*c), u32::from(*d)];
+    match oid.extend_from_slice(&numbers) {
+        Ok(()) => {}
+        Err(_) => unreachable!(),
     }
 }
 
@@ -269,10 +271,40 @@ fn numbers_size(numbers: &[u32]) -> u64
     ensures small { result ≤ 5 * length numbers.now }
 {
     let mut size = 0;
-    'numbers: for number in numbers {
-        size += septets_size(u64::from(*number)) as u64;
+    let mut left = numbers.len();
+    'numbers: while left > 0 {
+        match four_before(numbers, left) {
+            Some(_) => {
+                left -= 4;
+                size += 4;
+            }
+            None => {
+                left -= 1;
+                size += septets_size(u64::from(numbers[left])) as u64;
+            }
+        }
     }
     size
+}
+
+/// The subidentifiers of the four numbers before the place `left`, where each has one octet, as in most names.
+#[inline(always)]
+fn four_before(numbers: &[u32], left: usize) -> Option<(u8, u8, u8, u8)>
+    requires { left ≤ length numbers.now }
+    ensures { IfSome result (λ x. (4 ≤ left) × (flat_map canon_subidentifier (drop (left - 4) numbers.now) ≡ (x.0 ∷ x.1 ∷ x.2 ∷ x.3 ∷ []) ++ flat_map canon_subidentifier (drop left numbers.now))) }
+{
+    if left < 4 {
+        return None;
+    }
+    let a = numbers[left - 4];
+    let b = numbers[left - 3];
+    let c = numbers[left - 2];
+    let d = numbers[left - 1];
+    if a | b | c | d < 128 {
+        Some((a as u8, b as u8, c as u8, d as u8))
+    } else {
+        None
+    }
 }
 
 /// The subidentifier of the first two numbers (X.690, 8.19.4).
@@ -306,8 +338,18 @@ fn put_numbers(out: &mut [u8], end: usize, numbers: &[u32]) -> usize
     ensures { Writes out.old result end (flat_map canon_subidentifier numbers.now) out.new }
 {
     let mut start = end;
-    'numbers: for i in (0..numbers.len()).rev() {
-        start = put_subidentifier(out, start, u64::from(numbers[i]));
+    let mut left = numbers.len();
+    'numbers: while left > 0 {
+        match four_before(numbers, left) {
+            Some((a, b, c, d)) => {
+                left -= 4;
+                start = put_text(out, start, &[a, b, c, d]);
+            }
+            None => {
+                left -= 1;
+                start = put_subidentifier(out, start, u64::from(numbers[left]));
+            }
+        }
     }
     start
 }
@@ -322,6 +364,9 @@ fn put_subidentifier(out: &mut [u8], end: usize, number: u64) -> usize
     let last = put_octet(out, end, (number % 128) as u8);
     if number < 128 {
         return last;
+    }
+    if number < 16384 {
+        return put_octet(out, last, 128 + (number / 128) as u8);
     }
     put_septets(out, last, septets_size(number) - 1, number / 128)
 }

@@ -81,7 +81,10 @@ pub(crate) fn unsigned32(content: &[u8]) -> u32
     requires { IsTrue (reading.has_width 4 content.now) }
     ensures { result ≡ number.unsigned content.now }
 {
-    unsigned(without_zero(4, content)) as u32
+    match without_zero(4, content) {
+        [a, b, c, d] => u32::from_be_bytes([*a, *b, *c, *d]),
+        short => unsigned(short) as u32,
+    }
 }
 
 /// The content of an unsigned number of 64 bits.

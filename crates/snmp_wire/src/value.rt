@@ -1,5 +1,5 @@
 //! The value of a variable binding.
-ghost use Rattle.std.specs.Prelude.{◌≡◌, ℕ, IsOk, IfOk, Ok, ◌+◌, ◌^◌, ◌<◌, ◌≤◌, length, [], ◌++◌};
+ghost use Rattle.std.specs.Prelude.{◌≡◌, true, ℕ, IsOk, IfOk, Ok, ◌+◌, ◌^◌, ◌<◌, ◌≤◌, length, [], ◌++◌};
 ghost use Rattle.snmp_wire.specs.Message.{datum, octet_string, integer_value};
 ghost use Rattle.snmp_wire.specs.Reading as reading;
 ghost use Rattle.snmp_wire.specs.Reading.{Gives, checked};
@@ -67,10 +67,63 @@ pub(crate) fn check_value(tag: u8, content: &[u8]) -> Result<(), BerError>
     }
 }
 
-/// The value of this tag and content.
+/// Reads the value of this tag and content into one that is there.
+#[inline]
+pub(crate) fn read_value<'a>(tag: u8, content: &'a [u8], into: &mut ValueRef<'a>)
+    requires { IsOk (reading.value_of tag content.now) }
+    ensures { reading.value_of tag content.now ≡ Ok (datum into.new) }
+{
+    if !is_changed(tag, content, into) {
+        *into = value_of(tag, content);
+    }
+}
+
+/// Changes a value of this type, as the values of a column are, to the one of this content, and answers whether it did. This saves setting over 500 octets.
 #[tactic(auto, unfolding(crate::specs::Reading::value_of, crate::specs::Reading::unsigned_of))]
 #[inline]
-pub(crate) fn value_of<'a>(tag: u8, content: &'a [u8]) -> ValueRef<'a>
+fn is_changed<'a>(tag: u8, content: &'a [u8], value: &mut ValueRef<'a>) -> bool
+    requires { IsOk (reading.value_of tag content.now) }
+    ensures { result ≡ true → reading.value_of tag content.now ≡ Ok (datum value.new) }
+{
+    match value {
+        ValueRef::Octets(text) => {
+            if tag == 0x04 {
+                *text = content;
+                return true;
+            }
+        }
+        ValueRef::Counter32(number) => {
+            if tag == 0x41 {
+                *number = unsigned32(content);
+                return true;
+            }
+        }
+        ValueRef::Gauge32(number) => {
+            if tag == 0x42 {
+                *number = unsigned32(content);
+                return true;
+            }
+        }
+        ValueRef::TimeTicks(number) => {
+            if tag == 0x43 {
+                *number = unsigned32(content);
+                return true;
+            }
+        }
+        ValueRef::Counter64(number) => {
+            if tag == 0x46 {
+                *number = unsigned64(content);
+                return true;
+            }
+        }
+        _ => {}
+    }
+    false
+}
+
+/// The value of this tag and content.
+#[tactic(auto, unfolding(crate::specs::Reading::value_of, crate::specs::Reading::unsigned_of))]
+fn value_of<'a>(tag: u8, content: &'a [u8]) -> ValueRef<'a>
     requires { IsOk (reading.value_of tag content.now) }
     ensures { reading.value_of tag content.now ≡ Ok (datum result) }
 {

@@ -3,7 +3,7 @@ use Rattle.snmp_words.specs.Words.{WalkWords, Stated, job_words, walk, walk_word
 use Rattle.snmp_words.specs.declared.Job.{Job}
 use Rattle.snmp_words.specs.declared.Job.TheVariants.{Walk}
 use Rattle.snmp_words.specs.declared.WalkJob.{WalkJob}
-use Rattle.snmp_tools.specs.Job.{Does}
+use Rattle.snmp_tools.specs.Job.{Stream, Does}
 use Rattle.snmp_tools.proofs.Outcomes.{writes_a_beginning, writes_all, ends_well}
 use Rattle.snmp_tools.proofs.job.run_job.Goals as goal
 
@@ -13,10 +13,12 @@ as_walk words (Walk w) e = (w, refl, cc)
 pub returns-clause-does : goal.returns-clause-does
 returns-clause-does g c = λ words is.
     let w = as_walk words c.args.job.now is in
-    let does : Does (walk_words w.0) (g.F.Files.text_at c.args.files.now) (g.O.Output.taken c.args.out.now.out, g.O.Output.fault_count c.args.out.now.out)
-    (g.O.Output.taken c.do_walk.new.out.out, g.O.Output.fault_count c.do_walk.new.out.out) (g.E.Output.taken c.args.err.now, g.E.Output.fault_count c.args.err.now)
-    (g.E.Output.taken c.do_walk.new.err, g.E.Output.fault_count c.do_walk.new.err) c.do_walk.result = rw (w.1) at c.do_walk.ensures in
-    subst (λ (v : WalkWords). Does v (g.F.Files.text_at c.args.files.now) _ _ _ _ c.do_walk.result) w.2 does
+    let out_before : Stream = (g.O.Output.taken c.args.out.now.out, g.O.Output.fault_count c.args.out.now.out) in
+    let out_after : Stream = (g.O.Output.taken c.do_walk.new.out.out, g.O.Output.fault_count c.do_walk.new.out.out) in
+    let err_before : Stream = (g.E.Output.taken c.args.err.now, g.E.Output.fault_count c.args.err.now) in
+    let err_after : Stream = (g.E.Output.taken c.do_walk.new.err, g.E.Output.fault_count c.do_walk.new.err) in
+    let does : Does (walk_words w.0) (g.F.Files.text_at c.args.files.now) out_before out_after err_before err_after c.do_walk.result = rw (w.1) at c.do_walk.ensures in
+    subst (λ (v : WalkWords). Does v (g.F.Files.text_at c.args.files.now) out_before out_after err_before err_after c.do_walk.result) w.2 does
 
 pub returns-clause-beginning : goal.returns-clause-beginning
 returns-clause-beginning g c = λ words is.

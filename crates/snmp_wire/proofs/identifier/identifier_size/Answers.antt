@@ -1,4 +1,4 @@
-use Rattle.std.proofs.Common.{ap, arith, ◌≡◌, ◌+◌, ◌∙◌}
+use Rattle.std.proofs.Common.{ap, arith, ◌∙◌}
 use Rattle.snmp_wire.specs.Canon.{subidentifier_size}
 use Rattle.snmp_wire.proofs.IdentifierWriting.{length-content}
 use Rattle.snmp_wire.proofs.identifier.identifier_size.Goals as goal

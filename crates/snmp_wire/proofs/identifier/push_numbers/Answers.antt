@@ -1,7 +1,7 @@
 use Rattle.std.proofs.Common.{◌-◌, length, arith}
-use Rattle.std.proofs.lemmas.List.{length_push}
+use Rattle.std.proofs.lemmas.List.{length_push, length-append}
 use Rattle.snmp_wire.proofs.ReadingLemmas.{some_left, none_left}
-use Rattle.snmp_wire.proofs.IdentifierLemmas.{start, push_has_room, push_never_fails, push_goes_on, push_ends}
+use Rattle.snmp_wire.proofs.IdentifierLemmas.{start, push_has_room, push_never_fails, push_goes_on, push_ends, plain_fits, push_plain}
 use Rattle.snmp_wire.proofs.identifier.push_numbers.Goals as goal
 
 pub numbers-init : goal.numbers-init
@@ -24,6 +24,21 @@ numbers-smaller c =
 pub numbers-preserved : goal.numbers-preserved
 numbers-preserved c = record {
   whole = rw c.push.ensures (push_goes_on c.numbers.oid c.numbers.rest.now _ c.in-Ok.number c.in-Ok.after.now (some_left _ _ c.is_empty.ensures c.numbers-test.true) c.in-Ok.ensures c.numbers.invariant.whole);
+}
+
+pub push_four-requires-clause-room : goal.push_four-requires-clause-room
+push_four-requires-clause-room c =
+    plain_fits c.numbers.oid c.in-Some.octets.now c.in-Some.after.now c.numbers.rest.now _ (some_left _ _ c.is_empty.ensures c.numbers-test.true) c.in-Some.ensures c.numbers.invariant.whole
+
+pub numbers-smaller-in-Some : goal.numbers-smaller-in-Some
+numbers-smaller-in-Some c =
+    let fits = plain_fits c.numbers.oid c.in-Some.octets.now c.in-Some.after.now c.numbers.rest.now _ (some_left _ _ c.is_empty.ensures c.numbers-test.true) c.in-Some.ensures c.numbers.invariant.whole in
+    let four = c.in-Some.ensures.1 in
+    rw c.push_four.ensures (omega (arith, length-append c.numbers.oid c.in-Some.octets.now))
+
+pub numbers-preserved-in-Some : goal.numbers-preserved-in-Some
+numbers-preserved-in-Some c = record {
+  whole = rw c.push_four.ensures (push_plain c.numbers.oid c.in-Some.octets.now c.in-Some.after.now c.numbers.rest.now _ c.in-Some.ensures c.numbers.invariant.whole);
 }
 
 pub returns : goal.returns

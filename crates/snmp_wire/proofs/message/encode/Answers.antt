@@ -1,5 +1,4 @@
-use Rattle.std.proofs.Common.{arith, refl, ◌≡◌, ◌+◌, length}
-use Rattle.snmp_wire.specs.Canon.{canon}
+use Rattle.std.proofs.Common.{arith, refl}
 use Rattle.snmp_wire.specs.Parts.{parts_message}
 use Rattle.snmp_wire.proofs.BindingWriting.{encoded}
 use Rattle.snmp_wire.proofs.MessageWriting.{sizes_message, writes_message}

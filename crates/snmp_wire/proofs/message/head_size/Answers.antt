@@ -1,6 +1,4 @@
 use Rattle.std.proofs.Common.{rules}
-use mir.Syntax.{w32}
-use mir.Val.{SFits}
 use Rattle.snmp_wire.specs.Parts.{parts_message}
 use Rattle.snmp_wire.proofs.MessageWriting.{handed, sizes_head}
 use Rattle.snmp_wire.proofs.message.head_size.Goals as goal

@@ -1,5 +1,5 @@
 use Rattle.snmp_wire.proofs.BindingWriting.{binding_octets, bindings_are}
-use Rattle.std.proofs.Common.{ap, length, List, ℕ, ◌≤◌, subst, sym}
+use Rattle.std.proofs.Common.{length, List, ℕ, ◌≤◌, subst, sym}
 use Rattle.snmp_wire.proofs.ListWriting.{piece_fits, writes_piece, writes_pieces}
 use Rattle.snmp_wire.proofs.WritingLemmas.{writes_same}
 use Rattle.snmp_wire.proofs.message.put_bindings.Goals as goal

@@ -1,10 +1,7 @@
-use Rattle.std.proofs.Common.{arith, rules, ◌++◌}
+use Rattle.std.proofs.Common.{arith, rules}
 use mir.Syntax.{w32}
 use mir.Val.{SFits}
-use Rattle.snmp_wire.specs.Canon.{canon_fields, canon_front, canon_header}
-use Rattle.snmp_wire.specs.Message.{Message}
 use Rattle.snmp_wire.specs.Parts.{parts_message}
-use Rattle.snmp_wire.specs.Writing.{Writes}
 use Rattle.snmp_wire.proofs.MessageWriting.{length-canon_fields, length-handed, list_fits, message_header_fits, opening_fits, pdu_header_fits, writes_fields, writes_front, writes_head, written_number}
 use Rattle.snmp_wire.proofs.message.put_head.Goals as goal
 

@@ -1,4 +1,4 @@
-use Rattle.std.proofs.Common.{List, ap, length, refl, subst, sym, ℕ, ℤ, ◌≤◌, ◌∙◌}
+use Rattle.std.proofs.Common.{List, ap, length, refl, subst, sym, ℕ, ◌≤◌, ◌∙◌}
 use Rattle.std.proofs.lemmas.Int.{to_z-of_z}
 use mir.Syntax.{w32}
 use Rattle.snmp_wire.specs.Canon.{canon_number}

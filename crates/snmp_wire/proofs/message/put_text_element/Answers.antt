@@ -1,4 +1,4 @@
-use Rattle.std.proofs.Common.{List, ap, length, refl, subst, sym, ℕ, ◌≤◌}
+use Rattle.std.proofs.Common.{List, length, refl, subst, sym, ℕ, ◌≤◌}
 use Rattle.snmp_wire.specs.Message.{octet_string}
 use Rattle.snmp_wire.proofs.ElementLemmas.{content_text, value_content_fits, value_header_fits, writes_value}
 use Rattle.snmp_wire.proofs.WritingLemmas.{writes_same}

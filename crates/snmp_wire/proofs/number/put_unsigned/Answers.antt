@@ -1,6 +1,5 @@
-use Rattle.std.proofs.Common.{List, ℕ, pos, ap, subst, ◌∙◌}
-use Rattle.snmp_wire.specs.Canon.{canon_number, octets}
-use Rattle.snmp_wire.specs.Writing.{Writes}
+use Rattle.std.proofs.Common.{ap, ◌∙◌}
+use Rattle.snmp_wire.specs.Canon.{octets}
 use Rattle.snmp_wire.proofs.CanonLemmas.{octets_from_zero}
 use Rattle.snmp_wire.proofs.WritingLemmas.{writes_same}
 use Rattle.snmp_wire.proofs.number.put_unsigned.Goals as goal
