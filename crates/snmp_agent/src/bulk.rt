@@ -4,8 +4,7 @@
 ghost use Rattle.std.specs.Prelude.{◌≡◌, ◌≤◌, ◌↔◌, List, length, take, drop, IsTrue};
 ghost use Rattle.snmp_wire.specs.Message.{VarBind, datum, end_of_mib_view};
 ghost use Rattle.snmp_wire.specs.Parts.{parts_message};
-ghost use Rattle.snmp_table.specs.Table.{IsNext};
-ghost use Rattle.snmp_agent.specs.Reply.{AreAnswers, IsBulk, joined, or_zero};
+ghost use Rattle.snmp_agent.specs.Reply.{IsBulk, joined, or_zero};
 ghost use Rattle.snmp_agent.specs.Answering.{AreWritable, whole_size, HoldsFront, AreGiven, IsProgress, Leaves, HasRow, AreRoundsFrom};
 
 use crate::draft::append;
