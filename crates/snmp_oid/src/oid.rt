@@ -313,4 +313,18 @@ mod tests {
         assert_eq!(rt; Oid::from_slice(&[7; 129]), Err(OidError::TooLong));
         Ok(())
     }
+
+    #[test]
+    fn numbers_appended_and_taken_away(rt: HostRuntime) -> Result<(), Fail> {
+        let mut oid = Oid::from_slice(&[1, 3])?;
+        oid.extend_from_slice(&[6, 1, 4])?;
+        assert_eq!(rt; oid, Oid::from_slice(&[1, 3, 6, 1, 4])?);
+        assert_eq!(rt; oid.extend_from_slice(&[7; 124]), Err(OidError::TooLong));
+        assert_eq!(rt; oid, Oid::from_slice(&[1, 3, 6, 1, 4])?);
+        oid.clear();
+        assert!(rt; oid.is_empty());
+        oid.push(2)?;
+        assert_eq!(rt; oid, Oid::from_slice(&[2])?);
+        Ok(())
+    }
 }

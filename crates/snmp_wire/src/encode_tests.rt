@@ -4,7 +4,10 @@ ghost use Rattle.std.specs.Prelude.{IsTrue, All, ◌≡◌, ◌≤◌, length};
 ghost use Rattle.snmp_wire.specs.Canon.{IsEncodable, IsEncodableValue, canon_bindings};
 ghost use Rattle.snmp_wire.specs.Message.{datum, var_bind, var_binds};
 
-use crate::{Binding, Kind, Oid, Parts, ValueRef, binding_size, encode, encode_binding, size};
+use crate::{
+    Binding, Kind, MessageRef, Oid, Parts, ValueRef, binding_size, decode, encode, encode_binding,
+    size,
+};
 use std::process::Abort;
 
 /// A message of version 1, community `public` and id 1.
@@ -208,4 +211,78 @@ fn the_longest_name(rt: HostRuntime) {
         ]
         .as_slice()
     );
+}
+
+/// Writes a message of these bindings to the front of `out`, and answers its length.
+fn write_again<'a>(
+    rt: &impl Abort,
+    message: &MessageRef<'a>,
+    bindings: &'a [Binding<'a>],
+    out: &mut [u8],
+) -> usize
+    requires bindings { All (λ b. IsEncodable (var_bind b)) bindings.now }
+    requires total { length (canon_bindings (var_binds bindings.now)) ≤ 4000000000 }
+{
+    let parts = Parts {
+        version: message.version(),
+        community: message.community(),
+        kind: message.kind(),
+        id: message.id(),
+        a: message.a(),
+        b: message.b(),
+        bindings,
+    };
+    assert!(rt; parts.community.len() <= 65535);
+    let Some(len) = encode(&parts, out) else {
+        panic!(rt; "there is room")
+    };
+    assert_eq!(rt; size(&parts), len as u64);
+    len
+}
+
+/// With each octet of a request replaced by each other, what is read is written in its shortest encoding, and that is read as the same.
+#[test]
+fn what_is_read_is_written(rt: HostRuntime) {
+    for at in 0..REQUEST.len() {
+        for octet in 0..=255u8 {
+            let mut datagram = REQUEST;
+            datagram[at] = octet;
+            if let Ok(message) = decode(&datagram) {
+                assert_written(&rt, &message);
+            }
+        }
+    }
+}
+
+/// Asserts that a message of at most one binding is written, and that what is written is read as the same: it is written in the same way again.
+fn assert_written(rt: &impl Abort, message: &MessageRef<'_>) {
+    let mut first = [0; 512];
+    let len = write_all(rt, message, &mut first);
+    assert!(rt; len <= first.len());
+    let Ok(again) = decode(&first[..len]) else {
+        panic!(rt; "it spells a message")
+    };
+    assert_eq!(rt; again.version(), message.version());
+    assert_eq!(rt; again.kind(), message.kind());
+    assert_eq!(rt; again.id(), message.id());
+    assert_eq!(rt; (again.a(), again.b()), (message.a(), message.b()));
+    let mut second = [0; 512];
+    let again_len = write_all(rt, &again, &mut second);
+    assert!(rt; again_len <= second.len());
+    assert_eq!(rt; &second[..again_len], &first[..len]);
+}
+
+/// Writes a message of at most one binding to the front of `out`, and answers its length.
+#[tactic(auto, unfolding(crate::specs::Canon::canon_bindings))]
+fn write_all(rt: &impl Abort, message: &MessageRef<'_>, out: &mut [u8]) -> usize {
+    let mut bindings = message.bindings();
+    let Some(binding) = bindings.next() else {
+        return write_again(rt, message, &[], out);
+    };
+    assert!(rt; bindings.next().is_none());
+    assert!(rt; binding.name.is_wire());
+    assert!(rt; is_encodable(&binding.value));
+    let one = [binding];
+    assert!(rt; octets_of(&one) < 512);
+    write_again(rt, message, &one, out)
 }

@@ -426,3 +426,39 @@ fn owned_string(rt: HostRuntime) -> Result<(), Fail> {
     }
     Ok(())
 }
+
+/// A Response of four bindings: 1.3.6.1.2 with Counter32 200, 1.3 with Counter32 256, 1.3.1000 with the string `x`, and 1.3 with Null.
+const FOUR_BINDINGS: [u8; 64] = [
+    0x30, 0x3E, 0x02, 0x01, 0x01, 0x04, 0x06, 0x70, 0x75, 0x62, 0x6C, 0x69, 0x63, 0xA2, 0x31, 0x02,
+    0x01, 0x01, 0x02, 0x01, 0x00, 0x02, 0x01, 0x00, 0x30, 0x26, 0x30, 0x0A, 0x06, 0x04, 0x2B, 0x06,
+    0x01, 0x02, 0x41, 0x02, 0x00, 0xC8, 0x30, 0x07, 0x06, 0x01, 0x2B, 0x41, 0x02, 0x01, 0x00, 0x30,
+    0x08, 0x06, 0x03, 0x2B, 0x87, 0x68, 0x04, 0x01, 0x78, 0x30, 0x05, 0x06, 0x01, 0x2B, 0x05, 0x00,
+];
+
+#[test]
+fn bindings_read_in_place(rt: HostRuntime) -> Result<(), Fail> {
+    let message = decode(&FOUR_BINDINGS).ok().ok_or("it spells a message")?;
+    let expected = [
+        ([1, 3, 6, 1, 2].as_slice(), ValueRef::Counter32(200)),
+        ([1, 3].as_slice(), ValueRef::Counter32(256)),
+        ([1, 3, 1000].as_slice(), ValueRef::Octets(b"x")),
+        ([1, 3].as_slice(), ValueRef::Null),
+    ];
+    let mut given = message.bindings();
+    let mut read = message.bindings();
+    let mut binding = Binding {
+        name: Oid::from_slice(&[9, 9, 9, 9, 9, 9])?,
+        value: ValueRef::EndOfMibView,
+    };
+    for (name, value) in expected {
+        assert!(rt; read.read_next(&mut binding));
+        assert_eq!(rt; binding.name.as_slice(), name);
+        assert_eq!(rt; binding.value, value);
+        assert_eq!(rt; given.next().as_ref(), Some(&binding));
+    }
+    assert!(rt; !read.read_next(&mut binding));
+    assert_eq!(rt; binding.name.as_slice(), [1, 3].as_slice());
+    assert_eq!(rt; binding.value, ValueRef::Null);
+    assert!(rt; given.next().is_none());
+    Ok(())
+}
