@@ -1,26 +1,20 @@
 -- Definitions one after the other, with the names that they define.
-use Rattle.std.proofs.Common.{◌≡◌, ℕ, ◌<◌, ◌≤◌, Bool, true, false, ◌&&◌, ◌||◌, not, List, [], ◌∷◌, ◌++◌, length, Option, Some, None, refl, sym, ◌∙◌, ap, subst, arith, append_assoc, append-nil, inl, inr, ◌⊎◌}
-use Rattle.std.specs.Prelude.{map, codes}
+use Rattle.std.proofs.Common.{◌≡◌, ℕ, Bool, true, false, ◌||◌, not, List, [], ◌∷◌, ◌++◌, Some, refl, sym, ◌∙◌, ap, subst, append_assoc, append-nil}
 use Rattle.std.specs.List.{flat_map, list_any, list_all}
-use Rattle.smi_lexer.specs.declared.token.TokenKind.{TokenKind}
-use Rattle.smi_lexer.specs.declared.token.TokenKind.TheVariants as K
 use Rattle.smi_lexer.specs.Token.{Lexeme}
-use Rattle.smi_text.specs.Mark.{Mark, spelt, on_line, same_text, Stands}
-use Rattle.smi_text.specs.Reserved.{is_reserved}
-use Rattle.smi_text.specs.Number.{is_macro}
-use Rattle.smi_text.specs.Format.{Format, Ahead, begins}
+use Rattle.smi_text.specs.Mark.{Mark, same_text, Stands}
+use Rattle.smi_text.specs.Format.{Ahead, begins}
 use Rattle.smi_text.specs.Grammar.{definition, module_text, file}
-use Rattle.smi_text.specs.Spelling.{of_def, of_def_kind, of_module, of_head, spelling}
+use Rattle.smi_text.specs.Spelling.{of_def, of_def_kind, of_module, spelling}
 use Rattle.smi_text.specs.Text.{labels, are_distinct, HasNoDoubles}
 use Rattle.smi_text.specs.Gives.{text_ahead}
 use Rattle.smi_text.specs.declared.tree.Def.{Def}
 use Rattle.smi_text.specs.declared.tree.DefKind.{DefKind}
 use Rattle.smi_text.specs.declared.tree.DefKind.TheVariants as D
 use Rattle.smi_text.specs.declared.tree.Module.{Module}
-use Rattle.smi_text.proofs.Lawful.{Lawful}
 use Rattle.smi_text.proofs.Marks.{and-left, and-right, and-both, or-false, false-from, same_text-eq, same_text-same, Stands-append}
 use Rattle.smi_text.proofs.Productions.{definition-law, module_text-law, file-law}
-use Rattle.smi_text.proofs.Spells.{def-spells, module-spells, file-spells, lists}
+use Rattle.smi_text.proofs.Spells.{def-spells, module-spells, file-spells}
 
 -- the label of a definition is the text of its first token
 

@@ -1,20 +1,19 @@
 -- Where definitions define a name again, no modules without a double name are read.
-use Rattle.std.proofs.Common.{◌≡◌, ℕ, zero, suc, ◌+◌, ◌<◌, ◌≤◌, Bool, true, false, ◌&&◌, ◌||◌, not, List, [], ◌∷◌, ◌++◌, length, Option, Some, None, refl, sym, ◌∙◌, ap, subst, arith, inl, inr, ◌⊎◌}
-use Rattle.std.specs.Prelude.{map, option_map, option_and_then, codes}
+use Rattle.std.proofs.Common.{◌≡◌, ℕ, true, false, not, List, [], ◌∷◌, ◌++◌, Some, None, refl, sym, ◌∙◌, ap, subst, inl, inr}
+use Rattle.std.specs.Prelude.{codes}
 use Rattle.std.specs.List.{flat_map, list_any, list_all}
 use Rattle.smi_lexer.specs.Token.{Lexeme}
 use Rattle.smi_text.specs.Mark.{Mark, same_text, Stands}
 use Rattle.smi_text.specs.Reserved.{is_reserved}
-use Rattle.smi_text.specs.Format.{Format, Reading, begins, apart, read_many, with_front, before, begins, behind, either, lined, many, maybe, name, pair, read_many, separated, shaped, some_of, text, text_where, token, with_front, word}
+use Rattle.smi_text.specs.Format.{Format, Reading, begins, apart, with_front, before, begins, behind, either, lined, many, maybe, name, pair, separated, shaped, some_of, text, text_where, token, with_front, word}
 use Rattle.smi_text.specs.Grammar.{to_module, arc, assigned, balanced, base, before_assign, before_end, bound, braced, choice, clause, default_value, definition, field, file, group, head, heading, identifier, import_clause, imports, index, index_names, later_part, lower_definition, macro_body, macro_definition, macro_name, module_identity, module_text, named_number, names, notification_type, object_identifier, object_identifier_words, object_identity, object_type, objects, octet_string_words, of_row, opening, parenthesized, part, range, ranges, raw_definition, refinement, revision, sequence, simple_type, size, status, symbol, syntax_clause, syntax_type, tag, tagged, textual_convention, upper_definition, value}
 use Rattle.smi_text.specs.Spelling.{of_def, of_head, of_module, spelling}
 use Rattle.smi_text.specs.Text.{labels, are_distinct, HasNoDoubles, HasSecond, DefinesAgain}
-use Rattle.smi_text.specs.Gives.{text_ahead}
 use Rattle.smi_text.specs.declared.modules.Head.{Head}
 use Rattle.smi_text.specs.declared.tree.Def.{Def}
 use Rattle.smi_text.specs.declared.tree.Module.{Module}
 use Rattle.smi_text.proofs.Lawful.{Lawful}
-use Rattle.smi_text.proofs.Marks.{and-left, and-right, or-cases, or-left, or-right, same_text-eq, same_text-same, Stands-split, map-inv, then-inv, apart-false}
+use Rattle.smi_text.proofs.Marks.{and-left, and-right, or-cases, or-left, or-right, same_text-eq, same_text-same, Stands-split, apart-false}
 use Rattle.smi_text.proofs.Many.{many-fails, many-goes_on, with_front-append, with_front-nil}
 use Rattle.smi_text.proofs.Laws.{starts-with, some-inj}
 use Rattle.smi_text.proofs.Productions.{definition-law, head-law, module_text-law}

@@ -1,18 +1,16 @@
 -- The steps of the loops over definitions and over modules.
-use Rattle.std.proofs.Common.{◌≡◌, ℕ, suc, ◌<◌, ◌≤◌, Bool, true, false, ◌||◌, not, List, [], ◌∷◌, ◌++◌, length, Option, Some, None, refl, sym, ◌∙◌, ap, subst, arith, Bor}
+use Rattle.std.proofs.Common.{◌≡◌, ℕ, ◌<◌, ◌≤◌, Bool, true, false, ◌||◌, List, [], ◌∷◌, ◌++◌, length, Some, None, refl, sym, ◌∙◌, ap, subst, arith, Bor}
 use Rattle.std.specs.Prelude.{codes}
 use Rattle.std.specs.List.{flat_map, list_any}
 use Rattle.std.specs.BTreeSet.{BTreeSet}
-use Rattle.smi_lexer.specs.declared.error.LexError.{LexError}
 use Rattle.smi_lexer.specs.Token.{Lexeme}
 use Rattle.smi_text.specs.Mark.{Mark, same_text, Stands}
-use Rattle.smi_text.specs.Reserved.{is_reserved}
 use Rattle.smi_text.specs.Names.{has}
-use Rattle.smi_text.specs.Format.{Format, Reading, Ahead, begins, read_many, many, with_front, shaped, pair, before, word}
+use Rattle.smi_text.specs.Format.{Ahead, begins, read_many, many, with_front, shaped, pair, before, word}
 use Rattle.smi_text.specs.Grammar.{definition, head, module_text, file}
 use Rattle.smi_text.specs.Spelling.{of_def, of_head, of_module, spelling}
-use Rattle.smi_text.specs.Text.{labels, are_distinct, HasNoDoubles, HasSecond, DefinesAgain}
-use Rattle.smi_text.specs.Gives.{is_memory, error_of, text_ahead, ReadsDefinitions, DefinitionsFault, ReadsModule, OpensTwice, ModuleFault, ReadsModules, ModulesFault}
+use Rattle.smi_text.specs.Text.{labels, are_distinct, HasNoDoubles, HasSecond}
+use Rattle.smi_text.specs.Gives.{is_memory, error_of, text_ahead, ReadsDefinitions, DefinitionsFault, ReadsModule, ModuleFault, ReadsModules, ModulesFault}
 use Rattle.smi_text.specs.declared.stop.Stop.{Stop}
 use Rattle.smi_text.specs.declared.stop.Stop.TheVariants as S
 use Rattle.smi_text.specs.declared.error.ParseError.{ParseError}
@@ -20,7 +18,6 @@ use Rattle.smi_text.specs.declared.error.ParseError.TheVariants as E
 use Rattle.smi_text.specs.declared.modules.Head.{Head}
 use Rattle.smi_text.specs.declared.tree.Def.{Def}
 use Rattle.smi_text.specs.declared.tree.Module.{Module}
-use Rattle.smi_text.proofs.Lawful.{Lawful}
 use Rattle.smi_text.proofs.Marks.{Stands-append}
 use Rattle.smi_text.proofs.Many.{reading-shorter, next-many, stuck-many, end-many, many-starts_with, with_front-append, with_front-none, with_front-end, with_front-nil}
 use Rattle.smi_text.proofs.Laws.{starts-with, some-inj}

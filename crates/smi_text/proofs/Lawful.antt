@@ -1,8 +1,8 @@
 -- When a format is sound: what it reads is what it spells, and what is spelt is read.
-use Rattle.std.specs.Prelude.{◌≡◌, ℕ, Bool, true, false, List, Option, Some}
+use Rattle.std.specs.Prelude.{◌≡◌, true, false, List, Some}
 use Rattle.std.proofs.Common.{◌⊎◌}
 use Rattle.smi_lexer.specs.Token.{Lexeme}
-use Rattle.smi_text.specs.Mark.{Mark, Stands}
+use Rattle.smi_text.specs.Mark.{Stands}
 use Rattle.smi_text.specs.Format.{Format, begins}
 
 pub record Lawful {A : Type 0} (f : Format A) : Type 0 where

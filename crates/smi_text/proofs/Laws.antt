@@ -1,16 +1,16 @@
 -- Each way of making a format keeps it lawful.
-use Rattle.std.proofs.Common.{◌≡◌, ℕ, zero, suc, ◌+◌, ◌<◌, ◌≤◌, Bool, true, false, ◌&&◌, ◌||◌, not, List, [], ◌∷◌, ◌++◌, length, Option, Some, None, if◌then◌else◌, refl, sym, ◌∙◌, ap, subst, arith, inl, inr, ◌⊎◌}
+use Rattle.std.proofs.Common.{◌≡◌, ℕ, zero, suc, ◌<◌, Bool, true, false, ◌&&◌, not, List, [], ◌∷◌, ◌++◌, length, Option, Some, None, if◌then◌else◌, refl, sym, ◌∙◌, ap, subst, arith, inl, inr, ◌⊎◌}
 use Rattle.std.specs.Prelude.{option_map, option_and_then}
 use Rattle.std.specs.List.{list_any, flat_map}
 use Rattle.smi_lexer.specs.declared.token.TokenKind.{TokenKind}
 use Rattle.smi_lexer.specs.declared.token.TokenKind.TheVariants.{Upper}
 use Rattle.smi_lexer.specs.Token.{Lexeme}
-use Rattle.smi_text.specs.Mark.{Mark, sign, spelt, on_line, same_kind, same_text, Fits, Stands}
+use Rattle.smi_text.specs.Mark.{Mark, sign, spelt, same_kind, same_text, Fits, Stands}
 use Rattle.smi_text.specs.Reserved.{is_reserved}
 use Rattle.smi_text.specs.Format.{Format, Reading, Ahead, a_word, a_name, a_kind, is_word, meets, begins, apart, never, one, read_one, word, token, text, text_where, name, pair, behind, before, maybe, spell_option, either, spell_either, read_many, many, spell_pieces, shaped, put_line, line_ahead, lined, with_front}
-use Rattle.smi_text.proofs.Lawful.{Lawful, Repeatable}
-use Rattle.smi_text.proofs.Marks.{and-left, and-right, and-both, or-left, or-right, or-false, false-from, same_kind-eq, same_kind-same, same_text-eq, same_text-same, Stands-append, Stands-split, map-inv, then-inv, begins-append, begins-none, apart-false}
-use Rattle.smi_text.proofs.Many.{shorter, many-goes_on, many-done, with_front-none}
+use Rattle.smi_text.proofs.Lawful.{Lawful}
+use Rattle.smi_text.proofs.Marks.{and-left, and-right, and-both, or-left, or-right, or-false, same_kind-eq, same_kind-same, same_text-eq, same_text-same, Stands-append, Stands-split, map-inv, then-inv, begins-append, begins-none, apart-false}
+use Rattle.smi_text.proofs.Many.{shorter, many-goes_on, many-done}
 
 pub some-inj : {A : Type 0} (x y : A) → Some x ≡ Some y → x ≡ y
 some-inj x y h = cc

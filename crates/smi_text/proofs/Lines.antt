@@ -21,7 +21,6 @@ use Rattle.smi_text.specs.declared.tree.Def.{Def}
 use Rattle.smi_text.specs.declared.tree.Part.{Part}
 use Rattle.smi_text.specs.declared.tree.Part.TheVariants as P
 use Rattle.smi_text.specs.declared.tree.ModuleIdentity.{ModuleIdentity}
-use Rattle.smi_text.specs.declared.tree.ObjectIdentity.{ObjectIdentity}
 use Rattle.smi_text.specs.declared.tree.Status.{Status}
 use Rattle.smi_text.specs.declared.tree.ObjectType.{ObjectType}
 use Rattle.smi_text.specs.declared.tree.Index.{Index}

@@ -1,14 +1,14 @@
 -- One step of the loops that read the names of an index, and tokens between braces.
-use Rattle.std.proofs.Common.{◌≡◌, ℕ, zero, suc, ◌+◌, ◌-◌, ◌<◌, ◌≤◌, Bool, true, false, ◌&&◌, not, List, [], ◌∷◌, ◌++◌, length, Option, Some, None, if◌then◌else◌, refl, sym, ◌∙◌, ap, subst, arith, append_assoc, length-append, length-drop}
-use Rattle.std.specs.Prelude.{◌==◌, codes, drop, option_map, option_and_then}
+use Rattle.std.proofs.Common.{◌≡◌, ℕ, zero, suc, ◌+◌, ◌-◌, ◌<◌, ◌≤◌, true, false, List, [], ◌∷◌, ◌++◌, length, Some, None, if◌then◌else◌, refl, sym, ap, arith, append_assoc, length-drop}
+use Rattle.std.specs.Prelude.{◌==◌, codes, drop}
 use Rattle.smi_lexer.specs.declared.token.TokenKind.{TokenKind}
 use Rattle.smi_lexer.specs.declared.token.TokenKind.TheVariants as K
 use Rattle.smi_lexer.specs.Token.{Lexeme}
 use Rattle.smi_text.specs.declared.tree.TokenText.{TokenText}
 use Rattle.smi_text.specs.declared.tree.IndexParts.{IndexParts}
 use Rattle.smi_text.specs.Mark.{same_kind}
-use Rattle.smi_text.specs.Format.{Format, Reading, a_word, a_kind, begins, word, text, behind, with_front}
-use Rattle.smi_text.specs.Grammar.{index_names, read_index, with_names, parts_of, implied_name, depth_after, is_outside, kept_text, read_balanced, balanced}
+use Rattle.smi_text.specs.Format.{Reading, a_word, a_kind, begins, word, text, behind, with_front}
+use Rattle.smi_text.specs.Grammar.{index_names, read_index, with_names, parts_of, depth_after, is_outside, kept_text, read_balanced, balanced}
 use Rattle.smi_text.proofs.Laws.{text-law}
 use Rattle.smi_text.proofs.Many.{reading-shorter, with_front-append, with_front-end}
 

@@ -1,5 +1,5 @@
 -- The productions of the grammar are lawful.
-use Rattle.std.proofs.Common.{◌≡◌, ℕ, zero, suc, ◌+◌, ◌<◌, ◌≤◌, Bool, true, false, ◌&&◌, ◌||◌, not, List, [], ◌∷◌, ◌++◌, length, Option, Some, None, if◌then◌else◌, refl, sym, ◌∙◌, ap, subst, arith, inl, inr, ◌⊎◌}
+use Rattle.std.proofs.Common.{◌≡◌, ℕ, zero, suc, ◌≤◌, Bool, true, false, ◌&&◌, ◌||◌, not, List, [], ◌∷◌, ◌++◌, length, Option, Some, None, if◌then◌else◌, refl, sym, ◌∙◌, ap, subst, arith, inl, inr, ◌⊎◌}
 use Rattle.std.specs.Prelude.{◌==◌, codes, map, drop, option_map, option_and_then}
 use Rattle.std.specs.List.{list_any, list_all}
 use Rattle.smi_lexer.specs.declared.token.TokenKind.{TokenKind}
@@ -8,9 +8,9 @@ use Rattle.smi_lexer.specs.Token.{Lexeme}
 use Rattle.smi_text.specs.Mark.{Mark, sign, spelt, on_line, same_kind, same_text, Fits, Stands}
 use Rattle.smi_text.specs.Reserved.{is_reserved, macros, reserved_words}
 use Rattle.smi_text.specs.Number.{is_arc, is_number, is_bound, is_symbol, is_macro, is_literal}
-use Rattle.smi_text.specs.Format.{Format, Reading, Ahead, a_word, a_name, a_kind, no_word, no_kind, meets, apart, never, one, begins, spell_pieces, before, begins, behind, either, lined, many, maybe, name, pair, separated, shaped, some_of, text, text_where, token, with_front, word}
+use Rattle.smi_text.specs.Format.{Format, Reading, Ahead, a_word, a_name, a_kind, no_word, no_kind, meets, apart, never, begins, spell_pieces, before, begins, behind, either, lined, many, maybe, name, pair, separated, shaped, some_of, text, text_where, token, with_front, word}
 use Rattle.smi_text.specs.Grammar.{index_marks, parts_of, implied_name, kept, kept_text, macro_words, to_named_number, from_named_number, to_part, from_part, to_later_part, from_later_part, to_range, from_range, to_refinement, from_refinement, to_base, from_base, to_simple_type, from_simple_type, to_syntax, from_syntax, to_field, from_field, to_status, from_status, to_revision, from_revision, to_index, from_index, depth_after, is_outside, raw_marks, to_module_identity, from_module_identity, to_object_identity, from_object_identity, to_object_type, from_object_type, to_notification_type, from_notification_type, to_group, from_group, to_raw_definition, from_raw_definition, to_textual_convention, from_textual_convention, Lower, to_lower, from_lower, Assigned, to_assigned, from_assigned, from_type, to_macro, from_macro, to_upper, from_upper, Labelled, to_def, from_def, def_pieces, to_import, from_import, to_head, from_head, to_module, from_module, head_of, arc, assigned, balanced, base, before_assign, before_end, bound, braced, choice, clause, default_value, definition, field, file, group, head, heading, identifier, import_clause, imports, index, index_names, is_balanced, later_part, lower_definition, macro_body, macro_definition, macro_name, module_identity, module_text, named_number, names, notification_type, object_identifier, object_identifier_words, object_identity, object_type, objects, octet_string_words, of_row, opening, parenthesized, part, range, ranges, raw_definition, read_balanced, read_index, refinement, revision, sequence, simple_type, size, status, symbol, syntax_clause, syntax_type, tag, tagged, textual_convention, upper_definition, value, with_names}
-use Rattle.smi_text.proofs.Lawful.{Lawful, Repeatable}
+use Rattle.smi_text.proofs.Lawful.{Lawful}
 use Rattle.smi_text.proofs.Marks.{and-left, and-right, and-both, or-cases, or-left, or-right, or-false, false-from, same_kind-eq, same_kind-same, same_text-eq, Stands-append, Stands-split, begins-none, begins-append, map-inv, then-inv}
 use Rattle.smi_text.proofs.Many.{Stands-length}
 use Rattle.smi_text.proofs.Laws.{IsOne, some-inj, if-some, if-true, any-one, never-stands, one-law, word-law, token-law, text-law, text_where-law, name-law, pair-law, behind-law, before-law, maybe-law, either-law, many-law, shaped-law, lined-law, starts-with}
@@ -20,20 +20,12 @@ use Rattle.smi_text.specs.declared.tree.IndexParts.{IndexParts}
 use Rattle.smi_text.specs.declared.tree.Index.TheVariants as I
 use Rattle.smi_text.specs.declared.tree.Index.{Index}
 use Rattle.smi_text.specs.declared.tree.Def.{Def}
-use Rattle.smi_text.specs.declared.tree.Import.{Import}
-use Rattle.smi_text.specs.declared.tree.Module.{Module}
-use Rattle.smi_text.specs.declared.modules.Head.{Head}
 use Rattle.smi_text.specs.declared.tree.DefKind.{DefKind}
 use Rattle.smi_text.specs.declared.tree.DefKind.TheVariants as D
-use Rattle.smi_text.specs.declared.tree.ModuleIdentity.{ModuleIdentity}
-use Rattle.smi_text.specs.declared.tree.Revision.{Revision}
-use Rattle.smi_text.specs.declared.tree.ObjectIdentity.{ObjectIdentity}
 use Rattle.smi_text.specs.declared.tree.Status.{Status}
-use Rattle.smi_text.specs.declared.tree.ObjectType.{ObjectType}
 use Rattle.smi_text.specs.declared.tree.NotificationType.{NotificationType}
 use Rattle.smi_text.specs.declared.tree.Group.{Group}
 use Rattle.smi_text.specs.declared.tree.RawDefinition.{RawDefinition}
-use Rattle.smi_text.specs.declared.tree.TextualConvention.{TextualConvention}
 use Rattle.smi_text.specs.declared.tree.Part.TheVariants as P
 use Rattle.smi_text.specs.declared.tree.NamedNumber.{NamedNumber}
 use Rattle.smi_text.specs.declared.tree.Syntax.{Syntax}

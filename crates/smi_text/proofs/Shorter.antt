@@ -1,5 +1,5 @@
 -- Productions of which there may be several in a row take a token at least.
-use Rattle.std.proofs.Common.{◌≡◌, ℕ, ◌<◌, Bool, true, false, List, Option, Some, None, Result, Ok, Err, length, refl}
+use Rattle.std.proofs.Common.{◌≡◌, ℕ, ◌<◌, false, List, Result, Ok, Err, length, refl}
 use Rattle.std.specs.Prelude.{OnOk}
 use Rattle.smi_lexer.specs.Token.{Lexeme}
 use Rattle.smi_text.specs.declared.stop.Stop.{Stop}
@@ -18,7 +18,6 @@ use Rattle.smi_lexer.specs.declared.token.TokenKind.TheVariants as K
 use Rattle.smi_text.specs.declared.tree.Revision.{Revision}
 use Rattle.smi_text.specs.declared.tree.TokenText.{TokenText}
 use Rattle.smi_text.specs.declared.tree.Import.{Import}
-use Rattle.smi_text.specs.Reserved.{is_reserved}
 
 gives-shorter : {A : Type 0} (f : Format A) → Lawful f → f.empty ≡ false → (r : Result A Stop) (ts rest : List Lexeme) → Gives r rest (f.read ts) → OnOk r (length rest < length ts)
 gives-shorter f law solid (Ok x) ts rest h = reading-shorter f law solid x ts rest h

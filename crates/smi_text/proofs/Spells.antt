@@ -1,13 +1,12 @@
 -- The formats spell each part of the tree as the grammar's cases do.
-use Rattle.std.proofs.Common.{◌≡◌, ℕ, Bool, true, false, ◌&&◌, not, List, [], ◌∷◌, ◌++◌, Option, Some, None, if◌then◌else◌, refl, sym, ◌∙◌, ap, ◌⊎◌, inl, inr, append_assoc}
-use Rattle.std.specs.Prelude.{codes, map}
+use Rattle.std.proofs.Common.{◌≡◌, ℕ, Bool, true, false, not, List, [], ◌∷◌, ◌++◌, Option, Some, None, if◌then◌else◌, refl, ap, ◌⊎◌, inl, inr}
+use Rattle.std.specs.Prelude.{codes}
 use Rattle.std.specs.List.{flat_map}
-use Rattle.smi_lexer.specs.declared.token.TokenKind.{TokenKind}
 use Rattle.smi_lexer.specs.declared.token.TokenKind.TheVariants as K
-use Rattle.smi_text.specs.Mark.{Mark, sign, spelt, on_line, same_kind, same_text}
+use Rattle.smi_text.specs.Mark.{Mark, sign, spelt, on_line}
 use Rattle.smi_text.specs.Reserved.{is_reserved}
 use Rattle.smi_text.specs.Number.{is_macro}
-use Rattle.smi_text.specs.Format.{Format, spell_option, spell_some, put_line, before, behind, either, lined, many, maybe, name, pair, separated, shaped, some_of, text, text_where, token, word}
+use Rattle.smi_text.specs.Format.{spell_option, spell_some, put_line, before, behind, either, lined, many, maybe, name, pair, separated, shaped, some_of, text, text_where, token, word}
 use Rattle.smi_text.specs.Grammar.{Labelled, index_marks, arc, assigned, balanced, base, before_assign, before_end, bound, braced, choice, clause, default_value, definition, field, file, group, head, heading, identifier, import_clause, imports, index, index_names, later_part, lower_definition, macro_body, macro_definition, macro_name, module_identity, module_text, named_number, names, notification_type, object_identifier, object_identifier_words, object_identity, object_type, objects, octet_string_words, of_row, opening, parenthesized, part, range, ranges, raw_definition, refinement, revision, sequence, simple_type, size, status, symbol, syntax_clause, syntax_type, tag, tagged, textual_convention, upper_definition, value}
 use Rattle.smi_text.specs.Spelling as say
 use Rattle.smi_text.specs.declared.tree.Module.{Module}
@@ -30,7 +29,6 @@ use Rattle.smi_text.specs.declared.tree.NotificationType.{NotificationType}
 use Rattle.smi_text.specs.declared.tree.Group.{Group}
 use Rattle.smi_text.specs.declared.tree.RawDefinition.{RawDefinition}
 use Rattle.smi_text.specs.declared.tree.TextualConvention.{TextualConvention}
-use Rattle.smi_text.specs.declared.tree.TypeAssignment.{TypeAssignment}
 use Rattle.smi_text.specs.declared.tree.Field.{Field}
 use Rattle.smi_text.specs.declared.tree.Syntax.{Syntax}
 use Rattle.smi_text.specs.declared.tree.Syntax.TheVariants as T
@@ -40,7 +38,6 @@ use Rattle.smi_text.specs.declared.tree.Base.TheVariants as B
 use Rattle.smi_text.specs.declared.tree.Refinement.{Refinement}
 use Rattle.smi_text.specs.declared.tree.Refinement.TheVariants as R
 use Rattle.smi_text.specs.declared.tree.Range.{Range}
-use Rattle.smi_text.specs.declared.modules.Head.{Head}
 
 -- two spellings that agree at each part agree at lists and at what may be left out
 

@@ -1,14 +1,13 @@
 -- The productions of the grammar as formats: each reads and spells one part of the tree.
-use Rattle.std.specs.Prelude.{◌≡◌, ℕ, ◌+◌, ◌-◌, ◌==◌, Bool, true, false, ◌&&◌, ◌||◌, not, List, [], ◌∷◌, ◌++◌, length, drop, Option, Some, None, codes, map, if◌then◌else◌, option_and_then, option_map}
-use Rattle.std.specs.List.{list_any}
+use Rattle.std.specs.Prelude.{ℕ, ◌+◌, ◌-◌, ◌==◌, Bool, true, false, ◌&&◌, not, List, [], ◌∷◌, ◌++◌, length, drop, Option, Some, None, codes, map, if◌then◌else◌, option_and_then, option_map}
 use Rattle.std.proofs.Common.{◌⊎◌, inl, inr, zero, suc}
 use Rattle.smi_lexer.specs.declared.token.TokenKind.{TokenKind}
 use Rattle.smi_lexer.specs.declared.token.TokenKind.TheVariants as K
 use Rattle.smi_lexer.specs.Token.{Lexeme}
 use Rattle.smi_text.specs.Mark.{Mark, sign, spelt, same_kind, same_text}
-use Rattle.smi_text.specs.Reserved.{is_reserved, macros}
+use Rattle.smi_text.specs.Reserved.{macros}
 use Rattle.smi_text.specs.Number.{is_arc, is_number, is_bound, is_symbol, is_macro}
-use Rattle.smi_text.specs.Format.{Format, Reading, Ahead, a_word, a_name, a_kind, no_word, no_kind, is_word, begins, never, one, word, token, text, text_where, name, pair, behind, before, maybe, either, many, shaped, some_of, separated, lined, with_front}
+use Rattle.smi_text.specs.Format.{Format, Reading, Ahead, a_word, a_name, a_kind, no_word, no_kind, begins, never, one, word, token, text, text_where, name, pair, behind, before, maybe, either, many, shaped, some_of, separated, lined, with_front}
 use Rattle.smi_text.specs.declared.tree.Module.{Module}
 use Rattle.smi_text.specs.declared.modules.Head.{Head}
 use Rattle.smi_text.specs.declared.tree.Import.{Import}
@@ -31,7 +30,6 @@ use Rattle.smi_text.specs.declared.tree.NotificationType.{NotificationType}
 use Rattle.smi_text.specs.declared.tree.Group.{Group}
 use Rattle.smi_text.specs.declared.tree.RawDefinition.{RawDefinition}
 use Rattle.smi_text.specs.declared.tree.TextualConvention.{TextualConvention}
-use Rattle.smi_text.specs.declared.tree.TypeAssignment.{TypeAssignment}
 use Rattle.smi_text.specs.declared.tree.Field.{Field}
 use Rattle.smi_text.specs.declared.tree.Syntax.{Syntax}
 use Rattle.smi_text.specs.declared.tree.Syntax.TheVariants as T

@@ -1,5 +1,5 @@
 -- Module trees and their spelling without lines.
-use Rattle.std.specs.Prelude.{ℕ, List, Option, map, option_map}
+use Rattle.std.specs.Prelude.{map, option_map}
 use Rattle.smi_text.specs.Mark.{Mark, sign, spelt, on_line}
 use Rattle.smi_text.specs.declared.tree.Module.{Module}
 use Rattle.smi_text.specs.declared.tree.Import.{Import}

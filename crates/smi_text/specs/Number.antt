@@ -1,5 +1,5 @@
 -- Numbers of module texts and their ranges (RFC 2578, sections 3.5 and 7.1).
-use Rattle.std.specs.Prelude.{ℕ, ◌+◌, ◌-◌, ◌*◌, ◌==◌, Bool, true, false, ◌&&◌, ◌||◌, not, nat_le, List, [], ◌∷◌, length, drop, take, if◌then◌else◌}
+use Rattle.std.specs.Prelude.{ℕ, ◌+◌, ◌-◌, ◌*◌, ◌==◌, Bool, false, ◌&&◌, ◌||◌, not, nat_le, List, [], ◌∷◌, length, drop, take, if◌then◌else◌}
 use Rattle.std.specs.List.{list_any}
 use Rattle.smi_lexer.specs.declared.token.TokenKind.{TokenKind}
 use Rattle.smi_lexer.specs.declared.token.TokenKind.TheVariants as K

@@ -1,5 +1,5 @@
 -- What a text says of modules, and its faults.
-use Rattle.std.specs.Prelude.{◌≡◌, ℕ, ◌&&◌, not, Bool, true, false, IsTrue, List, [], ◌∷◌, ◌++◌, Option, Some, None, Result, Ok, Err, map, Contains}
+use Rattle.std.specs.Prelude.{◌≡◌, ℕ, ◌&&◌, not, Bool, true, List, [], ◌∷◌, ◌++◌, Option, Some, None, map}
 use Rattle.std.specs.List.{flat_map, list_any, list_all}
 use Rattle.smi_lexer.specs.Token.{Lexeme, Item, tokens_of, fault_of}
 use Rattle.smi_lexer.specs.Lexes.{Lexes}
@@ -10,7 +10,7 @@ use Rattle.smi_text.specs.declared.tree.Module.{Module}
 use Rattle.smi_text.specs.declared.tree.Part.{Part}
 use Rattle.smi_text.specs.declared.tree.Import.{Import}
 use Rattle.smi_text.specs.declared.tree.Def.{Def}
-use Rattle.smi_text.specs.Mark.{Mark, Stands, same_text}
+use Rattle.smi_text.specs.Mark.{Stands, same_text}
 use Rattle.smi_text.specs.Spelling.{spelling, of_head, of_def}
 
 -- the text lexes to its end, and its tokens are the spelling of the modules

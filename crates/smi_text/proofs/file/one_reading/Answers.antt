@@ -1,4 +1,4 @@
-use Rattle.std.proofs.Common.{◌≡◌, List, [], ◌∙◌, sym, ap}
+use Rattle.std.proofs.Common.{List, [], ◌∙◌, sym, ap}
 use Rattle.smi_lexer.specs.Token.{Lexeme}
 use Rattle.smi_text.specs.declared.tree.Module.{Module}
 use Rattle.smi_text.proofs.Laws.{some-inj}

@@ -1,15 +1,14 @@
-use Rattle.std.proofs.Common.{◌≡◌, ℕ, List, [], Option, Some, None, Result, Ok, Err, Vec, Global, ◌∙◌, sym, ap, subst, refl}
+use Rattle.std.proofs.Common.{◌≡◌, ℕ, List, [], Some, Result, Ok, Err, Vec, Global, ◌∙◌, sym, ap, subst, refl}
 use Rattle.std.specs.Prelude.{IfOk, IfErr, MatchResult}
 use Rattle.std.proofs.lemmas.Result.{err_from_is_err_and, IfOk-weaker, IfErr-weaker}
 use Rattle.smi_lexer.proofs.Laws.{one_list}
 use Rattle.smi_lexer.specs.Token.{Lexeme, tokens_of, fault_of}
-use Rattle.smi_lexer.specs.declared.error.LexError.{LexError}
 use Rattle.smi_text.specs.declared.error.ParseError.{ParseError}
 use Rattle.smi_text.specs.declared.error.ParseError.TheVariants as E
 use Rattle.smi_text.specs.declared.tree.Module.{Module}
 use Rattle.smi_text.specs.Mark.{Stands}
 use Rattle.smi_text.specs.Spelling.{spelling}
-use Rattle.smi_text.specs.Text.{Spells, HasNoDoubles, IsCause, HasDouble, DefinesAgain}
+use Rattle.smi_text.specs.Text.{Spells, HasNoDoubles, IsCause, DefinesAgain}
 use Rattle.smi_text.specs.Gives.{AreTokens, LexFault, ReadsModules, ModulesFault}
 use Rattle.smi_text.proofs.Laws.{some-inj}
 use Rattle.smi_text.proofs.DefinitionLists.{file-stands, file-reads}

@@ -1,4 +1,4 @@
-use Rattle.std.proofs.Common.{◌≡◌, List, [], ◌∷◌, ◌++◌, ◌∙◌, sym, ap, refl, map, append-nil, Ok, Err}
+use Rattle.std.proofs.Common.{◌≡◌, List, [], ◌∷◌, ◌++◌, ◌∙◌, sym, ap, refl, map, append-nil, Ok}
 use Rattle.smi_lexer.specs.declared.token.Token.{Token}
 use Rattle.smi_lexer.specs.Token.{Lexeme, Item, tokens_of, fault_of, lexeme_of, item_of}
 use Rattle.smi_text.proofs.file.tokens_of.Goals as goal

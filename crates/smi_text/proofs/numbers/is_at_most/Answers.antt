@@ -1,6 +1,6 @@
-use Rattle.std.proofs.Common.{◌≡◌, ◌≤◌, ◌<◌, ◌*◌, ◌+◌, ◌∙◌, refl, sym, ap, arith, nat_le, get_or}
+use Rattle.std.proofs.Common.{◌≡◌, ◌*◌, ◌+◌, ◌∙◌, sym, ap, arith, nat_le, get_or}
 use Rattle.std.proofs.Math.Nat.{mul_comm}
-use Rattle.smi_text.specs.Number.{digit_value, continued}
+use Rattle.smi_text.specs.Number.{digit_value}
 use Rattle.smi_text.proofs.Digits.{continued-step, continued-above, continued-end}
 use Rattle.smi_text.proofs.numbers.is_at_most.Goals as goal
 

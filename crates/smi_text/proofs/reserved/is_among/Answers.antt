@@ -1,4 +1,4 @@
-use Rattle.std.proofs.Common.{◌≡◌, ◌∙◌, sym, refl, true, false}
+use Rattle.std.proofs.Common.{sym, refl}
 use Rattle.smi_text.proofs.Words.{is_one_of-drop, is_one_of-none}
 use Rattle.smi_text.proofs.reserved.is_among.Goals as goal
 

@@ -1,4 +1,4 @@
-use Rattle.std.proofs.Common.{◌≡◌, ◌≤◌, ◌∙◌, sym, ap, refl, length, arith, true, false, length-append, [], ◌∷◌}
+use Rattle.std.proofs.Common.{◌∙◌, sym, ap, arith, length-append, [], ◌∷◌}
 use Rattle.smi_text.specs.Format.{with_front}
 use Rattle.smi_text.specs.Grammar.{kept_text, read_balanced}
 use Rattle.smi_lexer.specs.Token.{lexeme_of}

@@ -1,4 +1,4 @@
-use Rattle.std.proofs.Common.{◌≡◌, ◌∙◌, sym, ap, Bool, true, false, not, refl}
+use Rattle.std.proofs.Common.{◌≡◌, ◌∙◌, sym, Bool, true, false, not, refl}
 use Rattle.std.proofs.lemmas.Result.{err_from_is_err_and}
 use Rattle.smi_text.proofs.FileSteps.{has_read-start, has_read-done, has_read-stuck, has_read-shorter, has_read-next, has_read-second, definitions-stop}
 use Rattle.smi_text.proofs.parser.Parser.definitions.Goals as goal

@@ -1,7 +1,6 @@
-use Rattle.std.proofs.Common.{◌≡◌, ◌∙◌, sym, ap, refl, length, arith, true, false}
+use Rattle.std.proofs.Common.{◌∙◌, sym, length, arith}
 use Rattle.std.proofs.lemmas.Result.{err_from_is_err_and}
-use Rattle.smi_text.specs.Grammar.{with_names}
-use Rattle.smi_text.proofs.Loops.{with_names-nil, index-implied, index-no_name, index-stuck, index-last, index-next, next-shorter, index_names-starts}
+use Rattle.smi_text.proofs.Loops.{with_names-nil, index-implied, index-no_name, index-stuck, index-last, index-next, index_names-starts}
 use Rattle.smi_text.proofs.parser.Parser.index_names.Goals as goal
 
 pub each-init : goal.each-init

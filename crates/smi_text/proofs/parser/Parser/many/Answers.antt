@@ -1,4 +1,3 @@
-use Rattle.std.proofs.Common.{◌≡◌, ◌∙◌, sym, ap}
 use Rattle.smi_text.proofs.Many.{with_front-nil}
 use Rattle.smi_text.proofs.parser.Parser.many.Goals as goal
 

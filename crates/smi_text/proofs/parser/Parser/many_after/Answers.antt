@@ -1,6 +1,6 @@
-use Rattle.std.proofs.Common.{◌≡◌, ◌≤◌, ℕ, refl, sym, ◌∙◌, ap, arith, List, [], ◌∷◌, length}
+use Rattle.std.proofs.Common.{sym, ◌∙◌, ap, arith, length}
 use Rattle.std.proofs.lemmas.Result.{err_from_is_err_and}
-use Rattle.smi_text.specs.Format.{many, with_front}
+use Rattle.smi_text.specs.Format.{with_front}
 use Rattle.smi_text.proofs.Many.{next-many, stuck-many, end-many, many-starts_with, with_front-append, with_front-none, with_front-end}
 use Rattle.smi_text.proofs.parser.Parser.many_after.Goals as goal
 
