@@ -22,3 +22,6 @@ pub use rows::{Rows, Step};
 pub use run::run_walk;
 pub use sink::Sink;
 pub use walker::WalkCore;
+
+#[cfg(test)]
+mod tests;
