@@ -8,7 +8,9 @@ ghost use Rattle.snmp_wire.specs.Canon.{IsEncodable, canon, canon_bindings};
 ghost use Rattle.snmp_wire.specs.Parts.{parts_message};
 ghost use Rattle.codec_bench.specs.Bench.{IsSpelt, counts, ends_in, has_number};
 
-use snmp_wire::{Binding, Bindings, MessageRef, Oid, Parts, ValueRef, binding_size, decode, encode};
+use snmp_wire::{
+    Binding, Bindings, MessageRef, Oid, Parts, ValueRef, binding_size, decode, encode,
+};
 use std::alloc::Global;
 
 /// Whether the octets are a message.

@@ -152,8 +152,8 @@ abbrev pub IsTold : WalkWords → Option Failure → Stream → Stream → ℕ �
 IsTold words None before after status = (status ≡ 0) × (after ≡ before)
 IsTold words (Some why) before after status =
     ((status ≡ status_of why)
-      × ((path : List ℕ) × IsPathIn words.agent path
-        × IsWritten before (message_of (record { agent = words.agent; path = path; name = words.name }) why ++ codes "\n") after))
+    × ((path : List ℕ) × IsPathIn words.agent path
+    × IsWritten before (message_of (record { agent = words.agent; path = path; name = words.name }) why ++ codes "\n") after))
     ⊎ ((status ≡ 1) × IsWritten before (codes "Out of memory.\n") after)
 
 -- what a job of these words does

@@ -39,14 +39,14 @@ pub fn run_job<F: Files, O: Output, E: Output>(
 ) -> u8
     ensures does { (words : WalkWords) → job_words job.now ≡ walk words
         → Does words (F.text_at files.now) (O.taken out.old.out, O.fault_count out.old.out) (O.taken out.new.out, O.fault_count out.new.out)
-            (E.taken err.old, E.fault_count err.old) (E.taken err.new, E.fault_count err.new) result }
+        (E.taken err.old, E.fault_count err.old) (E.taken err.new, E.fault_count err.new) result }
     ensures beginning { (words : WalkWords) → job_words job.now ≡ walk words
         → WritesABeginning words (F.text_at files.now) (O.taken out.old.out, O.fault_count out.old.out) (O.taken out.new.out, O.fault_count out.new.out) }
     ensures all { (words : WalkWords) → job_words job.now ≡ walk words
         → WritesAll words (F.text_at files.now) (O.taken out.old.out, O.fault_count out.old.out) (O.taken out.new.out, O.fault_count out.new.out) result }
     ensures well { (words : WalkWords) → job_words job.now ≡ walk words
         → EndsWell words (F.text_at files.now) (O.taken out.old.out, O.fault_count out.old.out) (O.taken out.new.out, O.fault_count out.new.out)
-            (E.taken err.old, E.fault_count err.old) (E.taken err.new, E.fault_count err.new) result }
+        (E.taken err.old, E.fault_count err.old) (E.taken err.new, E.fault_count err.new) result }
 {
     match job {
         Job::Walk(walk) => do_walk(alloc, walk, files, out, err),
@@ -71,12 +71,7 @@ fn do_walk<F: Files, O: Output, E: Output>(
 }
 
 /// Tells a failure on `err`, and answers its status. Where there is no memory for its message, that is told, and the status is 1.
-fn report<E: Output>(
-    alloc: Global,
-    failure: &Failure,
-    walk: &WalkJob<'_>,
-    err: &mut E,
-) -> u8
+fn report<E: Output>(alloc: Global, failure: &Failure, walk: &WalkJob<'_>, err: &mut E) -> u8
     ensures { IsTold (walk_words walk.now) (Some failure.now) (E.taken err.old, E.fault_count err.old) (E.taken err.new, E.fault_count err.new) result }
 {
     match message_line(alloc, failure, walk) {
@@ -92,11 +87,7 @@ fn report<E: Output>(
 }
 
 /// The message of a failure, with its newline.
-fn message_line(
-    alloc: Global,
-    failure: &Failure,
-    walk: &WalkJob<'_>,
-) -> Result<Vec<u8>, AllocError>
+fn message_line(alloc: Global, failure: &Failure, walk: &WalkJob<'_>) -> Result<Vec<u8>, AllocError>
     ensures { IfOk result (λ text. (path : List ℕ) × IsPathIn walk.now.agent.now path
         × (text.items ≡ message_of (record { agent = walk.now.agent.now; path = path; name = walk.now.name.now }) failure.now ++ codes "\n")) }
 {
