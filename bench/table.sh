@@ -1,0 +1,26 @@
+#!/usr/bin/env bash
+# Counts the instructions (callgrind) and the peak memory of reading a table file of 25,000, 50,000 and 100,000 rows in no order, by a walk that begins behind all of them.
+# An n log n reading takes little more than twice as many for twice the rows.
+set -euo pipefail
+top=$(cd "$(dirname "${BASH_SOURCE[0]}")/.." && pwd)
+program=$top/crates/snmp/out/snmp
+[ -x "$program" ] || "$top/snmp" --help > /dev/null
+work=$(mktemp -d)
+trap 'rm -rf "$work"' EXIT
+cd "$work"
+for rows in 25000 50000 100000; do
+    python3 - "$rows" > table.tab <<'ROWS'
+import random, sys
+rows = [f"1.3.6.1.4.1.32473.1.{i // 100}.{i % 100}|2|{i}" for i in range(int(sys.argv[1]))]
+random.Random(1).shuffle(rows)
+print("\n".join(rows))
+ROWS
+    valgrind --tool=callgrind --callgrind-out-file=out "$program" snmpwalk -On table:table.tab .2.5 > answer 2> log
+    python3 - "$program" <<'MEMORY' > memory
+import resource, subprocess, sys
+subprocess.run([sys.argv[1], "snmpwalk", "-On", "table:table.tab", ".2.5"], stdout=subprocess.DEVNULL, check=True)
+print(resource.getrusage(resource.RUSAGE_CHILDREN).ru_maxrss)
+MEMORY
+    awk -v rows="$rows" -v n="$(sed -n 's/^summary: //p' out)" -v kb="$(cat memory)" -v octets="$(stat -c %s table.tab)" \
+        'BEGIN { printf "%d rows, %d octets: %d instructions, %.0f for each row; %.1f MB at the peak\n", rows, octets, n, n / rows, kb / 1000 }'
+done
