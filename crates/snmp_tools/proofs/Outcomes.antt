@@ -126,8 +126,7 @@ no_status (failure.Ended ending.Link) e = cc
 -- status 0 says that it was done
 told_done : (words : WalkWords) (outcome : Option Failure) (before after : Stream) (status : ℕ) → IsTold words outcome before after status → status ≡ 0 → outcome ≡ None
 told_done words None before after status h e = refl
-told_done words (Some why) before after status (inl h) e = absurd (no_status why (sym h.0 ∙ e))
-told_done words (Some why) before after status (inr h) e = let no : ⊥ = cc in absurd no
+told_done words (Some why) before after status h e = absurd (no_status why (sym h.0 ∙ e))
 
 pub writes_all : (words : WalkWords) (files : Holdings) (before after err_before err_after : Stream) (status : ℕ) (outcome : Option Failure)
     → IsOutcome words files before after outcome → IsTold words outcome err_before err_after status → WritesAll words files before after status
@@ -154,9 +153,9 @@ IsWant why = (why ≡ failure.Memory) ⊎ ((why ≡ failure.Table table_error.Me
 
 line_told : (words : WalkWords) (why : Failure) (before after err_before err_after : Stream) (status : ℕ) → status_of why ≡ 1
     → ((j : JobWords) → message_of j why ≡ codes "Out of memory.") → IsTold words (Some why) err_before err_after status → Well before after err_before err_after status
-line_told words why before after err_before err_after status one text (inl h) =
-    inr (h.0 ∙ one, inr (subst (λ (t : List ℕ). IsWritten err_before t err_after) (ap (λ (t : List ℕ). t ++ codes "\n") (text _)) h.1.2))
-line_told words why before after err_before err_after status one text (inr h) = inr (h.0, inr h.1)
+line_told words why before after err_before err_after status one text (s, inl h) =
+    inr (s ∙ one, inr (subst (λ (t : List ℕ). IsWritten err_before t err_after) (ap (λ (t : List ℕ). t ++ codes "\n") (text _)) h.2))
+line_told words why before after err_before err_after status one text (s, inr h) = inr (s ∙ one, inr h)
 
 want_told : (words : WalkWords) (why : Failure) (before after err_before err_after : Stream) (status : ℕ) → IsWant why → IsTold words (Some why) err_before err_after status
     → Well before after err_before err_after status
@@ -202,8 +201,7 @@ module _ (words : WalkWords) (files : Holdings) (rows : List VarBind) (h : IsThe
   walk_ends before after err_before err_after status given turned (ending.Done n) own printed told = inl told.0
   walk_ends before after err_before err_after status given turned (ending.Sink sink.Memory) own printed told =
       want_told words (failure.Ended (ending.Sink sink.Memory)) before after err_before err_after status (inr (inr refl)) told
-  walk_ends before after err_before err_after status given turned (ending.Sink sink.Output) own printed (inl told) = inr (told.0, inl printed.1)
-  walk_ends before after err_before err_after status given turned (ending.Sink sink.Output) own printed (inr told) = inr (told.0, inl printed.1)
+  walk_ends before after err_before err_after status given turned (ending.Sink sink.Output) own printed told = inr (told.0, inl printed.1)
   walk_ends before after err_before err_after status given turned (ending.Fault a b) own printed told = absurd own
   walk_ends before after err_before err_after status given turned (ending.NoProgress asked) own printed told = absurd own
   walk_ends before after err_before err_after status given turned ending.BadReply own printed told = absurd own

@@ -8,7 +8,7 @@ use Rattle.snmp_walk.specs.declared.end.WalkEnd.TheVariants as ending
 use Rattle.snmp_walk.specs.Walker.{Walker}
 use Rattle.snmp_walk.specs.Link.{Rose}
 use Rattle.snmp_walk.specs.Room.{HasRoomForEach, HasIds}
-use Rattle.snmp_walk.specs.Facts.{WalkFacts, IsSwiftEnd}
+use Rattle.snmp_walk.specs.Facts.{WalkFacts, IsLawfulEnd, IsSwiftEnd}
 use Rattle.snmp_words.specs.Words.{WalkWords}
 use Rattle.snmp_tools.specs.declared.failure.Failure.{Failure}
 use Rattle.snmp_tools.specs.declared.failure.Failure.TheVariants as failure
@@ -55,6 +55,8 @@ module _ (words : WalkWords) (files : Holdings) (view : MibView) (core : Walker)
 
   is_walked : (end ≡ ending.Link → ⊥) → IsWalked view root rows turned end
   is_walked no_link = record {
+    lawful = subst (λ (c : Walker). IsLawfulEnd (agent_over view) c rows end) from.is facts.lawful;
+    linked = no_link;
     beginning = λ whole w.
         let left = facts.beginning view w.got refl (got_at w.got w.answer) in
         (left.0, w.rows_are ∙ sym (from.gives view w.got good) ∙ left.1);

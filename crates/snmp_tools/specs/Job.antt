@@ -17,7 +17,7 @@ use Rattle.snmp_walk.specs.Request.{started}
 use Rattle.snmp_walk.specs.Walker.{Walker}
 use Rattle.snmp_walk.specs.Link.{Agents}
 use Rattle.snmp_walk.specs.Room.{HasRoomForEach, HasIds}
-use Rattle.snmp_walk.specs.Facts.{IsDone, IsFresh, walk_at}
+use Rattle.snmp_walk.specs.Facts.{IsLawfulEnd, IsDone, IsFresh, walk_at}
 use Rattle.snmp_lines.specs.Line.{lines_of}
 use Rattle.snmp_ports.specs.Files.{HoldsIfKnown}
 use Rattle.snmp_ports.specs.Output.{appended, IsBegun, Rose}
@@ -54,6 +54,7 @@ pub record Names (words : WalkWords) (path root : List ℕ) : Type 0 where
   pub letters : other_letter words.letters ≡ None
   pub agent : IsTablePath words.agent path
   pub name : IsNumericName words.name root
+  pub short : length root ≤ 128
   pub only : (other : List ℕ) → IsNumericName words.name other → other ≡ root
 
 -- why the file at a path gives no table
@@ -118,8 +119,11 @@ IsOwnEnd (ending.Done count) = Unit {0}
 IsOwnEnd (ending.Sink fault) = Unit {0}
 IsOwnEnd _ = ⊥
 
--- the walk gave these rows, refused one for the output's sake or none, and ended so
+-- the walk gave these rows, was refused the next one or none, and ended so
 pub record IsWalked (view : MibView) (root : List ℕ) (rows refused : List VarBind) (end : WalkEnd) : Type 0 where
+  -- it ended with an error only where the next answer has no room, or where ids or the agent's reply ran out
+  pub lawful : IsLawfulEnd (agent_over view) (first_of root) rows end
+  pub linked : end ≡ ending.Link → ⊥
   pub beginning : (whole : List VarBind) → AreRowsOf view root whole → (more : List VarBind) × (whole ≡ (rows ++ refused) ++ more)
   pub all : (whole : List VarBind) → AreRowsOf view root whole → IsDone end → rows ≡ whole
   -- where there is room for each single binding and ids are enough, nothing but the output ends it early
@@ -151,10 +155,10 @@ IsPathIn agent path = IsTablePath agent path ⊎ ((path ≡ []) × ((other : Lis
 abbrev pub IsTold : WalkWords → Option Failure → Stream → Stream → ℕ → Type 0
 IsTold words None before after status = (status ≡ 0) × (after ≡ before)
 IsTold words (Some why) before after status =
-    ((status ≡ status_of why)
-    × ((path : List ℕ) × IsPathIn words.agent path
-    × IsWritten before (message_of (record { agent = words.agent; path = path; name = words.name }) why ++ codes "\n") after))
-    ⊎ ((status ≡ 1) × IsWritten before (codes "Out of memory.\n") after)
+    (status ≡ status_of why)
+    × (((path : List ℕ) × IsPathIn words.agent path
+    × IsWritten before (message_of (record { agent = words.agent; path = path; name = words.name }) why ++ codes "\n") after)
+    ⊎ IsWritten before (codes "Out of memory.\n") after)
 
 -- what a job of these words does
 abbrev pub Does : WalkWords → Holdings → (out_before out_after err_before err_after : Stream) → ℕ → Type 0

@@ -70,20 +70,15 @@ fn do_walk<F: Files, O: Output, E: Output>(
     }
 }
 
-/// Tells a failure on `err`, and answers its status. Where there is no memory for its message, that is told, and the status is 1.
+/// Tells a failure on `err`, and answers its status. Where there is no memory for its message, that is told.
 fn report<E: Output>(alloc: Global, failure: &Failure, walk: &WalkJob<'_>, err: &mut E) -> u8
     ensures { IsTold (walk_words walk.now) (Some failure.now) (E.taken err.old, E.fault_count err.old) (E.taken err.new, E.fault_count err.new) result }
 {
     match message_line(alloc, failure, walk) {
-        Ok(text) => {
-            tell(err, &text);
-            failure.status()
-        }
-        Err(_) => {
-            tell(err, b"Out of memory.\n");
-            1
-        }
+        Ok(text) => tell(err, &text),
+        Err(_) => tell(err, b"Out of memory.\n"),
     }
+    failure.status()
 }
 
 /// The message of a failure, with its newline.

@@ -28,7 +28,7 @@ one_table agents first view got views e answer =
     }
 
 lawful_whole : (agents : Agents) (first : Walker) (rows : List VarBind) (end : WalkEnd) → IsDone end → IsLawfulEnd agents first rows end → IsWhole (next_of agents) (got_of agents) first rows
-lawful_whole agents first rows (ending.Done n) d h = h.3.1
+lawful_whole agents first rows (ending.Done n) d h = h.5.1
 lawful_whole agents first rows (ending.Fault a b) d h = absurd d
 lawful_whole agents first rows (ending.NoProgress o) d h = absurd d
 lawful_whole agents first rows ending.BadReply d h = absurd d

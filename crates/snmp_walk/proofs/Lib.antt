@@ -13,6 +13,7 @@ pub mod TurnLemmas
 pub mod RunLemmas
 pub mod ViewLemmas
 pub mod JoinLemmas
+pub mod EndLemmas
 pub mod FactLemmas
 pub mod BulkLemmas
 pub mod HonestLemmas

@@ -23,6 +23,7 @@ use Rattle.snmp_walk.specs.Link.{Agents, next_of, got_of, IsTooLarge}
 use Rattle.snmp_walk.specs.Sink.{Given, Took}
 use Rattle.snmp_walk.specs.Run.{IsFrom, Turns, goes_on, ends, is_refused, is_silent, fails, rows_in}
 use Rattle.snmp_walk.specs.Facts.{IsFresh, IsLawfulEnd}
+use Rattle.snmp_walk.proofs.EndLemmas.{GivesNone, EndsEmpty, ends_empty}
 use Rattle.snmp_walk.proofs.SinkLemmas.{given-append}
 use Rattle.snmp_walk.proofs.StandingLemmas.{taken, part_of_stage}
 use Rattle.snmp_walk.proofs.AnyLemmas.{taken_any, rising_answers}
@@ -141,18 +142,21 @@ took_reply takes before after rows ending.NoResponse own h = (h, refl)
 took_reply takes before after rows ending.Link own h = (h, refl)
 took_reply takes before after rows (ending.Sink fault) own h = absurd own
 
-lawful_reply : (agents : Agents) (first w : Walker) (given rows : List VarBind) (why : WalkEnd) → IsReplyEnd why → Stands (next_of agents) (got_of agents) first w given
-    → Ends (next_of agents) (got_of agents) (IsTooLarge agents) first w rows why → IsLawfulEnd agents first rows why
-lawful_reply agents first w given rows (ending.Done n) own h e = (w, given, h, e)
-lawful_reply agents first w given rows (ending.Fault a b) own h e = (w, given, h, e)
-lawful_reply agents first w given rows (ending.NoProgress o) own h e = (w, given, h, e)
-lawful_reply agents first w given rows ending.BadReply own h e = absurd e
-lawful_reply agents first w given rows (ending.NotIncreasing o p) own h e = absurd e
-lawful_reply agents first w given rows ending.TooManyRequests own h e = (w, given, h, e)
-lawful_reply agents first w given rows ending.RequestTooLong own h e = absurd own
-lawful_reply agents first w given rows ending.NoResponse own h e = absurd own
-lawful_reply agents first w given rows ending.Link own h e = absurd own
-lawful_reply agents first w given rows (ending.Sink fault) own h e = absurd own
+lawful_reply : (agents : Agents) (first w : Walker) (given more : List VarBind) (why : WalkEnd) → IsReplyEnd why → GivesNone why more
+    → Stands (next_of agents) (got_of agents) first w given → Ends (next_of agents) (got_of agents) (IsTooLarge agents) first w (given ++ more) why
+    → IsLawfulEnd agents first (given ++ more) why
+lawful_reply agents first w given more (ending.Done n) own none h e = (w, given, more, refl, h, e)
+lawful_reply agents first w given more (ending.Fault a b) own none h e =
+    (w, subst (Stands (next_of agents) (got_of agents) first w) (sym (append-nil given) ∙ ap (λ (r : List VarBind). given ++ r) (sym none)) h, e)
+lawful_reply agents first w given more (ending.NoProgress o) own none h e =
+    (w, subst (Stands (next_of agents) (got_of agents) first w) (sym (append-nil given) ∙ ap (λ (r : List VarBind). given ++ r) (sym none)) h, e)
+lawful_reply agents first w given more ending.BadReply own none h e = absurd e
+lawful_reply agents first w given more (ending.NotIncreasing o p) own none h e = absurd e
+lawful_reply agents first w given more ending.TooManyRequests own none h e = (w, given, more, refl, h, e)
+lawful_reply agents first w given more ending.RequestTooLong own none h e = absurd own
+lawful_reply agents first w given more ending.NoResponse own none h e = absurd own
+lawful_reply agents first w given more ending.Link own none h e = absurd own
+lawful_reply agents first w given more (ending.Sink fault) own none h e = absurd own
 
 abbrev AllSmall : VarBind → Type 0
 AllSmall p = Unit {0}
@@ -222,7 +226,7 @@ module _ {S : Type 0} (takes : S → VarBind → Result (Unit {0}) SinkFault →
         facts = λ h laws k.
             let step_of = subst (λ (st : Step). Advances (next_of agents) (got_of agents) (IsTooLarge agents) first w given st (take_of w m).1) e
             (taken (next_of agents) (got_of agents) (IsTooLarge agents) laws first given w m k (from h)) in
-            record { part = subst (IsPart (next_of agents) (got_of agents) first) (sym (append-nil (given ++ rows))) step_of.0; lawful = lawful_reply agents first w given (given ++ rows) why any.0 k step_of.1 };
+            record { part = subst (IsPart (next_of agents) (got_of agents) first) (sym (append-nil (given ++ rows))) step_of.0; lawful = lawful_reply agents first w given rows why any.0 (subst EndsEmpty e (ends_empty w m)) k step_of.1 };
       }
 
   over_refused : (rows : List VarBind) (m : Message) (fault : SinkFault) (p : VarBind) (left : List VarBind) (between : S) → IsFrom agents honest w m → rows_in (take_of w m).0 ≡ rows ++ p ∷ left

@@ -212,15 +212,15 @@ module _ (agents : Agents) (first : Walker) (view : MibView) (good_views : AreVi
     -- the ends that are left
     pub swift_end : (rows : List VarBind) (end : WalkEnd) → HasIds first view → IsLawfulEnd agents first rows end → IsSwiftEnd end
     swift_end rows (ending.Done n) ids h = tt
-    swift_end rows (ending.Fault status index) ids h = no_refusal h.1 h.0.asked h.0.phase h.2.stage h.3.2
+    swift_end rows (ending.Fault status index) ids h = no_refusal rows h.0.asked h.0.phase h.1.stage h.2.2
     swift_end rows (ending.NoProgress o) ids h =
-        no_large_next h.0.asked (stage_room h.1 h.0.asked h.0.phase h.2.stage) (subst (IsLarge (next_of agents) (IsTooLarge agents)) h.3.1 h.3.2)
-    swift_end rows ending.BadReply ids h = h.3
-    swift_end rows (ending.NotIncreasing o p) ids h = h.3
+        no_large_next h.0.asked (stage_room rows h.0.asked h.0.phase h.1.stage) (subst (IsLarge (next_of agents) (IsTooLarge agents)) h.2.1 h.2.2)
+    swift_end rows ending.BadReply ids h = h.5
+    swift_end rows (ending.NotIncreasing o p) ids h = h.5
     swift_end rows ending.TooManyRequests ids h =
-        let low : h.0.id < 2147483647 = low_id h.0 h.1 h.0.phase ids h.2.stage h.2.paced in
-        absurd (omega (arith, low, h.3))
-    swift_end rows ending.RequestTooLong ids h = h.3
+        let low : h.0.id < 2147483647 = low_id h.0 h.1 h.0.phase ids h.4.stage h.4.paced in
+        absurd (omega (arith, low, h.5))
+    swift_end rows ending.RequestTooLong ids h = h.5
     swift_end rows ending.NoResponse ids h = answered h.0 rows h.1 h.2 h.3
     swift_end rows ending.Link ids h = tt
     swift_end rows (ending.Sink fault) ids h = tt

@@ -19,14 +19,20 @@ pub record IsFresh (w : Walker) : Type 0 where
   pub count : w.count ≡ 0
   pub begins : (s : List ℕ) × (w.asked ≡ w.root ++ s)
 
--- how a run may end over an honest link, after these bindings
+-- How a run may end over an honest link, after these bindings: w was waiting for the reply that ended it, which gave none of them where it was an error or had
+-- no binding, and else the last.
 abbrev pub IsLawfulEnd : Agents → Walker → List VarBind → WalkEnd → Type 0
 IsLawfulEnd agents first rows ending.Link = Unit {0}
 IsLawfulEnd agents first rows (ending.Sink fault) = Unit {0}
 IsLawfulEnd agents first rows ending.NoResponse =
     (w : Walker) × IsWalker w × Stands (next_of agents) (got_of agents) first w rows × IsUnanswered agents (canon (request_of w))
+IsLawfulEnd agents first rows (ending.Fault status index) =
+    (w : Walker) × Stands (next_of agents) (got_of agents) first w rows × Ends (next_of agents) (got_of agents) (IsTooLarge agents) first w rows (ending.Fault status index)
+IsLawfulEnd agents first rows (ending.NoProgress asked) =
+    (w : Walker) × Stands (next_of agents) (got_of agents) first w rows × Ends (next_of agents) (got_of agents) (IsTooLarge agents) first w rows (ending.NoProgress asked)
 IsLawfulEnd agents first rows why =
-    (w : Walker) × (given : List VarBind) × Stands (next_of agents) (got_of agents) first w given × Ends (next_of agents) (got_of agents) (IsTooLarge agents) first w rows why
+    (w : Walker) × (given : List VarBind) × (more : List VarBind) × (rows ≡ given ++ more) × Stands (next_of agents) (got_of agents) first w given
+    × Ends (next_of agents) (got_of agents) (IsTooLarge agents) first w rows why
 
 -- what the walk gives of one table, `got` being what that answers to a Get of the name from which the walk begins
 abbrev pub walk_at : Walker → MibView → VarBind → List VarBind

@@ -41,7 +41,7 @@ next_of agents o p = (view : MibView) × OneOf agents.tables view × IsNext view
 abbrev pub got_of : Agents → List ℕ → VarBind → Type 0
 got_of agents o p = (view : MibView) × OneOf agents.tables view × IsGet view o p
 
--- No message of the agents has room for the binding, whatever its id.
+-- Some message of the agents has no room for the binding, by its id.
 abbrev pub IsTooLarge : Agents → VarBind → Type 0
 IsTooLarge agents p = (id : ℕ) × (id < 2 ^ 31) × (agents.max_size < length (canon (response agents.community id p)))
 

@@ -21,7 +21,7 @@ pub returns-in-Ok-clause-well : goal.returns-in-Ok-clause-well
 returns-in-Ok-clause-well g c = λ w taken stated. c.run_job.ensures.well w (one_job _ _ _ c.in-Ok.ensures.job stated)
 
 pub returns-in-Err-Memory-clause-does : goal.returns-in-Err-Memory-clause-does
-returns-in-Err-Memory-clause-does g c = λ w taken stated. (Some failure.Memory, refused failure.Memory tt refl refl, inr (refl, c.tell-in-Err-Memory.ensures))
+returns-in-Err-Memory-clause-does g c = λ w taken stated. (Some failure.Memory, refused failure.Memory tt refl refl, (refl, inr c.tell-in-Err-Memory.ensures))
 
 pub returns-in-Err-Memory-clause-beginning : goal.returns-in-Err-Memory-clause-beginning
 returns-in-Err-Memory-clause-beginning g c = λ w taken stated.
@@ -31,9 +31,9 @@ returns-in-Err-Memory-clause-beginning g c = λ w taken stated.
 pub returns-in-Err-Memory-clause-all : goal.returns-in-Err-Memory-clause-all
 returns-in-Err-Memory-clause-all g c = λ w taken stated.
     let same : Stream = (g.O.Output.taken c.args.out.now.out, g.O.Output.fault_count c.args.out.now.out) in
-    writes_all w (g.F.Files.text_at c.args.files.now) same same _ _ 1 (Some failure.Memory) (refused failure.Memory tt refl refl) (inr (refl, c.tell-in-Err-Memory.ensures))
+    writes_all w (g.F.Files.text_at c.args.files.now) same same _ _ 1 (Some failure.Memory) (refused failure.Memory tt refl refl) (refl, inr c.tell-in-Err-Memory.ensures)
 
 pub returns-in-Err-Memory-clause-well : goal.returns-in-Err-Memory-clause-well
 returns-in-Err-Memory-clause-well g c = λ w taken stated.
     let same : Stream = (g.O.Output.taken c.args.out.now.out, g.O.Output.fault_count c.args.out.now.out) in
-    ends_well w (g.F.Files.text_at c.args.files.now) same same _ _ 1 (Some failure.Memory) (refused failure.Memory tt refl refl) (inr (refl, c.tell-in-Err-Memory.ensures))
+    ends_well w (g.F.Files.text_at c.args.files.now) same same _ _ 1 (Some failure.Memory) (refused failure.Memory tt refl refl) (refl, inr c.tell-in-Err-Memory.ensures)
