@@ -16,11 +16,11 @@ random.Random(1).shuffle(rows)
 print("\n".join(rows))
 ROWS
     valgrind --tool=callgrind --callgrind-out-file=out "$program" snmpwalk -On table:table.tab .2.5 > answer 2> log
-    python3 - "$program" <<'MEMORY' > memory
+    awk -v rows="$rows" -v n="$(sed -n 's/^summary: //p' out)" -v octets="$(stat -c %s table.tab)" \
+        'BEGIN { printf "%d rows, %d octets: %d instructions, %.0f for each row\n", rows, octets, n, n / rows }'
+done
+python3 - "$program" <<'MEMORY'
 import resource, subprocess, sys
 subprocess.run([sys.argv[1], "snmpwalk", "-On", "table:table.tab", ".2.5"], stdout=subprocess.DEVNULL, check=True)
-print(resource.getrusage(resource.RUSAGE_CHILDREN).ru_maxrss)
+print(f"at the peak: {resource.getrusage(resource.RUSAGE_CHILDREN).ru_maxrss / 1000:.1f} MB")
 MEMORY
-    awk -v rows="$rows" -v n="$(sed -n 's/^summary: //p' out)" -v kb="$(cat memory)" -v octets="$(stat -c %s table.tab)" \
-        'BEGIN { printf "%d rows, %d octets: %d instructions, %.0f for each row; %.1f MB at the peak\n", rows, octets, n, n / rows, kb / 1000 }'
-done
