@@ -79,8 +79,17 @@ impl Oid {
         if self.numbers.is_full() {
             return Err(OidError::TooLong);
         }
-        self.numbers.push(number);
+        self.push_with_room(number);
         Ok(())
+    }
+
+    /// Appends a number to an identifier that is known to have fewer than 128, and so needs no test.
+    #[inline]
+    pub fn push_with_room(&mut self, number: u32)
+        requires { length self.old < 128 }
+        ensures { self.new ≡ self.old ++ number ∷ [] }
+    {
+        self.numbers.push(number);
     }
 
     /// Appends numbers, or answers `TooLong`, where there would be more than 128, and leaves the identifier as it was.

@@ -5,7 +5,7 @@ use Rattle.std.proofs.lemmas.List.{nil_from_length}
 use Rattle.snmp_wire.specs.declared.error.BerError.{BerError}
 use Rattle.snmp_wire.specs.Message.{Datum, VarBind}
 use Rattle.snmp_wire.specs.Reading.{◌>>=◌, checked, inner_at, identifier_of, value_of, Fields, fields_of, fields_at, binding_of, binding_at, bindings_within, bindings_of, bindings_in}
-use Rattle.snmp_wire.proofs.ReadingLemmas.{done, failed, ok_is, bind_ok, bind_same, ok_value, is_ok_at, checked_err, err_checked, ok_checked}
+use Rattle.snmp_wire.proofs.ReadingLemmas.{ok_is, bind_ok, bind_same, ok_value, is_ok_at, checked_err, err_checked, ok_checked}
 use Rattle.snmp_wire.proofs.LengthLemmas.{inner_takes, element_shrinks}
 
 -- a binding has octets of its own
@@ -125,12 +125,10 @@ begins octets ok some =
       all = all ∙ ap (λ (more : List VarBind). a.0.0 ∷ more) (sym others_are) ∙ ap (λ (v : VarBind). v ∷ bindings_in a.0.1) (sym binding_is) ∙ ap (λ (o : List ℕ). g.0 ∷ bindings_in o) (sym after_is);
     }
 
-pub never_fails : (octets : List ℕ) (e : BerError) → IsOk (bindings_of octets) → 0 < length octets → fields_at octets ≡ Err e → ⊥
-never_fails octets e ok some h =
+pub begins_ok : (octets : List ℕ) → IsOk (bindings_of octets) → 0 < length octets → IsOk (fields_at octets)
+begins_ok octets ok some =
     let b = begins octets ok some in
-    let found : Fields × List ℕ = (b.fields, b.after) in
-    let both : done found ≡ failed {A = Fields × List ℕ} e = sym b.are_fields ∙ h in
-    cc
+    is_ok_at (fields_at octets) (b.fields, b.after) b.are_fields
 
 -- what stands at the front is the first binding
 pub record Stands (octets : List ℕ) (fields : Fields) (after : List ℕ) : Type 0 where

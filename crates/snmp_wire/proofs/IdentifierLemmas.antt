@@ -2,15 +2,14 @@
 use Rattle.std.proofs.Common.{◌≡◌, ℕ, zero, suc, ◌+◌, ◌-◌, ◌*◌, ◌%◌, ◌<◌, ◌≤◌, cond, ltb, List, [], ◌∷◌, ◌++◌, length, get_or, take, drop, All, Result, Ok, Err, IsOk, refl, sym, ap, ◌∙◌, append_assoc, arith}
 use Rattle.std.proofs.lemmas.Bool.{lt-ltb, le-ltb}
 use Rattle.std.proofs.lemmas.Grind.{common_steps}
-use Rattle.std.proofs.lemmas.List.Elements.{All-head, All-tail, All-cons}
-use Rattle.snmp_wire.proofs.CanonLemmas.{below_128}
-use Rattle.std.specs.Int.Bits.{bit_or}
+use Rattle.std.proofs.lemmas.List.Elements.{All-head, All-tail, All-cons, All-nil, All-append}
 use Rattle.std.specs.Result.{result_unwrap_or}
 use Rattle.std.proofs.lemmas.List.{at_drop_more, at_drop_all, length_push, append-nil, nil_from_length}
 use Rattle.snmp_wire.specs.declared.error.BerError.{BerError}
 use Rattle.snmp_wire.specs.declared.error.BerError.TheVariants as error
 use Rattle.snmp_wire.specs.Reading.{◌>>=◌, checked, largest_subidentifier, subidentifier_from, subidentifier_at, number_at, numbers_of, numbers_in, IsPlainFront}
-use Rattle.snmp_wire.proofs.ReadingLemmas.{done, failed, ok_is, checked_err}
+use Rattle.snmp_wire.proofs.KnownLemmas.{first_ok}
+use Rattle.snmp_wire.proofs.ReadingLemmas.{done, failed, ok_is, checked_err, is_ok_at}
 
 -- ---- the loop over the octets of a subidentifier
 
@@ -155,25 +154,46 @@ push_skips front (n ∷ ns) rest whole plain so_far =
     let same : (front ++ n ∷ []) ++ ns ≡ front ++ (n ∷ ns) = append_assoc front (n ∷ []) ns in
     rw same at all
 
-pub plain_front : (octets : List ℕ) → 4 ≤ length octets → bit_or (bit_or (bit_or (get_or octets 0 0) (get_or octets 1 0)) (get_or octets 2 0)) (get_or octets 3 0) < 128 → IsPlainFront (take 4 octets) (drop 4 octets) octets
+-- four octets without high bits
+abbrev pub AreLow : List ℕ → ℕ → Type 0
+AreLow octets i = (get_or octets i 0 < 128) × (get_or octets (i + 1) 0 < 128) × (get_or octets (i + 2) 0 < 128) × (get_or octets (i + 3) 0 < 128)
+
+pub plain_front : (octets : List ℕ) → 4 ≤ length octets → AreLow octets 0 → IsPlainFront 4 (take 4 octets) (drop 4 octets) octets
 plain_front [] long low = absurd (omega arith)
 plain_front (a ∷ []) long low = absurd (omega arith)
 plain_front (a ∷ b ∷ []) long low = absurd (omega arith)
 plain_front (a ∷ b ∷ c ∷ []) long low = absurd (omega arith)
 plain_front (a ∷ b ∷ c ∷ d ∷ rest) long low =
-    let small = below_128 a b c d low in
-    let none : All is_plain [] = λ k e h. absurd (omega (arith, h)) in
-    (refl, refl, All-cons is_plain a (b ∷ c ∷ d ∷ []) small.0 (All-cons is_plain b (c ∷ d ∷ []) small.1 (All-cons is_plain c (d ∷ []) small.2 (All-cons is_plain d [] small.3 none))))
+    (refl, refl, All-cons is_plain a (b ∷ c ∷ d ∷ []) low.0 (All-cons is_plain b (c ∷ d ∷ []) low.1 (All-cons is_plain c (d ∷ []) low.2 (All-cons is_plain d [] low.3 (All-nil is_plain)))))
 
-pub check_plain : (numbers rest octets : List ℕ) (room : ℕ) → IsPlainFront numbers rest octets → 4 ≤ room → checked (numbers_of (room - 4) rest) ≡ checked (numbers_of room octets)
-check_plain numbers rest octets room front fits =
+-- eight, as four and four
+pub plain_fronts : (octets : List ℕ) → 8 ≤ length octets → AreLow octets 0 → AreLow octets 4 → IsPlainFront 8 (take 8 octets) (drop 8 octets) octets
+plain_fronts [] long low high = absurd (omega arith)
+plain_fronts (a ∷ []) long low high = absurd (omega arith)
+plain_fronts (a ∷ b ∷ []) long low high = absurd (omega arith)
+plain_fronts (a ∷ b ∷ c ∷ []) long low high = absurd (omega arith)
+plain_fronts (a ∷ b ∷ c ∷ d ∷ more) long low high =
+    let front = plain_front (a ∷ b ∷ c ∷ d ∷ []) (omega arith) low in
+    let back = plain_front more (omega arith) high in
+    let all : All is_plain ((a ∷ b ∷ c ∷ d ∷ []) ++ take 4 more) = All-append is_plain (a ∷ b ∷ c ∷ d ∷ []) (take 4 more) front.2 back.2 in
+    (ap (λ (tail : List ℕ). a ∷ b ∷ c ∷ d ∷ tail) back.0, omega (arith, back.1), all)
+
+pub check_plain : (count : ℕ) (numbers rest octets : List ℕ) (room : ℕ) → IsPlainFront count numbers rest octets → count ≤ room → checked (numbers_of (room - count) rest) ≡ checked (numbers_of room octets)
+check_plain count numbers rest octets room front fits =
     let skipped = check_skips numbers rest room front.2 (omega (arith, front.1)) in
     rw front.0 (rw front.1 at skipped)
 
-pub plain_fits : (front numbers rest octets whole : List ℕ) → 0 < length octets → IsPlainFront numbers rest octets → with_front front (numbers_of (128 - length front) octets) ≡ Ok whole → length front + length numbers ≤ 128
-plain_fits front numbers rest octets whole some plain so_far =
+pub plain_fits : (count : ℕ) (front numbers rest octets whole : List ℕ) → 0 < length octets → IsPlainFront count numbers rest octets → with_front front (numbers_of (128 - length front) octets) ≡ Ok whole → length front + count ≤ 128
+plain_fits count front numbers rest octets whole some plain so_far =
     let room = push_has_room front octets whole (128 - length front) some so_far in
-    push_fits front numbers rest whole (omega arith) plain.2 (rw plain.0 at so_far)
+    let fits = push_fits front numbers rest whole (omega arith) plain.2 (rw plain.0 at so_far) in
+    omega (arith, fits, plain.1)
 
-pub push_plain : (front numbers rest octets whole : List ℕ) → IsPlainFront numbers rest octets → with_front front (numbers_of (128 - length front) octets) ≡ Ok whole → with_front (front ++ numbers) (numbers_of (128 - length (front ++ numbers)) rest) ≡ Ok whole
-push_plain front numbers rest octets whole plain so_far = push_skips front numbers rest whole plain.2 (rw plain.0 at so_far)
+pub push_plain : (count : ℕ) (front numbers rest octets whole : List ℕ) → IsPlainFront count numbers rest octets → with_front front (numbers_of (128 - length front) octets) ≡ Ok whole → with_front (front ++ numbers) (numbers_of (128 - length (front ++ numbers)) rest) ≡ Ok whole
+push_plain count front numbers rest octets whole plain so_far = push_skips front numbers rest whole plain.2 (rw plain.0 at so_far)
+
+pub number_ok : (front octets whole : List ℕ) → 0 < length octets → with_front front (numbers_of (128 - length front) octets) ≡ Ok whole → IsOk (number_at octets)
+number_ok front octets whole some so_far =
+    let room = push_has_room front octets whole (128 - length front) some so_far in
+    let step : with_front front (number_at octets >>= λ n. numbers_of (128 - length front - 1) n.1 >>= λ more. Ok (n.0 ∷ more)) ≡ Ok whole = rw (numbers_step (128 - length front) octets some room) at so_far in
+    first_ok (number_at octets) _ (first_ok _ _ (is_ok_at _ whole step))

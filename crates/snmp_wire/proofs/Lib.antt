@@ -1,13 +1,16 @@
 pub mod BindingLemmas
 pub mod FaultLaws
 pub mod Faultless
+pub mod HighBits
 pub mod IdentifierLaws
 pub mod IdentifierLemmas
 pub mod Lenient
+pub mod KnownLemmas
 pub mod LengthLemmas
 pub mod MessageLaws
 pub mod NumberLemmas
 pub mod ReadingLemmas
+pub mod ShortBindings
 pub mod Shortest
 pub mod StrictIdentifiers
 pub mod StrictMessages

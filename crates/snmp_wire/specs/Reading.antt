@@ -115,9 +115,9 @@ numbers_of (suc room) (octet ∷ rest) = do
 abbrev pub numbers_in : List ℕ → List ℕ
 numbers_in octets = result_unwrap_or (numbers_of 126 octets) []
 
--- the octets begin with four numbers that have an octet each
-abbrev pub IsPlainFront : List ℕ → List ℕ → List ℕ → Type 0
-IsPlainFront numbers rest octets = (octets ≡ numbers ++ rest) × (length numbers ≡ 4) × All (λ n. n < 128) numbers
+-- the octets begin with so many numbers that have an octet each
+abbrev pub IsPlainFront : ℕ → List ℕ → List ℕ → List ℕ → Type 0
+IsPlainFront count numbers rest octets = (octets ≡ numbers ++ rest) × (length numbers ≡ count) × All (λ n. n < 128) numbers
 
 abbrev pub first_number : ℕ → ℕ
 first_number n = if nat_lt n 80 then n / 40 else 2

@@ -70,13 +70,12 @@ impl<'a> Bindings<'a> {
         if self.rest.is_empty() {
             return false;
         }
-        let Ok((fields, rest)) = fields_at(self.rest) else {
-            unreachable!()
+        let Some((fields, rest)) = short_fields_at(self.rest) else {
+            self.rest = read_long(self.rest, into);
+            return true;
         };
         self.rest = rest;
-        into.name.clear();
-        push_identifier(&mut into.name, fields.name);
-        read_value(fields.tag, fields.content, &mut into.value);
+        read_binding(fields, into);
         true
     }
 }
@@ -137,9 +136,50 @@ pub(crate) fn check_bindings(octets: &[u8]) -> Result<(), BerError>
 }
 
 /// The fields of the binding at the front, and what follows.
-#[tactic(auto, unfolding(crate::specs::Reading::fields_at))]
 #[inline(always)]
 fn fields_at<'a>(octets: &'a [u8]) -> Result<(Fields<'a>, &'a [u8]), BerError>
+    ensures { Gives (λ x. (reading.fields x.0, x.1.now)) result (reading.fields_at octets.now) }
+{
+    match short_fields_at(octets) {
+        Some(found) => Ok(found),
+        None => any_fields_at(octets),
+    }
+}
+
+/// The fields of the binding at the front, and what follows, where each of its three lengths has one octet, as most do. None says nothing of the octets.
+#[inline(always)]
+fn short_fields_at<'a>(octets: &'a [u8]) -> Option<(Fields<'a>, &'a [u8])>
+    ensures { IfSome result (λ x. reading.fields_at octets.now ≡ Ok (reading.fields x.0, x.1.now)) }
+{
+    match octets {
+        [outer, size, inner, name_size, ..] => {
+            if *outer != SEQUENCE || *inner != OBJECT_IDENTIFIER {
+                return None;
+            }
+            let size = usize::from(*size);
+            let name_size = usize::from(*name_size);
+            let (_, elements) = octets.split_at(4);
+            if size >= 0x80 || elements.len() + 2 < size || size < name_size + 4 {
+                return None;
+            }
+            let (name, value) = elements.split_at(name_size);
+            let value_size = usize::from(value[1]);
+            if name_size + 4 + value_size != size {
+                return None;
+            }
+            let tag = value[0];
+            let (_, behind) = value.split_at(2);
+            let (content, rest) = behind.split_at(value_size);
+            Some((Fields { name, tag, content }, rest))
+        }
+        _ => None,
+    }
+}
+
+/// The fields of the binding at the front, and what follows, whatever the form of its lengths.
+#[tactic(auto, unfolding(crate::specs::Reading::fields_at))]
+#[inline(always)]
+fn any_fields_at<'a>(octets: &'a [u8]) -> Result<(Fields<'a>, &'a [u8]), BerError>
     ensures { Gives (λ x. (reading.fields x.0, x.1.now)) result (reading.fields_at octets.now) }
 {
     let (content, rest) = inner_at(SEQUENCE, octets)?;
@@ -158,6 +198,32 @@ fn fields_of<'a>(content: &'a [u8]) -> Result<Fields<'a>, BerError>
         return Err(BerError::Content);
     }
     Ok(Fields { name, tag, content })
+}
+
+/// Reads the binding at the front into one that is there, whatever the form of its lengths, and answers what follows.
+#[cold]
+fn read_long<'a>(octets: &'a [u8], into: &mut Binding<'a>) -> &'a [u8]
+    requires some { 0 < length octets.now }
+    requires bindings { IsOk (reading.bindings_of octets.now) }
+    ensures others { IsOk (reading.bindings_of result.now) }
+    ensures read { reading.bindings_in octets.now ≡ var_bind into.new ∷ reading.bindings_in result.now }
+{
+    let Ok((fields, rest)) = any_fields_at(octets) else {
+        unreachable!()
+    };
+    read_binding(fields, into);
+    rest
+}
+
+/// Reads the binding of these fields into one that is there.
+#[inline(always)]
+fn read_binding<'a>(fields: Fields<'a>, into: &mut Binding<'a>)
+    requires { IsOk (reading.binding_of (reading.fields fields)) }
+    ensures { reading.binding_of (reading.fields fields.entry) ≡ Ok (var_bind into.new) }
+{
+    read_value(fields.tag, fields.content, &mut into.value);
+    into.name.clear();
+    push_identifier(&mut into.name, fields.name);
 }
 
 /// Checks that the fields are a binding's.

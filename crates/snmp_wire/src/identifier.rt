@@ -1,5 +1,5 @@
 //! The content of an OBJECT IDENTIFIER (X.690, section 8.19).
-ghost use Rattle.std.specs.Prelude.{◌≡◌, ℕ, ◌+◌, ◌-◌, ◌<◌, ◌≤◌, ◌↔◌, List, [], ◌∷◌, ◌++◌, length, drop, IsOk, IfOk, IfErr, IfSome, Ok, Err, ◌*◌, ◌^◌};
+ghost use Rattle.std.specs.Prelude.{◌≡◌, ℕ, ◌+◌, ◌-◌, ◌<◌, ◌≤◌, ◌↔◌, List, [], ◌∷◌, ◌++◌, length, drop, IsOk, IsTrue, IfOk, IfErr, IfSome, Ok, Err, ◌*◌, ◌^◌};
 ghost use Rattle.snmp_wire.specs.Reading as reading;
 ghost use Rattle.snmp_wire.specs.Reading.{Gives, checked};
 ghost use Rattle.std.specs.List.{flat_map};
@@ -65,9 +65,49 @@ fn number_at(octets: &[u8]) -> Result<(u32, &[u8]), BerError>
     Ok((number as u32, rest))
 }
 
+/// The subidentifier at the front, and what follows, of octets that are known to begin with one. Nothing is checked again.
+#[inline]
+fn subidentifier_in(octets: &[u8]) -> (u64, &[u8])
+    requires { IsOk (reading.subidentifier_at octets.now) }
+    ensures { reading.subidentifier_at octets.now ≡ Ok (result.0, result.1.now) }
+{
+    let high = octets[0];
+    if high < 0x80 {
+        let (_, rest) = octets.split_at(1);
+        return (u64::from(high), rest);
+    }
+    let low = octets[1];
+    if low < 0x80 {
+        let (_, rest) = octets.split_at(2);
+        return (u64::from(high % 128) * 128 + u64::from(low), rest);
+    }
+    digits_in(octets)
+}
+
+/// The subidentifier of three octets or more at the front, and what follows, of octets that are known to begin with one.
+fn digits_in(octets: &[u8]) -> (u64, &[u8])
+    requires { IsOk (reading.subidentifier_at octets.now) }
+    ensures { reading.subidentifier_at octets.now ≡ Ok (result.0, result.1.now) }
+{
+    match digits_at(octets) {
+        Ok(read) => read,
+        Err(_) => unreachable!(),
+    }
+}
+
+/// The number at the front, and what follows, of octets that are known to begin with one. Nothing is checked again.
+#[inline]
+fn number_in(octets: &[u8]) -> (u32, &[u8])
+    requires { IsOk (reading.number_at octets.now) }
+    ensures { reading.number_at octets.now ≡ Ok (result.0, result.1.now) }
+{
+    let (number, rest) = subidentifier_in(octets);
+    (number as u32, rest)
+}
+
 /// Checks that the content is an identifier.
 #[tactic(auto, unfolding(crate::specs::Reading::identifier_of))]
-#[inline]
+#[inline(always)]
 pub(crate) fn check_identifier(content: &[u8]) -> Result<(), BerError>
     ensures { Gives (λ u. u) result (checked (reading.identifier_of content.now)) }
 {
@@ -89,7 +129,7 @@ fn check_numbers(octets: &[u8]) -> Result<(), BerError>
     Ok(())
 }
 
-/// How many numbers stand at the front, one or four of at most `room`, and what follows them.
+/// How many numbers stand at the front, one, four or eight of at most `room`, and what follows them.
 #[inline(always)]
 fn some_numbers_at(room: usize, octets: &[u8]) -> Result<(usize, &[u8]), BerError>
     requires { 0 < length octets.now }
@@ -98,6 +138,11 @@ fn some_numbers_at(room: usize, octets: &[u8]) -> Result<(usize, &[u8]), BerErro
 {
     if room == 0 {
         return Err(BerError::Content);
+    }
+    if room >= 8 {
+        if let Some((_, rest)) = eight_at(octets) {
+            return Ok((8, rest));
+        }
     }
     if room >= 4 {
         if let Some((_, rest)) = four_at(octets) {
@@ -108,14 +153,31 @@ fn some_numbers_at(room: usize, octets: &[u8]) -> Result<(usize, &[u8]), BerErro
     Ok((1, rest))
 }
 
-/// The four octets at the front, where each is a number of its own, as in most names, and what follows them.
+/// The eight octets at the front, where each is a number of its own, as in most names, and what follows them.
+#[inline(always)]
+fn eight_at(octets: &[u8]) -> Option<(&[u8], &[u8])>
+    ensures { IfSome result (λ x. reading.IsPlainFront 8 x.0.now x.1.now octets.now) }
+{
+    match octets {
+        [a, b, c, d, e, f, g, h, ..] => {
+            if are_low(*a, *b, *c, *d) && are_low(*e, *f, *g, *h) {
+                Some(octets.split_at(8))
+            } else {
+                None
+            }
+        }
+        _ => None,
+    }
+}
+
+/// The four octets at the front, where each is a number of its own, and what follows them.
 #[inline(always)]
 fn four_at(octets: &[u8]) -> Option<(&[u8], &[u8])>
-    ensures { IfSome result (λ x. reading.IsPlainFront x.0.now x.1.now octets.now) }
+    ensures { IfSome result (λ x. reading.IsPlainFront 4 x.0.now x.1.now octets.now) }
 {
     match octets {
         [a, b, c, d, ..] => {
-            if *a | *b | *c | *d < 0x80 {
+            if are_low(*a, *b, *c, *d) {
                 Some(octets.split_at(4))
             } else {
                 None
@@ -123,6 +185,14 @@ fn four_at(octets: &[u8]) -> Option<(&[u8], &[u8])>
         }
         _ => None,
     }
+}
+
+/// Whether no octet has its high bit set, tested in one word.
+#[inline(always)]
+fn are_low(a: u8, b: u8, c: u8, d: u8) -> bool
+    ensures { IsTrue result → (a < 128) × (b < 128) × (c < 128) × (d < 128) }
+{
+    u32::from_le_bytes([a, b, c, d]) & 0x8080_8080 == 0
 }
 
 /// The identifier that the content is.
@@ -138,17 +208,15 @@ pub(crate) fn identifier_of(content: &[u8]) -> Oid
 
 /// Appends to the empty identifier the one that the content is. To fill it in place saves moving its 520 octets.
 #[tactic(auto, unfolding(crate::specs::Reading::identifier_of))]
-#[inline]
+#[inline(always)]
 pub(crate) fn push_identifier(oid: &mut Oid, content: &[u8])
     requires is_identifier { IsOk (reading.identifier_of content.now) }
     requires empty { oid.old ≡ [] }
     ensures { reading.identifier_of content.now ≡ Ok oid.new }
 {
-    let Ok((first, rest)) = subidentifier_at(content) else {
-        unreachable!()
-    };
-    push(oid, first_number(first));
-    push(oid, second_number(first));
+    let (first, rest) = subidentifier_in(content);
+    oid.push_with_room(first_number(first));
+    oid.push_with_room(second_number(first));
     push_numbers(oid, rest);
 }
 
@@ -179,7 +247,7 @@ fn second_number(subidentifier: u64) -> u32
 }
 
 /// Appends the numbers that the octets are.
-#[inline]
+#[inline(always)]
 fn push_numbers(oid: &mut Oid, octets: &[u8])
     requires numbers { IsOk (reading.numbers_of 126 octets.now) }
     requires two { length oid.old ≡ 2 }
@@ -187,47 +255,55 @@ fn push_numbers(oid: &mut Oid, octets: &[u8])
 {
     let mut rest = octets;
     'numbers: while !rest.is_empty() {
-        match four_at(rest) {
-            Some((octets, after)) => {
-                push_four(oid, octets);
-                rest = after;
-            }
-            None => {
-                let Ok((number, after)) = number_at(rest) else {
-                    unreachable!()
-                };
-                push(oid, number);
-                rest = after;
-            }
+        if let Some((eight, after)) = eight_at(rest) {
+            push_eight(oid, eight);
+            rest = after;
+        } else if let Some((four, after)) = four_at(rest) {
+            push_four(oid, four);
+            rest = after;
+        } else {
+            let (number, after) = number_in(rest);
+            oid.push_with_room(number);
+            rest = after;
         }
     }
+}
+
+/// Appends eight numbers, each of one octet, to an identifier that has room for them. Apart from the test of the octets, the compiler widens all in a few instructions.
+#[inline(never)]
+fn push_eight(oid: &mut Oid, octets: &[u8])
+    requires eight { length octets.now ≡ 8 }
+    requires room { length oid.old + 8 ≤ 128 }
+    ensures { oid.new ≡ oid.old ++ octets.now }
+{
+    // All are read before the first is written, so that the compiler need not ask whether a write changes them.
+    let (a, b, c, d) = (octets[0], octets[1], octets[2], octets[3]);
+    let (e, f, g, h) = (octets[4], octets[5], octets[6], octets[7]);
+    push_octets(oid, a, b, c, d);
+    push_octets(oid, e, f, g, h);
 }
 
 /// Appends four numbers, each of one octet, to an identifier that has room for them.
 #[inline]
 fn push_four(oid: &mut Oid, octets: &[u8])
     requires four { length octets.now ≡ 4 }
-    requires room { length oid.old + length octets.now ≤ 128 }
+    requires room { length oid.old + 4 ≤ 128 }
     ensures { oid.new ≡ oid.old ++ octets.now }
 {
     let [a, b, c, d] = octets else { unreachable!() };
-    let numbers = [u32::from(*a), u32::from(*b), u32::from(*c), u32::from(*d)];
-    match oid.extend_from_slice(&numbers) {
-        Ok(()) => {}
-        Err(_) => unreachable!(),
-    }
+    push_octets(oid, *a, *b, *c, *d);
 }
 
-/// Appends a number to an identifier that has room for it.
-#[inline]
-fn push(oid: &mut Oid, number: u32)
-    requires { length oid.old < 128 }
-    ensures { oid.new ≡ oid.old ++ number ∷ [] }
+/// Appends four numbers to an identifier that has room for them.
+#[inline(always)]
+fn push_octets(oid: &mut Oid, a: u8, b: u8, c: u8, d: u8)
+    requires { length oid.old + 4 ≤ 128 }
+    ensures { oid.new ≡ oid.old ++ a ∷ b ∷ c ∷ d ∷ [] }
 {
-    match oid.push(number) {
-        Ok(()) => {}
-        Err(_) => unreachable!(),
-    }
+    oid.push_with_room(u32::from(a));
+    oid.push_with_room(u32::from(b));
+    oid.push_with_room(u32::from(c));
+    oid.push_with_room(u32::from(d));
 }
 
 /// How many octets a subidentifier takes.

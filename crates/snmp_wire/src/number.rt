@@ -76,7 +76,7 @@ pub(crate) fn has_width(width: usize, content: &[u8]) -> bool
 }
 
 /// The content of an unsigned number of 32 bits.
-#[inline]
+#[inline(always)]
 pub(crate) fn unsigned32(content: &[u8]) -> u32
     requires { IsTrue (reading.has_width 4 content.now) }
     ensures { result ≡ number.unsigned content.now }

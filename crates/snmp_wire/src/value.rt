@@ -68,19 +68,28 @@ pub(crate) fn check_value(tag: u8, content: &[u8]) -> Result<(), BerError>
 }
 
 /// Reads the value of this tag and content into one that is there.
-#[inline]
+#[inline(always)]
 pub(crate) fn read_value<'a>(tag: u8, content: &'a [u8], into: &mut ValueRef<'a>)
     requires { IsOk (reading.value_of tag content.now) }
     ensures { reading.value_of tag content.now ≡ Ok (datum into.new) }
 {
     if !is_changed(tag, content, into) {
-        *into = value_of(tag, content);
+        replace_value(tag, content, into);
     }
+}
+
+/// [`read_value`] over a value of whatever type. It stands apart since a value is made here, and all its octets are moved.
+#[inline(never)]
+fn replace_value<'a>(tag: u8, content: &'a [u8], into: &mut ValueRef<'a>)
+    requires { IsOk (reading.value_of tag content.now) }
+    ensures { reading.value_of tag content.now ≡ Ok (datum into.new) }
+{
+    *into = value_of(tag, content);
 }
 
 /// Changes a value of this type, as the values of a column are, to the one of this content, and answers whether it did. This saves setting over 500 octets.
 #[tactic(auto, unfolding(crate::specs::Reading::value_of, crate::specs::Reading::unsigned_of))]
-#[inline]
+#[inline(always)]
 fn is_changed<'a>(tag: u8, content: &'a [u8], value: &mut ValueRef<'a>) -> bool
     requires { IsOk (reading.value_of tag content.now) }
     ensures { result ≡ true → reading.value_of tag content.now ≡ Ok (datum value.new) }
@@ -123,6 +132,7 @@ fn is_changed<'a>(tag: u8, content: &'a [u8], value: &mut ValueRef<'a>) -> bool
 
 /// The value of this tag and content.
 #[tactic(auto, unfolding(crate::specs::Reading::value_of, crate::specs::Reading::unsigned_of))]
+#[inline]
 fn value_of<'a>(tag: u8, content: &'a [u8]) -> ValueRef<'a>
     requires { IsOk (reading.value_of tag content.now) }
     ensures { reading.value_of tag content.now ≡ Ok (datum result) }

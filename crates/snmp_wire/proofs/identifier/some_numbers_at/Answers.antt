@@ -11,7 +11,11 @@ returns-then-room-eq0-clause-err c = rw c.if-room-eq0.true (checked_err (numbers
 
 pub returns-in-Some-clause-ok : goal.returns-in-Some-clause-ok
 returns-in-Some-clause-ok c =
-    (omega arith, c.if-room-ge4.true, check_plain c.in-Some.field-0-0.now c.in-Some.rest.now c.args.octets.now c.args.room c.in-Some.ensures c.if-room-ge4.true)
+    (omega arith, c.if-room-ge8.true, check_plain 8 c.in-Some.field-0-0.now c.in-Some.rest.now c.args.octets.now c.args.room c.in-Some.ensures c.if-room-ge8.true)
+
+pub returns-in-Some-four_at-clause-ok : goal.returns-in-Some-four_at-clause-ok
+returns-in-Some-four_at-clause-ok c =
+    (omega arith, c.if-room-ge4.true, check_plain 4 c.in-Some-four_at.field-0-0.now c.in-Some-four_at.rest.now c.args.octets.now c.args.room c.in-Some-four_at.ensures c.if-room-ge4.true)
 
 pub returns-in_err-rest-clause-err : goal.returns-in_err-rest-clause-err
 returns-in_err-rest-clause-err c =
