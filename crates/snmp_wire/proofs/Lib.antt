@@ -19,4 +19,5 @@ pub mod ElementLemmas
 pub mod IdentifierWriting
 pub mod ListWriting
 pub mod MessageWriting
+pub mod NumberWriting
 pub mod WritingLemmas

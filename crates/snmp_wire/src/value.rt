@@ -12,8 +12,8 @@ use crate::error::allowed;
 use crate::identifier::{check_identifier, identifier_of, identifier_size, put_identifier};
 use crate::length::{header_size, put_header};
 use crate::number::{
-    has_width, integer_of, integer_size, put_integer, put_unsigned, unsigned_size, unsigned32,
-    unsigned64,
+    has_width, integer_of, integer_size, put_integer, put_unsigned, put_unsigned32, unsigned_size,
+    unsigned32, unsigned64,
 };
 use crate::writing::put_text;
 use snmp_oid::Oid;
@@ -232,7 +232,7 @@ fn put_content(out: &mut [u8], end: usize, value: &ValueRef<'_>) -> usize
         ValueRef::ObjectId(name) => put_identifier(out, end, name),
         ValueRef::IpAddress(address) => put_text(out, end, address),
         ValueRef::Counter32(number) | ValueRef::Gauge32(number) | ValueRef::TimeTicks(number) => {
-            put_unsigned(out, end, u64::from(*number))
+            put_unsigned32(out, end, *number)
         }
         ValueRef::Counter64(number) => put_unsigned(out, end, *number),
         ValueRef::Null
