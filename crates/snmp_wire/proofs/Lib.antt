@@ -8,6 +8,7 @@ pub mod LengthLemmas
 pub mod MessageLaws
 pub mod NumberLemmas
 pub mod ReadingLemmas
+pub mod ShortNumbers
 pub mod Shortest
 pub mod StrictIdentifiers
 pub mod StrictMessages

@@ -1,10 +1,10 @@
 //! The content of an OBJECT IDENTIFIER (X.690, section 8.19).
-ghost use Rattle.std.specs.Prelude.{◌≡◌, ℕ, ◌+◌, ◌-◌, ◌<◌, ◌≤◌, ◌↔◌, List, [], ◌∷◌, ◌++◌, length, drop, IsOk, IfOk, IfErr, IfSome, Ok, Err, ◌*◌, ◌^◌};
+ghost use Rattle.std.specs.Prelude.{◌≡◌, true, ℕ, ◌+◌, ◌-◌, ◌<◌, ◌≤◌, ◌↔◌, List, [], ◌∷◌, ◌++◌, length, drop, IsOk, IfOk, IfErr, IfSome, Ok, Err, ◌*◌, ◌^◌};
 ghost use Rattle.snmp_wire.specs.Reading as reading;
 ghost use Rattle.snmp_wire.specs.Reading.{Gives, checked};
 ghost use Rattle.std.specs.List.{flat_map};
 ghost use Rattle.snmp_oid.specs.Identifier.{IsWire};
-ghost use Rattle.snmp_wire.specs.Canon.{canon_content, canon_subidentifier, septets, subidentifier_size};
+ghost use Rattle.snmp_wire.specs.Canon.{AreShort, canon_content, canon_subidentifier, eight_from, septets, subidentifier_size};
 ghost use Rattle.snmp_wire.specs.Message.{object_id};
 ghost use Rattle.snmp_wire.specs.Writing.{Writes};
 
@@ -252,6 +252,7 @@ fn septets_size(number: u64) -> usize
 }
 
 /// How many octets the content of an identifier takes, at most 640.
+#[inline(always)]
 pub(crate) fn identifier_size(name: &Oid) -> u64
     requires { IsWire name.now }
     ensures value { result ≡ length (canon_content (object_id name.now)) }
@@ -264,8 +265,30 @@ pub(crate) fn identifier_size(name: &Oid) -> u64
 }
 
 /// How many octets numbers take, each as a subidentifier.
+///
+/// In most names eight short numbers, the row's column among them, stand before the last.
 #[inline]
 fn numbers_size(numbers: &[u32]) -> u64
+    requires { length numbers.now ≤ 128 }
+    ensures value { result ≡ length (flat_map canon_subidentifier numbers.now) }
+    ensures small { result ≤ 5 * length numbers.now }
+{
+    let mut size = 0;
+    let mut left = numbers.len();
+    'numbers: while left > 8 {
+        left -= 1;
+        size += septets_size(u64::from(numbers[left])) as u64;
+        if are_short(numbers, left - 8) {
+            size += 8;
+            left -= 8;
+        }
+    }
+    size + few_numbers_size(&numbers[..left])
+}
+
+/// How many octets numbers take, each as a subidentifier, where they are few.
+#[inline]
+fn few_numbers_size(numbers: &[u32]) -> u64
     requires { length numbers.now ≤ 128 }
     ensures value { result ≡ length (flat_map canon_subidentifier numbers.now) }
     ensures small { result ≤ 5 * length numbers.now }
@@ -285,6 +308,17 @@ fn numbers_size(numbers: &[u32]) -> u64
         }
     }
     size
+}
+
+/// Whether the eight numbers from a place on have one octet each.
+#[inline(always)]
+fn are_short(numbers: &[u32], from: usize) -> bool
+    requires { from + 8 ≤ length numbers.now }
+    ensures { result ≡ true → AreShort numbers.now from }
+{
+    let low = numbers[from] | numbers[from + 1] | numbers[from + 2] | numbers[from + 3];
+    let high = numbers[from + 4] | numbers[from + 5] | numbers[from + 6] | numbers[from + 7];
+    low | high < 128
 }
 
 /// The subidentifiers of the four numbers before the place `left`, where each has one octet, as in most names.
@@ -317,6 +351,7 @@ fn first_subidentifier(first: u32, second: u32) -> u64
 }
 
 /// Writes the content of an identifier before `end`, and answers where it begins.
+#[inline(always)]
 pub(crate) fn put_identifier(out: &mut [u8], end: usize, name: &Oid) -> usize
     requires encodable { IsWire name.now }
     requires room { length (canon_content (object_id name.now)) ≤ end }
@@ -339,6 +374,27 @@ fn put_numbers(out: &mut [u8], end: usize, numbers: &[u32]) -> usize
 {
     let mut start = end;
     let mut left = numbers.len();
+    'numbers: while left > 8 {
+        left -= 1;
+        let is_short = are_short(numbers, left - 8);
+        start = put_subidentifier(out, start, u64::from(numbers[left]));
+        if is_short {
+            left -= 8;
+            start = put_eight(out, start, numbers, left);
+        }
+    }
+    put_few_numbers(out, start, &numbers[..left])
+}
+
+/// Writes numbers before `end`, each as a subidentifier, where they are few, and answers where they begin.
+#[inline]
+fn put_few_numbers(out: &mut [u8], end: usize, numbers: &[u32]) -> usize
+    requires room { length (flat_map canon_subidentifier numbers.now) ≤ end }
+    requires within { end ≤ length out.old }
+    ensures { Writes out.old result end (flat_map canon_subidentifier numbers.now) out.new }
+{
+    let mut start = end;
+    let mut left = numbers.len();
     'numbers: while left > 0 {
         match four_before(numbers, left) {
             Some((a, b, c, d)) => {
@@ -352,6 +408,34 @@ fn put_numbers(out: &mut [u8], end: usize, numbers: &[u32]) -> usize
         }
     }
     start
+}
+
+/// Writes the eight numbers from a place on before `end`, an octet each, and answers where they begin.
+#[inline(always)]
+fn put_eight(out: &mut [u8], end: usize, numbers: &[u32], from: usize) -> usize
+    requires short { AreShort numbers.now from }
+    requires eight { from + 8 ≤ length numbers.now }
+    requires room { 8 ≤ end }
+    requires within { end ≤ length out.old }
+    ensures { Writes out.old result end (eight_from numbers.now from) out.new }
+{
+    // All are read before the first is written, so that they can be read at once.
+    let a = numbers[from] as u8;
+    let b = numbers[from + 1] as u8;
+    let c = numbers[from + 2] as u8;
+    let d = numbers[from + 3] as u8;
+    let e = numbers[from + 4] as u8;
+    let f = numbers[from + 5] as u8;
+    let g = numbers[from + 6] as u8;
+    let h = numbers[from + 7] as u8;
+    let at_h = put_octet(out, end, h);
+    let at_g = put_octet(out, at_h, g);
+    let at_f = put_octet(out, at_g, f);
+    let at_e = put_octet(out, at_f, e);
+    let at_d = put_octet(out, at_e, d);
+    let at_c = put_octet(out, at_d, c);
+    let at_b = put_octet(out, at_c, b);
+    put_octet(out, at_b, a)
 }
 
 /// Writes a subidentifier before `end`, and answers where it begins.

@@ -1,16 +1,17 @@
 //! The value of a variable binding.
 ghost use Rattle.std.specs.Prelude.{◌≡◌, true, ℕ, IsOk, IfOk, Ok, ◌+◌, ◌^◌, ◌<◌, ◌≤◌, length, [], ◌++◌};
-ghost use Rattle.snmp_wire.specs.Message.{datum, octet_string, integer_value};
+ghost use Rattle.snmp_wire.specs.Message.{datum, integer_value, object_id, octet_string};
+ghost use Rattle.snmp_oid.specs.Identifier.{IsWire};
 ghost use Rattle.snmp_wire.specs.Reading as reading;
 ghost use Rattle.snmp_wire.specs.Reading.{Gives, checked};
-ghost use Rattle.snmp_wire.specs.Canon.{IsEncodableValue, canon_content, canon_element, canon_value, canon_header, canon_length};
+ghost use Rattle.snmp_wire.specs.Canon.{IsEncodableValue, canon_content, canon_value};
 ghost use Rattle.snmp_wire.specs.Spelling.{value_tag};
 ghost use Rattle.snmp_wire.specs.Writing.{Writes};
 
 use crate::BerError;
 use crate::error::allowed;
 use crate::identifier::{check_identifier, identifier_of, identifier_size, put_identifier};
-use crate::length::{header_size, put_header};
+use crate::length::put_header;
 use crate::number::{
     has_width, integer_of, integer_size, put_integer, put_unsigned, put_unsigned32, unsigned_size,
     unsigned32, unsigned64,
@@ -176,7 +177,7 @@ fn tag_of(value: &ValueRef<'_>) -> u8
 /// How many octets the content of a value takes.
 #[inline]
 #[tactic(auto, using(crate::proofs::CanonLemmas::contents), unfolding(crate::specs::Canon::canon_content))]
-fn content_size(value: &ValueRef<'_>) -> u64
+pub(crate) fn content_size(value: &ValueRef<'_>) -> u64
     requires { IsEncodableValue (datum value.now) }
     ensures value { result ≡ length (canon_content (datum value.now)) }
     ensures small { result ≤ 65535 }
@@ -184,7 +185,7 @@ fn content_size(value: &ValueRef<'_>) -> u64
     match value {
         ValueRef::Integer(number) => integer_size(*number) as u64,
         ValueRef::Octets(text) | ValueRef::Opaque(text) => text.len() as u64,
-        ValueRef::ObjectId(name) => identifier_size(name),
+        ValueRef::ObjectId(name) => object_id_size(name),
         ValueRef::IpAddress(address) => address_size(*address),
         ValueRef::Counter32(number) | ValueRef::Gauge32(number) | ValueRef::TimeTicks(number) => {
             unsigned_size(u64::from(*number)) as u64
@@ -197,6 +198,16 @@ fn content_size(value: &ValueRef<'_>) -> u64
     }
 }
 
+/// How many octets the content of an identifier takes. Few values are identifiers, so this stays out of the others' way.
+#[inline(never)]
+fn object_id_size(name: &Oid) -> u64
+    requires { IsWire name.now }
+    ensures value { result ≡ length (canon_content (object_id name.now)) }
+    ensures small { result ≤ 640 }
+{
+    identifier_size(name)
+}
+
 /// How many octets an address has.
 #[inline]
 fn address_size(address: [u8; 4]) -> u64
@@ -204,17 +215,6 @@ fn address_size(address: [u8; 4]) -> u64
     ensures small { result ≤ 4 }
 {
     address.len() as u64
-}
-
-/// How many octets a value takes.
-#[inline]
-pub(crate) fn value_size(value: &ValueRef<'_>) -> u64
-    requires { IsEncodableValue (datum value.now) }
-    ensures value { result ≡ length (canon_value (datum value.now)) }
-    ensures small { result ≤ 65541 }
-{
-    let content = content_size(value);
-    header_size(content) + content
 }
 
 /// Writes the content of a value before `end`, and answers where it begins.
@@ -229,7 +229,7 @@ fn put_content(out: &mut [u8], end: usize, value: &ValueRef<'_>) -> usize
     match value {
         ValueRef::Integer(number) => put_integer(out, end, *number),
         ValueRef::Octets(text) | ValueRef::Opaque(text) => put_text(out, end, text),
-        ValueRef::ObjectId(name) => put_identifier(out, end, name),
+        ValueRef::ObjectId(name) => put_object_id(out, end, name),
         ValueRef::IpAddress(address) => put_text(out, end, address),
         ValueRef::Counter32(number) | ValueRef::Gauge32(number) | ValueRef::TimeTicks(number) => {
             put_unsigned32(out, end, *number)
@@ -240,6 +240,17 @@ fn put_content(out: &mut [u8], end: usize, value: &ValueRef<'_>) -> usize
         | ValueRef::NoSuchInstance
         | ValueRef::EndOfMibView => end,
     }
+}
+
+/// Writes the content of an identifier before `end`, and answers where it begins. Few values are identifiers, so this stays out of the others' way.
+#[inline(never)]
+fn put_object_id(out: &mut [u8], end: usize, name: &Oid) -> usize
+    requires encodable { IsWire name.now }
+    requires room { length (canon_content (object_id name.now)) ≤ end }
+    requires within { end ≤ length out.old }
+    ensures { Writes out.old result end (canon_content (object_id name.now)) out.new }
+{
+    put_identifier(out, end, name)
 }
 
 /// Writes a value before `end`, and answers where it begins.
