@@ -14,6 +14,7 @@ pub mod StrictIdentifiers
 pub mod StrictMessages
 pub mod StrictNumbers
 pub mod ValueLaws
+pub mod ValueWriting
 pub mod BindingWriting
 pub mod CanonLemmas
 pub mod ElementLemmas

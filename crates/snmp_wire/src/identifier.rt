@@ -366,7 +366,7 @@ pub(crate) fn put_identifier(out: &mut [u8], end: usize, name: &Oid) -> usize
 }
 
 /// Writes numbers before `end`, each as a subidentifier, and answers where they begin.
-#[inline]
+#[inline(always)]
 fn put_numbers(out: &mut [u8], end: usize, numbers: &[u32]) -> usize
     requires room { length (flat_map canon_subidentifier numbers.now) ≤ end }
     requires within { end ≤ length out.old }
