@@ -48,12 +48,12 @@ size_of_bits n k low high all =
 pub size_one : (n : ℕ) → n < 128 → 1 ≡ number_size n
 size_one n h = let one : number_size n ≤ 1 = number_small n 0 (omega (arith, h)) in omega (arith, one, number_some n)
 
-size_four : (n : ℕ) → 8388608 ≤ n → n < 2147483648 → number_size n ≡ 4
+pub size_four : (n : ℕ) → 8388608 ≤ n → n < 2147483648 → number_size n ≡ 4
 size_four n low high =
     let most : number_size n ≤ 4 = number_small n 3 (omega (arith, high)) in
     omega (arith, most, number_large n 2 (omega (arith, high)) (omega (arith, low)))
 
-size_five : (n : ℕ) → 2147483648 ≤ n → n < 2 ^ 32 → number_size n ≡ 5
+pub size_five : (n : ℕ) → 2147483648 ≤ n → n < 2 ^ 32 → number_size n ≡ 5
 size_five n low high =
     let most : number_size n ≤ 5 = number_small n 4 (omega (arith, high)) in
     omega (arith, most, number_large n 3 (omega (arith, high)) (omega (arith, low)))

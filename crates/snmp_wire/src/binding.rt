@@ -176,7 +176,7 @@ const OBJECT_IDENTIFIER: u8 = 0x06;
 /// How many octets the shortest encoding of a binding takes.
 ///
 /// The caller owes that its name, and its value if it is an identifier, have an encoding ([`Oid::is_wire`]), and that a string has at most 65535 octets.
-#[inline]
+#[inline(always)]
 pub fn binding_size(binding: &Binding<'_>) -> u64
     requires { IsEncodable (var_bind binding.now) }
     ensures value { result ≡ length (canon_binding (var_bind binding.now)) }

@@ -261,7 +261,22 @@ pub(crate) fn identifier_size(name: &Oid) -> u64
     let [first, second, rest @ ..] = name.as_slice() else {
         unreachable!()
     };
-    septets_size(first_subidentifier(*first, *second)) as u64 + numbers_size(rest)
+    first_size(*first, *second) + numbers_size(rest)
+}
+
+/// How many octets the subidentifier of the first two numbers takes.
+#[inline]
+fn first_size(first: u32, second: u32) -> u64
+    requires { first ≤ 2 }
+    ensures value { result ≡ subidentifier_size (40 * first + second) }
+    ensures small { result ≤ 5 }
+{
+    if second < 48 {
+        // 80 and less than 48 are less than 128.
+        1
+    } else {
+        septets_size(first_subidentifier(first, second)) as u64
+    }
 }
 
 /// How many octets numbers take, each as a subidentifier.
@@ -276,11 +291,12 @@ fn numbers_size(numbers: &[u32]) -> u64
     let mut size = 0;
     let mut left = numbers.len();
     'numbers: while left > 8 {
-        left -= 1;
-        size += septets_size(u64::from(numbers[left])) as u64;
-        if are_short(numbers, left - 8) {
-            size += 8;
-            left -= 8;
+        if are_short(numbers, left - 9) {
+            size += 8 + septets_size(u64::from(numbers[left - 1])) as u64;
+            left -= 9;
+        } else {
+            left -= 1;
+            size += septets_size(u64::from(numbers[left])) as u64;
         }
     }
     size + few_numbers_size(&numbers[..left])
@@ -445,10 +461,10 @@ fn put_subidentifier(out: &mut [u8], end: usize, number: u64) -> usize
     requires within { end ≤ length out.old }
     ensures { Writes out.old result end (canon_subidentifier number) out.new }
 {
-    let last = put_octet(out, end, (number % 128) as u8);
     if number < 128 {
-        return last;
+        return put_octet(out, end, number as u8);
     }
+    let last = put_octet(out, end, (number % 128) as u8);
     if number < 16384 {
         return put_octet(out, last, 128 + (number / 128) as u8);
     }

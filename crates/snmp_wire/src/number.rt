@@ -125,6 +125,21 @@ pub(crate) fn unsigned_size(number: u64) -> usize
     }
 }
 
+/// How many octets a number of 32 bits takes.
+#[inline]
+pub(crate) fn unsigned32_size(number: u32) -> usize
+    ensures value { result ≡ number_size number }
+    ensures small { result ≤ 9 }
+{
+    if number < 1 << 23 {
+        unsigned_size(u64::from(number))
+    } else if number < 1 << 31 {
+        4
+    } else {
+        5
+    }
+}
+
 /// How many octets an INTEGER takes.
 #[inline]
 #[tactic(auto, using(crate::proofs::CanonLemmas::number_lengths))]

@@ -13,7 +13,7 @@ use crate::identifier::{check_identifier, identifier_of, identifier_size, put_id
 use crate::length::{put_header, put_short_header};
 use crate::number::{
     has_width, integer_of, integer_size, put_integer, put_unsigned, put_unsigned32, unsigned_size,
-    unsigned32, unsigned64,
+    unsigned32, unsigned32_size, unsigned64,
 };
 use crate::writing::put_text;
 use snmp_oid::Oid;
@@ -165,7 +165,7 @@ pub(crate) fn content_size(value: &ValueRef<'_>) -> u64
         ValueRef::ObjectId(name) => object_id_size(name),
         ValueRef::IpAddress(address) => address_size(*address),
         ValueRef::Counter32(number) | ValueRef::Gauge32(number) | ValueRef::TimeTicks(number) => {
-            unsigned_size(u64::from(*number)) as u64
+            unsigned32_size(*number) as u64
         }
         ValueRef::Counter64(number) => unsigned_size(*number) as u64,
         ValueRef::Null
