@@ -1,12 +1,13 @@
 -- Bindings: how long they are, and how they are written.
-use Rattle.std.proofs.Common.{◌≡◌, ℕ, ◌+◌, ◌-◌, ◌≤◌, List, [], ◌∷◌, ◌++◌, length, drop, get_or, refl, sym, ap, subst, ◌∙◌, arith, length-append}
+use Rattle.std.proofs.Common.{◌≡◌, ℕ, ◌+◌, ◌-◌, ◌<◌, ◌≤◌, List, [], ◌∷◌, ◌++◌, length, drop, get_or, refl, sym, ap, subst, ◌∙◌, arith, length-append}
 use Rattle.std.specs.List.{flat_map}
 use Rattle.snmp_wire.specs.declared.binding.Binding.{Binding}
-use Rattle.snmp_wire.specs.Canon.{canon_binding, canon_bindings, canon_element, canon_header, canon_length, canon_value}
+use Rattle.snmp_wire.specs.Canon.{canon_binding, canon_bindings, canon_content, canon_element, canon_header, canon_length, canon_value}
 use Rattle.snmp_wire.specs.Message.{VarBind, object_id, var_bind, var_binds}
 use Rattle.snmp_wire.specs.Spelling.{sequence_tag}
 use Rattle.snmp_wire.specs.Writing.{Writes}
-use Rattle.snmp_wire.proofs.ElementLemmas.{content_fits, element_size, header_fits, writes_element}
+use Rattle.snmp_wire.proofs.CanonLemmas.{header_short}
+use Rattle.snmp_wire.proofs.ElementLemmas.{content_fits, element_size, header_fits, sizes_value, writes_element}
 use Rattle.snmp_wire.proofs.WritingLemmas.{writes_same, writes_then}
 
 pub binding_is : (binding : VarBind) → canon_binding binding ≡ canon_element sequence_tag (canon_value (object_id binding.name) ++ canon_value binding.value)
@@ -17,6 +18,24 @@ pub sizes_binding : (header name value : ℕ) (binding : VarBind) → name ≡ l
 sizes_binding header name value binding n v h =
     let content : name + value ≡ length (canon_value (object_id binding.name) ++ canon_value binding.value) = omega (arith, n, v, length-append (canon_value (object_id binding.name)) (canon_value binding.value)) in
     element_size sequence_tag header (name + value) (canon_value (object_id binding.name) ++ canon_value binding.value) content h ∙ ap length (sym (binding_is binding))
+
+-- three headers of two octets each
+pub sizes_short : (name value : ℕ) (binding : VarBind) → name ≡ length (canon_content (object_id binding.name)) → value ≡ length (canon_content binding.value) → name + value < 124 → name + value + 6 ≡ length (canon_binding binding)
+sizes_short name value binding n v short =
+    let of_name = sizes_value 2 name (object_id binding.name) n (sym (header_short name (omega (arith, short)))) in
+    let of_value = sizes_value 2 value binding.value v (sym (header_short value (omega (arith, short)))) in
+    let whole = sizes_binding 2 (2 + name) (2 + value) binding of_name of_value (sym (header_short (2 + name + (2 + value)) (omega (arith, short)))) in
+    omega (arith, whole)
+
+pub sizes_long : (header name_header name value_header value : ℕ) (binding : VarBind) → name ≡ length (canon_content (object_id binding.name)) → value ≡ length (canon_content binding.value)
+    → name_header ≡ 1 + length (canon_length name) → value_header ≡ 1 + length (canon_length value) → header ≡ 1 + length (canon_length (name_header + name + value_header + value))
+    → header + (name_header + name + value_header + value) ≡ length (canon_binding binding)
+sizes_long header name_header name value_header value binding n v hn hv h =
+    let of_name = sizes_value name_header name (object_id binding.name) n hn in
+    let of_value = sizes_value value_header value binding.value v hv in
+    let same : name_header + name + value_header + value ≡ (name_header + name) + (value_header + value) = omega arith in
+    let whole = sizes_binding header (name_header + name) (value_header + value) binding of_name of_value (h ∙ ap (λ k. 1 + length (canon_length k)) same) in
+    omega (arith, whole)
 
 length-content : (end : ℕ) (binding : VarBind) → length (canon_binding binding) ≤ end → length (canon_value (object_id binding.name)) + length (canon_value binding.value) ≤ end
 length-content end binding room =

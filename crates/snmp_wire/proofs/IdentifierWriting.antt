@@ -43,6 +43,13 @@ pub subidentifier_short : (n : ℕ) → n < 128 → canon_subidentifier n ≡ (n
 unfolding canon_subidentifier subidentifier_size septets
 subidentifier_short n h = ap (λ count. septets (count - 1) (n / 128) ++ (n % 128) ∷ []) (count_taken 128 128 3 n h)
 
+pub subidentifier_one : (n : ℕ) → n < 128 → 1 ≡ subidentifier_size n
+unfolding subidentifier_size
+subidentifier_one n h = sym (count_taken 128 128 3 n h)
+
+pub short_itself : (n : ℕ) → n < 128 → n ∷ [] ≡ canon_subidentifier n
+short_itself n h = let same : n ≡ n % 128 = omega (arith, h) in ap (λ m. m ∷ []) same ∙ sym (subidentifier_short n h)
+
 pub subidentifier_parts : (n : ℕ) → canon_subidentifier n ≡ septets (subidentifier_size n - 1) (n / 128) ++ (n % 128) ∷ []
 unfolding canon_subidentifier
 subidentifier_parts n = refl

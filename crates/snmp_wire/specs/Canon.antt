@@ -1,5 +1,5 @@
 -- The shortest encoding: each length in the shortest form, each whole number in the fewest octets (X.690, 8.1.3, 8.3 and 8.19; RFC 3417, section 8).
-use Rattle.std.specs.Prelude.{ℕ, ℤ, pos, negsuc, ◌+◌, ◌-◌, ◌*◌, ◌/◌, ◌%◌, ◌^◌, ◌≤◌, suc, zero, List, [], ◌∷◌, ◌++◌, length, nat_lt, if◌then◌else◌}
+use Rattle.std.specs.Prelude.{ℕ, ℤ, pos, negsuc, ◌+◌, ◌-◌, ◌*◌, ◌/◌, ◌%◌, ◌^◌, ◌<◌, ◌≤◌, suc, zero, List, [], ◌∷◌, ◌++◌, length, get_or, nat_lt, if◌then◌else◌}
 use Rattle.std.specs.List.{flat_map}
 use Rattle.snmp_oid.specs.Identifier.{IsWire}
 use Rattle.snmp_wire.specs.Identifier.{subidentifiers}
@@ -50,6 +50,23 @@ septets (suc count) n = (128 + n / 128 ^ count % 128) ∷ septets count n
 -- a subidentifier in the fewest octets (X.690, 8.19.2)
 unfoldable pub canon_subidentifier : ℕ → List ℕ
 canon_subidentifier n = septets (subidentifier_size n - 1) (n / 128) ++ (n % 128) ∷ []
+
+-- the eight numbers from a place on have one octet each
+pub record AreShort (numbers : List ℕ) (from : ℕ) : Type 0 where
+  pub first : get_or numbers from 0 < 128
+  pub second : get_or numbers (from + 1) 0 < 128
+  pub third : get_or numbers (from + 2) 0 < 128
+  pub fourth : get_or numbers (from + 3) 0 < 128
+  pub fifth : get_or numbers (from + 4) 0 < 128
+  pub sixth : get_or numbers (from + 5) 0 < 128
+  pub seventh : get_or numbers (from + 6) 0 < 128
+  pub eighth : get_or numbers (from + 7) 0 < 128
+
+-- the eight numbers from a place on
+abbrev pub eight_from : List ℕ → ℕ → List ℕ
+eight_from numbers from =
+    get_or numbers from 0 ∷ get_or numbers (from + 1) 0 ∷ get_or numbers (from + 2) 0 ∷ get_or numbers (from + 3) 0
+    ∷ get_or numbers (from + 4) 0 ∷ get_or numbers (from + 5) 0 ∷ get_or numbers (from + 6) 0 ∷ get_or numbers (from + 7) 0 ∷ []
 
 -- the tag and the length before a content of so many octets
 unfoldable pub canon_header : ℕ → ℕ → List ℕ

@@ -8,8 +8,8 @@ ghost use Rattle.snmp_wire.specs.Canon.{IsEncodable, canon_binding, canon_value}
 ghost use Rattle.snmp_wire.specs.Writing.{Writes};
 
 use crate::identifier::{check_identifier, identifier_size, push_identifier, put_identifier};
-use crate::length::{SEQUENCE, element_at, header_size, inner_at, put_header};
-use crate::value::{check_value, put_value, read_value, value_size};
+use crate::length::{SEQUENCE, element_at, header_size, inner_at, put_header, put_short_header};
+use crate::value::{check_value, content_size, put_value, read_value};
 use crate::{BerError, ValueRef};
 use snmp_oid::Oid;
 use std::alloc::AllocError;
@@ -242,23 +242,19 @@ const OBJECT_IDENTIFIER: u8 = 0x06;
 /// How many octets the shortest encoding of a binding takes.
 ///
 /// The caller owes that its name, and its value if it is an identifier, have an encoding ([`Oid::is_wire`]), and that a string has at most 65535 octets.
+#[inline(always)]
 pub fn binding_size(binding: &Binding<'_>) -> u64
     requires { IsEncodable (var_bind binding.now) }
     ensures value { result ≡ length (canon_binding (var_bind binding.now)) }
     ensures small { result ≤ 70000 }
 {
-    let content = name_size(&binding.name) + value_size(&binding.value);
-    header_size(content) + content
-}
-
-/// How many octets a name takes.
-#[inline]
-fn name_size(name: &Oid) -> u64
-    requires { IsWire name.now }
-    ensures value { result ≡ length (canon_value (object_id name.now)) }
-    ensures small { result ≤ 646 }
-{
-    let content = identifier_size(name);
+    let name = identifier_size(&binding.name);
+    let value = content_size(&binding.value);
+    if name + value < 124 {
+        // Short, as most are: each of the three headers has two octets.
+        return name + value + 6;
+    }
+    let content = header_size(name) + name + header_size(value) + value;
     header_size(content) + content
 }
 
@@ -280,6 +276,7 @@ pub fn encode_binding(binding: &Binding<'_>, out: &mut [u8]) -> Option<usize>
 }
 
 /// Writes a binding before `end`, and answers where it begins.
+#[inline]
 pub(crate) fn put_binding(out: &mut [u8], end: usize, binding: &Binding<'_>) -> usize
     requires encodable { IsEncodable (var_bind binding.now) }
     requires room { length (canon_binding (var_bind binding.now)) ≤ end }
@@ -287,18 +284,12 @@ pub(crate) fn put_binding(out: &mut [u8], end: usize, binding: &Binding<'_>) -> 
     ensures { Writes out.old result end (canon_binding (var_bind binding.now)) out.new }
 {
     let value = put_value(out, end, &binding.value);
-    let name = put_name(out, value, &binding.name);
+    let content = put_identifier(out, value, &binding.name);
+    if end - content < 126 {
+        // Short, as most are: each header has two octets.
+        let name = put_short_header(out, content, OBJECT_IDENTIFIER, (value - content) as u64);
+        return put_short_header(out, name, SEQUENCE, (end - name) as u64);
+    }
+    let name = put_header(out, content, OBJECT_IDENTIFIER, (value - content) as u64);
     put_header(out, name, SEQUENCE, (end - name) as u64)
-}
-
-/// Writes a name before `end`, and answers where it begins.
-#[inline]
-fn put_name(out: &mut [u8], end: usize, name: &Oid) -> usize
-    requires encodable { IsWire name.now }
-    requires room { length (canon_value (object_id name.now)) ≤ end }
-    requires within { end ≤ length out.old }
-    ensures { Writes out.old result end (canon_value (object_id name.now)) out.new }
-{
-    let start = put_identifier(out, end, name);
-    put_header(out, start, OBJECT_IDENTIFIER, (end - start) as u64)
 }

@@ -1,10 +1,10 @@
 //! The content of an OBJECT IDENTIFIER (X.690, section 8.19).
-ghost use Rattle.std.specs.Prelude.{◌≡◌, ℕ, ◌+◌, ◌-◌, ◌<◌, ◌≤◌, ◌↔◌, List, [], ◌∷◌, ◌++◌, length, drop, IsOk, IsTrue, IfOk, IfErr, IfSome, Ok, Err, ◌*◌, ◌^◌};
+ghost use Rattle.std.specs.Prelude.{◌≡◌, true, ℕ, ◌+◌, ◌-◌, ◌<◌, ◌≤◌, ◌↔◌, List, [], ◌∷◌, ◌++◌, length, drop, IsOk, IsTrue, IfOk, IfErr, IfSome, Ok, Err, ◌*◌, ◌^◌};
 ghost use Rattle.snmp_wire.specs.Reading as reading;
 ghost use Rattle.snmp_wire.specs.Reading.{Gives, checked};
 ghost use Rattle.std.specs.List.{flat_map};
 ghost use Rattle.snmp_oid.specs.Identifier.{IsWire};
-ghost use Rattle.snmp_wire.specs.Canon.{canon_content, canon_subidentifier, septets, subidentifier_size};
+ghost use Rattle.snmp_wire.specs.Canon.{AreShort, canon_content, canon_subidentifier, eight_from, septets, subidentifier_size};
 ghost use Rattle.snmp_wire.specs.Message.{object_id};
 ghost use Rattle.snmp_wire.specs.Writing.{Writes};
 
@@ -328,6 +328,7 @@ fn septets_size(number: u64) -> usize
 }
 
 /// How many octets the content of an identifier takes, at most 640.
+#[inline(always)]
 pub(crate) fn identifier_size(name: &Oid) -> u64
     requires { IsWire name.now }
     ensures value { result ≡ length (canon_content (object_id name.now)) }
@@ -336,12 +337,50 @@ pub(crate) fn identifier_size(name: &Oid) -> u64
     let [first, second, rest @ ..] = name.as_slice() else {
         unreachable!()
     };
-    septets_size(first_subidentifier(*first, *second)) as u64 + numbers_size(rest)
+    first_size(*first, *second) + numbers_size(rest)
+}
+
+/// How many octets the subidentifier of the first two numbers takes.
+#[inline]
+fn first_size(first: u32, second: u32) -> u64
+    requires { first ≤ 2 }
+    ensures value { result ≡ subidentifier_size (40 * first + second) }
+    ensures small { result ≤ 5 }
+{
+    if second < 48 {
+        // 80 and less than 48 are less than 128.
+        1
+    } else {
+        septets_size(first_subidentifier(first, second)) as u64
+    }
 }
 
 /// How many octets numbers take, each as a subidentifier.
+///
+/// In most names eight short numbers, the row's column among them, stand before the last.
 #[inline]
 fn numbers_size(numbers: &[u32]) -> u64
+    requires { length numbers.now ≤ 128 }
+    ensures value { result ≡ length (flat_map canon_subidentifier numbers.now) }
+    ensures small { result ≤ 5 * length numbers.now }
+{
+    let mut size = 0;
+    let mut left = numbers.len();
+    'numbers: while left > 8 {
+        if are_short(numbers, left - 9) {
+            size += 8 + septets_size(u64::from(numbers[left - 1])) as u64;
+            left -= 9;
+        } else {
+            left -= 1;
+            size += septets_size(u64::from(numbers[left])) as u64;
+        }
+    }
+    size + few_numbers_size(&numbers[..left])
+}
+
+/// How many octets numbers take, each as a subidentifier, where they are few.
+#[inline]
+fn few_numbers_size(numbers: &[u32]) -> u64
     requires { length numbers.now ≤ 128 }
     ensures value { result ≡ length (flat_map canon_subidentifier numbers.now) }
     ensures small { result ≤ 5 * length numbers.now }
@@ -361,6 +400,17 @@ fn numbers_size(numbers: &[u32]) -> u64
         }
     }
     size
+}
+
+/// Whether the eight numbers from a place on have one octet each.
+#[inline(always)]
+fn are_short(numbers: &[u32], from: usize) -> bool
+    requires { from + 8 ≤ length numbers.now }
+    ensures { result ≡ true → AreShort numbers.now from }
+{
+    let low = numbers[from] | numbers[from + 1] | numbers[from + 2] | numbers[from + 3];
+    let high = numbers[from + 4] | numbers[from + 5] | numbers[from + 6] | numbers[from + 7];
+    low | high < 128
 }
 
 /// The subidentifiers of the four numbers before the place `left`, where each has one octet, as in most names.
@@ -393,6 +443,7 @@ fn first_subidentifier(first: u32, second: u32) -> u64
 }
 
 /// Writes the content of an identifier before `end`, and answers where it begins.
+#[inline(always)]
 pub(crate) fn put_identifier(out: &mut [u8], end: usize, name: &Oid) -> usize
     requires encodable { IsWire name.now }
     requires room { length (canon_content (object_id name.now)) ≤ end }
@@ -407,8 +458,29 @@ pub(crate) fn put_identifier(out: &mut [u8], end: usize, name: &Oid) -> usize
 }
 
 /// Writes numbers before `end`, each as a subidentifier, and answers where they begin.
-#[inline]
+#[inline(always)]
 fn put_numbers(out: &mut [u8], end: usize, numbers: &[u32]) -> usize
+    requires room { length (flat_map canon_subidentifier numbers.now) ≤ end }
+    requires within { end ≤ length out.old }
+    ensures { Writes out.old result end (flat_map canon_subidentifier numbers.now) out.new }
+{
+    let mut start = end;
+    let mut left = numbers.len();
+    'numbers: while left > 8 {
+        left -= 1;
+        let is_short = are_short(numbers, left - 8);
+        start = put_subidentifier(out, start, u64::from(numbers[left]));
+        if is_short {
+            left -= 8;
+            start = put_eight(out, start, numbers, left);
+        }
+    }
+    put_few_numbers(out, start, &numbers[..left])
+}
+
+/// Writes numbers before `end`, each as a subidentifier, where they are few, and answers where they begin.
+#[inline]
+fn put_few_numbers(out: &mut [u8], end: usize, numbers: &[u32]) -> usize
     requires room { length (flat_map canon_subidentifier numbers.now) ≤ end }
     requires within { end ≤ length out.old }
     ensures { Writes out.old result end (flat_map canon_subidentifier numbers.now) out.new }
@@ -430,6 +502,34 @@ fn put_numbers(out: &mut [u8], end: usize, numbers: &[u32]) -> usize
     start
 }
 
+/// Writes the eight numbers from a place on before `end`, an octet each, and answers where they begin.
+#[inline(always)]
+fn put_eight(out: &mut [u8], end: usize, numbers: &[u32], from: usize) -> usize
+    requires short { AreShort numbers.now from }
+    requires eight { from + 8 ≤ length numbers.now }
+    requires room { 8 ≤ end }
+    requires within { end ≤ length out.old }
+    ensures { Writes out.old result end (eight_from numbers.now from) out.new }
+{
+    // All are read before the first is written, so that they can be read at once.
+    let a = numbers[from] as u8;
+    let b = numbers[from + 1] as u8;
+    let c = numbers[from + 2] as u8;
+    let d = numbers[from + 3] as u8;
+    let e = numbers[from + 4] as u8;
+    let f = numbers[from + 5] as u8;
+    let g = numbers[from + 6] as u8;
+    let h = numbers[from + 7] as u8;
+    let at_h = put_octet(out, end, h);
+    let at_g = put_octet(out, at_h, g);
+    let at_f = put_octet(out, at_g, f);
+    let at_e = put_octet(out, at_f, e);
+    let at_d = put_octet(out, at_e, d);
+    let at_c = put_octet(out, at_d, c);
+    let at_b = put_octet(out, at_c, b);
+    put_octet(out, at_b, a)
+}
+
 /// Writes a subidentifier before `end`, and answers where it begins.
 #[inline]
 fn put_subidentifier(out: &mut [u8], end: usize, number: u64) -> usize
@@ -437,10 +537,10 @@ fn put_subidentifier(out: &mut [u8], end: usize, number: u64) -> usize
     requires within { end ≤ length out.old }
     ensures { Writes out.old result end (canon_subidentifier number) out.new }
 {
-    let last = put_octet(out, end, (number % 128) as u8);
     if number < 128 {
-        return last;
+        return put_octet(out, end, number as u8);
     }
+    let last = put_octet(out, end, (number % 128) as u8);
     if number < 16384 {
         return put_octet(out, last, 128 + (number / 128) as u8);
     }

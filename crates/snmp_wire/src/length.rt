@@ -136,6 +136,18 @@ pub(crate) fn put_header(out: &mut [u8], end: usize, tag: u8, size: u64) -> usiz
     put_octet(out, start, tag)
 }
 
+/// Writes a header of two octets before `end`, for a content of so many octets, fewer than 128, and answers where it begins.
+#[inline]
+pub(crate) fn put_short_header(out: &mut [u8], end: usize, tag: u8, size: u64) -> usize
+    requires short { size < 128 }
+    requires room { length (canon_header tag size) ≤ end }
+    requires within { end ≤ length out.old }
+    ensures { Writes out.old result end (canon_header tag size) out.new }
+{
+    let start = put_octet(out, end, size as u8);
+    put_octet(out, start, tag)
+}
+
 /// Writes a length before `end` in the shortest form, and answers where it begins.
 #[inline]
 #[tactic(auto, using(crate::proofs::CanonLemmas::length_forms))]

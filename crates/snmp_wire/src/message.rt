@@ -317,6 +317,7 @@ pub fn encoding_is_shortest()
 {}
 
 /// How many octets bindings take together.
+#[inline(never)]
 fn bindings_size(bindings: &[Binding<'_>]) -> u64
     requires bindings { All (λ b. IsEncodable (var_bind b)) bindings.now }
     requires total { length (canon_bindings (var_binds bindings.now)) ≤ 4000000000 }
@@ -350,6 +351,7 @@ fn text_element_size(text: &[u8]) -> u64
 }
 
 /// Writes bindings before `end`, and answers where they begin.
+#[inline(never)]
 fn put_bindings(out: &mut [u8], end: usize, bindings: &[Binding<'_>]) -> usize
     requires bindings { All (λ b. IsEncodable (var_bind b)) bindings.now }
     requires room { length (canon_bindings (var_binds bindings.now)) ≤ end }

@@ -8,6 +8,7 @@ ghost use Rattle.snmp_wire.specs.Writing.{Writes};
 
 use crate::BerError;
 use crate::length::inner_at;
+use crate::writing::{put_octet, put_text};
 
 /// The octets as an unsigned number, the most significant first.
 #[inline]
@@ -112,29 +113,30 @@ fn without_zero(width: usize, content: &[u8]) -> &[u8]
 
 /// How many octets a number from 0 takes.
 #[inline]
-#[tactic(auto, unfolding(crate::specs::Canon::number_size))]
 pub(crate) fn unsigned_size(number: u64) -> usize
     ensures value { result ≡ number_size number }
     ensures small { result ≤ 9 }
 {
-    if number < 1 << 7 {
+    if number < 128 {
         1
-    } else if number < 1 << 15 {
-        2
-    } else if number < 1 << 23 {
-        3
+    } else {
+        // Behind the seventh bit, one octet more for each eight.
+        (number.ilog2() as usize + 9) / 8
+    }
+}
+
+/// How many octets a number of 32 bits takes.
+#[inline]
+pub(crate) fn unsigned32_size(number: u32) -> usize
+    ensures value { result ≡ number_size number }
+    ensures small { result ≤ 9 }
+{
+    if number < 1 << 23 {
+        unsigned_size(u64::from(number))
     } else if number < 1 << 31 {
         4
-    } else if number < 1 << 39 {
-        5
-    } else if number < 1 << 47 {
-        6
-    } else if number < 1 << 55 {
-        7
-    } else if number < 1 << 63 {
-        8
     } else {
-        9
+        5
     }
 }
 
@@ -168,6 +170,34 @@ pub(crate) fn put_unsigned(out: &mut [u8], end: usize, number: u64) -> usize
     ensures { Writes out.old result end (canon_number (pos number)) out.new }
 {
     put_octets(out, end, unsigned_size(number), number)
+}
+
+/// Writes a number of 32 bits before `end`, and answers where it begins.
+#[inline]
+pub(crate) fn put_unsigned32(out: &mut [u8], end: usize, number: u32) -> usize
+    requires room { number_size number ≤ end }
+    requires within { end ≤ length out.old }
+    ensures { Writes out.old result end (canon_number (pos number)) out.new }
+{
+    if number < 1 << 23 {
+        return put_unsigned(out, end, u64::from(number));
+    }
+    let start = put_four(out, end, number);
+    if number < 1 << 31 {
+        start
+    } else {
+        put_octet(out, start, 0)
+    }
+}
+
+/// Writes the four octets of a number before `end`, and answers where they begin.
+#[inline]
+fn put_four(out: &mut [u8], end: usize, number: u32) -> usize
+    requires room { 4 ≤ end }
+    requires within { end ≤ length out.old }
+    ensures { Writes out.old result end (octets 4 number) out.new }
+{
+    put_text(out, end, &number.to_be_bytes())
 }
 
 /// Writes an INTEGER before `end`, and answers where it begins.

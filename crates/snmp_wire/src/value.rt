@@ -1,19 +1,19 @@
 //! The value of a variable binding.
-ghost use Rattle.std.specs.Prelude.{◌≡◌, true, ℕ, IsOk, IfOk, Ok, ◌+◌, ◌^◌, ◌<◌, ◌≤◌, length, [], ◌++◌};
-ghost use Rattle.snmp_wire.specs.Message.{datum, octet_string, integer_value};
+ghost use Rattle.std.specs.Prelude.{◌≡◌, true, ℕ, IsOk, IfOk, Ok, ◌+◌, ◌^◌, ◌<◌, ◌≤◌, length, pos, [], ◌++◌};
+ghost use Rattle.snmp_wire.specs.Message.{datum, integer_value, object_id, octet_string};
+ghost use Rattle.snmp_oid.specs.Identifier.{IsWire};
 ghost use Rattle.snmp_wire.specs.Reading as reading;
 ghost use Rattle.snmp_wire.specs.Reading.{Gives, checked};
-ghost use Rattle.snmp_wire.specs.Canon.{IsEncodableValue, canon_content, canon_element, canon_value, canon_header, canon_length};
-ghost use Rattle.snmp_wire.specs.Spelling.{value_tag};
+ghost use Rattle.snmp_wire.specs.Canon.{IsEncodableValue, canon_content, canon_element, canon_number, canon_value};
 ghost use Rattle.snmp_wire.specs.Writing.{Writes};
 
 use crate::BerError;
 use crate::error::allowed;
 use crate::identifier::{check_identifier, identifier_of, identifier_size, put_identifier};
-use crate::length::{header_size, put_header};
+use crate::length::{put_header, put_short_header};
 use crate::number::{
-    has_width, integer_of, integer_size, put_integer, put_unsigned, unsigned_size, unsigned32,
-    unsigned64,
+    has_width, integer_of, integer_size, put_integer, put_unsigned, put_unsigned32, unsigned_size,
+    unsigned32, unsigned32_size, unsigned64,
 };
 use crate::writing::put_text;
 use snmp_oid::Oid;
@@ -161,32 +161,10 @@ fn value_of<'a>(tag: u8, content: &'a [u8]) -> ValueRef<'a>
     }
 }
 
-/// The tag of a value (RFC 3416, section 3).
-#[inline]
-fn tag_of(value: &ValueRef<'_>) -> u8
-    ensures { result ≡ value_tag (datum value.now) }
-{
-    match value {
-        ValueRef::Integer(_) => 0x02,
-        ValueRef::Octets(_) => 0x04,
-        ValueRef::Null => 0x05,
-        ValueRef::ObjectId(_) => 0x06,
-        ValueRef::IpAddress(_) => 0x40,
-        ValueRef::Counter32(_) => 0x41,
-        ValueRef::Gauge32(_) => 0x42,
-        ValueRef::TimeTicks(_) => 0x43,
-        ValueRef::Opaque(_) => 0x44,
-        ValueRef::Counter64(_) => 0x46,
-        ValueRef::NoSuchObject => 0x80,
-        ValueRef::NoSuchInstance => 0x81,
-        ValueRef::EndOfMibView => 0x82,
-    }
-}
-
 /// How many octets the content of a value takes.
 #[inline]
 #[tactic(auto, using(crate::proofs::CanonLemmas::contents), unfolding(crate::specs::Canon::canon_content))]
-fn content_size(value: &ValueRef<'_>) -> u64
+pub(crate) fn content_size(value: &ValueRef<'_>) -> u64
     requires { IsEncodableValue (datum value.now) }
     ensures value { result ≡ length (canon_content (datum value.now)) }
     ensures small { result ≤ 65535 }
@@ -194,10 +172,10 @@ fn content_size(value: &ValueRef<'_>) -> u64
     match value {
         ValueRef::Integer(number) => integer_size(*number) as u64,
         ValueRef::Octets(text) | ValueRef::Opaque(text) => text.len() as u64,
-        ValueRef::ObjectId(name) => identifier_size(name),
+        ValueRef::ObjectId(name) => object_id_size(name),
         ValueRef::IpAddress(address) => address_size(*address),
         ValueRef::Counter32(number) | ValueRef::Gauge32(number) | ValueRef::TimeTicks(number) => {
-            unsigned_size(u64::from(*number)) as u64
+            unsigned32_size(*number) as u64
         }
         ValueRef::Counter64(number) => unsigned_size(*number) as u64,
         ValueRef::Null
@@ -205,6 +183,16 @@ fn content_size(value: &ValueRef<'_>) -> u64
         | ValueRef::NoSuchInstance
         | ValueRef::EndOfMibView => 0,
     }
+}
+
+/// How many octets the content of an identifier takes. Few values are identifiers, so this stays out of the others' way.
+#[inline(never)]
+fn object_id_size(name: &Oid) -> u64
+    requires { IsWire name.now }
+    ensures value { result ≡ length (canon_content (object_id name.now)) }
+    ensures small { result ≤ 640 }
+{
+    identifier_size(name)
 }
 
 /// How many octets an address has.
@@ -216,50 +204,94 @@ fn address_size(address: [u8; 4]) -> u64
     address.len() as u64
 }
 
-/// How many octets a value takes.
-#[inline]
-pub(crate) fn value_size(value: &ValueRef<'_>) -> u64
-    requires { IsEncodableValue (datum value.now) }
-    ensures value { result ≡ length (canon_value (datum value.now)) }
-    ensures small { result ≤ 65541 }
-{
-    let content = content_size(value);
-    header_size(content) + content
-}
-
-/// Writes the content of a value before `end`, and answers where it begins.
-#[inline]
-#[tactic(auto, using(crate::proofs::CanonLemmas::contents), unfolding(crate::specs::Canon::canon_content))]
-fn put_content(out: &mut [u8], end: usize, value: &ValueRef<'_>) -> usize
-    requires encodable { IsEncodableValue (datum value.now) }
-    requires room { length (canon_content (datum value.now)) ≤ end }
-    requires within { end ≤ length out.old }
-    ensures { Writes out.old result end (canon_content (datum value.now)) out.new }
-{
-    match value {
-        ValueRef::Integer(number) => put_integer(out, end, *number),
-        ValueRef::Octets(text) | ValueRef::Opaque(text) => put_text(out, end, text),
-        ValueRef::ObjectId(name) => put_identifier(out, end, name),
-        ValueRef::IpAddress(address) => put_text(out, end, address),
-        ValueRef::Counter32(number) | ValueRef::Gauge32(number) | ValueRef::TimeTicks(number) => {
-            put_unsigned(out, end, u64::from(*number))
-        }
-        ValueRef::Counter64(number) => put_unsigned(out, end, *number),
-        ValueRef::Null
-        | ValueRef::NoSuchObject
-        | ValueRef::NoSuchInstance
-        | ValueRef::EndOfMibView => end,
-    }
-}
-
 /// Writes a value before `end`, and answers where it begins.
 #[inline]
+#[tactic(auto, using(crate::proofs::ValueWriting::arms), unfolding(crate::specs::Canon::canon_value, crate::specs::Canon::canon_content))]
 pub(crate) fn put_value(out: &mut [u8], end: usize, value: &ValueRef<'_>) -> usize
     requires encodable { IsEncodableValue (datum value.now) }
     requires room { length (canon_value (datum value.now)) ≤ end }
     requires within { end ≤ length out.old }
     ensures { Writes out.old result end (canon_value (datum value.now)) out.new }
 {
-    let start = put_content(out, end, value);
-    put_header(out, start, tag_of(value), (end - start) as u64)
+    match value {
+        ValueRef::Integer(number) => put_integer_value(out, end, *number),
+        ValueRef::Octets(text) => put_string(out, end, 0x04, text),
+        ValueRef::Null => put_empty(out, end, 0x05),
+        ValueRef::ObjectId(name) => put_object_id(out, end, name),
+        ValueRef::IpAddress(address) => put_string(out, end, 0x40, address),
+        ValueRef::Counter32(number) => put_number(out, end, 0x41, *number),
+        ValueRef::Gauge32(number) => put_number(out, end, 0x42, *number),
+        ValueRef::TimeTicks(number) => put_number(out, end, 0x43, *number),
+        ValueRef::Opaque(text) => put_string(out, end, 0x44, text),
+        ValueRef::Counter64(number) => put_long_number(out, end, 0x46, *number),
+        ValueRef::NoSuchObject => put_empty(out, end, 0x80),
+        ValueRef::NoSuchInstance => put_empty(out, end, 0x81),
+        ValueRef::EndOfMibView => put_empty(out, end, 0x82),
+    }
+}
+
+/// Writes an element of no content before `end`, and answers where it begins.
+#[inline]
+fn put_empty(out: &mut [u8], end: usize, tag: u8) -> usize
+    requires room { length (canon_element tag []) ≤ end }
+    requires within { end ≤ length out.old }
+    ensures { Writes out.old result end (canon_element tag []) out.new }
+{
+    put_short_header(out, end, tag, 0)
+}
+
+/// Writes a number of 32 bits before `end`, as an element of this tag, and answers where it begins.
+#[inline]
+fn put_number(out: &mut [u8], end: usize, tag: u8, number: u32) -> usize
+    requires room { length (canon_element tag (canon_number (pos number))) ≤ end }
+    requires within { end ≤ length out.old }
+    ensures { Writes out.old result end (canon_element tag (canon_number (pos number))) out.new }
+{
+    let start = put_unsigned32(out, end, number);
+    put_short_header(out, start, tag, (end - start) as u64)
+}
+
+/// Writes a number of 64 bits before `end`, as an element of this tag, and answers where it begins.
+#[inline(never)]
+fn put_long_number(out: &mut [u8], end: usize, tag: u8, number: u64) -> usize
+    requires room { length (canon_element tag (canon_number (pos number))) ≤ end }
+    requires within { end ≤ length out.old }
+    ensures { Writes out.old result end (canon_element tag (canon_number (pos number))) out.new }
+{
+    let start = put_unsigned(out, end, number);
+    put_short_header(out, start, tag, (end - start) as u64)
+}
+
+/// Writes an INTEGER before `end`, and answers where it begins.
+#[inline]
+fn put_integer_value(out: &mut [u8], end: usize, number: i32) -> usize
+    requires room { length (canon_element 2 (canon_number number)) ≤ end }
+    requires within { end ≤ length out.old }
+    ensures { Writes out.old result end (canon_element 2 (canon_number number)) out.new }
+{
+    let start = put_integer(out, end, number);
+    put_short_header(out, start, 0x02, (end - start) as u64)
+}
+
+/// Writes a text before `end`, as an element of this tag, and answers where it begins.
+#[inline(never)]
+fn put_string(out: &mut [u8], end: usize, tag: u8, text: &[u8]) -> usize
+    requires room { length (canon_element tag text.now) ≤ end }
+    requires within { end ≤ length out.old }
+    ensures { Writes out.old result end (canon_element tag text.now) out.new }
+{
+    let start = put_text(out, end, text);
+    put_header(out, start, tag, (end - start) as u64)
+}
+
+/// Writes an OBJECT IDENTIFIER before `end`, and answers where it begins. Few values are identifiers, so this stays out of the others' way.
+#[inline(never)]
+fn put_object_id(out: &mut [u8], end: usize, name: &Oid) -> usize
+    requires encodable { IsWire name.now }
+    requires room { length (canon_element 6 (canon_content (object_id name.now))) ≤ end }
+    requires within { end ≤ length out.old }
+    ensures { Writes out.old result end (canon_element 6 (canon_content (object_id name.now))) out.new }
+{
+    let start = put_identifier(out, end, name);
+    put_header(out, start, 0x06, (end - start) as u64)
 }
