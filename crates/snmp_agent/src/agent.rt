@@ -81,10 +81,10 @@ fn reply(table: &Table, max_size: usize, request: &MessageRef<'_>, out: &mut [u8
 }
 
 /// The reply to a GetBulk: as many bindings as fit.
-fn bulk_reply(
-    table: &Table,
+fn bulk_reply<'a>(
+    table: &'a Table,
     max_size: usize,
-    request: &MessageRef<'_>,
+    request: &MessageRef<'a>,
     out: &mut [u8],
 ) -> Option<usize>
     requires bulk { request.now.kind ≡ kind.GetBulkRequest }

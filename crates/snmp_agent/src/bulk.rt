@@ -7,7 +7,7 @@ ghost use Rattle.snmp_wire.specs.Parts.{parts_message};
 ghost use Rattle.snmp_agent.specs.Reply.{IsBulk, joined, or_zero};
 ghost use Rattle.snmp_agent.specs.Answering.{AreWritable, whole_size, HoldsFront, AreGiven, IsProgress, Leaves, HasRow, AreRoundsFrom};
 
-use crate::draft::append;
+use crate::draft::{append, blank};
 use snmp_table::Table;
 use snmp_wire::{Bindings, MessageRef, Parts, ValueRef};
 
@@ -20,9 +20,9 @@ pub enum Progress {
 }
 
 /// Writes the answers to a GetBulk to the front of `out`, as many as fit, and answers how many octets they take together.
-pub fn append_bulk(
-    table: &Table,
-    request: &MessageRef<'_>,
+pub fn append_bulk<'a>(
+    table: &'a Table,
+    request: &MessageRef<'a>,
     parts: &Parts<'_>,
     max_size: usize,
     out: &mut [u8],
@@ -53,10 +53,10 @@ fn or_zero(number: i32) -> usize
 }
 
 /// Takes the first `count` bindings, or all where there are fewer, and writes what a GetNext gives for each of them.
-fn append_singles(
-    table: &Table,
+fn append_singles<'a>(
+    table: &'a Table,
     count: usize,
-    bindings: &mut Bindings<'_>,
+    bindings: &mut Bindings<'a>,
     parts: &Parts<'_>,
     max_size: usize,
     out: &mut [u8],
@@ -70,11 +70,13 @@ fn append_singles(
     ensures left { Leaves result (drop count bindings.old) bindings.new }
 {
     let mut total = 0;
+    let mut asked = blank();
+    let mut given = blank();
     'singles: for _ in 0..count {
-        let Some(asked) = bindings.next() else {
+        if !bindings.read_next(&mut asked) {
             return Progress::Open(total);
-        };
-        let given = table.next_after(&asked.name, 0);
+        }
+        table.read_next_after(&asked.name, 0, &mut given);
         match append(parts, max_size, out, total, &given) {
             Some(end) => total = end,
             None => return Progress::Closed(total),
@@ -111,10 +113,10 @@ fn append_rounds(
 }
 
 /// Writes what each binding is given in the round behind so many others, behind the first `start` octets.
-fn append_round(
-    table: &Table,
+fn append_round<'a>(
+    table: &'a Table,
     round: usize,
-    bindings: Bindings<'_>,
+    mut bindings: Bindings<'a>,
     parts: &Parts<'_>,
     max_size: usize,
     out: &mut [u8],
@@ -129,8 +131,10 @@ fn append_round(
 {
     let mut total = start;
     let mut over = true;
-    'bindings: for asked in bindings {
-        let given = table.next_after(&asked.name, round);
+    let mut asked = blank();
+    let mut given = blank();
+    'bindings: while bindings.read_next(&mut asked) {
+        table.read_next_after(&asked.name, round, &mut given);
         match append(parts, max_size, out, total, &given) {
             Some(end) => total = end,
             None => return Progress::Closed(total),

@@ -1,6 +1,6 @@
 //! A reply in the making: its bindings are written to the front of the output one behind the other, and make room for what stands before them when they are all there.
-ghost use Rattle.std.specs.Prelude.{◌≡◌, ◌+◌, ◌≤◌, ◌<◌, ◌++◌, List, length, take, IfSome, IfNone, IsTrue, ◌↔◌};
-ghost use Rattle.snmp_wire.specs.Message.{VarBind, var_bind, datum};
+ghost use Rattle.std.specs.Prelude.{◌≡◌, ◌+◌, ◌≤◌, ◌<◌, ◌++◌, List, [], length, take, IfSome, IfNone, IsTrue, ◌↔◌};
+ghost use Rattle.snmp_wire.specs.Message.{VarBind, var_bind, datum, null_value};
 ghost use Rattle.snmp_wire.specs.Canon.{canon_binding, canon_bindings, canon_head};
 ghost use Rattle.snmp_wire.specs.Parts.{parts_message};
 ghost use Rattle.snmp_agent.specs.Reply.{AreAnswers};
@@ -8,15 +8,16 @@ ghost use Rattle.snmp_agent.specs.Answering.{IsPaired, IsAnswer, IsWritable, Are
 
 use snmp_table::Table;
 use snmp_wire::{
-    Binding, Bindings, Kind, Parts, ValueRef, binding_size, encode_binding, encode_head, head_size,
+    Binding, Bindings, Kind, Oid, Parts, ValueRef, binding_size, encode_binding, encode_head,
+    head_size,
 };
 
 /// Writes the answers to the bindings of a request to the front of `out`, and answers how many octets they take together.
 /// None where a message of these parts and answers has more than `max_size` octets.
-pub fn append_answers(
-    table: &Table,
+pub fn append_answers<'a>(
+    table: &'a Table,
     kind: Kind,
-    bindings: Bindings<'_>,
+    mut bindings: Bindings<'a>,
     parts: &Parts<'_>,
     max_size: usize,
     out: &mut [u8],
@@ -33,28 +34,36 @@ pub fn append_answers(
         return None;
     }
     let mut total = 0;
-    'bindings: for asked in bindings {
-        let given = answer_to(table, kind, asked);
-        total = append(parts, max_size, out, total, &given)?;
+    let mut binding = blank();
+    'bindings: while bindings.read_next(&mut binding) {
+        answer_to(table, kind, &mut binding);
+        total = append(parts, max_size, out, total, &binding)?;
     }
     Some(total)
 }
 
-/// What a request of this kind is given for one of its bindings: for a Get the variable of its name, for a GetNext the one behind it, and for a Set the binding itself.
-fn answer_to<'a>(table: &'a Table, kind: Kind, asked: Binding<'a>) -> Binding<'a>
+/// A binding for others to be read into.
+#[inline]
+pub fn blank<'a>() -> Binding<'a>
+    ensures { var_bind result ≡ record { name = []; value = null_value } }
+{
+    Binding {
+        name: Oid::new(),
+        value: ValueRef::Null,
+    }
+}
+
+/// Makes one of the bindings of a request of this kind what is given for it: for a Get the variable of its name, for a GetNext the one behind it, and for a Set the binding itself.
+fn answer_to<'a>(table: &'a Table, kind: Kind, binding: &mut Binding<'a>)
     requires paired { IsPaired kind }
-    requires writable { IsWritable (var_bind asked) }
-    ensures answer { IsAnswer table.now kind (var_bind asked.entry) (var_bind result) }
-    ensures writable { IsWritable (var_bind result) }
+    requires writable { IsWritable (var_bind binding.old) }
+    ensures answer { IsAnswer table.now kind (var_bind binding.old) (var_bind binding.new) }
+    ensures writable { IsWritable (var_bind binding.new) }
 {
     match kind {
-        Kind::GetRequest => {
-            let Binding { name, value: _ } = asked;
-            let value = table.get(&name);
-            Binding { name, value }
-        }
-        Kind::GetNextRequest => table.next(&asked.name),
-        _ => asked,
+        Kind::GetRequest => binding.value = table.get(&binding.name),
+        Kind::GetNextRequest => *binding = table.next(&binding.name),
+        _ => {}
     }
 }
 

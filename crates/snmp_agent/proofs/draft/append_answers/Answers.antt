@@ -17,23 +17,18 @@ returns-then-head_size-max_size-clause-too_long c =
 
 pub bindings-init : goal.bindings-init
 bindings-init c =
-    let same : c.into_iter-asked-iterator.result ≡ c.args.bindings = c.into_iter-asked-iterator.ensures.into_iter_gives in (
-      [],
-      λ rest h. subst (λ (bs : List VarBind). AreAnswers (IsAnswer c.args.table.now c.args.kind) bs rest) same h,
-      empty_draft _ _ _ (omega (arith, c.head_size.ensures.value)),
-      subst (λ (bs : List VarBind). AreWritable bs) (sym same) c.requires.writable,
-    )
+    ([], λ rest h. h, empty_draft _ _ _ (omega (arith, c.head_size.ensures.value)), c.requires.writable)
 
 pub returns-in_err-total-clause-too_long : goal.returns-in_err-total-clause-too_long
 returns-in_err-total-clause-too_long c =
     let R = IsAnswer c.args.table.now c.args.kind in
     let so_far = c.bindings.invariant in
-    let p : VarBind = var_bind c.answer_to-given.result in
-    let left : c.bindings.asked-iterator ≡ var_bind c.in-Some.asked ∷ c.next.new.self = c.in-Some.ensures.steps in
-    let later = all_answered c.args.table.now c.args.kind c.next.new.self c.requires.paired in
+    let p : VarBind = var_bind c.answer_to.new.binding in
+    let left : c.bindings.bindings ≡ var_bind c.read_next.new.into ∷ c.read_next.new.self = c.read_next.ensures.some c.bindings-test.true in
+    let later = all_answered c.args.table.now c.args.kind c.read_next.new.self c.requires.paired in
     none_anyway c.from_residual.result (
       so_far.0 ++ p ∷ later.0,
-      so_far.1 (p ∷ later.0) (subst (λ (bs : List VarBind). AreAnswers R bs (p ∷ later.0)) (sym left) (c.answer_to-given.ensures.answer, later.1)),
+      so_far.1 (p ∷ later.0) (subst (λ (bs : List VarBind). AreAnswers R bs (p ∷ later.0)) (sym left) (c.answer_to.ensures.answer, later.1)),
       passes (parts_message c.args.parts.now) c.args.max_size so_far.0 later.0 p c.bindings.total c.bindings.out so_far.2 c.in_err-total.ensures.too_long,
     )
 
@@ -41,13 +36,13 @@ pub bindings-preserved : goal.bindings-preserved
 bindings-preserved c =
     let R = IsAnswer c.args.table.now c.args.kind in
     let so_far = c.bindings.invariant in
-    let p : VarBind = var_bind c.answer_to-given.result in
-    let first : VarBind = var_bind c.in-Some.asked in
-    let left : c.bindings.asked-iterator ≡ first ∷ c.next.new.self = c.in-Some.ensures.steps in
+    let p : VarBind = var_bind c.answer_to.new.binding in
+    let first : VarBind = var_bind c.read_next.new.into in
+    let left : c.bindings.bindings ≡ first ∷ c.read_next.new.self = c.read_next.ensures.some c.bindings-test.true in
     let written = c.in_ok-total.ensures.written in
-    let writable : AreWritable (first ∷ c.next.new.self) = subst (λ (bs : List VarBind). AreWritable bs) left so_far.3 in (
+    let writable : AreWritable (first ∷ c.read_next.new.self) = subst (λ (bs : List VarBind). AreWritable bs) left so_far.3 in (
       so_far.0 ++ p ∷ [],
-      step R c.args.bindings c.bindings.asked-iterator c.next.new.self so_far.0 first p left c.answer_to-given.ensures.answer so_far.1,
+      step R c.args.bindings c.bindings.bindings c.read_next.new.self so_far.0 first p left c.answer_to.ensures.answer so_far.1,
       longer_draft (parts_message c.args.parts.now) c.args.max_size so_far.0 p c.bindings.total c.in_ok-total.total c.bindings.out c.append.new.out so_far.2 written.0 written.1 written.2,
       writable.1,
     )
@@ -56,6 +51,6 @@ pub returns-clause-written : goal.returns-clause-written
 returns-clause-written c =
     let R = IsAnswer c.args.table.now c.args.kind in
     let so_far = c.bindings.invariant in
-    let none : c.bindings.asked-iterator ≡ [] = c.in-None.ensures.steps.0 in
+    let none : c.bindings.bindings ≡ [] = (c.read_next.ensures.none c.bindings-test.false).0 in
     let all : AreAnswers R c.args.bindings (so_far.0 ++ []) = so_far.1 [] (subst (λ (bs : List VarBind). AreAnswers R bs []) (sym none) tt) in
     (so_far.0, subst (λ (gs : List VarBind). AreAnswers R c.args.bindings gs) (append-nil so_far.0) all, so_far.2)
