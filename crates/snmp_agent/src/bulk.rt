@@ -1,15 +1,15 @@
 //! The answers to a GetBulk (RFC 3416, section 4.2.3).
 //!
 //! They go to the front of the output as those of the other requests do, but end before the first that has no room.
-ghost use Rattle.std.specs.Prelude.{◌≡◌, ◌≤◌, ◌↔◌, List, length, take, drop, IsTrue};
-ghost use Rattle.snmp_wire.specs.Message.{VarBind, datum, end_of_mib_view};
+ghost use Rattle.std.specs.Prelude.{◌≡◌, ◌≤◌, ◌↔◌, List, [], ◌∷◌, length, take, drop, IsTrue};
+ghost use Rattle.snmp_wire.specs.Message.{VarBind, datum, var_bind, end_of_mib_view};
 ghost use Rattle.snmp_wire.specs.Parts.{parts_message};
 ghost use Rattle.snmp_agent.specs.Reply.{IsBulk, joined, or_zero};
-ghost use Rattle.snmp_agent.specs.Answering.{AreWritable, whole_size, HoldsFront, AreGiven, IsProgress, Leaves, HasRow, AreRoundsFrom};
+ghost use Rattle.snmp_agent.specs.Answering.{IsWritable, AreWritable, whole_size, HoldsFront, AreGiven, IsProgress, Leaves, HasRow, AreRoundsFrom};
 
 use crate::draft::{append, blank};
-use snmp_table::Table;
-use snmp_wire::{Bindings, MessageRef, Parts, ValueRef};
+use snmp_table::{Place, Table};
+use snmp_wire::{Binding, Bindings, MessageRef, Parts, ValueRef};
 
 /// How far bindings were written, and how many octets they and those before them take.
 pub enum Progress {
@@ -40,7 +40,7 @@ pub fn append_bulk<'a>(
         Progress::Closed(total) => total,
         Progress::Open(total) => {
             let repetitions = or_zero(request.b());
-            append_rounds(table, repetitions, bindings, parts, max_size, out, total)
+            append_repeaters(table, repetitions, bindings, parts, max_size, out, total)
         }
     }
 }
@@ -86,6 +86,64 @@ fn append_singles<'a>(
 }
 
 /// Writes the rounds of the bindings, at most `repetitions`, behind the first `start` octets, and answers how many octets there are then.
+fn append_repeaters<'a>(
+    table: &'a Table,
+    repetitions: usize,
+    bindings: Bindings<'a>,
+    parts: &Parts<'_>,
+    max_size: usize,
+    out: &mut [u8],
+    start: usize,
+) -> usize
+    requires writable { AreWritable bindings }
+    requires community { length parts.now.community.now ≤ 255 }
+    requires datagram { max_size ≤ 65507 }
+    requires room { max_size ≤ length out.old }
+    requires fits { whole_size (parts_message parts.now) start ≤ max_size }
+    ensures { (rounds : List (List VarBind)) × AreRoundsFrom table.now bindings.entry 0 repetitions rounds × HoldsFront (parts_message parts.now) max_size start out.old (joined rounds) result out.new }
+{
+    let mut others = bindings.left();
+    let mut first = blank();
+    if others.read_next(&mut first) && others.next().is_none() {
+        append_column(table, repetitions, &mut first, parts, max_size, out, start)
+    } else {
+        append_rounds(table, repetitions, bindings, parts, max_size, out, start)
+    }
+}
+
+/// Writes the rounds of one binding, as a walk asks for them: each begins where the one before ended, and nothing is searched.
+fn append_column<'a>(
+    table: &'a Table,
+    repetitions: usize,
+    binding: &mut Binding<'a>,
+    parts: &Parts<'_>,
+    max_size: usize,
+    out: &mut [u8],
+    start: usize,
+) -> usize
+    requires writable { IsWritable (var_bind binding.old) }
+    requires community { length parts.now.community.now ≤ 255 }
+    requires datagram { max_size ≤ 65507 }
+    requires room { max_size ≤ length out.old }
+    requires fits { whole_size (parts_message parts.now) start ≤ max_size }
+    ensures { (rounds : List (List VarBind)) × AreRoundsFrom table.now (var_bind binding.old ∷ []) 0 repetitions rounds × HoldsFront (parts_message parts.now) max_size start out.old (joined rounds) result out.new }
+{
+    let mut total = start;
+    let mut place = Place::default();
+    'rounds: for _ in 0..repetitions {
+        table.advance(binding, &mut place);
+        match append(parts, max_size, out, total, binding) {
+            Some(end) => total = end,
+            None => return total,
+        }
+        if is_end(&binding.value) {
+            return total;
+        }
+    }
+    total
+}
+
+/// Writes the rounds of several bindings, as [`append_repeaters`] does.
 fn append_rounds(
     table: &Table,
     repetitions: usize,

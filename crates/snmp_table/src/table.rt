@@ -114,6 +114,24 @@ impl Table {
         let (_, behind) = rows.split_at(place_behind(rows, name.as_slice()));
         read_nth_or_end(behind, name, rounds, into);
     }
+
+    /// Makes a binding the answer to a GetNext of its name. Where `place` is where the call before gave that name, nothing has to be searched.
+    pub fn advance<'a>(&'a self, binding: &mut Binding<'a>, place: &mut Place)
+        ensures answer { IsNext self.now binding.old.name (var_bind binding.new) }
+        ensures name { IsWire binding.old.name → IsWire binding.new.name }
+        ensures value { IsAnswerValue (datum binding.new.value) }
+    {
+        let rows = self.rows.as_slice();
+        let (passed, behind) = rows.split_at(place_near(rows, binding.name.as_slice(), *place));
+        place.row = passed.len();
+        read_first_or_end(behind, binding);
+    }
+}
+
+/// Where a name was found among the rows. It only says where to look first: no answer depends on it.
+#[derive(Clone, Copy, Debug, Default)]
+pub struct Place {
+    row: usize,
 }
 
 /// Lines state one table at most.
@@ -165,6 +183,30 @@ fn place_behind(rows: &[Row], name: &[u32]) -> usize
             ensures { result ≡ is_up_to name.entry.now row.now }
         { row.name.as_slice().cmp(name).is_le() },
     )
+}
+
+/// How many rows at the front have the name or one before it, looked for at a place first.
+fn place_near(rows: &[Row], name: &[u32], place: Place) -> usize
+    requires { IsRising rows.now }
+    ensures bound { result ≤ length rows.now }
+    ensures passed { IsBeforeNone name.now (map entry_of (take result rows.now)) }
+    ensures ahead { IsBeforeAll name.now (map entry_of (drop result rows.now)) }
+{
+    match rows.get(place.row) {
+        Some(row) if row.name.as_slice() == name => place.row + 1,
+        _ => place_behind(rows, name),
+    }
+}
+
+/// Makes a binding the first row's, or gives it `EndOfMibView` if there is no row.
+fn read_first_or_end<'a>(rows: &'a [Row], binding: &mut Binding<'a>)
+    requires { All IsShortRow rows.now }
+    ensures { var_bind binding.new ≡ nth_or_end binding.old.name (bindings_of rows.now) 0 }
+{
+    match rows.first() {
+        Some(row) => row.read_into(binding),
+        None => binding.value = ValueRef::EndOfMibView,
+    }
 }
 
 /// Makes a binding that is there the row's at this place, or past the end the last name, `name` if there is no row, with `EndOfMibView`.

@@ -14,8 +14,8 @@ use Rattle.snmp_agent.proofs.bulk.append_bulk.Goals as goal
 number : {z : ℤ} (handed : ℤ) → SFits w32 handed → handed ≡ z → to_z w32 (of_z w32 handed) ≡ z
 number handed fits e = to_z-of_z w32 handed fits ∙ e
 
-pub append_rounds-requires-clause-writable : goal.append_rounds-requires-clause-writable
-append_rounds-requires-clause-writable c =
+pub append_repeaters-requires-clause-writable : goal.append_repeaters-requires-clause-writable
+append_repeaters-requires-clause-writable c =
     let bindings : AreWritable c.bindings-bindings.result = subst (λ (bs : List VarBind). AreWritable bs) (sym c.bindings-bindings.ensures) c.requires.writable in
     subst (λ (bs : List VarBind). AreWritable bs) (sym c.in-Open.ensures.left) (writable_drop c.or_zero-count.result c.bindings-bindings.result bindings)
 
@@ -35,7 +35,7 @@ returns-in-Closed c =
 pub returns-in-Open : goal.returns-in-Open
 returns-in-Open c =
     let singles = c.in-Open.ensures.progress in
-    let rounds = c.append_rounds.ensures in
+    let rounds = c.append_repeaters.ensures in
     let m = parts_message c.args.parts.now in
     let q = c.args.request.now in
     let count : c.or_zero-count.result ≡ or_zero q.a = c.or_zero-count.ensures ∙ ap or_zero (number c.a.result (search rules) c.a.ensures) in
@@ -43,5 +43,5 @@ returns-in-Open c =
       singles.0 ++ joined rounds.0,
       bulk_of c.args.table.now q c.or_zero-count.result c.or_zero-repetitions.result c.bindings-bindings.result c.append_singles.new.bindings singles.0 rounds.0 count repetitions c.bindings-bindings.ensures c.in-Open.ensures.left
           singles.1 rounds.1,
-      front_behind m c.args.max_size 0 c.in-Open.total c.append_rounds.result c.args.out.now c.append_singles.new.out c.append_rounds.new.out singles.0 (joined rounds.0) singles.3 rounds.2,
+      front_behind m c.args.max_size 0 c.in-Open.total c.append_repeaters.result c.args.out.now c.append_singles.new.out c.append_repeaters.new.out singles.0 (joined rounds.0) singles.3 rounds.2,
     )
