@@ -3,13 +3,12 @@
 //! They go to the front of the output as those of the other requests do, but end before the first that has no room.
 ghost use Rattle.std.specs.Prelude.{◌≡◌, ◌≤◌, ◌↔◌, List, [], ◌∷◌, length, take, drop, IsTrue};
 ghost use Rattle.snmp_wire.specs.Message.{VarBind, datum, var_bind, end_of_mib_view};
-ghost use Rattle.snmp_wire.specs.Parts.{parts_message};
 ghost use Rattle.snmp_agent.specs.Reply.{IsBulk, joined, or_zero};
-ghost use Rattle.snmp_agent.specs.Answering.{IsWritable, AreWritable, whole_size, HoldsFront, AreGiven, IsProgress, Leaves, HasRow, AreRoundsFrom};
+ghost use Rattle.snmp_agent.specs.Answering.{IsWritable, AreWritable, HoldsFront, AreGiven, IsProgress, Leaves, HasRow, AreRoundsFrom};
 
 use crate::draft::{append, blank};
 use snmp_table::{Place, Table};
-use snmp_wire::{Binding, Bindings, MessageRef, Parts, ValueRef};
+use snmp_wire::{Binding, Bindings, MessageRef, ValueRef};
 
 /// How far bindings were written, and how many octets they and those before them take.
 pub enum Progress {
@@ -23,24 +22,21 @@ pub enum Progress {
 pub fn append_bulk<'a>(
     table: &'a Table,
     request: &MessageRef<'a>,
-    parts: &Parts<'_>,
-    max_size: usize,
+    room: usize,
     out: &mut [u8],
 ) -> usize
     requires writable { AreWritable request.now.bindings }
-    requires community { length parts.now.community.now ≤ 255 }
-    requires datagram { max_size ≤ 65507 }
-    requires room { max_size ≤ length out.old }
-    requires fits { whole_size (parts_message parts.now) 0 ≤ max_size }
-    ensures { (all : List VarBind) × IsBulk table.now request.now all × HoldsFront (parts_message parts.now) max_size 0 out.old all result out.new }
+    requires datagram { room ≤ 65507 }
+    requires room { room ≤ length out.old }
+    ensures { (all : List VarBind) × IsBulk table.now request.now all × HoldsFront room 0 out.old all result out.new }
 {
     let mut bindings = request.bindings();
     let count = or_zero(request.a());
-    match append_singles(table, count, &mut bindings, parts, max_size, out) {
+    match append_singles(table, count, &mut bindings, room, out) {
         Progress::Closed(total) => total,
         Progress::Open(total) => {
             let repetitions = or_zero(request.b());
-            append_repeaters(table, repetitions, bindings, parts, max_size, out, total)
+            append_repeaters(table, repetitions, bindings, room, out, total)
         }
     }
 }
@@ -57,16 +53,13 @@ fn append_singles<'a>(
     table: &'a Table,
     count: usize,
     bindings: &mut Bindings<'a>,
-    parts: &Parts<'_>,
-    max_size: usize,
+    room: usize,
     out: &mut [u8],
 ) -> Progress
     requires writable { AreWritable bindings.old }
-    requires community { length parts.now.community.now ≤ 255 }
-    requires datagram { max_size ≤ 65507 }
-    requires room { max_size ≤ length out.old }
-    requires fits { whole_size (parts_message parts.now) 0 ≤ max_size }
-    ensures progress { IsProgress (AreGiven table.now 0 (take count bindings.old)) (λ all. Unit {0}) (parts_message parts.now) max_size 0 out.old result out.new }
+    requires datagram { room ≤ 65507 }
+    requires room { room ≤ length out.old }
+    ensures progress { IsProgress (AreGiven table.now 0 (take count bindings.old)) (λ all. Unit {0}) room 0 out.old result out.new }
     ensures left { Leaves result (drop count bindings.old) bindings.new }
 {
     let mut total = 0;
@@ -77,7 +70,7 @@ fn append_singles<'a>(
             return Progress::Open(total);
         }
         table.read_next_after(&asked.name, 0, &mut given);
-        match append(parts, max_size, out, total, &given) {
+        match append(room, out, total, &given) {
             Some(end) => total = end,
             None => return Progress::Closed(total),
         }
@@ -90,24 +83,22 @@ fn append_repeaters<'a>(
     table: &'a Table,
     repetitions: usize,
     bindings: Bindings<'a>,
-    parts: &Parts<'_>,
-    max_size: usize,
+    room: usize,
     out: &mut [u8],
     start: usize,
 ) -> usize
     requires writable { AreWritable bindings }
-    requires community { length parts.now.community.now ≤ 255 }
-    requires datagram { max_size ≤ 65507 }
-    requires room { max_size ≤ length out.old }
-    requires fits { whole_size (parts_message parts.now) start ≤ max_size }
-    ensures { (rounds : List (List VarBind)) × AreRoundsFrom table.now bindings.entry 0 repetitions rounds × HoldsFront (parts_message parts.now) max_size start out.old (joined rounds) result out.new }
+    requires datagram { room ≤ 65507 }
+    requires room { room ≤ length out.old }
+    requires fits { start ≤ room }
+    ensures { (rounds : List (List VarBind)) × AreRoundsFrom table.now bindings.entry 0 repetitions rounds × HoldsFront room start out.old (joined rounds) result out.new }
 {
     let mut others = bindings.left();
     let mut first = blank();
     if others.read_next(&mut first) && others.next().is_none() {
-        append_column(table, repetitions, &mut first, parts, max_size, out, start)
+        append_column(table, repetitions, &mut first, room, out, start)
     } else {
-        append_rounds(table, repetitions, bindings, parts, max_size, out, start)
+        append_rounds(table, repetitions, bindings, room, out, start)
     }
 }
 
@@ -116,23 +107,21 @@ fn append_column<'a>(
     table: &'a Table,
     repetitions: usize,
     binding: &mut Binding<'a>,
-    parts: &Parts<'_>,
-    max_size: usize,
+    room: usize,
     out: &mut [u8],
     start: usize,
 ) -> usize
     requires writable { IsWritable (var_bind binding.old) }
-    requires community { length parts.now.community.now ≤ 255 }
-    requires datagram { max_size ≤ 65507 }
-    requires room { max_size ≤ length out.old }
-    requires fits { whole_size (parts_message parts.now) start ≤ max_size }
-    ensures { (rounds : List (List VarBind)) × AreRoundsFrom table.now (var_bind binding.old ∷ []) 0 repetitions rounds × HoldsFront (parts_message parts.now) max_size start out.old (joined rounds) result out.new }
+    requires datagram { room ≤ 65507 }
+    requires room { room ≤ length out.old }
+    requires fits { start ≤ room }
+    ensures { (rounds : List (List VarBind)) × AreRoundsFrom table.now (var_bind binding.old ∷ []) 0 repetitions rounds × HoldsFront room start out.old (joined rounds) result out.new }
 {
     let mut total = start;
     let mut place = Place::default();
     'rounds: for _ in 0..repetitions {
         table.advance(binding, &mut place);
-        match append(parts, max_size, out, total, binding) {
+        match append(room, out, total, binding) {
             Some(end) => total = end,
             None => return total,
         }
@@ -148,21 +137,19 @@ fn append_rounds(
     table: &Table,
     repetitions: usize,
     bindings: Bindings<'_>,
-    parts: &Parts<'_>,
-    max_size: usize,
+    room: usize,
     out: &mut [u8],
     start: usize,
 ) -> usize
     requires writable { AreWritable bindings }
-    requires community { length parts.now.community.now ≤ 255 }
-    requires datagram { max_size ≤ 65507 }
-    requires room { max_size ≤ length out.old }
-    requires fits { whole_size (parts_message parts.now) start ≤ max_size }
-    ensures { (rounds : List (List VarBind)) × AreRoundsFrom table.now bindings.entry 0 repetitions rounds × HoldsFront (parts_message parts.now) max_size start out.old (joined rounds) result out.new }
+    requires datagram { room ≤ 65507 }
+    requires room { room ≤ length out.old }
+    requires fits { start ≤ room }
+    ensures { (rounds : List (List VarBind)) × AreRoundsFrom table.now bindings.entry 0 repetitions rounds × HoldsFront room start out.old (joined rounds) result out.new }
 {
     let mut total = start;
     'rounds: for round in 0..repetitions {
-        match append_round(table, round, bindings.left(), parts, max_size, out, total) {
+        match append_round(table, round, bindings.left(), room, out, total) {
             Progress::Open(end) => total = end,
             Progress::Closed(end) => return end,
         }
@@ -175,17 +162,15 @@ fn append_round<'a>(
     table: &'a Table,
     round: usize,
     mut bindings: Bindings<'a>,
-    parts: &Parts<'_>,
-    max_size: usize,
+    room: usize,
     out: &mut [u8],
     start: usize,
 ) -> Progress
     requires writable { AreWritable bindings }
-    requires community { length parts.now.community.now ≤ 255 }
-    requires datagram { max_size ≤ 65507 }
-    requires room { max_size ≤ length out.old }
-    requires fits { whole_size (parts_message parts.now) start ≤ max_size }
-    ensures { IsProgress (AreGiven table.now round bindings.entry) HasRow (parts_message parts.now) max_size start out.old result out.new }
+    requires datagram { room ≤ 65507 }
+    requires room { room ≤ length out.old }
+    requires fits { start ≤ room }
+    ensures { IsProgress (AreGiven table.now round bindings.entry) HasRow room start out.old result out.new }
 {
     let mut total = start;
     let mut over = true;
@@ -193,7 +178,7 @@ fn append_round<'a>(
     let mut given = blank();
     'bindings: while bindings.read_next(&mut asked) {
         table.read_next_after(&asked.name, round, &mut given);
-        match append(parts, max_size, out, total, &given) {
+        match append(room, out, total, &given) {
             Some(end) => total = end,
             None => return Progress::Closed(total),
         }

@@ -4,12 +4,11 @@ ghost use Rattle.snmp_wire.specs.Message.{VarBind, var_bind, datum, null_value};
 ghost use Rattle.snmp_wire.specs.Canon.{canon_binding, canon_bindings, canon_head};
 ghost use Rattle.snmp_wire.specs.Parts.{parts_message};
 ghost use Rattle.snmp_agent.specs.Reply.{AreAnswers};
-ghost use Rattle.snmp_agent.specs.Answering.{IsPaired, IsAnswer, IsWritable, AreWritable, IsShortValue, IsDraft, PassesLimit, whole_size};
+ghost use Rattle.snmp_agent.specs.Answering.{IsPaired, IsAnswer, IsWritable, AreWritable, IsShortValue, IsDraft, IsRoom, PassesLimit, whole_size};
 
 use snmp_table::Table;
 use snmp_wire::{
-    Binding, Bindings, Kind, Oid, Parts, ValueRef, binding_size, encode_binding, encode_head,
-    head_size,
+    Binding, Bindings, Kind, Oid, Parts, ValueRef, encode_binding, encode_head, head_size,
 };
 
 /// Writes the answers to the bindings of a request to the front of `out`, and answers how many octets they take together.
@@ -30,14 +29,12 @@ pub fn append_answers<'a>(
     ensures written { IfSome result (λ total. (given : List VarBind) × AreAnswers (IsAnswer table.now kind) bindings.entry given × IsDraft (parts_message parts.now) max_size given total out.new) }
     ensures too_long { IfNone result ((given : List VarBind) × AreAnswers (IsAnswer table.now kind) bindings.entry given × PassesLimit (parts_message parts.now) max_size given) }
 {
-    if head_size(parts, 0) > max_size as u64 {
-        return None;
-    }
+    let room = room_for_bindings(parts, max_size)?;
     let mut total = 0;
     let mut binding = blank();
     'bindings: while bindings.read_next(&mut binding) {
         answer_to(table, kind, &mut binding);
-        total = append(parts, max_size, out, total, &binding)?;
+        total = append(room, out, total, &binding)?;
     }
     Some(total)
 }
@@ -67,35 +64,42 @@ fn answer_to<'a>(table: &'a Table, kind: Kind, binding: &mut Binding<'a>)
     }
 }
 
-/// Writes a binding behind the `total` octets of those before it, and answers how many they are now.
-/// None, and nothing is written, where a message of these parts with all of them has more than `max_size` octets.
-pub fn append(
-    parts: &Parts<'_>,
-    max_size: usize,
-    out: &mut [u8],
-    total: usize,
-    binding: &Binding<'_>,
-) -> Option<usize>
-    requires community { length parts.now.community.now ≤ 255 }
-    requires datagram { max_size ≤ 65507 }
-    requires room { max_size ≤ length out.old }
-    requires total { total ≤ max_size }
+/// Writes a binding behind the `total` octets of those before it, and answers how many they are now. None, and nothing is written, where all of them take more than `room`.
+pub fn append(room: usize, out: &mut [u8], total: usize, binding: &Binding<'_>) -> Option<usize>
+    requires datagram { room ≤ 65507 }
+    requires room { room ≤ length out.old }
+    requires total { total ≤ room }
     requires writable { IsWritable (var_bind binding.now) }
-    ensures written { IfSome result (λ n. (n ≡ total + length (canon_binding (var_bind binding.now))) × (take n out.new ≡ take total out.old ++ canon_binding (var_bind binding.now)) × (whole_size (parts_message parts.now) n ≤ max_size)) }
-    ensures too_long { IfNone result (max_size < whole_size (parts_message parts.now) (total + length (canon_binding (var_bind binding.now)))) }
+    ensures written { IfSome result (λ n. (n ≡ total + length (canon_binding (var_bind binding.now))) × (take n out.new ≡ take total out.old ++ canon_binding (var_bind binding.now)) × (n ≤ room)) }
+    ensures too_long { IfNone result (room < total + length (canon_binding (var_bind binding.now))) }
     ensures unchanged { IfNone result (out.new ≡ out.old) }
 {
     if !is_short(&binding.value) {
         return None;
     }
-    let end = total + binding_size(binding) as usize;
-    if head_size(parts, end as u64) as usize + end > max_size {
+    match encode_binding(binding, &mut out[total..room]) {
+        Some(size) => Some(total + size),
+        None => None,
+    }
+}
+
+/// How many octets the bindings of a message of these parts may take at most where it keeps to `max_size`. None where it has more even without them.
+pub fn room_for_bindings(parts: &Parts<'_>, max_size: usize) -> Option<usize>
+    requires community { length parts.now.community.now ≤ 255 }
+    requires datagram { max_size ≤ 65507 }
+    ensures room { IfSome result (IsRoom (parts_message parts.now) max_size) }
+    ensures small { IfSome result (λ room. room ≤ max_size) }
+    ensures none { IfNone result (max_size < whole_size (parts_message parts.now) 0) }
+{
+    let head = head_size(parts, 0) as usize;
+    if head > max_size {
         return None;
     }
-    match encode_binding(binding, &mut out[total..]) {
-        Some(_) => Some(end),
-        None => unreachable!(),
+    let mut room = max_size - head;
+    'octets: while head_size(parts, room as u64) as usize + room > max_size {
+        room -= 1;
     }
+    Some(room)
 }
 
 /// Whether a string has at most 65535 octets. Those of a table do; a Set may bring longer ones, which no datagram holds.

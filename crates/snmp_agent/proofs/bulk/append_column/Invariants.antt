@@ -1,6 +1,5 @@
 use Rattle.std.proofs.Common.{◌≡◌, ℕ, ◌+◌, List, [], ◌∷◌, ◌++◌}
 use Rattle.snmp_wire.specs.Message.{VarBind, var_bind}
-use Rattle.snmp_wire.specs.Parts.{parts_message}
 use Rattle.snmp_table.specs.Table.{IsNext, IsNextAfter}
 use Rattle.snmp_agent.specs.Reply.{joined}
 use Rattle.snmp_agent.specs.Answering.{Extends, IsWritable}
@@ -13,6 +12,6 @@ invariant-rounds l = record {
   done : List (List VarBind);
   others : WithOthers l.table (var_bind l.fn.binding ∷ []) l.repetitions l.counter done;
   chain : (p : VarBind) → IsNext l.table l.binding.name p → IsNextAfter l.table l.counter l.fn.binding.name p;
-  written : Extends (parts_message l.parts) l.max_size l.start l.fn.out (joined done) l.total l.out;
+  written : Extends l.room l.start l.fn.out (joined done) l.total l.out;
   writable : IsWritable (var_bind l.binding);
 }

@@ -1,7 +1,6 @@
 use Rattle.std.proofs.Common.{◌≡◌, List, [], ◌∷◌, ◌++◌, sym, subst}
 use Rattle.std.proofs.lemmas.List.{append-nil}
 use Rattle.snmp_wire.specs.Message.{VarBind, var_bind}
-use Rattle.snmp_wire.specs.Parts.{parts_message}
 use Rattle.snmp_table.specs.Table.{IsNextAfter}
 use Rattle.snmp_agent.specs.Answering.{AreGiven, AreWritable, Extends}
 use Rattle.snmp_agent.proofs.Answers.{all_given}
@@ -16,7 +15,7 @@ bindings-init c =
     record {
       given = [];
       others = λ rest h. h;
-      written = nothing_more (parts_message c.args.parts.now) c.args.max_size c.args.start c.args.out.now c.requires.fits;
+      written = nothing_more c.args.room c.args.start c.args.out.now c.requires.fits;
       ends = λ e. tt;
       row = λ e. absurd (cc);
       writable = c.requires.writable;
@@ -28,7 +27,7 @@ returns-in-None c =
     let p : VarBind = var_bind c.read_next_after.new.into in
     let left : c.bindings.bindings ≡ var_bind c.read_next.new.into ∷ c.read_next.new.self = c.read_next.ensures.some c.bindings-test.true in
     let later = all_given c.args.table.now c.args.round c.read_next.new.self in
-    let front = stopped (parts_message c.args.parts.now) c.args.max_size c.args.start c.args.out.now so_far.given p later.0 c.bindings.total c.bindings.out c.append.new.out so_far.written
+    let front = stopped c.args.room c.args.start c.args.out.now so_far.given p later.0 c.bindings.total c.bindings.out c.append.new.out so_far.written
     c.in-None.ensures.unchanged c.in-None.ensures.too_long in (
       so_far.given ++ p ∷ later.0,
       so_far.others (p ∷ later.0) (subst (λ (bs : List VarBind). AreGiven c.args.table.now c.args.round bs (p ∷ later.0)) (sym left) (c.read_next_after.ensures.answer, later.1)),
@@ -46,11 +45,11 @@ others c =
     c.read_next_after.ensures.answer so_far.others
 
 written : (c : In-Some)
-    → Extends (parts_message c.args.parts.now) c.args.max_size c.args.start c.args.out.now (c.bindings.invariant.given ++ var_bind c.read_next_after.new.into ∷ []) c.in-Some.end c.append.new.out
+    → Extends c.args.room c.args.start c.args.out.now (c.bindings.invariant.given ++ var_bind c.read_next_after.new.into ∷ []) c.in-Some.end c.append.new.out
 written c =
     let so_far = c.bindings.invariant in
     let more = c.in-Some.ensures.written in
-    one_more (parts_message c.args.parts.now) c.args.max_size c.args.start c.bindings.total c.in-Some.end c.args.out.now c.bindings.out c.append.new.out so_far.given (var_bind c.read_next_after.new.into) so_far.written
+    one_more c.args.room c.args.start c.bindings.total c.in-Some.end c.args.out.now c.bindings.out c.append.new.out so_far.given (var_bind c.read_next_after.new.into) so_far.written
     more.0 more.1 more.2
 
 writable : (c : In-Some) → AreWritable c.read_next.new.self
@@ -99,7 +98,7 @@ returns-then-over-2 c =
     let so_far = c.bindings.invariant in (
       so_far.given,
       all (goal.at.returns-then-over-2 c).After-bindings,
-      whole_front (parts_message c.args.parts.now) c.args.max_size c.args.start c.args.out.now so_far.given c.bindings.total c.bindings.out so_far.written,
+      whole_front c.args.room c.args.start c.args.out.now so_far.given c.bindings.total c.bindings.out so_far.written,
       λ row none. row (so_far.ends c.if-over-2.true),
     )
 

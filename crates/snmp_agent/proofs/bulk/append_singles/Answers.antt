@@ -1,7 +1,6 @@
 use Rattle.std.proofs.Common.{◌≡◌, refl, ℕ, suc, ◌+◌, ◌-◌, List, [], ◌∷◌, ◌++◌, take, drop, sym, ap, ◌∙◌, subst, arith}
 use Rattle.std.proofs.lemmas.List.{append-nil}
 use Rattle.snmp_wire.specs.Message.{VarBind, var_bind}
-use Rattle.snmp_wire.specs.Parts.{parts_message}
 use Rattle.snmp_table.specs.Table.{IsNextAfter}
 use Rattle.snmp_agent.specs.Answering.{AreGiven, AreWritable}
 use Rattle.snmp_agent.proofs.Answers.{all_given}
@@ -16,7 +15,7 @@ singles-init c = record {
   given = [];
   others = λ left rest e h. let same : left ≡ c.args.count = omega (arith, e) in subst (λ (k : ℕ). AreGiven c.args.table.now 0 (take k c.args.bindings.now) rest) same h;
   left = λ left e. let same : left ≡ c.args.count = omega (arith, e) in ap (λ k. drop k c.args.bindings.now) same;
-  written = nothing_more (parts_message c.args.parts.now) c.args.max_size 0 c.args.out.now c.requires.fits;
+  written = nothing_more c.args.room 0 c.args.out.now (omega arith);
   writable = c.requires.writable;
 }
 
@@ -49,14 +48,13 @@ pub returns-in-None-clause-progress : goal.returns-in-None-clause-progress
 returns-in-None-clause-progress c =
     let so_far = c.singles.invariant in
     let view = c.args.table.now in
-    let m = parts_message c.args.parts.now in
     let p : VarBind = var_bind c.read_next_after.new.into in
     let left = c.args.count - (c.singles.counter + 1) in
     let e : c.singles.counter + suc left ≡ c.args.count = omega (arith, c.singles-test.true) in
     let first : c.singles.bindings ≡ var_bind c.read_next.new.into ∷ c.read_next.new.self = c.read_next.ensures.some c.if-not-read_next.false in
     let taken : take (suc left) c.singles.bindings ≡ var_bind c.read_next.new.into ∷ take left c.read_next.new.self = take-first left c.singles.bindings c.read_next.new.self (var_bind c.read_next.new.into) first in
     let later = all_given view 0 (take left c.read_next.new.self) in
-    let front = stopped m c.args.max_size 0 c.args.out.now so_far.given p later.0 c.singles.total c.singles.out c.append.new.out so_far.written c.in-None.ensures.unchanged c.in-None.ensures.too_long in (
+    let front = stopped c.args.room 0 c.args.out.now so_far.given p later.0 c.singles.total c.singles.out c.append.new.out so_far.written c.in-None.ensures.unchanged c.in-None.ensures.too_long in (
       so_far.given ++ p ∷ later.0,
       so_far.others (suc left) (p ∷ later.0) e (subst (λ (bs : List VarBind). AreGiven view 0 bs (p ∷ later.0)) (sym taken) (c.read_next_after.ensures.answer, later.1)),
       front.0,
@@ -80,7 +78,7 @@ singles-preserved c =
       left = λ left e.
           let e' : c.singles.counter + suc left ≡ c.args.count = omega (arith, e) in
           sym (drop-first left c.singles.bindings c.read_next.new.self (var_bind c.read_next.new.into) first) ∙ so_far.left (suc left) e';
-      written = one_more (parts_message c.args.parts.now) c.args.max_size 0 c.singles.total c.in-Some.end c.args.out.now c.singles.out c.append.new.out so_far.given p so_far.written more.0 more.1 more.2;
+      written = one_more c.args.room 0 c.singles.total c.in-Some.end c.args.out.now c.singles.out c.append.new.out so_far.given p so_far.written more.0 more.1 more.2;
       writable = writable.1;
     }
 

@@ -1,4 +1,4 @@
-use Rattle.std.proofs.Common.{◌++◌, List, length}
+use Rattle.std.proofs.Common.{◌++◌, ◌≤◌, List, length}
 use Rattle.snmp_wire.specs.Message.{VarBind}
 use Rattle.snmp_wire.specs.Parts.{parts_message}
 use Rattle.snmp_agent.specs.Reply.{AreAnswers}
@@ -12,6 +12,7 @@ invariant-bindings l =
     × ((rest : List VarBind) → AreAnswers (IsAnswer l.table l.kind) l.bindings rest → AreAnswers (IsAnswer l.table l.kind) l.fn.bindings (given ++ rest))
     × IsDraft (parts_message l.parts) l.max_size given l.total l.out
     × AreWritable l.bindings
+    × (l.total ≤ l.room)
 
 abbrev pub decreases-bindings : goal.decreases-bindings
 decreases-bindings l = length l.bindings
