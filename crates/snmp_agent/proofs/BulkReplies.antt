@@ -6,9 +6,9 @@ use Rattle.snmp_wire.specs.Message.{VarBind, Message}
 use Rattle.snmp_wire.specs.Canon.{canon, canon_binding, canon_bindings, canon_head}
 use Rattle.snmp_table.specs.Table.{MibView}
 use Rattle.snmp_agent.specs.Reply.{Fits, IsBulk, IsLongestFront, bulk, no_error, response}
-use Rattle.snmp_agent.specs.Answering.{IsDraft, IsSent, IsUnsent, HasNoRoom, HoldsFront, PassesLimit, whole_size}
+use Rattle.snmp_agent.specs.Answering.{IsDraft, IsSent, IsUnsent, HasNoRoom, HoldsFront, IsRoom, PassesLimit, whole_size}
 use Rattle.snmp_agent.proofs.Requests.{bare, response_size, sealed, sealed_size}
-use Rattle.snmp_agent.proofs.Sizes.{longer}
+use Rattle.snmp_agent.proofs.Sizes.{longer, beyond}
 use Rattle.snmp_agent.proofs.Drafts.{passes}
 use Rattle.snmp_agent.proofs.Fronts.{drafted}
 use Rattle.snmp_agent.proofs.Rounds.{all_bulk}
@@ -25,14 +25,15 @@ further (q ∷ added) more (p ∷ ahead) rest e long =
     let found = further added more ahead rest others (omega (arith, long)) in
     (found.0, found.1, found.2, found.3, ap (λ ps. p ∷ ps) found.4 ∙ ap (λ r. r ∷ (added ++ found.0 ∷ found.2)) (sym same))
 
-module _ (q : Message) (limit : ℕ) where
+module _ (q : Message) (limit room : ℕ) (is_room : IsRoom (response q no_error (pos 0) []) limit room) where
   -- no longer front fits where the next binding has no room
-  is_longest : (all added more : List VarBind) (total : ℕ) (out : List ℕ) → all ≡ added ++ more → IsDraft (response q no_error (pos 0) []) limit added total out → HasNoRoom (response q no_error (pos 0) []) limit total more
+  is_longest : (all added more : List VarBind) (total : ℕ) (out : List ℕ) → all ≡ added ++ more → IsDraft (response q no_error (pos 0) []) limit added total out → HasNoRoom room total more
       → (ahead rest : List VarBind) → all ≡ ahead ++ rest → Fits limit (response q no_error (pos 0) ahead) → length ahead ≤ length added
   is_longest all added more total out front draft no_room ahead rest e fits = ⊎_elim
       (λ long.
       let found = further added more ahead rest (sym front ∙ e) long in
-      let large : limit < whole_size (response q no_error (pos 0) []) (total + length (canon_binding found.0)) = subst (λ (ps : List VarBind). HasNoRoom (response q no_error (pos 0) []) limit total ps) found.3 no_room in
+      let none : room < total + length (canon_binding found.0) = subst (λ (ps : List VarBind). HasNoRoom room total ps) found.3 no_room in
+      let large : limit < whole_size (response q no_error (pos 0) []) (total + length (canon_binding found.0)) = beyond (response q no_error (pos 0) []) limit room (total + length (canon_binding found.0)) is_room none in
       let past : PassesLimit (response q no_error (pos 0) []) limit (added ++ found.0 ∷ found.2) = passes (response q no_error (pos 0) []) limit added found.2 found.0 total out draft large in
       let here : PassesLimit (response q no_error (pos 0) []) limit ahead = subst (λ (ps : List VarBind). PassesLimit (response q no_error (pos 0) []) limit ps) (sym found.4) past in
       absurd (omega (arith, here, response_size q no_error (pos 0) ahead)))
@@ -40,11 +41,11 @@ module _ (q : Message) (limit : ℕ) where
       (cases_lt (length added) (length ahead))
 
 -- what was written is the Response
-pub bulk_sent : (view : MibView) (limit : ℕ) (q m : Message) (all : List VarBind) (total n : ℕ) (old out new : List ℕ) → q.kind ≡ kind.GetBulkRequest → IsBulk view q all
-    → m ≡ response q no_error (pos 0) [] → HoldsFront m limit 0 old all total out → n ≡ whole_size m total → take n new ≡ canon_head m total ++ take total out → IsSent view limit q n new
-bulk_sent view limit q m all total n old out new is asked parts holds size octets =
-    let here : HoldsFront (response q no_error (pos 0) []) limit 0 old all total out = subst (λ (x : Message). HoldsFront x limit 0 old all total out) parts holds in
-    let draft : IsDraft (response q no_error (pos 0) []) limit here.added total out = drafted (response q no_error (pos 0) []) limit total old out here.added here.extends in
+pub bulk_sent : (view : MibView) (limit room : ℕ) (q m : Message) (all : List VarBind) (total n : ℕ) (old out new : List ℕ) → q.kind ≡ kind.GetBulkRequest → IsBulk view q all
+    → m ≡ response q no_error (pos 0) [] → IsRoom m limit room → HoldsFront room 0 old all total out → n ≡ whole_size m total → take n new ≡ canon_head m total ++ take total out → IsSent view limit q n new
+bulk_sent view limit room q m all total n old out new is asked parts room_is here size octets =
+    let is_room : IsRoom (response q no_error (pos 0) []) limit room = subst (λ (x : Message). IsRoom x limit room) parts room_is in
+    let draft : IsDraft (response q no_error (pos 0) []) limit here.added total out = drafted (response q no_error (pos 0) []) limit room total old out here.added is_room here.extends in
     let long : n ≡ length (canon (response q no_error (pos 0) here.added)) = size ∙ ap (λ (x : Message). whole_size x total) parts ∙ sealed_size q no_error (pos 0) limit here.added total out draft in
     let text : take n new ≡ canon (response q no_error (pos 0) here.added) = octets ∙ ap (λ (x : Message). canon_head x total ++ take total out) parts ∙ sealed q no_error (pos 0) limit here.added total out draft in
     let fits : length (canon (response q no_error (pos 0) here.added)) ≤ limit = omega (arith, sealed_size q no_error (pos 0) limit here.added total out draft, draft.fits) in
@@ -52,15 +53,15 @@ bulk_sent view limit q m all total n old out new is asked parts holds size octet
       more = here.more;
       front = here.front;
       fits = λ some. fits;
-      longest = is_longest q limit all here.added here.more total out here.front draft here.no_room;
+      longest = is_longest q limit room is_room all here.added here.more total out here.front draft here.no_room;
     } in
     (response q no_error (pos 0) here.added, bulk all here.added is asked longest refl, fits, text, long)
 
 -- where not even a Response without bindings fits, none is sent
-pub bulk_unsent : (view : MibView) (limit : ℕ) (q m : Message) → q.kind ≡ kind.GetBulkRequest → m ≡ response q no_error (pos 0) [] → limit < length (canon_head m 0) → IsUnsent view limit q
+pub bulk_unsent : (view : MibView) (limit : ℕ) (q m : Message) → q.kind ≡ kind.GetBulkRequest → m ≡ response q no_error (pos 0) [] → limit < whole_size m 0 → IsUnsent view limit q
 bulk_unsent view limit q m is parts large =
     let all = all_bulk view q in
-    let alone : limit < length (canon_head (response q no_error (pos 0) []) 0) = subst (λ (x : Message). limit < length (canon_head x 0)) parts large in
+    let alone : limit < whole_size (response q no_error (pos 0) []) 0 = subst (λ (x : Message). limit < whole_size x 0) parts large in
     let size : length (canon_head (response q no_error (pos 0) []) 0) ≡ length (canon (response q no_error (pos 0) [])) = ap length (bare q no_error (pos 0)) in
     let longest : IsLongestFront limit q all.0 [] = record {
       more = all.0;

@@ -2,13 +2,13 @@
 use Rattle.std.proofs.Common.{◌≡◌, ℕ, zero, suc, ◌+◌, ◌*◌, ◌≤◌, ◌<◌, length, ⊎_elim, nat_lt, if◌then◌else◌, arith}
 use Rattle.std.proofs.lemmas.Bool.{cases_lt}
 use Rattle.std.proofs.lemmas.Bool.Decides.{nat_tests}
-use Rattle.snmp_wire.specs.Canon.{canon_front, canon_header, canon_length, digit_count, length_size}
+use Rattle.snmp_wire.specs.Canon.{canon_front, canon_head, canon_header, canon_length, digit_count, length_size}
 use Rattle.snmp_wire.specs.Message.{Message}
 use Rattle.snmp_wire.specs.Spelling.{kind_tag, sequence_tag}
 use Rattle.snmp_wire.proofs.CanonLemmas.{digit_some, length-canon_length_short, length-canon_length_long}
 use Rattle.snmp_wire.proofs.ElementLemmas.{length-canon_header}
 use Rattle.snmp_wire.proofs.MessageWriting.{pdu_size, length-canon_front, length-canon_head}
-use Rattle.snmp_agent.specs.Answering.{whole_size}
+use Rattle.snmp_agent.specs.Answering.{whole_size, IsRoom}
 
 few : (n limit x y : ℕ) → n < limit → (if nat_lt n limit then x else y) ≡ x
 few n limit x y h = grind (arith, nat_tests)
@@ -43,11 +43,23 @@ longer_length n k h = ⊎_elim
 longer_header : (tag n k : ℕ) → n ≤ k → length (canon_header tag n) ≤ length (canon_header tag k)
 longer_header tag n k h = omega (arith, length-canon_header tag n, length-canon_header tag k, longer_length n k h)
 
--- a message with more octets of bindings is no shorter
-pub longer : (m : Message) (n k : ℕ) → n ≤ k → whole_size m n ≤ whole_size m k
-longer m n k h =
+-- before more octets of bindings a head is no shorter
+pub longer_head : (m : Message) (n k : ℕ) → n ≤ k → length (canon_head m n) ≤ length (canon_head m k)
+longer_head m n k h =
     let list : length (canon_header sequence_tag n) ≤ length (canon_header sequence_tag k) = longer_header sequence_tag n k h in
     let pdu : length (canon_header (kind_tag m.kind) (pdu_size m n)) ≤ length (canon_header (kind_tag m.kind) (pdu_size m k)) = longer_header (kind_tag m.kind) (pdu_size m n) (pdu_size m k) (omega arith) in
     let front : length (canon_front m n) ≤ length (canon_front m k) = omega (arith, length-canon_front m n, length-canon_front m k) in
     let whole : length (canon_header sequence_tag (length (canon_front m n) + n)) ≤ length (canon_header sequence_tag (length (canon_front m k) + k)) = longer_header sequence_tag (length (canon_front m n) + n) (length (canon_front m k) + k) (omega arith) in
     omega (arith, length-canon_head m n, length-canon_head m k)
+
+-- a message with more octets of bindings is no shorter
+pub longer : (m : Message) (n k : ℕ) → n ≤ k → whole_size m n ≤ whole_size m k
+longer m n k h = omega (arith, h, longer_head m n k h)
+
+-- with bindings that keep to the room a message keeps to the limit, and with more it passes it
+
+pub within : (m : Message) (limit room n : ℕ) → IsRoom m limit room → n ≤ room → whole_size m n ≤ limit
+within m limit room n h low = omega (arith, h.fits, longer m n room low)
+
+pub beyond : (m : Message) (limit room n : ℕ) → IsRoom m limit room → room < n → limit < whole_size m n
+beyond m limit room n h past = omega (arith, h.most, longer m (room + 1) n (omega (arith, past)))

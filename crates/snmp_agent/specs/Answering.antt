@@ -106,34 +106,39 @@ IsUnsent view limit q = (r : Message) × IsResponse view limit q r × (limit < l
 
 -- ---- GetBulk
 
--- the encodings of these bindings stand behind the first `start` octets of the old output, and the message with them keeps to the limit
-pub record Extends (m : Message) (limit start : ℕ) (old : List ℕ) (added : List VarBind) (total : ℕ) (out : List ℕ) : Type 0 where
+-- so many octets are the most that the bindings of the message may take where it keeps to the limit
+pub record IsRoom (m : Message) (limit room : ℕ) : Type 0 where
+  pub fits : whole_size m room ≤ limit
+  pub most : limit < whole_size m (room + 1)
+
+-- the encodings of these bindings stand behind the first `start` octets of the old output, and all keeps to the room
+pub record Extends (room start : ℕ) (old : List ℕ) (added : List VarBind) (total : ℕ) (out : List ℕ) : Type 0 where
   pub size : total ≡ start + length (canon_bindings added)
   pub octets : take total out ≡ take start old ++ canon_bindings added
-  pub fits : whole_size m total ≤ limit
+  pub fits : total ≤ room
 
 -- the first of these bindings has no room behind so many octets
-abbrev pub HasNoRoom : Message → ℕ → ℕ → List VarBind → Type 0
-HasNoRoom m limit total [] = Unit {0}
-HasNoRoom m limit total (p ∷ more) = limit < whole_size m (total + length (canon_binding p))
+abbrev pub HasNoRoom : ℕ → ℕ → List VarBind → Type 0
+HasNoRoom room total [] = Unit {0}
+HasNoRoom room total (p ∷ more) = room < total + length (canon_binding p)
 
 -- a front of these bindings stands there, and there is no room for one more of them
-pub record HoldsFront (m : Message) (limit start : ℕ) (old : List ℕ) (all : List VarBind) (total : ℕ) (out : List ℕ) : Type 0 where
+pub record HoldsFront (room start : ℕ) (old : List ℕ) (all : List VarBind) (total : ℕ) (out : List ℕ) : Type 0 where
   pub added : List VarBind
   pub more : List VarBind
   pub front : all ≡ added ++ more
-  pub extends : Extends m limit start old added total out
-  pub no_room : HasNoRoom m limit total more
+  pub extends : Extends room start old added total out
+  pub no_room : HasNoRoom room total more
 
 -- what the names are given in the round behind so many others
 abbrev pub AreGiven : MibView → ℕ → List VarBind → List VarBind → Type 0
 AreGiven view round = AreAnswers (λ asked given. IsNextAfter view round asked.name given)
 
 -- How far a list of bindings was written: all of it, where more may follow, or a front of it. A front is all of it only where no more may follow.
-abbrev pub IsProgress : (IsAll MayGoOn : List VarBind → Type 0) → Message → ℕ → ℕ → List ℕ → Progress → List ℕ → Type 0
-IsProgress IsAll MayGoOn m limit start old (progress.Open total) out = (all : List VarBind) × IsAll all × MayGoOn all × Extends m limit start old all total out
-IsProgress IsAll MayGoOn m limit start old (progress.Closed total) out =
-    (all : List VarBind) × IsAll all × (front : HoldsFront m limit start old all total out) × (MayGoOn all → front.more ≢ [])
+abbrev pub IsProgress : (IsAll MayGoOn : List VarBind → Type 0) → ℕ → ℕ → List ℕ → Progress → List ℕ → Type 0
+IsProgress IsAll MayGoOn room start old (progress.Open total) out = (all : List VarBind) × IsAll all × MayGoOn all × Extends room start old all total out
+IsProgress IsAll MayGoOn room start old (progress.Closed total) out =
+    (all : List VarBind) × IsAll all × (front : HoldsFront room start old all total out) × (MayGoOn all → front.more ≢ [])
 
 -- the names that are left where more may follow
 abbrev pub Leaves : Progress → List VarBind → List VarBind → Type 0

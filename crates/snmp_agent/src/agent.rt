@@ -8,7 +8,7 @@ ghost use Rattle.snmp_agent.specs.Answering.{IsPaired, AreWritable, IsSent, IsUn
 
 use crate::bulk::append_bulk;
 use crate::config::{Config, Outcome, Why};
-use crate::draft::{append_answers, seal};
+use crate::draft::{append_answers, room_for_bindings, seal};
 use snmp_table::Table;
 use snmp_wire::{Kind, MessageRef, Parts, decode, encode_head, head_size};
 
@@ -81,10 +81,10 @@ fn reply(table: &Table, max_size: usize, request: &MessageRef<'_>, out: &mut [u8
 }
 
 /// The reply to a GetBulk: as many bindings as fit.
-fn bulk_reply(
-    table: &Table,
+fn bulk_reply<'a>(
+    table: &'a Table,
     max_size: usize,
-    request: &MessageRef<'_>,
+    request: &MessageRef<'a>,
     out: &mut [u8],
 ) -> Option<usize>
     requires bulk { request.now.kind ≡ kind.GetBulkRequest }
@@ -96,11 +96,13 @@ fn bulk_reply(
     ensures none { IfNone result (IsUnsent table.now max_size request.now) }
 {
     let parts = response(request, NO_ERROR, 0);
-    if head_size(&parts, 0) > max_size as u64 {
-        return None;
+    match room_for_bindings(&parts, max_size) {
+        Some(room) => {
+            let total = append_bulk(table, request, room, out);
+            Some(seal(&parts, out, total))
+        }
+        None => None,
     }
-    let total = append_bulk(table, request, &parts, max_size, out);
-    Some(seal(&parts, out, total))
 }
 
 /// The reply to a request that has one binding for each of its own: all of them, or an error where they don't fit.

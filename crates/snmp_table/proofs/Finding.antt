@@ -13,7 +13,7 @@ use Rattle.snmp_table.specs.Table.{HasObject, IsGet, variable, unknown_object, u
 use Rattle.snmp_table.specs.declared.row.Row.{Row}
 use Rattle.snmp_table.specs.Row.{entry_of, datum_of, view_of}
 use Rattle.snmp_table.specs.Places.{IsRising, IsBeforeNone, IsBeforeAll, HasBeginning}
-use Rattle.snmp_table.proofs.Rising.{Listed, not_before_itself, before_all, before_listed, first_of_both, second_of_both, rising_first, listed_in_first, listed_in_both, find-listed, listed_from_find}
+use Rattle.snmp_table.proofs.Rising.{Listed, not_before_itself, not_both, before_all, before_listed, first_of_both, second_of_both, rising_first, listed_in_first, listed_in_both, find-listed, listed_from_find}
 
 whole : (rows : List Row) (place : ℕ) → map entry_of rows ≡ map entry_of (take place rows) ++ map entry_of (drop place rows)
 whole rows place = ap (map entry_of) (sym (take-append-drop place rows)) ∙ map-append entry_of (take place rows) (drop place rows)
@@ -35,6 +35,19 @@ found_last rows place last o row rising at name =
     subst (Listed (entry_of row)) (sym (whole rows place)) (listed_in_first (entry_of row) (map entry_of (take place rows)) (map entry_of (drop place rows)) (listed_at (take place rows) last row at)) in
     let P : List ℕ → Type 0 = λ p. find (slice_cmp nat_cmp) p (map entry_of rows) ≡ Some (datum_of row.value) in
     subst P name (find-listed (entry_of row) (map entry_of rows) rising listed)
+
+-- the rows up to one that has the name, and those behind it
+pub parts_at : (rows : List Row) (place : ℕ) (row : Row) → IsRising rows → slice_get rows place ≡ Some row
+    → IsBeforeNone row.name.items (map entry_of (take (suc place) rows)) × IsBeforeAll row.name.items (map entry_of (drop (suc place) rows))
+parts_at [] place row rising at = let no : ⊥ = cc in absurd no
+parts_at (first ∷ rows) zero row rising at =
+    let same : first ≡ row = cc in
+    subst (λ (r : Row). IsBeforeNone r.name.items (entry_of first ∷ []) × IsBeforeAll r.name.items (map entry_of rows)) same
+    ((not_before_itself first.name.items, tt), before_all first.name.items (map entry_of rows) (first_of_both _ _ rising))
+parts_at (first ∷ rows) (suc place) row rising at =
+    let rest = parts_at rows place row (second_of_both _ _ rising) at in
+    let less : slice_cmp nat_cmp first.name.items row.name.items ≡ Less = before_listed first.name.items (entry_of row) (map entry_of rows) (before_all first.name.items (map entry_of rows) (first_of_both _ _ rising)) (listed_at rows place row at) in
+    ((not_both first.name.items row.name.items less, rest.0), rest.1)
 
 -- a row up to the name that has it is the last of them
 is_last : (o : List ℕ) (v : Datum) (rows : List Row) (last : ℕ) → length rows ≡ last + 1 → IsRising rows → IsBeforeNone o (map entry_of rows) → Listed (o, v) (map entry_of rows)

@@ -14,4 +14,4 @@ mod tests;
 mod value;
 
 pub use error::TableError;
-pub use table::{Table, no_fault, one_table};
+pub use table::{Place, Table, no_fault, one_table};

@@ -41,22 +41,48 @@ impl Row {
     ghost use Rattle.snmp_table.specs.Row.{entry_of, IsShortRow};
     ghost use Rattle.snmp_table.specs.Places.{var_of};
 
-    /// The row as a variable binding.
-    pub fn binding(&self) -> Binding<'_>
+    /// Makes a binding that is there the row's.
+    pub fn read_into<'a>(&'a self, into: &mut Binding<'a>)
         requires { IsShortRow self.now }
-        ensures { var_bind result ≡ var_of (entry_of self.now) }
+        ensures { var_bind into.new ≡ var_of (entry_of self.now) }
     {
-        Binding {
-            name: identifier(self.name.as_slice()),
-            value: self.value.as_ref(),
-        }
+        set_name(&mut into.name, self.name.as_slice());
+        self.value.read_into(&mut into.value);
     }
 }
 
 impl RowValue {
-    ghost use Rattle.std.specs.Prelude.{◌≡◌};
+    ghost use Rattle.std.specs.Prelude.{◌≡◌, true};
     ghost use Rattle.snmp_wire.specs.Message.{datum};
     ghost use Rattle.snmp_table.specs.Row.{datum_of, IsShort};
+
+    /// Makes a value that is there this one.
+    #[inline]
+    fn read_into<'a>(&'a self, into: &mut ValueRef<'a>)
+        requires { IsShort self.now }
+        ensures { datum into.new ≡ datum_of self.now }
+    {
+        if !self.is_read_into(into) {
+            *into = self.as_ref();
+        }
+    }
+
+    /// Changes a value of this type, as the values of a column are, to this one, and answers whether it did. This saves setting over 500 octets.
+    #[inline]
+    fn is_read_into<'a>(&'a self, into: &mut ValueRef<'a>) -> bool
+        ensures { result ≡ true → datum into.new ≡ datum_of self.now }
+    {
+        match (self, into) {
+            (RowValue::Integer(number), ValueRef::Integer(held)) => *held = *number,
+            (RowValue::Octets(octets), ValueRef::Octets(held)) => *held = octets.as_slice(),
+            (RowValue::Counter32(number), ValueRef::Counter32(held)) => *held = *number,
+            (RowValue::Gauge32(number), ValueRef::Gauge32(held)) => *held = *number,
+            (RowValue::TimeTicks(number), ValueRef::TimeTicks(held)) => *held = *number,
+            (RowValue::Counter64(number), ValueRef::Counter64(held)) => *held = *number,
+            _ => return false,
+        }
+        true
+    }
 
     /// The value, lent.
     pub fn as_ref(&self) -> ValueRef<'_>
@@ -78,12 +104,25 @@ impl RowValue {
 }
 
 /// The identifier of these numbers.
-pub fn identifier(numbers: &[u32]) -> Oid
+fn identifier(numbers: &[u32]) -> Oid
     requires { length numbers.now ≤ 128 }
     ensures { result ≡ numbers.now }
 {
     match Oid::from_slice(numbers) {
         Ok(oid) => oid,
+        Err(_) => unreachable!(),
+    }
+}
+
+/// Makes an identifier that is there the one of these numbers.
+#[inline]
+pub fn set_name(name: &mut Oid, numbers: &[u32])
+    requires { length numbers.now ≤ 128 }
+    ensures { name.new ≡ numbers.now }
+{
+    name.clear();
+    match name.extend_from_slice(numbers) {
+        Ok(()) => {}
         Err(_) => unreachable!(),
     }
 }

@@ -5,7 +5,6 @@ ghost use Rattle.std.specs.Ordering.{nat_cmp};
 ghost use Rattle.std.specs.Cmp.Lexicographic.{slice_cmp};
 ghost use Rattle.std.specs.FinMap.{find};
 ghost use Rattle.snmp_wire.specs.Message.{datum, var_bind};
-ghost use Rattle.snmp_wire.specs.Message.Datum.{end_of_mib_view};
 ghost use Rattle.snmp_table.specs.Row.{entry_of, datum_of, IsShortRow};
 ghost use Rattle.snmp_table.specs.Places.{IsRising, IsBeforeNone, IsBeforeAll, is_up_to, bindings_of, last_name, HasBeginning};
 ghost use Rattle.snmp_table.specs.Listing.{nth_or_end};
@@ -15,7 +14,7 @@ ghost use Rattle.std.specs.Prelude.{List, ℕ};
 
 use crate::draft::Draft;
 use crate::error::TableError;
-use crate::row::{Row, identifier};
+use crate::row::{Row, set_name};
 use crate::split::split_line;
 use snmp_wire::{Binding, Oid, ValueRef};
 use std::alloc::Global;
@@ -97,19 +96,42 @@ impl Table {
         ensures name { IsWire name.now → IsWire result.name }
         ensures value { IsAnswerValue (datum result.value) }
     {
-        self.next_after(name, 0)
+        let mut binding = Binding {
+            name: Oid::new(),
+            value: ValueRef::Null,
+        };
+        self.read_next_after(name, 0, &mut binding);
+        binding
     }
 
-    /// The answer to a GetNext that is asked again, `rounds` times more, from the name that it gave, as a GetBulk does (RFC 3416, section 4.2.3).
-    pub fn next_after(&self, name: &Oid, rounds: usize) -> Binding<'_>
-        ensures answer { IsNextAfter self.now rounds name.now (var_bind result) }
-        ensures name { IsWire name.now → IsWire result.name }
-        ensures value { IsAnswerValue (datum result.value) }
+    /// Makes a binding that is there the answer to a GetNext that is asked again, `rounds` times more, from the name that it gave, as a GetBulk does (RFC 3416, section 4.2.3).
+    pub fn read_next_after<'a>(&'a self, name: &Oid, rounds: usize, into: &mut Binding<'a>)
+        ensures answer { IsNextAfter self.now rounds name.now (var_bind into.new) }
+        ensures name { IsWire name.now → IsWire into.new.name }
+        ensures value { IsAnswerValue (datum into.new.value) }
     {
         let rows = self.rows.as_slice();
         let (_, behind) = rows.split_at(place_behind(rows, name.as_slice()));
-        nth_or_end(behind, name, rounds)
+        read_nth_or_end(behind, name, rounds, into);
     }
+
+    /// Makes a binding the answer to a GetNext of its name. Where `place` is where the call before gave that name, nothing has to be searched.
+    pub fn advance<'a>(&'a self, binding: &mut Binding<'a>, place: &mut Place)
+        ensures answer { IsNext self.now binding.old.name (var_bind binding.new) }
+        ensures name { IsWire binding.old.name → IsWire binding.new.name }
+        ensures value { IsAnswerValue (datum binding.new.value) }
+    {
+        let rows = self.rows.as_slice();
+        let (passed, behind) = rows.split_at(place_near(rows, binding.name.as_slice(), *place));
+        place.row = passed.len();
+        read_first_or_end(behind, binding);
+    }
+}
+
+/// Where a name was found among the rows. It only says where to look first: no answer depends on it.
+#[derive(Clone, Copy, Debug, Default)]
+pub struct Place {
+    row: usize,
 }
 
 /// Lines state one table at most.
@@ -163,14 +185,41 @@ fn place_behind(rows: &[Row], name: &[u32]) -> usize
     )
 }
 
-/// The row at this place, or past the end the last name, `name` if there is no row, with `EndOfMibView`.
-fn nth_or_end<'a>(rows: &'a [Row], name: &Oid, place: usize) -> Binding<'a>
+/// How many rows at the front have the name or one before it, looked for at a place first.
+fn place_near(rows: &[Row], name: &[u32], place: Place) -> usize
+    requires { IsRising rows.now }
+    ensures bound { result ≤ length rows.now }
+    ensures passed { IsBeforeNone name.now (map entry_of (take result rows.now)) }
+    ensures ahead { IsBeforeAll name.now (map entry_of (drop result rows.now)) }
+{
+    match rows.get(place.row) {
+        Some(row) if row.name.as_slice() == name => place.row + 1,
+        _ => place_behind(rows, name),
+    }
+}
+
+/// Makes a binding the first row's, or gives it `EndOfMibView` if there is no row.
+fn read_first_or_end<'a>(rows: &'a [Row], binding: &mut Binding<'a>)
     requires { All IsShortRow rows.now }
-    ensures { var_bind result ≡ nth_or_end name.now (bindings_of rows.now) place }
+    ensures { var_bind binding.new ≡ nth_or_end binding.old.name (bindings_of rows.now) 0 }
+{
+    match rows.first() {
+        Some(row) => row.read_into(binding),
+        None => binding.value = ValueRef::EndOfMibView,
+    }
+}
+
+/// Makes a binding that is there the row's at this place, or past the end the last name, `name` if there is no row, with `EndOfMibView`.
+fn read_nth_or_end<'a>(rows: &'a [Row], name: &Oid, place: usize, into: &mut Binding<'a>)
+    requires { All IsShortRow rows.now }
+    ensures { var_bind into.new ≡ nth_or_end name.now (bindings_of rows.now) place }
 {
     match rows.get(place) {
-        Some(row) => row.binding(),
-        None => end_of_mib_view(last_name(rows, name.as_slice())),
+        Some(row) => row.read_into(into),
+        None => {
+            set_name(&mut into.name, last_name(rows, name.as_slice()));
+            into.value = ValueRef::EndOfMibView;
+        }
     }
 }
 
@@ -184,17 +233,6 @@ fn last_name<'a>(rows: &'a [Row], name: &'a [u32]) -> &'a [u32]
     match rows.last() {
         Some(row) => row.name.as_slice(),
         None => name,
-    }
-}
-
-/// The name with `EndOfMibView`.
-fn end_of_mib_view<'a>(name: &[u32]) -> Binding<'a>
-    requires { length name.now ≤ 128 }
-    ensures { var_bind result ≡ record { name = name.now; value = end_of_mib_view } }
-{
-    Binding {
-        name: identifier(name),
-        value: ValueRef::EndOfMibView,
     }
 }
 

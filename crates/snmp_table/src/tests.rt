@@ -20,14 +20,17 @@ fn rows_are_in_order(rt: HostRuntime) -> Result<(), Fail> {
     let second = table.next(&first.name);
     assert_eq!(rt; second.name, parse_numeric(b"1.3.6.1.4.1.32473.1.2.0")?);
     assert_eq!(rt; second.value, ValueRef::Octets(b"wes"));
-    let last = table.next_after(&root, 2);
+    let mut last = table.next(&second.name);
+    table.read_next_after(&root, 2, &mut last);
     assert_eq!(rt; last.name, parse_numeric(b"1.3.6.1.4.1.32473.1.10.0")?);
     assert_eq!(rt; last.value, ValueRef::Integer(3));
-    let end = table.next_after(&root, 3);
+    let mut end = table.next(&last.name);
+    table.read_next_after(&root, 3, &mut end);
     assert_eq!(rt; end.name, last.name);
     assert_eq!(rt; end.value, ValueRef::EndOfMibView);
     let past = parse_numeric(b"2.100.3")?;
-    let beyond = table.next_after(&past, 7);
+    let mut beyond = table.next(&past);
+    table.read_next_after(&past, 7, &mut beyond);
     assert_eq!(rt; beyond.name, past);
     assert_eq!(rt; beyond.value, ValueRef::EndOfMibView);
     Ok(())

@@ -1,14 +1,20 @@
 use Rattle.std.proofs.Common.{arith}
 use Rattle.snmp_wire.specs.Parts.{parts_message}
 use Rattle.snmp_agent.proofs.BulkReplies.{bulk_sent, bulk_unsent}
+use Rattle.snmp_agent.proofs.Sizes.{within}
 use Rattle.snmp_agent.proofs.agent.bulk_reply.Goals as goal
 
-pub returns-clause-sent : goal.returns-clause-sent
-returns-clause-sent c =
+pub seal-requires-clause-room : goal.seal-requires-clause-room
+seal-requires-clause-room c =
     let all = c.append_bulk-total.ensures in
-    bulk_sent c.args.table.now c.args.max_size c.args.request.now (parts_message c.response-parts.result) all.0 c.append_bulk-total.result c.seal.result c.args.out.now c.append_bulk-total.new.out c.seal.new.out
-    c.requires.bulk all.1 c.response-parts.ensures all.2 c.seal.ensures.size c.seal.ensures.message
+    omega (arith, within (parts_message c.response-parts.result) c.args.max_size c.in-Some.room c.append_bulk-total.result c.in-Some.ensures.room all.2.extends.fits, c.requires.room, c.append_bulk-total.auto.out)
 
-pub returns-then-head_size-max_size-clause-none : goal.returns-then-head_size-max_size-clause-none
-returns-then-head_size-max_size-clause-none c =
-    bulk_unsent c.args.table.now c.args.max_size c.args.request.now (parts_message c.response-parts.result) c.requires.bulk c.response-parts.ensures (omega (arith, c.head_size.ensures.value))
+pub returns-in-Some-clause-sent : goal.returns-in-Some-clause-sent
+returns-in-Some-clause-sent c =
+    let all = c.append_bulk-total.ensures in
+    bulk_sent c.args.table.now c.args.max_size c.in-Some.room c.args.request.now (parts_message c.response-parts.result) all.0 c.append_bulk-total.result c.seal.result c.args.out.now c.append_bulk-total.new.out c.seal.new.out
+    c.requires.bulk all.1 c.response-parts.ensures c.in-Some.ensures.room all.2 c.seal.ensures.size c.seal.ensures.message
+
+pub returns-in-None-clause-none : goal.returns-in-None-clause-none
+returns-in-None-clause-none c =
+    bulk_unsent c.args.table.now c.args.max_size c.args.request.now (parts_message c.response-parts.result) c.requires.bulk c.response-parts.ensures c.in-None.ensures.none

@@ -3,7 +3,6 @@ use mir.Val.{of_z, to_z, SFits}
 use Rattle.std.proofs.lemmas.Int.{to_z-of_z}
 use Rattle.std.proofs.Common.{rules, ◌≡◌, refl, ℤ, List, ◌++◌, drop, sym, ap, ◌∙◌, subst}
 use Rattle.snmp_wire.specs.Message.{VarBind}
-use Rattle.snmp_wire.specs.Parts.{parts_message}
 use Rattle.snmp_agent.specs.Reply.{joined, or_zero}
 use Rattle.snmp_agent.specs.Answering.{AreWritable}
 use Rattle.snmp_agent.proofs.Fronts.{front_behind, front_before}
@@ -14,34 +13,32 @@ use Rattle.snmp_agent.proofs.bulk.append_bulk.Goals as goal
 number : {z : ℤ} (handed : ℤ) → SFits w32 handed → handed ≡ z → to_z w32 (of_z w32 handed) ≡ z
 number handed fits e = to_z-of_z w32 handed fits ∙ e
 
-pub append_rounds-requires-clause-writable : goal.append_rounds-requires-clause-writable
-append_rounds-requires-clause-writable c =
+pub append_repeaters-requires-clause-writable : goal.append_repeaters-requires-clause-writable
+append_repeaters-requires-clause-writable c =
     let bindings : AreWritable c.bindings-bindings.result = subst (λ (bs : List VarBind). AreWritable bs) (sym c.bindings-bindings.ensures) c.requires.writable in
     subst (λ (bs : List VarBind). AreWritable bs) (sym c.in-Open.ensures.left) (writable_drop c.or_zero-count.result c.bindings-bindings.result bindings)
 
 pub returns-in-Closed : goal.returns-in-Closed
 returns-in-Closed c =
     let singles = c.in-Closed.ensures.progress in
-    let m = parts_message c.args.parts.now in
     let q = c.args.request.now in
     let count : c.or_zero-count.result ≡ or_zero q.a = c.or_zero-count.ensures ∙ ap or_zero (number c.a.result (search rules) c.a.ensures) in
     let names = drop c.or_zero-count.result c.bindings-bindings.result in
     let rounds = all_rounds c.args.table.now names 0 (or_zero q.b) in (
       singles.0 ++ joined rounds.0,
       bulk_of c.args.table.now q c.or_zero-count.result (or_zero q.b) c.bindings-bindings.result names singles.0 rounds.0 count refl c.bindings-bindings.ensures refl singles.1 rounds.1,
-      front_before m c.args.max_size 0 c.args.out.now singles.0 (joined rounds.0) c.in-Closed.total c.append_singles.new.out singles.2 (singles.3 tt),
+      front_before c.args.room 0 c.args.out.now singles.0 (joined rounds.0) c.in-Closed.total c.append_singles.new.out singles.2 (singles.3 tt),
     )
 
 pub returns-in-Open : goal.returns-in-Open
 returns-in-Open c =
     let singles = c.in-Open.ensures.progress in
-    let rounds = c.append_rounds.ensures in
-    let m = parts_message c.args.parts.now in
+    let rounds = c.append_repeaters.ensures in
     let q = c.args.request.now in
     let count : c.or_zero-count.result ≡ or_zero q.a = c.or_zero-count.ensures ∙ ap or_zero (number c.a.result (search rules) c.a.ensures) in
     let repetitions : c.or_zero-repetitions.result ≡ or_zero q.b = c.or_zero-repetitions.ensures ∙ ap or_zero (number c.b.result (search rules) c.b.ensures) in (
       singles.0 ++ joined rounds.0,
       bulk_of c.args.table.now q c.or_zero-count.result c.or_zero-repetitions.result c.bindings-bindings.result c.append_singles.new.bindings singles.0 rounds.0 count repetitions c.bindings-bindings.ensures c.in-Open.ensures.left
           singles.1 rounds.1,
-      front_behind m c.args.max_size 0 c.in-Open.total c.append_rounds.result c.args.out.now c.append_singles.new.out c.append_rounds.new.out singles.0 (joined rounds.0) singles.3 rounds.2,
+      front_behind c.args.room 0 c.in-Open.total c.append_repeaters.result c.args.out.now c.append_singles.new.out c.append_repeaters.new.out singles.0 (joined rounds.0) singles.3 rounds.2,
     )

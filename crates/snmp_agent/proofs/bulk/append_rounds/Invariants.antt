@@ -1,6 +1,5 @@
 use Rattle.std.proofs.Common.{◌≡◌, ℕ, ◌+◌, List, ◌++◌}
 use Rattle.snmp_wire.specs.Message.{VarBind}
-use Rattle.snmp_wire.specs.Parts.{parts_message}
 use Rattle.snmp_agent.specs.Reply.{joined}
 use Rattle.snmp_agent.specs.Answering.{AreRoundsFrom, Extends}
 use Rattle.snmp_agent.proofs.bulk.append_rounds.Given as goal
@@ -10,5 +9,5 @@ abbrev pub invariant-rounds : goal.invariant-rounds
 invariant-rounds l = record {
   done : List (List VarBind);
   others : (left : ℕ) (rest : List (List VarBind)) → l.round + left ≡ l.repetitions → AreRoundsFrom l.table l.bindings l.round left rest → AreRoundsFrom l.table l.bindings 0 l.repetitions (done ++ rest);
-  written : Extends (parts_message l.parts) l.max_size l.start l.fn.out (joined done) l.total l.out;
+  written : Extends l.room l.start l.fn.out (joined done) l.total l.out;
 }

@@ -1,7 +1,6 @@
 use Rattle.std.proofs.Common.{◌≡◌, refl, ℕ, suc, ◌+◌, ◌-◌, List, [], ◌∷◌, ◌++◌, take, drop, sym, ap, ◌∙◌, subst, arith}
 use Rattle.std.proofs.lemmas.List.{append-nil}
 use Rattle.snmp_wire.specs.Message.{VarBind, var_bind}
-use Rattle.snmp_wire.specs.Parts.{parts_message}
 use Rattle.snmp_table.specs.Table.{IsNextAfter}
 use Rattle.snmp_agent.specs.Answering.{AreGiven, AreWritable}
 use Rattle.snmp_agent.proofs.Answers.{all_given}
@@ -16,7 +15,7 @@ singles-init c = record {
   given = [];
   others = λ left rest e h. let same : left ≡ c.args.count = omega (arith, e) in subst (λ (k : ℕ). AreGiven c.args.table.now 0 (take k c.args.bindings.now) rest) same h;
   left = λ left e. let same : left ≡ c.args.count = omega (arith, e) in ap (λ k. drop k c.args.bindings.now) same;
-  written = nothing_more (parts_message c.args.parts.now) c.args.max_size 0 c.args.out.now c.requires.fits;
+  written = nothing_more c.args.room 0 c.args.out.now (omega arith);
   writable = c.requires.writable;
 }
 
@@ -28,37 +27,36 @@ all c left e none =
     so_far.others left [] e (subst (λ (bs : List VarBind). AreGiven c.args.table.now 0 bs []) (sym none) tt) in
     subst (λ (gs : List VarBind). AreGiven c.args.table.now 0 (take c.args.count c.args.bindings.now) gs) (append-nil so_far.given) whole
 
-pub returns-in_default-clause-progress : goal.returns-in_default-clause-progress
-returns-in_default-clause-progress c =
+pub returns-then-not-read_next-clause-progress : goal.returns-then-not-read_next-clause-progress
+returns-then-not-read_next-clause-progress c =
     let so_far = c.singles.invariant in
     let left = c.args.count - c.singles.counter in
     let e : c.singles.counter + left ≡ c.args.count = omega (arith, c.singles-test.true) in
-    let none : c.singles.bindings ≡ [] = c.in_default.ensures.steps.0 in
-    (so_far.given, all (goal.at.returns-in_default-clause-progress c).At-singles left e (take-nothing left c.singles.bindings none), tt, so_far.written)
+    let none : c.singles.bindings ≡ [] = (c.read_next.ensures.none c.if-not-read_next.true).0 in
+    (so_far.given, all (goal.at.returns-then-not-read_next-clause-progress c).At-singles left e (take-nothing left c.singles.bindings none), tt, so_far.written)
 
-pub returns-in_default-clause-left : goal.returns-in_default-clause-left
-returns-in_default-clause-left c =
+pub returns-then-not-read_next-clause-left : goal.returns-then-not-read_next-clause-left
+returns-then-not-read_next-clause-left c =
     let so_far = c.singles.invariant in
     let left = c.args.count - c.singles.counter in
     let e : c.singles.counter + left ≡ c.args.count = omega (arith, c.singles-test.true) in
-    let none : c.singles.bindings ≡ [] = c.in_default.ensures.steps.0 in
-    let now : c.next.new.self ≡ [] = c.in_default.ensures.steps.1 in
+    let none : c.singles.bindings ≡ [] = (c.read_next.ensures.none c.if-not-read_next.true).0 in
+    let now : c.read_next.new.self ≡ [] = (c.read_next.ensures.none c.if-not-read_next.true).1 in
     now ∙ sym (drop-nothing left c.singles.bindings none) ∙ so_far.left left e
 
 pub returns-in-None-clause-progress : goal.returns-in-None-clause-progress
 returns-in-None-clause-progress c =
     let so_far = c.singles.invariant in
     let view = c.args.table.now in
-    let m = parts_message c.args.parts.now in
-    let p : VarBind = var_bind c.next_after-given.result in
+    let p : VarBind = var_bind c.read_next_after.new.into in
     let left = c.args.count - (c.singles.counter + 1) in
     let e : c.singles.counter + suc left ≡ c.args.count = omega (arith, c.singles-test.true) in
-    let first : c.singles.bindings ≡ var_bind c.in-Some.asked ∷ c.next.new.self = c.in-Some.ensures.steps in
-    let taken : take (suc left) c.singles.bindings ≡ var_bind c.in-Some.asked ∷ take left c.next.new.self = take-first left c.singles.bindings c.next.new.self (var_bind c.in-Some.asked) first in
-    let later = all_given view 0 (take left c.next.new.self) in
-    let front = stopped m c.args.max_size 0 c.args.out.now so_far.given p later.0 c.singles.total c.singles.out c.append.new.out so_far.written c.in-None.ensures.unchanged c.in-None.ensures.too_long in (
+    let first : c.singles.bindings ≡ var_bind c.read_next.new.into ∷ c.read_next.new.self = c.read_next.ensures.some c.if-not-read_next.false in
+    let taken : take (suc left) c.singles.bindings ≡ var_bind c.read_next.new.into ∷ take left c.read_next.new.self = take-first left c.singles.bindings c.read_next.new.self (var_bind c.read_next.new.into) first in
+    let later = all_given view 0 (take left c.read_next.new.self) in
+    let front = stopped c.args.room 0 c.args.out.now so_far.given p later.0 c.singles.total c.singles.out c.append.new.out so_far.written c.in-None.ensures.unchanged c.in-None.ensures.too_long in (
       so_far.given ++ p ∷ later.0,
-      so_far.others (suc left) (p ∷ later.0) e (subst (λ (bs : List VarBind). AreGiven view 0 bs (p ∷ later.0)) (sym taken) (c.next_after-given.ensures.answer, later.1)),
+      so_far.others (suc left) (p ∷ later.0) e (subst (λ (bs : List VarBind). AreGiven view 0 bs (p ∷ later.0)) (sym taken) (c.read_next_after.ensures.answer, later.1)),
       front.0,
       λ unit. front.1,
     )
@@ -67,20 +65,20 @@ pub singles-preserved : goal.singles-preserved
 singles-preserved c =
     let so_far = c.singles.invariant in
     let view = c.args.table.now in
-    let p : VarBind = var_bind c.next_after-given.result in
-    let first : c.singles.bindings ≡ var_bind c.in-Some.asked ∷ c.next.new.self = c.in-Some.ensures.steps in
-    let more = c.in-Some-append.ensures.written in
-    let writable : AreWritable (var_bind c.in-Some.asked ∷ c.next.new.self) = subst (λ (bs : List VarBind). AreWritable bs) first so_far.writable in
+    let p : VarBind = var_bind c.read_next_after.new.into in
+    let first : c.singles.bindings ≡ var_bind c.read_next.new.into ∷ c.read_next.new.self = c.read_next.ensures.some c.if-not-read_next.false in
+    let more = c.in-Some.ensures.written in
+    let writable : AreWritable (var_bind c.read_next.new.into ∷ c.read_next.new.self) = subst (λ (bs : List VarBind). AreWritable bs) first so_far.writable in
     record {
       given = so_far.given ++ p ∷ [];
       others = λ left rest e h.
           let e' : c.singles.counter + suc left ≡ c.args.count = omega (arith, e) in
-          step (λ asked given. IsNextAfter view 0 asked.name given) (take c.args.count c.args.bindings.now) (take (suc left) c.singles.bindings) (take left c.next.new.self) so_far.given (var_bind c.in-Some.asked) p
-          (take-first left c.singles.bindings c.next.new.self (var_bind c.in-Some.asked) first) c.next_after-given.ensures.answer (λ more h. so_far.others (suc left) more e' h) rest h;
+          step (λ asked given. IsNextAfter view 0 asked.name given) (take c.args.count c.args.bindings.now) (take (suc left) c.singles.bindings) (take left c.read_next.new.self) so_far.given (var_bind c.read_next.new.into) p
+          (take-first left c.singles.bindings c.read_next.new.self (var_bind c.read_next.new.into) first) c.read_next_after.ensures.answer (λ more h. so_far.others (suc left) more e' h) rest h;
       left = λ left e.
           let e' : c.singles.counter + suc left ≡ c.args.count = omega (arith, e) in
-          sym (drop-first left c.singles.bindings c.next.new.self (var_bind c.in-Some.asked) first) ∙ so_far.left (suc left) e';
-      written = one_more (parts_message c.args.parts.now) c.args.max_size 0 c.singles.total c.in-Some-append.end c.args.out.now c.singles.out c.append.new.out so_far.given p so_far.written more.0 more.1 more.2;
+          sym (drop-first left c.singles.bindings c.read_next.new.self (var_bind c.read_next.new.into) first) ∙ so_far.left (suc left) e';
+      written = one_more c.args.room 0 c.singles.total c.in-Some.end c.args.out.now c.singles.out c.append.new.out so_far.given p so_far.written more.0 more.1 more.2;
       writable = writable.1;
     }
 

@@ -1,6 +1,5 @@
 use Rattle.std.proofs.Common.{◌≡◌, ℕ, ◌+◌, List, ◌++◌, take, drop}
 use Rattle.snmp_wire.specs.Message.{VarBind}
-use Rattle.snmp_wire.specs.Parts.{parts_message}
 use Rattle.snmp_agent.specs.Answering.{AreGiven, AreWritable, Extends}
 use Rattle.snmp_agent.proofs.bulk.append_singles.Given as goal
 
@@ -10,6 +9,6 @@ invariant-singles l = record {
   given : List VarBind;
   others : (left : ℕ) (rest : List VarBind) → l.counter + left ≡ l.count → AreGiven l.table 0 (take left l.bindings) rest → AreGiven l.table 0 (take l.count l.fn.bindings) (given ++ rest);
   left : (left : ℕ) → l.counter + left ≡ l.count → drop left l.bindings ≡ drop l.count l.fn.bindings;
-  written : Extends (parts_message l.parts) l.max_size 0 l.fn.out given l.total l.out;
+  written : Extends l.room 0 l.fn.out given l.total l.out;
   writable : AreWritable l.bindings;
 }

@@ -1,61 +1,59 @@
-use Rattle.std.proofs.Common.{◌≡◌, List, [], ◌∷◌, ◌++◌, length, sym, subst, arith}
+use Rattle.std.proofs.Common.{◌≡◌, ◌+◌, List, [], ◌∷◌, ◌++◌, length, sym, subst, arith}
 use Rattle.std.proofs.lemmas.List.{append-nil}
 use Rattle.snmp_wire.specs.Message.{VarBind, var_bind}
-use Rattle.snmp_wire.specs.Canon.{canon_bindings}
+use Rattle.snmp_wire.specs.Canon.{canon_binding, canon_bindings}
 use Rattle.snmp_wire.specs.Parts.{parts_message}
 use Rattle.snmp_agent.specs.Reply.{AreAnswers}
 use Rattle.snmp_agent.specs.Answering.{IsAnswer, AreWritable}
 use Rattle.snmp_agent.proofs.Answers.{all_answered}
-use Rattle.snmp_agent.proofs.Sizes.{longer}
+use Rattle.snmp_agent.proofs.Sizes.{longer, within, beyond}
 use Rattle.snmp_agent.proofs.Drafts.{empty_draft, longer_draft, passes, step, none_anyway}
 use Rattle.snmp_agent.proofs.draft.append_answers.Goals as goal
 
-pub returns-then-head_size-max_size-clause-too_long : goal.returns-then-head_size-max_size-clause-too_long
-returns-then-head_size-max_size-clause-too_long c =
+pub returns-in_err-room-clause-too_long : goal.returns-in_err-room-clause-too_long
+returns-in_err-room-clause-too_long c =
     let all = all_answered c.args.table.now c.args.kind c.args.bindings c.requires.paired in
-    (all.0, all.1, omega (arith, longer (parts_message c.args.parts.now) 0 (length (canon_bindings all.0)) (omega arith), c.head_size.ensures.value))
+    none_anyway c.from_residual.result (all.0, all.1, omega (arith, longer (parts_message c.args.parts.now) 0 (length (canon_bindings all.0)) (omega arith), c.in_err-room.ensures.none))
 
 pub bindings-init : goal.bindings-init
 bindings-init c =
-    let same : c.into_iter-asked-iterator.result ≡ c.args.bindings = c.into_iter-asked-iterator.ensures.into_iter_gives in (
-      [],
-      λ rest h. subst (λ (bs : List VarBind). AreAnswers (IsAnswer c.args.table.now c.args.kind) bs rest) same h,
-      empty_draft _ _ _ (omega (arith, c.head_size.ensures.value)),
-      subst (λ (bs : List VarBind). AreWritable bs) (sym same) c.requires.writable,
-    )
+    ([], λ rest h. h, empty_draft _ _ _ (within (parts_message c.args.parts.now) c.args.max_size c.in_ok-room.room 0 c.in_ok-room.ensures.room (omega arith)), c.requires.writable, omega arith)
 
 pub returns-in_err-total-clause-too_long : goal.returns-in_err-total-clause-too_long
 returns-in_err-total-clause-too_long c =
     let R = IsAnswer c.args.table.now c.args.kind in
     let so_far = c.bindings.invariant in
-    let p : VarBind = var_bind c.answer_to-given.result in
-    let left : c.bindings.asked-iterator ≡ var_bind c.in-Some.asked ∷ c.next.new.self = c.in-Some.ensures.steps in
-    let later = all_answered c.args.table.now c.args.kind c.next.new.self c.requires.paired in
-    none_anyway c.from_residual.result (
+    let p : VarBind = var_bind c.answer_to.new.binding in
+    let left : c.bindings.bindings ≡ var_bind c.read_next.new.into ∷ c.read_next.new.self = c.read_next.ensures.some c.bindings-test.true in
+    let later = all_answered c.args.table.now c.args.kind c.read_next.new.self c.requires.paired in
+    none_anyway c.from_residual-in_err-total.result (
       so_far.0 ++ p ∷ later.0,
-      so_far.1 (p ∷ later.0) (subst (λ (bs : List VarBind). AreAnswers R bs (p ∷ later.0)) (sym left) (c.answer_to-given.ensures.answer, later.1)),
-      passes (parts_message c.args.parts.now) c.args.max_size so_far.0 later.0 p c.bindings.total c.bindings.out so_far.2 c.in_err-total.ensures.too_long,
+      so_far.1 (p ∷ later.0) (subst (λ (bs : List VarBind). AreAnswers R bs (p ∷ later.0)) (sym left) (c.answer_to.ensures.answer, later.1)),
+      passes (parts_message c.args.parts.now) c.args.max_size so_far.0 later.0 p c.bindings.total c.bindings.out so_far.2
+          (beyond (parts_message c.args.parts.now) c.args.max_size c.in_ok-room.room (c.bindings.total + length (canon_binding p)) c.in_ok-room.ensures.room c.in_err-total.ensures.too_long),
     )
 
 pub bindings-preserved : goal.bindings-preserved
 bindings-preserved c =
     let R = IsAnswer c.args.table.now c.args.kind in
     let so_far = c.bindings.invariant in
-    let p : VarBind = var_bind c.answer_to-given.result in
-    let first : VarBind = var_bind c.in-Some.asked in
-    let left : c.bindings.asked-iterator ≡ first ∷ c.next.new.self = c.in-Some.ensures.steps in
+    let p : VarBind = var_bind c.answer_to.new.binding in
+    let first : VarBind = var_bind c.read_next.new.into in
+    let left : c.bindings.bindings ≡ first ∷ c.read_next.new.self = c.read_next.ensures.some c.bindings-test.true in
     let written = c.in_ok-total.ensures.written in
-    let writable : AreWritable (first ∷ c.next.new.self) = subst (λ (bs : List VarBind). AreWritable bs) left so_far.3 in (
+    let writable : AreWritable (first ∷ c.read_next.new.self) = subst (λ (bs : List VarBind). AreWritable bs) left so_far.3 in (
       so_far.0 ++ p ∷ [],
-      step R c.args.bindings c.bindings.asked-iterator c.next.new.self so_far.0 first p left c.answer_to-given.ensures.answer so_far.1,
-      longer_draft (parts_message c.args.parts.now) c.args.max_size so_far.0 p c.bindings.total c.in_ok-total.total c.bindings.out c.append.new.out so_far.2 written.0 written.1 written.2,
+      step R c.args.bindings c.bindings.bindings c.read_next.new.self so_far.0 first p left c.answer_to.ensures.answer so_far.1,
+      longer_draft (parts_message c.args.parts.now) c.args.max_size so_far.0 p c.bindings.total c.in_ok-total.total c.bindings.out c.append.new.out so_far.2 written.0 written.1
+          (within (parts_message c.args.parts.now) c.args.max_size c.in_ok-room.room c.in_ok-total.total c.in_ok-room.ensures.room written.2),
       writable.1,
+      written.2,
     )
 
 pub returns-clause-written : goal.returns-clause-written
 returns-clause-written c =
     let R = IsAnswer c.args.table.now c.args.kind in
     let so_far = c.bindings.invariant in
-    let none : c.bindings.asked-iterator ≡ [] = c.in-None.ensures.steps.0 in
+    let none : c.bindings.bindings ≡ [] = (c.read_next.ensures.none c.bindings-test.false).0 in
     let all : AreAnswers R c.args.bindings (so_far.0 ++ []) = so_far.1 [] (subst (λ (bs : List VarBind). AreAnswers R bs []) (sym none) tt) in
     (so_far.0, subst (λ (gs : List VarBind). AreAnswers R c.args.bindings gs) (append-nil so_far.0) all, so_far.2)

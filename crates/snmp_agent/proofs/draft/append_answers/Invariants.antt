@@ -1,4 +1,4 @@
-use Rattle.std.proofs.Common.{◌++◌, List}
+use Rattle.std.proofs.Common.{◌++◌, ◌≤◌, List, length}
 use Rattle.snmp_wire.specs.Message.{VarBind}
 use Rattle.snmp_wire.specs.Parts.{parts_message}
 use Rattle.snmp_agent.specs.Reply.{AreAnswers}
@@ -9,6 +9,10 @@ use Rattle.snmp_agent.proofs.draft.append_answers.Given as goal
 abbrev pub invariant-bindings : goal.invariant-bindings
 invariant-bindings l =
     (given : List VarBind)
-    × ((rest : List VarBind) → AreAnswers (IsAnswer l.table l.kind) l.asked-iterator rest → AreAnswers (IsAnswer l.table l.kind) l.fn.bindings (given ++ rest))
+    × ((rest : List VarBind) → AreAnswers (IsAnswer l.table l.kind) l.bindings rest → AreAnswers (IsAnswer l.table l.kind) l.fn.bindings (given ++ rest))
     × IsDraft (parts_message l.parts) l.max_size given l.total l.out
-    × AreWritable l.asked-iterator
+    × AreWritable l.bindings
+    × (l.total ≤ l.room)
+
+abbrev pub decreases-bindings : goal.decreases-bindings
+decreases-bindings l = length l.bindings
