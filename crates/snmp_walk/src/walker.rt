@@ -273,7 +273,7 @@ impl WalkCore {
     }
 
     /// Whether there are more bindings than were asked for, or noSuchObject or noSuchInstance among them.
-    fn is_misplaced(&self, bindings: Bindings<'_>) -> bool
+    fn is_misplaced(&self, mut bindings: Bindings<'_>) -> bool
         ensures value { result ≡ is_misplaced (asked_for self.now.method) bindings.entry }
         ensures few { result ≡ false → length bindings.entry < 2 ^ 32 }
     {
@@ -281,7 +281,8 @@ impl WalkCore {
             Method::Next => 1,
             Method::Bulk(repetitions) => repetitions.unsigned_abs(),
         };
-        'bindings: for binding in bindings {
+        let mut binding = blank();
+        'bindings: while bindings.read_next(&mut binding) {
             if room == 0 || lacks_value(&binding.value) {
                 return true;
             }
@@ -291,7 +292,7 @@ impl WalkCore {
     }
 
     /// The instances below the root at the front of these bindings, their names rising from the one asked for.
-    fn front(&self, bindings: Bindings<'_>) -> Front
+    fn front(&self, mut bindings: Bindings<'_>) -> Front
         requires few { length bindings < 2 ^ 32 }
         requires wire { AreSendable bindings }
         ensures value { IsFrontOf self.now.root self.now.asked 0 bindings.entry result }
@@ -300,7 +301,8 @@ impl WalkCore {
     {
         let mut rows = 0;
         let mut last = copy_of(&self.asked);
-        'bindings: for binding in bindings {
+        let mut binding = blank();
+        'bindings: while bindings.read_next(&mut binding) {
             if !is_row(&binding, &self.root) {
                 return Front {
                     rows,
@@ -312,11 +314,11 @@ impl WalkCore {
                 return Front {
                     rows,
                     last,
-                    ending: Ending::Falls(binding.name),
+                    ending: Ending::Falls(copy_of(&binding.name)),
                 };
             }
             rows += 1;
-            last = binding.name;
+            put_name(&mut last, &binding.name);
         }
         Front {
             rows,
@@ -481,6 +483,26 @@ fn copy_of(oid: &Oid) -> Oid
 {
     match Oid::from_slice(oid.as_slice()) {
         Ok(copy) => copy,
+        Err(_) => unreachable!(),
+    }
+}
+
+/// A binding for [`Bindings::read_next`] to fill.
+fn blank<'a>() -> Binding<'a> {
+    Binding {
+        name: Oid::new(),
+        value: ValueRef::Null,
+    }
+}
+
+/// Puts one name in the place of another.
+fn put_name(last: &mut Oid, name: &Oid)
+    ensures value { last.new ≡ name.now }
+    ensures identifier { IsIdentifier name.now }
+{
+    last.clear();
+    match last.extend_from_slice(name.as_slice()) {
+        Ok(()) => {}
         Err(_) => unreachable!(),
     }
 }

@@ -15,7 +15,7 @@ returns-then-not-is_row-clause-value c =
 
 pub returns-then-not-comes_behind-clause-value : goal.returns-then-not-comes_behind-clause-value
 returns-then-not-comes_behind-clause-value c =
-    let front : Front = record { rows = c.bindings.rows; last = c.bindings.last; ending = Falls c.in-Some.binding.name } in
+    let front : Front = record { rows = c.bindings.rows; last = c.bindings.last; ending = Falls c.copy_of.result } in
     let e : front_from c.args.self.now.root c.args.self.now.asked 0 c.args.bindings ≡ front = grind (arith, common_steps) in
     front_is _ _ _ _ _ e
 
