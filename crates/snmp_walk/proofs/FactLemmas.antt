@@ -1,15 +1,14 @@
 -- Over one table the facts of a run are about its rows.
-use Rattle.std.proofs.Common.{◌≡◌, ◌⊎◌, inl, inr, ℕ, List, [], ◌∷◌, ◌++◌, refl, sym, ◌∙◌, ap, subst}
+use Rattle.std.proofs.Common.{◌≡◌, List, [], ◌∷◌, ◌++◌, subst}
 use Rattle.snmp_wire.specs.Message.{VarBind}
 use Rattle.snmp_table.specs.Table.{MibView, IsMibView, IsGet, IsNext}
 use Rattle.snmp_table.specs.Listing.{variables}
 use Rattle.snmp_walk.specs.declared.end.WalkEnd.{WalkEnd}
 use Rattle.snmp_walk.specs.declared.end.WalkEnd.TheVariants as ending
 use Rattle.snmp_walk.specs.Walker.{Walker}
-use Rattle.snmp_walk.specs.Walk.{rows_after, or_end, walk_from}
 use Rattle.snmp_walk.specs.Standing.{IsPart, IsWhole, IsOneTable}
 use Rattle.snmp_walk.specs.Link.{Agents, next_of, got_of, AreViews}
-use Rattle.snmp_walk.specs.Facts.{IsFresh, IsLawfulEnd, IsDone, WalkFacts, walk_at}
+use Rattle.snmp_walk.specs.Facts.{IsFresh, IsLawfulEnd, IsDone, WalkFacts}
 use Rattle.snmp_walk.proofs.JoinLemmas.{variables_rise, variables_are, next_first, get_one, get_row}
 use Rattle.snmp_walk.proofs.TableLemmas.{part_is, whole_is}
 use Rattle.snmp_walk.proofs.ViewLemmas.{only_one}

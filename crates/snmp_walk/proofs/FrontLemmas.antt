@@ -1,9 +1,8 @@
 -- The front of a reply that a walk gives, read binding by binding, is the one that the rules name.
-use Rattle.std.proofs.Common.{◌≡◌, ℕ, zero, suc, ◌+◌, ◌<◌, ◌≤◌, Bool, true, false, cond, List, [], ◌∷◌, length, take, refl, sym, ◌∙◌, ap, subst, arith}
+use Rattle.std.proofs.Common.{◌≡◌, ℕ, suc, ◌+◌, Bool, true, false, cond, List, [], ◌∷◌, length, take, refl, sym, ◌∙◌, ap, subst, arith}
 use Rattle.std.proofs.lemmas.List.Sums.{take_while-cons}
-use Rattle.std.proofs.lemmas.Bool.{le-ltb, lt-ltb, or_parts, ltb-false}
-use Rattle.std.specs.Prelude.{nat_lt, ◌||◌}
-use Rattle.std.specs.List.{list_any}
+use Rattle.std.proofs.lemmas.Bool.{le-ltb, lt-ltb}
+use Rattle.std.specs.Prelude.{nat_lt}
 use Rattle.snmp_wire.specs.Message.{VarBind}
 use Rattle.snmp_walk.specs.declared.walker.Ending.{Ending}
 use Rattle.snmp_walk.specs.declared.walker.Ending.TheVariants.{GoesOn, Leaves, Falls}
@@ -11,7 +10,7 @@ use Rattle.snmp_walk.specs.declared.walker.Front.{Front}
 use Rattle.snmp_walk.specs.declared.phase.Phase.TheVariants as phase
 use Rattle.snmp_walk.specs.declared.end.WalkEnd.TheVariants as walk_end
 use Rattle.snmp_walk.specs.declared.rows.Step.{Step}
-use Rattle.snmp_walk.specs.Names.{is_inside, is_missing, comes_after}
+use Rattle.snmp_walk.specs.Names.{is_inside, comes_after}
 use Rattle.snmp_walk.specs.Trail.{last_name}
 use Rattle.snmp_walk.specs.Walker.{Walker}
 use Rattle.snmp_walk.specs.Taken.{inside_front, rising_front, name_at, asked_for, stops, goes_on, closes, reads, reads_next}

@@ -1,25 +1,22 @@
 -- A view's variables are a list by rising names, and what the view answers is read off it.
-use Rattle.std.proofs.Common.{◌≡◌, ◌⊎◌, inl, inr, ℕ, ◌<◌, ◌≤◌, T, Bool, true, false, cond, List, [], ◌∷◌, ◌++◌, map, length, refl, sym, ◌∙◌, ap, subst, Option, Some, None}
-use Rattle.std.proofs.lemmas.Bool.{false≢true, true≢false, and_parts, false_from_ne_true, cond-true, cond-false}
-use Rattle.std.specs.Prelude.{◌&&◌, filter}
+use Rattle.std.proofs.Common.{◌≡◌, ◌⊎◌, inl, inr, ℕ, T, Bool, true, false, cond, List, [], ◌∷◌, map, refl, sym, ◌∙◌, ap, subst, Some, None}
+use Rattle.std.proofs.lemmas.Bool.{false≢true, and_parts, false_from_ne_true, cond-true, cond-false}
 use Rattle.std.specs.Bool.{nat_eq}
-use Rattle.std.specs.Ordering.{nat_cmp, is_lt, is_eq, eq_by_cmp, ordering_reverse}
+use Rattle.std.specs.Ordering.{nat_cmp, is_lt, is_eq, eq_by_cmp}
 use Rattle.std.specs.Cmp.{tied_itself}
 use Rattle.std.specs.Cmp.Lexicographic.{slice_cmp, nat_list_cmp_total, pointwise, same_text, texts_ties, nat_list_eq_equiv}
 use Rattle.std.specs.FinMap.{get, entries, find, is_sorted, get-entries, entries_sorted}
 use Rattle.std.specs.FinMap.Entries.{below_all}
-use Rattle.std.specs.declared.cmp.Ordering.{Ordering}
-use Rattle.std.specs.declared.cmp.Ordering.TheVariants.{Less, Equal, Greater}
 use Rattle.snmp_oid.specs.Identifier.{Precedes}
-use Rattle.snmp_wire.specs.Message.{Datum, VarBind, end_of_mib_view}
-use Rattle.snmp_table.specs.Table.{MibView, IsRow, IsInstanceName, IsInstanceValue, IsMibView, IsGet, variable, unknown_object, unknown_instance, IsSuccessor, IsNext, successor, end_of_view}
+use Rattle.snmp_wire.specs.Message.{Datum, VarBind}
+use Rattle.snmp_table.specs.Table.{MibView, IsRow, IsInstanceName, IsInstanceValue, IsMibView, IsGet, variable, unknown_object, unknown_instance, IsNext, successor, end_of_view}
 use Rattle.snmp_table.specs.Listing.{variables}
-use Rattle.snmp_walk.specs.Names.{is_end, is_missing, comes_after}
+use Rattle.snmp_walk.specs.Names.{is_missing, comes_after}
 use Rattle.snmp_walk.specs.Walk.{rows_after, rows_named, AreAfter, AreRising, AreInstances, or_end}
-use Rattle.snmp_walk.proofs.OrderLemmas.{less_from_after, after-irrefl, after-trans}
+use Rattle.snmp_walk.proofs.OrderLemmas.{less_from_after, after-irrefl}
 use Rattle.snmp_walk.specs.Taken.{if_present}
 use Rattle.snmp_oid.proofs.IdentifierLemmas.{precedes_from_less}
-use Rattle.snmp_walk.proofs.TableLemmas.{IsFirst, first_of_rows}
+use Rattle.snmp_walk.proofs.TableLemmas.{first_of_rows}
 use Rattle.snmp_walk.proofs.ViewLemmas.{less_precedes, value_no_end, value_no_miss}
 
 abbrev binding_of : List ℕ × Datum → VarBind

@@ -1,5 +1,5 @@
 -- What a link in memory keeps is what a receive gives.
-use Rattle.std.proofs.Common.{◌≡◌, ◌⊎◌, inl, inr, ℕ, ◌≤◌, List, [], ◌∷◌, ◌++◌, length, take, drop, refl, sym, ◌∙◌, ap, subst, arith, Option, Some, None}
+use Rattle.std.proofs.Common.{◌≡◌, inl, ℕ, ◌≤◌, List, ◌++◌, length, take, refl, sym, ◌∙◌, ap, subst, arith, Option, Some, None}
 use Rattle.std.proofs.Math.Seq.{take-append_seam}
 use Rattle.std.specs.Prelude.{IfSome}
 use Rattle.snmp_agent.specs.Reply.{agent_of, IsReply as IsAgentReply, IsDropped}
@@ -7,7 +7,7 @@ use Rattle.snmp_agent.specs.declared.config.Why.{Why}
 use Rattle.snmp_agent.specs.declared.config.Outcome.{Outcome}
 use Rattle.snmp_agent.specs.declared.config.Outcome.TheVariants as outcome
 use Rattle.snmp_walk.specs.declared.memory.MemoryLink.{MemoryLink}
-use Rattle.snmp_walk.specs.Link.{Agents, AreLawful, IsReply, IsUnanswered, Receives}
+use Rattle.snmp_walk.specs.Link.{Agents, AreLawful, IsReply, Receives}
 use Rattle.snmp_walk.specs.Memory.{agents_of, kept, sent_last, Answered, IsHonest}
 
 given_by : (agents : Agents) (latest : Option (List ℕ)) (reply octets : List ℕ) (n : ℕ) → Answered agents latest (Some reply) → take n octets ≡ reply → Receives agents latest (Some n) octets

@@ -1,9 +1,7 @@
 -- A run, turn by turn.
-use Rattle.std.proofs.Common.{◌≡◌, ◌⊎◌, inl, inr, ℕ, ◌+◌, ◌^◌, ◌<◌, ◌≤◌, Bool, true, false, cond, List, [], ◌∷◌, ◌++◌, length, refl, sym, ◌∙◌, ap, subst, arith, append-nil, append_assoc, Option, Some, None}
+use Rattle.std.proofs.Common.{◌≡◌, ◌⊎◌, inl, inr, ℕ, ◌+◌, ◌^◌, ◌<◌, Bool, true, false, cond, List, [], ◌∷◌, ◌++◌, refl, sym, ◌∙◌, ap, subst, arith, append-nil, append_assoc, Some, None}
 use Rattle.std.specs.Prelude.{Result, Err}
 use Rattle.snmp_wire.specs.Message.{VarBind, Message}
-use Rattle.snmp_wire.specs.Canon.{canon}
-use Rattle.snmp_table.specs.Table.{MibView}
 use Rattle.snmp_walk.specs.declared.mode.Mode.{Mode}
 use Rattle.snmp_walk.specs.declared.mode.Mode.TheVariants as mode
 use Rattle.snmp_walk.specs.declared.phase.Phase.{Phase}
@@ -16,9 +14,9 @@ use Rattle.snmp_walk.specs.declared.rows.Step.TheVariants as step
 use Rattle.snmp_walk.specs.Names.{is_missing}
 use Rattle.snmp_walk.specs.Trail.{last_name, IsTrail, AreAnswers}
 use Rattle.snmp_walk.specs.Walker.{Walker, IsWalker}
-use Rattle.snmp_walk.specs.Request.{request_of, first_phase}
-use Rattle.snmp_walk.specs.Taken.{is_over, if_present, take_of}
-use Rattle.snmp_walk.specs.Standing.{IsOpening, IsGiven, IsAlone, IsPart, IsStage, IsReplyTo, IsPaced, Stands, Ends, Advances, Rises, Named, IsReplyEnd, Keeps}
+use Rattle.snmp_walk.specs.Request.{first_phase}
+use Rattle.snmp_walk.specs.Taken.{is_over, take_of}
+use Rattle.snmp_walk.specs.Standing.{IsOpening, IsGiven, IsAlone, IsPart, IsStage, IsPaced, Stands, Ends, Advances, Rises, Named, IsReplyEnd, Keeps}
 use Rattle.snmp_walk.specs.Link.{Agents, next_of, got_of, IsTooLarge}
 use Rattle.snmp_walk.specs.Sink.{Given, Took}
 use Rattle.snmp_walk.specs.Run.{IsFrom, Turns, goes_on, ends, is_refused, is_silent, fails, rows_in}

@@ -1,5 +1,5 @@
 -- What a sink was given, in two parts.
-use Rattle.std.proofs.Common.{◌≡◌, List, [], ◌∷◌, ◌++◌, refl, sym, subst, Ok}
+use Rattle.std.proofs.Common.{List, [], ◌∷◌, ◌++◌, refl, subst, Ok}
 use Rattle.std.specs.Prelude.{Result}
 use Rattle.snmp_wire.specs.Message.{VarBind}
 use Rattle.snmp_walk.specs.declared.end.SinkFault.{SinkFault}

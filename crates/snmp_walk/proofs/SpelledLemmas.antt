@@ -2,7 +2,7 @@
 use Rattle.std.proofs.Common.{ℕ, List, [], ◌∷◌}
 use Rattle.snmp_wire.specs.Message.{VarBind, Message}
 use Rattle.snmp_wire.specs.Number.{lenient}
-use Rattle.snmp_wire.specs.Spelling.{SpellsBinding, SpellsBindings, Spells}
+use Rattle.snmp_wire.specs.Spelling.{SpellsBindings, Spells}
 use Rattle.snmp_walk.specs.Reading.{AreSendable}
 
 each_sendable : (bindings : List VarBind) (octets : List ℕ) → SpellsBindings lenient bindings octets → AreSendable bindings

@@ -1,9 +1,8 @@
 -- What a link promises, and what may be said of the agents behind it.
-use Rattle.std.specs.Prelude.{pos, false, ◌≡◌, ℕ, ◌+◌, ◌^◌, ◌<◌, ◌≤◌, ◌⊎◌, List, [], ◌∷◌, length, take, Option, Some, None}
+use Rattle.std.specs.Prelude.{pos, ◌≡◌, ℕ, ◌^◌, ◌<◌, ◌≤◌, ◌⊎◌, List, [], ◌∷◌, length, take, Option, Some, None}
 use Rattle.snmp_wire.specs.declared.kind.Kind.TheVariants as kind
 use Rattle.snmp_wire.specs.Message.{VarBind, Message}
 use Rattle.snmp_wire.specs.Canon.{canon}
-use Rattle.snmp_wire.specs.Spelling.{Spells}
 use Rattle.snmp_table.specs.Table.{MibView, IsGet, IsNext, IsMibView}
 use Rattle.snmp_agent.specs.Reply.{Agent, IsReply as IsAgentReply, IsDropped}
 use Rattle.snmp_agent.specs.declared.config.Why.{Why}

@@ -3,7 +3,7 @@ use Rattle.std.specs.Prelude.{ℕ, ℤ, pos, List, [], ◌∷◌}
 use Rattle.snmp_oid.specs.Identifier.{wire}
 use Rattle.snmp_wire.specs.declared.kind.Kind.{Kind}
 use Rattle.snmp_wire.specs.declared.kind.Kind.TheVariants as kind
-use Rattle.snmp_wire.specs.Message.{VarBind, Message, null_value}
+use Rattle.snmp_wire.specs.Message.{Message, null_value}
 use Rattle.snmp_walk.specs.declared.mode.Mode.{Mode}
 use Rattle.snmp_walk.specs.declared.mode.Mode.TheVariants as mode
 use Rattle.snmp_walk.specs.declared.mode.Method.{Method}

@@ -1,6 +1,6 @@
 -- What a message means to a walk (RFC 3416, section 4.2, and this project's profile): the rules by which a reply is judged, as one function of
 -- the walk's state and the message.
-use Rattle.std.specs.Prelude.{◌≡◌, ◌⊎◌, ℕ, zero, suc, unsigned_abs, ℤ, pos, Bool, true, false, ◌&&◌, ◌||◌, not, ◌==◌, nat_lt, if◌then◌else◌, ◌+◌, List, [], ◌∷◌, length, Option, Some, None, take_while}
+use Rattle.std.specs.Prelude.{◌≡◌, ◌⊎◌, ℕ, zero, suc, unsigned_abs, pos, Bool, true, false, ◌&&◌, ◌||◌, not, ◌==◌, nat_lt, if◌then◌else◌, ◌+◌, List, [], ◌∷◌, length, Option, Some, None, take_while}
 use Rattle.std.specs.List.{list_any}
 use Rattle.std.specs.Bool.{nat_eq}
 use Rattle.std.specs.Ordering.{int_eq}

@@ -1,7 +1,7 @@
 -- What a walk knows between two datagrams.
 use Rattle.std.specs.Int.{w32}
-use Rattle.std.specs.Prelude.{FitsSigned, All, ℕ, ℤ, pos, ◌≤ℤ◌, ◌≡◌, ◌+◌, ◌*◌, ◌^◌, ◌<◌, ◌≤◌, List, length}
-use Rattle.snmp_oid.specs.Identifier.{IsIdentifier, IsWire, wire}
+use Rattle.std.specs.Prelude.{FitsSigned, All, ℕ, pos, ◌≤ℤ◌, ◌*◌, ◌^◌, ◌<◌, ◌≤◌, List, length}
+use Rattle.snmp_oid.specs.Identifier.{IsIdentifier, IsWire}
 use Rattle.snmp_walk.specs.declared.mode.Mode.{Mode}
 use Rattle.snmp_walk.specs.declared.mode.Method.{Method}
 use Rattle.snmp_walk.specs.declared.mode.Method.TheVariants.{Next, Bulk}

@@ -1,5 +1,6 @@
 //! What one datagram brings: the bindings that a walk gives of it.
-ghost use Rattle.std.specs.Prelude.{◌≡◌, ◌≤◌, ℕ, List, take, length};
+ghost use Rattle.std.specs.Prelude.{◌≡◌, ◌≤◌, ℕ, List, [], ◌∷◌, take, length, true, false};
+ghost use Rattle.snmp_wire.specs.Message.{var_bind};
 
 use crate::WalkEnd;
 use snmp_wire::{Binding, Bindings};
@@ -30,6 +31,20 @@ impl<'a> Rows<'a> {
         ensures { result ≡ take left bindings.entry }
     {
         Rows { bindings, left }
+    }
+
+    /// Reads the next binding into one that is there, and answers whether there was one. It stays as it was where none is left.
+    ///
+    /// This is [`Iterator::next`] for whoever reads many, as [`Bindings::read_next`] is.
+    pub fn read_next(&mut self, into: &mut Binding<'a>) -> bool
+        ensures some { result ≡ true → self.old ≡ var_bind into.new ∷ self.new }
+        ensures none { result ≡ false → (self.old ≡ []) × (self.new ≡ []) × (into.new ≡ into.old) }
+    {
+        if self.left == 0 {
+            return false;
+        }
+        self.left -= 1;
+        self.bindings.read_next(into)
     }
 }
 

@@ -2,7 +2,7 @@
 ghost use Rattle.std.specs.Prelude.{◌≡◌, ◌++◌, ◌∷◌, ◌⊎◌, List, ℕ, Result, OnOk, IfErr, Ok, Err};
 
 use crate::{Rows, SinkFault};
-use snmp_wire::Binding;
+use snmp_wire::{Binding, Oid, ValueRef};
 
 /// What a walk gives its bindings to, one by one.
 pub trait Sink {
@@ -22,11 +22,15 @@ ghost use Rattle.snmp_wire.specs.Message.{VarBind};
 ghost use Rattle.snmp_walk.specs.Sink.{Given};
 
 /// Gives the bindings to the sink, in order, until it refuses one.
-pub(crate) fn give<S: Sink>(rows: Rows<'_>, sink: &mut S) -> Result<(), SinkFault>
+pub(crate) fn give<S: Sink>(mut rows: Rows<'_>, sink: &mut S) -> Result<(), SinkFault>
     ensures ok { OnOk result (Given S.takes sink.old rows.entry sink.new) }
     ensures err { IfErr result (λ fault. (front : List VarBind) × (p : VarBind) × (back : List VarBind) × (rows.entry ≡ front ++ p ∷ back) × (between : S) × Given S.takes sink.old front between × S.takes between p (Err fault) sink.new) }
 {
-    'rows: for binding in rows {
+    let mut binding = Binding {
+        name: Oid::new(),
+        value: ValueRef::Null,
+    };
+    'rows: while rows.read_next(&mut binding) {
         sink.row(&binding)?;
     }
     Ok(())

@@ -1,4 +1,4 @@
-use Rattle.std.proofs.Common.{◌<◌, arith, ◌≡◌, ◌∙◌, sym, ap, subst, List, ℕ, Option, Some, None}
+use Rattle.std.proofs.Common.{◌<◌, arith, ◌≡◌, ◌∙◌, ap, subst, Option, Some, None}
 use Rattle.std.specs.Prelude.{IfNone}
 use Rattle.snmp_wire.specs.Canon.{canon}
 use Rattle.snmp_walk.specs.Request.{request_of}

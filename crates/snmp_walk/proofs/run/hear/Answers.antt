@@ -1,8 +1,5 @@
-use Rattle.std.proofs.Common.{◌≡◌, ◌≤◌, ◌+◌, ◌∙◌, sym, ap, subst, take, List, ℕ, Option, Some, arith, length, true}
+use Rattle.std.proofs.Common.{◌≤◌, ◌∙◌, take, arith, length}
 use Rattle.std.proofs.lemmas.Grind.{common_steps}
-use Rattle.snmp_wire.specs.Canon.{canon}
-use Rattle.snmp_walk.specs.Request.{request_of}
-use Rattle.snmp_walk.specs.Link.{Agents, IsSent, IsReply, Receives}
 use Rattle.snmp_walk.proofs.ReplyLemmas.{received_by, unanswered_by, heard_by, not_stray}
 use Rattle.snmp_walk.proofs.run.hear.Goals as goal
 

@@ -1,11 +1,8 @@
-use Rattle.std.proofs.Common.{◌≡◌, ◌∙◌, sym, ap, subst, refl, List, [], ◌++◌, ◌<◌, ◌-◌, ◌^◌, ℕ, arith, Option, Some, None}
-use Rattle.snmp_wire.specs.Message.{VarBind}
-use Rattle.snmp_walk.specs.declared.end.WalkEnd.TheVariants as ending
-use Rattle.snmp_walk.specs.Walker.{Walker}
-use Rattle.snmp_walk.specs.Link.{Agents, Rose, next_of, got_of}
+use Rattle.std.proofs.Common.{◌∙◌, ap, subst, refl, [], ◌++◌, ℕ, arith, Some, None}
+use Rattle.snmp_walk.specs.Link.{Agents, Rose}
 use Rattle.snmp_walk.specs.Run.{Turns}
 use Rattle.snmp_walk.specs.Standing.{Rises, Named}
-use Rattle.snmp_walk.proofs.RunLemmas.{fresh_stands, GoesOn, IsOver, turned, over}
+use Rattle.snmp_walk.proofs.RunLemmas.{fresh_stands, turned, over}
 use Rattle.snmp_walk.proofs.FactLemmas.{facts}
 use Rattle.snmp_walk.proofs.ViewLemmas.{views_answer}
 use Rattle.snmp_walk.proofs.run.run_walk.Goals as goal

@@ -1,4 +1,4 @@
-use Rattle.std.proofs.Common.{◌≡◌, ◌^◌, ◌<◌, ◌-◌, List}
+use Rattle.std.proofs.Common.{◌≡◌, ◌^◌, ◌-◌, List}
 use Rattle.snmp_wire.specs.Message.{VarBind}
 use Rattle.snmp_walk.specs.Sink.{Given}
 use Rattle.snmp_walk.specs.Standing.{Stands, Rises, Named}

@@ -1,7 +1,7 @@
-use Rattle.std.proofs.Common.{◌≡◌, ◌∙◌, sym, ap, subst, refl, List, [], ◌++◌, ℕ, Option, Some, None, take}
+use Rattle.std.proofs.Common.{◌≡◌, ap, refl, []}
 use Rattle.snmp_walk.specs.declared.end.WalkEnd.TheVariants as ending
-use Rattle.snmp_walk.specs.Run.{IsHeard, is_silent, rows_in}
-use Rattle.snmp_walk.proofs.TurnLemmas.{IsTaken, is_taken, if_some, if_none, no_stray, turn_goes, turn_ends, turn_refused, reply_end}
+use Rattle.snmp_walk.specs.Run.{is_silent, rows_in}
+use Rattle.snmp_walk.proofs.TurnLemmas.{is_taken, if_some, if_none, no_stray, turn_goes, turn_ends, turn_refused, reply_end}
 use Rattle.snmp_walk.proofs.run.turn.Goals as goal
 
 pub returns-in-Ok-None-clause-turns : goal.returns-in-Ok-None-clause-turns

@@ -1,4 +1,4 @@
-use Rattle.std.proofs.Common.{◌≡◌, length, ℕ, arith}
+use Rattle.std.proofs.Common.{◌≡◌, length, arith}
 use Rattle.std.proofs.lemmas.Grind.{common_steps}
 use Rattle.snmp_walk.proofs.MemoryLemmas.{received}
 use Rattle.snmp_walk.proofs.memory.MemoryLinkLink.receive.Goals as goal

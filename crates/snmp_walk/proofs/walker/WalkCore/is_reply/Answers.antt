@@ -1,6 +1,4 @@
-use Rattle.std.proofs.Common.{◌≡◌, ap, sym, ◌∙◌, Ok}
-use Rattle.snmp_wire.specs.Message.{Message}
-use Rattle.snmp_wire.specs.Spelling.{Spells}
+use Rattle.std.proofs.Common.{◌≡◌, ap, ◌∙◌}
 use Rattle.snmp_walk.specs.Taken.{is_awaited}
 use Rattle.snmp_walk.proofs.walker.WalkCore.is_reply.Goals as goal
 

@@ -1,7 +1,7 @@
 use Rattle.std.proofs.Common.{◌≡◌, sym, ◌∙◌, ap, subst, arith, List, [], take}
 use Rattle.std.proofs.lemmas.Grind.{common_steps}
 use Rattle.snmp_wire.specs.Message.{VarBind}
-use Rattle.snmp_walk.specs.Taken.{closes, reads_next}
+use Rattle.snmp_walk.specs.Taken.{closes}
 use Rattle.snmp_walk.specs.Reading.{IsFrontOf}
 use Rattle.snmp_walk.specs.declared.walker.Ending.{Ending}
 use Rattle.snmp_walk.proofs.FrontLemmas.{reads_next_by, reads_as}

@@ -1,4 +1,4 @@
-use Rattle.std.proofs.Common.{◌≡◌, ◌∙◌, refl, ap, List, ℕ}
+use Rattle.std.proofs.Common.{◌∙◌, refl, ap, List, ℕ}
 use Rattle.snmp_table.specs.Listing.{variables}
 use Rattle.snmp_walk.specs.Walk.{walk_from}
 use Rattle.snmp_walk.proofs.JoinLemmas.{variables_are}
