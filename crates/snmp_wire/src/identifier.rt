@@ -282,7 +282,7 @@ fn first_size(first: u32, second: u32) -> u64
 /// How many octets numbers take, each as a subidentifier.
 ///
 /// In most names eight short numbers, the row's column among them, stand before the last.
-#[inline]
+#[inline(always)]
 fn numbers_size(numbers: &[u32]) -> u64
     requires { length numbers.now ≤ 128 }
     ensures value { result ≡ length (flat_map canon_subidentifier numbers.now) }
