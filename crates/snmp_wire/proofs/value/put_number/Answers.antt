@@ -1,4 +1,4 @@
-use Rattle.std.proofs.Common.{◌≡◌, ◌≤◌, length, pos, ap, arith, sym, ◌∙◌}
+use Rattle.std.proofs.Common.{length, pos, ap, arith, sym, ◌∙◌}
 use Rattle.snmp_wire.specs.Canon.{canon_number}
 use Rattle.snmp_wire.proofs.CanonLemmas.{length-from_zero, length-octets}
 use Rattle.snmp_wire.proofs.ElementLemmas.{content_fits, header_fits, sized_header_fits, writes_element, writes_sized}
