@@ -378,7 +378,7 @@ pub(crate) fn put_identifier(out: &mut [u8], end: usize, name: &Oid) -> usize
     put_subidentifier(out, start, first_subidentifier(*first, *second))
 }
 
-/// Writes numbers before `end`, each as a subidentifier, and answers where they begin.
+/// Writes numbers before `end`, each as a subidentifier, and answers where they begin. What most are, [`numbers_size`] says.
 #[inline(always)]
 fn put_numbers(out: &mut [u8], end: usize, numbers: &[u32]) -> usize
     requires room { length (flat_map canon_subidentifier numbers.now) ≤ end }

@@ -194,7 +194,7 @@ fn address_size(address: [u8; 4]) -> u64
     address.len() as u64
 }
 
-/// Writes a value before `end`, and answers where it begins.
+/// Writes a value before `end`, its tag (RFC 3416, section 3) with its content, and answers where it begins.
 #[inline]
 #[tactic(auto, using(crate::proofs::ValueWriting::arms), unfolding(crate::specs::Canon::canon_value, crate::specs::Canon::canon_content))]
 pub(crate) fn put_value(out: &mut [u8], end: usize, value: &ValueRef<'_>) -> usize
@@ -237,6 +237,7 @@ fn put_number(out: &mut [u8], end: usize, tag: u8, number: u32) -> usize
     requires within { end ≤ length out.old }
     ensures { Writes out.old result end (canon_element tag (canon_number (pos number))) out.new }
 {
+    // Large ones, as most counters are, have four octets, or five with the zero before a high bit.
     if number < 1 << 23 {
         let start = put_unsigned(out, end, u64::from(number));
         return put_short_header(out, start, tag, (end - start) as u64);
