@@ -66,3 +66,14 @@ content_number z = refl
 pub content_text : (text : List ℕ) → canon_content (octet_string text) ≡ text
 unfolding canon_content
 content_text text = refl
+
+-- the same of a content whose size is known
+pub sized_header_fits : {old mid content : List ℕ} {middle end : ℕ} (tag size : ℕ) → size ≡ length content → Writes old middle end content mid → length (canon_element tag content) ≤ end → length (canon_header tag size) ≤ middle
+sized_header_fits {old} {mid} {content} {middle} {end} tag size e w room =
+    let same : end - middle ≡ size = omega (arith, e, w.begins) in
+    subst (λ (k : ℕ). length (canon_header tag k) ≤ middle) same (header_fits tag w room)
+
+pub writes_sized : {old mid new content : List ℕ} {start middle end : ℕ} (tag size : ℕ) → size ≡ length content → Writes old middle end content mid → Writes mid start middle (canon_header tag size) new → Writes old start end (canon_element tag content) new
+writes_sized {old} {mid} {new} {content} {start} {middle} {end} tag size e w v =
+    let same : size ≡ end - middle = omega (arith, e, w.begins) in
+    writes_element tag w (writes_same v (ap (canon_header tag) same))

@@ -78,3 +78,12 @@ five_octets n h = let zero_octet : n / 256 ^ 4 % 256 ≡ 0 = omega (arith, h) in
 
 pub writes_five_octets : {old mid new : List ℕ} {start middle end : ℕ} (n : ℕ) → 2147483648 ≤ n → n < 2 ^ 32 → Writes old middle end (octets 4 n) mid → Writes mid start middle (0 ∷ []) new → Writes old start end (canon_number (pos n)) new
 writes_five_octets n low high w v = writes_same (writes_then w v) (five_octets n high ∙ ap (λ k. octets k n) (sym (size_five n low high)) ∙ octets_from_zero n)
+
+-- one octet, and two
+pub one_octet : (n : ℕ) → (n % 256) ∷ [] ≡ octets 1 n
+unfolding octets
+one_octet n = ap (λ m. (m % 256) ∷ []) (sym (div-one n))
+
+pub two_octets : (n : ℕ) → (n / 256 % 256) ∷ (n % 256) ∷ [] ≡ octets 2 n
+unfolding octets
+two_octets n = ap (λ m. (n / 256 % 256) ∷ (m % 256) ∷ []) (sym (div-one n))

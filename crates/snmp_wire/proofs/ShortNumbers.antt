@@ -1,14 +1,15 @@
 -- Eight numbers of one octet each.
-use Rattle.std.proofs.Common.{true, nat_lt, ◌≡◌, ℕ, ◌+◌, ◌-◌, ◌*◌, ◌%◌, ◌<◌, ◌≤◌, suc, zero, List, [], ◌∷◌, ◌++◌, length, take, drop, get_or, refl, sym, ap, subst, ◌∙◌, arith, append_assoc, length-append}
+use Rattle.std.proofs.Common.{true, nat_lt, ◌≡◌, ℕ, ◌+◌, ◌-◌, ◌%◌, ◌<◌, ◌≤◌, suc, zero, List, [], ◌∷◌, ◌++◌, length, take, drop, get_or, refl, sym, ap, ◌∙◌, arith, append_assoc, length-append}
 use Rattle.std.specs.List.{flat_map}
 use Rattle.std.specs.Int.Bits.{bit_or}
 use Rattle.std.proofs.lemmas.Bool.Decides.{nat_tests}
+use Rattle.std.proofs.lemmas.List.{drop_all}
 use Rattle.std.proofs.lemmas.Nat.{le_or_l, le_or_r}
 use Rattle.snmp_wire.specs.Canon.{AreShort, canon_subidentifier, eight_from, subidentifier_size}
 use Rattle.snmp_wire.specs.Writing.{Writes}
 use Rattle.snmp_wire.proofs.CanonLemmas.{below_128}
 use Rattle.snmp_wire.proofs.IdentifierWriting.{length-numbers_from, subidentifier_short}
-use Rattle.snmp_wire.proofs.ListWriting.{flat_map-drop, flat_map_rest, piece_fits, writes_piece}
+use Rattle.snmp_wire.proofs.ListWriting.{flat_map-drop, flat_map_rest, piece_fits, writes_no_piece, writes_piece}
 use Rattle.snmp_wire.proofs.WritingLemmas.{writes_same, writes_then}
 
 pub is_below : (n limit : ℕ) → nat_lt n limit ≡ true → n < limit
@@ -77,6 +78,31 @@ cut_at (x ∷ numbers) (suc left) = append_assoc (canon_subidentifier x) (flat_m
 pub length-cut : (numbers : List ℕ) (left : ℕ) → length (flat_map canon_subidentifier numbers) ≡ length (flat_map canon_subidentifier (take left numbers)) + length (flat_map canon_subidentifier (drop left numbers))
 length-cut numbers left = ap length (sym (cut_at numbers left)) ∙ length-append (flat_map canon_subidentifier (take left numbers)) (flat_map canon_subidentifier (drop left numbers))
 
+-- the last number
+last_counted : (numbers : List ℕ) (number : ℕ) → 0 < length numbers → number ≡ get_or numbers (length numbers - 1) 0 → length (flat_map canon_subidentifier (drop (length numbers - 1) numbers)) ≡ subidentifier_size number
+last_counted numbers number some e =
+    let next : length numbers - 1 + 1 ≡ length numbers = omega (arith, some) in
+    let none : length (flat_map canon_subidentifier (drop (length numbers) numbers)) ≡ 0 = ap (λ more. length (flat_map canon_subidentifier more)) (drop_all (length numbers) numbers (omega arith)) in
+    omega (arith, length-numbers_from numbers (length numbers - 1) number (omega (arith, some)) e, at_place numbers (length numbers - 1 + 1) (length numbers) next, none)
+
+-- eight short numbers and one more are the last
+pub nine_counted : (numbers : List ℕ) (number : ℕ) → 9 ≤ length numbers → AreShort numbers (length numbers - 9) → number ≡ get_or numbers (length numbers - 1) 0
+    → length (flat_map canon_subidentifier numbers) ≡ length (flat_map canon_subidentifier (take (length numbers - 9) numbers)) + (8 + subidentifier_size number)
+nine_counted numbers number h s e =
+    let behind : length numbers - 9 + 8 ≡ length numbers - 1 = omega (arith, h) in
+    omega (arith, length-cut numbers (length numbers - 9), eight_counted numbers (length numbers - 9) (omega (arith, h)) s, at_place numbers (length numbers - 9 + 8) (length numbers - 1) behind, last_counted numbers number (omega (arith, h)) e)
+
+pub none_counted : (numbers : List ℕ) → length numbers ≡ 9 → length (flat_map canon_subidentifier (take (length numbers - 9) numbers)) ≡ 0
+none_counted numbers e = let none : length numbers - 9 ≡ 0 = omega (arith, e) in ap (λ k. length (flat_map canon_subidentifier (take k numbers))) none
+
+-- the last number before nothing
+pub writes_last : {old new : List ℕ} {start end : ℕ} (numbers : List ℕ) (number : ℕ) → 0 < length numbers → number ≡ get_or numbers (length numbers - 1) 0
+    → Writes old start end (canon_subidentifier number) new → Writes old start end (flat_map canon_subidentifier (drop (length numbers - 1) numbers)) new
+writes_last {old} {new} {start} {end} numbers number some e w = writes_piece canon_subidentifier numbers (length numbers) number 0 some (omega arith) e (writes_no_piece canon_subidentifier numbers old end) w
+
+pub last_fits : (numbers : List ℕ) (number end : ℕ) → 0 < length numbers → number ≡ get_or numbers (length numbers - 1) 0 → length (flat_map canon_subidentifier numbers) ≤ end → length (canon_subidentifier number) ≤ end
+last_fits numbers number end some e room = piece_fits canon_subidentifier numbers (length numbers) number 0 some (omega arith) e (writes_no_piece canon_subidentifier numbers [] end) room
+
 -- eight octets more before those that are written
 pub writes_eight : {old mid new : List ℕ} {start middle end : ℕ} (numbers : List ℕ) (from left : ℕ) → from + 8 ≡ left → left ≤ length numbers → AreShort numbers from
     → Writes old middle end (flat_map canon_subidentifier (drop left numbers)) mid → Writes mid start middle (eight_from numbers from) new → Writes old start end (flat_map canon_subidentifier (drop from numbers)) new
@@ -90,8 +116,8 @@ eight_fit numbers from left e h s w room =
     omega (arith, eight_counted numbers from (omega (arith, e, h)) s, at_place numbers (from + 8) left e, flat_map_rest canon_subidentifier numbers from, w.begins)
 
 -- what the others take is before those that are written
-pub few_fit : {old mid : List ℕ} {middle end : ℕ} (numbers : List ℕ) (left : ℕ) → Writes old middle end (flat_map canon_subidentifier (drop left numbers)) mid → length (flat_map canon_subidentifier numbers) ≤ end → length (flat_map canon_subidentifier (take left numbers)) ≤ middle
-few_fit numbers left w room = omega (arith, length-cut numbers left, w.begins)
+pub others_fit : {old mid : List ℕ} {middle end : ℕ} (numbers : List ℕ) (left : ℕ) → Writes old middle end (flat_map canon_subidentifier (drop left numbers)) mid → length (flat_map canon_subidentifier numbers) ≤ end → length (flat_map canon_subidentifier (take left numbers)) ≤ middle
+others_fit numbers left w room = omega (arith, length-cut numbers left, w.begins)
 
-pub writes_few : {old mid new : List ℕ} {start middle end : ℕ} (numbers : List ℕ) (left : ℕ) → Writes old middle end (flat_map canon_subidentifier (drop left numbers)) mid → Writes mid start middle (flat_map canon_subidentifier (take left numbers)) new → Writes old start end (flat_map canon_subidentifier numbers) new
-writes_few numbers left w v = writes_same (writes_then w v) (cut_at numbers left)
+pub writes_others : {old mid new : List ℕ} {start middle end : ℕ} (numbers : List ℕ) (left : ℕ) → Writes old middle end (flat_map canon_subidentifier (drop left numbers)) mid → Writes mid start middle (flat_map canon_subidentifier (take left numbers)) new → Writes old start end (flat_map canon_subidentifier numbers) new
+writes_others numbers left w v = writes_same (writes_then w v) (cut_at numbers left)

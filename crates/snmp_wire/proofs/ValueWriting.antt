@@ -1,10 +1,9 @@
 -- Values as they are written: an element each.
-use Rattle.std.proofs.Common.{◌≡◌, ℕ, ℤ, pos, ◌+◌, ◌-◌, ◌<◌, ◌≤◌, List, [], ◌∷◌, ◌++◌, length, refl, sym, ap, ◌∙◌, arith, append-nil, length-append}
+use Rattle.std.proofs.Common.{ℕ, ℤ, ◌-◌, ◌<◌, ◌≤◌, List, [], length, sym, arith, append-nil, length-append}
 use Rattle.std.proofs.lemmas.Int.{to_z-of_z}
-use Rattle.snmp_wire.specs.Canon.{canon_element, canon_header, canon_number, digit_count, magnitude_of, number_size}
+use Rattle.snmp_wire.specs.Canon.{canon_element, canon_header, canon_number, magnitude_of, number_size}
 use Rattle.snmp_wire.specs.Writing.{Writes}
 use Rattle.snmp_wire.proofs.CanonLemmas.{digit_most, length-canon_number}
-use Rattle.snmp_wire.proofs.ElementLemmas.{header_fits, writes_element}
 use Rattle.snmp_wire.proofs.WritingLemmas.{writes_same}
 
 pub number_most : (n : ℕ) → number_size n ≤ 9

@@ -357,30 +357,27 @@ fn first_size(first: u32, second: u32) -> u64
 
 /// How many octets numbers take, each as a subidentifier.
 ///
-/// In most names eight short numbers, the row's column among them, stand before the last.
-#[inline]
+/// In most names eight short numbers, the column among them, stand before the last.
+#[inline(always)]
 fn numbers_size(numbers: &[u32]) -> u64
     requires { length numbers.now ≤ 128 }
     ensures value { result ≡ length (flat_map canon_subidentifier numbers.now) }
     ensures small { result ≤ 5 * length numbers.now }
 {
-    let mut size = 0;
-    let mut left = numbers.len();
-    'numbers: while left > 8 {
-        if are_short(numbers, left - 9) {
-            size += 8 + septets_size(u64::from(numbers[left - 1])) as u64;
-            left -= 9;
-        } else {
-            left -= 1;
-            size += septets_size(u64::from(numbers[left])) as u64;
-        }
+    let count = numbers.len();
+    if count < 9 || !are_short(numbers, count - 9) {
+        return other_numbers_size(numbers);
     }
-    size + few_numbers_size(&numbers[..left])
+    let size = 8 + septets_size(u64::from(numbers[count - 1])) as u64;
+    if count == 9 {
+        return size;
+    }
+    size + other_numbers_size(&numbers[..count - 9])
 }
 
-/// How many octets numbers take, each as a subidentifier, where they are few.
-#[inline]
-fn few_numbers_size(numbers: &[u32]) -> u64
+/// How many octets numbers take, each as a subidentifier, whatever they are.
+#[inline(never)]
+fn other_numbers_size(numbers: &[u32]) -> u64
     requires { length numbers.now ≤ 128 }
     ensures value { result ≡ length (flat_map canon_subidentifier numbers.now) }
     ensures small { result ≤ 5 * length numbers.now }
@@ -457,30 +454,28 @@ pub(crate) fn put_identifier(out: &mut [u8], end: usize, name: &Oid) -> usize
     put_subidentifier(out, start, first_subidentifier(*first, *second))
 }
 
-/// Writes numbers before `end`, each as a subidentifier, and answers where they begin.
+/// Writes numbers before `end`, each as a subidentifier, and answers where they begin. What most are, [`numbers_size`] says.
 #[inline(always)]
 fn put_numbers(out: &mut [u8], end: usize, numbers: &[u32]) -> usize
     requires room { length (flat_map canon_subidentifier numbers.now) ≤ end }
     requires within { end ≤ length out.old }
     ensures { Writes out.old result end (flat_map canon_subidentifier numbers.now) out.new }
 {
-    let mut start = end;
-    let mut left = numbers.len();
-    'numbers: while left > 8 {
-        left -= 1;
-        let is_short = are_short(numbers, left - 8);
-        start = put_subidentifier(out, start, u64::from(numbers[left]));
-        if is_short {
-            left -= 8;
-            start = put_eight(out, start, numbers, left);
-        }
+    let count = numbers.len();
+    if count < 9 || !are_short(numbers, count - 9) {
+        return put_other_numbers(out, end, numbers);
     }
-    put_few_numbers(out, start, &numbers[..left])
+    let last = put_subidentifier(out, end, u64::from(numbers[count - 1]));
+    let start = put_eight(out, last, numbers, count - 9);
+    if count == 9 {
+        return start;
+    }
+    put_other_numbers(out, start, &numbers[..count - 9])
 }
 
-/// Writes numbers before `end`, each as a subidentifier, where they are few, and answers where they begin.
-#[inline]
-fn put_few_numbers(out: &mut [u8], end: usize, numbers: &[u32]) -> usize
+/// Writes numbers before `end`, each as a subidentifier, whatever they are, and answers where they begin.
+#[inline(never)]
+fn put_other_numbers(out: &mut [u8], end: usize, numbers: &[u32]) -> usize
     requires room { length (flat_map canon_subidentifier numbers.now) ≤ end }
     requires within { end ≤ length out.old }
     ensures { Writes out.old result end (flat_map canon_subidentifier numbers.now) out.new }

@@ -172,27 +172,9 @@ pub(crate) fn put_unsigned(out: &mut [u8], end: usize, number: u64) -> usize
     put_octets(out, end, unsigned_size(number), number)
 }
 
-/// Writes a number of 32 bits before `end`, and answers where it begins.
-#[inline]
-pub(crate) fn put_unsigned32(out: &mut [u8], end: usize, number: u32) -> usize
-    requires room { number_size number ≤ end }
-    requires within { end ≤ length out.old }
-    ensures { Writes out.old result end (canon_number (pos number)) out.new }
-{
-    if number < 1 << 23 {
-        return put_unsigned(out, end, u64::from(number));
-    }
-    let start = put_four(out, end, number);
-    if number < 1 << 31 {
-        start
-    } else {
-        put_octet(out, start, 0)
-    }
-}
-
 /// Writes the four octets of a number before `end`, and answers where they begin.
 #[inline]
-fn put_four(out: &mut [u8], end: usize, number: u32) -> usize
+pub(crate) fn put_four(out: &mut [u8], end: usize, number: u32) -> usize
     requires room { 4 ≤ end }
     requires within { end ≤ length out.old }
     ensures { Writes out.old result end (octets 4 number) out.new }
@@ -226,6 +208,23 @@ fn sign_extended(number: i32) -> u64
 /// Writes the lowest `count` octets of a number before `end`, and answers where they begin.
 #[inline]
 pub(crate) fn put_octets(out: &mut [u8], end: usize, count: usize, number: u64) -> usize
+    requires room { count ≤ end }
+    requires within { end ≤ length out.old }
+    ensures { Writes out.old result end (octets count number) out.new }
+{
+    match count {
+        // Most are one or two, and need no loop.
+        1 => put_octet(out, end, (number % 256) as u8),
+        2 => {
+            let last = put_octet(out, end, (number % 256) as u8);
+            put_octet(out, last, (number / 256 % 256) as u8)
+        }
+        _ => put_many_octets(out, end, count, number),
+    }
+}
+
+/// Writes the lowest `count` octets of a number before `end`, however many they are, and answers where they begin.
+fn put_many_octets(out: &mut [u8], end: usize, count: usize, number: u64) -> usize
     requires room { count ≤ end }
     requires within { end ≤ length out.old }
     ensures { Writes out.old result end (octets count number) out.new }

@@ -12,10 +12,10 @@ use crate::error::allowed;
 use crate::identifier::{check_identifier, identifier_of, identifier_size, put_identifier};
 use crate::length::{put_header, put_short_header};
 use crate::number::{
-    has_width, integer_of, integer_size, put_integer, put_unsigned, put_unsigned32, unsigned_size,
+    has_width, integer_of, integer_size, put_four, put_integer, put_unsigned, unsigned_size,
     unsigned32, unsigned32_size, unsigned64,
 };
-use crate::writing::put_text;
+use crate::writing::{put_octet, put_text};
 use snmp_oid::Oid;
 
 /// A value, or an exception in its place (RFC 3416, section 3). Its strings lie in the datagram that it was read from.
@@ -204,7 +204,7 @@ fn address_size(address: [u8; 4]) -> u64
     address.len() as u64
 }
 
-/// Writes a value before `end`, and answers where it begins.
+/// Writes a value before `end`, its tag (RFC 3416, section 3) with its content, and answers where it begins.
 #[inline]
 #[tactic(auto, using(crate::proofs::ValueWriting::arms), unfolding(crate::specs::Canon::canon_value, crate::specs::Canon::canon_content))]
 pub(crate) fn put_value(out: &mut [u8], end: usize, value: &ValueRef<'_>) -> usize
@@ -247,8 +247,18 @@ fn put_number(out: &mut [u8], end: usize, tag: u8, number: u32) -> usize
     requires within { end ≤ length out.old }
     ensures { Writes out.old result end (canon_element tag (canon_number (pos number))) out.new }
 {
-    let start = put_unsigned32(out, end, number);
-    put_short_header(out, start, tag, (end - start) as u64)
+    // Large ones, as most counters are, have four octets, or five with the zero before a high bit.
+    if number < 1 << 23 {
+        let start = put_unsigned(out, end, u64::from(number));
+        return put_short_header(out, start, tag, (end - start) as u64);
+    }
+    let start = put_four(out, end, number);
+    if number < 1 << 31 {
+        put_short_header(out, start, tag, 4)
+    } else {
+        let start = put_octet(out, start, 0);
+        put_short_header(out, start, tag, 5)
+    }
 }
 
 /// Writes a number of 64 bits before `end`, as an element of this tag, and answers where it begins.

@@ -1,20 +1,11 @@
-use Rattle.std.proofs.Common.{arith}
-use Rattle.snmp_wire.proofs.CanonLemmas.{writes_no_digit, rest-none, writes_digit, rest_digits, all_digits}
+use Rattle.std.proofs.Common.{ap, sym, ◌∙◌}
+use Rattle.snmp_wire.specs.Canon.{octets}
+use Rattle.snmp_wire.proofs.NumberWriting.{one_octet, two_octets}
+use Rattle.snmp_wire.proofs.WritingLemmas.{writes_same, writes_then}
 use Rattle.snmp_wire.proofs.number.put_octets.Goals as goal
 
-pub octets-init : goal.octets-init
-octets-init c = record {
-  above = omega arith;
-  written = writes_no_digit c.args.out.now c.args.end c.args.number;
-  rest = rest-none c.args.end c.args.number;
-}
+pub returns-in-1 : goal.returns-in-1
+returns-in-1 c = writes_same c.put_octet.ensures (one_octet c.args.number ∙ ap (λ count. octets count c.args.number) (sym c.in-1.is))
 
-pub octets-preserved : goal.octets-preserved
-octets-preserved c = record {
-  above = omega arith;
-  written = writes_digit c.args.out.now c.octets.out c.octets.at c.args.end c.args.number c.octets.rest c.octets.invariant.written c.octets.invariant.rest (omega arith) c.octets.auto.at (omega arith);
-  rest = rest_digits c.octets.at c.args.end c.args.number c.octets.rest c.octets.invariant.rest (omega arith) c.octets.auto.at;
-}
-
-pub returns : goal.returns
-returns c = all_digits c.args.out.now c.octets.out c.octets.at c.args.end c.args.count c.args.number c.octets.invariant.written (omega arith) c.requires.room
+pub returns-in-2 : goal.returns-in-2
+returns-in-2 c = writes_same (writes_then c.put_octet-last.ensures c.put_octet-in-2.ensures) (two_octets c.args.number ∙ ap (λ count. octets count c.args.number) (sym c.in-2.is))

@@ -2,7 +2,7 @@ use Rattle.std.proofs.Common.{◌≤◌, length, drop}
 use Rattle.std.specs.List.{flat_map}
 use Rattle.snmp_wire.specs.Canon.{canon_subidentifier}
 use Rattle.snmp_wire.specs.Writing.{Writes}
-use Rattle.snmp_wire.proofs.identifier.put_numbers.Given as goal
+use Rattle.snmp_wire.proofs.identifier.put_other_numbers.Given as goal
 
 -- the numbers from this one on are written
 abbrev pub invariant-numbers : goal.invariant-numbers

@@ -2,7 +2,7 @@ use Rattle.std.proofs.Common.{◌≡◌, ◌+◌, ◌-◌, length, drop, ap, ari
 use Rattle.std.specs.List.{flat_map}
 use Rattle.snmp_wire.specs.Canon.{canon_subidentifier}
 use Rattle.snmp_wire.proofs.IdentifierWriting.{length-numbers_from}
-use Rattle.snmp_wire.proofs.identifier.few_numbers_size.Goals as goal
+use Rattle.snmp_wire.proofs.identifier.other_numbers_size.Goals as goal
 
 pub numbers-preserved : goal.numbers-preserved
 numbers-preserved c =

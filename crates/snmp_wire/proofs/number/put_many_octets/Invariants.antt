@@ -1,7 +1,7 @@
 use Rattle.std.proofs.Common.{◌≡◌, ◌-◌, ◌/◌, ◌^◌, ◌≤◌}
 use Rattle.snmp_wire.specs.Canon.{octets}
 use Rattle.snmp_wire.specs.Writing.{Writes}
-use Rattle.snmp_wire.proofs.number.put_octets.Given as goal
+use Rattle.snmp_wire.proofs.number.put_many_octets.Given as goal
 
 -- the lowest digits are written, and `rest` has the others
 abbrev pub invariant-octets : goal.invariant-octets

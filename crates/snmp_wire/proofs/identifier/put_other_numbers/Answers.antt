@@ -2,7 +2,7 @@ use Rattle.std.proofs.Common.{[], ◌∷◌, refl, arith}
 use Rattle.snmp_wire.specs.Canon.{canon_subidentifier}
 use Rattle.snmp_wire.proofs.IdentifierWriting.{four_fit, writes_four}
 use Rattle.snmp_wire.proofs.ListWriting.{piece_fits, writes_piece}
-use Rattle.snmp_wire.proofs.identifier.put_few_numbers.Goals as goal
+use Rattle.snmp_wire.proofs.identifier.put_other_numbers.Goals as goal
 
 pub put_text-start-requires-clause-room : goal.put_text-start-requires-clause-room
 put_text-start-requires-clause-room c =

@@ -1,7 +1,7 @@
 use Rattle.std.proofs.Common.{◌≡◌, ◌+◌, ◌*◌, ◌≤◌, length, drop}
 use Rattle.std.specs.List.{flat_map}
 use Rattle.snmp_wire.specs.Canon.{canon_subidentifier}
-use Rattle.snmp_wire.proofs.identifier.numbers_size.Given as goal
+use Rattle.snmp_wire.proofs.identifier.other_numbers_size.Given as goal
 
 -- the octets of the numbers from this one on are counted
 abbrev pub invariant-numbers : goal.invariant-numbers
