@@ -1,5 +1,6 @@
 #!/usr/bin/env bash
-# Counts the instructions (callgrind) and the peak memory of reading a table file of 25,000, 50,000 and 100,000 rows in no order, by a walk that begins behind all of them.
+# Counts the instructions (callgrind) and the peak memory of reading a table file of 25,000, 50,000 and 100,000 rows in no order, by a walk that begins behind all of them;
+# and what each row costs more by a walk over all of them, its request, its reply and its line included.
 # An n log n reading takes little more than twice as many for twice the rows.
 set -euo pipefail
 top=$(cd "$(dirname "${BASH_SOURCE[0]}")/.." && pwd)
@@ -15,9 +16,10 @@ rows = [f"1.3.6.1.4.1.32473.1.{i // 100}.{i % 100}|2|{i}" for i in range(int(sys
 random.Random(1).shuffle(rows)
 print("\n".join(rows))
 ROWS
-    valgrind --tool=callgrind --callgrind-out-file=out "$program" snmpwalk -On table:table.tab .2.5 > answer 2> log
-    awk -v rows="$rows" -v n="$(sed -n 's/^summary: //p' out)" -v octets="$(stat -c %s table.tab)" \
-        'BEGIN { printf "%d rows, %d octets: %d instructions, %.0f for each row\n", rows, octets, n, n / rows }'
+    valgrind --tool=callgrind --callgrind-out-file=none "$program" snmpwalk -On table:table.tab .2.5 > answer 2> log
+    valgrind --tool=callgrind --callgrind-out-file=all "$program" snmpwalk -On table:table.tab .1.3.6.1.4.1.32473.1 > answer 2> log
+    awk -v rows="$rows" -v n="$(sed -n 's/^summary: //p' none)" -v m="$(sed -n 's/^summary: //p' all)" -v octets="$(stat -c %s table.tab)" \
+        'BEGIN { printf "%d rows, %d octets: %d instructions, %.0f for each row; %.0f more for each row that is walked\n", rows, octets, n, n / rows, (m - n) / rows }'
 done
 python3 - "$program" <<'MEMORY'
 import resource, subprocess, sys
