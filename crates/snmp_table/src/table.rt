@@ -193,7 +193,7 @@ fn read_first_or_end<'a>(rows: &'a [Row], binding: &mut Binding<'a>)
 {
     match rows.first() {
         Some(row) => row.read_into(binding),
-        None => set_end(&mut binding.value),
+        None => binding.value = ValueRef::EndOfMibView,
     }
 }
 
