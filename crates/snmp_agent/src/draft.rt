@@ -6,7 +6,7 @@ ghost use Rattle.snmp_wire.specs.Parts.{parts_message};
 ghost use Rattle.snmp_agent.specs.Reply.{AreAnswers};
 ghost use Rattle.snmp_agent.specs.Answering.{IsPaired, IsAnswer, IsWritable, AreWritable, IsShortValue, IsDraft, IsRoom, PassesLimit, whole_size};
 
-use snmp_table::Table;
+use snmp_table::{Place, Table};
 use snmp_wire::{
     Binding, Bindings, Kind, Oid, Parts, ValueRef, encode_binding, encode_head, head_size,
 };
@@ -59,7 +59,7 @@ fn answer_to<'a>(table: &'a Table, kind: Kind, binding: &mut Binding<'a>)
 {
     match kind {
         Kind::GetRequest => binding.value = table.get(&binding.name),
-        Kind::GetNextRequest => *binding = table.next(&binding.name),
+        Kind::GetNextRequest => table.advance(binding, &mut Place::default()),
         _ => {}
     }
 }

@@ -1,10 +1,10 @@
 -- Lines that state a table have no fault.
-use Rattle.std.proofs.Common.{◌≡◌, ◌⊎◌, inl, inr, ℕ, List, [], ◌∷◌, ◌++◌, refl, sym, ◌∙◌, ap, subst, arith, codes}
+use Rattle.std.proofs.Common.{◌≡◌, inl, inr, ℕ, List, [], ◌∷◌, ◌++◌, refl, sym, ◌∙◌, ap, subst, arith, codes}
 use Rattle.snmp_wire.specs.Message.{VarBind}
 use Rattle.snmp_table.specs.declared.error.TableError.{TableError}
 use Rattle.snmp_table.specs.declared.error.TableError.TheVariants as error
 use Rattle.snmp_table.specs.Text.{Statement, nothing, object_prefix, instance, States, IsBlank, IsObjectLine, IsObjectText, IsInstanceText, IsValueText, IsBadLine, IsBadName, IsBadValue}
-use Rattle.snmp_table.specs.Stated.{IsStated, AllState, IsNewName, NamesDiffer, AreGood, IsDouble, IsFirstFault}
+use Rattle.snmp_table.specs.Stated.{IsStated, AllState, NamesDiffer, AreGood, IsFirstFault}
 use Rattle.snmp_table.proofs.Statements.{same_rows}
 
 -- the first octet, and 0 of none

@@ -5,6 +5,7 @@ ghost use Rattle.std.specs.Ordering.{nat_cmp};
 ghost use Rattle.std.specs.Cmp.Lexicographic.{slice_cmp};
 ghost use Rattle.std.specs.FinMap.{find};
 ghost use Rattle.snmp_wire.specs.Message.{datum, var_bind};
+ghost use Rattle.snmp_wire.specs.Message.Datum.{end_of_mib_view};
 ghost use Rattle.snmp_table.specs.Row.{entry_of, datum_of, IsShortRow};
 ghost use Rattle.snmp_table.specs.Places.{IsRising, IsBeforeNone, IsBeforeAll, is_up_to, bindings_of, last_name, HasBeginning};
 ghost use Rattle.snmp_table.specs.Listing.{nth_or_end};
@@ -90,18 +91,17 @@ impl Table {
         }
     }
 
-    /// The answer to a GetNext of the name: the first row behind it, else the name itself with `EndOfMibView` (RFC 3416, section 4.2.2).
-    pub fn next(&self, name: &Oid) -> Binding<'_>
-        ensures answer { IsNext self.now name.now (var_bind result) }
-        ensures name { IsWire name.now → IsWire result.name }
-        ensures value { IsAnswerValue (datum result.value) }
+    /// Makes a binding the answer to a GetNext of its name: the first row behind it, else the name itself with `EndOfMibView` (RFC 3416, section 4.2.2).
+    /// Where the call before gave that name, at `place`, nothing has to be searched.
+    pub fn advance<'a>(&'a self, binding: &mut Binding<'a>, place: &mut Place)
+        ensures answer { IsNext self.now binding.old.name (var_bind binding.new) }
+        ensures name { IsWire binding.old.name → IsWire binding.new.name }
+        ensures value { IsAnswerValue (datum binding.new.value) }
     {
-        let mut binding = Binding {
-            name: Oid::new(),
-            value: ValueRef::Null,
-        };
-        self.read_next_after(name, 0, &mut binding);
-        binding
+        let rows = self.rows.as_slice();
+        let (passed, behind) = rows.split_at(place_near(rows, binding.name.as_slice(), *place));
+        place.row = passed.len();
+        read_first_or_end(behind, binding);
     }
 
     /// Makes a binding that is there the answer to a GetNext that is asked again, `rounds` times more, from the name that it gave, as a GetBulk does (RFC 3416, section 4.2.3).
@@ -113,18 +113,6 @@ impl Table {
         let rows = self.rows.as_slice();
         let (_, behind) = rows.split_at(place_behind(rows, name.as_slice()));
         read_nth_or_end(behind, name, rounds, into);
-    }
-
-    /// Makes a binding the answer to a GetNext of its name. Where `place` is where the call before gave that name, nothing has to be searched.
-    pub fn advance<'a>(&'a self, binding: &mut Binding<'a>, place: &mut Place)
-        ensures answer { IsNext self.now binding.old.name (var_bind binding.new) }
-        ensures name { IsWire binding.old.name → IsWire binding.new.name }
-        ensures value { IsAnswerValue (datum binding.new.value) }
-    {
-        let rows = self.rows.as_slice();
-        let (passed, behind) = rows.split_at(place_near(rows, binding.name.as_slice(), *place));
-        place.row = passed.len();
-        read_first_or_end(behind, binding);
     }
 }
 
@@ -218,8 +206,17 @@ fn read_nth_or_end<'a>(rows: &'a [Row], name: &Oid, place: usize, into: &mut Bin
         Some(row) => row.read_into(into),
         None => {
             set_name(&mut into.name, last_name(rows, name.as_slice()));
-            into.value = ValueRef::EndOfMibView;
+            set_end(&mut into.value);
         }
+    }
+}
+
+/// Makes a value that is there `EndOfMibView`. Where it is that already, this saves setting over 500 octets.
+fn set_end(value: &mut ValueRef<'_>)
+    ensures { datum value.new ≡ end_of_mib_view }
+{
+    if !matches!(value, ValueRef::EndOfMibView) {
+        *value = ValueRef::EndOfMibView;
     }
 }
 

@@ -1,7 +1,7 @@
 //! The worked examples of tables: what their lines give, and each fault with its line.
 
-use crate::{Table, TableError};
-use snmp_wire::{ValueRef, parse_numeric};
+use crate::{Place, Table, TableError};
+use snmp_wire::{Binding, Oid, ValueRef, parse_numeric};
 use std::alloc::{AllocError, Global};
 use std::process::Abort;
 use std::test::Fail;
@@ -10,29 +10,65 @@ use std::test::Fail;
 const ROWS: &[u8] =
     b"# three rows\r\nobject 1.3.6.1.4.1.32473.1\n\n1.3.6.1.4.1.32473.1.10.0|2|3\r\n1.3.6.1.4.1.32473.1.2.0|4|wes\n.1.3.6.1.4.1.32473.1.1.0|2|1";
 
+/// The answer to a GetNext of the name.
+fn next<'a>(table: &'a Table, name: &Oid) -> Binding<'a> {
+    let mut binding = Binding {
+        name: Oid::new(),
+        value: ValueRef::Null,
+    };
+    table.read_next_after(name, 0, &mut binding);
+    binding
+}
+
 #[test]
 fn rows_are_in_order(rt: HostRuntime) -> Result<(), Fail> {
     let table = Table::read(rt.alloc(), ROWS)?;
     let root = parse_numeric(b"1.3.6.1.4.1.32473.1")?;
-    let first = table.next(&root);
+    let first = next(&table, &root);
     assert_eq!(rt; first.name, parse_numeric(b"1.3.6.1.4.1.32473.1.1.0")?);
     assert_eq!(rt; first.value, ValueRef::Integer(1));
-    let second = table.next(&first.name);
+    let second = next(&table, &first.name);
     assert_eq!(rt; second.name, parse_numeric(b"1.3.6.1.4.1.32473.1.2.0")?);
     assert_eq!(rt; second.value, ValueRef::Octets(b"wes"));
-    let mut last = table.next(&second.name);
+    let mut last = next(&table, &second.name);
     table.read_next_after(&root, 2, &mut last);
     assert_eq!(rt; last.name, parse_numeric(b"1.3.6.1.4.1.32473.1.10.0")?);
     assert_eq!(rt; last.value, ValueRef::Integer(3));
-    let mut end = table.next(&last.name);
+    let mut end = next(&table, &last.name);
     table.read_next_after(&root, 3, &mut end);
     assert_eq!(rt; end.name, last.name);
     assert_eq!(rt; end.value, ValueRef::EndOfMibView);
     let past = parse_numeric(b"2.100.3")?;
-    let mut beyond = table.next(&past);
+    let mut beyond = next(&table, &past);
     table.read_next_after(&past, 7, &mut beyond);
     assert_eq!(rt; beyond.name, past);
     assert_eq!(rt; beyond.value, ValueRef::EndOfMibView);
+    Ok(())
+}
+
+#[test]
+fn a_binding_walks_along_the_rows(rt: HostRuntime) -> Result<(), Fail> {
+    let table = Table::read(rt.alloc(), ROWS)?;
+    let mut binding = Binding {
+        name: parse_numeric(b"1.3.6.1.4.1.32473.1")?,
+        value: ValueRef::Null,
+    };
+    let mut place = Place::default();
+    for (name, value) in [
+        (b"1.3.6.1.4.1.32473.1.1.0".as_slice(), ValueRef::Integer(1)),
+        (b"1.3.6.1.4.1.32473.1.2.0", ValueRef::Octets(b"wes")),
+        (b"1.3.6.1.4.1.32473.1.10.0", ValueRef::Integer(3)),
+        (b"1.3.6.1.4.1.32473.1.10.0", ValueRef::EndOfMibView),
+        (b"1.3.6.1.4.1.32473.1.10.0", ValueRef::EndOfMibView),
+    ] {
+        table.advance(&mut binding, &mut place);
+        assert_eq!(rt; binding.name, parse_numeric(name)?);
+        assert_eq!(rt; binding.value, value);
+    }
+    // The place is a hint alone: from another name the answer is that name's.
+    binding.name = parse_numeric(b"1.3.6.1.4.1.32473.1.1")?;
+    table.advance(&mut binding, &mut place);
+    assert_eq!(rt; binding.value, ValueRef::Integer(1));
     Ok(())
 }
 
@@ -203,7 +239,7 @@ fn names_have_128_numbers_at_most(rt: HostRuntime) -> Result<(), Fail> {
     let longest = repeated(rt.alloc(), b"1.3.6", b".4294967295", 125, b"|2|1")?;
     let table = Table::read(rt.alloc(), longest.as_slice())?;
     let root = parse_numeric(b"1.3.6")?;
-    assert_eq!(rt; table.next(&root).name.len(), 128);
+    assert_eq!(rt; next(&table, &root).name.len(), 128);
     let longer = repeated(rt.alloc(), b"1.3.6", b".4294967295", 126, b"|2|1")?;
     assert_eq!(rt;
         Table::read(rt.alloc(), longer.as_slice()).err(),

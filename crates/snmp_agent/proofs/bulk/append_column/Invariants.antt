@@ -1,4 +1,4 @@
-use Rattle.std.proofs.Common.{◌≡◌, ℕ, ◌+◌, List, [], ◌∷◌, ◌++◌}
+use Rattle.std.proofs.Common.{List, [], ◌∷◌}
 use Rattle.snmp_wire.specs.Message.{VarBind, var_bind}
 use Rattle.snmp_table.specs.Table.{IsNext, IsNextAfter}
 use Rattle.snmp_agent.specs.Reply.{joined}

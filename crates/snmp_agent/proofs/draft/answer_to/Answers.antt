@@ -6,4 +6,4 @@ pub returns-in-GetRequest-clause-writable : goal.returns-in-GetRequest-clause-wr
 returns-in-GetRequest-clause-writable c = record { name = c.requires.writable.name; value = answer_value (datum c.get-binding.result) c.get-binding.ensures.value }
 
 pub returns-in-GetNextRequest-clause-writable : goal.returns-in-GetNextRequest-clause-writable
-returns-in-GetNextRequest-clause-writable c = record { name = c.next.ensures.name c.requires.writable.name; value = answer_value (datum c.next.result.value) c.next.ensures.value }
+returns-in-GetNextRequest-clause-writable c = record { name = c.advance.ensures.name c.requires.writable.name; value = answer_value (datum c.advance.new.binding.value) c.advance.ensures.value }

@@ -1,4 +1,4 @@
-use Rattle.std.proofs.Common.{◌≡◌, length, take, drop, map, Some, refl, sym, ◌∙◌, subst, suc, ◌+◌, ℕ, List, add-one}
+use Rattle.std.proofs.Common.{◌≡◌, length, take, drop, map, Some, refl, sym, subst, suc, ◌+◌, ℕ, List, add-one}
 use Rattle.std.specs.Bool.{Decides}
 use Rattle.std.specs.List.{slice_get}
 use Rattle.std.proofs.lemmas.Bool.Decides.{Decides-eqb}
