@@ -95,6 +95,16 @@ fn is_changed<'a>(tag: u8, content: &'a [u8], value: &mut ValueRef<'a>) -> bool
     ensures { result ≡ true → reading.value_of tag content.now ≡ Ok (datum value.new) }
 {
     match value {
+        ValueRef::Null => return tag == 0x05,
+        ValueRef::Integer(number) => {
+            if tag == 0x02 {
+                match integer_of(content) {
+                    Ok(read) => *number = read,
+                    Err(_) => unreachable!(),
+                }
+                return true;
+            }
+        }
         ValueRef::Octets(text) => {
             if tag == 0x04 {
                 *text = content;
