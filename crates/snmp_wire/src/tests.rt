@@ -1,4 +1,7 @@
 //! Recorded messages, right and wrong ones.
+ghost use Rattle.std.specs.Prelude.{◌≡◌, true};
+ghost use Rattle.snmp_wire.specs.Fault.{IsFault};
+
 use super::*;
 use std::alloc::Global;
 use std::process::Abort;
@@ -21,6 +24,20 @@ const RESPONSE: [u8; 43] = [
 /// Asserts that the octets are refused so.
 fn assert_refused(rt: &impl Abort, datagram: &[u8], error: BerError) {
     assert_eq!(rt; decode(datagram).err(), Some(error));
+}
+
+/// Whether the octets spell a message, so that the sentence of no error is true of them.
+fn is_faultless(datagram: &[u8]) -> bool
+    ensures { result ≡ true → (error : BerError) → IsFault error datagram.now → ⊥ }
+{
+    decode(datagram).is_ok()
+}
+
+/// No error's sentence is true everywhere: here are octets of which each is false.
+#[test]
+fn no_error_is_true_of_a_request(rt: HostRuntime) {
+    assert!(rt; is_faultless(&REQUEST));
+    assert!(rt; is_faultless(&RESPONSE));
 }
 
 /// Asserts that the octets spell the message of `REQUEST`.
