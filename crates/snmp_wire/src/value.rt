@@ -78,13 +78,35 @@ pub(crate) fn read_value<'a>(tag: u8, content: &'a [u8], into: &mut ValueRef<'a>
     }
 }
 
-/// [`read_value`] over a value of whatever type. It stands apart since a value is made here, and all its octets are moved.
+/// [`read_value`] over a value of whatever type. It stands apart since here all octets of a value are set.
+#[tactic(auto, unfolding(crate::specs::Reading::value_of, crate::specs::Reading::unsigned_of))]
 #[inline(never)]
 fn replace_value<'a>(tag: u8, content: &'a [u8], into: &mut ValueRef<'a>)
     requires { IsOk (reading.value_of tag content.now) }
     ensures { reading.value_of tag content.now ≡ Ok (datum into.new) }
 {
-    *into = value_of(tag, content);
+    match tag {
+        0x02 => match integer_of(content) {
+            Ok(number) => *into = ValueRef::Integer(number),
+            Err(_) => unreachable!(),
+        },
+        0x04 => *into = ValueRef::Octets(content),
+        0x05 => *into = ValueRef::Null,
+        0x06 => *into = ValueRef::ObjectId(identifier_of(content)),
+        0x40 => match content {
+            [a, b, c, d] => *into = ValueRef::IpAddress([*a, *b, *c, *d]),
+            _ => unreachable!(),
+        },
+        0x41 => *into = ValueRef::Counter32(unsigned32(content)),
+        0x42 => *into = ValueRef::Gauge32(unsigned32(content)),
+        0x43 => *into = ValueRef::TimeTicks(unsigned32(content)),
+        0x44 => *into = ValueRef::Opaque(content),
+        0x46 => *into = ValueRef::Counter64(unsigned64(content)),
+        0x80 => *into = ValueRef::NoSuchObject,
+        0x81 => *into = ValueRef::NoSuchInstance,
+        0x82 => *into = ValueRef::EndOfMibView,
+        _ => unreachable!(),
+    }
 }
 
 /// Changes a value of this type, as the values of a column are, to the one of this content, and answers whether it did. This saves setting over 500 octets.
@@ -138,37 +160,6 @@ fn is_changed<'a>(tag: u8, content: &'a [u8], value: &mut ValueRef<'a>) -> bool
         _ => {}
     }
     false
-}
-
-/// The value of this tag and content.
-#[tactic(auto, unfolding(crate::specs::Reading::value_of, crate::specs::Reading::unsigned_of))]
-#[inline]
-fn value_of<'a>(tag: u8, content: &'a [u8]) -> ValueRef<'a>
-    requires { IsOk (reading.value_of tag content.now) }
-    ensures { reading.value_of tag content.now ≡ Ok (datum result) }
-{
-    match tag {
-        0x02 => match integer_of(content) {
-            Ok(number) => ValueRef::Integer(number),
-            Err(_) => unreachable!(),
-        },
-        0x04 => ValueRef::Octets(content),
-        0x05 => ValueRef::Null,
-        0x06 => ValueRef::ObjectId(identifier_of(content)),
-        0x40 => match content {
-            [a, b, c, d] => ValueRef::IpAddress([*a, *b, *c, *d]),
-            _ => unreachable!(),
-        },
-        0x41 => ValueRef::Counter32(unsigned32(content)),
-        0x42 => ValueRef::Gauge32(unsigned32(content)),
-        0x43 => ValueRef::TimeTicks(unsigned32(content)),
-        0x44 => ValueRef::Opaque(content),
-        0x46 => ValueRef::Counter64(unsigned64(content)),
-        0x80 => ValueRef::NoSuchObject,
-        0x81 => ValueRef::NoSuchInstance,
-        0x82 => ValueRef::EndOfMibView,
-        _ => unreachable!(),
-    }
 }
 
 /// How many octets the content of a value takes.
