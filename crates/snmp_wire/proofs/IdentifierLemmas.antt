@@ -56,9 +56,6 @@ numbers_step (suc room) (octet ∷ rest) some has_room =
     let less : suc room - 1 ≡ room = omega arith in
     rw less refl
 
-pub check_full : (octets : List ℕ) (total : Result (Unit {0}) BerError) → 0 < length octets → checked (numbers_of 0 octets) ≡ total → total ≡ Err error.Content
-check_full octets total some so_far = sym so_far ∙ checked_err (numbers_of 0 octets) error.Content (numbers_full octets some)
-
 pub check_fails : (room : ℕ) (octets : List ℕ) (e : BerError) (total : Result (Unit {0}) BerError) → 0 < length octets → 0 < room → number_at octets ≡ Err e → checked (numbers_of room octets) ≡ total → total ≡ Err e
 check_fails room octets e total some has_room h so_far = sym so_far ∙ checked_err (numbers_of room octets) e (numbers_step room octets some has_room ∙ rw h refl)
 
@@ -84,12 +81,6 @@ push_has_room front octets whole zero some so_far =
     let full : with_front front (numbers_of 0 octets) ≡ Err error.Content = rw (numbers_full octets some) refl in
     absurd (let both : done whole ≡ failed error.Content = sym so_far ∙ full in cc)
 push_has_room front octets whole (suc room) some so_far = omega arith
-
-pub push_never_fails : (front octets whole : List ℕ) (room : ℕ) (e : BerError) → 0 < length octets → with_front front (numbers_of room octets) ≡ Ok whole → number_at octets ≡ Err e → ⊥
-push_never_fails front octets whole room e some so_far h =
-    let fails : with_front front (numbers_of room octets) ≡ Err e = rw (numbers_step room octets some (push_has_room front octets whole room some so_far), h) refl in
-    let both : done whole ≡ failed e = sym so_far ∙ fails in
-    cc
 
 regroup : (front : List ℕ) (n : ℕ) (read : Result (List ℕ) BerError) → with_front front (read >>= λ more. Ok (n ∷ more)) ≡ with_front (front ++ n ∷ []) read
 regroup front n (Ok more) = ap done (sym (append_assoc front (n ∷ []) more))

@@ -93,11 +93,6 @@ content_parts (x ∷ y ∷ rest) wire =
     let all : length (x ∷ y ∷ rest) - 2 ≡ length rest = omega arith in
     ap (λ numbers. canon_subidentifier (40 * x + y) ++ flat_map canon_subidentifier numbers) (sym (ap (λ k. take k rest) all ∙ take_all (length rest) rest (omega arith)))
 
-pub first_small : (name : List ℕ) → IsWire name → get_or name 0 0 ≤ 2
-first_small [] wire = absurd wire
-first_small (x ∷ []) wire = absurd wire
-first_small (x ∷ y ∷ rest) wire = wire.0
-
 -- the octets of the numbers that are left, and of one less
 pub length-numbers_from : (numbers : List ℕ) (i number : ℕ) → i < length numbers → number ≡ get_or numbers i 0 → length (flat_map canon_subidentifier (drop i numbers)) ≡ subidentifier_size number + length (flat_map canon_subidentifier (drop (i + 1) numbers))
 length-numbers_from numbers i number h e =
