@@ -1,7 +1,7 @@
 //! The program `snmp`: it hands the words, files and outputs of the machine to the tools.
 #![tactic(auto)]
 
-use snmp_ports::{MachineFiles, MachineOutput, Output, write_all};
+use snmp_io::{MachineFiles, MachineOutput, Output, write_all};
 use snmp_tools::{Lines, tool};
 use std::env::Env;
 use std::io::ErrorKind;

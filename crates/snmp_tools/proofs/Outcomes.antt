@@ -16,9 +16,9 @@ use Rattle.snmp_walk.specs.declared.end.WalkEnd.TheVariants as ending
 use Rattle.snmp_walk.specs.Room.{HasRoomForEach, HasIds}
 use Rattle.snmp_walk.specs.Facts.{IsDone}
 use Rattle.snmp_lines.specs.Line.{line_of, lines_of}
-use Rattle.snmp_ports.specs.Files.{HoldsIfKnown}
-use Rattle.snmp_ports.specs.Output.{appended, IsBegun, Rose}
-use Rattle.snmp_ports.proofs.OutputLemmas.{nothing_is_begun, whole_is_begun, begun_after, begun_of_longer}
+use Rattle.snmp_io.specs.Files.{HoldsIfKnown}
+use Rattle.snmp_io.specs.Output.{appended, IsBegun, Rose}
+use Rattle.snmp_io.proofs.OutputLemmas.{nothing_is_begun, whole_is_begun, begun_after, begun_of_longer}
 use Rattle.snmp_words.specs.Words.{WalkWords}
 use Rattle.snmp_tools.specs.declared.failure.Failure.{Failure}
 use Rattle.snmp_tools.specs.declared.failure.Failure.TheVariants as failure

@@ -7,8 +7,8 @@ use Rattle.snmp_walk.specs.declared.end.WalkEnd.{WalkEnd}
 use Rattle.snmp_walk.specs.declared.end.WalkEnd.TheVariants as ending
 use Rattle.snmp_walk.specs.Sink.{Given, Refused, Took}
 use Rattle.snmp_lines.specs.Line.{line_of, lines_of}
-use Rattle.snmp_ports.specs.Output.{appended, IsBegun, Rose}
-use Rattle.snmp_ports.proofs.OutputLemmas.{appended-nil, appended-twice}
+use Rattle.snmp_io.specs.Output.{appended, IsBegun, Rose}
+use Rattle.snmp_io.proofs.OutputLemmas.{appended-nil, appended-twice}
 use Rattle.snmp_tools.specs.Lines.{TakesLine, IsPrintedUpTo}
 
 -- a sink whose states are seen as what an output took and the count of its faults

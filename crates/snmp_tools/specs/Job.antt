@@ -19,8 +19,8 @@ use Rattle.snmp_walk.specs.Link.{Agents}
 use Rattle.snmp_walk.specs.Room.{HasRoomForEach, HasIds}
 use Rattle.snmp_walk.specs.Facts.{IsLawfulEnd, IsDone, IsFresh, walk_at}
 use Rattle.snmp_lines.specs.Line.{lines_of}
-use Rattle.snmp_ports.specs.Files.{HoldsIfKnown}
-use Rattle.snmp_ports.specs.Output.{appended, IsBegun, Rose}
+use Rattle.snmp_io.specs.Files.{HoldsIfKnown}
+use Rattle.snmp_io.specs.Output.{appended, IsBegun, Rose}
 use Rattle.snmp_words.specs.Words.{WalkWords}
 use Rattle.snmp_tools.specs.declared.failure.Failure.{Failure}
 use Rattle.snmp_tools.specs.declared.failure.Failure.TheVariants as failure

@@ -6,7 +6,7 @@ use Rattle.snmp_walk.specs.declared.end.SinkFault.TheVariants as fault
 use Rattle.snmp_walk.specs.declared.end.WalkEnd.{WalkEnd}
 use Rattle.snmp_walk.specs.declared.end.WalkEnd.TheVariants as ending
 use Rattle.snmp_lines.specs.Line.{line_of, lines_of}
-use Rattle.snmp_ports.specs.Output.{appended, IsBegun, Rose}
+use Rattle.snmp_io.specs.Output.{appended, IsBegun, Rose}
 
 -- What the output took, and the count of its faults, before and after a binding was given: its line whole, a beginning of it where the output
 -- failed, and nothing where there was no memory for it.

@@ -5,7 +5,7 @@ ghost use Rattle.snmp_tools.specs.Job.{texts, Does, WritesABeginning, WritesAll,
 
 use crate::job::{run_job, tell};
 use crate::lines::Lines;
-use snmp_ports::{Files, Output, write_all};
+use snmp_io::{Files, Output, write_all};
 use snmp_words::{UsageError, read_words};
 use std::alloc::Global;
 

@@ -1,7 +1,7 @@
 //! A job: its words are judged, and it is done.
 ghost use Rattle.std.specs.Prelude.{◌≡◌, ◌++◌, List, ℕ, codes, None, Some, OnOk, IfOk, IfErr, IfSome, IfNone};
 ghost use Rattle.std.specs.Str.Lines.{lines};
-ghost use Rattle.snmp_ports.specs.Files.{HoldsIfKnown};
+ghost use Rattle.snmp_io.specs.Files.{HoldsIfKnown};
 ghost use Rattle.snmp_table.specs.Stated.{IsTableOf};
 ghost use Rattle.snmp_table.specs.Table.{IsMibView};
 ghost use Rattle.snmp_words.specs.Words.{WalkWords, job_words, walk, walk_words};
@@ -12,7 +12,7 @@ use crate::failure::{Failure, Words};
 use crate::lines::{Lines, print_walk};
 use snmp_agent::Config;
 use snmp_oid::{Oid, OidTextError, parse_numeric};
-use snmp_ports::{FileFault, Files, Output, write_all};
+use snmp_io::{FileFault, Files, Output, write_all};
 use snmp_table::Table;
 use snmp_walk::{MemoryLink, Method, Mode, WalkCore, WalkEnd};
 use snmp_words::{Job, WalkJob};

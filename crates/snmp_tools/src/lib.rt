@@ -12,5 +12,5 @@ pub use entry::tool;
 pub use failure::{Failure, Words};
 pub use job::run_job;
 pub use lines::Lines;
-pub use snmp_ports::{FileFault, Files, Output, OutputFault};
+pub use snmp_io::{FileFault, Files, Output, OutputFault};
 pub use snmp_words::{Job, UsageError, WalkJob, read_words};

@@ -6,7 +6,7 @@ ghost use Rattle.snmp_walk.specs.Link.{Rose};
 ghost use Rattle.snmp_tools.specs.Lines.{IsPrintedUpTo};
 
 use snmp_lines::line;
-use snmp_ports::{Output, OutputFault, write_all};
+use snmp_io::{Output, OutputFault, write_all};
 use snmp_walk::{Link, Sink, SinkFault, WalkCore, WalkEnd, run_walk};
 use snmp_wire::Binding;
 use std::alloc::Global;

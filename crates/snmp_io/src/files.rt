@@ -1,6 +1,6 @@
 //! Files, each of which holds a text at its path.
 ghost use Rattle.std.specs.Prelude.{◌≡◌, ℕ, List, Option, Some, None, IfOk, IsErrOf};
-ghost use Rattle.snmp_ports.specs.Files.{HoldsIfKnown};
+ghost use Rattle.snmp_io.specs.Files.{HoldsIfKnown};
 
 use std::alloc::Global;
 use thiserror::Error;

@@ -1,7 +1,7 @@
 //! What goes wrong: words, files, tables, replies and outputs.
 
 use crate::run::{THREE, prints};
-use snmp_ports::memory::{MemoryFiles, MemoryOutput};
+use snmp_io::memory::{MemoryFiles, MemoryOutput};
 use snmp_tools::{Lines, tool};
 use std::test::Fail;
 

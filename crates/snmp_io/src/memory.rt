@@ -1,6 +1,6 @@
 //! An output and files in memory, which keep every fact: for tests of what is written and read.
 ghost use Rattle.std.specs.Prelude.{◌≡◌, [], ◌∷◌, Some, option_map};
-ghost use Rattle.snmp_ports.specs.Memory.{Kept, held_at};
+ghost use Rattle.snmp_io.specs.Memory.{Kept, held_at};
 
 use crate::files::{FileFault, Files};
 use crate::output::{Output, OutputFault};

@@ -2,7 +2,7 @@
 use Rattle.std.proofs.Common.{◌≡◌, ◌∙◌, ◌+◌, ◌-◌, ◌++◌, ℕ, List, [], Option, Some, None, take, drop, length, ap, refl, sym, append_assoc, length-drop, append-nil}
 use Rattle.std.proofs.Math.Seq.{take-add, take-length}
 use Rattle.std.proofs.lemmas.List.{take-append-drop}
-use Rattle.snmp_ports.specs.Output.{IsBegun, appended}
+use Rattle.snmp_io.specs.Output.{IsBegun, appended}
 
 -- one text after the other
 pub appended-twice : (before : Option (List ℕ)) (a b : List ℕ) → appended (appended before a) b ≡ appended before (a ++ b)

@@ -1,6 +1,6 @@
 use Rattle.std.proofs.Common.{length, ◌-◌, ◌≡◌, ◌≤◌, take}
-use Rattle.snmp_ports.specs.Output.{appended}
-use Rattle.snmp_ports.proofs.output.write_all.Given as goal
+use Rattle.snmp_io.specs.Output.{appended}
+use Rattle.snmp_io.proofs.output.write_all.Given as goal
 
 abbrev pub invariant-pieces : goal.invariant-pieces
 invariant-pieces g l = record {

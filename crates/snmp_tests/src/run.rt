@@ -1,6 +1,6 @@
 //! How a test runs the tools.
 
-use snmp_ports::memory::{MemoryFiles, MemoryOutput};
+use snmp_io::memory::{MemoryFiles, MemoryOutput};
 use snmp_tools::{Lines, tool};
 
 /// The table of three instances.

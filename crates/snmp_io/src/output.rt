@@ -1,7 +1,7 @@
 //! Outputs, which take octets, and the loop that writes a whole text to one.
 ghost use Rattle.std.specs.Prelude.{◌≡◌, ◌<◌, ◌≤◌, ℕ, List, Option, length, take};
 ghost use Rattle.std.specs.Prelude.{IfOk, OnErr, OnOk};
-ghost use Rattle.snmp_ports.specs.Output.{IsBegun, Rose, appended};
+ghost use Rattle.snmp_io.specs.Output.{IsBegun, Rose, appended};
 
 use thiserror::Error;
 

@@ -1,6 +1,6 @@
 use Rattle.std.proofs.Common.{◌≡◌, ◌++◌, IfSome, arith, option_map, subst, take}
-use Rattle.snmp_ports.proofs.ReadLemmas.{all_is_left}
-use Rattle.snmp_ports.proofs.machine.read_whole.Goals as goal
+use Rattle.snmp_io.proofs.ReadLemmas.{all_is_left}
+use Rattle.snmp_io.proofs.machine.read_whole.Goals as goal
 
 pub returns-in-Ok-clause-whole : goal.returns-in-Ok-clause-whole
 returns-in-Ok-clause-whole g c =

@@ -1,7 +1,7 @@
 use Rattle.std.proofs.Common.{rules, ◌∙◌, arith}
 use Rattle.std.proofs.lemmas.Grind.{common_steps}
-use Rattle.snmp_ports.proofs.OutputLemmas.{appended-take, take_is_begun}
-use Rattle.snmp_ports.proofs.output.write_all.Goals as goal
+use Rattle.snmp_io.proofs.OutputLemmas.{appended-take, take_is_begun}
+use Rattle.snmp_io.proofs.output.write_all.Goals as goal
 
 pub returns-in_err-written-clause-begun : goal.returns-in_err-written-clause-begun
 returns-in_err-written-clause-begun g c =
