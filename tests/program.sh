@@ -1,0 +1,74 @@
+#!/usr/bin/env bash
+# Runs the built program on a table of words, and compares what it wrote to its output and to its error
+# output, and its status, with what must come. Its last line is 'N passed, M failed'.
+set -uo pipefail
+cd "$(dirname "${BASH_SOURCE[0]}")/data" || exit 1
+program=$PWD/../../crates/snmp/out/snmp
+[ -x "$program" ] || { echo "tests/program.sh: the program isn't built: ./snmp --build" >&2; exit 1; }
+passed=0
+failed=0
+got=$(mktemp -d)
+trap 'rm -rf "$got"' EXIT
+
+# expect STATUS OUTPUT MESSAGES WORD..: OUTPUT and MESSAGES are the whole texts, newlines included.
+# Where a text ends in ..., it need only begin as it does before that.
+matches() {
+    case $1 in
+        *...) [ "${2:0:$((${#1} - 3))}" = "${1%...}" ] && [ ${#2} -ge $((${#1} - 3)) ] ;;
+        *) [ "$1" = "$2" ] ;;
+    esac
+}
+expect() {
+    local status=$1 output=$2 messages=$3
+    shift 3
+    timeout 60 "$program" "$@" >"${target:-$got/out}" 2>"$got/err" </dev/null
+    local ended=$?
+    local wrote='' said
+    [ -n "${target:-}" ] || { wrote=$(cat "$got/out"; echo .); wrote=${wrote%.}; }
+    said=$(cat "$got/err"; echo .)
+    said=${said%.}
+    if [ $ended = "$status" ] && matches "$output" "$wrote" && matches "$messages" "$said"; then
+        passed=$((passed + 1))
+    else
+        failed=$((failed + 1))
+        printf 'FAILED: snmp %s\n  status %s, not %s\n  output: %q\n  messages: %q\n' "$*" "$ended" "$status" "$wrote" "$said"
+    fi
+}
+
+e=.1.3.6.1.4.1.32473
+three="$e.1.1.0 = INTEGER: 1
+$e.1.2.0 = STRING: \"wes\"
+$e.1.10.0 = INTEGER: 3
+"
+printf '%s|4|%01500d\n' 1.3.6.1.4.1.32473.1.1 0 >"$got/large.tab"
+
+# status 0
+expect 0 "$three" '' snmpwalk -On table:three.tab $e.1
+expect 0 "$e.1.1.0 = INTEGER: 1
+" '' snmpwalk -On table:three.tab $e.1.1.0
+expect 0 '.1.0 = No Such Object available on this agent at this OID
+' '' snmpwalk -On table:/dev/null .1
+
+# status 1
+expect 1 '' 'no.tab: cannot be read
+' snmpwalk -On table:no.tab .1
+expect 1 '' 'three.tab/: cannot be read
+' snmpwalk -On table:three.tab/ .1
+expect 1 '' 'program.txt:1: bad line
+' snmpwalk -On table:program.txt .1
+expect 1 '' 'Unknown letter: z
+' snmpwalk -Oz table:three.tab .1
+expect 1 '' 'Bad agent address: table:
+' snmpwalk -On table: .1
+expect 1 '' 'Name cannot be sent: .3
+' snmpwalk -On table:three.tab .3
+target=/dev/full expect 1 '' 'The output failed.
+' snmpwalk -On table:three.tab $e.1
+expect 1 '' 'error: ...' walk
+
+# status 2
+expect 2 '' 'Error in packet: tooBig (1), index 0
+' snmpwalk -On "table:$got/large.tab" $e.1
+
+echo "$passed passed, $failed failed"
+[ $failed = 0 ]
