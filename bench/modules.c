@@ -1,36 +1,30 @@
-/* Reads the module text of a file once, for counting the instructions of the call. */
+// Reads the module text of a file, for bench/modules.sh: modules tokens|definitions FILE TIMES.
+// It prints the octets of the text, and the tokens or definitions.
 #include <stddef.h>
 #include <stdint.h>
 #include <stdio.h>
 #include <stdlib.h>
+#include <string.h>
 
-/* The definitions of the text, or SIZE_MAX where it is refused. */
-size_t smi_definitions_in(const uint8_t *text, size_t len);
-/* The tokens of the text before its first fault. */
-size_t smi_tokens_in(const uint8_t *text, size_t len);
+// The definitions of the text, or SIZE_MAX where it is refused.
+size_t smi_definitions_in(const uint8_t *text, size_t length);
+// The tokens of the text before its first fault.
+size_t smi_tokens_in(const uint8_t *text, size_t length);
 
-int main(int argc, char **argv) {
-    FILE *file = argc == 2 ? fopen(argv[1], "rb") : NULL;
-    if (file == NULL) {
-        fprintf(stderr, "usage: modules FILE\n");
-        return 2;
-    }
+int main(int count, char **words) {
+    FILE *file = count == 4 ? fopen(words[2], "rb") : NULL;
+    if (file == NULL) return 2;
     fseek(file, 0, SEEK_END);
-    size_t len = (size_t)ftell(file);
+    size_t length = (size_t)ftell(file);
     rewind(file);
-    uint8_t *text = malloc(len + 1);
-    if (text == NULL || fread(text, 1, len, file) != len) {
-        fprintf(stderr, "%s: cannot be read\n", argv[1]);
-        return 2;
-    }
+    uint8_t *text = malloc(length + 1);
+    if (text == NULL || fread(text, 1, length, file) != length) return 2;
     fclose(file);
-    size_t tokens = smi_tokens_in(text, len);
-    size_t definitions = smi_definitions_in(text, len);
-    if (definitions == SIZE_MAX) {
-        fprintf(stderr, "%s: refused\n", argv[1]);
-        return 1;
-    }
-    printf("%zu octets, %zu tokens, %zu definitions\n", len, tokens, definitions);
+    size_t (*call)(const uint8_t *, size_t) = strcmp(words[1], "tokens") ? smi_definitions_in : smi_tokens_in;
+    size_t found = 0;
+    for (unsigned long i = strtoul(words[3], NULL, 10); i > 0; i--) found = call(text, length);
     free(text);
+    if (found == SIZE_MAX) return 1;
+    printf("%zu octets, %zu %s\n", length, found, words[1]);
     return 0;
 }

@@ -1,24 +1,22 @@
 #!/usr/bin/env bash
-# Counts the instructions (callgrind) and the peak memory of reading a table file of 25,000, 50,000 and 100,000 rows in no order, by a walk that begins behind all of them;
-# and what each row costs more by a walk over all of them, its request, its reply and its line included.
-# An n log n reading takes little more than twice as many for twice the rows.
-set -euo pipefail
-top=$(cd "$(dirname "${BASH_SOURCE[0]}")/.." && pwd)
+# Counts the instructions and the peak memory of the program as it reads a table file of 25,000, 50,000 and
+# 100,000 rows in no order, by a walk that begins after all of them; and what each row costs more by a walk
+# over all of them, its request, its reply and its line included.
+source "$(dirname "${BASH_SOURCE[0]}")/common.sh"
 program=$top/crates/snmp/out/snmp
-[ -x "$program" ] || "$top/snmp" --help > /dev/null
-work=$(mktemp -d)
-trap 'rm -rf "$work"' EXIT
+[ -x "$program" ] || "$top/snmp" --build
+ln -s "$program" "$work/driver"
 cd "$work"
 for rows in 25000 50000 100000; do
-    python3 - "$rows" > table.tab <<'ROWS'
+    python3 - "$rows" >table.tab <<'ROWS'
 import random, sys
 rows = [f"1.3.6.1.4.1.32473.1.{i // 100}.{i % 100}|2|{i}" for i in range(int(sys.argv[1]))]
 random.Random(1).shuffle(rows)
 print("\n".join(rows))
 ROWS
-    valgrind --tool=callgrind --callgrind-out-file=none "$program" snmpwalk -On table:table.tab .2.5 > answer 2> log
-    valgrind --tool=callgrind --callgrind-out-file=all "$program" snmpwalk -On table:table.tab .1.3.6.1.4.1.32473.1 > answer 2> log
-    awk -v rows="$rows" -v n="$(sed -n 's/^summary: //p' none)" -v m="$(sed -n 's/^summary: //p' all)" -v octets="$(stat -c %s table.tab)" \
+    none=$(instructions snmpwalk -On table:table.tab .2.5)
+    all=$(instructions snmpwalk -On table:table.tab .1.3.6.1.4.1.32473.1)
+    awk -v rows="$rows" -v n="$none" -v m="$all" -v octets="$(stat -c %s table.tab)" \
         'BEGIN { printf "%d rows, %d octets: %d instructions, %.0f for each row; %.0f more for each row that is walked\n", rows, octets, n, n / rows, (m - n) / rows }'
 done
 python3 - "$program" <<'MEMORY'

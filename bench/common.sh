@@ -1,0 +1,37 @@
+# What the benchmarks share: each calls a static library of the crates (crates/*_bench, proved as every
+# crate is) from a small C program, and counts instructions by valgrind's callgrind.
+# A count is the difference of two runs, so that what a run does once doesn't count, or that of one call.
+set -euo pipefail
+top=$(cd "$(dirname "${BASH_SOURCE[0]}")/.." && pwd)
+work=$(mktemp -d)
+trap 'rm -rf "$work"' EXIT
+
+# driver CRATE SOURCE: proves and builds the library, and links the C program with it, as $work/driver.
+driver() {
+    local kit
+    kit=$(cd "$(dirname "$(readlink -f "$(command -v rt)")")/.." && pwd)
+    (cd "$top/crates/$1" && rt lib) >"$work/lib.log" 2>&1 || { tail -n 20 "$work/lib.log" >&2; exit 1; }
+    cc -O2 -o "$work/driver" "$top/bench/$2" "$top/crates/$1/out/lib$1.a" "$kit/c/liblibc_c.a"
+}
+
+# instructions WORD..: how many instructions the driver takes with these words.
+instructions() {
+    valgrind --tool=callgrind --callgrind-out-file=/dev/null "$work/driver" "$@" 2>&1 >/dev/null |
+        sed -n 's/.*Collected : \([0-9]*\).*/\1/p'
+}
+
+# each TIMES WORD..: the instructions of one repetition, from runs of TIMES and of twice as many; the
+# driver's last word is the number of repetitions.
+each() {
+    local times=$1
+    shift
+    echo $((($(instructions "$@" $((2 * times))) - $(instructions "$@" "$times")) / times))
+}
+
+# within FUNCTION WORD..: the instructions of the driver's calls of one function, and of all below it.
+within() {
+    local function=$1
+    shift
+    valgrind --tool=callgrind --callgrind-out-file=/dev/null --toggle-collect="$function" "$work/driver" "$@" \
+        2>&1 >/dev/null | sed -n 's/.*Collected : \([0-9]*\).*/\1/p'
+}
