@@ -1,0 +1,24 @@
+-- Balanced braces, where a value or a type stands between braces and is kept as tokens.
+use Rattle.std.specs.Prelude.{ℕ, ◌==◌, Bool, ◌&&◌, nat_le, List, [], ◌∷◌, map, count_by}
+use Rattle.std.specs.List.{list_all}
+use Rattle.smi_lexer.specs.declared.token.TokenKind.TheVariants.{OpenBrace, CloseBrace}
+use Rattle.smi_module.specs.declared.tree.TokenText.{TokenText}
+use Rattle.smi_module.specs.Mark.{same_kind}
+
+-- how many of the tokens open a brace, and how many close one
+abbrev pub opening_braces : List TokenText → ℕ
+opening_braces xs = count_by (λ x. same_kind x.kind OpenBrace) xs
+
+abbrev pub closing_braces : List TokenText → ℕ
+closing_braces xs = count_by (λ x. same_kind x.kind CloseBrace) xs
+
+-- the beginnings of the tokens, none of them and all of them included
+abbrev pub fronts : List TokenText → List (List TokenText)
+fronts [] = [] ∷ []
+fronts (x ∷ xs) = [] ∷ map (λ front. x ∷ front) (fronts xs)
+
+-- each beginning opens as many braces as it closes, or more, and the whole opens as many as it closes
+unfoldable pub has_balanced_braces : List TokenText → Bool
+has_balanced_braces xs =
+    list_all (λ front. nat_le (closing_braces front) (opening_braces front)) (fronts xs)
+    && opening_braces xs == closing_braces xs

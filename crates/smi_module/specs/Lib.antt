@@ -1,0 +1,9 @@
+pub mod Word
+pub mod Mark
+pub mod Reserved
+pub mod Number
+pub mod Fronts
+pub mod Spelling
+pub mod Lines
+pub mod Braces
+pub mod Lookup
