@@ -1,0 +1,137 @@
+#!/usr/bin/env python3
+"""Compares walks of the built program over random tables with a plain reading of what it should print.
+
+usage: random_walks.py RUNS [SEED]
+
+It knows nothing of the program's code: tables, order, walks and lines are written anew here from
+docs/PROFILE.md. Its last line is 'N passed, M failed'.
+"""
+import os
+import random
+import subprocess
+import sys
+import tempfile
+
+here = os.path.dirname(os.path.abspath(__file__))
+PROGRAM = os.path.join(here, "..", "crates", "snmp", "out", "snmp")
+NO_OBJECT = "No Such Object available on this agent at this OID"
+NO_INSTANCE = "No Such Instance currently exists at this OID"
+
+
+def dotted(name):
+    return "".join(f".{n}" for n in name) or "."
+
+
+def ticks(n):
+    seconds, hundredths = divmod(n, 100)
+    minutes, seconds = divmod(seconds, 60)
+    hours, minutes = divmod(minutes, 60)
+    days, hours = divmod(hours, 24)
+    before = "" if days == 0 else "1 day, " if days == 1 else f"{days} days, "
+    return f"Timeticks: ({n}) {before}{hours}:{minutes:02}:{seconds:02}.{hundredths:02}"
+
+
+def hexadecimal(octets):
+    lines = [octets[i:i + 16] for i in range(0, len(octets), 16)]
+    return "\n".join("".join(f"{octet:02X} " for octet in line) for line in lines)
+
+
+def string(octets):
+    if not octets:
+        return '""'
+    if all(32 <= octet <= 126 for octet in octets):
+        text = octets.decode().replace("\\", "\\\\").replace('"', '\\"')
+        return f'STRING: "{text}"'
+    return "Hex-STRING: " + hexadecimal(octets)
+
+
+def random_name(rng):
+    first = rng.choice([0, 1, 2])
+    second = rng.choice([0, 1, 39]) if first < 2 else rng.choice([0, 5, 4294967295])
+    numbers = [rng.choice([0, 1, 2, 9, 10, 127, 128, 4294967295]) for _ in range(rng.randint(1, 4))]
+    return (first, second, *numbers)
+
+
+def random_value(rng):
+    """A tag and value as a line of a table file states them, and the text that a walk prints."""
+    kind = rng.choice(["integer", "text", "octets", "identifier", "address", "opaque", "unsigned", "counter64"])
+    if kind == "integer":
+        n = rng.choice([-2147483648, -129, -1, 0, 1, 127, 128, 2147483647])
+        return f"2|{n}", f"INTEGER: {n}"
+    if kind == "text":
+        text = "".join(rng.choice('abc "\\|#.') for _ in range(rng.randint(0, 20)))
+        return f"4|{text}", string(text.encode())
+    if kind in ("octets", "opaque"):
+        octets = bytes(rng.randrange(256) for _ in range(rng.choice([0, 1, 15, 16, 17, 32, 40])))
+        digits = rng.choice([octets.hex(), octets.hex().upper()])
+        if kind == "octets":
+            return f"4x|{digits}", string(octets)
+        return f"68x|{digits}", "OPAQUE: " + hexadecimal(octets)
+    if kind == "identifier":
+        name = random_name(rng)
+        return f"6|{dotted(name)}", f"OID: {dotted(name)}"
+    if kind == "address":
+        address = ".".join(str(rng.randrange(256)) for _ in range(4))
+        return f"64|{address}", f"IpAddress: {address}"
+    zeros = rng.choice(["", "00"])
+    if kind == "counter64":
+        n = rng.choice([0, 4294967296, 18446744073709551615])
+        return f"70|{zeros}{n}", f"Counter64: {n}"
+    n = rng.choice([0, 1, 99, 8640000, 8639999, 17279999, 4294967295])
+    tag, text = rng.choice([("65", f"Counter32: {n}"), ("66", f"Gauge32: {n}"), ("67", ticks(n))])
+    return f"{tag}|{zeros}{n}", text
+
+
+def random_table(rng):
+    rows, objects, lines = {}, [], []
+    for _ in range(rng.choice([0, 1, 3, 12, 40])):
+        name = random_name(rng)
+        if name not in rows:
+            stated, rows[name] = random_value(rng)
+            lines.append(f"{dotted(name)[rng.randint(0, 1):]}|{stated}")
+    for _ in range(rng.randint(0, 2)):
+        objects.append(random_name(rng)[:rng.randint(1, 3)])
+        lines.append("object " + dotted(objects[-1]))
+    lines += [rng.choice(["", "# a comment"]) for _ in range(rng.randint(0, 2))]
+    rng.shuffle(lines)
+    return rows, objects, rng.choice(["\n", "\r\n"]).join(lines)
+
+
+def got(rows, objects, name):
+    if name in rows:
+        return rows[name]
+    return NO_INSTANCE if any(name[:len(it)] == it for it in objects) else NO_OBJECT
+
+
+def walk(rows, objects, root):
+    below = sorted(name for name in rows if len(name) > len(root) and name[:len(root)] == root)
+    if below:
+        return [(name, rows[name]) for name in below]
+    wire = root + (0,) * (2 - len(root))
+    return [(wire, got(rows, objects, wire))]
+
+
+def main():
+    runs, seed = int(sys.argv[1]), int(sys.argv[2]) if len(sys.argv) > 2 else 1
+    rng = random.Random(seed)
+    passed = failed = 0
+    with tempfile.TemporaryDirectory() as folder:
+        for run in range(runs):
+            rows, objects, text = random_table(rng)
+            with open(f"{folder}/t.tab", "w", newline="") as file:
+                file.write(text)
+            names = list(rows) or [(1, 3, 6)]
+            root = rng.choice([rng.choice(names)[:rng.randint(0, 4)], random_name(rng)])
+            command = [PROGRAM, "snmpwalk", "-On", "table:t.tab", dotted(root)]
+            ran = subprocess.run(command, cwd=folder, capture_output=True)
+            lines = "".join(f"{dotted(name)} = {value}\n" for name, value in walk(rows, objects, root))
+            if (ran.returncode, ran.stdout.decode(), ran.stderr) == (0, lines, b""):
+                passed += 1
+            else:
+                failed += 1
+                print(f"FAILED: run {run} of seed {seed}: {command}\n{text}\n-- wanted\n{lines}\n-- got\n{ran}")
+    print(f"{passed} passed, {failed} failed")
+    return 1 if failed else 0
+
+
+sys.exit(main())
