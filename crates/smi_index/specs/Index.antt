@@ -1,0 +1,62 @@
+-- An index as numbers after a column's identifier: the encodings of its parts in turn (RFC 2578,
+-- section 7.7). A contract sees the value of a part as the list of its numbers, without a length
+-- before it.
+use Rattle.std.specs.Prelude.{◌≡◌, ◌≢◌, ℕ, Bool, true, nat_le, List, [], ◌∷◌, ◌++◌, length}
+use Rattle.std.specs.List.{list_all}
+use Rattle.smi_index.specs.declared.part.Extent.{Extent}
+use Rattle.smi_index.specs.declared.part.Extent.TheVariants.{Fixed, Counted, Implied}
+use Rattle.smi_index.specs.declared.part.IndexPart.{IndexPart}
+use Rattle.smi_index.specs.declared.part.IndexPart.TheVariants.{Number, Address, Text, Octets}
+use Rattle.smi_index.specs.declared.part.IndexPart.TheVariants.{Identifier, ImpliedIdentifier}
+
+-- an octet's number
+abbrev pub is_octet : ℕ → Bool
+is_octet n = nat_le n 255
+
+abbrev pub AreOctets : List ℕ → Type 0
+AreOctets value = list_all is_octet value ≡ true
+
+-- a string as numbers: those of a fixed size, or a length and then as many, or, implied, at least
+-- one
+abbrev pub IsInExtent : Extent → List ℕ → List ℕ → Type 0
+IsInExtent (Fixed size) value here = (length value ≡ size) × (here ≡ value)
+IsInExtent Counted value here = here ≡ length value ∷ value
+IsInExtent Implied value here = (value ≢ []) × (here ≡ value)
+
+-- the encoding of a value under a part
+abbrev pub IsEncoding : IndexPart → List ℕ → List ℕ → Type 0
+IsEncoding Number value here = (length value ≡ 1) × (here ≡ value)
+IsEncoding Address value here = AreOctets value × (length value ≡ 4) × (here ≡ value)
+IsEncoding (Text extent) value here = AreOctets value × IsInExtent extent value here
+IsEncoding (Octets extent) value here = AreOctets value × IsInExtent extent value here
+IsEncoding Identifier value here = here ≡ length value ∷ value
+IsEncoding ImpliedIdentifier value here = (value ≢ []) × (here ≡ value)
+
+-- an implied part takes all numbers that remain, so none is left after it
+abbrev pub LeavesIn : Extent → List ℕ → Type 0
+LeavesIn (Fixed size) rest = Unit {0}
+LeavesIn Counted rest = Unit {0}
+LeavesIn Implied rest = rest ≡ []
+
+abbrev pub Leaves : IndexPart → List ℕ → Type 0
+Leaves Number rest = Unit {0}
+Leaves Address rest = Unit {0}
+Leaves (Text extent) rest = LeavesIn extent rest
+Leaves (Octets extent) rest = LeavesIn extent rest
+Leaves Identifier rest = Unit {0}
+Leaves ImpliedIdentifier rest = rest ≡ []
+
+-- the encoding of a value stands at the front of the numbers, and the rest after it
+pub record IsRead (part : IndexPart) (numbers value rest : List ℕ) : Type 0 where
+  pub here : List ℕ
+  pub whole : numbers ≡ here ++ rest
+  pub encoding : IsEncoding part value here
+  pub after : Leaves part rest
+
+-- the whole list of numbers is the encodings of the values in turn
+abbrev pub AreRead : List IndexPart → List ℕ → List (List ℕ) → Type 0
+AreRead [] numbers [] = numbers ≡ []
+AreRead [] numbers (value ∷ values) = ⊥
+AreRead (part ∷ parts) numbers [] = ⊥
+AreRead (part ∷ parts) numbers (value ∷ values) =
+    (rest : List ℕ) × IsRead part numbers value rest × AreRead parts rest values

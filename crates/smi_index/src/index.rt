@@ -1,0 +1,38 @@
+//! A whole index, read from the numbers after a column.
+ghost use Rattle.std.specs.Prelude.{◌≡◌, ℕ, ◌↔◌, List, IsTrue};
+ghost use Rattle.std.specs.Option.{is_some};
+ghost use Rattle.smi_index.specs.declared.part.IndexPart.{IndexPart};
+ghost use Rattle.smi_index.specs.Index.{AreRead};
+ghost use Rattle.smi_index.specs.Reading.{values_of};
+
+use crate::{IndexPart, read_part};
+
+/// Whether the whole list of numbers is the encodings of the parts of an index, one after the other
+/// (RFC 2578, section 7.7).
+pub fn reads(parts: &[IndexPart], numbers: &[u32]) -> bool
+    ensures reads { IsTrue result
+        ↔ ((values : List (List ℕ)) × AreRead parts.now numbers.now values) }
+    ensures value { result ≡ is_some (values_of parts.now numbers.now) }
+{
+    are_read(parts, numbers)
+}
+
+/// What `reads` returns, by the parts in turn.
+fn are_read(parts: &[IndexPart], numbers: &[u32]) -> bool
+    ensures { result ≡ is_some (values_of parts.now numbers.now) }
+{
+    let mut left = numbers;
+    'parts: for part in parts {
+        match read_part(*part, left) {
+            Some((_, rest)) => left = rest,
+            None => return false,
+        }
+    }
+    left.is_empty()
+}
+
+/// Numbers are the encodings of one list of values at most.
+pub fn one_list()
+    ensures { (parts : List IndexPart) (numbers : List ℕ) (values others : List (List ℕ))
+        → AreRead parts numbers values → AreRead parts numbers others → values ≡ others }
+{}
