@@ -1,57 +1,54 @@
 -- What is taken piece by piece.
-use Rattle.std.proofs.Common.{◌≡◌, ◌∙◌, ◌+◌, ◌-◌, ◌++◌, ℕ, List, [], Option, Some, None, take, drop, length, ap, refl, sym, append_assoc, length-drop, append-nil}
+use Rattle.std.proofs.Common.{◌≡◌, ◌∙◌, ◌+◌, ◌-◌, ◌++◌, ℕ, List, [], Option, Some, None, take, drop}
+use Rattle.std.proofs.Common.{length, ap, refl, sym, subst, append_assoc, length-drop, append-nil}
 use Rattle.std.proofs.Math.Seq.{take-add, take-length}
 use Rattle.std.proofs.lemmas.List.{take-append-drop}
-use Rattle.snmp_io.specs.Output.{IsBegun, appended}
+use Rattle.snmp_io.specs.Count.{HasRisen}
+use Rattle.snmp_io.specs.Output.{FailsWithin, Stream, appended, extended}
 
 -- one text after the other
-pub appended-twice : (before : Option (List ℕ)) (a b : List ℕ) → appended (appended before a) b ≡ appended before (a ++ b)
+appended-twice : (before : Option (List ℕ)) (a b : List ℕ) → appended (appended before a) b ≡ appended before (a ++ b)
 appended-twice None a b = refl
 appended-twice (Some taken) a b = ap Some (append_assoc taken a b)
 
-pub appended-nil : (before : Option (List ℕ)) → appended before [] ≡ before
+appended-nil : (before : Option (List ℕ)) → appended before [] ≡ before
 appended-nil None = refl
 appended-nil (Some taken) = ap Some (append-nil taken)
+
+-- the stream with other octets
+over : Stream → Option (List ℕ) → Stream
+over s o = record { taken = o; faults = s.faults }
+
+extended-twice : (before : Stream) (a b : List ℕ) → extended (extended before a) b ≡ extended before (a ++ b)
+unfolding over
+extended-twice before a b = ap (over before) (appended-twice before.taken a b)
+
+extended-nil : (before : Stream) → extended before [] ≡ before
+unfolding over
+extended-nil before = ap (over before) (appended-nil before.taken)
 
 rest_whole : (w : ℕ) (text : List ℕ) → take (length text - w) (drop w text) ≡ drop w text
 rest_whole w text = ap (λ n. take n (drop w text)) (sym (length-drop w text)) ∙ take-length (drop w text)
 
 -- n more octets of the text
-pub appended-take : (before now after : Option (List ℕ)) (w n : ℕ) (text : List ℕ) → now ≡ appended before (take w text)
-    → after ≡ appended now (take n (take (length text - w) (drop w text))) → after ≡ appended before (take (w + n) text)
-appended-take before now after w n text first more =
+pub extended_take : (before now after : Stream) (w n : ℕ) (text : List ℕ) → now ≡ extended before (take w text)
+    → after ≡ extended now (take n (take (length text - w) (drop w text))) → after ≡ extended before (take (w + n) text)
+extended_take before now after w n text first more =
     more
-    ∙ ap (λ (o : Option (List ℕ)). appended o (take n (take (length text - w) (drop w text)))) first
-    ∙ appended-twice before (take w text) _
-    ∙ ap (λ rest. appended before (take w text ++ take n rest)) (rest_whole w text)
-    ∙ ap (appended before) (sym (take-add w n text))
+    ∙ ap (λ (s : Stream). extended s (take n (take (length text - w) (drop w text)))) first
+    ∙ extended-twice before (take w text) _
+    ∙ ap (λ rest. extended before (take w text ++ take n rest)) (rest_whole w text)
+    ∙ ap (extended before) (sym (take-add w n text))
 
-pub take_is_begun : (before after : Option (List ℕ)) (w : ℕ) (text : List ℕ) → after ≡ appended before (take w text) → IsBegun before after text
-take_is_begun before after w text is =
-    record { front = take w text; rest = drop w text; parts = sym (take-append-drop w text); taken = is }
-
--- nothing was taken
-pub nothing_is_begun : (before after : Option (List ℕ)) (text : List ℕ) → after ≡ before → IsBegun before after text
-nothing_is_begun before after text is = record { front = []; rest = text; parts = refl; taken = is ∙ sym (appended-nil before) }
-
--- the whole text was taken
-pub whole_is_begun : (before after : Option (List ℕ)) (text : List ℕ) → after ≡ appended before text → IsBegun before after text
-whole_is_begun before after text is = record { front = text; rest = []; parts = sym (append-nil text); taken = is }
-
--- a whole text, and then a beginning of the next
-pub begun_after : (before now after : Option (List ℕ)) (a b : List ℕ) → now ≡ appended before a → IsBegun now after b → IsBegun before after (a ++ b)
-begun_after before now after a b whole begun = record {
-  front = a ++ begun.front;
-  rest = begun.rest;
-  parts = ap (λ t. a ++ t) begun.parts ∙ sym (append_assoc a begun.front begun.rest);
-  taken = begun.taken ∙ ap (λ (o : Option (List ℕ)). appended o begun.front) whole ∙ appended-twice before a begun.front;
-}
-
--- a beginning of a text is one of a longer text
-pub begun_of_longer : (before after : Option (List ℕ)) (a b : List ℕ) → IsBegun before after a → IsBegun before after (a ++ b)
-begun_of_longer before after a b begun = record {
-  front = begun.front;
-  rest = begun.rest ++ b;
-  parts = ap (λ t. t ++ b) begun.parts ∙ append_assoc begun.front begun.rest b;
-  taken = begun.taken;
+-- a front was taken, and then a write failed
+pub fails_after_front : (before now after : Stream) (w : ℕ) (text : List ℕ) → now ≡ extended before (take w text)
+    → after.taken ≡ now.taken → HasRisen now.faults after.faults → FailsWithin before text after
+fails_after_front before now after w text is nothing risen = record {
+  begun = record {
+    front = take w text;
+    rest = drop w text;
+    parts = sym (take-append-drop w text);
+    taken = nothing ∙ ap (λ (s : Stream). s.taken) is;
+  };
+  counted = let P : ℕ → Type 0 = λ n. HasRisen n after.faults in subst P (ap (λ (s : Stream). s.faults) is) risen;
 }

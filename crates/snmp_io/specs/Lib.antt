@@ -1,3 +1,5 @@
+pub mod Count
 pub mod Files
+pub mod Machine
 pub mod Memory
 pub mod Output

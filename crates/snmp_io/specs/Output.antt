@@ -1,17 +1,32 @@
 -- What is known of an output.
-use Rattle.std.specs.Prelude.{◌≡◌, ◌<◌, ◌⊎◌, ◌++◌, ℕ, List, Option, option_map}
+use Rattle.std.specs.Prelude.{◌≡◌, ◌⊎◌, ◌++◌, ℕ, List, Option, option_map}
+use Rattle.snmp_io.specs.Count.{HasRisen}
+
+-- an output: the octets that it took, where they are known, and the number of writes that failed
+pub record Stream : Type 0 where
+  pub taken : Option (List ℕ)
+  pub faults : ℕ
 
 -- the octets taken, with text after them
 abbrev pub appended : Option (List ℕ) → List ℕ → Option (List ℕ)
 appended before text = option_map (λ taken. taken ++ text) before
 
--- a beginning of the text was taken, and nothing else
-pub record IsBegun (before after : Option (List ℕ)) (text : List ℕ) : Type 0 where
+-- the stream after it took the text as well
+abbrev pub extended : Stream → List ℕ → Stream
+extended before text = record { taken = appended before.taken text; faults = before.faults }
+
+-- the stream took a front of the text, and perhaps the whole of it
+pub record TakesFront (before : Stream) (text : List ℕ) (after : Stream) : Type 0 where
   pub front : List ℕ
   pub rest : List ℕ
   pub parts : text ≡ front ++ rest
-  pub taken : after ≡ appended before front
+  pub taken : after.taken ≡ appended before.taken front
 
--- a count of 64 bits rose, or stands at its last value
-abbrev pub Rose : ℕ → ℕ → Type 0
-Rose before now = (before < now) ⊎ (now ≡ 18446744073709551615)
+-- a write failed after the stream had taken a front of the text
+pub record FailsWithin (before : Stream) (text : List ℕ) (after : Stream) : Type 0 where
+  pub begun : TakesFront before text after
+  pub counted : HasRisen before.faults after.faults
+
+-- the stream took the whole text, or a write failed after a front of it
+abbrev pub IsWritten : Stream → List ℕ → Stream → Type 0
+IsWritten before text after = (after ≡ extended before text) ⊎ FailsWithin before text after

@@ -23,8 +23,8 @@ pub trait Files {
 
     /// The text that the path holds.
     fn read(&self, alloc: Global, path: &str) -> Result<Vec<u8>, FileFault>
-        ensures text { IfOk result (λ text.
+        ensures text_held { IfOk result (λ text.
             HoldsIfKnown (text_at self.now path.now) (Some text.items)) }
-        ensures unreadable { IsErrOf result FileFault.Unreadable
+        ensures none_held { IsErrOf result FileFault.Unreadable
             → HoldsIfKnown (text_at self.now path.now) None };
 }

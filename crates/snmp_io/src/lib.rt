@@ -9,7 +9,7 @@ pub mod memory;
 mod output;
 
 pub use files::{FileFault, Files};
-pub use machine::{MachineFiles, MachineOutput};
+pub use machine::{MachineFiles, MachineOutput, ReadError, read_whole};
 pub use output::{Output, OutputFault, write_all};
 
 #[cfg(test)]

@@ -1,6 +1,7 @@
 //! The machine's own outputs and files, of which nothing is known.
-ghost use Rattle.std.specs.Prelude.{◌≡◌, ◌<◌, ◌≤◌, ℕ, None, IfOk, IfSome};
+ghost use Rattle.std.specs.Prelude.{◌≡◌, ◌<◌, ◌≤◌, ◌↔◌, ℕ, None, IfOk, IfSome, IsErrOf};
 ghost use Rattle.std.specs.Prelude.{length, vec_len};
+ghost use Rattle.snmp_io.specs.Machine.{IsWantOfMemory};
 
 use crate::files::{FileFault, Files};
 use crate::output::{Output, OutputFault};
@@ -40,9 +41,7 @@ impl<W> MachineOutput<W> {
 }
 
 impl<W: Write> Output for MachineOutput<W> {
-    ghost taken = { λ _. None };
-
-    ghost fault_count = { λ faults. faults };
+    ghost stream = { λ faults. record { taken = None; faults = faults } };
 
     fn write(&mut self, piece: &[u8]) -> Result<usize, OutputFault> {
         match write_some(&mut self.to, piece) {
@@ -84,27 +83,50 @@ impl<R: rt::Files> Files for MachineFiles<R> {
     ghost text_at = { λ _ _. None };
 
     fn read(&self, alloc: Global, path: &str) -> Result<Vec<u8>, FileFault> {
-        let file = File::open(&self.rt, path).map_err(|error| fault_of(&error))?;
-        read_whole(alloc, file)
+        match File::open(&self.rt, path) {
+            Ok(file) => read_whole(alloc, file).map_err(|error| error.fault()),
+            Err(error) => Err(ReadError::Failed(error).fault()),
+        }
     }
 }
 
-// All that `from` has left, where that is no more than a text may have.
-fn read_whole<R: Read + Drop>(alloc: Global, from: R) -> Result<Vec<u8>, FileFault>
-    ensures whole { IfOk result (λ text. IfSome (R.remaining from) (λ octets. text.items ≡ octets)) }
-    ensures bounded { IfOk result (λ text. vec_len text ≤ MOST_OCTETS) }
+/// Why a reader gave no text.
+#[derive(Clone, Copy, Debug)]
+pub enum ReadError {
+    /// It has more than 268435456 octets left.
+    TooLong,
+    /// A read failed, or memory for its octets ran out.
+    Failed(io::Error),
+}
+
+impl ReadError {
+    ghost use Rattle.std.specs.Prelude.{◌≡◌, ◌↔◌};
+
+    /// What the error says of a file: `Memory` where memory ran out, and else `Unreadable`.
+    pub fn fault(&self) -> FileFault
+        ensures { result ≡ FileFault.Memory ↔ IsWantOfMemory self.now }
+    {
+        match self {
+            ReadError::Failed(error) if matches!(error.kind(), ErrorKind::OutOfMemory) => {
+                FileFault::Memory
+            }
+            _ => FileFault::Unreadable,
+        }
+    }
+}
+
+/// Reads all that a reader has left, where that is at most 268435456 octets.
+pub fn read_whole<R: Read + Drop>(alloc: Global, from: R) -> Result<Vec<u8>, ReadError>
+    ensures whole { IfOk result (λ text.
+        IfSome (R.remaining from) (λ octets. text.items ≡ octets)) }
+    ensures within_limit { IfOk result (λ text. vec_len text ≤ MOST_OCTETS) }
+    ensures too_long { IsErrOf result ReadError.TooLong
+        → IfSome (R.remaining from) (λ octets. MOST_OCTETS < length octets) }
 {
     let mut text = Vec::new(alloc);
     match from.take(MOST_OCTETS as u64 + 1).read_to_end(&mut text) {
         Ok(_) if text.len() <= MOST_OCTETS => Ok(text),
-        Ok(_) => Err(FileFault::Unreadable),
-        Err(error) => Err(fault_of(&error)),
-    }
-}
-
-fn fault_of(error: &io::Error) -> FileFault {
-    match error.kind() {
-        ErrorKind::OutOfMemory => FileFault::Memory,
-        _ => FileFault::Unreadable,
+        Ok(_) => Err(ReadError::TooLong),
+        Err(error) => Err(ReadError::Failed(error)),
     }
 }

@@ -49,9 +49,7 @@ impl MemoryOutput {
 }
 
 impl Output for MemoryOutput {
-    ghost taken = { λ o. Some o.octets };
-
-    ghost fault_count = { λ o. o.faults };
+    ghost stream = { λ o. record { taken = Some o.octets; faults = o.faults } };
 
     fn write(&mut self, piece: &[u8]) -> Result<usize, OutputFault> {
         let room = self.limit.saturating_sub(self.octets.len());

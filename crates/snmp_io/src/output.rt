@@ -1,7 +1,8 @@
 //! Outputs, which take octets, and the loop that writes a whole text to one.
-ghost use Rattle.std.specs.Prelude.{◌≡◌, ◌<◌, ◌≤◌, ℕ, List, Option, length, take};
+ghost use Rattle.std.specs.Prelude.{◌≡◌, ◌<◌, ◌≤◌, length, take};
 ghost use Rattle.std.specs.Prelude.{IfOk, OnErr, OnOk};
-ghost use Rattle.snmp_io.specs.Output.{IsBegun, Rose, appended};
+ghost use Rattle.snmp_io.specs.Count.{HasRisen};
+ghost use Rattle.snmp_io.specs.Output.{FailsWithin, Stream, extended};
 
 use thiserror::Error;
 
@@ -12,34 +13,31 @@ pub struct OutputFault;
 
 /// What takes octets, as standard output does.
 pub trait Output {
-    /// The octets that were taken so far, where they are known.
-    ghost taken: { Self → Option (List ℕ) };
+    /// What is known of it: the octets that it took, and how many writes failed.
+    ghost stream: { Self → Stream };
 
-    /// How many writes failed so far.
-    ghost fault_count: { Self → ℕ };
-
-    /// Takes a front of `piece`, not empty where the piece isn't, and says how long it is. After a
+    /// Takes a front of `piece`, not empty where the piece isn't, and returns its length. At a
     /// fault, which is counted, nothing of the piece was taken.
     fn write(&mut self, piece: &[u8]) -> Result<usize, OutputFault>
-        ensures some { IfOk result (λ n. 0 < length piece.now → 0 < n) }
-        ensures within { IfOk result (λ n. n ≤ length piece.now) }
-        ensures front { IfOk result (λ n.
-            taken self.new ≡ appended (taken self.old) (take n piece.now)) }
-        ensures nothing { OnErr result (taken self.new ≡ taken self.old) }
-        ensures uncounted { OnOk result (fault_count self.new ≡ fault_count self.old) }
-        ensures counted { OnErr result (Rose (fault_count self.old) (fault_count self.new)) };
+        ensures not_empty { IfOk result (λ n. 0 < length piece.now → 0 < n) }
+        ensures within_piece { IfOk result (λ n. n ≤ length piece.now) }
+        ensures front_taken { IfOk result (λ n.
+            stream self.new ≡ extended (stream self.old) (take n piece.now)) }
+        ensures none_taken_at_fault { OnErr result (
+            (stream self.new).taken ≡ (stream self.old).taken) }
+        ensures fault_counted { OnErr result (
+            HasRisen (stream self.old).faults (stream self.new).faults) };
 
     /// How many writes failed so far. The count stays at 18446744073709551615 once it is there.
     fn faults(&self) -> u64
-        ensures { result ≡ fault_count self.now };
+        ensures { result ≡ (stream self.now).faults };
 }
 
-/// Writes the whole of `text`, or a beginning of it where a write fails.
+/// Writes the whole of `text`, or a front of it where a write fails.
 pub fn write_all<O: Output>(out: &mut O, text: &[u8]) -> Result<(), OutputFault>
-    ensures whole { OnOk result (O.taken out.new ≡ appended (O.taken out.old) text.now) }
-    ensures begun { OnErr result (IsBegun (O.taken out.old) (O.taken out.new) text.now) }
-    ensures uncounted { OnOk result (O.fault_count out.new ≡ O.fault_count out.old) }
-    ensures counted { OnErr result (Rose (O.fault_count out.old) (O.fault_count out.new)) }
+    ensures whole_at_ok { OnOk result (O.stream out.new ≡ extended (O.stream out.old) text.now) }
+    ensures front_at_fault { OnErr result (
+        FailsWithin (O.stream out.old) text.now (O.stream out.new)) }
 {
     let mut written = 0;
     'pieces: while written < text.len() {

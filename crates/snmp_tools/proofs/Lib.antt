@@ -2,4 +2,5 @@ pub mod Letters
 pub mod NameLemmas
 pub mod Outcomes
 pub mod Printed
+pub mod Streams
 pub mod Walked

@@ -17,45 +17,46 @@ use Rattle.snmp_walk.specs.Room.{HasRoomForEach, HasIds}
 use Rattle.snmp_walk.specs.Facts.{IsDone}
 use Rattle.snmp_lines.specs.Line.{line_of, lines_of}
 use Rattle.snmp_io.specs.Files.{HoldsIfKnown}
-use Rattle.snmp_io.specs.Output.{appended, IsBegun, Rose}
-use Rattle.snmp_io.proofs.OutputLemmas.{nothing_is_begun, whole_is_begun, begun_after, begun_of_longer}
+use Rattle.snmp_io.specs.Count.{HasRisen}
+use Rattle.snmp_io.specs.Output.{IsWritten, Stream, TakesFront, extended}
+use Rattle.snmp_tools.proofs.Streams.{front_after, front_of_longer, nothing_taken, whole_first}
 use Rattle.snmp_words.specs.Words.{WalkWords}
 use Rattle.snmp_tools.specs.declared.failure.Failure.{Failure}
 use Rattle.snmp_tools.specs.declared.failure.Failure.TheVariants as failure
 use Rattle.snmp_tools.specs.Lines.{IsPrintedUpTo}
 use Rattle.snmp_tools.specs.Message.{JobWords, message_of, status_of}
-use Rattle.snmp_tools.specs.Job.{agent_over, first_of, Holdings, Stream, Names, IsWalkOver, AreRowsOf, IsWalked, failure_of, IsOutcome, refused, walked, IsTold, IsTheWalk, WritesABeginning, WritesAll, IsTablePath, IsFileFault, IsRefusal, IsOwnEnd, IsWritten, IsFeasible, EndsWell}
+use Rattle.snmp_tools.specs.Job.{agent_over, first_of, Holdings, Names, IsWalkOver, AreRowsOf, IsWalked, failure_of, IsOutcome, refused, walked, IsTold, IsTheWalk, WritesABeginning, WritesAll, IsTablePath, IsFileFault, IsRefusal, IsOwnEnd, IsFeasible, EndsWell}
 
 lines-append : (rows more : List VarBind) → lines_of (rows ++ more) ≡ lines_of rows ++ lines_of more
 lines-append rows more = flat_map-append line_of rows more
 
 -- the lines of what was given, and a beginning of the next
-printed_begun : (before after : Option (List ℕ)) (count now : ℕ) (rows turned : List VarBind) (end : WalkEnd) → IsPrintedUpTo before count rows turned end after now
-    → IsBegun before after (lines_of rows ++ lines_of turned)
-printed_begun before after count now rows turned (ending.Sink sink.Output) h = begun_after before (appended before (lines_of rows)) after (lines_of rows) (lines_of turned) refl h.0
-printed_begun before after count now rows turned (ending.Sink sink.Memory) h = begun_of_longer before after (lines_of rows) (lines_of turned) (whole_is_begun before after (lines_of rows) h.0)
-printed_begun before after count now rows turned (ending.Done n) h = begun_of_longer before after (lines_of rows) (lines_of turned) (whole_is_begun before after (lines_of rows) h.0)
-printed_begun before after count now rows turned (ending.Fault status index) h = begun_of_longer before after (lines_of rows) (lines_of turned) (whole_is_begun before after (lines_of rows) h.0)
-printed_begun before after count now rows turned (ending.NoProgress asked) h = begun_of_longer before after (lines_of rows) (lines_of turned) (whole_is_begun before after (lines_of rows) h.0)
-printed_begun before after count now rows turned ending.BadReply h = begun_of_longer before after (lines_of rows) (lines_of turned) (whole_is_begun before after (lines_of rows) h.0)
-printed_begun before after count now rows turned (ending.NotIncreasing last got) h = begun_of_longer before after (lines_of rows) (lines_of turned) (whole_is_begun before after (lines_of rows) h.0)
-printed_begun before after count now rows turned ending.TooManyRequests h = begun_of_longer before after (lines_of rows) (lines_of turned) (whole_is_begun before after (lines_of rows) h.0)
-printed_begun before after count now rows turned ending.RequestTooLong h = begun_of_longer before after (lines_of rows) (lines_of turned) (whole_is_begun before after (lines_of rows) h.0)
-printed_begun before after count now rows turned ending.NoResponse h = begun_of_longer before after (lines_of rows) (lines_of turned) (whole_is_begun before after (lines_of rows) h.0)
-printed_begun before after count now rows turned ending.Link h = begun_of_longer before after (lines_of rows) (lines_of turned) (whole_is_begun before after (lines_of rows) h.0)
+printed_begun : (before after : Stream) (rows turned : List VarBind) (end : WalkEnd) → IsPrintedUpTo before rows turned end after
+    → TakesFront before (lines_of rows ++ lines_of turned) after
+printed_begun before after rows turned (ending.Sink sink.Output) h = front_after before (extended before (lines_of rows)) after (lines_of rows) (lines_of turned) refl h.begun
+printed_begun before after rows turned (ending.Sink sink.Memory) h = whole_first before after (lines_of rows) (lines_of turned) h
+printed_begun before after rows turned (ending.Done n) h = whole_first before after (lines_of rows) (lines_of turned) h
+printed_begun before after rows turned (ending.Fault status index) h = whole_first before after (lines_of rows) (lines_of turned) h
+printed_begun before after rows turned (ending.NoProgress asked) h = whole_first before after (lines_of rows) (lines_of turned) h
+printed_begun before after rows turned ending.BadReply h = whole_first before after (lines_of rows) (lines_of turned) h
+printed_begun before after rows turned (ending.NotIncreasing last got) h = whole_first before after (lines_of rows) (lines_of turned) h
+printed_begun before after rows turned ending.TooManyRequests h = whole_first before after (lines_of rows) (lines_of turned) h
+printed_begun before after rows turned ending.RequestTooLong h = whole_first before after (lines_of rows) (lines_of turned) h
+printed_begun before after rows turned ending.NoResponse h = whole_first before after (lines_of rows) (lines_of turned) h
+printed_begun before after rows turned ending.Link h = whole_first before after (lines_of rows) (lines_of turned) h
 
-printed_all : (before after : Option (List ℕ)) (count now : ℕ) (rows turned : List VarBind) (end : WalkEnd) → IsDone end → IsPrintedUpTo before count rows turned end after now
-    → (after ≡ appended before (lines_of rows)) × (now ≡ count)
-printed_all before after count now rows turned (ending.Done n) d h = h
-printed_all before after count now rows turned (ending.Sink fault) d h = absurd d
-printed_all before after count now rows turned (ending.Fault status index) d h = absurd d
-printed_all before after count now rows turned (ending.NoProgress asked) d h = absurd d
-printed_all before after count now rows turned ending.BadReply d h = absurd d
-printed_all before after count now rows turned (ending.NotIncreasing last got) d h = absurd d
-printed_all before after count now rows turned ending.TooManyRequests d h = absurd d
-printed_all before after count now rows turned ending.RequestTooLong d h = absurd d
-printed_all before after count now rows turned ending.NoResponse d h = absurd d
-printed_all before after count now rows turned ending.Link d h = absurd d
+printed_all : (before after : Stream) (rows turned : List VarBind) (end : WalkEnd) → IsDone end → IsPrintedUpTo before rows turned end after
+    → after ≡ extended before (lines_of rows)
+printed_all before after rows turned (ending.Done n) d h = h
+printed_all before after rows turned (ending.Sink fault) d h = absurd d
+printed_all before after rows turned (ending.Fault status index) d h = absurd d
+printed_all before after rows turned (ending.NoProgress asked) d h = absurd d
+printed_all before after rows turned ending.BadReply d h = absurd d
+printed_all before after rows turned (ending.NotIncreasing last got) d h = absurd d
+printed_all before after rows turned ending.TooManyRequests d h = absurd d
+printed_all before after rows turned ending.RequestTooLong d h = absurd d
+printed_all before after rows turned ending.NoResponse d h = absurd d
+printed_all before after rows turned ending.Link d h = absurd d
 
 done_of : (end : WalkEnd) → None ≡ failure_of end → IsDone end
 done_of (ending.Done n) e = tt
@@ -95,13 +96,13 @@ module _ (words : WalkWords) (files : Holdings) (view : MibView) (root : List �
 pub writes_a_beginning : (words : WalkWords) (files : Holdings) (before after : Stream) (outcome : Option Failure) → IsOutcome words files before after outcome
     → WritesABeginning words files before after
 writes_a_beginning words files before after outcome (refused why refusal same is) rows h =
-    nothing_is_begun before.0 after.0 (lines_of rows) (ap (λ (s : Stream). s.0) same)
+    nothing_taken before after (lines_of rows) same
 writes_a_beginning words files before after outcome (walked view root given turned end over facts printed is) rows h =
     let left = facts.beginning rows (rows_over words files view root over rows h) in
     let text : lines_of rows ≡ (lines_of given ++ lines_of turned) ++ lines_of left.0 =
     ap lines_of left.1 ∙ lines-append (given ++ turned) left.0 ∙ ap (λ (t : List ℕ). t ++ lines_of left.0) (lines-append given turned) in
-    subst (IsBegun before.0 after.0) (sym text)
-    (begun_of_longer before.0 after.0 (lines_of given ++ lines_of turned) (lines_of left.0) (printed_begun before.0 after.0 before.1 after.1 given turned end printed))
+    subst (λ (t : List ℕ). TakesFront before t after) (sym text)
+    (front_of_longer before after (lines_of given ++ lines_of turned) (lines_of left.0) (printed_begun before after given turned end printed))
 
 no_status : (why : Failure) → status_of why ≡ 0 → ⊥
 no_status (failure.Letter letter) e = cc
@@ -136,13 +137,13 @@ writes_all words files before after err_before err_after status outcome (refused
 writes_all words files before after err_before err_after status outcome (walked view root given turned end over facts printed is) told rows zero_status h =
     let done : IsDone end = done_of end (sym (told_done words outcome err_before err_after status told zero_status) ∙ is) in
     let whole : given ≡ rows = facts.all rows (rows_over words files view root over rows h) done in
-    subst (λ (r : List VarBind). (after.0 ≡ appended before.0 (lines_of r)) × (after.1 ≡ before.1)) whole (printed_all before.0 after.0 before.1 after.1 given turned end done printed)
+    subst (λ (r : List VarBind). after ≡ extended before (lines_of r)) whole (printed_all before after given turned end done printed)
 
 -- ---- how it ends
 
 -- the status and what was told, where memory ran out or the output failed
 abbrev Mishap : (before after err_before err_after : Stream) → ℕ → Type 0
-Mishap before after err_before err_after status = (status ≡ 1) × (Rose before.1 after.1 ⊎ IsWritten err_before (codes "Out of memory.\n") err_after)
+Mishap before after err_before err_after status = (status ≡ 1) × (HasRisen before.faults after.faults ⊎ IsWritten err_before (codes "Out of memory.\n") err_after)
 
 abbrev Well : (before after err_before err_after : Stream) → ℕ → Type 0
 Well before after err_before err_after status = (status ≡ 0) ⊎ Mishap before after err_before err_after status
@@ -196,12 +197,12 @@ module _ (words : WalkWords) (files : Holdings) (rows : List VarBind) (h : IsThe
   wants failure.Memory r = inl refl
 
   walk_ends : (before after err_before err_after : Stream) (status : ℕ) (given turned : List VarBind) (end : WalkEnd) → IsOwnEnd end
-      → IsPrintedUpTo before.0 before.1 given turned end after.0 after.1 → IsTold words (failure_of end) err_before err_after status
+      → IsPrintedUpTo before given turned end after → IsTold words (failure_of end) err_before err_after status
       → Well before after err_before err_after status
   walk_ends before after err_before err_after status given turned (ending.Done n) own printed told = inl told.0
   walk_ends before after err_before err_after status given turned (ending.Sink sink.Memory) own printed told =
       want_told words (failure.Ended (ending.Sink sink.Memory)) before after err_before err_after status (inr (inr refl)) told
-  walk_ends before after err_before err_after status given turned (ending.Sink sink.Output) own printed told = inr (told.0, inl printed.1)
+  walk_ends before after err_before err_after status given turned (ending.Sink sink.Output) own printed told = inr (told.0, inl printed.counted)
   walk_ends before after err_before err_after status given turned (ending.Fault a b) own printed told = absurd own
   walk_ends before after err_before err_after status given turned (ending.NoProgress asked) own printed told = absurd own
   walk_ends before after err_before err_after status given turned ending.BadReply own printed told = absurd own

@@ -13,7 +13,8 @@ use Rattle.snmp_words.specs.Words.{WalkWords}
 use Rattle.snmp_tools.specs.declared.failure.Failure.{Failure}
 use Rattle.snmp_tools.specs.declared.failure.Failure.TheVariants as failure
 use Rattle.snmp_tools.specs.Lines.{IsPrintedUpTo}
-use Rattle.snmp_tools.specs.Job.{Holdings, Stream, agent_over, first_of, IsWalkOver, IsWalkFrom, AreRowsOf, IsWalked, IsOwnEnd, failure_of, IsOutcome, walked}
+use Rattle.snmp_io.specs.Output.{Stream}
+use Rattle.snmp_tools.specs.Job.{Holdings, agent_over, first_of, IsWalkOver, IsWalkFrom, AreRowsOf, IsWalked, IsOwnEnd, failure_of, IsOutcome, walked}
 
 own_end : (end : WalkEnd) → IsSwiftEnd end → (end ≡ ending.Link → ⊥) → IsOwnEnd end
 own_end (ending.Done n) s never = tt
@@ -66,6 +67,6 @@ module _ (words : WalkWords) (files : Holdings) (view : MibView) (core : Walker)
         (subst (λ (c : Walker). HasRoomForEach (agent_over view) view c) (sym from.is) room) (subst (λ (c : Walker). HasIds c view) (sym from.is) ids)) no_link;
   }
 
-  pub walked_over : (before after : Stream) → IsWalkOver words files view root → IsPrintedUpTo before.0 before.1 rows turned end after.0 after.1 → (end ≡ ending.Link → ⊥)
+  pub walked_over : (before after : Stream) → IsWalkOver words files view root → IsPrintedUpTo before rows turned end after → (end ≡ ending.Link → ⊥)
       → IsOutcome words files before after (failure_of end)
   walked_over before after over printed no_link = walked view root rows turned end over (is_walked no_link) printed refl

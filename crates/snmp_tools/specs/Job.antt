@@ -20,7 +20,8 @@ use Rattle.snmp_walk.specs.Room.{HasRoomForEach, HasIds}
 use Rattle.snmp_walk.specs.Facts.{IsLawfulEnd, IsDone, IsFresh, walk_at}
 use Rattle.snmp_lines.specs.Line.{lines_of}
 use Rattle.snmp_io.specs.Files.{HoldsIfKnown}
-use Rattle.snmp_io.specs.Output.{appended, IsBegun, Rose}
+use Rattle.snmp_io.specs.Count.{HasRisen}
+use Rattle.snmp_io.specs.Output.{IsWritten, Stream, TakesFront, extended}
 use Rattle.snmp_words.specs.Words.{WalkWords}
 use Rattle.snmp_tools.specs.declared.failure.Failure.{Failure}
 use Rattle.snmp_tools.specs.declared.failure.Failure.TheVariants as failure
@@ -30,10 +31,6 @@ use Rattle.snmp_tools.specs.Message.{JobWords, message_of, status_of}
 -- what is known of files: by its path, the text of each, or that it has none
 abbrev pub Holdings : Type 0
 Holdings = List ℕ → Option (Option (List ℕ))
-
--- an output: what it took, where that is known, and how many writes failed
-abbrev pub Stream : Type 0
-Stream = Option (List ℕ) × ℕ
 
 -- ---- the words
 
@@ -138,14 +135,9 @@ failure_of end = Some (failure.Ended end)
 pub data IsOutcome (words : WalkWords) (files : Holdings) (before after : Stream) (outcome : Option Failure) : Type 0 where
   refused : (why : Failure) → IsRefusal words files why → after ≡ before → outcome ≡ Some why → IsOutcome words files before after outcome
   walked : (view : MibView) (root : List ℕ) (rows turned : List VarBind) (end : WalkEnd) → IsWalkOver words files view root → IsWalked view root rows turned end
-      → IsPrintedUpTo before.0 before.1 rows turned end after.0 after.1 → outcome ≡ failure_of end → IsOutcome words files before after outcome
+      → IsPrintedUpTo before rows turned end after → outcome ≡ failure_of end → IsOutcome words files before after outcome
 
 -- ---- what is told
-
--- the text was written, or a beginning of it where the output failed
-abbrev pub IsWritten : Stream → List ℕ → Stream → Type 0
-IsWritten before text after =
-    ((after.0 ≡ appended before.0 text) × (after.1 ≡ before.1)) ⊎ (IsBegun before.0 after.0 text × Rose before.1 after.1)
 
 -- the path that messages repeat, and nothing where the agent is no table file
 abbrev pub IsPathIn : (agent path : List ℕ) → Type 0
@@ -181,12 +173,12 @@ pub record IsTheWalk (words : WalkWords) (files : Holdings) (rows : List VarBind
 
 -- Whatever fails, a beginning of the walk's lines is written.
 abbrev pub WritesABeginning : WalkWords → Holdings → (before after : Stream) → Type 0
-WritesABeginning words files before after = (rows : List VarBind) → IsTheWalk words files rows → IsBegun before.0 after.0 (lines_of rows)
+WritesABeginning words files before after = (rows : List VarBind) → IsTheWalk words files rows → TakesFront before (lines_of rows) after
 
 -- At status 0 all of them are.
 abbrev pub WritesAll : WalkWords → Holdings → (before after : Stream) → ℕ → Type 0
 WritesAll words files before after status =
-    (rows : List VarBind) → status ≡ 0 → IsTheWalk words files rows → (after.0 ≡ appended before.0 (lines_of rows)) × (after.1 ≡ before.1)
+    (rows : List VarBind) → status ≡ 0 → IsTheWalk words files rows → after ≡ extended before (lines_of rows)
 
 -- what a walk needs beside memory and an output that takes its lines: letters with a meaning, a root that can be sent, room for each single
 -- binding in the agent's messages of at most 1472 octets, and ids enough
@@ -201,4 +193,4 @@ pub record IsFeasible (words : WalkWords) (view : MibView) (root : List ℕ) : T
 abbrev pub EndsWell : WalkWords → Holdings → (before after err_before err_after : Stream) → ℕ → Type 0
 EndsWell words files before after err_before err_after status =
     (rows : List VarBind) (h : IsTheWalk words files rows) → IsFeasible words h.view h.root
-    → (status ≡ 0) ⊎ ((status ≡ 1) × (Rose before.1 after.1 ⊎ IsWritten err_before (codes "Out of memory.\n") err_after))
+    → (status ≡ 0) ⊎ ((status ≡ 1) × (HasRisen before.faults after.faults ⊎ IsWritten err_before (codes "Out of memory.\n") err_after))

@@ -20,15 +20,15 @@ pub fn tool<F: Files, O: Output, E: Output>(
     err: &mut E,
 ) -> u8
     ensures does { (w : WalkWords) → is_taken (texts words.now) ≡ true → stated_job (texts words.now) ≡ Some (walk w)
-        → Does w (F.text_at files.now) (O.taken out.old.out, O.fault_count out.old.out) (O.taken out.new.out, O.fault_count out.new.out)
-        (E.taken err.old, E.fault_count err.old) (E.taken err.new, E.fault_count err.new) result }
+        → Does w (F.text_at files.now) (O.stream out.old.out) (O.stream out.new.out)
+        (E.stream err.old) (E.stream err.new) result }
     ensures beginning { (w : WalkWords) → is_taken (texts words.now) ≡ true → stated_job (texts words.now) ≡ Some (walk w)
-        → WritesABeginning w (F.text_at files.now) (O.taken out.old.out, O.fault_count out.old.out) (O.taken out.new.out, O.fault_count out.new.out) }
+        → WritesABeginning w (F.text_at files.now) (O.stream out.old.out) (O.stream out.new.out) }
     ensures all { (w : WalkWords) → is_taken (texts words.now) ≡ true → stated_job (texts words.now) ≡ Some (walk w)
-        → WritesAll w (F.text_at files.now) (O.taken out.old.out, O.fault_count out.old.out) (O.taken out.new.out, O.fault_count out.new.out) result }
+        → WritesAll w (F.text_at files.now) (O.stream out.old.out) (O.stream out.new.out) result }
     ensures well { (w : WalkWords) → is_taken (texts words.now) ≡ true → stated_job (texts words.now) ≡ Some (walk w)
-        → EndsWell w (F.text_at files.now) (O.taken out.old.out, O.fault_count out.old.out) (O.taken out.new.out, O.fault_count out.new.out)
-        (E.taken err.old, E.fault_count err.old) (E.taken err.new, E.fault_count err.new) result }
+        → EndsWell w (F.text_at files.now) (O.stream out.old.out) (O.stream out.new.out)
+        (E.stream err.old) (E.stream err.new) result }
 {
     match read_words(alloc, words) {
         Ok(job) => run_job(alloc, &job, files, out, err),

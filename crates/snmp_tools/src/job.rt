@@ -2,11 +2,12 @@
 ghost use Rattle.std.specs.Prelude.{◌≡◌, ◌++◌, List, ℕ, codes, None, Some, OnOk, IfOk, IfErr, IfSome, IfNone};
 ghost use Rattle.std.specs.Str.Lines.{lines};
 ghost use Rattle.snmp_io.specs.Files.{HoldsIfKnown};
+ghost use Rattle.snmp_io.specs.Output.{IsWritten};
 ghost use Rattle.snmp_table.specs.Stated.{IsTableOf};
 ghost use Rattle.snmp_table.specs.Table.{IsMibView};
 ghost use Rattle.snmp_words.specs.Words.{WalkWords, job_words, walk, walk_words};
 ghost use Rattle.snmp_tools.specs.Message.{message_of};
-ghost use Rattle.snmp_tools.specs.Job.{Holdings, other_letter, IsTablePath, IsPathIn, Names, IsFileFault, IsRefusal, IsWalkOver, IsWalkFrom, IsOutcome, IsWritten, IsTold, Does, WritesABeginning, WritesAll, EndsWell};
+ghost use Rattle.snmp_tools.specs.Job.{Holdings, other_letter, IsTablePath, IsPathIn, Names, IsFileFault, IsRefusal, IsWalkOver, IsWalkFrom, IsOutcome, IsTold, Does, WritesABeginning, WritesAll, EndsWell};
 
 use crate::failure::{Failure, Words};
 use crate::lines::{Lines, print_walk};
@@ -38,15 +39,15 @@ pub fn run_job<F: Files, O: Output, E: Output>(
     err: &mut E,
 ) -> u8
     ensures does { (words : WalkWords) → job_words job.now ≡ walk words
-        → Does words (F.text_at files.now) (O.taken out.old.out, O.fault_count out.old.out) (O.taken out.new.out, O.fault_count out.new.out)
-        (E.taken err.old, E.fault_count err.old) (E.taken err.new, E.fault_count err.new) result }
+        → Does words (F.text_at files.now) (O.stream out.old.out) (O.stream out.new.out)
+        (E.stream err.old) (E.stream err.new) result }
     ensures beginning { (words : WalkWords) → job_words job.now ≡ walk words
-        → WritesABeginning words (F.text_at files.now) (O.taken out.old.out, O.fault_count out.old.out) (O.taken out.new.out, O.fault_count out.new.out) }
+        → WritesABeginning words (F.text_at files.now) (O.stream out.old.out) (O.stream out.new.out) }
     ensures all { (words : WalkWords) → job_words job.now ≡ walk words
-        → WritesAll words (F.text_at files.now) (O.taken out.old.out, O.fault_count out.old.out) (O.taken out.new.out, O.fault_count out.new.out) result }
+        → WritesAll words (F.text_at files.now) (O.stream out.old.out) (O.stream out.new.out) result }
     ensures well { (words : WalkWords) → job_words job.now ≡ walk words
-        → EndsWell words (F.text_at files.now) (O.taken out.old.out, O.fault_count out.old.out) (O.taken out.new.out, O.fault_count out.new.out)
-        (E.taken err.old, E.fault_count err.old) (E.taken err.new, E.fault_count err.new) result }
+        → EndsWell words (F.text_at files.now) (O.stream out.old.out) (O.stream out.new.out)
+        (E.stream err.old) (E.stream err.new) result }
 {
     match job {
         Job::Walk(walk) => do_walk(alloc, walk, files, out, err),
@@ -61,8 +62,8 @@ fn do_walk<F: Files, O: Output, E: Output>(
     out: &mut Lines<O>,
     err: &mut E,
 ) -> u8
-    ensures { Does (walk_words walk.now) (F.text_at files.now) (O.taken out.old.out, O.fault_count out.old.out) (O.taken out.new.out, O.fault_count out.new.out)
-        (E.taken err.old, E.fault_count err.old) (E.taken err.new, E.fault_count err.new) result }
+    ensures { Does (walk_words walk.now) (F.text_at files.now) (O.stream out.old.out) (O.stream out.new.out)
+        (E.stream err.old) (E.stream err.new) result }
 {
     match walk_lines(alloc, walk, files, out) {
         Ok(()) => 0,
@@ -72,7 +73,7 @@ fn do_walk<F: Files, O: Output, E: Output>(
 
 /// Tells a failure on `err`, and answers its status. Where there is no memory for its message, that is told.
 fn report<E: Output>(alloc: Global, failure: &Failure, walk: &WalkJob<'_>, err: &mut E) -> u8
-    ensures { IsTold (walk_words walk.now) (Some failure.now) (E.taken err.old, E.fault_count err.old) (E.taken err.new, E.fault_count err.new) result }
+    ensures { IsTold (walk_words walk.now) (Some failure.now) (E.stream err.old) (E.stream err.new) result }
 {
     match message_line(alloc, failure, walk) {
         Ok(text) => tell(err, &text),
@@ -99,7 +100,7 @@ fn message_line(alloc: Global, failure: &Failure, walk: &WalkJob<'_>) -> Result<
 
 /// Writes a text. A fault is passed over: there is nowhere left to tell it.
 pub(crate) fn tell<E: Output>(err: &mut E, text: &[u8])
-    ensures { IsWritten (E.taken err.old, E.fault_count err.old) text.now (E.taken err.new, E.fault_count err.new) }
+    ensures { IsWritten (E.stream err.old) text.now (E.stream err.new) }
 {
     let _ = write_all(err, text);
 }
@@ -111,8 +112,8 @@ fn walk_lines<F: Files, O: Output>(
     files: &F,
     out: &mut Lines<O>,
 ) -> Result<(), Failure>
-    ensures done { OnOk result (IsOutcome (walk_words walk.now) (F.text_at files.now) (O.taken out.old.out, O.fault_count out.old.out) (O.taken out.new.out, O.fault_count out.new.out) None) }
-    ensures failed { IfErr result (λ failure. IsOutcome (walk_words walk.now) (F.text_at files.now) (O.taken out.old.out, O.fault_count out.old.out) (O.taken out.new.out, O.fault_count out.new.out) (Some failure)) }
+    ensures done { OnOk result (IsOutcome (walk_words walk.now) (F.text_at files.now) (O.stream out.old.out) (O.stream out.new.out) None) }
+    ensures failed { IfErr result (λ failure. IsOutcome (walk_words walk.now) (F.text_at files.now) (O.stream out.old.out) (O.stream out.new.out) (Some failure)) }
 {
     let Start { table, core } = match start_of(alloc, walk, files) {
         Ok(start) => start,

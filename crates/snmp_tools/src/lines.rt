@@ -35,7 +35,7 @@ impl<O: Output> Lines<O> {
 impl<O: Output> Sink for Lines<O> {
     ghost use Rattle.snmp_tools.specs.Lines.{TakesLine};
 
-    ghost takes = { λ old binding result new. TakesLine (O.taken old.out) (O.fault_count old.out) binding result (O.taken new.out) (O.fault_count new.out) };
+    ghost takes = { λ old binding result new. TakesLine (O.stream old.out) binding result (O.stream new.out) };
 
     fn row(&mut self, binding: &Binding<'_>) -> Result<(), SinkFault> {
         self.text.clear();
@@ -60,7 +60,7 @@ pub(crate) fn print_walk<L: Link, O: Output>(
 ) -> WalkEnd
     requires { IsFresh core }
     ensures given { (rows : List VarBind) × (refused : List VarBind)
-        × IsPrintedUpTo (O.taken out.old.out) (O.fault_count out.old.out) rows refused result (O.taken out.new.out) (O.fault_count out.new.out)
+        × IsPrintedUpTo (O.stream out.old.out) rows refused result (O.stream out.new.out)
         × (L.honest link.old → WalkFacts (L.agents link.old) core rows refused result) }
     ensures fault { result ≡ WalkEnd.Link → Rose (L.fault_count link.old) (L.fault_count link.new) }
 {

@@ -3,7 +3,8 @@ use Rattle.snmp_words.specs.Words.{WalkWords, Stated, job_words, walk, walk_word
 use Rattle.snmp_words.specs.declared.Job.{Job}
 use Rattle.snmp_words.specs.declared.Job.TheVariants.{Walk}
 use Rattle.snmp_words.specs.declared.WalkJob.{WalkJob}
-use Rattle.snmp_tools.specs.Job.{Stream, Does}
+use Rattle.snmp_io.specs.Output.{Stream}
+use Rattle.snmp_tools.specs.Job.{Does}
 use Rattle.snmp_tools.proofs.Outcomes.{writes_a_beginning, writes_all, ends_well}
 use Rattle.snmp_tools.proofs.job.run_job.Goals as goal
 
@@ -13,10 +14,10 @@ as_walk words (Walk w) e = (w, refl, cc)
 pub returns-clause-does : goal.returns-clause-does
 returns-clause-does g c = λ words is.
     let w = as_walk words c.args.job.now is in
-    let out_before : Stream = (g.O.Output.taken c.args.out.now.out, g.O.Output.fault_count c.args.out.now.out) in
-    let out_after : Stream = (g.O.Output.taken c.do_walk.new.out.out, g.O.Output.fault_count c.do_walk.new.out.out) in
-    let err_before : Stream = (g.E.Output.taken c.args.err.now, g.E.Output.fault_count c.args.err.now) in
-    let err_after : Stream = (g.E.Output.taken c.do_walk.new.err, g.E.Output.fault_count c.do_walk.new.err) in
+    let out_before : Stream = g.O.Output.stream c.args.out.now.out in
+    let out_after : Stream = g.O.Output.stream c.do_walk.new.out.out in
+    let err_before : Stream = g.E.Output.stream c.args.err.now in
+    let err_after : Stream = g.E.Output.stream c.do_walk.new.err in
     let does : Does (walk_words w.0) (g.F.Files.text_at c.args.files.now) out_before out_after err_before err_after c.do_walk.result = rw (w.1) at c.do_walk.ensures in
     subst (λ (v : WalkWords). Does v (g.F.Files.text_at c.args.files.now) out_before out_after err_before err_after c.do_walk.result) w.2 does
 

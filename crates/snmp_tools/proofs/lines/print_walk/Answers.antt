@@ -5,6 +5,6 @@ pub returns : goal.returns
 returns g c =
     let given = c.run_walk.ensures.given in
     record {
-      given = (given.0, given.1, printed_up_to (λ s. g.O.Output.taken s.out) (λ s. g.O.Output.fault_count s.out) _ _ given.0 given.1 _ given.2, given.4);
+      given = (given.0, given.1, printed_up_to (λ s. g.O.Output.stream s.out) _ _ given.0 given.1 _ given.2, given.4);
       fault = c.run_walk.ensures.fault;
     }
