@@ -1,0 +1,5 @@
+pub mod Chain
+pub mod Basis
+pub mod Order
+pub mod Search
+pub mod Resolving

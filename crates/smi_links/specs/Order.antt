@@ -1,0 +1,12 @@
+-- Places in an order in which each comes after the one that it leads to.
+use Rattle.std.specs.Prelude.{◌≡◌, ℕ, ◌<◌, List, length, take, slice_index, slice_index_or, Contains, Option, Some, None}
+
+-- the place that a place leads to; beyond the last place there is none
+abbrev pub next_at : List (Option ℕ) → ℕ → Option ℕ
+next_at next p = slice_index_or next p None
+
+-- each place of the order comes after the one that it leads to, if that is a place
+abbrev pub ComeAfterNext : List (Option ℕ) → List ℕ → Type 0
+ComeAfterNext next order =
+    (i q : ℕ) → i < length order → next_at next (slice_index order i) ≡ Some q → q < length next
+    → Contains (take i order) q

@@ -1,0 +1,14 @@
+//! Chains of names, resolved without recursion: where each chain ends, and which numbers stand along
+//! it.
+//!
+//! Stands on identifiers alone. The tree of names resolves definitions, imports and types with it, and
+//! gives each of them a place, which is a number.
+#![tactic(auto)]
+
+mod basis;
+mod order;
+mod resolve;
+
+pub use basis::{Basis, Resolution};
+pub use order::ordered;
+pub use resolve::resolutions;
