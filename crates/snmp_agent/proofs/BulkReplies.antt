@@ -6,11 +6,12 @@ use Rattle.snmp_wire.specs.Message.{VarBind, Message}
 use Rattle.snmp_wire.specs.Canon.{canon, canon_binding, canon_bindings, canon_head}
 use Rattle.snmp_table.specs.Table.{MibView}
 use Rattle.snmp_agent.specs.Reply.{Fits, IsBulk, IsLongestFront, bulk, no_error, response}
-use Rattle.snmp_agent.specs.Answering.{IsDraft, IsSent, IsUnsent, HasNoRoom, HoldsFront, IsRoom, PassesLimit, whole_size}
+use Rattle.snmp_agent.specs.Answering.{IsDraft, IsResponseWritten, IsResponseTooLong, HasNoRoom, HoldsFront, IsRoom, PassesLimit, whole_size}
 use Rattle.snmp_agent.proofs.Requests.{bare, response_size, sealed, sealed_size}
 use Rattle.snmp_agent.proofs.Sizes.{longer, beyond}
 use Rattle.snmp_agent.proofs.Drafts.{passes}
 use Rattle.snmp_agent.proofs.Fronts.{drafted}
+use Rattle.snmp_agent.proofs.Answers.{HasNextsAfter}
 use Rattle.snmp_agent.proofs.Rounds.{all_bulk}
 
 -- a front that is longer than another has the binding behind that
@@ -42,7 +43,7 @@ module _ (q : Message) (limit room : ℕ) (is_room : IsRoom (response q no_error
 
 -- what was written is the Response
 pub bulk_sent : (view : MibView) (limit room : ℕ) (q m : Message) (all : List VarBind) (total n : ℕ) (old out new : List ℕ) → q.kind ≡ kind.GetBulkRequest → IsBulk view q all
-    → m ≡ response q no_error (pos 0) [] → IsRoom m limit room → HoldsFront room 0 old all total out → n ≡ whole_size m total → take n new ≡ canon_head m total ++ take total out → IsSent view limit q n new
+    → m ≡ response q no_error (pos 0) [] → IsRoom m limit room → HoldsFront room 0 old all total out → n ≡ whole_size m total → take n new ≡ canon_head m total ++ take total out → IsResponseWritten view limit q n new
 bulk_sent view limit room q m all total n old out new is asked parts room_is here size octets =
     let is_room : IsRoom (response q no_error (pos 0) []) limit room = subst (λ (x : Message). IsRoom x limit room) parts room_is in
     let draft : IsDraft (response q no_error (pos 0) []) limit here.added total out = drafted (response q no_error (pos 0) []) limit room total old out here.added is_room here.extends in
@@ -58,9 +59,9 @@ bulk_sent view limit room q m all total n old out new is asked parts room_is her
     (response q no_error (pos 0) here.added, bulk all here.added is asked longest refl, fits, text, long)
 
 -- where not even a Response without bindings fits, none is sent
-pub bulk_unsent : (view : MibView) (limit : ℕ) (q m : Message) → q.kind ≡ kind.GetBulkRequest → m ≡ response q no_error (pos 0) [] → limit < whole_size m 0 → IsUnsent view limit q
-bulk_unsent view limit q m is parts large =
-    let all = all_bulk view q in
+pub bulk_unsent : HasNextsAfter → (view : MibView) (limit : ℕ) (q m : Message) → q.kind ≡ kind.GetBulkRequest → m ≡ response q no_error (pos 0) [] → limit < whole_size m 0 → IsResponseTooLong view limit q
+bulk_unsent nexts view limit q m is parts large =
+    let all = all_bulk nexts view q in
     let alone : limit < whole_size (response q no_error (pos 0) []) 0 = subst (λ (x : Message). limit < whole_size x 0) parts large in
     let size : length (canon_head (response q no_error (pos 0) []) 0) ≡ length (canon (response q no_error (pos 0) [])) = ap length (bare q no_error (pos 0)) in
     let longest : IsLongestFront limit q all.0 [] = record {

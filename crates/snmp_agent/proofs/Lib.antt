@@ -1,6 +1,7 @@
 pub mod Sizes
 pub mod Answers
 pub mod Encodings
+pub mod OneReply
 pub mod Requests
 pub mod Drafts
 pub mod Rounds

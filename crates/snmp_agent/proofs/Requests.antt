@@ -13,7 +13,7 @@ use Rattle.snmp_wire.specs.Canon.{canon, canon_binding, canon_bindings, canon_fi
 use Rattle.snmp_wire.proofs.MessageWriting.{canon_parts, length-canon}
 use Rattle.snmp_table.specs.Table.{MibView}
 use Rattle.snmp_agent.specs.Reply.{IsServed, AreAnswers, IsWhole, IsResponse, whole, shortened, too_big, got, got_next, unwritten, response, not_writable, failed_place}
-use Rattle.snmp_agent.specs.Answering.{IsPaired, IsAnswer, IsSent, IsDraft, PassesLimit, whole_size, status_of, index_of}
+use Rattle.snmp_agent.specs.Answering.{IsPaired, IsAnswer, IsResponseWritten, IsDraft, PassesLimit, whole_size, whole_status, whole_index}
 
 -- the head of a message doesn't look at its bindings
 pub same_head : (q : Message) (status index : ℤ) (bindings : List VarBind) (total : ℕ) → canon_head (response q status index []) total ≡ canon_head (response q status index bindings) total
@@ -33,7 +33,7 @@ own (a ∷ more) [] h = absurd h
 own (a ∷ more) (g ∷ gs) h = let rest : gs ≡ more = own more gs h.1 in let first : g ≡ a = h.0 in cc
 
 by_kind : (view : MibView) (q : Message) (given : List VarBind) (k : Kind) → q.kind ≡ k → IsPaired k → AreAnswers (IsAnswer view k) q.bindings given
-    → IsWhole view q (response q (status_of k) (index_of k q.bindings) given)
+    → IsWhole view q (response q (whole_status k) (whole_index k q.bindings) given)
 by_kind view q given kind.GetRequest e h answers = got given e answers refl
 by_kind view q given kind.GetNextRequest e h answers = got_next given e answers refl
 by_kind view q given kind.SetRequest e h answers = unwritten e (ap (λ bs. response q not_writable (failed_place q.bindings) bs) (own q.bindings given answers))
@@ -45,7 +45,7 @@ by_kind view q given kind.Report e h answers = absurd h
 
 -- the Response to a request whose bindings are answered, whatever its size
 pub whole_response : (view : MibView) (q : Message) (given : List VarBind) → IsPaired q.kind → AreAnswers (IsAnswer view q.kind) q.bindings given
-    → IsWhole view q (response q (status_of q.kind) (index_of q.kind q.bindings) given)
+    → IsWhole view q (response q (whole_status q.kind) (whole_index q.kind q.bindings) given)
 whole_response view q given h answers = by_kind view q given q.kind refl h answers
 
 -- ---- sizes
@@ -135,11 +135,11 @@ answers_of view q k bindings given same_kind same_bindings h =
 
 -- a finished draft is the Response
 pub finished : (view : MibView) (limit : ℕ) (q : Message) (k : Kind) (bindings given : List VarBind) (m : Message) (total n : ℕ) (out new : List ℕ) → IsPaired q.kind → k ≡ q.kind → bindings ≡ q.bindings
-    → m ≡ response q (status_of q.kind) (index_of q.kind q.bindings) [] → AreAnswers (IsAnswer view k) bindings given → IsDraft m limit given total out → n ≡ whole_size m total → take n new ≡ canon_head m total ++ take total out
-    → IsSent view limit q n new
+    → m ≡ response q (whole_status q.kind) (whole_index q.kind q.bindings) [] → AreAnswers (IsAnswer view k) bindings given → IsDraft m limit given total out → n ≡ whole_size m total → take n new ≡ canon_head m total ++ take total out
+    → IsResponseWritten view limit q n new
 finished view limit q k bindings given m total n out new served same_kind same_bindings parts h draft size octets =
-    let st = status_of q.kind in
-    let ix = index_of q.kind q.bindings in
+    let st = whole_status q.kind in
+    let ix = whole_index q.kind q.bindings in
     let here : IsDraft (response q st ix []) limit given total out = subst (λ (x : Message). IsDraft x limit given total out) parts draft in
     let long : n ≡ length (canon (response q st ix given)) = size ∙ ap (λ (x : Message). whole_size x total) parts ∙ sealed_size q st ix limit given total out here in
     let text : take n new ≡ canon (response q st ix given) = octets ∙ ap (λ (x : Message). canon_head x total ++ take total out) parts ∙ sealed q st ix limit given total out here in
@@ -148,9 +148,9 @@ finished view limit q k bindings given m total n out new served same_kind same_b
 
 -- where the answers pass the limit, the Response is an error
 pub replaced : (view : MibView) (limit : ℕ) (q : Message) (k : Kind) (bindings given : List VarBind) (m : Message) → IsPaired q.kind → k ≡ q.kind → bindings ≡ q.bindings
-    → m ≡ response q (status_of q.kind) (index_of q.kind q.bindings) [] → AreAnswers (IsAnswer view k) bindings given → PassesLimit m limit given → IsResponse view limit q (response q too_big (pos 0) [])
+    → m ≡ response q (whole_status q.kind) (whole_index q.kind q.bindings) [] → AreAnswers (IsAnswer view k) bindings given → PassesLimit m limit given → IsResponse view limit q (response q too_big (pos 0) [])
 replaced view limit q k bindings given m served same_kind same_bindings parts h large =
-    let st = status_of q.kind in
-    let ix = index_of q.kind q.bindings in
+    let st = whole_status q.kind in
+    let ix = whole_index q.kind q.bindings in
     let size : whole_size m (length (canon_bindings given)) ≡ length (canon (response q st ix given)) = ap (λ (x : Message). whole_size x (length (canon_bindings given))) parts ∙ response_size q st ix given in
     shortened (response q st ix given) (whole_response view q given served (answers_of view q k bindings given same_kind same_bindings h)) (λ fits. absurd (omega (arith, size))) refl

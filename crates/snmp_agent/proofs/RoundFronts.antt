@@ -4,6 +4,7 @@ use Rattle.snmp_wire.specs.Message.{VarBind}
 use Rattle.snmp_table.specs.Table.{MibView}
 use Rattle.snmp_agent.specs.Reply.{AreEnds, joined}
 use Rattle.snmp_agent.specs.Answering.{AreGiven, AreRoundsFrom, HasRow, Extends, HoldsFront}
+use Rattle.snmp_agent.proofs.Answers.{HasNextsAfter}
 use Rattle.snmp_agent.proofs.Rounds.{ends_decided, all_rounds, joined-append, joined-push}
 use Rattle.snmp_agent.proofs.Fronts.{more_behind, front_behind, front_before}
 
@@ -25,10 +26,10 @@ module _ (room start : ℕ) (old : List ℕ) where
       subst (λ (ps : List VarBind). Extends room start old ps end new) (sym (joined-push done round)) (more_behind room start total end old between new (joined done) round first second)
 
   -- a round that no other follows, or that has no room
-  pub closed_round : (view : MibView) (names : List VarBind) (repetitions i total end : ℕ) (between new : List ℕ) (done : List (List VarBind)) (round : List VarBind) → i < repetitions
+  pub closed_round : HasNextsAfter → (view : MibView) (names : List VarBind) (repetitions i total end : ℕ) (between new : List ℕ) (done : List (List VarBind)) (round : List VarBind) → i < repetitions
       → WithOthers view names repetitions i done → Extends room start old (joined done) total between → AreGiven view i names round → (front : HoldsFront room total between round end new)
       → (HasRow round → front.more ≢ []) → (rounds : List (List VarBind)) × AreRoundsFrom view names 0 repetitions rounds × HoldsFront room start old (joined rounds) end new
-  closed_round view names repetitions i total end between new done round below others written given front unless = by_ends (ends_decided round)
+  closed_round nexts view names repetitions i total end between new done round below others written given front unless = by_ends (ends_decided round)
     where
       left : ℕ
       left = repetitions - (i + 1)
@@ -43,7 +44,7 @@ module _ (room start : ℕ) (old : List ℕ) where
         subst (λ (ps : List VarBind). HoldsFront room start old ps end new) (sym (joined-push done round)) (front_behind room start total end old between new (joined done) round written front),
       )
       by_ends (inr row) =
-          let rest = all_rounds view names (i + 1) left in (
+          let rest = all_rounds nexts view names (i + 1) left in (
             done ++ round ∷ rest.0,
             others (suc left) (round ∷ rest.0) same (given, inr (row, rest.1)),
             subst (λ (ps : List VarBind). HoldsFront room start old ps end new) (sym (joined-append done (round ∷ rest.0)))

@@ -5,7 +5,7 @@ use Rattle.snmp_wire.specs.Message.{Datum, integer_value, octet_string, null_val
 use Rattle.snmp_table.specs.Table.{MibView}
 use Rattle.snmp_agent.specs.Reply.{AreEnds, AreRounds, IsBulk, joined, or_zero}
 use Rattle.snmp_agent.specs.Answering.{AreGiven, AreRoundsFrom, AreWritable, HasRow}
-use Rattle.snmp_agent.proofs.Answers.{all_given}
+use Rattle.snmp_agent.proofs.Answers.{HasNextsAfter, all_given}
 
 -- ---- endOfMibView throughout
 
@@ -56,11 +56,11 @@ followed view names i left round there = elim (ends_decided round) [
   | inr row ↦ (there.0, inr (row, there.1))
 ]
 
-pub all_rounds : (view : MibView) (names : List VarBind) (i left : ℕ) → (rounds : List (List VarBind)) × AreRoundsFrom view names i left rounds
-all_rounds view names i zero = ([], tt)
-all_rounds view names i (suc left) =
-    let here = all_given view i names in
-    let there = followed view names (i + 1) left here.0 (all_rounds view names (i + 1) left) in
+pub all_rounds : HasNextsAfter → (view : MibView) (names : List VarBind) (i left : ℕ) → (rounds : List (List VarBind)) × AreRoundsFrom view names i left rounds
+all_rounds nexts view names i zero = ([], tt)
+all_rounds nexts view names i (suc left) =
+    let here = all_given nexts view i names in
+    let there = followed view names (i + 1) left here.0 (all_rounds nexts view names (i + 1) left) in
     (here.0 ∷ there.0, (here.1, there.1))
 
 -- ---- the rounds by their places
@@ -155,10 +155,10 @@ is_bulk view q singles rounds first others = record {
   are_rounds = are_rounds view (or_zero q.b) (drop (or_zero q.a) q.bindings) rounds others;
 }
 
-pub all_bulk : (view : MibView) (q : Message) → (all : List VarBind) × IsBulk view q all
-all_bulk view q =
-    let singles = all_given view 0 (take (or_zero q.a) q.bindings) in
-    let rounds = all_rounds view (drop (or_zero q.a) q.bindings) 0 (or_zero q.b) in
+pub all_bulk : HasNextsAfter → (view : MibView) (q : Message) → (all : List VarBind) × IsBulk view q all
+all_bulk nexts view q =
+    let singles = all_given nexts view 0 (take (or_zero q.a) q.bindings) in
+    let rounds = all_rounds nexts view (drop (or_zero q.a) q.bindings) 0 (or_zero q.b) in
     (singles.0 ++ joined rounds.0, is_bulk view q singles.0 rounds.0 singles.1 rounds.1)
 
 -- the same, as found

@@ -88,21 +88,21 @@ abbrev pub PassesLimit : Message → ℕ → List VarBind → Type 0
 PassesLimit m limit bindings = limit < whole_size m (length (canon_bindings bindings))
 
 -- the error-status and the error-index of the whole Response to a request of the kind
-abbrev pub status_of : Kind → ℤ
-status_of kind.SetRequest = not_writable
-status_of _ = no_error
+abbrev pub whole_status : Kind → ℤ
+whole_status kind.SetRequest = not_writable
+whole_status _ = no_error
 
-abbrev pub index_of : Kind → List VarBind → ℤ
-index_of kind.SetRequest bindings = failed_place bindings
-index_of _ bindings = pos 0
+abbrev pub whole_index : Kind → List VarBind → ℤ
+whole_index kind.SetRequest bindings = failed_place bindings
+whole_index _ bindings = pos 0
 
 -- the first n octets of the output are the Response that is to be sent
-abbrev pub IsSent : MibView → ℕ → Message → ℕ → List ℕ → Type 0
-IsSent view limit q n out = (r : Message) × IsResponse view limit q r × (length (canon r) ≤ limit) × (take n out ≡ canon r) × (n ≡ length (canon r))
+abbrev pub IsResponseWritten : MibView → ℕ → Message → ℕ → List ℕ → Type 0
+IsResponseWritten view limit q n out = (r : Message) × IsResponse view limit q r × (length (canon r) ≤ limit) × (take n out ≡ canon r) × (n ≡ length (canon r))
 
 -- the Response that is to be sent doesn't fit
-abbrev pub IsUnsent : MibView → ℕ → Message → Type 0
-IsUnsent view limit q = (r : Message) × IsResponse view limit q r × (limit < length (canon r))
+abbrev pub IsResponseTooLong : MibView → ℕ → Message → Type 0
+IsResponseTooLong view limit q = (r : Message) × IsResponse view limit q r × (limit < length (canon r))
 
 -- ---- GetBulk
 

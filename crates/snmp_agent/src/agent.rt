@@ -4,12 +4,12 @@ ghost use Rattle.snmp_wire.specs.declared.kind.Kind.TheVariants as kind;
 ghost use Rattle.snmp_wire.specs.Canon.{canon};
 ghost use Rattle.snmp_wire.specs.Parts.{parts_message};
 ghost use Rattle.snmp_agent.specs.Reply.{agent_of, IsReply, IsDropped, IsRequest, IsRefused, IsServed, IsResponse, Fits, response, failed_place, too_big};
-ghost use Rattle.snmp_agent.specs.Answering.{IsPaired, AreWritable, IsSent, IsUnsent, status_of, index_of};
+ghost use Rattle.snmp_agent.specs.Answering.{IsPaired, AreWritable, IsResponseWritten, IsResponseTooLong, whole_status, whole_index};
 
 use crate::bulk::append_bulk;
 use crate::config::{Config, Outcome, Why};
 use crate::draft::{append_answers, room_for_bindings, seal};
-use snmp_table::Table;
+use snmp_table::{Table, one_answer};
 use snmp_wire::{Kind, MessageRef, Parts, decode, encode_head, head_size};
 
 /// The version of SNMPv2c (RFC 1901, section 3).
@@ -71,8 +71,8 @@ fn reply(table: &Table, max_size: usize, request: &MessageRef<'_>, out: &mut [u8
     requires writable { AreWritable request.now.bindings }
     requires datagram { max_size ≤ 65507 }
     requires room { max_size ≤ length out.old }
-    ensures sent { IfSome result (λ n. IsSent table.now max_size request.now n out.new) }
-    ensures none { IfNone result (IsUnsent table.now max_size request.now) }
+    ensures sent { IfSome result (λ n. IsResponseWritten table.now max_size request.now n out.new) }
+    ensures none { IfNone result (IsResponseTooLong table.now max_size request.now) }
 {
     match request.kind() {
         Kind::GetBulkRequest => bulk_reply(table, max_size, request, out),
@@ -92,9 +92,10 @@ fn bulk_reply<'a>(
     requires writable { AreWritable request.now.bindings }
     requires datagram { max_size ≤ 65507 }
     requires room { max_size ≤ length out.old }
-    ensures sent { IfSome result (λ n. IsSent table.now max_size request.now n out.new) }
-    ensures none { IfNone result (IsUnsent table.now max_size request.now) }
+    ensures sent { IfSome result (λ n. IsResponseWritten table.now max_size request.now n out.new) }
+    ensures none { IfNone result (IsResponseTooLong table.now max_size request.now) }
 {
+    one_answer();
     let parts = response(request, NO_ERROR, 0);
     match room_for_bindings(&parts, max_size) {
         Some(room) => {
@@ -117,8 +118,8 @@ fn paired_reply(
     requires writable { AreWritable request.now.bindings }
     requires datagram { max_size ≤ 65507 }
     requires room { max_size ≤ length out.old }
-    ensures sent { IfSome result (λ n. IsSent table.now max_size request.now n out.new) }
-    ensures none { IfNone result (IsUnsent table.now max_size request.now) }
+    ensures sent { IfSome result (λ n. IsResponseWritten table.now max_size request.now n out.new) }
+    ensures none { IfNone result (IsResponseTooLong table.now max_size request.now) }
 {
     let parts = whole_parts(request);
     match append_answers(
@@ -136,7 +137,7 @@ fn paired_reply(
 
 /// The parts of the whole Response to a request, its bindings left out.
 fn whole_parts<'a>(request: &MessageRef<'a>) -> Parts<'a>
-    ensures { parts_message result ≡ response request.now (status_of request.now.kind) (index_of request.now.kind request.now.bindings) [] }
+    ensures { parts_message result ≡ response request.now (whole_status request.now.kind) (whole_index request.now.kind request.now.bindings) [] }
 {
     match request.kind() {
         Kind::SetRequest => response(request, NOT_WRITABLE, failed_place(request)),

@@ -7,7 +7,7 @@ ghost use Rattle.snmp_agent.specs.Reply.{IsBulk, joined, or_zero};
 ghost use Rattle.snmp_agent.specs.Answering.{IsWritable, AreWritable, HoldsFront, AreGiven, IsProgress, Leaves, HasRow, AreRoundsFrom};
 
 use crate::draft::{append, blank};
-use snmp_table::{Place, Table};
+use snmp_table::{Place, Table, one_answer};
 use snmp_wire::{Binding, Bindings, MessageRef, ValueRef};
 
 /// How far bindings were written, and how many octets they and those before them take.
@@ -30,6 +30,7 @@ pub fn append_bulk<'a>(
     requires room { room ≤ length out.old }
     ensures { (all : List VarBind) × IsBulk table.now request.now all × HoldsFront room 0 out.old all result out.new }
 {
+    one_answer();
     let mut bindings = request.bindings();
     let count = or_zero(request.a());
     match append_singles(table, count, &mut bindings, room, out) {
@@ -62,6 +63,7 @@ fn append_singles<'a>(
     ensures progress { IsProgress (AreGiven table.now 0 (take count bindings.old)) (λ all. Unit {0}) room 0 out.old result out.new }
     ensures left { Leaves result (drop count bindings.old) bindings.new }
 {
+    one_answer();
     let mut total = 0;
     let mut asked = blank();
     let mut given = blank();
@@ -117,6 +119,7 @@ fn append_column<'a>(
     requires fits { start ≤ room }
     ensures { (rounds : List (List VarBind)) × AreRoundsFrom table.now (var_bind binding.old ∷ []) 0 repetitions rounds × HoldsFront room start out.old (joined rounds) result out.new }
 {
+    one_answer();
     let mut total = start;
     let mut place = Place::default();
     'rounds: for _ in 0..repetitions {
@@ -147,6 +150,7 @@ fn append_rounds(
     requires fits { start ≤ room }
     ensures { (rounds : List (List VarBind)) × AreRoundsFrom table.now bindings.entry 0 repetitions rounds × HoldsFront room start out.old (joined rounds) result out.new }
 {
+    one_answer();
     let mut total = start;
     'rounds: for round in 0..repetitions {
         match append_round(table, round, bindings.left(), room, out, total) {
@@ -172,6 +176,7 @@ fn append_round<'a>(
     requires fits { start ≤ room }
     ensures { IsProgress (AreGiven table.now round bindings.entry) HasRow room start out.old result out.new }
 {
+    one_answer();
     let mut total = start;
     let mut over = true;
     let mut asked = blank();

@@ -6,7 +6,7 @@ ghost use Rattle.snmp_wire.specs.Parts.{parts_message};
 ghost use Rattle.snmp_agent.specs.Reply.{AreAnswers};
 ghost use Rattle.snmp_agent.specs.Answering.{IsPaired, IsAnswer, IsWritable, AreWritable, IsShortValue, IsDraft, IsRoom, PassesLimit, whole_size};
 
-use snmp_table::{Place, Table};
+use snmp_table::{Place, Table, one_answer};
 use snmp_wire::{
     Binding, Bindings, Kind, Oid, Parts, ValueRef, encode_binding, encode_head, head_size,
 };
@@ -29,6 +29,7 @@ pub fn append_answers<'a>(
     ensures written { IfSome result (λ total. (given : List VarBind) × AreAnswers (IsAnswer table.now kind) bindings.entry given × IsDraft (parts_message parts.now) max_size given total out.new) }
     ensures too_long { IfNone result ((given : List VarBind) × AreAnswers (IsAnswer table.now kind) bindings.entry given × PassesLimit (parts_message parts.now) max_size given) }
 {
+    one_answer();
     let room = room_for_bindings(parts, max_size)?;
     let mut total = 0;
     let mut binding = blank();

@@ -7,9 +7,11 @@ mod agent;
 mod bulk;
 mod config;
 mod draft;
+mod laws;
 
 pub use agent::answer;
 pub use config::{Config, Outcome, Why};
+pub use laws::one_reply;
 
 #[cfg(test)]
 mod bulk_tests;

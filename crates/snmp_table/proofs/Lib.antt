@@ -2,6 +2,7 @@ pub mod Answering
 pub mod Cuts
 pub mod Decimals
 pub mod Drafts
+pub mod Each
 pub mod Faultless
 pub mod Finding
 pub mod Keeping

@@ -1,6 +1,10 @@
 -- What a search or a reading finds.
 use Rattle.std.specs.Prelude.{◌≡◌, Option, Some, None}
 
+-- P holds of just one thing
+abbrev pub HasOne : {X : Type 0} → (X → Type 0) → Type 0
+HasOne {X} P = (x : X) × P x × ((y : X) → P y → y ≡ x)
+
 -- the only thing of which P holds, or nothing where it holds of nothing
 abbrev pub IsOnly : {X : Type 0} → (X → Type 0) → Option X → Type 0
 IsOnly {X} P None = (x : X) → P x → ⊥

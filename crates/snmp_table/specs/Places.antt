@@ -32,13 +32,13 @@ abbrev pub var_of : List ℕ × Datum → VarBind
 var_of e = record { name = e.0; value = e.1 }
 
 -- the rows as variable bindings
-abbrev pub bindings_of : List Row → List VarBind
-bindings_of rows = map var_of (map entry_of rows)
+abbrev pub row_bindings : List Row → List VarBind
+row_bindings rows = map var_of (map entry_of rows)
 
 -- the name of the last row, or another where there is none
-abbrev pub last_name : List ℕ → List Row → List ℕ
-last_name o [] = o
-last_name o (row ∷ rows) = last_name row.name.items rows
+abbrev pub last_row_name : List ℕ → List Row → List ℕ
+last_row_name o [] = o
+last_row_name o (row ∷ rows) = last_row_name row.name.items rows
 
 -- the name equals one of the object prefixes or begins with it
 abbrev pub HasBeginning : List (List ℕ) → List ℕ → Type 0

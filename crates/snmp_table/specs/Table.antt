@@ -22,20 +22,20 @@ pub record IsInstanceName (o : List ℕ) : Type 0 where
   pub identifier : IsIdentifier o
 
 -- a string of a table: at most 65535 octets
-abbrev pub IsString : List ℕ → Type 0
-IsString octets = (length octets ≤ 65535) × All (λ octet. octet < 256) octets
+abbrev pub IsTableString : List ℕ → Type 0
+IsTableString octets = (length octets ≤ 65535) × All (λ octet. octet < 256) octets
 
 -- what an instance may hold: a value, and no Null or exception; strings have at most 65535 octets, and identifiers an encoding
 abbrev pub IsInstanceValue : Datum → Type 0
 IsInstanceValue (integer_value n) = FitsSigned w32 n
-IsInstanceValue (octet_string octets) = IsString octets
+IsInstanceValue (octet_string octets) = IsTableString octets
 IsInstanceValue null_value = ⊥
 IsInstanceValue (object_id o) = IsWire o × IsIdentifier o
 IsInstanceValue (ip_address octets) = (length octets ≡ 4) × All (λ octet. octet < 256) octets
 IsInstanceValue (counter32 n) = n < 2 ^ 32
 IsInstanceValue (gauge32 n) = n < 2 ^ 32
 IsInstanceValue (time_ticks n) = n < 2 ^ 32
-IsInstanceValue (opaque_octets octets) = IsString octets
+IsInstanceValue (opaque_octets octets) = IsTableString octets
 IsInstanceValue (counter64 n) = n < 2 ^ 64
 IsInstanceValue no_such_object = ⊥
 IsInstanceValue no_such_instance = ⊥

@@ -8,7 +8,7 @@ use Rattle.snmp_oid.specs.Identifier.{IsWire}
 use Rattle.snmp_oid.specs.Numeric.{value_of, IsDotted, IsNumericName}
 use Rattle.snmp_wire.specs.Message.{Datum, VarBind}
 use Rattle.snmp_wire.specs.Message.Datum.{integer_value, octet_string, null_value, object_id, ip_address, counter32, gauge32, time_ticks, opaque_octets, counter64, no_such_object, no_such_instance, end_of_mib_view}
-use Rattle.snmp_table.specs.Table.{IsInstanceName, IsString}
+use Rattle.snmp_table.specs.Table.{IsInstanceName, IsTableString}
 
 -- what a line states: nothing, an object prefix, or an instance with its value
 pub data Statement : Type 0 where
@@ -43,14 +43,14 @@ pub record IsName (text o : List ℕ) : Type 0 where
 -- the value that a text states behind a tag; the tags are those of the encoding, in decimal, and `x` says that the octets are hexadecimal
 abbrev pub IsValueText : List ℕ → List ℕ → Datum → Type 0
 IsValueText tag text (integer_value z) = (tag ≡ codes "2") × IsSignedDecimal text z × FitsSigned w32 z
-IsValueText tag text (octet_string octets) = (((tag ≡ codes "4") × (text ≡ octets)) ⊎ ((tag ≡ codes "4x") × (decode_of text ≡ Ok octets))) × IsString octets
+IsValueText tag text (octet_string octets) = (((tag ≡ codes "4") × (text ≡ octets)) ⊎ ((tag ≡ codes "4x") × (decode_of text ≡ Ok octets))) × IsTableString octets
 IsValueText tag text null_value = ⊥
 IsValueText tag text (object_id o) = (tag ≡ codes "6") × IsName text o × IsWire o
 IsValueText tag text (ip_address octets) = (tag ≡ codes "64") × IsAddressText text octets
 IsValueText tag text (counter32 n) = (tag ≡ codes "65") × IsDecimal text n × (n < 2 ^ 32)
 IsValueText tag text (gauge32 n) = (tag ≡ codes "66") × IsDecimal text n × (n < 2 ^ 32)
 IsValueText tag text (time_ticks n) = (tag ≡ codes "67") × IsDecimal text n × (n < 2 ^ 32)
-IsValueText tag text (opaque_octets octets) = (tag ≡ codes "68x") × (decode_of text ≡ Ok octets) × IsString octets
+IsValueText tag text (opaque_octets octets) = (tag ≡ codes "68x") × (decode_of text ≡ Ok octets) × IsTableString octets
 IsValueText tag text (counter64 n) = (tag ≡ codes "70") × IsDecimal text n × (n < 2 ^ 64)
 IsValueText tag text no_such_object = ⊥
 IsValueText tag text no_such_instance = ⊥

@@ -5,6 +5,7 @@
 
 mod draft;
 mod error;
+mod laws;
 mod line;
 mod row;
 mod split;
@@ -14,4 +15,5 @@ mod tests;
 mod value;
 
 pub use error::TableError;
-pub use table::{Place, Table, no_fault, one_table};
+pub use laws::{no_fault, one_answer, one_table};
+pub use table::{Place, Table};

@@ -7,7 +7,7 @@ ghost use Rattle.std.specs.FinMap.{find};
 ghost use Rattle.snmp_wire.specs.Message.{datum, var_bind};
 ghost use Rattle.snmp_wire.specs.Message.Datum.{end_of_mib_view};
 ghost use Rattle.snmp_table.specs.Row.{entry_of, datum_of, IsShortRow};
-ghost use Rattle.snmp_table.specs.Places.{IsRising, IsBeforeNone, IsBeforeAll, is_up_to, bindings_of, last_name, HasBeginning};
+ghost use Rattle.snmp_table.specs.Places.{IsRising, IsBeforeNone, IsBeforeAll, is_up_to, row_bindings, last_row_name, HasBeginning};
 ghost use Rattle.snmp_table.specs.Listing.{nth_or_end};
 ghost use Rattle.snmp_table.specs.Stated.{IsTableOf, IsFirstFault};
 ghost use Rattle.snmp_table.specs.Table.{MibView};
@@ -17,6 +17,7 @@ use crate::draft::Draft;
 use crate::error::TableError;
 use crate::row::{Row, set_name};
 use crate::split::split_line;
+use snmp_oid::order;
 use snmp_wire::{Binding, Oid, ValueRef};
 use std::alloc::Global;
 use std::collections::BTreeSet;
@@ -78,6 +79,13 @@ impl Table {
         }
     }
 
+    /// What a table serves is a MIB view: a law, which does nothing when it runs.
+    pub fn is_mib_view(&self)
+        ensures { IsMibView self.now }
+    {
+        let _ = &self.rows;
+    }
+
     /// The answer to a Get of the name: its value; else `NoSuchObject` where no object prefix equals the name or begins it, and `NoSuchInstance` where one does (RFC 3416, section 4.2.1).
     pub fn get(&self, name: &Oid) -> ValueRef<'_>
         ensures answer { IsGet self.now name.now (record { name = name.now; value = datum result }) }
@@ -98,6 +106,7 @@ impl Table {
         ensures name { IsWire binding.old.name → IsWire binding.new.name }
         ensures value { IsAnswerValue (datum binding.new.value) }
     {
+        order();
         let rows = self.rows.as_slice();
         let (passed, behind) = rows.split_at(place_near(rows, binding.name.as_slice(), *place));
         place.row = passed.len();
@@ -110,6 +119,7 @@ impl Table {
         ensures name { IsWire name.now → IsWire into.new.name }
         ensures value { IsAnswerValue (datum into.new.value) }
     {
+        order();
         let rows = self.rows.as_slice();
         let (_, behind) = rows.split_at(place_behind(rows, name.as_slice()));
         read_nth_or_end(behind, name, rounds, into);
@@ -121,16 +131,6 @@ impl Table {
 pub struct Place {
     row: usize,
 }
-
-/// Lines state one table at most.
-pub fn one_table()
-    ensures { (lines : List (List ℕ)) (v w : MibView) → IsTableOf lines v → IsTableOf lines w → v ≡ w }
-{}
-
-/// Lines that state a table have no fault: only want of memory keeps them from being read.
-pub fn no_fault()
-    ensures { (lines : List (List ℕ)) (view : MibView) (fault : TableError) → IsTableOf lines view → IsFirstFault lines fault → fault ≡ TableError.Memory }
-{}
 
 /// The row of this name.
 fn row_at<'a>(rows: &'a [Row], name: &[u32]) -> Option<&'a Row>
@@ -189,7 +189,7 @@ fn place_near(rows: &[Row], name: &[u32], place: Place) -> usize
 /// Makes a binding the first row's, or gives it `EndOfMibView` if there is no row.
 fn read_first_or_end<'a>(rows: &'a [Row], binding: &mut Binding<'a>)
     requires { All IsShortRow rows.now }
-    ensures { var_bind binding.new ≡ nth_or_end binding.old.name (bindings_of rows.now) 0 }
+    ensures { var_bind binding.new ≡ nth_or_end binding.old.name (row_bindings rows.now) 0 }
 {
     match rows.first() {
         Some(row) => row.read_into(binding),
@@ -200,12 +200,12 @@ fn read_first_or_end<'a>(rows: &'a [Row], binding: &mut Binding<'a>)
 /// Makes a binding that is there the row's at this place, or past the end the last name, `name` if there is no row, with `EndOfMibView`.
 fn read_nth_or_end<'a>(rows: &'a [Row], name: &Oid, place: usize, into: &mut Binding<'a>)
     requires { All IsShortRow rows.now }
-    ensures { var_bind into.new ≡ nth_or_end name.now (bindings_of rows.now) place }
+    ensures { var_bind into.new ≡ nth_or_end name.now (row_bindings rows.now) place }
 {
     match rows.get(place) {
         Some(row) => row.read_into(into),
         None => {
-            set_name(&mut into.name, last_name(rows, name.as_slice()));
+            set_name(&mut into.name, last_row_name(rows, name.as_slice()));
             set_end(&mut into.value);
         }
     }
@@ -221,10 +221,10 @@ fn set_end(value: &mut ValueRef<'_>)
 }
 
 /// The name of the last row, `name` if there is no row.
-fn last_name<'a>(rows: &'a [Row], name: &'a [u32]) -> &'a [u32]
+fn last_row_name<'a>(rows: &'a [Row], name: &'a [u32]) -> &'a [u32]
     requires rows { All IsShortRow rows.now }
     requires name { length name.now ≤ 128 }
-    ensures value { result.now ≡ last_name name.now rows.now }
+    ensures value { result.now ≡ last_row_name name.now rows.now }
     ensures short { length result.now ≤ 128 }
 {
     match rows.last() {

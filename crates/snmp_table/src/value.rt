@@ -6,7 +6,7 @@ ghost use Rattle.hex.specs.Hex.{decode_of};
 ghost use Rattle.snmp_oid.specs.Identifier.{IsWire};
 ghost use Rattle.snmp_table.specs.Exact.{IsOnly};
 ghost use Rattle.snmp_table.specs.Row.{datum_of, tag_text};
-ghost use Rattle.snmp_table.specs.Table.{IsString};
+ghost use Rattle.snmp_table.specs.Table.{IsTableString};
 ghost use Rattle.snmp_table.specs.Text.{IsDecimal, IsSignedDecimal, IsAddressText, IsName, IsValueText};
 
 use crate::row::RowValue;
@@ -151,7 +151,7 @@ fn object_id(alloc: Global, text: &[u8]) -> Result<Option<Vec<u32>>, AllocError>
 
 /// The octets of the text itself.
 fn string(alloc: Global, text: &[u8]) -> Result<Option<Vec<u8>>, AllocError>
-    ensures { IfOk result (λ octets. IsOnly (λ s. (text.now ≡ s) × IsString s) (option_map (λ v. v.items) octets)) }
+    ensures { IfOk result (λ octets. IsOnly (λ s. (text.now ≡ s) × IsTableString s) (option_map (λ v. v.items) octets)) }
 {
     if text.len() > LONGEST_STRING {
         return Ok(None);
@@ -161,7 +161,7 @@ fn string(alloc: Global, text: &[u8]) -> Result<Option<Vec<u8>>, AllocError>
 
 /// The octets that pairs of hexadecimal digits spell.
 fn hexadecimal(alloc: Global, text: &[u8]) -> Result<Option<Vec<u8>>, AllocError>
-    ensures { IfOk result (λ octets. IsOnly (λ s. (decode_of text.now ≡ Ok s) × IsString s) (option_map (λ v. v.items) octets)) }
+    ensures { IfOk result (λ octets. IsOnly (λ s. (decode_of text.now ≡ Ok s) × IsTableString s) (option_map (λ v. v.items) octets)) }
 {
     if text.len() > 2 * LONGEST_STRING {
         return Ok(None);

@@ -17,4 +17,4 @@ returns-in-Some-clause-sent c =
 
 pub returns-in-None-clause-none : goal.returns-in-None-clause-none
 returns-in-None-clause-none c =
-    bulk_unsent c.args.table.now c.args.max_size c.args.request.now (parts_message c.response-parts.result) c.requires.bulk c.response-parts.ensures c.in-None.ensures.none
+    bulk_unsent c.one_answer.ensures.get_bulk c.args.table.now c.args.max_size c.args.request.now (parts_message c.response-parts.result) c.requires.bulk c.response-parts.ensures c.in-None.ensures.none

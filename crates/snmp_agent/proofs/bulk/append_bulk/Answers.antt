@@ -24,7 +24,7 @@ returns-in-Closed c =
     let q = c.args.request.now in
     let count : c.or_zero-count.result ≡ or_zero q.a = c.or_zero-count.ensures ∙ ap or_zero (number c.a.result (search rules) c.a.ensures) in
     let names = drop c.or_zero-count.result c.bindings-bindings.result in
-    let rounds = all_rounds c.args.table.now names 0 (or_zero q.b) in (
+    let rounds = all_rounds c.one_answer.ensures.get_bulk c.args.table.now names 0 (or_zero q.b) in (
       singles.0 ++ joined rounds.0,
       bulk_of c.args.table.now q c.or_zero-count.result (or_zero q.b) c.bindings-bindings.result names singles.0 rounds.0 count refl c.bindings-bindings.ensures refl singles.1 rounds.1,
       front_before c.args.room 0 c.args.out.now singles.0 (joined rounds.0) c.in-Closed.total c.append_singles.new.out singles.2 (singles.3 tt),

@@ -36,14 +36,14 @@ returns-in-None c =
     let p : VarBind = var_bind c.advance.new.binding in
     let front = stopped c.args.room c.rounds.total c.rounds.out [] p [] c.rounds.total c.rounds.out c.append.new.out (nothing_more c.args.room c.rounds.total c.rounds.out so_far.written.fits)
     c.in-None.ensures.unchanged c.in-None.ensures.too_long in
-    closed_round c.args.room c.args.start c.args.out.now c.args.table.now (var_bind c.args.binding.now ∷ []) c.args.repetitions c.rounds.counter c.rounds.total c.rounds.total c.rounds.out c.append.new.out
+    closed_round c.args.room c.args.start c.args.out.now c.one_answer.ensures.get_bulk c.args.table.now (var_bind c.args.binding.now ∷ []) c.args.repetitions c.rounds.counter c.rounds.total c.rounds.total c.rounds.out c.append.new.out
     so_far.done (p ∷ []) c.rounds-test.true so_far.others so_far.written (given (goal.at.returns-in-None c).After-append) front.0 (λ row. front.1)
 
 pub returns-then-is_end : goal.returns-then-is_end
 returns-then-is_end c =
     let so_far = c.rounds.invariant in
     let p : VarBind = var_bind c.advance.new.binding in
-    closed_round c.args.room c.args.start c.args.out.now c.args.table.now (var_bind c.args.binding.now ∷ []) c.args.repetitions c.rounds.counter c.rounds.total c.in-Some.end c.rounds.out c.append.new.out
+    closed_round c.args.room c.args.start c.args.out.now c.one_answer.ensures.get_bulk c.args.table.now (var_bind c.args.binding.now ∷ []) c.args.repetitions c.rounds.counter c.rounds.total c.in-Some.end c.rounds.out c.append.new.out
     so_far.done (p ∷ []) c.rounds-test.true so_far.others so_far.written (given (goal.at.returns-then-is_end c).After-append)
     (whole_front c.args.room c.rounds.total c.rounds.out (p ∷ []) c.in-Some.end c.append.new.out (written (goal.at.returns-then-is_end c).In-Some))
     (λ row. absurd (row (c.is_end.ensures.0 c.if-is_end.true, tt)))

@@ -26,7 +26,7 @@ returns-in-None c =
     let so_far = c.bindings.invariant in
     let p : VarBind = var_bind c.read_next_after.new.into in
     let left : c.bindings.bindings ≡ var_bind c.read_next.new.into ∷ c.read_next.new.self = c.read_next.ensures.some c.bindings-test.true in
-    let later = all_given c.args.table.now c.args.round c.read_next.new.self in
+    let later = all_given c.one_answer.ensures.get_bulk c.args.table.now c.args.round c.read_next.new.self in
     let front = stopped c.args.room c.args.start c.args.out.now so_far.given p later.0 c.bindings.total c.bindings.out c.append.new.out so_far.written
     c.in-None.ensures.unchanged c.in-None.ensures.too_long in (
       so_far.given ++ p ∷ later.0,

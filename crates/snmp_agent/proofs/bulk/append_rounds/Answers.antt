@@ -18,7 +18,7 @@ pub returns-in-Closed : goal.returns-in-Closed
 returns-in-Closed c =
     let so_far = c.rounds.invariant in
     let round = c.in-Closed.ensures in
-    closed_round c.args.room c.args.start c.args.out.now c.args.table.now c.args.bindings c.args.repetitions c.rounds.round c.rounds.total c.in-Closed.end c.rounds.out c.append_round.new.out
+    closed_round c.args.room c.args.start c.args.out.now c.one_answer.ensures.get_bulk c.args.table.now c.args.bindings c.args.repetitions c.rounds.round c.rounds.total c.in-Closed.end c.rounds.out c.append_round.new.out
     so_far.done round.0 c.rounds-test.true so_far.others so_far.written (subst (λ (bs : List VarBind). AreGiven c.args.table.now c.rounds.round bs round.0) c.left.ensures round.1) round.2 round.3
 
 pub rounds-preserved : goal.rounds-preserved

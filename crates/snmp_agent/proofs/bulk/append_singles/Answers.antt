@@ -53,7 +53,7 @@ returns-in-None-clause-progress c =
     let e : c.singles.counter + suc left ≡ c.args.count = omega (arith, c.singles-test.true) in
     let first : c.singles.bindings ≡ var_bind c.read_next.new.into ∷ c.read_next.new.self = c.read_next.ensures.some c.if-not-read_next.false in
     let taken : take (suc left) c.singles.bindings ≡ var_bind c.read_next.new.into ∷ take left c.read_next.new.self = take-first left c.singles.bindings c.read_next.new.self (var_bind c.read_next.new.into) first in
-    let later = all_given view 0 (take left c.read_next.new.self) in
+    let later = all_given c.one_answer.ensures.get_bulk view 0 (take left c.read_next.new.self) in
     let front = stopped c.args.room 0 c.args.out.now so_far.given p later.0 c.singles.total c.singles.out c.append.new.out so_far.written c.in-None.ensures.unchanged c.in-None.ensures.too_long in (
       so_far.given ++ p ∷ later.0,
       so_far.others (suc left) (p ∷ later.0) e (subst (λ (bs : List VarBind). AreGiven view 0 bs (p ∷ later.0)) (sym taken) (c.read_next_after.ensures.answer, later.1)),

@@ -12,7 +12,7 @@ use Rattle.snmp_agent.proofs.draft.append_answers.Goals as goal
 
 pub returns-in_err-room-clause-too_long : goal.returns-in_err-room-clause-too_long
 returns-in_err-room-clause-too_long c =
-    let all = all_answered c.args.table.now c.args.kind c.args.bindings c.requires.paired in
+    let all = all_answered c.one_answer.ensures.get c.one_answer.ensures.get_next c.args.table.now c.args.kind c.args.bindings c.requires.paired in
     none_anyway c.from_residual.result (all.0, all.1, omega (arith, longer (parts_message c.args.parts.now) 0 (length (canon_bindings all.0)) (omega arith), c.in_err-room.ensures.none))
 
 pub bindings-init : goal.bindings-init
@@ -25,7 +25,7 @@ returns-in_err-total-clause-too_long c =
     let so_far = c.bindings.invariant in
     let p : VarBind = var_bind c.answer_to.new.binding in
     let left : c.bindings.bindings ≡ var_bind c.read_next.new.into ∷ c.read_next.new.self = c.read_next.ensures.some c.bindings-test.true in
-    let later = all_answered c.args.table.now c.args.kind c.read_next.new.self c.requires.paired in
+    let later = all_answered c.one_answer.ensures.get c.one_answer.ensures.get_next c.args.table.now c.args.kind c.read_next.new.self c.requires.paired in
     none_anyway c.from_residual-in_err-total.result (
       so_far.0 ++ p ∷ later.0,
       so_far.1 (p ∷ later.0) (subst (λ (bs : List VarBind). AreAnswers R bs (p ∷ later.0)) (sym left) (c.answer_to.ensures.answer, later.1)),

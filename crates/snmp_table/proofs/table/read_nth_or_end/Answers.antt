@@ -3,7 +3,7 @@ use Rattle.std.specs.List.{slice_get}
 use Rattle.std.proofs.lemmas.Option.{slice_get_read}
 use Rattle.snmp_wire.specs.Message.{Datum}
 use Rattle.snmp_wire.specs.Message.Datum.{end_of_mib_view}
-use Rattle.snmp_table.specs.Places.{last_name}
+use Rattle.snmp_table.specs.Places.{last_row_name}
 use Rattle.snmp_table.proofs.Successors.{nth_or_end-at, nth_or_end-past}
 use Rattle.snmp_table.proofs.table.read_nth_or_end.Goals as goal
 
@@ -18,5 +18,5 @@ pub returns-in-None : goal.returns-in-None
 returns-in-None c =
     let rows = c.args.rows.now in
     let past : length rows ≤ c.args.place = c.in-None.ensures.lookup.3 in
-    let name : c.last_name.result.now ≡ last_name c.args.name.now rows = c.last_name.ensures.value ∙ ap (λ (o : List ℕ). last_name o rows) c.as_slice.ensures.value in
+    let name : c.last_row_name.result.now ≡ last_row_name c.args.name.now rows = c.last_row_name.ensures.value ∙ ap (λ (o : List ℕ). last_row_name o rows) c.as_slice.ensures.value in
     ap (λ (v : Datum). record { name = c.set_name.new.name; value = v }) c.set_end.ensures ∙ ap (λ (o : List ℕ). record { name = o; value = end_of_mib_view }) (c.set_name.ensures ∙ name) ∙ sym (nth_or_end-past c.args.name.now rows c.args.place past)

@@ -1,7 +1,7 @@
 use Rattle.std.proofs.Common.{◌≡◌, List, subst, sym, map, take, drop, ap, ◌∙◌}
 use Rattle.snmp_table.specs.declared.row.Row.{Row}
 use Rattle.snmp_table.specs.Row.{entry_of, view_of}
-use Rattle.snmp_table.specs.Places.{IsBeforeNone, IsBeforeAll, bindings_of}
+use Rattle.snmp_table.specs.Places.{IsBeforeNone, IsBeforeAll, row_bindings}
 use Rattle.snmp_table.specs.Table.{MibView, IsMibView, IsNextAfter}
 use Rattle.snmp_table.specs.Listing.{nth_or_end}
 use Rattle.snmp_wire.specs.Message.{VarBind, var_bind}
@@ -16,12 +16,12 @@ answered c =
     let place = c.place_behind.result in
     let passed : IsBeforeNone o (map entry_of (take place rows)) = rw (← c.as_slice.ensures.value, ← c.as_slice-rows.ensures.value) c.place_behind.ensures.passed in
     let ahead : IsBeforeAll o (map entry_of (drop place rows)) = rw (← c.as_slice.ensures.value, ← c.as_slice-rows.ensures.value) c.place_behind.ensures.ahead in
-    let after : IsNextAfter (view_of rows (map (λ o. o.items) c.self.inside.objects.keys)) c.args.rounds o (nth_or_end o (bindings_of (drop place rows)) c.args.rounds) =
-    next_after_at rows (map (λ o. o.items) c.self.inside.objects.keys) o place c.args.rounds c.self.invariant.rising passed ahead in
-    let same : var_bind c.read_nth_or_end.new.into ≡ nth_or_end o (bindings_of (drop place rows)) c.args.rounds =
-    c.read_nth_or_end.ensures ∙ ap (λ (rs : List Row). nth_or_end o (bindings_of rs) c.args.rounds) (c.split_at.ensures.back ∙ ap (drop place) c.as_slice-rows.ensures.value) in
+    let after : IsNextAfter (view_of rows (map (λ o. o.items) c.self.inside.objects.keys)) c.args.rounds o (nth_or_end o (row_bindings (drop place rows)) c.args.rounds) =
+    next_after_at c.order.ensures rows (map (λ o. o.items) c.self.inside.objects.keys) o place c.args.rounds c.self.invariant.rising passed ahead in
+    let same : var_bind c.read_nth_or_end.new.into ≡ nth_or_end o (row_bindings (drop place rows)) c.args.rounds =
+    c.read_nth_or_end.ensures ∙ ap (λ (rs : List Row). nth_or_end o (row_bindings rs) c.args.rounds) (c.split_at.ensures.back ∙ ap (drop place) c.as_slice-rows.ensures.value) in
     let P : VarBind → Type 0 = λ p. IsNextAfter c.args.self.now c.args.rounds o p in
-    let Q : MibView → Type 0 = λ view. IsNextAfter view c.args.rounds o (nth_or_end o (bindings_of (drop place rows)) c.args.rounds) in
+    let Q : MibView → Type 0 = λ view. IsNextAfter view c.args.rounds o (nth_or_end o (row_bindings (drop place rows)) c.args.rounds) in
     subst P (sym same) (subst Q c.self.view_is after)
 
 view : (c : goal.After-read_nth_or_end) → IsMibView c.args.self.now
