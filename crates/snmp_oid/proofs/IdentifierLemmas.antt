@@ -1,10 +1,11 @@
 -- Facts about identifiers as lists of numbers.
-use Rattle.std.proofs.Common.{◌≡◌, ℕ, ◌<◌, inl, inr, List, [], ◌∷◌, ◌++◌, length, take, drop, refl, sym, ◌∙◌, ap, subst, arith, length-drop}
+use Rattle.std.proofs.Common.{◌≡◌, ℕ, ◌<◌, ◌⊎◌, ◌↔◌, inl, inr, List, [], ◌∷◌, ◌++◌, length, take, drop, refl, sym, ◌∙◌, ap, subst, arith, length-drop}
 use Rattle.std.proofs.lemmas.List.{take-append-drop}
 use Rattle.std.proofs.Math.Seq.{take-append_seam}
-use Rattle.std.specs.Ordering.{nat_cmp, ordering_then}
+use Rattle.std.proofs.lemmas.Bool.{cases_order}
+use Rattle.std.specs.Ordering.{nat_cmp, ordering_then, ordering_reverse}
 use Rattle.std.specs.Cmp.{ranked, nat_cmp_is}
-use Rattle.std.specs.Cmp.Lexicographic.{slice_cmp}
+use Rattle.std.specs.Cmp.Lexicographic.{slice_cmp, nat_list_cmp_total}
 use Rattle.std.specs.declared.cmp.Ordering.{Ordering}
 use Rattle.std.specs.declared.cmp.Ordering.TheVariants.{Less, Equal, Greater}
 use Rattle.snmp_oid.specs.Identifier.{IsBelow, Precedes}
@@ -78,3 +79,51 @@ less_from_precedes o p (inr h) =
     let P : List ℕ → Type 0 = λ q. slice_cmp nat_cmp q p ≡ Less in
     let Q : List ℕ → Type 0 = λ q. slice_cmp nat_cmp (h.front ++ h.smaller ∷ h.after) q ≡ Less in
     subst P (sym h.this) (subst Q (sym h.that) (less_from_parts h.front h.smaller h.larger h.after h.behind h.is_smaller))
+
+-- of two identifiers one precedes, or they are the same
+pub three_ways : (o p : List ℕ) → Precedes o p ⊎ ((o ≡ p) ⊎ Precedes p o)
+three_ways [] [] = inr (inl refl)
+three_ways [] (m ∷ p) = inl (inl (m ∷ p, (λ none. cc), refl))
+three_ways (n ∷ o) [] = inr (inr (inl (n ∷ o, (λ none. cc), refl)))
+three_ways (n ∷ o) (m ∷ p) = by_first n m o p (cases_order n m) (three_ways o p)
+  where
+    by_first : (n m : ℕ) (o p : List ℕ) → (n ≡ m) ⊎ ((n < m) ⊎ (m < n)) → Precedes o p ⊎ ((o ≡ p) ⊎ Precedes p o) → Precedes (n ∷ o) (m ∷ p) ⊎ ((n ∷ o ≡ m ∷ p) ⊎ Precedes (m ∷ p) (n ∷ o))
+    by_first n m o p (inl same) (inl h) = let P : ℕ → Type 0 = λ k. Precedes (n ∷ o) (k ∷ p) in inl (subst P same (precedes_behind n o p h))
+    by_first n m o p (inl same) (inr (inl h)) = inr (inl cc)
+    by_first n m o p (inl same) (inr (inr h)) = let P : ℕ → Type 0 = λ k. Precedes (k ∷ p) (n ∷ o) in inr (inr (subst P same (precedes_behind n p o h)))
+    by_first n m o p (inr (inl less)) rest = inl (parts_at_once n m o p less)
+    by_first n m o p (inr (inr more)) rest = inr (inr (parts_at_once m n p o more))
+
+-- an identifier is the same as itself, and follows what precedes it
+itself_equal : (o : List ℕ) → slice_cmp nat_cmp o o ≡ Equal
+itself_equal [] = refl
+itself_equal (n ∷ o) =
+    let same : Equal ≡ nat_cmp n n = nat_cmp_is n n Equal refl in
+    let P : Ordering → Type 0 = λ r. ordering_then r (slice_cmp nat_cmp o o) ≡ Equal in
+    subst P same (itself_equal o)
+
+pub equal_from_same : (o p : List ℕ) → o ≡ p → slice_cmp nat_cmp o p ≡ Equal
+equal_from_same o p same = let P : List ℕ → Type 0 = λ q. slice_cmp nat_cmp o q ≡ Equal in subst P same (itself_equal o)
+
+pub greater_from_follows : (o p : List ℕ) → Precedes p o → slice_cmp nat_cmp o p ≡ Greater
+greater_from_follows o p h = nat_list_cmp_total.antisymm o p ∙ ap ordering_reverse (less_from_precedes p o h)
+
+-- each answer of a comparison comes of one of the three
+same_by : (o p : List ℕ) → slice_cmp nat_cmp o p ≡ Equal → Precedes o p ⊎ ((o ≡ p) ⊎ Precedes p o) → o ≡ p
+same_by o p e (inl h) = let less : slice_cmp nat_cmp o p ≡ Less = less_from_precedes o p h in let no : ⊥ = cc in absurd no
+same_by o p e (inr (inl same)) = same
+same_by o p e (inr (inr h)) = let more : slice_cmp nat_cmp o p ≡ Greater = greater_from_follows o p h in let no : ⊥ = cc in absurd no
+
+follows_by : (o p : List ℕ) → slice_cmp nat_cmp o p ≡ Greater → Precedes o p ⊎ ((o ≡ p) ⊎ Precedes p o) → Precedes p o
+follows_by o p e (inl h) = let less : slice_cmp nat_cmp o p ≡ Less = less_from_precedes o p h in let no : ⊥ = cc in absurd no
+follows_by o p e (inr (inl same)) = let equal : slice_cmp nat_cmp o p ≡ Equal = equal_from_same o p same in let no : ⊥ = cc in absurd no
+follows_by o p e (inr (inr h)) = h
+
+pub ordered_less : (o p : List ℕ) → (slice_cmp nat_cmp o p ≡ Less) ↔ Precedes o p
+ordered_less o p = (precedes_from_less o p, less_from_precedes o p)
+
+pub ordered_equal : (o p : List ℕ) → (slice_cmp nat_cmp o p ≡ Equal) ↔ (o ≡ p)
+ordered_equal o p = (λ e. same_by o p e (three_ways o p), equal_from_same o p)
+
+pub ordered_greater : (o p : List ℕ) → (slice_cmp nat_cmp o p ≡ Greater) ↔ Precedes p o
+ordered_greater o p = (λ e. follows_by o p e (three_ways o p), greater_from_follows o p)

@@ -5,11 +5,11 @@ use Rattle.std.proofs.lemmas.Fmt.{decimal_nonempty, digits_decimal, digits_value
 use Rattle.std.proofs.lemmas.Str.Parse.{IsNumeralModel, numerals_by_weight, tells_all_ascii_digits}
 use Rattle.std.specs.Char.{is_ascii_digit}
 use Rattle.std.specs.Str.{all_ascii_digits}
-use Rattle.snmp_oid.specs.Numeric.{value_of, IsNumeral}
+use Rattle.snmp_oid.specs.Numeric.{decimal_value, IsNumeral}
 
 -- the digits of a part are read but for those left
 pub record IsReadTo (part left : List ℕ) (number : ℕ) : Type 0 where
-  pub value : number * 10 ^ length left + value_of left ≡ value_of part
+  pub value : number * 10 ^ length left + decimal_value left ≡ decimal_value part
   pub digits : all_ascii_digits left ≡ all_ascii_digits part
   pub fits : number < 2 ^ 32
 
@@ -17,10 +17,10 @@ pub record IsReadTo (part left : List ℕ) (number : ℕ) : Type 0 where
 shifted : (number digit power rest : ℕ) → (number * 10 + digit) * power + rest ≡ number * (power * 10) + (digit * power + rest)
 shifted number digit power rest = omega arith
 
-value_more : (part rest : List ℕ) (digit number : ℕ) → IsReadTo part (digit ∷ rest) number → (number * 10 + (digit - 48)) * 10 ^ length rest + value_of rest ≡ value_of part
+value_more : (part rest : List ℕ) (digit number : ℕ) → IsReadTo part (digit ∷ rest) number → (number * 10 + (digit - 48)) * 10 ^ length rest + decimal_value rest ≡ decimal_value part
 value_more part rest digit number h =
-    let e : number * (10 ^ length rest * 10) + ((digit - 48) * 10 ^ length rest + value_of rest) ≡ value_of part = rw (pow-suc 10 (length rest)) at h.value in
-    shifted number (digit - 48) (10 ^ length rest) (value_of rest) ∙ e
+    let e : number * (10 ^ length rest * 10) + ((digit - 48) * 10 ^ length rest + decimal_value rest) ≡ decimal_value part = rw (pow-suc 10 (length rest)) at h.value in
+    shifted number (digit - 48) (10 ^ length rest) (decimal_value rest) ∙ e
 
 -- one more digit
 pub read_more : (part rest : List ℕ) (digit number : ℕ) → is_ascii_digit digit ≡ true → number * 10 + (digit - 48) < 2 ^ 32 → IsReadTo part (digit ∷ rest) number → IsReadTo part rest (number * 10 + (digit - 48))
@@ -32,7 +32,7 @@ read_more part rest digit number is_digit small h = record {
 
 -- all digits are read
 pub read_all : (part : List ℕ) (number : ℕ) → part ≢ [] → IsReadTo part [] number → IsNumeral part number
-read_all part number some h = record { some = some; digits = sym h.digits; value = let e : number * 1 + 0 ≡ value_of part = h.value in omega arith; fits = h.fits }
+read_all part number some h = record { some = some; digits = sym h.digits; value = let e : number * 1 + 0 ≡ decimal_value part = h.value in omega arith; fits = h.fits }
 
 -- an octet that is no digit
 pub read_other : (part rest : List ℕ) (octet number : ℕ) → is_ascii_digit octet ≡ false → IsReadTo part (octet ∷ rest) number → (n : ℕ) → IsNumeral part n → ⊥
@@ -66,8 +66,8 @@ read_large_at part count number low large h =
     read_large part (drop (count + 1) part) (get_or part count 0) number large (let P : List ℕ → Type 0 = λ left. IsReadTo part left number in subst P (front_at part count low) h)
 
 -- the digits that are written of a number are a numeral of it
-own : IsNumeralModel (λ ds. all_ascii_digits ds ≡ true) value_of
-own = numerals_by_weight (λ ds. all_ascii_digits ds ≡ true) tells_all_ascii_digits value_of record { empty = refl; more = λ digit rest range. refl }
+own : IsNumeralModel (λ ds. all_ascii_digits ds ≡ true) decimal_value
+own = numerals_by_weight (λ ds. all_ascii_digits ds ≡ true) tells_all_ascii_digits decimal_value record { empty = refl; more = λ digit rest range. refl }
 
 pub decimal_is_numeral : (n : ℕ) → n < 2 ^ 32 → IsNumeral (decimal n) n
 decimal_is_numeral n small =

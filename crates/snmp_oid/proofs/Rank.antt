@@ -1,11 +1,10 @@
 -- Identifiers are ordered as their ranks are.
 use Rattle.std.proofs.Common.{◌≡◌, ◌≢◌, ℕ, suc, ◌+◌, ◌-◌, ◌*◌, ◌^◌, ◌<◌, ◌≤◌, ◌⊎◌, ◌↔◌, inl, inr, List, [], ◌∷◌, ◌++◌, length, drop, All, refl, sym, ◌∙◌, ap, subst, arith, lit<, length-append}
 use Rattle.std.proofs.Math.Nat.{pow-suc, one-le-pow, mul-le-mul_right}
-use Rattle.std.proofs.lemmas.Bool.{cases_order}
 use Rattle.std.proofs.lemmas.List.{append-nil, drop_at, append_assoc}
 use Rattle.std.proofs.lemmas.List.Elements.{All-drop, All-head, All-tail}
 use Rattle.snmp_oid.specs.Identifier.{Precedes, IsIdentifier, rank_in, rank}
-use Rattle.snmp_oid.proofs.IdentifierLemmas.{precedes_behind, parts_at_once}
+use Rattle.snmp_oid.proofs.IdentifierLemmas.{precedes_behind, parts_at_once, three_ways}
 
 -- one more digit
 power_step : (digits : ℕ) → 0 < digits → 4294967297 ^ digits ≡ 4294967297 ^ (digits - 1) * 4294967297
@@ -65,20 +64,6 @@ rank_rises o p is (inr parts) =
     let small : All (λ k. k < 2 ^ 32) parts.after = subst R tail (All-drop (λ k. k < 2 ^ 32) (length parts.front + 1) o is.numbers) in
     subst P (sym parts.this) (subst Q (sym parts.that) (rises_behind 128 parts.front (parts.smaller ∷ parts.after) (parts.larger ∷ parts.behind)
     (rises_at_once (128 - length parts.front) parts.smaller parts.larger parts.after parts.behind (omega (arith, count, is.short)) small parts.is_smaller)))
-
--- of two identifiers one precedes, or they are the same
-three_ways : (o p : List ℕ) → Precedes o p ⊎ ((o ≡ p) ⊎ Precedes p o)
-three_ways [] [] = inr (inl refl)
-three_ways [] (m ∷ p) = inl (inl (m ∷ p, (λ none. cc), refl))
-three_ways (n ∷ o) [] = inr (inr (inl (n ∷ o, (λ none. cc), refl)))
-three_ways (n ∷ o) (m ∷ p) = by_first n m o p (cases_order n m) (three_ways o p)
-  where
-    by_first : (n m : ℕ) (o p : List ℕ) → (n ≡ m) ⊎ ((n < m) ⊎ (m < n)) → Precedes o p ⊎ ((o ≡ p) ⊎ Precedes p o) → Precedes (n ∷ o) (m ∷ p) ⊎ ((n ∷ o ≡ m ∷ p) ⊎ Precedes (m ∷ p) (n ∷ o))
-    by_first n m o p (inl same) (inl h) = let P : ℕ → Type 0 = λ k. Precedes (n ∷ o) (k ∷ p) in inl (subst P same (precedes_behind n o p h))
-    by_first n m o p (inl same) (inr (inl h)) = inr (inl cc)
-    by_first n m o p (inl same) (inr (inr h)) = let P : ℕ → Type 0 = λ k. Precedes (k ∷ p) (n ∷ o) in inr (inr (subst P same (precedes_behind n p o h)))
-    by_first n m o p (inr (inl less)) rest = inl (parts_at_once n m o p less)
-    by_first n m o p (inr (inr more)) rest = inr (inr (parts_at_once m n p o more))
 
 rank_tells : (o p : List ℕ) → IsIdentifier p → rank o < rank p → Precedes o p ⊎ ((o ≡ p) ⊎ Precedes p o) → Precedes o p
 rank_tells o p is less (inl h) = h

@@ -1,6 +1,7 @@
--- Object identifiers and their order (RFC 2578, sections 3.5 and 7.1.3; RFC 3416, sections 2.4 and 4.1). A contract sees an
--- identifier as the list of its numbers.
-use Rattle.std.specs.Prelude.{◌≡◌, ◌≢◌, ℕ, ◌+◌, ◌-◌, ◌*◌, ◌^◌, ◌<◌, ◌≤◌, ◌⊎◌, List, [], ◌∷◌, ◌++◌, length, All}
+-- Object identifiers and their order (RFC 2578, sections 3.5 and 7.1.3; RFC 3416, sections 2.4 and
+-- 4.1). A contract sees an identifier as the list of its numbers.
+use Rattle.std.specs.Prelude.{◌≡◌, ◌≢◌, ℕ, ◌+◌, ◌-◌, ◌*◌, ◌^◌, ◌<◌, ◌≤◌, ◌⊎◌, List, [], ◌∷◌, ◌++◌}
+use Rattle.std.specs.Prelude.{length, All}
 
 -- o stands below root: it begins with root and is longer
 abbrev pub IsBelow : List ℕ → List ℕ → Type 0
@@ -17,7 +18,8 @@ pub record PartsBelow (o p : List ℕ) : Type 0 where
   pub that : p ≡ front ++ larger ∷ behind
   pub is_smaller : smaller < larger
 
--- o comes before p: it is a proper beginning of p, or has the smaller number at the first place where the two differ
+-- o comes before p: it is a proper beginning of p, or has the smaller number at the first place
+-- where the two differ
 abbrev pub Precedes : List ℕ → List ℕ → Type 0
 Precedes o p = IsBelow p o ⊎ PartsBelow o p
 
@@ -26,7 +28,8 @@ pub record IsIdentifier (o : List ℕ) : Type 0 where
   pub short : length o ≤ 128
   pub numbers : All (λ n. n < 2 ^ 32) o
 
--- what has a BER encoding (X.690, 8.19.4): two numbers at least, the first 0 to 2, the second below 40 behind a 0 or a 1
+-- what has a BER encoding (X.690, 8.19.4): two numbers at least, the first from 0 to 2, and the
+-- second below 40 after a first of 0 or 1
 abbrev pub IsWire : List ℕ → Type 0
 IsWire (x ∷ y ∷ _) = (x ≤ 2) × (x < 2 → y < 40)
 IsWire (_ ∷ []) = ⊥
@@ -38,7 +41,8 @@ wire [] = 0 ∷ 0 ∷ []
 wire (x ∷ []) = x ∷ 0 ∷ []
 wire (x ∷ y ∷ rest) = x ∷ y ∷ rest
 
--- the rank: the number of so many digits to the base 2^32 + 1, a digit being a number plus 1, or 0 where there is none
+-- the rank: the number with `digits` digits to the base 2^32 + 1, a digit being a number of the
+-- identifier plus 1, or 0 where there is none
 abbrev pub rank_in : ℕ → List ℕ → ℕ
 rank_in digits [] = 0
 rank_in digits (n ∷ rest) = (n + 1) * (2 ^ 32 + 1) ^ (digits - 1) + rank_in (digits - 1) rest

@@ -1,5 +1,6 @@
 -- Identifiers as text: decimal numbers with a dot before or between them, as in `.1.3.6.1`.
-use Rattle.std.specs.Prelude.{◌≡◌, ◌≢◌, ℕ, ◌+◌, ◌-◌, ◌*◌, ◌^◌, ◌<◌, ◌≤◌, ◌⊎◌, ◌==◌, not, List, [], ◌∷◌, ◌++◌, length, take_while, drop, slice_index, decimal, true}
+use Rattle.std.specs.Prelude.{◌≡◌, ◌≢◌, ℕ, ◌+◌, ◌-◌, ◌*◌, ◌^◌, ◌<◌, ◌≤◌, ◌⊎◌, ◌==◌, not}
+use Rattle.std.specs.Prelude.{List, [], ◌∷◌, ◌++◌, length, take_while, drop, slice_index, decimal, true}
 use Rattle.std.specs.List.{flat_map}
 use Rattle.std.specs.Str.{all_ascii_digits}
 
@@ -7,32 +8,37 @@ use Rattle.std.specs.Str.{all_ascii_digits}
 abbrev pub dot : ℕ
 dot = 46
 
--- the number that decimal digits spell, each by the weight of its place
-abbrev pub value_of : List ℕ → ℕ
-value_of [] = 0
-value_of (digit ∷ rest) = (digit - 48) * 10 ^ length rest + value_of rest
+-- the number that decimal digits write, each by the weight of its place
+abbrev pub decimal_value : List ℕ → ℕ
+decimal_value [] = 0
+decimal_value (digit ∷ rest) = (digit - 48) * 10 ^ length rest + decimal_value rest
 
--- one or more decimal digits, leading zeros among them or not, that spell a number of 32 bits
+-- one or more decimal digits, leading zeros among them or not, that write a number of 32 bits
 pub record IsNumeral (text : List ℕ) (n : ℕ) : Type 0 where
   pub some : text ≢ []
   pub digits : all_ascii_digits text ≡ true
-  pub value : value_of text ≡ n
+  pub value : decimal_value text ≡ n
   pub fits : n < 2 ^ 32
 
 -- a numeral for each number, and a dot between each two
 abbrev pub IsDotted : List ℕ → List ℕ → Type 0
 IsDotted text [] = ⊥
 IsDotted text (n ∷ []) = IsNumeral text n
-IsDotted text (n ∷ m ∷ more) = (first : List ℕ) × (rest : List ℕ) × (text ≡ first ++ dot ∷ rest) × IsNumeral first n × IsDotted rest (m ∷ more)
+IsDotted text (n ∷ m ∷ more) =
+    (first : List ℕ) × (rest : List ℕ) × (text ≡ first ++ dot ∷ rest)
+    × IsNumeral first n × IsDotted rest (m ∷ more)
 
--- the text names the identifier: a dot alone the empty one, else dotted numerals, behind a dot or not
+-- the text names the identifier: a dot alone the empty one, else dotted numerals, after a dot or not
 abbrev pub IsNumericName : List ℕ → List ℕ → Type 0
 IsNumericName text o =
-    ((text ≡ dot ∷ []) × (o ≡ [])) ⊎ (IsDotted text o ⊎ ((rest : List ℕ) × (text ≡ dot ∷ rest) × IsDotted rest o))
+    ((text ≡ dot ∷ []) × (o ≡ []))
+    ⊎ (IsDotted text o ⊎ ((rest : List ℕ) × (text ≡ dot ∷ rest) × IsDotted rest o))
 
--- a part of the text begins here: at its start, where no dot stands there, and behind each dot
+-- a part of the text begins here: at its start, where no dot stands there, and after each dot
 abbrev pub BeginsPart : List ℕ → ℕ → Type 0
-BeginsPart text at = ((at ≡ 0) × (slice_index text 0 ≢ dot)) ⊎ ((at ≤ length text) × (0 < at) × (slice_index text (at - 1) ≡ dot))
+BeginsPart text at =
+    ((at ≡ 0) × (slice_index text 0 ≢ dot))
+    ⊎ ((at ≤ length text) × (0 < at) × (slice_index text (at - 1) ≡ dot))
 
 -- the part that begins here: the octets before the next dot
 abbrev pub part_at : List ℕ → ℕ → List ℕ
@@ -53,3 +59,9 @@ IsTooLong text = (o : List ℕ) × IsNumericName text o × (128 < length o)
 abbrev pub numeric_text : List ℕ → List ℕ
 numeric_text [] = dot ∷ []
 numeric_text (n ∷ more) = flat_map (λ m. dot ∷ decimal m) (n ∷ more)
+
+-- a writer left the text at the front of `out`, and the rest as it was before, and returned the
+-- length of the text
+pub record IsWrittenTo (out before text : List ℕ) (written : ℕ) : Type 0 where
+  pub size : written ≡ length text
+  pub octets : out ≡ text ++ drop written before

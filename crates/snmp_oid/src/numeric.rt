@@ -1,7 +1,10 @@
 //! Identifiers as text: decimal numbers with a dot before or between them, as in `.1.3.6.1`.
-ghost use Rattle.std.specs.Prelude.{◌≡◌, ◌≢◌, ℕ, ◌+◌, ◌<◌, ◌≤◌, ◌↔◌, ◌⊎◌, List, [], ◌∷◌, ◌++◌, decimal, length, drop, slice_index, All, MatchOption, IsTrue, IfOk, IfSome, IfNone, IsSome, Ok, Err};
+ghost use Rattle.std.specs.Prelude.{◌≡◌, ◌≢◌, ℕ, ◌+◌, ◌<◌, ◌≤◌, ◌↔◌, ◌⊎◌, List, [], ◌∷◌, ◌++◌};
+ghost use Rattle.std.specs.Prelude.{decimal, length, drop, slice_index, All, MatchOption};
+ghost use Rattle.std.specs.Prelude.{IsTrue, IfOk, IfSome, IfNone, IsSome, Ok, Err};
 ghost use Rattle.snmp_oid.specs.Identifier.{IsIdentifier};
-ghost use Rattle.snmp_oid.specs.Numeric.{IsNumericName, IsFirstBadPart, IsTooLong, IsNumeral, dot, numeric_text};
+ghost use Rattle.snmp_oid.specs.Numeric.{IsNumericName, IsFirstBadPart, IsTooLong, IsNumeral};
+ghost use Rattle.snmp_oid.specs.Numeric.{IsWrittenTo, dot, numeric_text};
 
 use crate::Oid;
 use arrayvec::ArrayVec;
@@ -11,7 +14,8 @@ use thiserror::Error;
 /// Why a text names no identifier.
 #[derive(Clone, Copy, Debug, PartialEq, Eq, Error)]
 pub enum OidTextError {
-    /// A part is empty, has another octet than a digit or is above 4294967295. The place, from 0, is that of the first octet of the first such part.
+    /// A part is empty, has another octet than a digit or is above 4294967295. The place, from 0, is
+    /// that of the first octet of the first such part.
     #[error("no number at octet {0}")]
     BadNumber(usize),
     /// Each part is a number, and there are more than 128.
@@ -19,14 +23,17 @@ pub enum OidTextError {
     TooLong,
 }
 
-/// The identifier that a text names: decimal numbers with a dot between each two, behind a dot or not, and a dot alone for no numbers. Leading zeros are read.
+/// Reads the identifier that a text names: decimal numbers with a dot between each two, after a dot
+/// or not, and a dot alone for no numbers. Leading zeros are read.
 ///
 /// `BadNumber` comes before `TooLong`, and an empty text has one part, which is empty.
 pub fn parse_numeric(text: &[u8]) -> Result<Oid, OidTextError>
     ensures found { IfOk result (IsNumericName text.now) }
-    ensures short { IfOk result (λ o. length o ≤ 128) }
+    ensures at_most_128 { IfOk result (λ o. length o ≤ 128) }
     ensures only { (o : List ℕ) → IsNumericName text.now o → length o ≤ 128 → result ≡ Ok o }
-    ensures bad_number { (at : ℕ) → (result ≡ Err (OidTextError.BadNumber at)) ↔ IsFirstBadPart text.now at }
+    ensures bad_number {
+        (at : ℕ) → (result ≡ Err (OidTextError.BadNumber at)) ↔ IsFirstBadPart text.now at
+    }
     ensures too_long { (result ≡ Err OidTextError.TooLong) ↔ IsTooLong text.now }
 {
     let mut oid = Oid::new();
@@ -36,14 +43,14 @@ pub fn parse_numeric(text: &[u8]) -> Result<Oid, OidTextError>
     let mut too_long = false;
     let mut left = Some(without_front_dot(text));
     'parts: while let Some(here) = left {
-        let (part, behind) = split_part(here);
+        let (part, after) = split_part(here);
         let Some(number) = read_number(part) else {
             return Err(OidTextError::BadNumber(text.len() - here.len()));
         };
         if oid.push(number).is_err() {
             too_long = true;
         }
-        left = behind;
+        left = after;
     }
     if too_long {
         Err(OidTextError::TooLong)
@@ -61,7 +68,9 @@ fn is_dot(text: &[u8]) -> bool
 
 /// The text without the dot in front, where one stands there.
 fn without_front_dot(text: &[u8]) -> &[u8]
-    ensures { ((result.now ≡ text.now) × (slice_index text.now 0 ≢ dot)) ⊎ (text.now ≡ dot ∷ result.now) }
+    ensures {
+        ((result.now ≡ text.now) × (slice_index text.now 0 ≢ dot)) ⊎ (text.now ≡ dot ∷ result.now)
+    }
 {
     match text {
         [b'.', rest @ ..] => rest,
@@ -69,10 +78,14 @@ fn without_front_dot(text: &[u8]) -> &[u8]
     }
 }
 
-/// The first part of a text, and what stands behind the dot that ends it, None where none does.
+/// The first part of a text, and what follows the dot that ends it, None where none does.
 fn split_part(text: &[u8]) -> (&[u8], Option<&[u8]>)
     ensures part { All (λ octet. octet ≢ dot) result.0.now }
-    ensures behind { MatchOption result.1 (text.now ≡ result.0.now) (λ rest. text.now ≡ result.0.now ++ dot ∷ rest.now) }
+    ensures parts {
+        MatchOption result.1
+            (text.now ≡ result.0.now)
+            (λ rest. text.now ≡ result.0.now ++ dot ∷ rest.now)
+    }
 {
     match text.iter().position(|octet| *octet == b'.') {
         Some(end) => (&text[..end], Some(&text[end + 1..])),
@@ -80,7 +93,7 @@ fn split_part(text: &[u8]) -> (&[u8], Option<&[u8]>)
     }
 }
 
-/// The number of 32 bits that decimal digits spell, None where the part is no such numeral.
+/// The number of 32 bits that decimal digits write, None where the part is no such numeral.
 fn read_number(part: &[u8]) -> Option<u32>
     ensures found { IfSome result (IsNumeral part.now) }
     ensures none { IfNone result ((n : ℕ) → IsNumeral part.now n → ⊥) }
@@ -100,17 +113,18 @@ fn read_number(part: &[u8]) -> Option<u32>
     Some(number)
 }
 
-/// How many octets the longest numeric text has: a dot and ten digits for each of 128 numbers.
+/// The length in octets of the longest numeric text: a dot and ten digits for each of 128 numbers.
 pub const LONGEST_TEXT: usize = 1408;
 
-/// Writes the numeric text of an identifier to the front of `out`, a dot before each number or a dot alone for none, and answers its length.
+/// Writes the numeric text of an identifier to the front of `out`, a dot before each number or a dot
+/// alone for none, and returns its length in octets, at most 1408.
 ///
 /// None only where `out` is shorter, and then it is unchanged.
 pub fn write_numeric(oid: &Oid, out: &mut [u8]) -> Option<usize>
-    ensures some { IfSome result (λ n. (n ≡ length (numeric_text oid.now)) × (out.new ≡ numeric_text oid.now ++ drop n out.old)) }
+    ensures some { IfSome result (IsWrittenTo out.new out.old (numeric_text oid.now)) }
     ensures variant { IsSome result ↔ (length (numeric_text oid.now) ≤ length out.old) }
-    ensures unchanged { IfNone result (out.new ≡ out.old) }
-    ensures longest { length (numeric_text oid.now) ≤ 1408 }
+    ensures unchanged_on_none { IfNone result (out.new ≡ out.old) }
+    ensures at_most_1408 { length (numeric_text oid.now) ≤ 1408 }
 {
     let text = written(oid);
     if out.len() < text.len() {
@@ -120,10 +134,15 @@ pub fn write_numeric(oid: &Oid, out: &mut [u8]) -> Option<usize>
     Some(text.len())
 }
 
-/// What is written names the identifier again, and a text names one identifier at most.
+/// The written text of an identifier names it, and a text names one identifier at most.
+///
+/// A law: the call does nothing, and its caller knows what it states.
+#[inline]
 pub fn names()
-    ensures written { (o : List ℕ) → IsIdentifier o → IsNumericName (numeric_text o) o }
-    ensures one { (text o p : List ℕ) → IsNumericName text o → IsNumericName text p → o ≡ p }
+    ensures written_is_named { (o : List ℕ) → IsIdentifier o → IsNumericName (numeric_text o) o }
+    ensures at_most_one {
+        (text o p : List ℕ) → IsNumericName text o → IsNumericName text p → o ≡ p
+    }
 {}
 
 /// The numeric text of an identifier.
@@ -145,7 +164,7 @@ fn written(oid: &Oid) -> ArrayVec<u8, LONGEST_TEXT>
 fn push_number(text: &mut ArrayVec<u8, LONGEST_TEXT>, number: u32)
     requires { length text.old.items + 11 ≤ 1408 }
     ensures value { text.new.items ≡ text.old.items ++ dot ∷ decimal number }
-    ensures short { length text.new.items ≤ length text.old.items + 11 }
+    ensures at_most_11_more { length text.new.items ≤ length text.old.items + 11 }
 {
     let mut digits = Buffer::new();
     let digits = digits.format(number).as_bytes();
@@ -177,7 +196,7 @@ mod tests {
     }
 
     #[test]
-    fn the_first_bad_part_is_told(rt: HostRuntime) {
+    fn the_first_bad_part_is_reported(rt: HostRuntime) {
         let rows = [
             (b"".as_slice(), 0),
             (b"..", 1),

@@ -1,10 +1,12 @@
 //! An object identifier of up to 128 numbers, which lie in the value itself.
-ghost use Rattle.std.specs.Prelude.{◌≡◌, ℕ, ◌+◌, ◌<◌, ◌≤◌, ◌↔◌, List, [], ◌∷◌, ◌++◌, length, IsTrue, IsOk, IfOk, IfErr, OnOk, OnErr, Some, ⊤, refl};
+ghost use Rattle.std.specs.Prelude.{◌≡◌, ℕ, ◌+◌, ◌<◌, ◌≤◌, ◌↔◌, List, [], ◌∷◌, ◌++◌, length};
+ghost use Rattle.std.specs.Prelude.{IsTrue, IsOk, IfOk, IfErr, OnOk, OnErr, Some, ⊤, refl};
 ghost use Rattle.std.proofs.Common.{rules};
 ghost use Rattle.std.specs.Ordering.{nat_cmp};
 ghost use Rattle.std.specs.Hash as fed;
 ghost use Rattle.std.specs.Cmp.{partial_equiv_from_equiv};
-ghost use Rattle.std.specs.Cmp.Lexicographic.{pointwise, slice_cmp, nat_list_eq_equiv, nat_list_cmp_total, texts_ties, texts_po};
+ghost use Rattle.std.specs.Cmp.Lexicographic.{pointwise, slice_cmp};
+ghost use Rattle.std.specs.Cmp.Lexicographic.{nat_list_eq_equiv, nat_list_cmp_total, texts_ties, texts_po};
 ghost use Rattle.std.specs.Cmp.Rules.{hashing};
 ghost use Rattle.std.specs.Bool.{nat_eq};
 ghost use Rattle.std.specs.declared.cmp.Ordering.{Ordering};
@@ -18,23 +20,25 @@ use std::hash::{Hash, Hasher};
 use std::marker::Model;
 use thiserror::Error;
 
-/// How many numbers an identifier holds at most (RFC 2578, section 3.5).
+/// The most numbers that an identifier holds (RFC 2578, section 3.5).
 pub const MAX_LEN: usize = 128;
 
-/// Why no identifier was made.
+/// Why an identifier can't be made.
 #[derive(Clone, Copy, Debug, PartialEq, Eq, Error)]
 pub enum OidError {
     /// It would have more than 128 numbers.
     #[error("an object identifier has at most 128 numbers")]
     TooLong,
-    /// It has no encoding in a message, as X.690 (8.19.4) has room for two first numbers of 0 to 2 and, behind 0 and 1, 0 to 39 alone.
+    /// It has no encoding in a message: X.690 (8.19.4) wants two numbers at least, the first from 0
+    /// to 2, and the second from 0 to 39 after a first of 0 or 1.
     #[error("the object identifier has no encoding")]
     NotWire,
 }
 
 /// An object identifier: 0 to 128 numbers of 32 bits (RFC 2578, section 3.5).
 ///
-/// Identifiers are ordered by their numbers from the left, a proper beginning first (RFC 3416, section 4.2.2).
+/// Identifiers compare by their numbers from the left, a proper beginning first (RFC 3416, section
+/// 4.2.2); [`order`] states this of `==` and `<`. Copies take no memory: [`Oid::copy`].
 #[derive(Drop)]
 pub struct Oid {
     numbers: ArrayVec<u32, 128>,
@@ -68,13 +72,36 @@ impl Oid {
         }
     }
 
-    /// Appends a number, or answers `TooLong`, where there are 128 already, and leaves the identifier as it was.
+    /// A copy of the identifier. It takes no memory and can't fail, as [`Clone::clone`] may by its
+    /// signature.
+    #[inline]
+    pub fn copy(&self) -> Oid
+        ensures { result ≡ self.now }
+    {
+        match Oid::from_slice(self.as_slice()) {
+            Ok(copy) => copy,
+            Err(_) => unreachable!(),
+        }
+    }
+
+    /// Sets the identifier to the numbers of another one, in place.
+    #[inline]
+    pub fn set_to(&mut self, other: &Oid)
+        ensures { self.new ≡ other.now }
+    {
+        self.clear();
+        if self.extend_from_slice(other.as_slice()).is_err() {
+            unreachable!()
+        }
+    }
+
+    /// Appends a number. `TooLong`, with the identifier unchanged, where there are 128 already.
     #[inline]
     pub fn push(&mut self, number: u32) -> Result<(), OidError>
         ensures ok { OnOk result (self.new ≡ self.old ++ number ∷ []) }
         ensures variant { IsOk result ↔ (length self.old < 128) }
         ensures err { IfErr result (λ e. e ≡ OidError.TooLong) }
-        ensures unchanged { OnErr result (self.new ≡ self.old) }
+        ensures unchanged_on_error { OnErr result (self.new ≡ self.old) }
     {
         if self.numbers.is_full() {
             return Err(OidError::TooLong);
@@ -83,7 +110,8 @@ impl Oid {
         Ok(())
     }
 
-    /// Appends a number to an identifier that is known to have fewer than 128, and so needs no test.
+    /// Appends a number to an identifier of fewer than 128, which the caller knows, so that nothing
+    /// is tested.
     #[inline]
     pub fn push_with_room(&mut self, number: u32)
         requires { length self.old < 128 }
@@ -92,13 +120,13 @@ impl Oid {
         self.numbers.push(number);
     }
 
-    /// Appends numbers, or answers `TooLong`, where there would be more than 128, and leaves the identifier as it was.
+    /// Appends numbers. `TooLong`, with the identifier unchanged, where there would be more than 128.
     #[inline]
     pub fn extend_from_slice(&mut self, numbers: &[u32]) -> Result<(), OidError>
         ensures ok { OnOk result (self.new ≡ self.old ++ numbers.now) }
         ensures variant { IsOk result ↔ (length self.old + length numbers.now ≤ 128) }
         ensures err { IfErr result (λ e. e ≡ OidError.TooLong) }
-        ensures unchanged { OnErr result (self.new ≡ self.old) }
+        ensures unchanged_on_error { OnErr result (self.new ≡ self.old) }
     {
         match self.numbers.try_extend_from_slice(numbers) {
             Ok(()) => Ok(()),
@@ -106,7 +134,7 @@ impl Oid {
         }
     }
 
-    /// Takes all numbers away.
+    /// Removes all numbers.
     #[inline]
     pub fn clear(&mut self)
         ensures { self.new ≡ [] }
@@ -118,8 +146,8 @@ impl Oid {
     #[inline]
     pub fn as_slice(&self) -> &[u32]
         ensures value { result.now ≡ self.now }
-        ensures short { length self.now ≤ 128 }
-        ensures holds { IsIdentifier self.now }
+        ensures at_most_128 { length self.now ≤ 128 }
+        ensures is_identifier { IsIdentifier self.now }
     {
         let numbers = self.numbers.as_slice();
         numbers
@@ -129,7 +157,7 @@ impl Oid {
     #[inline]
     pub fn len(&self) -> usize
         ensures value { result ≡ length self.now }
-        ensures short { length self.now ≤ 128 }
+        ensures at_most_128 { length self.now ≤ 128 }
     {
         self.numbers.len()
     }
@@ -149,7 +177,8 @@ impl Oid {
         self.len() > front.len() && &self.as_slice()[..front.len()] == front
     }
 
-    /// Whether the identifier has an encoding (X.690, 8.19.4): two numbers at least, the first 0 to 2, the second below 40 behind a 0 or a 1.
+    /// Whether the identifier has an encoding (X.690, 8.19.4): two numbers at least, the first from
+    /// 0 to 2, and the second below 40 after a first of 0 or 1.
     pub fn is_wire(&self) -> bool
         ensures { IsTrue result ↔ IsWire self.now }
     {
@@ -189,12 +218,23 @@ impl Oid {
     }
 }
 
-/// The order of identifiers is the standard's: a proper beginning first, else the smaller number at the first difference.
+/// `<`, `==` and `cmp` of identifiers are the standard's order: a proper beginning comes first, else
+/// the identifier with the smaller number at the first difference (RFC 3416, section 4.2.2). They are
+/// equal where they have the same numbers.
+///
+/// A law: the call does nothing, and its caller knows what it states.
+#[inline]
 pub fn order()
-    ensures { (o p : List ℕ) → (slice_cmp nat_cmp o p ≡ Ordering.Less) ↔ Precedes o p }
+    ensures less { (o p : List ℕ) → (⟦<Oid as Ord>⟧.cmp o p ≡ Ordering.Less) ↔ Precedes o p }
+    ensures equal { (o p : List ℕ) → (⟦<Oid as Ord>⟧.cmp o p ≡ Ordering.Equal) ↔ (o ≡ p) }
+    ensures greater { (o p : List ℕ) → (⟦<Oid as Ord>⟧.cmp o p ≡ Ordering.Greater) ↔ Precedes p o }
+    ensures equality { (o p : List ℕ) → IsTrue (⟦<Oid as PartialEq>⟧.eq o p) ↔ (o ≡ p) }
 {}
 
 /// The order of identifiers is that of their ranks, numbers of 128 digits to the base 2^32 + 1.
+///
+/// A law: the call does nothing, and its caller knows what it states.
+#[inline]
 pub fn ranks()
     ensures { (o p : List ℕ) → IsIdentifier o → IsIdentifier p → Precedes o p ↔ (rank o < rank p) }
 {}
@@ -214,10 +254,7 @@ impl Clone for Oid {
     ghost is_infallible = { λ _. ⊤ };
 
     fn clone(&self) -> Result<Oid, AllocError> {
-        match Oid::from_slice(self.as_slice()) {
-            Ok(copy) => Ok(copy),
-            Err(_) => unreachable!(),
-        }
+        Ok(self.copy())
     }
 }
 
@@ -281,7 +318,7 @@ mod tests {
     use std::test::Fail;
 
     #[test]
-    fn ten_comes_behind_two(rt: HostRuntime) -> Result<(), Fail> {
+    fn ten_comes_after_two(rt: HostRuntime) -> Result<(), Fail> {
         let rows = [
             [].as_slice(),
             &[1, 3],

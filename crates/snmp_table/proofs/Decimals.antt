@@ -3,22 +3,22 @@ use Rattle.std.proofs.Common.{◌≡◌, ◌≢◌, ℕ, ◌+◌, ◌-◌, ◌*�
 use Rattle.std.proofs.Math.Nat.{pow-suc, one-le-pow, le-mul_of_pos_right}
 use Rattle.std.specs.Char.{is_ascii_digit}
 use Rattle.std.specs.Str.{all_ascii_digits}
-use Rattle.snmp_oid.specs.Numeric.{value_of, dot, IsNumeral, IsDotted}
+use Rattle.snmp_oid.specs.Numeric.{decimal_value, dot, IsNumeral, IsDotted}
 use Rattle.snmp_table.specs.Text.{IsDecimal}
 
 -- the digits of a text are read but for those left
 pub record IsReadTo (text left : List ℕ) (number : ℕ) : Type 0 where
-  pub value : number * 10 ^ length left + value_of left ≡ value_of text
+  pub value : number * 10 ^ length left + decimal_value left ≡ decimal_value text
   pub digits : all_ascii_digits left ≡ all_ascii_digits text
 
 -- a number and its next digit, before the digits left
 shifted : (number digit power rest : ℕ) → (number * 10 + digit) * power + rest ≡ number * (power * 10) + (digit * power + rest)
 shifted number digit power rest = omega arith
 
-value_more : (text rest : List ℕ) (digit number : ℕ) → IsReadTo text (digit ∷ rest) number → (number * 10 + (digit - 48)) * 10 ^ length rest + value_of rest ≡ value_of text
+value_more : (text rest : List ℕ) (digit number : ℕ) → IsReadTo text (digit ∷ rest) number → (number * 10 + (digit - 48)) * 10 ^ length rest + decimal_value rest ≡ decimal_value text
 value_more text rest digit number h =
-    let e : number * (10 ^ length rest * 10) + ((digit - 48) * 10 ^ length rest + value_of rest) ≡ value_of text = rw (pow-suc 10 (length rest)) at h.value in
-    shifted number (digit - 48) (10 ^ length rest) (value_of rest) ∙ e
+    let e : number * (10 ^ length rest * 10) + ((digit - 48) * 10 ^ length rest + decimal_value rest) ≡ decimal_value text = rw (pow-suc 10 (length rest)) at h.value in
+    shifted number (digit - 48) (10 ^ length rest) (decimal_value rest) ∙ e
 
 front_at : (text : List ℕ) (count : ℕ) → count < length text → drop count text ≡ get_or text count 0 ∷ drop (count + 1) text
 front_at text count low = rw (add-one, drop-cons text count 0) refl
@@ -38,7 +38,7 @@ read_more text count number low is_digit h =
 
 -- all digits
 pub read_all : (text : List ℕ) (number : ℕ) → text ≢ [] → IsReadTo text [] number → IsDecimal text number
-read_all text number some h = record { some = some; digits = sym h.digits; value = let e : number * 1 + 0 ≡ value_of text = h.value in omega arith }
+read_all text number some h = record { some = some; digits = sym h.digits; value = let e : number * 1 + 0 ≡ decimal_value text = h.value in omega arith }
 
 -- an octet that is no digit
 pub read_other : (text : List ℕ) (count number : ℕ) → count < length text → is_ascii_digit (get_or text count 0) ≡ false → IsReadTo text (drop count text) number → (n : ℕ) → IsDecimal text n → ⊥

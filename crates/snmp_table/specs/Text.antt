@@ -5,7 +5,7 @@ use Rattle.std.specs.Int.{w32}
 use Rattle.std.specs.Str.{all_ascii_digits}
 use Rattle.hex.specs.Hex.{decode_of}
 use Rattle.snmp_oid.specs.Identifier.{IsWire}
-use Rattle.snmp_oid.specs.Numeric.{value_of, IsDotted, IsNumericName}
+use Rattle.snmp_oid.specs.Numeric.{decimal_value, IsDotted, IsNumericName}
 use Rattle.snmp_wire.specs.Message.{Datum, VarBind}
 use Rattle.snmp_wire.specs.Message.Datum.{integer_value, octet_string, null_value, object_id, ip_address, counter32, gauge32, time_ticks, opaque_octets, counter64, no_such_object, no_such_instance, end_of_mib_view}
 use Rattle.snmp_table.specs.Table.{IsInstanceName, IsTableString}
@@ -22,7 +22,7 @@ pub data Statement : Type 0 where
 pub record IsDecimal (text : List ℕ) (n : ℕ) : Type 0 where
   pub some : text ≢ []
   pub digits : all_ascii_digits text ≡ true
-  pub value : value_of text ≡ n
+  pub value : decimal_value text ≡ n
 
 -- decimal digits, with a minus sign before them or not
 abbrev pub IsSignedDecimal : List ℕ → ℤ → Type 0

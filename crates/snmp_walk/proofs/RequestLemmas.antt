@@ -9,7 +9,7 @@ use Rattle.snmp_wire.specs.Identifier.{subidentifiers}
 use Rattle.snmp_wire.specs.Spelling.{value_tag, kind_tag, sequence_tag}
 use Rattle.snmp_wire.specs.Canon.{digit_count, octets, number_size, canon_number, length_size, canon_length, subidentifier_size, septets, canon_subidentifier, canon_header, canon_element, canon_content, canon_value, canon_binding, canon_bindings, canon_opening, canon_fields, canon, IsEncodable}
 use Rattle.snmp_wire.specs.declared.binding.Binding.{Binding}
-use Rattle.snmp_wire.specs.declared.value.ValueRef.TheVariants as value
+use Rattle.snmp_ber.specs.declared.value.ValueRef.TheVariants as value
 use Rattle.snmp_walk.specs.Walker.{Walker}
 use Rattle.snmp_walk.specs.Request.{request_of}
 

@@ -2,11 +2,13 @@
 use Rattle.std.proofs.Common.{◌≡◌, ℕ, zero, suc, ◌<◌, ◌≤◌, List, [], ◌∷◌, length, Result, Ok, Err, IsOk, refl, sym, ap, subst, ◌∙◌, arith}
 use Rattle.std.specs.Result.{result_unwrap_or}
 use Rattle.std.proofs.lemmas.List.{nil_from_length}
-use Rattle.snmp_wire.specs.declared.error.BerError.{BerError}
-use Rattle.snmp_wire.specs.Message.{Datum, VarBind}
-use Rattle.snmp_wire.specs.Reading.{◌>>=◌, checked, inner_at, identifier_of, value_of, Fields, fields_of, fields_at, binding_of, binding_at, bindings_within, bindings_of, bindings_in}
-use Rattle.snmp_wire.proofs.ReadingLemmas.{ok_is, bind_ok, bind_same, ok_value, is_ok_at, checked_err, err_checked, ok_checked}
-use Rattle.snmp_wire.proofs.LengthLemmas.{inner_takes, element_shrinks}
+use Rattle.snmp_ber.specs.declared.error.BerError.{BerError}
+use Rattle.snmp_ber.specs.Value.{Datum}
+use Rattle.snmp_wire.specs.Message.{VarBind}
+use Rattle.snmp_ber.specs.Reading.{◌>>=◌, checked, inner_at, identifier_of, typed_value}
+use Rattle.snmp_wire.specs.Reading.{Fields, fields_of, fields_at, binding_of, binding_at, bindings_within, bindings_of, bindings_in}
+use Rattle.snmp_ber.proofs.ReadingLemmas.{ok_is, bind_ok, bind_same, ok_value, is_ok_at, checked_err, err_checked, ok_checked}
+use Rattle.snmp_ber.proofs.LengthLemmas.{inner_takes, element_shrinks}
 
 -- a binding has octets of its own
 pub fields_shrink : (octets : List ℕ) (x : Fields × List ℕ) → fields_at octets ≡ Ok x → length x.1 < length octets
@@ -131,12 +133,12 @@ begins_ok octets ok some =
     is_ok_at (fields_at octets) (b.fields, b.after) b.are_fields
 
 -- what stands at the front is the first binding
-pub record Stands (octets : List ℕ) (fields : Fields) (after : List ℕ) : Type 0 where
+pub record BeginsWithBinding (octets : List ℕ) (fields : Fields) (after : List ℕ) : Type 0 where
   pub is_binding : IsOk (binding_of fields)
   pub others : IsOk (bindings_of after)
   pub all : (binding : VarBind) → binding_of fields ≡ Ok binding → bindings_in octets ≡ binding ∷ bindings_in after
 
-pub stands : (octets : List ℕ) (fields : Fields) (after : List ℕ) → IsOk (bindings_of octets) → 0 < length octets → fields_at octets ≡ Ok (fields, after) → Stands octets fields after
+pub stands : (octets : List ℕ) (fields : Fields) (after : List ℕ) → IsOk (bindings_of octets) → 0 < length octets → fields_at octets ≡ Ok (fields, after) → BeginsWithBinding octets fields after
 stands octets fields after ok some h =
     let b = begins octets ok some in
     let same : (b.fields, b.after) ≡ (fields, after) = ok_is (b.fields, b.after) (fields, after) (sym b.are_fields ∙ h) in
@@ -157,16 +159,16 @@ bindings_in_end octets none = ap (λ (r : Result (List VarBind) BerError). resul
 -- the parts of a binding
 pub record AreParts (fields : Fields) : Type 0 where
   pub name : IsOk (identifier_of fields.name)
-  pub value : IsOk (value_of fields.tag fields.content)
+  pub value : IsOk (typed_value fields.tag fields.content)
 
 pub parts_of : (fields : Fields) → IsOk (binding_of fields) → AreParts fields
 unfolding binding_of
 parts_of fields ok =
     let whole = ok_value (binding_of fields) ok in
-    let n = bind_ok (identifier_of fields.name) (λ name. value_of fields.tag fields.content >>= λ value. Ok (record { name = name; value = value })) whole.0 whole.1 in
-    let v = bind_ok (value_of fields.tag fields.content) (λ value. Ok (record { name = n.0; value = value })) whole.0 n.2 in
-    record { name = is_ok_at (identifier_of fields.name) n.0 n.1; value = is_ok_at (value_of fields.tag fields.content) v.0 v.1 }
+    let n = bind_ok (identifier_of fields.name) (λ name. typed_value fields.tag fields.content >>= λ value. Ok (record { name = name; value = value })) whole.0 whole.1 in
+    let v = bind_ok (typed_value fields.tag fields.content) (λ value. Ok (record { name = n.0; value = value })) whole.0 n.2 in
+    record { name = is_ok_at (identifier_of fields.name) n.0 n.1; value = is_ok_at (typed_value fields.tag fields.content) v.0 v.1 }
 
-pub binding_made : (fields : Fields) (name : List ℕ) (value : Datum) → identifier_of fields.name ≡ Ok name → value_of fields.tag fields.content ≡ Ok value → binding_of fields ≡ Ok (record { name = name; value = value })
+pub binding_made : (fields : Fields) (name : List ℕ) (value : Datum) → identifier_of fields.name ≡ Ok name → typed_value fields.tag fields.content ≡ Ok value → binding_of fields ≡ Ok (record { name = name; value = value })
 unfolding binding_of
 binding_made fields name value e f = rw (e, f) refl

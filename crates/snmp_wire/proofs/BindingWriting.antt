@@ -2,13 +2,15 @@
 use Rattle.std.proofs.Common.{◌≡◌, ℕ, ◌+◌, ◌-◌, ◌<◌, ◌≤◌, List, [], ◌∷◌, ◌++◌, length, drop, get_or, refl, sym, ap, subst, ◌∙◌, arith, length-append}
 use Rattle.std.specs.List.{flat_map}
 use Rattle.snmp_wire.specs.declared.binding.Binding.{Binding}
-use Rattle.snmp_wire.specs.Canon.{canon_binding, canon_bindings, canon_content, canon_element, canon_header, canon_length, canon_value}
-use Rattle.snmp_wire.specs.Message.{VarBind, object_id, var_bind, var_binds}
-use Rattle.snmp_wire.specs.Spelling.{sequence_tag}
-use Rattle.snmp_wire.specs.Writing.{Writes}
-use Rattle.snmp_wire.proofs.CanonLemmas.{header_short}
-use Rattle.snmp_wire.proofs.ElementLemmas.{content_fits, element_size, header_fits, sizes_value, writes_element}
-use Rattle.snmp_wire.proofs.WritingLemmas.{writes_same, writes_then}
+use Rattle.snmp_wire.specs.Canon.{canon_binding, canon_bindings}
+use Rattle.snmp_ber.specs.Canon.{canon_content, canon_element, canon_header, canon_length, canon_value}
+use Rattle.snmp_wire.specs.Message.{VarBind, var_bind, var_binds}
+use Rattle.snmp_ber.specs.Value.{object_id}
+use Rattle.snmp_ber.specs.Spelling.{sequence_tag}
+use Rattle.snmp_ber.specs.Writing.{Writes}
+use Rattle.snmp_ber.proofs.CanonLemmas.{header_short}
+use Rattle.snmp_ber.proofs.ElementLemmas.{content_fits, element_size, header_fits, sizes_value, writes_element}
+use Rattle.snmp_ber.proofs.WritingLemmas.{writes_same, writes_then}
 
 pub binding_is : (binding : VarBind) → canon_binding binding ≡ canon_element sequence_tag (canon_value (object_id binding.name) ++ canon_value binding.value)
 unfolding canon_binding

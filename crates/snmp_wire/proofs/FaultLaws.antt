@@ -2,19 +2,22 @@
 use Rattle.std.proofs.Common.{◌≡◌, ◌≢◌, ℕ, ℤ, zero, suc, ◌+◌, ◌-◌, ◌*◌, ◌%◌, ◌^◌, ◌<◌, ◌≤◌, Bool, true, false, cond, eqb, ltb, ◌&&◌, ◌⊎◌, None, List, [], ◌∷◌, ◌++◌, length, take, drop, replicate, Result, Ok, Err, refl, sym, ap, subst, ◌∙◌, append_assoc, arith, inl, inr}
 use Rattle.std.proofs.lemmas.Bool.{ltb-true, ltb-false, eqb-true, eqb-false, and_cases, and_parts}
 use Rattle.std.proofs.lemmas.List.{append-nil, length-append, length-replicate}
-use Rattle.snmp_wire.specs.declared.error.BerError.{BerError}
-use Rattle.snmp_wire.specs.declared.error.BerError.TheVariants as error
+use Rattle.snmp_ber.specs.declared.error.BerError.{BerError}
+use Rattle.snmp_ber.specs.declared.error.BerError.TheVariants as error
 use Rattle.snmp_wire.specs.declared.kind.Kind.{Kind}
 use Rattle.snmp_wire.specs.declared.kind.Kind.TheVariants as kind
-use Rattle.snmp_wire.specs.Number.{unsigned, twos_complement, lenient}
-use Rattle.snmp_wire.specs.Length.{IsLength}
-use Rattle.snmp_wire.specs.Message.{Datum, integer_value, octet_string, null_value, object_id, ip_address, counter32, gauge32, time_ticks, opaque_octets, counter64, no_such_object, no_such_instance, end_of_mib_view, VarBind, Message}
-use Rattle.snmp_wire.specs.Spelling.{value_tag, IsContent, kind_tag}
-use Rattle.snmp_wire.specs.Reading.{◌>>=◌, long_length_at, length_at, content_at, inner_at, element_at, integer_of, integer_at, has_width, unsigned_of, largest_subidentifier, subidentifier_from, subidentifier_at, number_at, numbers_of, first_number, second_number, identifier_of, empty_of, value_of, Fields, fields_of, fields_at, binding_of, binding_at, bindings_within, bindings_of, kind_of, outermost_of, pdu_of, message_of}
-use Rattle.snmp_wire.specs.Fault.{BeginsWith, EndsEarly, HasForbiddenLength, Place, at_message, at_version, at_community, at_pdu, at_id, at_a, at_b, at_list, at_binding, at_name, at_value, first_inside, next_behind, Allows, Stands, starts, inside, behind, IsFault}
-use Rattle.snmp_wire.proofs.ReadingLemmas.{done, failed, ok_is, bind_ok, bind_err, chosen, passed}
-use Rattle.snmp_wire.proofs.LengthLemmas.{TakesElement, length_takes, content_takes, inner_takes, element_takes}
-use Rattle.snmp_wire.proofs.ValueLaws.{value_again}
+use Rattle.snmp_ber.specs.Number.{unsigned, twos_complement, lenient}
+use Rattle.snmp_ber.specs.Length.{IsLength}
+use Rattle.snmp_ber.specs.Value.{Datum, integer_value, octet_string, null_value, object_id, ip_address, counter32, gauge32, time_ticks, opaque_octets, counter64, no_such_object, no_such_instance, end_of_mib_view}
+use Rattle.snmp_wire.specs.Message.{VarBind, Message}
+use Rattle.snmp_ber.specs.Spelling.{value_tag, IsContent}
+use Rattle.snmp_wire.specs.Spelling.{kind_tag}
+use Rattle.snmp_ber.specs.Reading.{◌>>=◌, long_length_at, length_at, content_at, inner_at, element_at, integer_of, integer_at, has_width, unsigned_of, largest_subidentifier, subidentifier_from, subidentifier_at, number_at, numbers_of, first_number, second_number, identifier_of, empty_of, typed_value}
+use Rattle.snmp_wire.specs.Reading.{Fields, fields_of, fields_at, binding_of, binding_at, bindings_within, bindings_of, kind_of, outermost_of, pdu_of, message_of}
+use Rattle.snmp_wire.specs.Fault.{BeginsWith, EndsEarly, HasForbiddenLength, Place, at_message, at_version, at_community, at_pdu, at_id, at_a, at_b, at_list, at_binding, at_name, at_value, first_inside, next_behind, AllowsTag, Expects, starts, inside, behind, IsFault}
+use Rattle.snmp_ber.proofs.ReadingLemmas.{done, failed, ok_is, bind_ok, bind_err, chosen, passed}
+use Rattle.snmp_ber.proofs.LengthLemmas.{TakesElement, length_takes, content_takes, inner_takes, element_takes}
+use Rattle.snmp_ber.proofs.ValueLaws.{value_again}
 use Rattle.snmp_wire.proofs.BindingLemmas.{with_rest, binding_shrinks}
 use Rattle.snmp_wire.proofs.MessageLaws.{integer_at_takes, binding_takes, kind_takes, kind_again, outermost_takes}
 
@@ -140,33 +143,33 @@ content_faults tag cut octets e h =
 -- ---- faults at a place
 
 -- an inner element that can't be read
-bad_inner : (octets : List ℕ) (place : Place) (here : List ℕ) (e : BerError) → Stands octets place here → place ≢ at_message → IsBadElement error.Length here e → IsFault e octets
+bad_inner : (octets : List ℕ) (place : Place) (here : List ℕ) (e : BerError) → Expects octets place here → place ≢ at_message → IsBadElement error.Length here e → IsFault e octets
 unfolding IsBadElement
-bad_inner octets place here e stands inner (inl cut) = subst (λ (d : BerError). IsFault d octets) cut.0 (record { place = place; here = here; stands = stands; bad = inr (inner, cut.1) })
-bad_inner octets place here e stands inner (inr form) = subst (λ (d : BerError). IsFault d octets) form.0 (record { place = place; here = here; stands = stands; bad = inl form.1 })
+bad_inner octets place here e stands inner (inl cut) = subst (λ (d : BerError). IsFault d octets) cut.0 (record { place = place; here = here; expected = stands; bad = inr (inner, cut.1) })
+bad_inner octets place here e stands inner (inr form) = subst (λ (d : BerError). IsFault d octets) form.0 (record { place = place; here = here; expected = stands; bad = inl form.1 })
 
-missing_inner : (octets : List ℕ) (place : Place) (e : BerError) → Stands octets place [] → place ≢ at_message → error.Length ≡ e → IsFault e octets
-missing_inner octets place e stands inner is = subst (λ (d : BerError). IsFault d octets) is (record { place = place; here = []; stands = stands; bad = inr (inner, no_octets) })
+missing_inner : (octets : List ℕ) (place : Place) (e : BerError) → Expects octets place [] → place ≢ at_message → error.Length ≡ e → IsFault e octets
+missing_inner octets place e stands inner is = subst (λ (d : BerError). IsFault d octets) is (record { place = place; here = []; expected = stands; bad = inr (inner, no_octets) })
 
-bad_tag : (octets : List ℕ) (place : Place) (tag : ℕ) (after : List ℕ) (e : BerError) → Stands octets place (tag ∷ after) → (Allows place tag → ⊥) → error.Tag ≡ e → IsFault e octets
-bad_tag octets place tag after e stands bad is = subst (λ (d : BerError). IsFault d octets) is (record { place = place; here = tag ∷ after; stands = stands; tag = tag; after = after; parts = refl; bad = bad })
+bad_tag : (octets : List ℕ) (place : Place) (tag : ℕ) (after : List ℕ) (e : BerError) → Expects octets place (tag ∷ after) → (AllowsTag place tag → ⊥) → error.Tag ≡ e → IsFault e octets
+bad_tag octets place tag after e stands bad is = subst (λ (d : BerError). IsFault d octets) is (record { place = place; here = tag ∷ after; expected = stands; tag = tag; after = after; parts = refl; bad = bad })
 
-left_over : (octets : List ℕ) (place : Place) (here : List ℕ) (tag : ℕ) (content after : List ℕ) (e : BerError) → Stands octets place here → place ≢ at_message → next_behind place ≡ None → BeginsWith tag content here after
+left_over : (octets : List ℕ) (place : Place) (here : List ℕ) (tag : ℕ) (content after : List ℕ) (e : BerError) → Expects octets place here → place ≢ at_message → next_behind place ≡ None → BeginsWith tag content here after
     → eqb (length after) 0 ≡ false → error.Content ≡ e → IsFault e octets
 left_over octets place here tag content after e stands inner last begins some is =
     let more : after ≢ [] = λ none. eqb-false (length after) 0 some (ap length none) in
-    subst (λ (d : BerError). IsFault d octets) is (inr (record { place = place; here = here; stands = stands; is_inner = inner; is_last = last; tag = tag; content = content; after = after; begins = begins; some = more }))
+    subst (λ (d : BerError). IsFault d octets) is (inr (record { place = place; here = here; expected = stands; is_inner = inner; is_last = last; tag = tag; content = content; after = after; begins = begins; some = more }))
 
-bad_content : (octets : List ℕ) (place : Place) (here : List ℕ) (tag : ℕ) (content after : List ℕ) (e : BerError) → Stands octets place here → first_inside place ≡ None → Allows place tag → BeginsWith tag content here after
+bad_content : (octets : List ℕ) (place : Place) (here : List ℕ) (tag : ℕ) (content after : List ℕ) (e : BerError) → Expects octets place here → first_inside place ≡ None → AllowsTag place tag → BeginsWith tag content here after
     → ((value : Datum) → tag ≡ value_tag value → IsContent lenient value content → ⊥) → error.Content ≡ e → IsFault e octets
 bad_content octets place here tag content after e stands is_value allowed begins bad is =
-    subst (λ (d : BerError). IsFault d octets) is (inl (record { place = place; here = here; stands = stands; is_value = is_value; tag = tag; content = content; after = after; allowed = allowed; begins = begins; bad = bad }))
+    subst (λ (d : BerError). IsFault d octets) is (inl (record { place = place; here = here; expected = stands; is_value = is_value; tag = tag; content = content; after = after; allowed = allowed; begins = begins; bad = bad }))
 
 begins_with : (tag : ℕ) (octets content rest : List ℕ) → TakesElement tag octets content rest → BeginsWith tag content octets rest
 begins_with tag octets content rest t = record { element = t.0; is_element = t.1; parts = t.2 }
 
 -- a place of one tag
-inner_faults : (octets : List ℕ) (place : Place) (tag : ℕ) (here : List ℕ) (e : BerError) → Stands octets place here → place ≢ at_message → ((found : ℕ) → Allows place found → found ≡ tag) → inner_at tag here ≡ Err e → IsFault e octets
+inner_faults : (octets : List ℕ) (place : Place) (tag : ℕ) (here : List ℕ) (e : BerError) → Expects octets place here → place ≢ at_message → ((found : ℕ) → AllowsTag place found → found ≡ tag) → inner_at tag here ≡ Err e → IsFault e octets
 unfolding inner_at
 inner_faults octets place tag [] e stands inner only h = missing_inner octets place e stands inner (err_is {A = List ℕ × List ℕ} error.Length e h)
 inner_faults octets place tag (found ∷ rest) e stands inner only h =
@@ -176,7 +179,7 @@ inner_faults octets place tag (found ∷ rest) e stands inner only h =
     ]
 
 -- a place of several tags
-element_faults : (octets : List ℕ) (place : Place) (here : List ℕ) (e : BerError) → Stands octets place here → place ≢ at_message → element_at here ≡ Err e → IsFault e octets
+element_faults : (octets : List ℕ) (place : Place) (here : List ℕ) (e : BerError) → Expects octets place here → place ≢ at_message → element_at here ≡ Err e → IsFault e octets
 unfolding element_at
 element_faults octets place [] e stands inner h = missing_inner octets place e stands inner (err_is {A = ℕ × List ℕ × List ℕ} error.Length e h)
 element_faults octets place (tag ∷ rest) e stands inner h =
@@ -260,8 +263,8 @@ empty_fails : (value : Datum) (content : List ℕ) (e : BerError) → empty_of v
 empty_fails value content e h = (failed_pass (eqb (length content) 0) error.Content e value h).1
 
 -- where the tag is a value's, the content is at fault
-known_tag : (value : Datum) (content : List ℕ) (e : BerError) → value_of (value_tag value) content ≡ Err e → error.Content ≡ e
-unfolding value_of
+known_tag : (value : Datum) (content : List ℕ) (e : BerError) → typed_value (value_tag value) content ≡ Err e → error.Content ≡ e
+unfolding typed_value
 known_tag (integer_value z) content e h = mapped_fails (integer_of content) (λ n. integer_value n) e (integer_fails content) h
 known_tag (octet_string text) content e h = absurd (let both : done (octet_string content) ≡ failed e = h in cc)
 known_tag null_value content e h = empty_fails null_value content e h
@@ -287,8 +290,8 @@ by_tag known tag here others this that e h =
       | inr not ↦ that e not.1
     ]
 
-value_fails : (tag : ℕ) (content : List ℕ) → FailsEither tag (value_of tag content)
-unfolding value_of
+value_fails : (tag : ℕ) (content : List ℕ) → FailsEither tag (typed_value tag content)
+unfolding typed_value
 value_fails tag content =
     by_tag (integer_value (twos_complement [])) tag _ _ (known_tag (integer_value (twos_complement [])) content) (
     by_tag (octet_string []) tag _ _ (known_tag (octet_string []) content) (
@@ -306,9 +309,9 @@ value_fails tag content =
     λ e h. inr (err_is {A = Datum} error.Tag e h))))))))))))))
 
 -- what is an error isn't a value's content
-not_content : (tag : ℕ) (content : List ℕ) (e : BerError) → value_of tag content ≡ Err e → (value : Datum) → tag ≡ value_tag value → IsContent lenient value content → ⊥
+not_content : (tag : ℕ) (content : List ℕ) (e : BerError) → typed_value tag content ≡ Err e → (value : Datum) → tag ≡ value_tag value → IsContent lenient value content → ⊥
 not_content tag content e h value is is_content =
-    let both : done value ≡ failed e = sym (value_again value content is_content) ∙ ap (λ (t : ℕ). value_of t content) (sym is) ∙ h in
+    let both : done value ≡ failed e = sym (value_again value content is_content) ∙ ap (λ (t : ℕ). typed_value t content) (sym is) ∙ h in
     cc
 
 -- ---- values, bindings and their parts
@@ -317,28 +320,28 @@ element_tag : (tag : ℕ) (content here after : List ℕ) → BeginsWith tag con
 element_tag tag content here after begins =
     ((begins.is_element.length_octets ++ content) ++ after, begins.parts ∙ ap (λ (o : List ℕ). o ++ after) begins.is_element.parts)
 
-value_faults : (octets here : List ℕ) (tag : ℕ) (content after : List ℕ) (e : BerError) → Stands octets at_value here → BeginsWith tag content here after → value_of tag content ≡ Err e → IsFault e octets
+value_faults : (octets here : List ℕ) (tag : ℕ) (content after : List ℕ) (e : BerError) → Expects octets at_value here → BeginsWith tag content here after → typed_value tag content ≡ Err e → IsFault e octets
 value_faults octets here tag content after e stands begins h =
     elim (value_fails tag content e h) [
       | inl at_content ↦ bad_content octets at_value here tag content after e stands refl at_content.1 begins (not_content tag content e h) at_content.0
       | inr at_tag ↦
           let t = element_tag tag content here after begins in
-          let bad : Allows at_value tag → ⊥ = λ allowed.
-          let is : error.Content ≡ e = known_tag allowed.0 content e (ap (λ (t : ℕ). value_of t content) (sym allowed.1) ∙ h) in
+          let bad : AllowsTag at_value tag → ⊥ = λ allowed.
+          let is : error.Content ≡ e = known_tag allowed.0 content e (ap (λ (t : ℕ). typed_value t content) (sym allowed.1) ∙ h) in
           let both : error.Content ≡ error.Tag = is ∙ sym at_tag in
           cc in
-          bad_tag octets at_value tag t.0 e (subst (λ (o : List ℕ). Stands octets at_value o) t.1 stands) bad at_tag
+          bad_tag octets at_value tag t.0 e (subst (λ (o : List ℕ). Expects octets at_value o) t.1 stands) bad at_tag
     ]
 
-name_faults : (octets here content after : List ℕ) (e : BerError) → Stands octets at_name here → BeginsWith 0x06 content here after → identifier_of content ≡ Err e → IsFault e octets
-unfolding value_of
+name_faults : (octets here content after : List ℕ) (e : BerError) → Expects octets at_name here → BeginsWith 0x06 content here after → identifier_of content ≡ Err e → IsFault e octets
+unfolding typed_value
 name_faults octets here content after e stands begins h =
-    let read : value_of 0x06 content ≡ Err e = rw h refl in
+    let read : typed_value 0x06 content ≡ Err e = rw h refl in
     bad_content octets at_name here 0x06 content after e stands refl refl begins (not_content 0x06 content e read) (identifier_fails content e h)
 
 -- a place of an INTEGER
-integer_faults : (octets : List ℕ) (place : Place) (here : List ℕ) (e : BerError) → Stands octets place here → place ≢ at_message → first_inside place ≡ None → ((found : ℕ) → Allows place found → found ≡ 0x02) → Allows place 0x02 → integer_at here ≡ Err e → IsFault e octets
-unfolding integer_at value_of
+integer_faults : (octets : List ℕ) (place : Place) (here : List ℕ) (e : BerError) → Expects octets place here → place ≢ at_message → first_inside place ≡ None → ((found : ℕ) → AllowsTag place found → found ≡ 0x02) → AllowsTag place 0x02 → integer_at here ≡ Err e → IsFault e octets
+unfolding integer_at typed_value
 integer_faults octets place here e stands inner is_value only allowed h =
     elim (bind_err (inner_at 0x02 here) (λ element. integer_of element.0 >>= λ z. Ok (z, element.1)) e h) [
       | inl first ↦ inner_faults octets place 0x02 here e stands inner only first
@@ -346,7 +349,7 @@ integer_faults octets place here e stands inner is_value only allowed h =
           let begins = begins_with 0x02 here x.0.0 x.0.1 (inner_takes 0x02 here x.0 x.1) in
           elim (bind_err (integer_of x.0.0) (λ z. Ok (z, x.0.1)) e x.2) [
             | inl content ↦
-                let read : value_of 0x02 x.0.0 ≡ Err e = rw content refl in
+                let read : typed_value 0x02 x.0.0 ≡ Err e = rw content refl in
                 bad_content octets place here 0x02 x.0.0 x.0.1 e stands is_value allowed begins (not_content 0x02 x.0.0 e read) (integer_fails x.0.0 e content)
             | inr z ↦ absurd (let both : done (z.0, x.0.1) ≡ failed e = z.2 in cc)
           ]
@@ -360,12 +363,12 @@ record StandIn (octets : List ℕ) (fields : Fields) : Type 0 where
   name_here : List ℕ
   value_here : List ℕ
   after : List ℕ
-  name_stands : Stands octets at_name name_here
+  name_stands : Expects octets at_name name_here
   name_begins : BeginsWith 0x06 fields.name name_here value_here
-  value_stands : Stands octets at_value value_here
+  value_stands : Expects octets at_value value_here
   value_begins : BeginsWith fields.tag fields.content value_here after
 
-fields_stand : (octets content : List ℕ) (fields : Fields) → Stands octets at_name content → fields_of content ≡ Ok fields → StandIn octets fields
+fields_stand : (octets content : List ℕ) (fields : Fields) → Expects octets at_name content → fields_of content ≡ Ok fields → StandIn octets fields
 unfolding fields_of
 fields_stand octets content fields stands h =
     let a = bind_ok (inner_at 0x06 content) (λ name. element_at name.1 >>= λ value. cond (eqb (length value.2) 0) (Ok (record { name = name.0; tag = value.0; content = value.1 })) (Err error.Content)) fields h in
@@ -383,7 +386,7 @@ fields_stand octets content fields stands h =
       value_begins = begins_with b.0.0 a.0.1 b.0.1 b.0.2 (element_takes a.0.1 b.0 b.1);
     })
 
-fields_fault : (octets content : List ℕ) (e : BerError) → Stands octets at_name content → fields_of content ≡ Err e → IsFault e octets
+fields_fault : (octets content : List ℕ) (e : BerError) → Expects octets at_name content → fields_of content ≡ Err e → IsFault e octets
 unfolding fields_of
 fields_fault octets content e stands h =
     elim (bind_err (inner_at 0x06 content) (λ name. element_at name.1 >>= λ value. cond (eqb (length value.2) 0) (Ok (record { name = name.0; tag = value.0; content = value.1 })) (Err error.Content)) e h) [
@@ -400,7 +403,7 @@ fields_fault octets content e stands h =
           ]
     ]
 
-binding_faults : (octets here : List ℕ) (e : BerError) → Stands octets at_binding here → binding_at here ≡ Err e → IsFault e octets
+binding_faults : (octets here : List ℕ) (e : BerError) → Expects octets at_binding here → binding_at here ≡ Err e → IsFault e octets
 unfolding binding_at fields_at binding_of
 binding_faults octets here e stands h =
     elim (bind_err (fields_at here) (λ fields. binding_of fields.0 >>= λ binding. Ok (binding, fields.1)) e h) [
@@ -424,10 +427,10 @@ binding_faults octets here e stands h =
           let s : StandIn octets f.0.0 = subst (StandIn octets) same (fields_stand octets c.0.0 d.0 name_stands d.1) in
           elim (bind_err (binding_of f.0.0) (λ binding. Ok (binding, f.0.1)) e f.2) [
             | inl in_parts ↦
-                elim (bind_err (identifier_of f.0.0.name) (λ name. value_of f.0.0.tag f.0.0.content >>= λ value. Ok (record { name = name; value = value })) e in_parts) [
+                elim (bind_err (identifier_of f.0.0.name) (λ name. typed_value f.0.0.tag f.0.0.content >>= λ value. Ok (record { name = name; value = value })) e in_parts) [
                   | inl in_name ↦ name_faults octets s.name_here f.0.0.name s.value_here e s.name_stands s.name_begins in_name
                   | inr n ↦
-                      elim (bind_err (value_of f.0.0.tag f.0.0.content) (λ value. Ok (record { name = n.0; value = value })) e n.2) [
+                      elim (bind_err (typed_value f.0.0.tag f.0.0.content) (λ value. Ok (record { name = n.0; value = value })) e n.2) [
                         | inl in_value ↦ value_faults octets s.value_here f.0.0.tag f.0.0.content s.after e s.value_stands s.value_begins in_value
                         | inr v ↦ absurd (let made : VarBind = record { name = n.0; value = v.0 } in let both : done made ≡ failed e = v.2 in cc)
                       ]
@@ -439,7 +442,7 @@ binding_faults octets here e stands h =
 binding_begins : (here : List ℕ) (x : VarBind × List ℕ) → binding_at here ≡ Ok x → (content : List ℕ) × BeginsWith 0x30 content here x.1
 binding_begins here x h = let t = binding_takes here x h in (t.spells.name ++ t.spells.value, record { element = t.text; is_element = t.spells.element; parts = t.parts })
 
-bindings_fault : (octets : List ℕ) (fuel : ℕ) (here : List ℕ) (e : BerError) → length here ≤ fuel → (here ≢ [] → Stands octets at_binding here) → bindings_within fuel here ≡ Err e → IsFault e octets
+bindings_fault : (octets : List ℕ) (fuel : ℕ) (here : List ℕ) (e : BerError) → length here ≤ fuel → (here ≢ [] → Expects octets at_binding here) → bindings_within fuel here ≡ Err e → IsFault e octets
 unfolding bindings_within
 bindings_fault octets fuel [] e few stands h = absurd (let both : done {A = List VarBind} [] ≡ failed e = h in cc)
 bindings_fault octets zero (octet ∷ rest) e few stands h = absurd (omega arith)
@@ -492,7 +495,7 @@ outermost_faults (tag ∷ rest) e h =
             | inl bad ↦
                 elim (content_faults tag error.Truncated rest e bad) [
                   | inl cut ↦ subst (λ (d : BerError). IsFault d octets) cut.0 cut.1
-                  | inr form ↦ subst (λ (d : BerError). IsFault d octets) form.0 (record { place = at_message; here = octets; stands = starts; bad = inl form.1 })
+                  | inr form ↦ subst (λ (d : BerError). IsFault d octets) form.0 (record { place = at_message; here = octets; expected = starts; bad = inl form.1 })
                 ]
             | inr x ↦
                 let p = failed_pass (eqb (length x.0.1) 0) error.Trailing e x.0.0 x.2 in
@@ -503,7 +506,7 @@ outermost_faults (tag ∷ rest) e h =
       | inr bad ↦ bad_tag octets at_message tag rest e starts (λ allowed. eqb-false tag 0x30 bad.0 allowed) (err_is {A = List ℕ} error.Tag e bad.1)
     ]
 
-list_faults : (octets : List ℕ) (version : ℤ) (community : List ℕ) (found : Kind) (id a b : ℤ) (here : List ℕ) (e : BerError) → Stands octets at_list here
+list_faults : (octets : List ℕ) (version : ℤ) (community : List ℕ) (found : Kind) (id a b : ℤ) (here : List ℕ) (e : BerError) → Expects octets at_list here
     → (inner_at 0x30 here >>= λ list. cond (eqb (length list.1) 0) (bindings_of list.0) (Err error.Content) >>= λ bindings. done {A = Message} (record { version = version; community = community; kind = found; id = id; a = a; b = b; bindings = bindings })) ≡ Err e → IsFault e octets
 unfolding bindings_of
 list_faults octets version community found id a b here e stands h =
@@ -521,7 +524,7 @@ list_faults octets version community found id a b here e stands h =
           ]
     ]
 
-pdu_faults : (octets : List ℕ) (version : ℤ) (community : List ℕ) (found : Kind) (content : List ℕ) (e : BerError) → Stands octets at_id content → pdu_of version community found content ≡ Err e → IsFault e octets
+pdu_faults : (octets : List ℕ) (version : ℤ) (community : List ℕ) (found : Kind) (content : List ℕ) (e : BerError) → Expects octets at_id content → pdu_of version community found content ≡ Err e → IsFault e octets
 unfolding pdu_of bindings_of
 pdu_faults octets version community found content e id_stands h =
     elim (bind_err (integer_at content) (λ id. integer_at id.1 >>= λ a. integer_at a.1 >>= λ b. inner_at 0x30 b.1 >>= λ list. cond (eqb (length list.1) 0) (bindings_of list.0) (Err error.Content) >>= λ bindings. Ok (record { version = version; community = community; kind = found; id = id.0; a = a.0; b = b.0; bindings = bindings })) e h) [
@@ -546,7 +549,7 @@ pdu_faults octets version community found content e id_stands h =
 outermost_begins : (octets content : List ℕ) → outermost_of octets ≡ Ok content → BeginsWith 0x30 content octets []
 outermost_begins octets content h = record { element = octets; is_element = outermost_takes octets content h; parts = sym (append-nil octets) }
 
-whole_pdu_faults : (octets : List ℕ) (version : ℤ) (community here : List ℕ) (e : BerError) → Stands octets at_pdu here
+whole_pdu_faults : (octets : List ℕ) (version : ℤ) (community here : List ℕ) (e : BerError) → Expects octets at_pdu here
     → (element_at here >>= λ pdu. cond (eqb (length pdu.2) 0) (kind_of pdu.0) (Err error.Content) >>= λ found. pdu_of version community found pdu.1) ≡ Err e → IsFault e octets
 whole_pdu_faults octets version community here e stands h =
     elim (bind_err (element_at here) (λ pdu. cond (eqb (length pdu.2) 0) (kind_of pdu.0) (Err error.Content) >>= λ found. pdu_of version community found pdu.1) e h) [
@@ -558,12 +561,12 @@ whole_pdu_faults octets version community here e stands h =
                 elim (chosen (eqb (length pdu.0.2) 0) (kind_of pdu.0.0) (Err error.Content) (Err e) bad) [
                   | inl in_kind ↦
                       let t = element_tag pdu.0.0 pdu.0.1 here pdu.0.2 begins in
-                      bad_tag octets at_pdu pdu.0.0 t.0 e (subst (λ (o : List ℕ). Stands octets at_pdu o) t.1 stands) (λ allowed. not_kind pdu.0.0 e in_kind.1 allowed.0 allowed.1) (kind_fails pdu.0.0 e in_kind.1)
+                      bad_tag octets at_pdu pdu.0.0 t.0 e (subst (λ (o : List ℕ). Expects octets at_pdu o) t.1 stands) (λ allowed. not_kind pdu.0.0 e in_kind.1 allowed.0 allowed.1) (kind_fails pdu.0.0 e in_kind.1)
                   | inr over ↦ left_over octets at_pdu here pdu.0.0 pdu.0.1 pdu.0.2 e stands (λ is. cc) refl begins over.0 (err_is {A = Kind} error.Content e over.1)
                 ]
             | inr found ↦
                 let p = passed (eqb (length pdu.0.2) 0) (kind_of pdu.0.0) error.Content found.0 found.1 in
-                let is_kind : Allows at_pdu pdu.0.0 = (found.0, sym (kind_takes pdu.0.0 found.0 p.1)) in
+                let is_kind : AllowsTag at_pdu pdu.0.0 = (found.0, sym (kind_takes pdu.0.0 found.0 p.1)) in
                 pdu_faults octets version community found.0 pdu.0.1 e (inside at_pdu at_id here pdu.0.0 pdu.0.1 pdu.0.2 stands is_kind begins refl tt) found.2
           ]
     ]

@@ -1,20 +1,22 @@
 -- Octets that spell a message have no fault.
 use Rattle.std.proofs.Common.{◌≡◌, ◌≢◌, ℕ, ℤ, ◌+◌, Some, None, List, [], ◌∷◌, ◌++◌, length, Ok, refl, sym, ap, subst, ◌∙◌, append_assoc, arith, inl, inr}
 use Rattle.std.proofs.lemmas.List.{append-nil}
-use Rattle.snmp_wire.specs.declared.error.BerError.{BerError}
-use Rattle.snmp_wire.specs.declared.error.BerError.TheVariants as error
-use Rattle.snmp_wire.specs.Number.{lenient}
-use Rattle.snmp_wire.specs.Length.{IsElement}
-use Rattle.snmp_wire.specs.Message.{Datum, integer_value, octet_string, object_id, VarBind, Message}
-use Rattle.snmp_wire.specs.Spelling.{value_tag, IsContent, SpellsValue, SpellsBindings, kind_tag, SpellsPdu, Spells}
-use Rattle.snmp_wire.specs.Reading.{element_at}
-use Rattle.snmp_wire.specs.Fault.{BeginsWith, EndsEarly, HasForbiddenLength, Place, at_message, at_version, at_community, at_pdu, at_id, at_a, at_b, at_list, at_binding, at_name, at_value, first_inside, next_behind, Allows, Calls, Stands, starts, inside, behind, IsFault}
-use Rattle.snmp_wire.proofs.ReadingLemmas.{ok_is}
-use Rattle.snmp_wire.proofs.LengthLemmas.{element_again}
+use Rattle.snmp_ber.specs.declared.error.BerError.{BerError}
+use Rattle.snmp_ber.specs.declared.error.BerError.TheVariants as error
+use Rattle.snmp_ber.specs.Number.{lenient}
+use Rattle.snmp_ber.specs.Length.{IsElement}
+use Rattle.snmp_ber.specs.Value.{Datum, integer_value, octet_string, object_id}
+use Rattle.snmp_wire.specs.Message.{VarBind, Message}
+use Rattle.snmp_ber.specs.Spelling.{value_tag, IsContent, SpellsValue}
+use Rattle.snmp_wire.specs.Spelling.{SpellsBindings, kind_tag, SpellsPdu, Spells}
+use Rattle.snmp_ber.specs.Reading.{element_at}
+use Rattle.snmp_wire.specs.Fault.{BeginsWith, EndsEarly, HasForbiddenLength, Place, at_message, at_version, at_community, at_pdu, at_id, at_a, at_b, at_list, at_binding, at_name, at_value, first_inside, next_behind, AllowsTag, Calls, Expects, starts, inside, behind, IsFault}
+use Rattle.snmp_ber.proofs.ReadingLemmas.{ok_is}
+use Rattle.snmp_ber.proofs.LengthLemmas.{element_again}
 
 -- an element stands here as the place wants it, and the elements inside it and behind it do
 data IsGood : Place → List ℕ → Type 0 where
-  good : (place : Place) (here : List ℕ) (tag : ℕ) (content rest : List ℕ) → BeginsWith tag content here rest → Allows place tag
+  good : (place : Place) (here : List ℕ) (tag : ℕ) (content rest : List ℕ) → BeginsWith tag content here rest → AllowsTag place tag
       → (first_inside place ≡ None → (value : Datum) × (tag ≡ value_tag value) × IsContent lenient value content) → (next_behind place ≡ None → rest ≡ [])
       → ((next : Place) → first_inside place ≡ Some next → Calls next content → IsGood next content) → ((next : Place) → next_behind place ≡ Some next → Calls next rest → IsGood next rest) → IsGood place here
 
@@ -24,7 +26,7 @@ record Parts (place : Place) (here : List ℕ) : Type 0 where
   content : List ℕ
   rest : List ℕ
   begins : BeginsWith tag content here rest
-  allowed : Allows place tag
+  allowed : AllowsTag place tag
   value : first_inside place ≡ None → (value : Datum) × (tag ≡ value_tag value) × IsContent lenient value content
   last : next_behind place ≡ None → rest ≡ []
   within : (next : Place) → first_inside place ≡ Some next → Calls next content → IsGood next content
@@ -48,7 +50,7 @@ one_front tag content other contents here rest more b c =
 
 -- ---- what stands is good
 
-stands_good : (octets : List ℕ) (place : Place) (here : List ℕ) → IsGood at_message octets → Stands octets place here → IsGood place here
+stands_good : (octets : List ℕ) (place : Place) (here : List ℕ) → IsGood at_message octets → Expects octets place here → IsGood place here
 stands_good octets place here all starts = all
 stands_good octets place here all (inside outer _ around tag content rest stands allowed begins is_first calls) =
     let p = parts_of outer around (stands_good octets outer around all stands) in
@@ -104,21 +106,21 @@ good_has_no_fault octets error.Trailing all f =
     let p = parts_of at_message octets all in
     f.some (ap (λ (x : Front). x.2) (one_front f.tag f.content p.tag p.content octets f.after p.rest f.begins p.begins) ∙ p.last refl)
 good_has_no_fault octets error.Length all f =
-    let p = parts_of f.place f.here (stands_good octets f.place f.here all f.stands) in
+    let p = parts_of f.place f.here (stands_good octets f.place f.here all f.expected) in
     elim f.bad [ inl form ↦ not_forbidden p.tag p.content f.here p.rest p.begins form | inr early ↦ not_early p.tag p.content f.here p.rest p.begins early.1 ]
 good_has_no_fault octets error.Tag all f =
-    let p = parts_of f.place f.here (stands_good octets f.place f.here all f.stands) in
+    let p = parts_of f.place f.here (stands_good octets f.place f.here all f.expected) in
     let lead = p.begins.is_element.length_octets in
     let parts : f.here ≡ p.tag ∷ ((lead ++ p.content) ++ p.rest) = p.begins.parts ∙ ap (λ (o : List ℕ). o ++ p.rest) p.begins.is_element.parts in
     let is : p.tag ≡ f.tag = first_octet p.tag f.tag ((lead ++ p.content) ++ p.rest) f.after (sym parts ∙ f.parts) in
-    f.bad (subst (λ (t : ℕ). Allows f.place t) is p.allowed)
+    f.bad (subst (λ (t : ℕ). AllowsTag f.place t) is p.allowed)
 good_has_no_fault octets error.Content all (inl f) =
-    let p = parts_of f.place f.here (stands_good octets f.place f.here all f.stands) in
+    let p = parts_of f.place f.here (stands_good octets f.place f.here all f.expected) in
     let same = one_front p.tag p.content f.tag f.content f.here p.rest f.after p.begins f.begins in
     let v = p.value f.is_value in
     f.bad v.0 (sym (ap (λ (x : Front). x.0) same) ∙ v.1) (subst (λ (o : List ℕ). IsContent lenient v.0 o) (ap (λ (x : Front). x.1) same) v.2)
 good_has_no_fault octets error.Content all (inr f) =
-    let p = parts_of f.place f.here (stands_good octets f.place f.here all f.stands) in
+    let p = parts_of f.place f.here (stands_good octets f.place f.here all f.expected) in
     let same = one_front p.tag p.content f.tag f.content f.here p.rest f.after p.begins f.begins in
     f.some (sym (ap (λ (x : Front). x.2) same) ∙ p.last f.is_last)
 

@@ -2,19 +2,22 @@
 use Rattle.std.proofs.Common.{◌≡◌, ℕ, ℤ, zero, suc, ◌<◌, cond, eqb, List, [], ◌∷◌, ◌++◌, length, Result, Ok, Err, refl, sym, ap, subst, ◌∙◌, append_assoc, arith, inl, inr}
 use Rattle.std.proofs.lemmas.Bool.{eqb-true}
 use Rattle.std.proofs.lemmas.List.{nil_from_length, append-nil, length-append, append_cancel_right}
-use Rattle.snmp_wire.specs.declared.error.BerError.{BerError}
-use Rattle.snmp_wire.specs.declared.error.BerError.TheVariants as error
+use Rattle.snmp_ber.specs.declared.error.BerError.{BerError}
+use Rattle.snmp_ber.specs.declared.error.BerError.TheVariants as error
 use Rattle.snmp_wire.specs.declared.kind.Kind.{Kind}
 use Rattle.snmp_wire.specs.declared.kind.Kind.TheVariants as kind
-use Rattle.snmp_wire.specs.Number.{AreOctets, lenient}
-use Rattle.snmp_wire.specs.Length.{IsElement}
-use Rattle.snmp_wire.specs.Message.{integer_value, VarBind, Message}
-use Rattle.snmp_wire.specs.Spelling.{value_tag, SpellsValue, SpellsBinding, SpellsBindings, kind_tag, SpellsPdu, Spells}
-use Rattle.snmp_wire.specs.Reading.{◌>>=◌, content_at, inner_at, element_at, integer_of, integer_at, identifier_of, value_of, Fields, fields_of, fields_at, binding_of, binding_at, bindings_within, bindings_of, kind_of, outermost_of, pdu_of, message_of}
-use Rattle.snmp_wire.proofs.ReadingLemmas.{done, ok_is, bind_ok, chosen, passed}
-use Rattle.snmp_wire.proofs.LengthLemmas.{content_takes, content_again, inner_takes, inner_again, element_takes, element_again}
-use Rattle.snmp_wire.proofs.IdentifierLaws.{identifier_takes, identifier_again}
-use Rattle.snmp_wire.proofs.ValueLaws.{integer_takes, integer_again, value_takes, value_again}
+use Rattle.snmp_ber.specs.Number.{AreOctets, lenient}
+use Rattle.snmp_ber.specs.Length.{IsElement}
+use Rattle.snmp_ber.specs.Value.{integer_value}
+use Rattle.snmp_wire.specs.Message.{VarBind, Message}
+use Rattle.snmp_ber.specs.Spelling.{value_tag, SpellsValue}
+use Rattle.snmp_wire.specs.Spelling.{SpellsBinding, SpellsBindings, kind_tag, SpellsPdu, Spells}
+use Rattle.snmp_ber.specs.Reading.{◌>>=◌, content_at, inner_at, element_at, integer_of, integer_at, identifier_of, typed_value}
+use Rattle.snmp_wire.specs.Reading.{Fields, fields_of, fields_at, binding_of, binding_at, bindings_within, bindings_of, kind_of, outermost_of, pdu_of, message_of}
+use Rattle.snmp_ber.proofs.ReadingLemmas.{done, ok_is, bind_ok, chosen, passed}
+use Rattle.snmp_ber.proofs.LengthLemmas.{content_takes, content_again, inner_takes, inner_again, element_takes, element_again}
+use Rattle.snmp_ber.proofs.IdentifierLaws.{identifier_takes, identifier_again}
+use Rattle.snmp_ber.proofs.ValueLaws.{integer_takes, integer_again, value_takes, value_again}
 use Rattle.snmp_wire.proofs.BindingLemmas.{with_rest, bindings_step}
 
 -- ---- integers
@@ -89,8 +92,8 @@ binding_takes octets x e =
     let c = bind_ok (inner_at 0x30 octets) (λ binding. fields_of binding.0 >>= λ fields. Ok (fields, binding.1)) a.0 a.1 in
     let d = bind_ok (fields_of c.0.0) (λ fields. Ok (fields, c.0.1)) a.0 c.2 in
     let same : (d.0, c.0.1) ≡ a.0 = ok_is (d.0, c.0.1) a.0 d.2 in
-    let n = bind_ok (identifier_of f.name) (λ name. value_of f.tag f.content >>= λ value. Ok (record { name = name; value = value })) b.0 b.1 in
-    let v = bind_ok (value_of f.tag f.content) (λ value. Ok (record { name = n.0; value = value })) b.0 n.2 in
+    let n = bind_ok (identifier_of f.name) (λ name. typed_value f.tag f.content >>= λ value. Ok (record { name = name; value = value })) b.0 b.1 in
+    let v = bind_ok (typed_value f.tag f.content) (λ value. Ok (record { name = n.0; value = value })) b.0 n.2 in
     let made : VarBind = record { name = n.0; value = v.0 } in
     let t = inner_takes 0x30 octets c.0 c.1 in
     let fields_are : TakesFields c.0.0 f = subst (TakesFields c.0.0) (ap (λ (y : Fields × List ℕ). y.0) same) (fields_take c.0.0 d.0 d.1) in

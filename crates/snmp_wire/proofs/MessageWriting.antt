@@ -3,12 +3,15 @@ use Rattle.std.proofs.Common.{◌≡◌, ℕ, ℤ, ◌+◌, ◌-◌, ◌≤◌, 
 use Rattle.std.proofs.lemmas.Int.{to_z-of_z}
 use mir.Syntax.{w32}
 use mir.Val.{SFits, of_z, to_z}
-use Rattle.snmp_wire.specs.Canon.{canon, canon_bindings, canon_element, canon_fields, canon_front, canon_head, canon_header, canon_length, canon_opening, canon_value}
-use Rattle.snmp_wire.specs.Message.{Message, integer_value, octet_string}
-use Rattle.snmp_wire.specs.Spelling.{kind_tag, sequence_tag}
-use Rattle.snmp_wire.specs.Writing.{Writes}
-use Rattle.snmp_wire.proofs.ElementLemmas.{length-canon_header}
-use Rattle.snmp_wire.proofs.WritingLemmas.{writes_same, writes_then}
+use Rattle.snmp_wire.specs.Canon.{canon, canon_bindings, canon_fields, canon_front, canon_head, canon_opening}
+use Rattle.snmp_ber.specs.Canon.{canon_element, canon_header, canon_length, canon_value}
+use Rattle.snmp_wire.specs.Message.{Message}
+use Rattle.snmp_ber.specs.Value.{integer_value, octet_string}
+use Rattle.snmp_wire.specs.Spelling.{kind_tag}
+use Rattle.snmp_ber.specs.Spelling.{sequence_tag}
+use Rattle.snmp_ber.specs.Writing.{Writes}
+use Rattle.snmp_ber.proofs.ElementLemmas.{length-canon_header}
+use Rattle.snmp_ber.proofs.WritingLemmas.{writes_same, writes_then}
 
 -- the octets of a PDU, where its bindings have so many
 abbrev pub pdu_size : Message → ℕ → ℕ

@@ -1,9 +1,10 @@
 -- A binding whose lengths have an octet each.
 use Rattle.std.proofs.Common.{◌≡◌, ℕ, ◌+◌, ◌-◌, ◌<◌, ◌≤◌, List, [], ◌∷◌, ◌++◌, length, get_or, take, drop, Ok, refl, sym, ap, subst, ◌∙◌, append_assoc, arith, inl}
 use Rattle.std.proofs.lemmas.List.{length-append, length-drop, length-take-le, take-append-drop}
-use Rattle.snmp_wire.specs.Length.{IsElement}
-use Rattle.snmp_wire.specs.Reading.{inner_at, Fields, fields_at}
-use Rattle.snmp_wire.proofs.LengthLemmas.{inner_again}
+use Rattle.snmp_ber.specs.Length.{IsElement}
+use Rattle.snmp_ber.specs.Reading.{inner_at}
+use Rattle.snmp_wire.specs.Reading.{Fields, fields_at}
+use Rattle.snmp_ber.proofs.LengthLemmas.{inner_again}
 use Rattle.snmp_wire.proofs.MessageLaws.{fields_again}
 
 short_element : (tag : ℕ) (content : List ℕ) → length content < 128 → IsElement tag content (tag ∷ length content ∷ content)

@@ -1,12 +1,13 @@
 -- Why octets spell no message: what each fault says of them.
 use Rattle.std.specs.Prelude.{◌≡◌, ◌≢◌, ℕ, ◌≤◌, ◌⊎◌, List, [], ◌∷◌, ◌++◌, Option, Some, None}
-use Rattle.snmp_wire.specs.declared.error.BerError.{BerError}
-use Rattle.snmp_wire.specs.declared.error.BerError.TheVariants as error
+use Rattle.snmp_ber.specs.declared.error.BerError.{BerError}
+use Rattle.snmp_ber.specs.declared.error.BerError.TheVariants as error
 use Rattle.snmp_wire.specs.declared.kind.Kind.{Kind}
-use Rattle.snmp_wire.specs.Number.{lenient}
-use Rattle.snmp_wire.specs.Length.{IsElement}
-use Rattle.snmp_wire.specs.Message.{Datum}
-use Rattle.snmp_wire.specs.Spelling.{sequence_tag, value_tag, IsContent, kind_tag}
+use Rattle.snmp_ber.specs.Number.{lenient}
+use Rattle.snmp_ber.specs.Length.{IsElement}
+use Rattle.snmp_ber.specs.Value.{Datum}
+use Rattle.snmp_ber.specs.Spelling.{sequence_tag, value_tag, IsContent}
+use Rattle.snmp_wire.specs.Spelling.{kind_tag}
 
 -- the octets begin with an element, and the rest follows
 pub record BeginsWith (tag : ℕ) (content octets rest : List ℕ) : Type 0 where
@@ -73,18 +74,18 @@ next_behind at_name = Some at_value
 next_behind at_value = None
 
 -- the tags that a place allows
-abbrev pub Allows : Place → ℕ → Type 0
-Allows at_message tag = tag ≡ sequence_tag
-Allows at_version tag = tag ≡ 0x02
-Allows at_community tag = tag ≡ 0x04
-Allows at_pdu tag = (kind : Kind) × (tag ≡ kind_tag kind)
-Allows at_id tag = tag ≡ 0x02
-Allows at_a tag = tag ≡ 0x02
-Allows at_b tag = tag ≡ 0x02
-Allows at_list tag = tag ≡ sequence_tag
-Allows at_binding tag = tag ≡ sequence_tag
-Allows at_name tag = tag ≡ 0x06
-Allows at_value tag = (value : Datum) × (tag ≡ value_tag value)
+abbrev pub AllowsTag : Place → ℕ → Type 0
+AllowsTag at_message tag = tag ≡ sequence_tag
+AllowsTag at_version tag = tag ≡ 0x02
+AllowsTag at_community tag = tag ≡ 0x04
+AllowsTag at_pdu tag = (kind : Kind) × (tag ≡ kind_tag kind)
+AllowsTag at_id tag = tag ≡ 0x02
+AllowsTag at_a tag = tag ≡ 0x02
+AllowsTag at_b tag = tag ≡ 0x02
+AllowsTag at_list tag = tag ≡ sequence_tag
+AllowsTag at_binding tag = tag ≡ sequence_tag
+AllowsTag at_name tag = tag ≡ 0x06
+AllowsTag at_value tag = (value : Datum) × (tag ≡ value_tag value)
 
 -- A binding stands only where octets are left; each other element must be there.
 abbrev pub Calls : Place → List ℕ → Type 0
@@ -101,38 +102,38 @@ Calls at_name here = Unit {0}
 Calls at_value here = Unit {0}
 
 -- an element of the place must stand at the front of `here`, which is what is left of the element round it
-pub data Stands (octets : List ℕ) : Place → List ℕ → Type 0 where
-  starts : Stands octets at_message octets
-  inside : (place next : Place) (here : List ℕ) (tag : ℕ) (content rest : List ℕ) → Stands octets place here → Allows place tag → BeginsWith tag content here rest → first_inside place ≡ Some next → Calls next content → Stands octets next content
-  behind : (place next : Place) (here : List ℕ) (tag : ℕ) (content rest : List ℕ) → Stands octets place here → Allows place tag → BeginsWith tag content here rest → next_behind place ≡ Some next → Calls next rest → Stands octets next rest
+pub data Expects (octets : List ℕ) : Place → List ℕ → Type 0 where
+  starts : Expects octets at_message octets
+  inside : (place next : Place) (here : List ℕ) (tag : ℕ) (content rest : List ℕ) → Expects octets place here → AllowsTag place tag → BeginsWith tag content here rest → first_inside place ≡ Some next → Calls next content → Expects octets next content
+  behind : (place next : Place) (here : List ℕ) (tag : ℕ) (content rest : List ℕ) → Expects octets place here → AllowsTag place tag → BeginsWith tag content here rest → next_behind place ≡ Some next → Calls next rest → Expects octets next rest
 
 -- a length of no allowed form, or an inner element that is missing from the one round it or reaches past it
 pub record HasBadLength (octets : List ℕ) : Type 0 where
   pub place : Place
   pub here : List ℕ
-  pub stands : Stands octets place here
+  pub expected : Expects octets place here
   pub bad : HasForbiddenLength here ⊎ ((place ≢ at_message) × EndsEarly here)
 
 -- a tag that its place doesn't allow
 pub record HasBadTag (octets : List ℕ) : Type 0 where
   pub place : Place
   pub here : List ℕ
-  pub stands : Stands octets place here
+  pub expected : Expects octets place here
   pub tag : ℕ
   pub after : List ℕ
   pub parts : here ≡ tag ∷ after
-  pub bad : Allows place tag → ⊥
+  pub bad : AllowsTag place tag → ⊥
 
 -- content that no value of the tag has
 pub record HasBadContent (octets : List ℕ) : Type 0 where
   pub place : Place
   pub here : List ℕ
-  pub stands : Stands octets place here
+  pub expected : Expects octets place here
   pub is_value : first_inside place ≡ None
   pub tag : ℕ
   pub content : List ℕ
   pub after : List ℕ
-  pub allowed : Allows place tag
+  pub allowed : AllowsTag place tag
   pub begins : BeginsWith tag content here after
   pub bad : (value : Datum) → tag ≡ value_tag value → IsContent lenient value content → ⊥
 
@@ -140,7 +141,7 @@ pub record HasBadContent (octets : List ℕ) : Type 0 where
 pub record HasLeftOver (octets : List ℕ) : Type 0 where
   pub place : Place
   pub here : List ℕ
-  pub stands : Stands octets place here
+  pub expected : Expects octets place here
   pub is_inner : place ≢ at_message
   pub is_last : next_behind place ≡ None
   pub tag : ℕ

@@ -4,24 +4,9 @@ use Rattle.std.specs.Int.{w32}
 use Rattle.std.specs.List.{AllByRecursion}
 use Rattle.snmp_oid.specs.Identifier.{IsIdentifier, IsWire}
 use Rattle.snmp_wire.specs.Canon.{canon_bindings}
-use Rattle.snmp_wire.specs.Message.{Datum, integer_value, octet_string, null_value, object_id, ip_address, counter32, gauge32, time_ticks, opaque_octets, counter64, no_such_object, no_such_instance, end_of_mib_view, VarBind, Message}
-use Rattle.snmp_wire.specs.Number.{AreOctets}
-
--- the value is within the range of its type, and a string has at most 65535 octets
-abbrev pub IsInRange : Datum → Type 0
-IsInRange (integer_value z) = FitsSigned w32 z
-IsInRange (octet_string text) = AreOctets text × (length text ≤ 65535)
-IsInRange null_value = Unit {0}
-IsInRange (object_id name) = IsWire name × IsIdentifier name
-IsInRange (ip_address address) = AreOctets address × (length address ≡ 4)
-IsInRange (counter32 n) = n < 2 ^ 32
-IsInRange (gauge32 n) = n < 2 ^ 32
-IsInRange (time_ticks n) = n < 2 ^ 32
-IsInRange (opaque_octets text) = AreOctets text × (length text ≤ 65535)
-IsInRange (counter64 n) = n < 2 ^ 64
-IsInRange no_such_object = Unit {0}
-IsInRange no_such_instance = Unit {0}
-IsInRange end_of_mib_view = Unit {0}
+use Rattle.snmp_ber.specs.Value.{integer_value, octet_string, object_id}
+use Rattle.snmp_wire.specs.Message.{VarBind, Message}
+pub use Rattle.snmp_ber.specs.Range.{IsInRange}
 
 pub record IsBindingInRange (binding : VarBind) : Type 0 where
   pub name : IsInRange (object_id binding.name)

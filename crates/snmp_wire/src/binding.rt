@@ -1,16 +1,19 @@
 //! Variable bindings, one and a list of them.
 ghost use Rattle.std.specs.Prelude.{◌≡◌, ℕ, List, [], ◌∷◌, true, false, length, IsOk, Ok, ◌+◌, ◌^◌, ◌<◌, ◌≤◌, ◌↔◌, ◌++◌, drop, IfSome, IfNone, IsSome};
-ghost use Rattle.snmp_wire.specs.Message.{var_bind, object_id};
+ghost use Rattle.snmp_wire.specs.Message.{var_bind};
+ghost use Rattle.snmp_ber.specs.Value.{object_id};
 ghost use Rattle.snmp_wire.specs.Reading as reading;
-ghost use Rattle.snmp_wire.specs.Reading.{Gives, checked};
+ghost use Rattle.snmp_ber.specs.Reading.{AgreesBy, checked};
 ghost use Rattle.snmp_oid.specs.Identifier.{IsWire};
-ghost use Rattle.snmp_wire.specs.Canon.{IsEncodable, canon_binding, canon_value};
-ghost use Rattle.snmp_wire.specs.Writing.{Writes};
+ghost use Rattle.snmp_wire.specs.Canon.{IsEncodable, canon_binding};
+ghost use Rattle.snmp_ber.specs.Canon.{canon_value};
+ghost use Rattle.snmp_ber.specs.Writing.{Writes};
 
-use crate::identifier::{check_identifier, identifier_size, push_identifier, put_identifier};
-use crate::length::{SEQUENCE, element_at, header_size, inner_at, put_header, put_short_header};
-use crate::value::{check_value, content_size, put_value, read_value};
-use crate::{BerError, ValueRef};
+use snmp_ber::{
+    BerError, SEQUENCE, ValueRef, check_identifier, check_value, content_size, element_at,
+    header_size, identifier_size, inner_at, push_identifier, put_header, put_identifier,
+    put_short_header, put_value, read_value,
+};
 use snmp_oid::Oid;
 use std::alloc::AllocError;
 use std::marker::Model;
@@ -124,7 +127,7 @@ struct Fields<'a> {
 
 /// Checks that the octets are bindings.
 pub(crate) fn check_bindings(octets: &[u8]) -> Result<(), BerError>
-    ensures { Gives (λ u. u) result (checked (reading.bindings_of octets.now)) }
+    ensures { AgreesBy (λ u. u) result (checked (reading.bindings_of octets.now)) }
 {
     let mut rest = octets;
     'bindings: while !rest.is_empty() {
@@ -138,7 +141,7 @@ pub(crate) fn check_bindings(octets: &[u8]) -> Result<(), BerError>
 /// The fields of the binding at the front, and what follows.
 #[inline(always)]
 fn fields_at<'a>(octets: &'a [u8]) -> Result<(Fields<'a>, &'a [u8]), BerError>
-    ensures { Gives (λ x. (reading.fields x.0, x.1.now)) result (reading.fields_at octets.now) }
+    ensures { AgreesBy (λ x. (reading.fields x.0, x.1.now)) result (reading.fields_at octets.now) }
 {
     match short_fields_at(octets) {
         Some(found) => Ok(found),
@@ -180,7 +183,7 @@ fn short_fields_at<'a>(octets: &'a [u8]) -> Option<(Fields<'a>, &'a [u8])>
 #[tactic(auto, unfolding(crate::specs::Reading::fields_at))]
 #[inline(always)]
 fn any_fields_at<'a>(octets: &'a [u8]) -> Result<(Fields<'a>, &'a [u8]), BerError>
-    ensures { Gives (λ x. (reading.fields x.0, x.1.now)) result (reading.fields_at octets.now) }
+    ensures { AgreesBy (λ x. (reading.fields x.0, x.1.now)) result (reading.fields_at octets.now) }
 {
     let (content, rest) = inner_at(SEQUENCE, octets)?;
     Ok((fields_of(content)?, rest))
@@ -190,7 +193,7 @@ fn any_fields_at<'a>(octets: &'a [u8]) -> Result<(Fields<'a>, &'a [u8]), BerErro
 #[tactic(auto, unfolding(crate::specs::Reading::fields_of))]
 #[inline(always)]
 fn fields_of<'a>(content: &'a [u8]) -> Result<Fields<'a>, BerError>
-    ensures { Gives reading.fields result (reading.fields_of content.now) }
+    ensures { AgreesBy reading.fields result (reading.fields_of content.now) }
 {
     let (name, rest) = inner_at(0x06, content)?;
     let (tag, content, rest) = element_at(rest)?;
@@ -230,7 +233,7 @@ fn read_binding<'a>(fields: Fields<'a>, into: &mut Binding<'a>)
 #[tactic(auto, unfolding(crate::specs::Reading::binding_of))]
 #[inline]
 fn check_binding(fields: Fields<'_>) -> Result<(), BerError>
-    ensures { Gives (λ u. u) result (checked (reading.binding_of (reading.fields fields.entry))) }
+    ensures { AgreesBy (λ u. u) result (checked (reading.binding_of (reading.fields fields.entry))) }
 {
     check_identifier(fields.name)?;
     check_value(fields.tag, fields.content)

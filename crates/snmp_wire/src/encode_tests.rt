@@ -1,8 +1,10 @@
 //! Written messages against octets that were worked out by hand.
 
 ghost use Rattle.std.specs.Prelude.{IsTrue, All, ◌≡◌, ◌≤◌, length};
-ghost use Rattle.snmp_wire.specs.Canon.{IsEncodable, IsEncodableValue, canon_bindings};
-ghost use Rattle.snmp_wire.specs.Message.{datum, var_bind, var_binds};
+ghost use Rattle.snmp_wire.specs.Canon.{IsEncodable, canon_bindings};
+ghost use Rattle.snmp_ber.specs.Canon.{IsEncodableValue};
+ghost use Rattle.snmp_ber.specs.Value.{datum};
+ghost use Rattle.snmp_wire.specs.Message.{var_bind, var_binds};
 
 use crate::{
     Binding, Kind, MessageRef, Oid, Parts, ValueRef, binding_size, decode, encode, encode_binding,

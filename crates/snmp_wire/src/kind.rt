@@ -1,10 +1,10 @@
 //! The kinds of PDU.
 ghost use Rattle.std.specs.Prelude.{◌≡◌};
 ghost use Rattle.snmp_wire.specs.Reading as reading;
-ghost use Rattle.snmp_wire.specs.Reading.{Gives};
+ghost use Rattle.snmp_ber.specs.Reading.{AgreesBy};
 ghost use Rattle.snmp_wire.specs.Spelling.{kind_tag};
 
-use crate::BerError;
+use snmp_ber::BerError;
 
 /// The kind of a PDU (RFC 3416, section 3).
 #[derive(Clone, Copy, Debug, PartialEq, Eq)]
@@ -30,7 +30,7 @@ pub enum Kind {
 /// The kind that has this tag.
 #[tactic(auto, unfolding(crate::specs::Reading::kind_of))]
 pub(crate) fn kind_of(tag: u8) -> Result<Kind, BerError>
-    ensures { Gives (λ kind. kind) result (reading.kind_of tag) }
+    ensures { AgreesBy (λ kind. kind) result (reading.kind_of tag) }
 {
     match tag {
         0xA0 => Ok(Kind::GetRequest),

@@ -4,25 +4,17 @@
 #![tactic(auto)]
 
 mod binding;
-mod error;
-mod identifier;
 mod kind;
-mod length;
 mod message;
-mod number;
-mod owned;
-mod value;
-mod writing;
 
 pub use binding::{Binding, Bindings, binding_size, encode_binding};
-pub use error::BerError;
 pub use kind::Kind;
 pub use message::{
-    MessageRef, Parts, decode, encode, encode_head, head_size, no_fault, one_spelling, size,
+    MAX_DATAGRAM, MessageRef, Parts, decode, encode, encode_head, encoding_is_shortest,
+    encoding_is_strict, head_size, no_fault, one_spelling, pieces, size, strict_is_read,
 };
-pub use owned::{OctetString, Value};
+pub use snmp_ber::{BerError, OctetString, Value, ValueRef};
 pub use snmp_oid::{Oid, OidError, OidTextError, parse_numeric, write_numeric};
-pub use value::ValueRef;
 
 #[cfg(test)]
 mod encode_tests;

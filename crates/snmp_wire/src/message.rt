@@ -1,22 +1,29 @@
 //! Messages, read from datagrams.
 ghost use Rattle.std.specs.Prelude.{◌≡◌, ℕ, List, ◌++◌, IfOk, IfErr, Ok, ◌+◌, ◌^◌, ◌<◌, ◌≤◌, ◌↔◌, length, drop, IfSome, IfNone, IsSome, All};
 ghost use Rattle.snmp_wire.specs.Fault.{IsFault};
-ghost use Rattle.snmp_wire.specs.Message.{Message, integer_value, octet_string, var_bind, var_binds};
+ghost use Rattle.snmp_wire.specs.Message.{Message, var_bind, var_binds};
+ghost use Rattle.snmp_ber.specs.Value.{integer_value, octet_string};
 ghost use Rattle.snmp_wire.specs.Reading as reading;
-ghost use Rattle.snmp_wire.specs.Reading.{Gives};
+ghost use Rattle.snmp_ber.specs.Reading.{AgreesBy};
 ghost use Rattle.snmp_wire.specs.Range.{IsMessageInRange};
 ghost use Rattle.snmp_wire.specs.Spelling.{Spells, Strict};
-ghost use Rattle.snmp_wire.specs.Canon.{IsEncodable, canon, canon_bindings, canon_front, canon_head, canon_value};
+ghost use Rattle.snmp_wire.specs.Canon.{IsEncodable, canon, canon_bindings, canon_front, canon_head};
+ghost use Rattle.snmp_ber.specs.Canon.{canon_value};
 ghost use Rattle.snmp_wire.specs.Parts.{parts_message};
-ghost use Rattle.snmp_wire.specs.Writing.{Writes};
+ghost use Rattle.snmp_ber.specs.Writing.{Writes};
 
 use crate::binding::{binding_size, check_bindings, put_binding};
 use crate::kind::{kind_of, tag_of_kind};
-use crate::length::{SEQUENCE, content_at, element_at, header_size, inner_at, put_header};
-use crate::number::{integer_at, integer_size, put_integer};
-use crate::writing::put_text;
-use crate::{BerError, Binding, Bindings, Kind};
+use crate::{Binding, Bindings, Kind};
+use snmp_ber::{
+    BerError, SEQUENCE, content_at, element_at, header_size, inner_at, integer_at, integer_size,
+    put_header, put_integer, put_text,
+};
 use std::marker::Model;
+
+/// How many octets a datagram of UDP over IPv4 has at most (RFC 768; RFC 791, section 3.1): 65535
+/// less the headers of 20 and 8 octets.
+pub const MAX_DATAGRAM: usize = 65507;
 
 /// A message (RFC 1901, section 3) in the datagram that it was read from.
 #[derive(Debug, Drop)]
@@ -128,7 +135,7 @@ pub fn no_fault()
 /// The message that the octets are.
 #[tactic(auto, unfolding(crate::specs::Reading::message_of))]
 fn message_of<'a>(octets: &'a [u8]) -> Result<MessageRef<'a>, BerError>
-    ensures { Gives (λ message. message) result (reading.message_of octets.now) }
+    ensures { AgreesBy (λ message. message) result (reading.message_of octets.now) }
 {
     let content = outermost_of(octets)?;
     let (version, rest) = integer_at(content)?;
@@ -145,7 +152,7 @@ fn message_of<'a>(octets: &'a [u8]) -> Result<MessageRef<'a>, BerError>
 #[tactic(auto, unfolding(crate::specs::Reading::outermost_of))]
 #[inline]
 fn outermost_of(octets: &[u8]) -> Result<&[u8], BerError>
-    ensures { Gives (λ content. content.now) result (reading.outermost_of octets.now) }
+    ensures { AgreesBy (λ content. content.now) result (reading.outermost_of octets.now) }
 {
     match octets {
         [] => Err(BerError::Truncated),
@@ -171,7 +178,7 @@ fn pdu_of<'a>(
     kind: Kind,
     content: &'a [u8],
 ) -> Result<MessageRef<'a>, BerError>
-    ensures { Gives (λ message. message) result (reading.pdu_of version community.now kind content.now) }
+    ensures { AgreesBy (λ message. message) result (reading.pdu_of version community.now kind content.now) }
 {
     let (id, rest) = integer_at(content)?;
     let (a, rest) = integer_at(rest)?;

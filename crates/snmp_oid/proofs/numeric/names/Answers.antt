@@ -3,4 +3,4 @@ use Rattle.snmp_oid.proofs.Written.{written_is_name}
 use Rattle.snmp_oid.proofs.numeric.names.Goals as goal
 
 pub returns : goal.returns
-returns c = record { written = written_is_name; one = one_name }
+returns c = record { written_is_named = written_is_name; at_most_one = one_name }

@@ -29,7 +29,7 @@ parts-init c = parse_begins c.args.text.now c.without_front_dot.result.now c.new
 
 -- the part at hand is no numeral
 split_here : (c : goal.In_default-read_number) → Splits c.in-Some.here.now c.split_part.result.0.now (option_map (λ s. s.now) c.split_part.result.1)
-split_here c = splits_of c.in-Some.here.now c.split_part.result.0.now c.split_part.result.1 c.split_part.ensures.part c.split_part.ensures.behind
+split_here c = splits_of c.in-Some.here.now c.split_part.result.0.now c.split_part.result.1 c.split_part.ensures.part c.split_part.ensures.parts
 
 first_bad : (c : goal.In_default-read_number) → IsFirstBadPart c.args.text.now (length c.args.text.now - length c.in-Some.here.now)
 first_bad c =
@@ -76,15 +76,15 @@ pub parts-preserved-then-is_err : goal.parts-preserved-then-is_err
 parts-preserved-then-is_err c =
     parse_more c.args.text.now c.in-Some.here.now c.split_part.result.0.now (option_map (λ s. s.now) c.split_part.result.1) c.parts.oid c.push.new.self c.parts.too_long true c.in-Some-read_number.number
     (here_left c.args.text.now c.parts.oid c.parts.too_long c.parts.left c.in-Some.here c.in-Some.is c.parts.invariant)
-    (splits_of c.in-Some.here.now c.split_part.result.0.now c.split_part.result.1 c.split_part.ensures.part c.split_part.ensures.behind)
+    (splits_of c.in-Some.here.now c.split_part.result.0.now c.split_part.result.1 c.split_part.ensures.part c.split_part.ensures.parts)
     c.in-Some-read_number.ensures.found
-    (inr (full_from_err c.push.result c.parts.oid (cc (c.is_err.ensures.value, c.if-is_err.true)) c.push.ensures.variant, same_from_err c.push.result c.push.new.self c.parts.oid (cc (c.is_err.ensures.value, c.if-is_err.true)) c.push.ensures.unchanged, refl))
+    (inr (full_from_err c.push.result c.parts.oid (cc (c.is_err.ensures.value, c.if-is_err.true)) c.push.ensures.variant, same_from_err c.push.result c.push.new.self c.parts.oid (cc (c.is_err.ensures.value, c.if-is_err.true)) c.push.ensures.unchanged_on_error, refl))
 
 pub parts-preserved : goal.parts-preserved
 parts-preserved c =
     parse_more c.args.text.now c.in-Some.here.now c.split_part.result.0.now (option_map (λ s. s.now) c.split_part.result.1) c.parts.oid c.push.new.self c.parts.too_long c.parts.too_long c.in-Some-read_number.number
     (here_left c.args.text.now c.parts.oid c.parts.too_long c.parts.left c.in-Some.here c.in-Some.is c.parts.invariant)
-    (splits_of c.in-Some.here.now c.split_part.result.0.now c.split_part.result.1 c.split_part.ensures.part c.split_part.ensures.behind)
+    (splits_of c.in-Some.here.now c.split_part.result.0.now c.split_part.result.1 c.split_part.ensures.part c.split_part.ensures.parts)
     c.in-Some-read_number.ensures.found
     (inl (room_from_ok c.push.result c.parts.oid (cc (c.is_err.ensures.value, c.if-is_err.false)) c.push.ensures.variant, pushed_from_ok c.push.result c.push.new.self c.parts.oid c.in-Some-read_number.number (cc (c.is_err.ensures.value, c.if-is_err.false)) c.push.ensures.ok, refl))
 
@@ -115,8 +115,8 @@ returns-else-too_long-clause-found c =
     let P : List ℕ → Type 0 = λ o. IsNumericName c.args.text.now o in
     subst P (sym (parsed_short c.args.text.now c.parts.oid h).1) (parsed_name c.args.text.now c.parts.oid false h)
 
-pub returns-else-too_long-clause-short : goal.returns-else-too_long-clause-short
-returns-else-too_long-clause-short c =
+pub returns-else-too_long-clause-at_most_128 : goal.returns-else-too_long-clause-at_most_128
+returns-else-too_long-clause-at_most_128 c =
     let h = parsed_short c.args.text.now c.parts.oid (ended_short c) in omega (arith, ap length h.1, h.0)
 
 pub returns-else-too_long-clause-only : goal.returns-else-too_long-clause-only

@@ -12,4 +12,4 @@ only_name text (Ok o) found short only = (record { named = found; short = short 
 only_name text (Err e) found short only = λ p h. let no_name = only p h.named h.short in cc
 
 pub returns : goal.returns
-returns c = rw c.ok.ensures.value (only_name c.args.text.now c.parse_numeric.result c.parse_numeric.ensures.found c.parse_numeric.ensures.short c.parse_numeric.ensures.only)
+returns c = rw c.ok.ensures.value (only_name c.args.text.now c.parse_numeric.result c.parse_numeric.ensures.found c.parse_numeric.ensures.at_most_128 c.parse_numeric.ensures.only)

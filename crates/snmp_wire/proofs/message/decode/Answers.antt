@@ -1,11 +1,12 @@
 use Rattle.std.proofs.Common.{◌≡◌, ℕ, ◌<◌, List, get_or, Result, Ok, Err, IfOk, IfErr, sym, subst, ◌∙◌, arith}
 use Rattle.std.proofs.lemmas.List.{get_or_default}
-use Rattle.snmp_wire.specs.declared.error.BerError.{BerError}
+use Rattle.snmp_ber.specs.declared.error.BerError.{BerError}
 use Rattle.snmp_wire.specs.Message.{Message}
-use Rattle.snmp_wire.specs.Number.{AreOctets}
+use Rattle.snmp_ber.specs.Number.{AreOctets}
 use Rattle.snmp_wire.specs.Fault.{IsFault}
 use Rattle.snmp_wire.specs.Spelling.{Spells}
-use Rattle.snmp_wire.specs.Reading.{Gives, message_of}
+use Rattle.snmp_ber.specs.Reading.{AgreesBy}
+use Rattle.snmp_wire.specs.Reading.{message_of}
 use Rattle.snmp_wire.proofs.MessageLaws.{message_takes, message_again}
 use Rattle.snmp_wire.proofs.FaultLaws.{message_faults}
 use Rattle.snmp_wire.proofs.message.decode.Goals as goal
@@ -13,15 +14,15 @@ use Rattle.snmp_wire.proofs.message.decode.Goals as goal
 are_octets : (octets : List ℕ) → ((i : ℕ) → get_or octets i 0 < 256) → AreOctets octets
 are_octets octets small k d lt = subst (λ n. n < 256) (get_or_default octets k 0 d lt) (small k)
 
-found : (octets : List ℕ) (result : Result Message BerError) → AreOctets octets → Gives (λ message. message) result (message_of octets) → IfOk result (λ message. Spells message octets)
+found : (octets : List ℕ) (result : Result Message BerError) → AreOctets octets → AgreesBy (λ message. message) result (message_of octets) → IfOk result (λ message. Spells message octets)
 found octets (Ok message) small e = message_takes octets message small e
 found octets (Err fault) small e = tt
 
-only : (octets : List ℕ) (result : Result Message BerError) (message : Message) → Gives (λ m. m) result (message_of octets) → Spells message octets → result ≡ Ok message
+only : (octets : List ℕ) (result : Result Message BerError) (message : Message) → AgreesBy (λ m. m) result (message_of octets) → Spells message octets → result ≡ Ok message
 only octets (Ok read) message e h = sym e ∙ message_again octets message h
 only octets (Err fault) message e h = sym e ∙ message_again octets message h
 
-fault : (octets : List ℕ) (result : Result Message BerError) → Gives (λ m. m) result (message_of octets) → IfErr result (λ e. IsFault e octets)
+fault : (octets : List ℕ) (result : Result Message BerError) → AgreesBy (λ m. m) result (message_of octets) → IfErr result (λ e. IsFault e octets)
 fault octets (Ok read) e = tt
 fault octets (Err d) e = message_faults octets d e
 

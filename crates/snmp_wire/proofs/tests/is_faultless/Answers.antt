@@ -1,6 +1,6 @@
 use Rattle.std.proofs.Common.{◌≡◌, true, Result, Ok, Err, is_ok, sym, ◌∙◌}
 use Rattle.std.specs.Prelude.{IfOk}
-use Rattle.snmp_wire.specs.declared.error.BerError.{BerError}
+use Rattle.snmp_ber.specs.declared.error.BerError.{BerError}
 use Rattle.snmp_wire.specs.Message.{Message}
 use Rattle.snmp_wire.proofs.Faultless.{no_fault_of}
 use Rattle.snmp_wire.proofs.tests.is_faultless.Goals as goal

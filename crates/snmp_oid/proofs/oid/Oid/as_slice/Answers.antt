@@ -3,8 +3,8 @@ use Rattle.std.proofs.lemmas.List.Elements.{All-from_get_or}
 use Rattle.snmp_oid.specs.Identifier.{IsIdentifier}
 use Rattle.snmp_oid.proofs.oid.Oid.as_slice.Goals as goal
 
-pub returns-clause-holds : goal.returns-clause-holds
-returns-clause-holds c =
+pub returns-clause-is_identifier : goal.returns-clause-is_identifier
+returns-clause-is_identifier c =
     let P : List ℕ → Type 0 = λ o. IsIdentifier o in
     let small : (k : ℕ) → k < length c.as_slice-numbers.result.now → get_or c.as_slice-numbers.result.now k 0 < 2 ^ 32 = λ k low. grind arith in
     subst P (c.as_slice-numbers.ensures.value ∙ c.self.view_is)

@@ -1,0 +1,14 @@
+use Rattle.std.proofs.Common.{arith, sym}
+use Rattle.snmp_ber.proofs.CanonLemmas.{canon_length_short, header_short}
+use Rattle.snmp_ber.proofs.ElementLemmas.{length-canon_header, writes_tag}
+use Rattle.snmp_ber.proofs.WritingLemmas.{writes_same}
+use Rattle.snmp_ber.proofs.length.put_short_header.Goals as goal
+
+pub put_octet-start-requires-clause-room : goal.put_octet-start-requires-clause-room
+put_octet-start-requires-clause-room c = omega (arith, length-canon_header c.args.tag c.args.size, c.requires.room)
+
+pub put_octet-requires-clause-room : goal.put_octet-requires-clause-room
+put_octet-requires-clause-room c = omega (arith, length-canon_header c.args.tag c.args.size, header_short c.args.size c.requires.short, c.requires.room, c.put_octet-start.ensures.begins)
+
+pub returns : goal.returns
+returns c = writes_tag c.args.tag c.args.size (writes_same c.put_octet-start.ensures (sym (canon_length_short c.args.size c.requires.short))) c.put_octet.ensures

@@ -1,0 +1,10 @@
+pub mod Canon
+pub mod Identifier
+pub mod Length
+pub mod Number
+pub mod Owned
+pub mod Range
+pub mod Reading
+pub mod Spelling
+pub mod Value
+pub mod Writing

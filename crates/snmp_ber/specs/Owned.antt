@@ -1,0 +1,20 @@
+-- Values that own their octets.
+use Rattle.snmp_ber.specs.declared.owned.Value.{Value}
+use Rattle.snmp_ber.specs.declared.owned.Value.TheVariants as value
+use Rattle.snmp_ber.specs.Value.{Datum, integer_value, octet_string, null_value, object_id, ip_address, counter32, gauge32, time_ticks, opaque_octets, counter64, no_such_object, no_such_instance, end_of_mib_view}
+
+-- the value without where it lies
+abbrev pub owned : Value → Datum
+owned (value.Integer n) = integer_value n
+owned (value.Octets octets) = octet_string octets
+owned value.Null = null_value
+owned (value.ObjectId oid) = object_id oid
+owned (value.IpAddress octets) = ip_address octets
+owned (value.Counter32 n) = counter32 n
+owned (value.Gauge32 n) = gauge32 n
+owned (value.TimeTicks n) = time_ticks n
+owned (value.Opaque octets) = opaque_octets octets
+owned (value.Counter64 n) = counter64 n
+owned value.NoSuchObject = no_such_object
+owned value.NoSuchInstance = no_such_instance
+owned value.EndOfMibView = end_of_mib_view

@@ -1,8 +1,0 @@
-use Rattle.std.proofs.Common.{ap, ◌∙◌}
-use Rattle.snmp_wire.specs.Canon.{octets}
-use Rattle.snmp_wire.proofs.CanonLemmas.{octets_from_zero}
-use Rattle.snmp_wire.proofs.WritingLemmas.{writes_same}
-use Rattle.snmp_wire.proofs.number.put_unsigned.Goals as goal
-
-pub returns : goal.returns
-returns c = writes_same c.put_octets.ensures (ap (λ count. octets count c.args.number) c.unsigned_size.ensures.value ∙ octets_from_zero c.args.number)
