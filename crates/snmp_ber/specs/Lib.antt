@@ -5,6 +5,7 @@ pub mod Number
 pub mod Owned
 pub mod Range
 pub mod Reading
+pub mod Sizes
 pub mod Spelling
 pub mod Value
 pub mod Writing

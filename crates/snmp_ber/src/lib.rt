@@ -6,6 +6,7 @@
 
 mod error;
 mod identifier;
+mod laws;
 mod length;
 mod number;
 mod owned;
@@ -14,6 +15,7 @@ mod writing;
 
 pub use error::BerError;
 pub use identifier::{check_identifier, identifier_size, push_identifier, put_identifier};
+pub use laws::element_sizes;
 pub use length::{
     SEQUENCE, content_at, element_at, header_size, inner_at, put_header, put_short_header,
 };

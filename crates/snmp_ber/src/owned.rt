@@ -1,7 +1,7 @@
 //! Values that own their octets, as a table keeps them.
-ghost use Rattle.std.specs.Prelude.{◌≡◌, IfOk};
+ghost use Rattle.std.specs.Prelude.{◌≡◌, IfOk, IsOk};
 ghost use Rattle.snmp_ber.specs.Value.{datum};
-ghost use Rattle.snmp_ber.specs.Owned.{owned};
+ghost use Rattle.snmp_ber.specs.Owned.{HasNoString, owned};
 
 use crate::ValueRef;
 use snmp_oid::Oid;
@@ -72,15 +72,17 @@ pub enum Value {
 }
 
 impl Value {
-    /// The same value, owned. It takes memory for the octets of a string.
+    /// The same value, owned. It takes memory for the octets of a string, and can't fail for any other
+    /// value.
     pub fn from_ref(alloc: Global, value: &ValueRef<'_>) -> Result<Value, AllocError>
-        ensures { IfOk result (λ v. owned v ≡ datum value.now) }
+        ensures same_value { IfOk result (λ v. owned v ≡ datum value.now) }
+        ensures ok_without_string { HasNoString (datum value.now) → IsOk result }
     {
         Ok(match value {
             ValueRef::Integer(number) => Value::Integer(*number),
             ValueRef::Octets(octets) => Value::Octets(OctetString::from_slice(alloc, octets)?),
             ValueRef::Null => Value::Null,
-            ValueRef::ObjectId(oid) => Value::ObjectId(copy_of(oid)),
+            ValueRef::ObjectId(oid) => Value::ObjectId(oid.copy()),
             ValueRef::IpAddress(address) => Value::IpAddress(*address),
             ValueRef::Counter32(number) => Value::Counter32(*number),
             ValueRef::Gauge32(number) => Value::Gauge32(*number),
@@ -101,7 +103,7 @@ impl Value {
             Value::Integer(number) => ValueRef::Integer(*number),
             Value::Octets(octets) => ValueRef::Octets(octets.as_slice()),
             Value::Null => ValueRef::Null,
-            Value::ObjectId(oid) => ValueRef::ObjectId(copy_of(oid)),
+            Value::ObjectId(oid) => ValueRef::ObjectId(oid.copy()),
             Value::IpAddress(address) => ValueRef::IpAddress(*address),
             Value::Counter32(number) => ValueRef::Counter32(*number),
             Value::Gauge32(number) => ValueRef::Gauge32(*number),
@@ -112,15 +114,5 @@ impl Value {
             Value::NoSuchInstance => ValueRef::NoSuchInstance,
             Value::EndOfMibView => ValueRef::EndOfMibView,
         }
-    }
-}
-
-/// A copy of the identifier.
-fn copy_of(oid: &Oid) -> Oid
-    ensures { result ≡ oid.now }
-{
-    match Oid::from_slice(oid.as_slice()) {
-        Ok(copy) => copy,
-        Err(_) => unreachable!(),
     }
 }

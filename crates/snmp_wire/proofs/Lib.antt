@@ -8,3 +8,5 @@ pub mod Shortest
 pub mod StrictMessages
 pub mod BindingWriting
 pub mod MessageWriting
+pub use Rattle.snmp_ber.proofs.CanonLemmas
+pub use Rattle.snmp_ber.proofs.ElementLemmas

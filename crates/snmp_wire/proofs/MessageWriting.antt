@@ -6,16 +6,13 @@ use mir.Val.{SFits, of_z, to_z}
 use Rattle.snmp_wire.specs.Canon.{canon, canon_bindings, canon_fields, canon_front, canon_head, canon_opening}
 use Rattle.snmp_ber.specs.Canon.{canon_element, canon_header, canon_length, canon_value}
 use Rattle.snmp_wire.specs.Message.{Message}
+pub use Rattle.snmp_wire.specs.Sizes.{pdu_size}
 use Rattle.snmp_ber.specs.Value.{integer_value, octet_string}
 use Rattle.snmp_wire.specs.Spelling.{kind_tag}
 use Rattle.snmp_ber.specs.Spelling.{sequence_tag}
 use Rattle.snmp_ber.specs.Writing.{Writes}
 use Rattle.snmp_ber.proofs.ElementLemmas.{length-canon_header}
 use Rattle.snmp_ber.proofs.WritingLemmas.{writes_same, writes_then}
-
--- the octets of a PDU, where its bindings have so many
-abbrev pub pdu_size : Message → ℕ → ℕ
-pdu_size message total = length (canon_fields message) + length (canon_header sequence_tag total) + total
 
 pub length-canon_fields : (message : Message) → length (canon_fields message) ≡ length (canon_value (integer_value message.id)) + length (canon_value (integer_value message.a)) + length (canon_value (integer_value message.b))
 unfolding canon_fields

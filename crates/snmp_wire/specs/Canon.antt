@@ -6,7 +6,8 @@ use Rattle.snmp_ber.specs.Value.{integer_value, octet_string, object_id}
 use Rattle.snmp_wire.specs.Message.{VarBind, Message}
 use Rattle.snmp_ber.specs.Spelling.{sequence_tag}
 use Rattle.snmp_wire.specs.Spelling.{kind_tag}
-pub use Rattle.snmp_ber.specs.Canon.{IsEncodableValue, canon_content, canon_element, canon_header, canon_length, canon_number, canon_subidentifier, canon_value, digit_count, length_size, number_size, octets, septets, subidentifier_size, magnitude_of}
+unfoldable pub use Rattle.snmp_ber.specs.Canon.{canon_content, canon_element, canon_header, canon_length, canon_number, canon_subidentifier, canon_value, length_size, number_size, octets, septets, subidentifier_size}
+pub use Rattle.snmp_ber.specs.Canon.{IsEncodableValue, digit_count, magnitude_of}
 
 unfoldable pub canon_binding : VarBind → List ℕ
 canon_binding binding = canon_element sequence_tag (canon_value (object_id binding.name) ++ canon_value binding.value)

@@ -1,9 +1,11 @@
 pub mod Canon
 pub mod Fault
+pub mod Laws
 pub mod Message
 pub mod Parts
 pub mod Range
 pub mod Reading
+pub mod Sizes
 pub mod Spelling
 pub use Rattle.snmp_ber.specs.Identifier
 pub use Rattle.snmp_ber.specs.Length

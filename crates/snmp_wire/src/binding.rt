@@ -1,7 +1,7 @@
 //! Variable bindings, one and a list of them.
-ghost use Rattle.std.specs.Prelude.{◌≡◌, ℕ, List, [], ◌∷◌, true, false, length, IsOk, Ok, ◌+◌, ◌^◌, ◌<◌, ◌≤◌, ◌↔◌, ◌++◌, drop, IfSome, IfNone, IsSome};
+ghost use Rattle.std.specs.Prelude.{◌≡◌, ℕ, List, [], ◌∷◌, true, false, length, IsOk, Ok, ◌+◌, ◌^◌, ◌<◌, ◌≤◌, ◌↔◌, ◌++◌, drop, IfSome, IfNone, IsSome, ⊤};
 ghost use Rattle.snmp_wire.specs.Message.{var_bind};
-ghost use Rattle.snmp_ber.specs.Value.{object_id};
+ghost use Rattle.snmp_ber.specs.Value.{null_value, object_id};
 ghost use Rattle.snmp_wire.specs.Reading as reading;
 ghost use Rattle.snmp_ber.specs.Reading.{AgreesBy, checked};
 ghost use Rattle.snmp_oid.specs.Identifier.{IsWire};
@@ -25,6 +25,19 @@ pub struct Binding<'a> {
     pub name: Oid,
     /// Its value, or an exception.
     pub value: ValueRef<'a>,
+}
+
+impl<'a> Binding<'a> {
+    /// The binding of the empty name and the value NULL, for [`Bindings::read_next`] to read into.
+    #[inline]
+    pub fn empty() -> Binding<'a>
+        ensures { var_bind result ≡ record { name = []; value = null_value } }
+    {
+        Binding {
+            name: Oid::new(),
+            value: ValueRef::Null,
+        }
+    }
 }
 
 /// The bindings of a message, in order. Their strings lie in its datagram.
@@ -86,6 +99,9 @@ impl<'a> Bindings<'a> {
 impl<'a> Clone for Bindings<'a> {
     ghost is_clone = { λ bindings copy. copy ≡ bindings };
 
+    // Nothing is allocated.
+    ghost is_infallible = { λ _. ⊤ };
+
     fn clone(&self) -> Result<Bindings<'a>, AllocError> {
         Ok(Bindings { rest: self.rest })
     }
@@ -102,10 +118,7 @@ impl<'a> Iterator for Bindings<'a> {
     ghost remaining = { item_count (λ s. s) };
 
     fn next(&mut self) -> Option<Binding<'a>> {
-        let mut binding = Binding {
-            name: Oid::new(),
-            value: ValueRef::Null,
-        };
+        let mut binding = Binding::empty();
         if self.read_next(&mut binding) {
             Some(binding)
         } else {

@@ -5,13 +5,17 @@
 
 mod binding;
 mod kind;
+mod laws;
 mod message;
 
 pub use binding::{Binding, Bindings, binding_size, encode_binding};
 pub use kind::Kind;
+pub use laws::{
+    encoding_is_shortest, encoding_is_strict, message_sizes, no_fault, one_spelling, pieces,
+    strict_is_read,
+};
 pub use message::{
-    MAX_DATAGRAM, MessageRef, Parts, decode, encode, encode_head, encoding_is_shortest,
-    encoding_is_strict, head_size, no_fault, one_spelling, pieces, size, strict_is_read,
+    MAX_DATAGRAM, MessageRef, Parts, decode, encode, encode_head, head_size, size,
 };
 pub use snmp_ber::{BerError, OctetString, Value, ValueRef};
 pub use snmp_oid::{Oid, OidError, OidTextError, parse_numeric, write_numeric};

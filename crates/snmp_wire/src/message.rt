@@ -5,8 +5,7 @@ ghost use Rattle.snmp_wire.specs.Message.{Message, var_bind, var_binds};
 ghost use Rattle.snmp_ber.specs.Value.{integer_value, octet_string};
 ghost use Rattle.snmp_wire.specs.Reading as reading;
 ghost use Rattle.snmp_ber.specs.Reading.{AgreesBy};
-ghost use Rattle.snmp_wire.specs.Range.{IsMessageInRange};
-ghost use Rattle.snmp_wire.specs.Spelling.{Spells, Strict};
+ghost use Rattle.snmp_wire.specs.Spelling.{Spells};
 ghost use Rattle.snmp_wire.specs.Canon.{IsEncodable, canon, canon_bindings, canon_front, canon_head};
 ghost use Rattle.snmp_ber.specs.Canon.{canon_value};
 ghost use Rattle.snmp_wire.specs.Parts.{parts_message};
@@ -121,16 +120,6 @@ pub fn decode(datagram: &[u8]) -> Result<MessageRef<'_>, BerError>
 {
     message_of(datagram)
 }
-
-/// Octets spell at most one message, and no spelling is the front of another.
-pub fn one_spelling()
-    ensures { (m n : Message) (b c rest more : List ℕ) → Spells m b → Spells n c → b ++ rest ≡ c ++ more → (m ≡ n) × (b ≡ c) }
-{}
-
-/// Octets that spell a message have no fault: what each error says is false of them.
-pub fn no_fault()
-    ensures { (message : Message) (octets : List ℕ) (error : BerError) → Spells message octets → IsFault error octets → ⊥ }
-{}
 
 /// The message that the octets are.
 #[tactic(auto, unfolding(crate::specs::Reading::message_of))]
@@ -298,30 +287,6 @@ pub fn encode_head(parts: &Parts<'_>, total: u64, out: &mut [u8]) -> Option<usiz
     put_head(out, size, parts, total);
     Some(size)
 }
-
-/// A message in pieces: its shortest encoding is its head, and then its bindings in turn.
-#[tactic(auto, using(crate::proofs::MessageWriting::canon_parts))]
-pub fn pieces()
-    ensures { (m : Message) → canon m ≡ canon_head m (length (canon_bindings m.bindings)) ++ canon_bindings m.bindings }
-{}
-
-/// What is spelt by the standard is read.
-#[tactic(auto, using(crate::proofs::Lenient::strict_is_read))]
-pub fn strict_is_read()
-    ensures { (m : Message) (octets : List ℕ) → Strict m octets → Spells m octets }
-{}
-
-/// What is written is a spelling by the standard; so [`decode`] gives the message again.
-#[tactic(auto, using(crate::proofs::StrictMessages::strict_canon))]
-pub fn encoding_is_strict()
-    ensures { (m : Message) → IsMessageInRange m → Strict m (canon m) }
-{}
-
-/// No spelling by the standard is shorter than what is written.
-#[tactic(auto, using(crate::proofs::Shortest::no_shorter))]
-pub fn encoding_is_shortest()
-    ensures { (m : Message) (octets : List ℕ) → Strict m octets → length (canon m) ≤ length octets }
-{}
 
 /// How many octets bindings take together.
 #[inline(never)]

@@ -4,6 +4,6 @@ use Rattle.snmp_table.proofs.laws.one_answer.Goals as goal
 pub returns : goal.returns
 returns c = record {
   get = one_get;
-  get_next = one_next c.order.ensures;
-  get_bulk = one_next_after c.order.ensures;
+  get_next = one_next c.order.ensures.less;
+  get_bulk = one_next_after c.order.ensures.less;
 }

@@ -12,7 +12,7 @@ returns-in-Ok-clause-ok c =
       letters = sym c.in_default.ensures;
       agent = c.in-Some-table_path.ensures.some;
       name = subst (λ (t : List ℕ). IsNumericName t c.in-Ok.root) text read.found;
-      short = read.short;
+      short = read.at_most_128;
       only = λ o h. one_name c.as_bytes.result.now _ read.only read.too_long.1 c.in-Ok.root refl o (subst (λ (t : List ℕ). IsNumericName t o) (sym text) h);
     }
 

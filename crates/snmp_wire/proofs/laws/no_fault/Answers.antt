@@ -1,5 +1,5 @@
 use Rattle.snmp_wire.proofs.Faultless.{no_fault_of}
-use Rattle.snmp_wire.proofs.message.no_fault.Goals as goal
+use Rattle.snmp_wire.proofs.laws.no_fault.Goals as goal
 
 pub returns : goal.returns
 returns c = λ message octets fault h f. no_fault_of message octets fault h f

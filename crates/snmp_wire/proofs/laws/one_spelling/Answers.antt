@@ -1,5 +1,5 @@
 use Rattle.snmp_wire.proofs.MessageLaws.{one_message}
-use Rattle.snmp_wire.proofs.message.one_spelling.Goals as goal
+use Rattle.snmp_wire.proofs.laws.one_spelling.Goals as goal
 
 pub returns : goal.returns
 returns c = λ m n b c' rest more h k e. one_message m n b c' rest more h k e

@@ -1,0 +1,27 @@
+-- What the laws of messages and their encodings state.
+use Rattle.std.specs.Prelude.{◌≡◌, ◌≤◌, ℕ, List, ◌++◌, length}
+use Rattle.snmp_wire.specs.Canon.{canon, canon_bindings, canon_head}
+use Rattle.snmp_wire.specs.Message.{Message}
+use Rattle.snmp_wire.specs.Range.{IsMessageInRange}
+use Rattle.snmp_wire.specs.Spelling.{Spells, Strict}
+
+-- octets spell one message at most, and no encoding is the front of another
+abbrev pub OneMessage : Type 0
+OneMessage =
+    (m n : Message) (b c rest more : List ℕ) → Spells m b → Spells n c → b ++ rest ≡ c ++ more → (m ≡ n) × (b ≡ c)
+
+-- what is spelt by the standard is read
+abbrev pub StrictIsRead : Type 0
+StrictIsRead = (m : Message) (octets : List ℕ) → Strict m octets → Spells m octets
+
+-- the encoding that is written is one by the standard
+abbrev pub EncodingIsStrict : Type 0
+EncodingIsStrict = (m : Message) → IsMessageInRange m → Strict m (canon m)
+
+-- and none by the standard is shorter
+abbrev pub EncodingIsShortest : Type 0
+EncodingIsShortest = (m : Message) (octets : List ℕ) → Strict m octets → length (canon m) ≤ length octets
+
+-- it is the head of the message, and then its bindings in turn
+abbrev pub HasPieces : Type 0
+HasPieces = (m : Message) → canon m ≡ canon_head m (length (canon_bindings m.bindings)) ++ canon_bindings m.bindings

@@ -1,0 +1,55 @@
+//! Laws of messages and their encodings, for proofs above and for readers: each is a call that does
+//! nothing, and whose caller knows what it states.
+ghost use Rattle.std.specs.Prelude.{ℕ, List};
+ghost use Rattle.snmp_ber.specs.declared.error.BerError.{BerError};
+ghost use Rattle.snmp_wire.specs.Fault.{IsFault};
+ghost use Rattle.snmp_wire.specs.Laws.{EncodingIsShortest, EncodingIsStrict, HasPieces, OneMessage};
+ghost use Rattle.snmp_wire.specs.Laws.{StrictIsRead};
+ghost use Rattle.snmp_wire.specs.Message.{Message};
+ghost use Rattle.snmp_wire.specs.Sizes.{MessageSizes};
+ghost use Rattle.snmp_wire.specs.Spelling.{Spells};
+
+/// Octets spell at most one message, and no spelling is the front of another.
+#[inline]
+pub fn one_spelling()
+    ensures { OneMessage }
+{}
+
+/// Octets that spell a message have no fault: what each error says is false of them.
+#[inline]
+pub fn no_fault()
+    ensures {
+        (message : Message) (octets : List ℕ) (error : BerError)
+        → Spells message octets → IsFault error octets → ⊥
+    }
+{}
+
+/// What is spelt by the standard is read.
+#[inline]
+pub fn strict_is_read()
+    ensures { StrictIsRead }
+{}
+
+/// What is written is a spelling by the standard; so [`decode`](crate::decode) returns the message.
+#[inline]
+pub fn encoding_is_strict()
+    ensures { EncodingIsStrict }
+{}
+
+/// No spelling by the standard is shorter than what is written.
+#[inline]
+pub fn encoding_is_shortest()
+    ensures { EncodingIsShortest }
+{}
+
+/// A message's shortest encoding is its head, and then its bindings in turn.
+#[inline]
+pub fn pieces()
+    ensures { HasPieces }
+{}
+
+/// How many octets the parts of a message's shortest encoding take.
+#[inline]
+pub fn message_sizes()
+    ensures { MessageSizes }
+{}
