@@ -1,0 +1,5 @@
+pub mod Digits
+pub mod Specs
+pub mod Growing
+pub mod Groups
+pub mod Unique

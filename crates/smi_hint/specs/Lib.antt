@@ -1,0 +1,4 @@
+pub mod Number
+pub mod Spec
+pub mod Pieces
+pub mod Hint

@@ -1,0 +1,94 @@
+//! A display hint: read once, and then asked for texts.
+ghost use Rattle.std.specs.Prelude.{◌≡◌, ◌≤◌, ◌↔◌, ◌⊎◌, List, ℕ, IsSome, IfSome, IsTrue};
+ghost use Rattle.std.specs.Prelude.{MatchOption};
+ghost use Rattle.text_draft.specs.Draft.{Adds};
+ghost use Rattle.smi_hint.specs.Number.{IsNumberHint};
+ghost use Rattle.smi_hint.specs.Spec.{IsOctetHint};
+ghost use Rattle.smi_hint.specs.declared.spec.Spec.{Spec};
+
+use crate::number::{NumberForm, append_number, number_form};
+use crate::octets::append_octets;
+use crate::spec::is_octet_hint;
+use std::marker::Model;
+use text_draft::Draft;
+
+/// A value that a display hint shows.
+#[derive(Clone, Copy, Debug)]
+pub enum HintValue<'a> {
+    /// A number, for a hint of integers.
+    Number(i64),
+    /// Octets, for a hint of strings.
+    Octets(&'a [u8]),
+}
+
+/// A display hint (RFC 2579, section 3.1), which borrows its text.
+///
+/// A hint of integers is `d`, `d-n` with `n` from 0 to 20, `x`, `o` or `b`. A hint of octets has
+/// one
+/// or more specs: an optional `*`, a length of 0 to 65535 (0 to 8 for numbers), a format `x`, `d`,
+/// `o`,
+/// `a` or `t`, and perhaps a separator and, after a `*`, a terminator. The last spec is applied
+/// again
+/// and again, so without a `*` its length isn't 0.
+#[derive(Drop)]
+pub struct Hint<'a> {
+    text: &'a [u8],
+    number: Option<NumberForm>,
+}
+
+impl<'a> Model for Hint<'a> {
+    ghost Value = { List ℕ };
+
+    ghost view = { λ h. h.text.now };
+
+    ghost invariant = { λ h. MatchOption h.number
+        ((specs : List Spec) × IsOctetHint h.text.now specs) (IsNumberHint h.text.now) };
+}
+
+impl<'a> Hint<'a> {
+    ghost use Rattle.smi_hint.specs.Hint.{IsOfNumbers, IsOfOctets, IsOf, Shows};
+
+    /// The hint that a text is, or None where it is none.
+    pub fn parse(text: &'a [u8]) -> Option<Hint<'a>>
+        ensures found { IfSome result (λ hint. hint ≡ text.now) }
+        ensures some_of_hints { IsSome result ↔ (IsOfNumbers text.now ⊎ IsOfOctets text.now) }
+    {
+        if let Some(form) = number_form(text) {
+            return Some(Hint {
+                text,
+                number: Some(form),
+            });
+        }
+        if is_octet_hint(text) {
+            return Some(Hint { text, number: None });
+        }
+        None
+    }
+
+    /// Whether the hint is one of integers.
+    pub fn is_number(&self) -> bool
+        ensures { IsTrue result ↔ IsOfNumbers self.now }
+    {
+        self.number.is_some()
+    }
+
+    /// Appends a value as the hint shows it. The caller hands in a number for a hint of integers,
+    /// and
+    /// octets for one of octets.
+    pub fn append(&self, value: HintValue<'_>, draft: &mut Draft)
+        requires { IsOf self.now value }
+        ensures { (text : List ℕ) × Shows self.now value.entry text
+            × Adds draft.old text draft.new }
+    {
+        match value {
+            HintValue::Number(n) => match self.number {
+                Some(form) => append_number(draft, form, n),
+                None => unreachable!(),
+            },
+            HintValue::Octets(octets) => match self.number {
+                Some(_) => unreachable!(),
+                None => append_octets(draft, self.text, octets),
+            },
+        }
+    }
+}
