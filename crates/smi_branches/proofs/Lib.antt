@@ -1,0 +1,4 @@
+pub mod Branching
+pub mod Growing
+pub mod Places
+pub mod Walking

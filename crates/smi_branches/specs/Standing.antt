@@ -1,0 +1,33 @@
+-- Which place of a list of identifiers stands for an identifier: the first with it. What is asked of such
+-- a list.
+use Rattle.std.specs.Prelude.{◌≡◌, ℕ, ◌<◌, ◌≤◌, List, [], ◌∷◌, ◌++◌, length, take, slice_index_or, Contains, Option, Some, None, nat_eq}
+use Rattle.std.specs.List.{position_from, filter_map}
+use Rattle.std.specs.Cmp.Lexicographic.{pointwise}
+use Rattle.std.specs.List.Sorted.{IsStrictlySortedBy}
+use Rattle.std.specs.Ordering.{nat_cmp}
+
+-- the first place of the identifier
+abbrev pub place_of : List (List ℕ) → List ℕ → Option ℕ
+place_of oids o = position_from (λ x. pointwise nat_eq x o) 0 oids
+
+-- the identifier at a place
+abbrev pub oid_at : List (List ℕ) → ℕ → List ℕ
+oid_at oids k = slice_index_or oids k []
+
+-- the numbers from the left, so many of them, are an identifier of the list, and no more of them are
+pub record IsDeepestAt (oids : List (List ℕ)) (o : List ℕ) (place depth : ℕ) : Type 0 where
+  pub within : depth ≤ length o
+  pub here : place_of oids (take depth o) ≡ Some place
+  pub none_longer : (j : ℕ) → depth < j → j ≤ length o → place_of oids (take j o) ≡ None
+
+-- no beginning of the identifier is one of the list
+abbrev pub HasNone : List (List ℕ) → List ℕ → Type 0
+HasNone oids o = (j : ℕ) → j ≤ length o → place_of oids (take j o) ≡ None
+
+-- the places of the identifiers that are one number longer than o, in the order of that number: those that
+-- stand for their identifiers
+pub record AreChildren (oids : List (List ℕ)) (o : List ℕ) (places : List ℕ) : Type 0 where
+  pub numbers : List ℕ
+  pub rising : IsStrictlySortedBy nat_cmp numbers
+  pub all : (n k : ℕ) → place_of oids (o ++ n ∷ []) ≡ Some k → Contains numbers n
+  pub there : places ≡ filter_map (λ n. place_of oids (o ++ n ∷ [])) numbers
