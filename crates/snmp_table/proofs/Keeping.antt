@@ -1,5 +1,5 @@
 -- What lines state is what a table may keep.
-use Rattle.std.proofs.Common.{◌≡◌, ◌≢◌, ℕ, inl, inr, true, List, [], ◌∷◌, map, slice_index_or, sym, ◌∙◌}
+use Rattle.std.proofs.Common.{◌≡◌, ◌≢◌, ℕ, inl, inr, true, All, List, [], ◌∷◌, map, slice_index_or, sym, ◌∙◌}
 use Rattle.std.specs.Ordering.{nat_cmp}
 use Rattle.std.specs.Cmp.Lexicographic.{slice_cmp, nat_list_cmp_total}
 use Rattle.std.specs.FinMap.{get, get-from_sorted, find}
@@ -11,9 +11,9 @@ use Rattle.snmp_wire.specs.Message.Datum.{integer_value, octet_string, null_valu
 use Rattle.snmp_table.specs.declared.row.Row.{Row}
 use Rattle.snmp_table.specs.declared.row.RowValue.{RowValue}
 use Rattle.snmp_table.specs.declared.row.RowValue.TheVariants as value
-use Rattle.snmp_table.specs.Table.{IsRow, IsInstanceName, IsInstanceValue}
+use Rattle.snmp_table.specs.Table.{IsRow, IsInstanceName, IsInstanceValue, IsMibView}
 use Rattle.snmp_table.specs.Row.{entry_of, datum_of, view_of, IsShort, IsShortRow}
-use Rattle.snmp_table.specs.Places.{var_of, IsKept}
+use Rattle.snmp_table.specs.Places.{var_of, IsRising, IsKept}
 use Rattle.snmp_table.specs.Text.{object_prefix, instance, IsValueText, IsName}
 use Rattle.snmp_table.specs.Stated.{IsStated, IsTableOf}
 use Rattle.snmp_table.specs.Draft.{Holds}
@@ -65,6 +65,19 @@ short_value (value.TimeTicks n) h = tt
 short_value (value.Opaque octets) h = tt
 short_value (value.Counter64 n) h = tt
 
+-- the rows of a view are no longer than identifiers are
+pub short_rows : (rows : List Row) (objects : List (List ℕ)) → IsRising rows → IsMibView (view_of rows objects) → All IsShortRow rows
+short_rows rows objects rising view = λ k d low. row_short (slice_index_or rows k d) (listed_at rows k (slice_index_or rows k d) (slice_get-get_or rows k d low))
+  where
+    row_short : (row : Row) → Listed (entry_of row) (map entry_of rows) → IsShortRow row
+    row_short row listed =
+        let is_row : IsRow (view_of rows objects) (var_of (entry_of row)) =
+        get-from_sorted (slice_cmp nat_cmp) (map entry_of rows) row.name.items rising ∙ find-listed (entry_of row) (map entry_of rows) rising listed in
+        record {
+          name = (view.names (var_of (entry_of row)) is_row).identifier.short;
+          value = short_value row.value (view.values (var_of (entry_of row)) is_row);
+        }
+
 module _ (lines : List (List ℕ)) (rows : List Row) (objects : List (List ℕ)) (h : Holds lines (map entry_of rows) objects) where
   value_at : (o : List ℕ) → get (view_of rows objects).rows o ≡ find (slice_cmp nat_cmp) o (map entry_of rows)
   value_at o = get-from_sorted (slice_cmp nat_cmp) (map entry_of rows) o h.rising
@@ -81,24 +94,15 @@ module _ (lines : List (List ℕ)) (rows : List Row) (objects : List (List ℕ))
   stated_has : (o : List ℕ) → IsStated lines (object_prefix o) → contains (view_of rows objects).objects o ≡ true
   stated_has o stated = contains-from_list nat_list_cmp_total objects o ∙ (h.prefixes o).1 stated
 
-  listed_short : (row : Row) → Listed (entry_of row) (map entry_of rows) → IsShortRow row
-  listed_short row listed =
-      let stated : IsStated lines (instance (var_of (entry_of row))) = (h.rows (var_of (entry_of row))).0 (find-listed (entry_of row) (map entry_of rows) h.rising listed) in
-      record {
-        name = (stated_name lines (var_of (entry_of row)) stated).identifier.short;
-        value = short_value row.value (stated_value lines (var_of (entry_of row)) stated);
-      }
-
   pub kept : IsKept rows objects
-  kept = record {
-    rising = h.rising;
-    short = λ k d low. listed_short (slice_index_or rows k d) (listed_at rows k (slice_index_or rows k d) (slice_get-get_or rows k d low));
-    view = record {
-      names = λ p row. stated_name lines p (row_stated p row);
-      values = λ p row. stated_value lines p (row_stated p row);
-      objects = λ o has. stated_object lines o (object_stated o has);
-    };
-  }
+  kept = record { rising = h.rising; short = short_rows rows objects h.rising is_view; view = is_view }
+    where
+      is_view : IsMibView (view_of rows objects)
+      is_view = record {
+        names = λ p row. stated_name lines p (row_stated p row);
+        values = λ p row. stated_value lines p (row_stated p row);
+        objects = λ o has. stated_object lines o (object_stated o has);
+      }
 
   pub table_of : IsTableOf lines (view_of rows objects)
   table_of = record {

@@ -1,4 +1,5 @@
 pub mod Answering
+pub mod Changing
 pub mod Cuts
 pub mod Decimals
 pub mod Drafts

@@ -3,6 +3,7 @@ pub mod Exact
 pub mod Line
 pub mod Listing
 pub mod Places
+pub mod Put
 pub mod Row
 pub mod Stated
 pub mod Table

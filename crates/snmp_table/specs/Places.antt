@@ -1,10 +1,11 @@
 -- Where rows stand: what private functions over the sorted list are proved to find.
-use Rattle.std.specs.Prelude.{◌≡◌, ℕ, T, Bool, true, List, [], ◌∷◌, ◌++◌, map, All}
+use Rattle.std.specs.Prelude.{◌≡◌, ℕ, suc, Some, ◌≤◌, ◌<◌, T, Bool, true, not, is_some, List, [], ◌∷◌, ◌++◌, map, length, take, drop, All}
 use Rattle.std.specs.Ordering.{nat_cmp, is_le, eq_by_cmp}
-use Rattle.std.specs.List.{list_any}
-use Rattle.std.specs.declared.cmp.Ordering.TheVariants.{Less}
+use Rattle.std.specs.List.{list_any, slice_get}
+use Rattle.std.specs.declared.cmp.Ordering.TheVariants.{Less, Greater}
 use Rattle.std.specs.Cmp.Lexicographic.{slice_cmp}
-use Rattle.std.specs.FinMap.{is_sorted}
+use Rattle.std.specs.FinMap.{find, is_sorted}
+use Rattle.std.specs.FinMap.Entries.{where_key}
 use Rattle.snmp_wire.specs.Message.{Datum, VarBind}
 use Rattle.snmp_table.specs.declared.row.Row.{Row}
 use Rattle.snmp_table.specs.Row.{entry_of, view_of, IsShortRow}
@@ -43,6 +44,34 @@ last_row_name o (row ∷ rows) = last_row_name row.name.items rows
 -- the name equals one of the object prefixes or begins with it
 abbrev pub HasBeginning : List (List ℕ) → List ℕ → Type 0
 HasBeginning objects o = (object : List ℕ) × (rest : List ℕ) × (list_any (eq_by_cmp (slice_cmp nat_cmp) object) objects ≡ true) × (o ≡ object ++ rest)
+
+-- the name comes after each of the list
+abbrev pub IsAfterAll : List ℕ → List (List ℕ × Datum) → Type 0
+IsAfterAll o [] = Unit {0}
+IsAfterAll o (e ∷ es) = (slice_cmp nat_cmp o e.0 ≡ Greater) × IsAfterAll o es
+
+-- the row at this place has the name
+pub record HasNameAt (o : List ℕ) (rows : List Row) (place : ℕ) : Type 0 where
+  pub row : Row
+  pub at : slice_get rows place ≡ Some row
+  pub low : place < length rows
+  pub name : row.name.items ≡ o
+  pub passed : IsAfterAll o (map entry_of (take place rows))
+  pub ahead : IsBeforeAll o (map entry_of (drop (suc place) rows))
+
+-- no row has the name: those up to this place come before it, the others after it
+pub record BelongsAt (o : List ℕ) (rows : List Row) (place : ℕ) : Type 0 where
+  pub bound : place ≤ length rows
+  pub passed : IsAfterAll o (map entry_of (take place rows))
+  pub ahead : IsBeforeAll o (map entry_of (drop place rows))
+
+-- whether a row has the name
+abbrev pub has_name : List ℕ → List Row → Bool
+has_name o rows = is_some (find (slice_cmp nat_cmp) o (map entry_of rows))
+
+-- the entries that don't have the name
+abbrev pub without_name : List ℕ → List (List ℕ × Datum) → List (List ℕ × Datum)
+without_name o es = where_key (slice_cmp nat_cmp) (λ p. not (eq_by_cmp (slice_cmp nat_cmp) o p)) es
 
 -- what a table keeps: rising rows, which are a view's
 pub record IsKept (rows : List Row) (objects : List (List ℕ)) : Type 0 where

@@ -3,7 +3,7 @@ use Rattle.std.specs.Prelude.{◌≡◌, ◌≢◌, ℕ, zero, suc, ◌^◌, ◌
 use Rattle.std.specs.Int.{w32}
 use Rattle.std.specs.Ordering.{nat_cmp}
 use Rattle.std.specs.Cmp.Lexicographic.{slice_cmp}
-use Rattle.std.specs.FinMap.{FinMap, get}
+use Rattle.std.specs.FinMap.{FinMap, get, insert, remove}
 use Rattle.std.specs.FinSet.{FinSet, contains}
 use Rattle.snmp_oid.specs.Identifier.{IsIdentifier, IsWire, Precedes}
 use Rattle.snmp_wire.specs.Message.{Datum, VarBind}
@@ -84,3 +84,11 @@ pub data IsNext (view : MibView) (o : List ℕ) (p : VarBind) : Type 0 where
 abbrev pub IsNextAfter : MibView → ℕ → List ℕ → VarBind → Type 0
 IsNextAfter view zero o p = IsNext view o p
 IsNextAfter view (suc rounds) o p = (q : VarBind) × IsNextAfter view rounds o q × IsNext view q.name p
+
+-- the view with this instance, in place of the one of its name if there is one; all else is the same
+abbrev pub with_row : MibView → List ℕ → Datum → MibView
+with_row view o v = record { rows = insert view.rows o v; objects = view.objects }
+
+-- the view without the instance of this name; all else is the same
+abbrev pub without_row : MibView → List ℕ → MibView
+without_row view o = record { rows = remove view.rows o; objects = view.objects }

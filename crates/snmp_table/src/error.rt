@@ -1,4 +1,4 @@
-//! Why a text states no table.
+//! Why a text states no table, and why a variable isn't put.
 
 use thiserror::Error;
 
@@ -30,6 +30,21 @@ pub enum TableError {
         line: usize,
     },
     /// The allocator had no room.
+    #[error("out of memory")]
+    Memory,
+}
+
+/// Why [`Table::put`](crate::Table::put) refuses a variable: the first that applies.
+#[derive(Clone, Copy, Debug, PartialEq, Eq, Error)]
+pub enum PutError {
+    /// The name has fewer than three numbers, or no encoding.
+    #[error("bad name")]
+    BadName,
+    /// The value is Null or an exception, an identifier that has no encoding, or a string of more
+    /// than 65535 octets.
+    #[error("bad value")]
+    BadValue,
+    /// Memory ran out.
     #[error("out of memory")]
     Memory,
 }

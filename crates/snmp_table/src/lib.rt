@@ -3,6 +3,7 @@
 //! Stands on identifiers and values. The agent answers requests from it.
 #![tactic(auto)]
 
+mod change;
 mod draft;
 mod error;
 mod laws;
@@ -14,6 +15,6 @@ mod table;
 mod tests;
 mod value;
 
-pub use error::TableError;
+pub use error::{PutError, TableError};
 pub use laws::{no_fault, one_answer, one_table};
 pub use table::{Place, Table};

@@ -5,6 +5,7 @@ ghost use Rattle.snmp_table.specs.Row.{tag_text};
 ghost use Rattle.snmp_table.specs.Text.{Statement, States, IsBlank, IsObjectLine, IsInstanceText};
 ghost use Rattle.snmp_table.specs.Line.{IsForm, IsObjectRead, IsInstanceRead, IsLineFault, statement_of};
 
+use crate::change::is_instance_name;
 use crate::row::Row;
 use crate::split::split_once;
 use crate::value::{Tag, name, value};
@@ -135,7 +136,7 @@ fn instance_name(text: &[u8]) -> Option<Oid>
     ensures { IsOnly (IsInstanceText text.now) result }
 {
     let oid = name(text)?;
-    if oid.len() >= 3 && oid.is_wire() {
+    if is_instance_name(&oid) {
         Some(oid)
     } else {
         None

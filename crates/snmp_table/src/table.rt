@@ -13,8 +13,9 @@ ghost use Rattle.snmp_table.specs.Stated.{IsTableOf, IsFirstFault};
 ghost use Rattle.snmp_table.specs.Table.{MibView};
 ghost use Rattle.std.specs.Prelude.{List, ℕ};
 
+use crate::change::{is_instance_name, owned_value, put_row, remove_row};
 use crate::draft::Draft;
-use crate::error::TableError;
+use crate::error::{PutError, TableError};
 use crate::row::{Row, set_name};
 use crate::split::split_line;
 use snmp_oid::order;
@@ -26,6 +27,7 @@ use std::marker::Model;
 /// What an agent serves.
 #[derive(Drop)]
 pub struct Table {
+    alloc: Global,
     rows: Vec<Row>,
     objects: BTreeSet<Vec<u32>>,
 }
@@ -52,7 +54,10 @@ impl Table {
     ghost use Rattle.snmp_wire.specs.Message.{datum, var_bind};
     ghost use Rattle.std.specs.Prelude.{IfOk, IfErr};
     ghost use Rattle.std.specs.Str.Lines.{lines};
+    ghost use Rattle.std.specs.FinMap.{contains_key};
     ghost use Rattle.snmp_table.specs.Table.{IsGet, IsNext, IsNextAfter, IsAnswerValue, IsMibView};
+    ghost use Rattle.snmp_table.specs.Table.{IsInstanceName, IsInstanceValue, with_row, without_row};
+    ghost use Rattle.snmp_table.specs.Put.{IsPutError};
     ghost use Rattle.snmp_oid.specs.Identifier.{IsWire};
     ghost use Rattle.snmp_table.specs.Stated.{IsTableOf, IsFirstFault};
 
@@ -74,9 +79,44 @@ impl Table {
             rest = behind;
         }
         match draft.into_parts(alloc) {
-            Ok((rows, objects)) => Ok(Table { rows, objects }),
+            Ok((rows, objects)) => Ok(Table {
+                alloc,
+                rows,
+                objects,
+            }),
             Err(_) => Err(TableError::Memory),
         }
+    }
+
+    /// Gives the instance of this name the value, and returns whether it had one before. All else
+    /// stays as it was; after an error all does. No message leads here: a table is served read-only.
+    pub fn put(&mut self, name: &Oid, value: ValueRef<'_>) -> Result<bool, PutError>
+        ensures put { IfOk result (λ _. self.new ≡ with_row self.old name.now (datum value.entry)) }
+        ensures replaced { IfOk result (λ replaced. replaced ≡ contains_key self.old.rows name.now) }
+        ensures variable { IfOk result (λ _. IsInstanceName name.now × IsInstanceValue (datum value.entry)) }
+        ensures error { IfErr result (IsPutError name.now (datum value.entry)) }
+        ensures unchanged_on_error { IfErr result (λ _. self.new ≡ self.old) }
+    {
+        if !is_instance_name(name) {
+            return Err(PutError::BadName);
+        }
+        let value = match owned_value(self.alloc, &value) {
+            Ok(value) => value,
+            Err(error) => return Err(error),
+        };
+        let Ok(replaced) = put_row(self.alloc, &mut self.rows, name, value) else {
+            return Err(PutError::Memory);
+        };
+        Ok(replaced)
+    }
+
+    /// Removes the instance of this name, and returns whether there was one. All else stays as it was.
+    /// No memory is taken.
+    pub fn remove(&mut self, name: &Oid) -> bool
+        ensures removed { self.new ≡ without_row self.old name.now }
+        ensures found { result ≡ contains_key self.old.rows name.now }
+    {
+        remove_row(&mut self.rows, name)
     }
 
     /// What a table serves is a MIB view: a law, which does nothing when it runs.
@@ -121,7 +161,7 @@ impl Table {
     {
         order();
         let rows = self.rows.as_slice();
-        let (_, behind) = rows.split_at(place_behind(rows, name.as_slice()));
+        let (_, behind) = rows.split_at(place_after(rows, name.as_slice()));
         read_nth_or_end(behind, name, rounds, into);
     }
 }
@@ -138,7 +178,7 @@ fn row_at<'a>(rows: &'a [Row], name: &[u32]) -> Option<&'a Row>
     ensures value { option_map (λ row. datum_of row.now.value) result ≡ find (slice_cmp nat_cmp) name.now (map entry_of rows.now) }
     ensures short { All IsShortRow rows.now → IfSome result (λ row. IsShortRow row.now) }
 {
-    let (front, _) = rows.split_at(place_behind(rows, name));
+    let (front, _) = rows.split_at(place_after(rows, name));
     let row = front.last()?;
     if row.name.as_slice() == name {
         Some(row)
@@ -160,7 +200,7 @@ fn has_beginning(objects: &BTreeSet<Vec<u32>>, name: &[u32]) -> bool
 }
 
 /// How many rows at the front have the name or one before it.
-fn place_behind(rows: &[Row], name: &[u32]) -> usize
+pub fn place_after(rows: &[Row], name: &[u32]) -> usize
     requires { IsRising rows.now }
     ensures bound { result ≤ length rows.now }
     ensures passed { IsBeforeNone name.now (map entry_of (take result rows.now)) }
@@ -182,7 +222,7 @@ fn place_near(rows: &[Row], name: &[u32], place: Place) -> usize
 {
     match rows.get(place.row) {
         Some(row) if row.name.as_slice() == name => place.row + 1,
-        _ => place_behind(rows, name),
+        _ => place_after(rows, name),
     }
 }
 
@@ -239,7 +279,7 @@ mod tests {
     use snmp_wire::parse_numeric;
     use std::test::Fail;
 
-    /// The definition's program for `place_behind`: one row after the other.
+    /// The definition's program for `place_after`: one row after the other.
     fn scan(rows: &[Row], name: &[u32]) -> usize
         requires { IsRising rows.now }
         ensures bound { result ≤ length rows.now }
@@ -282,7 +322,7 @@ mod tests {
         for name in NAMES {
             let name = parse_numeric(name)?;
             assert_eq!(rt;
-                place_behind(rows, name.as_slice()),
+                place_after(rows, name.as_slice()),
                 scan(rows, name.as_slice())
             );
         }

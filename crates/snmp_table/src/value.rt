@@ -55,7 +55,7 @@ impl Tag {
 }
 
 /// How many octets a string of a table has at most.
-const LONGEST_STRING: usize = 65535;
+pub const LONGEST_STRING: usize = 65535;
 
 /// The numbers of the identifier that a text names (`parse_numeric`).
 pub fn name(text: &[u8]) -> Option<Oid>

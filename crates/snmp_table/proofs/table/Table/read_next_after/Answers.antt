@@ -13,9 +13,9 @@ answered : (c : goal.After-read_nth_or_end) → IsNextAfter c.args.self.now c.ar
 answered c =
     let rows = c.self.inside.rows.items in
     let o = c.args.name.now in
-    let place = c.place_behind.result in
-    let passed : IsBeforeNone o (map entry_of (take place rows)) = rw (← c.as_slice.ensures.value, ← c.as_slice-rows.ensures.value) c.place_behind.ensures.passed in
-    let ahead : IsBeforeAll o (map entry_of (drop place rows)) = rw (← c.as_slice.ensures.value, ← c.as_slice-rows.ensures.value) c.place_behind.ensures.ahead in
+    let place = c.place_after.result in
+    let passed : IsBeforeNone o (map entry_of (take place rows)) = rw (← c.as_slice.ensures.value, ← c.as_slice-rows.ensures.value) c.place_after.ensures.passed in
+    let ahead : IsBeforeAll o (map entry_of (drop place rows)) = rw (← c.as_slice.ensures.value, ← c.as_slice-rows.ensures.value) c.place_after.ensures.ahead in
     let after : IsNextAfter (view_of rows (map (λ o. o.items) c.self.inside.objects.keys)) c.args.rounds o (nth_or_end o (row_bindings (drop place rows)) c.args.rounds) =
     next_after_at c.order.ensures.less rows (map (λ o. o.items) c.self.inside.objects.keys) o place c.args.rounds c.self.invariant.rising passed ahead in
     let same : var_bind c.read_nth_or_end.new.into ≡ nth_or_end o (row_bindings (drop place rows)) c.args.rounds =
