@@ -1,3 +1,4 @@
+pub mod ServerTurns
 pub mod Sizes
 pub mod Answers
 pub mod Encodings

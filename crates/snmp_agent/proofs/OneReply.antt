@@ -1,36 +1,5 @@
 -- An agent has at most one reply to a datagram, and none to one that it drops.
-use Rattle.std.proofs.Common.{
-  ◌≡◌,
-  ◌≢◌,
-  ◌⊎◌,
-  inl,
-  inr,
-  ℕ,
-  zero,
-  suc,
-  pos,
-  ◌+◌,
-  ◌≤◌,
-  ◌<◌,
-  List,
-  [],
-  ◌∷◌,
-  ◌++◌,
-  length,
-  take,
-  drop,
-  refl,
-  sym,
-  ap,
-  subst,
-  ◌∙◌,
-  arith,
-  append-nil,
-  length-append,
-  ⊎_elim,
-}
-use Rattle.std.proofs.lemmas.Bool.{cases_lt}
-use Rattle.snmp_wire.specs.declared.kind.Kind.{Kind}
+use Rattle.std.proofs.Common.{◌≡◌, inl, inr, ℕ, zero, suc, pos, ◌+◌, ◌≤◌, ◌<◌, List, [], ◌∷◌, ◌++◌, length, take, drop, refl, sym, ap, subst, ◌∙◌, arith}
 use Rattle.snmp_wire.specs.declared.kind.Kind.TheVariants as kind
 use Rattle.snmp_wire.specs.Message.{VarBind, Message}
 use Rattle.snmp_wire.specs.Spelling.{Spells}
@@ -39,31 +8,7 @@ use Rattle.snmp_table.specs.Exact.{HasOne}
 use Rattle.snmp_table.specs.Table.{MibView, IsGet, IsNext, IsNextAfter}
 use Rattle.snmp_agent.specs.declared.config.Why.{Why}
 use Rattle.snmp_agent.specs.declared.config.Why.TheVariants as why
-use Rattle.snmp_agent.specs.Reply.{
-  Agent,
-  IsServed,
-  IsRequest,
-  response,
-  AreAnswers,
-  no_error,
-  IsWhole,
-  got,
-  got_next,
-  unwritten,
-  Fits,
-  or_zero,
-  AreEnds,
-  joined,
-  AreRounds,
-  IsBulk,
-  IsLongestFront,
-  IsResponse,
-  whole,
-  shortened,
-  bulk,
-  IsReply,
-  IsDropped,
-}
+use Rattle.snmp_agent.specs.Reply.{Agent, IsServed, response, AreAnswers, no_error, IsWhole, got, got_next, unwritten, Fits, or_zero, AreEnds, joined, AreRounds, IsBulk, IsLongestFront, IsResponse, whole, shortened, bulk, IsReply, IsDropped}
 use Rattle.snmp_agent.proofs.Answers.{HasGets, HasNexts, HasNextsAfter, same_answers}
 use Rattle.snmp_agent.proofs.Rounds.{ends_decided}
 

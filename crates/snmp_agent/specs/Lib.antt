@@ -1,2 +1,4 @@
-pub mod Reply
 pub mod Answering
+pub mod Event
+pub mod Reply
+pub mod Serving

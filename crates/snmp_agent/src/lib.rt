@@ -7,11 +7,15 @@ mod agent;
 mod bulk;
 mod config;
 mod draft;
+mod endpoint;
 mod laws;
+mod server;
 
 pub use agent::answer;
 pub use config::{Config, Outcome, Why};
+pub use endpoint::{Endpoint, EndpointFault};
 pub use laws::one_reply;
+pub use server::{Served, serve, serve_at};
 
 #[cfg(test)]
 mod bulk_tests;

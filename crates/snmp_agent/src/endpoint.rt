@@ -1,0 +1,76 @@
+//! Where an agent receives datagrams and sends its replies.
+ghost use Rattle.std.specs.Prelude.{◌≡◌, ◌≤◌, IfOk, IfSome, length};
+
+use std::io::ErrorKind;
+use std::net::{SocketAddr, UdpSocket};
+
+/// A receive or a send failed.
+#[derive(Clone, Copy, Debug, PartialEq, Eq, thiserror::Error)]
+#[error("the endpoint failed")]
+pub struct EndpointFault;
+
+/// Where an agent receives datagrams and sends its replies.
+pub trait Endpoint {
+    ghost use Rattle.std.specs.Prelude.{List, Option};
+    ghost use Rattle.snmp_agent.specs.Event.{Event, extended, event_of_receive, event_of_reply};
+
+    /// What happened there so far, if that is known. Of a socket it isn't.
+    ghost log: { Self → Option (List Event) };
+
+    /// Receives a datagram to the front of the buffer, and returns its length, or None where none
+    /// comes in time.
+    fn receive(&mut self, buffer: &mut [u8]) -> Result<Option<usize>, EndpointFault>
+        ensures bound { IfOk result (λ received. IfSome received (λ n. n ≤ length buffer.new)) }
+        ensures log { log self.new ≡ extended (log self.old) (event_of_receive result buffer.new) };
+
+    /// Sends a reply to where the latest datagram came from.
+    fn reply(&mut self, datagram: &[u8]) -> Result<(), EndpointFault>
+        ensures { log self.new ≡ extended (log self.old) (event_of_reply result datagram.now) };
+}
+
+/// A UDP socket as an endpoint.
+#[derive(Drop)]
+pub struct SocketEndpoint<'a> {
+    socket: &'a UdpSocket,
+    /// Where the latest datagram came from.
+    sender: Option<SocketAddr>,
+}
+
+impl<'a> SocketEndpoint<'a> {
+    /// The socket, from which nothing was received yet.
+    pub fn new(socket: &'a UdpSocket) -> SocketEndpoint<'a> {
+        SocketEndpoint {
+            socket,
+            sender: None,
+        }
+    }
+}
+
+impl<'a> Endpoint for SocketEndpoint<'a> {
+    ghost use Rattle.std.specs.Prelude.{None};
+
+    ghost log = { λ _. None };
+
+    fn receive(&mut self, buffer: &mut [u8]) -> Result<Option<usize>, EndpointFault> {
+        match self.socket.recv_from(buffer) {
+            Ok((size, sender)) => {
+                self.sender = Some(sender);
+                Ok(Some(size))
+            }
+            Err(error) => match error.kind() {
+                ErrorKind::WouldBlock | ErrorKind::TimedOut => Ok(None),
+                _ => Err(EndpointFault),
+            },
+        }
+    }
+
+    fn reply(&mut self, datagram: &[u8]) -> Result<(), EndpointFault> {
+        let Some(sender) = self.sender else {
+            return Err(EndpointFault);
+        };
+        match self.socket.send_to(datagram, sender) {
+            Ok(size) if size == datagram.len() => Ok(()),
+            _ => Err(EndpointFault),
+        }
+    }
+}

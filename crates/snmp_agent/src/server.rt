@@ -1,0 +1,95 @@
+//! Serving a table: datagrams are received and replied to, one a turn.
+ghost use Rattle.std.specs.Prelude.{◌≡◌, ℕ, ◌+◌, List, length};
+ghost use Rattle.snmp_agent.specs.Reply.{agent_of};
+ghost use Rattle.snmp_agent.specs.Serving.{Event, extended, IsTurn, AreTurns, tally};
+
+use crate::agent::answer;
+use crate::config::{Config, Outcome};
+use crate::endpoint::{Endpoint, SocketEndpoint};
+use snmp_table::Table;
+use std::net::UdpSocket;
+
+/// What a server did, by turns.
+#[derive(Clone, Copy, Debug, Default, PartialEq, Eq)]
+pub struct Served {
+    /// A datagram came, and its reply was sent.
+    pub replies: u64,
+    /// A datagram came that has no reply.
+    pub dropped: u64,
+    /// No datagram came in time.
+    pub idle: u64,
+    /// A receive or a send failed.
+    pub faults: u64,
+}
+
+/// What a server did in one turn.
+#[derive(Clone, Copy, PartialEq, Eq)]
+pub enum Turn {
+    Replied,
+    Dropped,
+    Idle,
+    Failed,
+}
+
+/// Serves a table over a UDP socket (RFC 3417, section 3) for a number of turns: in each one datagram
+/// is received, or the socket's time-out passes, and the agent's reply goes to where the datagram came
+/// from. A turn in which a receive or a send fails counts under `faults` alone, and the next follows.
+///
+/// A socket without a time-out waits for each datagram. No memory is taken.
+pub fn serve(socket: &UdpSocket, table: &Table, config: &Config<'_>, turns: u64) -> Served
+    ensures { result.replies + result.dropped + result.idle + result.faults ≡ turns }
+{
+    serve_at(&mut SocketEndpoint::new(socket), table, config, turns)
+}
+
+/// [`serve`] at any endpoint: each datagram that it received has its reply there, if it has one.
+pub fn serve_at<E: Endpoint>(
+    endpoint: &mut E,
+    table: &Table,
+    config: &Config<'_>,
+    turns: u64,
+) -> Served
+    ensures adds_up { result.replies + result.dropped + result.idle + result.faults ≡ turns }
+    ensures turns { (done : List Turn) × (events : List Event)
+        × AreTurns (agent_of table.now config.now) done events × (length done ≡ turns)
+        × (result ≡ tally done)
+        × (E.log endpoint.new ≡ extended (E.log endpoint.old) events) }
+{
+    let mut served = Served::default();
+    let mut request = [0; 65507];
+    let mut reply = [0; 65507];
+    'turns: for _ in 0..turns {
+        match serve_once(endpoint, table, config, &mut request, &mut reply) {
+            Turn::Replied => served.replies += 1,
+            Turn::Dropped => served.dropped += 1,
+            Turn::Idle => served.idle += 1,
+            Turn::Failed => served.faults += 1,
+        }
+    }
+    served
+}
+
+/// One turn: receives a datagram and sends the reply, if there is one.
+fn serve_once<E: Endpoint>(
+    endpoint: &mut E,
+    table: &Table,
+    config: &Config<'_>,
+    request: &mut [u8; 65507],
+    reply: &mut [u8; 65507],
+) -> Turn
+    ensures { (events : List Event) × IsTurn (agent_of table.now config.now) result events
+        × (E.log endpoint.new ≡ extended (E.log endpoint.old) events) }
+{
+    let size = match endpoint.receive(&mut request[..]) {
+        Ok(Some(size)) => size,
+        Ok(None) => return Turn::Idle,
+        Err(_) => return Turn::Failed,
+    };
+    match answer(table, config, &request[..size], reply) {
+        Outcome::Reply(length) => match endpoint.reply(&reply[..length]) {
+            Ok(()) => Turn::Replied,
+            Err(_) => Turn::Failed,
+        },
+        Outcome::Dropped(_) => Turn::Dropped,
+    }
+}
