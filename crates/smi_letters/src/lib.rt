@@ -1,0 +1,6 @@
+//! Letters that say how names and values are shown, as the tools take them after `-O`.
+#![tactic(auto)]
+
+mod letters;
+
+pub use letters::{Letters, NameForm, StringForm, TypeForm};
