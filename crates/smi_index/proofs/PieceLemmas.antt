@@ -14,8 +14,8 @@ use Rattle.smi_index.specs.declared.part.IndexPart.TheVariants.{Number, Address,
 use Rattle.smi_index.specs.declared.part.IndexPart.TheVariants.{Identifier, ImpliedIdentifier}
 use Rattle.smi_index.specs.Index.{IsInExtent, IsEncoding, IsRead, AreRead}
 use Rattle.smi_index.specs.Reading.{front_of, values_of}
-use Rattle.smi_index.specs.Pieces.{plain_number, is_quotable, is_shown_text, numbers_of, IsPiece}
-use Rattle.smi_index.specs.Pieces.{dotted_text, pieces_text, as_numbers, as_text, extent_numbers}
+use Rattle.smi_index.specs.Pieces.{plain_number, is_quotable, is_shown_text, piece_numbers, IsPiece}
+use Rattle.smi_index.specs.Pieces.{dotted_text, shown_pieces, as_numbers, as_text, extent_numbers}
 use Rattle.smi_index.specs.Pieces.{value_numbers, value_pieces, index_pieces, instance_pieces}
 use Rattle.smi_index.proofs.ReadingLemmas.{all_found, first_value}
 
@@ -23,8 +23,8 @@ use Rattle.smi_index.proofs.ReadingLemmas.{all_found, first_value}
 pub record IsNextValue (parts : List IndexPart) (i : ℕ) (value rest : List ℕ) (ahead : List (List ℕ)) : Type 0 where
   pub more : List (List ℕ)
   pub left : values_of (drop (i + 1) parts) rest ≡ Some more
-  pub text : pieces_text (index_pieces (drop i parts) ahead)
-      ≡ pieces_text (value_pieces (get_or parts i Number) value) ++ pieces_text (index_pieces (drop (i + 1) parts) more)
+  pub text : shown_pieces (index_pieces (drop i parts) ahead)
+      ≡ shown_pieces (value_pieces (get_or parts i Number) value) ++ shown_pieces (index_pieces (drop (i + 1) parts) more)
 
 next_at : (part : IndexPart) (parts : List IndexPart) (left value rest : List ℕ) (ahead : List (List ℕ)) → front_of part left ≡ Some (value, rest)
     → values_of (part ∷ parts) left ≡ Some ahead → (more : List (List ℕ)) × (values_of parts rest ≡ Some more) × (ahead ≡ value ∷ more)
@@ -40,27 +40,27 @@ next_value parts i left value rest ahead low front h =
     record {
       more = e.0;
       left = e.1;
-      text = ap (λ (ps : List IndexPart). pieces_text (index_pieces ps ahead)) here
-          ∙ ap (λ (vs : List (List ℕ)). pieces_text (index_pieces (get_or parts i Number ∷ drop (i + 1) parts) vs)) e.2
+      text = ap (λ (ps : List IndexPart). shown_pieces (index_pieces ps ahead)) here
+          ∙ ap (λ (vs : List (List ℕ)). shown_pieces (index_pieces (get_or parts i Number ∷ drop (i + 1) parts) vs)) e.2
           ∙ flat_map-append dotted_text (value_pieces (get_or parts i Number) value) (index_pieces (drop (i + 1) parts) e.0);
     }
 
 -- the numbers of pieces
-numbers_of_numbers : (numbers : List ℕ) → flat_map numbers_of (as_numbers numbers) ≡ numbers
+numbers_of_numbers : (numbers : List ℕ) → flat_map piece_numbers (as_numbers numbers) ≡ numbers
 numbers_of_numbers [] = refl
 numbers_of_numbers (n ∷ more) = ap (λ (ns : List ℕ). n ∷ ns) (numbers_of_numbers more)
 
-text_numbers : (extent : Extent) (value : List ℕ) → flat_map numbers_of (as_text extent value ∷ []) ≡ extent_numbers extent value
+text_numbers : (extent : Extent) (value : List ℕ) → flat_map piece_numbers (as_text extent value ∷ []) ≡ extent_numbers extent value
 text_numbers (Fixed size) value = append-nil value
 text_numbers Counted value = append-nil (length value ∷ value)
 text_numbers Implied value = append-nil value
 
 either_numbers : (extent : Extent) (value : List ℕ) (test : Bool)
-    → flat_map numbers_of (cond test (as_text extent value ∷ []) (as_numbers (extent_numbers extent value))) ≡ extent_numbers extent value
+    → flat_map piece_numbers (cond test (as_text extent value ∷ []) (as_numbers (extent_numbers extent value))) ≡ extent_numbers extent value
 either_numbers extent value true = text_numbers extent value
 either_numbers extent value false = numbers_of_numbers (extent_numbers extent value)
 
-value_is : (part : IndexPart) (value : List ℕ) → flat_map numbers_of (value_pieces part value) ≡ value_numbers part value
+value_is : (part : IndexPart) (value : List ℕ) → flat_map piece_numbers (value_pieces part value) ≡ value_numbers part value
 value_is Number value = numbers_of_numbers value
 value_is Address value = numbers_of_numbers value
 value_is (Text extent) value = either_numbers extent value (is_shown_text value)
@@ -85,22 +85,22 @@ read_whole : (part : IndexPart) (numbers value rest : List ℕ) → IsRead part 
 read_whole part numbers value rest h = h.whole ∙ ap (λ (t : List ℕ). t ++ rest) (encoding_is part value h.here h.encoding)
 
 index_is : (parts : List IndexPart) (numbers : List ℕ) (values : List (List ℕ)) → AreRead parts numbers values
-    → flat_map numbers_of (index_pieces parts values) ≡ numbers
+    → flat_map piece_numbers (index_pieces parts values) ≡ numbers
 index_is [] numbers [] h = sym h
 index_is [] numbers (value ∷ values) h = absurd h
 index_is (part ∷ parts) numbers [] h = absurd h
 index_is (part ∷ parts) numbers (value ∷ values) h =
-    flat_map-append numbers_of (value_pieces part value) (index_pieces parts values)
-    ∙ ap (λ (t : List ℕ). t ++ flat_map numbers_of (index_pieces parts values)) (value_is part value)
+    flat_map-append piece_numbers (value_pieces part value) (index_pieces parts values)
+    ∙ ap (λ (t : List ℕ). t ++ flat_map piece_numbers (index_pieces parts values)) (value_is part value)
     ∙ ap (λ (t : List ℕ). value_numbers part value ++ t) (index_is parts h.0 values h.2)
     ∙ sym (read_whole part numbers value h.0 h.1)
 
 either_whole : (parts : List IndexPart) (numbers : List ℕ) (read : Option (List (List ℕ))) → values_of parts numbers ≡ read
-    → flat_map numbers_of (unwrap_or (option_map (index_pieces parts) read) (as_numbers numbers)) ≡ numbers
+    → flat_map piece_numbers (unwrap_or (option_map (index_pieces parts) read) (as_numbers numbers)) ≡ numbers
 either_whole parts numbers None is = numbers_of_numbers numbers
 either_whole parts numbers (Some values) is = index_is parts numbers values (all_found parts numbers values is)
 
-pub whole : (index : Option (List IndexPart)) (numbers : List ℕ) → flat_map numbers_of (instance_pieces index numbers) ≡ numbers
+pub whole : (index : Option (List IndexPart)) (numbers : List ℕ) → flat_map piece_numbers (instance_pieces index numbers) ≡ numbers
 whole None numbers = numbers_of_numbers numbers
 whole (Some parts) numbers = either_whole parts numbers (values_of parts numbers) refl
 

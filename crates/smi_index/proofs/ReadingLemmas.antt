@@ -11,9 +11,9 @@ use Rattle.smi_index.specs.declared.part.Extent.TheVariants.{Fixed, Counted, Imp
 use Rattle.smi_index.specs.declared.part.IndexPart.{IndexPart}
 use Rattle.smi_index.specs.declared.part.IndexPart.TheVariants.{Number, Address, Text, Octets}
 use Rattle.smi_index.specs.declared.part.IndexPart.TheVariants.{Identifier, ImpliedIdentifier}
-use Rattle.smi_index.specs.Index.{is_octet, AreOctets, IsInExtent, IsEncoding, LeavesIn, Leaves}
+use Rattle.smi_index.specs.Index.{is_octet, AreOctetNumbers, IsInExtent, IsEncoding, LeavesIn, LeavesAfter}
 use Rattle.smi_index.specs.Index.{IsRead, AreRead}
-use Rattle.smi_index.specs.Reading.{cut, counted, remaining, of_octets, in_extent, front_of}
+use Rattle.smi_index.specs.Reading.{front_and_rest, counted, remaining, of_octets, in_extent, front_of}
 use Rattle.smi_index.specs.Reading.{values_of}
 
 abbrev Pair : Type 0
@@ -25,7 +25,7 @@ same_value p q h = let e : p ≡ q = cc in ap (λ (r : Pair). r.0) e
 same_rest : (p q : Pair) → Some p ≡ Some q → p.1 ≡ q.1
 same_rest p q h = let e : p ≡ q = cc in ap (λ (r : Pair). r.1) e
 
--- a cut
+-- a front_and_rest
 cut_at : (size : ℕ) (numbers value rest : List ℕ) (test : Bool) → leb size (length numbers) ≡ test
     → cond {A = Option Pair} test (Some (take size numbers, drop size numbers)) None ≡ Some (value, rest) → (numbers ≡ value ++ rest) × (length value ≡ size)
 cut_at size numbers value rest true fits h =
@@ -37,14 +37,14 @@ cut_at size numbers value rest true fits h =
     (sym whole, ap length (sym front) ∙ length-take-le size numbers low)
 cut_at size numbers value rest false fits h = let no : ⊥ = cc in absurd no
 
-pub cut_found : (size : ℕ) (numbers value rest : List ℕ) → cut size numbers ≡ Some (value, rest) → (numbers ≡ value ++ rest) × (length value ≡ size)
+pub cut_found : (size : ℕ) (numbers value rest : List ℕ) → front_and_rest size numbers ≡ Some (value, rest) → (numbers ≡ value ++ rest) × (length value ≡ size)
 cut_found size numbers value rest h = cut_at size numbers value rest (leb size (length numbers)) refl h
 
 long_enough : (value rest : List ℕ) → length value ≤ length (value ++ rest)
 long_enough [] rest = omega arith
 long_enough (n ∷ value) rest = let more = long_enough value rest in omega arith
 
-pub cut_only : (value rest : List ℕ) → cut (length value) (value ++ rest) ≡ Some (value, rest)
+pub cut_only : (value rest : List ℕ) → front_and_rest (length value) (value ++ rest) ≡ Some (value, rest)
 cut_only value rest =
     let fits : leb (length value) (length (value ++ rest)) ≡ true = le-leb _ _ (long_enough value rest) in
     rw fits (ap (λ (v : List ℕ). Some (v, drop (length value) (value ++ rest))) (take-append_seam value rest)
@@ -75,16 +75,16 @@ remaining_only (n ∷ more) some = ap (λ (v : List ℕ). Some (n ∷ v, [])) (a
 
 -- octets
 octets_at : (value rest : List ℕ) (p : Pair) (test : Bool) → list_all is_octet p.0 ≡ test → cond test (Some p) None ≡ Some (value, rest)
-    → (Some p ≡ Some (value, rest)) × AreOctets value
+    → (Some p ≡ Some (value, rest)) × AreOctetNumbers value
 octets_at value rest p true are h =
     let same : p.0 ≡ value = same_value p (value, rest) h in (h, ap (λ (v : List ℕ). list_all is_octet v) (sym same) ∙ are)
 octets_at value rest p false are h = let no : ⊥ = cc in absurd no
 
-octets_found : (read : Option Pair) (value rest : List ℕ) → of_octets read ≡ Some (value, rest) → (read ≡ Some (value, rest)) × AreOctets value
+octets_found : (read : Option Pair) (value rest : List ℕ) → of_octets read ≡ Some (value, rest) → (read ≡ Some (value, rest)) × AreOctetNumbers value
 octets_found None value rest h = let no : ⊥ = cc in absurd no
 octets_found (Some (first, more)) value rest h = octets_at value rest (first, more) (list_all is_octet first) refl h
 
-octets_only : (read : Option Pair) (value rest : List ℕ) → read ≡ Some (value, rest) → AreOctets value → of_octets read ≡ Some (value, rest)
+octets_only : (read : Option Pair) (value rest : List ℕ) → read ≡ Some (value, rest) → AreOctetNumbers value → of_octets read ≡ Some (value, rest)
 octets_only read value rest is are = ap of_octets is ∙ rw are refl
 
 -- a string
@@ -105,8 +105,8 @@ extent_found Implied numbers value rest h =
 extent_only : (extent : Extent) (value here rest : List ℕ) → IsInExtent extent value here → LeavesIn extent rest
     → in_extent extent (here ++ rest) ≡ Some (value, rest)
 extent_only (Fixed size) value here rest h after =
-    let P : ℕ → Type 0 = λ n. cut n (value ++ rest) ≡ Some (value, rest) in
-    let Q : List ℕ → Type 0 = λ t. cut size (t ++ rest) ≡ Some (value, rest) in
+    let P : ℕ → Type 0 = λ n. front_and_rest n (value ++ rest) ≡ Some (value, rest) in
+    let Q : List ℕ → Type 0 = λ t. front_and_rest size (t ++ rest) ≡ Some (value, rest) in
     subst Q (sym h.1) (subst P h.0 (cut_only value rest))
 extent_only Counted value here rest h after =
     let Q : List ℕ → Type 0 = λ t. counted (t ++ rest) ≡ Some (value, rest) in subst Q (sym h) (cut_only value rest)
@@ -120,7 +120,7 @@ pub part_found : (part : IndexPart) (numbers value rest : List ℕ) → front_of
 part_found Number numbers value rest h =
     let e = cut_found 1 numbers value rest h in record { here = value; whole = e.0; encoding = (e.1, refl); after = tt }
 part_found Address numbers value rest h =
-    let are = octets_found (cut 4 numbers) value rest h in
+    let are = octets_found (front_and_rest 4 numbers) value rest h in
     let e = cut_found 4 numbers value rest are.0 in
     record { here = value; whole = e.0; encoding = (are.1, e.1, refl); after = tt }
 part_found (Text extent) numbers value rest h =
@@ -136,15 +136,16 @@ part_found Identifier numbers value rest h =
 part_found ImpliedIdentifier numbers value rest h =
     let e = remaining_found numbers value rest h in record { here = value; whole = e.0; encoding = (e.1, refl); after = e.2 }
 
-encoded_only : (part : IndexPart) (value here rest : List ℕ) → IsEncoding part value here → Leaves part rest → front_of part (here ++ rest) ≡ Some (value, rest)
+encoded_only : (part : IndexPart) (value here rest : List ℕ) → IsEncoding part value here → LeavesAfter part rest → front_of part (here ++ rest)
+    ≡ Some (value, rest)
 encoded_only Number value here rest h after =
-    let P : ℕ → Type 0 = λ n. cut n (value ++ rest) ≡ Some (value, rest) in
-    let Q : List ℕ → Type 0 = λ t. cut 1 (t ++ rest) ≡ Some (value, rest) in
+    let P : ℕ → Type 0 = λ n. front_and_rest n (value ++ rest) ≡ Some (value, rest) in
+    let Q : List ℕ → Type 0 = λ t. front_and_rest 1 (t ++ rest) ≡ Some (value, rest) in
     subst Q (sym h.1) (subst P h.0 (cut_only value rest))
 encoded_only Address value here rest h after =
-    let P : ℕ → Type 0 = λ n. cut n (value ++ rest) ≡ Some (value, rest) in
-    let Q : List ℕ → Type 0 = λ t. cut 4 (t ++ rest) ≡ Some (value, rest) in
-    octets_only (cut 4 (here ++ rest)) value rest (subst Q (sym h.2) (subst P h.1 (cut_only value rest))) h.0
+    let P : ℕ → Type 0 = λ n. front_and_rest n (value ++ rest) ≡ Some (value, rest) in
+    let Q : List ℕ → Type 0 = λ t. front_and_rest 4 (t ++ rest) ≡ Some (value, rest) in
+    octets_only (front_and_rest 4 (here ++ rest)) value rest (subst Q (sym h.2) (subst P h.1 (cut_only value rest))) h.0
 encoded_only (Text extent) value here rest h after = octets_only (in_extent extent (here ++ rest)) value rest (extent_only extent value here rest h.1 after) h.0
 encoded_only (Octets extent) value here rest h after =
     octets_only (in_extent extent (here ++ rest)) value rest (extent_only extent value here rest h.1 after) h.0

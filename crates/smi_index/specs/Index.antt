@@ -13,8 +13,8 @@ use Rattle.smi_index.specs.declared.part.IndexPart.TheVariants.{Identifier, Impl
 abbrev pub is_octet : ℕ → Bool
 is_octet n = nat_le n 255
 
-abbrev pub AreOctets : List ℕ → Type 0
-AreOctets value = list_all is_octet value ≡ true
+abbrev pub AreOctetNumbers : List ℕ → Type 0
+AreOctetNumbers value = list_all is_octet value ≡ true
 
 -- a string as numbers: those of a fixed size, or a length and then as many, or, implied, at least
 -- one
@@ -26,9 +26,9 @@ IsInExtent Implied value here = (value ≢ []) × (here ≡ value)
 -- the encoding of a value under a part
 abbrev pub IsEncoding : IndexPart → List ℕ → List ℕ → Type 0
 IsEncoding Number value here = (length value ≡ 1) × (here ≡ value)
-IsEncoding Address value here = AreOctets value × (length value ≡ 4) × (here ≡ value)
-IsEncoding (Text extent) value here = AreOctets value × IsInExtent extent value here
-IsEncoding (Octets extent) value here = AreOctets value × IsInExtent extent value here
+IsEncoding Address value here = AreOctetNumbers value × (length value ≡ 4) × (here ≡ value)
+IsEncoding (Text extent) value here = AreOctetNumbers value × IsInExtent extent value here
+IsEncoding (Octets extent) value here = AreOctetNumbers value × IsInExtent extent value here
 IsEncoding Identifier value here = here ≡ length value ∷ value
 IsEncoding ImpliedIdentifier value here = (value ≢ []) × (here ≡ value)
 
@@ -38,20 +38,20 @@ LeavesIn (Fixed size) rest = Unit {0}
 LeavesIn Counted rest = Unit {0}
 LeavesIn Implied rest = rest ≡ []
 
-abbrev pub Leaves : IndexPart → List ℕ → Type 0
-Leaves Number rest = Unit {0}
-Leaves Address rest = Unit {0}
-Leaves (Text extent) rest = LeavesIn extent rest
-Leaves (Octets extent) rest = LeavesIn extent rest
-Leaves Identifier rest = Unit {0}
-Leaves ImpliedIdentifier rest = rest ≡ []
+abbrev pub LeavesAfter : IndexPart → List ℕ → Type 0
+LeavesAfter Number rest = Unit {0}
+LeavesAfter Address rest = Unit {0}
+LeavesAfter (Text extent) rest = LeavesIn extent rest
+LeavesAfter (Octets extent) rest = LeavesIn extent rest
+LeavesAfter Identifier rest = Unit {0}
+LeavesAfter ImpliedIdentifier rest = rest ≡ []
 
 -- the encoding of a value stands at the front of the numbers, and the rest after it
 pub record IsRead (part : IndexPart) (numbers value rest : List ℕ) : Type 0 where
   pub here : List ℕ
   pub whole : numbers ≡ here ++ rest
   pub encoding : IsEncoding part value here
-  pub after : Leaves part rest
+  pub after : LeavesAfter part rest
 
 -- the whole list of numbers is the encodings of the values in turn
 abbrev pub AreRead : List IndexPart → List ℕ → List (List ℕ) → Type 0

@@ -26,10 +26,10 @@ abbrev pub is_shown_text : List ℕ → Bool
 is_shown_text value = not (length value == 0) && list_all is_quotable value
 
 -- the numbers that a piece stands for
-abbrev pub numbers_of : Piece → List ℕ
-numbers_of (plain_number n) = n ∷ []
-numbers_of (counted_text octets) = length octets ∷ octets
-numbers_of (plain_text octets) = octets
+abbrev pub piece_numbers : Piece → List ℕ
+piece_numbers (plain_number n) = n ∷ []
+piece_numbers (counted_text octets) = length octets ∷ octets
+piece_numbers (plain_text octets) = octets
 
 -- what a name may have as a piece; of single quotes there is at least one octet between them
 abbrev pub IsPiece : Piece → Type 0
@@ -38,16 +38,16 @@ IsPiece (counted_text octets) = IsTrue (list_all is_quotable octets)
 IsPiece (plain_text octets) = (octets ≢ []) × IsTrue (list_all is_quotable octets)
 
 -- a piece as it is written
-abbrev pub piece_text : Piece → List ℕ
-piece_text (plain_number n) = decimal n
-piece_text (counted_text octets) = codes "\"" ++ octets ++ codes "\""
-piece_text (plain_text octets) = codes "'" ++ octets ++ codes "'"
+abbrev pub shown_piece : Piece → List ℕ
+shown_piece (plain_number n) = decimal n
+shown_piece (counted_text octets) = codes "\"" ++ octets ++ codes "\""
+shown_piece (plain_text octets) = codes "'" ++ octets ++ codes "'"
 
 abbrev pub dotted_text : Piece → List ℕ
-dotted_text piece = codes "." ++ piece_text piece
+dotted_text piece = codes "." ++ shown_piece piece
 
-abbrev pub pieces_text : List Piece → List ℕ
-pieces_text pieces = flat_map dotted_text pieces
+abbrev pub shown_pieces : List Piece → List ℕ
+shown_pieces pieces = flat_map dotted_text pieces
 
 -- a list of numbers as pieces
 abbrev pub as_numbers : List ℕ → List Piece

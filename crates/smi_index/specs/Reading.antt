@@ -10,14 +10,14 @@ use Rattle.smi_index.specs.declared.part.IndexPart.TheVariants.{Number, Address,
 use Rattle.smi_index.specs.declared.part.IndexPart.TheVariants.{Identifier, ImpliedIdentifier}
 
 -- the first numbers, this many, and the rest
-abbrev pub cut : ℕ → List ℕ → Option (List ℕ × List ℕ)
-cut size numbers =
+abbrev pub front_and_rest : ℕ → List ℕ → Option (List ℕ × List ℕ)
+front_and_rest size numbers =
     if nat_le size (length numbers) then Some (take size numbers, drop size numbers) else None
 
 -- as many as the first says
 abbrev pub counted : List ℕ → Option (List ℕ × List ℕ)
 counted [] = None
-counted (size ∷ numbers) = cut size numbers
+counted (size ∷ numbers) = front_and_rest size numbers
 
 -- all of them, at least one
 abbrev pub remaining : List ℕ → Option (List ℕ × List ℕ)
@@ -31,14 +31,14 @@ abbrev pub of_octets : Option (List ℕ × List ℕ) → Option (List ℕ × Lis
 of_octets read = option_and_then octets_or_none read
 
 abbrev pub in_extent : Extent → List ℕ → Option (List ℕ × List ℕ)
-in_extent (Fixed size) numbers = cut size numbers
+in_extent (Fixed size) numbers = front_and_rest size numbers
 in_extent Counted numbers = counted numbers
 in_extent Implied numbers = remaining numbers
 
 -- the value of a part and the rest
 abbrev pub front_of : IndexPart → List ℕ → Option (List ℕ × List ℕ)
-front_of Number numbers = cut 1 numbers
-front_of Address numbers = of_octets (cut 4 numbers)
+front_of Number numbers = front_and_rest 1 numbers
+front_of Address numbers = of_octets (front_and_rest 4 numbers)
 front_of (Text extent) numbers = of_octets (in_extent extent numbers)
 front_of (Octets extent) numbers = of_octets (in_extent extent numbers)
 front_of Identifier numbers = counted numbers

@@ -32,6 +32,9 @@ fn are_read(parts: &[IndexPart], numbers: &[u32]) -> bool
 }
 
 /// Numbers are the encodings of one list of values at most.
+///
+/// A law: the call does nothing, and its caller knows what it states.
+#[inline]
 pub fn one_list()
     ensures { (parts : List IndexPart) (numbers : List ℕ) (values others : List (List ℕ))
         → AreRead parts numbers values → AreRead parts numbers others → values ≡ others }

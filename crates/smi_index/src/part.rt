@@ -3,7 +3,8 @@ ghost use Rattle.std.specs.Prelude.{◌≡◌, ℕ, ◌≤◌, ◌<◌, ◌↔�
 ghost use Rattle.std.specs.Prelude.{option_map, IfSome, IfNone, IsTrue};
 ghost use Rattle.std.specs.List.{list_all};
 ghost use Rattle.smi_index.specs.Index.{IsRead, is_octet};
-ghost use Rattle.smi_index.specs.Reading.{cut, counted, remaining, of_octets, in_extent, front_of};
+ghost use Rattle.smi_index.specs.Reading.{front_and_rest, counted, remaining, of_octets, in_extent};
+ghost use Rattle.smi_index.specs.Reading.{front_of};
 
 /// How many numbers a string of an index has (RFC 2578, section 7.7).
 #[derive(Clone, Copy, Debug, PartialEq, Eq)]
@@ -60,6 +61,9 @@ fn front<'a>(part: IndexPart, numbers: &'a [u32]) -> Option<(&'a [u32], &'a [u32
 }
 
 /// Numbers are the encoding of one value at most, and what remains after it is one list.
+///
+/// A law: the call does nothing, and its caller knows what it states.
+#[inline]
 pub fn one_reading()
     ensures { (part : IndexPart) (numbers value rest other left : List ℕ)
         → IsRead part numbers value rest → IsRead part numbers other left
@@ -79,7 +83,7 @@ fn split_extent<'a>(extent: Extent, numbers: &'a [u32]) -> Option<(&'a [u32], &'
 
 /// The first `size` numbers and the rest, None where there are fewer.
 fn split<'a>(numbers: &'a [u32], size: u64) -> Option<(&'a [u32], &'a [u32])>
-    ensures { option_map (λ r. (r.0.now, r.1.now)) result ≡ cut size numbers.now }
+    ensures { option_map (λ r. (r.0.now, r.1.now)) result ≡ front_and_rest size numbers.now }
 {
     if size <= numbers.len() as u64 {
         Some(numbers.split_at(size as usize))

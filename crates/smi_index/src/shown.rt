@@ -7,15 +7,16 @@ ghost use Rattle.text_draft.specs.Draft.{Adds};
 ghost use Rattle.smi_index.specs.declared.part.IndexPart.{IndexPart};
 ghost use Rattle.smi_index.specs.Reading.{values_of};
 ghost use Rattle.smi_index.specs.Pieces.{IsPiece, as_numbers, as_text, index_pieces};
-ghost use Rattle.smi_index.specs.Pieces.{instance_pieces, is_quotable, is_shown_text, numbers_of};
-ghost use Rattle.smi_index.specs.Pieces.{pieces_text, value_pieces};
+ghost use Rattle.smi_index.specs.Pieces.{instance_pieces, is_quotable, is_shown_text};
+ghost use Rattle.smi_index.specs.Pieces.{piece_numbers};
+ghost use Rattle.smi_index.specs.Pieces.{shown_pieces, value_pieces};
 
 use crate::{Extent, IndexPart, read_part, reads};
 use text_draft::Draft;
 
 /// Appends numbers, with a dot before each.
 pub fn numbers_text(numbers: &[u32], draft: &mut Draft)
-    ensures { Adds draft.old (pieces_text (as_numbers numbers.now)) draft.new }
+    ensures { Adds draft.old (shown_pieces (as_numbers numbers.now)) draft.new }
 {
     'numbers: for number in numbers {
         number_text(u64::from(*number), draft);
@@ -27,7 +28,7 @@ pub fn numbers_text(numbers: &[u32], draft: &mut Draft)
 /// list of numbers, all of it is shown as numbers.
 pub fn index_text(parts: &[IndexPart], numbers: &[u32], draft: &mut Draft)
     ensures { let pieces = instance_pieces (Some parts.now) numbers.now in
-        Adds draft.old (pieces_text pieces) draft.new }
+        Adds draft.old (shown_pieces pieces) draft.new }
 {
     if reads(parts, numbers) {
         values_text(parts, numbers, draft);
@@ -37,9 +38,12 @@ pub fn index_text(parts: &[IndexPart], numbers: &[u32], draft: &mut Draft)
 }
 
 /// The pieces that show numbers stand for just these numbers, and each may stand in a name.
+///
+/// A law: the call does nothing, and its caller knows what it states.
+#[inline]
 pub fn pieces_stand_for_numbers()
     ensures whole { (index : Option (List IndexPart)) (numbers : List ℕ)
-        → flat_map numbers_of (instance_pieces index numbers) ≡ numbers }
+        → flat_map piece_numbers (instance_pieces index numbers) ≡ numbers }
     ensures each { (index : Option (List IndexPart)) (numbers : List ℕ)
         → All (λ n. n < 2 ^ 32) numbers → All IsPiece (instance_pieces index numbers) }
 {}
@@ -47,7 +51,7 @@ pub fn pieces_stand_for_numbers()
 /// The values that the parts of an index read, one after the other.
 fn values_text(parts: &[IndexPart], numbers: &[u32], draft: &mut Draft)
     ensures { (values : List (List ℕ)) → values_of parts.now numbers.now ≡ Some values
-        → Adds draft.old (pieces_text (index_pieces parts.now values)) draft.new }
+        → Adds draft.old (shown_pieces (index_pieces parts.now values)) draft.new }
 {
     let mut left = numbers;
     'parts: for part in parts {
@@ -61,7 +65,7 @@ fn values_text(parts: &[IndexPart], numbers: &[u32], draft: &mut Draft)
 
 /// One value of an index.
 fn value_text(part: IndexPart, value: &[u32], draft: &mut Draft)
-    ensures { Adds draft.old (pieces_text (value_pieces part value.now)) draft.new }
+    ensures { Adds draft.old (shown_pieces (value_pieces part value.now)) draft.new }
 {
     match part {
         IndexPart::Text(extent) if is_shown_text(value) => quoted_text(extent, value, draft),
@@ -87,7 +91,7 @@ fn number_text(number: u64, draft: &mut Draft)
 /// ones.
 fn quoted_text(extent: Extent, value: &[u32], draft: &mut Draft)
     requires { is_shown_text value.now ≡ true }
-    ensures { Adds draft.old (pieces_text (as_text extent value.now ∷ [])) draft.new }
+    ensures { Adds draft.old (shown_pieces (as_text extent value.now ∷ [])) draft.new }
 {
     let quote = match extent {
         Extent::Counted => b'"',

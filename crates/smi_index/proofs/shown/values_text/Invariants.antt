@@ -1,7 +1,7 @@
 use Rattle.std.proofs.Common.{◌≡◌, ℕ, List, ◌++◌, drop, Some}
 use Rattle.text_draft.specs.Draft.{Grows}
 use Rattle.smi_index.specs.Reading.{values_of}
-use Rattle.smi_index.specs.Pieces.{index_pieces, pieces_text}
+use Rattle.smi_index.specs.Pieces.{index_pieces, shown_pieces}
 use Rattle.smi_index.proofs.shown.values_text.Given as goal
 
 -- what is shown, with what the parts that are left read, is the whole text
@@ -13,5 +13,5 @@ invariant-parts l =
       ahead : List (List ℕ);
       grows : Grows l.initial.draft done l.draft;
       left : values_of (drop l.part-index l.parts) l.left ≡ Some ahead;
-      whole : done ++ pieces_text (index_pieces (drop l.part-index l.parts) ahead) ≡ pieces_text (index_pieces l.fn.parts values);
+      whole : done ++ shown_pieces (index_pieces (drop l.part-index l.parts) ahead) ≡ shown_pieces (index_pieces l.fn.parts values);
     }

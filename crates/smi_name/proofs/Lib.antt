@@ -1,0 +1,6 @@
+pub mod CutLemmas
+pub mod NumeralLemmas
+pub mod PlainLemmas
+pub mod ShownLemmas
+pub mod WordLemmas
+pub mod ReadBack

@@ -1,0 +1,48 @@
+-- A name as parts: it is cut at each dot outside quotes, and its module stands before the first
+-- `::` outside quotes. A quote opens at any `"` or `'` outside quotes, also inside a part, and runs
+-- to the next of its kind.
+use Rattle.std.specs.Prelude.{ℕ, Bool, true, false, ◌&&◌, ◌||◌, ◌==◌, if◌then◌else◌, List, [], ◌∷◌}
+use Rattle.std.specs.Prelude.{◌++◌, drop, Option, Some, None, option_map}
+
+abbrev pub is_quote : ℕ → Bool
+is_quote octet = octet == 34 || octet == 39
+
+-- the quote that is open after one more octet
+abbrev pub open_after : Option ℕ → ℕ → Option ℕ
+open_after None octet = if is_quote octet then Some octet else None
+open_after (Some quote) octet = if octet == quote then None else Some quote
+
+abbrev pub is_unquoted : Option ℕ → Bool
+is_unquoted None = true
+is_unquoted (Some quote) = false
+
+-- octets before the first of some parts
+abbrev pub with_prefix : List ℕ → List (List ℕ) → List (List ℕ)
+with_prefix front [] = front ∷ []
+with_prefix front (part ∷ parts) = (front ++ part) ∷ parts
+
+-- the parts of octets, before which this quote is open, if any
+abbrev pub parts_after : Option ℕ → List ℕ → List (List ℕ)
+parts_after state [] = [] ∷ []
+parts_after state (octet ∷ more) =
+    if is_unquoted state && (octet == 46) then [] ∷ parts_after None more
+    else with_prefix (octet ∷ []) (parts_after (open_after state octet) more)
+
+abbrev pub name_parts : List ℕ → List (List ℕ)
+name_parts text = parts_after None text
+
+-- `::` stands in front
+abbrev pub is_double_colon : List ℕ → Bool
+is_double_colon [] = false
+is_double_colon (first ∷ []) = false
+is_double_colon (first ∷ second ∷ more) = (first == 58) && (second == 58)
+
+abbrev pub longer_module : List ℕ → List ℕ × List ℕ → List ℕ × List ℕ
+longer_module front (module_name, rest) = (front ++ module_name, rest)
+
+-- what stands before the first `::` outside quotes, and after it
+abbrev pub module_after : Option ℕ → List ℕ → Option (List ℕ × List ℕ)
+module_after state [] = None
+module_after state (octet ∷ more) =
+    if is_unquoted state && is_double_colon (octet ∷ more) then Some ([], drop 1 more)
+    else option_map (longer_module (octet ∷ [])) (module_after (open_after state octet) more)
