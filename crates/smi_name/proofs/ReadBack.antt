@@ -10,8 +10,8 @@ use Rattle.smi_module.specs.Word.{is_word}
 use Rattle.smi_index.specs.declared.part.IndexPart.{IndexPart}
 use Rattle.smi_index.specs.Pieces.{Piece, plain_number, piece_numbers, IsPiece, shown_piece, shown_pieces, as_numbers, instance_pieces}
 use Rattle.smi_name.specs.declared.error.NameError.{NameError}
-use Rattle.smi_name.specs.declared.form.NameForm.{NameForm}
-use Rattle.smi_name.specs.declared.form.NameForm.TheVariants.{Numeric, Full, Label, ModuleLabel}
+use Rattle.smi_letters.specs.declared.letters.NameForm.{NameForm}
+use Rattle.smi_letters.specs.declared.letters.NameForm.TheVariants.{Numeric, Full, Label, ModuleLabel}
 use Rattle.smi_name.specs.Cut.{name_parts, module_after}
 use Rattle.smi_name.specs.Naming.{Naming, Standing, IsSound, LeadsTo}
 use Rattle.smi_name.specs.Word.{Word}

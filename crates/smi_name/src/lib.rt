@@ -6,7 +6,6 @@
 
 mod cut;
 mod error;
-mod form;
 mod meaning;
 mod name;
 mod part;
@@ -16,7 +15,7 @@ mod tree;
 mod word;
 
 pub use error::NameError;
-pub use form::NameForm;
 pub use meaning::resolve;
 pub use name::name_text;
+pub use smi_letters::NameForm;
 pub use tree::{NameTree, Node};

@@ -2,7 +2,7 @@
 ghost use Rattle.std.specs.Prelude.{◌≡◌, ℕ, Bool, List, Ok, Err, IfErr, OnOk, option_map};
 ghost use Rattle.std.specs.Option.{option_copied};
 ghost use Rattle.snmp_oid.specs.Identifier.{IsIdentifier};
-ghost use Rattle.smi_name.specs.declared.form.NameForm.{NameForm};
+ghost use Rattle.smi_letters.specs.declared.letters.NameForm.{NameForm};
 ghost use Rattle.smi_name.specs.Cut.{name_parts, module_after};
 ghost use Rattle.smi_name.specs.Left.{parts_left};
 ghost use Rattle.smi_name.specs.Meaning.{further_meaning, head_meaning, meaning, part_meaning};
