@@ -19,3 +19,4 @@ pub mod StrictValues
 pub mod ValueLaws
 pub mod ValueWriting
 pub mod WritingLemmas
+pub mod OneShortest

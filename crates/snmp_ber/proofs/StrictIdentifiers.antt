@@ -15,7 +15,7 @@ use Rattle.snmp_ber.proofs.CanonLemmas.{digit_some, digits_fit, digits_needed, l
 use Rattle.snmp_ber.proofs.IdentifierWriting.{length-canon_subidentifier, subidentifier_most, subidentifier_parts, subidentifier_short}
 use Rattle.snmp_ber.proofs.NumberLemmas.{number_of-push}
 
-abbrev low_bits : List ℕ → List ℕ
+abbrev pub low_bits : List ℕ → List ℕ
 low_bits octets = map (λ octet. octet % 128) octets
 
 number_of-septets : (count n : ℕ) → number_of 128 (low_bits (septets count n)) ≡ n % 128 ^ count
@@ -120,7 +120,7 @@ subidentifier_octets n = subst AreOctets (sym (subidentifier_parts n))
     (All-append (λ octet. octet < 256) (septets (subidentifier_size n - 1) (n / 128)) ((n % 128) ∷ []) (septets_are_octets (subidentifier_size n - 1) (n / 128))
     (All-cons (λ octet. octet < 256) (n % 128) [] (omega arith) (All-nil (λ octet. octet < 256))))
 
-are_subidentifiers : (numbers : List ℕ) → AllByRecursion (λ n. n < 2 ^ 35) numbers → AreSubidentifiers (flat_map canon_subidentifier numbers) numbers
+pub are_subidentifiers : (numbers : List ℕ) → AllByRecursion (λ n. n < 2 ^ 35) numbers → AreSubidentifiers (flat_map canon_subidentifier numbers) numbers
 are_subidentifiers [] h = refl
 are_subidentifiers (n ∷ more) h = (canon_subidentifier n, flat_map canon_subidentifier more, refl, is_subidentifier n h.0, are_subidentifiers more h.1)
 
@@ -128,7 +128,7 @@ all_octets : (numbers : List ℕ) → AreOctets (flat_map canon_subidentifier nu
 all_octets [] = All-nil (λ octet. octet < 256)
 all_octets (n ∷ more) = All-append (λ octet. octet < 256) (canon_subidentifier n) (flat_map canon_subidentifier more) (subidentifier_octets n) (all_octets more)
 
-small_subidentifiers : (name : List ℕ) → IsWire name → AllByRecursion (λ n. n < 2 ^ 32) name → AllByRecursion (λ n. n < 2 ^ 35) (subidentifiers name)
+pub small_subidentifiers : (name : List ℕ) → IsWire name → AllByRecursion (λ n. n < 2 ^ 32) name → AllByRecursion (λ n. n < 2 ^ 35) (subidentifiers name)
 small_subidentifiers [] wire h = tt
 small_subidentifiers (x ∷ []) wire h = tt
 small_subidentifiers (x ∷ y ∷ rest) wire h = (omega (arith, wire.0, h.1.0), wider rest h.1.1)
@@ -137,7 +137,7 @@ small_subidentifiers (x ∷ y ∷ rest) wire h = (omega (arith, wire.0, h.1.0), 
     wider [] h = tt
     wider (n ∷ more) h = (omega (arith, h.0), wider more h.1)
 
-content_is_subidentifiers : (name : List ℕ) → canon_content (object_id name) ≡ flat_map canon_subidentifier (subidentifiers name)
+pub content_is_subidentifiers : (name : List ℕ) → canon_content (object_id name) ≡ flat_map canon_subidentifier (subidentifiers name)
 unfolding canon_content
 content_is_subidentifiers name = refl
 

@@ -155,7 +155,7 @@ length_most : (n : ℕ) → length_size n ≤ 4
 unfolding length_size
 length_most n = digit_most 256 256 3 n
 
-length_fits : (n : ℕ) → n < 2 ^ 32 → n < 256 ^ length_size n
+pub length_fits : (n : ℕ) → n < 2 ^ 32 → n < 256 ^ length_size n
 unfolding length_size
 length_fits n h =
     let count : ℕ = digit_count 256 256 3 n in

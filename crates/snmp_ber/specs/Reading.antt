@@ -20,6 +20,11 @@ AgreesBy view (Err e) read = read ≡ Err e
 abbrev pub checked : {A : Type 0} → Result A BerError → Result (Unit {0}) BerError
 checked read = read >>= λ _. Ok tt
 
+-- the fault of a reading, or another where it has none
+abbrev pub fault_or : {A : Type 0} → Result A BerError → BerError → BerError
+fault_or (Ok x) e = e
+fault_or (Err d) e = d
+
 -- whether content is allowed
 abbrev pub allowed : Bool → Result (Unit {0}) BerError
 allowed true = Ok tt

@@ -17,3 +17,7 @@ pub record ElementSizes : Type 0 where
   -- a tag, a length and the content
   pub element : (tag : ℕ) (content : List ℕ)
       → length (canon_element tag content) ≡ 1 + length (canon_length (length content)) + length content
+  -- a greater number has no fewer digits
+  pub digits_rise : (base limit more m n : ℕ) → m ≤ n → digit_count base limit more m ≤ digit_count base limit more n
+  -- a greater length takes no fewer octets
+  pub lengths_rise : (m n : ℕ) → m ≤ n → length (canon_length m) ≤ length (canon_length n)

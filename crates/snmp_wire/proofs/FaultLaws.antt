@@ -12,12 +12,12 @@ use Rattle.snmp_ber.specs.Value.{Datum, integer_value, octet_string, null_value,
 use Rattle.snmp_wire.specs.Message.{VarBind, Message}
 use Rattle.snmp_ber.specs.Spelling.{value_tag, IsContent}
 use Rattle.snmp_wire.specs.Spelling.{kind_tag}
-use Rattle.snmp_ber.specs.Reading.{◌>>=◌, long_length_at, length_at, content_at, inner_at, element_at, integer_of, integer_at, has_width, unsigned_of, largest_subidentifier, subidentifier_from, subidentifier_at, number_at, numbers_of, first_number, second_number, identifier_of, empty_of, typed_value}
+use Rattle.snmp_ber.specs.Reading.{fault_or, ◌>>=◌, long_length_at, length_at, content_at, inner_at, element_at, integer_of, integer_at, has_width, unsigned_of, largest_subidentifier, subidentifier_from, subidentifier_at, number_at, numbers_of, first_number, second_number, identifier_of, empty_of, typed_value}
 use Rattle.snmp_wire.specs.Reading.{Fields, fields_of, fields_at, binding_of, binding_at, bindings_within, bindings_of, kind_of, outermost_of, pdu_of, message_of}
 use Rattle.snmp_wire.specs.Fault.{BeginsWith, EndsEarly, HasForbiddenLength, Place, at_message, at_version, at_community, at_pdu, at_id, at_a, at_b, at_list, at_binding, at_name, at_value, first_inside, next_behind, AllowsTag, Expects, starts, inside, behind, IsFault}
 use Rattle.snmp_ber.proofs.ReadingLemmas.{done, failed, ok_is, bind_ok, bind_err, chosen, passed}
 use Rattle.snmp_ber.proofs.LengthLemmas.{TakesElement, length_takes, content_takes, inner_takes, element_takes}
-use Rattle.snmp_ber.proofs.ValueLaws.{value_again}
+use Rattle.snmp_ber.proofs.ValueLaws.{value_again, value_takes}
 use Rattle.snmp_wire.proofs.BindingLemmas.{with_rest, binding_shrinks}
 use Rattle.snmp_wire.proofs.MessageLaws.{integer_at_takes, binding_takes, kind_takes, kind_again, outermost_takes}
 
@@ -140,6 +140,11 @@ content_faults tag cut octets e h =
           inl (p.1, subst (λ (o : List ℕ). EndsEarly (tag ∷ o)) (sym t.2) (content_short tag t.0 after n t.1 (ltb-true (length after) n p.0)))
     ]
 
+-- the fault of a reading, or the other one where it has none
+fault_of : {A : Type 0} (read : Result A BerError) (other e : BerError) → fault_or read other ≡ e → ((x : A) × (read ≡ Ok x) × (other ≡ e)) ⊎ (read ≡ Err e)
+fault_of (Ok x) other e h = inl (x, refl, h)
+fault_of (Err d) other e h = inr cc
+
 -- ---- faults at a place
 
 -- an inner element that can't be read
@@ -154,11 +159,11 @@ missing_inner octets place e stands inner is = subst (λ (d : BerError). IsFault
 bad_tag : (octets : List ℕ) (place : Place) (tag : ℕ) (after : List ℕ) (e : BerError) → Expects octets place (tag ∷ after) → (AllowsTag place tag → ⊥) → error.Tag ≡ e → IsFault e octets
 bad_tag octets place tag after e stands bad is = subst (λ (d : BerError). IsFault d octets) is (record { place = place; here = tag ∷ after; expected = stands; tag = tag; after = after; parts = refl; bad = bad })
 
-left_over : (octets : List ℕ) (place : Place) (here : List ℕ) (tag : ℕ) (content after : List ℕ) (e : BerError) → Expects octets place here → place ≢ at_message → next_behind place ≡ None → BeginsWith tag content here after
+left_over : (octets : List ℕ) (place : Place) (here : List ℕ) (tag : ℕ) (content after : List ℕ) (e : BerError) → Expects octets place here → place ≢ at_message → next_behind place ≡ None → AllowsTag place tag → BeginsWith tag content here after
     → eqb (length after) 0 ≡ false → error.Content ≡ e → IsFault e octets
-left_over octets place here tag content after e stands inner last begins some is =
+left_over octets place here tag content after e stands inner last allowed begins some is =
     let more : after ≢ [] = λ none. eqb-false (length after) 0 some (ap length none) in
-    subst (λ (d : BerError). IsFault d octets) is (inr (record { place = place; here = here; expected = stands; is_inner = inner; is_last = last; tag = tag; content = content; after = after; begins = begins; some = more }))
+    subst (λ (d : BerError). IsFault d octets) is (inr (record { place = place; here = here; expected = stands; is_inner = inner; is_last = last; tag = tag; content = content; after = after; allowed = allowed; begins = begins; some = more }))
 
 bad_content : (octets : List ℕ) (place : Place) (here : List ℕ) (tag : ℕ) (content after : List ℕ) (e : BerError) → Expects octets place here → first_inside place ≡ None → AllowsTag place tag → BeginsWith tag content here after
     → ((value : Datum) → tag ≡ value_tag value → IsContent lenient value content → ⊥) → error.Content ≡ e → IsFault e octets
@@ -371,10 +376,10 @@ record StandIn (octets : List ℕ) (fields : Fields) : Type 0 where
 fields_stand : (octets content : List ℕ) (fields : Fields) → Expects octets at_name content → fields_of content ≡ Ok fields → StandIn octets fields
 unfolding fields_of
 fields_stand octets content fields stands h =
-    let a = bind_ok (inner_at 0x06 content) (λ name. element_at name.1 >>= λ value. cond (eqb (length value.2) 0) (Ok (record { name = name.0; tag = value.0; content = value.1 })) (Err error.Content)) fields h in
-    let b = bind_ok (element_at a.0.1) (λ value. cond (eqb (length value.2) 0) (Ok (record { name = a.0.0; tag = value.0; content = value.1 })) (Err error.Content)) fields a.2 in
+    let a = bind_ok (inner_at 0x06 content) (λ name. element_at name.1 >>= λ value. cond (eqb (length value.2) 0) (Ok (record { name = name.0; tag = value.0; content = value.1 })) (Err (fault_or (typed_value value.0 value.1) error.Content))) fields h in
+    let b = bind_ok (element_at a.0.1) (λ value. cond (eqb (length value.2) 0) (Ok (record { name = a.0.0; tag = value.0; content = value.1 })) (Err (fault_or (typed_value value.0 value.1) error.Content))) fields a.2 in
     let made : Fields = record { name = a.0.0; tag = b.0.0; content = b.0.1 } in
-    let p = passed (eqb (length b.0.2) 0) (Ok made) error.Content fields b.2 in
+    let p = passed (eqb (length b.0.2) 0) (Ok made) (fault_or (typed_value b.0.0 b.0.1) error.Content) fields b.2 in
     let begins = begins_with 0x06 content a.0.0 a.0.1 (inner_takes 0x06 content a.0 a.1) in
     subst (StandIn octets) (ok_is made fields p.1) (record {
       name_here = content;
@@ -389,17 +394,23 @@ fields_stand octets content fields stands h =
 fields_fault : (octets content : List ℕ) (e : BerError) → Expects octets at_name content → fields_of content ≡ Err e → IsFault e octets
 unfolding fields_of
 fields_fault octets content e stands h =
-    elim (bind_err (inner_at 0x06 content) (λ name. element_at name.1 >>= λ value. cond (eqb (length value.2) 0) (Ok (record { name = name.0; tag = value.0; content = value.1 })) (Err error.Content)) e h) [
+    elim (bind_err (inner_at 0x06 content) (λ name. element_at name.1 >>= λ value. cond (eqb (length value.2) 0) (Ok (record { name = name.0; tag = value.0; content = value.1 })) (Err (fault_or (typed_value value.0 value.1) error.Content))) e h) [
       | inl name ↦ inner_faults octets at_name 0x06 content e stands (λ is. cc) (λ found allowed. allowed) name
       | inr x ↦
           let begins = begins_with 0x06 content x.0.0 x.0.1 (inner_takes 0x06 content x.0 x.1) in
           let value_stands = behind at_name at_value content 0x06 x.0.0 x.0.1 stands refl begins refl tt in
-          elim (bind_err (element_at x.0.1) (λ value. cond (eqb (length value.2) 0) (Ok (record { name = x.0.0; tag = value.0; content = value.1 })) (Err error.Content)) e x.2) [
+          elim (bind_err (element_at x.0.1) (λ value. cond (eqb (length value.2) 0) (Ok (record { name = x.0.0; tag = value.0; content = value.1 })) (Err (fault_or (typed_value value.0 value.1) error.Content))) e x.2) [
             | inl value ↦ element_faults octets at_value x.0.1 e value_stands (λ is. cc) value
             | inr y ↦
                 let made : Fields = record { name = x.0.0; tag = y.0.0; content = y.0.1 } in
-                let p = failed_pass (eqb (length y.0.2) 0) error.Content e made y.2 in
-                left_over octets at_value x.0.1 y.0.0 y.0.1 y.0.2 e value_stands (λ is. cc) refl (begins_with y.0.0 x.0.1 y.0.1 y.0.2 (element_takes x.0.1 y.0 y.1)) p.0 p.1
+                let p = failed_pass (eqb (length y.0.2) 0) (fault_or (typed_value y.0.0 y.0.1) error.Content) e made y.2 in
+                let value_begins = begins_with y.0.0 x.0.1 y.0.1 y.0.2 (element_takes x.0.1 y.0 y.1) in
+                elim (fault_of (typed_value y.0.0 y.0.1) error.Content e p.1) [
+                  | inl read ↦
+                      let allowed : AllowsTag at_value y.0.0 = (read.0, sym (value_takes y.0.0 y.0.1 read.0 read.1).is_tag) in
+                      left_over octets at_value x.0.1 y.0.0 y.0.1 y.0.2 e value_stands (λ is. cc) refl allowed value_begins p.0 read.2
+                  | inr bad ↦ value_faults octets x.0.1 y.0.0 y.0.1 y.0.2 e value_stands value_begins bad
+                ]
           ]
     ]
 
@@ -518,7 +529,7 @@ list_faults octets version community found id a b here e stands h =
             | inl bad ↦
                 elim (chosen (eqb (length list.0.1) 0) (bindings_of list.0.0) (Err error.Content) (Err e) bad) [
                   | inl in_bindings ↦ bindings_fault octets (length list.0.0) list.0.0 e (omega arith) (λ some. inside at_list at_binding here 0x30 list.0.0 list.0.1 stands refl begins refl some) in_bindings.1
-                  | inr over ↦ left_over octets at_list here 0x30 list.0.0 list.0.1 e stands (λ is. cc) refl begins over.0 (err_is {A = List VarBind} error.Content e over.1)
+                  | inr over ↦ left_over octets at_list here 0x30 list.0.0 list.0.1 e stands (λ is. cc) refl refl begins over.0 (err_is {A = List VarBind} error.Content e over.1)
                 ]
             | inr y ↦ absurd (let made : Message = record { version = version; community = community; kind = found; id = id; a = a; b = b; bindings = y.0 } in let both : done made ≡ failed e = y.2 in cc)
           ]
@@ -550,22 +561,30 @@ outermost_begins : (octets content : List ℕ) → outermost_of octets ≡ Ok co
 outermost_begins octets content h = record { element = octets; is_element = outermost_takes octets content h; parts = sym (append-nil octets) }
 
 whole_pdu_faults : (octets : List ℕ) (version : ℤ) (community here : List ℕ) (e : BerError) → Expects octets at_pdu here
-    → (element_at here >>= λ pdu. cond (eqb (length pdu.2) 0) (kind_of pdu.0) (Err error.Content) >>= λ found. pdu_of version community found pdu.1) ≡ Err e → IsFault e octets
+    → (element_at here >>= λ pdu. cond (eqb (length pdu.2) 0) (kind_of pdu.0) (Err (fault_or (kind_of pdu.0) error.Content)) >>= λ found. pdu_of version community found pdu.1) ≡ Err e → IsFault e octets
 whole_pdu_faults octets version community here e stands h =
-    elim (bind_err (element_at here) (λ pdu. cond (eqb (length pdu.2) 0) (kind_of pdu.0) (Err error.Content) >>= λ found. pdu_of version community found pdu.1) e h) [
+    elim (bind_err (element_at here) (λ pdu. cond (eqb (length pdu.2) 0) (kind_of pdu.0) (Err (fault_or (kind_of pdu.0) error.Content)) >>= λ found. pdu_of version community found pdu.1) e h) [
       | inl in_pdu ↦ element_faults octets at_pdu here e stands (λ is. cc) in_pdu
       | inr pdu ↦
           let begins = begins_with pdu.0.0 here pdu.0.1 pdu.0.2 (element_takes here pdu.0 pdu.1) in
-          elim (bind_err (cond (eqb (length pdu.0.2) 0) (kind_of pdu.0.0) (Err error.Content)) (λ found. pdu_of version community found pdu.0.1) e pdu.2) [
+          elim (bind_err (cond (eqb (length pdu.0.2) 0) (kind_of pdu.0.0) (Err (fault_or (kind_of pdu.0.0) error.Content))) (λ found. pdu_of version community found pdu.0.1) e pdu.2) [
             | inl bad ↦
-                elim (chosen (eqb (length pdu.0.2) 0) (kind_of pdu.0.0) (Err error.Content) (Err e) bad) [
+                elim (chosen (eqb (length pdu.0.2) 0) (kind_of pdu.0.0) (Err (fault_or (kind_of pdu.0.0) error.Content)) (Err e) bad) [
                   | inl in_kind ↦
                       let t = element_tag pdu.0.0 pdu.0.1 here pdu.0.2 begins in
                       bad_tag octets at_pdu pdu.0.0 t.0 e (subst (λ (o : List ℕ). Expects octets at_pdu o) t.1 stands) (λ allowed. not_kind pdu.0.0 e in_kind.1 allowed.0 allowed.1) (kind_fails pdu.0.0 e in_kind.1)
-                  | inr over ↦ left_over octets at_pdu here pdu.0.0 pdu.0.1 pdu.0.2 e stands (λ is. cc) refl begins over.0 (err_is {A = Kind} error.Content e over.1)
+                  | inr over ↦
+                      elim (fault_of (kind_of pdu.0.0) error.Content e (err_is {A = Kind} (fault_or (kind_of pdu.0.0) error.Content) e over.1)) [
+                        | inl read ↦
+                            let allowed : AllowsTag at_pdu pdu.0.0 = (read.0, sym (kind_takes pdu.0.0 read.0 read.1)) in
+                            left_over octets at_pdu here pdu.0.0 pdu.0.1 pdu.0.2 e stands (λ is. cc) refl allowed begins over.0 read.2
+                        | inr bad ↦
+                            let t = element_tag pdu.0.0 pdu.0.1 here pdu.0.2 begins in
+                            bad_tag octets at_pdu pdu.0.0 t.0 e (subst (λ (o : List ℕ). Expects octets at_pdu o) t.1 stands) (λ allowed. not_kind pdu.0.0 e bad allowed.0 allowed.1) (kind_fails pdu.0.0 e bad)
+                      ]
                 ]
             | inr found ↦
-                let p = passed (eqb (length pdu.0.2) 0) (kind_of pdu.0.0) error.Content found.0 found.1 in
+                let p = passed (eqb (length pdu.0.2) 0) (kind_of pdu.0.0) (fault_or (kind_of pdu.0.0) error.Content) found.0 found.1 in
                 let is_kind : AllowsTag at_pdu pdu.0.0 = (found.0, sym (kind_takes pdu.0.0 found.0 p.1)) in
                 pdu_faults octets version community found.0 pdu.0.1 e (inside at_pdu at_id here pdu.0.0 pdu.0.1 pdu.0.2 stands is_kind begins refl tt) found.2
           ]
@@ -574,16 +593,16 @@ whole_pdu_faults octets version community here e stands h =
 pub message_faults : (octets : List ℕ) (e : BerError) → message_of octets ≡ Err e → IsFault e octets
 unfolding message_of
 message_faults octets e h =
-    elim (bind_err (outermost_of octets) (λ content. integer_at content >>= λ version. inner_at 0x04 version.1 >>= λ community. element_at community.1 >>= λ pdu. cond (eqb (length pdu.2) 0) (kind_of pdu.0) (Err error.Content) >>= λ found. pdu_of version.0 community.0 found pdu.1) e h) [
+    elim (bind_err (outermost_of octets) (λ content. integer_at content >>= λ version. inner_at 0x04 version.1 >>= λ community. element_at community.1 >>= λ pdu. cond (eqb (length pdu.2) 0) (kind_of pdu.0) (Err (fault_or (kind_of pdu.0) error.Content)) >>= λ found. pdu_of version.0 community.0 found pdu.1) e h) [
       | inl outer ↦ outermost_faults octets e outer
       | inr content ↦
           let version_stands = inside at_message at_version octets 0x30 content.0 [] starts refl (outermost_begins octets content.0 content.1) refl tt in
-          elim (bind_err (integer_at content.0) (λ version. inner_at 0x04 version.1 >>= λ community. element_at community.1 >>= λ pdu. cond (eqb (length pdu.2) 0) (kind_of pdu.0) (Err error.Content) >>= λ found. pdu_of version.0 community.0 found pdu.1) e content.2) [
+          elim (bind_err (integer_at content.0) (λ version. inner_at 0x04 version.1 >>= λ community. element_at community.1 >>= λ pdu. cond (eqb (length pdu.2) 0) (kind_of pdu.0) (Err (fault_or (kind_of pdu.0) error.Content)) >>= λ found. pdu_of version.0 community.0 found pdu.1) e content.2) [
             | inl in_version ↦ integer_faults octets at_version content.0 e version_stands (λ is. cc) refl (λ t allowed. allowed) refl in_version
             | inr version ↦
                 let version_begins = integer_begins content.0 version.0 version.1 in
                 let community_stands = behind at_version at_community content.0 0x02 version_begins.0 version.0.1 version_stands refl version_begins.1 refl tt in
-                elim (bind_err (inner_at 0x04 version.0.1) (λ community. element_at community.1 >>= λ pdu. cond (eqb (length pdu.2) 0) (kind_of pdu.0) (Err error.Content) >>= λ found. pdu_of version.0.0 community.0 found pdu.1) e version.2) [
+                elim (bind_err (inner_at 0x04 version.0.1) (λ community. element_at community.1 >>= λ pdu. cond (eqb (length pdu.2) 0) (kind_of pdu.0) (Err (fault_or (kind_of pdu.0) error.Content)) >>= λ found. pdu_of version.0.0 community.0 found pdu.1) e version.2) [
                   | inl in_community ↦ inner_faults octets at_community 0x04 version.0.1 e community_stands (λ is. cc) (λ t allowed. allowed) in_community
                   | inr community ↦
                       let begins = begins_with 0x04 version.0.1 community.0.0 community.0.1 (inner_takes 0x04 version.0.1 community.0 community.1) in

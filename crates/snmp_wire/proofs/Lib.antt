@@ -1,3 +1,4 @@
+pub mod OneShortest
 pub mod BindingLemmas
 pub mod FaultLaws
 pub mod Faultless

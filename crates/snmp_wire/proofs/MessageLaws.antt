@@ -12,7 +12,7 @@ use Rattle.snmp_ber.specs.Value.{integer_value}
 use Rattle.snmp_wire.specs.Message.{VarBind, Message}
 use Rattle.snmp_ber.specs.Spelling.{value_tag, SpellsValue}
 use Rattle.snmp_wire.specs.Spelling.{SpellsBinding, SpellsBindings, kind_tag, SpellsPdu, Spells}
-use Rattle.snmp_ber.specs.Reading.{◌>>=◌, content_at, inner_at, element_at, integer_of, integer_at, identifier_of, typed_value}
+use Rattle.snmp_ber.specs.Reading.{fault_or, ◌>>=◌, content_at, inner_at, element_at, integer_of, integer_at, identifier_of, typed_value}
 use Rattle.snmp_wire.specs.Reading.{Fields, fields_of, fields_at, binding_of, binding_at, bindings_within, bindings_of, kind_of, outermost_of, pdu_of, message_of}
 use Rattle.snmp_ber.proofs.ReadingLemmas.{done, ok_is, bind_ok, chosen, passed}
 use Rattle.snmp_ber.proofs.LengthLemmas.{content_takes, content_again, inner_takes, inner_again, element_takes, element_again}
@@ -61,10 +61,10 @@ pub record TakesFields (content : List ℕ) (fields : Fields) : Type 0 where
 pub fields_take : (content : List ℕ) (fields : Fields) → fields_of content ≡ Ok fields → TakesFields content fields
 unfolding fields_of
 fields_take content fields e =
-    let a = bind_ok (inner_at 0x06 content) (λ name. element_at name.1 >>= λ value. cond (eqb (length value.2) 0) (Ok (record { name = name.0; tag = value.0; content = value.1 })) (Err error.Content)) fields e in
-    let b = bind_ok (element_at a.0.1) (λ value. cond (eqb (length value.2) 0) (Ok (record { name = a.0.0; tag = value.0; content = value.1 })) (Err error.Content)) fields a.2 in
+    let a = bind_ok (inner_at 0x06 content) (λ name. element_at name.1 >>= λ value. cond (eqb (length value.2) 0) (Ok (record { name = name.0; tag = value.0; content = value.1 })) (Err (fault_or (typed_value value.0 value.1) error.Content))) fields e in
+    let b = bind_ok (element_at a.0.1) (λ value. cond (eqb (length value.2) 0) (Ok (record { name = a.0.0; tag = value.0; content = value.1 })) (Err (fault_or (typed_value value.0 value.1) error.Content))) fields a.2 in
     let made : Fields = record { name = a.0.0; tag = b.0.0; content = b.0.1 } in
-    let p = passed (eqb (length b.0.2) 0) (Ok made) error.Content fields b.2 in
+    let p = passed (eqb (length b.0.2) 0) (Ok made) (fault_or (typed_value b.0.0 b.0.1) error.Content) fields b.2 in
     let t = inner_takes 0x06 content a.0 a.1 in
     let u = element_takes a.0.1 b.0 b.1 in
     let none : b.0.2 ≡ [] = nil_from_length b.0.2 (eqb-true (length b.0.2) 0 p.0) in
@@ -251,13 +251,13 @@ pdu_again message content octets h e =
 pub message_takes : (octets : List ℕ) (message : Message) → AreOctets octets → message_of octets ≡ Ok message → Spells message octets
 unfolding message_of
 message_takes octets message are_octets e =
-    let outer = bind_ok (outermost_of octets) (λ content. integer_at content >>= λ version. inner_at 0x04 version.1 >>= λ community. element_at community.1 >>= λ pdu. cond (eqb (length pdu.2) 0) (kind_of pdu.0) (Err error.Content) >>= λ found. pdu_of version.0 community.0 found pdu.1) message e in
+    let outer = bind_ok (outermost_of octets) (λ content. integer_at content >>= λ version. inner_at 0x04 version.1 >>= λ community. element_at community.1 >>= λ pdu. cond (eqb (length pdu.2) 0) (kind_of pdu.0) (Err (fault_or (kind_of pdu.0) error.Content)) >>= λ found. pdu_of version.0 community.0 found pdu.1) message e in
     let content = outer.0 in
-    let version = bind_ok (integer_at content) (λ version. inner_at 0x04 version.1 >>= λ community. element_at community.1 >>= λ pdu. cond (eqb (length pdu.2) 0) (kind_of pdu.0) (Err error.Content) >>= λ found. pdu_of version.0 community.0 found pdu.1) message outer.2 in
-    let community = bind_ok (inner_at 0x04 version.0.1) (λ community. element_at community.1 >>= λ pdu. cond (eqb (length pdu.2) 0) (kind_of pdu.0) (Err error.Content) >>= λ found. pdu_of version.0.0 community.0 found pdu.1) message version.2 in
-    let pdu = bind_ok (element_at community.0.1) (λ pdu. cond (eqb (length pdu.2) 0) (kind_of pdu.0) (Err error.Content) >>= λ found. pdu_of version.0.0 community.0.0 found pdu.1) message community.2 in
-    let found = bind_ok (cond (eqb (length pdu.0.2) 0) (kind_of pdu.0.0) (Err error.Content)) (λ found. pdu_of version.0.0 community.0.0 found pdu.0.1) message pdu.2 in
-    let p = passed (eqb (length pdu.0.2) 0) (kind_of pdu.0.0) error.Content found.0 found.1 in
+    let version = bind_ok (integer_at content) (λ version. inner_at 0x04 version.1 >>= λ community. element_at community.1 >>= λ pdu. cond (eqb (length pdu.2) 0) (kind_of pdu.0) (Err (fault_or (kind_of pdu.0) error.Content)) >>= λ found. pdu_of version.0 community.0 found pdu.1) message outer.2 in
+    let community = bind_ok (inner_at 0x04 version.0.1) (λ community. element_at community.1 >>= λ pdu. cond (eqb (length pdu.2) 0) (kind_of pdu.0) (Err (fault_or (kind_of pdu.0) error.Content)) >>= λ found. pdu_of version.0.0 community.0 found pdu.1) message version.2 in
+    let pdu = bind_ok (element_at community.0.1) (λ pdu. cond (eqb (length pdu.2) 0) (kind_of pdu.0) (Err (fault_or (kind_of pdu.0) error.Content)) >>= λ found. pdu_of version.0.0 community.0.0 found pdu.1) message community.2 in
+    let found = bind_ok (cond (eqb (length pdu.0.2) 0) (kind_of pdu.0.0) (Err (fault_or (kind_of pdu.0.0) error.Content))) (λ found. pdu_of version.0.0 community.0.0 found pdu.0.1) message pdu.2 in
+    let p = passed (eqb (length pdu.0.2) 0) (kind_of pdu.0.0) (fault_or (kind_of pdu.0.0) error.Content) found.0 found.1 in
     let t_version = integer_at_takes content version.0 version.1 in
     let t_community = inner_takes 0x04 version.0.1 community.0 community.1 in
     let t_pdu = element_takes community.0.1 pdu.0 pdu.1 in

@@ -12,6 +12,7 @@ use Rattle.snmp_wire.specs.Spelling.{kind_tag}
 use Rattle.snmp_ber.specs.Spelling.{sequence_tag}
 use Rattle.snmp_ber.specs.Writing.{Writes}
 use Rattle.snmp_ber.proofs.ElementLemmas.{length-canon_header}
+use Rattle.snmp_ber.proofs.ShortestValues.{length_rises}
 use Rattle.snmp_ber.proofs.WritingLemmas.{writes_same, writes_then}
 
 pub length-canon_fields : (message : Message) → length (canon_fields message) ≡ length (canon_value (integer_value message.id)) + length (canon_value (integer_value message.a)) + length (canon_value (integer_value message.b))
@@ -149,3 +150,16 @@ sizes_message message head total t h =
 -- a head before its bindings
 pub writes_message : {old mid new : List ℕ} {start head size : ℕ} (message : Message) (total : ℕ) → total ≡ length (canon_bindings message.bindings) → Writes old head size (canon_bindings message.bindings) mid → Writes mid start head (canon_head message total) new → Writes old start size (canon message) new
 writes_message message total e w v = writes_same (writes_then w v) (ap (λ n. canon_head message n ++ canon_bindings message.bindings) e ∙ sym (canon_parts message))
+
+longer_header : (tag n k : ℕ) → n ≤ k → length (canon_header tag n) ≤ length (canon_header tag k)
+longer_header tag n k h = omega (arith, length-canon_header tag n, length-canon_header tag k, length_rises n k h)
+
+-- before more octets of bindings a head is no shorter
+pub longer_head : (m : Message) (n k : ℕ) → n ≤ k → length (canon_head m n) ≤ length (canon_head m k)
+longer_head m n k h =
+    let list : length (canon_header sequence_tag n) ≤ length (canon_header sequence_tag k) = longer_header sequence_tag n k h in
+    let pdu : length (canon_header (kind_tag m.kind) (pdu_size m n)) ≤ length (canon_header (kind_tag m.kind) (pdu_size m k)) = longer_header (kind_tag m.kind) (pdu_size m n) (pdu_size m k) (omega arith) in
+    let front : length (canon_front m n) ≤ length (canon_front m k) = omega (arith, length-canon_front m n, length-canon_front m k) in
+    let whole : length (canon_header sequence_tag (length (canon_front m n) + n)) ≤ length (canon_header sequence_tag (length (canon_front m k) + k)) =
+        longer_header sequence_tag (length (canon_front m n) + n) (length (canon_front m k) + k) (omega arith) in
+    omega (arith, length-canon_head m n, length-canon_head m k)

@@ -25,7 +25,7 @@ use Rattle.snmp_ber.proofs.ShortestValues.{Octets, back_octets, content_octets, 
 
 -- ---- elements
 
-binding_shortest : (binding : VarBind) (text : List ℕ) → Octets text → SpellsBinding strict binding text → length (canon_binding binding) ≤ length text
+pub binding_shortest : (binding : VarBind) (text : List ℕ) → Octets text → SpellsBinding strict binding text → length (canon_binding binding) ≤ length text
 unfolding canon_binding
 binding_shortest binding text h is =
     let inner : Octets (is.name ++ is.value) = content_octets sequence_tag (is.name ++ is.value) text h is.element in
@@ -38,7 +38,7 @@ binding_shortest binding text h is =
       value_shortest binding.value is.value (back_octets is.name is.value inner) is.is_value,
     ))
 
-bindings_shortest : (bindings : List VarBind) (text : List ℕ) → Octets text → SpellsBindings strict bindings text → length (canon_bindings bindings) ≤ length text
+pub bindings_shortest : (bindings : List VarBind) (text : List ℕ) → Octets text → SpellsBindings strict bindings text → length (canon_bindings bindings) ≤ length text
 unfolding canon_bindings
 bindings_shortest [] text h is = omega arith
 bindings_shortest (binding ∷ more) text h (first, rest, parts, this, others) =
@@ -54,7 +54,7 @@ bindings_shortest (binding ∷ more) text h (first, rest, parts, this, others) =
 
 -- ---- messages
 
-pdu_shortest : (message : Message) (text : List ℕ) → Octets text → SpellsPdu strict message text → length (canon_element (kind_tag message.kind) (canon_fields message ++ canon_element sequence_tag (canon_bindings message.bindings))) ≤ length text
+pub pdu_shortest : (message : Message) (text : List ℕ) → Octets text → SpellsPdu strict message text → length (canon_element (kind_tag message.kind) (canon_fields message ++ canon_element sequence_tag (canon_bindings message.bindings))) ≤ length text
 pdu_shortest message text h is =
     let inner : Octets (is.id ++ is.a ++ is.b ++ is.list) = content_octets (kind_tag message.kind) (is.id ++ is.a ++ is.b ++ is.list) text h is.element in
     let fields : Octets (is.id ++ is.a ++ is.b) = front_octets (is.id ++ is.a ++ is.b) is.list inner in

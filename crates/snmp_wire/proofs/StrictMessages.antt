@@ -60,13 +60,13 @@ kind_fits kind.Trap = lit< tt
 kind_fits kind.Report = lit< tt
 
 -- the PDU, as it is written
-abbrev list_of : Message → List ℕ
+abbrev pub list_of : Message → List ℕ
 list_of message = canon_element sequence_tag (canon_bindings message.bindings)
 
-abbrev pdu_of : Message → List ℕ
+abbrev pub pdu_of : Message → List ℕ
 pdu_of message = canon_element (kind_tag message.kind) (canon_fields message ++ list_of message)
 
-length-fields : (message : Message) → IsMessageInRange message → length (canon_fields message ++ list_of message) ≤ 4000200000
+pub length-fields : (message : Message) → IsMessageInRange message → length (canon_fields message ++ list_of message) ≤ 4000200000
 length-fields message h = omega (
   arith,
   length-append (canon_fields message) (list_of message),
@@ -78,7 +78,7 @@ length-fields message h = omega (
   value_short (integer_value message.b) h.b,
 )
 
-length-content : (message : Message) → IsMessageInRange message → length (canon_opening message ++ pdu_of message) ≤ 4000400000
+pub length-content : (message : Message) → IsMessageInRange message → length (canon_opening message ++ pdu_of message) ≤ 4000400000
 length-content message h = omega (
   arith,
   length-append (canon_opening message) (pdu_of message),

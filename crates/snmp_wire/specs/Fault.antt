@@ -137,7 +137,7 @@ pub record HasBadContent (octets : List ℕ) : Type 0 where
   pub begins : BeginsWith tag content here after
   pub bad : (value : Datum) → tag ≡ value_tag value → IsContent lenient value content → ⊥
 
--- octets behind the last element of a SEQUENCE or a PDU
+-- octets after the last element of a SEQUENCE or a PDU, which has a tag that its place allows
 pub record HasLeftOver (octets : List ℕ) : Type 0 where
   pub place : Place
   pub here : List ℕ
@@ -147,10 +147,11 @@ pub record HasLeftOver (octets : List ℕ) : Type 0 where
   pub tag : ℕ
   pub content : List ℕ
   pub after : List ℕ
+  pub allowed : AllowsTag place tag
   pub begins : BeginsWith tag content here after
   pub some : after ≢ []
 
--- octets behind the outermost element
+-- octets after the outermost element
 pub record HasTrailing (octets : List ℕ) : Type 0 where
   pub tag : ℕ
   pub content : List ℕ

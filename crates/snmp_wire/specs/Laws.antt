@@ -3,6 +3,7 @@ use Rattle.std.specs.Prelude.{◌≡◌, ◌≤◌, ℕ, List, ◌++◌, length}
 use Rattle.snmp_wire.specs.Canon.{canon, canon_bindings, canon_head}
 use Rattle.snmp_wire.specs.Message.{Message}
 use Rattle.snmp_wire.specs.Range.{IsMessageInRange}
+use Rattle.snmp_wire.specs.Shortest.{IsShortestEncoding}
 use Rattle.snmp_wire.specs.Spelling.{Spells, Strict}
 
 -- octets spell one message at most, and no encoding is the front of another
@@ -25,3 +26,9 @@ EncodingIsShortest = (m : Message) (octets : List ℕ) → Strict m octets → l
 -- it is the head of the message, and then its bindings in turn
 abbrev pub HasPieces : Type 0
 HasPieces = (m : Message) → canon m ≡ canon_head m (length (canon_bindings m.bindings)) ++ canon_bindings m.bindings
+
+-- a message in range has just one shortest encoding, and it is the one that is written
+pub record OneShortestEncoding : Type 0 where
+  pub written : (m : Message) → IsMessageInRange m → IsShortestEncoding (canon m) m
+  pub one : (m : Message) (octets other : List ℕ)
+      → IsMessageInRange m → IsShortestEncoding octets m → IsShortestEncoding other m → octets ≡ other

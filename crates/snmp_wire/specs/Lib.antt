@@ -5,6 +5,7 @@ pub mod Message
 pub mod Parts
 pub mod Range
 pub mod Reading
+pub mod Shortest
 pub mod Sizes
 pub mod Spelling
 pub use Rattle.snmp_ber.specs.Identifier

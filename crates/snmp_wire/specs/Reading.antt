@@ -7,7 +7,7 @@ use Rattle.snmp_wire.specs.declared.kind.Kind.{Kind}
 use Rattle.snmp_wire.specs.declared.kind.Kind.TheVariants as kind
 use Rattle.snmp_wire.specs.declared.binding.Fields as Lent
 use Rattle.snmp_wire.specs.Message.{VarBind, Message}
-use Rattle.snmp_ber.specs.Reading.{content_at, element_at, identifier_of, inner_at, integer_at, typed_value, ◌>>=◌}
+use Rattle.snmp_ber.specs.Reading.{fault_or, content_at, element_at, identifier_of, inner_at, integer_at, typed_value, ◌>>=◌}
 
 -- ---- lengths and elements; `cut` is the fault where the octets end too early
 
@@ -29,11 +29,17 @@ pub record Fields : Type 0 where
 abbrev pub fields : Lent.Fields → Fields
 fields f = record { name = f.name.now; tag = f.tag; content = f.content.now }
 
+-- the fault of a binding with octets left over after its value: the value's own, if it has one
+abbrev pub left_over_after : ℕ → List ℕ → BerError
+left_over_after tag content = fault_or (typed_value tag content) error.Content
+
 unfoldable pub fields_of : List ℕ → Result Fields BerError
 fields_of content = do
   name ← inner_at 0x06 content
   value ← element_at name.1
-  if length value.2 == 0 then Ok (record { name = name.0; tag = value.0; content = value.1 }) else Err error.Content
+  if length value.2 == 0
+      then Ok (record { name = name.0; tag = value.0; content = value.1 })
+      else Err (fault_or (typed_value value.0 value.1) error.Content)
 
 unfoldable pub fields_at : List ℕ → Result (Fields × List ℕ) BerError
 fields_at octets = do
@@ -106,5 +112,5 @@ message_of octets = do
   version ← integer_at content
   community ← inner_at 0x04 version.1
   pdu ← element_at community.1
-  kind ← (if length pdu.2 == 0 then kind_of pdu.0 else Err error.Content)
+  kind ← (if length pdu.2 == 0 then kind_of pdu.0 else Err (fault_or (kind_of pdu.0) error.Content))
   pdu_of version.0 community.0 kind pdu.1

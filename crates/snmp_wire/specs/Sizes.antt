@@ -1,5 +1,5 @@
 -- How many octets the parts of a message's encoding take.
-use Rattle.std.specs.Prelude.{◌≡◌, ℕ, ◌+◌, length}
+use Rattle.std.specs.Prelude.{◌≡◌, ◌≤◌, ℕ, ◌+◌, length}
 use Rattle.snmp_ber.specs.Canon.{canon_header, canon_value}
 use Rattle.snmp_ber.specs.Spelling.{sequence_tag}
 use Rattle.snmp_ber.specs.Value.{integer_value, octet_string}
@@ -35,3 +35,5 @@ pub record MessageSizes : Type 0 where
   pub whole : (m : Message)
       → length (canon m)
       ≡ length (canon_head m (length (canon_bindings m.bindings))) + length (canon_bindings m.bindings)
+  -- before more octets of bindings a head is no shorter
+  pub heads_rise : (m : Message) (n k : ℕ) → n ≤ k → length (canon_head m n) ≤ length (canon_head m k)

@@ -211,9 +211,20 @@ fn fields_of<'a>(content: &'a [u8]) -> Result<Fields<'a>, BerError>
     let (name, rest) = inner_at(0x06, content)?;
     let (tag, content, rest) = element_at(rest)?;
     if !rest.is_empty() {
-        return Err(BerError::Content);
+        return Err(left_over(tag, content));
     }
     Ok(Fields { name, tag, content })
+}
+
+/// The fault of a binding with octets left over after its value: the value's own, if it has one.
+#[cold]
+fn left_over(tag: u8, content: &[u8]) -> BerError
+    ensures { result ≡ reading.left_over_after tag content.now }
+{
+    match check_value(tag, content) {
+        Ok(()) => BerError::Content,
+        Err(fault) => fault,
+    }
 }
 
 /// Reads the binding at the front into one that is there, whatever the form of its lengths, and answers what follows.

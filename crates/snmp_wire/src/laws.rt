@@ -4,7 +4,7 @@ ghost use Rattle.std.specs.Prelude.{ℕ, List};
 ghost use Rattle.snmp_ber.specs.declared.error.BerError.{BerError};
 ghost use Rattle.snmp_wire.specs.Fault.{IsFault};
 ghost use Rattle.snmp_wire.specs.Laws.{EncodingIsShortest, EncodingIsStrict, HasPieces, OneMessage};
-ghost use Rattle.snmp_wire.specs.Laws.{StrictIsRead};
+ghost use Rattle.snmp_wire.specs.Laws.{OneShortestEncoding, StrictIsRead};
 ghost use Rattle.snmp_wire.specs.Message.{Message};
 ghost use Rattle.snmp_wire.specs.Sizes.{MessageSizes};
 ghost use Rattle.snmp_wire.specs.Spelling.{Spells};
@@ -40,6 +40,12 @@ pub fn encoding_is_strict()
 #[inline]
 pub fn encoding_is_shortest()
     ensures { EncodingIsShortest }
+{}
+
+/// A message has one shortest encoding by the standard, which is the one that is written.
+#[inline]
+pub fn one_shortest_encoding()
+    ensures { OneShortestEncoding }
 {}
 
 /// A message's shortest encoding is its head, and then its bindings in turn.

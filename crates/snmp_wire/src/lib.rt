@@ -11,8 +11,8 @@ mod message;
 pub use binding::{Binding, Bindings, binding_size, encode_binding};
 pub use kind::Kind;
 pub use laws::{
-    encoding_is_shortest, encoding_is_strict, message_sizes, no_fault, one_spelling, pieces,
-    strict_is_read,
+    encoding_is_shortest, encoding_is_strict, message_sizes, no_fault,
+    one_shortest_encoding, one_spelling, pieces, strict_is_read,
 };
 pub use message::{
     MAX_DATAGRAM, MessageRef, Parts, decode, encode, encode_head, head_size, size,

@@ -1,5 +1,5 @@
 //! Messages, read from datagrams.
-ghost use Rattle.std.specs.Prelude.{◌≡◌, ℕ, List, ◌++◌, IfOk, IfErr, Ok, ◌+◌, ◌^◌, ◌<◌, ◌≤◌, ◌↔◌, length, drop, IfSome, IfNone, IsSome, All};
+ghost use Rattle.std.specs.Prelude.{◌≡◌, ℕ, List, ◌++◌, IfOk, IfErr, Ok, ◌+◌, ◌^◌, ◌<◌, ◌≤◌, ◌↔◌, length, drop, take, IfSome, IfNone, IsSome, All};
 ghost use Rattle.snmp_wire.specs.Fault.{IsFault};
 ghost use Rattle.snmp_wire.specs.Message.{Message, var_bind, var_binds};
 ghost use Rattle.snmp_ber.specs.Value.{integer_value, octet_string};
@@ -9,6 +9,8 @@ ghost use Rattle.snmp_wire.specs.Spelling.{Spells};
 ghost use Rattle.snmp_wire.specs.Canon.{IsEncodable, canon, canon_bindings, canon_front, canon_head};
 ghost use Rattle.snmp_ber.specs.Canon.{canon_value};
 ghost use Rattle.snmp_wire.specs.Parts.{parts_message};
+ghost use Rattle.snmp_wire.specs.Range.{IsMessageInRange};
+ghost use Rattle.snmp_wire.specs.Shortest.{IsShortestEncoding};
 ghost use Rattle.snmp_ber.specs.Writing.{Writes};
 
 use crate::binding::{binding_size, check_bindings, put_binding};
@@ -130,10 +132,10 @@ fn message_of<'a>(octets: &'a [u8]) -> Result<MessageRef<'a>, BerError>
     let (version, rest) = integer_at(content)?;
     let (community, rest) = inner_at(0x04, rest)?;
     let (tag, content, rest) = element_at(rest)?;
+    let kind = kind_of(tag)?;
     if !rest.is_empty() {
         return Err(BerError::Content);
     }
-    let kind = kind_of(tag)?;
     pdu_of(version, community, kind, content)
 }
 
@@ -220,7 +222,11 @@ pub fn size(parts: &Parts<'_>) -> u64
     requires community { length parts.now.community.now ≤ 65535 }
     requires bindings { All (λ b. IsEncodable (var_bind b)) parts.now.bindings.now }
     requires total { length (canon_bindings (var_binds parts.now.bindings.now)) ≤ 4000000000 }
-    ensures { result ≡ length (canon (parts_message parts.now)) }
+    ensures value { result ≡ length (canon (parts_message parts.now)) }
+    ensures shortest {
+        (octets : List ℕ) → IsMessageInRange (parts_message parts.now)
+        → IsShortestEncoding octets (parts_message parts.now) → result ≡ length octets
+    }
 {
     let total = bindings_size(parts.bindings);
     head_size(parts, total) + total
@@ -234,6 +240,10 @@ pub fn encode(parts: &Parts<'_>, out: &mut [u8]) -> Option<usize>
     requires bindings { All (λ b. IsEncodable (var_bind b)) parts.now.bindings.now }
     requires total { length (canon_bindings (var_binds parts.now.bindings.now)) ≤ 4000000000 }
     ensures some { IfSome result (λ n. (n ≡ length (canon (parts_message parts.now))) × (out.new ≡ canon (parts_message parts.now) ++ drop n out.old)) }
+    ensures shortest {
+        IsMessageInRange (parts_message parts.now)
+        → IfSome result (λ n. IsShortestEncoding (take n out.new) (parts_message parts.now))
+    }
     ensures variant { IsSome result ↔ (length (canon (parts_message parts.now)) ≤ length out.old) }
     ensures unchanged { IfNone result (out.new ≡ out.old) }
 {

@@ -1,5 +1,6 @@
 use Rattle.snmp_ber.proofs.CanonLemmas.{digit_some, length-canon_length_long, length-canon_length_short, length-from_zero}
 use Rattle.snmp_ber.proofs.ElementLemmas.{length-canon_element, length-canon_header}
+use Rattle.snmp_ber.proofs.ShortestValues.{count_rises, length_rises}
 use Rattle.snmp_ber.proofs.laws.element_sizes.Goals as goal
 
 pub returns : goal.returns
@@ -10,4 +11,6 @@ returns c = record {
   number = length-from_zero;
   header = length-canon_header;
   element = length-canon_element;
+  digits_rise = count_rises;
+  lengths_rise = length_rises;
 }

@@ -1,4 +1,4 @@
-use Rattle.snmp_wire.proofs.MessageWriting.{length-canon, length-canon_fields, length-canon_front, length-canon_head, length-canon_opening}
+use Rattle.snmp_wire.proofs.MessageWriting.{length-canon, length-canon_fields, length-canon_front, length-canon_head, length-canon_opening, longer_head}
 use Rattle.snmp_wire.proofs.laws.message_sizes.Goals as goal
 
 pub returns : goal.returns
@@ -8,4 +8,5 @@ returns c = record {
   front = length-canon_front;
   head = length-canon_head;
   whole = length-canon;
+  heads_rise = longer_head;
 }

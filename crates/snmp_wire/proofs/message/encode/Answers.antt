@@ -2,6 +2,7 @@ use Rattle.std.proofs.Common.{arith, refl}
 use Rattle.snmp_wire.specs.Parts.{parts_message}
 use Rattle.snmp_wire.proofs.BindingWriting.{encoded}
 use Rattle.snmp_wire.proofs.MessageWriting.{sizes_message, writes_message}
+use Rattle.snmp_wire.proofs.OneShortest.{front_is_shortest}
 use Rattle.snmp_wire.proofs.message.encode.Goals as goal
 
 pub returns-then-out-size-clause-variant : goal.returns-then-out-size-clause-variant
@@ -18,3 +19,6 @@ pub returns-clause-variant : goal.returns-clause-variant
 returns-clause-variant c =
     let size = sizes_message (parts_message c.args.parts.now) c.head_size.result c.bindings_size-total.result c.bindings_size-total.ensures c.head_size.ensures.value in
     (λ yes. omega (arith, size), λ fits. refl)
+
+pub returns-clause-shortest : goal.returns-clause-shortest
+returns-clause-shortest c = let h = returns-clause-some c in front_is_shortest (parts_message c.args.parts.now) _ _ _ h.0 h.1
