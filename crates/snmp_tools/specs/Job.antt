@@ -8,6 +8,7 @@ use Rattle.snmp_wire.specs.Message.{VarBind}
 use Rattle.snmp_table.specs.Table.{MibView, IsMibView, IsGet}
 use Rattle.snmp_table.specs.Listing.{variables}
 use Rattle.snmp_table.specs.Stated.{IsTableOf, IsFirstFault}
+use Rattle.snmp_walk.specs.declared.end.SinkFault.TheVariants as sink
 use Rattle.snmp_walk.specs.declared.end.WalkEnd.{WalkEnd}
 use Rattle.snmp_walk.specs.declared.end.WalkEnd.TheVariants as ending
 use Rattle.snmp_walk.specs.declared.mode.Mode.TheVariants as mode
@@ -17,7 +18,7 @@ use Rattle.snmp_walk.specs.Request.{started}
 use Rattle.snmp_walk.specs.Walker.{Walker}
 use Rattle.snmp_walk.specs.Link.{Agents}
 use Rattle.snmp_walk.specs.Room.{HasRoomForEach, HasIds}
-use Rattle.snmp_walk.specs.Facts.{IsLawfulEnd, IsDone, IsFresh, walk_at}
+use Rattle.snmp_walk.specs.Facts.{IsLawfulEnd, HasNone, IsDone, IsFresh, walk_at}
 use Rattle.snmp_lines.specs.Line.{lines_of}
 use Rattle.snmp_io.specs.Files.{HoldsIfKnown}
 use Rattle.snmp_io.specs.Count.{HasRisen}
@@ -119,12 +120,17 @@ IsOwnEnd _ = ⊥
 -- the walk gave these rows, was refused the next one or none, and ended so
 pub record IsWalked (view : MibView) (root : List ℕ) (rows refused : List VarBind) (end : WalkEnd) : Type 0 where
   -- it ended with an error only where the next answer has no room, or where ids or the agent's reply ran out
-  pub lawful : IsLawfulEnd (agent_over view) (first_of root) rows end
+  pub lawful : IsLawfulEnd (agent_over view) (HasNone (agent_over view)) (first_of root) rows end
   pub linked : end ≡ ending.Link → ⊥
   pub beginning : (whole : List VarBind) → AreRowsOf view root whole → (more : List VarBind) × (whole ≡ (rows ++ refused) ++ more)
   pub all : (whole : List VarBind) → AreRowsOf view root whole → IsDone end → rows ≡ whole
   -- where there is room for each single binding and ids are enough, nothing but the output ends it early
   pub ends : (whole : List VarBind) → AreRowsOf view root whole → HasRoomForEach (agent_over view) view (first_of root) → HasIds (first_of root) view → IsOwnEnd end
+
+-- How a walk over a link in memory ended: such a link fails where memory runs out, and then alone.
+abbrev pub end_in_memory : WalkEnd → WalkEnd
+end_in_memory ending.Link = ending.Sink sink.Memory
+end_in_memory end = end
 
 -- how a walk's end is told
 abbrev pub failure_of : WalkEnd → Option Failure

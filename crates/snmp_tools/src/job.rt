@@ -7,15 +7,15 @@ ghost use Rattle.snmp_table.specs.Stated.{IsTableOf};
 ghost use Rattle.snmp_table.specs.Table.{IsMibView};
 ghost use Rattle.snmp_words.specs.Words.{WalkWords, job_words, walk, walk_words};
 ghost use Rattle.snmp_tools.specs.Message.{message_of};
-ghost use Rattle.snmp_tools.specs.Job.{Holdings, other_letter, IsTablePath, IsPathIn, Names, IsFileFault, IsRefusal, IsWalkOver, IsWalkFrom, IsOutcome, IsTold, Does, WritesABeginning, WritesAll, EndsWell};
+ghost use Rattle.snmp_tools.specs.Job.{end_in_memory, Holdings, other_letter, IsTablePath, IsPathIn, Names, IsFileFault, IsRefusal, IsWalkOver, IsWalkFrom, IsOutcome, IsTold, Does, WritesABeginning, WritesAll, EndsWell};
 
 use crate::failure::{Failure, Words};
 use crate::lines::{Lines, print_walk};
 use snmp_agent::Config;
-use snmp_oid::{Oid, OidTextError, parse_numeric};
 use snmp_io::{FileFault, Files, Output, write_all};
+use snmp_oid::{Oid, OidTextError, parse_numeric};
 use snmp_table::Table;
-use snmp_walk::{MemoryLink, Method, Mode, WalkCore, WalkEnd};
+use snmp_walk::{MemoryLink, Method, Mode, SinkFault, WalkCore, WalkEnd};
 use snmp_words::{Job, WalkJob};
 use std::alloc::{AllocError, Global};
 
@@ -123,10 +123,20 @@ fn walk_lines<F: Files, O: Output>(
         community: COMMUNITY,
         max_size: MAX_SIZE,
     };
-    let mut link = MemoryLink::new(&table, config);
-    match print_walk(&mut link, core, out) {
+    let mut link = MemoryLink::new(alloc, &table, config, &[]);
+    match end_in_memory(print_walk(&mut link, core, out)) {
         WalkEnd::Done(_) => Ok(()),
         end => Err(Failure::Ended(end)),
+    }
+}
+
+/// How a walk over a link in memory ended: such a link fails where memory runs out, and then alone.
+fn end_in_memory(end: WalkEnd) -> WalkEnd
+    ensures { result ≡ end_in_memory end }
+{
+    match end {
+        WalkEnd::Link => WalkEnd::Sink(SinkFault::Memory),
+        end => end,
     }
 }
 

@@ -1,12 +1,12 @@
 //! The output of the tools: texts as they stand, and a line for each binding of a walk.
-ghost use Rattle.std.specs.Prelude.{◌≡◌, List, ℕ};
+ghost use Rattle.std.specs.Prelude.{[], ◌≡◌, List, ℕ};
 ghost use Rattle.snmp_wire.specs.Message.{VarBind};
 ghost use Rattle.snmp_walk.specs.Facts.{IsFresh, WalkFacts};
-ghost use Rattle.snmp_walk.specs.Link.{Rose};
+ghost use Rattle.snmp_io.specs.Count.{HasRisen};
 ghost use Rattle.snmp_tools.specs.Lines.{IsPrintedUpTo};
 
-use snmp_lines::line;
 use snmp_io::{Output, OutputFault, write_all};
+use snmp_lines::line;
 use snmp_walk::{Link, Sink, SinkFault, WalkCore, WalkEnd, run_walk};
 use snmp_wire::Binding;
 use std::alloc::Global;
@@ -61,8 +61,8 @@ pub(crate) fn print_walk<L: Link, O: Output>(
     requires { IsFresh core }
     ensures given { (rows : List VarBind) × (refused : List VarBind)
         × IsPrintedUpTo (O.stream out.old.out) rows refused result (O.stream out.new.out)
-        × (L.honest link.old → WalkFacts (L.agents link.old) core rows refused result) }
-    ensures fault { result ≡ WalkEnd.Link → Rose (L.fault_count link.old) (L.fault_count link.new) }
+        × (L.honest link.old → (L.traffic link.old).sent ≡ [] → WalkFacts (L.agents link.old) 6 (L.traffic link.old) core rows refused result (L.traffic link.new)) }
+    ensures fault { result ≡ WalkEnd.Link → HasRisen (L.fault_count link.old) (L.fault_count link.new) }
 {
     run_walk(link, core, RETRIES, out)
 }

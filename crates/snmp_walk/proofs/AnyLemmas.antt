@@ -15,17 +15,17 @@ use Rattle.snmp_walk.specs.declared.end.WalkEnd.TheVariants as ending
 use Rattle.snmp_walk.specs.declared.rows.Step.{Step}
 use Rattle.snmp_walk.specs.declared.rows.Step.TheVariants as step
 use Rattle.snmp_walk.specs.Names.{is_inside, is_end, is_missing, comes_after}
-use Rattle.snmp_walk.specs.Trail.{last_name, IsTrail, IsAtEnd, AreAnswers}
+use Rattle.snmp_walk.specs.Trail.{last_name, IsTrail, IsAtEnd, AreLawfulReplies}
 use Rattle.snmp_walk.specs.Walker.{Walker}
 use Rattle.snmp_walk.specs.Taken.{is_awaited, is_plain, inside_front, rising_front, name_at, asked_for, stops, goes_on, closes, reads, reads_next, got, if_present, reads_first, reads_last, reads_for, reads_reply, take_of}
-use Rattle.snmp_walk.specs.Standing.{IsGiven, IsPart, IsStage, IsPaced, Stands, Advances, Rises, Named, IsReplyEnd, Keeps}
+use Rattle.snmp_walk.specs.Standing.{IsGiven, IsPartOfWalk, IsStage, IsPaced, Reaches, Advances, Rises, Named, IsReplyEnd, AdvancesAnyhow}
 use Rattle.snmp_walk.proofs.StandingLemmas.{part_of_stage, closed, given_more, more_pace, reads_root, reads_alone, root_is}
 
 -- no binding is said to be large here
 abbrev Small : VarBind → Type 0
 Small p = Unit {0}
 
-pub rising_answers : AreAnswers Rises Named
+pub rising_answers : AreLawfulReplies Rises Named
 rising_answers = record { rises = λ o p h. h.0; is_value = λ o p h. h.1; same_name = λ o p h. h.0; is_answer = λ o p h. h.1 }
 
 -- the rows of any reply are a trail of rising names
@@ -55,22 +55,22 @@ anywhere : (root o : List ℕ) → IsAtEnd Rises root o
 anywhere root o = (record { name = o; value = end_of_mib_view }, ((λ e. let no : ⊥ = cc in absurd no), refl), refl)
 
 module _ (first : Walker) where
-  abbrev Keeps_step : Walker → List VarBind → Step × Walker → Type 0
-  Keeps_step old given s = Keeps first old given s.0 s.1
+  abbrev Advances_anyhow : Walker → List VarBind → Step × Walker → Type 0
+  Advances_anyhow old given s = AdvancesAnyhow first old given s.0 s.1
 
-  either_way : (old : Walker) (given : List VarBind) (b : Bool) (x y : Step × Walker) → (b ≡ true → Keeps_step old given x) → (b ≡ false → Keeps_step old given y) → Keeps_step old given (cond b x y)
+  either_way : (old : Walker) (given : List VarBind) (b : Bool) (x y : Step × Walker) → (b ≡ true → Advances_anyhow old given x) → (b ≡ false → Advances_anyhow old given y) → Advances_anyhow old given (cond b x y)
   either_way old given true x y p q = p refl
   either_way old given false x y p q = q refl
 
-  stops_any : (old : Walker) (given more : List VarBind) (why : WalkEnd) → IsReplyEnd why → IsPart Rises Named first (given ++ more) → Keeps_step old given (stops old more why)
+  stops_any : (old : Walker) (given more : List VarBind) (why : WalkEnd) → IsReplyEnd why → IsPartOfWalk Rises Named first (given ++ more) → Advances_anyhow old given (stops old more why)
   stops_any old given more why own h = (own, h)
 
-  stops_now : (old : Walker) (given : List VarBind) (why : WalkEnd) → IsReplyEnd why → Stands Rises Named first old given → Keeps_step old given (stops old [] why)
+  stops_now : (old : Walker) (given : List VarBind) (why : WalkEnd) → IsReplyEnd why → Reaches Rises Named first old given → Advances_anyhow old given (stops old [] why)
   stops_now old given why own h =
-      (own, subst (IsPart Rises Named first) (sym (append-nil given)) (part_of_stage Rises Named Small rising_answers first given old.asked old.phase h.stage))
+      (own, subst (IsPartOfWalk Rises Named first) (sym (append-nil given)) (part_of_stage Rises Named Small rising_answers first given old.asked old.phase h.stage))
 
-  goes_any : (old : Walker) (given more : List VarBind) (next : Phase) → Stands Rises Named first old given
-      → IsStage Rises Named first (given ++ more) (last_name old.asked more) next → IsPaced Named first (given ++ more) (old.id + 1) next → Keeps_step old given (goes_on old next more)
+  goes_any : (old : Walker) (given more : List VarBind) (next : Phase) → Reaches Rises Named first old given
+      → IsStage Rises Named first (given ++ more) (last_name old.asked more) next → IsPaced Named first (given ++ more) (old.id + 1) next → Advances_anyhow old given (goes_on old next more)
   goes_any old given more next h stage pace =
       either_way old given (nat_lt old.id 2147483647)
       (step.Rows more, record old { phase = next; asked = last_name old.asked more; id = old.id + 1; count = old.count + length more }) (stops old more ending.TooManyRequests)
@@ -78,7 +78,7 @@ module _ (first : Walker) where
       (λ _. stops_any old given more ending.TooManyRequests tt (part_of_stage Rises Named Small rising_answers first (given ++ more) (last_name old.asked more) next stage))
     where
       went : old.id < 2147483647 → nat_lt old.id 2147483647 ≡ true
-          → Stands Rises Named first (record old { phase = next; asked = last_name old.asked more; id = old.id + 1; count = old.count + length more }) (given ++ more)
+          → Reaches Rises Named first (record old { phase = next; asked = last_name old.asked more; id = old.id + 1; count = old.count + length more }) (given ++ more)
       went low less = record {
         same = ap (λ (v : Walker). record v { phase = next; asked = last_name old.asked more; id = old.id + 1; count = old.count + length more }) h.same;
         count = omega (arith, h.count, length-append given more);
@@ -90,18 +90,18 @@ module _ (first : Walker) where
   went_on : (old : Walker) (given more : List VarBind) (next : Phase) (b : Bool) → b ≡ nat_lt old.id 2147483647
       → Advances Rises Named Small first old given (cond b (step.Rows more, record old { phase = next; asked = last_name old.asked more; id = old.id + 1; count = old.count + length more }) (stops old more ending.TooManyRequests)).0
       (cond b (step.Rows more, record old { phase = next; asked = last_name old.asked more; id = old.id + 1; count = old.count + length more }) (stops old more ending.TooManyRequests)).1
-      → Keeps_step old given (cond b (step.Rows more, record old { phase = next; asked = last_name old.asked more; id = old.id + 1; count = old.count + length more }) (stops old more ending.TooManyRequests))
+      → Advances_anyhow old given (cond b (step.Rows more, record old { phase = next; asked = last_name old.asked more; id = old.id + 1; count = old.count + length more }) (stops old more ending.TooManyRequests))
   went_on old given more next true e h = let low : old.id < 2147483647 = ltb-true _ _ (sym e) in (refl, omega arith, h)
   went_on old given more next false e h = (tt, h.0)
 
   closed_any : (old : Walker) (given more : List VarBind) (b : Bool) (n : ℕ)
       → Advances Rises Named Small first old given (cond b (goes_on old phase.Last []) (stops old more (ending.Done n))).0 (cond b (goes_on old phase.Last []) (stops old more (ending.Done n))).1
-      → Keeps_step old given (cond b (goes_on old phase.Last []) (stops old more (ending.Done n)))
+      → Advances_anyhow old given (cond b (goes_on old phase.Last []) (stops old more (ending.Done n)))
   closed_any old given more true n h = went_on old given [] phase.Last (nat_lt old.id 2147483647) refl h
   closed_any old given more false n h = (tt, h.0)
 
-  reads_any : (old : Walker) (given bindings : List VarBind) → old.phase ≡ phase.Rows → 1 ≤ length bindings → Stands Rises Named first old given → IsGiven Rises Named first given old.asked
-      → list_any (λ p. is_missing p.value) bindings ≡ false → Keeps_step old given (reads old bindings)
+  reads_any : (old : Walker) (given bindings : List VarBind) → old.phase ≡ phase.Rows → 1 ≤ length bindings → Reaches Rises Named first old given → IsGiven Rises Named first given old.asked
+      → list_any (λ p. is_missing p.value) bindings ≡ false → Advances_anyhow old given (reads old bindings)
   reads_any old given bindings waits some h before v =
       let rows = rising_front old.asked (inside_front old.root bindings) in
       let trail : IsTrail Rises first.root old.asked rows =
@@ -117,8 +117,8 @@ module _ (first : Walker) where
       (λ all. let long : length bindings ≤ length rows = ltb-false _ _ all in
       goes_any old given rows phase.Rows h after (more_pace Rises Named Small rising_answers first given rows old waits h (omega (arith, some, long)))))
 
-  reads_next_any : (old : Walker) (given bindings : List VarBind) → old.phase ≡ phase.Rows → Stands Rises Named first old given → IsGiven Rises Named first given old.asked
-      → Keeps_step old given (reads_next old bindings)
+  reads_next_any : (old : Walker) (given bindings : List VarBind) → old.phase ≡ phase.Rows → Reaches Rises Named first old given → IsGiven Rises Named first given old.asked
+      → Advances_anyhow old given (reads_next old bindings)
   reads_next_any old given [] waits h before = stops_now old given (ending.NoProgress old.asked) tt h
   reads_next_any old given (b ∷ more) waits h before =
       either_way old given (nat_lt (asked_for old.method) (length (b ∷ more)) || list_any (λ p. is_missing p.value) (b ∷ more))
@@ -138,25 +138,25 @@ module _ (first : Walker) where
   got_named o (b ∷ []) p h = got_by o b _ p refl h
   got_named o (b ∷ c ∷ more) p h = let no : ⊥ = cc in absurd no
 
-  reads_first_any : (old : Walker) (given : List VarBind) (g : Option VarBind) → old.phase ≡ phase.First → Stands Rises Named first old given → IsStage Rises Named first given old.asked phase.First
-      → ((p : VarBind) → g ≡ Some p → Named old.asked p) → Keeps_step old given (reads_first old g)
+  reads_first_any : (old : Walker) (given : List VarBind) (g : Option VarBind) → old.phase ≡ phase.First → Reaches Rises Named first old given → IsStage Rises Named first given old.asked phase.First
+      → ((p : VarBind) → g ≡ Some p → Named old.asked p) → Advances_anyhow old given (reads_first old g)
   reads_first_any old given None waits h stage named = stops_now old given ending.BadReply tt h
   reads_first_any old given (Some b) waits h stage named =
       went_on old given (if_present b) phase.Rows (nat_lt old.id 2147483647) refl (reads_root Rises Named Small rising_answers first given old b waits h stage (named b refl))
 
-  reads_last_any : (old : Walker) (given : List VarBind) (g : Option VarBind) → Stands Rises Named first old given → IsStage Rises Named first given old.asked phase.Last
-      → ((p : VarBind) → g ≡ Some p → Named old.asked p) → Keeps_step old given (reads_last old g)
+  reads_last_any : (old : Walker) (given : List VarBind) (g : Option VarBind) → Reaches Rises Named first old given → IsStage Rises Named first given old.asked phase.Last
+      → ((p : VarBind) → g ≡ Some p → Named old.asked p) → Advances_anyhow old given (reads_last old g)
   reads_last_any old given None h stage named = stops_now old given ending.BadReply tt h
   reads_last_any old given (Some b) h stage named = (tt, (reads_alone Rises Named Small rising_answers first given old b h stage (named b refl)).0)
 
-  reads_for_any : (old : Walker) (given bindings : List VarBind) (p : Phase) → old.phase ≡ p → Stands Rises Named first old given → IsStage Rises Named first given old.asked p
-      → Keeps_step old given (reads_for p old bindings)
+  reads_for_any : (old : Walker) (given bindings : List VarBind) (p : Phase) → old.phase ≡ p → Reaches Rises Named first old given → IsStage Rises Named first given old.asked p
+      → Advances_anyhow old given (reads_for p old bindings)
   reads_for_any old given bindings phase.First waits h stage = reads_first_any old given (got old.asked bindings) waits h stage (got_named old.asked bindings)
   reads_for_any old given bindings phase.Rows waits h stage = reads_next_any old given bindings waits h stage
   reads_for_any old given bindings phase.Last waits h stage = reads_last_any old given (got old.asked bindings) h stage (got_named old.asked bindings)
   reads_for_any old given bindings phase.Over waits h stage = absurd stage
 
-  pub taken_any : (old : Walker) (given : List VarBind) (m : Message) → Stands Rises Named first old given → Keeps first old given (take_of old m).0 (take_of old m).1
+  pub taken_any : (old : Walker) (given : List VarBind) (m : Message) → Reaches Rises Named first old given → AdvancesAnyhow first old given (take_of old m).0 (take_of old m).1
   taken_any old given m h =
       either_way old given (is_awaited old m) (reads_reply old m) (step.Stray, old)
       (λ _. either_way old given (int_eq m.a (pos 0)) (reads_for old.phase old m.bindings) (stops old [] (ending.Fault m.a m.b)) (λ _. reads_for_any old given m.bindings old.phase refl h h.stage) (λ _. stops_now old given (ending.Fault m.a m.b) tt h))

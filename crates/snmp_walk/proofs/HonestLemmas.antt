@@ -23,8 +23,8 @@ use Rattle.snmp_walk.specs.declared.phase.Phase.TheVariants as phase
 use Rattle.snmp_walk.specs.Walker.{Walker, HasRange, IsMethod, IsWalker}
 use Rattle.snmp_walk.specs.Request.{request_of, request_kind, request_repetitions}
 use Rattle.snmp_walk.specs.Taken.{is_over, asked_for}
-use Rattle.snmp_walk.specs.Standing.{IsChain, IsLarge, IsContent, IsReplyTo}
-use Rattle.snmp_walk.specs.Link.{Agents, OneOf, AreLawful, next_of, got_of, IsTooLarge, IsReply}
+use Rattle.snmp_walk.specs.Standing.{IsChain, IsLarge, IsReplyContent, IsReplyTo}
+use Rattle.snmp_walk.specs.Link.{Agents, OneOf, AreLawful, IsNextFrom, IsGotFrom, IsTooLarge, IsReplyFrom}
 use Rattle.snmp_walk.proofs.RequestLemmas.{name_short}
 use Rattle.snmp_walk.proofs.ViewLemmas.{view_of}
 use Rattle.snmp_walk.proofs.BulkLemmas.{IsOneBulk, one_bulk, chain_front, chain_by}
@@ -157,13 +157,13 @@ module _ (agents : Agents) (lawful : AreLawful agents) (w : Walker) (good : IsWa
   view_good = view_of agents.tables lawful.views view one
 
   of_get : (m : Message) (p : VarBind) → (w.phase ≡ phase.First) ⊎ (w.phase ≡ phase.Last)
-      → ((m.a ≡ pos 0) × ((q : VarBind) × got_of agents w.asked q × (m.bindings ≡ q ∷ []))) ⊎ ((m.a ≡ pos 1) × (m.b ≡ pos 0) × IsLarge (got_of agents) (IsTooLarge agents) w.asked)
-      → IsContent (next_of agents) (got_of agents) (IsTooLarge agents) w.phase w m
-  of_get m p (inl e) c = subst (λ (q : Phase). IsContent (next_of agents) (got_of agents) (IsTooLarge agents) q w m) (sym e) c
-  of_get m p (inr e) c = subst (λ (q : Phase). IsContent (next_of agents) (got_of agents) (IsTooLarge agents) q w m) (sym e) c
+      → ((m.a ≡ pos 0) × ((q : VarBind) × IsGotFrom agents w.asked q × (m.bindings ≡ q ∷ []))) ⊎ ((m.a ≡ pos 1) × (m.b ≡ pos 0) × IsLarge (IsGotFrom agents) (IsTooLarge agents) w.asked)
+      → IsReplyContent (IsNextFrom agents) (IsGotFrom agents) (IsTooLarge agents) w.phase w m
+  of_get m p (inl e) c = subst (λ (q : Phase). IsReplyContent (IsNextFrom agents) (IsGotFrom agents) (IsTooLarge agents) q w m) (sym e) c
+  of_get m p (inr e) c = subst (λ (q : Phase). IsReplyContent (IsNextFrom agents) (IsGotFrom agents) (IsTooLarge agents) q w m) (sym e) c
 
   replied : (m : Message) (a : ℕ) (bindings : List VarBind) → m ≡ response (request_of w) (pos a) (pos 0) bindings
-      → IsContent (next_of agents) (got_of agents) (IsTooLarge agents) w.phase w m → IsReplyTo (next_of agents) (got_of agents) (IsTooLarge agents) w m
+      → IsReplyContent (IsNextFrom agents) (IsGotFrom agents) (IsTooLarge agents) w.phase w m → IsReplyTo (IsNextFrom agents) (IsGotFrom agents) (IsTooLarge agents) w m
   replied m a bindings e content = record {
     version = ap (λ (x : Message). x.version) e;
     community = ap (λ (x : Message). x.community) e;
@@ -181,7 +181,7 @@ module _ (agents : Agents) (lawful : AreLawful agents) (w : Walker) (good : IsWa
 
   -- where no binding came, the first has no room
   first_large : (all bindings : List VarBind) → bindings ≡ [] → IsChain (IsNext view) w.asked all → all ≢ [] → IsLongestFront agents.max_size (request_of w) all bindings
-      → IsLarge (next_of agents) (IsTooLarge agents) w.asked
+      → IsLarge (IsNextFrom agents) (IsTooLarge agents) w.asked
   first_large [] bindings none chain some longest = absurd (some refl)
   first_large (p ∷ later) bindings none chain some longest = (
     p,
@@ -192,7 +192,7 @@ module _ (agents : Agents) (lawful : AreLawful agents) (w : Walker) (good : IsWa
   )
 
   content_of : (m r : Message) → m ≡ r → IsResponse view agents.max_size (request_of w) r
-      → IsReplyTo (next_of agents) (got_of agents) (IsTooLarge agents) w m
+      → IsReplyTo (IsNextFrom agents) (IsGotFrom agents) (IsTooLarge agents) w m
   content_of m r same (whole (got bindings k answers e) fits) =
       let p = one_answer (λ asked given. IsGet view asked.name given) w.asked bindings answers in
       let is : m ≡ response (request_of w) (pos 0) (pos 0) bindings = same ∙ e in
@@ -203,11 +203,11 @@ module _ (agents : Agents) (lawful : AreLawful agents) (w : Walker) (good : IsWa
       let is : m ≡ response (request_of w) (pos 0) (pos 0) bindings = same ∙ e in
       let at = next_phase w.phase w.method k in
       let only : m.bindings ≡ p.0 ∷ [] = ap (λ (x : Message). x.bindings) is ∙ p.1 in
-      let chain : IsChain (next_of agents) w.asked m.bindings = subst (IsChain (next_of agents) w.asked) (sym only) ((view, one, p.2), tt) in
+      let chain : IsChain (IsNextFrom agents) w.asked m.bindings = subst (IsChain (IsNextFrom agents) w.asked) (sym only) ((view, one, p.2), tt) in
       let few : length m.bindings ≤ asked_for w.method =
       subst (λ (x : Method). length m.bindings ≤ asked_for x) (sym at.1) (omega (arith, ap length only)) in
-      let some : m.bindings ≡ [] → IsLarge (next_of agents) (IsTooLarge agents) w.asked = λ none. let never : ⊥ = cc in absurd never in
-      replied m 0 bindings is (subst (λ (q : Phase). IsContent (next_of agents) (got_of agents) (IsTooLarge agents) q w m) (sym at.0)
+      let some : m.bindings ≡ [] → IsLarge (IsNextFrom agents) (IsTooLarge agents) w.asked = λ none. let never : ⊥ = cc in absurd never in
+      replied m 0 bindings is (subst (λ (q : Phase). IsReplyContent (IsNextFrom agents) (IsGotFrom agents) (IsTooLarge agents) q w m) (sym at.0)
       (inl (ap (λ (x : Message). x.a) is, chain, few, some)))
   content_of m r same (whole (unwritten k e) fits) = absurd (set_phase w.phase w.method k)
   content_of m r same (shortened large_one (got bindings k answers e) no_fit is_r) =
@@ -223,7 +223,7 @@ module _ (agents : Agents) (lawful : AreLawful agents) (w : Walker) (good : IsWa
       let at = next_phase w.phase w.method k in
       let whole_is : large_one ≡ response (request_of w) no_error (pos 0) (p.0 ∷ []) = e ∙ ap (response (request_of w) no_error (pos 0)) p.1 in
       let too_large = large p.0 (λ fit. no_fit (subst (Fits agents.max_size) (sym whole_is) fit)) in
-      replied m 1 [] is (subst (λ (q : Phase). IsContent (next_of agents) (got_of agents) (IsTooLarge agents) q w m) (sym at.0)
+      replied m 1 [] is (subst (λ (q : Phase). IsReplyContent (IsNextFrom agents) (IsGotFrom agents) (IsTooLarge agents) q w m) (sym at.0)
       (inr (ap (λ (x : Message). x.a) is, ap (λ (x : Message). x.b) is, (p.0, (view, one, p.2), too_large))))
   content_of m r same (shortened large_one (unwritten k e) no_fit is_r) = absurd (set_phase w.phase w.method k)
   content_of m r same (bulk all bindings k asked longest e) =
@@ -234,13 +234,13 @@ module _ (agents : Agents) (lawful : AreLawful agents) (w : Walker) (good : IsWa
       let one_name : IsOneBulk view view_good w.asked (request_repetitions w.phase w.method) all = one_bulk view view_good (request_of w) w.asked all refl refl asked in
       let only : m.bindings ≡ bindings = ap (λ (x : Message). x.bindings) is in
       let own : IsChain (IsNext view) w.asked bindings = chain_front (IsNext view) w.asked bindings longest.more (subst (IsChain (IsNext view) w.asked) longest.front one_name.chain) in
-      let chain : IsChain (next_of agents) w.asked m.bindings =
-      subst (IsChain (next_of agents) w.asked) (sym only) (chain_by (IsNext view) (next_of agents) (λ o p n. (view, one, n)) w.asked bindings own) in
+      let chain : IsChain (IsNextFrom agents) w.asked m.bindings =
+      subst (IsChain (IsNextFrom agents) w.asked) (sym only) (chain_by (IsNext view) (IsNextFrom agents) (λ o p n. (view, one, n)) w.asked bindings own) in
       let few : length m.bindings ≤ asked_for w.method =
       few_bindings m.bindings bindings longest.more all w.method at.1 only longest.front at.2 (subst (λ (z : ℤ). length all ≤ unsigned_abs z) repetitions one_name.few) in
-      let some : m.bindings ≡ [] → IsLarge (next_of agents) (IsTooLarge agents) w.asked = λ none.
+      let some : m.bindings ≡ [] → IsLarge (IsNextFrom agents) (IsTooLarge agents) w.asked = λ none.
       first_large all bindings (sym only ∙ none) one_name.chain (one_name.some positive) longest in
-      replied m 0 bindings is (subst (λ (q : Phase). IsContent (next_of agents) (got_of agents) (IsTooLarge agents) q w m) (sym at.0)
+      replied m 0 bindings is (subst (λ (q : Phase). IsReplyContent (IsNextFrom agents) (IsGotFrom agents) (IsTooLarge agents) q w m) (sym at.0)
       (inl (ap (λ (x : Message). x.a) is, chain, few, some)))
 
   in_range : (r : Message) → IsResponse view agents.max_size (request_of w) r → Fits agents.max_size r → IsMessageInRange r
@@ -262,8 +262,8 @@ module _ (agents : Agents) (lawful : AreLawful agents) (w : Walker) (good : IsWa
       subst IsMessageInRange (sym e) (response_in_range w good 1 [] agents.max_size (omega arith) tt (subst (Fits agents.max_size) e f) lawful.size)
 
 -- the reply of one of the agents to the waiting request
-pub honest_reply : (agents : Agents) → AreLawful agents → (w : Walker) → IsWalker w → is_over w.phase ≡ false → (reply : List ℕ) → IsReply agents (canon (request_of w)) reply
-    → (m : Message) × Spells m reply × IsReplyTo (next_of agents) (got_of agents) (IsTooLarge agents) w m
+pub honest_reply : (agents : Agents) → AreLawful agents → (w : Walker) → IsWalker w → is_over w.phase ≡ false → (reply : List ℕ) → IsReplyFrom agents (canon (request_of w)) reply
+    → (m : Message) × Spells m reply × IsReplyTo (IsNextFrom agents) (IsGotFrom agents) (IsTooLarge agents) w m
 honest_reply agents lawful w good waits reply h =
     let view = h.0 in
     let agent = h.2 in

@@ -10,6 +10,7 @@ pub mod AnyLemmas
 pub mod SinkLemmas
 pub mod ReplyLemmas
 pub mod TurnLemmas
+pub mod SendLemmas
 pub mod RunLemmas
 pub mod ViewLemmas
 pub mod JoinLemmas
@@ -19,4 +20,6 @@ pub mod BulkLemmas
 pub mod HonestLemmas
 pub mod RoomLemmas
 pub mod SwiftLemmas
+pub mod ArenaLemmas
 pub mod MemoryLemmas
+pub mod HearLemmas

@@ -1,62 +1,62 @@
--- What a link in memory keeps is what a receive gives.
-use Rattle.std.proofs.Common.{◌≡◌, inl, ℕ, ◌≤◌, List, ◌++◌, length, take, refl, sym, ◌∙◌, ap, subst, arith, Option, Some, None}
-use Rattle.std.proofs.Math.Seq.{take-append_seam}
-use Rattle.std.specs.Prelude.{IfSome}
-use Rattle.snmp_agent.specs.Reply.{agent_of, IsReply as IsAgentReply, IsDropped}
+-- What a link in memory serves, and what its next receive gives.
+use Rattle.std.proofs.Common.{◌≡◌, inl, inr, ℕ, zero, suc, ◌+◌, ◌<◌, ◌≤◌, List, [], ◌∷◌, ◌++◌, length, get_or, drop, refl, sym, ◌∙◌, ap, subst, arith, drop-cons, add-one, Option, Some, None}
+use Rattle.std.specs.Prelude.{All, unwrap_or, IfSome}
+use Rattle.std.specs.List.{slice_get}
+use Rattle.std.proofs.lemmas.List.{drop_all, take-append-le}
+use Rattle.snmp_table.specs.Table.{MibView}
+use Rattle.snmp_agent.specs.Reply.{agent_of, IsReply, IsDropped}
+use Rattle.snmp_agent.specs.declared.config.Config.{Config}
 use Rattle.snmp_agent.specs.declared.config.Why.{Why}
-use Rattle.snmp_agent.specs.declared.config.Outcome.{Outcome}
-use Rattle.snmp_agent.specs.declared.config.Outcome.TheVariants as outcome
-use Rattle.snmp_walk.specs.declared.memory.MemoryLink.{MemoryLink}
-use Rattle.snmp_walk.specs.Link.{Agents, AreLawful, IsReply, Receives}
-use Rattle.snmp_walk.specs.Memory.{agents_of, kept, sent_last, Answered, IsHonest}
+use Rattle.snmp_walk.specs.Link.{Agents, OneOf, IsReplyFrom, IsUnanswered}
+use Rattle.snmp_walk.specs.Traffic.{datagram_at, latest, received, Gives, Receives}
+use Rattle.snmp_walk.specs.Memory.{agents_over, IsNextNumber}
 
-given_by : (agents : Agents) (latest : Option (List ℕ)) (reply octets : List ℕ) (n : ℕ) → Answered agents latest (Some reply) → take n octets ≡ reply → Receives agents latest (Some n) octets
-given_by agents None reply octets n h e = let never : ⊥ = cc in absurd never
-given_by agents (Some datagram) reply octets n h e = subst (IsReply agents datagram) (sym e) h
+pub one_got : (views : List MibView) (place : ℕ) (d : MibView) → place < length views → OneOf views (get_or views place d)
+one_got [] place d h = absurd (omega (arith, h))
+one_got (view ∷ views) zero d h = inl refl
+one_got (view ∷ views) (suc place) d h = inr (one_got views place d (omega (arith, h)))
 
-front_of : (n : ℕ) (copy rest : List ℕ) → length copy ≡ n → take n (copy ++ rest) ≡ copy
-front_of n copy rest e = ap (λ (k : ℕ). take k (copy ++ rest)) (sym e) ∙ take-append_seam copy rest
+latest_found : (sent : List (List ℕ)) → datagram_at sent (length sent) ≡ latest sent
+latest_found [] = refl
+latest_found (d ∷ []) = refl
+latest_found (d ∷ e ∷ sent) = latest_found (e ∷ sent)
 
-pub received : (link : MemoryLink) (n : ℕ) (copy rest : List ℕ) → IsHonest link → link.length ≡ Some n → copy ≡ take n link.reply → length copy ≡ n
-    → Receives (agents_of link) (sent_last link) (Some n) (copy ++ rest)
-received link n copy rest h is same long =
-    let answered = subst (λ (l : Option ℕ). Answered (agents_of link) (sent_last link) (kept l link.reply)) is h.answered in
-    given_by (agents_of link) (sent_last link) (take n link.reply) (copy ++ rest) n answered (front_of n copy rest long ∙ same)
+-- what a number's datagram gives is what the receive gives
+pub received_at : (agents : Agents) (sent : List (List ℕ)) (ahead : List (Option ℕ)) (number : ℕ) (left : List (Option ℕ)) (reply : Option (List ℕ)) → IsNextNumber sent ahead number left
+    → Gives agents (datagram_at sent number) reply → Receives agents sent ahead reply left
+received_at agents sent [] number left reply h given =
+    (h.0, subst (λ (d : Option (List ℕ)). Gives agents d reply) (ap (datagram_at sent) h.1 ∙ latest_found sent) given)
+received_at agents sent (None ∷ next) number left reply h given = (h.0, subst (λ (n : ℕ). Gives agents (datagram_at sent n) reply) h.1 given)
+received_at agents sent (Some k ∷ next) number left reply h given = (h.0, subst (λ (n : ℕ). Gives agents (datagram_at sent n) reply) h.1 given)
 
--- the length of a reply
-abbrev pub reply_length : Outcome → Option ℕ
-reply_length (outcome.Reply n) = Some n
-reply_length (outcome.Dropped why) = None
+pub number_in : (sent : List (List ℕ)) (deliveries : List (Option ℕ)) (used : ℕ) (e : Option ℕ) → used < length deliveries → e ≡ get_or deliveries used e
+    → IsNextNumber sent (drop used deliveries) (unwrap_or e 0) (drop (used + 1) deliveries)
+number_in sent deliveries used e h is =
+    let here : drop used deliveries ≡ e ∷ drop (used + 1) deliveries =
+    drop-cons deliveries used e h ∙ ap (λ (x : Option ℕ). x ∷ drop (suc used) deliveries) (sym is) ∙ ap (λ (n : ℕ). e ∷ drop n deliveries) (sym (add-one used)) in
+    subst (λ (ahead : List (Option ℕ)). IsNextNumber sent ahead (unwrap_or e 0) (drop (used + 1) deliveries)) (sym here) (refl, refl)
 
-answered_by : (agents : Agents) (link : MemoryLink) (datagram : List ℕ) (o : Outcome) (out : List ℕ) → agents ≡ agents_of link
-    → ((n : ℕ) → o ≡ outcome.Reply n → IsAgentReply (agent_of link.table.now link.config) datagram (take n out))
-    → ((why : Why) → o ≡ outcome.Dropped why → IsDropped (agent_of link.table.now link.config) datagram why)
-    → Answered (agents_of link) (Some datagram) (kept (reply_length o) out)
-answered_by agents link datagram (outcome.Reply n) out e reply dropped = (link.table.now, inl refl, reply n refl)
-answered_by agents link datagram (outcome.Dropped why) out e reply dropped =
-    record { view = link.table.now; one = inl refl; why = why; dropped = dropped why refl }
+pub number_past : (sent : List (List ℕ)) (deliveries : List (Option ℕ)) (used : ℕ) → length deliveries ≤ used
+    → IsNextNumber sent (drop used deliveries) (length sent) (drop used deliveries)
+number_past sent deliveries used h =
+    let none : drop used deliveries ≡ [] = drop_all used deliveries h in
+    subst (λ (ahead : List (Option ℕ)). IsNextNumber sent ahead (length sent) ahead) (sym none) (refl, refl)
 
-short_by : (link : MemoryLink) (o : Outcome) → ((n : ℕ) → o ≡ outcome.Reply n → n ≤ link.config.max_size) → link.config.max_size ≤ 65507 → IfSome (reply_length o) (λ n. n ≤ 65507)
-short_by link (outcome.Reply n) h size = let k = h n refl in omega (arith, k, size)
-short_by link (outcome.Dropped why) h size = tt
+-- what the agent of one of the tables does with the datagram is what the agents make of it
+pub given_reply : (tables : List MibView) (config : Config) (view : MibView) (d reply : List ℕ) (found : Option (List ℕ)) → OneOf tables view → found ≡ Some d
+    → IsReply (agent_of view config) d reply → Gives (agents_over tables config) found (Some reply)
+given_reply tables config view d reply found one is h = subst (λ (x : Option (List ℕ)). Gives (agents_over tables config) x (Some reply)) (sym is) (view, one, h)
 
--- a link that has sent a datagram, and keeps what its agent did with it
-pub sent_honestly : (link new : MemoryLink) (datagram copy rest out : List ℕ) (o : Outcome) → IsHonest link
-    → new.table ≡ link.table → agents_of new ≡ agents_of link → new.request ≡ copy ++ rest → new.sent ≡ Some (length datagram) → copy ≡ datagram → new.reply ≡ out → new.length ≡ reply_length o
-    → ((n : ℕ) → o ≡ outcome.Reply n → IsAgentReply (agent_of link.table.now link.config) datagram (take n out))
-    → ((n : ℕ) → o ≡ outcome.Reply n → n ≤ link.config.max_size)
-    → ((why : Why) → o ≡ outcome.Dropped why → IsDropped (agent_of link.table.now link.config) datagram why)
-    → IsHonest new
-sent_honestly link new datagram copy rest out o h table agents request sent same reply long replied small dropped =
-    let last : sent_last new ≡ Some datagram =
-    ap (λ (s : Option ℕ). kept s new.request) sent ∙ ap (λ (r : List ℕ). Some (take (length datagram) r)) request
-    ∙ ap Some (front_of (length datagram) copy rest (ap length same) ∙ same) in
-    let answer : Answered (agents_of link) (Some datagram) (kept (reply_length o) out) = answered_by (agents_of link) link datagram o out refl replied dropped in
-    let kept_is : kept new.length new.reply ≡ kept (reply_length o) out = ap (λ (l : Option ℕ). kept l new.reply) long ∙ ap (kept (reply_length o)) reply in
-    record {
-      lawful = subst AreLawful (sym agents) h.lawful;
-      short = subst (λ (l : Option ℕ). IfSome l (λ n. n ≤ 65507)) (sym long) (short_by link o small h.lawful.size);
-      answered = subst (λ (a : Agents). Answered a (sent_last new) (kept new.length new.reply)) (sym agents)
-          (subst (λ (l : Option (List ℕ)). Answered (agents_of link) l (kept new.length new.reply)) (sym last)
-          (subst (Answered (agents_of link) (Some datagram)) (sym kept_is) answer));
-    }
+pub given_none : (tables : List MibView) (config : Config) (view : MibView) (d : List ℕ) (why : Why) (found : Option (List ℕ)) → OneOf tables view → found ≡ Some d
+    → IsDropped (agent_of view config) d why → Gives (agents_over tables config) found None
+given_none tables config view d why found one is h =
+    subst (λ (x : Option (List ℕ)). Gives (agents_over tables config) x None) (sym is) record { view = view; one = one; why = why; dropped = h }
+
+-- what was received stands at the front
+pub received_front : (r : Option ℕ) (out rest : List ℕ) → IfSome r (λ n. n ≤ 65507) → length out ≡ 65507 → received r (out ++ rest) ≡ received r out
+received_front None out rest h e = refl
+received_front (Some n) out rest h e = ap Some (take-append-le n out rest (omega (arith, h, e)))
+
+pub within_more : (r : Option ℕ) (m : ℕ) → IfSome r (λ n. n ≤ 65507) → 65507 ≤ m → IfSome r (λ n. n ≤ m)
+within_more None m h k = tt
+within_more (Some n) m h k = omega (arith, h, k)

@@ -13,16 +13,16 @@ longer_by : (root rest : List ℕ) → (rest ≡ [] → ⊥) → length root < l
 longer_by root [] some = absurd (some refl)
 longer_by root (x ∷ rest) some = omega (arith, length-append root (x ∷ rest))
 
-test_from_parts : (root rest : List ℕ) → (rest ≡ [] → ⊥) → is_below root (root ++ rest) ≡ true
+test_from_parts : (root rest : List ℕ) → (rest ≡ [] → ⊥) → is_below (root ++ rest) root ≡ true
 test_from_parts root rest some =
     let front : take (length root) (root ++ rest) ≡ root = take-append_seam root rest in
     let begins : pointwise nat_eq root (take (length root) (root ++ rest)) ≡ true = ap (pointwise nat_eq root) front ∙ nat_list_eq_equiv.refl root in
     and_from _ _ begins (lt-ltb _ _ (longer_by root rest some))
 
-pub test_from_below : (root name : List ℕ) → IsBelow name root → is_below root name ≡ true
-test_from_below root name h = let P : List ℕ → Type 0 = λ n. is_below root n ≡ true in subst P (sym h.2) (test_from_parts root h.0 h.1)
+pub test_from_below : (root name : List ℕ) → IsBelow name root → is_below name root ≡ true
+test_from_below root name h = let P : List ℕ → Type 0 = λ n. is_below n root ≡ true in subst P (sym h.2) (test_from_parts root h.0 h.1)
 
-pub below_from_test : (root name : List ℕ) → is_below root name ≡ true → IsBelow name root
+pub below_from_test : (root name : List ℕ) → is_below name root ≡ true → IsBelow name root
 below_from_test root name test =
     let parts = and_parts (pointwise nat_eq root (take (length root) name)) (nat_lt (length root) (length name)) test in
     let front : root ≡ take (length root) name = same_text root (take (length root) name) (sym parts.0) in
@@ -30,5 +30,5 @@ below_from_test root name test =
     let whole : root ++ drop (length root) name ≡ name = ap (λ (s : List ℕ). s ++ drop (length root) name) front ∙ take-append-drop (length root) name in
     (drop (length root) name, (λ none. let short : length (drop (length root) name) ≡ 0 = ap length none in absurd (omega (arith, short, length-drop (length root) name))), sym whole)
 
-pub below_decided : (root name : List ℕ) → Decides (is_below root name) (IsBelow name root)
+pub below_decided : (root name : List ℕ) → Decides (is_below name root) (IsBelow name root)
 below_decided root name = (below_from_test root name, test_from_below root name)

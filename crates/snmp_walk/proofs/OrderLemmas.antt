@@ -67,11 +67,11 @@ behind_gap (x ∷ root) s (y ∷ p) rest h out k =
     behind_gap root s p rest first.1 (λ below. out (subst (λ (n : ℕ). IsBelow (n ∷ p) (x ∷ root)) first.0 (below_first x p root below))) first.2
 
 -- the same of the tests, o being the root or below it
-pub outside_after : (root s p q : List ℕ) → comes_after (root ++ s) p ≡ true → is_below root p ≡ false → comes_after p q ≡ true → is_below root q ≡ false
+pub outside_after : (root s p q : List ℕ) → comes_after (root ++ s) p ≡ true → is_below p root ≡ false → comes_after p q ≡ true → is_below q root ≡ false
 outside_after root s p q a out b =
-    false_from_ne_true (is_below root q) (λ below.
+    false_from_ne_true (is_below q root) (λ below.
     let h = below_from_test root q below in
-    let not_below : IsBelow p root → ⊥ = λ k. let t : is_below root p ≡ true = test_from_below root p k in cc in
+    let not_below : IsBelow p root → ⊥ = λ k. let t : is_below p root ≡ true = test_from_below root p k in cc in
     behind_gap root s p h.0 (less_from_after (root ++ s) p a) not_below (subst (λ (n : List ℕ). slice_cmp nat_cmp p n ≡ Less) h.2 (less_from_after p q b)))
 
 zero_first : (x : ℕ) (o p : List ℕ) → slice_cmp nat_cmp o p ≡ Less → slice_cmp nat_cmp (0 ∷ o) (x ∷ p) ≡ Less
@@ -95,7 +95,7 @@ less_than_below (x ∷ []) (a ∷ b ∷ c ∷ name) long h =
 less_than_below (x ∷ y ∷ root) name long h =
     subst (λ (n : List ℕ). slice_cmp nat_cmp (x ∷ y ∷ root) n ≡ Less) (sym h.2) (less_longer (x ∷ y ∷ root) h.0 h.1)
 
-pub below_after_wire : (root name : List ℕ) → 3 ≤ length name → is_below root name ≡ true → comes_after (wire root) name ≡ true
+pub below_after_wire : (root name : List ℕ) → 3 ≤ length name → is_below name root ≡ true → comes_after (wire root) name ≡ true
 below_after_wire root name long below = ap is_lt (less_than_below root name long (below_from_test root name below))
 
 -- as it is sent, the root begins with itself

@@ -1,4 +1,4 @@
--- How long a response of one binding is: no longer with an exception in place of the value, nor with a lesser id.
+-- How long a single_response of one binding is: no longer with an exception in place of the value, nor with a lesser id.
 use Rattle.std.proofs.Common.{◌≡◌, ℕ, ◌^◌, ◌<◌, ◌≤◌, List, [], ◌∷◌, ◌++◌, length, arith, length-append, pos}
 use Rattle.snmp_wire.specs.Message.{Datum, VarBind, Message, integer_value, octet_string, null_value, object_id, ip_address, counter32, gauge32, time_ticks, opaque_octets, counter64, no_such_object, no_such_instance, end_of_mib_view}
 use Rattle.snmp_wire.specs.Spelling.{value_tag, kind_tag, sequence_tag}
@@ -7,7 +7,7 @@ use Rattle.snmp_wire.proofs.CanonLemmas.{length-from_zero}
 use Rattle.snmp_wire.proofs.ElementLemmas.{length-canon_element}
 use Rattle.snmp_wire.proofs.MessageWriting.{length-canon_fields, length-canon_opening}
 use Rattle.snmp_agent.proofs.Sizes.{more_digits, longer_length}
-use Rattle.snmp_walk.specs.Link.{Agents, response, IsTooLarge}
+use Rattle.snmp_walk.specs.Link.{Agents, single_response, IsTooLarge}
 use Rattle.snmp_walk.specs.Room.{HasRoom, IsException}
 
 -- an element with more content is no shorter, whatever the tags
@@ -72,15 +72,15 @@ longer_message m n opening fields bindings =
     (omega (arith, pdu, opening, length-append (canon_opening m) m_pdu, length-append (canon_opening n) n_pdu))
 
 pub longer_response : (community : List ℕ) (id last : ℕ) (p q : VarBind) → id ≤ last → length (canon_binding p) ≤ length (canon_binding q)
-    → length (canon (response community id p)) ≤ length (canon (response community last q))
+    → length (canon (single_response community id p)) ≤ length (canon (single_response community last q))
 longer_response community id last p q h k =
-    let m : Message = response community id p in
-    let n : Message = response community last q in
+    let m : Message = single_response community id p in
+    let n : Message = single_response community last q in
     longer_message m n (omega (arith, length-canon_opening m, length-canon_opening n))
     (omega (arith, length-canon_fields m, length-canon_fields n, longer_integer id last h)) (omega (arith, k, one_binding p, one_binding q))
 
 -- what there is room for fits with each id
-pub room_fits : (agents : Agents) (p : VarBind) (id : ℕ) → id < 2 ^ 31 → HasRoom agents p → length (canon (response agents.community id p)) ≤ agents.max_size
+pub room_fits : (agents : Agents) (p : VarBind) (id : ℕ) → id < 2 ^ 31 → HasRoom agents p → length (canon (single_response agents.community id p)) ≤ agents.max_size
 room_fits agents p id low room =
     let longer = longer_response agents.community id 2147483647 p p (omega (arith, low)) (omega arith) in
     omega (arith, longer, room)

@@ -1,5 +1,5 @@
 -- A run, turn by turn.
-use Rattle.std.proofs.Common.{◌≡◌, ◌⊎◌, inl, inr, ℕ, ◌+◌, ◌^◌, ◌<◌, Bool, true, false, cond, List, [], ◌∷◌, ◌++◌, refl, sym, ◌∙◌, ap, subst, arith, append-nil, append_assoc, Some, None}
+use Rattle.std.proofs.Common.{◌≡◌, ◌⊎◌, inl, inr, ℕ, ◌+◌, ◌^◌, ◌<◌, Bool, true, false, cond, List, [], ◌∷◌, ◌++◌, refl, sym, ◌∙◌, ap, subst, arith, append-nil, append_assoc, Option, Some, None, length, replicate}
 use Rattle.std.specs.Prelude.{Result, Err}
 use Rattle.snmp_wire.specs.Message.{VarBind, Message}
 use Rattle.snmp_walk.specs.declared.mode.Mode.{Mode}
@@ -12,15 +12,22 @@ use Rattle.snmp_walk.specs.declared.end.SinkFault.{SinkFault}
 use Rattle.snmp_walk.specs.declared.rows.Step.{Step}
 use Rattle.snmp_walk.specs.declared.rows.Step.TheVariants as step
 use Rattle.snmp_walk.specs.Names.{is_missing}
-use Rattle.snmp_walk.specs.Trail.{last_name, IsTrail, AreAnswers}
+use Rattle.snmp_walk.specs.Trail.{last_name, IsTrail, AreLawfulReplies}
 use Rattle.snmp_walk.specs.Walker.{Walker, IsWalker}
 use Rattle.snmp_walk.specs.Request.{first_phase}
 use Rattle.snmp_walk.specs.Taken.{is_over, take_of}
-use Rattle.snmp_walk.specs.Standing.{IsOpening, IsGiven, IsAlone, IsPart, IsStage, IsPaced, Stands, Ends, Advances, Rises, Named, IsReplyEnd, Keeps}
-use Rattle.snmp_walk.specs.Link.{Agents, next_of, got_of, IsTooLarge}
+use Rattle.snmp_walk.specs.Standing.{IsOpening, IsGiven, IsAlone, IsPartOfWalk, IsStage, IsPaced, Reaches, Ends, Advances, Rises, Named, IsReplyEnd, AdvancesAnyhow}
+use Rattle.snmp_walk.specs.Link.{Agents, IsNextFrom, IsGotFrom, IsTooLarge, IsUnanswered, AreViews}
 use Rattle.snmp_walk.specs.Sink.{Given, Took}
 use Rattle.snmp_walk.specs.Run.{IsFrom, Turns, goes_on, ends, is_refused, is_silent, fails, rows_in}
-use Rattle.snmp_walk.specs.Facts.{IsFresh, IsLawfulEnd}
+use Rattle.snmp_walk.specs.Facts.{IsFresh, IsLawfulEnd, HasNoReply, HasNone, WalkFacts, SendFacts}
+use Rattle.snmp_walk.specs.Traffic.{Traffic, Lost}
+use Rattle.snmp_walk.specs.Heard.{Exchanges, IsEarlier}
+use Rattle.snmp_walk.specs.Request.{request_of}
+use Rattle.snmp_wire.specs.Canon.{canon}
+use Rattle.snmp_walk.proofs.ViewLemmas.{views_answer}
+use Rattle.snmp_walk.proofs.FactLemmas.{facts, lawful_by, send_facts}
+use Rattle.snmp_walk.proofs.SendLemmas.{Sends, sends_first, sends_more, AreUsed, used_first, used_more, earlier_first, earlier_more}
 use Rattle.snmp_walk.proofs.EndLemmas.{GivesNone, EndsEmpty, ends_empty}
 use Rattle.snmp_walk.proofs.SinkLemmas.{given-append}
 use Rattle.snmp_walk.proofs.StandingLemmas.{taken, part_of_stage}
@@ -66,10 +73,10 @@ module _ (Next Got : List ℕ → VarBind → Type 0) (first : Walker) where
 
   -- a front of what was given is a beginning too
   given_front : (xs ys : List VarBind) (o : List ℕ) (g : IsGiven Next Got first (xs ++ ys) o)
-      → ((rest : List VarBind) × (g.front ≡ xs ++ rest)) ⊎ ((more : List VarBind) × (xs ≡ g.front ++ more) × (g.trail ≡ more ++ ys)) → IsPart Next Got first xs
+      → ((rest : List VarBind) × (g.front ≡ xs ++ rest)) ⊎ ((more : List VarBind) × (xs ≡ g.front ++ more) × (g.trail ≡ more ++ ys)) → IsPartOfWalk Next Got first xs
   given_front xs ys o g (inl h) = by_opening (opening_front first.mode xs h.0 g.front g.opening h.1)
     where
-      by_opening : (xs ≡ []) ⊎ (xs ≡ g.front) → IsPart Next Got first xs
+      by_opening : (xs ≡ []) ⊎ (xs ≡ g.front) → IsPartOfWalk Next Got first xs
       by_opening (inl none) = inl none
       by_opening (inr whole) = inr (inl (first.asked, record { front = g.front; trail = []; parts = whole ∙ sym (append-nil g.front); opening = g.opening; is_trail = tt; last = refl }))
   given_front xs ys o g (inr h) =
@@ -85,7 +92,7 @@ module _ (Next Got : List ℕ → VarBind → Type 0) (first : Walker) where
         },
       ))
 
-  alone_front : (xs ys : List VarBind) → IsAlone Next Got first (xs ++ ys) → IsPart Next Got first xs
+  alone_front : (xs ys : List VarBind) → IsAlone Next Got first (xs ++ ys) → IsPartOfWalk Next Got first xs
   alone_front [] ys h = inl refl
   alone_front (x ∷ []) ys h =
       let e = h.only in
@@ -93,7 +100,7 @@ module _ (Next Got : List ℕ → VarBind → Type 0) (first : Walker) where
       inr (inr record { plain = h.plain; none = h.none; answer = h.answer; is_answer = h.is_answer; only = ap (λ (q : VarBind). q ∷ []) same })
   alone_front (x ∷ y ∷ xs) ys h = let e = h.only in let no : ⊥ = cc in absurd no
 
-  pub part_front : (xs ys : List VarBind) → IsPart Next Got first (xs ++ ys) → IsPart Next Got first xs
+  pub part_front : (xs ys : List VarBind) → IsPartOfWalk Next Got first (xs ++ ys) → IsPartOfWalk Next Got first xs
   part_front xs ys (inl none) = inl (none_front xs ys (sym none))
   part_front xs ys (inr (inl h)) = given_front xs ys h.0 h.1 (two_cuts xs ys h.1.front h.1.trail h.1.parts)
   part_front xs ys (inr (inr h)) = alone_front xs ys h
@@ -109,7 +116,7 @@ module _ (Next Got : List ℕ → VarBind → Type 0) (first : Walker) where
   fresh_pace mode.Include e = refl
   fresh_pace mode.NoLast e = ([], [], refl, subst (λ (n : Mode). IsOpening Got n first.asked []) (sym e) refl, omega arith)
 
-  pub fresh_stands : IsFresh first → Stands Next Got first first []
+  pub fresh_stands : IsFresh first → Reaches Next Got first first []
   fresh_stands h = record {
     same = refl;
     count = h.count;
@@ -117,7 +124,7 @@ module _ (Next Got : List ℕ → VarBind → Type 0) (first : Walker) where
     stage = subst (IsStage Next Got first [] first.asked) (sym h.phase) (fresh_stage first.mode refl);
   }
 
-  pub stands_waits : (w : Walker) (given : List VarBind) → Stands Next Got first w given → is_over w.phase ≡ false
+  pub stands_waits : (w : Walker) (given : List VarBind) → Reaches Next Got first w given → is_over w.phase ≡ false
   stands_waits w given h = waits w.phase h.stage
     where
       waits : (p : Phase) → IsStage Next Got first given w.asked p → is_over p ≡ false
@@ -140,91 +147,91 @@ took_reply takes before after rows ending.NoResponse own h = (h, refl)
 took_reply takes before after rows ending.Link own h = (h, refl)
 took_reply takes before after rows (ending.Sink fault) own h = absurd own
 
-lawful_reply : (agents : Agents) (first w : Walker) (given more : List VarBind) (why : WalkEnd) → IsReplyEnd why → GivesNone why more
-    → Stands (next_of agents) (got_of agents) first w given → Ends (next_of agents) (got_of agents) (IsTooLarge agents) first w (given ++ more) why
-    → IsLawfulEnd agents first (given ++ more) why
-lawful_reply agents first w given more (ending.Done n) own none h e = (w, given, more, refl, h, e)
-lawful_reply agents first w given more (ending.Fault a b) own none h e =
-    (w, subst (Stands (next_of agents) (got_of agents) first w) (sym (append-nil given) ∙ ap (λ (r : List VarBind). given ++ r) (sym none)) h, e)
-lawful_reply agents first w given more (ending.NoProgress o) own none h e =
-    (w, subst (Stands (next_of agents) (got_of agents) first w) (sym (append-nil given) ∙ ap (λ (r : List VarBind). given ++ r) (sym none)) h, e)
-lawful_reply agents first w given more ending.BadReply own none h e = absurd e
-lawful_reply agents first w given more (ending.NotIncreasing o p) own none h e = absurd e
-lawful_reply agents first w given more ending.TooManyRequests own none h e = (w, given, more, refl, h, e)
-lawful_reply agents first w given more ending.RequestTooLong own none h e = absurd own
-lawful_reply agents first w given more ending.NoResponse own none h e = absurd own
-lawful_reply agents first w given more ending.Link own none h e = absurd own
-lawful_reply agents first w given more (ending.Sink fault) own none h e = absurd own
+lawful_reply : (agents : Agents) (Silent : Walker → Type 0) (first w : Walker) (given more : List VarBind) (why : WalkEnd) → IsReplyEnd why → GivesNone why more
+    → Reaches (IsNextFrom agents) (IsGotFrom agents) first w given → Ends (IsNextFrom agents) (IsGotFrom agents) (IsTooLarge agents) first w (given ++ more) why
+    → IsLawfulEnd agents Silent first (given ++ more) why
+lawful_reply agents Silent first w given more (ending.Done n) own none h e = (w, given, more, refl, h, e)
+lawful_reply agents Silent first w given more (ending.Fault a b) own none h e =
+    (w, subst (Reaches (IsNextFrom agents) (IsGotFrom agents) first w) (sym (append-nil given) ∙ ap (λ (r : List VarBind). given ++ r) (sym none)) h, e)
+lawful_reply agents Silent first w given more (ending.NoProgress o) own none h e =
+    (w, subst (Reaches (IsNextFrom agents) (IsGotFrom agents) first w) (sym (append-nil given) ∙ ap (λ (r : List VarBind). given ++ r) (sym none)) h, e)
+lawful_reply agents Silent first w given more ending.BadReply own none h e = absurd e
+lawful_reply agents Silent first w given more (ending.NotIncreasing o p) own none h e = absurd e
+lawful_reply agents Silent first w given more ending.TooManyRequests own none h e = (w, given, more, refl, h, e)
+lawful_reply agents Silent first w given more ending.RequestTooLong own none h e = absurd own
+lawful_reply agents Silent first w given more ending.NoResponse own none h e = absurd own
+lawful_reply agents Silent first w given more ending.Link own none h e = absurd own
+lawful_reply agents Silent first w given more (ending.Sink fault) own none h e = absurd own
 
 abbrev AllSmall : VarBind → Type 0
 AllSmall p = Unit {0}
 
-keeps_part : (first w v : Walker) (given : List VarBind) (st : Step) → Stands Rises Named first w given → Keeps first w given st v → IsPart Rises Named first (given ++ rows_in st)
+keeps_part : (first w v : Walker) (given : List VarBind) (st : Step) → Reaches Rises Named first w given → AdvancesAnyhow first w given st v → IsPartOfWalk Rises Named first (given ++ rows_in st)
 keeps_part first w v given step.Stray h k =
-    subst (IsPart Rises Named first) (sym (append-nil given)) (part_of_stage Rises Named AllSmall rising_answers first given w.asked w.phase h.stage)
+    subst (IsPartOfWalk Rises Named first) (sym (append-nil given)) (part_of_stage Rises Named AllSmall rising_answers first given w.asked w.phase h.stage)
 keeps_part first w v given (step.Rows rows) h k = part_of_stage Rises Named AllSmall rising_answers first (given ++ rows) v.asked v.phase k.2.stage
 keeps_part first w v given (step.Last rows why) h k = k.1
 
-module _ (agents : Agents) (laws : AreAnswers (next_of agents) (got_of agents)) (first : Walker) where
-  advances_part : (w v : Walker) (given : List VarBind) (st : Step) → Advances (next_of agents) (got_of agents) (IsTooLarge agents) first w given st v
-      → IsPart (next_of agents) (got_of agents) first (given ++ rows_in st)
+module _ (agents : Agents) (laws : AreLawfulReplies (IsNextFrom agents) (IsGotFrom agents)) (first : Walker) where
+  advances_part : (w v : Walker) (given : List VarBind) (st : Step) → Advances (IsNextFrom agents) (IsGotFrom agents) (IsTooLarge agents) first w given st v
+      → IsPartOfWalk (IsNextFrom agents) (IsGotFrom agents) first (given ++ rows_in st)
   advances_part w v given step.Stray k = absurd k
-  advances_part w v given (step.Rows rows) k = part_of_stage (next_of agents) (got_of agents) (IsTooLarge agents) laws first (given ++ rows) v.asked v.phase k.stage
+  advances_part w v given (step.Rows rows) k = part_of_stage (IsNextFrom agents) (IsGotFrom agents) (IsTooLarge agents) laws first (given ++ rows) v.asked v.phase k.stage
   advances_part w v given (step.Last rows why) k = k.0
 
 -- what the turns of a run show of it
-pub record RunFacts (agents : Agents) (first : Walker) (rows refused : List VarBind) (end : WalkEnd) : Type 0 where
-  pub part : IsPart (next_of agents) (got_of agents) first (rows ++ refused)
-  pub lawful : IsLawfulEnd agents first rows end
+pub record RunFacts (agents : Agents) (Silent : Walker → Type 0) (first : Walker) (rows refused : List VarBind) (end : WalkEnd) : Type 0 where
+  pub part : IsPartOfWalk (IsNextFrom agents) (IsGotFrom agents) first (rows ++ refused)
+  pub lawful : IsLawfulEnd agents Silent first rows end
 
-module _ {S : Type 0} (takes : S → VarBind → Result (Unit {0}) SinkFault → S → Type 0) (agents : Agents) (honest : Type 0) (first w : Walker) (before s t : S)
-    (given : List VarBind) (sunk : Given takes before given s) (stands : Stands Rises Named first w given) where
+module _ {S : Type 0} (takes : S → VarBind → Result (Unit {0}) SinkFault → S → Type 0) (agents : Agents) (Silent : Walker → Type 0) (honest : Type 0) (first w : Walker) (before s t : S)
+    (given : List VarBind) (sunk : Given takes before given s) (stands : Reaches Rises Named first w given) where
   -- the walk after one more turn
   pub record GoesOn (rows : List VarBind) (new : Walker) : Type 0 where
     pub sink : Given takes before (given ++ rows) t
     pub id : new.id ≡ w.id + 1
     pub low : new.id < 2 ^ 31
-    pub stands_on : Stands Rises Named first new (given ++ rows)
-    pub honestly : honest → AreAnswers (next_of agents) (got_of agents) → Stands (next_of agents) (got_of agents) first w given
-        → Stands (next_of agents) (got_of agents) first new (given ++ rows)
+    pub stands_on : Reaches Rises Named first new (given ++ rows)
+    pub honestly : honest → AreLawfulReplies (IsNextFrom agents) (IsGotFrom agents) → Reaches (IsNextFrom agents) (IsGotFrom agents) first w given
+        → Reaches (IsNextFrom agents) (IsGotFrom agents) first new (given ++ rows)
 
   pub turned : (rows : List VarBind) (new : Walker) → Turns takes agents honest w s rows None new t → GoesOn rows new
   turned rows new (goes_on m from e f sink en) =
-      let any = subst (λ (st : Step). Keeps first w given st (take_of w m).1) e (taken_any first w given m stands) in
-      let here = subst (λ (v : Walker). Keeps first w given (step.Rows rows) v) (sym f) any in
+      let any = subst (λ (st : Step). AdvancesAnyhow first w given st (take_of w m).1) e (taken_any first w given m stands) in
+      let here = subst (λ (v : Walker). AdvancesAnyhow first w given (step.Rows rows) v) (sym f) any in
       record {
         sink = given-append S takes given rows before s t sunk sink;
         id = here.0;
         low = here.1;
         stands_on = here.2;
         honestly = λ h laws k.
-            let step_of = subst (λ (st : Step). Advances (next_of agents) (got_of agents) (IsTooLarge agents) first w given st (take_of w m).1) e
-            (taken (next_of agents) (got_of agents) (IsTooLarge agents) laws first given w m k (from h)) in
-            subst (λ (v : Walker). Stands (next_of agents) (got_of agents) first v (given ++ rows)) (sym f) step_of;
+            let step_of = subst (λ (st : Step). Advances (IsNextFrom agents) (IsGotFrom agents) (IsTooLarge agents) first w given st (take_of w m).1) e
+            (taken (IsNextFrom agents) (IsGotFrom agents) (IsTooLarge agents) laws first given w m k (from h)) in
+            subst (λ (v : Walker). Reaches (IsNextFrom agents) (IsGotFrom agents) first v (given ++ rows)) (sym f) step_of;
       }
   turned rows new (ends m why from e sink en) = let no : ⊥ = cc in absurd no
   turned rows new (is_refused m fault p left between from e sink refused en) = let no : ⊥ = cc in absurd no
-  turned rows new (is_silent none r a en) = let no : ⊥ = cc in absurd no
+  turned rows new (is_silent r a en) = let no : ⊥ = cc in absurd no
   turned rows new (fails r a en) = let no : ⊥ = cc in absurd no
 
   -- the end of the run
   pub record IsOver (rows : List VarBind) (end : WalkEnd) : Type 0 where
     pub refused : List VarBind
     pub sink : Took takes before (given ++ rows) refused end t
-    pub part : IsPart Rises Named first ((given ++ rows) ++ refused)
-    pub facts : honest → AreAnswers (next_of agents) (got_of agents) → Stands (next_of agents) (got_of agents) first w given → RunFacts agents first (given ++ rows) refused end
+    pub part : IsPartOfWalk Rises Named first ((given ++ rows) ++ refused)
+    pub facts : honest → AreLawfulReplies (IsNextFrom agents) (IsGotFrom agents) → Reaches (IsNextFrom agents) (IsGotFrom agents) first w given → RunFacts agents Silent first (given ++ rows) refused end
 
   over_reply : (rows : List VarBind) (m : Message) (why : WalkEnd) → IsFrom agents honest w m → (take_of w m).0 ≡ step.Last rows why → Given takes s rows t → IsOver rows why
   over_reply rows m why from e sink =
-      let any = subst (λ (st : Step). Keeps first w given st (take_of w m).1) e (taken_any first w given m stands) in
+      let any = subst (λ (st : Step). AdvancesAnyhow first w given st (take_of w m).1) e (taken_any first w given m stands) in
       record {
         refused = [];
         sink = took_reply takes before t (given ++ rows) why any.0 (given-append S takes given rows before s t sunk sink);
-        part = subst (IsPart Rises Named first) (sym (append-nil (given ++ rows))) any.1;
+        part = subst (IsPartOfWalk Rises Named first) (sym (append-nil (given ++ rows))) any.1;
         facts = λ h laws k.
-            let step_of = subst (λ (st : Step). Advances (next_of agents) (got_of agents) (IsTooLarge agents) first w given st (take_of w m).1) e
-            (taken (next_of agents) (got_of agents) (IsTooLarge agents) laws first given w m k (from h)) in
-            record { part = subst (IsPart (next_of agents) (got_of agents) first) (sym (append-nil (given ++ rows))) step_of.0; lawful = lawful_reply agents first w given rows why any.0 (subst EndsEmpty e (ends_empty w m)) k step_of.1 };
+            let step_of = subst (λ (st : Step). Advances (IsNextFrom agents) (IsGotFrom agents) (IsTooLarge agents) first w given st (take_of w m).1) e
+            (taken (IsNextFrom agents) (IsGotFrom agents) (IsTooLarge agents) laws first given w m k (from h)) in
+            record { part = subst (IsPartOfWalk (IsNextFrom agents) (IsGotFrom agents) first) (sym (append-nil (given ++ rows))) step_of.0; lawful = lawful_reply agents Silent first w given rows why any.0 (subst EndsEmpty e (ends_empty w m)) k step_of.1 };
       }
 
   over_refused : (rows : List VarBind) (m : Message) (fault : SinkFault) (p : VarBind) (left : List VarBind) (between : S) → IsFrom agents honest w m → rows_in (take_of w m).0 ≡ rows ++ p ∷ left
@@ -232,43 +239,145 @@ module _ {S : Type 0} (takes : S → VarBind → Result (Unit {0}) SinkFault →
   over_refused rows m fault p left between from e sink refused =
       let cut : given ++ rows_in (take_of w m).0 ≡ ((given ++ rows) ++ p ∷ []) ++ left =
       ap (λ (r : List VarBind). given ++ r) e ∙ sym (append_assoc given rows (p ∷ left)) ∙ sym (append_assoc (given ++ rows) (p ∷ []) left) in
-      let any = subst (IsPart Rises Named first) cut (keeps_part first w (take_of w m).1 given (take_of w m).0 stands (taken_any first w given m stands)) in
+      let any = subst (IsPartOfWalk Rises Named first) cut (keeps_part first w (take_of w m).1 given (take_of w m).0 stands (taken_any first w given m stands)) in
       record {
         refused = p ∷ [];
         sink = (between, given-append S takes given rows before s between sunk sink, (p, refl, refused));
         part = part_front Rises Named first ((given ++ rows) ++ p ∷ []) left any;
         facts = λ h laws k.
-            let whole = subst (IsPart (next_of agents) (got_of agents) first) cut (advances_part agents laws first w (take_of w m).1 given (take_of w m).0
-            (taken (next_of agents) (got_of agents) (IsTooLarge agents) laws first given w m k (from h))) in
-            record { part = part_front (next_of agents) (got_of agents) first ((given ++ rows) ++ p ∷ []) left whole; lawful = tt };
+            let whole = subst (IsPartOfWalk (IsNextFrom agents) (IsGotFrom agents) first) cut (advances_part agents laws first w (take_of w m).1 given (take_of w m).0
+            (taken (IsNextFrom agents) (IsGotFrom agents) (IsTooLarge agents) laws first given w m k (from h))) in
+            record { part = part_front (IsNextFrom agents) (IsGotFrom agents) first ((given ++ rows) ++ p ∷ []) left whole; lawful = tt };
       }
 
-  over_none : (why : WalkEnd) → Took takes before given [] why t → (honest → AreAnswers (next_of agents) (got_of agents) → Stands (next_of agents) (got_of agents) first w given → IsLawfulEnd agents first given why)
+  over_none : (why : WalkEnd) → Took takes before given [] why t → (honest → AreLawfulReplies (IsNextFrom agents) (IsGotFrom agents) → Reaches (IsNextFrom agents) (IsGotFrom agents) first w given → IsLawfulEnd agents Silent first given why)
       → IsOver [] why
   over_none why sink lawful = record {
     refused = [];
     sink = subst (λ (r : List VarBind). Took takes before r [] why t) (sym (append-nil given)) sink;
-    part = subst (λ (r : List VarBind). IsPart Rises Named first (r ++ [])) (sym (append-nil given))
-        (subst (IsPart Rises Named first) (sym (append-nil given)) (part_of_stage Rises Named AllSmall rising_answers first given w.asked w.phase stands.stage));
-    facts = λ h laws k. subst (λ (r : List VarBind). RunFacts agents first r [] why) (sym (append-nil given)) (record {
-      part = subst (IsPart (next_of agents) (got_of agents) first) (sym (append-nil given)) (part_of_stage (next_of agents) (got_of agents) (IsTooLarge agents) laws first given w.asked w.phase k.stage);
+    part = subst (λ (r : List VarBind). IsPartOfWalk Rises Named first (r ++ [])) (sym (append-nil given))
+        (subst (IsPartOfWalk Rises Named first) (sym (append-nil given)) (part_of_stage Rises Named AllSmall rising_answers first given w.asked w.phase stands.stage));
+    facts = λ h laws k. subst (λ (r : List VarBind). RunFacts agents Silent first r [] why) (sym (append-nil given)) (record {
+      part = subst (IsPartOfWalk (IsNextFrom agents) (IsGotFrom agents) first) (sym (append-nil given)) (part_of_stage (IsNextFrom agents) (IsGotFrom agents) (IsTooLarge agents) laws first given w.asked w.phase k.stage);
       lawful = lawful h laws k;
     });
   }
 
-  pub over : IsWalker w → (rows : List VarBind) (new : Walker) (end : WalkEnd) → Turns takes agents honest w s rows (Some end) new t → IsOver rows end
-  over good rows new end (goes_on m from e f sink en) = let no : ⊥ = cc in absurd no
-  over good rows new end (ends m why from e sink en) =
+  pub over : IsWalker w → (rows : List VarBind) (new : Walker) (end : WalkEnd) → (end ≡ ending.NoResponse → honest → Silent w) → Turns takes agents honest w s rows (Some end) new t → IsOver rows end
+  over good rows new end quiet (goes_on m from e f sink en) = let no : ⊥ = cc in absurd no
+  over good rows new end quiet (ends m why from e sink en) =
       let same : why ≡ end = cc in
       subst (IsOver rows) same (over_reply rows m why from e sink)
-  over good rows new end (is_refused m fault p left between from e sink refused en) =
+  over good rows new end quiet (is_refused m fault p left between from e sink refused en) =
       let same : ending.Sink fault ≡ end = cc in
       subst (IsOver rows) same (over_refused rows m fault p left between from e sink refused)
-  over good rows new end (is_silent none r a en) =
+  over good rows new end quiet (is_silent r a en) =
       let same : ending.NoResponse ≡ end = cc in
       let sink : Given takes before given t = subst (Given takes before given) (sym a) sunk in
-      subst (λ (x : List VarBind). IsOver x end) (sym r) (subst (IsOver []) same (over_none ending.NoResponse (sink, refl) (λ h laws k. (w, good, k, none h))))
-  over good rows new end (fails r a en) =
+      subst (λ (x : List VarBind). IsOver x end) (sym r) (subst (IsOver []) same (over_none ending.NoResponse (sink, refl) (λ h laws k. (w, good, k, quiet (sym same) h))))
+  over good rows new end quiet (fails r a en) =
       let same : ending.Link ≡ end = cc in
       let sink : Given takes before given t = subst (Given takes before given) (sym a) sunk in
       subst (λ (x : List VarBind). IsOver x end) (sym r) (subst (IsOver []) same (over_none ending.Link (sink, refl) (λ h laws k. tt)))
+
+-- ---- runs
+
+-- where a run stands between two turns
+pub record Runs {S : Type 0} (takes : S → VarBind → Result (Unit {0}) SinkFault → S → Type 0) (agents : Agents) (keeps honest : Type 0) (tries : ℕ) (first : Walker) (before : S) (old : Traffic)
+    (w : Walker) (s : S) (now : Traffic) : Type 0 where
+  pub given : List VarBind
+  pub sunk : Given takes before given s
+  pub stands : Reaches Rises Named first w given
+  pub honestly : honest → AreViews agents.tables → old.sent ≡ [] → Reaches (IsNextFrom agents) (IsGotFrom agents) first w given
+  pub earlier : keeps → old.sent ≡ [] → IsEarlier now.sent w
+  pub sends : keeps → Sends tries first given old w.id now
+  pub used : honest → old.sent ≡ [] → AreUsed old now
+
+pub runs_first : {S : Type 0} (takes : S → VarBind → Result (Unit {0}) SinkFault → S → Type 0) (agents : Agents) (keeps honest : Type 0) (tries : ℕ) (first : Walker) (before : S) (old : Traffic)
+    → IsFresh first → Runs takes agents keeps honest tries first before old first before old
+runs_first takes agents keeps honest tries first before old fresh = record {
+  given = [];
+  sunk = refl;
+  stands = fresh_stands Rises Named first fresh;
+  honestly = λ h views none. fresh_stands (IsNextFrom agents) (IsGotFrom agents) first fresh;
+  earlier = λ k none. earlier_first old.sent first none;
+  sends = λ k. sends_first tries first old;
+  used = λ h none. used_first old;
+}
+
+module _ {S : Type 0} (takes : S → VarBind → Result (Unit {0}) SinkFault → S → Type 0) (agents : Agents) (keeps honest : Type 0) (keeping : honest → keeps) (tries : ℕ) (first : Walker) (before : S) (old : Traffic)
+    (w : Walker) (s : S) (now : Traffic) (r : Runs takes agents keeps honest tries first before old w s now) (good : IsWalker w) (here : Type 0) (here_honest : honest → here) where
+  -- one more turn
+  pub record RunsOn (v : Walker) (t : S) (later : Traffic) : Type 0 where
+    pub runs : Runs takes agents keeps honest tries first before old v t later
+    pub id : v.id ≡ w.id + 1
+    pub low : v.id < 2 ^ 31
+
+  waits : is_over w.phase ≡ false
+  waits = stands_waits Rises Named first w r.given r.stands
+
+  pub runs_on : (rows : List VarBind) (v : Walker) (t : S) (later : Traffic) (silent : Type 0) → Turns takes agents (here × IsEarlier now.sent w) w s rows None v t
+      → (keeps → Exchanges agents (here × IsEarlier now.sent w) tries (canon (request_of w)) now silent later) → RunsOn v t later
+  runs_on rows v t later silent turn x =
+      let gone = turned takes agents (HasNone agents) (here × IsEarlier now.sent w) first w before s t r.given r.sunk r.stands rows v turn in
+      record {
+        runs = record {
+          given = r.given ++ rows;
+          sunk = gone.sink;
+          stands = gone.stands_on;
+          honestly = λ h views none. gone.honestly (here_honest h, r.earlier (keeping h) none) (views_answer agents views) (r.honestly h views none);
+          earlier = λ k none. earlier_more w v now.sent later.sent (x k).times good waits (omega (arith, gone.id)) (x k).sent (r.earlier k none);
+          sends = λ k. subst (λ (n : ℕ). Sends tries first (r.given ++ rows) old n later) (sym gone.id)
+              (sends_more agents (here × IsEarlier now.sent w) silent tries first w r.given rows old now later good r.stands (r.sends k) (x k));
+          used = λ h none. used_more agents (here × IsEarlier now.sent w) silent tries (canon (request_of w)) old now later (here_honest h, r.earlier (keeping h) none) (r.used h none) (x (keeping h));
+        };
+        id = gone.id;
+        low = gone.low;
+      }
+
+  -- what is known where no reply came
+  no_reply : (silent : Type 0) (later : Traffic) → silent → honest → old.sent ≡ [] → Exchanges agents (here × IsEarlier now.sent w) tries (canon (request_of w)) now silent later
+      → HasNoReply agents tries old later w
+  no_reply silent later quiet h none x =
+      let more = x.honestly (here_honest h, r.earlier (keeping h) none) in
+      let u = r.used h none in
+      record {
+        earlier = now.sent;
+        sent = x.sent ∙ ap (λ (n : ℕ). now.sent ++ replicate n (canon (request_of w))) (x.all quiet);
+        lost = by_lost more.0 (u.parts ∙ ap (λ (es : List (Option ℕ)). u.used ++ es) more.1) (more.3 quiet);
+      }
+    where
+      by_lost : (used : List (Option ℕ)) → old.ahead ≡ (r.used h none).used ++ (used ++ later.ahead)
+          → IsUnanswered agents (canon (request_of w)) ⊎ Lost agents (now.sent ++ canon (request_of w) ∷ []) (canon (request_of w)) used tries 0
+          → IsUnanswered agents (canon (request_of w))
+          ⊎ ((front : List (Option ℕ)) × (used : List (Option ℕ)) × (old.ahead ≡ front ++ (used ++ later.ahead))
+          × Lost agents (now.sent ++ canon (request_of w) ∷ []) (canon (request_of w)) used tries 0)
+      by_lost used parts (inl a) = inl a
+      by_lost used parts (inr l) = inr ((r.used h none).used, used, parts, l)
+
+  -- no reply came to the waiting request
+  abbrev IsQuiet : Traffic → Walker → Type 0
+  IsQuiet later v = honest → old.sent ≡ [] → HasNoReply agents tries old later v
+
+  -- the last turn
+  pub ran : (rows : List VarBind) (v : Walker) (t : S) (later : Traffic) (end : WalkEnd) → IsFresh first → 0 < tries → (honest → AreViews agents.tables)
+      → Turns takes agents (here × IsEarlier now.sent w) w s rows (Some end) v t
+      → (keeps → Exchanges agents (here × IsEarlier now.sent w) tries (canon (request_of w)) now (Some end ≡ Some ending.NoResponse) later)
+      → (all : List VarBind) × (refused : List VarBind) × Took takes before all refused end t × IsPartOfWalk Rises Named first (all ++ refused)
+      × (honest → old.sent ≡ [] → WalkFacts agents tries old first all refused end later)
+      × (keeps → SendFacts agents (honest × (old.sent ≡ [])) tries old first all later)
+  ran rows v t later end fresh some views turn x =
+      let done = over takes agents (IsQuiet later) (here × IsEarlier now.sent w) first w before s t r.given r.sunk r.stands good rows v end
+      (λ silent k. λ h none. no_reply (Some end ≡ Some ending.NoResponse) later (ap Some silent) h none (x (keeping h))) turn in (
+        r.given ++ rows,
+        done.refused,
+        done.sink,
+        done.part,
+        λ h none.
+            let shown = done.facts (here_honest h, r.earlier (keeping h) none) (views_answer agents (views h)) (r.honestly h (views h) none) in
+            facts agents tries old later first (r.given ++ rows) done.refused end some fresh (views h) shown.part
+            (lawful_by agents (IsQuiet later) (HasNoReply agents tries old later) first (r.given ++ rows) end (λ u f. f h none) shown.lawful),
+        λ k. send_facts agents (honest × (old.sent ≡ [])) tries old later first w (r.given ++ rows) r.given fresh good
+            (sends_more agents (here × IsEarlier now.sent w) (Some end ≡ Some ending.NoResponse) tries first w r.given rows old now later good r.stands (r.sends k) (x k))
+            (λ h. (used_more agents (here × IsEarlier now.sent w) (Some end ≡ Some ending.NoResponse) tries (canon (request_of w)) old now later (here_honest h.0, r.earlier k h.1) (r.used h.0 h.1) (x k), views h.0, r.honestly h.0 (views h.0) h.1)),
+      )

@@ -15,19 +15,19 @@ use Rattle.snmp_walk.specs.declared.end.WalkEnd.TheVariants as ending
 use Rattle.snmp_walk.specs.declared.rows.Step.{Step}
 use Rattle.snmp_walk.specs.declared.rows.Step.TheVariants as step
 use Rattle.snmp_walk.specs.Names.{is_missing}
-use Rattle.snmp_walk.specs.Trail.{last_name, IsTrail, IsAtEnd, AreAnswers}
+use Rattle.snmp_walk.specs.Trail.{last_name, IsTrail, IsAtEnd, AreLawfulReplies}
 use Rattle.snmp_walk.specs.Walker.{Walker}
 use Rattle.std.specs.Ordering.{int_eq}
 use Rattle.snmp_walk.specs.Taken.{is_over, is_response, is_awaited, is_plain, inside_front, rising_front, asked_for, stops, goes_on, closes, reads_next, got, if_present, reads_first, reads_last, reads_for, take_of}
-use Rattle.snmp_walk.specs.Standing.{IsChain, IsLarge, IsContent, IsReplyTo, IsOpening, IsGiven, IsAlone, IsPart, IsStage, IsRefused, opening_gets, IsPaced, Stands, Advances}
+use Rattle.snmp_walk.specs.Standing.{IsChain, IsLarge, IsReplyContent, IsReplyTo, IsOpening, IsGiven, IsAlone, IsPartOfWalk, IsStage, IsReplyTooLarge, opening_gets, IsPaced, Reaches, Advances}
 use Rattle.snmp_walk.proofs.TrailLemmas.{last_name-append, trail-append, IsFront, chain_front, chain_has_values}
 
-module _ (Next Got : List ℕ → VarBind → Type 0) (Large : VarBind → Type 0) (laws : AreAnswers Next Got) (first : Walker) where
+module _ (Next Got : List ℕ → VarBind → Type 0) (Large : VarBind → Type 0) (laws : AreLawfulReplies Next Got) (first : Walker) where
   -- a step as a pair
   abbrev pub Goes : Walker → List VarBind → Step × Walker → Type 0
   Goes old given s = Advances Next Got Large first old given s.0 s.1
 
-  pub part_of_stage : (given : List VarBind) (o : List ℕ) (p : Phase) → IsStage Next Got first given o p → IsPart Next Got first given
+  pub part_of_stage : (given : List VarBind) (o : List ℕ) (p : Phase) → IsStage Next Got first given o p → IsPartOfWalk Next Got first given
   part_of_stage given o phase.First h = inl h.0
   part_of_stage given o phase.Rows h = inr (inl (o, h))
   part_of_stage given o phase.Last h = inl h.0
@@ -35,7 +35,7 @@ module _ (Next Got : List ℕ → VarBind → Type 0) (Large : VarBind → Type 
 
   -- the walk goes on, or has no id left
   pub goes : (given more : List VarBind) (w : Walker) (next : Phase) (s : Bool) → s ≡ nat_lt w.id 2147483647
-      → Stands Next Got first w given → IsStage Next Got first (given ++ more) (last_name w.asked more) next → IsPaced Got first (given ++ more) (w.id + 1) next
+      → Reaches Next Got first w given → IsStage Next Got first (given ++ more) (last_name w.asked more) next → IsPaced Got first (given ++ more) (w.id + 1) next
       → Goes w given (cond s (step.Rows more, record w { phase = next; asked = last_name w.asked more; id = w.id + 1; count = w.count + length more }) (stops w more ending.TooManyRequests))
   goes given more w next true e h stage pace = record {
     same = ap (λ (v : Walker). record v { phase = next; asked = last_name w.asked more; id = w.id + 1; count = w.count + length more }) h.same;
@@ -65,10 +65,10 @@ module _ (Next Got : List ℕ → VarBind → Type 0) (Large : VarBind → Type 
   plain_to : (m : Mode) → m ≡ mode.Plain → is_plain m ≡ true
   plain_to m e = ap is_plain e
 
-  mode_is : (w : Walker) (given : List VarBind) → Stands Next Got first w given → w.mode ≡ first.mode
+  mode_is : (w : Walker) (given : List VarBind) → Reaches Next Got first w given → w.mode ≡ first.mode
   mode_is w given h = ap (λ (v : Walker). v.mode) h.same
 
-  pub root_is : (w : Walker) (given : List VarBind) → Stands Next Got first w given → w.root ≡ first.root
+  pub root_is : (w : Walker) (given : List VarBind) → Reaches Next Got first w given → w.root ≡ first.root
   root_is w given h = ap (λ (v : Walker). v.root) h.same
 
   no_length : (xs : List VarBind) → length xs ≡ 0 → xs ≡ []
@@ -76,7 +76,7 @@ module _ (Next Got : List ℕ → VarBind → Type 0) (Large : VarBind → Type 
   no_length (x ∷ xs) e = absurd (omega (arith, e))
 
   -- a plain walk that gave nothing has made no request before
-  plain_pace : (given : List VarBind) (w : Walker) → w.phase ≡ phase.Rows → Stands Next Got first w given → given ≡ [] → first.mode ≡ mode.Plain → w.id ≤ first.id
+  plain_pace : (given : List VarBind) (w : Walker) → w.phase ≡ phase.Rows → Reaches Next Got first w given → given ≡ [] → first.mode ≡ mode.Plain → w.id ≤ first.id
   plain_pace given w waits h none plain =
       let p = subst (IsPaced Got first given w.id) waits h.paced in
       let empty : p.1 ≡ [] = (append_none p.0 p.1 (sym p.2 ∙ none)).1 in
@@ -84,7 +84,7 @@ module _ (Next Got : List ℕ → VarBind → Type 0) (Large : VarBind → Type 
       omega (arith, p.4, gets, ap length empty)
 
   -- a reply with a row at least takes the walk to the next id
-  pub more_pace : (given rows : List VarBind) (w : Walker) → w.phase ≡ phase.Rows → Stands Next Got first w given → 1 ≤ length rows
+  pub more_pace : (given rows : List VarBind) (w : Walker) → w.phase ≡ phase.Rows → Reaches Next Got first w given → 1 ≤ length rows
       → IsPaced Got first (given ++ rows) (w.id + 1) phase.Rows
   more_pace given rows w waits h some =
       let p = subst (IsPaced Got first given w.id) waits h.paced in
@@ -92,7 +92,7 @@ module _ (Next Got : List ℕ → VarBind → Type 0) (Large : VarBind → Type 
 
   -- nothing more stands below the root
   pub closed : (given more : List VarBind) (w : Walker) (o : List ℕ) (b : Bool) → b ≡ (is_plain w.mode && (w.count + length more == 0)) → w.phase ≡ phase.Rows
-      → Stands Next Got first w given → IsGiven Next Got first given w.asked → IsGiven Next Got first (given ++ more) o → IsAtEnd Next first.root o
+      → Reaches Next Got first w given → IsGiven Next Got first given w.asked → IsGiven Next Got first (given ++ more) o → IsAtEnd Next first.root o
       → Goes w given (cond b (goes_on w phase.Last []) (stops w more (ending.Done (w.count + length more))))
   closed given more w o true e waits h before h' end =
       let parts = and_parts (is_plain w.mode) (w.count + length more == 0) (sym e) in
@@ -125,7 +125,7 @@ module _ (Next Got : List ℕ → VarBind → Type 0) (Large : VarBind → Type 
 
   -- a chain of answers
   reads_chain : (given bindings inside rows : List VarBind) (w : Walker) (b : Bool) → b ≡ nat_lt (length rows) (length bindings) → w.phase ≡ phase.Rows → 1 ≤ length bindings
-      → Stands Next Got first w given → IsGiven Next Got first given w.asked → IsFront Next first.root w.asked bindings inside rows
+      → Reaches Next Got first w given → IsGiven Next Got first given w.asked → IsFront Next first.root w.asked bindings inside rows
       → Goes w given (cond b (closes w rows) (goes_on w phase.Rows rows))
   reads_chain given bindings inside rows w true e waits some h before front =
       let trail = subst (IsTrail Next first.root w.asked) (sym front.rising) front.is_trail in
@@ -141,14 +141,14 @@ module _ (Next Got : List ℕ → VarBind → Type 0) (Large : VarBind → Type 
       goes given rows w phase.Rows _ refl h (given_more given rows w.asked before trail) (more_pace given rows w waits h (omega (arith, some, all)))
 
   reads_front : (given bindings inside rows : List VarBind) (w : Walker) → w.phase ≡ phase.Rows → 1 ≤ length bindings
-      → Stands Next Got first w given → IsGiven Next Got first given w.asked → IsFront Next first.root w.asked bindings inside rows
+      → Reaches Next Got first w given → IsGiven Next Got first given w.asked → IsFront Next first.root w.asked bindings inside rows
       → (unsorted : Step × Walker)
       → Goes w given (cond (nat_lt (length rows) (length inside)) unsorted (cond (nat_lt (length rows) (length bindings)) (closes w rows) (goes_on w phase.Rows rows)))
   reads_front given bindings inside rows w waits some h before front unsorted =
       rw (le-ltb (length rows) (length inside) (omega (arith, ap length front.rising))) (reads_chain given bindings inside rows w _ refl waits some h before front)
 
   -- a reply with the next instances
-  reads_instances : (given bindings : List VarBind) (w : Walker) → w.phase ≡ phase.Rows → Stands Next Got first w given → IsGiven Next Got first given w.asked
+  reads_instances : (given bindings : List VarBind) (w : Walker) → w.phase ≡ phase.Rows → Reaches Next Got first w given → IsGiven Next Got first given w.asked
       → IsChain Next w.asked bindings → length bindings ≤ asked_for w.method → (bindings ≡ [] → IsLarge Next Large w.asked)
       → Goes w given (reads_next w bindings)
   reads_instances given [] w waits h before chain few large =
@@ -174,7 +174,7 @@ module _ (Next Got : List ℕ → VarBind → Type 0) (Large : VarBind → Type 
   include_opening m o p e h = let P : Mode → Type 0 = λ n. IsOpening Got n o (if_present p) in subst P (sym e) (p, h, refl)
 
   -- the reply to the Get with which a walk begins
-  pub reads_root : (given : List VarBind) (w : Walker) (p : VarBind) → w.phase ≡ phase.First → Stands Next Got first w given → IsStage Next Got first given w.asked phase.First
+  pub reads_root : (given : List VarBind) (w : Walker) (p : VarBind) → w.phase ≡ phase.First → Reaches Next Got first w given → IsStage Next Got first given w.asked phase.First
       → Got w.asked p → Goes w given (reads_first w (Some p))
   reads_root given w p waits h stage answer =
       let at : Got first.asked p = subst (λ (o : List ℕ). Got o p) stage.1 answer in
@@ -188,7 +188,7 @@ module _ (Next Got : List ℕ → VarBind → Type 0) (Large : VarBind → Type 
       (if_present p, [], parts, opening, omega (arith, pace, gets))
 
   -- the reply to the Get with which a walk ends that gave nothing
-  pub reads_alone : (given : List VarBind) (w : Walker) (p : VarBind) → Stands Next Got first w given → IsStage Next Got first given w.asked phase.Last
+  pub reads_alone : (given : List VarBind) (w : Walker) (p : VarBind) → Reaches Next Got first w given → IsStage Next Got first given w.asked phase.Last
       → Got w.asked p → Goes w given (reads_last w (Some p))
   reads_alone given w p h stage answer =
       let alone : IsAlone Next Got first (given ++ p ∷ []) = record {
@@ -201,21 +201,21 @@ module _ (Next Got : List ℕ → VarBind → Type 0) (Large : VarBind → Type 
       (inr (inr alone), (omega (arith, h.count, length-append given (p ∷ [])), inr alone))
 
   -- tooBig
-  refused : (given : List VarBind) (w : Walker) (m : Message) (p : Phase) → w.phase ≡ p → Stands Next Got first w given → IsStage Next Got first given w.asked p
-      → m.a ≡ pos 1 → m.b ≡ pos 0 → IsRefused Next Got Large p w.asked → (answered : Step × Walker)
+  refused : (given : List VarBind) (w : Walker) (m : Message) (p : Phase) → w.phase ≡ p → Reaches Next Got first w given → IsStage Next Got first given w.asked p
+      → m.a ≡ pos 1 → m.b ≡ pos 0 → IsReplyTooLarge Next Got Large p w.asked → (answered : Step × Walker)
       → Goes w given (cond (int_eq m.a (pos 0)) answered (stops w [] (ending.Fault m.a m.b)))
   refused given w m p waits h stage status index large answered =
       let no_zero : int_eq m.a (pos 0) ≡ false = ap (λ (n : ℤ). int_eq n (pos 0)) status in
-      let part = subst (IsPart Next Got first) (sym (append-nil given)) (part_of_stage given w.asked p stage) in
-      let why : IsRefused Next Got Large w.phase w.asked = subst (λ (q : Phase). IsRefused Next Got Large q w.asked) (sym waits) large in
+      let part = subst (IsPartOfWalk Next Got first) (sym (append-nil given)) (part_of_stage given w.asked p stage) in
+      let why : IsReplyTooLarge Next Got Large w.phase w.asked = subst (λ (q : Phase). IsReplyTooLarge Next Got Large q w.asked) (sym waits) large in
       rw no_zero (part, (status, index, why))
 
   fine : (given : List VarBind) (w : Walker) (m : Message) (answered stopped : Step × Walker) → m.a ≡ pos 0 → Goes w given answered
       → Goes w given (cond (int_eq m.a (pos 0)) answered stopped)
   fine given w m answered stopped status h = let zero_status : int_eq m.a (pos 0) ≡ true = ap (λ (n : ℤ). int_eq n (pos 0)) status in rw zero_status h
 
-  reads_content : (given : List VarBind) (w : Walker) (m : Message) (p : Phase) → w.phase ≡ p → Stands Next Got first w given → IsStage Next Got first given w.asked p
-      → IsContent Next Got Large p w m → Goes w given (cond (int_eq m.a (pos 0)) (reads_for p w m.bindings) (stops w [] (ending.Fault m.a m.b)))
+  reads_content : (given : List VarBind) (w : Walker) (m : Message) (p : Phase) → w.phase ≡ p → Reaches Next Got first w given → IsStage Next Got first given w.asked p
+      → IsReplyContent Next Got Large p w m → Goes w given (cond (int_eq m.a (pos 0)) (reads_for p w m.bindings) (stops w [] (ending.Fault m.a m.b)))
   reads_content given w m phase.First waits h stage (inl c) =
       fine given w m _ _ c.0 (rw (c.1.2, got_is w.asked c.1.0 c.1.1) (reads_root given w c.1.0 waits h stage c.1.1))
   reads_content given w m phase.First waits h stage (inr c) = refused given w m phase.First waits h stage c.0 c.1 c.2 _
@@ -232,15 +232,15 @@ module _ (Next Got : List ℕ → VarBind → Type 0) (Large : VarBind → Type 
   waiting given o phase.Last h = refl
   waiting given o phase.Over h = absurd h
 
-  awaited : (given : List VarBind) (w : Walker) (m : Message) → Stands Next Got first w given → IsReplyTo Next Got Large w m → is_awaited w m ≡ true
+  awaited : (given : List VarBind) (w : Walker) (m : Message) → Reaches Next Got first w given → IsReplyTo Next Got Large w m → is_awaited w m ≡ true
   awaited given w m h r =
       let version : int_eq m.version (pos 1) ≡ true = ap (λ (n : ℤ). int_eq n (pos 1)) r.version in
       let community : pointwise nat_eq m.community w.community ≡ true = ap (λ (c : List ℕ). pointwise nat_eq c w.community) r.community ∙ nat_list_eq_equiv.refl w.community in
       let response : is_response m.kind ≡ true = ap is_response r.kind in
       let id : int_eq m.id (pos w.id) ≡ true = ap (λ (n : ℤ). int_eq n (pos w.id)) r.id ∙ int_eq_equiv.refl (pos w.id) in
-      and_from _ _ (and_from _ _ (and_from _ _ (and_from _ _ (waiting given w.asked w.phase h.stage) version) community) response) id
+      and_from _ _ (waiting given w.asked w.phase h.stage) (and_from _ _ (and_from _ _ (and_from _ _ version community) response) id)
 
   -- an honest reply to the waiting request
-  pub taken : (given : List VarBind) (w : Walker) (m : Message) → Stands Next Got first w given → IsReplyTo Next Got Large w m
+  pub taken : (given : List VarBind) (w : Walker) (m : Message) → Reaches Next Got first w given → IsReplyTo Next Got Large w m
       → Advances Next Got Large first w given (take_of w m).0 (take_of w m).1
   taken given w m h r = rw (awaited given w m h r) (reads_content given w m w.phase refl h h.stage r.content)

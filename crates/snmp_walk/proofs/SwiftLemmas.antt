@@ -27,10 +27,10 @@ use Rattle.snmp_walk.specs.Walker.{Walker, IsMethod, IsWalker}
 use Rattle.snmp_walk.specs.Walk.{rest_of}
 use Rattle.snmp_walk.specs.Request.{request_of, request_kind, request_repetitions}
 use Rattle.snmp_walk.specs.Taken.{is_over, if_present}
-use Rattle.snmp_walk.specs.Standing.{IsChain, IsLarge, IsOpening, IsStage, IsRefused, IsPaced, opening_gets, Stands, IsOneTable}
-use Rattle.snmp_walk.specs.Link.{Agents, agent_in, next_of, got_of, IsTooLarge, IsUnanswered, AreViews}
+use Rattle.snmp_walk.specs.Standing.{IsChain, IsLarge, IsOpening, IsStage, IsReplyTooLarge, IsPaced, opening_gets, Reaches, IsOneTable}
+use Rattle.snmp_walk.specs.Link.{Agents, agent_in, IsNextFrom, IsGotFrom, IsTooLarge, IsUnanswered, AreViews}
 use Rattle.snmp_walk.specs.Room.{HasRoom, HasRoomForEach, HasIds}
-use Rattle.snmp_walk.specs.Facts.{IsLawfulEnd, IsSwiftEnd}
+use Rattle.snmp_walk.specs.Facts.{IsLawfulEnd, HasNone, IsDoneOrStopped, IsDoneOrCutOff, gets}
 use Rattle.snmp_walk.proofs.HonestLemmas.{request_in_range, one_answer, get_phase, bulk_phase, set_phase}
 use Rattle.snmp_walk.proofs.BulkLemmas.{IsOneBulk, one_bulk}
 use Rattle.snmp_walk.proofs.RoomLemmas.{room_fits, room_small, room_exception}
@@ -42,6 +42,11 @@ gets_few mode.Plain = omega arith
 gets_few mode.Include = omega arith
 gets_few mode.NoLast = omega arith
 
+opening_is_get : (m : Mode) → opening_gets m ≤ gets m
+opening_is_get mode.Plain = omega arith
+opening_is_get mode.Include = omega arith
+opening_is_get mode.NoLast = omega arith
+
 -- each request of a walk is served
 served : (p : Phase) (m : Method) → IsServed (request_kind p m)
 served phase.First m = tt
@@ -49,6 +54,29 @@ served phase.Rows method.Next = tt
 served phase.Rows (method.Bulk r) = tt
 served phase.Last m = tt
 served phase.Over m = tt
+
+module _ (agents : Agents) (first : Walker) (view : MibView) (answer : VarBind) (table : IsOneTable (variables view) answer (IsNextFrom agents) (IsGotFrom agents) first)
+    (s : List ℕ) (begins : first.asked ≡ first.root ++ s) where
+  -- what is given before the instances below the root is the same
+  one_opening : (m : Mode) (f g : List VarBind) → IsOpening (IsGotFrom agents) m first.asked f → IsOpening (IsGotFrom agents) m first.asked g → f ≡ g
+  one_opening mode.Plain f g h k = h ∙ sym k
+  one_opening mode.Include f g h k = h.2 ∙ ap if_present (table.answer h.0 h.1 ∙ sym (table.answer k.0 k.1)) ∙ sym k.2
+  one_opening mode.NoLast f g h k = h ∙ sym k
+
+  -- how many requests there are
+  pub few_ids : (w : Walker) (given : List VarBind) (p : Phase) → IsStage (IsNextFrom agents) (IsGotFrom agents) first given w.asked p
+      → IsPaced (IsGotFrom agents) first given w.id p → w.id ≤ first.id + length (rest_of first.root first.asked (variables view)) + gets first.mode
+  few_ids w given phase.First stage pace = omega (arith, pace)
+  few_ids w given phase.Rows stage pace =
+      let rest = trail_rest (variables view) answer (IsNextFrom agents) (IsGotFrom agents) first table s begins first.asked stage.trail stage.is_trail in
+      let same : pace.0 ≡ stage.front = one_opening first.mode pace.0 stage.front pace.3 stage.opening in
+      let behind : List VarBind = rest_of first.root (last_name first.asked stage.trail) (variables view) in
+      let long : length (rest_of first.root first.asked (variables view)) ≡ length stage.trail + length behind = ap length rest ∙ length-append stage.trail behind in
+      let parts : length pace.0 + length pace.1 ≡ length stage.front + length stage.trail =
+      sym (length-append pace.0 pace.1) ∙ ap length (sym pace.2 ∙ stage.parts) ∙ length-append stage.front stage.trail in
+      omega (arith, pace.4, opening_is_get first.mode, ap length same, long, parts)
+  few_ids w given phase.Last stage pace = let one : gets first.mode ≡ 1 = ap gets stage.2 in omega (arith, pace, one)
+  few_ids w given phase.Over stage pace = absurd pace
 
 module _ (agents : Agents) (first : Walker) (view : MibView) (good_views : AreViews agents.tables) (one_view : agents.tables ≡ view ∷ []) (rooms : HasRoomForEach agents view first) where
   view_good : IsMibView view
@@ -58,10 +86,10 @@ module _ (agents : Agents) (first : Walker) (view : MibView) (good_views : AreVi
   abbrev EndRoom : List ℕ → Type 0
   EndRoom o = HasRoom agents (record { name = o; value = end_of_mib_view })
 
-  of_next : (o : List ℕ) (p : VarBind) → next_of agents o p → IsNext view o p
+  of_next : (o : List ℕ) (p : VarBind) → IsNextFrom agents o p → IsNext view o p
   of_next o p n = subst (λ (v : MibView). IsNext v o p) (only_one view n.0 agents.tables one_view n.1) n.2
 
-  of_get : (o : List ℕ) (p : VarBind) → got_of agents o p → IsGet view o p
+  of_get : (o : List ℕ) (p : VarBind) → IsGotFrom agents o p → IsGet view o p
   of_get o p n = subst (λ (v : MibView). IsGet v o p) (only_one view n.0 agents.tables one_view n.1) n.2
 
   next_room : (o : List ℕ) (p : VarBind) → EndRoom o → IsNext view o p → HasRoom agents p
@@ -79,37 +107,37 @@ module _ (agents : Agents) (first : Walker) (view : MibView) (good_views : AreVi
   inside_room root o p inside (end_of_view none is) =
       let outside : is_inside root p ≡ false = ap (is_inside root) is in absurd (false≢true (sym outside ∙ inside))
 
-  trail_room : (o : List ℕ) (trail : List VarBind) → EndRoom o → IsTrail (next_of agents) first.root o trail → EndRoom (last_name o trail)
+  trail_room : (o : List ℕ) (trail : List VarBind) → EndRoom o → IsTrail (IsNextFrom agents) first.root o trail → EndRoom (last_name o trail)
   trail_room o [] end h = end
   trail_room o (p ∷ trail) end h =
       trail_room p.name trail (room_exception agents p.name end_of_mib_view p.value tt (inside_room first.root o p h.1 (of_next o p h.0))) h.2
 
   -- the name that is asked
-  stage_room : (given : List VarBind) (o : List ℕ) (p : Phase) → IsStage (next_of agents) (got_of agents) first given o p → EndRoom o
+  stage_room : (given : List VarBind) (o : List ℕ) (p : Phase) → IsStage (IsNextFrom agents) (IsGotFrom agents) first given o p → EndRoom o
   stage_room given o phase.First h = subst EndRoom (sym h.1) (rooms.exceptions end_of_mib_view tt)
   stage_room given o phase.Rows h = subst EndRoom (sym h.last) (trail_room first.asked h.trail (rooms.exceptions end_of_mib_view tt) h.is_trail)
   stage_room given o phase.Last h = subst EndRoom (sym h.1) (rooms.exceptions end_of_mib_view tt)
   stage_room given o phase.Over h = absurd h
 
-  no_large_next : (o : List ℕ) → EndRoom o → IsLarge (next_of agents) (IsTooLarge agents) o → ⊥
+  no_large_next : (o : List ℕ) → EndRoom o → IsLarge (IsNextFrom agents) (IsTooLarge agents) o → ⊥
   no_large_next o end h = room_small agents h.0 (next_room o h.0 end (of_next o h.0 h.1)) h.2
 
-  no_large_get : (o : List ℕ) → o ≡ first.asked → IsLarge (got_of agents) (IsTooLarge agents) o → ⊥
+  no_large_get : (o : List ℕ) → o ≡ first.asked → IsLarge (IsGotFrom agents) (IsTooLarge agents) o → ⊥
   no_large_get o e h = room_small agents h.0 (get_room h.0 (subst (λ (n : List ℕ). IsGet view n h.0) e (of_get o h.0 h.1))) h.2
 
   -- no answer is too large
-  no_refusal : (given : List VarBind) (o : List ℕ) (p : Phase) → IsStage (next_of agents) (got_of agents) first given o p
-      → IsRefused (next_of agents) (got_of agents) (IsTooLarge agents) p o → ⊥
+  no_refusal : (given : List VarBind) (o : List ℕ) (p : Phase) → IsStage (IsNextFrom agents) (IsGotFrom agents) first given o p
+      → IsReplyTooLarge (IsNextFrom agents) (IsGotFrom agents) (IsTooLarge agents) p o → ⊥
   no_refusal given o phase.First h large = no_large_get o h.1 large
   no_refusal given o phase.Rows h large = no_large_next o (stage_room given o phase.Rows h) large
   no_refusal given o phase.Last h large = no_large_get o h.1 large
   no_refusal given o phase.Over h large = absurd h
 
-  module _ (w : Walker) (given : List VarBind) (good : IsWalker w) (h : Stands (next_of agents) (got_of agents) first w given) where
+  module _ (w : Walker) (given : List VarBind) (good : IsWalker w) (h : Reaches (IsNextFrom agents) (IsGotFrom agents) first w given) where
     waits : is_over w.phase ≡ false
     waits = by_phase w.phase h.stage
       where
-        by_phase : (p : Phase) → IsStage (next_of agents) (got_of agents) first given w.asked p → is_over p ≡ false
+        by_phase : (p : Phase) → IsStage (IsNextFrom agents) (IsGotFrom agents) first given w.asked p → is_over p ≡ false
         by_phase phase.First s = refl
         by_phase phase.Rows s = refl
         by_phase phase.Last s = refl
@@ -131,9 +159,9 @@ module _ (agents : Agents) (first : Walker) (view : MibView) (good_views : AreVi
         length (canon (record { version = pos 1; community = c; kind = kind.Response; id = pos w.id; a = pos 0; b = pos 0; bindings = p ∷ [] })) in
         subst (λ (c : List ℕ). Size c ≤ agents.max_size) (sym community) (room_fits agents p w.id good.id room)
 
-    asked_at_get : (p : Phase) → (p ≡ phase.First) ⊎ (p ≡ phase.Last) → IsStage (next_of agents) (got_of agents) first given w.asked p → w.asked ≡ first.asked
-    asked_at_get p (inl e) s = (subst (IsStage (next_of agents) (got_of agents) first given w.asked) e s).1
-    asked_at_get p (inr e) s = (subst (IsStage (next_of agents) (got_of agents) first given w.asked) e s).1
+    asked_at_get : (p : Phase) → (p ≡ phase.First) ⊎ (p ≡ phase.Last) → IsStage (IsNextFrom agents) (IsGotFrom agents) first given w.asked p → w.asked ≡ first.asked
+    asked_at_get p (inl e) s = (subst (IsStage (IsNextFrom agents) (IsGotFrom agents) first given w.asked) e s).1
+    asked_at_get p (inr e) s = (subst (IsStage (IsNextFrom agents) (IsGotFrom agents) first given w.asked) e s).1
 
     -- the whole response fits
     whole_fits : (r : Message) → IsWhole view (request_of w) r → Fits agents.max_size r
@@ -187,20 +215,14 @@ module _ (agents : Agents) (first : Walker) (view : MibView) (good_views : AreVi
         let same : u.view ≡ view = only_one view u.view agents.tables one_view u.one in
         no_drop u.why (subst (λ (v : MibView). IsDropped (agent_in agents v) (canon (request_of w)) u.why) same u.dropped)
 
-  module _ (answer : VarBind) (table : IsOneTable (variables view) answer (next_of agents) (got_of agents) first) (s : List ℕ) (begins : first.asked ≡ first.root ++ s) where
-    -- what is given before the instances below the root is the same
-    one_opening : (m : Mode) (f g : List VarBind) → IsOpening (got_of agents) m first.asked f → IsOpening (got_of agents) m first.asked g → f ≡ g
-    one_opening mode.Plain f g h k = h ∙ sym k
-    one_opening mode.Include f g h k = h.2 ∙ ap if_present (table.answer h.0 h.1 ∙ sym (table.answer k.0 k.1)) ∙ sym k.2
-    one_opening mode.NoLast f g h k = h ∙ sym k
-
+  module _ (answer : VarBind) (table : IsOneTable (variables view) answer (IsNextFrom agents) (IsGotFrom agents) first) (s : List ℕ) (begins : first.asked ≡ first.root ++ s) where
     -- ids are enough
-    low_id : (w : Walker) (given : List VarBind) (p : Phase) → HasIds first view → IsStage (next_of agents) (got_of agents) first given w.asked p
-        → IsPaced (got_of agents) first given w.id p → w.id < 2147483647
+    low_id : (w : Walker) (given : List VarBind) (p : Phase) → HasIds first view → IsStage (IsNextFrom agents) (IsGotFrom agents) first given w.asked p
+        → IsPaced (IsGotFrom agents) first given w.id p → w.id < 2147483647
     low_id w given phase.First ids stage pace = omega (arith, ids, pace)
     low_id w given phase.Rows ids stage pace =
-        let rest = trail_rest (variables view) answer (next_of agents) (got_of agents) first table s begins first.asked stage.trail stage.is_trail in
-        let same : pace.0 ≡ stage.front = one_opening first.mode pace.0 stage.front pace.3 stage.opening in
+        let rest = trail_rest (variables view) answer (IsNextFrom agents) (IsGotFrom agents) first table s begins first.asked stage.trail stage.is_trail in
+        let same : pace.0 ≡ stage.front = one_opening agents first view answer table s begins first.mode pace.0 stage.front pace.3 stage.opening in
         let behind : List VarBind = rest_of first.root (last_name first.asked stage.trail) (variables view) in
         let long : length (rest_of first.root first.asked (variables view)) ≡ length stage.trail + length behind = ap length rest ∙ length-append stage.trail behind in
         let parts : length pace.0 + length pace.1 ≡ length stage.front + length stage.trail =
@@ -210,17 +232,30 @@ module _ (agents : Agents) (first : Walker) (view : MibView) (good_views : AreVi
     low_id w given phase.Over ids stage pace = absurd pace
 
     -- the ends that are left
-    pub swift_end : (rows : List VarBind) (end : WalkEnd) → HasIds first view → IsLawfulEnd agents first rows end → IsSwiftEnd end
-    swift_end rows (ending.Done n) ids h = tt
-    swift_end rows (ending.Fault status index) ids h = no_refusal rows h.0.asked h.0.phase h.1.stage h.2.2
-    swift_end rows (ending.NoProgress o) ids h =
-        no_large_next h.0.asked (stage_room rows h.0.asked h.0.phase h.1.stage) (subst (IsLarge (next_of agents) (IsTooLarge agents)) h.2.1 h.2.2)
-    swift_end rows ending.BadReply ids h = h.5
-    swift_end rows (ending.NotIncreasing o p) ids h = h.5
-    swift_end rows ending.TooManyRequests ids h =
+    pub left_end : (Silent : Walker → Type 0) (rows : List VarBind) (end : WalkEnd) → HasIds first view → IsLawfulEnd agents Silent first rows end → IsDoneOrCutOff end
+    left_end Silent rows (ending.Done n) ids h = tt
+    left_end Silent rows (ending.Fault status index) ids h = no_refusal rows h.0.asked h.0.phase h.1.stage h.2.2
+    left_end Silent rows (ending.NoProgress o) ids h =
+        no_large_next h.0.asked (stage_room rows h.0.asked h.0.phase h.1.stage) (subst (IsLarge (IsNextFrom agents) (IsTooLarge agents)) h.2.1 h.2.2)
+    left_end Silent rows ending.BadReply ids h = h.5
+    left_end Silent rows (ending.NotIncreasing o p) ids h = h.5
+    left_end Silent rows ending.TooManyRequests ids h =
         let low : h.0.id < 2147483647 = low_id h.0 h.1 h.0.phase ids h.4.stage h.4.paced in
         absurd (omega (arith, low, h.5))
-    swift_end rows ending.RequestTooLong ids h = h.5
+    left_end Silent rows ending.RequestTooLong ids h = h.5
+    left_end Silent rows ending.NoResponse ids h = tt
+    left_end Silent rows ending.Link ids h = tt
+    left_end Silent rows (ending.Sink fault) ids h = tt
+
+    -- where no reply was lost
+    pub swift_end : (rows : List VarBind) (end : WalkEnd) → HasIds first view → IsLawfulEnd agents (HasNone agents) first rows end → IsDoneOrStopped end
     swift_end rows ending.NoResponse ids h = answered h.0 rows h.1 h.2 h.3
+    swift_end rows (ending.Done n) ids h = tt
+    swift_end rows (ending.Fault status index) ids h = left_end (HasNone agents) rows (ending.Fault status index) ids h
+    swift_end rows (ending.NoProgress o) ids h = left_end (HasNone agents) rows (ending.NoProgress o) ids h
+    swift_end rows ending.BadReply ids h = h.5
+    swift_end rows (ending.NotIncreasing o p) ids h = h.5
+    swift_end rows ending.TooManyRequests ids h = left_end (HasNone agents) rows ending.TooManyRequests ids h
+    swift_end rows ending.RequestTooLong ids h = h.5
     swift_end rows ending.Link ids h = tt
     swift_end rows (ending.Sink fault) ids h = tt

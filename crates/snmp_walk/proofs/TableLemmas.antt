@@ -11,7 +11,7 @@ use Rattle.snmp_walk.specs.Walk.{rows_below, rows_after, rows_named, or_only, wa
 use Rattle.snmp_walk.specs.Trail.{last_name, IsTrail, IsAtEnd}
 use Rattle.snmp_walk.specs.Taken.{if_present}
 use Rattle.snmp_walk.specs.Walker.{Walker}
-use Rattle.snmp_walk.specs.Standing.{IsOpening, IsAlone, IsPart, IsWhole, IsOneTable}
+use Rattle.snmp_walk.specs.Standing.{IsOpening, IsAlone, IsPartOfWalk, IsWholeWalk, IsOneTable}
 use Rattle.snmp_walk.proofs.OrderLemmas.{after-irrefl, not_after, after-trans, outside_after, below_after_wire}
 use Rattle.snmp_walk.proofs.NameLemmas.{below_from_test}
 
@@ -61,7 +61,7 @@ first_of_rows [] o p more h e = let no : ⊥ = cc in absurd no
 first_of_rows (r ∷ rows) o p more h e = first_by r rows o p more (comes_after o r.name) refl h.0 e (first_of_rows rows o p more h.1)
 
 -- none of these is below the root
-none_below : (root s : List ℕ) (p : VarBind) (more : List VarBind) → comes_after (root ++ s) p.name ≡ true → is_below root p.name ≡ false → AreAfter p.name more → rows_below root more ≡ []
+none_below : (root s : List ℕ) (p : VarBind) (more : List VarBind) → comes_after (root ++ s) p.name ≡ true → is_below p.name root ≡ false → AreAfter p.name more → rows_below root more ≡ []
 none_below root s p [] c out h = refl
 none_below root s p (q ∷ more) c out h = rw (outside_after root s p.name q.name c out h.0) (none_below root s p more c out h.1)
 
@@ -76,8 +76,8 @@ first_value [] o p more h e = let no : ⊥ = cc in absurd no
 first_value (r ∷ rows) o p more h e = value_by r rows o p more (comes_after o r.name) h.1 e (first_value rows o p more h.3)
 
 module _ (rows : List VarBind) (rising : AreRising rows) (instances : AreInstances rows) (root : List ℕ) where
-  outside_parts : (p : VarBind) → is_end p.value ≡ false → is_inside root p ≡ false → is_below root p.name ≡ false
-  outside_parts p v h = let e : (not (is_end p.value) && is_below root p.name) ≡ is_below root p.name = ap (λ (b : Bool). not b && is_below root p.name) v in sym e ∙ h
+  outside_parts : (p : VarBind) → is_end p.value ≡ false → is_inside root p ≡ false → is_below p.name root ≡ false
+  outside_parts p v h = let e : (not (is_end p.value) && is_below p.name root) ≡ is_below p.name root = ap (λ (b : Bool). not b && is_below p.name root) v in sym e ∙ h
 
   -- an answer below the root is the next row of the rest
   pub rest_next : (o : List ℕ) (p : VarBind) (behind : List VarBind) → behind ≡ rows_after o rows → p ≡ or_end o behind → is_inside root p ≡ true
@@ -86,21 +86,21 @@ module _ (rows : List VarBind) (rising : AreRising rows) (instances : AreInstanc
   rest_next o p (q ∷ more) e is inside =
       let first = first_of_rows rows o q more rising (sym e) in
       let here : rows_after p.name rows ≡ more = ap (λ (r : VarBind). rows_after r.name rows) is ∙ first.behind in
-      let below : is_below root p.name ≡ true = (and_parts (not (is_end p.value)) (is_below root p.name) inside).1 in
-      filter-commute (λ row. comes_after o row.name) (λ row. is_below root row.name) rows
+      let below : is_below p.name root ≡ true = (and_parts (not (is_end p.value)) (is_below p.name root) inside).1 in
+      filter-commute (λ row. comes_after o row.name) (λ row. is_below row.name root) rows
       ∙ ap (rows_below root) (sym e ∙ ap (λ (r : VarBind). r ∷ more) (sym is))
-      ∙ rw below (ap (λ (s : List VarBind). p ∷ s) (ap (rows_below root) (sym here) ∙ sym (filter-commute (λ row. comes_after p.name row.name) (λ row. is_below root row.name) rows)))
+      ∙ rw below (ap (λ (s : List VarBind). p ∷ s) (ap (rows_below root) (sym here) ∙ sym (filter-commute (λ row. comes_after p.name row.name) (λ row. is_below row.name root) rows)))
 
   -- an answer that isn't below the root has no row below it behind it
   pub rest_ends : (o s : List ℕ) (p : VarBind) (behind : List VarBind) → o ≡ root ++ s → behind ≡ rows_after o rows → p ≡ or_end o behind → is_inside root p ≡ false
       → rest_of root o rows ≡ []
-  rest_ends o s p [] at e is out = filter-commute (λ row. comes_after o row.name) (λ row. is_below root row.name) rows ∙ ap (rows_below root) (sym e)
+  rest_ends o s p [] at e is out = filter-commute (λ row. comes_after o row.name) (λ row. is_below row.name root) rows ∙ ap (rows_below root) (sym e)
   rest_ends o s p (q ∷ more) at e is out =
       let first = first_of_rows rows o q more rising (sym e) in
       let value = first_value rows o q more instances (sym e) in
-      let out_q : is_below root q.name ≡ false = outside_parts q value (ap (is_inside root) (sym is) ∙ out) in
+      let out_q : is_below q.name root ≡ false = outside_parts q value (ap (is_inside root) (sym is) ∙ out) in
       let comes : comes_after (root ++ s) q.name ≡ true = ap (λ (n : List ℕ). comes_after n q.name) (sym at) ∙ first.comes in
-      filter-commute (λ row. comes_after o row.name) (λ row. is_below root row.name) rows ∙ ap (rows_below root) (sym e)
+      filter-commute (λ row. comes_after o row.name) (λ row. is_below row.name root) rows ∙ ap (rows_below root) (sym e)
       ∙ rw out_q (none_below root s q more comes out_q first.after)
 
 -- what only holds of a mode
@@ -134,7 +134,7 @@ module _ (rows : List VarBind) (got : VarBind) (Next Got : List ℕ → VarBind 
       → (u : List ℕ) × (last_name o trail ≡ first.root ++ u)
   trail_begins o t [] at h = (t, at)
   trail_begins o t (p ∷ trail) at h =
-      let below = below_from_test first.root p.name (and_parts (not (is_end p.value)) (is_below first.root p.name) h.1).1 in
+      let below = below_from_test first.root p.name (and_parts (not (is_end p.value)) (is_below p.name first.root) h.1).1 in
       trail_begins p.name below.0 trail below.2 h.2
 
   -- a trail that is at its end is the rest
@@ -185,7 +185,7 @@ module _ (rows : List VarBind) (got : VarBind) (Next Got : List ℕ → VarBind 
       trail_ends trail h end ∙ ap (λ (f : List VarBind). f ++ trail) (sym opening)
 
   -- what was given is a beginning of the walk
-  pub part_is : (given : List VarBind) → IsPart Next Got first given → (more : List VarBind) × (walk_from first.mode first.root first.asked got rows ≡ given ++ more)
+  pub part_is : (given : List VarBind) → IsPartOfWalk Next Got first given → (more : List VarBind) × (walk_from first.mode first.root first.asked got rows ≡ given ++ more)
   part_is given (inl none) = (All, ap (λ (g : List VarBind). g ++ All) (sym none))
   part_is given (inr (inl h)) =
       let part = part_given first.mode h.1.front h.1.trail h.1.opening h.1.is_trail in
@@ -193,7 +193,7 @@ module _ (rows : List VarBind) (got : VarBind) (Next Got : List ℕ → VarBind 
   part_is given (inr (inr h)) = ([], alone_whole given h ∙ sym (append-nil given))
 
   -- at its end it is the walk
-  pub whole_is : (given : List VarBind) → IsWhole Next Got first given → given ≡ walk_from first.mode first.root first.asked got rows
+  pub whole_is : (given : List VarBind) → IsWholeWalk Next Got first given → given ≡ walk_from first.mode first.root first.asked got rows
   whole_is given (inl h) =
       let g = h.1 in
       let end = subst (IsAtEnd Next first.root) g.last h.2 in
@@ -201,14 +201,14 @@ module _ (rows : List VarBind) (got : VarBind) (Next Got : List ℕ → VarBind 
   whole_is given (inr h) = sym (alone_whole given h)
 
 -- behind the root as it is sent stand all instances below it
-wire_first : (root : List ℕ) (r : VarBind) (rows : List VarBind) (b : Bool) → is_below root r.name ≡ b → 3 ≤ length r.name → rest_of root (wire root) rows ≡ rows_below root rows
+wire_first : (root : List ℕ) (r : VarBind) (rows : List VarBind) (b : Bool) → is_below r.name root ≡ b → 3 ≤ length r.name → rest_of root (wire root) rows ≡ rows_below root rows
     → rows_after (wire root) (cond b (r ∷ rows_below root rows) (rows_below root rows)) ≡ cond b (r ∷ rows_below root rows) (rows_below root rows)
 wire_first root r rows true e long h = rw (below_after_wire root r.name long e) (ap (λ (t : List VarBind). r ∷ t) h)
 wire_first root r rows false e long h = h
 
 pub rest_from_wire : (root : List ℕ) (rows : List VarBind) → AreInstances rows → rest_of root (wire root) rows ≡ rows_below root rows
 rest_from_wire root [] h = refl
-rest_from_wire root (r ∷ rows) h = wire_first root r rows (is_below root r.name) refl h.0 (rest_from_wire root rows h.3)
+rest_from_wire root (r ∷ rows) h = wire_first root r rows (is_below r.name root) refl h.0 (rest_from_wire root rows h.3)
 
 -- a walk that isn't resumed
 pub walk_from_wire : (m : Mode) (root : List ℕ) (got : VarBind) (rows : List VarBind) → AreInstances rows → walk_from m root (wire root) got rows ≡ walk_of m root got rows

@@ -6,7 +6,7 @@ use Rattle.std.specs.Prelude.{not}
 use Rattle.std.specs.List.{list_any}
 use Rattle.snmp_wire.specs.Message.{VarBind}
 use Rattle.snmp_walk.specs.Names.{is_inside, is_end, is_missing, is_below, comes_after}
-use Rattle.snmp_walk.specs.Trail.{last_name, IsTrail, IsAtEnd, AreAnswers}
+use Rattle.snmp_walk.specs.Trail.{last_name, IsTrail, IsAtEnd, AreLawfulReplies}
 use Rattle.snmp_walk.specs.Taken.{inside_front, rising_front}
 use Rattle.snmp_walk.specs.Standing.{IsChain}
 
@@ -26,9 +26,9 @@ pub record IsFront (Next : List ℕ → VarBind → Type 0) (root o : List ℕ) 
   pub leaves : length inside < length bindings → IsAtEnd Next root (last_name o inside)
   pub short : length inside ≤ length bindings
 
-module _ (Next Got : List ℕ → VarBind → Type 0) (laws : AreAnswers Next Got) (root : List ℕ) where
+module _ (Next Got : List ℕ → VarBind → Type 0) (laws : AreLawfulReplies Next Got) (root : List ℕ) where
   inside_rises : (o : List ℕ) (p : VarBind) → Next o p → is_inside root p ≡ true → comes_after o p.name ≡ true
-  inside_rises o p h inside = laws.rises o p h (not-true (is_end p.value) (and_parts (not (is_end p.value)) (is_below root p.name) inside).0)
+  inside_rises o p h inside = laws.rises o p h (not-true (is_end p.value) (and_parts (not (is_end p.value)) (is_below p.name root) inside).0)
 
   front_first : (o : List ℕ) (p : VarBind) (more inside rows : List VarBind) (is_in : Bool) → is_inside root p ≡ is_in → Next o p
       → IsFront Next root p.name more inside rows

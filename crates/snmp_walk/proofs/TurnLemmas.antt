@@ -1,7 +1,7 @@
 -- What was heard is taken, and isn't passed over.
 use Rattle.std.proofs.Common.{◌≡◌, inl, inr, ℕ, Bool, true, false, cond, List, [], ◌∷◌, ◌++◌, refl, sym, ◌∙◌, ap, subst, Option, Some, None}
 use Rattle.std.proofs.lemmas.Bool.{false≢true}
-use Rattle.std.specs.Prelude.{IfSome, IfNone, Result, Err}
+use Rattle.std.specs.Prelude.{IfSome, Result, Err}
 use Rattle.snmp_wire.specs.Message.{VarBind, Message}
 use Rattle.snmp_walk.specs.declared.phase.Phase.{Phase}
 use Rattle.snmp_walk.specs.declared.phase.Phase.TheVariants as phase
@@ -89,10 +89,6 @@ pub if_some : {X : Type 0} (o : Option X) (P : X → Type 0) (x : X) → o ≡ S
 if_some None P x e h = let no : ⊥ = cc in absurd no
 if_some (Some y) P x e h = let same : y ≡ x = cc in subst P same h
 
-pub if_none : {X : Type 0} (o : Option X) (P : Type 0) → o ≡ None → IfNone o P → P
-if_none None P e h = h
-if_none (Some x) P e h = let no : ⊥ = cc in absurd no
-
 module _ {S : Type 0} (takes : S → VarBind → Result (Unit {0}) SinkFault → S → Type 0) (agents : Agents) (honest : Type 0) (w : Walker) (s t : S) where
   pub no_stray : (given : Step) (new : Walker) → IsTaken agents honest w given new → given ≡ step.Stray → ⊥
   no_stray given new h e = subst HasNews e h.news
@@ -112,6 +108,23 @@ module _ {S : Type 0} (takes : S → VarBind → Result (Unit {0}) SinkFault →
       (sink.0, is_refused h.message fault sink.1 sink.2 sink.4 h.from (ap rows_in (sym h.given_is) ∙ e ∙ sink.3) sink.5 sink.6 refl)
 
 pub reply_end : (agents : Agents) (honest : Type 0) (w : Walker) (given : Step) (new : Walker) (rows : List VarBind) (why : WalkEnd) → IsTaken agents honest w given new
-    → given ≡ step.Last rows why → why ≡ ending.Link → ⊥
-reply_end agents honest w given new rows why h e link =
-    let own : IsReplyEnd why = subst HasNews e h.news in subst IsReplyEnd link own
+    → given ≡ step.Last rows why → IsReplyEnd why
+reply_end agents honest w given new rows why h e = subst HasNews e h.news
+
+pub no_link : (why : WalkEnd) → Some why ≡ Some ending.Link → IsReplyEnd why → ⊥
+no_link why e own = let same : why ≡ ending.Link = cc in subst IsReplyEnd same own
+
+pub no_silence : (why : WalkEnd) → Some why ≡ Some ending.NoResponse → IsReplyEnd why → ⊥
+no_silence why e own = let same : why ≡ ending.NoResponse = cc in subst IsReplyEnd same own
+
+pub no_end : None ≡ Some ending.NoResponse → ⊥
+no_end e = cc
+
+pub link_end : Some ending.Link ≡ Some ending.NoResponse → ⊥
+link_end e = cc
+
+pub sink_end : (fault : SinkFault) → Some (ending.Sink fault) ≡ Some ending.NoResponse → ⊥
+sink_end fault e = cc
+
+pub no_link_end : None ≡ Some ending.Link → ⊥
+no_link_end e = cc

@@ -10,8 +10,8 @@ use Rattle.snmp_oid.specs.Identifier.{Precedes}
 use Rattle.snmp_wire.specs.Message.{Datum, VarBind, integer_value, octet_string, null_value, object_id, ip_address, counter32, gauge32, time_ticks, opaque_octets, counter64, no_such_object, no_such_instance, end_of_mib_view}
 use Rattle.snmp_table.specs.Table.{MibView, IsInstanceValue, IsMibView, IsGet, variable, unknown_object, unknown_instance, IsNext, successor, end_of_view}
 use Rattle.snmp_walk.specs.Names.{is_end, is_missing, comes_after}
-use Rattle.snmp_walk.specs.Trail.{AreAnswers}
-use Rattle.snmp_walk.specs.Link.{Agents, OneOf, next_of, got_of, AreViews}
+use Rattle.snmp_walk.specs.Trail.{AreLawfulReplies}
+use Rattle.snmp_walk.specs.Link.{Agents, OneOf, IsNextFrom, IsGotFrom, AreViews}
 use Rattle.snmp_walk.proofs.OrderLemmas.{less_longer, same_first}
 
 less_parts : (front : List ℕ) (n m : ℕ) (after behind : List ℕ) → n < m → slice_cmp nat_cmp (front ++ n ∷ after) (front ++ m ∷ behind) ≡ Less
@@ -80,7 +80,7 @@ view_of [] h view one = absurd one
 view_of (v ∷ views) h view (inl e) = subst IsMibView (sym e) h.0
 view_of (v ∷ views) h view (inr one) = view_of views h.1 view one
 
-pub views_answer : (agents : Agents) → AreViews agents.tables → AreAnswers (next_of agents) (got_of agents)
+pub views_answer : (agents : Agents) → AreViews agents.tables → AreLawfulReplies (IsNextFrom agents) (IsGotFrom agents)
 views_answer agents h = record {
   rises = λ o p n e. next_rises n.0 o p n.2 e;
   is_value = λ o p n. next_value n.0 (view_of agents.tables h n.0 n.1) o p n.2;

@@ -1,16 +1,20 @@
 -- What holds of a whole run.
-use Rattle.std.specs.Prelude.{◌≡◌, ℕ, List, [], ◌∷◌, ◌++◌}
+use Rattle.std.specs.Prelude.{◌≡◌, ℕ, ◌+◌, ◌*◌, ◌≤◌, ◌⊎◌, List, [], ◌∷◌, ◌++◌, length, replicate, Option}
+use Rattle.snmp_walk.specs.declared.mode.Mode.{Mode}
+use Rattle.snmp_walk.specs.declared.mode.Mode.TheVariants as mode
+use Rattle.snmp_walk.specs.Traffic.{Traffic, Lost}
+use Rattle.snmp_walk.specs.Run.{Try, sent_by, AreTries}
 use Rattle.snmp_wire.specs.Message.{VarBind}
 use Rattle.snmp_wire.specs.Canon.{canon}
 use Rattle.snmp_walk.specs.declared.end.WalkEnd.{WalkEnd}
 use Rattle.snmp_walk.specs.declared.end.WalkEnd.TheVariants as ending
 use Rattle.snmp_table.specs.Table.{MibView, IsGet}
 use Rattle.snmp_table.specs.Listing.{variables}
-use Rattle.snmp_walk.specs.Walk.{walk_from}
+use Rattle.snmp_walk.specs.Walk.{walk_from, rest_of}
 use Rattle.snmp_walk.specs.Walker.{Walker, IsWalker}
 use Rattle.snmp_walk.specs.Request.{request_of, first_phase}
-use Rattle.snmp_walk.specs.Standing.{Stands, IsPart, Ends}
-use Rattle.snmp_walk.specs.Link.{Agents, next_of, got_of, IsTooLarge, IsUnanswered}
+use Rattle.snmp_walk.specs.Standing.{Reaches, IsPartOfWalk, Ends}
+use Rattle.snmp_walk.specs.Link.{Agents, IsNextFrom, IsGotFrom, IsTooLarge, IsUnanswered}
 use Rattle.snmp_walk.specs.Room.{HasRoomForEach, HasIds}
 
 -- a walk of which nothing was taken yet, and which asks for the root or behind a name that begins with it
@@ -19,20 +23,37 @@ pub record IsFresh (w : Walker) : Type 0 where
   pub count : w.count ≡ 0
   pub begins : (s : List ℕ) × (w.asked ≡ w.root ++ s)
 
--- How a run may end over an honest link, after these bindings: w was waiting for the reply that ended it, which gave none of them where it was an error or had
--- no binding, and else the last.
-abbrev pub IsLawfulEnd : Agents → Walker → List VarBind → WalkEnd → Type 0
-IsLawfulEnd agents first rows ending.Link = Unit {0}
-IsLawfulEnd agents first rows (ending.Sink fault) = Unit {0}
-IsLawfulEnd agents first rows ending.NoResponse =
-    (w : Walker) × IsWalker w × Stands (next_of agents) (got_of agents) first w rows × IsUnanswered agents (canon (request_of w))
-IsLawfulEnd agents first rows (ending.Fault status index) =
-    (w : Walker) × Stands (next_of agents) (got_of agents) first w rows × Ends (next_of agents) (got_of agents) (IsTooLarge agents) first w rows (ending.Fault status index)
-IsLawfulEnd agents first rows (ending.NoProgress asked) =
-    (w : Walker) × Stands (next_of agents) (got_of agents) first w rows × Ends (next_of agents) (got_of agents) (IsTooLarge agents) first w rows (ending.NoProgress asked)
-IsLawfulEnd agents first rows why =
-    (w : Walker) × (given : List VarBind) × (more : List VarBind) × (rows ≡ given ++ more) × Stands (next_of agents) (got_of agents) first w given
-    × Ends (next_of agents) (got_of agents) (IsTooLarge agents) first w rows why
+-- How a run may end over an honest link, after these bindings: w was waiting for the reply that
+-- ended it, which gave none of them where it was an error or had no binding, and else the last.
+-- Where no reply came, `Silent` holds of the walker that waited.
+abbrev pub IsLawfulEnd : Agents → (Walker → Type 0) → Walker → List VarBind → WalkEnd → Type 0
+IsLawfulEnd agents Silent first rows ending.Link = Unit {0}
+IsLawfulEnd agents Silent first rows (ending.Sink fault) = Unit {0}
+IsLawfulEnd agents Silent first rows ending.NoResponse =
+    (w : Walker) × IsWalker w × Reaches (IsNextFrom agents) (IsGotFrom agents) first w rows × Silent w
+IsLawfulEnd agents Silent first rows (ending.Fault status index) =
+    (w : Walker) × Reaches (IsNextFrom agents) (IsGotFrom agents) first w rows
+    × Ends (IsNextFrom agents) (IsGotFrom agents) (IsTooLarge agents) first w rows (ending.Fault status index)
+IsLawfulEnd agents Silent first rows (ending.NoProgress asked) =
+    (w : Walker) × Reaches (IsNextFrom agents) (IsGotFrom agents) first w rows
+    × Ends (IsNextFrom agents) (IsGotFrom agents) (IsTooLarge agents) first w rows (ending.NoProgress asked)
+IsLawfulEnd agents Silent first rows why =
+    (w : Walker) × (given : List VarBind) × (more : List VarBind) × (rows ≡ given ++ more)
+    × Reaches (IsNextFrom agents) (IsGotFrom agents) first w given
+    × Ends (IsNextFrom agents) (IsGotFrom agents) (IsTooLarge agents) first w rows why
+
+-- The last datagrams sent are the request of w, once for each try, and the agents have no reply to
+-- it or the last deliveries used lost it.
+pub record HasNoReply (agents : Agents) (tries : ℕ) (old new : Traffic) (w : Walker) : Type 0 where
+  pub earlier : List (List ℕ)
+  pub sent : new.sent ≡ earlier ++ replicate tries (canon (request_of w))
+  pub lost : IsUnanswered agents (canon (request_of w))
+      ⊎ ((before : List (Option ℕ)) × (used : List (Option ℕ)) × (old.ahead ≡ before ++ (used ++ new.ahead))
+      × Lost agents (earlier ++ canon (request_of w) ∷ []) (canon (request_of w)) used tries 0)
+
+-- the agents have no reply to the request of w
+abbrev pub HasNone : Agents → Walker → Type 0
+HasNone agents w = IsUnanswered agents (canon (request_of w))
 
 -- what the walk gives of one table, `got` being what that answers to a Get of the name from which the walk begins
 abbrev pub walk_at : Walker → MibView → VarBind → List VarBind
@@ -43,20 +64,53 @@ IsDone (ending.Done n) = Unit {0}
 IsDone _ = ⊥
 
 -- the walk is done, or was stopped by the link or the sink
-abbrev pub IsSwiftEnd : WalkEnd → Type 0
-IsSwiftEnd (ending.Done n) = Unit {0}
-IsSwiftEnd ending.Link = Unit {0}
-IsSwiftEnd (ending.Sink fault) = Unit {0}
-IsSwiftEnd _ = ⊥
+abbrev pub IsDoneOrStopped : WalkEnd → Type 0
+IsDoneOrStopped (ending.Done n) = Unit {0}
+IsDoneOrStopped ending.Link = Unit {0}
+IsDoneOrStopped (ending.Sink fault) = Unit {0}
+IsDoneOrStopped _ = ⊥
 
--- what is promised of a run over an honest link, which gave these rows to the sink, and then the one that was refused, if any was
-pub record WalkFacts (agents : Agents) (first : Walker) (rows refused : List VarBind) (end : WalkEnd) : Type 0 where
-  pub part : IsPart (next_of agents) (got_of agents) first (rows ++ refused)
-  pub lawful : IsLawfulEnd agents first rows end
+-- or no reply came
+abbrev pub IsDoneOrCutOff : WalkEnd → Type 0
+IsDoneOrCutOff ending.NoResponse = Unit {0}
+IsDoneOrCutOff why = IsDoneOrStopped why
+
+-- What is promised of a run over an honest link over which nothing was sent before. It gave these
+-- rows to the sink, and then the one that was refused, if any was.
+pub record WalkFacts (agents : Agents) (tries : ℕ) (old : Traffic) (first : Walker) (rows refused : List VarBind) (end : WalkEnd) (new : Traffic) : Type 0 where
+  pub part : IsPartOfWalk (IsNextFrom agents) (IsGotFrom agents) first (rows ++ refused)
+  pub lawful : IsLawfulEnd agents (HasNoReply agents tries old new) first rows end
+  -- where each receive gives the reply to the latest datagram, none comes only where there is none
+  pub replied : old.ahead ≡ [] → IsLawfulEnd agents (HasNone agents) first rows end
   -- over one table what was given, with what was refused, is a beginning of the walk,
-  pub beginning : (view : MibView) (got : VarBind) → agents.tables ≡ view ∷ [] → IsGet view first.asked got → (more : List VarBind) × (walk_at first view got ≡ (rows ++ refused) ++ more)
+  pub beginning : (view : MibView) (got : VarBind) → agents.tables ≡ view ∷ [] → IsGet view first.asked got
+      → (more : List VarBind) × (walk_at first view got ≡ (rows ++ refused) ++ more)
   -- and where the walk is done it is all of it
-  pub all : (view : MibView) (got : VarBind) → agents.tables ≡ view ∷ [] → IsGet view first.asked got → IsDone end → rows ≡ walk_at first view got
-  -- Over one table, where there is room for each single binding and ids are enough, a walk is done unless the link or the sink stops it.
-  pub swift : (view : MibView) (got : VarBind) → agents.tables ≡ view ∷ [] → IsGet view first.asked got → HasRoomForEach agents view first → HasIds first view
-      → IsSwiftEnd end
+  pub all_at_done : (view : MibView) (got : VarBind) → agents.tables ≡ view ∷ [] → IsGet view first.asked got → IsDone end
+      → rows ≡ walk_at first view got
+  -- Over one table, where there is room for each single binding and ids are enough, a walk is done
+  -- unless the link or the sink stops it or no reply comes,
+  pub done_unless_lost : (view : MibView) (got : VarBind) → agents.tables ≡ view ∷ [] → IsGet view first.asked got
+      → HasRoomForEach agents view first → HasIds first view → IsDoneOrCutOff end
+  -- which it does where each receive gives the reply to the latest datagram
+  pub done_unless_stopped : (view : MibView) (got : VarBind) → agents.tables ≡ view ∷ [] → IsGet view first.asked got
+      → HasRoomForEach agents view first → HasIds first view → old.ahead ≡ [] → IsDoneOrStopped end
+
+-- how many Gets a walk of this mode may send beside the requests for the next instances
+abbrev pub gets : Mode → ℕ
+gets mode.NoLast = 0
+gets _ = 1
+
+-- What is promised of what a run sends, which gave these rows, over a link that keeps the list of
+-- the datagrams sent; and where it is honest and nothing was sent before.
+pub record SendFacts (agents : Agents) (honest : Type 0) (tries : ℕ) (old : Traffic) (first : Walker) (rows : List VarBind) (new : Traffic) : Type 0 where
+  pub requests : List Try
+  pub sent : new.sent ≡ old.sent ++ sent_by requests
+  -- ids rise by one, and each request is sent so many times at most
+  pub are_tries : AreTries tries first rows first.id requests
+  pub few : first.id + length requests ≤ 2147483648
+  -- at most 64 deliveries are used for each datagram sent
+  pub used : honest → (used : List (Option ℕ)) × (old.ahead ≡ used ++ new.ahead) × (length used ≤ 64 * length (sent_by requests))
+  -- over one table there is at most one request for each row below the root, one more, and a Get
+  pub few_of_table : honest → (view : MibView) (got : VarBind) → agents.tables ≡ view ∷ [] → IsGet view first.asked got
+      → length requests ≤ length (rest_of first.root first.asked (variables view)) + 1 + gets first.mode

@@ -7,8 +7,11 @@ pub mod Taken
 pub mod Reading
 pub mod Standing
 pub mod Link
+pub mod Traffic
+pub mod Heard
 pub mod Room
 pub mod Sink
 pub mod Run
 pub mod Facts
+pub mod Arena
 pub mod Memory

@@ -4,7 +4,7 @@ use Rattle.snmp_wire.specs.declared.kind.Kind.TheVariants as kind
 use Rattle.snmp_wire.specs.Message.{VarBind, Message}
 use Rattle.snmp_wire.specs.Canon.{canon}
 use Rattle.snmp_table.specs.Table.{MibView, IsGet, IsNext, IsMibView}
-use Rattle.snmp_agent.specs.Reply.{Agent, IsReply as IsAgentReply, IsDropped}
+use Rattle.snmp_agent.specs.Reply.{Agent, IsReply, IsDropped}
 use Rattle.snmp_agent.specs.declared.config.Why.{Why}
 use Rattle.snmp_walk.specs.Walker.{Walker}
 use Rattle.snmp_walk.specs.Request.{request_of}
@@ -16,8 +16,8 @@ pub record Agents : Type 0 where
   pub max_size : ℕ
 
 -- the response of one binding
-abbrev pub response : List ℕ → ℕ → VarBind → Message
-response community id p = record {
+abbrev pub single_response : List ℕ → ℕ → VarBind → Message
+single_response community id p = record {
   version = pos 1;
   community = community;
   kind = kind.Response;
@@ -33,28 +33,24 @@ OneOf [] x = ⊥
 OneOf (y ∷ ys) x = (x ≡ y) ⊎ OneOf ys x
 
 -- what may be answered to a GetNext of the name
-abbrev pub next_of : Agents → List ℕ → VarBind → Type 0
-next_of agents o p = (view : MibView) × OneOf agents.tables view × IsNext view o p
+abbrev pub IsNextFrom : Agents → List ℕ → VarBind → Type 0
+IsNextFrom agents o p = (view : MibView) × OneOf agents.tables view × IsNext view o p
 
 -- what may be answered to a Get of the name
-abbrev pub got_of : Agents → List ℕ → VarBind → Type 0
-got_of agents o p = (view : MibView) × OneOf agents.tables view × IsGet view o p
+abbrev pub IsGotFrom : Agents → List ℕ → VarBind → Type 0
+IsGotFrom agents o p = (view : MibView) × OneOf agents.tables view × IsGet view o p
 
 -- Some message of the agents has no room for the binding, by its id.
 abbrev pub IsTooLarge : Agents → VarBind → Type 0
-IsTooLarge agents p = (id : ℕ) × (id < 2 ^ 31) × (agents.max_size < length (canon (response agents.community id p)))
-
--- The count rose, or stands at its last value.
-abbrev pub Rose : ℕ → ℕ → Type 0
-Rose before now = (before < now) ⊎ (now ≡ 18446744073709551615)
+IsTooLarge agents p = (id : ℕ) × (id < 2 ^ 31) × (agents.max_size < length (canon (single_response agents.community id p)))
 
 -- one of them, with its table
 abbrev pub agent_in : Agents → MibView → Agent
 agent_in agents view = record { view = view; community = agents.community; max_size = agents.max_size }
 
 -- the octets are the reply of one of the agents to the datagram
-abbrev pub IsReply : Agents → List ℕ → List ℕ → Type 0
-IsReply agents datagram reply = (view : MibView) × OneOf agents.tables view × IsAgentReply (agent_in agents view) datagram reply
+abbrev pub IsReplyFrom : Agents → List ℕ → List ℕ → Type 0
+IsReplyFrom agents datagram reply = (view : MibView) × OneOf agents.tables view × IsReply (agent_in agents view) datagram reply
 
 -- one of the agents has no reply to the datagram
 pub record IsUnanswered (agents : Agents) (datagram : List ℕ) : Type 0 where
@@ -62,13 +58,6 @@ pub record IsUnanswered (agents : Agents) (datagram : List ℕ) : Type 0 where
   pub one : OneOf agents.tables view
   pub why : Why
   pub dropped : IsDropped (agent_in agents view) datagram why
-
--- what a receive gives, where each datagram that is sent is answered by the next receive: the reply to the latest one, or nothing where it has none
-abbrev pub Receives : Agents → Option (List ℕ) → Option ℕ → List ℕ → Type 0
-Receives agents None None octets = Unit {0}
-Receives agents None (Some n) octets = ⊥
-Receives agents (Some datagram) None octets = IsUnanswered agents datagram
-Receives agents (Some datagram) (Some n) octets = IsReply agents datagram (take n octets)
 
 -- the tables are tables of agents
 abbrev pub AreViews : List MibView → Type 0
@@ -79,7 +68,3 @@ AreViews (view ∷ views) = IsMibView view × AreViews views
 pub record AreLawful (agents : Agents) : Type 0 where
   pub views : AreViews agents.tables
   pub size : agents.max_size ≤ 65507
-
--- The datagram that was sent last is the request that the walk waits to be answered.
-abbrev pub IsSent : Option (List ℕ) → Walker → Type 0
-IsSent latest w = latest ≡ Some (canon (request_of w))

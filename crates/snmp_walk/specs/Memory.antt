@@ -1,29 +1,40 @@
 -- What is kept of a link to an agent in memory.
-use Rattle.std.specs.Prelude.{◌≡◌, ℕ, ◌≤◌, List, [], ◌∷◌, take, Option, Some, None, IfSome}
+use Rattle.std.specs.Prelude.{◌≡◌, ℕ, ◌≤◌, List, [], ◌∷◌, length, drop, Option, unwrap_or}
+use Rattle.snmp_table.specs.Table.{MibView}
+use Rattle.snmp_agent.specs.declared.config.Config.{Config}
 use Rattle.snmp_walk.specs.declared.memory.MemoryLink.{MemoryLink}
-use Rattle.snmp_walk.specs.Link.{Agents, AreLawful, IsReply, IsUnanswered}
+use Rattle.snmp_walk.specs.Link.{Agents, AreLawful}
+use Rattle.snmp_walk.specs.Traffic.{Traffic}
 
--- the one agent of the link
+-- the agents of these tables
+abbrev pub agents_over : List MibView → Config → Agents
+agents_over tables config = record {
+  tables = tables;
+  community = config.community.now;
+  max_size = config.max_size;
+}
+
+-- the agents of the link
 abbrev pub agents_of : MemoryLink → Agents
-agents_of link = record { tables = link.table.now ∷ []; community = link.config.community.now; max_size = link.config.max_size }
+agents_of link = agents_over link.tables.now link.config
 
--- the front of so many octets, if any are kept
-abbrev pub kept : Option ℕ → List ℕ → Option (List ℕ)
-kept None octets = None
-kept (Some n) octets = Some (take n octets)
+abbrev pub traffic_of : MemoryLink → Traffic
+traffic_of link = record {
+  sent = link.arena.datagrams;
+  ahead = drop link.used link.deliveries.now;
+}
 
--- the datagram that was sent last
-abbrev pub sent_last : MemoryLink → Option (List ℕ)
-sent_last link = kept link.sent link.request
-
--- what is kept is the reply to the datagram, where there is one
-abbrev pub Answered : Agents → Option (List ℕ) → Option (List ℕ) → Type 0
-Answered agents None reply = reply ≡ None
-Answered agents (Some datagram) None = IsUnanswered agents datagram
-Answered agents (Some datagram) (Some reply) = IsReply agents datagram reply
-
--- The link keeps its agent's reply to what was sent last.
+-- its agents serve tables
 pub record IsHonest (link : MemoryLink) : Type 0 where
   pub lawful : AreLawful (agents_of link)
-  pub short : IfSome link.length (λ n. n ≤ 65507)
-  pub answered : Answered (agents_of link) (sent_last link) (kept link.length link.reply)
+
+-- there is memory for so many more datagrams of so many octets together
+pub record IsReadyFor (link : MemoryLink) (sends octets : ℕ) : Type 0 where
+  pub places : sends ≤ link.arena.places
+  pub room : octets ≤ link.arena.room
+
+-- the number of the datagram whose reply the next delivery gives, 0 where it gives nothing, and
+-- the deliveries left after it
+abbrev pub IsNextNumber : List (List ℕ) → (ahead : List (Option ℕ)) → ℕ → (left : List (Option ℕ)) → Type 0
+IsNextNumber sent [] number left = (left ≡ []) × (number ≡ length sent)
+IsNextNumber sent (e ∷ next) number left = (left ≡ next) × (number ≡ unwrap_or e 0)

@@ -9,7 +9,7 @@ use Rattle.snmp_wire.specs.Message.Datum.{no_such_object, no_such_instance, end_
 
 -- the name begins with the root and is longer
 abbrev pub is_below : List ℕ → List ℕ → Bool
-is_below root name = starts_with nat_eq name root && nat_lt (length root) (length name)
+is_below name root = starts_with nat_eq name root && nat_lt (length root) (length name)
 
 -- the second name comes after the first
 abbrev pub comes_after : List ℕ → List ℕ → Bool
@@ -28,4 +28,4 @@ is_missing _ = false
 
 -- the binding is an instance below the root
 abbrev pub is_inside : List ℕ → VarBind → Bool
-is_inside root binding = not (is_end binding.value) && is_below root binding.name
+is_inside root binding = not (is_end binding.value) && is_below binding.name root

@@ -6,11 +6,11 @@ use Rattle.snmp_table.specs.Table.{MibView, IsRow}
 use Rattle.snmp_table.specs.Listing.{variables}
 use Rattle.snmp_walk.specs.Walk.{rest_of}
 use Rattle.snmp_walk.specs.Walker.{Walker}
-use Rattle.snmp_walk.specs.Link.{Agents, response}
+use Rattle.snmp_walk.specs.Link.{Agents, single_response}
 
--- The agents' messages have room for the binding: the response of it alone, with the greatest request-id, is no longer than their greatest size.
+-- The agents' messages have room for the binding: the single_response of it alone, with the greatest request-id, is no longer than their greatest size.
 abbrev pub HasRoom : Agents → VarBind → Type 0
-HasRoom agents p = length (canon (response agents.community 2147483647 p)) ≤ agents.max_size
+HasRoom agents p = length (canon (single_response agents.community 2147483647 p)) ≤ agents.max_size
 
 -- what stands in place of a value (RFC 3416, section 3)
 abbrev pub IsException : Datum → Type 0

@@ -1,19 +1,21 @@
 -- What a run of a walk hears and gives.
-use Rattle.std.specs.Prelude.{◌≡◌, ℕ, true, List, [], ◌∷◌, ◌++◌, Option, Some, None, Result, Err}
+use Rattle.std.specs.Prelude.{◌≡◌, ℕ, ◌+◌, ◌^◌, ◌<◌, ◌≤◌, ◌⊎◌, true, List, [], ◌∷◌, ◌++◌, replicate, Option, Some, None, Result, Err}
 use Rattle.snmp_wire.specs.Message.{VarBind, Message}
 use Rattle.snmp_wire.specs.Spelling.{Spells}
-use Rattle.snmp_walk.specs.Walker.{Walker}
 use Rattle.snmp_wire.specs.Canon.{canon}
+use Rattle.snmp_walk.specs.declared.phase.Phase.{Phase}
+use Rattle.snmp_walk.specs.declared.phase.Phase.TheVariants as phase
 use Rattle.snmp_walk.specs.declared.end.SinkFault.{SinkFault}
 use Rattle.snmp_walk.specs.declared.end.WalkEnd.{WalkEnd}
 use Rattle.snmp_walk.specs.declared.end.WalkEnd.TheVariants as ending
 use Rattle.snmp_walk.specs.declared.rows.Step.{Step}
 use Rattle.snmp_walk.specs.declared.rows.Step.TheVariants as step
+use Rattle.snmp_walk.specs.Walker.{Walker}
 use Rattle.snmp_walk.specs.Request.{request_of}
 use Rattle.snmp_walk.specs.Sink.{Given}
 use Rattle.snmp_walk.specs.Taken.{is_awaited, take_of}
 use Rattle.snmp_walk.specs.Standing.{IsReplyTo}
-use Rattle.snmp_walk.specs.Link.{Agents, next_of, got_of, IsTooLarge, IsUnanswered}
+use Rattle.snmp_walk.specs.Link.{Agents, OneOf, IsNextFrom, IsGotFrom, IsTooLarge}
 
 -- The datagram spells the reply that the walk waits for, which the agents gave where the link is honest.
 pub record IsHeard (agents : Agents) (honest : Type 0) (w : Walker) (datagram : List ℕ) : Type 0 where
@@ -21,7 +23,7 @@ pub record IsHeard (agents : Agents) (honest : Type 0) (w : Walker) (datagram : 
   pub spelt : Spells message datagram
   pub only : (m : Message) → Spells m datagram → m ≡ message
   pub awaited : is_awaited w message ≡ true
-  pub reply : honest → IsReplyTo (next_of agents) (got_of agents) (IsTooLarge agents) w message
+  pub reply : honest → IsReplyTo (IsNextFrom agents) (IsGotFrom agents) (IsTooLarge agents) w message
 
 -- the bindings that a step gives
 abbrev pub rows_in : Step → List VarBind
@@ -31,7 +33,7 @@ rows_in (step.Last rows why) = rows
 
 -- an honest reply, where the link is honest
 abbrev pub IsFrom : Agents → Type 0 → Walker → Message → Type 0
-IsFrom agents honest w m = honest → IsReplyTo (next_of agents) (got_of agents) (IsTooLarge agents) w m
+IsFrom agents honest w m = honest → IsReplyTo (IsNextFrom agents) (IsGotFrom agents) (IsTooLarge agents) w m
 
 -- One turn of a run, from a request to the rows that its reply brings: which rows the sink was given, how the walk ended, if it did, and what the walk and the sink are then.
 pub data Turns {S : Type 0} (takes : S → VarBind → Result (Unit {0}) SinkFault → S → Type 0) (agents : Agents) (honest : Type 0) (old : Walker) (before : S)
@@ -43,6 +45,38 @@ pub data Turns {S : Type 0} (takes : S → VarBind → Result (Unit {0}) SinkFau
   is_refused : (m : Message) (fault : SinkFault) (p : VarBind) (left : List VarBind) (between : S) → IsFrom agents honest old m → rows_in (take_of old m).0 ≡ rows ++ p ∷ left
       → Given takes before rows between → takes between p (Err fault) after
       → end ≡ Some (ending.Sink fault) → Turns takes agents honest old before rows end new after
-  is_silent : (honest → IsUnanswered agents (canon (request_of old))) → rows ≡ [] → after ≡ before
+  is_silent : rows ≡ [] → after ≡ before
       → end ≡ Some ending.NoResponse → Turns takes agents honest old before rows end new after
   fails : rows ≡ [] → after ≡ before → end ≡ Some ending.Link → Turns takes agents honest old before rows end new after
+
+-- a request of the walk, and how often it was sent
+pub record Try : Type 0 where
+  pub by : Walker
+  pub times : ℕ
+
+-- the datagrams that were sent
+abbrev pub sent_by : List Try → List (List ℕ)
+sent_by [] = []
+sent_by (t ∷ more) = replicate t.times (canon (request_of t.by)) ++ sent_by more
+
+-- one of these rows has the name
+abbrev pub IsNameIn : List VarBind → List ℕ → Type 0
+IsNameIn [] name = ⊥
+IsNameIn (p ∷ rows) name = (name ≡ p.name) ⊎ IsNameIn rows name
+
+-- a Get asks for the name that the walk begins from; others ask from it, or from a name given
+abbrev pub AsksFor : Walker → List VarBind → Phase → List ℕ → Type 0
+AsksFor first rows phase.Rows name = (name ≡ first.asked) ⊎ IsNameIn rows name
+AsksFor first rows _ name = name ≡ first.asked
+
+-- the walk that began as `first`, and gave these rows, asked by this request
+pub record Asks (first : Walker) (rows : List VarBind) (by : Walker) : Type 0 where
+  pub same : by ≡ record first { phase = by.phase; asked = by.asked; id = by.id; count = by.count }
+  pub name : AsksFor first rows by.phase by.asked
+
+-- requests in turn, of ids that rise by one from this one on, each sent so many times at most
+abbrev pub AreTries : ℕ → Walker → List VarBind → ℕ → List Try → Type 0
+AreTries tries first rows id [] = Unit {0}
+AreTries tries first rows id (t ∷ more) =
+    (t.by.id ≡ id) × (id < 2 ^ 31) × (t.times ≤ tries) × Asks first rows t.by
+    × AreTries tries first rows (id + 1) more

@@ -37,11 +37,11 @@ IsNextContent Next Large w m =
     ((m.a ≡ pos 0) × IsChain Next w.asked m.bindings × (length m.bindings ≤ asked_for w.method) × (m.bindings ≡ [] → IsLarge Next Large w.asked))
     ⊎ ((m.a ≡ pos 1) × (m.b ≡ pos 0) × IsLarge Next Large w.asked)
 
-abbrev pub IsContent : (Next Got : List ℕ → VarBind → Type 0) → (VarBind → Type 0) → Phase → Walker → Message → Type 0
-IsContent Next Got Large phase.First w m = IsGetContent Got Large w.asked m
-IsContent Next Got Large phase.Rows w m = IsNextContent Next Large w m
-IsContent Next Got Large phase.Last w m = IsGetContent Got Large w.asked m
-IsContent Next Got Large phase.Over w m = ⊥
+abbrev pub IsReplyContent : (Next Got : List ℕ → VarBind → Type 0) → (VarBind → Type 0) → Phase → Walker → Message → Type 0
+IsReplyContent Next Got Large phase.First w m = IsGetContent Got Large w.asked m
+IsReplyContent Next Got Large phase.Rows w m = IsNextContent Next Large w m
+IsReplyContent Next Got Large phase.Last w m = IsGetContent Got Large w.asked m
+IsReplyContent Next Got Large phase.Over w m = ⊥
 
 -- the message is an honest reply to the waiting request
 pub record IsReplyTo (Next Got : List ℕ → VarBind → Type 0) (Large : VarBind → Type 0) (w : Walker) (m : Message) : Type 0 where
@@ -49,7 +49,7 @@ pub record IsReplyTo (Next Got : List ℕ → VarBind → Type 0) (Large : VarBi
   pub community : m.community ≡ w.community
   pub kind : m.kind ≡ kind.Response
   pub id : m.id ≡ pos w.id
-  pub content : IsContent Next Got Large w.phase w m
+  pub content : IsReplyContent Next Got Large w.phase w m
 
 -- what a walk gives before the instances below its root: the root's own, in a walk that includes it
 abbrev pub IsOpening : (List ℕ → VarBind → Type 0) → Mode → List ℕ → List VarBind → Type 0
@@ -74,12 +74,12 @@ pub record IsAlone (Next Got : List ℕ → VarBind → Type 0) (first : Walker)
   pub only : given ≡ answer ∷ []
 
 -- a beginning of what the walk gives
-abbrev pub IsPart : (Next Got : List ℕ → VarBind → Type 0) → Walker → List VarBind → Type 0
-IsPart Next Got first given = (given ≡ []) ⊎ (((o : List ℕ) × IsGiven Next Got first given o) ⊎ IsAlone Next Got first given)
+abbrev pub IsPartOfWalk : (Next Got : List ℕ → VarBind → Type 0) → Walker → List VarBind → Type 0
+IsPartOfWalk Next Got first given = (given ≡ []) ⊎ (((o : List ℕ) × IsGiven Next Got first given o) ⊎ IsAlone Next Got first given)
 
 -- all that the walk gives
-abbrev pub IsWhole : (Next Got : List ℕ → VarBind → Type 0) → Walker → List VarBind → Type 0
-IsWhole Next Got first given =
+abbrev pub IsWholeWalk : (Next Got : List ℕ → VarBind → Type 0) → Walker → List VarBind → Type 0
+IsWholeWalk Next Got first given =
     ((o : List ℕ) × IsGiven Next Got first given o × IsAtEnd Next first.root o × (first.mode ≡ mode.Plain → given ≢ [])) ⊎ IsAlone Next Got first given
 
 abbrev pub IsStage : (Next Got : List ℕ → VarBind → Type 0) → Walker → List VarBind → List ℕ → Phase → Type 0
@@ -104,23 +104,23 @@ IsPaced Got first given id phase.Last = id ≤ first.id + 1
 IsPaced Got first given id phase.Over = ⊥
 
 -- the walk that began as `first` has given these bindings and waits for a reply
-pub record Stands (Next Got : List ℕ → VarBind → Type 0) (first w : Walker) (given : List VarBind) : Type 0 where
+pub record Reaches (Next Got : List ℕ → VarBind → Type 0) (first w : Walker) (given : List VarBind) : Type 0 where
   pub same : w ≡ record first { phase = w.phase; asked = w.asked; id = w.id; count = w.count }
   pub count : w.count ≡ length given
   pub paced : IsPaced Got first given w.id w.phase
   pub stage : IsStage Next Got first given w.asked w.phase
 
 -- the answer to the waiting request has no room
-abbrev pub IsRefused : (Next Got : List ℕ → VarBind → Type 0) → (VarBind → Type 0) → Phase → List ℕ → Type 0
-IsRefused Next Got Large phase.First o = IsLarge Got Large o
-IsRefused Next Got Large phase.Rows o = IsLarge Next Large o
-IsRefused Next Got Large phase.Last o = IsLarge Got Large o
-IsRefused Next Got Large phase.Over o = ⊥
+abbrev pub IsReplyTooLarge : (Next Got : List ℕ → VarBind → Type 0) → (VarBind → Type 0) → Phase → List ℕ → Type 0
+IsReplyTooLarge Next Got Large phase.First o = IsLarge Got Large o
+IsReplyTooLarge Next Got Large phase.Rows o = IsLarge Next Large o
+IsReplyTooLarge Next Got Large phase.Last o = IsLarge Got Large o
+IsReplyTooLarge Next Got Large phase.Over o = ⊥
 
 -- the walk may end so, after these bindings, where w was waiting for the reply
 abbrev pub Ends : (Next Got : List ℕ → VarBind → Type 0) → (VarBind → Type 0) → Walker → Walker → List VarBind → WalkEnd → Type 0
-Ends Next Got Large first w given (ending.Done n) = (n ≡ length given) × IsWhole Next Got first given
-Ends Next Got Large first w given (ending.Fault status index) = (status ≡ pos 1) × (index ≡ pos 0) × IsRefused Next Got Large w.phase w.asked
+Ends Next Got Large first w given (ending.Done n) = (n ≡ length given) × IsWholeWalk Next Got first given
+Ends Next Got Large first w given (ending.Fault status index) = (status ≡ pos 1) × (index ≡ pos 0) × IsReplyTooLarge Next Got Large w.phase w.asked
 Ends Next Got Large first w given (ending.NoProgress o) = (w.phase ≡ phase.Rows) × (o ≡ w.asked) × IsLarge Next Large o
 Ends Next Got Large first w given ending.TooManyRequests = 2147483647 ≤ w.id
 Ends Next Got Large first w given _ = ⊥
@@ -128,8 +128,8 @@ Ends Next Got Large first w given _ = ⊥
 -- a step of the walk w
 abbrev pub Advances : (Next Got : List ℕ → VarBind → Type 0) → (VarBind → Type 0) → Walker → Walker → List VarBind → Step → Walker → Type 0
 Advances Next Got Large first old given step.Stray w = ⊥
-Advances Next Got Large first old given (step.Rows more) w = Stands Next Got first w (given ++ more)
-Advances Next Got Large first old given (step.Last more why) w = IsPart Next Got first (given ++ more) × Ends Next Got Large first old (given ++ more) why
+Advances Next Got Large first old given (step.Rows more) w = Reaches Next Got first w (given ++ more)
+Advances Next Got Large first old given (step.Last more why) w = IsPartOfWalk Next Got first (given ++ more) × Ends Next Got Large first old (given ++ more) why
 
 -- The agents are one table: its rows by rising names, what it answers to a GetNext, and `got` to a Get of the name that the walk begins from.
 pub record IsOneTable (rows : List VarBind) (got : VarBind) (Next Got : List ℕ → VarBind → Type 0) (first : Walker) : Type 0 where
@@ -155,7 +155,7 @@ IsReplyEnd (ending.Sink fault) = ⊥
 IsReplyEnd _ = Unit {0}
 
 -- Whatever the message is: a stray changes nothing, a next request has the next id, and what was given rises.
-abbrev pub Keeps : Walker → Walker → List VarBind → Step → Walker → Type 0
-Keeps first old given step.Stray w = w ≡ old
-Keeps first old given (step.Rows more) w = (w.id ≡ old.id + 1) × (w.id < 2 ^ 31) × Stands Rises Named first w (given ++ more)
-Keeps first old given (step.Last more why) w = IsReplyEnd why × IsPart Rises Named first (given ++ more)
+abbrev pub AdvancesAnyhow : Walker → Walker → List VarBind → Step → Walker → Type 0
+AdvancesAnyhow first old given step.Stray w = w ≡ old
+AdvancesAnyhow first old given (step.Rows more) w = (w.id ≡ old.id + 1) × (w.id < 2 ^ 31) × Reaches Rises Named first w (given ++ more)
+AdvancesAnyhow first old given (step.Last more why) w = IsReplyEnd why × IsPartOfWalk Rises Named first (given ++ more)

@@ -31,10 +31,15 @@ abbrev pub is_response : Kind → Bool
 is_response kind.Response = true
 is_response _ = false
 
+-- the message is a Response of version 2c, of this community and this request-id
+abbrev pub awaits : List ℕ → ℕ → Message → Bool
+awaits community id m =
+    int_eq m.version (pos 1) && pointwise nat_eq m.community community && is_response m.kind
+    && int_eq m.id (pos id)
+
 -- the message is the reply that is waited for
 abbrev pub is_awaited : Walker → Message → Bool
-is_awaited w m =
-    not (is_over w.phase) && int_eq m.version (pos 1) && pointwise nat_eq m.community w.community && is_response m.kind && int_eq m.id (pos w.id)
+is_awaited w m = not (is_over w.phase) && awaits w.community w.id m
 
 -- the bindings before the first that ends the walk
 abbrev pub inside_front : List ℕ → List VarBind → List VarBind

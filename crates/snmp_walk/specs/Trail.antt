@@ -20,7 +20,7 @@ abbrev pub IsAtEnd : (List ℕ → VarBind → Type 0) → List ℕ → List ℕ
 IsAtEnd Next root o = (p : VarBind) × Next o p × (is_inside root p ≡ false)
 
 -- what agents answer, whatever their tables hold (RFC 3416, sections 4.2.1 and 4.2.2)
-pub record AreAnswers (Next Got : List ℕ → VarBind → Type 0) : Type 0 where
+pub record AreLawfulReplies (Next Got : List ℕ → VarBind → Type 0) : Type 0 where
   pub rises : (o : List ℕ) (p : VarBind) → Next o p → is_end p.value ≡ false → comes_after o p.name ≡ true
   pub is_value : (o : List ℕ) (p : VarBind) → Next o p → is_missing p.value ≡ false
   pub same_name : (o : List ℕ) (p : VarBind) → Got o p → p.name ≡ o

@@ -10,7 +10,7 @@ use Rattle.snmp_walk.specs.Names.{is_below, is_end, is_missing, comes_after}
 
 -- the rows below the root
 abbrev pub rows_below : List ℕ → List VarBind → List VarBind
-rows_below root rows = filter (λ row. is_below root row.name) rows
+rows_below root rows = filter (λ row. is_below row.name root) rows
 
 -- the rows behind a name
 abbrev pub rows_after : List ℕ → List VarBind → List VarBind

@@ -1,8 +1,9 @@
 //! The walk: from the root of a subtree to all its instances, by one request after the other (RFC 3416, section 4.2).
 //!
-//! Stands on the messages. The core says which request to send and reads what comes back; a run hands both to a link and gives each binding to a sink.
+//! Reaches on the messages. The core says which request to send and reads what comes back; a run hands both to a link and gives each binding to a sink.
 #![tactic(auto)]
 
+mod arena;
 mod end;
 mod link;
 mod memory;
@@ -11,6 +12,7 @@ mod phase;
 mod rows;
 mod run;
 mod sink;
+mod tries;
 mod walker;
 
 pub use end::{LinkFault, SinkFault, StartError, WalkEnd};
@@ -22,6 +24,3 @@ pub use rows::{Rows, Step};
 pub use run::run_walk;
 pub use sink::Sink;
 pub use walker::WalkCore;
-
-#[cfg(test)]
-mod tests;

@@ -1,48 +1,70 @@
 //! What a walk sends its requests by.
-ghost use Rattle.std.specs.Prelude.{◌≡◌, ◌≤◌, ◌⊎◌, ℕ, List, length, Option, Some, None, OnOk, IfOk, OnErr, IfSome};
+ghost use Rattle.std.specs.Prelude.{◌≡◌, ◌≤◌, ◌+◌, ◌++◌, [], ◌∷◌, ◌⊎◌, ℕ, List, length, Option, Some, None, IsOk, OnOk, IfOk, OnErr, IfSome};
 
 use crate::LinkFault;
 
 /// A way to send datagrams to an agent and to receive its replies.
+///
+/// The facts below are what a walk's promises rest on. A link in memory keeps all of them; another
+/// may keep the first alone, or none, as a socket.
 pub trait Link {
     ghost use Rattle.std.specs.Prelude.{Option};
-    ghost use Rattle.snmp_walk.specs.Link.{Agents, AreLawful, Rose, Receives};
+    ghost use Rattle.snmp_io.specs.Count.{HasRisen};
+    ghost use Rattle.snmp_walk.specs.Link.{Agents, AreLawful};
+    ghost use Rattle.snmp_walk.specs.Traffic.{Traffic, Receives, received};
 
-    /// That the facts below hold of this link. A socket states none.
+    /// That this link keeps the list of the datagrams sent.
+    ghost keeps: { Self → Type 0 };
+
+    /// That what it gives are the replies of its agents, as its deliveries say.
     ghost honest: { Self → Type 0 };
 
-    /// The agents that may answer.
+    /// The agents that may reply.
     ghost agents: { Self → Agents };
 
-    /// The datagram that was sent last.
-    ghost latest: { Self → Option (List ℕ) };
+    /// The datagrams sent, and the deliveries ahead.
+    ghost traffic: { Self → Traffic };
 
     /// How many sends and receives failed.
     ghost fault_count: { Self → ℕ };
 
-    /// Sends a datagram of at most 65507 octets.
-    fn send(&mut self, datagram: &[u8]) -> Result<(), LinkFault>
-        requires { length datagram.now ≤ 65507 }
-        ensures sent { honest self.old → OnOk result (latest self.new ≡ Some datagram.now) }
-        ensures stays { honest self.old → honest self.new }
-        ensures agents { agents self.new ≡ agents self.old }
-        ensures count { OnOk result (fault_count self.new ≡ fault_count self.old) }
-        ensures fault { OnErr result (Rose (fault_count self.old) (fault_count self.new)) };
+    /// That so many sends, of so many octets together, and any receives into 65507 octets succeed.
+    ghost ready: { Self → ℕ → ℕ → Type 0 };
 
-    /// Receives a datagram to the front of the buffer and answers its length, or None where none comes in time.
-    fn receive(&mut self, buffer: &mut [u8]) -> Result<Option<usize>, LinkFault>
-        ensures length { IfOk result (λ received. IfSome received (λ n. n ≤ length buffer.old)) }
-        ensures reply { honest self.old → 65507 ≤ length buffer.old → IfOk result (λ received. Receives (agents self.old) (latest self.old) received buffer.new) }
-        ensures stays { honest self.old → honest self.new }
+    /// Sends a datagram. A fault changes the count of faults alone.
+    fn send(&mut self, datagram: &[u8]) -> Result<(), LinkFault>
+        ensures sent { keeps self.old → OnOk result ((traffic self.new).sent ≡ (traffic self.old).sent ++ datagram.now ∷ []) }
+        ensures ahead { honest self.old → OnOk result ((traffic self.new).ahead ≡ (traffic self.old).ahead) }
+        ensures unchanged { OnErr result (traffic self.new ≡ traffic self.old) }
+        ensures keeps { keeps self.old → keeps self.new }
+        ensures honest { honest self.old → honest self.new }
         ensures agents { agents self.new ≡ agents self.old }
-        ensures latest { latest self.new ≡ latest self.old }
         ensures count { OnOk result (fault_count self.new ≡ fault_count self.old) }
-        ensures fault { OnErr result (Rose (fault_count self.old) (fault_count self.new)) };
+        ensures fault { OnErr result (HasRisen (fault_count self.old) (fault_count self.new)) }
+        ensures ready { (sends octets : ℕ) → ready self.old (sends + 1) (octets + length datagram.now) → IsOk result × ready self.new sends octets };
+
+    /// Receives a datagram into the front of the buffer and returns its length, or None where none
+    /// comes in time. A fault changes the count of faults alone.
+    fn receive(&mut self, buffer: &mut [u8]) -> Result<Option<usize>, LinkFault>
+        ensures length { IfOk result (λ got. IfSome got (λ n. n ≤ length buffer.old)) }
+        ensures reply { honest self.old → 65507 ≤ length buffer.old
+            → IfOk result (λ got. Receives (agents self.old) (traffic self.old).sent (traffic self.old).ahead (received got buffer.new) (traffic self.new).ahead) }
+        ensures sent { keeps self.old → (traffic self.new).sent ≡ (traffic self.old).sent }
+        ensures unchanged { OnErr result (traffic self.new ≡ traffic self.old) }
+        ensures keeps { keeps self.old → keeps self.new }
+        ensures honest { honest self.old → honest self.new }
+        ensures agents { agents self.new ≡ agents self.old }
+        ensures count { OnOk result (fault_count self.new ≡ fault_count self.old) }
+        ensures fault { OnErr result (HasRisen (fault_count self.old) (fault_count self.new)) }
+        ensures ready { (sends octets : ℕ) → ready self.old sends octets → 65507 ≤ length buffer.old → IsOk result × ready self.new sends octets };
 
     /// How many sends and receives failed, up to 18446744073709551615.
     fn faults(&self) -> u64
         ensures { result ≡ fault_count self.now };
 
-    /// The agents behind an honest link serve tables, and their messages fit datagrams.
+    /// An honest link keeps the list of the datagrams sent.
+    ghost keeping: { (link : Self) → honest link → keeps link };
+
+    /// The agents of an honest link serve tables, and their messages fit datagrams.
     ghost lawful: { (link : Self) → honest link → AreLawful (agents link) };
 }

@@ -1,81 +1,175 @@
 //! A link to an agent in the same memory.
-ghost use Rattle.std.specs.Prelude.{◌≡◌};
-ghost use Rattle.snmp_table.specs.Table.{IsMibView};
+ghost use Rattle.std.specs.Prelude.{◌≡◌, ◌<◌, ◌+◌, ℕ, All, length, Some, None, IfSome, OnOk, OnErr};
+ghost use Rattle.snmp_walk.specs.Traffic.{datagram_at, received, Gives};
 
+use crate::arena::Arena;
 use crate::{Link, LinkFault};
 use snmp_agent::{Config, Outcome, answer};
 use snmp_table::Table;
+use std::alloc::{AllocError, Global};
 
-/// A link to an agent over a table: each datagram is answered as it is sent, and the next receives give the reply, if there is one. Neither call ever fails.
+/// A link to an agent in memory, over one table or over tables that take turns.
+///
+/// It keeps the datagrams that are sent. Each receive uses the next of the deliveries that it was
+/// made with: nothing, or the agent's reply to the k-th datagram sent, which count from 1. After
+/// the last of them a receive gives the reply to the latest datagram. Where the agent has no reply,
+/// or there is no such datagram, nothing is received.
 #[derive(Drop)]
 pub struct MemoryLink<'a> {
-    table: &'a Table,
+    tables: &'a [Table],
     config: Config<'a>,
-    /// The datagram that was sent last, in the front.
-    request: [u8; 65507],
-    /// Its length, where one was sent.
-    sent: Option<usize>,
-    /// The reply to it, in the front.
-    reply: [u8; 65507],
-    /// Its length, where there is one.
-    length: Option<usize>,
+    uses: &'a [usize],
+    deliveries: &'a [Option<usize>],
+    used: usize,
+    arena: Arena,
+    fault_count: u64,
+    ghost is_served: { 0 < length tables.now },
+    ghost are_tables: { All (λ place. place < length tables.now) uses.now },
 }
 
 impl<'a> MemoryLink<'a> {
-    ghost use Rattle.std.specs.Prelude.{◌≡◌, [], ◌∷◌};
+    ghost use Rattle.std.specs.Prelude.{◌≡◌, ◌<◌, [], ◌∷◌, ℕ, All, length, OnOk, OnErr, IfSome, ◌≤◌};
     ghost use Rattle.snmp_table.specs.Table.{IsMibView};
-    ghost use Rattle.snmp_walk.specs.Memory.{IsHonest, agents_of};
+    ghost use Rattle.snmp_walk.specs.Link.{AreViews, OneOf};
+    ghost use Rattle.snmp_walk.specs.Traffic.{Gives, datagram_at, received};
+    ghost use Rattle.snmp_walk.specs.Memory.{IsHonest, IsReadyFor, IsNextNumber, agents_of, agents_over, traffic_of};
 
-    /// A link over which nothing was sent, to the agent of this table.
-    pub fn new(table: &'a Table, config: Config<'a>) -> MemoryLink<'a>
-        ensures agents { agents_of result ≡ record { tables = table.now ∷ []; community = config.entry.community.now; max_size = config.entry.max_size } }
+    /// A link to the agent of one table, over which nothing was sent.
+    pub fn new(
+        alloc: Global,
+        table: &'a Table,
+        config: Config<'a>,
+        deliveries: &'a [Option<usize>],
+    ) -> MemoryLink<'a>
+        ensures agents { agents_of result ≡ agents_over (table.now ∷ []) config.entry }
+        ensures traffic { traffic_of result ≡ record { sent = []; ahead = deliveries.now } }
+        ensures no_fault { result.fault_count ≡ 0 }
         ensures honest { IsMibView table.now → IsHonest result }
     {
+        MemoryLink::changing(alloc, std::slice::from_ref(table), config, &[], deliveries)
+    }
+
+    /// A link to an agent whose table changes, over which nothing was sent.
+    ///
+    /// The reply to the i-th datagram sent is that of the table whose place is the i-th of `uses`,
+    /// and after these of the last table. Places count from 0. There is at least one table, and
+    /// each place is that of one.
+    pub fn changing(
+        alloc: Global,
+        tables: &'a [Table],
+        config: Config<'a>,
+        uses: &'a [usize],
+        deliveries: &'a [Option<usize>],
+    ) -> MemoryLink<'a>
+        requires served { 0 < length tables.now }
+        requires places { All (λ place. place < length tables.now) uses.now }
+        ensures agents { agents_of result ≡ agents_over tables.now config.entry }
+        ensures traffic { traffic_of result ≡ record { sent = []; ahead = deliveries.now } }
+        ensures no_fault { result.fault_count ≡ 0 }
+        ensures honest { AreViews tables.now → IsHonest result }
+    {
         MemoryLink {
-            table,
+            tables,
             config,
-            request: [0; 65507],
-            sent: None,
-            reply: [0; 65507],
-            length: None,
+            uses,
+            deliveries,
+            used: 0,
+            arena: Arena::new(alloc),
+            fault_count: 0,
+        }
+    }
+
+    /// Reserves memory: the next `sends` sends, of at most `octets` octets together, succeed.
+    pub fn reserve(&mut self, sends: usize, octets: usize) -> Result<(), AllocError>
+        ensures ready { OnOk result (IsReadyFor self.new sends octets) }
+        ensures agents { agents_of self.new ≡ agents_of self.old }
+        ensures traffic { traffic_of self.new ≡ traffic_of self.old }
+        ensures no_fault { self.new.fault_count ≡ self.old.fault_count }
+        ensures honest { IsHonest self.old → IsHonest self.new }
+    {
+        self.arena.reserve(sends, octets)
+    }
+
+    /// The number of the datagram whose reply the next receive gives, or 0 where it gives nothing.
+    fn next_number(&mut self) -> usize
+        ensures number { IsNextNumber self.old.arena.datagrams (traffic_of self.old).ahead result (traffic_of self.new).ahead }
+        ensures arena { self.new.arena ≡ self.old.arena }
+        ensures agents { agents_of self.new ≡ agents_of self.old }
+        ensures count { self.new.fault_count ≡ self.old.fault_count }
+    {
+        match self.deliveries.get(self.used) {
+            Some(delivery) => {
+                self.used += 1;
+                delivery.unwrap_or(0)
+            }
+            None => self.arena.len(),
+        }
+    }
+
+    /// The table that the agent serves where it replies to the datagram of this number.
+    fn table_for(&self, number: usize) -> &'a Table
+        ensures { OneOf self.now.tables.now result.now }
+    {
+        match self.uses.get(number.saturating_sub(1)) {
+            Some(place) => &self.tables[*place],
+            None => &self.tables[self.tables.len() - 1],
+        }
+    }
+
+    /// Writes the agent's reply to the datagram of this number, and returns its length, if there is
+    /// one.
+    fn reply_to(&self, number: usize, out: &mut [u8; 65507]) -> Option<usize>
+        ensures length { IfSome result (λ n. n ≤ 65507) }
+        ensures room { length out.new ≡ 65507 }
+        ensures reply { Gives (agents_of self.now) (datagram_at self.now.arena.datagrams number) (received result out.new) }
+    {
+        let datagram = self.arena.datagram(number)?;
+        match answer(self.table_for(number), &self.config, datagram, out) {
+            Outcome::Reply(length) => Some(length),
+            Outcome::Dropped(_) => None,
         }
     }
 }
 
 impl<'a> Link for MemoryLink<'a> {
-    ghost use Rattle.snmp_walk.specs.Memory.{IsHonest, agents_of, sent_last};
+    ghost use Rattle.snmp_walk.specs.Memory.{IsHonest, IsReadyFor, agents_of, traffic_of};
+
+    ghost keeps = { λ _. Unit {0} };
 
     ghost honest = { IsHonest };
 
     ghost agents = { agents_of };
 
-    ghost latest = { sent_last };
+    ghost traffic = { traffic_of };
 
-    ghost fault_count = { λ _. 0 };
+    ghost fault_count = { λ link. link.fault_count };
+
+    ghost ready = { IsReadyFor };
+
+    ghost keeping = { λ _ _. tt };
 
     ghost lawful = { λ link h. h.lawful };
 
     fn send(&mut self, datagram: &[u8]) -> Result<(), LinkFault> {
-        self.request[..datagram.len()].copy_from_slice(datagram);
-        self.sent = Some(datagram.len());
-        self.length = match answer(self.table, &self.config, datagram, &mut self.reply) {
-            Outcome::Reply(length) => Some(length),
-            Outcome::Dropped(_) => None,
-        };
-        Ok(())
-    }
-
-    fn receive(&mut self, buffer: &mut [u8]) -> Result<Option<usize>, LinkFault> {
-        match self.length {
-            Some(length) if length <= buffer.len() && length <= self.reply.len() => {
-                buffer[..length].copy_from_slice(&self.reply[..length]);
-                Ok(Some(length))
+        match self.arena.push(datagram) {
+            Ok(()) => Ok(()),
+            Err(_) => {
+                self.fault_count = self.fault_count.saturating_add(1);
+                Err(LinkFault)
             }
-            _ => Ok(None),
         }
     }
 
+    fn receive(&mut self, buffer: &mut [u8]) -> Result<Option<usize>, LinkFault> {
+        let Some(out) = buffer.first_chunk_mut::<65507>() else {
+            self.fault_count = self.fault_count.saturating_add(1);
+            return Err(LinkFault);
+        };
+        let number = self.next_number();
+        Ok(self.reply_to(number, out))
+    }
+
     fn faults(&self) -> u64 {
-        0
+        self.fault_count
     }
 }

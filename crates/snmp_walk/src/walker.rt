@@ -6,6 +6,7 @@ ghost use Rattle.snmp_walk.specs.Names.{is_below, comes_after, is_inside, is_mis
 ghost use Rattle.snmp_wire.specs.Message.{var_bind, datum};
 ghost use Rattle.snmp_walk.specs.Request.{first_phase as phase_at_first};
 
+use crate::tries::is_awaited;
 use crate::{Method, Mode, Phase, Rows, StartError, Step, WalkEnd};
 use arrayvec::ArrayVec;
 use snmp_wire::{
@@ -186,19 +187,19 @@ impl WalkCore {
         }
     }
 
-    /// Whether the datagram is the reply that is waited for.
-    pub fn is_reply(&self, datagram: &[u8]) -> bool
-        ensures reply { (m : Message) → Spells m datagram.now → result ≡ is_awaited self.now m }
-        ensures walker { IsWalker self.now }
-        ensures spelt { result ≡ true → (m : Message) × Spells m datagram.now × ((n : Message) → Spells n datagram.now → n ≡ m) }
+    /// The community of its requests.
+    pub(crate) fn community(&self) -> &[u8]
+        ensures { result.now ≡ self.now.community }
     {
-        if let Phase::Over = self.phase {
-            return false;
-        }
-        match decode(datagram) {
-            Ok(message) => self.awaits(&message),
-            Err(_) => false,
-        }
+        self.community.as_slice()
+    }
+
+    /// The id of the waiting request.
+    pub(crate) fn id(&self) -> u32
+        ensures value { result ≡ self.now.id }
+        ensures walker { IsWalker self.now }
+    {
+        self.id
     }
 
     /// The kind of the waiting request.
@@ -226,11 +227,7 @@ impl WalkCore {
     fn awaits(&self, message: &MessageRef<'_>) -> bool
         ensures { result ≡ is_awaited self.now message.now }
     {
-        self.phase != Phase::Over
-            && message.version() == 1
-            && message.community() == self.community.as_slice()
-            && message.kind() == Kind::Response
-            && message.id() == self.id as i32
+        self.phase != Phase::Over && is_awaited(self.community.as_slice(), self.id, message)
     }
 
     /// Ends the walk, after these bindings.
@@ -509,7 +506,7 @@ fn put_name(last: &mut Oid, name: &Oid)
 
 /// Whether the name is longer than the root and begins with it.
 fn stands_below(name: &Oid, root: &Oid) -> bool
-    ensures { result ≡ is_below root.now name.now }
+    ensures { result ≡ is_below name.now root.now }
 {
     name.is_below(root)
 }

@@ -1,9 +1,31 @@
-use Rattle.std.proofs.Common.{◌≡◌, length, arith}
-use Rattle.std.proofs.lemmas.Grind.{common_steps}
-use Rattle.snmp_walk.proofs.MemoryLemmas.{received}
+use Rattle.std.proofs.Common.{◌≡◌, ◌≤◌, length, drop, refl, sym, ap, subst, ℕ, List, Option}
+use Rattle.snmp_walk.specs.Link.{Agents}
+use Rattle.snmp_walk.specs.Memory.{agents_of}
+use Rattle.snmp_walk.specs.Traffic.{received, datagram_at, Gives, Receives}
+use Rattle.snmp_walk.specs.Arena.{Store}
+use Rattle.snmp_walk.proofs.MemoryLemmas.{received_front, received_at, within_more}
 use Rattle.snmp_walk.proofs.memory.MemoryLinkLink.receive.Goals as goal
 
-pub returns-in-Some-clause-reply : goal.returns-in-Some-clause-reply
-returns-in-Some-clause-reply c = λ h long.
-    let copied : length c.copy_from_slice.new.self ≡ c.in-Some.length = grind (arith, common_steps) in
-    received c.args.self.now c.in-Some.length c.copy_from_slice.new.self _ h c.in-Some.is c.copy_from_slice.ensures.after copied
+pub returns-clause-length : goal.returns-clause-length
+returns-clause-length c = within_more c.reply_to.result (length c.args.buffer.now) c.reply_to.ensures.length (c.in-Some.ensures.variant.0 refl)
+
+pub returns-clause-reply : goal.returns-clause-reply
+returns-clause-reply c = λ h long.
+    let self = c.args.self.now in
+    let given : Gives (agents_of self) (datagram_at self.arena.datagrams c.next_number-number.result) (received c.reply_to.result c.reply_to.new.out) =
+    subst (λ (a : Agents). Gives a (datagram_at self.arena.datagrams c.next_number-number.result) (received c.reply_to.result c.reply_to.new.out)) c.next_number-number.ensures.agents
+    (subst (λ (s : Store). Gives (agents_of c.next_number-number.new.self) (datagram_at s.datagrams c.next_number-number.result) (received c.reply_to.result c.reply_to.new.out)) c.next_number-number.ensures.arena
+    c.reply_to.ensures.reply) in
+    subst (λ (r : Option (List ℕ)). Receives (agents_of self) self.arena.datagrams (drop self.used self.deliveries.now) r (drop c.next_number-number.new.self.used c.next_number-number.new.self.deliveries.now))
+    (sym (received_front c.reply_to.result c.reply_to.new.out _ c.reply_to.ensures.length c.reply_to.ensures.room))
+    (received_at (agents_of self) self.arena.datagrams (drop self.used self.deliveries.now) c.next_number-number.result _ _ c.next_number-number.ensures.number given)
+
+pub returns-clause-ready : goal.returns-clause-ready
+returns-clause-ready c = λ s o h long.
+    let same = c.next_number-number.ensures.arena in (
+      refl,
+      record {
+        places = subst (λ (a : Store). s ≤ a.places) (sym same) h.places;
+        room = subst (λ (a : Store). o ≤ a.room) (sym same) h.room;
+      },
+    )

@@ -1,0 +1,49 @@
+-- Datagrams in one piece of memory.
+use Rattle.std.proofs.Common.{◌≡◌, ℕ, zero, suc, ◌+◌, ◌-◌, ◌<◌, ◌≤◌, List, [], ◌∷◌, ◌++◌, length, take, drop, map, refl, sym, ◌∙◌, ap, subst, arith, Option, Some, None, length-drop}
+use Rattle.std.proofs.lemmas.List.{take-append-le, drop-append-le, take_all}
+use Rattle.std.proofs.lemmas.List.Elements.{All-head, All-tail}
+use Rattle.std.proofs.lemmas.Option.{slice_get-map}
+use Rattle.std.specs.List.{All, slice_get}
+use Rattle.std.specs.Option.{option_map}
+use Rattle.snmp_walk.specs.declared.arena.Span.{Span}
+use Rattle.snmp_walk.specs.Arena.{cut_at, cut}
+use Rattle.snmp_walk.specs.Traffic.{datagram_at}
+
+abbrev Within : List ℕ → Span → Type 0
+Within octets s = s.start + s.len ≤ length octets
+
+cut_at-append : (octets more : List ℕ) (s : Span) → Within octets s → cut_at (octets ++ more) s ≡ cut_at octets s
+cut_at-append octets more s h =
+    let front : drop s.start (octets ++ more) ≡ drop s.start octets ++ more = drop-append-le s.start octets more (omega (arith, h)) in
+    let long : s.len ≤ length (drop s.start octets) = omega (arith, h, length-drop s.start octets) in
+    ap (take s.len) front ∙ take-append-le s.len (drop s.start octets) more long
+
+cut-append : (octets more : List ℕ) (spans : List Span) → All (Within octets) spans → cut (octets ++ more) spans ≡ cut octets spans
+cut-append octets more [] h = refl
+cut-append octets more (s ∷ spans) h =
+    let here = cut_at-append octets more s (All-head (Within octets) s spans h) in
+    let rest = cut-append octets more spans (All-tail (Within octets) s spans h) in
+    cc
+
+map-more : (octets : List ℕ) (spans : List Span) (s : Span) → cut octets (spans ++ s ∷ []) ≡ cut octets spans ++ cut_at octets s ∷ []
+map-more octets [] s = refl
+map-more octets (t ∷ spans) s = ap (λ (r : List (List ℕ)). cut_at octets t ∷ r) (map-more octets spans s)
+
+drop-whole : (octets more : List ℕ) → drop (length octets) (octets ++ more) ≡ more
+drop-whole [] more = refl
+drop-whole (x ∷ octets) more = drop-whole octets more
+
+pub cut-push : (octets more : List ℕ) (spans : List Span) (s : Span) → All (Within octets) spans → s.start ≡ length octets → s.len ≡ length more
+    → cut (octets ++ more) (spans ++ s ∷ []) ≡ cut octets spans ++ more ∷ []
+cut-push octets more spans s h start len =
+    let last : cut_at (octets ++ more) s ≡ more =
+    ap (λ (n : ℕ). take s.len (drop n (octets ++ more))) start ∙ ap (take s.len) (drop-whole octets more) ∙ ap (λ (n : ℕ). take n more) len ∙ take_all (length more) more (omega arith) in
+    map-more (octets ++ more) spans s ∙ ap (λ (r : List (List ℕ)). r ++ cut_at (octets ++ more) s ∷ []) (cut-append octets more spans h)
+    ∙ ap (λ (d : List ℕ). cut octets spans ++ d ∷ []) last
+
+pub numbered : (sent : List (List ℕ)) (number : ℕ) → 1 ≤ number → datagram_at sent number ≡ slice_get sent (number - 1)
+numbered sent zero h = let no : 1 ≤ 0 = h in absurd (omega (arith, no))
+numbered sent (suc k) h = let e : suc k - 1 ≡ k = omega arith in rw e refl
+
+pub cut_found : (octets : List ℕ) (spans : List Span) (k : ℕ) (s : Span) → slice_get spans k ≡ Some s → slice_get (cut octets spans) k ≡ Some (cut_at octets s)
+cut_found octets spans k s e = slice_get-map (cut_at octets) spans k ∙ ap (option_map (cut_at octets)) e

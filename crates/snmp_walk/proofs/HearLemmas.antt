@@ -1,0 +1,307 @@
+-- What a try hears, receive by receive, and what tries hear together.
+use Rattle.std.proofs.Common.{◌≡◌, ◌≢◌, ◌⊎◌, inl, inr, ℕ, zero, suc, ◌+◌, ◌*◌, ◌<◌, ◌≤◌, Bool, true, false, List, [], ◌∷◌, ◌++◌, length, take, replicate, refl, sym, ◌∙◌, ap, subst, arith, append-nil, append_assoc, length-append, Option, Some, None}
+use Rattle.std.proofs.lemmas.Bool.{false≢true}
+use Rattle.std.proofs.lemmas.Grind.{replicate_next}
+use Rattle.std.specs.List.{slice_get}
+use Rattle.snmp_wire.specs.Message.{Message}
+use Rattle.snmp_wire.specs.Spelling.{Spells}
+use Rattle.snmp_walk.specs.Taken.{awaits}
+use Rattle.snmp_walk.specs.Link.{Agents, OneOf, IsReplyFrom, IsUnanswered}
+use Rattle.snmp_walk.specs.Traffic.{Traffic, latest, datagram_at, received, Gives, Receives, IsNothing, IsOther, resent, Lost}
+use Rattle.snmp_walk.specs.Heard.{IsAsked, Hears, Exchanges}
+
+-- a datagram found is one of those sent
+one_of : (sent : List (List ℕ)) (k : ℕ) (d : List ℕ) → slice_get sent k ≡ Some d → OneOf sent d
+one_of [] k d e = let no : ⊥ = cc in absurd no
+one_of (x ∷ sent) zero d e = let same : d ≡ x = cc in inl same
+one_of (x ∷ sent) (suc k) d e = inr (one_of sent k d e)
+
+found : (sent : List (List ℕ)) (k : ℕ) (d : List ℕ) → datagram_at sent k ≡ Some d → OneOf sent d
+found sent zero d e = let no : ⊥ = cc in absurd no
+found sent (suc k) d e = one_of sent k d e
+
+pub one_append : (xs ys : List (List ℕ)) (d : List ℕ) → OneOf (xs ++ ys) d → OneOf xs d ⊎ OneOf ys d
+one_append [] ys d one = inr one
+one_append (x ∷ xs) ys d (inl e) = inl (inl e)
+one_append (x ∷ xs) ys d (inr one) = further (one_append xs ys d one)
+  where
+    further : OneOf xs d ⊎ OneOf ys d → OneOf (x ∷ xs) d ⊎ OneOf ys d
+    further (inl h) = inl (inr h)
+    further (inr h) = inr h
+
+pub one_same : (n : ℕ) (q d : List ℕ) → OneOf (replicate n q) d → d ≡ q
+one_same zero q d one = absurd one
+one_same (suc n) q d (inl e) = e
+one_same (suc n) q d (inr one) = one_same n q d one
+
+-- in one try, `count` receives used these deliveries, and each gave another reply
+pub record Waits (agents : Agents) (q : List ℕ) (old : Traffic) (count : ℕ) (now : Traffic) : Type 0 where
+  pub used : List (Option ℕ)
+  pub parts : old.ahead ≡ used ++ now.ahead
+  pub few : length used ≤ count
+  pub under : count < 64 → (t : ℕ) (rest : List (Option ℕ)) → Lost agents old.sent q rest (suc t) count → Lost agents old.sent q (used ++ rest) (suc t) 0
+  pub over : count ≡ 64 → (t : ℕ) (rest : List (Option ℕ)) → Lost agents (resent old.sent q t) q rest t 0 → Lost agents old.sent q (used ++ rest) (suc t) 0
+
+pub waits_first : (agents : Agents) (q : List ℕ) (old : Traffic) → Waits agents q old 0 old
+waits_first agents q old = record {
+  used = [];
+  parts = refl;
+  few = omega arith;
+  under = λ less t rest lost. lost;
+  over = λ e. let no : ⊥ = omega (arith, e) in absurd no;
+}
+
+module _ (agents : Agents) (community : List ℕ) (id : ℕ) (q : List ℕ) (old : Traffic) (asked : IsAsked agents community id q old.sent) (last : latest old.sent ≡ Some q) where
+  -- another reply is of another datagram
+  not_own : (d octets : List ℕ) → IsReplyFrom agents d octets → ((m : Message) → Spells m octets → false ≡ awaits community id m) → d ≢ q
+  not_own d octets reply stray same =
+      let own = asked.own octets (subst (λ (x : List ℕ). IsReplyFrom agents x octets) same reply) in
+      false≢true (stray own.0 own.1 ∙ own.2)
+
+  more_used : (used rest : List (Option ℕ)) (e : Option ℕ) (t c : ℕ) → Lost agents old.sent q (used ++ e ∷ rest) t c → Lost agents old.sent q ((used ++ e ∷ []) ++ rest) t c
+  more_used used rest e t c lost = subst (λ (es : List (Option ℕ)). Lost agents old.sent q es t c) (sym (append_assoc used (e ∷ []) rest)) lost
+
+  -- one more receive gave another reply
+  other_heard : (count : ℕ) (now left : Traffic) (e : Option ℕ) (next : List (Option ℕ)) → now.ahead ≡ e ∷ next → left.ahead ≡ next → IsOther agents old.sent q e → count < 64
+      → Waits agents q old count now → Waits agents q old (count + 1) left
+  other_heard count now left e next ahead rest_is other less w = record {
+    used = w.used ++ e ∷ [];
+    parts = w.parts ∙ ap (λ (es : List (Option ℕ)). w.used ++ es) ahead ∙ sym (append_assoc w.used (e ∷ []) next) ∙ ap (λ (es : List (Option ℕ)). (w.used ++ e ∷ []) ++ es) (sym rest_is);
+    few = omega (arith, w.few, length-append w.used (e ∷ []));
+    under = λ more t rest lost.
+        let under_63 : count ≢ 63 = λ is. omega (arith, more, is) in
+        more_used w.used rest e (suc t) 0 (w.under less t (e ∷ rest) (inr (inr (other, under_63, lost))));
+    over = λ all t rest lost.
+        let at_63 : count ≡ 63 = omega (arith, all) in
+        more_used w.used rest e (suc t) 0 (w.under less t (e ∷ rest) (inr (inl (other, at_63, lost))));
+  }
+
+  -- it is the reply to another datagram
+  of_other : (d : Option (List ℕ)) (k : ℕ) (octets : List ℕ) → datagram_at old.sent k ≡ d → Gives agents d (Some octets)
+      → ((m : Message) → Spells m octets → false ≡ awaits community id m) → IsOther agents old.sent q (Some k)
+  of_other None k octets e given stray = let no : ⊥ = cc in absurd no
+  of_other (Some d) k octets e given stray = (d, octets, e, not_own d octets given stray, given)
+
+  -- a receive of another reply
+  pub stray_heard : (count : ℕ) (now left : Traffic) (octets : List ℕ) → now.sent ≡ old.sent → count < 64 → (ahead : List (Option ℕ)) → now.ahead ≡ ahead
+      → Receives agents now.sent ahead (Some octets) left.ahead
+      → ((m : Message) → Spells m octets → false ≡ awaits community id m) → Waits agents q old count now → Waits agents q old (count + 1) left
+  stray_heard count now left octets same less [] is r stray w =
+      let given : Gives agents (Some q) (Some octets) = subst (λ (d : Option (List ℕ)). Gives agents d (Some octets)) (ap latest same ∙ last) r.1 in
+      absurd (not_own q octets given stray refl)
+  stray_heard count now left octets same less (None ∷ next) is r stray w = let e = r.1 in let no : ⊥ = cc in absurd no
+  stray_heard count now left octets same less (Some k ∷ next) is r stray w =
+      let given : Gives agents (datagram_at old.sent k) (Some octets) = subst (λ (s : List (List ℕ)). Gives agents (datagram_at s k) (Some octets)) same r.1 in
+      other_heard count now left (Some k) next is r.0 (of_other (datagram_at old.sent k) k octets refl given stray) less w
+
+  -- nothing came, by this delivery
+  nothing_heard : (count : ℕ) (now left : Traffic) (e : Option ℕ) (next : List (Option ℕ)) → now.ahead ≡ e ∷ next → left.ahead ≡ next → IsNothing agents old.sent e → count < 64
+      → Waits agents q old count now → (silent : Type 0) → Hears agents q old silent left
+  nothing_heard count now left e next ahead rest_is none less w silent = record {
+    used = w.used ++ e ∷ [];
+    parts = w.parts ∙ ap (λ (es : List (Option ℕ)). w.used ++ es) ahead ∙ sym (append_assoc w.used (e ∷ []) next) ∙ ap (λ (es : List (Option ℕ)). (w.used ++ e ∷ []) ++ es) (sym rest_is);
+    few = omega (arith, w.few, less, length-append w.used (e ∷ []));
+    lost = λ s. inr (λ t rest lost. subst (λ (n : ℕ). Lost agents old.sent q ((w.used ++ e ∷ []) ++ rest) n 0) (add_one t)
+        (more_used w.used rest e (suc t) 0 (w.under less t (e ∷ rest) (inl (none, lost)))));
+  }
+    where
+      add_one : (t : ℕ) → suc t ≡ t + 1
+      add_one t = omega arith
+
+  -- a receive of nothing
+  pub none_heard : (count : ℕ) (now left : Traffic) → now.sent ≡ old.sent → count < 64 → (ahead : List (Option ℕ)) → now.ahead ≡ ahead
+      → Receives agents now.sent ahead None left.ahead → Waits agents q old count now → (silent : Type 0) → Hears agents q old silent left
+  none_heard count now left same less [] is r w silent = record {
+    used = w.used;
+    parts = w.parts ∙ ap (λ (es : List (Option ℕ)). w.used ++ es) (is ∙ sym r.0);
+    few = omega (arith, w.few, less);
+    lost = λ s. inl (subst (λ (d : Option (List ℕ)). Gives agents d None) (ap latest same ∙ last) r.1);
+  }
+  none_heard count now left same less (None ∷ next) is r w silent = nothing_heard count now left None next is r.0 tt less w silent
+  none_heard count now left same less (Some k ∷ next) is r w silent =
+      nothing_heard count now left (Some k) next is r.0 (subst (λ (s : List (List ℕ)). Gives agents (datagram_at s k) None) same r.1) less w silent
+
+  -- a receive of the reply that is waited for
+  pub reply_heard : (now left : Traffic) (octets : List ℕ) → now.sent ≡ old.sent → (ahead : List (Option ℕ)) → now.ahead ≡ ahead
+      → Receives agents now.sent ahead (Some octets) left.ahead → (m : Message) → Spells m octets → awaits community id m ≡ true → IsReplyFrom agents q octets
+  reply_heard now left octets same [] is r m spelt awaited = subst (λ (d : Option (List ℕ)). Gives agents d (Some octets)) (ap latest same ∙ last) r.1
+  reply_heard now left octets same (None ∷ next) is r m spelt awaited = let e = r.1 in let no : ⊥ = cc in absurd no
+  reply_heard now left octets same (Some k ∷ next) is r m spelt awaited = by_datagram (datagram_at old.sent k) refl (subst (λ (s : List (List ℕ)). Gives agents (datagram_at s k) (Some octets)) same r.1)
+    where
+      by_other : (d : List ℕ) → IsReplyFrom agents d octets → (d ≡ q) ⊎ ((o : List ℕ) (n : Message) → IsReplyFrom agents d o → Spells n o → awaits community id n ≡ false) → IsReplyFrom agents q octets
+      by_other d given (inl e) = subst (λ (x : List ℕ). IsReplyFrom agents x octets) e given
+      by_other d given (inr f) = absurd (false≢true (sym (f octets m given spelt) ∙ awaited))
+
+      by_datagram : (d : Option (List ℕ)) → datagram_at old.sent k ≡ d → Gives agents d (Some octets) → IsReplyFrom agents q octets
+      by_datagram None e given = let no : ⊥ = cc in absurd no
+      by_datagram (Some d) e given = by_other d given (asked.others d (found old.sent k d e))
+
+-- how a try that was cut off used its deliveries, where it had heard others alone
+pub waits_used : (agents : Agents) (q : List ℕ) (old now : Traffic) (count : ℕ) → count ≤ 64 → Waits agents q old count now → (silent : Type 0) → (silent → ⊥) → Hears agents q old silent now
+waits_used agents q old now count few w silent never = record { used = w.used; parts = w.parts; few = omega (arith, w.few, few); lost = λ s. absurd (never s) }
+
+-- after the last receive
+pub waits_over : (agents : Agents) (q : List ℕ) (old now : Traffic) → Waits agents q old 64 now → (silent : Type 0) → Hears agents q old silent now
+waits_over agents q old now w silent = record {
+  used = w.used;
+  parts = w.parts;
+  few = w.few;
+  lost = λ s. inr (λ t rest lost. subst (λ (n : ℕ). Lost agents old.sent q (w.used ++ rest) n 0) (add_one t) (w.over refl t rest lost));
+}
+  where
+    add_one : (t : ℕ) → suc t ≡ t + 1
+    add_one t = omega arith
+
+-- the receive that ended the try used one delivery at most
+pub heard_used : (agents : Agents) (q : List ℕ) (old now left : Traffic) (count : ℕ) (reply : Option (List ℕ)) → count < 64 → (ahead : List (Option ℕ)) → now.ahead ≡ ahead
+    → Receives agents now.sent ahead reply left.ahead → Waits agents q old count now → (silent : Type 0) → (silent → ⊥) → Hears agents q old silent left
+heard_used agents q old now left count reply less [] is r w silent never =
+    record { used = w.used; parts = w.parts ∙ ap (λ (es : List (Option ℕ)). w.used ++ es) (is ∙ sym r.0); few = omega (arith, w.few, less); lost = λ s. absurd (never s) }
+heard_used agents q old now left count reply less (e ∷ next) is r w silent never =
+    let left_is : left.ahead ≡ next = left_of e reply r in
+    record {
+      used = w.used ++ e ∷ [];
+      parts = w.parts ∙ ap (λ (es : List (Option ℕ)). w.used ++ es) is ∙ sym (append_assoc w.used (e ∷ []) next) ∙ ap (λ (es : List (Option ℕ)). (w.used ++ e ∷ []) ++ es) (sym left_is);
+      few = omega (arith, w.few, less, length-append w.used (e ∷ []));
+      lost = λ s. absurd (never s);
+    }
+  where
+    left_of : (d : Option ℕ) (o : Option (List ℕ)) → Receives agents now.sent (d ∷ next) o left.ahead → left.ahead ≡ next
+    left_of None o h = h.0
+    left_of (Some k) o h = h.0
+
+-- ---- tries
+
+-- where no try is left it doesn't matter what was sent
+resent_lost : (agents : Agents) (q : List ℕ) (sent : List (List ℕ)) (rest : List (Option ℕ)) (t : ℕ) → Lost agents (sent ++ q ∷ []) q rest t 0 → Lost agents (resent sent q t) q rest t 0
+resent_lost agents q sent [] zero lost = lost
+resent_lost agents q sent (e ∷ rest) zero lost = absurd lost
+resent_lost agents q sent rest (suc t) lost = lost
+
+-- so many tries of all brought no reply
+pub record Missing (agents : Agents) (q : List ℕ) (old : Traffic) (count all : ℕ) (now : Traffic) : Type 0 where
+  pub used : List (Option ℕ)
+  pub parts : old.ahead ≡ used ++ now.ahead
+  pub few : length used ≤ 64 * count
+  pub lost : IsUnanswered agents q
+      ⊎ ((t : ℕ) (rest : List (Option ℕ)) → count + t ≡ all → Lost agents ((old.sent ++ replicate count q) ++ q ∷ []) q rest t 0
+      → Lost agents (old.sent ++ q ∷ []) q (used ++ rest) all 0)
+
+pub missing_first : (agents : Agents) (q : List ℕ) (old : Traffic) (all : ℕ) → Missing agents q old 0 all old
+missing_first agents q old all = record {
+  used = [];
+  parts = refl;
+  few = omega arith;
+  lost = inr (λ t rest e lost.
+      let same : t ≡ all = omega (arith, e) in
+      subst (λ (n : ℕ). Lost agents (old.sent ++ q ∷ []) q rest n 0) same (subst (λ (s : List (List ℕ)). Lost agents (s ++ q ∷ []) q rest t 0) (append-nil old.sent) lost));
+}
+
+sent_more : (sent : List (List ℕ)) (q : List ℕ) (count : ℕ) → sent ++ replicate (count + 1) q ≡ (sent ++ replicate count q) ++ q ∷ []
+sent_more sent q count = ap (λ (s : List (List ℕ)). sent ++ s) (replicate_next count q) ∙ sym (append_assoc sent (replicate count q) (q ∷ []))
+
+-- one more try without a reply
+pub missing_more : (agents : Agents) (q : List ℕ) (old between now : Traffic) (count all : ℕ) (silent : Type 0) → silent
+    → between.sent ≡ (old.sent ++ replicate count q) ++ q ∷ [] → (before : Traffic) → between.ahead ≡ before.ahead
+    → Hears agents q between silent now → Missing agents q old count all before → Missing agents q old (count + 1) all now
+missing_more agents q old between now count all silent s sent before ahead h m = record {
+  used = m.used ++ h.used;
+  parts = m.parts ∙ ap (λ (es : List (Option ℕ)). m.used ++ es) (sym ahead ∙ h.parts) ∙ sym (append_assoc m.used h.used now.ahead);
+  few = omega (arith, m.few, h.few, length-append m.used h.used);
+  lost = both m.lost (h.lost s);
+}
+  where
+    Here : Type 0
+    Here = IsUnanswered agents q
+        ⊎ ((t : ℕ) (rest : List (Option ℕ)) → count + 1 + t ≡ all → Lost agents ((old.sent ++ replicate (count + 1) q) ++ q ∷ []) q rest t 0
+        → Lost agents (old.sent ++ q ∷ []) q ((m.used ++ h.used) ++ rest) all 0)
+
+    both : IsUnanswered agents q
+        ⊎ ((t : ℕ) (rest : List (Option ℕ)) → count + t ≡ all → Lost agents ((old.sent ++ replicate count q) ++ q ∷ []) q rest t 0
+        → Lost agents (old.sent ++ q ∷ []) q (m.used ++ rest) all 0)
+        → IsUnanswered agents q
+        ⊎ ((t : ℕ) (rest : List (Option ℕ)) → Lost agents (resent between.sent q t) q rest t 0 → Lost agents between.sent q (h.used ++ rest) (t + 1) 0)
+        → IsUnanswered agents q
+        ⊎ ((t : ℕ) (rest : List (Option ℕ)) → count + 1 + t ≡ all → Lost agents ((old.sent ++ replicate (count + 1) q) ++ q ∷ []) q rest t 0
+        → Lost agents (old.sent ++ q ∷ []) q ((m.used ++ h.used) ++ rest) all 0)
+    both (inl u) b = inl u
+    both (inr f) (inl u) = inl u
+    both (inr f) (inr g) = inr (λ t rest e lost.
+        let first : Lost agents (between.sent ++ q ∷ []) q rest t 0 =
+        subst (λ (x : List (List ℕ)). Lost agents (x ++ q ∷ []) q rest t 0) (sent_more old.sent q count ∙ sym sent) lost in
+        let then_this = g t rest (resent_lost agents q between.sent rest t first) in
+        let before_this : Lost agents ((old.sent ++ replicate count q) ++ q ∷ []) q (h.used ++ rest) (t + 1) 0 =
+        subst (λ (x : List (List ℕ)). Lost agents x q (h.used ++ rest) (t + 1) 0) sent then_this in
+        let sum : count + (t + 1) ≡ all = omega (arith, e) in
+        subst (λ (es : List (Option ℕ)). Lost agents (old.sent ++ q ∷ []) q es all 0) (sym (append_assoc m.used h.used rest)) (f (t + 1) (h.used ++ rest) sum before_this))
+
+-- what tries used, and that they lost the request
+abbrev pub Uses : Agents → List ℕ → Traffic → (times tries : ℕ) → Type 0 → Traffic → Type 0
+Uses agents q old times tries silent now =
+    (used : List (Option ℕ)) × (old.ahead ≡ used ++ now.ahead) × (length used ≤ 64 * times)
+    × (silent → IsUnanswered agents q ⊎ Lost agents (old.sent ++ q ∷ []) q used tries 0)
+
+-- no try brought a reply
+pub missing_all : (agents : Agents) (q : List ℕ) (old now : Traffic) (count all : ℕ) → count ≡ all → Missing agents q old count all now → (silent : Type 0) → Uses agents q old count all silent now
+missing_all agents q old now count all same m silent = (m.used, m.parts, m.few, λ s. by_lost m.lost)
+  where
+    by_lost : IsUnanswered agents q
+        ⊎ ((t : ℕ) (rest : List (Option ℕ)) → count + t ≡ all → Lost agents ((old.sent ++ replicate count q) ++ q ∷ []) q rest t 0
+        → Lost agents (old.sent ++ q ∷ []) q (m.used ++ rest) all 0)
+        → IsUnanswered agents q ⊎ Lost agents (old.sent ++ q ∷ []) q m.used all 0
+    by_lost (inl u) = inl u
+    by_lost (inr f) = inr (subst (λ (es : List (Option ℕ)). Lost agents (old.sent ++ q ∷ []) q es all 0) (append-nil m.used) (f 0 [] (omega (arith, same)) refl))
+
+-- the last try was cut off, or brought one
+pub heard_more : (agents : Agents) (q : List ℕ) (old before between now : Traffic) (count all : ℕ) (heard silent : Type 0) → between.ahead ≡ before.ahead
+    → Hears agents q between heard now → Missing agents q old count all before → (silent → ⊥) → Uses agents q old (count + 1) all silent now
+heard_more agents q old before between now count all heard silent ahead h m never = (
+  m.used ++ h.used,
+  m.parts ∙ ap (λ (es : List (Option ℕ)). m.used ++ es) (sym ahead ∙ h.parts) ∙ sym (append_assoc m.used h.used now.ahead),
+  omega (arith, m.few, h.few, length-append m.used h.used),
+  λ s. absurd (never s),
+)
+
+-- what was sent so far was cut off at a send
+pub missing_used : (agents : Agents) (q : List ℕ) (old now later : Traffic) (count all : ℕ) (silent : Type 0) → later.ahead ≡ now.ahead → Missing agents q old count all now → (silent → ⊥)
+    → Uses agents q old count all silent later
+missing_used agents q old now later count all silent same m never =
+    (m.used, m.parts ∙ ap (λ (es : List (Option ℕ)). m.used ++ es) (sym same), m.few, λ s. absurd (never s))
+
+-- what a link of these agents received, which are those of another
+pub received_by : (before after : Agents) → before ≡ after → (sent : List (List ℕ)) (ahead left : List (Option ℕ)) (r x : Option ℕ) (buffer : List ℕ) → r ≡ x
+    → Receives before sent ahead (received r buffer) left → Receives after sent ahead (received x buffer) left
+received_by before after same sent ahead left r x buffer is h =
+    subst (λ (a : Agents). Receives a sent ahead (received x buffer) left) same
+    (subst (λ (y : Option ℕ). Receives before sent ahead (received y buffer) left) is h)
+
+pub latest_is : (sent : List (List ℕ)) (q : List ℕ) → latest (sent ++ q ∷ []) ≡ Some q
+latest_is [] q = refl
+latest_is (d ∷ []) q = refl
+latest_is (d ∷ e ∷ sent) q = latest_is (e ∷ sent) q
+
+-- a request that was sent again is no other
+pub asked_still : (agents : Agents) (community : List ℕ) (id : ℕ) (q : List ℕ) (sent : List (List ℕ)) (n : ℕ) → IsAsked agents community id q sent
+    → IsAsked agents community id q (sent ++ replicate n q)
+asked_still agents community id q sent n a = record { own = a.own; others = λ d one. by_part d (one_append sent (replicate n q) d one) }
+  where
+    by_part : (d : List ℕ) → OneOf sent d ⊎ OneOf (replicate n q) d
+        → (d ≡ q) ⊎ ((octets : List ℕ) (m : Message) → IsReplyFrom agents d octets → Spells m octets → awaits community id m ≡ false)
+    by_part d (inl one) = a.others d one
+    by_part d (inr one) = inl (one_same n q d one)
+
+module _ (agents here : Agents) (same : here ≡ agents) (community : List ℕ) (id : ℕ) (q : List ℕ) (old before between : Traffic) (count : ℕ)
+    (sent : before.sent ≡ old.sent ++ replicate count q) (more : between.sent ≡ before.sent ++ q ∷ []) (asked : IsAsked agents community id q old.sent) where
+  sent_now : between.sent ≡ old.sent ++ replicate (count + 1) q
+  sent_now = more ∙ ap (λ (s : List (List ℕ)). s ++ q ∷ []) sent ∙ sym (sent_more old.sent q count)
+
+  pub last_now : latest between.sent ≡ Some q
+  last_now = ap latest more ∙ latest_is before.sent q
+
+  pub asked_now : IsAsked here community id q between.sent
+  asked_now =
+      subst (λ (a : Agents). IsAsked a community id q between.sent) (sym same)
+      (subst (IsAsked agents community id q) (sym sent_now) (asked_still agents community id q old.sent (count + 1) asked))
+
+  pub try_sent : between.sent ≡ (old.sent ++ replicate count q) ++ q ∷ []
+  try_sent = more ∙ ap (λ (s : List (List ℕ)). s ++ q ∷ []) sent

@@ -1,0 +1,142 @@
+-- What a run sends, request by request.
+use Rattle.std.proofs.Common.{◌≡◌, ◌⊎◌, inl, inr, ℕ, zero, suc, ◌+◌, ◌*◌, ◌^◌, ◌<◌, ◌≤◌, false, List, [], ◌∷◌, ◌++◌, length, replicate, refl, sym, ◌∙◌, ap, subst, arith, append-nil, append_assoc, length-append, Option}
+use Rattle.std.proofs.lemmas.List.{length-replicate}
+use Rattle.snmp_wire.specs.Message.{VarBind}
+use Rattle.snmp_wire.specs.Canon.{canon}
+use Rattle.snmp_walk.specs.declared.phase.Phase.{Phase}
+use Rattle.snmp_walk.specs.declared.phase.Phase.TheVariants as phase
+use Rattle.snmp_walk.specs.Trail.{last_name}
+use Rattle.snmp_walk.specs.Walker.{Walker, IsWalker}
+use Rattle.snmp_walk.specs.Request.{request_of}
+use Rattle.snmp_walk.specs.Taken.{is_over}
+use Rattle.snmp_walk.specs.Standing.{IsStage, Reaches, Rises, Named}
+use Rattle.snmp_walk.specs.Link.{Agents, OneOf}
+use Rattle.snmp_walk.specs.Traffic.{Traffic}
+use Rattle.snmp_walk.specs.Heard.{Exchanges, IsSentBefore, IsEarlier}
+use Rattle.snmp_walk.specs.Run.{Try, sent_by, IsNameIn, AsksFor, Asks, AreTries}
+use Rattle.snmp_walk.proofs.HearLemmas.{one_append, one_same}
+
+-- ---- names
+
+named_more : (rows more : List VarBind) (name : List ℕ) → IsNameIn rows name → IsNameIn (rows ++ more) name
+named_more [] more name h = absurd h
+named_more (p ∷ rows) more name (inl e) = inl e
+named_more (p ∷ rows) more name (inr h) = inr (named_more rows more name h)
+
+named_after : (front rows : List VarBind) (name : List ℕ) → IsNameIn rows name → IsNameIn (front ++ rows) name
+named_after [] rows name h = h
+named_after (p ∷ front) rows name h = inr (named_after front rows name h)
+
+-- the last name is the one before all, or one of theirs
+last_named : (o : List ℕ) (rows : List VarBind) → (last_name o rows ≡ o) ⊎ IsNameIn rows (last_name o rows)
+last_named o [] = inl refl
+last_named o (p ∷ rows) = by_rest (last_named p.name rows)
+  where
+    by_rest : (last_name p.name rows ≡ p.name) ⊎ IsNameIn rows (last_name p.name rows) → (last_name p.name rows ≡ o) ⊎ IsNameIn (p ∷ rows) (last_name p.name rows)
+    by_rest (inl e) = inr (inl e)
+    by_rest (inr h) = inr (inr h)
+
+asks_more : (first : Walker) (rows more : List VarBind) (p : Phase) (name : List ℕ) → AsksFor first rows p name → AsksFor first (rows ++ more) p name
+asks_more first rows more phase.First name h = h
+asks_more first rows more phase.Rows name (inl e) = inl e
+asks_more first rows more phase.Rows name (inr h) = inr (named_more rows more name h)
+asks_more first rows more phase.Last name h = h
+asks_more first rows more phase.Over name h = h
+
+asks_stage : (first : Walker) (given : List VarBind) (p : Phase) (name : List ℕ) → IsStage Rises Named first given name p → AsksFor first given p name
+asks_stage first given phase.First name h = h.1
+asks_stage first given phase.Last name h = h.1
+asks_stage first given phase.Over name h = absurd h
+asks_stage first given phase.Rows name h = by_last (last_named first.asked h.trail)
+  where
+    by_last : (last_name first.asked h.trail ≡ first.asked) ⊎ IsNameIn h.trail (last_name first.asked h.trail) → (name ≡ first.asked) ⊎ IsNameIn given name
+    by_last (inl e) = inl (h.last ∙ e)
+    by_last (inr n) =
+        inr (subst (λ (rows : List VarBind). IsNameIn rows name) (sym h.parts)
+        (named_after h.front h.trail name (subst (IsNameIn h.trail) (sym h.last) n)))
+
+-- what the waiting walk asks
+asks_now : (first w : Walker) (given rows : List VarBind) → Reaches Rises Named first w given → Asks first (given ++ rows) w
+asks_now first w given rows h = record { same = h.same; name = asks_more first given rows w.phase w.asked (asks_stage first given w.phase w.asked h.stage) }
+
+-- ---- requests
+
+tries_more : (tries : ℕ) (first : Walker) (rows more : List VarBind) (id : ℕ) (requests : List Try) → AreTries tries first rows id requests → AreTries tries first (rows ++ more) id requests
+tries_more tries first rows more id [] h = tt
+tries_more tries first rows more id (t ∷ requests) h =
+    (h.0, h.1, h.2, record { same = h.3.same; name = asks_more first rows more t.by.phase t.by.asked h.3.name }, tries_more tries first rows more (id + 1) requests h.4)
+
+tries_push : (tries : ℕ) (first : Walker) (rows : List VarBind) (id : ℕ) (requests : List Try) (t : Try) → AreTries tries first rows id requests
+    → t.by.id ≡ id + length requests → t.by.id < 2 ^ 31 → t.times ≤ tries → Asks first rows t.by → AreTries tries first rows id (requests ++ t ∷ [])
+tries_push tries first rows id [] t h e low few asks = let same : t.by.id ≡ id = omega (arith, e) in (same, omega (arith, low, same), few, asks, tt)
+tries_push tries first rows id (u ∷ requests) t h e low few asks =
+    (h.0, h.1, h.2, h.3, tries_push tries first rows (id + 1) requests t h.4 (omega (arith, e)) low few asks)
+
+sent_push : (requests : List Try) (t : Try) → sent_by (requests ++ t ∷ []) ≡ sent_by requests ++ replicate t.times (canon (request_of t.by))
+sent_push [] t = append-nil (replicate t.times (canon (request_of t.by)))
+sent_push (u ∷ requests) t =
+    ap (λ (s : List (List ℕ)). replicate u.times (canon (request_of u.by)) ++ s) (sent_push requests t)
+    ∙ sym (append_assoc (replicate u.times (canon (request_of u.by))) (sent_by requests) (replicate t.times (canon (request_of t.by))))
+
+-- the requests before the waiting one
+pub record Sends (tries : ℕ) (first : Walker) (given : List VarBind) (old : Traffic) (next : ℕ) (now : Traffic) : Type 0 where
+  pub requests : List Try
+  pub sent : now.sent ≡ old.sent ++ sent_by requests
+  pub are_tries : AreTries tries first given first.id requests
+  pub ids : next ≡ first.id + length requests
+
+pub sends_first : (tries : ℕ) (first : Walker) (old : Traffic) → Sends tries first [] old first.id old
+sends_first tries first old = record { requests = []; sent = sym (append-nil old.sent); are_tries = tt; ids = omega arith }
+
+-- and with it
+pub sends_more : (agents : Agents) (honest silent : Type 0) (tries : ℕ) (first w : Walker) (given rows : List VarBind) (old now later : Traffic) → IsWalker w
+    → Reaches Rises Named first w given → Sends tries first given old w.id now → Exchanges agents honest tries (canon (request_of w)) now silent later
+    → Sends tries first (given ++ rows) old (w.id + 1) later
+sends_more agents honest silent tries first w given rows old now later good stands h x =
+    let t : Try = record { by = w; times = x.times } in
+    record {
+      requests = h.requests ++ t ∷ [];
+      sent = x.sent ∙ ap (λ (s : List (List ℕ)). s ++ replicate x.times (canon (request_of w))) h.sent
+          ∙ append_assoc old.sent (sent_by h.requests) (replicate x.times (canon (request_of w)))
+          ∙ ap (λ (s : List (List ℕ)). old.sent ++ s) (sym (sent_push h.requests t));
+      are_tries = tries_push tries first (given ++ rows) first.id h.requests t (tries_more tries first given rows first.id h.requests h.are_tries) h.ids good.id x.few (asks_now first w given rows stands);
+      ids = omega (arith, h.ids, length-append h.requests (t ∷ []));
+    }
+
+-- ---- what was sent before
+
+before_more : (w v : Walker) → IsWalker w → is_over w.phase ≡ false → w.id < v.id → (d : List ℕ) → IsSentBefore w d → IsSentBefore v d
+before_more w v good waits less d (inl e) = inr (w, good, waits, less, e)
+before_more w v good waits less d (inr u) = inr (u.0, u.1, u.2, omega (arith, u.3, less), u.4)
+
+pub earlier_more : (w v : Walker) (sent later : List (List ℕ)) (times : ℕ) → IsWalker w → is_over w.phase ≡ false → w.id < v.id
+    → later ≡ sent ++ replicate times (canon (request_of w)) → IsEarlier sent w → IsEarlier later v
+earlier_more w v sent later times good waits less e h d one = by_part (one_append sent (replicate times (canon (request_of w))) d (subst (λ (s : List (List ℕ)). OneOf s d) e one))
+  where
+    by_part : OneOf sent d ⊎ OneOf (replicate times (canon (request_of w))) d → IsSentBefore v d
+    by_part (inl o) = before_more w v good waits less d (h d o)
+    by_part (inr o) = before_more w v good waits less d (inl (one_same times (canon (request_of w)) d o))
+
+pub earlier_first : (sent : List (List ℕ)) (w : Walker) → sent ≡ [] → IsEarlier sent w
+earlier_first sent w none d one = absurd (subst (λ (s : List (List ℕ)). OneOf s d) none one)
+
+-- ---- deliveries
+
+-- at most 64 were used for each datagram sent
+pub record AreUsed (old now : Traffic) : Type 0 where
+  pub used : List (Option ℕ)
+  pub parts : old.ahead ≡ used ++ now.ahead
+  pub few : length used + 64 * length old.sent ≤ 64 * length now.sent
+
+pub used_first : (old : Traffic) → AreUsed old old
+used_first old = record { used = []; parts = refl; few = omega arith }
+
+pub used_more : (agents : Agents) (honest silent : Type 0) (tries : ℕ) (q : List ℕ) (old now later : Traffic) → honest → AreUsed old now
+    → Exchanges agents honest tries q now silent later → AreUsed old later
+used_more agents honest silent tries q old now later h u x =
+    let more = x.honestly h in
+    record {
+      used = u.used ++ more.0;
+      parts = u.parts ∙ ap (λ (es : List (Option ℕ)). u.used ++ es) more.1 ∙ sym (append_assoc u.used more.0 later.ahead);
+      few = omega (arith, u.few, more.2, length-append u.used more.0, ap length x.sent, length-append now.sent (replicate x.times q), length-replicate x.times q);
+    }

@@ -1,0 +1,14 @@
+use Rattle.std.proofs.Common.{◌≡◌, ◌+◌, ℕ, List, ◌++◌, replicate}
+use Rattle.snmp_walk.specs.Heard.{IsAsked}
+use Rattle.snmp_walk.proofs.HearLemmas.{Missing}
+use Rattle.snmp_walk.proofs.tries.exchange.Given as goal
+
+abbrev pub invariant-tries : goal.invariant-tries
+invariant-tries g l =
+    (g.L.Link.honest l.fn.link → g.L.Link.honest l.link)
+    × (g.L.Link.keeps l.fn.link → g.L.Link.keeps l.link)
+    × (g.L.Link.agents l.link ≡ g.L.Link.agents l.fn.link)
+    × (g.L.Link.fault_count l.link ≡ g.L.Link.fault_count l.fn.link)
+    × (g.L.Link.keeps l.fn.link → (g.L.Link.traffic l.link).sent ≡ (g.L.Link.traffic l.fn.link).sent ++ replicate l.counter l.request)
+    × (g.L.Link.honest l.fn.link → IsAsked (g.L.Link.agents l.fn.link) l.community l.id l.request (g.L.Link.traffic l.fn.link).sent
+    → Missing (g.L.Link.agents l.fn.link) l.request (g.L.Link.traffic l.fn.link) l.counter (l.fn.retries + 1) (g.L.Link.traffic l.link))

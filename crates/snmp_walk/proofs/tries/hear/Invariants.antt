@@ -1,0 +1,16 @@
+use Rattle.std.proofs.Common.{◌≡◌, ℕ, List, Some}
+use Rattle.snmp_walk.specs.Traffic.{latest}
+use Rattle.snmp_walk.specs.Heard.{IsAsked}
+use Rattle.snmp_walk.proofs.HearLemmas.{Waits}
+use Rattle.snmp_walk.proofs.tries.hear.Given as goal
+
+abbrev pub invariant-receives : goal.invariant-receives
+invariant-receives g l =
+    (g.L.Link.honest l.fn.link → g.L.Link.honest l.link)
+    × (g.L.Link.keeps l.fn.link → g.L.Link.keeps l.link)
+    × (g.L.Link.agents l.link ≡ g.L.Link.agents l.fn.link)
+    × (g.L.Link.fault_count l.link ≡ g.L.Link.fault_count l.fn.link)
+    × (g.L.Link.keeps l.fn.link → (g.L.Link.traffic l.link).sent ≡ (g.L.Link.traffic l.fn.link).sent)
+    × ((q : List ℕ) → g.L.Link.honest l.fn.link → latest (g.L.Link.traffic l.fn.link).sent ≡ Some q
+    → IsAsked (g.L.Link.agents l.fn.link) l.community l.id q (g.L.Link.traffic l.fn.link).sent
+    → Waits (g.L.Link.agents l.fn.link) q (g.L.Link.traffic l.fn.link) l.counter (g.L.Link.traffic l.link))

@@ -1,0 +1,94 @@
+//! Datagrams in one piece of memory.
+ghost use Rattle.std.specs.Prelude.{◌≡◌, ◌≤◌, ◌+◌, ◌++◌, [], ◌∷◌, ℕ, length, Option, Some, None, OnOk, OnErr, IsOk, IfSome, IfNone, OnSome};
+ghost use Rattle.snmp_walk.specs.Traffic.{datagram_at};
+
+use std::alloc::{AllocError, Global};
+use std::marker::Model;
+
+/// Where a datagram stands among the octets.
+#[derive(Clone, Copy)]
+struct Span {
+    start: usize,
+    len: usize,
+}
+
+/// Datagrams, each after the one before, in one piece of memory.
+#[derive(Drop)]
+pub(crate) struct Arena {
+    octets: Vec<u8>,
+    spans: Vec<Span>,
+}
+
+impl Model for Arena {
+    ghost use Rattle.std.specs.Prelude.{◌-◌, ◌+◌, ◌≤◌, All, length, vec_len, vec_capacity};
+    ghost use Rattle.snmp_walk.specs.Arena.{Store, cut};
+
+    ghost Value = { Store };
+
+    ghost view = { λ a. record {
+      datagrams = cut a.octets.items a.spans.items;
+      places = vec_capacity a.spans - vec_len a.spans;
+      room = vec_capacity a.octets - vec_len a.octets;
+    } };
+
+    ghost invariant = { λ a. All (λ s. s.start + s.len ≤ length a.octets.items) a.spans.items };
+}
+
+impl Arena {
+    ghost use Rattle.std.specs.Prelude.{◌≡◌, ◌≤◌, ◌+◌, ◌++◌, ℕ, [], ◌∷◌, length, Option, Some, None, OnOk, OnErr, IsOk, IfSome, IfNone, IfOk};
+
+    /// An arena of no datagram, for which no memory is reserved.
+    pub(crate) fn new(alloc: Global) -> Arena
+        ensures { result.datagrams ≡ [] }
+    {
+        Arena {
+            octets: Vec::new(alloc),
+            spans: Vec::new(alloc),
+        }
+    }
+
+    /// Reserves memory for so many more datagrams of so many octets together.
+    pub(crate) fn reserve(&mut self, sends: usize, octets: usize) -> Result<(), AllocError>
+        ensures datagrams { self.new.datagrams ≡ self.old.datagrams }
+        ensures reserved { OnOk result ((sends ≤ self.new.places) × (octets ≤ self.new.room)) }
+        ensures kept { (self.old.places ≤ self.new.places) × (self.old.room ≤ self.new.room) }
+    {
+        self.spans.reserve_exact(sends)?;
+        self.octets.reserve_exact(octets)
+    }
+
+    /// Adds a datagram. Takes no memory where enough is reserved.
+    pub(crate) fn push(&mut self, datagram: &[u8]) -> Result<(), AllocError>
+        ensures added { OnOk result (self.new.datagrams ≡ self.old.datagrams ++ datagram.now ∷ []) }
+        ensures unchanged { OnErr result (self.new.datagrams ≡ self.old.datagrams) }
+        ensures ready { (s o : ℕ) → s + 1 ≤ self.old.places → o + length datagram.now ≤ self.old.room
+            → IsOk result × (s ≤ self.new.places) × (o ≤ self.new.room) }
+    {
+        let span = Span {
+            start: self.octets.len(),
+            len: datagram.len(),
+        };
+        self.spans.reserve(1)?;
+        self.octets.extend_from_slice(datagram)?;
+        match self.spans.push(span) {
+            Ok(()) => Ok(()),
+            Err(_) => unreachable!(),
+        }
+    }
+
+    /// How many datagrams there are.
+    pub(crate) fn len(&self) -> usize
+        ensures { result ≡ length self.now.datagrams }
+    {
+        self.spans.len()
+    }
+
+    /// The datagram of this number; they count from 1.
+    pub(crate) fn datagram(&self, number: usize) -> Option<&[u8]>
+        ensures some { IfSome result (λ d. datagram_at self.now.datagrams number ≡ Some d.now) }
+        ensures none { IfNone result (datagram_at self.now.datagrams number ≡ None) }
+    {
+        let span = self.spans.get(number.checked_sub(1)?)?;
+        Some(&self.octets[span.start..span.start + span.len])
+    }
+}
