@@ -1,4 +1,5 @@
 //! What the lexer gives to the parser: tokens of a module text.
+ghost use Rattle.smi_lexer.specs.Lexeme.{IsLexeme};
 
 /// What a token is. The words of the grammar, as `BEGIN` or `OBJECT-TYPE`, are `Upper` too: the parser tells
 /// them apart by their text.
@@ -67,4 +68,5 @@ pub struct Token<'a> {
     pub text: &'a [u8],
     /// The line of its first octet. Lines count from 1, and end with LF.
     pub line: usize,
+    pub ghost lexical: { ∥ IsLexeme kind text.now ∥₁ },
 }

@@ -1,6 +1,6 @@
 //! Texts that are refused, with the fault and its line; and the smallest that are not.
 
-use crate::reading::{bad_byte, counts, fault, fault_of, is, open_string, syntax};
+use crate::reading::{bad_byte, counts, fault, fault_of, is_named, open_string, syntax};
 use smi_text::{ParseError, parse_modules};
 use std::alloc::Global;
 use std::test::Fail;
@@ -49,7 +49,7 @@ fn is_empty_module(alloc: Global, text: &[u8]) -> Result<bool, Fail> {
         return Ok(false);
     };
     Ok(
-        is(&module.name, "A")
+        is_named(&module.name, "A")
             && module.heading.is_none()
             && module.imports.is_none()
             && module.defs.len() == 0,

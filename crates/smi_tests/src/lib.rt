@@ -10,4 +10,6 @@ mod reading;
 #[cfg(test)]
 mod trees;
 #[cfg(test)]
+mod values;
+#[cfg(test)]
 mod words;

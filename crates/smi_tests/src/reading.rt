@@ -1,6 +1,6 @@
 //! Readings of texts, and what the tests look at in them.
 
-use smi_text::{Def, LexError, Module, ParseError, Text, TokenText, parse_modules};
+use smi_text::{Def, LexError, Module, Name, ParseError, Text, TokenText, parse_modules};
 use std::alloc::Global;
 use std::test::Fail;
 
@@ -59,6 +59,11 @@ pub(crate) fn is(text: &Text, octets: &str) -> bool {
     text.as_bytes() == octets.as_bytes()
 }
 
+/// Whether a name has these octets.
+pub(crate) fn is_named(name: &Name, octets: &str) -> bool {
+    name.as_bytes() == octets.as_bytes()
+}
+
 /// Whether a text is there, and has these octets.
 pub(crate) fn is_some(text: &Option<Text>, octets: &str) -> bool {
     match text {
@@ -67,12 +72,12 @@ pub(crate) fn is_some(text: &Option<Text>, octets: &str) -> bool {
     }
 }
 
-/// Whether texts are these words, in this order.
-pub(crate) fn are(texts: &[Text], words: &str) -> bool {
+/// Whether names are these words, in this order.
+pub(crate) fn are(names: &[Name], words: &str) -> bool {
     let mut left = words.split_whitespace();
-    for text in texts {
+    for name in names {
         match left.next() {
-            Some(word) if is(text, word) => {}
+            Some(word) if is_named(name, word) => {}
             _ => return false,
         }
     }
@@ -94,10 +99,8 @@ pub(crate) fn are_tokens(tokens: &[TokenText], words: &str) -> bool {
 /// The definition of a name in a list of modules.
 pub(crate) fn definition<'a>(modules: &'a [Module], name: &str) -> Option<&'a Def> {
     for module in modules {
-        for def in module.defs.as_slice() {
-            if is(&def.label, name) {
-                return Some(def);
-            }
+        if let Some(def) = module.define(name.as_bytes()) {
+            return Some(def);
         }
     }
     None

@@ -1,6 +1,6 @@
 //! The trees of texts in which each production of the grammar stands.
 
-use crate::reading::{are, are_tokens, counts, definition, is, is_some};
+use crate::reading::{are, are_tokens, counts, definition, is, is_named, is_some};
 use smi_text::{
     Base, Def, DefKind, Index, Module, ModuleIdentity, ObjectType, Part, Range, Refinement, Status,
     Syntax, TextualConvention, TokenText, TypeAssignment, parse_modules,
@@ -123,11 +123,11 @@ fn value_of(def: &Def) -> &[Part] {
 fn is_part(part: &Part, word: &str) -> bool {
     match part {
         Part::Number(number) => is(number, word),
-        Part::Name(name) => is(name, word),
+        Part::Name(name) => is_named(name, word),
         Part::NamedNumber(part) => {
             let (name, rest) = word.split_once('(').unwrap_or(("", ""));
             let (number, _) = rest.split_once(')').unwrap_or(("", ""));
-            is(&part.name, name) && is(&part.number, number)
+            is_named(&part.name, name) && is(&part.number, number)
         }
     }
 }
@@ -148,7 +148,7 @@ fn has_heads(modules: &[Module]) -> bool {
     let [first, second] = modules else {
         return false;
     };
-    let names = is(&first.name, "NAMES") && is(&second.name, "EMPTY");
+    let names = is_named(&first.name, "NAMES") && is_named(&second.name, "EMPTY");
     let headings = match (&first.heading, &second.heading) {
         (Some(parts), Some(none)) => {
             are_parts(parts.as_slice(), "iso org(3) dod 1") && none.len() == 0
@@ -172,8 +172,8 @@ fn has_imports(first: &Module, second: &Module) -> bool {
     let symbols = are_tokens(c.symbols.as_slice(), "a B OBJECT-TYPE MODULE-IDENTITY")
         && are_tokens(e.symbols.as_slice(), "d");
     symbols
-        && is(&c.source, "C")
-        && is(&e.source, "E")
+        && is_named(&c.source, "C")
+        && is_named(&e.source, "E")
         && c.line == 3
         && e.line == 4
         && none.len() == 0
@@ -286,9 +286,9 @@ fn has_numbers(syntax: &Syntax) -> Option<bool> {
     };
     Some(
         matches!(simple.base, Base::Integer)
-            && is(&a.name, "a")
+            && is_named(&a.name, "a")
             && is(&a.number, "1")
-            && is(&b.name, "b")
+            && is_named(&b.name, "b")
             && is(&b.number, "-2"),
     )
 }
@@ -296,7 +296,7 @@ fn has_numbers(syntax: &Syntax) -> Option<bool> {
 /// Whether a type is SEQUENCE OF this row.
 fn is_table_of(syntax: &Syntax, name: &str) -> bool {
     match syntax {
-        Syntax::SequenceOf(row) => is(row, name),
+        Syntax::SequenceOf(row) => is_named(row, name),
         Syntax::Simple(_) => false,
     }
 }
@@ -311,7 +311,7 @@ fn has_index(modules: &[Module], name: &str, names: &str, implied: bool) -> Opti
 
 fn has_indexes(modules: &[Module]) -> Option<bool> {
     let augments = match object(modules, "t4")?.index.as_ref()? {
-        Index::Augments(row) => is(row, "t3"),
+        Index::Augments(row) => is_named(row, "t3"),
         Index::Own(_) => false,
     };
     Some(
@@ -352,7 +352,7 @@ fn has_conventions(modules: &[Module]) -> Option<bool> {
     Some(
         first
             && tc2.display_hint.is_none()
-            && is(name, "Tc")
+            && is_named(name, "Tc")
             && are_ranges(values.as_slice(), "1 - 2 3"),
     )
 }
@@ -421,7 +421,9 @@ fn has_raw_tokens(modules: &[Module]) -> Option<bool> {
     let Syntax::Simple(bits) = &a.syntax else {
         return None;
     };
-    let columns = is(&a.label, "a") && is(&b.label, "b") && matches!(bits.base, Base::Bits);
+    let columns = is_named(&a.label, "a")
+        && is_named(&b.label, "b")
+        && matches!(bits.base, Base::Bits);
     Some(
         columns
             && are_tokens(raw(modules, "c1")?, "STATUS current END { } }")

@@ -2,23 +2,25 @@
 use Rattle.std.proofs.Common.{◌≡◌, ℕ, Bool, true, false, ◌||◌, not, List, [], ◌∷◌, ◌++◌, Some, refl, sym, ◌∙◌, ap, subst, append_assoc, append-nil}
 use Rattle.std.specs.List.{flat_map, list_any, list_all}
 use Rattle.smi_lexer.specs.Token.{Lexeme}
-use Rattle.smi_text.specs.Mark.{Mark, same_text, Stands}
+use Rattle.smi_module.specs.Mark.{Mark, same_text, Stands}
 use Rattle.smi_text.specs.Format.{Ahead, begins}
 use Rattle.smi_text.specs.Grammar.{definition, module_text, file}
-use Rattle.smi_text.specs.Spelling.{of_def, of_def_kind, of_module, spelling}
-use Rattle.smi_text.specs.Text.{labels, are_distinct, HasNoDoubles}
+use Rattle.smi_module.specs.Spelling.{of_def, of_def_kind, of_module, spelling}
+use Rattle.smi_text.specs.Text.{HasNoDoubles}
+use Rattle.smi_module.specs.Lookup.{labels, are_distinct}
 use Rattle.smi_text.specs.Gives.{text_ahead}
-use Rattle.smi_text.specs.declared.tree.Def.{Def}
-use Rattle.smi_text.specs.declared.tree.DefKind.{DefKind}
-use Rattle.smi_text.specs.declared.tree.DefKind.TheVariants as D
-use Rattle.smi_text.specs.declared.tree.Module.{Module}
+use Rattle.smi_module.specs.declared.tree.Def.{Def}
+use Rattle.smi_module.specs.declared.names.Name.{Name}
+use Rattle.smi_module.specs.declared.tree.DefKind.{DefKind}
+use Rattle.smi_module.specs.declared.tree.DefKind.TheVariants as D
+use Rattle.smi_module.specs.declared.tree.Module.{Module}
 use Rattle.smi_text.proofs.Marks.{and-left, and-right, and-both, or-false, false-from, same_text-eq, same_text-same, Stands-append}
 use Rattle.smi_text.proofs.Productions.{definition-law, module_text-law, file-law}
 use Rattle.smi_text.proofs.Spells.{def-spells, module-spells, file-spells}
 
 -- the label of a definition is the text of its first token
 
-kind-label : (n : ℕ) (x : List ℕ) (k : DefKind) (ts rest : List Lexeme) → Stands (of_def_kind n x k) ts rest → x ≡ text_ahead ts
+kind-label : (n : ℕ) (x : Name) (k : DefKind) (ts rest : List Lexeme) → Stands (of_def_kind n x k) ts rest → x.octets ≡ text_ahead ts
 kind-label n x (D.ObjectIdentifier d) [] rest h = absurd h
 kind-label n x (D.ObjectIdentifier d) (t ∷ ts) rest h = sym h.0.0.1
 kind-label n x (D.ModuleIdentity d) [] rest h = absurd h
@@ -48,13 +50,13 @@ kind-label n x (D.Choice d) (t ∷ ts) rest h = sym h.0.0.1
 kind-label n x (D.Macro d) [] rest h = absurd h
 kind-label n x (D.Macro d) (t ∷ ts) rest h = sym h.0.0.1
 
-pub spelt-label : (d : Def) (ts rest : List Lexeme) → Stands (of_def d) ts rest → d.label ≡ text_ahead ts
-spelt-label d ts rest h = kind-label d.line d.label d.kind ts rest h
+pub spelled-label : (d : Def) (ts rest : List Lexeme) → Stands (of_def d) ts rest → d.label.octets ≡ text_ahead ts
+spelled-label d ts rest h = kind-label d.line d.label d.kind ts rest h
 
 pub read-stands : (d : Def) (ts rest : List Lexeme) → definition.read ts ≡ Some (d, rest) → Stands (of_def d) ts rest
 read-stands d ts rest h = let P : List Mark → Type 0 = λ ms. Stands ms ts rest in subst P (def-spells d) (definition-law.takes ts rest d h)
 
-pub read-label : (d : Def) (ts rest : List Lexeme) → definition.read ts ≡ Some (d, rest) → d.label ≡ text_ahead ts
+pub read-label : (d : Def) (ts rest : List Lexeme) → definition.read ts ≡ Some (d, rest) → d.label.octets ≡ text_ahead ts
 read-label d ts rest h = kind-label d.line d.label d.kind ts rest (read-stands d ts rest h)
 
 -- one more
@@ -84,9 +86,9 @@ same-sym x y =
       | false ↦ λ e. sym (false-from (same_text y x) (λ k. cc (e, (let P : List ℕ → Type 0 = λ z. same_text z y ≡ true in subst P (same_text-eq y x k) (same_text-same y)))))
     ] refl
 
-labels-more : (ds : List Def) (d : Def) → labels (ds ++ d ∷ []) ≡ labels ds ++ d.label ∷ []
+labels-more : (ds : List Def) (d : Def) → labels (ds ++ d ∷ []) ≡ labels ds ++ d.label.octets ∷ []
 labels-more [] d = refl
-labels-more (e ∷ es) d = ap (λ (xs : List (List ℕ)). e.label ∷ xs) (labels-more es d)
+labels-more (e ∷ es) d = ap (λ (xs : List (List ℕ)). e.label.octets ∷ xs) (labels-more es d)
 
 distinct-text : (xs : List (List ℕ)) (x : List ℕ) → are_distinct xs ≡ true → list_any (same_text x) xs ≡ false → are_distinct (xs ++ x ∷ []) ≡ true
 distinct-text [] x h k = refl
@@ -97,12 +99,12 @@ distinct-text (y ∷ ys) x h k =
     (rw (any-more y ys x, same-sym y x, apart.0) first)
     (distinct-text ys x (and-right (not (list_any (same_text y) ys)) (are_distinct ys) h) apart.1)
 
-pub distinct-more : (ds : List Def) (d : Def) → are_distinct (labels ds) ≡ true → list_any (same_text d.label) (labels ds) ≡ false → are_distinct (labels (ds ++ d ∷ [])) ≡ true
-distinct-more ds d h k = rw (labels-more ds d) (distinct-text (labels ds) d.label h k)
+pub distinct-more : (ds : List Def) (d : Def) → are_distinct (labels ds) ≡ true → list_any (same_text d.label.octets) (labels ds) ≡ false → are_distinct (labels (ds ++ d ∷ [])) ≡ true
+distinct-more ds d h k = rw (labels-more ds d) (distinct-text (labels ds) d.label.octets h k)
 
-pub among-more : (ds : List Def) (d : Def) (x : List ℕ) → list_any (same_text x) (labels (ds ++ d ∷ [])) ≡ (same_text d.label x || list_any (same_text x) (labels ds))
+pub among-more : (ds : List Def) (d : Def) (x : List ℕ) → list_any (same_text x) (labels (ds ++ d ∷ [])) ≡ (same_text d.label.octets x || list_any (same_text x) (labels ds))
 among-more ds d x =
-    ap (list_any (same_text x)) (labels-more ds d) ∙ any-more x (labels ds) d.label ∙ ap (λ (b : Bool). b || list_any (same_text x) (labels ds)) (same-sym x d.label)
+    ap (list_any (same_text x)) (labels-more ds d) ∙ any-more x (labels ds) d.label.octets ∙ ap (λ (b : Bool). b || list_any (same_text x) (labels ds)) (same-sym x d.label.octets)
 
 all-more : {A : Type 0} (p : A → Bool) (xs : List A) (x : A) → list_all p xs ≡ true → p x ≡ true → list_all p (xs ++ x ∷ []) ≡ true
 all-more p [] x h k = and-both (p x) true k refl

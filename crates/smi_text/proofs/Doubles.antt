@@ -3,15 +3,16 @@ use Rattle.std.proofs.Common.{◌≡◌, ℕ, true, false, not, List, [], ◌∷
 use Rattle.std.specs.Prelude.{codes}
 use Rattle.std.specs.List.{flat_map, list_any, list_all}
 use Rattle.smi_lexer.specs.Token.{Lexeme}
-use Rattle.smi_text.specs.Mark.{Mark, same_text, Stands}
-use Rattle.smi_text.specs.Reserved.{is_reserved}
-use Rattle.smi_text.specs.Format.{Format, Reading, begins, apart, with_front, before, begins, behind, either, lined, many, maybe, name, pair, separated, shaped, some_of, text, text_where, token, with_front, word}
+use Rattle.smi_module.specs.Mark.{Mark, same_text, Stands}
+use Rattle.smi_module.specs.Reserved.{is_reserved}
+use Rattle.smi_text.specs.Format.{Format, Reading, begins, apart, with_front, before, begins, behind, either, lined, many, maybe, name, pair, separated, shaped, some_of, text, text_where, token, with_front, word, lower}
 use Rattle.smi_text.specs.Grammar.{to_module, arc, assigned, balanced, base, before_assign, before_end, bound, braced, choice, clause, default_value, definition, field, file, group, head, heading, identifier, import_clause, imports, index, index_names, later_part, lower_definition, macro_body, macro_definition, macro_name, module_identity, module_text, named_number, names, notification_type, object_identifier, object_identifier_words, object_identity, object_type, objects, octet_string_words, of_row, opening, parenthesized, part, range, ranges, raw_definition, refinement, revision, sequence, simple_type, size, status, symbol, syntax_clause, syntax_type, tag, tagged, textual_convention, upper_definition, value}
-use Rattle.smi_text.specs.Spelling.{of_def, of_head, of_module, spelling}
-use Rattle.smi_text.specs.Text.{labels, are_distinct, HasNoDoubles, HasSecond, DefinesAgain}
+use Rattle.smi_module.specs.Spelling.{of_def, of_head, of_module, spelling}
+use Rattle.smi_text.specs.Text.{HasNoDoubles, HasSecond, DefinesAgain}
+use Rattle.smi_module.specs.Lookup.{labels, are_distinct}
 use Rattle.smi_text.specs.declared.modules.Head.{Head}
-use Rattle.smi_text.specs.declared.tree.Def.{Def}
-use Rattle.smi_text.specs.declared.tree.Module.{Module}
+use Rattle.smi_module.specs.declared.tree.Def.{Def}
+use Rattle.smi_module.specs.declared.tree.Module.{Module}
 use Rattle.smi_text.proofs.Lawful.{Lawful}
 use Rattle.smi_text.proofs.Marks.{and-left, and-right, or-cases, or-left, or-right, same_text-eq, same_text-same, Stands-split, apart-false}
 use Rattle.smi_text.proofs.Many.{many-fails, many-goes_on, with_front-append, with_front-nil}
@@ -19,7 +20,7 @@ use Rattle.smi_text.proofs.Laws.{starts-with, some-inj}
 use Rattle.smi_text.proofs.Productions.{definition-law, head-law, module_text-law}
 use Rattle.smi_text.proofs.Shorter.{definition-solid, module_text-solid}
 use Rattle.smi_text.proofs.Spells.{def-spells, head-spells, module-spells, lists}
-use Rattle.smi_text.proofs.DefinitionLists.{read-label, spelt-label}
+use Rattle.smi_text.proofs.DefinitionLists.{read-label, spelled-label}
 
 front-inv : {A : Type 0} (x : A) (r : Reading (List A)) (xs : List A) (rest : List Lexeme) → with_front (x ∷ []) r ≡ Some (xs, rest) → (more : List A) × (xs ≡ x ∷ more)
 unfolding with_front
@@ -33,7 +34,7 @@ fronts-inv {A} xs (Some p) ys rest h =
     let e = some-inj {A = List A × List Lexeme} (xs ++ p.0, p.1) (ys, rest) h in
     (p.0, ap (λ (us : List Lexeme). Some (p.0, us)) (ap (λ (q : List A × List Lexeme). q.1) e), sym (ap (λ (q : List A × List Lexeme). q.0) e))
 
--- parts that are spelt before one that begins again are read first
+-- parts that are spelled before one that begins again are read first
 module _ {A : Type 0} (f : Format A) (law : Lawful f) (solid : f.empty ≡ false) (far : apart f.stop f.first ≡ true) where
   begin-again : (xs : List A) (ts mid : List Lexeme) → Stands (flat_map f.spell xs) ts mid → begins f.first mid ≡ true → begins f.first ts ≡ true
   begin-again [] ts mid h b = ap (begins f.first) h ∙ b
@@ -79,12 +80,12 @@ twice (x ∷ xs) ys y h k =
 
 labels-append : (ds es : List Def) → labels (ds ++ es) ≡ labels ds ++ labels es
 labels-append [] es = refl
-labels-append (d ∷ ds) es = ap (λ (xs : List (List ℕ)). d.label ∷ xs) (labels-append ds es)
+labels-append (d ∷ ds) es = ap (λ (xs : List (List ℕ)). d.label.octets ∷ xs) (labels-append ds es)
 
 -- definitions
 
 definition-apart : apart definition.stop definition.first ≡ true
-unfolding arc assigned balanced base before before_assign before_end behind bound braced choice clause default_value definition either field group identifier index index_names is_reserved later_part lined lower_definition macro_body macro_definition macro_name many maybe module_identity name named_number names notification_type object_identifier object_identifier_words object_identity object_type objects octet_string_words of_row pair parenthesized part range ranges raw_definition refinement revision separated sequence shaped simple_type size some_of status syntax_clause syntax_type tag tagged text text_where textual_convention token upper_definition value word
+unfolding arc assigned balanced base before before_assign before_end behind bound braced choice clause default_value definition either field group identifier index index_names is_reserved later_part lined lower_definition macro_body macro_definition macro_name many maybe module_identity name lower named_number names notification_type object_identifier object_identifier_words object_identity object_type objects octet_string_words of_row pair parenthesized part range ranges raw_definition refinement revision separated sequence shaped simple_type size some_of status syntax_clause syntax_type tag tagged text text_where textual_convention token upper_definition value word
 definition-apart = refl
 
 module _ (line : ℕ) (body : List Lexeme) (s : HasSecond line body) where
@@ -107,11 +108,11 @@ module _ (line : ℕ) (body : List Lexeme) (s : HasSecond line body) where
       let e = many-before definition definition-law definition-solid definition-apart s.before body halves.0 first-half second-ahead in
       let inv = fronts-inv s.before ((many definition).read halves.0) ds rest (sym e ∙ h) in
       let f = many-first definition definition-law definition-solid definition-apart halves.0 rest inv.0 second-ahead inv.1 in
-      let same : s.second.label ≡ f.0.label = spelt-label s.second halves.0 s.rest halves.2 ∙ sym (read-label f.0 halves.0 f.2 f.3) in
-      let all : labels ds ≡ labels s.before ++ f.0.label ∷ labels f.1 = ap labels inv.2 ∙ ap (λ (xs : List Def). labels (s.before ++ xs)) f.4 ∙ labels-append s.before (f.0 ∷ f.1) in
+      let same : s.second.label.octets ≡ f.0.label.octets = spelled-label s.second halves.0 s.rest halves.2 ∙ sym (read-label f.0 halves.0 f.2 f.3) in
+      let all : labels ds ≡ labels s.before ++ f.0.label.octets ∷ labels f.1 = ap labels inv.2 ∙ ap (λ (xs : List Def). labels (s.before ++ xs)) f.4 ∙ labels-append s.before (f.0 ∷ f.1) in
       let P : List ℕ → Type 0 = λ x. list_any (same_text x) (labels s.before) ≡ true in
       let Q : List (List ℕ) → Type 0 = λ xs. are_distinct xs ≡ true in
-      twice (labels s.before) (labels f.1) f.0.label (subst P same s.defined) (subst Q all k)
+      twice (labels s.before) (labels f.1) f.0.label.octets (subst P same s.defined) (subst Q all k)
 
 -- modules
 
@@ -120,23 +121,23 @@ all-middle [] m ns h = and-left (are_distinct (labels m.defs)) (list_all (λ n. 
 all-middle (x ∷ xs) m ns h = all-middle xs m ns (and-right (are_distinct (labels x.defs)) (list_all (λ n. are_distinct (labels n.defs)) (xs ++ m ∷ ns)) h)
 
 head-apart : apart head.stop definition.first ≡ true
-unfolding arc assigned balanced base before before_assign before_end behind bound braced choice clause default_value definition either field group head heading identifier import_clause imports index index_names is_reserved later_part lined lower_definition macro_body macro_definition macro_name many maybe module_identity name named_number names notification_type object_identifier object_identifier_words object_identity object_type objects octet_string_words of_row opening pair parenthesized part range ranges raw_definition refinement revision separated sequence shaped simple_type size some_of status symbol syntax_clause syntax_type tag tagged text text_where textual_convention token upper_definition value word
+unfolding arc assigned balanced base before before_assign before_end behind bound braced choice clause default_value definition either field group head heading identifier import_clause imports index index_names is_reserved later_part lined lower_definition macro_body macro_definition macro_name many maybe module_identity name lower named_number names notification_type object_identifier object_identifier_words object_identity object_type objects octet_string_words of_row opening pair parenthesized part range ranges raw_definition refinement revision separated sequence shaped simple_type size some_of status symbol syntax_clause syntax_type tag tagged text text_where textual_convention token upper_definition value word
 head-apart = refl
 
 module-first : (ts : List Lexeme) → begins module_text.first ts ≡ begins head.first ts
-unfolding arc assigned balanced base before before_assign before_end behind bound braced choice clause default_value definition either field group head heading identifier import_clause imports index index_names later_part lined lower_definition macro_body macro_definition macro_name many maybe module_identity module_text name named_number names notification_type object_identifier object_identifier_words object_identity object_type objects octet_string_words of_row opening pair parenthesized part range ranges raw_definition refinement revision separated sequence shaped simple_type size some_of status symbol syntax_clause syntax_type tag tagged text text_where textual_convention token upper_definition value word
+unfolding arc assigned balanced base before before_assign before_end behind bound braced choice clause default_value definition either field group head heading identifier import_clause imports index index_names later_part lined lower_definition macro_body macro_definition macro_name many maybe module_identity module_text name lower named_number names notification_type object_identifier object_identifier_words object_identity object_type objects octet_string_words of_row opening pair parenthesized part range ranges raw_definition refinement revision separated sequence shaped simple_type size some_of status symbol syntax_clause syntax_type tag tagged text text_where textual_convention token upper_definition value word
 module-first ts = refl
 
 module-apart : apart module_text.stop module_text.first ≡ true
-unfolding arc assigned balanced base before before_assign before_end behind bound braced choice clause default_value definition either field group head heading identifier import_clause imports index index_names is_reserved later_part lined lower_definition macro_body macro_definition macro_name many maybe module_identity module_text name named_number names notification_type object_identifier object_identifier_words object_identity object_type objects octet_string_words of_row opening pair parenthesized part range ranges raw_definition refinement revision separated sequence shaped simple_type size some_of status symbol syntax_clause syntax_type tag tagged text text_where textual_convention token upper_definition value word
+unfolding arc assigned balanced base before before_assign before_end behind bound braced choice clause default_value definition either field group head heading identifier import_clause imports index index_names is_reserved later_part lined lower_definition macro_body macro_definition macro_name many maybe module_identity module_text name lower named_number names notification_type object_identifier object_identifier_words object_identity object_type objects octet_string_words of_row opening pair parenthesized part range ranges raw_definition refinement revision separated sequence shaped simple_type size some_of status symbol syntax_clause syntax_type tag tagged text text_where textual_convention token upper_definition value word
 module-apart = refl
 
 head-solid : head.empty ≡ false
-unfolding arc before behind braced either head heading import_clause imports lined many maybe name opening pair parenthesized part separated shaped some_of symbol text text_where token word
+unfolding arc before behind braced either head heading import_clause imports lined many maybe name lower opening pair parenthesized part separated shaped some_of symbol text text_where token word
 head-solid = refl
 
 module-inv : (ts body : List Lexeme) (h : Head) (m : Module) (rest : List Lexeme) → head.read ts ≡ Some (h, body) → module_text.read ts ≡ Some (m, rest) → (after : List Lexeme) × ((many definition).read body ≡ Some (m.defs, after))
-unfolding module_text shaped pair before
+unfolding module_text shaped pair before lower
 module-inv ts body h m rest e r =
     elim ((many definition).read body) as (λ o. (many definition).read body ≡ o → (after : List Lexeme) × ((many definition).read body ≡ Some (m.defs, after))) [
       | None ↦ λ d. absurd (let no : module_text.read ts ≡ None = rw (e, d) refl in cc (no, r))

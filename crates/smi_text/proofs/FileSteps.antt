@@ -4,20 +4,21 @@ use Rattle.std.specs.Prelude.{codes}
 use Rattle.std.specs.List.{flat_map, list_any}
 use Rattle.std.specs.BTreeSet.{BTreeSet}
 use Rattle.smi_lexer.specs.Token.{Lexeme}
-use Rattle.smi_text.specs.Mark.{Mark, same_text, Stands}
+use Rattle.smi_module.specs.Mark.{Mark, same_text, Stands}
 use Rattle.smi_text.specs.Names.{has}
-use Rattle.smi_text.specs.Format.{Ahead, begins, read_many, many, with_front, shaped, pair, before, word}
+use Rattle.smi_text.specs.Format.{Ahead, begins, read_many, many, with_front, shaped, pair, before, word, lower}
 use Rattle.smi_text.specs.Grammar.{definition, head, module_text, file}
-use Rattle.smi_text.specs.Spelling.{of_def, of_head, of_module, spelling}
-use Rattle.smi_text.specs.Text.{labels, are_distinct, HasNoDoubles, HasSecond}
+use Rattle.smi_module.specs.Spelling.{of_def, of_head, of_module, spelling}
+use Rattle.smi_text.specs.Text.{HasNoDoubles, HasSecond}
+use Rattle.smi_module.specs.Lookup.{labels, are_distinct}
 use Rattle.smi_text.specs.Gives.{is_memory, error_of, text_ahead, ReadsDefinitions, DefinitionsFault, ReadsModule, ModuleFault, ReadsModules, ModulesFault}
 use Rattle.smi_text.specs.declared.stop.Stop.{Stop}
 use Rattle.smi_text.specs.declared.stop.Stop.TheVariants as S
 use Rattle.smi_text.specs.declared.error.ParseError.{ParseError}
 use Rattle.smi_text.specs.declared.error.ParseError.TheVariants as E
 use Rattle.smi_text.specs.declared.modules.Head.{Head}
-use Rattle.smi_text.specs.declared.tree.Def.{Def}
-use Rattle.smi_text.specs.declared.tree.Module.{Module}
+use Rattle.smi_module.specs.declared.tree.Def.{Def}
+use Rattle.smi_module.specs.declared.tree.Module.{Module}
 use Rattle.smi_text.proofs.Marks.{Stands-append}
 use Rattle.smi_text.proofs.Many.{reading-shorter, next-many, stuck-many, end-many, many-starts_with, with_front-append, with_front-none, with_front-end, with_front-nil}
 use Rattle.smi_text.proofs.Laws.{starts-with, some-inj}
@@ -62,7 +63,7 @@ module _ (names : BTreeSet (Bor (List ℕ))) (defs : List Def) (from now : List 
     pub has_read-shorter : length rest < length now
     has_read-shorter = reading-shorter definition definition-law definition-solid d now rest read
 
-    same-label : d.label ≡ x
+    same-label : d.label.octets ≡ x
     same-label = read-label d now rest read ∙ sym label
 
     pub has_read-next : (more : BTreeSet (Bor (List ℕ))) → has names x ≡ false → ((y : List ℕ) → has more y ≡ (same_text x y || has names y)) → HasRead more (defs ++ d ∷ []) from rest
@@ -105,7 +106,7 @@ modules-stop ts = tt
 
 module _ (ts mid : List Lexeme) (h : Head) (read : head.read ts ≡ Some (h, mid)) where
   pub module-defs : (error : ParseError) → DefinitionsFault error mid → ModuleFault error ts
-  unfolding module_text shaped pair before
+  unfolding module_text shaped pair before lower
   module-defs (E.Lex fault) f = absurd f
   module-defs (E.Syntax line) f = rw (read, f) refl
   module-defs (E.DoubleName line) f = record {
@@ -119,15 +120,15 @@ module _ (ts mid : List Lexeme) (h : Head) (read : head.read ts ≡ Some (h, mid
   module-defs E.Memory f = tt
 
   pub module-no_end : (defs : List Def) (rest : List Lexeme) → (many definition).read mid ≡ Some (defs, rest) → (word (codes "END")).read rest ≡ None → module_text.read ts ≡ None
-  unfolding module_text shaped pair before
+  unfolding module_text shaped pair before lower
   module-no_end defs rest d e = rw (read, d, e) refl
 
   pub module-reads : (defs : List Def) (rest after : List Lexeme) → ReadsDefinitions defs mid rest → (word (codes "END")).read rest ≡ Some (tt, after) → ReadsModule (record { name = h.name; heading = h.heading; imports = h.imports; defs = defs }) ts after
-  unfolding module_text shaped pair before
+  unfolding module_text shaped pair before lower
   module-reads defs rest after d e = record { read = rw (read, d.read, e) refl; distinct = d.distinct }
 
 pub module-no_head : (ts : List Lexeme) → head.read ts ≡ None → module_text.read ts ≡ None
-unfolding module_text shaped pair before
+unfolding module_text shaped pair before lower
 module-no_head ts e = rw e refl
 
 -- modules

@@ -3,12 +3,15 @@ use Rattle.std.proofs.Common.{◌≡◌, ℕ, zero, suc, ◌<◌, Bool, true, fa
 use Rattle.std.specs.Prelude.{option_map, option_and_then}
 use Rattle.std.specs.List.{list_any, flat_map}
 use Rattle.smi_lexer.specs.declared.token.TokenKind.{TokenKind}
-use Rattle.smi_lexer.specs.declared.token.TokenKind.TheVariants.{Upper}
+use Rattle.smi_lexer.specs.declared.token.TokenKind.TheVariants.{Lower, Upper}
 use Rattle.smi_lexer.specs.Token.{Lexeme}
-use Rattle.smi_text.specs.Mark.{Mark, sign, spelt, same_kind, same_text, Fits, Stands}
-use Rattle.smi_text.specs.Reserved.{is_reserved}
-use Rattle.smi_text.specs.Format.{Format, Reading, Ahead, a_word, a_name, a_kind, is_word, meets, begins, apart, never, one, read_one, word, token, text, text_where, name, pair, behind, before, maybe, spell_option, either, spell_either, read_many, many, spell_pieces, shaped, put_line, line_ahead, lined, with_front}
+use Rattle.smi_module.specs.Mark.{Mark, sign, sign_text, spelled, same_kind, same_text, Fits, Stands}
+use Rattle.smi_module.specs.Reserved.{is_reserved}
+use Rattle.smi_text.specs.Format.{Format, Reading, Ahead, a_word, a_name, a_kind, is_this_word, meets, begins, apart, never, one, read_one, word, token, text, text_where, name, pair, behind, before, maybe, spell_option, either, spell_either, read_many, many, spell_pieces, shaped, line_ahead, lined, with_front, lower, name_where, name_of, is_sign}
+use Rattle.smi_module.specs.Spelling.{put_line}
+use Rattle.smi_module.specs.declared.names.Name.{Name}
 use Rattle.smi_text.proofs.Lawful.{Lawful}
+use Rattle.smi_text.proofs.NameLaws.{name_of-octets, name_of-is}
 use Rattle.smi_text.proofs.Marks.{and-left, and-right, and-both, or-left, or-right, or-false, same_kind-eq, same_kind-same, same_text-eq, same_text-same, Stands-append, Stands-split, map-inv, then-inv, begins-append, begins-none, apart-false}
 use Rattle.smi_text.proofs.Many.{shorter, many-goes_on, many-done}
 
@@ -30,12 +33,12 @@ put_first x q = (x ∷ q.0, q.1)
 abbrev then_many : {A : Type 0} → Format A → ℕ → A × List Lexeme → Reading (List A)
 then_many f n p = option_map (put_first p.0) (read_many f n p.1)
 
--- no token is spelt by `never`
+-- no token is spelled by `never`
 pub never-stands : (ts rest : List Lexeme) → Stands never ts rest → ⊥
 never-stands [] rest h = h
 never-stands (t ∷ ts) rest h = cc (h.0.2)
 
--- what is spelt by a format that is not empty begins as it says
+-- what is spelled by a format that is not empty begins as it says
 pub starts-with : {A : Type 0} (f : Format A) → Lawful f → f.empty ≡ false → (x : A) (ts rest : List Lexeme) → Stands (f.spell x) ts rest → begins f.first ts ≡ true
 starts-with f law solid x ts rest h =
     elim (law.starts x ts rest h) [ inl b ↦ b | inr p ↦ absurd (let e = p.0 in cc) ]
@@ -91,30 +94,37 @@ if-true b x y h = rw h refl
 pub any-one : (t : Lexeme) (c : Ahead) → meets t c ≡ true → list_any (meets t) (c ∷ []) ≡ true
 any-one t c h = or-left (meets t c) false h
 
-word-true : (w : List ℕ) (t : Lexeme) → t.kind ≡ Upper → t.text ≡ w → is_word w t ≡ true
+word-true : (w : List ℕ) (t : Lexeme) → t.kind ≡ Upper → t.text ≡ w → is_this_word w t ≡ true
 word-true w t e f = rw (e, f) (same_text-same w)
 
 pub word-law : (w : List ℕ) → Lawful (word w)
 unfolding word
-word-law w = one-law (a_word w ∷ []) (λ _. spelt Upper w true) (λ t. if is_word w t then Some tt else None) (record {
+word-law w = one-law (a_word w ∷ []) (λ _. spelled Upper w true) (λ t. if is_this_word w t then Some tt else None) (record {
   fits = λ t x h.
-      let b = (if-some {A = Unit {0}} (is_word w t) tt x h).0 in
+      let b = (if-some {A = Unit {0}} (is_this_word w t) tt x h).0 in
       (same_kind-eq t.kind Upper (and-left (same_kind t.kind Upper) (same_text t.text w) b), same_text-eq t.text w (and-right (same_kind t.kind Upper) (same_text t.text w) b), refl);
-  picks = λ t x h. if-true (is_word w t) (Some tt) None (word-true w t h.0 h.1);
+  picks = λ t x h. if-true (is_this_word w t) (Some tt) None (word-true w t h.0 h.1);
   ahead = λ t x h. any-one t (a_word w) (word-true w t h.0 h.1);
 })
 
 pub token-law : (k : TokenKind) → Lawful (token k)
 unfolding token
-token-law k = one-law (a_kind k ∷ []) (λ _. sign k) (λ t. if same_kind t.kind k then Some tt else None) (record {
-  fits = λ t x h. same_kind-eq t.kind k (if-some {A = Unit {0}} (same_kind t.kind k) tt x h).0;
-  picks = λ t x h. if-true (same_kind t.kind k) (Some tt) None (rw h (same_kind-same k));
-  ahead = λ t x h. any-one t (a_kind k) (rw h (same_kind-same k));
+token-law k = one-law (a_kind k ∷ []) (λ _. sign k) (λ t. if is_sign k t then Some tt else None) (record {
+  fits = λ t x h.
+      let b = (if-some {A = Unit {0}} (is_sign k t) tt x h).0 in (
+        same_kind-eq t.kind k (and-left (same_kind t.kind k) (same_text t.text (sign_text k)) b),
+        same_text-eq t.text (sign_text k) (and-right (same_kind t.kind k) (same_text t.text (sign_text k)) b),
+        refl,
+      );
+  picks = λ t x h.
+      if-true (is_sign k t) (Some tt) None
+      (and-both (same_kind t.kind k) (same_text t.text (sign_text k)) (rw h.0 (same_kind-same k)) (rw h.1 (same_text-same (sign_text k))));
+  ahead = λ t x h. any-one t (a_kind k) (rw h.0 (same_kind-same k));
 })
 
 pub text-law : (k : TokenKind) → Lawful (text k)
 unfolding text
-text-law k = one-law (a_kind k ∷ []) (λ x. spelt k x true) (λ t. if same_kind t.kind k then Some t.text else None) (record {
+text-law k = one-law (a_kind k ∷ []) (λ x. spelled k x true) (λ t. if same_kind t.kind k then Some t.text else None) (record {
   fits = λ t x h. let p = if-some (same_kind t.kind k) t.text x h in (same_kind-eq t.kind k p.0, p.1, refl);
   picks = λ t x h. if-true (same_kind t.kind k) (Some t.text) None (rw h.0 (same_kind-same k)) ∙ ap (λ (y : List ℕ). Some y) h.1;
   ahead = λ t x h. any-one t (a_kind k) (rw h.0 (same_kind-same k));
@@ -122,7 +132,7 @@ text-law k = one-law (a_kind k ∷ []) (λ x. spelt k x true) (λ t. if same_kin
 
 pub text_where-law : (k : TokenKind) (ok : List ℕ → Bool) → Lawful (text_where k ok)
 unfolding text_where
-text_where-law k ok = one-law (a_kind k ∷ []) (λ x. spelt k x (ok x)) (λ t. if same_kind t.kind k && ok t.text then Some t.text else None) (record {
+text_where-law k ok = one-law (a_kind k ∷ []) (λ x. spelled k x (ok x)) (λ t. if same_kind t.kind k && ok t.text then Some t.text else None) (record {
   fits = λ t x h.
       let p = if-some (same_kind t.kind k && ok t.text) t.text x h in
       (same_kind-eq t.kind k (and-left (same_kind t.kind k) (ok t.text) p.0), p.1, ap ok (sym p.1) ∙ and-right (same_kind t.kind k) (ok t.text) p.0);
@@ -131,21 +141,31 @@ text_where-law k ok = one-law (a_kind k ∷ []) (λ x. spelt k x (ok x)) (λ t. 
   ahead = λ t x h. any-one t (a_kind k) (rw h.0 (same_kind-same k));
 })
 
-name-true : (t : Lexeme) (x : List ℕ) → Fits (spelt Upper x (not (is_reserved x))) t → (same_kind t.kind Upper && not (is_reserved t.text)) ≡ true
-name-true t x h = and-both (same_kind t.kind Upper) (not (is_reserved t.text)) (rw h.0 (same_kind-same Upper)) (rw h.1 h.2)
+if-then : {A : Type 0} (b : Bool) (r : Option A) (y : A) → (if b then r else None) ≡ Some y → (b ≡ true) × (r ≡ Some y)
+if-then true r y h = (refl, h)
+if-then false r y h = absurd (cc)
+
+pub name_where-law : (cs : List Ahead) (k : TokenKind) (ok : List ℕ → Bool) → ((t : Lexeme) → same_kind t.kind k ≡ true → ok t.text ≡ true → list_any (meets t) cs ≡ true) → Lawful (name_where cs k ok)
+name_where-law cs k ok ahead = one-law cs (λ (x : Name). spelled k x.octets (ok x.octets)) (λ t. if same_kind t.kind k && ok t.text then name_of t.text else None) (record {
+  fits = λ t x h.
+      let p = if-then (same_kind t.kind k && ok t.text) (name_of t.text) x h in
+      let e : x.octets ≡ t.text = name_of-is t.text x p.1 in
+      (same_kind-eq t.kind k (and-left (same_kind t.kind k) (ok t.text) p.0), sym e, ap ok e ∙ and-right (same_kind t.kind k) (ok t.text) p.0);
+  picks = λ t x h.
+      if-true (same_kind t.kind k && ok t.text) (name_of t.text) None (and-both (same_kind t.kind k) (ok t.text) (rw h.0 (same_kind-same k)) (ap ok h.1 ∙ h.2))
+      ∙ ap name_of h.1 ∙ name_of-octets x;
+  ahead = λ t x h. ahead t (rw h.0 (same_kind-same k)) (ap ok h.1 ∙ h.2);
+})
+
+pub lower-law : Lawful lower
+unfolding lower
+lower-law = name_where-law (a_kind Lower ∷ []) Lower (λ _. true) (λ t k ok. any-one t (a_kind Lower) k)
 
 pub name-law : Lawful name
 unfolding name
-name-law = one-law (a_name ∷ []) (λ x. spelt Upper x (not (is_reserved x))) (λ t. if same_kind t.kind Upper && not (is_reserved t.text) then Some t.text else None) (record {
-  fits = λ t x h.
-      let p = if-some (same_kind t.kind Upper && not (is_reserved t.text)) t.text x h in (
-        same_kind-eq t.kind Upper (and-left (same_kind t.kind Upper) (not (is_reserved t.text)) p.0),
-        p.1,
-        rw (← p.1) (and-right (same_kind t.kind Upper) (not (is_reserved t.text)) p.0),
-      );
-  picks = λ t x h. if-true (same_kind t.kind Upper && not (is_reserved t.text)) (Some t.text) None (name-true t x h) ∙ ap (λ (y : List ℕ). Some y) h.1;
-  ahead = λ t x h. any-one t a_name (name-true t x h);
-})
+name-law =
+    name_where-law (a_name ∷ []) Upper (λ x. not (is_reserved x))
+    (λ t k ok. any-one t a_name (and-both (same_kind t.kind Upper) (not (is_reserved t.text)) k ok))
 
 -- several parts
 
@@ -374,7 +394,7 @@ module _ {A B : Type 0} (to : A → B) (from : B → Option A) (f : Format A) (l
       let P : B × List Lexeme → Type 0 = λ w. Stands (spell_pieces f.spell (from w.0)) ts w.1 in
       subst P r.2 (rw (back r.0.0 ts r.0.1 stands) stands)
 
-  -- what is spelt has pieces, and they are spelt
+  -- what is spelled has pieces, and they are spelled
   pieces : (y : B) (ts rest : List Lexeme) → Stands (spell_pieces f.spell (from y)) ts rest → (x : A) × (from y ≡ Some x) × Stands (f.spell x) ts rest
   pieces y ts rest h =
       elim (from y) as (λ o. from y ≡ o → Stands (spell_pieces f.spell o) ts rest → (x : A) × (from y ≡ Some x) × Stands (f.spell x) ts rest) [

@@ -5,47 +5,47 @@ use Rattle.std.specs.List.{flat_map}
 use Rattle.smi_lexer.specs.Token.{Lexeme}
 use Rattle.smi_lexer.specs.declared.token.TokenKind.{TokenKind}
 use Rattle.smi_lexer.specs.declared.token.TokenKind.TheVariants as K
-use Rattle.smi_text.specs.Mark.{Mark, sign, spelt, on_line, Fits, Stands}
-use Rattle.smi_text.specs.Reserved.{is_reserved}
-use Rattle.smi_text.specs.Number.{is_macro}
-use Rattle.smi_text.specs.Format.{put_line}
-use Rattle.smi_text.specs.Grammar.{is_balanced}
-use Rattle.smi_text.specs.Spelling as say
-use Rattle.smi_text.specs.Lines.{plain, unlined, unlined_def, unlined_import}
-use Rattle.smi_text.specs.declared.tree.Module.{Module}
-use Rattle.smi_text.specs.declared.tree.Import.{Import}
-use Rattle.smi_text.specs.declared.tree.TokenText.{TokenText}
-use Rattle.smi_text.specs.declared.tree.DefKind.{DefKind}
-use Rattle.smi_text.specs.declared.tree.DefKind.TheVariants as D
-use Rattle.smi_text.specs.declared.tree.Def.{Def}
-use Rattle.smi_text.specs.declared.tree.Part.{Part}
-use Rattle.smi_text.specs.declared.tree.Part.TheVariants as P
-use Rattle.smi_text.specs.declared.tree.ModuleIdentity.{ModuleIdentity}
-use Rattle.smi_text.specs.declared.tree.Status.{Status}
-use Rattle.smi_text.specs.declared.tree.ObjectType.{ObjectType}
-use Rattle.smi_text.specs.declared.tree.Index.{Index}
-use Rattle.smi_text.specs.declared.tree.Index.TheVariants as I
-use Rattle.smi_text.specs.declared.tree.NotificationType.{NotificationType}
-use Rattle.smi_text.specs.declared.tree.Group.{Group}
-use Rattle.smi_text.specs.declared.tree.RawDefinition.{RawDefinition}
-use Rattle.smi_text.specs.declared.tree.TextualConvention.{TextualConvention}
-use Rattle.smi_text.specs.declared.tree.TypeAssignment.{TypeAssignment}
-use Rattle.smi_text.specs.declared.tree.Field.{Field}
-use Rattle.smi_text.specs.declared.tree.Syntax.{Syntax}
-use Rattle.smi_text.specs.declared.tree.Syntax.TheVariants as T
-use Rattle.smi_text.specs.declared.tree.SimpleType.{SimpleType}
-use Rattle.smi_text.specs.declared.tree.Base.{Base}
-use Rattle.smi_text.specs.declared.tree.Base.TheVariants as B
-use Rattle.smi_text.specs.declared.tree.Refinement.{Refinement}
-use Rattle.smi_text.specs.declared.tree.Refinement.TheVariants as R
-use Rattle.smi_text.specs.declared.tree.Range.{Range}
+use Rattle.smi_module.specs.Mark.{Mark, sign, spelled, on_line, Fits, Stands}
+use Rattle.smi_module.specs.Reserved.{is_reserved}
+use Rattle.smi_module.specs.Number.{is_macro}
+use Rattle.smi_module.specs.Spelling.{put_line}
+use Rattle.smi_module.specs.Fronts.{has_balanced_braces}
+use Rattle.smi_module.specs.declared.names.Name.{Name}
+use Rattle.smi_module.specs.Spelling as say
+use Rattle.smi_module.specs.Lines.{plain, unlined, unlined_def, unlined_import}
+use Rattle.smi_module.specs.declared.tree.Module.{Module}
+use Rattle.smi_module.specs.declared.tree.Import.{Import}
+use Rattle.smi_module.specs.declared.tree.TokenText.{TokenText}
+use Rattle.smi_module.specs.declared.tree.DefKind.{DefKind}
+use Rattle.smi_module.specs.declared.tree.DefKind.TheVariants as D
+use Rattle.smi_module.specs.declared.tree.Def.{Def}
+use Rattle.smi_module.specs.declared.tree.Part.{Part}
+use Rattle.smi_module.specs.declared.tree.Part.TheVariants as P
+use Rattle.smi_module.specs.declared.tree.ModuleIdentity.{ModuleIdentity}
+use Rattle.smi_module.specs.declared.tree.Status.{Status}
+use Rattle.smi_module.specs.declared.tree.ObjectType.{ObjectType}
+use Rattle.smi_module.specs.declared.tree.Index.{Index}
+use Rattle.smi_module.specs.declared.tree.Index.TheVariants as I
+use Rattle.smi_module.specs.declared.tree.NotificationType.{NotificationType}
+use Rattle.smi_module.specs.declared.tree.Group.{Group}
+use Rattle.smi_module.specs.declared.tree.RawDefinition.{RawDefinition}
+use Rattle.smi_module.specs.declared.tree.TextualConvention.{TextualConvention}
+use Rattle.smi_module.specs.declared.tree.TypeAssignment.{TypeAssignment}
+use Rattle.smi_module.specs.declared.tree.Field.{Field}
+use Rattle.smi_module.specs.declared.tree.Syntax.{Syntax}
+use Rattle.smi_module.specs.declared.tree.Syntax.TheVariants as T
+use Rattle.smi_module.specs.declared.tree.SimpleType.{SimpleType}
+use Rattle.smi_module.specs.declared.tree.Base.{Base}
+use Rattle.smi_module.specs.declared.tree.Base.TheVariants as B
+use Rattle.smi_module.specs.declared.tree.Refinement.{Refinement}
+use Rattle.smi_module.specs.declared.tree.Refinement.TheVariants as R
+use Rattle.smi_module.specs.declared.tree.Range.{Range}
 use Rattle.smi_text.proofs.Laws.{some-inj}
 use Rattle.smi_text.proofs.DefinitionLists.{file-reads}
 
 -- the mark with 0 in the place of its line
 abbrev zeroed : Mark → Mark
-zeroed (sign k) = sign k
-zeroed (spelt k x ok) = spelt k x ok
+zeroed (spelled k x ok) = spelled k x ok
 zeroed (on_line n m) = on_line 0 (zeroed m)
 
 -- the marks say no line
@@ -126,14 +126,14 @@ syntax_type (T.Simple t) = simple_type t
 field : (f : Field) → AreBare (say.of_field f)
 field f = λ i. say.lower f.label ∷ syntax_type f.syntax i
 
-names : (xs : List (List ℕ)) → AreBare (say.of_names xs)
+names : (xs : List Name) → AreBare (say.of_names xs)
 names xs = braces (say.of_list (sign K.Comma) (λ x. say.lower x ∷ []) xs) (between K.Comma (λ x. say.lower x ∷ []) (λ x. refl) xs)
 
 status : (s : Status) → AreBare (say.of_status s)
 status s = λ i.
-    say.word (codes "STATUS") ∷ say.lower s.status ∷ say.word (codes "DESCRIPTION") ∷ say.string s.description ∷ options (say.of_clause (codes "REFERENCE")) (λ x. refl) s.reference i
+    say.word (codes "STATUS") ∷ say.lower_text s.status ∷ say.word (codes "DESCRIPTION") ∷ say.string s.description ∷ options (say.of_clause (codes "REFERENCE")) (λ x. refl) s.reference i
 
-index_names : (xs : List (List ℕ)) (b : Bool) → AreBare (say.of_index_names xs b)
+index_names : (xs : List Name) (b : Bool) → AreBare (say.of_index_names xs b)
 index_names [] b = refl
 index_names (x ∷ []) true = refl
 index_names (x ∷ []) false = refl
@@ -143,13 +143,13 @@ index : (x : Index) → AreBare (say.of_index x)
 index (I.Own p) = λ i. say.word (codes "INDEX") ∷ braces (say.of_index_names p.names p.implied) (index_names p.names p.implied) i
 index (I.Augments x) = refl
 
-raw : (xs : List TokenText) → AreBare (map (λ x. spelt x.kind x.text true) xs)
+raw : (xs : List TokenText) → AreBare (map (λ x. spelled x.kind x.text true) xs)
 raw [] = refl
-raw (x ∷ xs) = λ i. spelt x.kind x.text true ∷ raw xs i
+raw (x ∷ xs) = λ i. spelled x.kind x.text true ∷ raw xs i
 
 balanced : (xs : List TokenText) → AreBare (say.of_balanced xs)
 balanced xs =
-    elim (is_balanced 0 xs) as (λ b. AreBare (if b then map (λ (x : TokenText). spelt x.kind x.text true) xs else say.nothing)) [
+    elim (has_balanced_braces xs) as (λ b. AreBare (if b then map (λ (x : TokenText). spelled x.kind x.text true) xs else say.nothing)) [
       | true ↦ raw xs
       | false ↦ refl
     ]
@@ -185,15 +185,15 @@ object_type d =
     let after_index = both (say.of_option say.of_index d.index) (say.of_option default_marks d.default ++ say.of_value d.value) (options say.of_index index d.index) ending in
     let after_status = both (say.of_status d.status) (say.of_option say.of_index d.index ++ (say.of_option default_marks d.default ++ say.of_value d.value)) (status d.status) after_index in
     let after_units = both (say.of_option (say.of_clause (codes "UNITS")) d.units)
-    (say.word (codes "MAX-ACCESS") ∷ say.lower d.max_access ∷ (say.of_status d.status ++ (say.of_option say.of_index d.index ++ (say.of_option default_marks d.default ++ say.of_value d.value))))
-    (options (say.of_clause (codes "UNITS")) (λ x. refl) d.units) (λ i. say.word (codes "MAX-ACCESS") ∷ say.lower d.max_access ∷ after_status i) in
+    (say.word (codes "MAX-ACCESS") ∷ say.lower_text d.max_access ∷ (say.of_status d.status ++ (say.of_option say.of_index d.index ++ (say.of_option default_marks d.default ++ say.of_value d.value))))
+    (options (say.of_clause (codes "UNITS")) (λ x. refl) d.units) (λ i. say.word (codes "MAX-ACCESS") ∷ say.lower_text d.max_access ∷ after_status i) in
     λ i. say.word (codes "OBJECT-TYPE") ∷ say.word (codes "SYNTAX") ∷
     both (say.of_syntax d.syntax)
     (say.of_option (say.of_clause (codes "UNITS")) d.units ++
-    (say.word (codes "MAX-ACCESS") ∷ say.lower d.max_access ∷ (say.of_status d.status ++ (say.of_option say.of_index d.index ++ (say.of_option default_marks d.default ++ say.of_value d.value)))))
+    (say.word (codes "MAX-ACCESS") ∷ say.lower_text d.max_access ∷ (say.of_status d.status ++ (say.of_option say.of_index d.index ++ (say.of_option default_marks d.default ++ say.of_value d.value)))))
     (syntax_type d.syntax) after_units i
 
-abbrev object_marks : List (List ℕ) → List Mark
+abbrev object_marks : List Name → List Mark
 object_marks xs = say.word (codes "OBJECTS") ∷ say.of_names xs
 
 notification_type : (d : NotificationType) → AreBare (say.of_notification_type d)
@@ -221,7 +221,7 @@ tag_marks n = sign K.OpenBracket ∷ say.word (codes "APPLICATION") ∷ say.numb
 type_assignment : (d : TypeAssignment) → AreBare (say.of_type_assignment d)
 type_assignment d = both (say.of_option tag_marks d.tag) (say.of_syntax d.syntax) (options tag_marks (λ n. refl) d.tag) (syntax_type d.syntax)
 
-kind : (line : ℕ) (x : List ℕ) (k : DefKind) → map zeroed (say.of_def_kind line x k) ≡ say.of_def_kind 0 x k
+kind : (line : ℕ) (x : Name) (k : DefKind) → map zeroed (say.of_def_kind line x k) ≡ say.of_def_kind 0 x k
 kind line x (D.ObjectIdentifier v) = λ i. on_line 0 (say.lower x) ∷ say.word (codes "OBJECT") ∷ say.word (codes "IDENTIFIER") ∷ value v i
 kind line x (D.ModuleIdentity d) = λ i. on_line 0 (say.lower x) ∷ module_identity d i
 kind line x (D.ObjectIdentity d) = λ i. on_line 0 (say.lower x) ∷ say.word (codes "OBJECT-IDENTITY") ∷ stated d.status d.value i
@@ -237,7 +237,7 @@ kind line x (D.Sequence fs) = λ i.
     on_line 0 (say.upper x) ∷ sign K.Assign ∷ say.word (codes "SEQUENCE") ∷ braces (say.of_list (sign K.Comma) say.of_field fs) (between K.Comma say.of_field field fs) i
 kind line x (D.Choice xs) = λ i. on_line 0 (say.upper x) ∷ sign K.Assign ∷ say.word (codes "CHOICE") ∷ braces (say.of_balanced xs) (balanced xs) i
 kind line x (D.Macro xs) = λ i.
-    on_line 0 (spelt K.Upper x (if is_macro x then true else not (is_reserved x))) ∷ say.word (codes "MACRO") ∷ sign K.Assign ∷ say.word (codes "BEGIN") ∷
+    on_line 0 (spelled K.Upper x.octets (if is_macro x.octets then true else not (is_reserved x.octets))) ∷ say.word (codes "MACRO") ∷ sign K.Assign ∷ say.word (codes "BEGIN") ∷
     both (say.of_raw_body xs) (say.word (codes "END") ∷ []) (raw_body xs) refl i
 
 -- ---- modules
@@ -270,7 +270,7 @@ imports (Some xs) = λ i.
 abbrev heading_marks : List Part → List Mark
 heading_marks ps = say.braces (flat_map say.of_part ps)
 
-head : (name : List ℕ) (heading : Option (List Part)) (is : Option (List Import)) → map zeroed (say.of_head name heading is) ≡ say.of_head name heading (option_map (map unlined_import) is)
+head : (name : Name) (heading : Option (List Part)) (is : Option (List Import)) → map zeroed (say.of_head name heading is) ≡ say.of_head name heading (option_map (map unlined_import) is)
 head name heading is = λ i.
     say.upper name ∷
     (zeroed-append (say.of_option heading_marks heading) (say.word (codes "DEFINITIONS") ∷ sign K.Assign ∷ say.word (codes "BEGIN") ∷ say.of_option import_marks is)
@@ -295,8 +295,7 @@ abbrev first_line : Lexeme → Lexeme
 first_line t = record { kind = t.kind; span = t.span; text = t.text; line = 0 }
 
 fits-zeroed : (m : Mark) (t : Lexeme) → Fits (plain m) t → Fits (zeroed m) (first_line t)
-fits-zeroed (sign k) t h = h
-fits-zeroed (spelt k x ok) t h = h
+fits-zeroed (spelled k x ok) t h = h
 fits-zeroed (on_line n m) t h = (fits-zeroed m t h, refl)
 
 stands-zeroed : (ms : List Mark) (ts : List Lexeme) → Stands (map plain ms) ts [] → Stands (map zeroed ms) (map first_line ts) []

@@ -1,20 +1,21 @@
 -- One step of the loops that read the names of an index, and tokens between braces.
-use Rattle.std.proofs.Common.{◌≡◌, ℕ, zero, suc, ◌+◌, ◌-◌, ◌<◌, ◌≤◌, true, false, List, [], ◌∷◌, ◌++◌, length, Some, None, if◌then◌else◌, refl, sym, ap, arith, append_assoc, length-drop}
-use Rattle.std.specs.Prelude.{◌==◌, codes, drop}
+use Rattle.std.proofs.Common.{◌≡◌, ℕ, zero, suc, ◌+◌, ◌-◌, ◌<◌, ◌≤◌, true, false, List, [], ◌∷◌, ◌++◌, length, Some, None, if◌then◌else◌, refl, sym, ap, arith, append_assoc}
+use Rattle.std.specs.Prelude.{◌==◌, codes}
 use Rattle.smi_lexer.specs.declared.token.TokenKind.{TokenKind}
 use Rattle.smi_lexer.specs.declared.token.TokenKind.TheVariants as K
 use Rattle.smi_lexer.specs.Token.{Lexeme}
-use Rattle.smi_text.specs.declared.tree.TokenText.{TokenText}
-use Rattle.smi_text.specs.declared.tree.IndexParts.{IndexParts}
-use Rattle.smi_text.specs.Mark.{same_kind}
-use Rattle.smi_text.specs.Format.{Reading, a_word, a_kind, begins, word, text, behind, with_front}
+use Rattle.smi_module.specs.declared.tree.TokenText.{TokenText}
+use Rattle.smi_module.specs.declared.tree.IndexParts.{IndexParts}
+use Rattle.smi_module.specs.Mark.{same_kind}
+use Rattle.smi_text.specs.Format.{Reading, a_word, a_kind, begins, word, behind, with_front, lower, token}
 use Rattle.smi_text.specs.Grammar.{index_names, read_index, with_names, parts_of, depth_after, is_outside, kept_text, read_balanced, balanced}
-use Rattle.smi_text.proofs.Laws.{text-law}
+use Rattle.smi_module.specs.declared.names.Name.{Name}
+use Rattle.smi_text.proofs.Laws.{lower-law, token-law}
 use Rattle.smi_text.proofs.Many.{reading-shorter, with_front-append, with_front-end}
 
 -- the names of an index
 
-with_names-none : (xs : List (List ℕ)) (r : Reading IndexParts) → r ≡ None → with_names xs r ≡ None
+with_names-none : (xs : List Name) (r : Reading IndexParts) → r ≡ None → with_names xs r ≡ None
 unfolding with_names
 with_names-none xs r e = rw e refl
 
@@ -23,22 +24,26 @@ unfolding with_names
 with_names-nil None = refl
 with_names-nil (Some p) = refl
 
-with_names-append : (xs ys : List (List ℕ)) (r : Reading IndexParts) → with_names (xs ++ ys) r ≡ with_names xs (with_names ys r)
+with_names-append : (xs ys : List Name) (r : Reading IndexParts) → with_names (xs ++ ys) r ≡ with_names xs (with_names ys r)
 unfolding with_names
 with_names-append xs ys None = refl
-with_names-append xs ys (Some p) = ap (λ (zs : List (List ℕ)). Some (parts_of zs p.0.implied, p.1)) (append_assoc xs ys p.0.names)
+with_names-append xs ys (Some p) = ap (λ (zs : List Name). Some (parts_of zs p.0.implied, p.1)) (append_assoc xs ys p.0.names)
 
-text-shorter : (x : List ℕ) (ts rest : List Lexeme) → (text K.Lower).read ts ≡ Some (x, rest) → length rest < length ts
-unfolding text
-text-shorter x ts rest h = reading-shorter (text K.Lower) (text-law K.Lower) refl x ts rest h
+name-shorter : (x : Name) (ts rest : List Lexeme) → lower.read ts ≡ Some (x, rest) → length rest < length ts
+unfolding lower
+name-shorter x ts rest h = reading-shorter lower lower-law refl x ts rest h
+
+comma-shorter : (ts rest : List Lexeme) → (token K.Comma).read ts ≡ Some (tt, rest) → length rest < length ts
+unfolding token
+comma-shorter ts rest h = reading-shorter (token K.Comma) (token-law K.Comma) refl tt ts rest h
 
 some-token : (w : List ℕ) (ts : List Lexeme) → begins (a_word w ∷ []) ts ≡ true → 0 < length ts
 unfolding begins
 some-token w [] b = absurd (cc)
 some-token w (t ∷ ts) b = omega arith
 
-module _ (names : List (List ℕ)) (n : ℕ) (ts : List Lexeme) (enough : length ts ≤ n) where
-  pub index-implied : (x : List ℕ) (mid rest : List Lexeme) → begins (a_word (codes "IMPLIED") ∷ []) ts ≡ true → (word (codes "IMPLIED")).read ts ≡ Some (tt, mid) → (text K.Lower).read mid ≡ Some (x, rest) → with_names names (read_index n ts) ≡ Some (parts_of (names ++ x ∷ []) true, rest)
+module _ (names : List Name) (n : ℕ) (ts : List Lexeme) (enough : length ts ≤ n) where
+  pub index-implied : (x : Name) (mid rest : List Lexeme) → begins (a_word (codes "IMPLIED") ∷ []) ts ≡ true → (word (codes "IMPLIED")).read ts ≡ Some (tt, mid) → lower.read mid ≡ Some (x, rest) → with_names names (read_index n ts) ≡ Some (parts_of (names ++ x ∷ []) true, rest)
   unfolding read_index behind with_names
   index-implied x mid rest b w e = by-bound n enough
     where
@@ -46,7 +51,7 @@ module _ (names : List (List ℕ)) (n : ℕ) (ts : List Lexeme) (enough : length
       by-bound zero k = absurd (omega (arith, some-token (codes "IMPLIED") ts b))
       by-bound (suc m) k = rw (b, w, e) refl
 
-  pub index-no_name : (mid : List Lexeme) → begins (a_word (codes "IMPLIED") ∷ []) ts ≡ true → (word (codes "IMPLIED")).read ts ≡ Some (tt, mid) → (text K.Lower).read mid ≡ None → with_names names (read_index n ts) ≡ None
+  pub index-no_name : (mid : List Lexeme) → begins (a_word (codes "IMPLIED") ∷ []) ts ≡ true → (word (codes "IMPLIED")).read ts ≡ Some (tt, mid) → lower.read mid ≡ None → with_names names (read_index n ts) ≡ None
   unfolding read_index behind
   index-no_name mid b w e = with_names-none names (read_index n ts) (by-bound n)
     where
@@ -54,7 +59,7 @@ module _ (names : List (List ℕ)) (n : ℕ) (ts : List Lexeme) (enough : length
       by-bound zero = refl
       by-bound (suc m) = rw (b, w, e) refl
 
-  pub index-stuck : begins (a_word (codes "IMPLIED") ∷ []) ts ≡ false → (text K.Lower).read ts ≡ None → with_names names (read_index n ts) ≡ None
+  pub index-stuck : begins (a_word (codes "IMPLIED") ∷ []) ts ≡ false → lower.read ts ≡ None → with_names names (read_index n ts) ≡ None
   unfolding read_index
   index-stuck b e = with_names-none names (read_index n ts) (by-bound n)
     where
@@ -62,26 +67,34 @@ module _ (names : List (List ℕ)) (n : ℕ) (ts : List Lexeme) (enough : length
       by-bound zero = refl
       by-bound (suc m) = rw (b, e) refl
 
-  pub index-last : (x : List ℕ) (rest : List Lexeme) → begins (a_word (codes "IMPLIED") ∷ []) ts ≡ false → (text K.Lower).read ts ≡ Some (x, rest) → begins (a_kind K.Comma ∷ []) rest ≡ false → with_names names (read_index n ts) ≡ Some (parts_of (names ++ x ∷ []) false, rest)
+  pub index-last : (x : Name) (rest : List Lexeme) → begins (a_word (codes "IMPLIED") ∷ []) ts ≡ false → lower.read ts ≡ Some (x, rest) → begins (a_kind K.Comma ∷ []) rest ≡ false → with_names names (read_index n ts) ≡ Some (parts_of (names ++ x ∷ []) false, rest)
   unfolding read_index with_names
   index-last x rest b e c = by-bound n enough
     where
       by-bound : (m : ℕ) → length ts ≤ m → with_names names (read_index m ts) ≡ Some (parts_of (names ++ x ∷ []) false, rest)
-      by-bound zero k = absurd (omega (arith, text-shorter x ts rest e))
+      by-bound zero k = absurd (omega (arith, name-shorter x ts rest e))
       by-bound (suc m) k = rw (b, e, c) refl
 
-  pub index-next : (x : List ℕ) (rest : List Lexeme) → begins (a_word (codes "IMPLIED") ∷ []) ts ≡ false → (text K.Lower).read ts ≡ Some (x, rest) → begins (a_kind K.Comma ∷ []) rest ≡ true
-      → (m : ℕ) × (length (drop 1 rest) ≤ m) × (with_names names (read_index n ts) ≡ with_names (names ++ x ∷ []) (read_index m (drop 1 rest)))
-  unfolding read_index
-  index-next x rest b e c = by-bound n enough
+  pub index-no_comma : (x : Name) (rest : List Lexeme) → begins (a_word (codes "IMPLIED") ∷ []) ts ≡ false → lower.read ts ≡ Some (x, rest) → begins (a_kind K.Comma ∷ []) rest ≡ true → (token K.Comma).read rest ≡ None → with_names names (read_index n ts) ≡ None
+  unfolding read_index with_names
+  index-no_comma x rest b e c t = with_names-none names (read_index n ts) (by-bound n)
     where
-      by-bound : (k : ℕ) → length ts ≤ k → (m : ℕ) × (length (drop 1 rest) ≤ m) × (with_names names (read_index k ts) ≡ with_names (names ++ x ∷ []) (read_index m (drop 1 rest)))
-      by-bound zero h = absurd (omega (arith, text-shorter x ts rest e))
-      by-bound (suc m) h =
-          (m, omega (arith, text-shorter x ts rest e, length-drop 1 rest), rw (b, e, c) (sym (with_names-append names (x ∷ []) (read_index m (drop 1 rest)))))
+      by-bound : (m : ℕ) → read_index m ts ≡ None
+      by-bound zero = refl
+      by-bound (suc m) = rw (b, e, c, t) refl
 
-pub next-shorter : (x : List ℕ) (ts rest : List Lexeme) → (text K.Lower).read ts ≡ Some (x, rest) → length (drop 1 rest) < length ts
-next-shorter x ts rest e = omega (arith, text-shorter x ts rest e, length-drop 1 rest)
+  pub index-next : (x : Name) (rest after : List Lexeme) → begins (a_word (codes "IMPLIED") ∷ []) ts ≡ false → lower.read ts ≡ Some (x, rest) → begins (a_kind K.Comma ∷ []) rest ≡ true → (token K.Comma).read rest ≡ Some (tt, after)
+      → (m : ℕ) × (length after ≤ m) × (with_names names (read_index n ts) ≡ with_names (names ++ x ∷ []) (read_index m after))
+  unfolding read_index
+  index-next x rest after b e c t = by-bound n enough
+    where
+      by-bound : (k : ℕ) → length ts ≤ k → (m : ℕ) × (length after ≤ m) × (with_names names (read_index k ts) ≡ with_names (names ++ x ∷ []) (read_index m after))
+      by-bound zero h = absurd (omega (arith, name-shorter x ts rest e))
+      by-bound (suc m) h =
+          (m, omega (arith, name-shorter x ts rest e, comma-shorter rest after t), rw (b, e, c, t) (sym (with_names-append names (x ∷ []) (read_index m after))))
+
+pub next-shorter : (x : Name) (ts rest after : List Lexeme) → lower.read ts ≡ Some (x, rest) → (token K.Comma).read rest ≡ Some (tt, after) → length after < length ts
+next-shorter x ts rest after e t = omega (arith, name-shorter x ts rest e, comma-shorter rest after t)
 
 pub index_names-starts : (ts : List Lexeme) → index_names.read ts ≡ read_index (length ts) ts
 unfolding index_names

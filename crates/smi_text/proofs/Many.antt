@@ -1,11 +1,11 @@
 -- Readings of any number of one part.
 use Rattle.std.proofs.Common.{◌≡◌, ℕ, zero, suc, ◌+◌, ◌<◌, ◌≤◌, true, false, List, [], ◌∷◌, ◌++◌, length, Some, None, if◌then◌else◌, option_map, option_and_then, refl, sym, ◌∙◌, ap, subst, arith, inl, inr, append_assoc, append-nil}
 use Rattle.smi_lexer.specs.Token.{Lexeme}
-use Rattle.smi_text.specs.Mark.{Mark, Stands}
+use Rattle.smi_module.specs.Mark.{Mark, Stands}
 use Rattle.smi_text.specs.Format.{Format, Reading, begins, read_many, many, with_front}
 use Rattle.smi_text.proofs.Lawful.{Lawful}
 
--- tokens that are spelt by no mark are the rest; else the rest is shorter
+-- tokens that are spelled by no mark are the rest; else the rest is shorter
 pub Stands-length : (ms : List Mark) (ts rest : List Lexeme) → Stands ms ts rest → length ts ≡ length ms + length rest
 Stands-length [] ts rest h = ap length h ∙ omega arith
 Stands-length (m ∷ ms) [] rest h = absurd h

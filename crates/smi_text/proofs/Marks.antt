@@ -5,9 +5,9 @@ use Rattle.std.specs.List.{list_any, list_all}
 use Rattle.smi_lexer.specs.declared.token.TokenKind.{TokenKind}
 use Rattle.smi_lexer.specs.declared.token.TokenKind.TheVariants.{Lower, Upper, Number, Text, Hex, Binary, Assign, Range, OpenBrace, CloseBrace, OpenParen, CloseParen, OpenBracket, CloseBracket, Less, Greater, Comma, Semicolon, Colon, Bar, Dot, Equals}
 use Rattle.smi_lexer.specs.Token.{Lexeme}
-use Rattle.smi_text.specs.Mark.{Mark, kind_number, same_kind, same_text, Stands}
-use Rattle.smi_text.specs.Reserved.{is_reserved}
-use Rattle.smi_text.specs.Format.{Ahead, a_word, a_name, a_kind, no_word, no_kind, is_word, meets, begins, half_apart, apart}
+use Rattle.smi_module.specs.Mark.{Mark, kind_number, same_kind, same_text, Stands}
+use Rattle.smi_module.specs.Reserved.{is_reserved}
+use Rattle.smi_text.specs.Format.{Ahead, a_word, a_name, a_kind, no_word, no_kind, is_this_word, meets, begins, half_apart, apart}
 
 -- tests
 
@@ -148,10 +148,10 @@ true-not true h k = cc
 true-not false h k = cc
 
 module _ (t : Lexeme) where
-  word-kind : (w : List ℕ) → is_word w t ≡ true → t.kind ≡ Upper
+  word-kind : (w : List ℕ) → is_this_word w t ≡ true → t.kind ≡ Upper
   word-kind w h = same_kind-eq t.kind Upper (and-left (same_kind t.kind Upper) (same_text t.text w) h)
 
-  word-text : (w : List ℕ) → is_word w t ≡ true → t.text ≡ w
+  word-text : (w : List ℕ) → is_this_word w t ≡ true → t.text ≡ w
   word-text w h = same_text-eq t.text w (and-right (same_kind t.kind Upper) (same_text t.text w) h)
 
   kind-clash : (j k : TokenKind) → not (same_kind j k) ≡ true → t.kind ≡ j → t.kind ≡ k → ⊥
@@ -164,7 +164,7 @@ module _ (t : Lexeme) where
       true-not (is_reserved t.text) (and-right (same_kind t.kind Upper) (not (is_reserved t.text)) k) (rw (word-text v h) a)
   half-sound (a_word v) (a_kind k) a h e = kind-clash Upper k a (word-kind v h) (same_kind-eq t.kind k e)
   half-sound (a_word v) (no_word w) a h k =
-      true-not (is_word w t) k (let e : v ≡ w = same_text-eq v w a in rw (← e) h)
+      true-not (is_this_word w t) k (let e : v ≡ w = same_text-eq v w a in rw (← e) h)
   half-sound (a_word v) (no_kind k) a h e = cc
   half-sound a_name (a_word w) a h k = cc
   half-sound a_name a_name a h k = cc

@@ -1,56 +1,57 @@
 -- The productions of the grammar are lawful.
 use Rattle.std.proofs.Common.{◌≡◌, ℕ, zero, suc, ◌≤◌, Bool, true, false, ◌&&◌, ◌||◌, not, List, [], ◌∷◌, ◌++◌, length, Option, Some, None, if◌then◌else◌, refl, sym, ◌∙◌, ap, subst, arith, inl, inr, ◌⊎◌}
-use Rattle.std.specs.Prelude.{◌==◌, codes, map, drop, option_map, option_and_then}
+use Rattle.std.specs.Prelude.{◌==◌, codes, map, option_map, option_and_then}
 use Rattle.std.specs.List.{list_any, list_all}
 use Rattle.smi_lexer.specs.declared.token.TokenKind.{TokenKind}
 use Rattle.smi_lexer.specs.declared.token.TokenKind.TheVariants as K
 use Rattle.smi_lexer.specs.Token.{Lexeme}
-use Rattle.smi_text.specs.Mark.{Mark, sign, spelt, on_line, same_kind, same_text, Fits, Stands}
-use Rattle.smi_text.specs.Reserved.{is_reserved, macros, reserved_words}
-use Rattle.smi_text.specs.Number.{is_arc, is_number, is_bound, is_symbol, is_macro, is_literal}
-use Rattle.smi_text.specs.Format.{Format, Reading, Ahead, a_word, a_name, a_kind, no_word, no_kind, meets, apart, never, begins, spell_pieces, before, begins, behind, either, lined, many, maybe, name, pair, separated, shaped, some_of, text, text_where, token, with_front, word}
+use Rattle.smi_module.specs.Mark.{Mark, sign, spelled, on_line, same_kind, same_text, Stands}
+use Rattle.smi_module.specs.Reserved.{is_reserved, macros, reserved_words}
+use Rattle.smi_module.specs.Number.{is_arc, is_number, is_bound, is_symbol, is_macro, is_literal}
+use Rattle.smi_text.specs.Format.{Format, Reading, Ahead, a_word, a_name, a_kind, no_word, no_kind, meets, apart, never, begins, spell_pieces, before, begins, behind, either, lined, many, maybe, name, pair, separated, shaped, some_of, text, text_where, token, with_front, word, lower}
 use Rattle.smi_text.specs.Grammar.{index_marks, parts_of, implied_name, kept, kept_text, macro_words, to_named_number, from_named_number, to_part, from_part, to_later_part, from_later_part, to_range, from_range, to_refinement, from_refinement, to_base, from_base, to_simple_type, from_simple_type, to_syntax, from_syntax, to_field, from_field, to_status, from_status, to_revision, from_revision, to_index, from_index, depth_after, is_outside, raw_marks, to_module_identity, from_module_identity, to_object_identity, from_object_identity, to_object_type, from_object_type, to_notification_type, from_notification_type, to_group, from_group, to_raw_definition, from_raw_definition, to_textual_convention, from_textual_convention, Lower, to_lower, from_lower, Assigned, to_assigned, from_assigned, from_type, to_macro, from_macro, to_upper, from_upper, Labelled, to_def, from_def, def_pieces, to_import, from_import, to_head, from_head, to_module, from_module, head_of, arc, assigned, balanced, base, before_assign, before_end, bound, braced, choice, clause, default_value, definition, field, file, group, head, heading, identifier, import_clause, imports, index, index_names, is_balanced, later_part, lower_definition, macro_body, macro_definition, macro_name, module_identity, module_text, named_number, names, notification_type, object_identifier, object_identifier_words, object_identity, object_type, objects, octet_string_words, of_row, opening, parenthesized, part, range, ranges, raw_definition, read_balanced, read_index, refinement, revision, sequence, simple_type, size, status, symbol, syntax_clause, syntax_type, tag, tagged, textual_convention, upper_definition, value, with_names}
 use Rattle.smi_text.proofs.Lawful.{Lawful}
-use Rattle.smi_text.proofs.Marks.{and-left, and-right, and-both, or-cases, or-left, or-right, or-false, false-from, same_kind-eq, same_kind-same, same_text-eq, Stands-append, Stands-split, begins-none, begins-append, map-inv, then-inv}
+use Rattle.smi_text.proofs.Marks.{and-left, and-right, and-both, or-cases, or-left, or-right, or-false, false-from, same_text-eq, Stands-append, Stands-split, begins-none, begins-append, map-inv, then-inv}
 use Rattle.smi_text.proofs.Many.{Stands-length}
-use Rattle.smi_text.proofs.Laws.{IsOne, some-inj, if-some, if-true, any-one, never-stands, one-law, word-law, token-law, text-law, text_where-law, name-law, pair-law, behind-law, before-law, maybe-law, either-law, many-law, shaped-law, lined-law, starts-with}
-use Rattle.smi_text.specs.declared.tree.TokenText.{TokenText}
-use Rattle.smi_text.specs.declared.tree.Part.{Part}
-use Rattle.smi_text.specs.declared.tree.IndexParts.{IndexParts}
-use Rattle.smi_text.specs.declared.tree.Index.TheVariants as I
-use Rattle.smi_text.specs.declared.tree.Index.{Index}
-use Rattle.smi_text.specs.declared.tree.Def.{Def}
-use Rattle.smi_text.specs.declared.tree.DefKind.{DefKind}
-use Rattle.smi_text.specs.declared.tree.DefKind.TheVariants as D
-use Rattle.smi_text.specs.declared.tree.Status.{Status}
-use Rattle.smi_text.specs.declared.tree.NotificationType.{NotificationType}
-use Rattle.smi_text.specs.declared.tree.Group.{Group}
-use Rattle.smi_text.specs.declared.tree.RawDefinition.{RawDefinition}
-use Rattle.smi_text.specs.declared.tree.Part.TheVariants as P
-use Rattle.smi_text.specs.declared.tree.NamedNumber.{NamedNumber}
-use Rattle.smi_text.specs.declared.tree.Syntax.{Syntax}
-use Rattle.smi_text.specs.declared.tree.Syntax.TheVariants as T
-use Rattle.smi_text.specs.declared.tree.SimpleType.{SimpleType}
-use Rattle.smi_text.specs.declared.tree.Base.{Base}
-use Rattle.smi_text.specs.declared.tree.Refinement.{Refinement}
-use Rattle.smi_text.specs.declared.tree.Range.{Range}
-use Rattle.smi_text.specs.declared.tree.Base.TheVariants as B
-use Rattle.smi_text.specs.declared.tree.Refinement.TheVariants as R
+use Rattle.smi_text.proofs.Laws.{IsOne, some-inj, if-some, if-true, any-one, never-stands, one-law, word-law, token-law, text-law, text_where-law, name_where-law, lower-law, name-law, pair-law, behind-law, before-law, maybe-law, either-law, many-law, shaped-law, lined-law, starts-with}
+use Rattle.smi_module.specs.declared.tree.TokenText.{TokenText}
+use Rattle.smi_module.specs.declared.names.Name.{Name}
+use Rattle.smi_module.specs.declared.tree.Part.{Part}
+use Rattle.smi_module.specs.declared.tree.IndexParts.{IndexParts}
+use Rattle.smi_module.specs.declared.tree.Index.TheVariants as I
+use Rattle.smi_module.specs.declared.tree.Index.{Index}
+use Rattle.smi_module.specs.declared.tree.Def.{Def}
+use Rattle.smi_module.specs.declared.tree.DefKind.{DefKind}
+use Rattle.smi_module.specs.declared.tree.DefKind.TheVariants as D
+use Rattle.smi_module.specs.declared.tree.Status.{Status}
+use Rattle.smi_module.specs.declared.tree.NotificationType.{NotificationType}
+use Rattle.smi_module.specs.declared.tree.Group.{Group}
+use Rattle.smi_module.specs.declared.tree.RawDefinition.{RawDefinition}
+use Rattle.smi_module.specs.declared.tree.Part.TheVariants as P
+use Rattle.smi_module.specs.declared.tree.NamedNumber.{NamedNumber}
+use Rattle.smi_module.specs.declared.tree.Syntax.{Syntax}
+use Rattle.smi_module.specs.declared.tree.Syntax.TheVariants as T
+use Rattle.smi_module.specs.declared.tree.SimpleType.{SimpleType}
+use Rattle.smi_module.specs.declared.tree.Base.{Base}
+use Rattle.smi_module.specs.declared.tree.Refinement.{Refinement}
+use Rattle.smi_module.specs.declared.tree.Range.{Range}
+use Rattle.smi_module.specs.declared.tree.Base.TheVariants as B
+use Rattle.smi_module.specs.declared.tree.Refinement.TheVariants as R
 
 -- pieces and parts
 
 pub clause-law : (w : List ℕ) → Lawful (clause w)
-unfolding behind clause text word
+unfolding behind clause text word lower
 clause-law w = behind-law (word w) (text K.Text) (word-law w) (text-law K.Text) refl refl
 
 pub braced-law : {A : Type 0} (f : Format A) → Lawful f → apart f.stop (a_kind K.CloseBrace ∷ []) ≡ true → Lawful (braced f)
-unfolding before behind braced token
+unfolding before behind braced token lower
 braced-law f law far =
     behind-law (token K.OpenBrace) (before f (token K.CloseBrace)) (token-law K.OpenBrace)
     (before-law f (token K.CloseBrace) law (token-law K.CloseBrace) refl far) refl refl
 
 pub parenthesized-law : {A : Type 0} (f : Format A) → Lawful f → apart f.stop (a_kind K.CloseParen ∷ []) ≡ true → Lawful (parenthesized f)
-unfolding before behind parenthesized token
+unfolding before behind parenthesized token lower
 parenthesized-law f law far =
     behind-law (token K.OpenParen) (before f (token K.CloseParen)) (token-law K.OpenParen)
     (before-law f (token K.CloseParen) law (token-law K.CloseParen) refl far) refl refl
@@ -105,7 +106,7 @@ module _ {A : Type 0} (f g : Format A) (f-law : Lawful f) (g-law : Lawful g) (f-
   }
 
 pub separated-law : {A : Type 0} (k : TokenKind) (f : Format A) → Lawful f → f.empty ≡ false → apart f.stop (a_kind k ∷ []) ≡ true → Lawful (separated k f)
-unfolding separated behind token
+unfolding separated behind token lower
 separated-law k f law solid far =
     some_of-law f (behind (token k) f) law (behind-law (token k) f (token-law k) law refl refl) solid refl far far
 
@@ -113,7 +114,7 @@ same-token : (t : Lexeme) (x : TokenText) → t.kind ≡ x.kind → t.text ≡ x
 same-token t x e f = rw (e, f) refl
 
 kept-is : (cs : List Ahead) (ok : TokenKind → List ℕ → Bool) → ((t : Lexeme) → ok t.kind t.text ≡ true → list_any (meets t) cs ≡ true)
-    → IsOne cs (λ (x : TokenText). spelt x.kind x.text (ok x.kind x.text)) (λ t. if ok t.kind t.text then Some (kept_text t) else None)
+    → IsOne cs (λ (x : TokenText). spelled x.kind x.text (ok x.kind x.text)) (λ t. if ok t.kind t.text then Some (kept_text t) else None)
 kept-is cs ok ahead = record {
   fits = λ t x h.
       let p = if-some (ok t.kind t.text) (kept_text t) x h in
@@ -125,7 +126,7 @@ kept-is cs ok ahead = record {
 }
 
 pub kept-law : (cs : List Ahead) (ok : TokenKind → List ℕ → Bool) → ((t : Lexeme) → ok t.kind t.text ≡ true → list_any (meets t) cs ≡ true) → Lawful (kept cs ok)
-kept-law cs ok ahead = one-law cs (λ (x : TokenText). spelt x.kind x.text (ok x.kind x.text)) (λ t. if ok t.kind t.text then Some (kept_text t) else None) (kept-is cs ok ahead)
+kept-law cs ok ahead = one-law cs (λ (x : TokenText). spelled x.kind x.text (ok x.kind x.text)) (λ t. if ok t.kind t.text then Some (kept_text t) else None) (kept-is cs ok ahead)
 
 -- identifiers
 
@@ -133,48 +134,48 @@ pub arc-law : Lawful arc
 unfolding arc
 arc-law = text_where-law K.Number is_arc
 
-part-back : (x : List ℕ ⊎ (List ℕ × Option (List ℕ))) → from_part (to_part x) ≡ Some x
+part-back : (x : List ℕ ⊎ (Name × Option (List ℕ))) → from_part (to_part x) ≡ Some x
 part-back (inl n) = refl
 part-back (inr (x, None)) = refl
 part-back (inr (x, Some n)) = refl
 
-part-forth : (y : Part) (x : List ℕ ⊎ (List ℕ × Option (List ℕ))) → from_part y ≡ Some x → to_part x ≡ y
+part-forth : (y : Part) (x : List ℕ ⊎ (Name × Option (List ℕ))) → from_part y ≡ Some x → to_part x ≡ y
 part-forth (P.Number n) x e = ap to_part (sym (some-inj (inl n) x e))
 part-forth (P.Name n) x e = ap to_part (sym (some-inj (inr (n, None)) x e))
 part-forth (P.NamedNumber n) x e = ap to_part (sym (some-inj (inr (n.name, Some n.number)) x e))
 
 pub part-law : Lawful part
-unfolding arc before behind either maybe pair parenthesized part shaped text text_where token
+unfolding arc before behind either maybe pair parenthesized part shaped text text_where token lower
 part-law =
-    shaped-law to_part from_part (either arc (pair (text K.Lower) (maybe (parenthesized arc))))
-    (either-law arc (pair (text K.Lower) (maybe (parenthesized arc))) arc-law
-    (pair-law (text K.Lower) (maybe (parenthesized arc)) (text-law K.Lower)
+    shaped-law to_part from_part (either arc (pair lower (maybe (parenthesized arc))))
+    (either-law arc (pair lower (maybe (parenthesized arc))) arc-law
+    (pair-law lower (maybe (parenthesized arc)) lower-law
     (maybe-law (parenthesized arc) (parenthesized-law arc arc-law refl) refl) refl) refl refl refl)
     (λ x ts rest h. part-back x) part-forth
 
-later-back : (x : List ℕ ⊎ (List ℕ × List ℕ)) → from_later_part (to_later_part x) ≡ Some x
+later-back : (x : List ℕ ⊎ (Name × List ℕ)) → from_later_part (to_later_part x) ≡ Some x
 later-back (inl n) = refl
 later-back (inr (x, n)) = refl
 
-later-forth : (y : Part) (x : List ℕ ⊎ (List ℕ × List ℕ)) → from_later_part y ≡ Some x → to_later_part x ≡ y
+later-forth : (y : Part) (x : List ℕ ⊎ (Name × List ℕ)) → from_later_part y ≡ Some x → to_later_part x ≡ y
 later-forth (P.Number n) x e = ap to_later_part (sym (some-inj (inl n) x e))
 later-forth (P.Name n) x e = absurd (cc)
 later-forth (P.NamedNumber n) x e = ap to_later_part (sym (some-inj (inr (n.name, n.number)) x e))
 
 pub later_part-law : Lawful later_part
-unfolding arc before behind either later_part pair parenthesized shaped text text_where token
+unfolding arc before behind either later_part pair parenthesized shaped text text_where token lower
 later_part-law =
-    shaped-law to_later_part from_later_part (either arc (pair (text K.Lower) (parenthesized arc)))
-    (either-law arc (pair (text K.Lower) (parenthesized arc)) arc-law
-    (pair-law (text K.Lower) (parenthesized arc) (text-law K.Lower) (parenthesized-law arc arc-law refl) refl) refl refl refl)
+    shaped-law to_later_part from_later_part (either arc (pair lower (parenthesized arc)))
+    (either-law arc (pair lower (parenthesized arc)) arc-law
+    (pair-law lower (parenthesized arc) lower-law (parenthesized-law arc arc-law refl) refl) refl refl refl)
     (λ x ts rest h. later-back x) later-forth
 
 pub identifier-law : Lawful identifier
-unfolding arc before behind braced either identifier later_part many maybe pair parenthesized part shaped some_of text text_where token
+unfolding arc before behind braced either identifier later_part many maybe pair parenthesized part shaped some_of text text_where token lower
 identifier-law = braced-law (some_of part later_part) (some_of-law part later_part part-law later_part-law refl refl refl refl) refl
 
 pub value-law : Lawful value
-unfolding arc before behind braced either identifier later_part many maybe pair parenthesized part shaped some_of text text_where token value
+unfolding arc before behind braced either identifier later_part many maybe pair parenthesized part shaped some_of text text_where token value lower
 value-law = behind-law (token K.Assign) identifier (token-law K.Assign) identifier-law refl refl
 
 -- types
@@ -195,7 +196,7 @@ unfolding bound
 bound-law = kept-law (a_kind K.Number ∷ a_kind K.Hex ∷ a_kind K.Binary ∷ []) is_bound bound-ahead
 
 pub range-law : Lawful range
-unfolding behind bound maybe pair range shaped token
+unfolding behind bound maybe pair range shaped token lower
 range-law =
     shaped-law to_range from_range (pair bound (maybe (behind (token K.Range) bound)))
     (pair-law bound (maybe (behind (token K.Range) bound)) bound-law
@@ -203,19 +204,19 @@ range-law =
     (λ x ts rest h. refl) (λ y x e. ap to_range (sym (some-inj (y.low, y.high) x e)))
 
 pub ranges-law : Lawful ranges
-unfolding behind bound many maybe pair range ranges separated shaped some_of token
+unfolding behind bound many maybe pair range ranges separated shaped some_of token lower
 ranges-law = separated-law K.Bar range range-law refl refl
 
 pub named_number-law : Lawful named_number
-unfolding before behind named_number pair parenthesized shaped text text_where token
+unfolding before behind named_number pair parenthesized shaped text text_where token lower
 named_number-law =
-    shaped-law to_named_number from_named_number (pair (text K.Lower) (parenthesized (text_where K.Number is_number)))
-    (pair-law (text K.Lower) (parenthesized (text_where K.Number is_number)) (text-law K.Lower)
+    shaped-law to_named_number from_named_number (pair lower (parenthesized (text_where K.Number is_number)))
+    (pair-law lower (parenthesized (text_where K.Number is_number)) lower-law
     (parenthesized-law (text_where K.Number is_number) (text_where-law K.Number is_number) refl) refl)
     (λ x ts rest h. refl) (λ y x e. ap to_named_number (sym (some-inj (y.name, y.number) x e)))
 
 pub size-law : Lawful size
-unfolding before behind bound many maybe pair parenthesized range ranges separated shaped size some_of token word
+unfolding before behind bound many maybe pair parenthesized range ranges separated shaped size some_of token word lower
 size-law = behind-law (word (codes "SIZE")) (parenthesized ranges) (word-law (codes "SIZE")) (parenthesized-law ranges ranges-law refl) refl refl
 
 refinement-back : (x : List NamedNumber ⊎ (List Range ⊎ List Range)) → from_refinement (to_refinement x) ≡ Some x
@@ -229,7 +230,7 @@ refinement-forth (R.Values rs) x e = ap to_refinement (sym (some-inj (inr (inr r
 refinement-forth (R.Size rs) x e = ap to_refinement (sym (some-inj (inr (inl rs)) x e))
 
 pub refinement-law : Lawful refinement
-unfolding before behind bound braced either many maybe named_number pair parenthesized range ranges refinement separated shaped size some_of text text_where token word
+unfolding before behind bound braced either many maybe named_number pair parenthesized range ranges refinement separated shaped size some_of text text_where token word lower
 refinement-law =
     shaped-law to_refinement from_refinement (either (braced (separated K.Comma named_number)) (parenthesized (either size ranges)))
     (either-law (braced (separated K.Comma named_number)) (parenthesized (either size ranges))
@@ -238,23 +239,23 @@ refinement-law =
     (λ x ts rest h. refinement-back x) refinement-forth
 
 pub object_identifier_words-law : Lawful object_identifier_words
-unfolding behind object_identifier_words word
+unfolding behind object_identifier_words word lower
 object_identifier_words-law =
     behind-law (word (codes "OBJECT")) (word (codes "IDENTIFIER")) (word-law (codes "OBJECT")) (word-law (codes "IDENTIFIER")) refl refl
 
 pub octet_string_words-law : Lawful octet_string_words
-unfolding behind octet_string_words word
+unfolding behind octet_string_words word lower
 octet_string_words-law =
     behind-law (word (codes "OCTET")) (word (codes "STRING")) (word-law (codes "OCTET")) (word-law (codes "STRING")) refl refl
 
-base-back : (x : Unit {0} ⊎ (Unit {0} ⊎ (Unit {0} ⊎ (Unit {0} ⊎ List ℕ)))) → from_base (to_base x) ≡ Some x
+base-back : (x : Unit {0} ⊎ (Unit {0} ⊎ (Unit {0} ⊎ (Unit {0} ⊎ Name)))) → from_base (to_base x) ≡ Some x
 base-back (inl u) = refl
 base-back (inr (inl u)) = refl
 base-back (inr (inr (inl u))) = refl
 base-back (inr (inr (inr (inl u)))) = refl
 base-back (inr (inr (inr (inr x)))) = refl
 
-base-forth : (y : Base) (x : Unit {0} ⊎ (Unit {0} ⊎ (Unit {0} ⊎ (Unit {0} ⊎ List ℕ)))) → from_base y ≡ Some x → to_base x ≡ y
+base-forth : (y : Base) (x : Unit {0} ⊎ (Unit {0} ⊎ (Unit {0} ⊎ (Unit {0} ⊎ Name)))) → from_base y ≡ Some x → to_base x ≡ y
 base-forth B.Integer x e = ap to_base (sym (some-inj (inl tt) x e))
 base-forth B.OctetString x e = ap to_base (sym (some-inj (inr (inl tt)) x e))
 base-forth B.ObjectIdentifier x e = ap to_base (sym (some-inj (inr (inr (inl tt))) x e))
@@ -262,7 +263,7 @@ base-forth B.Bits x e = ap to_base (sym (some-inj (inr (inr (inr (inl tt)))) x e
 base-forth (B.Named n) x e = ap to_base (sym (some-inj (inr (inr (inr (inr n)))) x e))
 
 pub base-law : Lawful base
-unfolding base behind either is_reserved name object_identifier_words octet_string_words shaped text word
+unfolding base behind either is_reserved name lower object_identifier_words octet_string_words shaped text word
 base-law =
     shaped-law to_base from_base
     (either (word (codes "INTEGER")) (either octet_string_words (either object_identifier_words (either (word (codes "BITS")) name))))
@@ -273,26 +274,26 @@ base-law =
     (λ x ts rest h. base-back x) base-forth
 
 pub simple_type-law : Lawful simple_type
-unfolding base before behind bound braced either is_reserved many maybe name named_number object_identifier_words octet_string_words pair parenthesized range ranges refinement separated shaped simple_type size some_of text text_where token word
+unfolding base before behind bound braced either is_reserved many maybe name lower named_number object_identifier_words octet_string_words pair parenthesized range ranges refinement separated shaped simple_type size some_of text text_where token word
 simple_type-law =
     shaped-law to_simple_type from_simple_type (pair base (maybe refinement))
     (pair-law base (maybe refinement) base-law (maybe-law refinement refinement-law refl) refl)
     (λ x ts rest h. refl) (λ y x e. ap to_simple_type (sym (some-inj (y.base, y.refinement) x e)))
 
 pub of_row-law : Lawful of_row
-unfolding behind name of_row text word
+unfolding behind name lower of_row text word
 of_row-law = behind-law (word (codes "OF")) name (word-law (codes "OF")) name-law refl refl
 
-syntax-back : (x : List ℕ ⊎ SimpleType) → from_syntax (to_syntax x) ≡ Some x
+syntax-back : (x : Name ⊎ SimpleType) → from_syntax (to_syntax x) ≡ Some x
 syntax-back (inl x) = refl
 syntax-back (inr t) = refl
 
-syntax-forth : (y : Syntax) (x : List ℕ ⊎ SimpleType) → from_syntax y ≡ Some x → to_syntax x ≡ y
+syntax-forth : (y : Syntax) (x : Name ⊎ SimpleType) → from_syntax y ≡ Some x → to_syntax x ≡ y
 syntax-forth (T.SequenceOf n) x e = ap to_syntax (sym (some-inj (inl n) x e))
 syntax-forth (T.Simple t) x e = ap to_syntax (sym (some-inj (inr t) x e))
 
 pub syntax_type-law : Lawful syntax_type
-unfolding base before behind bound braced either is_reserved many maybe name named_number object_identifier_words octet_string_words of_row pair parenthesized range ranges refinement separated shaped simple_type size some_of syntax_type text text_where token word
+unfolding base before behind bound braced either is_reserved many maybe name lower named_number object_identifier_words octet_string_words of_row pair parenthesized range ranges refinement separated shaped simple_type size some_of syntax_type text text_where token word
 syntax_type-law =
     shaped-law to_syntax from_syntax (either (behind (word (codes "SEQUENCE")) of_row) simple_type)
     (either-law (behind (word (codes "SEQUENCE")) of_row) simple_type
@@ -300,19 +301,19 @@ syntax_type-law =
     (λ x ts rest h. syntax-back x) syntax-forth
 
 pub field-law : Lawful field
-unfolding base before behind bound braced either field is_reserved many maybe name named_number object_identifier_words octet_string_words of_row pair parenthesized range ranges refinement separated shaped simple_type size some_of syntax_type text text_where token word
+unfolding base before behind bound braced either field is_reserved many maybe name lower named_number object_identifier_words octet_string_words of_row pair parenthesized range ranges refinement separated shaped simple_type size some_of syntax_type text text_where token word
 field-law =
-    shaped-law to_field from_field (pair (text K.Lower) syntax_type) (pair-law (text K.Lower) syntax_type (text-law K.Lower) syntax_type-law refl)
+    shaped-law to_field from_field (pair lower syntax_type) (pair-law lower syntax_type lower-law syntax_type-law refl)
     (λ x ts rest h. refl) (λ y x e. ap to_field (sym (some-inj (y.label, y.syntax) x e)))
 
 -- clauses
 
 pub names-law : Lawful names
-unfolding before behind braced many names separated some_of text token
-names-law = braced-law (separated K.Comma (text K.Lower)) (separated-law K.Comma (text K.Lower) (text-law K.Lower) refl refl) refl
+unfolding before behind braced many names separated some_of text token lower
+names-law = braced-law (separated K.Comma lower) (separated-law K.Comma lower lower-law refl refl) refl
 
 pub status-law : Lawful status
-unfolding behind clause maybe pair shaped status text word
+unfolding behind clause maybe pair shaped status text word lower
 status-law =
     shaped-law to_status from_status
     (pair (behind (word (codes "STATUS")) (text K.Lower)) (pair (clause (codes "DESCRIPTION")) (maybe (clause (codes "REFERENCE")))))
@@ -323,7 +324,7 @@ status-law =
     (λ x ts rest h. refl) (λ y x e. ap to_status (sym (some-inj (y.status, (y.description, y.reference)) x e)))
 
 pub revision-law : Lawful revision
-unfolding behind clause pair revision shaped text word
+unfolding behind clause pair revision shaped text word lower
 revision-law =
     shaped-law to_revision from_revision (pair (clause (codes "REVISION")) (clause (codes "DESCRIPTION")))
     (pair-law (clause (codes "REVISION")) (clause (codes "DESCRIPTION")) (clause-law (codes "REVISION")) (clause-law (codes "DESCRIPTION")) refl)
@@ -332,110 +333,118 @@ revision-law =
 -- indexes
 
 implied_name-law : Lawful implied_name
-unfolding behind word text
-implied_name-law = behind-law (word (codes "IMPLIED")) (text K.Lower) (word-law (codes "IMPLIED")) (text-law K.Lower) refl refl
+unfolding behind word text lower
+implied_name-law = behind-law (word (codes "IMPLIED")) lower (word-law (codes "IMPLIED")) lower-law refl refl
 
-stands-text : (k : TokenKind) (ts rest : List Lexeme) (x : List ℕ) → (text k).read ts ≡ Some (x, rest) → Stands (spelt k x true ∷ []) ts rest
-unfolding text
-stands-text k ts rest x h = (text-law k).takes ts rest x h
+stands-lower : (ts rest : List Lexeme) (x : Name) → lower.read ts ≡ Some (x, rest) → Stands (spelled K.Lower x.octets true ∷ []) ts rest
+unfolding lower
+stands-lower ts rest x h = lower-law.takes ts rest x h
 
-read-text : (k : TokenKind) (ts rest : List Lexeme) (x : List ℕ) → Stands (spelt k x true ∷ []) ts rest → (text k).read ts ≡ Some (x, rest)
-unfolding text
-read-text k ts rest x h = (text-law k).again x ts rest h (begins-none rest)
+read-lower : (ts rest : List Lexeme) (x : Name) → Stands (spelled K.Lower x.octets true ∷ []) ts rest → lower.read ts ≡ Some (x, rest)
+unfolding lower
+read-lower ts rest x h = lower-law.again x ts rest h (begins-none rest)
 
--- a comma ahead stands for itself
-comma-ahead : (ts : List Lexeme) → begins (a_kind K.Comma ∷ []) ts ≡ true → Stands (sign K.Comma ∷ []) ts (drop 1 ts)
+-- a comma is read and taken
+stands-comma : (ts rest : List Lexeme) (u : Unit {0}) → (token K.Comma).read ts ≡ Some (u, rest) → Stands (sign K.Comma ∷ []) ts rest
+unfolding token
+stands-comma ts rest u h = (token-law K.Comma).takes ts rest u h
+
+read-comma : (ts rest : List Lexeme) → Stands (sign K.Comma ∷ []) ts rest → (token K.Comma).read ts ≡ Some (tt, rest)
+unfolding token
+read-comma ts rest h = (token-law K.Comma).again tt ts rest h (begins-none rest)
+
+comma-begins : (ts rest : List Lexeme) → Stands (sign K.Comma ∷ []) ts rest → begins (a_kind K.Comma ∷ []) ts ≡ true
 unfolding begins
-comma-ahead [] b = absurd (cc)
-comma-ahead (t ∷ ts) b =
-    elim (or-cases (same_kind t.kind K.Comma) false b) [ inl e ↦ (same_kind-eq t.kind K.Comma e, refl) | inr e ↦ absurd (cc) ]
+comma-begins [] rest h = absurd h
+comma-begins (t ∷ ts) rest h = any-one t (a_kind K.Comma) (rw h.0.0 refl)
 
-behind-comma : (ts rest : List Lexeme) → Stands (sign K.Comma ∷ []) ts rest → (begins (a_kind K.Comma ∷ []) ts ≡ true) × (drop 1 ts ≡ rest)
-unfolding begins
-behind-comma [] rest h = absurd h
-behind-comma (t ∷ ts) rest h = (any-one t (a_kind K.Comma) (rw h.0 refl), h.1)
-
-abbrev put_implied : List ℕ × List Lexeme → IndexParts × List Lexeme
+abbrev put_implied : Name × List Lexeme → IndexParts × List Lexeme
 put_implied p = (parts_of (p.0 ∷ []) true, p.1)
 
-abbrev put_name : List ℕ → IndexParts × List Lexeme → IndexParts × List Lexeme
+abbrev put_name : Name → IndexParts × List Lexeme → IndexParts × List Lexeme
 put_name x p = (parts_of (x ∷ p.0.names) p.0.implied, p.1)
 
--- what stands behind a name
-abbrev read_next : ℕ → List ℕ × List Lexeme → Reading IndexParts
-read_next n p =
-    if begins (a_kind K.Comma ∷ []) p.1 then with_names (p.0 ∷ []) (read_index n (drop 1 p.1)) else Some (parts_of (p.0 ∷ []) false, p.1)
+-- the names after a comma
+abbrev read_after : ℕ → (Unit {0}) × List Lexeme → Reading IndexParts
+read_after n q = read_index n q.1
 
-with_names-one : (x : List ℕ) (r : Reading IndexParts) → with_names (x ∷ []) r ≡ option_map (put_name x) r
+-- what comes after a name
+abbrev read_next : ℕ → Name × List Lexeme → Reading IndexParts
+read_next n p =
+    if begins (a_kind K.Comma ∷ []) p.1 then with_names (p.0 ∷ []) (option_and_then (read_after n) ((token K.Comma).read p.1))
+    else Some (parts_of (p.0 ∷ []) false, p.1)
+
+with_names-one : (x : Name) (r : Reading IndexParts) → with_names (x ∷ []) r ≡ option_map (put_name x) r
 unfolding with_names
 with_names-one x None = refl
 with_names-one x (Some p) = refl
 
 -- a name and a comma before the names of an index
-joined : (x : List ℕ) (ys : List (List ℕ)) (implied : Bool) (ts mid after rest : List Lexeme) → Stands (spelt K.Lower x true ∷ []) ts mid → Stands (sign K.Comma ∷ []) mid after → Stands (index_marks ys implied) after rest → Stands (index_marks (x ∷ ys) implied) ts rest
+joined : (x : Name) (ys : List Name) (implied : Bool) (ts mid after rest : List Lexeme) → Stands (spelled K.Lower x.octets true ∷ []) ts mid → Stands (sign K.Comma ∷ []) mid after → Stands (index_marks ys implied) after rest → Stands (index_marks (x ∷ ys) implied) ts rest
 joined x [] implied ts mid after rest h c k = absurd (never-stands after rest k)
 joined x (y ∷ ys) implied ts mid after rest h c k =
-    Stands-append (spelt K.Lower x true ∷ []) (sign K.Comma ∷ index_marks (y ∷ ys) implied) ts mid rest h
+    Stands-append (spelled K.Lower x.octets true ∷ []) (sign K.Comma ∷ index_marks (y ∷ ys) implied) ts mid rest h
     (Stands-append (sign K.Comma ∷ []) (index_marks (y ∷ ys) implied) mid after rest c k)
 
 index-takes : (n : ℕ) (ts rest : List Lexeme) (x : IndexParts) → read_index n ts ≡ Some (x, rest) → Stands (index_marks x.names x.implied) ts rest
-unfolding read_index behind word text
+unfolding read_index behind word text lower
 index-takes zero ts rest x h = absurd (cc)
 index-takes (suc n) ts rest x h =
     let P : IndexParts × List Lexeme → Type 0 = λ w. Stands (index_marks w.0.names w.0.implied) ts w.1 in
-    elim (begins (a_word (codes "IMPLIED") ∷ []) ts) as (λ b. (if b then option_map put_implied (implied_name.read ts) else option_and_then (read_next n) ((text K.Lower).read ts)) ≡ Some (x, rest) → Stands (index_marks x.names x.implied) ts rest) [
+    elim (begins (a_word (codes "IMPLIED") ∷ []) ts) as (λ b. (if b then option_map put_implied (implied_name.read ts) else option_and_then (read_next n) (lower.read ts)) ≡ Some (x, rest) → Stands (index_marks x.names x.implied) ts rest) [
       | true ↦ λ k.
           let r = map-inv put_implied (implied_name.read ts) (x, rest) k in
           subst P r.2 (implied_name-law.takes ts r.0.1 r.0.0 r.1)
       | false ↦ λ k.
-          let r = then-inv (read_next n) ((text K.Lower).read ts) (x, rest) k in
+          let r = then-inv (read_next n) (lower.read ts) (x, rest) k in
           let y = r.0.0 in
           let mid = r.0.1 in
-          let first = stands-text K.Lower ts mid y r.1 in
-          elim (begins (a_kind K.Comma ∷ []) mid) as (λ b. begins (a_kind K.Comma ∷ []) mid ≡ b → (if b then with_names (y ∷ []) (read_index n (drop 1 mid)) else Some (parts_of (y ∷ []) false, mid)) ≡ Some (x, rest) → Stands (index_marks x.names x.implied) ts rest) [
-            | true ↦ λ b e.
-                let s = map-inv (put_name y) (read_index n (drop 1 mid)) (x, rest) (sym (with_names-one y (read_index n (drop 1 mid))) ∙ e) in
-                subst P s.2 (joined y s.0.0.names s.0.0.implied ts mid (drop 1 mid) s.0.1 first (comma-ahead mid b) (index-takes n (drop 1 mid) s.0.1 s.0.0 s.1))
-            | false ↦ λ b e. subst P (some-inj {A = IndexParts × List Lexeme} (parts_of (y ∷ []) false, mid) (x, rest) e) first
-          ] refl r.2
+          let first = stands-lower ts mid y r.1 in
+          let after = option_and_then (read_after n) ((token K.Comma).read mid) in
+          elim (begins (a_kind K.Comma ∷ []) mid) as (λ b. (if b then with_names (y ∷ []) after else Some (parts_of (y ∷ []) false, mid)) ≡ Some (x, rest) → Stands (index_marks x.names x.implied) ts rest) [
+            | true ↦ λ e.
+                let s = map-inv (put_name y) after (x, rest) (sym (with_names-one y after) ∙ e) in
+                let q = then-inv (read_after n) ((token K.Comma).read mid) s.0 s.1 in
+                subst P s.2 (joined y s.0.0.names s.0.0.implied ts mid q.0.1 s.0.1 first (stands-comma mid q.0.1 q.0.0 q.1) (index-takes n q.0.1 s.0.1 s.0.0 q.2))
+            | false ↦ λ e. subst P (some-inj {A = IndexParts × List Lexeme} (parts_of (y ∷ []) false, mid) (x, rest) e) first
+          ] r.2
     ] h
 
 -- a name in lower case is no IMPLIED
-lower-no-word : (x w : List ℕ) (ts rest : List Lexeme) (ms : List Mark) → Stands (spelt K.Lower x true ∷ ms) ts rest → begins (a_word w ∷ []) ts ≡ false
+lower-no-word : (x : Name) (w : List ℕ) (ts rest : List Lexeme) (ms : List Mark) → Stands (spelled K.Lower x.octets true ∷ ms) ts rest → begins (a_word w ∷ []) ts ≡ false
 unfolding begins
 lower-no-word x w [] rest ms h = refl
 lower-no-word x w (t ∷ ts) rest ms h = rw (h.0.0) refl
 
-implied-begins : (ts rest : List Lexeme) (x : List ℕ) → Stands (index_marks (x ∷ []) true) ts rest → begins (a_word (codes "IMPLIED") ∷ []) ts ≡ true
-unfolding behind word text
+implied-begins : (ts rest : List Lexeme) (x : Name) → Stands (index_marks (x ∷ []) true) ts rest → begins (a_word (codes "IMPLIED") ∷ []) ts ≡ true
+unfolding behind word text lower
 implied-begins ts rest x h = starts-with implied_name implied_name-law refl x ts rest h
 
-index-again : (xs : List (List ℕ)) (implied : Bool) (n : ℕ) (ts rest : List Lexeme) → length ts ≤ n → Stands (index_marks xs implied) ts rest → begins (a_kind K.Comma ∷ []) rest ≡ false → read_index n ts ≡ Some (parts_of xs implied, rest)
-unfolding read_index behind word text
+index-again : (xs : List Name) (implied : Bool) (n : ℕ) (ts rest : List Lexeme) → length ts ≤ n → Stands (index_marks xs implied) ts rest → begins (a_kind K.Comma ∷ []) rest ≡ false → read_index n ts ≡ Some (parts_of xs implied, rest)
+unfolding read_index behind word text lower
 index-again [] implied n ts rest k h s = absurd (never-stands ts rest h)
 index-again (x ∷ []) implied zero [] rest k h s = absurd (elim implied as (λ b. Stands (index_marks (x ∷ []) b) [] rest → ⊥) [ true ↦ λ u. u | false ↦ λ u. u ] h)
 index-again (x ∷ []) implied zero (t ∷ ts) rest k h s = absurd (omega arith)
 index-again (x ∷ []) true (suc n) ts rest k h s =
     rw ((implied-begins ts rest x h), (implied_name-law.again x ts rest h (begins-none rest))) refl
 index-again (x ∷ []) false (suc n) ts rest k h s =
-    rw (lower-no-word x (codes "IMPLIED") ts rest [] h, read-text K.Lower ts rest x h, s) refl
+    rw (lower-no-word x (codes "IMPLIED") ts rest [] h, read-lower ts rest x h, s) refl
 index-again (x ∷ (y ∷ ys)) implied zero [] rest k h s = absurd h
 index-again (x ∷ (y ∷ ys)) implied zero (t ∷ ts) rest k h s = absurd (omega arith)
 index-again (x ∷ (y ∷ ys)) implied (suc n) [] rest k h s = absurd h
 index-again (x ∷ (y ∷ ys)) implied (suc n) (t ∷ ts) rest k h s =
     let others = Stands-split (sign K.Comma ∷ []) (index_marks (y ∷ ys) implied) ts rest h.1 in
-    let c = behind-comma ts others.0 others.1 in
-    let first : (text K.Lower).read (t ∷ ts) ≡ Some (x, ts) = read-text K.Lower (t ∷ ts) ts x (h.0, refl) in
+    let first : lower.read (t ∷ ts) ≡ Some (x, ts) = read-lower (t ∷ ts) ts x (h.0, refl) in
     let less : length others.0 ≤ n = omega (arith, Stands-length (sign K.Comma ∷ []) ts others.0 others.1) in
-    let next : read_index n (drop 1 ts) ≡ Some (parts_of (y ∷ ys) implied, rest) = rw (c.1) (index-again (y ∷ ys) implied n others.0 rest less others.2 s) in
-    rw (lower-no-word x (codes "IMPLIED") (t ∷ ts) rest (sign K.Comma ∷ index_marks (y ∷ ys) implied) h, first, c.0, next, with_names-one) refl
+    let next = index-again (y ∷ ys) implied n others.0 rest less others.2 s in
+    rw (lower-no-word x (codes "IMPLIED") (t ∷ ts) rest (sign K.Comma ∷ index_marks (y ∷ ys) implied) h, first, comma-begins ts others.0 others.1, read-comma ts others.0 others.1, next, with_names-one) refl
 
-lower-begins : (x : List ℕ) (ms : List Mark) (ts rest : List Lexeme) → Stands (spelt K.Lower x true ∷ ms) ts rest → begins (a_word (codes "IMPLIED") ∷ a_kind K.Lower ∷ []) ts ≡ true
+lower-begins : (x : Name) (ms : List Mark) (ts rest : List Lexeme) → Stands (spelled K.Lower x.octets true ∷ ms) ts rest → begins (a_word (codes "IMPLIED") ∷ a_kind K.Lower ∷ []) ts ≡ true
 unfolding begins
 lower-begins x ms [] rest h = absurd h
 lower-begins x ms (t ∷ ts) rest h = or-right (meets t (a_word (codes "IMPLIED"))) _ (rw h.0.0 refl)
 
-index-starts : (xs : List (List ℕ)) (implied : Bool) (ts rest : List Lexeme) → Stands (index_marks xs implied) ts rest → begins (a_word (codes "IMPLIED") ∷ a_kind K.Lower ∷ []) ts ≡ true
+index-starts : (xs : List Name) (implied : Bool) (ts rest : List Lexeme) → Stands (index_marks xs implied) ts rest → begins (a_word (codes "IMPLIED") ∷ a_kind K.Lower ∷ []) ts ≡ true
 index-starts [] implied ts rest h = absurd (never-stands ts rest h)
 index-starts (x ∷ []) true ts rest h =
     begins-append (a_word (codes "IMPLIED") ∷ []) (a_kind K.Lower ∷ []) ts
@@ -451,21 +460,21 @@ index_names-law = record {
   starts = λ x ts rest h. inl (index-starts x.names x.implied ts rest h);
 }
 
-index-back : (x : IndexParts ⊎ List ℕ) → from_index (to_index x) ≡ Some x
+index-back : (x : IndexParts ⊎ Name) → from_index (to_index x) ≡ Some x
 index-back (inl p) = refl
 index-back (inr x) = refl
 
-index-forth : (y : Index) (x : IndexParts ⊎ List ℕ) → from_index y ≡ Some x → to_index x ≡ y
+index-forth : (y : Index) (x : IndexParts ⊎ Name) → from_index y ≡ Some x → to_index x ≡ y
 index-forth (I.Own p) x e = ap to_index (sym (some-inj (inl p) x e))
 index-forth (I.Augments n) x e = ap to_index (sym (some-inj (inr n) x e))
 
 pub index-law : Lawful index
-unfolding before behind braced either index index_names many names separated shaped some_of text token word
+unfolding before behind braced either index index_names many names separated shaped some_of text token word lower
 index-law =
-    shaped-law to_index from_index (either (behind (word (codes "INDEX")) (braced index_names)) (behind (word (codes "AUGMENTS")) (braced (text K.Lower))))
-    (either-law (behind (word (codes "INDEX")) (braced index_names)) (behind (word (codes "AUGMENTS")) (braced (text K.Lower)))
+    shaped-law to_index from_index (either (behind (word (codes "INDEX")) (braced index_names)) (behind (word (codes "AUGMENTS")) (braced lower)))
+    (either-law (behind (word (codes "INDEX")) (braced index_names)) (behind (word (codes "AUGMENTS")) (braced lower))
     (behind-law (word (codes "INDEX")) (braced index_names) (word-law (codes "INDEX")) (braced-law index_names index_names-law refl) refl refl)
-    (behind-law (word (codes "AUGMENTS")) (braced (text K.Lower)) (word-law (codes "AUGMENTS")) (braced-law (text K.Lower) (text-law K.Lower) refl) refl refl)
+    (behind-law (word (codes "AUGMENTS")) (braced lower) (word-law (codes "AUGMENTS")) (braced-law lower lower-law refl) refl refl)
     refl refl refl)
     (λ x ts rest h. index-back x) index-forth
 
@@ -562,13 +571,13 @@ balanced-law = record {
 }
 
 pub default_value-law : Lawful default_value
-unfolding balanced before behind braced default_value token word
+unfolding balanced before behind braced default_value token word lower
 default_value-law = behind-law (word (codes "DEFVAL")) (braced balanced) (word-law (codes "DEFVAL")) (braced-law balanced balanced-law refl) refl refl
 
 -- definitions
 
 pub module_identity-law : Lawful module_identity
-unfolding arc before behind braced clause either identifier later_part many maybe module_identity pair parenthesized part revision shaped some_of text text_where token value word
+unfolding arc before behind braced clause either identifier later_part many maybe module_identity pair parenthesized part revision shaped some_of text text_where token value word lower
 module_identity-law =
     behind-law (word (codes "MODULE-IDENTITY"))
     (shaped to_module_identity from_module_identity
@@ -590,7 +599,7 @@ module_identity-law =
     refl refl
 
 pub object_identity-law : Lawful object_identity
-unfolding arc before behind braced clause either identifier later_part many maybe object_identity pair parenthesized part shaped some_of status text text_where token value word
+unfolding arc before behind braced clause either identifier later_part many maybe object_identity pair parenthesized part shaped some_of status text text_where token value word lower
 object_identity-law =
     behind-law (word (codes "OBJECT-IDENTITY")) (shaped to_object_identity from_object_identity (pair status value)) (word-law (codes "OBJECT-IDENTITY"))
     (shaped-law to_object_identity from_object_identity (pair status value) (pair-law status value status-law value-law refl)
@@ -617,18 +626,18 @@ abbrev after_syntax : Format (Option (List ℕ) × (List ℕ × (Status × (Opti
 after_syntax = pair (maybe (clause (codes "UNITS"))) after_units
 
 pub syntax_clause-law : Lawful syntax_clause
-unfolding base before behind bound braced either is_reserved many maybe name named_number object_identifier_words octet_string_words of_row pair parenthesized range ranges refinement separated shaped simple_type size some_of syntax_clause syntax_type text text_where token word
+unfolding base before behind bound braced either is_reserved many maybe name lower named_number object_identifier_words octet_string_words of_row pair parenthesized range ranges refinement separated shaped simple_type size some_of syntax_clause syntax_type text text_where token word
 syntax_clause-law = behind-law (word (codes "SYNTAX")) syntax_type (word-law (codes "SYNTAX")) syntax_type-law refl refl
 
 after_access-law : Lawful after_access
-unfolding arc balanced before behind braced clause default_value either identifier index index_names later_part many maybe names pair parenthesized part separated shaped some_of status text text_where token value word
+unfolding arc balanced before behind braced clause default_value either identifier index index_names later_part many maybe names pair parenthesized part separated shaped some_of status text text_where token value word lower
 after_access-law =
     pair-law status after_status status-law
     (pair-law (maybe index) after_index (maybe-law index index-law refl)
     (pair-law (maybe default_value) value (maybe-law default_value default_value-law refl) value-law refl) refl) refl
 
 pub object_type-law : Lawful object_type
-unfolding arc balanced base before behind bound braced clause default_value either identifier index index_names is_reserved later_part many maybe name named_number names object_identifier_words object_type octet_string_words of_row pair parenthesized part range ranges refinement separated shaped simple_type size some_of status syntax_clause syntax_type text text_where token value word
+unfolding arc balanced base before behind bound braced clause default_value either identifier index index_names is_reserved later_part many maybe name lower named_number names object_identifier_words object_type octet_string_words of_row pair parenthesized part range ranges refinement separated shaped simple_type size some_of status syntax_clause syntax_type text text_where token value word
 object_type-law =
     behind-law (word (codes "OBJECT-TYPE")) (shaped to_object_type from_object_type (pair syntax_clause after_syntax)) (word-law (codes "OBJECT-TYPE"))
     (shaped-law to_object_type from_object_type (pair syntax_clause after_syntax)
@@ -641,11 +650,11 @@ object_type-law =
     refl refl
 
 pub objects-law : Lawful objects
-unfolding before behind braced many names objects separated some_of text token word
+unfolding before behind braced many names objects separated some_of text token word lower
 objects-law = behind-law (word (codes "OBJECTS")) names (word-law (codes "OBJECTS")) names-law refl refl
 
 pub notification_type-law : Lawful notification_type
-unfolding arc before behind braced clause either identifier later_part many maybe names notification_type objects pair parenthesized part separated shaped some_of status text text_where token value word
+unfolding arc before behind braced clause either identifier later_part many maybe names notification_type objects pair parenthesized part separated shaped some_of status text text_where token value word lower
 notification_type-law =
     behind-law (word (codes "NOTIFICATION-TYPE")) (shaped to_notification_type from_notification_type (pair (maybe objects) (pair status value)))
     (word-law (codes "NOTIFICATION-TYPE"))
@@ -655,7 +664,7 @@ notification_type-law =
     refl refl
 
 pub group-law : (w v : List ℕ) → Lawful (group w v)
-unfolding arc before behind braced clause either group identifier later_part many maybe names pair parenthesized part separated shaped some_of status text text_where token value word
+unfolding arc before behind braced clause either group identifier later_part many maybe names pair parenthesized part separated shaped some_of status text text_where token value word lower
 group-law w v =
     behind-law (word w) (shaped to_group from_group (pair (behind (word v) names) (pair status value))) (word-law w)
     (shaped-law to_group from_group (pair (behind (word v) names) (pair status value))
@@ -664,7 +673,7 @@ group-law w v =
     refl refl
 
 pub raw_definition-law : (w : List ℕ) → Lawful (raw_definition w)
-unfolding arc before before_assign behind braced either identifier later_part many maybe pair parenthesized part raw_definition shaped some_of text text_where token value word
+unfolding arc before before_assign behind braced either identifier later_part many maybe pair parenthesized part raw_definition shaped some_of text text_where token value word lower
 raw_definition-law w =
     behind-law (word w) (shaped to_raw_definition from_raw_definition (pair (many before_assign) value)) (word-law w)
     (shaped-law to_raw_definition from_raw_definition (pair (many before_assign) value)
@@ -673,11 +682,11 @@ raw_definition-law w =
     refl refl
 
 pub object_identifier-law : Lawful object_identifier
-unfolding arc before behind braced either identifier later_part many maybe object_identifier object_identifier_words pair parenthesized part shaped some_of text text_where token value word
+unfolding arc before behind braced either identifier later_part many maybe object_identifier object_identifier_words pair parenthesized part shaped some_of text text_where token value word lower
 object_identifier-law = behind-law object_identifier_words value object_identifier_words-law value-law refl refl
 
 pub textual_convention-law : Lawful textual_convention
-unfolding base before behind bound braced clause either is_reserved many maybe name named_number object_identifier_words octet_string_words of_row pair parenthesized range ranges refinement separated shaped simple_type size some_of status syntax_clause syntax_type text text_where textual_convention token word
+unfolding base before behind bound braced clause either is_reserved many maybe name lower named_number object_identifier_words octet_string_words of_row pair parenthesized range ranges refinement separated shaped simple_type size some_of status syntax_clause syntax_type text text_where textual_convention token word
 textual_convention-law =
     behind-law (word (codes "TEXTUAL-CONVENTION"))
     (shaped to_textual_convention from_textual_convention (pair (maybe (clause (codes "DISPLAY-HINT"))) (pair status syntax_clause)))
@@ -734,7 +743,7 @@ abbrev after_identity : Format (NotificationType ⊎ (Group ⊎ (Group ⊎ (RawD
 after_identity = either notification_type groups
 
 groups-law : Lawful groups
-unfolding arc before before_assign behind braced clause either group identifier later_part many maybe names pair parenthesized part raw_definition separated shaped some_of status text text_where token value word
+unfolding arc before before_assign behind braced clause either group identifier later_part many maybe names pair parenthesized part raw_definition separated shaped some_of status text text_where token value word lower
 groups-law =
     either-law object_group (either notification_group compliance) (group-law (codes "OBJECT-GROUP") (codes "OBJECTS"))
     (either-law notification_group compliance (group-law (codes "NOTIFICATION-GROUP") (codes "NOTIFICATIONS"))
@@ -742,7 +751,7 @@ groups-law =
     (raw_definition-law (codes "MODULE-COMPLIANCE")) (raw_definition-law (codes "AGENT-CAPABILITIES")) refl refl refl) refl refl refl) refl refl refl
 
 pub lower_definition-law : Lawful lower_definition
-unfolding arc balanced base before before_assign behind bound braced clause default_value either group identifier index index_names is_reserved later_part lower_definition many maybe module_identity name named_number names notification_type object_identifier object_identifier_words object_identity object_type objects octet_string_words of_row pair parenthesized part range ranges raw_definition refinement revision separated shaped simple_type size some_of status syntax_clause syntax_type text text_where token value word
+unfolding arc balanced base before before_assign behind bound braced clause default_value either group identifier index index_names is_reserved later_part lower_definition many maybe module_identity name lower named_number names notification_type object_identifier object_identifier_words object_identity object_type objects octet_string_words of_row pair parenthesized part range ranges raw_definition refinement revision separated shaped simple_type size some_of status syntax_clause syntax_type text text_where token value word
 lower_definition-law =
     shaped-law to_lower from_lower
     (either object_type (either object_identifier (either object_identity (either module_identity after_identity))))
@@ -756,7 +765,7 @@ lower_definition-law =
 -- definitions by a name in upper case
 
 pub tag-law : Lawful tag
-unfolding before behind tag text text_where token word
+unfolding before behind tag text text_where token word lower
 tag-law =
     behind-law (token K.OpenBracket) (behind (word (codes "APPLICATION")) (before (text_where K.Number is_number) (behind (token K.CloseBracket) (word (codes "IMPLICIT")))))
     (token-law K.OpenBracket)
@@ -768,15 +777,15 @@ tag-law =
     refl refl
 
 pub choice-law : Lawful choice
-unfolding balanced before behind braced choice token word
+unfolding balanced before behind braced choice token word lower
 choice-law = behind-law (word (codes "CHOICE")) (braced balanced) (word-law (codes "CHOICE")) (braced-law balanced balanced-law refl) refl refl
 
 pub tagged-law : Lawful tagged
-unfolding base before behind bound braced either is_reserved many maybe name named_number object_identifier_words octet_string_words of_row pair parenthesized range ranges refinement separated shaped simple_type size some_of syntax_type tag tagged text text_where token word
+unfolding base before behind bound braced either is_reserved many maybe name lower named_number object_identifier_words octet_string_words of_row pair parenthesized range ranges refinement separated shaped simple_type size some_of syntax_type tag tagged text text_where token word
 tagged-law = pair-law tag syntax_type tag-law syntax_type-law refl
 
 pub sequence-law : Lawful sequence
-unfolding base before behind bound braced either field is_reserved many maybe name named_number object_identifier_words octet_string_words of_row pair parenthesized range ranges refinement separated sequence shaped simple_type size some_of syntax_type text text_where token word
+unfolding base before behind bound braced either field is_reserved many maybe name lower named_number object_identifier_words octet_string_words of_row pair parenthesized range ranges refinement separated sequence shaped simple_type size some_of syntax_type text text_where token word
 sequence-law =
     behind-law (word (codes "SEQUENCE")) (either (braced (separated K.Comma field)) of_row) (word-law (codes "SEQUENCE"))
     (either-law (braced (separated K.Comma field)) of_row (braced-law (separated K.Comma field) (separated-law K.Comma field field-law refl refl) refl) of_row-law
@@ -813,7 +822,7 @@ assigned-forth (D.AgentCapabilities d) x e = absurd (cc)
 assigned-forth (D.Macro d) x e = absurd (cc)
 
 pub assigned-law : Lawful assigned
-unfolding assigned balanced base before behind bound braced choice clause either field is_reserved many maybe name named_number object_identifier_words octet_string_words of_row pair parenthesized range ranges refinement separated sequence shaped simple_type size some_of status syntax_clause syntax_type tag tagged text text_where textual_convention token word
+unfolding assigned balanced base before behind bound braced choice clause either field is_reserved many maybe name lower named_number object_identifier_words octet_string_words of_row pair parenthesized range ranges refinement separated sequence shaped simple_type size some_of status syntax_clause syntax_type tag tagged text text_where textual_convention token word
 assigned-law =
     shaped-law to_assigned from_assigned (either textual_convention (either choice (either tagged (either sequence simple_type))))
     (either-law textual_convention (either choice (either tagged (either sequence simple_type))) textual_convention-law
@@ -823,7 +832,7 @@ assigned-law =
     (λ x ts rest h. assigned-back x) assigned-forth
 
 pub macro_body-law : Lawful macro_body
-unfolding before before_end behind macro_body many token word
+unfolding before before_end behind macro_body many token word lower
 macro_body-law =
     behind-law (word (codes "MACRO")) (behind (token K.Assign) (behind (word (codes "BEGIN")) (before (many before_end) (word (codes "END")))))
     (word-law (codes "MACRO"))
@@ -849,10 +858,10 @@ macro-forth (D.ModuleCompliance d) x e = absurd (cc)
 macro-forth (D.AgentCapabilities d) x e = absurd (cc)
 
 pub macro_definition-law : Lawful macro_definition
-unfolding before before_end behind macro_body macro_definition many shaped token word
+unfolding before before_end behind macro_body macro_definition many shaped token word lower
 macro_definition-law = shaped-law to_macro from_macro macro_body macro_body-law (λ x ts rest h. refl) macro-forth
 
--- what has no pieces isn't spelt
+-- what has no pieces isn't spelled
 no-pieces : {A B : Type 0} (to : A → B) (from : B → Option A) (f : Format A) (y : B) (ts rest : List Lexeme) → from y ≡ None → Stands ((shaped to from f).spell y) ts rest → ⊥
 unfolding shaped
 no-pieces to from f y ts rest e h = never-stands ts rest (let P : Option _ → Type 0 = λ o. Stands (spell_pieces f.spell o) ts rest in subst P e h)
@@ -883,7 +892,7 @@ abbrev assignment : Format DefKind
 assignment = behind (token K.Assign) assigned
 
 upper-back : (x : DefKind ⊎ DefKind) (ts rest : List Lexeme) → Stands ((either assignment macro_definition).spell x) ts rest → from_upper (to_upper x) ≡ Some x
-unfolding either behind token
+unfolding either behind token lower
 upper-back (inl (D.Macro xs)) [] rest h = absurd h
 upper-back (inl (D.Macro xs)) (t ∷ ts) rest h = absurd (assigned-no-macro xs ts rest h.1)
 upper-back (inl (D.TextualConvention d)) ts rest h = refl
@@ -921,7 +930,7 @@ upper-forth (D.ModuleCompliance d) x e = ap to_upper (sym (some-inj (inl (D.Modu
 upper-forth (D.AgentCapabilities d) x e = ap to_upper (sym (some-inj (inl (D.AgentCapabilities d)) x e))
 
 pub upper_definition-law : Lawful upper_definition
-unfolding assigned balanced base before before_end behind bound braced choice clause either field is_reserved macro_body macro_definition many maybe name named_number object_identifier_words octet_string_words of_row pair parenthesized range ranges refinement separated sequence shaped simple_type size some_of status syntax_clause syntax_type tag tagged text text_where textual_convention token upper_definition word
+unfolding assigned balanced base before before_end behind bound braced choice clause either field is_reserved macro_body macro_definition many maybe name lower named_number object_identifier_words octet_string_words of_row pair parenthesized range ranges refinement separated sequence shaped simple_type size some_of status syntax_clause syntax_type tag tagged text text_where textual_convention token upper_definition word
 upper_definition-law =
     shaped-law to_upper from_upper (either assignment macro_definition)
     (either-law assignment macro_definition (behind-law (token K.Assign) assigned (token-law K.Assign) assigned-law refl refl) macro_definition-law refl refl refl)
@@ -941,23 +950,9 @@ macro-ahead : (t : Lexeme) → same_kind t.kind K.Upper ≡ true → is_macro t.
 unfolding is_macro
 macro-ahead t k h = macro-words t macros k h
 
-macro-name-test : (t : Lexeme) (x : List ℕ) → Fits (spelt K.Upper x (is_macro x)) t → (same_kind t.kind K.Upper && is_macro t.text) ≡ true
-macro-name-test t x h = and-both (same_kind t.kind K.Upper) (is_macro t.text) (rw h.0 (same_kind-same K.Upper)) (rw h.1 h.2)
-
 pub macro_name-law : Lawful macro_name
 unfolding macro_name
-macro_name-law = one-law macro_words (λ x. spelt K.Upper x (is_macro x)) (λ t. if same_kind t.kind K.Upper && is_macro t.text then Some t.text else None) (record {
-  fits = λ t x h.
-      let p = if-some (same_kind t.kind K.Upper && is_macro t.text) t.text x h in (
-        same_kind-eq t.kind K.Upper (and-left (same_kind t.kind K.Upper) (is_macro t.text) p.0),
-        p.1,
-        rw (← p.1) (and-right (same_kind t.kind K.Upper) (is_macro t.text) p.0),
-      );
-  picks = λ t x h. if-true (same_kind t.kind K.Upper && is_macro t.text) (Some t.text) None (macro-name-test t x h) ∙ ap (λ (y : List ℕ). Some y) h.1;
-  ahead = λ t x h.
-      let b = macro-name-test t x h in
-      macro-ahead t (and-left (same_kind t.kind K.Upper) (is_macro t.text) b) (and-right (same_kind t.kind K.Upper) (is_macro t.text) b);
-})
+macro_name-law = name_where-law macro_words K.Upper is_macro (λ t k ok. macro-ahead t k ok)
 
 -- the word of a macro is reserved
 any-among : (x : List ℕ) (vs ws : List (List ℕ)) → list_all (λ v. list_any (same_text v) ws) vs ≡ true → list_any (same_text x) vs ≡ true → list_any (same_text x) ws ≡ true
@@ -1001,11 +996,11 @@ lower-only (D.Macro d) ts rest h p = absurd (never-stands ts rest h)
 
 -- what stands behind a name in upper case defines no name in lower case
 no-assigned : (k : DefKind) (ts rest : List Lexeme) → from_assigned k ≡ None → Stands (assignment.spell k) ts rest → ⊥
-unfolding behind assigned token
+unfolding behind assigned token lower
 no-assigned k [] rest e h = h
 no-assigned k (t ∷ ts) rest e h = no-pieces to_assigned from_assigned (either textual_convention (either choice (either tagged (either sequence simple_type)))) k ts rest e h.1
 
-upper-only : (k : DefKind) (ts rest : List Lexeme) → Stands (upper_definition.spell k) ts rest → (p : Labelled) → is_macro p.0.1 ≡ false → def_pieces p k ≡ inr (inl p)
+upper-only : (k : DefKind) (ts rest : List Lexeme) → Stands (upper_definition.spell k) ts rest → (p : Labelled) → is_macro p.0.1.octets ≡ false → def_pieces p k ≡ inr (inl p)
 unfolding upper_definition shaped either
 upper-only (D.ObjectType d) ts rest h p m = absurd (no-assigned (D.ObjectType d) ts rest refl h)
 upper-only (D.ObjectIdentifier d) ts rest h p m = absurd (no-assigned (D.ObjectIdentifier d) ts rest refl h)
@@ -1022,14 +1017,14 @@ upper-only (D.Sequence d) ts rest h p m = refl
 upper-only (D.Choice d) ts rest h p m = refl
 upper-only (D.Macro d) ts rest h p m = rw m refl
 
-macro-only : (k : DefKind) (ts rest : List Lexeme) → Stands (macro_definition.spell k) ts rest → (p : Labelled) → is_macro p.0.1 ≡ true → def_pieces p k ≡ inr (inr p)
+macro-only : (k : DefKind) (ts rest : List Lexeme) → Stands (macro_definition.spell k) ts rest → (p : Labelled) → is_macro p.0.1.octets ≡ true → def_pieces p k ≡ inr (inr p)
 macro-only k ts rest h p m =
     let q = macro-pieces k ts rest h in
     let P : DefKind → Type 0 = λ v. def_pieces p v ≡ inr (inr p) in
     subst P (sym q.1) (rw m refl)
 
 abbrev by_lower : Format Labelled
-by_lower = pair (lined (text K.Lower)) lower_definition
+by_lower = pair (lined lower) lower_definition
 
 abbrev by_upper : Format Labelled
 by_upper = pair (lined name) upper_definition
@@ -1038,7 +1033,7 @@ abbrev by_macro : Format Labelled
 by_macro = pair (lined macro_name) macro_definition
 
 -- the mark of a label, with its line
-label-mark : (n : ℕ) (x : List ℕ) (ok : Bool) (k : TokenKind) (ts mid : List Lexeme) → Stands (on_line n (spelt k x ok) ∷ []) ts mid → ok ≡ true
+label-mark : (n : ℕ) (x : List ℕ) (ok : Bool) (k : TokenKind) (ts mid : List Lexeme) → Stands (on_line n (spelled k x ok) ∷ []) ts mid → ok ≡ true
 label-mark n x ok k [] mid h = absurd h
 label-mark n x ok k (t ∷ ts) mid h = h.0.0.2
 
@@ -1046,22 +1041,22 @@ name-not-macro : (x : List ℕ) → not (is_reserved x) ≡ true → is_macro x 
 name-not-macro x h = false-from (is_macro x) (λ m. cc (not-true (is_reserved x) h, macro-reserved x m))
 
 def-back : (x : Labelled ⊎ (Labelled ⊎ Labelled)) (ts rest : List Lexeme) → Stands ((either by_lower (either by_upper by_macro)).spell x) ts rest → from_def (to_def x) ≡ Some x
-unfolding either pair lined text name macro_name
+unfolding either pair lined text name lower macro_name
 def-back (inl p) ts rest h =
-    let r = Stands-split ((lined (text K.Lower)).spell p.0) (lower_definition.spell p.1) ts rest h in
+    let r = Stands-split ((lined lower).spell p.0) (lower_definition.spell p.1) ts rest h in
     ap (λ (y : Labelled ⊎ (Labelled ⊎ Labelled)). Some y) (lower-only p.1 r.0 rest r.2 p)
 def-back (inr (inl p)) ts rest h =
     let r = Stands-split ((lined name).spell p.0) (upper_definition.spell p.1) ts rest h in
-    let plain = label-mark p.0.0 p.0.1 (not (is_reserved p.0.1)) K.Upper ts r.0 r.1 in
-    ap (λ (y : Labelled ⊎ (Labelled ⊎ Labelled)). Some y) (upper-only p.1 r.0 rest r.2 p (name-not-macro p.0.1 plain))
+    let plain = label-mark p.0.0 p.0.1.octets (not (is_reserved p.0.1.octets)) K.Upper ts r.0 r.1 in
+    ap (λ (y : Labelled ⊎ (Labelled ⊎ Labelled)). Some y) (upper-only p.1 r.0 rest r.2 p (name-not-macro p.0.1.octets plain))
 def-back (inr (inr p)) ts rest h =
     let r = Stands-split ((lined macro_name).spell p.0) (macro_definition.spell p.1) ts rest h in
-    let word = label-mark p.0.0 p.0.1 (is_macro p.0.1) K.Upper ts r.0 r.1 in
+    let word = label-mark p.0.0 p.0.1.octets (is_macro p.0.1.octets) K.Upper ts r.0 r.1 in
     ap (λ (y : Labelled ⊎ (Labelled ⊎ Labelled)). Some y) (macro-only p.1 r.0 rest r.2 p word)
 
 pieces-def : (p : Labelled) (k : DefKind) → to_def (def_pieces p k) ≡ record { label = p.0.1; line = p.0.0; kind = p.1 }
 pieces-def p (D.Macro xs) =
-    elim (is_macro p.0.1) as (λ b. to_def (if b then inr (inr p) else inr (inl p)) ≡ record { label = p.0.1; line = p.0.0; kind = p.1 }) [ true ↦ refl | false ↦ refl ]
+    elim (is_macro p.0.1.octets) as (λ b. to_def (if b then inr (inr p) else inr (inl p)) ≡ record { label = p.0.1; line = p.0.0; kind = p.1 }) [ true ↦ refl | false ↦ refl ]
 pieces-def p (D.TextualConvention d) = refl
 pieces-def p (D.TypeAssignment d) = refl
 pieces-def p (D.Sequence d) = refl
@@ -1081,11 +1076,11 @@ def-forth y x e =
     ap to_def (sym (some-inj (def_pieces ((y.line, y.label), y.kind) y.kind) x e)) ∙ pieces-def ((y.line, y.label), y.kind) y.kind
 
 pub definition-law : Lawful definition
-unfolding arc assigned balanced base before before_assign before_end behind bound braced choice clause default_value definition either field group identifier index index_names is_reserved later_part lined lower_definition macro_body macro_definition macro_name many maybe module_identity name named_number names notification_type object_identifier object_identifier_words object_identity object_type objects octet_string_words of_row pair parenthesized part range ranges raw_definition refinement revision separated sequence shaped simple_type size some_of status syntax_clause syntax_type tag tagged text text_where textual_convention token upper_definition value word
+unfolding arc assigned balanced base before before_assign before_end behind bound braced choice clause default_value definition either field group identifier index index_names is_reserved later_part lined lower_definition macro_body macro_definition macro_name many maybe module_identity name lower named_number names notification_type object_identifier object_identifier_words object_identity object_type objects octet_string_words of_row pair parenthesized part range ranges raw_definition refinement revision separated sequence shaped simple_type size some_of status syntax_clause syntax_type tag tagged text text_where textual_convention token upper_definition value word
 definition-law =
     shaped-law to_def from_def (either by_lower (either by_upper by_macro))
     (either-law by_lower (either by_upper by_macro)
-    (pair-law (lined (text K.Lower)) lower_definition (lined-law (text K.Lower) (text-law K.Lower) refl) lower_definition-law refl)
+    (pair-law (lined lower) lower_definition (lined-law lower lower-law refl) lower_definition-law refl)
     (either-law by_upper by_macro
     (pair-law (lined name) upper_definition (lined-law name name-law refl) upper_definition-law refl)
     (pair-law (lined macro_name) macro_definition (lined-law macro_name macro_name-law refl) macro_definition-law refl) refl refl refl)
@@ -1112,14 +1107,14 @@ pub symbol-law : Lawful symbol
 unfolding symbol
 symbol-law = kept-law (a_kind K.Lower ∷ a_name ∷ macro_words) is_symbol symbol-ahead
 
-abbrev from_clause : Format (List ℕ)
+abbrev from_clause : Format Name
 from_clause = behind (word (codes "FROM")) name
 
-abbrev import_parts : Format (List TokenText × List ℕ)
+abbrev import_parts : Format (List TokenText × Name)
 import_parts = pair (separated K.Comma symbol) from_clause
 
 pub import_clause-law : Lawful import_clause
-unfolding behind import_clause is_reserved lined many name pair separated shaped some_of symbol text token word
+unfolding behind import_clause is_reserved lined many name lower pair separated shaped some_of symbol text token word
 import_clause-law =
     shaped-law to_import from_import (lined import_parts)
     (lined-law import_parts
@@ -1128,23 +1123,23 @@ import_clause-law =
     (λ x ts rest h. refl) (λ y x e. ap to_import (sym (some-inj (y.line, (y.symbols, y.source)) x e)))
 
 pub imports-law : Lawful imports
-unfolding before behind import_clause imports is_reserved lined many name pair separated shaped some_of symbol text token word
+unfolding before behind import_clause imports is_reserved lined many name lower pair separated shaped some_of symbol text token word
 imports-law =
     behind-law (word (codes "IMPORTS")) (before (many import_clause) (token K.Semicolon)) (word-law (codes "IMPORTS"))
     (before-law (many import_clause) (token K.Semicolon) (many-law import_clause import_clause-law refl refl) (token-law K.Semicolon) refl refl) refl refl
 
 pub heading-law : Lawful heading
-unfolding arc before behind braced either heading many maybe pair parenthesized part shaped text text_where token
+unfolding arc before behind braced either heading many maybe pair parenthesized part shaped text text_where token lower
 heading-law = braced-law (many part) (many-law part part-law refl refl) refl
 
 opening-law : Lawful opening
-unfolding behind opening token word
+unfolding behind opening token word lower
 opening-law =
     behind-law (word (codes "DEFINITIONS")) (behind (token K.Assign) (word (codes "BEGIN"))) (word-law (codes "DEFINITIONS"))
     (behind-law (token K.Assign) (word (codes "BEGIN")) (token-law K.Assign) (word-law (codes "BEGIN")) refl refl) refl refl
 
 pub head-law : Lawful head
-unfolding arc before behind braced either head heading import_clause imports is_reserved lined many maybe name opening pair parenthesized part separated shaped some_of symbol text text_where token word
+unfolding arc before behind braced either head heading import_clause imports is_reserved lined many maybe name lower opening pair parenthesized part separated shaped some_of symbol text text_where token word
 head-law =
     shaped-law to_head from_head (pair name (pair (maybe heading) (behind opening (maybe imports))))
     (pair-law name (pair (maybe heading) (behind opening (maybe imports))) name-law
@@ -1153,11 +1148,11 @@ head-law =
     (λ x ts rest h. refl) (λ y x e. ap to_head (sym (some-inj (y.name, (y.heading, y.imports)) x e)))
 
 pub definitions-law : Lawful (many definition)
-unfolding arc assigned balanced base before before_assign before_end behind bound braced choice clause default_value definition either field group identifier index index_names is_reserved later_part lined lower_definition macro_body macro_definition macro_name many maybe module_identity name named_number names notification_type object_identifier object_identifier_words object_identity object_type objects octet_string_words of_row pair parenthesized part range ranges raw_definition refinement revision separated sequence shaped simple_type size some_of status syntax_clause syntax_type tag tagged text text_where textual_convention token upper_definition value word
+unfolding arc assigned balanced base before before_assign before_end behind bound braced choice clause default_value definition either field group identifier index index_names is_reserved later_part lined lower_definition macro_body macro_definition macro_name many maybe module_identity name lower named_number names notification_type object_identifier object_identifier_words object_identity object_type objects octet_string_words of_row pair parenthesized part range ranges raw_definition refinement revision separated sequence shaped simple_type size some_of status syntax_clause syntax_type tag tagged text text_where textual_convention token upper_definition value word
 definitions-law = many-law definition definition-law refl refl
 
 pub module_text-law : Lawful module_text
-unfolding arc assigned balanced base before before_assign before_end behind bound braced choice clause default_value definition either field group head heading identifier import_clause imports index index_names is_reserved later_part lined lower_definition macro_body macro_definition macro_name many maybe module_identity module_text name named_number names notification_type object_identifier object_identifier_words object_identity object_type objects octet_string_words of_row opening pair parenthesized part range ranges raw_definition refinement revision separated sequence shaped simple_type size some_of status symbol syntax_clause syntax_type tag tagged text text_where textual_convention token upper_definition value word
+unfolding arc assigned balanced base before before_assign before_end behind bound braced choice clause default_value definition either field group head heading identifier import_clause imports index index_names is_reserved later_part lined lower_definition macro_body macro_definition macro_name many maybe module_identity module_text name lower named_number names notification_type object_identifier object_identifier_words object_identity object_type objects octet_string_words of_row opening pair parenthesized part range ranges raw_definition refinement revision separated sequence shaped simple_type size some_of status symbol syntax_clause syntax_type tag tagged text text_where textual_convention token upper_definition value word
 module_text-law =
     shaped-law to_module from_module (pair head (before (many definition) (word (codes "END"))))
     (pair-law head (before (many definition) (word (codes "END"))) head-law
@@ -1165,5 +1160,5 @@ module_text-law =
     (λ x ts rest h. refl) (λ y x e. ap to_module (sym (some-inj (head_of y, y.defs) x e)))
 
 pub file-law : Lawful file
-unfolding arc assigned balanced base before before_assign before_end behind bound braced choice clause default_value definition either field file group head heading identifier import_clause imports index index_names is_reserved later_part lined lower_definition macro_body macro_definition macro_name many maybe module_identity module_text name named_number names notification_type object_identifier object_identifier_words object_identity object_type objects octet_string_words of_row opening pair parenthesized part range ranges raw_definition refinement revision separated sequence shaped simple_type size some_of status symbol syntax_clause syntax_type tag tagged text text_where textual_convention token upper_definition value word
+unfolding arc assigned balanced base before before_assign before_end behind bound braced choice clause default_value definition either field file group head heading identifier import_clause imports index index_names is_reserved later_part lined lower_definition macro_body macro_definition macro_name many maybe module_identity module_text name lower named_number names notification_type object_identifier object_identifier_words object_identity object_type objects octet_string_words of_row opening pair parenthesized part range ranges raw_definition refinement revision separated sequence shaped simple_type size some_of status symbol syntax_clause syntax_type tag tagged text text_where textual_convention token upper_definition value word
 file-law = many-law module_text module_text-law refl refl

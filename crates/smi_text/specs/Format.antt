@@ -1,13 +1,16 @@
--- Productions as values: how a part of the tree is spelt, how it is read from the front of the tokens, what it begins
+-- Productions as values: how a part of the tree is spelled, how it is read from the front of the tokens, what it begins
 -- with, and what must not follow it.
-use Rattle.std.specs.Prelude.{ℕ, Bool, true, false, ◌&&◌, ◌||◌, not, List, [], ◌∷◌, ◌++◌, length, Option, Some, None, if◌then◌else◌, option_and_then, option_map}
+use Rattle.std.specs.Prelude.{◌≡◌, ℕ, Bool, true, false, ◌&&◌, ◌||◌, not, List, [], ◌∷◌, ◌++◌, length, Option, Some, None, if◌then◌else◌, option_and_then, option_map, refl}
 use Rattle.std.specs.List.{list_any, list_all, flat_map}
 use Rattle.std.proofs.Common.{◌⊎◌, inl, inr, zero, suc}
 use Rattle.smi_lexer.specs.declared.token.TokenKind.{TokenKind}
-use Rattle.smi_lexer.specs.declared.token.TokenKind.TheVariants.{Upper}
+use Rattle.smi_lexer.specs.declared.token.TokenKind.TheVariants.{Lower, Upper}
 use Rattle.smi_lexer.specs.Token.{Lexeme}
-use Rattle.smi_text.specs.Mark.{Mark, sign, spelt, on_line, same_kind, same_text}
-use Rattle.smi_text.specs.Reserved.{is_reserved}
+use Rattle.smi_module.specs.Mark.{Mark, sign, sign_text, spelled, same_kind, same_text}
+use Rattle.smi_module.specs.Word.{is_word}
+use Rattle.smi_module.specs.Reserved.{is_reserved}
+use Rattle.smi_module.specs.Spelling.{put_line}
+use Rattle.smi_module.specs.declared.names.Name.{Name}
 
 -- which token may stand ahead: a word of the grammar, a name, one of a kind, or any but such a one
 pub data Ahead : Type 0 where
@@ -17,14 +20,14 @@ pub data Ahead : Type 0 where
   no_word : List ℕ → Ahead
   no_kind : TokenKind → Ahead
 
-abbrev pub is_word : List ℕ → Lexeme → Bool
-is_word w t = same_kind t.kind Upper && same_text t.text w
+abbrev pub is_this_word : List ℕ → Lexeme → Bool
+is_this_word w t = same_kind t.kind Upper && same_text t.text w
 
 abbrev pub meets : Lexeme → Ahead → Bool
-meets t (a_word w) = is_word w t
+meets t (a_word w) = is_this_word w t
 meets t a_name = same_kind t.kind Upper && not (is_reserved t.text)
 meets t (a_kind k) = same_kind t.kind k
-meets t (no_word w) = not (is_word w t)
+meets t (no_word w) = not (is_this_word w t)
 meets t (no_kind k) = not (same_kind t.kind k)
 
 -- the tokens begin with one of these
@@ -59,12 +62,12 @@ pub record Format (A : Type 0) : Type 0 where
   pub first : List Ahead
   -- what must not follow it
   pub stop : List Ahead
-  -- whether it may be spelt by no token
+  -- whether it may be spelled by no token
   pub empty : Bool
 
 -- the mark of no token
 abbrev pub never : List Mark
-never = spelt Upper [] false ∷ []
+never = spelled Upper [] false ∷ []
 
 -- one token: what it begins with, how it is marked, and what is taken from it
 abbrev pub read_one : {A : Type 0} → (Lexeme → Option A) → List Lexeme → Reading A
@@ -82,23 +85,44 @@ one cs mark pick = record {
 
 -- a word of the grammar
 unfoldable pub word : List ℕ → Format (Unit {0})
-word w = one (a_word w ∷ []) (λ _. spelt Upper w true) (λ t. if is_word w t then Some tt else None)
+word w = one (a_word w ∷ []) (λ _. spelled Upper w true) (λ t. if is_this_word w t then Some tt else None)
 
 -- a sign of the grammar
+abbrev pub is_sign : TokenKind → Lexeme → Bool
+is_sign k t = same_kind t.kind k && same_text t.text (sign_text k)
+
 unfoldable pub token : TokenKind → Format (Unit {0})
-token k = one (a_kind k ∷ []) (λ _. sign k) (λ t. if same_kind t.kind k then Some tt else None)
+token k = one (a_kind k ∷ []) (λ _. sign k) (λ t. if is_sign k t then Some tt else None)
 
 -- a token of this kind, by its text
 unfoldable pub text : TokenKind → Format (List ℕ)
-text k = one (a_kind k ∷ []) (λ x. spelt k x true) (λ t. if same_kind t.kind k then Some t.text else None)
+text k = one (a_kind k ∷ []) (λ x. spelled k x true) (λ t. if same_kind t.kind k then Some t.text else None)
 
 -- a token of this kind, by its text, for which a test holds
 unfoldable pub text_where : TokenKind → (List ℕ → Bool) → Format (List ℕ)
-text_where k ok = one (a_kind k ∷ []) (λ x. spelt k x (ok x)) (λ t. if same_kind t.kind k && ok t.text then Some t.text else None)
+text_where k ok = one (a_kind k ∷ []) (λ x. spelled k x (ok x)) (λ t. if same_kind t.kind k && ok t.text then Some t.text else None)
 
--- an UPPER that is no reserved word
-unfoldable pub name : Format (List ℕ)
-name = one (a_name ∷ []) (λ x. spelt Upper x (not (is_reserved x))) (λ t. if same_kind t.kind Upper && not (is_reserved t.text) then Some t.text else None)
+-- the name of these octets, where they are a word
+abbrev pub name_when : (x : List ℕ) (b : Bool) → is_word x ≡ b → Option Name
+name_when x true word = Some (record { octets = x; lexical = word })
+name_when x false other = None
+
+abbrev pub name_of : List ℕ → Option Name
+name_of x = name_when x (is_word x) refl
+
+-- a name that passes a test, of a token of this kind
+abbrev pub name_where : List Ahead → TokenKind → (List ℕ → Bool) → Format Name
+name_where cs k ok =
+    one cs (λ x. spelled k x.octets (ok x.octets))
+    (λ t. if same_kind t.kind k && ok t.text then name_of t.text else None)
+
+-- a name in lower case
+unfoldable pub lower : Format Name
+lower = name_where (a_kind Lower ∷ []) Lower (λ _. true)
+
+-- a name in upper case, which is no reserved word
+unfoldable pub name : Format Name
+name = name_where (a_name ∷ []) Upper (λ x. not (is_reserved x))
 
 -- one part, and then another
 abbrev pub read_pair : {A B : Type 0} → (List Lexeme → Reading A) → (List Lexeme → Reading B) → List Lexeme → Reading (A × B)
@@ -176,7 +200,7 @@ many f = record {
   empty = true;
 }
 
--- a part of the tree, made of its pieces; what has no pieces is not spelt by it
+-- a part of the tree, made of its pieces; what has no pieces is not spelled by it
 abbrev pub spell_pieces : {A : Type 0} → (A → List Mark) → Option A → List Mark
 spell_pieces f None = never
 spell_pieces f (Some x) = f x
@@ -213,10 +237,6 @@ unfoldable pub separated : {A : Type 0} → TokenKind → Format A → Format (L
 separated k f = some_of f (behind (token k) f)
 
 -- a part, with the line of its first token
-abbrev pub put_line : ℕ → List Mark → List Mark
-put_line n [] = never
-put_line n (m ∷ ms) = on_line n m ∷ ms
-
 abbrev pub line_ahead : List Lexeme → ℕ
 line_ahead [] = 0
 line_ahead (t ∷ ts) = t.line

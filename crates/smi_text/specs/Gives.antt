@@ -7,15 +7,17 @@ use Rattle.smi_text.specs.declared.stop.Stop.{Stop}
 use Rattle.smi_text.specs.declared.stop.Stop.TheVariants.{Syntax, Memory}
 use Rattle.smi_text.specs.declared.error.ParseError.{ParseError}
 use Rattle.smi_text.specs.declared.error.ParseError.TheVariants as E
-use Rattle.smi_text.specs.Mark.{Stands}
+use Rattle.smi_module.specs.Mark.{Stands}
 use Rattle.smi_text.specs.Format.{Reading, begins, many}
 use Rattle.smi_text.specs.Grammar.{definition, module_text, file}
-use Rattle.smi_text.specs.Spelling.{of_head}
-use Rattle.smi_text.specs.Text.{labels, are_distinct, HasNoDoubles, HasSecond, DefinesAgain, BreaksOff}
-use Rattle.smi_text.specs.declared.tree.Module.{Module}
-use Rattle.smi_text.specs.declared.tree.Part.{Part}
-use Rattle.smi_text.specs.declared.tree.Import.{Import}
-use Rattle.smi_text.specs.declared.tree.Def.{Def}
+use Rattle.smi_module.specs.Spelling.{of_head}
+use Rattle.smi_module.specs.Lookup.{labels, are_distinct}
+use Rattle.smi_module.specs.declared.names.Name.{Name}
+use Rattle.smi_text.specs.Text.{HasNoDoubles, HasSecond, DefinesAgain, BreaksOff}
+use Rattle.smi_module.specs.declared.tree.Module.{Module}
+use Rattle.smi_module.specs.declared.tree.Part.{Part}
+use Rattle.smi_module.specs.declared.tree.Import.{Import}
+use Rattle.smi_module.specs.declared.tree.Def.{Def}
 
 -- the step stopped for want of memory
 abbrev pub is_memory : Stop → Bool
@@ -60,7 +62,7 @@ pub record ReadsModule (m : Module) (tokens rest : List Lexeme) : Type 0 where
 
 -- a module with a second definition of a name, up to that definition
 pub record OpensTwice (line : ℕ) (tokens : List Lexeme) : Type 0 where
-  pub name : List ℕ
+  pub name : Name
   pub heading : Option (List Part)
   pub imports : Option (List Import)
   pub body : List Lexeme

@@ -1,44 +1,45 @@
 -- The productions of the grammar as formats: each reads and spells one part of the tree.
-use Rattle.std.specs.Prelude.{ℕ, ◌+◌, ◌-◌, ◌==◌, Bool, true, false, ◌&&◌, not, List, [], ◌∷◌, ◌++◌, length, drop, Option, Some, None, codes, map, if◌then◌else◌, option_and_then, option_map}
+use Rattle.std.specs.Prelude.{ℕ, ◌+◌, ◌-◌, ◌==◌, Bool, true, false, ◌&&◌, not, List, [], ◌∷◌, ◌++◌, length, Option, Some, None, codes, map, if◌then◌else◌, option_and_then, option_map}
 use Rattle.std.proofs.Common.{◌⊎◌, inl, inr, zero, suc}
 use Rattle.smi_lexer.specs.declared.token.TokenKind.{TokenKind}
 use Rattle.smi_lexer.specs.declared.token.TokenKind.TheVariants as K
 use Rattle.smi_lexer.specs.Token.{Lexeme}
-use Rattle.smi_text.specs.Mark.{Mark, sign, spelt, same_kind, same_text}
-use Rattle.smi_text.specs.Reserved.{macros}
-use Rattle.smi_text.specs.Number.{is_arc, is_number, is_bound, is_symbol, is_macro}
-use Rattle.smi_text.specs.Format.{Format, Reading, Ahead, a_word, a_name, a_kind, no_word, no_kind, begins, never, one, word, token, text, text_where, name, pair, behind, before, maybe, either, many, shaped, some_of, separated, lined, with_front}
-use Rattle.smi_text.specs.declared.tree.Module.{Module}
+use Rattle.smi_module.specs.Mark.{Mark, sign, spelled, same_kind, same_text}
+use Rattle.smi_module.specs.Reserved.{macros}
+use Rattle.smi_module.specs.Number.{is_arc, is_number, is_bound, is_symbol, is_macro}
+use Rattle.smi_text.specs.Format.{Format, Reading, Ahead, a_word, a_name, a_kind, no_word, no_kind, begins, never, one, word, token, text, text_where, name, pair, behind, before, maybe, either, many, shaped, some_of, separated, lined, with_front, lower, name_where}
+use Rattle.smi_module.specs.declared.names.Name.{Name}
+use Rattle.smi_module.specs.declared.tree.Module.{Module}
 use Rattle.smi_text.specs.declared.modules.Head.{Head}
-use Rattle.smi_text.specs.declared.tree.Import.{Import}
-use Rattle.smi_text.specs.declared.tree.TokenText.{TokenText}
-use Rattle.smi_text.specs.declared.tree.Def.{Def}
-use Rattle.smi_text.specs.declared.tree.DefKind.{DefKind}
-use Rattle.smi_text.specs.declared.tree.DefKind.TheVariants as D
-use Rattle.smi_text.specs.declared.tree.Part.{Part}
-use Rattle.smi_text.specs.declared.tree.Part.TheVariants as P
-use Rattle.smi_text.specs.declared.tree.NamedNumber.{NamedNumber}
-use Rattle.smi_text.specs.declared.tree.ModuleIdentity.{ModuleIdentity}
-use Rattle.smi_text.specs.declared.tree.Revision.{Revision}
-use Rattle.smi_text.specs.declared.tree.ObjectIdentity.{ObjectIdentity}
-use Rattle.smi_text.specs.declared.tree.Status.{Status}
-use Rattle.smi_text.specs.declared.tree.ObjectType.{ObjectType}
-use Rattle.smi_text.specs.declared.tree.Index.{Index}
-use Rattle.smi_text.specs.declared.tree.Index.TheVariants as I
-use Rattle.smi_text.specs.declared.tree.IndexParts.{IndexParts}
-use Rattle.smi_text.specs.declared.tree.NotificationType.{NotificationType}
-use Rattle.smi_text.specs.declared.tree.Group.{Group}
-use Rattle.smi_text.specs.declared.tree.RawDefinition.{RawDefinition}
-use Rattle.smi_text.specs.declared.tree.TextualConvention.{TextualConvention}
-use Rattle.smi_text.specs.declared.tree.Field.{Field}
-use Rattle.smi_text.specs.declared.tree.Syntax.{Syntax}
-use Rattle.smi_text.specs.declared.tree.Syntax.TheVariants as T
-use Rattle.smi_text.specs.declared.tree.SimpleType.{SimpleType}
-use Rattle.smi_text.specs.declared.tree.Base.{Base}
-use Rattle.smi_text.specs.declared.tree.Base.TheVariants as B
-use Rattle.smi_text.specs.declared.tree.Refinement.{Refinement}
-use Rattle.smi_text.specs.declared.tree.Refinement.TheVariants as R
-use Rattle.smi_text.specs.declared.tree.Range.{Range}
+use Rattle.smi_module.specs.declared.tree.Import.{Import}
+use Rattle.smi_module.specs.declared.tree.TokenText.{TokenText}
+use Rattle.smi_module.specs.declared.tree.Def.{Def}
+use Rattle.smi_module.specs.declared.tree.DefKind.{DefKind}
+use Rattle.smi_module.specs.declared.tree.DefKind.TheVariants as D
+use Rattle.smi_module.specs.declared.tree.Part.{Part}
+use Rattle.smi_module.specs.declared.tree.Part.TheVariants as P
+use Rattle.smi_module.specs.declared.tree.NamedNumber.{NamedNumber}
+use Rattle.smi_module.specs.declared.tree.ModuleIdentity.{ModuleIdentity}
+use Rattle.smi_module.specs.declared.tree.Revision.{Revision}
+use Rattle.smi_module.specs.declared.tree.ObjectIdentity.{ObjectIdentity}
+use Rattle.smi_module.specs.declared.tree.Status.{Status}
+use Rattle.smi_module.specs.declared.tree.ObjectType.{ObjectType}
+use Rattle.smi_module.specs.declared.tree.Index.{Index}
+use Rattle.smi_module.specs.declared.tree.Index.TheVariants as I
+use Rattle.smi_module.specs.declared.tree.IndexParts.{IndexParts}
+use Rattle.smi_module.specs.declared.tree.NotificationType.{NotificationType}
+use Rattle.smi_module.specs.declared.tree.Group.{Group}
+use Rattle.smi_module.specs.declared.tree.RawDefinition.{RawDefinition}
+use Rattle.smi_module.specs.declared.tree.TextualConvention.{TextualConvention}
+use Rattle.smi_module.specs.declared.tree.Field.{Field}
+use Rattle.smi_module.specs.declared.tree.Syntax.{Syntax}
+use Rattle.smi_module.specs.declared.tree.Syntax.TheVariants as T
+use Rattle.smi_module.specs.declared.tree.SimpleType.{SimpleType}
+use Rattle.smi_module.specs.declared.tree.Base.{Base}
+use Rattle.smi_module.specs.declared.tree.Base.TheVariants as B
+use Rattle.smi_module.specs.declared.tree.Refinement.{Refinement}
+use Rattle.smi_module.specs.declared.tree.Refinement.TheVariants as R
+use Rattle.smi_module.specs.declared.tree.Range.{Range}
 
 -- pieces and parts
 
@@ -59,45 +60,45 @@ abbrev pub kept_text : Lexeme → TokenText
 kept_text t = record { kind = t.kind; text = t.text }
 
 abbrev pub kept : List Ahead → (TokenKind → List ℕ → Bool) → Format TokenText
-kept cs ok = one cs (λ x. spelt x.kind x.text (ok x.kind x.text)) (λ t. if ok t.kind t.text then Some (kept_text t) else None)
+kept cs ok = one cs (λ x. spelled x.kind x.text (ok x.kind x.text)) (λ t. if ok t.kind t.text then Some (kept_text t) else None)
 
 -- identifiers
 
 unfoldable pub arc : Format (List ℕ)
 arc = text_where K.Number is_arc
 
-abbrev pub to_named_number : List ℕ × List ℕ → NamedNumber
+abbrev pub to_named_number : Name × List ℕ → NamedNumber
 to_named_number p = record { name = p.0; number = p.1 }
 
-abbrev pub from_named_number : NamedNumber → Option (List ℕ × List ℕ)
+abbrev pub from_named_number : NamedNumber → Option (Name × List ℕ)
 from_named_number n = Some (n.name, n.number)
 
-abbrev pub to_part : List ℕ ⊎ (List ℕ × Option (List ℕ)) → Part
+abbrev pub to_part : List ℕ ⊎ (Name × Option (List ℕ)) → Part
 to_part (inl n) = P.Number n
 to_part (inr (x, None)) = P.Name x
 to_part (inr (x, Some n)) = P.NamedNumber (record { name = x; number = n })
 
-abbrev pub from_part : Part → Option (List ℕ ⊎ (List ℕ × Option (List ℕ)))
+abbrev pub from_part : Part → Option (List ℕ ⊎ (Name × Option (List ℕ)))
 from_part (P.Number n) = Some (inl n)
 from_part (P.Name x) = Some (inr (x, None))
 from_part (P.NamedNumber n) = Some (inr (n.name, Some n.number))
 
 -- a part in the first place, or in a heading
 unfoldable pub part : Format Part
-part = shaped to_part from_part (either arc (pair (text K.Lower) (maybe (parenthesized arc))))
+part = shaped to_part from_part (either arc (pair lower (maybe (parenthesized arc))))
 
-abbrev pub to_later_part : List ℕ ⊎ (List ℕ × List ℕ) → Part
+abbrev pub to_later_part : List ℕ ⊎ (Name × List ℕ) → Part
 to_later_part (inl n) = P.Number n
 to_later_part (inr (x, n)) = P.NamedNumber (record { name = x; number = n })
 
-abbrev pub from_later_part : Part → Option (List ℕ ⊎ (List ℕ × List ℕ))
+abbrev pub from_later_part : Part → Option (List ℕ ⊎ (Name × List ℕ))
 from_later_part (P.Number n) = Some (inl n)
 from_later_part (P.Name x) = None
 from_later_part (P.NamedNumber n) = Some (inr (n.name, n.number))
 
 -- a part in a later place
 unfoldable pub later_part : Format Part
-later_part = shaped to_later_part from_later_part (either arc (pair (text K.Lower) (parenthesized arc)))
+later_part = shaped to_later_part from_later_part (either arc (pair lower (parenthesized arc)))
 
 unfoldable pub identifier : Format (List Part)
 identifier = braced (some_of part later_part)
@@ -125,7 +126,7 @@ ranges = separated K.Bar range
 
 -- a name with a number of any sign
 unfoldable pub named_number : Format NamedNumber
-named_number = shaped to_named_number from_named_number (pair (text K.Lower) (parenthesized (text_where K.Number is_number)))
+named_number = shaped to_named_number from_named_number (pair lower (parenthesized (text_where K.Number is_number)))
 
 abbrev pub to_refinement : List NamedNumber ⊎ (List Range ⊎ List Range) → Refinement
 to_refinement (inl ns) = R.Numbers ns
@@ -150,14 +151,14 @@ object_identifier_words = behind (word (codes "OBJECT")) (word (codes "IDENTIFIE
 unfoldable pub octet_string_words : Format (Unit {0})
 octet_string_words = behind (word (codes "OCTET")) (word (codes "STRING"))
 
-abbrev pub to_base : Unit {0} ⊎ (Unit {0} ⊎ (Unit {0} ⊎ (Unit {0} ⊎ List ℕ))) → Base
+abbrev pub to_base : Unit {0} ⊎ (Unit {0} ⊎ (Unit {0} ⊎ (Unit {0} ⊎ Name))) → Base
 to_base (inl x) = B.Integer
 to_base (inr (inl x)) = B.OctetString
 to_base (inr (inr (inl x))) = B.ObjectIdentifier
 to_base (inr (inr (inr (inl x)))) = B.Bits
 to_base (inr (inr (inr (inr x)))) = B.Named x
 
-abbrev pub from_base : Base → Option (Unit {0} ⊎ (Unit {0} ⊎ (Unit {0} ⊎ (Unit {0} ⊎ List ℕ))))
+abbrev pub from_base : Base → Option (Unit {0} ⊎ (Unit {0} ⊎ (Unit {0} ⊎ (Unit {0} ⊎ Name))))
 from_base B.Integer = Some (inl tt)
 from_base B.OctetString = Some (inr (inl tt))
 from_base B.ObjectIdentifier = Some (inr (inr (inl tt)))
@@ -178,33 +179,33 @@ from_simple_type t = Some (t.base, t.refinement)
 unfoldable pub simple_type : Format SimpleType
 simple_type = shaped to_simple_type from_simple_type (pair base (maybe refinement))
 
-abbrev pub to_syntax : List ℕ ⊎ SimpleType → Syntax
+abbrev pub to_syntax : Name ⊎ SimpleType → Syntax
 to_syntax (inl x) = T.SequenceOf x
 to_syntax (inr t) = T.Simple t
 
-abbrev pub from_syntax : Syntax → Option (List ℕ ⊎ SimpleType)
+abbrev pub from_syntax : Syntax → Option (Name ⊎ SimpleType)
 from_syntax (T.SequenceOf x) = Some (inl x)
 from_syntax (T.Simple t) = Some (inr t)
 
-unfoldable pub of_row : Format (List ℕ)
+unfoldable pub of_row : Format Name
 of_row = behind (word (codes "OF")) name
 
 unfoldable pub syntax_type : Format Syntax
 syntax_type = shaped to_syntax from_syntax (either (behind (word (codes "SEQUENCE")) of_row) simple_type)
 
-abbrev pub to_field : List ℕ × Syntax → Field
+abbrev pub to_field : Name × Syntax → Field
 to_field p = record { label = p.0; syntax = p.1 }
 
-abbrev pub from_field : Field → Option (List ℕ × Syntax)
+abbrev pub from_field : Field → Option (Name × Syntax)
 from_field f = Some (f.label, f.syntax)
 
 unfoldable pub field : Format Field
-field = shaped to_field from_field (pair (text K.Lower) syntax_type)
+field = shaped to_field from_field (pair lower syntax_type)
 
 -- clauses
 
-unfoldable pub names : Format (List (List ℕ))
-names = braced (separated K.Comma (text K.Lower))
+unfoldable pub names : Format (List Name)
+names = braced (separated K.Comma lower)
 
 abbrev pub to_status : List ℕ × (List ℕ × Option (List ℕ)) → Status
 to_status p = record { status = p.0; description = p.1.0; reference = p.1.1 }
@@ -218,20 +219,20 @@ status =
     (pair (behind (word (codes "STATUS")) (text K.Lower)) (pair (clause (codes "DESCRIPTION")) (maybe (clause (codes "REFERENCE")))))
 
 -- the marks of the names of an index: the last one may stand behind IMPLIED
-abbrev pub index_marks : List (List ℕ) → Bool → List Mark
+abbrev pub index_marks : List Name → Bool → List Mark
 index_marks [] implied = never
 index_marks (x ∷ []) implied =
-    (if implied then spelt K.Upper (codes "IMPLIED") true ∷ [] else []) ++ spelt K.Lower x true ∷ []
-index_marks (x ∷ (y ∷ ys)) implied = spelt K.Lower x true ∷ sign K.Comma ∷ index_marks (y ∷ ys) implied
+    (if implied then spelled K.Upper (codes "IMPLIED") true ∷ [] else []) ++ spelled K.Lower x.octets true ∷ []
+index_marks (x ∷ (y ∷ ys)) implied = spelled K.Lower x.octets true ∷ sign K.Comma ∷ index_marks (y ∷ ys) implied
 
-abbrev pub implied_name : Format (List ℕ)
-implied_name = behind (word (codes "IMPLIED")) (text K.Lower)
+abbrev pub implied_name : Format Name
+implied_name = behind (word (codes "IMPLIED")) lower
 
-abbrev pub parts_of : List (List ℕ) → Bool → IndexParts
+abbrev pub parts_of : List Name → Bool → IndexParts
 parts_of xs implied = record { names = xs; implied = implied }
 
 -- these names before those that were read
-unfoldable pub with_names : List (List ℕ) → Reading IndexParts → Reading IndexParts
+unfoldable pub with_names : List Name → Reading IndexParts → Reading IndexParts
 with_names xs r = option_map (λ p. (parts_of (xs ++ p.0.names) p.0.implied, p.1)) r
 
 -- the names one after the other; the number bounds the recursion
@@ -240,8 +241,8 @@ read_index zero ts = None
 read_index (suc n) ts =
     if begins (a_word (codes "IMPLIED") ∷ []) ts then option_map (λ p. (parts_of (p.0 ∷ []) true, p.1)) (implied_name.read ts)
     else option_and_then (λ p.
-    if begins (a_kind K.Comma ∷ []) p.1 then with_names (p.0 ∷ []) (read_index n (drop 1 p.1))
-    else Some (parts_of (p.0 ∷ []) false, p.1)) ((text K.Lower).read ts)
+    if begins (a_kind K.Comma ∷ []) p.1 then with_names (p.0 ∷ []) (option_and_then (λ q. read_index n q.1) ((token K.Comma).read p.1))
+    else Some (parts_of (p.0 ∷ []) false, p.1)) (lower.read ts)
 
 unfoldable pub index_names : Format IndexParts
 index_names = record {
@@ -252,18 +253,18 @@ index_names = record {
   empty = false;
 }
 
-abbrev pub to_index : IndexParts ⊎ List ℕ → Index
+abbrev pub to_index : IndexParts ⊎ Name → Index
 to_index (inl p) = I.Own p
 to_index (inr x) = I.Augments x
 
-abbrev pub from_index : Index → Option (IndexParts ⊎ List ℕ)
+abbrev pub from_index : Index → Option (IndexParts ⊎ Name)
 from_index (I.Own p) = Some (inl p)
 from_index (I.Augments x) = Some (inr x)
 
 unfoldable pub index : Format Index
 index =
     shaped to_index from_index
-    (either (behind (word (codes "INDEX")) (braced index_names)) (behind (word (codes "AUGMENTS")) (braced (text K.Lower))))
+    (either (behind (word (codes "INDEX")) (braced index_names)) (behind (word (codes "AUGMENTS")) (braced lower)))
 
 -- raw runs
 
@@ -288,7 +289,7 @@ is_balanced depth [] = depth == 0
 is_balanced depth (x ∷ xs) = not (is_outside x.kind depth) && is_balanced (depth_after x.kind depth) xs
 
 abbrev pub raw_marks : List TokenText → List Mark
-raw_marks xs = map (λ x. spelt x.kind x.text true) xs
+raw_marks xs = map (λ x. spelled x.kind x.text true) xs
 
 unfoldable pub read_balanced : ℕ → List Lexeme → Reading (List TokenText)
 read_balanced depth [] = if depth == 0 then Some ([], []) else None
@@ -372,13 +373,13 @@ object_type =
     (pair (behind (word (codes "MAX-ACCESS")) (text K.Lower)) (pair status (pair (maybe index)
     (pair (maybe default_value) value)))))))
 
-abbrev pub to_notification_type : Option (List (List ℕ)) × (Status × List Part) → NotificationType
+abbrev pub to_notification_type : Option (List Name) × (Status × List Part) → NotificationType
 to_notification_type p = record { objects = p.0; status = p.1.0; value = p.1.1 }
 
-abbrev pub from_notification_type : NotificationType → Option (Option (List (List ℕ)) × (Status × List Part))
+abbrev pub from_notification_type : NotificationType → Option (Option (List Name) × (Status × List Part))
 from_notification_type d = Some (d.objects, (d.status, d.value))
 
-unfoldable pub objects : Format (List (List ℕ))
+unfoldable pub objects : Format (List Name)
 objects = behind (word (codes "OBJECTS")) names
 
 unfoldable pub notification_type : Format NotificationType
@@ -386,10 +387,10 @@ notification_type =
     behind (word (codes "NOTIFICATION-TYPE"))
     (shaped to_notification_type from_notification_type (pair (maybe objects) (pair status value)))
 
-abbrev pub to_group : List (List ℕ) × (Status × List Part) → Group
+abbrev pub to_group : List Name × (Status × List Part) → Group
 to_group p = record { members = p.0; status = p.1.0; value = p.1.1 }
 
-abbrev pub from_group : Group → Option (List (List ℕ) × (Status × List Part))
+abbrev pub from_group : Group → Option (List Name × (Status × List Part))
 from_group d = Some (d.members, (d.status, d.value))
 
 -- a group behind its word, its members behind theirs
@@ -466,7 +467,7 @@ tag =
     (before (text_where K.Number is_number) (behind (token K.CloseBracket) (word (codes "IMPLICIT")))))
 
 abbrev pub Assigned : Type 0
-Assigned = TextualConvention ⊎ (List TokenText ⊎ ((List ℕ × Syntax) ⊎ ((List Field ⊎ List ℕ) ⊎ SimpleType)))
+Assigned = TextualConvention ⊎ (List TokenText ⊎ ((List ℕ × Syntax) ⊎ ((List Field ⊎ Name) ⊎ SimpleType)))
 
 abbrev pub to_assigned : Assigned → DefKind
 to_assigned (inl d) = D.TextualConvention d
@@ -503,7 +504,7 @@ choice = behind (word (codes "CHOICE")) (braced balanced)
 unfoldable pub tagged : Format (List ℕ × Syntax)
 tagged = pair tag syntax_type
 
-unfoldable pub sequence : Format (List Field ⊎ List ℕ)
+unfoldable pub sequence : Format (List Field ⊎ Name)
 sequence = behind (word (codes "SEQUENCE")) (either (braced (separated K.Comma field)) of_row)
 
 unfoldable pub assigned : Format DefKind
@@ -553,11 +554,11 @@ upper_definition = shaped to_upper from_upper (either (behind (token K.Assign) a
 abbrev pub macro_words : List Ahead
 macro_words = map a_word macros
 
-unfoldable pub macro_name : Format (List ℕ)
-macro_name = one macro_words (λ x. spelt K.Upper x (is_macro x)) (λ t. if same_kind t.kind K.Upper && is_macro t.text then Some t.text else None)
+unfoldable pub macro_name : Format Name
+macro_name = name_where macro_words K.Upper is_macro
 
 abbrev pub Labelled : Type 0
-Labelled = (ℕ × List ℕ) × DefKind
+Labelled = (ℕ × Name) × DefKind
 
 abbrev pub to_def : Labelled ⊎ (Labelled ⊎ Labelled) → Def
 to_def (inl p) = record { label = p.0.1; line = p.0.0; kind = p.1 }
@@ -566,7 +567,7 @@ to_def (inr (inr p)) = record { label = p.0.1; line = p.0.0; kind = p.1 }
 
 -- a definition by its name and kind: a name in lower case, in upper case, or the word of a macro
 abbrev pub def_pieces : Labelled → DefKind → Labelled ⊎ (Labelled ⊎ Labelled)
-def_pieces p (D.Macro xs) = if is_macro p.0.1 then inr (inr p) else inr (inl p)
+def_pieces p (D.Macro xs) = if is_macro p.0.1.octets then inr (inr p) else inr (inl p)
 def_pieces p (D.TextualConvention d) = inr (inl p)
 def_pieces p (D.TypeAssignment d) = inr (inl p)
 def_pieces p (D.Sequence d) = inr (inl p)
@@ -579,7 +580,7 @@ from_def d = Some (def_pieces ((d.line, d.label), d.kind) d.kind)
 unfoldable pub definition : Format Def
 definition =
     shaped to_def from_def
-    (either (pair (lined (text K.Lower)) lower_definition)
+    (either (pair (lined lower) lower_definition)
     (either (pair (lined name) upper_definition) (pair (lined macro_name) macro_definition)))
 
 -- modules
@@ -587,10 +588,10 @@ definition =
 unfoldable pub symbol : Format TokenText
 symbol = kept (a_kind K.Lower ∷ a_name ∷ macro_words) is_symbol
 
-abbrev pub to_import : ℕ × (List TokenText × List ℕ) → Import
+abbrev pub to_import : ℕ × (List TokenText × Name) → Import
 to_import p = record { symbols = p.1.0; source = p.1.1; line = p.0 }
 
-abbrev pub from_import : Import → Option (ℕ × (List TokenText × List ℕ))
+abbrev pub from_import : Import → Option (ℕ × (List TokenText × Name))
 from_import i = Some (i.line, (i.symbols, i.source))
 
 unfoldable pub import_clause : Format Import
@@ -607,10 +608,10 @@ heading = braced (many part)
 unfoldable pub opening : Format (Unit {0})
 opening = behind (word (codes "DEFINITIONS")) (behind (token K.Assign) (word (codes "BEGIN")))
 
-abbrev pub to_head : List ℕ × (Option (List Part) × Option (List Import)) → Head
+abbrev pub to_head : Name × (Option (List Part) × Option (List Import)) → Head
 to_head p = record { name = p.0; heading = p.1.0; imports = p.1.1 }
 
-abbrev pub from_head : Head → Option (List ℕ × (Option (List Part) × Option (List Import)))
+abbrev pub from_head : Head → Option (Name × (Option (List Part) × Option (List Import)))
 from_head h = Some (h.name, (h.heading, h.imports))
 
 -- a module up to its definitions

@@ -1,11 +1,6 @@
-pub mod Mark
-pub mod Reserved
-pub mod Number
 pub mod Format
 pub mod Grammar
 pub mod Gives
 pub mod Names
-pub mod Spelling
 pub mod Text
-pub mod Braces
-pub mod Lines
+pub mod Kinds

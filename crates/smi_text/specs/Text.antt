@@ -1,32 +1,26 @@
 -- What a text says of modules, and its faults.
-use Rattle.std.specs.Prelude.{◌≡◌, ℕ, ◌&&◌, not, Bool, true, List, [], ◌∷◌, ◌++◌, Option, Some, None, map}
+use Rattle.std.specs.Prelude.{◌≡◌, ℕ, true, List, [], ◌++◌, Option, Some, None}
 use Rattle.std.specs.List.{flat_map, list_any, list_all}
 use Rattle.smi_lexer.specs.Token.{Lexeme, Item, tokens_of, fault_of}
 use Rattle.smi_lexer.specs.Lexes.{Lexes}
 use Rattle.smi_lexer.specs.declared.error.LexError.{LexError}
 use Rattle.smi_text.specs.declared.error.ParseError.{ParseError}
 use Rattle.smi_text.specs.declared.error.ParseError.TheVariants as E
-use Rattle.smi_text.specs.declared.tree.Module.{Module}
-use Rattle.smi_text.specs.declared.tree.Part.{Part}
-use Rattle.smi_text.specs.declared.tree.Import.{Import}
-use Rattle.smi_text.specs.declared.tree.Def.{Def}
-use Rattle.smi_text.specs.Mark.{Stands, same_text}
-use Rattle.smi_text.specs.Spelling.{spelling, of_head, of_def}
+use Rattle.smi_module.specs.declared.tree.Module.{Module}
+use Rattle.smi_module.specs.declared.tree.Part.{Part}
+use Rattle.smi_module.specs.declared.tree.Import.{Import}
+use Rattle.smi_module.specs.declared.tree.Def.{Def}
+use Rattle.smi_module.specs.Mark.{Stands, same_text}
+use Rattle.smi_module.specs.Spelling.{spelling, of_head, of_def}
+use Rattle.smi_module.specs.Lookup.{labels, are_distinct}
+use Rattle.smi_module.specs.declared.names.Name.{Name}
 
 -- the text lexes to its end, and its tokens are the spelling of the modules
 pub record Spells (ms : List Module) (text : List ℕ) : Type 0 where
   pub items : List Item
   pub lexed : Lexes [] text items
   pub whole : fault_of items ≡ None
-  pub spelt : Stands (spelling ms) (tokens_of items) []
-
-abbrev pub labels : List Def → List (List ℕ)
-labels ds = map (λ d. d.label) ds
-
--- no label stands twice
-abbrev pub are_distinct : List (List ℕ) → Bool
-are_distinct [] = true
-are_distinct (x ∷ xs) = not (list_any (same_text x) xs) && are_distinct xs
+  pub spelled : Stands (spelling ms) (tokens_of items) []
 
 -- no module defines a name twice
 abbrev pub HasNoDoubles : List Module → Type 0
@@ -45,14 +39,14 @@ pub record HasSecond (line : ℕ) (tokens : List Lexeme) : Type 0 where
   pub second : Def
   pub rest : List Lexeme
   pub stands : Stands (flat_map of_def before ++ of_def second) tokens rest
-  pub defined : list_any (same_text second.label) (labels before) ≡ true
+  pub defined : list_any (same_text second.label.octets) (labels before) ≡ true
   pub on_line : second.line ≡ line
 
 -- such definitions stand in a module of the text, behind modules of which none defines a name twice
 pub record DefinesAgain (line : ℕ) (tokens : List Lexeme) : Type 0 where
   pub modules : List Module
   pub once : HasNoDoubles modules
-  pub name : List ℕ
+  pub name : Name
   pub heading : Option (List Part)
   pub imports : Option (List Import)
   pub body : List Lexeme

@@ -1,5 +1,5 @@
 //! Clauses that several definitions have, and raw runs of tokens (RFC 2578, sections 7 and 8).
-#![tactic(auto, unfolding(crate::specs::Format::begins, crate::specs::Format::pair, crate::specs::Format::behind, crate::specs::Format::before, crate::specs::Format::maybe, crate::specs::Format::either, crate::specs::Format::shaped, crate::specs::Format::some_of, crate::specs::Format::separated, crate::specs::Format::lined, crate::specs::Format::word, crate::specs::Format::token, crate::specs::Format::text, crate::specs::Format::text_where, crate::specs::Format::name, crate::specs::Grammar::clause, crate::specs::Grammar::braced, crate::specs::Grammar::names, crate::specs::Grammar::status, crate::specs::Grammar::implied_name, crate::specs::Grammar::index_names, crate::specs::Grammar::index, crate::specs::Grammar::before_assign, crate::specs::Grammar::before_end, crate::specs::Grammar::balanced, crate::specs::Grammar::default_value, crate::specs::Grammar::revision, crate::specs::Grammar::objects))]
+#![tactic(auto, unfolding(crate::specs::Format::begins, crate::specs::Format::pair, crate::specs::Format::behind, crate::specs::Format::before, crate::specs::Format::maybe, crate::specs::Format::either, crate::specs::Format::shaped, crate::specs::Format::some_of, crate::specs::Format::separated, crate::specs::Format::lined, crate::specs::Format::lower, crate::specs::Format::word, crate::specs::Format::token, crate::specs::Format::text, crate::specs::Format::text_where, crate::specs::Format::name, crate::specs::Grammar::clause, crate::specs::Grammar::braced, crate::specs::Grammar::names, crate::specs::Grammar::status, crate::specs::Grammar::implied_name, crate::specs::Grammar::index_names, crate::specs::Grammar::index, crate::specs::Grammar::before_assign, crate::specs::Grammar::before_end, crate::specs::Grammar::balanced, crate::specs::Grammar::default_value, crate::specs::Grammar::revision, crate::specs::Grammar::objects))]
 
 ghost use Rattle.std.specs.Prelude.{◌≡◌, ◌+◌, ◌<◌, ◌^◌, List, [], ◌∷◌, codes};
 ghost use Rattle.smi_text.specs.Format.{begins, a_word, a_kind, no_word, no_kind};
@@ -8,27 +8,26 @@ ghost use Rattle.smi_text.specs.Grammar as grammar;
 ghost use Rattle.smi_lexer.specs.declared.token.TokenKind.TheVariants as kinds;
 ghost use Rattle.smi_text.specs.Gives.{Gives};
 
-use crate::items::{Items, Text};
 use crate::parser::{AfterComma, Parser, Production, keep};
 use crate::stop::Stop;
-use crate::tree::{Index, IndexParts, Revision, Status, TokenText};
 use smi_lexer::TokenKind;
+use smi_module::{Index, IndexParts, Items, Name, Revision, Status, TokenText};
 
 /// A name in lower case.
-pub(crate) struct Name;
+pub(crate) struct OneName;
 
-impl Production for Name {
-    type Output = Text;
+impl Production for OneName {
+    type Output = Name;
 
-    ghost format = { format.text kinds.Lower };
+    ghost format = { format.lower };
 
     fn is_ahead(parser: &Parser<'_>) -> bool {
         parser.at_kind(TokenKind::Lower)
     }
 
     #[tactic(auto, using(crate::proofs::Shorter::name_shorter))]
-    fn read(parser: &mut Parser<'_>) -> Result<Text, Stop> {
-        parser.text(TokenKind::Lower)
+    fn read(parser: &mut Parser<'_>) -> Result<Name, Stop> {
+        parser.lower()
     }
 }
 
@@ -131,18 +130,18 @@ impl<'a> Parser<'a> {
     }
 
     /// Reads names in braces.
-    pub(crate) fn names(&mut self) -> Result<Items<Text>, Stop>
+    pub(crate) fn names(&mut self) -> Result<Items<Name>, Stop>
         ensures { Gives result self.new (grammar.names.read self.old) }
     {
         self.sign(TokenKind::OpenBrace)?;
-        let first = self.text(TokenKind::Lower)?;
-        let names = self.and_more::<AfterComma<Name>>(first)?;
+        let first = self.lower()?;
+        let names = self.and_more::<AfterComma<OneName>>(first)?;
         self.sign(TokenKind::CloseBrace)?;
         Ok(names)
     }
 
     /// Reads the objects of a notification, if OBJECTS is ahead.
-    pub(crate) fn objects_if_any(&mut self) -> Result<Option<Items<Text>>, Stop>
+    pub(crate) fn objects_if_any(&mut self) -> Result<Option<Items<Name>>, Stop>
         ensures { Gives result self.new ((format.maybe grammar.objects).read self.old) }
     {
         if self.at_word(b"OBJECTS") {
@@ -161,14 +160,14 @@ impl<'a> Parser<'a> {
         'each: loop {
             if self.at_word(b"IMPLIED") {
                 self.word(b"IMPLIED")?;
-                let name = self.text(TokenKind::Lower)?;
+                let name = self.lower()?;
                 keep(&mut names, name)?;
                 return Ok(IndexParts {
                     names: Items::new(names),
                     implied: true,
                 });
             }
-            let name = self.text(TokenKind::Lower)?;
+            let name = self.lower()?;
             keep(&mut names, name)?;
             if !self.at_kind(TokenKind::Comma) {
                 return Ok(IndexParts {
@@ -176,7 +175,7 @@ impl<'a> Parser<'a> {
                     implied: false,
                 });
             }
-            self.advance();
+            self.sign(TokenKind::Comma)?;
         }
     }
 
@@ -193,7 +192,7 @@ impl<'a> Parser<'a> {
         } else {
             self.word(b"AUGMENTS")?;
             self.sign(TokenKind::OpenBrace)?;
-            let row = self.text(TokenKind::Lower)?;
+            let row = self.lower()?;
             self.sign(TokenKind::CloseBrace)?;
             Ok(Index::Augments(row))
         }

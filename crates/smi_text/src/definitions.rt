@@ -1,5 +1,5 @@
 //! Definitions (RFC 2578, sections 3 to 8; RFC 2579; RFC 2580).
-#![tactic(auto, unfolding(crate::specs::Format::begins, crate::specs::Format::pair, crate::specs::Format::behind, crate::specs::Format::before, crate::specs::Format::maybe, crate::specs::Format::either, crate::specs::Format::shaped, crate::specs::Format::some_of, crate::specs::Format::separated, crate::specs::Format::lined, crate::specs::Format::word, crate::specs::Format::token, crate::specs::Format::text, crate::specs::Format::text_where, crate::specs::Format::name, crate::specs::Grammar::braced, crate::specs::Grammar::module_identity, crate::specs::Grammar::object_identity, crate::specs::Grammar::object_type, crate::specs::Grammar::notification_type, crate::specs::Grammar::group, crate::specs::Grammar::raw_definition, crate::specs::Grammar::object_identifier, crate::specs::Grammar::textual_convention, crate::specs::Grammar::syntax_clause, crate::specs::Grammar::lower_definition, crate::specs::Grammar::tag, crate::specs::Grammar::choice, crate::specs::Grammar::tagged, crate::specs::Grammar::sequence, crate::specs::Grammar::assigned, crate::specs::Grammar::macro_body, crate::specs::Grammar::macro_definition, crate::specs::Grammar::upper_definition, crate::specs::Grammar::macro_name, crate::specs::Grammar::definition, crate::specs::Grammar::objects, crate::specs::Grammar::object_identifier_words, crate::specs::Grammar::default_value))]
+#![tactic(auto, unfolding(crate::specs::Format::begins, crate::specs::Format::pair, crate::specs::Format::behind, crate::specs::Format::before, crate::specs::Format::maybe, crate::specs::Format::either, crate::specs::Format::shaped, crate::specs::Format::some_of, crate::specs::Format::separated, crate::specs::Format::lined, crate::specs::Format::lower, crate::specs::Format::word, crate::specs::Format::token, crate::specs::Format::text, crate::specs::Format::text_where, crate::specs::Format::name, crate::specs::Grammar::braced, crate::specs::Grammar::module_identity, crate::specs::Grammar::object_identity, crate::specs::Grammar::object_type, crate::specs::Grammar::notification_type, crate::specs::Grammar::group, crate::specs::Grammar::raw_definition, crate::specs::Grammar::object_identifier, crate::specs::Grammar::textual_convention, crate::specs::Grammar::syntax_clause, crate::specs::Grammar::lower_definition, crate::specs::Grammar::tag, crate::specs::Grammar::choice, crate::specs::Grammar::tagged, crate::specs::Grammar::sequence, crate::specs::Grammar::assigned, crate::specs::Grammar::macro_body, crate::specs::Grammar::macro_definition, crate::specs::Grammar::upper_definition, crate::specs::Grammar::macro_name, crate::specs::Grammar::definition, crate::specs::Grammar::objects, crate::specs::Grammar::object_identifier_words, crate::specs::Grammar::default_value))]
 
 ghost use Rattle.std.specs.Prelude.{◌≡◌, List, [], ◌∷◌, codes};
 ghost use Rattle.smi_text.specs.Format.{begins, a_word, a_kind, a_name};
@@ -8,16 +8,15 @@ ghost use Rattle.smi_text.specs.Grammar as grammar;
 ghost use Rattle.smi_text.specs.Gives.{Gives};
 
 use crate::clauses::{BeforeAssign, BeforeEnd, OneRevision};
-use crate::items::{Items, Text};
 use crate::parser::{AfterComma, Parser};
-use crate::reserved::{is_macro, is_reserved};
 use crate::stop::Stop;
 use crate::syntax::OneField;
-use crate::tree::{
-    Def, DefKind, Field, Group, ModuleIdentity, NotificationType, ObjectIdentity, ObjectType, Part,
-    RawDefinition, Syntax, TextualConvention, TokenText, TypeAssignment,
-};
 use smi_lexer::TokenKind;
+use smi_module::{
+    Def, DefKind, Field, Group, Items, ModuleIdentity, Name, NotificationType, ObjectIdentity,
+    ObjectType, Part, RawDefinition, Syntax, Text, TextualConvention, TokenText, TypeAssignment,
+    is_macro, is_reserved,
+};
 
 impl<'a> Parser<'a> {
     /// Reads SYNTAX and its type.
@@ -275,12 +274,12 @@ impl<'a> Parser<'a> {
     }
 
     /// Reads the word of a macro.
-    fn macro_name(&mut self) -> Result<Text, Stop>
+    fn macro_name(&mut self) -> Result<Name, Stop>
         ensures { Gives result self.new (grammar.macro_name.read self.old) }
     {
         match self.peek() {
             Some(token) if token.kind == TokenKind::Upper && is_macro(token.text) => {
-                self.take_text(token.text)
+                self.take_name(token)
             }
             _ => Err(self.syntax()),
         }
@@ -299,7 +298,7 @@ impl<'a> Parser<'a> {
     {
         let line = self.line();
         if self.at_kind(TokenKind::Lower) {
-            let label = self.text(TokenKind::Lower)?;
+            let label = self.lower()?;
             let kind = self.lower_definition()?;
             return Ok(Def { label, line, kind });
         }

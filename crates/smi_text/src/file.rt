@@ -3,22 +3,21 @@
 
 ghost use Rattle.std.specs.Prelude.{◌≡◌, List, [], IfOk, IfErr, MatchResult, MatchBool, map, true, ◌↔◌};
 ghost use Rattle.smi_lexer.specs.Token.{Lexeme, lexeme_of};
-ghost use Rattle.smi_text.specs.Mark.{Stands};
-ghost use Rattle.smi_text.specs.Spelling.{spelling};
-ghost use Rattle.smi_text.specs.Lines.{plain, unlined};
+ghost use Rattle.smi_module.specs.Mark.{Stands};
+ghost use Rattle.smi_module.specs.Spelling.{spelling};
+ghost use Rattle.smi_module.specs.Lines.{plain, unlined};
 ghost use Rattle.smi_text.specs.Gives.{ReadsDefinitions, ReadsModule, ReadsModules, DefinitionsFault, ModuleFault, ModulesFault, IsLabelAhead, AreTokens, LexFault};
 ghost use Rattle.smi_text.specs.Text.{Spells, HasNoDoubles, IsCause};
-ghost use Rattle.smi_text.specs.Braces.{IsBalanced};
+ghost use Rattle.smi_module.specs.Braces.{IsBalanced};
 ghost use Rattle.smi_text.specs.Grammar.{is_balanced};
-ghost use Rattle.smi_text.specs.declared.tree.Module.{Module as Tree};
-ghost use Rattle.smi_text.specs.declared.tree.TokenText.{TokenText};
+ghost use Rattle.smi_module.specs.declared.tree.Module.{Module as Tree};
+ghost use Rattle.smi_module.specs.declared.tree.TokenText.{TokenText};
 
 use crate::error::ParseError;
-use crate::items::Items;
 use crate::names;
 use crate::parser::{Parser, keep};
-use crate::tree::{Def, Module};
 use smi_lexer::{Lexer, Token};
+use smi_module::{Def, Items, Module};
 use std::alloc::Global;
 use std::collections::BTreeSet;
 

@@ -1,19 +1,18 @@
 //! The tokens that are left of a text, and the steps in which every production is read.
-#![tactic(auto, unfolding(crate::specs::Format::word, crate::specs::Format::token, crate::specs::Format::text, crate::specs::Format::text_where, crate::specs::Format::name, crate::specs::Format::begins, crate::specs::Format::maybe, crate::specs::Format::behind, crate::specs::Grammar::clause))]
+#![tactic(auto, unfolding(crate::specs::Format::lower, crate::specs::Format::word, crate::specs::Format::token, crate::specs::Format::text, crate::specs::Format::text_where, crate::specs::Format::name, crate::specs::Format::begins, crate::specs::Format::maybe, crate::specs::Format::behind, crate::specs::Grammar::clause))]
 
-ghost use Rattle.std.specs.Prelude.{◌≡◌, ℕ, List, [], ◌∷◌, codes, map, drop, IfNone, IfSome, IfOk, IfErr, OnOk, ◌++◌, ◌<◌, length};
+ghost use Rattle.std.specs.Prelude.{◌≡◌, ℕ, true, List, [], ◌∷◌, codes, map, drop, IfNone, IfSome, IfOk, IfErr, OnOk, ◌++◌, ◌<◌, length};
 ghost use Rattle.smi_lexer.specs.Token.{Lexeme, lexeme_of};
-ghost use Rattle.smi_text.specs.Format.{Format, begins, a_word, a_kind, a_name, line_ahead, with_front};
+ghost use Rattle.smi_text.specs.Format.{Format, begins, a_word, a_kind, a_name, line_ahead, name_of, with_front};
+ghost use Rattle.smi_text.specs.Kinds.{is_sign_kind, is_word_kind};
 ghost use Rattle.smi_text.specs.Format as format;
 ghost use Rattle.smi_text.specs.Gives.{Gives};
 ghost use Rattle.smi_text.specs.Grammar as grammar;
 ghost use Rattle.smi_lexer.specs.declared.token.TokenKind.TheVariants as kinds;
 
-use crate::items::{Items, Text};
-use crate::reserved::is_reserved;
 use crate::stop::Stop;
-use crate::tree::TokenText;
 use smi_lexer::{Token, TokenKind};
+use smi_module::{Items, Name, Text, TokenText, is_reserved};
 use std::alloc::Global;
 use std::collections::BTreeSet;
 use std::marker::Model;
@@ -197,14 +196,17 @@ impl<'a> Parser<'a> {
 
     /// Reads a sign of the grammar.
     pub(crate) fn sign(&mut self, kind: TokenKind) -> Result<(), Stop>
+        requires { is_sign_kind kind ≡ true }
         ensures gives { Gives result self.new ((format.token kind).read self.old) }
         ensures shorter { OnOk result (length self.new < length self.old) }
     {
-        if !self.at_kind(kind) {
-            return Err(self.syntax());
+        match self.peek() {
+            Some(token) if token.kind == kind => {
+                self.advance();
+                Ok(())
+            }
+            _ => Err(self.syntax()),
         }
-        self.advance();
-        Ok(())
     }
 
     /// Moves past the token ahead, whose text is handed in, and keeps that text.
@@ -227,13 +229,33 @@ impl<'a> Parser<'a> {
         }
     }
 
-    /// Reads an UPPER that is no reserved word, and keeps its text.
-    pub(crate) fn name(&mut self) -> Result<Text, Stop>
+    /// Moves past the token ahead, a word that is handed in, and keeps it as a name.
+    pub(crate) fn take_name(&mut self, token: Token<'a>) -> Result<Name, Stop>
+        requires { is_word_kind token.kind ≡ true }
+        ensures ok { IfOk result (λ x. (name_of token.entry.text.now ≡ Some x) × (self.new ≡ drop 1 self.old)) }
+        ensures err { IfErr result (λ e. e ≡ Stop.Memory) }
+    {
+        let octets = self.take_text(token.text)?;
+        Ok(Name { octets })
+    }
+
+    /// Reads a name in lower case.
+    pub(crate) fn lower(&mut self) -> Result<Name, Stop>
+        ensures { Gives result self.new (format.lower.read self.old) }
+    {
+        match self.peek() {
+            Some(token) if token.kind == TokenKind::Lower => self.take_name(token),
+            _ => Err(self.syntax()),
+        }
+    }
+
+    /// Reads a name in upper case, which is no reserved word.
+    pub(crate) fn name(&mut self) -> Result<Name, Stop>
         ensures { Gives result self.new (format.name.read self.old) }
     {
         match self.peek() {
             Some(token) if token.kind == TokenKind::Upper && !is_reserved(token.text) => {
-                self.take_text(token.text)
+                self.take_name(token)
             }
             _ => Err(self.syntax()),
         }

@@ -1,21 +1,20 @@
 //! Identifier values and types (RFC 2578, sections 7.1, 7.10 and 9).
-#![tactic(auto, unfolding(crate::specs::Format::begins, crate::specs::Format::pair, crate::specs::Format::behind, crate::specs::Format::before, crate::specs::Format::maybe, crate::specs::Format::either, crate::specs::Format::shaped, crate::specs::Format::some_of, crate::specs::Format::separated, crate::specs::Format::lined, crate::specs::Format::word, crate::specs::Format::token, crate::specs::Format::text, crate::specs::Format::text_where, crate::specs::Format::name, crate::specs::Grammar::braced, crate::specs::Grammar::parenthesized, crate::specs::Grammar::arc, crate::specs::Grammar::part, crate::specs::Grammar::later_part, crate::specs::Grammar::identifier, crate::specs::Grammar::value, crate::specs::Grammar::bound, crate::specs::Grammar::range, crate::specs::Grammar::ranges, crate::specs::Grammar::named_number, crate::specs::Grammar::size, crate::specs::Grammar::refinement, crate::specs::Grammar::object_identifier_words, crate::specs::Grammar::octet_string_words, crate::specs::Grammar::base, crate::specs::Grammar::simple_type, crate::specs::Grammar::of_row, crate::specs::Grammar::syntax_type, crate::specs::Grammar::field))]
+#![tactic(auto, unfolding(crate::specs::Format::begins, crate::specs::Format::pair, crate::specs::Format::behind, crate::specs::Format::before, crate::specs::Format::maybe, crate::specs::Format::either, crate::specs::Format::shaped, crate::specs::Format::some_of, crate::specs::Format::separated, crate::specs::Format::lined, crate::specs::Format::lower, crate::specs::Format::word, crate::specs::Format::token, crate::specs::Format::text, crate::specs::Format::text_where, crate::specs::Format::name, crate::specs::Grammar::braced, crate::specs::Grammar::parenthesized, crate::specs::Grammar::arc, crate::specs::Grammar::part, crate::specs::Grammar::later_part, crate::specs::Grammar::identifier, crate::specs::Grammar::value, crate::specs::Grammar::bound, crate::specs::Grammar::range, crate::specs::Grammar::ranges, crate::specs::Grammar::named_number, crate::specs::Grammar::size, crate::specs::Grammar::refinement, crate::specs::Grammar::object_identifier_words, crate::specs::Grammar::octet_string_words, crate::specs::Grammar::base, crate::specs::Grammar::simple_type, crate::specs::Grammar::of_row, crate::specs::Grammar::syntax_type, crate::specs::Grammar::field))]
 
 ghost use Rattle.std.specs.Prelude.{◌≡◌, List, [], ◌∷◌, codes};
 ghost use Rattle.smi_text.specs.Format.{begins, a_word, a_kind, a_name};
 ghost use Rattle.smi_text.specs.Format as format;
 ghost use Rattle.smi_text.specs.Grammar as grammar;
-ghost use Rattle.smi_text.specs.Number.{is_number};
+ghost use Rattle.smi_module.specs.Number.{is_number};
 ghost use Rattle.smi_text.specs.Gives.{Gives};
 
-use crate::items::{Items, Text};
-use crate::numbers;
 use crate::parser::{AfterBar, AfterComma, Parser, Production};
 use crate::stop::Stop;
-use crate::tree::{
-    Base, Field, NamedNumber, Part, Range, Refinement, SimpleType, Syntax, TokenText,
-};
 use smi_lexer::TokenKind;
+use smi_module::{
+    Base, Field, Items, Name, NamedNumber, Part, Range, Refinement, SimpleType, Syntax, Text,
+    TokenText, is_arc, is_bound, is_number,
+};
 
 /// A part of an identifier in a module's heading.
 pub(crate) struct HeadingPart;
@@ -113,7 +112,7 @@ impl<'a> Parser<'a> {
         ensures { Gives result self.new (grammar.arc.read self.old) }
     {
         match self.peek() {
-            Some(token) if token.kind == TokenKind::Number && numbers::is_arc(token.text) => {
+            Some(token) if token.kind == TokenKind::Number && is_arc(token.text) => {
                 self.take_text(token.text)
             }
             _ => Err(self.syntax()),
@@ -148,7 +147,7 @@ impl<'a> Parser<'a> {
         if self.at_kind(TokenKind::Number) {
             return Ok(Part::Number(self.arc()?));
         }
-        let name = self.text(TokenKind::Lower)?;
+        let name = self.lower()?;
         match self.arc_if_any()? {
             Some(number) => Ok(Part::NamedNumber(NamedNumber { name, number })),
             None => Ok(Part::Name(name)),
@@ -162,7 +161,7 @@ impl<'a> Parser<'a> {
         if self.at_kind(TokenKind::Number) {
             return Ok(Part::Number(self.arc()?));
         }
-        let name = self.text(TokenKind::Lower)?;
+        let name = self.lower()?;
         let number = self.arc_in_parentheses()?;
         Ok(Part::NamedNumber(NamedNumber { name, number }))
     }
@@ -191,7 +190,7 @@ impl<'a> Parser<'a> {
         ensures { Gives result self.new ((format.text_where TokenKind.Number is_number).read self.old) }
     {
         match self.peek() {
-            Some(token) if token.kind == TokenKind::Number && numbers::is_number(token.text) => {
+            Some(token) if token.kind == TokenKind::Number && is_number(token.text) => {
                 self.take_text(token.text)
             }
             _ => Err(self.syntax()),
@@ -202,7 +201,7 @@ impl<'a> Parser<'a> {
     fn named_number(&mut self) -> Result<NamedNumber, Stop>
         ensures { Gives result self.new (grammar.named_number.read self.old) }
     {
-        let name = self.text(TokenKind::Lower)?;
+        let name = self.lower()?;
         self.sign(TokenKind::OpenParen)?;
         let number = self.number()?;
         self.sign(TokenKind::CloseParen)?;
@@ -229,7 +228,7 @@ impl<'a> Parser<'a> {
         ensures { Gives result self.new (grammar.bound.read self.old) }
     {
         match self.peek() {
-            Some(token) if numbers::is_bound(token.kind, token.text) => {
+            Some(token) if is_bound(token.kind, token.text) => {
                 self.take_token(token.kind, token.text)
             }
             _ => Err(self.syntax()),
@@ -362,7 +361,7 @@ impl<'a> Parser<'a> {
     }
 
     /// Reads what stands behind SEQUENCE in the type of a table: OF and its row's type.
-    pub(crate) fn of_row(&mut self) -> Result<Text, Stop>
+    pub(crate) fn of_row(&mut self) -> Result<Name, Stop>
         ensures { Gives result self.new (grammar.of_row.read self.old) }
     {
         self.word(b"OF")?;
@@ -385,7 +384,7 @@ impl<'a> Parser<'a> {
     pub(crate) fn field(&mut self) -> Result<Field, Stop>
         ensures { Gives result self.new (grammar.field.read self.old) }
     {
-        let label = self.text(TokenKind::Lower)?;
+        let label = self.lower()?;
         let syntax = self.syntax_type()?;
         Ok(Field { label, syntax })
     }

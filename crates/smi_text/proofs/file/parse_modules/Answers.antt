@@ -5,9 +5,9 @@ use Rattle.smi_lexer.proofs.Laws.{one_list}
 use Rattle.smi_lexer.specs.Token.{Lexeme, tokens_of, fault_of}
 use Rattle.smi_text.specs.declared.error.ParseError.{ParseError}
 use Rattle.smi_text.specs.declared.error.ParseError.TheVariants as E
-use Rattle.smi_text.specs.declared.tree.Module.{Module}
-use Rattle.smi_text.specs.Mark.{Stands}
-use Rattle.smi_text.specs.Spelling.{spelling}
+use Rattle.smi_module.specs.declared.tree.Module.{Module}
+use Rattle.smi_module.specs.Mark.{Stands}
+use Rattle.smi_module.specs.Spelling.{spelling}
 use Rattle.smi_text.specs.Text.{Spells, HasNoDoubles, IsCause, DefinesAgain}
 use Rattle.smi_text.specs.Gives.{AreTokens, LexFault, ReadsModules, ModulesFault}
 use Rattle.smi_text.proofs.Laws.{some-inj}
@@ -21,12 +21,12 @@ module _ (text : List ℕ) (tokens : List Lexeme) (are : AreTokens tokens text) 
   reads ms s =
       let same : tokens_of s.items ≡ tokens = ap tokens_of (one_list [] text s.items are.items s.lexed are.lexed) ∙ sym are.same in
       let P : List Lexeme → Type 0 = λ ts. Stands (spelling ms) ts [] in
-      file-reads ms tokens (subst P same s.spelt)
+      file-reads ms tokens (subst P same s.spelled)
 
   found : (ms : List Module) → ReadsModules ms tokens → Spells ms text × HasNoDoubles ms
   found ms r =
       let P : List Lexeme → Type 0 = λ ts. Stands (spelling ms) ts [] in
-      (record { items = are.items; lexed = are.lexed; whole = are.whole; spelt = subst P are.same (file-stands ms tokens [] r.read) }, r.distinct)
+      (record { items = are.items; lexed = are.lexed; whole = are.whole; spelled = subst P are.same (file-stands ms tokens [] r.read) }, r.distinct)
 
   cause : (error : ParseError) → ModulesFault error tokens → IsCause error text
   cause (E.Lex fault) f = absurd f

@@ -41,6 +41,11 @@ returns-in_default-clause-goes c =
     fault (goal.at.returns-in_default-clause-goes c).After-fault_at ∙ ap (λ items. Err c.fault_at.result ∷ items) (sym (items-nothing c.self.inside.at c.self.inside.lines)) in
     record { on = λ _. (tt, tt, fewer c.args.self.now rest (Err c.fault_at.result) all); keeps = tt; rests = λ _. tt }
 
+pub invariant_of-result : goal.invariant_of-result
+invariant_of-result c =
+    let text = c.split_at.result.1.now in
+    record { lexical = ∣ subst (IsLexeme c.in-Some.kind) (sym c.split_at-2.ensures.front) (part_is (take c.in-Some.len text) (lexeme c.in-Some.kind) c.in-Some.ensures.reads) ∣₁ }
+
 token : (c : After-lines_in) → c.args.self.now
     ≡ Ok (record {
       kind = c.in-Some.kind;

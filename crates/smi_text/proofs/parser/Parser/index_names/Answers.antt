@@ -1,6 +1,6 @@
 use Rattle.std.proofs.Common.{◌∙◌, sym, length, arith}
 use Rattle.std.proofs.lemmas.Result.{err_from_is_err_and}
-use Rattle.smi_text.proofs.Loops.{with_names-nil, index-implied, index-no_name, index-stuck, index-last, index-next, index_names-starts}
+use Rattle.smi_text.proofs.Loops.{with_names-nil, index-implied, index-no_name, index-stuck, index-last, index-no_comma, index-next, index_names-starts}
 use Rattle.smi_text.proofs.parser.Parser.index_names.Goals as goal
 
 pub each-init : goal.each-init
@@ -30,8 +30,15 @@ returns-then-not-at_kind c =
     rw (c.new-then-not-at_kind.ensures, c.in_ok-keep-2.ensures.ok)
     (sym i.2 ∙ index-last _ i.0 c.each.self i.1 _ _ (sym c.at_word.ensures ∙ c.if-at_word.false) c.in_ok-name-2.ensures (sym c.at_kind.ensures ∙ c.if-not-at_kind.true))
 
+pub returns-in_err-sign : goal.returns-in_err-sign
+returns-in_err-sign c =
+    let i = c.each.invariant in
+    let p = err_from_is_err_and c.from_residual-in_err-sign.result c.from_residual-in_err-sign.ensures.1 in
+    rw (p.1, p.2)
+    (λ h. sym i.2 ∙ index-no_comma _ i.0 c.each.self i.1 _ _ (sym c.at_word.ensures ∙ c.if-at_word.false) c.in_ok-name-2.ensures (sym c.at_kind.ensures ∙ c.if-not-at_kind.false) (c.in_err-sign.ensures.gives h))
+
 pub each-preserved : goal.each-preserved
 each-preserved c =
     let i = c.each.invariant in
-    let s = index-next c.each.names.items i.0 c.each.self i.1 _ _ (sym c.at_word.ensures ∙ c.if-at_word.false) c.in_ok-name-2.ensures (sym c.at_kind.ensures ∙ c.if-not-at_kind.false) in
-    rw (c.advance.ensures, c.in_ok-keep-2.ensures.ok) (s.0, s.1, sym s.2 ∙ i.2)
+    let s = index-next c.each.names.items i.0 c.each.self i.1 _ _ _ (sym c.at_word.ensures ∙ c.if-at_word.false) c.in_ok-name-2.ensures (sym c.at_kind.ensures ∙ c.if-not-at_kind.false) c.in_ok-sign.ensures.gives in
+    rw (c.in_ok-keep-2.ensures.ok) (s.0, s.1, sym s.2 ∙ i.2)

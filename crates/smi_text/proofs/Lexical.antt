@@ -1,0 +1,66 @@
+-- What the kind of a token says of its text.
+use Rattle.std.proofs.Common.{◌≡◌, ℕ, Bool, true, ◌&&◌, List, ◌∷◌, Some, Result, Ok, Err, refl, sym, ◌∙◌, ap}
+use Rattle.std.specs.Prelude.{drop, IfOk, IfErr}
+use Rattle.std.proofs.Math.Bool.{Bool-set}
+use Rattle.std.proofs.Math.Logic.{∥∥₁_elim}
+use Rattle.std.proofs.lemmas.Bool.{false≢true}
+use Rattle.smi_lexer.specs.declared.token.TokenKind.{TokenKind}
+use Rattle.smi_lexer.specs.declared.token.TokenKind.TheVariants.{Lower, Upper, Number, Text, Hex, Binary, Assign, Range, OpenBrace, CloseBrace, OpenParen, CloseParen, OpenBracket, CloseBracket, Less, Greater, Comma, Semicolon, Colon, Bar, Dot, Equals}
+use Rattle.smi_lexer.specs.Lexeme.{IsLexeme}
+use Rattle.smi_lexer.specs.Token.{Lexeme}
+use Rattle.smi_module.specs.Mark.{sign_text, same_text, same_kind}
+use Rattle.smi_module.specs.declared.names.Name.{Name}
+use Rattle.smi_text.specs.Kinds.{is_sign_kind}
+use Rattle.smi_text.specs.declared.stop.Stop.{Stop}
+use Rattle.smi_text.specs.declared.stop.Stop.TheVariants.{Memory}
+use Rattle.smi_text.specs.Gives.{Gives, is_memory}
+use Rattle.smi_text.specs.Format.{Ahead, name_of, name_where, token, is_sign}
+use Rattle.smi_text.proofs.Marks.{and-both, same_kind-same, same_text-same}
+use Rattle.smi_text.proofs.NameLaws.{name_of-octets}
+
+sign-of : (k : TokenKind) (x : List ℕ) → is_sign_kind k ≡ true → IsLexeme k x → x ≡ sign_text k
+sign-of Lower x e h = absurd (false≢true e)
+sign-of Upper x e h = absurd (false≢true e)
+sign-of Number x e h = absurd (false≢true e)
+sign-of Text x e h = absurd (false≢true e)
+sign-of Hex x e h = absurd (false≢true e)
+sign-of Binary x e h = absurd (false≢true e)
+sign-of Assign x e h = h
+sign-of Range x e h = h
+sign-of OpenBrace x e h = h
+sign-of CloseBrace x e h = h
+sign-of OpenParen x e h = h
+sign-of CloseParen x e h = h
+sign-of OpenBracket x e h = h
+sign-of CloseBracket x e h = h
+sign-of Less x e h = h
+sign-of Greater x e h = h
+sign-of Comma x e h = h
+sign-of Semicolon x e h = h
+sign-of Colon x e h = h
+sign-of Bar x e h = h
+sign-of Dot x e h = h
+sign-of Equals x e h = h
+
+-- the text of a sign is that of its kind
+sign_is : (k : TokenKind) (x : List ℕ) → is_sign_kind k ≡ true → ∥ IsLexeme k x ∥₁ → same_text x (sign_text k) ≡ true
+sign_is k x e t = ∥∥₁_elim t (Bool-set (same_text x (sign_text k)) true) (λ h. rw (sign-of k x e h) (same_text-same (sign_text k)))
+
+pub sign-read : (k : TokenKind) (t : Lexeme) (ts : List Lexeme) → t.kind ≡ k → is_sign_kind k ≡ true → ∥ IsLexeme t.kind t.text ∥₁ → (token k).read (t ∷ ts) ≡ Some (tt, ts)
+unfolding token
+sign-read k t ts e s l =
+    let text : same_text t.text (sign_text t.kind) ≡ true = sign_is t.kind t.text (rw e s) l in
+    let both : is_sign k t ≡ true = and-both (same_kind t.kind k) (same_text t.text (sign_text k)) (rw e (same_kind-same k)) (rw (← e) text) in
+    rw both refl
+
+-- the octets of a name give it
+pub name_at : (x : List ℕ) (n : Name) → n.octets ≡ x → name_of x ≡ Some n
+name_at x n e = ap name_of (sym e) ∙ name_of-octets n
+
+-- what a step that keeps a name gives, where the token ahead passes the test
+pub gives-name : (cs : List Ahead) (k : TokenKind) (ok : List ℕ → Bool) (t : Lexeme) (ts now rest : List Lexeme) (r : Result Name Stop) → now ≡ t ∷ ts → ts ≡ drop 1 now → t.kind ≡ k → ok t.text ≡ true
+    → IfOk r (λ x. (name_of t.text ≡ Some x) × (rest ≡ drop 1 now)) → IfErr r (λ e. e ≡ Memory) → Gives r rest ((name_where cs k ok).read now)
+gives-name cs k ok t ts now rest (Ok x) is tail e o h m =
+    let both : (same_kind t.kind k && ok t.text) ≡ true = and-both (same_kind t.kind k) (ok t.text) (rw e (same_kind-same k)) o in
+    ap (name_where cs k ok).read is ∙ rw (both, h.0, tail, ← h.1) refl
+gives-name cs k ok t ts now rest (Err e) is tail f o h m = λ n. absurd (false≢true (sym n ∙ ap is_memory m))

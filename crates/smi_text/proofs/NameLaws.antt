@@ -1,0 +1,35 @@
+-- The name of octets that are a word: there is one, and one alone.
+use Rattle.std.proofs.Common.{◌≡◌, ℕ, Bool, true, false, List, Some, refl, sym, ◌∙◌, ap}
+use Rattle.std.proofs.Math.Bool.{Bool-set}
+use Rattle.std.proofs.lemmas.Bool.{false≢true}
+use Rattle.smi_module.specs.Word.{is_word}
+use Rattle.smi_module.specs.declared.names.Name.{Name}
+use Rattle.smi_text.specs.Format.{name_when, name_of}
+
+some-inj : {A : Type 0} (x y : A) → Some x ≡ Some y → x ≡ y
+some-inj x y h = cc
+
+named : (x : List ℕ) → is_word x ≡ true → Name
+named x w = record { octets = x; lexical = w }
+
+same-when : (x : List ℕ) (w : is_word x ≡ true) (b : Bool) (e : is_word x ≡ b) → name_when x b e ≡ Some (named x w)
+unfolding named
+same-when x w true e = ap (λ v. Some (named x v)) (Bool-set (is_word x) true e w)
+same-when x w false e = absurd (false≢true (sym e ∙ w))
+
+-- the octets of a name give that name
+pub name_of-octets : (n : Name) → name_of n.octets ≡ Some n
+unfolding named
+name_of-octets n = same-when n.octets n.lexical (is_word n.octets) refl
+
+octets-when : (x : List ℕ) (b : Bool) (e : is_word x ≡ b) (n : Name) → name_when x b e ≡ Some n → n.octets ≡ x
+octets-when x true e n h = ap (λ (m : Name). m.octets) (sym (some-inj (record { octets = x; lexical = e }) n h))
+octets-when x false e n h = absurd (cc)
+
+-- a name that octets give has those octets
+pub name_of-is : (x : List ℕ) (n : Name) → name_of x ≡ Some n → n.octets ≡ x
+name_of-is x n h = octets-when x (is_word x) refl n h
+
+-- names of the same octets are the same
+pub same-name : (m n : Name) → m.octets ≡ n.octets → m ≡ n
+same-name m n e = some-inj m n (sym (name_of-octets m) ∙ ap name_of e ∙ name_of-octets n)

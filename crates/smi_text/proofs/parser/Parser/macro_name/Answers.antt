@@ -1,0 +1,15 @@
+use Rattle.std.proofs.Common.{refl, sym}
+use denote.Enum.Bare.{same_true}
+use Rattle.smi_lexer.specs.contracts.token.TokenKind.{the_type}
+use Rattle.smi_lexer.specs.declared.token.TokenKind.TheVariants as K
+use Rattle.smi_lexer.specs.Token.{lexeme_of}
+use Rattle.smi_module.specs.Number.{is_macro}
+use Rattle.smi_text.specs.Grammar.{macro_name, macro_words}
+use Rattle.smi_text.proofs.Lexical.{gives-name}
+use Rattle.smi_text.proofs.parser.Parser.macro_name.Goals as goal
+
+pub returns-in-Some : goal.returns-in-Some
+unfolding macro_name
+returns-in-Some c =
+    let kind = same_true the_type tt _ _ (sym c.if-eq.ensures) in
+    gives-name macro_words K.Upper is_macro (lexeme_of c.in-Some.token) _ _ _ _ c.in-Some.ensures.some refl kind (rw (← c.is_macro.ensures) c.if-is_macro.true) c.take_name.ensures.ok c.take_name.ensures.err
