@@ -16,8 +16,3 @@ pub use config::{Config, Outcome, Why};
 pub use endpoint::{Endpoint, EndpointFault};
 pub use laws::one_reply;
 pub use server::{Served, serve, serve_at};
-
-#[cfg(test)]
-mod bulk_tests;
-#[cfg(test)]
-mod tests;

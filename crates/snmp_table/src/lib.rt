@@ -11,8 +11,6 @@ mod line;
 mod row;
 mod split;
 mod table;
-#[cfg(test)]
-mod tests;
 mod value;
 
 pub use error::{PutError, TableError};

@@ -1,6 +1,6 @@
 //! GetBulks and their replies, worked out by hand.
 
-use crate::{Config, Outcome, Why, answer};
+use snmp_agent::{Config, Outcome, Why, answer};
 use snmp_table::Table;
 use snmp_wire::{ValueRef, decode};
 use std::process::Abort;

@@ -1,0 +1,13 @@
+//! Tests of the table and the agent: rows, requests with their replies, and a server over loopback.
+#![tactic(auto)]
+
+#[cfg(test)]
+mod agent;
+#[cfg(test)]
+mod bulk;
+#[cfg(test)]
+mod changes;
+#[cfg(test)]
+mod loopback;
+#[cfg(test)]
+mod table;
