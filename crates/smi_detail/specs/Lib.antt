@@ -1,0 +1,4 @@
+pub mod Syntax
+pub mod Definition
+pub mod Value
+pub mod Detail

@@ -1,0 +1,18 @@
+//! What details need of a tree.
+ghost use Rattle.std.specs.Prelude.{◌≡◌, List, ℕ, Option};
+ghost use Rattle.std.specs.Option.{option_copied};
+ghost use Rattle.smi_module.specs.declared.tree.Def.{Def};
+
+use smi_module::Def;
+use smi_name::NameTree;
+use snmp_oid::Oid;
+
+/// A tree of nodes that knows their definitions.
+pub trait DetailTree: NameTree {
+    ghost definition_at: { Self → List ℕ → Option Def };
+
+    /// The definition of the node that stands for the longest beginning of an identifier; None
+    /// where there is no node, and of a built-in root.
+    fn definition(&self, oid: &Oid) -> Option<&Def>
+        ensures { option_copied result ≡ definition_at self.now oid.now };
+}
