@@ -2,7 +2,7 @@
 use Rattle.std.proofs.Common.{◌≡◌, ◌≢◌, ℕ, Bool, true, false, List, [], ◌∷◌, refl}
 use Rattle.std.proofs.Common.{Option, Some, None, is_some, MatchOption, inl, inr, subst, arith, ◌<◌, ◌≤◌}
 use Rattle.smi_hint.specs.Number.{StartsWithNumber, IsNumberHint}
-use Rattle.smi_hint.specs.Hint.{IsOfNumbers}
+use Rattle.smi_hint.specs.Hint.{IsOfNumbers, IsOfOctets}
 use Rattle.smi_hint.specs.declared.number.NumberForm.{NumberForm}
 use Rattle.smi_hint.specs.declared.number.NumberForm.TheVariants as form
 use Rattle.smi_hint.specs.declared.spec.OctetFormat.{OctetFormat}
@@ -122,3 +122,8 @@ pub number_is : (number : Option NumberForm) (text : List ℕ) → MatchOption n
     → (is_some number ≡ true → IsOfNumbers text) × (IsOfNumbers text → is_some number ≡ true)
 number_is None text h = (λ e. absurd (cc e), λ n. absurd (not_both text n.0 h.0 n.1 h.1))
 number_is (Some form) text h = (λ _. (form, h), λ _. refl)
+
+pub octets_are : (number : Option NumberForm) (text : List ℕ) → MatchOption number ((specs : List Spec) × IsOctetHint text specs) (IsNumberHint text)
+    → (is_some number ≡ false → IsOfOctets text) × (IsOfOctets text → is_some number ≡ false)
+octets_are None text h = (λ _. h, λ _. refl)
+octets_are (Some form) text h = (λ e. absurd (cc e), λ n. absurd (not_both text form n.0 h n.1))

@@ -1,6 +1,6 @@
 //! A display hint: read once, and then asked for texts.
 ghost use Rattle.std.specs.Prelude.{◌≡◌, ◌≤◌, ◌↔◌, ◌⊎◌, List, ℕ, IsSome, IfSome, IsTrue};
-ghost use Rattle.std.specs.Prelude.{MatchOption};
+ghost use Rattle.std.specs.Prelude.{MatchOption, false};
 ghost use Rattle.text_draft.specs.Draft.{Adds};
 ghost use Rattle.smi_hint.specs.Number.{IsNumberHint};
 ghost use Rattle.smi_hint.specs.Spec.{IsOctetHint};
@@ -67,7 +67,8 @@ impl<'a> Hint<'a> {
 
     /// Whether the hint is one of integers.
     pub fn is_number(&self) -> bool
-        ensures { IsTrue result ↔ IsOfNumbers self.now }
+        ensures true_of_numbers { IsTrue result ↔ IsOfNumbers self.now }
+        ensures false_of_octets { (result ≡ false) ↔ IsOfOctets self.now }
     {
         self.number.is_some()
     }

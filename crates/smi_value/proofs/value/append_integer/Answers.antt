@@ -1,0 +1,27 @@
+use Rattle.std.proofs.Common.{◌≡◌, ℕ, List, ◌++◌, Option, Some, codes, refl, subst, w64, ◌∙◌}
+use Rattle.std.specs.Int.{w128}
+use Rattle.std.proofs.Common.{SFits, to_z, of_z}
+use Rattle.std.specs.Fmt.{signed_decimal}
+use Rattle.std.specs.Option.{option_copied}
+use Rattle.std.proofs.lemmas.Int.{to_z-of_z}
+use Rattle.smi_value.specs.declared.base.ValueBase.TheVariants as base
+use Rattle.smi_value.specs.Syntax.{syntax_at, name_of}
+use Rattle.smi_value.specs.Pieces.{type_word, named_text}
+use Rattle.smi_value.specs.Value.{IsIntegerText}
+use Rattle.smi_value.proofs.Lists.{adds_from}
+use Rattle.smi_value.proofs.value.append_integer.Goals as goal
+
+pub returns-in-Some : goal.returns-in-Some
+returns-in-Some c =
+    let same = to_z-of_z w64 c.args.n c.ranges.n in
+    let at = syntax_at base.Integer (option_copied c.args.syntax) in
+    let text : List ℕ = type_word c.args.letters.now (codes "INTEGER: ") ++ named_text c.args.letters.now c.in-Some.name.now (signed_decimal c.args.n) in
+    let h = c.in-Some.ensures in
+    let k = c.names_at-names.ensures in
+    let from : c.from.result ≡ c.args.n = c.from.ensures ∙ same in
+    let fits : SFits w128 c.from.result = assumption in
+    let wide : to_z w128 (of_z w128 c.from.result) ≡ c.args.n = to_z-of_z w128 c.from.result fits ∙ from in
+    let named : Some c.in-Some.name.now ≡ name_of at.names c.args.n = rw (wide, k) at h in
+    let P : Option (List ℕ) → Type 0 = λ name. IsIntegerText c.args.letters.now at c.args.n name text in
+    let adds = adds_from _ _ _ (c.append_named.ensures.goes_on _ _ c.append_word.ensures.grows) in
+    (text, subst P named refl, rw same at adds)

@@ -1,0 +1,132 @@
+-- Pieces of the texts of values.
+use Rattle.std.specs.Prelude.{ℕ, pos, ◌+◌, ◌*◌, ◌/◌, ◌%◌, Bool, true, false, ◌&&◌, ◌||◌, ◌==◌, nat_le, nat_lt}
+use Rattle.std.specs.Prelude.{if◌then◌else◌, List, [], ◌∷◌, ◌++◌, Option, Some, None, codes, decimal}
+use Rattle.std.specs.List.{flat_map, list_all, enumerate_from}
+use Rattle.text_draft.specs.Draft.{hexadecimal_octet}
+use Rattle.smi_letters.specs.declared.letters.Letters.{Letters}
+use Rattle.smi_letters.specs.declared.letters.TypeForm.{TypeForm}
+use Rattle.smi_letters.specs.declared.letters.TypeForm.TheVariants as types
+use Rattle.smi_letters.specs.declared.letters.StringForm.{StringForm}
+use Rattle.smi_letters.specs.declared.letters.StringForm.TheVariants as strings
+use Rattle.smi_module.specs.declared.tree.NamedNumber.{NamedNumber}
+use Rattle.smi_value.specs.Syntax.{name_of}
+
+-- values have the words of their types: neither q nor Q is given
+abbrev pub is_typed : TypeForm → Bool
+is_typed types.Typed = true
+is_typed _ = false
+
+-- the word of a type, with its colon and blank
+abbrev pub type_word : Letters → List ℕ → List ℕ
+type_word letters word = if is_typed letters.types then word else []
+
+-- a blank and the units, unless U is given
+abbrev pub units_text : Letters → Option (List ℕ) → List ℕ
+units_text letters None = []
+units_text letters (Some units) = if letters.no_units then [] else 32 ∷ units
+
+-- a character of printable ASCII
+abbrev pub is_printable : ℕ → Bool
+is_printable octet = nat_le 32 octet && nat_le octet 126
+
+-- a backslash before each quote and each backslash
+abbrev pub escaped : ℕ → List ℕ
+escaped octet = if (octet == 34) || (octet == 92) then 92 ∷ octet ∷ [] else octet ∷ []
+
+-- a dot for an octet that isn't printable
+abbrev pub dotted : ℕ → ℕ
+dotted octet = if is_printable octet then octet else 46
+
+-- octets between quotes
+abbrev pub quoted : List ℕ → List ℕ
+quoted octets = codes "\"" ++ flat_map (λ octet. escaped (dotted octet)) octets ++ codes "\""
+
+-- two digits and a blank, on a new line after each 16 octets
+abbrev pub dumped : ℕ × ℕ → List ℕ
+dumped (place, octet) =
+    (if nat_lt 0 place && (place % 16 == 0) then 10 ∷ [] else [])
+    ++ hexadecimal_octet octet ++ codes " "
+
+abbrev pub hexadecimal_text : List ℕ → List ℕ
+hexadecimal_text octets = flat_map dumped (enumerate_from 0 octets)
+
+-- a string without a hint: two quotes for none; as text where each octet is printable or `a` is
+-- given, but in hexadecimal where `x` is
+abbrev pub is_text : StringForm → List ℕ → Bool
+is_text strings.Plain octets = list_all is_printable octets
+is_text strings.Hexadecimal octets = false
+is_text strings.Text octets = true
+
+abbrev pub string_text : Letters → List ℕ → List ℕ
+string_text letters [] = codes "\"\""
+string_text letters (octet ∷ more) =
+    if is_text letters.strings (octet ∷ more)
+    then type_word letters (codes "STRING: ") ++ quoted (octet ∷ more)
+    else type_word letters (codes "Hex-STRING: ") ++ hexadecimal_text (octet ∷ more)
+
+-- the octets of an address as numbers with dots between
+abbrev pub address_text : List ℕ → List ℕ
+address_text [] = []
+address_text (first ∷ more) = decimal first ++ flat_map (λ n. 46 ∷ decimal n) more
+
+-- a mark and two decimal digits
+abbrev pub two_digits : ℕ → ℕ → List ℕ
+two_digits mark n = mark ∷ (48 + n / 10) ∷ (48 + n % 10) ∷ []
+
+abbrev pub days_text : ℕ → List ℕ
+days_text days =
+    if days == 0 then [] else
+    (if days == 1 then codes "1 day, " else decimal days ++ codes " days, ")
+
+-- hundredths of a second as hours of the day, minutes, seconds and hundredths
+abbrev pub clock_text : ℕ → List ℕ
+clock_text ticks =
+    decimal (ticks / 360000 % 24)
+    ++ two_digits 58 (ticks / 6000 % 60)
+    ++ two_digits 58 (ticks / 100 % 60)
+    ++ two_digits 46 (ticks % 100)
+
+-- TimeTicks: the number and the time, the time alone behind q and Q, the number alone behind t
+abbrev pub ticks_text : Letters → ℕ → List ℕ
+ticks_text letters ticks =
+    if letters.raw_ticks then decimal ticks else
+    (if is_typed letters.types
+    then codes "Timeticks: (" ++ decimal ticks ++ codes ") "
+    ++ days_text (ticks / 8640000) ++ clock_text ticks
+    else decimal (ticks / 8640000) ++ codes ":" ++ clock_text ticks)
+
+-- the name and number of an enumeration; the name alone behind q and Q, the number behind e
+abbrev pub named_text : Letters → List ℕ → List ℕ → List ℕ
+named_text letters name number =
+    if letters.numeric_enumerations then number else
+    (if is_typed letters.types then name ++ codes "(" ++ number ++ codes ")" else name)
+
+-- a bit that is set: its name and number, the number alone where it has no name or behind e
+abbrev pub bit_name : Letters → Option (List ℕ) → List ℕ → List ℕ
+bit_name letters None number = number ++ codes " "
+bit_name letters (Some name) number =
+    if letters.numeric_enumerations then number ++ codes " "
+    else name ++ codes "(" ++ number ++ codes ") "
+
+-- nothing for a bit that isn't set
+abbrev pub bit_text : Letters → List NamedNumber → ℕ → ℕ → List ℕ
+bit_text letters names bit set =
+    if set == 1 then bit_name letters (name_of names (pos bit)) (decimal bit) else []
+
+-- the bits of an octet, that of the highest weight first
+abbrev pub octet_bits : Letters → List NamedNumber → ℕ × ℕ → List ℕ
+octet_bits letters names (place, octet) =
+    bit_text letters names (8 * place) (octet / 128)
+    ++ bit_text letters names (8 * place + 1) (octet / 64 % 2)
+    ++ bit_text letters names (8 * place + 2) (octet / 32 % 2)
+    ++ bit_text letters names (8 * place + 3) (octet / 16 % 2)
+    ++ bit_text letters names (8 * place + 4) (octet / 8 % 2)
+    ++ bit_text letters names (8 * place + 5) (octet / 4 % 2)
+    ++ bit_text letters names (8 * place + 6) (octet / 2 % 2)
+    ++ bit_text letters names (8 * place + 7) (octet % 2)
+
+-- BITS: the octets in hexadecimal, then the bits that are set
+abbrev pub bits_text : Letters → List NamedNumber → List ℕ → List ℕ
+bits_text letters names octets =
+    type_word letters (codes "BITS: ") ++ hexadecimal_text octets
+    ++ flat_map (octet_bits letters names) (enumerate_from 0 octets)

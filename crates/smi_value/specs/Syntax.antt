@@ -1,0 +1,52 @@
+-- The syntax of an object, as far as its values are shown by it (RFC 2578, section 7; RFC 2579).
+use Rattle.std.specs.Prelude.{ℕ, ℤ, Bool, true, false, if◌then◌else◌, List, [], Option, Some, None}
+use Rattle.std.specs.Option.{option_map}
+use Rattle.std.specs.List.{find}
+use Rattle.std.specs.Ordering.{int_eq}
+use Rattle.smi_module.specs.declared.tree.NamedNumber.{NamedNumber}
+use Rattle.smi_module.specs.Number.{number_in}
+use Rattle.smi_value.specs.declared.base.ValueBase.{ValueBase}
+use Rattle.smi_value.specs.declared.base.ValueBase.TheVariants as base
+
+-- the base, the names of numbers or bits, the display hint, and the units
+pub record ObjectSyntax : Type 0 where
+  pub base : ValueBase
+  pub names : List NamedNumber
+  pub hint : Option (List ℕ)
+  pub units : Option (List ℕ)
+
+-- nothing is known of the object
+abbrev pub no_syntax : ObjectSyntax
+no_syntax = record { base = base.Other; names = []; hint = None; units = None }
+
+abbrev pub same_base : ValueBase → ValueBase → Bool
+same_base base.Integer base.Integer = true
+same_base base.OctetString base.OctetString = true
+same_base base.Bits base.Bits = true
+same_base base.Counter32 base.Counter32 = true
+same_base base.Gauge32 base.Gauge32 = true
+same_base base.TimeTicks base.TimeTicks = true
+same_base base.Counter64 base.Counter64 = true
+same_base _ _ = false
+
+-- the syntax of an object, for values of its base alone
+abbrev pub syntax_at : ValueBase → Option ObjectSyntax → ObjectSyntax
+syntax_at base None = no_syntax
+syntax_at base (Some syntax) = if same_base syntax.base base then syntax else no_syntax
+
+-- the object is one of BITS
+abbrev pub is_of_bits : Option ObjectSyntax → Bool
+is_of_bits None = false
+is_of_bits (Some syntax) = same_base syntax.base base.Bits
+
+-- the number of a name
+abbrev pub is_number_of : ℤ → NamedNumber → Bool
+is_number_of n named = is_same (number_in named.number)
+  where
+    is_same : Option ℤ → Bool
+    is_same None = false
+    is_same (Some m) = int_eq m n
+
+-- the name of a number: of two names, the first in the text
+abbrev pub name_of : List NamedNumber → ℤ → Option (List ℕ)
+name_of names n = option_map (λ named. named.name.octets) (find (is_number_of n) names)

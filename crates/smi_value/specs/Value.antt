@@ -1,0 +1,93 @@
+-- The text of a value, or of an exception in its place: a case for each type.
+use Rattle.std.specs.Prelude.{◌≡◌, ℕ, ℤ, pos, ◌⊎◌, List, ◌++◌, Option, Some, None, codes, decimal}
+use Rattle.std.specs.Prelude.{MatchBool}
+use Rattle.std.specs.Fmt.{signed_decimal}
+use Rattle.smi_hint.specs.Hint.{IsOfNumbers, IsOfOctets, ShowsNumber}
+use Rattle.smi_hint.specs.Pieces.{ShowsOctets}
+use Rattle.smi_letters.specs.declared.letters.Letters.{Letters}
+use Rattle.snmp_ber.specs.Value.{Datum, integer_value, octet_string, null_value, object_id, ip_address}
+use Rattle.snmp_ber.specs.Value.{counter32, gauge32, time_ticks, opaque_octets, counter64}
+use Rattle.snmp_ber.specs.Value.{no_such_object, no_such_instance, end_of_mib_view}
+use Rattle.smi_value.specs.declared.base.ValueBase.TheVariants as base
+use Rattle.smi_value.specs.Syntax.{ObjectSyntax, syntax_at, is_of_bits, name_of}
+use Rattle.smi_value.specs.Pieces.{type_word, units_text, named_text, ticks_text, string_text, bits_text}
+use Rattle.smi_value.specs.Pieces.{address_text, hexadecimal_text}
+
+-- a number under a hint of integers, else in decimal digits
+abbrev pub IsNumberText : Option (List ℕ) → ℤ → List ℕ → Type 0
+IsNumberText None n text = text ≡ signed_decimal n
+IsNumberText (Some hint) n text =
+    ShowsNumber hint n text ⊎ ((IsOfNumbers hint → ⊥) × (text ≡ signed_decimal n))
+
+-- a number behind the word of its type, with the units after it
+pub record IsTypedNumber (letters : Letters) (word : List ℕ) (hint units : Option (List ℕ)) (n : ℤ)
+    (text : List ℕ) : Type 0 where
+  pub shown : List ℕ
+  pub is_number : IsNumberText hint n shown
+  pub whole : text ≡ type_word letters word ++ shown ++ units_text letters units
+
+-- an INTEGER: a name of its number comes before a hint, and has no units
+abbrev pub IsIntegerText : Letters → ObjectSyntax → ℤ → Option (List ℕ) → List ℕ → Type 0
+IsIntegerText letters syntax n None text =
+    IsTypedNumber letters (codes "INTEGER: ") syntax.hint syntax.units n text
+IsIntegerText letters syntax n (Some name) text =
+    text ≡ type_word letters (codes "INTEGER: ") ++ named_text letters name (signed_decimal n)
+
+-- octets under a hint of octets
+pub record IsHintedString (letters : Letters) (hint octets text : List ℕ) : Type 0 where
+  pub shown : List ℕ
+  pub shows : ShowsOctets hint octets shown
+  pub whole : text ≡ type_word letters (codes "STRING: ") ++ shown
+
+-- an OCTET STRING that isn't of BITS
+abbrev pub IsStringText : Letters → Option (List ℕ) → List ℕ → List ℕ → Type 0
+IsStringText letters None octets text = text ≡ string_text letters octets
+IsStringText letters (Some hint) octets text =
+    IsHintedString letters hint octets text
+    ⊎ ((IsOfOctets hint → ⊥) × (text ≡ string_text letters octets))
+
+-- octets: of an object of BITS, or a string
+abbrev pub IsOctetsText : Letters → Option ObjectSyntax → List ℕ → List ℕ → Type 0
+IsOctetsText letters syntax octets text =
+    MatchBool (is_of_bits syntax)
+    (text ≡ bits_text letters (syntax_at base.Bits syntax).names octets)
+    (IsStringText letters (syntax_at base.OctetString syntax).hint octets text)
+
+-- all but an identifier
+abbrev pub IsNoIdentifier : Datum → Type 0
+IsNoIdentifier (object_id _) = ⊥
+IsNoIdentifier _ = Unit {0}
+
+-- a number without a hint
+abbrev pub counter_text : Letters → List ℕ → Option (List ℕ) → ℕ → List ℕ
+counter_text letters word units n = type_word letters word ++ decimal n ++ units_text letters units
+
+-- the text of a value of an object of this syntax, if there is one, where names have these texts
+abbrev pub IsValueText : (List ℕ → List ℕ) → Letters → Option ObjectSyntax → Datum → List ℕ → Type 0
+IsValueText names letters syntax (integer_value n) text =
+    let at = syntax_at base.Integer syntax in
+    IsIntegerText letters at n (name_of at.names n) text
+IsValueText names letters syntax (octet_string octets) text =
+    IsOctetsText letters syntax octets text
+IsValueText names letters syntax null_value text = text ≡ codes "NULL"
+IsValueText names letters syntax (object_id name) text =
+    text ≡ type_word letters (codes "OID: ") ++ names name
+IsValueText names letters syntax (ip_address octets) text =
+    text ≡ type_word letters (codes "IpAddress: ") ++ address_text octets
+IsValueText names letters syntax (counter32 n) text =
+    text ≡ counter_text letters (codes "Counter32: ") (syntax_at base.Counter32 syntax).units n
+IsValueText names letters syntax (gauge32 n) text =
+    let at = syntax_at base.Gauge32 syntax in
+    IsTypedNumber letters (codes "Gauge32: ") at.hint at.units (pos n) text
+IsValueText names letters syntax (time_ticks n) text =
+    text ≡ ticks_text letters n ++ units_text letters (syntax_at base.TimeTicks syntax).units
+IsValueText names letters syntax (opaque_octets octets) text =
+    text ≡ type_word letters (codes "OPAQUE: ") ++ hexadecimal_text octets
+IsValueText names letters syntax (counter64 n) text =
+    text ≡ counter_text letters (codes "Counter64: ") (syntax_at base.Counter64 syntax).units n
+IsValueText names letters syntax no_such_object text =
+    text ≡ codes "No Such Object available on this agent at this OID"
+IsValueText names letters syntax no_such_instance text =
+    text ≡ codes "No Such Instance currently exists at this OID"
+IsValueText names letters syntax end_of_mib_view text =
+    text ≡ codes "No more variables left in this MIB View (It is past the end of the MIB tree)"

@@ -1,0 +1,320 @@
+//! The pieces of the texts of values.
+ghost use Rattle.std.specs.Prelude.{◌≡◌, ◌<◌, ◌+◌, ◌*◌, ◌∷◌, ◌++◌, [], pos, List, ℕ, codes, decimal, if◌then◌else◌, ◌/◌, ◌^◌};
+ghost use Rattle.std.specs.Fmt.{signed_decimal};
+ghost use Rattle.std.specs.List.{flat_map, list_all, enumerate_from};
+ghost use Rattle.std.specs.Option.{option_copied};
+ghost use Rattle.text_draft.specs.Draft.{Adds};
+ghost use Rattle.smi_value.specs.Pieces.{is_typed, type_word, units_text, is_printable, escaped, dotted, quoted, dumped, hexadecimal_text, is_text, string_text, address_text, two_digits, days_text, clock_text, ticks_text, named_text, bit_name, octet_bits, bits_text, bit_text};
+ghost use Rattle.smi_value.specs.Syntax.{name_of};
+
+use crate::syntax::name_of;
+use itoa::Buffer;
+use smi_letters::{Letters, StringForm, TypeForm};
+use smi_module::NamedNumber;
+use text_draft::Draft;
+
+/// Appends the word of a type, with its colon and blank, unless `q` or `Q` is given.
+pub(crate) fn append_word(draft: &mut Draft, letters: &Letters, word: &[u8])
+    ensures { Adds draft.old (type_word letters.now word.now) draft.new }
+{
+    if is_typed(letters.types) {
+        draft.octets(word);
+    } else {
+        draft.octets(b"");
+    }
+}
+
+/// Whether values have the words of their types.
+fn is_typed(form: TypeForm) -> bool
+    ensures { result ≡ is_typed form }
+{
+    match form {
+        TypeForm::Typed => true,
+        TypeForm::Untyped | TypeForm::Quick => false,
+    }
+}
+
+/// Appends a blank and the units, unless there are none or `U` is given.
+pub(crate) fn append_units(draft: &mut Draft, letters: &Letters, units: Option<&[u8]>)
+    ensures { Adds draft.old (units_text letters.now (option_copied units.entry)) draft.new }
+{
+    match units {
+        Some(units) if !letters.no_units => {
+            draft.octet(b' ');
+            draft.octets(units);
+        }
+        _ => draft.octets(b""),
+    }
+}
+
+/// Appends a string without a display hint.
+pub(crate) fn append_string(draft: &mut Draft, letters: &Letters, octets: &[u8])
+    ensures { Adds draft.old (string_text letters.now octets.now) draft.new }
+{
+    if octets.is_empty() {
+        draft.octets(b"\"\"");
+    } else if is_text(letters.strings, octets) {
+        append_word(draft, letters, b"STRING: ");
+        append_quoted(draft, octets);
+    } else {
+        append_word(draft, letters, b"Hex-STRING: ");
+        append_hexadecimal(draft, octets);
+    }
+}
+
+/// Whether a string is shown as text.
+fn is_text(form: StringForm, octets: &[u8]) -> bool
+    ensures { result ≡ is_text form octets.now }
+{
+    match form {
+        StringForm::Plain => are_printable(octets),
+        StringForm::Hexadecimal => false,
+        StringForm::Text => true,
+    }
+}
+
+/// Whether each octet is a character of printable ASCII.
+fn are_printable(octets: &[u8]) -> bool
+    ensures { result ≡ list_all is_printable octets.now }
+{
+    octets.iter().all(|octet| 32 <= *octet && *octet <= 126)
+}
+
+/// Whether an octet is a character of printable ASCII.
+fn is_printable(octet: u8) -> bool
+    ensures { result ≡ is_printable octet }
+{
+    32 <= octet && octet <= 126
+}
+
+/// Appends octets between quotes.
+fn append_quoted(draft: &mut Draft, octets: &[u8])
+    ensures { Adds draft.old (quoted octets.now) draft.new }
+{
+    draft.octet(b'"');
+    append_escaped(draft, octets);
+    draft.octet(b'"');
+}
+
+/// Appends octets as characters, a dot for each one that isn't printable.
+fn append_escaped(draft: &mut Draft, octets: &[u8])
+    ensures { Adds draft.old (flat_map (λ octet. escaped (dotted octet)) octets.now) draft.new }
+{
+    'octets: for octet in octets {
+        append_character(draft, *octet);
+    }
+}
+
+/// Appends an octet as a character, with a backslash in front of a quote and of a backslash.
+fn append_character(draft: &mut Draft, octet: u8)
+    ensures { Adds draft.old (escaped (dotted octet)) draft.new }
+{
+    if octet == b'"' || octet == b'\\' {
+        draft.octets(&[b'\\', octet]);
+    } else if is_printable(octet) {
+        draft.octet(octet);
+    } else {
+        draft.octet(b'.');
+    }
+}
+
+/// Appends octets in hexadecimal, sixteen a line.
+pub(crate) fn append_hexadecimal(draft: &mut Draft, octets: &[u8])
+    ensures { Adds draft.old (hexadecimal_text octets.now) draft.new }
+{
+    'octets: for (place, octet) in octets.iter().enumerate() {
+        append_dumped(draft, place, *octet);
+    }
+}
+
+/// Appends an octet in hexadecimal and a blank, on a new line where a multiple of sixteen others
+/// precede it.
+fn append_dumped(draft: &mut Draft, place: usize, octet: u8)
+    ensures { Adds draft.old (dumped (place, octet)) draft.new }
+{
+    if place > 0 && place % 16 == 0 {
+        draft.octet(b'\n');
+    }
+    draft.hexadecimal(octet);
+    draft.octet(b' ');
+}
+
+/// Appends an address: four numbers with dots between them.
+pub(crate) fn append_address(draft: &mut Draft, octets: &[u8; 4])
+    ensures { Adds draft.old (address_text octets.now) draft.new }
+{
+    let [first, second, third, fourth] = *octets;
+    draft.number(u64::from(first));
+    append_dotted(draft, second);
+    append_dotted(draft, third);
+    append_dotted(draft, fourth);
+}
+
+/// Appends a dot and a number.
+fn append_dotted(draft: &mut Draft, n: u8)
+    ensures { Adds draft.old (46 ∷ decimal n) draft.new }
+{
+    draft.octet(b'.');
+    draft.number(u64::from(n));
+}
+
+/// Appends TimeTicks: the number and the time, the time alone or the number alone.
+pub(crate) fn append_ticks(draft: &mut Draft, letters: &Letters, ticks: u32)
+    ensures { Adds draft.old (ticks_text letters.now ticks) draft.new }
+{
+    if letters.raw_ticks {
+        draft.number(u64::from(ticks));
+    } else if is_typed(letters.types) {
+        append_ticks_and_time(draft, ticks);
+    } else {
+        draft.number(u64::from(ticks / 8640000));
+        draft.octet(b':');
+        append_clock(draft, ticks);
+    }
+}
+
+/// Appends TimeTicks as their number and the time.
+fn append_ticks_and_time(draft: &mut Draft, ticks: u32)
+    ensures { Adds draft.old (codes "Timeticks: (" ++ decimal ticks ++ codes ") "
+        ++ days_text (ticks / 8640000) ++ clock_text ticks) draft.new }
+{
+    draft.octets(b"Timeticks: (");
+    draft.number(u64::from(ticks));
+    draft.octets(b") ");
+    append_days(draft, ticks / 8640000);
+    append_clock(draft, ticks);
+}
+
+/// Appends a number of days, if there are any.
+fn append_days(draft: &mut Draft, days: u32)
+    ensures { Adds draft.old (days_text days) draft.new }
+{
+    match days {
+        0 => draft.octets(b""),
+        1 => draft.octets(b"1 day, "),
+        _ => {
+            draft.number(u64::from(days));
+            draft.octets(b" days, ");
+        }
+    }
+}
+
+/// Appends the hours of the day, minutes, seconds and hundredths.
+fn append_clock(draft: &mut Draft, ticks: u32)
+    ensures { Adds draft.old (clock_text ticks) draft.new }
+{
+    draft.number(u64::from(ticks / 360000 % 24));
+    append_two_digits(draft, b':', ticks / 6000 % 60);
+    append_two_digits(draft, b':', ticks / 100 % 60);
+    append_two_digits(draft, b'.', ticks % 100);
+}
+
+/// Appends a mark and two decimal digits.
+fn append_two_digits(draft: &mut Draft, mark: u8, n: u32)
+    requires { n < 100 }
+    ensures { Adds draft.old (two_digits mark n) draft.new }
+{
+    draft.octets(&[mark, b'0' + (n / 10) as u8, b'0' + (n % 10) as u8]);
+}
+
+/// Appends the name and number of an enumeration, or one of the two.
+pub(crate) fn append_named(draft: &mut Draft, letters: &Letters, name: &[u8], n: i64)
+    ensures { Adds draft.old (named_text letters.now name.now (signed_decimal n)) draft.new }
+{
+    if letters.numeric_enumerations {
+        draft.integer(n);
+    } else if is_typed(letters.types) {
+        draft.octets(name);
+        draft.octet(b'(');
+        draft.integer(n);
+        draft.octet(b')');
+    } else {
+        draft.octets(name);
+    }
+}
+
+/// Appends a value of BITS: its octets in hexadecimal, then the bits that are set.
+pub(crate) fn append_bits(
+    draft: &mut Draft,
+    letters: &Letters,
+    names: &[NamedNumber],
+    octets: &[u8],
+)
+    ensures { Adds draft.old (bits_text letters.now names.now octets.now) draft.new }
+{
+    append_word(draft, letters, b"BITS: ");
+    append_hexadecimal(draft, octets);
+    append_set_bits(draft, letters, names, octets);
+}
+
+/// Appends the bits that are set.
+fn append_set_bits(draft: &mut Draft, letters: &Letters, names: &[NamedNumber], octets: &[u8])
+    ensures { let bits = flat_map (octet_bits letters.now names.now) (enumerate_from 0 octets.now) in
+        Adds draft.old bits draft.new }
+{
+    'octets: for (place, octet) in octets.iter().enumerate() {
+        append_octet_bits(draft, letters, names, place as u128, *octet);
+    }
+}
+
+/// Appends the bits of an octet that are set.
+fn append_octet_bits(
+    draft: &mut Draft,
+    letters: &Letters,
+    names: &[NamedNumber],
+    place: u128,
+    octet: u8,
+)
+    requires { place < 2 ^ 64 }
+    ensures { Adds draft.old (octet_bits letters.now names.now (place, octet)) draft.new }
+{
+    let first = 8 * place;
+    append_if_set(draft, letters, names, first, octet / 128);
+    append_if_set(draft, letters, names, first + 1, octet / 64 % 2);
+    append_if_set(draft, letters, names, first + 2, octet / 32 % 2);
+    append_if_set(draft, letters, names, first + 3, octet / 16 % 2);
+    append_if_set(draft, letters, names, first + 4, octet / 8 % 2);
+    append_if_set(draft, letters, names, first + 5, octet / 4 % 2);
+    append_if_set(draft, letters, names, first + 6, octet / 2 % 2);
+    append_if_set(draft, letters, names, first + 7, octet % 2);
+}
+
+/// Appends a bit, if it is set.
+fn append_if_set(draft: &mut Draft, letters: &Letters, names: &[NamedNumber], bit: u128, set: u8)
+    requires { bit < 2 ^ 68 }
+    ensures { Adds draft.old (bit_text letters.now names.now bit set) draft.new }
+{
+    if set == 1 {
+        append_bit(draft, letters, names, bit);
+    } else {
+        draft.octets(b"");
+    }
+}
+
+/// Appends a bit that is set: its name and number, or its number.
+fn append_bit(draft: &mut Draft, letters: &Letters, names: &[NamedNumber], bit: u128)
+    requires { bit < 2 ^ 68 }
+    ensures { Adds draft.old (bit_name letters.now (name_of names.now (pos bit)) (decimal bit)) draft.new }
+{
+    let mut buffer = Buffer::new();
+    let number = buffer.format(bit).as_bytes();
+    append_bit_name(draft, letters, name_of(names, bit as i128), number);
+}
+
+/// Appends a bit by its name, if it has one, and the digits of its number.
+fn append_bit_name(draft: &mut Draft, letters: &Letters, name: Option<&[u8]>, number: &[u8])
+    ensures { Adds draft.old (bit_name letters.now (option_copied name.entry) number.now) draft.new }
+{
+    match name {
+        Some(name) if !letters.numeric_enumerations => {
+            draft.octets(name);
+            draft.octet(b'(');
+            draft.octets(number);
+            draft.octets(b") ");
+        }
+        _ => {
+            draft.octets(number);
+            draft.octet(b' ');
+        }
+    }
+}

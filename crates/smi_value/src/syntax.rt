@@ -1,0 +1,117 @@
+//! What is known of the object of a value.
+ghost use Rattle.std.specs.Prelude.{◌≡◌, None, Some, IsTrue, ◌↔◌};
+ghost use Rattle.std.specs.Option.{option_map, option_copied};
+ghost use Rattle.smi_value.specs.Syntax.{ObjectSyntax, syntax_at, name_of, is_number_of, is_of_bits};
+
+use crate::base::ValueBase;
+use smi_module::{NamedNumber, number};
+use std::marker::Model;
+
+/// The syntax of an object, as far as its values are shown by it. It borrows its texts from the
+/// modules.
+#[derive(Drop)]
+pub struct ValueSyntax<'a> {
+    base: ValueBase,
+    names: &'a [NamedNumber],
+    hint: Option<&'a [u8]>,
+    units: Option<&'a [u8]>,
+}
+
+impl<'a> Model for ValueSyntax<'a> {
+    ghost Value = { ObjectSyntax };
+
+    ghost view = { λ s. record {
+      base = s.base;
+      names = s.names.now;
+      hint = option_copied s.hint;
+      units = option_copied s.units;
+    } };
+}
+
+impl<'a> ValueSyntax<'a> {
+    /// The syntax of an object: the type of its values, the names of its numbers or bits, its display
+    /// hint, and its units.
+    pub fn new(
+        base: ValueBase,
+        names: &'a [NamedNumber],
+        hint: Option<&'a [u8]>,
+        units: Option<&'a [u8]>,
+    ) -> ValueSyntax<'a>
+        ensures { result ≡ record {
+          base = base;
+          names = names.now;
+          hint = option_copied hint.entry;
+          units = option_copied units.entry;
+        } }
+    {
+        ValueSyntax {
+            base,
+            names,
+            hint,
+            units,
+        }
+    }
+
+    /// Whether octets are a value of BITS.
+    pub(crate) fn is_of_bits(syntax: Option<&'a ValueSyntax<'a>>) -> bool
+        ensures { result ≡ is_of_bits (option_copied syntax.entry) }
+    {
+        match syntax {
+            Some(syntax) => syntax.base.is_same(ValueBase::Bits),
+            None => false,
+        }
+    }
+
+    /// The names of numbers, for values of a base.
+    pub(crate) fn names_at(
+        syntax: Option<&'a ValueSyntax<'a>>,
+        base: ValueBase,
+    ) -> &'a [NamedNumber]
+        ensures { result.now ≡ (syntax_at base (option_copied syntax.entry)).names }
+    {
+        match syntax {
+            Some(syntax) if syntax.base.is_same(base) => syntax.names,
+            _ => &[],
+        }
+    }
+
+    /// The display hint, for values of a base.
+    pub(crate) fn hint_at(syntax: Option<&'a ValueSyntax<'a>>, base: ValueBase) -> Option<&'a [u8]>
+        ensures { option_copied result ≡ (syntax_at base (option_copied syntax.entry)).hint }
+    {
+        match syntax {
+            Some(syntax) if syntax.base.is_same(base) => syntax.hint,
+            _ => None,
+        }
+    }
+
+    /// The units, for values of a base.
+    pub(crate) fn units_at(syntax: Option<&'a ValueSyntax<'a>>, base: ValueBase) -> Option<&'a [u8]>
+        ensures { option_copied result ≡ (syntax_at base (option_copied syntax.entry)).units }
+    {
+        match syntax {
+            Some(syntax) if syntax.base.is_same(base) => syntax.units,
+            _ => None,
+        }
+    }
+}
+
+/// The name of a number: of two names, the first in the text.
+pub(crate) fn name_of(names: &[NamedNumber], n: i128) -> Option<&[u8]>
+    ensures { option_copied result ≡ name_of names.now n }
+{
+    match names.iter().find(|named| is_number_of(named, n)) {
+        Some(named) => Some(named.name.as_bytes()),
+        None => None,
+    }
+}
+
+/// Whether a named number has this number.
+fn is_number_of(named: &NamedNumber, n: i128) -> bool
+    ensures { result ≡ is_number_of n named.now }
+{
+    match number(named.number.as_bytes()) {
+        Some(number) => number == n,
+        None => false,
+    }
+}

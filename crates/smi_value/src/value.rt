@@ -1,0 +1,198 @@
+//! The text of a value, or of an exception in its place.
+ghost use Rattle.std.specs.Prelude.{◌≡◌, ◌++◌, List, ℕ, Some, None, pos, codes, true};
+ghost use Rattle.std.specs.Option.{option_copied};
+ghost use Rattle.text_draft.specs.Draft.{Adds};
+ghost use Rattle.snmp_ber.specs.Value.{datum, integer_value, octet_string};
+ghost use Rattle.smi_value.specs.Syntax.{syntax_at, name_of};
+ghost use Rattle.smi_value.specs.Pieces.{type_word};
+ghost use Rattle.smi_value.specs.Value.{IsNumberText, IsTypedNumber, IsIntegerText, IsStringText, IsOctetsText, IsValueText, IsNoIdentifier, counter_text};
+ghost use Rattle.smi_value.specs.declared.base.ValueBase.TheVariants as base;
+
+use crate::base::ValueBase;
+use crate::pieces::{
+    append_address, append_bits, append_hexadecimal, append_named, append_string, append_ticks,
+    append_units, append_word,
+};
+use crate::syntax::{ValueSyntax, name_of};
+use smi_hint::{Hint, HintValue};
+use smi_letters::Letters;
+use snmp_ber::ValueRef;
+use text_draft::Draft;
+
+/// Appends the text of a value, or of an exception in its place: its type, a colon, a blank and the
+/// value, as the letters say.
+///
+/// The syntax is that of the object that the value belongs to, if it is known; of another type than
+/// the value's it has no effect. The text of an identifier is that of a name, which needs a tree: the
+/// caller appends it after [`append_identifier_word`].
+pub fn append_value(
+    draft: &mut Draft,
+    letters: &Letters,
+    syntax: Option<&ValueSyntax<'_>>,
+    value: &ValueRef<'_>,
+)
+    requires { IsNoIdentifier (datum value.now) }
+    ensures { let syntax = option_copied syntax.entry in (text : List ℕ)
+        × ((names : List ℕ → List ℕ)
+        → IsValueText names letters.now syntax (datum value.now) text)
+        × Adds draft.old text draft.new }
+{
+    match value {
+        ValueRef::Integer(n) => append_integer(draft, letters, syntax, i64::from(*n)),
+        ValueRef::Octets(octets) => append_octets(draft, letters, syntax, octets),
+        ValueRef::Null => draft.octets(b"NULL"),
+        ValueRef::ObjectId(_) => unreachable!(),
+        ValueRef::IpAddress(octets) => {
+            append_word(draft, letters, b"IpAddress: ");
+            append_address(draft, octets);
+        }
+        ValueRef::Counter32(n) => {
+            let units = ValueSyntax::units_at(syntax, ValueBase::Counter32);
+            append_counter(draft, letters, b"Counter32: ", units, u64::from(*n));
+        }
+        ValueRef::Gauge32(n) => {
+            let hint = ValueSyntax::hint_at(syntax, ValueBase::Gauge32);
+            let units = ValueSyntax::units_at(syntax, ValueBase::Gauge32);
+            append_typed_number(draft, letters, b"Gauge32: ", hint, units, i64::from(*n));
+        }
+        ValueRef::TimeTicks(n) => {
+            append_ticks(draft, letters, *n);
+            append_units(
+                draft,
+                letters,
+                ValueSyntax::units_at(syntax, ValueBase::TimeTicks),
+            );
+        }
+        ValueRef::Opaque(octets) => {
+            append_word(draft, letters, b"OPAQUE: ");
+            append_hexadecimal(draft, octets);
+        }
+        ValueRef::Counter64(n) => {
+            let units = ValueSyntax::units_at(syntax, ValueBase::Counter64);
+            append_counter(draft, letters, b"Counter64: ", units, *n);
+        }
+        ValueRef::NoSuchObject => {
+            draft.octets(b"No Such Object available on this agent at this OID");
+        }
+        ValueRef::NoSuchInstance => {
+            draft.octets(b"No Such Instance currently exists at this OID");
+        }
+        ValueRef::EndOfMibView => draft.octets(
+            b"No more variables left in this MIB View (It is past the end of the MIB tree)",
+        ),
+    }
+}
+
+/// Appends the word of an identifier, which stands before the text of its name, unless `q` or `Q` is
+/// given.
+pub fn append_identifier_word(draft: &mut Draft, letters: &Letters)
+    ensures { Adds draft.old (type_word letters.now (codes "OID: ")) draft.new }
+{
+    append_word(draft, letters, b"OID: ");
+}
+
+/// Appends a number without a hint, with its units.
+fn append_counter(draft: &mut Draft, letters: &Letters, word: &[u8], units: Option<&[u8]>, n: u64)
+    ensures { let units = option_copied units.entry in
+        Adds draft.old (counter_text letters.now word.now units n) draft.new }
+{
+    append_word(draft, letters, word);
+    draft.number(n);
+    append_units(draft, letters, units);
+}
+
+/// Appends an INTEGER.
+fn append_integer(draft: &mut Draft, letters: &Letters, syntax: Option<&ValueSyntax<'_>>, n: i64)
+    ensures { let at = syntax_at base.Integer (option_copied syntax.entry) in (text : List ℕ)
+        × IsIntegerText letters.now at n (name_of at.names n) text
+        × Adds draft.old text draft.new }
+{
+    let names = ValueSyntax::names_at(syntax, ValueBase::Integer);
+    match name_of(names, i128::from(n)) {
+        Some(name) => {
+            append_word(draft, letters, b"INTEGER: ");
+            append_named(draft, letters, name, n);
+        }
+        None => {
+            let hint = ValueSyntax::hint_at(syntax, ValueBase::Integer);
+            let units = ValueSyntax::units_at(syntax, ValueBase::Integer);
+            append_typed_number(draft, letters, b"INTEGER: ", hint, units, n);
+        }
+    }
+}
+
+/// Appends a number behind the word of its type, under a hint if there is one, with its units.
+fn append_typed_number(
+    draft: &mut Draft,
+    letters: &Letters,
+    word: &[u8],
+    hint: Option<&[u8]>,
+    units: Option<&[u8]>,
+    n: i64,
+)
+    ensures { let hint = option_copied hint.entry in let units = option_copied units.entry in
+        (text : List ℕ) × IsTypedNumber letters.now word.now hint units n text
+        × Adds draft.old text draft.new }
+{
+    append_word(draft, letters, word);
+    append_number(draft, hint, n);
+    append_units(draft, letters, units);
+}
+
+/// Appends a number under a hint of integers, else in decimal digits.
+fn append_number(draft: &mut Draft, hint: Option<&[u8]>, n: i64)
+    ensures { (text : List ℕ) × IsNumberText (option_copied hint.entry) n text
+        × Adds draft.old text draft.new }
+{
+    match hint {
+        Some(text) => append_hinted_number(draft, text, n),
+        None => draft.integer(n),
+    }
+}
+
+/// Appends a number under a hint, where the text is one of integers, else in decimal digits.
+fn append_hinted_number(draft: &mut Draft, hint: &[u8], n: i64)
+    ensures { (text : List ℕ) × IsNumberText (Some hint.now) n text
+        × Adds draft.old text draft.new }
+{
+    match Hint::parse(hint) {
+        Some(hint) if hint.is_number() => hint.append(HintValue::Number(n), draft),
+        _ => draft.integer(n),
+    }
+}
+
+/// Appends octets: of BITS, under a hint, or as a string.
+fn append_octets(
+    draft: &mut Draft,
+    letters: &Letters,
+    syntax: Option<&ValueSyntax<'_>>,
+    octets: &[u8],
+)
+    ensures { (text : List ℕ)
+        × IsOctetsText letters.now (option_copied syntax.entry) octets.now text
+        × Adds draft.old text draft.new }
+{
+    if ValueSyntax::is_of_bits(syntax) {
+        let names = ValueSyntax::names_at(syntax, ValueBase::Bits);
+        append_bits(draft, letters, names, octets);
+        return;
+    }
+    match ValueSyntax::hint_at(syntax, ValueBase::OctetString) {
+        Some(hint) => append_hinted_string(draft, letters, hint, octets),
+        None => append_string(draft, letters, octets),
+    }
+}
+
+/// Appends octets under a hint, where the text is one of octets, else as a string.
+fn append_hinted_string(draft: &mut Draft, letters: &Letters, hint: &[u8], octets: &[u8])
+    ensures { (text : List ℕ) × IsStringText letters.now (Some hint.now) octets.now text
+        × Adds draft.old text draft.new }
+{
+    match Hint::parse(hint) {
+        Some(hint) if !hint.is_number() => {
+            append_word(draft, letters, b"STRING: ");
+            hint.append(HintValue::Octets(octets), draft);
+        }
+        _ => append_string(draft, letters, octets),
+    }
+}
