@@ -1,9 +1,13 @@
--- What the benchmark's answers say.
-use Rattle.std.specs.Prelude.{ℕ, ◌-◌, ◌==◌, ◌&&◌, ◌||◌, Bool, false, nat_lt, List, [], ◌∷◌, length, slice_index_or}
-use Rattle.snmp_wire.specs.Message.{Message, VarBind, Datum, integer_value, octet_string, null_value, object_id, ip_address, counter32, gauge32, time_ticks, opaque_octets, counter64, no_such_object, no_such_instance, end_of_mib_view}
+-- What the results of the benchmark say.
+use Rattle.std.specs.Prelude.{ℕ, ◌-◌, ◌==◌, ◌&&◌, ◌||◌, Bool, false, nat_lt, List, [], ◌∷◌, length}
+use Rattle.std.specs.Prelude.{slice_index_or}
+use Rattle.snmp_wire.specs.Message.{Message, VarBind, Datum, integer_value, octet_string}
+use Rattle.snmp_wire.specs.Message.{null_value, object_id, ip_address, counter32, gauge32}
+use Rattle.snmp_wire.specs.Message.{time_ticks, opaque_octets, counter64, no_such_object}
+use Rattle.snmp_wire.specs.Message.{no_such_instance, end_of_mib_view}
 use Rattle.snmp_wire.specs.Spelling.{Spells}
 
--- the octets spell some message
+-- the octets encode some message
 abbrev pub IsSpelt : List ℕ → Type 0
 IsSpelt octets = (message : Message) × Spells message octets
 
@@ -30,4 +34,5 @@ counts number end_of_mib_view = false
 -- whether some binding's name ends in the number, or its value is the Counter32 of the number
 abbrev pub has_number : ℕ → List VarBind → Bool
 has_number number [] = false
-has_number number (binding ∷ more) = ends_in number binding.name || counts number binding.value || has_number number more
+has_number number (binding ∷ more) =
+    ends_in number binding.name || counts number binding.value || has_number number more

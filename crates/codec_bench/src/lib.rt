@@ -1,4 +1,5 @@
-//! What the codec's benchmark calls from C (`bench/codec.sh`): a message is checked, walked and written.
+//! What the codec's benchmark calls from C (`bench/codec.sh`): a message is checked, walked and
+//! written.
 #![tactic(auto)]
 
 ghost use Rattle.std.specs.Prelude.{◌≡◌, ◌≤◌, ◌<◌, ◌↔◌, length, take, All, IsTrue, IfSome, true};
@@ -24,12 +25,14 @@ pub extern "C" fn codec_bench_decode(datagram: &[u8]) -> bool
     }
 }
 
-/// Whether the octets are a message that has a binding whose name ends in the number, or whose value is the Counter32 of the number.
+/// Whether the octets are a message that has a binding whose name ends in the number, or whose
+/// value is the Counter32 of the number.
 ///
 /// With a number that no binding has, this reads all of them.
 #[unsafe(no_mangle)]
 pub extern "C" fn codec_bench_walk(datagram: &[u8], number: u32) -> bool
-    ensures { IsTrue result ↔ ((m : Message) × Spells m datagram.now × (has_number number m.bindings ≡ true)) }
+    ensures { IsTrue result
+        ↔ ((m : Message) × Spells m datagram.now × (has_number number m.bindings ≡ true)) }
 {
     match decode(datagram) {
         Ok(message) => has_number(message.bindings(), number),
@@ -72,9 +75,11 @@ fn counts(value: &ValueRef<'_>, number: u32) -> bool
     }
 }
 
-/// The shortest encoding of the message that the octets spell, written `times` times to the front of `out`, and its length.
+/// The shortest encoding of the message that the octets encode, written `times` times to the front
+/// of `out`, and its length.
 ///
-/// 0 where the octets are no message, where it has other values than Counter32, where memory or room is wanting, and where `times` is 0.
+/// 0 where the octets are no message, where it has other values than Counter32, where memory or
+/// room is wanting, and where `times` is 0.
 #[unsafe(no_mangle)]
 pub extern "C" fn codec_bench_encode(
     alloc: Global,
@@ -90,7 +95,8 @@ pub extern "C" fn codec_bench_encode(
     }
 }
 
-/// The shortest encoding of a message, written `times` times to the front of `out`, and its length. 0 as [`codec_bench_encode`] says.
+/// The shortest encoding of a message, written `times` times to the front of `out`, and its length.
+/// 0 as [`codec_bench_encode`] says.
 fn encode_again(alloc: Global, message: &MessageRef<'_>, times: u32, out: &mut [u8]) -> usize
     ensures { 0 < result → take result out.new ≡ canon message.now }
 {
@@ -128,7 +134,7 @@ fn parts_of<'a>(message: &MessageRef<'a>, bindings: &'a [Binding<'a>]) -> Parts<
     }
 }
 
-/// The bindings of a message of which each is a Counter32. None where one isn't, or where memory is wanting.
+/// The bindings of a message, each a Counter32. None where one isn't, or where memory is wanting.
 fn counters_of<'a>(alloc: Global, message: &MessageRef<'a>) -> Option<Vec<Binding<'a>>>
     ensures bindings { IfSome result (λ bindings. var_binds bindings.items ≡ message.now.bindings) }
     ensures encodable { IfSome result (λ bindings. All (λ b. IsEncodable (var_bind b)) bindings.items) }

@@ -1,14 +1,14 @@
 -- A strict form that is no longer than the written one is the written one.
-use Rattle.std.proofs.Common.{◌≡◌, ℕ, ℤ, pos, ◌+◌, ◌-◌, ◌-ℤ◌, ◌*◌, ◌/◌, ◌%◌, ◌^◌, ◌<◌, ◌≤◌, suc, zero, List, [], ◌∷◌, ◌++◌, length, drop, get_or, map, refl, sym, ap, subst, ◌∙◌, ◌⊎◌, inl, inr, ⊎_elim, lit<, arith, length-append}
+use Rattle.std.proofs.Common.{◌≡◌, ℕ, ℤ, pos, ◌+◌, ◌-ℤ◌, ◌*◌, ◌%◌, ◌^◌, ◌<◌, ◌≤◌, suc, List, [], ◌∷◌, ◌++◌, length, drop, get_or, refl, sym, ap, subst, ◌∙◌, ◌⊎◌, inl, inr, ⊎_elim, arith, length-append}
 use Rattle.std.proofs.Math.Nat.{mul-le-mul_right}
 use Rattle.std.proofs.lemmas.Int.{ints}
 use Rattle.std.proofs.lemmas.Bool.{cases_lt, cases_order}
 use Rattle.std.proofs.lemmas.List.{map-append}
 use Rattle.std.proofs.lemmas.List.Elements.{recursion_from_All}
 use Rattle.std.specs.List.{AllByRecursion, flat_map}
-use Rattle.snmp_ber.specs.Canon.{canon_content, canon_element, canon_header, canon_length, canon_number, canon_subidentifier, canon_value, length_size, octets, subidentifier_size}
+use Rattle.snmp_ber.specs.Canon.{canon_content, canon_element, canon_header, canon_length, canon_number, canon_subidentifier, canon_value, length_size, octets}
 use Rattle.snmp_ber.specs.Identifier.{AreSubidentifiers, IsSubidentifier, subidentifiers}
-use Rattle.snmp_ber.specs.Length.{IsElement, IsLength, IsLongLength, IsShortLength}
+use Rattle.snmp_ber.specs.Length.{IsElement, IsLength, IsLongLength}
 use Rattle.snmp_ber.specs.Number.{AreOctets, IsInteger, IsUnsigned, number_of, strict, twos_complement, unsigned}
 use Rattle.snmp_ber.specs.Range.{IsInRange}
 use Rattle.snmp_ber.specs.Spelling.{IsContent, SpellsValue, value_tag}
@@ -139,7 +139,7 @@ same_subidentifier xs ys n h k size is made =
     let last_low : is.last % 128 ≡ made.last % 128 = ap (λ (ds : List ℕ). get_or ds 0 0) last_lows in
     let last : is.last ≡ made.last = omega (arith, last_low, is.ends, made.ends) in
     let front : is.front ≡ made.front = high_same is.front made.front (front_octets is.front (is.last ∷ []) (subst Octets is.parts h)) (front_octets made.front (made.last ∷ []) (subst Octets made.parts k))
-        (recursion_from_All (λ octet. 128 ≤ octet) is.front is.goes_on) (recursion_from_All (λ octet. 128 ≤ octet) made.front made.goes_on) front_lows in
+    (recursion_from_All (λ octet. 128 ≤ octet) is.front is.goes_on) (recursion_from_All (λ octet. 128 ≤ octet) made.front made.goes_on) front_lows in
     is.parts ∙ ap (λ ds. ds ++ is.last ∷ []) front ∙ ap (λ d. made.front ++ d ∷ []) last ∙ sym made.parts
 
 subidentifier_same : (text : List ℕ) (n : ℕ) → n < 2 ^ 35 → Octets text → IsSubidentifier text n → length text ≤ length (canon_subidentifier n) → text ≡ canon_subidentifier n

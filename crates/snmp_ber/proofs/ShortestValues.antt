@@ -3,7 +3,6 @@ use Rattle.std.proofs.Common.{◌≡◌, ℕ, ℤ, pos, negsuc, ◌+◌, ◌-◌
 use Rattle.std.proofs.Math.Nat.{mul-le-mul_right, pow-suc, pow-zero}
 use Rattle.std.proofs.lemmas.Nat.{mul-add-lt}
 use Rattle.std.proofs.lemmas.Bool.{cases_lt}
-use Rattle.std.proofs.lemmas.List.Elements.{recursion_from_All}
 use Rattle.std.specs.List.{AllByRecursion, flat_map}
 use Rattle.snmp_ber.specs.Canon.{canon_content, canon_element, canon_length, canon_number, canon_subidentifier, canon_value, digit_count, length_size, number_size, octets, subidentifier_size}
 use Rattle.snmp_ber.specs.Identifier.{AreSubidentifiers, IsSubidentifier, subidentifiers}

@@ -1,26 +1,33 @@
--- The shortest encoding: each length in the shortest form, each whole number in the fewest octets (X.690, 8.1.3, 8.3 and 8.19; RFC 3417, section 8).
-use Rattle.std.specs.Prelude.{ℕ, ℤ, pos, negsuc, ◌+◌, ◌-◌, ◌*◌, ◌/◌, ◌%◌, ◌^◌, ◌<◌, ◌≤◌, suc, zero, List, [], ◌∷◌, ◌++◌, length, get_or, nat_lt, if◌then◌else◌}
+-- The shortest encoding: each length in the shortest form, each whole number in the fewest octets
+-- (X.690, 8.1.3, 8.3 and 8.19; RFC 3417, section 8).
+use Rattle.std.specs.Prelude.{ℕ, ℤ, pos, negsuc, ◌+◌, ◌-◌, ◌*◌, ◌/◌, ◌%◌, ◌^◌, ◌<◌, ◌≤◌, suc, zero}
+use Rattle.std.specs.Prelude.{List, [], ◌∷◌, ◌++◌, length, get_or, nat_lt, if◌then◌else◌}
 use Rattle.std.specs.List.{flat_map}
 use Rattle.snmp_oid.specs.Identifier.{IsWire}
 use Rattle.snmp_ber.specs.Identifier.{subidentifiers}
-use Rattle.snmp_ber.specs.Value.{Datum, integer_value, octet_string, null_value, object_id, ip_address, counter32, gauge32, time_ticks, opaque_octets, counter64, no_such_object, no_such_instance, end_of_mib_view}
+use Rattle.snmp_ber.specs.Value.{Datum, integer_value, octet_string, null_value, object_id}
+use Rattle.snmp_ber.specs.Value.{ip_address, counter32, gauge32, time_ticks, opaque_octets}
+use Rattle.snmp_ber.specs.Value.{counter64, no_such_object, no_such_instance, end_of_mib_view}
 use Rattle.snmp_ber.specs.Spelling.{value_tag}
 
--- how many digits a number has to a base: one below the limit, and one more for each further power of the base, up to so many more
+-- how many digits a number has to a base: one below the limit, and one more for each further power
+-- of the base, up to `more` more
 abbrev pub digit_count : ℕ → ℕ → ℕ → ℕ → ℕ
 digit_count base limit zero n = 1
-digit_count base limit (suc more) n = if nat_lt n limit then 1 else 1 + digit_count base (limit * base) more n
+digit_count base limit (suc more) n =
+    if nat_lt n limit then 1 else 1 + digit_count base (limit * base) more n
 
--- the number's lowest digits to the base 256, so many of them, the most significant first
+-- the number's lowest digits to the base 256, `count` of them, the most significant first
 unfoldable pub octets : ℕ → ℕ → List ℕ
 octets zero n = []
 octets (suc count) n = (n / 256 ^ count % 256) ∷ octets count n
 
--- how many octets two's complement wants for a number from 0, the first bit being the sign
+-- how many octets two's complement takes for a number from 0, the first bit being the sign
 unfoldable pub number_size : ℕ → ℕ
 number_size n = digit_count 256 128 8 n
 
--- a whole number, or for one below zero its complement: two's complement wants as many octets for either
+-- a whole number, or for one below zero its complement: two's complement takes as many octets for
+-- either
 abbrev pub magnitude_of : ℤ → ℕ
 magnitude_of (pos n) = n
 magnitude_of (negsuc n) = n
@@ -30,7 +37,7 @@ unfoldable pub canon_number : ℤ → List ℕ
 canon_number (pos n) = octets (number_size n) n
 canon_number (negsuc n) = octets (number_size n) (256 ^ number_size n - (n + 1))
 
--- how many octets a length wants
+-- how many octets a length takes
 unfoldable pub length_size : ℕ → ℕ
 length_size n = digit_count 256 256 3 n
 
@@ -38,11 +45,12 @@ length_size n = digit_count 256 256 3 n
 unfoldable pub canon_length : ℕ → List ℕ
 canon_length n = if nat_lt n 128 then n ∷ [] else (128 + length_size n) ∷ octets (length_size n) n
 
--- how many octets a subidentifier wants, of seven bits each
+-- how many octets a subidentifier takes, of seven bits each
 unfoldable pub subidentifier_size : ℕ → ℕ
 subidentifier_size n = digit_count 128 128 4 n
 
--- the number's lowest digits to the base 128, so many of them, with the bit that says that the subidentifier goes on
+-- the number's lowest digits to the base 128, `count` of them, with the bit that says that the
+-- subidentifier goes on
 unfoldable pub septets : ℕ → ℕ → List ℕ
 septets zero n = []
 septets (suc count) n = (128 + n / 128 ^ count % 128) ∷ septets count n
@@ -51,7 +59,8 @@ septets (suc count) n = (128 + n / 128 ^ count % 128) ∷ septets count n
 unfoldable pub canon_subidentifier : ℕ → List ℕ
 canon_subidentifier n = septets (subidentifier_size n - 1) (n / 128) ++ (n % 128) ∷ []
 
--- the eight numbers from a place on have one octet each
+-- The eight numbers from a place on have one octet each. Private functions and proofs alone cite
+-- this, and no public clause does: it is a step of a loop.
 pub record AreShort (numbers : List ℕ) (from : ℕ) : Type 0 where
   pub first : get_or numbers from 0 < 128
   pub second : get_or numbers (from + 1) 0 < 128
@@ -62,13 +71,15 @@ pub record AreShort (numbers : List ℕ) (from : ℕ) : Type 0 where
   pub seventh : get_or numbers (from + 6) 0 < 128
   pub eighth : get_or numbers (from + 7) 0 < 128
 
--- the eight numbers from a place on
+-- The eight numbers from a place on, for private functions and proofs alone.
 abbrev pub eight_from : List ℕ → ℕ → List ℕ
 eight_from numbers from =
-    get_or numbers from 0 ∷ get_or numbers (from + 1) 0 ∷ get_or numbers (from + 2) 0 ∷ get_or numbers (from + 3) 0
-    ∷ get_or numbers (from + 4) 0 ∷ get_or numbers (from + 5) 0 ∷ get_or numbers (from + 6) 0 ∷ get_or numbers (from + 7) 0 ∷ []
+    get_or numbers from 0 ∷ get_or numbers (from + 1) 0
+    ∷ get_or numbers (from + 2) 0 ∷ get_or numbers (from + 3) 0
+    ∷ get_or numbers (from + 4) 0 ∷ get_or numbers (from + 5) 0
+    ∷ get_or numbers (from + 6) 0 ∷ get_or numbers (from + 7) 0 ∷ []
 
--- the tag and the length before a content of so many octets
+-- the tag and the length before a content of `size` octets
 unfoldable pub canon_header : ℕ → ℕ → List ℕ
 canon_header tag size = tag ∷ canon_length size
 

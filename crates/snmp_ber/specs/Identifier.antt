@@ -1,9 +1,11 @@
 -- The content of an OBJECT IDENTIFIER (X.690, 8.19).
-use Rattle.std.specs.Prelude.{◌≡◌, ◌≢◌, ℕ, ◌+◌, ◌*◌, ◌%◌, ◌<◌, ◌≤◌, List, [], ◌∷◌, ◌++◌, map, slice_index, All}
+use Rattle.std.specs.Prelude.{◌≡◌, ◌≢◌, ℕ, ◌+◌, ◌*◌, ◌%◌, ◌<◌, ◌≤◌, List, [], ◌∷◌, ◌++◌, map}
+use Rattle.std.specs.Prelude.{slice_index, All}
 use Rattle.snmp_oid.specs.Identifier.{IsIdentifier, IsWire}
 use Rattle.snmp_ber.specs.Number.{number_of}
 
--- the octets are the subidentifier n (8.19.2): its digits to the base 128, the high bit set on each but the last, and no zero in front
+-- the octets are the subidentifier n (8.19.2): its digits to the base 128, the high bit set on each
+-- but the last, and no zero in front
 pub record IsSubidentifier (octets : List ℕ) (n : ℕ) : Type 0 where
   pub front : List ℕ
   pub last : ℕ
@@ -16,9 +18,12 @@ pub record IsSubidentifier (octets : List ℕ) (n : ℕ) : Type 0 where
 -- the octets are these subidentifiers in turn
 abbrev pub AreSubidentifiers : List ℕ → List ℕ → Type 0
 AreSubidentifiers octets [] = octets ≡ []
-AreSubidentifiers octets (n ∷ more) = (first : List ℕ) × (rest : List ℕ) × (octets ≡ first ++ rest) × IsSubidentifier first n × AreSubidentifiers rest more
+AreSubidentifiers octets (n ∷ more) =
+    (first : List ℕ) × (rest : List ℕ) × (octets ≡ first ++ rest)
+    × IsSubidentifier first n × AreSubidentifiers rest more
 
--- the subidentifiers of an identifier (8.19.4): one for its first two numbers, and one for each other
+-- the subidentifiers of an identifier (8.19.4): one for its first two numbers, and one for each
+-- other
 abbrev pub subidentifiers : List ℕ → List ℕ
 subidentifiers [] = []
 subidentifiers (x ∷ []) = []

@@ -1,4 +1,5 @@
--- Lengths and elements (X.690, 8.1). RFC 3417, section 8 allows definite lengths alone; of those, this profile reads up to four octets of a length.
+-- Lengths and elements (X.690, 8.1). RFC 3417, section 8 allows definite lengths alone; of those,
+-- this profile reads up to four octets of a length.
 use Rattle.std.specs.Prelude.{◌≡◌, ℕ, ◌+◌, ◌<◌, ◌≤◌, ◌⊎◌, List, [], ◌∷◌, ◌++◌, length}
 use Rattle.snmp_ber.specs.Number.{unsigned}
 
@@ -7,7 +8,8 @@ pub record IsShortLength (octets : List ℕ) (n : ℕ) : Type 0 where
   pub small : n < 128
   pub one : octets ≡ n ∷ []
 
--- the long form (X.690, 8.1.3.5): the octets of the length, also where fewer would do, behind 128 and their number, which is 1 to 4
+-- the long form (X.690, 8.1.3.5): the octets of the length, also where fewer would do, after 128
+-- plus their number, which is 1 to 4
 pub record IsLongLength (octets : List ℕ) (n : ℕ) : Type 0 where
   pub digits : List ℕ
   pub some : 1 ≤ length digits
@@ -19,7 +21,8 @@ pub record IsLongLength (octets : List ℕ) (n : ℕ) : Type 0 where
 abbrev pub IsLength : List ℕ → ℕ → Type 0
 IsLength octets n = IsShortLength octets n ⊎ IsLongLength octets n
 
--- the octets are an element (X.690, 8.1.1): a tag, the length of the content in some form, and the content
+-- the octets are an element (X.690, 8.1.1): a tag, the length of the content in some form, and the
+-- content
 pub record IsElement (tag : ℕ) (content octets : List ℕ) : Type 0 where
   pub length_octets : List ℕ
   pub is_length : IsLength length_octets (length content)

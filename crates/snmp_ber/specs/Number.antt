@@ -1,5 +1,6 @@
 -- Octets as numbers (X.690, section 8). Octets are numbers below 256.
-use Rattle.std.specs.Prelude.{◌≡◌, ℕ, ℤ, pos, ◌-ℤ◌, ◌+◌, ◌*◌, ◌^◌, ◌<◌, ◌≤◌, ◌⊎◌, List, [], ◌∷◌, length, slice_index, nat_lt, if◌then◌else◌, All}
+use Rattle.std.specs.Prelude.{◌≡◌, ℕ, ℤ, pos, ◌-ℤ◌, ◌+◌, ◌*◌, ◌^◌, ◌<◌, ◌≤◌, ◌⊎◌, List, [], ◌∷◌}
+use Rattle.std.specs.Prelude.{length, slice_index, nat_lt, if◌then◌else◌, All}
 
 abbrev pub AreOctets : List ℕ → Type 0
 AreOctets octets = All (λ octet. octet < 256) octets
@@ -13,9 +14,13 @@ number_of base (digit ∷ rest) = digit * base ^ length rest + number_of base re
 abbrev pub unsigned : List ℕ → ℕ
 unsigned octets = number_of 256 octets
 
--- octets as a two's complement number (X.690, 8.3.3): where the high bit of the first octet is set, the number is as much below zero as the unsigned one is below the next power
+-- octets as a two's complement number (X.690, 8.3.3): where the high bit of the first octet is set,
+-- the number is as much below zero as the unsigned one is below the next power
 abbrev pub twos_complement : List ℕ → ℤ
-twos_complement octets = if nat_lt (slice_index octets 0) 128 then pos (unsigned octets) else pos (unsigned octets) -ℤ pos (256 ^ length octets)
+twos_complement octets =
+    if nat_lt (slice_index octets 0) 128
+    then pos (unsigned octets)
+    else pos (unsigned octets) -ℤ pos (256 ^ length octets)
 
 -- the content of an INTEGER of 32 bits: 1 to 4 octets in two's complement, minimal or not
 pub record IsInteger (content : List ℕ) (z : ℤ) : Type 0 where
@@ -23,7 +28,8 @@ pub record IsInteger (content : List ℕ) (z : ℤ) : Type 0 where
   pub few : length content ≤ 4
   pub value : twos_complement content ≡ z
 
--- which contents an unsigned number may have: all that are read, or of those the ones in two's complement, as X.690, 8.3 has it
+-- which contents an unsigned number may have: all that are read, or of those the ones in two's
+-- complement, as X.690, 8.3 has it
 pub data Form : Type 0 where
   lenient : Form
   strict : Form
@@ -33,7 +39,8 @@ abbrev pub Admits : Form → List ℕ → Type 0
 Admits lenient content = Unit {0}
 Admits strict content = slice_index content 0 < 128
 
--- the content of an unsigned number of at most `width` octets: 1 to `width` octets, or one more where the first is zero
+-- the content of an unsigned number of at most `width` octets: 1 to `width` octets, or one more
+-- where the first is zero
 pub record IsUnsigned (form : Form) (width : ℕ) (content : List ℕ) (n : ℕ) : Type 0 where
   pub some : 1 ≤ length content
   pub few : (length content ≤ width) ⊎ ((length content ≡ width + 1) × (slice_index content 0 ≡ 0))

@@ -1,7 +1,9 @@
 -- Values that own their octets.
 use Rattle.snmp_ber.specs.declared.owned.Value.{Value}
 use Rattle.snmp_ber.specs.declared.owned.Value.TheVariants as value
-use Rattle.snmp_ber.specs.Value.{Datum, integer_value, octet_string, null_value, object_id, ip_address, counter32, gauge32, time_ticks, opaque_octets, counter64, no_such_object, no_such_instance, end_of_mib_view}
+use Rattle.snmp_ber.specs.Value.{Datum, integer_value, octet_string, null_value, object_id}
+use Rattle.snmp_ber.specs.Value.{ip_address, counter32, gauge32, time_ticks, opaque_octets}
+use Rattle.snmp_ber.specs.Value.{counter64, no_such_object, no_such_instance, end_of_mib_view}
 
 -- the value without where it lies
 abbrev pub owned : Value → Datum

@@ -1,9 +1,11 @@
--- What has an encoding by the standard: numbers of their types' ranges, octets, and identifiers with a form on the wire (RFC 2578, section 7.1).
+-- What has an encoding by the standard: numbers of their types' ranges, octets, and identifiers
+-- with a form on the wire (RFC 2578, section 7.1).
 use Rattle.std.specs.Prelude.{◌≡◌, ◌^◌, ◌<◌, ◌≤◌, length, FitsSigned}
 use Rattle.std.specs.Int.{w32}
-use Rattle.std.specs.List.{AllByRecursion}
 use Rattle.snmp_oid.specs.Identifier.{IsIdentifier, IsWire}
-use Rattle.snmp_ber.specs.Value.{Datum, integer_value, octet_string, null_value, object_id, ip_address, counter32, gauge32, time_ticks, opaque_octets, counter64, no_such_object, no_such_instance, end_of_mib_view}
+use Rattle.snmp_ber.specs.Value.{Datum, integer_value, octet_string, null_value, object_id}
+use Rattle.snmp_ber.specs.Value.{ip_address, counter32, gauge32, time_ticks, opaque_octets}
+use Rattle.snmp_ber.specs.Value.{counter64, no_such_object, no_such_instance, end_of_mib_view}
 use Rattle.snmp_ber.specs.Number.{AreOctets}
 
 -- the value is within the range of its type, and a string has at most 65535 octets

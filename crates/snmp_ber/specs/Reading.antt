@@ -1,10 +1,15 @@
--- Reading from the front, with the first fault that is met: what private functions are proved to compute. Public clauses cite what octets spell.
-use Rattle.std.specs.Prelude.{◌≡◌, ℕ, zero, suc, ℤ, ◌+◌, ◌-◌, ◌*◌, ◌/◌, ◌%◌, ◌^◌, ◌<◌, ◌++◌, All, Bool, true, false, ◌&&◌, ◌||◌, ◌==◌, nat_lt, nat_le, if◌then◌else◌, List, [], ◌∷◌, length, take, drop, Result, Ok, Err}
+-- Reading from the front, with the first fault that is met: what private functions are proved to
+-- compute. Public clauses cite what octets spell.
+use Rattle.std.specs.Prelude.{◌≡◌, ℕ, zero, suc, ℤ, ◌+◌, ◌-◌, ◌*◌, ◌/◌, ◌%◌, ◌^◌, ◌<◌, ◌++◌, All}
+use Rattle.std.specs.Prelude.{Bool, true, false, ◌&&◌, ◌||◌, ◌==◌, nat_lt, nat_le, if◌then◌else◌}
+use Rattle.std.specs.Prelude.{List, [], ◌∷◌, length, take, drop, Result, Ok, Err}
 use Rattle.std.specs.Result.{result_unwrap_or}
 use Rattle.snmp_ber.specs.declared.error.BerError.{BerError}
 use Rattle.snmp_ber.specs.declared.error.BerError.TheVariants as error
 use Rattle.snmp_ber.specs.Number.{unsigned, twos_complement}
-use Rattle.snmp_ber.specs.Value.{Datum, integer_value, octet_string, null_value, object_id, ip_address, counter32, gauge32, time_ticks, opaque_octets, counter64, no_such_object, no_such_instance, end_of_mib_view}
+use Rattle.snmp_ber.specs.Value.{Datum, integer_value, octet_string, null_value, object_id}
+use Rattle.snmp_ber.specs.Value.{ip_address, counter32, gauge32, time_ticks, opaque_octets}
+use Rattle.snmp_ber.specs.Value.{counter64, no_such_object, no_such_instance, end_of_mib_view}
 
 infixl 10 ◌>>=◌
 abbrev pub ◌>>=◌ : {A B : Type 0} → Result A BerError → (A → Result B BerError) → Result B BerError
@@ -35,14 +40,17 @@ allowed false = Err error.Content
 unfoldable pub long_length_at : BerError → ℕ → List ℕ → Result (ℕ × List ℕ) BerError
 long_length_at cut first rest =
     if nat_lt 128 first && nat_lt first 133
-    then (if nat_lt (length rest) (first - 128) then Err cut else Ok (unsigned (take (first - 128) rest), drop (first - 128) rest))
+    then (if nat_lt (length rest) (first - 128)
+    then Err cut
+    else Ok (unsigned (take (first - 128) rest), drop (first - 128) rest))
     else Err error.Length
 
 unfoldable pub length_at : BerError → List ℕ → Result (ℕ × List ℕ) BerError
 length_at cut [] = Err cut
-length_at cut (first ∷ rest) = if nat_lt first 128 then Ok (first, rest) else long_length_at cut first rest
+length_at cut (first ∷ rest) =
+    if nat_lt first 128 then Ok (first, rest) else long_length_at cut first rest
 
--- the content behind a tag, and what follows
+-- the content after a tag, and what follows
 unfoldable pub content_at : BerError → List ℕ → Result (List ℕ × List ℕ) BerError
 content_at cut octets = do
   n ← length_at cut octets
@@ -63,7 +71,10 @@ element_at (tag ∷ rest) = do
 -- ---- numbers
 
 unfoldable pub integer_of : List ℕ → Result ℤ BerError
-integer_of content = if nat_lt 0 (length content) && nat_lt (length content) 5 then Ok (twos_complement content) else Err error.Content
+integer_of content =
+    if nat_lt 0 (length content) && nat_lt (length content) 5
+    then Ok (twos_complement content)
+    else Err error.Content
 
 unfoldable pub integer_at : List ℕ → Result (ℤ × List ℕ) BerError
 integer_at octets = do
@@ -77,10 +88,12 @@ sign_of octet = if nat_lt octet 128 then 0 else 255
 
 abbrev pub has_width : ℕ → List ℕ → Bool
 has_width width [] = false
-has_width width (first ∷ rest) = nat_le (length (first ∷ rest)) width || (length (first ∷ rest) == width + 1 && first == 0)
+has_width width (first ∷ rest) =
+    nat_le (length (first ∷ rest)) width || (length (first ∷ rest) == width + 1 && first == 0)
 
 unfoldable pub unsigned_of : ℕ → List ℕ → Result ℕ BerError
-unsigned_of width content = if has_width width content then Ok (unsigned content) else Err error.Content
+unsigned_of width content =
+    if has_width width content then Ok (unsigned content) else Err error.Content
 
 -- ---- identifiers
 
@@ -93,11 +106,14 @@ unfoldable pub subidentifier_from : ℕ → List ℕ → Result (ℕ × List ℕ
 subidentifier_from n [] = Err error.Content
 subidentifier_from n (octet ∷ rest) =
     if nat_lt largest_subidentifier (n * 128 + octet % 128) then Err error.Content
-    else (if nat_lt octet 128 then Ok (n * 128 + octet % 128, rest) else subidentifier_from (n * 128 + octet % 128) rest)
+    else (if nat_lt octet 128
+    then Ok (n * 128 + octet % 128, rest)
+    else subidentifier_from (n * 128 + octet % 128) rest)
 
 unfoldable pub subidentifier_at : List ℕ → Result (ℕ × List ℕ) BerError
 subidentifier_at [] = Err error.Content
-subidentifier_at (first ∷ rest) = if first == 128 then Err error.Content else subidentifier_from 0 (first ∷ rest)
+subidentifier_at (first ∷ rest) =
+    if first == 128 then Err error.Content else subidentifier_from 0 (first ∷ rest)
 
 unfoldable pub number_at : List ℕ → Result (ℕ × List ℕ) BerError
 number_at octets = do
@@ -117,9 +133,11 @@ numbers_of (suc room) (octet ∷ rest) = do
 abbrev pub numbers_in : List ℕ → List ℕ
 numbers_in octets = result_unwrap_or (numbers_of 126 octets) []
 
--- the octets begin with so many numbers that have an octet each
+-- The octets begin with `count` numbers that have an octet each. Private functions and proofs alone
+-- cite this, and no public clause does: it is a step of a loop.
 abbrev pub IsPlainFront : ℕ → List ℕ → List ℕ → List ℕ → Type 0
-IsPlainFront count numbers rest octets = (octets ≡ numbers ++ rest) × (length numbers ≡ count) × All (λ n. n < 128) numbers
+IsPlainFront count numbers rest octets =
+    (octets ≡ numbers ++ rest) × (length numbers ≡ count) × All (λ n. n < 128) numbers
 
 abbrev pub first_number : ℕ → ℕ
 first_number n = if nat_lt n 80 then n / 40 else 2

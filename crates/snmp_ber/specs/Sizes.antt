@@ -1,6 +1,7 @@
 -- How many octets encodings take (X.690, 8.1 and 8.3).
 use Rattle.std.specs.Prelude.{◌≡◌, ℕ, pos, ◌+◌, ◌<◌, ◌≤◌, List, length}
-use Rattle.snmp_ber.specs.Canon.{canon_element, canon_header, canon_length, canon_number, digit_count, length_size, number_size}
+use Rattle.snmp_ber.specs.Canon.{canon_element, canon_header, canon_length, canon_number}
+use Rattle.snmp_ber.specs.Canon.{digit_count, length_size, number_size}
 
 -- the sizes of lengths, whole numbers and elements
 pub record ElementSizes : Type 0 where
@@ -16,8 +17,10 @@ pub record ElementSizes : Type 0 where
   pub header : (tag size : ℕ) → length (canon_header tag size) ≡ 1 + length (canon_length size)
   -- a tag, a length and the content
   pub element : (tag : ℕ) (content : List ℕ)
-      → length (canon_element tag content) ≡ 1 + length (canon_length (length content)) + length content
+      → length (canon_element tag content)
+      ≡ 1 + length (canon_length (length content)) + length content
   -- a greater number has no fewer digits
-  pub digits_rise : (base limit more m n : ℕ) → m ≤ n → digit_count base limit more m ≤ digit_count base limit more n
+  pub digits_rise : (base limit more m n : ℕ)
+      → m ≤ n → digit_count base limit more m ≤ digit_count base limit more n
   -- a greater length takes no fewer octets
   pub lengths_rise : (m n : ℕ) → m ≤ n → length (canon_length m) ≤ length (canon_length n)

@@ -1,9 +1,12 @@
--- What octets spell: values, variable bindings and messages in BER (RFC 3416, section 3; RFC 1901, section 3; RFC 3417, section 8; X.690).
-use Rattle.std.specs.Prelude.{◌≡◌, ℕ, List, [], ◌∷◌, ◌++◌, length}
+-- What octets encode: values, variable bindings and messages in BER (RFC 3416, section 3; RFC 1901,
+-- section 3; RFC 3417, section 8; X.690).
+use Rattle.std.specs.Prelude.{◌≡◌, ℕ, List, [], length}
 use Rattle.snmp_ber.specs.Number.{IsInteger, IsUnsigned, Form}
 use Rattle.snmp_ber.specs.Length.{IsElement}
 use Rattle.snmp_ber.specs.Identifier.{IsObjectId}
-use Rattle.snmp_ber.specs.Value.{Datum, integer_value, octet_string, null_value, object_id, ip_address, counter32, gauge32, time_ticks, opaque_octets, counter64, no_such_object, no_such_instance, end_of_mib_view}
+use Rattle.snmp_ber.specs.Value.{Datum, integer_value, octet_string, null_value, object_id}
+use Rattle.snmp_ber.specs.Value.{ip_address, counter32, gauge32, time_ticks, opaque_octets}
+use Rattle.snmp_ber.specs.Value.{counter64, no_such_object, no_such_instance, end_of_mib_view}
 
 -- the tag of a value (RFC 2578, section 2; RFC 3416, section 3)
 abbrev pub value_tag : Datum → ℕ
@@ -37,7 +40,7 @@ IsContent form no_such_object content = content ≡ []
 IsContent form no_such_instance content = content ≡ []
 IsContent form end_of_mib_view content = content ≡ []
 
--- the octets spell the value: an element of its tag
+-- the octets encode the value: an element of its tag
 pub record SpellsValue (form : Form) (value : Datum) (octets : List ℕ) : Type 0 where
   pub content : List ℕ
   pub is_content : IsContent form value content

@@ -1,4 +1,5 @@
--- What a writer leaves of a slice. Writers go from the end of a message to its front, so that each length is known when it is written.
+-- What a writer leaves of a slice. Writers go from the end of a message to its front, so that each
+-- length is known when it is written.
 use Rattle.std.specs.Prelude.{◌≡◌, ℕ, ◌+◌, List, ◌++◌, length, take, drop}
 
 -- the text stands from `start` to `end`, and the other octets are as they were

@@ -1,4 +1,4 @@
-//! Why octets spell no message.
+//! Why a datagram is refused.
 ghost use Rattle.snmp_ber.specs.Reading as reading;
 ghost use Rattle.snmp_ber.specs.Reading.{AgreesBy};
 
@@ -13,7 +13,8 @@ pub enum BerError {
     /// Octets follow the outermost element.
     #[error("octets follow the message")]
     Trailing,
-    /// A length has a forbidden form, or an inner element is missing from, or reaches past, the one round it.
+    /// A length has a forbidden form, or an inner element is missing from, or reaches past, the one
+    /// round it.
     #[error("a length is wrong")]
     Length,
     /// A tag is one that its place doesn't allow.

@@ -1,10 +1,13 @@
 //! The content of an OBJECT IDENTIFIER (X.690, section 8.19).
-ghost use Rattle.std.specs.Prelude.{◌≡◌, true, ℕ, ◌+◌, ◌-◌, ◌<◌, ◌≤◌, ◌↔◌, List, [], ◌∷◌, ◌++◌, length, drop, IsOk, IsTrue, IfOk, IfErr, IfSome, Ok, Err, ◌*◌, ◌^◌};
+ghost use Rattle.std.specs.Prelude.{◌≡◌, true, ℕ, ◌+◌, ◌-◌, ◌<◌, ◌≤◌, ◌↔◌, List, [], ◌∷◌, ◌++◌};
+ghost use Rattle.std.specs.Prelude.{length, drop, IsOk, IsTrue, IfOk, IfErr, IfSome, Ok, Err, ◌*◌};
+ghost use Rattle.std.specs.Prelude.{◌^◌};
 ghost use Rattle.snmp_ber.specs.Reading as reading;
 ghost use Rattle.snmp_ber.specs.Reading.{AgreesBy, checked};
 ghost use Rattle.std.specs.List.{flat_map};
 ghost use Rattle.snmp_oid.specs.Identifier.{IsWire};
-ghost use Rattle.snmp_ber.specs.Canon.{AreShort, canon_content, canon_subidentifier, eight_from, septets, subidentifier_size};
+ghost use Rattle.snmp_ber.specs.Canon.{AreShort, canon_content, canon_subidentifier, eight_from};
+ghost use Rattle.snmp_ber.specs.Canon.{septets, subidentifier_size};
 ghost use Rattle.snmp_ber.specs.Value.{object_id};
 ghost use Rattle.snmp_ber.specs.Writing.{Writes};
 
@@ -35,7 +38,8 @@ fn subidentifier_at(octets: &[u8]) -> Result<(u64, &[u8]), BerError>
     }
 }
 
-/// The digits to the base 128 at the front, the last of which has a clear high bit, and what follows.
+/// The digits to the base 128 at the front, the last of which has a clear high bit, and what
+/// follows.
 fn digits_at(octets: &[u8]) -> Result<(u64, &[u8]), BerError>
     ensures { AgreesBy (λ x. (x.0, x.1.now)) result (reading.subidentifier_from 0 octets.now) }
 {
@@ -65,7 +69,8 @@ fn number_at(octets: &[u8]) -> Result<(u32, &[u8]), BerError>
     Ok((number as u32, rest))
 }
 
-/// The subidentifier at the front, and what follows, of octets that are known to begin with one. Nothing is checked again.
+/// The subidentifier at the front, and what follows, of octets that are known to begin with one.
+/// Nothing is checked again.
 #[inline]
 fn subidentifier_in(octets: &[u8]) -> (u64, &[u8])
     requires { IsOk (reading.subidentifier_at octets.now) }
@@ -84,7 +89,8 @@ fn subidentifier_in(octets: &[u8]) -> (u64, &[u8])
     digits_in(octets)
 }
 
-/// The subidentifier of three octets or more at the front, and what follows, of octets that are known to begin with one.
+/// The subidentifier of three octets or more at the front, and what follows, of octets that are
+/// known to begin with one.
 fn digits_in(octets: &[u8]) -> (u64, &[u8])
     requires { IsOk (reading.subidentifier_at octets.now) }
     ensures { reading.subidentifier_at octets.now ≡ Ok (result.0, result.1.now) }
@@ -95,7 +101,8 @@ fn digits_in(octets: &[u8]) -> (u64, &[u8])
     }
 }
 
-/// The number at the front, and what follows, of octets that are known to begin with one. Nothing is checked again.
+/// The number at the front, and what follows, of octets that are known to begin with one. Nothing
+/// is checked again.
 #[inline]
 fn number_in(octets: &[u8]) -> (u32, &[u8])
     requires { IsOk (reading.number_at octets.now) }
@@ -129,11 +136,15 @@ fn check_numbers(octets: &[u8]) -> Result<(), BerError>
     Ok(())
 }
 
-/// How many numbers stand at the front, one, four or eight of at most `room`, and what follows them.
+/// How many numbers stand at the front, one, four or eight of at most `room`, and what follows
+/// them.
 #[inline(always)]
 fn some_numbers_at(room: usize, octets: &[u8]) -> Result<(usize, &[u8]), BerError>
     requires { 0 < length octets.now }
-    ensures ok { IfOk result (λ x. (1 ≤ x.0) × (x.0 ≤ room) × (checked (reading.numbers_of (room - x.0) x.1.now) ≡ checked (reading.numbers_of room octets.now))) }
+    ensures ok { IfOk result (λ x.
+        (1 ≤ x.0) × (x.0 ≤ room)
+        × (checked (reading.numbers_of (room - x.0) x.1.now)
+        ≡ checked (reading.numbers_of room octets.now))) }
     ensures err { IfErr result (λ e. checked (reading.numbers_of room octets.now) ≡ Err e) }
 {
     if room == 0 {
@@ -153,7 +164,8 @@ fn some_numbers_at(room: usize, octets: &[u8]) -> Result<(usize, &[u8]), BerErro
     Ok((1, rest))
 }
 
-/// The eight octets at the front, where each is a number of its own, as in most names, and what follows them.
+/// The eight octets at the front, where each is a number of its own, as in most names, and what
+/// follows them.
 #[inline(always)]
 fn eight_at(octets: &[u8]) -> Option<(&[u8], &[u8])>
     ensures { IfSome result (λ x. reading.IsPlainFront 8 x.0.now x.1.now octets.now) }
@@ -206,7 +218,8 @@ pub(crate) fn identifier_of(content: &[u8]) -> Oid
     oid
 }
 
-/// Appends to the empty identifier the one that the content is. To fill it in place saves moving its 520 octets.
+/// Appends to the empty identifier the one that the content is. To fill it in place saves moving
+/// its 520 octets.
 #[tactic(auto, unfolding(crate::specs::Reading::identifier_of))]
 #[inline(always)]
 pub fn push_identifier(oid: &mut Oid, content: &[u8])
@@ -269,14 +282,16 @@ fn push_numbers(oid: &mut Oid, octets: &[u8])
     }
 }
 
-/// Appends eight numbers, each of one octet, to an identifier that has room for them. Apart from the test of the octets, the compiler widens all in a few instructions.
+/// Appends eight numbers, each of one octet, to an identifier that has room for them. Apart from
+/// the test of the octets, the compiler widens all in a few instructions.
 #[inline(never)]
 fn push_eight(oid: &mut Oid, octets: &[u8])
     requires eight { length octets.now ≡ 8 }
     requires room { length oid.old + 8 ≤ 128 }
     ensures { oid.new ≡ oid.old ++ octets.now }
 {
-    // All are read before the first is written, so that the compiler need not ask whether a write changes them.
+    // All are read before the first is written, so that the compiler need not ask whether a write
+    // changes them.
     let (a, b, c, d) = (octets[0], octets[1], octets[2], octets[3]);
     let (e, f, g, h) = (octets[4], octets[5], octets[6], octets[7]);
     push_octets(oid, a, b, c, d);
@@ -312,7 +327,7 @@ fn push_octets(oid: &mut Oid, a: u8, b: u8, c: u8, d: u8)
 fn septets_size(number: u64) -> usize
     ensures value { result ≡ subidentifier_size number }
     ensures some { 1 ≤ result }
-    ensures small { result ≤ 5 }
+    ensures at_most_5 { result ≤ 5 }
 {
     if number < 1 << 7 {
         1
@@ -332,7 +347,7 @@ fn septets_size(number: u64) -> usize
 pub fn identifier_size(name: &Oid) -> u64
     requires { IsWire name.now }
     ensures value { result ≡ length (canon_content (object_id name.now)) }
-    ensures small { result ≤ 640 }
+    ensures at_most_640 { result ≤ 640 }
 {
     let [first, second, rest @ ..] = name.as_slice() else {
         unreachable!()
@@ -345,7 +360,7 @@ pub fn identifier_size(name: &Oid) -> u64
 fn first_size(first: u32, second: u32) -> u64
     requires { first ≤ 2 }
     ensures value { result ≡ subidentifier_size (40 * first + second) }
-    ensures small { result ≤ 5 }
+    ensures at_most_5 { result ≤ 5 }
 {
     if second < 48 {
         // 80 and less than 48 are less than 128.
@@ -362,7 +377,7 @@ fn first_size(first: u32, second: u32) -> u64
 fn numbers_size(numbers: &[u32]) -> u64
     requires { length numbers.now ≤ 128 }
     ensures value { result ≡ length (flat_map canon_subidentifier numbers.now) }
-    ensures small { result ≤ 5 * length numbers.now }
+    ensures at_most_5_each { result ≤ 5 * length numbers.now }
 {
     let count = numbers.len();
     if count < 9 || !are_short(numbers, count - 9) {
@@ -380,7 +395,7 @@ fn numbers_size(numbers: &[u32]) -> u64
 fn other_numbers_size(numbers: &[u32]) -> u64
     requires { length numbers.now ≤ 128 }
     ensures value { result ≡ length (flat_map canon_subidentifier numbers.now) }
-    ensures small { result ≤ 5 * length numbers.now }
+    ensures at_most_5_each { result ≤ 5 * length numbers.now }
 {
     let mut size = 0;
     let mut left = numbers.len();
@@ -410,11 +425,15 @@ fn are_short(numbers: &[u32], from: usize) -> bool
     low | high < 128
 }
 
-/// The subidentifiers of the four numbers before the place `left`, where each has one octet, as in most names.
+/// The subidentifiers of the four numbers before the place `left`, where each has one octet, as in
+/// most names.
 #[inline(always)]
 fn four_before(numbers: &[u32], left: usize) -> Option<(u8, u8, u8, u8)>
     requires { left ≤ length numbers.now }
-    ensures { IfSome result (λ x. (4 ≤ left) × (flat_map canon_subidentifier (drop (left - 4) numbers.now) ≡ (x.0 ∷ x.1 ∷ x.2 ∷ x.3 ∷ []) ++ flat_map canon_subidentifier (drop left numbers.now))) }
+    ensures { IfSome result (λ x.
+        (4 ≤ left)
+        × (flat_map canon_subidentifier (drop (left - 4) numbers.now)
+        ≡ (x.0 ∷ x.1 ∷ x.2 ∷ x.3 ∷ []) ++ flat_map canon_subidentifier (drop left numbers.now))) }
 {
     if left < 4 {
         return None;
@@ -439,7 +458,7 @@ fn first_subidentifier(first: u32, second: u32) -> u64
     40 * u64::from(first) + u64::from(second)
 }
 
-/// Writes the content of an identifier before `end`, and answers where it begins.
+/// Writes the content of an identifier before `end`, and returns where it begins.
 #[inline(always)]
 pub fn put_identifier(out: &mut [u8], end: usize, name: &Oid) -> usize
     requires encodable { IsWire name.now }
@@ -454,7 +473,8 @@ pub fn put_identifier(out: &mut [u8], end: usize, name: &Oid) -> usize
     put_subidentifier(out, start, first_subidentifier(*first, *second))
 }
 
-/// Writes numbers before `end`, each as a subidentifier, and answers where they begin. What most are, [`numbers_size`] says.
+/// Writes numbers before `end`, each as a subidentifier, and returns where they begin. What most
+/// are, [`numbers_size`] says.
 #[inline(always)]
 fn put_numbers(out: &mut [u8], end: usize, numbers: &[u32]) -> usize
     requires room { length (flat_map canon_subidentifier numbers.now) ≤ end }
@@ -473,7 +493,8 @@ fn put_numbers(out: &mut [u8], end: usize, numbers: &[u32]) -> usize
     put_other_numbers(out, start, &numbers[..count - 9])
 }
 
-/// Writes numbers before `end`, each as a subidentifier, whatever they are, and answers where they begin.
+/// Writes numbers before `end`, each as a subidentifier, whatever they are, and returns where they
+/// begin.
 #[inline(never)]
 fn put_other_numbers(out: &mut [u8], end: usize, numbers: &[u32]) -> usize
     requires room { length (flat_map canon_subidentifier numbers.now) ≤ end }
@@ -497,10 +518,11 @@ fn put_other_numbers(out: &mut [u8], end: usize, numbers: &[u32]) -> usize
     start
 }
 
-/// Writes the eight numbers from a place on before `end`, an octet each, and answers where they begin.
+/// Writes the eight numbers from a place on before `end`, an octet each, and returns where they
+/// begin.
 #[inline(always)]
 fn put_eight(out: &mut [u8], end: usize, numbers: &[u32], from: usize) -> usize
-    requires short { AreShort numbers.now from }
+    requires one_octet_each { AreShort numbers.now from }
     requires eight { from + 8 ≤ length numbers.now }
     requires room { 8 ≤ end }
     requires within { end ≤ length out.old }
@@ -525,7 +547,7 @@ fn put_eight(out: &mut [u8], end: usize, numbers: &[u32], from: usize) -> usize
     put_octet(out, at_b, a)
 }
 
-/// Writes a subidentifier before `end`, and answers where it begins.
+/// Writes a subidentifier before `end`, and returns where it begins.
 #[inline]
 fn put_subidentifier(out: &mut [u8], end: usize, number: u64) -> usize
     requires room { length (canon_subidentifier number) ≤ end }
@@ -542,7 +564,8 @@ fn put_subidentifier(out: &mut [u8], end: usize, number: u64) -> usize
     put_septets(out, last, septets_size(number) - 1, number / 128)
 }
 
-/// Writes the lowest `count` digits of a number to the base 128 before `end`, each with the bit that says that it isn't the last, and answers where they begin.
+/// Writes the lowest `count` digits of a number to the base 128 before `end`, each with the bit
+/// that says that it isn't the last, and returns where they begin.
 fn put_septets(out: &mut [u8], end: usize, count: usize, number: u64) -> usize
     requires room { count ≤ end }
     requires within { end ≤ length out.old }

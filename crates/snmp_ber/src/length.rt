@@ -9,9 +9,6 @@ use crate::BerError;
 use crate::number::{put_octets, unsigned};
 use crate::writing::put_octet;
 
-/// The tag of a SEQUENCE.
-pub const SEQUENCE: u8 = 0x30;
-
 /// The length at the front, and what follows. The octets end before it does: `cut`.
 #[tactic(auto, unfolding(crate::specs::Reading::length_at))]
 #[inline(always)]
@@ -30,7 +27,7 @@ fn length_at(octets: &[u8], cut: BerError) -> Result<(usize, &[u8]), BerError>
     }
 }
 
-/// A length of the long form behind its first octet, which says how many octets it has.
+/// A length of the long form after its first octet, which says how many octets it has.
 #[tactic(auto, unfolding(crate::specs::Reading::long_length_at))]
 #[cold]
 fn long_length_at(first: u8, octets: &[u8], cut: BerError) -> Result<(usize, &[u8]), BerError>
@@ -47,7 +44,7 @@ fn long_length_at(first: u8, octets: &[u8], cut: BerError) -> Result<(usize, &[u
     Ok((unsigned(digits) as usize, rest))
 }
 
-/// The content behind a tag, and what follows. The octets end before it does: `cut`.
+/// The content after a tag, and what follows. The octets end before it does: `cut`.
 #[tactic(auto, unfolding(crate::specs::Reading::content_at))]
 #[inline(always)]
 pub fn content_at(octets: &[u8], cut: BerError) -> Result<(&[u8], &[u8]), BerError>
@@ -98,7 +95,7 @@ pub fn element_at(octets: &[u8]) -> Result<(u8, &[u8], &[u8]), BerError>
 #[tactic(auto, unfolding(crate::specs::Canon::length_size))]
 fn digits_size(size: u64) -> usize
     ensures value { result ≡ length_size size }
-    ensures small { result ≤ 4 }
+    ensures at_most_4 { result ≤ 4 }
 {
     if size < 1 << 8 {
         1
@@ -111,12 +108,12 @@ fn digits_size(size: u64) -> usize
     }
 }
 
-/// How many octets a header takes before a content of so many octets.
+/// How many octets a header takes before a content of `size` octets.
 #[inline]
 #[tactic(auto, using(crate::proofs::CanonLemmas::header_lengths))]
 pub fn header_size(size: u64) -> u64
     ensures value { result ≡ 1 + length (canon_length size) }
-    ensures small { result ≤ 6 }
+    ensures at_most_6 { result ≤ 6 }
 {
     if size < 128 {
         2
@@ -125,7 +122,7 @@ pub fn header_size(size: u64) -> u64
     }
 }
 
-/// Writes a header before `end`, for a content of so many octets, and answers where it begins.
+/// Writes a header before `end`, for a content of `size` octets, and returns where it begins.
 #[inline]
 pub fn put_header(out: &mut [u8], end: usize, tag: u8, size: u64) -> usize
     requires room { length (canon_header tag size) ≤ end }
@@ -136,10 +133,11 @@ pub fn put_header(out: &mut [u8], end: usize, tag: u8, size: u64) -> usize
     put_octet(out, start, tag)
 }
 
-/// Writes a header of two octets before `end`, for a content of so many octets, fewer than 128, and answers where it begins.
+/// Writes a header of two octets before `end`, for a content of `size` octets, fewer than 128, and
+/// returns where it begins.
 #[inline]
 pub fn put_short_header(out: &mut [u8], end: usize, tag: u8, size: u64) -> usize
-    requires short { size < 128 }
+    requires below_128 { size < 128 }
     requires room { length (canon_header tag size) ≤ end }
     requires within { end ≤ length out.old }
     ensures { Writes out.old result end (canon_header tag size) out.new }
@@ -148,7 +146,7 @@ pub fn put_short_header(out: &mut [u8], end: usize, tag: u8, size: u64) -> usize
     put_octet(out, start, tag)
 }
 
-/// Writes a length before `end` in the shortest form, and answers where it begins.
+/// Writes a length before `end` in the shortest form, and returns where it begins.
 #[inline]
 #[tactic(auto, using(crate::proofs::CanonLemmas::length_forms))]
 fn put_length(out: &mut [u8], end: usize, size: u64) -> usize

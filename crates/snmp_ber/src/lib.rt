@@ -10,15 +10,14 @@ mod laws;
 mod length;
 mod number;
 mod owned;
+pub mod tag;
 mod value;
 mod writing;
 
 pub use error::BerError;
 pub use identifier::{check_identifier, identifier_size, push_identifier, put_identifier};
 pub use laws::element_sizes;
-pub use length::{
-    SEQUENCE, content_at, element_at, header_size, inner_at, put_header, put_short_header,
-};
+pub use length::{content_at, element_at, header_size, inner_at, put_header, put_short_header};
 pub use number::{integer_at, integer_size, put_integer};
 pub use owned::{OctetString, Value};
 pub use value::{ValueRef, check_value, content_size, put_value, read_value};

@@ -6,9 +6,9 @@ ghost use Rattle.snmp_ber.specs.Reading.{AgreesBy};
 ghost use Rattle.snmp_ber.specs.Canon.{canon_number, magnitude_of, number_size, octets};
 ghost use Rattle.snmp_ber.specs.Writing.{Writes};
 
-use crate::BerError;
 use crate::length::inner_at;
 use crate::writing::{put_octet, put_text};
+use crate::{BerError, tag};
 
 /// The octets as an unsigned number, the most significant first.
 #[inline]
@@ -60,11 +60,12 @@ fn sign_of(octet: u8) -> u8
 pub fn integer_at(octets: &[u8]) -> Result<(i32, &[u8]), BerError>
     ensures { AgreesBy (λ x. (x.0, x.1.now)) result (reading.integer_at octets.now) }
 {
-    let (content, rest) = inner_at(0x02, octets)?;
+    let (content, rest) = inner_at(tag::INTEGER, octets)?;
     Ok((integer_of(content)?, rest))
 }
 
-/// Whether the content of an unsigned number has 1 to `width` octets, or one more of which the first is zero.
+/// Whether the content of an unsigned number has 1 to `width` octets, or one more whose first is
+/// zero.
 #[inline]
 pub(crate) fn has_width(width: usize, content: &[u8]) -> bool
     requires { width ≤ 8 }
@@ -101,7 +102,7 @@ pub(crate) fn unsigned64(content: &[u8]) -> u64
 #[inline]
 fn without_zero(width: usize, content: &[u8]) -> &[u8]
     requires { IsTrue (reading.has_width width content.now) }
-    ensures short { length result.now ≤ width }
+    ensures within_width { length result.now ≤ width }
     ensures same { number.unsigned result.now ≡ number.unsigned content.now }
 {
     if content.len() > width {
@@ -115,7 +116,7 @@ fn without_zero(width: usize, content: &[u8]) -> &[u8]
 #[inline]
 pub(crate) fn unsigned_size(number: u64) -> usize
     ensures value { result ≡ number_size number }
-    ensures small { result ≤ 9 }
+    ensures at_most_9 { result ≤ 9 }
 {
     if number < 128 {
         1
@@ -129,7 +130,7 @@ pub(crate) fn unsigned_size(number: u64) -> usize
 #[inline]
 pub(crate) fn unsigned32_size(number: u32) -> usize
     ensures value { result ≡ number_size number }
-    ensures small { result ≤ 9 }
+    ensures at_most_9 { result ≤ 9 }
 {
     if number < 1 << 23 {
         unsigned_size(u64::from(number))
@@ -145,7 +146,7 @@ pub(crate) fn unsigned32_size(number: u32) -> usize
 #[tactic(auto, using(crate::proofs::CanonLemmas::number_lengths))]
 pub fn integer_size(number: i32) -> usize
     ensures value { result ≡ length (canon_number number) }
-    ensures small { result ≤ 9 }
+    ensures at_most_9 { result ≤ 9 }
 {
     unsigned_size(magnitude(number))
 }
@@ -162,7 +163,7 @@ fn magnitude(number: i32) -> u64
     }
 }
 
-/// Writes a number from 0 before `end`, and answers where it begins.
+/// Writes a number from 0 before `end`, and returns where it begins.
 #[inline]
 pub(crate) fn put_unsigned(out: &mut [u8], end: usize, number: u64) -> usize
     requires room { number_size number ≤ end }
@@ -172,7 +173,7 @@ pub(crate) fn put_unsigned(out: &mut [u8], end: usize, number: u64) -> usize
     put_octets(out, end, unsigned_size(number), number)
 }
 
-/// Writes the four octets of a number before `end`, and answers where they begin.
+/// Writes the four octets of a number before `end`, and returns where they begin.
 #[inline]
 pub(crate) fn put_four(out: &mut [u8], end: usize, number: u32) -> usize
     requires room { 4 ≤ end }
@@ -182,7 +183,7 @@ pub(crate) fn put_four(out: &mut [u8], end: usize, number: u32) -> usize
     put_text(out, end, &number.to_be_bytes())
 }
 
-/// Writes an INTEGER before `end`, and answers where it begins.
+/// Writes an INTEGER before `end`, and returns where it begins.
 #[inline]
 pub fn put_integer(out: &mut [u8], end: usize, number: i32) -> usize
     requires room { length (canon_number number) ≤ end }
@@ -205,7 +206,7 @@ fn sign_extended(number: i32) -> u64
     }
 }
 
-/// Writes the lowest `count` octets of a number before `end`, and answers where they begin.
+/// Writes the lowest `count` octets of a number before `end`, and returns where they begin.
 #[inline]
 pub(crate) fn put_octets(out: &mut [u8], end: usize, count: usize, number: u64) -> usize
     requires room { count ≤ end }
@@ -223,7 +224,8 @@ pub(crate) fn put_octets(out: &mut [u8], end: usize, count: usize, number: u64) 
     }
 }
 
-/// Writes the lowest `count` octets of a number before `end`, however many they are, and answers where they begin.
+/// Writes the lowest `count` octets of a number before `end`, however many they are, and returns
+/// where they begin.
 fn put_many_octets(out: &mut [u8], end: usize, count: usize, number: u64) -> usize
     requires room { count ≤ end }
     requires within { end ≤ length out.old }

@@ -40,7 +40,8 @@ impl OctetString {
     }
 }
 
-/// A value, or an exception in its place (RFC 3416, section 3), that owns its octets: the twin of `ValueRef`.
+/// A value, or an exception in its place (RFC 3416, section 3), that owns its octets: the twin of
+/// `ValueRef`.
 #[derive(Debug, Drop)]
 pub enum Value {
     /// INTEGER.
@@ -72,8 +73,8 @@ pub enum Value {
 }
 
 impl Value {
-    /// The same value, owned. It takes memory for the octets of a string, and can't fail for any other
-    /// value.
+    /// The same value, owned. It takes memory for the octets of a string, and can't fail for any
+    /// other value.
     pub fn from_ref(alloc: Global, value: &ValueRef<'_>) -> Result<Value, AllocError>
         ensures same_value { IfOk result (λ v. owned v ≡ datum value.now) }
         ensures ok_without_string { HasNoString (datum value.now) → IsOk result }

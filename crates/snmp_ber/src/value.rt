@@ -1,13 +1,14 @@
 //! The value of a variable binding.
-ghost use Rattle.std.specs.Prelude.{◌≡◌, true, ℕ, IsOk, IfOk, Ok, ◌+◌, ◌^◌, ◌<◌, ◌≤◌, length, pos, [], ◌++◌};
+ghost use Rattle.std.specs.Prelude.{◌≡◌, true, ℕ, IsOk, IfOk, Ok, ◌+◌, ◌^◌, ◌<◌, ◌≤◌, length, pos};
+ghost use Rattle.std.specs.Prelude.{[], ◌++◌};
 ghost use Rattle.snmp_ber.specs.Value.{datum, integer_value, object_id, octet_string};
 ghost use Rattle.snmp_oid.specs.Identifier.{IsWire};
 ghost use Rattle.snmp_ber.specs.Reading as reading;
 ghost use Rattle.snmp_ber.specs.Reading.{AgreesBy, checked};
-ghost use Rattle.snmp_ber.specs.Canon.{IsEncodableValue, canon_content, canon_element, canon_number, canon_value};
+ghost use Rattle.snmp_ber.specs.Canon.{IsEncodableValue, canon_content, canon_element};
+ghost use Rattle.snmp_ber.specs.Canon.{canon_number, canon_value};
 ghost use Rattle.snmp_ber.specs.Writing.{Writes};
 
-use crate::BerError;
 use crate::error::allowed;
 use crate::identifier::{check_identifier, identifier_of, identifier_size, put_identifier};
 use crate::length::{put_header, put_short_header};
@@ -16,9 +17,11 @@ use crate::number::{
     unsigned32, unsigned32_size, unsigned64,
 };
 use crate::writing::{put_octet, put_text};
+use crate::{BerError, tag};
 use snmp_oid::Oid;
 
-/// A value, or an exception in its place (RFC 3416, section 3). Its strings lie in the datagram that it was read from.
+/// A value, or an exception in its place (RFC 3416, section 3). Its strings lie in the datagram
+/// that it was read from.
 #[derive(Debug, Drop, PartialEq)]
 pub enum ValueRef<'a> {
     /// INTEGER, tag 02.
@@ -45,7 +48,7 @@ pub enum ValueRef<'a> {
     NoSuchObject,
     /// The exception noSuchInstance, tag 81: the object has no such instance.
     NoSuchInstance,
-    /// The exception endOfMibView, tag 82: no instance comes behind the name.
+    /// The exception endOfMibView, tag 82: no instance comes after the name.
     EndOfMibView,
 }
 
@@ -56,13 +59,15 @@ pub fn check_value(tag: u8, content: &[u8]) -> Result<(), BerError>
     ensures { AgreesBy (λ u. u) result (checked (reading.typed_value tag content.now)) }
 {
     match tag {
-        0x02 => allowed(!content.is_empty() && content.len() < 5),
-        0x04 | 0x44 => Ok(()),
-        0x05 | 0x80 | 0x81 | 0x82 => allowed(content.is_empty()),
-        0x06 => check_identifier(content),
-        0x40 => allowed(content.len() == 4),
-        0x41 | 0x42 | 0x43 => allowed(has_width(4, content)),
-        0x46 => allowed(has_width(8, content)),
+        tag::INTEGER => allowed(!content.is_empty() && content.len() < 5),
+        tag::OCTET_STRING | tag::OPAQUE => Ok(()),
+        tag::NULL | tag::NO_SUCH_OBJECT | tag::NO_SUCH_INSTANCE | tag::END_OF_MIB_VIEW => {
+            allowed(content.is_empty())
+        }
+        tag::OBJECT_IDENTIFIER => check_identifier(content),
+        tag::IP_ADDRESS => allowed(content.len() == 4),
+        tag::COUNTER32 | tag::GAUGE32 | tag::TIME_TICKS => allowed(has_width(4, content)),
+        tag::COUNTER64 => allowed(has_width(8, content)),
         _ => Err(BerError::Tag),
     }
 }
@@ -78,7 +83,8 @@ pub fn read_value<'a>(tag: u8, content: &'a [u8], into: &mut ValueRef<'a>)
     }
 }
 
-/// [`read_value`] over a value of whatever type. It stands apart since here all octets of a value are set.
+/// [`read_value`] over a value of whatever type. It stands apart since here all octets of a value
+/// are set.
 #[tactic(auto, unfolding(crate::specs::Reading::typed_value, crate::specs::Reading::unsigned_of))]
 #[inline(never)]
 fn replace_value<'a>(tag: u8, content: &'a [u8], into: &mut ValueRef<'a>)
@@ -86,30 +92,31 @@ fn replace_value<'a>(tag: u8, content: &'a [u8], into: &mut ValueRef<'a>)
     ensures { reading.typed_value tag content.now ≡ Ok (datum into.new) }
 {
     match tag {
-        0x02 => match integer_of(content) {
+        tag::INTEGER => match integer_of(content) {
             Ok(number) => *into = ValueRef::Integer(number),
             Err(_) => unreachable!(),
         },
-        0x04 => *into = ValueRef::Octets(content),
-        0x05 => *into = ValueRef::Null,
-        0x06 => *into = ValueRef::ObjectId(identifier_of(content)),
-        0x40 => match content {
+        tag::OCTET_STRING => *into = ValueRef::Octets(content),
+        tag::NULL => *into = ValueRef::Null,
+        tag::OBJECT_IDENTIFIER => *into = ValueRef::ObjectId(identifier_of(content)),
+        tag::IP_ADDRESS => match content {
             [a, b, c, d] => *into = ValueRef::IpAddress([*a, *b, *c, *d]),
             _ => unreachable!(),
         },
-        0x41 => *into = ValueRef::Counter32(unsigned32(content)),
-        0x42 => *into = ValueRef::Gauge32(unsigned32(content)),
-        0x43 => *into = ValueRef::TimeTicks(unsigned32(content)),
-        0x44 => *into = ValueRef::Opaque(content),
-        0x46 => *into = ValueRef::Counter64(unsigned64(content)),
-        0x80 => *into = ValueRef::NoSuchObject,
-        0x81 => *into = ValueRef::NoSuchInstance,
-        0x82 => *into = ValueRef::EndOfMibView,
+        tag::COUNTER32 => *into = ValueRef::Counter32(unsigned32(content)),
+        tag::GAUGE32 => *into = ValueRef::Gauge32(unsigned32(content)),
+        tag::TIME_TICKS => *into = ValueRef::TimeTicks(unsigned32(content)),
+        tag::OPAQUE => *into = ValueRef::Opaque(content),
+        tag::COUNTER64 => *into = ValueRef::Counter64(unsigned64(content)),
+        tag::NO_SUCH_OBJECT => *into = ValueRef::NoSuchObject,
+        tag::NO_SUCH_INSTANCE => *into = ValueRef::NoSuchInstance,
+        tag::END_OF_MIB_VIEW => *into = ValueRef::EndOfMibView,
         _ => unreachable!(),
     }
 }
 
-/// Changes a value of this type, as the values of a column are, to the one of this content, and answers whether it did. This saves setting over 500 octets.
+/// Changes a value of this type, as the values of a column are, to the one of this content, and
+/// returns whether it did. This saves setting over 500 octets.
 #[tactic(auto, unfolding(crate::specs::Reading::typed_value, crate::specs::Reading::unsigned_of))]
 #[inline(always)]
 fn is_changed<'a>(tag: u8, content: &'a [u8], value: &mut ValueRef<'a>) -> bool
@@ -117,9 +124,9 @@ fn is_changed<'a>(tag: u8, content: &'a [u8], value: &mut ValueRef<'a>) -> bool
     ensures { result ≡ true → reading.typed_value tag content.now ≡ Ok (datum value.new) }
 {
     match value {
-        ValueRef::Null => return tag == 0x05,
+        ValueRef::Null => return tag == tag::NULL,
         ValueRef::Integer(number) => {
-            if tag == 0x02 {
+            if tag == tag::INTEGER {
                 match integer_of(content) {
                     Ok(read) => *number = read,
                     Err(_) => unreachable!(),
@@ -128,31 +135,31 @@ fn is_changed<'a>(tag: u8, content: &'a [u8], value: &mut ValueRef<'a>) -> bool
             }
         }
         ValueRef::Octets(text) => {
-            if tag == 0x04 {
+            if tag == tag::OCTET_STRING {
                 *text = content;
                 return true;
             }
         }
         ValueRef::Counter32(number) => {
-            if tag == 0x41 {
+            if tag == tag::COUNTER32 {
                 *number = unsigned32(content);
                 return true;
             }
         }
         ValueRef::Gauge32(number) => {
-            if tag == 0x42 {
+            if tag == tag::GAUGE32 {
                 *number = unsigned32(content);
                 return true;
             }
         }
         ValueRef::TimeTicks(number) => {
-            if tag == 0x43 {
+            if tag == tag::TIME_TICKS {
                 *number = unsigned32(content);
                 return true;
             }
         }
         ValueRef::Counter64(number) => {
-            if tag == 0x46 {
+            if tag == tag::COUNTER64 {
                 *number = unsigned64(content);
                 return true;
             }
@@ -168,7 +175,7 @@ fn is_changed<'a>(tag: u8, content: &'a [u8], value: &mut ValueRef<'a>) -> bool
 pub fn content_size(value: &ValueRef<'_>) -> u64
     requires { IsEncodableValue (datum value.now) }
     ensures value { result ≡ length (canon_content (datum value.now)) }
-    ensures small { result ≤ 65535 }
+    ensures at_most_65535 { result ≤ 65535 }
 {
     match value {
         ValueRef::Integer(number) => integer_size(*number) as u64,
@@ -186,12 +193,13 @@ pub fn content_size(value: &ValueRef<'_>) -> u64
     }
 }
 
-/// How many octets the content of an identifier takes. Few values are identifiers, so this stays out of the others' way.
+/// How many octets the content of an identifier takes. Few values are identifiers, so this stays
+/// out of the others' way.
 #[inline(never)]
 fn object_id_size(name: &Oid) -> u64
     requires { IsWire name.now }
     ensures value { result ≡ length (canon_content (object_id name.now)) }
-    ensures small { result ≤ 640 }
+    ensures at_most_640 { result ≤ 640 }
 {
     identifier_size(name)
 }
@@ -200,12 +208,13 @@ fn object_id_size(name: &Oid) -> u64
 #[inline]
 fn address_size(address: [u8; 4]) -> u64
     ensures value { result ≡ length address }
-    ensures small { result ≤ 4 }
+    ensures at_most_4 { result ≤ 4 }
 {
     address.len() as u64
 }
 
-/// Writes a value before `end`, its tag (RFC 3416, section 3) with its content, and answers where it begins.
+/// Writes a value before `end`, its tag (RFC 3416, section 3) with its content, and returns where
+/// it begins.
 #[inline]
 #[tactic(auto, using(crate::proofs::ValueWriting::arms), unfolding(crate::specs::Canon::canon_value, crate::specs::Canon::canon_content))]
 pub fn put_value(out: &mut [u8], end: usize, value: &ValueRef<'_>) -> usize
@@ -216,22 +225,22 @@ pub fn put_value(out: &mut [u8], end: usize, value: &ValueRef<'_>) -> usize
 {
     match value {
         ValueRef::Integer(number) => put_integer_value(out, end, *number),
-        ValueRef::Octets(text) => put_string(out, end, 0x04, text),
-        ValueRef::Null => put_empty(out, end, 0x05),
+        ValueRef::Octets(text) => put_string(out, end, tag::OCTET_STRING, text),
+        ValueRef::Null => put_empty(out, end, tag::NULL),
         ValueRef::ObjectId(name) => put_object_id(out, end, name),
-        ValueRef::IpAddress(address) => put_string(out, end, 0x40, address),
-        ValueRef::Counter32(number) => put_number(out, end, 0x41, *number),
-        ValueRef::Gauge32(number) => put_number(out, end, 0x42, *number),
-        ValueRef::TimeTicks(number) => put_number(out, end, 0x43, *number),
-        ValueRef::Opaque(text) => put_string(out, end, 0x44, text),
-        ValueRef::Counter64(number) => put_long_number(out, end, 0x46, *number),
-        ValueRef::NoSuchObject => put_empty(out, end, 0x80),
-        ValueRef::NoSuchInstance => put_empty(out, end, 0x81),
-        ValueRef::EndOfMibView => put_empty(out, end, 0x82),
+        ValueRef::IpAddress(address) => put_string(out, end, tag::IP_ADDRESS, address),
+        ValueRef::Counter32(number) => put_number(out, end, tag::COUNTER32, *number),
+        ValueRef::Gauge32(number) => put_number(out, end, tag::GAUGE32, *number),
+        ValueRef::TimeTicks(number) => put_number(out, end, tag::TIME_TICKS, *number),
+        ValueRef::Opaque(text) => put_string(out, end, tag::OPAQUE, text),
+        ValueRef::Counter64(number) => put_long_number(out, end, tag::COUNTER64, *number),
+        ValueRef::NoSuchObject => put_empty(out, end, tag::NO_SUCH_OBJECT),
+        ValueRef::NoSuchInstance => put_empty(out, end, tag::NO_SUCH_INSTANCE),
+        ValueRef::EndOfMibView => put_empty(out, end, tag::END_OF_MIB_VIEW),
     }
 }
 
-/// Writes an element of no content before `end`, and answers where it begins.
+/// Writes an element of no content before `end`, and returns where it begins.
 #[inline]
 fn put_empty(out: &mut [u8], end: usize, tag: u8) -> usize
     requires room { length (canon_element tag []) ≤ end }
@@ -241,7 +250,7 @@ fn put_empty(out: &mut [u8], end: usize, tag: u8) -> usize
     put_short_header(out, end, tag, 0)
 }
 
-/// Writes a number of 32 bits before `end`, as an element of this tag, and answers where it begins.
+/// Writes a number of 32 bits before `end`, as an element of this tag, and returns where it begins.
 #[inline]
 fn put_number(out: &mut [u8], end: usize, tag: u8, number: u32) -> usize
     requires room { length (canon_element tag (canon_number (pos number))) ≤ end }
@@ -262,7 +271,7 @@ fn put_number(out: &mut [u8], end: usize, tag: u8, number: u32) -> usize
     }
 }
 
-/// Writes a number of 64 bits before `end`, as an element of this tag, and answers where it begins.
+/// Writes a number of 64 bits before `end`, as an element of this tag, and returns where it begins.
 #[inline(never)]
 fn put_long_number(out: &mut [u8], end: usize, tag: u8, number: u64) -> usize
     requires room { length (canon_element tag (canon_number (pos number))) ≤ end }
@@ -273,7 +282,7 @@ fn put_long_number(out: &mut [u8], end: usize, tag: u8, number: u64) -> usize
     put_short_header(out, start, tag, (end - start) as u64)
 }
 
-/// Writes an INTEGER before `end`, and answers where it begins.
+/// Writes an INTEGER before `end`, and returns where it begins.
 #[inline]
 fn put_integer_value(out: &mut [u8], end: usize, number: i32) -> usize
     requires room { length (canon_element 2 (canon_number number)) ≤ end }
@@ -281,10 +290,10 @@ fn put_integer_value(out: &mut [u8], end: usize, number: i32) -> usize
     ensures { Writes out.old result end (canon_element 2 (canon_number number)) out.new }
 {
     let start = put_integer(out, end, number);
-    put_short_header(out, start, 0x02, (end - start) as u64)
+    put_short_header(out, start, tag::INTEGER, (end - start) as u64)
 }
 
-/// Writes a text before `end`, as an element of this tag, and answers where it begins.
+/// Writes a text before `end`, as an element of this tag, and returns where it begins.
 #[inline(never)]
 fn put_string(out: &mut [u8], end: usize, tag: u8, text: &[u8]) -> usize
     requires room { length (canon_element tag text.now) ≤ end }
@@ -295,7 +304,8 @@ fn put_string(out: &mut [u8], end: usize, tag: u8, text: &[u8]) -> usize
     put_header(out, start, tag, (end - start) as u64)
 }
 
-/// Writes an OBJECT IDENTIFIER before `end`, and answers where it begins. Few values are identifiers, so this stays out of the others' way.
+/// Writes an OBJECT IDENTIFIER before `end`, and returns where it begins. Few values are
+/// identifiers, so this stays out of the others' way.
 #[inline(never)]
 fn put_object_id(out: &mut [u8], end: usize, name: &Oid) -> usize
     requires encodable { IsWire name.now }
@@ -304,5 +314,5 @@ fn put_object_id(out: &mut [u8], end: usize, name: &Oid) -> usize
     ensures { Writes out.old result end (canon_element 6 (canon_content (object_id name.now))) out.new }
 {
     let start = put_identifier(out, end, name);
-    put_header(out, start, 0x06, (end - start) as u64)
+    put_header(out, start, tag::OBJECT_IDENTIFIER, (end - start) as u64)
 }

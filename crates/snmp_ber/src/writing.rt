@@ -1,8 +1,9 @@
-//! Pieces of a message as they are written: from its end to its front, so that each length is known when it is written.
+//! Pieces of a message as they are written: from its end to its front, so that each length is known
+//! when it is written.
 ghost use Rattle.std.specs.Prelude.{◌≡◌, ℕ, ◌+◌, ◌<◌, ◌≤◌, [], ◌∷◌, length};
 ghost use Rattle.snmp_ber.specs.Writing.{Writes};
 
-/// Writes an octet before `end`, and answers where it stands.
+/// Writes an octet before `end`, and returns where it stands.
 #[inline]
 #[tactic(auto, using(crate::proofs::WritingLemmas::writes_one))]
 pub(crate) fn put_octet(out: &mut [u8], end: usize, octet: u8) -> usize
@@ -14,7 +15,7 @@ pub(crate) fn put_octet(out: &mut [u8], end: usize, octet: u8) -> usize
     end - 1
 }
 
-/// Writes a text before `end`, and answers where it begins.
+/// Writes a text before `end`, and returns where it begins.
 #[inline]
 #[tactic(auto, using(crate::proofs::WritingLemmas::writes_copy))]
 pub fn put_text(out: &mut [u8], end: usize, text: &[u8]) -> usize

@@ -4,7 +4,7 @@ use Rattle.std.proofs.Math.Nat.{pow-suc, one-le-pow, mul-le-mul_right}
 use Rattle.std.proofs.lemmas.List.{append-nil, drop_at, append_assoc}
 use Rattle.std.proofs.lemmas.List.Elements.{All-drop, All-head, All-tail}
 use Rattle.snmp_oid.specs.Identifier.{Precedes, IsIdentifier, rank_in, rank}
-use Rattle.snmp_oid.proofs.IdentifierLemmas.{precedes_behind, parts_at_once, three_ways}
+use Rattle.snmp_oid.proofs.IdentifierLemmas.{three_ways}
 
 -- one more digit
 power_step : (digits : ℕ) → 0 < digits → 4294967297 ^ digits ≡ 4294967297 ^ (digits - 1) * 4294967297

@@ -1,6 +1,7 @@
 -- Identifiers as text: decimal numbers with a dot before or between them, as in `.1.3.6.1`.
 use Rattle.std.specs.Prelude.{◌≡◌, ◌≢◌, ℕ, ◌+◌, ◌-◌, ◌*◌, ◌^◌, ◌<◌, ◌≤◌, ◌⊎◌, ◌==◌, not}
-use Rattle.std.specs.Prelude.{List, [], ◌∷◌, ◌++◌, length, take_while, drop, slice_index, decimal, true}
+use Rattle.std.specs.Prelude.{List, [], ◌∷◌, ◌++◌, length, take_while, drop, slice_index, decimal}
+use Rattle.std.specs.Prelude.{true}
 use Rattle.std.specs.List.{flat_map}
 use Rattle.std.specs.Str.{all_ascii_digits}
 
@@ -28,7 +29,8 @@ IsDotted text (n ∷ m ∷ more) =
     (first : List ℕ) × (rest : List ℕ) × (text ≡ first ++ dot ∷ rest)
     × IsNumeral first n × IsDotted rest (m ∷ more)
 
--- the text names the identifier: a dot alone the empty one, else dotted numerals, after a dot or not
+-- the text names the identifier: a dot alone the empty one, else dotted numerals, after a dot or
+-- not
 abbrev pub IsNumericName : List ℕ → List ℕ → Type 0
 IsNumericName text o =
     ((text ≡ dot ∷ []) × (o ≡ []))

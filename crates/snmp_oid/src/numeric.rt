@@ -14,8 +14,8 @@ use thiserror::Error;
 /// Why a text names no identifier.
 #[derive(Clone, Copy, Debug, PartialEq, Eq, Error)]
 pub enum OidTextError {
-    /// A part is empty, has another octet than a digit or is above 4294967295. The place, from 0, is
-    /// that of the first octet of the first such part.
+    /// A part is empty, has another octet than a digit or is above 4294967295. The place, from 0,
+    /// is that of the first octet of the first such part.
     #[error("no number at octet {0}")]
     BadNumber(usize),
     /// Each part is a number, and there are more than 128.
@@ -31,9 +31,7 @@ pub fn parse_numeric(text: &[u8]) -> Result<Oid, OidTextError>
     ensures found { IfOk result (IsNumericName text.now) }
     ensures at_most_128 { IfOk result (λ o. length o ≤ 128) }
     ensures only { (o : List ℕ) → IsNumericName text.now o → length o ≤ 128 → result ≡ Ok o }
-    ensures bad_number {
-        (at : ℕ) → (result ≡ Err (OidTextError.BadNumber at)) ↔ IsFirstBadPart text.now at
-    }
+    ensures bad_number { (at : ℕ) → (result ≡ Err (OidTextError.BadNumber at)) ↔ IsFirstBadPart text.now at }
     ensures too_long { (result ≡ Err OidTextError.TooLong) ↔ IsTooLong text.now }
 {
     let mut oid = Oid::new();
@@ -68,9 +66,7 @@ fn is_dot(text: &[u8]) -> bool
 
 /// The text without the dot in front, where one stands there.
 fn without_front_dot(text: &[u8]) -> &[u8]
-    ensures {
-        ((result.now ≡ text.now) × (slice_index text.now 0 ≢ dot)) ⊎ (text.now ≡ dot ∷ result.now)
-    }
+    ensures { ((result.now ≡ text.now) × (slice_index text.now 0 ≢ dot)) ⊎ (text.now ≡ dot ∷ result.now) }
 {
     match text {
         [b'.', rest @ ..] => rest,
@@ -81,11 +77,9 @@ fn without_front_dot(text: &[u8]) -> &[u8]
 /// The first part of a text, and what follows the dot that ends it, None where none does.
 fn split_part(text: &[u8]) -> (&[u8], Option<&[u8]>)
     ensures part { All (λ octet. octet ≢ dot) result.0.now }
-    ensures parts {
-        MatchOption result.1
-            (text.now ≡ result.0.now)
-            (λ rest. text.now ≡ result.0.now ++ dot ∷ rest.now)
-    }
+    ensures parts { MatchOption result.1
+        (text.now ≡ result.0.now)
+        (λ rest. text.now ≡ result.0.now ++ dot ∷ rest.now) }
 {
     match text.iter().position(|octet| *octet == b'.') {
         Some(end) => (&text[..end], Some(&text[end + 1..])),
@@ -116,8 +110,8 @@ fn read_number(part: &[u8]) -> Option<u32>
 /// The length in octets of the longest numeric text: a dot and ten digits for each of 128 numbers.
 pub const LONGEST_TEXT: usize = 1408;
 
-/// Writes the numeric text of an identifier to the front of `out`, a dot before each number or a dot
-/// alone for none, and returns its length in octets, at most 1408.
+/// Writes the numeric text of an identifier to the front of `out`, a dot before each number or a
+/// dot alone for none, and returns its length in octets, at most 1408.
 ///
 /// None only where `out` is shorter, and then it is unchanged.
 pub fn write_numeric(oid: &Oid, out: &mut [u8]) -> Option<usize>
@@ -140,9 +134,7 @@ pub fn write_numeric(oid: &Oid, out: &mut [u8]) -> Option<usize>
 #[inline]
 pub fn names()
     ensures written_is_named { (o : List ℕ) → IsIdentifier o → IsNumericName (numeric_text o) o }
-    ensures at_most_one {
-        (text o p : List ℕ) → IsNumericName text o → IsNumericName text p → o ≡ p
-    }
+    ensures at_most_one { (text o p : List ℕ) → IsNumericName text o → IsNumericName text p → o ≡ p }
 {}
 
 /// The numeric text of an identifier.

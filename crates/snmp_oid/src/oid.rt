@@ -6,7 +6,8 @@ ghost use Rattle.std.specs.Ordering.{nat_cmp};
 ghost use Rattle.std.specs.Hash as fed;
 ghost use Rattle.std.specs.Cmp.{partial_equiv_from_equiv};
 ghost use Rattle.std.specs.Cmp.Lexicographic.{pointwise, slice_cmp};
-ghost use Rattle.std.specs.Cmp.Lexicographic.{nat_list_eq_equiv, nat_list_cmp_total, texts_ties, texts_po};
+ghost use Rattle.std.specs.Cmp.Lexicographic.{nat_list_eq_equiv, nat_list_cmp_total, texts_ties};
+ghost use Rattle.std.specs.Cmp.Lexicographic.{texts_po};
 ghost use Rattle.std.specs.Cmp.Rules.{hashing};
 ghost use Rattle.std.specs.Bool.{nat_eq};
 ghost use Rattle.std.specs.declared.cmp.Ordering.{Ordering};
@@ -120,7 +121,8 @@ impl Oid {
         self.numbers.push(number);
     }
 
-    /// Appends numbers. `TooLong`, with the identifier unchanged, where there would be more than 128.
+    /// Appends numbers. `TooLong`, with the identifier unchanged, where there would be more than
+    /// 128.
     #[inline]
     pub fn extend_from_slice(&mut self, numbers: &[u32]) -> Result<(), OidError>
         ensures ok { OnOk result (self.new ≡ self.old ++ numbers.now) }
@@ -218,9 +220,9 @@ impl Oid {
     }
 }
 
-/// `<`, `==` and `cmp` of identifiers are the standard's order: a proper beginning comes first, else
-/// the identifier with the smaller number at the first difference (RFC 3416, section 4.2.2). They are
-/// equal where they have the same numbers.
+/// `<`, `==` and `cmp` of identifiers are the standard's order: a proper beginning comes first,
+/// else the identifier with the smaller number at the first difference (RFC 3416, section 4.2.2).
+/// They are equal where they have the same numbers.
 ///
 /// A law: the call does nothing, and its caller knows what it states.
 #[inline]

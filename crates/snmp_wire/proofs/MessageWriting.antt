@@ -161,5 +161,5 @@ longer_head m n k h =
     let pdu : length (canon_header (kind_tag m.kind) (pdu_size m n)) ≤ length (canon_header (kind_tag m.kind) (pdu_size m k)) = longer_header (kind_tag m.kind) (pdu_size m n) (pdu_size m k) (omega arith) in
     let front : length (canon_front m n) ≤ length (canon_front m k) = omega (arith, length-canon_front m n, length-canon_front m k) in
     let whole : length (canon_header sequence_tag (length (canon_front m n) + n)) ≤ length (canon_header sequence_tag (length (canon_front m k) + k)) =
-        longer_header sequence_tag (length (canon_front m n) + n) (length (canon_front m k) + k) (omega arith) in
+    longer_header sequence_tag (length (canon_front m n) + n) (length (canon_front m k) + k) (omega arith) in
     omega (arith, length-canon_head m n, length-canon_head m k)

@@ -1,11 +1,11 @@
 -- A message has one shortest encoding: the one that is written.
-use Rattle.std.proofs.Common.{◌≡◌, ℕ, ◌+◌, ◌^◌, ◌<◌, ◌≤◌, List, [], ◌∷◌, ◌++◌, length, take, refl, sym, ap, subst, ◌∙◌, arith, length-append}
+use Rattle.std.proofs.Common.{◌≡◌, ℕ, ◌^◌, ◌<◌, ◌≤◌, List, [], ◌∷◌, ◌++◌, length, take, refl, sym, ap, subst, ◌∙◌, arith, length-append}
 use Rattle.std.proofs.lemmas.List.Elements.{recursion_from_All}
 use Rattle.std.proofs.Math.Seq.{take-append_seam}
 use Rattle.std.specs.List.{AllByRecursion}
-use Rattle.snmp_ber.specs.Canon.{canon_element, canon_value}
+use Rattle.snmp_ber.specs.Canon.{canon_value}
 use Rattle.snmp_ber.specs.Number.{strict}
-use Rattle.snmp_ber.specs.Spelling.{SpellsValue, sequence_tag}
+use Rattle.snmp_ber.specs.Spelling.{sequence_tag}
 use Rattle.snmp_ber.specs.Value.{integer_value, octet_string, object_id}
 use Rattle.snmp_wire.specs.Canon.{canon, canon_binding, canon_bindings, canon_fields, canon_opening}
 use Rattle.snmp_wire.specs.Message.{VarBind, Message}
@@ -15,7 +15,6 @@ use Rattle.snmp_wire.specs.Spelling.{SpellsBinding, SpellsBindings, SpellsPdu, S
 use Rattle.snmp_ber.proofs.OneShortest.{element_same, element_size, parts_same, value_same}
 use Rattle.snmp_ber.proofs.ShortestValues.{Octets, back_octets, content_octets, element_shortest, front_octets, value_shortest}
 use Rattle.snmp_ber.proofs.StrictValues.{value_short}
-use Rattle.snmp_wire.proofs.MessageWriting.{length-canon_fields, length-canon_opening}
 use Rattle.snmp_wire.proofs.Shortest.{binding_shortest, bindings_shortest, no_shorter, pdu_shortest}
 use Rattle.snmp_wire.proofs.StrictMessages.{length-content, length-fields, list_of, pdu_of, strict_canon}
 
@@ -52,9 +51,9 @@ bindings_same (binding ∷ more) text range h (first, rest, parts, this, others)
     let all : Octets (first ++ rest) = subst Octets parts h in
     parts
     ∙ two_same first rest (canon_binding binding) (canon_bindings more) (binding_shortest binding first (front_octets first rest all) this) (bindings_shortest more rest (back_octets first rest all) others)
-        (subst (λ (octets : List ℕ). length octets ≤ length (canon_binding binding ++ canon_bindings more)) parts short)
-        (λ few. binding_same binding first range.0 (front_octets first rest all) this few)
-        (λ few. bindings_same more rest range.1 (back_octets first rest all) others few)
+    (subst (λ (octets : List ℕ). length octets ≤ length (canon_binding binding ++ canon_bindings more)) parts short)
+    (λ few. binding_same binding first range.0 (front_octets first rest all) this few)
+    (λ few. bindings_same more rest range.1 (back_octets first rest all) others few)
 
 -- ---- messages
 
@@ -85,13 +84,13 @@ pdu_same message text range h is short =
     let a_least : length a ≤ length is.a = value_shortest (integer_value message.a) is.a at_a is.is_a in
     let b_least : length b ≤ length is.b = value_shortest (integer_value message.b) is.b bs is.is_b in
     let list_least : length (list_of message) ≤ length is.list = element_shortest sequence_tag is.bindings (canon_bindings message.bindings) is.list list is.is_list
-        (bindings_shortest message.bindings is.bindings (content_octets sequence_tag is.bindings is.list list is.is_list) is.are_bindings) in
+    (bindings_shortest message.bindings is.bindings (content_octets sequence_tag is.bindings is.list list is.is_list) is.are_bindings) in
     let two_least : length (id ++ a) ≤ length (is.id ++ is.a) = omega (arith, length-append id a, length-append is.id is.a, id_least, a_least) in
     let three_least : length (id ++ a ++ b) ≤ length (is.id ++ is.a ++ is.b) = omega (arith, length-append (id ++ a) b, length-append (is.id ++ is.a) is.b, two_least, b_least) in
     let least : length (canon_fields message ++ list_of message) ≤ length (is.id ++ is.a ++ is.b ++ is.list) =
-        omega (arith, length-append (id ++ a ++ b) (list_of message), length-append (is.id ++ is.a ++ is.b) is.list, three_least, list_least) in
+    omega (arith, length-append (id ++ a ++ b) (list_of message), length-append (is.id ++ is.a ++ is.b) is.list, three_least, list_least) in
     let size : length (is.id ++ is.a ++ is.b ++ is.list) ≡ length (canon_fields message ++ list_of message) =
-        element_size (kind_tag message.kind) (is.id ++ is.a ++ is.b ++ is.list) (canon_fields message ++ list_of message) text h is.element least short in
+    element_size (kind_tag message.kind) (is.id ++ is.a ++ is.b ++ is.list) (canon_fields message ++ list_of message) text h is.element least short in
     element_same (kind_tag message.kind) (is.id ++ is.a ++ is.b ++ is.list) (canon_fields message ++ list_of message) text (omega (arith, length-fields message range)) h is.element short
     (two_same (is.id ++ is.a ++ is.b) is.list (id ++ a ++ b) (list_of message) three_least list_least (omega (arith, size))
     (λ three. two_same (is.id ++ is.a) is.b (id ++ a) b two_least b_least three
@@ -117,9 +116,9 @@ message_same message text range is short =
     let pdu_least : length (pdu_of message) ≤ length is.pdu = pdu_shortest message is.pdu pdus is.is_pdu in
     let two_least : length (version ++ community) ≤ length (is.version ++ is.community) = omega (arith, length-append version community, length-append is.version is.community, version_least, community_least) in
     let least : length (canon_opening message ++ pdu_of message) ≤ length (is.version ++ is.community ++ is.pdu) =
-        omega (arith, length-append (version ++ community) (pdu_of message), length-append (is.version ++ is.community) is.pdu, two_least, pdu_least) in
+    omega (arith, length-append (version ++ community) (pdu_of message), length-append (is.version ++ is.community) is.pdu, two_least, pdu_least) in
     let size : length (is.version ++ is.community ++ is.pdu) ≡ length (canon_opening message ++ pdu_of message) =
-        element_size sequence_tag (is.version ++ is.community ++ is.pdu) (canon_opening message ++ pdu_of message) text h is.element least short in
+    element_size sequence_tag (is.version ++ is.community ++ is.pdu) (canon_opening message ++ pdu_of message) text h is.element least short in
     element_same sequence_tag (is.version ++ is.community ++ is.pdu) (canon_opening message ++ pdu_of message) text (omega (arith, length-content message range)) h is.element short
     (two_same (is.version ++ is.community) is.pdu (version ++ community) (pdu_of message) two_least pdu_least (omega (arith, size))
     (λ two. two_same is.version is.community version community version_least community_least two

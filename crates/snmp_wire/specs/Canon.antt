@@ -1,44 +1,59 @@
--- The shortest encoding: each length in the shortest form, each whole number in the fewest octets (X.690, 8.1.3, 8.3 and 8.19; RFC 3417, section 8).
-use Rattle.std.specs.Prelude.{ℕ, ℤ, pos, negsuc, ◌+◌, ◌-◌, ◌*◌, ◌/◌, ◌%◌, ◌^◌, ◌<◌, ◌≤◌, suc, zero, List, [], ◌∷◌, ◌++◌, length, get_or, nat_lt, if◌then◌else◌}
+-- The shortest encoding: each length in the shortest form, each whole number in the fewest octets
+-- (X.690, 8.1.3, 8.3 and 8.19; RFC 3417, section 8).
+use Rattle.std.specs.Prelude.{ℕ, ◌+◌}
+use Rattle.std.specs.Prelude.{List, ◌++◌, length}
 use Rattle.std.specs.List.{flat_map}
 use Rattle.snmp_oid.specs.Identifier.{IsWire}
 use Rattle.snmp_ber.specs.Value.{integer_value, octet_string, object_id}
 use Rattle.snmp_wire.specs.Message.{VarBind, Message}
 use Rattle.snmp_ber.specs.Spelling.{sequence_tag}
 use Rattle.snmp_wire.specs.Spelling.{kind_tag}
-unfoldable pub use Rattle.snmp_ber.specs.Canon.{canon_content, canon_element, canon_header, canon_length, canon_number, canon_subidentifier, canon_value, length_size, number_size, octets, septets, subidentifier_size}
+unfoldable pub use Rattle.snmp_ber.specs.Canon.{canon_content, canon_element, canon_header}
+unfoldable pub use Rattle.snmp_ber.specs.Canon.{canon_length, canon_number, canon_subidentifier}
+unfoldable pub use Rattle.snmp_ber.specs.Canon.{canon_value, length_size, number_size, octets}
+unfoldable pub use Rattle.snmp_ber.specs.Canon.{septets, subidentifier_size}
 pub use Rattle.snmp_ber.specs.Canon.{IsEncodableValue, digit_count, magnitude_of}
 
 unfoldable pub canon_binding : VarBind → List ℕ
-canon_binding binding = canon_element sequence_tag (canon_value (object_id binding.name) ++ canon_value binding.value)
+canon_binding binding =
+    canon_element sequence_tag (canon_value (object_id binding.name) ++ canon_value binding.value)
 
 unfoldable pub canon_bindings : List VarBind → List ℕ
 canon_bindings bindings = flat_map canon_binding bindings
 
 -- what stands before the PDU
 unfoldable pub canon_opening : Message → List ℕ
-canon_opening message = canon_value (integer_value message.version) ++ canon_value (octet_string message.community)
+canon_opening message =
+    canon_value (integer_value message.version) ++ canon_value (octet_string message.community)
 
 -- what stands in the PDU before the list of bindings
 unfoldable pub canon_fields : Message → List ℕ
-canon_fields message = canon_value (integer_value message.id) ++ canon_value (integer_value message.a) ++ canon_value (integer_value message.b)
+canon_fields message =
+    canon_value (integer_value message.id) ++ canon_value (integer_value message.a)
+    ++ canon_value (integer_value message.b)
 
 -- the shortest encoding of a message
 unfoldable pub canon : Message → List ℕ
 canon message =
     canon_element sequence_tag (canon_opening message
-    ++ canon_element (kind_tag message.kind) (canon_fields message ++ canon_element sequence_tag (canon_bindings message.bindings)))
+    ++ canon_element (kind_tag message.kind)
+    (canon_fields message ++ canon_element sequence_tag (canon_bindings message.bindings)))
 
--- what stands between the first length of a message and its bindings, where these have so many octets together
+-- what stands between the first length of a message and its bindings, where these take `total`
+-- octets together
 unfoldable pub canon_front : Message → ℕ → List ℕ
 canon_front message total =
     canon_opening message
-    ++ (canon_header (kind_tag message.kind) (length (canon_fields message) + length (canon_header sequence_tag total) + total)
+    ++ (canon_header (kind_tag message.kind)
+    (length (canon_fields message) + length (canon_header sequence_tag total) + total)
     ++ (canon_fields message ++ canon_header sequence_tag total))
 
--- the shortest encoding of a message up to its first binding, where these have so many octets together
+-- the shortest encoding of a message up to its first binding, where these take `total` octets
+-- together
 unfoldable pub canon_head : Message → ℕ → List ℕ
-canon_head message total = canon_header sequence_tag (length (canon_front message total) + total) ++ canon_front message total
+canon_head message total =
+    canon_header sequence_tag (length (canon_front message total) + total)
+    ++ canon_front message total
 
 pub record IsEncodable (binding : VarBind) : Type 0 where
   pub name : IsWire binding.name

@@ -1,4 +1,4 @@
--- Why octets spell no message: what each fault says of them.
+-- Why octets encode no message: what each fault says of them.
 use Rattle.std.specs.Prelude.{◌≡◌, ◌≢◌, ℕ, ◌≤◌, ◌⊎◌, List, [], ◌∷◌, ◌++◌, Option, Some, None}
 use Rattle.snmp_ber.specs.declared.error.BerError.{BerError}
 use Rattle.snmp_ber.specs.declared.error.BerError.TheVariants as error
@@ -15,7 +15,8 @@ pub record BeginsWith (tag : ℕ) (content octets rest : List ℕ) : Type 0 wher
   pub is_element : IsElement tag content element
   pub parts : octets ≡ element ++ rest
 
--- the octets end before their first element does: with those that are missing they would be an element
+-- the octets end before their first element does: with those that are missing they would be an
+-- element
 pub record EndsEarly (octets : List ℕ) : Type 0 where
   pub missing : List ℕ
   pub some : missing ≢ []
@@ -101,13 +102,19 @@ Calls at_binding here = here ≢ []
 Calls at_name here = Unit {0}
 Calls at_value here = Unit {0}
 
--- an element of the place must stand at the front of `here`, which is what is left of the element round it
+-- an element of the place must stand at the front of `here`, which is what is left of the element
+-- round it
 pub data Expects (octets : List ℕ) : Place → List ℕ → Type 0 where
   starts : Expects octets at_message octets
-  inside : (place next : Place) (here : List ℕ) (tag : ℕ) (content rest : List ℕ) → Expects octets place here → AllowsTag place tag → BeginsWith tag content here rest → first_inside place ≡ Some next → Calls next content → Expects octets next content
-  behind : (place next : Place) (here : List ℕ) (tag : ℕ) (content rest : List ℕ) → Expects octets place here → AllowsTag place tag → BeginsWith tag content here rest → next_behind place ≡ Some next → Calls next rest → Expects octets next rest
+  inside : (place next : Place) (here : List ℕ) (tag : ℕ) (content rest : List ℕ)
+      → Expects octets place here → AllowsTag place tag → BeginsWith tag content here rest
+      → first_inside place ≡ Some next → Calls next content → Expects octets next content
+  behind : (place next : Place) (here : List ℕ) (tag : ℕ) (content rest : List ℕ)
+      → Expects octets place here → AllowsTag place tag → BeginsWith tag content here rest
+      → next_behind place ≡ Some next → Calls next rest → Expects octets next rest
 
--- a length of no allowed form, or an inner element that is missing from the one round it or reaches past it
+-- a length of no allowed form, or an inner element that is missing from the one round it or reaches
+-- past it
 pub record HasBadLength (octets : List ℕ) : Type 0 where
   pub place : Place
   pub here : List ℕ

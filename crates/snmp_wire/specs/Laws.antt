@@ -6,12 +6,13 @@ use Rattle.snmp_wire.specs.Range.{IsMessageInRange}
 use Rattle.snmp_wire.specs.Shortest.{IsShortestEncoding}
 use Rattle.snmp_wire.specs.Spelling.{Spells, Strict}
 
--- octets spell one message at most, and no encoding is the front of another
+-- octets encode one message at most, and no encoding is the front of another
 abbrev pub OneMessage : Type 0
 OneMessage =
-    (m n : Message) (b c rest more : List ℕ) → Spells m b → Spells n c → b ++ rest ≡ c ++ more → (m ≡ n) × (b ≡ c)
+    (m n : Message) (b c rest more : List ℕ)
+    → Spells m b → Spells n c → b ++ rest ≡ c ++ more → (m ≡ n) × (b ≡ c)
 
--- what is spelt by the standard is read
+-- what encodes a message by the standard is read
 abbrev pub StrictIsRead : Type 0
 StrictIsRead = (m : Message) (octets : List ℕ) → Strict m octets → Spells m octets
 
@@ -21,14 +22,18 @@ EncodingIsStrict = (m : Message) → IsMessageInRange m → Strict m (canon m)
 
 -- and none by the standard is shorter
 abbrev pub EncodingIsShortest : Type 0
-EncodingIsShortest = (m : Message) (octets : List ℕ) → Strict m octets → length (canon m) ≤ length octets
+EncodingIsShortest =
+    (m : Message) (octets : List ℕ) → Strict m octets → length (canon m) ≤ length octets
 
 -- it is the head of the message, and then its bindings in turn
 abbrev pub HasPieces : Type 0
-HasPieces = (m : Message) → canon m ≡ canon_head m (length (canon_bindings m.bindings)) ++ canon_bindings m.bindings
+HasPieces =
+    (m : Message)
+    → canon m ≡ canon_head m (length (canon_bindings m.bindings)) ++ canon_bindings m.bindings
 
 -- a message in range has just one shortest encoding, and it is the one that is written
 pub record OneShortestEncoding : Type 0 where
   pub written : (m : Message) → IsMessageInRange m → IsShortestEncoding (canon m) m
   pub one : (m : Message) (octets other : List ℕ)
-      → IsMessageInRange m → IsShortestEncoding octets m → IsShortestEncoding other m → octets ≡ other
+      → IsMessageInRange m → IsShortestEncoding octets m → IsShortestEncoding other m
+      → octets ≡ other

@@ -1,17 +1,20 @@
--- Values, variable bindings and messages as the standard has them (RFC 3416, section 3; RFC 1901, section 3), without where they lie in memory.
+-- Values, variable bindings and messages as the standard has them (RFC 3416, section 3; RFC 1901,
+-- section 3), without where they lie in memory.
 use Rattle.std.specs.Prelude.{ℕ, ℤ, List, map}
 use Rattle.snmp_wire.specs.declared.kind.Kind.{Kind}
-use Rattle.snmp_ber.specs.declared.value.ValueRef.{ValueRef}
-use Rattle.snmp_ber.specs.declared.value.ValueRef.TheVariants as value
 use Rattle.snmp_wire.specs.declared.binding.Binding.{Binding}
-pub use Rattle.snmp_ber.specs.Value.{Datum, integer_value, octet_string, null_value, object_id, ip_address, counter32, gauge32, time_ticks, opaque_octets, counter64, no_such_object, no_such_instance, end_of_mib_view, datum}
+pub use Rattle.snmp_ber.specs.Value.{Datum, integer_value, octet_string, null_value, object_id}
+pub use Rattle.snmp_ber.specs.Value.{ip_address, counter32, gauge32, time_ticks, opaque_octets}
+pub use Rattle.snmp_ber.specs.Value.{counter64, no_such_object, no_such_instance, end_of_mib_view}
+pub use Rattle.snmp_ber.specs.Value.{datum}
 
 -- a variable binding: the name of an instance, and its value
 pub record VarBind : Type 0 where
   pub name : List ℕ
   pub value : Datum
 
--- a message. In a GetBulk request `a` and `b` are non-repeaters and max-repetitions, elsewhere error-status and error-index.
+-- a message. In a GetBulk request `a` and `b` are non-repeaters and max-repetitions, elsewhere
+-- error-status and error-index.
 pub record Message : Type 0 where
   pub version : ℤ
   pub community : List ℕ

@@ -1,8 +1,7 @@
--- What has an encoding by the standard: numbers of their types' ranges, octets, and identifiers with a form on the wire (RFC 2578, section 7.1).
-use Rattle.std.specs.Prelude.{◌≡◌, ◌^◌, ◌<◌, ◌≤◌, length, FitsSigned}
-use Rattle.std.specs.Int.{w32}
+-- What has an encoding by the standard: numbers of their types' ranges, octets, and identifiers
+-- with a form on the wire (RFC 2578, section 7.1).
+use Rattle.std.specs.Prelude.{◌≤◌, length}
 use Rattle.std.specs.List.{AllByRecursion}
-use Rattle.snmp_oid.specs.Identifier.{IsIdentifier, IsWire}
 use Rattle.snmp_wire.specs.Canon.{canon_bindings}
 use Rattle.snmp_ber.specs.Value.{integer_value, octet_string, object_id}
 use Rattle.snmp_wire.specs.Message.{VarBind, Message}
@@ -12,7 +11,8 @@ pub record IsBindingInRange (binding : VarBind) : Type 0 where
   pub name : IsInRange (object_id binding.name)
   pub value : IsInRange binding.value
 
--- the parts of the message are within their ranges, and its bindings have at most 4,000,000,000 octets together
+-- the parts of the message are within their ranges, and its bindings have at most 4,000,000,000
+-- octets together
 pub record IsMessageInRange (message : Message) : Type 0 where
   pub version : IsInRange (integer_value message.version)
   pub community : IsInRange (octet_string message.community)

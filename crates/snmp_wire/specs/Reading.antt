@@ -1,5 +1,8 @@
--- Reading from the front, with the first fault that is met: what private functions are proved to compute. Public clauses cite what octets spell.
-use Rattle.std.specs.Prelude.{◌≡◌, ℕ, zero, suc, ℤ, ◌+◌, ◌-◌, ◌*◌, ◌/◌, ◌%◌, ◌^◌, ◌<◌, ◌++◌, All, Bool, true, false, ◌&&◌, ◌||◌, ◌==◌, nat_lt, nat_le, if◌then◌else◌, List, [], ◌∷◌, length, take, drop, Result, Ok, Err}
+-- Reading from the front, with the first fault that is met: what private functions are proved to
+-- compute. Public clauses cite what octets spell.
+use Rattle.std.specs.Prelude.{ℕ, zero, suc, ℤ}
+use Rattle.std.specs.Prelude.{◌==◌, if◌then◌else◌}
+use Rattle.std.specs.Prelude.{List, [], ◌∷◌, length, Result, Ok, Err}
 use Rattle.std.specs.Result.{result_unwrap_or}
 use Rattle.snmp_ber.specs.declared.error.BerError.{BerError}
 use Rattle.snmp_ber.specs.declared.error.BerError.TheVariants as error
@@ -7,7 +10,8 @@ use Rattle.snmp_wire.specs.declared.kind.Kind.{Kind}
 use Rattle.snmp_wire.specs.declared.kind.Kind.TheVariants as kind
 use Rattle.snmp_wire.specs.declared.binding.Fields as Lent
 use Rattle.snmp_wire.specs.Message.{VarBind, Message}
-use Rattle.snmp_ber.specs.Reading.{fault_or, content_at, element_at, identifier_of, inner_at, integer_at, typed_value, ◌>>=◌}
+use Rattle.snmp_ber.specs.Reading.{fault_or, content_at, element_at, identifier_of, inner_at}
+use Rattle.snmp_ber.specs.Reading.{integer_at, typed_value, ◌>>=◌}
 
 -- ---- lengths and elements; `cut` is the fault where the octets end too early
 
@@ -94,7 +98,8 @@ unfoldable pub outermost_of : List ℕ → Result (List ℕ) BerError
 outermost_of [] = Err error.Truncated
 outermost_of (tag ∷ rest) =
     if tag == 0x30
-    then (content_at error.Truncated rest >>= λ c. if length c.1 == 0 then Ok c.0 else Err error.Trailing)
+    then (content_at error.Truncated rest
+    >>= λ c. if length c.1 == 0 then Ok c.0 else Err error.Trailing)
     else Err error.Tag
 
 unfoldable pub pdu_of : ℤ → List ℕ → Kind → List ℕ → Result Message BerError
@@ -104,7 +109,15 @@ pdu_of version community kind content = do
   b ← integer_at a.1
   list ← inner_at 0x30 b.1
   bindings ← (if length list.1 == 0 then bindings_of list.0 else Err error.Content)
-  Ok (record { version = version; community = community; kind = kind; id = id.0; a = a.0; b = b.0; bindings = bindings })
+  Ok (record {
+    version = version;
+    community = community;
+    kind = kind;
+    id = id.0;
+    a = a.0;
+    b = b.0;
+    bindings = bindings;
+  })
 
 unfoldable pub message_of : List ℕ → Result Message BerError
 message_of octets = do

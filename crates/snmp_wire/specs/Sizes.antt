@@ -3,20 +3,23 @@ use Rattle.std.specs.Prelude.{◌≡◌, ◌≤◌, ℕ, ◌+◌, length}
 use Rattle.snmp_ber.specs.Canon.{canon_header, canon_value}
 use Rattle.snmp_ber.specs.Spelling.{sequence_tag}
 use Rattle.snmp_ber.specs.Value.{integer_value, octet_string}
-use Rattle.snmp_wire.specs.Canon.{canon, canon_bindings, canon_fields, canon_front, canon_head, canon_opening}
+use Rattle.snmp_wire.specs.Canon.{canon, canon_bindings, canon_fields, canon_front, canon_head}
+use Rattle.snmp_wire.specs.Canon.{canon_opening}
 use Rattle.snmp_wire.specs.Message.{Message}
 use Rattle.snmp_wire.specs.Spelling.{kind_tag}
 
 -- the content of a PDU whose bindings take `total` octets together
 abbrev pub pdu_size : Message → ℕ → ℕ
-pdu_size message total = length (canon_fields message) + length (canon_header sequence_tag total) + total
+pdu_size message total =
+    length (canon_fields message) + length (canon_header sequence_tag total) + total
 
 -- each part is as long as its own parts together
 pub record MessageSizes : Type 0 where
   -- before the PDU: the version and the community
   pub opening : (m : Message)
       → length (canon_opening m)
-      ≡ length (canon_value (integer_value m.version)) + length (canon_value (octet_string m.community))
+      ≡ length (canon_value (integer_value m.version))
+      + length (canon_value (octet_string m.community))
   -- in the PDU before its bindings: the three numbers
   pub fields : (m : Message)
       → length (canon_fields m)
@@ -30,10 +33,13 @@ pub record MessageSizes : Type 0 where
   -- before the first binding
   pub head : (m : Message) (total : ℕ)
       → length (canon_head m total)
-      ≡ length (canon_header sequence_tag (length (canon_front m total) + total)) + length (canon_front m total)
+      ≡ length (canon_header sequence_tag (length (canon_front m total) + total))
+      + length (canon_front m total)
   -- the whole message
   pub whole : (m : Message)
       → length (canon m)
-      ≡ length (canon_head m (length (canon_bindings m.bindings))) + length (canon_bindings m.bindings)
+      ≡ length (canon_head m (length (canon_bindings m.bindings)))
+      + length (canon_bindings m.bindings)
   -- before more octets of bindings a head is no shorter
-  pub heads_rise : (m : Message) (n k : ℕ) → n ≤ k → length (canon_head m n) ≤ length (canon_head m k)
+  pub heads_rise : (m : Message) (n k : ℕ)
+      → n ≤ k → length (canon_head m n) ≤ length (canon_head m k)

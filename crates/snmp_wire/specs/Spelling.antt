@@ -1,5 +1,6 @@
--- What octets spell: values, variable bindings and messages in BER (RFC 3416, section 3; RFC 1901, section 3; RFC 3417, section 8; X.690).
-use Rattle.std.specs.Prelude.{◌≡◌, ℕ, List, [], ◌∷◌, ◌++◌, length}
+-- What octets encode: values, variable bindings and messages in BER (RFC 3416, section 3; RFC 1901,
+-- section 3; RFC 3417, section 8; X.690).
+use Rattle.std.specs.Prelude.{◌≡◌, ℕ, List, [], ◌∷◌, ◌++◌}
 use Rattle.snmp_wire.specs.declared.kind.Kind.{Kind}
 use Rattle.snmp_wire.specs.declared.kind.Kind.TheVariants as kind
 use Rattle.snmp_ber.specs.Number.{AreOctets, Form, lenient, strict}
@@ -8,7 +9,7 @@ use Rattle.snmp_ber.specs.Value.{integer_value, octet_string, object_id}
 use Rattle.snmp_wire.specs.Message.{VarBind, Message}
 pub use Rattle.snmp_ber.specs.Spelling.{IsContent, SpellsValue, sequence_tag, value_tag}
 
--- the octets spell the binding: a SEQUENCE of its name and its value
+-- the octets encode the binding: a SEQUENCE of its name and its value
 pub record SpellsBinding (form : Form) (binding : VarBind) (octets : List ℕ) : Type 0 where
   pub name : List ℕ
   pub value : List ℕ
@@ -16,11 +17,12 @@ pub record SpellsBinding (form : Form) (binding : VarBind) (octets : List ℕ) :
   pub is_value : SpellsValue form binding.value value
   pub element : IsElement sequence_tag (name ++ value) octets
 
--- the octets spell these bindings in turn
+-- the octets encode these bindings in turn
 abbrev pub SpellsBindings : Form → List VarBind → List ℕ → Type 0
 SpellsBindings form [] octets = octets ≡ []
 SpellsBindings form (binding ∷ more) octets =
-    (first : List ℕ) × (rest : List ℕ) × (octets ≡ first ++ rest) × SpellsBinding form binding first × SpellsBindings form more rest
+    (first : List ℕ) × (rest : List ℕ) × (octets ≡ first ++ rest)
+    × SpellsBinding form binding first × SpellsBindings form more rest
 
 -- the tag of a PDU (RFC 3416, section 3)
 abbrev pub kind_tag : Kind → ℕ
@@ -33,7 +35,8 @@ kind_tag kind.InformRequest = 0xA6
 kind_tag kind.Trap = 0xA7
 kind_tag kind.Report = 0xA8
 
--- the octets spell the PDU of the message: an element of its kind's tag, of request-id, the two numbers behind it, and a SEQUENCE of the bindings
+-- the octets encode the PDU of the message: an element of its kind's tag, of request-id, the two
+-- numbers after it, and a SEQUENCE of the bindings
 pub record SpellsPdu (form : Form) (message : Message) (octets : List ℕ) : Type 0 where
   pub id : List ℕ
   pub a : List ℕ
@@ -47,7 +50,7 @@ pub record SpellsPdu (form : Form) (message : Message) (octets : List ℕ) : Typ
   pub is_list : IsElement sequence_tag bindings list
   pub element : IsElement (kind_tag message.kind) (id ++ a ++ b ++ list) octets
 
--- the octets spell the message: a SEQUENCE of version, community and PDU
+-- the octets encode the message: a SEQUENCE of version, community and PDU
 pub record SpellsMessage (form : Form) (message : Message) (octets : List ℕ) : Type 0 where
   pub version : List ℕ
   pub community : List ℕ
@@ -58,10 +61,10 @@ pub record SpellsMessage (form : Form) (message : Message) (octets : List ℕ) :
   pub element : IsElement sequence_tag (version ++ community ++ pdu) octets
   pub are_octets : AreOctets octets
 
--- The octets spell the message, in a form that is read.
+-- the octets encode the message, in a form that is read.
 abbrev pub Spells : Message → List ℕ → Type 0
 Spells message octets = SpellsMessage lenient message octets
 
--- The octets spell the message by the standard: unsigned numbers in two's complement alone.
+-- the octets encode the message by the standard: unsigned numbers in two's complement alone.
 abbrev pub Strict : Message → List ℕ → Type 0
 Strict message octets = SpellsMessage strict message octets

@@ -1,5 +1,6 @@
 //! Variable bindings, one and a list of them.
-ghost use Rattle.std.specs.Prelude.{◌≡◌, ℕ, List, [], ◌∷◌, true, false, length, IsOk, Ok, ◌+◌, ◌^◌, ◌<◌, ◌≤◌, ◌↔◌, ◌++◌, drop, IfSome, IfNone, IsSome, ⊤};
+ghost use Rattle.std.specs.Prelude.{◌≡◌, ℕ, List, [], ◌∷◌, true, false, length, IsOk, Ok, ◌+◌, ◌^◌};
+ghost use Rattle.std.specs.Prelude.{◌<◌, ◌≤◌, ◌↔◌, ◌++◌, drop, IfSome, IfNone, IsSome, ⊤};
 ghost use Rattle.snmp_wire.specs.Message.{var_bind};
 ghost use Rattle.snmp_ber.specs.Value.{null_value, object_id};
 ghost use Rattle.snmp_wire.specs.Reading as reading;
@@ -9,10 +10,11 @@ ghost use Rattle.snmp_wire.specs.Canon.{IsEncodable, canon_binding};
 ghost use Rattle.snmp_ber.specs.Canon.{canon_value};
 ghost use Rattle.snmp_ber.specs.Writing.{Writes};
 
+use snmp_ber::tag::{OBJECT_IDENTIFIER, SEQUENCE};
 use snmp_ber::{
-    BerError, SEQUENCE, ValueRef, check_identifier, check_value, content_size, element_at,
-    header_size, identifier_size, inner_at, push_identifier, put_header, put_identifier,
-    put_short_header, put_value, read_value,
+    BerError, ValueRef, check_identifier, check_value, content_size, element_at, header_size,
+    identifier_size, inner_at, push_identifier, put_header, put_identifier, put_short_header,
+    put_value, read_value,
 };
 use snmp_oid::Oid;
 use std::alloc::AllocError;
@@ -76,9 +78,11 @@ impl<'a> Bindings<'a> {
         Bindings { rest: self.rest }
     }
 
-    /// Reads the next binding into one that is there, and answers whether there was one. It stays as it was where none is left.
+    /// Reads the next binding into one that is there, and returns whether there was one. It stays
+    /// as it was where none is left.
     ///
-    /// This is [`Iterator::next`] for whoever reads many: a binding has over a thousand octets, and here none of them is moved.
+    /// This is [`Iterator::next`] for whoever reads many: a binding has over a thousand octets, and
+    /// here none of them is moved.
     pub fn read_next(&mut self, into: &mut Binding<'a>) -> bool
         ensures some { result ≡ true → self.old ≡ var_bind into.new ∷ self.new }
         ensures none { result ≡ false → (self.old ≡ []) × (self.new ≡ []) × (into.new ≡ into.old) }
@@ -162,7 +166,8 @@ fn fields_at<'a>(octets: &'a [u8]) -> Result<(Fields<'a>, &'a [u8]), BerError>
     }
 }
 
-/// The fields of the binding at the front, and what follows, where each of its three lengths has one octet, as most do. None says nothing of the octets.
+/// The fields of the binding at the front, and what follows, where each of its three lengths has
+/// one octet, as most do. None says nothing of the octets.
 #[inline(always)]
 fn short_fields_at<'a>(octets: &'a [u8]) -> Option<(Fields<'a>, &'a [u8])>
     ensures { IfSome result (λ x. reading.fields_at octets.now ≡ Ok (reading.fields x.0, x.1.now)) }
@@ -208,7 +213,7 @@ fn any_fields_at<'a>(octets: &'a [u8]) -> Result<(Fields<'a>, &'a [u8]), BerErro
 fn fields_of<'a>(content: &'a [u8]) -> Result<Fields<'a>, BerError>
     ensures { AgreesBy reading.fields result (reading.fields_of content.now) }
 {
-    let (name, rest) = inner_at(0x06, content)?;
+    let (name, rest) = inner_at(OBJECT_IDENTIFIER, content)?;
     let (tag, content, rest) = element_at(rest)?;
     if !rest.is_empty() {
         return Err(left_over(tag, content));
@@ -227,7 +232,8 @@ fn left_over(tag: u8, content: &[u8]) -> BerError
     }
 }
 
-/// Reads the binding at the front into one that is there, whatever the form of its lengths, and answers what follows.
+/// Reads the binding at the front into one that is there, whatever the form of its lengths, and
+/// returns what follows.
 #[cold]
 fn read_long<'a>(octets: &'a [u8], into: &mut Binding<'a>) -> &'a [u8]
     requires some { 0 < length octets.now }
@@ -263,17 +269,15 @@ fn check_binding(fields: Fields<'_>) -> Result<(), BerError>
     check_value(fields.tag, fields.content)
 }
 
-/// The tag of an OBJECT IDENTIFIER (X.690, 8.19).
-const OBJECT_IDENTIFIER: u8 = 0x06;
-
 /// How many octets the shortest encoding of a binding takes.
 ///
-/// The caller owes that its name, and its value if it is an identifier, have an encoding ([`Oid::is_wire`]), and that a string has at most 65535 octets.
+/// Its name, and its value if it is an identifier, must have an encoding ([`Oid::is_wire`]), and a
+/// string must have at most 65535 octets.
 #[inline(always)]
 pub fn binding_size(binding: &Binding<'_>) -> u64
     requires { IsEncodable (var_bind binding.now) }
     ensures value { result ≡ length (canon_binding (var_bind binding.now)) }
-    ensures small { result ≤ 70000 }
+    ensures at_most_70000 { result ≤ 70000 }
 {
     let name = identifier_size(&binding.name);
     let value = content_size(&binding.value);
@@ -285,12 +289,15 @@ pub fn binding_size(binding: &Binding<'_>) -> u64
     header_size(content) + content
 }
 
-/// Writes the shortest encoding of a binding to the front of `out`, and answers its length. The caller owes what [`binding_size`] asks.
+/// Writes the shortest encoding of a binding to the front of `out`, and returns its length. It
+/// requires what [`binding_size`] requires.
 ///
 /// None only where `out` is shorter, and then it is unchanged.
 pub fn encode_binding(binding: &Binding<'_>, out: &mut [u8]) -> Option<usize>
     requires { IsEncodable (var_bind binding.now) }
-    ensures some { IfSome result (λ n. (n ≡ length (canon_binding (var_bind binding.now))) × (out.new ≡ canon_binding (var_bind binding.now) ++ drop n out.old)) }
+    ensures some { IfSome result (λ n.
+        (n ≡ length (canon_binding (var_bind binding.now)))
+        × (out.new ≡ canon_binding (var_bind binding.now) ++ drop n out.old)) }
     ensures variant { IsSome result ↔ (length (canon_binding (var_bind binding.now)) ≤ length out.old) }
     ensures unchanged { IfNone result (out.new ≡ out.old) }
 {
@@ -302,7 +309,7 @@ pub fn encode_binding(binding: &Binding<'_>, out: &mut [u8]) -> Option<usize>
     Some(size)
 }
 
-/// Writes a binding before `end`, and answers where it begins.
+/// Writes a binding before `end`, and returns where it begins.
 #[inline]
 pub(crate) fn put_binding(out: &mut [u8], end: usize, binding: &Binding<'_>) -> usize
     requires encodable { IsEncodable (var_bind binding.now) }

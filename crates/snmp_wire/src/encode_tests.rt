@@ -82,7 +82,8 @@ fn octets_of(bindings: &[Binding<'_>]) -> u64
     binding_size(&bindings[0])
 }
 
-/// Whether the message of this one binding is these octets: in a slice that is longer, in one that just fits, and in none that is shorter. What stands behind them stays.
+/// Whether the message of this one binding is these octets: in a slice that is longer, in one that
+/// just fits, and in none that is shorter. What stands after them stays.
 fn assert_message(rt: &impl Abort, kind: Kind, b: i32, binding: Binding<'_>, octets: &[u8])
     requires { IsEncodable (var_bind binding) }
 {
@@ -215,7 +216,7 @@ fn the_longest_name(rt: HostRuntime) {
     );
 }
 
-/// Writes a message of these bindings to the front of `out`, and answers its length.
+/// Writes a message of these bindings to the front of `out`, and returns its length.
 fn write_again<'a>(
     rt: &impl Abort,
     message: &MessageRef<'a>,
@@ -242,7 +243,8 @@ fn write_again<'a>(
     len
 }
 
-/// With each octet of a request replaced by each other, what is read is written in its shortest encoding, and that is read as the same.
+/// With each octet of a request replaced by each other, what is read is written in its shortest
+/// encoding, and that is read as the same.
 #[test]
 fn what_is_read_is_written(rt: HostRuntime) {
     for at in 0..REQUEST.len() {
@@ -256,7 +258,8 @@ fn what_is_read_is_written(rt: HostRuntime) {
     }
 }
 
-/// Asserts that a message of at most one binding is written, and that what is written is read as the same: it is written in the same way again.
+/// Asserts that a message of at most one binding is written, and that what is written is read as
+/// the same: it is written in the same way again.
 fn assert_written(rt: &impl Abort, message: &MessageRef<'_>) {
     let mut first = [0; 512];
     let len = write_all(rt, message, &mut first);
@@ -274,7 +277,7 @@ fn assert_written(rt: &impl Abort, message: &MessageRef<'_>) {
     assert_eq!(rt; &second[..again_len], &first[..len]);
 }
 
-/// Writes a message of at most one binding to the front of `out`, and answers its length.
+/// Writes a message of at most one binding to the front of `out`, and returns its length.
 #[tactic(auto, unfolding(crate::specs::Canon::canon_bindings))]
 fn write_all(rt: &impl Abort, message: &MessageRef<'_>, out: &mut [u8]) -> usize {
     let mut bindings = message.bindings();

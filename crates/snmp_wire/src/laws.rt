@@ -9,34 +9,33 @@ ghost use Rattle.snmp_wire.specs.Message.{Message};
 ghost use Rattle.snmp_wire.specs.Sizes.{MessageSizes};
 ghost use Rattle.snmp_wire.specs.Spelling.{Spells};
 
-/// Octets spell at most one message, and no spelling is the front of another.
+/// Octets encode at most one message, and no encoding is the front of another.
 #[inline]
 pub fn one_spelling()
     ensures { OneMessage }
 {}
 
-/// Octets that spell a message have no fault: what each error says is false of them.
+/// Octets that encode a message have no fault: what each error says is false of them.
 #[inline]
 pub fn no_fault()
-    ensures {
-        (message : Message) (octets : List ℕ) (error : BerError)
-        → Spells message octets → IsFault error octets → ⊥
-    }
+    ensures { (message : Message) (octets : List ℕ) (error : BerError)
+        → Spells message octets → IsFault error octets → ⊥ }
 {}
 
-/// What is spelt by the standard is read.
+/// What encodes a message by the standard is read.
 #[inline]
 pub fn strict_is_read()
     ensures { StrictIsRead }
 {}
 
-/// What is written is a spelling by the standard; so [`decode`](crate::decode) returns the message.
+/// What is written is an encoding by the standard; so [`decode`](crate::decode) returns the
+/// message.
 #[inline]
 pub fn encoding_is_strict()
     ensures { EncodingIsStrict }
 {}
 
-/// No spelling by the standard is shorter than what is written.
+/// No encoding by the standard is shorter than what is written.
 #[inline]
 pub fn encoding_is_shortest()
     ensures { EncodingIsShortest }

@@ -1,6 +1,7 @@
 //! Messages of SNMPv2c (RFC 3416) and their BER encoding (X.690, RFC 3417 section 8).
 //!
-//! Stands on the identifiers, whose crate it hands on as its own. Agent and walk exchange octets alone, and read and write them by this crate.
+//! Stands on the identifiers, whose crate it hands on as its own. Agent and walk exchange octets
+//! alone, and read and write them by this crate.
 #![tactic(auto)]
 
 mod binding;
@@ -11,12 +12,10 @@ mod message;
 pub use binding::{Binding, Bindings, binding_size, encode_binding};
 pub use kind::Kind;
 pub use laws::{
-    encoding_is_shortest, encoding_is_strict, message_sizes, no_fault,
-    one_shortest_encoding, one_spelling, pieces, strict_is_read,
+    encoding_is_shortest, encoding_is_strict, message_sizes, no_fault, one_shortest_encoding,
+    one_spelling, pieces, strict_is_read,
 };
-pub use message::{
-    MAX_DATAGRAM, MessageRef, Parts, decode, encode, encode_head, head_size, size,
-};
+pub use message::{MAX_DATAGRAM, MessageRef, Parts, decode, encode, encode_head, head_size, size};
 pub use snmp_ber::{BerError, OctetString, Value, ValueRef};
 pub use snmp_oid::{Oid, OidError, OidTextError, parse_numeric, write_numeric};
 

@@ -1,12 +1,14 @@
 //! Messages, read from datagrams.
-ghost use Rattle.std.specs.Prelude.{◌≡◌, ℕ, List, ◌++◌, IfOk, IfErr, Ok, ◌+◌, ◌^◌, ◌<◌, ◌≤◌, ◌↔◌, length, drop, take, IfSome, IfNone, IsSome, All};
+ghost use Rattle.std.specs.Prelude.{◌≡◌, ℕ, List, ◌++◌, IfOk, IfErr, Ok, ◌+◌, ◌^◌, ◌<◌, ◌≤◌, ◌↔◌};
+ghost use Rattle.std.specs.Prelude.{length, drop, take, IfSome, IfNone, IsSome, All};
 ghost use Rattle.snmp_wire.specs.Fault.{IsFault};
 ghost use Rattle.snmp_wire.specs.Message.{Message, var_bind, var_binds};
 ghost use Rattle.snmp_ber.specs.Value.{integer_value, octet_string};
 ghost use Rattle.snmp_wire.specs.Reading as reading;
 ghost use Rattle.snmp_ber.specs.Reading.{AgreesBy};
 ghost use Rattle.snmp_wire.specs.Spelling.{Spells};
-ghost use Rattle.snmp_wire.specs.Canon.{IsEncodable, canon, canon_bindings, canon_front, canon_head};
+ghost use Rattle.snmp_wire.specs.Canon.{IsEncodable, canon, canon_bindings, canon_front};
+ghost use Rattle.snmp_wire.specs.Canon.{canon_head};
 ghost use Rattle.snmp_ber.specs.Canon.{canon_value};
 ghost use Rattle.snmp_wire.specs.Parts.{parts_message};
 ghost use Rattle.snmp_wire.specs.Range.{IsMessageInRange};
@@ -16,9 +18,10 @@ ghost use Rattle.snmp_ber.specs.Writing.{Writes};
 use crate::binding::{binding_size, check_bindings, put_binding};
 use crate::kind::{kind_of, tag_of_kind};
 use crate::{Binding, Bindings, Kind};
+use snmp_ber::tag::{INTEGER, OCTET_STRING, SEQUENCE};
 use snmp_ber::{
-    BerError, SEQUENCE, content_at, element_at, header_size, inner_at, integer_at, integer_size,
-    put_header, put_integer, put_text,
+    BerError, content_at, element_at, header_size, inner_at, integer_at, integer_size, put_header,
+    put_integer, put_text,
 };
 use std::marker::Model;
 
@@ -35,7 +38,7 @@ pub struct MessageRef<'a> {
     id: i32,
     a: i32,
     b: i32,
-    /// The spelt bindings.
+    /// The encoded bindings.
     bindings: &'a [u8],
 }
 
@@ -46,7 +49,15 @@ impl<'a> Model for MessageRef<'a> {
 
     ghost Value = { Message };
 
-    ghost view = { λ m. record { version = m.version; community = m.community.now; kind = m.kind; id = m.id; a = m.a; b = m.b; bindings = reading.bindings_in m.bindings.now } };
+    ghost view = { λ m. record {
+      version = m.version;
+      community = m.community.now;
+      kind = m.kind;
+      id = m.id;
+      a = m.a;
+      b = m.b;
+      bindings = reading.bindings_in m.bindings.now;
+    } };
 
     ghost invariant = { λ m. IsOk (reading.bindings_of m.bindings.now) };
 }
@@ -109,13 +120,15 @@ impl<'a> MessageRef<'a> {
     }
 }
 
-/// The message that a datagram spells in BER (RFC 3417, section 8; X.690), or why it spells none.
+/// Reads the message that a datagram encodes in BER (RFC 3417, section 8; X.690), or returns why it
+/// encodes none.
 ///
-/// The whole datagram is checked. Beside the standard's forms, whole numbers that aren't minimal and unsigned numbers without their leading zero octet are read.
+/// The whole datagram is checked. Beside the standard's forms, whole numbers that aren't minimal
+/// and unsigned numbers without their leading zero octet are read.
 pub fn decode(datagram: &[u8]) -> Result<MessageRef<'_>, BerError>
-    // What is read is spelt so.
+    // What is read is encoded by the datagram.
     ensures found { IfOk result (λ message. Spells message datagram.now) }
-    // What is spelt so is read.
+    // What the datagram encodes is read.
     ensures only { (message : Message) → Spells message datagram.now → result ≡ Ok message }
     // Each error comes only where its sentence holds.
     ensures fault { IfErr result (λ e. IsFault e datagram.now) }
@@ -130,7 +143,7 @@ fn message_of<'a>(octets: &'a [u8]) -> Result<MessageRef<'a>, BerError>
 {
     let content = outermost_of(octets)?;
     let (version, rest) = integer_at(content)?;
-    let (community, rest) = inner_at(0x04, rest)?;
+    let (community, rest) = inner_at(OCTET_STRING, rest)?;
     let (tag, content, rest) = element_at(rest)?;
     let kind = kind_of(tag)?;
     if !rest.is_empty() {
@@ -169,7 +182,8 @@ fn pdu_of<'a>(
     kind: Kind,
     content: &'a [u8],
 ) -> Result<MessageRef<'a>, BerError>
-    ensures { AgreesBy (λ message. message) result (reading.pdu_of version community.now kind content.now) }
+    ensures { AgreesBy (λ message. message) result
+        (reading.pdu_of version community.now kind content.now) }
 {
     let (id, rest) = integer_at(content)?;
     let (a, rest) = integer_at(rest)?;
@@ -209,41 +223,35 @@ pub struct Parts<'a> {
     pub bindings: &'a [Binding<'a>],
 }
 
-/// The tag of an INTEGER (X.690, 8.3).
-const INTEGER: u8 = 0x02;
-
-/// The tag of an OCTET STRING (X.690, 8.7).
-const OCTET_STRING: u8 = 0x04;
-
 /// How many octets the shortest encoding of a message takes.
 ///
-/// The caller owes a community of at most 65535 octets, bindings as [`binding_size`] asks, and that these have at most 4,000,000,000 octets together.
+/// It requires a community of at most 65535 octets, and bindings as [`binding_size`] requires them
+/// that take at most 4,000,000,000 octets together.
 pub fn size(parts: &Parts<'_>) -> u64
     requires community { length parts.now.community.now ≤ 65535 }
     requires bindings { All (λ b. IsEncodable (var_bind b)) parts.now.bindings.now }
     requires total { length (canon_bindings (var_binds parts.now.bindings.now)) ≤ 4000000000 }
     ensures value { result ≡ length (canon (parts_message parts.now)) }
-    ensures shortest {
-        (octets : List ℕ) → IsMessageInRange (parts_message parts.now)
-        → IsShortestEncoding octets (parts_message parts.now) → result ≡ length octets
-    }
+    ensures shortest { (octets : List ℕ) → IsMessageInRange (parts_message parts.now)
+        → IsShortestEncoding octets (parts_message parts.now) → result ≡ length octets }
 {
     let total = bindings_size(parts.bindings);
     head_size(parts, total) + total
 }
 
-/// Writes the shortest encoding of a message to the front of `out`, and answers its length. The caller owes what [`size`] asks.
+/// Writes the shortest encoding of a message to the front of `out`, and returns its length. It
+/// requires what [`size`] requires.
 ///
 /// None only where `out` is shorter, and then it is unchanged.
 pub fn encode(parts: &Parts<'_>, out: &mut [u8]) -> Option<usize>
     requires community { length parts.now.community.now ≤ 65535 }
     requires bindings { All (λ b. IsEncodable (var_bind b)) parts.now.bindings.now }
     requires total { length (canon_bindings (var_binds parts.now.bindings.now)) ≤ 4000000000 }
-    ensures some { IfSome result (λ n. (n ≡ length (canon (parts_message parts.now))) × (out.new ≡ canon (parts_message parts.now) ++ drop n out.old)) }
-    ensures shortest {
-        IsMessageInRange (parts_message parts.now)
-        → IfSome result (λ n. IsShortestEncoding (take n out.new) (parts_message parts.now))
-    }
+    ensures some { IfSome result (λ n.
+        (n ≡ length (canon (parts_message parts.now)))
+        × (out.new ≡ canon (parts_message parts.now) ++ drop n out.old)) }
+    ensures shortest { IsMessageInRange (parts_message parts.now)
+        → IfSome result (λ n. IsShortestEncoding (take n out.new) (parts_message parts.now)) }
     ensures variant { IsSome result ↔ (length (canon (parts_message parts.now)) ≤ length out.old) }
     ensures unchanged { IfNone result (out.new ≡ out.old) }
 {
@@ -257,14 +265,15 @@ pub fn encode(parts: &Parts<'_>, out: &mut [u8]) -> Option<usize>
     Some(size)
 }
 
-/// How many octets the shortest encoding of a message takes up to the first of its bindings, where these take `total` octets together. The bindings of `parts` aren't looked at.
+/// How many octets the shortest encoding of a message takes up to the first of its bindings, where
+/// these take `total` octets together. The bindings of `parts` aren't looked at.
 ///
-/// The caller owes a community of at most 65535 octets and a total of at most 4,000,000,000.
+/// It requires a community of at most 65535 octets and a total of at most 4,000,000,000.
 pub fn head_size(parts: &Parts<'_>, total: u64) -> u64
     requires community { length parts.now.community.now ≤ 65535 }
     requires total { total ≤ 4000000000 }
     ensures value { result ≡ length (canon_head (parts_message parts.now) total) }
-    ensures small { result ≤ 70000 }
+    ensures at_most_70000 { result ≤ 70000 }
 {
     let version = integer_element_size(parts.version);
     let community = text_element_size(parts.community);
@@ -279,14 +288,17 @@ pub fn head_size(parts: &Parts<'_>, total: u64) -> u64
     message + front
 }
 
-/// Writes the shortest encoding of a message up to the first of its bindings, where these take `total` octets together, to the front of `out`, and answers its length.
-/// The bindings of `parts` aren't looked at. The caller owes what [`head_size`] asks.
+/// Writes the shortest encoding of a message up to the first of its bindings, where these take
+/// `total` octets together, to the front of `out`, and returns its length. The bindings of `parts`
+/// aren't looked at. It requires what [`head_size`] requires.
 ///
 /// None only where `out` is shorter, and then it is unchanged.
 pub fn encode_head(parts: &Parts<'_>, total: u64, out: &mut [u8]) -> Option<usize>
     requires community { length parts.now.community.now ≤ 65535 }
     requires total { total ≤ 4000000000 }
-    ensures some { IfSome result (λ n. (n ≡ length (canon_head (parts_message parts.now) total)) × (out.new ≡ canon_head (parts_message parts.now) total ++ drop n out.old)) }
+    ensures some { IfSome result (λ n.
+        (n ≡ length (canon_head (parts_message parts.now) total))
+        × (out.new ≡ canon_head (parts_message parts.now) total ++ drop n out.old)) }
     ensures variant { IsSome result ↔ (length (canon_head (parts_message parts.now) total) ≤ length out.old) }
     ensures unchanged { IfNone result (out.new ≡ out.old) }
 {
@@ -316,7 +328,7 @@ fn bindings_size(bindings: &[Binding<'_>]) -> u64
 #[inline]
 fn integer_element_size(number: i32) -> u64
     ensures value { result ≡ length (canon_value (integer_value number)) }
-    ensures small { result ≤ 15 }
+    ensures at_most_15 { result ≤ 15 }
 {
     let content = integer_size(number) as u64;
     header_size(content) + content
@@ -327,12 +339,12 @@ fn integer_element_size(number: i32) -> u64
 fn text_element_size(text: &[u8]) -> u64
     requires { length text.now ≤ 65535 }
     ensures value { result ≡ length (canon_value (octet_string text.now)) }
-    ensures small { result ≤ 65541 }
+    ensures at_most_65541 { result ≤ 65541 }
 {
     header_size(text.len() as u64) + text.len() as u64
 }
 
-/// Writes bindings before `end`, and answers where they begin.
+/// Writes bindings before `end`, and returns where they begin.
 #[inline(never)]
 fn put_bindings(out: &mut [u8], end: usize, bindings: &[Binding<'_>]) -> usize
     requires bindings { All (λ b. IsEncodable (var_bind b)) bindings.now }
@@ -347,7 +359,8 @@ fn put_bindings(out: &mut [u8], end: usize, bindings: &[Binding<'_>]) -> usize
     start
 }
 
-/// Writes what stands before bindings that take `total` octets together, before `end`, and answers where it begins.
+/// Writes what stands before bindings that take `total` octets together, before `end`, and returns
+/// where it begins.
 fn put_head(out: &mut [u8], end: usize, parts: &Parts<'_>, total: u64) -> usize
     requires community { length parts.now.community.now ≤ 65535 }
     requires total { total ≤ 4000000000 }
@@ -365,7 +378,7 @@ fn put_head(out: &mut [u8], end: usize, parts: &Parts<'_>, total: u64) -> usize
     put_header(out, version, SEQUENCE, (end - version) as u64 + total)
 }
 
-/// Writes an INTEGER before `end`, and answers where it begins.
+/// Writes an INTEGER before `end`, and returns where it begins.
 #[inline]
 fn put_integer_element(out: &mut [u8], end: usize, number: i32) -> usize
     requires room { length (canon_value (integer_value number)) ≤ end }
@@ -376,7 +389,7 @@ fn put_integer_element(out: &mut [u8], end: usize, number: i32) -> usize
     put_header(out, start, INTEGER, (end - start) as u64)
 }
 
-/// Writes an OCTET STRING before `end`, and answers where it begins.
+/// Writes an OCTET STRING before `end`, and returns where it begins.
 #[inline]
 fn put_text_element(out: &mut [u8], end: usize, text: &[u8]) -> usize
     requires room { length (canon_value (octet_string text.now)) ≤ end }

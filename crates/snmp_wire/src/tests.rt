@@ -26,21 +26,21 @@ fn assert_refused(rt: &impl Abort, datagram: &[u8], error: BerError) {
     assert_eq!(rt; decode(datagram).err(), Some(error));
 }
 
-/// Whether the octets spell a message, so that the sentence of no error is true of them.
+/// Whether the octets encode a message, so that the sentence of no error is true of them.
 fn is_faultless(datagram: &[u8]) -> bool
     ensures { result ≡ true → (error : BerError) → IsFault error datagram.now → ⊥ }
 {
     decode(datagram).is_ok()
 }
 
-/// No error's sentence is true everywhere: here are octets of which each is false.
+/// No error's sentence is true everywhere: here are octets for which each is false.
 #[test]
 fn no_error_is_true_of_a_request(rt: HostRuntime) {
     assert!(rt; is_faultless(&REQUEST));
     assert!(rt; is_faultless(&RESPONSE));
 }
 
-/// Asserts that the octets spell the message of `REQUEST`.
+/// Asserts that the octets encode the message of `REQUEST`.
 fn assert_request(rt: &impl Abort, datagram: &[u8]) {
     let Ok(message) = decode(datagram) else {
         panic!(rt; "it spells a message")
@@ -171,7 +171,8 @@ fn faults(rt: HostRuntime) -> Result<(), Fail> {
     let mut longer = Vec::from_slice(rt.alloc(), &REQUEST)?;
     longer.push(0x00)?;
     assert_refused(&rt, &longer, BerError::Trailing);
-    // The request with one octet changed: a forbidden length, one that reaches past, a tag, a content, an octet left over.
+    // The request with one octet changed: a forbidden length, one that reaches past, a tag, a
+    // content, an octet left over.
     let changes = [
         (1, 0x80, BerError::Length),
         (1, 0x85, BerError::Length),
@@ -195,7 +196,8 @@ fn faults(rt: HostRuntime) -> Result<(), Fail> {
     Ok(())
 }
 
-/// With each octet replaced by each other, as many of the 10,240 messages are right as an independent decoder finds.
+/// With each octet replaced by each other, as many of the 10,240 messages are right as an
+/// independent decoder finds.
 #[test]
 fn each_octet_replaced(rt: HostRuntime) {
     let mut right = 0u32;
@@ -376,7 +378,7 @@ fn identifiers(rt: HostRuntime) -> Result<(), Fail> {
     assert_bad_value(&rt, alloc, &[0x06, 0x00], BerError::Content)
 }
 
-/// A request of 1.3.6 and so many times 4294967295.
+/// A request of 1.3.6 and `more` times 4294967295.
 fn long_name(alloc: Global, more: u8) -> Result<Vec<u8>, Fail> {
     let len = 2 + 5 * u16::from(more);
     let mut datagram = Vec::new(alloc);
@@ -444,7 +446,8 @@ fn owned_string(rt: HostRuntime) -> Result<(), Fail> {
     Ok(())
 }
 
-/// A Response of four bindings: 1.3.6.1.2 with Counter32 200, 1.3 with Counter32 256, 1.3.1000 with the string `x`, and 1.3 with Null.
+/// A Response of four bindings: 1.3.6.1.2 with Counter32 200, 1.3 with Counter32 256, 1.3.1000 with
+/// the string `x`, and 1.3 with Null.
 const FOUR_BINDINGS: [u8; 64] = [
     0x30, 0x3E, 0x02, 0x01, 0x01, 0x04, 0x06, 0x70, 0x75, 0x62, 0x6C, 0x69, 0x63, 0xA2, 0x31, 0x02,
     0x01, 0x01, 0x02, 0x01, 0x00, 0x02, 0x01, 0x00, 0x30, 0x26, 0x30, 0x0A, 0x06, 0x04, 0x2B, 0x06,

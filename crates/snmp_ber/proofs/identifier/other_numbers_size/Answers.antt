@@ -11,6 +11,6 @@ numbers-preserved c =
     let rest = ap (λ k. length (flat_map canon_subidentifier (drop k c.args.numbers.now))) next in
     record {
       told = omega (arith, step, rest, c.numbers.invariant.told, c.septets_size.ensures.value);
-      small = omega (arith, c.numbers.invariant.small, c.septets_size.ensures.small, c.numbers-test.true);
+      small = omega (arith, c.numbers.invariant.small, c.septets_size.ensures.at_most_5, c.numbers-test.true);
       within = omega (arith, c.numbers.invariant.within);
     }

@@ -12,8 +12,8 @@ put_unsigned-start-requires-clause-room c =
     let same = ap (λ n. length (canon_number (pos n))) c.from.ensures in
     omega (arith, content_fits c.args.tag c.args.end (canon_number (pos c.args.number)) c.requires.room, length-from_zero c.from.result, same)
 
-pub put_short_header-requires-clause-short : goal.put_short_header-requires-clause-short
-put_short_header-requires-clause-short c = number_short (pos c.from.result) c.put_unsigned-start.ensures
+pub put_short_header-requires-clause-below_128 : goal.put_short_header-requires-clause-below_128
+put_short_header-requires-clause-below_128 c = number_short (pos c.from.result) c.put_unsigned-start.ensures
 
 pub put_short_header-requires-clause-room : goal.put_short_header-requires-clause-room
 put_short_header-requires-clause-room c = header_fits c.args.tag (writes_same c.put_unsigned-start.ensures (ap (λ n. canon_number (pos n)) c.from.ensures)) c.requires.room

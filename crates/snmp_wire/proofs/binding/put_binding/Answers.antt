@@ -15,8 +15,8 @@ put_identifier-content-requires-clause-room c = value_content_fits c.put_value-v
 pub put_short_header-name-requires-clause-room : goal.put_short_header-name-requires-clause-room
 put_short_header-name-requires-clause-room c = value_header_fits 6 (object_id c.args.binding.now.name) refl c.put_identifier-content.ensures (binding_name_fits (var_bind c.args.binding.now) c.put_value-value.ensures c.requires.room)
 
-pub put_short_header-requires-clause-short : goal.put_short_header-requires-clause-short
-put_short_header-requires-clause-short c =
+pub put_short_header-requires-clause-below_128 : goal.put_short_header-requires-clause-below_128
+put_short_header-requires-clause-below_128 c =
     let content : c.put_value-value.result - c.put_identifier-content.result < 128 = omega (arith, c.if-end-content-lt126.true, c.put_value-value.ensures.begins) in
     omega (arith, c.if-end-content-lt126.true, c.put_short_header-name.ensures.begins, length-canon_header 6 (c.put_value-value.result - c.put_identifier-content.result), header_short (c.put_value-value.result - c.put_identifier-content.result) content)
 

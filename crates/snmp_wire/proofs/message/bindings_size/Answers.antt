@@ -8,7 +8,7 @@ use Rattle.snmp_wire.proofs.message.bindings_size.Goals as goal
 pub overflow_add-total : goal.overflow_add-total
 overflow_add-total c =
     let all = ap length (bindings_are c.args.bindings.now) in
-    omega (arith, all, c.requires.total, c.bindings.invariant, c.binding_size-total.ensures.small)
+    omega (arith, all, c.requires.total, c.bindings.invariant, c.binding_size-total.ensures.at_most_70000)
 
 pub bindings-preserved : goal.bindings-preserved
 bindings-preserved c =
