@@ -1,0 +1,9 @@
+//! Tests of names over a small tree: names are read, refused at their first fault, and shown.
+#![tactic(auto)]
+
+mod sample;
+
+pub use sample::Sample;
+
+#[cfg(test)]
+mod tests;
