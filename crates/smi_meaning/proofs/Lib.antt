@@ -1,0 +1,4 @@
+pub mod Bridging
+pub mod Equating
+pub mod Knowing
+pub mod Placing

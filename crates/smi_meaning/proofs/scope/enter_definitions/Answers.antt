@@ -1,0 +1,29 @@
+-- One definition more.
+use Rattle.std.proofs.Common.{◌≡◌, ℕ, ◌+◌, ◌<◌, Bool, true, false, cond, length, List, [], ◌∷◌, Option, Some, None, get_or, take, refl, sym, ap, ◌∙◌}
+use Rattle.std.proofs.lemmas.List.{take_more}
+use Rattle.std.specs.Option.{option_map}
+use Rattle.smi_module.specs.Mark.{same_text}
+use Rattle.smi_module.specs.Lookup.{first_definition, defines}
+use Rattle.smi_module.specs.declared.tree.Def.{Def}
+use Rattle.smi_meaning.specs.Meaning.{defined, or_else}
+use Rattle.smi_meaning.proofs.Knowing.{KnowsMore-then, KnowsMore-same, find-append}
+use Rattle.smi_meaning.proofs.scope.enter_definitions.Goals as goal
+
+merged : (a : Option Def) (b : Bool) (d : Def) → or_else (option_map defined a) (cond b (Some (defined d)) None) ≡ option_map defined (or_else a (cond b (Some d) None))
+merged None true d = refl
+merged None false d = refl
+merged (Some i) b d = refl
+
+more : (ds : List Def) (k : ℕ) (d : Def) (x : List ℕ) → k < length ds → d ≡ get_or ds k d
+    → or_else (option_map defined (first_definition x (take k ds))) (cond (same_text d.label.octets x) (Some (defined d)) None)
+    ≡ option_map defined (first_definition x (take (k + 1) ds))
+more ds k d x l e =
+    merged (first_definition x (take k ds)) (same_text d.label.octets x) d
+    ∙ ap (λ o. option_map defined o) (sym (find-append (defines x) (take k ds) (d ∷ [])) ∙ rw (take_more ds k d l, sym e) refl)
+
+pub defs-preserved : goal.defs-preserved
+defs-preserved c =
+    let label : c.as_bytes.result.now ≡ c.def-item.result.label.octets = c.as_bytes.ensures.octets in
+    let entered = rw label at c.in_ok-enter.ensures.entered in
+    KnowsMore-same _ _ _ _ _ _ _ (KnowsMore-then _ _ _ _ _ _ _ _ _ c.defs.invariant entered)
+    (λ x. more c.args.defs.now c.defs.def-index c.def-item.result x c.defs-test.true c.def-item.is)

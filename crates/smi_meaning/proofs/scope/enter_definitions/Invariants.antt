@@ -1,0 +1,11 @@
+use Rattle.std.proofs.Common.{take}
+use Rattle.std.specs.Option.{option_map}
+use Rattle.smi_module.specs.Lookup.{first_definition}
+use Rattle.smi_meaning.specs.Meaning.{defined}
+use Rattle.smi_meaning.specs.Scopes.{KnowsMore}
+use Rattle.smi_meaning.proofs.scope.enter_definitions.Given as goal
+
+abbrev pub invariant-defs : goal.invariant-defs
+invariant-defs l =
+    KnowsMore l.initial.entries.items l.initial.scope l.entries.items l.scope l.module
+    (λ x. option_map defined (first_definition x (take l.def-index l.defs)))

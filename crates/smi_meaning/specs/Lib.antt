@@ -1,0 +1,5 @@
+pub mod Meaning
+pub mod Scopes
+pub mod Names
+pub mod Directory
+pub mod Resolved

@@ -1,0 +1,37 @@
+-- The places of names of modules among the entries.
+use Rattle.std.specs.Prelude.{◌≡◌, ℕ, List, length, Option, Some, unwrap_or}
+use Rattle.std.specs.List.{slice_get, position_from}
+use Rattle.std.specs.Option.{option_and_then}
+use Rattle.std.specs.Borrow.{Bor}
+use Rattle.std.specs.BTreeMap.{BTreeMap}
+use Rattle.smi_links.specs.Chain.{Origin, numbers, after, nowhere}
+use Rattle.smi_module.specs.Mark.{same_text}
+use Rattle.smi_module.specs.declared.tree.Module.{Module}
+use Rattle.smi_meaning.specs.Meaning.{Place, decision}
+use Rattle.smi_meaning.specs.Scopes.{place_in, known, decided_as, IsWithin}
+use Rattle.smi_meaning.specs.declared.entry.Entry.{Entry}
+
+abbrev pub Scope : Type 0
+Scope = BTreeMap (Bor (List ℕ)) ℕ
+
+-- the place of a name of a module; a name without a meaning has the place past the last
+abbrev pub place_of : Scope → List Scope → ℕ → Place → ℕ
+place_of homes scopes beyond p =
+    unwrap_or (option_and_then (λ i. option_and_then (λ scope. place_in scope p.name) (slice_get scopes i))
+    (place_in homes p.home)) beyond
+
+abbrev pub map_origin : {A B : Type 0} → (A → B) → Origin A → Origin B
+map_origin f (numbers ns) = numbers ns
+map_origin f (after a ns) = after (f a) ns
+map_origin f nowhere = nowhere
+
+-- the place of the first module of a name
+abbrev pub module_place : List Module → List ℕ → Option ℕ
+module_place ms x = position_from (λ m. same_text m.name.octets x) 0 ms
+
+-- each name with a meaning in a module has an entry
+pub record AreEach (ms : List Module) (scopes : List Scope) (entries : List Entry) : Type 0 where
+  pub long : length scopes ≡ length ms
+  pub each : (i : ℕ) (m : Module) (scope : Scope) → slice_get ms i ≡ Some m → slice_get scopes i ≡ Some scope
+      → (x : List ℕ) → known entries scope x ≡ decided_as m x (decision m x)
+  pub within : (i : ℕ) (scope : Scope) → slice_get scopes i ≡ Some scope → IsWithin entries scope

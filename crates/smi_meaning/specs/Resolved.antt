@@ -1,0 +1,23 @@
+-- What a directory of names and their resolutions say.
+use Rattle.std.specs.Prelude.{◌≡◌, ℕ, List, Some, None}
+use Rattle.std.specs.List.{slice_get}
+use Rattle.smi_links.specs.Chain.{nowhere}
+use Rattle.smi_links.specs.Basis.{ComesTo}
+use Rattle.smi_links.specs.declared.basis.Resolution.{Resolution}
+use Rattle.smi_module.specs.declared.tree.Module.{Module}
+use Rattle.smi_meaning.specs.Meaning.{Place, origin}
+use Rattle.smi_meaning.specs.Scopes.{place_in}
+use Rattle.smi_meaning.specs.Names.{AreEach, module_place}
+use Rattle.smi_meaning.specs.Directory.{place_by}
+use Rattle.smi_meaning.specs.declared.directory.Directory.{Directory}
+
+-- modules and names have their places
+pub record IsDirectory (ms : List Module) (d : Directory) : Type 0 where
+  pub placed : (x : List ℕ) → place_in d.homes x ≡ module_place ms x
+  pub named : AreEach ms d.scopes.items d.entries.items
+
+-- and each name comes to what its place has
+pub record IsResolved (ms : List Module) (d : Directory) (rs : List Resolution) : Type 0 where
+  pub directory : IsDirectory ms d
+  pub comes : (a : Place) (r : Resolution) → slice_get rs (place_by d a) ≡ Some r → ComesTo (origin ms) a r
+  pub leads_nowhere : (a : Place) → slice_get rs (place_by d a) ≡ None → origin ms a ≡ nowhere

@@ -1,0 +1,50 @@
+-- The names of modules with their places among the entries.
+use Rattle.std.specs.Prelude.{◌≡◌, ℕ, ◌<◌, List, ◌++◌, length, Option, Some, option_map}
+use Rattle.std.specs.List.{slice_get}
+use Rattle.std.specs.Option.{option_and_then}
+use Rattle.std.specs.Ordering.{nat_cmp}
+use Rattle.std.specs.Borrow.{Bor}
+use Rattle.std.specs.BTreeMap.{BTreeMap, get_by}
+use Rattle.std.specs.Cmp.Lexicographic.{slice_cmp}
+use Rattle.smi_module.specs.declared.tree.Module.{Module}
+use Rattle.smi_meaning.specs.Meaning.{Decision, defined, imported, root, or_else}
+use Rattle.smi_meaning.specs.declared.entry.Decider.{Decider}
+use Rattle.smi_meaning.specs.declared.entry.Decider.TheVariants as D
+use Rattle.smi_meaning.specs.declared.entry.Entry.{Entry}
+
+-- the place of a name in a map
+abbrev pub place_in : BTreeMap (Bor (List ℕ)) ℕ → List ℕ → Option ℕ
+place_in scope x = get_by (λ k. slice_cmp nat_cmp x k.now) scope
+
+abbrev pub decision_of : Decider → Decision
+decision_of (D.Definition d) = defined d.now
+decision_of (D.Import i) = imported i.now
+decision_of (D.Root n) = root n
+
+-- what an entry says: in this module, this name is decided so
+pub record Content : Type 0 where
+  pub home : Module
+  pub name : List ℕ
+  pub decided : Decision
+
+abbrev pub content_of : Entry → Content
+content_of e = record { home = e.«module».now; name = e.name.now; decided = decision_of e.decider }
+
+-- what is known of a name by a scope
+abbrev pub known : List Entry → BTreeMap (Bor (List ℕ)) ℕ → List ℕ → Option Content
+known entries scope x =
+    option_and_then (λ p. option_map content_of (slice_get entries p)) (place_in scope x)
+
+abbrev pub decided_as : Module → List ℕ → Option Decision → Option Content
+decided_as m x d = option_map (λ v. record { home = m; name = x; decided = v }) d
+
+abbrev pub IsWithin : List Entry → BTreeMap (Bor (List ℕ)) ℕ → Type 0
+IsWithin entries scope = (x : List ℕ) (p : ℕ) → place_in scope x ≡ Some p → p < length entries
+
+-- the scope knows more: what `more` decides, where it knew nothing
+pub record KnowsMore (old : List Entry) (before : BTreeMap (Bor (List ℕ)) ℕ) (new : List Entry)
+    (scope : BTreeMap (Bor (List ℕ)) ℕ) (m : Module) (more : List ℕ → Option Decision) : Type 0 where
+  pub knows : (x : List ℕ) → known new scope x ≡ or_else (known old before x) (decided_as m x (more x))
+  pub added : List Entry
+  pub grown : new ≡ old ++ added
+  pub within : IsWithin new scope

@@ -1,0 +1,85 @@
+//! The names of modules, resolved.
+ghost use Rattle.std.specs.Prelude.{◌≡◌, IfOk, MatchOption, is_some, option_map};
+ghost use Rattle.std.specs.Option.{option_and_then};
+ghost use Rattle.smi_links.specs.Chain.{nowhere};
+ghost use Rattle.smi_links.specs.Basis.{ComesTo};
+ghost use Rattle.smi_meaning.specs.Meaning.{origin, module_named, decision, Place};
+ghost use Rattle.smi_meaning.specs.Scopes.{decision_of};
+
+use crate::directory::{Directory, find, homes, scopes};
+use crate::entry::Decider;
+use smi_links::{Resolution, resolutions};
+use smi_module::Module;
+use std::alloc::{AllocError, Global};
+use std::marker::Model;
+
+/// The names of modules: what decides each, and what it comes to.
+///
+/// Where two modules have one name, the first stands for it.
+#[derive(Drop)]
+pub struct Names<'a> {
+    modules: &'a [Module],
+    directory: Directory<'a>,
+    resolutions: Vec<Resolution>,
+}
+
+impl<'a> Model for Names<'a> {
+    ghost use Rattle.std.specs.Prelude.{List};
+    ghost use Rattle.smi_module.specs.declared.tree.Module.{Module};
+    ghost use Rattle.smi_meaning.specs.Resolved.{IsResolved};
+
+    ghost Value = { List Module };
+
+    ghost view = { λ s. s.modules.now };
+
+    ghost invariant = { λ s. IsResolved s.modules.now s.directory s.resolutions.items };
+}
+
+impl<'a> Names<'a> {
+    /// The names of these modules, each resolved once.
+    pub fn new(alloc: Global, modules: &'a [Module]) -> Result<Names<'a>, AllocError>
+        ensures { IfOk result (λ names. names ≡ modules.now) }
+    {
+        let mut entries = Vec::new(alloc);
+        let scopes = scopes(alloc, &mut entries, modules)?;
+        let directory = Directory {
+            homes: homes(alloc, modules)?,
+            scopes,
+            entries,
+        };
+        let bases = directory.bases(alloc)?;
+        let resolutions = resolutions(alloc, &bases)?;
+        Ok(Names {
+            modules,
+            directory,
+            resolutions,
+        })
+    }
+
+    /// What a name comes to in the module of a name; None where it has no meaning there.
+    pub fn resolution(&self, home: &'a [u8], name: &'a [u8]) -> Option<&Resolution>
+        ensures { let place : Place = record { home = home.now; name = name.now } in
+            MatchOption result (origin self.now place ≡ nowhere)
+            (λ resolution. ComesTo (origin self.now) place resolution.now) }
+    {
+        let place = self.directory.place(home, name);
+        self.resolutions.get(place)
+    }
+
+    /// What decides a name in the module of a name.
+    pub fn decider(&self, home: &'a [u8], name: &'a [u8]) -> Option<Decider<'a>>
+        ensures { option_map decision_of result
+            ≡ option_and_then (λ m. decision m name.now) (module_named self.now home.now) }
+    {
+        let place = self.directory.place(home, name);
+        let entry = self.directory.entries.get(place)?;
+        Some(entry.decider)
+    }
+
+    /// Whether there is a module of this name.
+    pub fn is_loaded(&self, name: &'a [u8]) -> bool
+        ensures { result ≡ is_some (module_named self.now name.now) }
+    {
+        find(&self.directory.homes, name).is_some()
+    }
+}
