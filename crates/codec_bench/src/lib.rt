@@ -137,8 +137,10 @@ fn parts_of<'a>(message: &MessageRef<'a>, bindings: &'a [Binding<'a>]) -> Parts<
 /// The bindings of a message, each a Counter32. None where one isn't, or where memory is wanting.
 fn counters_of<'a>(alloc: Global, message: &MessageRef<'a>) -> Option<Vec<Binding<'a>>>
     ensures bindings { IfSome result (λ bindings. var_binds bindings.items ≡ message.now.bindings) }
-    ensures encodable { IfSome result (λ bindings. All (λ b. IsEncodable (var_bind b)) bindings.items) }
-    ensures total { IfSome result (λ bindings. length (canon_bindings (var_binds bindings.items)) ≤ 4000000000) }
+    ensures encodable { IfSome result (λ bindings.
+        All (λ b. IsEncodable (var_bind b)) bindings.items) }
+    ensures total { IfSome result (λ bindings.
+        length (canon_bindings (var_binds bindings.items)) ≤ 4000000000) }
 {
     let mut bindings = Vec::new(alloc);
     let mut total = 0;

@@ -1,5 +1,6 @@
 -- Numbers as octets, and how long an encoding is.
-use Rattle.std.proofs.Common.{true, false, ◌≡◌, ℕ, ◌+◌, ◌-◌, ◌*◌, ◌/◌, ◌%◌, ◌^◌, ◌<◌, ◌≤◌, ℤ, pos, negsuc, lit<, suc, zero, List, [], ◌∷◌, length, set, refl, sym, ap, subst, ◌∙◌, sub-one, pow-add, ⊎_elim, nat_lt, if◌then◌else◌, arith}
+use Rattle.std.proofs.Common.{true, false, ◌≡◌, ℕ, ◌+◌, ◌-◌, ◌*◌, ◌/◌, ◌%◌, ◌^◌, ◌<◌, ◌≤◌, ℤ, pos, negsuc, lit<, suc, zero, List, [], ◌∷◌, length, set, refl}
+use Rattle.std.proofs.Common.{sym, ap, subst, ◌∙◌, sub-one, pow-add, ⊎_elim, nat_lt, if◌then◌else◌, arith}
 use Rattle.std.proofs.Math.Nat.{add-mul-div_left, add-mul-mod_self_left, div-div-eq-div-mul, div-one, mul_assoc, mul-suc, one-le-pow, pow-suc, pow-zero}
 use lib.Signed.{lt_z}
 use mir.Val.{SFits}
@@ -32,11 +33,14 @@ unfolding septets
 septets-suc count n = refl
 
 -- one digit of the number before those that are written
-pub writes_digit : (old out : List ℕ) (at end n rest : ℕ) → Writes old at end (octets (end - at) n) out → rest ≡ n / 256 ^ (end - at) → 0 < at → at ≤ end → at ≤ length out → Writes old (at - 1) end (octets (end - (at - 1)) n) (set out (at - 1) (rest % 256))
+pub writes_digit : (old out : List ℕ) (at end n rest : ℕ) → Writes old at end (octets (end - at) n) out → rest ≡ n / 256 ^ (end - at) → 0 < at → at ≤ end
+    → at ≤ length out → Writes old (at - 1) end (octets (end - (at - 1)) n) (set out (at - 1) (rest % 256))
 writes_digit old out at end n rest w e some h within =
     let one_more : end - (at - 1) ≡ suc (end - at) = omega arith in
-    let digits : octets (end - (at - 1)) n ≡ (rest % 256) ∷ octets (end - at) n = ap (λ k. octets k n) one_more ∙ octets-suc (end - at) n ∙ ap (λ r. (r % 256) ∷ octets (end - at) n) (sym e) in
-    subst (λ (text : List ℕ). Writes old (at - 1) end text (set out (at - 1) (rest % 256))) (sym digits) (writes_octet w (at - 1) (rest % 256) (omega arith) within)
+    let digits : octets (end - (at - 1)) n ≡ (rest % 256) ∷ octets (end - at) n = ap (λ k. octets k n) one_more ∙ octets-suc (end - at) n
+    ∙ ap (λ r. (r % 256) ∷ octets (end - at) n) (sym e) in
+    subst (λ (text : List ℕ). Writes old (at - 1) end text (set out (at - 1) (rest % 256))) (sym digits)
+    (writes_octet w (at - 1) (rest % 256) (omega arith) within)
 
 pub rest_digits : (at end n rest : ℕ) → rest ≡ n / 256 ^ (end - at) → 0 < at → at ≤ end → rest / 256 ≡ n / 256 ^ (end - (at - 1))
 rest_digits at end n rest e some h =
@@ -49,7 +53,8 @@ writes_no_digit out end n =
     let none : 0 ≡ end - end = omega arith in
     subst (λ (count : ℕ). Writes out end end (octets count n) out) none (writes_none out end)
 
-pub all_digits : (old out : List ℕ) (at end count n : ℕ) → Writes old at end (octets (end - at) n) out → at ≡ end - count → count ≤ end → Writes old (end - count) end (octets count n) out
+pub all_digits : (old out : List ℕ) (at end count n : ℕ) → Writes old at end (octets (end - at) n) out → at ≡ end - count → count ≤ end
+    → Writes old (end - count) end (octets count n) out
 all_digits old out at end count n w e room =
     let all : end - at ≡ count = omega arith in
     subst (λ (start : ℕ). Writes old start end (octets count n) out) e (subst (λ (k : ℕ). Writes old at end (octets k n) out) all w)
@@ -66,12 +71,14 @@ left n limit x y h = grind (arith, nat_tests)
 -- a number has a digit at least
 pub digit_some : (base limit more n : ℕ) → 1 ≤ digit_count base limit more n
 digit_some base limit zero n = omega arith
-digit_some base limit (suc more) n = ⊎_elim (λ h. omega (arith, taken n limit 1 (1 + digit_count base (limit * base) more n) h)) (λ h. omega (arith, left n limit 1 (1 + digit_count base (limit * base) more n) h)) (cases_lt n limit)
+digit_some base limit (suc more) n = ⊎_elim (λ h. omega (arith, taken n limit 1 (1 + digit_count base (limit * base) more n) h))
+    (λ h. omega (arith, left n limit 1 (1 + digit_count base (limit * base) more n) h)) (cases_lt n limit)
 
 -- and at most so many
 pub digit_most : (base limit more n : ℕ) → digit_count base limit more n ≤ 1 + more
 digit_most base limit zero n = omega arith
-digit_most base limit (suc more) n = ⊎_elim (λ h. omega (arith, taken n limit 1 (1 + digit_count base (limit * base) more n) h)) (λ h. omega (arith, left n limit 1 (1 + digit_count base (limit * base) more n) h, digit_most base (limit * base) more n)) (cases_lt n limit)
+digit_most base limit (suc more) n = ⊎_elim (λ h. omega (arith, taken n limit 1 (1 + digit_count base (limit * base) more n) h))
+    (λ h. omega (arith, left n limit 1 (1 + digit_count base (limit * base) more n) h, digit_most base (limit * base) more n)) (cases_lt n limit)
 
 pub count_taken : (base limit more n : ℕ) → n < limit → digit_count base limit (suc more) n ≡ 1
 count_taken base limit more n h = taken n limit 1 (1 + digit_count base (limit * base) more n) h
@@ -89,11 +96,14 @@ times_one limit base = let whole : limit * base ^ 0 ≡ limit * 1 = ap (λ p. li
 pub digits_fit : (base limit more n : ℕ) → n < limit * base ^ more → n < limit * base ^ (digit_count base limit more n - 1)
 digits_fit base limit zero n h = h
 digits_fit base limit (suc more) n h = ⊎_elim
-    (λ below. subst (λ (k : ℕ). n < limit * base ^ (k - 1)) (sym (count_taken base limit more n below)) (let one : limit * base ^ (1 - 1) ≡ limit = times_one limit base in omega (arith, one)))
+    (λ below. subst (λ (k : ℕ). n < limit * base ^ (k - 1)) (sym (count_taken base limit more n below))
+    (let one : limit * base ^ (1 - 1) ≡ limit = times_one limit base in omega (arith, one)))
     (λ above. let count : ℕ = digit_count base (limit * base) more n in
-    let longer : digit_count base limit (suc more) n ≡ suc (suc (count - 1)) = omega (arith, count_left base limit more n above, digit_some base (limit * base) more n) in
+    let longer : digit_count base limit (suc more) n ≡ suc (suc (count - 1)) =
+    omega (arith, count_left base limit more n above, digit_some base (limit * base) more n) in
     let rest : n < limit * base * base ^ (count - 1) = digits_fit base (limit * base) more n (omega (arith, times_power limit base more)) in
-    subst (λ (k : ℕ). n < limit * base ^ (k - 1)) (sym longer) (let whole : limit * base ^ (suc (suc (count - 1)) - 1) ≡ limit * base * base ^ (count - 1) = ap (λ k. limit * base ^ k) (one_less (count - 1)) ∙ times_power limit base (count - 1) in omega (arith, whole)))
+    subst (λ (k : ℕ). n < limit * base ^ (k - 1)) (sym longer) (let whole : limit * base ^ (suc (suc (count - 1)) - 1) ≡ limit * base * base ^ (count - 1) =
+    ap (λ k. limit * base ^ k) (one_less (count - 1)) ∙ times_power limit base (count - 1) in omega (arith, whole)))
     (cases_lt n limit)
   where
     one_less : (k : ℕ) → suc (suc k) - 1 ≡ suc k
@@ -144,7 +154,8 @@ octets-add zero a b = refl
 octets-add (suc count) a b =
     let whole : 256 ^ suc count * b ≡ 256 ^ count * (256 * b) = ap (λ p. p * b) (pow-suc 256 count) ∙ mul_assoc (256 ^ count) 256 b in
     let digit : (a + 256 ^ suc count * b) / 256 ^ count % 256 ≡ a / 256 ^ count % 256 =
-    ap (λ m. (a + m) / 256 ^ count % 256) whole ∙ ap (λ m. m % 256) (add-mul-div_left a (256 * b) (one-le-pow count 256 (lit< tt))) ∙ add-mul-mod_self_left (a / 256 ^ count) 256 b in
+    ap (λ m. (a + m) / 256 ^ count % 256) whole ∙ ap (λ m. m % 256) (add-mul-div_left a (256 * b) (one-le-pow count 256 (lit< tt)))
+    ∙ add-mul-mod_self_left (a / 256 ^ count) 256 b in
     let rest : octets count (a + 256 ^ suc count * b) ≡ octets count a = ap (λ m. octets count (a + m)) whole ∙ octets-add count a (256 * b) in
     ap (λ d. d ∷ octets count (a + 256 ^ suc count * b)) digit ∙ ap (λ ds. (a / 256 ^ count % 256) ∷ ds) rest
 
@@ -199,13 +210,16 @@ pub ruleset number_lengths = (length-canon_number, length-octets, octets_from_ze
 pub ruleset header_lengths = (header_short, header_long)
 
 -- a number below zero, of 64 bits
-pub extended_below : (z y : ℤ) (m : ℕ) → y ≡ z → SFits w32 z → lt_z y (pos 0) ≡ true → m ≡ magnitude_of y → octets (length (canon_number z)) (18446744073709551615 - m) ≡ canon_number z
+pub extended_below : (z y : ℤ) (m : ℕ) → y ≡ z → SFits w32 z → lt_z y (pos 0) ≡ true → m ≡ magnitude_of y
+    → octets (length (canon_number z)) (18446744073709551615 - m) ≡ canon_number z
 extended_below z y m same fits below e = below_zero z m fits (ap (λ x. lt_z x (pos 0)) (sym same) ∙ below) (e ∙ ap magnitude_of same)
   where
-    below_zero : (z : ℤ) (m : ℕ) → SFits w32 z → lt_z z (pos 0) ≡ true → m ≡ magnitude_of z → octets (length (canon_number z)) (18446744073709551615 - m) ≡ canon_number z
+    below_zero : (z : ℤ) (m : ℕ) → SFits w32 z → lt_z z (pos 0) ≡ true → m ≡ magnitude_of z
+        → octets (length (canon_number z)) (18446744073709551615 - m) ≡ canon_number z
     below_zero (pos n) m fits below e = absurd (grind (arith, nat_tests))
     below_zero (negsuc n) m fits below e =
-        ap (λ k. octets k (18446744073709551615 - m)) (length-canon_number (negsuc n)) ∙ ap (λ k. octets (number_size n) (18446744073709551615 - k)) e ∙ octets_below_zero n (omega (arith, fits))
+        ap (λ k. octets k (18446744073709551615 - m)) (length-canon_number (negsuc n)) ∙ ap (λ k. octets (number_size n) (18446744073709551615 - k)) e
+        ∙ octets_below_zero n (omega (arith, fits))
 
 -- a number from zero
 pub extended_above : (z y : ℤ) (m : ℕ) → y ≡ z → lt_z y (pos 0) ≡ false → m ≡ magnitude_of y → octets (length (canon_number z)) m ≡ canon_number z

@@ -11,7 +11,8 @@ unfolding canon_header
 length-canon_header tag size = let one : length (tag ∷ canon_length size) ≡ 1 + length (canon_length size) = omega arith in one
 
 -- a tag before a length
-pub writes_tag : {old mid new : List ℕ} {start middle end : ℕ} (tag size : ℕ) → Writes old middle end (canon_length size) mid → Writes mid start middle (tag ∷ []) new → Writes old start end (canon_header tag size) new
+pub writes_tag : {old mid new : List ℕ} {start middle end : ℕ} (tag size : ℕ) → Writes old middle end (canon_length size) mid
+    → Writes mid start middle (tag ∷ []) new → Writes old start end (canon_header tag size) new
 unfolding canon_header
 writes_tag tag size w v = writes_then w v
 
@@ -20,7 +21,8 @@ unfolding canon_element
 length-canon_element tag content = omega (arith, length-append (canon_header tag (length content)) content, length-canon_header tag (length content))
 
 -- a header before its content
-pub writes_element : {old mid new content : List ℕ} {start middle end : ℕ} (tag : ℕ) → Writes old middle end content mid → Writes mid start middle (canon_header tag (end - middle)) new → Writes old start end (canon_element tag content) new
+pub writes_element : {old mid new content : List ℕ} {start middle end : ℕ} (tag : ℕ) → Writes old middle end content mid
+    → Writes mid start middle (canon_header tag (end - middle)) new → Writes old start end (canon_element tag content) new
 unfolding canon_element
 writes_element {old} {mid} {new} {content} {start} {middle} {end} tag w v =
     let size : end - middle ≡ length content = omega (arith, w.begins) in
@@ -31,14 +33,17 @@ pub content_fits : (tag end : ℕ) (content : List ℕ) → length (canon_elemen
 content_fits tag end content room = omega (arith, length-canon_element tag content)
 
 -- and its header has room before it
-pub header_fits : {old mid content : List ℕ} {middle end : ℕ} (tag : ℕ) → Writes old middle end content mid → length (canon_element tag content) ≤ end → length (canon_header tag (end - middle)) ≤ middle
+pub header_fits : {old mid content : List ℕ} {middle end : ℕ} (tag : ℕ) → Writes old middle end content mid → length (canon_element tag content) ≤ end
+    → length (canon_header tag (end - middle)) ≤ middle
 header_fits {old} {mid} {content} {middle} {end} tag w room =
     let size : length content ≡ end - middle = omega (arith, w.begins) in
-    let header : length (canon_header tag (end - middle)) ≡ 1 + length (canon_length (length content)) = length-canon_header tag (end - middle) ∙ ap (λ n. 1 + length (canon_length n)) (sym size) in
+    let header : length (canon_header tag (end - middle)) ≡ 1 + length (canon_length (length content)) = length-canon_header tag (end - middle)
+    ∙ ap (λ n. 1 + length (canon_length n)) (sym size) in
     omega (arith, header, length-canon_element tag content, w.begins)
 
 -- the sizes of a header and a content are that of the element
-pub element_size : (tag header size : ℕ) (content : List ℕ) → size ≡ length content → header ≡ 1 + length (canon_length size) → header + size ≡ length (canon_element tag content)
+pub element_size : (tag header size : ℕ) (content : List ℕ) → size ≡ length content → header ≡ 1 + length (canon_length size)
+    → header + size ≡ length (canon_element tag content)
 element_size tag header size content s h =
     let same : 1 + length (canon_length size) ≡ 1 + length (canon_length (length content)) = ap (λ n. 1 + length (canon_length n)) s in
     omega (arith, same, length-canon_element tag content)
@@ -47,16 +52,22 @@ value_is : (value : Datum) → canon_value value ≡ canon_element (value_tag va
 unfolding canon_value
 value_is value = refl
 
-pub sizes_value : (header size : ℕ) (value : Datum) → size ≡ length (canon_content value) → header ≡ 1 + length (canon_length size) → header + size ≡ length (canon_value value)
+pub sizes_value : (header size : ℕ) (value : Datum) → size ≡ length (canon_content value) → header ≡ 1 + length (canon_length size)
+    → header + size ≡ length (canon_value value)
 sizes_value header size value s h = element_size (value_tag value) header size (canon_content value) s h ∙ ap length (sym (value_is value))
 
 pub value_content_fits : (end : ℕ) (value : Datum) → length (canon_value value) ≤ end → length (canon_content value) ≤ end
-value_content_fits end value room = content_fits (value_tag value) end (canon_content value) (subst (λ (octets : List ℕ). length octets ≤ end) (value_is value) room)
+value_content_fits end value room = content_fits (value_tag value) end (canon_content value)
+    (subst (λ (octets : List ℕ). length octets ≤ end) (value_is value) room)
 
-pub value_header_fits : {old mid : List ℕ} {middle end : ℕ} (tag : ℕ) (value : Datum) → tag ≡ value_tag value → Writes old middle end (canon_content value) mid → length (canon_value value) ≤ end → length (canon_header tag (end - middle)) ≤ middle
-value_header_fits {old} {mid} {middle} {end} tag value e w room = header_fits tag w (subst (λ (octets : List ℕ). length octets ≤ end) (value_is value ∙ ap (λ t. canon_element t (canon_content value)) (sym e)) room)
+pub value_header_fits : {old mid : List ℕ} {middle end : ℕ} (tag : ℕ) (value : Datum) → tag ≡ value_tag value
+    → Writes old middle end (canon_content value) mid → length (canon_value value) ≤ end → length (canon_header tag (end - middle)) ≤ middle
+value_header_fits {old} {mid} {middle} {end} tag value e w room = header_fits tag w
+    (subst (λ (octets : List ℕ). length octets ≤ end) (value_is value ∙ ap (λ t. canon_element t (canon_content value)) (sym e)) room)
 
-pub writes_value : {old mid new : List ℕ} {start middle end : ℕ} (tag : ℕ) (value : Datum) → tag ≡ value_tag value → Writes old middle end (canon_content value) mid → Writes mid start middle (canon_header tag (end - middle)) new → Writes old start end (canon_value value) new
+pub writes_value : {old mid new : List ℕ} {start middle end : ℕ} (tag : ℕ) (value : Datum) → tag ≡ value_tag value
+    → Writes old middle end (canon_content value) mid → Writes mid start middle (canon_header tag (end - middle)) new
+    → Writes old start end (canon_value value) new
 writes_value tag value e w v = writes_same (writes_element tag w v) (ap (λ t. canon_element t (canon_content value)) e ∙ sym (value_is value))
 
 pub content_number : (z : ℤ) → canon_content (integer_value z) ≡ canon_number z
@@ -68,12 +79,14 @@ unfolding canon_content
 content_text text = refl
 
 -- the same of a content whose size is known
-pub sized_header_fits : {old mid content : List ℕ} {middle end : ℕ} (tag size : ℕ) → size ≡ length content → Writes old middle end content mid → length (canon_element tag content) ≤ end → length (canon_header tag size) ≤ middle
+pub sized_header_fits : {old mid content : List ℕ} {middle end : ℕ} (tag size : ℕ) → size ≡ length content → Writes old middle end content mid
+    → length (canon_element tag content) ≤ end → length (canon_header tag size) ≤ middle
 sized_header_fits {old} {mid} {content} {middle} {end} tag size e w room =
     let same : end - middle ≡ size = omega (arith, e, w.begins) in
     subst (λ (k : ℕ). length (canon_header tag k) ≤ middle) same (header_fits tag w room)
 
-pub writes_sized : {old mid new content : List ℕ} {start middle end : ℕ} (tag size : ℕ) → size ≡ length content → Writes old middle end content mid → Writes mid start middle (canon_header tag size) new → Writes old start end (canon_element tag content) new
+pub writes_sized : {old mid new content : List ℕ} {start middle end : ℕ} (tag size : ℕ) → size ≡ length content → Writes old middle end content mid
+    → Writes mid start middle (canon_header tag size) new → Writes old start end (canon_element tag content) new
 writes_sized {old} {mid} {new} {content} {start} {middle} {end} tag size e w v =
     let same : size ≡ end - middle = omega (arith, e, w.begins) in
     writes_element tag w (writes_same v (ap (canon_header tag) same))

@@ -15,7 +15,8 @@ low_bit w i none set =
     let small = bit_at-lt w i in
     omega arith
 
-pub low_octets : (a b c d : ℕ) → a < 256 → b < 256 → c < 256 → d < 256 → bit_and (from_le_bytes w32 (a ∷ b ∷ c ∷ d ∷ [])) high_bits ≡ 0 → (a < 128) × (b < 128) × (c < 128) × (d < 128)
+pub low_octets : (a b c d : ℕ) → a < 256 → b < 256 → c < 256 → d < 256 → bit_and (from_le_bytes w32 (a ∷ b ∷ c ∷ d ∷ [])) high_bits ≡ 0
+    → (a < 128) × (b < 128) × (c < 128) × (d < 128)
 low_octets a b c d fa fb fc fd none =
     let w : ℕ = from_le_bytes w32 (a ∷ b ∷ c ∷ d ∷ []) in
     let worth : w ≡ a + 256 * b + 65536 * c + 16777216 * d = omega arith in

@@ -1,5 +1,6 @@
 -- What is read as an identifier is one, and what is one is read.
-use Rattle.std.proofs.Common.{◌≡◌, ◌≢◌, ℕ, zero, suc, ◌+◌, ◌-◌, ◌*◌, ◌%◌, ◌^◌, ◌<◌, ◌≤◌, cond, eqb, ltb, List, [], ◌∷◌, ◌++◌, length, get_or, map, Ok, Err, refl, sym, ap, subst, ◌∙◌, arith, lit<, inl, inr}
+use Rattle.std.proofs.Common.{◌≡◌, ◌≢◌, ℕ, zero, suc, ◌+◌, ◌-◌, ◌*◌, ◌%◌, ◌^◌, ◌<◌, ◌≤◌, cond, eqb, ltb, List, [], ◌∷◌, ◌++◌, length, get_or, map, Ok, Err}
+use Rattle.std.proofs.Common.{refl, sym, ap, subst, ◌∙◌, arith, lit<, inl, inr}
 use Rattle.std.specs.List.{AllByRecursion}
 use Rattle.std.proofs.Math.Nat.{pow-suc, one-le-pow, mul-le-mul_left}
 use Rattle.std.proofs.lemmas.Bool.{ltb-true, ltb-false, lt-ltb, le-ltb, eqb-false, ne_eqb, cases_lt}
@@ -8,7 +9,8 @@ use Rattle.std.proofs.lemmas.List.Elements.{All-from_recursion, recursion_from_A
 use Rattle.snmp_ber.specs.declared.error.BerError.TheVariants as error
 use Rattle.snmp_ber.specs.Number.{number_of}
 use Rattle.snmp_ber.specs.Identifier.{IsSubidentifier, AreSubidentifiers, IsObjectId}
-use Rattle.snmp_ber.specs.Reading.{◌>>=◌, largest_subidentifier, subidentifier_from, subidentifier_at, number_at, numbers_of, first_number, second_number, identifier_of}
+use Rattle.snmp_ber.specs.Reading.{◌>>=◌, largest_subidentifier, subidentifier_from, subidentifier_at, number_at, numbers_of, first_number, second_number}
+use Rattle.snmp_ber.specs.Reading.{identifier_of}
 use Rattle.snmp_ber.proofs.ReadingLemmas.{done, ok_is, bind_ok, chosen, passed, refused}
 use Rattle.snmp_ber.proofs.IdentifierLemmas.{numbers_step}
 
@@ -42,7 +44,8 @@ digits_take n (octet ∷ rest) x e =
     let q = refused (ltb largest_subidentifier next) (cond (ltb octet 128) (Ok (next, rest)) (subidentifier_from next rest)) error.Content x e in
     let small : next ≤ largest_subidentifier = ltb-false largest_subidentifier next q.0 in
     elim (chosen (ltb octet 128) (done (next, rest)) (subidentifier_from next rest) (Ok x) q.1) [
-      | inl h ↦ subst (TakesDigits n (octet ∷ rest)) (ok_is (next, rest) x h.1) (record { front = []; last = octet; parts = refl; goes_on = tt; ends = ltb-true octet 128 h.0; value = omega arith; small = small })
+      | inl h ↦ subst (TakesDigits n (octet ∷ rest)) (ok_is (next, rest) x h.1)
+          (record { front = []; last = octet; parts = refl; goes_on = tt; ends = ltb-true octet 128 h.0; value = omega arith; small = small })
       | inr h ↦
           let t = digits_take next rest x h.1 in
           record {
@@ -60,7 +63,8 @@ digits_take n (octet ∷ rest) x e =
 value_behind_grows : (n : ℕ) (octets : List ℕ) → n ≤ value_behind n octets
 value_behind_grows n octets = omega (arith, mul-le-mul_left n (one-le-pow (length octets) 128 (lit< tt)))
 
-digits_again : (n : ℕ) (front : List ℕ) (last : ℕ) (rest : List ℕ) → AllByRecursion (λ octet. 128 ≤ octet) front → last < 128 → value_behind n (front ++ last ∷ []) ≤ largest_subidentifier
+digits_again : (n : ℕ) (front : List ℕ) (last : ℕ) (rest : List ℕ) → AllByRecursion (λ octet. 128 ≤ octet) front → last < 128
+    → value_behind n (front ++ last ∷ []) ≤ largest_subidentifier
     → subidentifier_from n ((front ++ last ∷ []) ++ rest) ≡ Ok (value_behind n (front ++ last ∷ []), rest)
 unfolding subidentifier_from
 digits_again n [] last rest goes_on ends small =
@@ -80,7 +84,8 @@ record TakesSubidentifier (octets : List ℕ) (x : ℕ × List ℕ) : Type 0 whe
   parts : octets ≡ text ++ x.1
   small : x.0 ≤ largest_subidentifier
 
-front_octet : (front : List ℕ) (last : ℕ) (rest : List ℕ) (first : ℕ) (tail : List ℕ) → first ∷ tail ≡ (front ++ last ∷ []) ++ rest → get_or (front ++ last ∷ []) 0 0 ≡ first
+front_octet : (front : List ℕ) (last : ℕ) (rest : List ℕ) (first : ℕ) (tail : List ℕ) → first ∷ tail ≡ (front ++ last ∷ []) ++ rest
+    → get_or (front ++ last ∷ []) 0 0 ≡ first
 front_octet [] last rest first tail e = cc
 front_octet (octet ∷ front) last rest first tail e = cc
 
@@ -105,12 +110,14 @@ subidentifier_takes (first ∷ rest) x e =
 pub subidentifier_small : (octets : List ℕ) (x : ℕ × List ℕ) → subidentifier_at octets ≡ Ok x → x.0 ≤ largest_subidentifier
 subidentifier_small octets x e = (subidentifier_takes octets x e).small
 
-at_front : (front : List ℕ) (last : ℕ) (rest : List ℕ) → get_or (front ++ last ∷ []) 0 0 ≢ 128 → subidentifier_at ((front ++ last ∷ []) ++ rest) ≡ subidentifier_from 0 ((front ++ last ∷ []) ++ rest)
+at_front : (front : List ℕ) (last : ℕ) (rest : List ℕ) → get_or (front ++ last ∷ []) 0 0 ≢ 128
+    → subidentifier_at ((front ++ last ∷ []) ++ rest) ≡ subidentifier_from 0 ((front ++ last ∷ []) ++ rest)
 unfolding subidentifier_at
 at_front [] last rest ne = rw (ne_eqb last 128 ne) refl
 at_front (octet ∷ front) last rest ne = rw (ne_eqb octet 128 ne) refl
 
-subidentifier_again : (text : List ℕ) (n : ℕ) (rest : List ℕ) → IsSubidentifier text n → n ≤ largest_subidentifier → subidentifier_at (text ++ rest) ≡ Ok (n, rest)
+subidentifier_again : (text : List ℕ) (n : ℕ) (rest : List ℕ) → IsSubidentifier text n → n ≤ largest_subidentifier
+    → subidentifier_at (text ++ rest) ≡ Ok (n, rest)
 subidentifier_again text n rest h small =
     let t = h.front ++ h.last ∷ [] in
     let is_value : number_of 128 (digits t) ≡ n = ap (λ (o : List ℕ). number_of 128 (digits o)) (sym h.parts) ∙ h.value in
@@ -158,7 +165,8 @@ numbers_take (suc room) (octet ∷ rest) ns e =
       small = (t.1, more.small);
     })
 
-numbers_again : (room : ℕ) (octets ns : List ℕ) → AreSubidentifiers octets ns → length ns ≤ room → AllByRecursion (λ n. n < 2 ^ 32) ns → numbers_of room octets ≡ Ok ns
+numbers_again : (room : ℕ) (octets ns : List ℕ) → AreSubidentifiers octets ns → length ns ≤ room → AllByRecursion (λ n. n < 2 ^ 32) ns
+    → numbers_of room octets ≡ Ok ns
 unfolding numbers_of
 numbers_again room octets [] parts few small = ap (numbers_of room) parts
 numbers_again room octets (n ∷ more) parts few small =
@@ -185,8 +193,18 @@ record Splits (n : ℕ) : Type 0 where
 splits : (n : ℕ) → n ≤ largest_subidentifier → Splits n
 splits n small =
     elim (cases_lt n 80) [
-      | inl lt ↦ record { first = rw (lt-ltb n 80 lt) (omega arith); second = rw (lt-ltb n 80 lt) (λ _. omega arith); small = rw (lt-ltb n 80 lt) (omega arith) }
-      | inr le ↦ record { first = rw (le-ltb n 80 le) (omega arith); second = rw (le-ltb n 80 le) (λ h. omega arith); small = rw (le-ltb n 80 le) (omega arith) }
+      | inl lt ↦ record {
+        first = rw (lt-ltb n 80 lt) (omega arith);
+        second = rw (lt-ltb n 80 lt) (λ _. omega arith);
+        small =
+            rw (lt-ltb n 80 lt) (omega arith);
+      }
+      | inr le ↦ record {
+        first = rw (le-ltb n 80 le) (omega arith);
+        second = rw (le-ltb n 80 le) (λ h. omega arith);
+        small =
+            rw (le-ltb n 80 le) (omega arith);
+      }
     ]
 
 pub identifier_takes : (content name : List ℕ) → identifier_of content ≡ Ok name → IsObjectId content name
@@ -203,14 +221,23 @@ identifier_takes content name e =
     let is_first : IsSubidentifier t.text (40 * first_number n + second_number n) = subst (IsSubidentifier t.text) (sym same) t.is_subidentifier in
     subst (IsObjectId content) (ok_is (first_number n ∷ second_number n ∷ b.0) name b.2) (record {
       wire = (s.first, s.second);
-      identifier = record { short = omega arith; numbers = All-from_recursion (λ m. m < 2 ^ 32) (first_number n ∷ second_number n ∷ b.0) ((let two = s.first in omega arith), (s.small, more.small)) };
+      identifier = record {
+        short = omega arith;
+        numbers = All-from_recursion (λ m. m < 2 ^ 32) (first_number n ∷ second_number n ∷ b.0)
+            ((let two = s.first in omega arith), (s.small, more.small));
+      };
       parts = (t.text, a.0.1, t.parts, is_first, more.parts);
     })
 
-joins : (x y : ℕ) → x ≤ 2 → (x < 2 → y < 40) → y < 2 ^ 32 → (first_number (40 * x + y) ≡ x) × (second_number (40 * x + y) ≡ y) × (40 * x + y ≤ largest_subidentifier)
+joins : (x y : ℕ) → x ≤ 2 → (x < 2 → y < 40) → y < 2 ^ 32 → (first_number (40 * x + y) ≡ x) × (second_number (40 * x + y) ≡ y)
+    × (40 * x + y ≤ largest_subidentifier)
 joins x y first second small =
     elim (cases_lt x 2) [
-      | inl lt ↦ let few = second lt in (rw (lt-ltb (40 * x + y) 80 (omega arith)) (omega arith), rw (lt-ltb (40 * x + y) 80 (omega arith)) (omega arith), omega arith)
+      | inl lt ↦ let few = second lt in (
+        rw (lt-ltb (40 * x + y) 80 (omega arith)) (omega arith),
+        rw (lt-ltb (40 * x + y) 80 (omega arith)) (omega arith),
+        omega arith,
+      )
       | inr le ↦ (rw (le-ltb (40 * x + y) 80 (omega arith)) (omega arith), rw (le-ltb (40 * x + y) 80 (omega arith)) (omega arith), omega arith)
     ]
 
@@ -225,4 +252,5 @@ identifier_again content (x ∷ y ∷ more) h =
     let rest = h.parts.1 in
     let short = h.identifier.short in
     let others = numbers_again 126 rest more h.parts.4 (omega arith) small.1.1 in
-    ap identifier_of h.parts.2 ∙ rw (subidentifier_again text (40 * x + y) rest h.parts.3 j.2, others) (ap (λ (v : ℕ). done (v ∷ second_number (40 * x + y) ∷ more)) j.0 ∙ ap (λ (v : ℕ). done (x ∷ v ∷ more)) j.1)
+    ap identifier_of h.parts.2 ∙ rw (subidentifier_again text (40 * x + y) rest h.parts.3 j.2, others)
+    (ap (λ (v : ℕ). done (v ∷ second_number (40 * x + y) ∷ more)) j.0 ∙ ap (λ (v : ℕ). done (x ∷ v ∷ more)) j.1)

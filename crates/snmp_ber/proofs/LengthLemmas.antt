@@ -1,5 +1,6 @@
 -- What is read as a length or an element is one, and what is one is read.
-use Rattle.std.proofs.Common.{◌≡◌, ℕ, suc, ◌+◌, ◌-◌, ◌<◌, ◌≤◌, false, cond, eqb, ltb, ◌&&◌, List, [], ◌∷◌, ◌++◌, length, take, drop, Ok, Err, refl, sym, ap, subst, ◌∙◌, append_assoc, arith, inl, inr}
+use Rattle.std.proofs.Common.{◌≡◌, ℕ, suc, ◌+◌, ◌-◌, ◌<◌, ◌≤◌, false, cond, eqb, ltb, ◌&&◌, List, [], ◌∷◌, ◌++◌, length, take, drop, Ok, Err, refl, sym, ap}
+use Rattle.std.proofs.Common.{subst, ◌∙◌, append_assoc, arith, inl, inr}
 use Rattle.std.proofs.lemmas.Bool.{ltb-true, ltb-false, lt-ltb, le-ltb, eqb-true, eq-eqb, and_parts}
 use Rattle.std.proofs.lemmas.List.{take_at, drop_at, take-append-drop, length-append, length-take-le}
 use Rattle.snmp_ber.specs.declared.error.BerError.{BerError}
@@ -49,12 +50,21 @@ short_length_again : (cut : BerError) (n : ℕ) (rest : List ℕ) → n < 128 �
 unfolding length_at
 short_length_again cut n rest small = rw (lt-ltb n 128 small) refl
 
-long_length_again : (cut : BerError) (digits rest : List ℕ) → 1 ≤ length digits → length digits ≤ 4 → length_at cut ((128 + length digits) ∷ (digits ++ rest)) ≡ Ok (unsigned digits, rest)
+long_length_again : (cut : BerError) (digits rest : List ℕ) → 1 ≤ length digits → length digits ≤ 4
+    → length_at cut ((128 + length digits) ∷ (digits ++ rest)) ≡ Ok (unsigned digits, rest)
 unfolding length_at long_length_at
 long_length_again cut digits rest some few =
     let width : 128 + length digits - 128 ≡ length digits = omega arith in
     let room : ltb (length (digits ++ rest)) (length digits) ≡ false = le-ltb _ _ (omega (arith, length-append digits rest)) in
-    rw (le-ltb (128 + length digits) 128 (omega arith), lt-ltb 128 (128 + length digits) (omega arith), lt-ltb (128 + length digits) 133 (omega arith), width, room, take_at digits rest (length digits) refl, drop_at digits rest (length digits) refl) refl
+    rw (
+      le-ltb (128 + length digits) 128 (omega arith),
+      lt-ltb 128 (128 + length digits) (omega arith),
+      lt-ltb (128 + length digits) 133 (omega arith),
+      width,
+      room,
+      take_at digits rest (length digits) refl,
+      drop_at digits rest (length digits) refl,
+    ) refl
 
 pub length_again : (cut : BerError) (lead : List ℕ) (n : ℕ) (rest : List ℕ) → IsLength lead n → length_at cut (lead ++ rest) ≡ Ok (n, rest)
 length_again cut lead n rest (inl s) = rw s.one (short_length_again cut n rest s.small)
@@ -80,30 +90,42 @@ content_takes cut octets x e =
     let parts : octets ≡ t.0 ++ (take n after ++ drop n after) = t.2 ∙ ap (λ (tail : List ℕ). t.0 ++ tail) (sym (take-append-drop n after)) in
     subst (TakesContent octets) (ok_is (take n after, drop n after) x q.1) (t.0, is_length, parts)
 
-pub content_again : (cut : BerError) (lead content rest : List ℕ) → IsLength lead (length content) → content_at cut (lead ++ (content ++ rest)) ≡ Ok (content, rest)
+pub content_again : (cut : BerError) (lead content rest : List ℕ) → IsLength lead (length content)
+    → content_at cut (lead ++ (content ++ rest)) ≡ Ok (content, rest)
 unfolding content_at
 content_again cut lead content rest h =
     let room : ltb (length (content ++ rest)) (length content) ≡ false = le-ltb _ _ (omega (arith, length-append content rest)) in
-    rw (length_again cut lead (length content) (content ++ rest) h, room, take_at content rest (length content) refl, drop_at content rest (length content) refl) refl
+    rw (
+      length_again cut lead (length content) (content ++ rest) h,
+      room,
+      take_at content rest (length content) refl,
+      drop_at content rest (length content) refl,
+    ) refl
 
 -- an element at the front, and what follows
 abbrev pub TakesElement : ℕ → List ℕ → List ℕ → List ℕ → Type 0
 TakesElement tag octets content rest = (element : List ℕ) × IsElement tag content element × (octets ≡ element ++ rest)
 
 element_from : (tag : ℕ) (octets : List ℕ) (x : List ℕ × List ℕ) → TakesContent octets x → TakesElement tag (tag ∷ octets) x.0 x.1
-element_from tag octets x t = (tag ∷ t.0 ++ x.0, record { length_octets = t.0; is_length = t.1; parts = refl }, ap (λ (tail : List ℕ). tag ∷ tail) (t.2 ∙ sym (append_assoc t.0 x.0 x.1)))
+element_from tag octets x t = (
+  tag ∷ t.0 ++ x.0,
+  record { length_octets = t.0; is_length = t.1; parts = refl },
+  ap (λ (tail : List ℕ). tag ∷ tail) (t.2 ∙ sym (append_assoc t.0 x.0 x.1)),
+)
 
 pub inner_takes : (tag : ℕ) (octets : List ℕ) (x : List ℕ × List ℕ) → inner_at tag octets ≡ Ok x → TakesElement tag octets x.0 x.1
 unfolding inner_at
 inner_takes tag [] x e = absurd cc
 inner_takes tag (found ∷ octets) x e =
     let p = passed (eqb found tag) (content_at error.Length octets) error.Tag x e in
-    subst (λ (t : ℕ). TakesElement tag (t ∷ octets) x.0 x.1) (sym (eqb-true found tag p.0)) (element_from tag octets x (content_takes error.Length octets x p.1))
+    subst (λ (t : ℕ). TakesElement tag (t ∷ octets) x.0 x.1) (sym (eqb-true found tag p.0))
+    (element_from tag octets x (content_takes error.Length octets x p.1))
 
 pub inner_again : (tag : ℕ) (content element rest : List ℕ) → IsElement tag content element → inner_at tag (element ++ rest) ≡ Ok (content, rest)
 unfolding inner_at
 inner_again tag content element rest h =
-    let regrouped : element ++ rest ≡ tag ∷ (h.length_octets ++ (content ++ rest)) = ap (λ (o : List ℕ). o ++ rest) h.parts ∙ ap (λ (tail : List ℕ). tag ∷ tail) (append_assoc h.length_octets content rest) in
+    let regrouped : element ++ rest ≡ tag ∷ (h.length_octets ++ (content ++ rest)) = ap (λ (o : List ℕ). o ++ rest) h.parts
+    ∙ ap (λ (tail : List ℕ). tag ∷ tail) (append_assoc h.length_octets content rest) in
     ap (inner_at tag) regrouped ∙ rw (eq-eqb tag tag refl) (content_again error.Length h.length_octets content rest h.is_length)
 
 pub element_takes : (octets : List ℕ) (x : ℕ × List ℕ × List ℕ) → element_at octets ≡ Ok x → TakesElement x.0 octets x.1 x.2
@@ -111,12 +133,14 @@ unfolding element_at
 element_takes [] x e = absurd cc
 element_takes (tag ∷ octets) x e =
     let b = bind_ok (content_at error.Length octets) (λ c. Ok (tag, c.0, c.1)) x e in
-    subst (λ (y : ℕ × List ℕ × List ℕ). TakesElement y.0 (tag ∷ octets) y.1 y.2) (ok_is (tag, b.0.0, b.0.1) x b.2) (element_from tag octets b.0 (content_takes error.Length octets b.0 b.1))
+    subst (λ (y : ℕ × List ℕ × List ℕ). TakesElement y.0 (tag ∷ octets) y.1 y.2) (ok_is (tag, b.0.0, b.0.1) x b.2)
+    (element_from tag octets b.0 (content_takes error.Length octets b.0 b.1))
 
 pub element_again : (tag : ℕ) (content element rest : List ℕ) → IsElement tag content element → element_at (element ++ rest) ≡ Ok (tag, content, rest)
 unfolding element_at
 element_again tag content element rest h =
-    let regrouped : element ++ rest ≡ tag ∷ (h.length_octets ++ (content ++ rest)) = ap (λ (o : List ℕ). o ++ rest) h.parts ∙ ap (λ (tail : List ℕ). tag ∷ tail) (append_assoc h.length_octets content rest) in
+    let regrouped : element ++ rest ≡ tag ∷ (h.length_octets ++ (content ++ rest)) = ap (λ (o : List ℕ). o ++ rest) h.parts
+    ∙ ap (λ (tail : List ℕ). tag ∷ tail) (append_assoc h.length_octets content rest) in
     ap element_at regrouped ∙ rw (content_again error.Length h.length_octets content rest h.is_length) refl
 
 -- an element has octets of its own

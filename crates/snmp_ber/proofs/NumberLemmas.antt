@@ -9,11 +9,13 @@ pub number_of-push : (base : ℕ) (digits : List ℕ) (digit : ℕ) → number_o
 number_of-push base [] digit = rw pow-zero (omega arith)
 number_of-push base (first ∷ rest) digit =
     let more = number_of-push base rest digit in
-    let longer : base ^ length (rest ++ digit ∷ []) ≡ base ^ length rest * base = ap (λ n. base ^ n) (length_push rest digit) ∙ rw add-one (pow-suc base (length rest)) in
+    let longer : base ^ length (rest ++ digit ∷ []) ≡ base ^ length rest * base = ap (λ n. base ^ n) (length_push rest digit)
+    ∙ rw add-one (pow-suc base (length rest)) in
     omega (arith, more, ap (λ n. first * n) longer)
 
 -- the step of a loop over the digits
-pub number_of-more : (base : ℕ) (digits : List ℕ) (i : ℕ) → i < length digits → number_of base (take (i + 1) digits) ≡ number_of base (take i digits) * base + get_or digits i 0
+pub number_of-more : (base : ℕ) (digits : List ℕ) (i : ℕ) → i < length digits
+    → number_of base (take (i + 1) digits) ≡ number_of base (take i digits) * base + get_or digits i 0
 number_of-more base digits i lt = ap (number_of base) (take_more digits i 0 lt) ∙ number_of-push base (take i digits) (get_or digits i 0)
 
 -- with one more octet a number is still below its bound

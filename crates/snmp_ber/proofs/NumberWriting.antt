@@ -69,14 +69,16 @@ four_octets_fit n low high = number_large n 2 (omega (arith, high)) (omega (arit
 pub fifth_octet_fits : (n : ℕ) → 2147483648 ≤ n → n < 2 ^ 32 → 5 ≤ number_size n
 fifth_octet_fits n low high = number_large n 3 (omega (arith, high)) (omega (arith, low))
 
-pub writes_four_octets : {old new : List ℕ} {start end : ℕ} (n : ℕ) → 8388608 ≤ n → n < 2147483648 → Writes old start end (octets 4 n) new → Writes old start end (canon_number (pos n)) new
+pub writes_four_octets : {old new : List ℕ} {start end : ℕ} (n : ℕ) → 8388608 ≤ n → n < 2147483648 → Writes old start end (octets 4 n) new
+    → Writes old start end (canon_number (pos n)) new
 writes_four_octets n low high w = writes_same w (ap (λ k. octets k n) (sym (size_four n low high)) ∙ octets_from_zero n)
 
 -- a zero octet stands before a highest bit
 five_octets : (n : ℕ) → n < 2 ^ 32 → 0 ∷ octets 4 n ≡ octets 5 n
 five_octets n h = let zero_octet : n / 256 ^ 4 % 256 ≡ 0 = omega (arith, h) in sym (octets-suc 4 n ∙ ap (λ d. d ∷ octets 4 n) zero_octet)
 
-pub writes_five_octets : {old mid new : List ℕ} {start middle end : ℕ} (n : ℕ) → 2147483648 ≤ n → n < 2 ^ 32 → Writes old middle end (octets 4 n) mid → Writes mid start middle (0 ∷ []) new → Writes old start end (canon_number (pos n)) new
+pub writes_five_octets : {old mid new : List ℕ} {start middle end : ℕ} (n : ℕ) → 2147483648 ≤ n → n < 2 ^ 32 → Writes old middle end (octets 4 n) mid
+    → Writes mid start middle (0 ∷ []) new → Writes old start end (canon_number (pos n)) new
 writes_five_octets n low high w v = writes_same (writes_then w v) (five_octets n high ∙ ap (λ k. octets k n) (sym (size_five n low high)) ∙ octets_from_zero n)
 
 -- one octet, and two

@@ -1,16 +1,20 @@
 -- No spelling by the standard is shorter than the one that is written.
-use Rattle.std.proofs.Common.{◌≡◌, ℕ, ℤ, pos, negsuc, ◌+◌, ◌-◌, ◌*◌, ◌%◌, ◌^◌, ◌<◌, ◌≤◌, suc, zero, List, [], ◌∷◌, ◌++◌, length, get_or, map, refl, sym, ap, subst, ◌∙◌, ⊎_elim, arith, length-append}
+use Rattle.std.proofs.Common.{◌≡◌, ℕ, ℤ, pos, negsuc, ◌+◌, ◌-◌, ◌*◌, ◌%◌, ◌^◌, ◌<◌, ◌≤◌, suc, zero, List, [], ◌∷◌, ◌++◌, length, get_or, map, refl, sym, ap}
+use Rattle.std.proofs.Common.{subst, ◌∙◌, ⊎_elim, arith, length-append}
 use Rattle.std.proofs.Math.Nat.{mul-le-mul_right, pow-suc, pow-zero}
 use Rattle.std.proofs.lemmas.Nat.{mul-add-lt}
 use Rattle.std.proofs.lemmas.Bool.{cases_lt}
 use Rattle.std.specs.List.{AllByRecursion, flat_map}
-use Rattle.snmp_ber.specs.Canon.{canon_content, canon_element, canon_length, canon_number, canon_subidentifier, canon_value, digit_count, length_size, number_size, octets, subidentifier_size}
+use Rattle.snmp_ber.specs.Canon.{canon_content, canon_element, canon_length, canon_number, canon_subidentifier, canon_value, digit_count, length_size}
+use Rattle.snmp_ber.specs.Canon.{number_size, octets, subidentifier_size}
 use Rattle.snmp_ber.specs.Identifier.{AreSubidentifiers, IsSubidentifier, subidentifiers}
 use Rattle.snmp_ber.specs.Length.{IsElement, IsLength, IsLongLength, IsShortLength}
-use Rattle.snmp_ber.specs.Value.{Datum, integer_value, octet_string, null_value, object_id, ip_address, counter32, gauge32, time_ticks, opaque_octets, counter64, no_such_object, no_such_instance, end_of_mib_view}
+use Rattle.snmp_ber.specs.Value.{Datum, integer_value, octet_string, null_value, object_id, ip_address, counter32, gauge32, time_ticks, opaque_octets}
+use Rattle.snmp_ber.specs.Value.{counter64, no_such_object, no_such_instance, end_of_mib_view}
 use Rattle.snmp_ber.specs.Number.{number_of, strict, twos_complement, unsigned}
 use Rattle.snmp_ber.specs.Spelling.{IsContent, SpellsValue, value_tag}
-use Rattle.snmp_ber.proofs.CanonLemmas.{canon_length_long, canon_length_short, count_left, count_taken, digit_some, digits_small, length-canon_number, length-octets, number_small}
+use Rattle.snmp_ber.proofs.CanonLemmas.{canon_length_long, canon_length_short, count_left, count_taken, digit_some, digits_small, length-canon_number}
+use Rattle.snmp_ber.proofs.CanonLemmas.{length-octets, number_small}
 use Rattle.snmp_ber.proofs.ElementLemmas.{length-canon_element}
 use Rattle.snmp_ber.proofs.IdentifierWriting.{length-canon_subidentifier}
 use Rattle.snmp_ber.proofs.StrictNumbers.{minus, negative, positive}
@@ -31,7 +35,8 @@ back_octets (x ∷ xs) ys h = back_octets xs ys h.1
 
 pub below_power : (base : ℕ) (digits : List ℕ) → AllByRecursion (λ digit. digit < base) digits → number_of base digits < base ^ length digits
 below_power base [] h = omega (arith, pow-zero base)
-below_power base (digit ∷ rest) h = let bound : digit * base ^ length rest + number_of base rest < base ^ length rest * base = mul-add-lt digit (base ^ length rest) (number_of base rest) base h.0 (below_power base rest h.1) in
+below_power base (digit ∷ rest) h = let bound : digit * base ^ length rest + number_of base rest < base ^ length rest * base =
+    mul-add-lt digit (base ^ length rest) (number_of base rest) base h.0 (below_power base rest h.1) in
     omega (arith, bound, pow-suc base (length rest))
 
 -- of a number of two's complement
@@ -42,28 +47,33 @@ number_shortest (first ∷ rest) z h some e =
     let low : number_of 256 rest < power = below_power 256 rest h.1 in
     ⊎_elim (λ small. from_zero first rest z h low small e) (λ large. from_below first rest z h low large e) (cases_lt first 128)
   where
-    from_zero : (first : ℕ) (rest : List ℕ) (z : ℤ) → Octets (first ∷ rest) → number_of 256 rest < 256 ^ length rest → first < 128 → twos_complement (first ∷ rest) ≡ z → length (canon_number z) ≤ suc (length rest)
+    from_zero : (first : ℕ) (rest : List ℕ) (z : ℤ) → Octets (first ∷ rest) → number_of 256 rest < 256 ^ length rest → first < 128
+        → twos_complement (first ∷ rest) ≡ z → length (canon_number z) ≤ suc (length rest)
     from_zero first rest z h low small e =
         let u : ℕ = unsigned (first ∷ rest) in
         let value : pos u ≡ z = sym (positive (first ∷ rest) small) ∙ e in
-        let bound : first * 256 ^ length rest + number_of 256 rest < 256 ^ length rest * 128 = mul-add-lt first (256 ^ length rest) (number_of 256 rest) 128 small low in
+        let bound : first * 256 ^ length rest + number_of 256 rest < 256 ^ length rest * 128 =
+        mul-add-lt first (256 ^ length rest) (number_of 256 rest) 128 small low in
         let size : number_size u ≤ 1 + length rest = number_small u (length rest) (omega (arith, bound)) in
         let whole : length (canon_number (pos u)) ≤ suc (length rest) = omega (arith, length-canon_number (pos u), size) in
         subst (λ (y : ℤ). length (canon_number y) ≤ suc (length rest)) value whole
 
-    from_below : (first : ℕ) (rest : List ℕ) (z : ℤ) → Octets (first ∷ rest) → number_of 256 rest < 256 ^ length rest → 128 ≤ first → twos_complement (first ∷ rest) ≡ z → length (canon_number z) ≤ suc (length rest)
+    from_below : (first : ℕ) (rest : List ℕ) (z : ℤ) → Octets (first ∷ rest) → number_of 256 rest < 256 ^ length rest → 128 ≤ first
+        → twos_complement (first ∷ rest) ≡ z → length (canon_number z) ≤ suc (length rest)
     from_below first rest z h low large e =
         let u : ℕ = unsigned (first ∷ rest) in
         let n : ℕ = 256 ^ suc (length rest) - u - 1 in
         let power : 256 ^ suc (length rest) ≡ 256 ^ length rest * 256 = pow-suc 256 (length rest) in
-        let high : first * 256 ^ length rest + number_of 256 rest < 256 ^ length rest * 256 = mul-add-lt first (256 ^ length rest) (number_of 256 rest) 256 h.0 low in
+        let high : first * 256 ^ length rest + number_of 256 rest < 256 ^ length rest * 256 =
+        mul-add-lt first (256 ^ length rest) (number_of 256 rest) 256 h.0 low in
         let least : 128 * 256 ^ length rest ≤ first * 256 ^ length rest = mul-le-mul_right (256 ^ length rest) large in
         let value : negsuc n ≡ z = sym (minus u n (256 ^ suc (length rest)) (omega (arith, high, power))) ∙ sym (negative (first ∷ rest) large) ∙ e in
         let size : number_size n ≤ 1 + length rest = number_small n (length rest) (omega (arith, least, power, high)) in
         let whole : length (canon_number (negsuc n)) ≤ suc (length rest) = omega (arith, length-canon_number (negsuc n), size) in
         subst (λ (y : ℤ). length (canon_number y) ≤ suc (length rest)) value whole
 
-pub unsigned_shortest : (content : List ℕ) (n : ℕ) → Octets content → 1 ≤ length content → get_or content 0 0 < 128 → unsigned content ≡ n → length (canon_number (pos n)) ≤ length content
+pub unsigned_shortest : (content : List ℕ) (n : ℕ) → Octets content → 1 ≤ length content → get_or content 0 0 < 128 → unsigned content ≡ n
+    → length (canon_number (pos n)) ≤ length content
 unsigned_shortest content n h some first e = number_shortest content (pos n) h some (positive content first ∙ ap pos e)
 
 -- ---- lengths
@@ -85,7 +95,8 @@ length_shortest lead n h is = ⊎_elim (λ s. short_form lead n s) (λ l. long_f
         let size : length lead ≡ suc (length l.digits) = ap length l.parts in
         let bound : number_of 256 l.digits < 256 ^ length l.digits = below_power 256 l.digits all.1 in
         ⊎_elim (λ s. omega (arith, size, ap length (canon_length_short n s), l.some))
-        (λ g. let few : length_size n ≤ length l.digits = digits_fewest n (length l.digits) l.some (subst (λ (v : ℕ). v < 256 ^ length l.digits) l.value bound) in
+        (λ g. let few : length_size n ≤ length l.digits = digits_fewest n (length l.digits) l.some
+        (subst (λ (v : ℕ). v < 256 ^ length l.digits) l.value bound) in
         let whole : length (canon_length n) ≡ suc (length (octets (length_size n) n)) = ap length (canon_length_long n g) in
         omega (arith, size, whole, few, length-octets (length_size n) n))
         (cases_lt n 128)
@@ -105,7 +116,8 @@ unfolding length_size
 size_rises m n h = count_rises 256 256 3 m n h
 
 pub long_length : (n : ℕ) → 128 ≤ n → length (canon_length n) ≡ suc (length_size n)
-long_length n h = let whole : length (canon_length n) ≡ suc (length (octets (length_size n) n)) = ap length (canon_length_long n h) in omega (arith, whole, length-octets (length_size n) n)
+long_length n h = let whole : length (canon_length n) ≡ suc (length (octets (length_size n) n)) = ap length (canon_length_long n h) in
+    omega (arith, whole, length-octets (length_size n) n)
 
 pub length_rises : (m n : ℕ) → m ≤ n → length (canon_length m) ≤ length (canon_length n)
 length_rises m n h = ⊎_elim
@@ -137,13 +149,21 @@ septets_fewest n (suc k) some h = omega (arith, digits_small 128 128 4 n k (omeg
 pub subidentifier_shortest : (text : List ℕ) (n : ℕ) → IsSubidentifier text n → length (canon_subidentifier n) ≤ length text
 subidentifier_shortest text n is =
     let some : length text ≡ length is.front + 1 = ap length is.parts ∙ length-append is.front (is.last ∷ []) in
-    let bound : n < 128 ^ length text = subst (λ (v : ℕ). v < 128 ^ length text) is.value (subst (λ (k : ℕ). number_of 128 (low_bits text) < 128 ^ k) (length-low_bits text) (below_power 128 (low_bits text) (bits_below text))) in
+    let bound : n < 128 ^ length text = subst (λ (v : ℕ). v < 128 ^ length text) is.value
+    (subst (λ (k : ℕ). number_of 128 (low_bits text) < 128 ^ k) (length-low_bits text) (below_power 128 (low_bits text) (bits_below text))) in
     omega (arith, length-canon_subidentifier n, septets_fewest n (length text) (omega (arith, some)) bound)
 
 pub subidentifiers_shortest : (content numbers : List ℕ) → AreSubidentifiers content numbers → length (flat_map canon_subidentifier numbers) ≤ length content
 subidentifiers_shortest content [] are = omega arith
 subidentifiers_shortest content (n ∷ more) (first, rest, parts, is, are) =
-    omega (arith, ap length parts, length-append first rest, length-append (canon_subidentifier n) (flat_map canon_subidentifier more), subidentifier_shortest first n is, subidentifiers_shortest rest more are)
+    omega (
+      arith,
+      ap length parts,
+      length-append first rest,
+      length-append (canon_subidentifier n) (flat_map canon_subidentifier more),
+      subidentifier_shortest first n is,
+      subidentifiers_shortest rest more are,
+    )
 
 -- ---- values
 
@@ -166,9 +186,11 @@ content_shortest end_of_mib_view content h is = omega arith
 -- ---- elements
 
 pub content_octets : (tag : ℕ) (content text : List ℕ) → Octets text → IsElement tag content text → Octets content
-content_octets tag content text h is = let all : Octets (tag ∷ is.length_octets ++ content) = subst Octets is.parts h in back_octets is.length_octets content all.1
+content_octets tag content text h is = let all : Octets (tag ∷ is.length_octets ++ content) = subst Octets is.parts h in
+    back_octets is.length_octets content all.1
 
-pub element_shortest : (tag : ℕ) (content made text : List ℕ) → Octets text → IsElement tag content text → length made ≤ length content → length (canon_element tag made) ≤ length text
+pub element_shortest : (tag : ℕ) (content made text : List ℕ) → Octets text → IsElement tag content text → length made ≤ length content
+    → length (canon_element tag made) ≤ length text
 element_shortest tag content made text h is shorter =
     let all : Octets (tag ∷ is.length_octets ++ content) = subst Octets is.parts h in
     let size : length text ≡ suc (length (is.length_octets ++ content)) = ap length is.parts in

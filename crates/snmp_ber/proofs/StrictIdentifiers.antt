@@ -1,5 +1,6 @@
 -- Identifiers as they are written are forms by the standard.
-use Rattle.std.proofs.Common.{◌≡◌, ℕ, ◌+◌, ◌-◌, ◌*◌, ◌/◌, ◌%◌, ◌^◌, ◌<◌, ◌≤◌, suc, zero, List, [], ◌∷◌, ◌++◌, length, get_or, map, refl, sym, ap, subst, ◌∙◌, ⊎_elim, lit<, arith, length-append, All}
+use Rattle.std.proofs.Common.{◌≡◌, ℕ, ◌+◌, ◌-◌, ◌*◌, ◌/◌, ◌%◌, ◌^◌, ◌<◌, ◌≤◌, suc, zero, List, [], ◌∷◌, ◌++◌, length, get_or, map, refl, sym, ap, subst, ◌∙◌}
+use Rattle.std.proofs.Common.{⊎_elim, lit<, arith, length-append, All}
 use Rattle.std.proofs.Math.Nat.{div-lt_iff_lt-mul, le-div_iff_mul-le, mod-add-div', mod-eq_of_lt, mod-lt, mod-mod, mod-one, one-le-pow, pow-suc, pow-succ'}
 use Rattle.std.proofs.Math.Arith.{mod-mul}
 use Rattle.std.proofs.lemmas.Bool.{cases_lt}
@@ -23,7 +24,8 @@ unfolding septets
 number_of-septets zero n = sym (mod-one n)
 number_of-septets (suc count) n =
     let digit : (128 + n / 128 ^ count % 128) % 128 ≡ n / 128 ^ count % 128 = omega arith in
-    ap (λ k. (128 + n / 128 ^ count % 128) % 128 * 128 ^ k + number_of 128 (low_bits (septets count n))) (length-low_bits (septets count n) ∙ length-septets count n)
+    ap (λ k. (128 + n / 128 ^ count % 128) % 128 * 128 ^ k + number_of 128 (low_bits (septets count n)))
+    (length-low_bits (septets count n) ∙ length-septets count n)
     ∙ ap (λ d. d * 128 ^ count + number_of 128 (low_bits (septets count n))) digit
     ∙ ap (λ rest. n / 128 ^ count % 128 * 128 ^ count + rest) (number_of-septets count n)
     ∙ sym (mod-mul n (lit< tt) (one-le-pow count 128 (lit< tt)))
@@ -93,13 +95,15 @@ is_subidentifier n h = ⊎_elim (λ short. one_octet n short) (λ large. several
     several : (n : ℕ) → n < 2 ^ 35 → 128 ≤ n → Long n → IsSubidentifier (canon_subidentifier n) n
     several n h large l =
         let m : ℕ = n / 128 in
-        let text : canon_subidentifier n ≡ septets (suc l.more) m ++ (n % 128) ∷ [] = subidentifier_parts n ∙ ap (λ k. septets (k - 1) m ++ (n % 128) ∷ []) l.size ∙ ap (λ k. septets k m ++ (n % 128) ∷ []) (one_less l.more) in
+        let text : canon_subidentifier n ≡ septets (suc l.more) m ++ (n % 128) ∷ [] = subidentifier_parts n
+        ∙ ap (λ k. septets (k - 1) m ++ (n % 128) ∷ []) l.size ∙ ap (λ k. septets k m ++ (n % 128) ∷ []) (one_less l.more) in
         let low : 128 ^ l.more ≤ m = (le-div_iff_mul-le (lit< tt)).1 (omega (arith, l.low)) in
         let high : m < 128 ^ suc l.more = (div-lt_iff_lt-mul (lit< tt)).1 (omega (arith, l.high)) in
         let digit_low : 1 ≤ m / 128 ^ l.more = (le-div_iff_mul-le (one-le-pow l.more 128 (lit< tt))).1 (omega (arith, low)) in
         let digit_high : m / 128 ^ l.more < 128 = (div-lt_iff_lt-mul (one-le-pow l.more 128 (lit< tt))).1 (omega (arith, high, pow-suc 128 l.more)) in
         let digit : m / 128 ^ l.more % 128 ≡ m / 128 ^ l.more = mod-eq_of_lt digit_high in
-        let first : get_or (canon_subidentifier n) 0 0 ≡ 128 + m / 128 ^ l.more % 128 = ap (λ octets. get_or octets 0 0) (text ∙ ap (λ front. front ++ (n % 128) ∷ []) (septets-suc l.more m)) in
+        let first : get_or (canon_subidentifier n) 0 0 ≡ 128 + m / 128 ^ l.more % 128 =
+        ap (λ octets. get_or octets 0 0) (text ∙ ap (λ front. front ++ (n % 128) ∷ []) (septets-suc l.more m)) in
         let sum : m * 128 + n % 128 % 128 ≡ n = omega (arith, mod-mod n 128, mod-add-div' n 128) in
         record {
           front = septets (suc l.more) m;
@@ -155,7 +159,13 @@ name_octets name = subst AreOctets (sym (content_is_subidentifiers name)) (all_o
 -- a subidentifier has five octets at most
 length-subidentifiers : (numbers : List ℕ) → length (flat_map canon_subidentifier numbers) ≤ 5 * length numbers
 length-subidentifiers [] = omega arith
-length-subidentifiers (n ∷ more) = omega (arith, length-append (canon_subidentifier n) (flat_map canon_subidentifier more), length-canon_subidentifier n, subidentifier_most n, length-subidentifiers more)
+length-subidentifiers (n ∷ more) = omega (
+  arith,
+  length-append (canon_subidentifier n) (flat_map canon_subidentifier more),
+  length-canon_subidentifier n,
+  subidentifier_most n,
+  length-subidentifiers more,
+)
 
 pub length-name : (name : List ℕ) → length (canon_content (object_id name)) ≤ 5 * length name
 length-name name = let bound : length (flat_map canon_subidentifier (subidentifiers name)) ≤ 5 * length name = fewer name in

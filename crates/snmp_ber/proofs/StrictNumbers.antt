@@ -1,6 +1,8 @@
 -- Numbers, lengths and subidentifiers as they are written are forms by the standard.
-use Rattle.std.proofs.Common.{◌≡◌, ℕ, ℤ, pos, negsuc, ◌+◌, ◌-◌, ◌-ℤ◌, ◌*◌, ◌/◌, ◌%◌, ◌^◌, ◌<◌, ◌≤◌, suc, zero, List, [], ◌∷◌, length, get_or, refl, sym, ap, subst, ◌∙◌, inl, inr, ⊎_elim, lit<, arith}
-use Rattle.std.proofs.Math.Nat.{div-eq_of_lt, div-lt_iff_lt-mul, le-div_iff_mul-le, mod-eq_of_lt, mod-lt, mod-one, one-le-pow, pow-le-pow_right, pow-suc, pow-succ'}
+use Rattle.std.proofs.Common.{◌≡◌, ℕ, ℤ, pos, negsuc, ◌+◌, ◌-◌, ◌-ℤ◌, ◌*◌, ◌/◌, ◌%◌, ◌^◌, ◌<◌, ◌≤◌, suc, zero, List, [], ◌∷◌, length, get_or, refl, sym, ap}
+use Rattle.std.proofs.Common.{subst, ◌∙◌, inl, inr, ⊎_elim, lit<, arith}
+use Rattle.std.proofs.Math.Nat.{div-eq_of_lt, div-lt_iff_lt-mul, le-div_iff_mul-le, mod-eq_of_lt, mod-lt, mod-one, one-le-pow, pow-le-pow_right, pow-suc}
+use Rattle.std.proofs.Math.Nat.{pow-succ'}
 use Rattle.std.proofs.Math.Arith.{mod-mul}
 use Rattle.std.proofs.lemmas.Int.{ints}
 use Rattle.std.proofs.lemmas.Bool.{cases_lt}
@@ -11,7 +13,8 @@ use mir.Syntax.{w32}
 use Rattle.snmp_ber.specs.Canon.{canon_length, canon_number, digit_count, length_size, number_size, octets}
 use Rattle.snmp_ber.specs.Length.{IsLength}
 use Rattle.snmp_ber.specs.Number.{AreOctets, IsInteger, IsUnsigned, strict, twos_complement, unsigned}
-use Rattle.snmp_ber.proofs.CanonLemmas.{canon_length_long, canon_length_short, digit_most, digit_some, digits_fit, length-canon_number, length-octets, number_small, octets_from_zero, octets-suc}
+use Rattle.snmp_ber.proofs.CanonLemmas.{canon_length_long, canon_length_short, digit_most, digit_some, digits_fit, length-canon_number, length-octets}
+use Rattle.snmp_ber.proofs.CanonLemmas.{number_small, octets_from_zero, octets-suc}
 
 -- ---- numbers
 
@@ -130,7 +133,8 @@ is_unsigned_of width n narrow h =
     let most : number_size n ≤ 1 + width = number_small n width (omega (arith, h)) in
     record {
       some = omega (arith, size, s.size);
-      few = ⊎_elim (λ short. inl (omega (arith, size, short))) (λ long. inr (omega (arith, size, long, most), zero_first width n fits h (omega (arith, long, most)))) (cases_lt (number_size n) (width + 1));
+      few = ⊎_elim (λ short. inl (omega (arith, size, short))) (λ long. inr
+          (omega (arith, size, long, most), zero_first width n fits h (omega (arith, long, most)))) (cases_lt (number_size n) (width + 1));
       value = u.1;
       allowed = u.0;
     }
@@ -178,11 +182,13 @@ is_length n h = ⊎_elim
 pub length_octets : (n : ℕ) → AreOctets (canon_length n)
 length_octets n = ⊎_elim
     (λ short. subst AreOctets (sym (canon_length_short n short)) (All-cons (λ octet. octet < 256) n [] (omega arith) (All-nil (λ octet. octet < 256))))
-    (λ long. subst AreOctets (sym (canon_length_long n long)) (All-cons (λ octet. octet < 256) (128 + length_size n) (octets (length_size n) n) (omega (arith, length_most n)) (are_octets (length_size n) n)))
+    (λ long. subst AreOctets (sym (canon_length_long n long)) (All-cons (λ octet. octet < 256) (128 + length_size n) (octets (length_size n) n)
+    (omega (arith, length_most n)) (are_octets (length_size n) n)))
     (cases_lt n 128)
 
 pub length-canon_length : (n : ℕ) → length (canon_length n) ≤ 5
 length-canon_length n = ⊎_elim
     (λ short. omega (arith, ap length (canon_length_short n short)))
-    (λ long. let whole : length (canon_length n) ≡ suc (length (octets (length_size n) n)) = ap length (canon_length_long n long) in omega (arith, whole, length-octets (length_size n) n, length_most n))
+    (λ long. let whole : length (canon_length n) ≡ suc (length (octets (length_size n) n)) = ap length (canon_length_long n long) in
+    omega (arith, whole, length-octets (length_size n) n, length_most n))
     (cases_lt n 128)

@@ -3,7 +3,8 @@ use Rattle.std.proofs.Common.{ℕ, ◌+◌, ◌^◌, ◌<◌, ◌≤◌, List, [
 use Rattle.std.proofs.lemmas.List.Elements.{All-append, All-cons, All-nil}
 use Rattle.snmp_ber.specs.Canon.{canon_content, canon_element, canon_header, canon_length, canon_number, canon_value, number_size}
 use Rattle.snmp_ber.specs.Length.{IsElement}
-use Rattle.snmp_ber.specs.Value.{Datum, integer_value, octet_string, null_value, object_id, ip_address, counter32, gauge32, time_ticks, opaque_octets, counter64, no_such_object, no_such_instance, end_of_mib_view}
+use Rattle.snmp_ber.specs.Value.{Datum, integer_value, octet_string, null_value, object_id, ip_address, counter32, gauge32, time_ticks, opaque_octets}
+use Rattle.snmp_ber.specs.Value.{counter64, no_such_object, no_such_instance, end_of_mib_view}
 use Rattle.snmp_ber.specs.Number.{AreOctets, strict}
 use Rattle.snmp_ber.specs.Range.{IsInRange}
 use Rattle.snmp_ber.specs.Spelling.{IsContent, SpellsValue, value_tag}

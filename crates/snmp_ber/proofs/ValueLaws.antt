@@ -1,11 +1,13 @@
 -- What is read as a value is one, and what is one is read.
-use Rattle.std.proofs.Common.{◌≡◌, ℕ, ℤ, ◌+◌, ◌≤◌, true, cond, eqb, ltb, leb, ◌&&◌, ◌⊎◌, List, [], ◌∷◌, length, Result, Ok, refl, sym, ap, subst, arith, inl, inr}
+use Rattle.std.proofs.Common.{◌≡◌, ℕ, ℤ, ◌+◌, ◌≤◌, true, cond, eqb, ltb, leb, ◌&&◌, ◌⊎◌, List, [], ◌∷◌, length, Result, Ok, refl, sym, ap, subst, arith, inl}
+use Rattle.std.proofs.Common.{inr}
 use Rattle.std.proofs.lemmas.Bool.{ltb-true, lt-ltb, le-leb, leb-true, eqb-true, eq-eqb, and_parts, and_from, or_cases, or_left, or_right}
 use Rattle.std.proofs.lemmas.List.{nil_from_length}
 use Rattle.snmp_ber.specs.declared.error.BerError.{BerError}
 use Rattle.snmp_ber.specs.declared.error.BerError.TheVariants as error
 use Rattle.snmp_ber.specs.Number.{unsigned, twos_complement, IsInteger, IsUnsigned, lenient}
-use Rattle.snmp_ber.specs.Value.{Datum, integer_value, octet_string, null_value, object_id, ip_address, counter32, gauge32, time_ticks, opaque_octets, counter64, no_such_object, no_such_instance, end_of_mib_view}
+use Rattle.snmp_ber.specs.Value.{Datum, integer_value, octet_string, null_value, object_id, ip_address, counter32, gauge32, time_ticks, opaque_octets}
+use Rattle.snmp_ber.specs.Value.{counter64, no_such_object, no_such_instance, end_of_mib_view}
 use Rattle.snmp_ber.specs.Spelling.{value_tag, IsContent}
 use Rattle.snmp_ber.specs.Reading.{◌>>=◌, integer_of, has_width, unsigned_of, identifier_of, empty_of, address_of, typed_value}
 use Rattle.snmp_ber.proofs.ReadingLemmas.{done, ok_is, bind_ok, chosen, passed}
@@ -41,7 +43,8 @@ unsigned_takes width (first ∷ rest) n e =
     ] in
     record { some = omega arith; few = few; value = ok_is (unsigned (first ∷ rest)) n p.1; allowed = tt }
 
-has_width_from : (width first : ℕ) (rest : List ℕ) → (length (first ∷ rest) ≤ width) ⊎ ((length (first ∷ rest) ≡ width + 1) × (first ≡ 0)) → has_width width (first ∷ rest) ≡ true
+has_width_from : (width first : ℕ) (rest : List ℕ) → (length (first ∷ rest) ≤ width) ⊎ ((length (first ∷ rest) ≡ width + 1) × (first ≡ 0))
+    → has_width width (first ∷ rest) ≡ true
 has_width_from width first rest (inl few) = or_left (leb (length (first ∷ rest)) width) _ (le-leb (length (first ∷ rest)) width few)
 has_width_from width first rest (inr both) =
     or_right (leb (length (first ∷ rest)) width) _ (and_from _ _ (eq-eqb (length (first ∷ rest)) (width + 1) both.0) (eq-eqb first 0 both.1))
@@ -72,7 +75,9 @@ address_takes content value e =
     let p = passed (eqb (length content) 4) (Ok (ip_address content)) error.Content value e in
     subst (IsRead 0x40 content) (ok_is (ip_address content) value p.1) (record { is_tag = refl; is_content = (refl, eqb-true (length content) 4 p.0) })
 
-number_takes : (tag width : ℕ) (content : List ℕ) (made : ℕ → Datum) (value : Datum) → ((n : ℕ) → IsUnsigned lenient width content n → IsRead tag content (made n)) → (unsigned_of width content >>= λ n. Ok (made n)) ≡ Ok value → IsRead tag content value
+number_takes : (tag width : ℕ) (content : List ℕ) (made : ℕ → Datum) (value : Datum)
+    → ((n : ℕ) → IsUnsigned lenient width content n → IsRead tag content (made n)) → (unsigned_of width content >>= λ n. Ok (made n)) ≡ Ok value
+    → IsRead tag content value
 number_takes tag width content made value made_is e =
     let b = bind_ok (unsigned_of width content) (λ n. Ok (made n)) value e in
     subst (IsRead tag content) (ok_is (made b.0) value b.2) (made_is b.0 (unsigned_takes width content b.0 b.1))
@@ -91,7 +96,8 @@ name_takes content value e =
 abbrev Takes : ℕ → List ℕ → Result Datum BerError → Type 0
 Takes tag content read = (value : Datum) → read ≡ Ok value → IsRead tag content value
 
-by_tag : (known tag : ℕ) (content : List ℕ) (here others : Result Datum BerError) → Takes known content here → Takes tag content others → Takes tag content (cond (eqb tag known) here others)
+by_tag : (known tag : ℕ) (content : List ℕ) (here others : Result Datum BerError) → Takes known content here → Takes tag content others
+    → Takes tag content (cond (eqb tag known) here others)
 by_tag known tag content here others this that value e =
     elim (chosen (eqb tag known) here others (Ok value) e) [
       | inl h ↦ subst (λ (t : ℕ). IsRead t content value) (sym (eqb-true tag known h.0)) (this value h.1)

@@ -18,7 +18,8 @@ pub empty_fits : (tag end : ℕ) → length (canon_element tag []) ≤ end → l
 unfolding canon_element
 empty_fits tag end room = omega (arith, room, length-append (canon_header tag 0) [])
 
-pub writes_empty : {old new : List ℕ} {start end : ℕ} (tag : ℕ) → Writes old start end (canon_header tag 0) new → Writes old start end (canon_element tag []) new
+pub writes_empty : {old new : List ℕ} {start end : ℕ} (tag : ℕ) → Writes old start end (canon_header tag 0) new
+    → Writes old start end (canon_element tag []) new
 unfolding canon_element
 writes_empty {old} {new} {start} {end} tag w = writes_same w (sym (append-nil (canon_header tag 0)))
 

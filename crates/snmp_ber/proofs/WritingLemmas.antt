@@ -1,5 +1,6 @@
 -- What writers leave, one after the other from the back to the front.
-use Rattle.std.proofs.Common.{◌≡◌, ℕ, ◌+◌, ◌-◌, ◌<◌, ◌≤◌, List, [], ◌∷◌, ◌++◌, length, take, drop, set, refl, sym, ap, subst, ◌∙◌, arith, append_assoc, length-append}
+use Rattle.std.proofs.Common.{◌≡◌, ℕ, ◌+◌, ◌-◌, ◌<◌, ◌≤◌, List, [], ◌∷◌, ◌++◌, length, take, drop, set, refl, sym, ap, subst, ◌∙◌, arith, append_assoc}
+use Rattle.std.proofs.Common.{length-append}
 use Rattle.std.proofs.lemmas.List.{take-take, take-set, drop-set, length-take-le, drop_at, take_at}
 use Rattle.snmp_ber.specs.Writing.{Writes}
 
@@ -12,7 +13,8 @@ pub writes_none : (old : List ℕ) (end : ℕ) → Writes old end end [] old
 writes_none old end = record { begins = omega arith; before = refl; after = refl }
 
 -- one octet more
-pub writes_octet : {old : List ℕ} {at end : ℕ} {text mid : List ℕ} → Writes old at end text mid → (start octet : ℕ) → start + 1 ≡ at → at ≤ length mid → Writes old start end (octet ∷ text) (set mid start octet)
+pub writes_octet : {old : List ℕ} {at end : ℕ} {text mid : List ℕ} → Writes old at end text mid → (start octet : ℕ) → start + 1 ≡ at → at ≤ length mid
+    → Writes old start end (octet ∷ text) (set mid start octet)
 writes_octet {old} {at} {end} {text} {mid} w start octet e h = record {
   begins = omega (arith, w.begins);
   before = take-set mid start octet ∙ kept start at old mid (omega arith) w.before;
@@ -25,7 +27,8 @@ pub writes_one : (old : List ℕ) (end octet : ℕ) → 1 ≤ end → end ≤ le
 writes_one old end octet some within = writes_octet (writes_none old end) (end - 1) octet (omega arith) within
 
 -- one text before another
-pub writes_then : {old : List ℕ} {start middle end : ℕ} {front back mid new : List ℕ} → Writes old middle end back mid → Writes mid start middle front new → Writes old start end (front ++ back) new
+pub writes_then : {old : List ℕ} {start middle end : ℕ} {front back mid new : List ℕ} → Writes old middle end back mid → Writes mid start middle front new
+    → Writes old start end (front ++ back) new
 writes_then {old} {start} {middle} {end} {front} {back} {mid} {new} w v = record {
   begins = omega (arith, length-append front back, w.begins, v.begins);
   before = v.before ∙ kept start middle old mid (omega (arith, v.begins)) w.before;
@@ -33,7 +36,8 @@ writes_then {old} {start} {middle} {end} {front} {back} {mid} {new} w v = record
 }
 
 -- a text copied into its place
-pub writes_copy : (old text : List ℕ) (start end : ℕ) → start + length text ≡ end → end ≤ length old → Writes old start end text (take start old ++ (text ++ drop end old))
+pub writes_copy : (old text : List ℕ) (start end : ℕ) → start + length text ≡ end → end ≤ length old
+    → Writes old start end text (take start old ++ (text ++ drop end old))
 writes_copy old text start end e h = record {
   begins = e;
   before = take_at (take start old) (text ++ drop end old) start (length-take-le start old (omega arith));

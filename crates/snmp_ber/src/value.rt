@@ -311,7 +311,8 @@ fn put_object_id(out: &mut [u8], end: usize, name: &Oid) -> usize
     requires encodable { IsWire name.now }
     requires room { length (canon_element 6 (canon_content (object_id name.now))) ≤ end }
     requires within { end ≤ length out.old }
-    ensures { Writes out.old result end (canon_element 6 (canon_content (object_id name.now))) out.new }
+    ensures { Writes out.old result end
+        (canon_element 6 (canon_content (object_id name.now))) out.new }
 {
     let start = put_identifier(out, end, name);
     put_header(out, start, tag::OBJECT_IDENTIFIER, (end - start) as u64)

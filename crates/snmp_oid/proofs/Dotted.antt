@@ -1,5 +1,6 @@
 -- Facts about dotted names, as the parts between their dots.
-use Rattle.std.proofs.Common.{◌≡◌, ◌≢◌, ℕ, Bool, true, false, not, cond, ◌&&◌, ◌==◌, List, [], ◌∷◌, ◌++◌, length, All, Option, Some, None, MatchOption, refl, sym, ◌∙◌, ap, subst, arith}
+use Rattle.std.proofs.Common.{◌≡◌, ◌≢◌, ℕ, Bool, true, false, not, cond, ◌&&◌, ◌==◌, List, [], ◌∷◌, ◌++◌, length, All, Option, Some, None, MatchOption, refl}
+use Rattle.std.proofs.Common.{sym, ◌∙◌, ap, subst, arith}
 use Rattle.std.proofs.lemmas.Bool.{ne_eqb}
 use Rattle.std.proofs.lemmas.List.Elements.{All-head, All-tail, All-cons, All-nil, All-weaker}
 use Rattle.std.proofs.lemmas.List.Splits.{slice_split_at, slice_split_none, join_with_byte-slice_split, length-slice_split}
@@ -94,7 +95,8 @@ same_numerals (part ∷ ps) (n ∷ o) (m ∷ p) h g =
     let rest : o ≡ p = same_numerals ps o p h.1 g.1 in cc
 
 -- one more
-pub numerals_more : (ps : List (List ℕ)) (o : List ℕ) (part : List ℕ) (n : ℕ) → AreNumerals ps o → IsNumeral part n → AreNumerals (ps ++ part ∷ []) (o ++ n ∷ [])
+pub numerals_more : (ps : List (List ℕ)) (o : List ℕ) (part : List ℕ) (n : ℕ) → AreNumerals ps o → IsNumeral part n
+    → AreNumerals (ps ++ part ∷ []) (o ++ n ∷ [])
 numerals_more [] [] part n h one = (one, tt)
 numerals_more [] (m ∷ o) part n h one = absurd h
 numerals_more (p ∷ ps) [] part n h one = absurd h

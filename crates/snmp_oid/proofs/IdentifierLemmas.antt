@@ -13,8 +13,12 @@ use Rattle.snmp_oid.specs.Identifier.{IsBelow, Precedes}
 -- a longer identifier that begins with root stands below it
 pub below_from_front : (o root : List ℕ) → length root < length o → take (length root) o ≡ root → IsBelow o root
 below_from_front o root longer e =
-    let whole : root ++ drop (length root) o ≡ o = ap (λ (front : List ℕ). front ++ drop (length root) o) (sym e) ∙ take-append-drop (length root) o in
-    (drop (length root) o, (λ none. let short : length (drop (length root) o) ≡ 0 = ap length none in absurd (omega (arith, short, length-drop (length root) o))), sym whole)
+    let whole : root ++ drop (length root) o ≡ o = ap (λ (front : List ℕ). front ++ drop (length root) o) (sym e) ∙ take-append-drop (length root) o in (
+      drop (length root) o,
+      (λ none. let short : length (drop (length root) o) ≡ 0 = ap length none in
+          absurd (omega (arith, short, length-drop (length root) o))),
+      sym whole,
+    )
 
 -- what stands below root begins with it
 pub front_from_below : (o root : List ℕ) → IsBelow o root → take (length root) o ≡ root
@@ -87,7 +91,8 @@ three_ways [] (m ∷ p) = inl (inl (m ∷ p, (λ none. cc), refl))
 three_ways (n ∷ o) [] = inr (inr (inl (n ∷ o, (λ none. cc), refl)))
 three_ways (n ∷ o) (m ∷ p) = by_first n m o p (cases_order n m) (three_ways o p)
   where
-    by_first : (n m : ℕ) (o p : List ℕ) → (n ≡ m) ⊎ ((n < m) ⊎ (m < n)) → Precedes o p ⊎ ((o ≡ p) ⊎ Precedes p o) → Precedes (n ∷ o) (m ∷ p) ⊎ ((n ∷ o ≡ m ∷ p) ⊎ Precedes (m ∷ p) (n ∷ o))
+    by_first : (n m : ℕ) (o p : List ℕ) → (n ≡ m) ⊎ ((n < m) ⊎ (m < n)) → Precedes o p ⊎ ((o ≡ p) ⊎ Precedes p o)
+        → Precedes (n ∷ o) (m ∷ p) ⊎ ((n ∷ o ≡ m ∷ p) ⊎ Precedes (m ∷ p) (n ∷ o))
     by_first n m o p (inl same) (inl h) = let P : ℕ → Type 0 = λ k. Precedes (n ∷ o) (k ∷ p) in inl (subst P same (precedes_behind n o p h))
     by_first n m o p (inl same) (inr (inl h)) = inr (inl cc)
     by_first n m o p (inl same) (inr (inr h)) = let P : ℕ → Type 0 = λ k. Precedes (k ∷ p) (n ∷ o) in inr (inr (subst P same (precedes_behind n p o h)))

@@ -1,5 +1,6 @@
 -- Facts about one decimal number: reading it, and that what is written reads back.
-use Rattle.std.proofs.Common.{decimal, ◌≡◌, ◌≢◌, ℕ, ◌+◌, ◌-◌, ◌*◌, ◌^◌, ◌≤◌, ◌<◌, true, false, ◌&&◌, List, [], ◌∷◌, length, drop, get_or, refl, sym, ◌∙◌, ap, subst, arith, drop-cons, add-one, lit<}
+use Rattle.std.proofs.Common.{decimal, ◌≡◌, ◌≢◌, ℕ, ◌+◌, ◌-◌, ◌*◌, ◌^◌, ◌≤◌, ◌<◌, true, false, ◌&&◌, List, [], ◌∷◌, length, drop, get_or, refl, sym, ◌∙◌, ap}
+use Rattle.std.proofs.Common.{subst, arith, drop-cons, add-one, lit<}
 use Rattle.std.proofs.Math.Nat.{pow-suc, one-le-pow, le-mul_of_pos_right}
 use Rattle.std.proofs.lemmas.Fmt.{decimal_nonempty, digits_decimal, digits_value-decimal}
 use Rattle.std.proofs.lemmas.Str.Parse.{IsNumeralModel, numerals_by_weight, tells_all_ascii_digits}
@@ -17,13 +18,16 @@ pub record IsReadTo (part left : List ℕ) (number : ℕ) : Type 0 where
 shifted : (number digit power rest : ℕ) → (number * 10 + digit) * power + rest ≡ number * (power * 10) + (digit * power + rest)
 shifted number digit power rest = omega arith
 
-value_more : (part rest : List ℕ) (digit number : ℕ) → IsReadTo part (digit ∷ rest) number → (number * 10 + (digit - 48)) * 10 ^ length rest + decimal_value rest ≡ decimal_value part
+value_more : (part rest : List ℕ) (digit number : ℕ) → IsReadTo part (digit ∷ rest) number
+    → (number * 10 + (digit - 48)) * 10 ^ length rest + decimal_value rest ≡ decimal_value part
 value_more part rest digit number h =
-    let e : number * (10 ^ length rest * 10) + ((digit - 48) * 10 ^ length rest + decimal_value rest) ≡ decimal_value part = rw (pow-suc 10 (length rest)) at h.value in
+    let e : number * (10 ^ length rest * 10) + ((digit - 48) * 10 ^ length rest + decimal_value rest) ≡ decimal_value part =
+    rw (pow-suc 10 (length rest)) at h.value in
     shifted number (digit - 48) (10 ^ length rest) (decimal_value rest) ∙ e
 
 -- one more digit
-pub read_more : (part rest : List ℕ) (digit number : ℕ) → is_ascii_digit digit ≡ true → number * 10 + (digit - 48) < 2 ^ 32 → IsReadTo part (digit ∷ rest) number → IsReadTo part rest (number * 10 + (digit - 48))
+pub read_more : (part rest : List ℕ) (digit number : ℕ) → is_ascii_digit digit ≡ true → number * 10 + (digit - 48) < 2 ^ 32
+    → IsReadTo part (digit ∷ rest) number → IsReadTo part rest (number * 10 + (digit - 48))
 read_more part rest digit number is_digit small h = record {
   fits = small;
   value = value_more part rest digit number h;
@@ -32,7 +36,13 @@ read_more part rest digit number is_digit small h = record {
 
 -- all digits are read
 pub read_all : (part : List ℕ) (number : ℕ) → part ≢ [] → IsReadTo part [] number → IsNumeral part number
-read_all part number some h = record { some = some; digits = sym h.digits; value = let e : number * 1 + 0 ≡ decimal_value part = h.value in omega arith; fits = h.fits }
+read_all part number some h = record {
+  some = some;
+  digits = sym h.digits;
+  value = let e : number * 1 + 0 ≡ decimal_value part = h.value in
+      omega arith;
+  fits = h.fits;
+}
 
 -- an octet that is no digit
 pub read_other : (part rest : List ℕ) (octet number : ℕ) → is_ascii_digit octet ≡ false → IsReadTo part (octet ∷ rest) number → (n : ℕ) → IsNumeral part n → ⊥
@@ -41,29 +51,37 @@ read_other part rest octet number other h n numeral =
     let yes : all_ascii_digits (octet ∷ rest) ≡ true = h.digits ∙ numeral.digits in cc
 
 -- more than 32 bits
-pub read_large : (part rest : List ℕ) (digit number : ℕ) → 2 ^ 32 ≤ number * 10 + (digit - 48) → IsReadTo part (digit ∷ rest) number → (n : ℕ) → IsNumeral part n → ⊥
+pub read_large : (part rest : List ℕ) (digit number : ℕ) → 2 ^ 32 ≤ number * 10 + (digit - 48) → IsReadTo part (digit ∷ rest) number → (n : ℕ)
+    → IsNumeral part n → ⊥
 read_large part rest digit number large h n numeral =
-    let more : number * 10 + (digit - 48) ≤ (number * 10 + (digit - 48)) * 10 ^ length rest = le-mul_of_pos_right (number * 10 + (digit - 48)) (one-le-pow (length rest) 10 (lit< tt)) in
+    let more : number * 10 + (digit - 48) ≤ (number * 10 + (digit - 48)) * 10 ^ length rest =
+    le-mul_of_pos_right (number * 10 + (digit - 48)) (one-le-pow (length rest) 10 (lit< tt)) in
     omega (arith, value_more part rest digit number h, numeral.value, numeral.fits)
 
 -- the same at a place
 front_at : (part : List ℕ) (count : ℕ) → count < length part → drop count part ≡ get_or part count 0 ∷ drop (count + 1) part
 front_at part count low = rw (add-one, drop-cons part count 0) refl
 
-pub read_more_at : (part : List ℕ) (count number : ℕ) → count < length part → is_ascii_digit (get_or part count 0) ≡ true → number * 10 + (get_or part count 0 - 48) < 2 ^ 32 → IsReadTo part (drop count part) number
+pub read_more_at : (part : List ℕ) (count number : ℕ) → count < length part → is_ascii_digit (get_or part count 0) ≡ true
+    → number * 10 + (get_or part count 0 - 48) < 2 ^ 32 → IsReadTo part (drop count part) number
     → IsReadTo part (drop (count + 1) part) (number * 10 + (get_or part count 0 - 48))
 read_more_at part count number low is_digit small h =
-    read_more part (drop (count + 1) part) (get_or part count 0) number is_digit small (let P : List ℕ → Type 0 = λ left. IsReadTo part left number in subst P (front_at part count low) h)
+    read_more part (drop (count + 1) part) (get_or part count 0) number is_digit small
+    (let P : List ℕ → Type 0 = λ left. IsReadTo part left number in subst P (front_at part count low) h)
 
-pub read_other_at : (part : List ℕ) (count number : ℕ) → count < length part → is_ascii_digit (get_or part count 0) ≡ false → IsReadTo part (drop count part) number
+pub read_other_at : (part : List ℕ) (count number : ℕ) → count < length part → is_ascii_digit (get_or part count 0) ≡ false
+    → IsReadTo part (drop count part) number
     → (n : ℕ) → IsNumeral part n → ⊥
 read_other_at part count number low other h =
-    read_other part (drop (count + 1) part) (get_or part count 0) number other (let P : List ℕ → Type 0 = λ left. IsReadTo part left number in subst P (front_at part count low) h)
+    read_other part (drop (count + 1) part) (get_or part count 0) number other
+    (let P : List ℕ → Type 0 = λ left. IsReadTo part left number in subst P (front_at part count low) h)
 
-pub read_large_at : (part : List ℕ) (count number : ℕ) → count < length part → 2 ^ 32 ≤ number * 10 + (get_or part count 0 - 48) → IsReadTo part (drop count part) number
+pub read_large_at : (part : List ℕ) (count number : ℕ) → count < length part → 2 ^ 32 ≤ number * 10 + (get_or part count 0 - 48)
+    → IsReadTo part (drop count part) number
     → (n : ℕ) → IsNumeral part n → ⊥
 read_large_at part count number low large h =
-    read_large part (drop (count + 1) part) (get_or part count 0) number large (let P : List ℕ → Type 0 = λ left. IsReadTo part left number in subst P (front_at part count low) h)
+    read_large part (drop (count + 1) part) (get_or part count 0) number large
+    (let P : List ℕ → Type 0 = λ left. IsReadTo part left number in subst P (front_at part count low) h)
 
 -- the digits that are written of a number are a numeral of it
 own : IsNumeralModel (λ ds. all_ascii_digits ds ≡ true) decimal_value

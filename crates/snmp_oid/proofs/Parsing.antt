@@ -1,10 +1,12 @@
 -- Facts about the state of a parse: the parts read so far, the place of the next, and what the end says.
-use Rattle.std.proofs.Common.{◌≡◌, ◌≢◌, ℕ, min, ◌+◌, ◌-◌, ◌≤◌, ◌<◌, ◌⊎◌, inl, inr, Bool, true, false, List, [], ◌∷◌, ◌++◌, length, take, drop, get_or, slice_index, Option, Some, None, refl, sym, ◌∙◌, ap, subst, arith, length-append, append_assoc}
+use Rattle.std.proofs.Common.{◌≡◌, ◌≢◌, ℕ, min, ◌+◌, ◌-◌, ◌≤◌, ◌<◌, ◌⊎◌, inl, inr, Bool, true, false, List, [], ◌∷◌, ◌++◌, length, take, drop, get_or}
+use Rattle.std.proofs.Common.{slice_index, Option, Some, None, refl, sym, ◌∙◌, ap, subst, arith, length-append, append_assoc}
 use Rattle.std.proofs.lemmas.Bool.{cases_order}
 use Rattle.std.proofs.lemmas.List.{append-nil, take_all, take-append-le, get_or-drop, get_or_append_left, length_push, drop_at, drop-drop, length-take}
 use Rattle.std.proofs.Math.Seq.{get_or-append_seam}
 use Rattle.snmp_oid.specs.Numeric.{dot, IsNumeral, IsDotted, IsNumericName, BeginsPart, part_at, IsFirstBadPart}
-use Rattle.snmp_oid.proofs.Dotted.{parts, parts_left, AreNumerals, Splits, parts_of, to_dot_is, numerals_from_dotted, dotted_from_numerals, same_numerals, numerals_more, part_is_numeral}
+use Rattle.snmp_oid.proofs.Dotted.{parts, parts_left, AreNumerals, Splits, parts_of, to_dot_is, numerals_from_dotted, dotted_from_numerals, same_numerals}
+use Rattle.snmp_oid.proofs.Dotted.{numerals_more, part_is_numeral}
 
 -- a text without the dot in front
 abbrev pub IsBehindDot : List ℕ → List ℕ → Type 0
@@ -38,7 +40,8 @@ no_empty_first rest o h = (part_is_numeral [] [] (parts rest) o (numerals_from_d
 pub dotted_from_name : (text dotted o : List ℕ) → text ≢ dot ∷ [] → IsBehindDot text dotted → IsNumericName text o → IsDotted dotted o
 dotted_from_name text dotted o more front (inl h) = absurd (more h.0)
 dotted_from_name text dotted o more (inl front) (inr (inl h)) = let P : List ℕ → Type 0 = λ t. IsDotted t o in subst P (sym front.0) h
-dotted_from_name text dotted o more (inr front) (inr (inl h)) = let P : List ℕ → Type 0 = λ t. IsDotted t o in absurd (no_empty_first dotted o (subst P front h))
+dotted_from_name text dotted o more (inr front) (inr (inl h)) = let P : List ℕ → Type 0 = λ t. IsDotted t o in
+    absurd (no_empty_first dotted o (subst P front h))
 dotted_from_name text dotted o more (inl front) (inr (inr h)) = absurd (front.1 (ap (λ (t : List ℕ). get_or t 0 0) h.1))
 dotted_from_name text dotted o more (inr front) (inr (inr h)) =
     let P : List ℕ → Type 0 = λ t. IsDotted t o in
@@ -118,16 +121,19 @@ parse_begins text dotted kept more (inr front) none = record {
     none_at_first text dotted k front low (inr part) = omega arith
 
 -- the octets of a part that stands at a place
-octet_of_part : (text here part : List ℕ) (behind : Option (List ℕ)) (at j : ℕ) → drop at text ≡ here → Splits here part behind → j < length part → get_or text (at + j) 0 ≢ dot
+octet_of_part : (text here part : List ℕ) (behind : Option (List ℕ)) (at j : ℕ) → drop at text ≡ here → Splits here part behind → j < length part
+    → get_or text (at + j) 0 ≢ dot
 octet_of_part text here part None at j stands h low same =
     let this : get_or text (at + j) 0 ≡ get_or part j 0 = sym (get_or-drop at text j 0) ∙ ap (λ (t : List ℕ). get_or t j 0) (stands ∙ h.1) in
     h.0 j 0 low (sym this ∙ same)
 octet_of_part text here part (Some rest) at j stands h low same =
-    let this : get_or text (at + j) 0 ≡ get_or part j 0 = sym (get_or-drop at text j 0) ∙ ap (λ (t : List ℕ). get_or t j 0) (stands ∙ h.1) ∙ get_or_append_left part (dot ∷ rest) 0 j low in
+    let this : get_or text (at + j) 0 ≡ get_or part j 0 = sym (get_or-drop at text j 0) ∙ ap (λ (t : List ℕ). get_or t j 0) (stands ∙ h.1)
+    ∙ get_or_append_left part (dot ∷ rest) 0 j low in
     h.0 j 0 low (sym this ∙ same)
 
 -- no part begins inside one
-none_inside : (text here part : List ℕ) (behind : Option (List ℕ)) (at k : ℕ) → drop at text ≡ here → Splits here part behind → at < k → k < at + length part + 1 → BeginsPart text k → ⊥
+none_inside : (text here part : List ℕ) (behind : Option (List ℕ)) (at k : ℕ) → drop at text ≡ here → Splits here part behind → at < k
+    → k < at + length part + 1 → BeginsPart text k → ⊥
 none_inside text here part behind at k stands h above below (inl begins) = omega arith
 none_inside text here part behind at k stands h above below (inr begins) =
     let P : ℕ → Type 0 = λ i. get_or text i 0 ≡ dot in
@@ -144,26 +150,34 @@ before_here text here part behind at n stands h one before k low begins (inl sam
     let P : List ℕ → Type 0 = λ t. IsNumeral t n in
     (n, subst P (sym (ap (part_at text) same ∙ part_at_is text here part behind at stands h)) one)
 before_here text here part behind at n stands h one before k low begins (inr (inl below)) = before k below begins
-before_here text here part behind at n stands h one before k low begins (inr (inr above)) = absurd (none_inside text here part behind at k stands h above low begins)
+before_here text here part behind at n stands h one before k low begins (inr (inr above)) =
+    absurd (none_inside text here part behind at k stands h above low begins)
 
 before_more : (text here part : List ℕ) (behind : Option (List ℕ)) (at n : ℕ) → drop at text ≡ here → Splits here part behind → IsNumeral part n
     → ((k : ℕ) → k < at → BeginsPart text k → (m : ℕ) × IsNumeral (part_at text k) m)
     → (k : ℕ) → k < at + length part + 1 → BeginsPart text k → (m : ℕ) × IsNumeral (part_at text k) m
-before_more text here part behind at n stands h one before k low begins = before_here text here part behind at n stands h one before k low begins (cases_order k at)
+before_more text here part behind at n stands h one before k low begins =
+    before_here text here part behind at n stands h one before k low begins (cases_order k at)
 
 -- what stands behind the part
 length_behind : (here part rest : List ℕ) → here ≡ part ++ dot ∷ rest → length here ≡ length part + 1 + length rest
 length_behind here part rest is = omega (arith, ap length is, length-append part (dot ∷ rest))
 
-stands_behind : (text here part : List ℕ) (behind : Option (List ℕ)) (at : ℕ) → StandsAt text (Some here) at → Splits here part behind → StandsAt text behind (at + length part + 1)
+stands_behind : (text here part : List ℕ) (behind : Option (List ℕ)) (at : ℕ) → StandsAt text (Some here) at → Splits here part behind
+    → StandsAt text behind (at + length part + 1)
 stands_behind text here part None at stands h = omega (arith, stands.1, ap length h.1)
 stands_behind text here part (Some rest) at stands h =
     let rests : drop (length part + 1) here ≡ rest = ap (drop (length part + 1)) h.1 ∙ drop_behind part rest in
-    let place : drop (at + length part + 1) text ≡ rest = ap (λ n. drop n text) (place_is at (length part)) ∙ sym (drop-drop (length part + 1) at text) ∙ ap (drop (length part + 1)) stands.0 ∙ rests in
-    let octet : get_or text (at + length part) 0 ≡ dot = sym (get_or-drop at text (length part) 0) ∙ ap (λ (t : List ℕ). get_or t (length part) 0) (stands.0 ∙ h.1) ∙ get_or-append_seam part dot rest 0 in
+    let place : drop (at + length part + 1) text ≡ rest = ap (λ n. drop n text) (place_is at (length part)) ∙ sym (drop-drop (length part + 1) at text)
+    ∙ ap (drop (length part + 1)) stands.0 ∙ rests in
+    let octet : get_or text (at + length part) 0 ≡ dot = sym (get_or-drop at text (length part) 0)
+    ∙ ap (λ (t : List ℕ). get_or t (length part) 0) (stands.0 ∙ h.1) ∙ get_or-append_seam part dot rest 0 in
     let P : ℕ → Type 0 = λ i. get_or text i 0 ≡ dot in
-    let before : at + length part ≡ at + length part + 1 - 1 = omega arith in
-    (place, omega (arith, stands.1, length_behind here part rest h.1), inr (omega (arith, stands.1, length_behind here part rest h.1), omega arith, subst P before octet))
+    let before : at + length part ≡ at + length part + 1 - 1 = omega arith in (
+      place,
+      omega (arith, stands.1, length_behind here part rest h.1),
+      inr (omega (arith, stands.1, length_behind here part rest h.1), omega arith, subst P before octet),
+    )
   where
     drop_behind : (part rest : List ℕ) → drop (length part + 1) (part ++ dot ∷ rest) ≡ rest
     drop_behind part rest = sym (drop-drop 1 (length part) (part ++ dot ∷ rest)) ∙ ap (drop 1) (drop_at part (dot ∷ rest) (length part) refl)
@@ -175,18 +189,25 @@ stands_behind text here part (Some rest) at stands h =
 abbrev pub Keeps : List ℕ → Bool → ℕ → List ℕ → Bool → Type 0
 Keeps kept too_long n new now = ((length kept < 128) × (new ≡ kept ++ n ∷ []) × (now ≡ too_long)) ⊎ ((128 ≤ length kept) × (new ≡ kept) × (now ≡ true))
 
-keeps_more : (numbers kept new : List ℕ) (too_long now : Bool) (n : ℕ) → kept ≡ take 128 numbers → (too_long ≡ true → 128 < length numbers) → Keeps kept too_long n new now
+keeps_more : (numbers kept new : List ℕ) (too_long now : Bool) (n : ℕ) → kept ≡ take 128 numbers → (too_long ≡ true → 128 < length numbers)
+    → Keeps kept too_long n new now
     → (new ≡ take 128 (numbers ++ n ∷ [])) × (now ≡ false → length (numbers ++ n ∷ []) ≤ 128) × (now ≡ true → 128 < length (numbers ++ n ∷ []))
 keeps_more numbers kept new too_long now n first long (inl keeps) =
     let count : length kept ≡ min 128 (length numbers) = ap length first ∙ length-take 128 numbers in
     let room : length numbers < 128 = omega (arith, count, keeps.0) in
     let whole : kept ≡ numbers = first ∙ take_all 128 numbers (omega arith) in
-    let fits : length (numbers ++ n ∷ []) ≤ 128 = omega (arith, length_push numbers n) in
-    (keeps.1 ∙ ap (λ (s : List ℕ). s ++ n ∷ []) whole ∙ sym (take_all 128 (numbers ++ n ∷ []) fits), λ _. fits, λ e. (let over : 128 < length numbers = long (sym keeps.2 ∙ e) in absurd (omega arith)))
+    let fits : length (numbers ++ n ∷ []) ≤ 128 = omega (arith, length_push numbers n) in (
+      keeps.1 ∙ ap (λ (s : List ℕ). s ++ n ∷ []) whole ∙ sym (take_all 128 (numbers ++ n ∷ []) fits),
+      λ _. fits,
+      λ e. (let over : 128 < length numbers = long (sym keeps.2 ∙ e) in absurd (omega arith)),
+    )
 keeps_more numbers kept new too_long now n first long (inr keeps) =
     let count : length kept ≡ min 128 (length numbers) = ap length first ∙ length-take 128 numbers in
-    let full : 128 ≤ length numbers = omega (arith, count, keeps.0) in
-    (keeps.1 ∙ first ∙ sym (take-append-le 128 numbers (n ∷ []) full), λ e. (let no : false ≡ true = sym e ∙ keeps.2 in cc), λ _. omega (arith, length_push numbers n))
+    let full : 128 ≤ length numbers = omega (arith, count, keeps.0) in (
+      keeps.1 ∙ first ∙ sym (take-append-le 128 numbers (n ∷ []) full),
+      λ e. (let no : false ≡ true = sym e ∙ keeps.2 in cc),
+      λ _. omega (arith, length_push numbers n),
+    )
 
 -- one more part
 pub parse_more : (text here part : List ℕ) (behind : Option (List ℕ)) (kept new : List ℕ) (too_long now : Bool) (n : ℕ)
@@ -208,7 +229,8 @@ parse_more text here part behind kept new too_long now n h split one keeps = rec
 }
 
 -- a part that is no numeral is the first bad one, and the text names nothing
-pub bad_part_here : (text here part : List ℕ) (behind : Option (List ℕ)) (kept : List ℕ) (too_long : Bool) → IsParsedTo text (Some here) kept too_long → Splits here part behind
+pub bad_part_here : (text here part : List ℕ) (behind : Option (List ℕ)) (kept : List ℕ) (too_long : Bool) → IsParsedTo text (Some here) kept too_long
+    → Splits here part behind
     → ((n : ℕ) → IsNumeral part n → ⊥) → IsFirstBadPart text (length text - length here)
 bad_part_here text here part behind kept too_long h split bad =
     let P : ℕ → Type 0 = λ k. IsFirstBadPart text k in
@@ -221,12 +243,14 @@ bad_part_here text here part behind kept too_long h split bad =
     } in
     subst P place this
 
-pub bad_part_no_name : (text here part : List ℕ) (behind : Option (List ℕ)) (kept : List ℕ) (too_long : Bool) → IsParsedTo text (Some here) kept too_long → Splits here part behind
+pub bad_part_no_name : (text here part : List ℕ) (behind : Option (List ℕ)) (kept : List ℕ) (too_long : Bool) → IsParsedTo text (Some here) kept too_long
+    → Splits here part behind
     → ((n : ℕ) → IsNumeral part n → ⊥) → (o : List ℕ) → IsNumericName text o → ⊥
 bad_part_no_name text here part behind kept too_long h split bad o name =
     let P : List (List ℕ) → Type 0 = λ ps. AreNumerals ps o in
     let all : AreNumerals (h.done ++ part ∷ parts_left behind) o =
-    subst P (h.whole ∙ ap (λ (ps : List (List ℕ)). h.done ++ ps) (parts_of here part behind split)) (numerals_from_dotted o h.dotted (dotted_from_name text h.dotted o h.more h.front name)) in
+    subst P (h.whole ∙ ap (λ (ps : List (List ℕ)). h.done ++ ps) (parts_of here part behind split))
+    (numerals_from_dotted o h.dotted (dotted_from_name text h.dotted o h.more h.front name)) in
     let one = part_is_numeral h.done part (parts_left behind) o all in
     bad one.0 one.1
 
@@ -240,7 +264,8 @@ parsed_name text kept too_long h =
 pub parsed_only : (text kept : List ℕ) (too_long : Bool) (h : IsParsedTo text None kept too_long) (o : List ℕ) → IsNumericName text o → o ≡ h.numbers
 parsed_only text kept too_long h o name =
     let P : List (List ℕ) → Type 0 = λ ps. AreNumerals ps o in
-    same_numerals h.done o h.numbers (subst P (h.whole ∙ append-nil h.done) (numerals_from_dotted o h.dotted (dotted_from_name text h.dotted o h.more h.front name))) h.are
+    same_numerals h.done o h.numbers (subst P (h.whole ∙ append-nil h.done)
+    (numerals_from_dotted o h.dotted (dotted_from_name text h.dotted o h.more h.front name))) h.are
 
 -- no part is bad
 pub parsed_no_bad : (text kept : List ℕ) (too_long : Bool) → IsParsedTo text None kept too_long → (at : ℕ) → IsFirstBadPart text at → ⊥

@@ -1,5 +1,6 @@
 -- Identifiers are ordered as their ranks are.
-use Rattle.std.proofs.Common.{◌≡◌, ◌≢◌, ℕ, suc, ◌+◌, ◌-◌, ◌*◌, ◌^◌, ◌<◌, ◌≤◌, ◌⊎◌, ◌↔◌, inl, inr, List, [], ◌∷◌, ◌++◌, length, drop, All, refl, sym, ◌∙◌, ap, subst, arith, lit<, length-append}
+use Rattle.std.proofs.Common.{◌≡◌, ◌≢◌, ℕ, suc, ◌+◌, ◌-◌, ◌*◌, ◌^◌, ◌<◌, ◌≤◌, ◌⊎◌, ◌↔◌, inl, inr, List, [], ◌∷◌, ◌++◌, length, drop, All, refl, sym, ◌∙◌, ap}
+use Rattle.std.proofs.Common.{subst, arith, lit<, length-append}
 use Rattle.std.proofs.Math.Nat.{pow-suc, one-le-pow, mul-le-mul_right}
 use Rattle.std.proofs.lemmas.List.{append-nil, drop_at, append_assoc}
 use Rattle.std.proofs.lemmas.List.Elements.{All-drop, All-head, All-tail}
@@ -27,7 +28,8 @@ rank_fits digits (n ∷ rest) short small =
     omega (arith, power_step digits (omega arith), below)
 
 -- a common front changes nothing
-rises_behind : (digits : ℕ) (front s t : List ℕ) → rank_in (digits - length front) s < rank_in (digits - length front) t → rank_in digits (front ++ s) < rank_in digits (front ++ t)
+rises_behind : (digits : ℕ) (front s t : List ℕ) → rank_in (digits - length front) s < rank_in (digits - length front) t
+    → rank_in digits (front ++ s) < rank_in digits (front ++ t)
 rises_behind digits [] s t h =
     let P : ℕ → Type 0 = λ d. rank_in d s < rank_in d t in let e : digits - 0 ≡ digits = omega arith in subst P e h
 rises_behind digits (k ∷ front) s t h =
@@ -43,7 +45,8 @@ some_rank digits (m ∷ rest) some =
     let least : 1 * 4294967297 ^ (digits - 1) ≤ (m + 1) * 4294967297 ^ (digits - 1) = mul-le-mul_right (4294967297 ^ (digits - 1)) (omega arith) in
     omega arith
 
-rises_at_once : (digits n m : ℕ) (after behind : List ℕ) → length after < digits → All (λ k. k < 2 ^ 32) after → n < m → rank_in digits (n ∷ after) < rank_in digits (m ∷ behind)
+rises_at_once : (digits n m : ℕ) (after behind : List ℕ) → length after < digits → All (λ k. k < 2 ^ 32) after → n < m
+    → rank_in digits (n ∷ after) < rank_in digits (m ∷ behind)
 rises_at_once digits n m after behind short small less =
     let below = digit_below n m (4294967297 ^ (digits - 1)) (rank_in (digits - 1) after) (rank_fits (digits - 1) after (omega arith) small) less in
     omega arith

@@ -1,5 +1,6 @@
 -- Facts about the numeric text of an identifier: how it is written, and that it names the identifier.
-use Rattle.std.proofs.Common.{inl, inr, All, subst, ◌^◌, ◌≡◌, ℕ, ◌+◌, ◌*◌, ◌≤◌, ◌<◌, List, [], ◌∷◌, ◌++◌, ◌-◌, decimal, length, take, get_or, refl, sym, ◌∙◌, ap, arith}
+use Rattle.std.proofs.Common.{inl, inr, All, subst, ◌^◌, ◌≡◌, ℕ, ◌+◌, ◌*◌, ◌≤◌, ◌<◌, List, [], ◌∷◌, ◌++◌, ◌-◌, decimal, length, take, get_or, refl, sym, ◌∙◌}
+use Rattle.std.proofs.Common.{ap, arith}
 use Rattle.std.proofs.lemmas.List.{append-nil, take_more, flat_map_more}
 use Rattle.std.proofs.lemmas.List.Elements.{All-head, All-tail}
 use Rattle.std.proofs.Math.Seq.{take-length}
@@ -18,7 +19,8 @@ pub record IsWritten (numbers : List ℕ) (count : ℕ) (text : List ℕ) : Type
   pub text_is : text ≡ text_of numbers count
   pub short : length text ≤ 11 * count + (1 - length numbers)
 
-text_of-more : (numbers : List ℕ) (count : ℕ) → count < length numbers → text_of numbers (count + 1) ≡ text_of numbers count ++ dot ∷ decimal (get_or numbers count 0)
+text_of-more : (numbers : List ℕ) (count : ℕ) → count < length numbers
+    → text_of numbers (count + 1) ≡ text_of numbers count ++ dot ∷ decimal (get_or numbers count 0)
 text_of-more [] count h = absurd (omega arith)
 text_of-more (n ∷ more) count h =
     ap (flat_map (λ (m : ℕ). dot ∷ decimal m)) (take_more (n ∷ more) count 0 h)
@@ -51,4 +53,8 @@ written_is_dotted n (m ∷ more) small all = (
 pub written_is_name : (o : List ℕ) → IsIdentifier o → IsNumericName (numeric_text o) o
 written_is_name [] is = inl (refl, refl)
 written_is_name (n ∷ more) is =
-    inr (inr (decimal n ++ flat_map (λ m. dot ∷ decimal m) more, refl, written_is_dotted n more (All-head (λ k. k < 2 ^ 32) n more is.numbers) (All-tail (λ k. k < 2 ^ 32) n more is.numbers)))
+    inr (inr (
+      decimal n ++ flat_map (λ m. dot ∷ decimal m) more,
+      refl,
+      written_is_dotted n more (All-head (λ k. k < 2 ^ 32) n more is.numbers) (All-tail (λ k. k < 2 ^ 32) n more is.numbers),
+    ))

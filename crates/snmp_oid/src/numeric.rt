@@ -31,7 +31,8 @@ pub fn parse_numeric(text: &[u8]) -> Result<Oid, OidTextError>
     ensures found { IfOk result (IsNumericName text.now) }
     ensures at_most_128 { IfOk result (λ o. length o ≤ 128) }
     ensures only { (o : List ℕ) → IsNumericName text.now o → length o ≤ 128 → result ≡ Ok o }
-    ensures bad_number { (at : ℕ) → (result ≡ Err (OidTextError.BadNumber at)) ↔ IsFirstBadPart text.now at }
+    ensures bad_number { (at : ℕ)
+        → (result ≡ Err (OidTextError.BadNumber at)) ↔ IsFirstBadPart text.now at }
     ensures too_long { (result ≡ Err OidTextError.TooLong) ↔ IsTooLong text.now }
 {
     let mut oid = Oid::new();
@@ -66,7 +67,8 @@ fn is_dot(text: &[u8]) -> bool
 
 /// The text without the dot in front, where one stands there.
 fn without_front_dot(text: &[u8]) -> &[u8]
-    ensures { ((result.now ≡ text.now) × (slice_index text.now 0 ≢ dot)) ⊎ (text.now ≡ dot ∷ result.now) }
+    ensures { ((result.now ≡ text.now) × (slice_index text.now 0 ≢ dot))
+        ⊎ (text.now ≡ dot ∷ result.now) }
 {
     match text {
         [b'.', rest @ ..] => rest,
@@ -134,7 +136,8 @@ pub fn write_numeric(oid: &Oid, out: &mut [u8]) -> Option<usize>
 #[inline]
 pub fn names()
     ensures written_is_named { (o : List ℕ) → IsIdentifier o → IsNumericName (numeric_text o) o }
-    ensures at_most_one { (text o p : List ℕ) → IsNumericName text o → IsNumericName text p → o ≡ p }
+    ensures at_most_one { (text o p : List ℕ)
+        → IsNumericName text o → IsNumericName text p → o ≡ p }
 {}
 
 /// The numeric text of an identifier.

@@ -28,7 +28,8 @@ binding_shrinks octets x e =
     let same : a.0.1 ≡ x.1 = ap (λ (y : VarBind × List ℕ). y.1) (ok_is (b.0, a.0.1) x b.2) in
     subst (λ (after : List ℕ). length after < length octets) same (fields_shrink octets a.0 a.1)
 
-pub binding_from : (octets : List ℕ) (fields : Fields) (after : List ℕ) (binding : VarBind) → fields_at octets ≡ Ok (fields, after) → binding_of fields ≡ Ok binding → binding_at octets ≡ Ok (binding, after)
+pub binding_from : (octets : List ℕ) (fields : Fields) (after : List ℕ) (binding : VarBind) → fields_at octets ≡ Ok (fields, after)
+    → binding_of fields ≡ Ok binding → binding_at octets ≡ Ok (binding, after)
 unfolding binding_at
 binding_from octets fields after binding e f = rw (e, f) refl
 
@@ -36,7 +37,8 @@ binding_fails_at : (octets : List ℕ) (e : BerError) → fields_at octets ≡ E
 unfolding binding_at
 binding_fails_at octets e h = rw h refl
 
-binding_fails_in : (octets : List ℕ) (fields : Fields) (after : List ℕ) (e : BerError) → fields_at octets ≡ Ok (fields, after) → binding_of fields ≡ Err e → binding_at octets ≡ Err e
+binding_fails_in : (octets : List ℕ) (fields : Fields) (after : List ℕ) (e : BerError) → fields_at octets ≡ Ok (fields, after) → binding_of fields ≡ Err e
+    → binding_at octets ≡ Err e
 unfolding binding_at
 binding_fails_in octets fields after e h f = rw (h, f) refl
 
@@ -69,10 +71,13 @@ bindings_end octets none = ap bindings_of (nil_from_length octets none)
 
 -- ---- the check
 
-pub check_fails_at : (octets : List ℕ) (e : BerError) (total : Result (Unit {0}) BerError) → 0 < length octets → fields_at octets ≡ Err e → checked (bindings_of octets) ≡ total → total ≡ Err e
-check_fails_at octets e total some h so_far = sym so_far ∙ checked_err (bindings_of octets) e (bindings_step octets some ∙ rw (binding_fails_at octets e h) refl)
+pub check_fails_at : (octets : List ℕ) (e : BerError) (total : Result (Unit {0}) BerError) → 0 < length octets → fields_at octets ≡ Err e
+    → checked (bindings_of octets) ≡ total → total ≡ Err e
+check_fails_at octets e total some h so_far = sym so_far ∙ checked_err (bindings_of octets) e
+    (bindings_step octets some ∙ rw (binding_fails_at octets e h) refl)
 
-pub check_fails_in : (octets : List ℕ) (fields : Fields) (after : List ℕ) (e : BerError) (total : Result (Unit {0}) BerError) → 0 < length octets → fields_at octets ≡ Ok (fields, after) → checked (binding_of fields) ≡ Err e
+pub check_fails_in : (octets : List ℕ) (fields : Fields) (after : List ℕ) (e : BerError) (total : Result (Unit {0}) BerError) → 0 < length octets
+    → fields_at octets ≡ Ok (fields, after) → checked (binding_of fields) ≡ Err e
     → checked (bindings_of octets) ≡ total → total ≡ Err e
 check_fails_in octets fields after e total some h f so_far =
     let fails = binding_fails_in octets fields after e h (err_checked (binding_of fields) e f) in
@@ -82,7 +87,8 @@ forget : (binding : VarBind) (read : Result (List VarBind) BerError) → checked
 forget binding (Ok more) = refl
 forget binding (Err e) = refl
 
-pub check_goes_on : (octets : List ℕ) (fields : Fields) (after : List ℕ) (u : Unit {0}) (total : Result (Unit {0}) BerError) → 0 < length octets → fields_at octets ≡ Ok (fields, after) → checked (binding_of fields) ≡ Ok u
+pub check_goes_on : (octets : List ℕ) (fields : Fields) (after : List ℕ) (u : Unit {0}) (total : Result (Unit {0}) BerError) → 0 < length octets
+    → fields_at octets ≡ Ok (fields, after) → checked (binding_of fields) ≡ Ok u
     → checked (bindings_of octets) ≡ total → checked (bindings_of after) ≡ total
 check_goes_on octets fields after u total some h f so_far =
     let b = ok_checked (binding_of fields) u f in
@@ -124,7 +130,8 @@ begins octets ok some =
       are_fields = f.1;
       is_binding = g.1;
       others = subst (λ (o : List ℕ). IsOk (bindings_of o)) (sym after_is) (is_ok_at (bindings_of a.0.1) b.0 b.1);
-      all = all ∙ ap (λ (more : List VarBind). a.0.0 ∷ more) (sym others_are) ∙ ap (λ (v : VarBind). v ∷ bindings_in a.0.1) (sym binding_is) ∙ ap (λ (o : List ℕ). g.0 ∷ bindings_in o) (sym after_is);
+      all = all ∙ ap (λ (more : List VarBind). a.0.0 ∷ more) (sym others_are) ∙ ap (λ (v : VarBind). v ∷ bindings_in a.0.1) (sym binding_is)
+          ∙ ap (λ (o : List ℕ). g.0 ∷ bindings_in o) (sym after_is);
     }
 
 pub begins_ok : (octets : List ℕ) → IsOk (bindings_of octets) → 0 < length octets → IsOk (fields_at octets)
@@ -138,7 +145,8 @@ pub record BeginsWithBinding (octets : List ℕ) (fields : Fields) (after : List
   pub others : IsOk (bindings_of after)
   pub all : (binding : VarBind) → binding_of fields ≡ Ok binding → bindings_in octets ≡ binding ∷ bindings_in after
 
-pub stands : (octets : List ℕ) (fields : Fields) (after : List ℕ) → IsOk (bindings_of octets) → 0 < length octets → fields_at octets ≡ Ok (fields, after) → BeginsWithBinding octets fields after
+pub stands : (octets : List ℕ) (fields : Fields) (after : List ℕ) → IsOk (bindings_of octets) → 0 < length octets → fields_at octets ≡ Ok (fields, after)
+    → BeginsWithBinding octets fields after
 stands octets fields after ok some h =
     let b = begins octets ok some in
     let same : (b.fields, b.after) ≡ (fields, after) = ok_is (b.fields, b.after) (fields, after) (sym b.are_fields ∙ h) in
@@ -165,10 +173,12 @@ pub parts_of : (fields : Fields) → IsOk (binding_of fields) → AreParts field
 unfolding binding_of
 parts_of fields ok =
     let whole = ok_value (binding_of fields) ok in
-    let n = bind_ok (identifier_of fields.name) (λ name. typed_value fields.tag fields.content >>= λ value. Ok (record { name = name; value = value })) whole.0 whole.1 in
+    let n = bind_ok (identifier_of fields.name) (λ name. typed_value fields.tag fields.content >>= λ value. Ok
+    (record { name = name; value = value })) whole.0 whole.1 in
     let v = bind_ok (typed_value fields.tag fields.content) (λ value. Ok (record { name = n.0; value = value })) whole.0 n.2 in
     record { name = is_ok_at (identifier_of fields.name) n.0 n.1; value = is_ok_at (typed_value fields.tag fields.content) v.0 v.1 }
 
-pub binding_made : (fields : Fields) (name : List ℕ) (value : Datum) → identifier_of fields.name ≡ Ok name → typed_value fields.tag fields.content ≡ Ok value → binding_of fields ≡ Ok (record { name = name; value = value })
+pub binding_made : (fields : Fields) (name : List ℕ) (value : Datum) → identifier_of fields.name ≡ Ok name → typed_value fields.tag fields.content ≡ Ok value
+    → binding_of fields ≡ Ok (record { name = name; value = value })
 unfolding binding_of
 binding_made fields name value e f = rw (e, f) refl

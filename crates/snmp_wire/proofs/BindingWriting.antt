@@ -16,21 +16,27 @@ pub binding_is : (binding : VarBind) → canon_binding binding ≡ canon_element
 unfolding canon_binding
 binding_is binding = refl
 
-pub sizes_binding : (header name value : ℕ) (binding : VarBind) → name ≡ length (canon_value (object_id binding.name)) → value ≡ length (canon_value binding.value) → header ≡ 1 + length (canon_length (name + value)) → header + (name + value) ≡ length (canon_binding binding)
+pub sizes_binding : (header name value : ℕ) (binding : VarBind) → name ≡ length (canon_value (object_id binding.name))
+    → value ≡ length (canon_value binding.value) → header ≡ 1 + length (canon_length (name + value)) → header + (name + value) ≡ length (canon_binding binding)
 sizes_binding header name value binding n v h =
-    let content : name + value ≡ length (canon_value (object_id binding.name) ++ canon_value binding.value) = omega (arith, n, v, length-append (canon_value (object_id binding.name)) (canon_value binding.value)) in
-    element_size sequence_tag header (name + value) (canon_value (object_id binding.name) ++ canon_value binding.value) content h ∙ ap length (sym (binding_is binding))
+    let content : name + value ≡ length (canon_value (object_id binding.name) ++ canon_value binding.value) =
+    omega (arith, n, v, length-append (canon_value (object_id binding.name)) (canon_value binding.value)) in
+    element_size sequence_tag header (name + value) (canon_value (object_id binding.name) ++ canon_value binding.value) content h
+    ∙ ap length (sym (binding_is binding))
 
 -- three headers of two octets each
-pub sizes_short : (name value : ℕ) (binding : VarBind) → name ≡ length (canon_content (object_id binding.name)) → value ≡ length (canon_content binding.value) → name + value < 124 → name + value + 6 ≡ length (canon_binding binding)
+pub sizes_short : (name value : ℕ) (binding : VarBind) → name ≡ length (canon_content (object_id binding.name)) → value ≡ length (canon_content binding.value)
+    → name + value < 124 → name + value + 6 ≡ length (canon_binding binding)
 sizes_short name value binding n v short =
     let of_name = sizes_value 2 name (object_id binding.name) n (sym (header_short name (omega (arith, short)))) in
     let of_value = sizes_value 2 value binding.value v (sym (header_short value (omega (arith, short)))) in
     let whole = sizes_binding 2 (2 + name) (2 + value) binding of_name of_value (sym (header_short (2 + name + (2 + value)) (omega (arith, short)))) in
     omega (arith, whole)
 
-pub sizes_long : (header name_header name value_header value : ℕ) (binding : VarBind) → name ≡ length (canon_content (object_id binding.name)) → value ≡ length (canon_content binding.value)
-    → name_header ≡ 1 + length (canon_length name) → value_header ≡ 1 + length (canon_length value) → header ≡ 1 + length (canon_length (name_header + name + value_header + value))
+pub sizes_long : (header name_header name value_header value : ℕ) (binding : VarBind) → name ≡ length (canon_content (object_id binding.name))
+    → value ≡ length (canon_content binding.value)
+    → name_header ≡ 1 + length (canon_length name) → value_header ≡ 1 + length (canon_length value)
+    → header ≡ 1 + length (canon_length (name_header + name + value_header + value))
     → header + (name_header + name + value_header + value) ≡ length (canon_binding binding)
 sizes_long header name_header name value_header value binding n v hn hv h =
     let of_name = sizes_value name_header name (object_id binding.name) n hn in
@@ -39,21 +45,30 @@ sizes_long header name_header name value_header value binding n v hn hv h =
     let whole = sizes_binding header (name_header + name) (value_header + value) binding of_name of_value (h ∙ ap (λ k. 1 + length (canon_length k)) same) in
     omega (arith, whole)
 
-length-content : (end : ℕ) (binding : VarBind) → length (canon_binding binding) ≤ end → length (canon_value (object_id binding.name)) + length (canon_value binding.value) ≤ end
+length-content : (end : ℕ) (binding : VarBind) → length (canon_binding binding) ≤ end
+    → length (canon_value (object_id binding.name)) + length (canon_value binding.value) ≤ end
 length-content end binding room =
-    let whole : length (canon_value (object_id binding.name) ++ canon_value binding.value) ≤ end = content_fits sequence_tag end (canon_value (object_id binding.name) ++ canon_value binding.value) (subst (λ (octets : List ℕ). length octets ≤ end) (binding_is binding) room) in
+    let whole : length (canon_value (object_id binding.name) ++ canon_value binding.value) ≤ end =
+    content_fits sequence_tag end (canon_value (object_id binding.name) ++ canon_value binding.value)
+    (subst (λ (octets : List ℕ). length octets ≤ end) (binding_is binding) room) in
     omega (arith, whole, length-append (canon_value (object_id binding.name)) (canon_value binding.value))
 
 pub binding_value_fits : (end : ℕ) (binding : VarBind) → length (canon_binding binding) ≤ end → length (canon_value binding.value) ≤ end
 binding_value_fits end binding room = omega (arith, length-content end binding room)
 
-pub binding_name_fits : {old mid : List ℕ} {middle end : ℕ} (binding : VarBind) → Writes old middle end (canon_value binding.value) mid → length (canon_binding binding) ≤ end → length (canon_value (object_id binding.name)) ≤ middle
+pub binding_name_fits : {old mid : List ℕ} {middle end : ℕ} (binding : VarBind) → Writes old middle end (canon_value binding.value) mid
+    → length (canon_binding binding) ≤ end → length (canon_value (object_id binding.name)) ≤ middle
 binding_name_fits {old} {mid} {middle} {end} binding w room = omega (arith, length-content end binding room, w.begins)
 
-pub binding_header_fits : {old mid new : List ℕ} {start middle end : ℕ} (binding : VarBind) → Writes old middle end (canon_value binding.value) mid → Writes mid start middle (canon_value (object_id binding.name)) new → length (canon_binding binding) ≤ end → length (canon_header sequence_tag (end - start)) ≤ start
-binding_header_fits {old} {mid} {new} {start} {middle} {end} binding w v room = header_fits sequence_tag (writes_then w v) (subst (λ (octets : List ℕ). length octets ≤ end) (binding_is binding) room)
+pub binding_header_fits : {old mid new : List ℕ} {start middle end : ℕ} (binding : VarBind) → Writes old middle end (canon_value binding.value) mid
+    → Writes mid start middle (canon_value (object_id binding.name)) new → length (canon_binding binding) ≤ end
+    → length (canon_header sequence_tag (end - start)) ≤ start
+binding_header_fits {old} {mid} {new} {start} {middle} {end} binding w v room =
+    header_fits sequence_tag (writes_then w v) (subst (λ (octets : List ℕ). length octets ≤ end) (binding_is binding) room)
 
-pub writes_binding : {old mid out new : List ℕ} {start name middle end : ℕ} (binding : VarBind) → Writes old middle end (canon_value binding.value) mid → Writes mid name middle (canon_value (object_id binding.name)) out → Writes out start name (canon_header sequence_tag (end - name)) new → Writes old start end (canon_binding binding) new
+pub writes_binding : {old mid out new : List ℕ} {start name middle end : ℕ} (binding : VarBind) → Writes old middle end (canon_value binding.value) mid
+    → Writes mid name middle (canon_value (object_id binding.name)) out → Writes out start name (canon_header sequence_tag (end - name)) new
+    → Writes old start end (canon_binding binding) new
 writes_binding binding w v u = writes_same (writes_element sequence_tag (writes_then w v) u) (sym (binding_is binding))
 
 -- a text that fills the front of a slice
@@ -72,8 +87,15 @@ bindings_are [] = refl
 bindings_are (binding ∷ more) = ap (λ rest. canon_binding (var_bind binding) ++ rest) (bindings_are more)
 
 -- a single binding is short
-pub one_binding : (bindings : List Binding) (binding : Binding) (size : ℕ) → length bindings ≡ 1 → binding ≡ get_or bindings 0 binding → size ≡ length (canon_binding (var_bind binding)) → size ≤ 70000 → length (canon_bindings (var_binds bindings)) ≤ 4000000000
+pub one_binding : (bindings : List Binding) (binding : Binding) (size : ℕ) → length bindings ≡ 1 → binding ≡ get_or bindings 0 binding
+    → size ≡ length (canon_binding (var_bind binding)) → size ≤ 70000 → length (canon_bindings (var_binds bindings)) ≤ 4000000000
 unfolding canon_bindings
 one_binding [] binding size one is e short = omega arith
-one_binding (x ∷ []) binding size one is e short = omega (arith, ap (λ b. length (canon_binding (var_bind b))) is, e, short, length-append (canon_binding (var_bind x)) [])
+one_binding (x ∷ []) binding size one is e short = omega (
+  arith,
+  ap (λ b. length (canon_binding (var_bind b))) is,
+  e,
+  short,
+  length-append (canon_binding (var_bind x)) [],
+)
 one_binding (x ∷ y ∷ more) binding size one is e short = omega arith

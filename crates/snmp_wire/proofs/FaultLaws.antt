@@ -1,5 +1,6 @@
 -- Each fault that reading gives is one of the octets.
-use Rattle.std.proofs.Common.{◌≡◌, ◌≢◌, ℕ, ℤ, zero, suc, ◌+◌, ◌-◌, ◌*◌, ◌%◌, ◌^◌, ◌<◌, ◌≤◌, Bool, true, false, cond, eqb, ltb, ◌&&◌, ◌⊎◌, None, List, [], ◌∷◌, ◌++◌, length, take, drop, replicate, Result, Ok, Err, refl, sym, ap, subst, ◌∙◌, append_assoc, arith, inl, inr}
+use Rattle.std.proofs.Common.{◌≡◌, ◌≢◌, ℕ, ℤ, zero, suc, ◌+◌, ◌-◌, ◌*◌, ◌%◌, ◌^◌, ◌<◌, ◌≤◌, Bool, true, false, cond, eqb, ltb, ◌&&◌, ◌⊎◌, None, List, [], ◌∷◌}
+use Rattle.std.proofs.Common.{◌++◌, length, take, drop, replicate, Result, Ok, Err, refl, sym, ap, subst, ◌∙◌, append_assoc, arith, inl, inr}
 use Rattle.std.proofs.lemmas.Bool.{ltb-true, ltb-false, eqb-true, eqb-false, and_cases, and_parts}
 use Rattle.std.proofs.lemmas.List.{append-nil, length-append, length-replicate}
 use Rattle.snmp_ber.specs.declared.error.BerError.{BerError}
@@ -8,13 +9,18 @@ use Rattle.snmp_wire.specs.declared.kind.Kind.{Kind}
 use Rattle.snmp_wire.specs.declared.kind.Kind.TheVariants as kind
 use Rattle.snmp_ber.specs.Number.{unsigned, twos_complement, lenient}
 use Rattle.snmp_ber.specs.Length.{IsLength}
-use Rattle.snmp_ber.specs.Value.{Datum, integer_value, octet_string, null_value, object_id, ip_address, counter32, gauge32, time_ticks, opaque_octets, counter64, no_such_object, no_such_instance, end_of_mib_view}
+use Rattle.snmp_ber.specs.Value.{Datum, integer_value, octet_string, null_value, object_id, ip_address, counter32, gauge32, time_ticks, opaque_octets}
+use Rattle.snmp_ber.specs.Value.{counter64, no_such_object, no_such_instance, end_of_mib_view}
 use Rattle.snmp_wire.specs.Message.{VarBind, Message}
 use Rattle.snmp_ber.specs.Spelling.{value_tag, IsContent}
 use Rattle.snmp_wire.specs.Spelling.{kind_tag}
-use Rattle.snmp_ber.specs.Reading.{fault_or, ◌>>=◌, long_length_at, length_at, content_at, inner_at, element_at, integer_of, integer_at, has_width, unsigned_of, largest_subidentifier, subidentifier_from, subidentifier_at, number_at, numbers_of, first_number, second_number, identifier_of, empty_of, typed_value}
-use Rattle.snmp_wire.specs.Reading.{Fields, fields_of, fields_at, binding_of, binding_at, bindings_within, bindings_of, kind_of, outermost_of, pdu_of, message_of}
-use Rattle.snmp_wire.specs.Fault.{BeginsWith, EndsEarly, HasForbiddenLength, Place, at_message, at_version, at_community, at_pdu, at_id, at_a, at_b, at_list, at_binding, at_name, at_value, first_inside, next_behind, AllowsTag, Expects, starts, inside, behind, IsFault}
+use Rattle.snmp_ber.specs.Reading.{fault_or, ◌>>=◌, long_length_at, length_at, content_at, inner_at, element_at, integer_of, integer_at, has_width, unsigned_of}
+use Rattle.snmp_ber.specs.Reading.{largest_subidentifier, subidentifier_from, subidentifier_at, number_at, numbers_of, first_number, second_number}
+use Rattle.snmp_ber.specs.Reading.{identifier_of, empty_of, typed_value}
+use Rattle.snmp_wire.specs.Reading.{Fields, fields_of, fields_at, binding_of, binding_at, bindings_within, bindings_of, kind_of, outermost_of, pdu_of}
+use Rattle.snmp_wire.specs.Reading.{message_of}
+use Rattle.snmp_wire.specs.Fault.{BeginsWith, EndsEarly, HasForbiddenLength, Place, at_message, at_version, at_community, at_pdu, at_id, at_a, at_b, at_list}
+use Rattle.snmp_wire.specs.Fault.{at_binding, at_name, at_value, first_inside, next_behind, AllowsTag, Expects, starts, inside, behind, IsFault}
 use Rattle.snmp_ber.proofs.ReadingLemmas.{done, failed, ok_is, bind_ok, bind_err, chosen, passed}
 use Rattle.snmp_ber.proofs.LengthLemmas.{TakesElement, length_takes, content_takes, inner_takes, element_takes}
 use Rattle.snmp_ber.proofs.ValueLaws.{value_again, value_takes}
@@ -55,7 +61,12 @@ content_short tag lead after n is_length short =
       some = some_octets missing (omega (arith, length-zeros (n - length after)));
       tag = tag;
       content = after ++ missing;
-      whole = record { length_octets = lead; is_length = subst (IsLength lead) (sym len) is_length; parts = ap (λ (o : List ℕ). tag ∷ o) (append_assoc lead after missing) };
+      whole = record {
+        length_octets = lead;
+        is_length = subst (IsLength lead) (sym len) is_length;
+        parts =
+            ap (λ (o : List ℕ). tag ∷ o) (append_assoc lead after missing);
+      };
     }
 
 -- not even the length is there
@@ -65,7 +76,14 @@ length_short tag first rest low high short =
     let digits = rest ++ more in
     let len : length digits ≡ first - 128 = omega (arith, length-append rest more, length-zeros (first - 128 - length rest)) in
     let content = zeros (unsigned digits) in
-    let is_long : IsLength (first ∷ digits) (unsigned digits) = inr (record { digits = digits; some = omega arith; few = omega arith; value = refl; parts = ap (λ (n : ℕ). n ∷ digits) (omega arith) }) in
+    let is_long : IsLength (first ∷ digits) (unsigned digits) = inr (record {
+      digits = digits;
+      some = omega arith;
+      few = omega arith;
+      value = refl;
+      parts =
+          ap (λ (n : ℕ). n ∷ digits) (omega arith);
+    }) in
     let missing = more ++ content in
     record {
       missing = missing;
@@ -123,7 +141,10 @@ length_faults tag cut (first ∷ rest) e h =
                 let p = failed_test (ltb (length rest) width) cut e read good.1 in
                 let both = and_parts (ltb 128 first) (ltb first 133) good.0 in
                 inl (p.1, length_short tag first rest (ltb-true 128 first both.0) (ltb-true first 133 both.1) (ltb-true (length rest) width p.0))
-            | inr bad ↦ inr (err_is {A = ℕ × List ℕ} error.Length e bad.1, record { tag = tag; first = first; rest = rest; parts = refl; forbidden = forbidden first (ltb-false first 128 large.0) bad.0 })
+            | inr bad ↦ inr (
+              err_is {A = ℕ × List ℕ} error.Length e bad.1,
+              record { tag = tag; first = first; rest = rest; parts = refl; forbidden = forbidden first (ltb-false first 128 large.0) bad.0 },
+            )
           ]
     ]
 
@@ -148,43 +169,79 @@ fault_of (Err d) other e h = inr cc
 -- ---- faults at a place
 
 -- an inner element that can't be read
-bad_inner : (octets : List ℕ) (place : Place) (here : List ℕ) (e : BerError) → Expects octets place here → place ≢ at_message → IsBadElement error.Length here e → IsFault e octets
+bad_inner : (octets : List ℕ) (place : Place) (here : List ℕ) (e : BerError) → Expects octets place here → place ≢ at_message
+    → IsBadElement error.Length here e → IsFault e octets
 unfolding IsBadElement
-bad_inner octets place here e stands inner (inl cut) = subst (λ (d : BerError). IsFault d octets) cut.0 (record { place = place; here = here; expected = stands; bad = inr (inner, cut.1) })
-bad_inner octets place here e stands inner (inr form) = subst (λ (d : BerError). IsFault d octets) form.0 (record { place = place; here = here; expected = stands; bad = inl form.1 })
+bad_inner octets place here e stands inner (inl cut) = subst (λ (d : BerError). IsFault d octets) cut.0
+    (record { place = place; here = here; expected = stands; bad = inr (inner, cut.1) })
+bad_inner octets place here e stands inner (inr form) = subst (λ (d : BerError). IsFault d octets) form.0
+    (record { place = place; here = here; expected = stands; bad = inl form.1 })
 
 missing_inner : (octets : List ℕ) (place : Place) (e : BerError) → Expects octets place [] → place ≢ at_message → error.Length ≡ e → IsFault e octets
-missing_inner octets place e stands inner is = subst (λ (d : BerError). IsFault d octets) is (record { place = place; here = []; expected = stands; bad = inr (inner, no_octets) })
+missing_inner octets place e stands inner is = subst (λ (d : BerError). IsFault d octets) is
+    (record { place = place; here = []; expected = stands; bad = inr (inner, no_octets) })
 
-bad_tag : (octets : List ℕ) (place : Place) (tag : ℕ) (after : List ℕ) (e : BerError) → Expects octets place (tag ∷ after) → (AllowsTag place tag → ⊥) → error.Tag ≡ e → IsFault e octets
-bad_tag octets place tag after e stands bad is = subst (λ (d : BerError). IsFault d octets) is (record { place = place; here = tag ∷ after; expected = stands; tag = tag; after = after; parts = refl; bad = bad })
+bad_tag : (octets : List ℕ) (place : Place) (tag : ℕ) (after : List ℕ) (e : BerError) → Expects octets place (tag ∷ after) → (AllowsTag place tag → ⊥)
+    → error.Tag ≡ e → IsFault e octets
+bad_tag octets place tag after e stands bad is = subst (λ (d : BerError). IsFault d octets) is
+    (record { place = place; here = tag ∷ after; expected = stands; tag = tag; after = after; parts = refl; bad = bad })
 
-left_over : (octets : List ℕ) (place : Place) (here : List ℕ) (tag : ℕ) (content after : List ℕ) (e : BerError) → Expects octets place here → place ≢ at_message → next_behind place ≡ None → AllowsTag place tag → BeginsWith tag content here after
+left_over : (octets : List ℕ) (place : Place) (here : List ℕ) (tag : ℕ) (content after : List ℕ) (e : BerError) → Expects octets place here
+    → place ≢ at_message → next_behind place ≡ None → AllowsTag place tag → BeginsWith tag content here after
     → eqb (length after) 0 ≡ false → error.Content ≡ e → IsFault e octets
 left_over octets place here tag content after e stands inner last allowed begins some is =
     let more : after ≢ [] = λ none. eqb-false (length after) 0 some (ap length none) in
-    subst (λ (d : BerError). IsFault d octets) is (inr (record { place = place; here = here; expected = stands; is_inner = inner; is_last = last; tag = tag; content = content; after = after; allowed = allowed; begins = begins; some = more }))
+    subst (λ (d : BerError). IsFault d octets) is (inr (record {
+      place = place;
+      here = here;
+      expected = stands;
+      is_inner = inner;
+      is_last = last;
+      tag =
+          tag;
+      content = content;
+      after = after;
+      allowed = allowed;
+      begins = begins;
+      some = more;
+    }))
 
-bad_content : (octets : List ℕ) (place : Place) (here : List ℕ) (tag : ℕ) (content after : List ℕ) (e : BerError) → Expects octets place here → first_inside place ≡ None → AllowsTag place tag → BeginsWith tag content here after
+bad_content : (octets : List ℕ) (place : Place) (here : List ℕ) (tag : ℕ) (content after : List ℕ) (e : BerError) → Expects octets place here
+    → first_inside place ≡ None → AllowsTag place tag → BeginsWith tag content here after
     → ((value : Datum) → tag ≡ value_tag value → IsContent lenient value content → ⊥) → error.Content ≡ e → IsFault e octets
 bad_content octets place here tag content after e stands is_value allowed begins bad is =
-    subst (λ (d : BerError). IsFault d octets) is (inl (record { place = place; here = here; expected = stands; is_value = is_value; tag = tag; content = content; after = after; allowed = allowed; begins = begins; bad = bad }))
+    subst (λ (d : BerError). IsFault d octets) is (inl (record {
+      place = place;
+      here = here;
+      expected = stands;
+      is_value = is_value;
+      tag = tag;
+      content =
+          content;
+      after = after;
+      allowed = allowed;
+      begins = begins;
+      bad = bad;
+    }))
 
 begins_with : (tag : ℕ) (octets content rest : List ℕ) → TakesElement tag octets content rest → BeginsWith tag content octets rest
 begins_with tag octets content rest t = record { element = t.0; is_element = t.1; parts = t.2 }
 
 -- a place of one tag
-inner_faults : (octets : List ℕ) (place : Place) (tag : ℕ) (here : List ℕ) (e : BerError) → Expects octets place here → place ≢ at_message → ((found : ℕ) → AllowsTag place found → found ≡ tag) → inner_at tag here ≡ Err e → IsFault e octets
+inner_faults : (octets : List ℕ) (place : Place) (tag : ℕ) (here : List ℕ) (e : BerError) → Expects octets place here → place ≢ at_message
+    → ((found : ℕ) → AllowsTag place found → found ≡ tag) → inner_at tag here ≡ Err e → IsFault e octets
 unfolding inner_at
 inner_faults octets place tag [] e stands inner only h = missing_inner octets place e stands inner (err_is {A = List ℕ × List ℕ} error.Length e h)
 inner_faults octets place tag (found ∷ rest) e stands inner only h =
     elim (chosen (eqb found tag) (content_at error.Length rest) (Err error.Tag) (Err e) h) [
       | inl good ↦ bad_inner octets place (found ∷ rest) e stands inner (content_faults found error.Length rest e good.1)
-      | inr bad ↦ bad_tag octets place found rest e stands (λ allowed. eqb-false found tag bad.0 (only found allowed)) (err_is {A = List ℕ × List ℕ} error.Tag e bad.1)
+      | inr bad ↦ bad_tag octets place found rest e stands (λ allowed. eqb-false found tag bad.0 (only found allowed))
+          (err_is {A = List ℕ × List ℕ} error.Tag e bad.1)
     ]
 
 -- a place of several tags
-element_faults : (octets : List ℕ) (place : Place) (here : List ℕ) (e : BerError) → Expects octets place here → place ≢ at_message → element_at here ≡ Err e → IsFault e octets
+element_faults : (octets : List ℕ) (place : Place) (here : List ℕ) (e : BerError) → Expects octets place here → place ≢ at_message → element_at here ≡ Err e
+    → IsFault e octets
 unfolding element_at
 element_faults octets place [] e stands inner h = missing_inner octets place e stands inner (err_is {A = ℕ × List ℕ × List ℕ} error.Length e h)
 element_faults octets place (tag ∷ rest) e stands inner h =
@@ -260,7 +317,8 @@ identifier_fails content e h =
           ]
     ]
 
-mapped_fails : {A B : Type 0} (read : Result A BerError) (make : A → B) (e : BerError) → ((d : BerError) → read ≡ Err d → error.Content ≡ d) → (read >>= λ x. Ok (make x)) ≡ Err e → error.Content ≡ e
+mapped_fails : {A B : Type 0} (read : Result A BerError) (make : A → B) (e : BerError) → ((d : BerError) → read ≡ Err d → error.Content ≡ d)
+    → (read >>= λ x. Ok (make x)) ≡ Err e → error.Content ≡ e
 mapped_fails (Ok x) make e fails h = absurd (let both : done (make x) ≡ failed e = h in cc)
 mapped_fails (Err d) make e fails h = fails d refl ∙ err_is d e h
 
@@ -288,7 +346,8 @@ known_tag end_of_mib_view content e h = empty_fails end_of_mib_view content e h
 abbrev FailsEither : ℕ → Result Datum BerError → Type 0
 FailsEither tag read = (e : BerError) → read ≡ Err e → ((error.Content ≡ e) × ((value : Datum) × (tag ≡ value_tag value))) ⊎ (error.Tag ≡ e)
 
-by_tag : (known : Datum) (tag : ℕ) (here others : Result Datum BerError) → ((e : BerError) → here ≡ Err e → error.Content ≡ e) → FailsEither tag others → FailsEither tag (cond (eqb tag (value_tag known)) here others)
+by_tag : (known : Datum) (tag : ℕ) (here others : Result Datum BerError) → ((e : BerError) → here ≡ Err e → error.Content ≡ e) → FailsEither tag others
+    → FailsEither tag (cond (eqb tag (value_tag known)) here others)
 by_tag known tag here others this that e h =
     elim (chosen (eqb tag (value_tag known)) here others (Err e) h) [
       | inl is ↦ inl (this e is.1, (known, eqb-true tag (value_tag known) is.0))
@@ -314,7 +373,8 @@ value_fails tag content =
     λ e h. inr (err_is {A = Datum} error.Tag e h))))))))))))))
 
 -- what is an error isn't a value's content
-not_content : (tag : ℕ) (content : List ℕ) (e : BerError) → typed_value tag content ≡ Err e → (value : Datum) → tag ≡ value_tag value → IsContent lenient value content → ⊥
+not_content : (tag : ℕ) (content : List ℕ) (e : BerError) → typed_value tag content ≡ Err e → (value : Datum) → tag ≡ value_tag value
+    → IsContent lenient value content → ⊥
 not_content tag content e h value is is_content =
     let both : done value ≡ failed e = sym (value_again value content is_content) ∙ ap (λ (t : ℕ). typed_value t content) (sym is) ∙ h in
     cc
@@ -325,7 +385,8 @@ element_tag : (tag : ℕ) (content here after : List ℕ) → BeginsWith tag con
 element_tag tag content here after begins =
     ((begins.is_element.length_octets ++ content) ++ after, begins.parts ∙ ap (λ (o : List ℕ). o ++ after) begins.is_element.parts)
 
-value_faults : (octets here : List ℕ) (tag : ℕ) (content after : List ℕ) (e : BerError) → Expects octets at_value here → BeginsWith tag content here after → typed_value tag content ≡ Err e → IsFault e octets
+value_faults : (octets here : List ℕ) (tag : ℕ) (content after : List ℕ) (e : BerError) → Expects octets at_value here → BeginsWith tag content here after
+    → typed_value tag content ≡ Err e → IsFault e octets
 value_faults octets here tag content after e stands begins h =
     elim (value_fails tag content e h) [
       | inl at_content ↦ bad_content octets at_value here tag content after e stands refl at_content.1 begins (not_content tag content e h) at_content.0
@@ -338,14 +399,16 @@ value_faults octets here tag content after e stands begins h =
           bad_tag octets at_value tag t.0 e (subst (λ (o : List ℕ). Expects octets at_value o) t.1 stands) bad at_tag
     ]
 
-name_faults : (octets here content after : List ℕ) (e : BerError) → Expects octets at_name here → BeginsWith 0x06 content here after → identifier_of content ≡ Err e → IsFault e octets
+name_faults : (octets here content after : List ℕ) (e : BerError) → Expects octets at_name here → BeginsWith 0x06 content here after
+    → identifier_of content ≡ Err e → IsFault e octets
 unfolding typed_value
 name_faults octets here content after e stands begins h =
     let read : typed_value 0x06 content ≡ Err e = rw h refl in
     bad_content octets at_name here 0x06 content after e stands refl refl begins (not_content 0x06 content e read) (identifier_fails content e h)
 
 -- a place of an INTEGER
-integer_faults : (octets : List ℕ) (place : Place) (here : List ℕ) (e : BerError) → Expects octets place here → place ≢ at_message → first_inside place ≡ None → ((found : ℕ) → AllowsTag place found → found ≡ 0x02) → AllowsTag place 0x02 → integer_at here ≡ Err e → IsFault e octets
+integer_faults : (octets : List ℕ) (place : Place) (here : List ℕ) (e : BerError) → Expects octets place here → place ≢ at_message → first_inside place ≡ None
+    → ((found : ℕ) → AllowsTag place found → found ≡ 0x02) → AllowsTag place 0x02 → integer_at here ≡ Err e → IsFault e octets
 unfolding integer_at typed_value
 integer_faults octets place here e stands inner is_value only allowed h =
     elim (bind_err (inner_at 0x02 here) (λ element. integer_of element.0 >>= λ z. Ok (z, element.1)) e h) [
@@ -376,8 +439,10 @@ record StandIn (octets : List ℕ) (fields : Fields) : Type 0 where
 fields_stand : (octets content : List ℕ) (fields : Fields) → Expects octets at_name content → fields_of content ≡ Ok fields → StandIn octets fields
 unfolding fields_of
 fields_stand octets content fields stands h =
-    let a = bind_ok (inner_at 0x06 content) (λ name. element_at name.1 >>= λ value. cond (eqb (length value.2) 0) (Ok (record { name = name.0; tag = value.0; content = value.1 })) (Err (fault_or (typed_value value.0 value.1) error.Content))) fields h in
-    let b = bind_ok (element_at a.0.1) (λ value. cond (eqb (length value.2) 0) (Ok (record { name = a.0.0; tag = value.0; content = value.1 })) (Err (fault_or (typed_value value.0 value.1) error.Content))) fields a.2 in
+    let a = bind_ok (inner_at 0x06 content) (λ name. element_at name.1 >>= λ value. cond (eqb (length value.2) 0)
+    (Ok (record { name = name.0; tag = value.0; content = value.1 })) (Err (fault_or (typed_value value.0 value.1) error.Content))) fields h in
+    let b = bind_ok (element_at a.0.1) (λ value. cond (eqb (length value.2) 0) (Ok (record { name = a.0.0; tag = value.0; content = value.1 }))
+    (Err (fault_or (typed_value value.0 value.1) error.Content))) fields a.2 in
     let made : Fields = record { name = a.0.0; tag = b.0.0; content = b.0.1 } in
     let p = passed (eqb (length b.0.2) 0) (Ok made) (fault_or (typed_value b.0.0 b.0.1) error.Content) fields b.2 in
     let begins = begins_with 0x06 content a.0.0 a.0.1 (inner_takes 0x06 content a.0 a.1) in
@@ -394,12 +459,14 @@ fields_stand octets content fields stands h =
 fields_fault : (octets content : List ℕ) (e : BerError) → Expects octets at_name content → fields_of content ≡ Err e → IsFault e octets
 unfolding fields_of
 fields_fault octets content e stands h =
-    elim (bind_err (inner_at 0x06 content) (λ name. element_at name.1 >>= λ value. cond (eqb (length value.2) 0) (Ok (record { name = name.0; tag = value.0; content = value.1 })) (Err (fault_or (typed_value value.0 value.1) error.Content))) e h) [
+    elim (bind_err (inner_at 0x06 content) (λ name. element_at name.1 >>= λ value. cond (eqb (length value.2) 0)
+    (Ok (record { name = name.0; tag = value.0; content = value.1 })) (Err (fault_or (typed_value value.0 value.1) error.Content))) e h) [
       | inl name ↦ inner_faults octets at_name 0x06 content e stands (λ is. cc) (λ found allowed. allowed) name
       | inr x ↦
           let begins = begins_with 0x06 content x.0.0 x.0.1 (inner_takes 0x06 content x.0 x.1) in
           let value_stands = behind at_name at_value content 0x06 x.0.0 x.0.1 stands refl begins refl tt in
-          elim (bind_err (element_at x.0.1) (λ value. cond (eqb (length value.2) 0) (Ok (record { name = x.0.0; tag = value.0; content = value.1 })) (Err (fault_or (typed_value value.0 value.1) error.Content))) e x.2) [
+          elim (bind_err (element_at x.0.1) (λ value. cond (eqb (length value.2) 0) (Ok (record { name = x.0.0; tag = value.0; content = value.1 }))
+          (Err (fault_or (typed_value value.0 value.1) error.Content))) e x.2) [
             | inl value ↦ element_faults octets at_value x.0.1 e value_stands (λ is. cc) value
             | inr y ↦
                 let made : Fields = record { name = x.0.0; tag = y.0.0; content = y.0.1 } in
@@ -438,7 +505,8 @@ binding_faults octets here e stands h =
           let s : StandIn octets f.0.0 = subst (StandIn octets) same (fields_stand octets c.0.0 d.0 name_stands d.1) in
           elim (bind_err (binding_of f.0.0) (λ binding. Ok (binding, f.0.1)) e f.2) [
             | inl in_parts ↦
-                elim (bind_err (identifier_of f.0.0.name) (λ name. typed_value f.0.0.tag f.0.0.content >>= λ value. Ok (record { name = name; value = value })) e in_parts) [
+                elim (bind_err (identifier_of f.0.0.name) (λ name. typed_value f.0.0.tag f.0.0.content >>= λ value. Ok
+                (record { name = name; value = value })) e in_parts) [
                   | inl in_name ↦ name_faults octets s.name_here f.0.0.name s.value_here e s.name_stands s.name_begins in_name
                   | inr n ↦
                       elim (bind_err (typed_value f.0.0.tag f.0.0.content) (λ value. Ok (record { name = n.0; value = value })) e n.2) [
@@ -451,9 +519,13 @@ binding_faults octets here e stands h =
     ]
 
 binding_begins : (here : List ℕ) (x : VarBind × List ℕ) → binding_at here ≡ Ok x → (content : List ℕ) × BeginsWith 0x30 content here x.1
-binding_begins here x h = let t = binding_takes here x h in (t.spells.name ++ t.spells.value, record { element = t.text; is_element = t.spells.element; parts = t.parts })
+binding_begins here x h = let t = binding_takes here x h in (
+  t.spells.name ++ t.spells.value,
+  record { element = t.text; is_element = t.spells.element; parts = t.parts },
+)
 
-bindings_fault : (octets : List ℕ) (fuel : ℕ) (here : List ℕ) (e : BerError) → length here ≤ fuel → (here ≢ [] → Expects octets at_binding here) → bindings_within fuel here ≡ Err e → IsFault e octets
+bindings_fault : (octets : List ℕ) (fuel : ℕ) (here : List ℕ) (e : BerError) → length here ≤ fuel → (here ≢ [] → Expects octets at_binding here)
+    → bindings_within fuel here ≡ Err e → IsFault e octets
 unfolding bindings_within
 bindings_fault octets fuel [] e few stands h = absurd (let both : done {A = List VarBind} [] ≡ failed e = h in cc)
 bindings_fault octets zero (octet ∷ rest) e few stands h = absurd (omega arith)
@@ -465,7 +537,8 @@ bindings_fault octets (suc fuel) (octet ∷ rest) e few stands h =
           let b = binding_begins (octet ∷ rest) x.0 x.1 in
           let less = binding_shrinks (octet ∷ rest) x.0 x.1 in
           elim (bind_err (bindings_within fuel x.0.1) (λ more. Ok (x.0.0 ∷ more)) e x.2) [
-            | inl others ↦ bindings_fault octets fuel x.0.1 e (omega arith) (λ some. behind at_binding at_binding (octet ∷ rest) 0x30 b.0 x.0.1 here_stands refl b.1 refl some) others
+            | inl others ↦ bindings_fault octets fuel x.0.1 e (omega arith)
+                (λ some. behind at_binding at_binding (octet ∷ rest) 0x30 b.0 x.0.1 here_stands refl b.1 refl some) others
             | inr y ↦ absurd (let both : done (x.0.0 ∷ y.0) ≡ failed e = y.2 in cc)
           ]
     ]
@@ -485,7 +558,8 @@ kind_fails tag =
     by_kind 0xA8 tag kind.Report _ (
     λ e h. err_is {A = Kind} error.Tag e h))))))))
   where
-    by_kind : (known tag : ℕ) (this : Kind) (others : Result Kind BerError) → ((e : BerError) → others ≡ Err e → error.Tag ≡ e) → (e : BerError) → cond (eqb tag known) (Ok this) others ≡ Err e → error.Tag ≡ e
+    by_kind : (known tag : ℕ) (this : Kind) (others : Result Kind BerError) → ((e : BerError) → others ≡ Err e → error.Tag ≡ e) → (e : BerError)
+        → cond (eqb tag known) (Ok this) others ≡ Err e → error.Tag ≡ e
     by_kind known tag this others that e h =
         elim (chosen (eqb tag known) (done this) others (Err e) h) [
           | inl is ↦ absurd (let both : done this ≡ failed e = is.1 in cc)
@@ -506,53 +580,114 @@ outermost_faults (tag ∷ rest) e h =
             | inl bad ↦
                 elim (content_faults tag error.Truncated rest e bad) [
                   | inl cut ↦ subst (λ (d : BerError). IsFault d octets) cut.0 cut.1
-                  | inr form ↦ subst (λ (d : BerError). IsFault d octets) form.0 (record { place = at_message; here = octets; expected = starts; bad = inl form.1 })
+                  | inr form ↦ subst (λ (d : BerError). IsFault d octets) form.0
+                      (record { place = at_message; here = octets; expected = starts; bad = inl form.1 })
                 ]
             | inr x ↦
                 let p = failed_pass (eqb (length x.0.1) 0) error.Trailing e x.0.0 x.2 in
                 let t = content_takes error.Truncated rest x.0 x.1 in
-                let begins : BeginsWith tag x.0.0 octets x.0.1 = record { element = tag ∷ t.0 ++ x.0.0; is_element = record { length_octets = t.0; is_length = t.1; parts = refl }; parts = ap (λ (o : List ℕ). tag ∷ o) (t.2 ∙ sym (append_assoc t.0 x.0.0 x.0.1)) } in
-                subst (λ (d : BerError). IsFault d octets) p.1 (record { tag = tag; content = x.0.0; after = x.0.1; begins = begins; some = λ none. eqb-false (length x.0.1) 0 p.0 (ap length none) })
+                let begins : BeginsWith tag x.0.0 octets x.0.1 = record {
+                  element = tag ∷ t.0 ++ x.0.0;
+                  is_element =
+                      record { length_octets = t.0; is_length = t.1; parts = refl };
+                  parts =
+                      ap (λ (o : List ℕ). tag ∷ o) (t.2 ∙ sym (append_assoc t.0 x.0.0 x.0.1));
+                } in
+                subst (λ (d : BerError). IsFault d octets) p.1 (record {
+                  tag = tag;
+                  content = x.0.0;
+                  after = x.0.1;
+                  begins = begins;
+                  some =
+                      λ none. eqb-false (length x.0.1) 0 p.0 (ap length none);
+                })
           ]
       | inr bad ↦ bad_tag octets at_message tag rest e starts (λ allowed. eqb-false tag 0x30 bad.0 allowed) (err_is {A = List ℕ} error.Tag e bad.1)
     ]
 
 list_faults : (octets : List ℕ) (version : ℤ) (community : List ℕ) (found : Kind) (id a b : ℤ) (here : List ℕ) (e : BerError) → Expects octets at_list here
-    → (inner_at 0x30 here >>= λ list. cond (eqb (length list.1) 0) (bindings_of list.0) (Err error.Content) >>= λ bindings. done {A = Message} (record { version = version; community = community; kind = found; id = id; a = a; b = b; bindings = bindings })) ≡ Err e → IsFault e octets
+    → (inner_at 0x30 here >>= λ list. cond (eqb (length list.1) 0) (bindings_of list.0) (Err error.Content) >>= λ bindings. done {A = Message}
+    (record { version = version; community = community; kind = found; id = id; a = a; b = b; bindings = bindings })) ≡ Err e → IsFault e octets
 unfolding bindings_of
 list_faults octets version community found id a b here e stands h =
-    elim (bind_err (inner_at 0x30 here) (λ list. cond (eqb (length list.1) 0) (bindings_of list.0) (Err error.Content) >>= λ bindings. done {A = Message} (record { version = version; community = community; kind = found; id = id; a = a; b = b; bindings = bindings })) e h) [
+    elim (bind_err (inner_at 0x30 here) (λ list. cond (eqb (length list.1) 0) (bindings_of list.0) (Err error.Content) >>= λ bindings. done {A = Message}
+    (record { version = version; community = community; kind = found; id = id; a = a; b = b; bindings = bindings })) e h) [
       | inl in_list ↦ inner_faults octets at_list 0x30 here e stands (λ is. cc) (λ t allowed. allowed) in_list
       | inr list ↦
           let begins = begins_with 0x30 here list.0.0 list.0.1 (inner_takes 0x30 here list.0 list.1) in
-          elim (bind_err (cond (eqb (length list.0.1) 0) (bindings_of list.0.0) (Err error.Content)) (λ bindings. done {A = Message} (record { version = version; community = community; kind = found; id = id; a = a; b = b; bindings = bindings })) e list.2) [
+          elim (bind_err (cond (eqb (length list.0.1) 0) (bindings_of list.0.0) (Err error.Content))
+          (λ bindings. done {A = Message} (record {
+            version = version;
+            community = community;
+            kind = found;
+            id = id;
+            a = a;
+            b = b;
+            bindings =
+                bindings;
+          })) e list.2) [
             | inl bad ↦
                 elim (chosen (eqb (length list.0.1) 0) (bindings_of list.0.0) (Err error.Content) (Err e) bad) [
-                  | inl in_bindings ↦ bindings_fault octets (length list.0.0) list.0.0 e (omega arith) (λ some. inside at_list at_binding here 0x30 list.0.0 list.0.1 stands refl begins refl some) in_bindings.1
-                  | inr over ↦ left_over octets at_list here 0x30 list.0.0 list.0.1 e stands (λ is. cc) refl refl begins over.0 (err_is {A = List VarBind} error.Content e over.1)
+                  | inl in_bindings ↦ bindings_fault octets (length list.0.0) list.0.0 e (omega arith)
+                      (λ some. inside at_list at_binding here 0x30 list.0.0 list.0.1 stands refl begins refl some) in_bindings.1
+                  | inr over ↦ left_over octets at_list here 0x30 list.0.0 list.0.1 e stands (λ is. cc) refl refl begins over.0
+                      (err_is {A = List VarBind} error.Content e over.1)
                 ]
-            | inr y ↦ absurd (let made : Message = record { version = version; community = community; kind = found; id = id; a = a; b = b; bindings = y.0 } in let both : done made ≡ failed e = y.2 in cc)
+            | inr y ↦ absurd (let made : Message = record { version = version; community = community; kind = found; id = id; a = a; b = b; bindings = y.0 } in
+                let both : done made ≡ failed e = y.2 in cc)
           ]
     ]
 
-pdu_faults : (octets : List ℕ) (version : ℤ) (community : List ℕ) (found : Kind) (content : List ℕ) (e : BerError) → Expects octets at_id content → pdu_of version community found content ≡ Err e → IsFault e octets
+pdu_faults : (octets : List ℕ) (version : ℤ) (community : List ℕ) (found : Kind) (content : List ℕ) (e : BerError) → Expects octets at_id content
+    → pdu_of version community found content ≡ Err e → IsFault e octets
 unfolding pdu_of bindings_of
 pdu_faults octets version community found content e id_stands h =
-    elim (bind_err (integer_at content) (λ id. integer_at id.1 >>= λ a. integer_at a.1 >>= λ b. inner_at 0x30 b.1 >>= λ list. cond (eqb (length list.1) 0) (bindings_of list.0) (Err error.Content) >>= λ bindings. Ok (record { version = version; community = community; kind = found; id = id.0; a = a.0; b = b.0; bindings = bindings })) e h) [
+    elim (bind_err (integer_at content) (λ id. integer_at id.1 >>= λ a. integer_at a.1 >>= λ b. inner_at 0x30 b.1 >>= λ list. cond (eqb (length list.1) 0)
+    (bindings_of list.0) (Err error.Content) >>= λ bindings. Ok (record {
+      version = version;
+      community = community;
+      kind = found;
+      id = id.0;
+      a = a.0;
+      b =
+          b.0;
+      bindings = bindings;
+    })) e h) [
       | inl in_id ↦ integer_faults octets at_id content e id_stands (λ is. cc) refl (λ t allowed. allowed) refl in_id
       | inr id ↦
           let id_begins = integer_begins content id.0 id.1 in
           let a_stands = behind at_id at_a content 0x02 id_begins.0 id.0.1 id_stands refl id_begins.1 refl tt in
-          elim (bind_err (integer_at id.0.1) (λ a. integer_at a.1 >>= λ b. inner_at 0x30 b.1 >>= λ list. cond (eqb (length list.1) 0) (bindings_of list.0) (Err error.Content) >>= λ bindings. Ok (record { version = version; community = community; kind = found; id = id.0.0; a = a.0; b = b.0; bindings = bindings })) e id.2) [
+          elim (bind_err (integer_at id.0.1) (λ a. integer_at a.1 >>= λ b. inner_at 0x30 b.1 >>= λ list. cond (eqb (length list.1) 0) (bindings_of list.0)
+          (Err error.Content) >>= λ bindings. Ok (record {
+            version = version;
+            community = community;
+            kind = found;
+            id = id.0.0;
+            a = a.0;
+            b =
+                b.0;
+            bindings = bindings;
+          })) e id.2) [
             | inl in_a ↦ integer_faults octets at_a id.0.1 e a_stands (λ is. cc) refl (λ t allowed. allowed) refl in_a
             | inr a ↦
                 let a_begins = integer_begins id.0.1 a.0 a.1 in
                 let b_stands = behind at_a at_b id.0.1 0x02 a_begins.0 a.0.1 a_stands refl a_begins.1 refl tt in
-                elim (bind_err (integer_at a.0.1) (λ b. inner_at 0x30 b.1 >>= λ list. cond (eqb (length list.1) 0) (bindings_of list.0) (Err error.Content) >>= λ bindings. Ok (record { version = version; community = community; kind = found; id = id.0.0; a = a.0.0; b = b.0; bindings = bindings })) e a.2) [
+                elim (bind_err (integer_at a.0.1) (λ b. inner_at 0x30 b.1 >>= λ list. cond (eqb (length list.1) 0) (bindings_of list.0)
+                (Err error.Content) >>= λ bindings. Ok (record {
+                  version = version;
+                  community = community;
+                  kind = found;
+                  id = id.0.0;
+                  a = a.0.0;
+                  b =
+                      b.0;
+                  bindings = bindings;
+                })) e a.2) [
                   | inl in_b ↦ integer_faults octets at_b a.0.1 e b_stands (λ is. cc) refl (λ t allowed. allowed) refl in_b
                   | inr b ↦
                       let b_begins = integer_begins a.0.1 b.0 b.1 in
-                      list_faults octets version community found id.0.0 a.0.0 b.0.0 b.0.1 e (behind at_b at_list a.0.1 0x02 b_begins.0 b.0.1 b_stands refl b_begins.1 refl tt) b.2
+                      list_faults octets version community found id.0.0 a.0.0 b.0.0 b.0.1 e
+                      (behind at_b at_list a.0.1 0x02 b_begins.0 b.0.1 b_stands refl b_begins.1 refl tt) b.2
                 ]
           ]
     ]
@@ -561,18 +696,22 @@ outermost_begins : (octets content : List ℕ) → outermost_of octets ≡ Ok co
 outermost_begins octets content h = record { element = octets; is_element = outermost_takes octets content h; parts = sym (append-nil octets) }
 
 whole_pdu_faults : (octets : List ℕ) (version : ℤ) (community here : List ℕ) (e : BerError) → Expects octets at_pdu here
-    → (element_at here >>= λ pdu. cond (eqb (length pdu.2) 0) (kind_of pdu.0) (Err (fault_or (kind_of pdu.0) error.Content)) >>= λ found. pdu_of version community found pdu.1) ≡ Err e → IsFault e octets
+    → (element_at here >>= λ pdu. cond (eqb (length pdu.2) 0) (kind_of pdu.0)
+    (Err (fault_or (kind_of pdu.0) error.Content)) >>= λ found. pdu_of version community found pdu.1) ≡ Err e → IsFault e octets
 whole_pdu_faults octets version community here e stands h =
-    elim (bind_err (element_at here) (λ pdu. cond (eqb (length pdu.2) 0) (kind_of pdu.0) (Err (fault_or (kind_of pdu.0) error.Content)) >>= λ found. pdu_of version community found pdu.1) e h) [
+    elim (bind_err (element_at here) (λ pdu. cond (eqb (length pdu.2) 0) (kind_of pdu.0)
+    (Err (fault_or (kind_of pdu.0) error.Content)) >>= λ found. pdu_of version community found pdu.1) e h) [
       | inl in_pdu ↦ element_faults octets at_pdu here e stands (λ is. cc) in_pdu
       | inr pdu ↦
           let begins = begins_with pdu.0.0 here pdu.0.1 pdu.0.2 (element_takes here pdu.0 pdu.1) in
-          elim (bind_err (cond (eqb (length pdu.0.2) 0) (kind_of pdu.0.0) (Err (fault_or (kind_of pdu.0.0) error.Content))) (λ found. pdu_of version community found pdu.0.1) e pdu.2) [
+          elim (bind_err (cond (eqb (length pdu.0.2) 0) (kind_of pdu.0.0) (Err (fault_or (kind_of pdu.0.0) error.Content)))
+          (λ found. pdu_of version community found pdu.0.1) e pdu.2) [
             | inl bad ↦
                 elim (chosen (eqb (length pdu.0.2) 0) (kind_of pdu.0.0) (Err (fault_or (kind_of pdu.0.0) error.Content)) (Err e) bad) [
                   | inl in_kind ↦
                       let t = element_tag pdu.0.0 pdu.0.1 here pdu.0.2 begins in
-                      bad_tag octets at_pdu pdu.0.0 t.0 e (subst (λ (o : List ℕ). Expects octets at_pdu o) t.1 stands) (λ allowed. not_kind pdu.0.0 e in_kind.1 allowed.0 allowed.1) (kind_fails pdu.0.0 e in_kind.1)
+                      bad_tag octets at_pdu pdu.0.0 t.0 e (subst (λ (o : List ℕ). Expects octets at_pdu o) t.1 stands)
+                      (λ allowed. not_kind pdu.0.0 e in_kind.1 allowed.0 allowed.1) (kind_fails pdu.0.0 e in_kind.1)
                   | inr over ↦
                       elim (fault_of (kind_of pdu.0.0) error.Content e (err_is {A = Kind} (fault_or (kind_of pdu.0.0) error.Content) e over.1)) [
                         | inl read ↦
@@ -580,7 +719,8 @@ whole_pdu_faults octets version community here e stands h =
                             left_over octets at_pdu here pdu.0.0 pdu.0.1 pdu.0.2 e stands (λ is. cc) refl allowed begins over.0 read.2
                         | inr bad ↦
                             let t = element_tag pdu.0.0 pdu.0.1 here pdu.0.2 begins in
-                            bad_tag octets at_pdu pdu.0.0 t.0 e (subst (λ (o : List ℕ). Expects octets at_pdu o) t.1 stands) (λ allowed. not_kind pdu.0.0 e bad allowed.0 allowed.1) (kind_fails pdu.0.0 e bad)
+                            bad_tag octets at_pdu pdu.0.0 t.0 e (subst (λ (o : List ℕ). Expects octets at_pdu o) t.1 stands)
+                            (λ allowed. not_kind pdu.0.0 e bad allowed.0 allowed.1) (kind_fails pdu.0.0 e bad)
                       ]
                 ]
             | inr found ↦
@@ -593,20 +733,27 @@ whole_pdu_faults octets version community here e stands h =
 pub message_faults : (octets : List ℕ) (e : BerError) → message_of octets ≡ Err e → IsFault e octets
 unfolding message_of
 message_faults octets e h =
-    elim (bind_err (outermost_of octets) (λ content. integer_at content >>= λ version. inner_at 0x04 version.1 >>= λ community. element_at community.1 >>= λ pdu. cond (eqb (length pdu.2) 0) (kind_of pdu.0) (Err (fault_or (kind_of pdu.0) error.Content)) >>= λ found. pdu_of version.0 community.0 found pdu.1) e h) [
+    elim (bind_err (outermost_of octets) (λ content. integer_at content >>= λ version. inner_at 0x04 version.1 >>= λ community.
+    element_at community.1 >>= λ pdu. cond (eqb (length pdu.2) 0) (kind_of pdu.0)
+    (Err (fault_or (kind_of pdu.0) error.Content)) >>= λ found. pdu_of version.0 community.0 found pdu.1) e h) [
       | inl outer ↦ outermost_faults octets e outer
       | inr content ↦
           let version_stands = inside at_message at_version octets 0x30 content.0 [] starts refl (outermost_begins octets content.0 content.1) refl tt in
-          elim (bind_err (integer_at content.0) (λ version. inner_at 0x04 version.1 >>= λ community. element_at community.1 >>= λ pdu. cond (eqb (length pdu.2) 0) (kind_of pdu.0) (Err (fault_or (kind_of pdu.0) error.Content)) >>= λ found. pdu_of version.0 community.0 found pdu.1) e content.2) [
+          elim (bind_err (integer_at content.0) (λ version. inner_at 0x04 version.1 >>= λ community. element_at community.1 >>= λ pdu. cond
+          (eqb (length pdu.2) 0) (kind_of pdu.0) (Err (fault_or (kind_of pdu.0) error.Content)) >>= λ found.
+          pdu_of version.0 community.0 found pdu.1) e content.2) [
             | inl in_version ↦ integer_faults octets at_version content.0 e version_stands (λ is. cc) refl (λ t allowed. allowed) refl in_version
             | inr version ↦
                 let version_begins = integer_begins content.0 version.0 version.1 in
-                let community_stands = behind at_version at_community content.0 0x02 version_begins.0 version.0.1 version_stands refl version_begins.1 refl tt in
-                elim (bind_err (inner_at 0x04 version.0.1) (λ community. element_at community.1 >>= λ pdu. cond (eqb (length pdu.2) 0) (kind_of pdu.0) (Err (fault_or (kind_of pdu.0) error.Content)) >>= λ found. pdu_of version.0.0 community.0 found pdu.1) e version.2) [
+                let community_stands = behind at_version at_community content.0 0x02 version_begins.0 version.0.1 version_stands refl version_begins.1 refl
+                tt in
+                elim (bind_err (inner_at 0x04 version.0.1) (λ community. element_at community.1 >>= λ pdu. cond (eqb (length pdu.2) 0) (kind_of pdu.0)
+                (Err (fault_or (kind_of pdu.0) error.Content)) >>= λ found. pdu_of version.0.0 community.0 found pdu.1) e version.2) [
                   | inl in_community ↦ inner_faults octets at_community 0x04 version.0.1 e community_stands (λ is. cc) (λ t allowed. allowed) in_community
                   | inr community ↦
                       let begins = begins_with 0x04 version.0.1 community.0.0 community.0.1 (inner_takes 0x04 version.0.1 community.0 community.1) in
-                      whole_pdu_faults octets version.0.0 community.0.0 community.0.1 e (behind at_community at_pdu version.0.1 0x04 community.0.0 community.0.1 community_stands refl begins refl tt) community.2
+                      whole_pdu_faults octets version.0.0 community.0.0 community.0.1 e
+                      (behind at_community at_pdu version.0.1 0x04 community.0.0 community.0.1 community_stands refl begins refl tt) community.2
                 ]
           ]
     ]

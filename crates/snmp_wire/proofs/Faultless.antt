@@ -10,7 +10,8 @@ use Rattle.snmp_wire.specs.Message.{VarBind, Message}
 use Rattle.snmp_ber.specs.Spelling.{value_tag, IsContent, SpellsValue}
 use Rattle.snmp_wire.specs.Spelling.{SpellsBindings, kind_tag, SpellsPdu, Spells}
 use Rattle.snmp_ber.specs.Reading.{element_at}
-use Rattle.snmp_wire.specs.Fault.{BeginsWith, EndsEarly, HasForbiddenLength, Place, at_message, at_version, at_community, at_pdu, at_id, at_a, at_b, at_list, at_binding, at_name, at_value, first_inside, next_behind, AllowsTag, Calls, Expects, starts, inside, behind, IsFault}
+use Rattle.snmp_wire.specs.Fault.{BeginsWith, EndsEarly, HasForbiddenLength, Place, at_message, at_version, at_community, at_pdu, at_id, at_a, at_b, at_list}
+use Rattle.snmp_wire.specs.Fault.{at_binding, at_name, at_value, first_inside, next_behind, AllowsTag, Calls, Expects, starts, inside, behind, IsFault}
 use Rattle.snmp_ber.proofs.ReadingLemmas.{ok_is}
 use Rattle.snmp_ber.proofs.LengthLemmas.{element_again}
 
@@ -18,7 +19,8 @@ use Rattle.snmp_ber.proofs.LengthLemmas.{element_again}
 data IsGood : Place → List ℕ → Type 0 where
   good : (place : Place) (here : List ℕ) (tag : ℕ) (content rest : List ℕ) → BeginsWith tag content here rest → AllowsTag place tag
       → (first_inside place ≡ None → (value : Datum) × (tag ≡ value_tag value) × IsContent lenient value content) → (next_behind place ≡ None → rest ≡ [])
-      → ((next : Place) → first_inside place ≡ Some next → Calls next content → IsGood next content) → ((next : Place) → next_behind place ≡ Some next → Calls next rest → IsGood next rest) → IsGood place here
+      → ((next : Place) → first_inside place ≡ Some next → Calls next content → IsGood next content)
+      → ((next : Place) → next_behind place ≡ Some next → Calls next rest → IsGood next rest) → IsGood place here
 
 -- the parts of that
 record Parts (place : Place) (here : List ℕ) : Type 0 where
@@ -33,7 +35,8 @@ record Parts (place : Place) (here : List ℕ) : Type 0 where
   after : (next : Place) → next_behind place ≡ Some next → Calls next rest → IsGood next rest
 
 parts_of : (place : Place) (here : List ℕ) → IsGood place here → Parts place here
-parts_of place here (good _ _ tag content rest begins allowed value last within after) = record { tag = tag; content = content; rest = rest; begins = begins; allowed = allowed; value = value; last = last; within = within; after = after }
+parts_of place here (good _ _ tag content rest begins allowed value last within after) =
+    record { tag = tag; content = content; rest = rest; begins = begins; allowed = allowed; value = value; last = last; within = within; after = after }
 
 -- octets begin with one element only
 abbrev Front : Type 0
@@ -42,7 +45,8 @@ Front = ℕ × List ℕ × List ℕ
 reads : (tag : ℕ) (content here rest : List ℕ) → BeginsWith tag content here rest → element_at here ≡ Ok (tag, content, rest)
 reads tag content here rest b = ap element_at b.parts ∙ element_again tag content b.element rest b.is_element
 
-one_front : (tag : ℕ) (content : List ℕ) (other : ℕ) (contents here rest more : List ℕ) → BeginsWith tag content here rest → BeginsWith other contents here more → ◌≡◌ {A = Front} (tag, content, rest) (other, contents, more)
+one_front : (tag : ℕ) (content : List ℕ) (other : ℕ) (contents here rest more : List ℕ) → BeginsWith tag content here rest
+    → BeginsWith other contents here more → ◌≡◌ {A = Front} (tag, content, rest) (other, contents, more)
 one_front tag content other contents here rest more b c =
     let first : Front = (tag, content, rest) in
     let second : Front = (other, contents, more) in
@@ -65,9 +69,17 @@ stands_good octets place here all (behind before _ around tag content rest stand
 
 not_early : (tag : ℕ) (content here rest : List ℕ) → BeginsWith tag content here rest → EndsEarly here → ⊥
 not_early tag content here rest b early =
-    let longer : BeginsWith tag content (here ++ early.missing) (rest ++ early.missing) = record { element = b.element; is_element = b.is_element; parts = ap (λ (o : List ℕ). o ++ early.missing) b.parts ∙ append_assoc b.element rest early.missing } in
-    let whole : BeginsWith early.tag early.content (here ++ early.missing) [] = record { element = here ++ early.missing; is_element = early.whole; parts = sym (append-nil (here ++ early.missing)) } in
-    let none : rest ++ early.missing ≡ [] = ap (λ (f : Front). f.2) (one_front tag content early.tag early.content (here ++ early.missing) (rest ++ early.missing) [] longer whole) in
+    let longer : BeginsWith tag content (here ++ early.missing) (rest ++ early.missing) =
+    record {
+      element = b.element;
+      is_element = b.is_element;
+      parts = ap (λ (o : List ℕ). o ++ early.missing) b.parts
+          ∙ append_assoc b.element rest early.missing;
+    } in
+    let whole : BeginsWith early.tag early.content (here ++ early.missing) [] =
+    record { element = here ++ early.missing; is_element = early.whole; parts = sym (append-nil (here ++ early.missing)) } in
+    let none : rest ++ early.missing ≡ [] = ap (λ (f : Front). f.2) (one_front tag content early.tag early.content (here ++ early.missing)
+    (rest ++ early.missing) [] longer whole) in
     early.some (nothing rest early.missing none)
   where
     nothing : (first second : List ℕ) → first ++ second ≡ [] → second ≡ []
@@ -88,8 +100,10 @@ not_forbidden tag content here rest b f =
           let small = short.small in
           elim f.forbidden [ inl h ↦ omega arith | inr h ↦ omega arith ]
       | inr long ↦
-          let one : here ≡ tag ∷ (128 + length long.digits) ∷ ((long.digits ++ content) ++ rest) = parts ∙ ap (λ (o : List ℕ). ((tag ∷ o ++ content) ++ rest)) long.parts in
-          let is : f.first ≡ 128 + length long.digits = second_octet f.tag f.first tag (128 + length long.digits) f.rest ((long.digits ++ content) ++ rest) (sym f.parts ∙ one) in
+          let one : here ≡ tag ∷ (128 + length long.digits) ∷ ((long.digits ++ content) ++ rest) = parts
+          ∙ ap (λ (o : List ℕ). ((tag ∷ o ++ content) ++ rest)) long.parts in
+          let is : f.first ≡ 128 + length long.digits = second_octet f.tag f.first tag (128 + length long.digits) f.rest ((long.digits ++ content) ++ rest)
+          (sym f.parts ∙ one) in
           let some = long.some in
           let few = long.few in
           elim f.forbidden [ inl h ↦ omega arith | inr h ↦ omega arith ]
@@ -141,54 +155,69 @@ none_next octets next e = absurd cc
 
 good_value : (value : Datum) (here : List ℕ) → SpellsValue lenient value here → IsGood at_value here
 good_value value here h =
-    good at_value here (value_tag value) h.content [] (record { element = here; is_element = h.element; parts = sym (append-nil here) }) (value, refl) (λ e. (value, refl, h.is_content)) (λ e. refl) (none_next h.content) (none_next [])
+    good at_value here (value_tag value) h.content [] (record { element = here; is_element = h.element; parts = sym (append-nil here) }) (value, refl)
+    (λ e. (value, refl, h.is_content)) (λ e. refl) (none_next h.content) (none_next [])
 
-good_name : (name : List ℕ) (value : Datum) (here after : List ℕ) → SpellsValue lenient (object_id name) here → SpellsValue lenient value after → IsGood at_name (here ++ after)
+good_name : (name : List ℕ) (value : Datum) (here after : List ℕ) → SpellsValue lenient (object_id name) here → SpellsValue lenient value after
+    → IsGood at_name (here ++ after)
 good_name name value here after h v =
-    good at_name (here ++ after) 0x06 h.content after (record { element = here; is_element = h.element; parts = refl }) refl (λ e. (object_id name, refl, h.is_content)) (λ e. absurd cc) (none_next h.content) (next_only at_value after (λ calls. good_value value after v))
+    good at_name (here ++ after) 0x06 h.content after (record { element = here; is_element = h.element; parts = refl }) refl
+    (λ e. (object_id name, refl, h.is_content)) (λ e. absurd cc) (none_next h.content) (next_only at_value after (λ calls. good_value value after v))
 
 good_bindings : (bindings : List VarBind) (here : List ℕ) → SpellsBindings lenient bindings here → here ≢ [] → IsGood at_binding here
 good_bindings [] here h some = absurd (some h)
 good_bindings (binding ∷ more) here h some =
     let b = h.3 in
     good at_binding here 0x30 (b.name ++ b.value) h.1 (record { element = h.0; is_element = b.element; parts = h.2 }) refl (λ e. absurd cc) (λ e. absurd cc)
-    (next_only at_name (b.name ++ b.value) (λ calls. good_name binding.name binding.value b.name b.value b.is_name b.is_value)) (next_only at_binding h.1 (λ calls. good_bindings more h.1 h.4 calls))
+    (next_only at_name (b.name ++ b.value) (λ calls. good_name binding.name binding.value b.name b.value b.is_name b.is_value))
+    (next_only at_binding h.1 (λ calls. good_bindings more h.1 h.4 calls))
 
 good_list : (bindings : List VarBind) (content here : List ℕ) → IsElement 0x30 content here → SpellsBindings lenient bindings content → IsGood at_list here
 good_list bindings content here element h =
-    good at_list here 0x30 content [] (record { element = here; is_element = element; parts = sym (append-nil here) }) refl (λ e. absurd cc) (λ e. refl) (next_only at_binding content (λ calls. good_bindings bindings content h calls)) (none_next [])
+    good at_list here 0x30 content [] (record { element = here; is_element = element; parts = sym (append-nil here) }) refl (λ e. absurd cc) (λ e. refl)
+    (next_only at_binding content (λ calls. good_bindings bindings content h calls)) (none_next [])
 
 good_b : (z : ℤ) (here after : List ℕ) → SpellsValue lenient (integer_value z) here → IsGood at_list after → IsGood at_b (here ++ after)
 good_b z here after h next =
-    good at_b (here ++ after) 0x02 h.content after (record { element = here; is_element = h.element; parts = refl }) refl (λ e. (integer_value z, refl, h.is_content)) (λ e. absurd cc) (none_next h.content) (next_only at_list after (λ calls. next))
+    good at_b (here ++ after) 0x02 h.content after (record { element = here; is_element = h.element; parts = refl }) refl
+    (λ e. (integer_value z, refl, h.is_content)) (λ e. absurd cc) (none_next h.content) (next_only at_list after (λ calls. next))
 
 good_a : (z : ℤ) (here after : List ℕ) → SpellsValue lenient (integer_value z) here → IsGood at_b after → IsGood at_a (here ++ after)
 good_a z here after h next =
-    good at_a (here ++ after) 0x02 h.content after (record { element = here; is_element = h.element; parts = refl }) refl (λ e. (integer_value z, refl, h.is_content)) (λ e. absurd cc) (none_next h.content) (next_only at_b after (λ calls. next))
+    good at_a (here ++ after) 0x02 h.content after (record { element = here; is_element = h.element; parts = refl }) refl
+    (λ e. (integer_value z, refl, h.is_content)) (λ e. absurd cc) (none_next h.content) (next_only at_b after (λ calls. next))
 
 good_id : (z : ℤ) (here after : List ℕ) → SpellsValue lenient (integer_value z) here → IsGood at_a after → IsGood at_id (here ++ after)
 good_id z here after h next =
-    good at_id (here ++ after) 0x02 h.content after (record { element = here; is_element = h.element; parts = refl }) refl (λ e. (integer_value z, refl, h.is_content)) (λ e. absurd cc) (none_next h.content) (next_only at_a after (λ calls. next))
+    good at_id (here ++ after) 0x02 h.content after (record { element = here; is_element = h.element; parts = refl }) refl
+    (λ e. (integer_value z, refl, h.is_content)) (λ e. absurd cc) (none_next h.content) (next_only at_a after (λ calls. next))
 
 good_pdu : (message : Message) (here : List ℕ) → SpellsPdu lenient message here → IsGood at_pdu here
 good_pdu message here h =
     let content = h.id ++ h.a ++ h.b ++ h.list in
     let regrouped : content ≡ h.id ++ (h.a ++ (h.b ++ h.list)) = append_assoc (h.id ++ h.a) h.b h.list ∙ append_assoc h.id h.a (h.b ++ h.list) in
-    let inner = good_id message.id h.id (h.a ++ (h.b ++ h.list)) h.is_id (good_a message.a h.a (h.b ++ h.list) h.is_a (good_b message.b h.b h.list h.is_b (good_list message.bindings h.bindings h.list h.is_list h.are_bindings))) in
-    good at_pdu here (kind_tag message.kind) content [] (record { element = here; is_element = h.element; parts = sym (append-nil here) }) (message.kind, refl) (λ e. absurd cc) (λ e. refl) (next_only at_id content (λ calls. subst (λ (o : List ℕ). IsGood at_id o) (sym regrouped) inner)) (none_next [])
+    let inner = good_id message.id h.id (h.a ++ (h.b ++ h.list)) h.is_id
+    (good_a message.a h.a (h.b ++ h.list) h.is_a (good_b message.b h.b h.list h.is_b
+    (good_list message.bindings h.bindings h.list h.is_list h.are_bindings))) in
+    good at_pdu here (kind_tag message.kind) content [] (record { element = here; is_element = h.element; parts = sym (append-nil here) })
+    (message.kind, refl) (λ e. absurd cc) (λ e. refl) (next_only at_id content (λ calls. subst (λ (o : List ℕ). IsGood at_id o) (sym regrouped) inner))
+    (none_next [])
 
 good_community : (community here after : List ℕ) → SpellsValue lenient (octet_string community) here → IsGood at_pdu after → IsGood at_community (here ++ after)
 good_community community here after h next =
-    good at_community (here ++ after) 0x04 h.content after (record { element = here; is_element = h.element; parts = refl }) refl (λ e. (octet_string community, refl, h.is_content)) (λ e. absurd cc) (none_next h.content) (next_only at_pdu after (λ calls. next))
+    good at_community (here ++ after) 0x04 h.content after (record { element = here; is_element = h.element; parts = refl }) refl
+    (λ e. (octet_string community, refl, h.is_content)) (λ e. absurd cc) (none_next h.content) (next_only at_pdu after (λ calls. next))
 
 good_version : (z : ℤ) (here after : List ℕ) → SpellsValue lenient (integer_value z) here → IsGood at_community after → IsGood at_version (here ++ after)
 good_version z here after h next =
-    good at_version (here ++ after) 0x02 h.content after (record { element = here; is_element = h.element; parts = refl }) refl (λ e. (integer_value z, refl, h.is_content)) (λ e. absurd cc) (none_next h.content) (next_only at_community after (λ calls. next))
+    good at_version (here ++ after) 0x02 h.content after (record { element = here; is_element = h.element; parts = refl }) refl
+    (λ e. (integer_value z, refl, h.is_content)) (λ e. absurd cc) (none_next h.content) (next_only at_community after (λ calls. next))
 
 good_message : (message : Message) (here : List ℕ) → Spells message here → IsGood at_message here
 good_message message here h =
     let content = h.version ++ h.community ++ h.pdu in
-    let inner = good_version message.version h.version (h.community ++ h.pdu) h.is_version (good_community message.community h.community h.pdu h.is_community (good_pdu message h.pdu h.is_pdu)) in
+    let inner = good_version message.version h.version (h.community ++ h.pdu) h.is_version
+    (good_community message.community h.community h.pdu h.is_community (good_pdu message h.pdu h.is_pdu)) in
     good at_message here 0x30 content [] (record { element = here; is_element = h.element; parts = sym (append-nil here) }) refl (λ e. absurd cc) (λ e. refl)
     (next_only at_version content (λ calls. subst (λ (o : List ℕ). IsGood at_version o) (sym (append_assoc h.version h.community h.pdu)) inner)) (none_next [])
 

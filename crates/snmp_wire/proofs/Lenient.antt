@@ -17,7 +17,8 @@ binding_is_read binding text is = record {
 
 bindings_are_read : (bindings : List VarBind) (text : List ℕ) → SpellsBindings strict bindings text → SpellsBindings lenient bindings text
 bindings_are_read [] text is = is
-bindings_are_read (binding ∷ more) text (first, rest, parts, this, others) = (first, rest, parts, binding_is_read binding first this, bindings_are_read more rest others)
+bindings_are_read (binding ∷ more) text (first, rest, parts, this, others) =
+    (first, rest, parts, binding_is_read binding first this, bindings_are_read more rest others)
 
 pdu_is_read : (message : Message) (text : List ℕ) → SpellsPdu strict message text → SpellsPdu lenient message text
 pdu_is_read message text is = record {

@@ -1,5 +1,6 @@
 -- What is read as a message is spelt so, and what is spelt so is read.
-use Rattle.std.proofs.Common.{◌≡◌, ℕ, ℤ, zero, suc, ◌<◌, cond, eqb, List, [], ◌∷◌, ◌++◌, length, Result, Ok, Err, refl, sym, ap, subst, ◌∙◌, append_assoc, arith, inl, inr}
+use Rattle.std.proofs.Common.{◌≡◌, ℕ, ℤ, zero, suc, ◌<◌, cond, eqb, List, [], ◌∷◌, ◌++◌, length, Result, Ok, Err, refl, sym, ap, subst, ◌∙◌, append_assoc}
+use Rattle.std.proofs.Common.{arith, inl, inr}
 use Rattle.std.proofs.lemmas.Bool.{eqb-true}
 use Rattle.std.proofs.lemmas.List.{nil_from_length, append-nil, length-append, append_cancel_right}
 use Rattle.snmp_ber.specs.declared.error.BerError.{BerError}
@@ -13,7 +14,8 @@ use Rattle.snmp_wire.specs.Message.{VarBind, Message}
 use Rattle.snmp_ber.specs.Spelling.{value_tag, SpellsValue}
 use Rattle.snmp_wire.specs.Spelling.{SpellsBinding, SpellsBindings, kind_tag, SpellsPdu, Spells}
 use Rattle.snmp_ber.specs.Reading.{fault_or, ◌>>=◌, content_at, inner_at, element_at, integer_of, integer_at, identifier_of, typed_value}
-use Rattle.snmp_wire.specs.Reading.{Fields, fields_of, fields_at, binding_of, binding_at, bindings_within, bindings_of, kind_of, outermost_of, pdu_of, message_of}
+use Rattle.snmp_wire.specs.Reading.{Fields, fields_of, fields_at, binding_of, binding_at, bindings_within, bindings_of, kind_of, outermost_of, pdu_of}
+use Rattle.snmp_wire.specs.Reading.{message_of}
 use Rattle.snmp_ber.proofs.ReadingLemmas.{done, ok_is, bind_ok, chosen, passed}
 use Rattle.snmp_ber.proofs.LengthLemmas.{content_takes, content_again, inner_takes, inner_again, element_takes, element_again}
 use Rattle.snmp_ber.proofs.IdentifierLaws.{identifier_takes, identifier_again}
@@ -61,8 +63,10 @@ pub record TakesFields (content : List ℕ) (fields : Fields) : Type 0 where
 pub fields_take : (content : List ℕ) (fields : Fields) → fields_of content ≡ Ok fields → TakesFields content fields
 unfolding fields_of
 fields_take content fields e =
-    let a = bind_ok (inner_at 0x06 content) (λ name. element_at name.1 >>= λ value. cond (eqb (length value.2) 0) (Ok (record { name = name.0; tag = value.0; content = value.1 })) (Err (fault_or (typed_value value.0 value.1) error.Content))) fields e in
-    let b = bind_ok (element_at a.0.1) (λ value. cond (eqb (length value.2) 0) (Ok (record { name = a.0.0; tag = value.0; content = value.1 })) (Err (fault_or (typed_value value.0 value.1) error.Content))) fields a.2 in
+    let a = bind_ok (inner_at 0x06 content) (λ name. element_at name.1 >>= λ value. cond (eqb (length value.2) 0)
+    (Ok (record { name = name.0; tag = value.0; content = value.1 })) (Err (fault_or (typed_value value.0 value.1) error.Content))) fields e in
+    let b = bind_ok (element_at a.0.1) (λ value. cond (eqb (length value.2) 0) (Ok (record { name = a.0.0; tag = value.0; content = value.1 }))
+    (Err (fault_or (typed_value value.0 value.1) error.Content))) fields a.2 in
     let made : Fields = record { name = a.0.0; tag = b.0.0; content = b.0.1 } in
     let p = passed (eqb (length b.0.2) 0) (Ok made) (fault_or (typed_value b.0.0 b.0.1) error.Content) fields b.2 in
     let t = inner_takes 0x06 content a.0 a.1 in
@@ -77,10 +81,12 @@ fields_take content fields e =
       parts = t.2 ∙ ap (λ (o : List ℕ). t.0 ++ o) value_is;
     })
 
-pub fields_again : (name value : List ℕ) (fields : Fields) → IsElement 0x06 fields.name name → IsElement fields.tag fields.content value → fields_of (name ++ value) ≡ Ok fields
+pub fields_again : (name value : List ℕ) (fields : Fields) → IsElement 0x06 fields.name name → IsElement fields.tag fields.content value
+    → fields_of (name ++ value) ≡ Ok fields
 unfolding fields_of
 fields_again name value fields is_name is_value =
-    let whole : element_at value ≡ Ok (fields.tag, fields.content, []) = ap element_at (sym (append-nil value)) ∙ element_again fields.tag fields.content value [] is_value in
+    let whole : element_at value ≡ Ok (fields.tag, fields.content, []) = ap element_at (sym (append-nil value))
+    ∙ element_again fields.tag fields.content value [] is_value in
     rw (inner_again 0x06 fields.name name value is_name, whole) refl
 
 pub binding_takes : (octets : List ℕ) (x : VarBind × List ℕ) → binding_at octets ≡ Ok x → TakesBinding octets x
@@ -103,7 +109,12 @@ binding_takes octets x e =
       name = fields_are.name;
       value = fields_are.value;
       is_name = record { content = f.name; is_content = identifier_takes f.name n.0 n.1; element = fields_are.is_name };
-      is_value = record { content = f.content; is_content = r.is_content; element = subst (λ (tag : ℕ). IsElement tag f.content fields_are.value) (sym r.is_tag) fields_are.is_value };
+      is_value = record {
+        content = f.content;
+        is_content = r.is_content;
+        element =
+            subst (λ (tag : ℕ). IsElement tag f.content fields_are.value) (sym r.is_tag) fields_are.is_value;
+      };
       element = subst (λ (o : List ℕ). IsElement 0x30 o t.0) fields_are.parts t.1;
     } in
     let at_made : TakesBinding octets (made, a.0.1) = record { text = t.0; spells = spells; parts = t.2 ∙ ap (λ (o : List ℕ). t.0 ++ o) after_is } in
@@ -113,7 +124,12 @@ binding_again : (binding : VarBind) (text rest : List ℕ) → SpellsBinding len
 unfolding binding_at fields_at binding_of
 binding_again binding text rest h =
     let fields : Fields = record { name = h.is_name.content; tag = value_tag binding.value; content = h.is_value.content } in
-    rw (inner_again 0x30 (h.name ++ h.value) text rest h.element, fields_again h.name h.value fields h.is_name.element h.is_value.element, identifier_again h.is_name.content binding.name h.is_name.is_content, value_again binding.value h.is_value.content h.is_value.is_content) refl
+    rw (
+      inner_again 0x30 (h.name ++ h.value) text rest h.element,
+      fields_again h.name h.value fields h.is_name.element h.is_value.element,
+      identifier_again h.is_name.content binding.name h.is_name.is_content,
+      value_again binding.value h.is_value.content h.is_value.is_content,
+    ) refl
 
 bindings_take : (fuel : ℕ) (octets : List ℕ) (bindings : List VarBind) → bindings_within fuel octets ≡ Ok bindings → SpellsBindings lenient bindings octets
 unfolding bindings_within
@@ -156,7 +172,8 @@ kind_takes tag =
     by_tag 0xA8 tag kind.Report _ refl (
     λ found e. absurd cc))))))))
   where
-    by_tag : (known tag : ℕ) (this : Kind) (others : Result Kind BerError) → kind_tag this ≡ known → ((found : Kind) → others ≡ Ok found → kind_tag found ≡ tag) → (found : Kind) → cond (eqb tag known) (Ok this) others ≡ Ok found → kind_tag found ≡ tag
+    by_tag : (known tag : ℕ) (this : Kind) (others : Result Kind BerError) → kind_tag this ≡ known
+        → ((found : Kind) → others ≡ Ok found → kind_tag found ≡ tag) → (found : Kind) → cond (eqb tag known) (Ok this) others ≡ Ok found → kind_tag found ≡ tag
     by_tag known tag this others is_known that found e =
         elim (chosen (eqb tag known) (done this) others (Ok found) e) [
           | inl h ↦ ap kind_tag (sym (ok_is this found h.1)) ∙ is_known ∙ sym (eqb-true tag known h.0)
@@ -187,12 +204,15 @@ outermost_takes (tag ∷ rest) content e =
     let none : b.0.1 ≡ [] = nil_from_length b.0.1 (eqb-true (length b.0.1) 0 q.0) in
     let parts : rest ≡ t.0 ++ b.0.0 = t.2 ∙ ap (λ (o : List ℕ). t.0 ++ (b.0.0 ++ o)) none ∙ ap (λ (o : List ℕ). t.0 ++ o) (append-nil b.0.0) in
     let is_element : IsElement 0x30 b.0.0 (0x30 ∷ rest) = record { length_octets = t.0; is_length = t.1; parts = ap (λ (o : List ℕ). 0x30 ∷ o) parts } in
-    subst (λ (c : List ℕ). IsElement 0x30 c (tag ∷ rest)) (ok_is b.0.0 content q.1) (subst (λ (t : ℕ). IsElement 0x30 b.0.0 (t ∷ rest)) (sym (eqb-true tag 0x30 p.0)) is_element)
+    subst (λ (c : List ℕ). IsElement 0x30 c (tag ∷ rest)) (ok_is b.0.0 content q.1)
+    (subst (λ (t : ℕ). IsElement 0x30 b.0.0 (t ∷ rest)) (sym (eqb-true tag 0x30 p.0)) is_element)
 
 outermost_again : (octets content : List ℕ) → IsElement 0x30 content octets → outermost_of octets ≡ Ok content
 unfolding outermost_of
 outermost_again octets content h =
-    let whole : content_at error.Truncated (h.length_octets ++ content) ≡ Ok (content, []) = ap (λ (o : List ℕ). content_at error.Truncated (h.length_octets ++ o)) (sym (append-nil content)) ∙ content_again error.Truncated h.length_octets content [] h.is_length in
+    let whole : content_at error.Truncated (h.length_octets ++ content) ≡ Ok (content, []) =
+    ap (λ (o : List ℕ). content_at error.Truncated (h.length_octets ++ o)) (sym (append-nil content))
+    ∙ content_again error.Truncated h.length_octets content [] h.is_length in
     ap outermost_of h.parts ∙ rw whole refl
 
 -- a PDU's content
@@ -202,14 +222,56 @@ record TakesPdu (version : ℤ) (community : List ℕ) (found : Kind) (content :
   is_kind : message.kind ≡ found
   spells : (octets : List ℕ) → IsElement (kind_tag message.kind) content octets → SpellsPdu lenient message octets
 
-pdu_takes : (version : ℤ) (community : List ℕ) (found : Kind) (content : List ℕ) (message : Message) → pdu_of version community found content ≡ Ok message → TakesPdu version community found content message
+pdu_takes : (version : ℤ) (community : List ℕ) (found : Kind) (content : List ℕ) (message : Message) → pdu_of version community found content ≡ Ok message
+    → TakesPdu version community found content message
 unfolding pdu_of bindings_of
 pdu_takes version community found content message e =
-    let id = bind_ok (integer_at content) (λ id. integer_at id.1 >>= λ a. integer_at a.1 >>= λ b. inner_at 0x30 b.1 >>= λ list. cond (eqb (length list.1) 0) (bindings_of list.0) (Err error.Content) >>= λ bindings. Ok (record { version = version; community = community; kind = found; id = id.0; a = a.0; b = b.0; bindings = bindings })) message e in
-    let a = bind_ok (integer_at id.0.1) (λ a. integer_at a.1 >>= λ b. inner_at 0x30 b.1 >>= λ list. cond (eqb (length list.1) 0) (bindings_of list.0) (Err error.Content) >>= λ bindings. Ok (record { version = version; community = community; kind = found; id = id.0.0; a = a.0; b = b.0; bindings = bindings })) message id.2 in
-    let b = bind_ok (integer_at a.0.1) (λ b. inner_at 0x30 b.1 >>= λ list. cond (eqb (length list.1) 0) (bindings_of list.0) (Err error.Content) >>= λ bindings. Ok (record { version = version; community = community; kind = found; id = id.0.0; a = a.0.0; b = b.0; bindings = bindings })) message a.2 in
-    let list = bind_ok (inner_at 0x30 b.0.1) (λ list. cond (eqb (length list.1) 0) (bindings_of list.0) (Err error.Content) >>= λ bindings. Ok (record { version = version; community = community; kind = found; id = id.0.0; a = a.0.0; b = b.0.0; bindings = bindings })) message b.2 in
-    let bindings = bind_ok (cond (eqb (length list.0.1) 0) (bindings_of list.0.0) (Err error.Content)) (λ bindings. Ok (record { version = version; community = community; kind = found; id = id.0.0; a = a.0.0; b = b.0.0; bindings = bindings })) message list.2 in
+    let id = bind_ok (integer_at content) (λ id. integer_at id.1 >>= λ a. integer_at a.1 >>= λ b. inner_at 0x30 b.1 >>= λ list. cond (eqb (length list.1) 0)
+    (bindings_of list.0) (Err error.Content) >>= λ bindings. Ok (record {
+      version = version;
+      community = community;
+      kind = found;
+      id = id.0;
+      a = a.0;
+      b =
+          b.0;
+      bindings = bindings;
+    })) message e in
+    let a = bind_ok (integer_at id.0.1) (λ a. integer_at a.1 >>= λ b. inner_at 0x30 b.1 >>= λ list. cond (eqb (length list.1) 0) (bindings_of list.0)
+    (Err error.Content) >>= λ bindings. Ok (record {
+      version = version;
+      community = community;
+      kind = found;
+      id = id.0.0;
+      a = a.0;
+      b = b.0;
+      bindings =
+          bindings;
+    })) message id.2 in
+    let b = bind_ok (integer_at a.0.1) (λ b. inner_at 0x30 b.1 >>= λ list. cond (eqb (length list.1) 0) (bindings_of list.0)
+    (Err error.Content) >>= λ bindings. Ok (record {
+      version = version;
+      community = community;
+      kind = found;
+      id = id.0.0;
+      a = a.0.0;
+      b = b.0;
+      bindings =
+          bindings;
+    })) message a.2 in
+    let list = bind_ok (inner_at 0x30 b.0.1) (λ list. cond (eqb (length list.1) 0) (bindings_of list.0) (Err error.Content) >>= λ bindings. Ok
+    (record { version = version; community = community; kind = found; id = id.0.0; a = a.0.0; b = b.0.0; bindings = bindings })) message b.2 in
+    let bindings = bind_ok (cond (eqb (length list.0.1) 0) (bindings_of list.0.0) (Err error.Content))
+    (λ bindings. Ok (record {
+      version = version;
+      community = community;
+      kind = found;
+      id = id.0.0;
+      a = a.0.0;
+      b = b.0.0;
+      bindings =
+          bindings;
+    })) message list.2 in
     let made : Message = record { version = version; community = community; kind = found; id = id.0.0; a = a.0.0; b = b.0.0; bindings = bindings.0 } in
     let p = passed (eqb (length list.0.1) 0) (bindings_of list.0.0) error.Content bindings.0 bindings.1 in
     let t_id = integer_at_takes content id.0 id.1 in
@@ -220,7 +282,8 @@ pdu_takes version community found content message e =
     let list_is : b.0.1 ≡ t_list.0 = t_list.2 ∙ ap (λ (o : List ℕ). t_list.0 ++ o) none ∙ append-nil t_list.0 in
     let two : a.0.1 ≡ t_b.text ++ t_list.0 = t_b.parts ∙ ap (λ (o : List ℕ). t_b.text ++ o) list_is in
     let three : id.0.1 ≡ t_a.text ++ (t_b.text ++ t_list.0) = t_a.parts ∙ ap (λ (o : List ℕ). t_a.text ++ o) two in
-    let four : content ≡ t_id.text ++ t_a.text ++ t_b.text ++ t_list.0 = t_id.parts ∙ ap (λ (o : List ℕ). t_id.text ++ o) three ∙ sym (append_assoc t_id.text t_a.text (t_b.text ++ t_list.0)) ∙ sym (append_assoc (t_id.text ++ t_a.text) t_b.text t_list.0) in
+    let four : content ≡ t_id.text ++ t_a.text ++ t_b.text ++ t_list.0 = t_id.parts ∙ ap (λ (o : List ℕ). t_id.text ++ o) three
+    ∙ sym (append_assoc t_id.text t_a.text (t_b.text ++ t_list.0)) ∙ sym (append_assoc (t_id.text ++ t_a.text) t_b.text t_list.0) in
     let at_made : TakesPdu version community found content made = record {
       is_version = refl;
       is_community = refl;
@@ -241,22 +304,37 @@ pdu_takes version community found content message e =
     } in
     subst (TakesPdu version community found content) (ok_is made message bindings.2) at_made
 
-pdu_again : (message : Message) (content octets : List ℕ) (h : SpellsPdu lenient message octets) → content ≡ h.id ++ h.a ++ h.b ++ h.list → pdu_of message.version message.community message.kind content ≡ Ok message
+pdu_again : (message : Message) (content octets : List ℕ) (h : SpellsPdu lenient message octets) → content ≡ h.id ++ h.a ++ h.b ++ h.list
+    → pdu_of message.version message.community message.kind content ≡ Ok message
 unfolding pdu_of
 pdu_again message content octets h e =
     let regrouped : content ≡ h.id ++ (h.a ++ (h.b ++ h.list)) = e ∙ append_assoc (h.id ++ h.a) h.b h.list ∙ append_assoc h.id h.a (h.b ++ h.list) in
     let whole : inner_at 0x30 h.list ≡ Ok (h.bindings, []) = ap (inner_at 0x30) (sym (append-nil h.list)) ∙ inner_again 0x30 h.bindings h.list [] h.is_list in
-    ap (pdu_of message.version message.community message.kind) regrouped ∙ rw (integer_at_again message.id h.id (h.a ++ (h.b ++ h.list)) h.is_id, integer_at_again message.a h.a (h.b ++ h.list) h.is_a, integer_at_again message.b h.b h.list h.is_b, whole, bindings_again message.bindings h.bindings h.are_bindings) refl
+    ap (pdu_of message.version message.community message.kind) regrouped
+    ∙ rw (
+      integer_at_again message.id h.id (h.a ++ (h.b ++ h.list)) h.is_id,
+      integer_at_again message.a h.a (h.b ++ h.list) h.is_a,
+      integer_at_again message.b h.b h.list h.is_b,
+      whole,
+      bindings_again message.bindings h.bindings h.are_bindings,
+    ) refl
 
 pub message_takes : (octets : List ℕ) (message : Message) → AreOctets octets → message_of octets ≡ Ok message → Spells message octets
 unfolding message_of
 message_takes octets message are_octets e =
-    let outer = bind_ok (outermost_of octets) (λ content. integer_at content >>= λ version. inner_at 0x04 version.1 >>= λ community. element_at community.1 >>= λ pdu. cond (eqb (length pdu.2) 0) (kind_of pdu.0) (Err (fault_or (kind_of pdu.0) error.Content)) >>= λ found. pdu_of version.0 community.0 found pdu.1) message e in
+    let outer = bind_ok (outermost_of octets) (λ content. integer_at content >>= λ version. inner_at 0x04 version.1 >>= λ community.
+    element_at community.1 >>= λ pdu. cond (eqb (length pdu.2) 0) (kind_of pdu.0)
+    (Err (fault_or (kind_of pdu.0) error.Content)) >>= λ found. pdu_of version.0 community.0 found pdu.1) message e in
     let content = outer.0 in
-    let version = bind_ok (integer_at content) (λ version. inner_at 0x04 version.1 >>= λ community. element_at community.1 >>= λ pdu. cond (eqb (length pdu.2) 0) (kind_of pdu.0) (Err (fault_or (kind_of pdu.0) error.Content)) >>= λ found. pdu_of version.0 community.0 found pdu.1) message outer.2 in
-    let community = bind_ok (inner_at 0x04 version.0.1) (λ community. element_at community.1 >>= λ pdu. cond (eqb (length pdu.2) 0) (kind_of pdu.0) (Err (fault_or (kind_of pdu.0) error.Content)) >>= λ found. pdu_of version.0.0 community.0 found pdu.1) message version.2 in
-    let pdu = bind_ok (element_at community.0.1) (λ pdu. cond (eqb (length pdu.2) 0) (kind_of pdu.0) (Err (fault_or (kind_of pdu.0) error.Content)) >>= λ found. pdu_of version.0.0 community.0.0 found pdu.1) message community.2 in
-    let found = bind_ok (cond (eqb (length pdu.0.2) 0) (kind_of pdu.0.0) (Err (fault_or (kind_of pdu.0.0) error.Content))) (λ found. pdu_of version.0.0 community.0.0 found pdu.0.1) message pdu.2 in
+    let version = bind_ok (integer_at content) (λ version. inner_at 0x04 version.1 >>= λ community. element_at community.1 >>= λ pdu. cond
+    (eqb (length pdu.2) 0) (kind_of pdu.0) (Err (fault_or (kind_of pdu.0) error.Content)) >>= λ found.
+    pdu_of version.0 community.0 found pdu.1) message outer.2 in
+    let community = bind_ok (inner_at 0x04 version.0.1) (λ community. element_at community.1 >>= λ pdu. cond (eqb (length pdu.2) 0) (kind_of pdu.0)
+    (Err (fault_or (kind_of pdu.0) error.Content)) >>= λ found. pdu_of version.0.0 community.0 found pdu.1) message version.2 in
+    let pdu = bind_ok (element_at community.0.1) (λ pdu. cond (eqb (length pdu.2) 0) (kind_of pdu.0)
+    (Err (fault_or (kind_of pdu.0) error.Content)) >>= λ found. pdu_of version.0.0 community.0.0 found pdu.1) message community.2 in
+    let found = bind_ok (cond (eqb (length pdu.0.2) 0) (kind_of pdu.0.0) (Err (fault_or (kind_of pdu.0.0) error.Content)))
+    (λ found. pdu_of version.0.0 community.0.0 found pdu.0.1) message pdu.2 in
     let p = passed (eqb (length pdu.0.2) 0) (kind_of pdu.0.0) (fault_or (kind_of pdu.0.0) error.Content) found.0 found.1 in
     let t_version = integer_at_takes content version.0 version.1 in
     let t_community = inner_takes 0x04 version.0.1 community.0 community.1 in
@@ -264,7 +342,8 @@ message_takes octets message are_octets e =
     let none : pdu.0.2 ≡ [] = nil_from_length pdu.0.2 (eqb-true (length pdu.0.2) 0 p.0) in
     let pdu_is : community.0.1 ≡ t_pdu.0 = t_pdu.2 ∙ ap (λ (o : List ℕ). t_pdu.0 ++ o) none ∙ append-nil t_pdu.0 in
     let two : version.0.1 ≡ t_community.0 ++ t_pdu.0 = t_community.2 ∙ ap (λ (o : List ℕ). t_community.0 ++ o) pdu_is in
-    let three : content ≡ t_version.text ++ t_community.0 ++ t_pdu.0 = t_version.parts ∙ ap (λ (o : List ℕ). t_version.text ++ o) two ∙ sym (append_assoc t_version.text t_community.0 t_pdu.0) in
+    let three : content ≡ t_version.text ++ t_community.0 ++ t_pdu.0 = t_version.parts ∙ ap (λ (o : List ℕ). t_version.text ++ o) two
+    ∙ sym (append_assoc t_version.text t_community.0 t_pdu.0) in
     let inside = pdu_takes version.0.0 community.0.0 found.0 pdu.0.1 message found.2 in
     let tag_is : pdu.0.0 ≡ kind_tag message.kind = sym (kind_takes pdu.0.0 found.0 p.1) ∙ ap kind_tag (sym inside.is_kind) in
     record {
@@ -283,19 +362,24 @@ unfolding message_of
 message_again octets message h =
     let content = h.version ++ h.community ++ h.pdu in
     let inside = h.is_pdu.id ++ h.is_pdu.a ++ h.is_pdu.b ++ h.is_pdu.list in
-    let first : integer_at content ≡ Ok (message.version, h.community ++ h.pdu) = ap integer_at (append_assoc h.version h.community h.pdu) ∙ integer_at_again message.version h.version (h.community ++ h.pdu) h.is_version in
-    let second : inner_at 0x04 (h.community ++ h.pdu) ≡ Ok (message.community, h.pdu) = inner_again 0x04 h.is_community.content h.community h.pdu h.is_community.element ∙ ap (λ (o : List ℕ). done (o, h.pdu)) h.is_community.is_content in
-    let third : element_at h.pdu ≡ Ok (kind_tag message.kind, inside, []) = ap element_at (sym (append-nil h.pdu)) ∙ element_again (kind_tag message.kind) inside h.pdu [] h.is_pdu.element in
+    let first : integer_at content ≡ Ok (message.version, h.community ++ h.pdu) = ap integer_at (append_assoc h.version h.community h.pdu)
+    ∙ integer_at_again message.version h.version (h.community ++ h.pdu) h.is_version in
+    let second : inner_at 0x04 (h.community ++ h.pdu) ≡ Ok (message.community, h.pdu) =
+    inner_again 0x04 h.is_community.content h.community h.pdu h.is_community.element ∙ ap (λ (o : List ℕ). done (o, h.pdu)) h.is_community.is_content in
+    let third : element_at h.pdu ≡ Ok (kind_tag message.kind, inside, []) = ap element_at (sym (append-nil h.pdu))
+    ∙ element_again (kind_tag message.kind) inside h.pdu [] h.is_pdu.element in
     rw (outermost_again octets content h.element, first, second, third, kind_again message.kind) (pdu_again message inside h.pdu h.is_pdu refl)
 
 -- ---- laws
 
 -- no spelling is the front of another
-pub one_message : (message other : Message) (octets spelling rest more : List ℕ) → Spells message octets → Spells other spelling → octets ++ rest ≡ spelling ++ more → (message ≡ other) × (octets ≡ spelling)
+pub one_message : (message other : Message) (octets spelling rest more : List ℕ) → Spells message octets → Spells other spelling
+    → octets ++ rest ≡ spelling ++ more → (message ≡ other) × (octets ≡ spelling)
 one_message message other octets spelling rest more h k e =
     let content = h.version ++ h.community ++ h.pdu in
     let others = k.version ++ k.community ++ k.pdu in
-    let both : done (content, rest) ≡ done (others, more) = sym (inner_again 0x30 content octets rest h.element) ∙ ap (inner_at 0x30) e ∙ inner_again 0x30 others spelling more k.element in
+    let both : done (content, rest) ≡ done (others, more) = sym (inner_again 0x30 content octets rest h.element) ∙ ap (inner_at 0x30) e
+    ∙ inner_again 0x30 others spelling more k.element in
     let rests : rest ≡ more = ap (λ (y : List ℕ × List ℕ). y.1) (ok_is (content, rest) (others, more) both) in
     let same : octets ≡ spelling = append_cancel_right octets spelling more (ap (λ (o : List ℕ). octets ++ o) (sym rests) ∙ e) in
     (ok_is message other (sym (message_again octets message h) ∙ ap message_of same ∙ message_again spelling other k), same)

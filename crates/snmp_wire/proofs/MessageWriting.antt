@@ -15,7 +15,8 @@ use Rattle.snmp_ber.proofs.ElementLemmas.{length-canon_header}
 use Rattle.snmp_ber.proofs.ShortestValues.{length_rises}
 use Rattle.snmp_ber.proofs.WritingLemmas.{writes_same, writes_then}
 
-pub length-canon_fields : (message : Message) → length (canon_fields message) ≡ length (canon_value (integer_value message.id)) + length (canon_value (integer_value message.a)) + length (canon_value (integer_value message.b))
+pub length-canon_fields : (message : Message) → length (canon_fields message)
+    ≡ length (canon_value (integer_value message.id)) + length (canon_value (integer_value message.a)) + length (canon_value (integer_value message.b))
 unfolding canon_fields
 length-canon_fields message = omega (
   arith,
@@ -23,68 +24,92 @@ length-canon_fields message = omega (
   length-append (canon_value (integer_value message.id)) (canon_value (integer_value message.a)),
 )
 
-pub length-canon_opening : (message : Message) → length (canon_opening message) ≡ length (canon_value (integer_value message.version)) + length (canon_value (octet_string message.community))
+pub length-canon_opening : (message : Message) → length (canon_opening message)
+    ≡ length (canon_value (integer_value message.version)) + length (canon_value (octet_string message.community))
 unfolding canon_opening
 length-canon_opening message = length-append (canon_value (integer_value message.version)) (canon_value (octet_string message.community))
 
-pub length-canon_front : (message : Message) (total : ℕ) → length (canon_front message total) ≡ length (canon_opening message) + length (canon_header (kind_tag message.kind) (pdu_size message total)) + length (canon_fields message) + length (canon_header sequence_tag total)
+pub length-canon_front : (message : Message) (total : ℕ) → length (canon_front message total)
+    ≡ length (canon_opening message) + length (canon_header (kind_tag message.kind) (pdu_size message total)) + length (canon_fields message) + length
+    (canon_header sequence_tag total)
 unfolding canon_front
 length-canon_front message total = omega (
   arith,
-  length-append (canon_opening message) (canon_header (kind_tag message.kind) (pdu_size message total) ++ (canon_fields message ++ canon_header sequence_tag total)),
+  length-append (canon_opening message) (canon_header (kind_tag message.kind) (pdu_size message total)
+      ++ (canon_fields message ++ canon_header sequence_tag total)),
   length-append (canon_header (kind_tag message.kind) (pdu_size message total)) (canon_fields message ++ canon_header sequence_tag total),
   length-append (canon_fields message) (canon_header sequence_tag total),
 )
 
-pub length-canon_head : (message : Message) (total : ℕ) → length (canon_head message total) ≡ length (canon_header sequence_tag (length (canon_front message total) + total)) + length (canon_front message total)
+pub length-canon_head : (message : Message) (total : ℕ) → length (canon_head message total)
+    ≡ length (canon_header sequence_tag (length (canon_front message total) + total)) + length (canon_front message total)
 unfolding canon_head
 length-canon_head message total = length-append (canon_header sequence_tag (length (canon_front message total) + total)) (canon_front message total)
 
 -- the sizes of the parts of a head are that of the head
 pub sizes_head : (message : Message) (total version community id a b list pdu header : ℕ)
     → version ≡ length (canon_value (integer_value message.version)) → community ≡ length (canon_value (octet_string message.community))
-    → id ≡ length (canon_value (integer_value message.id)) → a ≡ length (canon_value (integer_value message.a)) → b ≡ length (canon_value (integer_value message.b))
-    → list ≡ 1 + length (canon_length total) → pdu ≡ 1 + length (canon_length (id + a + b + list + total)) → header ≡ 1 + length (canon_length (version + community + pdu + (id + a + b + list) + total))
+    → id ≡ length (canon_value (integer_value message.id)) → a ≡ length (canon_value (integer_value message.a))
+    → b ≡ length (canon_value (integer_value message.b))
+    → list ≡ 1 + length (canon_length total) → pdu ≡ 1 + length (canon_length (id + a + b + list + total))
+    → header ≡ 1 + length (canon_length (version + community + pdu + (id + a + b + list) + total))
     → header + (version + community + pdu + (id + a + b + list)) ≡ length (canon_head message total)
 sizes_head message total version community id a b list pdu header v c i x y l p h =
     let fields : id + a + b ≡ length (canon_fields message) = omega (arith, i, x, y, length-canon_fields message) in
     let opening : version + community ≡ length (canon_opening message) = omega (arith, v, c, length-canon_opening message) in
     let whole_list : list ≡ length (canon_header sequence_tag total) = l ∙ sym (length-canon_header sequence_tag total) in
     let inner : id + a + b + list + total ≡ pdu_size message total = omega (arith, fields, whole_list) in
-    let whole_pdu : pdu ≡ length (canon_header (kind_tag message.kind) (pdu_size message total)) = p ∙ ap (λ n. 1 + length (canon_length n)) inner ∙ sym (length-canon_header (kind_tag message.kind) (pdu_size message total)) in
-    let front : version + community + pdu + (id + a + b + list) ≡ length (canon_front message total) = omega (arith, opening, fields, whole_list, whole_pdu, length-canon_front message total) in
-    let whole : header ≡ length (canon_header sequence_tag (length (canon_front message total) + total)) = h ∙ ap (λ n. 1 + length (canon_length (n + total))) front ∙ sym (length-canon_header sequence_tag (length (canon_front message total) + total)) in
+    let whole_pdu : pdu ≡ length (canon_header (kind_tag message.kind) (pdu_size message total)) = p ∙ ap (λ n. 1 + length (canon_length n)) inner
+    ∙ sym (length-canon_header (kind_tag message.kind) (pdu_size message total)) in
+    let front : version + community + pdu + (id + a + b + list) ≡ length (canon_front message total) =
+    omega (arith, opening, fields, whole_list, whole_pdu, length-canon_front message total) in
+    let whole : header ≡ length (canon_header sequence_tag (length (canon_front message total) + total)) = h
+    ∙ ap (λ n. 1 + length (canon_length (n + total))) front ∙ sym (length-canon_header sequence_tag (length (canon_front message total) + total)) in
     omega (arith, front, whole, length-canon_head message total)
 
 -- a number that was handed over
-pub handed : (z : ℤ) (size : ℕ) → SFits w32 z → size ≡ length (canon_value (integer_value (to_z w32 (of_z w32 z)))) → size ≡ length (canon_value (integer_value z))
+pub handed : (z : ℤ) (size : ℕ) → SFits w32 z → size ≡ length (canon_value (integer_value (to_z w32 (of_z w32 z))))
+    → size ≡ length (canon_value (integer_value z))
 handed z size fits e = e ∙ ap (λ y. length (canon_value (integer_value y))) (to_z-of_z w32 z fits)
 
-pub written_number : {old new : List ℕ} {start end : ℕ} (z : ℤ) → SFits w32 z → Writes old start end (canon_value (integer_value (to_z w32 (of_z w32 z)))) new → Writes old start end (canon_value (integer_value z)) new
+pub written_number : {old new : List ℕ} {start end : ℕ} (z : ℤ) → SFits w32 z → Writes old start end (canon_value (integer_value (to_z w32 (of_z w32 z)))) new
+    → Writes old start end (canon_value (integer_value z)) new
 written_number z fits w = writes_same w (ap (λ y. canon_value (integer_value y)) (to_z-of_z w32 z fits))
 
 -- what stands behind the tag of the PDU is written
-pub writes_fields : {old o1 o2 o3 o4 : List ℕ} {list b a id end : ℕ} (message : Message) (total : ℕ) → Writes old list end (canon_header sequence_tag total) o1 → Writes o1 b list (canon_value (integer_value message.b)) o2 → Writes o2 a b (canon_value (integer_value message.a)) o3 → Writes o3 id a (canon_value (integer_value message.id)) o4
+pub writes_fields : {old o1 o2 o3 o4 : List ℕ} {list b a id end : ℕ} (message : Message) (total : ℕ)
+    → Writes old list end (canon_header sequence_tag total) o1 → Writes o1 b list (canon_value (integer_value message.b)) o2
+    → Writes o2 a b (canon_value (integer_value message.a)) o3 → Writes o3 id a (canon_value (integer_value message.id)) o4
     → Writes old id end (canon_fields message ++ canon_header sequence_tag total) o4
 unfolding canon_fields
 writes_fields message total w1 w2 w3 w4 = writes_same (writes_then (writes_then (writes_then w1 w2) w3) w4)
-    (sym (append_assoc (canon_value (integer_value message.id)) (canon_value (integer_value message.a)) (canon_value (integer_value message.b) ++ canon_header sequence_tag total))
-    ∙ sym (append_assoc (canon_value (integer_value message.id) ++ canon_value (integer_value message.a)) (canon_value (integer_value message.b)) (canon_header sequence_tag total)))
+    (sym (append_assoc (canon_value (integer_value message.id)) (canon_value (integer_value message.a))
+    (canon_value (integer_value message.b) ++ canon_header sequence_tag total))
+    ∙ sym (append_assoc (canon_value (integer_value message.id) ++ canon_value (integer_value message.a)) (canon_value (integer_value message.b))
+    (canon_header sequence_tag total)))
 
 -- how many octets they are, with the bindings
-pub pdu_content : {old new : List ℕ} {id end : ℕ} (message : Message) (total : ℕ) → Writes old id end (canon_fields message ++ canon_header sequence_tag total) new → end - id + total ≡ pdu_size message total
+pub pdu_content : {old new : List ℕ} {id end : ℕ} (message : Message) (total : ℕ)
+    → Writes old id end (canon_fields message ++ canon_header sequence_tag total) new → end - id + total ≡ pdu_size message total
 pdu_content message total w = omega (arith, w.begins, length-append (canon_fields message) (canon_header sequence_tag total))
 
 -- the front of the message is written
-pub writes_front : {old o1 o2 o3 o4 : List ℕ} {version community pdu id end : ℕ} (message : Message) (total tag : ℕ) → tag ≡ kind_tag message.kind → Writes old id end (canon_fields message ++ canon_header sequence_tag total) o1 → Writes o1 pdu id (canon_header tag (end - id + total)) o2 → Writes o2 community pdu (canon_value (octet_string message.community)) o3 → Writes o3 version community (canon_value (integer_value message.version)) o4
+pub writes_front : {old o1 o2 o3 o4 : List ℕ} {version community pdu id end : ℕ} (message : Message) (total tag : ℕ) → tag ≡ kind_tag message.kind
+    → Writes old id end (canon_fields message ++ canon_header sequence_tag total) o1 → Writes o1 pdu id (canon_header tag (end - id + total)) o2
+    → Writes o2 community pdu (canon_value (octet_string message.community)) o3 → Writes o3 version community (canon_value (integer_value message.version)) o4
     → Writes old version end (canon_front message total) o4
 unfolding canon_front canon_opening
-writes_front {old} {o1} {o2} {o3} {o4} {version} {community} {pdu} {id} {end} message total tag e w1 w2 w3 w4 = writes_same (writes_then (writes_then (writes_then w1 w2) w3) w4)
-    (ap (λ header. canon_value (integer_value message.version) ++ (canon_value (octet_string message.community) ++ (header ++ (canon_fields message ++ canon_header sequence_tag total)))) (ap (λ t. canon_header t (end - id + total)) e ∙ ap (canon_header (kind_tag message.kind)) (pdu_content message total w1))
-    ∙ sym (append_assoc (canon_value (integer_value message.version)) (canon_value (octet_string message.community)) (canon_header (kind_tag message.kind) (pdu_size message total) ++ (canon_fields message ++ canon_header sequence_tag total))))
+writes_front {old} {o1} {o2} {o3} {o4} {version} {community} {pdu} {id} {end} message total tag e w1 w2 w3 w4 =
+    writes_same (writes_then (writes_then (writes_then w1 w2) w3) w4)
+    (ap (λ header. canon_value (integer_value message.version) ++ (canon_value (octet_string message.community)
+    ++ (header ++ (canon_fields message ++ canon_header sequence_tag total))))
+    (ap (λ t. canon_header t (end - id + total)) e ∙ ap (canon_header (kind_tag message.kind)) (pdu_content message total w1))
+    ∙ sym (append_assoc (canon_value (integer_value message.version)) (canon_value (octet_string message.community))
+    (canon_header (kind_tag message.kind) (pdu_size message total) ++ (canon_fields message ++ canon_header sequence_tag total))))
 
 -- and the message's own header before it
-pub writes_head : {old mid new : List ℕ} {start version end : ℕ} (message : Message) (total : ℕ) → Writes old version end (canon_front message total) mid → Writes mid start version (canon_header sequence_tag (end - version + total)) new → Writes old start end (canon_head message total) new
+pub writes_head : {old mid new : List ℕ} {start version end : ℕ} (message : Message) (total : ℕ) → Writes old version end (canon_front message total) mid
+    → Writes mid start version (canon_header sequence_tag (end - version + total)) new → Writes old start end (canon_head message total) new
 unfolding canon_head
 writes_head {old} {mid} {new} {start} {version} {end} message total w v =
     let size : end - version ≡ length (canon_front message total) = omega (arith, w.begins) in
@@ -95,26 +120,51 @@ writes_head {old} {mid} {new} {start} {version} {end} message total w v =
 pub length-handed : (z : ℤ) → SFits w32 z → length (canon_value (integer_value (to_z w32 (of_z w32 z)))) ≡ length (canon_value (integer_value z))
 length-handed z fits = ap (λ y. length (canon_value (integer_value y))) (to_z-of_z w32 z fits)
 
-pub list_fits : (message : Message) (total end : ℕ) → length (canon_head message total) ≤ end → length (canon_fields message) + length (canon_header sequence_tag total) ≤ end
+pub list_fits : (message : Message) (total end : ℕ) → length (canon_head message total) ≤ end
+    → length (canon_fields message) + length (canon_header sequence_tag total) ≤ end
 list_fits message total end room = omega (arith, room, length-canon_head message total, length-canon_front message total)
 
-pub pdu_header_fits : {old new : List ℕ} {id end : ℕ} (message : Message) (total tag : ℕ) → tag ≡ kind_tag message.kind → Writes old id end (canon_fields message ++ canon_header sequence_tag total) new → length (canon_head message total) ≤ end → length (canon_header tag (end - id + total)) ≤ id
+pub pdu_header_fits : {old new : List ℕ} {id end : ℕ} (message : Message) (total tag : ℕ) → tag ≡ kind_tag message.kind
+    → Writes old id end (canon_fields message ++ canon_header sequence_tag total) new → length (canon_head message total) ≤ end
+    → length (canon_header tag (end - id + total)) ≤ id
 pdu_header_fits {old} {new} {id} {end} message total tag e w room =
     let same : length (canon_header tag (end - id + total)) ≡ length (canon_header (kind_tag message.kind) (pdu_size message total)) =
     ap (λ t. length (canon_header t (end - id + total))) e ∙ ap (λ n. length (canon_header (kind_tag message.kind) n)) (pdu_content message total w) in
-    omega (arith, same, room, w.begins, length-append (canon_fields message) (canon_header sequence_tag total), length-canon_head message total, length-canon_front message total)
+    omega (
+      arith,
+      same,
+      room,
+      w.begins,
+      length-append (canon_fields message) (canon_header sequence_tag total),
+      length-canon_head message total,
+      length-canon_front message total,
+    )
 
-pub opening_fits : {old mid new : List ℕ} {pdu id end : ℕ} (message : Message) (total tag : ℕ) → tag ≡ kind_tag message.kind → Writes old id end (canon_fields message ++ canon_header sequence_tag total) mid → Writes mid pdu id (canon_header tag (end - id + total)) new → length (canon_head message total) ≤ end
+pub opening_fits : {old mid new : List ℕ} {pdu id end : ℕ} (message : Message) (total tag : ℕ) → tag ≡ kind_tag message.kind
+    → Writes old id end (canon_fields message ++ canon_header sequence_tag total) mid → Writes mid pdu id (canon_header tag (end - id + total)) new
+    → length (canon_head message total) ≤ end
     → length (canon_value (integer_value message.version)) + length (canon_value (octet_string message.community)) ≤ pdu
 opening_fits {old} {mid} {new} {pdu} {id} {end} message total tag e w v room =
     let same : length (canon_header tag (end - id + total)) ≡ length (canon_header (kind_tag message.kind) (pdu_size message total)) =
     ap (λ t. length (canon_header t (end - id + total))) e ∙ ap (λ n. length (canon_header (kind_tag message.kind) n)) (pdu_content message total w) in
-    omega (arith, same, room, w.begins, v.begins, length-append (canon_fields message) (canon_header sequence_tag total), length-canon_opening message, length-canon_head message total, length-canon_front message total)
+    omega (
+      arith,
+      same,
+      room,
+      w.begins,
+      v.begins,
+      length-append (canon_fields message) (canon_header sequence_tag total),
+      length-canon_opening message,
+      length-canon_head message total,
+      length-canon_front message total,
+    )
 
-pub message_header_fits : {old new : List ℕ} {version end : ℕ} (message : Message) (total : ℕ) → Writes old version end (canon_front message total) new → length (canon_head message total) ≤ end → length (canon_header sequence_tag (end - version + total)) ≤ version
+pub message_header_fits : {old new : List ℕ} {version end : ℕ} (message : Message) (total : ℕ) → Writes old version end (canon_front message total) new
+    → length (canon_head message total) ≤ end → length (canon_header sequence_tag (end - version + total)) ≤ version
 message_header_fits {old} {new} {version} {end} message total w room =
     let content : end - version ≡ length (canon_front message total) = omega (arith, w.begins) in
-    let same : length (canon_header sequence_tag (end - version + total)) ≡ length (canon_header sequence_tag (length (canon_front message total) + total)) = ap (λ n. length (canon_header sequence_tag (n + total))) content in
+    let same : length (canon_header sequence_tag (end - version + total)) ≡ length (canon_header sequence_tag (length (canon_front message total) + total)) =
+    ap (λ n. length (canon_header sequence_tag (n + total))) content in
     omega (arith, same, room, w.begins, length-canon_head message total)
 
 -- a message is its head and its bindings
@@ -127,29 +177,40 @@ canon_parts message =
     let fields : List ℕ = canon_fields message in
     let opening : List ℕ = canon_opening message in
     let header : List ℕ = canon_header (kind_tag message.kind) (pdu_size message total) in
-    let inner : length (fields ++ (list ++ octets)) ≡ pdu_size message total = omega (arith, length-append fields (list ++ octets), length-append list octets) in
-    let pdu : canon_header (kind_tag message.kind) (length (fields ++ (list ++ octets))) ++ (fields ++ (list ++ octets)) ≡ (header ++ (fields ++ list)) ++ octets =
+    let inner : length (fields ++ (list ++ octets)) ≡ pdu_size message total =
+    omega (arith, length-append fields (list ++ octets), length-append list octets) in
+    let pdu : canon_header (kind_tag message.kind) (length (fields ++ (list ++ octets))) ++ (fields ++ (list ++ octets)) ≡ (header ++ (fields ++ list))
+    ++ octets =
     ap (λ n. canon_header (kind_tag message.kind) n ++ (fields ++ (list ++ octets))) inner
     ∙ ap (λ content. header ++ content) (sym (append_assoc fields list octets))
     ∙ sym (append_assoc header (fields ++ list) octets) in
-    let content : opening ++ (canon_header (kind_tag message.kind) (length (fields ++ (list ++ octets))) ++ (fields ++ (list ++ octets))) ≡ (opening ++ (header ++ (fields ++ list))) ++ octets =
+    let content : opening ++ (canon_header (kind_tag message.kind) (length (fields ++ (list ++ octets))) ++ (fields ++ (list ++ octets)))
+    ≡ (opening ++ (header ++ (fields ++ list))) ++ octets =
     ap (λ rest. opening ++ rest) pdu ∙ sym (append_assoc opening (header ++ (fields ++ list)) octets) in
-    let size : length ((opening ++ (header ++ (fields ++ list))) ++ octets) ≡ length (opening ++ (header ++ (fields ++ list))) + total = length-append (opening ++ (header ++ (fields ++ list))) octets in
+    let size : length ((opening ++ (header ++ (fields ++ list))) ++ octets) ≡ length (opening ++ (header ++ (fields ++ list))) + total =
+    length-append (opening ++ (header ++ (fields ++ list))) octets in
     ap (λ rest. canon_header sequence_tag (length rest) ++ rest) content
     ∙ ap (λ n. canon_header sequence_tag n ++ ((opening ++ (header ++ (fields ++ list))) ++ octets)) size
     ∙ sym (append_assoc (canon_header sequence_tag (length (opening ++ (header ++ (fields ++ list))) + total)) (opening ++ (header ++ (fields ++ list))) octets)
 
-pub length-canon : (message : Message) → length (canon message) ≡ length (canon_head message (length (canon_bindings message.bindings))) + length (canon_bindings message.bindings)
-length-canon message = ap length (canon_parts message) ∙ length-append (canon_head message (length (canon_bindings message.bindings))) (canon_bindings message.bindings)
+pub length-canon : (message : Message) → length (canon message) ≡ length (canon_head message (length (canon_bindings message.bindings))) + length
+    (canon_bindings message.bindings)
+length-canon message = ap length (canon_parts message) ∙ length-append (canon_head message (length (canon_bindings message.bindings)))
+    (canon_bindings message.bindings)
 
-pub sizes_message : (message : Message) (head total : ℕ) → total ≡ length (canon_bindings message.bindings) → head ≡ length (canon_head message total) → head + total ≡ length (canon message)
+pub sizes_message : (message : Message) (head total : ℕ) → total ≡ length (canon_bindings message.bindings) → head ≡ length (canon_head message total)
+    → head + total ≡ length (canon message)
 sizes_message message head total t h =
-    let same : length (canon_head message total) ≡ length (canon_head message (length (canon_bindings message.bindings))) = ap (λ n. length (canon_head message n)) t in
+    let same : length (canon_head message total) ≡ length (canon_head message (length (canon_bindings message.bindings))) =
+    ap (λ n. length (canon_head message n)) t in
     omega (arith, same, length-canon message)
 
 -- a head before its bindings
-pub writes_message : {old mid new : List ℕ} {start head size : ℕ} (message : Message) (total : ℕ) → total ≡ length (canon_bindings message.bindings) → Writes old head size (canon_bindings message.bindings) mid → Writes mid start head (canon_head message total) new → Writes old start size (canon message) new
-writes_message message total e w v = writes_same (writes_then w v) (ap (λ n. canon_head message n ++ canon_bindings message.bindings) e ∙ sym (canon_parts message))
+pub writes_message : {old mid new : List ℕ} {start head size : ℕ} (message : Message) (total : ℕ) → total ≡ length (canon_bindings message.bindings)
+    → Writes old head size (canon_bindings message.bindings) mid → Writes mid start head (canon_head message total) new
+    → Writes old start size (canon message) new
+writes_message message total e w v = writes_same (writes_then w v) (ap (λ n. canon_head message n ++ canon_bindings message.bindings) e
+    ∙ sym (canon_parts message))
 
 longer_header : (tag n k : ℕ) → n ≤ k → length (canon_header tag n) ≤ length (canon_header tag k)
 longer_header tag n k h = omega (arith, length-canon_header tag n, length-canon_header tag k, length_rises n k h)
@@ -158,7 +219,8 @@ longer_header tag n k h = omega (arith, length-canon_header tag n, length-canon_
 pub longer_head : (m : Message) (n k : ℕ) → n ≤ k → length (canon_head m n) ≤ length (canon_head m k)
 longer_head m n k h =
     let list : length (canon_header sequence_tag n) ≤ length (canon_header sequence_tag k) = longer_header sequence_tag n k h in
-    let pdu : length (canon_header (kind_tag m.kind) (pdu_size m n)) ≤ length (canon_header (kind_tag m.kind) (pdu_size m k)) = longer_header (kind_tag m.kind) (pdu_size m n) (pdu_size m k) (omega arith) in
+    let pdu : length (canon_header (kind_tag m.kind) (pdu_size m n)) ≤ length (canon_header (kind_tag m.kind) (pdu_size m k)) =
+    longer_header (kind_tag m.kind) (pdu_size m n) (pdu_size m k) (omega arith) in
     let front : length (canon_front m n) ≤ length (canon_front m k) = omega (arith, length-canon_front m n, length-canon_front m k) in
     let whole : length (canon_header sequence_tag (length (canon_front m n) + n)) ≤ length (canon_header sequence_tag (length (canon_front m k) + k)) =
     longer_header sequence_tag (length (canon_front m n) + n) (length (canon_front m k) + k) (omega arith) in

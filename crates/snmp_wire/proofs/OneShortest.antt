@@ -19,14 +19,16 @@ use Rattle.snmp_wire.proofs.Shortest.{binding_shortest, bindings_shortest, no_sh
 use Rattle.snmp_wire.proofs.StrictMessages.{length-content, length-fields, list_of, pdu_of, strict_canon}
 
 -- two parts that are as short as the written ones together are the written ones
-two_same : (a b c d : List ℕ) → length c ≤ length a → length d ≤ length b → length (a ++ b) ≤ length (c ++ d) → (length a ≤ length c → a ≡ c) → (length b ≤ length d → b ≡ d) → a ++ b ≡ c ++ d
+two_same : (a b c d : List ℕ) → length c ≤ length a → length d ≤ length b → length (a ++ b) ≤ length (c ++ d) → (length a ≤ length c → a ≡ c)
+    → (length b ≤ length d → b ≡ d) → a ++ b ≡ c ++ d
 two_same a b c d first rest whole is_first is_rest =
     let both = parts_same a b c d first rest whole in
     ap (λ (text : List ℕ). text ++ b) (is_first both.0) ∙ ap (λ (text : List ℕ). c ++ text) (is_rest both.1)
 
 -- ---- bindings
 
-binding_same : (binding : VarBind) (text : List ℕ) → IsBindingInRange binding → Octets text → SpellsBinding strict binding text → length text ≤ length (canon_binding binding) → text ≡ canon_binding binding
+binding_same : (binding : VarBind) (text : List ℕ) → IsBindingInRange binding → Octets text → SpellsBinding strict binding text
+    → length text ≤ length (canon_binding binding) → text ≡ canon_binding binding
 unfolding canon_binding
 binding_same binding text range h is short =
     let name : List ℕ = canon_value (object_id binding.name) in
@@ -36,38 +38,50 @@ binding_same binding text range h is short =
     let values : Octets is.value = back_octets is.name is.value inner in
     let name_least : length name ≤ length is.name = value_shortest (object_id binding.name) is.name names is.is_name in
     let value_least : length value ≤ length is.value = value_shortest binding.value is.value values is.is_value in
-    let least : length (name ++ value) ≤ length (is.name ++ is.value) = omega (arith, length-append name value, length-append is.name is.value, name_least, value_least) in
-    let size : length (is.name ++ is.value) ≡ length (name ++ value) = element_size sequence_tag (is.name ++ is.value) (name ++ value) text h is.element least short in
-    let fits : length (name ++ value) < 2 ^ 32 = omega (arith, length-append name value, value_short (object_id binding.name) range.name, value_short binding.value range.value) in
+    let least : length (name ++ value) ≤ length (is.name ++ is.value) =
+    omega (arith, length-append name value, length-append is.name is.value, name_least, value_least) in
+    let size : length (is.name ++ is.value) ≡ length (name ++ value) =
+    element_size sequence_tag (is.name ++ is.value) (name ++ value) text h is.element least short in
+    let fits : length (name ++ value) < 2 ^ 32 = omega (
+      arith,
+      length-append name value,
+      value_short (object_id binding.name) range.name,
+      value_short binding.value range.value,
+    ) in
     element_same sequence_tag (is.name ++ is.value) (name ++ value) text fits h is.element short
     (two_same is.name is.value name value name_least value_least (omega (arith, size))
     (λ few. value_same (object_id binding.name) is.name range.name names is.is_name few)
     (λ few. value_same binding.value is.value range.value values is.is_value few))
 
-bindings_same : (bindings : List VarBind) (text : List ℕ) → AllByRecursion IsBindingInRange bindings → Octets text → SpellsBindings strict bindings text → length text ≤ length (canon_bindings bindings) → text ≡ canon_bindings bindings
+bindings_same : (bindings : List VarBind) (text : List ℕ) → AllByRecursion IsBindingInRange bindings → Octets text → SpellsBindings strict bindings text
+    → length text ≤ length (canon_bindings bindings) → text ≡ canon_bindings bindings
 unfolding canon_bindings
 bindings_same [] text range h is short = is
 bindings_same (binding ∷ more) text range h (first, rest, parts, this, others) short =
     let all : Octets (first ++ rest) = subst Octets parts h in
     parts
-    ∙ two_same first rest (canon_binding binding) (canon_bindings more) (binding_shortest binding first (front_octets first rest all) this) (bindings_shortest more rest (back_octets first rest all) others)
+    ∙ two_same first rest (canon_binding binding) (canon_bindings more) (binding_shortest binding first (front_octets first rest all) this)
+    (bindings_shortest more rest (back_octets first rest all) others)
     (subst (λ (octets : List ℕ). length octets ≤ length (canon_binding binding ++ canon_bindings more)) parts short)
     (λ few. binding_same binding first range.0 (front_octets first rest all) this few)
     (λ few. bindings_same more rest range.1 (back_octets first rest all) others few)
 
 -- ---- messages
 
-list_same : (message : Message) (content list : List ℕ) → IsMessageInRange message → Octets list → (is : SpellsPdu strict message content) → is.list ≡ list → length list ≤ length (list_of message) → list ≡ list_of message
+list_same : (message : Message) (content list : List ℕ) → IsMessageInRange message → Octets list → (is : SpellsPdu strict message content) → is.list ≡ list
+    → length list ≤ length (list_of message) → list ≡ list_of message
 list_same message content list range h is same short =
     let whole : Octets is.list = subst Octets (sym same) h in
     let inner : Octets is.bindings = content_octets sequence_tag is.bindings is.list whole is.is_list in
     let few : length is.list ≤ length (list_of message) = omega (arith, ap length same, short) in
     let least : length (canon_bindings message.bindings) ≤ length is.bindings = bindings_shortest message.bindings is.bindings inner is.are_bindings in
-    let size : length is.bindings ≡ length (canon_bindings message.bindings) = element_size sequence_tag is.bindings (canon_bindings message.bindings) is.list whole is.is_list least few in
+    let size : length is.bindings ≡ length (canon_bindings message.bindings) =
+    element_size sequence_tag is.bindings (canon_bindings message.bindings) is.list whole is.is_list least few in
     sym same ∙ element_same sequence_tag is.bindings (canon_bindings message.bindings) is.list (omega (arith, range.total)) whole is.is_list few
     (bindings_same message.bindings is.bindings range.bindings inner is.are_bindings (omega (arith, size)))
 
-pdu_same : (message : Message) (text : List ℕ) → IsMessageInRange message → Octets text → SpellsPdu strict message text → length text ≤ length (pdu_of message) → text ≡ pdu_of message
+pdu_same : (message : Message) (text : List ℕ) → IsMessageInRange message → Octets text → SpellsPdu strict message text
+    → length text ≤ length (pdu_of message) → text ≡ pdu_of message
 unfolding canon_fields
 pdu_same message text range h is short =
     let id : List ℕ = canon_value (integer_value message.id) in
@@ -83,15 +97,18 @@ pdu_same message text range h is short =
     let id_least : length id ≤ length is.id = value_shortest (integer_value message.id) is.id ids is.is_id in
     let a_least : length a ≤ length is.a = value_shortest (integer_value message.a) is.a at_a is.is_a in
     let b_least : length b ≤ length is.b = value_shortest (integer_value message.b) is.b bs is.is_b in
-    let list_least : length (list_of message) ≤ length is.list = element_shortest sequence_tag is.bindings (canon_bindings message.bindings) is.list list is.is_list
+    let list_least : length (list_of message) ≤ length is.list = element_shortest sequence_tag is.bindings
+    (canon_bindings message.bindings) is.list list is.is_list
     (bindings_shortest message.bindings is.bindings (content_octets sequence_tag is.bindings is.list list is.is_list) is.are_bindings) in
     let two_least : length (id ++ a) ≤ length (is.id ++ is.a) = omega (arith, length-append id a, length-append is.id is.a, id_least, a_least) in
-    let three_least : length (id ++ a ++ b) ≤ length (is.id ++ is.a ++ is.b) = omega (arith, length-append (id ++ a) b, length-append (is.id ++ is.a) is.b, two_least, b_least) in
+    let three_least : length (id ++ a ++ b) ≤ length (is.id ++ is.a ++ is.b) =
+    omega (arith, length-append (id ++ a) b, length-append (is.id ++ is.a) is.b, two_least, b_least) in
     let least : length (canon_fields message ++ list_of message) ≤ length (is.id ++ is.a ++ is.b ++ is.list) =
     omega (arith, length-append (id ++ a ++ b) (list_of message), length-append (is.id ++ is.a ++ is.b) is.list, three_least, list_least) in
     let size : length (is.id ++ is.a ++ is.b ++ is.list) ≡ length (canon_fields message ++ list_of message) =
     element_size (kind_tag message.kind) (is.id ++ is.a ++ is.b ++ is.list) (canon_fields message ++ list_of message) text h is.element least short in
-    element_same (kind_tag message.kind) (is.id ++ is.a ++ is.b ++ is.list) (canon_fields message ++ list_of message) text (omega (arith, length-fields message range)) h is.element short
+    element_same (kind_tag message.kind) (is.id ++ is.a ++ is.b ++ is.list) (canon_fields message ++ list_of message) text
+    (omega (arith, length-fields message range)) h is.element short
     (two_same (is.id ++ is.a ++ is.b) is.list (id ++ a ++ b) (list_of message) three_least list_least (omega (arith, size))
     (λ three. two_same (is.id ++ is.a) is.b (id ++ a) b two_least b_least three
     (λ two. two_same is.id is.a id a id_least a_least two
@@ -100,7 +117,8 @@ pdu_same message text range h is short =
     (λ few. value_same (integer_value message.b) is.b range.b bs is.is_b few))
     (λ few. list_same message text is.list range list is refl few))
 
-message_same : (message : Message) (text : List ℕ) → IsMessageInRange message → Strict message text → length text ≤ length (canon message) → text ≡ canon message
+message_same : (message : Message) (text : List ℕ) → IsMessageInRange message → Strict message text → length text ≤ length (canon message)
+    → text ≡ canon message
 unfolding canon canon_opening
 message_same message text range is short =
     let h : Octets text = recursion_from_All (λ octet. octet < 256) text is.are_octets in
@@ -114,12 +132,14 @@ message_same message text range is short =
     let version_least : length version ≤ length is.version = value_shortest (integer_value message.version) is.version versions is.is_version in
     let community_least : length community ≤ length is.community = value_shortest (octet_string message.community) is.community communities is.is_community in
     let pdu_least : length (pdu_of message) ≤ length is.pdu = pdu_shortest message is.pdu pdus is.is_pdu in
-    let two_least : length (version ++ community) ≤ length (is.version ++ is.community) = omega (arith, length-append version community, length-append is.version is.community, version_least, community_least) in
+    let two_least : length (version ++ community) ≤ length (is.version ++ is.community) =
+    omega (arith, length-append version community, length-append is.version is.community, version_least, community_least) in
     let least : length (canon_opening message ++ pdu_of message) ≤ length (is.version ++ is.community ++ is.pdu) =
     omega (arith, length-append (version ++ community) (pdu_of message), length-append (is.version ++ is.community) is.pdu, two_least, pdu_least) in
     let size : length (is.version ++ is.community ++ is.pdu) ≡ length (canon_opening message ++ pdu_of message) =
     element_size sequence_tag (is.version ++ is.community ++ is.pdu) (canon_opening message ++ pdu_of message) text h is.element least short in
-    element_same sequence_tag (is.version ++ is.community ++ is.pdu) (canon_opening message ++ pdu_of message) text (omega (arith, length-content message range)) h is.element short
+    element_same sequence_tag (is.version ++ is.community ++ is.pdu) (canon_opening message ++ pdu_of message) text
+    (omega (arith, length-content message range)) h is.element short
     (two_same (is.version ++ is.community) is.pdu (version ++ community) (pdu_of message) two_least pdu_least (omega (arith, size))
     (λ two. two_same is.version is.community version community version_least community_least two
     (λ few. value_same (integer_value message.version) is.version range.version versions is.is_version few)
@@ -134,14 +154,17 @@ written_is_shortest message range = record { strict = strict_canon message range
 pub shortest_is_written : (message : Message) (text : List ℕ) → IsMessageInRange message → IsShortestEncoding text message → text ≡ canon message
 shortest_is_written message text range is = message_same message text range is.strict (is.shortest (canon message) (strict_canon message range))
 
-pub only_shortest : (message : Message) (text other : List ℕ) → IsMessageInRange message → IsShortestEncoding text message → IsShortestEncoding other message → text ≡ other
+pub only_shortest : (message : Message) (text other : List ℕ) → IsMessageInRange message → IsShortestEncoding text message → IsShortestEncoding other message
+    → text ≡ other
 only_shortest message text other range is too = shortest_is_written message text range is ∙ sym (shortest_is_written message other range too)
 
 -- so is the front of what a writer left
-pub front_is_shortest : (message : Message) (n : ℕ) (out rest : List ℕ) → n ≡ length (canon message) → out ≡ canon message ++ rest → IsMessageInRange message → IsShortestEncoding (take n out) message
+pub front_is_shortest : (message : Message) (n : ℕ) (out rest : List ℕ) → n ≡ length (canon message) → out ≡ canon message ++ rest → IsMessageInRange message
+    → IsShortestEncoding (take n out) message
 front_is_shortest message n out rest size e range =
     let front : canon message ≡ take n out = sym (ap (take n) e ∙ ap (λ k. take k (canon message ++ rest)) size ∙ take-append_seam (canon message) rest) in
     subst (λ (text : List ℕ). IsShortestEncoding text message) front (written_is_shortest message range)
 
-pub shortest_size : (message : Message) (size : ℕ) → size ≡ length (canon message) → (octets : List ℕ) → IsMessageInRange message → IsShortestEncoding octets message → size ≡ length octets
+pub shortest_size : (message : Message) (size : ℕ) → size ≡ length (canon message) → (octets : List ℕ) → IsMessageInRange message
+    → IsShortestEncoding octets message → size ≡ length octets
 shortest_size message size e octets range is = e ∙ sym (ap length (shortest_is_written message octets range is))

@@ -1,5 +1,6 @@
 -- A binding whose lengths have an octet each.
-use Rattle.std.proofs.Common.{◌≡◌, ℕ, ◌+◌, ◌-◌, ◌<◌, ◌≤◌, List, [], ◌∷◌, ◌++◌, length, get_or, take, drop, Ok, refl, sym, ap, subst, ◌∙◌, append_assoc, arith, inl}
+use Rattle.std.proofs.Common.{◌≡◌, ℕ, ◌+◌, ◌-◌, ◌<◌, ◌≤◌, List, [], ◌∷◌, ◌++◌, length, get_or, take, drop, Ok, refl, sym, ap, subst, ◌∙◌, append_assoc, arith}
+use Rattle.std.proofs.Common.{inl}
 use Rattle.std.proofs.lemmas.List.{length-append, length-drop, length-take-le, take-append-drop}
 use Rattle.snmp_ber.specs.Length.{IsElement}
 use Rattle.snmp_ber.specs.Reading.{inner_at}
@@ -11,7 +12,8 @@ short_element : (tag : ℕ) (content : List ℕ) → length content < 128 → Is
 short_element tag content small = record { length_octets = length content ∷ []; is_length = inl (record { small = small; one = refl }); parts = refl }
 
 short_binding : (name : List ℕ) (tag : ℕ) (content rest : List ℕ) → length name + 4 + length content < 128
-    → fields_at (0x30 ∷ (length name + 4 + length content) ∷ 0x06 ∷ length name ∷ name ++ (tag ∷ length content ∷ content ++ rest)) ≡ Ok (record { name = name; tag = tag; content = content }, rest)
+    → fields_at (0x30 ∷ (length name + 4 + length content) ∷ 0x06 ∷ length name ∷ name ++ (tag ∷ length content ∷ content ++ rest))
+    ≡ Ok (record { name = name; tag = tag; content = content }, rest)
 unfolding fields_at
 short_binding name tag content rest small =
     let name_element : List ℕ = 0x06 ∷ length name ∷ name in
@@ -22,7 +24,8 @@ short_binding name tag content rest small =
     let fields : Fields = record { name = name; tag = tag; content = content } in
     let read = fields_again name_element value_element fields (short_element 0x06 name (omega arith)) (short_element tag content (omega arith)) in
     let parts : name ++ (value_element ++ rest) ≡ (name ++ value_element) ++ rest = sym (append_assoc name value_element rest) in
-    let whole : inner_at 0x30 (0x30 ∷ length inner ∷ (inner ++ rest)) ≡ Ok (inner, rest) = inner_again 0x30 inner (0x30 ∷ length inner ∷ inner) rest is_binding in
+    let whole : inner_at 0x30 (0x30 ∷ length inner ∷ (inner ++ rest)) ≡ Ok (inner, rest) =
+    inner_again 0x30 inner (0x30 ∷ length inner ∷ inner) rest is_binding in
     rw (parts, ← size, whole, read) refl
 
 two_then : (l : List ℕ) → 2 ≤ length l → l ≡ get_or l 0 0 ∷ get_or l 1 0 ∷ drop 2 l
@@ -32,7 +35,15 @@ two_then (a ∷ b ∷ rest) long = refl
 
 -- as it is found behind the first four octets
 short_behind : (size n v : ℕ) (elements : List ℕ) → size < 128 → size ≤ length elements + 2 → get_or (drop n elements) 1 0 ≡ v → n + 4 + v ≡ size
-    → fields_at (0x30 ∷ size ∷ 0x06 ∷ n ∷ elements) ≡ Ok (record { name = take n elements; tag = get_or (drop n elements) 0 0; content = take v (drop 2 (drop n elements)) }, drop v (drop 2 (drop n elements)))
+    → fields_at (0x30 ∷ size ∷ 0x06 ∷ n ∷ elements) ≡ Ok (
+      record {
+        name = take n elements;
+        tag = get_or (drop n elements) 0 0;
+        content =
+            take v (drop 2 (drop n elements));
+      },
+      drop v (drop 2 (drop n elements)),
+    )
 short_behind size n v elements small fits is_v parts =
     let name = take n elements in
     let value = drop n elements in
@@ -44,17 +55,31 @@ short_behind size n v elements small fits is_v parts =
     let behind_long : length behind ≡ length value - 2 = length-drop 2 value in
     let content_long : length content ≡ v = length-take-le v behind (omega arith) in
     let split : value ≡ get_or value 0 0 ∷ v ∷ content ++ rest =
-    two_then value (omega arith) ∙ ap (λ (w : ℕ). get_or value 0 0 ∷ w ∷ behind) is_v ∙ ap (λ (tail : List ℕ). get_or value 0 0 ∷ v ∷ tail) (sym (take-append-drop v behind)) in
+    two_then value (omega arith) ∙ ap (λ (w : ℕ). get_or value 0 0 ∷ w ∷ behind) is_v
+    ∙ ap (λ (tail : List ℕ). get_or value 0 0 ∷ v ∷ tail) (sym (take-append-drop v behind)) in
     let whole : elements ≡ name ++ (get_or value 0 0 ∷ v ∷ content ++ rest) = sym (take-append-drop n elements) ∙ ap (λ (tail : List ℕ). name ++ tail) split in
     let read = short_binding name (get_or value 0 0) content rest (omega arith) in
     let size_is : length name + 4 + length content ≡ size = omega arith in
-    ap (λ (tail : List ℕ). fields_at (0x30 ∷ size ∷ 0x06 ∷ n ∷ tail)) whole ∙ subst (λ (s : ℕ). fields_at (0x30 ∷ s ∷ 0x06 ∷ n ∷ name ++ (get_or value 0 0 ∷ v ∷ content ++ rest)) ≡ Ok (record { name = name; tag = get_or value 0 0; content = content }, rest)) size_is
-    (subst (λ (k : ℕ). fields_at (0x30 ∷ (length name + 4 + length content) ∷ 0x06 ∷ k ∷ name ++ (get_or value 0 0 ∷ v ∷ content ++ rest)) ≡ Ok (record { name = name; tag = get_or value 0 0; content = content }, rest)) name_long
-    (subst (λ (w : ℕ). fields_at (0x30 ∷ (length name + 4 + length content) ∷ 0x06 ∷ length name ∷ name ++ (get_or value 0 0 ∷ w ∷ content ++ rest)) ≡ Ok (record { name = name; tag = get_or value 0 0; content = content }, rest)) content_long read))
+    ap (λ (tail : List ℕ). fields_at (0x30 ∷ size ∷ 0x06 ∷ n ∷ tail)) whole
+    ∙ subst (λ (s : ℕ). fields_at (0x30 ∷ s ∷ 0x06 ∷ n ∷ name ++ (get_or value 0 0 ∷ v ∷ content ++ rest))
+    ≡ Ok (record { name = name; tag = get_or value 0 0; content = content }, rest)) size_is
+    (subst (λ (k : ℕ). fields_at (0x30 ∷ (length name + 4 + length content) ∷ 0x06 ∷ k ∷ name ++ (get_or value 0 0 ∷ v ∷ content ++ rest))
+    ≡ Ok (record { name = name; tag = get_or value 0 0; content = content }, rest)) name_long
+    (subst (λ (w : ℕ). fields_at (0x30 ∷ (length name + 4 + length content) ∷ 0x06 ∷ length name ∷ name ++ (get_or value 0 0 ∷ w ∷ content ++ rest))
+    ≡ Ok (record { name = name; tag = get_or value 0 0; content = content }, rest)) content_long read))
 
-short_at : (octets : List ℕ) (size n v : ℕ) → 4 ≤ length octets → get_or octets 0 0 ≡ 0x30 → get_or octets 2 0 ≡ 0x06 → size ≡ get_or octets 1 0 → n ≡ get_or octets 3 0
+short_at : (octets : List ℕ) (size n v : ℕ) → 4 ≤ length octets → get_or octets 0 0 ≡ 0x30 → get_or octets 2 0 ≡ 0x06 → size ≡ get_or octets 1 0
+    → n ≡ get_or octets 3 0
     → size < 128 → size ≤ length (drop 4 octets) + 2 → get_or (drop n (drop 4 octets)) 1 0 ≡ v → n + 4 + v ≡ size
-    → fields_at octets ≡ Ok (record { name = take n (drop 4 octets); tag = get_or (drop n (drop 4 octets)) 0 0; content = take v (drop 2 (drop n (drop 4 octets))) }, drop v (drop 2 (drop n (drop 4 octets))))
+    → fields_at octets ≡ Ok (
+      record {
+        name = take n (drop 4 octets);
+        tag = get_or (drop n (drop 4 octets)) 0 0;
+        content =
+            take v (drop 2 (drop n (drop 4 octets)));
+      },
+      drop v (drop 2 (drop n (drop 4 octets))),
+    )
 short_at [] size n v long s i z m small fits is_v parts = absurd (omega arith)
 short_at (a ∷ []) size n v long s i z m small fits is_v parts = absurd (omega arith)
 short_at (a ∷ b ∷ []) size n v long s i z m small fits is_v parts = absurd (omega arith)

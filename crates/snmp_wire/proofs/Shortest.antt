@@ -34,7 +34,8 @@ binding_shortest binding text h is =
       value_shortest binding.value is.value (back_octets is.name is.value inner) is.is_value,
     ))
 
-pub bindings_shortest : (bindings : List VarBind) (text : List ℕ) → Octets text → SpellsBindings strict bindings text → length (canon_bindings bindings) ≤ length text
+pub bindings_shortest : (bindings : List VarBind) (text : List ℕ) → Octets text → SpellsBindings strict bindings text
+    → length (canon_bindings bindings) ≤ length text
 unfolding canon_bindings
 bindings_shortest [] text h is = omega arith
 bindings_shortest (binding ∷ more) text h (first, rest, parts, this, others) =
@@ -50,20 +51,35 @@ bindings_shortest (binding ∷ more) text h (first, rest, parts, this, others) =
 
 -- ---- messages
 
-pub pdu_shortest : (message : Message) (text : List ℕ) → Octets text → SpellsPdu strict message text → length (canon_element (kind_tag message.kind) (canon_fields message ++ canon_element sequence_tag (canon_bindings message.bindings))) ≤ length text
+pub pdu_shortest : (message : Message) (text : List ℕ) → Octets text → SpellsPdu strict message text
+    → length (canon_element (kind_tag message.kind) (canon_fields message ++ canon_element sequence_tag (canon_bindings message.bindings))) ≤ length text
 pdu_shortest message text h is =
     let inner : Octets (is.id ++ is.a ++ is.b ++ is.list) = content_octets (kind_tag message.kind) (is.id ++ is.a ++ is.b ++ is.list) text h is.element in
     let fields : Octets (is.id ++ is.a ++ is.b) = front_octets (is.id ++ is.a ++ is.b) is.list inner in
     let numbers : Octets (is.id ++ is.a) = front_octets (is.id ++ is.a) is.b fields in
     let list : Octets is.list = back_octets (is.id ++ is.a ++ is.b) is.list inner in
     let made : List ℕ = canon_element sequence_tag (canon_bindings message.bindings) in
-    let id : length (canon_value (integer_value message.id)) ≤ length is.id = value_shortest (integer_value message.id) is.id (front_octets is.id is.a numbers) is.is_id in
-    let a : length (canon_value (integer_value message.a)) ≤ length is.a = value_shortest (integer_value message.a) is.a (back_octets is.id is.a numbers) is.is_a in
-    let b : length (canon_value (integer_value message.b)) ≤ length is.b = value_shortest (integer_value message.b) is.b (back_octets (is.id ++ is.a) is.b fields) is.is_b in
+    let id : length (canon_value (integer_value message.id)) ≤ length is.id =
+    value_shortest (integer_value message.id) is.id (front_octets is.id is.a numbers) is.is_id in
+    let a : length (canon_value (integer_value message.a)) ≤ length is.a =
+    value_shortest (integer_value message.a) is.a (back_octets is.id is.a numbers) is.is_a in
+    let b : length (canon_value (integer_value message.b)) ≤ length is.b =
+    value_shortest (integer_value message.b) is.b (back_octets (is.id ++ is.a) is.b fields) is.is_b in
     let bindings : length made ≤ length is.list = element_shortest sequence_tag is.bindings (canon_bindings message.bindings) is.list list is.is_list
     (bindings_shortest message.bindings is.bindings (content_octets sequence_tag is.bindings is.list list is.is_list) is.are_bindings) in
     element_shortest (kind_tag message.kind) (is.id ++ is.a ++ is.b ++ is.list) (canon_fields message ++ made) text h is.element
-    (omega (arith, id, a, b, bindings, length-append (is.id ++ is.a ++ is.b) is.list, length-append (is.id ++ is.a) is.b, length-append is.id is.a, length-append (canon_fields message) made, length-canon_fields message))
+    (omega (
+      arith,
+      id,
+      a,
+      b,
+      bindings,
+      length-append (is.id ++ is.a ++ is.b) is.list,
+      length-append (is.id ++ is.a) is.b,
+      length-append is.id is.a,
+      length-append (canon_fields message) made,
+      length-canon_fields message,
+    ))
 
 pub no_shorter : (message : Message) (text : List ℕ) → Strict message text → length (canon message) ≤ length text
 unfolding canon
@@ -72,8 +88,19 @@ no_shorter message text is =
     let inner : Octets (is.version ++ is.community ++ is.pdu) = content_octets sequence_tag (is.version ++ is.community ++ is.pdu) text h is.element in
     let opening : Octets (is.version ++ is.community) = front_octets (is.version ++ is.community) is.pdu inner in
     let made : List ℕ = canon_element (kind_tag message.kind) (canon_fields message ++ canon_element sequence_tag (canon_bindings message.bindings)) in
-    let version : length (canon_value (integer_value message.version)) ≤ length is.version = value_shortest (integer_value message.version) is.version (front_octets is.version is.community opening) is.is_version in
-    let community : length (canon_value (octet_string message.community)) ≤ length is.community = value_shortest (octet_string message.community) is.community (back_octets is.version is.community opening) is.is_community in
+    let version : length (canon_value (integer_value message.version)) ≤ length is.version =
+    value_shortest (integer_value message.version) is.version (front_octets is.version is.community opening) is.is_version in
+    let community : length (canon_value (octet_string message.community)) ≤ length is.community =
+    value_shortest (octet_string message.community) is.community (back_octets is.version is.community opening) is.is_community in
     let pdu : length made ≤ length is.pdu = pdu_shortest message is.pdu (back_octets (is.version ++ is.community) is.pdu inner) is.is_pdu in
     element_shortest sequence_tag (is.version ++ is.community ++ is.pdu) (canon_opening message ++ made) text h is.element
-    (omega (arith, version, community, pdu, length-append (is.version ++ is.community) is.pdu, length-append is.version is.community, length-append (canon_opening message) made, length-canon_opening message))
+    (omega (
+      arith,
+      version,
+      community,
+      pdu,
+      length-append (is.version ++ is.community) is.pdu,
+      length-append is.version is.community,
+      length-append (canon_opening message) made,
+      length-canon_opening message,
+    ))

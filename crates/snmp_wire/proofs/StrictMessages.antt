@@ -29,13 +29,19 @@ spells_binding binding h = record {
   is_name = spells_value (object_id binding.name) h.name;
   is_value = spells_value binding.value h.value;
   element = is_element sequence_tag (canon_value (object_id binding.name) ++ canon_value binding.value)
-      (omega (arith, length-append (canon_value (object_id binding.name)) (canon_value binding.value), value_short (object_id binding.name) h.name, value_short binding.value h.value));
+      (omega (
+        arith,
+        length-append (canon_value (object_id binding.name)) (canon_value binding.value),
+        value_short (object_id binding.name) h.name,
+        value_short binding.value h.value,
+      ));
 }
 
 binding_octets : (binding : VarBind) → IsBindingInRange binding → AreOctets (canon_binding binding)
 unfolding canon_binding
 binding_octets binding h = element_octets sequence_tag (canon_value (object_id binding.name) ++ canon_value binding.value) (lit< tt)
-    (All-append (λ octet. octet < 256) (canon_value (object_id binding.name)) (canon_value binding.value) (value_octets (object_id binding.name) h.name) (value_octets binding.value h.value))
+    (All-append (λ octet. octet < 256) (canon_value (object_id binding.name)) (canon_value binding.value) (value_octets (object_id binding.name) h.name)
+    (value_octets binding.value h.value))
 
 spells_bindings : (bindings : List VarBind) → AllByRecursion IsBindingInRange bindings → SpellsBindings strict bindings (canon_bindings bindings)
 unfolding canon_bindings
@@ -45,7 +51,8 @@ spells_bindings (binding ∷ more) h = (canon_binding binding, canon_bindings mo
 bindings_octets : (bindings : List VarBind) → AllByRecursion IsBindingInRange bindings → AreOctets (canon_bindings bindings)
 unfolding canon_bindings
 bindings_octets [] h = none
-bindings_octets (binding ∷ more) h = All-append (λ octet. octet < 256) (canon_binding binding) (canon_bindings more) (binding_octets binding h.0) (bindings_octets more h.1)
+bindings_octets (binding ∷ more) h = All-append (λ octet. octet < 256) (canon_binding binding) (canon_bindings more) (binding_octets binding h.0)
+    (bindings_octets more h.1)
 
 -- ---- messages
 
@@ -114,7 +121,8 @@ pdu_octets message h =
     let b : List ℕ = canon_value (integer_value message.b) in
     element_octets (kind_tag message.kind) (canon_fields message ++ list_of message) (kind_fits message.kind)
     (All-append P (id ++ a ++ b) (list_of message)
-    (All-append P (id ++ a) b (All-append P id a (value_octets (integer_value message.id) h.id) (value_octets (integer_value message.a) h.a)) (value_octets (integer_value message.b) h.b))
+    (All-append P (id ++ a) b (All-append P id a (value_octets (integer_value message.id) h.id) (value_octets (integer_value message.a) h.a))
+    (value_octets (integer_value message.b) h.b))
     (element_octets sequence_tag (canon_bindings message.bindings) (lit< tt) (bindings_octets message.bindings h.bindings)))
 
 -- the encoding is a spelling by the standard
@@ -133,5 +141,6 @@ strict_canon message h =
       is_pdu = spells_pdu message h;
       element = is_element sequence_tag (canon_opening message ++ pdu_of message) (omega (arith, length-content message h));
       are_octets = element_octets sequence_tag (canon_opening message ++ pdu_of message) (lit< tt)
-          (All-append P (version ++ community) (pdu_of message) (All-append P version community (value_octets (integer_value message.version) h.version) (value_octets (octet_string message.community) h.community)) (pdu_octets message h));
+          (All-append P (version ++ community) (pdu_of message) (All-append P version community (value_octets (integer_value message.version) h.version)
+          (value_octets (octet_string message.community) h.community)) (pdu_octets message h));
     }

@@ -239,7 +239,8 @@ fn read_long<'a>(octets: &'a [u8], into: &mut Binding<'a>) -> &'a [u8]
     requires some { 0 < length octets.now }
     requires bindings { IsOk (reading.bindings_of octets.now) }
     ensures others { IsOk (reading.bindings_of result.now) }
-    ensures read { reading.bindings_in octets.now ≡ var_bind into.new ∷ reading.bindings_in result.now }
+    ensures read { reading.bindings_in octets.now
+        ≡ var_bind into.new ∷ reading.bindings_in result.now }
 {
     let Ok((fields, rest)) = any_fields_at(octets) else {
         unreachable!()
@@ -263,7 +264,8 @@ fn read_binding<'a>(fields: Fields<'a>, into: &mut Binding<'a>)
 #[tactic(auto, unfolding(crate::specs::Reading::binding_of))]
 #[inline]
 fn check_binding(fields: Fields<'_>) -> Result<(), BerError>
-    ensures { AgreesBy (λ u. u) result (checked (reading.binding_of (reading.fields fields.entry))) }
+    ensures { AgreesBy (λ u. u) result
+        (checked (reading.binding_of (reading.fields fields.entry))) }
 {
     check_identifier(fields.name)?;
     check_value(fields.tag, fields.content)
@@ -298,7 +300,8 @@ pub fn encode_binding(binding: &Binding<'_>, out: &mut [u8]) -> Option<usize>
     ensures some { IfSome result (λ n.
         (n ≡ length (canon_binding (var_bind binding.now)))
         × (out.new ≡ canon_binding (var_bind binding.now) ++ drop n out.old)) }
-    ensures variant { IsSome result ↔ (length (canon_binding (var_bind binding.now)) ≤ length out.old) }
+    ensures variant { IsSome result
+        ↔ (length (canon_binding (var_bind binding.now)) ≤ length out.old) }
     ensures unchanged { IfNone result (out.new ≡ out.old) }
 {
     let size = binding_size(binding) as usize;

@@ -299,7 +299,8 @@ pub fn encode_head(parts: &Parts<'_>, total: u64, out: &mut [u8]) -> Option<usiz
     ensures some { IfSome result (λ n.
         (n ≡ length (canon_head (parts_message parts.now) total))
         × (out.new ≡ canon_head (parts_message parts.now) total ++ drop n out.old)) }
-    ensures variant { IsSome result ↔ (length (canon_head (parts_message parts.now) total) ≤ length out.old) }
+    ensures variant { IsSome result
+        ↔ (length (canon_head (parts_message parts.now) total) ≤ length out.old) }
     ensures unchanged { IfNone result (out.new ≡ out.old) }
 {
     let size = head_size(parts, total) as usize;

@@ -14,4 +14,6 @@ pub bindings-preserved : goal.bindings-preserved
 bindings-preserved c =
     let encodable : IsEncodable (var_bind c.in-Some.binding) = search rules in
     let pushed : c.push.new.self.items ≡ c.bindings.bindings.items ++ c.in-Some.binding ∷ [] = search rules in
-    one_more c.args.message.now.bindings c.bindings.bindings.items c.push.new.self.items c.in-Some.binding c.bindings.binding-iterator c.next.new.self c.bindings.total c.binding_size-total.result c.bindings.invariant c.in-Some.ensures.steps pushed c.binding_size-total.ensures.value encodable c.if-total-gt4000000000.false
+    one_more c.args.message.now.bindings c.bindings.bindings.items c.push.new.self.items c.in-Some.binding c.bindings.binding-iterator c.next.new.self
+    c.bindings.total c.binding_size-total.result c.bindings.invariant c.in-Some.ensures.steps pushed c.binding_size-total.ensures.value encodable
+    c.if-total-gt4000000000.false

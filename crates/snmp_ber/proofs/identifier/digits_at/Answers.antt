@@ -14,7 +14,8 @@ returns-then-octet-lt128 c =
 
 pub octets-preserved : goal.octets-preserved
 octets-preserved c = record {
-  same = let more = digit_goes_on c.octets.number c.args.octets.now c.octets.i c.octets-test.true (omega arith) (omega arith) in rw c.from.ensures (sym more ∙ c.octets.invariant.same);
+  same = let more = digit_goes_on c.octets.number c.args.octets.now c.octets.i c.octets-test.true (omega arith) (omega arith) in
+      rw c.from.ensures (sym more ∙ c.octets.invariant.same);
   small = omega arith;
 }
 

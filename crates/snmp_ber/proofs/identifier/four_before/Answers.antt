@@ -15,4 +15,7 @@ pub overflow_cast-result-then-a-b-lt128-3 : goal.overflow_cast-result-then-a-b-l
 overflow_cast-result-then-a-b-lt128-3 c = let small = small_before c.args.numbers.now c.args.left c.if-a-b-lt128.true in omega (arith, small.3)
 
 pub returns-then-a-b-lt128 : goal.returns-then-a-b-lt128
-returns-then-a-b-lt128 c = (c.if-left-lt4.false, plain_before c.args.numbers.now c.args.left _ _ _ _ c.if-left-lt4.false c.requires refl refl refl refl c.if-a-b-lt128.true)
+returns-then-a-b-lt128 c = (
+  c.if-left-lt4.false,
+  plain_before c.args.numbers.now c.args.left _ _ _ _ c.if-left-lt4.false c.requires refl refl refl refl c.if-a-b-lt128.true,
+)

@@ -7,7 +7,8 @@ use Rattle.snmp_ber.proofs.identifier.other_numbers_size.Goals as goal
 pub numbers-preserved : goal.numbers-preserved
 numbers-preserved c =
     let next : c.numbers.left - 1 + 1 ≡ c.numbers.left = omega (arith, c.numbers-test.true) in
-    let step = length-numbers_from c.args.numbers.now (c.numbers.left - 1) c.from.result (omega (arith, c.numbers.invariant.within, c.numbers-test.true)) c.from.ensures in
+    let step = length-numbers_from c.args.numbers.now (c.numbers.left - 1) c.from.result
+    (omega (arith, c.numbers.invariant.within, c.numbers-test.true)) c.from.ensures in
     let rest = ap (λ k. length (flat_map canon_subidentifier (drop k c.args.numbers.now))) next in
     record {
       told = omega (arith, step, rest, c.numbers.invariant.told, c.septets_size.ensures.value);

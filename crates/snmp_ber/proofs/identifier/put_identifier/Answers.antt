@@ -13,4 +13,6 @@ put_subidentifier-requires-clause-room c =
     omega (arith, first, length-content c.as_slice.result.now c.args.name.now c.requires.encodable c.as_slice.ensures.value, c.put_numbers-start.ensures.begins)
 
 pub returns : goal.returns
-returns c = writes_same (writes_then c.put_numbers-start.ensures c.put_subidentifier.ensures) (sym (content_is c.as_slice.result.now c.args.name.now c.first_subidentifier.result c.requires.encodable c.as_slice.ensures.value c.first_subidentifier.ensures))
+returns c = writes_same (writes_then c.put_numbers-start.ensures c.put_subidentifier.ensures)
+    (sym (content_is c.as_slice.result.now c.args.name.now c.first_subidentifier.result c.requires.encodable c.as_slice.ensures.value
+    c.first_subidentifier.ensures))

@@ -12,9 +12,11 @@ septets-init c = record {
 pub septets-preserved : goal.septets-preserved
 septets-preserved c = record {
   above = omega arith;
-  written = writes_septet c.args.out.now c.septets.out c.septets.at c.args.end c.args.number c.septets.rest c.septets.invariant.written c.septets.invariant.rest (omega arith) c.septets.auto.at (omega arith);
+  written = writes_septet c.args.out.now c.septets.out c.septets.at c.args.end c.args.number c.septets.rest c.septets.invariant.written
+      c.septets.invariant.rest (omega arith) c.septets.auto.at (omega arith);
   rest = rest_septets c.septets.at c.args.end c.args.number c.septets.rest c.septets.invariant.rest (omega arith) c.septets.auto.at;
 }
 
 pub returns : goal.returns
-returns c = all_septets c.args.out.now c.septets.out c.septets.at c.args.end c.args.count c.args.number c.septets.invariant.written (omega arith) c.requires.room
+returns c = all_septets c.args.out.now c.septets.out c.septets.at c.args.end c.args.count c.args.number c.septets.invariant.written
+    (omega arith) c.requires.room

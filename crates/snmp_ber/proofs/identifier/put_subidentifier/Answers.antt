@@ -10,11 +10,17 @@ pub returns-then-number-lt128 : goal.returns-then-number-lt128
 returns-then-number-lt128 c = writes_same c.put_octet.ensures (short_itself c.args.number c.if-number-lt128.true)
 
 pub put_octet-requires-then-number-lt16384-clause-room : goal.put_octet-requires-then-number-lt16384-clause-room
-put_octet-requires-then-number-lt16384-clause-room c = omega (arith, length-canon_subidentifier c.args.number, subidentifier_two c.args.number c.if-number-lt128.false c.if-number-lt16384.true, c.put_octet-last.ensures.begins)
+put_octet-requires-then-number-lt16384-clause-room c = omega (
+  arith,
+  length-canon_subidentifier c.args.number,
+  subidentifier_two c.args.number c.if-number-lt128.false c.if-number-lt16384.true,
+  c.put_octet-last.ensures.begins,
+)
 
 pub returns-then-number-lt16384 : goal.returns-then-number-lt16384
 returns-then-number-lt16384 c =
-    writes_subidentifier c.args.number 2 (subidentifier_two c.args.number c.if-number-lt128.false c.if-number-lt16384.true) c.put_octet-last.ensures (writes_same c.put_octet-then-number-lt16384.ensures (one_septet (c.args.number / 128) (omega (arith, c.if-number-lt16384.true))))
+    writes_subidentifier c.args.number 2 (subidentifier_two c.args.number c.if-number-lt128.false c.if-number-lt16384.true) c.put_octet-last.ensures
+    (writes_same c.put_octet-then-number-lt16384.ensures (one_septet (c.args.number / 128) (omega (arith, c.if-number-lt16384.true))))
 
 pub put_septets-requires-clause-room : goal.put_septets-requires-clause-room
 put_septets-requires-clause-room c = omega (arith, length-canon_subidentifier c.args.number)

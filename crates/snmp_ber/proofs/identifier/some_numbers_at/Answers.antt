@@ -7,15 +7,22 @@ use Rattle.snmp_ber.proofs.IdentifierLemmas.{numbers_full, check_fails, check_go
 use Rattle.snmp_ber.proofs.identifier.some_numbers_at.Goals as goal
 
 pub returns-then-room-eq0-clause-err : goal.returns-then-room-eq0-clause-err
-returns-then-room-eq0-clause-err c = rw c.if-room-eq0.true (checked_err (numbers_of 0 c.args.octets.now) error.Content (numbers_full c.args.octets.now c.requires))
+returns-then-room-eq0-clause-err c = rw c.if-room-eq0.true (checked_err (numbers_of 0 c.args.octets.now) error.Content
+    (numbers_full c.args.octets.now c.requires))
 
 pub returns-in-Some-clause-ok : goal.returns-in-Some-clause-ok
-returns-in-Some-clause-ok c =
-    (omega arith, c.if-room-ge8.true, check_plain 8 c.in-Some.field-0-0.now c.in-Some.rest.now c.args.octets.now c.args.room c.in-Some.ensures c.if-room-ge8.true)
+returns-in-Some-clause-ok c = (
+  omega arith,
+  c.if-room-ge8.true,
+  check_plain 8 c.in-Some.field-0-0.now c.in-Some.rest.now c.args.octets.now c.args.room c.in-Some.ensures c.if-room-ge8.true,
+)
 
 pub returns-in-Some-four_at-clause-ok : goal.returns-in-Some-four_at-clause-ok
-returns-in-Some-four_at-clause-ok c =
-    (omega arith, c.if-room-ge4.true, check_plain 4 c.in-Some-four_at.field-0-0.now c.in-Some-four_at.rest.now c.args.octets.now c.args.room c.in-Some-four_at.ensures c.if-room-ge4.true)
+returns-in-Some-four_at-clause-ok c = (
+  omega arith,
+  c.if-room-ge4.true,
+  check_plain 4 c.in-Some-four_at.field-0-0.now c.in-Some-four_at.rest.now c.args.octets.now c.args.room c.in-Some-four_at.ensures c.if-room-ge4.true,
+)
 
 pub returns-in_err-rest-clause-err : goal.returns-in_err-rest-clause-err
 returns-in_err-rest-clause-err c =

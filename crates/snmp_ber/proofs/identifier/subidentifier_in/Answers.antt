@@ -8,7 +8,8 @@ pub split_at-requires : goal.split_at-requires
 split_at-requires c = subidentifier_some c.args.octets.now c.requires
 
 pub returns-then-high-lt128 : goal.returns-then-high-lt128
-returns-then-high-lt128 c = rw (c.from.ensures, c.split_at.ensures.back) (subidentifier_plain c.args.octets.now (subidentifier_some c.args.octets.now c.requires) c.if-high-lt128.true)
+returns-then-high-lt128 c = rw (c.from.ensures, c.split_at.ensures.back)
+    (subidentifier_plain c.args.octets.now (subidentifier_some c.args.octets.now c.requires) c.if-high-lt128.true)
 
 pub bounds-octets-1 : goal.bounds-octets-1
 bounds-octets-1 c = subidentifier_longer c.args.octets.now c.requires c.if-high-lt128.false
@@ -18,4 +19,5 @@ split_at-requires-then-low-lt128 c = subidentifier_longer c.args.octets.now c.re
 
 pub returns-then-low-lt128 : goal.returns-then-low-lt128
 returns-then-low-lt128 c =
-    rw (c.from-then-low-lt128.ensures, c.from-then-low-lt128-2.ensures, c.split_at-then-low-lt128.ensures.back) (subidentifier_of_two c.args.octets.now c.requires c.if-high-lt128.false c.if-low-lt128.true)
+    rw (c.from-then-low-lt128.ensures, c.from-then-low-lt128-2.ensures, c.split_at-then-low-lt128.ensures.back)
+    (subidentifier_of_two c.args.octets.now c.requires c.if-high-lt128.false c.if-low-lt128.true)

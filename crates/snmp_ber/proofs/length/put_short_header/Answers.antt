@@ -8,7 +8,14 @@ pub put_octet-start-requires-clause-room : goal.put_octet-start-requires-clause-
 put_octet-start-requires-clause-room c = omega (arith, length-canon_header c.args.tag c.args.size, c.requires.room)
 
 pub put_octet-requires-clause-room : goal.put_octet-requires-clause-room
-put_octet-requires-clause-room c = omega (arith, length-canon_header c.args.tag c.args.size, header_short c.args.size c.requires.below_128, c.requires.room, c.put_octet-start.ensures.begins)
+put_octet-requires-clause-room c = omega (
+  arith,
+  length-canon_header c.args.tag c.args.size,
+  header_short c.args.size c.requires.below_128,
+  c.requires.room,
+  c.put_octet-start.ensures.begins,
+)
 
 pub returns : goal.returns
-returns c = writes_tag c.args.tag c.args.size (writes_same c.put_octet-start.ensures (sym (canon_length_short c.args.size c.requires.below_128))) c.put_octet.ensures
+returns c = writes_tag c.args.tag c.args.size (writes_same c.put_octet-start.ensures
+    (sym (canon_length_short c.args.size c.requires.below_128))) c.put_octet.ensures

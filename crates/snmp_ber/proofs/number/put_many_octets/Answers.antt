@@ -12,7 +12,8 @@ octets-init c = record {
 pub octets-preserved : goal.octets-preserved
 octets-preserved c = record {
   above = omega arith;
-  written = writes_digit c.args.out.now c.octets.out c.octets.at c.args.end c.args.number c.octets.rest c.octets.invariant.written c.octets.invariant.rest (omega arith) c.octets.auto.at (omega arith);
+  written = writes_digit c.args.out.now c.octets.out c.octets.at c.args.end c.args.number c.octets.rest c.octets.invariant.written c.octets.invariant.rest
+      (omega arith) c.octets.auto.at (omega arith);
   rest = rest_digits c.octets.at c.args.end c.args.number c.octets.rest c.octets.invariant.rest (omega arith) c.octets.auto.at;
 }
 

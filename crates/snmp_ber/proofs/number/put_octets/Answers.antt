@@ -8,4 +8,5 @@ pub returns-in-1 : goal.returns-in-1
 returns-in-1 c = writes_same c.put_octet.ensures (one_octet c.args.number ∙ ap (λ count. octets count c.args.number) (sym c.in-1.is))
 
 pub returns-in-2 : goal.returns-in-2
-returns-in-2 c = writes_same (writes_then c.put_octet-last.ensures c.put_octet-in-2.ensures) (two_octets c.args.number ∙ ap (λ count. octets count c.args.number) (sym c.in-2.is))
+returns-in-2 c = writes_same (writes_then c.put_octet-last.ensures c.put_octet-in-2.ensures)
+    (two_octets c.args.number ∙ ap (λ count. octets count c.args.number) (sym c.in-2.is))

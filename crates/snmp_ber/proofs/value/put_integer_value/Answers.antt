@@ -8,13 +8,16 @@ use Rattle.snmp_ber.proofs.WritingLemmas.{writes_same}
 use Rattle.snmp_ber.proofs.value.put_integer_value.Goals as goal
 
 pub put_integer-start-requires-clause-room : goal.put_integer-start-requires-clause-room
-put_integer-start-requires-clause-room c = subst (λ (z : ℤ). length (canon_number z) ≤ c.args.end) (sym (to_z-of_z w32 c.args.number c.ranges.number)) (content_fits 2 c.args.end (canon_number c.args.number) c.requires.room)
+put_integer-start-requires-clause-room c = subst (λ (z : ℤ). length (canon_number z) ≤ c.args.end) (sym (to_z-of_z w32 c.args.number c.ranges.number))
+    (content_fits 2 c.args.end (canon_number c.args.number) c.requires.room)
 
 pub put_short_header-requires-clause-below_128 : goal.put_short_header-requires-clause-below_128
 put_short_header-requires-clause-below_128 c = number_short _ c.put_integer-start.ensures
 
 pub put_short_header-requires-clause-room : goal.put_short_header-requires-clause-room
-put_short_header-requires-clause-room c = header_fits 2 (writes_same c.put_integer-start.ensures (ap canon_number (to_z-of_z w32 c.args.number c.ranges.number))) c.requires.room
+put_short_header-requires-clause-room c = header_fits 2 (writes_same c.put_integer-start.ensures
+    (ap canon_number (to_z-of_z w32 c.args.number c.ranges.number))) c.requires.room
 
 pub returns : goal.returns
-returns c = writes_element 2 (writes_same c.put_integer-start.ensures (ap canon_number (to_z-of_z w32 c.args.number c.ranges.number))) c.put_short_header.ensures
+returns c = writes_element 2 (writes_same c.put_integer-start.ensures (ap canon_number
+    (to_z-of_z w32 c.args.number c.ranges.number))) c.put_short_header.ensures

@@ -6,7 +6,11 @@ use Rattle.snmp_ber.proofs.ValueWriting.{number_short}
 use Rattle.snmp_ber.proofs.value.put_long_number.Goals as goal
 
 pub put_unsigned-start-requires-clause-room : goal.put_unsigned-start-requires-clause-room
-put_unsigned-start-requires-clause-room c = omega (arith, content_fits c.args.tag c.args.end (canon_number (pos c.args.number)) c.requires.room, length-from_zero c.args.number)
+put_unsigned-start-requires-clause-room c = omega (
+  arith,
+  content_fits c.args.tag c.args.end (canon_number (pos c.args.number)) c.requires.room,
+  length-from_zero c.args.number,
+)
 
 pub put_short_header-requires-clause-below_128 : goal.put_short_header-requires-clause-below_128
 put_short_header-requires-clause-below_128 c = number_short (pos c.args.number) c.put_unsigned-start.ensures

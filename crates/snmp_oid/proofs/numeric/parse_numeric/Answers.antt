@@ -1,13 +1,16 @@
-use Rattle.std.proofs.Common.{◌≡◌, ℕ, ◌-◌, ◌<◌, ◌≤◌, inl, inr, List, [], ◌∷◌, ◌++◌, length, Bool, true, false, Bor, Option, Some, None, Result, Ok, Err, IsOk, OnOk, OnErr, ◌↔◌, MatchOption, option_map, refl, sym, ap, subst, arith}
+use Rattle.std.proofs.Common.{◌≡◌, ℕ, ◌-◌, ◌<◌, ◌≤◌, inl, inr, List, [], ◌∷◌, ◌++◌, length, Bool, true, false, Bor, Option, Some, None, Result, Ok, Err, IsOk}
+use Rattle.std.proofs.Common.{OnOk, OnErr, ◌↔◌, MatchOption, option_map, refl, sym, ap, subst, arith}
 use Rattle.std.specs.Result.{is_err}
 use Rattle.snmp_oid.specs.declared.oid.OidError.{OidError}
 use Rattle.snmp_oid.specs.Numeric.{IsNumericName, IsFirstBadPart, dot}
 use Rattle.snmp_oid.proofs.Dotted.{HasNoDot, Splits}
-use Rattle.snmp_oid.proofs.Parsing.{IsParsedTo, dot_alone, parse_begins, parse_more, bad_part_here, bad_part_no_name, one_bad_part, parsed_name, parsed_only, parsed_short}
+use Rattle.snmp_oid.proofs.Parsing.{IsParsedTo, dot_alone, parse_begins, parse_more, bad_part_here, bad_part_no_name, one_bad_part, parsed_name, parsed_only}
+use Rattle.snmp_oid.proofs.Parsing.{parsed_short}
 use Rattle.snmp_oid.proofs.numeric.parse_numeric.Goals as goal
 
 -- what is left, as lists
-here_left : (text kept : List ℕ) (too_long : Bool) (left : Option (Bor (List ℕ))) (here : Bor (List ℕ)) → left ≡ Some here → IsParsedTo text (option_map (λ s. s.now) left) kept too_long
+here_left : (text kept : List ℕ) (too_long : Bool) (left : Option (Bor (List ℕ))) (here : Bor (List ℕ)) → left ≡ Some here
+    → IsParsedTo text (option_map (λ s. s.now) left) kept too_long
     → IsParsedTo text (Some here.now) kept too_long
 here_left text kept too_long left here is h =
     let P : Option (Bor (List ℕ)) → Type 0 = λ l. IsParsedTo text (option_map (λ s. s.now) l) kept too_long in subst P is h
@@ -18,14 +21,22 @@ splits_of here part None free h = (free, h)
 splits_of here part (Some rest) free h = (free, h)
 
 pub returns-then-is_dot-clause-only : goal.returns-then-is_dot-clause-only
-returns-then-is_dot-clause-only c = λ o name short. (let none = dot_alone c.args.text.now o (c.is_dot.ensures.0 c.if-is_dot.true) name in cc (none, c.new-oid.ensures))
+returns-then-is_dot-clause-only c = λ o name short. (let none = dot_alone c.args.text.now o (c.is_dot.ensures.0 c.if-is_dot.true) name in
+    cc (none, c.new-oid.ensures))
 
 pub returns-then-is_dot-clause-too_long : goal.returns-then-is_dot-clause-too_long
-returns-then-is_dot-clause-too_long c =
-    (λ same. (let no : ⊥ = cc in absurd no), λ long. absurd (omega (arith, long.2, ap length (dot_alone c.args.text.now long.0 (c.is_dot.ensures.0 c.if-is_dot.true) long.1))))
+returns-then-is_dot-clause-too_long c = (
+  λ same. (let no : ⊥ = cc in absurd no),
+  λ long. absurd (omega (
+    arith,
+    long.2,
+    ap length (dot_alone c.args.text.now long.0 (c.is_dot.ensures.0 c.if-is_dot.true) long.1),
+  )),
+)
 
 pub parts-init : goal.parts-init
-parts-init c = parse_begins c.args.text.now c.without_front_dot.result.now c.new-oid.result (λ same. (let no : c.is_dot.result ≡ true = c.is_dot.ensures.1 same in cc (no, c.if-is_dot.false))) c.without_front_dot.ensures c.new-oid.ensures
+parts-init c = parse_begins c.args.text.now c.without_front_dot.result.now c.new-oid.result
+    (λ same. (let no : c.is_dot.result ≡ true = c.is_dot.ensures.1 same in cc (no, c.if-is_dot.false))) c.without_front_dot.ensures c.new-oid.ensures
 
 -- the part at hand is no numeral
 split_here : (c : goal.In_default-read_number) → Splits c.in-Some.here.now c.split_part.result.0.now (option_map (λ s. s.now) c.split_part.result.1)
@@ -34,12 +45,14 @@ split_here c = splits_of c.in-Some.here.now c.split_part.result.0.now c.split_pa
 first_bad : (c : goal.In_default-read_number) → IsFirstBadPart c.args.text.now (length c.args.text.now - length c.in-Some.here.now)
 first_bad c =
     bad_part_here c.args.text.now c.in-Some.here.now c.split_part.result.0.now (option_map (λ s. s.now) c.split_part.result.1) c.parts.oid c.parts.too_long
-    (here_left c.args.text.now c.parts.oid c.parts.too_long c.parts.left c.in-Some.here c.in-Some.is c.parts.invariant) (split_here c) c.in_default-read_number.ensures.none
+    (here_left c.args.text.now c.parts.oid c.parts.too_long c.parts.left c.in-Some.here c.in-Some.is c.parts.invariant)
+    (split_here c) c.in_default-read_number.ensures.none
 
 no_name : (c : goal.In_default-read_number) (o : List ℕ) → IsNumericName c.args.text.now o → ⊥
 no_name c =
     bad_part_no_name c.args.text.now c.in-Some.here.now c.split_part.result.0.now (option_map (λ s. s.now) c.split_part.result.1) c.parts.oid c.parts.too_long
-    (here_left c.args.text.now c.parts.oid c.parts.too_long c.parts.left c.in-Some.here c.in-Some.is c.parts.invariant) (split_here c) c.in_default-read_number.ensures.none
+    (here_left c.args.text.now c.parts.oid c.parts.too_long c.parts.left c.in-Some.here c.in-Some.is c.parts.invariant)
+    (split_here c) c.in_default-read_number.ensures.none
 
 pub returns-in_default-read_number-clause-only : goal.returns-in_default-read_number-clause-only
 returns-in_default-read_number-clause-only c = λ o name short. absurd (no_name c o name)
@@ -47,7 +60,8 @@ returns-in_default-read_number-clause-only c = λ o name short. absurd (no_name 
 pub returns-in_default-read_number-clause-bad_number : goal.returns-in_default-read_number-clause-bad_number
 returns-in_default-read_number-clause-bad_number c =
     λ at. (
-      λ same. (let P : ℕ → Type 0 = λ k. IsFirstBadPart c.args.text.now k in let e : length c.args.text.now - length c.in-Some.here.now ≡ at = cc in subst P e (first_bad c)),
+      λ same. (let P : ℕ → Type 0 = λ k. IsFirstBadPart c.args.text.now k in let e : length c.args.text.now - length c.in-Some.here.now ≡ at = cc in
+          subst P e (first_bad c)),
       λ other. (let e = one_bad_part c.args.text.now (length c.args.text.now - length c.in-Some.here.now) at (first_bad c) other in cc),
     )
 
@@ -74,22 +88,34 @@ pushed_from_ok (Err fault) new kept n e h = let no : ⊥ = cc in absurd no
 -- one more part is read
 pub parts-preserved-then-is_err : goal.parts-preserved-then-is_err
 parts-preserved-then-is_err c =
-    parse_more c.args.text.now c.in-Some.here.now c.split_part.result.0.now (option_map (λ s. s.now) c.split_part.result.1) c.parts.oid c.push.new.self c.parts.too_long true c.in-Some-read_number.number
+    parse_more c.args.text.now c.in-Some.here.now c.split_part.result.0.now
+    (option_map (λ s. s.now) c.split_part.result.1) c.parts.oid c.push.new.self c.parts.too_long true c.in-Some-read_number.number
     (here_left c.args.text.now c.parts.oid c.parts.too_long c.parts.left c.in-Some.here c.in-Some.is c.parts.invariant)
     (splits_of c.in-Some.here.now c.split_part.result.0.now c.split_part.result.1 c.split_part.ensures.part c.split_part.ensures.parts)
     c.in-Some-read_number.ensures.found
-    (inr (full_from_err c.push.result c.parts.oid (cc (c.is_err.ensures.value, c.if-is_err.true)) c.push.ensures.variant, same_from_err c.push.result c.push.new.self c.parts.oid (cc (c.is_err.ensures.value, c.if-is_err.true)) c.push.ensures.unchanged_on_error, refl))
+    (inr (
+      full_from_err c.push.result c.parts.oid (cc (c.is_err.ensures.value, c.if-is_err.true)) c.push.ensures.variant,
+      same_from_err c.push.result c.push.new.self c.parts.oid (cc (c.is_err.ensures.value, c.if-is_err.true)) c.push.ensures.unchanged_on_error,
+      refl,
+    ))
 
 pub parts-preserved : goal.parts-preserved
 parts-preserved c =
-    parse_more c.args.text.now c.in-Some.here.now c.split_part.result.0.now (option_map (λ s. s.now) c.split_part.result.1) c.parts.oid c.push.new.self c.parts.too_long c.parts.too_long c.in-Some-read_number.number
+    parse_more c.args.text.now c.in-Some.here.now c.split_part.result.0.now
+    (option_map (λ s. s.now) c.split_part.result.1) c.parts.oid c.push.new.self c.parts.too_long c.parts.too_long c.in-Some-read_number.number
     (here_left c.args.text.now c.parts.oid c.parts.too_long c.parts.left c.in-Some.here c.in-Some.is c.parts.invariant)
     (splits_of c.in-Some.here.now c.split_part.result.0.now c.split_part.result.1 c.split_part.ensures.part c.split_part.ensures.parts)
     c.in-Some-read_number.ensures.found
-    (inl (room_from_ok c.push.result c.parts.oid (cc (c.is_err.ensures.value, c.if-is_err.false)) c.push.ensures.variant, pushed_from_ok c.push.result c.push.new.self c.parts.oid c.in-Some-read_number.number (cc (c.is_err.ensures.value, c.if-is_err.false)) c.push.ensures.ok, refl))
+    (inl (
+      room_from_ok c.push.result c.parts.oid (cc (c.is_err.ensures.value, c.if-is_err.false)) c.push.ensures.variant,
+      pushed_from_ok c.push.result c.push.new.self c.parts.oid c.in-Some-read_number.number
+          (cc (c.is_err.ensures.value, c.if-is_err.false)) c.push.ensures.ok,
+      refl,
+    ))
 
 -- the end
-ended : (text kept : List ℕ) (too_long was : Bool) (left : Option (Bor (List ℕ))) → left ≡ None → was ≡ too_long → IsParsedTo text (option_map (λ s. s.now) left) kept was → IsParsedTo text None kept too_long
+ended : (text kept : List ℕ) (too_long was : Bool) (left : Option (Bor (List ℕ))) → left ≡ None → was ≡ too_long
+    → IsParsedTo text (option_map (λ s. s.now) left) kept was → IsParsedTo text None kept too_long
 ended text kept too_long was left none same h =
     let P : Option (Bor (List ℕ)) → Type 0 = λ l. IsParsedTo text (option_map (λ s. s.now) l) kept was in
     let Q : Bool → Type 0 = λ b. IsParsedTo text None kept b in
@@ -121,7 +147,8 @@ returns-else-too_long-clause-at_most_128 c =
 
 pub returns-else-too_long-clause-only : goal.returns-else-too_long-clause-only
 returns-else-too_long-clause-only c =
-    λ o name short. (let h = ended_short c in let same = parsed_only c.args.text.now c.parts.oid false h o name in let kept = (parsed_short c.args.text.now c.parts.oid h).1 in cc)
+    λ o name short. (let h = ended_short c in let same = parsed_only c.args.text.now c.parts.oid false h o name in let kept =
+    (parsed_short c.args.text.now c.parts.oid h).1 in cc)
 
 pub returns-else-too_long-clause-too_long : goal.returns-else-too_long-clause-too_long
 returns-else-too_long-clause-too_long c = (

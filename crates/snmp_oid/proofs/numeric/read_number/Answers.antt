@@ -6,22 +6,27 @@ use Rattle.snmp_oid.proofs.numeric.read_number.Goals as goal
 
 pub returns-in_err-checked_mul-clause-none : goal.returns-in_err-checked_mul-clause-none
 returns-in_err-checked_mul-clause-none c =
-    let no : (n : ℕ) → IsNumeral c.args.part.now n → ⊥ = read_large_at c.args.part.now c.digits.octet-index c.digits.number (omega arith) (omega (arith, c.in_err-checked_mul.ensures)) c.digits.invariant in
+    let no : (n : ℕ) → IsNumeral c.args.part.now n → ⊥ = read_large_at c.args.part.now c.digits.octet-index c.digits.number (omega arith)
+    (omega (arith, c.in_err-checked_mul.ensures)) c.digits.invariant in
     rw c.from_residual.ensures no
 
 pub returns-in_err-number-clause-none : goal.returns-in_err-number-clause-none
 returns-in_err-number-clause-none c =
-    let large : 2 ^ 32 ≤ c.digits.number * 10 + (get_or c.args.part.now c.digits.octet-index 0 - 48) = omega (arith, c.in_ok-checked_mul.ensures, c.from.ensures, c.in_err-number.ensures) in
-    let no : (n : ℕ) → IsNumeral c.args.part.now n → ⊥ = read_large_at c.args.part.now c.digits.octet-index c.digits.number (omega arith) large c.digits.invariant in
+    let large : 2 ^ 32 ≤ c.digits.number * 10 + (get_or c.args.part.now c.digits.octet-index 0 - 48) =
+    omega (arith, c.in_ok-checked_mul.ensures, c.from.ensures, c.in_err-number.ensures) in
+    let no : (n : ℕ) → IsNumeral c.args.part.now n → ⊥ = read_large_at c.args.part.now c.digits.octet-index c.digits.number
+    (omega arith) large c.digits.invariant in
     rw c.from_residual-in_err-number.ensures no
 
 pub digits-preserved : goal.digits-preserved
 digits-preserved c =
-    let next : c.in_ok-number.number ≡ c.digits.number * 10 + (get_or c.args.part.now c.digits.octet-index 0 - 48) = omega (arith, c.in_ok-checked_mul.ensures, c.from.ensures, c.in_ok-number.ensures) in
+    let next : c.in_ok-number.number ≡ c.digits.number * 10 + (get_or c.args.part.now c.digits.octet-index 0 - 48) =
+    omega (arith, c.in_ok-checked_mul.ensures, c.from.ensures, c.in_ok-number.ensures) in
     let low : c.digits.octet-index < length c.args.part.now = omega arith in
     let is_digit : is_ascii_digit (get_or c.args.part.now c.digits.octet-index 0) ≡ true = cc (c.is_ascii_digit.ensures.value, c.if-not-is_ascii_digit.false) in
     let P : ℕ → Type 0 = λ n. IsReadTo c.args.part.now (drop (c.digits.octet-index + 1) c.args.part.now) n in
-    subst P (sym next) (read_more_at c.args.part.now c.digits.octet-index c.digits.number low is_digit (omega (arith, c.in_ok-number.ensures, next)) c.digits.invariant)
+    subst P (sym next) (read_more_at c.args.part.now c.digits.octet-index c.digits.number low is_digit
+    (omega (arith, c.in_ok-number.ensures, next)) c.digits.invariant)
 
 pub returns-clause-found : goal.returns-clause-found
 returns-clause-found c =

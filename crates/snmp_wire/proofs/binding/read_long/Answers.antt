@@ -13,4 +13,5 @@ pub returns-clause-others : goal.returns-clause-others
 returns-clause-others c = (stands c.args.octets.now (fields c.in-Ok.fields) c.in-Ok.rest.now c.requires.bindings c.requires.some c.in-Ok.ensures).others
 
 pub returns-clause-read : goal.returns-clause-read
-returns-clause-read c = (stands c.args.octets.now (fields c.in-Ok.fields) c.in-Ok.rest.now c.requires.bindings c.requires.some c.in-Ok.ensures).all _ c.read_binding.ensures
+returns-clause-read c = (stands c.args.octets.now
+    (fields c.in-Ok.fields) c.in-Ok.rest.now c.requires.bindings c.requires.some c.in-Ok.ensures).all _ c.read_binding.ensures

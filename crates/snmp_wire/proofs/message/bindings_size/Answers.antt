@@ -12,11 +12,13 @@ overflow_add-total c =
 
 pub bindings-preserved : goal.bindings-preserved
 bindings-preserved c =
-    let step = length-flat_map_drop binding_octets c.args.bindings.now c.bindings.binding-index c.binding-item.result c.binding-item.result c.bindings-test.true c.binding-item.is in
+    let step = length-flat_map_drop binding_octets c.args.bindings.now c.bindings.binding-index c.binding-item.result c.binding-item.result
+    c.bindings-test.true c.binding-item.is in
     omega (arith, step, c.bindings.invariant, c.binding_size-total.ensures.value)
 
 pub returns : goal.returns
 returns c =
     let all = ap length (bindings_are c.args.bindings.now) in
-    let none : length (flat_map binding_octets (drop c.bindings.binding-index c.args.bindings.now)) ≡ 0 = at_drop_all (λ rest. length (flat_map binding_octets rest)) c.args.bindings.now c.bindings.binding-index c.bindings-test.false in
+    let none : length (flat_map binding_octets (drop c.bindings.binding-index c.args.bindings.now)) ≡ 0 =
+    at_drop_all (λ rest. length (flat_map binding_octets rest)) c.args.bindings.now c.bindings.binding-index c.bindings-test.false in
     omega (arith, all, none, c.bindings.invariant)

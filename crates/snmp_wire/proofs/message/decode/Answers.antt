@@ -14,11 +14,13 @@ use Rattle.snmp_wire.proofs.message.decode.Goals as goal
 are_octets : (octets : List ℕ) → ((i : ℕ) → get_or octets i 0 < 256) → AreOctets octets
 are_octets octets small k d lt = subst (λ n. n < 256) (get_or_default octets k 0 d lt) (small k)
 
-found : (octets : List ℕ) (result : Result Message BerError) → AreOctets octets → AgreesBy (λ message. message) result (message_of octets) → IfOk result (λ message. Spells message octets)
+found : (octets : List ℕ) (result : Result Message BerError) → AreOctets octets → AgreesBy (λ message. message) result (message_of octets)
+    → IfOk result (λ message. Spells message octets)
 found octets (Ok message) small e = message_takes octets message small e
 found octets (Err fault) small e = tt
 
-only : (octets : List ℕ) (result : Result Message BerError) (message : Message) → AgreesBy (λ m. m) result (message_of octets) → Spells message octets → result ≡ Ok message
+only : (octets : List ℕ) (result : Result Message BerError) (message : Message) → AgreesBy (λ m. m) result (message_of octets) → Spells message octets
+    → result ≡ Ok message
 only octets (Ok read) message e h = sym e ∙ message_again octets message h
 only octets (Err fault) message e h = sym e ∙ message_again octets message h
 
@@ -27,7 +29,8 @@ fault octets (Ok read) e = tt
 fault octets (Err d) e = message_faults octets d e
 
 pub returns-clause-found : goal.returns-clause-found
-returns-clause-found c = found c.args.datagram.now c.message_of.result (are_octets c.args.datagram.now (λ i. omega (arith, c.type_inv.datagram i))) c.message_of.ensures
+returns-clause-found c = found c.args.datagram.now c.message_of.result
+    (are_octets c.args.datagram.now (λ i. omega (arith, c.type_inv.datagram i))) c.message_of.ensures
 
 pub returns-clause-only : goal.returns-clause-only
 returns-clause-only c = λ message h. only c.args.datagram.now c.message_of.result message c.message_of.ensures h

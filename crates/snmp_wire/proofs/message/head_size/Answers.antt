@@ -5,9 +5,11 @@ use Rattle.snmp_wire.proofs.message.head_size.Goals as goal
 
 pub returns-clause-value : goal.returns-clause-value
 returns-clause-value c = sizes_head (parts_message c.args.parts.now) c.args.total
-    c.integer_element_size-version.result c.text_element_size-community.result c.integer_element_size-id.result c.integer_element_size-a.result c.integer_element_size-b.result
+    c.integer_element_size-version.result c.text_element_size-community.result c.integer_element_size-id.result c.integer_element_size-a.result
+    c.integer_element_size-b.result
     c.header_size-list.result c.header_size-pdu.result c.header_size-message.result
-    (handed c.args.parts.now.version c.integer_element_size-version.result (search rules) c.integer_element_size-version.ensures.value) c.text_element_size-community.ensures.value
+    (handed c.args.parts.now.version c.integer_element_size-version.result
+    (search rules) c.integer_element_size-version.ensures.value) c.text_element_size-community.ensures.value
     (handed c.args.parts.now.id c.integer_element_size-id.result (search rules) c.integer_element_size-id.ensures.value)
     (handed c.args.parts.now.a c.integer_element_size-a.result (search rules) c.integer_element_size-a.ensures.value)
     (handed c.args.parts.now.b c.integer_element_size-b.result (search rules) c.integer_element_size-b.ensures.value)

@@ -5,10 +5,12 @@ use Rattle.snmp_ber.proofs.WritingLemmas.{writes_same}
 use Rattle.snmp_wire.proofs.message.put_text_element.Goals as goal
 
 pub put_text-start-requires-clause-room : goal.put_text-start-requires-clause-room
-put_text-start-requires-clause-room c = subst (λ (text : List ℕ). length text ≤ c.args.end) (content_text c.args.text.now) (value_content_fits c.args.end (octet_string c.args.text.now) c.requires.room)
+put_text-start-requires-clause-room c = subst (λ (text : List ℕ). length text ≤ c.args.end) (content_text c.args.text.now)
+    (value_content_fits c.args.end (octet_string c.args.text.now) c.requires.room)
 
 pub put_header-requires-clause-room : goal.put_header-requires-clause-room
-put_header-requires-clause-room c = value_header_fits 4 (octet_string c.args.text.now) refl (writes_same c.put_text-start.ensures (sym (content_text c.args.text.now))) c.requires.room
+put_header-requires-clause-room c = value_header_fits 4 (octet_string c.args.text.now) refl
+    (writes_same c.put_text-start.ensures (sym (content_text c.args.text.now))) c.requires.room
 
 pub returns : goal.returns
 returns c = writes_value 4 (octet_string c.args.text.now) refl (writes_same c.put_text-start.ensures (sym (content_text c.args.text.now))) c.put_header.ensures

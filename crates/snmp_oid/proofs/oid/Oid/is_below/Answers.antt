@@ -11,5 +11,6 @@ returns-then-len-front c =
     let o = c.args.self.now in
     let root = c.args.root.now in
     let longer : length root < length o = rw (← front) (omega arith) in
-    let same : Decides c.eq.result (take (length root) o ≡ root) = slice_eq-Decides Decides-eqb (take (length root) o) root c.eq.result (cc (c.eq.ensures, c.as_slice.ensures.value, front)) in
+    let same : Decides c.eq.result (take (length root) o ≡ root) = slice_eq-Decides Decides-eqb (take (length root) o) root c.eq.result
+    (cc (c.eq.ensures, c.as_slice.ensures.value, front)) in
     (λ yes_same. below_from_front o root longer (same.0 yes_same), λ below. same.1 (front_from_below o root below))

@@ -10,11 +10,14 @@ returns-then-is_empty-clause-none c = λ _.
     (none, none, refl)
 
 pub read_binding-requires : goal.read_binding-requires
-read_binding-requires c = (stands c.self.inside.rest.now (fields c.in-Some.fields) c.in-Some.rest.now c.self.invariant (some_left _ _ c.is_empty.ensures c.if-is_empty.false) c.in-Some.ensures).is_binding
+read_binding-requires c = (stands c.self.inside.rest.now (fields c.in-Some.fields) c.in-Some.rest.now c.self.invariant
+    (some_left _ _ c.is_empty.ensures c.if-is_empty.false) c.in-Some.ensures).is_binding
 
 pub invariant_of-self-2 : goal.invariant_of-self-2
-invariant_of-self-2 c = (stands c.self.inside.rest.now (fields c.in-Some.fields) c.in-Some.rest.now c.self.invariant (some_left _ _ c.is_empty.ensures c.if-is_empty.false) c.in-Some.ensures).others
+invariant_of-self-2 c = (stands c.self.inside.rest.now (fields c.in-Some.fields) c.in-Some.rest.now c.self.invariant
+    (some_left _ _ c.is_empty.ensures c.if-is_empty.false) c.in-Some.ensures).others
 
 pub returns-clause-some : goal.returns-clause-some
 returns-clause-some c = λ _.
-    sym c.self.view_is ∙ (stands c.self.inside.rest.now (fields c.in-Some.fields) c.in-Some.rest.now c.self.invariant (some_left _ _ c.is_empty.ensures c.if-is_empty.false) c.in-Some.ensures).all _ c.read_binding.ensures
+    sym c.self.view_is ∙ (stands c.self.inside.rest.now (fields c.in-Some.fields) c.in-Some.rest.now c.self.invariant
+    (some_left _ _ c.is_empty.ensures c.if-is_empty.false) c.in-Some.ensures).all _ c.read_binding.ensures
