@@ -162,6 +162,39 @@ fn names_that_are_defined_twice(rt: HostRuntime) -> Result<(), Fail> {
 }
 
 #[test]
+fn the_first_fault_of_several(rt: HostRuntime) -> Result<(), Fail> {
+    let alloc = rt.alloc();
+    let rows = [
+        // A second definition before and after a fault of the lexer.
+        (
+            b"A DEFINITIONS ::= BEGIN\nX ::= BITS\nX ::= BITS\n? END".as_slice(),
+            double_name(3),
+        ),
+        (
+            b"A DEFINITIONS ::= BEGIN\nX ::= BITS\n?\nX ::= BITS END",
+            bad_byte(3),
+        ),
+        (
+            b"A DEFINITIONS ::= BEGIN X ::= BITS\nX ::= BITS END\n\"open",
+            double_name(2),
+        ),
+        // A token that can't stand there before and after one.
+        (b"A DEFINITIONS BEGIN\n?", syntax(1)),
+        (b"A DEFINITIONS\n? BEGIN", bad_byte(2)),
+        (b"A DEFINITIONS ::= BEGIN END\n'1", open_string(2)),
+        // Tokens that are kept as they are end at a fault too.
+        (
+            b"A DEFINITIONS ::= BEGIN\nX ::= CHOICE { { ?\n} } END",
+            bad_byte(2),
+        ),
+    ];
+    for (text, expected) in rows {
+        assert_eq!(rt; fault(alloc, text), expected);
+    }
+    Ok(())
+}
+
+#[test]
 fn numbers_in_their_ranges(rt: HostRuntime) -> Result<(), Fail> {
     let alloc = rt.alloc();
     let good = [

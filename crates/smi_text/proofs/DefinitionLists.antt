@@ -1,8 +1,9 @@
 -- Definitions one after the other, with the names that they define.
-use Rattle.std.proofs.Common.{◌≡◌, ℕ, Bool, true, false, ◌||◌, not, List, [], ◌∷◌, ◌++◌, Some, refl, sym, ◌∙◌, ap, subst, append_assoc, append-nil}
+use Rattle.std.proofs.Common.{◌≡◌, ℕ, Bool, true, false, ◌||◌, not, List, [], ◌∷◌, ◌++◌, Option, Some, None, Ok, Err, refl, sym, ◌∙◌, ap, subst, append_assoc, append-nil}
 use Rattle.std.specs.List.{flat_map, list_any, list_all}
-use Rattle.smi_lexer.specs.Token.{Lexeme}
-use Rattle.smi_module.specs.Mark.{Mark, same_text, Stands}
+use Rattle.smi_lexer.specs.Token.{Lexeme, Item}
+use Rattle.smi_module.specs.Mark.{Mark, Fits, spelled, on_line, same_text}
+use Rattle.smi_text.specs.Format.{Takes}
 use Rattle.smi_text.specs.Format.{Ahead, begins}
 use Rattle.smi_text.specs.Grammar.{definition, module_text, file}
 use Rattle.smi_module.specs.Spelling.{of_def, of_def_kind, of_module, spelling}
@@ -14,49 +15,58 @@ use Rattle.smi_module.specs.declared.names.Name.{Name}
 use Rattle.smi_module.specs.declared.tree.DefKind.{DefKind}
 use Rattle.smi_module.specs.declared.tree.DefKind.TheVariants as D
 use Rattle.smi_module.specs.declared.tree.Module.{Module}
-use Rattle.smi_text.proofs.Marks.{and-left, and-right, and-both, or-false, false-from, same_text-eq, same_text-same, Stands-append}
+use Rattle.smi_text.proofs.Marks.{and-left, and-right, and-both, or-false, false-from, same_text-eq, same_text-same, Takes-append}
+use Rattle.smi_text.proofs.Laws.{some-inj}
 use Rattle.smi_text.proofs.Productions.{definition-law, module_text-law, file-law}
 use Rattle.smi_text.proofs.Spells.{def-spells, module-spells, file-spells}
 
 -- the label of a definition is the text of its first token
 
-kind-label : (n : ℕ) (x : Name) (k : DefKind) (ts rest : List Lexeme) → Stands (of_def_kind n x k) ts rest → x.octets ≡ text_ahead ts
-kind-label n x (D.ObjectIdentifier d) [] rest h = absurd h
-kind-label n x (D.ObjectIdentifier d) (t ∷ ts) rest h = sym h.0.0.1
-kind-label n x (D.ModuleIdentity d) [] rest h = absurd h
-kind-label n x (D.ModuleIdentity d) (t ∷ ts) rest h = sym h.0.0.1
-kind-label n x (D.ObjectIdentity d) [] rest h = absurd h
-kind-label n x (D.ObjectIdentity d) (t ∷ ts) rest h = sym h.0.0.1
-kind-label n x (D.ObjectType d) [] rest h = absurd h
-kind-label n x (D.ObjectType d) (t ∷ ts) rest h = sym h.0.0.1
-kind-label n x (D.NotificationType d) [] rest h = absurd h
-kind-label n x (D.NotificationType d) (t ∷ ts) rest h = sym h.0.0.1
-kind-label n x (D.ObjectGroup d) [] rest h = absurd h
-kind-label n x (D.ObjectGroup d) (t ∷ ts) rest h = sym h.0.0.1
-kind-label n x (D.NotificationGroup d) [] rest h = absurd h
-kind-label n x (D.NotificationGroup d) (t ∷ ts) rest h = sym h.0.0.1
-kind-label n x (D.ModuleCompliance d) [] rest h = absurd h
-kind-label n x (D.ModuleCompliance d) (t ∷ ts) rest h = sym h.0.0.1
-kind-label n x (D.AgentCapabilities d) [] rest h = absurd h
-kind-label n x (D.AgentCapabilities d) (t ∷ ts) rest h = sym h.0.0.1
-kind-label n x (D.TextualConvention d) [] rest h = absurd h
-kind-label n x (D.TextualConvention d) (t ∷ ts) rest h = sym h.0.0.1
-kind-label n x (D.TypeAssignment d) [] rest h = absurd h
-kind-label n x (D.TypeAssignment d) (t ∷ ts) rest h = sym h.0.0.1
-kind-label n x (D.Sequence d) [] rest h = absurd h
-kind-label n x (D.Sequence d) (t ∷ ts) rest h = sym h.0.0.1
-kind-label n x (D.Choice d) [] rest h = absurd h
-kind-label n x (D.Choice d) (t ∷ ts) rest h = sym h.0.0.1
-kind-label n x (D.Macro d) [] rest h = absurd h
-kind-label n x (D.Macro d) (t ∷ ts) rest h = sym h.0.0.1
+mark_text : Mark → List ℕ
+mark_text (spelled k x ok) = x
+mark_text (on_line n m) = mark_text m
 
-pub spelled-label : (d : Def) (ts rest : List Lexeme) → Stands (of_def d) ts rest → d.label.octets ≡ text_ahead ts
+fits-text : (m : Mark) (t : Lexeme) → Fits m t → mark_text m ≡ t.text
+unfolding mark_text
+fits-text (spelled k x ok) t h = sym h.1
+fits-text (on_line n m) t h = fits-text m t h.0
+
+-- the text of the first of some marks
+first_text : List Mark → Option (List ℕ)
+first_text [] = None
+first_text (m ∷ ms) = Some (mark_text m)
+
+first-label : (ms : List Mark) (x : List ℕ) (ts rest : List Item) → first_text ms ≡ Some x → Takes ms ts rest → x ≡ text_ahead ts
+unfolding first_text
+first-label [] x ts rest e h = absurd (cc)
+first-label (m ∷ ms) x [] rest e h = absurd h
+first-label (m ∷ ms) x (Err f ∷ ts) rest e h = absurd h
+first-label (m ∷ ms) x (Ok t ∷ ts) rest e h = some-inj x (mark_text m) (sym e) ∙ fits-text m t h.0
+
+kind-label : (n : ℕ) (x : Name) (k : DefKind) (ts rest : List Item) → Takes (of_def_kind n x k) ts rest → x.octets ≡ text_ahead ts
+unfolding first_text mark_text
+kind-label n x (D.ObjectIdentifier d) ts rest h = first-label (of_def_kind n x (D.ObjectIdentifier d)) x.octets ts rest refl h
+kind-label n x (D.ModuleIdentity d) ts rest h = first-label (of_def_kind n x (D.ModuleIdentity d)) x.octets ts rest refl h
+kind-label n x (D.ObjectIdentity d) ts rest h = first-label (of_def_kind n x (D.ObjectIdentity d)) x.octets ts rest refl h
+kind-label n x (D.ObjectType d) ts rest h = first-label (of_def_kind n x (D.ObjectType d)) x.octets ts rest refl h
+kind-label n x (D.NotificationType d) ts rest h = first-label (of_def_kind n x (D.NotificationType d)) x.octets ts rest refl h
+kind-label n x (D.ObjectGroup d) ts rest h = first-label (of_def_kind n x (D.ObjectGroup d)) x.octets ts rest refl h
+kind-label n x (D.NotificationGroup d) ts rest h = first-label (of_def_kind n x (D.NotificationGroup d)) x.octets ts rest refl h
+kind-label n x (D.ModuleCompliance d) ts rest h = first-label (of_def_kind n x (D.ModuleCompliance d)) x.octets ts rest refl h
+kind-label n x (D.AgentCapabilities d) ts rest h = first-label (of_def_kind n x (D.AgentCapabilities d)) x.octets ts rest refl h
+kind-label n x (D.TextualConvention d) ts rest h = first-label (of_def_kind n x (D.TextualConvention d)) x.octets ts rest refl h
+kind-label n x (D.TypeAssignment d) ts rest h = first-label (of_def_kind n x (D.TypeAssignment d)) x.octets ts rest refl h
+kind-label n x (D.Sequence d) ts rest h = first-label (of_def_kind n x (D.Sequence d)) x.octets ts rest refl h
+kind-label n x (D.Choice d) ts rest h = first-label (of_def_kind n x (D.Choice d)) x.octets ts rest refl h
+kind-label n x (D.Macro d) ts rest h = first-label (of_def_kind n x (D.Macro d)) x.octets ts rest refl h
+
+pub spelled-label : (d : Def) (ts rest : List Item) → Takes (of_def d) ts rest → d.label.octets ≡ text_ahead ts
 spelled-label d ts rest h = kind-label d.line d.label d.kind ts rest h
 
-pub read-stands : (d : Def) (ts rest : List Lexeme) → definition.read ts ≡ Some (d, rest) → Stands (of_def d) ts rest
-read-stands d ts rest h = let P : List Mark → Type 0 = λ ms. Stands ms ts rest in subst P (def-spells d) (definition-law.takes ts rest d h)
+pub read-stands : (d : Def) (ts rest : List Item) → definition.read ts ≡ Some (d, rest) → Takes (of_def d) ts rest
+read-stands d ts rest h = let P : List Mark → Type 0 = λ ms. Takes ms ts rest in subst P (def-spells d) (definition-law.takes ts rest d h)
 
-pub read-label : (d : Def) (ts rest : List Lexeme) → definition.read ts ≡ Some (d, rest) → d.label.octets ≡ text_ahead ts
+pub read-label : (d : Def) (ts rest : List Item) → definition.read ts ≡ Some (d, rest) → d.label.octets ≡ text_ahead ts
 read-label d ts rest h = kind-label d.line d.label d.kind ts rest (read-stands d ts rest h)
 
 -- one more
@@ -65,10 +75,10 @@ flat-more : {A : Type 0} (f : A → List Mark) (xs : List A) (x : A) → flat_ma
 flat-more f [] x = append-nil (f x)
 flat-more f (y ∷ ys) x = ap (λ (ms : List Mark). f y ++ ms) (flat-more f ys x) ∙ sym (append_assoc (f y) (flat_map f ys) (f x))
 
-pub stands-more : {A : Type 0} (f : A → List Mark) (xs : List A) (x : A) (ts mid rest : List Lexeme) → Stands (flat_map f xs) ts mid → Stands (f x) mid rest → Stands (flat_map f (xs ++ x ∷ [])) ts rest
+pub stands-more : {A : Type 0} (f : A → List Mark) (xs : List A) (x : A) (ts mid rest : List Item) → Takes (flat_map f xs) ts mid → Takes (f x) mid rest → Takes (flat_map f (xs ++ x ∷ [])) ts rest
 stands-more f xs x ts mid rest h k =
-    let P : List Mark → Type 0 = λ ms. Stands ms ts rest in
-    subst P (sym (flat-more f xs x)) (Stands-append (flat_map f xs) (f x) ts mid rest h k)
+    let P : List Mark → Type 0 = λ ms. Takes ms ts rest in
+    subst P (sym (flat-more f xs x)) (Takes-append (flat_map f xs) (f x) ts mid rest h k)
 
 pub any-more : (x : List ℕ) (ys : List (List ℕ)) (y : List ℕ) → list_any (same_text x) (ys ++ y ∷ []) ≡ (same_text x y || list_any (same_text x) ys)
 any-more x [] y = refl
@@ -113,18 +123,18 @@ all-more p (y ∷ ys) x h k = and-both (p y) (list_all p (ys ++ x ∷ [])) (and-
 pub no-doubles-more : (ms : List Module) (m : Module) → HasNoDoubles ms → are_distinct (labels m.defs) ≡ true → HasNoDoubles (ms ++ m ∷ [])
 no-doubles-more ms m h k = all-more (λ (n : Module). are_distinct (labels n.defs)) ms m h k
 
-pub module-stands : (m : Module) (ts rest : List Lexeme) → module_text.read ts ≡ Some (m, rest) → Stands (of_module m) ts rest
-module-stands m ts rest h = let P : List Mark → Type 0 = λ ms. Stands ms ts rest in subst P (module-spells m) (module_text-law.takes ts rest m h)
+pub module-stands : (m : Module) (ts rest : List Item) → module_text.read ts ≡ Some (m, rest) → Takes (of_module m) ts rest
+module-stands m ts rest h = let P : List Mark → Type 0 = λ ms. Takes ms ts rest in subst P (module-spells m) (module_text-law.takes ts rest m h)
 
 nothing-begins : (cs : List Ahead) → begins cs [] ≡ false
 unfolding begins
 nothing-begins cs = refl
 
 -- the whole
-pub file-stands : (ms : List Module) (ts rest : List Lexeme) → file.read ts ≡ Some (ms, rest) → Stands (spelling ms) ts rest
-file-stands ms ts rest h = let P : List Mark → Type 0 = λ us. Stands us ts rest in subst P (file-spells ms) (file-law.takes ts rest ms h)
+pub file-stands : (ms : List Module) (ts rest : List Item) → file.read ts ≡ Some (ms, rest) → Takes (spelling ms) ts rest
+file-stands ms ts rest h = let P : List Mark → Type 0 = λ us. Takes us ts rest in subst P (file-spells ms) (file-law.takes ts rest ms h)
 
-pub file-reads : (ms : List Module) (ts : List Lexeme) → Stands (spelling ms) ts [] → file.read ts ≡ Some (ms, [])
+pub file-reads : (ms : List Module) (ts : List Item) → Takes (spelling ms) ts [] → file.read ts ≡ Some (ms, [])
 file-reads ms ts h =
-    let P : List Mark → Type 0 = λ us. Stands us ts [] in
+    let P : List Mark → Type 0 = λ us. Takes us ts [] in
     file-law.again ms ts [] (subst P (sym (file-spells ms)) h) (nothing-begins file.stop)

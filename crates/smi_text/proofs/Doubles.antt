@@ -2,19 +2,21 @@
 use Rattle.std.proofs.Common.{◌≡◌, ℕ, true, false, not, List, [], ◌∷◌, ◌++◌, Some, None, refl, sym, ◌∙◌, ap, subst, inl, inr}
 use Rattle.std.specs.Prelude.{codes}
 use Rattle.std.specs.List.{flat_map, list_any, list_all}
-use Rattle.smi_lexer.specs.Token.{Lexeme}
-use Rattle.smi_module.specs.Mark.{Mark, same_text, Stands}
+use Rattle.smi_lexer.specs.Token.{Item}
+use Rattle.smi_module.specs.Mark.{Mark, same_text}
+use Rattle.smi_text.specs.Format.{Takes}
 use Rattle.smi_module.specs.Reserved.{is_reserved}
 use Rattle.smi_text.specs.Format.{Format, Reading, begins, apart, with_front, before, begins, behind, either, lined, many, maybe, name, pair, separated, shaped, some_of, text, text_where, token, with_front, word, lower}
 use Rattle.smi_text.specs.Grammar.{to_module, arc, assigned, balanced, base, before_assign, before_end, bound, braced, choice, clause, default_value, definition, field, file, group, head, heading, identifier, import_clause, imports, index, index_names, later_part, lower_definition, macro_body, macro_definition, macro_name, module_identity, module_text, named_number, names, notification_type, object_identifier, object_identifier_words, object_identity, object_type, objects, octet_string_words, of_row, opening, parenthesized, part, range, ranges, raw_definition, refinement, revision, sequence, simple_type, size, status, symbol, syntax_clause, syntax_type, tag, tagged, textual_convention, upper_definition, value}
 use Rattle.smi_module.specs.Spelling.{of_def, of_head, of_module, spelling}
-use Rattle.smi_text.specs.Text.{HasNoDoubles, HasSecond, DefinesAgain}
+use Rattle.smi_text.specs.Text.{HasNoDoubles}
+use Rattle.smi_text.specs.Gives.{RepeatsIn, RepeatsAgain}
 use Rattle.smi_module.specs.Lookup.{labels, are_distinct}
 use Rattle.smi_text.specs.declared.modules.Head.{Head}
 use Rattle.smi_module.specs.declared.tree.Def.{Def}
 use Rattle.smi_module.specs.declared.tree.Module.{Module}
 use Rattle.smi_text.proofs.Lawful.{Lawful}
-use Rattle.smi_text.proofs.Marks.{and-left, and-right, or-cases, or-left, or-right, same_text-eq, same_text-same, Stands-split, apart-false}
+use Rattle.smi_text.proofs.Marks.{and-left, and-right, or-cases, or-left, or-right, same_text-eq, same_text-same, Takes-split, apart-false}
 use Rattle.smi_text.proofs.Many.{many-fails, many-goes_on, with_front-append, with_front-nil}
 use Rattle.smi_text.proofs.Laws.{starts-with, some-inj}
 use Rattle.smi_text.proofs.Productions.{definition-law, head-law, module_text-law}
@@ -22,39 +24,39 @@ use Rattle.smi_text.proofs.Shorter.{definition-solid, module_text-solid}
 use Rattle.smi_text.proofs.Spells.{def-spells, head-spells, module-spells, lists}
 use Rattle.smi_text.proofs.DefinitionLists.{read-label, spelled-label}
 
-front-inv : {A : Type 0} (x : A) (r : Reading (List A)) (xs : List A) (rest : List Lexeme) → with_front (x ∷ []) r ≡ Some (xs, rest) → (more : List A) × (xs ≡ x ∷ more)
+front-inv : {A : Type 0} (x : A) (r : Reading (List A)) (xs : List A) (rest : List Item) → with_front (x ∷ []) r ≡ Some (xs, rest) → (more : List A) × (xs ≡ x ∷ more)
 unfolding with_front
 front-inv x None xs rest h = absurd (cc)
-front-inv {A} x (Some p) xs rest h = (p.0, sym (ap (λ (q : List A × List Lexeme). q.0) (some-inj {A = List A × List Lexeme} (x ∷ p.0, p.1) (xs, rest) h)))
+front-inv {A} x (Some p) xs rest h = (p.0, sym (ap (λ (q : List A × List Item). q.0) (some-inj {A = List A × List Item} (x ∷ p.0, p.1) (xs, rest) h)))
 
-fronts-inv : {A : Type 0} (xs : List A) (r : Reading (List A)) (ys : List A) (rest : List Lexeme) → with_front xs r ≡ Some (ys, rest) → (zs : List A) × (r ≡ Some (zs, rest)) × (ys ≡ xs ++ zs)
+fronts-inv : {A : Type 0} (xs : List A) (r : Reading (List A)) (ys : List A) (rest : List Item) → with_front xs r ≡ Some (ys, rest) → (zs : List A) × (r ≡ Some (zs, rest)) × (ys ≡ xs ++ zs)
 unfolding with_front
 fronts-inv xs None ys rest h = absurd (cc)
 fronts-inv {A} xs (Some p) ys rest h =
-    let e = some-inj {A = List A × List Lexeme} (xs ++ p.0, p.1) (ys, rest) h in
-    (p.0, ap (λ (us : List Lexeme). Some (p.0, us)) (ap (λ (q : List A × List Lexeme). q.1) e), sym (ap (λ (q : List A × List Lexeme). q.0) e))
+    let e = some-inj {A = List A × List Item} (xs ++ p.0, p.1) (ys, rest) h in
+    (p.0, ap (λ (us : List Item). Some (p.0, us)) (ap (λ (q : List A × List Item). q.1) e), sym (ap (λ (q : List A × List Item). q.0) e))
 
 -- parts that are spelled before one that begins again are read first
 module _ {A : Type 0} (f : Format A) (law : Lawful f) (solid : f.empty ≡ false) (far : apart f.stop f.first ≡ true) where
-  begin-again : (xs : List A) (ts mid : List Lexeme) → Stands (flat_map f.spell xs) ts mid → begins f.first mid ≡ true → begins f.first ts ≡ true
+  begin-again : (xs : List A) (ts mid : List Item) → Takes (flat_map f.spell xs) ts mid → begins f.first mid ≡ true → begins f.first ts ≡ true
   begin-again [] ts mid h b = ap (begins f.first) h ∙ b
   begin-again (x ∷ xs) ts mid h b =
-      let r = Stands-split (f.spell x) (flat_map f.spell xs) ts mid h in
+      let r = Takes-split (f.spell x) (flat_map f.spell xs) ts mid h in
       starts-with f law solid x ts r.0 r.1
 
-  pub many-before : (xs : List A) (ts mid : List Lexeme) → Stands (flat_map f.spell xs) ts mid → begins f.first mid ≡ true → (many f).read ts ≡ with_front xs ((many f).read mid)
-  many-before [] ts mid h b = ap (λ (us : List Lexeme). (many f).read us) h ∙ sym (with_front-nil _)
+  pub many-before : (xs : List A) (ts mid : List Item) → Takes (flat_map f.spell xs) ts mid → begins f.first mid ≡ true → (many f).read ts ≡ with_front xs ((many f).read mid)
+  many-before [] ts mid h b = ap (λ (us : List Item). (many f).read us) h ∙ sym (with_front-nil _)
   many-before (x ∷ xs) ts mid h b =
-      let r = Stands-split (f.spell x) (flat_map f.spell xs) ts mid h in
+      let r = Takes-split (f.spell x) (flat_map f.spell xs) ts mid h in
       let on = apart-false f.stop f.first r.0 far (begin-again xs r.0 mid r.2 b) in
       many-goes_on f law solid x ts r.0 (starts-with f law solid x ts r.0 r.1) (law.again x ts r.0 r.1 on)
       ∙ ap (with_front (x ∷ [])) (many-before xs r.0 mid r.2 b)
       ∙ sym (with_front-append (x ∷ []) xs ((many f).read mid))
 
   -- where one begins and some are read, the first of them is
-  pub many-first : (ts rest : List Lexeme) (xs : List A) → begins f.first ts ≡ true → (many f).read ts ≡ Some (xs, rest) → (x : A) × (more : List A) × (mid : List Lexeme) × (f.read ts ≡ Some (x, mid)) × (xs ≡ x ∷ more)
+  pub many-first : (ts rest : List Item) (xs : List A) → begins f.first ts ≡ true → (many f).read ts ≡ Some (xs, rest) → (x : A) × (more : List A) × (mid : List Item) × (f.read ts ≡ Some (x, mid)) × (xs ≡ x ∷ more)
   many-first ts rest xs b h =
-      elim (f.read ts) as (λ r. f.read ts ≡ r → (x : A) × (more : List A) × (mid : List Lexeme) × (f.read ts ≡ Some (x, mid)) × (xs ≡ x ∷ more)) [
+      elim (f.read ts) as (λ r. f.read ts ≡ r → (x : A) × (more : List A) × (mid : List Item) × (f.read ts ≡ Some (x, mid)) × (xs ≡ x ∷ more)) [
         | None ↦ λ e. absurd (cc (h, many-fails f ts b e))
         | Some p ↦ λ e.
             let q = front-inv p.0 ((many f).read p.1) xs rest (sym (many-goes_on f law solid p.0 ts p.1 b e) ∙ h) in
@@ -88,22 +90,22 @@ definition-apart : apart definition.stop definition.first ≡ true
 unfolding arc assigned balanced base before before_assign before_end behind bound braced choice clause default_value definition either field group identifier index index_names is_reserved later_part lined lower_definition macro_body macro_definition macro_name many maybe module_identity name lower named_number names notification_type object_identifier object_identifier_words object_identity object_type objects octet_string_words of_row pair parenthesized part range ranges raw_definition refinement revision separated sequence shaped simple_type size some_of status syntax_clause syntax_type tag tagged text text_where textual_convention token upper_definition value word
 definition-apart = refl
 
-module _ (line : ℕ) (body : List Lexeme) (s : HasSecond line body) where
-  halves : (mid : List Lexeme) × Stands (flat_map of_def s.before) body mid × Stands (of_def s.second) mid s.rest
-  halves = Stands-split (flat_map of_def s.before) (of_def s.second) body s.rest s.stands
+module _ (line : ℕ) (body : List Item) (s : RepeatsIn line body) where
+  halves : (mid : List Item) × Takes (flat_map of_def s.before) body mid × Takes (of_def s.second) mid s.rest
+  halves = Takes-split (flat_map of_def s.before) (of_def s.second) body s.rest s.stands
 
-  first-half : Stands (flat_map definition.spell s.before) body halves.0
-  first-half = let P : List Mark → Type 0 = λ ms. Stands ms body halves.0 in subst P (sym (lists definition.spell of_def def-spells s.before)) halves.1
+  first-half : Takes (flat_map definition.spell s.before) body halves.0
+  first-half = let P : List Mark → Type 0 = λ ms. Takes ms body halves.0 in subst P (sym (lists definition.spell of_def def-spells s.before)) halves.1
 
   second-ahead : begins definition.first halves.0 ≡ true
   second-ahead =
-      let P : List Mark → Type 0 = λ ms. Stands ms halves.0 s.rest in
+      let P : List Mark → Type 0 = λ ms. Takes ms halves.0 s.rest in
       starts-with definition definition-law definition-solid s.second halves.0 s.rest (subst P (sym (def-spells s.second)) halves.2)
 
   body-ahead : begins definition.first body ≡ true
   body-ahead = begin-again definition definition-law definition-solid definition-apart s.before body halves.0 first-half second-ahead
 
-  definitions-twice : (ds : List Def) (rest : List Lexeme) → (many definition).read body ≡ Some (ds, rest) → are_distinct (labels ds) ≡ true → ⊥
+  definitions-twice : (ds : List Def) (rest : List Item) → (many definition).read body ≡ Some (ds, rest) → are_distinct (labels ds) ≡ true → ⊥
   definitions-twice ds rest h k =
       let e = many-before definition definition-law definition-solid definition-apart s.before body halves.0 first-half second-ahead in
       let inv = fronts-inv s.before ((many definition).read halves.0) ds rest (sym e ∙ h) in
@@ -124,7 +126,7 @@ head-apart : apart head.stop definition.first ≡ true
 unfolding arc assigned balanced base before before_assign before_end behind bound braced choice clause default_value definition either field group head heading identifier import_clause imports index index_names is_reserved later_part lined lower_definition macro_body macro_definition macro_name many maybe module_identity name lower named_number names notification_type object_identifier object_identifier_words object_identity object_type objects octet_string_words of_row opening pair parenthesized part range ranges raw_definition refinement revision separated sequence shaped simple_type size some_of status symbol syntax_clause syntax_type tag tagged text text_where textual_convention token upper_definition value word
 head-apart = refl
 
-module-first : (ts : List Lexeme) → begins module_text.first ts ≡ begins head.first ts
+module-first : (ts : List Item) → begins module_text.first ts ≡ begins head.first ts
 unfolding arc assigned balanced base before before_assign before_end behind bound braced choice clause default_value definition either field group head heading identifier import_clause imports index index_names later_part lined lower_definition macro_body macro_definition macro_name many maybe module_identity module_text name lower named_number names notification_type object_identifier object_identifier_words object_identity object_type objects octet_string_words of_row opening pair parenthesized part range ranges raw_definition refinement revision separated sequence shaped simple_type size some_of status symbol syntax_clause syntax_type tag tagged text text_where textual_convention token upper_definition value word
 module-first ts = refl
 
@@ -136,27 +138,27 @@ head-solid : head.empty ≡ false
 unfolding arc before behind braced either head heading import_clause imports lined many maybe name lower opening pair parenthesized part separated shaped some_of symbol text text_where token word
 head-solid = refl
 
-module-inv : (ts body : List Lexeme) (h : Head) (m : Module) (rest : List Lexeme) → head.read ts ≡ Some (h, body) → module_text.read ts ≡ Some (m, rest) → (after : List Lexeme) × ((many definition).read body ≡ Some (m.defs, after))
+module-inv : (ts body : List Item) (h : Head) (m : Module) (rest : List Item) → head.read ts ≡ Some (h, body) → module_text.read ts ≡ Some (m, rest) → (after : List Item) × ((many definition).read body ≡ Some (m.defs, after))
 unfolding module_text shaped pair before lower
 module-inv ts body h m rest e r =
-    elim ((many definition).read body) as (λ o. (many definition).read body ≡ o → (after : List Lexeme) × ((many definition).read body ≡ Some (m.defs, after))) [
+    elim ((many definition).read body) as (λ o. (many definition).read body ≡ o → (after : List Item) × ((many definition).read body ≡ Some (m.defs, after))) [
       | None ↦ λ d. absurd (let no : module_text.read ts ≡ None = rw (e, d) refl in cc (no, r))
       | Some p ↦ λ d.
-          elim ((word (codes "END")).read p.1) as (λ o. (word (codes "END")).read p.1 ≡ o → (after : List Lexeme) × ((many definition).read body ≡ Some (m.defs, after))) [
+          elim ((word (codes "END")).read p.1) as (λ o. (word (codes "END")).read p.1 ≡ o → (after : List Item) × ((many definition).read body ≡ Some (m.defs, after))) [
             | None ↦ λ w. absurd (let no : module_text.read ts ≡ None = rw (e, d, w) refl in cc (no, r))
             | Some q ↦ λ w.
                 let yes : module_text.read ts ≡ Some (to_module (h, p.0), q.1) = rw (e, d, w) refl in
-                let same = some-inj {A = Module × List Lexeme} (to_module (h, p.0), q.1) (m, rest) (sym yes ∙ r) in
-                (p.1, d ∙ ap (λ (v : Module × List Lexeme). Some (v.0.defs, p.1)) same)
+                let same = some-inj {A = Module × List Item} (to_module (h, p.0), q.1) (m, rest) (sym yes ∙ r) in
+                (p.1, d ∙ ap (λ (v : Module × List Item). Some (v.0.defs, p.1)) same)
           ] refl
     ] refl
 
-module _ (line : ℕ) (tokens : List Lexeme) (d : DefinesAgain line tokens) where
-  opened : (mid : List Lexeme) × Stands (spelling d.modules) tokens mid × Stands (of_head d.name d.heading d.imports) mid d.body
-  opened = Stands-split (spelling d.modules) (of_head d.name d.heading d.imports) tokens d.body d.stands
+module _ (line : ℕ) (tokens : List Item) (d : RepeatsAgain line tokens) where
+  opened : (mid : List Item) × Takes (spelling d.modules) tokens mid × Takes (of_head d.name d.heading d.imports) mid d.body
+  opened = Takes-split (spelling d.modules) (of_head d.name d.heading d.imports) tokens d.body d.stands
 
-  head-stands : Stands (head.spell (record { name = d.name; heading = d.heading; imports = d.imports })) opened.0 d.body
-  head-stands = let P : List Mark → Type 0 = λ ms. Stands ms opened.0 d.body in subst P (sym (head-spells d.name d.heading d.imports)) opened.2
+  head-stands : Takes (head.spell (record { name = d.name; heading = d.heading; imports = d.imports })) opened.0 d.body
+  head-stands = let P : List Mark → Type 0 = λ ms. Takes ms opened.0 d.body in subst P (sym (head-spells d.name d.heading d.imports)) opened.2
 
   head-read : head.read opened.0 ≡ Some (record { name = d.name; heading = d.heading; imports = d.imports }, d.body)
   head-read = head-law.again (record { name = d.name; heading = d.heading; imports = d.imports }) opened.0 d.body head-stands (apart-false head.stop definition.first d.body head-apart (body-ahead line d.body d.twice))
@@ -164,8 +166,8 @@ module _ (line : ℕ) (tokens : List Lexeme) (d : DefinesAgain line tokens) wher
   module-ahead : begins module_text.first opened.0 ≡ true
   module-ahead = module-first opened.0 ∙ starts-with head head-law head-solid (record { name = d.name; heading = d.heading; imports = d.imports }) opened.0 d.body head-stands
 
-  before-stands : Stands (flat_map module_text.spell d.modules) tokens opened.0
-  before-stands = let P : List Mark → Type 0 = λ ms. Stands ms tokens opened.0 in subst P (sym (lists module_text.spell of_module module-spells d.modules)) opened.1
+  before-stands : Takes (flat_map module_text.spell d.modules) tokens opened.0
+  before-stands = let P : List Mark → Type 0 = λ ms. Takes ms tokens opened.0 in subst P (sym (lists module_text.spell of_module module-spells d.modules)) opened.1
 
   pub file-twice : (ns : List Module) → file.read tokens ≡ Some (ns, []) → HasNoDoubles ns → ⊥
   unfolding file

@@ -3,15 +3,16 @@ use Rattle.std.proofs.Common.{◌≡◌, ℕ, ◌<◌, ◌≤◌, Bool, true, fa
 use Rattle.std.specs.Prelude.{codes}
 use Rattle.std.specs.List.{flat_map, list_any}
 use Rattle.std.specs.BTreeSet.{BTreeSet}
-use Rattle.smi_lexer.specs.Token.{Lexeme}
-use Rattle.smi_module.specs.Mark.{Mark, same_text, Stands}
+use Rattle.smi_lexer.specs.Token.{Item}
+use Rattle.smi_module.specs.Mark.{Mark, same_text}
+use Rattle.smi_text.specs.Format.{Takes}
 use Rattle.smi_text.specs.Names.{has}
 use Rattle.smi_text.specs.Format.{Ahead, begins, read_many, many, with_front, shaped, pair, before, word, lower}
 use Rattle.smi_text.specs.Grammar.{definition, head, module_text, file}
 use Rattle.smi_module.specs.Spelling.{of_def, of_head, of_module, spelling}
-use Rattle.smi_text.specs.Text.{HasNoDoubles, HasSecond}
+use Rattle.smi_text.specs.Text.{HasNoDoubles}
 use Rattle.smi_module.specs.Lookup.{labels, are_distinct}
-use Rattle.smi_text.specs.Gives.{is_memory, error_of, text_ahead, ReadsDefinitions, DefinitionsFault, ReadsModule, ModuleFault, ReadsModules, ModulesFault}
+use Rattle.smi_text.specs.Gives.{RepeatsIn, is_memory, error_of, text_ahead, ReadsDefinitions, DefinitionsFault, ReadsModule, ModuleFault, ReadsModules, ModulesFault}
 use Rattle.smi_text.specs.declared.stop.Stop.{Stop}
 use Rattle.smi_text.specs.declared.stop.Stop.TheVariants as S
 use Rattle.smi_text.specs.declared.error.ParseError.{ParseError}
@@ -19,7 +20,7 @@ use Rattle.smi_text.specs.declared.error.ParseError.TheVariants as E
 use Rattle.smi_text.specs.declared.modules.Head.{Head}
 use Rattle.smi_module.specs.declared.tree.Def.{Def}
 use Rattle.smi_module.specs.declared.tree.Module.{Module}
-use Rattle.smi_text.proofs.Marks.{Stands-append}
+use Rattle.smi_text.proofs.Marks.{Takes-append}
 use Rattle.smi_text.proofs.Many.{reading-shorter, next-many, stuck-many, end-many, many-starts_with, with_front-append, with_front-none, with_front-end, with_front-nil}
 use Rattle.smi_text.proofs.Laws.{starts-with, some-inj}
 use Rattle.smi_text.proofs.Productions.{definition-law, head-law, module_text-law}
@@ -29,15 +30,15 @@ use Rattle.smi_text.proofs.DefinitionLists.{read-stands, read-label, stands-more
 
 -- definitions
 
-pub record HasRead (names : BTreeSet (Bor (List ℕ))) (defs : List Def) (from now : List Lexeme) : Type 0 where
+pub record HasRead (names : BTreeSet (Bor (List ℕ))) (defs : List Def) (from now : List Item) : Type 0 where
   pub bound : ℕ
   pub enough : length now ≤ bound
   pub left : with_front defs (read_many definition bound now) ≡ (many definition).read from
-  pub stands : Stands (flat_map of_def defs) from now
+  pub stands : Takes (flat_map of_def defs) from now
   pub named : (x : List ℕ) → has names x ≡ list_any (same_text x) (labels defs)
   pub distinct : are_distinct (labels defs) ≡ true
 
-pub has_read-start : (names : BTreeSet (Bor (List ℕ))) (defs : List Def) (ts : List Lexeme) → names.keys ≡ [] → defs ≡ [] → HasRead names defs ts ts
+pub has_read-start : (names : BTreeSet (Bor (List ℕ))) (defs : List Def) (ts : List Item) → names.keys ≡ [] → defs ≡ [] → HasRead names defs ts ts
 has_read-start names defs ts e d =
     let P : List Def → Type 0 = λ ds. HasRead names ds ts ts in
     subst P (sym d) (record {
@@ -49,7 +50,7 @@ has_read-start names defs ts e d =
       distinct = refl;
     })
 
-module _ (names : BTreeSet (Bor (List ℕ))) (defs : List Def) (from now : List Lexeme) (have : HasRead names defs from now) where
+module _ (names : BTreeSet (Bor (List ℕ))) (defs : List Def) (from now : List Item) (have : HasRead names defs from now) where
   pub has_read-done : begins definition.first now ≡ false → ReadsDefinitions defs from now
   has_read-done b = record {
     read = sym have.left ∙ ap (with_front defs) (end-many definition have.bound now b) ∙ with_front-end defs now;
@@ -59,7 +60,7 @@ module _ (names : BTreeSet (Bor (List ℕ))) (defs : List Def) (from now : List 
   pub has_read-stuck : begins definition.first now ≡ true → definition.read now ≡ None → (many definition).read from ≡ None
   has_read-stuck b e = sym have.left ∙ with_front-none defs _ (stuck-many definition have.bound now b e have.enough)
 
-  module _ (x : List ℕ) (d : Def) (rest : List Lexeme) (ahead : begins definition.first now ≡ true) (label : x ≡ text_ahead now) (read : definition.read now ≡ Some (d, rest)) where
+  module _ (x : List ℕ) (d : Def) (rest : List Item) (ahead : begins definition.first now ≡ true) (label : x ≡ text_ahead now) (read : definition.read now ≡ Some (d, rest)) where
     pub has_read-shorter : length rest < length now
     has_read-shorter = reading-shorter definition definition-law definition-solid d now rest read
 
@@ -78,56 +79,58 @@ module _ (names : BTreeSet (Bor (List ℕ))) (defs : List Def) (from now : List 
           distinct = distinct-more defs d have.distinct (ap (λ (z : List ℕ). list_any (same_text z) (labels defs)) same-label ∙ sym (have.named x) ∙ new);
         }
 
-    pub has_read-second : has names x ≡ true → HasSecond d.line from
+    pub has_read-second : has names x ≡ true → RepeatsIn d.line from
     has_read-second again = record {
       before = defs;
       once = have.distinct;
       second = d;
       rest = rest;
-      stands = Stands-append (flat_map of_def defs) (of_def d) from now rest have.stands (read-stands d now rest read);
+      stands = Takes-append (flat_map of_def defs) (of_def d) from now rest have.stands (read-stands d now rest read);
       defined = ap (λ (z : List ℕ). list_any (same_text z) (labels defs)) same-label ∙ sym (have.named x) ∙ again;
       on_line = refl;
     }
 
 -- a stop is a fault of the definitions
 
-pub definitions-stop : (stop : Stop) (ts : List Lexeme) → (is_memory stop ≡ false → (many definition).read ts ≡ None) → DefinitionsFault (error_of stop) ts
+pub definitions-stop : (stop : Stop) (ts : List Item) → (is_memory stop ≡ false → (many definition).read ts ≡ None) → DefinitionsFault (error_of stop) ts
 definitions-stop (S.Syntax line) ts h = h refl
+definitions-stop (S.Lex fault) ts h = h refl
 definitions-stop S.Memory ts h = tt
 
-pub module-stop : (stop : Stop) (ts : List Lexeme) → (is_memory stop ≡ false → module_text.read ts ≡ None) → ModuleFault (error_of stop) ts
+pub module-stop : (stop : Stop) (ts : List Item) → (is_memory stop ≡ false → module_text.read ts ≡ None) → ModuleFault (error_of stop) ts
 module-stop (S.Syntax line) ts h = h refl
+module-stop (S.Lex fault) ts h = h refl
 module-stop S.Memory ts h = tt
 
-pub modules-stop : (ts : List Lexeme) → ModulesFault (error_of S.Memory) ts
+pub modules-stop : (ts : List Item) → ModulesFault (error_of S.Memory) ts
 modules-stop ts = tt
 
 -- one module
 
-module _ (ts mid : List Lexeme) (h : Head) (read : head.read ts ≡ Some (h, mid)) where
+module _ (ts mid : List Item) (h : Head) (read : head.read ts ≡ Some (h, mid)) where
   pub module-defs : (error : ParseError) → DefinitionsFault error mid → ModuleFault error ts
   unfolding module_text shaped pair before lower
-  module-defs (E.Lex fault) f = absurd f
+  module-defs (E.Lex fault) f = rw (read, f) refl
   module-defs (E.Syntax line) f = rw (read, f) refl
   module-defs (E.DoubleName line) f = record {
     name = h.name;
     heading = h.heading;
     imports = h.imports;
     body = mid;
-    stands = let P : List Mark → Type 0 = λ ms. Stands ms ts mid in subst P (head-spells h.name h.heading h.imports) (head-law.takes ts mid h read);
+    stands = let P : List Mark → Type 0 = λ ms. Takes ms ts mid in subst P (head-spells h.name h.heading h.imports) (head-law.takes ts mid h read);
     twice = f;
   }
   module-defs E.Memory f = tt
 
-  pub module-no_end : (defs : List Def) (rest : List Lexeme) → (many definition).read mid ≡ Some (defs, rest) → (word (codes "END")).read rest ≡ None → module_text.read ts ≡ None
+  pub module-no_end : (defs : List Def) (rest : List Item) → (many definition).read mid ≡ Some (defs, rest) → (word (codes "END")).read rest ≡ None → module_text.read ts ≡ None
   unfolding module_text shaped pair before lower
   module-no_end defs rest d e = rw (read, d, e) refl
 
-  pub module-reads : (defs : List Def) (rest after : List Lexeme) → ReadsDefinitions defs mid rest → (word (codes "END")).read rest ≡ Some (tt, after) → ReadsModule (record { name = h.name; heading = h.heading; imports = h.imports; defs = defs }) ts after
+  pub module-reads : (defs : List Def) (rest after : List Item) → ReadsDefinitions defs mid rest → (word (codes "END")).read rest ≡ Some (tt, after) → ReadsModule (record { name = h.name; heading = h.heading; imports = h.imports; defs = defs }) ts after
   unfolding module_text shaped pair before lower
   module-reads defs rest after d e = record { read = rw (read, d.read, e) refl; distinct = d.distinct }
 
-pub module-no_head : (ts : List Lexeme) → head.read ts ≡ None → module_text.read ts ≡ None
+pub module-no_head : (ts : List Item) → head.read ts ≡ None → module_text.read ts ≡ None
 unfolding module_text shaped pair before lower
 module-no_head ts e = rw e refl
 
@@ -137,14 +140,14 @@ none-begin : (cs : List Ahead) → begins cs [] ≡ false
 unfolding begins
 none-begin cs = refl
 
-pub record HasModules (ms : List Module) (from now : List Lexeme) : Type 0 where
+pub record HasModules (ms : List Module) (from now : List Item) : Type 0 where
   pub bound : ℕ
   pub enough : length now ≤ bound
   pub left : with_front ms (read_many module_text bound now) ≡ file.read from
-  pub stands : Stands (spelling ms) from now
+  pub stands : Takes (spelling ms) from now
   pub distinct : HasNoDoubles ms
 
-pub has_modules-start : (ms : List Module) (ts : List Lexeme) → ms ≡ [] → HasModules ms ts ts
+pub has_modules-start : (ms : List Module) (ts : List Item) → ms ≡ [] → HasModules ms ts ts
 unfolding file
 has_modules-start ms ts e =
     let P : List Module → Type 0 = λ us. HasModules us ts ts in
@@ -156,17 +159,17 @@ has_modules-start ms ts e =
       distinct = refl;
     })
 
-module _ (ms : List Module) (from now : List Lexeme) (have : HasModules ms from now) where
+module _ (ms : List Module) (from now : List Item) (have : HasModules ms from now) where
   pub has_modules-done : now ≡ [] → ReadsModules ms from
   has_modules-done e = record {
-    read = sym have.left ∙ ap (with_front ms) (end-many module_text have.bound now (rw e (none-begin module_text.first))) ∙ with_front-end ms now ∙ ap (λ (us : List Lexeme). Some (ms, us)) e;
+    read = sym have.left ∙ ap (with_front ms) (end-many module_text have.bound now (rw e (none-begin module_text.first))) ∙ with_front-end ms now ∙ ap (λ (us : List Item). Some (ms, us)) e;
     distinct = have.distinct;
   }
 
-  pub has_modules-shorter : (m : Module) (rest : List Lexeme) → ReadsModule m now rest → length rest < length now
+  pub has_modules-shorter : (m : Module) (rest : List Item) → ReadsModule m now rest → length rest < length now
   has_modules-shorter m rest r = reading-shorter module_text module_text-law module_text-solid m now rest r.read
 
-  pub has_modules-next : (m : Module) (rest : List Lexeme) → ReadsModule m now rest → HasModules (ms ++ m ∷ []) from rest
+  pub has_modules-next : (m : Module) (rest : List Item) → ReadsModule m now rest → HasModules (ms ++ m ∷ []) from rest
   has_modules-next m rest r =
       let ahead = starts-with module_text module_text-law module_text-solid m now rest (module_text-law.takes now rest m r.read) in
       let step = next-many module_text have.bound m now rest ahead r.read have.enough (has_modules-shorter m rest r) in
@@ -184,11 +187,11 @@ module _ (ms : List Module) (from now : List Lexeme) (have : HasModules ms from 
         | true ↦ λ b. cc (h, sym have.left ∙ with_front-none ms _ (stuck-many module_text have.bound now b e have.enough))
         | false ↦ λ b.
             let k = sym have.left ∙ ap (with_front ms) (end-many module_text have.bound now b) ∙ with_front-end ms now in
-            some (ap (λ (p : List Module × List Lexeme). p.1) (some-inj {A = List Module × List Lexeme} (ms, now) (us, []) (sym k ∙ h)))
+            some (ap (λ (p : List Module × List Item). p.1) (some-inj {A = List Module × List Item} (ms, now) (us, []) (sym k ∙ h)))
       ] refl
 
   pub has_modules-fault : (error : ParseError) → (now ≡ [] → ⊥) → ModuleFault error now → ModulesFault error from
-  has_modules-fault (E.Lex fault) some f = absurd f
+  has_modules-fault (E.Lex fault) some f = stuck f some
   has_modules-fault (E.Syntax line) some f = stuck f some
   has_modules-fault (E.DoubleName line) some f = record {
     modules = ms;
@@ -197,7 +200,7 @@ module _ (ms : List Module) (from now : List Lexeme) (have : HasModules ms from 
     heading = f.heading;
     imports = f.imports;
     body = f.body;
-    stands = Stands-append (spelling ms) (of_head f.name f.heading f.imports) from now f.body have.stands f.stands;
+    stands = Takes-append (spelling ms) (of_head f.name f.heading f.imports) from now f.body have.stands f.stands;
     twice = f.twice;
   }
   has_modules-fault E.Memory some f = tt

@@ -11,6 +11,7 @@ pub mod Spells
 pub mod DefinitionLists
 pub mod FileSteps
 pub mod Doubles
+pub mod Tokens
 pub mod Braces
 pub mod Fronts
 pub mod Lines

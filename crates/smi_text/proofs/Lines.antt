@@ -2,7 +2,7 @@
 use Rattle.std.proofs.Common.{◌≡◌, ℕ, Bool, true, false, not, List, [], ◌∷◌, ◌++◌, Option, Some, None, if◌then◌else◌, refl, sym, ◌∙◌, ap, subst}
 use Rattle.std.specs.Prelude.{codes, map, option_map}
 use Rattle.std.specs.List.{flat_map}
-use Rattle.smi_lexer.specs.Token.{Lexeme}
+use Rattle.smi_lexer.specs.Token.{Lexeme, Item}
 use Rattle.smi_lexer.specs.declared.token.TokenKind.{TokenKind}
 use Rattle.smi_lexer.specs.declared.token.TokenKind.TheVariants as K
 use Rattle.smi_module.specs.Mark.{Mark, sign, spelled, on_line, Fits, Stands}
@@ -41,7 +41,7 @@ use Rattle.smi_module.specs.declared.tree.Refinement.{Refinement}
 use Rattle.smi_module.specs.declared.tree.Refinement.TheVariants as R
 use Rattle.smi_module.specs.declared.tree.Range.{Range}
 use Rattle.smi_text.proofs.Laws.{some-inj}
-use Rattle.smi_text.proofs.DefinitionLists.{file-reads}
+use Rattle.smi_text.proofs.Tokens.{tokens-read}
 
 -- the mark with 0 in the place of its line
 abbrev zeroed : Mark → Mark
@@ -308,5 +308,5 @@ unlined-stands ms ts h = subst (λ marks. Stands marks (map first_line ts) []) (
 
 pub same_but_lines : (ms ns : List Module) (ts : List Lexeme) → Stands (map plain (say.spelling ms)) ts [] → Stands (map plain (say.spelling ns)) ts [] → map unlined ms ≡ map unlined ns
 same_but_lines ms ns ts h k =
-    ap (λ (p : List Module × List Lexeme). p.0) (some-inj {A = List Module × List Lexeme} (map unlined ms, []) (map unlined ns, [])
-    (sym (file-reads (map unlined ms) (map first_line ts) (unlined-stands ms ts h)) ∙ file-reads (map unlined ns) (map first_line ts) (unlined-stands ns ts k)))
+    ap (λ (p : List Module × List Item). p.0) (some-inj {A = List Module × List Item} (map unlined ms, []) (map unlined ns, [])
+    (sym (tokens-read (map unlined ms) (map first_line ts) (unlined-stands ms ts h)) ∙ tokens-read (map unlined ns) (map first_line ts) (unlined-stands ns ts k)))

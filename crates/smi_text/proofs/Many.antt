@@ -1,38 +1,40 @@
 -- Readings of any number of one part.
-use Rattle.std.proofs.Common.{◌≡◌, ℕ, zero, suc, ◌+◌, ◌<◌, ◌≤◌, true, false, List, [], ◌∷◌, ◌++◌, length, Some, None, if◌then◌else◌, option_map, option_and_then, refl, sym, ◌∙◌, ap, subst, arith, inl, inr, append_assoc, append-nil}
-use Rattle.smi_lexer.specs.Token.{Lexeme}
-use Rattle.smi_module.specs.Mark.{Mark, Stands}
+use Rattle.std.proofs.Common.{◌≡◌, ℕ, zero, suc, ◌+◌, ◌<◌, ◌≤◌, true, false, List, [], ◌∷◌, ◌++◌, length, Some, None, Ok, Err, if◌then◌else◌, option_map, option_and_then, refl, sym, ◌∙◌, ap, subst, arith, inl, inr, append_assoc, append-nil}
+use Rattle.smi_lexer.specs.Token.{Item}
+use Rattle.smi_module.specs.Mark.{Mark}
+use Rattle.smi_text.specs.Format.{Takes}
 use Rattle.smi_text.specs.Format.{Format, Reading, begins, read_many, many, with_front}
 use Rattle.smi_text.proofs.Lawful.{Lawful}
 
 -- tokens that are spelled by no mark are the rest; else the rest is shorter
-pub Stands-length : (ms : List Mark) (ts rest : List Lexeme) → Stands ms ts rest → length ts ≡ length ms + length rest
-Stands-length [] ts rest h = ap length h ∙ omega arith
-Stands-length (m ∷ ms) [] rest h = absurd h
-Stands-length (m ∷ ms) (t ∷ ts) rest h = omega (arith, Stands-length ms ts rest h.1)
+pub Takes-length : (ms : List Mark) (ts rest : List Item) → Takes ms ts rest → length ts ≡ length ms + length rest
+Takes-length [] ts rest h = ap length h ∙ omega arith
+Takes-length (m ∷ ms) [] rest h = absurd h
+Takes-length (m ∷ ms) (Err f ∷ ts) rest h = absurd h
+Takes-length (m ∷ ms) (Ok t ∷ ts) rest h = omega (arith, Takes-length ms ts rest h.1)
 
 begins-nil : {A : Type 0} (f : Format A) → begins f.first [] ≡ false
 unfolding begins
 begins-nil f = refl
 
-pub shorter : {A : Type 0} (f : Format A) → Lawful f → f.empty ≡ false → (x : A) (ts rest : List Lexeme) → Stands (f.spell x) ts rest → length rest < length ts
+pub shorter : {A : Type 0} (f : Format A) → Lawful f → f.empty ≡ false → (x : A) (ts rest : List Item) → Takes (f.spell x) ts rest → length rest < length ts
 shorter f law solid x ts rest h =
     elim (f.spell x) as (λ ms. f.spell x ≡ ms → length rest < length ts) [
-      | [] ↦ λ e. elim (law.starts x [] [] (let P : List Mark → Type 0 = λ ms. Stands ms [] [] in subst P (sym e) refl)) [
+      | [] ↦ λ e. elim (law.starts x [] [] (let P : List Mark → Type 0 = λ ms. Takes ms [] [] in subst P (sym e) refl)) [
         | inl b ↦ absurd (cc (begins-nil f))
         | inr b ↦ absurd (cc (b.0))
       ]
-      | (m ∷ ms) ↦ λ e. omega (arith, Stands-length (f.spell x) ts rest h, ap length e)
+      | (m ∷ ms) ↦ λ e. omega (arith, Takes-length (f.spell x) ts rest h, ap length e)
     ] refl
 
-pub reading-shorter : {A : Type 0} (f : Format A) → Lawful f → f.empty ≡ false → (x : A) (ts rest : List Lexeme) → f.read ts ≡ Some (x, rest) → length rest < length ts
+pub reading-shorter : {A : Type 0} (f : Format A) → Lawful f → f.empty ≡ false → (x : A) (ts rest : List Item) → f.read ts ≡ Some (x, rest) → length rest < length ts
 reading-shorter f law solid x ts rest h = shorter f law solid x ts rest (law.takes ts rest x h)
 
-abbrev put_one : {A : Type 0} → Format A → ℕ → A × List Lexeme → Reading (List A)
+abbrev put_one : {A : Type 0} → Format A → ℕ → A × List Item → Reading (List A)
 put_one f n p = option_map (λ q. (p.0 ∷ q.0, q.1)) (read_many f n p.1)
 
 -- a longer bound reads the same
-enough : {A : Type 0} (f : Format A) → Lawful f → f.empty ≡ false → (n m : ℕ) (ts : List Lexeme) → length ts ≤ n → length ts ≤ m → read_many f n ts ≡ read_many f m ts
+enough : {A : Type 0} (f : Format A) → Lawful f → f.empty ≡ false → (n m : ℕ) (ts : List Item) → length ts ≤ n → length ts ≤ m → read_many f n ts ≡ read_many f m ts
 unfolding read_many begins
 enough f law solid zero zero ts h k = refl
 enough f law solid zero (suc m) [] h k = refl
@@ -47,25 +49,25 @@ enough {A} f law solid (suc n) (suc m) (t ∷ ts) h k =
       | None ↦ λ e. refl
       | Some p ↦ λ e.
           let s : length p.1 < length (t ∷ ts) = reading-shorter f law solid p.0 (t ∷ ts) p.1 e in
-          ap (λ (r : Reading (List A)). option_map (λ (q : List A × List Lexeme). (p.0 ∷ q.0, q.1)) r) (enough f law solid n m p.1 (omega arith) (omega arith))
+          ap (λ (r : Reading (List A)). option_map (λ (q : List A × List Item). (p.0 ∷ q.0, q.1)) r) (enough f law solid n m p.1 (omega arith) (omega arith))
     ] refl)
 
 -- where the part begins and is not read, nor are several
-pub many-fails : {A : Type 0} (f : Format A) (ts : List Lexeme) → begins f.first ts ≡ true → f.read ts ≡ None → (many f).read ts ≡ None
+pub many-fails : {A : Type 0} (f : Format A) (ts : List Item) → begins f.first ts ≡ true → f.read ts ≡ None → (many f).read ts ≡ None
 unfolding many read_many begins
 many-fails f [] b e = absurd (cc)
 many-fails f (t ∷ ts) b e = rw (b, e) refl
 
 -- a part that is read goes before the others
-pub many-goes_on : {A : Type 0} (f : Format A) → Lawful f → f.empty ≡ false → (x : A) (ts rest : List Lexeme) → begins f.first ts ≡ true → f.read ts ≡ Some (x, rest) → (many f).read ts ≡ with_front (x ∷ []) ((many f).read rest)
+pub many-goes_on : {A : Type 0} (f : Format A) → Lawful f → f.empty ≡ false → (x : A) (ts rest : List Item) → begins f.first ts ≡ true → f.read ts ≡ Some (x, rest) → (many f).read ts ≡ with_front (x ∷ []) ((many f).read rest)
 unfolding many read_many begins with_front
 many-goes_on f law solid x [] rest b e = absurd (cc)
 many-goes_on {A} f law solid x (t ∷ ts) rest b e =
     let s : length rest < length (t ∷ ts) = reading-shorter f law solid x (t ∷ ts) rest e in
-    rw (b, e) (ap (λ (r : Reading (List A)). option_map (λ (q : List A × List Lexeme). (x ∷ q.0, q.1)) r) (enough f law solid (length ts) (length rest) rest (omega arith) (omega arith)))
+    rw (b, e) (ap (λ (r : Reading (List A)). option_map (λ (q : List A × List Item). (x ∷ q.0, q.1)) r) (enough f law solid (length ts) (length rest) rest (omega arith) (omega arith)))
 
 -- where the part does not begin, there are none
-pub many-done : {A : Type 0} (f : Format A) (ts : List Lexeme) → begins f.first ts ≡ false → (many f).read ts ≡ Some ([], ts)
+pub many-done : {A : Type 0} (f : Format A) (ts : List Item) → begins f.first ts ≡ false → (many f).read ts ≡ Some ([], ts)
 unfolding many read_many begins
 many-done f [] b = refl
 many-done f (t ∷ ts) b = rw b refl
@@ -79,7 +81,7 @@ pub with_front-none : {A : Type 0} (xs : List A) (r : Reading (List A)) → r �
 unfolding with_front
 with_front-none xs r e = rw e refl
 
-pub with_front-end : {A : Type 0} (xs : List A) (ts : List Lexeme) → with_front xs (Some ([], ts)) ≡ Some (xs, ts)
+pub with_front-end : {A : Type 0} (xs : List A) (ts : List Item) → with_front xs (Some ([], ts)) ≡ Some (xs, ts)
 unfolding with_front
 with_front-end {A} xs ts = ap (λ (zs : List A). Some (zs, ts)) (append-nil xs)
 
@@ -89,23 +91,23 @@ with_front-nil None = refl
 with_front-nil (Some p) = refl
 
 -- one step of a loop that reads several parts: what is left to read, and a bound that is enough for it
-pub next-many : {A : Type 0} (f : Format A) (n : ℕ) (x : A) (ts rest : List Lexeme) → begins f.first ts ≡ true → f.read ts ≡ Some (x, rest) → length ts ≤ n → length rest < length ts
+pub next-many : {A : Type 0} (f : Format A) (n : ℕ) (x : A) (ts rest : List Item) → begins f.first ts ≡ true → f.read ts ≡ Some (x, rest) → length ts ≤ n → length rest < length ts
     → (m : ℕ) × (length rest ≤ m) × (read_many f n ts ≡ with_front (x ∷ []) (read_many f m rest))
 unfolding read_many with_front
 next-many f zero x ts rest b e h k = absurd (omega arith)
 next-many f (suc m) x ts rest b e h k = (m, omega arith, rw (b, e) refl)
 
-pub stuck-many : {A : Type 0} (f : Format A) (n : ℕ) (ts : List Lexeme) → begins f.first ts ≡ true → f.read ts ≡ None → length ts ≤ n → read_many f n ts ≡ None
+pub stuck-many : {A : Type 0} (f : Format A) (n : ℕ) (ts : List Item) → begins f.first ts ≡ true → f.read ts ≡ None → length ts ≤ n → read_many f n ts ≡ None
 unfolding read_many begins
 stuck-many f n [] b e h = absurd (cc)
 stuck-many f zero (t ∷ ts) b e h = absurd (omega arith)
 stuck-many f (suc m) (t ∷ ts) b e h = rw (b, e) refl
 
-pub end-many : {A : Type 0} (f : Format A) (n : ℕ) (ts : List Lexeme) → begins f.first ts ≡ false → read_many f n ts ≡ Some ([], ts)
+pub end-many : {A : Type 0} (f : Format A) (n : ℕ) (ts : List Item) → begins f.first ts ≡ false → read_many f n ts ≡ Some ([], ts)
 unfolding read_many
 end-many f zero ts b = refl
 end-many f (suc m) ts b = rw b refl
 
-pub many-starts_with : {A : Type 0} (f : Format A) (ts : List Lexeme) → (many f).read ts ≡ read_many f (length ts) ts
+pub many-starts_with : {A : Type 0} (f : Format A) (ts : List Item) → (many f).read ts ≡ read_many f (length ts) ts
 unfolding many
 many-starts_with f ts = refl

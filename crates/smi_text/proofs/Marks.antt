@@ -1,11 +1,12 @@
 -- Marks, kinds and texts: what the tests of tokens mean.
-use Rattle.std.proofs.Common.{◌≡◌, ℕ, Bool, true, false, ◌&&◌, ◌||◌, not, List, [], ◌∷◌, ◌++◌, Option, Some, None, refl, sym, ◌∙◌, ap, subst, arith, inl, inr, ◌⊎◌, get_or, eq-eqb}
+use Rattle.std.proofs.Common.{◌≡◌, ℕ, Bool, true, false, ◌&&◌, ◌||◌, not, List, [], ◌∷◌, ◌++◌, Option, Some, None, Ok, Err, refl, sym, ◌∙◌, ap, subst, arith, inl, inr, ◌⊎◌, get_or, eq-eqb}
 use Rattle.std.specs.Prelude.{option_map, option_and_then, ◌==◌}
 use Rattle.std.specs.List.{list_any, list_all}
 use Rattle.smi_lexer.specs.declared.token.TokenKind.{TokenKind}
 use Rattle.smi_lexer.specs.declared.token.TokenKind.TheVariants.{Lower, Upper, Number, Text, Hex, Binary, Assign, Range, OpenBrace, CloseBrace, OpenParen, CloseParen, OpenBracket, CloseBracket, Less, Greater, Comma, Semicolon, Colon, Bar, Dot, Equals}
-use Rattle.smi_lexer.specs.Token.{Lexeme}
-use Rattle.smi_module.specs.Mark.{Mark, kind_number, same_kind, same_text, Stands}
+use Rattle.smi_lexer.specs.Token.{Lexeme, Item}
+use Rattle.smi_module.specs.Mark.{Mark, kind_number, same_kind, same_text}
+use Rattle.smi_text.specs.Format.{Takes}
 use Rattle.smi_module.specs.Reserved.{is_reserved}
 use Rattle.smi_text.specs.Format.{Ahead, a_word, a_name, a_kind, no_word, no_kind, is_this_word, meets, begins, half_apart, apart}
 
@@ -100,16 +101,18 @@ same_text-same (a ∷ x) = and-both (a == a) (same_text x x) (eqb-same a) (same_
 
 -- marks one after the other
 
-pub Stands-append : (xs ys : List Mark) (ts mid rest : List Lexeme) → Stands xs ts mid → Stands ys mid rest → Stands (xs ++ ys) ts rest
-Stands-append [] ys ts mid rest h k = let P : List Lexeme → Type 0 = λ us. Stands ys us rest in subst P (sym h) k
-Stands-append (x ∷ xs) ys [] mid rest h k = absurd h
-Stands-append (x ∷ xs) ys (t ∷ ts) mid rest h k = (h.0, Stands-append xs ys ts mid rest h.1 k)
+pub Takes-append : (xs ys : List Mark) (ts mid rest : List Item) → Takes xs ts mid → Takes ys mid rest → Takes (xs ++ ys) ts rest
+Takes-append [] ys ts mid rest h k = let P : List Item → Type 0 = λ us. Takes ys us rest in subst P (sym h) k
+Takes-append (x ∷ xs) ys [] mid rest h k = absurd h
+Takes-append (x ∷ xs) ys (Err f ∷ ts) mid rest h k = absurd h
+Takes-append (x ∷ xs) ys (Ok t ∷ ts) mid rest h k = (h.0, Takes-append xs ys ts mid rest h.1 k)
 
-pub Stands-split : (xs ys : List Mark) (ts rest : List Lexeme) → Stands (xs ++ ys) ts rest → (mid : List Lexeme) × Stands xs ts mid × Stands ys mid rest
-Stands-split [] ys ts rest h = (ts, refl, h)
-Stands-split (x ∷ xs) ys [] rest h = absurd h
-Stands-split (x ∷ xs) ys (t ∷ ts) rest h =
-    let r = Stands-split xs ys ts rest h.1 in
+pub Takes-split : (xs ys : List Mark) (ts rest : List Item) → Takes (xs ++ ys) ts rest → (mid : List Item) × Takes xs ts mid × Takes ys mid rest
+Takes-split [] ys ts rest h = (ts, refl, h)
+Takes-split (x ∷ xs) ys [] rest h = absurd h
+Takes-split (x ∷ xs) ys (Err f ∷ ts) rest h = absurd h
+Takes-split (x ∷ xs) ys (Ok t ∷ ts) rest h =
+    let r = Takes-split xs ys ts rest h.1 in
     (r.0, (h.0, r.1), r.2)
 
 -- readings
@@ -133,15 +136,17 @@ any-append t [] ds = refl
 any-append t (c ∷ cs) ds =
     ap (λ (b : Bool). meets t c || b) (any-append t cs ds) ∙ or-assoc (meets t c) (list_any (meets t) cs) (list_any (meets t) ds)
 
-pub begins-append : (cs ds : List Ahead) (ts : List Lexeme) → begins (cs ++ ds) ts ≡ (begins cs ts || begins ds ts)
+pub begins-append : (cs ds : List Ahead) (ts : List Item) → begins (cs ++ ds) ts ≡ (begins cs ts || begins ds ts)
 unfolding begins
 begins-append cs ds [] = refl
-begins-append cs ds (t ∷ ts) = any-append t cs ds
+begins-append cs ds (Err f ∷ ts) = refl
+begins-append cs ds (Ok t ∷ ts) = any-append t cs ds
 
-pub begins-none : (ts : List Lexeme) → begins [] ts ≡ false
+pub begins-none : (ts : List Item) → begins [] ts ≡ false
 unfolding begins
 begins-none [] = refl
-begins-none (t ∷ ts) = refl
+begins-none (Err f ∷ ts) = refl
+begins-none (Ok t ∷ ts) = refl
 
 true-not : (b : Bool) → not b ≡ true → b ≡ true → ⊥
 true-not true h k = cc
@@ -201,10 +206,11 @@ module _ (t : Lexeme) where
       ]
 
 -- a token that begins one of these begins none of those
-pub apart-sound : (cs ds : List Ahead) (ts : List Lexeme) → apart cs ds ≡ true → begins cs ts ≡ true → begins ds ts ≡ true → ⊥
+pub apart-sound : (cs ds : List Ahead) (ts : List Item) → apart cs ds ≡ true → begins cs ts ≡ true → begins ds ts ≡ true → ⊥
 unfolding begins
 apart-sound cs ds [] a h k = cc
-apart-sound cs ds (t ∷ ts) a h k = lists-sound t cs ds a h k
+apart-sound cs ds (Err f ∷ ts) a h k = cc
+apart-sound cs ds (Ok t ∷ ts) a h k = lists-sound t cs ds a h k
 
-pub apart-false : (cs ds : List Ahead) (ts : List Lexeme) → apart cs ds ≡ true → begins ds ts ≡ true → begins cs ts ≡ false
+pub apart-false : (cs ds : List Ahead) (ts : List Item) → apart cs ds ≡ true → begins ds ts ≡ true → begins cs ts ≡ false
 apart-false cs ds ts a k = false-from (begins cs ts) (λ h. apart-sound cs ds ts a h k)

@@ -1,18 +1,19 @@
 -- The productions of the grammar are lawful.
-use Rattle.std.proofs.Common.{◌≡◌, ℕ, zero, suc, ◌≤◌, Bool, true, false, ◌&&◌, ◌||◌, not, List, [], ◌∷◌, ◌++◌, length, Option, Some, None, if◌then◌else◌, refl, sym, ◌∙◌, ap, subst, arith, inl, inr, ◌⊎◌}
+use Rattle.std.proofs.Common.{◌≡◌, ℕ, zero, suc, ◌≤◌, Bool, true, false, ◌&&◌, ◌||◌, not, List, [], ◌∷◌, ◌++◌, length, Option, Some, None, Ok, Err, if◌then◌else◌, refl, sym, ◌∙◌, ap, subst, arith, inl, inr, ◌⊎◌}
 use Rattle.std.specs.Prelude.{◌==◌, codes, map, option_map, option_and_then}
 use Rattle.std.specs.List.{list_any, list_all}
 use Rattle.smi_lexer.specs.declared.token.TokenKind.{TokenKind}
 use Rattle.smi_lexer.specs.declared.token.TokenKind.TheVariants as K
-use Rattle.smi_lexer.specs.Token.{Lexeme}
-use Rattle.smi_module.specs.Mark.{Mark, sign, spelled, on_line, same_kind, same_text, Stands}
+use Rattle.smi_lexer.specs.Token.{Lexeme, Item}
+use Rattle.smi_module.specs.Mark.{Mark, sign, spelled, on_line, same_kind, same_text}
+use Rattle.smi_text.specs.Format.{Takes}
 use Rattle.smi_module.specs.Reserved.{is_reserved, macros, reserved_words}
 use Rattle.smi_module.specs.Number.{is_arc, is_number, is_bound, is_symbol, is_macro, is_literal}
 use Rattle.smi_text.specs.Format.{Format, Reading, Ahead, a_word, a_name, a_kind, no_word, no_kind, meets, apart, never, begins, spell_pieces, before, begins, behind, either, lined, many, maybe, name, pair, separated, shaped, some_of, text, text_where, token, with_front, word, lower}
 use Rattle.smi_text.specs.Grammar.{index_marks, parts_of, implied_name, kept, kept_text, macro_words, to_named_number, from_named_number, to_part, from_part, to_later_part, from_later_part, to_range, from_range, to_refinement, from_refinement, to_base, from_base, to_simple_type, from_simple_type, to_syntax, from_syntax, to_field, from_field, to_status, from_status, to_revision, from_revision, to_index, from_index, depth_after, is_outside, raw_marks, to_module_identity, from_module_identity, to_object_identity, from_object_identity, to_object_type, from_object_type, to_notification_type, from_notification_type, to_group, from_group, to_raw_definition, from_raw_definition, to_textual_convention, from_textual_convention, Lower, to_lower, from_lower, Assigned, to_assigned, from_assigned, from_type, to_macro, from_macro, to_upper, from_upper, Labelled, to_def, from_def, def_pieces, to_import, from_import, to_head, from_head, to_module, from_module, head_of, arc, assigned, balanced, base, before_assign, before_end, bound, braced, choice, clause, default_value, definition, field, file, group, head, heading, identifier, import_clause, imports, index, index_names, is_balanced, later_part, lower_definition, macro_body, macro_definition, macro_name, module_identity, module_text, named_number, names, notification_type, object_identifier, object_identifier_words, object_identity, object_type, objects, octet_string_words, of_row, opening, parenthesized, part, range, ranges, raw_definition, read_balanced, read_index, refinement, revision, sequence, simple_type, size, status, symbol, syntax_clause, syntax_type, tag, tagged, textual_convention, upper_definition, value, with_names}
 use Rattle.smi_text.proofs.Lawful.{Lawful}
-use Rattle.smi_text.proofs.Marks.{and-left, and-right, and-both, or-cases, or-left, or-right, or-false, false-from, same_text-eq, Stands-append, Stands-split, begins-none, begins-append, map-inv, then-inv}
-use Rattle.smi_text.proofs.Many.{Stands-length}
+use Rattle.smi_text.proofs.Marks.{and-left, and-right, and-both, or-cases, or-left, or-right, or-false, false-from, same_text-eq, Takes-append, Takes-split, begins-none, begins-append, map-inv, then-inv}
+use Rattle.smi_text.proofs.Many.{Takes-length}
 use Rattle.smi_text.proofs.Laws.{IsOne, some-inj, if-some, if-true, any-one, never-stands, one-law, word-law, token-law, text-law, text_where-law, name_where-law, lower-law, name-law, pair-law, behind-law, before-law, maybe-law, either-law, many-law, shaped-law, lined-law, starts-with}
 use Rattle.smi_module.specs.declared.tree.TokenText.{TokenText}
 use Rattle.smi_module.specs.declared.names.Name.{Name}
@@ -76,12 +77,12 @@ module _ {A : Type 0} (f g : Format A) (f-law : Lawful f) (g-law : Lawful g) (f-
       shaped-law (λ (p : A × List A). p.0 ∷ p.1) head_and_tail (pair f (many g)) (pair-law f (many g) f-law (many-law g g-law g-solid near) far)
       (λ x ts rest h. refl) uncons
 
-  as_pair-read : (ts : List Lexeme) → (some_of f g).read ts ≡ (as_pair f g).read ts
+  as_pair-read : (ts : List Item) → (some_of f g).read ts ≡ (as_pair f g).read ts
   unfolding as_pair some_of with_front shaped pair
   as_pair-read ts =
-      elim (f.read ts) as (λ r. option_and_then (λ (p : A × List Lexeme). with_front (p.0 ∷ []) ((many g).read p.1)) r ≡ option_map (λ (w : (A × List A) × List Lexeme). (w.0.0 ∷ w.0.1, w.1)) (option_and_then (λ (p : A × List Lexeme). option_map (λ (q : List A × List Lexeme). ((p.0, q.0), q.1)) ((many g).read p.1)) r)) [
+      elim (f.read ts) as (λ r. option_and_then (λ (p : A × List Item). with_front (p.0 ∷ []) ((many g).read p.1)) r ≡ option_map (λ (w : (A × List A) × List Item). (w.0.0 ∷ w.0.1, w.1)) (option_and_then (λ (p : A × List Item). option_map (λ (q : List A × List Item). ((p.0, q.0), q.1)) ((many g).read p.1)) r)) [
         | None ↦ refl
-        | Some p ↦ elim ((many g).read p.1) as (λ r. with_front (p.0 ∷ []) r ≡ option_map (λ (w : (A × List A) × List Lexeme). (w.0.0 ∷ w.0.1, w.1)) (option_map (λ (q : List A × List Lexeme). ((p.0, q.0), q.1)) r)) [ None ↦ refl | Some q ↦ refl ]
+        | Some p ↦ elim ((many g).read p.1) as (λ r. with_front (p.0 ∷ []) r ≡ option_map (λ (w : (A × List A) × List Item). (w.0.0 ∷ w.0.1, w.1)) (option_map (λ (q : List A × List Item). ((p.0, q.0), q.1)) r)) [ None ↦ refl | Some q ↦ refl ]
       ]
 
   as_pair-spell : (xs : List A) → (some_of f g).spell xs ≡ (as_pair f g).spell xs
@@ -89,20 +90,20 @@ module _ {A : Type 0} (f g : Format A) (f-law : Lawful f) (g-law : Lawful g) (f-
   as_pair-spell [] = refl
   as_pair-spell (x ∷ xs) = refl
 
-  as_pair-stop : (rest : List Lexeme) → begins (some_of f g).stop rest ≡ begins (as_pair f g).stop rest
+  as_pair-stop : (rest : List Item) → begins (some_of f g).stop rest ≡ begins (as_pair f g).stop rest
   unfolding as_pair some_of shaped pair many
   as_pair-stop rest = refl
 
-  as_pair-starts : (ts rest : List Lexeme) → (begins (as_pair f g).first ts ≡ true) ⊎ (((as_pair f g).empty ≡ true) × (ts ≡ rest)) → begins (some_of f g).first ts ≡ true
+  as_pair-starts : (ts rest : List Item) → (begins (as_pair f g).first ts ≡ true) ⊎ (((as_pair f g).empty ≡ true) × (ts ≡ rest)) → begins (some_of f g).first ts ≡ true
   unfolding as_pair some_of shaped pair many
   as_pair-starts ts rest (inl b) = let e = rw f-solid at b in e
   as_pair-starts ts rest (inr p) = absurd (let e = rw f-solid at p.0 in cc)
 
   pub some_of-law : Lawful (some_of f g)
   some_of-law = record {
-    takes = λ ts rest xs h. let P : List Mark → Type 0 = λ ms. Stands ms ts rest in subst P (sym (as_pair-spell xs)) (as_pair-law.takes ts rest xs (sym (as_pair-read ts) ∙ h));
-    again = λ xs ts rest h s. let P : List Mark → Type 0 = λ ms. Stands ms ts rest in as_pair-read ts ∙ as_pair-law.again xs ts rest (subst P (as_pair-spell xs) h) (sym (as_pair-stop rest) ∙ s);
-    starts = λ xs ts rest h. let P : List Mark → Type 0 = λ ms. Stands ms ts rest in inl (as_pair-starts ts rest (as_pair-law.starts xs ts rest (subst P (as_pair-spell xs) h)));
+    takes = λ ts rest xs h. let P : List Mark → Type 0 = λ ms. Takes ms ts rest in subst P (sym (as_pair-spell xs)) (as_pair-law.takes ts rest xs (sym (as_pair-read ts) ∙ h));
+    again = λ xs ts rest h s. let P : List Mark → Type 0 = λ ms. Takes ms ts rest in as_pair-read ts ∙ as_pair-law.again xs ts rest (subst P (as_pair-spell xs) h) (sym (as_pair-stop rest) ∙ s);
+    starts = λ xs ts rest h. let P : List Mark → Type 0 = λ ms. Takes ms ts rest in inl (as_pair-starts ts rest (as_pair-law.starts xs ts rest (subst P (as_pair-spell xs) h)));
   }
 
 pub separated-law : {A : Type 0} (k : TokenKind) (f : Format A) → Lawful f → f.empty ≡ false → apart f.stop (a_kind k ∷ []) ≡ true → Lawful (separated k f)
@@ -336,40 +337,41 @@ implied_name-law : Lawful implied_name
 unfolding behind word text lower
 implied_name-law = behind-law (word (codes "IMPLIED")) lower (word-law (codes "IMPLIED")) lower-law refl refl
 
-stands-lower : (ts rest : List Lexeme) (x : Name) → lower.read ts ≡ Some (x, rest) → Stands (spelled K.Lower x.octets true ∷ []) ts rest
+stands-lower : (ts rest : List Item) (x : Name) → lower.read ts ≡ Some (x, rest) → Takes (spelled K.Lower x.octets true ∷ []) ts rest
 unfolding lower
 stands-lower ts rest x h = lower-law.takes ts rest x h
 
-read-lower : (ts rest : List Lexeme) (x : Name) → Stands (spelled K.Lower x.octets true ∷ []) ts rest → lower.read ts ≡ Some (x, rest)
+read-lower : (ts rest : List Item) (x : Name) → Takes (spelled K.Lower x.octets true ∷ []) ts rest → lower.read ts ≡ Some (x, rest)
 unfolding lower
 read-lower ts rest x h = lower-law.again x ts rest h (begins-none rest)
 
 -- a comma is read and taken
-stands-comma : (ts rest : List Lexeme) (u : Unit {0}) → (token K.Comma).read ts ≡ Some (u, rest) → Stands (sign K.Comma ∷ []) ts rest
+stands-comma : (ts rest : List Item) (u : Unit {0}) → (token K.Comma).read ts ≡ Some (u, rest) → Takes (sign K.Comma ∷ []) ts rest
 unfolding token
 stands-comma ts rest u h = (token-law K.Comma).takes ts rest u h
 
-read-comma : (ts rest : List Lexeme) → Stands (sign K.Comma ∷ []) ts rest → (token K.Comma).read ts ≡ Some (tt, rest)
+read-comma : (ts rest : List Item) → Takes (sign K.Comma ∷ []) ts rest → (token K.Comma).read ts ≡ Some (tt, rest)
 unfolding token
 read-comma ts rest h = (token-law K.Comma).again tt ts rest h (begins-none rest)
 
-comma-begins : (ts rest : List Lexeme) → Stands (sign K.Comma ∷ []) ts rest → begins (a_kind K.Comma ∷ []) ts ≡ true
+comma-begins : (ts rest : List Item) → Takes (sign K.Comma ∷ []) ts rest → begins (a_kind K.Comma ∷ []) ts ≡ true
 unfolding begins
 comma-begins [] rest h = absurd h
-comma-begins (t ∷ ts) rest h = any-one t (a_kind K.Comma) (rw h.0.0 refl)
+comma-begins (Err f ∷ ts) rest h = absurd h
+comma-begins (Ok t ∷ ts) rest h = any-one t (a_kind K.Comma) (rw h.0.0 refl)
 
-abbrev put_implied : Name × List Lexeme → IndexParts × List Lexeme
+abbrev put_implied : Name × List Item → IndexParts × List Item
 put_implied p = (parts_of (p.0 ∷ []) true, p.1)
 
-abbrev put_name : Name → IndexParts × List Lexeme → IndexParts × List Lexeme
+abbrev put_name : Name → IndexParts × List Item → IndexParts × List Item
 put_name x p = (parts_of (x ∷ p.0.names) p.0.implied, p.1)
 
 -- the names after a comma
-abbrev read_after : ℕ → (Unit {0}) × List Lexeme → Reading IndexParts
+abbrev read_after : ℕ → (Unit {0}) × List Item → Reading IndexParts
 read_after n q = read_index n q.1
 
 -- what comes after a name
-abbrev read_next : ℕ → Name × List Lexeme → Reading IndexParts
+abbrev read_next : ℕ → Name × List Item → Reading IndexParts
 read_next n p =
     if begins (a_kind K.Comma ∷ []) p.1 then with_names (p.0 ∷ []) (option_and_then (read_after n) ((token K.Comma).read p.1))
     else Some (parts_of (p.0 ∷ []) false, p.1)
@@ -380,18 +382,18 @@ with_names-one x None = refl
 with_names-one x (Some p) = refl
 
 -- a name and a comma before the names of an index
-joined : (x : Name) (ys : List Name) (implied : Bool) (ts mid after rest : List Lexeme) → Stands (spelled K.Lower x.octets true ∷ []) ts mid → Stands (sign K.Comma ∷ []) mid after → Stands (index_marks ys implied) after rest → Stands (index_marks (x ∷ ys) implied) ts rest
+joined : (x : Name) (ys : List Name) (implied : Bool) (ts mid after rest : List Item) → Takes (spelled K.Lower x.octets true ∷ []) ts mid → Takes (sign K.Comma ∷ []) mid after → Takes (index_marks ys implied) after rest → Takes (index_marks (x ∷ ys) implied) ts rest
 joined x [] implied ts mid after rest h c k = absurd (never-stands after rest k)
 joined x (y ∷ ys) implied ts mid after rest h c k =
-    Stands-append (spelled K.Lower x.octets true ∷ []) (sign K.Comma ∷ index_marks (y ∷ ys) implied) ts mid rest h
-    (Stands-append (sign K.Comma ∷ []) (index_marks (y ∷ ys) implied) mid after rest c k)
+    Takes-append (spelled K.Lower x.octets true ∷ []) (sign K.Comma ∷ index_marks (y ∷ ys) implied) ts mid rest h
+    (Takes-append (sign K.Comma ∷ []) (index_marks (y ∷ ys) implied) mid after rest c k)
 
-index-takes : (n : ℕ) (ts rest : List Lexeme) (x : IndexParts) → read_index n ts ≡ Some (x, rest) → Stands (index_marks x.names x.implied) ts rest
+index-takes : (n : ℕ) (ts rest : List Item) (x : IndexParts) → read_index n ts ≡ Some (x, rest) → Takes (index_marks x.names x.implied) ts rest
 unfolding read_index behind word text lower
 index-takes zero ts rest x h = absurd (cc)
 index-takes (suc n) ts rest x h =
-    let P : IndexParts × List Lexeme → Type 0 = λ w. Stands (index_marks w.0.names w.0.implied) ts w.1 in
-    elim (begins (a_word (codes "IMPLIED") ∷ []) ts) as (λ b. (if b then option_map put_implied (implied_name.read ts) else option_and_then (read_next n) (lower.read ts)) ≡ Some (x, rest) → Stands (index_marks x.names x.implied) ts rest) [
+    let P : IndexParts × List Item → Type 0 = λ w. Takes (index_marks w.0.names w.0.implied) ts w.1 in
+    elim (begins (a_word (codes "IMPLIED") ∷ []) ts) as (λ b. (if b then option_map put_implied (implied_name.read ts) else option_and_then (read_next n) (lower.read ts)) ≡ Some (x, rest) → Takes (index_marks x.names x.implied) ts rest) [
       | true ↦ λ k.
           let r = map-inv put_implied (implied_name.read ts) (x, rest) k in
           subst P r.2 (implied_name-law.takes ts r.0.1 r.0.0 r.1)
@@ -401,29 +403,30 @@ index-takes (suc n) ts rest x h =
           let mid = r.0.1 in
           let first = stands-lower ts mid y r.1 in
           let after = option_and_then (read_after n) ((token K.Comma).read mid) in
-          elim (begins (a_kind K.Comma ∷ []) mid) as (λ b. (if b then with_names (y ∷ []) after else Some (parts_of (y ∷ []) false, mid)) ≡ Some (x, rest) → Stands (index_marks x.names x.implied) ts rest) [
+          elim (begins (a_kind K.Comma ∷ []) mid) as (λ b. (if b then with_names (y ∷ []) after else Some (parts_of (y ∷ []) false, mid)) ≡ Some (x, rest) → Takes (index_marks x.names x.implied) ts rest) [
             | true ↦ λ e.
                 let s = map-inv (put_name y) after (x, rest) (sym (with_names-one y after) ∙ e) in
                 let q = then-inv (read_after n) ((token K.Comma).read mid) s.0 s.1 in
                 subst P s.2 (joined y s.0.0.names s.0.0.implied ts mid q.0.1 s.0.1 first (stands-comma mid q.0.1 q.0.0 q.1) (index-takes n q.0.1 s.0.1 s.0.0 q.2))
-            | false ↦ λ e. subst P (some-inj {A = IndexParts × List Lexeme} (parts_of (y ∷ []) false, mid) (x, rest) e) first
+            | false ↦ λ e. subst P (some-inj {A = IndexParts × List Item} (parts_of (y ∷ []) false, mid) (x, rest) e) first
           ] r.2
     ] h
 
 -- a name in lower case is no IMPLIED
-lower-no-word : (x : Name) (w : List ℕ) (ts rest : List Lexeme) (ms : List Mark) → Stands (spelled K.Lower x.octets true ∷ ms) ts rest → begins (a_word w ∷ []) ts ≡ false
+lower-no-word : (x : Name) (w : List ℕ) (ts rest : List Item) (ms : List Mark) → Takes (spelled K.Lower x.octets true ∷ ms) ts rest → begins (a_word w ∷ []) ts ≡ false
 unfolding begins
 lower-no-word x w [] rest ms h = refl
-lower-no-word x w (t ∷ ts) rest ms h = rw (h.0.0) refl
+lower-no-word x w (Err f ∷ ts) rest ms h = refl
+lower-no-word x w (Ok t ∷ ts) rest ms h = rw (h.0.0) refl
 
-implied-begins : (ts rest : List Lexeme) (x : Name) → Stands (index_marks (x ∷ []) true) ts rest → begins (a_word (codes "IMPLIED") ∷ []) ts ≡ true
+implied-begins : (ts rest : List Item) (x : Name) → Takes (index_marks (x ∷ []) true) ts rest → begins (a_word (codes "IMPLIED") ∷ []) ts ≡ true
 unfolding behind word text lower
 implied-begins ts rest x h = starts-with implied_name implied_name-law refl x ts rest h
 
-index-again : (xs : List Name) (implied : Bool) (n : ℕ) (ts rest : List Lexeme) → length ts ≤ n → Stands (index_marks xs implied) ts rest → begins (a_kind K.Comma ∷ []) rest ≡ false → read_index n ts ≡ Some (parts_of xs implied, rest)
+index-again : (xs : List Name) (implied : Bool) (n : ℕ) (ts rest : List Item) → length ts ≤ n → Takes (index_marks xs implied) ts rest → begins (a_kind K.Comma ∷ []) rest ≡ false → read_index n ts ≡ Some (parts_of xs implied, rest)
 unfolding read_index behind word text lower
 index-again [] implied n ts rest k h s = absurd (never-stands ts rest h)
-index-again (x ∷ []) implied zero [] rest k h s = absurd (elim implied as (λ b. Stands (index_marks (x ∷ []) b) [] rest → ⊥) [ true ↦ λ u. u | false ↦ λ u. u ] h)
+index-again (x ∷ []) implied zero [] rest k h s = absurd (elim implied as (λ b. Takes (index_marks (x ∷ []) b) [] rest → ⊥) [ true ↦ λ u. u | false ↦ λ u. u ] h)
 index-again (x ∷ []) implied zero (t ∷ ts) rest k h s = absurd (omega arith)
 index-again (x ∷ []) true (suc n) ts rest k h s =
     rw ((implied-begins ts rest x h), (implied_name-law.again x ts rest h (begins-none rest))) refl
@@ -432,19 +435,21 @@ index-again (x ∷ []) false (suc n) ts rest k h s =
 index-again (x ∷ (y ∷ ys)) implied zero [] rest k h s = absurd h
 index-again (x ∷ (y ∷ ys)) implied zero (t ∷ ts) rest k h s = absurd (omega arith)
 index-again (x ∷ (y ∷ ys)) implied (suc n) [] rest k h s = absurd h
-index-again (x ∷ (y ∷ ys)) implied (suc n) (t ∷ ts) rest k h s =
-    let others = Stands-split (sign K.Comma ∷ []) (index_marks (y ∷ ys) implied) ts rest h.1 in
-    let first : lower.read (t ∷ ts) ≡ Some (x, ts) = read-lower (t ∷ ts) ts x (h.0, refl) in
-    let less : length others.0 ≤ n = omega (arith, Stands-length (sign K.Comma ∷ []) ts others.0 others.1) in
+index-again (x ∷ (y ∷ ys)) implied (suc n) (Err f ∷ ts) rest k h s = absurd h
+index-again (x ∷ (y ∷ ys)) implied (suc n) (Ok t ∷ ts) rest k h s =
+    let others = Takes-split (sign K.Comma ∷ []) (index_marks (y ∷ ys) implied) ts rest h.1 in
+    let first : lower.read (Ok t ∷ ts) ≡ Some (x, ts) = read-lower (Ok t ∷ ts) ts x (h.0, refl) in
+    let less : length others.0 ≤ n = omega (arith, Takes-length (sign K.Comma ∷ []) ts others.0 others.1) in
     let next = index-again (y ∷ ys) implied n others.0 rest less others.2 s in
-    rw (lower-no-word x (codes "IMPLIED") (t ∷ ts) rest (sign K.Comma ∷ index_marks (y ∷ ys) implied) h, first, comma-begins ts others.0 others.1, read-comma ts others.0 others.1, next, with_names-one) refl
+    rw (lower-no-word x (codes "IMPLIED") (Ok t ∷ ts) rest (sign K.Comma ∷ index_marks (y ∷ ys) implied) h, first, comma-begins ts others.0 others.1, read-comma ts others.0 others.1, next, with_names-one) refl
 
-lower-begins : (x : Name) (ms : List Mark) (ts rest : List Lexeme) → Stands (spelled K.Lower x.octets true ∷ ms) ts rest → begins (a_word (codes "IMPLIED") ∷ a_kind K.Lower ∷ []) ts ≡ true
+lower-begins : (x : Name) (ms : List Mark) (ts rest : List Item) → Takes (spelled K.Lower x.octets true ∷ ms) ts rest → begins (a_word (codes "IMPLIED") ∷ a_kind K.Lower ∷ []) ts ≡ true
 unfolding begins
 lower-begins x ms [] rest h = absurd h
-lower-begins x ms (t ∷ ts) rest h = or-right (meets t (a_word (codes "IMPLIED"))) _ (rw h.0.0 refl)
+lower-begins x ms (Err f ∷ ts) rest h = absurd h
+lower-begins x ms (Ok t ∷ ts) rest h = or-right (meets t (a_word (codes "IMPLIED"))) _ (rw h.0.0 refl)
 
-index-starts : (xs : List Name) (implied : Bool) (ts rest : List Lexeme) → Stands (index_marks xs implied) ts rest → begins (a_word (codes "IMPLIED") ∷ a_kind K.Lower ∷ []) ts ≡ true
+index-starts : (xs : List Name) (implied : Bool) (ts rest : List Item) → Takes (index_marks xs implied) ts rest → begins (a_word (codes "IMPLIED") ∷ a_kind K.Lower ∷ []) ts ≡ true
 index-starts [] implied ts rest h = absurd (never-stands ts rest h)
 index-starts (x ∷ []) true ts rest h =
     begins-append (a_word (codes "IMPLIED") ∷ []) (a_kind K.Lower ∷ []) ts
@@ -489,29 +494,34 @@ unfolding before_end
 before_end-law =
     kept-law (no_word (codes "END") ∷ []) (λ k x. not (same_kind k K.Upper && same_text x (codes "END"))) (λ t h. any-one t (no_word (codes "END")) h)
 
-abbrev put_kept : TokenText → List TokenText × List Lexeme → List TokenText × List Lexeme
+abbrev put_kept : TokenText → List TokenText × List Item → List TokenText × List Item
 put_kept x p = ((x ∷ []) ++ p.0, p.1)
 
-abbrev read_end : Bool → Reading (List TokenText)
-read_end b = if b then Some ([], []) else None
+abbrev read_end : List Item → Bool → Reading (List TokenText)
+read_end items b = if b then Some ([], items) else None
 
-abbrev read_inside : ℕ → Lexeme → List Lexeme → Bool → Reading (List TokenText)
-read_inside depth t ts b = if b then Some ([], t ∷ ts) else with_front (kept_text t ∷ []) (read_balanced (depth_after t.kind depth) ts)
+abbrev read_inside : ℕ → Lexeme → List Item → Bool → Reading (List TokenText)
+read_inside depth t ts b = if b then Some ([], Ok t ∷ ts) else with_front (kept_text t ∷ []) (read_balanced (depth_after t.kind depth) ts)
 
-balanced-takes : (depth : ℕ) (ts rest : List Lexeme) (xs : List TokenText) → read_balanced depth ts ≡ Some (xs, rest) → (is_balanced depth xs ≡ true) × Stands (raw_marks xs) ts rest
-unfolding read_balanced is_balanced with_front
-balanced-takes depth [] rest xs h =
-    elim (depth == 0) as (λ b. depth == 0 ≡ b → read_end b ≡ Some (xs, rest) → (is_balanced depth xs ≡ true) × Stands (raw_marks xs) [] rest) [
+ended-takes : (depth : ℕ) (items rest : List Item) (xs : List TokenText) → read_end items (depth == 0) ≡ Some (xs, rest) → (is_balanced depth xs ≡ true) × Takes (raw_marks xs) items rest
+unfolding is_balanced
+ended-takes depth items rest xs h =
+    elim (depth == 0) as (λ b. depth == 0 ≡ b → read_end items b ≡ Some (xs, rest) → (is_balanced depth xs ≡ true) × Takes (raw_marks xs) items rest) [
       | true ↦ λ b k.
-          let P : List TokenText × List Lexeme → Type 0 = λ w. (is_balanced depth w.0 ≡ true) × Stands (raw_marks w.0) [] w.1 in
-          subst P (some-inj {A = List TokenText × List Lexeme} ([], []) (xs, rest) k) (b, refl)
+          let P : List TokenText × List Item → Type 0 = λ w. (is_balanced depth w.0 ≡ true) × Takes (raw_marks w.0) items w.1 in
+          subst P (some-inj {A = List TokenText × List Item} ([], items) (xs, rest) k) (b, refl)
       | false ↦ λ b k. absurd (cc)
     ] refl h
-balanced-takes depth (t ∷ ts) rest xs h =
-    let P : List TokenText × List Lexeme → Type 0 = λ w. (is_balanced depth w.0 ≡ true) × Stands (raw_marks w.0) (t ∷ ts) w.1 in
-    elim (is_outside t.kind depth) as (λ b. is_outside t.kind depth ≡ b → read_inside depth t ts b ≡ Some (xs, rest) → (is_balanced depth xs ≡ true) × Stands (raw_marks xs) (t ∷ ts) rest) [
+
+balanced-takes : (depth : ℕ) (ts rest : List Item) (xs : List TokenText) → read_balanced depth ts ≡ Some (xs, rest) → (is_balanced depth xs ≡ true) × Takes (raw_marks xs) ts rest
+unfolding read_balanced is_balanced with_front
+balanced-takes depth [] rest xs h = ended-takes depth [] rest xs h
+balanced-takes depth (Err f ∷ ts) rest xs h = ended-takes depth (Err f ∷ ts) rest xs h
+balanced-takes depth (Ok t ∷ ts) rest xs h =
+    let P : List TokenText × List Item → Type 0 = λ w. (is_balanced depth w.0 ≡ true) × Takes (raw_marks w.0) (Ok t ∷ ts) w.1 in
+    elim (is_outside t.kind depth) as (λ b. is_outside t.kind depth ≡ b → read_inside depth t ts b ≡ Some (xs, rest) → (is_balanced depth xs ≡ true) × Takes (raw_marks xs) (Ok t ∷ ts) rest) [
       | true ↦ λ b k.
-          subst P (some-inj {A = List TokenText × List Lexeme} ([], t ∷ ts) (xs, rest) k) (and-right (same_kind t.kind K.CloseBrace) (depth == 0) b, refl)
+          subst P (some-inj {A = List TokenText × List Item} ([], Ok t ∷ ts) (xs, rest) k) (and-right (same_kind t.kind K.CloseBrace) (depth == 0) b, refl)
       | false ↦ λ b k.
           let r = map-inv (put_kept (kept_text t)) (read_balanced (depth_after t.kind depth) ts) (xs, rest) k in
           let s = balanced-takes (depth_after t.kind depth) ts r.0.1 r.0.0 r.1 in
@@ -530,32 +540,35 @@ not-false : (b : Bool) → not b ≡ false → b ≡ true
 not-false true h = refl
 not-false false h = absurd (cc)
 
-balanced-end : (depth : ℕ) (rest : List Lexeme) → depth == 0 ≡ true → begins (no_kind K.CloseBrace ∷ []) rest ≡ false → read_balanced depth rest ≡ Some ([], rest)
+balanced-end : (depth : ℕ) (rest : List Item) → depth == 0 ≡ true → begins (no_kind K.CloseBrace ∷ []) rest ≡ false → read_balanced depth rest ≡ Some ([], rest)
 unfolding read_balanced begins
 balanced-end depth [] d s = rw d refl
-balanced-end depth (t ∷ ts) d s =
+balanced-end depth (Err f ∷ ts) d s = rw d refl
+balanced-end depth (Ok t ∷ ts) d s =
     rw (and-both (same_kind t.kind K.CloseBrace) (depth == 0) (not-false (same_kind t.kind K.CloseBrace) (or-false (not (same_kind t.kind K.CloseBrace)) false s).0) d) refl
 
-balanced-again : (depth : ℕ) (xs : List TokenText) (ts rest : List Lexeme) → is_balanced depth xs ≡ true → Stands (raw_marks xs) ts rest → begins (no_kind K.CloseBrace ∷ []) rest ≡ false → read_balanced depth ts ≡ Some (xs, rest)
+balanced-again : (depth : ℕ) (xs : List TokenText) (ts rest : List Item) → is_balanced depth xs ≡ true → Takes (raw_marks xs) ts rest → begins (no_kind K.CloseBrace ∷ []) rest ≡ false → read_balanced depth ts ≡ Some (xs, rest)
 unfolding is_balanced read_balanced with_front
 balanced-again depth [] ts rest b h s = rw h (balanced-end depth rest b s)
 balanced-again depth (x ∷ xs) [] rest b h s = absurd h
-balanced-again depth (x ∷ xs) (t ∷ ts) rest b h s =
+balanced-again depth (x ∷ xs) (Err f ∷ ts) rest b h s = absurd h
+balanced-again depth (x ∷ xs) (Ok t ∷ ts) rest b h s =
     let inside = not-true (is_outside x.kind depth) (and-left (not (is_outside x.kind depth)) (is_balanced (depth_after x.kind depth) xs) b) in
     let next = balanced-again (depth_after x.kind depth) xs ts rest (and-right (not (is_outside x.kind depth)) (is_balanced (depth_after x.kind depth) xs) b) h.1 s in
     let e = same-token t x h.0.0 h.0.1 in
     rw (e, h.0.0, inside, next) refl
 
-balanced-starts : (xs : List TokenText) (ts rest : List Lexeme) → is_balanced 0 xs ≡ true → Stands (raw_marks xs) ts rest → (begins (no_kind K.CloseBrace ∷ []) ts ≡ true) ⊎ (ts ≡ rest)
+balanced-starts : (xs : List TokenText) (ts rest : List Item) → is_balanced 0 xs ≡ true → Takes (raw_marks xs) ts rest → (begins (no_kind K.CloseBrace ∷ []) ts ≡ true) ⊎ (ts ≡ rest)
 unfolding begins is_balanced
 balanced-starts [] ts rest b h = inr h
 balanced-starts (x ∷ xs) [] rest b h = absurd h
-balanced-starts (x ∷ xs) (t ∷ ts) rest b h =
+balanced-starts (x ∷ xs) (Err f ∷ ts) rest b h = absurd h
+balanced-starts (x ∷ xs) (Ok t ∷ ts) rest b h =
     inl (any-one t (no_kind K.CloseBrace) (rw h.0.0 (not-close (same_kind x.kind K.CloseBrace) (and-left (not (same_kind x.kind K.CloseBrace && true)) (is_balanced (depth_after x.kind 0) xs) b))))
 
-balanced-pieces : (xs : List TokenText) (ts rest : List Lexeme) → Stands (if is_balanced 0 xs then raw_marks xs else never) ts rest → (is_balanced 0 xs ≡ true) × Stands (raw_marks xs) ts rest
+balanced-pieces : (xs : List TokenText) (ts rest : List Item) → Takes (if is_balanced 0 xs then raw_marks xs else never) ts rest → (is_balanced 0 xs ≡ true) × Takes (raw_marks xs) ts rest
 balanced-pieces xs ts rest =
-    elim (is_balanced 0 xs) as (λ b. Stands (if b then raw_marks xs else never) ts rest → (b ≡ true) × Stands (raw_marks xs) ts rest) [
+    elim (is_balanced 0 xs) as (λ b. Takes (if b then raw_marks xs else never) ts rest → (b ≡ true) × Takes (raw_marks xs) ts rest) [
       | true ↦ λ h. (refl, h)
       | false ↦ λ h. absurd (never-stands ts rest h)
     ]
@@ -862,16 +875,16 @@ unfolding before before_end behind macro_body macro_definition many shaped token
 macro_definition-law = shaped-law to_macro from_macro macro_body macro_body-law (λ x ts rest h. refl) macro-forth
 
 -- what has no pieces isn't spelled
-no-pieces : {A B : Type 0} (to : A → B) (from : B → Option A) (f : Format A) (y : B) (ts rest : List Lexeme) → from y ≡ None → Stands ((shaped to from f).spell y) ts rest → ⊥
+no-pieces : {A B : Type 0} (to : A → B) (from : B → Option A) (f : Format A) (y : B) (ts rest : List Item) → from y ≡ None → Takes ((shaped to from f).spell y) ts rest → ⊥
 unfolding shaped
-no-pieces to from f y ts rest e h = never-stands ts rest (let P : Option _ → Type 0 = λ o. Stands (spell_pieces f.spell o) ts rest in subst P e h)
+no-pieces to from f y ts rest e h = never-stands ts rest (let P : Option _ → Type 0 = λ o. Takes (spell_pieces f.spell o) ts rest in subst P e h)
 
 -- a macro isn't assigned, and what isn't a macro has no macro's body
-assigned-no-macro : (xs : List TokenText) (ts rest : List Lexeme) → Stands (assigned.spell (D.Macro xs)) ts rest → ⊥
+assigned-no-macro : (xs : List TokenText) (ts rest : List Item) → Takes (assigned.spell (D.Macro xs)) ts rest → ⊥
 unfolding assigned
 assigned-no-macro xs ts rest h = no-pieces to_assigned from_assigned (either textual_convention (either choice (either tagged (either sequence simple_type)))) (D.Macro xs) ts rest refl h
 
-macro-pieces : (k : DefKind) (ts rest : List Lexeme) → Stands (macro_definition.spell k) ts rest → (xs : List TokenText) × (k ≡ D.Macro xs)
+macro-pieces : (k : DefKind) (ts rest : List Item) → Takes (macro_definition.spell k) ts rest → (xs : List TokenText) × (k ≡ D.Macro xs)
 unfolding macro_definition shaped
 macro-pieces (D.Macro xs) ts rest h = (xs, refl)
 macro-pieces (D.TextualConvention d) ts rest h = absurd (never-stands ts rest h)
@@ -891,10 +904,11 @@ macro-pieces (D.AgentCapabilities d) ts rest h = absurd (never-stands ts rest h)
 abbrev assignment : Format DefKind
 assignment = behind (token K.Assign) assigned
 
-upper-back : (x : DefKind ⊎ DefKind) (ts rest : List Lexeme) → Stands ((either assignment macro_definition).spell x) ts rest → from_upper (to_upper x) ≡ Some x
+upper-back : (x : DefKind ⊎ DefKind) (ts rest : List Item) → Takes ((either assignment macro_definition).spell x) ts rest → from_upper (to_upper x) ≡ Some x
 unfolding either behind token lower
 upper-back (inl (D.Macro xs)) [] rest h = absurd h
-upper-back (inl (D.Macro xs)) (t ∷ ts) rest h = absurd (assigned-no-macro xs ts rest h.1)
+upper-back (inl (D.Macro xs)) (Err f ∷ ts) rest h = absurd h
+upper-back (inl (D.Macro xs)) (Ok t ∷ ts) rest h = absurd (assigned-no-macro xs ts rest h.1)
 upper-back (inl (D.TextualConvention d)) ts rest h = refl
 upper-back (inl (D.TypeAssignment d)) ts rest h = refl
 upper-back (inl (D.Sequence d)) ts rest h = refl
@@ -971,13 +985,13 @@ words-any : (t : Lexeme) (ws : List (List ℕ)) → t.kind ≡ K.Upper → list_
 words-any t [] e = refl
 words-any t (w ∷ ws) e = rw (e) (ap (λ (b : Bool). same_text t.text w || b) (words-any t ws e))
 
-pub begins-macro : (t : Lexeme) (ts : List Lexeme) → t.kind ≡ K.Upper → begins macro_words (t ∷ ts) ≡ is_macro t.text
+pub begins-macro : (t : Lexeme) (ts : List Item) → t.kind ≡ K.Upper → begins macro_words (Ok t ∷ ts) ≡ is_macro t.text
 unfolding begins is_macro
 begins-macro t ts e = words-any t macros e
 
 -- definitions
 
-lower-only : (k : DefKind) (ts rest : List Lexeme) → Stands (lower_definition.spell k) ts rest → (p : Labelled) → def_pieces p k ≡ inl p
+lower-only : (k : DefKind) (ts rest : List Item) → Takes (lower_definition.spell k) ts rest → (p : Labelled) → def_pieces p k ≡ inl p
 unfolding lower_definition shaped
 lower-only (D.ObjectType d) ts rest h p = refl
 lower-only (D.ObjectIdentifier d) ts rest h p = refl
@@ -995,12 +1009,13 @@ lower-only (D.Choice d) ts rest h p = absurd (never-stands ts rest h)
 lower-only (D.Macro d) ts rest h p = absurd (never-stands ts rest h)
 
 -- what stands behind a name in upper case defines no name in lower case
-no-assigned : (k : DefKind) (ts rest : List Lexeme) → from_assigned k ≡ None → Stands (assignment.spell k) ts rest → ⊥
+no-assigned : (k : DefKind) (ts rest : List Item) → from_assigned k ≡ None → Takes (assignment.spell k) ts rest → ⊥
 unfolding behind assigned token lower
 no-assigned k [] rest e h = h
-no-assigned k (t ∷ ts) rest e h = no-pieces to_assigned from_assigned (either textual_convention (either choice (either tagged (either sequence simple_type)))) k ts rest e h.1
+no-assigned k (Err f ∷ ts) rest e h = h
+no-assigned k (Ok t ∷ ts) rest e h = no-pieces to_assigned from_assigned (either textual_convention (either choice (either tagged (either sequence simple_type)))) k ts rest e h.1
 
-upper-only : (k : DefKind) (ts rest : List Lexeme) → Stands (upper_definition.spell k) ts rest → (p : Labelled) → is_macro p.0.1.octets ≡ false → def_pieces p k ≡ inr (inl p)
+upper-only : (k : DefKind) (ts rest : List Item) → Takes (upper_definition.spell k) ts rest → (p : Labelled) → is_macro p.0.1.octets ≡ false → def_pieces p k ≡ inr (inl p)
 unfolding upper_definition shaped either
 upper-only (D.ObjectType d) ts rest h p m = absurd (no-assigned (D.ObjectType d) ts rest refl h)
 upper-only (D.ObjectIdentifier d) ts rest h p m = absurd (no-assigned (D.ObjectIdentifier d) ts rest refl h)
@@ -1017,7 +1032,7 @@ upper-only (D.Sequence d) ts rest h p m = refl
 upper-only (D.Choice d) ts rest h p m = refl
 upper-only (D.Macro d) ts rest h p m = rw m refl
 
-macro-only : (k : DefKind) (ts rest : List Lexeme) → Stands (macro_definition.spell k) ts rest → (p : Labelled) → is_macro p.0.1.octets ≡ true → def_pieces p k ≡ inr (inr p)
+macro-only : (k : DefKind) (ts rest : List Item) → Takes (macro_definition.spell k) ts rest → (p : Labelled) → is_macro p.0.1.octets ≡ true → def_pieces p k ≡ inr (inr p)
 macro-only k ts rest h p m =
     let q = macro-pieces k ts rest h in
     let P : DefKind → Type 0 = λ v. def_pieces p v ≡ inr (inr p) in
@@ -1033,24 +1048,25 @@ abbrev by_macro : Format Labelled
 by_macro = pair (lined macro_name) macro_definition
 
 -- the mark of a label, with its line
-label-mark : (n : ℕ) (x : List ℕ) (ok : Bool) (k : TokenKind) (ts mid : List Lexeme) → Stands (on_line n (spelled k x ok) ∷ []) ts mid → ok ≡ true
+label-mark : (n : ℕ) (x : List ℕ) (ok : Bool) (k : TokenKind) (ts mid : List Item) → Takes (on_line n (spelled k x ok) ∷ []) ts mid → ok ≡ true
 label-mark n x ok k [] mid h = absurd h
-label-mark n x ok k (t ∷ ts) mid h = h.0.0.2
+label-mark n x ok k (Err f ∷ ts) mid h = absurd h
+label-mark n x ok k (Ok t ∷ ts) mid h = h.0.0.2
 
 name-not-macro : (x : List ℕ) → not (is_reserved x) ≡ true → is_macro x ≡ false
 name-not-macro x h = false-from (is_macro x) (λ m. cc (not-true (is_reserved x) h, macro-reserved x m))
 
-def-back : (x : Labelled ⊎ (Labelled ⊎ Labelled)) (ts rest : List Lexeme) → Stands ((either by_lower (either by_upper by_macro)).spell x) ts rest → from_def (to_def x) ≡ Some x
+def-back : (x : Labelled ⊎ (Labelled ⊎ Labelled)) (ts rest : List Item) → Takes ((either by_lower (either by_upper by_macro)).spell x) ts rest → from_def (to_def x) ≡ Some x
 unfolding either pair lined text name lower macro_name
 def-back (inl p) ts rest h =
-    let r = Stands-split ((lined lower).spell p.0) (lower_definition.spell p.1) ts rest h in
+    let r = Takes-split ((lined lower).spell p.0) (lower_definition.spell p.1) ts rest h in
     ap (λ (y : Labelled ⊎ (Labelled ⊎ Labelled)). Some y) (lower-only p.1 r.0 rest r.2 p)
 def-back (inr (inl p)) ts rest h =
-    let r = Stands-split ((lined name).spell p.0) (upper_definition.spell p.1) ts rest h in
+    let r = Takes-split ((lined name).spell p.0) (upper_definition.spell p.1) ts rest h in
     let plain = label-mark p.0.0 p.0.1.octets (not (is_reserved p.0.1.octets)) K.Upper ts r.0 r.1 in
     ap (λ (y : Labelled ⊎ (Labelled ⊎ Labelled)). Some y) (upper-only p.1 r.0 rest r.2 p (name-not-macro p.0.1.octets plain))
 def-back (inr (inr p)) ts rest h =
-    let r = Stands-split ((lined macro_name).spell p.0) (macro_definition.spell p.1) ts rest h in
+    let r = Takes-split ((lined macro_name).spell p.0) (macro_definition.spell p.1) ts rest h in
     let word = label-mark p.0.0 p.0.1.octets (is_macro p.0.1.octets) K.Upper ts r.0 r.1 in
     ap (λ (y : Labelled ⊎ (Labelled ⊎ Labelled)). Some y) (macro-only p.1 r.0 rest r.2 p word)
 

@@ -1,12 +1,12 @@
 -- Productions as values: how a part of the tree is spelled, how it is read from the front of the tokens, what it begins
 -- with, and what must not follow it.
-use Rattle.std.specs.Prelude.{◌≡◌, ℕ, Bool, true, false, ◌&&◌, ◌||◌, not, List, [], ◌∷◌, ◌++◌, length, Option, Some, None, if◌then◌else◌, option_and_then, option_map, refl}
+use Rattle.std.specs.Prelude.{◌≡◌, ℕ, Bool, true, false, ◌&&◌, ◌||◌, not, List, [], ◌∷◌, ◌++◌, length, Option, Some, None, Ok, Err, drop, if◌then◌else◌, option_and_then, option_map, refl}
 use Rattle.std.specs.List.{list_any, list_all, flat_map}
 use Rattle.std.proofs.Common.{◌⊎◌, inl, inr, zero, suc}
 use Rattle.smi_lexer.specs.declared.token.TokenKind.{TokenKind}
 use Rattle.smi_lexer.specs.declared.token.TokenKind.TheVariants.{Lower, Upper}
-use Rattle.smi_lexer.specs.Token.{Lexeme}
-use Rattle.smi_module.specs.Mark.{Mark, sign, sign_text, spelled, same_kind, same_text}
+use Rattle.smi_lexer.specs.Token.{Lexeme, Item}
+use Rattle.smi_module.specs.Mark.{Mark, sign, sign_text, spelled, same_kind, same_text, Fits}
 use Rattle.smi_module.specs.Word.{is_word}
 use Rattle.smi_module.specs.Reserved.{is_reserved}
 use Rattle.smi_module.specs.Spelling.{put_line}
@@ -30,10 +30,26 @@ meets t (a_kind k) = same_kind t.kind k
 meets t (no_word w) = not (is_this_word w t)
 meets t (no_kind k) = not (same_kind t.kind k)
 
--- the tokens begin with one of these
-unfoldable pub begins : List Ahead → List Lexeme → Bool
-begins cs [] = false
-begins cs (t ∷ ts) = list_any (meets t) cs
+-- the token ahead, where the text neither ends nor breaks off
+abbrev pub token_ahead : List Item → Option Lexeme
+token_ahead [] = None
+token_ahead (Ok t ∷ items) = Some t
+token_ahead (Err fault ∷ items) = None
+
+abbrev pub meets_any : List Ahead → Option Lexeme → Bool
+meets_any cs None = false
+meets_any cs (Some t) = list_any (meets t) cs
+
+-- the items begin with one of these tokens
+unfoldable pub begins : List Ahead → List Item → Bool
+begins cs items = meets_any cs (token_ahead items)
+
+-- the items are the tokens that the marks say, and then the rest
+abbrev pub Takes : List Mark → List Item → List Item → Type 0
+Takes [] items rest = items ≡ rest
+Takes (m ∷ ms) [] rest = ⊥
+Takes (m ∷ ms) (Ok t ∷ items) rest = Fits m t × Takes ms items rest
+Takes (m ∷ ms) (Err fault ∷ items) rest = ⊥
 
 -- no token is both: in one order
 abbrev pub half_apart : Ahead → Ahead → Bool
@@ -53,11 +69,11 @@ apart cs ds = list_all (λ c. list_all (λ d. half_apart c d || half_apart d c) 
 
 -- what is read, and the tokens after it
 abbrev pub Reading : Type 0 → Type 0
-Reading A = Option (A × List Lexeme)
+Reading A = Option (A × List Item)
 
 pub record Format (A : Type 0) : Type 0 where
   pub spell : A → List Mark
-  pub read : List Lexeme → Reading A
+  pub read : List Item → Reading A
   -- what it begins with
   pub first : List Ahead
   -- what must not follow it
@@ -70,9 +86,8 @@ abbrev pub never : List Mark
 never = spelled Upper [] false ∷ []
 
 -- one token: what it begins with, how it is marked, and what is taken from it
-abbrev pub read_one : {A : Type 0} → (Lexeme → Option A) → List Lexeme → Reading A
-read_one pick [] = None
-read_one pick (t ∷ ts) = option_map (λ x. (x, ts)) (pick t)
+abbrev pub read_one : {A : Type 0} → (Lexeme → Option A) → List Item → Reading A
+read_one pick items = option_map (λ x. (x, drop 1 items)) (option_and_then pick (token_ahead items))
 
 abbrev pub one : {A : Type 0} → List Ahead → (A → Mark) → (Lexeme → Option A) → Format A
 one cs mark pick = record {
@@ -125,7 +140,7 @@ unfoldable pub name : Format Name
 name = name_where (a_name ∷ []) Upper (λ x. not (is_reserved x))
 
 -- one part, and then another
-abbrev pub read_pair : {A B : Type 0} → (List Lexeme → Reading A) → (List Lexeme → Reading B) → List Lexeme → Reading (A × B)
+abbrev pub read_pair : {A B : Type 0} → (List Item → Reading A) → (List Item → Reading B) → List Item → Reading (A × B)
 read_pair f g ts = option_and_then (λ p. option_map (λ q. ((p.0, q.0), q.1)) (g p.1)) (f ts)
 
 unfoldable pub pair : {A B : Type 0} → Format A → Format B → Format (A × B)
@@ -186,7 +201,7 @@ either f g = record {
 }
 
 -- any number of one part, read as often as it begins; the number bounds the recursion
-unfoldable pub read_many : {A : Type 0} → Format A → ℕ → List Lexeme → Reading (List A)
+unfoldable pub read_many : {A : Type 0} → Format A → ℕ → List Item → Reading (List A)
 read_many f zero ts = Some ([], ts)
 read_many f (suc n) ts =
     if begins f.first ts then option_and_then (λ p. option_map (λ q. (p.0 ∷ q.0, q.1)) (read_many f n p.1)) (f.read ts) else Some ([], ts)
@@ -237,9 +252,12 @@ unfoldable pub separated : {A : Type 0} → TokenKind → Format A → Format (L
 separated k f = some_of f (behind (token k) f)
 
 -- a part, with the line of its first token
-abbrev pub line_ahead : List Lexeme → ℕ
-line_ahead [] = 0
-line_ahead (t ∷ ts) = t.line
+abbrev pub line_of : Option Lexeme → ℕ
+line_of None = 0
+line_of (Some t) = t.line
+
+abbrev pub line_ahead : List Item → ℕ
+line_ahead items = line_of (token_ahead items)
 
 unfoldable pub lined : {A : Type 0} → Format A → Format (ℕ × A)
 lined f = record {

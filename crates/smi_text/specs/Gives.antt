@@ -1,19 +1,19 @@
 -- What the steps of the parser give.
-use Rattle.std.specs.Prelude.{◌≡◌, ℕ, Bool, true, false, List, [], ◌∷◌, Option, Some, None, Result, Ok, Err}
+use Rattle.std.specs.Prelude.{◌≡◌, ℕ, Bool, true, false, List, [], ◌++◌, Option, Some, None, Result, Ok, Err}
 use Rattle.std.specs.Borrow.{Bor}
-use Rattle.smi_lexer.specs.Token.{Lexeme, Item, tokens_of, fault_of}
-use Rattle.smi_lexer.specs.Lexes.{Lexes}
+use Rattle.smi_lexer.specs.Token.{Lexeme, Item}
+use Rattle.std.specs.List.{flat_map, list_any}
 use Rattle.smi_text.specs.declared.stop.Stop.{Stop}
-use Rattle.smi_text.specs.declared.stop.Stop.TheVariants.{Syntax, Memory}
+use Rattle.smi_text.specs.declared.stop.Stop.TheVariants.{Syntax, Lex, Memory}
 use Rattle.smi_text.specs.declared.error.ParseError.{ParseError}
 use Rattle.smi_text.specs.declared.error.ParseError.TheVariants as E
-use Rattle.smi_module.specs.Mark.{Stands}
-use Rattle.smi_text.specs.Format.{Reading, begins, many}
+use Rattle.smi_module.specs.Mark.{same_text}
+use Rattle.smi_text.specs.Format.{Reading, Takes, token_ahead, begins, many}
 use Rattle.smi_text.specs.Grammar.{definition, module_text, file}
-use Rattle.smi_module.specs.Spelling.{of_head}
+use Rattle.smi_module.specs.Spelling.{of_def, of_head, spelling}
 use Rattle.smi_module.specs.Lookup.{labels, are_distinct}
 use Rattle.smi_module.specs.declared.names.Name.{Name}
-use Rattle.smi_text.specs.Text.{HasNoDoubles, HasSecond, DefinesAgain, BreaksOff}
+use Rattle.smi_text.specs.Text.{HasNoDoubles, BreaksOff}
 use Rattle.smi_module.specs.declared.tree.Module.{Module}
 use Rattle.smi_module.specs.declared.tree.Part.{Part}
 use Rattle.smi_module.specs.declared.tree.Import.{Import}
@@ -23,77 +23,103 @@ use Rattle.smi_module.specs.declared.tree.Def.{Def}
 abbrev pub is_memory : Stop → Bool
 is_memory Memory = true
 is_memory (Syntax line) = false
+is_memory (Lex fault) = false
 
 -- the part and the tokens after it, as they are read; else, memory aside, a stop where no part stands
-abbrev pub Gives : {A : Type 0} → Result A Stop → List Lexeme → Reading A → Type 0
+abbrev pub Gives : {A : Type 0} → Result A Stop → List Item → Reading A → Type 0
 Gives (Ok x) rest r = r ≡ Some (x, rest)
 Gives (Err e) rest r = is_memory e ≡ false → r ≡ None
 
 -- the error that a stop is
 abbrev pub error_of : Stop → ParseError
 error_of (Syntax line) = E.Syntax line
+error_of (Lex fault) = E.Lex fault
 error_of Memory = E.Memory
 
 -- what the steps of a whole module give
 
 -- the text of the token ahead
-abbrev pub text_ahead : List Lexeme → List ℕ
-text_ahead [] = []
-text_ahead (t ∷ ts) = t.text
+abbrev pub text_of_token : Option Lexeme → List ℕ
+text_of_token None = []
+text_of_token (Some t) = t.text
+
+abbrev pub text_ahead : List Item → List ℕ
+text_ahead items = text_of_token (token_ahead items)
 
 -- the name of the definition that is ahead
-abbrev pub IsLabelAhead : Option (Bor (List ℕ)) → List Lexeme → Type 0
+abbrev pub IsLabelAhead : Option (Bor (List ℕ)) → List Item → Type 0
 IsLabelAhead None tokens = begins definition.first tokens ≡ false
 IsLabelAhead (Some x) tokens = (begins definition.first tokens ≡ true) × (x.now ≡ text_ahead tokens)
 
-pub record ReadsDefinitions (defs : List Def) (tokens rest : List Lexeme) : Type 0 where
+-- the items begin with definitions, the last of which stands on this line and is the first that defines a name again
+pub record RepeatsIn (line : ℕ) (items : List Item) : Type 0 where
+  pub before : List Def
+  pub once : are_distinct (labels before) ≡ true
+  pub second : Def
+  pub rest : List Item
+  pub stands : Takes (flat_map of_def before ++ of_def second) items rest
+  pub defined : list_any (same_text second.label.octets) (labels before) ≡ true
+  pub on_line : second.line ≡ line
+
+pub record ReadsDefinitions (defs : List Def) (tokens rest : List Item) : Type 0 where
   pub read : (many definition).read tokens ≡ Some (defs, rest)
   pub distinct : are_distinct (labels defs) ≡ true
 
-abbrev pub DefinitionsFault : ParseError → List Lexeme → Type 0
-DefinitionsFault (E.Lex fault) tokens = ⊥
+abbrev pub DefinitionsFault : ParseError → List Item → Type 0
+DefinitionsFault (E.Lex fault) tokens = (many definition).read tokens ≡ None
 DefinitionsFault (E.Syntax line) tokens = (many definition).read tokens ≡ None
-DefinitionsFault (E.DoubleName line) tokens = HasSecond line tokens
+DefinitionsFault (E.DoubleName line) tokens = RepeatsIn line tokens
 DefinitionsFault E.Memory tokens = Unit {0}
 
-pub record ReadsModule (m : Module) (tokens rest : List Lexeme) : Type 0 where
+pub record ReadsModule (m : Module) (tokens rest : List Item) : Type 0 where
   pub read : module_text.read tokens ≡ Some (m, rest)
   pub distinct : are_distinct (labels m.defs) ≡ true
 
 -- a module with a second definition of a name, up to that definition
-pub record OpensTwice (line : ℕ) (tokens : List Lexeme) : Type 0 where
+pub record OpensTwice (line : ℕ) (tokens : List Item) : Type 0 where
   pub name : Name
   pub heading : Option (List Part)
   pub imports : Option (List Import)
-  pub body : List Lexeme
-  pub stands : Stands (of_head name heading imports) tokens body
-  pub twice : HasSecond line body
+  pub body : List Item
+  pub stands : Takes (of_head name heading imports) tokens body
+  pub twice : RepeatsIn line body
 
-abbrev pub ModuleFault : ParseError → List Lexeme → Type 0
-ModuleFault (E.Lex fault) tokens = ⊥
+abbrev pub ModuleFault : ParseError → List Item → Type 0
+ModuleFault (E.Lex fault) tokens = module_text.read tokens ≡ None
 ModuleFault (E.Syntax line) tokens = module_text.read tokens ≡ None
 ModuleFault (E.DoubleName line) tokens = OpensTwice line tokens
 ModuleFault E.Memory tokens = Unit {0}
 
-pub record ReadsModules (ms : List Module) (tokens : List Lexeme) : Type 0 where
+pub record ReadsModules (ms : List Module) (tokens : List Item) : Type 0 where
   pub read : file.read tokens ≡ Some (ms, [])
   pub distinct : HasNoDoubles ms
 
-abbrev pub ModulesFault : ParseError → List Lexeme → Type 0
-ModulesFault (E.Lex fault) tokens = ⊥
+-- such definitions stand in a module, behind modules of which none defines a name twice
+pub record RepeatsAgain (line : ℕ) (items : List Item) : Type 0 where
+  pub modules : List Module
+  pub once : HasNoDoubles modules
+  pub name : Name
+  pub heading : Option (List Part)
+  pub imports : Option (List Import)
+  pub body : List Item
+  pub stands : Takes (spelling modules ++ of_head name heading imports) items body
+  pub twice : RepeatsIn line body
+
+abbrev pub ModulesFault : ParseError → List Item → Type 0
+ModulesFault (E.Lex fault) tokens = (ms : List Module) → file.read tokens ≡ Some (ms, []) → ⊥
 ModulesFault (E.Syntax line) tokens = (ms : List Module) → file.read tokens ≡ Some (ms, []) → ⊥
-ModulesFault (E.DoubleName line) tokens = DefinesAgain line tokens
+ModulesFault (E.DoubleName line) tokens = RepeatsAgain line tokens
 ModulesFault E.Memory tokens = Unit {0}
 
--- these are the tokens of a text that lexes to its end
-pub record AreTokens (tokens : List Lexeme) (text : List ℕ) : Type 0 where
-  pub items : List Item
-  pub lexed : Lexes [] text items
-  pub whole : fault_of items ≡ None
-  pub same : tokens ≡ tokens_of items
+-- the error that is reported where the reading of a text stopped with this one: in the lexer, the first fault of the text
+abbrev pub IsLexFault : ParseError → List ℕ → Type 0
+IsLexFault (E.Lex fault) text = BreaksOff fault text
+IsLexFault (E.Syntax line) text = Unit {0}
+IsLexFault (E.DoubleName line) text = ⊥
+IsLexFault E.Memory text = ⊥
 
-abbrev pub LexFault : ParseError → List ℕ → Type 0
-LexFault (E.Lex fault) text = BreaksOff fault text
-LexFault (E.Syntax line) text = ⊥
-LexFault (E.DoubleName line) text = ⊥
-LexFault E.Memory text = Unit {0}
+abbrev pub IsCauseOf : ParseError → ParseError → List ℕ → Type 0
+IsCauseOf (E.Lex fault) error text = IsLexFault error text
+IsCauseOf (E.Syntax line) error text = error ≡ E.Syntax line
+IsCauseOf (E.DoubleName line) error text = error ≡ E.DoubleName line
+IsCauseOf E.Memory error text = error ≡ E.Memory

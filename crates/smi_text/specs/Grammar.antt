@@ -1,9 +1,9 @@
 -- The productions of the grammar as formats: each reads and spells one part of the tree.
-use Rattle.std.specs.Prelude.{ℕ, ◌+◌, ◌-◌, ◌==◌, Bool, true, false, ◌&&◌, not, List, [], ◌∷◌, ◌++◌, length, Option, Some, None, codes, map, if◌then◌else◌, option_and_then, option_map}
+use Rattle.std.specs.Prelude.{ℕ, ◌+◌, ◌-◌, ◌==◌, Bool, true, false, ◌&&◌, not, List, [], ◌∷◌, ◌++◌, length, Option, Some, None, Ok, Err, codes, map, if◌then◌else◌, option_and_then, option_map}
 use Rattle.std.proofs.Common.{◌⊎◌, inl, inr, zero, suc}
 use Rattle.smi_lexer.specs.declared.token.TokenKind.{TokenKind}
 use Rattle.smi_lexer.specs.declared.token.TokenKind.TheVariants as K
-use Rattle.smi_lexer.specs.Token.{Lexeme}
+use Rattle.smi_lexer.specs.Token.{Lexeme, Item}
 use Rattle.smi_module.specs.Mark.{Mark, sign, spelled, same_kind, same_text}
 use Rattle.smi_module.specs.Reserved.{macros}
 use Rattle.smi_module.specs.Number.{is_arc, is_number, is_bound, is_symbol, is_macro}
@@ -236,7 +236,7 @@ unfoldable pub with_names : List Name → Reading IndexParts → Reading IndexPa
 with_names xs r = option_map (λ p. (parts_of (xs ++ p.0.names) p.0.implied, p.1)) r
 
 -- the names one after the other; the number bounds the recursion
-unfoldable pub read_index : ℕ → List Lexeme → Reading IndexParts
+unfoldable pub read_index : ℕ → List Item → Reading IndexParts
 read_index zero ts = None
 read_index (suc n) ts =
     if begins (a_word (codes "IMPLIED") ∷ []) ts then option_map (λ p. (parts_of (p.0 ∷ []) true, p.1)) (implied_name.read ts)
@@ -291,10 +291,12 @@ is_balanced depth (x ∷ xs) = not (is_outside x.kind depth) && is_balanced (dep
 abbrev pub raw_marks : List TokenText → List Mark
 raw_marks xs = map (λ x. spelled x.kind x.text true) xs
 
-unfoldable pub read_balanced : ℕ → List Lexeme → Reading (List TokenText)
+unfoldable pub read_balanced : ℕ → List Item → Reading (List TokenText)
 read_balanced depth [] = if depth == 0 then Some ([], []) else None
-read_balanced depth (t ∷ ts) =
-    if is_outside t.kind depth then Some ([], t ∷ ts) else with_front (kept_text t ∷ []) (read_balanced (depth_after t.kind depth) ts)
+read_balanced depth (Err fault ∷ items) = if depth == 0 then Some ([], Err fault ∷ items) else None
+read_balanced depth (Ok t ∷ items) =
+    if is_outside t.kind depth then Some ([], Ok t ∷ items)
+    else with_front (kept_text t ∷ []) (read_balanced (depth_after t.kind depth) items)
 
 unfoldable pub balanced : Format (List TokenText)
 balanced = record {

@@ -1,3 +1,4 @@
+pub mod Ahead
 pub mod Format
 pub mod Grammar
 pub mod Gives

@@ -30,6 +30,7 @@ impl From<Stop> for ParseError {
     fn from(stop: Stop) -> ParseError {
         match stop {
             Stop::Syntax { line } => ParseError::Syntax { line },
+            Stop::Lex(fault) => ParseError::Lex(fault),
             Stop::Memory => ParseError::Memory,
         }
     }

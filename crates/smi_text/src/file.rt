@@ -1,13 +1,13 @@
 //! The whole of a module text: its tokens, and then its modules one after the other.
 #![tactic(auto, unfolding(crate::specs::Format::begins))]
 
-ghost use Rattle.std.specs.Prelude.{◌≡◌, List, [], IfOk, IfErr, MatchResult, MatchBool, map, true, ◌↔◌};
-ghost use Rattle.smi_lexer.specs.Token.{Lexeme, lexeme_of};
+ghost use Rattle.std.specs.Prelude.{◌≡◌, List, [], IfOk, IfErr, IfSome, MatchResult, MatchBool, map, true, ◌↔◌};
+ghost use Rattle.smi_lexer.specs.Token.{Lexeme};
 ghost use Rattle.smi_module.specs.Mark.{Stands};
 ghost use Rattle.smi_module.specs.Spelling.{spelling};
 ghost use Rattle.smi_module.specs.Lines.{plain, unlined};
-ghost use Rattle.smi_text.specs.Gives.{ReadsDefinitions, ReadsModule, ReadsModules, DefinitionsFault, ModuleFault, ModulesFault, IsLabelAhead, AreTokens, LexFault};
-ghost use Rattle.smi_text.specs.Text.{Spells, HasNoDoubles, IsCause};
+ghost use Rattle.smi_text.specs.Gives.{ReadsDefinitions, ReadsModule, ReadsModules, DefinitionsFault, ModuleFault, ModulesFault, IsLabelAhead, IsCauseOf};
+ghost use Rattle.smi_text.specs.Text.{Spells, HasNoDoubles, IsCause, BreaksOff};
 ghost use Rattle.smi_module.specs.Braces.{IsBalanced};
 ghost use Rattle.smi_text.specs.Grammar.{is_balanced};
 ghost use Rattle.smi_module.specs.declared.tree.Module.{Module as Tree};
@@ -16,7 +16,7 @@ ghost use Rattle.smi_module.specs.declared.tree.TokenText.{TokenText};
 use crate::error::ParseError;
 use crate::names;
 use crate::parser::{Parser, keep};
-use smi_lexer::{Lexer, Token};
+use smi_lexer::{LexError, Lexer};
 use smi_module::{Def, Items, Module};
 use std::alloc::Global;
 use std::collections::BTreeSet;
@@ -66,17 +66,7 @@ impl<'a> Parser<'a> {
         })
     }
 
-    /// Whether no token is left.
-    fn is_at_end(&self) -> bool
-        ensures { MatchBool result (self.now ≡ []) (self.now ≡ [] → ⊥) }
-    {
-        match self.peek() {
-            Some(_) => false,
-            None => true,
-        }
-    }
-
-    /// Reads modules up to the end of the tokens.
+    /// Reads modules up to the end of the text.
     fn modules(&mut self) -> Result<Vec<Module>, ParseError>
         ensures ok { IfOk result (λ ms. ReadsModules ms.items self.old) }
         ensures fault { IfErr result (λ error. ModulesFault error self.old) }
@@ -90,24 +80,38 @@ impl<'a> Parser<'a> {
     }
 }
 
-/// The tokens of a whole text.
-fn tokens_of(alloc: Global, text: &[u8]) -> Result<Vec<Token<'_>>, ParseError>
-    ensures ok { IfOk result (λ tokens. AreTokens (map lexeme_of tokens.items) text.now) }
-    ensures fault { IfErr result (λ error. LexFault error text.now) }
+/// The fault where a text breaks off.
+fn first_fault(text: &[u8]) -> Option<LexError>
+    ensures { IfSome result (λ fault. BreaksOff fault text.now) }
 {
-    let mut tokens = Vec::new(alloc);
     'each: for item in Lexer::new(text) {
         match item {
-            Ok(token) => keep(&mut tokens, token)?,
-            Err(fault) => return Err(ParseError::Lex(fault)),
+            Ok(_) => {}
+            Err(fault) => return Some(fault),
         }
     }
-    Ok(tokens)
+    None
+}
+
+/// Why a text is refused, where its reading stopped so. A stop in the lexer is at the text's own fault.
+fn cause_of(stop: ParseError, text: &[u8]) -> ParseError
+    ensures { IsCauseOf stop result text.now }
+{
+    match stop {
+        ParseError::Lex(_) => match first_fault(text) {
+            Some(fault) => ParseError::Lex(fault),
+            // The reading of a text that lexes to its end doesn't stop so.
+            None => ParseError::Syntax { line: 1 },
+        },
+        ParseError::Syntax { line } => ParseError::Syntax { line },
+        ParseError::DoubleName { line } => ParseError::DoubleName { line },
+        ParseError::Memory => ParseError::Memory,
+    }
 }
 
 /// Reads the modules of a text (RFC 2578, section 3). A text without a module gives an empty list.
 ///
-/// A fault anywhere refuses the whole text: the first one in the text, save that one of the lexer comes before all others.
+/// A fault anywhere refuses the whole text. The first one in the text is reported.
 pub fn parse_modules(alloc: Global, text: &[u8]) -> Result<Vec<Module>, ParseError>
     // What is read is what the text spells, and no module of it defines a name twice.
     ensures found { IfOk result (λ ms. Spells ms.items text.now × HasNoDoubles ms.items) }
@@ -117,8 +121,11 @@ pub fn parse_modules(alloc: Global, text: &[u8]) -> Result<Vec<Module>, ParseErr
     // Each error comes only with its cause.
     ensures cause { IfErr result (λ error. IsCause error text.now) }
 {
-    let tokens = tokens_of(alloc, text)?;
-    Parser::new(alloc, &tokens, text).modules()
+    let mut parser = Parser::new(alloc, text);
+    match parser.modules() {
+        Ok(modules) => Ok(modules),
+        Err(stop) => Err(cause_of(stop, text)),
+    }
 }
 
 /// Tokens spell one list of modules at most.

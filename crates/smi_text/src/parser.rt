@@ -1,37 +1,42 @@
 //! The tokens that are left of a text, and the steps in which every production is read.
 #![tactic(auto, unfolding(crate::specs::Format::lower, crate::specs::Format::word, crate::specs::Format::token, crate::specs::Format::text, crate::specs::Format::text_where, crate::specs::Format::name, crate::specs::Format::begins, crate::specs::Format::maybe, crate::specs::Format::behind, crate::specs::Grammar::clause))]
 
-ghost use Rattle.std.specs.Prelude.{◌≡◌, ℕ, true, List, [], ◌∷◌, codes, map, drop, IfNone, IfSome, IfOk, IfErr, OnOk, ◌++◌, ◌<◌, length};
-ghost use Rattle.smi_lexer.specs.Token.{Lexeme, lexeme_of};
-ghost use Rattle.smi_text.specs.Format.{Format, begins, a_word, a_kind, a_name, line_ahead, name_of, with_front};
+ghost use Rattle.std.specs.Prelude.{◌≡◌, ℕ, true, false, MatchBool, List, [], ◌∷◌, codes, map, drop, IfNone, IfSome, IfOk, IfErr, OnOk, ◌++◌, ◌<◌, length};
+ghost use Rattle.smi_lexer.specs.Token.{Lexeme, Item, lexeme_of};
+ghost use Rattle.smi_text.specs.Format.{Format, begins, token_ahead, a_word, a_kind, a_name, line_ahead, name_of, with_front};
 ghost use Rattle.smi_text.specs.Kinds.{is_sign_kind, is_word_kind};
 ghost use Rattle.smi_text.specs.Format as format;
-ghost use Rattle.smi_text.specs.Gives.{Gives};
+ghost use Rattle.smi_lexer.specs.Lexes.{Lexes};
+ghost use Rattle.smi_text.specs.Gives.{Gives, is_memory};
 ghost use Rattle.smi_text.specs.Grammar as grammar;
 ghost use Rattle.smi_lexer.specs.declared.token.TokenKind.TheVariants as kinds;
 
 use crate::stop::Stop;
-use smi_lexer::{Token, TokenKind};
+use smi_lexer::{LexError, Lexer, Token, TokenKind};
 use smi_module::{Items, Name, Text, TokenText, is_reserved};
 use std::alloc::Global;
 use std::collections::BTreeSet;
 use std::marker::Model;
 
-/// The tokens that are left of a text, which productions take from the front.
+/// What is left of a text: a lexer, and the token that it gave last, which productions take.
 #[derive(Drop)]
 pub(crate) struct Parser<'a> {
     alloc: Global,
-    tokens: &'a [Token<'a>],
+    lexer: Lexer<'a>,
+    /// The token that comes next, or the fault where the text breaks off.
+    ahead: Option<Result<Token<'a>, LexError>>,
     text: &'a [u8],
 }
 
 impl<'a> Model for Parser<'a> {
-    ghost use Rattle.std.specs.Prelude.{List, map};
-    ghost use Rattle.smi_lexer.specs.Token.{Lexeme, lexeme_of};
+    ghost use Rattle.std.specs.Prelude.{List};
+    ghost use Rattle.smi_lexer.specs.Token.{Item};
 
-    ghost Value = { List Lexeme };
+    ghost Value = { List Item };
 
-    ghost view = { λ p. map lexeme_of p.tokens.now };
+    ghost use Rattle.smi_text.specs.Ahead.{items_left};
+
+    ghost view = { λ p. items_left p.ahead p.lexer };
 }
 
 /// A production of which there may be several in a row.
@@ -96,13 +101,17 @@ pub(crate) fn keep<T: Drop>(items: &mut Vec<T>, item: T) -> Result<(), Stop>
 }
 
 impl<'a> Parser<'a> {
-    /// The parser of these tokens of the text.
-    pub(crate) fn new(alloc: Global, tokens: &'a [Token<'a>], text: &'a [u8]) -> Parser<'a>
-        ensures { result ≡ map lexeme_of tokens.now }
+    /// The parser of a whole text.
+    pub(crate) fn new(alloc: Global, text: &'a [u8]) -> Parser<'a>
+        ensures items { Lexes [] text.now result }
+        ensures only { (items : List Item) → Lexes [] text.now items → items ≡ result }
     {
+        let mut lexer = Lexer::new(text);
+        let ahead = lexer.next();
         Parser {
             alloc,
-            tokens,
+            lexer,
+            ahead,
             text,
         }
     }
@@ -123,18 +132,28 @@ impl<'a> Parser<'a> {
 
     /// The token ahead.
     pub(crate) fn peek(&self) -> Option<Token<'a>>
-        ensures none { IfNone result (self.now ≡ []) }
-        ensures some { IfSome result (λ t. self.now ≡ lexeme_of t ∷ drop 1 self.now) }
+        ensures none { IfNone result (token_ahead self.now ≡ None) }
+        ensures some { IfSome result (λ t. self.now ≡ Ok (lexeme_of t) ∷ drop 1 self.now) }
     {
-        self.tokens.first().copied()
+        match &self.ahead {
+            Some(Ok(token)) => Some(*token),
+            _ => None,
+        }
+    }
+
+    /// Whether the text is read to its end.
+    pub(crate) fn is_at_end(&self) -> bool
+        ensures { MatchBool result (self.now ≡ []) (self.now ≡ [] → ⊥) }
+    {
+        self.ahead.is_none()
     }
 
     /// Moves past the token ahead.
     pub(crate) fn advance(&mut self)
         ensures { self.new ≡ drop 1 self.old }
     {
-        if let [_, rest @ ..] = self.tokens {
-            self.tokens = rest;
+        if self.ahead.is_some() {
+            self.ahead = self.lexer.next();
         }
     }
 
@@ -172,15 +191,17 @@ impl<'a> Parser<'a> {
         self.at_kind(first) || self.at_kind(second)
     }
 
-    /// The stop of a text that can't go on with the token ahead.
+    /// The stop of a text that can't go on with what is ahead.
     pub(crate) fn syntax(&self) -> Stop
-        ensures { (line : ℕ) × (result ≡ Stop.Syntax line) }
+        ensures { is_memory result ≡ false }
     {
-        let line = match self.peek() {
-            Some(token) => token.line,
-            None => last_line(self.text),
-        };
-        Stop::Syntax { line }
+        match &self.ahead {
+            Some(Ok(token)) => Stop::Syntax { line: token.line },
+            Some(Err(fault)) => Stop::Lex(*fault),
+            None => Stop::Syntax {
+                line: last_line(self.text),
+            },
+        }
     }
 
     /// Reads this word of the grammar.

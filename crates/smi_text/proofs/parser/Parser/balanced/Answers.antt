@@ -22,12 +22,12 @@ each-preserved c =
     )
 
 pub returns-in-None : goal.returns-in-None
-returns-in-None c = λ h. balanced-starts_with _ ∙ sym c.each.invariant.1 ∙ rw (c.in-None.ensures.none) (balanced-open _ _ c.if-depth-gt0.true)
+returns-in-None c = λ h. balanced-starts_with _ ∙ sym c.each.invariant.1 ∙ balanced-open _ _ _ c.if-depth-gt0.true c.in-None.ensures.none
 
 pub returns-in_default : goal.returns-in_default
 returns-in_default c =
     rw (c.new.ensures) (balanced-starts_with _ ∙ sym c.each.invariant.1 ∙ elim c.in_default.branch [
       | in_default-via-in-Some+else-not-is_outside w ↦
           rw (w.in-Some.ensures.some) (balanced-outside _ _ (lexeme_of w.in-Some.token) _ (sym w.is_outside.ensures ∙ w.if-not-is_outside.false))
-      | in_default-via-in-None+else-depth-gt0 w ↦ rw (w.in-None.ensures.none) (balanced-closed _ _ (omega arith))
+      | in_default-via-in-None+else-depth-gt0 w ↦ balanced-closed _ _ _ (omega arith) w.in-None.ensures.none
     ])

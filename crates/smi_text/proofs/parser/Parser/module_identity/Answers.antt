@@ -1,4 +1,5 @@
 use Rattle.std.proofs.Common.{refl}
+use Rattle.std.proofs.lemmas.Result.{err_from_is_err_and}
 use Rattle.smi_text.specs.Format.{behind, shaped, pair}
 use Rattle.smi_text.specs.Grammar.{module_identity}
 use Rattle.smi_text.proofs.parser.Parser.module_identity.Goals as goal
@@ -15,3 +16,17 @@ returns c =
       c.in_ok-revisions.ensures,
       c.in_ok-value.ensures,
     ) refl
+
+pub returns-in_err-value : goal.returns-in_err-value
+unfolding module_identity behind shaped pair
+returns-in_err-value c =
+    let p = err_from_is_err_and c.from_residual-in_err-value.result c.from_residual-in_err-value.ensures.1 in
+    rw (p.1, p.2) (λ h. rw (
+      c.in_ok-word.ensures,
+      c.in_ok-last_updated.ensures,
+      c.in_ok-organization.ensures,
+      c.in_ok-contact_info.ensures,
+      c.in_ok-description.ensures,
+      c.in_ok-revisions.ensures,
+      c.in_err-value.ensures h,
+    ) refl)
