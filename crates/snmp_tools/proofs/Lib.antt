@@ -1,6 +1,5 @@
-pub mod Letters
+pub mod LetterLemmas
 pub mod NameLemmas
-pub mod Outcomes
 pub mod Printed
 pub mod Streams
-pub mod Walked
+pub mod Texts

@@ -1,7 +1,9 @@
 -- What the facts of a walk over a table in memory are to the job that began it.
-use Rattle.std.proofs.Common.{◌≡◌, ◌⊎◌, inl, inr, ◌<◌, ◌++◌, ℕ, List, [], ◌∷◌, Option, Some, None, refl, sym, ◌∙◌, ap, subst, arith}
+use Rattle.std.proofs.Common.{◌≡◌, ◌⊎◌, inl, inr, ◌++◌, ℕ, List, [], ◌∷◌, length, Option, Some, None, refl, sym, ◌∙◌, ap, subst}
 use Rattle.snmp_oid.specs.Identifier.{wire}
 use Rattle.snmp_wire.specs.Message.{VarBind}
+use Rattle.snmp_table.specs.Exact.{HasOne}
+use Rattle.snmp_table.specs.Listing.{variables}
 use Rattle.snmp_table.specs.Table.{MibView, IsMibView, IsGet}
 use Rattle.snmp_walk.specs.declared.end.WalkEnd.{WalkEnd}
 use Rattle.snmp_walk.specs.declared.end.WalkEnd.TheVariants as ending
@@ -9,12 +11,11 @@ use Rattle.snmp_walk.specs.Walker.{Walker}
 use Rattle.snmp_walk.specs.Traffic.{Traffic}
 use Rattle.snmp_walk.specs.Room.{HasRoomForEach, HasIds}
 use Rattle.snmp_walk.specs.Facts.{WalkFacts, IsLawfulEnd, HasNone, IsDone, IsDoneOrStopped}
-use Rattle.snmp_words.specs.Words.{WalkWords}
-use Rattle.snmp_tools.specs.declared.failure.Failure.{Failure}
-use Rattle.snmp_tools.specs.declared.failure.Failure.TheVariants as failure
 use Rattle.snmp_tools.specs.Lines.{IsPrintedUpTo}
 use Rattle.snmp_io.specs.Output.{Stream}
-use Rattle.snmp_tools.specs.Job.{end_in_memory, Holdings, agent_over, first_of, IsWalkOver, IsWalkFrom, AreRowsOf, IsWalked, IsOwnEnd, failure_of, IsOutcome, walked}
+use Rattle.snmp_tools.specs.Outcome.{AreRowsAfter, AreRowsOf, Counts, IsOwnEnd, IsWalked, agent_over, end_in_memory, first_after, first_of}
+use Rattle.snmp_tools.specs.Plan.{Plan}
+use Rattle.snmp_tools.specs.Start.{IsStartOf, rows_after}
 
 own_end : (end : WalkEnd) → IsDoneOrStopped end → IsOwnEnd (end_in_memory end)
 own_end (ending.Done n) s = tt
@@ -29,20 +30,20 @@ own_end ending.RequestTooLong s = absurd s
 own_end ending.NoResponse s = absurd s
 
 -- the same of the end that is reported
-lawful_in : (view : MibView) (core : Walker) (rows : List VarBind) (end : WalkEnd) → IsLawfulEnd (agent_over view) (HasNone (agent_over view)) core rows end
-    → IsLawfulEnd (agent_over view) (HasNone (agent_over view)) core rows (end_in_memory end)
-lawful_in view core rows (ending.Done n) h = h
-lawful_in view core rows (ending.Sink fault) h = h
-lawful_in view core rows ending.Link h = h
-lawful_in view core rows (ending.Fault status index) h = h
-lawful_in view core rows (ending.NoProgress asked) h = h
-lawful_in view core rows ending.BadReply h = h
-lawful_in view core rows (ending.NotIncreasing last got) h = h
-lawful_in view core rows ending.TooManyRequests h = h
-lawful_in view core rows ending.RequestTooLong h = h
-lawful_in view core rows ending.NoResponse h = h
+lawful_in : (plan : Plan) (view : MibView) (core : Walker) (rows : List VarBind) (end : WalkEnd) → IsLawfulEnd (agent_over plan view) (HasNone (agent_over plan view)) core rows end
+    → IsLawfulEnd (agent_over plan view) (HasNone (agent_over plan view)) core rows (end_in_memory end)
+lawful_in plan view core rows (ending.Done n) h = h
+lawful_in plan view core rows (ending.Sink fault) h = h
+lawful_in plan view core rows ending.Link h = h
+lawful_in plan view core rows (ending.Fault status index) h = h
+lawful_in plan view core rows (ending.NoProgress asked) h = h
+lawful_in plan view core rows ending.BadReply h = h
+lawful_in plan view core rows (ending.NotIncreasing last got) h = h
+lawful_in plan view core rows ending.TooManyRequests h = h
+lawful_in plan view core rows ending.RequestTooLong h = h
+lawful_in plan view core rows ending.NoResponse h = h
 
-printed_in : (before after : Stream) (rows refused : List VarBind) (end : WalkEnd) → IsPrintedUpTo before rows refused end after → IsPrintedUpTo before rows refused (end_in_memory end) after
+pub printed_in : (before after : Stream) (rows refused : List VarBind) (end : WalkEnd) → IsPrintedUpTo before rows refused end after → IsPrintedUpTo before rows refused (end_in_memory end) after
 printed_in before after rows refused (ending.Done n) h = h
 printed_in before after rows refused (ending.Sink fault) h = h
 printed_in before after rows refused ending.Link h = h
@@ -78,37 +79,52 @@ no_link ending.TooManyRequests h = cc
 no_link ending.RequestTooLong h = cc
 no_link ending.NoResponse h = cc
 
--- an end that isn't Done is a failure
-pub ended : (end : WalkEnd) → ((n : ℕ) → end ≡ ending.Done n → ⊥) → failure_of end ≡ Some (failure.Ended end)
-ended (ending.Done n) never = absurd (never n refl)
-ended (ending.Sink fault) never = refl
-ended ending.Link never = refl
-ended (ending.Fault status index) never = refl
-ended (ending.NoProgress asked) never = refl
-ended ending.BadReply never = refl
-ended (ending.NotIncreasing last got) never = refl
-ended ending.TooManyRequests never = refl
-ended ending.RequestTooLong never = refl
-ended ending.NoResponse never = refl
+-- an end tells of the number of rows given
+counts : (plan : Plan) (view : MibView) (first : Walker) (rows : List VarBind) (end : WalkEnd)
+    → IsLawfulEnd (agent_over plan view) (HasNone (agent_over plan view)) first rows end → Counts end (length rows)
+counts plan view first rows (ending.Done n) h = h.5.0
+counts plan view first rows (ending.Sink fault) h = tt
+counts plan view first rows ending.Link h = tt
+counts plan view first rows (ending.Fault status index) h = tt
+counts plan view first rows (ending.NoProgress asked) h = tt
+counts plan view first rows ending.BadReply h = tt
+counts plan view first rows (ending.NotIncreasing last got) h = tt
+counts plan view first rows ending.TooManyRequests h = tt
+counts plan view first rows ending.RequestTooLong h = tt
+counts plan view first rows ending.NoResponse h = tt
 
-module _ (words : WalkWords) (files : Holdings) (view : MibView) (core : Walker) (root : List ℕ) (good : IsMibView view) (from : IsWalkFrom root core)
-    (tries : ℕ) (old new : Traffic) (rows turned : List VarBind) (end : WalkEnd) (facts : WalkFacts (agent_over view) tries old core rows turned end new) (none : old.ahead ≡ []) where
-  got_at : (got : VarBind) → IsGet view (wire root) got → IsGet view core.asked got
-  got_at got h = subst (λ (w : Walker). IsGet view w.asked got) (sym from.is) h
+-- the rows of a walk, with the answer to a Get of the name that it begins from
+begun_rows : (after : Option (List ℕ)) (plan : Plan) (view : MibView) (rows : List VarBind) (asked : List ℕ) → AreRowsAfter after plan view rows
+    → asked ≡ (first_after after plan).asked → HasOne (IsGet view asked)
+    → (got : VarBind) × IsGet view asked got × (rows ≡ rows_after after plan got (variables view))
+begun_rows None plan view rows asked w e one = (w.0, subst (λ (o : List ℕ). IsGet view o w.0) (sym e) w.1, w.2)
+begun_rows (Some after) plan view rows asked w e one = (one.0, one.1, w)
 
-  is_walked : IsWalked view root rows turned (end_in_memory end)
+module _ (plan : Plan) (view : MibView) (core : Walker) (good : IsMibView view) (one : (o : List ℕ) → HasOne (IsGet view o)) (from : IsStartOf core plan)
+    (tries : ℕ) (old new : Traffic) (rows turned : List VarBind) (end : WalkEnd)
+    (facts : WalkFacts (agent_over plan view) tries old core rows turned end new) (none : old.ahead ≡ []) where
+  lawful : IsLawfulEnd (agent_over plan view) (HasNone (agent_over plan view)) (first_of plan) rows (end_in_memory end)
+  lawful = subst (λ (c : Walker). IsLawfulEnd (agent_over plan view) (HasNone (agent_over plan view)) c rows (end_in_memory end)) from.is
+      (lawful_in plan view core rows end (facts.replied none))
+
+  begun : (whole : List VarBind) → AreRowsOf plan view whole
+      → (got : VarBind) × IsGet view core.asked got × (whole ≡ rows_after plan.after plan got (variables view))
+  begun whole w = begun_rows plan.after plan view whole core.asked w (ap (λ (c : Walker). c.asked) from.is) (one core.asked)
+
+  pub is_walked : IsWalked plan view rows turned (end_in_memory end)
   is_walked = record {
-    lawful = subst (λ (c : Walker). IsLawfulEnd (agent_over view) (HasNone (agent_over view)) c rows (end_in_memory end)) from.is (lawful_in view core rows end (facts.replied none));
+    lawful = lawful;
     linked = no_link end;
-    beginning = λ whole w.
-        let left = facts.beginning view w.got refl (got_at w.got w.answer) in
-        (left.0, w.rows_are ∙ sym (from.gives view w.got good) ∙ left.1);
-    all = λ whole w done. facts.all_at_done view w.got refl (got_at w.got w.answer) (done_in end done) ∙ from.gives view w.got good ∙ sym w.rows_are;
-    ends = λ whole w room ids.
-        own_end end (facts.done_unless_stopped view w.got refl (got_at w.got w.answer)
-        (subst (λ (c : Walker). HasRoomForEach (agent_over view) view c) (sym from.is) room) (subst (λ (c : Walker). HasIds c view) (sym from.is) ids) none);
+    counted = counts plan view (first_of plan) rows (end_in_memory end) lawful;
+    front = λ whole w.
+        let b = begun whole w in
+        let left = facts.beginning view b.0 refl b.1 in
+        (left.0, b.2 ∙ sym (from.gives view b.0 good) ∙ left.1);
+    whole = λ whole w done.
+        let b = begun whole w in
+        facts.all_at_done view b.0 refl b.1 (done_in end done) ∙ from.gives view b.0 good ∙ sym b.2;
+    complete = λ room ids.
+        let b = one core.asked in
+        own_end end (facts.done_unless_stopped view b.0 refl b.1
+        (subst (λ (c : Walker). HasRoomForEach (agent_over plan view) view c) (sym from.is) room) (subst (λ (c : Walker). HasIds c view) (sym from.is) ids) none);
   }
-
-  pub walked_over : (before after : Stream) → IsWalkOver words files view root → IsPrintedUpTo before rows turned end after
-      → IsOutcome words files before after (failure_of (end_in_memory end))
-  walked_over before after over printed = walked view root rows turned (end_in_memory end) over is_walked (printed_in before after rows turned end printed) refl

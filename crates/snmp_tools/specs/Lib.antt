@@ -1,3 +1,11 @@
-pub mod Job
+pub mod Chosen
+pub mod Headline
+pub mod Letters
 pub mod Lines
 pub mod Message
+pub mod Method
+pub mod Outcome
+pub mod Plan
+pub mod Planned
+pub mod Start
+pub mod Usage

@@ -1,5 +1,5 @@
--- What the tools print on standard error: one line for each fault.
-use Rattle.std.specs.Prelude.{ℕ, ℤ, pos, negsuc, List, [], ◌∷◌, ◌++◌, codes, decimal, nat_lt, if◌then◌else◌, slice_index_or}
+-- Why a job isn't done, and what is printed of it on standard error: one line.
+use Rattle.std.specs.Prelude.{ℕ, ℤ, pos, negsuc, List, [], ◌∷◌, ◌++◌, codes, decimal, slice_index_or}
 use Rattle.std.specs.Fmt.{signed_decimal}
 use Rattle.snmp_oid.specs.Numeric.{numeric_text}
 use Rattle.snmp_table.specs.declared.error.TableError.{TableError}
@@ -8,36 +8,58 @@ use Rattle.snmp_walk.specs.declared.end.WalkEnd.{WalkEnd}
 use Rattle.snmp_walk.specs.declared.end.WalkEnd.TheVariants as walk_end
 use Rattle.snmp_walk.specs.declared.end.SinkFault.{SinkFault}
 use Rattle.snmp_walk.specs.declared.end.SinkFault.TheVariants as sink
-use Rattle.snmp_tools.specs.declared.failure.Words.{Words}
 use Rattle.snmp_tools.specs.declared.failure.Failure.{Failure}
 use Rattle.snmp_tools.specs.declared.failure.Failure.TheVariants as failure
 
--- the words of a job that messages repeat
-pub record JobWords : Type 0 where
-  pub agent : List ℕ
-  pub path : List ℕ
-  pub name : List ℕ
+-- why a job isn't done, with the words that its message repeats
+pub data Fault : Type 0 where
+  bad_version : List ℕ → Fault
+  bad_letter : ℕ → Fault
+  long_community : Fault
+  bad_agent : List ℕ → Fault
+  bad_number : List ℕ → Fault
+  long_name : List ℕ → Fault
+  unreadable : List ℕ → Fault
+  bad_table : List ℕ → TableError → Fault
+  unsendable : List ℕ → Fault
+  outside_root : List ℕ → Fault
+  ended : List ℕ → WalkEnd → Fault
+  out_of_memory : Fault
 
-abbrev pub words_of : Words → JobWords
-words_of words = record { agent = words.agent.now; path = words.path.now; name = words.name.now }
+-- the fault that a failure stands for
+abbrev pub fault_of : Failure → Fault
+fault_of (failure.Version word) = bad_version word.now
+fault_of (failure.Letter letter) = bad_letter letter
+fault_of failure.Community = long_community
+fault_of (failure.Agent word) = bad_agent word.now
+fault_of (failure.BadNumber text) = bad_number text.now
+fault_of (failure.NameTooLong text) = long_name text.now
+fault_of (failure.Unreadable path) = unreadable path.now
+fault_of (failure.Table path error) = bad_table path.now error
+fault_of (failure.NotWire text) = unsendable text.now
+fault_of (failure.AfterOutsideRoot text) = outside_root text.now
+fault_of (failure.Ended agent why) = ended agent.now why
+fault_of failure.Memory = out_of_memory
 
--- the exit status of a failure
-abbrev pub status_of : Failure → ℕ
-status_of (failure.Ended (walk_end.Fault status index)) = 2
+-- the exit status: 2 where an agent replied with an error status
+abbrev pub status_of : Fault → ℕ
+status_of (ended agent (walk_end.Fault status index)) = 2
 status_of _ = 1
 
 -- the names of the error statuses (RFC 3416, section 3)
 abbrev pub status_names : List (List ℕ)
 status_names =
-    codes "noError" ∷ codes "tooBig" ∷ codes "noSuchName" ∷ codes "badValue" ∷ codes "readOnly" ∷ codes "genErr" ∷ codes "noAccess" ∷ codes "wrongType"
-    ∷ codes "wrongLength" ∷ codes "wrongEncoding" ∷ codes "wrongValue" ∷ codes "noCreation" ∷ codes "inconsistentValue" ∷ codes "resourceUnavailable"
-    ∷ codes "commitFailed" ∷ codes "undoFailed" ∷ codes "authorizationError" ∷ codes "notWritable" ∷ codes "inconsistentName" ∷ []
+    codes "noError" ∷ codes "tooBig" ∷ codes "noSuchName" ∷ codes "badValue" ∷ codes "readOnly"
+    ∷ codes "genErr" ∷ codes "noAccess" ∷ codes "wrongType" ∷ codes "wrongLength"
+    ∷ codes "wrongEncoding" ∷ codes "wrongValue" ∷ codes "noCreation" ∷ codes "inconsistentValue"
+    ∷ codes "resourceUnavailable" ∷ codes "commitFailed" ∷ codes "undoFailed"
+    ∷ codes "authorizationError" ∷ codes "notWritable" ∷ codes "inconsistentName" ∷ []
 
 abbrev pub status_name : ℤ → List ℕ
 status_name (pos n) = slice_index_or status_names n (codes "unknown")
 status_name (negsuc n) = codes "unknown"
 
--- a fault of a table file, behind the file's path
+-- a fault of the table file at a path
 abbrev pub table_message : List ℕ → TableError → List ℕ
 table_message path (table.BadLine line) = path ++ codes ":" ++ decimal line ++ codes ": bad line"
 table_message path (table.BadName line) = path ++ codes ":" ++ decimal line ++ codes ": bad name"
@@ -51,8 +73,8 @@ sink_message sink.Memory = codes "Out of memory."
 
 -- an error status and error index
 abbrev pub fault_text : ℤ → ℤ → List ℕ
-fault_text status index =
-    codes "Error in packet: " ++ status_name status ++ codes " (" ++ signed_decimal status ++ codes "), index " ++ signed_decimal index
+fault_text status index = codes "Error in packet: " ++ status_name status ++ codes " ("
+    ++ signed_decimal status ++ codes "), index " ++ signed_decimal index
 
 -- how a walk ended, other than with all that there is
 abbrev pub end_message : List ℕ → WalkEnd → List ℕ
@@ -60,7 +82,8 @@ end_message agent (walk_end.Done count) = []
 end_message agent (walk_end.Fault status index) = fault_text status index
 end_message agent (walk_end.NoProgress asked) = codes "No progress after " ++ numeric_text asked
 end_message agent walk_end.BadReply = codes "Bad reply from " ++ agent ++ codes "."
-end_message agent (walk_end.NotIncreasing last got) = codes "Error: OID not increasing: " ++ numeric_text last ++ codes " >= " ++ numeric_text got
+end_message agent (walk_end.NotIncreasing last got) =
+    codes "Error: OID not increasing: " ++ numeric_text last ++ codes " >= " ++ numeric_text got
 end_message agent walk_end.TooManyRequests = codes "Too many requests."
 end_message agent walk_end.RequestTooLong = codes "Request too long."
 end_message agent walk_end.NoResponse = codes "Timeout: No Response from " ++ agent ++ codes "."
@@ -68,13 +91,16 @@ end_message agent walk_end.Link = codes "The link failed."
 end_message agent (walk_end.Sink fault) = sink_message fault
 
 -- the line of a fault, without its newline
-abbrev pub message_of : JobWords → Failure → List ℕ
-message_of words (failure.Letter letter) = codes "Unknown letter: " ++ letter ∷ []
-message_of words failure.Agent = codes "Bad agent address: " ++ words.agent
-message_of words failure.BadNumber = codes "Bad number: " ++ words.name
-message_of words failure.NameTooLong = codes "Name too long: " ++ words.name
-message_of words failure.Unreadable = words.path ++ codes ": cannot be read"
-message_of words (failure.Table fault) = table_message words.path fault
-message_of words failure.NotWire = codes "Name cannot be sent: " ++ words.name
-message_of words (failure.Ended «end») = end_message words.agent «end»
-message_of words failure.Memory = codes "Out of memory."
+abbrev pub message_of : Fault → List ℕ
+message_of (bad_version word) = codes "Unknown version: " ++ word
+message_of (bad_letter letter) = codes "Unknown letter: " ++ letter ∷ []
+message_of long_community = codes "Community too long."
+message_of (bad_agent word) = codes "Bad agent address: " ++ word
+message_of (bad_number text) = codes "Bad number: " ++ text
+message_of (long_name text) = codes "Name too long: " ++ text
+message_of (unreadable path) = path ++ codes ": cannot be read"
+message_of (bad_table path error) = table_message path error
+message_of (unsendable text) = codes "Name cannot be sent: " ++ text
+message_of (outside_root text) = codes "Not below the root: " ++ text
+message_of (ended agent why) = end_message agent why
+message_of out_of_memory = codes "Out of memory."

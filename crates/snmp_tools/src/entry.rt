@@ -1,7 +1,11 @@
 //! From words to status.
-ghost use Rattle.std.specs.Prelude.{◌≡◌, true, Some};
-ghost use Rattle.snmp_words.specs.Words.{WalkWords, is_taken, stated_job, walk};
-ghost use Rattle.snmp_tools.specs.Job.{texts, Does, WritesABeginning, WritesAll, EndsWell};
+ghost use Rattle.std.specs.Prelude.{◌≡◌, Bool, Some, true};
+ghost use Rattle.snmp_words.specs.Command.{is_taken};
+ghost use Rattle.snmp_words.specs.Words.{AreFaulty, WalkWords, stated_job};
+ghost use Rattle.snmp_tools.specs.Headline.{EndsAtStatus0, WritesAllAtStatus0, WritesFront};
+ghost use Rattle.snmp_tools.specs.Outcome.{IsRun};
+ghost use Rattle.snmp_tools.specs.Planned.{walk_stated};
+ghost use Rattle.snmp_tools.specs.Usage.{IsHelpOrMistake, PrintsHelp, texts};
 
 use crate::job::{run_job, tell};
 use crate::lines::Lines;
@@ -9,9 +13,12 @@ use snmp_io::{Files, Output, write_all};
 use snmp_words::{UsageError, read_words};
 use std::alloc::Global;
 
-/// Does what the words of a command line ask for, the program's name among them as the first, and answers the exit status.
+/// Does what the words of a command line ask for, the program's name among them as the first, and
+/// returns the exit status.
 ///
-/// 0 where it was done, 2 where an agent replied with an error status, and 1 in any other case. Each fault is a line on `err`.
+/// It is 0 where that was done, 2 where an agent replied with an error status, and 1 in any other
+/// case. A failure is one line on `err`, save that what is wrong with the shape of the words may
+/// take several.
 pub fn tool<F: Files, O: Output, E: Output>(
     alloc: Global,
     words: &[&str],
@@ -19,16 +26,25 @@ pub fn tool<F: Files, O: Output, E: Output>(
     out: &mut Lines<O>,
     err: &mut E,
 ) -> u8
-    ensures does { (w : WalkWords) → is_taken (texts words.now) ≡ true → stated_job (texts words.now) ≡ Some (walk w)
-        → Does w (F.text_at files.now) (O.stream out.old.out) (O.stream out.new.out)
+    ensures outcome_reported { (bulk : Bool) (w : WalkWords) → is_taken (texts words.now) ≡ true
+        → stated_job (texts words.now) ≡ Some (walk_stated bulk w)
+        → IsRun bulk w (F.text_at files.now) (O.stream out.old.out) (O.stream out.new.out)
         (E.stream err.old) (E.stream err.new) result }
-    ensures beginning { (w : WalkWords) → is_taken (texts words.now) ≡ true → stated_job (texts words.now) ≡ Some (walk w)
-        → WritesABeginning w (F.text_at files.now) (O.stream out.old.out) (O.stream out.new.out) }
-    ensures all { (w : WalkWords) → is_taken (texts words.now) ≡ true → stated_job (texts words.now) ≡ Some (walk w)
-        → WritesAll w (F.text_at files.now) (O.stream out.old.out) (O.stream out.new.out) result }
-    ensures well { (w : WalkWords) → is_taken (texts words.now) ≡ true → stated_job (texts words.now) ≡ Some (walk w)
-        → EndsWell w (F.text_at files.now) (O.stream out.old.out) (O.stream out.new.out)
-        (E.stream err.old) (E.stream err.new) result }
+    ensures front_written { (bulk : Bool) (w : WalkWords) → is_taken (texts words.now) ≡ true
+        → stated_job (texts words.now) ≡ Some (walk_stated bulk w)
+        → WritesFront bulk w (F.text_at files.now) (O.stream out.old.out) (O.stream out.new.out) }
+    ensures all_written_at_status_0 { (bulk : Bool) (w : WalkWords)
+        → is_taken (texts words.now) ≡ true
+        → stated_job (texts words.now) ≡ Some (walk_stated bulk w)
+        → WritesAllAtStatus0 bulk w (F.text_at files.now)
+        (O.stream out.old.out) (O.stream out.new.out) result }
+    ensures ends_at_status_0 { (bulk : Bool) (w : WalkWords) → is_taken (texts words.now) ≡ true
+        → stated_job (texts words.now) ≡ Some (walk_stated bulk w)
+        → EndsAtStatus0 bulk w (F.text_at files.now)
+        (O.stream out.old.out) (O.stream out.new.out) (E.stream err.old) (E.stream err.new) result }
+    ensures help_or_mistake { AreFaulty (texts words.now)
+        → IsHelpOrMistake (texts words.now)
+        (O.stream out.old.out) (O.stream out.new.out) result }
 {
     match read_words(alloc, words) {
         Ok(job) => run_job(alloc, &job, files, out, err),
@@ -44,8 +60,10 @@ pub fn tool<F: Files, O: Output, E: Output>(
     }
 }
 
-/// Prints the help that was asked for, and answers the status.
-fn print_help<O: Output, E: Output>(text: &str, out: &mut Lines<O>, err: &mut E) -> u8 {
+// Prints the help that was asked for, and returns the status.
+fn print_help<O: Output, E: Output>(text: &str, out: &mut Lines<O>, err: &mut E) -> u8
+    ensures { PrintsHelp (O.stream out.old.out) text.now (O.stream out.new.out) result }
+{
     match write_all(&mut out.out, text.as_bytes()) {
         Ok(()) => 0,
         Err(_) => {

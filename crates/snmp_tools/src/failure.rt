@@ -11,89 +11,91 @@ use snmp_table::TableError;
 use snmp_walk::{SinkFault, WalkEnd};
 use std::alloc::AllocError;
 
-/// Why a job wasn't done.
+/// Why a job wasn't done, with the words that its message repeats.
 #[derive(Debug, Drop)]
-pub enum Failure {
-    /// A letter behind -O that has no meaning.
+pub enum Failure<'a> {
+    /// The version of SNMP, of `-v`, isn't 2c.
+    Version(&'a str),
+    /// A letter of `-O` or `-C` that has no meaning.
     Letter(u8),
+    /// The community has more than 255 octets.
+    Community,
     /// The word for the agent is no address.
-    Agent,
+    Agent(&'a str),
     /// A part of the name is no number.
-    BadNumber,
+    BadNumber(&'a str),
     /// The name has more than 128 numbers.
-    NameTooLong,
+    NameTooLong(&'a str),
     /// The file can't be read.
-    Unreadable,
+    Unreadable(&'a str),
     /// The table file has a fault.
-    Table(TableError),
+    Table(&'a str, TableError),
     /// The name can't be sent.
-    NotWire,
-    /// The walk ended otherwise than with all that there is.
-    Ended(WalkEnd),
+    NotWire(&'a str),
+    /// The name of `--after` is neither the root nor below it.
+    AfterOutsideRoot(&'a str),
+    /// The walk over this agent ended otherwise than with all that there is.
+    Ended(&'a str, WalkEnd),
     /// Memory ran out.
     Memory,
 }
 
-/// The words of a job that messages repeat.
-#[derive(Clone, Copy)]
-pub struct Words<'a> {
-    /// The agent, as given.
-    pub agent: &'a str,
-    /// The path of its table.
-    pub path: &'a str,
-    /// The name, as given.
-    pub name: &'a str,
-}
-
-impl Failure {
+impl Failure<'_> {
     ghost use Rattle.std.specs.Prelude.{◌≡◌, ◌++◌, OnOk, OnErr};
-    ghost use Rattle.snmp_tools.specs.Message.{message_of, status_of, words_of};
+    ghost use Rattle.snmp_tools.specs.Message.{fault_of, message_of, status_of};
     ghost use Rattle.snmp_lines.specs.Begun.{IsBegun};
 
     /// The exit status: 2 where the agent replied with an error status, else 1.
     pub fn status(&self) -> u8
-        ensures { result ≡ status_of self.now }
+        ensures { result ≡ status_of (fault_of self.now) }
     {
         match self {
-            Failure::Ended(WalkEnd::Fault(_, _)) => 2,
+            Failure::Ended(_, WalkEnd::Fault(_, _)) => 2,
             _ => 1,
         }
     }
 
-    /// Appends the message, without a newline. Without memory `out` is unchanged.
-    pub fn message(&self, words: Words<'_>, out: &mut Vec<u8>) -> Result<(), AllocError>
-        ensures ok { OnOk result (out.new.items ≡ out.old.items ++ message_of (words_of words.entry) self.now) }
-        ensures err { OnErr result (out.new.items ≡ out.old.items) }
+    /// Appends the message, without a newline. Where memory runs out, `out` is unchanged.
+    pub fn message(&self, out: &mut Vec<u8>) -> Result<(), AllocError>
+        ensures appended { OnOk result (
+            out.new.items ≡ out.old.items ++ message_of (fault_of self.now)) }
+        ensures unchanged_on_error { OnErr result (out.new.items ≡ out.old.items) }
     {
         let before = out.len();
-        let done = self.parts(words, out);
+        let done = self.parts(out);
         if done.is_err() {
             out.truncate(before);
         }
         done
     }
 
-    /// Appends the message, or without memory perhaps a part of it.
-    fn parts(&self, words: Words<'_>, out: &mut Vec<u8>) -> Result<(), AllocError>
-        ensures ok { OnOk result (out.new.items ≡ out.old.items ++ message_of (words_of words.entry) self.now) }
+    // Appends the message, or where memory runs out perhaps a part of it.
+    fn parts(&self, out: &mut Vec<u8>) -> Result<(), AllocError>
+        ensures ok { OnOk result (
+            out.new.items ≡ out.old.items ++ message_of (fault_of self.now)) }
         ensures err { OnErr result (IsBegun out.old.items out.new.items) }
     {
         match self {
-            Failure::Letter(letter) => behind(out, b"Unknown letter: ", &[*letter]),
-            Failure::Agent => behind(out, b"Bad agent address: ", words.agent.as_bytes()),
-            Failure::BadNumber => behind(out, b"Bad number: ", words.name.as_bytes()),
-            Failure::NameTooLong => behind(out, b"Name too long: ", words.name.as_bytes()),
-            Failure::Unreadable => behind(out, words.path.as_bytes(), b": cannot be read"),
-            Failure::Table(fault) => table_message(fault, words.path, out),
-            Failure::NotWire => behind(out, b"Name cannot be sent: ", words.name.as_bytes()),
-            Failure::Ended(end) => end_message(end, words.agent, out),
+            Failure::Version(word) => two_texts(out, b"Unknown version: ", word.as_bytes()),
+            Failure::Letter(letter) => two_texts(out, b"Unknown letter: ", &[*letter]),
+            Failure::Community => pieces::octets(out, b"Community too long."),
+            Failure::Agent(word) => two_texts(out, b"Bad agent address: ", word.as_bytes()),
+            Failure::BadNumber(text) => two_texts(out, b"Bad number: ", text.as_bytes()),
+            Failure::NameTooLong(text) => two_texts(out, b"Name too long: ", text.as_bytes()),
+            Failure::Unreadable(path) => two_texts(out, path.as_bytes(), b": cannot be read"),
+            Failure::Table(path, fault) => table_message(fault, path, out),
+            Failure::NotWire(text) => two_texts(out, b"Name cannot be sent: ", text.as_bytes()),
+            Failure::AfterOutsideRoot(text) => {
+                two_texts(out, b"Not below the root: ", text.as_bytes())
+            }
+            Failure::Ended(agent, end) => end_message(end, agent, out),
             Failure::Memory => pieces::octets(out, b"Out of memory."),
         }
     }
 }
 
-/// A text behind another.
-fn behind(out: &mut Vec<u8>, first: &[u8], second: &[u8]) -> Result<(), AllocError>
+// Two texts, one after the other.
+fn two_texts(out: &mut Vec<u8>, first: &[u8], second: &[u8]) -> Result<(), AllocError>
     ensures ok { OnOk result (out.new.items ≡ out.old.items ++ (first.now ++ second.now)) }
     ensures err { OnErr result (IsBegun out.old.items out.new.items) }
 {
@@ -101,7 +103,7 @@ fn behind(out: &mut Vec<u8>, first: &[u8], second: &[u8]) -> Result<(), AllocErr
     pieces::octets(out, second)
 }
 
-/// A fault of a table file, behind the file's path and the line.
+// A fault of a table file, after the file's path and the line.
 fn table_message(fault: &TableError, path: &str, out: &mut Vec<u8>) -> Result<(), AllocError>
     ensures ok { OnOk result (out.new.items ≡ out.old.items ++ table_message path.now fault.now) }
     ensures err { OnErr result (IsBegun out.old.items out.new.items) }
@@ -115,17 +117,17 @@ fn table_message(fault: &TableError, path: &str, out: &mut Vec<u8>) -> Result<()
     }
 }
 
-/// A path, a line, and what is wrong there.
+// A path, a line, and what is wrong there.
 fn at_line(out: &mut Vec<u8>, path: &str, line: usize, what: &[u8]) -> Result<(), AllocError>
     ensures ok { OnOk result (out.new.items ≡ out.old.items ++ (path.now ++ codes ":" ++ decimal line ++ what.now)) }
     ensures err { OnErr result (IsBegun out.old.items out.new.items) }
 {
-    behind(out, path.as_bytes(), b":")?;
+    two_texts(out, path.as_bytes(), b":")?;
     pieces::number(out, line as u64)?;
     pieces::octets(out, what)
 }
 
-/// How a walk ended.
+// How a walk ended.
 fn end_message(end: &WalkEnd, agent: &str, out: &mut Vec<u8>) -> Result<(), AllocError>
     ensures ok { OnOk result (out.new.items ≡ out.old.items ++ end_message agent.now end.now) }
     ensures err { OnErr result (IsBegun out.old.items out.new.items) }
@@ -133,7 +135,7 @@ fn end_message(end: &WalkEnd, agent: &str, out: &mut Vec<u8>) -> Result<(), Allo
     match end {
         WalkEnd::Done(_) => Ok(()),
         WalkEnd::Fault(status, index) => fault_message(out, status, index),
-        WalkEnd::NoProgress { asked } => name_behind(out, b"No progress after ", asked),
+        WalkEnd::NoProgress { asked } => text_and_name(out, b"No progress after ", asked),
         WalkEnd::BadReply => agent_message(out, b"Bad reply from ", agent),
         WalkEnd::NotIncreasing { last, got } => falling_message(out, last, got),
         WalkEnd::TooManyRequests => pieces::octets(out, b"Too many requests."),
@@ -145,28 +147,28 @@ fn end_message(end: &WalkEnd, agent: &str, out: &mut Vec<u8>) -> Result<(), Allo
     }
 }
 
-/// Two names of which the second should come behind the first.
+// Two names of which the second should be above the first.
 fn falling_message(out: &mut Vec<u8>, last: &Oid, got: &Oid) -> Result<(), AllocError>
     ensures ok { OnOk result (out.new.items ≡ out.old.items
         ++ (codes "Error: OID not increasing: " ++ numeric_text last.now ++ codes " >= " ++ numeric_text got.now)) }
     ensures err { OnErr result (IsBegun out.old.items out.new.items) }
 {
-    name_behind(out, b"Error: OID not increasing: ", last)?;
-    name_behind(out, b" >= ", got)
+    text_and_name(out, b"Error: OID not increasing: ", last)?;
+    text_and_name(out, b" >= ", got)
 }
 
-/// An error status and error index.
+// An error status and error index.
 fn fault_message(out: &mut Vec<u8>, status: &i32, index: &i32) -> Result<(), AllocError>
     ensures ok { OnOk result (out.new.items ≡ out.old.items ++ fault_text status.now index.now) }
     ensures err { OnErr result (IsBegun out.old.items out.new.items) }
 {
-    behind(out, b"Error in packet: ", status_name(*status))?;
-    integer_behind(out, b" (", status)?;
-    integer_behind(out, b"), index ", index)
+    two_texts(out, b"Error in packet: ", status_name(*status))?;
+    text_and_integer(out, b" (", status)?;
+    text_and_integer(out, b"), index ", index)
 }
 
-/// A signed number behind a text.
-fn integer_behind(out: &mut Vec<u8>, text: &[u8], n: &i32) -> Result<(), AllocError>
+// A signed number after a text.
+fn text_and_integer(out: &mut Vec<u8>, text: &[u8], n: &i32) -> Result<(), AllocError>
     ensures ok { OnOk result (out.new.items ≡ out.old.items ++ (text.now ++ signed_decimal n.now)) }
     ensures err { OnErr result (IsBegun out.old.items out.new.items) }
 {
@@ -174,7 +176,7 @@ fn integer_behind(out: &mut Vec<u8>, text: &[u8], n: &i32) -> Result<(), AllocEr
     pieces::integer(out, *n)
 }
 
-/// The name of an error status (RFC 3416, section 3).
+// The name of an error status (RFC 3416, section 3).
 fn status_name<'a>(status: i32) -> &'a [u8]
     ensures { result.now ≡ status_name status }
 {
@@ -202,8 +204,8 @@ fn status_name<'a>(status: i32) -> &'a [u8]
     }
 }
 
-/// A name in numbers, behind a text.
-fn name_behind(out: &mut Vec<u8>, text: &[u8], name: &Oid) -> Result<(), AllocError>
+// A name in numbers, after a text.
+fn text_and_name(out: &mut Vec<u8>, text: &[u8], name: &Oid) -> Result<(), AllocError>
     ensures ok { OnOk result (out.new.items ≡ out.old.items ++ (text.now ++ numeric_text name.now)) }
     ensures err { OnErr result (IsBegun out.old.items out.new.items) }
 {
@@ -211,11 +213,11 @@ fn name_behind(out: &mut Vec<u8>, text: &[u8], name: &Oid) -> Result<(), AllocEr
     pieces::identifier(out, name)
 }
 
-/// The agent as given, behind a text and before a full stop.
+// The agent as given, after a text and before a full stop.
 fn agent_message(out: &mut Vec<u8>, text: &[u8], agent: &str) -> Result<(), AllocError>
     ensures ok { OnOk result (out.new.items ≡ out.old.items ++ (text.now ++ agent.now ++ codes ".")) }
     ensures err { OnErr result (IsBegun out.old.items out.new.items) }
 {
-    behind(out, text, agent.as_bytes())?;
+    two_texts(out, text, agent.as_bytes())?;
     pieces::octets(out, b".")
 }

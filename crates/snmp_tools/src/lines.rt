@@ -1,15 +1,16 @@
 //! The output of the tools: texts as they stand, and a line for each binding of a walk.
-ghost use Rattle.std.specs.Prelude.{[], ◌≡◌, List, ℕ};
+ghost use Rattle.std.specs.Prelude.{◌≡◌, ◌+◌, ◌++◌, List, OnOk, []};
 ghost use Rattle.snmp_wire.specs.Message.{VarBind};
 ghost use Rattle.snmp_walk.specs.Facts.{IsFresh, WalkFacts};
 ghost use Rattle.snmp_io.specs.Count.{HasRisen};
 ghost use Rattle.snmp_tools.specs.Lines.{IsPrintedUpTo};
+ghost use Rattle.snmp_tools.specs.Lines.{TakesText, count_line};
 
 use snmp_io::{Output, OutputFault, write_all};
-use snmp_lines::line;
+use snmp_lines::{line, pieces};
 use snmp_walk::{Link, Sink, SinkFault, WalkCore, WalkEnd, run_walk};
 use snmp_wire::Binding;
-use std::alloc::Global;
+use std::alloc::{AllocError, Global};
 
 /// An output to which lines are written, one by one.
 #[derive(Drop)]
@@ -30,6 +31,30 @@ impl<O: Output> Lines<O> {
             text: Vec::new(alloc),
         }
     }
+
+    /// Prints the number of bindings that were found.
+    pub(crate) fn print_count(&mut self, count: u64) -> Result<(), SinkFault>
+        ensures { TakesText (O.stream self.old.out) (count_line count) result
+            (O.stream self.new.out) }
+    {
+        self.text.clear();
+        if count_line(count, &mut self.text).is_err() {
+            return Err(SinkFault::Memory);
+        }
+        match write_all(&mut self.out, &self.text) {
+            Ok(()) => Ok(()),
+            Err(OutputFault) => Err(SinkFault::Output),
+        }
+    }
+}
+
+// Appends the line that tells how many bindings were found.
+fn count_line(count: u64, out: &mut Vec<u8>) -> Result<(), AllocError>
+    ensures { OnOk result (out.new.items ≡ out.old.items ++ count_line count) }
+{
+    pieces::octets(out, b"Variables found: ")?;
+    pieces::number(out, count)?;
+    pieces::octets(out, b"\n")
 }
 
 impl<O: Output> Sink for Lines<O> {
@@ -49,20 +74,21 @@ impl<O: Output> Sink for Lines<O> {
     }
 }
 
-/// How often a request is sent again to which no reply came.
-const RETRIES: u32 = 5;
-
 /// Runs a walk whose bindings become lines on the output.
 pub(crate) fn print_walk<L: Link, O: Output>(
     link: &mut L,
     core: WalkCore,
+    retries: u32,
     out: &mut Lines<O>,
 ) -> WalkEnd
     requires { IsFresh core }
     ensures given { (rows : List VarBind) × (refused : List VarBind)
         × IsPrintedUpTo (O.stream out.old.out) rows refused result (O.stream out.new.out)
-        × (L.honest link.old → (L.traffic link.old).sent ≡ [] → WalkFacts (L.agents link.old) 6 (L.traffic link.old) core rows refused result (L.traffic link.new)) }
-    ensures fault { result ≡ WalkEnd.Link → HasRisen (L.fault_count link.old) (L.fault_count link.new) }
+        × (L.honest link.old → (L.traffic link.old).sent ≡ []
+        → WalkFacts (L.agents link.old) (retries + 1) (L.traffic link.old) core rows refused result
+        (L.traffic link.new)) }
+    ensures fault { result ≡ WalkEnd.Link
+        → HasRisen (L.fault_count link.old) (L.fault_count link.new) }
 {
-    run_walk(link, core, RETRIES, out)
+    run_walk(link, core, retries, out)
 }

@@ -1,5 +1,5 @@
 -- What follows of a command that has a stated shape.
-use Rattle.std.proofs.Common.{◌≡◌, ◌⊎◌, ◌&&◌, ap, refl, sym, inl, inr, true, false, not, true≢false, Bool, List, [], ◌∷◌, Option, Some, None, cond, option_map, IsSome, is_some, codes, ◌∙◌}
+use Rattle.std.proofs.Common.{◌≡◌, ◌⊎◌, ◌&&◌, ap, refl, sym, inl, inr, true, false, not, true≢false, Bool, List, [], ◌∷◌, Option, Some, None, cond, option_map, IsSome, is_some, codes, find, ◌∙◌}
 use Rattle.clap.specs.Simple.{App, built, Shape, argument_words, entered, label_of, names_of, rows_at}
 use Rattle.clap.specs.Walk.{Row, Text, answers_to, stop_after}
 use Rattle.clap.specs.Kinds.{IsAmong, Kinds}
@@ -7,7 +7,8 @@ use Rattle.clap.specs.declared.error.ErrorKind.{ErrorKind}
 use Rattle.clap.specs.declared.error.ErrorKind.TheVariants.{OutOfMemory}
 use Rattle.clap.specs.Words.{has_subcommand, subcommand_of, subcommand_rows_of}
 use Rattle.clap.specs.declared.ArgMatches.{ArgMatches}
-use Rattle.snmp_words.specs.Words.{HasFaultOf, IsMemory, Refuses, snmp_app, stated_in}
+use Rattle.snmp_words.specs.Command.{snmp_app}
+use Rattle.snmp_words.specs.Words.{HasFaultOf, IsMemory, StandsFor, stated_by, stated_in}
 use Rattle.snmp_words.specs.declared.UsageError.{UsageError}
 use Rattle.snmp_words.specs.declared.UsageError.TheVariants.{Memory, Parse}
 
@@ -22,31 +23,45 @@ is_some-map : {X Y : Type 0} (f : X → Y) (o : Option X) → is_some (option_ma
 is_some-map f None = refl
 is_some-map f (Some x) = refl
 
--- a command with one subcommand enters that one or none
-pub one_entered : (a : App) (s : Shape) → a.subs ≡ s ∷ [] → (stop : Option (Text × List Text))
-    → (entered a stop ≡ None) ⊎ ((rows : List Row) × (entered a stop ≡ Some (s.name, rows)))
-one_entered a s one None = inl refl
-one_entered a s one (Some p) = rw one (go (answers_to p.0 (label_of s)))
+-- each of the commands states a job
+abbrev AllState : List Shape → Type 0
+AllState [] = Unit {0}
+AllState (s ∷ more) = ((rows : List Row) → is_some (stated_by (s.name, rows)) ≡ true) × AllState more
+
+-- the first command that passes a test states a job, if there is one
+found_states : (test : Shape → Bool) (subs : List Shape) (words : List Text) → AllState subs
+    → (option_map (λ s. rows_at s words) (find test subs) ≡ None)
+    ⊎ (is_some (stated_in (option_map (λ s. rows_at s words) (find test subs))) ≡ true)
+found_states test [] words all = inl refl
+found_states test (s ∷ more) words all = go (test s) (found_states test more words all.1)
   where
-    go : (b : Bool) → (option_map (λ t. rows_at t p.1) (cond b (Some s) None) ≡ None)
-        ⊎ ((rows : List Row) × (option_map (λ t. rows_at t p.1) (cond b (Some s) None) ≡ Some (s.name, rows)))
-    go true = inr ((rows_at s p.1).1, refl)
-    go false = inl refl
+    go : (b : Bool) → (option_map (λ s. rows_at s words) (find test more) ≡ None)
+        ⊎ (is_some (stated_in (option_map (λ s. rows_at s words) (find test more))) ≡ true)
+        → (option_map (λ s. rows_at s words) (cond b (Some s) (find test more)) ≡ None)
+        ⊎ (is_some (stated_in (option_map (λ s. rows_at s words) (cond b (Some s) (find test more)))) ≡ true)
+    go true later = inr (all.0 (rows_at s words).1)
+    go false later = later
+
+entered_states : (a : App) → AllState a.subs → (stop : Option (Text × List Text))
+    → (entered a stop ≡ None) ⊎ (is_some (stated_in (entered a stop)) ≡ true)
+entered_states a all None = inl refl
+entered_states a all (Some p) = found_states (λ s. answers_to p.0 (label_of s)) a.subs p.1 all
 
 -- matches of the command that met a subcommand state a job
 pub states_job : (m : ArgMatches) (words : List Text) → has_subcommand m ≡ true → subcommand_rows_of m ≡ subcommand_of snmp_app words
     → IsSome (stated_in (subcommand_rows_of m))
 states_job m words met rows =
     let some : is_some (subcommand_of snmp_app words) ≡ true = ap is_some (sym rows) ∙ is_some-map _ _ ∙ met in
-    let one : (subcommand_of snmp_app words ≡ None) ⊎ ((r : List Row) × (subcommand_of snmp_app words ≡ Some (codes "snmpwalk", r))) =
-    one_entered (built snmp_app) _ refl (stop_after (built snmp_app).top.rules (names_of (built snmp_app)) (argument_words snmp_app words)) in
-    elim one [
+    let all : AllState (built snmp_app).subs = (λ rows. refl, (λ rows. refl, tt)) in
+    let states : (subcommand_of snmp_app words ≡ None) ⊎ (is_some (stated_in (subcommand_of snmp_app words)) ≡ true) =
+    entered_states (built snmp_app) all (stop_after (built snmp_app).top.rules (names_of (built snmp_app)) (argument_words snmp_app words)) in
+    elim states [
       | inl none ↦ absurd (true≢false (sym some ∙ ap is_some none))
-      | inr met_walk ↦ ap (λ o. is_some (stated_in o)) (rows ∙ met_walk.1)
+      | inr stated ↦ ap (λ o. is_some (stated_in o)) rows ∙ stated
     ]
 
-pub fault_of_refusal : (faults : Kinds) (k : ErrorKind) (e : UsageError) → (k ≡ OutOfMemory → IsMemory e) → Refuses k e
-    → (k ≡ OutOfMemory) ⊎ IsAmong k faults → HasFaultOf faults e
+pub fault_of_refusal : (faults : Kinds) (k : ErrorKind) (e : UsageError) → (k ≡ OutOfMemory → IsMemory e) → StandsFor e k
+    → (k ≡ OutOfMemory) ⊎ IsAmong k faults → HasFaultOf e faults
 fault_of_refusal faults k Memory memory refusal kind = tt
 fault_of_refusal faults k (Parse text help) memory refusal (inl none) = let same = memory none in absurd (cc)
 fault_of_refusal faults k (Parse text help) memory refusal (inr among) = (k, among, refusal)

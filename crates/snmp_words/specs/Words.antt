@@ -1,94 +1,125 @@
--- What the words of a command line state, in clap's terms: a command has rules for its words, and
--- the words that it takes give each rule a row of texts.
-use Rattle.std.specs.Prelude.{◌≡◌, ⊤, ◌++◌, Bool, true, false, List, [], ◌∷◌, Option, Some}
-use Rattle.std.specs.Prelude.{codes, unwrap_or, option_and_then, if◌then◌else◌, None}
+-- What the words of a command line state: the command, and the texts and numbers that they give it.
+use Rattle.std.specs.Prelude.{◌≡◌, ◌≢◌, ⊤, ◌++◌, ℕ, Bool, true, false, List, [], ◌∷◌, Option, Some, None}
+use Rattle.std.specs.Prelude.{string_bytes, codes, unwrap_or, option_and_then, option_map, if◌then◌else◌, map}
+use Rattle.std.specs.List.{flat_map}
 use Rattle.std.specs.Str.{bytes_eq}
-use Rattle.clap.specs.Faults.{fault_of}
+use Rattle.std.specs.Str.Parse.{digits_value, without_leading_plus}
 use Rattle.clap.specs.Kinds.{IsAmong, Kinds}
-use Rattle.clap.specs.Simple.{App, new_app, new_rule, on_top, subcommand_of, with_rule}
-use Rattle.clap.specs.Simple.{with_subcommand}
-use Rattle.clap.specs.Takes.{takes}
-use Rattle.clap.specs.Walk.{Row, Rule, Text, first_of}
+use Rattle.clap.specs.Simple.{subcommand_of}
+use Rattle.clap.specs.ValueTests.{is_unsigned_in}
+use Rattle.clap.specs.Walk.{Row, Text, all_of, first_of, texts}
 use Rattle.clap.specs.declared.error.kind.ErrorKind.{ErrorKind}
 use Rattle.clap.specs.declared.error.kind.ErrorKind.TheVariants as kind
-use Rattle.snmp_words.specs.declared.Job.{Job}
-use Rattle.snmp_words.specs.declared.Job.TheVariants.{Walk}
+use Rattle.snmp_words.specs.Command.{faults_of, snmp_app}
+use Rattle.snmp_words.specs.declared.job.Asking.{Asking}
+use Rattle.snmp_words.specs.declared.job.Job.{Job}
+use Rattle.snmp_words.specs.declared.job.Job.TheVariants as job
+use Rattle.snmp_words.specs.declared.job.WalkJob.{WalkJob}
 use Rattle.snmp_words.specs.declared.UsageError.{UsageError}
 use Rattle.snmp_words.specs.declared.UsageError.TheVariants.{Memory, Parse}
-use Rattle.snmp_words.specs.declared.WalkJob.{WalkJob}
-
--- ---- the command
-
-abbrev pub letters_rule : Rule
-letters_rule =
-    record (new_rule (codes "letters")) { short = Some 79; value_names = 1; required = true }
-
-abbrev pub agent_rule : Rule
-agent_rule = record (new_rule (codes "agent")) { value_names = 1; required = true }
-
-abbrev pub name_rule : Rule
-name_rule = record (new_rule (codes "name")) { value_names = 1; required = true }
-
--- snmpwalk -O LETTERS AGENT NAME
-abbrev pub walk_app : App
-walk_app =
-    with_rule (with_rule (with_rule (new_app (codes "snmpwalk")) letters_rule) agent_rule) name_rule
-
--- snmp COMMAND ..
-abbrev pub snmp_app : App
-snmp_app = with_subcommand (on_top (λ s. record s {
-  subcommand_required = true;
-  disable_help_subcommand = true;
-}) (new_app (codes "snmp"))) walk_app.top
-
--- the command takes the words: they name what it has, with as many texts as it wants, and ask for no
--- help
-abbrev pub is_taken : List Text → Bool
-is_taken words = takes snmp_app words
-
--- the kinds of mistake, or the wish for help, that the words have
-abbrev pub faults_of : List Text → Kinds
-faults_of words = fault_of snmp_app words
 
 -- ---- what the words state
 
-pub record WalkWords : Type 0 where
+-- whom to ask, by which messages, and how to show what comes
+pub record AskingWords : Type 0 where
   pub letters : Text
+  pub protocol : Text
+  pub community : Text
+  pub retries : ℕ
+  pub seconds : ℕ
+  pub max_size : ℕ
   pub agent : Text
-  pub name : Text
+
+pub record WalkWords : Type 0 where
+  pub asking : AskingWords
+  pub letters : Text
+  pub after : Option Text
+  pub name : Option Text
 
 -- a command with its words
 pub data Stated : Type 0 where
-  walk : WalkWords → Stated
+  snmpwalk : WalkWords → Stated
+  snmpbulkwalk : WalkWords → Stated
 
--- the first text given for an id, and an empty one where none was
-abbrev pub text_of : Text → List Row → Text
-text_of id rows = unwrap_or (first_of id rows) []
+-- ---- what a command's rows give
+
+-- the texts given for an id
+abbrev pub texts_of : Text → List Row → List Text
+texts_of id rows = unwrap_or (all_of id rows) []
+
+-- the texts given for an id, one after the other
+abbrev pub joined_of : Text → List Row → Text
+joined_of id rows = flat_map (λ text. text) (texts_of id rows)
+
+-- the first text given for an id, or this one where none was
+abbrev pub text_or : Text → Text → List Row → Text
+text_or id default rows = unwrap_or (first_of id rows) default
+
+-- the number that a text of decimal digits writes, where it is in the range
+abbrev pub number_in : (low high : ℕ) → Text → Option ℕ
+number_in low high text =
+    if is_unsigned_in low high text then Some (digits_value 10 (without_leading_plus text)) else None
+
+-- the number given for an id, or this one where none was
+abbrev pub number_of : Text → (default low high : ℕ) → List Row → ℕ
+number_of id default low high rows =
+    unwrap_or (option_and_then (number_in low high) (first_of id rows)) default
+
+abbrev pub asking_of_rows : List Row → AskingWords
+asking_of_rows rows = record {
+  letters = joined_of (codes "letters") rows;
+  protocol = text_or (codes "protocol") (codes "2c") rows;
+  community = text_or (codes "community") (codes "public") rows;
+  retries = number_of (codes "retries") 5 0 1000 rows;
+  seconds = number_of (codes "seconds") 1 1 3600 rows;
+  max_size = number_of (codes "size") 1472 1 65507 rows;
+  agent = text_or (codes "agent") [] rows;
+}
 
 abbrev pub walk_of_rows : List Row → WalkWords
 walk_of_rows rows = record {
-  letters = text_of (codes "letters") rows;
-  agent = text_of (codes "agent") rows;
-  name = text_of (codes "name") rows;
+  asking = asking_of_rows rows;
+  letters = joined_of (codes "walk") rows;
+  after = first_of (codes "after") rows;
+  name = first_of (codes "name") rows;
 }
 
 abbrev pub stated_by : Text × List Row → Option Stated
-stated_by p = if bytes_eq p.0 (codes "snmpwalk") then Some (walk (walk_of_rows p.1)) else None
+stated_by p = if bytes_eq p.0 (codes "snmpwalk") then Some (snmpwalk (walk_of_rows p.1))
+    else (if bytes_eq p.0 (codes "snmpbulkwalk") then Some (snmpbulkwalk (walk_of_rows p.1))
+    else None)
 
 abbrev pub stated_in : Option (Text × List Row) → Option Stated
 stated_in = option_and_then stated_by
 
--- the command that the words name, with the texts that they give it
+-- the command that the words name, with the texts and numbers that they give it
 abbrev pub stated_job : List Text → Option Stated
 stated_job words = stated_in (subcommand_of snmp_app words)
 
 -- ---- what a job holds
 
+abbrev pub asking_words : Asking → AskingWords
+asking_words a = record {
+  letters = string_bytes a.letters;
+  protocol = a.protocol.now;
+  community = a.community.now;
+  retries = a.retries;
+  seconds = a.seconds;
+  max_size = a.max_size;
+  agent = a.agent.now;
+}
+
 abbrev pub walk_words : WalkJob → WalkWords
-walk_words w = record { letters = w.letters.now; agent = w.agent.now; name = w.name.now }
+walk_words w = record {
+  asking = asking_words w.asking;
+  letters = string_bytes w.letters;
+  after = option_map (λ text. text.now) w.after;
+  name = option_map (λ text. text.now) w.name;
+}
 
 abbrev pub job_words : Job → Stated
-job_words (Walk w) = walk (walk_words w)
+job_words (job.Walk w) = snmpwalk (walk_words w)
+job_words (job.BulkWalk w) = snmpbulkwalk (walk_words w)
 
 -- ---- refusals
 
@@ -100,15 +131,23 @@ asks_help kind.DisplayHelp = true
 asks_help kind.DisplayVersion = true
 asks_help _ = false
 
--- the error stands for a parse that failed so; its text may want memory
-abbrev pub Refuses : ErrorKind → UsageError → Type 0
-Refuses k Memory = ⊤
-Refuses k (Parse text help) = help ≡ asks_help k
+-- the error stands for a parse that failed so; memory for its text may have run out
+abbrev pub StandsFor : UsageError → ErrorKind → Type 0
+StandsFor Memory k = ⊤
+StandsFor (Parse text help) k = help ≡ asks_help k
 
 -- the error is want of memory, or stands for one of the faults
-abbrev pub HasFaultOf : Kinds → UsageError → Type 0
-HasFaultOf faults Memory = ⊤
-HasFaultOf faults (Parse text help) = (k : ErrorKind) × IsAmong k faults × (help ≡ asks_help k)
+abbrev pub HasFaultOf : UsageError → Kinds → Type 0
+HasFaultOf Memory faults = ⊤
+HasFaultOf (Parse text help) faults = (k : ErrorKind) × IsAmong k faults × (help ≡ asks_help k)
+
+-- the command doesn't take the words: they have a mistake, or ask for help
+abbrev pub AreFaulty : List Text → Type 0
+AreFaulty words = faults_of words ≢ []
+
+-- the words ask for help, or for the version
+abbrev pub AskForHelp : List Text → Type 0
+AskForHelp words = (k : ErrorKind) × IsAmong k (faults_of words) × (asks_help k ≡ true)
 
 -- ---- the words of a walk
 
@@ -119,7 +158,16 @@ walk_line letters path numbers = codes "snmp" ∷ codes "snmpwalk" ∷ (letters 
 
 abbrev pub words_of_walk : Text → Text → WalkWords
 words_of_walk path numbers = record {
-  letters = codes "n";
-  agent = codes "table:" ++ path;
-  name = codes "." ++ numbers;
+  asking = record {
+    letters = codes "n";
+    protocol = codes "2c";
+    community = codes "public";
+    retries = 5;
+    seconds = 1;
+    max_size = 1472;
+    agent = codes "table:" ++ path;
+  };
+  letters = [];
+  after = None;
+  name = Some (codes "." ++ numbers);
 }

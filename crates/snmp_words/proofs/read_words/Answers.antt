@@ -1,7 +1,8 @@
 use Rattle.std.proofs.Common.{◌≡◌, ◌∙◌, ◌⊎◌, ap, subst, sym, map}
 use Rattle.clap.specs.Words.{App, app_of, fault_of, is_simple, kind_of, subcommand_of, takes}
 use Rattle.clap.specs.Faults.{is_simple_and_free}
-use Rattle.snmp_words.specs.Words.{snmp_app, stated_in}
+use Rattle.snmp_words.specs.Command.{snmp_app}
+use Rattle.snmp_words.specs.Words.{stated_in}
 use Rattle.snmp_words.proofs.CommandLemmas.{fault_of_refusal, states_job, plain_is_local}
 use Rattle.clap.specs.Kinds.{IsAmong}
 use Rattle.clap.specs.declared.error.ErrorKind.TheVariants as ErrorKind
@@ -17,14 +18,14 @@ job_of-requires c =
     states_job c.in-Ok.matches (map (λ s. s.now) c.args.words.now) met
     ((c.in-Ok.ensures.matches (ap is_simple app_is)).1 ∙ ap (λ (a : App). subcommand_of a (map (λ s. s.now) c.args.words.now)) app_is)
 
-pub returns-in-Ok-clause-job : goal.returns-in-Ok-clause-job
-returns-in-Ok-clause-job c =
+pub returns-in_ok-job_of-in-Ok-clause-job : goal.returns-in_ok-job_of-in-Ok-clause-job
+returns-in_ok-job_of-in-Ok-clause-job c =
     let app_is : app_of c.in_ok-command.command ≡ snmp_app = c.in_ok-command.ensures in
     let rows = (c.in-Ok.ensures.matches (ap is_simple app_is)).1 ∙ ap (λ (a : App). subcommand_of a (map (λ s. s.now) c.args.words.now)) app_is in
-    ap stated_in (sym rows) ∙ c.job_of.ensures
+    ap stated_in (sym rows) ∙ c.in_ok-job_of-in-Ok.ensures
 
-pub returns-in-Ok-clause-faultless : goal.returns-in-Ok-clause-faultless
-returns-in-Ok-clause-faultless c =
+pub returns-in_ok-job_of-in-Ok-clause-faultless : goal.returns-in_ok-job_of-in-Ok-clause-faultless
+returns-in_ok-job_of-in-Ok-clause-faultless c =
     let app_is : app_of c.in_ok-command.command ≡ snmp_app = c.in_ok-command.ensures in
     ap (λ (a : App). fault_of a (map (λ s. s.now) c.args.words.now)) (sym app_is)
     ∙ c.in-Ok.ensures.kinds (ap is_simple_and_free app_is)

@@ -1,0 +1,154 @@
+-- The letters of -O and -C, found place by place.
+use Rattle.std.proofs.Common.{◌≡◌, ◌≢◌, ◌∙◌, ◌+◌, ◌*◌, ◌<◌, ◌≤◌, ◌++◌, ℕ, Bool, true, false, cond, List, [], ◌∷◌, Result, Ok, Err, zero, suc}
+use Rattle.std.proofs.Common.{Option, Some, None, length, take, drop, slice_index_or, refl, sym, ap, subst, drop-cons, add-one, arith, inl, inr}
+use Rattle.std.proofs.Common.{drop_of_length-le}
+use Rattle.std.proofs.lemmas.Bool.{cases_lt, false≢true, ne_eqb}
+use Rattle.std.proofs.lemmas.Bool.Decides.{nat_tests}
+use Rattle.std.proofs.lemmas.List.{take-append-drop, drop-drop}
+use Rattle.std.proofs.lemmas.Str.{digit_value_digit}
+use Rattle.std.specs.Prelude.{not, ◌&&◌, ◌==◌, nat_le, if◌then◌else◌}
+use Rattle.std.specs.Char.{digit_value}
+use Rattle.std.specs.List.{list_all}
+use Rattle.std.specs.Str.Parse.{digits_value, digits_value_after}
+use Rattle.snmp_tools.specs.Letters.{Choices, after_part, after_parts, after_whole, is_digit, other_letter, parts_of, put, repetitions_in}
+
+pub at_place : (letters : List ℕ) (place : ℕ) → place < length letters → drop place letters ≡ slice_index_or letters place 0 ∷ drop (place + 1) letters
+at_place letters place low = rw (add-one, drop-cons letters place 0) refl
+
+first_by : (letter : ℕ) (more : List ℕ) (b : Bool) → (letter == 110) ≡ b → other_letter (letter ∷ more) ≡ cond b (other_letter more) (Some letter)
+first_by letter more true e = rw e refl
+first_by letter more false e = rw e refl
+
+pub another : (letters : List ℕ) (place : ℕ) → place < length letters → (slice_index_or letters place 0 == 110) ≡ false
+    → other_letter (drop place letters) ≡ Some (slice_index_or letters place 0)
+another letters place low e = ap other_letter (at_place letters place low) ∙ first_by (slice_index_or letters place 0) (drop (place + 1) letters) false e
+
+pub passed : (letters : List ℕ) (place : ℕ) → place < length letters → (slice_index_or letters place 0 == 110) ≡ true
+    → other_letter (drop place letters) ≡ other_letter (drop (place + 1) letters)
+passed letters place low e = ap other_letter (at_place letters place low) ∙ first_by (slice_index_or letters place 0) (drop (place + 1) letters) true e
+
+-- ---- the letters of -C
+
+-- the text doesn't begin with a digit
+abbrev pub NoDigitFirst : List ℕ → Type 0
+NoDigitFirst [] = Unit {0}
+NoDigitFirst (octet ∷ more) = is_digit octet ≡ false
+
+abbrev pub before_rest : Bool → Result Choices ℕ → List ℕ × List (ℕ × List ℕ) → Result Choices ℕ
+before_rest bulk (Err octet) parts = Err octet
+before_rest bulk (Ok choices) parts = after_whole bulk choices parts
+
+rest_parts : (more : List ℕ) → NoDigitFirst more → parts_of more ≡ ([], (parts_of more).1)
+rest_parts [] none = refl
+rest_parts (octet ∷ more) none = rw none refl
+
+two : (a b : Bool) → (a && b) ≡ true → (a ≡ true) × (b ≡ true)
+two true b e = (refl, e)
+two false b e = absurd (false≢true e)
+
+digits_parts : (digits more : List ℕ) → list_all is_digit digits ≡ true → NoDigitFirst more → parts_of (digits ++ more) ≡ (digits, (parts_of more).1)
+digits_parts [] more all none = rest_parts more none
+digits_parts (digit ∷ digits) more all none =
+    let here = two (is_digit digit) (list_all is_digit digits) all in
+    let rest = digits_parts digits more here.1 none in
+    rw (rest, here.0) refl
+
+at_most : (c : ℕ) → is_digit c ≡ true → c ≤ 57
+at_most c e = grind (arith, nat_tests)
+
+no_meaning : (bulk : Bool) (c : ℕ) (digits : List ℕ) (choices : Choices) → is_digit c ≡ true → after_part bulk (c, digits) choices ≡ Err c
+no_meaning true c digits choices e =
+    let low : c ≤ 57 = at_most c e in
+    let r : (c == 114) ≡ false = ne_eqb c 114 (λ h. omega (arith, h, low)) in
+    let i : (c == 105) ≡ false = ne_eqb c 105 (λ h. omega (arith, h, low)) in
+    let p : (c == 112) ≡ false = ne_eqb c 112 (λ h. omega (arith, h, low)) in
+    rw (r, i, p) refl
+no_meaning false c digits choices e =
+    let low : c ≤ 57 = at_most c e in
+    let i : (c == 105) ≡ false = ne_eqb c 105 (λ h. omega (arith, h, low)) in
+    let p : (c == 112) ≡ false = ne_eqb c 112 (λ h. omega (arith, h, low)) in
+    let l : (c == 73) ≡ false = ne_eqb c 73 (λ h. omega (arith, h, low)) in
+    rw (i, p, l) refl
+
+error_stays : (bulk : Bool) (letters : List (ℕ × List ℕ)) (octet : ℕ) → after_parts bulk letters (Err octet) ≡ Err octet
+error_stays bulk [] octet = refl
+error_stays bulk (part ∷ more) octet = refl
+
+go_on : (bulk : Bool) (read : Result Choices ℕ) (more : List ℕ) → NoDigitFirst more
+    → after_parts bulk (parts_of more).1 read ≡ before_rest bulk read (parts_of more)
+go_on bulk (Err octet) more none = error_stays bulk (parts_of more).1 octet
+go_on bulk (Ok choices) more none = ap (after_whole bulk choices) (sym (rest_parts more none))
+
+-- one letter with its digits is read, and then the rest
+pub part_read : (bulk : Bool) (choices : Choices) (letter : ℕ) (digits more : List ℕ) → list_all is_digit digits ≡ true → NoDigitFirst more
+    → after_whole bulk choices (parts_of (letter ∷ (digits ++ more))) ≡ before_rest bulk (after_part bulk (letter, digits) choices) (parts_of more)
+part_read bulk choices letter digits more all none =
+    ap (λ p. after_whole bulk choices (put letter p)) (digits_parts digits more all none) ∙ by_digit (is_digit letter) refl
+  where
+    by_digit : (b : Bool) → is_digit letter ≡ b
+        → after_whole bulk choices (put letter (digits, (parts_of more).1)) ≡ before_rest bulk (after_part bulk (letter, digits) choices) (parts_of more)
+    by_digit true e = rw (e, no_meaning bulk letter digits choices e) refl
+    by_digit false e = rw e (go_on bulk (after_part bulk (letter, digits) choices) more none)
+
+pub no_digit_at : (rest : List ℕ) (n : ℕ) → (n < length rest → is_digit (slice_index_or rest n 0) ≡ false) → NoDigitFirst (drop n rest)
+no_digit_at rest n maximal = elim (cases_lt n (length rest)) [
+  | inl low ↦ let P : List ℕ → Type 0 = λ t. NoDigitFirst t in subst P (sym (drop-cons rest n 0)) (maximal low)
+  | inr high ↦ let P : List ℕ → Type 0 = λ t. NoDigitFirst t in subst P (sym (drop_of_length-le rest high)) tt
+]
+
+-- the text from a place on: a letter, the digits after it, and the rest
+pub text_at : (text : List ℕ) (at n : ℕ) → at < length text
+    → drop at text ≡ slice_index_or text at 0 ∷ (take n (drop (at + 1) text) ++ drop (at + (1 + n)) text)
+text_at text at n low =
+    at_place text at low
+    ∙ ap (λ t. slice_index_or text at 0 ∷ t) (sym (take-append-drop n (drop (at + 1) text)) ∙ ap (λ t. take n (drop (at + 1) text) ++ t) (drops text at n))
+  where
+    drops : (xs : List ℕ) (i k : ℕ) → drop k (drop (i + 1) xs) ≡ drop (i + (1 + k)) xs
+    drops xs i k = drop-drop k (i + 1) xs ∙ ap (λ m. drop m xs) (omega arith)
+
+-- one letter with its digits is read, at a place of a text
+pub next_part : (bulk : Bool) (choices : Choices) (text : List ℕ) (at n : ℕ) (whole : Result Choices ℕ) → at < length text
+    → list_all is_digit (take n (drop (at + 1) text)) ≡ true
+    → (n < length (drop (at + 1) text) → is_digit (slice_index_or (drop (at + 1) text) n 0) ≡ false)
+    → after_whole bulk choices (parts_of (drop at text)) ≡ whole
+    → before_rest bulk (after_part bulk (slice_index_or text at 0, take n (drop (at + 1) text)) choices) (parts_of (drop (at + (1 + n)) text)) ≡ whole
+next_part bulk choices text at n whole low all maximal same =
+    let ends : drop n (drop (at + 1) text) ≡ drop (at + (1 + n)) text = drop-drop n (at + 1) text ∙ ap (λ m. drop m text) (omega arith) in
+    let none : NoDigitFirst (drop (at + (1 + n)) text) = let P : List ℕ → Type 0 = λ t. NoDigitFirst t in subst P ends (no_digit_at (drop (at + 1) text) n maximal) in
+    sym (part_read bulk choices (slice_index_or text at 0) (take n (drop (at + 1) text)) (drop (at + (1 + n)) text) all none)
+    ∙ ap (λ t. after_whole bulk choices (parts_of t)) (sym (text_at text at n low)) ∙ same
+
+pub read_on : (bulk : Bool) (read : Result Choices ℕ) (choices : Choices) (parts : List ℕ × List (ℕ × List ℕ)) (whole : Result Choices ℕ)
+    → before_rest bulk read parts ≡ whole → read ≡ Ok choices → after_whole bulk choices parts ≡ whole
+read_on bulk read choices parts whole same e = ap (λ r. before_rest bulk r parts) (sym e) ∙ same
+
+pub read_no_more : (bulk : Bool) (read : Result Choices ℕ) (octet : ℕ) (parts : List ℕ × List (ℕ × List ℕ)) (whole : Result Choices ℕ)
+    → before_rest bulk read parts ≡ whole → read ≡ Err octet → whole ≡ Err octet
+read_no_more bulk read octet parts whole same e = sym same ∙ ap (λ r. before_rest bulk r parts) e
+
+digit_weight : (c : ℕ) → is_digit c ≡ true → digit_value c + 48 ≡ c
+digit_weight c e =
+    let range : (48 ≤ c) × (c ≤ 57) = (grind (arith, nat_tests), grind (arith, nat_tests)) in digit_value_digit c range
+
+pub weight_at : (digits : List ℕ) (i : ℕ) → list_all is_digit digits ≡ true → i < length digits → digit_value (slice_index_or digits i 0) + 48 ≡ slice_index_or digits i 0
+weight_at [] i all low = absurd (omega (arith, low))
+weight_at (c ∷ more) zero all low = digit_weight c (two (is_digit c) (list_all is_digit more) all).0
+weight_at (c ∷ more) (suc i) all low = weight_at more i (two (is_digit c) (list_all is_digit more) all).1 (omega (arith, low))
+
+grows : (n : ℕ) (digits : List ℕ) → n ≤ digits_value_after 10 n digits
+grows n [] = omega arith
+grows n (d ∷ digits) = omega (arith, grows (n * 10 + digit_value d) digits)
+
+-- a number of which the front digits are too many already
+pub too_many : (n : ℕ) (rest digits : List ℕ) → digits_value_after 10 n rest ≡ digits_value 10 digits → 2147483647 < n → None ≡ repetitions_in digits
+too_many n rest digits same high =
+    let low : 2147483647 < digits_value 10 digits = omega (arith, grows n rest, same, high) in
+    let test : nat_le (digits_value 10 digits) 2147483647 ≡ false = lt-leb-false (digits_value 10 digits) 2147483647 low in
+    rw test (by_first (nat_le 1 (digits_value 10 digits)))
+  where
+    lt-leb-false : (a b : ℕ) → b < a → nat_le a b ≡ false
+    lt-leb-false a b h = grind (arith, nat_tests)
+
+    by_first : (b : Bool) → None ≡ (if b && false then Some (digits_value 10 digits) else None)
+    by_first true = refl
+    by_first false = refl

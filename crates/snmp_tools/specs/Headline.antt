@@ -1,0 +1,72 @@
+-- What a walk over a table file promises, on one page.
+--
+-- `IsWalk` says which walk the words ask for: `AskFor` (Plan) reads the words, `IsTableOf`
+-- (snmp_table) the file, and `AreRowsOf` (Outcome) has the rows, by `walk_of` and `rest_of`
+-- (snmp_walk). `text_of` is their lines, by `lines_of` (snmp_lines), and the count line.
+use Rattle.std.specs.Prelude.{◌≡◌, ◌⊎◌, ◌++◌, ℕ, Bool, List, length, Option, Some, None, codes}
+use Rattle.std.specs.Str.Lines.{lines}
+use Rattle.snmp_oid.specs.Identifier.{IsBelow, IsWire, wire}
+use Rattle.snmp_table.specs.Stated.{IsTableOf}
+use Rattle.snmp_table.specs.Table.{MibView}
+use Rattle.snmp_wire.specs.Message.{VarBind}
+use Rattle.snmp_walk.specs.Room.{HasIds, HasRoomForEach}
+use Rattle.snmp_lines.specs.Line.{lines_of}
+use Rattle.snmp_io.specs.Count.{HasRisen}
+use Rattle.snmp_io.specs.Output.{IsWritten, Stream, TakesFront, extended}
+use Rattle.snmp_words.specs.Words.{WalkWords}
+use Rattle.snmp_tools.specs.Lines.{count_text}
+use Rattle.snmp_tools.specs.Outcome.{AreRowsOf, agent_over, first_of}
+use Rattle.snmp_tools.specs.Plan.{AskFor, Holdings, Plan}
+
+-- the words of snmpwalk, or of snmpbulkwalk, ask for a walk over the table of a file, and these are
+-- its rows
+pub record IsWalk (bulk : Bool) (words : WalkWords) (files : Holdings) (rows : List VarBind) :
+    Type 0 where
+  pub plan : Plan
+  pub asked : AskFor bulk words plan
+  pub text : List ℕ
+  pub held : files plan.path ≡ Some (Some text)
+  pub view : MibView
+  pub table : IsTableOf (lines text) view
+  pub are_rows : AreRowsOf plan view rows
+
+-- the lines of the rows, and with -Cp their number
+abbrev pub text_of : Plan → List VarBind → List ℕ
+text_of plan rows = lines_of rows ++ count_text plan.counts (length rows)
+
+-- Whatever fails, a front of the walk's text is written, and nothing else.
+abbrev pub WritesFront : Bool → WalkWords → Holdings → (before after : Stream) → Type 0
+WritesFront bulk words files before after =
+    (rows : List VarBind) (walk : IsWalk bulk words files rows)
+    → TakesFront before (text_of walk.plan rows) after
+
+-- At status 0 the whole text is.
+abbrev pub WritesAllAtStatus0 : Bool → WalkWords → Holdings → (before after : Stream) → ℕ → Type 0
+WritesAllAtStatus0 bulk words files before after status =
+    (rows : List VarBind) (walk : IsWalk bulk words files rows) → status ≡ 0
+    → after ≡ extended before (text_of walk.plan rows)
+
+-- the name to go on after is the root or below it, and can be sent
+abbrev pub CanGoOn : List ℕ → Option (List ℕ) → Type 0
+CanGoOn root None = Unit {0}
+CanGoOn root (Some after) = ((after ≡ root) ⊎ IsBelow after root) × IsWire (wire after)
+
+-- what a walk needs beside memory and an output that takes its lines: names that can be sent, room
+-- for each single binding in the agent's messages, and ids enough
+pub record IsFeasible (plan : Plan) (view : MibView) : Type 0 where
+  pub root : IsWire (wire plan.root)
+  pub after : CanGoOn plan.root plan.after
+  pub room : HasRoomForEach (agent_over plan view) view (first_of plan)
+  pub ids : HasIds (first_of plan) view
+
+-- the status is 1, and the output failed, or that memory ran out was reported
+abbrev pub IsMishap : (before after err_before err_after : Stream) → ℕ → Type 0
+IsMishap before after err_before err_after status = (status ≡ 1)
+    × (HasRisen before.faults after.faults ⊎ IsWritten err_before (codes "Out of memory.\n") err_after)
+
+-- Then the status is 0, unless the output fails or memory runs out.
+abbrev pub EndsAtStatus0 : Bool → WalkWords → Holdings
+    → (before after err_before err_after : Stream) → ℕ → Type 0
+EndsAtStatus0 bulk words files before after err_before err_after status =
+    (rows : List VarBind) (walk : IsWalk bulk words files rows) → IsFeasible walk.plan walk.view
+    → (status ≡ 0) ⊎ IsMishap before after err_before err_after status

@@ -1,0 +1,97 @@
+-- What the letters of -O and -C choose.
+use Rattle.std.specs.Prelude.{ℕ, Bool, true, false, not, ◌&&◌, ◌==◌, nat_le, if◌then◌else◌, find}
+use Rattle.std.specs.Prelude.{List, [], ◌∷◌, Option, Some, None, Result, Ok, Err, pos}
+use Rattle.std.specs.Str.Parse.{digits_value}
+use Rattle.snmp_walk.specs.declared.mode.Method.{Method}
+use Rattle.snmp_walk.specs.declared.mode.Method.TheVariants as method
+use Rattle.snmp_walk.specs.declared.mode.Mode.{Mode}
+use Rattle.snmp_walk.specs.declared.mode.Mode.TheVariants as mode
+
+-- ---- -O
+
+-- the first letter of -O that isn't `n`, which stands for names in numbers
+abbrev pub other_letter : List ℕ → Option ℕ
+other_letter letters = find (λ letter. not (letter == 110)) letters
+
+-- ---- -C
+
+abbrev pub is_digit : ℕ → Bool
+is_digit octet = nat_le 48 octet && nat_le octet 57
+
+-- one more octet before the digits at the front and the letters after them
+abbrev pub put : ℕ → List ℕ × List (ℕ × List ℕ) → List ℕ × List (ℕ × List ℕ)
+put octet parts = if is_digit octet then (octet ∷ parts.0, parts.1) else ([], (octet, parts.0) ∷ parts.1)
+
+-- the digits at the front of a text, and then its letters, each with the digits after it
+abbrev pub parts_of : List ℕ → List ℕ × List (ℕ × List ℕ)
+parts_of [] = ([], [])
+parts_of (octet ∷ text) = put octet (parts_of text)
+
+-- what the letters of -C choose: `i` includes the root, `p` counts what is printed, snmpwalk's `I`
+-- leaves out the last Get, and snmpbulkwalk's `r` has the number of repetitions after it
+pub record Choices : Type 0 where
+  pub includes_root : Bool
+  pub leaves_last_get : Bool
+  pub counts : Bool
+  pub repetitions : ℕ
+
+abbrev pub no_choices : Choices
+no_choices = record {
+  includes_root = false;
+  leaves_last_get = false;
+  counts = false;
+  repetitions = 10;
+}
+
+-- a number of repetitions: 1 to 2147483647
+abbrev pub repetitions_in : List ℕ → Option ℕ
+repetitions_in digits =
+    if nat_le 1 (digits_value 10 digits) && nat_le (digits_value 10 digits) 2147483647
+    then Some (digits_value 10 digits) else None
+
+-- the choices after a letter that has no number
+abbrev pub after_letter : Bool → ℕ → Choices → Option Choices
+after_letter bulk letter choices =
+    if letter == 105 then Some (record choices { includes_root = true })
+    else (if letter == 112 then Some (record choices { counts = true })
+    else (if not bulk && (letter == 73) then Some (record choices { leaves_last_get = true })
+    else None))
+
+-- the choices, and the octet that has no meaning
+abbrev pub without_digits : ℕ → List ℕ → Option Choices → Result Choices ℕ
+without_digits letter digits None = Err letter
+without_digits letter [] (Some choices) = Ok choices
+without_digits letter (digit ∷ more) (Some choices) = Err digit
+
+abbrev pub with_number : ℕ → Choices → Option ℕ → Result Choices ℕ
+with_number letter choices None = Err letter
+with_number letter choices (Some n) = Ok (record choices { repetitions = n })
+
+-- the choices after a letter with its digits, or the octet that has no meaning
+abbrev pub after_part : Bool → ℕ × List ℕ → Choices → Result Choices ℕ
+after_part bulk (letter, digits) choices =
+    if bulk && (letter == 114) then with_number letter choices (repetitions_in digits)
+    else without_digits letter digits (after_letter bulk letter choices)
+
+abbrev pub after_parts : Bool → List (ℕ × List ℕ) → Result Choices ℕ → Result Choices ℕ
+after_parts bulk [] choices = choices
+after_parts bulk (part ∷ more) (Err octet) = Err octet
+after_parts bulk (part ∷ more) (Ok choices) = after_parts bulk more (after_part bulk part choices)
+
+-- the choices after a text, or the first octet of it that has no meaning
+abbrev pub after_whole : Bool → Choices → List ℕ × List (ℕ × List ℕ) → Result Choices ℕ
+after_whole bulk choices ([], letters) = after_parts bulk letters (Ok choices)
+after_whole bulk choices (digit ∷ digits, letters) = Err digit
+
+-- what the letters of -C choose, or the first octet of them that has no meaning
+abbrev pub choices_of : Bool → List ℕ → Result Choices ℕ
+choices_of bulk text = after_whole bulk no_choices (parts_of text)
+
+-- ---- what a walk gives, and by which requests it asks
+
+abbrev pub mode_of : Choices → Mode
+mode_of choices = if choices.includes_root then mode.Include
+    else (if choices.leaves_last_get then mode.NoLast else mode.Plain)
+
+abbrev pub method_of : Bool → Choices → Method
+method_of bulk choices = if bulk then method.Bulk (pos choices.repetitions) else method.Next

@@ -1,0 +1,140 @@
+-- What a job that walks writes, and what it reports.
+use Rattle.std.specs.Prelude.{◌≡◌, ◌≢◌, ◌⊎◌, ◌++◌, ℕ, Bool, List, [], ◌∷◌, length, codes}
+use Rattle.std.specs.Prelude.{Option, Some, None}
+use Rattle.std.specs.Str.Lines.{lines}
+use Rattle.snmp_oid.specs.Identifier.{IsWire, wire}
+use Rattle.snmp_table.specs.Listing.{variables}
+use Rattle.snmp_table.specs.Stated.{IsTableOf}
+use Rattle.snmp_table.specs.Table.{IsGet, MibView}
+use Rattle.snmp_wire.specs.Message.{VarBind}
+use Rattle.snmp_walk.specs.Facts.{HasNone, IsDone, IsLawfulEnd}
+use Rattle.snmp_walk.specs.Link.{Agents}
+use Rattle.snmp_walk.specs.Request.{resumed, started}
+use Rattle.snmp_walk.specs.Room.{HasIds, HasRoomForEach}
+use Rattle.snmp_walk.specs.Walk.{rest_of, walk_of}
+use Rattle.snmp_walk.specs.Walker.{Walker}
+use Rattle.snmp_walk.specs.declared.end.SinkFault.TheVariants as sink
+use Rattle.snmp_walk.specs.declared.end.WalkEnd.{WalkEnd}
+use Rattle.snmp_walk.specs.declared.end.WalkEnd.TheVariants as ending
+use Rattle.snmp_io.specs.Files.{HoldsIfKnown}
+use Rattle.snmp_io.specs.Output.{FailsWithin, IsWritten, Stream, extended}
+use Rattle.snmp_words.specs.Words.{WalkWords}
+use Rattle.snmp_tools.specs.Lines.{IsPrintedUpTo, count_text}
+use Rattle.snmp_tools.specs.Message.{Fault, ended, message_of, out_of_memory, status_of}
+use Rattle.snmp_tools.specs.Plan.{AskFor, Holdings, IsRefusal, Plan}
+
+-- ---- the walk
+
+-- the agent in memory that serves a table
+abbrev pub agent_over : Plan → MibView → Agents
+agent_over plan view =
+    record { tables = view ∷ []; community = plan.community; max_size = plan.max_size }
+
+abbrev pub first_after : Option (List ℕ) → Plan → Walker
+first_after None plan = started plan.root plan.mode plan.method plan.community 1
+first_after (Some after) plan = resumed plan.root after plan.method plan.community 1
+
+-- the walk before its first request, whose id is 1
+abbrev pub first_of : Plan → Walker
+first_of plan = first_after plan.after plan
+
+abbrev pub AreRowsAfter : Option (List ℕ) → Plan → MibView → List VarBind → Type 0
+AreRowsAfter None plan view rows = (got : VarBind) × IsGet view (wire plan.root) got
+    × (rows ≡ walk_of plan.mode plan.root got (variables view))
+AreRowsAfter (Some after) plan view rows = rows ≡ rest_of plan.root (wire after) (variables view)
+
+-- The rows of the walk over a table: those below the root by rising names, where there are none the
+-- answer to a Get of the root, and before them the root's own, as the mode says; of a walk that goes
+-- on after a name, those below the root and above that name.
+abbrev pub AreRowsOf : Plan → MibView → List VarBind → Type 0
+AreRowsOf plan view rows = AreRowsAfter plan.after plan view rows
+
+-- the words ask for this walk, over this table, which their file states
+pub record IsWalkOver (bulk : Bool) (words : WalkWords) (files : Holdings) (plan : Plan)
+    (view : MibView) : Type 0 where
+  pub asked : AskFor bulk words plan
+  pub text : List ℕ
+  pub held : HoldsIfKnown (files plan.path) (Some text)
+  pub table : IsTableOf (lines text) view
+
+-- all was given, or the output or want of memory stopped it
+abbrev pub IsOwnEnd : WalkEnd → Type 0
+IsOwnEnd (ending.Done count) = Unit {0}
+IsOwnEnd (ending.Sink fault) = Unit {0}
+IsOwnEnd _ = ⊥
+
+-- How a walk over a link in memory ended: such a link fails where memory runs out, and then alone.
+abbrev pub end_in_memory : WalkEnd → WalkEnd
+end_in_memory ending.Link = ending.Sink sink.Memory
+end_in_memory end = end
+
+-- the number of bindings that the end tells of
+abbrev pub Counts : WalkEnd → ℕ → Type 0
+Counts (ending.Done count) n = count ≡ n
+Counts _ n = Unit {0}
+
+-- the walk gave these rows, was refused the next one or none, and ended so
+pub record IsWalked (plan : Plan) (view : MibView) (given refused : List VarBind) (end : WalkEnd) :
+    Type 0 where
+  -- with an error only where the next answer has no room, or where ids or the agent's reply ran out
+  pub lawful : IsLawfulEnd (agent_over plan view) (HasNone (agent_over plan view)) (first_of plan)
+      given end
+  pub linked : end ≢ ending.Link
+  pub counted : Counts end (length given)
+  pub front : (rows : List VarBind) → AreRowsOf plan view rows
+      → (more : List VarBind) × (rows ≡ (given ++ refused) ++ more)
+  pub whole : (rows : List VarBind) → AreRowsOf plan view rows → IsDone end → given ≡ rows
+  -- where there is room for each single binding and ids are enough, nothing but the output or want
+  -- of memory ends it early
+  pub complete : HasRoomForEach (agent_over plan view) view (first_of plan)
+      → HasIds (first_of plan) view → IsOwnEnd end
+
+-- ---- what is written
+
+-- what follows the lines of the walk, and the fault that is reported, if any is
+abbrev pub IsFinished : (counts : Bool) → (agent : List ℕ) → WalkEnd → (before after : Stream)
+    → Option Fault → Type 0
+IsFinished counts agent (ending.Done count) before after fault =
+    ((after ≡ extended before (count_text counts count)) × (fault ≡ None))
+    ⊎ (((after ≡ before) × (fault ≡ Some out_of_memory))
+    ⊎ (FailsWithin before (count_text counts count) after
+    × (fault ≡ Some (ended agent (ending.Sink sink.Output)))))
+IsFinished counts agent end before after fault = (after ≡ before) × (fault ≡ Some (ended agent end))
+
+-- the walk of a plan over a table was printed, and why not all of it, if not all was
+pub record IsPrinted (plan : Plan) (view : MibView) (agent : List ℕ) (before after : Stream)
+    (fault : Option Fault) : Type 0 where
+  pub given : List VarBind
+  pub turned : List VarBind
+  pub end : WalkEnd
+  pub between : Stream
+  pub is_walked : IsWalked plan view given turned end
+  pub lines : IsPrintedUpTo before given turned end between
+  pub finish : IsFinished plan.counts agent end between after fault
+
+-- what a job wrote, and why it wasn't done, if it wasn't
+pub data IsOutcome (bulk : Bool) (words : WalkWords) (files : Holdings) (before after : Stream)
+    (fault : Option Fault) : Type 0 where
+  refused : (why : Fault) → IsRefusal bulk words files why → after ≡ before → fault ≡ Some why
+      → IsOutcome bulk words files before after fault
+  walked : (plan : Plan) (view : MibView) → IsWalkOver bulk words files plan view
+      → IsPrinted plan view words.asking.agent before after fault
+      → IsOutcome bulk words files before after fault
+
+-- ---- what is reported
+
+-- The status, and the line of a fault on standard error; where there is no memory for the line,
+-- that is reported.
+abbrev pub IsReported : Option Fault → Stream → Stream → ℕ → Type 0
+IsReported None before after status = (status ≡ 0) × (after ≡ before)
+IsReported (Some why) before after status =
+    (status ≡ status_of why)
+    × (IsWritten before (message_of why ++ codes "\n") after
+    ⊎ IsWritten before (codes "Out of memory.\n") after)
+
+-- the outcome of a job, which is reported
+pub record IsRun (bulk : Bool) (words : WalkWords) (files : Holdings)
+    (out_before out_after err_before err_after : Stream) (status : ℕ) : Type 0 where
+  pub fault : Option Fault
+  pub outcome : IsOutcome bulk words files out_before out_after fault
+  pub reported : IsReported fault err_before err_after status

@@ -1,0 +1,20 @@
+-- What is done with words that the command doesn't take.
+use Rattle.std.specs.Prelude.{◌≡◌, ◌⊎◌, ℕ, List, map}
+use Rattle.std.specs.Borrow.{Bor}
+use Rattle.snmp_io.specs.Output.{FailsWithin, Stream, extended}
+use Rattle.snmp_words.specs.Words.{AskForHelp}
+
+-- the words that are lent
+abbrev pub texts : List (Bor (List ℕ)) → List (List ℕ)
+texts words = map (λ word. word.now) words
+
+-- help was printed at status 0, or the output failed at status 1
+abbrev pub PrintsHelp : Stream → List ℕ → Stream → ℕ → Type 0
+PrintsHelp before text after status = ((after ≡ extended before text) × (status ≡ 0))
+    ⊎ (FailsWithin before text after × (status ≡ 1))
+
+-- a mistake has status 1 and prints nothing on the output; help, or the version, is printed where
+-- the words ask for it
+abbrev pub IsHelpOrMistake : List (List ℕ) → Stream → Stream → ℕ → Type 0
+IsHelpOrMistake words before after status = ((after ≡ before) × (status ≡ 1))
+    ⊎ (AskForHelp words × ((text : List ℕ) × PrintsHelp before text after status))

@@ -1,0 +1,17 @@
+//! The choices of a walk.
+ghost use Rattle.std.specs.Prelude.{◌≤◌};
+
+/// What the letters of `-C` choose.
+#[derive(Clone, Copy, Debug)]
+pub(crate) struct Choices {
+    /// The root's own instance comes first, if there is one.
+    pub(crate) includes_root: bool,
+    /// The root's own value isn't printed where nothing stands below it.
+    pub(crate) leaves_last_get: bool,
+    /// The number of lines is printed after them.
+    pub(crate) counts: bool,
+    /// How many instances one request asks for.
+    pub(crate) repetitions: u32,
+    ghost some_repetitions: { 1 ≤ repetitions },
+    ghost few_repetitions: { repetitions ≤ 2147483647 },
+}

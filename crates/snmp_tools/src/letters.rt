@@ -1,0 +1,145 @@
+//! The letters of `-O` and `-C`.
+ghost use Rattle.std.specs.Prelude.{◌≡◌, ◌≤◌, ◌<◌, ◌+◌, true, IfErr, IfOk, IfSome, MatchOption};
+ghost use Rattle.std.specs.Prelude.{Ok, Err, Some, length, false, slice_index, take};
+ghost use Rattle.std.specs.List.{list_all};
+ghost use Rattle.std.specs.Str.Parse.{digits_value};
+ghost use Rattle.snmp_walk.specs.Walker.{IsMethod};
+ghost use Rattle.snmp_tools.specs.Chosen.{chosen};
+ghost use Rattle.snmp_tools.specs.Letters.{after_part, choices_of, is_digit, method_of, mode_of};
+ghost use Rattle.snmp_tools.specs.Letters.{no_choices, other_letter, repetitions_in};
+
+use crate::choices::Choices;
+use snmp_walk::{Method, Mode};
+
+/// The first letter of `-O` that has no meaning: only `n` has one, names in numbers.
+pub(crate) fn other_letter(letters: &str) -> Option<u8>
+    ensures { result ≡ other_letter letters.now }
+{
+    'letters: for letter in letters.as_bytes() {
+        if *letter != b'n' {
+            return Some(*letter);
+        }
+    }
+    None
+}
+
+impl Choices {
+    ghost use Rattle.std.specs.Prelude.{◌≡◌, MatchResult, Ok, Err};
+    ghost use Rattle.snmp_walk.specs.Walker.{IsMethod};
+    ghost use Rattle.snmp_tools.specs.Chosen.{chosen};
+    ghost use Rattle.snmp_tools.specs.Letters.{after_part, choices_of, method_of, mode_of};
+    ghost use Rattle.snmp_tools.specs.Letters.{no_choices};
+
+    /// The choices before any letter.
+    fn none() -> Choices
+        ensures { chosen result ≡ no_choices }
+    {
+        Choices {
+            includes_root: false,
+            leaves_last_get: false,
+            counts: false,
+            repetitions: 10,
+        }
+    }
+
+    /// Reads the letters of `-C`, for snmpbulkwalk or for snmpwalk. The error is the first octet
+    /// that has no meaning.
+    pub(crate) fn read(letters: &str, bulk: bool) -> Result<Choices, u8>
+        ensures { MatchResult result (λ c. choices_of bulk letters.now ≡ Ok (chosen c))
+            (λ octet. choices_of bulk letters.now ≡ Err octet) }
+    {
+        let letters = letters.as_bytes();
+        let mut choices = Choices::none();
+        let mut at = 0;
+        'parts: while at < letters.len() {
+            let rest = &letters[at + 1..];
+            let digits = front_digits(rest);
+            choices = match choices.after(letters[at], &rest[..digits], bulk) {
+                Ok(choices) => choices,
+                Err(octet) => return Err(octet),
+            };
+            at += 1 + digits;
+        }
+        Ok(choices)
+    }
+
+    // The choices after a letter with the digits after it.
+    fn after(self, letter: u8, digits: &[u8], bulk: bool) -> Result<Choices, u8>
+        requires { list_all is_digit digits.now ≡ true }
+        ensures { MatchResult result
+            (λ c. after_part bulk (letter, digits.now) (chosen self) ≡ Ok (chosen c))
+            (λ octet. after_part bulk (letter, digits.now) (chosen self) ≡ Err octet) }
+    {
+        let mut choices = self;
+        match letter {
+            b'r' if bulk => {
+                choices.repetitions = repetitions(digits).ok_or(letter)?;
+                return Ok(choices);
+            }
+            b'i' => choices.includes_root = true,
+            b'p' => choices.counts = true,
+            b'I' if !bulk => choices.leaves_last_get = true,
+            _ => return Err(letter),
+        }
+        match digits.first() {
+            Some(digit) => Err(*digit),
+            None => Ok(choices),
+        }
+    }
+
+    /// What the walk gives beside the instances below its root.
+    pub(crate) fn mode(self) -> Mode
+        ensures { result ≡ mode_of (chosen self) }
+    {
+        if self.includes_root {
+            Mode::Include
+        } else if self.leaves_last_get {
+            Mode::NoLast
+        } else {
+            Mode::Plain
+        }
+    }
+
+    /// By which requests the walk asks.
+    pub(crate) fn method(self, bulk: bool) -> Method
+        ensures method { result ≡ method_of bulk (chosen self) }
+        ensures lawful { IsMethod result }
+    {
+        if bulk {
+            Method::Bulk(self.repetitions as i32)
+        } else {
+            Method::Next
+        }
+    }
+}
+
+// How many digits stand at the front of a text.
+fn front_digits(text: &[u8]) -> usize
+    ensures within { result ≤ length text.now }
+    ensures digits { list_all is_digit (take result text.now) ≡ true }
+    ensures maximal { result < length text.now → is_digit (slice_index text.now result) ≡ false }
+{
+    'octets: for (i, octet) in text.iter().enumerate() {
+        if !octet.is_ascii_digit() {
+            return i;
+        }
+    }
+    text.len()
+}
+
+// The number of repetitions that digits write.
+fn repetitions(digits: &[u8]) -> Option<u32>
+    requires { list_all is_digit digits.now ≡ true }
+    ensures value { result ≡ repetitions_in digits.now }
+    ensures some { IfSome result (λ n. 1 ≤ n) }
+    ensures few { IfSome result (λ n. n ≤ 2147483647) }
+{
+    let mut number = 0;
+    'digits: for digit in digits {
+        number = number * 10 + u64::from(*digit - b'0');
+        if number > 2_147_483_647 {
+            return None;
+        }
+    }
+    (number > 0).then_some(number as u32)
+}

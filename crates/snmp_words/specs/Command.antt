@@ -1,0 +1,111 @@
+-- The commands of the program in clap's terms: each has rules for its words.
+use Rattle.std.specs.Prelude.{◌++◌, ℕ, Bool, true, List, [], ◌∷◌, Some, codes}
+use Rattle.clap.specs.Faults.{fault_of}
+use Rattle.clap.specs.Kinds.{Kinds}
+use Rattle.clap.specs.Simple.{App, new_app, new_rule, on_top, with_rule, with_subcommand}
+use Rattle.clap.specs.Takes.{takes}
+use Rattle.clap.specs.Walk.{Rule, Text}
+use Rattle.clap.specs.declared.builder.action.ArgAction.TheVariants.{Append}
+use Rattle.clap.specs.declared.builder.value_parser.ValueParser.TheVariants.{Unsigned}
+
+-- ---- the rules of options and words
+
+-- an option or a word with one text
+abbrev pub one_text : Text → Rule
+one_text id = record (new_rule id) { value_names = 1 }
+
+-- it may stand several times
+abbrev pub repeated : Rule → Rule
+repeated rule = record rule { action = Some Append }
+
+-- its text is a decimal number of this range
+abbrev pub numbered : (low high : ℕ) → Rule → Rule
+numbered low high rule = record rule { parser = Some (Unsigned low high) }
+
+abbrev pub required : Rule → Rule
+required rule = record rule { required = true }
+
+-- -O LETTERS
+abbrev pub letters_rule : Rule
+letters_rule = required (repeated (record (one_text (codes "letters")) { short = Some 79 }))
+
+-- -v VERSION
+abbrev pub protocol_rule : Rule
+protocol_rule = record (one_text (codes "protocol")) { short = Some 118 }
+
+-- -c COMMUNITY
+abbrev pub community_rule : Rule
+community_rule = record (one_text (codes "community")) { short = Some 99 }
+
+-- -r RETRIES
+abbrev pub retries_rule : Rule
+retries_rule = numbered 0 1000 (record (one_text (codes "retries")) { short = Some 114 })
+
+-- -t SECONDS
+abbrev pub seconds_rule : Rule
+seconds_rule = numbered 1 3600 (record (one_text (codes "seconds")) { short = Some 116 })
+
+-- --max-size OCTETS
+abbrev pub size_rule : Rule
+size_rule = numbered 1 65507 (record (one_text (codes "size")) { long = Some (codes "max-size") })
+
+-- -C LETTERS
+abbrev pub walk_letters_rule : Rule
+walk_letters_rule = repeated (record (one_text (codes "walk")) { short = Some 67 })
+
+-- --after NAME
+abbrev pub after_rule : Rule
+after_rule = record (one_text (codes "after")) { long = Some (codes "after") }
+
+abbrev pub agent_rule : Rule
+agent_rule = required (one_text (codes "agent"))
+
+abbrev pub name_rule : Rule
+name_rule = one_text (codes "name")
+
+-- ---- the commands
+
+abbrev pub with_rules : App → List Rule → App
+with_rules app [] = app
+with_rules app (rule ∷ rules) = with_rules (with_rule app rule) rules
+
+-- how lines are shown, and as whom an agent is asked
+abbrev pub showing_rules : List Rule
+showing_rules = letters_rule ∷ protocol_rule ∷ community_rule ∷ []
+
+-- how often and how long, and the size of messages
+abbrev pub sending_rules : List Rule
+sending_rules = retries_rule ∷ seconds_rule ∷ size_rule ∷ []
+
+abbrev pub asking_rules : List Rule
+asking_rules = showing_rules ++ sending_rules
+
+-- what is asked of a subtree
+abbrev pub walking_rules : List Rule
+walking_rules = walk_letters_rule ∷ after_rule ∷ agent_rule ∷ name_rule ∷ []
+
+-- snmpwalk OPTION.. AGENT [NAME], and snmpbulkwalk with the same words
+abbrev pub walk_app : Text → App
+walk_app name = with_rules (with_rules (new_app name) asking_rules) walking_rules
+
+-- snmp, before it has its commands
+abbrev pub top_app : App
+top_app = on_top (λ s. record s {
+  has_version = true;
+  subcommand_required = true;
+  disable_help_subcommand = true;
+}) (new_app (codes "snmp"))
+
+-- snmp COMMAND ..
+abbrev pub snmp_app : App
+snmp_app = with_subcommand (with_subcommand top_app
+    (walk_app (codes "snmpwalk")).top) (walk_app (codes "snmpbulkwalk")).top
+
+-- the command takes the words: they name what it has, with as many texts as it wants, each number
+-- in its range, no option twice that may stand once, and ask for no help
+abbrev pub is_taken : List Text → Bool
+is_taken words = takes snmp_app words
+
+-- the kinds of mistake, or the wish for help, that the words have
+abbrev pub faults_of : List Text → Kinds
+faults_of words = fault_of snmp_app words

@@ -1,0 +1,99 @@
+//! The texts and numbers that a command was given.
+ghost use Rattle.std.specs.Prelude.{◌≡◌, ◌≤◌, IfOk, IfSome, IsSome, Some, option_map};
+ghost use Rattle.std.specs.Prelude.{string_bytes};
+ghost use Rattle.clap.specs.Walk.{first_of, rows_of};
+ghost use Rattle.clap.specs.Words.{found_of, subcommand_rows_of};
+ghost use Rattle.snmp_words.specs.Words.{asking_of_rows, asking_words};
+ghost use Rattle.snmp_words.specs.Words.{job_words, joined_of, number_in, number_of, stated_in};
+ghost use Rattle.snmp_words.specs.Words.{walk_of_rows, walk_words};
+
+use crate::job::{Asking, Job, WalkJob};
+use clap::ArgMatches;
+use std::alloc::{AllocError, Global};
+
+/// The job of the subcommand that was met.
+pub(crate) fn job_of<'a>(alloc: Global, matches: &ArgMatches<'a>) -> Result<Job<'a>, AllocError>
+    requires { IsSome (stated_in (subcommand_rows_of matches.now)) }
+    ensures { IfOk result (λ job. stated_in (subcommand_rows_of matches.now) ≡ Some (job_words job)) }
+{
+    let Some((command, given)) = matches.subcommand() else {
+        unreachable!()
+    };
+    match command {
+        "snmpwalk" => Ok(Job::Walk(walk_job(alloc, given)?)),
+        "snmpbulkwalk" => Ok(Job::BulkWalk(walk_job(alloc, given)?)),
+        _ => unreachable!(),
+    }
+}
+
+fn walk_job<'a>(alloc: Global, given: &ArgMatches<'a>) -> Result<WalkJob<'a>, AllocError>
+    ensures { IfOk result (λ job. walk_words job ≡ walk_of_rows (rows_of (found_of given.now))) }
+{
+    let asking = asking_of(alloc, given)?;
+    let letters = joined(alloc, given, "walk")?;
+    Ok(WalkJob {
+        asking,
+        letters,
+        after: first_text(given, "after"),
+        name: first_text(given, "name"),
+    })
+}
+
+fn asking_of<'a>(alloc: Global, given: &ArgMatches<'a>) -> Result<Asking<'a>, AllocError>
+    ensures { IfOk result (λ asking.
+        asking_words asking ≡ asking_of_rows (rows_of (found_of given.now))) }
+{
+    let letters = joined(alloc, given, "letters")?;
+    Ok(Asking {
+        letters,
+        protocol: first_text(given, "protocol").unwrap_or("2c"),
+        community: first_text(given, "community").unwrap_or("public"),
+        retries: number(given, "retries", 5, 0, 1000),
+        seconds: number(given, "seconds", 1, 1, 3600),
+        max_size: number(given, "size", 1472, 1, 65507),
+        agent: first_text(given, "agent").unwrap_or(""),
+    })
+}
+
+// The first text given for an id.
+fn first_text<'a>(given: &ArgMatches<'a>, id: &str) -> Option<&'a str>
+    ensures { option_map (λ text. text.now) result ≡ first_of id.now (rows_of (found_of given.now)) }
+{
+    given.get_str(id)
+}
+
+// The texts given for an id, one after the other.
+fn joined(alloc: Global, given: &ArgMatches<'_>, id: &str) -> Result<String, AllocError>
+    ensures { IfOk result (λ text.
+        string_bytes text ≡ joined_of id.now (rows_of (found_of given.now))) }
+{
+    match given.get_strs(id) {
+        Some(all) => all.join(alloc, ""),
+        None => Ok(String::new(alloc)),
+    }
+}
+
+// The number given for an id, or the default where none of the range was.
+fn number(given: &ArgMatches<'_>, id: &str, default: u64, low: u64, high: u64) -> u64
+    requires from { low ≤ default }
+    requires to { default ≤ high }
+    ensures value { result ≡ number_of id.now default low high (rows_of (found_of given.now)) }
+    ensures from { low ≤ result }
+    ensures to { result ≤ high }
+{
+    match given.get_str(id) {
+        Some(text) => number_in(text, low, high).unwrap_or(default),
+        None => default,
+    }
+}
+
+// The number that a text of decimal digits writes, where it is in the range.
+fn number_in(text: &str, low: u64, high: u64) -> Option<u64>
+    ensures value { result ≡ number_in low high text.now }
+    ensures range { IfSome result (λ n. (low ≤ n) × (n ≤ high)) }
+{
+    match text.parse::<u64>() {
+        Ok(n) if low <= n && n <= high => Some(n),
+        _ => None,
+    }
+}

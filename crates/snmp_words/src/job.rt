@@ -1,0 +1,49 @@
+//! The job that words state.
+ghost use Rattle.std.specs.Prelude.{◌≤◌};
+
+/// What the words ask for, each text as it was given.
+#[derive(Debug, Drop)]
+pub enum Job<'a> {
+    /// `snmpwalk`: the instances below a name, one by one.
+    Walk(WalkJob<'a>),
+    /// `snmpbulkwalk`: the instances below a name, many at a time.
+    BulkWalk(WalkJob<'a>),
+}
+
+/// Whom to ask, by which messages, and how to show what comes.
+#[derive(Debug, Drop)]
+pub struct Asking<'a> {
+    /// The letters of `-O`: how lines are shown. Those of several `-O` stand one after the other.
+    pub letters: String,
+    /// The version of SNMP: `2c` where none was given.
+    pub protocol: &'a str,
+    /// The community of requests: `public` where none was given.
+    pub community: &'a str,
+    /// How often a request is sent again to which no reply came: 5 where no number was given.
+    pub retries: u64,
+    /// How many seconds a reply is waited for: 1 where no number was given.
+    pub seconds: u64,
+    /// The greatest size of a message of an agent in memory, in octets: 1472 where none was given.
+    pub max_size: u64,
+    /// The agent.
+    pub agent: &'a str,
+    ghost few_retries: { retries ≤ 1000 },
+    ghost some_seconds: { 1 ≤ seconds },
+    ghost few_seconds: { seconds ≤ 3600 },
+    ghost some_size: { 1 ≤ max_size },
+    ghost datagram_size: { max_size ≤ 65507 },
+}
+
+/// The words of `snmpwalk` and `snmpbulkwalk`.
+#[derive(Debug, Drop)]
+pub struct WalkJob<'a> {
+    /// Whom to ask, and how.
+    pub asking: Asking<'a>,
+    /// The letters of `-C`: what the walk includes, and what is counted. Those of several `-C`
+    /// stand one after the other.
+    pub letters: String,
+    /// The name after which the walk goes on, of `--after`.
+    pub after: Option<&'a str>,
+    /// The name of the walk's root.
+    pub name: Option<&'a str>,
+}
