@@ -1,7 +1,8 @@
 -- The letters of -O and -C, found place by place.
-use Rattle.std.proofs.Common.{◌≡◌, ◌≢◌, ◌∙◌, ◌+◌, ◌*◌, ◌<◌, ◌≤◌, ◌++◌, ℕ, Bool, true, false, cond, List, [], ◌∷◌, Result, Ok, Err, zero, suc}
+use Rattle.std.proofs.Common.{◌≡◌, ◌≢◌, ◌∙◌, ◌+◌, ◌-◌, ◌*◌, ◌<◌, ◌≤◌, ◌++◌, ℕ, Bool, true, false, cond, List, [], ◌∷◌, Result, Ok, Err, zero, suc}
 use Rattle.std.proofs.Common.{Option, Some, None, length, take, drop, slice_index_or, refl, sym, ap, subst, drop-cons, add-one, arith, inl, inr}
-use Rattle.std.proofs.Common.{drop_of_length-le}
+use Rattle.std.proofs.Common.{drop_of_length-le, length-drop}
+use Rattle.std.proofs.Math.Seq.{take-length}
 use Rattle.std.proofs.lemmas.Bool.{cases_lt, false≢true, ne_eqb}
 use Rattle.std.proofs.lemmas.Bool.Decides.{nat_tests}
 use Rattle.std.proofs.lemmas.List.{take-append-drop, drop-drop}
@@ -92,7 +93,7 @@ part_read bulk choices letter digits more all none =
 
 pub no_digit_at : (rest : List ℕ) (n : ℕ) → (n < length rest → is_digit (slice_index_or rest n 0) ≡ false) → NoDigitFirst (drop n rest)
 no_digit_at rest n maximal = elim (cases_lt n (length rest)) [
-  | inl low ↦ let P : List ℕ → Type 0 = λ t. NoDigitFirst t in subst P (sym (drop-cons rest n 0)) (maximal low)
+  | inl low ↦ let P : List ℕ → Type 0 = λ t. NoDigitFirst t in subst P (sym (at_place rest n low)) (maximal low)
   | inr high ↦ let P : List ℕ → Type 0 = λ t. NoDigitFirst t in subst P (sym (drop_of_length-le rest high)) tt
 ]
 
@@ -117,6 +118,18 @@ next_part bulk choices text at n whole low all maximal same =
     let none : NoDigitFirst (drop (at + (1 + n)) text) = let P : List ℕ → Type 0 = λ t. NoDigitFirst t in subst P ends (no_digit_at (drop (at + 1) text) n maximal) in
     sym (part_read bulk choices (slice_index_or text at 0) (take n (drop (at + 1) text)) (drop (at + (1 + n)) text) all none)
     ∙ ap (λ t. after_whole bulk choices (parts_of t)) (sym (text_at text at n low)) ∙ same
+
+-- the same where the text after the letter is written in another way
+pub next_part_in : (bulk : Bool) (choices : Choices) (text rest : List ℕ) (at n : ℕ) (whole : Result Choices ℕ) → at < length text
+    → rest ≡ take (length text - (at + 1)) (drop (at + 1) text) → list_all is_digit (take n rest) ≡ true
+    → (n < length rest → is_digit (slice_index_or rest n 0) ≡ false) → after_whole bulk choices (parts_of (drop at text)) ≡ whole
+    → before_rest bulk (after_part bulk (slice_index_or text at 0, take n rest) choices) (parts_of (drop (at + (1 + n)) text)) ≡ whole
+next_part_in bulk choices text rest at n whole low is all maximal same =
+    let e : rest ≡ drop (at + 1) text = is ∙ ap (λ m. take m (drop (at + 1) text)) (sym (length-drop (at + 1) text)) ∙ take-length (drop (at + 1) text) in
+    let P : List ℕ → Type 0 = λ r. list_all is_digit (take n r) ≡ true in
+    let Q : List ℕ → Type 0 = λ r. n < length r → is_digit (slice_index_or r n 0) ≡ false in
+    ap (λ r. before_rest bulk (after_part bulk (slice_index_or text at 0, take n r) choices) (parts_of (drop (at + (1 + n)) text))) e
+    ∙ next_part bulk choices text at n whole low (subst P e all) (subst Q e maximal) same
 
 pub read_on : (bulk : Bool) (read : Result Choices ℕ) (choices : Choices) (parts : List ℕ × List (ℕ × List ℕ)) (whole : Result Choices ℕ)
     → before_rest bulk read parts ≡ whole → read ≡ Ok choices → after_whole bulk choices parts ≡ whole

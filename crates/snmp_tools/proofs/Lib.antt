@@ -1,5 +1,12 @@
+pub mod Headlines
 pub mod LetterLemmas
 pub mod NameLemmas
+pub mod Outcomes
+pub mod Plans
 pub mod Printed
+pub mod Starts
+pub mod Stated
+pub mod Steps
 pub mod Streams
 pub mod Texts
+pub mod Walked

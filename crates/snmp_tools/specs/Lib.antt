@@ -3,7 +3,6 @@ pub mod Headline
 pub mod Letters
 pub mod Lines
 pub mod Message
-pub mod Method
 pub mod Outcome
 pub mod Plan
 pub mod Planned

@@ -124,6 +124,7 @@ fn walk_lines<'a, F: Files, O: Output>(
         (F.text_at files.now) (O.stream out.old.out) (O.stream out.new.out)
         (Some (fault_of failure))) }
 {
+    names();
     let plan = match Plan::read(walk, bulk) {
         Ok(plan) => plan,
         Err(failure) => return Err(failure),

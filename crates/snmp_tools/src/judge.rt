@@ -1,5 +1,6 @@
 //! The words of a walk are judged: the plan that they ask for, or the first that has no meaning.
-ghost use Rattle.std.specs.Prelude.{◌≡◌, ℕ, List, Some, option_map, IfErr, IfNone, IfOk, IfSome};
+ghost use Rattle.std.specs.Prelude.{IsTrue, ◌↔◌, codes, ◌≡◌, ℕ, List, Some, option_map, IfErr, IfNone, IfOk, IfSome};
+ghost use Rattle.snmp_walk.specs.Walker.{IsMethod};
 ghost use Rattle.snmp_words.specs.Words.{walk_words};
 ghost use Rattle.snmp_tools.specs.Message.{fault_of};
 ghost use Rattle.snmp_tools.specs.Plan.{AskFor, Holdings, IsNameIfGiven, IsRefusal, IsShortName};
@@ -19,14 +20,16 @@ impl<'a> Plan<'a> {
     ghost use Rattle.snmp_tools.specs.Message.{fault_of};
     ghost use Rattle.snmp_tools.specs.Plan.{AskFor, Holdings, IsRefusal};
     ghost use Rattle.snmp_tools.specs.Planned.{plan_of};
+    ghost use Rattle.snmp_walk.specs.Walker.{IsMethod};
 
     /// What the words of snmpwalk, or of snmpbulkwalk, ask for.
     pub(crate) fn read(walk: &WalkJob<'a>, bulk: bool) -> Result<Plan<'a>, Failure<'a>>
         ensures asked { IfOk result (λ plan. AskFor bulk (walk_words walk.now) (plan_of plan)) }
+        ensures method { IfOk result (λ plan. IsMethod plan.method) }
         ensures refused { (files : Holdings)
             → IfErr result (λ e. IsRefusal bulk (walk_words walk.now) files (fault_of e)) }
     {
-        if walk.asking.protocol != "2c" {
+        if !is_2c(walk.asking.protocol) {
             return Err(Failure::Version(walk.asking.protocol));
         }
         if let Some(letter) = other_letter(&walk.asking.letters) {
@@ -66,6 +69,13 @@ impl<'a> Plan<'a> {
 
 /// The root of a walk where no name is given: `mib-2` (RFC 1213).
 pub(crate) const MIB_2: &str = "1.3.6.1.2.1";
+
+// Whether the word is that of version 2c of SNMP (RFC 1901).
+fn is_2c(word: &str) -> bool
+    ensures { IsTrue result ↔ word.now ≡ codes "2c" }
+{
+    word == "2c"
+}
 
 // The path after `table:`, which isn't empty, where the agent is a table file.
 fn table_path(agent: &str) -> Option<&str>

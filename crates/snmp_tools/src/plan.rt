@@ -1,7 +1,5 @@
 //! The plan of a walk: what its words ask for.
 ghost use Rattle.std.specs.Prelude.{◌≤◌, length};
-ghost use Rattle.snmp_walk.specs.Walker.{IsMethod};
-ghost use Rattle.snmp_tools.specs.Method.{IsProp-IsMethod};
 
 use snmp_oid::Oid;
 use snmp_walk::{Method, Mode};
@@ -28,5 +26,4 @@ pub(crate) struct Plan<'a> {
     ghost short_community: { length community.now ≤ 255 },
     ghost some_size: { 1 ≤ max_size },
     ghost datagram_size: { max_size ≤ 65507 },
-    ghost lawful: { IsMethod method } by { IsProp-IsMethod method },
 }

@@ -8,6 +8,7 @@ ghost use Rattle.snmp_wire.specs.Message.{VarBind};
 ghost use Rattle.snmp_walk.specs.Facts.{IsFresh, walk_at};
 ghost use Rattle.snmp_walk.specs.Request.{resumed};
 ghost use Rattle.snmp_walk.specs.Walk.{rest_of};
+ghost use Rattle.snmp_walk.specs.Walker.{IsMethod};
 ghost use Rattle.snmp_tools.specs.Message.{fault_of};
 ghost use Rattle.snmp_tools.specs.Planned.{plan_of};
 ghost use Rattle.snmp_tools.specs.Start.{IsStartOf, ResumeFails, StartFails};
@@ -27,6 +28,7 @@ pub(crate) fn start<'a>(
     root_text: &'a str,
     after_text: &'a str,
 ) -> Result<WalkCore, Failure<'a>>
+    requires { IsMethod plan.now.method }
     ensures ok { IfOk result (λ core. IsStartOf core (plan_of plan.now)) }
     ensures err { IfErr result (λ e.
         StartFails (plan_of plan.now) root_text.now after_text.now (fault_of e)) }
@@ -46,7 +48,8 @@ pub(crate) fn start<'a>(
 
 // The walk that goes on after a name.
 fn resume<'a>(plan: &Plan<'a>, after: &Oid, text: &'a str) -> Result<WalkCore, Failure<'a>>
-    requires { IsWire (wire plan.now.root) }
+    requires sendable { IsWire (wire plan.now.root) }
+    requires method { IsMethod plan.now.method }
     ensures is { IfOk result (λ core.
         core ≡ resumed plan.now.root after.now plan.now.method plan.now.community.now 1) }
     ensures fresh { IfOk result IsFresh }

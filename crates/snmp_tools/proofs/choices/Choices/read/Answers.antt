@@ -1,10 +1,27 @@
-use Rattle.std.proofs.Common.{◌≡◌, ◌∙◌, ◌+◌, ap, sym, arith, refl, slice_index_or, drop, take, length}
+use Rattle.std.proofs.Common.{◌≡◌, ◌≤◌, ◌∙◌, ◌+◌, ◌-◌, ap, sym, arith, refl, slice_index_or, drop, take, length, List, ℕ, Result, length-drop, length-take}
 use Rattle.std.proofs.lemmas.Grind.{common_steps}
 use Rattle.snmp_tools.specs.Chosen.{chosen}
-use Rattle.snmp_tools.specs.Letters.{after_whole, choices_of, parts_of}
-use Rattle.snmp_tools.proofs.LetterLemmas.{next_part, read_no_more, read_on}
+use Rattle.snmp_tools.specs.Letters.{Choices, after_whole, choices_of, parts_of}
+use Rattle.snmp_tools.proofs.LetterLemmas.{next_part_in, read_no_more, read_on}
 use Rattle.snmp_tools.proofs.choices.Choices.read.Goals as goal
 
 pub parts-preserved : goal.parts-preserved
 parts-preserved c =
-    let a = c.front_digits-digits.ensures in let b = c.in-Ok.ensures in ?
+    let text = c.as_bytes-letters.result.now in
+    let at = c.parts.at in
+    let n = c.front_digits-digits.result in
+    let read = next_part_in c.args.bulk (chosen c.parts.choices) text (take (length text - (at + 1)) (drop (at + 1) text)) at n (choices_of c.args.bulk c.args.letters.now)
+    c.parts-test.true refl c.front_digits-digits.ensures.digits c.front_digits-digits.ensures.maximal c.parts.invariant.same in
+    record {
+      within = grind (arith, common_steps, c.front_digits-digits.ensures.within);
+      same = read_on c.args.bulk _ (chosen c.in-Ok.choices) (parts_of (drop (at + (1 + n)) text)) _ read c.in-Ok.ensures;
+    }
+
+pub returns-in-Err : goal.returns-in-Err
+returns-in-Err c =
+    let text = c.as_bytes-letters.result.now in
+    let at = c.parts.at in
+    let n = c.front_digits-digits.result in
+    let read = next_part_in c.args.bulk (chosen c.parts.choices) text (take (length text - (at + 1)) (drop (at + 1) text)) at n (choices_of c.args.bulk c.args.letters.now)
+    c.parts-test.true refl c.front_digits-digits.ensures.digits c.front_digits-digits.ensures.maximal c.parts.invariant.same in
+    read_no_more c.args.bulk _ c.in-Err.octet (parts_of (drop (at + (1 + n)) text)) (choices_of c.args.bulk c.args.letters.now) read c.in-Err.ensures

@@ -1,0 +1,27 @@
+use Rattle.std.proofs.Common.{◌≡◌, Bool, refl, sym, ap, subst, ◌∙◌, inl, inr, ℕ, Option, Some, None}
+use Rattle.snmp_words.specs.Words.{Stated, WalkWords, job_words}
+use Rattle.snmp_io.specs.Output.{Stream}
+use Rattle.snmp_tools.specs.Message.{out_of_memory}
+use Rattle.snmp_tools.specs.Outcome.{IsRun, refused}
+use Rattle.snmp_tools.specs.Planned.{walk_stated}
+use Rattle.snmp_tools.proofs.Headlines.{refused_front}
+use Rattle.snmp_tools.proofs.entry.tool.Goals as goal
+
+one_job : (a b : Stated) (stated : Option Stated) → stated ≡ Some a → stated ≡ Some b → a ≡ b
+one_job a b stated e f = cc
+
+pub returns-in-Ok-clause-all_written_at_status_0 : goal.returns-in-Ok-clause-all_written_at_status_0
+returns-in-Ok-clause-all_written_at_status_0 g c = λ bulk w taken stated. c.run_job.ensures.all_written_at_status_0 bulk w (one_job _ _ _ c.in-Ok.ensures.job stated)
+
+pub returns-in-Ok-clause-ends_at_status_0 : goal.returns-in-Ok-clause-ends_at_status_0
+returns-in-Ok-clause-ends_at_status_0 g c = λ bulk w taken stated. c.run_job.ensures.ends_at_status_0 bulk w (one_job _ _ _ c.in-Ok.ensures.job stated)
+
+pub returns-in-Err-Memory-clause-outcome_reported : goal.returns-in-Err-Memory-clause-outcome_reported
+returns-in-Err-Memory-clause-outcome_reported g c = λ bulk w taken stated. record {
+  fault = Some out_of_memory;
+  outcome = refused out_of_memory (inl refl) refl refl;
+  reported = (refl, inr c.tell-in-Err-Memory.ensures);
+}
+
+pub returns-in-Err-Memory-clause-front_written : goal.returns-in-Err-Memory-clause-front_written
+returns-in-Err-Memory-clause-front_written g c = λ bulk w taken stated. refused_front bulk w (g.F.Files.text_at c.args.files.now) (g.O.Output.stream c.args.out.now.out)
