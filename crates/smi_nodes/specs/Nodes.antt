@@ -1,0 +1,70 @@
+-- The nodes of the tree of names, in order of loading (RFC 2578, sections 2 and 3.6).
+use Rattle.std.specs.Prelude.{◌≡◌, ℕ, List, [], ◌∷◌, ◌++◌, Option, Some, None, codes}
+use Rattle.smi_links.specs.Basis.{ComesTo}
+use Rattle.smi_links.specs.declared.basis.Resolution.{Resolution}
+use Rattle.smi_links.specs.declared.basis.Resolution.TheVariants as R
+use Rattle.smi_module.specs.declared.tree.Module.{Module}
+use Rattle.smi_module.specs.declared.tree.Def.{Def}
+use Rattle.smi_module.specs.declared.tree.Part.{Part}
+use Rattle.smi_module.specs.Lookup.{identifier_of}
+use Rattle.smi_meaning.specs.Meaning.{origin}
+use Rattle.smi_nodes.specs.declared.warning.Warning.{Warning}
+use Rattle.smi_nodes.specs.declared.warning.Warning.TheVariants as W
+
+-- a node: the module that defines it, its label, its identifier and its definition; a root has no module and
+-- no definition
+pub record Node : Type 0 where
+  pub home : Option Module
+  pub label : List ℕ
+  pub oid : List ℕ
+  pub definition : Option Def
+
+abbrev pub root_node : List ℕ → ℕ → Node
+root_node label n = record { home = None; label = label; oid = n ∷ []; definition = None }
+
+-- the roots count as loaded before every module
+abbrev pub roots : List Node
+roots =
+    root_node (codes "ccitt") 0 ∷ (root_node (codes "iso") 1 ∷ (root_node (codes "joint-iso-ccitt") 2 ∷ []))
+
+abbrev pub node_of : Module → Def → List ℕ → Node
+node_of m d o = record { home = Some m; label = d.label.octets; oid = o; definition = Some d }
+
+-- the node that a definition gives, by what its name comes to
+abbrev pub nodes_by : Module → Def → Resolution → List Node
+nodes_by m d (R.Numbers o) = node_of m d o ∷ []
+nodes_by m d R.Cycle = []
+nodes_by m d R.Unresolved = []
+nodes_by m d R.TooLong = []
+
+-- the warning that it gives
+abbrev pub warnings_by : Module → Def → Resolution → List Warning
+warnings_by m d (R.Numbers o) = []
+warnings_by m d R.Cycle = W.Cycle m.name.octets d.label.octets ∷ []
+warnings_by m d R.Unresolved = W.Unresolved m.name.octets d.label.octets ∷ []
+warnings_by m d R.TooLong = W.TooLong m.name.octets d.label.octets ∷ []
+
+-- a definition gives these nodes and warnings: a type or a macro none, any other by what its name comes to
+abbrev pub GivesBy : List Module → Module → Def → Option (List Part) → List Node → List Warning → Type 0
+GivesBy ms m d None ns ws = (ns ≡ []) × (ws ≡ [])
+GivesBy ms m d (Some value) ns ws =
+    (r : Resolution) × ComesTo (origin ms) (record { home = m.name.octets; name = d.label.octets }) r
+    × (ns ≡ nodes_by m d r) × (ws ≡ warnings_by m d r)
+
+abbrev pub Gives : List Module → Module → Def → List Node → List Warning → Type 0
+Gives ms m d ns ws = GivesBy ms m d (identifier_of d.kind) ns ws
+
+-- definitions of a module give nodes and warnings, one after the other
+pub data Gathers (ms : List Module) (m : Module) : List Def → List Node → List Warning → Type 0 where
+  none : Gathers ms m [] [] []
+  more : (ds : List Def) (d : Def) (ns more_nodes : List Node) (ws more_warnings : List Warning)
+      → Gathers ms m ds ns ws → Gives ms m d more_nodes more_warnings
+      → Gathers ms m (ds ++ d ∷ []) (ns ++ more_nodes) (ws ++ more_warnings)
+
+-- and so do modules
+pub data Loads (ms : List Module) : List Module → List Node → List Warning → Type 0 where
+  none_yet : Loads ms [] [] []
+  then_module : (before : List Module) (m : Module) (ns more_nodes : List Node)
+      (ws more_warnings : List Warning)
+      → Loads ms before ns ws → Gathers ms m m.defs more_nodes more_warnings
+      → Loads ms (before ++ m ∷ []) (ns ++ more_nodes) (ws ++ more_warnings)

@@ -1,0 +1,164 @@
+//! The nodes and warnings that modules give, in order of loading.
+ghost use Rattle.std.specs.Prelude.{◌≡◌, List, [], ◌∷◌, length, Some, OnOk, IfOk, slice_get};
+ghost use Rattle.smi_nodes.specs.Gathered.{Extends, AddsDefinition, AddsDefinitions, AreGathered, IsSourceOf};
+ghost use Rattle.smi_module.specs.declared.tree.Module.{Module};
+
+use crate::source::Source;
+use crate::warning::Warning;
+use smi_links::Resolution;
+use smi_meaning::Names;
+use smi_module::{Def, Module, Text};
+use snmp_oid::Oid;
+use std::alloc::{AllocError, Global};
+
+/// The nodes of modules, and the warnings for definitions without an identifier.
+#[derive(Drop)]
+pub struct Gathered {
+    /// Where each node comes from, in order of loading: the roots first.
+    pub sources: Vec<Source>,
+    /// The identifier of each node.
+    pub oids: Vec<Oid>,
+    /// The warnings, in order of loading.
+    pub warnings: Vec<Warning>,
+}
+
+/// A text of its own with these octets.
+fn text(alloc: Global, octets: &[u8]) -> Result<Text, AllocError>
+    ensures { IfOk result (λ text. text ≡ octets.now) }
+{
+    Ok(Text::new(Vec::from_slice(alloc, octets)?))
+}
+
+/// An identifier with the same numbers.
+fn copied(oid: &Oid) -> Oid
+    ensures { result ≡ oid.now }
+{
+    let mut copy = Oid::new();
+    let _fits = copy.extend_from_slice(oid.as_slice());
+    copy
+}
+
+/// The identifier of one number.
+fn single(number: u32) -> Oid
+    ensures { result ≡ number ∷ [] }
+{
+    let mut oid = Oid::new();
+    oid.push_with_room(number);
+    oid
+}
+
+impl Gathered {
+    /// Adds what a definition gives whose name comes to this.
+    fn add(
+        &mut self,
+        alloc: Global,
+        module: &Module,
+        def: &Def,
+        source: Source,
+        resolution: &Resolution,
+    ) -> Result<(), AllocError>
+        ensures added { OnOk result (Extends self.old self.new source module.now def.now resolution.now) }
+    {
+        let warning = match resolution {
+            Resolution::Numbers(oid) => {
+                self.sources.push(source)?;
+                self.oids.push(copied(oid))?;
+                return Ok(());
+            }
+            Resolution::Cycle => Warning::Cycle(
+                text(alloc, module.name.as_bytes())?,
+                text(alloc, def.label.as_bytes())?,
+            ),
+            Resolution::Unresolved => Warning::Unresolved(
+                text(alloc, module.name.as_bytes())?,
+                text(alloc, def.label.as_bytes())?,
+            ),
+            Resolution::TooLong => Warning::TooLong(
+                text(alloc, module.name.as_bytes())?,
+                text(alloc, def.label.as_bytes())?,
+            ),
+        };
+        self.warnings.push(warning)?;
+        Ok(())
+    }
+}
+
+impl Gathered {
+    /// Adds what a definition gives, by what its name comes to in its module.
+    fn add_definition<'a>(
+        &mut self,
+        alloc: Global,
+        names: &Names<'a>,
+        module: &'a Module,
+        def: &'a Def,
+        source: Source,
+    ) -> Result<(), AllocError>
+        requires long { length self.old.sources.items ≡ length self.old.oids.items }
+        requires there { IsSourceOf names.now source module.now def.now }
+        ensures added { OnOk result (AddsDefinition names.now self.old self.new module.now def.now) }
+    {
+        if def.identifier().is_none() {
+            return Ok(());
+        }
+        match names.resolution(module.name.as_bytes(), def.label.as_bytes()) {
+            Some(resolution) => self.add(alloc, module, def, source, resolution),
+            None => self.add(alloc, module, def, source, &Resolution::Unresolved),
+        }
+    }
+
+    /// Adds what the definitions of a module give, in order of the text.
+    fn add_module<'a>(
+        &mut self,
+        alloc: Global,
+        names: &Names<'a>,
+        module: &'a Module,
+        place: usize,
+    ) -> Result<(), AllocError>
+        requires long { length self.old.sources.items ≡ length self.old.oids.items }
+        requires there { slice_get names.now place ≡ Some module.now }
+        ensures added { OnOk result
+            (AddsDefinitions names.now self.old self.new module.now module.now.defs) }
+    {
+        let defs = module.defs.as_slice();
+        'defs: for (k, def) in defs.iter().enumerate() {
+            let source = Source::Definition(place, k);
+            self.add_definition(alloc, names, module, def, source)?;
+        }
+        Ok(())
+    }
+
+    /// The roots alone (RFC 2578, section 2).
+    fn roots(alloc: Global) -> Result<Gathered, AllocError>
+        ensures { IfOk result (λ gathered. (ms : List Module) → AreGathered ms gathered []) }
+    {
+        let mut sources = Vec::new(alloc);
+        let mut oids = Vec::new(alloc);
+        sources.push(Source::Root(0))?;
+        oids.push(single(0))?;
+        sources.push(Source::Root(1))?;
+        oids.push(single(1))?;
+        sources.push(Source::Root(2))?;
+        oids.push(single(2))?;
+        Ok(Gathered {
+            sources,
+            oids,
+            warnings: Vec::new(alloc),
+        })
+    }
+}
+
+/// The nodes and warnings of modules, by what their names come to: the roots, and then each module's, in order.
+pub fn nodes<'a>(
+    alloc: Global,
+    names: &Names<'a>,
+    modules: &'a [Module],
+) -> Result<Gathered, AllocError>
+    requires { names.now ≡ modules.now }
+    ensures { IfOk result (λ gathered. AreGathered modules.now gathered modules.now) }
+{
+    let mut gathered = Gathered::roots(alloc)?;
+    'modules: for (i, module) in modules.iter().enumerate() {
+        gathered.add_module(alloc, names, module, i)?;
+    }
+    Ok(gathered)
+}
