@@ -30,7 +30,7 @@ use Rattle.snmp_walk.proofs.ViewLemmas.{view_of}
 use Rattle.snmp_walk.proofs.BulkLemmas.{IsOneBulk, one_bulk, chain_front, chain_by}
 
 -- numbers from 0 below 2^31
-fits_from : (n : ℕ) → n < 2 ^ 31 → FitsSigned w32 (pos n)
+pub fits_from : (n : ℕ) → n < 2 ^ 31 → FitsSigned w32 (pos n)
 fits_from n h = omega arith
 
 repetitions_fit : (p : Phase) (m : Method) → HasRange m → FitsSigned w32 (request_repetitions p m)
@@ -66,7 +66,7 @@ value_in_range no_such_object h = tt
 value_in_range no_such_instance h = tt
 value_in_range end_of_mib_view h = tt
 
-get_in_range : (view : MibView) → IsMibView view → (o : List ℕ) (p : VarBind) → IsWire o → IsIdentifier o → IsGet view o p → IsBindingInRange p
+pub get_in_range : (view : MibView) → IsMibView view → (o : List ℕ) (p : VarBind) → IsWire o → IsIdentifier o → IsGet view o p → IsBindingInRange p
 get_in_range view good o p w i (variable e row) = record { name = subst (λ (n : List ℕ). IsInRange (object_id n)) (sym e) (w, i); value = value_in_range p.value (good.values p row) }
 get_in_range view good o p w i (unknown_object none unknown is) = subst IsBindingInRange (sym is) (record { name = (w, i); value = tt })
 get_in_range view good o p w i (unknown_instance none has is) = subst IsBindingInRange (sym is) (record { name = (w, i); value = tt })
@@ -85,7 +85,7 @@ chain_in_range view good o (p ∷ ps) w i h =
     (first, chain_in_range view good p.name ps name.0 name.1 h.1)
 
 -- a message of at most so many octets has no more of bindings
-bindings_within : (m : Message) (n : ℕ) → length (canon m) ≤ n → length (canon_bindings m.bindings) ≤ n
+pub bindings_within : (m : Message) (n : ℕ) → length (canon m) ≤ n → length (canon_bindings m.bindings) ≤ n
 bindings_within m n h =
     omega (arith, h, ap length (canon_parts m), length-append (canon_head m (length (canon_bindings m.bindings))) (canon_bindings m.bindings))
 

@@ -23,3 +23,5 @@ pub mod SwiftLemmas
 pub mod ArenaLemmas
 pub mod MemoryLemmas
 pub mod HearLemmas
+pub mod GetLemmas
+pub mod GotLemmas

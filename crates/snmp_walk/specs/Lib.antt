@@ -12,6 +12,7 @@ pub mod Heard
 pub mod Room
 pub mod Sink
 pub mod Run
+pub mod Get
 pub mod Facts
 pub mod Arena
 pub mod Memory

@@ -5,6 +5,7 @@
 
 mod arena;
 mod end;
+mod get;
 mod link;
 mod memory;
 mod mode;
@@ -16,6 +17,7 @@ mod tries;
 mod walker;
 
 pub use end::{LinkFault, SinkFault, StartError, WalkEnd};
+pub use get::run_get;
 pub use link::Link;
 pub use memory::MemoryLink;
 pub use mode::{Method, Mode};

@@ -474,7 +474,7 @@ fn owned(community: &[u8]) -> ArrayVec<u8, 255>
 }
 
 /// The same identifier, once more.
-fn copy_of(oid: &Oid) -> Oid
+pub(crate) fn copy_of(oid: &Oid) -> Oid
     ensures value { result ≡ oid.now }
     ensures identifier { IsIdentifier oid.now }
 {

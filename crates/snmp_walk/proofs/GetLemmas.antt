@@ -1,0 +1,147 @@
+-- What a Get asks, name by name, and what its reply is for.
+use Rattle.std.proofs.Common.{◌≡◌, cond, ℕ, zero, suc, ◌+◌, ◌<◌, ◌≤◌, Bool, true, false, List, [], ◌∷◌, ◌++◌, length, take, drop, get_or, map, refl, sym, ◌∙◌, ap, subst, arith, length-append, append-nil, append_assoc, add-one, drop-cons}
+use Rattle.std.proofs.lemmas.Bool.{and_parts}
+use Rattle.std.proofs.lemmas.Grind.{flat_map-append}
+use Rattle.std.proofs.lemmas.List.{drop_all, take_all, take-append-drop, take_more}
+use Rattle.std.specs.Prelude.{◌&&◌, not, pos, Result, Ok, Err}
+use Rattle.std.specs.Bool.{nat_eq}
+use Rattle.std.specs.Cmp.Lexicographic.{pointwise}
+use Rattle.snmp_oid.specs.Identifier.{wire}
+use Rattle.snmp_ber.specs.Value.{null_value}
+use Rattle.snmp_wire.specs.Message.{VarBind, Message}
+use Rattle.snmp_wire.specs.Laws.{HasPieces}
+use Rattle.snmp_wire.specs.Range.{IsBindingInRange}
+use Rattle.std.specs.List.{AllByRecursion}
+use Rattle.snmp_wire.specs.Canon.{canon, canon_binding, canon_bindings, canon_fields, canon_front, canon_head, canon_opening}
+use Rattle.snmp_walk.specs.Names.{is_end}
+use Rattle.snmp_walk.specs.Get.{asked_names, get_request, are_for, answers_of, GetEnds, is_refused}
+use Rattle.snmp_walk.specs.Sink.{Given}
+use Rattle.snmp_walk.specs.declared.end.SinkFault.{SinkFault}
+use Rattle.snmp_walk.specs.declared.end.WalkEnd.{WalkEnd}
+use Rattle.snmp_walk.specs.declared.end.WalkEnd.TheVariants as ending
+use Rattle.std.specs.Ordering.{int_eq}
+
+-- the test of one binding
+abbrev pub is_for : List ℕ → VarBind → Bool
+is_for o p = pointwise nat_eq p.name (wire o) && not (is_end p.value)
+
+next_name : (names : List (List ℕ)) (i : ℕ) (o : List ℕ) → i < length names → o ≡ get_or names i o → drop i names ≡ o ∷ drop (i + 1) names
+next_name names i o h e = drop-cons names i o h ∙ ap (λ (x : List ℕ). x ∷ drop (suc i) names) (sym e) ∙ ap (λ (n : ℕ). o ∷ drop n names) (sym (add-one i))
+
+pub for_more : (names : List (List ℕ)) (i : ℕ) (o : List ℕ) (p : VarBind) (more : List VarBind) → i < length names → o ≡ get_or names i o → is_for o p ≡ true
+    → are_for (drop i names) (p ∷ more) ≡ are_for (drop (i + 1) names) more
+for_more names i o p more h e is =
+    ap (λ (ns : List (List ℕ)). are_for ns (p ∷ more)) (next_name names i o h e) ∙ ap (λ (b : Bool). b && are_for (drop (i + 1) names) more) is
+
+pub for_other : (names : List (List ℕ)) (i : ℕ) (o : List ℕ) (p : VarBind) (more : List VarBind) → i < length names → o ≡ get_or names i o → is_for o p ≡ false
+    → are_for (drop i names) (p ∷ more) ≡ false
+for_other names i o p more h e is =
+    ap (λ (ns : List (List ℕ)). are_for ns (p ∷ more)) (next_name names i o h e) ∙ ap (λ (b : Bool). b && are_for (drop (i + 1) names) more) is
+
+pub for_none : (names : List (List ℕ)) (i : ℕ) (o : List ℕ) → i < length names → o ≡ get_or names i o → are_for (drop i names) [] ≡ false
+for_none names i o h e = ap (λ (ns : List (List ℕ)). are_for ns []) (next_name names i o h e)
+
+-- one more name
+asked_push : (names : List (List ℕ)) (o : List ℕ) → asked_names (names ++ o ∷ []) ≡ asked_names names ++ record { name = wire o; value = null_value } ∷ []
+asked_push [] o = refl
+asked_push (n ∷ names) o = ap (λ (ps : List VarBind). record { name = wire n; value = null_value } ∷ ps) (asked_push names o)
+
+asked_append : (names more : List (List ℕ)) → asked_names (names ++ more) ≡ asked_names names ++ asked_names more
+asked_append [] more = refl
+asked_append (n ∷ names) more = ap (λ (ps : List VarBind). record { name = wire n; value = null_value } ∷ ps) (asked_append names more)
+
+canon_append : (ps qs : List VarBind) → canon_bindings (ps ++ qs) ≡ canon_bindings ps ++ canon_bindings qs
+unfolding canon_bindings
+canon_append ps qs = flat_map-append canon_binding ps qs
+
+canon_one : (p : VarBind) → canon_bindings (p ∷ []) ≡ canon_binding p
+unfolding canon_bindings
+canon_one p = append-nil (canon_binding p)
+
+taken_more : (names : List (List ℕ)) (i : ℕ) (o : List ℕ) → i < length names → o ≡ get_or names i o → take (i + 1) names ≡ take i names ++ o ∷ []
+taken_more names i o h e = take_more names i o h ∙ ap (λ (x : List ℕ). take i names ++ x ∷ []) (sym e)
+
+pub written_more : (names : List (List ℕ)) (i : ℕ) (o : List ℕ) (p : VarBind) → i < length names → o ≡ get_or names i o → p ≡ record { name = wire o; value = null_value }
+    → canon_bindings (asked_names (take (i + 1) names)) ≡ canon_bindings (asked_names (take i names)) ++ canon_binding p
+written_more names i o p h e is =
+    ap (λ (ns : List (List ℕ)). canon_bindings (asked_names ns)) (taken_more names i o h e) ∙ ap canon_bindings (asked_push (take i names) o)
+    ∙ canon_append (asked_names (take i names)) (record { name = wire o; value = null_value } ∷ [])
+    ∙ ap (λ (octets : List ℕ). canon_bindings (asked_names (take i names)) ++ octets) (canon_one (record { name = wire o; value = null_value }) ∙ ap canon_binding (sym is))
+
+-- a front is no longer than all
+pub longer_all : (names : List (List ℕ)) (i : ℕ) → length (canon_bindings (asked_names (take i names))) ≤ length (canon_bindings (asked_names names))
+longer_all names i =
+    let parts : names ≡ take i names ++ drop i names = sym (take-append-drop i names) in
+    let whole : canon_bindings (asked_names names) ≡ canon_bindings (asked_names (take i names)) ++ canon_bindings (asked_names (drop i names)) =
+    ap (λ (ns : List (List ℕ)). canon_bindings (asked_names ns)) parts ∙ ap canon_bindings (asked_append (take i names) (drop i names)) ∙ canon_append (asked_names (take i names)) (asked_names (drop i names)) in
+    omega (arith, ap length whole, length-append (canon_bindings (asked_names (take i names))) (canon_bindings (asked_names (drop i names))))
+
+-- what stands before the bindings is the same, whatever they are
+pub head_of : (m : Message) (total : ℕ) → canon_head (record m { bindings = [] }) total ≡ canon_head m total
+unfolding canon_head canon_front canon_opening canon_fields
+head_of m total = refl
+
+-- the octets of the request, by its pieces
+module _ (law : HasPieces) (m bare : Message) (same : bare ≡ record m { bindings = [] }) where
+  pub pieces_of : (total : ℕ) (text : List ℕ) → total ≡ length (canon_bindings m.bindings) → text ≡ canon_bindings m.bindings → canon_head bare total ++ text ≡ canon m
+  pieces_of total text long is =
+      let head : canon_head bare total ≡ canon_head m (length (canon_bindings m.bindings)) =
+      ap (λ (x : Message). canon_head x total) same ∙ head_of m total ∙ ap (canon_head m) long in
+      ap (λ (h : List ℕ). h ++ text) head ∙ ap (λ (t : List ℕ). canon_head m (length (canon_bindings m.bindings)) ++ t) is ∙ sym (law m)
+
+  pub size_of : (total : ℕ) → total ≡ length (canon_bindings m.bindings) → length (canon_head bare total) + total ≡ length (canon m)
+  size_of total long =
+      let whole = pieces_of total (canon_bindings m.bindings) long refl in
+      omega (arith, ap length whole, long, length-append (canon_head bare total) (canon_bindings m.bindings))
+
+  pub size_at_least : length (canon_bindings m.bindings) ≤ length (canon m)
+  size_at_least = omega (arith, ap length (law m), length-append (canon_head m (length (canon_bindings m.bindings))) (canon_bindings m.bindings))
+
+pub none_written : (0 ≤ 65507) × (0 ≡ length (canon_bindings [])) × ([] ≡ canon_bindings [])
+unfolding canon_bindings
+none_written = (omega arith, refl, refl)
+
+-- there are as many bindings as names
+pub for_length : (names : List (List ℕ)) (ps : List VarBind) → are_for names ps ≡ true → length ps ≡ length names
+for_length [] [] e = refl
+for_length [] (p ∷ ps) e = let no : ⊥ = cc in absurd no
+for_length (o ∷ names) [] e = let no : ⊥ = cc in absurd no
+for_length (o ∷ names) (p ∷ ps) e = let rest = for_length names ps (and_parts (is_for o p) (are_for names ps) e).1 in omega (arith, rest)
+
+pub taken_whole : (names : List (List ℕ)) (ps : List VarBind) → are_for names ps ≡ true → take (length names) ps ≡ ps
+taken_whole names ps e = take_all (length names) ps (omega (arith, for_length names ps e))
+
+range_push : (ps : List VarBind) (p : VarBind) → AllByRecursion IsBindingInRange ps → IsBindingInRange p → AllByRecursion IsBindingInRange (ps ++ p ∷ [])
+range_push [] p h k = (k, tt)
+range_push (q ∷ ps) p h k = (h.0, range_push ps p h.1 k)
+
+pub range_more : (names : List (List ℕ)) (i : ℕ) (o : List ℕ) → i < length names → o ≡ get_or names i o → IsBindingInRange (record { name = wire o; value = null_value })
+    → AllByRecursion IsBindingInRange (asked_names (take i names)) → AllByRecursion IsBindingInRange (asked_names (take (i + 1) names))
+range_more names i o h e here front =
+    subst (AllByRecursion IsBindingInRange) (sym (ap asked_names (taken_more names i o h e) ∙ asked_push (take i names) o))
+    (range_push (asked_names (take i names)) (record { name = wire o; value = null_value }) front here)
+
+-- a reply doesn't fail the link
+pub no_link_of : (names : List (List ℕ)) (m : Message) (end : WalkEnd) → answers_of names m ≡ Err end → end ≡ ending.Link → ⊥
+no_link_of names m end e link = by_status (int_eq m.a (pos 0)) (are_for names m.bindings) e
+  where
+    by_status : (b c : Bool) → cond b (cond c (Ok m.bindings) (Err ending.BadReply)) (Err (ending.Fault m.a m.b)) ≡ Err end → ⊥
+    by_status true true is = cc
+    by_status true false is = cc
+    by_status false c is = cc
+
+-- the sink refused a binding
+pub refused_by : {S : Type 0} (takes : S → VarBind → Result (Unit {0}) SinkFault → S → Type 0) (request : Message) (names : List (List ℕ)) (From : Message → Type 0) (before after : S)
+    (all : List VarBind) (fault : SinkFault) (m : Message) → From m → answers_of names m ≡ Ok all
+    → ((front : List VarBind) × (p : VarBind) × (back : List VarBind) × (all ≡ front ++ p ∷ back) × (between : S) × Given takes before front between × takes between p (Err fault) after)
+    → (rows : List VarBind) × (refused : List VarBind) × GetEnds takes request names From before rows refused (ending.Sink fault) after
+refused_by takes request names From before after all fault m from e h =
+    (h.0, h.1 ∷ [], is_refused m h.1 h.2 fault h.4 from (e ∙ ap Ok h.3) refl h.5 h.6 refl)
+
+-- without an error status, and of just these names
+pub answered_all : (names : List (List ℕ)) (m : Message) (rows : List VarBind) → int_eq m.a (pos 0) ≡ true → are_for names m.bindings ≡ true → rows ≡ take (length names) m.bindings
+    → Ok rows ≡ answers_of names m
+answered_all names m rows status are is =
+    let whole : rows ≡ m.bindings = is ∙ taken_whole names m.bindings are in
+    sym (ap (λ (b : Bool). cond b (cond (are_for names m.bindings) (Ok m.bindings) (Err ending.BadReply)) (Err (ending.Fault m.a m.b))) status
+    ∙ ap (λ (b : Bool). cond b (Ok m.bindings) (Err ending.BadReply)) are ∙ ap Ok (sym whole))

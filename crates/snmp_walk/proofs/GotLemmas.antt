@@ -1,0 +1,122 @@
+-- An agent's reply to a Get is awaited, and is its Response.
+use Rattle.std.proofs.Common.{◌≡◌, ◌⊎◌, inl, inr, ℕ, ◌+◌, ◌^◌, ◌<◌, ◌≤◌, true, List, [], ◌∷◌, length, take, refl, sym, ◌∙◌, ap, subst, arith, ℤ, pos, Option, Some, None}
+use Rattle.std.proofs.lemmas.Bool.{and_from}
+use Rattle.std.proofs.lemmas.Cmp.{int_eq_equiv}
+use Rattle.std.specs.Prelude.{Result, Ok, Err, IfOk, IfSome}
+use Rattle.std.specs.List.{AllByRecursion}
+use Rattle.std.specs.Cmp.Lexicographic.{nat_list_eq_equiv}
+use Rattle.snmp_oid.specs.Identifier.{wire}
+use Rattle.snmp_wire.specs.declared.kind.Kind.TheVariants as kind
+use Rattle.snmp_wire.specs.Message.{VarBind, Message}
+use Rattle.snmp_wire.specs.Spelling.{Spells}
+use Rattle.snmp_wire.specs.Canon.{canon}
+use Rattle.snmp_wire.specs.Range.{IsBindingInRange, IsMessageInRange}
+use Rattle.snmp_wire.proofs.MessageLaws.{one_message}
+use Rattle.snmp_wire.proofs.StrictMessages.{strict_canon}
+use Rattle.snmp_wire.proofs.Lenient.{strict_is_read}
+use Rattle.snmp_table.specs.Table.{MibView, IsMibView, IsGet}
+use Rattle.snmp_agent.specs.Reply.{response, AreAnswers, got, got_next, unwritten, Fits, IsResponse, whole, shortened, bulk}
+use Rattle.snmp_walk.specs.Taken.{awaits}
+use Rattle.snmp_walk.specs.Link.{Agents, OneOf, AreLawful, IsReplyFrom}
+use Rattle.snmp_walk.specs.Heard.{IsAwaited, IsAsked}
+use Rattle.snmp_walk.specs.Get.{asked_names, get_request, IsBrought}
+use Rattle.snmp_walk.proofs.HonestLemmas.{get_in_range, bindings_within, fits_from}
+use Rattle.snmp_walk.proofs.ViewLemmas.{view_of}
+
+gets_in_range : (view : MibView) → IsMibView view → (names : List (List ℕ)) (bindings : List VarBind) → AllByRecursion IsBindingInRange (asked_names names)
+    → AreAnswers (λ asked given. IsGet view asked.name given) (asked_names names) bindings → AllByRecursion IsBindingInRange bindings
+gets_in_range view good [] [] h a = tt
+gets_in_range view good [] (p ∷ bindings) h a = absurd a
+gets_in_range view good (o ∷ names) [] h a = absurd a
+gets_in_range view good (o ∷ names) (p ∷ bindings) h a =
+    let name = h.0.name in
+    (get_in_range view good (wire o) p name.0 name.1 a.0, gets_in_range view good names bindings h.1 a.1)
+
+module _ (community : List ℕ) (id : ℕ) (names : List (List ℕ)) (ranged : IsMessageInRange (get_request community id names)) where
+  -- a Response to the request is awaited
+  awaited : (a : ℕ) (bindings : List VarBind) → awaits community id (response (get_request community id names) (pos a) (pos 0) bindings) ≡ true
+  awaited a bindings = and_from _ _ (and_from _ _ (and_from _ _ (int_eq_equiv.refl (pos 1)) (nat_list_eq_equiv.refl community)) refl) (int_eq_equiv.refl (pos id))
+
+  ranged_response : (a : ℕ) (bindings : List VarBind) (n : ℕ) → a < 2 → AllByRecursion IsBindingInRange bindings
+      → length (canon (response (get_request community id names) (pos a) (pos 0) bindings)) ≤ n → n ≤ 65507 → IsMessageInRange (response (get_request community id names) (pos a) (pos 0) bindings)
+  ranged_response a bindings n small each fits datagram = record {
+    version = ranged.version;
+    community = ranged.community;
+    id = ranged.id;
+    a = fits_from a (omega arith);
+    b = fits_from 0 (omega arith);
+    bindings = each;
+    total = omega (arith, datagram, bindings_within (response (get_request community id names) (pos a) (pos 0) bindings) n fits);
+  }
+
+  -- the Response has an encoding, and is awaited
+  response_of : (view : MibView) → IsMibView view → (n : ℕ) → n ≤ 65507 → (r : Message) → IsResponse view n (get_request community id names) r → Fits n r
+      → IsMessageInRange r × (awaits community id r ≡ true)
+  response_of view good n datagram r (whole (got bindings k answers e) fits) f = (
+    subst IsMessageInRange (sym e) (ranged_response 0 bindings n (omega arith) (gets_in_range view good names bindings ranged.bindings answers) (subst (Fits n) e f) datagram),
+    ap (awaits community id) e ∙ awaited 0 bindings,
+  )
+  response_of view good n datagram r (whole (got_next bindings k answers e) fits) f = let no : ⊥ = cc in absurd no
+  response_of view good n datagram r (whole (unwritten k e) fits) f = let no : ⊥ = cc in absurd no
+  response_of view good n datagram r (bulk all bindings k is longest e) f = let no : ⊥ = cc in absurd no
+  response_of view good n datagram r (shortened large is no_fit e) f =
+      (subst IsMessageInRange (sym e) (ranged_response 1 [] n (omega arith) tt (subst (Fits n) e f) datagram), ap (awaits community id) e ∙ awaited 1 [])
+
+  own : Spells (get_request community id names) (canon (get_request community id names))
+  own = strict_is_read (get_request community id names) (canon (get_request community id names)) (strict_canon (get_request community id names) ranged)
+
+  -- what an agent replies to it
+  pub record IsAnswered (agents : Agents) (octets : List ℕ) : Type 0 where
+    pub message : Message
+    pub spelt : Spells message octets
+    pub awaited_is : awaits community id message ≡ true
+    pub view : MibView
+    pub one : OneOf agents.tables view
+    pub named : community ≡ agents.community
+    pub is_response : IsResponse view agents.max_size (get_request community id names) message
+
+  answered : (agents : Agents) → AreLawful agents → (octets : List ℕ) → IsReplyFrom agents (canon (get_request community id names)) octets → IsAnswered agents octets
+  answered agents lawful octets h =
+      let view = h.0 in
+      let agent = h.2 in
+      let q : Message = get_request community id names in
+      let same : agent.request ≡ q = (one_message agent.request q (canon q) (canon q) [] [] agent.is_request.spelt own refl).0 in
+      let is_response = subst (λ (x : Message). IsResponse view agents.max_size x agent.response) same agent.is_response in
+      let ok = response_of view (view_of agents.tables lawful.views view h.1) agents.max_size lawful.size agent.response is_response agent.fits in
+      record {
+        message = agent.response;
+        spelt = subst (Spells agent.response) (sym agent.encoding) (strict_is_read agent.response (canon agent.response) (strict_canon agent.response ok.0));
+        awaited_is = ok.1;
+        view = view;
+        one = h.1;
+        named = ap (λ (x : Message). x.community) (sym same) ∙ agent.is_request.named;
+        is_response = is_response;
+      }
+
+  asked_alone : (agents : Agents) → AreLawful agents → (sent : List (List ℕ)) → sent ≡ [] → IsAsked agents community id (canon (get_request community id names)) sent
+  asked_alone agents lawful sent none = record {
+    own = λ octets reply. let a = answered agents lawful octets reply in (a.message, a.spelt, a.awaited_is);
+    others = λ d one. absurd (subst (λ (s : List (List ℕ)). OneOf s d) none one);
+  }
+
+  -- the message that was heard
+  pub brought : (agents : Agents) (honest : Type 0) → (honest → AreLawful agents) → (q : List ℕ) → q ≡ canon (get_request community id names) → (sent : List (List ℕ))
+      → (o : Option ℕ) (n : ℕ) (buffer : List ℕ) → o ≡ Some n → IfSome o (λ k. IsAwaited community id (take k buffer))
+      → (honest → IsAsked agents community id q sent → IfSome o (λ k. IsReplyFrom agents q (take k buffer)))
+      → (m : Message) × Spells m (take n buffer) × IsBrought agents (honest × (sent ≡ [])) community id names m
+  brought agents honest lawful q is sent None n buffer e heard reply = let no : ⊥ = cc in absurd no
+  brought agents honest lawful q is sent (Some k) n buffer e heard reply =
+      let same : k ≡ n = cc in
+      let here : IsAwaited community id (take n buffer) = subst (λ (j : ℕ). IsAwaited community id (take j buffer)) same heard in (
+        here.message,
+        here.spelt,
+        (
+          here.awaited,
+          λ h.
+              let r = reply h.0 (subst (λ (x : List ℕ). IsAsked agents community id x sent) (sym is) (asked_alone agents (lawful h.0) sent h.1)) in
+              let r_here : IsReplyFrom agents (canon (get_request community id names)) (take n buffer) =
+              subst (λ (x : List ℕ). IsReplyFrom agents x (take n buffer)) is (subst (λ (j : ℕ). IsReplyFrom agents q (take j buffer)) same r) in
+              let a = answered agents (lawful h.0) (take n buffer) r_here in
+              (a.view, a.one, a.named, subst (IsResponse a.view agents.max_size (get_request community id names)) (here.only a.message a.spelt) a.is_response),
+        ),
+      )

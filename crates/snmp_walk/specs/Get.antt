@@ -1,0 +1,74 @@
+-- What a Get of names asks and brings (RFC 3416, section 4.2.1).
+use Rattle.std.specs.Prelude.{◌≡◌, ◌<◌, ℕ, pos, Bool, true, false, ◌&&◌, not, if◌then◌else◌, List, [], ◌∷◌, ◌++◌, map, length, Result, Ok, Err}
+use Rattle.std.specs.Bool.{nat_eq}
+use Rattle.std.specs.Ordering.{int_eq}
+use Rattle.std.specs.Cmp.Lexicographic.{pointwise}
+use Rattle.snmp_oid.specs.Identifier.{wire}
+use Rattle.snmp_wire.specs.declared.kind.Kind.TheVariants as kind
+use Rattle.snmp_ber.specs.Value.{null_value}
+use Rattle.snmp_wire.specs.Message.{VarBind, Message}
+use Rattle.snmp_wire.specs.Canon.{canon}
+use Rattle.snmp_agent.specs.Reply.{IsResponse}
+use Rattle.snmp_walk.specs.declared.end.SinkFault.{SinkFault}
+use Rattle.snmp_walk.specs.declared.end.WalkEnd.{WalkEnd}
+use Rattle.snmp_walk.specs.declared.end.WalkEnd.TheVariants as ending
+use Rattle.snmp_walk.specs.Names.{is_end}
+use Rattle.snmp_walk.specs.Taken.{awaits}
+use Rattle.snmp_walk.specs.Sink.{Given}
+use Rattle.snmp_walk.specs.Link.{Agents, OneOf}
+use Rattle.snmp_table.specs.Table.{MibView}
+
+-- each name as it is sent, with the value Null
+abbrev pub asked_names : List (List ℕ) → List VarBind
+asked_names names = map (λ o. record { name = wire o; value = null_value }) names
+
+abbrev pub get_request : List ℕ → ℕ → List (List ℕ) → Message
+get_request community id names = record {
+  version = pos 1;
+  community = community;
+  kind = kind.GetRequest;
+  id = pos id;
+  a = pos 0;
+  b = pos 0;
+  bindings = asked_names names;
+}
+
+-- bindings of just these names, in order, and none of them with endOfMibView
+abbrev pub are_for : List (List ℕ) → List VarBind → Bool
+are_for [] [] = true
+are_for [] (p ∷ more) = false
+are_for (o ∷ names) [] = false
+are_for (o ∷ names) (p ∷ more) = (pointwise nat_eq p.name (wire o) && not (is_end p.value)) && are_for names more
+
+-- what a reply brings: its bindings, or the end where it has an error status or other bindings
+abbrev pub answers_of : List (List ℕ) → Message → Result (List VarBind) WalkEnd
+answers_of names m =
+    if int_eq m.a (pos 0)
+    then (if are_for names m.bindings then Ok m.bindings else Err ending.BadReply)
+    else Err (ending.Fault m.a m.b)
+
+-- The link brought this reply to the Get: a Response of its community and id, and over an honest
+-- link the Response of one of the agents to it.
+abbrev pub IsBrought : Agents → (honest : Type 0) → List ℕ → ℕ → List (List ℕ) → Message → Type 0
+IsBrought agents honest community id names m =
+    (awaits community id m ≡ true)
+    × (honest → (view : MibView) × OneOf agents.tables view × (community ≡ agents.community)
+    × IsResponse view agents.max_size (get_request community id names) m)
+
+-- How a Get ends: which bindings the sink was given, and then refused, if it did. `From` says of a
+-- message that the link brought it.
+pub data GetEnds {S : Type 0} (takes : S → VarBind → Result (Unit {0}) SinkFault → S → Type 0) (request : Message) (names : List (List ℕ))
+    (From : Message → Type 0) (before : S) (rows refused : List VarBind) (end : WalkEnd) (after : S) : Type 0 where
+  gives : (m : Message) → From m → answers_of names m ≡ Ok rows → refused ≡ [] → Given takes before rows after
+      → end ≡ ending.Done (length names) → GetEnds takes request names From before rows refused end after
+  is_refused : (m : Message) (p : VarBind) (more : List VarBind) (fault : SinkFault) (between : S) → From m
+      → answers_of names m ≡ Ok (rows ++ p ∷ more) → refused ≡ p ∷ [] → Given takes before rows between
+      → takes between p (Err fault) after → end ≡ ending.Sink fault → GetEnds takes request names From before rows refused end after
+  fails : (m : Message) → From m → answers_of names m ≡ Err end → rows ≡ [] → refused ≡ [] → after ≡ before
+      → GetEnds takes request names From before rows refused end after
+  is_too_long : 65507 < length (canon request) → end ≡ ending.RequestTooLong → rows ≡ [] → refused ≡ [] → after ≡ before
+      → GetEnds takes request names From before rows refused end after
+  is_silent : end ≡ ending.NoResponse → rows ≡ [] → refused ≡ [] → after ≡ before
+      → GetEnds takes request names From before rows refused end after
+  is_cut : end ≡ ending.Link → rows ≡ [] → refused ≡ [] → after ≡ before
+      → GetEnds takes request names From before rows refused end after

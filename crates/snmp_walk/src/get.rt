@@ -1,0 +1,222 @@
+//! A Get over a link: one request for all its names (RFC 3416, section 4.2.1).
+ghost use Rattle.std.specs.Prelude.{◌≡◌, ◌≤◌, ◌<◌, ◌^◌, ◌+◌, ◌++◌, ◌≢◌, replicate, ℕ, List, [], All, length, take, IfSome, IfNone, IsSome, ◌↔◌, ◌&&◌, not};
+ghost use Rattle.snmp_oid.specs.Identifier.{IsWire, wire};
+ghost use Rattle.snmp_wire.specs.Canon.{canon, canon_binding, canon_bindings, canon_head, IsEncodable};
+ghost use Rattle.snmp_wire.specs.Parts.{parts_message};
+ghost use Rattle.std.specs.Bool.{nat_eq};
+ghost use Rattle.std.specs.Cmp.Lexicographic.{pointwise};
+ghost use Rattle.snmp_ber.specs.Value.{null_value};
+ghost use Rattle.snmp_wire.specs.Message.{Message, VarBind, var_bind};
+ghost use Rattle.snmp_walk.specs.Names.{is_end};
+ghost use Rattle.snmp_walk.specs.Taken.{awaits};
+ghost use Rattle.snmp_io.specs.Count.{HasRisen};
+ghost use Rattle.std.specs.List.{AllByRecursion};
+ghost use Rattle.snmp_wire.specs.Range.{IsBindingInRange, IsMessageInRange};
+ghost use Rattle.snmp_wire.specs.Spelling.{Spells};
+ghost use Rattle.snmp_walk.specs.Get.{asked_names, get_request, are_for as are_these, answers_of, IsBrought, GetEnds};
+
+use crate::sink::give;
+use crate::tries::exchange;
+use crate::walker::copy_of;
+use crate::{Link, Rows, Sink, WalkEnd};
+use snmp_wire::{
+    Binding, Bindings, Kind, MessageRef, Oid, Parts, ValueRef, decode, encode_binding, encode_head,
+    head_size, pieces,
+};
+
+/// Gets the instances of these names: one Get of their wire forms is sent, at most `retries + 1`
+/// times, and the bindings of its reply are given to the sink in order (RFC 3416, section 4.2.1).
+///
+/// There is at least one name, and each has a wire form; the community has at most 255 octets, and
+/// the id is at most 2147483647. `RequestTooLong` where the request has more than 65507 octets.
+pub fn run_get<L: Link, S: Sink>(
+    link: &mut L,
+    names: &[Oid],
+    community: &[u8],
+    id: u32,
+    retries: u32,
+    sink: &mut S,
+) -> WalkEnd
+    requires some { names.now ≢ [] }
+    requires wire { All (λ o. IsWire (wire o)) names.now }
+    requires community { length community.now ≤ 255 }
+    requires id { id < 2 ^ 31 }
+    ensures given { (rows : List VarBind) × (refused : List VarBind)
+        × GetEnds S.takes (get_request community.now id names.now) names.now (IsBrought (L.agents link.old) (L.honest link.old × ((L.traffic link.old).sent ≡ [])) community.now id names.now) sink.old rows refused result sink.new }
+    ensures sent { L.keeps link.old → (times : ℕ) × (times ≤ retries + 1)
+        × ((L.traffic link.new).sent ≡ (L.traffic link.old).sent ++ replicate times (canon (get_request community.now id names.now))) }
+    ensures fault { result ≡ WalkEnd.Link → HasRisen (L.fault_count link.old) (L.fault_count link.new) }
+{
+    let mut request = [0; 65507];
+    let Some(length) = write_request(names, community, id, &mut request) else {
+        return WalkEnd::RequestTooLong;
+    };
+    let mut buffer = [0; 65507];
+    let heard = match exchange(
+        link,
+        community,
+        id,
+        retries,
+        &request[..length],
+        &mut buffer,
+    ) {
+        Ok(Some(heard)) => heard,
+        Ok(None) => return WalkEnd::NoResponse,
+        Err(_) => return WalkEnd::Link,
+    };
+    let rows = match read_get(names, &buffer[..heard]) {
+        Ok(rows) => rows,
+        Err(end) => return end,
+    };
+    match give(rows, sink) {
+        Ok(()) => WalkEnd::Done(names.len() as u64),
+        Err(fault) => WalkEnd::Sink(fault),
+    }
+}
+
+/// The bindings of the reply to a Get of these names, or how the Get ends without them.
+fn read_get<'a>(names: &[Oid], datagram: &'a [u8]) -> Result<Rows<'a>, WalkEnd>
+    requires wire { All (λ o. IsWire (wire o)) names.now }
+    requires spelt { (m : Message) × Spells m datagram.now }
+    ensures { (m : Message) → Spells m datagram.now → result ≡ answers_of names.now m }
+{
+    match decode(datagram) {
+        Ok(message) => read_message(names, &message),
+        Err(_) => unreachable!(),
+    }
+}
+
+/// The same of the message that the reply is.
+fn read_message<'a>(names: &[Oid], message: &MessageRef<'a>) -> Result<Rows<'a>, WalkEnd>
+    requires { All (λ o. IsWire (wire o)) names.now }
+    ensures { result ≡ answers_of names.now message.now }
+{
+    let status = message.a();
+    if status != 0 {
+        return Err(WalkEnd::Fault(status, message.b()));
+    }
+    if !are_for(names, message.bindings()) {
+        return Err(WalkEnd::BadReply);
+    }
+    Ok(Rows::front(message.bindings(), names.len()))
+}
+
+/// The octets of the request for these names, at the front of `out`, and how many there are. None
+/// where they are more than 65507.
+fn write_request(names: &[Oid], community: &[u8], id: u32, out: &mut [u8; 65507]) -> Option<usize>
+    requires wire { All (λ o. IsWire (wire o)) names.now }
+    requires community { length community.now ≤ 255 }
+    requires id { id < 2 ^ 31 }
+    ensures some { IfSome result (λ n. (n ≤ 65507) × (take n out.new ≡ canon (get_request community.now id names.now))) }
+    ensures none { IfNone result (65507 < length (canon (get_request community.now id names.now))) }
+    ensures range { IfSome result (λ _. IsMessageInRange (get_request community.now id names.now)) }
+{
+    pieces();
+    let total = match write_names(names, out) {
+        Some(total) => total,
+        None => return None,
+    };
+    let parts = Parts {
+        version: 1,
+        community,
+        kind: Kind::GetRequest,
+        id: id as i32,
+        a: 0,
+        b: 0,
+        bindings: &[],
+    };
+    if head_size(&parts, total as u64) as usize + total > 65507 {
+        return None;
+    }
+    Some(put_head(&parts, total, &mut out[..]))
+}
+
+/// Writes what stands before the bindings in the first `total` octets, which make room for it, and
+/// returns the length of the message.
+fn put_head(parts: &Parts<'_>, total: usize, out: &mut [u8]) -> usize
+    requires community { length parts.now.community.now ≤ 255 }
+    requires datagram { total ≤ 65507 }
+    requires room { length (canon_head (parts_message parts.now) total) + total ≤ length out.old }
+    ensures size { result ≡ length (canon_head (parts_message parts.now) total) + total }
+    ensures message { take result out.new ≡ canon_head (parts_message parts.now) total ++ take total out.old }
+{
+    let head = head_size(parts, total as u64) as usize;
+    out.copy_within(..total, head);
+    match encode_head(parts, total as u64, out) {
+        Some(_) => head + total,
+        None => unreachable!(),
+    }
+}
+
+/// Writes a binding after the `total` octets of those before it, and returns how many they are then.
+/// None where they don't fit.
+fn append(binding: &Binding<'_>, total: usize, out: &mut [u8]) -> Option<usize>
+    requires encodable { IsEncodable (var_bind binding.now) }
+    requires total { total ≤ length out.old }
+    ensures written { IfSome result (λ n. (n ≡ total + length (canon_binding (var_bind binding.now))) × (take n out.new ≡ take total out.old ++ canon_binding (var_bind binding.now)) × (n ≤ length out.old)) }
+    ensures too_long { IfNone result (length out.old < total + length (canon_binding (var_bind binding.now))) }
+{
+    match encode_binding(binding, &mut out[total..]) {
+        Some(size) => Some(total + size),
+        None => None,
+    }
+}
+
+/// Writes the bindings that ask for these names to the front of `out`, and returns how many octets
+/// they take. None where that is more than 65507.
+fn write_names(names: &[Oid], out: &mut [u8; 65507]) -> Option<usize>
+    requires { All (λ o. IsWire (wire o)) names.now }
+    ensures some { IfSome result (λ n. (n ≤ 65507) × (n ≡ length (canon_bindings (asked_names names.now))) × (take n out.new ≡ canon_bindings (asked_names names.now))) }
+    ensures none { IfNone result (65507 < length (canon_bindings (asked_names names.now))) }
+    ensures range { IfSome result (λ _. AllByRecursion IsBindingInRange (asked_names names.now)) }
+{
+    let mut total = 0;
+    'names: for name in names {
+        let binding = asked(name);
+        total = match append(&binding, total, &mut out[..]) {
+            Some(total) => total,
+            None => return None,
+        };
+    }
+    Some(total)
+}
+
+/// The binding that asks for a name.
+fn asked<'a>(name: &Oid) -> Binding<'a>
+    requires { IsWire (wire name.now) }
+    ensures value { var_bind result ≡ record { name = wire name.now; value = null_value } }
+    ensures range { IsBindingInRange (record { name = wire name.now; value = null_value }) }
+{
+    match name.to_wire() {
+        Ok(sent) => Binding {
+            name: copy_of(&sent),
+            value: ValueRef::Null,
+        },
+        Err(_) => unreachable!(),
+    }
+}
+
+/// Whether the bindings are of just these names, in order, and none is endOfMibView.
+fn are_for(names: &[Oid], mut bindings: Bindings<'_>) -> bool
+    requires { All (λ o. IsWire (wire o)) names.now }
+    ensures { result ≡ are_these names.now bindings.entry }
+{
+    let mut binding = Binding::empty();
+    'names: for name in names {
+        if !bindings.read_next(&mut binding) || !is_for(name, &binding) {
+            return false;
+        }
+    }
+    !bindings.read_next(&mut binding)
+}
+
+/// Whether the binding is of this name, and no endOfMibView.
+fn is_for(name: &Oid, binding: &Binding<'_>) -> bool
+    requires { IsWire (wire name.now) }
+    ensures { result ≡ (pointwise nat_eq (var_bind binding.now).name (wire name.now) && not (is_end (var_bind binding.now).value)) }
+{
+    match name.to_wire() {
+        Ok(sent) => binding.name == sent && !matches!(binding.value, ValueRef::EndOfMibView),
+        Err(_) => unreachable!(),
+    }
+}
