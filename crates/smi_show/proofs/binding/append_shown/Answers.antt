@@ -1,0 +1,21 @@
+use Rattle.std.proofs.Common.{◌≡◌, ℕ, List, ◌++◌, codes, refl, sym, subst}
+use Rattle.smi_value.specs.Pieces.{type_word}
+use Rattle.smi_value.specs.Value.{IsValueText}
+use Rattle.snmp_ber.specs.Value.{datum}
+use Rattle.snmp_ber.specs.declared.value.ValueRef.{ValueRef}
+use Rattle.smi_show.specs.Line.{names_by}
+use Rattle.smi_show.proofs.Texts.{adds_both}
+use Rattle.smi_show.proofs.binding.append_shown.Goals as goal
+
+pub returns-in-ObjectId : goal.returns-in-ObjectId
+returns-in-ObjectId g c =
+    let letters = c.args.letters.now in
+    let names = names_by (g.T.NameTree.naming c.args.tree.now) letters in
+    let word = type_word letters (codes "OID: ") in
+    let text = word ++ names c.in-ObjectId.oid in
+    let P : ValueRef → Type 0 = λ v. IsValueText names letters (g.T.ShowTree.syntax_at c.args.tree.now c.args.name.now) (datum v) text in (
+      text,
+      subst P (sym c.in-ObjectId.is) refl,
+      adds_both c.args.draft.now c.append_identifier_word.new.draft c.name_text.new.draft word (names c.in-ObjectId.oid)
+          c.append_identifier_word.ensures c.name_text.ensures,
+    )

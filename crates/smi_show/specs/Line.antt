@@ -1,0 +1,30 @@
+-- The line of a variable binding: its name, ` = `, its value, and a newline.
+use Rattle.std.specs.Prelude.{◌≡◌, ℕ, Bool, if◌then◌else◌, List, ◌++◌, codes, Option}
+use Rattle.smi_letters.specs.declared.letters.Letters.{Letters}
+use Rattle.smi_letters.specs.declared.letters.TypeForm.{TypeForm}
+use Rattle.smi_letters.specs.declared.letters.TypeForm.TheVariants.{Typed, Untyped, Quick}
+use Rattle.snmp_ber.specs.Value.{Datum}
+use Rattle.smi_name.specs.Naming.{Naming}
+use Rattle.smi_name.specs.Name.{name_text}
+use Rattle.smi_value.specs.Syntax.{ObjectSyntax}
+use Rattle.smi_value.specs.Value.{IsValueText}
+
+-- the names of identifiers by the letters
+abbrev pub names_by : Naming → Letters → List ℕ → List ℕ
+names_by naming letters o = name_text naming letters.names letters.numeric_index o
+
+-- between name and value: with q a blank
+abbrev pub separator : TypeForm → List ℕ
+separator Typed = codes " = "
+separator Untyped = codes " = "
+separator Quick = codes " "
+
+-- before the value: the name, unless v is given
+abbrev pub front_text : Letters → List ℕ → List ℕ
+front_text letters name = if letters.value_alone then codes "" else name ++ separator letters.types
+
+pub record IsLine (naming : Naming) (letters : Letters) (syntax : Option ObjectSyntax)
+    (name : List ℕ) (value : Datum) (text : List ℕ) : Type 0 where
+  pub shown : List ℕ
+  pub is_value : IsValueText (names_by naming letters) letters syntax value shown
+  pub whole : text ≡ front_text letters (names_by naming letters name) ++ shown ++ codes "\n"

@@ -1,0 +1,116 @@
+//! The value of a binding, and its line.
+ghost use Rattle.std.specs.Prelude.{◌≡◌, ℕ, List, ◌++◌, codes, OnOk, OnErr};
+ghost use Rattle.text_draft.specs.Draft.{Adds};
+ghost use Rattle.snmp_ber.specs.Value.{datum};
+ghost use Rattle.smi_value.specs.Value.{IsValueText};
+ghost use Rattle.smi_show.specs.Line.{IsLine, front_text, names_by, separator};
+
+use crate::ShowTree;
+use smi_letters::{Letters, TypeForm};
+use smi_name::name_text;
+use smi_value::{append_identifier_word, append_value};
+use snmp_ber::ValueRef;
+use snmp_oid::Oid;
+use std::alloc::AllocError;
+use text_draft::Draft;
+
+/// Appends the text of the value of an instance: its type, a colon, a blank and the value, as the
+/// letters and the syntax of the object say. Where memory runs out `out` is unchanged.
+pub fn value_text<T: ShowTree>(
+    tree: &T,
+    letters: &Letters,
+    name: &Oid,
+    value: &ValueRef<'_>,
+    out: &mut Vec<u8>,
+) -> Result<(), AllocError>
+    ensures ok { let names = names_by (T.naming tree.now) letters.now in
+        OnOk result ((text : List ℕ)
+        × IsValueText names letters.now (T.syntax_at tree.now name.now) (datum value.now) text
+        × (out.new.items ≡ out.old.items ++ text)) }
+    ensures unchanged_on_error { OnErr result (out.new.items ≡ out.old.items) }
+{
+    let mut draft = Draft::after(out);
+    append_shown(tree, letters, name, value, &mut draft);
+    draft.finish(out)
+}
+
+/// Appends the line of a binding: name, ` = `, value and a newline, as the letters say. Where
+/// memory runs out `out` is unchanged.
+pub fn line<T: ShowTree>(
+    tree: &T,
+    letters: &Letters,
+    name: &Oid,
+    value: &ValueRef<'_>,
+    out: &mut Vec<u8>,
+) -> Result<(), AllocError>
+    ensures ok { let syntax = T.syntax_at tree.now name.now in
+        OnOk result ((text : List ℕ)
+        × IsLine (T.naming tree.now) letters.now syntax name.now (datum value.now) text
+        × (out.new.items ≡ out.old.items ++ text)) }
+    ensures unchanged_on_error { OnErr result (out.new.items ≡ out.old.items) }
+{
+    let mut draft = Draft::after(out);
+    append_line(tree, letters, name, value, &mut draft);
+    draft.finish(out)
+}
+
+/// The line of a binding.
+fn append_line<T: ShowTree>(
+    tree: &T,
+    letters: &Letters,
+    name: &Oid,
+    value: &ValueRef<'_>,
+    draft: &mut Draft,
+)
+    ensures { let syntax = T.syntax_at tree.now name.now in (text : List ℕ)
+        × IsLine (T.naming tree.now) letters.now syntax name.now (datum value.now) text
+        × Adds draft.old text draft.new }
+{
+    append_front(tree, letters, name, draft);
+    append_shown(tree, letters, name, value, draft);
+    draft.octets(b"\n");
+}
+
+/// The name and what stands between it and the value, unless the value stands alone.
+fn append_front<T: ShowTree>(tree: &T, letters: &Letters, name: &Oid, draft: &mut Draft)
+    ensures { let shown = names_by (T.naming tree.now) letters.now name.now in
+        Adds draft.old (front_text letters.now shown) draft.new }
+{
+    if letters.value_alone {
+        draft.octets(b"");
+    } else {
+        name_text(tree, letters.names, letters.numeric_index, name, draft);
+        append_separator(letters.types, draft);
+    }
+}
+
+/// What stands between a name and a value.
+fn append_separator(types: TypeForm, draft: &mut Draft)
+    ensures { Adds draft.old (separator types) draft.new }
+{
+    match types {
+        TypeForm::Typed | TypeForm::Untyped => draft.octets(b" = "),
+        TypeForm::Quick => draft.octets(b" "),
+    }
+}
+
+/// The value.
+fn append_shown<T: ShowTree>(
+    tree: &T,
+    letters: &Letters,
+    name: &Oid,
+    value: &ValueRef<'_>,
+    draft: &mut Draft,
+)
+    ensures { let names = names_by (T.naming tree.now) letters.now in (text : List ℕ)
+        × IsValueText names letters.now (T.syntax_at tree.now name.now) (datum value.now) text
+        × Adds draft.old text draft.new }
+{
+    match value {
+        ValueRef::ObjectId(oid) => {
+            append_identifier_word(draft, letters);
+            name_text(tree, letters.names, letters.numeric_index, oid, draft);
+        }
+        _ => append_value(draft, letters, tree.syntax(name).as_ref(), value),
+    }
+}

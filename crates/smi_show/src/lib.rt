@@ -1,0 +1,16 @@
+//! Names, values, lines and details as text, appended to a `Vec<u8>`, over any tree of nodes.
+//!
+//! The top of the texts: what the tools print of names and bindings. Each call appends its text
+//! whole, or leaves the `Vec<u8>` unchanged where memory runs out.
+#![tactic(auto)]
+
+mod binding;
+mod text;
+mod tree;
+
+pub use binding::{line, value_text};
+pub use smi_detail::DetailTree;
+pub use smi_letters::{Letters, NameForm};
+pub use smi_name::{NameError, NameTree, Node, resolve};
+pub use text::{detail, name_text};
+pub use tree::ShowTree;

@@ -1,0 +1,47 @@
+//! A name, and the details of an identifier.
+ghost use Rattle.std.specs.Prelude.{◌≡◌, ◌++◌, OnOk, OnErr};
+ghost use Rattle.smi_detail.specs.Detail.{detail_text};
+ghost use Rattle.smi_show.specs.Line.{names_by};
+
+use smi_detail::{DetailTree, detail_text};
+use smi_letters::Letters;
+use smi_name::NameTree;
+use snmp_oid::Oid;
+use std::alloc::AllocError;
+use text_draft::Draft;
+
+/// Appends the name of an identifier, as the letters say. Where memory runs out `out` is unchanged.
+pub fn name_text<T: NameTree>(
+    tree: &T,
+    letters: &Letters,
+    oid: &Oid,
+    out: &mut Vec<u8>,
+) -> Result<(), AllocError>
+    ensures ok { let text = names_by (T.naming tree.now) letters.now oid.now in
+        OnOk result (out.new.items ≡ out.old.items ++ text) }
+    ensures unchanged_on_error { OnErr result (out.new.items ≡ out.old.items) }
+{
+    let mut draft = Draft::after(out);
+    smi_name::name_text(tree, letters.names, letters.numeric_index, oid, &mut draft);
+    draft.finish(out)
+}
+
+/// Appends the details of an identifier: what `snmptranslate -Td` prints. Where memory runs out
+/// `out` is unchanged.
+pub fn detail<T: DetailTree>(
+    tree: &T,
+    letters: &Letters,
+    oid: &Oid,
+    out: &mut Vec<u8>,
+) -> Result<(), AllocError>
+    ensures ok { let definition = T.definition_at tree.now oid.now in
+        let form = letters.now.names in
+        let index = letters.now.numeric_index in
+        let text = detail_text (T.naming tree.now) definition form index oid.now in
+        OnOk result (out.new.items ≡ out.old.items ++ text) }
+    ensures unchanged_on_error { OnErr result (out.new.items ≡ out.old.items) }
+{
+    let mut draft = Draft::after(out);
+    detail_text(tree, letters.names, letters.numeric_index, oid, &mut draft);
+    draft.finish(out)
+}
