@@ -62,7 +62,8 @@ pub record IsFeasible (plan : Plan) (view : MibView) : Type 0 where
 -- the status is 1, and the output failed, or that memory ran out was reported
 abbrev pub IsMishap : (before after err_before err_after : Stream) → ℕ → Type 0
 IsMishap before after err_before err_after status = (status ≡ 1)
-    × (HasRisen before.faults after.faults ⊎ IsWritten err_before (codes "Out of memory.\n") err_after)
+    × (HasRisen before.faults after.faults
+    ⊎ IsWritten err_before (codes "Out of memory.\n") err_after)
 
 -- Then the status is 0, unless the output fails or memory runs out.
 abbrev pub EndsAtStatus0 : Bool → WalkWords → Holdings

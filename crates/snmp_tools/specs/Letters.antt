@@ -20,7 +20,8 @@ is_digit octet = nat_le 48 octet && nat_le octet 57
 
 -- one more octet before the digits at the front and the letters after them
 abbrev pub put : ℕ → List ℕ × List (ℕ × List ℕ) → List ℕ × List (ℕ × List ℕ)
-put octet parts = if is_digit octet then (octet ∷ parts.0, parts.1) else ([], (octet, parts.0) ∷ parts.1)
+put octet parts = if is_digit octet then (octet ∷ parts.0, parts.1)
+    else ([], (octet, parts.0) ∷ parts.1)
 
 -- the digits at the front of a text, and then its letters, each with the digits after it
 abbrev pub parts_of : List ℕ → List ℕ × List (ℕ × List ℕ)

@@ -1,5 +1,6 @@
 -- Why a job isn't done, and what is printed of it on standard error: one line.
-use Rattle.std.specs.Prelude.{ℕ, ℤ, pos, negsuc, List, [], ◌∷◌, ◌++◌, codes, decimal, slice_index_or}
+use Rattle.std.specs.Prelude.{ℕ, ℤ, pos, negsuc, List, [], ◌∷◌, ◌++◌, codes, decimal}
+use Rattle.std.specs.Prelude.{slice_index_or}
 use Rattle.std.specs.Fmt.{signed_decimal}
 use Rattle.snmp_oid.specs.Numeric.{numeric_text}
 use Rattle.snmp_table.specs.declared.error.TableError.{TableError}

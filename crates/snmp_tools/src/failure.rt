@@ -119,7 +119,8 @@ fn table_message(fault: &TableError, path: &str, out: &mut Vec<u8>) -> Result<()
 
 // A path, a line, and what is wrong there.
 fn at_line(out: &mut Vec<u8>, path: &str, line: usize, what: &[u8]) -> Result<(), AllocError>
-    ensures ok { OnOk result (out.new.items ≡ out.old.items ++ (path.now ++ codes ":" ++ decimal line ++ what.now)) }
+    ensures ok { OnOk result (out.new.items
+        ≡ out.old.items ++ (path.now ++ codes ":" ++ decimal line ++ what.now)) }
     ensures err { OnErr result (IsBegun out.old.items out.new.items) }
 {
     two_texts(out, path.as_bytes(), b":")?;
@@ -150,7 +151,8 @@ fn end_message(end: &WalkEnd, agent: &str, out: &mut Vec<u8>) -> Result<(), Allo
 // Two names of which the second should be above the first.
 fn falling_message(out: &mut Vec<u8>, last: &Oid, got: &Oid) -> Result<(), AllocError>
     ensures ok { OnOk result (out.new.items ≡ out.old.items
-        ++ (codes "Error: OID not increasing: " ++ numeric_text last.now ++ codes " >= " ++ numeric_text got.now)) }
+        ++ (codes "Error: OID not increasing: " ++ numeric_text last.now ++ codes " >= "
+        ++ numeric_text got.now)) }
     ensures err { OnErr result (IsBegun out.old.items out.new.items) }
 {
     text_and_name(out, b"Error: OID not increasing: ", last)?;
@@ -206,7 +208,8 @@ fn status_name<'a>(status: i32) -> &'a [u8]
 
 // A name in numbers, after a text.
 fn text_and_name(out: &mut Vec<u8>, text: &[u8], name: &Oid) -> Result<(), AllocError>
-    ensures ok { OnOk result (out.new.items ≡ out.old.items ++ (text.now ++ numeric_text name.now)) }
+    ensures ok { OnOk result (
+        out.new.items ≡ out.old.items ++ (text.now ++ numeric_text name.now)) }
     ensures err { OnErr result (IsBegun out.old.items out.new.items) }
 {
     pieces::octets(out, text)?;
@@ -215,7 +218,8 @@ fn text_and_name(out: &mut Vec<u8>, text: &[u8], name: &Oid) -> Result<(), Alloc
 
 // The agent as given, after a text and before a full stop.
 fn agent_message(out: &mut Vec<u8>, text: &[u8], agent: &str) -> Result<(), AllocError>
-    ensures ok { OnOk result (out.new.items ≡ out.old.items ++ (text.now ++ agent.now ++ codes ".")) }
+    ensures ok { OnOk result (
+        out.new.items ≡ out.old.items ++ (text.now ++ agent.now ++ codes ".")) }
     ensures err { OnErr result (IsBegun out.old.items out.new.items) }
 {
     two_texts(out, text, agent.as_bytes())?;

@@ -83,7 +83,8 @@ fn do_walk<F: Files, O: Output, E: Output>(
 // Reports a failure on `err`, and returns its status. Where there is no memory for its message,
 // that is reported.
 fn report<E: Output>(alloc: Global, failure: &Failure<'_>, err: &mut E) -> u8
-    ensures { IsReported (Some (fault_of failure.now)) (E.stream err.old) (E.stream err.new) result }
+    ensures { IsReported (Some (fault_of failure.now)) (E.stream err.old) (E.stream err.new)
+        result }
 {
     match message_line(alloc, failure) {
         Ok(text) => tell(err, &text),

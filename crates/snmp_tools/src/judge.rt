@@ -1,5 +1,6 @@
 //! The words of a walk are judged: the plan that they ask for, or the first that has no meaning.
-ghost use Rattle.std.specs.Prelude.{IsTrue, ◌↔◌, codes, ◌≡◌, ℕ, List, Some, option_map, IfErr, IfNone, IfOk, IfSome};
+ghost use Rattle.std.specs.Prelude.{◌≡◌, ◌↔◌, ℕ, List, Some, codes, option_map};
+ghost use Rattle.std.specs.Prelude.{IfErr, IfNone, IfOk, IfSome, IsTrue};
 ghost use Rattle.snmp_walk.specs.Walker.{IsMethod};
 ghost use Rattle.snmp_words.specs.Words.{walk_words};
 ghost use Rattle.snmp_tools.specs.Message.{fault_of};

@@ -60,7 +60,8 @@ fn count_line(count: u64, out: &mut Vec<u8>) -> Result<(), AllocError>
 impl<O: Output> Sink for Lines<O> {
     ghost use Rattle.snmp_tools.specs.Lines.{TakesLine};
 
-    ghost takes = { λ old binding result new. TakesLine (O.stream old.out) binding result (O.stream new.out) };
+    ghost takes = { λ old binding result new.
+        TakesLine (O.stream old.out) binding result (O.stream new.out) };
 
     fn row(&mut self, binding: &Binding<'_>) -> Result<(), SinkFault> {
         self.text.clear();
