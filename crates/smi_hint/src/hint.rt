@@ -24,12 +24,9 @@ pub enum HintValue<'a> {
 /// A display hint (RFC 2579, section 3.1), which borrows its text.
 ///
 /// A hint of integers is `d`, `d-n` with `n` from 0 to 20, `x`, `o` or `b`. A hint of octets has
-/// one
-/// or more specs: an optional `*`, a length of 0 to 65535 (0 to 8 for numbers), a format `x`, `d`,
-/// `o`,
-/// `a` or `t`, and perhaps a separator and, after a `*`, a terminator. The last spec is applied
-/// again
-/// and again, so without a `*` its length isn't 0.
+/// one or more specs: an optional `*`, a length of 0 to 65535 (0 to 8 for numbers), a format `x`,
+/// `d`, `o`, `a` or `t`, and perhaps a separator and, after a `*`, a terminator. The last spec is
+/// applied again and again, so without a `*` its length isn't 0.
 #[derive(Drop)]
 pub struct Hint<'a> {
     text: &'a [u8],
@@ -74,8 +71,7 @@ impl<'a> Hint<'a> {
     }
 
     /// Appends a value as the hint shows it. The caller hands in a number for a hint of integers,
-    /// and
-    /// octets for one of octets.
+    /// and octets for one of octets.
     pub fn append(&self, value: HintValue<'_>, draft: &mut Draft)
         requires { IsOf self.now value }
         ensures { (text : List ℕ) × Shows self.now value.entry text
