@@ -43,7 +43,8 @@ const NOT_SET: [u8; 41] = [
     0x01, 0x02, 0x01, 0x01, 0x05, 0x00, 0x02, 0x01, 0x01,
 ];
 
-/// The agent of `public`, with messages of at most so many octets from 1 to 65507, replies with just these octets.
+/// The agent of `public`, with messages of at most `max_size` octets, from 1 to 65507, replies with
+/// just these octets.
 fn assert_reply(rt: &impl Abort, table: &Table, max_size: usize, request: &[u8], reply: &[u8]) {
     let max_size = max_size.clamp(1, 65507);
     let config = Config {
@@ -57,7 +58,8 @@ fn assert_reply(rt: &impl Abort, table: &Table, max_size: usize, request: &[u8],
     }
 }
 
-/// The agent of `public`, with messages of at most so many octets from 1 to 65507, drops the request for this reason.
+/// The agent of `public`, with messages of at most `max_size` octets, from 1 to 65507, drops the
+/// request for this reason.
 fn assert_dropped(rt: &impl Abort, table: &Table, max_size: usize, request: &[u8], why: Why) {
     let max_size = max_size.clamp(1, 65507);
     let config = Config {
@@ -72,7 +74,7 @@ fn assert_dropped(rt: &impl Abort, table: &Table, max_size: usize, request: &[u8
 }
 
 #[test]
-fn a_get_is_answered_in_the_shortest_encoding(rt: HostRuntime) -> Result<(), Fail> {
+fn a_get_has_its_reply_in_the_shortest_encoding(rt: HostRuntime) -> Result<(), Fail> {
     let table = Table::read(rt.alloc(), SYS_NAME)?;
     assert_reply(&rt, &table, 1472, &GET, &GOT);
     assert_reply(&rt, &table, 43, &GET, &GOT);
@@ -100,7 +102,7 @@ fn nothing_is_written(rt: HostRuntime) -> Result<(), Fail> {
 }
 
 #[test]
-fn a_get_next_is_answered_by_the_next_variable(rt: HostRuntime) -> Result<(), Fail> {
+fn a_get_next_gives_the_next_variable(rt: HostRuntime) -> Result<(), Fail> {
     let table = Table::read(rt.alloc(), b"1.3.6.1.2.1.1.5.1|4|wes")?;
     let mut request = GET;
     request[13] = 0xA1;
@@ -165,7 +167,7 @@ const NEXT: [u8; 34] = [
 ];
 
 #[test]
-fn the_longest_name_is_answered(rt: HostRuntime) -> Result<(), Fail> {
+fn the_longest_name_is_given(rt: HostRuntime) -> Result<(), Fail> {
     let mut text = [0; 1384];
     text[..5].copy_from_slice(b"1.3.6");
     for place in 0..125 {

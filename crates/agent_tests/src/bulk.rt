@@ -8,7 +8,8 @@ use std::test::Fail;
 
 /// Six integers, each its place: 18 octets a binding.
 const SIX: &[u8] =
-    b"1.3.6.1.4.1.32473.1.1.0|2|1\n1.3.6.1.4.1.32473.1.2.0|2|2\n1.3.6.1.4.1.32473.1.3.0|2|3\n1.3.6.1.4.1.32473.1.4.0|2|4\n1.3.6.1.4.1.32473.1.5.0|2|5\n1.3.6.1.4.1.32473.1.6.0|2|6";
+    b"1.3.6.1.4.1.32473.1.1.0|2|1\n1.3.6.1.4.1.32473.1.2.0|2|2\n1.3.6.1.4.1.32473.1.3.0|2|3\n\
+1.3.6.1.4.1.32473.1.4.0|2|4\n1.3.6.1.4.1.32473.1.5.0|2|5\n1.3.6.1.4.1.32473.1.6.0|2|6";
 
 /// The GetBulk of 1.3.6.1.4.1.32473.1 with 10 repetitions, in community `public` with id 1.
 const BULK: [u8; 41] = [
@@ -17,7 +18,8 @@ const BULK: [u8; 41] = [
     0x01, 0x04, 0x01, 0x81, 0xFD, 0x59, 0x01, 0x05, 0x00,
 ];
 
-/// What the agent of `public`, with messages of at most so many octets from 1 to 65507, does with the request.
+/// What the agent of `public`, with messages of at most `max_size` octets, from 1 to 65507, does
+/// with the request.
 fn outcome(table: &Table, max_size: usize, request: &[u8], out: &mut [u8; 65507]) -> Outcome {
     let max_size = max_size.clamp(1, 65507);
     let config = Config {
@@ -27,7 +29,8 @@ fn outcome(table: &Table, max_size: usize, request: &[u8], out: &mut [u8; 65507]
     answer(table, &config, request, out)
 }
 
-/// The reply has so many octets, and integers with these numbers: at the end of each name the number of its row, then its value, -1 for endOfMibView.
+/// The reply has `octets` octets, and integers with these numbers: at the end of each name the
+/// number of its row, then its value, -1 for endOfMibView.
 fn assert_integers(
     rt: &impl Abort,
     table: &Table,
@@ -96,7 +99,8 @@ fn a_reply_fits_to_the_octet(rt: HostRuntime) -> Result<(), Fail> {
     Ok(())
 }
 
-/// The GetBulk of three names, 1.3.6.1.4.1.32473.1 twice and 1.3.6.1.4.1.32473.1.5.0, with non-repeaters and max-repetitions in four octets each.
+/// The GetBulk of three names, 1.3.6.1.4.1.32473.1 twice and 1.3.6.1.4.1.32473.1.5.0, with
+/// non-repeaters and max-repetitions in four octets each.
 const THREE: [u8; 79] = [
     0x30, 0x4D, 0x02, 0x01, 0x01, 0x04, 0x06, 0x70, 0x75, 0x62, 0x6C, 0x69, 0x63, 0xA5, 0x40, 0x02,
     0x01, 0x01, 0x02, 0x04, 0x00, 0x00, 0x00, 0x00, 0x02, 0x04, 0x00, 0x00, 0x00, 0x00, 0x30, 0x2F,
@@ -105,7 +109,8 @@ const THREE: [u8; 79] = [
     0x06, 0x0B, 0x2B, 0x06, 0x01, 0x04, 0x01, 0x81, 0xFD, 0x59, 0x01, 0x05, 0x00, 0x05, 0x00,
 ];
 
-/// The GetBulk of the three names with these numbers is answered by these rows, in so many octets.
+/// The GetBulk of the three names with these numbers has these rows in its reply, in `octets`
+/// octets.
 fn assert_three(
     rt: &impl Abort,
     table: &Table,
@@ -124,7 +129,7 @@ fn assert_three(
 const FIRST: &[(u32, i32)] = &[(1, 1), (1, 1), (6, 6)];
 
 #[test]
-fn names_repeat_behind_those_that_do_not(rt: HostRuntime) -> Result<(), Fail> {
+fn names_repeat_after_those_that_do_not(rt: HostRuntime) -> Result<(), Fail> {
     let table = Table::read(rt.alloc(), SIX)?;
     let wanted = &[(1, 1), (1, 1), (6, 6), (2, 2), (6, -1)];
     assert_three(&rt, &table, 1, 2, 115, wanted)?;

@@ -51,9 +51,18 @@ fn a_row_put_again_has_the_new_value(rt: HostRuntime) -> Result<(), Fail> {
     assert!(rt; table.put(&name, ValueRef::Octets(b"new"))?);
     assert_eq!(rt; table.get(&name), ValueRef::Octets(b"new"));
     assert!(rt; table.put(&name, ValueRef::ObjectId(parse_numeric(b"1.3.6.1")?))?);
-    assert_eq!(rt; table.get(&name), ValueRef::ObjectId(parse_numeric(b"1.3.6.1")?));
-    assert_eq!(rt; table.get(&parse_numeric(b"1.3.6.1")?), ValueRef::Integer(1));
-    assert_eq!(rt; table.get(&parse_numeric(b"1.3.6.3")?), ValueRef::Integer(3));
+    assert_eq!(rt;
+        table.get(&name),
+        ValueRef::ObjectId(parse_numeric(b"1.3.6.1")?)
+    );
+    assert_eq!(rt;
+        table.get(&parse_numeric(b"1.3.6.1")?),
+        ValueRef::Integer(1)
+    );
+    assert_eq!(rt;
+        table.get(&parse_numeric(b"1.3.6.3")?),
+        ValueRef::Integer(3)
+    );
     Ok(())
 }
 
@@ -64,8 +73,14 @@ fn bad_names_and_values_are_not_put(rt: HostRuntime) -> Result<(), Fail> {
     let longest = [b'a'; 65536];
     for name in [b"1.3".as_slice(), b".", b"1.40.1", b"3.1.1"] {
         let bad = parse_numeric(name)?;
-        assert_eq!(rt; table.put(&bad, ValueRef::Integer(1)).err(), Some(PutError::BadName));
-        assert_eq!(rt; table.put(&bad, ValueRef::Null).err(), Some(PutError::BadName));
+        assert_eq!(rt;
+            table.put(&bad, ValueRef::Integer(1)).err(),
+            Some(PutError::BadName)
+        );
+        assert_eq!(rt;
+            table.put(&bad, ValueRef::Null).err(),
+            Some(PutError::BadName)
+        );
     }
     for value in [
         ValueRef::Null,

@@ -46,7 +46,15 @@ fn a_request_has_its_reply(rt: HostRuntime) -> Result<(), Fail> {
     let client = socket_of(&rt)?;
     client.send_to(&GET, server.local_addr()?)?;
     let served = serve(&server, &table, &public(), 1);
-    assert_eq!(rt; served, Served { replies: 1, dropped: 0, idle: 0, faults: 0 });
+    assert_eq!(rt;
+        served,
+        Served {
+            replies: 1,
+            dropped: 0,
+            idle: 0,
+            faults: 0
+        }
+    );
     let mut buffer = [0; 1472];
     let (size, sender) = client.recv_from(&mut buffer)?;
     assert_eq!(rt; &buffer[..size], GOT.as_slice());
@@ -59,9 +67,25 @@ fn a_silent_socket_is_idle(rt: HostRuntime) -> Result<(), Fail> {
     let table = Table::read(rt.alloc(), SYS_NAME)?;
     let server = socket_of(&rt)?;
     let served = serve(&server, &table, &public(), 2);
-    assert_eq!(rt; served, Served { replies: 0, dropped: 0, idle: 2, faults: 0 });
+    assert_eq!(rt;
+        served,
+        Served {
+            replies: 0,
+            dropped: 0,
+            idle: 2,
+            faults: 0
+        }
+    );
     let none = serve(&server, &table, &public(), 0);
-    assert_eq!(rt; none, Served { replies: 0, dropped: 0, idle: 0, faults: 0 });
+    assert_eq!(rt;
+        none,
+        Served {
+            replies: 0,
+            dropped: 0,
+            idle: 0,
+            faults: 0
+        }
+    );
     Ok(())
 }
 
@@ -78,7 +102,15 @@ fn each_sender_has_its_own_reply(rt: HostRuntime) -> Result<(), Fail> {
     second.send_to(b"", server.local_addr()?)?;
     second.send_to(&request, server.local_addr()?)?;
     let served = serve(&server, &table, &public(), 5);
-    assert_eq!(rt; served, Served { replies: 2, dropped: 2, idle: 1, faults: 0 });
+    assert_eq!(rt;
+        served,
+        Served {
+            replies: 2,
+            dropped: 2,
+            idle: 1,
+            faults: 0
+        }
+    );
     let mut reply = GOT;
     let mut buffer = [0; 1472];
     let (size, _) = first.recv_from(&mut buffer)?;
@@ -129,7 +161,15 @@ fn what_fails_is_counted_and_the_next_turn_follows(rt: HostRuntime) -> Result<()
         replies: 0,
     };
     let served = serve_at(&mut endpoint, &table, &public(), 1000);
-    assert_eq!(rt; served, Served { replies: 250, dropped: 0, idle: 0, faults: 750 });
+    assert_eq!(rt;
+        served,
+        Served {
+            replies: 250,
+            dropped: 0,
+            idle: 0,
+            faults: 750
+        }
+    );
     assert_eq!(rt; endpoint.replies, 500);
     Ok(())
 }

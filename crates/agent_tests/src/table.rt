@@ -8,9 +8,10 @@ use std::test::Fail;
 
 /// Rows that aren't in order, with each way to end a line.
 const ROWS: &[u8] =
-    b"# three rows\r\nobject 1.3.6.1.4.1.32473.1\n\n1.3.6.1.4.1.32473.1.10.0|2|3\r\n1.3.6.1.4.1.32473.1.2.0|4|wes\n.1.3.6.1.4.1.32473.1.1.0|2|1";
+    b"# three rows\r\nobject 1.3.6.1.4.1.32473.1\n\n1.3.6.1.4.1.32473.1.10.0|2|3\r\n\
+1.3.6.1.4.1.32473.1.2.0|4|wes\n.1.3.6.1.4.1.32473.1.1.0|2|1";
 
-/// The answer to a GetNext of the name.
+/// What a GetNext of the name gives.
 fn next<'a>(table: &'a Table, name: &Oid) -> Binding<'a> {
     let mut binding = Binding {
         name: Oid::new(),
@@ -65,7 +66,7 @@ fn a_binding_walks_along_the_rows(rt: HostRuntime) -> Result<(), Fail> {
         assert_eq!(rt; binding.name, parse_numeric(name)?);
         assert_eq!(rt; binding.value, value);
     }
-    // The place is a hint alone: from another name the answer is that name's.
+    // The place is a hint alone: from another name the row is that name's.
     binding.name = parse_numeric(b"1.3.6.1.4.1.32473.1.1")?;
     table.advance(&mut binding, &mut place);
     assert_eq!(rt; binding.value, ValueRef::Integer(1));
@@ -207,7 +208,7 @@ const FAULTS: &[(&[u8], TableError)] = &[
 ];
 
 #[test]
-fn the_first_faulty_line_is_told(rt: HostRuntime) {
+fn the_first_faulty_line_is_reported(rt: HostRuntime) {
     for (text, fault) in FAULTS {
         assert_eq!(rt;
             Table::read(rt.alloc(), text).err(),
@@ -217,20 +218,20 @@ fn the_first_faulty_line_is_told(rt: HostRuntime) {
     }
 }
 
-/// `before`, so many times `part`, and `behind`.
+/// `before`, `part` repeated `count` times, and `after`.
 fn repeated(
     alloc: Global,
     before: &[u8],
     part: &[u8],
     count: usize,
-    behind: &[u8],
+    after: &[u8],
 ) -> Result<Vec<u8>, AllocError> {
     let mut text = Vec::new(alloc);
     text.extend_from_slice(before)?;
     for _ in 0..count {
         text.extend_from_slice(part)?;
     }
-    text.extend_from_slice(behind)?;
+    text.extend_from_slice(after)?;
     Ok(text)
 }
 

@@ -4,11 +4,13 @@ use Rattle.std.proofs.lemmas.Bool.{cases_lt}
 use Rattle.snmp_wire.specs.declared.kind.Kind.TheVariants as kind
 use Rattle.snmp_wire.specs.Message.{VarBind, Message}
 use Rattle.snmp_wire.specs.Canon.{canon, canon_binding, canon_bindings, canon_head}
+use Rattle.snmp_wire.specs.Laws.{HasPieces}
+use Rattle.snmp_wire.specs.Sizes.{MessageSizes}
 use Rattle.snmp_table.specs.Table.{MibView}
 use Rattle.snmp_agent.specs.Reply.{Fits, IsBulk, IsLongestFront, bulk, no_error, response}
-use Rattle.snmp_agent.specs.Answering.{IsDraft, IsResponseWritten, IsResponseTooLong, HasNoRoom, HoldsFront, IsRoom, PassesLimit, whole_size}
+use Rattle.snmp_agent.specs.Answering.{HoldsBindings, IsResponseWritten, IsResponseTooLong, HasNoRoom, HoldsFront, IsRoom, PassesLimit, whole_size}
 use Rattle.snmp_agent.proofs.Requests.{bare, response_size, sealed, sealed_size}
-use Rattle.snmp_agent.proofs.Sizes.{longer, beyond}
+use Rattle.snmp_agent.proofs.Lengths.{longer, beyond}
 use Rattle.snmp_agent.proofs.Drafts.{passes}
 use Rattle.snmp_agent.proofs.Fronts.{drafted}
 use Rattle.snmp_agent.proofs.Answers.{HasNextsAfter}
@@ -26,49 +28,73 @@ further (q ∷ added) more (p ∷ ahead) rest e long =
     let found = further added more ahead rest others (omega (arith, long)) in
     (found.0, found.1, found.2, found.3, ap (λ ps. p ∷ ps) found.4 ∙ ap (λ r. r ∷ (added ++ found.0 ∷ found.2)) (sym same))
 
-module _ (q : Message) (limit room : ℕ) (is_room : IsRoom (response q no_error (pos 0) []) limit room) where
+module _ (sizes : MessageSizes) (q : Message) (limit room : ℕ) (is_room : IsRoom (response q no_error (pos 0) []) limit room) where
   -- no longer front fits where the next binding has no room
-  is_longest : (all added more : List VarBind) (total : ℕ) (out : List ℕ) → all ≡ added ++ more → IsDraft (response q no_error (pos 0) []) limit added total out → HasNoRoom room total more
+  is_longest : (all added more : List VarBind) (total : ℕ) (out : List ℕ) → all ≡ added ++ more
+      → HoldsBindings (response q no_error (pos 0) []) limit added total out → HasNoRoom room total more
       → (ahead rest : List VarBind) → all ≡ ahead ++ rest → Fits limit (response q no_error (pos 0) ahead) → length ahead ≤ length added
   is_longest all added more total out front draft no_room ahead rest e fits = ⊎_elim
       (λ long.
       let found = further added more ahead rest (sym front ∙ e) long in
       let none : room < total + length (canon_binding found.0) = subst (λ (ps : List VarBind). HasNoRoom room total ps) found.3 no_room in
-      let large : limit < whole_size (response q no_error (pos 0) []) (total + length (canon_binding found.0)) = beyond (response q no_error (pos 0) []) limit room (total + length (canon_binding found.0)) is_room none in
-      let past : PassesLimit (response q no_error (pos 0) []) limit (added ++ found.0 ∷ found.2) = passes (response q no_error (pos 0) []) limit added found.2 found.0 total out draft large in
-      let here : PassesLimit (response q no_error (pos 0) []) limit ahead = subst (λ (ps : List VarBind). PassesLimit (response q no_error (pos 0) []) limit ps) (sym found.4) past in
-      absurd (omega (arith, here, response_size q no_error (pos 0) ahead)))
+      let large : limit < whole_size (response q no_error (pos 0) []) (total + length (canon_binding found.0)) = beyond sizes (response q no_error
+      (pos 0) []) limit room (total + length (canon_binding found.0)) is_room none in
+      let past : PassesLimit (response q no_error (pos 0) []) limit (added ++ found.0 ∷ found.2) = passes sizes (response q no_error
+      (pos 0) []) limit added found.2 found.0 total out draft large in
+      let here : PassesLimit (response q no_error (pos 0) []) limit ahead = subst (λ (ps : List VarBind). PassesLimit (response q no_error
+      (pos 0) []) limit ps) (sym found.4) past in
+      absurd (omega (arith, here, response_size sizes q no_error (pos 0) ahead)))
       (λ short. short)
       (cases_lt (length added) (length ahead))
 
 -- what was written is the Response
-pub bulk_sent : (view : MibView) (limit room : ℕ) (q m : Message) (all : List VarBind) (total n : ℕ) (old out new : List ℕ) → q.kind ≡ kind.GetBulkRequest → IsBulk view q all
-    → m ≡ response q no_error (pos 0) [] → IsRoom m limit room → HoldsFront room 0 old all total out → n ≡ whole_size m total → take n new ≡ canon_head m total ++ take total out → IsResponseWritten view limit q n new
-bulk_sent view limit room q m all total n old out new is asked parts room_is here size octets =
+pub bulk_sent : MessageSizes → HasPieces → (view : MibView) (limit room : ℕ) (q m : Message) (all : List VarBind) (total n : ℕ) (old out new : List ℕ)
+    → q.kind ≡ kind.GetBulkRequest
+    → IsBulk view q all
+    → m ≡ response q no_error (pos 0) [] → IsRoom m limit room → HoldsFront room 0 old all total out → n ≡ whole_size m total
+    → take n new ≡ canon_head m total ++ take total out → IsResponseWritten view limit q n new
+bulk_sent sizes pieces view limit room q m all total n old out new is asked parts room_is here size octets =
     let is_room : IsRoom (response q no_error (pos 0) []) limit room = subst (λ (x : Message). IsRoom x limit room) parts room_is in
-    let draft : IsDraft (response q no_error (pos 0) []) limit here.added total out = drafted (response q no_error (pos 0) []) limit room total old out here.added is_room here.extends in
-    let long : n ≡ length (canon (response q no_error (pos 0) here.added)) = size ∙ ap (λ (x : Message). whole_size x total) parts ∙ sealed_size q no_error (pos 0) limit here.added total out draft in
-    let text : take n new ≡ canon (response q no_error (pos 0) here.added) = octets ∙ ap (λ (x : Message). canon_head x total ++ take total out) parts ∙ sealed q no_error (pos 0) limit here.added total out draft in
-    let fits : length (canon (response q no_error (pos 0) here.added)) ≤ limit = omega (arith, sealed_size q no_error (pos 0) limit here.added total out draft, draft.fits) in
+    let draft : HoldsBindings (response q no_error (pos 0) []) limit here.added total out = drafted sizes (response q no_error
+    (pos 0) []) limit room total old out here.added is_room here.extends in
+    let long : n ≡ length (canon (response q no_error (pos 0) here.added)) = size ∙ ap (λ (x : Message). whole_size x total) parts
+    ∙ sealed_size sizes q no_error (pos 0) limit here.added total out draft in
+    let text : take n new ≡ canon (response q no_error (pos 0) here.added) = octets ∙ ap (λ (x : Message). canon_head x total ++ take total out) parts
+    ∙ sealed pieces q no_error (pos 0) limit here.added total out draft in
+    let fits : length (canon (response q no_error (pos 0) here.added)) ≤ limit = omega (
+      arith,
+      sealed_size sizes q no_error
+          (pos 0) limit here.added total out draft,
+      draft.fits,
+    ) in
     let longest : IsLongestFront limit q all here.added = record {
       more = here.more;
       front = here.front;
       fits = λ some. fits;
-      longest = is_longest q limit room is_room all here.added here.more total out here.front draft here.no_room;
+      longest = is_longest sizes q limit room is_room all here.added here.more total out here.front draft here.no_room;
     } in
     (response q no_error (pos 0) here.added, bulk all here.added is asked longest refl, fits, text, long)
 
 -- where not even a Response without bindings fits, none is sent
-pub bulk_unsent : HasNextsAfter → (view : MibView) (limit : ℕ) (q m : Message) → q.kind ≡ kind.GetBulkRequest → m ≡ response q no_error (pos 0) [] → limit < whole_size m 0 → IsResponseTooLong view limit q
-bulk_unsent nexts view limit q m is parts large =
+pub bulk_unsent : MessageSizes → HasPieces → HasNextsAfter → (view : MibView) (limit : ℕ) (q m : Message) → q.kind ≡ kind.GetBulkRequest
+    → m ≡ response q no_error (pos 0) []
+    → limit < whole_size m 0 → IsResponseTooLong view limit q
+bulk_unsent sizes pieces nexts view limit q m is parts large =
     let all = all_bulk nexts view q in
     let alone : limit < whole_size (response q no_error (pos 0) []) 0 = subst (λ (x : Message). limit < whole_size x 0) parts large in
-    let size : length (canon_head (response q no_error (pos 0) []) 0) ≡ length (canon (response q no_error (pos 0) [])) = ap length (bare q no_error (pos 0)) in
+    let size : length (canon_head (response q no_error (pos 0) []) 0) ≡ length (canon (response q no_error (pos 0) [])) = ap length (bare pieces q no_error
+    (pos 0)) in
     let longest : IsLongestFront limit q all.0 [] = record {
       more = all.0;
       front = refl;
       fits = λ some. absurd (some refl);
       longest = λ ahead rest e fits.
-          absurd (omega (arith, alone, longer (response q no_error (pos 0) []) 0 (length (canon_bindings ahead)) (omega arith), response_size q no_error (pos 0) ahead));
+          absurd (omega (
+            arith,
+            alone,
+            longer sizes (response q no_error (pos 0) []) 0 (length (canon_bindings ahead)) (omega arith),
+            response_size sizes q no_error
+                (pos 0) ahead,
+          ));
     } in
     (response q no_error (pos 0) [], bulk all.0 [] is all.1 longest refl, omega (arith, alone, size))

@@ -1,11 +1,12 @@
 -- Which bindings have an encoding, and how long it is.
 use Rattle.std.proofs.Common.{ℕ, ◌<◌, List, [], ◌∷◌, ◌++◌, length, ⊎_elim, arith, length-append}
 use Rattle.std.proofs.lemmas.Bool.{cases_lt}
-use Rattle.snmp_wire.specs.Message.{Datum, object_id, integer_value, octet_string, null_value, ip_address, counter32, gauge32, time_ticks, opaque_octets, counter64, no_such_object, no_such_instance, end_of_mib_view, VarBind, Message}
+use Rattle.snmp_wire.specs.Message.{Datum, object_id, integer_value, octet_string, null_value, ip_address, counter32, gauge32, time_ticks, opaque_octets}
+use Rattle.snmp_wire.specs.Message.{counter64, no_such_object, no_such_instance, end_of_mib_view, VarBind, Message}
 use Rattle.snmp_wire.specs.Number.{lenient}
 use Rattle.snmp_wire.specs.Spelling.{IsContent, SpellsBindings, Spells, sequence_tag, value_tag}
 use Rattle.snmp_wire.specs.Canon.{IsEncodable, IsEncodableValue, canon_binding, canon_content, canon_element, canon_value}
-use Rattle.snmp_wire.proofs.ElementLemmas.{length-canon_element}
+use Rattle.snmp_ber.specs.Sizes.{ElementSizes}
 use Rattle.snmp_table.specs.Table.{IsAnswerValue}
 use Rattle.snmp_agent.specs.Answering.{HasEncoding, IsWritable, AreWritable, IsShortValue}
 
@@ -74,17 +75,22 @@ pub encodable : (binding : VarBind) → IsWritable binding → IsShortValue bind
 encodable binding h short = record { name = h.name; value = encodable_value binding.value h.value short }
 
 -- an element is longer than its content
-longer_element : (tag : ℕ) (content : List ℕ) → length content < length (canon_element tag content)
-longer_element tag content = omega (arith, length-canon_element tag content)
+longer_element : ElementSizes → (tag : ℕ) (content : List ℕ) → length content < length (canon_element tag content)
+longer_element sizes tag content = omega (arith, sizes.element tag content)
 
-longer_value : (value : Datum) → length (canon_content value) < length (canon_value value)
+longer_value : ElementSizes → (value : Datum) → length (canon_content value) < length (canon_value value)
 unfolding canon_value
-longer_value value = longer_element (value_tag value) (canon_content value)
+longer_value sizes value = longer_element sizes (value_tag value) (canon_content value)
 
-longer_binding : (binding : VarBind) → length (canon_value binding.value) < length (canon_binding binding)
+longer_binding : ElementSizes → (binding : VarBind) → length (canon_value binding.value) < length (canon_binding binding)
 unfolding canon_binding
-longer_binding binding =
-    omega (arith, longer_element sequence_tag (canon_value (object_id binding.name) ++ canon_value binding.value), length-append (canon_value (object_id binding.name)) (canon_value binding.value))
+longer_binding sizes binding =
+    omega (
+      arith,
+      longer_element sizes sequence_tag (canon_value (object_id binding.name) ++ canon_value binding.value),
+      length-append (canon_value
+          (object_id binding.name)) (canon_value binding.value),
+    )
 
 long_content : (value : Datum) → (IsShortValue value → ⊥) → 65535 < length (canon_content value)
 unfolding canon_content
@@ -103,5 +109,6 @@ long_content no_such_instance long = absurd (long tt)
 long_content end_of_mib_view long = absurd (long tt)
 
 -- a binding with a longer string than any datagram has
-pub long_binding : (binding : VarBind) → (IsShortValue binding.value → ⊥) → 65535 < length (canon_binding binding)
-long_binding binding long = omega (arith, long_content binding.value long, longer_value binding.value, longer_binding binding)
+pub long_binding : ElementSizes → (binding : VarBind) → (IsShortValue binding.value → ⊥) → 65535 < length (canon_binding binding)
+long_binding sizes binding long =
+    omega (arith, long_content binding.value long, longer_value sizes binding.value, longer_binding sizes binding)

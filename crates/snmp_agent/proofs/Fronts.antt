@@ -4,8 +4,9 @@ use Rattle.std.proofs.lemmas.List.{append-nil}
 use Rattle.std.proofs.lemmas.Grind.{flat_map-append}
 use Rattle.snmp_wire.specs.Message.{VarBind, Message}
 use Rattle.snmp_wire.specs.Canon.{canon_binding, canon_bindings}
-use Rattle.snmp_agent.proofs.Sizes.{within}
-use Rattle.snmp_agent.specs.Answering.{IsRoom, Extends, HasNoRoom, HoldsFront, IsDraft}
+use Rattle.snmp_wire.specs.Sizes.{MessageSizes}
+use Rattle.snmp_agent.proofs.Lengths.{within}
+use Rattle.snmp_agent.specs.Answering.{IsRoom, Extends, HasNoRoom, HoldsFront, HoldsBindings}
 
 bindings-append : (a b : List VarBind) → canon_bindings (a ++ b) ≡ canon_bindings a ++ canon_bindings b
 unfolding canon_bindings
@@ -32,7 +33,8 @@ pub more_behind : (room start middle end : ℕ) (old between new : List ℕ) (a 
     → Extends room middle between b end new → Extends room start old (a ++ b) end new
 more_behind room start middle end old between new a b first second = record {
   size =
-      let sum : length (canon_bindings (a ++ b)) ≡ length (canon_bindings a) + length (canon_bindings b) = ap length (bindings-append a b) ∙ length-append (canon_bindings a) (canon_bindings b) in
+      let sum : length (canon_bindings (a ++ b)) ≡ length (canon_bindings a) + length (canon_bindings b) = ap length (bindings-append a b)
+      ∙ length-append (canon_bindings a) (canon_bindings b) in
       omega (arith, first.size, second.size);
   octets =
       second.octets ∙ ap (λ octets. octets ++ canon_bindings b) first.octets ∙ append_assoc (take start old) (canon_bindings a) (canon_bindings b)
@@ -49,12 +51,20 @@ one_more room start total n old between new added p so_far size octets fits = mo
 })
 
 -- what stands behind nothing is all
-pub drafted : (m : Message) (limit room total : ℕ) (old out : List ℕ) (added : List VarBind) → IsRoom m limit room → Extends room 0 old added total out → IsDraft m limit added total out
-drafted m limit room total old out added is_room h = record { total_size = omega (arith, h.size); octets = h.octets; fits = within m limit room total is_room h.fits }
+pub drafted : MessageSizes → (m : Message) (limit room total : ℕ) (old out : List ℕ) (added : List VarBind) → IsRoom m limit room
+    → Extends room 0 old added total out
+    → HoldsBindings m limit added total out
+drafted sizes m limit room total old out added is_room h = record {
+  total_size = omega
+      (arith, h.size);
+  octets = h.octets;
+  fits = within sizes m limit room total is_room h.fits;
+}
 
 -- ---- fronts
 
-pub whole_front : (room start : ℕ) (old : List ℕ) (all : List VarBind) (total : ℕ) (out : List ℕ) → Extends room start old all total out → HoldsFront room start old all total out
+pub whole_front : (room start : ℕ) (old : List ℕ) (all : List VarBind) (total : ℕ) (out : List ℕ) → Extends room start old all total out
+    → HoldsFront room start old all total out
 whole_front room start old all total out h = record { added = all; more = []; front = sym (append-nil all); extends = h; no_room = tt }
 
 pub front_behind : (room start middle end : ℕ) (old between new : List ℕ) (a b : List VarBind) → Extends room start old a middle between
@@ -72,7 +82,8 @@ still_no_room room total [] rest h some = absurd (some refl)
 still_no_room room total (p ∷ more) rest h some = h
 
 -- where one has no room, what follows doesn't matter
-pub front_before : (room start : ℕ) (old : List ℕ) (all rest : List VarBind) (total : ℕ) (out : List ℕ) → (h : HoldsFront room start old all total out) → h.more ≢ []
+pub front_before : (room start : ℕ) (old : List ℕ) (all rest : List VarBind) (total : ℕ) (out : List ℕ) → (h : HoldsFront room start old all total out)
+    → h.more ≢ []
     → HoldsFront room start old (all ++ rest) total out
 front_before room start old all rest total out h some = record {
   added = h.added;
@@ -87,7 +98,8 @@ not_none p more e = cc
 
 -- where the next one has no room
 pub stopped : (room start : ℕ) (old : List ℕ) (added : List VarBind) (p : VarBind) (rest : List VarBind) (total : ℕ) (between out : List ℕ)
-    → Extends room start old added total between → out ≡ between → room < total + length (canon_binding p) → (front : HoldsFront room start old (added ++ p ∷ rest) total out) × (front.more ≢ [])
+    → Extends room start old added total between → out ≡ between → room < total + length (canon_binding p)
+    → (front : HoldsFront room start old (added ++ p ∷ rest) total out) × (front.more ≢ [])
 stopped room start old added p rest total between out h same large =
     let kept : Extends room start old added total out = subst (λ (octets : List ℕ). Extends room start old added total octets) (sym same) h in
     (record { added = added; more = p ∷ rest; front = refl; extends = kept; no_room = large }, not_none p rest)

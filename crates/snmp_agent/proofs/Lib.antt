@@ -3,6 +3,7 @@ pub mod Sizes
 pub mod Answers
 pub mod Encodings
 pub mod OneReply
+pub mod Lengths
 pub mod Requests
 pub mod Drafts
 pub mod Rounds

@@ -8,7 +8,8 @@ use Rattle.snmp_table.specs.Exact.{HasOne}
 use Rattle.snmp_table.specs.Table.{MibView, IsGet, IsNext, IsNextAfter}
 use Rattle.snmp_agent.specs.declared.config.Why.{Why}
 use Rattle.snmp_agent.specs.declared.config.Why.TheVariants as why
-use Rattle.snmp_agent.specs.Reply.{Agent, IsServed, response, AreAnswers, no_error, IsWhole, got, got_next, unwritten, Fits, or_zero, AreEnds, joined, AreRounds, IsBulk, IsLongestFront, IsResponse, whole, shortened, bulk, IsReply, IsDropped}
+use Rattle.snmp_agent.specs.Reply.{Agent, IsServed, response, AreAnswers, no_error, IsWhole, got, got_next, unwritten, Fits, or_zero, AreEnds, joined}
+use Rattle.snmp_agent.specs.Reply.{AreRounds, IsBulk, IsLongestFront, IsResponse, whole, shortened, bulk, IsReply, IsDropped}
 use Rattle.snmp_agent.proofs.Answers.{HasGets, HasNexts, HasNextsAfter, same_answers}
 use Rattle.snmp_agent.proofs.Rounds.{ends_decided}
 
@@ -59,7 +60,8 @@ module _ (view : MibView) (names : List VarBind) where
     same_round : (i : ℕ) (a b : List VarBind) → AreAnswers (λ asked given. IsNextAfter view i asked.name given) names a
         → AreAnswers (λ asked given. IsNextAfter view i asked.name given) names b → a ≡ b
     same_round i a b h k =
-        same_answers (λ asked given. IsNextAfter view i asked.name given) (λ asked p q f g. both (IsNextAfter view i asked.name) (nexts view i asked.name) p q f g)
+        same_answers (λ asked given. IsNextAfter view i asked.name given) (λ asked p q f g. both (IsNextAfter view i asked.name)
+        (nexts view i asked.name) p q f g)
         names a b h k
 
     later : (before repetitions : ℕ) (round : List VarBind) (rounds : List (List VarBind)) → AreLater before (suc repetitions) (round ∷ rounds)

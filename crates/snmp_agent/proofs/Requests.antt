@@ -3,27 +3,33 @@ use Rattle.std.specs.Cmp.Lexicographic.{pointwise, same_text, other_text}
 use mir.Syntax.{w32}
 use mir.Val.{of_z, to_z, SFits}
 use Rattle.std.proofs.lemmas.Int.{to_z-of_z}
-use Rattle.std.proofs.Common.{◌≡◌, ℕ, ℤ, pos, Bool, true, false, not, nat_eq, ◌⊎◌, inl, inr, ◌+◌, ◌≤◌, List, [], ◌∷◌, ◌++◌, length, take, refl, sym, ap, subst, ◌∙◌, arith}
+use Rattle.std.proofs.Common.{◌≡◌, ℕ, ℤ, pos, Bool, true, false, not, nat_eq, ◌⊎◌, inl, inr, ◌+◌, ◌≤◌, List, [], ◌∷◌, ◌++◌, length, take, refl, sym, ap, subst}
+use Rattle.std.proofs.Common.{◌∙◌, arith}
 use Rattle.std.proofs.lemmas.Grind.{flat_map-append}
 use Rattle.std.proofs.lemmas.List.{append-nil}
 use Rattle.snmp_wire.specs.declared.kind.Kind.{Kind}
 use Rattle.snmp_wire.specs.declared.kind.Kind.TheVariants as kind
 use Rattle.snmp_wire.specs.Message.{VarBind, Message}
 use Rattle.snmp_wire.specs.Canon.{canon, canon_binding, canon_bindings, canon_fields, canon_front, canon_head, canon_opening}
-use Rattle.snmp_wire.proofs.MessageWriting.{canon_parts, length-canon}
+use Rattle.snmp_wire.specs.Laws.{HasPieces}
+use Rattle.snmp_wire.specs.Sizes.{MessageSizes}
 use Rattle.snmp_table.specs.Table.{MibView}
-use Rattle.snmp_agent.specs.Reply.{IsServed, AreAnswers, IsWhole, IsResponse, whole, shortened, too_big, got, got_next, unwritten, response, not_writable, failed_place}
-use Rattle.snmp_agent.specs.Answering.{IsPaired, IsAnswer, IsResponseWritten, IsDraft, PassesLimit, whole_size, whole_status, whole_index}
+use Rattle.snmp_agent.specs.Reply.{IsServed, AreAnswers, IsWhole, IsResponse, whole, shortened, too_big, got, got_next, unwritten, response, not_writable}
+use Rattle.snmp_agent.specs.Reply.{failed_place}
+use Rattle.snmp_agent.specs.Answering.{IsPaired, IsAnswer, IsResponseWritten, HoldsBindings, PassesLimit, whole_size, whole_status, whole_index}
 
 -- the head of a message doesn't look at its bindings
-pub same_head : (q : Message) (status index : ℤ) (bindings : List VarBind) (total : ℕ) → canon_head (response q status index []) total ≡ canon_head (response q status index bindings) total
+pub same_head : (q : Message) (status index : ℤ) (bindings : List VarBind) (total : ℕ)
+    → canon_head (response q status index []) total ≡ canon_head (response q status index bindings) total
 unfolding canon_head canon_front canon_opening canon_fields
 same_head q status index bindings total = refl
 
 -- one more binding
-pub canon_bindings-push : (bindings : List VarBind) (binding : VarBind) → canon_bindings (bindings ++ binding ∷ []) ≡ canon_bindings bindings ++ canon_binding binding
+pub canon_bindings-push : (bindings : List VarBind) (binding : VarBind)
+    → canon_bindings (bindings ++ binding ∷ []) ≡ canon_bindings bindings ++ canon_binding binding
 unfolding canon_bindings
-canon_bindings-push bindings binding = flat_map-append canon_binding bindings (binding ∷ []) ∙ ap (λ octets. canon_bindings bindings ++ octets) (append-nil (canon_binding binding))
+canon_bindings-push bindings binding = flat_map-append canon_binding bindings (binding ∷ [])
+    ∙ ap (λ octets. canon_bindings bindings ++ octets) (append-nil (canon_binding binding))
 
 -- the bindings of a Set are its own answers
 own : (asked given : List VarBind) → AreAnswers (λ a g. g ≡ a) asked given → given ≡ asked
@@ -51,27 +57,34 @@ whole_response view q given h answers = by_kind view q given q.kind refl h answe
 -- ---- sizes
 
 -- how long a Response is
-pub response_size : (q : Message) (status index : ℤ) (given : List VarBind) → whole_size (response q status index []) (length (canon_bindings given)) ≡ length (canon (response q status index given))
-response_size q status index given =
-    ap (λ head. length head + length (canon_bindings given)) (same_head q status index given (length (canon_bindings given))) ∙ sym (length-canon (response q status index given))
+pub response_size : MessageSizes → (q : Message) (status index : ℤ) (given : List VarBind)
+    → whole_size (response q status index []) (length (canon_bindings given)) ≡ length (canon (response q status index given))
+response_size sizes q status index given =
+    ap (λ head. length head + length (canon_bindings given)) (same_head q status index given (length (canon_bindings given)))
+    ∙ sym (sizes.whole (response q status index given))
 
 -- a head and the bindings behind it are the Response
-pub sealed : (q : Message) (status index : ℤ) (limit : ℕ) (given : List VarBind) (total : ℕ) (out : List ℕ) → IsDraft (response q status index []) limit given total out
+pub sealed : HasPieces → (q : Message) (status index : ℤ) (limit : ℕ) (given : List VarBind) (total : ℕ) (out : List ℕ)
+    → HoldsBindings (response q status index []) limit given total out
     → canon_head (response q status index []) total ++ take total out ≡ canon (response q status index given)
-sealed q status index limit given total out draft =
+sealed pieces q status index limit given total out draft =
     let r = response q status index given in
-    let head : canon_head (response q status index []) total ≡ canon_head r (length (canon_bindings given)) = same_head q status index given total ∙ ap (canon_head r) draft.total_size in
-    let both : canon_head (response q status index []) total ++ take total out ≡ canon_head r (length (canon_bindings given)) ++ canon_bindings given = cc (head, draft.octets) in
-    both ∙ sym (canon_parts r)
+    let head : canon_head (response q status index []) total ≡ canon_head r (length (canon_bindings given)) = same_head q status index given total
+    ∙ ap (canon_head r) draft.total_size in
+    let both : canon_head (response q status index []) total ++ take total out ≡ canon_head r (length (canon_bindings given)) ++ canon_bindings given = cc
+    (head, draft.octets) in
+    both ∙ sym (pieces r)
 
-pub sealed_size : (q : Message) (status index : ℤ) (limit : ℕ) (given : List VarBind) (total : ℕ) (out : List ℕ) → IsDraft (response q status index []) limit given total out
+pub sealed_size : MessageSizes → (q : Message) (status index : ℤ) (limit : ℕ) (given : List VarBind) (total : ℕ) (out : List ℕ)
+    → HoldsBindings (response q status index []) limit given total out
     → whole_size (response q status index []) total ≡ length (canon (response q status index given))
-sealed_size q status index limit given total out draft = ap (whole_size (response q status index [])) draft.total_size ∙ response_size q status index given
+sealed_size sizes q status index limit given total out draft = ap (whole_size (response q status index [])) draft.total_size
+    ∙ response_size sizes q status index given
 
 -- a Response without bindings is its head
-pub bare : (q : Message) (status index : ℤ) → canon_head (response q status index []) 0 ≡ canon (response q status index [])
+pub bare : HasPieces → (q : Message) (status index : ℤ) → canon_head (response q status index []) 0 ≡ canon (response q status index [])
 unfolding canon_bindings
-bare q status index = sym (canon_parts (response q status index []) ∙ append-nil (canon_head (response q status index []) 0))
+bare pieces q status index = sym (pieces (response q status index []) ∙ append-nil (canon_head (response q status index []) 0))
 
 -- ---- what a request is tested for
 
@@ -93,13 +106,15 @@ same_community {found} {own} {theirs} e agrees = sym e ∙ same_text found own (
     flip true h = refl
     flip false h = absurd (cc)
 
-pub served_kinds : {found theirs : Kind} → found ≡ theirs → (found ≡ kind.GetRequest) ⊎ ((found ≡ kind.GetNextRequest) ⊎ ((found ≡ kind.GetBulkRequest) ⊎ (found ≡ kind.SetRequest))) → IsServed theirs
+pub served_kinds : {found theirs : Kind} → found ≡ theirs
+    → (found ≡ kind.GetRequest) ⊎ ((found ≡ kind.GetNextRequest) ⊎ ((found ≡ kind.GetBulkRequest) ⊎ (found ≡ kind.SetRequest))) → IsServed theirs
 served_kinds {found} {theirs} e (inl is) = subst (λ (k : Kind). IsServed k) (sym is ∙ e) tt
 served_kinds {found} {theirs} e (inr (inl is)) = subst (λ (k : Kind). IsServed k) (sym is ∙ e) tt
 served_kinds {found} {theirs} e (inr (inr (inl is))) = subst (λ (k : Kind). IsServed k) (sym is ∙ e) tt
 served_kinds {found} {theirs} e (inr (inr (inr is))) = subst (λ (k : Kind). IsServed k) (sym is ∙ e) tt
 
-pub other_kind : {found theirs : Kind} → found ≡ theirs → (found ≡ kind.GetRequest → ⊥) → (found ≡ kind.GetNextRequest → ⊥) → (found ≡ kind.GetBulkRequest → ⊥) → (found ≡ kind.SetRequest → ⊥) → IsServed theirs → ⊥
+pub other_kind : {found theirs : Kind} → found ≡ theirs → (found ≡ kind.GetRequest → ⊥) → (found ≡ kind.GetNextRequest → ⊥) → (found ≡ kind.GetBulkRequest
+    → ⊥) → (found ≡ kind.SetRequest → ⊥) → IsServed theirs → ⊥
 other_kind {found} {theirs} e get next bulk set served = by_cases theirs e served
   where
     by_cases : (k : Kind) → found ≡ k → IsServed k → ⊥
@@ -129,28 +144,39 @@ paired_kind {found} {theirs} e other served = by_cases theirs e served
 -- ---- replies
 
 -- the answers of a request are those of its kind
-answers_of : (view : MibView) (q : Message) (k : Kind) (bindings given : List VarBind) → k ≡ q.kind → bindings ≡ q.bindings → AreAnswers (IsAnswer view k) bindings given → AreAnswers (IsAnswer view q.kind) q.bindings given
+answers_of : (view : MibView) (q : Message) (k : Kind) (bindings given : List VarBind) → k ≡ q.kind → bindings ≡ q.bindings
+    → AreAnswers (IsAnswer view k) bindings given → AreAnswers (IsAnswer view q.kind) q.bindings given
 answers_of view q k bindings given same_kind same_bindings h =
-    subst (λ (bs : List VarBind). AreAnswers (IsAnswer view q.kind) bs given) same_bindings (subst (λ (j : Kind). AreAnswers (IsAnswer view j) bindings given) same_kind h)
+    subst (λ (bs : List VarBind). AreAnswers (IsAnswer view q.kind) bs given) same_bindings (subst (λ (j : Kind). AreAnswers
+    (IsAnswer view j) bindings given) same_kind h)
 
 -- a finished draft is the Response
-pub finished : (view : MibView) (limit : ℕ) (q : Message) (k : Kind) (bindings given : List VarBind) (m : Message) (total n : ℕ) (out new : List ℕ) → IsPaired q.kind → k ≡ q.kind → bindings ≡ q.bindings
-    → m ≡ response q (whole_status q.kind) (whole_index q.kind q.bindings) [] → AreAnswers (IsAnswer view k) bindings given → IsDraft m limit given total out → n ≡ whole_size m total → take n new ≡ canon_head m total ++ take total out
+pub finished : MessageSizes → HasPieces
+    → (view : MibView) (limit : ℕ) (q : Message) (k : Kind) (bindings given : List VarBind) (m : Message) (total n : ℕ) (out new : List ℕ)
+    → IsPaired q.kind → k ≡ q.kind → bindings ≡ q.bindings
+    → m ≡ response q (whole_status q.kind) (whole_index q.kind q.bindings) [] → AreAnswers (IsAnswer view k) bindings given
+    → HoldsBindings m limit given total out → n ≡ whole_size m total → take n new ≡ canon_head m total ++ take total out
     → IsResponseWritten view limit q n new
-finished view limit q k bindings given m total n out new served same_kind same_bindings parts h draft size octets =
+finished sizes pieces view limit q k bindings given m total n out new served same_kind same_bindings parts h draft size octets =
     let st = whole_status q.kind in
     let ix = whole_index q.kind q.bindings in
-    let here : IsDraft (response q st ix []) limit given total out = subst (λ (x : Message). IsDraft x limit given total out) parts draft in
-    let long : n ≡ length (canon (response q st ix given)) = size ∙ ap (λ (x : Message). whole_size x total) parts ∙ sealed_size q st ix limit given total out here in
-    let text : take n new ≡ canon (response q st ix given) = octets ∙ ap (λ (x : Message). canon_head x total ++ take total out) parts ∙ sealed q st ix limit given total out here in
+    let here : HoldsBindings (response q st ix []) limit given total out = subst (λ (x : Message). HoldsBindings x limit given total out) parts draft in
+    let long : n ≡ length (canon (response q st ix given)) = size ∙ ap (λ (x : Message). whole_size x total) parts
+    ∙ sealed_size sizes q st ix limit given total out here in
+    let text : take n new ≡ canon (response q st ix given) = octets ∙ ap (λ (x : Message). canon_head x total ++ take total out) parts
+    ∙ sealed pieces q st ix limit given total out here in
     let fits : length (canon (response q st ix given)) ≤ limit = omega (arith, ap (λ (x : Message). whole_size x total) parts, draft.fits) in
     (response q st ix given, whole (whole_response view q given served (answers_of view q k bindings given same_kind same_bindings h)) fits, fits, text, long)
 
 -- where the answers pass the limit, the Response is an error
-pub replaced : (view : MibView) (limit : ℕ) (q : Message) (k : Kind) (bindings given : List VarBind) (m : Message) → IsPaired q.kind → k ≡ q.kind → bindings ≡ q.bindings
-    → m ≡ response q (whole_status q.kind) (whole_index q.kind q.bindings) [] → AreAnswers (IsAnswer view k) bindings given → PassesLimit m limit given → IsResponse view limit q (response q too_big (pos 0) [])
-replaced view limit q k bindings given m served same_kind same_bindings parts h large =
+pub replaced : MessageSizes → (view : MibView) (limit : ℕ) (q : Message) (k : Kind) (bindings given : List VarBind) (m : Message) → IsPaired q.kind → k ≡ q.kind
+    → bindings ≡ q.bindings
+    → m ≡ response q (whole_status q.kind) (whole_index q.kind q.bindings) [] → AreAnswers (IsAnswer view k) bindings given → PassesLimit m limit given
+    → IsResponse view limit q (response q too_big (pos 0) [])
+replaced sizes view limit q k bindings given m served same_kind same_bindings parts h large =
     let st = whole_status q.kind in
     let ix = whole_index q.kind q.bindings in
-    let size : whole_size m (length (canon_bindings given)) ≡ length (canon (response q st ix given)) = ap (λ (x : Message). whole_size x (length (canon_bindings given))) parts ∙ response_size q st ix given in
-    shortened (response q st ix given) (whole_response view q given served (answers_of view q k bindings given same_kind same_bindings h)) (λ fits. absurd (omega (arith, size))) refl
+    let size : whole_size m (length (canon_bindings given)) ≡ length (canon (response q st ix given)) = ap (λ (x : Message). whole_size x (length
+    (canon_bindings given))) parts ∙ response_size sizes q st ix given in
+    shortened (response q st ix given) (whole_response view q given served (answers_of view q k bindings given same_kind same_bindings h)) (λ fits. absurd
+    (omega (arith, size))) refl

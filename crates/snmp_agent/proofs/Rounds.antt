@@ -1,7 +1,9 @@
 -- The rounds of a GetBulk.
-use Rattle.std.proofs.Common.{◌≡◌, ◌⊎◌, inl, inr, ℕ, zero, suc, ◌+◌, ◌≤◌, ◌<◌, List, [], ◌∷◌, ◌++◌, length, take, drop, refl, sym, ap, subst, ◌∙◌, arith, append_assoc}
+use Rattle.std.proofs.Common.{◌≡◌, ◌⊎◌, inl, inr, ℕ, zero, suc, ◌+◌, ◌≤◌, ◌<◌, List, [], ◌∷◌, ◌++◌, length, take, drop, refl, sym, ap, subst, ◌∙◌, arith}
+use Rattle.std.proofs.Common.{append_assoc}
 use Rattle.std.proofs.lemmas.List.{append-nil}
-use Rattle.snmp_wire.specs.Message.{Datum, integer_value, octet_string, null_value, object_id, ip_address, counter32, gauge32, time_ticks, opaque_octets, counter64, no_such_object, no_such_instance, end_of_mib_view, VarBind, Message}
+use Rattle.snmp_wire.specs.Message.{Datum, integer_value, octet_string, null_value, object_id, ip_address, counter32, gauge32, time_ticks, opaque_octets}
+use Rattle.snmp_wire.specs.Message.{counter64, no_such_object, no_such_instance, end_of_mib_view, VarBind, Message}
 use Rattle.snmp_table.specs.Table.{MibView}
 use Rattle.snmp_agent.specs.Reply.{AreEnds, AreRounds, IsBulk, joined, or_zero}
 use Rattle.snmp_agent.specs.Answering.{AreGiven, AreRoundsFrom, AreWritable, HasRow}
@@ -78,7 +80,8 @@ not_empty : (before later : List (List VarBind)) (round : List VarBind) → [] �
 not_empty [] later round e = cc
 not_empty (r ∷ before) later round e = cc
 
-given_at : (view : MibView) (names : List VarBind) (i left : ℕ) (rounds before later : List (List VarBind)) (round : List VarBind) → AreRoundsFrom view names i left rounds
+given_at : (view : MibView) (names : List VarBind) (i left : ℕ) (rounds before later : List (List VarBind)) (round : List VarBind)
+    → AreRoundsFrom view names i left rounds
     → rounds ≡ before ++ round ∷ later → AreGiven view (i + length before) names round
 given_at view names i zero [] before later round h e = absurd (not_empty before later round e)
 given_at view names i zero (r ∷ more) before later round h e = absurd h
@@ -95,7 +98,8 @@ given_at view names i (suc left) (r ∷ more) (b ∷ before) later round h e =
       | inr goes ↦ subst (λ (k : ℕ). AreGiven view k names round) place (given_at view names (i + 1) left more before later round goes.1 rest)
     ]
 
-last_at : (view : MibView) (names : List VarBind) (i left : ℕ) (rounds before later : List (List VarBind)) (round : List VarBind) → AreRoundsFrom view names i left rounds
+last_at : (view : MibView) (names : List VarBind) (i left : ℕ) (rounds before later : List (List VarBind)) (round : List VarBind)
+    → AreRoundsFrom view names i left rounds
     → rounds ≡ before ++ round ∷ later → AreEnds round → later ≡ []
 last_at view names i zero [] before later round h e ends = absurd (not_empty before later round e)
 last_at view names i zero (r ∷ more) before later round h e ends = absurd h
@@ -114,7 +118,8 @@ last_at view names i (suc left) (r ∷ more) (b ∷ before) later round h e ends
       | inr goes ↦ last_at view names (i + 1) left more before later round goes.1 rest ends
     ]
 
-closed_early : (view : MibView) (names : List VarBind) (i left : ℕ) (rounds : List (List VarBind)) → AreRoundsFrom view names i left rounds → length rounds < left
+closed_early : (view : MibView) (names : List VarBind) (i left : ℕ) (rounds : List (List VarBind)) → AreRoundsFrom view names i left rounds
+    → length rounds < left
     → (before : List (List VarBind)) × (round : List VarBind) × (rounds ≡ before ++ round ∷ []) × AreEnds round
 closed_early view names i zero rounds h short = absurd (omega (arith, short))
 closed_early view names i (suc left) [] h short = absurd h
@@ -125,7 +130,8 @@ closed_early view names i (suc left) (r ∷ more) h short = elim h.1 [
       (r ∷ rest.0, rest.1, ap (λ rs. r ∷ rs) rest.2, rest.3)
 ]
 
-pub are_rounds : (view : MibView) (repetitions : ℕ) (names : List VarBind) (rounds : List (List VarBind)) → AreRoundsFrom view names 0 repetitions rounds → AreRounds view repetitions names rounds
+pub are_rounds : (view : MibView) (repetitions : ℕ) (names : List VarBind) (rounds : List (List VarBind)) → AreRoundsFrom view names 0 repetitions rounds
+    → AreRounds view repetitions names rounds
 are_rounds view repetitions names rounds h = record {
   few = few_rounds view names 0 repetitions rounds h;
   successors = λ before later round e.
@@ -162,13 +168,16 @@ all_bulk nexts view q =
     (singles.0 ++ joined rounds.0, is_bulk view q singles.0 rounds.0 singles.1 rounds.1)
 
 -- the same, as found
-pub bulk_of : (view : MibView) (q : Message) (count repetitions : ℕ) (bindings names singles : List VarBind) (rounds : List (List VarBind)) → count ≡ or_zero q.a → repetitions ≡ or_zero q.b
-    → bindings ≡ q.bindings → names ≡ drop count bindings → AreGiven view 0 (take count bindings) singles → AreRoundsFrom view names 0 repetitions rounds → IsBulk view q (singles ++ joined rounds)
+pub bulk_of : (view : MibView) (q : Message) (count repetitions : ℕ) (bindings names singles : List VarBind) (rounds : List (List VarBind))
+    → count ≡ or_zero q.a → repetitions ≡ or_zero q.b
+    → bindings ≡ q.bindings → names ≡ drop count bindings → AreGiven view 0 (take count bindings) singles → AreRoundsFrom view names 0 repetitions rounds
+    → IsBulk view q (singles ++ joined rounds)
 bulk_of view q count repetitions bindings names singles rounds same_count same_repetitions same_bindings behind first others =
     let front : take count bindings ≡ take (or_zero q.a) q.bindings = ap (λ k. take k bindings) same_count ∙ ap (take (or_zero q.a)) same_bindings in
     let back : names ≡ drop (or_zero q.a) q.bindings = behind ∙ ap (λ k. drop k bindings) same_count ∙ ap (drop (or_zero q.a)) same_bindings in
     is_bulk view q singles rounds (subst (λ (ps : List VarBind). AreGiven view 0 ps singles) front first)
-    (subst (λ (ps : List VarBind). AreRoundsFrom view ps 0 (or_zero q.b) rounds) back (subst (λ (k : ℕ). AreRoundsFrom view names 0 k rounds) same_repetitions others))
+    (subst (λ (ps : List VarBind). AreRoundsFrom view ps 0 (or_zero q.b) rounds) back (subst (λ
+    (k : ℕ). AreRoundsFrom view names 0 k rounds) same_repetitions others))
 
 -- what is left of the names has encodings
 pub writable_drop : (count : ℕ) (names : List VarBind) → AreWritable names → AreWritable (drop count names)

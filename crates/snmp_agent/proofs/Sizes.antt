@@ -20,10 +20,13 @@ many n limit x y h = grind (arith, nat_tests)
 pub more_digits : (base limit more n k : ℕ) → n ≤ k → digit_count base limit more n ≤ digit_count base limit more k
 more_digits base limit zero n k h = omega arith
 more_digits base limit (suc more) n k h = ⊎_elim
-    (λ below. let one : digit_count base limit (suc more) n ≡ 1 = few n limit 1 (1 + digit_count base (limit * base) more n) below in omega (arith, one, digit_some base limit (suc more) k))
+    (λ below. let one : digit_count base limit (suc more) n ≡ 1 = few n limit 1 (1 + digit_count base (limit * base) more n) below in omega
+    (arith, one, digit_some base limit (suc more) k))
     (λ above.
-    let here : digit_count base limit (suc more) n ≡ 1 + digit_count base (limit * base) more n = many n limit 1 (1 + digit_count base (limit * base) more n) above in
-    let there : digit_count base limit (suc more) k ≡ 1 + digit_count base (limit * base) more k = many k limit 1 (1 + digit_count base (limit * base) more k) (omega arith) in
+    let here : digit_count base limit (suc more) n ≡ 1 + digit_count base (limit * base) more n = many n limit 1 (1 + digit_count base
+    (limit * base) more n) above in
+    let there : digit_count base limit (suc more) k ≡ 1 + digit_count base (limit * base) more k = many k limit 1 (1 + digit_count base (limit * base) more k)
+    (omega arith) in
     omega (arith, here, there, more_digits base (limit * base) more n k h))
     (cases_lt n limit)
 
@@ -37,7 +40,8 @@ longer_length n k h = ⊎_elim
     (λ short. omega (arith, length-canon_length_short n below, length-canon_length_short k short))
     (λ long. omega (arith, length-canon_length_short n below, length-canon_length_long k long))
     (cases_lt k 128))
-    (λ above. let further : 128 ≤ k = omega arith in omega (arith, length-canon_length_long n above, length-canon_length_long k further, more_length_digits n k h))
+    (λ above. let further : 128 ≤ k = omega arith in omega
+    (arith, length-canon_length_long n above, length-canon_length_long k further, more_length_digits n k h))
     (cases_lt n 128)
 
 longer_header : (tag n k : ℕ) → n ≤ k → length (canon_header tag n) ≤ length (canon_header tag k)
@@ -47,9 +51,11 @@ longer_header tag n k h = omega (arith, length-canon_header tag n, length-canon_
 pub longer_head : (m : Message) (n k : ℕ) → n ≤ k → length (canon_head m n) ≤ length (canon_head m k)
 longer_head m n k h =
     let list : length (canon_header sequence_tag n) ≤ length (canon_header sequence_tag k) = longer_header sequence_tag n k h in
-    let pdu : length (canon_header (kind_tag m.kind) (pdu_size m n)) ≤ length (canon_header (kind_tag m.kind) (pdu_size m k)) = longer_header (kind_tag m.kind) (pdu_size m n) (pdu_size m k) (omega arith) in
+    let pdu : length (canon_header (kind_tag m.kind) (pdu_size m n)) ≤ length (canon_header (kind_tag m.kind) (pdu_size m k)) = longer_header
+    (kind_tag m.kind) (pdu_size m n) (pdu_size m k) (omega arith) in
     let front : length (canon_front m n) ≤ length (canon_front m k) = omega (arith, length-canon_front m n, length-canon_front m k) in
-    let whole : length (canon_header sequence_tag (length (canon_front m n) + n)) ≤ length (canon_header sequence_tag (length (canon_front m k) + k)) = longer_header sequence_tag (length (canon_front m n) + n) (length (canon_front m k) + k) (omega arith) in
+    let whole : length (canon_header sequence_tag (length (canon_front m n) + n)) ≤ length (canon_header sequence_tag (length
+    (canon_front m k) + k)) = longer_header sequence_tag (length (canon_front m n) + n) (length (canon_front m k) + k) (omega arith) in
     omega (arith, length-canon_head m n, length-canon_head m k)
 
 -- a message with more octets of bindings is no shorter

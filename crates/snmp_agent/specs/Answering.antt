@@ -1,14 +1,21 @@
--- How replies are made: what private functions are proved to find and to write.
-use Rattle.std.specs.Prelude.{◌≡◌, ◌≢◌, ◌⊎◌, ℕ, zero, suc, ℤ, pos, ◌+◌, ◌≤◌, ◌<◌, List, [], ◌∷◌, ◌++◌, length, take}
+-- How replies are made: what private functions are proved to find and to write. No clause of a
+-- public
+-- call is stated by these.
+use Rattle.std.specs.Prelude.{◌≡◌, ◌≢◌, ◌⊎◌, ℕ, zero, suc, ℤ, pos, ◌+◌, ◌≤◌, ◌<◌, List, [], ◌∷◌}
+use Rattle.std.specs.Prelude.{◌++◌, length, take}
 use Rattle.snmp_oid.specs.Identifier.{IsWire}
 use Rattle.snmp_wire.specs.declared.kind.Kind.{Kind}
 use Rattle.snmp_wire.specs.declared.kind.Kind.TheVariants as kind
-use Rattle.snmp_wire.specs.Message.{Datum, object_id, integer_value, octet_string, null_value, ip_address, counter32, gauge32, time_ticks, opaque_octets, counter64, no_such_object, no_such_instance, end_of_mib_view, VarBind, Message}
+use Rattle.snmp_wire.specs.Message.{Datum, object_id, integer_value, octet_string, null_value}
+use Rattle.snmp_wire.specs.Message.{ip_address, counter32, gauge32, time_ticks, opaque_octets}
+use Rattle.snmp_wire.specs.Message.{counter64, no_such_object, no_such_instance, end_of_mib_view}
+use Rattle.snmp_wire.specs.Message.{VarBind, Message}
 use Rattle.snmp_wire.specs.Canon.{canon, canon_binding, canon_bindings, canon_head}
 use Rattle.snmp_table.specs.Table.{MibView, IsGet, IsNext, IsNextAfter}
 use Rattle.snmp_agent.specs.declared.bulk.Progress.{Progress}
 use Rattle.snmp_agent.specs.declared.bulk.Progress.TheVariants as progress
-use Rattle.snmp_agent.specs.Reply.{AreAnswers, AreEnds, IsResponse, not_writable, no_error, failed_place}
+use Rattle.snmp_agent.specs.Reply.{AreAnswers, AreEnds, IsResponse, not_writable, no_error}
+use Rattle.snmp_agent.specs.Reply.{failed_place}
 
 -- the kinds of request that are given one binding for each of their own
 abbrev pub IsPaired : Kind → Type 0
@@ -73,12 +80,14 @@ IsShortValue no_such_object = Unit {0}
 IsShortValue no_such_instance = Unit {0}
 IsShortValue end_of_mib_view = Unit {0}
 
--- how many octets a message has whose bindings take so many
+-- how many octets a message has whose bindings take `total`
 abbrev pub whole_size : Message → ℕ → ℕ
 whole_size m total = length (canon_head m total) + total
 
--- the encodings of the bindings stand in the front of the output, and the message with them keeps to the limit
-pub record IsDraft (m : Message) (limit : ℕ) (bindings : List VarBind) (total : ℕ) (out : List ℕ) : Type 0 where
+-- the front of the output is the encodings of the bindings, and the message with them keeps to the
+-- limit
+pub record HoldsBindings (m : Message) (limit : ℕ) (bindings : List VarBind) (total : ℕ)
+    (out : List ℕ) : Type 0 where
   pub total_size : total ≡ length (canon_bindings bindings)
   pub octets : take total out ≡ canon_bindings bindings
   pub fits : whole_size m total ≤ limit
@@ -98,47 +107,56 @@ whole_index _ bindings = pos 0
 
 -- the first n octets of the output are the Response that is to be sent
 abbrev pub IsResponseWritten : MibView → ℕ → Message → ℕ → List ℕ → Type 0
-IsResponseWritten view limit q n out = (r : Message) × IsResponse view limit q r × (length (canon r) ≤ limit) × (take n out ≡ canon r) × (n ≡ length (canon r))
+IsResponseWritten view limit q n out = (r : Message) × IsResponse view limit q r
+    × (length (canon r) ≤ limit) × (take n out ≡ canon r) × (n ≡ length (canon r))
 
 -- the Response that is to be sent doesn't fit
 abbrev pub IsResponseTooLong : MibView → ℕ → Message → Type 0
-IsResponseTooLong view limit q = (r : Message) × IsResponse view limit q r × (limit < length (canon r))
+IsResponseTooLong view limit q = (r : Message) × IsResponse view limit q r
+    × (limit < length (canon r))
 
 -- ---- GetBulk
 
--- so many octets are the most that the bindings of the message may take where it keeps to the limit
+-- `room` is the most octets that the bindings of the message may take where it keeps to the limit
 pub record IsRoom (m : Message) (limit room : ℕ) : Type 0 where
   pub fits : whole_size m room ≤ limit
   pub most : limit < whole_size m (room + 1)
 
--- the encodings of these bindings stand behind the first `start` octets of the old output, and all keeps to the room
-pub record Extends (room start : ℕ) (old : List ℕ) (added : List VarBind) (total : ℕ) (out : List ℕ) : Type 0 where
+-- the encodings of these bindings follow the first `start` octets of the old output, and all keeps
+-- to the room
+pub record Extends (room start : ℕ) (old : List ℕ) (added : List VarBind) (total : ℕ)
+    (out : List ℕ) : Type 0 where
   pub size : total ≡ start + length (canon_bindings added)
   pub octets : take total out ≡ take start old ++ canon_bindings added
   pub fits : total ≤ room
 
--- the first of these bindings has no room behind so many octets
+-- the first of these bindings has no room after `total` octets
 abbrev pub HasNoRoom : ℕ → ℕ → List VarBind → Type 0
 HasNoRoom room total [] = Unit {0}
 HasNoRoom room total (p ∷ more) = room < total + length (canon_binding p)
 
--- a front of these bindings stands there, and there is no room for one more of them
-pub record HoldsFront (room start : ℕ) (old : List ℕ) (all : List VarBind) (total : ℕ) (out : List ℕ) : Type 0 where
+-- a front of these bindings is written, and there is no room for one more of them
+pub record HoldsFront (room start : ℕ) (old : List ℕ) (all : List VarBind) (total : ℕ)
+    (out : List ℕ) : Type 0 where
   pub added : List VarBind
   pub more : List VarBind
   pub front : all ≡ added ++ more
   pub extends : Extends room start old added total out
   pub no_room : HasNoRoom room total more
 
--- what the names are given in the round behind so many others
+-- what the names are given in the round after `round` others
 abbrev pub AreGiven : MibView → ℕ → List VarBind → List VarBind → Type 0
 AreGiven view round = AreAnswers (λ asked given. IsNextAfter view round asked.name given)
 
--- How far a list of bindings was written: all of it, where more may follow, or a front of it. A front is all of it only where no more may follow.
-abbrev pub IsProgress : (IsAll MayGoOn : List VarBind → Type 0) → ℕ → ℕ → List ℕ → Progress → List ℕ → Type 0
-IsProgress IsAll MayGoOn room start old (progress.Open total) out = (all : List VarBind) × IsAll all × MayGoOn all × Extends room start old all total out
+-- How far a list of bindings was written: all of it, where more may follow, or a front of it. A
+-- front is all of it only where no more may follow.
+abbrev pub IsProgress : (IsAll MayGoOn : List VarBind → Type 0) → ℕ → ℕ → List ℕ → Progress
+    → List ℕ → Type 0
+IsProgress IsAll MayGoOn room start old (progress.Open total) out = (all : List VarBind)
+    × IsAll all × MayGoOn all × Extends room start old all total out
 IsProgress IsAll MayGoOn room start old (progress.Closed total) out =
-    (all : List VarBind) × IsAll all × (front : HoldsFront room start old all total out) × (MayGoOn all → front.more ≢ [])
+    (all : List VarBind) × IsAll all × (front : HoldsFront room start old all total out)
+    × (MayGoOn all → front.more ≢ [])
 
 -- the names that are left where more may follow
 abbrev pub Leaves : Progress → List VarBind → List VarBind → Type 0
@@ -149,10 +167,11 @@ Leaves (progress.Closed total) names left = Unit {0}
 abbrev pub HasRow : List VarBind → Type 0
 HasRow round = AreEnds round → ⊥
 
--- the rounds from this one on, where so many more are asked for
+-- the rounds from this one on, where as many more are asked for as the fourth argument says
 abbrev pub AreRoundsFrom : MibView → List VarBind → ℕ → ℕ → List (List VarBind) → Type 0
 AreRoundsFrom view names i zero [] = Unit {0}
 AreRoundsFrom view names i zero (round ∷ more) = ⊥
 AreRoundsFrom view names i (suc left) [] = ⊥
 AreRoundsFrom view names i (suc left) (round ∷ more) =
-    AreGiven view i names round × ((AreEnds round × (more ≡ [])) ⊎ ((AreEnds round → ⊥) × AreRoundsFrom view names (i + 1) left more))
+    AreGiven view i names round × ((AreEnds round × (more ≡ [])) ⊎ ((AreEnds round
+    → ⊥) × AreRoundsFrom view names (i + 1) left more))

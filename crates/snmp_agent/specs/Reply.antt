@@ -1,5 +1,6 @@
 -- The replies of an agent that reads alone (RFC 3416, section 4.2; RFC 1901, section 3).
-use Rattle.std.specs.Prelude.{◌≡◌, ◌≢◌, ℕ, ℤ, pos, negsuc, ◌≤◌, ◌<◌, List, [], ◌∷◌, ◌++◌, length, take, drop}
+use Rattle.std.specs.Prelude.{◌≡◌, ◌≢◌, ℕ, ℤ, pos, negsuc, ◌≤◌, ◌<◌, List, [], ◌∷◌, ◌++◌, length}
+use Rattle.std.specs.Prelude.{take, drop}
 use Rattle.snmp_wire.specs.declared.kind.Kind.{Kind}
 use Rattle.snmp_wire.specs.declared.kind.Kind.TheVariants as kind
 use Rattle.snmp_wire.specs.Message.{VarBind, Message, end_of_mib_view}
@@ -10,19 +11,24 @@ use Rattle.snmp_agent.specs.declared.config.Config.{Config}
 use Rattle.snmp_agent.specs.declared.config.Why.{Why}
 use Rattle.snmp_agent.specs.declared.config.Why.TheVariants as why
 
--- an agent: what it serves, the community that it answers, and how many octets its messages have at most
+-- an agent: what it serves, its community, and how many octets its messages have at most
 pub record Agent : Type 0 where
   pub view : MibView
   pub community : List ℕ
   pub max_size : ℕ
 
--- the agent of a table that is told this
+-- the agent of a table with this configuration
 abbrev pub agent_of : MibView → Config → Agent
-agent_of view config = record { view = view; community = config.community.now; max_size = config.max_size }
+agent_of view config = record {
+  view = view;
+  community = config.community.now;
+  max_size =
+      config.max_size;
+}
 
 -- ---- requests
 
--- the kinds of request that are answered
+-- the kinds of request that are served
 abbrev pub IsServed : Kind → Type 0
 IsServed kind.GetRequest = Unit {0}
 IsServed kind.GetNextRequest = Unit {0}
@@ -33,7 +39,8 @@ IsServed kind.InformRequest = ⊥
 IsServed kind.Trap = ⊥
 IsServed kind.Report = ⊥
 
--- the octets spell the message, which is of version 1, that of SNMPv2c, of the agent's community, and a request that is answered
+-- the octets are the message, which is of version 1, that of SNMPv2c, of the agent's community, and
+-- a request that is served
 pub record IsRequest (community octets : List ℕ) (q : Message) : Type 0 where
   pub spelt : Spells q octets
   pub version : q.version ≡ pos 1
@@ -54,10 +61,11 @@ response q status index bindings = record {
   bindings = bindings;
 }
 
--- each binding of the request is answered by the one at its place
+-- each binding of the request is given the one at its place
 abbrev pub AreAnswers : (VarBind → VarBind → Type 0) → List VarBind → List VarBind → Type 0
 AreAnswers IsAnswer [] [] = Unit {0}
-AreAnswers IsAnswer (asked ∷ more) (given ∷ rest) = IsAnswer asked given × AreAnswers IsAnswer more rest
+AreAnswers IsAnswer (asked ∷ more) (given ∷ rest) = IsAnswer asked given
+    × AreAnswers IsAnswer more rest
 AreAnswers IsAnswer [] (given ∷ rest) = ⊥
 AreAnswers IsAnswer (asked ∷ more) [] = ⊥
 
@@ -76,16 +84,21 @@ abbrev pub failed_place : List VarBind → ℤ
 failed_place [] = pos 0
 failed_place (_ ∷ _) = pos 1
 
--- the Response to a request that has one binding for each of its own, whatever its size: to a Get the bindings asked for (4.2.1), to a GetNext
--- their successors (4.2.2), and to a Set, since nothing can be written, its own bindings and an error (4.2.5)
+-- the Response to a request that has one binding for each of its own, whatever its size: to a Get
+-- the bindings asked for (4.2.1), to a GetNext
+-- their successors (4.2.2), and to a Set, since nothing can be written, its own bindings and an
+-- error (4.2.5)
 pub data IsWhole (view : MibView) (q r : Message) : Type 0 where
-  got : (bindings : List VarBind) → q.kind ≡ kind.GetRequest → AreAnswers (λ asked given. IsGet view asked.name given) q.bindings bindings
+  got : (bindings : List VarBind) → q.kind ≡ kind.GetRequest
+      → AreAnswers (λ asked given. IsGet view asked.name given) q.bindings bindings
       → r ≡ response q no_error (pos 0) bindings → IsWhole view q r
-  got_next : (bindings : List VarBind) → q.kind ≡ kind.GetNextRequest → AreAnswers (λ asked given. IsNext view asked.name given) q.bindings bindings
+  got_next : (bindings : List VarBind) → q.kind ≡ kind.GetNextRequest
+      → AreAnswers (λ asked given. IsNext view asked.name given) q.bindings bindings
       → r ≡ response q no_error (pos 0) bindings → IsWhole view q r
-  unwritten : q.kind ≡ kind.SetRequest → r ≡ response q not_writable (failed_place q.bindings) q.bindings → IsWhole view q r
+  unwritten : q.kind ≡ kind.SetRequest
+      → r ≡ response q not_writable (failed_place q.bindings) q.bindings → IsWhole view q r
 
--- the message's shortest encoding has at most so many octets
+-- the message's shortest encoding has at most `max_size` octets
 abbrev pub Fits : ℕ → Message → Type 0
 Fits max_size m = length (canon m) ≤ max_size
 
@@ -101,50 +114,66 @@ abbrev pub AreEnds : List VarBind → Type 0
 AreEnds [] = Unit {0}
 AreEnds (p ∷ more) = (p.value ≡ end_of_mib_view) × AreEnds more
 
--- lists, one behind the other
+-- lists, one after the other
 abbrev pub joined : List (List VarBind) → List VarBind
 joined [] = []
 joined (round ∷ more) = round ++ joined more
 
--- The rounds of the names that repeat. The round behind i others holds for each name, at its place, what a GetNext gives that is asked i times more
--- from the name that it gave: the name's successor number i + 1. There are as many rounds as repetitions; fewer only where the last is endOfMibView
--- throughout, and no round stands behind such a one.
-pub record AreRounds (view : MibView) (repetitions : ℕ) (names : List VarBind) (rounds : List (List VarBind)) : Type 0 where
+-- The rounds of the names that repeat. The round after i others holds for each name, at its place,
+-- what a GetNext gives that is asked i times more
+-- from the name that it gave: the name's successor number i + 1. There are as many rounds as
+-- repetitions; fewer only where the last is endOfMibView
+-- throughout, and no round comes after such a one.
+pub record AreRounds (view : MibView) (repetitions : ℕ) (names : List VarBind) (rounds : List
+    (List VarBind)) : Type 0 where
   pub few : length rounds ≤ repetitions
-  pub successors : (before later : List (List VarBind)) (round : List VarBind) → rounds ≡ before ++ round ∷ later
+  pub successors : (before later : List (List VarBind)) (round : List VarBind)
+      → rounds ≡ before ++ round ∷ later
       → AreAnswers (λ asked given. IsNextAfter view (length before) asked.name given) names round
-  pub last : (before later : List (List VarBind)) (round : List VarBind) → rounds ≡ before ++ round ∷ later → AreEnds round → later ≡ []
-  pub closed : length rounds < repetitions → (before : List (List VarBind)) × (round : List VarBind) × (rounds ≡ before ++ round ∷ []) × AreEnds round
+  pub last : (before later : List (List VarBind)) (round : List VarBind)
+      → rounds ≡ before ++ round ∷ later → AreEnds round → later ≡ []
+  pub closed : length rounds < repetitions
+      → (before : List (List VarBind)) × (round : List VarBind) × (rounds ≡ before ++ round ∷ [])
+      × AreEnds round
 
--- All variable bindings that a GetBulk asks for, whatever their size: the successors of its first names, as many as non-repeaters says or all that
--- there are, and then max-repetitions rounds of the other names. Either number counts as 0 where it is less.
+-- All variable bindings that a GetBulk asks for, whatever their size: the successors of its first
+-- names, as many as non-repeaters says or all that
+-- there are, and then max-repetitions rounds of the other names. Either number counts as 0 where it
+-- is less.
 pub record IsBulk (view : MibView) (q : Message) (bindings : List VarBind) : Type 0 where
   pub singles : List VarBind
   pub rounds : List (List VarBind)
   pub parts : bindings ≡ singles ++ joined rounds
-  pub are_singles : AreAnswers (λ asked given. IsNext view asked.name given) (take (or_zero q.a) q.bindings) singles
+  pub are_singles : AreAnswers (λ asked given. IsNext view asked.name given) (take
+      (or_zero q.a) q.bindings) singles
   pub are_rounds : AreRounds view (or_zero q.b) (drop (or_zero q.a) q.bindings) rounds
 
--- the longest front of all these bindings with which the Response fits; no bindings where it fits with none
+-- the longest front of all these bindings with which the Response fits; no bindings where it fits
+-- with none
 pub record IsLongestFront (max_size : ℕ) (q : Message) (all bindings : List VarBind) : Type 0 where
   pub more : List VarBind
   pub front : all ≡ bindings ++ more
   pub fits : bindings ≢ [] → Fits max_size (response q no_error (pos 0) bindings)
-  pub longest : (longer rest : List VarBind) → all ≡ longer ++ rest → Fits max_size (response q no_error (pos 0) longer) → length longer ≤ length bindings
+  pub longest : (longer rest : List VarBind) → all ≡ longer ++ rest
+      → Fits max_size (response q no_error (pos 0) longer) → length longer ≤ length bindings
 
 -- ---- sizes
 
--- The Response that is to be sent where messages have at most so many octets: the whole one where it fits, else an error without bindings
+-- The Response that is to be sent where messages have at most `max_size` octets: the whole one
+-- where it fits, else an error without bindings
 -- (4.2.1, 4.2.2, 4.2.5); to a GetBulk as many bindings, from the first on, as fit (4.2.3).
 pub data IsResponse (view : MibView) (max_size : ℕ) (q r : Message) : Type 0 where
   whole : IsWhole view q r → Fits max_size r → IsResponse view max_size q r
-  shortened : (large : Message) → IsWhole view q large → (Fits max_size large → ⊥) → r ≡ response q too_big (pos 0) [] → IsResponse view max_size q r
-  bulk : (all bindings : List VarBind) → q.kind ≡ kind.GetBulkRequest → IsBulk view q all → IsLongestFront max_size q all bindings
+  shortened : (large : Message) → IsWhole view q large → (Fits max_size large → ⊥)
+      → r ≡ response q too_big (pos 0) [] → IsResponse view max_size q r
+  bulk : (all bindings : List VarBind) → q.kind ≡ kind.GetBulkRequest → IsBulk view q all
+      → IsLongestFront max_size q all bindings
       → r ≡ response q no_error (pos 0) bindings → IsResponse view max_size q r
 
 -- ---- replies
 
--- the octets are the agent's reply to the others: the shortest encoding of its Response to the request that they spell
+-- the octets are the agent's reply to a datagram: the shortest encoding of its Response to the
+-- request in it
 pub record IsReply (agent : Agent) (octets reply : List ℕ) : Type 0 where
   pub request : Message
   pub response : Message
@@ -153,17 +182,22 @@ pub record IsReply (agent : Agent) (octets reply : List ℕ) : Type 0 where
   pub fits : Fits agent.max_size response
   pub encoding : reply ≡ canon response
 
--- the octets are no request that the agent answers; the reasons come in this order
+-- the octets are no request that the agent serves; the reasons come in this order
 abbrev pub IsRefused : List ℕ → List ℕ → Why → Type 0
 IsRefused community octets why.Undecodable = (q : Message) → Spells q octets → ⊥
 IsRefused community octets why.Version = (q : Message) × Spells q octets × (q.version ≢ pos 1)
-IsRefused community octets why.Community = (q : Message) × Spells q octets × (q.version ≡ pos 1) × (q.community ≢ community)
-IsRefused community octets why.Pdu = (q : Message) × Spells q octets × (q.version ≡ pos 1) × (q.community ≡ community) × (IsServed q.kind → ⊥)
+IsRefused community octets why.Community = (q : Message) × Spells q octets × (q.version ≡ pos 1)
+    × (q.community ≢ community)
+IsRefused community octets why.Pdu = (q : Message) × Spells q octets × (q.version ≡ pos 1)
+    × (q.community ≡ community) × (IsServed q.kind → ⊥)
 IsRefused community octets why.TooLong = ⊥
 
--- why the agent sends no reply to the octets: they are no request that it answers, or not even its Response without bindings fits
+-- why the agent sends no reply to the octets: they are no request that it serves, or not even its
+-- Response without bindings fits
 abbrev pub IsDropped : Agent → List ℕ → Why → Type 0
-IsDropped agent octets why.TooLong = (q : Message) × (r : Message) × IsRequest agent.community octets q × IsResponse agent.view agent.max_size q r × (Fits agent.max_size r → ⊥)
+IsDropped agent octets why.TooLong = (q : Message) × (r : Message)
+    × IsRequest agent.community octets q × IsResponse agent.view agent.max_size q r
+    × (Fits agent.max_size r → ⊥)
 IsDropped agent octets why.Undecodable = IsRefused agent.community octets why.Undecodable
 IsDropped agent octets why.Version = IsRefused agent.community octets why.Version
 IsDropped agent octets why.Community = IsRefused agent.community octets why.Community

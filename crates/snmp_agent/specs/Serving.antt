@@ -12,7 +12,8 @@ pub use Rattle.snmp_agent.specs.Event.{Event, extended}
 -- in time; or the receive failed, or the send of the reply.
 abbrev pub IsTurn : Agent → Turn → List Event → Type 0
 IsTurn agent turn.Replied events =
-    (datagram : List ℕ) × (reply : List ℕ) × IsReply agent datagram reply × (events ≡ came datagram ∷ sent reply ∷ [])
+    (datagram : List ℕ) × (reply : List ℕ) × IsReply agent datagram reply
+    × (events ≡ came datagram ∷ sent reply ∷ [])
 IsTurn agent turn.Dropped events =
     (datagram : List ℕ) × (why : Why) × IsDropped agent datagram why × (events ≡ came datagram ∷ [])
 IsTurn agent turn.Idle events = events ≡ silence ∷ []

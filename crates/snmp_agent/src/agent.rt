@@ -1,16 +1,22 @@
 //! Requests and their replies.
-ghost use Rattle.std.specs.Prelude.{◌≡◌, ℕ, pos, ◌≤◌, ◌<◌, [], length, take, IfOk, IfErr, IfSome, IfNone};
+ghost use Rattle.std.specs.Prelude.{◌≡◌, ℕ, pos, ◌≤◌, ◌<◌, [], length, take, IfOk, IfErr, IfSome};
+ghost use Rattle.std.specs.Prelude.{IfNone};
 ghost use Rattle.snmp_wire.specs.declared.kind.Kind.TheVariants as kind;
 ghost use Rattle.snmp_wire.specs.Canon.{canon};
 ghost use Rattle.snmp_wire.specs.Parts.{parts_message};
-ghost use Rattle.snmp_agent.specs.Reply.{agent_of, IsReply, IsDropped, IsRequest, IsRefused, IsServed, IsResponse, Fits, response, failed_place, too_big};
-ghost use Rattle.snmp_agent.specs.Answering.{IsPaired, AreWritable, IsResponseWritten, IsResponseTooLong, whole_status, whole_index};
+ghost use Rattle.snmp_agent.specs.Reply.{agent_of, IsReply, IsDropped, IsRequest, IsRefused};
+ghost use Rattle.snmp_agent.specs.Reply.{IsServed, IsResponse, Fits, response, failed_place};
+ghost use Rattle.snmp_agent.specs.Reply.{too_big};
+ghost use Rattle.snmp_agent.specs.Answering.{IsPaired, AreWritable, IsResponseWritten};
+ghost use Rattle.snmp_agent.specs.Answering.{IsResponseTooLong, whole_status, whole_index};
 
 use crate::bulk::append_bulk;
 use crate::config::{Config, Outcome, Why};
-use crate::draft::{append_answers, room_for_bindings, seal};
+use crate::draft::{Draft, append_answers, room_for_bindings, seal};
 use snmp_table::{Table, one_answer};
-use snmp_wire::{Kind, MessageRef, Parts, decode, encode_head, head_size};
+use snmp_wire::{
+    Kind, MAX_DATAGRAM, MessageRef, Parts, decode, encode_head, head_size, message_sizes, pieces,
+};
 
 /// The version of SNMPv2c (RFC 1901, section 3).
 const VERSION: i32 = 1;
@@ -24,16 +30,24 @@ const TOO_BIG: i32 = 1;
 /// The error status notWritable (RFC 3416, section 3).
 const NOT_WRITABLE: i32 = 17;
 
-/// The reply to a datagram, in the front of `out`, or why there is none (RFC 3416, sections 4.2.1, 4.2.2, 4.2.3 and 4.2.5).
+/// The reply to a datagram, in the front of `out`, or why there is none (RFC 3416, sections 4.2.1,
+/// 4.2.2, 4.2.3 and 4.2.5).
 ///
-/// What stands behind the reply's octets is left open. Nothing is allocated.
-pub fn answer(table: &Table, config: &Config<'_>, request: &[u8], out: &mut [u8; 65507]) -> Outcome
-    ensures reply { (n : ℕ) → result ≡ Outcome.Reply n → IsReply (agent_of table.now config.now) request.now (take n out.new) }
+/// The octets after the reply are left open. No memory is taken.
+pub fn answer(
+    table: &Table,
+    config: &Config<'_>,
+    request: &[u8],
+    out: &mut [u8; MAX_DATAGRAM],
+) -> Outcome
+    ensures reply { (n : ℕ) → result ≡ Outcome.Reply n
+        → IsReply (agent_of table.now config.now) request.now (take n out.new) }
     ensures length { (n : ℕ) → result ≡ Outcome.Reply n → n ≤ config.now.max_size }
-    ensures dropped { (why : Why) → result ≡ Outcome.Dropped why → IsDropped (agent_of table.now config.now) request.now why }
+    ensures dropped { (why : Why) → result ≡ Outcome.Dropped why
+        → IsDropped (agent_of table.now config.now) request.now why }
 {
     match accepted(config.community, request) {
-        Ok(message) => match reply(table, config.max_size, &message, &mut out[..]) {
+        Ok(message) => match reply(table, config, &message, out) {
             Some(size) => Outcome::Reply(size),
             None => Outcome::Dropped(Why::TooLong),
         },
@@ -41,7 +55,7 @@ pub fn answer(table: &Table, config: &Config<'_>, request: &[u8], out: &mut [u8;
     }
 }
 
-/// The request that the octets spell, if it is one that the agent answers.
+/// The request that the octets are, if it is one that the agent serves.
 fn accepted<'a>(community: &[u8], octets: &'a [u8]) -> Result<MessageRef<'a>, Why>
     ensures found { IfOk result (IsRequest community.now octets.now) }
     ensures refused { IfErr result (IsRefused community.now octets.now) }
@@ -64,80 +78,90 @@ fn accepted<'a>(community: &[u8], octets: &'a [u8]) -> Result<MessageRef<'a>, Wh
     }
 }
 
-/// Writes the Response to a request to the front of `out`, and answers its length. None where it would have more than `max_size` octets, even without bindings.
-fn reply(table: &Table, max_size: usize, request: &MessageRef<'_>, out: &mut [u8]) -> Option<usize>
+/// Writes the Response to a request to the front of `out`, and returns its length. None where it
+/// would have more than `max_size` octets, even without bindings.
+fn reply(
+    table: &Table,
+    config: &Config<'_>,
+    request: &MessageRef<'_>,
+    out: &mut [u8; MAX_DATAGRAM],
+) -> Option<usize>
     requires served { IsServed request.now.kind }
     requires community { length request.now.community ≤ 255 }
     requires writable { AreWritable request.now.bindings }
-    requires datagram { max_size ≤ 65507 }
-    requires room { max_size ≤ length out.old }
-    ensures sent { IfSome result (λ n. IsResponseWritten table.now max_size request.now n out.new) }
-    ensures none { IfNone result (IsResponseTooLong table.now max_size request.now) }
+    ensures sent { IfSome result
+        (λ n. IsResponseWritten table.now config.now.max_size request.now n out.new) }
+    ensures none { IfNone result (IsResponseTooLong table.now config.now.max_size request.now) }
 {
     match request.kind() {
-        Kind::GetBulkRequest => bulk_reply(table, max_size, request, out),
-        _ => paired_reply(table, max_size, request, out),
+        Kind::GetBulkRequest => bulk_reply(table, config, request, out),
+        _ => paired_reply(table, config, request, out),
     }
 }
 
 /// The reply to a GetBulk: as many bindings as fit.
 fn bulk_reply<'a>(
     table: &'a Table,
-    max_size: usize,
+    config: &Config<'_>,
     request: &MessageRef<'a>,
-    out: &mut [u8],
+    out: &mut [u8; MAX_DATAGRAM],
 ) -> Option<usize>
     requires bulk { request.now.kind ≡ kind.GetBulkRequest }
     requires community { length request.now.community ≤ 255 }
     requires writable { AreWritable request.now.bindings }
-    requires datagram { max_size ≤ 65507 }
-    requires room { max_size ≤ length out.old }
-    ensures sent { IfSome result (λ n. IsResponseWritten table.now max_size request.now n out.new) }
-    ensures none { IfNone result (IsResponseTooLong table.now max_size request.now) }
+    ensures sent { IfSome result
+        (λ n. IsResponseWritten table.now config.now.max_size request.now n out.new) }
+    ensures none { IfNone result (IsResponseTooLong table.now config.now.max_size request.now) }
 {
     one_answer();
+    message_sizes();
+    pieces();
     let parts = response(request, NO_ERROR, 0);
-    match room_for_bindings(&parts, max_size) {
+    match room_for_bindings(&parts, config.max_size) {
         Some(room) => {
-            let total = append_bulk(table, request, room, out);
+            let draft = Draft { room, total: 0 };
+            let total = append_bulk(table, request, draft, out);
             Some(seal(&parts, out, total))
         }
         None => None,
     }
 }
 
-/// The reply to a request that has one binding for each of its own: all of them, or an error where they don't fit.
+/// The reply to a request that has one binding for each of its own: all of them, or an error where
+/// they don't fit.
 fn paired_reply(
     table: &Table,
-    max_size: usize,
+    config: &Config<'_>,
     request: &MessageRef<'_>,
-    out: &mut [u8],
+    out: &mut [u8; MAX_DATAGRAM],
 ) -> Option<usize>
     requires paired { IsPaired request.now.kind }
     requires community { length request.now.community ≤ 255 }
     requires writable { AreWritable request.now.bindings }
-    requires datagram { max_size ≤ 65507 }
-    requires room { max_size ≤ length out.old }
-    ensures sent { IfSome result (λ n. IsResponseWritten table.now max_size request.now n out.new) }
-    ensures none { IfNone result (IsResponseTooLong table.now max_size request.now) }
+    ensures sent { IfSome result
+        (λ n. IsResponseWritten table.now config.now.max_size request.now n out.new) }
+    ensures none { IfNone result (IsResponseTooLong table.now config.now.max_size request.now) }
 {
+    message_sizes();
+    pieces();
     let parts = whole_parts(request);
     match append_answers(
         table,
         request.kind(),
         request.bindings(),
         &parts,
-        max_size,
+        config,
         out,
     ) {
         Some(total) => Some(seal(&parts, out, total)),
-        None => shortened(request, max_size, out),
+        None => shortened(request, config, out),
     }
 }
 
 /// The parts of the whole Response to a request, its bindings left out.
 fn whole_parts<'a>(request: &MessageRef<'a>) -> Parts<'a>
-    ensures { parts_message result ≡ response request.now (whole_status request.now.kind) (whole_index request.now.kind request.now.bindings) [] }
+    ensures { parts_message result ≡ response request.now (whole_status request.now.kind)
+        (whole_index request.now.kind request.now.bindings) [] }
 {
     match request.kind() {
         Kind::SetRequest => response(request, NOT_WRITABLE, failed_place(request)),
@@ -170,16 +194,24 @@ fn response<'a>(request: &MessageRef<'a>, status: i32, index: i32) -> Parts<'a>
     }
 }
 
-/// Writes the error tooBig in place of a Response that doesn't fit (RFC 3416, section 4.2.1). None where it has more than `max_size` octets itself.
-fn shortened(request: &MessageRef<'_>, max_size: usize, out: &mut [u8]) -> Option<usize>
-    requires community { length request.now.community ≤ 255 }
-    requires room { max_size ≤ length out.old }
-    ensures sent { IfSome result (λ n. let r = response request.now too_big (pos 0) [] in (length (canon r) ≤ max_size) × (take n out.new ≡ canon r) × (n ≡ length (canon r))) }
-    ensures none { IfNone result (max_size < length (canon (response request.now too_big (pos 0) []))) }
+/// Writes the error tooBig in place of a Response that doesn't fit (RFC 3416, section 4.2.1). None
+/// where it has more than `max_size` octets itself.
+fn shortened(
+    request: &MessageRef<'_>,
+    config: &Config<'_>,
+    out: &mut [u8; MAX_DATAGRAM],
+) -> Option<usize>
+    requires { length request.now.community ≤ 255 }
+    ensures sent { IfSome result
+        (λ n. let r = response request.now too_big (pos 0) [] in (length (canon r) ≤
+        config.now.max_size) × (take n out.new ≡ canon r) × (n ≡ length (canon r))) }
+    ensures none { IfNone result (config.now.max_size < length (canon (response request.now too_big
+        (pos 0) []))) }
 {
+    pieces();
     let parts = response(request, TOO_BIG, 0);
-    if head_size(&parts, 0) > max_size as u64 {
+    if head_size(&parts, 0) > config.max_size as u64 {
         return None;
     }
-    encode_head(&parts, 0, out)
+    encode_head(&parts, 0, &mut out[..])
 }

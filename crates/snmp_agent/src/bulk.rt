@@ -1,14 +1,16 @@
-//! The answers to a GetBulk (RFC 3416, section 4.2.3).
+//! The bindings of the reply to a GetBulk (RFC 3416, section 4.2.3).
 //!
-//! They go to the front of the output as those of the other requests do, but end before the first that has no room.
+//! They are written to the front of the output, as those of other replies are, and end before the
+//! first that has no room.
 ghost use Rattle.std.specs.Prelude.{◌≡◌, ◌≤◌, ◌↔◌, List, [], ◌∷◌, length, take, drop, IsTrue};
 ghost use Rattle.snmp_wire.specs.Message.{VarBind, datum, var_bind, end_of_mib_view};
 ghost use Rattle.snmp_agent.specs.Reply.{IsBulk, joined, or_zero};
-ghost use Rattle.snmp_agent.specs.Answering.{IsWritable, AreWritable, HoldsFront, AreGiven, IsProgress, Leaves, HasRow, AreRoundsFrom};
+ghost use Rattle.snmp_agent.specs.Answering.{IsWritable, AreWritable, HoldsFront, AreGiven};
+ghost use Rattle.snmp_agent.specs.Answering.{IsProgress, Leaves, HasRow, AreRoundsFrom};
 
-use crate::draft::{append, blank};
+use crate::draft::{Draft, blank};
 use snmp_table::{Place, Table, one_answer};
-use snmp_wire::{Binding, Bindings, MessageRef, ValueRef};
+use snmp_wire::{Binding, Bindings, MAX_DATAGRAM, MessageRef, ValueRef};
 
 /// How far bindings were written, and how many octets they and those before them take.
 pub enum Progress {
@@ -18,26 +20,30 @@ pub enum Progress {
     Closed(usize),
 }
 
-/// Writes the answers to a GetBulk to the front of `out`, as many as fit, and answers how many octets they take together.
+/// Writes the bindings of the reply to a GetBulk after those of the draft, as many as fit, and
+/// returns how many octets they take together.
 pub fn append_bulk<'a>(
     table: &'a Table,
     request: &MessageRef<'a>,
-    room: usize,
-    out: &mut [u8],
+    draft: Draft,
+    out: &mut [u8; MAX_DATAGRAM],
 ) -> usize
-    requires writable { AreWritable request.now.bindings }
-    requires datagram { room ≤ 65507 }
-    requires room { room ≤ length out.old }
-    ensures { (all : List VarBind) × IsBulk table.now request.now all × HoldsFront room 0 out.old all result out.new }
+    requires { AreWritable request.now.bindings }
+    ensures { (all : List VarBind) × IsBulk table.now request.now all
+        × HoldsFront draft.room draft.total out.old all result out.new }
 {
     one_answer();
     let mut bindings = request.bindings();
     let count = or_zero(request.a());
-    match append_singles(table, count, &mut bindings, room, out) {
+    match append_singles(table, count, &mut bindings, draft, out) {
         Progress::Closed(total) => total,
         Progress::Open(total) => {
             let repetitions = or_zero(request.b());
-            append_repeaters(table, repetitions, bindings, room, out, total)
+            let draft = Draft {
+                room: draft.room,
+                total,
+            };
+            append_repeaters(table, repetitions, bindings, draft, out)
         }
     }
 }
@@ -49,22 +55,22 @@ fn or_zero(number: i32) -> usize
     usize::try_from(number).unwrap_or(0)
 }
 
-/// Takes the first `count` bindings, or all where there are fewer, and writes what a GetNext gives for each of them.
+/// Takes the first `count` bindings, or all where there are fewer, and writes what a GetNext gives
+/// for each.
 fn append_singles<'a>(
     table: &'a Table,
     count: usize,
     bindings: &mut Bindings<'a>,
-    room: usize,
-    out: &mut [u8],
+    draft: Draft,
+    out: &mut [u8; MAX_DATAGRAM],
 ) -> Progress
-    requires writable { AreWritable bindings.old }
-    requires datagram { room ≤ 65507 }
-    requires room { room ≤ length out.old }
-    ensures progress { IsProgress (AreGiven table.now 0 (take count bindings.old)) (λ all. Unit {0}) room 0 out.old result out.new }
+    requires { AreWritable bindings.old }
+    ensures progress { IsProgress (AreGiven table.now 0 (take count bindings.old))
+        (λ all. Unit {0}) draft.room draft.total out.old result out.new }
     ensures left { Leaves result (drop count bindings.old) bindings.new }
 {
     one_answer();
-    let mut total = 0;
+    let mut total = draft.total;
     let mut asked = blank();
     let mut given = blank();
     'singles: for _ in 0..count {
@@ -72,7 +78,11 @@ fn append_singles<'a>(
             return Progress::Open(total);
         }
         table.read_next_after(&asked.name, 0, &mut given);
-        match append(room, out, total, &given) {
+        let written = Draft {
+            room: draft.room,
+            total,
+        };
+        match written.append(out, &given) {
             Some(end) => total = end,
             None => return Progress::Closed(total),
         }
@@ -80,51 +90,53 @@ fn append_singles<'a>(
     Progress::Open(total)
 }
 
-/// Writes the rounds of the bindings, at most `repetitions`, behind the first `start` octets, and answers how many octets there are then.
+/// Writes the rounds of the bindings, at most `repetitions`, and returns how many octets there are
+/// then.
 fn append_repeaters<'a>(
     table: &'a Table,
     repetitions: usize,
     bindings: Bindings<'a>,
-    room: usize,
-    out: &mut [u8],
-    start: usize,
+    draft: Draft,
+    out: &mut [u8; MAX_DATAGRAM],
 ) -> usize
-    requires writable { AreWritable bindings }
-    requires datagram { room ≤ 65507 }
-    requires room { room ≤ length out.old }
-    requires fits { start ≤ room }
-    ensures { (rounds : List (List VarBind)) × AreRoundsFrom table.now bindings.entry 0 repetitions rounds × HoldsFront room start out.old (joined rounds) result out.new }
+    requires { AreWritable bindings }
+    ensures { (rounds : List (List VarBind))
+        × AreRoundsFrom table.now bindings.entry 0 repetitions rounds
+        × HoldsFront draft.room draft.total out.old (joined rounds) result out.new }
 {
     let mut others = bindings.left();
     let mut first = blank();
     if others.read_next(&mut first) && others.next().is_none() {
-        append_column(table, repetitions, &mut first, room, out, start)
+        append_column(table, repetitions, &mut first, draft, out)
     } else {
-        append_rounds(table, repetitions, bindings, room, out, start)
+        append_rounds(table, repetitions, bindings, draft, out)
     }
 }
 
-/// Writes the rounds of one binding, as a walk asks for them: each begins where the one before ended, and nothing is searched.
+/// Writes the rounds of one binding, as a walk asks for them: each begins where the one before
+/// ended, and nothing is searched.
 fn append_column<'a>(
     table: &'a Table,
     repetitions: usize,
     binding: &mut Binding<'a>,
-    room: usize,
-    out: &mut [u8],
-    start: usize,
+    draft: Draft,
+    out: &mut [u8; MAX_DATAGRAM],
 ) -> usize
-    requires writable { IsWritable (var_bind binding.old) }
-    requires datagram { room ≤ 65507 }
-    requires room { room ≤ length out.old }
-    requires fits { start ≤ room }
-    ensures { (rounds : List (List VarBind)) × AreRoundsFrom table.now (var_bind binding.old ∷ []) 0 repetitions rounds × HoldsFront room start out.old (joined rounds) result out.new }
+    requires { IsWritable (var_bind binding.old) }
+    ensures { (rounds : List (List VarBind))
+        × AreRoundsFrom table.now (var_bind binding.old ∷ []) 0 repetitions rounds
+        × HoldsFront draft.room draft.total out.old (joined rounds) result out.new }
 {
     one_answer();
-    let mut total = start;
+    let mut total = draft.total;
     let mut place = Place::default();
     'rounds: for _ in 0..repetitions {
         table.advance(binding, &mut place);
-        match append(room, out, total, binding) {
+        let written = Draft {
+            room: draft.room,
+            total,
+        };
+        match written.append(out, binding) {
             Some(end) => total = end,
             None => return total,
         }
@@ -140,20 +152,22 @@ fn append_rounds(
     table: &Table,
     repetitions: usize,
     bindings: Bindings<'_>,
-    room: usize,
-    out: &mut [u8],
-    start: usize,
+    draft: Draft,
+    out: &mut [u8; MAX_DATAGRAM],
 ) -> usize
-    requires writable { AreWritable bindings }
-    requires datagram { room ≤ 65507 }
-    requires room { room ≤ length out.old }
-    requires fits { start ≤ room }
-    ensures { (rounds : List (List VarBind)) × AreRoundsFrom table.now bindings.entry 0 repetitions rounds × HoldsFront room start out.old (joined rounds) result out.new }
+    requires { AreWritable bindings }
+    ensures { (rounds : List (List VarBind))
+        × AreRoundsFrom table.now bindings.entry 0 repetitions rounds
+        × HoldsFront draft.room draft.total out.old (joined rounds) result out.new }
 {
     one_answer();
-    let mut total = start;
+    let mut total = draft.total;
     'rounds: for round in 0..repetitions {
-        match append_round(table, round, bindings.left(), room, out, total) {
+        let written = Draft {
+            room: draft.room,
+            total,
+        };
+        match append_round(table, round, bindings.left(), written, out) {
             Progress::Open(end) => total = end,
             Progress::Closed(end) => return end,
         }
@@ -161,29 +175,30 @@ fn append_rounds(
     total
 }
 
-/// Writes what each binding is given in the round behind so many others, behind the first `start` octets.
+/// Writes what each binding is given in the round after `round` others.
 fn append_round<'a>(
     table: &'a Table,
     round: usize,
     mut bindings: Bindings<'a>,
-    room: usize,
-    out: &mut [u8],
-    start: usize,
+    draft: Draft,
+    out: &mut [u8; MAX_DATAGRAM],
 ) -> Progress
-    requires writable { AreWritable bindings }
-    requires datagram { room ≤ 65507 }
-    requires room { room ≤ length out.old }
-    requires fits { start ≤ room }
-    ensures { IsProgress (AreGiven table.now round bindings.entry) HasRow room start out.old result out.new }
+    requires { AreWritable bindings }
+    ensures { IsProgress (AreGiven table.now round bindings.entry) HasRow draft.room draft.total
+        out.old result out.new }
 {
     one_answer();
-    let mut total = start;
+    let mut total = draft.total;
     let mut over = true;
     let mut asked = blank();
     let mut given = blank();
     'bindings: while bindings.read_next(&mut asked) {
         table.read_next_after(&asked.name, round, &mut given);
-        match append(room, out, total, &given) {
+        let written = Draft {
+            room: draft.room,
+            total,
+        };
+        match written.append(out, &given) {
             Some(end) => total = end,
             None => return Progress::Closed(total),
         }

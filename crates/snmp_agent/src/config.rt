@@ -1,13 +1,10 @@
-//! What an agent is told, and what it answers.
+//! How an agent is configured, and what it does with a datagram.
 ghost use Rattle.std.specs.Prelude.{◌≤◌, length};
 
-/// The greatest length of a datagram over UDP and IPv4, in octets.
-pub const LONGEST_DATAGRAM: usize = 65507;
-
-/// What an agent is told.
+/// The configuration of an agent.
 #[derive(Clone, Copy, Debug)]
 pub struct Config<'a> {
-    /// The community whose requests it answers, of at most 255 octets.
+    /// The community whose requests it serves, of at most 255 octets.
     pub community: &'a [u8],
     /// How many octets its messages have at most, from 1 to 65507.
     pub max_size: usize,
@@ -19,16 +16,16 @@ pub struct Config<'a> {
 /// What an agent does with a datagram.
 #[derive(Clone, Copy, Debug, PartialEq, Eq)]
 pub enum Outcome {
-    /// It sends the front of the output, of so many octets.
+    /// It sends the front of the output, of this many octets.
     Reply(usize),
     /// It sends nothing.
     Dropped(Why),
 }
 
-/// Why a datagram isn't answered: the first that applies.
+/// Why a datagram has no reply: the first that applies.
 #[derive(Clone, Copy, Debug, PartialEq, Eq, thiserror::Error)]
 pub enum Why {
-    /// It spells no message.
+    /// It is no message.
     #[error("no message")]
     Undecodable,
     /// Its version isn't 1, that of SNMPv2c.

@@ -1,41 +1,53 @@
-//! A reply in the making: its bindings are written to the front of the output one behind the other, and make room for what stands before them when they are all there.
-ghost use Rattle.std.specs.Prelude.{◌≡◌, ◌+◌, ◌≤◌, ◌<◌, ◌++◌, List, [], length, take, IfSome, IfNone, IsTrue, ◌↔◌};
+//! A reply in the making: its bindings are written to the front of the output one after the other,
+//! and are moved to make room for the head once they are all there.
+ghost use Rattle.std.specs.Prelude.{◌≡◌, ◌+◌, ◌≤◌, ◌<◌, ◌++◌, List, [], length, take, IfSome};
+ghost use Rattle.std.specs.Prelude.{IfNone, IsTrue, ◌↔◌};
 ghost use Rattle.snmp_wire.specs.Message.{VarBind, var_bind, datum, null_value};
 ghost use Rattle.snmp_wire.specs.Canon.{canon_binding, canon_bindings, canon_head};
 ghost use Rattle.snmp_wire.specs.Parts.{parts_message};
 ghost use Rattle.snmp_agent.specs.Reply.{AreAnswers};
-ghost use Rattle.snmp_agent.specs.Answering.{IsPaired, IsAnswer, IsWritable, AreWritable, IsShortValue, IsDraft, IsRoom, PassesLimit, whole_size};
+ghost use Rattle.snmp_agent.specs.Answering.{IsPaired, IsAnswer, IsWritable, AreWritable};
+ghost use Rattle.snmp_agent.specs.Answering.{IsShortValue, HoldsBindings, IsRoom, PassesLimit};
+ghost use Rattle.snmp_agent.specs.Answering.{whole_size};
 
+use crate::config::Config;
+use snmp_ber::element_sizes;
 use snmp_table::{Place, Table, one_answer};
 use snmp_wire::{
-    Binding, Bindings, Kind, Oid, Parts, ValueRef, encode_binding, encode_head, head_size,
+    Binding, Bindings, Kind, MAX_DATAGRAM, Oid, Parts, ValueRef, encode_binding, encode_head,
+    head_size, message_sizes,
 };
 
-/// Writes the answers to the bindings of a request to the front of `out`, and answers how many octets they take together.
-/// None where a message of these parts and answers has more than `max_size` octets.
+/// Writes the bindings of the reply to a request to the front of `out`, and returns how many octets
+/// they take together. None where a message of these parts with them has more than `max_size`
+/// octets.
 pub fn append_answers<'a>(
     table: &'a Table,
     kind: Kind,
     mut bindings: Bindings<'a>,
     parts: &Parts<'_>,
-    max_size: usize,
-    out: &mut [u8],
+    config: &Config<'_>,
+    out: &mut [u8; MAX_DATAGRAM],
 ) -> Option<usize>
     requires paired { IsPaired kind }
     requires writable { AreWritable bindings }
     requires community { length parts.now.community.now ≤ 255 }
-    requires datagram { max_size ≤ 65507 }
-    requires room { max_size ≤ length out.old }
-    ensures written { IfSome result (λ total. (given : List VarBind) × AreAnswers (IsAnswer table.now kind) bindings.entry given × IsDraft (parts_message parts.now) max_size given total out.new) }
-    ensures too_long { IfNone result ((given : List VarBind) × AreAnswers (IsAnswer table.now kind) bindings.entry given × PassesLimit (parts_message parts.now) max_size given) }
+    ensures written { IfSome result (λ total. (given : List VarBind)
+        × AreAnswers (IsAnswer table.now kind) bindings.entry given
+        × HoldsBindings (parts_message parts.now) config.now.max_size given total out.new) }
+    ensures too_long { IfNone result ((given : List VarBind)
+        × AreAnswers (IsAnswer table.now kind) bindings.entry given
+        × PassesLimit (parts_message parts.now) config.now.max_size given) }
 {
     one_answer();
-    let room = room_for_bindings(parts, max_size)?;
+    message_sizes();
+    let room = room_for_bindings(parts, config.max_size)?;
     let mut total = 0;
     let mut binding = blank();
     'bindings: while bindings.read_next(&mut binding) {
         answer_to(table, kind, &mut binding);
-        total = append(room, out, total, &binding)?;
+        let draft = Draft { room, total };
+        total = draft.append(out, &binding)?;
     }
     Some(total)
 }
@@ -51,7 +63,8 @@ pub fn blank<'a>() -> Binding<'a>
     }
 }
 
-/// Makes one of the bindings of a request of this kind what is given for it: for a Get the variable of its name, for a GetNext the one behind it, and for a Set the binding itself.
+/// Makes one of the bindings of a request of this kind what is given for it: for a Get the variable
+/// of its name, for a GetNext the one after it, and for a Set the binding itself.
 fn answer_to<'a>(table: &'a Table, kind: Kind, binding: &mut Binding<'a>)
     requires paired { IsPaired kind }
     requires writable { IsWritable (var_bind binding.old) }
@@ -65,26 +78,48 @@ fn answer_to<'a>(table: &'a Table, kind: Kind, binding: &mut Binding<'a>)
     }
 }
 
-/// Writes a binding behind the `total` octets of those before it, and answers how many they are now. None, and nothing is written, where all of them take more than `room`.
-pub fn append(room: usize, out: &mut [u8], total: usize, binding: &Binding<'_>) -> Option<usize>
-    requires datagram { room ≤ 65507 }
-    requires room { room ≤ length out.old }
-    requires total { total ≤ room }
-    requires writable { IsWritable (var_bind binding.now) }
-    ensures written { IfSome result (λ n. (n ≡ total + length (canon_binding (var_bind binding.now))) × (take n out.new ≡ take total out.old ++ canon_binding (var_bind binding.now)) × (n ≤ room)) }
-    ensures too_long { IfNone result (room < total + length (canon_binding (var_bind binding.now))) }
-    ensures unchanged { IfNone result (out.new ≡ out.old) }
-{
-    if !is_short(&binding.value) {
-        return None;
-    }
-    match encode_binding(binding, &mut out[total..room]) {
-        Some(size) => Some(total + size),
-        None => None,
+/// The bindings of a reply in the making, in the front of an output.
+#[derive(Clone, Copy)]
+pub struct Draft {
+    /// How many octets they may take.
+    pub room: usize,
+    /// How many octets those that are written take.
+    pub total: usize,
+    ghost fits: { total ≤ room },
+    ghost datagram: { room ≤ 65507 },
+}
+
+impl Draft {
+    ghost use Rattle.std.specs.Prelude.{◌≡◌, ◌+◌, ◌≤◌, ◌<◌, ◌++◌, length, take, IfSome, IfNone};
+    ghost use Rattle.snmp_wire.specs.Message.{var_bind};
+    ghost use Rattle.snmp_wire.specs.Canon.{canon_binding};
+    ghost use Rattle.snmp_agent.specs.Answering.{IsWritable};
+
+    /// Writes a binding after the others, and returns how many octets they take then. None, and
+    /// nothing is written, where there is no room for it.
+    pub fn append(self, out: &mut [u8; MAX_DATAGRAM], binding: &Binding<'_>) -> Option<usize>
+        requires { IsWritable (var_bind binding.now) }
+        ensures written { IfSome result (λ n.
+            (n ≡ self.total + length (canon_binding (var_bind binding.now)))
+            × (take n out.new ≡ take self.total out.old ++ canon_binding (var_bind binding.now))
+            × (n ≤ self.room)) }
+        ensures too_long { IfNone result (self.room < self.total + length (canon_binding (var_bind
+            binding.now))) }
+        ensures unchanged_on_none { IfNone result (out.new ≡ out.old) }
+    {
+        if !is_short(&binding.value) {
+            element_sizes();
+            return None;
+        }
+        match encode_binding(binding, &mut out[self.total..self.room]) {
+            Some(size) => Some(self.total + size),
+            None => None,
+        }
     }
 }
 
-/// How many octets the bindings of a message of these parts may take at most where it keeps to `max_size`. None where it has more even without them.
+/// How many octets the bindings of a message of these parts may take at most, so that it has at
+/// most `max_size`. None where it has more even without them.
 pub fn room_for_bindings(parts: &Parts<'_>, max_size: usize) -> Option<usize>
     requires community { length parts.now.community.now ≤ 255 }
     requires datagram { max_size ≤ 65507 }
@@ -92,6 +127,7 @@ pub fn room_for_bindings(parts: &Parts<'_>, max_size: usize) -> Option<usize>
     ensures small { IfSome result (λ room. room ≤ max_size) }
     ensures none { IfNone result (max_size < whole_size (parts_message parts.now) 0) }
 {
+    message_sizes();
     let head = head_size(parts, 0) as usize;
     if head > max_size {
         return None;
@@ -103,7 +139,8 @@ pub fn room_for_bindings(parts: &Parts<'_>, max_size: usize) -> Option<usize>
     Some(room)
 }
 
-/// Whether a string has at most 65535 octets. Those of a table do; a Set may bring longer ones, which no datagram holds.
+/// Whether a string has at most 65535 octets. Those of a table do; a Set may bring longer ones,
+/// which no datagram holds.
 fn is_short(value: &ValueRef<'_>) -> bool
     ensures { IsTrue result ↔ IsShortValue (datum value.now) }
 {
@@ -113,17 +150,19 @@ fn is_short(value: &ValueRef<'_>) -> bool
     }
 }
 
-/// Writes what stands before the bindings in the first `total` octets, which make room for it, and answers the length of the message.
-pub fn seal(parts: &Parts<'_>, out: &mut [u8], total: usize) -> usize
+/// Writes the head before the bindings in the first `total` octets, which are moved, and returns
+/// the length of the message.
+pub fn seal(parts: &Parts<'_>, out: &mut [u8; MAX_DATAGRAM], total: usize) -> usize
     requires community { length parts.now.community.now ≤ 255 }
     requires datagram { total ≤ 65507 }
     requires room { whole_size (parts_message parts.now) total ≤ length out.old }
     ensures size { result ≡ whole_size (parts_message parts.now) total }
-    ensures message { take result out.new ≡ canon_head (parts_message parts.now) total ++ take total out.old }
+    ensures message { take result out.new ≡ canon_head (parts_message parts.now) total ++ take
+        total out.old }
 {
     let head = head_size(parts, total as u64) as usize;
     out.copy_within(..total, head);
-    match encode_head(parts, total as u64, out) {
+    match encode_head(parts, total as u64, &mut out[..]) {
         Some(_) => head + total,
         None => unreachable!(),
     }

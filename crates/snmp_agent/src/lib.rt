@@ -1,6 +1,8 @@
-//! An agent that reads alone: the replies to the requests of SNMPv2c, octets in and octets out (RFC 3416, section 4.2).
+//! An agent that reads alone: the replies to the requests of SNMPv2c, octets in and octets out (RFC
+//! 3416, section 4.2).
 //!
-//! Stands on the table, which answers for one name, and on the messages. A server or a walk in memory hands it the datagrams.
+//! Stands on the table, which gives what each name has, and on the messages. A server, or a link in
+//! memory, hands it the datagrams.
 #![tactic(auto)]
 
 mod agent;

@@ -7,6 +7,7 @@ use crate::agent::answer;
 use crate::config::{Config, Outcome};
 use crate::endpoint::{Endpoint, SocketEndpoint};
 use snmp_table::Table;
+use snmp_wire::MAX_DATAGRAM;
 use std::net::UdpSocket;
 
 /// What a server did, by turns.
@@ -31,9 +32,12 @@ pub enum Turn {
     Failed,
 }
 
-/// Serves a table over a UDP socket (RFC 3417, section 3) for a number of turns: in each one datagram
-/// is received, or the socket's time-out passes, and the agent's reply goes to where the datagram came
-/// from. A turn in which a receive or a send fails counts under `faults` alone, and the next follows.
+/// Serves a table over a UDP socket (RFC 3417, section 3) for a number of turns: in each one
+/// datagram
+/// is received, or the socket's time-out passes, and the agent's reply goes to where the datagram
+/// came
+/// from. A turn in which a receive or a send fails counts under `faults` alone, and the next
+/// follows.
 ///
 /// A socket without a time-out waits for each datagram. No memory is taken.
 pub fn serve(socket: &UdpSocket, table: &Table, config: &Config<'_>, turns: u64) -> Served
@@ -56,8 +60,8 @@ pub fn serve_at<E: Endpoint>(
         × (E.log endpoint.new ≡ extended (E.log endpoint.old) events) }
 {
     let mut served = Served::default();
-    let mut request = [0; 65507];
-    let mut reply = [0; 65507];
+    let mut request = [0; MAX_DATAGRAM];
+    let mut reply = [0; MAX_DATAGRAM];
     'turns: for _ in 0..turns {
         match serve_once(endpoint, table, config, &mut request, &mut reply) {
             Turn::Replied => served.replies += 1,
@@ -74,8 +78,8 @@ fn serve_once<E: Endpoint>(
     endpoint: &mut E,
     table: &Table,
     config: &Config<'_>,
-    request: &mut [u8; 65507],
-    reply: &mut [u8; 65507],
+    request: &mut [u8; MAX_DATAGRAM],
+    reply: &mut [u8; MAX_DATAGRAM],
 ) -> Turn
     ensures { (events : List Event) × IsTurn (agent_of table.now config.now) result events
         × (E.log endpoint.new ≡ extended (E.log endpoint.old) events) }

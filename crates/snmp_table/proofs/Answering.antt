@@ -2,8 +2,10 @@
 use Rattle.std.proofs.Common.{◌≡◌, ℕ, zero, suc, List, sym, subst}
 use Rattle.snmp_oid.specs.Identifier.{IsWire}
 use Rattle.snmp_wire.specs.Message.{Datum, VarBind}
-use Rattle.snmp_wire.specs.Message.Datum.{integer_value, octet_string, null_value, object_id, ip_address, counter32, gauge32, time_ticks, opaque_octets, counter64, no_such_object, no_such_instance, end_of_mib_view}
-use Rattle.snmp_table.specs.Table.{MibView, IsMibView, IsInstanceValue, IsAnswerValue, IsGet, variable, unknown_object, unknown_instance, IsNext, successor, end_of_view, IsNextAfter}
+use Rattle.snmp_wire.specs.Message.Datum.{integer_value, octet_string, null_value, object_id, ip_address, counter32, gauge32, time_ticks, opaque_octets}
+use Rattle.snmp_wire.specs.Message.Datum.{counter64, no_such_object, no_such_instance, end_of_mib_view}
+use Rattle.snmp_table.specs.Table.{MibView, IsMibView, IsInstanceValue, IsAnswerValue, IsGet, variable, unknown_object, unknown_instance, IsNext, successor}
+use Rattle.snmp_table.specs.Table.{end_of_view, IsNextAfter}
 
 instance_answer : (v : Datum) → IsInstanceValue v → IsAnswerValue v
 instance_answer (integer_value z) h = h
@@ -26,8 +28,10 @@ at_binding Q p q same h = subst Q (sym same) h
 
 pub get_value : (view : MibView) (o : List ℕ) (p : VarBind) → IsMibView view → IsGet view o p → IsAnswerValue p.value
 get_value view o p h (variable name row) = instance_answer p.value (h.values p row)
-get_value view o p h (unknown_object none never same) = at_binding (λ (q : VarBind). IsAnswerValue q.value) p (record { name = o; value = no_such_object }) same tt
-get_value view o p h (unknown_instance none some same) = at_binding (λ (q : VarBind). IsAnswerValue q.value) p (record { name = o; value = no_such_instance }) same tt
+get_value view o p h (unknown_object none never same) = at_binding (λ (q : VarBind). IsAnswerValue q.value) p
+    (record { name = o; value = no_such_object }) same tt
+get_value view o p h (unknown_instance none some same) = at_binding (λ (q : VarBind). IsAnswerValue q.value) p
+    (record { name = o; value = no_such_instance }) same tt
 
 next_value : (view : MibView) (o : List ℕ) (p : VarBind) → IsMibView view → IsNext view o p → IsAnswerValue p.value
 next_value view o p h (successor is) = instance_answer p.value (h.values p is.row)

@@ -1,27 +1,11 @@
 -- One row put among others, or removed.
-use Rattle.std.proofs.Common.{◌≡◌, ℕ, zero, suc, ◌-◌, ◌≤◌, ◌<◌, Bool, true, false, not, cond, is_some, T, List, [], ◌∷◌, ◌++◌, map, length, take, drop, Some, None, slice_set, slice_index_or, refl, sym, ◌∙◌, ap, subst, arith, Ordering, Less, Equal, Greater}
+use Rattle.std.proofs.Common.{◌≡◌, ℕ, zero, suc, ◌-◌, ◌≤◌, ◌<◌, Bool, true, false, not, cond, is_some, T, List, [], ◌∷◌, ◌++◌, map, length, take, drop, Some}
+use Rattle.std.proofs.Common.{None, slice_set, slice_index_or, refl, sym, ◌∙◌, ap, subst, arith, Ordering, Less, Equal, Greater}
 use Rattle.std.specs.Ordering.{nat_cmp, is_eq, eq_by_cmp}
 use Rattle.std.specs.Cmp.{tied_itself, alike_right, eq_by_cmp_equiv}
 use Rattle.std.specs.Cmp.Lexicographic.{slice_cmp, nat_list_cmp_total}
-use Rattle.std.specs.FinMap.{
-  FinMap,
-  get,
-  find,
-  is_sorted,
-  from_sorted,
-  insert,
-  remove,
-  contains_key,
-  get-from_sorted,
-  entries-from_sorted,
-  entries-insert,
-  get-insert,
-  get-remove,
-  same_map,
-  same_entries_map,
-  nat_cmp-IsAntisymmetric,
-  slice_cmp-IsAntisymmetric,
-}
+use Rattle.std.specs.FinMap.{FinMap, get, find, is_sorted, from_sorted, insert, remove, contains_key, get-from_sorted, entries-from_sorted, entries-insert}
+use Rattle.std.specs.FinMap.{get-insert, get-remove, same_map, same_entries_map, nat_cmp-IsAntisymmetric, slice_cmp-IsAntisymmetric}
 use Rattle.std.specs.FinMap.Entries.{put, by_order, is_sorted-put, is_sorted-where_key, find-where_key}
 use Rattle.std.specs.List.{slice_get, insert as insert_at, remove as remove_at}
 use Rattle.std.proofs.lemmas.List.{take-append-drop, map-append, length-take-le}
@@ -138,7 +122,8 @@ pub has_name_at : (rows : List Row) (place : ℕ) (o : List ℕ) (row : Row) →
     → row.name.items ≡ o → HasNameAt o rows (place - 1)
 has_name_at rows place o row rising bound last name =
     let long : length (take place rows) ≡ place = length-take-le place rows bound in
-    let at : slice_get rows (place - 1) ≡ Some row = in_front rows place (place - 1) row (subst (λ (n : ℕ). slice_get (take place rows) (n - 1) ≡ Some row) long last) in
+    let at : slice_get rows (place - 1) ≡ Some row = in_front rows place (place - 1) row (subst (λ (n : ℕ). slice_get (take place rows)
+    (n - 1) ≡ Some row) long last) in
     record {
       row = row;
       at = at;

@@ -22,7 +22,8 @@ no_cut (y ∷ text) [] back h e = let same : y ≡ bar = cc in head_of y text h 
 no_cut (y ∷ text) (x ∷ front) back h e = let rest : text ≡ front ++ bar ∷ back = cc in no_cut text front back (tail_of y text h) rest
 
 -- one first cut
-pub same_cut : (front back other behind : List ℕ) → HasNoBar front → HasNoBar other → front ++ bar ∷ back ≡ other ++ bar ∷ behind → (front ≡ other) × (back ≡ behind)
+pub same_cut : (front back other behind : List ℕ) → HasNoBar front → HasNoBar other → front ++ bar ∷ back ≡ other ++ bar ∷ behind
+    → (front ≡ other) × (back ≡ behind)
 same_cut [] back [] behind h k e = (refl, cc)
 same_cut [] back (x ∷ other) behind h k e = let same : x ≡ bar = cc in absurd (head_of x other k same)
 same_cut (x ∷ front) back [] behind h k e = let same : x ≡ bar = cc in absurd (head_of x front h same)

@@ -1,5 +1,6 @@
 -- Facts about what lines state together, and about the draft that holds it.
-use Rattle.std.proofs.Common.{◌≡◌, ℕ, ◌⊎◌, inl, inr, ◌↔◌, Bool, true, false, cond, ◌||◌, List, [], ◌∷◌, ◌++◌, map, Some, None, refl, sym, ◌∙◌, ap, subst, Less, Equal, Greater, Vec, Global, ◌+◌, ◌<◌, ◌≤◌, length, append_assoc, append-nil, length-append, arith}
+use Rattle.std.proofs.Common.{◌≡◌, ℕ, ◌⊎◌, inl, inr, ◌↔◌, Bool, true, false, cond, ◌||◌, List, [], ◌∷◌, ◌++◌, map, Some, None, refl, sym, ◌∙◌, ap, subst, Less}
+use Rattle.std.proofs.Common.{Equal, Greater, Vec, Global, ◌+◌, ◌<◌, ◌≤◌, length, append_assoc, append-nil, length-append, arith}
 use Rattle.std.specs.Str.Lines.{lines}
 use Rattle.std.specs.List.{list_any}
 use Rattle.std.specs.Option.{option_map}
@@ -43,7 +44,8 @@ all_state_more : (before : List (List ℕ)) (line : List ℕ) → AllState befor
 all_state_more [] line h now = (now, tt)
 all_state_more (first ∷ before) line h now = (h.0, all_state_more before line h.1 now)
 
-names_differ_more : (before : List (List ℕ)) (line : List ℕ) → NamesDiffer before → ((p : VarBind) → States line (instance p) → IsNewName before p.name) → NamesDiffer (before ++ line ∷ [])
+names_differ_more : (before : List (List ℕ)) (line : List ℕ) → NamesDiffer before → ((p : VarBind) → States line (instance p) → IsNewName before p.name)
+    → NamesDiffer (before ++ line ∷ [])
 names_differ_more [] line h fresh = (λ p stated q later same. later, tt)
 names_differ_more (first ∷ before) line h fresh = (
   λ p stated q later same. elim (stated_either before line (instance q) later) [
@@ -53,7 +55,8 @@ names_differ_more (first ∷ before) line h fresh = (
   names_differ_more before line h.1 (λ p stated q old same. fresh p stated q (inr old) same),
 )
 
-good_more : (before : List (List ℕ)) (line : List ℕ) (s : Statement) → AreGood before → States line s → ((p : VarBind) → States line (instance p) → IsNewName before p.name) → AreGood (before ++ line ∷ [])
+good_more : (before : List (List ℕ)) (line : List ℕ) (s : Statement) → AreGood before → States line s → ((p : VarBind) → States line (instance p)
+    → IsNewName before p.name) → AreGood (before ++ line ∷ [])
 good_more before line s h states fresh = record { each = all_state_more before line h.each (s, states); differ = names_differ_more before line h.differ fresh }
 
 -- what a line states when it states one thing alone
@@ -63,13 +66,15 @@ StatesOnly line s = States line s × ((t : Statement) → States line t → t �
 -- ---- what the draft holds behind one more line
 
 module _ (before : List (List ℕ)) (line : List ℕ) (es : List (List ℕ × Datum)) (os : List (List ℕ)) (h : Holds before es os) where
-  same_rows : ((p : VarBind) → States line (instance p) → ⊥) → (p : VarBind) → (find (slice_cmp nat_cmp) p.name es ≡ Some p.value) ↔ IsStated (before ++ line ∷ []) (instance p)
+  same_rows : ((p : VarBind) → States line (instance p) → ⊥) → (p : VarBind)
+      → (find (slice_cmp nat_cmp) p.name es ≡ Some p.value) ↔ IsStated (before ++ line ∷ []) (instance p)
   same_rows never p = (
     λ found. stated_before before line (instance p) ((h.rows p).0 found),
     λ stated. elim (stated_either before line (instance p) stated) [ inl old ↦ (h.rows p).1 old | inr now ↦ absurd (never p now) ],
   )
 
-  same_prefixes : ((o : List ℕ) → States line (object_prefix o) → ⊥) → (o : List ℕ) → (list_any (eq_by_cmp (slice_cmp nat_cmp) o) os ≡ true) ↔ IsStated (before ++ line ∷ []) (object_prefix o)
+  same_prefixes : ((o : List ℕ) → States line (object_prefix o) → ⊥) → (o : List ℕ)
+      → (list_any (eq_by_cmp (slice_cmp nat_cmp) o) os ≡ true) ↔ IsStated (before ++ line ∷ []) (object_prefix o)
   same_prefixes never o = (
     λ found. stated_before before line (object_prefix o) ((h.prefixes o).0 found),
     λ stated. elim (stated_either before line (object_prefix o) stated) [ inl old ↦ (h.prefixes o).1 old | inr now ↦ absurd (never o now) ],
@@ -87,17 +92,19 @@ module _ (before : List (List ℕ)) (line : List ℕ) (es : List (List ℕ × Da
       → ((o : List ℕ) → list_any (eq_by_cmp (slice_cmp nat_cmp) o) more ≡ (is_eq (slice_cmp nat_cmp o object) || list_any (eq_by_cmp (slice_cmp nat_cmp) o) os))
       → Holds (before ++ line ∷ []) es more
   holds_object object more only has = record {
-    good = good_more before line (object_prefix object) h.good only.0 (λ p states. let no_instance : instance p ≡ object_prefix object = only.1 (instance p) states in absurd (cc));
+    good = good_more before line (object_prefix object) h.good only.0 (λ p states. let no_instance : instance p ≡ object_prefix object = only.1
+        (instance p) states in absurd (cc));
     rising = h.rising;
     rows = same_rows (λ p states. let no_instance : instance p ≡ object_prefix object = only.1 (instance p) states in cc);
     prefixes = λ o. (
-      λ found. elim (slice_cmp nat_cmp o object) as (λ r. slice_cmp nat_cmp o object ≡ r → (is_eq r || list_any (eq_by_cmp (slice_cmp nat_cmp) o) os) ≡ true → IsStated (before ++ line ∷ []) (object_prefix o)) [
-        | Less ↦ λ _ old. stated_before before line (object_prefix o) ((h.prefixes o).0 old)
-        | Equal ↦ λ tied _.
-            let P : List ℕ → Type 0 = λ p. IsStated (before ++ line ∷ []) (object_prefix p) in
-            subst P (sym (same_name o object tied)) (stated_now before line (object_prefix object) only.0)
-        | Greater ↦ λ _ old. stated_before before line (object_prefix o) ((h.prefixes o).0 old)
-      ] refl (sym (has o) ∙ found),
+      λ found. elim (slice_cmp nat_cmp o object) as (λ r. slice_cmp nat_cmp o object ≡ r → (is_eq r || list_any (eq_by_cmp (slice_cmp nat_cmp) o) os) ≡ true
+          → IsStated (before ++ line ∷ []) (object_prefix o)) [
+            | Less ↦ λ _ old. stated_before before line (object_prefix o) ((h.prefixes o).0 old)
+            | Equal ↦ λ tied _.
+                let P : List ℕ → Type 0 = λ p. IsStated (before ++ line ∷ []) (object_prefix p) in
+                subst P (sym (same_name o object tied)) (stated_now before line (object_prefix object) only.0)
+            | Greater ↦ λ _ old. stated_before before line (object_prefix o) ((h.prefixes o).0 old)
+          ] refl (sym (has o) ∙ found),
       λ stated. has o ∙ elim (stated_either before line (object_prefix o) stated) [
         | inl old ↦ ap (λ b. is_eq (slice_cmp nat_cmp o object) || b) ((h.prefixes o).1 old) ∙ or_true (is_eq (slice_cmp nat_cmp o object))
         | inr now ↦
@@ -112,7 +119,8 @@ module _ (before : List (List ℕ)) (line : List ℕ) (es : List (List ℕ × Da
     or_true true = refl
     or_true false = refl
 
-  pub holds_instance : (p : VarBind) → StatesOnly line (instance p) → find (slice_cmp nat_cmp) p.name es ≡ None → Holds (before ++ line ∷ []) (put (slice_cmp nat_cmp) p.name p.value es) os
+  pub holds_instance : (p : VarBind) → StatesOnly line (instance p) → find (slice_cmp nat_cmp) p.name es ≡ None
+      → Holds (before ++ line ∷ []) (put (slice_cmp nat_cmp) p.name p.value es) os
   holds_instance p only absent = record {
     good = good_more before line (instance p) h.good only.0 (λ q states other old same.
         let is : instance q ≡ instance p = only.1 (instance q) states in
@@ -123,12 +131,15 @@ module _ (before : List (List ℕ)) (line : List ℕ) (es : List (List ℕ × Da
     rows = λ q. (rows_found q, rows_stated q);
     prefixes = same_prefixes (λ o states. let no_object : object_prefix o ≡ instance p = only.1 (object_prefix o) states in cc);
   } where
-    at : (q : List ℕ) → find (slice_cmp nat_cmp) q (put (slice_cmp nat_cmp) p.name p.value es) ≡ cond (eq_by_cmp (slice_cmp nat_cmp) q p.name) (Some p.value) (find (slice_cmp nat_cmp) q es)
+    at : (q : List ℕ) → find (slice_cmp nat_cmp) q (put (slice_cmp nat_cmp) p.name p.value es) ≡ cond (eq_by_cmp (slice_cmp nat_cmp) q p.name) (Some p.value)
+        (find (slice_cmp nat_cmp) q es)
     at q = find-put (slice_cmp nat_cmp) nat_list_cmp_total q p.name p.value es
 
-    rows_found : (q : VarBind) → find (slice_cmp nat_cmp) q.name (put (slice_cmp nat_cmp) p.name p.value es) ≡ Some q.value → IsStated (before ++ line ∷ []) (instance q)
+    rows_found : (q : VarBind) → find (slice_cmp nat_cmp) q.name (put (slice_cmp nat_cmp) p.name p.value es) ≡ Some q.value
+        → IsStated (before ++ line ∷ []) (instance q)
     rows_found q found =
-        elim (slice_cmp nat_cmp q.name p.name) as (λ r. slice_cmp nat_cmp q.name p.name ≡ r → cond (is_eq r) (Some p.value) (find (slice_cmp nat_cmp) q.name es) ≡ Some q.value → IsStated (before ++ line ∷ []) (instance q)) [
+        elim (slice_cmp nat_cmp q.name p.name) as (λ r. slice_cmp nat_cmp q.name p.name ≡ r
+        → cond (is_eq r) (Some p.value) (find (slice_cmp nat_cmp) q.name es) ≡ Some q.value → IsStated (before ++ line ∷ []) (instance q)) [
           | Less ↦ λ _ old. stated_before before line (instance q) ((h.rows q).0 old)
           | Equal ↦ λ tied new.
               let name : q.name ≡ p.name = same_name q.name p.name tied in
@@ -138,11 +149,13 @@ module _ (before : List (List ℕ)) (line : List ℕ) (es : List (List ℕ × Da
           | Greater ↦ λ _ old. stated_before before line (instance q) ((h.rows q).0 old)
         ] refl (sym (at q.name) ∙ found)
 
-    rows_stated : (q : VarBind) → IsStated (before ++ line ∷ []) (instance q) → find (slice_cmp nat_cmp) q.name (put (slice_cmp nat_cmp) p.name p.value es) ≡ Some q.value
+    rows_stated : (q : VarBind) → IsStated (before ++ line ∷ []) (instance q)
+        → find (slice_cmp nat_cmp) q.name (put (slice_cmp nat_cmp) p.name p.value es) ≡ Some q.value
     rows_stated q stated = at q.name ∙ elim (stated_either before line (instance q) stated) [
       | inl old ↦
           let found : find (slice_cmp nat_cmp) q.name es ≡ Some q.value = (h.rows q).1 old in
-          elim (slice_cmp nat_cmp q.name p.name) as (λ r. slice_cmp nat_cmp q.name p.name ≡ r → cond (is_eq r) (Some p.value) (find (slice_cmp nat_cmp) q.name es) ≡ Some q.value) [
+          elim (slice_cmp nat_cmp q.name p.name) as (λ r. slice_cmp nat_cmp q.name p.name ≡ r
+          → cond (is_eq r) (Some p.value) (find (slice_cmp nat_cmp) q.name es) ≡ Some q.value) [
             | Less ↦ λ _. found
             | Equal ↦ λ tied.
                 let name : q.name ≡ p.name = same_name q.name p.name tied in
@@ -154,7 +167,8 @@ module _ (before : List (List ℕ)) (line : List ℕ) (es : List (List ℕ × Da
           let name : q.name ≡ p.name = cc in
           let value : p.value ≡ q.value = cc in
           ap (λ o. cond (is_eq (slice_cmp nat_cmp o p.name)) (Some p.value) (find (slice_cmp nat_cmp) q.name es)) name
-          ∙ ap (λ r. cond (is_eq r) (Some p.value) (find (slice_cmp nat_cmp) q.name es)) (tied_itself nat_list_cmp_total p.name) ∙ ap (λ (v : Datum). Some v) value
+          ∙ ap (λ r. cond (is_eq r) (Some p.value) (find (slice_cmp nat_cmp) q.name es)) (tied_itself nat_list_cmp_total p.name)
+          ∙ ap (λ (v : Datum). Some v) value
     ]
 
   pub double : (p : VarBind) (v : Datum) → States line (instance p) → find (slice_cmp nat_cmp) p.name es ≡ Some v → IsDouble before line
@@ -166,8 +180,10 @@ pub entries-insert : (es : List (Vec ℕ Global × RowValue)) (k : Vec ℕ Globa
     → map entry_of_pair (insert_entry (λ x y. slice_cmp nat_cmp x.items y.items) es k v) ≡ put (slice_cmp nat_cmp) k.items (datum_of v) (map entry_of_pair es)
 entries-insert [] k v = refl
 entries-insert (e ∷ es) k v =
-    elim (slice_cmp nat_cmp k.items e.0.items) as (λ r. map entry_of_pair (match_ordering r ((k, v) ∷ e ∷ es) ((e.0, v) ∷ es) (e ∷ insert_entry (λ x y. slice_cmp nat_cmp x.items y.items) es k v))
-    ≡ by_order r ((k.items, datum_of v) ∷ map entry_of_pair (e ∷ es)) ((e.0.items, datum_of v) ∷ map entry_of_pair es) (entry_of_pair e ∷ put (slice_cmp nat_cmp) k.items (datum_of v) (map entry_of_pair es))) [
+    elim (slice_cmp nat_cmp k.items e.0.items) as (λ r. map entry_of_pair (match_ordering r ((k, v) ∷ e ∷ es) ((e.0, v) ∷ es) (e ∷ insert_entry
+    (λ x y. slice_cmp nat_cmp x.items y.items) es k v))
+    ≡ by_order r ((k.items, datum_of v) ∷ map entry_of_pair (e ∷ es)) ((e.0.items, datum_of v) ∷ map entry_of_pair es) (entry_of_pair e ∷ put
+    (slice_cmp nat_cmp) k.items (datum_of v) (map entry_of_pair es))) [
       | Less ↦ refl
       | Equal ↦ refl
       | Greater ↦ ap (λ (fs : List (List ℕ × Datum)). entry_of_pair e ∷ fs) (entries-insert es k v)
@@ -190,13 +206,15 @@ list_any-insert o [] k = refl
 list_any-insert o (x ∷ ks) k =
     let others = list_any (eq_by_cmp (slice_cmp nat_cmp) o) (map (λ y. y.items) ks) in
     elim (slice_cmp nat_cmp k.items x.items) as (λ r. slice_cmp nat_cmp k.items x.items ≡ r
-    → list_any (eq_by_cmp (slice_cmp nat_cmp) o) (map (λ y. y.items) (match_ordering r (k ∷ x ∷ ks) (x ∷ ks) (x ∷ insert_key (λ y z. slice_cmp nat_cmp y.items z.items) ks k)))
+    → list_any (eq_by_cmp (slice_cmp nat_cmp) o) (map (λ y. y.items) (match_ordering r (k ∷ x ∷ ks) (x ∷ ks) (x ∷ insert_key
+    (λ y z. slice_cmp nat_cmp y.items z.items) ks k)))
     ≡ (is_eq (slice_cmp nat_cmp o k.items) || (is_eq (slice_cmp nat_cmp o x.items) || others))) [
       | Less ↦ λ _. refl
       | Equal ↦ λ tied.
           twice (is_eq (slice_cmp nat_cmp o x.items)) others
           ∙ ap (λ (y : List ℕ). is_eq (slice_cmp nat_cmp o y) || (is_eq (slice_cmp nat_cmp o x.items) || others)) (sym (same_name k.items x.items tied))
-      | Greater ↦ λ _. ap (λ b. is_eq (slice_cmp nat_cmp o x.items) || b) (list_any-insert o ks k) ∙ swapped (is_eq (slice_cmp nat_cmp o x.items)) (is_eq (slice_cmp nat_cmp o k.items)) others
+      | Greater ↦ λ _. ap (λ b. is_eq (slice_cmp nat_cmp o x.items) || b) (list_any-insert o ks k)
+          ∙ swapped (is_eq (slice_cmp nat_cmp o x.items)) (is_eq (slice_cmp nat_cmp o k.items)) others
     ] refl where
       twice : (a b : Bool) → (a || b) ≡ (a || (a || b))
       twice true b = refl
@@ -219,7 +237,8 @@ pub record IsReadTo (text rest : List ℕ) (draft : Draft) (number : ℕ) : Type
   pub few : number + length rest ≤ length text
 
 -- one more line
-pub read_more : (text rest line behind : List ℕ) (old new : Draft) (number : ℕ) (h : IsReadTo text rest old number) → lines rest ≡ line ∷ lines behind → length behind < length rest
+pub read_more : (text rest line behind : List ℕ) (old new : Draft) (number : ℕ) (h : IsReadTo text rest old number) → lines rest ≡ line ∷ lines behind
+    → length behind < length rest
     → IsDraft (h.done ++ line ∷ []) new → IsReadTo text behind new (number + 1)
 read_more text rest line behind old new number h e shorter holds = record {
   done = h.done ++ line ∷ [];

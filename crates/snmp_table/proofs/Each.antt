@@ -1,42 +1,6 @@
 -- Each name has just one answer to a Get, and one to a GetNext.
-use Rattle.std.proofs.Common.{
-  ◌≡◌,
-  ℕ,
-  zero,
-  suc,
-  ◌+◌,
-  ◌<◌,
-  ◌⊎◌,
-  inl,
-  inr,
-  Bool,
-  true,
-  false,
-  T,
-  List,
-  [],
-  ◌∷◌,
-  ◌++◌,
-  map,
-  length,
-  take,
-  drop,
-  Option,
-  Some,
-  None,
-  Less,
-  Equal,
-  Greater,
-  Ordering,
-  refl,
-  sym,
-  ap,
-  subst,
-  ◌∙◌,
-  ⊎_elim,
-  arith,
-  length-append,
-}
+use Rattle.std.proofs.Common.{◌≡◌, ℕ, zero, suc, ◌+◌, ◌<◌, ◌⊎◌, inl, inr, Bool, true, false, T, List, [], ◌∷◌, ◌++◌, map, length, take, drop, Option, Some}
+use Rattle.std.proofs.Common.{None, Less, Equal, Greater, Ordering, refl, sym, ap, subst, ◌∙◌, ⊎_elim, arith, length-append}
 use Rattle.std.specs.Ordering.{nat_cmp}
 use Rattle.std.specs.Cmp.Lexicographic.{slice_cmp, nat_list_cmp_total}
 use Rattle.std.specs.FinMap.{get, entries, entries_sorted, get-entries, find, is_sorted}
@@ -46,20 +10,8 @@ use Rattle.std.proofs.lemmas.List.{take-append-drop}
 use Rattle.std.proofs.Math.Seq.{take-append_seam}
 use Rattle.snmp_wire.specs.Message.{Datum, no_such_object, no_such_instance, VarBind}
 use Rattle.snmp_table.specs.Exact.{HasOne}
-use Rattle.snmp_table.specs.Table.{
-  MibView,
-  IsRow,
-  HasObject,
-  IsGet,
-  variable,
-  unknown_object,
-  unknown_instance,
-  IsSuccessor,
-  IsNext,
-  successor,
-  end_of_view,
-  IsNextAfter,
-}
+use Rattle.snmp_table.specs.Table.{MibView, IsRow, HasObject, IsGet, variable, unknown_object, unknown_instance, IsSuccessor, IsNext, successor, end_of_view}
+use Rattle.snmp_table.specs.Table.{IsNextAfter}
 use Rattle.snmp_table.specs.Listing.{first_or_end}
 use Rattle.snmp_table.specs.Places.{IsBeforeAll, IsBeforeNone, var_of}
 use Rattle.snmp_table.proofs.Rising.{before_all, first_of_both, second_of_both, same_name, turned}

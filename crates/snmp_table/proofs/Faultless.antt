@@ -3,7 +3,8 @@ use Rattle.std.proofs.Common.{◌≡◌, inl, inr, ℕ, List, [], ◌∷◌, ◌
 use Rattle.snmp_wire.specs.Message.{VarBind}
 use Rattle.snmp_table.specs.declared.error.TableError.{TableError}
 use Rattle.snmp_table.specs.declared.error.TableError.TheVariants as error
-use Rattle.snmp_table.specs.Text.{Statement, nothing, object_prefix, instance, States, IsBlank, IsObjectLine, IsObjectText, IsInstanceText, IsValueText, IsBadLine, IsBadName, IsBadValue}
+use Rattle.snmp_table.specs.Text.{Statement, nothing, object_prefix, instance, States, IsBlank, IsObjectLine, IsObjectText, IsInstanceText, IsValueText}
+use Rattle.snmp_table.specs.Text.{IsBadLine, IsBadName, IsBadValue}
 use Rattle.snmp_table.specs.Stated.{IsStated, AllState, NamesDiffer, AreGood, IsFirstFault}
 use Rattle.snmp_table.proofs.Statements.{same_rows}
 

@@ -7,7 +7,8 @@ use Rattle.std.specs.FinSet.{contains, contains-from_list}
 use Rattle.std.proofs.lemmas.Option.{slice_get-get_or}
 use Rattle.snmp_oid.specs.Identifier.{IsIdentifier}
 use Rattle.snmp_wire.specs.Message.{Datum, VarBind}
-use Rattle.snmp_wire.specs.Message.Datum.{integer_value, octet_string, null_value, object_id, ip_address, counter32, gauge32, time_ticks, opaque_octets, counter64, no_such_object, no_such_instance, end_of_mib_view}
+use Rattle.snmp_wire.specs.Message.Datum.{integer_value, octet_string, null_value, object_id, ip_address, counter32, gauge32, time_ticks, opaque_octets}
+use Rattle.snmp_wire.specs.Message.Datum.{counter64, no_such_object, no_such_instance, end_of_mib_view}
 use Rattle.snmp_table.specs.declared.row.Row.{Row}
 use Rattle.snmp_table.specs.declared.row.RowValue.{RowValue}
 use Rattle.snmp_table.specs.declared.row.RowValue.TheVariants as value
@@ -67,7 +68,8 @@ short_value (value.Counter64 n) h = tt
 
 -- the rows of a view are no longer than identifiers are
 pub short_rows : (rows : List Row) (objects : List (List ℕ)) → IsRising rows → IsMibView (view_of rows objects) → All IsShortRow rows
-short_rows rows objects rising view = λ k d low. row_short (slice_index_or rows k d) (listed_at rows k (slice_index_or rows k d) (slice_get-get_or rows k d low))
+short_rows rows objects rising view = λ k d low. row_short (slice_index_or rows k d) (listed_at rows k (slice_index_or rows k d)
+    (slice_get-get_or rows k d low))
   where
     row_short : (row : Row) → Listed (entry_of row) (map entry_of rows) → IsShortRow row
     row_short row listed =

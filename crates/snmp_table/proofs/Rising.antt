@@ -1,5 +1,6 @@
 -- Facts about lists of entries whose names rise.
-use Rattle.std.proofs.Common.{◌≡◌, ℕ, ◌⊎◌, inl, inr, Bool, true, false, cond, ◌&&◌, T, List, [], ◌∷◌, ◌++◌, Some, refl, sym, ◌∙◌, ap, subst, Ordering, Less, Equal, Greater}
+use Rattle.std.proofs.Common.{◌≡◌, ℕ, ◌⊎◌, inl, inr, Bool, true, false, cond, ◌&&◌, T, List, [], ◌∷◌, ◌++◌, Some, refl, sym, ◌∙◌, ap, subst, Ordering, Less}
+use Rattle.std.proofs.Common.{Equal, Greater}
 use Rattle.std.specs.Ordering.{nat_cmp, is_eq, is_lt, ordering_reverse}
 use Rattle.std.specs.Cmp.{tied_itself}
 use Rattle.std.specs.Cmp.Lexicographic.{slice_cmp, nat_list_cmp_total}
@@ -92,7 +93,8 @@ rising_first (e ∷ es) fs h = both _ _ (below_first e.0 es fs (first_of_both _ 
 pub before_later : (es fs : List (List ℕ × Datum)) (e : List ℕ × Datum) → T (is_sorted (slice_cmp nat_cmp) (es ++ e ∷ fs)) → IsBeforeAll e.0 fs
 before_later es fs e h = let rest = rising_rest es (e ∷ fs) h in before_all e.0 fs (first_of_both _ _ rest)
 
-pub before_no_earlier : (es fs : List (List ℕ × Datum)) (e : List ℕ × Datum) → T (is_sorted (slice_cmp nat_cmp) (es ++ e ∷ fs)) → IsBeforeNone e.0 (es ++ e ∷ [])
+pub before_no_earlier : (es fs : List (List ℕ × Datum)) (e : List ℕ × Datum) → T (is_sorted (slice_cmp nat_cmp) (es ++ e ∷ fs))
+    → IsBeforeNone e.0 (es ++ e ∷ [])
 before_no_earlier [] fs e h = (not_before_itself e.0, tt)
 before_no_earlier (f ∷ es) fs e h =
     let less = before_listed f.0 e (es ++ e ∷ fs) (before_all f.0 _ (first_of_both _ _ h)) (listed_in_second e es (e ∷ fs) (inl refl)) in
@@ -100,13 +102,16 @@ before_no_earlier (f ∷ es) fs e h =
 
 -- ---- finding
 
-find_step : (o : List ℕ) (e f : List ℕ × Datum) (fs : List (List ℕ × Datum)) → slice_cmp nat_cmp f.0 e.0 ≡ Less → find (slice_cmp nat_cmp) e.0 (f ∷ fs) ≡ find (slice_cmp nat_cmp) e.0 fs
+find_step : (o : List ℕ) (e f : List ℕ × Datum) (fs : List (List ℕ × Datum)) → slice_cmp nat_cmp f.0 e.0 ≡ Less
+    → find (slice_cmp nat_cmp) e.0 (f ∷ fs) ≡ find (slice_cmp nat_cmp) e.0 fs
 find_step o e f fs less = ap (λ r. cond (is_eq r) (Some f.1) (find (slice_cmp nat_cmp) e.0 fs)) (turned f.0 e.0 Less less)
 
-pub find-listed : (e : List ℕ × Datum) (es : List (List ℕ × Datum)) → T (is_sorted (slice_cmp nat_cmp) es) → Listed e es → find (slice_cmp nat_cmp) e.0 es ≡ Some e.1
+pub find-listed : (e : List ℕ × Datum) (es : List (List ℕ × Datum)) → T (is_sorted (slice_cmp nat_cmp) es) → Listed e es
+    → find (slice_cmp nat_cmp) e.0 es ≡ Some e.1
 find-listed e [] rising at = absurd at
 find-listed e (f ∷ fs) rising (inl same) =
-    let here : find (slice_cmp nat_cmp) f.0 (f ∷ fs) ≡ Some f.1 = ap (λ r. cond (is_eq r) (Some f.1) (find (slice_cmp nat_cmp) f.0 fs)) (tied_itself nat_list_cmp_total f.0) in
+    let here : find (slice_cmp nat_cmp) f.0 (f ∷ fs) ≡ Some f.1 = ap (λ r. cond (is_eq r) (Some f.1) (find (slice_cmp nat_cmp) f.0 fs))
+    (tied_itself nat_list_cmp_total f.0) in
     let P : List ℕ × Datum → Type 0 = λ g. find (slice_cmp nat_cmp) g.0 (f ∷ fs) ≡ Some g.1 in subst P (sym same) here
 find-listed e (f ∷ fs) rising (inr later) =
     find_step e.0 e f fs (before_listed f.0 e fs (before_all f.0 fs (first_of_both _ _ rising)) later) ∙ find-listed e fs (second_of_both _ _ rising) later
@@ -114,7 +119,8 @@ find-listed e (f ∷ fs) rising (inr later) =
 pub listed_from_find : (o : List ℕ) (v : Datum) (es : List (List ℕ × Datum)) → find (slice_cmp nat_cmp) o es ≡ Some v → Listed (o, v) es
 listed_from_find o v [] e = let no : ⊥ = cc in absurd no
 listed_from_find o v (f ∷ fs) found =
-    elim (slice_cmp nat_cmp o f.0) as (λ r. slice_cmp nat_cmp o f.0 ≡ r → cond (is_eq r) (Some f.1) (find (slice_cmp nat_cmp) o fs) ≡ Some v → Listed (o, v) (f ∷ fs)) [
+    elim (slice_cmp nat_cmp o f.0) as (λ r. slice_cmp nat_cmp o f.0 ≡ r → cond (is_eq r) (Some f.1) (find (slice_cmp nat_cmp) o fs) ≡ Some v
+    → Listed (o, v) (f ∷ fs)) [
       | Less ↦ λ _ e. inr (listed_from_find o v fs e)
       | Equal ↦ λ tied e. inl (let name : o ≡ f.0 = same_name o f.0 tied in let value : v ≡ f.1 = cc in λ i. (name i, value i))
       | Greater ↦ λ _ e. inr (listed_from_find o v fs e)

@@ -48,7 +48,8 @@ pub no_row_without_bar : (l name tag text : List ℕ) → HasNoBar l → IsRowLi
 no_row_without_bar l name tag text none h = no_cut l name (tag ++ bar ∷ text) none (first_cut l name tag text h)
 
 -- what stands behind the first bar
-behind_first : (l front behind name tag text : List ℕ) → l ≡ front ++ bar ∷ behind → HasNoBar front → IsRowLine l name tag text → (name ≡ front) × (tag ++ bar ∷ text ≡ behind)
+behind_first : (l front behind name tag text : List ℕ) → l ≡ front ++ bar ∷ behind → HasNoBar front → IsRowLine l name tag text
+    → (name ≡ front) × (tag ++ bar ∷ text ≡ behind)
 behind_first l front behind name tag text e none h = same_cut name (tag ++ bar ∷ text) front behind h.name_ends none (sym (first_cut l name tag text h) ∙ e)
 
 pub no_row_with_one_bar : (l front behind name tag text : List ℕ) → l ≡ front ++ bar ∷ behind → HasNoBar front → HasNoBar behind → IsRowLine l name tag text → ⊥
@@ -56,30 +57,36 @@ no_row_with_one_bar l front behind name tag text e none none_behind h =
     no_cut behind tag text none_behind (sym (behind_first l front behind name tag text e none h).1)
 
 -- the parts of a row's line
-pub same_parts : (l front behind middle back name tag text : List ℕ) → l ≡ front ++ bar ∷ behind → HasNoBar front → behind ≡ middle ++ bar ∷ back → HasNoBar middle → IsRowLine l name tag text
+pub same_parts : (l front behind middle back name tag text : List ℕ) → l ≡ front ++ bar ∷ behind → HasNoBar front → behind ≡ middle ++ bar ∷ back
+    → HasNoBar middle → IsRowLine l name tag text
     → (name ≡ front) × (tag ≡ middle) × (text ≡ back)
 same_parts l front behind middle back name tag text e none f none_middle h =
     let first = behind_first l front behind name tag text e none h in
     let second = same_cut tag text middle back h.tag_ends none_middle (first.1 ∙ f) in
     (first.0, second.0, second.1)
 
-pub same_rows : (l name tag text name2 tag2 text2 : List ℕ) → IsRowLine l name tag text → IsRowLine l name2 tag2 text2 → (name2 ≡ name) × (tag2 ≡ tag) × (text2 ≡ text)
-same_rows l name tag text name2 tag2 text2 h k = same_parts l name (tag ++ bar ∷ text) tag text name2 tag2 text2 (first_cut l name tag text h) h.name_ends refl h.tag_ends k
+pub same_rows : (l name tag text name2 tag2 text2 : List ℕ) → IsRowLine l name tag text → IsRowLine l name2 tag2 text2
+    → (name2 ≡ name) × (tag2 ≡ tag) × (text2 ≡ text)
+same_rows l name tag text name2 tag2 text2 h k = same_parts l name (tag ++ bar ∷ text) tag text name2 tag2 text2
+    (first_cut l name tag text h) h.name_ends refl h.tag_ends k
 
 -- the cuts of a line, put together
-pub row_parts : (l front behind middle back tag : List ℕ) → l ≡ front ++ bar ∷ behind → behind ≡ middle ++ bar ∷ back → middle ≡ tag → l ≡ (front ++ bar ∷ tag) ++ bar ∷ back
+pub row_parts : (l front behind middle back tag : List ℕ) → l ≡ front ++ bar ∷ behind → behind ≡ middle ++ bar ∷ back → middle ≡ tag
+    → l ≡ (front ++ bar ∷ tag) ++ bar ∷ back
 row_parts l front behind middle back tag e f g =
     e ∙ ap (λ (rest : List ℕ). front ++ bar ∷ rest) (f ∙ ap (λ (t : List ℕ). t ++ bar ∷ back) g) ∙ sym (append_assoc front (bar ∷ tag) (bar ∷ back))
 
 -- ---- what a line states
 
-pub object_states : (l text : List ℕ) → IsObjectLine l text → (r : Result Line LineFault) → IsObjectRead text r → IfOk r (λ stated. States l (statement_of stated))
+pub object_states : (l text : List ℕ) → IsObjectLine l text → (r : Result Line LineFault) → IsObjectRead text r
+    → IfOk r (λ stated. States l (statement_of stated))
 object_states l text e (Ok (line.Object numbers)) h = (text, e, h.0)
 object_states l text e (Ok line.Nothing) h = absurd h
 object_states l text e (Ok (line.Instance row)) h = absurd h
 object_states l text e (Err fault) h = tt
 
-pub row_states : (l name tag text : List ℕ) → IsRowLine l name tag text → (r : Result Line LineFault) → IsInstanceRead name tag text r → IfOk r (λ stated. States l (statement_of stated))
+pub row_states : (l name tag text : List ℕ) → IsRowLine l name tag text → (r : Result Line LineFault) → IsInstanceRead name tag text r
+    → IfOk r (λ stated. States l (statement_of stated))
 row_states l name tag text e (Ok (line.Instance row)) h = (name, tag, text, e, h.named, h.valued)
 row_states l name tag text e (Ok line.Nothing) h = absurd h
 row_states l name tag text e (Ok (line.Object numbers)) h = absurd h

@@ -1,33 +1,6 @@
 -- What comes next in a list of entries whose names rise.
-use Rattle.std.proofs.Common.{
-  ◌≡◌,
-  ◌↔◌,
-  ℕ,
-  zero,
-  suc,
-  inl,
-  inr,
-  T,
-  List,
-  [],
-  ◌∷◌,
-  ◌++◌,
-  map,
-  Some,
-  refl,
-  sym,
-  ◌∙◌,
-  ap,
-  subst,
-  append_assoc,
-  Less,
-  ◌+◌,
-  ◌≤◌,
-  length,
-  take,
-  drop,
-  arith,
-}
+use Rattle.std.proofs.Common.{◌≡◌, ◌↔◌, ℕ, zero, suc, inl, inr, T, List, [], ◌∷◌, ◌++◌, map, Some, refl, sym, ◌∙◌, ap, subst, append_assoc, Less, ◌+◌, ◌≤◌}
+use Rattle.std.proofs.Common.{length, take, drop, arith}
 use Rattle.std.specs.Ordering.{nat_cmp}
 use Rattle.std.specs.Cmp.Lexicographic.{slice_cmp}
 use Rattle.std.specs.FinMap.{get, find, is_sorted, get-from_sorted}
@@ -41,19 +14,8 @@ use Rattle.snmp_table.specs.Listing.{first_or_end, nth_or_end}
 use Rattle.snmp_table.specs.declared.row.Row.{Row}
 use Rattle.snmp_table.specs.Row.{entry_of, view_of}
 use Rattle.snmp_table.specs.Places.{IsRising, IsBeforeAll, IsBeforeNone, var_of, row_bindings, last_row_name}
-use Rattle.snmp_table.proofs.Rising.{
-  Listed,
-  not_before_itself,
-  not_both,
-  before_listed,
-  not_before_listed,
-  listed_in_both,
-  listed_in_second,
-  before_later,
-  before_no_earlier,
-  find-listed,
-  listed_from_find,
-}
+use Rattle.snmp_table.proofs.Rising.{Listed, not_before_itself, not_both, before_listed, not_before_listed, listed_in_both, listed_in_second, before_later}
+use Rattle.snmp_table.proofs.Rising.{before_no_earlier, find-listed, listed_from_find}
 
 -- the order of names is the standard's
 abbrev pub IsOrder : Type 0

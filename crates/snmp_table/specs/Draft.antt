@@ -29,17 +29,21 @@ abbrev pub draft_objects : Draft → List (List ℕ)
 draft_objects draft = map (λ object. object.items) draft.objects.keys
 
 -- the lines are good, and the entries and object prefixes are those that they state
-pub record Holds (lines : List (List ℕ)) (entries : List (List ℕ × Datum)) (objects : List (List ℕ)) : Type 0 where
+pub record Holds (lines : List (List ℕ)) (entries : List (List ℕ
+    × Datum)) (objects : List (List ℕ)) : Type 0 where
   pub good : AreGood lines
   pub rising : T (is_sorted (slice_cmp nat_cmp) entries)
-  pub rows : (p : VarBind) → (find (slice_cmp nat_cmp) p.name entries ≡ Some p.value) ↔ IsStated lines (instance p)
-  pub prefixes : (object : List ℕ) → (list_any (eq_by_cmp (slice_cmp nat_cmp) object) objects ≡ true) ↔ IsStated lines (object_prefix object)
+  pub rows : (p : VarBind)
+      → (find (slice_cmp nat_cmp) p.name entries ≡ Some p.value) ↔ IsStated lines (instance p)
+  pub prefixes : (object : List ℕ)
+      → (list_any (eq_by_cmp (slice_cmp nat_cmp) object) objects ≡ true) ↔ IsStated lines
+      (object_prefix object)
 
 -- the draft has what the lines state
 abbrev pub IsDraft : List (List ℕ) → Draft → Type 0
 IsDraft lines draft = Holds lines (draft_entries draft) (draft_objects draft)
 
--- what is wrong with the line of this number, which stands behind these
+-- what is wrong with the line of this number, which comes after these
 abbrev pub IsFaultBehind : List (List ℕ) → List ℕ → ℕ → TableError → Type 0
 IsFaultBehind before line number (error.BadLine at) = (at ≡ number) × IsBadLine line
 IsFaultBehind before line number (error.BadName at) = (at ≡ number) × IsBadName line

@@ -9,7 +9,9 @@ use Rattle.snmp_table.specs.declared.line.Form.{Form}
 use Rattle.snmp_table.specs.declared.line.Form.TheVariants as form
 use Rattle.snmp_table.specs.Row.{entry_of, tag_text}
 use Rattle.snmp_table.specs.Places.{var_of}
-use Rattle.snmp_table.specs.Text.{Statement, nothing, object_prefix, instance, IsBlank, IsObjectLine, IsRowLine, IsObjectText, IsInstanceText, IsValueText, IsBadLine, IsBadName, IsBadValue}
+use Rattle.snmp_table.specs.Text.{Statement, nothing, object_prefix, instance, IsBlank}
+use Rattle.snmp_table.specs.Text.{IsObjectLine, IsRowLine, IsObjectText, IsInstanceText}
+use Rattle.snmp_table.specs.Text.{IsValueText, IsBadLine, IsBadName, IsBadValue}
 
 abbrev pub statement_of : Line → Statement
 statement_of line.Nothing = nothing
@@ -24,7 +26,8 @@ IsForm l (Some (form.Row name tag text)) = IsRowLine l name.now (tag_text tag) t
 
 -- the object prefix that a text names, or the fault
 abbrev pub IsObjectRead : List ℕ → Result Line LineFault → Type 0
-IsObjectRead text (Ok (line.Object numbers)) = IsObjectText text numbers.items × ((o : List ℕ) → IsObjectText text o → o ≡ numbers.items)
+IsObjectRead text (Ok (line.Object numbers)) = IsObjectText text numbers.items × ((o : List ℕ)
+    → IsObjectText text o → o ≡ numbers.items)
 IsObjectRead text (Ok line.Nothing) = ⊥
 IsObjectRead text (Ok (line.Instance row)) = ⊥
 IsObjectRead text (Err fault.Line) = ⊥
@@ -41,12 +44,14 @@ pub record IsReadInstance (name tag text : List ℕ) (p : VarBind) : Type 0 wher
 
 -- the instance that the texts of a line state, or the fault
 abbrev pub IsInstanceRead : List ℕ → List ℕ → List ℕ → Result Line LineFault → Type 0
-IsInstanceRead name tag text (Ok (line.Instance row)) = IsReadInstance name tag text (var_of (entry_of row))
+IsInstanceRead name tag text (Ok (line.Instance row)) = IsReadInstance name tag text (var_of
+    (entry_of row))
 IsInstanceRead name tag text (Ok line.Nothing) = ⊥
 IsInstanceRead name tag text (Ok (line.Object numbers)) = ⊥
 IsInstanceRead name tag text (Err fault.Line) = ⊥
 IsInstanceRead name tag text (Err fault.Name) = (o : List ℕ) → IsInstanceText name o → ⊥
-IsInstanceRead name tag text (Err fault.Value) = ((o : List ℕ) × IsInstanceText name o) × ((v : Datum) → IsValueText tag text v → ⊥)
+IsInstanceRead name tag text (Err fault.Value) = ((o : List ℕ) × IsInstanceText name o)
+    × ((v : Datum) → IsValueText tag text v → ⊥)
 IsInstanceRead name tag text (Err fault.Memory) = Unit {0}
 
 -- what is wrong with a line by itself

@@ -1,5 +1,7 @@
--- Where rows stand: what private functions over the sorted list are proved to find.
-use Rattle.std.specs.Prelude.{◌≡◌, ℕ, suc, Some, ◌≤◌, ◌<◌, T, Bool, true, not, is_some, List, [], ◌∷◌, ◌++◌, map, length, take, drop, All}
+-- The places of rows: what private functions over the sorted list are proved to find. No clause of
+-- a public call is stated by these.
+use Rattle.std.specs.Prelude.{◌≡◌, ℕ, suc, Some, ◌≤◌, ◌<◌, T, Bool, true, not, is_some, List, []}
+use Rattle.std.specs.Prelude.{◌∷◌, ◌++◌, map, length, take, drop, All}
 use Rattle.std.specs.Ordering.{nat_cmp, is_le, eq_by_cmp}
 use Rattle.std.specs.List.{list_any, slice_get}
 use Rattle.std.specs.declared.cmp.Ordering.TheVariants.{Less, Greater}
@@ -43,7 +45,8 @@ last_row_name o (row ∷ rows) = last_row_name row.name.items rows
 
 -- the name equals one of the object prefixes or begins with it
 abbrev pub HasBeginning : List (List ℕ) → List ℕ → Type 0
-HasBeginning objects o = (object : List ℕ) × (rest : List ℕ) × (list_any (eq_by_cmp (slice_cmp nat_cmp) object) objects ≡ true) × (o ≡ object ++ rest)
+HasBeginning objects o = (object : List ℕ) × (rest : List ℕ)
+    × (list_any (eq_by_cmp (slice_cmp nat_cmp) object) objects ≡ true) × (o ≡ object ++ rest)
 
 -- the name comes after each of the list
 abbrev pub IsAfterAll : List ℕ → List (List ℕ × Datum) → Type 0

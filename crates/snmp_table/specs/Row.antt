@@ -3,7 +3,8 @@ use Rattle.std.specs.Prelude.{ℕ, ◌≤◌, List, map, length, codes}
 use Rattle.std.specs.FinMap.{from_sorted}
 use Rattle.std.specs.FinSet.{from_list}
 use Rattle.snmp_wire.specs.Message.{Datum}
-use Rattle.snmp_wire.specs.Message.Datum.{integer_value, octet_string, object_id, ip_address, counter32, gauge32, time_ticks, opaque_octets, counter64}
+use Rattle.snmp_wire.specs.Message.Datum.{integer_value, octet_string, object_id, ip_address}
+use Rattle.snmp_wire.specs.Message.Datum.{counter32, gauge32, time_ticks, opaque_octets, counter64}
 use Rattle.snmp_table.specs.declared.row.Row.{Row}
 use Rattle.snmp_table.specs.declared.value.Tag.{Tag}
 use Rattle.snmp_table.specs.declared.value.Tag.TheVariants as tag
@@ -33,7 +34,11 @@ entry_of row = (row.name.items, datum_of row.value)
 
 -- what rows and object prefixes are seen as
 abbrev pub view_of : List Row → List (List ℕ) → MibView
-view_of rows objects = record { rows = from_sorted (map entry_of rows); objects = from_list objects }
+view_of rows objects = record {
+  rows = from_sorted
+      (map entry_of rows);
+  objects = from_list objects;
+}
 
 -- an identifier is no longer than identifiers are, as the name of a row and among values
 pub record IsShortRow (row : Row) : Type 0 where

@@ -1,5 +1,6 @@
--- What an agent serves, and what it answers of one name (RFC 3416, sections 4.2.1 and 4.2.2).
-use Rattle.std.specs.Prelude.{◌≡◌, ◌≢◌, ℕ, zero, suc, ◌^◌, ◌<◌, ◌≤◌, true, List, [], ◌++◌, length, All, Some, None, FitsSigned}
+-- What an agent serves, and what it gives for one name (RFC 3416, sections 4.2.1 and 4.2.2).
+use Rattle.std.specs.Prelude.{◌≡◌, ◌≢◌, ℕ, zero, suc, ◌^◌, ◌<◌, ◌≤◌, true, List, [], ◌++◌, length}
+use Rattle.std.specs.Prelude.{All, Some, None, FitsSigned}
 use Rattle.std.specs.Int.{w32}
 use Rattle.std.specs.Ordering.{nat_cmp}
 use Rattle.std.specs.Cmp.Lexicographic.{slice_cmp}
@@ -7,9 +8,13 @@ use Rattle.std.specs.FinMap.{FinMap, get, insert, remove}
 use Rattle.std.specs.FinSet.{FinSet, contains}
 use Rattle.snmp_oid.specs.Identifier.{IsIdentifier, IsWire, Precedes}
 use Rattle.snmp_wire.specs.Message.{Datum, VarBind}
-use Rattle.snmp_wire.specs.Message.Datum.{integer_value, octet_string, null_value, object_id, ip_address, counter32, gauge32, time_ticks, opaque_octets, counter64, no_such_object, no_such_instance, end_of_mib_view}
+use Rattle.snmp_wire.specs.Message.Datum.{integer_value, octet_string, null_value, object_id}
+use Rattle.snmp_wire.specs.Message.Datum.{ip_address, counter32, gauge32, time_ticks, opaque_octets}
+use Rattle.snmp_wire.specs.Message.Datum.{counter64, no_such_object, no_such_instance}
+use Rattle.snmp_wire.specs.Message.Datum.{end_of_mib_view}
 
--- The variables that an agent gives access to: the value of each instance, by its name, and the object prefixes, each of which
+-- The variables that an agent gives access to: the value of each instance, by its name, and the
+-- object prefixes, each of which
 -- begins the names of all instances of an object, whether the object has instances or not.
 pub record MibView : Type 0 where
   pub rows : FinMap (slice_cmp nat_cmp) Datum
@@ -25,7 +30,8 @@ pub record IsInstanceName (o : List ℕ) : Type 0 where
 abbrev pub IsTableString : List ℕ → Type 0
 IsTableString octets = (length octets ≤ 65535) × All (λ octet. octet < 256) octets
 
--- what an instance may hold: a value, and no Null or exception; strings have at most 65535 octets, and identifiers an encoding
+-- what an instance may hold: a value, and no Null or exception; strings have at most 65535 octets,
+-- and identifiers an encoding
 abbrev pub IsInstanceValue : Datum → Type 0
 IsInstanceValue (integer_value n) = FitsSigned w32 n
 IsInstanceValue (octet_string octets) = IsTableString octets
@@ -41,7 +47,7 @@ IsInstanceValue no_such_object = ⊥
 IsInstanceValue no_such_instance = ⊥
 IsInstanceValue end_of_mib_view = ⊥
 
--- what an answer gives a name: a value that an instance may hold, or an exception in its place
+-- what a reply has for a name: a value that an instance may hold, or an exception in its place
 abbrev pub IsAnswerValue : Datum → Type 0
 IsAnswerValue no_such_object = Unit {0}
 IsAnswerValue no_such_instance = Unit {0}
@@ -56,36 +62,46 @@ IsRow view p = get view.rows p.name ≡ Some p.value
 pub record IsMibView (view : MibView) : Type 0 where
   pub names : (p : VarBind) → IsRow view p → IsInstanceName p.name
   pub values : (p : VarBind) → IsRow view p → IsInstanceValue p.value
-  pub objects : (object : List ℕ) → contains view.objects object ≡ true → (object ≢ []) × IsIdentifier object
+  pub objects : (object : List ℕ) → contains view.objects object ≡ true
+      → (object ≢ []) × IsIdentifier object
 
 -- an object prefix of the view equals the name or begins it
 abbrev pub HasObject : MibView → List ℕ → Type 0
-HasObject view o = (object : List ℕ) × (rest : List ℕ) × (contains view.objects object ≡ true) × (o ≡ object ++ rest)
+HasObject view o = (object : List ℕ) × (rest : List ℕ) × (contains view.objects object ≡ true)
+    × (o ≡ object ++ rest)
 
--- the answer to a Get of the name o (RFC 3416, section 4.2.1): the variable of that name; else noSuchObject where no object of the
+-- what a Get of the name o gives (RFC 3416, section 4.2.1): the variable of that name; else
+-- noSuchObject where no object of the
 -- view has that name's beginning, and noSuchInstance where one has
 pub data IsGet (view : MibView) (o : List ℕ) (p : VarBind) : Type 0 where
   variable : p.name ≡ o → IsRow view p → IsGet view o p
-  unknown_object : get view.rows o ≡ None → (HasObject view o → ⊥) → p ≡ record { name = o; value = no_such_object } → IsGet view o p
-  unknown_instance : get view.rows o ≡ None → HasObject view o → p ≡ record { name = o; value = no_such_instance } → IsGet view o p
+  unknown_object : get view.rows o ≡ None → (HasObject view o → ⊥)
+      → p ≡ record { name = o; value = no_such_object } → IsGet view o p
+  unknown_instance : get view.rows o ≡ None → HasObject view o
+      → p ≡ record { name = o; value = no_such_instance } → IsGet view o p
 
--- p is the lexicographic successor of the name o: a variable behind it, with none between
+-- p is the lexicographic successor of the name o: a variable after it, with none between
 pub record IsSuccessor (view : MibView) (o : List ℕ) (p : VarBind) : Type 0 where
   pub row : IsRow view p
   pub behind : Precedes o p.name
   pub nearest : (q : VarBind) → IsRow view q → Precedes o q.name → Precedes q.name p.name → ⊥
 
--- the answer to a GetNext of the name o (RFC 3416, section 4.2.2): its lexicographic successor; else the name itself with endOfMibView
+-- what a GetNext of the name o gives (RFC 3416, section 4.2.2): its lexicographic successor; else
+-- the name itself with endOfMibView
 pub data IsNext (view : MibView) (o : List ℕ) (p : VarBind) : Type 0 where
   successor : IsSuccessor view o p → IsNext view o p
-  end_of_view : ((q : VarBind) → IsRow view q → Precedes o q.name → ⊥) → p ≡ record { name = o; value = end_of_mib_view } → IsNext view o p
+  end_of_view : ((q : VarBind) → IsRow view q → Precedes o q.name → ⊥)
+      → p ≡ record { name = o; value = end_of_mib_view } → IsNext view o p
 
--- the answer to a GetNext that is asked again, so many times more, from the name that it gave
+-- what a GetNext gives that is asked again, `rounds` times more, each time from the name that it
+-- gave
 abbrev pub IsNextAfter : MibView → ℕ → List ℕ → VarBind → Type 0
 IsNextAfter view zero o p = IsNext view o p
-IsNextAfter view (suc rounds) o p = (q : VarBind) × IsNextAfter view rounds o q × IsNext view q.name p
+IsNextAfter view (suc rounds) o p = (q : VarBind) × IsNextAfter view rounds o q
+    × IsNext view q.name p
 
--- the view with this instance, in place of the one of its name if there is one; all else is the same
+-- the view with this instance, in place of the one of its name if there is one; all else is the
+-- same
 abbrev pub with_row : MibView → List ℕ → Datum → MibView
 with_row view o v = record { rows = insert view.rows o v; objects = view.objects }
 

@@ -128,7 +128,8 @@ fn insert_row(rows: &mut Vec<Row>, place: usize, row: Row) -> Result<(), AllocEr
 /// Removes the row of this name, and returns whether there was one.
 pub fn remove_row(rows: &mut Vec<Row>, name: &Oid) -> bool
     requires { IsRising rows.old.items }
-    ensures rows { map entry_of rows.new.items ≡ without_name name.now (map entry_of rows.old.items) }
+    ensures rows { map entry_of rows.new.items ≡ without_name name.now (map entry_of
+        rows.old.items) }
     ensures removed { result ≡ has_name name.now rows.old.items }
 {
     match find_row(rows.as_slice(), name.as_slice()) {

@@ -30,7 +30,9 @@ impl Draft {
 
     /// Adds what the line of this number states.
     pub fn add(&mut self, alloc: Global, line: &[u8], number: usize) -> Result<(), TableError>
-        ensures { (before : List (List ℕ)) → IsDraft before self.old → MatchResult result (λ _. IsDraft (before ++ line.now ∷ []) self.new) (IsFaultBehind before line.now number) }
+        ensures { (before : List (List ℕ)) → IsDraft before self.old
+            → MatchResult result (λ _. IsDraft (before ++ line.now ∷ []) self.new) (IsFaultBehind
+            before line.now number) }
     {
         match read_line(alloc, line) {
             Ok(Line::Nothing) => Ok(()),

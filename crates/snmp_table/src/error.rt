@@ -5,7 +5,8 @@ use thiserror::Error;
 /// Why a text states no table, and the first line, from 1, where that shows.
 #[derive(Clone, Copy, Debug, PartialEq, Eq, Error)]
 pub enum TableError {
-    /// The line is no comment, names no object prefix and has not two bars with a known tag between them.
+    /// The line is no comment and no object prefix, and has not two bars with a known tag between
+    /// them.
     #[error("line {line}: bad line")]
     BadLine {
         /// Which line.
@@ -17,7 +18,7 @@ pub enum TableError {
         /// Which line.
         line: usize,
     },
-    /// The text behind the tag states no value of that type.
+    /// The text after the tag states no value of that type.
     #[error("line {line}: bad value")]
     BadValue {
         /// Which line.
@@ -29,7 +30,7 @@ pub enum TableError {
         /// Which line.
         line: usize,
     },
-    /// The allocator had no room.
+    /// Memory ran out.
     #[error("out of memory")]
     Memory,
 }

@@ -9,7 +9,8 @@ use snmp_oid::order;
 
 /// Lines state one table at most.
 pub fn one_table()
-    ensures { (lines : List (List ℕ)) (v w : MibView) → IsTableOf lines v → IsTableOf lines w → v ≡ w }
+    ensures { (lines : List (List ℕ)) (v w : MibView) → IsTableOf lines v → IsTableOf lines w
+        → v ≡ w }
 {}
 
 /// Lines that state a table have no fault: only want of memory keeps them from being read.
@@ -23,7 +24,8 @@ pub fn no_fault()
 pub fn one_answer()
     ensures get { (view : MibView) (o : List ℕ) → HasOne (IsGet view o) }
     ensures get_next { (view : MibView) (o : List ℕ) → HasOne (IsNext view o) }
-    ensures get_bulk { (view : MibView) (rounds : ℕ) (o : List ℕ) → HasOne (IsNextAfter view rounds o) }
+    ensures get_bulk { (view : MibView) (rounds : ℕ) (o : List ℕ)
+        → HasOne (IsNextAfter view rounds o) }
 {
     order();
 }

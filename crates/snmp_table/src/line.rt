@@ -3,7 +3,8 @@ ghost use Rattle.std.specs.Prelude.{◌≡◌, ℕ, List, IfOk, IfErr};
 ghost use Rattle.snmp_table.specs.Exact.{IsOnly};
 ghost use Rattle.snmp_table.specs.Row.{tag_text};
 ghost use Rattle.snmp_table.specs.Text.{Statement, States, IsBlank, IsObjectLine, IsInstanceText};
-ghost use Rattle.snmp_table.specs.Line.{IsForm, IsObjectRead, IsInstanceRead, IsLineFault, statement_of};
+ghost use Rattle.snmp_table.specs.Line.{IsForm, IsObjectRead, IsInstanceRead, IsLineFault};
+ghost use Rattle.snmp_table.specs.Line.{statement_of};
 
 use crate::change::is_instance_name;
 use crate::row::Row;
@@ -28,11 +29,11 @@ pub enum Line {
 pub enum LineFault {
     /// It has none of the forms of a line.
     Line,
-    /// Its name is none.
+    /// Its name is no numeric name, or not one of its kind.
     Name,
     /// Its text states no value of its tag.
     Value,
-    /// The allocator had no room.
+    /// Memory ran out.
     Memory,
 }
 
@@ -65,7 +66,8 @@ enum Form<'a> {
 /// What a line states.
 pub fn read_line(alloc: Global, line: &[u8]) -> Result<Line, LineFault>
     ensures states { IfOk result (λ stated. States line.now (statement_of stated)) }
-    ensures only { IfOk result (λ stated. (s : Statement) → States line.now s → s ≡ statement_of stated) }
+    ensures only { IfOk result (λ stated. (s : Statement) → States line.now s
+        → s ≡ statement_of stated) }
     ensures fault { IfErr result (IsLineFault line.now) }
 {
     match form_of(line) {
@@ -90,7 +92,8 @@ fn form_of(line: &[u8]) -> Option<Form<'_>>
     }
 }
 
-/// The parts of a line between its first two bars and around them, None where it has not two or the tag between them is unknown.
+/// The parts of a line between its first two bars and around them, None where it has not two or the
+/// tag between them is unknown.
 fn row_form(line: &[u8]) -> Option<Form<'_>>
     requires not_blank { IsBlank line.now → ⊥ }
     requires no_object { (text : List ℕ) → IsObjectLine line.now text → ⊥ }

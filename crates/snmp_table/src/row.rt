@@ -3,7 +3,8 @@ ghost use Rattle.std.specs.Prelude.{◌≡◌, ◌≤◌, length};
 
 use snmp_wire::{Binding, Oid, ValueRef};
 
-/// An instance with its value. Its numbers lie apart, since a table has many rows and most names are short.
+/// An instance with its value. Its numbers lie apart, since a table has many rows and most names
+/// are short.
 #[derive(Drop)]
 pub struct Row {
     /// The numbers of the name.
@@ -67,7 +68,8 @@ impl RowValue {
         }
     }
 
-    /// Changes a value of this type, as the values of a column are, to this one, and answers whether it did. This saves setting over 500 octets.
+    /// Changes a value of this type, as the values of a column are, to this one, and returns
+    /// whether it did. This saves setting over 500 octets.
     #[inline]
     fn is_read_into<'a>(&'a self, into: &mut ValueRef<'a>) -> bool
         ensures { result ≡ true → datum into.new ≡ datum_of self.now }

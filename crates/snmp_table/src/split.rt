@@ -2,9 +2,11 @@
 ghost use Rattle.std.specs.Prelude.{◌≡◌, ◌≢◌, ◌<◌, ◌++◌, ◌∷◌, length, All, MatchOption};
 ghost use Rattle.std.specs.Str.Lines.{lines, strip_carriage_return};
 
-/// What stands before the first such octet, and behind it.
+/// The texts before the first such octet and after it, None where there is none.
 pub fn split_once(text: &[u8], separator: u8) -> Option<(&[u8], &[u8])>
-    ensures { MatchOption result (All (λ octet. octet ≢ separator) text.now) (λ parts. (text.now ≡ parts.0.now ++ separator ∷ parts.1.now) × All (λ octet. octet ≢ separator) parts.0.now) }
+    ensures { MatchOption result (All (λ octet. octet ≢ separator) text.now)
+        (λ parts. (text.now ≡ parts.0.now ++ separator ∷ parts.1.now)
+        × All (λ octet. octet ≢ separator) parts.0.now) }
 {
     let end = text.iter().position(|octet| *octet == separator)?;
     Some((&text[..end], &text[end + 1..]))

@@ -1,5 +1,6 @@
 //! The table.
-ghost use Rattle.std.specs.Prelude.{◌≡◌, ◌≤◌, ◌↔◌, length, take, drop, map, IsTrue, true, All, IfSome};
+ghost use Rattle.std.specs.Prelude.{◌≡◌, ◌≤◌, ◌↔◌, length, take, drop, map, IsTrue, true, All};
+ghost use Rattle.std.specs.Prelude.{IfSome};
 ghost use Rattle.std.specs.Option.{option_map};
 ghost use Rattle.std.specs.Ordering.{nat_cmp};
 ghost use Rattle.std.specs.Cmp.Lexicographic.{slice_cmp};
@@ -7,7 +8,8 @@ ghost use Rattle.std.specs.FinMap.{find};
 ghost use Rattle.snmp_wire.specs.Message.{datum, var_bind};
 ghost use Rattle.snmp_wire.specs.Message.Datum.{end_of_mib_view};
 ghost use Rattle.snmp_table.specs.Row.{entry_of, datum_of, IsShortRow};
-ghost use Rattle.snmp_table.specs.Places.{IsRising, IsBeforeNone, IsBeforeAll, is_up_to, row_bindings, last_row_name, HasBeginning};
+ghost use Rattle.snmp_table.specs.Places.{IsRising, IsBeforeNone, IsBeforeAll, is_up_to};
+ghost use Rattle.snmp_table.specs.Places.{row_bindings, last_row_name, HasBeginning};
 ghost use Rattle.snmp_table.specs.Listing.{nth_or_end};
 ghost use Rattle.snmp_table.specs.Stated.{IsTableOf, IsFirstFault};
 ghost use Rattle.snmp_table.specs.Table.{MibView};
@@ -56,12 +58,14 @@ impl Table {
     ghost use Rattle.std.specs.Str.Lines.{lines};
     ghost use Rattle.std.specs.FinMap.{contains_key};
     ghost use Rattle.snmp_table.specs.Table.{IsGet, IsNext, IsNextAfter, IsAnswerValue, IsMibView};
-    ghost use Rattle.snmp_table.specs.Table.{IsInstanceName, IsInstanceValue, with_row, without_row};
+    ghost use Rattle.snmp_table.specs.Table.{IsInstanceName, IsInstanceValue, with_row};
+    ghost use Rattle.snmp_table.specs.Table.{without_row};
     ghost use Rattle.snmp_table.specs.Put.{IsPutError};
     ghost use Rattle.snmp_oid.specs.Identifier.{IsWire};
     ghost use Rattle.snmp_table.specs.Stated.{IsTableOf, IsFirstFault};
 
-    /// The table that a text states, or the fault of its first faulty line (`docs/PROFILE.md`). `Memory` may come in place of any answer.
+    /// Reads the table that a text states, or returns the fault of its first faulty line
+    /// (`docs/PROFILE.md`). `Memory` may come in place of any result.
     ///
     /// A line ends with LF, CR LF or the text; a CR that no LF follows belongs to its line.
     pub fn read(alloc: Global, text: &[u8]) -> Result<Table, TableError>
@@ -89,11 +93,14 @@ impl Table {
     }
 
     /// Gives the instance of this name the value, and returns whether it had one before. All else
-    /// stays as it was; after an error all does. No message leads here: a table is served read-only.
+    /// stays as it was; after an error all does. No message leads here: a table is served
+    /// read-only.
     pub fn put(&mut self, name: &Oid, value: ValueRef<'_>) -> Result<bool, PutError>
         ensures put { IfOk result (λ _. self.new ≡ with_row self.old name.now (datum value.entry)) }
-        ensures replaced { IfOk result (λ replaced. replaced ≡ contains_key self.old.rows name.now) }
-        ensures variable { IfOk result (λ _. IsInstanceName name.now × IsInstanceValue (datum value.entry)) }
+        ensures replaced { IfOk result
+            (λ replaced. replaced ≡ contains_key self.old.rows name.now) }
+        ensures variable { IfOk result (λ _. IsInstanceName name.now
+            × IsInstanceValue (datum value.entry)) }
         ensures error { IfErr result (IsPutError name.now (datum value.entry)) }
         ensures unchanged_on_error { IfErr result (λ _. self.new ≡ self.old) }
     {
@@ -110,7 +117,8 @@ impl Table {
         Ok(replaced)
     }
 
-    /// Removes the instance of this name, and returns whether there was one. All else stays as it was.
+    /// Removes the instance of this name, and returns whether there was one. All else stays as it
+    /// was.
     /// No memory is taken.
     pub fn remove(&mut self, name: &Oid) -> bool
         ensures removed { self.new ≡ without_row self.old name.now }
@@ -126,9 +134,12 @@ impl Table {
         let _ = &self.rows;
     }
 
-    /// The answer to a Get of the name: its value; else `NoSuchObject` where no object prefix equals the name or begins it, and `NoSuchInstance` where one does (RFC 3416, section 4.2.1).
+    /// The value that a Get of the name gives: that of its instance; else `NoSuchObject` where no
+    /// object prefix equals the name or begins it, and `NoSuchInstance` where one does (RFC 3416,
+    /// section 4.2.1).
     pub fn get(&self, name: &Oid) -> ValueRef<'_>
-        ensures answer { IsGet self.now name.now (record { name = name.now; value = datum result }) }
+        ensures answer { IsGet self.now name.now
+            (record { name = name.now; value = datum result }) }
         ensures value { IsAnswerValue (datum result) }
     {
         let numbers = name.as_slice();
@@ -139,7 +150,8 @@ impl Table {
         }
     }
 
-    /// Makes a binding the answer to a GetNext of its name: the first row behind it, else the name itself with `EndOfMibView` (RFC 3416, section 4.2.2).
+    /// Makes a binding what a GetNext of its name gives: the first row after it, else the name
+    /// itself with `EndOfMibView` (RFC 3416, section 4.2.2).
     /// Where the call before gave that name, at `place`, nothing has to be searched.
     pub fn advance<'a>(&'a self, binding: &mut Binding<'a>, place: &mut Place)
         ensures answer { IsNext self.now binding.old.name (var_bind binding.new) }
@@ -153,7 +165,8 @@ impl Table {
         read_first_or_end(behind, binding);
     }
 
-    /// Makes a binding that is there the answer to a GetNext that is asked again, `rounds` times more, from the name that it gave, as a GetBulk does (RFC 3416, section 4.2.3).
+    /// Makes a binding what a GetNext gives that is asked again, `rounds` times more, each time
+    /// from the name that it gave, as a GetBulk does (RFC 3416, section 4.2.3).
     pub fn read_next_after<'a>(&'a self, name: &Oid, rounds: usize, into: &mut Binding<'a>)
         ensures answer { IsNextAfter self.now rounds name.now (var_bind into.new) }
         ensures name { IsWire name.now → IsWire into.new.name }
@@ -166,7 +179,8 @@ impl Table {
     }
 }
 
-/// Where a name was found among the rows. It only says where to look first: no answer depends on it.
+/// Where a name was found among the rows. It only says where to look first: no result depends on
+/// it.
 #[derive(Clone, Copy, Debug, Default)]
 pub struct Place {
     row: usize,
@@ -175,7 +189,9 @@ pub struct Place {
 /// The row of this name.
 fn row_at<'a>(rows: &'a [Row], name: &[u32]) -> Option<&'a Row>
     requires { IsRising rows.now }
-    ensures value { option_map (λ row. datum_of row.now.value) result ≡ find (slice_cmp nat_cmp) name.now (map entry_of rows.now) }
+    ensures value { option_map
+        (λ row. datum_of row.now.value) result ≡ find (slice_cmp nat_cmp) name.now (map entry_of
+        rows.now) }
     ensures short { All IsShortRow rows.now → IfSome result (λ row. IsShortRow row.now) }
 {
     let (front, _) = rows.split_at(place_after(rows, name));
@@ -189,7 +205,8 @@ fn row_at<'a>(rows: &'a [Row], name: &[u32]) -> Option<&'a Row>
 
 /// Whether the name equals one of the object prefixes or begins with it.
 fn has_beginning(objects: &BTreeSet<Vec<u32>>, name: &[u32]) -> bool
-    ensures { IsTrue result ↔ HasBeginning (map (λ object. object.items) objects.now.keys) name.now }
+    ensures { IsTrue result ↔ HasBeginning (map
+        (λ object. object.items) objects.now.keys) name.now }
 {
     'ends: for end in 0..=name.len() {
         if objects.contains(&name[..end]) {
@@ -226,7 +243,7 @@ fn place_near(rows: &[Row], name: &[u32], place: Place) -> usize
     }
 }
 
-/// Makes a binding the first row's, or gives it `EndOfMibView` if there is no row.
+/// Makes a binding the first row's, or its value `EndOfMibView` if there is no row.
 fn read_first_or_end<'a>(rows: &'a [Row], binding: &mut Binding<'a>)
     requires { All IsShortRow rows.now }
     ensures { var_bind binding.new ≡ nth_or_end binding.old.name (row_bindings rows.now) 0 }
@@ -237,7 +254,8 @@ fn read_first_or_end<'a>(rows: &'a [Row], binding: &mut Binding<'a>)
     }
 }
 
-/// Makes a binding that is there the row's at this place, or past the end the last name, `name` if there is no row, with `EndOfMibView`.
+/// Makes a binding that is there the row's at this place, or past the end the last name, `name` if
+/// there is no row, with `EndOfMibView`.
 fn read_nth_or_end<'a>(rows: &'a [Row], name: &Oid, place: usize, into: &mut Binding<'a>)
     requires { All IsShortRow rows.now }
     ensures { var_bind into.new ≡ nth_or_end name.now (row_bindings rows.now) place }
@@ -251,7 +269,8 @@ fn read_nth_or_end<'a>(rows: &'a [Row], name: &Oid, place: usize, into: &mut Bin
     }
 }
 
-/// Makes a value that is there `EndOfMibView`. Where it is that already, this saves setting over 500 octets.
+/// Makes a value that is there `EndOfMibView`. Where it is that already, this saves setting over
+/// 500 octets.
 fn set_end(value: &mut ValueRef<'_>)
     ensures { datum value.new ≡ end_of_mib_view }
 {

@@ -7,7 +7,8 @@ ghost use Rattle.snmp_oid.specs.Identifier.{IsWire};
 ghost use Rattle.snmp_table.specs.Exact.{IsOnly};
 ghost use Rattle.snmp_table.specs.Row.{datum_of, tag_text};
 ghost use Rattle.snmp_table.specs.Table.{IsTableString};
-ghost use Rattle.snmp_table.specs.Text.{IsDecimal, IsSignedDecimal, IsAddressText, IsName, IsValueText};
+ghost use Rattle.snmp_table.specs.Text.{IsDecimal, IsSignedDecimal, IsAddressText, IsName};
+ghost use Rattle.snmp_table.specs.Text.{IsValueText};
 
 use crate::row::RowValue;
 use hex::FromHexError;
@@ -66,7 +67,8 @@ pub fn name(text: &[u8]) -> Option<Oid>
 
 /// The value that the text states, None where it states none of the tag's type.
 pub fn value(alloc: Global, tag: Tag, text: &[u8]) -> Result<Option<RowValue>, AllocError>
-    ensures { IfOk result (λ value. IsOnly (IsValueText (tag_text tag) text.now) (option_map datum_of value)) }
+    ensures { IfOk result
+        (λ value. IsOnly (IsValueText (tag_text tag) text.now) (option_map datum_of value)) }
 {
     match tag {
         Tag::Integer => Ok(signed(text).map(RowValue::Integer)),
@@ -138,7 +140,8 @@ fn address(text: &[u8]) -> Option<[u8; 4]>
 
 /// An identifier that has an encoding, as its numbers.
 fn object_id(alloc: Global, text: &[u8]) -> Result<Option<Vec<u32>>, AllocError>
-    ensures { IfOk result (λ numbers. IsOnly (λ o. IsName text.now o × IsWire o) (option_map (λ v. v.items) numbers)) }
+    ensures { IfOk result (λ numbers. IsOnly (λ o. IsName text.now o
+        × IsWire o) (option_map (λ v. v.items) numbers)) }
 {
     let Some(oid) = name(text) else {
         return Ok(None);
@@ -151,7 +154,8 @@ fn object_id(alloc: Global, text: &[u8]) -> Result<Option<Vec<u32>>, AllocError>
 
 /// The octets of the text itself.
 fn string(alloc: Global, text: &[u8]) -> Result<Option<Vec<u8>>, AllocError>
-    ensures { IfOk result (λ octets. IsOnly (λ s. (text.now ≡ s) × IsTableString s) (option_map (λ v. v.items) octets)) }
+    ensures { IfOk result (λ octets. IsOnly (λ s. (text.now ≡ s)
+        × IsTableString s) (option_map (λ v. v.items) octets)) }
 {
     if text.len() > LONGEST_STRING {
         return Ok(None);
@@ -161,7 +165,8 @@ fn string(alloc: Global, text: &[u8]) -> Result<Option<Vec<u8>>, AllocError>
 
 /// The octets that pairs of hexadecimal digits spell.
 fn hexadecimal(alloc: Global, text: &[u8]) -> Result<Option<Vec<u8>>, AllocError>
-    ensures { IfOk result (λ octets. IsOnly (λ s. (decode_of text.now ≡ Ok s) × IsTableString s) (option_map (λ v. v.items) octets)) }
+    ensures { IfOk result (λ octets. IsOnly (λ s. (decode_of text.now ≡ Ok s)
+        × IsTableString s) (option_map (λ v. v.items) octets)) }
 {
     if text.len() > 2 * LONGEST_STRING {
         return Ok(None);

@@ -9,8 +9,13 @@ returns-in-Err-clause-refused c = λ q h. let e = c.in-Err.ensures.only q h in a
 
 pub returns-then-ne-clause-refused : goal.returns-then-ne-clause-refused
 returns-then-ne-clause-refused c =
-    let fits : SFits w32 c.version.result = search rules in
-    (c.in-Ok.message, c.in-Ok.ensures.found, is_one fits c.version.ensures c.if-version-ne-VERSION.false, other_community c.community.ensures (sym c.if-ne.true ∙ c.ne.ensures))
+    let fits : SFits w32 c.version.result = search rules in (
+      c.in-Ok.message,
+      c.in-Ok.ensures.found,
+      is_one fits c.version.ensures c.if-version-ne-VERSION.false,
+      other_community c.community.ensures
+          (sym c.if-ne.true ∙ c.ne.ensures),
+    )
 
 pub returns-in-GetRequest-clause-found : goal.returns-in-GetRequest-clause-found
 returns-in-GetRequest-clause-found c =

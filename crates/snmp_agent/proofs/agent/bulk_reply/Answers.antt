@@ -1,20 +1,29 @@
 use Rattle.std.proofs.Common.{arith}
 use Rattle.snmp_wire.specs.Parts.{parts_message}
 use Rattle.snmp_agent.proofs.BulkReplies.{bulk_sent, bulk_unsent}
-use Rattle.snmp_agent.proofs.Sizes.{within}
+use Rattle.snmp_agent.proofs.Lengths.{within}
 use Rattle.snmp_agent.proofs.agent.bulk_reply.Goals as goal
 
 pub seal-requires-clause-room : goal.seal-requires-clause-room
 seal-requires-clause-room c =
     let all = c.append_bulk-total.ensures in
-    omega (arith, within (parts_message c.response-parts.result) c.args.max_size c.in-Some.room c.append_bulk-total.result c.in-Some.ensures.room all.2.extends.fits, c.requires.room, c.append_bulk-total.auto.out)
+    omega (
+      arith,
+      within c.message_sizes.ensures
+          (parts_message c.response-parts.result) c.args.config.now.max_size c.in-Some.room c.append_bulk-total.result c.in-Some.ensures.room
+          all.2.extends.fits,
+      c.args.config.now.datagram,
+      c.append_bulk-total.array_long,
+    )
 
 pub returns-in-Some-clause-sent : goal.returns-in-Some-clause-sent
 returns-in-Some-clause-sent c =
     let all = c.append_bulk-total.ensures in
-    bulk_sent c.args.table.now c.args.max_size c.in-Some.room c.args.request.now (parts_message c.response-parts.result) all.0 c.append_bulk-total.result c.seal.result c.args.out.now c.append_bulk-total.new.out c.seal.new.out
+    bulk_sent c.message_sizes.ensures c.pieces.ensures c.args.table.now c.args.config.now.max_size c.in-Some.room c.args.request.now
+    (parts_message c.response-parts.result) all.0 c.append_bulk-total.result c.seal.result c.args.out.now c.append_bulk-total.new.out c.seal.new.out
     c.requires.bulk all.1 c.response-parts.ensures c.in-Some.ensures.room all.2 c.seal.ensures.size c.seal.ensures.message
 
 pub returns-in-None-clause-none : goal.returns-in-None-clause-none
 returns-in-None-clause-none c =
-    bulk_unsent c.one_answer.ensures.get_bulk c.args.table.now c.args.max_size c.args.request.now (parts_message c.response-parts.result) c.requires.bulk c.response-parts.ensures c.in-None.ensures.none
+    bulk_unsent c.message_sizes.ensures c.pieces.ensures c.one_answer.ensures.get_bulk c.args.table.now c.args.config.now.max_size c.args.request.now
+    (parts_message c.response-parts.result) c.requires.bulk c.response-parts.ensures c.in-None.ensures.none

@@ -10,27 +10,32 @@ use Rattle.snmp_agent.proofs.agent.paired_reply.Goals as goal
 pub returns-in-Some-clause-sent : goal.returns-in-Some-clause-sent
 returns-in-Some-clause-sent c =
     let written = c.in-Some.ensures.written in
-    finished c.args.table.now c.args.max_size c.args.request.now c.kind.result c.bindings.result written.0 (parts_message c.whole_parts-parts.result) c.in-Some.total c.seal.result c.append_answers.new.out c.seal.new.out
+    finished c.message_sizes.ensures c.pieces.ensures c.args.table.now c.args.config.now.max_size c.args.request.now c.kind.result c.bindings.result written.0
+    (parts_message c.whole_parts-parts.result) c.in-Some.total c.seal.result c.append_answers.new.out c.seal.new.out
     c.requires.paired c.kind.ensures c.bindings.ensures c.whole_parts-parts.ensures written.1 written.2 c.seal.ensures.size c.seal.ensures.message
 
 pub returns-in-None-clause-sent : goal.returns-in-None-clause-sent
 returns-in-None-clause-sent c =
     let large = c.in-None.ensures.too_long in
-    by_result _ _ _ _ _ (replaced c.args.table.now c.args.max_size c.args.request.now c.kind.result c.bindings.result large.0 (parts_message c.whole_parts-parts.result)
+    by_result _ _ _ _ _ (replaced c.message_sizes.ensures c.args.table.now c.args.config.now.max_size c.args.request.now c.kind.result c.bindings.result large.0
+    (parts_message c.whole_parts-parts.result)
     c.requires.paired c.kind.ensures c.bindings.ensures c.whole_parts-parts.ensures large.1 large.2) c.shortened.ensures.sent
   where
     by_result : (o : Option ℕ) (view : MibView) (limit : ℕ) (q r : Message) → IsResponse view limit q r
         → IfSome o (λ n. (length (canon r) ≤ limit) × (take n c.shortened.new.out ≡ canon r) × (n ≡ length (canon r)))
-        → IfSome o (λ n. (r : Message) × IsResponse view limit q r × (length (canon r) ≤ limit) × (take n c.shortened.new.out ≡ canon r) × (n ≡ length (canon r)))
+        → IfSome o (λ n. (r : Message) × IsResponse view limit q r × (length (canon r) ≤ limit) × (take n c.shortened.new.out ≡ canon r)
+        × (n ≡ length (canon r)))
     by_result None view limit q r is h = h
     by_result (Some n) view limit q r is h = (r, is, h.0, h.1, h.2)
 
 pub returns-in-None-clause-none : goal.returns-in-None-clause-none
 returns-in-None-clause-none c =
     let large = c.in-None.ensures.too_long in
-    by_result _ _ _ _ _ (replaced c.args.table.now c.args.max_size c.args.request.now c.kind.result c.bindings.result large.0 (parts_message c.whole_parts-parts.result)
+    by_result _ _ _ _ _ (replaced c.message_sizes.ensures c.args.table.now c.args.config.now.max_size c.args.request.now c.kind.result c.bindings.result large.0
+    (parts_message c.whole_parts-parts.result)
     c.requires.paired c.kind.ensures c.bindings.ensures c.whole_parts-parts.ensures large.1 large.2) c.shortened.ensures.none
   where
-    by_result : (o : Option ℕ) (view : MibView) (limit : ℕ) (q r : Message) → IsResponse view limit q r → IfNone o (limit < length (canon r)) → IfNone o ((r : Message) × IsResponse view limit q r × (limit < length (canon r)))
+    by_result : (o : Option ℕ) (view : MibView) (limit : ℕ) (q r : Message) → IsResponse view limit q r → IfNone o (limit < length (canon r))
+        → IfNone o ((r : Message) × IsResponse view limit q r × (limit < length (canon r)))
     by_result None view limit q r is h = (r, is, h)
     by_result (Some n) view limit q r is h = h

@@ -13,9 +13,9 @@ use Rattle.snmp_agent.proofs.bulk.append_bulk.Goals as goal
 number : {z : ℤ} (handed : ℤ) → SFits w32 handed → handed ≡ z → to_z w32 (of_z w32 handed) ≡ z
 number handed fits e = to_z-of_z w32 handed fits ∙ e
 
-pub append_repeaters-requires-clause-writable : goal.append_repeaters-requires-clause-writable
-append_repeaters-requires-clause-writable c =
-    let bindings : AreWritable c.bindings-bindings.result = subst (λ (bs : List VarBind). AreWritable bs) (sym c.bindings-bindings.ensures) c.requires.writable in
+pub append_repeaters-requires : goal.append_repeaters-requires
+append_repeaters-requires c =
+    let bindings : AreWritable c.bindings-bindings.result = subst (λ (bs : List VarBind). AreWritable bs) (sym c.bindings-bindings.ensures) c.requires in
     subst (λ (bs : List VarBind). AreWritable bs) (sym c.in-Open.ensures.left) (writable_drop c.or_zero-count.result c.bindings-bindings.result bindings)
 
 pub returns-in-Closed : goal.returns-in-Closed
@@ -26,8 +26,10 @@ returns-in-Closed c =
     let names = drop c.or_zero-count.result c.bindings-bindings.result in
     let rounds = all_rounds c.one_answer.ensures.get_bulk c.args.table.now names 0 (or_zero q.b) in (
       singles.0 ++ joined rounds.0,
-      bulk_of c.args.table.now q c.or_zero-count.result (or_zero q.b) c.bindings-bindings.result names singles.0 rounds.0 count refl c.bindings-bindings.ensures refl singles.1 rounds.1,
-      front_before c.args.room 0 c.args.out.now singles.0 (joined rounds.0) c.in-Closed.total c.append_singles.new.out singles.2 (singles.3 tt),
+      bulk_of c.args.table.now q c.or_zero-count.result
+          (or_zero q.b) c.bindings-bindings.result names singles.0 rounds.0 count refl c.bindings-bindings.ensures refl singles.1 rounds.1,
+      front_before c.args.draft.room c.args.draft.total c.args.out.now singles.0 (joined rounds.0) c.in-Closed.total c.append_singles.new.out singles.2
+          (singles.3 tt),
     )
 
 pub returns-in-Open : goal.returns-in-Open
@@ -36,9 +38,12 @@ returns-in-Open c =
     let rounds = c.append_repeaters.ensures in
     let q = c.args.request.now in
     let count : c.or_zero-count.result ≡ or_zero q.a = c.or_zero-count.ensures ∙ ap or_zero (number c.a.result (search rules) c.a.ensures) in
-    let repetitions : c.or_zero-repetitions.result ≡ or_zero q.b = c.or_zero-repetitions.ensures ∙ ap or_zero (number c.b.result (search rules) c.b.ensures) in (
+    let repetitions : c.or_zero-repetitions.result ≡ or_zero q.b = c.or_zero-repetitions.ensures
+    ∙ ap or_zero (number c.b.result (search rules) c.b.ensures) in (
       singles.0 ++ joined rounds.0,
-      bulk_of c.args.table.now q c.or_zero-count.result c.or_zero-repetitions.result c.bindings-bindings.result c.append_singles.new.bindings singles.0 rounds.0 count repetitions c.bindings-bindings.ensures c.in-Open.ensures.left
+      bulk_of c.args.table.now q c.or_zero-count.result c.or_zero-repetitions.result c.bindings-bindings.result c.append_singles.new.bindings singles.0
+          rounds.0 count repetitions c.bindings-bindings.ensures c.in-Open.ensures.left
           singles.1 rounds.1,
-      front_behind c.args.room 0 c.in-Open.total c.append_repeaters.result c.args.out.now c.append_singles.new.out c.append_repeaters.new.out singles.0 (joined rounds.0) singles.3 rounds.2,
+      front_behind c.args.draft.room c.args.draft.total c.in-Open.total c.append_repeaters.result c.args.out.now c.append_singles.new.out
+          c.append_repeaters.new.out singles.0 (joined rounds.0) singles.3 rounds.2,
     )

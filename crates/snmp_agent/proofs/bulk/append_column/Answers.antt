@@ -13,10 +13,11 @@ use Rattle.snmp_agent.proofs.bulk.append_column.Goals.{After-append, In-Some}
 pub rounds-init : goal.rounds-init
 rounds-init c = record {
   done = [];
-  others = λ left rest e h. let same : left ≡ c.args.repetitions = omega (arith, e) in subst (λ (k : ℕ). AreRoundsFrom c.args.table.now (var_bind c.args.binding.now ∷ []) 0 k rest) same h;
+  others = λ left rest e h. let same : left ≡ c.args.repetitions = omega (arith, e) in subst (λ (k : ℕ). AreRoundsFrom c.args.table.now
+      (var_bind c.args.binding.now ∷ []) 0 k rest) same h;
   chain = λ p h. h;
-  written = nothing_more c.args.room c.args.start c.args.out.now c.requires.fits;
-  writable = c.requires.writable;
+  written = nothing_more c.args.draft.room c.args.draft.total c.args.out.now c.args.draft.fits;
+  writable = c.requires;
 }
 
 -- what the round gives
@@ -24,28 +25,31 @@ given : (c : After-append) → AreGiven c.args.table.now c.rounds.counter (var_b
 given c = (c.rounds.invariant.chain (var_bind c.advance.new.binding) c.advance.ensures.answer, tt)
 
 -- the round stands behind the others
-written : (c : In-Some) → Extends c.args.room c.rounds.total c.rounds.out (var_bind c.advance.new.binding ∷ []) c.in-Some.end c.append.new.out
+written : (c : In-Some) → Extends c.args.draft.room c.rounds.total c.rounds.out (var_bind c.advance.new.binding ∷ []) c.in-Some.end c.append.new.out
 written c =
     let more = c.in-Some.ensures.written in
-    one_more c.args.room c.rounds.total c.rounds.total c.in-Some.end c.rounds.out c.rounds.out c.append.new.out [] (var_bind c.advance.new.binding)
-    (nothing_more c.args.room c.rounds.total c.rounds.out c.rounds.invariant.written.fits) more.0 more.1 more.2
+    one_more c.args.draft.room c.rounds.total c.rounds.total c.in-Some.end c.rounds.out c.rounds.out c.append.new.out [] (var_bind c.advance.new.binding)
+    (nothing_more c.args.draft.room c.rounds.total c.rounds.out c.rounds.invariant.written.fits) more.0 more.1 more.2
 
 pub returns-in-None : goal.returns-in-None
 returns-in-None c =
     let so_far = c.rounds.invariant in
     let p : VarBind = var_bind c.advance.new.binding in
-    let front = stopped c.args.room c.rounds.total c.rounds.out [] p [] c.rounds.total c.rounds.out c.append.new.out (nothing_more c.args.room c.rounds.total c.rounds.out so_far.written.fits)
-    c.in-None.ensures.unchanged c.in-None.ensures.too_long in
-    closed_round c.args.room c.args.start c.args.out.now c.one_answer.ensures.get_bulk c.args.table.now (var_bind c.args.binding.now ∷ []) c.args.repetitions c.rounds.counter c.rounds.total c.rounds.total c.rounds.out c.append.new.out
+    let front = stopped c.args.draft.room c.rounds.total c.rounds.out [] p [] c.rounds.total c.rounds.out c.append.new.out
+    (nothing_more c.args.draft.room c.rounds.total c.rounds.out so_far.written.fits)
+    c.in-None.ensures.unchanged_on_none c.in-None.ensures.too_long in
+    closed_round c.args.draft.room c.args.draft.total c.args.out.now c.one_answer.ensures.get_bulk c.args.table.now
+    (var_bind c.args.binding.now ∷ []) c.args.repetitions c.rounds.counter c.rounds.total c.rounds.total c.rounds.out c.append.new.out
     so_far.done (p ∷ []) c.rounds-test.true so_far.others so_far.written (given (goal.at.returns-in-None c).After-append) front.0 (λ row. front.1)
 
 pub returns-then-is_end : goal.returns-then-is_end
 returns-then-is_end c =
     let so_far = c.rounds.invariant in
     let p : VarBind = var_bind c.advance.new.binding in
-    closed_round c.args.room c.args.start c.args.out.now c.one_answer.ensures.get_bulk c.args.table.now (var_bind c.args.binding.now ∷ []) c.args.repetitions c.rounds.counter c.rounds.total c.in-Some.end c.rounds.out c.append.new.out
+    closed_round c.args.draft.room c.args.draft.total c.args.out.now c.one_answer.ensures.get_bulk c.args.table.now
+    (var_bind c.args.binding.now ∷ []) c.args.repetitions c.rounds.counter c.rounds.total c.in-Some.end c.rounds.out c.append.new.out
     so_far.done (p ∷ []) c.rounds-test.true so_far.others so_far.written (given (goal.at.returns-then-is_end c).After-append)
-    (whole_front c.args.room c.rounds.total c.rounds.out (p ∷ []) c.in-Some.end c.append.new.out (written (goal.at.returns-then-is_end c).In-Some))
+    (whole_front c.args.draft.room c.rounds.total c.rounds.out (p ∷ []) c.in-Some.end c.append.new.out (written (goal.at.returns-then-is_end c).In-Some))
     (λ row. absurd (row (c.is_end.ensures.0 c.if-is_end.true, tt)))
 
 pub rounds-preserved : goal.rounds-preserved
@@ -58,8 +62,13 @@ rounds-preserved c =
       others = others_next c.args.table.now (var_bind c.args.binding.now ∷ []) c.args.repetitions c.rounds.counter so_far.done (p ∷ []) so_far.others here
           (λ ends. let is = c.is_end.ensures.1 ends.0 in let isnt = c.if-is_end.false in absurd (cc));
       chain = λ q h. subst (λ (k : ℕ). IsNextAfter c.args.table.now k c.args.binding.now.name q) (sym (add-one c.rounds.counter)) (p, here.0, h);
-      written = written_next c.args.room c.args.start c.args.out.now c.rounds.total c.in-Some.end c.rounds.out c.append.new.out so_far.done (p ∷ []) so_far.written (written (goal.at.rounds-preserved c).In-Some);
-      writable = record { name = c.advance.ensures.name so_far.writable.name; value = answer_value (datum c.advance.new.binding.value) c.advance.ensures.value };
+      written = written_next c.args.draft.room c.args.draft.total c.args.out.now c.rounds.total c.in-Some.end c.rounds.out c.append.new.out so_far.done
+          (p ∷ []) so_far.written (written (goal.at.rounds-preserved c).In-Some);
+      writable = record {
+        name = c.advance.ensures.name so_far.writable.name;
+        value = answer_value
+            (datum c.advance.new.binding.value) c.advance.ensures.value;
+      };
     }
 
 pub returns : goal.returns
@@ -71,5 +80,5 @@ returns c =
     let same : so_far.done ++ [] ≡ so_far.done = append-nil so_far.done in (
       so_far.done,
       subst (λ (rs : List (List VarBind)). AreRoundsFrom c.args.table.now names 0 c.args.repetitions rs) same whole,
-      whole_front c.args.room c.args.start c.args.out.now (joined so_far.done) c.rounds.total c.rounds.out so_far.written,
+      whole_front c.args.draft.room c.args.draft.total c.args.out.now (joined so_far.done) c.rounds.total c.rounds.out so_far.written,
     )

@@ -12,6 +12,6 @@ invariant-rounds l = record {
   done : List (List VarBind);
   others : WithOthers l.table (var_bind l.fn.binding ∷ []) l.repetitions l.counter done;
   chain : (p : VarBind) → IsNext l.table l.binding.name p → IsNextAfter l.table l.counter l.fn.binding.name p;
-  written : Extends l.room l.start l.fn.out (joined done) l.total l.out;
+  written : Extends l.draft.room l.draft.total l.fn.out (joined done) l.total l.out;
   writable : IsWritable (var_bind l.binding);
 }

@@ -15,10 +15,10 @@ bindings-init c =
     record {
       given = [];
       others = λ rest h. h;
-      written = nothing_more c.args.room c.args.start c.args.out.now c.requires.fits;
+      written = nothing_more c.args.draft.room c.args.draft.total c.args.out.now c.args.draft.fits;
       ends = λ e. tt;
       row = λ e. absurd (cc);
-      writable = c.requires.writable;
+      writable = c.requires;
     }
 
 pub returns-in-None : goal.returns-in-None
@@ -27,10 +27,12 @@ returns-in-None c =
     let p : VarBind = var_bind c.read_next_after.new.into in
     let left : c.bindings.bindings ≡ var_bind c.read_next.new.into ∷ c.read_next.new.self = c.read_next.ensures.some c.bindings-test.true in
     let later = all_given c.one_answer.ensures.get_bulk c.args.table.now c.args.round c.read_next.new.self in
-    let front = stopped c.args.room c.args.start c.args.out.now so_far.given p later.0 c.bindings.total c.bindings.out c.append.new.out so_far.written
-    c.in-None.ensures.unchanged c.in-None.ensures.too_long in (
+    let front = stopped c.args.draft.room c.args.draft.total c.args.out.now so_far.given p later.0 c.bindings.total c.bindings.out c.append.new.out
+    so_far.written
+    c.in-None.ensures.unchanged_on_none c.in-None.ensures.too_long in (
       so_far.given ++ p ∷ later.0,
-      so_far.others (p ∷ later.0) (subst (λ (bs : List VarBind). AreGiven c.args.table.now c.args.round bs (p ∷ later.0)) (sym left) (c.read_next_after.ensures.answer, later.1)),
+      so_far.others (p ∷ later.0) (subst (λ (bs : List VarBind). AreGiven c.args.table.now c.args.round bs (p ∷ later.0)) (sym left)
+          (c.read_next_after.ensures.answer, later.1)),
       front.0,
       λ row. front.1,
     )
@@ -41,21 +43,25 @@ others : (c : In-Some) → (rest : List VarBind) → AreGiven c.args.table.now c
 others c =
     let so_far = c.bindings.invariant in
     let left : c.bindings.bindings ≡ var_bind c.read_next.new.into ∷ c.read_next.new.self = c.read_next.ensures.some c.bindings-test.true in
-    step (λ asked given. IsNextAfter c.args.table.now c.args.round asked.name given) c.args.bindings c.bindings.bindings c.read_next.new.self so_far.given (var_bind c.read_next.new.into) (var_bind c.read_next_after.new.into) left
+    step (λ asked given. IsNextAfter c.args.table.now c.args.round asked.name given) c.args.bindings c.bindings.bindings c.read_next.new.self so_far.given
+    (var_bind c.read_next.new.into) (var_bind c.read_next_after.new.into) left
     c.read_next_after.ensures.answer so_far.others
 
 written : (c : In-Some)
-    → Extends c.args.room c.args.start c.args.out.now (c.bindings.invariant.given ++ var_bind c.read_next_after.new.into ∷ []) c.in-Some.end c.append.new.out
+    → Extends c.args.draft.room c.args.draft.total c.args.out.now
+    (c.bindings.invariant.given ++ var_bind c.read_next_after.new.into ∷ []) c.in-Some.end c.append.new.out
 written c =
     let so_far = c.bindings.invariant in
     let more = c.in-Some.ensures.written in
-    one_more c.args.room c.args.start c.bindings.total c.in-Some.end c.args.out.now c.bindings.out c.append.new.out so_far.given (var_bind c.read_next_after.new.into) so_far.written
+    one_more c.args.draft.room c.args.draft.total c.bindings.total c.in-Some.end c.args.out.now c.bindings.out c.append.new.out so_far.given
+    (var_bind c.read_next_after.new.into) so_far.written
     more.0 more.1 more.2
 
 writable : (c : In-Some) → AreWritable c.read_next.new.self
 writable c =
     let left : c.bindings.bindings ≡ var_bind c.read_next.new.into ∷ c.read_next.new.self = c.read_next.ensures.some c.bindings-test.true in
-    let all : AreWritable (var_bind c.read_next.new.into ∷ c.read_next.new.self) = subst (λ (bs : List VarBind). AreWritable bs) left c.bindings.invariant.writable in
+    let all : AreWritable (var_bind c.read_next.new.into ∷ c.read_next.new.self) = subst (λ
+    (bs : List VarBind). AreWritable bs) left c.bindings.invariant.writable in
     all.1
 
 pub bindings-preserved-then-over : goal.bindings-preserved-then-over
@@ -98,7 +104,7 @@ returns-then-over-2 c =
     let so_far = c.bindings.invariant in (
       so_far.given,
       all (goal.at.returns-then-over-2 c).After-bindings,
-      whole_front c.args.room c.args.start c.args.out.now so_far.given c.bindings.total c.bindings.out so_far.written,
+      whole_front c.args.draft.room c.args.draft.total c.args.out.now so_far.given c.bindings.total c.bindings.out so_far.written,
       λ row none. row (so_far.ends c.if-over-2.true),
     )
 

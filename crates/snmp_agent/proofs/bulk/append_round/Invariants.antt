@@ -9,7 +9,7 @@ abbrev pub invariant-bindings : goal.invariant-bindings
 invariant-bindings l = record {
   given : List VarBind;
   others : (rest : List VarBind) → AreGiven l.table l.round l.bindings rest → AreGiven l.table l.round l.fn.bindings (given ++ rest);
-  written : Extends l.room l.start l.fn.out given l.total l.out;
+  written : Extends l.draft.room l.draft.total l.fn.out given l.total l.out;
   ends : l.over ≡ true → AreEnds given;
   row : l.over ≡ false → HasRow given;
   writable : AreWritable l.bindings;

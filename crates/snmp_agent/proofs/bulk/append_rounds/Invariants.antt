@@ -8,6 +8,7 @@ use Rattle.snmp_agent.proofs.bulk.append_rounds.Given as goal
 abbrev pub invariant-rounds : goal.invariant-rounds
 invariant-rounds l = record {
   done : List (List VarBind);
-  others : (left : ℕ) (rest : List (List VarBind)) → l.round + left ≡ l.repetitions → AreRoundsFrom l.table l.bindings l.round left rest → AreRoundsFrom l.table l.bindings 0 l.repetitions (done ++ rest);
-  written : Extends l.room l.start l.fn.out (joined done) l.total l.out;
+  others : (left : ℕ) (rest : List (List VarBind)) → l.round + left ≡ l.repetitions → AreRoundsFrom l.table l.bindings l.round left rest
+      → AreRoundsFrom l.table l.bindings 0 l.repetitions (done ++ rest);
+  written : Extends l.draft.room l.draft.total l.fn.out (joined done) l.total l.out;
 }

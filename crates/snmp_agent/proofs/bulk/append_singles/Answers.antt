@@ -13,14 +13,16 @@ use Rattle.snmp_agent.proofs.bulk.append_singles.Goals.{At-singles}
 pub singles-init : goal.singles-init
 singles-init c = record {
   given = [];
-  others = λ left rest e h. let same : left ≡ c.args.count = omega (arith, e) in subst (λ (k : ℕ). AreGiven c.args.table.now 0 (take k c.args.bindings.now) rest) same h;
+  others = λ left rest e h. let same : left ≡ c.args.count = omega (arith, e) in subst (λ (k : ℕ). AreGiven c.args.table.now 0
+      (take k c.args.bindings.now) rest) same h;
   left = λ left e. let same : left ≡ c.args.count = omega (arith, e) in ap (λ k. drop k c.args.bindings.now) same;
-  written = nothing_more c.args.room 0 c.args.out.now (omega arith);
-  writable = c.requires.writable;
+  written = nothing_more c.args.draft.room c.args.draft.total c.args.out.now c.args.draft.fits;
+  writable = c.requires;
 }
 
 -- where no name is left to be taken, all are given
-all : (c : At-singles) (left : ℕ) → c.singles.counter + left ≡ c.args.count → take left c.singles.bindings ≡ [] → AreGiven c.args.table.now 0 (take c.args.count c.args.bindings.now) c.singles.invariant.given
+all : (c : At-singles) (left : ℕ) → c.singles.counter + left ≡ c.args.count → take left c.singles.bindings ≡ []
+    → AreGiven c.args.table.now 0 (take c.args.count c.args.bindings.now) c.singles.invariant.given
 all c left e none =
     let so_far = c.singles.invariant in
     let whole : AreGiven c.args.table.now 0 (take c.args.count c.args.bindings.now) (so_far.given ++ []) =
@@ -52,11 +54,14 @@ returns-in-None-clause-progress c =
     let left = c.args.count - (c.singles.counter + 1) in
     let e : c.singles.counter + suc left ≡ c.args.count = omega (arith, c.singles-test.true) in
     let first : c.singles.bindings ≡ var_bind c.read_next.new.into ∷ c.read_next.new.self = c.read_next.ensures.some c.if-not-read_next.false in
-    let taken : take (suc left) c.singles.bindings ≡ var_bind c.read_next.new.into ∷ take left c.read_next.new.self = take-first left c.singles.bindings c.read_next.new.self (var_bind c.read_next.new.into) first in
+    let taken : take (suc left) c.singles.bindings ≡ var_bind c.read_next.new.into ∷ take left c.read_next.new.self = take-first left c.singles.bindings
+    c.read_next.new.self (var_bind c.read_next.new.into) first in
     let later = all_given c.one_answer.ensures.get_bulk view 0 (take left c.read_next.new.self) in
-    let front = stopped c.args.room 0 c.args.out.now so_far.given p later.0 c.singles.total c.singles.out c.append.new.out so_far.written c.in-None.ensures.unchanged c.in-None.ensures.too_long in (
+    let front = stopped c.args.draft.room c.args.draft.total c.args.out.now so_far.given p later.0 c.singles.total c.singles.out c.append.new.out
+    so_far.written c.in-None.ensures.unchanged_on_none c.in-None.ensures.too_long in (
       so_far.given ++ p ∷ later.0,
-      so_far.others (suc left) (p ∷ later.0) e (subst (λ (bs : List VarBind). AreGiven view 0 bs (p ∷ later.0)) (sym taken) (c.read_next_after.ensures.answer, later.1)),
+      so_far.others (suc left) (p ∷ later.0) e (subst (λ (bs : List VarBind). AreGiven view 0 bs (p ∷ later.0)) (sym taken)
+          (c.read_next_after.ensures.answer, later.1)),
       front.0,
       λ unit. front.1,
     )
@@ -73,12 +78,15 @@ singles-preserved c =
       given = so_far.given ++ p ∷ [];
       others = λ left rest e h.
           let e' : c.singles.counter + suc left ≡ c.args.count = omega (arith, e) in
-          step (λ asked given. IsNextAfter view 0 asked.name given) (take c.args.count c.args.bindings.now) (take (suc left) c.singles.bindings) (take left c.read_next.new.self) so_far.given (var_bind c.read_next.new.into) p
-          (take-first left c.singles.bindings c.read_next.new.self (var_bind c.read_next.new.into) first) c.read_next_after.ensures.answer (λ more h. so_far.others (suc left) more e' h) rest h;
+          step (λ asked given. IsNextAfter view 0 asked.name given) (take c.args.count c.args.bindings.now) (take (suc left) c.singles.bindings)
+          (take left c.read_next.new.self) so_far.given (var_bind c.read_next.new.into) p
+          (take-first left c.singles.bindings c.read_next.new.self (var_bind c.read_next.new.into) first) c.read_next_after.ensures.answer
+          (λ more h. so_far.others (suc left) more e' h) rest h;
       left = λ left e.
           let e' : c.singles.counter + suc left ≡ c.args.count = omega (arith, e) in
           sym (drop-first left c.singles.bindings c.read_next.new.self (var_bind c.read_next.new.into) first) ∙ so_far.left (suc left) e';
-      written = one_more c.args.room 0 c.singles.total c.in-Some.end c.args.out.now c.singles.out c.append.new.out so_far.given p so_far.written more.0 more.1 more.2;
+      written = one_more c.args.draft.room c.args.draft.total c.singles.total c.in-Some.end c.args.out.now c.singles.out c.append.new.out so_far.given p
+          so_far.written more.0 more.1 more.2;
       writable = writable.1;
     }
 

@@ -7,8 +7,9 @@ use Rattle.snmp_agent.proofs.bulk.append_singles.Given as goal
 abbrev pub invariant-singles : goal.invariant-singles
 invariant-singles l = record {
   given : List VarBind;
-  others : (left : ℕ) (rest : List VarBind) → l.counter + left ≡ l.count → AreGiven l.table 0 (take left l.bindings) rest → AreGiven l.table 0 (take l.count l.fn.bindings) (given ++ rest);
+  others : (left : ℕ) (rest : List VarBind) → l.counter + left ≡ l.count → AreGiven l.table 0 (take left l.bindings) rest
+      → AreGiven l.table 0 (take l.count l.fn.bindings) (given ++ rest);
   left : (left : ℕ) → l.counter + left ≡ l.count → drop left l.bindings ≡ drop l.count l.fn.bindings;
-  written : Extends l.room 0 l.fn.out given l.total l.out;
+  written : Extends l.draft.room l.draft.total l.fn.out given l.total l.out;
   writable : AreWritable l.bindings;
 }

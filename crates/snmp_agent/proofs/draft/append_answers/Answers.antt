@@ -6,18 +6,33 @@ use Rattle.snmp_wire.specs.Parts.{parts_message}
 use Rattle.snmp_agent.specs.Reply.{AreAnswers}
 use Rattle.snmp_agent.specs.Answering.{IsAnswer, AreWritable}
 use Rattle.snmp_agent.proofs.Answers.{all_answered}
-use Rattle.snmp_agent.proofs.Sizes.{longer, within, beyond}
+use Rattle.snmp_agent.proofs.Lengths.{longer, within, beyond}
 use Rattle.snmp_agent.proofs.Drafts.{empty_draft, longer_draft, passes, step, none_anyway}
 use Rattle.snmp_agent.proofs.draft.append_answers.Goals as goal
 
 pub returns-in_err-room-clause-too_long : goal.returns-in_err-room-clause-too_long
 returns-in_err-room-clause-too_long c =
     let all = all_answered c.one_answer.ensures.get c.one_answer.ensures.get_next c.args.table.now c.args.kind c.args.bindings c.requires.paired in
-    none_anyway c.from_residual.result (all.0, all.1, omega (arith, longer (parts_message c.args.parts.now) 0 (length (canon_bindings all.0)) (omega arith), c.in_err-room.ensures.none))
+    none_anyway c.from_residual.result (
+      all.0,
+      all.1,
+      omega (
+        arith,
+        longer c.message_sizes.ensures (parts_message c.args.parts.now) 0 (length (canon_bindings all.0))
+            (omega arith),
+        c.in_err-room.ensures.none,
+      ),
+    )
 
 pub bindings-init : goal.bindings-init
-bindings-init c =
-    ([], λ rest h. h, empty_draft _ _ _ (within (parts_message c.args.parts.now) c.args.max_size c.in_ok-room.room 0 c.in_ok-room.ensures.room (omega arith)), c.requires.writable, omega arith)
+bindings-init c = (
+  [],
+  λ rest h. h,
+  empty_draft _ _ _ (within c.message_sizes.ensures (parts_message c.args.parts.now) c.args.config.now.max_size c.in_ok-room.room 0 c.in_ok-room.ensures.room
+      (omega arith)),
+  c.requires.writable,
+  omega arith,
+)
 
 pub returns-in_err-total-clause-too_long : goal.returns-in_err-total-clause-too_long
 returns-in_err-total-clause-too_long c =
@@ -29,8 +44,9 @@ returns-in_err-total-clause-too_long c =
     none_anyway c.from_residual-in_err-total.result (
       so_far.0 ++ p ∷ later.0,
       so_far.1 (p ∷ later.0) (subst (λ (bs : List VarBind). AreAnswers R bs (p ∷ later.0)) (sym left) (c.answer_to.ensures.answer, later.1)),
-      passes (parts_message c.args.parts.now) c.args.max_size so_far.0 later.0 p c.bindings.total c.bindings.out so_far.2
-          (beyond (parts_message c.args.parts.now) c.args.max_size c.in_ok-room.room (c.bindings.total + length (canon_binding p)) c.in_ok-room.ensures.room c.in_err-total.ensures.too_long),
+      passes c.message_sizes.ensures (parts_message c.args.parts.now) c.args.config.now.max_size so_far.0 later.0 p c.bindings.total c.bindings.out so_far.2
+          (beyond c.message_sizes.ensures (parts_message c.args.parts.now) c.args.config.now.max_size c.in_ok-room.room (c.bindings.total + length
+          (canon_binding p)) c.in_ok-room.ensures.room c.in_err-total.ensures.too_long),
     )
 
 pub bindings-preserved : goal.bindings-preserved
@@ -44,8 +60,10 @@ bindings-preserved c =
     let writable : AreWritable (first ∷ c.read_next.new.self) = subst (λ (bs : List VarBind). AreWritable bs) left so_far.3 in (
       so_far.0 ++ p ∷ [],
       step R c.args.bindings c.bindings.bindings c.read_next.new.self so_far.0 first p left c.answer_to.ensures.answer so_far.1,
-      longer_draft (parts_message c.args.parts.now) c.args.max_size so_far.0 p c.bindings.total c.in_ok-total.total c.bindings.out c.append.new.out so_far.2 written.0 written.1
-          (within (parts_message c.args.parts.now) c.args.max_size c.in_ok-room.room c.in_ok-total.total c.in_ok-room.ensures.room written.2),
+      longer_draft (parts_message c.args.parts.now) c.args.config.now.max_size so_far.0 p c.bindings.total c.in_ok-total.total c.bindings.out c.append.new.out
+          so_far.2 written.0 written.1
+          (within c.message_sizes.ensures
+          (parts_message c.args.parts.now) c.args.config.now.max_size c.in_ok-room.room c.in_ok-total.total c.in_ok-room.ensures.room written.2),
       writable.1,
       written.2,
     )

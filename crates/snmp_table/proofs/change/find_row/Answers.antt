@@ -29,4 +29,5 @@ returns-in_default-clause-none c =
     λ r is_last name.
     let e : r ≡ row = cc in
     let yes_same : c.eq.result ≡ true = same.1 (ap (λ (x : Row). x.name.items) (sym e) ∙ name) in absurd (cc (c.if-eq.false)) in
-    belongs_at rows place c.args.name.now c.requires c.place_after-place.ensures.bound c.place_after-place.ensures.passed c.place_after-place.ensures.ahead other
+    belongs_at rows place c.args.name.now c.requires c.place_after-place.ensures.bound c.place_after-place.ensures.passed c.place_after-place.ensures.ahead
+    other

@@ -16,7 +16,8 @@ pub returns-in-Ok-clause-put : goal.returns-in-Ok-clause-put
 returns-in-Ok-clause-put c =
     let old = c.index_mut-row.result.now in
     let new : Row = record { name = old.name; value = c.args.value } in
-    value_replaced c.args.name.now c.args.rows.now.items c.in-Ok.place old new (found (goal.at.returns-in-Ok-clause-put c).In-Ok) c.index_mut-row.ensures.value refl
+    value_replaced c.args.name.now c.args.rows.now.items c.in-Ok.place old new (found
+    (goal.at.returns-in-Ok-clause-put c).In-Ok) c.index_mut-row.ensures.value refl
 
 pub returns-in-Ok-clause-replaced : goal.returns-in-Ok-clause-replaced
 returns-in-Ok-clause-replaced c = name_found c.args.name.now c.args.rows.now.items c.in-Ok.place (found (goal.at.returns-in-Ok-clause-replaced c).In-Ok)

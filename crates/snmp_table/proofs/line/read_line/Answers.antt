@@ -10,10 +10,12 @@ returns-in-Some-Object-clause-states c =
 
 pub returns-in-Some-Row-clause-states : goal.returns-in-Some-Row-clause-states
 returns-in-Some-Row-clause-states c =
-    let form : IsRowLine c.args.line.now c.in-Some-Row.name.now (tag_text c.in-Some-Row.tag) c.in-Some-Row.text.now = rw c.in-Some-Row.field-0-is at c.in-Some-Row.ensures in
+    let form : IsRowLine c.args.line.now c.in-Some-Row.name.now
+    (tag_text c.in-Some-Row.tag) c.in-Some-Row.text.now = rw c.in-Some-Row.field-0-is at c.in-Some-Row.ensures in
     row_states c.args.line.now c.in-Some-Row.name.now (tag_text c.in-Some-Row.tag) c.in-Some-Row.text.now form c.instance.result c.instance.ensures
 
 pub returns-in-Some-Row-clause-only : goal.returns-in-Some-Row-clause-only
 returns-in-Some-Row-clause-only c =
-    let form : IsRowLine c.args.line.now c.in-Some-Row.name.now (tag_text c.in-Some-Row.tag) c.in-Some-Row.text.now = rw c.in-Some-Row.field-0-is at c.in-Some-Row.ensures in
+    let form : IsRowLine c.args.line.now c.in-Some-Row.name.now
+    (tag_text c.in-Some-Row.tag) c.in-Some-Row.text.now = rw c.in-Some-Row.field-0-is at c.in-Some-Row.ensures in
     row_only c.args.line.now c.in-Some-Row.name.now (tag_text c.in-Some-Row.tag) c.in-Some-Row.text.now form c.instance.result c.instance.ensures

@@ -8,7 +8,12 @@ use Rattle.snmp_table.proofs.line.row_form.Goals as goal
 pub returns-in_err-name : goal.returns-in_err-name
 returns-in_err-name c =
     let none : HasNoBar c.args.line.now = c.in_err-name.ensures in
-    rw c.from_residual.ensures record { not_blank = c.requires.not_blank; no_object = c.requires.no_object; no_row = λ name tag text row. no_row_without_bar c.args.line.now name tag text none row }
+    rw c.from_residual.ensures record {
+      not_blank = c.requires.not_blank;
+      no_object = c.requires.no_object;
+      no_row = λ name tag text row. no_row_without_bar
+          c.args.line.now name tag text none row;
+    }
 
 pub returns-in_err-tag : goal.returns-in_err-tag
 returns-in_err-tag c =
@@ -29,7 +34,8 @@ returns-in_err-from_text c =
       not_blank = c.requires.not_blank;
       no_object = c.requires.no_object;
       no_row = λ name tag text row.
-          let same = same_parts c.args.line.now c.in_ok-name.name.now c.in_ok-name.behind.now c.in_ok-tag.tag.now c.in_ok-tag.text.now name tag text cut.0 cut.1 second.0 second.1 row in
+          let same = same_parts c.args.line.now c.in_ok-name.name.now c.in_ok-name.behind.now c.in_ok-tag.tag.now c.in_ok-tag.text.now name tag text cut.0
+          cut.1 second.0 second.1 row in
           unknown (subst IsTag same.1 row.known);
     }
 
@@ -41,7 +47,8 @@ returns c =
     record {
       not_blank = c.requires.not_blank;
       no_object = c.requires.no_object;
-      parts = row_parts c.args.line.now c.in_ok-name.name.now c.in_ok-name.behind.now c.in_ok-tag.tag.now c.in_ok-tag.text.now (tag_text c.in_ok-from_text.field-0) cut.0 second.0 tag;
+      parts = row_parts c.args.line.now c.in_ok-name.name.now c.in_ok-name.behind.now c.in_ok-tag.tag.now c.in_ok-tag.text.now
+          (tag_text c.in_ok-from_text.field-0) cut.0 second.0 tag;
       name_ends = cut.1;
       tag_ends = subst HasNoBar tag second.1;
       known = tag_known c.in_ok-from_text.field-0;

@@ -28,6 +28,7 @@ returns-else-contains c =
     let keys = c.args.objects.now.keys in
     let none : list_any (eq_by_cmp (slice_cmp nat_cmp) (take c.ends.end o)) (map (λ key. key.items) keys) ≡ false =
     sym (list_any-items (take c.ends.end o) keys) ∙ sym c.contains.ensures ∙ c.if-contains.false in
-    let all : (k : ℕ) → k < c.ends.end + 1 → list_any (eq_by_cmp (slice_cmp nat_cmp) (take k o)) (map (λ key. key.items) keys) ≡ false = below_more _ _ c.ends.invariant none in
+    let all : (k : ℕ) → k < c.ends.end + 1
+    → list_any (eq_by_cmp (slice_cmp nat_cmp) (take k o)) (map (λ key. key.items) keys) ≡ false = below_more _ _ c.ends.invariant none in
     let at_end : c.ends.end ≡ length o = omega arith in
     (λ wrong. absurd (cc), λ h. absurd (no_beginning (map (λ key. key.items) keys) o (λ k low. all k (omega arith)) h))

@@ -5,7 +5,8 @@ use Rattle.snmp_table.specs.Places.{is_up_to}
 use Rattle.snmp_table.proofs.Partition.{partitioned, passed_front, ahead_back}
 use Rattle.snmp_table.proofs.table.place_after.Goals as goal
 
-point : (c : goal.After-partition_point) → IsPartitionPoint (λ row. is_up_to c.args.name.now row ≡ true) (λ row. is_up_to c.args.name.now row ≡ false) c.args.rows.now c.partition_point.result
+point : (c : goal.After-partition_point)
+    → IsPartitionPoint (λ row. is_up_to c.args.name.now row ≡ true) (λ row. is_up_to c.args.name.now row ≡ false) c.args.rows.now c.partition_point.result
 point c =
     IsPartitionPoint-from_clause (is_up_to c.args.name.now) c.args.rows.now c.partition_point.result c.partition_point.ensures.partitioned
     (partitioned c.args.name.now c.args.rows.now c.requires) (λ a r q k. search rules)

@@ -11,7 +11,9 @@ use Rattle.snmp_table.proofs.table.place_near.Goals as goal
 use Rattle.snmp_table.proofs.table.place_near.Goals.{Then-eq}
 
 -- the rows part behind the row that has the name
-parts : (c : Then-eq) → IsBeforeNone c.args.name.now (map entry_of (take (c.args.place.row + 1) c.args.rows.now)) × IsBeforeAll c.args.name.now (map entry_of (drop (c.args.place.row + 1) c.args.rows.now))
+parts : (c : Then-eq)
+    → IsBeforeNone c.args.name.now (map entry_of (take (c.args.place.row + 1) c.args.rows.now))
+    × IsBeforeAll c.args.name.now (map entry_of (drop (c.args.place.row + 1) c.args.rows.now))
 parts c =
     let rows = c.args.rows.now in
     let row = c.in-Some.row.now in
@@ -20,8 +22,10 @@ parts c =
     let same : Decides c.eq.result (row.name.items ≡ c.args.name.now) =
     slice_eq-Decides Decides-eqb row.name.items c.args.name.now c.eq.result (cc (c.eq.ensures, c.as_slice.ensures.value)) in
     let here = parts_at rows place row c.requires at in
-    subst (λ (k : ℕ). IsBeforeNone c.args.name.now (map entry_of (take k rows)) × IsBeforeAll c.args.name.now (map entry_of (drop k rows))) (sym (add-one place))
-    (subst (λ (o : List ℕ). IsBeforeNone o (map entry_of (take (suc place) rows)) × IsBeforeAll o (map entry_of (drop (suc place) rows))) (same.0 c.if-eq.true) here)
+    subst (λ (k : ℕ). IsBeforeNone c.args.name.now (map entry_of (take k rows))
+    × IsBeforeAll c.args.name.now (map entry_of (drop k rows))) (sym (add-one place))
+    (subst (λ (o : List ℕ). IsBeforeNone o (map entry_of (take (suc place) rows))
+    × IsBeforeAll o (map entry_of (drop (suc place) rows))) (same.0 c.if-eq.true) here)
 
 pub returns-in-Some-clause-passed : goal.returns-in-Some-clause-passed
 returns-in-Some-clause-passed c = (parts (goal.at.returns-in-Some-clause-passed c).Then-eq).0

@@ -14,7 +14,8 @@ returns-in_err-row-clause-value c =
     let rows = c.args.rows.now in
     let place = c.place_after.result in
     let nothing : None ≡ slice_get (take place rows) (length (take place rows) - 1) = rw c.split_at.ensures.front at c.in_err-row.ensures.value in
-    let none = found_none rows place c.args.name.now c.requires c.place_after.ensures.passed c.place_after.ensures.ahead (λ row (last : IsLast (take place rows) row) name. absurd (cc)) in
+    let none = found_none rows place c.args.name.now c.requires c.place_after.ensures.passed c.place_after.ensures.ahead (λ row (last : IsLast
+    (take place rows) row) name. absurd (cc)) in
     ap (option_map (λ (row : Bor Row). datum_of row.now.value)) c.from_residual.ensures ∙ sym none
 
 pub returns-then-eq-clause-value : goal.returns-then-eq-clause-value
@@ -36,5 +37,6 @@ returns-else-eq-clause-value c =
     let same : Decides c.eq.result (row.name.items ≡ c.args.name.now) =
     slice_eq-Decides Decides-eqb row.name.items c.args.name.now c.eq.result (cc (c.eq.ensures, c.as_slice.ensures.value)) in
     let other : (r : Row) → IsLast (take place rows) r → r.name.items ≡ c.args.name.now → ⊥ =
-    λ r is_last name. let e : r ≡ row = cc in let yes_same : c.eq.result ≡ true = same.1 (ap (λ (x : Row). x.name.items) (sym e) ∙ name) in absurd (cc (c.if-eq.false)) in
+    λ r is_last name. let e : r ≡ row = cc in let yes_same : c.eq.result ≡ true = same.1 (ap (λ (x : Row). x.name.items) (sym e)
+    ∙ name) in absurd (cc (c.if-eq.false)) in
     sym (found_none rows place c.args.name.now c.requires c.place_after.ensures.passed c.place_after.ensures.ahead other)

@@ -7,22 +7,29 @@ use Rattle.snmp_table.proofs.value.decimal.Goals as goal
 pub returns-in_err-checked_mul : goal.returns-in_err-checked_mul
 returns-in_err-checked_mul c =
     let large : 2 ^ 64 ≤ c.digits.number * 10 + (get_or c.args.text.now c.digits.octet-index 0 - 48) = omega (arith, c.in_err-checked_mul.ensures) in
-    let none : (n : ℕ) → IsDecimal c.args.text.now n × (n < 2 ^ 64) → ⊥ = λ n h. read_large c.args.text.now c.digits.octet-index c.digits.number (omega arith) large c.digits.invariant.0 n h.0 h.1 in
+    let none : (n : ℕ) → IsDecimal c.args.text.now n × (n < 2 ^ 64)
+    → ⊥ = λ n h. read_large c.args.text.now c.digits.octet-index c.digits.number (omega arith) large c.digits.invariant.0 n h.0 h.1 in
     rw c.from_residual.ensures none
 
 pub returns-in_err-number : goal.returns-in_err-number
 returns-in_err-number c =
-    let large : 2 ^ 64 ≤ c.digits.number * 10 + (get_or c.args.text.now c.digits.octet-index 0 - 48) = omega (arith, c.in_ok-checked_mul.ensures, c.from.ensures, c.in_err-number.ensures) in
-    let none : (n : ℕ) → IsDecimal c.args.text.now n × (n < 2 ^ 64) → ⊥ = λ n h. read_large c.args.text.now c.digits.octet-index c.digits.number (omega arith) large c.digits.invariant.0 n h.0 h.1 in
+    let large : 2 ^ 64 ≤ c.digits.number * 10 + (get_or c.args.text.now c.digits.octet-index 0 - 48) = omega
+    (arith, c.in_ok-checked_mul.ensures, c.from.ensures, c.in_err-number.ensures) in
+    let none : (n : ℕ) → IsDecimal c.args.text.now n × (n < 2 ^ 64)
+    → ⊥ = λ n h. read_large c.args.text.now c.digits.octet-index c.digits.number (omega arith) large c.digits.invariant.0 n h.0 h.1 in
     rw c.from_residual-in_err-number.ensures none
 
 pub digits-preserved : goal.digits-preserved
 digits-preserved c =
-    let next : c.in_ok-number.number ≡ c.digits.number * 10 + (get_or c.args.text.now c.digits.octet-index 0 - 48) = omega (arith, c.in_ok-checked_mul.ensures, c.from.ensures, c.in_ok-number.ensures) in
+    let next : c.in_ok-number.number ≡ c.digits.number * 10 + (get_or c.args.text.now c.digits.octet-index 0 - 48) = omega
+    (arith, c.in_ok-checked_mul.ensures, c.from.ensures, c.in_ok-number.ensures) in
     let low : c.digits.octet-index < length c.args.text.now = omega arith in
     let is_digit : is_ascii_digit (get_or c.args.text.now c.digits.octet-index 0) ≡ true = cc (c.is_ascii_digit.ensures.value, c.if-not-is_ascii_digit.false) in
-    let P : ℕ → Type 0 = λ n. IsReadTo c.args.text.now (drop (c.digits.octet-index + 1) c.args.text.now) n in
-    (subst P (sym next) (read_more c.args.text.now c.digits.octet-index c.digits.number low is_digit c.digits.invariant.0), omega (arith, c.in_ok-number.ensures, next))
+    let P : ℕ → Type 0 = λ n. IsReadTo c.args.text.now (drop (c.digits.octet-index + 1) c.args.text.now) n in (
+      subst P (sym next) (read_more c.args.text.now c.digits.octet-index c.digits.number low is_digit c.digits.invariant.0),
+      omega
+          (arith, c.in_ok-number.ensures, next),
+    )
 
 pub returns : goal.returns
 returns c =

@@ -16,5 +16,6 @@ returns-in-Ok c =
     let octets = c.in-Ok.octets.items in
     let whole = c.in-Ok.ensures.ok in
     let long : length text ≡ 2 * length octets = (decode_of-ok text octets whole).2 in
-    let small : All (λ octet. octet < 256) octets = λ k d low. let e = get_or_default_zero octets k d low in let s : get_or octets k 0 < 256 = (decode_of-ok text octets whole).3 k in omega arith in
+    let small : All (λ octet. octet < 256) octets = λ k d low. let e = get_or_default_zero octets k d low in let s : get_or octets k 0 < 256 =
+    (decode_of-ok text octets whole).3 k in omega arith in
     ((whole, (omega arith, small)), λ s h. decode_of-same text s octets h.0 whole)

@@ -14,12 +14,14 @@ answered c =
     let rows = c.self.inside.rows.items in
     let o = c.args.binding.now.name in
     let place = c.place_near.result in
-    let passed : IsBeforeNone o (map entry_of (take place rows)) = rw (← c.as_slice.ensures.value, ← c.as_slice-rows.ensures.value) c.place_near.ensures.passed in
+    let passed : IsBeforeNone o (map entry_of (take place rows)) = rw
+    (← c.as_slice.ensures.value, ← c.as_slice-rows.ensures.value) c.place_near.ensures.passed in
     let ahead : IsBeforeAll o (map entry_of (drop place rows)) = rw (← c.as_slice.ensures.value, ← c.as_slice-rows.ensures.value) c.place_near.ensures.ahead in
     let next : IsNext (view_of rows (map (λ o. o.items) c.self.inside.objects.keys)) o (nth_or_end o (row_bindings (drop place rows)) 0) =
     next_after_at c.order.ensures.less rows (map (λ o. o.items) c.self.inside.objects.keys) o place 0 c.self.invariant.rising passed ahead in
     let same : var_bind c.read_first_or_end.new.binding ≡ nth_or_end o (row_bindings (drop place rows)) 0 =
-    c.read_first_or_end.ensures ∙ ap (λ (rs : List Row). nth_or_end o (row_bindings rs) 0) (c.split_at.ensures.back ∙ ap (drop place) c.as_slice-rows.ensures.value) in
+    c.read_first_or_end.ensures ∙ ap (λ (rs : List Row). nth_or_end o (row_bindings rs) 0) (c.split_at.ensures.back
+    ∙ ap (drop place) c.as_slice-rows.ensures.value) in
     let P : VarBind → Type 0 = λ p. IsNext c.args.self.now o p in
     let Q : MibView → Type 0 = λ view. IsNext view o (nth_or_end o (row_bindings (drop place rows)) 0) in
     subst P (sym same) (subst Q c.self.view_is next)

@@ -13,7 +13,8 @@ use Rattle.snmp_table.proofs.table.Table.read.Goals as goal
 pub returns-in_err-add-clause-fault : goal.returns-in_err-add-clause-fault
 returns-in_err-add-clause-fault c =
     let p = err_from_is_err_and c.from_residual.result c.from_residual.ensures.1 in
-    let fault = fault_at c.args.text.now c.lines.rest.now c.split_line.result.0.now c.split_line.result.1.now c.lines.draft c.lines.number c.lines.invariant c.split_line.ensures.lines
+    let fault = fault_at c.args.text.now c.lines.rest.now c.split_line.result.0.now c.split_line.result.1.now c.lines.draft c.lines.number c.lines.invariant
+    c.split_line.ensures.lines
     c.in_err-add.field-0.0 (c.in_err-add.ensures c.lines.invariant.done c.lines.invariant.holds) in
     rw (p.1, p.2) fault
 
@@ -30,7 +31,8 @@ nothing_left (octet ∷ rest) b is h = let none : suc (length rest) ≡ 0 = eqb-
 held : (text rest : List ℕ) (draft : Draft) (number : ℕ) (rows : List Row) (objects : List (List ℕ)) → IsReadTo text rest draft number → rest ≡ []
     → rows ≡ map row_of draft.rows.entries → objects ≡ draft_objects draft → Holds (lines text) (map entry_of rows) objects
 held text rest draft number rows objects h end rows_are objects_are =
-    let holds : Holds (lines text) (draft_entries draft) (draft_objects draft) = all_read text draft number (subst (λ (r : List ℕ). IsReadTo text r draft number) end h) in
+    let holds : Holds (lines text) (draft_entries draft) (draft_objects draft) = all_read text draft number (subst (λ
+    (r : List ℕ). IsReadTo text r draft number) end h) in
     let entries : map entry_of rows ≡ draft_entries draft = ap (map entry_of) rows_are ∙ entries_of_rows draft.rows.entries in
     subst (λ (es : List (List ℕ × Datum)). Holds (lines text) es objects) (sym entries)
     (subst (λ (os : List (List ℕ)). Holds (lines text) (draft_entries draft) os) (sym objects_are) holds)
@@ -39,19 +41,22 @@ pub invariant_of-result : goal.invariant_of-result
 invariant_of-result c =
     let end : c.lines.rest.now ≡ [] = nothing_left c.lines.rest.now c.is_empty.result c.is_empty.ensures c.lines-test.false in
     kept (lines c.args.text.now) c.in-Ok.rows.items (map (λ o. o.items) c.in-Ok.objects.keys)
-    (held c.args.text.now c.lines.rest.now c.lines.draft c.lines.number c.in-Ok.rows.items (map (λ o. o.items) c.in-Ok.objects.keys) c.lines.invariant end c.in-Ok.ensures.rows
+    (held c.args.text.now c.lines.rest.now c.lines.draft c.lines.number c.in-Ok.rows.items (map
+    (λ o. o.items) c.in-Ok.objects.keys) c.lines.invariant end c.in-Ok.ensures.rows
     (ap (λ objects. map (λ o. o.items) objects.keys) c.in-Ok.ensures.objects))
 
 pub returns-in-Ok-clause-table : goal.returns-in-Ok-clause-table
 returns-in-Ok-clause-table c =
     let end : c.lines.rest.now ≡ [] = nothing_left c.lines.rest.now c.is_empty.result c.is_empty.ensures c.lines-test.false in
     table_of (lines c.args.text.now) c.in-Ok.rows.items (map (λ o. o.items) c.in-Ok.objects.keys)
-    (held c.args.text.now c.lines.rest.now c.lines.draft c.lines.number c.in-Ok.rows.items (map (λ o. o.items) c.in-Ok.objects.keys) c.lines.invariant end c.in-Ok.ensures.rows
+    (held c.args.text.now c.lines.rest.now c.lines.draft c.lines.number c.in-Ok.rows.items (map
+    (λ o. o.items) c.in-Ok.objects.keys) c.lines.invariant end c.in-Ok.ensures.rows
     (ap (λ objects. map (λ o. o.items) objects.keys) c.in-Ok.ensures.objects))
 
 pub returns-in-Ok-clause-view : goal.returns-in-Ok-clause-view
 returns-in-Ok-clause-view c =
     let end : c.lines.rest.now ≡ [] = nothing_left c.lines.rest.now c.is_empty.result c.is_empty.ensures c.lines-test.false in
     (kept (lines c.args.text.now) c.in-Ok.rows.items (map (λ o. o.items) c.in-Ok.objects.keys)
-    (held c.args.text.now c.lines.rest.now c.lines.draft c.lines.number c.in-Ok.rows.items (map (λ o. o.items) c.in-Ok.objects.keys) c.lines.invariant end c.in-Ok.ensures.rows
+    (held c.args.text.now c.lines.rest.now c.lines.draft c.lines.number c.in-Ok.rows.items (map
+    (λ o. o.items) c.in-Ok.objects.keys) c.lines.invariant end c.in-Ok.ensures.rows
     (ap (λ objects. map (λ o. o.items) objects.keys) c.in-Ok.ensures.objects))).view

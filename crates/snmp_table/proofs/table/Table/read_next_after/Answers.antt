@@ -14,12 +14,15 @@ answered c =
     let rows = c.self.inside.rows.items in
     let o = c.args.name.now in
     let place = c.place_after.result in
-    let passed : IsBeforeNone o (map entry_of (take place rows)) = rw (← c.as_slice.ensures.value, ← c.as_slice-rows.ensures.value) c.place_after.ensures.passed in
+    let passed : IsBeforeNone o (map entry_of (take place rows)) = rw
+    (← c.as_slice.ensures.value, ← c.as_slice-rows.ensures.value) c.place_after.ensures.passed in
     let ahead : IsBeforeAll o (map entry_of (drop place rows)) = rw (← c.as_slice.ensures.value, ← c.as_slice-rows.ensures.value) c.place_after.ensures.ahead in
-    let after : IsNextAfter (view_of rows (map (λ o. o.items) c.self.inside.objects.keys)) c.args.rounds o (nth_or_end o (row_bindings (drop place rows)) c.args.rounds) =
+    let after : IsNextAfter (view_of rows (map (λ o. o.items) c.self.inside.objects.keys)) c.args.rounds o (nth_or_end o (row_bindings
+    (drop place rows)) c.args.rounds) =
     next_after_at c.order.ensures.less rows (map (λ o. o.items) c.self.inside.objects.keys) o place c.args.rounds c.self.invariant.rising passed ahead in
     let same : var_bind c.read_nth_or_end.new.into ≡ nth_or_end o (row_bindings (drop place rows)) c.args.rounds =
-    c.read_nth_or_end.ensures ∙ ap (λ (rs : List Row). nth_or_end o (row_bindings rs) c.args.rounds) (c.split_at.ensures.back ∙ ap (drop place) c.as_slice-rows.ensures.value) in
+    c.read_nth_or_end.ensures ∙ ap (λ (rs : List Row). nth_or_end o (row_bindings rs) c.args.rounds) (c.split_at.ensures.back
+    ∙ ap (drop place) c.as_slice-rows.ensures.value) in
     let P : VarBind → Type 0 = λ p. IsNextAfter c.args.self.now c.args.rounds o p in
     let Q : MibView → Type 0 = λ view. IsNextAfter view c.args.rounds o (nth_or_end o (row_bindings (drop place rows)) c.args.rounds) in
     subst P (sym same) (subst Q c.self.view_is after)
