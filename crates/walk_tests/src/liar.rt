@@ -1,0 +1,165 @@
+//! Walks over an agent that lies: its replies have the id that is waited for, and a fault.
+
+use crate::sinks::Digits;
+use snmp_walk::{Link, LinkFault, Method, Mode, WalkCore, WalkEnd, run_walk};
+use snmp_wire::parse_numeric;
+use std::process::Abort;
+use std::test::Fail;
+
+/// The reply with 1.3.6.1.4.1.32473.1.1.0, whose value is the integer 1.
+const ROW: &[u8] = &[
+    0x30, 0x2A, 0x02, 0x01, 0x01, 0x04, 0x06, 0x70, 0x75, 0x62, 0x6C, 0x69, 0x63, 0xA2, 0x1D, 0x02,
+    0x01, 0x01, 0x02, 0x01, 0x00, 0x02, 0x01, 0x00, 0x30, 0x12, 0x30, 0x10, 0x06, 0x0B, 0x2B, 0x06,
+    0x01, 0x04, 0x01, 0x81, 0xFD, 0x59, 0x01, 0x01, 0x00, 0x02, 0x01, 0x01,
+];
+
+/// The reply with 1.3.6.1.4.1.32473.1.1.0 and 1.3.6.1.4.1.32473.1.2.0.
+const TWO: &[u8] = &[
+    0x30, 0x3C, 0x02, 0x01, 0x01, 0x04, 0x06, 0x70, 0x75, 0x62, 0x6C, 0x69, 0x63, 0xA2, 0x2F, 0x02,
+    0x01, 0x01, 0x02, 0x01, 0x00, 0x02, 0x01, 0x00, 0x30, 0x24, 0x30, 0x10, 0x06, 0x0B, 0x2B, 0x06,
+    0x01, 0x04, 0x01, 0x81, 0xFD, 0x59, 0x01, 0x01, 0x00, 0x02, 0x01, 0x01, 0x30, 0x10, 0x06, 0x0B,
+    0x2B, 0x06, 0x01, 0x04, 0x01, 0x81, 0xFD, 0x59, 0x01, 0x02, 0x00, 0x02, 0x01, 0x01,
+];
+
+/// The reply with 1.3.6.1.4.1.32473.1.1.0 and noSuchInstance.
+const MISSING: &[u8] = &[
+    0x30, 0x29, 0x02, 0x01, 0x01, 0x04, 0x06, 0x70, 0x75, 0x62, 0x6C, 0x69, 0x63, 0xA2, 0x1C, 0x02,
+    0x01, 0x01, 0x02, 0x01, 0x00, 0x02, 0x01, 0x00, 0x30, 0x11, 0x30, 0x0F, 0x06, 0x0B, 0x2B, 0x06,
+    0x01, 0x04, 0x01, 0x81, 0xFD, 0x59, 0x01, 0x01, 0x00, 0x81, 0x00,
+];
+
+/// The reply without bindings.
+const NONE: &[u8] = &[
+    0x30, 0x18, 0x02, 0x01, 0x01, 0x04, 0x06, 0x70, 0x75, 0x62, 0x6C, 0x69, 0x63, 0xA2, 0x0B, 0x02,
+    0x01, 0x01, 0x02, 0x01, 0x00, 0x02, 0x01, 0x00, 0x30, 0x00,
+];
+
+/// The reply with error status 5, genErr, and index 1.
+const GENERAL_ERROR: &[u8] = &[
+    0x30, 0x18, 0x02, 0x01, 0x01, 0x04, 0x06, 0x70, 0x75, 0x62, 0x6C, 0x69, 0x63, 0xA2, 0x0B, 0x02,
+    0x01, 0x01, 0x02, 0x01, 0x05, 0x02, 0x01, 0x01, 0x30, 0x00,
+];
+
+/// The reply with error status 19, which the standard doesn't have, and index 0.
+const UNKNOWN_ERROR: &[u8] = &[
+    0x30, 0x18, 0x02, 0x01, 0x01, 0x04, 0x06, 0x70, 0x75, 0x62, 0x6C, 0x69, 0x63, 0xA2, 0x0B, 0x02,
+    0x01, 0x01, 0x02, 0x01, 0x13, 0x02, 0x01, 0x00, 0x30, 0x00,
+];
+
+/// The reply of id 2147483645 with 1.3.6.1.4.1.32473.1.1.0.
+const LATE: &[u8] = &[
+    0x30, 0x2D, 0x02, 0x01, 0x01, 0x04, 0x06, 0x70, 0x75, 0x62, 0x6C, 0x69, 0x63, 0xA2, 0x20, 0x02,
+    0x04, 0x7F, 0xFF, 0xFF, 0xFD, 0x02, 0x01, 0x00, 0x02, 0x01, 0x00, 0x30, 0x12, 0x30, 0x10, 0x06,
+    0x0B, 0x2B, 0x06, 0x01, 0x04, 0x01, 0x81, 0xFD, 0x59, 0x01, 0x01, 0x00, 0x02, 0x01, 0x01,
+];
+
+/// A link to an agent that sends one reply again and again: each time with the last octet of the
+/// id, at `id_at`, one higher, and with the number at `name_at` too, where there is one.
+#[derive(Drop)]
+struct Liar<'a> {
+    reply: &'a [u8],
+    id_at: usize,
+    name_at: Option<usize>,
+    turn: u8,
+}
+
+impl<'a> Link for Liar<'a> {
+    ghost use Rattle.std.specs.Prelude.{[]};
+    ghost use Rattle.snmp_walk.specs.Link.{Agents};
+    ghost use Rattle.snmp_walk.specs.Traffic.{Traffic};
+
+    ghost keeps = { λ _. ⊥ };
+
+    ghost honest = { λ _. ⊥ };
+
+    ghost agents = { λ _. record { tables = []; community = []; max_size = 0 } };
+
+    ghost traffic = { λ _. record { sent = []; ahead = [] } };
+
+    ghost fault_count = { λ _. 0 };
+
+    ghost ready = { λ _ _ _. ⊥ };
+
+    ghost keeping = { λ _ h. h };
+
+    ghost lawful = { λ _ h. absurd h };
+
+    fn send(&mut self, _datagram: &[u8]) -> Result<(), LinkFault> {
+        Ok(())
+    }
+
+    fn receive(&mut self, buffer: &mut [u8]) -> Result<Option<usize>, LinkFault> {
+        let length = self.reply.len();
+        if length > buffer.len() {
+            return Ok(None);
+        }
+        buffer[..length].copy_from_slice(self.reply);
+        if let Some(id) = buffer.get_mut(self.id_at) {
+            *id = id.wrapping_add(self.turn);
+        }
+        if let Some(place) = self.name_at {
+            if let Some(number) = buffer.get_mut(place) {
+                *number = number.wrapping_add(self.turn);
+            }
+        }
+        self.turn = self.turn.wrapping_add(1);
+        Ok(Some(length))
+    }
+
+    fn faults(&self) -> u64 {
+        0
+    }
+}
+
+/// The walk over this liar from this first id gives so many rows and ends so.
+fn assert_end(
+    rt: &impl Abort,
+    mut liar: Liar<'_>,
+    first_id: u32,
+    rows: usize,
+    end: &WalkEnd,
+) -> Result<(), Fail> {
+    let core = WalkCore::start(
+        parse_numeric(b"1.3.6.1.4.1.32473.1")?,
+        Mode::Plain,
+        Method::Next,
+        b"public",
+        first_id & 0x7FFF_FFFF,
+    )?;
+    let mut digits = Digits::new();
+    let ended = run_walk(&mut liar, core, 0, &mut digits);
+    assert!(rt; ended == *end);
+    assert_eq!(rt; digits.rows, rows);
+    Ok(())
+}
+
+/// A liar with this reply, whose first id is 1.
+fn lying(reply: &[u8]) -> Liar<'_> {
+    Liar {
+        reply,
+        id_at: 17,
+        name_at: None,
+        turn: 0,
+    }
+}
+
+#[test]
+fn each_lie_has_its_end(rt: HostRuntime) -> Result<(), Fail> {
+    let last = parse_numeric(b"1.3.6.1.4.1.32473.1.1.0")?;
+    let got = parse_numeric(b"1.3.6.1.4.1.32473.1.1.0")?;
+    let end = WalkEnd::NotIncreasing { last, got };
+    assert_end(&rt, lying(ROW), 1, 1, &end)?;
+    assert_end(&rt, lying(TWO), 1, 0, &WalkEnd::BadReply)?;
+    assert_end(&rt, lying(MISSING), 1, 0, &WalkEnd::BadReply)?;
+    let asked = parse_numeric(b"1.3.6.1.4.1.32473.1")?;
+    assert_end(&rt, lying(NONE), 1, 0, &WalkEnd::NoProgress { asked })?;
+    assert_end(&rt, lying(GENERAL_ERROR), 1, 0, &WalkEnd::Fault(5, 1))?;
+    assert_end(&rt, lying(UNKNOWN_ERROR), 1, 0, &WalkEnd::Fault(19, 0))?;
+    let rising = Liar {
+        reply: LATE,
+        id_at: 20,
+        name_at: Some(42),
+        turn: 0,
+    };
+    assert_end(&rt, rising, 2147483645, 3, &WalkEnd::TooManyRequests)
+}

@@ -1,0 +1,93 @@
+//! A sink and a link that count.
+
+use snmp_walk::{Link, LinkFault, MemoryLink, Sink, SinkFault};
+use snmp_wire::{Binding, ValueRef};
+
+/// Writes the integers of its bindings one after the other, as the digits of a number, and counts
+/// the bindings.
+#[derive(Drop)]
+pub struct Digits {
+    pub number: u64,
+    pub rows: usize,
+}
+
+impl Digits {
+    pub fn new() -> Digits {
+        Digits { number: 0, rows: 0 }
+    }
+}
+
+impl Sink for Digits {
+    ghost takes = { λ _ _ _ _. Unit {0} };
+
+    fn row(&mut self, binding: &Binding<'_>) -> Result<(), SinkFault> {
+        self.rows = self.rows.saturating_add(1);
+        if let ValueRef::Integer(digit) = binding.value {
+            self.number = self
+                .number
+                .wrapping_mul(10)
+                .wrapping_add(u64::from(digit.unsigned_abs()));
+        }
+        Ok(())
+    }
+}
+
+/// A link in memory whose sends are counted, and how many of them were of another request than the
+/// one before.
+#[derive(Drop)]
+pub struct Counted<'a> {
+    pub link: MemoryLink<'a>,
+    pub sends: usize,
+    pub requests: usize,
+    last_id: Option<u8>,
+}
+
+impl<'a> Counted<'a> {
+    pub fn new(link: MemoryLink<'a>) -> Counted<'a> {
+        Counted {
+            link,
+            sends: 0,
+            requests: 0,
+            last_id: None,
+        }
+    }
+}
+
+impl<'a> Link for Counted<'a> {
+    ghost use Rattle.snmp_walk.specs.Memory.{agents_of, traffic_of};
+
+    ghost keeps = { λ _. ⊥ };
+
+    ghost honest = { λ _. ⊥ };
+
+    ghost agents = { λ c. agents_of c.link };
+
+    ghost traffic = { λ c. traffic_of c.link };
+
+    ghost fault_count = { λ c. c.link.fault_count };
+
+    ghost ready = { λ _ _ _. ⊥ };
+
+    ghost keeping = { λ _ h. h };
+
+    ghost lawful = { λ _ h. absurd h };
+
+    fn send(&mut self, datagram: &[u8]) -> Result<(), LinkFault> {
+        // The last octet of the request-id of a request of the community `public`.
+        let id = datagram.get(17).copied();
+        if self.sends == 0 || id != self.last_id {
+            self.requests = self.requests.saturating_add(1);
+        }
+        self.sends = self.sends.saturating_add(1);
+        self.last_id = id;
+        self.link.send(datagram)
+    }
+
+    fn receive(&mut self, buffer: &mut [u8]) -> Result<Option<usize>, LinkFault> {
+        self.link.receive(buffer)
+    }
+
+    fn faults(&self) -> u64 {
+        self.link.faults()
+    }
+}
