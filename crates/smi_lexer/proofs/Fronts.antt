@@ -1,5 +1,36 @@
 -- Steps and ends of a scan for the longest front that passes a test.
-use Rattle.std.proofs.Common.{◌≡◌, ℕ, zero, suc, ◌+◌, ◌-◌, ◌<◌, ◌≤◌, Bool, true, false, ◌&&◌, List, [], ◌∷◌, length, get_or, take, drop, refl, sym, ap, ◌∙◌, arith, length-drop, drop-cons, add-one, add-zero, zero-add, suc-add}
+use Rattle.std.proofs.Common.{
+  ◌≡◌,
+  ℕ,
+  zero,
+  suc,
+  ◌+◌,
+  ◌-◌,
+  ◌<◌,
+  ◌≤◌,
+  Bool,
+  true,
+  false,
+  ◌&&◌,
+  List,
+  [],
+  ◌∷◌,
+  length,
+  get_or,
+  take,
+  drop,
+  refl,
+  sym,
+  ap,
+  ◌∙◌,
+  arith,
+  length-drop,
+  drop-cons,
+  add-one,
+  add-zero,
+  zero-add,
+  suc-add,
+}
 use Rattle.std.proofs.lemmas.Bool.{false≢true}
 use Rattle.std.specs.List.{list_all}
 use Rattle.smi_lexer.specs.Reading.{GoesOn, IsLongestFront}
@@ -32,7 +63,8 @@ module _ (test : List ℕ → Bool) (text : List ℕ) where
         ap (λ m. test (take m text)) place ∙ before.same (suc k) ∙ ap (λ s. test (take (suc k) s)) (rest_at text n here) ∙ step k;
   }
 
-  pub scan_two : (n : ℕ) → n + 1 < length text → ((k : ℕ) → test (get_or text n 0 ∷ get_or text (n + 1) 0 ∷ take k (drop (n + 2) text)) ≡ test (take k (drop (n + 2) text)))
+  pub scan_two : (n : ℕ) → n + 1 < length text → ((k : ℕ)
+      → test (get_or text n 0 ∷ get_or text (n + 1) 0 ∷ take k (drop (n + 2) text)) ≡ test (take k (drop (n + 2) text)))
       → GoesOn test text n → GoesOn test text (n + 2)
   scan_two n here step before = record {
     within = omega arith;

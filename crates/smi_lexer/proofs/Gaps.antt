@@ -1,5 +1,37 @@
 -- Gaps: blank octets and comments, and where none begins.
-use Rattle.std.proofs.Common.{◌≡◌, ℕ, zero, suc, ◌+◌, ◌<◌, ◌≤◌, ◌⊎◌, Bool, true, false, cond, ◌&&◌, Some, List, [], ◌∷◌, length, get_or, take, drop, refl, sym, ap, ◌∙◌, subst, inl, inr, ⊎_elim, arith, eqb}
+use Rattle.std.proofs.Common.{
+  ◌≡◌,
+  ℕ,
+  zero,
+  suc,
+  ◌+◌,
+  ◌<◌,
+  ◌≤◌,
+  ◌⊎◌,
+  Bool,
+  true,
+  false,
+  cond,
+  ◌&&◌,
+  Some,
+  List,
+  [],
+  ◌∷◌,
+  length,
+  get_or,
+  take,
+  drop,
+  refl,
+  sym,
+  ap,
+  ◌∙◌,
+  subst,
+  inl,
+  inr,
+  ⊎_elim,
+  arith,
+  eqb,
+}
 use Rattle.std.specs.List.{list_all}
 use Rattle.std.specs.Bool.{then_some}
 use Rattle.std.specs.Char.{is_ascii_digit, is_ascii_hexdigit, is_ascii_lowercase, is_ascii_uppercase}
@@ -10,7 +42,29 @@ use Rattle.smi_lexer.specs.declared.class.Class.TheVariants.{Blank, Lowercase, U
 use Rattle.smi_lexer.specs.declared.token.TokenKind.{TokenKind}
 use Rattle.smi_lexer.specs.declared.token.TokenKind.TheVariants.{Lower, Upper, Number, Text, Hex, Binary, Assign, Range, Colon, Dot}
 use Rattle.smi_lexer.specs.Lexeme.{gap, lexeme, begins, is_blank, is_hyphen, is_newline, is_binary_digit, is_word_rest}
-use Rattle.smi_lexer.specs.Reading.{HasNoGap, IsLongestFront, IsPartFront, Skips, class_of, hyphen_part, is_comment_rest, is_string_rest, is_literal_rest, is_hex_letter, is_binary_letter, is_nothing, is_remark_rest, is_sole, literal_part, newlines, part_in, part_of, symbol_part, symbol_among, symbols}
+use Rattle.smi_lexer.specs.Reading.{
+  HasNoGap,
+  IsLongestFront,
+  IsPartFront,
+  Skips,
+  class_of,
+  hyphen_part,
+  is_comment_rest,
+  is_string_rest,
+  is_literal_rest,
+  is_hex_letter,
+  is_binary_letter,
+  is_nothing,
+  is_remark_rest,
+  is_sole,
+  literal_part,
+  newlines,
+  part_in,
+  part_of,
+  symbol_part,
+  symbol_among,
+  symbols,
+}
 use Rattle.smi_lexer.proofs.Classes.{class_is}
 use Rattle.smi_lexer.proofs.Fronts.{and_true, rest_at, rest_of_two}
 use Rattle.smi_lexer.proofs.Items.{newlines-cons, newlines-one, skips_gap}
@@ -35,7 +89,8 @@ nothing_front cs = record { within = omega arith; passes = refl; longest = more 
     more (c ∷ cs) (suc m) above within = refl
 
 pub blank_class : (c : ℕ) → is_blank c ≡ true → class_of c ≡ Blank
-blank_class c h = ap (λ b. cond b Blank (cond (is_ascii_lowercase c) Lowercase (cond (is_ascii_uppercase c) Uppercase (cond (is_ascii_digit c) Digit (cond (eqb c 45) Hyphen (cond (eqb c 34) Quote (cond (eqb c 39) Apostrophe (symbol_among symbols c)))))))) h
+blank_class c h = ap (λ b. cond b Blank (cond (is_ascii_lowercase c) Lowercase (cond (is_ascii_uppercase c) Uppercase (cond (is_ascii_digit c) Digit (cond
+    (eqb c 45) Hyphen (cond (eqb c 34) Quote (cond (eqb c 39) Apostrophe (symbol_among symbols c)))))))) h
 
 pub blank_front : (c : ℕ) (cs : List ℕ) → is_blank c ≡ true → IsPartFront part_of (c ∷ cs) gap 1
 blank_front c cs h =
@@ -46,7 +101,8 @@ pub skips_blank : (text : List ℕ) (n lines : ℕ) → n < length text → is_b
     → Skips text n lines → Skips text (n + 1) (lines + newlines (get_or text n 0 ∷ []))
 skips_blank text n lines here blank skips =
     let rest = rest_at text n here in
-    skips_gap text n lines 1 (newlines (get_or text n 0 ∷ [])) (subst (λ s. IsPartFront part_of s gap 1) (sym rest) (blank_front (get_or text n 0) (drop (n + 1) text) blank))
+    skips_gap text n lines 1 (newlines (get_or text n 0 ∷ [])) (subst (λ s. IsPartFront part_of s gap 1) (sym rest) (blank_front (get_or text n 0) (drop
+    (n + 1) text) blank))
     (ap (λ s. newlines (take 1 s)) rest) skips
 
 -- ---- comments
@@ -60,7 +116,8 @@ hyphens_one_line (c ∷ cs) h =
 remark_octet : (c : ℕ) (cs : List ℕ) (a b : Bool) → is_newline c ≡ a → (is_hyphen c && begins is_hyphen cs) ≡ b
     → (is_remark_rest cs ≡ true → newlines cs ≡ 0) → cond a false (cond b (list_all is_hyphen cs) (is_remark_rest cs)) ≡ true → newlines (c ∷ cs) ≡ 0
 remark_octet c cs true b is run rest h = absurd (false≢true h)
-remark_octet c cs false b is run rest h = newlines-cons c cs ∙ ap (λ n. n + newlines cs) (newlines-one c) ∙ ap (λ a. cond a 1 0 + newlines cs) is ∙ ap (λ n. 0 + n) (by_run b h)
+remark_octet c cs false b is run rest h = newlines-cons c cs ∙ ap (λ n. n + newlines cs) (newlines-one c) ∙ ap (λ a. cond a 1 0 + newlines cs) is
+    ∙ ap (λ n. 0 + n) (by_run b h)
   where
     by_run : (b : Bool) → cond b (list_all is_hyphen cs) (is_remark_rest cs) ≡ true → newlines cs ≡ 0
     by_run true h = hyphens_one_line cs h
@@ -88,11 +145,13 @@ comment_part s n front =
 pub skips_comment : (text : List ℕ) (n lines k : ℕ) → n + 1 < length text → get_or text n 0 ≡ 45 → get_or text (n + 1) 0 ≡ 45
     → IsLongestFront is_comment_rest (drop (n + 2) text) k → Skips text n lines → Skips text (n + (2 + k)) (lines + 0)
 skips_comment text n lines k here first second front skips =
-    let rest : drop n text ≡ 45 ∷ 45 ∷ drop (n + 2) text = rest_of_two text n here ∙ ap (λ c. c ∷ get_or text (n + 1) 0 ∷ drop (n + 2) text) first ∙ ap (λ c. 45 ∷ c ∷ drop (n + 2) text) second in
+    let rest : drop n text ≡ 45 ∷ 45 ∷ drop (n + 2) text = rest_of_two text n here ∙ ap (λ c. c ∷ get_or text (n + 1) 0 ∷ drop (n + 2) text) first
+    ∙ ap (λ c. 45 ∷ c ∷ drop (n + 2) text) second in
     let two : 2 + k ≡ suc (suc k) = omega arith in
     skips_gap text n lines (2 + k) 0 (subst (λ s. IsPartFront part_of s gap (2 + k)) (sym rest) (comment_part (drop (n + 2) text) k front))
     (ap (λ s. newlines (take (2 + k) s)) rest ∙ ap (λ m. newlines (take m (45 ∷ 45 ∷ drop (n + 2) text))) two
-    ∙ newlines-cons 45 (45 ∷ take k (drop (n + 2) text)) ∙ ap (λ m. 0 + m) (newlines-cons 45 (take k (drop (n + 2) text)) ∙ ap (λ m. 0 + m) (comment_one_line (take k (drop (n + 2) text)) front.passes)))
+    ∙ newlines-cons 45 (45 ∷ take k (drop (n + 2) text)) ∙ ap (λ m. 0 + m) (newlines-cons 45 (take k (drop (n + 2) text))
+    ∙ ap (λ m. 0 + m) (comment_one_line (take k (drop (n + 2) text)) front.passes)))
     skips
 
 -- ---- where no gap begins

@@ -1,12 +1,56 @@
 -- The computed items of a text: what its longest front makes of them.
-use Rattle.std.proofs.Common.{◌≡◌, ℕ, zero, suc, ◌+◌, ◌<◌, ◌≤◌, ◌⊎◌, cond, Option, Some, None, Ok, Err, List, [], ◌∷◌, length, take, drop, refl, sym, ap, ◌∙◌, subst, inl, inr, arith, zero-add, length-take-le}
+use Rattle.std.proofs.Common.{
+  ◌≡◌,
+  ℕ,
+  zero,
+  suc,
+  ◌+◌,
+  ◌<◌,
+  ◌≤◌,
+  ◌⊎◌,
+  cond,
+  Option,
+  Some,
+  None,
+  Ok,
+  Err,
+  List,
+  [],
+  ◌∷◌,
+  length,
+  take,
+  drop,
+  refl,
+  sym,
+  ap,
+  ◌∙◌,
+  subst,
+  inl,
+  inr,
+  arith,
+  zero-add,
+  length-take-le,
+}
 use Rattle.std.proofs.lemmas.Bool.{cases_lt}
 use Rattle.std.proofs.lemmas.List.{drop-drop}
 use Rattle.std.proofs.lemmas.List.Sums.{sum_by-append}
 use Rattle.smi_lexer.specs.declared.token.TokenKind.{TokenKind}
 use Rattle.smi_lexer.specs.Lexeme.{Part, gap, lexeme, is_newline}
 use Rattle.smi_lexer.specs.Lexes.{fault_on}
-use Rattle.smi_lexer.specs.Reading.{HasNoGap, HasNoLexeme, IsPartFront, Skips, part_of, part_or_shorter, longest_front, front_items, front_rest, part_items, items_at, newlines}
+use Rattle.smi_lexer.specs.Reading.{
+  HasNoGap,
+  HasNoLexeme,
+  IsPartFront,
+  Skips,
+  part_of,
+  part_or_shorter,
+  longest_front,
+  front_items,
+  front_rest,
+  part_items,
+  items_at,
+  newlines,
+}
 use Rattle.smi_lexer.proofs.Parts.{none_some}
 
 -- ---- the longest front
@@ -19,7 +63,8 @@ longest_is (suc n) text part k front some above within = by_place (cases_lt n k)
     by_place : (n < k) ⊎ (k ≤ n) → (k ≤ n → longest_front n text ≡ Some (part, k)) → longest_front (suc n) text ≡ Some (part, k)
     by_place (inl here) below =
         let same : k ≡ suc n = omega arith in
-        ap (λ r. part_or_shorter (suc n) r (longest_front n text)) (ap (λ m. part_of (take m text)) (sym same) ∙ front.reads) ∙ ap (λ m. Some (part, m)) (sym same)
+        ap (λ r. part_or_shorter (suc n) r (longest_front n text)) (ap (λ m. part_of (take m text)) (sym same) ∙ front.reads)
+        ∙ ap (λ m. Some (part, m)) (sym same)
     by_place (inr shorter) below =
         ap (λ r. part_or_shorter (suc n) r (longest_front n text)) (front.longest (suc n) (omega arith) within) ∙ below shorter
 
@@ -64,7 +109,8 @@ items-front [] part zero at before front = absurd (none_some part front.reads)
 items-front [] part (suc k) at before front = absurd (none_some part front.reads)
 items-front (c ∷ cs) part zero at before front = absurd (none_some part front.reads)
 items-front (c ∷ cs) part (suc k) at before front =
-    let found : longest_front (length (c ∷ cs)) (c ∷ cs) ≡ Some (part, suc k) = longest_is (length (c ∷ cs)) (c ∷ cs) part (suc k) front (omega arith) front.within (omega arith) in
+    let found : longest_front (length (c ∷ cs)) (c ∷ cs) ≡ Some (part, suc k) = longest_is (length (c ∷ cs)) (c ∷ cs) part (suc k) front
+    (omega arith) front.within (omega arith) in
     let place : (at + 1) + k ≡ at + suc k = omega arith in
     let line : (before + newlines (c ∷ [])) + newlines (take k cs) ≡ before + newlines (c ∷ take k cs) = omega (arith, newlines-cons c (take k cs)) in
     ap (λ f. front_items at before (c ∷ cs) f (items_at (front_rest f) (at + 1) (before + newlines (c ∷ [])) cs)) found
@@ -124,7 +170,8 @@ module _ (unread text : List ℕ) (at before n ended : ℕ) (skips : Skips unrea
       → items_at 0 at before unread ≡ Err (fault_on ((before + ended) + 1) text) ∷ []
   next_faults some gaps lexemes = behind_gaps ∙ by_text text some (subst HasNoGap (sym is_rest) gaps) lexemes
     where
-      by_text : (s : List ℕ) → (length s ≡ 0 → ⊥) → HasNoGap s → HasNoLexeme part_of s → items_at 0 (at + n) (before + ended) s ≡ Err (fault_on ((before + ended) + 1) s) ∷ []
+      by_text : (s : List ℕ) → (length s ≡ 0 → ⊥) → HasNoGap s → HasNoLexeme part_of s
+          → items_at 0 (at + n) (before + ended) s ≡ Err (fault_on ((before + ended) + 1) s) ∷ []
       by_text [] some gaps lexemes = absurd (some refl)
       by_text (c ∷ cs) some gaps lexemes = items-fault c cs (at + n) (before + ended) gaps lexemes
 

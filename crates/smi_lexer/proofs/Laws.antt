@@ -1,5 +1,38 @@
 -- The computed items are those that `Lexes` says, and no others are.
-use Rattle.std.proofs.Common.{◌≡◌, ℕ, zero, suc, ◌+◌, ◌-◌, ◌<◌, ◌≤◌, cond, Option, Some, None, Ok, List, [], ◌∷◌, ◌++◌, length, take, drop, refl, sym, ap, ◌∙◌, subst, ⊎_elim, arith, length-append, length-take-le, length-drop, append_assoc, slice_range}
+use Rattle.std.proofs.Common.{
+  ◌≡◌,
+  ℕ,
+  zero,
+  suc,
+  ◌+◌,
+  ◌-◌,
+  ◌<◌,
+  ◌≤◌,
+  cond,
+  Option,
+  Some,
+  None,
+  Ok,
+  List,
+  [],
+  ◌∷◌,
+  ◌++◌,
+  length,
+  take,
+  drop,
+  refl,
+  sym,
+  ap,
+  ◌∙◌,
+  subst,
+  ⊎_elim,
+  arith,
+  length-append,
+  length-take-le,
+  length-drop,
+  append_assoc,
+  slice_range,
+}
 use Rattle.std.proofs.lemmas.Bool.{cases_lt}
 use Rattle.std.proofs.lemmas.List.{take_all, take-append-drop}
 use Rattle.std.proofs.Math.Seq.{drop-append_seam}
@@ -37,13 +70,16 @@ abbrev Finds : ℕ → List ℕ → Option (Part × ℕ) → Type 0
 Finds n text None = (m : ℕ) → m ≤ n → part_of (take m text) ≡ None
 Finds n text (Some front) = (front.1 ≤ n) × (part_of (take front.1 text) ≡ Some front.0) × ((m : ℕ) → front.1 < m → m ≤ n → part_of (take m text) ≡ None)
 
-finds_step : (n : ℕ) (text : List ℕ) (r : Option Part) (found : Option (Part × ℕ)) → part_of (take (suc n) text) ≡ r → Finds n text found → Finds (suc n) text (part_or_shorter (suc n) r found)
+finds_step : (n : ℕ) (text : List ℕ) (r : Option Part) (found : Option (Part × ℕ)) → part_of (take (suc n) text) ≡ r → Finds n text found
+    → Finds (suc n) text (part_or_shorter (suc n) r found)
 finds_step n text (Some part) found is below = (omega arith, is, λ m above within. absurd (omega arith))
-finds_step n text None None is below = λ m within. ⊎_elim (λ here. ap (λ k. part_of (take k text)) (let e : m ≡ suc n = omega arith in e) ∙ is) (λ shorter. below m shorter) (cases_lt n m)
+finds_step n text None None is below = λ m within. ⊎_elim (λ here. ap (λ k. part_of (take k text)) (let e : m ≡ suc n = omega arith in e)
+    ∙ is) (λ shorter. below m shorter) (cases_lt n m)
 finds_step n text None (Some front) is below = (
   omega (arith, below.0),
   below.1,
-  λ m above within. ⊎_elim (λ here. ap (λ k. part_of (take k text)) (let e : m ≡ suc n = omega arith in e) ∙ is) (λ shorter. below.2 m above shorter) (cases_lt n m),
+  λ m above within. ⊎_elim (λ here. ap (λ k. part_of (take k text)) (let e : m ≡ suc n = omega arith in e)
+      ∙ is) (λ shorter. below.2 m above shorter) (cases_lt n m),
 )
 
 finds : (n : ℕ) (text : List ℕ) → Finds n text (longest_front n text)
@@ -55,15 +91,18 @@ finds (suc n) text = finds_step n text (part_of (take (suc n) text)) (longest_fr
 
 -- behind a front of n octets
 behind : (before text : List ℕ) (n : ℕ) → n ≤ length text
-    → items_at 0 (length (before ++ take n text)) (newlines (before ++ take n text)) (drop n text) ≡ items_at 0 (length before + n) (newlines before + newlines (take n text)) (drop n text)
+    → items_at 0 (length (before ++ take n text)) (newlines (before ++ take n text)) (drop n text) ≡ items_at 0 (length before + n)
+    (newlines before + newlines (take n text)) (drop n text)
 behind before text n within =
-    ap (λ at. items_at 0 at (newlines (before ++ take n text)) (drop n text)) (length-append before (take n text) ∙ ap (λ k. length before + k) (length-take-le n text within))
+    ap (λ at. items_at 0 at (newlines (before ++ take n text)) (drop n text)) (length-append before (take n text)
+    ∙ ap (λ k. length before + k) (length-take-le n text within))
     ∙ ap (λ lines. items_at 0 (length before + n) lines (drop n text)) (sum_by-append (λ c. cond (is_newline c) 1 0) before (take n text))
 
 -- no front at all is a part
 none_of : (text : List ℕ) → Finds (length text) text None → (m : ℕ) → part_of (take m text) ≡ None
 none_of text none m = ⊎_elim
-    (λ longer. let past : length text ≤ m = omega arith in ap part_of (take_all m text past ∙ sym (take_all (length text) text (omega arith))) ∙ none (length text) (omega arith))
+    (λ longer. let past : length text ≤ m = omega arith in ap part_of (take_all m text past ∙ sym (take_all (length text) text (omega arith)))
+    ∙ none (length text) (omega arith))
     (λ within. none m within) (cases_lt (length text) m)
 
 -- ---- the items
@@ -74,14 +113,17 @@ lexes n before [] within = subst (Lexes before []) (sym (items-nothing (length b
 lexes zero before (c ∷ cs) within = absurd (omega arith)
 lexes (suc n) before (c ∷ cs) within = by_front (longest_front (length (c ∷ cs)) (c ∷ cs)) (finds (length (c ∷ cs)) (c ∷ cs)) (lexes n)
   where
-    by_part : (part : Part) (k : ℕ) → IsPartFront part_of (c ∷ cs) part k → Lexes (before ++ take k (c ∷ cs)) (drop k (c ∷ cs)) (items_at 0 (length (before ++ take k (c ∷ cs))) (newlines (before ++ take k (c ∷ cs))) (drop k (c ∷ cs)))
+    by_part : (part : Part) (k : ℕ) → IsPartFront part_of (c ∷ cs) part k
+        → Lexes (before ++ take k (c ∷ cs)) (drop k (c ∷ cs)) (items_at 0 (length (before ++ take k (c ∷ cs))) (newlines (before ++ take k (c ∷ cs))) (drop k
+        (c ∷ cs)))
         → Lexes before (c ∷ cs) (items_at 0 (length before) (newlines before) (c ∷ cs))
     by_part gap k front rest =
         subst (Lexes before (c ∷ cs)) (behind before (c ∷ cs) k front.within ∙ sym (items-front (c ∷ cs) gap k (length before) (newlines before) front))
         (passes k (longest-front gap k (c ∷ cs) front) rest)
     by_part (lexeme kind) k front rest =
         subst (Lexes before (c ∷ cs))
-        (ap (λ items. Ok (lexeme_behind before kind (take k (c ∷ cs))) ∷ items) (behind before (c ∷ cs) k front.within) ∙ sym (items-front (c ∷ cs) (lexeme kind) k (length before) (newlines before) front))
+        (ap (λ items. Ok (lexeme_behind before kind (take k (c ∷ cs))) ∷ items) (behind before (c ∷ cs) k front.within)
+        ∙ sym (items-front (c ∷ cs) (lexeme kind) k (length before) (newlines before) front))
         (gives kind k (longest-front (lexeme kind) k (c ∷ cs) front) rest)
 
     by_front : (found : Option (Part × ℕ)) → Finds (length (c ∷ cs)) (c ∷ cs) found
@@ -105,7 +147,8 @@ sole_items (gives {before} {text} {items} kind n longest rest) =
     ap (λ more. Ok (lexeme_behind before kind (take n text)) ∷ more) (sole_items rest ∙ behind before text n longest.within)
     ∙ sym (items-front text (lexeme kind) n (length before) (newlines before) (front-longest (lexeme kind) n text longest))
 sole_items (breaks {before} c cs none) =
-    sym (items-none c cs (length before) (newlines before) (λ m. none_unless (part_of (take m (c ∷ cs))) (λ part h. none part m (part_is (take m (c ∷ cs)) part h))))
+    sym (items-none c cs (length before) (newlines before) (λ m. none_unless (part_of (take m (c ∷ cs))) (λ part h. none part m (part_is (take m
+    (c ∷ cs)) part h))))
 
 pub one_list : (before text : List ℕ) (xs ys : List Item) → Lexes before text xs → Lexes before text ys → xs ≡ ys
 one_list before text xs ys first second = sole_items first ∙ sym (sole_items second)
@@ -126,7 +169,8 @@ pub in_order : {before text : List ℕ} {items : List Item} → Lexes before tex
 in_order ends = tt
 in_order (passes {before} {text} {items} n longest rest) =
     earlier (before ++ text) (length before) (length (before ++ take n text)) (tokens_of items) (omega (arith, length-append before (take n text)))
-    (subst (λ s. AreInOrder s (length (before ++ take n text)) (tokens_of items)) (append_assoc before (take n text) (drop n text) ∙ ap (λ s. before ++ s) (take-append-drop n text)) (in_order rest))
+    (subst (λ s. AreInOrder s (length (before ++ take n text)) (tokens_of items)) (append_assoc before (take n text) (drop n text)
+    ∙ ap (λ s. before ++ s) (take-append-drop n text)) (in_order rest))
 in_order (gives {before} {text} {items} kind n longest rest) =
     let some : 0 < n = front_some text (lexeme kind) n (front-longest (lexeme kind) n text longest) in
     let len = length-take-le n text longest.within in (
@@ -135,6 +179,7 @@ in_order (gives {before} {text} {items} kind n longest rest) =
       omega (arith, len, longest.within, length-append before text),
       span_of before text n longest.within,
       subst (λ at. AreInOrder (before ++ text) at (tokens_of items)) (length-append before (take n text))
-          (subst (λ s. AreInOrder s (length (before ++ take n text)) (tokens_of items)) (append_assoc before (take n text) (drop n text) ∙ ap (λ s. before ++ s) (take-append-drop n text)) (in_order rest)),
+          (subst (λ s. AreInOrder s (length (before ++ take n text)) (tokens_of items)) (append_assoc before (take n text) (drop n text)
+          ∙ ap (λ s. before ++ s) (take-append-drop n text)) (in_order rest)),
     )
 in_order (breaks c cs none) = tt

@@ -1,5 +1,38 @@
 -- A stretch of octets is a part exactly where it reads as one.
-use Rattle.std.proofs.Common.{◌≡◌, ◌≢◌, ℕ, ◌≤◌, ◌⊎◌, Bool, true, false, cond, not, ◌&&◌, ◌||◌, Some, List, [], ◌∷◌, ◌++◌, length, refl, sym, ap, ◌∙◌, subst, inl, inr, ⊎_elim, arith, eqb, codes, append_assoc, append-nil, ◌+◌}
+use Rattle.std.proofs.Common.{
+  ◌≡◌,
+  ◌≢◌,
+  ℕ,
+  ◌≤◌,
+  ◌⊎◌,
+  Bool,
+  true,
+  false,
+  cond,
+  not,
+  ◌&&◌,
+  ◌||◌,
+  Some,
+  List,
+  [],
+  ◌∷◌,
+  ◌++◌,
+  length,
+  refl,
+  sym,
+  ap,
+  ◌∙◌,
+  subst,
+  inl,
+  inr,
+  ⊎_elim,
+  arith,
+  eqb,
+  codes,
+  append_assoc,
+  append-nil,
+  ◌+◌,
+}
 use Rattle.std.specs.List.{list_all}
 use Rattle.std.specs.Bool.{then_some}
 use Rattle.std.specs.Char.{is_ascii_digit, is_ascii_hexdigit, is_ascii_lowercase, is_ascii_uppercase}
@@ -9,9 +42,68 @@ use Rattle.std.proofs.lemmas.Bool.{eqb-true, false≢true}
 use Rattle.smi_lexer.specs.declared.class.Class.{Class}
 use Rattle.smi_lexer.specs.declared.class.Class.TheVariants.{Blank, Lowercase, Uppercase, Digit, Hyphen, Quote, Apostrophe, Symbol, Other}
 use Rattle.smi_lexer.specs.declared.token.TokenKind.{TokenKind}
-use Rattle.smi_lexer.specs.declared.token.TokenKind.TheVariants.{Lower, Upper, Number, Text, Hex, Binary, Assign, Range, OpenBrace, CloseBrace, OpenParen, CloseParen, OpenBracket, CloseBracket, Less, Greater, Comma, Semicolon, Colon, Bar, Dot, Equals}
-use Rattle.smi_lexer.specs.Lexeme.{IsComment, IsLexeme, IsLiteral, IsNumber, IsPart, IsRun, IsString, IsWord, Part, begins, gap, is_binary_digit, is_hyphen, is_newline, is_remark, is_word_rest, lexeme, is_word_octet}
-use Rattle.smi_lexer.specs.Reading.{class_of, hyphen_part, is_binary_letter, is_comment_rest, is_hex_letter, is_literal_rest, is_nothing, is_other, is_remark_rest, is_sole, is_string_rest, literal_part, part_in, part_of, symbol_part, newlines}
+use Rattle.smi_lexer.specs.declared.token.TokenKind.TheVariants.{
+  Lower,
+  Upper,
+  Number,
+  Text,
+  Hex,
+  Binary,
+  Assign,
+  Range,
+  OpenBrace,
+  CloseBrace,
+  OpenParen,
+  CloseParen,
+  OpenBracket,
+  CloseBracket,
+  Less,
+  Greater,
+  Comma,
+  Semicolon,
+  Colon,
+  Bar,
+  Dot,
+  Equals,
+}
+use Rattle.smi_lexer.specs.Lexeme.{
+  IsComment,
+  IsLexeme,
+  IsLiteral,
+  IsNumber,
+  IsPart,
+  IsRun,
+  IsString,
+  IsWord,
+  Part,
+  begins,
+  gap,
+  is_binary_digit,
+  is_hyphen,
+  is_newline,
+  is_remark,
+  is_word_rest,
+  lexeme,
+  is_word_octet,
+}
+use Rattle.smi_lexer.specs.Reading.{
+  class_of,
+  hyphen_part,
+  is_binary_letter,
+  is_comment_rest,
+  is_hex_letter,
+  is_literal_rest,
+  is_nothing,
+  is_other,
+  is_remark_rest,
+  is_sole,
+  is_string_rest,
+  literal_part,
+  part_in,
+  part_of,
+  symbol_part,
+  newlines,
+}
 use Rattle.smi_lexer.proofs.Classes.{class_is}
 use Rattle.smi_lexer.proofs.Fronts.{and_true}
 use Rattle.smi_lexer.proofs.Gaps.{blank_class}
@@ -59,7 +151,8 @@ literal_body is_digit is_letter [] h = absurd (false≢true h)
 literal_body is_digit is_letter (c ∷ cs) h = by_quote (eqb c 39) refl h (literal_body is_digit is_letter cs)
   where
     by_quote : (b : Bool) → eqb c 39 ≡ b → cond b (is_sole is_letter cs) (is_digit c && is_literal_rest is_digit is_letter cs) ≡ true
-        → (is_literal_rest is_digit is_letter cs ≡ true → (digits : List ℕ) × (letter : ℕ) × (cs ≡ digits ++ 39 ∷ letter ∷ []) × (list_all is_digit digits ≡ true) × (is_letter letter ≡ true))
+        → (is_literal_rest is_digit is_letter cs ≡ true
+        → (digits : List ℕ) × (letter : ℕ) × (cs ≡ digits ++ 39 ∷ letter ∷ []) × (list_all is_digit digits ≡ true) × (is_letter letter ≡ true))
         → (digits : List ℕ) × (letter : ℕ) × (c ∷ cs ≡ digits ++ 39 ∷ letter ∷ []) × (list_all is_digit digits ≡ true) × (is_letter letter ≡ true)
     by_quote true is h rest =
         let last = sole_is is_letter cs h in
@@ -70,10 +163,18 @@ literal_body is_digit is_letter (c ∷ cs) h = by_quote (eqb c 39) refl h (liter
         (c ∷ r.0, r.1, ap (λ s. c ∷ s) r.2, ap (λ b. b && list_all is_digit r.0) both.0 ∙ r.3, r.4)
 
 -- behind the first quote
-literal_is : (is_digit : ℕ → Bool) (upper lower : ℕ) (s : List ℕ) → is_literal_rest is_digit (λ c. eqb c upper || eqb c lower) s ≡ true → IsLiteral is_digit upper lower (39 ∷ s)
+literal_is : (is_digit : ℕ → Bool) (upper lower : ℕ) (s : List ℕ) → is_literal_rest is_digit (λ c. eqb c upper || eqb c lower) s ≡ true
+    → IsLiteral is_digit upper lower (39 ∷ s)
 literal_is is_digit upper lower s h =
-    let r = literal_body is_digit (λ c. eqb c upper || eqb c lower) s h in
-    (r.0, r.1, ap (λ t. 39 ∷ t) r.2 ∙ sym (append_assoc (39 ∷ r.0) (39 ∷ []) (r.1 ∷ [])), r.3, ⊎_elim (λ e. inl (eqb-true r.1 upper e)) (λ e. inr (eqb-true r.1 lower e)) (or_either (eqb r.1 upper) (eqb r.1 lower) r.4))
+    let r = literal_body is_digit (λ c. eqb c upper || eqb c lower) s h in (
+      r.0,
+      r.1,
+      ap (λ t. 39 ∷ t) r.2
+          ∙ sym (append_assoc (39 ∷ r.0) (39 ∷ []) (r.1 ∷ [])),
+      r.3,
+      ⊎_elim (λ e. inl (eqb-true r.1 upper e)) (λ e. inr (eqb-true r.1 lower e)) (or_either
+          (eqb r.1 upper) (eqb r.1 lower) r.4),
+    )
 
 literal_part_is : (s : List ℕ) (part : Part) → literal_part s ≡ Some part → IsPart part (39 ∷ s)
 literal_part_is s part h = by_hex (is_literal_rest is_ascii_hexdigit is_hex_letter s) refl h
@@ -96,11 +197,13 @@ run_is : (c : ℕ) (cs : List ℕ) → (is_hyphen c && begins is_hyphen cs) ≡ 
 run_is c [] two all = absurd (false≢true (sym (and-false (is_hyphen c)) ∙ two))
 run_is c (d ∷ ds) two all = (omega arith, ap (λ b. b && list_all is_hyphen (d ∷ ds)) (and_true (is_hyphen c) (is_hyphen d) two).0 ∙ all)
 
-remark_body : (s : List ℕ) → is_remark_rest s ≡ true → (remark closing : List ℕ) × (s ≡ remark ++ closing) × (is_remark remark ≡ true) × ((closing ≡ []) ⊎ IsRun closing)
+remark_body : (s : List ℕ) → is_remark_rest s ≡ true
+    → (remark closing : List ℕ) × (s ≡ remark ++ closing) × (is_remark remark ≡ true) × ((closing ≡ []) ⊎ IsRun closing)
 remark_body [] h = ([], [], refl, refl, inl refl)
 remark_body (c ∷ cs) h = by_octet (is_newline c) refl (is_hyphen c && begins is_hyphen cs) refl h (remark_body cs)
   where
-    by_octet : (a : Bool) → is_newline c ≡ a → (b : Bool) → (is_hyphen c && begins is_hyphen cs) ≡ b → cond a false (cond b (list_all is_hyphen cs) (is_remark_rest cs)) ≡ true
+    by_octet : (a : Bool) → is_newline c ≡ a → (b : Bool) → (is_hyphen c && begins is_hyphen cs) ≡ b
+        → cond a false (cond b (list_all is_hyphen cs) (is_remark_rest cs)) ≡ true
         → (is_remark_rest cs ≡ true → (remark closing : List ℕ) × (cs ≡ remark ++ closing) × (is_remark remark ≡ true) × ((closing ≡ []) ⊎ IsRun closing))
         → (remark closing : List ℕ) × (c ∷ cs ≡ remark ++ closing) × (is_remark remark ≡ true) × ((closing ≡ []) ⊎ IsRun closing)
     by_octet true newline b run h rest = absurd (false≢true h)
@@ -115,7 +218,8 @@ remark_body (c ∷ cs) h = by_octet (is_newline c) refl (is_hyphen c && begins i
           r.4,
         )
 
-comment_body : (s : List ℕ) → is_comment_rest s ≡ true → (opening rest : List ℕ) × (s ≡ opening ++ rest) × (list_all is_hyphen opening ≡ true) × (is_remark_rest rest ≡ true)
+comment_body : (s : List ℕ) → is_comment_rest s ≡ true
+    → (opening rest : List ℕ) × (s ≡ opening ++ rest) × (list_all is_hyphen opening ≡ true) × (is_remark_rest rest ≡ true)
 comment_body [] h = ([], [], refl, refl, refl)
 comment_body (c ∷ cs) h = by_hyphen (is_hyphen c) refl h (comment_body cs)
   where
@@ -154,7 +258,8 @@ hyphen_part_is : (s : List ℕ) (part : Part) → hyphen_part s ≡ Some part �
 hyphen_part_is [] part h = absurd (none_some part h)
 hyphen_part_is (c ∷ cs) part h = by_hyphen (is_hyphen c) refl h
   where
-    by_hyphen : (b : Bool) → is_hyphen c ≡ b → cond b (then_some (is_comment_rest cs) gap) (then_some (list_all is_ascii_digit (c ∷ cs)) (lexeme Number)) ≡ Some part → IsPart part (45 ∷ c ∷ cs)
+    by_hyphen : (b : Bool) → is_hyphen c ≡ b
+        → cond b (then_some (is_comment_rest cs) gap) (then_some (list_all is_ascii_digit (c ∷ cs)) (lexeme Number)) ≡ Some part → IsPart part (45 ∷ c ∷ cs)
     by_hyphen true is h =
         let r = if_some (is_comment_rest cs) gap part h in
         subst (λ p. IsPart p (45 ∷ c ∷ cs)) r.1 (inr (subst (λ d. IsComment (45 ∷ d ∷ cs)) (sym (eqb-true c 45 is)) (two_hyphens cs r.0)))
@@ -225,7 +330,8 @@ hex_no_quote c h = grind (arith, nat_tests)
 binary_no_quote : (c : ℕ) → is_binary_digit c ≡ true → is_other 39 c ≡ true
 binary_no_quote c h = grind (arith, nat_tests)
 
-all_other : (p : ℕ → Bool) (octet : ℕ) → ((c : ℕ) → p c ≡ true → is_other octet c ≡ true) → (s : List ℕ) → list_all p s ≡ true → list_all (is_other octet) s ≡ true
+all_other : (p : ℕ → Bool) (octet : ℕ) → ((c : ℕ) → p c ≡ true → is_other octet c ≡ true) → (s : List ℕ) → list_all p s ≡ true
+    → list_all (is_other octet) s ≡ true
 all_other p octet apart [] h = refl
 all_other p octet apart (c ∷ cs) h =
     let both = and_true (p c) (list_all p cs) h in
@@ -249,7 +355,8 @@ unfolding part_of
 hex_of s (digits, letter, is, all, case) =
     ap part_of (is ∙ append_assoc (39 ∷ digits) (39 ∷ []) (letter ∷ []))
     ∙ literal_reads digits (letter ∷ []) (all_other is_ascii_hexdigit 39 hex_no_quote digits all) ∙ literal_exact digits letter
-    ∙ ap (λ b. cond (b && is_hex_letter letter) (Some (lexeme Hex)) (then_some (list_all is_binary_digit digits && is_binary_letter letter) (lexeme Binary))) all
+    ∙ ap (λ b. cond (b && is_hex_letter letter) (Some (lexeme Hex)) (then_some (list_all is_binary_digit digits && is_binary_letter letter)
+    (lexeme Binary))) all
     ∙ ap (λ b. cond b (Some (lexeme Hex)) (then_some (list_all is_binary_digit digits && is_binary_letter letter) (lexeme Binary))) (letter_of case)
   where
     letter_of : (letter ≡ 72) ⊎ (letter ≡ 104) → is_hex_letter letter ≡ true
@@ -262,8 +369,10 @@ binary_of s (digits, letter, is, all, case) =
     let letters = letter_of case in
     ap part_of (is ∙ append_assoc (39 ∷ digits) (39 ∷ []) (letter ∷ []))
     ∙ literal_reads digits (letter ∷ []) (all_other is_binary_digit 39 binary_no_quote digits all) ∙ literal_exact digits letter
-    ∙ ap (λ b. cond (list_all is_ascii_hexdigit digits && b) (Some (lexeme Hex)) (then_some (list_all is_binary_digit digits && is_binary_letter letter) (lexeme Binary))) letters.0
-    ∙ ap (λ b. cond b (Some (lexeme Hex)) (then_some (list_all is_binary_digit digits && is_binary_letter letter) (lexeme Binary))) (and-false (list_all is_ascii_hexdigit digits))
+    ∙ ap (λ b. cond (list_all is_ascii_hexdigit digits && b) (Some (lexeme Hex)) (then_some (list_all is_binary_digit digits && is_binary_letter letter)
+    (lexeme Binary))) letters.0
+    ∙ ap (λ b. cond b (Some (lexeme Hex)) (then_some (list_all is_binary_digit digits && is_binary_letter letter) (lexeme Binary))) (and-false
+    (list_all is_ascii_hexdigit digits))
     ∙ ap (λ b. then_some (b && is_binary_letter letter) (lexeme Binary)) all
     ∙ ap (λ b. then_some b (lexeme Binary)) letters.1
   where
@@ -284,7 +393,8 @@ number_of : (s : List ℕ) → IsNumber s → part_of s ≡ Some (lexeme Number)
 unfolding part_of
 number_of s (sign, digits, is, signs, some, all) = ap part_of is ∙ by_sign sign signs digits some all
   where
-    by_sign : (sign : List ℕ) → (sign ≡ []) ⊎ (sign ≡ codes "-") → (digits : List ℕ) → digits ≢ [] → list_all is_ascii_digit digits ≡ true → part_of (sign ++ digits) ≡ Some (lexeme Number)
+    by_sign : (sign : List ℕ) → (sign ≡ []) ⊎ (sign ≡ codes "-") → (digits : List ℕ) → digits ≢ [] → list_all is_ascii_digit digits ≡ true
+        → part_of (sign ++ digits) ≡ Some (lexeme Number)
     by_sign sign signs [] some all = absurd (some refl)
     by_sign sign (inl none) (d ∷ ds) some all =
         let both = and_true (is_ascii_digit d) (list_all is_ascii_digit ds) all in
@@ -333,8 +443,10 @@ hyphens_read (c ∷ d ∷ cs) h =
     let next = and_true (is_hyphen d) (list_all is_hyphen cs) both.1 in
     ap (λ e. is_remark_rest (e ∷ d ∷ cs)) (eqb-true c 45 both.0) ∙ ap (λ e. is_remark_rest (45 ∷ e ∷ cs)) (eqb-true d 45 next.0) ∙ next.1
 
-remark_octet_reads : (c : ℕ) (cs closing : List ℕ) (b : Bool) → (is_hyphen c && begins is_hyphen (cs ++ closing)) ≡ b → not (is_hyphen c && begins is_hyphen cs) ≡ true
-    → list_all is_hyphen closing ≡ true → is_remark_rest (cs ++ closing) ≡ true → cond b (list_all is_hyphen (cs ++ closing)) (is_remark_rest (cs ++ closing)) ≡ true
+remark_octet_reads : (c : ℕ) (cs closing : List ℕ) (b : Bool) → (is_hyphen c && begins is_hyphen (cs ++ closing)) ≡ b
+    → not (is_hyphen c && begins is_hyphen cs) ≡ true
+    → list_all is_hyphen closing ≡ true → is_remark_rest (cs ++ closing) ≡ true
+    → cond b (list_all is_hyphen (cs ++ closing)) (is_remark_rest (cs ++ closing)) ≡ true
 remark_octet_reads c cs closing false is alone run rest = rest
 remark_octet_reads c [] closing true is alone run rest = run
 remark_octet_reads c (d ∷ ds) closing true is alone run rest = absurd (false≢true (sym (ap not is) ∙ alone))
@@ -348,7 +460,8 @@ remark_reads [] closing remark_is run = hyphens_read closing run
 remark_reads (c ∷ cs) closing remark_is run =
     let both = and_true (not (is_newline c) && not (is_hyphen c && begins is_hyphen cs)) (is_remark cs) remark_is in
     let here = and_true (not (is_newline c)) (not (is_hyphen c && begins is_hyphen cs)) both.0 in
-    ap (λ b. cond b false (cond (is_hyphen c && begins is_hyphen (cs ++ closing)) (list_all is_hyphen (cs ++ closing)) (is_remark_rest (cs ++ closing)))) (not_true (is_newline c) here.0)
+    ap (λ b. cond b false (cond (is_hyphen c && begins is_hyphen (cs ++ closing)) (list_all is_hyphen (cs ++ closing)) (is_remark_rest (cs ++ closing))))
+    (not_true (is_newline c) here.0)
     ∙ remark_octet_reads c cs closing (is_hyphen c && begins is_hyphen (cs ++ closing)) refl here.1 run (remark_reads cs closing both.1 run)
 
 hyphens_before : (front rest : List ℕ) → list_all is_hyphen front ≡ true → is_comment_rest rest ≡ true → is_comment_rest (front ++ rest) ≡ true
@@ -395,7 +508,8 @@ others_one_line : (s : List ℕ) → list_all (is_other 10) s ≡ true → newli
 others_one_line [] h = refl
 others_one_line (c ∷ cs) h =
     let both = and_true (is_other 10 c) (list_all (is_other 10) cs) h in
-    newlines-cons c cs ∙ ap (λ n. n + newlines cs) (newlines-one c) ∙ ap (λ b. cond b 1 0 + newlines cs) (not_true (is_newline c) both.0) ∙ ap (λ n. 0 + n) (others_one_line cs both.1)
+    newlines-cons c cs ∙ ap (λ n. n + newlines cs) (newlines-one c) ∙ ap (λ b. cond b 1 0 + newlines cs) (not_true (is_newline c) both.0)
+    ∙ ap (λ n. 0 + n) (others_one_line cs both.1)
 
 word_octet_other : (c : ℕ) → (is_word_octet c || is_hyphen c) ≡ true → is_other 10 c ≡ true
 word_octet_other c h = grind (arith, nat_tests)
@@ -418,7 +532,8 @@ word_rest_other : (s : List ℕ) → is_word_rest s ≡ true → list_all (is_ot
 word_rest_other [] h = refl
 word_rest_other (c ∷ cs) h =
     let both = and_true (is_word_octet c || (is_hyphen c && begins is_word_octet cs)) (is_word_rest cs) h in
-    ap (λ b. b && list_all (is_other 10) cs) (word_octet_other c (word_or (is_word_octet c) (is_hyphen c) (begins is_word_octet cs) both.0)) ∙ word_rest_other cs both.1
+    ap (λ b. b && list_all (is_other 10) cs) (word_octet_other c (word_or (is_word_octet c) (is_hyphen c) (begins is_word_octet cs) both.0))
+    ∙ word_rest_other cs both.1
 
 list_all-append : (p : ℕ → Bool) (xs ys : List ℕ) → list_all p xs ≡ true → list_all p ys ≡ true → list_all p (xs ++ ys) ≡ true
 list_all-append p [] ys h k = k
@@ -426,9 +541,11 @@ list_all-append p (c ∷ cs) ys h k =
     let both = and_true (p c) (list_all p cs) h in
     ap (λ b. b && list_all p (cs ++ ys)) both.0 ∙ list_all-append p cs ys both.1 k
 
-word_one_line : (is_first : ℕ → Bool) → ((c : ℕ) → is_first c ≡ true → (is_word_octet c || is_hyphen c) ≡ true) → (s : List ℕ) → IsWord is_first s → newlines s ≡ 0
+word_one_line : (is_first : ℕ → Bool) → ((c : ℕ) → is_first c ≡ true → (is_word_octet c || is_hyphen c) ≡ true) → (s : List ℕ) → IsWord is_first s
+    → newlines s ≡ 0
 word_one_line is_first first_is s (c, rest, is, first, others) =
-    ap newlines is ∙ others_one_line (c ∷ rest) (ap (λ b. b && list_all (is_other 10) rest) (word_octet_other c (first_is c first)) ∙ word_rest_other rest others)
+    ap newlines is ∙ others_one_line (c ∷ rest) (ap (λ b. b && list_all (is_other 10) rest) (word_octet_other c (first_is c first))
+    ∙ word_rest_other rest others)
 
 lower_word : (c : ℕ) → is_ascii_lowercase c ≡ true → (is_word_octet c || is_hyphen c) ≡ true
 lower_word c h = grind (arith, nat_tests)
@@ -438,13 +555,16 @@ upper_word c h = grind (arith, nat_tests)
 
 number_one_line : (s : List ℕ) → IsNumber s → newlines s ≡ 0
 number_one_line s (sign, digits, is, signs, some, all) =
-    ap newlines is ∙ others_one_line (sign ++ digits) (list_all-append (is_other 10) sign digits (⊎_elim (λ none. ap (list_all (is_other 10)) none) (λ minus. ap (list_all (is_other 10)) minus) signs) (all_other is_ascii_digit 10 digit_other digits all))
+    ap newlines is ∙ others_one_line (sign ++ digits) (list_all-append (is_other 10) sign digits (⊎_elim (λ none. ap (list_all (is_other 10)) none)
+    (λ minus. ap (list_all (is_other 10)) minus) signs) (all_other is_ascii_digit 10 digit_other digits all))
 
-literal_one_line : (is_digit : ℕ → Bool) (upper lower : ℕ) → ((c : ℕ) → is_digit c ≡ true → is_other 10 c ≡ true) → is_other 10 upper ≡ true → is_other 10 lower ≡ true
+literal_one_line : (is_digit : ℕ → Bool) (upper lower : ℕ) → ((c : ℕ) → is_digit c ≡ true → is_other 10 c ≡ true) → is_other 10 upper ≡ true
+    → is_other 10 lower ≡ true
     → (s : List ℕ) → IsLiteral is_digit upper lower s → newlines s ≡ 0
 literal_one_line is_digit upper lower digits_other upper_other lower_other s (digits, letter, is, all, case) =
     ap newlines is ∙ others_one_line (codes "'" ++ digits ++ codes "'" ++ letter ∷ [])
-    (list_all-append (is_other 10) (codes "'" ++ digits ++ codes "'") (letter ∷ []) (list_all-append (is_other 10) (codes "'" ++ digits) (codes "'") (all_other is_digit 10 digits_other digits all) refl)
+    (list_all-append (is_other 10) (codes "'" ++ digits ++ codes "'") (letter ∷ []) (list_all-append (is_other 10) (codes "'" ++ digits) (codes "'")
+    (all_other is_digit 10 digits_other digits all) refl)
     (ap (λ b. b && true) (⊎_elim (λ e. ap (is_other 10) e ∙ upper_other) (λ e. ap (is_other 10) e ∙ lower_other) case)))
 
 -- a line ends only in a string

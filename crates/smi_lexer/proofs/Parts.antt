@@ -1,5 +1,45 @@
 -- The parts that the scans find, behind their first octet.
-use Rattle.std.proofs.Common.{◌≡◌, ℕ, zero, suc, ◌+◌, ◌-◌, ◌<◌, ◌≤◌, Bool, true, false, cond, if◌then◌else◌, not, ◌&&◌, ◌⊎◌, Option, Some, None, List, [], ◌∷◌, ◌++◌, length, get_or, take, drop, refl, sym, ap, ◌∙◌, subst, inl, inr, ⊎_elim, arith, eqb, add-one, length-drop}
+use Rattle.std.proofs.Common.{
+  ◌≡◌,
+  ℕ,
+  zero,
+  suc,
+  ◌+◌,
+  ◌-◌,
+  ◌<◌,
+  ◌≤◌,
+  Bool,
+  true,
+  false,
+  cond,
+  if◌then◌else◌,
+  not,
+  ◌&&◌,
+  ◌⊎◌,
+  Option,
+  Some,
+  None,
+  List,
+  [],
+  ◌∷◌,
+  ◌++◌,
+  length,
+  get_or,
+  take,
+  drop,
+  refl,
+  sym,
+  ap,
+  ◌∙◌,
+  subst,
+  inl,
+  inr,
+  ⊎_elim,
+  arith,
+  eqb,
+  add-one,
+  length-drop,
+}
 use Rattle.std.specs.List.{list_all}
 use Rattle.std.specs.Bool.{then_some}
 use Rattle.std.proofs.Math.Bool.{and-false, and-true, and_assoc}
@@ -11,7 +51,26 @@ use Rattle.std.proofs.lemmas.List.{drop_all}
 use Rattle.smi_lexer.specs.declared.token.TokenKind.{TokenKind}
 use Rattle.smi_lexer.specs.declared.token.TokenKind.TheVariants.{Text, Hex, Binary}
 use Rattle.smi_lexer.specs.Lexeme.{Part, lexeme, is_binary_digit}
-use Rattle.smi_lexer.specs.Reading.{HasNoLexeme, IsFirstPlace, IsLexemeFront, IsLongestFront, IsPartFront, is_other, is_nothing, is_sole, is_string_rest, is_literal_rest, string_part, literal_part, literal_of, is_hex_letter, is_binary_letter, class_of, part_in, part_of}
+use Rattle.smi_lexer.specs.Reading.{
+  HasNoLexeme,
+  IsFirstPlace,
+  IsLexemeFront,
+  IsLongestFront,
+  IsPartFront,
+  is_other,
+  is_nothing,
+  is_sole,
+  is_string_rest,
+  is_literal_rest,
+  string_part,
+  literal_part,
+  literal_of,
+  is_hex_letter,
+  is_binary_letter,
+  class_of,
+  part_in,
+  part_of,
+}
 use Rattle.smi_lexer.proofs.Fronts.{rest_at, and_true, longest_behind, goes_on_past}
 
 -- a front that a test decides
@@ -105,24 +164,31 @@ literal_behind digits s =
 
 pub literal_reads : (digits s : List ℕ) → list_all (is_other 39) digits ≡ true → literal_part (digits ++ 39 ∷ s) ≡ literal_behind digits s
 literal_reads digits s h =
-    ap (λ b. if b then Some (lexeme Hex) else then_some (is_literal_rest is_binary_digit is_binary_letter (digits ++ 39 ∷ s)) (lexeme Binary)) (literal_closed is_ascii_hexdigit is_hex_letter digits s h)
-    ∙ ap (λ b. if list_all is_ascii_hexdigit digits && is_sole is_hex_letter s then Some (lexeme Hex) else then_some b (lexeme Binary)) (literal_closed is_binary_digit is_binary_letter digits s h)
+    ap (λ b. if b then Some (lexeme Hex) else then_some (is_literal_rest is_binary_digit is_binary_letter (digits ++ 39 ∷ s)) (lexeme Binary))
+    (literal_closed is_ascii_hexdigit is_hex_letter digits s h)
+    ∙ ap (λ b. if list_all is_ascii_hexdigit digits && is_sole is_hex_letter s then Some (lexeme Hex) else then_some b (lexeme Binary))
+    (literal_closed is_binary_digit is_binary_letter digits s h)
 
 literal_fails : (digits s : List ℕ) → is_sole is_hex_letter s ≡ false → is_sole is_binary_letter s ≡ false → literal_behind digits s ≡ None
 literal_fails digits s hex binary =
-    ap (λ b. if list_all is_ascii_hexdigit digits && b then Some (lexeme Hex) else then_some (list_all is_binary_digit digits && is_sole is_binary_letter s) (lexeme Binary)) hex
-    ∙ ap (λ b. if b then Some (lexeme Hex) else then_some (list_all is_binary_digit digits && is_sole is_binary_letter s) (lexeme Binary)) (and-false (list_all is_ascii_hexdigit digits))
+    ap (λ b. if list_all is_ascii_hexdigit digits && b then Some (lexeme Hex) else then_some (list_all is_binary_digit digits && is_sole is_binary_letter s)
+    (lexeme Binary)) hex
+    ∙ ap (λ b. if b then Some (lexeme Hex) else then_some (list_all is_binary_digit digits && is_sole is_binary_letter s) (lexeme Binary)) (and-false
+    (list_all is_ascii_hexdigit digits))
     ∙ ap (λ b. then_some (list_all is_binary_digit digits && b) (lexeme Binary)) binary
     ∙ ap (λ b. then_some b (lexeme Binary)) (and-false (list_all is_binary_digit digits))
 
 pub literal_exact : (digits : List ℕ) (letter : ℕ) → literal_behind digits (letter ∷ []) ≡ literal_of digits letter
 literal_exact digits letter =
-    ap (λ b. if list_all is_ascii_hexdigit digits && b then Some (lexeme Hex) else then_some (list_all is_binary_digit digits && (is_binary_letter letter && true)) (lexeme Binary)) (and-true (is_hex_letter letter))
-    ∙ ap (λ b. if list_all is_ascii_hexdigit digits && is_hex_letter letter then Some (lexeme Hex) else then_some (list_all is_binary_digit digits && b) (lexeme Binary)) (and-true (is_binary_letter letter))
+    ap (λ b. if list_all is_ascii_hexdigit digits && b then Some (lexeme Hex) else then_some (list_all is_binary_digit digits &&
+    (is_binary_letter letter && true)) (lexeme Binary)) (and-true (is_hex_letter letter))
+    ∙ ap (λ b. if list_all is_ascii_hexdigit digits && is_hex_letter letter then Some (lexeme Hex) else then_some (list_all is_binary_digit digits && b)
+    (lexeme Binary)) (and-true (is_binary_letter letter))
 
 literal_unclosed : (s : List ℕ) → list_all (is_other 39) s ≡ true → literal_part s ≡ None
 literal_unclosed s h =
-    ap (λ b. if b then Some (lexeme Hex) else then_some (is_literal_rest is_binary_digit is_binary_letter s) (lexeme Binary)) (literal_open is_ascii_hexdigit is_hex_letter s h)
+    ap (λ b. if b then Some (lexeme Hex) else then_some (is_literal_rest is_binary_digit is_binary_letter s) (lexeme Binary))
+    (literal_open is_ascii_hexdigit is_hex_letter s h)
     ∙ ap (λ b. then_some b (lexeme Binary)) (literal_open is_binary_digit is_binary_letter s h)
 
 -- a front that ends before the second quote
@@ -177,16 +243,20 @@ literal_front text i h next found kind_is = by_kind found kind_is
 
     fails_long : (k : ℕ) (s : List ℕ) → 0 < length s → literal_behind (take i text) (get_or text (i + 1) 0 ∷ take (suc k) s) ≡ None
     fails_long k [] some = absurd (omega arith)
-    fails_long k (d ∷ ds) some = literal_fails (take i text) (get_or text (i + 1) 0 ∷ d ∷ take k ds) (and-false (is_hex_letter (get_or text (i + 1) 0))) (and-false (is_binary_letter (get_or text (i + 1) 0)))
+    fails_long k (d ∷ ds) some = literal_fails (take i text) (get_or text (i + 1) 0 ∷ d ∷ take k ds) (and-false (is_hex_letter (get_or text (i + 1) 0)))
+        (and-false (is_binary_letter (get_or text (i + 1) 0)))
 
     exact : literal_part (take (i + 2) text) ≡ literal_of (take i text) (get_or text (i + 1) 0)
     exact = long 0 ∙ literal_exact (take i text) (get_or text (i + 1) 0)
 
     -- each front is too short, the literal, or too long
     by_rest : (k : ℕ) (rest : List ℕ) → drop (i + 2) text ≡ rest
-        → (literal_part (take (i + suc (suc (suc k))) text) ≡ None) ⊎ (literal_part (take (i + suc (suc (suc k))) text) ≡ literal_of (take i text) (get_or text (i + 1) 0))
-    by_rest k [] e = inr (long (suc k) ∙ ap (λ s. literal_behind (take i text) (get_or text (i + 1) 0 ∷ take (suc k) s)) e ∙ literal_exact (take i text) (get_or text (i + 1) 0))
-    by_rest k (d ∷ ds) e = inl (long (suc k) ∙ ap (λ s. literal_behind (take i text) (get_or text (i + 1) 0 ∷ take (suc k) s)) e ∙ fails_long k (d ∷ ds) (omega arith))
+        → (literal_part (take (i + suc (suc (suc k))) text) ≡ None)
+        ⊎ (literal_part (take (i + suc (suc (suc k))) text) ≡ literal_of (take i text) (get_or text (i + 1) 0))
+    by_rest k [] e = inr (long (suc k) ∙ ap (λ s. literal_behind (take i text) (get_or text (i + 1) 0 ∷ take (suc k) s)) e
+        ∙ literal_exact (take i text) (get_or text (i + 1) 0))
+    by_rest k (d ∷ ds) e = inl (long (suc k) ∙ ap (λ s. literal_behind (take i text) (get_or text (i + 1) 0 ∷ take (suc k) s)) e
+        ∙ fails_long k (d ∷ ds) (omega arith))
 
     behind : (k : ℕ) → (literal_part (take (i + suc k) text) ≡ None) ⊎ (literal_part (take (i + suc k) text) ≡ literal_of (take i text) (get_or text (i + 1) 0))
     behind zero = inl (literal_long 0 i text h.0 h.1 h.2 ∙ literal_fails (take i text) [] refl refl)
@@ -197,17 +267,20 @@ literal_front text i h next found kind_is = by_kind found kind_is
     each m (inr short) = inl (literal_short m i text short h.2)
     each m (inl long) =
         let place : i + suc (m - (i + 1)) ≡ m = omega arith in
-        subst (λ j. (literal_part (take j text) ≡ None) ⊎ (literal_part (take j text) ≡ literal_of (take i text) (get_or text (i + 1) 0))) place (behind (m - (i + 1)))
+        subst (λ j. (literal_part (take j text) ≡ None)
+        ⊎ (literal_part (take j text) ≡ literal_of (take i text) (get_or text (i + 1) 0))) place (behind (m - (i + 1)))
 
     by_kind : (found : Option TokenKind) → option_map lexeme found ≡ literal_of (take i text) (get_or text (i + 1) 0)
         → IsLexemeFront literal_part text (option_map (λ kind. (kind, i + 2)) found)
-    by_kind None kind_is = λ kind m is. ⊎_elim (λ none. none_some (lexeme kind) (sym none ∙ is)) (λ same. none_some (lexeme kind) (kind_is ∙ sym same ∙ is)) (each m (cases_lt i m))
+    by_kind None kind_is = λ kind m is. ⊎_elim (λ none. none_some (lexeme kind) (sym none ∙ is)) (λ same. none_some (lexeme kind) (kind_is ∙ sym same
+        ∙ is)) (each m (cases_lt i m))
     by_kind (Some kind) kind_is = record {
       within = omega arith;
       reads = exact ∙ sym kind_is;
       longest = λ m above within.
           let place : m ≡ i + suc (suc (suc (m - (i + 3)))) = omega arith in
-          ap (λ j. literal_part (take j text)) place ∙ long (suc (m - (i + 3))) ∙ fails_long (m - (i + 3)) (drop (i + 2) text) (omega (arith, length-drop (i + 2) text));
+          ap (λ j. literal_part (take j text)) place ∙ long (suc (m - (i + 3)))
+          ∙ fails_long (m - (i + 3)) (drop (i + 2) text) (omega (arith, length-drop (i + 2) text));
     }
 
 -- ---- with the first octet

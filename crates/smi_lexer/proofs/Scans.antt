@@ -1,5 +1,37 @@
 -- Steps and ends of the scans, each by its own test.
-use Rattle.std.proofs.Common.{◌≡◌, ℕ, zero, suc, ◌+◌, ◌<◌, ◌≤◌, Bool, true, false, cond, ◌&&◌, ◌||◌, ◌⊎◌, List, [], ◌∷◌, length, get_or, take, drop, refl, sym, ap, ◌∙◌, subst, inl, inr, arith, eqb, eq-eqb}
+use Rattle.std.proofs.Common.{
+  ◌≡◌,
+  ℕ,
+  zero,
+  suc,
+  ◌+◌,
+  ◌<◌,
+  ◌≤◌,
+  Bool,
+  true,
+  false,
+  cond,
+  ◌&&◌,
+  ◌||◌,
+  ◌⊎◌,
+  List,
+  [],
+  ◌∷◌,
+  length,
+  get_or,
+  take,
+  drop,
+  refl,
+  sym,
+  ap,
+  ◌∙◌,
+  subst,
+  inl,
+  inr,
+  arith,
+  eqb,
+  eq-eqb,
+}
 use Rattle.std.specs.List.{list_all}
 use Rattle.std.proofs.lemmas.Bool.{eqb-true, ne_eqb, cases_lt, false≢true}
 use Rattle.std.proofs.lemmas.List.Folds.{list_all_more}
@@ -57,7 +89,8 @@ word_step text n here pass =
 -- a hyphen, and one of these
 pub hyphen_step : (text : List ℕ) (n : ℕ) → n + 1 < length text → get_or text n 0 ≡ 45 → is_word_octet (get_or text (n + 1) 0) ≡ true
     → GoesOn is_word_rest text n → GoesOn is_word_rest text (n + 2)
-hyphen_step text n here hyphen pass = scan_two is_word_rest text n here (λ k. both (get_or text n 0) (get_or text (n + 1) 0) (take k (drop (n + 2) text)) hyphen pass)
+hyphen_step text n here hyphen pass = scan_two is_word_rest text n here (λ k. both (get_or text n 0) (get_or text (n + 1) 0) (take k (drop
+    (n + 2) text)) hyphen pass)
   where
     both : (c d : ℕ) (s : List ℕ) → c ≡ 45 → is_word_octet d ≡ true → is_word_rest (c ∷ d ∷ s) ≡ is_word_rest s
     both c d s hyphen pass =
@@ -85,7 +118,8 @@ remark_step text n here plain alone = scan_step is_remark_rest text n here (λ k
   where
     one : (c k : ℕ) (s : List ℕ) → (c ≡ 10 → ⊥) → (c ≡ 45 → begins is_hyphen s ≡ false) → is_remark_rest (c ∷ take k s) ≡ is_remark_rest (take k s)
     one c k s plain alone =
-        ap (λ b. cond b false (cond (is_hyphen c && begins is_hyphen (take k s)) (list_all is_hyphen (take k s)) (is_remark_rest (take k s)))) (ne_eqb c 10 plain)
+        ap (λ b. cond b false (cond (is_hyphen c && begins is_hyphen (take k s)) (list_all is_hyphen (take k s)) (is_remark_rest (take k s))))
+        (ne_eqb c 10 plain)
         ∙ ap (λ b. cond b (list_all is_hyphen (take k s)) (is_remark_rest (take k s))) (hyphen_alone is_hyphen c k s alone)
 
 pub line_ends : (text : List ℕ) (n : ℕ) → n < length text → get_or text n 0 ≡ 10 → IsRemarkEnd (drop n text)
@@ -131,7 +165,8 @@ run_closed text n front = closed (cases_lt n (length text))
       where
         unequal : (b : Bool) → is_hyphen (get_or text n 0) ≡ b → is_hyphen (get_or text n 0) ≡ false
         unequal false h = h
-        unequal true h = absurd (false≢true (sym (front.longest (n + 1) (omega arith) (omega arith)) ∙ list_all_more is_hyphen text n 0 here ∙ ap (λ b. b && is_hyphen (get_or text n 0)) front.passes ∙ h))
+        unequal true h = absurd (false≢true (sym (front.longest (n + 1) (omega arith) (omega arith)) ∙ list_all_more is_hyphen text n 0 here
+            ∙ ap (λ b. b && is_hyphen (get_or text n 0)) front.passes ∙ h))
 
 -- a comment behind its first two hyphens: the opening run, the remark, the closing run
 pub comment_front : (text remark closing : List ℕ) (o n r : ℕ) → IsLongestFront (list_all is_hyphen) text o → remark ≡ drop o text
@@ -139,7 +174,8 @@ pub comment_front : (text remark closing : List ℕ) (o n r : ℕ) → IsLongest
     → IsLongestFront is_comment_rest text (o + (n + r))
 comment_front text remark closing o n r opening remark_is within goes ends closing_is run =
     longest_behind is_comment_rest is_remark_rest text o (n + r) opening.within
-    (λ k. goes_on_past is_comment_rest is_hyphen (λ c s h. ap (λ b. cond b (is_comment_rest s) (is_remark_rest (c ∷ s))) h) o text opening.within opening.passes k
+    (λ k. goes_on_past is_comment_rest is_hyphen (λ c s h. ap (λ b. cond b (is_comment_rest s) (is_remark_rest
+    (c ∷ s))) h) o text opening.within opening.passes k
     ∙ remark_begins k (drop o text) (run_closed text o opening))
     (subst (λ s. IsLongestFront is_remark_rest s (n + r)) remark_is
     (longest_behind is_remark_rest (list_all is_hyphen) remark n r within (λ k. goes.same k ∙ closing_run k (drop n remark) ends)

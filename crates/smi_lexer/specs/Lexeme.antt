@@ -1,11 +1,61 @@
 -- The lexemes of a module text and what may stand between them, each as a relation on octets.
--- SMIv2 takes them from ASN.1 (RFC 2578, section 3; X.208, section 8). This lexer is wider in what texts in use need:
--- `_` in words, a hyphen before digits as part of the number, and lower-case digits and letters of literals.
-use Rattle.std.specs.Prelude.{◌≡◌, ◌≢◌, ℕ, ◌≤◌, Bool, true, false, not, ◌&&◌, ◌||◌, ◌⊎◌, List, [], ◌∷◌, ◌++◌, length, IsTrue, ◌==◌}
+-- SMIv2 takes them from ASN.1 (RFC 2578, section 3; X.208, section 8). This lexer is wider in what
+-- texts in use need:
+-- `_` in words, a hyphen before digits as part of the number, and lower-case digits and letters of
+-- literals.
+use Rattle.std.specs.Prelude.{
+  ◌≡◌,
+  ◌≢◌,
+  ℕ,
+  ◌≤◌,
+  Bool,
+  true,
+  false,
+  not,
+  ◌&&◌,
+  ◌||◌,
+  ◌⊎◌,
+  List,
+  [],
+  ◌∷◌,
+  ◌++◌,
+  length,
+  IsTrue,
+  ◌==◌,
+}
 use Rattle.std.specs.List.{list_all}
-use Rattle.std.specs.Char.{is_ascii_lowercase, is_ascii_uppercase, is_ascii_digit, is_ascii_hexdigit, is_ascii_alphanumeric}
+use Rattle.std.specs.Char.{
+  is_ascii_lowercase,
+  is_ascii_uppercase,
+  is_ascii_digit,
+  is_ascii_hexdigit,
+  is_ascii_alphanumeric,
+}
 use Rattle.smi_lexer.specs.declared.token.TokenKind.{TokenKind}
-use Rattle.smi_lexer.specs.declared.token.TokenKind.TheVariants.{Lower, Upper, Number, Text, Hex, Binary, Assign, Range, OpenBrace, CloseBrace, OpenParen, CloseParen, OpenBracket, CloseBracket, Less, Greater, Comma, Semicolon, Colon, Bar, Dot, Equals}
+use Rattle.smi_lexer.specs.declared.token.TokenKind.TheVariants.{
+  Lower,
+  Upper,
+  Number,
+  Text,
+  Hex,
+  Binary,
+  Assign,
+  Range,
+  OpenBrace,
+  CloseBrace,
+  OpenParen,
+  CloseParen,
+  OpenBracket,
+  CloseBracket,
+  Less,
+  Greater,
+  Comma,
+  Semicolon,
+  Colon,
+  Bar,
+  Dot,
+  Equals,
+}
 use lib.Chars.{codes}
 
 -- ---- octets
@@ -37,23 +87,29 @@ begins test (c ∷ cs) = test c
 -- letters, digits, `_`, and hyphens that one of these follows
 abbrev pub is_word_rest : List ℕ → Bool
 is_word_rest [] = true
-is_word_rest (c ∷ cs) = (is_word_octet c || (is_hyphen c && begins is_word_octet cs)) && is_word_rest cs
+is_word_rest (c ∷ cs) = (is_word_octet c ||
+    (is_hyphen c && begins is_word_octet cs)) && is_word_rest cs
 
 -- such a first letter, and what may follow it
 abbrev pub IsWord : (ℕ → Bool) → List ℕ → Type 0
-IsWord is_first text = (c : ℕ) × (rest : List ℕ) × (text ≡ c ∷ rest) × IsTrue (is_first c) × IsTrue (is_word_rest rest)
+IsWord is_first text = (c : ℕ) × (rest : List ℕ) × (text ≡ c ∷ rest) × IsTrue (is_first c)
+    × IsTrue (is_word_rest rest)
 
 -- digits with a hyphen directly before them or not
 abbrev pub IsNumber : List ℕ → Type 0
-IsNumber text = (sign digits : List ℕ) × (text ≡ sign ++ digits) × ((sign ≡ []) ⊎ (sign ≡ codes "-")) × (digits ≢ []) × IsTrue (list_all is_ascii_digit digits)
+IsNumber text = (sign digits : List ℕ) × (text ≡ sign ++ digits)
+    × ((sign ≡ []) ⊎ (sign ≡ codes "-")) × (digits ≢ []) × IsTrue (list_all is_ascii_digit digits)
 
 -- octets other than `"` between two of them
 abbrev pub IsString : List ℕ → Type 0
-IsString text = (body : List ℕ) × (text ≡ codes "\"" ++ body ++ codes "\"") × IsTrue (list_all (λ c. not (c == 34)) body)
+IsString text = (body : List ℕ) × (text ≡ codes "\"" ++ body ++ codes "\"")
+    × IsTrue (list_all (λ c. not (c == 34)) body)
 
 -- digits of a base, or none, between two `'`, and the base's letter in either case
 abbrev pub IsLiteral : (ℕ → Bool) → ℕ → ℕ → List ℕ → Type 0
-IsLiteral is_digit upper lower text = (digits : List ℕ) × (letter : ℕ) × (text ≡ codes "'" ++ digits ++ codes "'" ++ letter ∷ []) × IsTrue (list_all is_digit digits) × ((letter ≡ upper) ⊎ (letter ≡ lower))
+IsLiteral is_digit upper lower text = (digits : List ℕ) × (letter : ℕ)
+    × (text ≡ codes "'" ++ digits ++ codes "'" ++ letter ∷ [])
+    × IsTrue (list_all is_digit digits) × ((letter ≡ upper) ⊎ (letter ≡ lower))
 
 abbrev pub IsLexeme : TokenKind → List ℕ → Type 0
 IsLexeme Lower text = IsWord is_ascii_lowercase text
@@ -90,10 +146,12 @@ abbrev pub is_remark : List ℕ → Bool
 is_remark [] = true
 is_remark (c ∷ cs) = not (is_newline c) && not (is_hyphen c && begins is_hyphen cs) && is_remark cs
 
--- A run of hyphens, a remark, and the next run or nothing. Where no other run follows on the line, the longest
+-- A run of hyphens, a remark, and the next run or nothing. Where no other run follows on the line,
+-- the longest
 -- comment ends before the line does.
 abbrev pub IsComment : List ℕ → Type 0
-IsComment text = (opening remark closing : List ℕ) × (text ≡ opening ++ remark ++ closing) × IsRun opening × IsTrue (is_remark remark) × ((closing ≡ []) ⊎ IsRun closing)
+IsComment text = (opening remark closing : List ℕ) × (text ≡ opening ++ remark ++ closing)
+    × IsRun opening × IsTrue (is_remark remark) × ((closing ≡ []) ⊎ IsRun closing)
 
 -- a blank octet, or a comment
 abbrev pub IsGap : List ℕ → Type 0

@@ -1,5 +1,23 @@
 -- The tokens of a text.
-use Rattle.std.specs.Prelude.{ℕ, ◌+◌, ◌<◌, ◌≤◌, List, [], ◌∷◌, ◌++◌, length, take, drop, Ok, Err, count_by, slice_range, ◌≡◌, if◌then◌else◌}
+use Rattle.std.specs.Prelude.{
+  ℕ,
+  ◌+◌,
+  ◌<◌,
+  ◌≤◌,
+  List,
+  [],
+  ◌∷◌,
+  ◌++◌,
+  length,
+  take,
+  drop,
+  Ok,
+  Err,
+  count_by,
+  slice_range,
+  ◌≡◌,
+  if◌then◌else◌,
+}
 use Rattle.smi_lexer.specs.declared.token.TokenKind.{TokenKind}
 use Rattle.smi_lexer.specs.declared.error.LexError.{LexError}
 use Rattle.smi_lexer.specs.declared.error.LexError.TheVariants.{BadByte, OpenString}
@@ -12,7 +30,16 @@ line_behind before = count_by is_newline before + 1
 
 -- a lexeme of these octets, behind those before it
 abbrev pub lexeme_behind : List ℕ → TokenKind → List ℕ → Lexeme
-lexeme_behind before kind text = record { kind = kind; span = record { start = length before; «end» = length before + length text }; text = text; line = line_behind before }
+lexeme_behind before kind text = record {
+  kind = kind;
+  span = record {
+    start = length before;
+    «end»
+        = length before + length text;
+  };
+  text = text;
+  line = line_behind before;
+}
 
 -- the fault of a text on this line with which nothing begins
 abbrev pub fault_on : ℕ → List ℕ → LexError
@@ -24,20 +51,26 @@ pub record IsLongest (part : Part) (n : ℕ) (text : List ℕ) : Type 0 where
   pub is_one : IsPart part (take n text)
   pub longest : (other : Part) (m : ℕ) → n < m → m ≤ length text → IsPart other (take m text) → ⊥
 
--- Behind the octets before, the text is gaps and lexemes in turn, each the longest that could stand there.
+-- Behind the octets before, the text is gaps and lexemes in turn, each the longest that could stand
+-- there.
 -- These are its tokens, and last the fault where it breaks off before its end.
 pub data Lexes : List ℕ → List ℕ → List Item → Type 0 where
   ends : {before : List ℕ} → Lexes before [] []
   passes : {before text : List ℕ} {items : List Item} (n : ℕ) → IsLongest gap n text
       → Lexes (before ++ take n text) (drop n text) items
       → Lexes before text items
-  gives : {before text : List ℕ} {items : List Item} (kind : TokenKind) (n : ℕ) → IsLongest (lexeme kind) n text
+  gives : {before text : List ℕ} {items : List Item} (kind : TokenKind) (n : ℕ)
+      → IsLongest (lexeme kind) n text
       → Lexes (before ++ take n text) (drop n text) items
       → Lexes before text (Ok (lexeme_behind before kind (take n text)) ∷ items)
-  breaks : {before : List ℕ} (c : ℕ) (cs : List ℕ) → ((part : Part) (m : ℕ) → IsPart part (take m (c ∷ cs)) → ⊥)
+  breaks : {before : List ℕ} (c : ℕ) (cs : List ℕ) → ((part : Part) (m : ℕ)
+      → IsPart part (take m (c ∷ cs)) → ⊥)
       → Lexes before (c ∷ cs) (Err (fault_on (line_behind before) (c ∷ cs)) ∷ [])
 
--- from this place on each token stands behind the one before it, is not empty, and has the source's octets in its span as its text
+-- from this place on each token stands behind the one before it, is not empty, and has the source's
+-- octets in its span as its text
 abbrev pub AreInOrder : List ℕ → ℕ → List Lexeme → Type 0
 AreInOrder source from [] = Unit {0}
-AreInOrder source from (t ∷ ts) = (from ≤ t.span.start) × (t.span.start < t.span.end) × (t.span.end ≤ length source) × (t.text ≡ slice_range source t.span.start t.span.end) × AreInOrder source t.span.end ts
+AreInOrder source from (t ∷ ts) = (from ≤ t.span.start) × (t.span.start < t.span.end)
+    × (t.span.end ≤ length source) × (t.text ≡ slice_range source t.span.start t.span.end)
+    × AreInOrder source t.span.end ts

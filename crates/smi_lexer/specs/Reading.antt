@@ -1,24 +1,107 @@
--- The tokens of a text, computed: the plain, slow reading that tries every front of what is left, from the
--- longest on. The law that it is what `Lexes` says stands in proofs/; only private clauses cite this file.
-use Rattle.std.specs.Prelude.{◌≡◌, ℕ, zero, suc, pred, ◌+◌, ◌<◌, ◌≤◌, ◌⊎◌, not, get_or, Bool, true, false, if◌then◌else◌, ◌&&◌, ◌||◌, ◌==◌, Option, Some, None, Ok, Err, List, [], ◌∷◌, length, take, drop, count_by}
+-- The tokens of a text, computed: the plain, slow reading that tries every front of what is left,
+-- from the
+-- longest on. The law that it is what `Lexes` says stands in proofs/; only private clauses cite
+-- this file.
+use Rattle.std.specs.Prelude.{
+  ◌≡◌,
+  ℕ,
+  zero,
+  suc,
+  pred,
+  ◌+◌,
+  ◌<◌,
+  ◌≤◌,
+  ◌⊎◌,
+  not,
+  get_or,
+  Bool,
+  true,
+  false,
+  if◌then◌else◌,
+  ◌&&◌,
+  ◌||◌,
+  ◌==◌,
+  Option,
+  Some,
+  None,
+  Ok,
+  Err,
+  List,
+  [],
+  ◌∷◌,
+  length,
+  take,
+  drop,
+  count_by,
+}
 use Rattle.std.specs.List.{list_all}
 use Rattle.std.specs.Bool.{then_some}
-use Rattle.std.specs.Char.{is_ascii_lowercase, is_ascii_uppercase, is_ascii_digit, is_ascii_hexdigit}
+use Rattle.std.specs.Char.{
+  is_ascii_lowercase,
+  is_ascii_uppercase,
+  is_ascii_digit,
+  is_ascii_hexdigit,
+}
 use Rattle.smi_lexer.specs.declared.class.Class.{Class}
-use Rattle.smi_lexer.specs.declared.class.Class.TheVariants.{Blank, Lowercase, Uppercase, Digit, Hyphen, Quote, Apostrophe, Symbol, Other}
+use Rattle.smi_lexer.specs.declared.class.Class.TheVariants.{
+  Blank,
+  Lowercase,
+  Uppercase,
+  Digit,
+  Hyphen,
+  Quote,
+  Apostrophe,
+  Symbol,
+  Other,
+}
 use Rattle.smi_lexer.specs.declared.token.TokenKind.{TokenKind}
-use Rattle.smi_lexer.specs.declared.token.TokenKind.TheVariants.{Lower, Upper, Number, Text, Hex, Binary, Assign, Range, OpenBrace, CloseBrace, OpenParen, CloseParen, OpenBracket, CloseBracket, Less, Greater, Comma, Semicolon, Colon, Bar, Dot, Equals}
+use Rattle.smi_lexer.specs.declared.token.TokenKind.TheVariants.{
+  Lower,
+  Upper,
+  Number,
+  Text,
+  Hex,
+  Binary,
+  Assign,
+  Range,
+  OpenBrace,
+  CloseBrace,
+  OpenParen,
+  CloseParen,
+  OpenBracket,
+  CloseBracket,
+  Less,
+  Greater,
+  Comma,
+  Semicolon,
+  Colon,
+  Bar,
+  Dot,
+  Equals,
+}
 use Rattle.smi_lexer.specs.Token.{Lexeme, Item}
 use Rattle.smi_lexer.specs.Lexes.{fault_on}
-use Rattle.smi_lexer.specs.Lexeme.{Part, gap, lexeme, is_blank, is_hyphen, is_newline, is_binary_digit, begins, is_word_rest}
+use Rattle.smi_lexer.specs.Lexeme.{
+  Part,
+  gap,
+  lexeme,
+  is_blank,
+  is_hyphen,
+  is_newline,
+  is_binary_digit,
+  begins,
+  is_word_rest,
+}
 
 -- ---- what a stretch of octets is, told by the first of them
 
 -- the symbols of one octet
 abbrev pub symbols : List (ℕ × TokenKind)
 symbols =
-    (123, OpenBrace) ∷ (125, CloseBrace) ∷ (40, OpenParen) ∷ (41, CloseParen) ∷ (91, OpenBracket) ∷ (93, CloseBracket)
-    ∷ (60, Less) ∷ (62, Greater) ∷ (44, Comma) ∷ (59, Semicolon) ∷ (58, Colon) ∷ (124, Bar) ∷ (46, Dot) ∷ (61, Equals) ∷ []
+    (123, OpenBrace) ∷ (125, CloseBrace) ∷ (40, OpenParen) ∷ (41, CloseParen) ∷
+    (91, OpenBracket) ∷ (93, CloseBracket)
+    ∷ (60, Less) ∷ (62, Greater) ∷ (44, Comma) ∷ (59, Semicolon) ∷ (58, Colon) ∷ (124, Bar) ∷
+    (46, Dot) ∷ (61, Equals) ∷ []
 
 abbrev pub symbol_among : List (ℕ × TokenKind) → ℕ → Class
 symbol_among [] c = Other
@@ -48,7 +131,8 @@ is_sole test (c ∷ cs) = test c && is_nothing cs
 -- behind the run of hyphens that a comment begins with
 abbrev pub is_remark_rest : List ℕ → Bool
 is_remark_rest [] = true
-is_remark_rest (c ∷ cs) = if is_newline c then false else (if is_hyphen c && begins is_hyphen cs then list_all is_hyphen cs else is_remark_rest cs)
+is_remark_rest (c ∷ cs) = if is_newline c then false else
+    (if is_hyphen c && begins is_hyphen cs then list_all is_hyphen cs else is_remark_rest cs)
 
 -- behind the first two hyphens of a comment
 abbrev pub is_comment_rest : List ℕ → Bool
@@ -63,7 +147,9 @@ is_string_rest (c ∷ cs) = if c == 34 then is_nothing cs else is_string_rest cs
 -- behind the first `'` of a literal
 abbrev pub is_literal_rest : (ℕ → Bool) → (ℕ → Bool) → List ℕ → Bool
 is_literal_rest is_digit is_letter [] = false
-is_literal_rest is_digit is_letter (c ∷ cs) = if c == 39 then is_sole is_letter cs else is_digit c && is_literal_rest is_digit is_letter cs
+is_literal_rest is_digit is_letter
+    (c ∷ cs) = if c == 39 then is_sole is_letter cs else is_digit c && is_literal_rest is_digit
+    is_letter cs
 
 abbrev pub is_hex_letter : ℕ → Bool
 is_hex_letter c = c == 72 || c == 104
@@ -87,7 +173,8 @@ literal_of digits letter =
 
 abbrev pub hyphen_part : List ℕ → Option Part
 hyphen_part [] = None
-hyphen_part (c ∷ cs) = if is_hyphen c then then_some (is_comment_rest cs) gap else then_some (list_all is_ascii_digit (c ∷ cs)) (lexeme Number)
+hyphen_part (c ∷ cs) = if is_hyphen c then then_some (is_comment_rest cs) gap else then_some
+    (list_all is_ascii_digit (c ∷ cs)) (lexeme Number)
 
 abbrev pub symbol_part : TokenKind → List ℕ → Option Part
 symbol_part kind [] = Some (lexeme kind)
@@ -121,7 +208,8 @@ part_or_shorter n (Some part) shorter = Some (part, n)
 -- the longest front of at most so many octets that is a part, and its length
 abbrev pub longest_front : ℕ → List ℕ → Option (Part × ℕ)
 longest_front zero text = None
-longest_front (suc n) text = part_or_shorter (suc n) (part_of (take (suc n) text)) (longest_front n text)
+longest_front (suc n) text = part_or_shorter (suc n) (part_of (take (suc n) text))
+    (longest_front n text)
 
 -- the same of whole fronts: this test passes the front of n octets, and no longer one
 pub record IsLongestFront (test : List ℕ → Bool) (text : List ℕ) (n : ℕ) : Type 0 where
@@ -130,14 +218,16 @@ pub record IsLongestFront (test : List ℕ → Bool) (text : List ℕ) (n : ℕ)
   pub longest : (m : ℕ) → n < m → m ≤ length text → test (take m text) ≡ false
 
 -- the front of n octets reads as this part, and no longer one as any
-pub record IsPartFront (reading : List ℕ → Option Part) (text : List ℕ) (part : Part) (n : ℕ) : Type 0 where
+pub record IsPartFront (reading : List ℕ
+    → Option Part) (text : List ℕ) (part : Part) (n : ℕ) : Type 0 where
   pub within : n ≤ length text
   pub reads : reading (take n text) ≡ Some part
   pub longest : (m : ℕ) → n < m → m ≤ length text → reading (take m text) ≡ None
 
 -- no front reads as a lexeme; none as a gap
 abbrev pub HasNoLexeme : (List ℕ → Option Part) → List ℕ → Type 0
-HasNoLexeme reading text = (kind : TokenKind) (m : ℕ) → reading (take m text) ≡ Some (lexeme kind) → ⊥
+HasNoLexeme reading text = (kind : TokenKind) (m : ℕ)
+    → reading (take m text) ≡ Some (lexeme kind) → ⊥
 
 abbrev pub HasNoGap : List ℕ → Type 0
 HasNoGap text = (m : ℕ) → part_of (take m text) ≡ Some gap → ⊥
@@ -153,7 +243,16 @@ abbrev pub newlines : List ℕ → ℕ
 newlines text = count_by is_newline text
 
 abbrev pub lexeme_at : ℕ → ℕ → TokenKind → List ℕ → Lexeme
-lexeme_at at lines kind text = record { kind = kind; span = record { start = at; «end» = at + length text }; text = text; line = lines + 1 }
+lexeme_at at lines kind text = record {
+  kind = kind;
+  span = record {
+    start = at;
+    «end» = at +
+        length text;
+  };
+  text = text;
+  line = lines + 1;
+}
 
 -- what a part of these octets gives, before the items of the rest
 abbrev pub part_items : ℕ → ℕ → Part → List ℕ → List Item → List Item
@@ -170,17 +269,20 @@ abbrev pub front_rest : Option (Part × ℕ) → ℕ
 front_rest None = 0
 front_rest (Some front) = pred front.1
 
--- the items of a text whose first octets, so many, are read; `at` octets and `lines` ended lines stand before it
+-- the items of a text whose first octets, so many, are read; `at` octets and `lines` ended lines
+-- stand before it
 unfoldable pub items_at : ℕ → ℕ → ℕ → List ℕ → List Item
 items_at skipped at lines [] = []
 items_at (suc skipped) at lines (c ∷ cs) = items_at skipped (at + 1) (lines + newlines (c ∷ [])) cs
 items_at zero at lines (c ∷ cs) =
     front_items at lines (c ∷ cs) (longest_front (length (c ∷ cs)) (c ∷ cs))
-    (items_at (front_rest (longest_front (length (c ∷ cs)) (c ∷ cs))) (at + 1) (lines + newlines (c ∷ [])) cs)
+    (items_at (front_rest (longest_front (length (c ∷ cs)) (c ∷ cs))) (at + 1) (lines + newlines
+    (c ∷ [])) cs)
 
 -- so many octets at the front, in which so many lines end, give no item
 abbrev pub Skips : List ℕ → ℕ → ℕ → Type 0
-Skips text n lines = (at before : ℕ) → items_at 0 at before text ≡ items_at 0 (at + n) (before + lines) (drop n text)
+Skips text n lines = (at before : ℕ)
+    → items_at 0 at before text ≡ items_at 0 (at + n) (before + lines) (drop n text)
 
 -- the first n octets pass, and then make no difference to the test
 pub record GoesOn (test : List ℕ → Bool) (text : List ℕ) (n : ℕ) : Type 0 where
@@ -200,4 +302,5 @@ is_other octet c = not (c == octet)
 -- where an octet stands first, or that it stands nowhere
 abbrev pub IsFirstPlace : ℕ → List ℕ → Option ℕ → Type 0
 IsFirstPlace octet text None = list_all (is_other octet) text ≡ true
-IsFirstPlace octet text (Some i) = (i < length text) × (get_or text i 0 ≡ octet) × (list_all (is_other octet) (take i text) ≡ true)
+IsFirstPlace octet text (Some i) = (i < length text) × (get_or text i 0 ≡ octet)
+    × (list_all (is_other octet) (take i text) ≡ true)

@@ -8,7 +8,8 @@ use crate::scan::{gaps_at, is_open, lexeme_at, lines_in};
 use crate::token::{Span, Token};
 use std::marker::Model;
 
-/// An iterator over the tokens of a module text. Where neither a lexeme nor a gap begins it gives the fault, and
+/// An iterator over the tokens of a module text. Where neither a lexeme nor a gap begins it gives
+/// the fault, and
 /// then ends. It takes no memory.
 #[derive(Drop)]
 pub struct Lexer<'a> {

@@ -3,8 +3,13 @@ ghost use Rattle.std.specs.Prelude.{◌≡◌, ◌≤◌, ◌<◌, ℕ, drop, le
 ghost use Rattle.std.specs.List.{list_all};
 ghost use Rattle.std.specs.Option.{option_map};
 ghost use Rattle.std.specs.Char.{is_ascii_digit, is_ascii_hexdigit};
-ghost use Rattle.smi_lexer.specs.Lexeme.{IsLexeme, lexeme, is_binary_digit, is_blank, is_hyphen, is_open_string, is_word_octet, is_word_rest};
-ghost use Rattle.smi_lexer.specs.Reading.{GoesOn, HasNoGap, IsFirstPlace, IsLexemeFront, IsLongestFront, IsPartFront, IsRemarkEnd, Skips, is_comment_rest, is_remark_rest, hyphen_part, literal_of, literal_part, newlines, part_in, part_of, string_part, symbol_part};
+ghost use Rattle.smi_lexer.specs.Lexeme.{IsLexeme, lexeme, is_binary_digit, is_blank, is_hyphen};
+ghost use Rattle.smi_lexer.specs.Lexeme.{is_open_string, is_word_octet, is_word_rest};
+ghost use Rattle.smi_lexer.specs.Reading.{GoesOn, HasNoGap, IsFirstPlace, IsLexemeFront};
+ghost use Rattle.smi_lexer.specs.Reading.{IsLongestFront, IsPartFront, IsRemarkEnd, Skips};
+ghost use Rattle.smi_lexer.specs.Reading.{is_comment_rest, is_remark_rest, hyphen_part, literal_of};
+ghost use Rattle.smi_lexer.specs.Reading.{literal_part, newlines, part_in, part_of, string_part};
+ghost use Rattle.smi_lexer.specs.Reading.{symbol_part};
 
 use crate::class::{Class, class_of_octet};
 use crate::token::TokenKind;
@@ -167,7 +172,8 @@ fn symbol_rest(kind: TokenKind, text: &[u8]) -> (TokenKind, usize)
     }
 }
 
-/// The longest lexeme that begins with an octet of this class, and how many of the octets behind it belong to it.
+/// The longest lexeme that begins with an octet of this class, and how many of the octets behind it
+/// belong to it.
 fn lexeme_rest(class: Class, text: &[u8]) -> Option<(TokenKind, usize)>
     ensures { IsLexemeFront (part_in class) text.now result }
 {

@@ -1,7 +1,8 @@
 //! What the lexer gives to the parser: tokens of a module text.
 ghost use Rattle.smi_lexer.specs.Lexeme.{IsLexeme};
 
-/// What a token is. The words of the grammar, as `BEGIN` or `OBJECT-TYPE`, are `Upper` too: the parser tells
+/// What a token is. The words of the grammar, as `BEGIN` or `OBJECT-TYPE`, are `Upper` too: the
+/// parser tells
 /// them apart by their text.
 #[derive(Clone, Copy, Debug, PartialEq, Eq)]
 pub enum TokenKind {
@@ -51,7 +52,8 @@ pub enum TokenKind {
     Equals,
 }
 
-/// Where a token stands in the source, in octets: from `start` up to `end`, which is not part of it.
+/// Where a token stands in the source, in octets: from `start` up to `end`, which is not part of
+/// it.
 #[derive(Clone, Copy, Debug, PartialEq, Eq)]
 pub struct Span {
     pub start: usize,

@@ -1,6 +1,15 @@
 -- What the names at places rest on, and what they come to.
 use Rattle.std.specs.Prelude.{ℕ, ◌<◌, ◌≤◌, List, length, map, slice_index_or}
-use Rattle.smi_links.specs.Chain.{Origin, numbers, after, nowhere, next_of, HasEnd, Means, EndsNowhere}
+use Rattle.smi_links.specs.Chain.{
+  Origin,
+  numbers,
+  after,
+  nowhere,
+  next_of,
+  HasEnd,
+  Means,
+  EndsNowhere,
+}
 use Rattle.smi_links.specs.declared.basis.Basis.{Basis}
 use Rattle.smi_links.specs.declared.basis.Basis.TheVariants as B
 use Rattle.smi_links.specs.declared.basis.Resolution.{Resolution}
@@ -15,7 +24,8 @@ origin_of B.Nowhere = nowhere
 abbrev pub origin_at : List Basis → ℕ → Origin ℕ
 origin_at bases p = slice_index_or (map origin_of bases) p nowhere
 
--- a comes to this: to its identifier, of at most 128 numbers (RFC 2578, section 3.5), or to none, for
+-- a comes to this: to its identifier, of at most 128 numbers (RFC 2578, section 3.5), or to none,
+-- for
 -- one of three reasons
 abbrev pub ComesTo : {A : Type 0} → (A → Origin A) → A → Resolution → Type 0
 ComesTo origin a (R.Numbers o) = Means origin a o × (length o ≤ 128)

@@ -1,5 +1,19 @@
 -- The state of the search for places whose chains end.
-use Rattle.std.specs.Prelude.{◌≡◌, ◌≢◌, ℕ, ◌<◌, List, [], ◌∷◌, length, slice_index_or, All, Contains, Option, Some}
+use Rattle.std.specs.Prelude.{
+  ◌≡◌,
+  ◌≢◌,
+  ℕ,
+  ◌<◌,
+  List,
+  [],
+  ◌∷◌,
+  length,
+  slice_index_or,
+  All,
+  Contains,
+  Option,
+  Some,
+}
 use Rattle.smi_links.specs.Chain.{HasEnd}
 use Rattle.smi_links.specs.Order.{next_at, ComeAfterNext}
 use Rattle.smi_links.specs.declared.order.Mark.{Mark}

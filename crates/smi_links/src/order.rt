@@ -1,5 +1,6 @@
 //! The places of chains in an order in which each comes after the one that it leads to.
-ghost use Rattle.std.specs.Prelude.{◌≡◌, ◌≢◌, ◌⊎◌, ℕ, ◌<◌, ◌↔◌, List, [], ◌∷◌, length, All, Contains, Option, IfOk, IsTrue, Some, true, false, vec_len};
+ghost use Rattle.std.specs.Prelude.{◌≡◌, ◌≢◌, ◌⊎◌, ℕ, ◌<◌, ◌↔◌, List, [], ◌∷◌, length, All};
+ghost use Rattle.std.specs.Prelude.{Contains, Option, IfOk, IsTrue, Some, true, false, vec_len};
 ghost use Rattle.smi_links.specs.Chain.{HasEnd};
 ghost use Rattle.smi_links.specs.Order.{next_at, ComeAfterNext};
 ghost use Rattle.smi_links.specs.Search.{Keeps, Leads, StayReached, mark_at};
@@ -25,14 +26,16 @@ struct Search {
     path: Vec<usize>,
 }
 
-/// The places whose chains end, each after the one that it leads to. What leads beyond the last place
+/// The places whose chains end, each after the one that it leads to. What leads beyond the last
+/// place
 /// ends there.
 ///
 /// Each place is visited once, without recursion.
 pub fn ordered(alloc: Global, next: &[Option<usize>]) -> Result<Vec<usize>, AllocError>
     ensures within { IfOk result (λ order. All (λ p. p < length next.now) order.items) }
     ensures only_ended { IfOk result (λ order. All (HasEnd (next_at next.now)) order.items) }
-    ensures each_ended { IfOk result (λ order. (p : ℕ) → p < length next.now → HasEnd (next_at next.now) p → Contains order.items p) }
+    ensures each_ended { IfOk result (λ order. (p : ℕ) → p < length next.now
+        → HasEnd (next_at next.now) p → Contains order.items p) }
     ensures after_next { IfOk result (λ order. ComeAfterNext next.now order.items) }
 {
     let mut search = Search {
@@ -49,7 +52,8 @@ pub fn ordered(alloc: Global, next: &[Option<usize>]) -> Result<Vec<usize>, Allo
 impl Search {
     /// Goes from a place to the next, and on, as far as places are new; says where that ends.
     fn climb(&mut self, next: &[Option<usize>], start: usize) -> Result<Option<usize>, AllocError>
-        requires kept { Keeps next.now self.old.marks.items self.old.order.items self.old.path.items }
+        requires kept { Keeps next.now self.old.marks.items self.old.order.items
+            self.old.path.items }
         requires at_start { self.old.path.items ≡ [] }
         requires inside { start < length next.now }
         ensures kept { IfOk result (λ _.
@@ -58,7 +62,9 @@ impl Search {
         ensures stopped { IfOk result (λ to. (p : ℕ) → to ≡ Some p → p < length next.now
             → mark_at self.new.marks.items p ≢ Mark.New) }
         ensures reached { IfOk result (λ _. mark_at self.new.marks.items start ≢ Mark.New) }
-        ensures reached_before { IfOk result (λ _. (p : ℕ) → mark_at self.old.marks.items p ≢ Mark.New → mark_at self.new.marks.items p ≢ Mark.New) }
+        ensures reached_before { IfOk result (λ _. (p : ℕ)
+            → mark_at self.old.marks.items p ≢ Mark.New
+            → mark_at self.new.marks.items p ≢ Mark.New) }
     {
         let mut to = Some(start);
         'up: while let Some(at) = to {
@@ -82,8 +88,10 @@ impl Search {
 
     /// Whether a climb that stopped here has come to an end of its chain.
     fn has_ended(&self, to: Option<usize>) -> bool
-        ensures met { result ≡ false → (p : ℕ) × (to ≡ Some p) × (mark_at self.now.marks.items p ≡ Mark.Met) }
-        ensures other { result ≡ true → (p : ℕ) → to ≡ Some p → mark_at self.now.marks.items p ≢ Mark.Met }
+        ensures met { result ≡ false → (p : ℕ) × (to ≡ Some p)
+            × (mark_at self.now.marks.items p ≡ Mark.Met) }
+        ensures other { result ≡ true → (p : ℕ) → to ≡ Some p
+            → mark_at self.now.marks.items p ≢ Mark.Met }
     {
         match to {
             None => true,
@@ -94,14 +102,17 @@ impl Search {
     /// Climbs from a place, and puts the places of the path into the order, the last one first, if
     /// their chain ends.
     fn visit(&mut self, next: &[Option<usize>], start: usize) -> Result<(), AllocError>
-        requires kept { Keeps next.now self.old.marks.items self.old.order.items self.old.path.items }
+        requires kept { Keeps next.now self.old.marks.items self.old.order.items
+            self.old.path.items }
         requires at_start { self.old.path.items ≡ [] }
         requires inside { start < length next.now }
         ensures kept { IfOk result (λ _.
             Keeps next.now self.new.marks.items self.new.order.items self.new.path.items) }
         ensures at_end { IfOk result (λ _. self.new.path.items ≡ []) }
         ensures reached { IfOk result (λ _. mark_at self.new.marks.items start ≢ Mark.New) }
-        ensures reached_before { IfOk result (λ _. (p : ℕ) → mark_at self.old.marks.items p ≢ Mark.New → mark_at self.new.marks.items p ≢ Mark.New) }
+        ensures reached_before { IfOk result (λ _. (p : ℕ)
+            → mark_at self.old.marks.items p ≢ Mark.New
+            → mark_at self.new.marks.items p ≢ Mark.New) }
     {
         let to = self.climb(next, start)?;
         if !self.has_ended(to) {

@@ -11,11 +11,13 @@ use std::alloc::{AllocError, Global};
 
 /// What the name at each place comes to.
 ///
-/// Each place is visited once, without recursion, so chains may be of any length and may lead back to
+/// Each place is visited once, without recursion, so chains may be of any length and may lead back
+/// to
 /// themselves.
 pub fn resolutions(alloc: Global, bases: &[Basis]) -> Result<Vec<Resolution>, AllocError>
     ensures length { IfOk result (λ resolutions. length resolutions.items ≡ length bases.now) }
-    ensures each { IfOk result (λ resolutions. EachComesTo (origin_at bases.now) resolutions.items) }
+    ensures each { IfOk result
+        (λ resolutions. EachComesTo (origin_at bases.now) resolutions.items) }
 {
     let next = next_places(alloc, bases)?;
     let order = ordered(alloc, &next)?;

@@ -6,7 +6,11 @@ use Rattle.smi_lexer.specs.Reading.{IsLongestFront, Skips, is_comment_rest}
 use Rattle.smi_lexer.proofs.Gaps.{newlines-newline, newlines-other, skips_blank, skips_comment, gaps_end, gaps_stop}
 use Rattle.smi_lexer.proofs.Scans.{begins_at, begins_past}
 use Rattle.smi_lexer.proofs.scan.gaps_at.Goals as goal
-use Rattle.smi_lexer.proofs.scan.gaps_at.Goals.{else-text-n-eq45-via-then-text-n-eq45+then-n-text+else-text-n-eq45-2, else-text-n-eq45-via-then-text-n-eq45+else-n-text, else-text-n-eq45-via-else-text-n-eq45}
+use Rattle.smi_lexer.proofs.scan.gaps_at.Goals.{
+  else-text-n-eq45-via-then-text-n-eq45+then-n-text+else-text-n-eq45-2,
+  else-text-n-eq45-via-then-text-n-eq45+else-n-text,
+  else-text-n-eq45-via-else-text-n-eq45,
+}
 
 pub gaps-preserved-then-text-n-eq10 : goal.gaps-preserved-then-text-n-eq10
 gaps-preserved-then-text-n-eq10 c =
@@ -17,7 +21,8 @@ gaps-preserved-then-text-n-eq10 c =
     record {
       within = omega arith;
       lines = omega arith;
-      skips = subst (λ m. Skips text (n + 1) (c.gaps.lines + m)) (newlines-newline octet newline) (skips_blank text n c.gaps.lines c.gaps-test.true (ap is_blank newline) c.gaps.invariant.skips);
+      skips = subst (λ m. Skips text (n + 1) (c.gaps.lines + m)) (newlines-newline octet newline) (skips_blank text n c.gaps.lines c.gaps-test.true
+          (ap is_blank newline) c.gaps.invariant.skips);
     }
 
 pub gaps-preserved-then-is_blank : goal.gaps-preserved-then-is_blank
@@ -38,7 +43,8 @@ gaps-preserved c =
     let text = c.args.text.now in
     let n = c.gaps.n in
     let k = c.comment_rest_len.result in
-    let front : IsLongestFront is_comment_rest (drop (n + 2) text) k = subst (λ s. IsLongestFront is_comment_rest s k) (take_rest text (n + 2)) c.comment_rest_len.ensures in
+    let front : IsLongestFront is_comment_rest (drop (n + 2) text) k = subst (λ s. IsLongestFront is_comment_rest s k) (take_rest text
+    (n + 2)) c.comment_rest_len.ensures in
     record {
       within = omega (arith, front.within, length-drop (n + 2) text);
       lines = omega arith;
@@ -55,7 +61,8 @@ returns-else-text-n-eq45-clause-all c =
     let n = c.gaps.n in
     gaps_stop text n c.gaps-test.true (sym c.is_blank.ensures ∙ c.if-is_blank.false)
     (λ hyphen. elim c.else-text-n-eq45.branch [
-      | else-text-n-eq45-via-then-text-n-eq45+then-n-text+else-text-n-eq45-2 w ↦ begins_at is_hyphen text (n + 1) w.if-n-text.true ∙ ne_eqb _ _ w.if-text-n-eq45-2.false
+      | else-text-n-eq45-via-then-text-n-eq45+then-n-text+else-text-n-eq45-2 w ↦ begins_at is_hyphen text (n + 1) w.if-n-text.true
+          ∙ ne_eqb _ _ w.if-text-n-eq45-2.false
       | else-text-n-eq45-via-then-text-n-eq45+else-n-text w ↦ begins_past is_hyphen text (n + 1) w.if-n-text.false
       | else-text-n-eq45-via-else-text-n-eq45 w ↦ absurd (w.if-text-n-eq45.false hyphen)
     ])

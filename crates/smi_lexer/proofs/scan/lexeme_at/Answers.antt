@@ -17,7 +17,8 @@ pub returns-in_err-kind : goal.returns-in_err-kind
 returns-in_err-kind c =
     subst (IsLexemeFront part_of c.args.text.now) (sym c.from_residual-in_err-kind.ensures)
     (subst (HasNoLexeme part_of) (sym c.in_ok-first.ensures.cases.0)
-    (none_behind_first c.in_ok-first.first.now c.in_ok-first.rest.now (subst (λ class. HasNoLexeme (part_in class) c.in_ok-first.rest.now) c.class_of_octet.ensures c.in_err-kind.ensures)))
+    (none_behind_first c.in_ok-first.first.now c.in_ok-first.rest.now (subst (λ class. HasNoLexeme
+    (part_in class) c.in_ok-first.rest.now) c.class_of_octet.ensures c.in_err-kind.ensures)))
 
 pub returns : goal.returns
 returns c =

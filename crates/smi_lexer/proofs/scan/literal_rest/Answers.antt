@@ -14,10 +14,12 @@ returns-in_err-kind c =
     let text = c.args.text.now in
     let place = c.in_ok-end.ensures in
     subst (IsLexemeFront literal_part text) (sym c.from_residual-in_err-kind.ensures)
-    (literal_front text c.in_ok-end.end place (omega (arith, place.0)) None (c.in_err-kind.ensures ∙ ap (λ s. literal_of s (get_or text (c.in_ok-end.end + 1) 0)) c.split_at.ensures.front))
+    (literal_front text c.in_ok-end.end place (omega (arith, place.0)) None (c.in_err-kind.ensures
+    ∙ ap (λ s. literal_of s (get_or text (c.in_ok-end.end + 1) 0)) c.split_at.ensures.front))
 
 pub returns : goal.returns
 returns c =
     let text = c.args.text.now in
     let place = c.in_ok-end.ensures in
-    literal_front text c.in_ok-end.end place (omega (arith, place.0)) (Some c.in_ok-kind.kind) (c.in_ok-kind.ensures ∙ ap (λ s. literal_of s (get_or text (c.in_ok-end.end + 1) 0)) c.split_at.ensures.front)
+    literal_front text c.in_ok-end.end place (omega (arith, place.0)) (Some c.in_ok-kind.kind) (c.in_ok-kind.ensures
+    ∙ ap (λ s. literal_of s (get_or text (c.in_ok-end.end + 1) 0)) c.split_at.ensures.front)

@@ -9,11 +9,13 @@ use Rattle.smi_lexer.proofs.scan.place_of.Goals as goal
 
 pub returns-then-other-octet : goal.returns-then-other-octet
 returns-then-other-octet c =
-    let stop = passing_stop (is_other c.args.octet) c.args.text.now c.octets.i c.octets-test.true (ap not (eq-eqb _ _ c.if-other-octet.true)) c.octets.invariant in
+    let stop = passing_stop (is_other c.args.octet) c.args.text.now c.octets.i c.octets-test.true (ap not
+    (eq-eqb _ _ c.if-other-octet.true)) c.octets.invariant in
     (c.octets-test.true, c.if-other-octet.true, stop.passes)
 
 pub octets-preserved : goal.octets-preserved
-octets-preserved c = passing_step (is_other c.args.octet) c.args.text.now c.octets.i c.octets-test.true (ap not (ne_eqb _ _ c.if-other-octet.false)) c.octets.invariant
+octets-preserved c = passing_step (is_other c.args.octet) c.args.text.now c.octets.i c.octets-test.true (ap not
+    (ne_eqb _ _ c.if-other-octet.false)) c.octets.invariant
 
 pub returns : goal.returns
 returns c =
