@@ -103,12 +103,47 @@ def got(rows, objects, name):
     return NO_INSTANCE if any(name[:len(it)] == it for it in objects) else NO_OBJECT
 
 
-def walk(rows, objects, root):
+def wire(name):
+    return name + (0,) * (2 - len(name))
+
+
+def walk(rows, objects, root, mode):
+    """The bindings of a walk that isn't resumed: with -Ci, with -CI, or plain."""
     below = sorted(name for name in rows if len(name) > len(root) and name[:len(root)] == root)
-    if below:
-        return [(name, rows[name]) for name in below]
-    wire = root + (0,) * (2 - len(root))
-    return [(wire, got(rows, objects, wire))]
+    given = [(name, rows[name]) for name in below]
+    if mode == "i":
+        own = [(name, rows[name]) for name in rows if name == wire(root)]
+        return own + given
+    if mode == "I" or given:
+        return given
+    return [(wire(root), got(rows, objects, wire(root)))]
+
+
+def rest(rows, root, after):
+    """The bindings of a walk that goes on after a name."""
+    return [it for it in walk(rows, [], root, "I") if it[0] > wire(after)]
+
+
+def random_walk(rng, rows, objects):
+    """The words of a walk, and the bindings that it has to print."""
+    names = list(rows) or [(1, 3, 6)]
+    root = rng.choice([rng.choice(names)[:rng.randint(0, 4)], random_name(rng)])
+    command = rng.choice(["snmpwalk", "snmpbulkwalk"])
+    words = [command, "-On", "--max-size", str(rng.choice([400, 1472, 65507]))]
+    mode = rng.choice(["", "", "i"] + ["I"] * (command == "snmpwalk"))
+    counts = rng.random() < 0.3
+    if command == "snmpbulkwalk" and rng.random() < 0.7:
+        words.append(f"-Cr{rng.choice([1, 2, 7, 2147483647])}")
+    if mode or counts:
+        words.append("-C" + mode + "p" * counts)
+    bindings = walk(rows, objects, root, mode)
+    below = [name for name, _ in walk(rows, objects, root, "I")]
+    if below and rng.random() < 0.3:
+        after = rng.choice(below)
+        words += ["--after", dotted(after)]
+        bindings = rest(rows, root, after)
+    lines = "".join(f"{dotted(name)} = {value}\n" for name, value in bindings)
+    return words + ["table:t.tab", dotted(root)], lines + f"Variables found: {len(bindings)}\n" * counts
 
 
 def main():
@@ -120,16 +155,13 @@ def main():
             rows, objects, text = random_table(rng)
             with open(f"{folder}/t.tab", "w", newline="") as file:
                 file.write(text)
-            names = list(rows) or [(1, 3, 6)]
-            root = rng.choice([rng.choice(names)[:rng.randint(0, 4)], random_name(rng)])
-            command = [PROGRAM, "snmpwalk", "-On", "table:t.tab", dotted(root)]
-            ran = subprocess.run(command, cwd=folder, capture_output=True)
-            lines = "".join(f"{dotted(name)} = {value}\n" for name, value in walk(rows, objects, root))
+            words, lines = random_walk(rng, rows, objects)
+            ran = subprocess.run([PROGRAM, *words], cwd=folder, capture_output=True)
             if (ran.returncode, ran.stdout.decode(), ran.stderr) == (0, lines, b""):
                 passed += 1
             else:
                 failed += 1
-                print(f"FAILED: run {run} of seed {seed}: {command}\n{text}\n-- wanted\n{lines}\n-- got\n{ran}")
+                print(f"FAILED: run {run} of seed {seed}: {words}\n{text}\n-- wanted\n{lines}\n-- got\n{ran}")
     print(f"{passed} passed, {failed} failed")
     return 1 if failed else 0
 
