@@ -6,7 +6,8 @@ use snmp_table::Table;
 use snmp_wire::decode;
 use std::alloc::Global;
 
-/// Reads the table, replies to the request that many times, and returns the number of bindings of the last
+/// Reads the table, replies to the request that many times, and returns the number of bindings of
+/// the last
 /// reply; the greatest number where the table is refused or there is no reply.
 #[unsafe(no_mangle)]
 pub extern "C" fn agent_bench(

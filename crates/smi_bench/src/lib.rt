@@ -1,10 +1,12 @@
-//! The reading of module texts as functions that a C program can call: what `bench/modules.sh` counts.
+//! The reading of module texts as functions that a C program can call: what `bench/modules.sh`
+//! counts.
 #![tactic(auto)]
 
 use smi_text::{Lexer, parse_modules};
 use std::alloc::Global;
 
-/// How many definitions the modules of a text have together; the greatest number where the text is refused.
+/// How many definitions the modules of a text have together; the greatest number where the text is
+/// refused.
 #[unsafe(no_mangle)]
 pub extern "C" fn smi_definitions_in(alloc: Global, text: &[u8]) -> usize {
     let Ok(modules) = parse_modules(alloc, text) else {

@@ -1,5 +1,34 @@
 -- Branches stay those of a list as it grows.
-use Rattle.std.proofs.Common.{◌≡◌, ◌≢◌, ℕ, zero, suc, ◌+◌, ◌<◌, ◌≤◌, ◌⊎◌, inl, inr, List, [], ◌∷◌, ◌++◌, length, take, drop, get_or, MatchOption, Option, Some, None, refl, sym, ap, ◌∙◌, arith}
+use Rattle.std.proofs.Common.{
+  ◌≡◌,
+  ◌≢◌,
+  ℕ,
+  zero,
+  suc,
+  ◌+◌,
+  ◌<◌,
+  ◌≤◌,
+  ◌⊎◌,
+  inl,
+  inr,
+  List,
+  [],
+  ◌∷◌,
+  ◌++◌,
+  length,
+  take,
+  drop,
+  get_or,
+  MatchOption,
+  Option,
+  Some,
+  None,
+  refl,
+  sym,
+  ap,
+  ◌∙◌,
+  arith,
+}
 use Rattle.std.proofs.lemmas.List.{length_push, get_or_append_left, get_or_push, take-append-drop, take_more, take-take}
 use Rattle.std.proofs.lemmas.Bool.{cases_eq, cases_lt}
 use Rattle.std.specs.Option.{option_and_then}
@@ -21,7 +50,8 @@ place_off known oids bs are o e = by (place_of oids o) refl
         let f = place_found oids o k h in let b = are.each k f.0 in let same = rw f.1 at b.1 in absurd (cc)
 
 -- nor is anything that goes on from it
-pub places_off : (known oids : List (List ℕ)) (bs : List Branch) → AreBranches known oids bs → (xs ys : List ℕ) → branch_of bs xs ≡ None → place_of oids (xs ++ ys) ≡ None
+pub places_off : (known oids : List (List ℕ)) (bs : List Branch) → AreBranches known oids bs → (xs ys : List ℕ) → branch_of bs xs ≡ None
+    → place_of oids (xs ++ ys) ≡ None
 places_off known oids bs are xs ys e = place_off known oids bs are (xs ++ ys) (by (branch_of bs (xs ++ ys)) refl)
   where
     by : (r : Option ℕ) → branch_of bs (xs ++ ys) ≡ r → r ≡ None
@@ -123,7 +153,11 @@ Branches-ended oids p bs new at are here long same stands others =
       ];
       each = λ k l. elim (cases_lt k (length oids)) [
         | inl m ↦ let b = are.each k m in (b.0, walks 0 (oid_at (oids ++ p ∷ []) k) ∙ rw (get_or_append_left oids (p ∷ []) [] k m) b.1)
-        | inr m ↦ let is : length oids ≡ k = omega (arith, length_push oids p) in (at, walks 0 (oid_at (oids ++ p ∷ []) k) ∙ rw (get_or_push oids p [] k is) here)
+        | inr m ↦ let is : length oids ≡ k = omega (arith, length_push oids p) in (
+          at,
+          walks 0 (oid_at (oids ++ p ∷ []) k)
+              ∙ rw (get_or_push oids p [] k is) here,
+        )
       ];
       only = λ o b e f. are.only o b (sym (walks 0 o) ∙ e) f;
     }
@@ -192,7 +226,8 @@ SoFar oids o i None = (j : ℕ) → j ≤ i → place_of oids (take j o) ≡ Non
 SoFar oids o i (Some d) =
     (d.depth ≤ i) × (place_of oids (take d.depth o) ≡ Some d.place) × ((j : ℕ) → d.depth < j → j ≤ i → place_of oids (take j o) ≡ None)
 
-pub SoFar-none : (oids : List (List ℕ)) (o : List ℕ) (i : ℕ) (r : Option Deepest) → SoFar oids o i r → place_of oids (take (i + 1) o) ≡ None → SoFar oids o (i + 1) r
+pub SoFar-none : (oids : List (List ℕ)) (o : List ℕ) (i : ℕ) (r : Option Deepest) → SoFar oids o i r → place_of oids (take (i + 1) o) ≡ None
+    → SoFar oids o (i + 1) r
 SoFar-none oids o i None f e = λ j l. elim (cases_lt i j) [ inl m ↦ let is : j ≡ i + 1 = omega arith in rw is e | inr m ↦ f j m ]
 SoFar-none oids o i (Some d) f e = (
   omega (arith, f.0),
@@ -203,7 +238,8 @@ SoFar-none oids o i (Some d) f e = (
   ],
 )
 
-pub SoFar-some : (oids : List (List ℕ)) (o : List ℕ) (i k : ℕ) → place_of oids (take (i + 1) o) ≡ Some k → SoFar oids o (i + 1) (Some (record { place = k; depth = i + 1 }))
+pub SoFar-some : (oids : List (List ℕ)) (o : List ℕ) (i k : ℕ) → place_of oids (take (i + 1) o) ≡ Some k
+    → SoFar oids o (i + 1) (Some (record { place = k; depth = i + 1 }))
 SoFar-some oids o i k e = (omega arith, e, λ j l m. absurd (omega arith))
 
 pub SoFar-off : (oids : List (List ℕ)) (o : List ℕ) (i n : ℕ) (r : Option Deepest) → SoFar oids o i r

@@ -1,6 +1,24 @@
--- Which place of a list of identifiers stands for an identifier: the first with it. What is asked of such
+-- Which place of a list of identifiers stands for an identifier: the first with it. What is asked
+-- of such
 -- a list.
-use Rattle.std.specs.Prelude.{◌≡◌, ℕ, ◌<◌, ◌≤◌, List, [], ◌∷◌, ◌++◌, length, take, slice_index_or, Contains, Option, Some, None, nat_eq}
+use Rattle.std.specs.Prelude.{
+  ◌≡◌,
+  ℕ,
+  ◌<◌,
+  ◌≤◌,
+  List,
+  [],
+  ◌∷◌,
+  ◌++◌,
+  length,
+  take,
+  slice_index_or,
+  Contains,
+  Option,
+  Some,
+  None,
+  nat_eq,
+}
 use Rattle.std.specs.List.{position_from, filter_map}
 use Rattle.std.specs.Cmp.Lexicographic.{pointwise}
 use Rattle.std.specs.List.Sorted.{IsStrictlySortedBy}
@@ -14,7 +32,8 @@ place_of oids o = position_from (λ x. pointwise nat_eq x o) 0 oids
 abbrev pub oid_at : List (List ℕ) → ℕ → List ℕ
 oid_at oids k = slice_index_or oids k []
 
--- the numbers from the left, so many of them, are an identifier of the list, and no more of them are
+-- the numbers from the left, so many of them, are an identifier of the list, and no more of them
+-- are
 pub record IsDeepestAt (oids : List (List ℕ)) (o : List ℕ) (place depth : ℕ) : Type 0 where
   pub within : depth ≤ length o
   pub here : place_of oids (take depth o) ≡ Some place
@@ -24,7 +43,8 @@ pub record IsDeepestAt (oids : List (List ℕ)) (o : List ℕ) (place depth : �
 abbrev pub HasNone : List (List ℕ) → List ℕ → Type 0
 HasNone oids o = (j : ℕ) → j ≤ length o → place_of oids (take j o) ≡ None
 
--- the places of the identifiers that are one number longer than o, in the order of that number: those that
+-- the places of the identifiers that are one number longer than o, in the order of that number:
+-- those that
 -- stand for their identifiers
 pub record AreChildren (oids : List (List ℕ)) (o : List ℕ) (places : List ℕ) : Type 0 where
   pub numbers : List ℕ

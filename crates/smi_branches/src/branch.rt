@@ -1,5 +1,7 @@
-//! The branches: for each beginning of an identifier, the numbers that follow it, in order, and what stands there.
-ghost use Rattle.std.specs.Prelude.{◌≡◌, ◌<◌, ◌+◌, ℕ, List, [], ◌∷◌, ◌++◌, length, take, IfOk, Some, None, option_copied};
+//! The branches: for each beginning of an identifier, the numbers that follow it, in order, and
+//! what stands there.
+ghost use Rattle.std.specs.Prelude.{◌≡◌, ◌<◌, ◌+◌, ℕ, List, [], ◌∷◌, ◌++◌, length, take, IfOk};
+ghost use Rattle.std.specs.Prelude.{Some, None, option_copied};
 ghost use Rattle.smi_branches.specs.Branches.{follower, Grows, AreBranchesOf};
 
 use snmp_oid::Oid;
@@ -67,7 +69,8 @@ pub(crate) fn add(
 ) -> Result<(), AllocError>
     requires within { place < length oids.now }
     requires before { AreBranchesOf (take place oids.now) branches.old.items }
-    ensures added { IfOk result (λ _. AreBranchesOf (take (place + 1) oids.now) branches.new.items) }
+    ensures added { IfOk result
+        (λ _. AreBranchesOf (take (place + 1) oids.now) branches.new.items) }
 {
     let oid = &oids[place];
     let mut at = 0;

@@ -1,5 +1,6 @@
 //! A list of identifiers, with what follows each beginning of one.
-ghost use Rattle.std.specs.Prelude.{◌≡◌, ◌<◌, ◌≤◌, ℕ, List, [], ◌∷◌, ◌++◌, length, IfOk, MatchOption};
+ghost use Rattle.std.specs.Prelude.{◌≡◌, ◌<◌, ◌≤◌, ℕ, List, [], ◌∷◌, ◌++◌, length, IfOk};
+ghost use Rattle.std.specs.Prelude.{MatchOption};
 ghost use Rattle.std.specs.Ordering.{nat_cmp};
 ghost use Rattle.std.specs.BTreeMap.{get};
 ghost use Rattle.std.specs.Iterator.{YieldsFirst, item_count};
@@ -85,7 +86,8 @@ impl Identifiers {
         standing(&self.branches, at)
     }
 
-    /// The place of the longest beginning of an identifier that is in the list, the whole identifier among
+    /// The place of the longest beginning of an identifier that is in the list, the whole
+    /// identifier among
     /// them.
     pub fn deepest(&self, oid: &Oid) -> Option<Deepest>
         ensures { MatchOption result
@@ -105,7 +107,8 @@ impl Identifiers {
         deepest
     }
 
-    /// The places of the identifiers that are one number longer, in the order of that number. Each stands for
+    /// The places of the identifiers that are one number longer, in the order of that number. Each
+    /// stands for
     /// its identifier.
     pub fn children(&self, oid: &Oid) -> Children<'_>
         ensures { AreChildren self.now oid.now (places_left result) }

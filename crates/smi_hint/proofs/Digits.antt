@@ -1,5 +1,32 @@
 -- Digits read from the front of a text, and written from the last to the first.
-use Rattle.std.proofs.Common.{◌≡◌, ℕ, suc, ◌+◌, ◌-◌, ◌*◌, ◌/◌, ◌%◌, ◌<◌, ◌≤◌, true, false, List, [], ◌∷◌, length, take, drop, get_or, refl, sym, ◌∙◌, ap, subst, arith, rules}
+use Rattle.std.proofs.Common.{
+  ◌≡◌,
+  ℕ,
+  suc,
+  ◌+◌,
+  ◌-◌,
+  ◌*◌,
+  ◌/◌,
+  ◌%◌,
+  ◌<◌,
+  ◌≤◌,
+  true,
+  false,
+  List,
+  [],
+  ◌∷◌,
+  length,
+  take,
+  drop,
+  get_or,
+  refl,
+  sym,
+  ◌∙◌,
+  ap,
+  subst,
+  arith,
+  rules,
+}
 use Rattle.std.specs.Fmt.{digits, digits_onto, digit_glyph}
 use Rattle.std.specs.Char.{is_ascii_digit}
 use Rattle.std.specs.Int.{IsInRange}
@@ -52,29 +79,34 @@ front_is_digits text k low =
     subst P (sym same) digit
 
 -- a digit written before those that are there
-pub written_before : (at base left n digit : ℕ) (text : List ℕ) → 0 < at → at ≤ length text → AreLeft at base left (drop at text) n → digit ≡ digit_glyph false (left % base)
+pub written_before : (at base left n digit : ℕ) (text : List ℕ) → 0 < at → at ≤ length text → AreLeft at base left (drop at text) n
+    → digit ≡ digit_glyph false (left % base)
     → (left / base == 0) ≡ false → AreLeft (at - 1) base (left / base) (drop (at - 1) (set text (at - 1) digit)) n
 written_before at base left n digit text some within h is_digit more =
     let k : ℕ = at - 1 in
     let e : at ≡ suc k = omega arith in
     let P : ℕ → Type 0 = λ a. AreLeft a base left (drop a text) n in
-    let last : drop k (set text k digit) ≡ digit_glyph false (left % base) ∷ drop (suc k) text = drop-set text k digit (omega arith) ∙ (rw (add-one, is_digit) refl) in
+    let last : drop k (set text k digit) ≡ digit_glyph false (left % base) ∷ drop (suc k) text = drop-set text k digit (omega arith)
+    ∙ (rw (add-one, is_digit) refl) in
     rw last (one_written k base left n (drop (suc k) text) (subst P e h) more)
 
-pub written_last : (at base left n digit : ℕ) (text : List ℕ) → 0 < at → at ≤ length text → AreLeft at base left (drop at text) n → digit ≡ digit_glyph false (left % base)
+pub written_last : (at base left n digit : ℕ) (text : List ℕ) → 0 < at → at ≤ length text → AreLeft at base left (drop at text) n
+    → digit ≡ digit_glyph false (left % base)
     → (left / base == 0) ≡ true → drop (at - 1) (set text (at - 1) digit) ≡ digits base false n
 written_last at base left n digit text some within h is_digit no_more =
     let k : ℕ = at - 1 in
     let e : at ≡ suc k = omega arith in
     let P : ℕ → Type 0 = λ a. AreLeft a base left (drop a text) n in
-    let last : drop k (set text k digit) ≡ digit_glyph false (left % base) ∷ drop (suc k) text = drop-set text k digit (omega arith) ∙ (rw (add-one, is_digit) refl) in
+    let last : drop k (set text k digit) ≡ digit_glyph false (left % base) ∷ drop (suc k) text = drop-set text k digit (omega arith)
+    ∙ (rw (add-one, is_digit) refl) in
     last ∙ last_written k base left n (drop (suc k) text) (subst P e h) no_more
 
 pub all_written : (base left n : ℕ) (text : List ℕ) → AreLeft 0 base left (drop 0 text) n → drop 0 text ≡ digits base false n
 all_written base left n text h = h.same
 
 -- one digit more
-pub value_more : (digits : List ℕ) (i n d : ℕ) → i < length digits → IsInRange 48 57 (get_or digits i 0) → n ≡ digits_value 10 (take i digits) → d ≡ get_or digits i 0 - 48
+pub value_more : (digits : List ℕ) (i n d : ℕ) → i < length digits → IsInRange 48 57 (get_or digits i 0) → n ≡ digits_value 10 (take i digits)
+    → d ≡ get_or digits i 0 - 48
     → n * 10 + d ≡ digits_value 10 (take (i + 1) digits)
 value_more digits i n d low digit e f =
     let more = digits_value_more 10 digits i low in
@@ -104,7 +136,8 @@ below_56_bits n i low short =
     omega (arith, le, low)
 
 -- a text that names no number of places
-pub no_places : (text : List ℕ) → ((places : ℕ) → StartsWithNumber text places [] → places ≤ 20 → ⊥) → (form : NumberForm) → IsNumberHint (100 ∷ 45 ∷ text) form → ⊥
+pub no_places : (text : List ℕ) → ((places : ℕ) → StartsWithNumber text places [] → places ≤ 20 → ⊥) → (form : NumberForm)
+    → IsNumberHint (100 ∷ 45 ∷ text) form → ⊥
 no_places text none (form.Decimal places) (inl h) = absurd (cc h.0)
 no_places text none (form.Decimal places) (inr h) =
     let same : h.after_hyphen ≡ text = cc h.whole in

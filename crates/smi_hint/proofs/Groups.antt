@@ -1,5 +1,43 @@
 -- The pieces and groups that octets are still to be cut into, and those that they were cut into.
-use Rattle.std.proofs.Common.{◌≡◌, ◌≢◌, ℕ, zero, suc, ◌+◌, ◌-◌, ◌<◌, ◌≤◌, Bool, true, false, List, [], ◌∷◌, ◌++◌, length, take, drop, replicate, refl, sym, ◌∙◌, ap, subst, arith, rules, tests, inl, inr, ◌⊎◌, append-nil, Option, None, option_to_list, if◌then◌else◌, length-drop}
+use Rattle.std.proofs.Common.{
+  ◌≡◌,
+  ◌≢◌,
+  ℕ,
+  zero,
+  suc,
+  ◌+◌,
+  ◌-◌,
+  ◌<◌,
+  ◌≤◌,
+  Bool,
+  true,
+  false,
+  List,
+  [],
+  ◌∷◌,
+  ◌++◌,
+  length,
+  take,
+  drop,
+  replicate,
+  refl,
+  sym,
+  ◌∙◌,
+  ap,
+  subst,
+  arith,
+  rules,
+  tests,
+  inl,
+  inr,
+  ◌⊎◌,
+  append-nil,
+  Option,
+  None,
+  option_to_list,
+  if◌then◌else◌,
+  length-drop,
+}
 use Rattle.std.specs.Bool.{◌==◌, nat_lt}
 use Rattle.std.proofs.lemmas.List.{length-replicate}
 use Rattle.text_draft.specs.Draft.{Written, Grows, Adds}
@@ -39,7 +77,8 @@ more_mark spec (suc ahead) (octet ∷ more) some left =
     let more_ahead : (suc ahead == 0) ≡ false = search (rules, tests) in rw more_ahead refl
 
 pub one_piece : (spec : Spec) (ahead : ℕ) (left : List ℕ) (old now new : Written) (rest : List ℕ) → left ≢ []
-    → Grows old (piece_text spec.format (take spec.length left) ++ mark_before (if ahead == 0 then last_mark spec else spec.separator) (drop spec.length left)) now
+    → Grows old (piece_text spec.format (take spec.length left) ++ mark_before (if ahead == 0 then last_mark spec else spec.separator)
+    (drop spec.length left)) now
     → AppendsPieces spec ahead (drop spec.length left) now new rest → AppendsPieces spec (ahead + 1) left old new rest
 one_piece spec ahead left old now new rest some first h = go h.pieces h.cut h.grows
   where
@@ -76,7 +115,8 @@ one_piece spec ahead left old now new rest some first h = go h.pieces h.cut h.gr
         }
 
 -- pieces of no octets, with no mark between them, have the text of one
-empty_pieces : (spec : Spec) (n : ℕ) (octets : List ℕ) → spec.separator ≡ None → pieces_text spec (replicate (suc n) []) octets ≡ mark_before (last_mark spec) octets
+empty_pieces : (spec : Spec) (n : ℕ) (octets : List ℕ) → spec.separator ≡ None
+    → pieces_text spec (replicate (suc n) []) octets ≡ mark_before (last_mark spec) octets
 empty_pieces spec zero octets e = refl
 empty_pieces spec (suc n) octets e =
     ap (λ (mark : Option ℕ). option_to_list mark ++ pieces_text spec (replicate (suc n) []) octets) e ∙ empty_pieces spec n octets e
@@ -89,7 +129,8 @@ pub one_for_all : (spec : Spec) (times : ℕ) (octets : List ℕ) (old new : Wri
     → AppendsPieces spec 1 octets old new rest → AppendsPieces spec times octets old new rest
 one_for_all spec times octets old new rest short bare more h = go h.pieces h.cut h.grows
   where
-    go : (pieces : List (List ℕ)) → IsCut spec.length 1 pieces octets rest → Grows old (pieces_text spec pieces rest) new → AppendsPieces spec times octets old new rest
+    go : (pieces : List (List ℕ)) → IsCut spec.length 1 pieces octets rest → Grows old (pieces_text spec pieces rest) new
+        → AppendsPieces spec times octets old new rest
     go [] cut grows = record {
       pieces = [];
       cut = record { are_pieces = cut.are_pieces; at_most = omega arith; enough = elim cut.enough [ inl e ↦ absurd (omega (arith, e)) | inr e ↦ inr e ] };
@@ -107,7 +148,12 @@ one_for_all spec times octets old new rest short bare more h = go h.pieces h.cut
         let are : ArePieces 0 (replicate (suc k) []) octets octets = are_empty_pieces (suc k) octets cut.are_pieces.0 in
         record {
           pieces = replicate (suc k) [];
-          cut = record { are_pieces = along_rest (along_width are); at_most = omega (arith, length-replicate {A = List ℕ} (suc k) []); enough = inl (omega (arith, length-replicate {A = List ℕ} (suc k) [])) };
+          cut = record {
+            are_pieces = along_rest (along_width are);
+            at_most = omega (arith, length-replicate {A = List ℕ} (suc k) []);
+            enough = inl (omega
+                (arith, length-replicate {A = List ℕ} (suc k) []));
+          };
           grows = rw text at grows;
         }
     go (piece ∷ next ∷ pieces) cut grows = absurd (omega (arith, cut.at_most))
@@ -138,7 +184,11 @@ pieces_no_longer width (piece ∷ pieces) octets rest h =
     omega (arith, le, length-drop width octets)
 
 body_no_longer : (spec : Spec) (octets : List ℕ) → length (body_of spec octets) ≤ length octets
-body_no_longer spec octets = elim spec.is_counted as (λ b. length (if b then drop 1 octets else octets) ≤ length octets) [ true ↦ omega (arith, length-drop 1 octets) | false ↦ omega arith ]
+body_no_longer spec octets = elim spec.is_counted as (λ b. length (if b then drop 1 octets else octets) ≤ length octets) [
+  | true ↦ omega
+      (arith, length-drop 1 octets)
+  | false ↦ omega arith
+]
 
 pub group_no_longer : (spec : Spec) (pieces : List (List ℕ)) (octets rest : List ℕ) → IsGroup spec pieces octets rest → length rest ≤ length octets
 group_no_longer spec pieces octets rest h =
@@ -149,7 +199,8 @@ counted_group : (spec : Spec) (octets : List ℕ) → spec.is_counted ≡ true �
 counted_group spec [] e some = absurd (some refl)
 counted_group spec (octet ∷ more) e some = rw e (omega arith)
 
-single_group : (spec : Spec) (pieces : List (List ℕ)) (octets rest : List ℕ) → octets ≢ [] → 0 < spec.length → IsCut spec.length 1 pieces octets rest → length rest < length octets
+single_group : (spec : Spec) (pieces : List (List ℕ)) (octets rest : List ℕ) → octets ≢ [] → 0 < spec.length → IsCut spec.length 1 pieces octets rest
+    → length rest < length octets
 single_group spec [] octets rest some wide cut =
     elim cut.enough [ inl e ↦ absurd (omega (arith, e)) | inr e ↦ absurd (some (sym cut.are_pieces ∙ e)) ]
 single_group spec (piece ∷ pieces) [] rest some wide cut = absurd (some refl)
@@ -157,7 +208,8 @@ single_group spec (piece ∷ pieces) (octet ∷ more) rest some wide cut =
     let le = pieces_no_longer spec.length pieces (drop spec.length (octet ∷ more)) rest cut.are_pieces.2 in
     omega (arith, le, length-drop spec.length (octet ∷ more))
 
-pub group_shorter : (spec : Spec) (pieces : List (List ℕ)) (octets rest : List ℕ) → takes_octets spec ≡ true → IsGroup spec pieces octets rest → length rest < length octets
+pub group_shorter : (spec : Spec) (pieces : List (List ℕ)) (octets rest : List ℕ) → takes_octets spec ≡ true → IsGroup spec pieces octets rest
+    → length rest < length octets
 group_shorter spec pieces octets rest takes h = go spec.is_counted refl
   where
     go : (b : Bool) → spec.is_counted ≡ b → length rest < length octets
@@ -187,11 +239,17 @@ groups_begin hint octets old spec ahead all is_hint is_first =
       are_specs = rw after at b.are_more;
       ends = known.ends;
       fits = is_first.fits;
-      whole = λ new h. record { text = h.text; shows = record { specs = spec ∷ b.more; groups = h.groups; is_hint = known; are_groups = h.are_groups }; grows = h.grows };
+      whole = λ new h. record {
+        text = h.text;
+        shows = record { specs = spec ∷ b.more; groups = h.groups; is_hint = known; are_groups = h.are_groups };
+        grows =
+            h.grows;
+      };
     }
 
 -- one group before the others
-group_before : (spec : Spec) (specs : List Spec) (pieces : List (List ℕ)) (left rest : List ℕ) (old now new : Written) → IsGroup spec pieces left rest → Adds old (pieces_text spec pieces rest) now
+group_before : (spec : Spec) (specs : List Spec) (pieces : List (List ℕ)) (left rest : List ℕ) (old now new : Written) → IsGroup spec pieces left rest
+    → Adds old (pieces_text spec pieces rest) now
     → AppendsGroups (specs_after spec specs) rest now new → AppendsGroups (spec ∷ specs) left old new
 group_before spec specs pieces left rest old now new group adds h = record {
   groups = pieces ∷ h.groups;
@@ -200,8 +258,10 @@ group_before spec specs pieces left rest old now new group adds h = record {
   grows = grows_both old now new _ _ adds.grows h.grows;
 }
 
-pub group_then_next : (hint octets : List ℕ) (old : Written) (spec next : Spec) (ahead after left rest : List ℕ) (now new : Written) (pieces : List (List ℕ)) → ahead ≢ [] → IsFirstSpec ahead next after
-    → IsGroup spec pieces left rest → Adds now (pieces_text spec pieces rest) new → GroupsAhead hint octets old spec ahead left now → GroupsAhead hint octets old next after rest new
+pub group_then_next : (hint octets : List ℕ) (old : Written) (spec next : Spec) (ahead after left rest : List ℕ) (now new : Written) (pieces : List (List ℕ))
+    → ahead ≢ [] → IsFirstSpec ahead next after
+    → IsGroup spec pieces left rest → Adds now (pieces_text spec pieces rest) new → GroupsAhead hint octets old spec ahead left now
+    → GroupsAhead hint octets old next after rest new
 group_then_next hint octets old spec next ahead after left rest now new pieces some is_first group adds h =
     let b = begins ahead h.specs some h.are_specs in
     let same : b.spec ≡ next = same_spec ahead b.spec next b.rest after b.is_first is_first in
@@ -222,11 +282,13 @@ no_specs : (specs : List Spec) → AreSpecs [] specs → specs ≡ []
 no_specs [] are = refl
 no_specs (spec ∷ more) are = absurd (are.1.digits refl)
 
-pub last_takes : (hint octets : List ℕ) (old : Written) (spec : Spec) (left : List ℕ) (now : Written) → GroupsAhead hint octets old spec [] left now → takes_octets spec ≡ true
+pub last_takes : (hint octets : List ℕ) (old : Written) (spec : Spec) (left : List ℕ) (now : Written) → GroupsAhead hint octets old spec [] left now
+    → takes_octets spec ≡ true
 last_takes hint octets old spec left now h = rw (no_specs h.specs h.are_specs) at h.ends
 
 pub group_then_again : (hint octets : List ℕ) (old : Written) (spec : Spec) (left rest : List ℕ) (now new : Written) (pieces : List (List ℕ))
-    → IsGroup spec pieces left rest → Adds now (pieces_text spec pieces rest) new → GroupsAhead hint octets old spec [] left now → GroupsAhead hint octets old spec [] rest new
+    → IsGroup spec pieces left rest → Adds now (pieces_text spec pieces rest) new → GroupsAhead hint octets old spec [] left now
+    → GroupsAhead hint octets old spec [] rest new
 group_then_again hint octets old spec left rest now new pieces group adds h =
     let none : h.specs ≡ [] = no_specs h.specs h.are_specs in
     record {

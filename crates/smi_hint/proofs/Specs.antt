@@ -10,7 +10,8 @@ use Rattle.smi_hint.specs.declared.spec.OctetFormat.TheVariants as octet_format
 use Rattle.smi_hint.specs.Spec.{longest, after_star, at_letter, IsFirstSpec, AreSpecs, IsOctetHint, LastTakesOctets, takes_octets, may_end}
 use Rattle.smi_hint.specs.declared.spec.Spec.{Spec}
 
-same_fields : (a b : Spec) → a.is_counted ≡ b.is_counted → a.length ≡ b.length → a.format ≡ b.format → a.separator ≡ b.separator → a.terminator ≡ b.terminator → a ≡ b
+same_fields : (a b : Spec) → a.is_counted ≡ b.is_counted → a.length ≡ b.length → a.format ≡ b.format → a.separator ≡ b.separator
+    → a.terminator ≡ b.terminator → a ≡ b
 same_fields a b e f g h k = λ i. record { is_counted = e i; length = f i; format = g i; separator = h i; terminator = k i }
 
 -- a text has one first spec

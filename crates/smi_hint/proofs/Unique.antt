@@ -16,14 +16,16 @@ same_specs text (spec ∷ more) (other ∷ others) h k =
     let after : more ≡ others = same_specs k.0 more others (subst P rest h.2) k.2 in
     λ i. first i ∷ after i
 
-fewer : (width times : ℕ) (piece : List ℕ) (pieces : List (List ℕ)) (octets rest : List ℕ) → IsCut width times (piece ∷ pieces) octets rest → IsCut width (times - 1) pieces (drop width octets) rest
+fewer : (width times : ℕ) (piece : List ℕ) (pieces : List (List ℕ)) (octets rest : List ℕ) → IsCut width times (piece ∷ pieces) octets rest
+    → IsCut width (times - 1) pieces (drop width octets) rest
 fewer width times piece pieces octets rest h = record {
   are_pieces = h.are_pieces.2;
   at_most = omega (arith, h.at_most);
   enough = elim h.enough [ inl e ↦ inl (omega (arith, e, h.at_most)) | inr e ↦ inr e ];
 }
 
-none_or_some : (width times : ℕ) (piece : List ℕ) (pieces : List (List ℕ)) (octets r s : List ℕ) → IsCut width times [] octets r → IsCut width times (piece ∷ pieces) octets s → ⊥
+none_or_some : (width times : ℕ) (piece : List ℕ) (pieces : List (List ℕ)) (octets r s : List ℕ) → IsCut width times [] octets r
+    → IsCut width times (piece ∷ pieces) octets s → ⊥
 none_or_some width times piece pieces octets r s h k =
     elim h.enough [ inl e ↦ absurd (omega (arith, e, k.at_most)) | inr e ↦ k.are_pieces.0 (sym h.are_pieces ∙ e) ]
 

@@ -1,5 +1,39 @@
 -- A name's place has what decides the name, so the chain of places is that of names.
-use Rattle.std.proofs.Common.{◌≡◌, ◌≢◌, ℕ, zero, suc, ◌+◌, ◌-◌, ◌<◌, ◌≤◌, inl, inr, Bool, true, false, cond, List, [], ◌∷◌, ◌++◌, length, map, get_or, unwrap_or, is_some, MatchOption, Option, Some, None, refl, sym, ap, ◌∙◌, arith}
+use Rattle.std.proofs.Common.{
+  ◌≡◌,
+  ◌≢◌,
+  ℕ,
+  zero,
+  suc,
+  ◌+◌,
+  ◌-◌,
+  ◌<◌,
+  ◌≤◌,
+  inl,
+  inr,
+  Bool,
+  true,
+  false,
+  cond,
+  List,
+  [],
+  ◌∷◌,
+  ◌++◌,
+  length,
+  map,
+  get_or,
+  unwrap_or,
+  is_some,
+  MatchOption,
+  Option,
+  Some,
+  None,
+  refl,
+  sym,
+  ap,
+  ◌∙◌,
+  arith,
+}
 use Rattle.std.proofs.lemmas.List.{get_or_past, length-map, length_push}
 use Rattle.std.proofs.lemmas.Bool.{cases_eq, cases_lt}
 use Rattle.std.specs.List.{slice_get, find, position_from, HoldsAt}
@@ -161,7 +195,8 @@ IsResolved-all ms d dir bs are rs long each = record {
   comes = λ a r e. ComesTo-back (place_by d) (origin ms) (origin_at bs) (origins ms d dir bs are) a r
       (rw (read rs (place_by d a) r e) at (each (place_by d a) r (within_get rs (place_by d a) r e)));
   leads_nowhere = λ a e. from_nowhere (place_by d) (origin ms a)
-      (sym (origins ms d dir bs are a) ∙ get_or_past (map origin_of bs) (place_by d a) nowhere (omega (arith, length-map bs origin_of, past_get rs (place_by d a) e)));
+      (sym (origins ms d dir bs are a)
+      ∙ get_or_past (map origin_of bs) (place_by d a) nowhere (omega (arith, length-map bs origin_of, past_get rs (place_by d a) e)));
 }
   where
     read : (xs : List Resolution) (p : ℕ) (r : Resolution) → slice_get xs p ≡ Some r → get_or xs p r ≡ r
@@ -203,6 +238,7 @@ pub loaded : (t : Module → Bool) (j : ℕ) (ms : List Module) → is_some (pos
 loaded t j [] = refl
 loaded t j (m ∷ ms) = by (t m) (loaded t (j + 1) ms)
   where
-    by : (b : Bool) → is_some (position_from t (j + 1) ms) ≡ is_some (find t ms) → is_some (cond b (Some j) (position_from t (j + 1) ms)) ≡ is_some (cond b (Some m) (find t ms))
+    by : (b : Bool) → is_some (position_from t (j + 1) ms) ≡ is_some (find t ms)
+        → is_some (cond b (Some j) (position_from t (j + 1) ms)) ≡ is_some (cond b (Some m) (find t ms))
     by true h = refl
     by false h = h

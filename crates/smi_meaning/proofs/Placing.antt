@@ -1,5 +1,37 @@
 -- Places of names and of modules in lists that grow, and the numbers of parts.
-use Rattle.std.proofs.Common.{◌≡◌, ◌≢◌, ℕ, zero, suc, ◌+◌, ◌-◌, ◌<◌, ◌≤◌, Bool, true, false, cond, List, [], ◌∷◌, ◌++◌, length, take, get_or, Option, Some, None, refl, sym, ap, ◌∙◌, arith, length-append, inl, inr}
+use Rattle.std.proofs.Common.{
+  ◌≡◌,
+  ◌≢◌,
+  ℕ,
+  zero,
+  suc,
+  ◌+◌,
+  ◌-◌,
+  ◌<◌,
+  ◌≤◌,
+  Bool,
+  true,
+  false,
+  cond,
+  List,
+  [],
+  ◌∷◌,
+  ◌++◌,
+  length,
+  take,
+  get_or,
+  Option,
+  Some,
+  None,
+  refl,
+  sym,
+  ap,
+  ◌∙◌,
+  arith,
+  length-append,
+  inl,
+  inr,
+}
 use Rattle.std.proofs.lemmas.List.{take_more, length_push, length-take-le}
 use Rattle.std.proofs.lemmas.Bool.{cases_eq}
 use Rattle.std.specs.List.{slice_get, find, position_from}
@@ -70,7 +102,8 @@ pub module_missing : (t : Module → Bool) (j : ℕ) (ms : List Module) → posi
 module_missing t j [] e = refl
 module_missing t j (m ∷ ms) e = by (t m) e (λ h. module_missing t (j + 1) ms h)
   where
-    by : (b : Bool) → cond b (Some j) (position_from t (j + 1) ms) ≡ None → (position_from t (j + 1) ms ≡ None → find t ms ≡ None) → cond b (Some m) (find t ms) ≡ None
+    by : (b : Bool) → cond b (Some j) (position_from t (j + 1) ms) ≡ None → (position_from t (j + 1) ms ≡ None → find t ms ≡ None)
+        → cond b (Some m) (find t ms) ≡ None
     by true e ih = cc
     by false e ih = ih e
 
@@ -110,7 +143,8 @@ pub arcs-push : (ps : List Part) (p : Part) (ns : List ℕ) (n : ℕ) → arcs p
 arcs-push [] p ns n e f = let none : [] ≡ ns = cc in rw (f, sym none) refl
 arcs-push (q ∷ qs) p ns n e f = by (part_number q) (arcs qs) refl e (λ ms h. arcs-push qs p ms n h f)
   where
-    by : (a : Option ℕ) (b : Option (List ℕ)) → arcs qs ≡ b → both a b ≡ Some ns → ((ms : List ℕ) → arcs qs ≡ Some ms → arcs (qs ++ p ∷ []) ≡ Some (ms ++ n ∷ []))
+    by : (a : Option ℕ) (b : Option (List ℕ)) → arcs qs ≡ b → both a b ≡ Some ns → ((ms : List ℕ) → arcs qs ≡ Some ms
+        → arcs (qs ++ p ∷ []) ≡ Some (ms ++ n ∷ []))
         → both a (arcs (qs ++ p ∷ [])) ≡ Some (ns ++ n ∷ [])
     by None b h e ih = absurd (cc)
     by (Some a) None h e ih = absurd (cc)

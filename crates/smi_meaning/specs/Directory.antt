@@ -19,5 +19,7 @@ place_of_entry e = record { home = e.«module».now.name.octets; name = e.name.n
 -- each entry's basis says what decides it, by places
 pub record AreBases (d : Directory) (entries : List Entry) (bases : List Basis) : Type 0 where
   pub long : length bases ≡ length entries
-  pub each : (p : ℕ) (e : Entry) (b : Basis) → slice_get entries p ≡ Some e → slice_get bases p ≡ Some b
-      → origin_of b ≡ map_origin (place_by d) (origin_by (place_of_entry e) (Some (content_of e).decided))
+  pub each : (p : ℕ) (e : Entry) (b : Basis) → slice_get entries p ≡ Some e
+      → slice_get bases p ≡ Some b
+      → origin_of b ≡ map_origin (place_by d) (origin_by (place_of_entry e) (Some
+      (content_of e).decided))

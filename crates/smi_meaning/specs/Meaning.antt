@@ -1,5 +1,16 @@
 -- What names mean in modules (RFC 2578, sections 3.1, 3.2 and 7.10).
-use Rattle.std.specs.Prelude.{ℕ, List, [], ◌∷◌, Option, Some, None, option_map, codes, if◌then◌else◌}
+use Rattle.std.specs.Prelude.{
+  ℕ,
+  List,
+  [],
+  ◌∷◌,
+  Option,
+  Some,
+  None,
+  option_map,
+  codes,
+  if◌then◌else◌,
+}
 use Rattle.std.specs.List.{find}
 use Rattle.smi_links.specs.Chain as chain
 use Rattle.smi_links.specs.Chain.{Origin, numbers, after, nowhere}
@@ -57,11 +68,13 @@ abbrev pub after_name : Place → Option (List ℕ) → Origin Place
 after_name place None = nowhere
 after_name place (Some ns) = after place ns
 
--- an identifier value: a name in the first place has its meaning, a number and a name with a number stand
+-- an identifier value: a name in the first place has its meaning, a number and a name with a number
+-- stand
 -- for the number, and a later name has none
 abbrev pub origin_of_parts : List ℕ → List Part → Origin Place
 origin_of_parts home [] = nowhere
-origin_of_parts home (P.Name x ∷ rest) = after_name (record { home = home; name = x.octets }) (arcs rest)
+origin_of_parts home (P.Name x ∷ rest) = after_name (record { home = home; name = x.octets })
+    (arcs rest)
 origin_of_parts home (P.Number n ∷ rest) = by_itself (arcs (P.Number n ∷ rest))
 origin_of_parts home (P.NamedNumber n ∷ rest) = by_itself (arcs (P.NamedNumber n ∷ rest))
 
@@ -73,7 +86,8 @@ origin_of_value home (Some parts) = origin_of_parts home parts
 abbrev pub origin_by : Place → Option Decision → Origin Place
 origin_by place None = nowhere
 origin_by place (Some (defined d)) = origin_of_value place.home (identifier_of d.kind)
-origin_by place (Some (imported i)) = after (record { home = i.source.octets; name = place.name }) []
+origin_by place (Some (imported i)) = after
+    (record { home = i.source.octets; name = place.name }) []
 origin_by place (Some (root n)) = numbers (n ∷ [])
 
 -- the module of a name, the first of those that are loaded

@@ -17,7 +17,8 @@ Scope = BTreeMap (Bor (List ℕ)) ℕ
 -- the place of a name of a module; a name without a meaning has the place past the last
 abbrev pub place_of : Scope → List Scope → ℕ → Place → ℕ
 place_of homes scopes beyond p =
-    unwrap_or (option_and_then (λ i. option_and_then (λ scope. place_in scope p.name) (slice_get scopes i))
+    unwrap_or (option_and_then (λ i. option_and_then (λ scope. place_in scope p.name)
+    (slice_get scopes i))
     (place_in homes p.home)) beyond
 
 abbrev pub map_origin : {A B : Type 0} → (A → B) → Origin A → Origin B
@@ -32,6 +33,7 @@ module_place ms x = position_from (λ m. same_text m.name.octets x) 0 ms
 -- each name with a meaning in a module has an entry
 pub record AreEach (ms : List Module) (scopes : List Scope) (entries : List Entry) : Type 0 where
   pub long : length scopes ≡ length ms
-  pub each : (i : ℕ) (m : Module) (scope : Scope) → slice_get ms i ≡ Some m → slice_get scopes i ≡ Some scope
+  pub each : (i : ℕ) (m : Module) (scope : Scope) → slice_get ms i ≡ Some m
+      → slice_get scopes i ≡ Some scope
       → (x : List ℕ) → known entries scope x ≡ decided_as m x (decision m x)
   pub within : (i : ℕ) (scope : Scope) → slice_get scopes i ≡ Some scope → IsWithin entries scope

@@ -19,5 +19,6 @@ pub record IsDirectory (ms : List Module) (d : Directory) : Type 0 where
 -- and each name comes to what its place has
 pub record IsResolved (ms : List Module) (d : Directory) (rs : List Resolution) : Type 0 where
   pub directory : IsDirectory ms d
-  pub comes : (a : Place) (r : Resolution) → slice_get rs (place_by d a) ≡ Some r → ComesTo (origin ms) a r
+  pub comes : (a : Place) (r : Resolution) → slice_get rs (place_by d a) ≡ Some r
+      → ComesTo (origin ms) a r
   pub leads_nowhere : (a : Place) → slice_get rs (place_by d a) ≡ None → origin ms a ≡ nowhere

@@ -43,8 +43,10 @@ IsWithin entries scope = (x : List ℕ) (p : ℕ) → place_in scope x ≡ Some 
 
 -- the scope knows more: what `more` decides, where it knew nothing
 pub record KnowsMore (old : List Entry) (before : BTreeMap (Bor (List ℕ)) ℕ) (new : List Entry)
-    (scope : BTreeMap (Bor (List ℕ)) ℕ) (m : Module) (more : List ℕ → Option Decision) : Type 0 where
-  pub knows : (x : List ℕ) → known new scope x ≡ or_else (known old before x) (decided_as m x (more x))
+    (scope : BTreeMap (Bor (List ℕ)) ℕ) (m : Module) (more : List ℕ
+    → Option Decision) : Type 0 where
+  pub knows : (x : List ℕ)
+      → known new scope x ≡ or_else (known old before x) (decided_as m x (more x))
   pub added : List Entry
   pub grown : new ≡ old ++ added
   pub within : IsWithin new scope

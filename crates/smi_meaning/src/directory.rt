@@ -1,5 +1,6 @@
 //! The places of names: which entry a name of a module has, and what its numbers rest on.
-ghost use Rattle.std.specs.Prelude.{◌≡◌, ◌∷◌, ℕ, List, [], length, option_map, IfOk, OnOk, Some, None, if◌then◌else◌};
+ghost use Rattle.std.specs.Prelude.{◌≡◌, ◌∷◌, ℕ, List, [], length, option_map, IfOk, OnOk, Some};
+ghost use Rattle.std.specs.Prelude.{None, if◌then◌else◌};
 ghost use Rattle.smi_links.specs.Basis.{origin_of};
 ghost use Rattle.smi_module.specs.Mark.{same_text};
 ghost use Rattle.smi_meaning.specs.Meaning.{arcs as arcs_of, origin_by, origin_of_parts, or_else};
@@ -83,7 +84,8 @@ fn arcs(alloc: Global, parts: &[Part]) -> Result<Option<Vec<u32>>, AllocError>
 }
 
 impl<'a> Directory<'a> {
-    /// The place of a name in the module of a name; the one past the last where it has no meaning there.
+    /// The place of a name in the module of a name; the one past the last where it has no meaning
+    /// there.
     pub(crate) fn place(&self, home: &'a [u8], name: &'a [u8]) -> usize
         ensures { result ≡ place_by self.now (record { home = home.now; name = name.now }) }
     {

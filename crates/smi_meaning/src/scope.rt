@@ -1,5 +1,6 @@
 //! The names that have a meaning in a module.
-ghost use Rattle.std.specs.Prelude.{◌≡◌, ℕ, List, [], ◌∷◌, ◌++◌, Some, None, option_map, OnOk, IfOk, if◌then◌else◌};
+ghost use Rattle.std.specs.Prelude.{◌≡◌, ℕ, List, [], ◌∷◌, ◌++◌, Some, None, option_map, OnOk};
+ghost use Rattle.std.specs.Prelude.{IfOk, if◌then◌else◌};
 ghost use Rattle.smi_module.specs.Lookup.{first_definition, first_import};
 ghost use Rattle.smi_module.specs.Lookup as lookup;
 ghost use Rattle.smi_module.specs.Mark.{same_text};
@@ -24,7 +25,8 @@ fn enter<'a>(
     decider: Decider<'a>,
 ) -> Result<(), AllocError>
     requires { IsWithin entries.old.items scope.old }
-    ensures entered { OnOk result (KnowsMore entries.old.items scope.old entries.new.items scope.new module.now
+    ensures entered { OnOk result (KnowsMore entries.old.items scope.old entries.new.items
+        scope.new module.now
         (λ x. if same_text name.now x then Some (decision_of decider.entry) else None)) }
 {
     if scope.contains_key(&name) {
@@ -48,7 +50,8 @@ fn enter_definitions<'a>(
     defs: &'a [Def],
 ) -> Result<(), AllocError>
     requires { IsWithin entries.old.items scope.old }
-    ensures entered { OnOk result (KnowsMore entries.old.items scope.old entries.new.items scope.new module.now
+    ensures entered { OnOk result (KnowsMore entries.old.items scope.old entries.new.items
+        scope.new module.now
         (λ x. option_map defined (first_definition x defs.now))) }
 {
     'defs: for def in defs {
@@ -66,7 +69,8 @@ fn enter_symbols<'a>(
     import: &'a Import,
 ) -> Result<(), AllocError>
     requires { IsWithin entries.old.items scope.old }
-    ensures entered { OnOk result (KnowsMore entries.old.items scope.old entries.new.items scope.new module.now
+    ensures entered { OnOk result (KnowsMore entries.old.items scope.old entries.new.items
+        scope.new module.now
         (λ x. option_map imported (first_import x (import.now ∷ [])))) }
 {
     let symbols = import.symbols.as_slice();
@@ -85,7 +89,8 @@ fn enter_imports<'a>(
     imports: &'a [Import],
 ) -> Result<(), AllocError>
     requires { IsWithin entries.old.items scope.old }
-    ensures entered { OnOk result (KnowsMore entries.old.items scope.old entries.new.items scope.new module.now
+    ensures entered { OnOk result (KnowsMore entries.old.items scope.old entries.new.items
+        scope.new module.now
         (λ x. option_map imported (first_import x imports.now))) }
 {
     'imports: for import in imports {
@@ -101,7 +106,8 @@ fn enter_roots<'a>(
     module: &'a Module,
 ) -> Result<(), AllocError>
     requires { IsWithin entries.old.items scope.old }
-    ensures entered { OnOk result (KnowsMore entries.old.items scope.old entries.new.items scope.new module.now
+    ensures entered { OnOk result (KnowsMore entries.old.items scope.old entries.new.items
+        scope.new module.now
         (λ x. option_map root (root_arc x))) }
 {
     enter(entries, scope, module, b"ccitt", Decider::Root(0))?;
@@ -129,7 +135,8 @@ pub(crate) fn scope<'a>(
     ensures decided { IfOk result (λ scope. (x : List ℕ)
         → known entries.new.items scope x ≡ decided_as module.now x (decision module.now x)) }
     ensures within { IfOk result (λ scope. IsWithin entries.new.items scope) }
-    ensures grown { IfOk result (λ _. (added : List Entry) × (entries.new.items ≡ entries.old.items ++ added)) }
+    ensures grown { IfOk result (λ _. (added : List Entry)
+        × (entries.new.items ≡ entries.old.items ++ added)) }
 {
     let mut scope = BTreeMap::new(alloc);
     enter_definitions(entries, &mut scope, module, module.defs.as_slice())?;

@@ -1,5 +1,30 @@
 -- What digits write, read from the front.
-use Rattle.std.proofs.Common.{◌≡◌, ℕ, suc, ◌+◌, ◌*◌, ◌^◌, ◌<◌, ◌≤◌, List, [], ◌∷◌, length, get_or, drop, refl, sym, ◌∙◌, ap, arith, drop-cons, add-one, nat_le, true, false}
+use Rattle.std.proofs.Common.{
+  ◌≡◌,
+  ℕ,
+  suc,
+  ◌+◌,
+  ◌*◌,
+  ◌^◌,
+  ◌<◌,
+  ◌≤◌,
+  List,
+  [],
+  ◌∷◌,
+  length,
+  get_or,
+  drop,
+  refl,
+  sym,
+  ◌∙◌,
+  ap,
+  arith,
+  drop-cons,
+  add-one,
+  nat_le,
+  true,
+  false,
+}
 use Rattle.std.specs.Prelude.{Some, None}
 use Rattle.std.proofs.lemmas.List.{drop_all}
 use Rattle.std.proofs.Math.Nat.{le-mul_of_pos_right, one-le-pow, mul_comm, mul_assoc, mul-one, pow-zero, pow-succ'}
@@ -16,7 +41,8 @@ pub worth-digit : (base n c : ℕ) (cs : List ℕ) → worth base n (c ∷ cs) �
 unfolding number_value
 worth-digit base n c cs =
     let power : base ^ length (c ∷ cs) ≡ base * base ^ length cs = pow-succ' base (length cs) in
-    let first : n * (base * base ^ length cs) ≡ (base * n) * base ^ length cs = sym (mul_assoc n base (base ^ length cs)) ∙ ap (λ m. m * base ^ length cs) (mul_comm n base) in
+    let first : n * (base * base ^ length cs) ≡ (base * n) * base ^ length cs = sym (mul_assoc n base (base ^ length cs))
+    ∙ ap (λ m. m * base ^ length cs) (mul_comm n base) in
     let both = add-mul (base * n) (digit_value c) (base ^ length cs) in
     let next : n * base ^ length (c ∷ cs) ≡ (base * n) * base ^ length cs = ap (λ m. n * m) power ∙ first in
     omega (arith, both, next)
@@ -35,7 +61,8 @@ above : (v most : ℕ) → most < v → nat_le v most ≡ false
 above v most h = grind arith
 
 -- where the digits so far are worth too much, all of them are
-pub worth-above : (base n i most : ℕ) (cs : List ℕ) → 0 < base → i < length cs → worth base n (drop i cs) ≡ number_value base cs → most < base * n + digit_value (get_or cs i 0) → None ≡ up_to most (number_value base cs)
+pub worth-above : (base n i most : ℕ) (cs : List ℕ) → 0 < base → i < length cs → worth base n (drop i cs) ≡ number_value base cs
+    → most < base * n + digit_value (get_or cs i 0) → None ≡ up_to most (number_value base cs)
 worth-above base n i most cs pos h e over =
     let grown = worth-grows base (base * n + digit_value (get_or cs i 0)) (drop (i + 1) cs) pos in
     let step = worth-step base n i cs h in

@@ -3,9 +3,12 @@ use Rattle.std.specs.Prelude.{◌≡◌, ◌≢◌, List, [], ◌∷◌, ◌++�
 use Rattle.smi_lexer.specs.declared.token.TokenKind.TheVariants.{OpenBrace, CloseBrace}
 use Rattle.smi_module.specs.declared.tree.TokenText.{TokenText}
 
--- each brace that opens has one behind it that closes it, with balanced tokens between the two, and no other closes
+-- each brace that opens has one behind it that closes it, with balanced tokens between the two, and
+-- no other closes
 pub data IsBalanced : List TokenText → Type 0 where
   none : IsBalanced []
-  other : {x : TokenText} {xs : List TokenText} → x.kind ≢ OpenBrace → x.kind ≢ CloseBrace → IsBalanced xs → IsBalanced (x ∷ xs)
-  nested : (first last : TokenText) (inner rest : List TokenText) → first.kind ≡ OpenBrace → last.kind ≡ CloseBrace → IsBalanced inner → IsBalanced rest
+  other : {x : TokenText} {xs : List TokenText} → x.kind ≢ OpenBrace → x.kind ≢ CloseBrace
+      → IsBalanced xs → IsBalanced (x ∷ xs)
+  nested : (first last : TokenText) (inner rest : List TokenText) → first.kind ≡ OpenBrace
+      → last.kind ≡ CloseBrace → IsBalanced inner → IsBalanced rest
       → IsBalanced (first ∷ (inner ++ last ∷ rest))

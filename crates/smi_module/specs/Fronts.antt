@@ -17,7 +17,8 @@ abbrev pub fronts : List TokenText → List (List TokenText)
 fronts [] = [] ∷ []
 fronts (x ∷ xs) = [] ∷ map (λ front. x ∷ front) (fronts xs)
 
--- each beginning opens as many braces as it closes, or more, and the whole opens as many as it closes
+-- each beginning opens as many braces as it closes, or more, and the whole opens as many as it
+-- closes
 unfoldable pub has_balanced_braces : List TokenText → Bool
 has_balanced_braces xs =
     list_all (λ front. nat_le (closing_braces front) (opening_braces front)) (fronts xs)

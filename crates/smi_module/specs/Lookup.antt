@@ -1,5 +1,20 @@
 -- What a module defines and imports, and what a definition says of its name.
-use Rattle.std.specs.Prelude.{ℕ, Bool, true, ◌&&◌, not, List, [], ◌∷◌, Option, Some, None, codes, map, unwrap_or}
+use Rattle.std.specs.Prelude.{
+  ℕ,
+  Bool,
+  true,
+  ◌&&◌,
+  not,
+  List,
+  [],
+  ◌∷◌,
+  Option,
+  Some,
+  None,
+  codes,
+  map,
+  unwrap_or,
+}
 use Rattle.std.specs.List.{list_any, find}
 use Rattle.smi_module.specs.Mark.{same_text}
 use Rattle.smi_module.specs.declared.tree.Module.{Module}
@@ -47,7 +62,8 @@ abbrev pub are_distinct : List (List ℕ) → Bool
 are_distinct [] = true
 are_distinct (x ∷ xs) = not (list_any (same_text x) xs) && are_distinct xs
 
--- the identifier that a definition gives its name (RFC 2578, section 3.6); types and macros give none
+-- the identifier that a definition gives its name (RFC 2578, section 3.6); types and macros give
+-- none
 abbrev pub identifier_of : DefKind → Option (List Part)
 identifier_of (D.ObjectIdentifier v) = Some v
 identifier_of (D.ModuleIdentity d) = Some d.value

@@ -2,7 +2,30 @@
 use Rattle.std.specs.Prelude.{◌≡◌, ℕ, ◌==◌, Bool, true, List, [], ◌∷◌, codes}
 use Rattle.std.specs.Str.{bytes_eq}
 use Rattle.smi_lexer.specs.declared.token.TokenKind.{TokenKind}
-use Rattle.smi_lexer.specs.declared.token.TokenKind.TheVariants.{Lower, Upper, Number, Text, Hex, Binary, Assign, Range, OpenBrace, CloseBrace, OpenParen, CloseParen, OpenBracket, CloseBracket, Less, Greater, Comma, Semicolon, Colon, Bar, Dot, Equals}
+use Rattle.smi_lexer.specs.declared.token.TokenKind.TheVariants.{
+  Lower,
+  Upper,
+  Number,
+  Text,
+  Hex,
+  Binary,
+  Assign,
+  Range,
+  OpenBrace,
+  CloseBrace,
+  OpenParen,
+  CloseParen,
+  OpenBracket,
+  CloseBracket,
+  Less,
+  Greater,
+  Comma,
+  Semicolon,
+  Colon,
+  Bar,
+  Dot,
+  Equals,
+}
 use Rattle.smi_lexer.specs.Token.{Lexeme}
 
 -- the place of a kind among the kinds
@@ -37,7 +60,8 @@ same_kind a b = kind_number a == kind_number b
 abbrev pub same_text : List ℕ → List ℕ → Bool
 same_text = bytes_eq
 
--- the text of a sign, whose kind has one; a word, a number, a string and a literal have theirs from the tree
+-- the text of a sign, whose kind has one; a word, a number, a string and a literal have theirs from
+-- the tree
 abbrev pub sign_text : TokenKind → List ℕ
 sign_text Assign = codes "::="
 sign_text Range = codes ".."

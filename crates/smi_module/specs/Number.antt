@@ -1,5 +1,29 @@
 -- Numbers of module texts and their ranges (RFC 2578, sections 3.5 and 7.1).
-use Rattle.std.specs.Prelude.{ℕ, ℤ, pos, ◌-ℤ◌, ◌+◌, ◌-◌, ◌*◌, ◌^◌, ◌==◌, Bool, false, ◌&&◌, ◌||◌, not, nat_le, List, [], ◌∷◌, Option, length, drop, take, if◌then◌else◌}
+use Rattle.std.specs.Prelude.{
+  ℕ,
+  ℤ,
+  pos,
+  ◌-ℤ◌,
+  ◌+◌,
+  ◌-◌,
+  ◌*◌,
+  ◌^◌,
+  ◌==◌,
+  Bool,
+  false,
+  ◌&&◌,
+  ◌||◌,
+  not,
+  nat_le,
+  List,
+  [],
+  ◌∷◌,
+  Option,
+  length,
+  drop,
+  take,
+  if◌then◌else◌,
+}
 use Rattle.std.specs.Bool.{then_some}
 use Rattle.std.specs.List.{list_any}
 use Rattle.smi_lexer.specs.declared.token.TokenKind.{TokenKind}
@@ -30,7 +54,8 @@ is_arc x = nat_le (magnitude x) (if is_negative x then 0 else 4294967295)
 
 -- any other number: -9223372036854775808 to 18446744073709551615
 unfoldable pub is_number : List ℕ → Bool
-is_number x = nat_le (magnitude x) (if is_negative x then 9223372036854775808 else 18446744073709551615)
+is_number x = nat_le (magnitude x)
+    (if is_negative x then 9223372036854775808 else 18446744073709551615)
 
 -- the digits of a literal as `'0F'H`: those between its quotes
 abbrev pub literal_digits : List ℕ → List ℕ

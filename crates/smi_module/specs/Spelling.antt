@@ -1,6 +1,25 @@
--- How a list of module trees is spelled: one case for each production of the grammar, with the marks of its tokens in turn.
--- In the comments a word stands for itself, UPPER, LOWER, NUM and STR for a token of that kind (RFC 2578, sections 3 to 8; RFC 2579; RFC 2580).
-use Rattle.std.specs.Prelude.{ℕ, Bool, true, false, ◌&&◌, not, List, [], ◌∷◌, ◌++◌, Option, Some, None, codes, map, if◌then◌else◌}
+-- How a list of module trees is spelled: one case for each production of the grammar, with the
+-- marks of its tokens in turn.
+-- In the comments a word stands for itself, UPPER, LOWER, NUM and STR for a token of that kind (RFC
+-- 2578, sections 3 to 8; RFC 2579; RFC 2580).
+use Rattle.std.specs.Prelude.{
+  ℕ,
+  Bool,
+  true,
+  false,
+  ◌&&◌,
+  not,
+  List,
+  [],
+  ◌∷◌,
+  ◌++◌,
+  Option,
+  Some,
+  None,
+  codes,
+  map,
+  if◌then◌else◌,
+}
 use Rattle.std.specs.List.{flat_map}
 use Rattle.smi_lexer.specs.declared.token.TokenKind.TheVariants as K
 use Rattle.smi_module.specs.Mark.{Mark, sign, spelled, on_line, same_kind, same_text}
@@ -163,12 +182,15 @@ of_names xs = braces (of_list (sign K.Comma) (λ x. lower x ∷ []) xs)
 -- "STATUS" LOWER "DESCRIPTION" STR [ "REFERENCE" STR ]
 abbrev pub of_status : Status → List Mark
 of_status s =
-    word (codes "STATUS") ∷ lower_text s.status ∷ word (codes "DESCRIPTION") ∷ string s.description ∷ of_option (of_clause (codes "REFERENCE")) s.reference
+    word (codes "STATUS") ∷ lower_text s.status ∷ word
+    (codes "DESCRIPTION") ∷ string s.description ∷ of_option (of_clause
+    (codes "REFERENCE")) s.reference
 
 -- { LOWER "," } [ "IMPLIED" ] LOWER
 abbrev pub of_index_names : List Name → Bool → List Mark
 of_index_names [] implied = nothing
-of_index_names (x ∷ []) implied = (if implied then word (codes "IMPLIED") ∷ [] else []) ++ lower x ∷ []
+of_index_names (x ∷ []) implied = (if implied then word
+    (codes "IMPLIED") ∷ [] else []) ++ lower x ∷ []
 of_index_names (x ∷ (y ∷ ys)) implied = lower x ∷ sign K.Comma ∷ of_index_names (y ∷ ys) implied
 
 abbrev pub of_index : Index → List Mark
@@ -177,7 +199,8 @@ of_index (I.Augments x) = word (codes "AUGMENTS") ∷ braces (lower x ∷ [])
 
 -- raw, between braces
 abbrev pub of_balanced : List TokenText → List Mark
-of_balanced xs = if has_balanced_braces xs then map (λ x. spelled x.kind x.text true) xs else nothing
+of_balanced xs = if has_balanced_braces xs then map
+    (λ x. spelled x.kind x.text true) xs else nothing
 
 -- raw, before "::="
 abbrev pub of_raw_clauses : List TokenText → List Mark
@@ -185,17 +208,21 @@ of_raw_clauses xs = flat_map (λ x. spelled x.kind x.text (not (same_kind x.kind
 
 -- raw, before END
 abbrev pub of_raw_body : List TokenText → List Mark
-of_raw_body xs = flat_map (λ x. spelled x.kind x.text (not (same_kind x.kind K.Upper && same_text x.text (codes "END"))) ∷ []) xs
+of_raw_body xs = flat_map (λ x. spelled x.kind x.text (not
+    (same_kind x.kind K.Upper && same_text x.text (codes "END"))) ∷ []) xs
 
 -- definitions
 
 abbrev pub of_revision : Revision → List Mark
-of_revision r = word (codes "REVISION") ∷ string r.date ∷ word (codes "DESCRIPTION") ∷ string r.description ∷ []
+of_revision r = word (codes "REVISION") ∷ string r.date ∷ word
+    (codes "DESCRIPTION") ∷ string r.description ∷ []
 
 abbrev pub of_module_identity : ModuleIdentity → List Mark
 of_module_identity d =
-    word (codes "MODULE-IDENTITY") ∷ word (codes "LAST-UPDATED") ∷ string d.last_updated ∷ word (codes "ORGANIZATION") ∷ string d.organization ∷
-    word (codes "CONTACT-INFO") ∷ string d.contact_info ∷ word (codes "DESCRIPTION") ∷ string d.description ∷
+    word (codes "MODULE-IDENTITY") ∷ word (codes "LAST-UPDATED") ∷ string d.last_updated ∷ word
+    (codes "ORGANIZATION") ∷ string d.organization ∷
+    word (codes "CONTACT-INFO") ∷ string d.contact_info ∷ word
+    (codes "DESCRIPTION") ∷ string d.description ∷
     (flat_map of_revision d.revisions ++ of_value d.value)
 
 abbrev pub of_object_identity : ObjectIdentity → List Mark
@@ -203,49 +230,67 @@ of_object_identity d = word (codes "OBJECT-IDENTITY") ∷ (of_status d.status ++
 
 abbrev pub of_object_type : ObjectType → List Mark
 of_object_type d =
-    word (codes "OBJECT-TYPE") ∷ word (codes "SYNTAX") ∷ (of_syntax d.syntax ++ (of_option (of_clause (codes "UNITS")) d.units ++
-    (word (codes "MAX-ACCESS") ∷ lower_text d.max_access ∷ (of_status d.status ++ (of_option of_index d.index ++
-    (of_option (λ xs. word (codes "DEFVAL") ∷ braces (of_balanced xs)) d.default ++ of_value d.value))))))
+    word (codes "OBJECT-TYPE") ∷ word (codes "SYNTAX") ∷ (of_syntax d.syntax ++ (of_option
+    (of_clause (codes "UNITS")) d.units ++
+    (word (codes "MAX-ACCESS") ∷ lower_text d.max_access ∷ (of_status d.status ++
+    (of_option of_index d.index ++
+    (of_option (λ xs. word (codes "DEFVAL") ∷ braces
+    (of_balanced xs)) d.default ++ of_value d.value))))))
 
 abbrev pub of_notification_type : NotificationType → List Mark
 of_notification_type d =
-    word (codes "NOTIFICATION-TYPE") ∷ (of_option (λ xs. word (codes "OBJECTS") ∷ of_names xs) d.objects ++ (of_status d.status ++ of_value d.value))
+    word (codes "NOTIFICATION-TYPE") ∷ (of_option (λ xs. word
+    (codes "OBJECTS") ∷ of_names xs) d.objects ++ (of_status d.status ++ of_value d.value))
 
 abbrev pub of_group : List ℕ → List ℕ → Group → List Mark
-of_group w members d = word w ∷ word members ∷ (of_names d.members ++ (of_status d.status ++ of_value d.value))
+of_group w members d = word w ∷ word members ∷ (of_names d.members ++
+    (of_status d.status ++ of_value d.value))
 
 abbrev pub of_raw_definition : List ℕ → RawDefinition → List Mark
 of_raw_definition w d = word w ∷ (of_raw_clauses d.clauses ++ of_value d.value)
 
 abbrev pub of_textual_convention : TextualConvention → List Mark
 of_textual_convention d =
-    word (codes "TEXTUAL-CONVENTION") ∷ (of_option (of_clause (codes "DISPLAY-HINT")) d.display_hint ++ (of_status d.status ++
+    word (codes "TEXTUAL-CONVENTION") ∷ (of_option (of_clause
+    (codes "DISPLAY-HINT")) d.display_hint ++ (of_status d.status ++
     (word (codes "SYNTAX") ∷ of_syntax d.syntax)))
 
 -- [ "[" "APPLICATION" NUM "]" "IMPLICIT" ] type
 abbrev pub of_type_assignment : TypeAssignment → List Mark
 of_type_assignment d =
-    of_option (λ n. sign K.OpenBracket ∷ word (codes "APPLICATION") ∷ number n ∷ sign K.CloseBracket ∷ word (codes "IMPLICIT") ∷ []) d.tag ++ of_syntax d.syntax
+    of_option (λ n. sign K.OpenBracket ∷ word
+    (codes "APPLICATION") ∷ number n ∷ sign K.CloseBracket ∷ word
+    (codes "IMPLICIT") ∷ []) d.tag ++ of_syntax d.syntax
 
 -- a name in lower case or in upper case, on its line, and what it is defined as
 abbrev pub of_def_kind : ℕ → Name → DefKind → List Mark
-of_def_kind line x (D.ObjectIdentifier v) = on_line line (lower x) ∷ word (codes "OBJECT") ∷ word (codes "IDENTIFIER") ∷ of_value v
+of_def_kind line x (D.ObjectIdentifier v) = on_line line (lower x) ∷ word (codes "OBJECT") ∷ word
+    (codes "IDENTIFIER") ∷ of_value v
 of_def_kind line x (D.ModuleIdentity d) = on_line line (lower x) ∷ of_module_identity d
 of_def_kind line x (D.ObjectIdentity d) = on_line line (lower x) ∷ of_object_identity d
 of_def_kind line x (D.ObjectType d) = on_line line (lower x) ∷ of_object_type d
 of_def_kind line x (D.NotificationType d) = on_line line (lower x) ∷ of_notification_type d
-of_def_kind line x (D.ObjectGroup d) = on_line line (lower x) ∷ of_group (codes "OBJECT-GROUP") (codes "OBJECTS") d
-of_def_kind line x (D.NotificationGroup d) = on_line line (lower x) ∷ of_group (codes "NOTIFICATION-GROUP") (codes "NOTIFICATIONS") d
-of_def_kind line x (D.ModuleCompliance d) = on_line line (lower x) ∷ of_raw_definition (codes "MODULE-COMPLIANCE") d
-of_def_kind line x (D.AgentCapabilities d) = on_line line (lower x) ∷ of_raw_definition (codes "AGENT-CAPABILITIES") d
-of_def_kind line x (D.TextualConvention d) = on_line line (upper x) ∷ sign K.Assign ∷ of_textual_convention d
-of_def_kind line x (D.TypeAssignment d) = on_line line (upper x) ∷ sign K.Assign ∷ of_type_assignment d
+of_def_kind line x (D.ObjectGroup d) = on_line line (lower x) ∷ of_group (codes "OBJECT-GROUP")
+    (codes "OBJECTS") d
+of_def_kind line x (D.NotificationGroup d) = on_line line (lower x) ∷ of_group
+    (codes "NOTIFICATION-GROUP") (codes "NOTIFICATIONS") d
+of_def_kind line x (D.ModuleCompliance d) = on_line line (lower x) ∷ of_raw_definition
+    (codes "MODULE-COMPLIANCE") d
+of_def_kind line x (D.AgentCapabilities d) = on_line line (lower x) ∷ of_raw_definition
+    (codes "AGENT-CAPABILITIES") d
+of_def_kind line x (D.TextualConvention d) = on_line line
+    (upper x) ∷ sign K.Assign ∷ of_textual_convention d
+of_def_kind line x (D.TypeAssignment d) = on_line line
+    (upper x) ∷ sign K.Assign ∷ of_type_assignment d
 of_def_kind line x (D.Sequence fs) =
-    on_line line (upper x) ∷ sign K.Assign ∷ word (codes "SEQUENCE") ∷ braces (of_list (sign K.Comma) of_field fs)
-of_def_kind line x (D.Choice xs) = on_line line (upper x) ∷ sign K.Assign ∷ word (codes "CHOICE") ∷ braces (of_balanced xs)
+    on_line line (upper x) ∷ sign K.Assign ∷ word (codes "SEQUENCE") ∷ braces (of_list
+    (sign K.Comma) of_field fs)
+of_def_kind line x (D.Choice xs) = on_line line (upper x) ∷ sign K.Assign ∷ word
+    (codes "CHOICE") ∷ braces (of_balanced xs)
 -- a macro may have its reserved word as its name
 of_def_kind line x (D.Macro xs) =
-    on_line line (spelled K.Upper x.octets (if is_macro x.octets then true else not (is_reserved x.octets))) ∷ word (codes "MACRO") ∷ sign K.Assign ∷ word (codes "BEGIN") ∷
+    on_line line (spelled K.Upper x.octets (if is_macro x.octets then true else not
+    (is_reserved x.octets))) ∷ word (codes "MACRO") ∷ sign K.Assign ∷ word (codes "BEGIN") ∷
     (of_raw_body xs ++ word (codes "END") ∷ [])
 
 abbrev pub of_def : Def → List Mark
@@ -265,16 +310,20 @@ put_line n (m ∷ ms) = on_line n m ∷ ms
 -- symbol { "," symbol } "FROM" UPPER, the first token on its line
 abbrev pub of_import : Import → List Mark
 of_import i =
-    put_line i.line (of_list (sign K.Comma) (λ x. symbol x ∷ []) i.symbols ++ (word (codes "FROM") ∷ upper i.source ∷ []))
+    put_line i.line (of_list (sign K.Comma) (λ x. symbol x ∷ []) i.symbols ++ (word
+    (codes "FROM") ∷ upper i.source ∷ []))
 
 -- UPPER [ "{" { part } "}" ] "DEFINITIONS" "::=" "BEGIN" [ "IMPORTS" .. ";" ]
 abbrev pub of_head : Name → Option (List Part) → Option (List Import) → List Mark
 of_head x heading imports =
-    upper x ∷ (of_option (λ ps. braces (flat_map of_part ps)) heading ++ (word (codes "DEFINITIONS") ∷ sign K.Assign ∷ word (codes "BEGIN") ∷
-    of_option (λ is. word (codes "IMPORTS") ∷ (flat_map of_import is ++ sign K.Semicolon ∷ [])) imports))
+    upper x ∷ (of_option (λ ps. braces (flat_map of_part ps)) heading ++ (word
+    (codes "DEFINITIONS") ∷ sign K.Assign ∷ word (codes "BEGIN") ∷
+    of_option (λ is. word (codes "IMPORTS") ∷
+    (flat_map of_import is ++ sign K.Semicolon ∷ [])) imports))
 
 abbrev pub of_module : Module → List Mark
-of_module m = of_head m.name m.heading m.imports ++ (flat_map of_def m.defs ++ word (codes "END") ∷ [])
+of_module m = of_head m.name m.heading m.imports ++ (flat_map of_def m.defs ++ word
+    (codes "END") ∷ [])
 
 -- the spelling of a list of modules
 abbrev pub spelling : List Module → List Mark

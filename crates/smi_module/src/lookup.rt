@@ -44,14 +44,16 @@ fn definition_among<'a>(defs: &'a [Def], name: &[u8]) -> Option<&'a Def>
 }
 
 impl Module {
-    /// The definition of a name: the first in the text, if the module has one (RFC 2578, section 3.1).
+    /// The definition of a name: the first in the text, if the module has one (RFC 2578, section
+    /// 3.1).
     pub fn define(&self, name: &[u8]) -> Option<&Def>
         ensures { option_copied result ≡ lookup.definition_of self.now name.now }
     {
         definition_among(self.defs.as_slice(), name)
     }
 
-    /// The FROM clause that imports a name: the first in the text, if one does (RFC 2578, section 3.2).
+    /// The FROM clause that imports a name: the first in the text, if one does (RFC 2578, section
+    /// 3.2).
     pub fn import(&self, name: &[u8]) -> Option<&Import>
         ensures { option_copied result ≡ lookup.import_of self.now name.now }
     {
@@ -107,7 +109,8 @@ impl Def {
 }
 
 impl Part {
-    /// The number of a part of an identifier value, 0 to 4294967295, if it has one (RFC 2578, section 7.10).
+    /// The number of a part of an identifier value, 0 to 4294967295, if it has one (RFC 2578,
+    /// section 7.10).
     pub fn number(&self) -> Option<u32>
         ensures { result ≡ lookup.part_number self.now }
     {

@@ -4,7 +4,8 @@ ghost use Rattle.smi_module.specs.Word.{is_word};
 
 use crate::items::Text;
 
-/// A name: a letter, and then letters, digits, `_`, and hyphens that one of these follows (RFC 2578, section 3.1).
+/// A name: a letter, and then letters, digits, `_`, and hyphens that one of these follows (RFC
+/// 2578, section 3.1).
 #[derive(Debug, Drop)]
 pub struct Name {
     /// Its octets.

@@ -54,7 +54,8 @@ fn digits(text: &[u8]) -> &[u8]
     if is_negative(text) { &text[1..] } else { text }
 }
 
-/// The number of an identifier that a NUM writes, 0 to 4294967295 (RFC 2578, section 3.5). `-0` is 0.
+/// The number of an identifier that a NUM writes, 0 to 4294967295 (RFC 2578, section 3.5). `-0` is
+/// 0.
 pub fn arc(text: &[u8]) -> Option<u32>
     ensures { result ≡ number.arc_in text.now }
 {
@@ -72,7 +73,8 @@ pub fn is_arc(text: &[u8]) -> bool
     arc(text).is_some()
 }
 
-/// The number that a NUM writes elsewhere, -9223372036854775808 to 18446744073709551615 (RFC 2578, section 7.1.1).
+/// The number that a NUM writes elsewhere, -9223372036854775808 to 18446744073709551615 (RFC 2578,
+/// section 7.1.1).
 pub fn number(text: &[u8]) -> Option<i128>
     ensures { result ≡ number.number_in text.now }
 {
@@ -101,7 +103,8 @@ pub fn is_number(text: &[u8]) -> bool
 /// The value of a hexadecimal or binary literal, if it is at most 18446744073709551615.
 fn literal(base: u64, text: &[u8]) -> Option<u64>
     requires { 0 < base }
-    ensures { result ≡ then_some (number.is_literal base text.now) (number_value base (number.literal_digits text.now)) }
+    ensures { result ≡ then_some (number.is_literal base text.now) (number_value base
+        (number.literal_digits text.now)) }
 {
     let digits = if text.len() < 3 {
         &[]
@@ -111,7 +114,8 @@ fn literal(base: u64, text: &[u8]) -> Option<u64>
     value_up_to(base, digits, u64::MAX)
 }
 
-/// The value of an end of a range: a NUM, or a literal up to 18446744073709551615 (RFC 2578, section 7.1.1).
+/// The value of an end of a range: a NUM, or a literal up to 18446744073709551615 (RFC 2578,
+/// section 7.1.1).
 pub fn bound(kind: TokenKind, text: &[u8]) -> Option<i128>
     ensures { result ≡ number.bound_in kind text.now }
 {

@@ -6,7 +6,8 @@ use crate::items::Text;
 impl Text {
     /// What stands between the quotes of a string (RFC 2578, section 3.1.1).
     pub fn unquoted(&self) -> &[u8]
-        ensures { (body : List ℕ) → self.now ≡ codes "\"" ++ body ++ codes "\"" → result.now ≡ body }
+        ensures { (body : List ℕ) → self.now ≡ codes "\"" ++ body ++ codes "\""
+            → result.now ≡ body }
     {
         match self.as_bytes() {
             [b'"', body @ .., b'"'] => body,

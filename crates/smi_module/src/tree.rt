@@ -1,5 +1,7 @@
-//! Module trees: what a module text says, without blanks and comments (RFC 2578, sections 3 to 8; RFC 2579; RFC 2580).
-//! A tree owns its texts, which are those of the tokens as they stand: strings keep their quotes, numbers their zeros.
+//! Module trees: what a module text says, without blanks and comments (RFC 2578, sections 3 to 8;
+//! RFC 2579; RFC 2580).
+//! A tree owns its texts, which are those of the tokens as they stand: strings keep their quotes,
+//! numbers their zeros.
 use crate::items::{Items, Text};
 use crate::names::Name;
 use smi_lexer::TokenKind;

@@ -24,7 +24,8 @@ nodes_of-push ms [] (x ∷ os) s o e = absurd (omega arith)
 nodes_of-push ms (x ∷ ss) [] s o e = absurd (omega arith)
 nodes_of-push ms (x ∷ ss) (y ∷ os) s o e = ap (λ ns. node_from ms x y ∷ ns) (nodes_of-push ms ss os s o (omega arith))
 
-pub Adds-extended : (ms : List Module) (old new : Gathered) (s : Source) (m : Module) (d : Def) (r : Resolution) → length old.sources.items ≡ length old.oids.items
+pub Adds-extended : (ms : List Module) (old new : Gathered) (s : Source) (m : Module) (d : Def) (r : Resolution)
+    → length old.sources.items ≡ length old.oids.items
     → IsSourceOf ms s m d → Extends old new s m d r → Adds ms old new (nodes_by m d r) (warnings_by m d r)
 Adds-extended ms old new s m d r long is e = record {
   long = rw (e.sources, e.oids) (long_by r);
@@ -67,7 +68,8 @@ AddsDefinition-none ms g m d long value = record {
   adds = record { long = long; nodes = sym (append-nil (nodes_of ms g.sources.items g.oids.items)); warnings = sym (append-nil g.warnings.items) };
 }
 
-pub Adds-then : (ms : List Module) (a b c : Gathered) (ns ms' : List Node) (ws vs : List Warning) → Adds ms a b ns ws → Adds ms b c ms' vs → Adds ms a c (ns ++ ms') (ws ++ vs)
+pub Adds-then : (ms : List Module) (a b c : Gathered) (ns ms' : List Node) (ws vs : List Warning) → Adds ms a b ns ws → Adds ms b c ms' vs
+    → Adds ms a c (ns ++ ms') (ws ++ vs)
 Adds-then ms a b c ns ms' ws vs f g = record {
   long = g.long;
   nodes = g.nodes ∙ rw f.nodes (append_assoc (nodes_of ms a.sources.items a.oids.items) ns ms');
@@ -82,7 +84,8 @@ AddsDefinitions-none ms g m long = record {
   adds = record { long = long; nodes = sym (append-nil (nodes_of ms g.sources.items g.oids.items)); warnings = sym (append-nil g.warnings.items) };
 }
 
-pub AddsDefinitions-more : (ms : List Module) (a b c : Gathered) (m : Module) (ds : List Def) (d : Def) → AddsDefinitions ms a b m ds → AddsDefinition ms b c m d
+pub AddsDefinitions-more : (ms : List Module) (a b c : Gathered) (m : Module) (ds : List Def) (d : Def) → AddsDefinitions ms a b m ds
+    → AddsDefinition ms b c m d
     → AddsDefinitions ms a c m (ds ++ d ∷ [])
 AddsDefinitions-more ms a b c m ds d f g = record {
   ns = f.ns ++ g.ns;
@@ -107,7 +110,8 @@ get_read (y ∷ ys) zero x l e = ap (λ z. Some z) (sym e)
 get_read (y ∷ ys) (suc i) x l e = get_read ys i x (omega arith) e
 
 -- the definition at its place
-pub IsSourceOf-definition : (ms : List Module) (i k : ℕ) (m : Module) (d : Def) → slice_get ms i ≡ Some m → slice_get m.defs k ≡ Some d → IsSourceOf ms (S.Definition i k) m d
+pub IsSourceOf-definition : (ms : List Module) (i k : ℕ) (m : Module) (d : Def) → slice_get ms i ≡ Some m → slice_get m.defs k ≡ Some d
+    → IsSourceOf ms (S.Definition i k) m d
 IsSourceOf-definition ms i k m d at there = λ o. rw (at, there) refl
 
 pub AreGathered-roots : (ms : List Module) (g : Gathered) → g.sources.items ≡ S.Root 0 ∷ (S.Root 1 ∷ (S.Root 2 ∷ []))

@@ -1,5 +1,19 @@
 -- What is gathered, as nodes.
-use Rattle.std.specs.Prelude.{◌≡◌, ℕ, ◌==◌, List, [], ◌∷◌, ◌++◌, length, Option, Some, None, codes, if◌then◌else◌}
+use Rattle.std.specs.Prelude.{
+  ◌≡◌,
+  ℕ,
+  ◌==◌,
+  List,
+  [],
+  ◌∷◌,
+  ◌++◌,
+  length,
+  Option,
+  Some,
+  None,
+  codes,
+  if◌then◌else◌,
+}
 use Rattle.std.specs.List.{slice_get}
 use Rattle.smi_links.specs.declared.basis.Resolution.{Resolution}
 use Rattle.smi_links.specs.declared.basis.Resolution.TheVariants as R
@@ -12,7 +26,8 @@ use Rattle.smi_nodes.specs.declared.source.Source.TheVariants as S
 use Rattle.smi_nodes.specs.declared.gather.Gathered.{Gathered}
 
 abbrev pub root_label : ℕ → List ℕ
-root_label n = if n == 0 then codes "ccitt" else (if n == 1 then codes "iso" else codes "joint-iso-ccitt")
+root_label n = if n == 0 then codes "ccitt" else
+    (if n == 1 then codes "iso" else codes "joint-iso-ccitt")
 
 abbrev pub node_from_def : Option Module → Option Def → List ℕ → Node
 node_from_def (Some m) (Some d) o = node_of m d o
@@ -47,7 +62,8 @@ oids_by R.Unresolved = []
 oids_by R.TooLong = []
 
 -- more is gathered: what a definition gives whose name comes to r
-pub record Extends (old new : Gathered) (s : Source) (m : Module) (d : Def) (r : Resolution) : Type 0 where
+pub record Extends (old new : Gathered) (s : Source) (m : Module) (d : Def)
+    (r : Resolution) : Type 0 where
   pub sources : new.sources.items ≡ old.sources.items ++ sources_by s r
   pub oids : new.oids.items ≡ old.oids.items ++ oids_by r
   pub warnings : new.warnings.items ≡ old.warnings.items ++ warnings_by m d r
@@ -57,20 +73,24 @@ abbrev pub IsSourceOf : List Module → Source → Module → Def → Type 0
 IsSourceOf ms s m d = (o : List ℕ) → node_from ms s o ≡ node_of m d o
 
 -- these nodes and warnings are added
-pub record Adds (ms : List Module) (old new : Gathered) (ns : List Node) (ws : List Warning) : Type 0 where
+pub record Adds (ms : List Module) (old new : Gathered) (ns : List Node)
+    (ws : List Warning) : Type 0 where
   pub long : length new.sources.items ≡ length new.oids.items
-  pub nodes : nodes_of ms new.sources.items new.oids.items ≡ nodes_of ms old.sources.items old.oids.items ++ ns
+  pub nodes : nodes_of ms new.sources.items new.oids.items ≡ nodes_of ms old.sources.items
+      old.oids.items ++ ns
   pub warnings : new.warnings.items ≡ old.warnings.items ++ ws
 
 -- what a definition gives is added
-pub record AddsDefinition (ms : List Module) (old new : Gathered) (m : Module) (d : Def) : Type 0 where
+pub record AddsDefinition (ms : List Module) (old new : Gathered) (m : Module)
+    (d : Def) : Type 0 where
   pub ns : List Node
   pub ws : List Warning
   pub gives : Gives ms m d ns ws
   pub adds : Adds ms old new ns ws
 
 -- what definitions of a module give is added
-pub record AddsDefinitions (ms : List Module) (old new : Gathered) (m : Module) (ds : List Def) : Type 0 where
+pub record AddsDefinitions (ms : List Module) (old new : Gathered) (m : Module)
+    (ds : List Def) : Type 0 where
   pub ns : List Node
   pub ws : List Warning
   pub gathers : Gathers ms m ds ns ws

@@ -11,7 +11,8 @@ use Rattle.smi_meaning.specs.Meaning.{origin}
 use Rattle.smi_nodes.specs.declared.warning.Warning.{Warning}
 use Rattle.smi_nodes.specs.declared.warning.Warning.TheVariants as W
 
--- a node: the module that defines it, its label, its identifier and its definition; a root has no module and
+-- a node: the module that defines it, its label, its identifier and its definition; a root has no
+-- module and
 -- no definition
 pub record Node : Type 0 where
   pub home : Option Module
@@ -25,7 +26,8 @@ root_node label n = record { home = None; label = label; oid = n ∷ []; definit
 -- the roots count as loaded before every module
 abbrev pub roots : List Node
 roots =
-    root_node (codes "ccitt") 0 ∷ (root_node (codes "iso") 1 ∷ (root_node (codes "joint-iso-ccitt") 2 ∷ []))
+    root_node (codes "ccitt") 0 ∷ (root_node (codes "iso") 1 ∷ (root_node
+    (codes "joint-iso-ccitt") 2 ∷ []))
 
 abbrev pub node_of : Module → Def → List ℕ → Node
 node_of m d o = record { home = Some m; label = d.label.octets; oid = o; definition = Some d }
@@ -44,18 +46,22 @@ warnings_by m d R.Cycle = W.Cycle m.name.octets d.label.octets ∷ []
 warnings_by m d R.Unresolved = W.Unresolved m.name.octets d.label.octets ∷ []
 warnings_by m d R.TooLong = W.TooLong m.name.octets d.label.octets ∷ []
 
--- a definition gives these nodes and warnings: a type or a macro none, any other by what its name comes to
-abbrev pub GivesBy : List Module → Module → Def → Option (List Part) → List Node → List Warning → Type 0
+-- a definition gives these nodes and warnings: a type or a macro none, any other by what its name
+-- comes to
+abbrev pub GivesBy : List Module → Module → Def → Option (List Part) → List Node → List Warning
+    → Type 0
 GivesBy ms m d None ns ws = (ns ≡ []) × (ws ≡ [])
 GivesBy ms m d (Some value) ns ws =
-    (r : Resolution) × ComesTo (origin ms) (record { home = m.name.octets; name = d.label.octets }) r
+    (r : Resolution) × ComesTo (origin ms)
+    (record { home = m.name.octets; name = d.label.octets }) r
     × (ns ≡ nodes_by m d r) × (ws ≡ warnings_by m d r)
 
 abbrev pub Gives : List Module → Module → Def → List Node → List Warning → Type 0
 Gives ms m d ns ws = GivesBy ms m d (identifier_of d.kind) ns ws
 
 -- definitions of a module give nodes and warnings, one after the other
-pub data Gathers (ms : List Module) (m : Module) : List Def → List Node → List Warning → Type 0 where
+pub data Gathers (ms : List Module) (m : Module) : List Def → List Node → List Warning
+    → Type 0 where
   none : Gathers ms m [] [] []
   more : (ds : List Def) (d : Def) (ns more_nodes : List Node) (ws more_warnings : List Warning)
       → Gathers ms m ds ns ws → Gives ms m d more_nodes more_warnings

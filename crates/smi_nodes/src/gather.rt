@@ -1,6 +1,7 @@
 //! The nodes and warnings that modules give, in order of loading.
 ghost use Rattle.std.specs.Prelude.{◌≡◌, List, [], ◌∷◌, length, Some, OnOk, IfOk, slice_get};
-ghost use Rattle.smi_nodes.specs.Gathered.{Extends, AddsDefinition, AddsDefinitions, AreGathered, IsSourceOf};
+ghost use Rattle.smi_nodes.specs.Gathered.{Extends, AddsDefinition, AddsDefinitions, AreGathered};
+ghost use Rattle.smi_nodes.specs.Gathered.{IsSourceOf};
 ghost use Rattle.smi_module.specs.declared.tree.Module.{Module};
 
 use crate::source::Source;
@@ -57,7 +58,8 @@ impl Gathered {
         source: Source,
         resolution: &Resolution,
     ) -> Result<(), AllocError>
-        ensures added { OnOk result (Extends self.old self.new source module.now def.now resolution.now) }
+        ensures added { OnOk result (Extends self.old self.new source module.now def.now
+            resolution.now) }
     {
         let warning = match resolution {
             Resolution::Numbers(oid) => {
@@ -147,7 +149,8 @@ impl Gathered {
     }
 }
 
-/// The nodes and warnings of modules, by what their names come to: the roots, and then each module's, in order.
+/// The nodes and warnings of modules, by what their names come to: the roots, and then each
+/// module's, in order.
 pub fn nodes<'a>(
     alloc: Global,
     names: &Names<'a>,

@@ -1,4 +1,5 @@
-//! The nodes that modules define, each with its identifier, and the warnings for definitions without one.
+//! The nodes that modules define, each with its identifier, and the warnings for definitions
+//! without one.
 //!
 //! Stands on module trees and on the meanings of their names. The tree of names keeps the nodes.
 #![tactic(auto)]

@@ -132,7 +132,8 @@ fn names_that_are_defined_twice(rt: HostRuntime) -> Result<(), Fail> {
             b"B DEFINITIONS ::= BEGIN END\nA DEFINITIONS ::= BEGIN\na OBJECT IDENTIFIER ::= { iso 1 }\nb OBJECT IDENTIFIER ::= { a 2 }\na MODULE-COMPLIANCE ::= { a 1 }\nEND",
             double_name(5),
         ),
-        // The case of letters matters, modules have names of their own, and imports are no definitions.
+        // The case of letters matters, modules have names of their own, and imports are no
+        // definitions.
         (
             b"A DEFINITIONS ::= BEGIN x OBJECT IDENTIFIER ::= { iso 1 } X ::= BITS xX ::= BITS END",
             syntax(1),

@@ -1,4 +1,5 @@
-//! Tests of the reading of module texts, through the public calls of `smi_text`. They stand apart so that the parser is proved once.
+//! Tests of the reading of module texts, through the public calls of `smi_text`. They stand apart
+//! so that the parser is proved once.
 #![tactic(auto)]
 
 #[cfg(test)]

@@ -12,8 +12,10 @@ const WORDS: &str =
 const MACROS: &str =
     "MODULE-IDENTITY OBJECT-IDENTITY OBJECT-TYPE NOTIFICATION-TYPE TEXTUAL-CONVENTION OBJECT-GROUP NOTIFICATION-GROUP MODULE-COMPLIANCE AGENT-CAPABILITIES";
 
-/// A place stands as four pieces with `@` between them: the text before it, the text after it, the words with which
-/// the whole is a text, and those which may stand there, so that the fault comes behind them. MACROS stands for all
+/// A place stands as four pieces with `@` between them: the text before it, the text after it, the
+/// words with which
+/// the whole is a text, and those which may stand there, so that the fault comes behind them.
+/// MACROS stands for all
 /// names of macros, ANY for all words. Here no module is open before the place.
 const OUTSIDE: [&str; 6] = [
     "@DEFINITIONS ::= BEGIN END@@",

@@ -1,5 +1,28 @@
 -- Counting open braces finds exactly the balanced tokens.
-use Rattle.std.proofs.Common.{◌≡◌, ℕ, zero, suc, ◌+◌, ◌-◌, Bool, true, false, not, List, [], ◌∷◌, ◌++◌, refl, sym, ◌∙◌, ap, subst, arith, append_assoc, append-nil}
+use Rattle.std.proofs.Common.{
+  ◌≡◌,
+  ℕ,
+  zero,
+  suc,
+  ◌+◌,
+  ◌-◌,
+  Bool,
+  true,
+  false,
+  not,
+  List,
+  [],
+  ◌∷◌,
+  ◌++◌,
+  refl,
+  sym,
+  ◌∙◌,
+  ap,
+  subst,
+  arith,
+  append_assoc,
+  append-nil,
+}
 use Rattle.std.specs.Prelude.{◌==◌, ◌≢◌}
 use Rattle.smi_lexer.specs.declared.token.TokenKind.{TokenKind}
 use Rattle.smi_lexer.specs.declared.token.TokenKind.TheVariants as K
@@ -52,7 +75,8 @@ leaves (nested first last inner more k l b c) d rest =
 
 abbrev Closes : ℕ → List TokenText → Type 0
 Closes zero xs = IsBalanced xs
-Closes (suc d) xs = (inner : List TokenText) × (last : TokenText) × (rest : List TokenText) × (xs ≡ inner ++ last ∷ rest) × (last.kind ≡ K.CloseBrace) × IsBalanced inner × Closes d rest
+Closes (suc d) xs = (inner : List TokenText) × (last : TokenText) × (rest : List TokenText) × (xs ≡ inner ++ last ∷ rest) × (last.kind ≡ K.CloseBrace)
+    × IsBalanced inner × Closes d rest
 
 closes-other : (d : ℕ) (x : TokenText) (xs : List TokenText) → x.kind ≢ K.OpenBrace → x.kind ≢ K.CloseBrace → Closes d xs → Closes d (x ∷ xs)
 closes-other zero x xs n m c = other n m c
@@ -82,8 +106,10 @@ closes : (xs : List TokenText) (d : ℕ) → is_balanced d xs ≡ true → Close
 unfolding is_balanced
 closes [] d h = at_end d h
 closes (x ∷ xs) d h =
-    let inside : is_outside x.kind d ≡ false = not-true (is_outside x.kind d) (and-left (not (is_outside x.kind d)) (is_balanced (depth_after x.kind d) xs) h) in
-    let later : Closes (depth_after x.kind d) xs = closes xs (depth_after x.kind d) (and-right (not (is_outside x.kind d)) (is_balanced (depth_after x.kind d) xs) h) in
+    let inside : is_outside x.kind d ≡ false = not-true (is_outside x.kind d) (and-left (not (is_outside x.kind d)) (is_balanced
+    (depth_after x.kind d) xs) h) in
+    let later : Closes (depth_after x.kind d) xs = closes xs (depth_after x.kind d) (and-right (not (is_outside x.kind d)) (is_balanced
+    (depth_after x.kind d) xs) h) in
     elim (same_kind x.kind K.OpenBrace) as (λ b. same_kind x.kind K.OpenBrace ≡ b → Closes d (x ∷ xs)) [
       | true ↦ λ o.
           let k = same_kind-eq x.kind K.OpenBrace o in
@@ -95,7 +121,8 @@ closes (x ∷ xs) d h =
                 let k = same_kind-eq x.kind K.CloseBrace c in
                 let p = closing x.kind d k in
                 closes-closing d x xs k (sym p.0 ∙ inside) (subst (λ n. Closes n xs) p.1 later)
-            | false ↦ λ c. closes-other d x xs (is_not x.kind K.OpenBrace o) (is_not x.kind K.CloseBrace c) (subst (λ n. Closes n xs) (passing x.kind d o c).1 later)
+            | false ↦ λ c. closes-other d x xs (is_not x.kind K.OpenBrace o) (is_not x.kind K.CloseBrace c) (subst (λ n. Closes n xs)
+                (passing x.kind d o c).1 later)
           ] refl
     ] refl
 

@@ -1,5 +1,29 @@
 -- Definitions one after the other, with the names that they define.
-use Rattle.std.proofs.Common.{◌≡◌, ℕ, Bool, true, false, ◌||◌, not, List, [], ◌∷◌, ◌++◌, Option, Some, None, Ok, Err, refl, sym, ◌∙◌, ap, subst, append_assoc, append-nil}
+use Rattle.std.proofs.Common.{
+  ◌≡◌,
+  ℕ,
+  Bool,
+  true,
+  false,
+  ◌||◌,
+  not,
+  List,
+  [],
+  ◌∷◌,
+  ◌++◌,
+  Option,
+  Some,
+  None,
+  Ok,
+  Err,
+  refl,
+  sym,
+  ◌∙◌,
+  ap,
+  subst,
+  append_assoc,
+  append-nil,
+}
 use Rattle.std.specs.List.{flat_map, list_any, list_all}
 use Rattle.smi_lexer.specs.Token.{Lexeme, Item}
 use Rattle.smi_module.specs.Mark.{Mark, Fits, spelled, on_line, same_text}
@@ -75,7 +99,8 @@ flat-more : {A : Type 0} (f : A → List Mark) (xs : List A) (x : A) → flat_ma
 flat-more f [] x = append-nil (f x)
 flat-more f (y ∷ ys) x = ap (λ (ms : List Mark). f y ++ ms) (flat-more f ys x) ∙ sym (append_assoc (f y) (flat_map f ys) (f x))
 
-pub stands-more : {A : Type 0} (f : A → List Mark) (xs : List A) (x : A) (ts mid rest : List Item) → Takes (flat_map f xs) ts mid → Takes (f x) mid rest → Takes (flat_map f (xs ++ x ∷ [])) ts rest
+pub stands-more : {A : Type 0} (f : A → List Mark) (xs : List A) (x : A) (ts mid rest : List Item) → Takes (flat_map f xs) ts mid → Takes (f x) mid rest
+    → Takes (flat_map f (xs ++ x ∷ [])) ts rest
 stands-more f xs x ts mid rest h k =
     let P : List Mark → Type 0 = λ ms. Takes ms ts rest in
     subst P (sym (flat-more f xs x)) (Takes-append (flat_map f xs) (f x) ts mid rest h k)
@@ -93,7 +118,11 @@ same-sym : (x y : List ℕ) → same_text x y ≡ same_text y x
 same-sym x y =
     elim (same_text x y) as (λ b. same_text x y ≡ b → b ≡ same_text y x) [
       | true ↦ λ e. sym (let P : List ℕ → Type 0 = λ z. same_text z x ≡ true in subst P (same_text-eq x y e) (same_text-same x))
-      | false ↦ λ e. sym (false-from (same_text y x) (λ k. cc (e, (let P : List ℕ → Type 0 = λ z. same_text z y ≡ true in subst P (same_text-eq y x k) (same_text-same y)))))
+      | false ↦ λ e. sym (false-from (same_text y x) (λ k. cc (
+        e,
+        (let P : List ℕ
+            → Type 0 = λ z. same_text z y ≡ true in subst P (same_text-eq y x k) (same_text-same y)),
+      )))
     ] refl
 
 labels-more : (ds : List Def) (d : Def) → labels (ds ++ d ∷ []) ≡ labels ds ++ d.label.octets ∷ []
@@ -109,16 +138,20 @@ distinct-text (y ∷ ys) x h k =
     (rw (any-more y ys x, same-sym y x, apart.0) first)
     (distinct-text ys x (and-right (not (list_any (same_text y) ys)) (are_distinct ys) h) apart.1)
 
-pub distinct-more : (ds : List Def) (d : Def) → are_distinct (labels ds) ≡ true → list_any (same_text d.label.octets) (labels ds) ≡ false → are_distinct (labels (ds ++ d ∷ [])) ≡ true
+pub distinct-more : (ds : List Def) (d : Def) → are_distinct (labels ds) ≡ true → list_any (same_text d.label.octets) (labels ds) ≡ false
+    → are_distinct (labels (ds ++ d ∷ [])) ≡ true
 distinct-more ds d h k = rw (labels-more ds d) (distinct-text (labels ds) d.label.octets h k)
 
-pub among-more : (ds : List Def) (d : Def) (x : List ℕ) → list_any (same_text x) (labels (ds ++ d ∷ [])) ≡ (same_text d.label.octets x || list_any (same_text x) (labels ds))
+pub among-more : (ds : List Def) (d : Def) (x : List ℕ)
+    → list_any (same_text x) (labels (ds ++ d ∷ [])) ≡ (same_text d.label.octets x || list_any (same_text x) (labels ds))
 among-more ds d x =
-    ap (list_any (same_text x)) (labels-more ds d) ∙ any-more x (labels ds) d.label.octets ∙ ap (λ (b : Bool). b || list_any (same_text x) (labels ds)) (same-sym x d.label.octets)
+    ap (list_any (same_text x)) (labels-more ds d) ∙ any-more x (labels ds) d.label.octets
+    ∙ ap (λ (b : Bool). b || list_any (same_text x) (labels ds)) (same-sym x d.label.octets)
 
 all-more : {A : Type 0} (p : A → Bool) (xs : List A) (x : A) → list_all p xs ≡ true → p x ≡ true → list_all p (xs ++ x ∷ []) ≡ true
 all-more p [] x h k = and-both (p x) true k refl
-all-more p (y ∷ ys) x h k = and-both (p y) (list_all p (ys ++ x ∷ [])) (and-left (p y) (list_all p ys) h) (all-more p ys x (and-right (p y) (list_all p ys) h) k)
+all-more p (y ∷ ys) x h k = and-both (p y) (list_all p (ys ++ x ∷ [])) (and-left (p y) (list_all p ys) h) (all-more p ys x (and-right (p y)
+    (list_all p ys) h) k)
 
 pub no-doubles-more : (ms : List Module) (m : Module) → HasNoDoubles ms → are_distinct (labels m.defs) ≡ true → HasNoDoubles (ms ++ m ∷ [])
 no-doubles-more ms m h k = all-more (λ (n : Module). are_distinct (labels n.defs)) ms m h k

@@ -6,8 +6,93 @@ use Rattle.smi_lexer.specs.Token.{Item}
 use Rattle.smi_module.specs.Mark.{Mark, same_text}
 use Rattle.smi_text.specs.Format.{Takes}
 use Rattle.smi_module.specs.Reserved.{is_reserved}
-use Rattle.smi_text.specs.Format.{Format, Reading, begins, apart, with_front, before, begins, behind, either, lined, many, maybe, name, pair, separated, shaped, some_of, text, text_where, token, with_front, word, lower}
-use Rattle.smi_text.specs.Grammar.{to_module, arc, assigned, balanced, base, before_assign, before_end, bound, braced, choice, clause, default_value, definition, field, file, group, head, heading, identifier, import_clause, imports, index, index_names, later_part, lower_definition, macro_body, macro_definition, macro_name, module_identity, module_text, named_number, names, notification_type, object_identifier, object_identifier_words, object_identity, object_type, objects, octet_string_words, of_row, opening, parenthesized, part, range, ranges, raw_definition, refinement, revision, sequence, simple_type, size, status, symbol, syntax_clause, syntax_type, tag, tagged, textual_convention, upper_definition, value}
+use Rattle.smi_text.specs.Format.{
+  Format,
+  Reading,
+  begins,
+  apart,
+  with_front,
+  before,
+  begins,
+  behind,
+  either,
+  lined,
+  many,
+  maybe,
+  name,
+  pair,
+  separated,
+  shaped,
+  some_of,
+  text,
+  text_where,
+  token,
+  with_front,
+  word,
+  lower,
+}
+use Rattle.smi_text.specs.Grammar.{
+  to_module,
+  arc,
+  assigned,
+  balanced,
+  base,
+  before_assign,
+  before_end,
+  bound,
+  braced,
+  choice,
+  clause,
+  default_value,
+  definition,
+  field,
+  file,
+  group,
+  head,
+  heading,
+  identifier,
+  import_clause,
+  imports,
+  index,
+  index_names,
+  later_part,
+  lower_definition,
+  macro_body,
+  macro_definition,
+  macro_name,
+  module_identity,
+  module_text,
+  named_number,
+  names,
+  notification_type,
+  object_identifier,
+  object_identifier_words,
+  object_identity,
+  object_type,
+  objects,
+  octet_string_words,
+  of_row,
+  opening,
+  parenthesized,
+  part,
+  range,
+  ranges,
+  raw_definition,
+  refinement,
+  revision,
+  sequence,
+  simple_type,
+  size,
+  status,
+  symbol,
+  syntax_clause,
+  syntax_type,
+  tag,
+  tagged,
+  textual_convention,
+  upper_definition,
+  value,
+}
 use Rattle.smi_module.specs.Spelling.{of_def, of_head, of_module, spelling}
 use Rattle.smi_text.specs.Text.{HasNoDoubles}
 use Rattle.smi_text.specs.Gives.{RepeatsIn, RepeatsAgain}
@@ -24,12 +109,14 @@ use Rattle.smi_text.proofs.Shorter.{definition-solid, module_text-solid}
 use Rattle.smi_text.proofs.Spells.{def-spells, head-spells, module-spells, lists}
 use Rattle.smi_text.proofs.DefinitionLists.{read-label, spelled-label}
 
-front-inv : {A : Type 0} (x : A) (r : Reading (List A)) (xs : List A) (rest : List Item) → with_front (x ∷ []) r ≡ Some (xs, rest) → (more : List A) × (xs ≡ x ∷ more)
+front-inv : {A : Type 0} (x : A) (r : Reading (List A)) (xs : List A) (rest : List Item) → with_front (x ∷ []) r ≡ Some (xs, rest)
+    → (more : List A) × (xs ≡ x ∷ more)
 unfolding with_front
 front-inv x None xs rest h = absurd (cc)
 front-inv {A} x (Some p) xs rest h = (p.0, sym (ap (λ (q : List A × List Item). q.0) (some-inj {A = List A × List Item} (x ∷ p.0, p.1) (xs, rest) h)))
 
-fronts-inv : {A : Type 0} (xs : List A) (r : Reading (List A)) (ys : List A) (rest : List Item) → with_front xs r ≡ Some (ys, rest) → (zs : List A) × (r ≡ Some (zs, rest)) × (ys ≡ xs ++ zs)
+fronts-inv : {A : Type 0} (xs : List A) (r : Reading (List A)) (ys : List A) (rest : List Item) → with_front xs r ≡ Some (ys, rest)
+    → (zs : List A) × (r ≡ Some (zs, rest)) × (ys ≡ xs ++ zs)
 unfolding with_front
 fronts-inv xs None ys rest h = absurd (cc)
 fronts-inv {A} xs (Some p) ys rest h =
@@ -44,7 +131,8 @@ module _ {A : Type 0} (f : Format A) (law : Lawful f) (solid : f.empty ≡ false
       let r = Takes-split (f.spell x) (flat_map f.spell xs) ts mid h in
       starts-with f law solid x ts r.0 r.1
 
-  pub many-before : (xs : List A) (ts mid : List Item) → Takes (flat_map f.spell xs) ts mid → begins f.first mid ≡ true → (many f).read ts ≡ with_front xs ((many f).read mid)
+  pub many-before : (xs : List A) (ts mid : List Item) → Takes (flat_map f.spell xs) ts mid → begins f.first mid ≡ true
+      → (many f).read ts ≡ with_front xs ((many f).read mid)
   many-before [] ts mid h b = ap (λ (us : List Item). (many f).read us) h ∙ sym (with_front-nil _)
   many-before (x ∷ xs) ts mid h b =
       let r = Takes-split (f.spell x) (flat_map f.spell xs) ts mid h in
@@ -54,7 +142,8 @@ module _ {A : Type 0} (f : Format A) (law : Lawful f) (solid : f.empty ≡ false
       ∙ sym (with_front-append (x ∷ []) xs ((many f).read mid))
 
   -- where one begins and some are read, the first of them is
-  pub many-first : (ts rest : List Item) (xs : List A) → begins f.first ts ≡ true → (many f).read ts ≡ Some (xs, rest) → (x : A) × (more : List A) × (mid : List Item) × (f.read ts ≡ Some (x, mid)) × (xs ≡ x ∷ more)
+  pub many-first : (ts rest : List Item) (xs : List A) → begins f.first ts ≡ true → (many f).read ts ≡ Some (xs, rest)
+      → (x : A) × (more : List A) × (mid : List Item) × (f.read ts ≡ Some (x, mid)) × (xs ≡ x ∷ more)
   many-first ts rest xs b h =
       elim (f.read ts) as (λ r. f.read ts ≡ r → (x : A) × (more : List A) × (mid : List Item) × (f.read ts ≡ Some (x, mid)) × (xs ≡ x ∷ more)) [
         | None ↦ λ e. absurd (cc (h, many-fails f ts b e))
@@ -87,7 +176,11 @@ labels-append (d ∷ ds) es = ap (λ (xs : List (List ℕ)). d.label.octets ∷ 
 -- definitions
 
 definition-apart : apart definition.stop definition.first ≡ true
-unfolding arc assigned balanced base before before_assign before_end behind bound braced choice clause default_value definition either field group identifier index index_names is_reserved later_part lined lower_definition macro_body macro_definition macro_name many maybe module_identity name lower named_number names notification_type object_identifier object_identifier_words object_identity object_type objects octet_string_words of_row pair parenthesized part range ranges raw_definition refinement revision separated sequence shaped simple_type size some_of status syntax_clause syntax_type tag tagged text text_where textual_convention token upper_definition value word
+unfolding arc assigned balanced base before before_assign before_end behind bound braced choice clause default_value definition either field group identifier
+    index index_names is_reserved later_part lined lower_definition macro_body macro_definition macro_name many maybe module_identity name lower named_number
+    names notification_type object_identifier object_identifier_words object_identity object_type objects octet_string_words of_row pair parenthesized part
+    range ranges raw_definition refinement revision separated sequence shaped simple_type size some_of status syntax_clause syntax_type tag tagged text
+    text_where textual_convention token upper_definition value word
 definition-apart = refl
 
 module _ (line : ℕ) (body : List Item) (s : RepeatsIn line body) where
@@ -111,7 +204,8 @@ module _ (line : ℕ) (body : List Item) (s : RepeatsIn line body) where
       let inv = fronts-inv s.before ((many definition).read halves.0) ds rest (sym e ∙ h) in
       let f = many-first definition definition-law definition-solid definition-apart halves.0 rest inv.0 second-ahead inv.1 in
       let same : s.second.label.octets ≡ f.0.label.octets = spelled-label s.second halves.0 s.rest halves.2 ∙ sym (read-label f.0 halves.0 f.2 f.3) in
-      let all : labels ds ≡ labels s.before ++ f.0.label.octets ∷ labels f.1 = ap labels inv.2 ∙ ap (λ (xs : List Def). labels (s.before ++ xs)) f.4 ∙ labels-append s.before (f.0 ∷ f.1) in
+      let all : labels ds ≡ labels s.before ++ f.0.label.octets ∷ labels f.1 = ap labels inv.2 ∙ ap (λ (xs : List Def). labels (s.before ++ xs)) f.4
+      ∙ labels-append s.before (f.0 ∷ f.1) in
       let P : List ℕ → Type 0 = λ x. list_any (same_text x) (labels s.before) ≡ true in
       let Q : List (List ℕ) → Type 0 = λ xs. are_distinct xs ≡ true in
       twice (labels s.before) (labels f.1) f.0.label.octets (subst P same s.defined) (subst Q all k)
@@ -123,28 +217,43 @@ all-middle [] m ns h = and-left (are_distinct (labels m.defs)) (list_all (λ n. 
 all-middle (x ∷ xs) m ns h = all-middle xs m ns (and-right (are_distinct (labels x.defs)) (list_all (λ n. are_distinct (labels n.defs)) (xs ++ m ∷ ns)) h)
 
 head-apart : apart head.stop definition.first ≡ true
-unfolding arc assigned balanced base before before_assign before_end behind bound braced choice clause default_value definition either field group head heading identifier import_clause imports index index_names is_reserved later_part lined lower_definition macro_body macro_definition macro_name many maybe module_identity name lower named_number names notification_type object_identifier object_identifier_words object_identity object_type objects octet_string_words of_row opening pair parenthesized part range ranges raw_definition refinement revision separated sequence shaped simple_type size some_of status symbol syntax_clause syntax_type tag tagged text text_where textual_convention token upper_definition value word
+unfolding arc assigned balanced base before before_assign before_end behind bound braced choice clause default_value definition either field group head heading
+    identifier import_clause imports index index_names is_reserved later_part lined lower_definition macro_body macro_definition macro_name many maybe
+    module_identity name lower named_number names notification_type object_identifier object_identifier_words object_identity object_type objects
+    octet_string_words of_row opening pair parenthesized part range ranges raw_definition refinement revision separated sequence shaped simple_type size
+    some_of status symbol syntax_clause syntax_type tag tagged text text_where textual_convention token upper_definition value word
 head-apart = refl
 
 module-first : (ts : List Item) → begins module_text.first ts ≡ begins head.first ts
-unfolding arc assigned balanced base before before_assign before_end behind bound braced choice clause default_value definition either field group head heading identifier import_clause imports index index_names later_part lined lower_definition macro_body macro_definition macro_name many maybe module_identity module_text name lower named_number names notification_type object_identifier object_identifier_words object_identity object_type objects octet_string_words of_row opening pair parenthesized part range ranges raw_definition refinement revision separated sequence shaped simple_type size some_of status symbol syntax_clause syntax_type tag tagged text text_where textual_convention token upper_definition value word
+unfolding arc assigned balanced base before before_assign before_end behind bound braced choice clause default_value definition either field group head heading
+    identifier import_clause imports index index_names later_part lined lower_definition macro_body macro_definition macro_name many maybe module_identity
+    module_text name lower named_number names notification_type object_identifier object_identifier_words object_identity object_type objects
+    octet_string_words of_row opening pair parenthesized part range ranges raw_definition refinement revision separated sequence shaped simple_type size
+    some_of status symbol syntax_clause syntax_type tag tagged text text_where textual_convention token upper_definition value word
 module-first ts = refl
 
 module-apart : apart module_text.stop module_text.first ≡ true
-unfolding arc assigned balanced base before before_assign before_end behind bound braced choice clause default_value definition either field group head heading identifier import_clause imports index index_names is_reserved later_part lined lower_definition macro_body macro_definition macro_name many maybe module_identity module_text name lower named_number names notification_type object_identifier object_identifier_words object_identity object_type objects octet_string_words of_row opening pair parenthesized part range ranges raw_definition refinement revision separated sequence shaped simple_type size some_of status symbol syntax_clause syntax_type tag tagged text text_where textual_convention token upper_definition value word
+unfolding arc assigned balanced base before before_assign before_end behind bound braced choice clause default_value definition either field group head heading
+    identifier import_clause imports index index_names is_reserved later_part lined lower_definition macro_body macro_definition macro_name many maybe
+    module_identity module_text name lower named_number names notification_type object_identifier object_identifier_words object_identity object_type objects
+    octet_string_words of_row opening pair parenthesized part range ranges raw_definition refinement revision separated sequence shaped simple_type size
+    some_of status symbol syntax_clause syntax_type tag tagged text text_where textual_convention token upper_definition value word
 module-apart = refl
 
 head-solid : head.empty ≡ false
-unfolding arc before behind braced either head heading import_clause imports lined many maybe name lower opening pair parenthesized part separated shaped some_of symbol text text_where token word
+unfolding arc before behind braced either head heading import_clause imports lined many maybe name lower opening pair parenthesized part separated shaped
+    some_of symbol text text_where token word
 head-solid = refl
 
-module-inv : (ts body : List Item) (h : Head) (m : Module) (rest : List Item) → head.read ts ≡ Some (h, body) → module_text.read ts ≡ Some (m, rest) → (after : List Item) × ((many definition).read body ≡ Some (m.defs, after))
+module-inv : (ts body : List Item) (h : Head) (m : Module) (rest : List Item) → head.read ts ≡ Some (h, body) → module_text.read ts ≡ Some (m, rest)
+    → (after : List Item) × ((many definition).read body ≡ Some (m.defs, after))
 unfolding module_text shaped pair before lower
 module-inv ts body h m rest e r =
     elim ((many definition).read body) as (λ o. (many definition).read body ≡ o → (after : List Item) × ((many definition).read body ≡ Some (m.defs, after))) [
       | None ↦ λ d. absurd (let no : module_text.read ts ≡ None = rw (e, d) refl in cc (no, r))
       | Some p ↦ λ d.
-          elim ((word (codes "END")).read p.1) as (λ o. (word (codes "END")).read p.1 ≡ o → (after : List Item) × ((many definition).read body ≡ Some (m.defs, after))) [
+          elim ((word (codes "END")).read p.1) as (λ o. (word (codes "END")).read p.1 ≡ o
+          → (after : List Item) × ((many definition).read body ≡ Some (m.defs, after))) [
             | None ↦ λ w. absurd (let no : module_text.read ts ≡ None = rw (e, d, w) refl in cc (no, r))
             | Some q ↦ λ w.
                 let yes : module_text.read ts ≡ Some (to_module (h, p.0), q.1) = rw (e, d, w) refl in
@@ -161,13 +270,16 @@ module _ (line : ℕ) (tokens : List Item) (d : RepeatsAgain line tokens) where
   head-stands = let P : List Mark → Type 0 = λ ms. Takes ms opened.0 d.body in subst P (sym (head-spells d.name d.heading d.imports)) opened.2
 
   head-read : head.read opened.0 ≡ Some (record { name = d.name; heading = d.heading; imports = d.imports }, d.body)
-  head-read = head-law.again (record { name = d.name; heading = d.heading; imports = d.imports }) opened.0 d.body head-stands (apart-false head.stop definition.first d.body head-apart (body-ahead line d.body d.twice))
+  head-read = head-law.again (record { name = d.name; heading = d.heading; imports = d.imports }) opened.0 d.body head-stands
+      (apart-false head.stop definition.first d.body head-apart (body-ahead line d.body d.twice))
 
   module-ahead : begins module_text.first opened.0 ≡ true
-  module-ahead = module-first opened.0 ∙ starts-with head head-law head-solid (record { name = d.name; heading = d.heading; imports = d.imports }) opened.0 d.body head-stands
+  module-ahead = module-first opened.0
+      ∙ starts-with head head-law head-solid (record { name = d.name; heading = d.heading; imports = d.imports }) opened.0 d.body head-stands
 
   before-stands : Takes (flat_map module_text.spell d.modules) tokens opened.0
-  before-stands = let P : List Mark → Type 0 = λ ms. Takes ms tokens opened.0 in subst P (sym (lists module_text.spell of_module module-spells d.modules)) opened.1
+  before-stands = let P : List Mark
+      → Type 0 = λ ms. Takes ms tokens opened.0 in subst P (sym (lists module_text.spell of_module module-spells d.modules)) opened.1
 
   pub file-twice : (ns : List Module) → file.read tokens ≡ Some (ns, []) → HasNoDoubles ns → ⊥
   unfolding file

@@ -12,7 +12,18 @@ use Rattle.smi_text.specs.Grammar.{definition, head, module_text, file}
 use Rattle.smi_module.specs.Spelling.{of_def, of_head, of_module, spelling}
 use Rattle.smi_text.specs.Text.{HasNoDoubles}
 use Rattle.smi_module.specs.Lookup.{labels, are_distinct}
-use Rattle.smi_text.specs.Gives.{RepeatsIn, is_memory, error_of, text_ahead, ReadsDefinitions, DefinitionsFault, ReadsModule, ModuleFault, ReadsModules, ModulesFault}
+use Rattle.smi_text.specs.Gives.{
+  RepeatsIn,
+  is_memory,
+  error_of,
+  text_ahead,
+  ReadsDefinitions,
+  DefinitionsFault,
+  ReadsModule,
+  ModuleFault,
+  ReadsModules,
+  ModulesFault,
+}
 use Rattle.smi_text.specs.declared.stop.Stop.{Stop}
 use Rattle.smi_text.specs.declared.stop.Stop.TheVariants as S
 use Rattle.smi_text.specs.declared.error.ParseError.{ParseError}
@@ -21,7 +32,17 @@ use Rattle.smi_text.specs.declared.modules.Head.{Head}
 use Rattle.smi_module.specs.declared.tree.Def.{Def}
 use Rattle.smi_module.specs.declared.tree.Module.{Module}
 use Rattle.smi_text.proofs.Marks.{Takes-append}
-use Rattle.smi_text.proofs.Many.{reading-shorter, next-many, stuck-many, end-many, many-starts_with, with_front-append, with_front-none, with_front-end, with_front-nil}
+use Rattle.smi_text.proofs.Many.{
+  reading-shorter,
+  next-many,
+  stuck-many,
+  end-many,
+  many-starts_with,
+  with_front-append,
+  with_front-none,
+  with_front-end,
+  with_front-nil,
+}
 use Rattle.smi_text.proofs.Laws.{starts-with, some-inj}
 use Rattle.smi_text.proofs.Productions.{definition-law, head-law, module_text-law}
 use Rattle.smi_text.proofs.Shorter.{definition-solid, module_text-solid}
@@ -60,14 +81,16 @@ module _ (names : BTreeSet (Bor (List ℕ))) (defs : List Def) (from now : List 
   pub has_read-stuck : begins definition.first now ≡ true → definition.read now ≡ None → (many definition).read from ≡ None
   has_read-stuck b e = sym have.left ∙ with_front-none defs _ (stuck-many definition have.bound now b e have.enough)
 
-  module _ (x : List ℕ) (d : Def) (rest : List Item) (ahead : begins definition.first now ≡ true) (label : x ≡ text_ahead now) (read : definition.read now ≡ Some (d, rest)) where
+  module _ (x : List ℕ) (d : Def) (rest : List Item) (ahead : begins definition.first now ≡ true) (label : x ≡ text_ahead now)
+      (read : definition.read now ≡ Some (d, rest)) where
     pub has_read-shorter : length rest < length now
     has_read-shorter = reading-shorter definition definition-law definition-solid d now rest read
 
     same-label : d.label.octets ≡ x
     same-label = read-label d now rest read ∙ sym label
 
-    pub has_read-next : (more : BTreeSet (Bor (List ℕ))) → has names x ≡ false → ((y : List ℕ) → has more y ≡ (same_text x y || has names y)) → HasRead more (defs ++ d ∷ []) from rest
+    pub has_read-next : (more : BTreeSet (Bor (List ℕ))) → has names x ≡ false → ((y : List ℕ) → has more y ≡ (same_text x y || has names y))
+        → HasRead more (defs ++ d ∷ []) from rest
     has_read-next more new added =
         let step = next-many definition have.bound d now rest ahead read have.enough has_read-shorter in
         record {
@@ -75,7 +98,8 @@ module _ (names : BTreeSet (Bor (List ℕ))) (defs : List Def) (from now : List 
           enough = step.1;
           left = with_front-append defs (d ∷ []) _ ∙ ap (with_front defs) (sym step.2) ∙ have.left;
           stands = stands-more of_def defs d from now rest have.stands (read-stands d now rest read);
-          named = λ y. added y ∙ ap (λ (b : Bool). same_text x y || b) (have.named y) ∙ ap (λ (z : List ℕ). same_text z y || list_any (same_text y) (labels defs)) (sym same-label) ∙ sym (among-more defs d y);
+          named = λ y. added y ∙ ap (λ (b : Bool). same_text x y || b) (have.named y)
+              ∙ ap (λ (z : List ℕ). same_text z y || list_any (same_text y) (labels defs)) (sym same-label) ∙ sym (among-more defs d y);
           distinct = distinct-more defs d have.distinct (ap (λ (z : List ℕ). list_any (same_text z) (labels defs)) same-label ∙ sym (have.named x) ∙ new);
         }
 
@@ -122,11 +146,13 @@ module _ (ts mid : List Item) (h : Head) (read : head.read ts ≡ Some (h, mid))
   }
   module-defs E.Memory f = tt
 
-  pub module-no_end : (defs : List Def) (rest : List Item) → (many definition).read mid ≡ Some (defs, rest) → (word (codes "END")).read rest ≡ None → module_text.read ts ≡ None
+  pub module-no_end : (defs : List Def) (rest : List Item) → (many definition).read mid ≡ Some (defs, rest) → (word (codes "END")).read rest ≡ None
+      → module_text.read ts ≡ None
   unfolding module_text shaped pair before lower
   module-no_end defs rest d e = rw (read, d, e) refl
 
-  pub module-reads : (defs : List Def) (rest after : List Item) → ReadsDefinitions defs mid rest → (word (codes "END")).read rest ≡ Some (tt, after) → ReadsModule (record { name = h.name; heading = h.heading; imports = h.imports; defs = defs }) ts after
+  pub module-reads : (defs : List Def) (rest after : List Item) → ReadsDefinitions defs mid rest → (word (codes "END")).read rest ≡ Some (tt, after)
+      → ReadsModule (record { name = h.name; heading = h.heading; imports = h.imports; defs = defs }) ts after
   unfolding module_text shaped pair before lower
   module-reads defs rest after d e = record { read = rw (read, d.read, e) refl; distinct = d.distinct }
 
@@ -162,7 +188,8 @@ has_modules-start ms ts e =
 module _ (ms : List Module) (from now : List Item) (have : HasModules ms from now) where
   pub has_modules-done : now ≡ [] → ReadsModules ms from
   has_modules-done e = record {
-    read = sym have.left ∙ ap (with_front ms) (end-many module_text have.bound now (rw e (none-begin module_text.first))) ∙ with_front-end ms now ∙ ap (λ (us : List Item). Some (ms, us)) e;
+    read = sym have.left ∙ ap (with_front ms) (end-many module_text have.bound now (rw e (none-begin module_text.first))) ∙ with_front-end ms now
+        ∙ ap (λ (us : List Item). Some (ms, us)) e;
     distinct = have.distinct;
   }
 

@@ -36,7 +36,8 @@ within-none : (d : ℕ) → is_within d [] ≡ true
 within-none d = grind arith
 
 -- the fronts of tokens behind one more, where that one takes the count from d to n
-step : (d n : ℕ) (x : TokenText) (xs : List TokenText) → ((ys : List TokenText) → is_within d (x ∷ ys) ≡ is_within n ys) → (d + opening_braces (x ∷ xs) == closing_braces (x ∷ xs)) ≡ (n + opening_braces xs == closing_braces xs) → is_whole d (x ∷ xs) ≡ is_whole n xs
+step : (d n : ℕ) (x : TokenText) (xs : List TokenText) → ((ys : List TokenText) → is_within d (x ∷ ys) ≡ is_within n ys)
+    → (d + opening_braces (x ∷ xs) == closing_braces (x ∷ xs)) ≡ (n + opening_braces xs == closing_braces xs) → is_whole d (x ∷ xs) ≡ is_whole n xs
 step d n x xs h e =
     let first : list_all (is_within d) (fronts (x ∷ xs)) ≡ list_all (is_within n) (fronts xs) =
     (λ i. within-none d i && list_all (is_within d) (map (λ front. x ∷ front) (fronts xs)))
@@ -52,7 +53,8 @@ closing : (d : ℕ) (x : TokenText) (xs : List TokenText) → x.kind ≡ K.Close
 closing d x xs k =
     step (suc d) d x xs (λ ys. rw (opening-cons x ys, closing-cons x ys, k) (grind arith)) (rw (opening-cons x xs, closing-cons x xs, k) (grind arith))
 
-passing : (d : ℕ) (x : TokenText) (xs : List TokenText) → same_kind x.kind K.OpenBrace ≡ false → same_kind x.kind K.CloseBrace ≡ false → is_whole d (x ∷ xs) ≡ is_whole d xs
+passing : (d : ℕ) (x : TokenText) (xs : List TokenText) → same_kind x.kind K.OpenBrace ≡ false → same_kind x.kind K.CloseBrace ≡ false
+    → is_whole d (x ∷ xs) ≡ is_whole d xs
 passing d x xs o c =
     step d d x xs (λ ys. rw (opening-cons x ys, closing-cons x ys, o, c) (grind arith)) (rw (opening-cons x xs, closing-cons x xs, o, c) (grind arith))
 
@@ -71,7 +73,8 @@ outside x xs k =
 counted-as : (d : ℕ) (xs : List TokenText) → is_whole d xs ≡ is_balanced d xs
 unfolding is_balanced
 counted-as d [] = rw (within-none d) (grind arith)
-counted-as d (x ∷ xs) = by-kind d (same_kind x.kind K.OpenBrace) refl (same_kind x.kind K.CloseBrace) refl (counted-as (d + 1) xs) (counted-as (d - 1) xs) (counted-as d xs)
+counted-as d (x ∷ xs) = by-kind d (same_kind x.kind K.OpenBrace) refl (same_kind x.kind K.CloseBrace) refl (counted-as (d + 1) xs) (counted-as (d - 1) xs)
+    (counted-as d xs)
   where
     by-kind : (n : ℕ) (a : Bool) → same_kind x.kind K.OpenBrace ≡ a → (b : Bool) → same_kind x.kind K.CloseBrace ≡ b
         → is_whole (n + 1) xs ≡ is_balanced (n + 1) xs → is_whole (n - 1) xs ≡ is_balanced (n - 1) xs → is_whole n xs ≡ is_balanced n xs
@@ -91,6 +94,7 @@ zero-plus n = omega arith
 pub fronts-counted : (xs : List TokenText) → has_balanced_braces xs ≡ is_balanced 0 xs
 unfolding has_balanced_braces
 fronts-counted xs =
-    (λ i. all-same (λ front. nat_le (closing_braces front) (opening_braces front)) (is_within 0) (λ front j. nat_le (closing_braces front) (zero-plus (opening_braces front) j)) (fronts xs) i
+    (λ i. all-same (λ front. nat_le (closing_braces front) (opening_braces front)) (is_within 0) (λ front j. nat_le (closing_braces front) (zero-plus
+    (opening_braces front) j)) (fronts xs) i
     && zero-plus (opening_braces xs) i == closing_braces xs)
     ∙ counted-as 0 xs

@@ -1,5 +1,36 @@
 -- Each way of making a format keeps it lawful.
-use Rattle.std.proofs.Common.{◌≡◌, ℕ, zero, suc, ◌<◌, Bool, true, false, ◌&&◌, not, List, [], ◌∷◌, ◌++◌, length, Option, Some, None, Ok, Err, if◌then◌else◌, refl, sym, ◌∙◌, ap, subst, arith, inl, inr, ◌⊎◌}
+use Rattle.std.proofs.Common.{
+  ◌≡◌,
+  ℕ,
+  zero,
+  suc,
+  ◌<◌,
+  Bool,
+  true,
+  false,
+  ◌&&◌,
+  not,
+  List,
+  [],
+  ◌∷◌,
+  ◌++◌,
+  length,
+  Option,
+  Some,
+  None,
+  Ok,
+  Err,
+  if◌then◌else◌,
+  refl,
+  sym,
+  ◌∙◌,
+  ap,
+  subst,
+  arith,
+  inl,
+  inr,
+  ◌⊎◌,
+}
 use Rattle.std.specs.Prelude.{option_map, option_and_then}
 use Rattle.std.specs.List.{list_any, flat_map}
 use Rattle.smi_lexer.specs.declared.token.TokenKind.{TokenKind}
@@ -8,12 +39,67 @@ use Rattle.smi_lexer.specs.Token.{Lexeme, Item}
 use Rattle.smi_module.specs.Mark.{Mark, sign, sign_text, spelled, same_kind, same_text, Fits}
 use Rattle.smi_text.specs.Format.{Takes}
 use Rattle.smi_module.specs.Reserved.{is_reserved}
-use Rattle.smi_text.specs.Format.{Format, Reading, Ahead, a_word, a_name, a_kind, is_this_word, meets, begins, apart, never, one, read_one, word, token, text, text_where, name, pair, behind, before, maybe, spell_option, either, spell_either, read_many, many, spell_pieces, shaped, line_ahead, lined, with_front, lower, name_where, name_of, is_sign}
+use Rattle.smi_text.specs.Format.{
+  Format,
+  Reading,
+  Ahead,
+  a_word,
+  a_name,
+  a_kind,
+  is_this_word,
+  meets,
+  begins,
+  apart,
+  never,
+  one,
+  read_one,
+  word,
+  token,
+  text,
+  text_where,
+  name,
+  pair,
+  behind,
+  before,
+  maybe,
+  spell_option,
+  either,
+  spell_either,
+  read_many,
+  many,
+  spell_pieces,
+  shaped,
+  line_ahead,
+  lined,
+  with_front,
+  lower,
+  name_where,
+  name_of,
+  is_sign,
+}
 use Rattle.smi_module.specs.Spelling.{put_line}
 use Rattle.smi_module.specs.declared.names.Name.{Name}
 use Rattle.smi_text.proofs.Lawful.{Lawful}
 use Rattle.smi_text.proofs.NameLaws.{name_of-octets, name_of-is}
-use Rattle.smi_text.proofs.Marks.{and-left, and-right, and-both, or-left, or-right, or-false, same_kind-eq, same_kind-same, same_text-eq, same_text-same, Takes-append, Takes-split, map-inv, then-inv, begins-append, begins-none, apart-false}
+use Rattle.smi_text.proofs.Marks.{
+  and-left,
+  and-right,
+  and-both,
+  or-left,
+  or-right,
+  or-false,
+  same_kind-eq,
+  same_kind-same,
+  same_text-eq,
+  same_text-same,
+  Takes-append,
+  Takes-split,
+  map-inv,
+  then-inv,
+  begins-append,
+  begins-none,
+  apart-false,
+}
 use Rattle.smi_text.proofs.Many.{shorter, many-goes_on, many-done}
 
 pub some-inj : {A : Type 0} (x y : A) → Some x ≡ Some y → x ≡ y
@@ -41,7 +127,8 @@ never-stands (Err f ∷ ts) rest h = h
 never-stands (Ok t ∷ ts) rest h = cc (h.0.2)
 
 -- what is spelled by a format that is not empty begins as it says
-pub starts-with : {A : Type 0} (f : Format A) → Lawful f → f.empty ≡ false → (x : A) (ts rest : List Item) → Takes (f.spell x) ts rest → begins f.first ts ≡ true
+pub starts-with : {A : Type 0} (f : Format A) → Lawful f → f.empty ≡ false → (x : A) (ts rest : List Item) → Takes (f.spell x) ts rest
+    → begins f.first ts ≡ true
 starts-with f law solid x ts rest h =
     elim (law.starts x ts rest h) [ inl b ↦ b | inr p ↦ absurd (let e = p.0 in cc) ]
 
@@ -62,7 +149,8 @@ pub record IsOne {A : Type 0} (cs : List Ahead) (mark : A → Mark) (pick : Lexe
   pub picks : (t : Lexeme) (x : A) → Fits (mark x) t → pick t ≡ Some x
   pub ahead : (t : Lexeme) (x : A) → Fits (mark x) t → list_any (meets t) cs ≡ true
 
-one-takes : {A : Type 0} (cs : List Ahead) (mark : A → Mark) (pick : Lexeme → Option A) → IsOne cs mark pick → (ts rest : List Item) (x : A) → (one cs mark pick).read ts ≡ Some (x, rest) → Takes ((one cs mark pick).spell x) ts rest
+one-takes : {A : Type 0} (cs : List Ahead) (mark : A → Mark) (pick : Lexeme → Option A) → IsOne cs mark pick → (ts rest : List Item) (x : A)
+    → (one cs mark pick).read ts ≡ Some (x, rest) → Takes ((one cs mark pick).spell x) ts rest
 one-takes cs mark pick is [] rest x h = absurd (cc)
 one-takes cs mark pick is (Err f ∷ ts) rest x h = absurd (cc)
 one-takes {A} cs mark pick is (Ok t ∷ ts) rest x h =
@@ -70,12 +158,14 @@ one-takes {A} cs mark pick is (Ok t ∷ ts) rest x h =
     let P : A × List Item → Type 0 = λ w. Fits (mark w.0) t × (ts ≡ w.1) in
     subst P r.2 (is.fits t r.0 r.1, refl)
 
-one-again : {A : Type 0} (cs : List Ahead) (mark : A → Mark) (pick : Lexeme → Option A) → IsOne cs mark pick → (x : A) (ts rest : List Item) → Takes (mark x ∷ []) ts rest → read_one pick ts ≡ Some (x, rest)
+one-again : {A : Type 0} (cs : List Ahead) (mark : A → Mark) (pick : Lexeme → Option A) → IsOne cs mark pick → (x : A) (ts rest : List Item)
+    → Takes (mark x ∷ []) ts rest → read_one pick ts ≡ Some (x, rest)
 one-again cs mark pick is x [] rest h = absurd h
 one-again cs mark pick is x (Err f ∷ ts) rest h = absurd h
 one-again {A} cs mark pick is x (Ok t ∷ ts) rest h = rw (is.picks t x h.0) (ap (λ (us : List Item). Some (x, us)) h.1)
 
-one-starts : {A : Type 0} (cs : List Ahead) (mark : A → Mark) (pick : Lexeme → Option A) → IsOne cs mark pick → (x : A) (ts rest : List Item) → Takes (mark x ∷ []) ts rest → begins cs ts ≡ true
+one-starts : {A : Type 0} (cs : List Ahead) (mark : A → Mark) (pick : Lexeme → Option A) → IsOne cs mark pick → (x : A) (ts rest : List Item)
+    → Takes (mark x ∷ []) ts rest → begins cs ts ≡ true
 unfolding begins
 one-starts cs mark pick is x [] rest h = absurd h
 one-starts cs mark pick is x (Err f ∷ ts) rest h = absurd h
@@ -106,8 +196,12 @@ pub word-law : (w : List ℕ) → Lawful (word w)
 unfolding word
 word-law w = one-law (a_word w ∷ []) (λ _. spelled Upper w true) (λ t. if is_this_word w t then Some tt else None) (record {
   fits = λ t x h.
-      let b = (if-some {A = Unit {0}} (is_this_word w t) tt x h).0 in
-      (same_kind-eq t.kind Upper (and-left (same_kind t.kind Upper) (same_text t.text w) b), same_text-eq t.text w (and-right (same_kind t.kind Upper) (same_text t.text w) b), refl);
+      let b = (if-some {A = Unit {0}} (is_this_word w t) tt x h).0 in (
+        same_kind-eq t.kind Upper (and-left (same_kind t.kind Upper) (same_text t.text w) b),
+        same_text-eq t.text w (and-right (same_kind t.kind Upper)
+            (same_text t.text w) b),
+        refl,
+      );
   picks = λ t x h. if-true (is_this_word w t) (Some tt) None (word-true w t h.0 h.1);
   ahead = λ t x h. any-one t (a_word w) (word-true w t h.0 h.1);
 })
@@ -142,7 +236,8 @@ text_where-law k ok = one-law (a_kind k ∷ []) (λ x. spelled k x (ok x)) (λ t
       let p = if-some (same_kind t.kind k && ok t.text) t.text x h in
       (same_kind-eq t.kind k (and-left (same_kind t.kind k) (ok t.text) p.0), p.1, ap ok (sym p.1) ∙ and-right (same_kind t.kind k) (ok t.text) p.0);
   picks = λ t x h.
-      if-true (same_kind t.kind k && ok t.text) (Some t.text) None (and-both (same_kind t.kind k) (ok t.text) (rw h.0 (same_kind-same k)) (ap ok h.1 ∙ h.2)) ∙ ap (λ (y : List ℕ). Some y) h.1;
+      if-true (same_kind t.kind k && ok t.text) (Some t.text) None (and-both (same_kind t.kind k) (ok t.text) (rw h.0 (same_kind-same k)) (ap ok h.1 ∙ h.2))
+      ∙ ap (λ (y : List ℕ). Some y) h.1;
   ahead = λ t x h. any-one t (a_kind k) (rw h.0 (same_kind-same k));
 })
 
@@ -150,17 +245,19 @@ if-then : {A : Type 0} (b : Bool) (r : Option A) (y : A) → (if b then r else N
 if-then true r y h = (refl, h)
 if-then false r y h = absurd (cc)
 
-pub name_where-law : (cs : List Ahead) (k : TokenKind) (ok : List ℕ → Bool) → ((t : Lexeme) → same_kind t.kind k ≡ true → ok t.text ≡ true → list_any (meets t) cs ≡ true) → Lawful (name_where cs k ok)
-name_where-law cs k ok ahead = one-law cs (λ (x : Name). spelled k x.octets (ok x.octets)) (λ t. if same_kind t.kind k && ok t.text then name_of t.text else None) (record {
-  fits = λ t x h.
-      let p = if-then (same_kind t.kind k && ok t.text) (name_of t.text) x h in
-      let e : x.octets ≡ t.text = name_of-is t.text x p.1 in
-      (same_kind-eq t.kind k (and-left (same_kind t.kind k) (ok t.text) p.0), sym e, ap ok e ∙ and-right (same_kind t.kind k) (ok t.text) p.0);
-  picks = λ t x h.
-      if-true (same_kind t.kind k && ok t.text) (name_of t.text) None (and-both (same_kind t.kind k) (ok t.text) (rw h.0 (same_kind-same k)) (ap ok h.1 ∙ h.2))
-      ∙ ap name_of h.1 ∙ name_of-octets x;
-  ahead = λ t x h. ahead t (rw h.0 (same_kind-same k)) (ap ok h.1 ∙ h.2);
-})
+pub name_where-law : (cs : List Ahead) (k : TokenKind) (ok : List ℕ → Bool) → ((t : Lexeme) → same_kind t.kind k ≡ true → ok t.text ≡ true
+    → list_any (meets t) cs ≡ true) → Lawful (name_where cs k ok)
+name_where-law cs k ok ahead = one-law cs (λ (x : Name). spelled k x.octets (ok x.octets))
+    (λ t. if same_kind t.kind k && ok t.text then name_of t.text else None) (record {
+      fits = λ t x h.
+          let p = if-then (same_kind t.kind k && ok t.text) (name_of t.text) x h in
+          let e : x.octets ≡ t.text = name_of-is t.text x p.1 in
+          (same_kind-eq t.kind k (and-left (same_kind t.kind k) (ok t.text) p.0), sym e, ap ok e ∙ and-right (same_kind t.kind k) (ok t.text) p.0);
+      picks = λ t x h.
+          if-true (same_kind t.kind k && ok t.text) (name_of t.text) None (and-both (same_kind t.kind k) (ok t.text) (rw h.0 (same_kind-same k)) (ap ok h.1 ∙ h.2))
+          ∙ ap name_of h.1 ∙ name_of-octets x;
+      ahead = λ t x h. ahead t (rw h.0 (same_kind-same k)) (ap ok h.1 ∙ h.2);
+    })
 
 pub lower-law : Lawful lower
 unfolding lower
@@ -186,7 +283,8 @@ module _ {A B : Type 0} (f : Format A) (g : Format B) (f-law : Lawful f) (g-law 
   pair-stops : (rest : List Item) → begins (pair f g).stop rest ≡ false → (begins g.stop rest ≡ false) × (g.empty ≡ true → begins f.stop rest ≡ false)
   unfolding pair
   pair-stops rest h =
-      elim (g.empty) as (λ b. begins (if b then g.stop ++ f.stop else g.stop) rest ≡ false → (begins g.stop rest ≡ false) × (b ≡ true → begins f.stop rest ≡ false)) [
+      elim (g.empty) as (λ b. begins (if b then g.stop ++ f.stop else g.stop) rest ≡ false → (begins g.stop rest ≡ false) × (b ≡ true
+      → begins f.stop rest ≡ false)) [
         | true ↦ λ k. ((neither g.stop f.stop rest k).0, λ _. (neither g.stop f.stop rest k).1)
         | false ↦ λ k. (k, λ e. absurd (cc))
       ] h
@@ -199,7 +297,8 @@ module _ {A B : Type 0} (f : Format A) (g : Format B) (f-law : Lawful f) (g-law 
       let P : (A × B) × List Item → Type 0 = λ w. Takes (f.spell w.0.0 ++ g.spell w.0.1) ts w.1 in
       subst P s.2 (Takes-append (f.spell r.0.0) (g.spell s.0.0) ts r.0.1 s.0.1 (f-law.takes ts r.0.1 r.0.0 r.1) (g-law.takes r.0.1 s.0.1 s.0.0 s.1))
 
-  pair-again : (x : A × B) (ts rest : List Item) → Takes ((pair f g).spell x) ts rest → begins (pair f g).stop rest ≡ false → (pair f g).read ts ≡ Some (x, rest)
+  pair-again : (x : A × B) (ts rest : List Item) → Takes ((pair f g).spell x) ts rest → begins (pair f g).stop rest ≡ false
+      → (pair f g).read ts ≡ Some (x, rest)
   unfolding pair
   pair-again x ts rest h s =
       let r = Takes-split (f.spell x.0) (g.spell x.1) ts rest h in
@@ -215,7 +314,8 @@ module _ {A B : Type 0} (f : Format A) (g : Format B) (f-law : Lawful f) (g-law 
   second-of-two : (ts : List Item) → f.empty ≡ true → begins g.first ts ≡ true → begins (if f.empty then f.first ++ g.first else f.first) ts ≡ true
   second-of-two ts e h = rw e (begins-right f.first g.first ts h)
 
-  pair-starts : (x : A × B) (ts rest : List Item) → Takes ((pair f g).spell x) ts rest → (begins (pair f g).first ts ≡ true) ⊎ (((pair f g).empty ≡ true) × (ts ≡ rest))
+  pair-starts : (x : A × B) (ts rest : List Item) → Takes ((pair f g).spell x) ts rest
+      → (begins (pair f g).first ts ≡ true) ⊎ (((pair f g).empty ≡ true) × (ts ≡ rest))
   unfolding pair
   pair-starts x ts rest h =
       let r = Takes-split (f.spell x.0) (g.spell x.1) ts rest h in
@@ -237,7 +337,8 @@ module _ {A : Type 0} (w : Format (Unit {0})) (f : Format A) (w-law : Lawful w) 
       let r = then-inv (λ (p : (Unit {0}) × List Item). f.read p.1) (w.read ts) (x, rest) h in
       Takes-append (w.spell tt) (f.spell x) ts r.0.1 rest (w-law.takes ts r.0.1 r.0.0 r.1) (f-law.takes r.0.1 rest x r.2)
 
-  behind-again : (x : A) (ts rest : List Item) → Takes ((behind w f).spell x) ts rest → begins (behind w f).stop rest ≡ false → (behind w f).read ts ≡ Some (x, rest)
+  behind-again : (x : A) (ts rest : List Item) → Takes ((behind w f).spell x) ts rest → begins (behind w f).stop rest ≡ false
+      → (behind w f).read ts ≡ Some (x, rest)
   unfolding behind
   behind-again x ts rest h s =
       let r = Takes-split (w.spell tt) (f.spell x) ts rest h in
@@ -254,7 +355,8 @@ module _ {A : Type 0} (w : Format (Unit {0})) (f : Format A) (w-law : Lawful w) 
   unfolding behind
   behind-law = record { takes = behind-takes; again = behind-again; starts = λ x ts rest h. inl (behind-starts x ts rest h) }
 
-module _ {A : Type 0} (f : Format A) (w : Format (Unit {0})) (f-law : Lawful f) (w-law : Lawful w) (solid : w.empty ≡ false) (far : apart f.stop w.first ≡ true) where
+module _ {A : Type 0} (f : Format A) (w : Format (Unit {0})) (f-law : Lawful f) (w-law : Lawful w) (solid : w.empty ≡ false)
+    (far : apart f.stop w.first ≡ true) where
   before-takes : (ts rest : List Item) (x : A) → (before f w).read ts ≡ Some (x, rest) → Takes ((before f w).spell x) ts rest
   unfolding before
   before-takes ts rest x h =
@@ -263,7 +365,8 @@ module _ {A : Type 0} (f : Format A) (w : Format (Unit {0})) (f-law : Lawful f) 
       let P : A × List Item → Type 0 = λ p. Takes (f.spell p.0 ++ w.spell tt) ts p.1 in
       subst P s.2 (Takes-append (f.spell r.0.0) (w.spell tt) ts r.0.1 s.0.1 (f-law.takes ts r.0.1 r.0.0 r.1) (w-law.takes r.0.1 s.0.1 s.0.0 s.1))
 
-  before-again : (x : A) (ts rest : List Item) → Takes ((before f w).spell x) ts rest → begins (before f w).stop rest ≡ false → (before f w).read ts ≡ Some (x, rest)
+  before-again : (x : A) (ts rest : List Item) → Takes ((before f w).spell x) ts rest → begins (before f w).stop rest ≡ false
+      → (before f w).read ts ≡ Some (x, rest)
   unfolding before
   before-again x ts rest h s =
       let r = Takes-split (f.spell x) (w.spell tt) ts rest h in
@@ -288,7 +391,8 @@ module _ {A : Type 0} (f : Format A) (law : Lawful f) (solid : f.empty ≡ false
   maybe-takes : (ts rest : List Item) (x : Option A) → (maybe f).read ts ≡ Some (x, rest) → Takes ((maybe f).spell x) ts rest
   unfolding maybe
   maybe-takes ts rest x =
-      elim (begins f.first ts) as (λ b. (if b then option_map put_some (f.read ts) else Some (None, ts)) ≡ Some (x, rest) → Takes (spell_option f.spell x) ts rest) [
+      elim (begins f.first ts) as (λ b. (if b then option_map put_some (f.read ts) else Some (None, ts)) ≡ Some (x, rest)
+      → Takes (spell_option f.spell x) ts rest) [
         | true ↦ λ h.
             let r = map-inv put_some (f.read ts) (x, rest) h in
             let P : Option A × List Item → Type 0 = λ w. Takes (spell_option f.spell w.0) ts w.1 in
@@ -299,13 +403,15 @@ module _ {A : Type 0} (f : Format A) (law : Lawful f) (solid : f.empty ≡ false
             subst P e refl
       ]
 
-  maybe-again : (x : Option A) (ts rest : List Item) → Takes ((maybe f).spell x) ts rest → begins (maybe f).stop rest ≡ false → (maybe f).read ts ≡ Some (x, rest)
+  maybe-again : (x : Option A) (ts rest : List Item) → Takes ((maybe f).spell x) ts rest → begins (maybe f).stop rest ≡ false
+      → (maybe f).read ts ≡ Some (x, rest)
   unfolding maybe
   maybe-again None ts rest h s = rw (ap (begins f.first) h ∙ (neither f.first f.stop rest s).0) (ap (λ (us : List Item). Some (None, us)) h)
   maybe-again (Some x) ts rest h s =
       rw (starts-with f law solid x ts rest h, law.again x ts rest h (neither f.first f.stop rest s).1) refl
 
-  maybe-starts : (x : Option A) (ts rest : List Item) → Takes ((maybe f).spell x) ts rest → (begins (maybe f).first ts ≡ true) ⊎ (((maybe f).empty ≡ true) × (ts ≡ rest))
+  maybe-starts : (x : Option A) (ts rest : List Item) → Takes ((maybe f).spell x) ts rest
+      → (begins (maybe f).first ts ≡ true) ⊎ (((maybe f).empty ≡ true) × (ts ≡ rest))
   unfolding maybe
   maybe-starts None ts rest h = inr (refl, h)
   maybe-starts (Some x) ts rest h = inl (starts-with f law solid x ts rest h)
@@ -313,12 +419,14 @@ module _ {A : Type 0} (f : Format A) (law : Lawful f) (solid : f.empty ≡ false
   pub maybe-law : Lawful (maybe f)
   maybe-law = record { takes = maybe-takes; again = maybe-again; starts = maybe-starts }
 
-module _ {A B : Type 0} (f : Format A) (g : Format B) (f-law : Lawful f) (g-law : Lawful g) (f-solid : f.empty ≡ false) (g-solid : g.empty ≡ false) (far : apart f.first g.first ≡ true) where
+module _ {A B : Type 0} (f : Format A) (g : Format B) (f-law : Lawful f) (g-law : Lawful g) (f-solid : f.empty ≡ false) (g-solid : g.empty ≡ false)
+    (far : apart f.first g.first ≡ true) where
   either-takes : (ts rest : List Item) (x : A ⊎ B) → (either f g).read ts ≡ Some (x, rest) → Takes ((either f g).spell x) ts rest
   unfolding either
   either-takes ts rest x =
       let P : (A ⊎ B) × List Item → Type 0 = λ w. Takes (spell_either f.spell g.spell w.0) ts w.1 in
-      elim (begins f.first ts) as (λ b. (if b then option_map (put_left {B = B}) (f.read ts) else option_map (put_right {A = A}) (g.read ts)) ≡ Some (x, rest) → Takes (spell_either f.spell g.spell x) ts rest) [
+      elim (begins f.first ts) as (λ b. (if b then option_map (put_left {B = B}) (f.read ts) else option_map (put_right {A = A}) (g.read ts)) ≡ Some
+      (x, rest) → Takes (spell_either f.spell g.spell x) ts rest) [
         | true ↦ λ h.
             let r = map-inv (put_left {B = B}) (f.read ts) (x, rest) h in
             subst P r.2 (f-law.takes ts r.0.1 r.0.0 r.1)
@@ -327,7 +435,8 @@ module _ {A B : Type 0} (f : Format A) (g : Format B) (f-law : Lawful f) (g-law 
             subst P r.2 (g-law.takes ts r.0.1 r.0.0 r.1)
       ]
 
-  either-again : (x : A ⊎ B) (ts rest : List Item) → Takes ((either f g).spell x) ts rest → begins (either f g).stop rest ≡ false → (either f g).read ts ≡ Some (x, rest)
+  either-again : (x : A ⊎ B) (ts rest : List Item) → Takes ((either f g).spell x) ts rest → begins (either f g).stop rest ≡ false
+      → (either f g).read ts ≡ Some (x, rest)
   unfolding either
   either-again (inl x) ts rest h s =
       rw (starts-with f f-law f-solid x ts rest h, f-law.again x ts rest h (neither f.stop g.stop rest s).0) refl
@@ -356,11 +465,13 @@ module _ {A : Type 0} (f : Format A) (law : Lawful f) (solid : f.empty ≡ false
       subst P e refl
   many-takes-from (suc n) ts rest xs =
       let P : List A × List Item → Type 0 = λ w. Takes (flat_map f.spell w.0) ts w.1 in
-      elim (begins f.first ts) as (λ b. (if b then option_and_then (then_many f n) (f.read ts) else Some ([], ts)) ≡ Some (xs, rest) → Takes (flat_map f.spell xs) ts rest) [
+      elim (begins f.first ts) as (λ b. (if b then option_and_then (then_many f n) (f.read ts) else Some ([], ts)) ≡ Some (xs, rest)
+      → Takes (flat_map f.spell xs) ts rest) [
         | true ↦ λ h.
             let r = then-inv (then_many f n) (f.read ts) (xs, rest) h in
             let s = map-inv (put_first r.0.0) (read_many f n r.0.1) (xs, rest) r.2 in
-            subst P s.2 (Takes-append (f.spell r.0.0) (flat_map f.spell s.0.0) ts r.0.1 s.0.1 (law.takes ts r.0.1 r.0.0 r.1) (many-takes-from n r.0.1 s.0.1 s.0.0 s.1))
+            subst P s.2 (Takes-append (f.spell r.0.0) (flat_map f.spell s.0.0) ts r.0.1 s.0.1 (law.takes ts r.0.1 r.0.0 r.1)
+            (many-takes-from n r.0.1 s.0.1 s.0.0 s.1))
         | false ↦ λ h.
             let e = some-inj {A = List A × List Item} ([], ts) (xs, rest) h in
             subst P e refl
@@ -372,11 +483,16 @@ module _ {A : Type 0} (f : Format A) (law : Lawful f) (solid : f.empty ≡ false
       let r = Takes-split (f.spell x) (flat_map f.spell xs) ts rest h in
       inl (starts-with f law solid x ts r.0 r.1)
 
-  many-again : (xs : List A) (ts rest : List Item) → Takes (flat_map f.spell xs) ts rest → (begins f.first rest ≡ false) × (begins f.stop rest ≡ false) → (many f).read ts ≡ Some (xs, rest)
+  many-again : (xs : List A) (ts rest : List Item) → Takes (flat_map f.spell xs) ts rest → (begins f.first rest ≡ false) × (begins f.stop rest ≡ false)
+      → (many f).read ts ≡ Some (xs, rest)
   many-again [] ts rest h s = rw h (many-done f rest s.0)
   many-again (x ∷ xs) ts rest h s =
       let r = Takes-split (f.spell x) (flat_map f.spell xs) ts rest h in
-      let on : begins f.stop r.0 ≡ false = elim (many-starts xs r.0 rest r.2) [ inl b ↦ apart-false f.stop f.first r.0 far b | inr e ↦ ap (begins f.stop) e ∙ s.1 ] in
+      let on : begins f.stop r.0 ≡ false = elim (many-starts xs r.0 rest r.2) [
+        | inl b ↦ apart-false f.stop f.first r.0 far b
+        | inr e ↦ ap (begins f.stop) e
+            ∙ s.1
+      ] in
       many-goes_on f law solid x ts r.0 (starts-with f law solid x ts r.0 r.1) (law.again x ts r.0 r.1 on)
       ∙ ap (with_front (x ∷ [])) (many-again xs r.0 rest r.2 s) ∙ front-of-one x xs rest
 
@@ -407,13 +523,15 @@ module _ {A B : Type 0} (to : A → B) (from : B → Option A) (f : Format A) (l
         | Some x ↦ λ e k. (x, e, k)
       ] refl h
 
-  shaped-again : (y : B) (ts rest : List Item) → Takes ((shaped to from f).spell y) ts rest → begins (shaped to from f).stop rest ≡ false → (shaped to from f).read ts ≡ Some (y, rest)
+  shaped-again : (y : B) (ts rest : List Item) → Takes ((shaped to from f).spell y) ts rest → begins (shaped to from f).stop rest ≡ false
+      → (shaped to from f).read ts ≡ Some (y, rest)
   unfolding shaped
   shaped-again y ts rest h s =
       let p = pieces y ts rest h in
       rw (law.again p.0 ts rest p.2 s) (ap (λ (z : B). Some (z, rest)) (forth y p.0 p.1))
 
-  shaped-starts : (y : B) (ts rest : List Item) → Takes ((shaped to from f).spell y) ts rest → (begins (shaped to from f).first ts ≡ true) ⊎ (((shaped to from f).empty ≡ true) × (ts ≡ rest))
+  shaped-starts : (y : B) (ts rest : List Item) → Takes ((shaped to from f).spell y) ts rest
+      → (begins (shaped to from f).first ts ≡ true) ⊎ (((shaped to from f).empty ≡ true) × (ts ≡ rest))
   unfolding shaped
   shaped-starts y ts rest h =
       let p = pieces y ts rest h in

@@ -5,7 +5,30 @@ use Rattle.std.proofs.Math.Bool.{Bool-set}
 use Rattle.std.proofs.Math.Logic.{∥∥₁_elim}
 use Rattle.std.proofs.lemmas.Bool.{false≢true}
 use Rattle.smi_lexer.specs.declared.token.TokenKind.{TokenKind}
-use Rattle.smi_lexer.specs.declared.token.TokenKind.TheVariants.{Lower, Upper, Number, Text, Hex, Binary, Assign, Range, OpenBrace, CloseBrace, OpenParen, CloseParen, OpenBracket, CloseBracket, Less, Greater, Comma, Semicolon, Colon, Bar, Dot, Equals}
+use Rattle.smi_lexer.specs.declared.token.TokenKind.TheVariants.{
+  Lower,
+  Upper,
+  Number,
+  Text,
+  Hex,
+  Binary,
+  Assign,
+  Range,
+  OpenBrace,
+  CloseBrace,
+  OpenParen,
+  CloseParen,
+  OpenBracket,
+  CloseBracket,
+  Less,
+  Greater,
+  Comma,
+  Semicolon,
+  Colon,
+  Bar,
+  Dot,
+  Equals,
+}
 use Rattle.smi_lexer.specs.Lexeme.{IsLexeme}
 use Rattle.smi_lexer.specs.Token.{Lexeme, Item}
 use Rattle.smi_module.specs.Mark.{sign_text, same_text, same_kind}
@@ -46,7 +69,8 @@ sign-of Equals x e h = h
 sign_is : (k : TokenKind) (x : List ℕ) → is_sign_kind k ≡ true → ∥ IsLexeme k x ∥₁ → same_text x (sign_text k) ≡ true
 sign_is k x e t = ∥∥₁_elim t (Bool-set (same_text x (sign_text k)) true) (λ h. rw (sign-of k x e h) (same_text-same (sign_text k)))
 
-pub sign-read : (k : TokenKind) (t : Lexeme) (ts : List Item) → t.kind ≡ k → is_sign_kind k ≡ true → ∥ IsLexeme t.kind t.text ∥₁ → (token k).read (Ok t ∷ ts) ≡ Some (tt, ts)
+pub sign-read : (k : TokenKind) (t : Lexeme) (ts : List Item) → t.kind ≡ k → is_sign_kind k ≡ true → ∥ IsLexeme t.kind t.text ∥₁
+    → (token k).read (Ok t ∷ ts) ≡ Some (tt, ts)
 unfolding token
 sign-read k t ts e s l =
     let text : same_text t.text (sign_text t.kind) ≡ true = sign_is t.kind t.text (rw e s) l in
@@ -58,7 +82,8 @@ pub name_at : (x : List ℕ) (n : Name) → n.octets ≡ x → name_of x ≡ Som
 name_at x n e = ap name_of (sym e) ∙ name_of-octets n
 
 -- what a step that keeps a name gives, where the token ahead passes the test
-pub gives-name : (cs : List Ahead) (k : TokenKind) (ok : List ℕ → Bool) (t : Lexeme) (ts now rest : List Item) (r : Result Name Stop) → now ≡ Ok t ∷ ts → ts ≡ drop 1 now → t.kind ≡ k → ok t.text ≡ true
+pub gives-name : (cs : List Ahead) (k : TokenKind) (ok : List ℕ → Bool) (t : Lexeme) (ts now rest : List Item) (r : Result Name Stop) → now ≡ Ok t ∷ ts
+    → ts ≡ drop 1 now → t.kind ≡ k → ok t.text ≡ true
     → IfOk r (λ x. (name_of t.text ≡ Some x) × (rest ≡ drop 1 now)) → IfErr r (λ e. e ≡ Memory) → Gives r rest ((name_where cs k ok).read now)
 gives-name cs k ok t ts now rest (Ok x) is tail e o h m =
     let both : (same_kind t.kind k && ok t.text) ≡ true = and-both (same_kind t.kind k) (ok t.text) (rw e (same_kind-same k)) o in

@@ -131,7 +131,8 @@ names xs = braces (say.of_list (sign K.Comma) (λ x. say.lower x ∷ []) xs) (be
 
 status : (s : Status) → AreBare (say.of_status s)
 status s = λ i.
-    say.word (codes "STATUS") ∷ say.lower_text s.status ∷ say.word (codes "DESCRIPTION") ∷ say.string s.description ∷ options (say.of_clause (codes "REFERENCE")) (λ x. refl) s.reference i
+    say.word (codes "STATUS") ∷ say.lower_text s.status ∷ say.word (codes "DESCRIPTION") ∷ say.string s.description ∷ options (say.of_clause
+    (codes "REFERENCE")) (λ x. refl) s.reference i
 
 index_names : (xs : List Name) (b : Bool) → AreBare (say.of_index_names xs b)
 index_names [] b = refl
@@ -169,7 +170,8 @@ stated s ps = both (say.of_status s) (say.of_value ps) (status s) (value ps)
 
 module_identity : (d : ModuleIdentity) → AreBare (say.of_module_identity d)
 module_identity d = λ i.
-    say.word (codes "MODULE-IDENTITY") ∷ say.word (codes "LAST-UPDATED") ∷ say.string d.last_updated ∷ say.word (codes "ORGANIZATION") ∷ say.string d.organization ∷
+    say.word (codes "MODULE-IDENTITY") ∷ say.word (codes "LAST-UPDATED") ∷ say.string d.last_updated ∷ say.word
+    (codes "ORGANIZATION") ∷ say.string d.organization ∷
     say.word (codes "CONTACT-INFO") ∷ say.string d.contact_info ∷ say.word (codes "DESCRIPTION") ∷ say.string d.description ∷
     both (flat_map say.of_revision d.revisions) (say.of_value d.value) (lists say.of_revision (λ r. refl) d.revisions) (value d.value) i
 
@@ -182,15 +184,19 @@ default xs = λ i. say.word (codes "DEFVAL") ∷ braces (say.of_balanced xs) (ba
 object_type : (d : ObjectType) → AreBare (say.of_object_type d)
 object_type d =
     let ending = both (say.of_option default_marks d.default) (say.of_value d.value) (options default_marks default d.default) (value d.value) in
-    let after_index = both (say.of_option say.of_index d.index) (say.of_option default_marks d.default ++ say.of_value d.value) (options say.of_index index d.index) ending in
-    let after_status = both (say.of_status d.status) (say.of_option say.of_index d.index ++ (say.of_option default_marks d.default ++ say.of_value d.value)) (status d.status) after_index in
+    let after_index = both (say.of_option say.of_index d.index) (say.of_option default_marks d.default ++ say.of_value d.value)
+    (options say.of_index index d.index) ending in
+    let after_status = both (say.of_status d.status) (say.of_option say.of_index d.index ++ (say.of_option default_marks d.default ++ say.of_value d.value))
+    (status d.status) after_index in
     let after_units = both (say.of_option (say.of_clause (codes "UNITS")) d.units)
-    (say.word (codes "MAX-ACCESS") ∷ say.lower_text d.max_access ∷ (say.of_status d.status ++ (say.of_option say.of_index d.index ++ (say.of_option default_marks d.default ++ say.of_value d.value))))
+    (say.word (codes "MAX-ACCESS") ∷ say.lower_text d.max_access ∷ (say.of_status d.status ++ (say.of_option say.of_index d.index ++
+    (say.of_option default_marks d.default ++ say.of_value d.value))))
     (options (say.of_clause (codes "UNITS")) (λ x. refl) d.units) (λ i. say.word (codes "MAX-ACCESS") ∷ say.lower_text d.max_access ∷ after_status i) in
     λ i. say.word (codes "OBJECT-TYPE") ∷ say.word (codes "SYNTAX") ∷
     both (say.of_syntax d.syntax)
     (say.of_option (say.of_clause (codes "UNITS")) d.units ++
-    (say.word (codes "MAX-ACCESS") ∷ say.lower_text d.max_access ∷ (say.of_status d.status ++ (say.of_option say.of_index d.index ++ (say.of_option default_marks d.default ++ say.of_value d.value)))))
+    (say.word (codes "MAX-ACCESS") ∷ say.lower_text d.max_access ∷ (say.of_status d.status ++ (say.of_option say.of_index d.index ++
+    (say.of_option default_marks d.default ++ say.of_value d.value)))))
     (syntax_type d.syntax) after_units i
 
 abbrev object_marks : List Name → List Mark
@@ -203,7 +209,8 @@ notification_type d = λ i.
     (options object_marks (λ xs j. say.word (codes "OBJECTS") ∷ names xs j) d.objects) (stated d.status d.value) i
 
 group : (w v : List ℕ) (d : Group) → AreBare (say.of_group w v d)
-group w v d = λ i. say.word w ∷ say.word v ∷ both (say.of_names d.members) (say.of_status d.status ++ say.of_value d.value) (names d.members) (stated d.status d.value) i
+group w v d = λ i. say.word w ∷ say.word v ∷ both (say.of_names d.members) (say.of_status d.status ++ say.of_value d.value) (names d.members)
+    (stated d.status d.value) i
 
 raw_definition : (w : List ℕ) (d : RawDefinition) → AreBare (say.of_raw_definition w d)
 raw_definition w d = λ i. say.word w ∷ both (say.of_raw_clauses d.clauses) (say.of_value d.value) (raw_clauses d.clauses) (value d.value) i
@@ -213,7 +220,8 @@ textual_convention d = λ i.
     say.word (codes "TEXTUAL-CONVENTION") ∷
     both (say.of_option (say.of_clause (codes "DISPLAY-HINT")) d.display_hint) (say.of_status d.status ++ (say.word (codes "SYNTAX") ∷ say.of_syntax d.syntax))
     (options (say.of_clause (codes "DISPLAY-HINT")) (λ x. refl) d.display_hint)
-    (both (say.of_status d.status) (say.word (codes "SYNTAX") ∷ say.of_syntax d.syntax) (status d.status) (λ j. say.word (codes "SYNTAX") ∷ syntax_type d.syntax j)) i
+    (both (say.of_status d.status) (say.word (codes "SYNTAX") ∷ say.of_syntax d.syntax) (status d.status) (λ j. say.word
+    (codes "SYNTAX") ∷ syntax_type d.syntax j)) i
 
 abbrev tag_marks : List ℕ → List Mark
 tag_marks n = sign K.OpenBracket ∷ say.word (codes "APPLICATION") ∷ say.number n ∷ sign K.CloseBracket ∷ say.word (codes "IMPLICIT") ∷ []
@@ -234,16 +242,19 @@ kind line x (D.AgentCapabilities d) = λ i. on_line 0 (say.lower x) ∷ raw_defi
 kind line x (D.TextualConvention d) = λ i. on_line 0 (say.upper x) ∷ sign K.Assign ∷ textual_convention d i
 kind line x (D.TypeAssignment d) = λ i. on_line 0 (say.upper x) ∷ sign K.Assign ∷ type_assignment d i
 kind line x (D.Sequence fs) = λ i.
-    on_line 0 (say.upper x) ∷ sign K.Assign ∷ say.word (codes "SEQUENCE") ∷ braces (say.of_list (sign K.Comma) say.of_field fs) (between K.Comma say.of_field field fs) i
+    on_line 0 (say.upper x) ∷ sign K.Assign ∷ say.word (codes "SEQUENCE") ∷ braces (say.of_list (sign K.Comma) say.of_field fs)
+    (between K.Comma say.of_field field fs) i
 kind line x (D.Choice xs) = λ i. on_line 0 (say.upper x) ∷ sign K.Assign ∷ say.word (codes "CHOICE") ∷ braces (say.of_balanced xs) (balanced xs) i
 kind line x (D.Macro xs) = λ i.
-    on_line 0 (spelled K.Upper x.octets (if is_macro x.octets then true else not (is_reserved x.octets))) ∷ say.word (codes "MACRO") ∷ sign K.Assign ∷ say.word (codes "BEGIN") ∷
+    on_line 0 (spelled K.Upper x.octets (if is_macro x.octets then true else not (is_reserved x.octets))) ∷ say.word
+    (codes "MACRO") ∷ sign K.Assign ∷ say.word (codes "BEGIN") ∷
     both (say.of_raw_body xs) (say.word (codes "END") ∷ []) (raw_body xs) refl i
 
 -- ---- modules
 
 -- parts of which each has its line
-lined_lists : {A : Type 0} (f : A → List Mark) (g : A → A) → ((x : A) → map zeroed (f x) ≡ f (g x)) → (xs : List A) → map zeroed (flat_map f xs) ≡ flat_map f (map g xs)
+lined_lists : {A : Type 0} (f : A → List Mark) (g : A → A) → ((x : A) → map zeroed (f x) ≡ f (g x)) → (xs : List A)
+    → map zeroed (flat_map f xs) ≡ flat_map f (map g xs)
 lined_lists f g h [] = refl
 lined_lists f g h (x ∷ xs) = zeroed-append (f x) (flat_map f xs) ∙ (λ i. h x i ++ lined_lists f g h xs i)
 
@@ -265,15 +276,18 @@ import_marks is = say.word (codes "IMPORTS") ∷ (flat_map say.of_import is ++ s
 imports : (o : Option (List Import)) → map zeroed (say.of_option import_marks o) ≡ say.of_option import_marks (option_map (map unlined_import) o)
 imports None = refl
 imports (Some xs) = λ i.
-    say.word (codes "IMPORTS") ∷ (zeroed-append (flat_map say.of_import xs) (sign K.Semicolon ∷ []) ∙ (λ j. lined_lists say.of_import unlined_import import_clause xs j ++ sign K.Semicolon ∷ [])) i
+    say.word (codes "IMPORTS") ∷ (zeroed-append (flat_map say.of_import xs) (sign K.Semicolon ∷ [])
+    ∙ (λ j. lined_lists say.of_import unlined_import import_clause xs j ++ sign K.Semicolon ∷ [])) i
 
 abbrev heading_marks : List Part → List Mark
 heading_marks ps = say.braces (flat_map say.of_part ps)
 
-head : (name : Name) (heading : Option (List Part)) (is : Option (List Import)) → map zeroed (say.of_head name heading is) ≡ say.of_head name heading (option_map (map unlined_import) is)
+head : (name : Name) (heading : Option (List Part)) (is : Option (List Import))
+    → map zeroed (say.of_head name heading is) ≡ say.of_head name heading (option_map (map unlined_import) is)
 head name heading is = λ i.
     say.upper name ∷
-    (zeroed-append (say.of_option heading_marks heading) (say.word (codes "DEFINITIONS") ∷ sign K.Assign ∷ say.word (codes "BEGIN") ∷ say.of_option import_marks is)
+    (zeroed-append (say.of_option heading_marks heading) (say.word (codes "DEFINITIONS") ∷ sign K.Assign ∷ say.word
+    (codes "BEGIN") ∷ say.of_option import_marks is)
     ∙ (λ j. options heading_marks (λ ps. braces (flat_map say.of_part ps) (lists say.of_part part ps)) heading j
     ++ (say.word (codes "DEFINITIONS") ∷ sign K.Assign ∷ say.word (codes "BEGIN") ∷ imports is j))) i
 
@@ -284,7 +298,8 @@ module_text : (m : Module) → map zeroed (say.of_module m) ≡ say.of_module (u
 module_text m =
     zeroed-append (say.of_head m.name m.heading m.imports) (flat_map say.of_def m.defs ++ say.word (codes "END") ∷ [])
     ∙ (λ i. head m.name m.heading m.imports i
-    ++ (zeroed-append (flat_map say.of_def m.defs) (say.word (codes "END") ∷ []) ∙ (λ j. lined_lists say.of_def unlined_def def m.defs j ++ say.word (codes "END") ∷ [])) i)
+    ++ (zeroed-append (flat_map say.of_def m.defs) (say.word (codes "END") ∷ [])
+    ∙ (λ j. lined_lists say.of_def unlined_def def m.defs j ++ say.word (codes "END") ∷ [])) i)
 
 spelling-zeroed : (ms : List Module) → map zeroed (say.spelling ms) ≡ say.spelling (map unlined ms)
 spelling-zeroed ms = lined_lists say.of_module unlined module_text ms
@@ -303,10 +318,13 @@ stands-zeroed [] ts h = ap (map first_line) h
 stands-zeroed (m ∷ ms) [] h = h
 stands-zeroed (m ∷ ms) (t ∷ ts) h = (fits-zeroed m t h.0, stands-zeroed ms ts h.1)
 
-unlined-stands : (ms : List Module) (ts : List Lexeme) → Stands (map plain (say.spelling ms)) ts [] → Stands (say.spelling (map unlined ms)) (map first_line ts) []
+unlined-stands : (ms : List Module) (ts : List Lexeme) → Stands (map plain (say.spelling ms)) ts []
+    → Stands (say.spelling (map unlined ms)) (map first_line ts) []
 unlined-stands ms ts h = subst (λ marks. Stands marks (map first_line ts) []) (spelling-zeroed ms) (stands-zeroed (say.spelling ms) ts h)
 
-pub same_but_lines : (ms ns : List Module) (ts : List Lexeme) → Stands (map plain (say.spelling ms)) ts [] → Stands (map plain (say.spelling ns)) ts [] → map unlined ms ≡ map unlined ns
+pub same_but_lines : (ms ns : List Module) (ts : List Lexeme) → Stands (map plain (say.spelling ms)) ts [] → Stands (map plain (say.spelling ns)) ts []
+    → map unlined ms ≡ map unlined ns
 same_but_lines ms ns ts h k =
     ap (λ (p : List Module × List Item). p.0) (some-inj {A = List Module × List Item} (map unlined ms, []) (map unlined ns, [])
-    (sym (tokens-read (map unlined ms) (map first_line ts) (unlined-stands ms ts h)) ∙ tokens-read (map unlined ns) (map first_line ts) (unlined-stands ns ts k)))
+    (sym (tokens-read (map unlined ms) (map first_line ts) (unlined-stands ms ts h))
+    ∙ tokens-read (map unlined ns) (map first_line ts) (unlined-stands ns ts k)))

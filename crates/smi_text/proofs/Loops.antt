@@ -1,5 +1,31 @@
 -- One step of the loops that read the names of an index, and tokens between braces.
-use Rattle.std.proofs.Common.{◌≡◌, ℕ, zero, suc, ◌+◌, ◌-◌, ◌<◌, ◌≤◌, true, false, List, [], ◌∷◌, ◌++◌, length, Some, None, Ok, Err, if◌then◌else◌, refl, sym, ap, arith, append_assoc}
+use Rattle.std.proofs.Common.{
+  ◌≡◌,
+  ℕ,
+  zero,
+  suc,
+  ◌+◌,
+  ◌-◌,
+  ◌<◌,
+  ◌≤◌,
+  true,
+  false,
+  List,
+  [],
+  ◌∷◌,
+  ◌++◌,
+  length,
+  Some,
+  None,
+  Ok,
+  Err,
+  if◌then◌else◌,
+  refl,
+  sym,
+  ap,
+  arith,
+  append_assoc,
+}
 use Rattle.std.specs.Prelude.{◌==◌, codes}
 use Rattle.smi_lexer.specs.declared.token.TokenKind.{TokenKind}
 use Rattle.smi_lexer.specs.declared.token.TokenKind.TheVariants as K
@@ -43,7 +69,9 @@ some-token w [] b = absurd (cc)
 some-token w (t ∷ ts) b = omega arith
 
 module _ (names : List Name) (n : ℕ) (ts : List Item) (enough : length ts ≤ n) where
-  pub index-implied : (x : Name) (mid rest : List Item) → begins (a_word (codes "IMPLIED") ∷ []) ts ≡ true → (word (codes "IMPLIED")).read ts ≡ Some (tt, mid) → lower.read mid ≡ Some (x, rest) → with_names names (read_index n ts) ≡ Some (parts_of (names ++ x ∷ []) true, rest)
+  pub index-implied : (x : Name) (mid rest : List Item) → begins (a_word (codes "IMPLIED") ∷ []) ts ≡ true
+      → (word (codes "IMPLIED")).read ts ≡ Some (tt, mid) → lower.read mid ≡ Some (x, rest)
+      → with_names names (read_index n ts) ≡ Some (parts_of (names ++ x ∷ []) true, rest)
   unfolding read_index behind with_names
   index-implied x mid rest b w e = by-bound n enough
     where
@@ -51,7 +79,8 @@ module _ (names : List Name) (n : ℕ) (ts : List Item) (enough : length ts ≤ 
       by-bound zero k = absurd (omega (arith, some-token (codes "IMPLIED") ts b))
       by-bound (suc m) k = rw (b, w, e) refl
 
-  pub index-no_name : (mid : List Item) → begins (a_word (codes "IMPLIED") ∷ []) ts ≡ true → (word (codes "IMPLIED")).read ts ≡ Some (tt, mid) → lower.read mid ≡ None → with_names names (read_index n ts) ≡ None
+  pub index-no_name : (mid : List Item) → begins (a_word (codes "IMPLIED") ∷ []) ts ≡ true → (word (codes "IMPLIED")).read ts ≡ Some (tt, mid)
+      → lower.read mid ≡ None → with_names names (read_index n ts) ≡ None
   unfolding read_index behind
   index-no_name mid b w e = with_names-none names (read_index n ts) (by-bound n)
     where
@@ -67,7 +96,8 @@ module _ (names : List Name) (n : ℕ) (ts : List Item) (enough : length ts ≤ 
       by-bound zero = refl
       by-bound (suc m) = rw (b, e) refl
 
-  pub index-last : (x : Name) (rest : List Item) → begins (a_word (codes "IMPLIED") ∷ []) ts ≡ false → lower.read ts ≡ Some (x, rest) → begins (a_kind K.Comma ∷ []) rest ≡ false → with_names names (read_index n ts) ≡ Some (parts_of (names ++ x ∷ []) false, rest)
+  pub index-last : (x : Name) (rest : List Item) → begins (a_word (codes "IMPLIED") ∷ []) ts ≡ false → lower.read ts ≡ Some (x, rest)
+      → begins (a_kind K.Comma ∷ []) rest ≡ false → with_names names (read_index n ts) ≡ Some (parts_of (names ++ x ∷ []) false, rest)
   unfolding read_index with_names
   index-last x rest b e c = by-bound n enough
     where
@@ -75,7 +105,8 @@ module _ (names : List Name) (n : ℕ) (ts : List Item) (enough : length ts ≤ 
       by-bound zero k = absurd (omega (arith, name-shorter x ts rest e))
       by-bound (suc m) k = rw (b, e, c) refl
 
-  pub index-no_comma : (x : Name) (rest : List Item) → begins (a_word (codes "IMPLIED") ∷ []) ts ≡ false → lower.read ts ≡ Some (x, rest) → begins (a_kind K.Comma ∷ []) rest ≡ true → (token K.Comma).read rest ≡ None → with_names names (read_index n ts) ≡ None
+  pub index-no_comma : (x : Name) (rest : List Item) → begins (a_word (codes "IMPLIED") ∷ []) ts ≡ false → lower.read ts ≡ Some (x, rest)
+      → begins (a_kind K.Comma ∷ []) rest ≡ true → (token K.Comma).read rest ≡ None → with_names names (read_index n ts) ≡ None
   unfolding read_index with_names
   index-no_comma x rest b e c t = with_names-none names (read_index n ts) (by-bound n)
     where
@@ -83,17 +114,24 @@ module _ (names : List Name) (n : ℕ) (ts : List Item) (enough : length ts ≤ 
       by-bound zero = refl
       by-bound (suc m) = rw (b, e, c, t) refl
 
-  pub index-next : (x : Name) (rest after : List Item) → begins (a_word (codes "IMPLIED") ∷ []) ts ≡ false → lower.read ts ≡ Some (x, rest) → begins (a_kind K.Comma ∷ []) rest ≡ true → (token K.Comma).read rest ≡ Some (tt, after)
+  pub index-next : (x : Name) (rest after : List Item) → begins (a_word (codes "IMPLIED") ∷ []) ts ≡ false → lower.read ts ≡ Some (x, rest)
+      → begins (a_kind K.Comma ∷ []) rest ≡ true → (token K.Comma).read rest ≡ Some (tt, after)
       → (m : ℕ) × (length after ≤ m) × (with_names names (read_index n ts) ≡ with_names (names ++ x ∷ []) (read_index m after))
   unfolding read_index
   index-next x rest after b e c t = by-bound n enough
     where
-      by-bound : (k : ℕ) → length ts ≤ k → (m : ℕ) × (length after ≤ m) × (with_names names (read_index k ts) ≡ with_names (names ++ x ∷ []) (read_index m after))
+      by-bound : (k : ℕ) → length ts ≤ k
+          → (m : ℕ) × (length after ≤ m) × (with_names names (read_index k ts) ≡ with_names (names ++ x ∷ []) (read_index m after))
       by-bound zero h = absurd (omega (arith, name-shorter x ts rest e))
-      by-bound (suc m) h =
-          (m, omega (arith, name-shorter x ts rest e, comma-shorter rest after t), rw (b, e, c, t) (sym (with_names-append names (x ∷ []) (read_index m after))))
+      by-bound (suc m) h = (
+        m,
+        omega (arith, name-shorter x ts rest e, comma-shorter rest after t),
+        rw (b, e, c, t) (sym (with_names-append names (x ∷ [])
+            (read_index m after))),
+      )
 
-pub next-shorter : (x : Name) (ts rest after : List Item) → lower.read ts ≡ Some (x, rest) → (token K.Comma).read rest ≡ Some (tt, after) → length after < length ts
+pub next-shorter : (x : Name) (ts rest after : List Item) → lower.read ts ≡ Some (x, rest) → (token K.Comma).read rest ≡ Some (tt, after)
+    → length after < length ts
 next-shorter x ts rest after e t = omega (arith, name-shorter x ts rest e, comma-shorter rest after t)
 
 pub index_names-starts : (ts : List Item) → index_names.read ts ≡ read_index (length ts) ts
@@ -109,22 +147,26 @@ depth_after-le k depth =
       | false ↦ elim (same_kind k K.CloseBrace) as (λ b. (if b then depth - 1 else depth) ≤ depth + 1) [ true ↦ omega arith | false ↦ omega arith ]
     ]
 
-pub balanced-next : (xs : List TokenText) (depth : ℕ) (t : Lexeme) (ts : List Item) → is_outside t.kind depth ≡ false → with_front xs (read_balanced depth (Ok t ∷ ts)) ≡ with_front (xs ++ kept_text t ∷ []) (read_balanced (depth_after t.kind depth) ts)
+pub balanced-next : (xs : List TokenText) (depth : ℕ) (t : Lexeme) (ts : List Item) → is_outside t.kind depth ≡ false
+    → with_front xs (read_balanced depth (Ok t ∷ ts)) ≡ with_front (xs ++ kept_text t ∷ []) (read_balanced (depth_after t.kind depth) ts)
 unfolding read_balanced
 balanced-next xs depth t ts o = rw o (sym (with_front-append xs (kept_text t ∷ []) (read_balanced (depth_after t.kind depth) ts)))
 
-pub balanced-open : (xs : List TokenText) (depth : ℕ) (items : List Item) → 0 < depth → token_ahead items ≡ None → with_front xs (read_balanced depth items) ≡ None
+pub balanced-open : (xs : List TokenText) (depth : ℕ) (items : List Item) → 0 < depth → token_ahead items ≡ None
+    → with_front xs (read_balanced depth items) ≡ None
 unfolding read_balanced with_front
 balanced-open xs zero items h n = absurd (omega arith)
 balanced-open xs (suc d) [] h n = let e : (suc d == 0) ≡ false = grind arith in rw e refl
 balanced-open xs (suc d) (Err f ∷ items) h n = let e : (suc d == 0) ≡ false = grind arith in rw e refl
 balanced-open xs (suc d) (Ok t ∷ items) h n = absurd (cc)
 
-pub balanced-outside : (xs : List TokenText) (depth : ℕ) (t : Lexeme) (ts : List Item) → is_outside t.kind depth ≡ true → with_front xs (read_balanced depth (Ok t ∷ ts)) ≡ Some (xs, Ok t ∷ ts)
+pub balanced-outside : (xs : List TokenText) (depth : ℕ) (t : Lexeme) (ts : List Item) → is_outside t.kind depth ≡ true
+    → with_front xs (read_balanced depth (Ok t ∷ ts)) ≡ Some (xs, Ok t ∷ ts)
 unfolding read_balanced
 balanced-outside xs depth t ts o = rw o (with_front-end xs (Ok t ∷ ts))
 
-pub balanced-closed : (xs : List TokenText) (depth : ℕ) (items : List Item) → depth ≡ 0 → token_ahead items ≡ None → with_front xs (read_balanced depth items) ≡ Some (xs, items)
+pub balanced-closed : (xs : List TokenText) (depth : ℕ) (items : List Item) → depth ≡ 0 → token_ahead items ≡ None
+    → with_front xs (read_balanced depth items) ≡ Some (xs, items)
 unfolding read_balanced
 balanced-closed xs depth [] e n = rw e (with_front-end xs [])
 balanced-closed xs depth (Err f ∷ items) e n = rw e (with_front-end xs (Err f ∷ items))

@@ -1,5 +1,37 @@
 -- Readings of any number of one part.
-use Rattle.std.proofs.Common.{◌≡◌, ℕ, zero, suc, ◌+◌, ◌<◌, ◌≤◌, true, false, List, [], ◌∷◌, ◌++◌, length, Some, None, Ok, Err, if◌then◌else◌, option_map, option_and_then, refl, sym, ◌∙◌, ap, subst, arith, inl, inr, append_assoc, append-nil}
+use Rattle.std.proofs.Common.{
+  ◌≡◌,
+  ℕ,
+  zero,
+  suc,
+  ◌+◌,
+  ◌<◌,
+  ◌≤◌,
+  true,
+  false,
+  List,
+  [],
+  ◌∷◌,
+  ◌++◌,
+  length,
+  Some,
+  None,
+  Ok,
+  Err,
+  if◌then◌else◌,
+  option_map,
+  option_and_then,
+  refl,
+  sym,
+  ◌∙◌,
+  ap,
+  subst,
+  arith,
+  inl,
+  inr,
+  append_assoc,
+  append-nil,
+}
 use Rattle.smi_lexer.specs.Token.{Item}
 use Rattle.smi_module.specs.Mark.{Mark}
 use Rattle.smi_text.specs.Format.{Takes}
@@ -27,14 +59,16 @@ shorter f law solid x ts rest h =
       | (m ∷ ms) ↦ λ e. omega (arith, Takes-length (f.spell x) ts rest h, ap length e)
     ] refl
 
-pub reading-shorter : {A : Type 0} (f : Format A) → Lawful f → f.empty ≡ false → (x : A) (ts rest : List Item) → f.read ts ≡ Some (x, rest) → length rest < length ts
+pub reading-shorter : {A : Type 0} (f : Format A) → Lawful f → f.empty ≡ false → (x : A) (ts rest : List Item) → f.read ts ≡ Some (x, rest)
+    → length rest < length ts
 reading-shorter f law solid x ts rest h = shorter f law solid x ts rest (law.takes ts rest x h)
 
 abbrev put_one : {A : Type 0} → Format A → ℕ → A × List Item → Reading (List A)
 put_one f n p = option_map (λ q. (p.0 ∷ q.0, q.1)) (read_many f n p.1)
 
 -- a longer bound reads the same
-enough : {A : Type 0} (f : Format A) → Lawful f → f.empty ≡ false → (n m : ℕ) (ts : List Item) → length ts ≤ n → length ts ≤ m → read_many f n ts ≡ read_many f m ts
+enough : {A : Type 0} (f : Format A) → Lawful f → f.empty ≡ false → (n m : ℕ) (ts : List Item) → length ts ≤ n → length ts ≤ m
+    → read_many f n ts ≡ read_many f m ts
 unfolding read_many begins
 enough f law solid zero zero ts h k = refl
 enough f law solid zero (suc m) [] h k = refl
@@ -59,12 +93,14 @@ many-fails f [] b e = absurd (cc)
 many-fails f (t ∷ ts) b e = rw (b, e) refl
 
 -- a part that is read goes before the others
-pub many-goes_on : {A : Type 0} (f : Format A) → Lawful f → f.empty ≡ false → (x : A) (ts rest : List Item) → begins f.first ts ≡ true → f.read ts ≡ Some (x, rest) → (many f).read ts ≡ with_front (x ∷ []) ((many f).read rest)
+pub many-goes_on : {A : Type 0} (f : Format A) → Lawful f → f.empty ≡ false → (x : A) (ts rest : List Item) → begins f.first ts ≡ true
+    → f.read ts ≡ Some (x, rest) → (many f).read ts ≡ with_front (x ∷ []) ((many f).read rest)
 unfolding many read_many begins with_front
 many-goes_on f law solid x [] rest b e = absurd (cc)
 many-goes_on {A} f law solid x (t ∷ ts) rest b e =
     let s : length rest < length (t ∷ ts) = reading-shorter f law solid x (t ∷ ts) rest e in
-    rw (b, e) (ap (λ (r : Reading (List A)). option_map (λ (q : List A × List Item). (x ∷ q.0, q.1)) r) (enough f law solid (length ts) (length rest) rest (omega arith) (omega arith)))
+    rw (b, e) (ap (λ (r : Reading (List A)). option_map (λ (q : List A
+    × List Item). (x ∷ q.0, q.1)) r) (enough f law solid (length ts) (length rest) rest (omega arith) (omega arith)))
 
 -- where the part does not begin, there are none
 pub many-done : {A : Type 0} (f : Format A) (ts : List Item) → begins f.first ts ≡ false → (many f).read ts ≡ Some ([], ts)
@@ -91,7 +127,8 @@ with_front-nil None = refl
 with_front-nil (Some p) = refl
 
 -- one step of a loop that reads several parts: what is left to read, and a bound that is enough for it
-pub next-many : {A : Type 0} (f : Format A) (n : ℕ) (x : A) (ts rest : List Item) → begins f.first ts ≡ true → f.read ts ≡ Some (x, rest) → length ts ≤ n → length rest < length ts
+pub next-many : {A : Type 0} (f : Format A) (n : ℕ) (x : A) (ts rest : List Item) → begins f.first ts ≡ true → f.read ts ≡ Some (x, rest) → length ts ≤ n
+    → length rest < length ts
     → (m : ℕ) × (length rest ≤ m) × (read_many f n ts ≡ with_front (x ∷ []) (read_many f m rest))
 unfolding read_many with_front
 next-many f zero x ts rest b e h k = absurd (omega arith)

@@ -1,9 +1,61 @@
 -- Marks, kinds and texts: what the tests of tokens mean.
-use Rattle.std.proofs.Common.{◌≡◌, ℕ, Bool, true, false, ◌&&◌, ◌||◌, not, List, [], ◌∷◌, ◌++◌, Option, Some, None, Ok, Err, refl, sym, ◌∙◌, ap, subst, arith, inl, inr, ◌⊎◌, get_or, eq-eqb}
+use Rattle.std.proofs.Common.{
+  ◌≡◌,
+  ℕ,
+  Bool,
+  true,
+  false,
+  ◌&&◌,
+  ◌||◌,
+  not,
+  List,
+  [],
+  ◌∷◌,
+  ◌++◌,
+  Option,
+  Some,
+  None,
+  Ok,
+  Err,
+  refl,
+  sym,
+  ◌∙◌,
+  ap,
+  subst,
+  arith,
+  inl,
+  inr,
+  ◌⊎◌,
+  get_or,
+  eq-eqb,
+}
 use Rattle.std.specs.Prelude.{option_map, option_and_then, ◌==◌}
 use Rattle.std.specs.List.{list_any, list_all}
 use Rattle.smi_lexer.specs.declared.token.TokenKind.{TokenKind}
-use Rattle.smi_lexer.specs.declared.token.TokenKind.TheVariants.{Lower, Upper, Number, Text, Hex, Binary, Assign, Range, OpenBrace, CloseBrace, OpenParen, CloseParen, OpenBracket, CloseBracket, Less, Greater, Comma, Semicolon, Colon, Bar, Dot, Equals}
+use Rattle.smi_lexer.specs.declared.token.TokenKind.TheVariants.{
+  Lower,
+  Upper,
+  Number,
+  Text,
+  Hex,
+  Binary,
+  Assign,
+  Range,
+  OpenBrace,
+  CloseBrace,
+  OpenParen,
+  CloseParen,
+  OpenBracket,
+  CloseBracket,
+  Less,
+  Greater,
+  Comma,
+  Semicolon,
+  Colon,
+  Bar,
+  Dot,
+  Equals,
+}
 use Rattle.smi_lexer.specs.Token.{Lexeme, Item}
 use Rattle.smi_module.specs.Mark.{Mark, kind_number, same_kind, same_text}
 use Rattle.smi_text.specs.Format.{Takes}
@@ -190,10 +242,11 @@ module _ (t : Lexeme) where
   list-sound c [] a h k = cc
   list-sound c (d ∷ ds) a h k =
       elim (or-cases (meets t d) (list_any (meets t) ds) k) [
-        | inl e ↦ elim (or-cases (half_apart c d) (half_apart d c) (and-left (half_apart c d || half_apart d c) (list_all (λ x. half_apart c x || half_apart x c) ds) a)) [
-          | inl p ↦ half-sound c d p h e
-          | inr p ↦ half-sound d c p e h
-        ]
+        | inl e ↦ elim (or-cases (half_apart c d) (half_apart d c) (and-left (half_apart c d || half_apart d c) (list_all
+            (λ x. half_apart c x || half_apart x c) ds) a)) [
+              | inl p ↦ half-sound c d p h e
+              | inr p ↦ half-sound d c p e h
+            ]
         | inr e ↦ list-sound c ds (and-right (half_apart c d || half_apart d c) (list_all (λ x. half_apart c x || half_apart x c) ds) a) h e
       ]
 

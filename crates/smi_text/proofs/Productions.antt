@@ -1,5 +1,37 @@
 -- The productions of the grammar are lawful.
-use Rattle.std.proofs.Common.{◌≡◌, ℕ, zero, suc, ◌≤◌, Bool, true, false, ◌&&◌, ◌||◌, not, List, [], ◌∷◌, ◌++◌, length, Option, Some, None, Ok, Err, if◌then◌else◌, refl, sym, ◌∙◌, ap, subst, arith, inl, inr, ◌⊎◌}
+use Rattle.std.proofs.Common.{
+  ◌≡◌,
+  ℕ,
+  zero,
+  suc,
+  ◌≤◌,
+  Bool,
+  true,
+  false,
+  ◌&&◌,
+  ◌||◌,
+  not,
+  List,
+  [],
+  ◌∷◌,
+  ◌++◌,
+  length,
+  Option,
+  Some,
+  None,
+  Ok,
+  Err,
+  if◌then◌else◌,
+  refl,
+  sym,
+  ◌∙◌,
+  ap,
+  subst,
+  arith,
+  inl,
+  inr,
+  ◌⊎◌,
+}
 use Rattle.std.specs.Prelude.{◌==◌, codes, map, option_map, option_and_then}
 use Rattle.std.specs.List.{list_any, list_all}
 use Rattle.smi_lexer.specs.declared.token.TokenKind.{TokenKind}
@@ -9,12 +41,217 @@ use Rattle.smi_module.specs.Mark.{Mark, sign, spelled, on_line, same_kind, same_
 use Rattle.smi_text.specs.Format.{Takes}
 use Rattle.smi_module.specs.Reserved.{is_reserved, macros, reserved_words}
 use Rattle.smi_module.specs.Number.{is_arc, is_number, is_bound, is_symbol, is_macro, is_literal}
-use Rattle.smi_text.specs.Format.{Format, Reading, Ahead, a_word, a_name, a_kind, no_word, no_kind, meets, apart, never, begins, spell_pieces, before, begins, behind, either, lined, many, maybe, name, pair, separated, shaped, some_of, text, text_where, token, with_front, word, lower}
-use Rattle.smi_text.specs.Grammar.{index_marks, parts_of, implied_name, kept, kept_text, macro_words, to_named_number, from_named_number, to_part, from_part, to_later_part, from_later_part, to_range, from_range, to_refinement, from_refinement, to_base, from_base, to_simple_type, from_simple_type, to_syntax, from_syntax, to_field, from_field, to_status, from_status, to_revision, from_revision, to_index, from_index, depth_after, is_outside, raw_marks, to_module_identity, from_module_identity, to_object_identity, from_object_identity, to_object_type, from_object_type, to_notification_type, from_notification_type, to_group, from_group, to_raw_definition, from_raw_definition, to_textual_convention, from_textual_convention, Lower, to_lower, from_lower, Assigned, to_assigned, from_assigned, from_type, to_macro, from_macro, to_upper, from_upper, Labelled, to_def, from_def, def_pieces, to_import, from_import, to_head, from_head, to_module, from_module, head_of, arc, assigned, balanced, base, before_assign, before_end, bound, braced, choice, clause, default_value, definition, field, file, group, head, heading, identifier, import_clause, imports, index, index_names, is_balanced, later_part, lower_definition, macro_body, macro_definition, macro_name, module_identity, module_text, named_number, names, notification_type, object_identifier, object_identifier_words, object_identity, object_type, objects, octet_string_words, of_row, opening, parenthesized, part, range, ranges, raw_definition, read_balanced, read_index, refinement, revision, sequence, simple_type, size, status, symbol, syntax_clause, syntax_type, tag, tagged, textual_convention, upper_definition, value, with_names}
+use Rattle.smi_text.specs.Format.{
+  Format,
+  Reading,
+  Ahead,
+  a_word,
+  a_name,
+  a_kind,
+  no_word,
+  no_kind,
+  meets,
+  apart,
+  never,
+  begins,
+  spell_pieces,
+  before,
+  begins,
+  behind,
+  either,
+  lined,
+  many,
+  maybe,
+  name,
+  pair,
+  separated,
+  shaped,
+  some_of,
+  text,
+  text_where,
+  token,
+  with_front,
+  word,
+  lower,
+}
+use Rattle.smi_text.specs.Grammar.{
+  index_marks,
+  parts_of,
+  implied_name,
+  kept,
+  kept_text,
+  macro_words,
+  to_named_number,
+  from_named_number,
+  to_part,
+  from_part,
+  to_later_part,
+  from_later_part,
+  to_range,
+  from_range,
+  to_refinement,
+  from_refinement,
+  to_base,
+  from_base,
+  to_simple_type,
+  from_simple_type,
+  to_syntax,
+  from_syntax,
+  to_field,
+  from_field,
+  to_status,
+  from_status,
+  to_revision,
+  from_revision,
+  to_index,
+  from_index,
+  depth_after,
+  is_outside,
+  raw_marks,
+  to_module_identity,
+  from_module_identity,
+  to_object_identity,
+  from_object_identity,
+  to_object_type,
+  from_object_type,
+  to_notification_type,
+  from_notification_type,
+  to_group,
+  from_group,
+  to_raw_definition,
+  from_raw_definition,
+  to_textual_convention,
+  from_textual_convention,
+  Lower,
+  to_lower,
+  from_lower,
+  Assigned,
+  to_assigned,
+  from_assigned,
+  from_type,
+  to_macro,
+  from_macro,
+  to_upper,
+  from_upper,
+  Labelled,
+  to_def,
+  from_def,
+  def_pieces,
+  to_import,
+  from_import,
+  to_head,
+  from_head,
+  to_module,
+  from_module,
+  head_of,
+  arc,
+  assigned,
+  balanced,
+  base,
+  before_assign,
+  before_end,
+  bound,
+  braced,
+  choice,
+  clause,
+  default_value,
+  definition,
+  field,
+  file,
+  group,
+  head,
+  heading,
+  identifier,
+  import_clause,
+  imports,
+  index,
+  index_names,
+  is_balanced,
+  later_part,
+  lower_definition,
+  macro_body,
+  macro_definition,
+  macro_name,
+  module_identity,
+  module_text,
+  named_number,
+  names,
+  notification_type,
+  object_identifier,
+  object_identifier_words,
+  object_identity,
+  object_type,
+  objects,
+  octet_string_words,
+  of_row,
+  opening,
+  parenthesized,
+  part,
+  range,
+  ranges,
+  raw_definition,
+  read_balanced,
+  read_index,
+  refinement,
+  revision,
+  sequence,
+  simple_type,
+  size,
+  status,
+  symbol,
+  syntax_clause,
+  syntax_type,
+  tag,
+  tagged,
+  textual_convention,
+  upper_definition,
+  value,
+  with_names,
+}
 use Rattle.smi_text.proofs.Lawful.{Lawful}
-use Rattle.smi_text.proofs.Marks.{and-left, and-right, and-both, or-cases, or-left, or-right, or-false, false-from, same_text-eq, Takes-append, Takes-split, begins-none, begins-append, map-inv, then-inv}
+use Rattle.smi_text.proofs.Marks.{
+  and-left,
+  and-right,
+  and-both,
+  or-cases,
+  or-left,
+  or-right,
+  or-false,
+  false-from,
+  same_text-eq,
+  Takes-append,
+  Takes-split,
+  begins-none,
+  begins-append,
+  map-inv,
+  then-inv,
+}
 use Rattle.smi_text.proofs.Many.{Takes-length}
-use Rattle.smi_text.proofs.Laws.{IsOne, some-inj, if-some, if-true, any-one, never-stands, one-law, word-law, token-law, text-law, text_where-law, name_where-law, lower-law, name-law, pair-law, behind-law, before-law, maybe-law, either-law, many-law, shaped-law, lined-law, starts-with}
+use Rattle.smi_text.proofs.Laws.{
+  IsOne,
+  some-inj,
+  if-some,
+  if-true,
+  any-one,
+  never-stands,
+  one-law,
+  word-law,
+  token-law,
+  text-law,
+  text_where-law,
+  name_where-law,
+  lower-law,
+  name-law,
+  pair-law,
+  behind-law,
+  before-law,
+  maybe-law,
+  either-law,
+  many-law,
+  shaped-law,
+  lined-law,
+  starts-with,
+}
 use Rattle.smi_module.specs.declared.tree.TokenText.{TokenText}
 use Rattle.smi_module.specs.declared.names.Name.{Name}
 use Rattle.smi_module.specs.declared.tree.Part.{Part}
@@ -70,7 +307,8 @@ uncons {A} (x ∷ xs) p e = ap (λ (q : A × List A). q.0 ∷ q.1) (sym (some-in
 as_pair : {A : Type 0} → Format A → Format A → Format (List A)
 as_pair {A} f g = shaped (λ (p : A × List A). p.0 ∷ p.1) head_and_tail (pair f (many g))
 
-module _ {A : Type 0} (f g : Format A) (f-law : Lawful f) (g-law : Lawful g) (f-solid : f.empty ≡ false) (g-solid : g.empty ≡ false) (far : apart f.stop g.first ≡ true) (near : apart g.stop g.first ≡ true) where
+module _ {A : Type 0} (f g : Format A) (f-law : Lawful f) (g-law : Lawful g) (f-solid : f.empty ≡ false) (g-solid : g.empty ≡ false)
+    (far : apart f.stop g.first ≡ true) (near : apart g.stop g.first ≡ true) where
   as_pair-law : Lawful (as_pair f g)
   unfolding as_pair head_and_tail many
   as_pair-law =
@@ -80,9 +318,12 @@ module _ {A : Type 0} (f g : Format A) (f-law : Lawful f) (g-law : Lawful g) (f-
   as_pair-read : (ts : List Item) → (some_of f g).read ts ≡ (as_pair f g).read ts
   unfolding as_pair some_of with_front shaped pair
   as_pair-read ts =
-      elim (f.read ts) as (λ r. option_and_then (λ (p : A × List Item). with_front (p.0 ∷ []) ((many g).read p.1)) r ≡ option_map (λ (w : (A × List A) × List Item). (w.0.0 ∷ w.0.1, w.1)) (option_and_then (λ (p : A × List Item). option_map (λ (q : List A × List Item). ((p.0, q.0), q.1)) ((many g).read p.1)) r)) [
+      elim (f.read ts) as (λ r. option_and_then (λ (p : A × List Item). with_front (p.0 ∷ []) ((many g).read p.1)) r ≡ option_map (λ (w : (A × List A)
+      × List Item). (w.0.0 ∷ w.0.1, w.1)) (option_and_then (λ (p : A × List Item). option_map (λ (q : List A
+      × List Item). ((p.0, q.0), q.1)) ((many g).read p.1)) r)) [
         | None ↦ refl
-        | Some p ↦ elim ((many g).read p.1) as (λ r. with_front (p.0 ∷ []) r ≡ option_map (λ (w : (A × List A) × List Item). (w.0.0 ∷ w.0.1, w.1)) (option_map (λ (q : List A × List Item). ((p.0, q.0), q.1)) r)) [ None ↦ refl | Some q ↦ refl ]
+        | Some p ↦ elim ((many g).read p.1) as (λ r. with_front (p.0 ∷ []) r ≡ option_map (λ (w : (A × List A)
+            × List Item). (w.0.0 ∷ w.0.1, w.1)) (option_map (λ (q : List A × List Item). ((p.0, q.0), q.1)) r)) [ None ↦ refl | Some q ↦ refl ]
       ]
 
   as_pair-spell : (xs : List A) → (some_of f g).spell xs ≡ (as_pair f g).spell xs
@@ -94,16 +335,20 @@ module _ {A : Type 0} (f g : Format A) (f-law : Lawful f) (g-law : Lawful g) (f-
   unfolding as_pair some_of shaped pair many
   as_pair-stop rest = refl
 
-  as_pair-starts : (ts rest : List Item) → (begins (as_pair f g).first ts ≡ true) ⊎ (((as_pair f g).empty ≡ true) × (ts ≡ rest)) → begins (some_of f g).first ts ≡ true
+  as_pair-starts : (ts rest : List Item) → (begins (as_pair f g).first ts ≡ true) ⊎ (((as_pair f g).empty ≡ true) × (ts ≡ rest))
+      → begins (some_of f g).first ts ≡ true
   unfolding as_pair some_of shaped pair many
   as_pair-starts ts rest (inl b) = let e = rw f-solid at b in e
   as_pair-starts ts rest (inr p) = absurd (let e = rw f-solid at p.0 in cc)
 
   pub some_of-law : Lawful (some_of f g)
   some_of-law = record {
-    takes = λ ts rest xs h. let P : List Mark → Type 0 = λ ms. Takes ms ts rest in subst P (sym (as_pair-spell xs)) (as_pair-law.takes ts rest xs (sym (as_pair-read ts) ∙ h));
-    again = λ xs ts rest h s. let P : List Mark → Type 0 = λ ms. Takes ms ts rest in as_pair-read ts ∙ as_pair-law.again xs ts rest (subst P (as_pair-spell xs) h) (sym (as_pair-stop rest) ∙ s);
-    starts = λ xs ts rest h. let P : List Mark → Type 0 = λ ms. Takes ms ts rest in inl (as_pair-starts ts rest (as_pair-law.starts xs ts rest (subst P (as_pair-spell xs) h)));
+    takes = λ ts rest xs h. let P : List Mark
+        → Type 0 = λ ms. Takes ms ts rest in subst P (sym (as_pair-spell xs)) (as_pair-law.takes ts rest xs (sym (as_pair-read ts) ∙ h));
+    again = λ xs ts rest h s. let P : List Mark
+        → Type 0 = λ ms. Takes ms ts rest in as_pair-read ts ∙ as_pair-law.again xs ts rest (subst P (as_pair-spell xs) h) (sym (as_pair-stop rest) ∙ s);
+    starts = λ xs ts rest h. let P : List Mark
+        → Type 0 = λ ms. Takes ms ts rest in inl (as_pair-starts ts rest (as_pair-law.starts xs ts rest (subst P (as_pair-spell xs) h)));
   }
 
 pub separated-law : {A : Type 0} (k : TokenKind) (f : Format A) → Lawful f → f.empty ≡ false → apart f.stop (a_kind k ∷ []) ≡ true → Lawful (separated k f)
@@ -126,8 +371,10 @@ kept-is cs ok ahead = record {
   ahead = λ t x h. ahead t (rw (h.0, h.1) (h.2));
 }
 
-pub kept-law : (cs : List Ahead) (ok : TokenKind → List ℕ → Bool) → ((t : Lexeme) → ok t.kind t.text ≡ true → list_any (meets t) cs ≡ true) → Lawful (kept cs ok)
-kept-law cs ok ahead = one-law cs (λ (x : TokenText). spelled x.kind x.text (ok x.kind x.text)) (λ t. if ok t.kind t.text then Some (kept_text t) else None) (kept-is cs ok ahead)
+pub kept-law : (cs : List Ahead) (ok : TokenKind → List ℕ → Bool) → ((t : Lexeme) → ok t.kind t.text ≡ true → list_any (meets t) cs ≡ true)
+    → Lawful (kept cs ok)
+kept-law cs ok ahead = one-law cs (λ (x : TokenText). spelled x.kind x.text (ok x.kind x.text)) (λ t. if ok t.kind t.text then Some (kept_text t) else None)
+    (kept-is cs ok ahead)
 
 -- identifiers
 
@@ -184,12 +431,14 @@ value-law = behind-law (token K.Assign) identifier (token-law K.Assign) identifi
 bound-ahead : (t : Lexeme) → is_bound t.kind t.text ≡ true → list_any (meets t) (a_kind K.Number ∷ a_kind K.Hex ∷ a_kind K.Binary ∷ []) ≡ true
 unfolding is_bound
 bound-ahead t h =
-    elim (or-cases (same_kind t.kind K.Number && is_number t.text || same_kind t.kind K.Hex && is_literal 16 t.text) (same_kind t.kind K.Binary && is_literal 2 t.text) h) [
+    elim (or-cases (same_kind t.kind K.Number && is_number t.text || same_kind t.kind K.Hex && is_literal 16 t.text)
+    (same_kind t.kind K.Binary && is_literal 2 t.text) h) [
       | inl e ↦ elim (or-cases (same_kind t.kind K.Number && is_number t.text) (same_kind t.kind K.Hex && is_literal 16 t.text) e) [
         | inl p ↦ rw (and-left (same_kind t.kind K.Number) (is_number t.text) p) refl
         | inr p ↦ or-right (same_kind t.kind K.Number) _ (rw (and-left (same_kind t.kind K.Hex) (is_literal 16 t.text) p) refl)
       ]
-      | inr p ↦ or-right (same_kind t.kind K.Number) _ (or-right (same_kind t.kind K.Hex) _ (rw (and-left (same_kind t.kind K.Binary) (is_literal 2 t.text) p) refl))
+      | inr p ↦ or-right (same_kind t.kind K.Number) _ (or-right (same_kind t.kind K.Hex) _ (rw (and-left (same_kind t.kind K.Binary)
+          (is_literal 2 t.text) p) refl))
     ]
 
 pub bound-law : Lawful bound
@@ -231,7 +480,8 @@ refinement-forth (R.Values rs) x e = ap to_refinement (sym (some-inj (inr (inr r
 refinement-forth (R.Size rs) x e = ap to_refinement (sym (some-inj (inr (inl rs)) x e))
 
 pub refinement-law : Lawful refinement
-unfolding before behind bound braced either many maybe named_number pair parenthesized range ranges refinement separated shaped size some_of text text_where token word lower
+unfolding before behind bound braced either many maybe named_number pair parenthesized range ranges refinement separated shaped size some_of text text_where
+    token word lower
 refinement-law =
     shaped-law to_refinement from_refinement (either (braced (separated K.Comma named_number)) (parenthesized (either size ranges)))
     (either-law (braced (separated K.Comma named_number)) (parenthesized (either size ranges))
@@ -268,14 +518,16 @@ unfolding base behind either is_reserved name lower object_identifier_words octe
 base-law =
     shaped-law to_base from_base
     (either (word (codes "INTEGER")) (either octet_string_words (either object_identifier_words (either (word (codes "BITS")) name))))
-    (either-law (word (codes "INTEGER")) (either octet_string_words (either object_identifier_words (either (word (codes "BITS")) name))) (word-law (codes "INTEGER"))
+    (either-law (word (codes "INTEGER")) (either octet_string_words (either object_identifier_words (either (word (codes "BITS")) name))) (word-law
+    (codes "INTEGER"))
     (either-law octet_string_words (either object_identifier_words (either (word (codes "BITS")) name)) octet_string_words-law
     (either-law object_identifier_words (either (word (codes "BITS")) name) object_identifier_words-law
     (either-law (word (codes "BITS")) name (word-law (codes "BITS")) name-law refl refl refl) refl refl refl) refl refl refl) refl refl refl)
     (λ x ts rest h. base-back x) base-forth
 
 pub simple_type-law : Lawful simple_type
-unfolding base before behind bound braced either is_reserved many maybe name lower named_number object_identifier_words octet_string_words pair parenthesized range ranges refinement separated shaped simple_type size some_of text text_where token word
+unfolding base before behind bound braced either is_reserved many maybe name lower named_number object_identifier_words octet_string_words pair parenthesized
+    range ranges refinement separated shaped simple_type size some_of text text_where token word
 simple_type-law =
     shaped-law to_simple_type from_simple_type (pair base (maybe refinement))
     (pair-law base (maybe refinement) base-law (maybe-law refinement refinement-law refl) refl)
@@ -294,7 +546,8 @@ syntax-forth (T.SequenceOf n) x e = ap to_syntax (sym (some-inj (inl n) x e))
 syntax-forth (T.Simple t) x e = ap to_syntax (sym (some-inj (inr t) x e))
 
 pub syntax_type-law : Lawful syntax_type
-unfolding base before behind bound braced either is_reserved many maybe name lower named_number object_identifier_words octet_string_words of_row pair parenthesized range ranges refinement separated shaped simple_type size some_of syntax_type text text_where token word
+unfolding base before behind bound braced either is_reserved many maybe name lower named_number object_identifier_words octet_string_words of_row pair
+    parenthesized range ranges refinement separated shaped simple_type size some_of syntax_type text text_where token word
 syntax_type-law =
     shaped-law to_syntax from_syntax (either (behind (word (codes "SEQUENCE")) of_row) simple_type)
     (either-law (behind (word (codes "SEQUENCE")) of_row) simple_type
@@ -302,7 +555,8 @@ syntax_type-law =
     (λ x ts rest h. syntax-back x) syntax-forth
 
 pub field-law : Lawful field
-unfolding base before behind bound braced either field is_reserved many maybe name lower named_number object_identifier_words octet_string_words of_row pair parenthesized range ranges refinement separated shaped simple_type size some_of syntax_type text text_where token word
+unfolding base before behind bound braced either field is_reserved many maybe name lower named_number object_identifier_words octet_string_words of_row pair
+    parenthesized range ranges refinement separated shaped simple_type size some_of syntax_type text text_where token word
 field-law =
     shaped-law to_field from_field (pair lower syntax_type) (pair-law lower syntax_type lower-law syntax_type-law refl)
     (λ x ts rest h. refl) (λ y x e. ap to_field (sym (some-inj (y.label, y.syntax) x e)))
@@ -382,7 +636,8 @@ with_names-one x None = refl
 with_names-one x (Some p) = refl
 
 -- a name and a comma before the names of an index
-joined : (x : Name) (ys : List Name) (implied : Bool) (ts mid after rest : List Item) → Takes (spelled K.Lower x.octets true ∷ []) ts mid → Takes (sign K.Comma ∷ []) mid after → Takes (index_marks ys implied) after rest → Takes (index_marks (x ∷ ys) implied) ts rest
+joined : (x : Name) (ys : List Name) (implied : Bool) (ts mid after rest : List Item) → Takes (spelled K.Lower x.octets true ∷ []) ts mid
+    → Takes (sign K.Comma ∷ []) mid after → Takes (index_marks ys implied) after rest → Takes (index_marks (x ∷ ys) implied) ts rest
 joined x [] implied ts mid after rest h c k = absurd (never-stands after rest k)
 joined x (y ∷ ys) implied ts mid after rest h c k =
     Takes-append (spelled K.Lower x.octets true ∷ []) (sign K.Comma ∷ index_marks (y ∷ ys) implied) ts mid rest h
@@ -393,7 +648,8 @@ unfolding read_index behind word text lower
 index-takes zero ts rest x h = absurd (cc)
 index-takes (suc n) ts rest x h =
     let P : IndexParts × List Item → Type 0 = λ w. Takes (index_marks w.0.names w.0.implied) ts w.1 in
-    elim (begins (a_word (codes "IMPLIED") ∷ []) ts) as (λ b. (if b then option_map put_implied (implied_name.read ts) else option_and_then (read_next n) (lower.read ts)) ≡ Some (x, rest) → Takes (index_marks x.names x.implied) ts rest) [
+    elim (begins (a_word (codes "IMPLIED") ∷ []) ts) as (λ b. (if b then option_map put_implied (implied_name.read ts) else option_and_then (read_next n)
+    (lower.read ts)) ≡ Some (x, rest) → Takes (index_marks x.names x.implied) ts rest) [
       | true ↦ λ k.
           let r = map-inv put_implied (implied_name.read ts) (x, rest) k in
           subst P r.2 (implied_name-law.takes ts r.0.1 r.0.0 r.1)
@@ -403,17 +659,20 @@ index-takes (suc n) ts rest x h =
           let mid = r.0.1 in
           let first = stands-lower ts mid y r.1 in
           let after = option_and_then (read_after n) ((token K.Comma).read mid) in
-          elim (begins (a_kind K.Comma ∷ []) mid) as (λ b. (if b then with_names (y ∷ []) after else Some (parts_of (y ∷ []) false, mid)) ≡ Some (x, rest) → Takes (index_marks x.names x.implied) ts rest) [
+          elim (begins (a_kind K.Comma ∷ []) mid) as (λ b. (if b then with_names (y ∷ []) after else Some (parts_of (y ∷ []) false, mid)) ≡ Some (x, rest)
+          → Takes (index_marks x.names x.implied) ts rest) [
             | true ↦ λ e.
                 let s = map-inv (put_name y) after (x, rest) (sym (with_names-one y after) ∙ e) in
                 let q = then-inv (read_after n) ((token K.Comma).read mid) s.0 s.1 in
-                subst P s.2 (joined y s.0.0.names s.0.0.implied ts mid q.0.1 s.0.1 first (stands-comma mid q.0.1 q.0.0 q.1) (index-takes n q.0.1 s.0.1 s.0.0 q.2))
+                subst P s.2 (joined y s.0.0.names s.0.0.implied ts mid q.0.1 s.0.1 first (stands-comma mid q.0.1 q.0.0 q.1)
+                (index-takes n q.0.1 s.0.1 s.0.0 q.2))
             | false ↦ λ e. subst P (some-inj {A = IndexParts × List Item} (parts_of (y ∷ []) false, mid) (x, rest) e) first
           ] r.2
     ] h
 
 -- a name in lower case is no IMPLIED
-lower-no-word : (x : Name) (w : List ℕ) (ts rest : List Item) (ms : List Mark) → Takes (spelled K.Lower x.octets true ∷ ms) ts rest → begins (a_word w ∷ []) ts ≡ false
+lower-no-word : (x : Name) (w : List ℕ) (ts rest : List Item) (ms : List Mark) → Takes (spelled K.Lower x.octets true ∷ ms) ts rest
+    → begins (a_word w ∷ []) ts ≡ false
 unfolding begins
 lower-no-word x w [] rest ms h = refl
 lower-no-word x w (Err f ∷ ts) rest ms h = refl
@@ -423,10 +682,12 @@ implied-begins : (ts rest : List Item) (x : Name) → Takes (index_marks (x ∷ 
 unfolding behind word text lower
 implied-begins ts rest x h = starts-with implied_name implied_name-law refl x ts rest h
 
-index-again : (xs : List Name) (implied : Bool) (n : ℕ) (ts rest : List Item) → length ts ≤ n → Takes (index_marks xs implied) ts rest → begins (a_kind K.Comma ∷ []) rest ≡ false → read_index n ts ≡ Some (parts_of xs implied, rest)
+index-again : (xs : List Name) (implied : Bool) (n : ℕ) (ts rest : List Item) → length ts ≤ n → Takes (index_marks xs implied) ts rest
+    → begins (a_kind K.Comma ∷ []) rest ≡ false → read_index n ts ≡ Some (parts_of xs implied, rest)
 unfolding read_index behind word text lower
 index-again [] implied n ts rest k h s = absurd (never-stands ts rest h)
-index-again (x ∷ []) implied zero [] rest k h s = absurd (elim implied as (λ b. Takes (index_marks (x ∷ []) b) [] rest → ⊥) [ true ↦ λ u. u | false ↦ λ u. u ] h)
+index-again (x ∷ []) implied zero [] rest k h s = absurd (elim implied as (λ b. Takes (index_marks (x ∷ []) b) [] rest
+    → ⊥) [ true ↦ λ u. u | false ↦ λ u. u ] h)
 index-again (x ∷ []) implied zero (t ∷ ts) rest k h s = absurd (omega arith)
 index-again (x ∷ []) true (suc n) ts rest k h s =
     rw ((implied-begins ts rest x h), (implied_name-law.again x ts rest h (begins-none rest))) refl
@@ -441,15 +702,25 @@ index-again (x ∷ (y ∷ ys)) implied (suc n) (Ok t ∷ ts) rest k h s =
     let first : lower.read (Ok t ∷ ts) ≡ Some (x, ts) = read-lower (Ok t ∷ ts) ts x (h.0, refl) in
     let less : length others.0 ≤ n = omega (arith, Takes-length (sign K.Comma ∷ []) ts others.0 others.1) in
     let next = index-again (y ∷ ys) implied n others.0 rest less others.2 s in
-    rw (lower-no-word x (codes "IMPLIED") (Ok t ∷ ts) rest (sign K.Comma ∷ index_marks (y ∷ ys) implied) h, first, comma-begins ts others.0 others.1, read-comma ts others.0 others.1, next, with_names-one) refl
+    rw (
+      lower-no-word x (codes "IMPLIED") (Ok t ∷ ts) rest (sign K.Comma ∷ index_marks
+          (y ∷ ys) implied) h,
+      first,
+      comma-begins ts others.0 others.1,
+      read-comma ts others.0 others.1,
+      next,
+      with_names-one,
+    ) refl
 
-lower-begins : (x : Name) (ms : List Mark) (ts rest : List Item) → Takes (spelled K.Lower x.octets true ∷ ms) ts rest → begins (a_word (codes "IMPLIED") ∷ a_kind K.Lower ∷ []) ts ≡ true
+lower-begins : (x : Name) (ms : List Mark) (ts rest : List Item) → Takes (spelled K.Lower x.octets true ∷ ms) ts rest
+    → begins (a_word (codes "IMPLIED") ∷ a_kind K.Lower ∷ []) ts ≡ true
 unfolding begins
 lower-begins x ms [] rest h = absurd h
 lower-begins x ms (Err f ∷ ts) rest h = absurd h
 lower-begins x ms (Ok t ∷ ts) rest h = or-right (meets t (a_word (codes "IMPLIED"))) _ (rw h.0.0 refl)
 
-index-starts : (xs : List Name) (implied : Bool) (ts rest : List Item) → Takes (index_marks xs implied) ts rest → begins (a_word (codes "IMPLIED") ∷ a_kind K.Lower ∷ []) ts ≡ true
+index-starts : (xs : List Name) (implied : Bool) (ts rest : List Item) → Takes (index_marks xs implied) ts rest
+    → begins (a_word (codes "IMPLIED") ∷ a_kind K.Lower ∷ []) ts ≡ true
 index-starts [] implied ts rest h = absurd (never-stands ts rest h)
 index-starts (x ∷ []) true ts rest h =
     begins-append (a_word (codes "IMPLIED") ∷ []) (a_kind K.Lower ∷ []) ts
@@ -503,7 +774,8 @@ read_end items b = if b then Some ([], items) else None
 abbrev read_inside : ℕ → Lexeme → List Item → Bool → Reading (List TokenText)
 read_inside depth t ts b = if b then Some ([], Ok t ∷ ts) else with_front (kept_text t ∷ []) (read_balanced (depth_after t.kind depth) ts)
 
-ended-takes : (depth : ℕ) (items rest : List Item) (xs : List TokenText) → read_end items (depth == 0) ≡ Some (xs, rest) → (is_balanced depth xs ≡ true) × Takes (raw_marks xs) items rest
+ended-takes : (depth : ℕ) (items rest : List Item) (xs : List TokenText) → read_end items (depth == 0) ≡ Some (xs, rest)
+    → (is_balanced depth xs ≡ true) × Takes (raw_marks xs) items rest
 unfolding is_balanced
 ended-takes depth items rest xs h =
     elim (depth == 0) as (λ b. depth == 0 ≡ b → read_end items b ≡ Some (xs, rest) → (is_balanced depth xs ≡ true) × Takes (raw_marks xs) items rest) [
@@ -513,13 +785,15 @@ ended-takes depth items rest xs h =
       | false ↦ λ b k. absurd (cc)
     ] refl h
 
-balanced-takes : (depth : ℕ) (ts rest : List Item) (xs : List TokenText) → read_balanced depth ts ≡ Some (xs, rest) → (is_balanced depth xs ≡ true) × Takes (raw_marks xs) ts rest
+balanced-takes : (depth : ℕ) (ts rest : List Item) (xs : List TokenText) → read_balanced depth ts ≡ Some (xs, rest)
+    → (is_balanced depth xs ≡ true) × Takes (raw_marks xs) ts rest
 unfolding read_balanced is_balanced with_front
 balanced-takes depth [] rest xs h = ended-takes depth [] rest xs h
 balanced-takes depth (Err f ∷ ts) rest xs h = ended-takes depth (Err f ∷ ts) rest xs h
 balanced-takes depth (Ok t ∷ ts) rest xs h =
     let P : List TokenText × List Item → Type 0 = λ w. (is_balanced depth w.0 ≡ true) × Takes (raw_marks w.0) (Ok t ∷ ts) w.1 in
-    elim (is_outside t.kind depth) as (λ b. is_outside t.kind depth ≡ b → read_inside depth t ts b ≡ Some (xs, rest) → (is_balanced depth xs ≡ true) × Takes (raw_marks xs) (Ok t ∷ ts) rest) [
+    elim (is_outside t.kind depth) as (λ b. is_outside t.kind depth ≡ b → read_inside depth t ts b ≡ Some (xs, rest)
+    → (is_balanced depth xs ≡ true) × Takes (raw_marks xs) (Ok t ∷ ts) rest) [
       | true ↦ λ b k.
           subst P (some-inj {A = List TokenText × List Item} ([], Ok t ∷ ts) (xs, rest) k) (and-right (same_kind t.kind K.CloseBrace) (depth == 0) b, refl)
       | false ↦ λ b k.
@@ -545,28 +819,34 @@ unfolding read_balanced begins
 balanced-end depth [] d s = rw d refl
 balanced-end depth (Err f ∷ ts) d s = rw d refl
 balanced-end depth (Ok t ∷ ts) d s =
-    rw (and-both (same_kind t.kind K.CloseBrace) (depth == 0) (not-false (same_kind t.kind K.CloseBrace) (or-false (not (same_kind t.kind K.CloseBrace)) false s).0) d) refl
+    rw (and-both (same_kind t.kind K.CloseBrace) (depth == 0) (not-false (same_kind t.kind K.CloseBrace) (or-false (not
+    (same_kind t.kind K.CloseBrace)) false s).0) d) refl
 
-balanced-again : (depth : ℕ) (xs : List TokenText) (ts rest : List Item) → is_balanced depth xs ≡ true → Takes (raw_marks xs) ts rest → begins (no_kind K.CloseBrace ∷ []) rest ≡ false → read_balanced depth ts ≡ Some (xs, rest)
+balanced-again : (depth : ℕ) (xs : List TokenText) (ts rest : List Item) → is_balanced depth xs ≡ true → Takes (raw_marks xs) ts rest
+    → begins (no_kind K.CloseBrace ∷ []) rest ≡ false → read_balanced depth ts ≡ Some (xs, rest)
 unfolding is_balanced read_balanced with_front
 balanced-again depth [] ts rest b h s = rw h (balanced-end depth rest b s)
 balanced-again depth (x ∷ xs) [] rest b h s = absurd h
 balanced-again depth (x ∷ xs) (Err f ∷ ts) rest b h s = absurd h
 balanced-again depth (x ∷ xs) (Ok t ∷ ts) rest b h s =
     let inside = not-true (is_outside x.kind depth) (and-left (not (is_outside x.kind depth)) (is_balanced (depth_after x.kind depth) xs) b) in
-    let next = balanced-again (depth_after x.kind depth) xs ts rest (and-right (not (is_outside x.kind depth)) (is_balanced (depth_after x.kind depth) xs) b) h.1 s in
+    let next = balanced-again (depth_after x.kind depth) xs ts rest (and-right (not (is_outside x.kind depth)) (is_balanced
+    (depth_after x.kind depth) xs) b) h.1 s in
     let e = same-token t x h.0.0 h.0.1 in
     rw (e, h.0.0, inside, next) refl
 
-balanced-starts : (xs : List TokenText) (ts rest : List Item) → is_balanced 0 xs ≡ true → Takes (raw_marks xs) ts rest → (begins (no_kind K.CloseBrace ∷ []) ts ≡ true) ⊎ (ts ≡ rest)
+balanced-starts : (xs : List TokenText) (ts rest : List Item) → is_balanced 0 xs ≡ true → Takes (raw_marks xs) ts rest
+    → (begins (no_kind K.CloseBrace ∷ []) ts ≡ true) ⊎ (ts ≡ rest)
 unfolding begins is_balanced
 balanced-starts [] ts rest b h = inr h
 balanced-starts (x ∷ xs) [] rest b h = absurd h
 balanced-starts (x ∷ xs) (Err f ∷ ts) rest b h = absurd h
 balanced-starts (x ∷ xs) (Ok t ∷ ts) rest b h =
-    inl (any-one t (no_kind K.CloseBrace) (rw h.0.0 (not-close (same_kind x.kind K.CloseBrace) (and-left (not (same_kind x.kind K.CloseBrace && true)) (is_balanced (depth_after x.kind 0) xs) b))))
+    inl (any-one t (no_kind K.CloseBrace) (rw h.0.0 (not-close (same_kind x.kind K.CloseBrace) (and-left (not (same_kind x.kind K.CloseBrace && true))
+    (is_balanced (depth_after x.kind 0) xs) b))))
 
-balanced-pieces : (xs : List TokenText) (ts rest : List Item) → Takes (if is_balanced 0 xs then raw_marks xs else never) ts rest → (is_balanced 0 xs ≡ true) × Takes (raw_marks xs) ts rest
+balanced-pieces : (xs : List TokenText) (ts rest : List Item) → Takes (if is_balanced 0 xs then raw_marks xs else never) ts rest
+    → (is_balanced 0 xs ≡ true) × Takes (raw_marks xs) ts rest
 balanced-pieces xs ts rest =
     elim (is_balanced 0 xs) as (λ b. Takes (if b then raw_marks xs else never) ts rest → (b ≡ true) × Takes (raw_marks xs) ts rest) [
       | true ↦ λ h. (refl, h)
@@ -590,7 +870,8 @@ default_value-law = behind-law (word (codes "DEFVAL")) (braced balanced) (word-l
 -- definitions
 
 pub module_identity-law : Lawful module_identity
-unfolding arc before behind braced clause either identifier later_part many maybe module_identity pair parenthesized part revision shaped some_of text text_where token value word lower
+unfolding arc before behind braced clause either identifier later_part many maybe module_identity pair parenthesized part revision shaped some_of text
+    text_where token value word lower
 module_identity-law =
     behind-law (word (codes "MODULE-IDENTITY"))
     (shaped to_module_identity from_module_identity
@@ -612,7 +893,8 @@ module_identity-law =
     refl refl
 
 pub object_identity-law : Lawful object_identity
-unfolding arc before behind braced clause either identifier later_part many maybe object_identity pair parenthesized part shaped some_of status text text_where token value word lower
+unfolding arc before behind braced clause either identifier later_part many maybe object_identity pair parenthesized part shaped some_of status text text_where
+    token value word lower
 object_identity-law =
     behind-law (word (codes "OBJECT-IDENTITY")) (shaped to_object_identity from_object_identity (pair status value)) (word-law (codes "OBJECT-IDENTITY"))
     (shaped-law to_object_identity from_object_identity (pair status value) (pair-law status value status-law value-law refl)
@@ -639,18 +921,22 @@ abbrev after_syntax : Format (Option (List ℕ) × (List ℕ × (Status × (Opti
 after_syntax = pair (maybe (clause (codes "UNITS"))) after_units
 
 pub syntax_clause-law : Lawful syntax_clause
-unfolding base before behind bound braced either is_reserved many maybe name lower named_number object_identifier_words octet_string_words of_row pair parenthesized range ranges refinement separated shaped simple_type size some_of syntax_clause syntax_type text text_where token word
+unfolding base before behind bound braced either is_reserved many maybe name lower named_number object_identifier_words octet_string_words of_row pair
+    parenthesized range ranges refinement separated shaped simple_type size some_of syntax_clause syntax_type text text_where token word
 syntax_clause-law = behind-law (word (codes "SYNTAX")) syntax_type (word-law (codes "SYNTAX")) syntax_type-law refl refl
 
 after_access-law : Lawful after_access
-unfolding arc balanced before behind braced clause default_value either identifier index index_names later_part many maybe names pair parenthesized part separated shaped some_of status text text_where token value word lower
+unfolding arc balanced before behind braced clause default_value either identifier index index_names later_part many maybe names pair parenthesized part
+    separated shaped some_of status text text_where token value word lower
 after_access-law =
     pair-law status after_status status-law
     (pair-law (maybe index) after_index (maybe-law index index-law refl)
     (pair-law (maybe default_value) value (maybe-law default_value default_value-law refl) value-law refl) refl) refl
 
 pub object_type-law : Lawful object_type
-unfolding arc balanced base before behind bound braced clause default_value either identifier index index_names is_reserved later_part many maybe name lower named_number names object_identifier_words object_type octet_string_words of_row pair parenthesized part range ranges refinement separated shaped simple_type size some_of status syntax_clause syntax_type text text_where token value word
+unfolding arc balanced base before behind bound braced clause default_value either identifier index index_names is_reserved later_part many maybe name lower
+    named_number names object_identifier_words object_type octet_string_words of_row pair parenthesized part range ranges refinement separated shaped
+    simple_type size some_of status syntax_clause syntax_type text text_where token value word
 object_type-law =
     behind-law (word (codes "OBJECT-TYPE")) (shaped to_object_type from_object_type (pair syntax_clause after_syntax)) (word-law (codes "OBJECT-TYPE"))
     (shaped-law to_object_type from_object_type (pair syntax_clause after_syntax)
@@ -667,7 +953,8 @@ unfolding before behind braced many names objects separated some_of text token w
 objects-law = behind-law (word (codes "OBJECTS")) names (word-law (codes "OBJECTS")) names-law refl refl
 
 pub notification_type-law : Lawful notification_type
-unfolding arc before behind braced clause either identifier later_part many maybe names notification_type objects pair parenthesized part separated shaped some_of status text text_where token value word lower
+unfolding arc before behind braced clause either identifier later_part many maybe names notification_type objects pair parenthesized part separated shaped
+    some_of status text text_where token value word lower
 notification_type-law =
     behind-law (word (codes "NOTIFICATION-TYPE")) (shaped to_notification_type from_notification_type (pair (maybe objects) (pair status value)))
     (word-law (codes "NOTIFICATION-TYPE"))
@@ -677,16 +964,19 @@ notification_type-law =
     refl refl
 
 pub group-law : (w v : List ℕ) → Lawful (group w v)
-unfolding arc before behind braced clause either group identifier later_part many maybe names pair parenthesized part separated shaped some_of status text text_where token value word lower
+unfolding arc before behind braced clause either group identifier later_part many maybe names pair parenthesized part separated shaped some_of status text
+    text_where token value word lower
 group-law w v =
     behind-law (word w) (shaped to_group from_group (pair (behind (word v) names) (pair status value))) (word-law w)
     (shaped-law to_group from_group (pair (behind (word v) names) (pair status value))
-    (pair-law (behind (word v) names) (pair status value) (behind-law (word v) names (word-law v) names-law refl refl) (pair-law status value status-law value-law refl) refl)
+    (pair-law (behind (word v) names) (pair status value) (behind-law (word v) names (word-law v) names-law refl refl)
+    (pair-law status value status-law value-law refl) refl)
     (λ x ts rest h. refl) (λ y x e. ap to_group (sym (some-inj (y.members, (y.status, y.value)) x e))))
     refl refl
 
 pub raw_definition-law : (w : List ℕ) → Lawful (raw_definition w)
-unfolding arc before before_assign behind braced either identifier later_part many maybe pair parenthesized part raw_definition shaped some_of text text_where token value word lower
+unfolding arc before before_assign behind braced either identifier later_part many maybe pair parenthesized part raw_definition shaped some_of text text_where
+    token value word lower
 raw_definition-law w =
     behind-law (word w) (shaped to_raw_definition from_raw_definition (pair (many before_assign) value)) (word-law w)
     (shaped-law to_raw_definition from_raw_definition (pair (many before_assign) value)
@@ -695,17 +985,21 @@ raw_definition-law w =
     refl refl
 
 pub object_identifier-law : Lawful object_identifier
-unfolding arc before behind braced either identifier later_part many maybe object_identifier object_identifier_words pair parenthesized part shaped some_of text text_where token value word lower
+unfolding arc before behind braced either identifier later_part many maybe object_identifier object_identifier_words pair parenthesized part shaped some_of
+    text text_where token value word lower
 object_identifier-law = behind-law object_identifier_words value object_identifier_words-law value-law refl refl
 
 pub textual_convention-law : Lawful textual_convention
-unfolding base before behind bound braced clause either is_reserved many maybe name lower named_number object_identifier_words octet_string_words of_row pair parenthesized range ranges refinement separated shaped simple_type size some_of status syntax_clause syntax_type text text_where textual_convention token word
+unfolding base before behind bound braced clause either is_reserved many maybe name lower named_number object_identifier_words octet_string_words of_row pair
+    parenthesized range ranges refinement separated shaped simple_type size some_of status syntax_clause syntax_type text text_where textual_convention token
+    word
 textual_convention-law =
     behind-law (word (codes "TEXTUAL-CONVENTION"))
     (shaped to_textual_convention from_textual_convention (pair (maybe (clause (codes "DISPLAY-HINT"))) (pair status syntax_clause)))
     (word-law (codes "TEXTUAL-CONVENTION"))
     (shaped-law to_textual_convention from_textual_convention (pair (maybe (clause (codes "DISPLAY-HINT"))) (pair status syntax_clause))
-    (pair-law (maybe (clause (codes "DISPLAY-HINT"))) (pair status syntax_clause) (maybe-law (clause (codes "DISPLAY-HINT")) (clause-law (codes "DISPLAY-HINT")) refl)
+    (pair-law (maybe (clause (codes "DISPLAY-HINT"))) (pair status syntax_clause) (maybe-law (clause (codes "DISPLAY-HINT")) (clause-law
+    (codes "DISPLAY-HINT")) refl)
     (pair-law status syntax_clause status-law syntax_clause-law refl) refl)
     (λ x ts rest h. refl) (λ y x e. ap to_textual_convention (sym (some-inj (y.display_hint, (y.status, y.syntax)) x e))))
     refl refl
@@ -756,7 +1050,8 @@ abbrev after_identity : Format (NotificationType ⊎ (Group ⊎ (Group ⊎ (RawD
 after_identity = either notification_type groups
 
 groups-law : Lawful groups
-unfolding arc before before_assign behind braced clause either group identifier later_part many maybe names pair parenthesized part raw_definition separated shaped some_of status text text_where token value word lower
+unfolding arc before before_assign behind braced clause either group identifier later_part many maybe names pair parenthesized part raw_definition separated
+    shaped some_of status text text_where token value word lower
 groups-law =
     either-law object_group (either notification_group compliance) (group-law (codes "OBJECT-GROUP") (codes "OBJECTS"))
     (either-law notification_group compliance (group-law (codes "NOTIFICATION-GROUP") (codes "NOTIFICATIONS"))
@@ -764,7 +1059,10 @@ groups-law =
     (raw_definition-law (codes "MODULE-COMPLIANCE")) (raw_definition-law (codes "AGENT-CAPABILITIES")) refl refl refl) refl refl refl) refl refl refl
 
 pub lower_definition-law : Lawful lower_definition
-unfolding arc balanced base before before_assign behind bound braced clause default_value either group identifier index index_names is_reserved later_part lower_definition many maybe module_identity name lower named_number names notification_type object_identifier object_identifier_words object_identity object_type objects octet_string_words of_row pair parenthesized part range ranges raw_definition refinement revision separated shaped simple_type size some_of status syntax_clause syntax_type text text_where token value word
+unfolding arc balanced base before before_assign behind bound braced clause default_value either group identifier index index_names is_reserved later_part
+    lower_definition many maybe module_identity name lower named_number names notification_type object_identifier object_identifier_words object_identity
+    object_type objects octet_string_words of_row pair parenthesized part range ranges raw_definition refinement revision separated shaped simple_type size
+    some_of status syntax_clause syntax_type text text_where token value word
 lower_definition-law =
     shaped-law to_lower from_lower
     (either object_type (either object_identifier (either object_identity (either module_identity after_identity))))
@@ -780,7 +1078,8 @@ lower_definition-law =
 pub tag-law : Lawful tag
 unfolding before behind tag text text_where token word lower
 tag-law =
-    behind-law (token K.OpenBracket) (behind (word (codes "APPLICATION")) (before (text_where K.Number is_number) (behind (token K.CloseBracket) (word (codes "IMPLICIT")))))
+    behind-law (token K.OpenBracket) (behind (word (codes "APPLICATION")) (before (text_where K.Number is_number) (behind (token K.CloseBracket) (word
+    (codes "IMPLICIT")))))
     (token-law K.OpenBracket)
     (behind-law (word (codes "APPLICATION")) (before (text_where K.Number is_number) (behind (token K.CloseBracket) (word (codes "IMPLICIT"))))
     (word-law (codes "APPLICATION"))
@@ -794,14 +1093,17 @@ unfolding balanced before behind braced choice token word lower
 choice-law = behind-law (word (codes "CHOICE")) (braced balanced) (word-law (codes "CHOICE")) (braced-law balanced balanced-law refl) refl refl
 
 pub tagged-law : Lawful tagged
-unfolding base before behind bound braced either is_reserved many maybe name lower named_number object_identifier_words octet_string_words of_row pair parenthesized range ranges refinement separated shaped simple_type size some_of syntax_type tag tagged text text_where token word
+unfolding base before behind bound braced either is_reserved many maybe name lower named_number object_identifier_words octet_string_words of_row pair
+    parenthesized range ranges refinement separated shaped simple_type size some_of syntax_type tag tagged text text_where token word
 tagged-law = pair-law tag syntax_type tag-law syntax_type-law refl
 
 pub sequence-law : Lawful sequence
-unfolding base before behind bound braced either field is_reserved many maybe name lower named_number object_identifier_words octet_string_words of_row pair parenthesized range ranges refinement separated sequence shaped simple_type size some_of syntax_type text text_where token word
+unfolding base before behind bound braced either field is_reserved many maybe name lower named_number object_identifier_words octet_string_words of_row pair
+    parenthesized range ranges refinement separated sequence shaped simple_type size some_of syntax_type text text_where token word
 sequence-law =
     behind-law (word (codes "SEQUENCE")) (either (braced (separated K.Comma field)) of_row) (word-law (codes "SEQUENCE"))
-    (either-law (braced (separated K.Comma field)) of_row (braced-law (separated K.Comma field) (separated-law K.Comma field field-law refl refl) refl) of_row-law
+    (either-law (braced (separated K.Comma field)) of_row (braced-law (separated K.Comma field)
+    (separated-law K.Comma field field-law refl refl) refl) of_row-law
     refl refl refl)
     refl refl
 
@@ -835,7 +1137,9 @@ assigned-forth (D.AgentCapabilities d) x e = absurd (cc)
 assigned-forth (D.Macro d) x e = absurd (cc)
 
 pub assigned-law : Lawful assigned
-unfolding assigned balanced base before behind bound braced choice clause either field is_reserved many maybe name lower named_number object_identifier_words octet_string_words of_row pair parenthesized range ranges refinement separated sequence shaped simple_type size some_of status syntax_clause syntax_type tag tagged text text_where textual_convention token word
+unfolding assigned balanced base before behind bound braced choice clause either field is_reserved many maybe name lower named_number object_identifier_words
+    octet_string_words of_row pair parenthesized range ranges refinement separated sequence shaped simple_type size some_of status syntax_clause syntax_type
+    tag tagged text text_where textual_convention token word
 assigned-law =
     shaped-law to_assigned from_assigned (either textual_convention (either choice (either tagged (either sequence simple_type))))
     (either-law textual_convention (either choice (either tagged (either sequence simple_type))) textual_convention-law
@@ -875,14 +1179,16 @@ unfolding before before_end behind macro_body macro_definition many shaped token
 macro_definition-law = shaped-law to_macro from_macro macro_body macro_body-law (λ x ts rest h. refl) macro-forth
 
 -- what has no pieces isn't spelled
-no-pieces : {A B : Type 0} (to : A → B) (from : B → Option A) (f : Format A) (y : B) (ts rest : List Item) → from y ≡ None → Takes ((shaped to from f).spell y) ts rest → ⊥
+no-pieces : {A B : Type 0} (to : A → B) (from : B → Option A) (f : Format A) (y : B) (ts rest : List Item) → from y ≡ None
+    → Takes ((shaped to from f).spell y) ts rest → ⊥
 unfolding shaped
 no-pieces to from f y ts rest e h = never-stands ts rest (let P : Option _ → Type 0 = λ o. Takes (spell_pieces f.spell o) ts rest in subst P e h)
 
 -- a macro isn't assigned, and what isn't a macro has no macro's body
 assigned-no-macro : (xs : List TokenText) (ts rest : List Item) → Takes (assigned.spell (D.Macro xs)) ts rest → ⊥
 unfolding assigned
-assigned-no-macro xs ts rest h = no-pieces to_assigned from_assigned (either textual_convention (either choice (either tagged (either sequence simple_type)))) (D.Macro xs) ts rest refl h
+assigned-no-macro xs ts rest h = no-pieces to_assigned from_assigned (either textual_convention (either choice (either tagged (either sequence simple_type))))
+    (D.Macro xs) ts rest refl h
 
 macro-pieces : (k : DefKind) (ts rest : List Item) → Takes (macro_definition.spell k) ts rest → (xs : List TokenText) × (k ≡ D.Macro xs)
 unfolding macro_definition shaped
@@ -944,15 +1250,19 @@ upper-forth (D.ModuleCompliance d) x e = ap to_upper (sym (some-inj (inl (D.Modu
 upper-forth (D.AgentCapabilities d) x e = ap to_upper (sym (some-inj (inl (D.AgentCapabilities d)) x e))
 
 pub upper_definition-law : Lawful upper_definition
-unfolding assigned balanced base before before_end behind bound braced choice clause either field is_reserved macro_body macro_definition many maybe name lower named_number object_identifier_words octet_string_words of_row pair parenthesized range ranges refinement separated sequence shaped simple_type size some_of status syntax_clause syntax_type tag tagged text text_where textual_convention token upper_definition word
+unfolding assigned balanced base before before_end behind bound braced choice clause either field is_reserved macro_body macro_definition many maybe name lower
+    named_number object_identifier_words octet_string_words of_row pair parenthesized range ranges refinement separated sequence shaped simple_type size
+    some_of status syntax_clause syntax_type tag tagged text text_where textual_convention token upper_definition word
 upper_definition-law =
     shaped-law to_upper from_upper (either assignment macro_definition)
-    (either-law assignment macro_definition (behind-law (token K.Assign) assigned (token-law K.Assign) assigned-law refl refl) macro_definition-law refl refl refl)
+    (either-law assignment macro_definition (behind-law (token K.Assign) assigned
+    (token-law K.Assign) assigned-law refl refl) macro_definition-law refl refl refl)
     upper-back upper-forth
 
 -- the names of macros
 
-macro-words : (t : Lexeme) (ws : List (List ℕ)) → same_kind t.kind K.Upper ≡ true → list_any (same_text t.text) ws ≡ true → list_any (meets t) (map a_word ws) ≡ true
+macro-words : (t : Lexeme) (ws : List (List ℕ)) → same_kind t.kind K.Upper ≡ true → list_any (same_text t.text) ws ≡ true
+    → list_any (meets t) (map a_word ws) ≡ true
 macro-words t [] k h = h
 macro-words t (w ∷ ws) k h =
     elim (or-cases (same_text t.text w) (list_any (same_text t.text) ws) h) [
@@ -969,7 +1279,8 @@ unfolding macro_name
 macro_name-law = name_where-law macro_words K.Upper is_macro (λ t k ok. macro-ahead t k ok)
 
 -- the word of a macro is reserved
-any-among : (x : List ℕ) (vs ws : List (List ℕ)) → list_all (λ v. list_any (same_text v) ws) vs ≡ true → list_any (same_text x) vs ≡ true → list_any (same_text x) ws ≡ true
+any-among : (x : List ℕ) (vs ws : List (List ℕ)) → list_all (λ v. list_any (same_text v) ws) vs ≡ true → list_any (same_text x) vs ≡ true
+    → list_any (same_text x) ws ≡ true
 any-among x [] ws a h = absurd (cc)
 any-among x (v ∷ vs) ws a h =
     elim (or-cases (same_text x v) (list_any (same_text x) vs) h) [
@@ -1013,9 +1324,11 @@ no-assigned : (k : DefKind) (ts rest : List Item) → from_assigned k ≡ None �
 unfolding behind assigned token lower
 no-assigned k [] rest e h = h
 no-assigned k (Err f ∷ ts) rest e h = h
-no-assigned k (Ok t ∷ ts) rest e h = no-pieces to_assigned from_assigned (either textual_convention (either choice (either tagged (either sequence simple_type)))) k ts rest e h.1
+no-assigned k (Ok t ∷ ts) rest e h = no-pieces to_assigned from_assigned (either textual_convention (either choice (either tagged
+    (either sequence simple_type)))) k ts rest e h.1
 
-upper-only : (k : DefKind) (ts rest : List Item) → Takes (upper_definition.spell k) ts rest → (p : Labelled) → is_macro p.0.1.octets ≡ false → def_pieces p k ≡ inr (inl p)
+upper-only : (k : DefKind) (ts rest : List Item) → Takes (upper_definition.spell k) ts rest → (p : Labelled) → is_macro p.0.1.octets ≡ false
+    → def_pieces p k ≡ inr (inl p)
 unfolding upper_definition shaped either
 upper-only (D.ObjectType d) ts rest h p m = absurd (no-assigned (D.ObjectType d) ts rest refl h)
 upper-only (D.ObjectIdentifier d) ts rest h p m = absurd (no-assigned (D.ObjectIdentifier d) ts rest refl h)
@@ -1032,7 +1345,8 @@ upper-only (D.Sequence d) ts rest h p m = refl
 upper-only (D.Choice d) ts rest h p m = refl
 upper-only (D.Macro d) ts rest h p m = rw m refl
 
-macro-only : (k : DefKind) (ts rest : List Item) → Takes (macro_definition.spell k) ts rest → (p : Labelled) → is_macro p.0.1.octets ≡ true → def_pieces p k ≡ inr (inr p)
+macro-only : (k : DefKind) (ts rest : List Item) → Takes (macro_definition.spell k) ts rest → (p : Labelled) → is_macro p.0.1.octets ≡ true
+    → def_pieces p k ≡ inr (inr p)
 macro-only k ts rest h p m =
     let q = macro-pieces k ts rest h in
     let P : DefKind → Type 0 = λ v. def_pieces p v ≡ inr (inr p) in
@@ -1056,7 +1370,8 @@ label-mark n x ok k (Ok t ∷ ts) mid h = h.0.0.2
 name-not-macro : (x : List ℕ) → not (is_reserved x) ≡ true → is_macro x ≡ false
 name-not-macro x h = false-from (is_macro x) (λ m. cc (not-true (is_reserved x) h, macro-reserved x m))
 
-def-back : (x : Labelled ⊎ (Labelled ⊎ Labelled)) (ts rest : List Item) → Takes ((either by_lower (either by_upper by_macro)).spell x) ts rest → from_def (to_def x) ≡ Some x
+def-back : (x : Labelled ⊎ (Labelled ⊎ Labelled)) (ts rest : List Item) → Takes ((either by_lower (either by_upper by_macro)).spell x) ts rest
+    → from_def (to_def x) ≡ Some x
 unfolding either pair lined text name lower macro_name
 def-back (inl p) ts rest h =
     let r = Takes-split ((lined lower).spell p.0) (lower_definition.spell p.1) ts rest h in
@@ -1072,7 +1387,8 @@ def-back (inr (inr p)) ts rest h =
 
 pieces-def : (p : Labelled) (k : DefKind) → to_def (def_pieces p k) ≡ record { label = p.0.1; line = p.0.0; kind = p.1 }
 pieces-def p (D.Macro xs) =
-    elim (is_macro p.0.1.octets) as (λ b. to_def (if b then inr (inr p) else inr (inl p)) ≡ record { label = p.0.1; line = p.0.0; kind = p.1 }) [ true ↦ refl | false ↦ refl ]
+    elim (is_macro p.0.1.octets) as (λ b. to_def (if b then inr (inr p) else inr
+    (inl p)) ≡ record { label = p.0.1; line = p.0.0; kind = p.1 }) [ true ↦ refl | false ↦ refl ]
 pieces-def p (D.TextualConvention d) = refl
 pieces-def p (D.TypeAssignment d) = refl
 pieces-def p (D.Sequence d) = refl
@@ -1092,7 +1408,11 @@ def-forth y x e =
     ap to_def (sym (some-inj (def_pieces ((y.line, y.label), y.kind) y.kind) x e)) ∙ pieces-def ((y.line, y.label), y.kind) y.kind
 
 pub definition-law : Lawful definition
-unfolding arc assigned balanced base before before_assign before_end behind bound braced choice clause default_value definition either field group identifier index index_names is_reserved later_part lined lower_definition macro_body macro_definition macro_name many maybe module_identity name lower named_number names notification_type object_identifier object_identifier_words object_identity object_type objects octet_string_words of_row pair parenthesized part range ranges raw_definition refinement revision separated sequence shaped simple_type size some_of status syntax_clause syntax_type tag tagged text text_where textual_convention token upper_definition value word
+unfolding arc assigned balanced base before before_assign before_end behind bound braced choice clause default_value definition either field group identifier
+    index index_names is_reserved later_part lined lower_definition macro_body macro_definition macro_name many maybe module_identity name lower named_number
+    names notification_type object_identifier object_identifier_words object_identity object_type objects octet_string_words of_row pair parenthesized part
+    range ranges raw_definition refinement revision separated sequence shaped simple_type size some_of status syntax_clause syntax_type tag tagged text
+    text_where textual_convention token upper_definition value word
 definition-law =
     shaped-law to_def from_def (either by_lower (either by_upper by_macro))
     (either-law by_lower (either by_upper by_macro)
@@ -1155,7 +1475,8 @@ opening-law =
     (behind-law (token K.Assign) (word (codes "BEGIN")) (token-law K.Assign) (word-law (codes "BEGIN")) refl refl) refl refl
 
 pub head-law : Lawful head
-unfolding arc before behind braced either head heading import_clause imports is_reserved lined many maybe name lower opening pair parenthesized part separated shaped some_of symbol text text_where token word
+unfolding arc before behind braced either head heading import_clause imports is_reserved lined many maybe name lower opening pair parenthesized part separated
+    shaped some_of symbol text text_where token word
 head-law =
     shaped-law to_head from_head (pair name (pair (maybe heading) (behind opening (maybe imports))))
     (pair-law name (pair (maybe heading) (behind opening (maybe imports))) name-law
@@ -1164,11 +1485,19 @@ head-law =
     (λ x ts rest h. refl) (λ y x e. ap to_head (sym (some-inj (y.name, (y.heading, y.imports)) x e)))
 
 pub definitions-law : Lawful (many definition)
-unfolding arc assigned balanced base before before_assign before_end behind bound braced choice clause default_value definition either field group identifier index index_names is_reserved later_part lined lower_definition macro_body macro_definition macro_name many maybe module_identity name lower named_number names notification_type object_identifier object_identifier_words object_identity object_type objects octet_string_words of_row pair parenthesized part range ranges raw_definition refinement revision separated sequence shaped simple_type size some_of status syntax_clause syntax_type tag tagged text text_where textual_convention token upper_definition value word
+unfolding arc assigned balanced base before before_assign before_end behind bound braced choice clause default_value definition either field group identifier
+    index index_names is_reserved later_part lined lower_definition macro_body macro_definition macro_name many maybe module_identity name lower named_number
+    names notification_type object_identifier object_identifier_words object_identity object_type objects octet_string_words of_row pair parenthesized part
+    range ranges raw_definition refinement revision separated sequence shaped simple_type size some_of status syntax_clause syntax_type tag tagged text
+    text_where textual_convention token upper_definition value word
 definitions-law = many-law definition definition-law refl refl
 
 pub module_text-law : Lawful module_text
-unfolding arc assigned balanced base before before_assign before_end behind bound braced choice clause default_value definition either field group head heading identifier import_clause imports index index_names is_reserved later_part lined lower_definition macro_body macro_definition macro_name many maybe module_identity module_text name lower named_number names notification_type object_identifier object_identifier_words object_identity object_type objects octet_string_words of_row opening pair parenthesized part range ranges raw_definition refinement revision separated sequence shaped simple_type size some_of status symbol syntax_clause syntax_type tag tagged text text_where textual_convention token upper_definition value word
+unfolding arc assigned balanced base before before_assign before_end behind bound braced choice clause default_value definition either field group head heading
+    identifier import_clause imports index index_names is_reserved later_part lined lower_definition macro_body macro_definition macro_name many maybe
+    module_identity module_text name lower named_number names notification_type object_identifier object_identifier_words object_identity object_type objects
+    octet_string_words of_row opening pair parenthesized part range ranges raw_definition refinement revision separated sequence shaped simple_type size
+    some_of status symbol syntax_clause syntax_type tag tagged text text_where textual_convention token upper_definition value word
 module_text-law =
     shaped-law to_module from_module (pair head (before (many definition) (word (codes "END"))))
     (pair-law head (before (many definition) (word (codes "END"))) head-law
@@ -1176,5 +1505,9 @@ module_text-law =
     (λ x ts rest h. refl) (λ y x e. ap to_module (sym (some-inj (head_of y, y.defs) x e)))
 
 pub file-law : Lawful file
-unfolding arc assigned balanced base before before_assign before_end behind bound braced choice clause default_value definition either field file group head heading identifier import_clause imports index index_names is_reserved later_part lined lower_definition macro_body macro_definition macro_name many maybe module_identity module_text name lower named_number names notification_type object_identifier object_identifier_words object_identity object_type objects octet_string_words of_row opening pair parenthesized part range ranges raw_definition refinement revision separated sequence shaped simple_type size some_of status symbol syntax_clause syntax_type tag tagged text text_where textual_convention token upper_definition value word
+unfolding arc assigned balanced base before before_assign before_end behind bound braced choice clause default_value definition either field file group head
+    heading identifier import_clause imports index index_names is_reserved later_part lined lower_definition macro_body macro_definition macro_name many maybe
+    module_identity module_text name lower named_number names notification_type object_identifier object_identifier_words object_identity object_type objects
+    octet_string_words of_row opening pair parenthesized part range ranges raw_definition refinement revision separated sequence shaped simple_type size
+    some_of status symbol syntax_clause syntax_type tag tagged text text_where textual_convention token upper_definition value word
 file-law = many-law module_text module_text-law refl refl

@@ -8,18 +8,107 @@ use Rattle.smi_module.specs.declared.tree.NamedNumber.{NamedNumber}
 use Rattle.smi_module.specs.declared.tree.Range.{Range}
 use Rattle.smi_module.specs.declared.tree.Field.{Field}
 use Rattle.smi_text.specs.Gives.{Gives}
-use Rattle.smi_text.specs.Format.{Format, before, behind, either, lined, many, maybe, name, pair, separated, shaped, some_of, text, text_where, token, word, lower}
-use Rattle.smi_text.specs.Grammar.{arc, assigned, balanced, base, before_assign, before_end, bound, braced, choice, clause, default_value, definition, field, group, head, heading, identifier, import_clause, imports, index, index_names, later_part, lower_definition, macro_body, macro_definition, macro_name, module_identity, module_text, named_number, names, notification_type, object_identifier, object_identifier_words, object_identity, object_type, objects, octet_string_words, of_row, opening, parenthesized, part, range, ranges, raw_definition, refinement, revision, sequence, simple_type, size, status, symbol, syntax_clause, syntax_type, tag, tagged, textual_convention, upper_definition, value}
+use Rattle.smi_text.specs.Format.{
+  Format,
+  before,
+  behind,
+  either,
+  lined,
+  many,
+  maybe,
+  name,
+  pair,
+  separated,
+  shaped,
+  some_of,
+  text,
+  text_where,
+  token,
+  word,
+  lower,
+}
+use Rattle.smi_text.specs.Grammar.{
+  arc,
+  assigned,
+  balanced,
+  base,
+  before_assign,
+  before_end,
+  bound,
+  braced,
+  choice,
+  clause,
+  default_value,
+  definition,
+  field,
+  group,
+  head,
+  heading,
+  identifier,
+  import_clause,
+  imports,
+  index,
+  index_names,
+  later_part,
+  lower_definition,
+  macro_body,
+  macro_definition,
+  macro_name,
+  module_identity,
+  module_text,
+  named_number,
+  names,
+  notification_type,
+  object_identifier,
+  object_identifier_words,
+  object_identity,
+  object_type,
+  objects,
+  octet_string_words,
+  of_row,
+  opening,
+  parenthesized,
+  part,
+  range,
+  ranges,
+  raw_definition,
+  refinement,
+  revision,
+  sequence,
+  simple_type,
+  size,
+  status,
+  symbol,
+  syntax_clause,
+  syntax_type,
+  tag,
+  tagged,
+  textual_convention,
+  upper_definition,
+  value,
+}
 use Rattle.smi_text.proofs.Lawful.{Lawful}
 use Rattle.smi_text.proofs.Many.{reading-shorter}
-use Rattle.smi_text.proofs.Productions.{part-law, later_part-law, named_number-law, range-law, field-law, revision-law, before_assign-law, before_end-law, symbol-law, import_clause-law}
+use Rattle.smi_text.proofs.Productions.{
+  part-law,
+  later_part-law,
+  named_number-law,
+  range-law,
+  field-law,
+  revision-law,
+  before_assign-law,
+  before_end-law,
+  symbol-law,
+  import_clause-law,
+}
 use Rattle.smi_text.proofs.Laws.{lower-law}
 use Rattle.smi_module.specs.declared.names.Name.{Name}
 use Rattle.smi_module.specs.declared.tree.Revision.{Revision}
 use Rattle.smi_module.specs.declared.tree.TokenText.{TokenText}
 use Rattle.smi_module.specs.declared.tree.Import.{Import}
 
-gives-shorter : {A : Type 0} (f : Format A) → Lawful f → f.empty ≡ false → (r : Result A Stop) (ts rest : List Item) → Gives r rest (f.read ts) → OnOk r (length rest < length ts)
+gives-shorter : {A : Type 0} (f : Format A) → Lawful f → f.empty ≡ false → (r : Result A Stop) (ts rest : List Item) → Gives r rest (f.read ts)
+    → OnOk r (length rest < length ts)
 gives-shorter f law solid (Ok x) ts rest h = reading-shorter f law solid x ts rest h
 gives-shorter f law solid (Err e) ts rest h = tt
 
@@ -40,7 +129,8 @@ unfolding behind bound maybe pair range shaped token lower
 range_shorter r ts rest h = gives-shorter range range-law refl r ts rest h
 
 pub field_shorter : (r : Result Field Stop) (ts rest : List Item) → Gives r rest (field.read ts) → OnOk r (length rest < length ts)
-unfolding base before behind bound braced either field many maybe name lower named_number object_identifier_words octet_string_words of_row pair parenthesized range ranges refinement separated shaped simple_type size some_of syntax_type text text_where token word
+unfolding base before behind bound braced either field many maybe name lower named_number object_identifier_words octet_string_words of_row pair parenthesized
+    range ranges refinement separated shaped simple_type size some_of syntax_type text text_where token word
 field_shorter r ts rest h = gives-shorter field field-law refl r ts rest h
 
 pub name_shorter : (r : Result Name Stop) (ts rest : List Item) → Gives r rest (lower.read ts) → OnOk r (length rest < length ts)
@@ -68,9 +158,17 @@ unfolding behind import_clause lined many name lower pair separated shaped some_
 import_clause_shorter r ts rest h = gives-shorter import_clause import_clause-law refl r ts rest h
 
 pub definition-solid : definition.empty ≡ false
-unfolding arc assigned balanced base before before_assign before_end behind bound braced choice clause default_value definition either field group identifier index index_names later_part lined lower_definition macro_body macro_definition macro_name many maybe module_identity name lower named_number names notification_type object_identifier object_identifier_words object_identity object_type objects octet_string_words of_row pair parenthesized part range ranges raw_definition refinement revision separated sequence shaped simple_type size some_of status syntax_clause syntax_type tag tagged text text_where textual_convention token upper_definition value word
+unfolding arc assigned balanced base before before_assign before_end behind bound braced choice clause default_value definition either field group identifier
+    index index_names later_part lined lower_definition macro_body macro_definition macro_name many maybe module_identity name lower named_number names
+    notification_type object_identifier object_identifier_words object_identity object_type objects octet_string_words of_row pair parenthesized part range
+    ranges raw_definition refinement revision separated sequence shaped simple_type size some_of status syntax_clause syntax_type tag tagged text text_where
+    textual_convention token upper_definition value word
 definition-solid = refl
 
 pub module_text-solid : module_text.empty ≡ false
-unfolding arc assigned balanced base before before_assign before_end behind bound braced choice clause default_value definition either field group head heading identifier import_clause imports index index_names later_part lined lower_definition macro_body macro_definition macro_name many maybe module_identity module_text name lower named_number names notification_type object_identifier object_identifier_words object_identity object_type objects octet_string_words of_row opening pair parenthesized part range ranges raw_definition refinement revision separated sequence shaped simple_type size some_of status symbol syntax_clause syntax_type tag tagged text text_where textual_convention token upper_definition value word
+unfolding arc assigned balanced base before before_assign before_end behind bound braced choice clause default_value definition either field group head heading
+    identifier import_clause imports index index_names later_part lined lower_definition macro_body macro_definition macro_name many maybe module_identity
+    module_text name lower named_number names notification_type object_identifier object_identifier_words object_identity object_type objects
+    octet_string_words of_row opening pair parenthesized part range ranges raw_definition refinement revision separated sequence shaped simple_type size
+    some_of status symbol syntax_clause syntax_type tag tagged text text_where textual_convention token upper_definition value word
 module_text-solid = refl

@@ -6,9 +6,92 @@ use Rattle.smi_lexer.specs.declared.token.TokenKind.TheVariants as K
 use Rattle.smi_module.specs.Mark.{Mark, sign, spelled, on_line}
 use Rattle.smi_module.specs.Reserved.{is_reserved}
 use Rattle.smi_module.specs.Number.{is_macro}
-use Rattle.smi_text.specs.Format.{never, spell_option, spell_some, before, behind, either, lined, many, maybe, name, pair, separated, shaped, some_of, text, text_where, token, word, lower}
+use Rattle.smi_text.specs.Format.{
+  never,
+  spell_option,
+  spell_some,
+  before,
+  behind,
+  either,
+  lined,
+  many,
+  maybe,
+  name,
+  pair,
+  separated,
+  shaped,
+  some_of,
+  text,
+  text_where,
+  token,
+  word,
+  lower,
+}
 use Rattle.smi_module.specs.Spelling.{put_line}
-use Rattle.smi_text.specs.Grammar.{Labelled, raw_marks, index_marks, arc, assigned, balanced, base, before_assign, before_end, bound, braced, choice, clause, default_value, definition, field, file, group, head, heading, identifier, import_clause, imports, index, index_names, later_part, lower_definition, macro_body, macro_definition, macro_name, module_identity, module_text, named_number, names, notification_type, object_identifier, object_identifier_words, object_identity, object_type, objects, octet_string_words, of_row, opening, parenthesized, part, range, ranges, raw_definition, refinement, revision, sequence, simple_type, size, status, symbol, syntax_clause, syntax_type, tag, tagged, textual_convention, upper_definition, value}
+use Rattle.smi_text.specs.Grammar.{
+  Labelled,
+  raw_marks,
+  index_marks,
+  arc,
+  assigned,
+  balanced,
+  base,
+  before_assign,
+  before_end,
+  bound,
+  braced,
+  choice,
+  clause,
+  default_value,
+  definition,
+  field,
+  file,
+  group,
+  head,
+  heading,
+  identifier,
+  import_clause,
+  imports,
+  index,
+  index_names,
+  later_part,
+  lower_definition,
+  macro_body,
+  macro_definition,
+  macro_name,
+  module_identity,
+  module_text,
+  named_number,
+  names,
+  notification_type,
+  object_identifier,
+  object_identifier_words,
+  object_identity,
+  object_type,
+  objects,
+  octet_string_words,
+  of_row,
+  opening,
+  parenthesized,
+  part,
+  range,
+  ranges,
+  raw_definition,
+  refinement,
+  revision,
+  sequence,
+  simple_type,
+  size,
+  status,
+  symbol,
+  syntax_clause,
+  syntax_type,
+  tag,
+  tagged,
+  textual_convention,
+  upper_definition,
+  value,
+}
 use Rattle.smi_module.specs.Spelling as say
 use Rattle.smi_module.specs.declared.tree.Module.{Module}
 use Rattle.smi_module.specs.declared.names.Name.{Name}
@@ -151,7 +234,8 @@ revision-spells r = refl
 module_identity-spells : (d : ModuleIdentity) → module_identity.spell d ≡ say.of_module_identity d
 unfolding module_identity shaped pair clause behind word text many lower
 module_identity-spells d = λ i.
-    say.word (codes "MODULE-IDENTITY") ∷ say.word (codes "LAST-UPDATED") ∷ say.string d.last_updated ∷ say.word (codes "ORGANIZATION") ∷ say.string d.organization ∷
+    say.word (codes "MODULE-IDENTITY") ∷ say.word (codes "LAST-UPDATED") ∷ say.string d.last_updated ∷ say.word
+    (codes "ORGANIZATION") ∷ say.string d.organization ∷
     say.word (codes "CONTACT-INFO") ∷ say.string d.contact_info ∷ say.word (codes "DESCRIPTION") ∷ say.string d.description ∷
     (lists revision.spell say.of_revision revision-spells d.revisions i ++ value-spells d.value i)
 
@@ -189,7 +273,8 @@ raw_definition-spells w d = λ i. say.word w ∷ (say.of_raw_clauses d.clauses +
 textual_convention-spells : (d : TextualConvention) → textual_convention.spell d ≡ say.of_textual_convention d
 unfolding textual_convention syntax_clause shaped pair maybe behind word lower
 textual_convention-spells d = λ i.
-    say.word (codes "TEXTUAL-CONVENTION") ∷ (options (clause (codes "DISPLAY-HINT")).spell (say.of_clause (codes "DISPLAY-HINT")) (clause-spells (codes "DISPLAY-HINT")) d.display_hint i ++
+    say.word (codes "TEXTUAL-CONVENTION") ∷ (options (clause (codes "DISPLAY-HINT")).spell (say.of_clause (codes "DISPLAY-HINT")) (clause-spells
+    (codes "DISPLAY-HINT")) d.display_hint i ++
     (status-spells d.status i ++ (say.word (codes "SYNTAX") ∷ syntax-spells d.syntax i)))
 
 object_identifier-spells : (v : List Part) → object_identifier.spell v ≡ (say.word (codes "OBJECT") ∷ say.word (codes "IDENTIFIER") ∷ say.of_value v)
@@ -197,9 +282,13 @@ unfolding object_identifier object_identifier_words behind word lower
 object_identifier-spells v = λ i. say.word (codes "OBJECT") ∷ say.word (codes "IDENTIFIER") ∷ value-spells v i
 
 -- what stands behind `::=`
-assigned-type : (tag : Option (List ℕ)) (t : Syntax) → assigned.spell (D.TypeAssignment (record { tag = tag; syntax = t })) ≡ say.of_type_assignment (record { tag = tag; syntax = t })
-unfolding assigned balanced base before behind bound braced choice clause either field many maybe name lower named_number object_identifier_words octet_string_words of_row pair parenthesized range ranges refinement separated sequence shaped simple_type size some_of status syntax_clause syntax_type tag tagged text text_where textual_convention token word
-assigned-type (Some n) t = λ i. sign K.OpenBracket ∷ say.word (codes "APPLICATION") ∷ say.number n ∷ sign K.CloseBracket ∷ say.word (codes "IMPLICIT") ∷ syntax-spells t i
+assigned-type : (tag : Option (List ℕ)) (t : Syntax)
+    → assigned.spell (D.TypeAssignment (record { tag = tag; syntax = t })) ≡ say.of_type_assignment (record { tag = tag; syntax = t })
+unfolding assigned balanced base before behind bound braced choice clause either field many maybe name lower named_number object_identifier_words
+    octet_string_words of_row pair parenthesized range ranges refinement separated sequence shaped simple_type size some_of status syntax_clause syntax_type
+    tag tagged text text_where textual_convention token word
+assigned-type (Some n) t = λ i. sign K.OpenBracket ∷ say.word (codes "APPLICATION") ∷ say.number n ∷ sign K.CloseBracket ∷ say.word
+    (codes "IMPLICIT") ∷ syntax-spells t i
 assigned-type None (T.SequenceOf x) = refl
 assigned-type None (T.Simple t) = simple_type-spells t
 
@@ -217,7 +306,8 @@ abbrev def_marks : Labelled ⊎ (Labelled ⊎ Labelled) → List Mark
 def_marks = (either (pair (lined lower) lower_definition) (either (pair (lined name) upper_definition) (pair (lined macro_name) macro_definition))).spell
 
 kind-spells : (line : ℕ) (x : Name) (k : DefKind) → definition.spell (record { label = x; line = line; kind = k }) ≡ say.of_def_kind line x k
-unfolding definition shaped either pair lined text name lower lower_definition upper_definition assigned macro_definition choice sequence macro_body behind before word token many before_end braced balanced macro_name
+unfolding definition shaped either pair lined text name lower lower_definition upper_definition assigned macro_definition choice sequence macro_body behind
+    before word token many before_end braced balanced macro_name
 kind-spells line x (D.ObjectIdentifier v) = λ i. on_line line (say.lower x) ∷ object_identifier-spells v i
 kind-spells line x (D.ModuleIdentity d) = λ i. on_line line (say.lower x) ∷ module_identity-spells d i
 kind-spells line x (D.ObjectIdentity d) = λ i. on_line line (say.lower x) ∷ object_identity-spells d i
@@ -231,9 +321,11 @@ kind-spells line x (D.TextualConvention d) = λ i. on_line line (say.upper x) �
 kind-spells line x (D.TypeAssignment d) = λ i. on_line line (say.upper x) ∷ sign K.Assign ∷ assigned-type d.tag d.syntax i
 kind-spells line x (D.Sequence fs) = λ i. on_line line (say.upper x) ∷ sign K.Assign ∷ say.word (codes "SEQUENCE") ∷ fields-spell fs i
 kind-spells line x (D.Choice xs) =
-    ap (λ (b : Bool). on_line line (say.upper x) ∷ sign K.Assign ∷ say.word (codes "CHOICE") ∷ say.braces (if b then raw_marks xs else never)) (sym (fronts-counted xs))
+    ap (λ (b : Bool). on_line line (say.upper x) ∷ sign K.Assign ∷ say.word (codes "CHOICE") ∷ say.braces (if b then raw_marks xs else never)) (sym
+    (fronts-counted xs))
 kind-spells line x (D.Macro xs) =
-    elim (is_macro x.octets) as (λ b. is_macro x.octets ≡ b → def_marks (if b then inr (inr ((line, x), D.Macro xs)) else inr (inl ((line, x), D.Macro xs))) ≡ macro_marks line x xs b) [
+    elim (is_macro x.octets) as (λ b. is_macro x.octets ≡ b
+    → def_marks (if b then inr (inr ((line, x), D.Macro xs)) else inr (inl ((line, x), D.Macro xs))) ≡ macro_marks line x xs b) [
       | true ↦ λ e. ap (λ (c : Bool). on_line line (spelled K.Upper x.octets c) ∷ macro_tail xs) e
       | false ↦ λ e. refl
     ] refl
@@ -246,7 +338,8 @@ def-spells d = kind-spells d.line d.label d.kind
 import-spells : (x : Import) → import_clause.spell x ≡ say.of_import x
 unfolding import_clause shaped lined pair separated some_of symbol behind word name lower token
 import-spells x = λ i.
-    put_line x.line (lists_between (sign K.Comma) (λ y. say.symbol y ∷ []) (λ y. say.symbol y ∷ []) (λ y. refl) x.symbols i ++ (say.word (codes "FROM") ∷ say.upper x.source ∷ []))
+    put_line x.line (lists_between (sign K.Comma) (λ y. say.symbol y ∷ []) (λ y. say.symbol y ∷ []) (λ y. refl) x.symbols i ++ (say.word
+    (codes "FROM") ∷ say.upper x.source ∷ []))
 
 heading-spells : (ps : List Part) → heading.spell ps ≡ say.braces (flat_map say.of_part ps)
 unfolding heading braced many behind before token lower
@@ -256,7 +349,8 @@ imports-spells : (xs : List Import) → imports.spell xs ≡ (say.word (codes "I
 unfolding imports many behind before word token lower
 imports-spells xs = λ i. say.word (codes "IMPORTS") ∷ (lists import_clause.spell say.of_import import-spells xs i ++ sign K.Semicolon ∷ [])
 
-pub head-spells : (name : Name) (heading : Option (List Part)) (imports : Option (List Import)) → head.spell (record { name = name; heading = heading; imports = imports }) ≡ say.of_head name heading imports
+pub head-spells : (name : Name) (heading : Option (List Part)) (imports : Option (List Import))
+    → head.spell (record { name = name; heading = heading; imports = imports }) ≡ say.of_head name heading imports
 unfolding head shaped pair maybe behind opening word token name lower imports before many heading braced
 head-spells n h is = λ i.
     say.upper n ∷ (options heading.spell (λ ps. say.braces (flat_map say.of_part ps)) heading-spells h i ++

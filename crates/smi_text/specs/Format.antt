@@ -1,6 +1,31 @@
--- Productions as values: how a part of the tree is spelled, how it is read from the front of the tokens, what it begins
+-- Productions as values: how a part of the tree is spelled, how it is read from the front of the
+-- tokens, what it begins
 -- with, and what must not follow it.
-use Rattle.std.specs.Prelude.{◌≡◌, ℕ, Bool, true, false, ◌&&◌, ◌||◌, not, List, [], ◌∷◌, ◌++◌, length, Option, Some, None, Ok, Err, drop, if◌then◌else◌, option_and_then, option_map, refl}
+use Rattle.std.specs.Prelude.{
+  ◌≡◌,
+  ℕ,
+  Bool,
+  true,
+  false,
+  ◌&&◌,
+  ◌||◌,
+  not,
+  List,
+  [],
+  ◌∷◌,
+  ◌++◌,
+  length,
+  Option,
+  Some,
+  None,
+  Ok,
+  Err,
+  drop,
+  if◌then◌else◌,
+  option_and_then,
+  option_map,
+  refl,
+}
 use Rattle.std.specs.List.{list_any, list_all, flat_map}
 use Rattle.std.proofs.Common.{◌⊎◌, inl, inr, zero, suc}
 use Rattle.smi_lexer.specs.declared.token.TokenKind.{TokenKind}
@@ -100,7 +125,8 @@ one cs mark pick = record {
 
 -- a word of the grammar
 unfoldable pub word : List ℕ → Format (Unit {0})
-word w = one (a_word w ∷ []) (λ _. spelled Upper w true) (λ t. if is_this_word w t then Some tt else None)
+word w = one (a_word w ∷ []) (λ _. spelled Upper w true)
+    (λ t. if is_this_word w t then Some tt else None)
 
 -- a sign of the grammar
 abbrev pub is_sign : TokenKind → Lexeme → Bool
@@ -111,11 +137,13 @@ token k = one (a_kind k ∷ []) (λ _. sign k) (λ t. if is_sign k t then Some t
 
 -- a token of this kind, by its text
 unfoldable pub text : TokenKind → Format (List ℕ)
-text k = one (a_kind k ∷ []) (λ x. spelled k x true) (λ t. if same_kind t.kind k then Some t.text else None)
+text k = one (a_kind k ∷ []) (λ x. spelled k x true)
+    (λ t. if same_kind t.kind k then Some t.text else None)
 
 -- a token of this kind, by its text, for which a test holds
 unfoldable pub text_where : TokenKind → (List ℕ → Bool) → Format (List ℕ)
-text_where k ok = one (a_kind k ∷ []) (λ x. spelled k x (ok x)) (λ t. if same_kind t.kind k && ok t.text then Some t.text else None)
+text_where k ok = one (a_kind k ∷ []) (λ x. spelled k x (ok x))
+    (λ t. if same_kind t.kind k && ok t.text then Some t.text else None)
 
 -- the name of these octets, where they are a word
 abbrev pub name_when : (x : List ℕ) (b : Bool) → is_word x ≡ b → Option Name
@@ -140,7 +168,8 @@ unfoldable pub name : Format Name
 name = name_where (a_name ∷ []) Upper (λ x. not (is_reserved x))
 
 -- one part, and then another
-abbrev pub read_pair : {A B : Type 0} → (List Item → Reading A) → (List Item → Reading B) → List Item → Reading (A × B)
+abbrev pub read_pair : {A B : Type 0} → (List Item → Reading A) → (List Item → Reading B)
+    → List Item → Reading (A × B)
 read_pair f g ts = option_and_then (λ p. option_map (λ q. ((p.0, q.0), q.1)) (g p.1)) (f ts)
 
 unfoldable pub pair : {A B : Type 0} → Format A → Format B → Format (A × B)
@@ -180,7 +209,8 @@ spell_option f (Some x) = f x
 unfoldable pub maybe : {A : Type 0} → Format A → Format (Option A)
 maybe f = record {
   spell = spell_option f.spell;
-  read = λ ts. if begins f.first ts then option_map (λ p. (Some p.0, p.1)) (f.read ts) else Some (None, ts);
+  read = λ ts. if begins f.first ts then option_map (λ p. (Some p.0, p.1)) (f.read ts) else Some
+      (None, ts);
   first = f.first;
   stop = f.first ++ f.stop;
   empty = true;
@@ -194,7 +224,8 @@ spell_either f g (inr y) = g y
 unfoldable pub either : {A B : Type 0} → Format A → Format B → Format (A ⊎ B)
 either f g = record {
   spell = spell_either f.spell g.spell;
-  read = λ ts. if begins f.first ts then option_map (λ p. (inl p.0, p.1)) (f.read ts) else option_map (λ p. (inr p.0, p.1)) (g.read ts);
+  read = λ ts. if begins f.first ts then option_map (λ p. (inl p.0, p.1))
+      (f.read ts) else option_map (λ p. (inr p.0, p.1)) (g.read ts);
   first = f.first ++ g.first;
   stop = f.stop ++ g.stop;
   empty = false;
@@ -204,7 +235,8 @@ either f g = record {
 unfoldable pub read_many : {A : Type 0} → Format A → ℕ → List Item → Reading (List A)
 read_many f zero ts = Some ([], ts)
 read_many f (suc n) ts =
-    if begins f.first ts then option_and_then (λ p. option_map (λ q. (p.0 ∷ q.0, q.1)) (read_many f n p.1)) (f.read ts) else Some ([], ts)
+    if begins f.first ts then option_and_then (λ p. option_map (λ q. (p.0 ∷ q.0, q.1))
+    (read_many f n p.1)) (f.read ts) else Some ([], ts)
 
 unfoldable pub many : {A : Type 0} → Format A → Format (List A)
 many f = record {

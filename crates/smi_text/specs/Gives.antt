@@ -1,5 +1,20 @@
 -- What the steps of the parser give.
-use Rattle.std.specs.Prelude.{◌≡◌, ℕ, Bool, true, false, List, [], ◌++◌, Option, Some, None, Result, Ok, Err}
+use Rattle.std.specs.Prelude.{
+  ◌≡◌,
+  ℕ,
+  Bool,
+  true,
+  false,
+  List,
+  [],
+  ◌++◌,
+  Option,
+  Some,
+  None,
+  Result,
+  Ok,
+  Err,
+}
 use Rattle.std.specs.Borrow.{Bor}
 use Rattle.smi_lexer.specs.Token.{Lexeme, Item}
 use Rattle.std.specs.List.{flat_map, list_any}
@@ -25,7 +40,8 @@ is_memory Memory = true
 is_memory (Syntax line) = false
 is_memory (Lex fault) = false
 
--- the part and the tokens after it, as they are read; else, memory aside, a stop where no part stands
+-- the part and the tokens after it, as they are read; else, memory aside, a stop where no part
+-- stands
 abbrev pub Gives : {A : Type 0} → Result A Stop → List Item → Reading A → Type 0
 Gives (Ok x) rest r = r ≡ Some (x, rest)
 Gives (Err e) rest r = is_memory e ≡ false → r ≡ None
@@ -51,7 +67,8 @@ abbrev pub IsLabelAhead : Option (Bor (List ℕ)) → List Item → Type 0
 IsLabelAhead None tokens = begins definition.first tokens ≡ false
 IsLabelAhead (Some x) tokens = (begins definition.first tokens ≡ true) × (x.now ≡ text_ahead tokens)
 
--- the items begin with definitions, the last of which stands on this line and is the first that defines a name again
+-- the items begin with definitions, the last of which stands on this line and is the first that
+-- defines a name again
 pub record RepeatsIn (line : ℕ) (items : List Item) : Type 0 where
   pub before : List Def
   pub once : are_distinct (labels before) ≡ true
@@ -111,7 +128,8 @@ ModulesFault (E.Syntax line) tokens = (ms : List Module) → file.read tokens �
 ModulesFault (E.DoubleName line) tokens = RepeatsAgain line tokens
 ModulesFault E.Memory tokens = Unit {0}
 
--- the error that is reported where the reading of a text stopped with this one: in the lexer, the first fault of the text
+-- the error that is reported where the reading of a text stopped with this one: in the lexer, the
+-- first fault of the text
 abbrev pub IsLexFault : ParseError → List ℕ → Type 0
 IsLexFault (E.Lex fault) text = BreaksOff fault text
 IsLexFault (E.Syntax line) text = Unit {0}

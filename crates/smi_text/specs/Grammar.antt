@@ -1,5 +1,30 @@
 -- The productions of the grammar as formats: each reads and spells one part of the tree.
-use Rattle.std.specs.Prelude.{ℕ, ◌+◌, ◌-◌, ◌==◌, Bool, true, false, ◌&&◌, not, List, [], ◌∷◌, ◌++◌, length, Option, Some, None, Ok, Err, codes, map, if◌then◌else◌, option_and_then, option_map}
+use Rattle.std.specs.Prelude.{
+  ℕ,
+  ◌+◌,
+  ◌-◌,
+  ◌==◌,
+  Bool,
+  true,
+  false,
+  ◌&&◌,
+  not,
+  List,
+  [],
+  ◌∷◌,
+  ◌++◌,
+  length,
+  Option,
+  Some,
+  None,
+  Ok,
+  Err,
+  codes,
+  map,
+  if◌then◌else◌,
+  option_and_then,
+  option_map,
+}
 use Rattle.std.proofs.Common.{◌⊎◌, inl, inr, zero, suc}
 use Rattle.smi_lexer.specs.declared.token.TokenKind.{TokenKind}
 use Rattle.smi_lexer.specs.declared.token.TokenKind.TheVariants as K
@@ -7,7 +32,37 @@ use Rattle.smi_lexer.specs.Token.{Lexeme, Item}
 use Rattle.smi_module.specs.Mark.{Mark, sign, spelled, same_kind, same_text}
 use Rattle.smi_module.specs.Reserved.{macros}
 use Rattle.smi_module.specs.Number.{is_arc, is_number, is_bound, is_symbol, is_macro}
-use Rattle.smi_text.specs.Format.{Format, Reading, Ahead, a_word, a_name, a_kind, no_word, no_kind, begins, never, one, word, token, text, text_where, name, pair, behind, before, maybe, either, many, shaped, some_of, separated, lined, with_front, lower, name_where}
+use Rattle.smi_text.specs.Format.{
+  Format,
+  Reading,
+  Ahead,
+  a_word,
+  a_name,
+  a_kind,
+  no_word,
+  no_kind,
+  begins,
+  never,
+  one,
+  word,
+  token,
+  text,
+  text_where,
+  name,
+  pair,
+  behind,
+  before,
+  maybe,
+  either,
+  many,
+  shaped,
+  some_of,
+  separated,
+  lined,
+  with_front,
+  lower,
+  name_where,
+}
 use Rattle.smi_module.specs.declared.names.Name.{Name}
 use Rattle.smi_module.specs.declared.tree.Module.{Module}
 use Rattle.smi_text.specs.declared.modules.Head.{Head}
@@ -60,7 +115,8 @@ abbrev pub kept_text : Lexeme → TokenText
 kept_text t = record { kind = t.kind; text = t.text }
 
 abbrev pub kept : List Ahead → (TokenKind → List ℕ → Bool) → Format TokenText
-kept cs ok = one cs (λ x. spelled x.kind x.text (ok x.kind x.text)) (λ t. if ok t.kind t.text then Some (kept_text t) else None)
+kept cs ok = one cs (λ x. spelled x.kind x.text (ok x.kind x.text))
+    (λ t. if ok t.kind t.text then Some (kept_text t) else None)
 
 -- identifiers
 
@@ -126,7 +182,8 @@ ranges = separated K.Bar range
 
 -- a name with a number of any sign
 unfoldable pub named_number : Format NamedNumber
-named_number = shaped to_named_number from_named_number (pair lower (parenthesized (text_where K.Number is_number)))
+named_number = shaped to_named_number from_named_number (pair lower (parenthesized
+    (text_where K.Number is_number)))
 
 abbrev pub to_refinement : List NamedNumber ⊎ (List Range ⊎ List Range) → Refinement
 to_refinement (inl ns) = R.Numbers ns
@@ -143,7 +200,8 @@ size = behind (word (codes "SIZE")) (parenthesized ranges)
 
 unfoldable pub refinement : Format Refinement
 refinement =
-    shaped to_refinement from_refinement (either (braced (separated K.Comma named_number)) (parenthesized (either size ranges)))
+    shaped to_refinement from_refinement (either (braced (separated K.Comma named_number))
+    (parenthesized (either size ranges)))
 
 unfoldable pub object_identifier_words : Format (Unit {0})
 object_identifier_words = behind (word (codes "OBJECT")) (word (codes "IDENTIFIER"))
@@ -168,7 +226,8 @@ from_base (B.Named x) = Some (inr (inr (inr (inr x))))
 unfoldable pub base : Format Base
 base =
     shaped to_base from_base
-    (either (word (codes "INTEGER")) (either octet_string_words (either object_identifier_words (either (word (codes "BITS")) name))))
+    (either (word (codes "INTEGER")) (either octet_string_words (either object_identifier_words
+    (either (word (codes "BITS")) name))))
 
 abbrev pub to_simple_type : Base × Option Refinement → SimpleType
 to_simple_type p = record { base = p.0; refinement = p.1 }
@@ -191,7 +250,8 @@ unfoldable pub of_row : Format Name
 of_row = behind (word (codes "OF")) name
 
 unfoldable pub syntax_type : Format Syntax
-syntax_type = shaped to_syntax from_syntax (either (behind (word (codes "SEQUENCE")) of_row) simple_type)
+syntax_type = shaped to_syntax from_syntax (either (behind (word
+    (codes "SEQUENCE")) of_row) simple_type)
 
 abbrev pub to_field : Name × Syntax → Field
 to_field p = record { label = p.0; syntax = p.1 }
@@ -216,14 +276,17 @@ from_status s = Some (s.status, (s.description, s.reference))
 unfoldable pub status : Format Status
 status =
     shaped to_status from_status
-    (pair (behind (word (codes "STATUS")) (text K.Lower)) (pair (clause (codes "DESCRIPTION")) (maybe (clause (codes "REFERENCE")))))
+    (pair (behind (word (codes "STATUS")) (text K.Lower)) (pair (clause (codes "DESCRIPTION"))
+    (maybe (clause (codes "REFERENCE")))))
 
 -- the marks of the names of an index: the last one may stand behind IMPLIED
 abbrev pub index_marks : List Name → Bool → List Mark
 index_marks [] implied = never
 index_marks (x ∷ []) implied =
-    (if implied then spelled K.Upper (codes "IMPLIED") true ∷ [] else []) ++ spelled K.Lower x.octets true ∷ []
-index_marks (x ∷ (y ∷ ys)) implied = spelled K.Lower x.octets true ∷ sign K.Comma ∷ index_marks (y ∷ ys) implied
+    (if implied then spelled K.Upper
+    (codes "IMPLIED") true ∷ [] else []) ++ spelled K.Lower x.octets true ∷ []
+index_marks (x ∷ (y ∷ ys)) implied = spelled K.Lower x.octets true ∷ sign K.Comma ∷ index_marks
+    (y ∷ ys) implied
 
 abbrev pub implied_name : Format Name
 implied_name = behind (word (codes "IMPLIED")) lower
@@ -239,9 +302,14 @@ with_names xs r = option_map (λ p. (parts_of (xs ++ p.0.names) p.0.implied, p.1
 unfoldable pub read_index : ℕ → List Item → Reading IndexParts
 read_index zero ts = None
 read_index (suc n) ts =
-    if begins (a_word (codes "IMPLIED") ∷ []) ts then option_map (λ p. (parts_of (p.0 ∷ []) true, p.1)) (implied_name.read ts)
+    if begins (a_word (codes "IMPLIED") ∷ []) ts then option_map (λ p. (
+      parts_of
+          (p.0 ∷ []) true,
+      p.1,
+    )) (implied_name.read ts)
     else option_and_then (λ p.
-    if begins (a_kind K.Comma ∷ []) p.1 then with_names (p.0 ∷ []) (option_and_then (λ q. read_index n q.1) ((token K.Comma).read p.1))
+    if begins (a_kind K.Comma ∷ []) p.1 then with_names (p.0 ∷ []) (option_and_then
+    (λ q. read_index n q.1) ((token K.Comma).read p.1))
     else Some (parts_of (p.0 ∷ []) false, p.1)) (lower.read ts)
 
 unfoldable pub index_names : Format IndexParts
@@ -264,7 +332,8 @@ from_index (I.Augments x) = Some (inr x)
 unfoldable pub index : Format Index
 index =
     shaped to_index from_index
-    (either (behind (word (codes "INDEX")) (braced index_names)) (behind (word (codes "AUGMENTS")) (braced lower)))
+    (either (behind (word (codes "INDEX")) (braced index_names)) (behind (word (codes "AUGMENTS"))
+    (braced lower)))
 
 -- raw runs
 
@@ -272,12 +341,14 @@ unfoldable pub before_assign : Format TokenText
 before_assign = kept (no_kind K.Assign ∷ []) (λ k x. not (same_kind k K.Assign))
 
 unfoldable pub before_end : Format TokenText
-before_end = kept (no_word (codes "END") ∷ []) (λ k x. not (same_kind k K.Upper && same_text x (codes "END")))
+before_end = kept (no_word (codes "END") ∷ []) (λ k x. not (same_kind k K.Upper && same_text x
+    (codes "END")))
 
 -- how many braces are open behind a token of this kind
 abbrev pub depth_after : TokenKind → ℕ → ℕ
 depth_after k depth =
-    if same_kind k K.OpenBrace then depth + 1 else (if same_kind k K.CloseBrace then depth - 1 else depth)
+    if same_kind k K.OpenBrace then depth + 1 else
+    (if same_kind k K.CloseBrace then depth - 1 else depth)
 
 -- such a token closes a brace that is not open
 abbrev pub is_outside : TokenKind → ℕ → Bool
@@ -286,7 +357,8 @@ is_outside k depth = same_kind k K.CloseBrace && (depth == 0)
 -- with so many braces open, each brace is closed again, and none is closed that is not open
 unfoldable pub is_balanced : ℕ → List TokenText → Bool
 is_balanced depth [] = depth == 0
-is_balanced depth (x ∷ xs) = not (is_outside x.kind depth) && is_balanced (depth_after x.kind depth) xs
+is_balanced depth (x ∷ xs) = not (is_outside x.kind depth) && is_balanced
+    (depth_after x.kind depth) xs
 
 abbrev pub raw_marks : List TokenText → List Mark
 raw_marks xs = map (λ x. spelled x.kind x.text true) xs
@@ -316,9 +388,11 @@ abbrev pub from_revision : Revision → Option (List ℕ × List ℕ)
 from_revision r = Some (r.date, r.description)
 
 unfoldable pub revision : Format Revision
-revision = shaped to_revision from_revision (pair (clause (codes "REVISION")) (clause (codes "DESCRIPTION")))
+revision = shaped to_revision from_revision (pair (clause (codes "REVISION")) (clause
+    (codes "DESCRIPTION")))
 
-abbrev pub to_module_identity : List ℕ × (List ℕ × (List ℕ × (List ℕ × (List Revision × List Part)))) → ModuleIdentity
+abbrev pub to_module_identity : List ℕ × (List ℕ × (List ℕ × (List ℕ × (List Revision
+    × List Part)))) → ModuleIdentity
 to_module_identity p = record {
   last_updated = p.0;
   organization = p.1.0;
@@ -328,14 +402,28 @@ to_module_identity p = record {
   value = p.1.1.1.1.1;
 }
 
-abbrev pub from_module_identity : ModuleIdentity → Option (List ℕ × (List ℕ × (List ℕ × (List ℕ × (List Revision × List Part)))))
-from_module_identity m = Some (m.last_updated, (m.organization, (m.contact_info, (m.description, (m.revisions, m.value)))))
+abbrev pub from_module_identity : ModuleIdentity
+    → Option (List ℕ × (List ℕ × (List ℕ × (List ℕ × (List Revision × List Part)))))
+from_module_identity m = Some (
+  m.last_updated,
+  (
+    m.organization,
+    (
+      m.contact_info,
+      (
+        m.description,
+        (m.revisions, m.value),
+      ),
+    ),
+  ),
+)
 
 unfoldable pub module_identity : Format ModuleIdentity
 module_identity =
     behind (word (codes "MODULE-IDENTITY"))
     (shaped to_module_identity from_module_identity
-    (pair (clause (codes "LAST-UPDATED")) (pair (clause (codes "ORGANIZATION")) (pair (clause (codes "CONTACT-INFO"))
+    (pair (clause (codes "LAST-UPDATED")) (pair (clause (codes "ORGANIZATION")) (pair (clause
+    (codes "CONTACT-INFO"))
     (pair (clause (codes "DESCRIPTION")) (pair (many revision) value))))))
 
 abbrev pub to_object_identity : Status × List Part → ObjectIdentity
@@ -345,9 +433,11 @@ abbrev pub from_object_identity : ObjectIdentity → Option (Status × List Part
 from_object_identity d = Some (d.status, d.value)
 
 unfoldable pub object_identity : Format ObjectIdentity
-object_identity = behind (word (codes "OBJECT-IDENTITY")) (shaped to_object_identity from_object_identity (pair status value))
+object_identity = behind (word (codes "OBJECT-IDENTITY"))
+    (shaped to_object_identity from_object_identity (pair status value))
 
-abbrev pub to_object_type : Syntax × (Option (List ℕ) × (List ℕ × (Status × (Option Index × (Option (List TokenText) × List Part))))) → ObjectType
+abbrev pub to_object_type : Syntax × (Option (List ℕ) × (List ℕ × (Status × (Option Index
+    × (Option (List TokenText) × List Part))))) → ObjectType
 to_object_type p = record {
   syntax = p.0;
   units = p.1.0;
@@ -358,8 +448,25 @@ to_object_type p = record {
   value = p.1.1.1.1.1.1;
 }
 
-abbrev pub from_object_type : ObjectType → Option (Syntax × (Option (List ℕ) × (List ℕ × (Status × (Option Index × (Option (List TokenText) × List Part))))))
-from_object_type d = Some (d.syntax, (d.units, (d.max_access, (d.status, (d.index, (d.default, d.value))))))
+abbrev pub from_object_type : ObjectType
+    → Option (Syntax × (Option (List ℕ) × (List ℕ × (Status × (Option Index
+    × (Option (List TokenText) × List Part))))))
+from_object_type d = Some (
+  d.syntax,
+  (
+    d.units,
+    (
+      d.max_access,
+      (
+        d.status,
+        (
+          d.index,
+          (d.default, d.value),
+        ),
+      ),
+    ),
+  ),
+)
 
 unfoldable pub default_value : Format (List TokenText)
 default_value = behind (word (codes "DEFVAL")) (braced balanced)
@@ -378,7 +485,8 @@ object_type =
 abbrev pub to_notification_type : Option (List Name) × (Status × List Part) → NotificationType
 to_notification_type p = record { objects = p.0; status = p.1.0; value = p.1.1 }
 
-abbrev pub from_notification_type : NotificationType → Option (Option (List Name) × (Status × List Part))
+abbrev pub from_notification_type : NotificationType
+    → Option (Option (List Name) × (Status × List Part))
 from_notification_type d = Some (d.objects, (d.status, d.value))
 
 unfoldable pub objects : Format (List Name)
@@ -397,7 +505,8 @@ from_group d = Some (d.members, (d.status, d.value))
 
 -- a group behind its word, its members behind theirs
 unfoldable pub group : List ℕ → List ℕ → Format Group
-group w v = behind (word w) (shaped to_group from_group (pair (behind (word v) names) (pair status value)))
+group w v = behind (word w) (shaped to_group from_group (pair (behind (word v) names)
+    (pair status value)))
 
 abbrev pub to_raw_definition : List TokenText × List Part → RawDefinition
 to_raw_definition p = record { clauses = p.0; value = p.1 }
@@ -406,7 +515,8 @@ abbrev pub from_raw_definition : RawDefinition → Option (List TokenText × Lis
 from_raw_definition d = Some (d.clauses, d.value)
 
 unfoldable pub raw_definition : List ℕ → Format RawDefinition
-raw_definition w = behind (word w) (shaped to_raw_definition from_raw_definition (pair (many before_assign) value))
+raw_definition w = behind (word w) (shaped to_raw_definition from_raw_definition (pair
+    (many before_assign) value))
 
 unfoldable pub object_identifier : Format (List Part)
 object_identifier = behind object_identifier_words value
@@ -414,7 +524,8 @@ object_identifier = behind object_identifier_words value
 abbrev pub to_textual_convention : Option (List ℕ) × (Status × Syntax) → TextualConvention
 to_textual_convention p = record { display_hint = p.0; status = p.1.0; syntax = p.1.1 }
 
-abbrev pub from_textual_convention : TextualConvention → Option (Option (List ℕ) × (Status × Syntax))
+abbrev pub from_textual_convention : TextualConvention
+    → Option (Option (List ℕ) × (Status × Syntax))
 from_textual_convention d = Some (d.display_hint, (d.status, d.syntax))
 
 unfoldable pub textual_convention : Format TextualConvention
@@ -426,7 +537,8 @@ textual_convention =
 -- a definition by a name in lower case, by what stands behind it
 abbrev pub Lower : Type 0
 Lower =
-    ObjectType ⊎ (List Part ⊎ (ObjectIdentity ⊎ (ModuleIdentity ⊎ (NotificationType ⊎ (Group ⊎ (Group ⊎ (RawDefinition ⊎ RawDefinition)))))))
+    ObjectType ⊎ (List Part ⊎ (ObjectIdentity ⊎ (ModuleIdentity ⊎ (NotificationType ⊎ (Group
+    ⊎ (Group ⊎ (RawDefinition ⊎ RawDefinition)))))))
 
 abbrev pub to_lower : Lower → DefKind
 to_lower (inl d) = D.ObjectType d
@@ -458,26 +570,33 @@ from_lower (D.Macro d) = None
 unfoldable pub lower_definition : Format DefKind
 lower_definition =
     shaped to_lower from_lower
-    (either object_type (either object_identifier (either object_identity (either module_identity (either notification_type
-    (either (group (codes "OBJECT-GROUP") (codes "OBJECTS")) (either (group (codes "NOTIFICATION-GROUP") (codes "NOTIFICATIONS"))
-    (either (raw_definition (codes "MODULE-COMPLIANCE")) (raw_definition (codes "AGENT-CAPABILITIES"))))))))))
+    (either object_type (either object_identifier (either object_identity (either module_identity
+    (either notification_type
+    (either (group (codes "OBJECT-GROUP") (codes "OBJECTS")) (either (group
+    (codes "NOTIFICATION-GROUP") (codes "NOTIFICATIONS"))
+    (either (raw_definition (codes "MODULE-COMPLIANCE")) (raw_definition
+    (codes "AGENT-CAPABILITIES"))))))))))
 
 -- a type, by what stands behind `::=`
 unfoldable pub tag : Format (List ℕ)
 tag =
     behind (token K.OpenBracket) (behind (word (codes "APPLICATION"))
-    (before (text_where K.Number is_number) (behind (token K.CloseBracket) (word (codes "IMPLICIT")))))
+    (before (text_where K.Number is_number) (behind (token K.CloseBracket) (word
+    (codes "IMPLICIT")))))
 
 abbrev pub Assigned : Type 0
-Assigned = TextualConvention ⊎ (List TokenText ⊎ ((List ℕ × Syntax) ⊎ ((List Field ⊎ Name) ⊎ SimpleType)))
+Assigned = TextualConvention ⊎ (List TokenText ⊎ ((List ℕ
+    × Syntax) ⊎ ((List Field ⊎ Name) ⊎ SimpleType)))
 
 abbrev pub to_assigned : Assigned → DefKind
 to_assigned (inl d) = D.TextualConvention d
 to_assigned (inr (inl d)) = D.Choice d
 to_assigned (inr (inr (inl (n, t)))) = D.TypeAssignment (record { tag = Some n; syntax = t })
 to_assigned (inr (inr (inr (inl (inl d))))) = D.Sequence d
-to_assigned (inr (inr (inr (inl (inr x))))) = D.TypeAssignment (record { tag = None; syntax = T.SequenceOf x })
-to_assigned (inr (inr (inr (inr t)))) = D.TypeAssignment (record { tag = None; syntax = T.Simple t })
+to_assigned (inr (inr (inr (inl (inr x))))) = D.TypeAssignment
+    (record { tag = None; syntax = T.SequenceOf x })
+to_assigned (inr (inr (inr (inr t)))) = D.TypeAssignment
+    (record { tag = None; syntax = T.Simple t })
 
 abbrev pub from_type : Option (List ℕ) → Syntax → Assigned
 from_type (Some n) t = inr (inr (inl (n, t)))
@@ -516,7 +635,8 @@ assigned =
 
 unfoldable pub macro_body : Format (List TokenText)
 macro_body =
-    behind (word (codes "MACRO")) (behind (token K.Assign) (behind (word (codes "BEGIN")) (before (many before_end) (word (codes "END")))))
+    behind (word (codes "MACRO")) (behind (token K.Assign) (behind (word (codes "BEGIN")) (before
+    (many before_end) (word (codes "END")))))
 
 abbrev pub to_macro : List TokenText → DefKind
 to_macro xs = D.Macro xs
@@ -550,7 +670,8 @@ to_upper (inr k) = k
 
 -- what stands behind a name in upper case
 unfoldable pub upper_definition : Format DefKind
-upper_definition = shaped to_upper from_upper (either (behind (token K.Assign) assigned) macro_definition)
+upper_definition = shaped to_upper from_upper (either (behind
+    (token K.Assign) assigned) macro_definition)
 
 -- the name of a macro that is a reserved word
 abbrev pub macro_words : List Ahead
@@ -598,7 +719,8 @@ from_import i = Some (i.line, (i.symbols, i.source))
 
 unfoldable pub import_clause : Format Import
 import_clause =
-    shaped to_import from_import (lined (pair (separated K.Comma symbol) (behind (word (codes "FROM")) name)))
+    shaped to_import from_import (lined (pair (separated K.Comma symbol) (behind (word
+    (codes "FROM")) name)))
 
 unfoldable pub imports : Format (List Import)
 imports = behind (word (codes "IMPORTS")) (before (many import_clause) (token K.Semicolon))
@@ -630,7 +752,8 @@ abbrev pub from_module : Module → Option (Head × List Def)
 from_module m = Some (head_of m, m.defs)
 
 unfoldable pub module_text : Format Module
-module_text = shaped to_module from_module (pair head (before (many definition) (word (codes "END"))))
+module_text = shaped to_module from_module (pair head (before (many definition) (word
+    (codes "END"))))
 
 unfoldable pub file : Format (List Module)
 file = many module_text

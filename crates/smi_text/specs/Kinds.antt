@@ -1,7 +1,14 @@
 -- Kinds of tokens: words, and signs, which have one text each.
 use Rattle.std.specs.Prelude.{Bool, true, false}
 use Rattle.smi_lexer.specs.declared.token.TokenKind.{TokenKind}
-use Rattle.smi_lexer.specs.declared.token.TokenKind.TheVariants.{Lower, Upper, Number, Text, Hex, Binary}
+use Rattle.smi_lexer.specs.declared.token.TokenKind.TheVariants.{
+  Lower,
+  Upper,
+  Number,
+  Text,
+  Hex,
+  Binary,
+}
 
 abbrev pub is_word_kind : TokenKind → Bool
 is_word_kind Lower = true

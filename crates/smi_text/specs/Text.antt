@@ -32,7 +32,8 @@ pub record BreaksOff (fault : LexError) (text : List ℕ) : Type 0 where
   pub lexed : Lexes [] text items
   pub at : fault_of items ≡ Some fault
 
--- the tokens begin with definitions, the last of which stands on this line and is the first that defines a name again
+-- the tokens begin with definitions, the last of which stands on this line and is the first that
+-- defines a name again
 pub record HasSecond (line : ℕ) (tokens : List Lexeme) : Type 0 where
   pub before : List Def
   pub once : are_distinct (labels before) ≡ true

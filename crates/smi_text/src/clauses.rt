@@ -251,7 +251,8 @@ impl<'a> Parser<'a> {
         }
     }
 
-    /// Reads tokens up to the brace that closes the one before them. Each brace between them is closed again.
+    /// Reads tokens up to the brace that closes the one before them. Each brace between them is
+    /// closed again.
     fn balanced(&mut self) -> Result<Items<TokenText>, Stop>
         ensures { Gives result self.new (grammar.balanced.read self.old) }
     {

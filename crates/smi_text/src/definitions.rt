@@ -193,7 +193,8 @@ impl<'a> Parser<'a> {
 
     /// Reads the columns of a row with their braces.
     fn fields(&mut self) -> Result<Items<Field>, Stop>
-        ensures { Gives result self.new ((grammar.braced (format.separated TokenKind.Comma grammar.field)).read self.old) }
+        ensures { Gives result self.new ((grammar.braced (format.separated TokenKind.Comma
+            grammar.field)).read self.old) }
     {
         self.sign(TokenKind::OpenBrace)?;
         let first = self.field()?;

@@ -10,7 +10,8 @@ pub enum ParseError {
     /// The text has something that is no token.
     #[error(transparent)]
     Lex(LexError),
-    /// No module text can go on with the token in this line, or the text ends too early in its last line.
+    /// No module text can go on with the token in this line, or the text ends too early in its last
+    /// line.
     #[error("line {line}: no module goes on like this")]
     Syntax { line: usize },
     /// The definition in this line gives a name that its module has defined before.

@@ -1,12 +1,15 @@
 //! The whole of a module text: its tokens, and then its modules one after the other.
 #![tactic(auto, unfolding(crate::specs::Format::begins))]
 
-ghost use Rattle.std.specs.Prelude.{◌≡◌, List, [], IfOk, IfErr, IfSome, MatchResult, MatchBool, map, true, ◌↔◌};
+ghost use Rattle.std.specs.Prelude.{◌≡◌, List, [], IfOk, IfErr, IfSome, MatchResult, MatchBool};
+ghost use Rattle.std.specs.Prelude.{map, true, ◌↔◌};
 ghost use Rattle.smi_lexer.specs.Token.{Lexeme};
 ghost use Rattle.smi_module.specs.Mark.{Stands};
 ghost use Rattle.smi_module.specs.Spelling.{spelling};
 ghost use Rattle.smi_module.specs.Lines.{plain, unlined};
-ghost use Rattle.smi_text.specs.Gives.{ReadsDefinitions, ReadsModule, ReadsModules, DefinitionsFault, ModuleFault, ModulesFault, IsLabelAhead, IsCauseOf};
+ghost use Rattle.smi_text.specs.Gives.{ReadsDefinitions, ReadsModule, ReadsModules};
+ghost use Rattle.smi_text.specs.Gives.{DefinitionsFault, ModuleFault, ModulesFault, IsLabelAhead};
+ghost use Rattle.smi_text.specs.Gives.{IsCauseOf};
 ghost use Rattle.smi_text.specs.Text.{Spells, HasNoDoubles, IsCause, BreaksOff};
 ghost use Rattle.smi_module.specs.Braces.{IsBalanced};
 ghost use Rattle.smi_text.specs.Grammar.{is_balanced};
@@ -93,7 +96,8 @@ fn first_fault(text: &[u8]) -> Option<LexError>
     None
 }
 
-/// Why a text is refused, where its reading stopped so. A stop in the lexer is at the text's own fault.
+/// Why a text is refused, where its reading stopped so. A stop in the lexer is at the text's own
+/// fault.
 fn cause_of(stop: ParseError, text: &[u8]) -> ParseError
     ensures { IsCauseOf stop result text.now }
 {
@@ -116,7 +120,8 @@ pub fn parse_modules(alloc: Global, text: &[u8]) -> Result<Vec<Module>, ParseErr
     // What is read is what the text spells, and no module of it defines a name twice.
     ensures found { IfOk result (λ ms. Spells ms.items text.now × HasNoDoubles ms.items) }
     // Such modules are read, memory aside.
-    ensures only { (ms : List Tree) → Spells ms text.now → HasNoDoubles ms → MatchResult result (λ found. found.items ≡ ms) (λ error. error ≡ ParseError.Memory) }
+    ensures only { (ms : List Tree) → Spells ms text.now → HasNoDoubles ms
+        → MatchResult result (λ found. found.items ≡ ms) (λ error. error ≡ ParseError.Memory) }
 
     // Each error comes only with its cause.
     ensures cause { IfErr result (λ error. IsCause error text.now) }
@@ -130,12 +135,14 @@ pub fn parse_modules(alloc: Global, text: &[u8]) -> Result<Vec<Module>, ParseErr
 
 /// Tokens spell one list of modules at most.
 pub fn one_reading()
-    ensures { (ms ns : List Tree) (tokens : List Lexeme) → Stands (spelling ms) tokens [] → Stands (spelling ns) tokens [] → ms ≡ ns }
+    ensures { (ms ns : List Tree) (tokens : List Lexeme) → Stands (spelling ms) tokens []
+        → Stands (spelling ns) tokens [] → ms ≡ ns }
 {}
 
 /// Kinds and texts of tokens spell one list of modules at most, but for the lines in it.
 pub fn one_reading_without_lines()
-    ensures { (ms ns : List Tree) (tokens : List Lexeme) → Stands (map plain (spelling ms)) tokens [] → Stands (map plain (spelling ns)) tokens [] →
+    ensures { (ms ns : List Tree) (tokens : List Lexeme)
+        → Stands (map plain (spelling ms)) tokens [] → Stands (map plain (spelling ns)) tokens [] →
         map unlined ms ≡ map unlined ns }
 {}
 

@@ -10,7 +10,8 @@ use std::collections::BTreeSet;
 /// Puts a name among those that are there, and says whether it is new.
 pub(crate) fn add<'a>(names: &mut BTreeSet<&'a [u8]>, name: &'a [u8]) -> Result<bool, Stop>
     ensures new { IfOk result (λ new. new ≡ not (has names.old name.now)) }
-    ensures added { IfOk result (λ _. (x : List ℕ) → has names.new x ≡ (same_text name.now x || has names.old x)) }
+    ensures added { IfOk result (λ _. (x : List ℕ)
+        → has names.new x ≡ (same_text name.now x || has names.old x)) }
     ensures err { IfErr result (λ e. e ≡ Stop.Memory) }
 {
     match names.insert(name) {

@@ -1,9 +1,11 @@
 //! The tokens that are left of a text, and the steps in which every production is read.
 #![tactic(auto, unfolding(crate::specs::Format::lower, crate::specs::Format::word, crate::specs::Format::token, crate::specs::Format::text, crate::specs::Format::text_where, crate::specs::Format::name, crate::specs::Format::begins, crate::specs::Format::maybe, crate::specs::Format::behind, crate::specs::Grammar::clause))]
 
-ghost use Rattle.std.specs.Prelude.{◌≡◌, ℕ, true, false, MatchBool, List, [], ◌∷◌, codes, map, drop, IfNone, IfSome, IfOk, IfErr, OnOk, ◌++◌, ◌<◌, length};
+ghost use Rattle.std.specs.Prelude.{◌≡◌, ℕ, true, false, MatchBool, List, [], ◌∷◌, codes, map};
+ghost use Rattle.std.specs.Prelude.{drop, IfNone, IfSome, IfOk, IfErr, OnOk, ◌++◌, ◌<◌, length};
 ghost use Rattle.smi_lexer.specs.Token.{Lexeme, Item, lexeme_of};
-ghost use Rattle.smi_text.specs.Format.{Format, begins, token_ahead, a_word, a_kind, a_name, line_ahead, name_of, with_front};
+ghost use Rattle.smi_text.specs.Format.{Format, begins, token_ahead, a_word, a_kind, a_name};
+ghost use Rattle.smi_text.specs.Format.{line_ahead, name_of, with_front};
 ghost use Rattle.smi_text.specs.Kinds.{is_sign_kind, is_word_kind};
 ghost use Rattle.smi_text.specs.Format as format;
 ghost use Rattle.smi_lexer.specs.Lexes.{Lexes};
@@ -253,7 +255,8 @@ impl<'a> Parser<'a> {
     /// Moves past the token ahead, a word that is handed in, and keeps it as a name.
     pub(crate) fn take_name(&mut self, token: Token<'a>) -> Result<Name, Stop>
         requires { is_word_kind token.kind ≡ true }
-        ensures ok { IfOk result (λ x. (name_of token.entry.text.now ≡ Some x) × (self.new ≡ drop 1 self.old)) }
+        ensures ok { IfOk result (λ x. (name_of token.entry.text.now ≡ Some x)
+            × (self.new ≡ drop 1 self.old)) }
         ensures err { IfErr result (λ e. e ≡ Stop.Memory) }
     {
         let octets = self.take_text(token.text)?;
@@ -303,7 +306,8 @@ impl<'a> Parser<'a> {
 
     /// Moves past the token ahead, whose kind and text are handed in, and keeps them.
     pub(crate) fn take_token(&mut self, kind: TokenKind, text: &[u8]) -> Result<TokenText, Stop>
-        ensures ok { IfOk result (λ x. (x ≡ record { kind = kind; text = text.now }) × (self.new ≡ drop 1 self.old)) }
+        ensures ok { IfOk result (λ x. (x ≡ record { kind = kind; text = text.now })
+            × (self.new ≡ drop 1 self.old)) }
         ensures err { IfErr result (λ e. e ≡ Stop.Memory) }
     {
         let text = self.take_text(text)?;
@@ -317,7 +321,8 @@ impl<'a> Parser<'a> {
     ) -> Result<Items<P::Output>, Stop>
     where
         P::Output: Drop,
-        ensures { Gives result self.new (with_front items.items ((format.many P.format).read self.old)) }
+        ensures { Gives result self.new (with_front items.items ((format.many P.format).read
+            self.old)) }
     {
         let mut items = items;
         'each: while P::is_ahead(self) {
@@ -337,14 +342,16 @@ impl<'a> Parser<'a> {
         self.many_after::<P>(items)
     }
 
-    /// Reads any number of a production, and puts them behind the first part, which was read before.
+    /// Reads any number of a production, and puts them behind the first part, which was read
+    /// before.
     pub(crate) fn and_more<P: Production>(
         &mut self,
         first: P::Output,
     ) -> Result<Items<P::Output>, Stop>
     where
         P::Output: Drop,
-        ensures { Gives result self.new (with_front (first ∷ []) ((format.many P.format).read self.old)) }
+        ensures { Gives result self.new (with_front (first ∷ []) ((format.many P.format).read
+            self.old)) }
     {
         let mut items = self.list();
         keep(&mut items, first)?;

@@ -131,7 +131,8 @@ impl<'a> Parser<'a> {
 
     /// Reads such a number in parentheses, if they are ahead.
     fn arc_if_any(&mut self) -> Result<Option<Text>, Stop>
-        ensures { Gives result self.new ((format.maybe (grammar.parenthesized grammar.arc)).read self.old) }
+        ensures { Gives result self.new ((format.maybe (grammar.parenthesized grammar.arc)).read
+            self.old) }
     {
         if self.at_kind(TokenKind::OpenParen) {
             Ok(Some(self.arc_in_parentheses()?))
@@ -187,7 +188,8 @@ impl<'a> Parser<'a> {
 
     /// Reads a number of any sign, -9223372036854775808 to 18446744073709551615.
     pub(crate) fn number(&mut self) -> Result<Text, Stop>
-        ensures { Gives result self.new ((format.text_where TokenKind.Number is_number).read self.old) }
+        ensures { Gives result self.new ((format.text_where TokenKind.Number is_number).read
+            self.old) }
     {
         match self.peek() {
             Some(token) if token.kind == TokenKind::Number && is_number(token.text) => {
@@ -210,7 +212,8 @@ impl<'a> Parser<'a> {
 
     /// Whether an end of a range is ahead.
     fn at_bound(&self) -> bool
-        ensures { result ≡ begins (a_kind TokenKind.Number ∷ a_kind TokenKind.Hex ∷ a_kind TokenKind.Binary ∷ []) self.now }
+        ensures { result ≡ begins (a_kind TokenKind.Number ∷ a_kind TokenKind.Hex ∷ a_kind
+            TokenKind.Binary ∷ []) self.now }
     {
         match self.peek() {
             Some(token) => {
@@ -237,7 +240,8 @@ impl<'a> Parser<'a> {
 
     /// Reads the upper end of a range, if `..` is ahead.
     fn upper_bound_if_any(&mut self) -> Result<Option<TokenText>, Stop>
-        ensures { Gives result self.new ((format.maybe (format.behind (format.token TokenKind.Range) grammar.bound)).read self.old) }
+        ensures { Gives result self.new ((format.maybe (format.behind (format.token
+            TokenKind.Range) grammar.bound)).read self.old) }
     {
         if self.at_kind(TokenKind::Range) {
             self.sign(TokenKind::Range)?;
@@ -277,7 +281,8 @@ impl<'a> Parser<'a> {
 
     /// Reads named numbers in braces.
     fn numbers(&mut self) -> Result<Items<NamedNumber>, Stop>
-        ensures { Gives result self.new ((grammar.braced (format.separated TokenKind.Comma grammar.named_number)).read self.old) }
+        ensures { Gives result self.new ((grammar.braced (format.separated TokenKind.Comma
+            grammar.named_number)).read self.old) }
     {
         self.sign(TokenKind::OpenBrace)?;
         let first = self.named_number()?;

@@ -1,6 +1,32 @@
 -- Pieces of the texts of values.
-use Rattle.std.specs.Prelude.{ℕ, pos, ◌+◌, ◌*◌, ◌/◌, ◌%◌, Bool, true, false, ◌&&◌, ◌||◌, ◌==◌, nat_le, nat_lt}
-use Rattle.std.specs.Prelude.{if◌then◌else◌, List, [], ◌∷◌, ◌++◌, Option, Some, None, codes, decimal}
+use Rattle.std.specs.Prelude.{
+  ℕ,
+  pos,
+  ◌+◌,
+  ◌*◌,
+  ◌/◌,
+  ◌%◌,
+  Bool,
+  true,
+  false,
+  ◌&&◌,
+  ◌||◌,
+  ◌==◌,
+  nat_le,
+  nat_lt,
+}
+use Rattle.std.specs.Prelude.{
+  if◌then◌else◌,
+  List,
+  [],
+  ◌∷◌,
+  ◌++◌,
+  Option,
+  Some,
+  None,
+  codes,
+  decimal,
+}
 use Rattle.std.specs.List.{flat_map, list_all, enumerate_from}
 use Rattle.text_draft.specs.Draft.{hexadecimal_octet}
 use Rattle.smi_letters.specs.declared.letters.Letters.{Letters}

@@ -5,12 +5,26 @@ use Rattle.std.specs.Fmt.{signed_decimal}
 use Rattle.smi_hint.specs.Hint.{IsOfNumbers, IsOfOctets, ShowsNumber}
 use Rattle.smi_hint.specs.Pieces.{ShowsOctets}
 use Rattle.smi_letters.specs.declared.letters.Letters.{Letters}
-use Rattle.snmp_ber.specs.Value.{Datum, integer_value, octet_string, null_value, object_id, ip_address}
+use Rattle.snmp_ber.specs.Value.{
+  Datum,
+  integer_value,
+  octet_string,
+  null_value,
+  object_id,
+  ip_address,
+}
 use Rattle.snmp_ber.specs.Value.{counter32, gauge32, time_ticks, opaque_octets, counter64}
 use Rattle.snmp_ber.specs.Value.{no_such_object, no_such_instance, end_of_mib_view}
 use Rattle.smi_value.specs.declared.base.ValueBase.TheVariants as base
 use Rattle.smi_value.specs.Syntax.{ObjectSyntax, syntax_at, is_of_bits, name_of}
-use Rattle.smi_value.specs.Pieces.{type_word, units_text, named_text, ticks_text, string_text, bits_text}
+use Rattle.smi_value.specs.Pieces.{
+  type_word,
+  units_text,
+  named_text,
+  ticks_text,
+  string_text,
+  bits_text,
+}
 use Rattle.smi_value.specs.Pieces.{address_text, hexadecimal_text}
 
 -- a number under a hint of integers, else in decimal digits

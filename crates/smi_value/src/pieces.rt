@@ -1,10 +1,15 @@
 //! The pieces of the texts of values.
-ghost use Rattle.std.specs.Prelude.{◌≡◌, ◌<◌, ◌+◌, ◌*◌, ◌∷◌, ◌++◌, [], pos, List, ℕ, codes, decimal, if◌then◌else◌, ◌/◌, ◌^◌};
+ghost use Rattle.std.specs.Prelude.{◌≡◌, ◌<◌, ◌+◌, ◌*◌, ◌∷◌, ◌++◌, [], pos, List, ℕ, codes};
+ghost use Rattle.std.specs.Prelude.{decimal, if◌then◌else◌, ◌/◌, ◌^◌};
 ghost use Rattle.std.specs.Fmt.{signed_decimal};
 ghost use Rattle.std.specs.List.{flat_map, list_all, enumerate_from};
 ghost use Rattle.std.specs.Option.{option_copied};
 ghost use Rattle.text_draft.specs.Draft.{Adds};
-ghost use Rattle.smi_value.specs.Pieces.{is_typed, type_word, units_text, is_printable, escaped, dotted, quoted, dumped, hexadecimal_text, is_text, string_text, address_text, two_digits, days_text, clock_text, ticks_text, named_text, bit_name, octet_bits, bits_text, bit_text};
+ghost use Rattle.smi_value.specs.Pieces.{is_typed, type_word, units_text, is_printable, escaped};
+ghost use Rattle.smi_value.specs.Pieces.{dotted, quoted, dumped, hexadecimal_text, is_text};
+ghost use Rattle.smi_value.specs.Pieces.{string_text, address_text, two_digits, days_text};
+ghost use Rattle.smi_value.specs.Pieces.{clock_text, ticks_text, named_text, bit_name, octet_bits};
+ghost use Rattle.smi_value.specs.Pieces.{bits_text, bit_text};
 ghost use Rattle.smi_value.specs.Syntax.{name_of};
 
 use crate::syntax::name_of;
@@ -249,7 +254,8 @@ pub(crate) fn append_bits(
 
 /// Appends the bits that are set.
 fn append_set_bits(draft: &mut Draft, letters: &Letters, names: &[NamedNumber], octets: &[u8])
-    ensures { let bits = flat_map (octet_bits letters.now names.now) (enumerate_from 0 octets.now) in
+    ensures { let bits = flat_map (octet_bits letters.now names.now) (enumerate_from 0 octets.now)
+        in
         Adds draft.old bits draft.new }
 {
     'octets: for (place, octet) in octets.iter().enumerate() {
@@ -294,7 +300,8 @@ fn append_if_set(draft: &mut Draft, letters: &Letters, names: &[NamedNumber], bi
 /// Appends a bit that is set: its name and number, or its number.
 fn append_bit(draft: &mut Draft, letters: &Letters, names: &[NamedNumber], bit: u128)
     requires { bit < 2 ^ 68 }
-    ensures { Adds draft.old (bit_name letters.now (name_of names.now (pos bit)) (decimal bit)) draft.new }
+    ensures { Adds draft.old (bit_name letters.now (name_of names.now (pos bit)) (decimal bit))
+        draft.new }
 {
     let mut buffer = Buffer::new();
     let number = buffer.format(bit).as_bytes();

@@ -1,7 +1,8 @@
 //! What is known of the object of a value.
 ghost use Rattle.std.specs.Prelude.{◌≡◌, None, Some, IsTrue, ◌↔◌};
 ghost use Rattle.std.specs.Option.{option_map, option_copied};
-ghost use Rattle.smi_value.specs.Syntax.{ObjectSyntax, syntax_at, name_of, is_number_of, is_of_bits};
+ghost use Rattle.smi_value.specs.Syntax.{ObjectSyntax, syntax_at, name_of, is_number_of};
+ghost use Rattle.smi_value.specs.Syntax.{is_of_bits};
 
 use crate::base::ValueBase;
 use smi_module::{NamedNumber, number};
@@ -29,7 +30,8 @@ impl<'a> Model for ValueSyntax<'a> {
 }
 
 impl<'a> ValueSyntax<'a> {
-    /// The syntax of an object: the type of its values, the names of its numbers or bits, its display
+    /// The syntax of an object: the type of its values, the names of its numbers or bits, its
+    /// display
     /// hint, and its units.
     pub fn new(
         base: ValueBase,

@@ -5,7 +5,8 @@ ghost use Rattle.text_draft.specs.Draft.{Adds};
 ghost use Rattle.snmp_ber.specs.Value.{datum, integer_value, octet_string};
 ghost use Rattle.smi_value.specs.Syntax.{syntax_at, name_of};
 ghost use Rattle.smi_value.specs.Pieces.{type_word};
-ghost use Rattle.smi_value.specs.Value.{IsNumberText, IsTypedNumber, IsIntegerText, IsStringText, IsOctetsText, IsValueText, IsNoIdentifier, counter_text};
+ghost use Rattle.smi_value.specs.Value.{IsNumberText, IsTypedNumber, IsIntegerText, IsStringText};
+ghost use Rattle.smi_value.specs.Value.{IsOctetsText, IsValueText, IsNoIdentifier, counter_text};
 ghost use Rattle.smi_value.specs.declared.base.ValueBase.TheVariants as base;
 
 use crate::base::ValueBase;
@@ -23,7 +24,8 @@ use text_draft::Draft;
 /// value, as the letters say.
 ///
 /// The syntax is that of the object that the value belongs to, if it is known; of another type than
-/// the value's it has no effect. The text of an identifier is that of a name, which needs a tree: the
+/// the value's it has no effect. The text of an identifier is that of a name, which needs a tree:
+/// the
 /// caller appends it after [`append_identifier_word`].
 pub fn append_value(
     draft: &mut Draft,
@@ -83,7 +85,8 @@ pub fn append_value(
     }
 }
 
-/// Appends the word of an identifier, which stands before the text of its name, unless `q` or `Q` is
+/// Appends the word of an identifier, which stands before the text of its name, unless `q` or `Q`
+/// is
 /// given.
 pub fn append_identifier_word(draft: &mut Draft, letters: &Letters)
     ensures { Adds draft.old (type_word letters.now (codes "OID: ")) draft.new }

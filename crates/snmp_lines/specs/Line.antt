@@ -1,9 +1,48 @@
--- The line that a tool prints of a variable binding, with names and identifiers in numbers: `name = TYPE: value`.
-use Rattle.std.specs.Prelude.{ℕ, ℤ, ◌+◌, ◌*◌, ◌/◌, ◌%◌, Bool, true, false, ◌&&◌, ◌||◌, ◌==◌, nat_le, nat_lt, if◌then◌else◌, List, [], ◌∷◌, ◌++◌, codes, decimal}
+-- The line that a tool prints of a variable binding, with names and identifiers in numbers:
+-- `name = TYPE: value`.
+use Rattle.std.specs.Prelude.{
+  ℕ,
+  ℤ,
+  ◌+◌,
+  ◌*◌,
+  ◌/◌,
+  ◌%◌,
+  Bool,
+  true,
+  false,
+  ◌&&◌,
+  ◌||◌,
+  ◌==◌,
+  nat_le,
+  nat_lt,
+  if◌then◌else◌,
+  List,
+  [],
+  ◌∷◌,
+  ◌++◌,
+  codes,
+  decimal,
+}
 use Rattle.std.specs.Fmt.{signed_decimal}
 use Rattle.std.specs.List.{flat_map, list_all, enumerate_from}
 use Rattle.snmp_oid.specs.Numeric.{numeric_text}
-use Rattle.snmp_wire.specs.Message.{Datum, integer_value, octet_string, null_value, object_id, ip_address, counter32, gauge32, time_ticks, opaque_octets, counter64, no_such_object, no_such_instance, end_of_mib_view, VarBind}
+use Rattle.snmp_wire.specs.Message.{
+  Datum,
+  integer_value,
+  octet_string,
+  null_value,
+  object_id,
+  ip_address,
+  counter32,
+  gauge32,
+  time_ticks,
+  opaque_octets,
+  counter64,
+  no_such_object,
+  no_such_instance,
+  end_of_mib_view,
+  VarBind,
+}
 
 -- a character of printable ASCII
 abbrev pub is_printable : ℕ → Bool
@@ -17,10 +56,12 @@ escaped octet = if (octet == 34) || (octet == 92) then 92 ∷ octet ∷ [] else 
 abbrev pub hex_digit : ℕ → ℕ
 hex_digit n = if nat_lt n 10 then 48 + n else 55 + n
 
--- two digits and a blank; at each place that a multiple of 16 octets precedes, but the first, a newline before them
+-- two digits and a blank; at each place that a multiple of 16 octets precedes, but the first, a
+-- newline before them
 abbrev pub hex_octet : ℕ × ℕ → List ℕ
 hex_octet (place, octet) =
-    (if nat_lt 0 place && (place % 16 == 0) then 10 ∷ [] else []) ++ hex_digit (octet / 16) ∷ hex_digit (octet % 16) ∷ 32 ∷ []
+    (if nat_lt 0 place && (place % 16 == 0) then 10 ∷ [] else [])
+    ++ hex_digit (octet / 16) ∷ hex_digit (octet % 16) ∷ 32 ∷ []
 
 abbrev pub hexadecimal : List ℕ → List ℕ
 hexadecimal octets = flat_map hex_octet (enumerate_from 0 octets)
@@ -44,7 +85,8 @@ two_digits n = (48 + n / 10) ∷ (48 + n % 10) ∷ []
 
 abbrev pub days_text : ℕ → List ℕ
 days_text days =
-    if days == 0 then [] else (if days == 1 then codes "1 day, " else decimal days ++ codes " days, ")
+    if days == 0 then []
+    else (if days == 1 then codes "1 day, " else decimal days ++ codes " days, ")
 
 -- hundredths of a second as days, hours, minutes, seconds and hundredths
 abbrev pub time_text : ℕ → List ℕ
@@ -68,7 +110,8 @@ value_text (opaque_octets octets) = codes "OPAQUE: " ++ hexadecimal octets
 value_text (counter64 n) = codes "Counter64: " ++ decimal n
 value_text no_such_object = codes "No Such Object available on this agent at this OID"
 value_text no_such_instance = codes "No Such Instance currently exists at this OID"
-value_text end_of_mib_view = codes "No more variables left in this MIB View (It is past the end of the MIB tree)"
+value_text end_of_mib_view =
+    codes "No more variables left in this MIB View (It is past the end of the MIB tree)"
 
 -- name, ` = `, value, newline
 abbrev pub line_of : VarBind → List ℕ

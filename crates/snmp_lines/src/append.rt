@@ -1,7 +1,9 @@
-//! The parts of a line that are made of several pieces: each function appends its text, or finds no memory and leaves what it has appended so far.
+//! The parts of a line that are made of several pieces: each function appends its text, or finds no
+//! memory and leaves what it has appended so far.
 ghost use Rattle.std.specs.Prelude.{◌≡◌, ℕ, ◌<◌, ◌∷◌, ◌++◌, OnOk, OnErr, decimal, List};
 ghost use Rattle.std.specs.List.{flat_map};
-ghost use Rattle.snmp_lines.specs.Line.{escaped, hex_digit, hex_octet, hexadecimal, address_text, two_digits, days_text, time_text};
+ghost use Rattle.snmp_lines.specs.Line.{escaped, hex_digit, hex_octet, hexadecimal, address_text};
+ghost use Rattle.snmp_lines.specs.Line.{two_digits, days_text, time_text};
 ghost use Rattle.snmp_lines.specs.Begun.{IsBegun};
 
 use crate::pieces::number;

@@ -9,7 +9,8 @@ use crate::value::typed;
 use snmp_wire::Binding;
 use std::alloc::AllocError;
 
-/// Appends the line of a binding: name, ` = `, value and a newline. Without memory `out` is unchanged.
+/// Appends the line of a binding: name, ` = `, value and a newline. Without memory `out` is
+/// unchanged.
 pub fn line(binding: &Binding<'_>, out: &mut Vec<u8>) -> Result<(), AllocError>
     ensures ok { OnOk result (out.new.items ≡ out.old.items ++ line_of (var_bind binding.now)) }
     ensures err { OnErr result (out.new.items ≡ out.old.items) }

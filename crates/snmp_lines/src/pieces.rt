@@ -1,4 +1,5 @@
-//! The plain pieces of lines and messages: each is appended, or without memory the target is unchanged.
+//! The plain pieces of lines and messages: each is appended, or without memory the target is
+//! unchanged.
 ghost use Rattle.std.specs.Prelude.{◌≡◌, ◌++◌, OnOk, OnErr, decimal};
 ghost use Rattle.std.specs.Fmt.{signed_decimal};
 ghost use Rattle.snmp_oid.specs.Numeric.{numeric_text};

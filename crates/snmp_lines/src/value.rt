@@ -5,16 +5,19 @@ ghost use Rattle.std.specs.List.{flat_map, list_all};
 ghost use Rattle.snmp_oid.specs.Numeric.{numeric_text};
 ghost use Rattle.snmp_wire.specs.Message.{datum};
 ghost use Rattle.snmp_lines.specs.Begun.{IsBegun};
-ghost use Rattle.snmp_lines.specs.Line.{address_text, escaped, hexadecimal, is_printable, string_text, time_text, value_text};
+ghost use Rattle.snmp_lines.specs.Line.{address_text, escaped, hexadecimal, is_printable};
+ghost use Rattle.snmp_lines.specs.Line.{string_text, time_text, value_text};
 
 use crate::{append, pieces};
 use snmp_oid::Oid;
 use snmp_wire::ValueRef;
 use std::alloc::AllocError;
 
-/// Appends the text of a value: its type, a colon, a blank and the value; of an exception a sentence.
+/// Appends the text of a value: its type, a colon, a blank and the value; of an exception a
+/// sentence.
 ///
-/// Strings are shown as text where each octet is printable ASCII, else in hexadecimal. Without memory `out` is unchanged.
+/// Strings are shown as text where each octet is printable ASCII, else in hexadecimal. Without
+/// memory `out` is unchanged.
 pub fn value_text(value: &ValueRef<'_>, out: &mut Vec<u8>) -> Result<(), AllocError>
     ensures ok { OnOk result (out.new.items ≡ out.old.items ++ value_text (datum value.now)) }
     ensures err { OnErr result (out.new.items ≡ out.old.items) }
@@ -69,7 +72,8 @@ fn number(out: &mut Vec<u8>, name: &[u8], n: u64) -> Result<(), AllocError>
 
 /// An INTEGER.
 fn integer(out: &mut Vec<u8>, n: i32) -> Result<(), AllocError>
-    ensures ok { OnOk result (out.new.items ≡ out.old.items ++ (codes "INTEGER: " ++ signed_decimal n)) }
+    ensures ok { OnOk result (out.new.items
+        ≡ out.old.items ++ (codes "INTEGER: " ++ signed_decimal n)) }
     ensures err { OnErr result (IsBegun out.old.items out.new.items) }
 {
     pieces::octets(out, b"INTEGER: ")?;
@@ -78,7 +82,8 @@ fn integer(out: &mut Vec<u8>, n: i32) -> Result<(), AllocError>
 
 /// An OBJECT IDENTIFIER.
 fn identifier(out: &mut Vec<u8>, oid: &Oid) -> Result<(), AllocError>
-    ensures ok { OnOk result (out.new.items ≡ out.old.items ++ (codes "OID: " ++ numeric_text oid.now)) }
+    ensures ok { OnOk result (out.new.items
+        ≡ out.old.items ++ (codes "OID: " ++ numeric_text oid.now)) }
     ensures err { OnErr result (IsBegun out.old.items out.new.items) }
 {
     pieces::octets(out, b"OID: ")?;
@@ -87,7 +92,8 @@ fn identifier(out: &mut Vec<u8>, oid: &Oid) -> Result<(), AllocError>
 
 /// An IpAddress.
 fn address(out: &mut Vec<u8>, octets: &[u8; 4]) -> Result<(), AllocError>
-    ensures ok { OnOk result (out.new.items ≡ out.old.items ++ (codes "IpAddress: " ++ address_text octets.now)) }
+    ensures ok { OnOk result (out.new.items
+        ≡ out.old.items ++ (codes "IpAddress: " ++ address_text octets.now)) }
     ensures err { OnErr result (IsBegun out.old.items out.new.items) }
 {
     pieces::octets(out, b"IpAddress: ")?;
@@ -96,7 +102,8 @@ fn address(out: &mut Vec<u8>, octets: &[u8; 4]) -> Result<(), AllocError>
 
 /// TimeTicks: the number, and behind it the time that it stands for.
 fn ticks(out: &mut Vec<u8>, n: u32) -> Result<(), AllocError>
-    ensures ok { OnOk result (out.new.items ≡ out.old.items ++ (codes "Timeticks: (" ++ decimal n ++ codes ") " ++ time_text n)) }
+    ensures ok { OnOk result (out.new.items ≡ out.old.items ++ (codes "Timeticks: (" ++ decimal n
+        ++ codes ") " ++ time_text n)) }
     ensures err { OnErr result (IsBegun out.old.items out.new.items) }
 {
     number(out, b"Timeticks: (", u64::from(n))?;
@@ -106,7 +113,8 @@ fn ticks(out: &mut Vec<u8>, n: u32) -> Result<(), AllocError>
 
 /// An Opaque value.
 fn opaque(out: &mut Vec<u8>, octets: &[u8]) -> Result<(), AllocError>
-    ensures ok { OnOk result (out.new.items ≡ out.old.items ++ (codes "OPAQUE: " ++ hexadecimal octets.now)) }
+    ensures ok { OnOk result (out.new.items
+        ≡ out.old.items ++ (codes "OPAQUE: " ++ hexadecimal octets.now)) }
     ensures err { OnErr result (IsBegun out.old.items out.new.items) }
 {
     pieces::octets(out, b"OPAQUE: ")?;
@@ -131,7 +139,8 @@ fn string(out: &mut Vec<u8>, octets: &[u8]) -> Result<(), AllocError>
 
 /// A string as text.
 fn quoted(out: &mut Vec<u8>, octets: &[u8]) -> Result<(), AllocError>
-    ensures ok { OnOk result (out.new.items ≡ out.old.items ++ (codes "STRING: \"" ++ flat_map escaped octets.now ++ codes "\"")) }
+    ensures ok { OnOk result (out.new.items ≡ out.old.items ++ (codes "STRING: \"" ++ flat_map
+        escaped octets.now ++ codes "\"")) }
     ensures err { OnErr result (IsBegun out.old.items out.new.items) }
 {
     pieces::octets(out, b"STRING: \"")?;

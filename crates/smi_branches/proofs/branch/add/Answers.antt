@@ -1,5 +1,29 @@
 -- The numbers of the identifier are gone along, and it stands at the end, if none did.
-use Rattle.std.proofs.Common.{rules, ◌≡◌, ℕ, ◌+◌, ◌<◌, ◌≤◌, true, is_some, Option, List, [], ◌∷◌, ◌++◌, Some, None, get_or, set, take, length, refl, sym, ◌∙◌, arith}
+use Rattle.std.proofs.Common.{
+  rules,
+  ◌≡◌,
+  ℕ,
+  ◌+◌,
+  ◌<◌,
+  ◌≤◌,
+  true,
+  is_some,
+  Option,
+  List,
+  [],
+  ◌∷◌,
+  ◌++◌,
+  Some,
+  None,
+  get_or,
+  set,
+  take,
+  length,
+  refl,
+  sym,
+  ◌∙◌,
+  arith,
+}
 use Rattle.std.proofs.lemmas.List.{take_more, take_all, length-set, length-take-le, get_or_default}
 use Rattle.smi_branches.specs.Branches.{AreBranches, branch_of, IsBeginning}
 use Rattle.smi_branches.specs.declared.branch.Branch.{Branch}
@@ -11,7 +35,8 @@ use Rattle.smi_branches.proofs.branch.add.Goals as goal
 pub numbers-init : goal.numbers-init
 numbers-init c = (
   rw (take_more c.args.oids.now c.args.place [] c.requires.within)
-      (Branches-known (take c.args.place c.args.oids.now) (take c.args.place c.args.oids.now) (get_or c.args.oids.now c.args.place []) c.args.branches.now.items c.requires.before),
+      (Branches-known (take c.args.place c.args.oids.now) (take c.args.place c.args.oids.now)
+      (get_or c.args.oids.now c.args.place []) c.args.branches.now.items c.requires.before),
   refl,
 )
 
@@ -26,12 +51,14 @@ numbers-preserved c =
     let place = c.args.place in
     let o = c.as_slice-number-items.result.now in
     let i = c.numbers.number-index in
-    let read : c.index-oids-place.result ≡ get_or oids place [] = c.index-oids-place.is ∙ get_or_default oids place c.index-oids-place.result [] c.requires.within in
+    let read : c.index-oids-place.result ≡ get_or oids place [] = c.index-oids-place.is
+    ∙ get_or_default oids place c.index-oids-place.result [] c.requires.within in
     let is : c.as_slice-number-items.result.now ≡ get_or oids place [] = c.as_slice-number-items.ensures.value ∙ read in
     let begins : IsBeginning (take (place + 1) oids) (take (i + 1) o) =
     rw (take_more oids place [] c.requires.within, is) (begins_push (take place oids) (get_or oids place []) (i + 1)) in
     let more = take_more o i 0 c.numbers-test.true in
-    rw more (Branches-grown (take (place + 1) oids) (take place oids) c.numbers.branches.items c.grow.new.branches.items (take i o) c.numbers.at (get_or o i 0) c.in_ok-at.at
+    rw more (Branches-grown (take (place + 1) oids) (take place oids) c.numbers.branches.items c.grow.new.branches.items (take i o) c.numbers.at
+    (get_or o i 0) c.in_ok-at.at
     c.numbers.invariant.0 c.numbers.invariant.1 (rw more at begins) c.in_ok-at.ensures.grows)
 
 pub index_mut-branch-requires : goal.index_mut-branch-requires
@@ -63,8 +90,10 @@ returns-then-is_none c =
     let read : c.index_mut-branch.result.now ≡ get_or c.numbers.branches.items c.numbers.at c.index_mut-branch.result.now = search rules in
     let none : c.index_mut-branch.result.now.standing ≡ None = search rules in
     record {
-      added = ended c.args.oids.now c.args.place c.as_slice-number-items.result.now c.index-oids-place.result c.numbers.number-index c.numbers.branches.items c.numbers.at
-          c.index_mut-branch.result.now (Some c.args.place) c.requires.within c.index-oids-place.is c.as_slice-number-items.ensures.value c.numbers-test.false read
+      added = ended c.args.oids.now c.args.place c.as_slice-number-items.result.now c.index-oids-place.result c.numbers.number-index c.numbers.branches.items
+          c.numbers.at
+          c.index_mut-branch.result.now
+          (Some c.args.place) c.requires.within c.index-oids-place.is c.as_slice-number-items.ensures.value c.numbers-test.false read
           c.numbers.invariant.0 c.numbers.invariant.1 (rw none refl);
     }
 
@@ -73,8 +102,10 @@ returns-else-is_none c =
     let read : c.index_mut-branch.result.now ≡ get_or c.numbers.branches.items c.numbers.at c.index_mut-branch.result.now = search rules in
     let some : is_some c.index_mut-branch.result.now.standing ≡ true = search rules in
     record {
-      added = ended c.args.oids.now c.args.place c.as_slice-number-items.result.now c.index-oids-place.result c.numbers.number-index c.numbers.branches.items c.numbers.at
-          c.index_mut-branch.result.now c.index_mut-branch.result.now.standing c.requires.within c.index-oids-place.is c.as_slice-number-items.ensures.value c.numbers-test.false read
+      added = ended c.args.oids.now c.args.place c.as_slice-number-items.result.now c.index-oids-place.result c.numbers.number-index c.numbers.branches.items
+          c.numbers.at
+          c.index_mut-branch.result.now c.index_mut-branch.result.now.standing c.requires.within c.index-oids-place.is c.as_slice-number-items.ensures.value
+          c.numbers-test.false read
           c.numbers.invariant.0 c.numbers.invariant.1 (kept c.index_mut-branch.result.now.standing c.args.place some);
     }
   where

@@ -11,7 +11,9 @@ pieces-preserved c =
     record {
       whole = λ new rest h.
           let P : ℕ → Type 0 = λ n. AppendsPieces c.args.spec.now n c.pieces.left.now c.pieces.draft new rest in
-          c.pieces.invariant.whole new rest (subst P e (one_piece c.args.spec.now (c.pieces.ahead - 1) c.pieces.left.now c.pieces.draft c.append_piece-left.new.draft new rest some first (rw c.append_piece-left.ensures.rest at h)));
+          c.pieces.invariant.whole new rest (subst P e (one_piece c.args.spec.now
+          (c.pieces.ahead - 1) c.pieces.left.now c.pieces.draft c.append_piece-left.new.draft new rest some first
+          (rw c.append_piece-left.ensures.rest at h)));
     }
 
 pub returns-else-not-is_empty : goal.returns-else-not-is_empty

@@ -1,5 +1,15 @@
 use Rattle.std.proofs.Common.{◌≡◌, ◌≢◌, List, [], subst, sym, rules, arith}
-use Rattle.smi_hint.proofs.Groups.{GroupsAhead, hint_begins, groups_begin, groups_end, group_then_next, group_then_again, group_no_longer, group_shorter, last_takes}
+use Rattle.smi_hint.proofs.Groups.{
+  GroupsAhead,
+  hint_begins,
+  groups_begin,
+  groups_end,
+  group_then_next,
+  group_then_again,
+  group_no_longer,
+  group_shorter,
+  last_takes,
+}
 use Rattle.smi_hint.proofs.Growing.{none_left}
 use Rattle.smi_hint.proofs.octets.append_octets.Goals as goal
 
@@ -19,7 +29,8 @@ groups-smaller-then-not-is_empty c =
 pub groups-preserved-then-not-is_empty : goal.groups-preserved-then-not-is_empty
 groups-preserved-then-not-is_empty c =
     let some : c.groups.ahead.now ≢ [] = search rules in
-    group_then_next c.args.hint.now c.args.octets.now c.args.draft.now c.groups.spec _ c.groups.ahead.now _ c.groups.left.now _ c.groups.draft _ c.append_group-left.ensures.0 some
+    group_then_next c.args.hint.now c.args.octets.now c.args.draft.now c.groups.spec _ c.groups.ahead.now _ c.groups.left.now _ c.groups.draft _
+    c.append_group-left.ensures.0 some
     c.next_spec-then-not-is_empty.ensures.first c.append_group-left.ensures.1 c.append_group-left.ensures.2 c.groups.invariant
 
 pub groups-smaller : goal.groups-smaller
@@ -34,8 +45,10 @@ pub groups-preserved : goal.groups-preserved
 groups-preserved c =
     let none : c.groups.ahead.now ≡ [] = search rules in
     let P : List _ → Type 0 = λ ahead. GroupsAhead c.args.hint.now c.args.octets.now c.args.draft.now c.groups.spec ahead c.groups.left.now c.groups.draft in
-    let Q : List _ → Type 0 = λ ahead. GroupsAhead c.args.hint.now c.args.octets.now c.args.draft.now c.groups.spec ahead c.append_group-left.result.now c.append_group-left.new.draft in
-    subst Q (sym none) (group_then_again c.args.hint.now c.args.octets.now c.args.draft.now c.groups.spec c.groups.left.now _ c.groups.draft _ c.append_group-left.ensures.0
+    let Q : List _ → Type 0 = λ ahead. GroupsAhead c.args.hint.now c.args.octets.now c.args.draft.now c.groups.spec ahead c.append_group-left.result.now
+    c.append_group-left.new.draft in
+    subst Q (sym none) (group_then_again c.args.hint.now c.args.octets.now c.args.draft.now c.groups.spec c.groups.left.now _ c.groups.draft _
+    c.append_group-left.ensures.0
     c.append_group-left.ensures.1 c.append_group-left.ensures.2 (subst P none c.groups.invariant))
 
 pub returns : goal.returns

@@ -14,7 +14,8 @@ returns-in_default c =
 pub specs-preserved : goal.specs-preserved
 specs-preserved c =
     let some : c.specs.rest.now ≢ [] = search rules in
-    let next = goes_on_next c.args.text.now c.specs.rest.now c.in-Some.more.now c.specs.ends_well c.in-Some.spec some c.in-Some.ensures.found c.specs.invariant in
+    let next = goes_on_next c.args.text.now c.specs.rest.now c.in-Some.more.now c.specs.ends_well c.in-Some.spec some c.in-Some.ensures.found c.specs.invariant
+    in
     rw c.takes_octets-ends_well.ensures next
 
 pub returns : goal.returns

@@ -14,4 +14,5 @@ modules-preserved c =
     let grown = c.in_ok-scope.ensures.grown in
     let knows = rw grown.1 at c.in_ok-scope.ensures.decided in
     let within = rw grown.1 at c.in_ok-scope.ensures.within in
-    rw (more, pushed, grown.1) (AreEach-more (take i ms) c.modules.scopes.items c.modules.entries.items grown.0 m c.in_ok-scope.scope c.modules.invariant knows within)
+    rw (more, pushed, grown.1) (AreEach-more
+    (take i ms) c.modules.scopes.items c.modules.entries.items grown.0 m c.in_ok-scope.scope c.modules.invariant knows within)

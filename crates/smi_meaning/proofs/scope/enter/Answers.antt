@@ -18,12 +18,16 @@ pub returns-then-contains_key : goal.returns-then-contains_key
 returns-then-contains_key c =
     let there : is_some (place_in c.args.scope.now c.args.name.now) ≡ true = search rules in
     let p = some_of (place_in c.args.scope.now c.args.name.now) there in
-    record { entered = KnowsMore-there c.args.entries.now.items c.args.scope.now c.args.module.now c.requires c.args.name.now (decision_of c.args.decider) p.0 p.1 }
+    record {
+      entered = KnowsMore-there c.args.entries.now.items c.args.scope.now c.args.module.now c.requires c.args.name.now
+          (decision_of c.args.decider) p.0 p.1;
+    }
 
 pub returns : goal.returns
 returns c =
     let e : Entry = record { «module» = c.args.module; name = c.args.name; decider = c.args.decider } in
-    let pushed : c.push.new.self.items ≡ c.args.entries.now.items ++ record { «module» = c.args.module; name = c.args.name; decider = c.args.decider } ∷ [] = search rules in
+    let pushed : c.push.new.self.items ≡ c.args.entries.now.items ++ record { «module» = c.args.module; name = c.args.name; decider = c.args.decider } ∷ [] =
+    search rules in
     let absent : is_some (place_in c.args.scope.now c.args.name.now) ≡ false = search rules in
     let place : c.len-place.result ≡ length c.args.entries.now.items = search rules in
     let none = none_of (place_in c.args.scope.now c.args.name.now) absent in

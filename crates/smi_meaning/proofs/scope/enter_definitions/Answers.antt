@@ -9,7 +9,8 @@ use Rattle.smi_meaning.specs.Meaning.{defined, or_else}
 use Rattle.smi_meaning.proofs.Knowing.{KnowsMore-then, KnowsMore-same, find-append}
 use Rattle.smi_meaning.proofs.scope.enter_definitions.Goals as goal
 
-merged : (a : Option Def) (b : Bool) (d : Def) → or_else (option_map defined a) (cond b (Some (defined d)) None) ≡ option_map defined (or_else a (cond b (Some d) None))
+merged : (a : Option Def) (b : Bool) (d : Def)
+    → or_else (option_map defined a) (cond b (Some (defined d)) None) ≡ option_map defined (or_else a (cond b (Some d) None))
 merged None true d = refl
 merged None false d = refl
 merged (Some i) b d = refl

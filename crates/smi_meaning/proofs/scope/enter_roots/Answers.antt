@@ -17,6 +17,7 @@ pub returns : goal.returns
 returns c =
     record {
       entered = KnowsMore-same _ _ _ _ _ _ _
-          (KnowsMore-then _ _ _ _ _ _ _ _ _ (KnowsMore-then _ _ _ _ _ _ _ _ _ c.in_ok-enter.ensures.entered c.in_ok-enter-2.ensures.entered) c.in_ok-enter-3.ensures.entered)
+          (KnowsMore-then _ _ _ _ _ _ _ _ _
+          (KnowsMore-then _ _ _ _ _ _ _ _ _ c.in_ok-enter.ensures.entered c.in_ok-enter-2.ensures.entered) c.in_ok-enter-3.ensures.entered)
           (λ x. three (same_text (codes "ccitt") x) (same_text (codes "iso") x) (same_text (codes "joint-iso-ccitt") x));
     }

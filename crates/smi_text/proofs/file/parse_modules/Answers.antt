@@ -24,8 +24,16 @@ module _ (text : List ℕ) (items : List Item) (lexed : Lexes [] text items) (so
 
   found : (ms : List Module) → ReadsModules ms items → Spells ms text × HasNoDoubles ms
   found ms r =
-      let taken = file-stands ms items [] r.read in
-      (record { items = items; lexed = lexed; whole = taken-no_fault (spelling ms) items taken; spelled = taken-stands (spelling ms) items [] taken }, r.distinct)
+      let taken = file-stands ms items [] r.read in (
+        record {
+          items = items;
+          lexed = lexed;
+          whole = taken-no_fault (spelling ms) items taken;
+          spelled = taken-stands
+              (spelling ms) items [] taken;
+        },
+        r.distinct,
+      )
 
   only : (ms found : List Module) → ReadsModules found items → Spells ms text → found ≡ ms
   only ms found r s = ap (λ (p : List Module × List Item). p.0) (some-inj {A = List Module × List Item} (found, []) (ms, []) (sym r.read ∙ reads ms s))
@@ -44,7 +52,8 @@ module _ (text : List ℕ) (items : List Item) (lexed : Lexes [] text items) (so
       subst P (sym e) (record { items = items; lexed = lexed; again = double-token line items f })
   cause E.Memory error f e = let P : ParseError → Type 0 = λ r. IsCause r text in subst P (sym e) tt
 
-  refused : (stop error : ParseError) → ModulesFault stop items → IsCauseOf stop error text → (ms : List Module) → Spells ms text → HasNoDoubles ms → error ≡ E.Memory
+  refused : (stop error : ParseError) → ModulesFault stop items → IsCauseOf stop error text → (ms : List Module) → Spells ms text → HasNoDoubles ms
+      → error ≡ E.Memory
   refused (E.Lex fault) error f e ms s n = absurd (f ms (reads ms s))
   refused (E.Syntax line) error f e ms s n = absurd (f ms (reads ms s))
   refused (E.DoubleName line) error f e ms s n = absurd (file-twice line items f ms (reads ms s) n)
@@ -63,7 +72,8 @@ returns-in-Ok-clause-only c =
 pub returns-in-Err-clause-only : goal.returns-in-Err-clause-only
 returns-in-Err-clause-only c =
     let start = c.new-parser in
-    λ ms s n. refused c.args.text.now start.result start.ensures.items start.ensures.only c.in-Err.stop c.cause_of.result c.in-Err.ensures.fault c.cause_of.ensures ms s n
+    λ ms s n. refused c.args.text.now start.result start.ensures.items start.ensures.only c.in-Err.stop c.cause_of.result c.in-Err.ensures.fault
+    c.cause_of.ensures ms s n
 
 pub returns-in-Err-clause-cause : goal.returns-in-Err-clause-cause
 returns-in-Err-clause-cause c =

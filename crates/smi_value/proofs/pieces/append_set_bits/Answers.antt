@@ -4,7 +4,9 @@ use Rattle.smi_value.proofs.Lists.{adds_from, enumerated_more, enumerated_all}
 use Rattle.smi_value.proofs.pieces.append_set_bits.Goals as goal
 
 pub octets-preserved : goal.octets-preserved
-octets-preserved c = rw (enumerated_more (octet_bits c.args.letters.now c.args.names.now) c.args.octets.now c.octets.place (omega arith)) (c.append_octet_bits.ensures.goes_on _ _ c.octets.invariant)
+octets-preserved c = rw (enumerated_more (octet_bits c.args.letters.now c.args.names.now) c.args.octets.now c.octets.place (omega arith))
+    (c.append_octet_bits.ensures.goes_on _ _ c.octets.invariant)
 
 pub returns : goal.returns
-returns c = adds_from _ _ _ (rw (enumerated_all (octet_bits c.args.letters.now c.args.names.now) c.args.octets.now c.octets.place (omega arith)) at c.octets.invariant)
+returns c = adds_from _ _ _ (rw (enumerated_all (octet_bits c.args.letters.now c.args.names.now) c.args.octets.now c.octets.place
+    (omega arith)) at c.octets.invariant)

@@ -1,5 +1,30 @@
 -- The children are what stands at the branches that follow.
-use Rattle.std.proofs.Common.{rules, ◌≡◌, ℕ, zero, suc, Bool, true, false, cond, List, [], ◌∷◌, ◌++◌, Option, Some, None, All, Contains, get_or, refl, sym, ◌∙◌, arith, eqb-true}
+use Rattle.std.proofs.Common.{
+  rules,
+  ◌≡◌,
+  ℕ,
+  zero,
+  suc,
+  Bool,
+  true,
+  false,
+  cond,
+  List,
+  [],
+  ◌∷◌,
+  ◌++◌,
+  Option,
+  Some,
+  None,
+  All,
+  Contains,
+  get_or,
+  refl,
+  sym,
+  ◌∙◌,
+  arith,
+  eqb-true,
+}
 use Rattle.std.proofs.lemmas.List.Elements.{All-head, All-tail}
 use Rattle.std.specs.List.{filter_map}
 use Rattle.std.specs.List.Sorted.{IsStrictlySortedBy}
@@ -52,4 +77,5 @@ returns c =
     let o : c.as_slice.result.now ≡ c.args.oid.now = c.as_slice.ensures.value in
     let same = rw (c.deref.ensures.value, o) at c.after-after.ensures in
     rw (bs, list, sym c.self.view_is)
-    (children c.self.inside.oids.items c.self.inside.branches.items c.self.invariant.0 c.args.oid.now c.after-after.result.now.entries same c.iter.ensures.found c.iter.ensures.ordered)
+    (children c.self.inside.oids.items c.self.inside.branches.items c.self.invariant.0 c.args.oid.now c.after-after.result.now.entries same
+    c.iter.ensures.found c.iter.ensures.ordered)

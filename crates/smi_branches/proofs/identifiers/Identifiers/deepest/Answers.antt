@@ -22,8 +22,10 @@ ended oids bs are o i at r l here far none = elim (SoFar-off oids o i (length o)
 
 pub numbers-preserved : goal.numbers-preserved
 numbers-preserved c =
-    let leads : follower c.self.inside.branches.items c.numbers.at (get_or c.as_slice-numbers.result.now c.numbers.i 0) ≡ Some c.in-Some.longer = search rules in
-    let is : c.deeper-deepest-in-numbers.result ≡ deeper_of (standing_at c.self.inside.branches.items c.in-Some.longer) (c.numbers.i + 1) c.numbers.deepest = search rules in
+    let leads : follower c.self.inside.branches.items c.numbers.at
+    (get_or c.as_slice-numbers.result.now c.numbers.i 0) ≡ Some c.in-Some.longer = search rules in
+    let is : c.deeper-deepest-in-numbers.result ≡ deeper_of (standing_at c.self.inside.branches.items c.in-Some.longer)
+    (c.numbers.i + 1) c.numbers.deepest = search rules in
     preserved c.self.inside.oids.items c.self.inside.branches.items c.self.invariant.0 c.as_slice-numbers.result.now c.numbers.i c.numbers.at c.in-Some.longer
     c.numbers.deepest c.deeper-deepest-in-numbers.result (search rules) c.numbers.invariant.0 c.numbers.invariant.1 leads is
 

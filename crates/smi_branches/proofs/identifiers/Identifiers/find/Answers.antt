@@ -8,4 +8,5 @@ pub returns-in_err-at : goal.returns-in_err-at
 returns-in_err-at c =
     let out : c.from_residual.result ≡ None = search rules in
     let none : branch_of c.self.inside.branches.items c.args.oid.now ≡ None = search rules in
-    rw (out, sym c.self.view_is) (sym (place_off c.self.inside.oids.items c.self.inside.oids.items c.self.inside.branches.items c.self.invariant.0 c.args.oid.now none))
+    rw (out, sym c.self.view_is) (sym
+    (place_off c.self.inside.oids.items c.self.inside.oids.items c.self.inside.branches.items c.self.invariant.0 c.args.oid.now none))

@@ -24,6 +24,7 @@ unreachable-requires-in-Some-number c =
     let h : IsOfOctets c.args.self.now = subst P c.in-Octets.is c.requires in
     let Q : List ℕ → Type 0 = λ t. IsOfOctets t in
     let octets = subst Q (sym c.self.view_is) h in
-    let R : Option NumberForm → Type 0 = λ o. MatchOption o ((specs : List Spec) × IsOctetHint c.self.inside.text.now specs) (IsNumberHint c.self.inside.text.now) in
+    let R : Option NumberForm
+    → Type 0 = λ o. MatchOption o ((specs : List Spec) × IsOctetHint c.self.inside.text.now specs) (IsNumberHint c.self.inside.text.now) in
     let number : IsNumberHint c.self.inside.text.now c.in-Some-number.field-0 = subst R c.in-Some-number.is c.self.invariant in
     not_both c.self.inside.text.now c.in-Some-number.field-0 octets.0 number octets.1

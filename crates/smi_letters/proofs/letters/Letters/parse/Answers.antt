@@ -12,6 +12,7 @@ returns-in-None-clause-first_other c = other_at c.args.text.now c.letters.octet-
 
 pub letters-preserved : goal.letters-preserved
 letters-preserved c = record {
-  are_letters = letters_at c.args.text.now c.letters.octet-index c.letters.letters c.in-Some.next (omega arith) c.letters.invariant.are_letters c.in-Some.ensures.with;
+  are_letters = letters_at c.args.text.now c.letters.octet-index c.letters.letters c.in-Some.next
+      (omega arith) c.letters.invariant.are_letters c.in-Some.ensures.with;
   none_other = no_other_more c.args.text.now c.letters.octet-index (omega arith) c.letters.invariant.none_other c.in-Some.ensures.letter;
 }

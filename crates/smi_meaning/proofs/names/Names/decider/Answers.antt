@@ -18,7 +18,8 @@ returns-in_err-entry c =
     let none : c.get.result ≡ None = search rules in
     let there : slice_get es (place_by d a) ≡ None = looked_up es (place_by d a) c.get.result found.3 ∙ rw none refl in
     rw (out, sym c.self.view_is)
-    (let says = decided_at a (slice_get es (place_by d a)) (module_named c.self.inside.modules.now a.home) (entry_at c.self.inside.modules.now d c.self.invariant.directory a) in
+    (let says = decided_at a (slice_get es (place_by d a)) (module_named c.self.inside.modules.now a.home)
+    (entry_at c.self.inside.modules.now d c.self.invariant.directory a) in
     rw there at says)
 
 pub returns : goal.returns
@@ -32,5 +33,6 @@ returns c =
     let some : c.get.result ≡ Some c.in_ok-entry.entry = search rules in
     let there : slice_get es (place_by d a) ≡ Some c.in_ok-entry.entry.now = looked_up es (place_by d a) c.get.result found.3 ∙ rw some refl in
     rw (sym c.self.view_is)
-    (let says = decided_at a (slice_get es (place_by d a)) (module_named c.self.inside.modules.now a.home) (entry_at c.self.inside.modules.now d c.self.invariant.directory a) in
+    (let says = decided_at a (slice_get es (place_by d a)) (module_named c.self.inside.modules.now a.home)
+    (entry_at c.self.inside.modules.now d c.self.invariant.directory a) in
     rw there at says)

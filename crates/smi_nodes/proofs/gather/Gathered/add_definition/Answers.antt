@@ -43,7 +43,8 @@ pub returns-in-Some : goal.returns-in-Some
 returns-in-Some c =
     let some : is_some (identifier_of c.args.def.now.kind) ≡ true = search rules in
     let v = some_of (identifier_of c.args.def.now.kind) some in
-    let comes : ComesTo (origin c.args.names.now) (record { home = c.args.module.now.name.octets; name = c.args.def.now.label.octets }) c.in-Some.resolution.now =
+    let comes : ComesTo (origin c.args.names.now)
+    (record { home = c.args.module.now.name.octets; name = c.args.def.now.label.octets }) c.in-Some.resolution.now =
     rw (sym c.as_bytes.ensures.octets, sym c.as_bytes-2.ensures.octets) c.in-Some.ensures in
     record {
       added = added c.args.names.now c.args.self.now c.add.new.self c.args.source c.args.module.now c.args.def.now c.in-Some.resolution.now v.0 c.add.result

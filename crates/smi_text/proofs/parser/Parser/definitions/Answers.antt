@@ -30,7 +30,8 @@ returns-clause-ok c = rw (c.new.ensures) (has_read-done _ _ _ c.each.self c.each
 pub returns-in_err-def-clause-fault : goal.returns-in_err-def-clause-fault
 returns-in_err-def-clause-fault c =
     let p = err_from_is_err_and c.from_residual.result c.from_residual.ensures.1 in
-    rw (p.1, p.2) (definitions-stop c.in_err-def.field-0.0 _ (λ h. has_read-stuck _ _ _ c.each.self c.each.invariant c.in-Some.ensures.0 (c.in_err-def.ensures h)))
+    rw (p.1, p.2) (definitions-stop c.in_err-def.field-0.0 _ (λ h. has_read-stuck _ _ _ c.each.self c.each.invariant c.in-Some.ensures.0
+    (c.in_err-def.ensures h)))
 
 pub returns-then-not-is_new-clause-fault : goal.returns-then-not-is_new-clause-fault
 returns-then-not-is_new-clause-fault c =

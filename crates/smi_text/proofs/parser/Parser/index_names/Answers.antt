@@ -10,7 +10,8 @@ pub returns-in_err-name : goal.returns-in_err-name
 returns-in_err-name c =
     let i = c.each.invariant in
     let p = err_from_is_err_and c.from_residual-in_err-name.result c.from_residual-in_err-name.ensures.1 in
-    rw (p.1, p.2) (λ h. sym i.2 ∙ index-no_name _ i.0 c.each.self i.1 _ (sym c.at_word.ensures ∙ c.if-at_word.true) c.in_ok-word.ensures (c.in_err-name.ensures h))
+    rw (p.1, p.2) (λ h. sym i.2 ∙ index-no_name _ i.0 c.each.self i.1 _ (sym c.at_word.ensures
+    ∙ c.if-at_word.true) c.in_ok-word.ensures (c.in_err-name.ensures h))
 
 pub returns-then-at_word : goal.returns-then-at_word
 returns-then-at_word c =
@@ -28,17 +29,20 @@ pub returns-then-not-at_kind : goal.returns-then-not-at_kind
 returns-then-not-at_kind c =
     let i = c.each.invariant in
     rw (c.new-then-not-at_kind.ensures, c.in_ok-keep-2.ensures.ok)
-    (sym i.2 ∙ index-last _ i.0 c.each.self i.1 _ _ (sym c.at_word.ensures ∙ c.if-at_word.false) c.in_ok-name-2.ensures (sym c.at_kind.ensures ∙ c.if-not-at_kind.true))
+    (sym i.2 ∙ index-last _ i.0 c.each.self i.1 _ _ (sym c.at_word.ensures ∙ c.if-at_word.false) c.in_ok-name-2.ensures (sym c.at_kind.ensures
+    ∙ c.if-not-at_kind.true))
 
 pub returns-in_err-sign : goal.returns-in_err-sign
 returns-in_err-sign c =
     let i = c.each.invariant in
     let p = err_from_is_err_and c.from_residual-in_err-sign.result c.from_residual-in_err-sign.ensures.1 in
     rw (p.1, p.2)
-    (λ h. sym i.2 ∙ index-no_comma _ i.0 c.each.self i.1 _ _ (sym c.at_word.ensures ∙ c.if-at_word.false) c.in_ok-name-2.ensures (sym c.at_kind.ensures ∙ c.if-not-at_kind.false) (c.in_err-sign.ensures.gives h))
+    (λ h. sym i.2 ∙ index-no_comma _ i.0 c.each.self i.1 _ _ (sym c.at_word.ensures ∙ c.if-at_word.false) c.in_ok-name-2.ensures (sym c.at_kind.ensures
+    ∙ c.if-not-at_kind.false) (c.in_err-sign.ensures.gives h))
 
 pub each-preserved : goal.each-preserved
 each-preserved c =
     let i = c.each.invariant in
-    let s = index-next c.each.names.items i.0 c.each.self i.1 _ _ _ (sym c.at_word.ensures ∙ c.if-at_word.false) c.in_ok-name-2.ensures (sym c.at_kind.ensures ∙ c.if-not-at_kind.false) c.in_ok-sign.ensures.gives in
+    let s = index-next c.each.names.items i.0 c.each.self i.1 _ _ _ (sym c.at_word.ensures
+    ∙ c.if-at_word.false) c.in_ok-name-2.ensures (sym c.at_kind.ensures ∙ c.if-not-at_kind.false) c.in_ok-sign.ensures.gives in
     rw (c.in_ok-keep-2.ensures.ok) (s.0, s.1, sym s.2 ∙ i.2)

@@ -11,4 +11,5 @@ pub returns-in-Some : goal.returns-in-Some
 unfolding lower
 returns-in-Some c =
     let kind = same_true the_type tt _ _ (sym c.if-eq.ensures) in
-    gives-name (a_kind K.Lower ∷ []) K.Lower (λ _. true) (lexeme_of c.in-Some.token) _ _ _ _ c.in-Some.ensures.some refl kind refl c.take_name.ensures.ok c.take_name.ensures.err
+    gives-name (a_kind K.Lower ∷ []) K.Lower (λ _. true)
+    (lexeme_of c.in-Some.token) _ _ _ _ c.in-Some.ensures.some refl kind refl c.take_name.ensures.ok c.take_name.ensures.err

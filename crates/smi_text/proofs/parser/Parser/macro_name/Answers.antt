@@ -12,4 +12,5 @@ pub returns-in-Some : goal.returns-in-Some
 unfolding macro_name
 returns-in-Some c =
     let kind = same_true the_type tt _ _ (sym c.if-eq.ensures) in
-    gives-name macro_words K.Upper is_macro (lexeme_of c.in-Some.token) _ _ _ _ c.in-Some.ensures.some refl kind (rw (← c.is_macro.ensures) c.if-is_macro.true) c.take_name.ensures.ok c.take_name.ensures.err
+    gives-name macro_words K.Upper is_macro (lexeme_of c.in-Some.token) _ _ _ _ c.in-Some.ensures.some refl kind (rw
+    (← c.is_macro.ensures) c.if-is_macro.true) c.take_name.ensures.ok c.take_name.ensures.err

@@ -18,4 +18,5 @@ returns-in_err-defs-clause-fault c =
 pub returns-in_err-word-clause-fault : goal.returns-in_err-word-clause-fault
 returns-in_err-word-clause-fault c =
     let p = err_from_is_err_and c.from_residual-in_err-word.result c.from_residual-in_err-word.ensures.1 in
-    rw (p.1, p.2) (module-stop c.in_err-word.field-0.0 _ (λ h. module-no_end _ _ c.in_ok-head.head c.in_ok-head.ensures c.in_ok-defs.defs _ c.in_ok-defs.ensures.ok.read (c.in_err-word.ensures h)))
+    rw (p.1, p.2) (module-stop c.in_err-word.field-0.0 _
+    (λ h. module-no_end _ _ c.in_ok-head.head c.in_ok-head.ensures c.in_ok-defs.defs _ c.in_ok-defs.ensures.ok.read (c.in_err-word.ensures h)))

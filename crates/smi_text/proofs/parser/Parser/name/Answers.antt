@@ -12,4 +12,5 @@ pub returns-in-Some : goal.returns-in-Some
 unfolding name
 returns-in-Some c =
     let kind = same_true the_type tt _ _ (sym c.if-eq.ensures) in
-    gives-name (a_name ∷ []) K.Upper (λ x. not (is_reserved x)) (lexeme_of c.in-Some.token) _ _ _ _ c.in-Some.ensures.some refl kind (rw (← c.is_reserved.ensures, c.if-not-is_reserved.true) refl) c.take_name.ensures.ok c.take_name.ensures.err
+    gives-name (a_name ∷ []) K.Upper (λ x. not (is_reserved x)) (lexeme_of c.in-Some.token) _ _ _ _ c.in-Some.ensures.some refl kind (rw
+    (← c.is_reserved.ensures, c.if-not-is_reserved.true) refl) c.take_name.ensures.ok c.take_name.ensures.err
