@@ -1,5 +1,32 @@
 -- Datagrams in one piece of memory.
-use Rattle.std.proofs.Common.{◌≡◌, ℕ, zero, suc, ◌+◌, ◌-◌, ◌<◌, ◌≤◌, List, [], ◌∷◌, ◌++◌, length, take, drop, map, refl, sym, ◌∙◌, ap, subst, arith, Option, Some, None, length-drop}
+use Rattle.std.proofs.Common.{
+  ◌≡◌,
+  ℕ,
+  zero,
+  suc,
+  ◌+◌,
+  ◌-◌,
+  ◌<◌,
+  ◌≤◌,
+  List,
+  [],
+  ◌∷◌,
+  ◌++◌,
+  length,
+  take,
+  drop,
+  map,
+  refl,
+  sym,
+  ◌∙◌,
+  ap,
+  subst,
+  arith,
+  Option,
+  Some,
+  None,
+  length-drop,
+}
 use Rattle.std.proofs.lemmas.List.{take-append-le, drop-append-le, take_all}
 use Rattle.std.proofs.lemmas.List.Elements.{All-head, All-tail}
 use Rattle.std.proofs.lemmas.Option.{slice_get-map}
@@ -37,7 +64,8 @@ pub cut-push : (octets more : List ℕ) (spans : List Span) (s : Span) → All (
     → cut (octets ++ more) (spans ++ s ∷ []) ≡ cut octets spans ++ more ∷ []
 cut-push octets more spans s h start len =
     let last : cut_at (octets ++ more) s ≡ more =
-    ap (λ (n : ℕ). take s.len (drop n (octets ++ more))) start ∙ ap (take s.len) (drop-whole octets more) ∙ ap (λ (n : ℕ). take n more) len ∙ take_all (length more) more (omega arith) in
+    ap (λ (n : ℕ). take s.len (drop n (octets ++ more))) start ∙ ap (take s.len) (drop-whole octets more) ∙ ap (λ (n : ℕ). take n more) len
+    ∙ take_all (length more) more (omega arith) in
     map-more (octets ++ more) spans s ∙ ap (λ (r : List (List ℕ)). r ++ cut_at (octets ++ more) s ∷ []) (cut-append octets more spans h)
     ∙ ap (λ (d : List ℕ). cut octets spans ++ d ∷ []) last
 

@@ -1,5 +1,32 @@
 -- What a GetBulk of one name is given: each binding is the answer to a GetNext of the name before it.
-use Rattle.std.proofs.Common.{◌≡◌, ◌≢◌, ℕ, zero, suc, ◌<◌, ◌≤◌, ℤ, pos, negsuc, ◌≤ℤ◌, List, [], ◌∷◌, ◌++◌, length, take, drop, refl, sym, ◌∙◌, ap, subst, arith, length-append, append_assoc}
+use Rattle.std.proofs.Common.{
+  ◌≡◌,
+  ◌≢◌,
+  ℕ,
+  zero,
+  suc,
+  ◌<◌,
+  ◌≤◌,
+  ℤ,
+  pos,
+  negsuc,
+  ◌≤ℤ◌,
+  List,
+  [],
+  ◌∷◌,
+  ◌++◌,
+  length,
+  take,
+  drop,
+  refl,
+  sym,
+  ◌∙◌,
+  ap,
+  subst,
+  arith,
+  length-append,
+  append_assoc,
+}
 use Rattle.std.specs.Prelude.{unsigned_abs}
 use Rattle.std.proofs.lemmas.Int.{ints}
 use Rattle.snmp_wire.specs.Message.{VarBind, Message, null_value}
@@ -14,7 +41,8 @@ pub chain_front : (Next : List ℕ → VarBind → Type 0) (o : List ℕ) (front
 chain_front Next o [] more h = tt
 chain_front Next o (p ∷ front) more h = (h.0, chain_front Next p.name front more h.1)
 
-pub chain_by : (Next Other : List ℕ → VarBind → Type 0) → ((o : List ℕ) (p : VarBind) → Next o p → Other o p) → (o : List ℕ) (ps : List VarBind) → IsChain Next o ps → IsChain Other o ps
+pub chain_by : (Next Other : List ℕ → VarBind → Type 0) → ((o : List ℕ) (p : VarBind) → Next o p → Other o p) → (o : List ℕ) (ps : List VarBind)
+    → IsChain Next o ps → IsChain Other o ps
 chain_by Next Other by o [] h = tt
 chain_by Next Other by o (p ∷ ps) h = (by o p h.0, chain_by Next Other by p.name ps h.1)
 
@@ -24,7 +52,8 @@ chain_by Next Other by o (p ∷ ps) h = (by o p h.0, chain_by Next Other by p.na
 abbrev asked_of : List ℕ → List VarBind
 asked_of o = record { name = o; value = null_value } ∷ []
 
-one_given : (R : VarBind → VarBind → Type 0) (o : List ℕ) (round : List VarBind) → AreAnswers R (asked_of o) round → (p : VarBind) × (round ≡ p ∷ []) × R (record { name = o; value = null_value }) p
+one_given : (R : VarBind → VarBind → Type 0) (o : List ℕ) (round : List VarBind) → AreAnswers R (asked_of o) round
+    → (p : VarBind) × (round ≡ p ∷ []) × R (record { name = o; value = null_value }) p
 one_given R o [] h = absurd h
 one_given R o (p ∷ []) h = (p, refl, h.0)
 one_given R o (p ∷ q ∷ more) h = absurd h.1
@@ -69,7 +98,8 @@ module _ (view : MibView) (good : IsMibView view) where
 
   -- rounds of one name are a chain
   chained : (asked : List ℕ) (repetitions : ℕ) (rounds : List (List VarBind)) → AreRounds view repetitions (asked_of asked) rounds
-      → (rest before : List (List VarBind)) (o : List ℕ) → rounds ≡ before ++ rest → IsBehind asked (length before) o → IsChain (IsNext view) o (joined rest) × (length (joined rest) ≡ length rest)
+      → (rest before : List (List VarBind)) (o : List ℕ) → rounds ≡ before ++ rest → IsBehind asked (length before) o
+      → IsChain (IsNext view) o (joined rest) × (length (joined rest) ≡ length rest)
   chained asked repetitions rounds are [] before o e at = (tt, refl)
   chained asked repetitions rounds are (round ∷ later) before o e at =
       let p = one_given (λ a g. IsNextAfter view (length before) a.name g) asked round (are.successors before later round e) in
@@ -88,7 +118,8 @@ module _ (view : MibView) (good : IsMibView view) where
     pub few : length all ≤ unsigned_abs repetitions
     pub some : pos 1 ≤ℤ repetitions → all ≢ []
 
-  bulk_rounds : (asked : List ℕ) (repetitions : ℤ) (rounds : List (List VarBind)) → AreRounds view (or_zero repetitions) (asked_of asked) rounds → IsOneBulk asked repetitions (joined rounds)
+  bulk_rounds : (asked : List ℕ) (repetitions : ℤ) (rounds : List (List VarBind)) → AreRounds view (or_zero repetitions) (asked_of asked) rounds
+      → IsOneBulk asked repetitions (joined rounds)
   bulk_rounds asked repetitions rounds are =
       let h = chained asked (or_zero repetitions) rounds are rounds [] asked refl refl in
       record {
@@ -106,8 +137,10 @@ module _ (view : MibView) (good : IsMibView view) where
 
   pub one_bulk : (q : Message) (asked : List ℕ) (all : List VarBind) → q.a ≡ pos 0 → q.bindings ≡ asked_of asked → IsBulk view q all → IsOneBulk asked q.b all
   one_bulk q asked all a names h =
-      let none : h.singles ≡ [] = no_names (λ n g. IsNext view n.name g) q.bindings h.singles (subst (λ (z : ℤ). AreAnswers (λ n g. IsNext view n.name g) (take (or_zero z) q.bindings) h.singles) a h.are_singles) in
+      let none : h.singles ≡ [] = no_names (λ n g. IsNext view n.name g) q.bindings h.singles (subst (λ (z : ℤ). AreAnswers (λ n g. IsNext view n.name g)
+      (take (or_zero z) q.bindings) h.singles) a h.are_singles) in
       let rounds : AreRounds view (or_zero q.b) (asked_of asked) h.rounds =
-      subst (λ (ns : List VarBind). AreRounds view (or_zero q.b) ns h.rounds) names (subst (λ (z : ℤ). AreRounds view (or_zero q.b) (drop (or_zero z) q.bindings) h.rounds) a h.are_rounds) in
+      subst (λ (ns : List VarBind). AreRounds view (or_zero q.b) ns h.rounds) names (subst (λ (z : ℤ). AreRounds view (or_zero q.b) (drop
+      (or_zero z) q.bindings) h.rounds) a h.are_rounds) in
       let is : all ≡ joined h.rounds = h.parts ∙ ap (λ (ps : List VarBind). ps ++ joined h.rounds) none in
       subst (λ (ps : List VarBind). IsOneBulk asked q.b ps) (sym is) (bulk_rounds asked q.b h.rounds rounds)

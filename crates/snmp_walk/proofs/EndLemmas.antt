@@ -32,7 +32,8 @@ closes_empty w rows = empty_cond _ (goes_on w phase.Last []) (stops w rows _) (g
 next_empty : (w : Walker) (bindings : List VarBind) → EndsEmpty (reads_next w bindings).0
 next_empty w [] = refl
 next_empty w (b ∷ more) = empty_cond _ (stops w [] ending.BadReply) (reads w (b ∷ more)) tt
-    (empty_cond _ (stops w _ _) (cond _ (closes w _) (goes_on w phase.Rows _)) tt (empty_cond _ (closes w _) (goes_on w phase.Rows _) (closes_empty w _) (goes_empty w phase.Rows _)))
+    (empty_cond _ (stops w _ _) (cond _ (closes w _) (goes_on w phase.Rows _)) tt (empty_cond _ (closes w _) (goes_on w phase.Rows _) (closes_empty w _)
+    (goes_empty w phase.Rows _)))
 
 first_empty : (w : Walker) (g : Option VarBind) → EndsEmpty (reads_first w g).0
 first_empty w None = tt

@@ -19,7 +19,8 @@ use Rattle.snmp_walk.specs.Request.{request_of}
 use Rattle.snmp_wire.specs.Canon.{canon}
 use Rattle.snmp_walk.specs.Traffic.{Traffic, Lost}
 
-pub one_table : (agents : Agents) (first : Walker) (view : MibView) (got : VarBind) → AreViews agents.tables → agents.tables ≡ view ∷ [] → IsGet view first.asked got
+pub one_table : (agents : Agents) (first : Walker) (view : MibView) (got : VarBind) → AreViews agents.tables → agents.tables ≡ view ∷ []
+    → IsGet view first.asked got
     → IsOneTable (variables view) got (IsNextFrom agents) (IsGotFrom agents) first
 one_table agents first view got views e answer =
     let good : IsMibView view = (subst AreViews e views).0 in
@@ -31,7 +32,8 @@ one_table agents first view got views e answer =
       row = get_row view good first.asked got answer;
     }
 
-lawful_whole : (agents : Agents) (Silent : Walker → Type 0) (first : Walker) (rows : List VarBind) (end : WalkEnd) → IsDone end → IsLawfulEnd agents Silent first rows end → IsWholeWalk (IsNextFrom agents) (IsGotFrom agents) first rows
+lawful_whole : (agents : Agents) (Silent : Walker → Type 0) (first : Walker) (rows : List VarBind) (end : WalkEnd) → IsDone end
+    → IsLawfulEnd agents Silent first rows end → IsWholeWalk (IsNextFrom agents) (IsGotFrom agents) first rows
 lawful_whole agents Silent first rows (ending.Done n) d h = h.5.1
 lawful_whole agents Silent first rows (ending.Fault a b) d h = absurd d
 lawful_whole agents Silent first rows (ending.NoProgress o) d h = absurd d
@@ -58,7 +60,8 @@ none_lost agents tries old new w some none h = by_lost h.lost
     by_lost (inl u) = u
     by_lost (inr l) =
         let empty : l.1 ≡ [] = no_use l.0 l.1 new.ahead (sym none ∙ l.2) in
-        let zero_tries : tries ≡ 0 = subst (λ (es : List (Option ℕ)). Lost agents (h.earlier ++ canon (request_of w) ∷ []) (canon (request_of w)) es tries 0) empty l.3 in
+        let zero_tries : tries ≡ 0 = subst (λ (es : List (Option ℕ)). Lost agents (h.earlier ++ canon (request_of w) ∷ []) (canon
+        (request_of w)) es tries 0) empty l.3 in
         absurd (omega (arith, some, zero_tries))
 
 -- the same end, with what is known of silence
@@ -75,20 +78,25 @@ lawful_by agents Silent Other first rows ending.NoResponse by h = (h.0, h.1, h.2
 lawful_by agents Silent Other first rows ending.Link by h = h
 lawful_by agents Silent Other first rows (ending.Sink fault) by h = h
 
-pub facts : (agents : Agents) (tries : ℕ) (old new : Traffic) (first : Walker) (rows refused : List VarBind) (end : WalkEnd) → 0 < tries → IsFresh first → AreViews agents.tables
+pub facts : (agents : Agents) (tries : ℕ) (old new : Traffic) (first : Walker) (rows refused : List VarBind) (end : WalkEnd) → 0 < tries → IsFresh first
+    → AreViews agents.tables
     → IsPartOfWalk (IsNextFrom agents) (IsGotFrom agents) first (rows ++ refused) → IsLawfulEnd agents (HasNoReply agents tries old new) first rows end
     → WalkFacts agents tries old first rows refused end new
 facts agents tries old new first rows refused end some fresh views part lawful = record {
   part = part;
   lawful = lawful;
-  replied = λ none. lawful_by agents (HasNoReply agents tries old new) (HasNone agents) first rows end (λ w h. none_lost agents tries old new w some none h) lawful;
+  replied = λ none. lawful_by agents (HasNoReply agents tries old new) (HasNone agents) first rows end
+      (λ w h. none_lost agents tries old new w some none h) lawful;
   beginning = λ view got e answer.
-      part_is (variables view) got (IsNextFrom agents) (IsGotFrom agents) first (one_table agents first view got views e answer) fresh.begins.0 fresh.begins.1 (rows ++ refused) part;
+      part_is (variables view) got (IsNextFrom agents) (IsGotFrom agents) first (one_table agents first view got views e answer) fresh.begins.0 fresh.begins.1
+      (rows ++ refused) part;
   all_at_done = λ view got e answer done.
-      whole_is (variables view) got (IsNextFrom agents) (IsGotFrom agents) first (one_table agents first view got views e answer) fresh.begins.0 fresh.begins.1 rows
+      whole_is (variables view) got (IsNextFrom agents) (IsGotFrom agents) first
+      (one_table agents first view got views e answer) fresh.begins.0 fresh.begins.1 rows
       (lawful_whole agents (HasNoReply agents tries old new) first rows end done lawful);
   done_unless_lost = λ view got e answer rooms ids.
-      left_end agents first view views e rooms got (one_table agents first view got views e answer) fresh.begins.0 fresh.begins.1 (HasNoReply agents tries old new) rows end ids lawful;
+      left_end agents first view views e rooms got (one_table agents first view got views e answer) fresh.begins.0 fresh.begins.1
+      (HasNoReply agents tries old new) rows end ids lawful;
   done_unless_stopped = λ view got e answer rooms ids none.
       swift_end agents first view views e rooms got (one_table agents first view got views e answer) fresh.begins.0 fresh.begins.1 rows end ids
       (lawful_by agents (HasNoReply agents tries old new) (HasNone agents) first rows end (λ w h. none_lost agents tries old new w some none h) lawful);
@@ -109,6 +117,7 @@ send_facts agents honest tries old new first w rows given fresh good h honestly 
       (u.used, u.parts, omega (arith, u.few, ap length h.sent, length-append old.sent (sent_by h.requests)));
   few_of_table = λ k view got e answer.
       let f = honestly k in
-      let ids = few_ids agents first view got (one_table agents first view got f.1 e answer) fresh.begins.0 fresh.begins.1 w given w.phase f.2.stage f.2.paced in
+      let ids = few_ids agents first view got
+      (one_table agents first view got f.1 e answer) fresh.begins.0 fresh.begins.1 w given w.phase f.2.stage f.2.paced in
       omega (arith, h.ids, ids);
 }

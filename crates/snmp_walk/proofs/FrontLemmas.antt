@@ -47,9 +47,11 @@ rising_first last b inside false = refl
 pub front_read : (root last : List ℕ) (before : ℕ) (bindings : List VarBind) → IsFrontOf root last before bindings (front_from root last before bindings)
 front_read root last before [] = record { count = omega arith; taken = refl; name = refl; ends = (refl, refl) }
 front_read root last before (b ∷ more) =
-    let h = first_row last before b more (inside_front root more) (rising_front b.name (inside_front root more)) (front_from root b.name (before + 1) more) (is_inside root b) (comes_after last b.name) (front_read root b.name (before + 1) more) in
+    let h = first_row last before b more (inside_front root more) (rising_front b.name (inside_front root more)) (front_from root b.name (before + 1) more)
+    (is_inside root b) (comes_after last b.name) (front_read root b.name (before + 1) more) in
     let e = take_while-cons (is_inside root) b more in
-    let P : List VarBind → Type 0 = λ rows. IsReadAs last before (b ∷ more) (cond (is_inside root b) (b ∷ inside_front root more) []) rows (front_from root last before (b ∷ more)) in
+    let P : List VarBind → Type 0 = λ rows. IsReadAs last before (b ∷ more) (cond (is_inside root b) (b ∷ inside_front root more) []) rows
+    (front_from root last before (b ∷ more)) in
     let Q : List VarBind → Type 0 = λ inside. IsReadAs last before (b ∷ more) inside (rising_front last inside) (front_from root last before (b ∷ more)) in
     subst Q (sym e) (subst P (rising_first last b (inside_front root more) (is_inside root b)) h)
 
@@ -63,11 +65,16 @@ reads_by : (w : Walker) (bindings inside rows : List VarBind) (e : Ending) → E
     → (cond (nat_lt (length rows) (length inside)) (stops w rows (walk_end.NotIncreasing (last_name w.asked rows) (name_at inside (length rows))))
     (cond (nat_lt (length rows) (length bindings)) (closes w rows) (goes_on w phase.Rows rows)))
     ≡ reads_as e w rows
-reads_by w bindings inside rows GoesOn h = rw (le-ltb (length rows) (length inside) (omega (arith, h.0)), le-ltb (length rows) (length bindings) (omega (arith, h.1)))
+reads_by w bindings inside rows GoesOn h = rw (
+  le-ltb (length rows) (length inside) (omega (arith, h.0)),
+  le-ltb (length rows) (length bindings) (omega
+      (arith, h.1)),
+)
 reads_by w bindings inside rows Leaves h = rw (le-ltb (length rows) (length inside) (omega (arith, h.0)), lt-ltb (length rows) (length bindings) h.1)
 reads_by w bindings inside rows (Falls name) h = rw (lt-ltb (length rows) (length inside) h.0, h.1)
 
-front_taken : (last : List ℕ) (bindings inside rows : List VarBind) (front : Front) → IsReadAs last 0 bindings inside rows front → take front.rows bindings ≡ rows
+front_taken : (last : List ℕ) (bindings inside rows : List VarBind) (front : Front) → IsReadAs last 0 bindings inside rows front
+    → take front.rows bindings ≡ rows
 front_taken last bindings inside rows front h = let e : front.rows ≡ length rows = omega (arith, h.count) in ap (λ n. take n bindings) e ∙ h.taken
 
 placed : (w : Walker) (b : VarBind) (more : List VarBind) → is_misplaced (asked_for w.method) (b ∷ more) ≡ false → reads_next w (b ∷ more) ≡ reads w (b ∷ more)
@@ -81,5 +88,6 @@ reads_next_by w (b ∷ more) front some fine h =
     ∙ reads_by w (b ∷ more) (inside_front w.root (b ∷ more)) (rising_front w.asked (inside_front w.root (b ∷ more))) front.ending h.ends
     ∙ ap (reads_as front.ending w) (sym (front_taken w.asked (b ∷ more) _ _ front h))
 
-pub front_is : (root last : List ℕ) (before : ℕ) (bindings : List VarBind) (front : Front) → front_from root last before bindings ≡ front → IsFrontOf root last before bindings front
+pub front_is : (root last : List ℕ) (before : ℕ) (bindings : List VarBind) (front : Front) → front_from root last before bindings ≡ front
+    → IsFrontOf root last before bindings front
 front_is root last before bindings front e = subst (IsFrontOf root last before bindings) e (front_read root last before bindings)

@@ -1,5 +1,37 @@
 -- What a Get asks, name by name, and what its reply is for.
-use Rattle.std.proofs.Common.{◌≡◌, cond, ℕ, zero, suc, ◌+◌, ◌<◌, ◌≤◌, Bool, true, false, List, [], ◌∷◌, ◌++◌, length, take, drop, get_or, map, refl, sym, ◌∙◌, ap, subst, arith, length-append, append-nil, append_assoc, add-one, drop-cons}
+use Rattle.std.proofs.Common.{
+  ◌≡◌,
+  cond,
+  ℕ,
+  zero,
+  suc,
+  ◌+◌,
+  ◌<◌,
+  ◌≤◌,
+  Bool,
+  true,
+  false,
+  List,
+  [],
+  ◌∷◌,
+  ◌++◌,
+  length,
+  take,
+  drop,
+  get_or,
+  map,
+  refl,
+  sym,
+  ◌∙◌,
+  ap,
+  subst,
+  arith,
+  length-append,
+  append-nil,
+  append_assoc,
+  add-one,
+  drop-cons,
+}
 use Rattle.std.proofs.lemmas.Bool.{and_parts}
 use Rattle.std.proofs.lemmas.Grind.{flat_map-append}
 use Rattle.std.proofs.lemmas.List.{drop_all, take_all, take-append-drop, take_more}
@@ -61,19 +93,22 @@ canon_one p = append-nil (canon_binding p)
 taken_more : (names : List (List ℕ)) (i : ℕ) (o : List ℕ) → i < length names → o ≡ get_or names i o → take (i + 1) names ≡ take i names ++ o ∷ []
 taken_more names i o h e = take_more names i o h ∙ ap (λ (x : List ℕ). take i names ++ x ∷ []) (sym e)
 
-pub written_more : (names : List (List ℕ)) (i : ℕ) (o : List ℕ) (p : VarBind) → i < length names → o ≡ get_or names i o → p ≡ record { name = wire o; value = null_value }
+pub written_more : (names : List (List ℕ)) (i : ℕ) (o : List ℕ) (p : VarBind) → i < length names → o ≡ get_or names i o
+    → p ≡ record { name = wire o; value = null_value }
     → canon_bindings (asked_names (take (i + 1) names)) ≡ canon_bindings (asked_names (take i names)) ++ canon_binding p
 written_more names i o p h e is =
     ap (λ (ns : List (List ℕ)). canon_bindings (asked_names ns)) (taken_more names i o h e) ∙ ap canon_bindings (asked_push (take i names) o)
     ∙ canon_append (asked_names (take i names)) (record { name = wire o; value = null_value } ∷ [])
-    ∙ ap (λ (octets : List ℕ). canon_bindings (asked_names (take i names)) ++ octets) (canon_one (record { name = wire o; value = null_value }) ∙ ap canon_binding (sym is))
+    ∙ ap (λ (octets : List ℕ). canon_bindings (asked_names (take i names)) ++ octets) (canon_one (record { name = wire o; value = null_value })
+    ∙ ap canon_binding (sym is))
 
 -- a front is no longer than all
 pub longer_all : (names : List (List ℕ)) (i : ℕ) → length (canon_bindings (asked_names (take i names))) ≤ length (canon_bindings (asked_names names))
 longer_all names i =
     let parts : names ≡ take i names ++ drop i names = sym (take-append-drop i names) in
     let whole : canon_bindings (asked_names names) ≡ canon_bindings (asked_names (take i names)) ++ canon_bindings (asked_names (drop i names)) =
-    ap (λ (ns : List (List ℕ)). canon_bindings (asked_names ns)) parts ∙ ap canon_bindings (asked_append (take i names) (drop i names)) ∙ canon_append (asked_names (take i names)) (asked_names (drop i names)) in
+    ap (λ (ns : List (List ℕ)). canon_bindings (asked_names ns)) parts ∙ ap canon_bindings (asked_append (take i names) (drop i names))
+    ∙ canon_append (asked_names (take i names)) (asked_names (drop i names)) in
     omega (arith, ap length whole, length-append (canon_bindings (asked_names (take i names))) (canon_bindings (asked_names (drop i names))))
 
 -- what stands before the bindings is the same, whatever they are
@@ -83,7 +118,8 @@ head_of m total = refl
 
 -- the octets of the request, by its pieces
 module _ (law : HasPieces) (m bare : Message) (same : bare ≡ record m { bindings = [] }) where
-  pub pieces_of : (total : ℕ) (text : List ℕ) → total ≡ length (canon_bindings m.bindings) → text ≡ canon_bindings m.bindings → canon_head bare total ++ text ≡ canon m
+  pub pieces_of : (total : ℕ) (text : List ℕ) → total ≡ length (canon_bindings m.bindings) → text ≡ canon_bindings m.bindings
+      → canon_head bare total ++ text ≡ canon m
   pieces_of total text long is =
       let head : canon_head bare total ≡ canon_head m (length (canon_bindings m.bindings)) =
       ap (λ (x : Message). canon_head x total) same ∙ head_of m total ∙ ap (canon_head m) long in
@@ -115,7 +151,8 @@ range_push : (ps : List VarBind) (p : VarBind) → AllByRecursion IsBindingInRan
 range_push [] p h k = (k, tt)
 range_push (q ∷ ps) p h k = (h.0, range_push ps p h.1 k)
 
-pub range_more : (names : List (List ℕ)) (i : ℕ) (o : List ℕ) → i < length names → o ≡ get_or names i o → IsBindingInRange (record { name = wire o; value = null_value })
+pub range_more : (names : List (List ℕ)) (i : ℕ) (o : List ℕ) → i < length names → o ≡ get_or names i o
+    → IsBindingInRange (record { name = wire o; value = null_value })
     → AllByRecursion IsBindingInRange (asked_names (take i names)) → AllByRecursion IsBindingInRange (asked_names (take (i + 1) names))
 range_more names i o h e here front =
     subst (AllByRecursion IsBindingInRange) (sym (ap asked_names (taken_more names i o h e) ∙ asked_push (take i names) o))
@@ -131,15 +168,18 @@ no_link_of names m end e link = by_status (int_eq m.a (pos 0)) (are_for names m.
     by_status false c is = cc
 
 -- the sink refused a binding
-pub refused_by : {S : Type 0} (takes : S → VarBind → Result (Unit {0}) SinkFault → S → Type 0) (request : Message) (names : List (List ℕ)) (From : Message → Type 0) (before after : S)
+pub refused_by : {S : Type 0} (takes : S → VarBind → Result (Unit {0}) SinkFault → S → Type 0) (request : Message) (names : List (List ℕ)) (From : Message
+    → Type 0) (before after : S)
     (all : List VarBind) (fault : SinkFault) (m : Message) → From m → answers_of names m ≡ Ok all
-    → ((front : List VarBind) × (p : VarBind) × (back : List VarBind) × (all ≡ front ++ p ∷ back) × (between : S) × Given takes before front between × takes between p (Err fault) after)
+    → ((front : List VarBind) × (p : VarBind) × (back : List VarBind) × (all ≡ front ++ p ∷ back) × (between : S) × Given takes before front between
+    × takes between p (Err fault) after)
     → (rows : List VarBind) × (refused : List VarBind) × GetEnds takes request names From before rows refused (ending.Sink fault) after
 refused_by takes request names From before after all fault m from e h =
     (h.0, h.1 ∷ [], is_refused m h.1 h.2 fault h.4 from (e ∙ ap Ok h.3) refl h.5 h.6 refl)
 
 -- without an error status, and of just these names
-pub answered_all : (names : List (List ℕ)) (m : Message) (rows : List VarBind) → int_eq m.a (pos 0) ≡ true → are_for names m.bindings ≡ true → rows ≡ take (length names) m.bindings
+pub answered_all : (names : List (List ℕ)) (m : Message) (rows : List VarBind) → int_eq m.a (pos 0) ≡ true → are_for names m.bindings ≡ true
+    → rows ≡ take (length names) m.bindings
     → Ok rows ≡ answers_of names m
 answered_all names m rows status are is =
     let whole : rows ≡ m.bindings = is ∙ taken_whole names m.bindings are in

@@ -1,5 +1,32 @@
 -- An agent's reply to a Get is awaited, and is its Response.
-use Rattle.std.proofs.Common.{◌≡◌, ◌⊎◌, inl, inr, ℕ, ◌+◌, ◌^◌, ◌<◌, ◌≤◌, true, List, [], ◌∷◌, length, take, refl, sym, ◌∙◌, ap, subst, arith, ℤ, pos, Option, Some, None}
+use Rattle.std.proofs.Common.{
+  ◌≡◌,
+  ◌⊎◌,
+  inl,
+  inr,
+  ℕ,
+  ◌+◌,
+  ◌^◌,
+  ◌<◌,
+  ◌≤◌,
+  true,
+  List,
+  [],
+  ◌∷◌,
+  length,
+  take,
+  refl,
+  sym,
+  ◌∙◌,
+  ap,
+  subst,
+  arith,
+  ℤ,
+  pos,
+  Option,
+  Some,
+  None,
+}
 use Rattle.std.proofs.lemmas.Bool.{and_from}
 use Rattle.std.proofs.lemmas.Cmp.{int_eq_equiv}
 use Rattle.std.specs.Prelude.{Result, Ok, Err, IfOk, IfSome}
@@ -35,10 +62,12 @@ gets_in_range view good (o ∷ names) (p ∷ bindings) h a =
 module _ (community : List ℕ) (id : ℕ) (names : List (List ℕ)) (ranged : IsMessageInRange (get_request community id names)) where
   -- a Response to the request is awaited
   awaited : (a : ℕ) (bindings : List VarBind) → awaits community id (response (get_request community id names) (pos a) (pos 0) bindings) ≡ true
-  awaited a bindings = and_from _ _ (and_from _ _ (and_from _ _ (int_eq_equiv.refl (pos 1)) (nat_list_eq_equiv.refl community)) refl) (int_eq_equiv.refl (pos id))
+  awaited a bindings = and_from _ _ (and_from _ _ (and_from _ _ (int_eq_equiv.refl (pos 1)) (nat_list_eq_equiv.refl community)) refl) (int_eq_equiv.refl
+      (pos id))
 
   ranged_response : (a : ℕ) (bindings : List VarBind) (n : ℕ) → a < 2 → AllByRecursion IsBindingInRange bindings
-      → length (canon (response (get_request community id names) (pos a) (pos 0) bindings)) ≤ n → n ≤ 65507 → IsMessageInRange (response (get_request community id names) (pos a) (pos 0) bindings)
+      → length (canon (response (get_request community id names) (pos a) (pos 0) bindings)) ≤ n → n ≤ 65507
+      → IsMessageInRange (response (get_request community id names) (pos a) (pos 0) bindings)
   ranged_response a bindings n small each fits datagram = record {
     version = ranged.version;
     community = ranged.community;
@@ -53,7 +82,8 @@ module _ (community : List ℕ) (id : ℕ) (names : List (List ℕ)) (ranged : I
   response_of : (view : MibView) → IsMibView view → (n : ℕ) → n ≤ 65507 → (r : Message) → IsResponse view n (get_request community id names) r → Fits n r
       → IsMessageInRange r × (awaits community id r ≡ true)
   response_of view good n datagram r (whole (got bindings k answers e) fits) f = (
-    subst IsMessageInRange (sym e) (ranged_response 0 bindings n (omega arith) (gets_in_range view good names bindings ranged.bindings answers) (subst (Fits n) e f) datagram),
+    subst IsMessageInRange (sym e) (ranged_response 0 bindings n (omega arith) (gets_in_range view good names bindings ranged.bindings answers) (subst
+        (Fits n) e f) datagram),
     ap (awaits community id) e ∙ awaited 0 bindings,
   )
   response_of view good n datagram r (whole (got_next bindings k answers e) fits) f = let no : ⊥ = cc in absurd no
@@ -75,7 +105,8 @@ module _ (community : List ℕ) (id : ℕ) (names : List (List ℕ)) (ranged : I
     pub named : community ≡ agents.community
     pub is_response : IsResponse view agents.max_size (get_request community id names) message
 
-  answered : (agents : Agents) → AreLawful agents → (octets : List ℕ) → IsReplyFrom agents (canon (get_request community id names)) octets → IsAnswered agents octets
+  answered : (agents : Agents) → AreLawful agents → (octets : List ℕ) → IsReplyFrom agents (canon (get_request community id names)) octets
+      → IsAnswered agents octets
   answered agents lawful octets h =
       let view = h.0 in
       let agent = h.2 in
@@ -93,14 +124,16 @@ module _ (community : List ℕ) (id : ℕ) (names : List (List ℕ)) (ranged : I
         is_response = is_response;
       }
 
-  asked_alone : (agents : Agents) → AreLawful agents → (sent : List (List ℕ)) → sent ≡ [] → IsAsked agents community id (canon (get_request community id names)) sent
+  asked_alone : (agents : Agents) → AreLawful agents → (sent : List (List ℕ)) → sent ≡ []
+      → IsAsked agents community id (canon (get_request community id names)) sent
   asked_alone agents lawful sent none = record {
     own = λ octets reply. let a = answered agents lawful octets reply in (a.message, a.spelt, a.awaited_is);
     others = λ d one. absurd (subst (λ (s : List (List ℕ)). OneOf s d) none one);
   }
 
   -- the message that was heard
-  pub brought : (agents : Agents) (honest : Type 0) → (honest → AreLawful agents) → (q : List ℕ) → q ≡ canon (get_request community id names) → (sent : List (List ℕ))
+  pub brought : (agents : Agents) (honest : Type 0) → (honest → AreLawful agents) → (q : List ℕ) → q ≡ canon (get_request community id names)
+      → (sent : List (List ℕ))
       → (o : Option ℕ) (n : ℕ) (buffer : List ℕ) → o ≡ Some n → IfSome o (λ k. IsAwaited community id (take k buffer))
       → (honest → IsAsked agents community id q sent → IfSome o (λ k. IsReplyFrom agents q (take k buffer)))
       → (m : Message) × Spells m (take n buffer) × IsBrought agents (honest × (sent ≡ [])) community id names m

@@ -1,5 +1,40 @@
 -- What a try hears, receive by receive, and what tries hear together.
-use Rattle.std.proofs.Common.{◌≡◌, ◌≢◌, ◌⊎◌, inl, inr, ℕ, zero, suc, ◌+◌, ◌*◌, ◌<◌, ◌≤◌, Bool, true, false, List, [], ◌∷◌, ◌++◌, length, take, replicate, refl, sym, ◌∙◌, ap, subst, arith, append-nil, append_assoc, length-append, Option, Some, None}
+use Rattle.std.proofs.Common.{
+  ◌≡◌,
+  ◌≢◌,
+  ◌⊎◌,
+  inl,
+  inr,
+  ℕ,
+  zero,
+  suc,
+  ◌+◌,
+  ◌*◌,
+  ◌<◌,
+  ◌≤◌,
+  Bool,
+  true,
+  false,
+  List,
+  [],
+  ◌∷◌,
+  ◌++◌,
+  length,
+  take,
+  replicate,
+  refl,
+  sym,
+  ◌∙◌,
+  ap,
+  subst,
+  arith,
+  append-nil,
+  append_assoc,
+  length-append,
+  Option,
+  Some,
+  None,
+}
 use Rattle.std.proofs.lemmas.Bool.{false≢true}
 use Rattle.std.proofs.lemmas.Grind.{replicate_next}
 use Rattle.std.specs.List.{slice_get}
@@ -51,22 +86,26 @@ waits_first agents q old = record {
   over = λ e. let no : ⊥ = omega (arith, e) in absurd no;
 }
 
-module _ (agents : Agents) (community : List ℕ) (id : ℕ) (q : List ℕ) (old : Traffic) (asked : IsAsked agents community id q old.sent) (last : latest old.sent ≡ Some q) where
+module _ (agents : Agents) (community : List ℕ) (id : ℕ) (q : List ℕ) (old : Traffic) (asked : IsAsked agents community id q old.sent)
+    (last : latest old.sent ≡ Some q) where
   -- another reply is of another datagram
   not_own : (d octets : List ℕ) → IsReplyFrom agents d octets → ((m : Message) → Spells m octets → false ≡ awaits community id m) → d ≢ q
   not_own d octets reply stray same =
       let own = asked.own octets (subst (λ (x : List ℕ). IsReplyFrom agents x octets) same reply) in
       false≢true (stray own.0 own.1 ∙ own.2)
 
-  more_used : (used rest : List (Option ℕ)) (e : Option ℕ) (t c : ℕ) → Lost agents old.sent q (used ++ e ∷ rest) t c → Lost agents old.sent q ((used ++ e ∷ []) ++ rest) t c
+  more_used : (used rest : List (Option ℕ)) (e : Option ℕ) (t c : ℕ) → Lost agents old.sent q (used ++ e ∷ rest) t c
+      → Lost agents old.sent q ((used ++ e ∷ []) ++ rest) t c
   more_used used rest e t c lost = subst (λ (es : List (Option ℕ)). Lost agents old.sent q es t c) (sym (append_assoc used (e ∷ []) rest)) lost
 
   -- one more receive gave another reply
-  other_heard : (count : ℕ) (now left : Traffic) (e : Option ℕ) (next : List (Option ℕ)) → now.ahead ≡ e ∷ next → left.ahead ≡ next → IsOther agents old.sent q e → count < 64
+  other_heard : (count : ℕ) (now left : Traffic) (e : Option ℕ) (next : List (Option ℕ)) → now.ahead ≡ e ∷ next → left.ahead ≡ next
+      → IsOther agents old.sent q e → count < 64
       → Waits agents q old count now → Waits agents q old (count + 1) left
   other_heard count now left e next ahead rest_is other less w = record {
     used = w.used ++ e ∷ [];
-    parts = w.parts ∙ ap (λ (es : List (Option ℕ)). w.used ++ es) ahead ∙ sym (append_assoc w.used (e ∷ []) next) ∙ ap (λ (es : List (Option ℕ)). (w.used ++ e ∷ []) ++ es) (sym rest_is);
+    parts = w.parts ∙ ap (λ (es : List (Option ℕ)). w.used ++ es) ahead ∙ sym (append_assoc w.used (e ∷ []) next)
+        ∙ ap (λ (es : List (Option ℕ)). (w.used ++ e ∷ []) ++ es) (sym rest_is);
     few = omega (arith, w.few, length-append w.used (e ∷ []));
     under = λ more t rest lost.
         let under_63 : count ≢ 63 = λ is. omega (arith, more, is) in
@@ -95,11 +134,13 @@ module _ (agents : Agents) (community : List ℕ) (id : ℕ) (q : List ℕ) (old
       other_heard count now left (Some k) next is r.0 (of_other (datagram_at old.sent k) k octets refl given stray) less w
 
   -- nothing came, by this delivery
-  nothing_heard : (count : ℕ) (now left : Traffic) (e : Option ℕ) (next : List (Option ℕ)) → now.ahead ≡ e ∷ next → left.ahead ≡ next → IsNothing agents old.sent e → count < 64
+  nothing_heard : (count : ℕ) (now left : Traffic) (e : Option ℕ) (next : List (Option ℕ)) → now.ahead ≡ e ∷ next → left.ahead ≡ next
+      → IsNothing agents old.sent e → count < 64
       → Waits agents q old count now → (silent : Type 0) → Hears agents q old silent left
   nothing_heard count now left e next ahead rest_is none less w silent = record {
     used = w.used ++ e ∷ [];
-    parts = w.parts ∙ ap (λ (es : List (Option ℕ)). w.used ++ es) ahead ∙ sym (append_assoc w.used (e ∷ []) next) ∙ ap (λ (es : List (Option ℕ)). (w.used ++ e ∷ []) ++ es) (sym rest_is);
+    parts = w.parts ∙ ap (λ (es : List (Option ℕ)). w.used ++ es) ahead ∙ sym (append_assoc w.used (e ∷ []) next)
+        ∙ ap (λ (es : List (Option ℕ)). (w.used ++ e ∷ []) ++ es) (sym rest_is);
     few = omega (arith, w.few, less, length-append w.used (e ∷ []));
     lost = λ s. inr (λ t rest lost. subst (λ (n : ℕ). Lost agents old.sent q ((w.used ++ e ∷ []) ++ rest) n 0) (add_one t)
         (more_used w.used rest e (suc t) 0 (w.under less t (e ∷ rest) (inl (none, lost)))));
@@ -126,9 +167,11 @@ module _ (agents : Agents) (community : List ℕ) (id : ℕ) (q : List ℕ) (old
       → Receives agents now.sent ahead (Some octets) left.ahead → (m : Message) → Spells m octets → awaits community id m ≡ true → IsReplyFrom agents q octets
   reply_heard now left octets same [] is r m spelt awaited = subst (λ (d : Option (List ℕ)). Gives agents d (Some octets)) (ap latest same ∙ last) r.1
   reply_heard now left octets same (None ∷ next) is r m spelt awaited = let e = r.1 in let no : ⊥ = cc in absurd no
-  reply_heard now left octets same (Some k ∷ next) is r m spelt awaited = by_datagram (datagram_at old.sent k) refl (subst (λ (s : List (List ℕ)). Gives agents (datagram_at s k) (Some octets)) same r.1)
+  reply_heard now left octets same (Some k ∷ next) is r m spelt awaited = by_datagram (datagram_at old.sent k) refl (subst (λ (s : List
+      (List ℕ)). Gives agents (datagram_at s k) (Some octets)) same r.1)
     where
-      by_other : (d : List ℕ) → IsReplyFrom agents d octets → (d ≡ q) ⊎ ((o : List ℕ) (n : Message) → IsReplyFrom agents d o → Spells n o → awaits community id n ≡ false) → IsReplyFrom agents q octets
+      by_other : (d : List ℕ) → IsReplyFrom agents d octets → (d ≡ q) ⊎ ((o : List ℕ) (n : Message) → IsReplyFrom agents d o → Spells n o
+          → awaits community id n ≡ false) → IsReplyFrom agents q octets
       by_other d given (inl e) = subst (λ (x : List ℕ). IsReplyFrom agents x octets) e given
       by_other d given (inr f) = absurd (false≢true (sym (f octets m given spelt) ∙ awaited))
 
@@ -137,7 +180,8 @@ module _ (agents : Agents) (community : List ℕ) (id : ℕ) (q : List ℕ) (old
       by_datagram (Some d) e given = by_other d given (asked.others d (found old.sent k d e))
 
 -- how a try that was cut off used its deliveries, where it had heard others alone
-pub waits_used : (agents : Agents) (q : List ℕ) (old now : Traffic) (count : ℕ) → count ≤ 64 → Waits agents q old count now → (silent : Type 0) → (silent → ⊥) → Hears agents q old silent now
+pub waits_used : (agents : Agents) (q : List ℕ) (old now : Traffic) (count : ℕ) → count ≤ 64 → Waits agents q old count now → (silent : Type 0) → (silent
+    → ⊥) → Hears agents q old silent now
 waits_used agents q old now count few w silent never = record { used = w.used; parts = w.parts; few = omega (arith, w.few, few); lost = λ s. absurd (never s) }
 
 -- after the last receive
@@ -153,15 +197,23 @@ waits_over agents q old now w silent = record {
     add_one t = omega arith
 
 -- the receive that ended the try used one delivery at most
-pub heard_used : (agents : Agents) (q : List ℕ) (old now left : Traffic) (count : ℕ) (reply : Option (List ℕ)) → count < 64 → (ahead : List (Option ℕ)) → now.ahead ≡ ahead
+pub heard_used : (agents : Agents) (q : List ℕ) (old now left : Traffic) (count : ℕ) (reply : Option (List ℕ)) → count < 64 → (ahead : List (Option ℕ))
+    → now.ahead ≡ ahead
     → Receives agents now.sent ahead reply left.ahead → Waits agents q old count now → (silent : Type 0) → (silent → ⊥) → Hears agents q old silent left
 heard_used agents q old now left count reply less [] is r w silent never =
-    record { used = w.used; parts = w.parts ∙ ap (λ (es : List (Option ℕ)). w.used ++ es) (is ∙ sym r.0); few = omega (arith, w.few, less); lost = λ s. absurd (never s) }
+    record {
+      used = w.used;
+      parts = w.parts ∙ ap (λ (es : List (Option ℕ)). w.used ++ es) (is
+          ∙ sym r.0);
+      few = omega (arith, w.few, less);
+      lost = λ s. absurd (never s);
+    }
 heard_used agents q old now left count reply less (e ∷ next) is r w silent never =
     let left_is : left.ahead ≡ next = left_of e reply r in
     record {
       used = w.used ++ e ∷ [];
-      parts = w.parts ∙ ap (λ (es : List (Option ℕ)). w.used ++ es) is ∙ sym (append_assoc w.used (e ∷ []) next) ∙ ap (λ (es : List (Option ℕ)). (w.used ++ e ∷ []) ++ es) (sym left_is);
+      parts = w.parts ∙ ap (λ (es : List (Option ℕ)). w.used ++ es) is ∙ sym (append_assoc w.used (e ∷ []) next)
+          ∙ ap (λ (es : List (Option ℕ)). (w.used ++ e ∷ []) ++ es) (sym left_is);
       few = omega (arith, w.few, less, length-append w.used (e ∷ []));
       lost = λ s. absurd (never s);
     }
@@ -173,7 +225,8 @@ heard_used agents q old now left count reply less (e ∷ next) is r w silent nev
 -- ---- tries
 
 -- where no try is left it doesn't matter what was sent
-resent_lost : (agents : Agents) (q : List ℕ) (sent : List (List ℕ)) (rest : List (Option ℕ)) (t : ℕ) → Lost agents (sent ++ q ∷ []) q rest t 0 → Lost agents (resent sent q t) q rest t 0
+resent_lost : (agents : Agents) (q : List ℕ) (sent : List (List ℕ)) (rest : List (Option ℕ)) (t : ℕ) → Lost agents (sent ++ q ∷ []) q rest t 0
+    → Lost agents (resent sent q t) q rest t 0
 resent_lost agents q sent [] zero lost = lost
 resent_lost agents q sent (e ∷ rest) zero lost = absurd lost
 resent_lost agents q sent rest (suc t) lost = lost
@@ -194,7 +247,8 @@ missing_first agents q old all = record {
   few = omega arith;
   lost = inr (λ t rest e lost.
       let same : t ≡ all = omega (arith, e) in
-      subst (λ (n : ℕ). Lost agents (old.sent ++ q ∷ []) q rest n 0) same (subst (λ (s : List (List ℕ)). Lost agents (s ++ q ∷ []) q rest t 0) (append-nil old.sent) lost));
+      subst (λ (n : ℕ). Lost agents (old.sent ++ q ∷ []) q rest n 0) same (subst (λ (s : List (List ℕ)). Lost agents (s ++ q ∷ []) q rest t 0)
+      (append-nil old.sent) lost));
 }
 
 sent_more : (sent : List (List ℕ)) (q : List ℕ) (count : ℕ) → sent ++ replicate (count + 1) q ≡ (sent ++ replicate count q) ++ q ∷ []
@@ -233,7 +287,8 @@ missing_more agents q old between now count all silent s sent before ahead h m =
         let before_this : Lost agents ((old.sent ++ replicate count q) ++ q ∷ []) q (h.used ++ rest) (t + 1) 0 =
         subst (λ (x : List (List ℕ)). Lost agents x q (h.used ++ rest) (t + 1) 0) sent then_this in
         let sum : count + (t + 1) ≡ all = omega (arith, e) in
-        subst (λ (es : List (Option ℕ)). Lost agents (old.sent ++ q ∷ []) q es all 0) (sym (append_assoc m.used h.used rest)) (f (t + 1) (h.used ++ rest) sum before_this))
+        subst (λ (es : List (Option ℕ)). Lost agents (old.sent ++ q ∷ []) q es all 0) (sym (append_assoc m.used h.used rest)) (f (t + 1)
+        (h.used ++ rest) sum before_this))
 
 -- what tries used, and that they lost the request
 abbrev pub Uses : Agents → List ℕ → Traffic → (times tries : ℕ) → Type 0 → Traffic → Type 0
@@ -242,7 +297,8 @@ Uses agents q old times tries silent now =
     × (silent → IsUnanswered agents q ⊎ Lost agents (old.sent ++ q ∷ []) q used tries 0)
 
 -- no try brought a reply
-pub missing_all : (agents : Agents) (q : List ℕ) (old now : Traffic) (count all : ℕ) → count ≡ all → Missing agents q old count all now → (silent : Type 0) → Uses agents q old count all silent now
+pub missing_all : (agents : Agents) (q : List ℕ) (old now : Traffic) (count all : ℕ) → count ≡ all → Missing agents q old count all now → (silent : Type 0)
+    → Uses agents q old count all silent now
 missing_all agents q old now count all same m silent = (m.used, m.parts, m.few, λ s. by_lost m.lost)
   where
     by_lost : IsUnanswered agents q
@@ -250,7 +306,8 @@ missing_all agents q old now count all same m silent = (m.used, m.parts, m.few, 
         → Lost agents (old.sent ++ q ∷ []) q (m.used ++ rest) all 0)
         → IsUnanswered agents q ⊎ Lost agents (old.sent ++ q ∷ []) q m.used all 0
     by_lost (inl u) = inl u
-    by_lost (inr f) = inr (subst (λ (es : List (Option ℕ)). Lost agents (old.sent ++ q ∷ []) q es all 0) (append-nil m.used) (f 0 [] (omega (arith, same)) refl))
+    by_lost (inr f) = inr (subst (λ (es : List (Option ℕ)). Lost agents (old.sent ++ q ∷ []) q es all 0) (append-nil m.used) (f 0 [] (omega
+        (arith, same)) refl))
 
 -- the last try was cut off, or brought one
 pub heard_more : (agents : Agents) (q : List ℕ) (old before between now : Traffic) (count all : ℕ) (heard silent : Type 0) → between.ahead ≡ before.ahead
@@ -263,7 +320,8 @@ heard_more agents q old before between now count all heard silent ahead h m neve
 )
 
 -- what was sent so far was cut off at a send
-pub missing_used : (agents : Agents) (q : List ℕ) (old now later : Traffic) (count all : ℕ) (silent : Type 0) → later.ahead ≡ now.ahead → Missing agents q old count all now → (silent → ⊥)
+pub missing_used : (agents : Agents) (q : List ℕ) (old now later : Traffic) (count all : ℕ) (silent : Type 0) → later.ahead ≡ now.ahead
+    → Missing agents q old count all now → (silent → ⊥)
     → Uses agents q old count all silent later
 missing_used agents q old now later count all silent same m never =
     (m.used, m.parts ∙ ap (λ (es : List (Option ℕ)). m.used ++ es) (sym same), m.few, λ s. absurd (never s))

@@ -1,12 +1,56 @@
 -- An agent's reply to the waiting request is an honest one.
-use Rattle.std.proofs.Common.{false, ◌≡◌, ◌≢◌, ◌≤ℤ◌, ◌⊎◌, inl, inr, ℕ, ◌+◌, ◌^◌, ◌<◌, ◌≤◌, List, [], ◌∷◌, ◌++◌, length, refl, sym, ◌∙◌, ap, subst, arith, ℤ, pos, length-append}
+use Rattle.std.proofs.Common.{
+  false,
+  ◌≡◌,
+  ◌≢◌,
+  ◌≤ℤ◌,
+  ◌⊎◌,
+  inl,
+  inr,
+  ℕ,
+  ◌+◌,
+  ◌^◌,
+  ◌<◌,
+  ◌≤◌,
+  List,
+  [],
+  ◌∷◌,
+  ◌++◌,
+  length,
+  refl,
+  sym,
+  ◌∙◌,
+  ap,
+  subst,
+  arith,
+  ℤ,
+  pos,
+  length-append,
+}
 use Rattle.std.proofs.lemmas.Bool.{false≢true, cases_lt}
 use Rattle.std.specs.Prelude.{FitsSigned, unsigned_abs}
 use Rattle.std.specs.Int.{w32}
 use Rattle.std.specs.List.{AllByRecursion}
 use Rattle.snmp_oid.specs.Identifier.{IsIdentifier, IsWire}
 use Rattle.snmp_wire.specs.declared.kind.Kind.TheVariants as kind
-use Rattle.snmp_wire.specs.Message.{Datum, VarBind, Message, integer_value, octet_string, null_value, object_id, ip_address, counter32, gauge32, time_ticks, opaque_octets, counter64, no_such_object, no_such_instance, end_of_mib_view}
+use Rattle.snmp_wire.specs.Message.{
+  Datum,
+  VarBind,
+  Message,
+  integer_value,
+  octet_string,
+  null_value,
+  object_id,
+  ip_address,
+  counter32,
+  gauge32,
+  time_ticks,
+  opaque_octets,
+  counter64,
+  no_such_object,
+  no_such_instance,
+  end_of_mib_view,
+}
 use Rattle.snmp_wire.specs.Spelling.{Spells}
 use Rattle.snmp_wire.specs.Canon.{canon, canon_bindings, canon_head}
 use Rattle.snmp_wire.specs.Range.{IsInRange, IsBindingInRange, IsMessageInRange}
@@ -67,7 +111,11 @@ value_in_range no_such_instance h = tt
 value_in_range end_of_mib_view h = tt
 
 pub get_in_range : (view : MibView) → IsMibView view → (o : List ℕ) (p : VarBind) → IsWire o → IsIdentifier o → IsGet view o p → IsBindingInRange p
-get_in_range view good o p w i (variable e row) = record { name = subst (λ (n : List ℕ). IsInRange (object_id n)) (sym e) (w, i); value = value_in_range p.value (good.values p row) }
+get_in_range view good o p w i (variable e row) = record {
+  name = subst (λ (n : List ℕ). IsInRange (object_id n)) (sym e)
+      (w, i);
+  value = value_in_range p.value (good.values p row);
+}
 get_in_range view good o p w i (unknown_object none unknown is) = subst IsBindingInRange (sym is) (record { name = (w, i); value = tt })
 get_in_range view good o p w i (unknown_instance none has is) = subst IsBindingInRange (sym is) (record { name = (w, i); value = tt })
 
@@ -77,7 +125,8 @@ next_in_range view good o p w i (successor s) =
 next_in_range view good o p w i (end_of_view none is) = subst IsBindingInRange (sym is) (record { name = (w, i); value = tt })
 
 -- each of a chain of answers
-chain_in_range : (view : MibView) → IsMibView view → (o : List ℕ) (ps : List VarBind) → IsWire o → IsIdentifier o → IsChain (IsNext view) o ps → AllByRecursion IsBindingInRange ps
+chain_in_range : (view : MibView) → IsMibView view → (o : List ℕ) (ps : List VarBind) → IsWire o → IsIdentifier o → IsChain (IsNext view) o ps
+    → AllByRecursion IsBindingInRange ps
 chain_in_range view good o [] w i h = tt
 chain_in_range view good o (p ∷ ps) w i h =
     let first : IsBindingInRange p = next_in_range view good o p w i h.0 in
@@ -138,7 +187,8 @@ set_phase phase.Last m k = cc
 set_phase phase.Over m k = cc
 
 -- a front of the bindings asked for is no more than was asked for
-few_bindings : (these bindings more all : List VarBind) (m : Method) (repetitions : ℤ) → these ≡ bindings → all ≡ bindings ++ more → m ≡ method.Bulk repetitions → length all ≤ unsigned_abs repetitions → length these ≤ asked_for m
+few_bindings : (these bindings more all : List VarBind) (m : Method) (repetitions : ℤ) → these ≡ bindings → all ≡ bindings ++ more
+    → m ≡ method.Bulk repetitions → length all ≤ unsigned_abs repetitions → length these ≤ asked_for m
 few_bindings these bindings more all m repetitions same front is few =
     let long : length all ≡ length bindings + length more = ap length front ∙ length-append bindings more in
     let here : length these ≤ unsigned_abs repetitions = omega (arith, ap length same, long, few) in
@@ -157,13 +207,15 @@ module _ (agents : Agents) (lawful : AreLawful agents) (w : Walker) (good : IsWa
   view_good = view_of agents.tables lawful.views view one
 
   of_get : (m : Message) (p : VarBind) → (w.phase ≡ phase.First) ⊎ (w.phase ≡ phase.Last)
-      → ((m.a ≡ pos 0) × ((q : VarBind) × IsGotFrom agents w.asked q × (m.bindings ≡ q ∷ []))) ⊎ ((m.a ≡ pos 1) × (m.b ≡ pos 0) × IsLarge (IsGotFrom agents) (IsTooLarge agents) w.asked)
+      → ((m.a ≡ pos 0) × ((q : VarBind) × IsGotFrom agents w.asked q × (m.bindings ≡ q ∷ []))) ⊎ ((m.a ≡ pos 1) × (m.b ≡ pos 0)
+      × IsLarge (IsGotFrom agents) (IsTooLarge agents) w.asked)
       → IsReplyContent (IsNextFrom agents) (IsGotFrom agents) (IsTooLarge agents) w.phase w m
   of_get m p (inl e) c = subst (λ (q : Phase). IsReplyContent (IsNextFrom agents) (IsGotFrom agents) (IsTooLarge agents) q w m) (sym e) c
   of_get m p (inr e) c = subst (λ (q : Phase). IsReplyContent (IsNextFrom agents) (IsGotFrom agents) (IsTooLarge agents) q w m) (sym e) c
 
   replied : (m : Message) (a : ℕ) (bindings : List VarBind) → m ≡ response (request_of w) (pos a) (pos 0) bindings
-      → IsReplyContent (IsNextFrom agents) (IsGotFrom agents) (IsTooLarge agents) w.phase w m → IsReplyTo (IsNextFrom agents) (IsGotFrom agents) (IsTooLarge agents) w m
+      → IsReplyContent (IsNextFrom agents) (IsGotFrom agents) (IsTooLarge agents) w.phase w m
+      → IsReplyTo (IsNextFrom agents) (IsGotFrom agents) (IsTooLarge agents) w m
   replied m a bindings e content = record {
     version = ap (λ (x : Message). x.version) e;
     community = ap (λ (x : Message). x.community) e;
@@ -175,12 +227,14 @@ module _ (agents : Agents) (lawful : AreLawful agents) (w : Walker) (good : IsWa
   -- what is too large for the agent is too large
   large : (p : VarBind) → (Fits agents.max_size (response (request_of w) no_error (pos 0) (p ∷ [])) → ⊥) → IsTooLarge agents p
   large p no_fit =
-      let Response = λ (c : List ℕ). length (canon (record { version = pos 1; community = c; kind = kind.Response; id = pos w.id; a = pos 0; b = pos 0; bindings = p ∷ [] })) in
+      let Response = λ (c : List ℕ). length (canon
+      (record { version = pos 1; community = c; kind = kind.Response; id = pos w.id; a = pos 0; b = pos 0; bindings = p ∷ [] })) in
       let more : agents.max_size < Response w.community = above agents.max_size (Response w.community) no_fit in
       (w.id, good.id, subst (λ (c : List ℕ). agents.max_size < Response c) community more)
 
   -- where no binding came, the first has no room
-  first_large : (all bindings : List VarBind) → bindings ≡ [] → IsChain (IsNext view) w.asked all → all ≢ [] → IsLongestFront agents.max_size (request_of w) all bindings
+  first_large : (all bindings : List VarBind) → bindings ≡ [] → IsChain (IsNext view) w.asked all → all ≢ []
+      → IsLongestFront agents.max_size (request_of w) all bindings
       → IsLarge (IsNextFrom agents) (IsTooLarge agents) w.asked
   first_large [] bindings none chain some longest = absurd (some refl)
   first_large (p ∷ later) bindings none chain some longest = (
@@ -229,15 +283,19 @@ module _ (agents : Agents) (lawful : AreLawful agents) (w : Walker) (good : IsWa
   content_of m r same (bulk all bindings k asked longest e) =
       let is : m ≡ response (request_of w) (pos 0) (pos 0) bindings = same ∙ e in
       let at = bulk_phase w.phase w.method k in
-      let repetitions : request_repetitions w.phase w.method ≡ at.1 = ap (λ (q : Phase). request_repetitions q w.method) at.0 ∙ ap (request_repetitions phase.Rows) at.2 in
+      let repetitions : request_repetitions w.phase w.method ≡ at.1 = ap (λ (q : Phase). request_repetitions q w.method) at.0
+      ∙ ap (request_repetitions phase.Rows) at.2 in
       let positive : pos 1 ≤ℤ request_repetitions w.phase w.method = subst (λ (z : ℤ). pos 1 ≤ℤ z) (sym repetitions) (subst IsMethod at.2 good.method) in
-      let one_name : IsOneBulk view view_good w.asked (request_repetitions w.phase w.method) all = one_bulk view view_good (request_of w) w.asked all refl refl asked in
+      let one_name : IsOneBulk view view_good w.asked (request_repetitions w.phase w.method) all = one_bulk view view_good
+      (request_of w) w.asked all refl refl asked in
       let only : m.bindings ≡ bindings = ap (λ (x : Message). x.bindings) is in
-      let own : IsChain (IsNext view) w.asked bindings = chain_front (IsNext view) w.asked bindings longest.more (subst (IsChain (IsNext view) w.asked) longest.front one_name.chain) in
+      let own : IsChain (IsNext view) w.asked bindings = chain_front (IsNext view) w.asked bindings longest.more (subst (IsChain
+      (IsNext view) w.asked) longest.front one_name.chain) in
       let chain : IsChain (IsNextFrom agents) w.asked m.bindings =
       subst (IsChain (IsNextFrom agents) w.asked) (sym only) (chain_by (IsNext view) (IsNextFrom agents) (λ o p n. (view, one, n)) w.asked bindings own) in
       let few : length m.bindings ≤ asked_for w.method =
-      few_bindings m.bindings bindings longest.more all w.method at.1 only longest.front at.2 (subst (λ (z : ℤ). length all ≤ unsigned_abs z) repetitions one_name.few) in
+      few_bindings m.bindings bindings longest.more all w.method at.1 only longest.front at.2 (subst (λ
+      (z : ℤ). length all ≤ unsigned_abs z) repetitions one_name.few) in
       let some : m.bindings ≡ [] → IsLarge (IsNextFrom agents) (IsTooLarge agents) w.asked = λ none.
       first_large all bindings (sym only ∙ none) one_name.chain (one_name.some positive) longest in
       replied m 0 bindings is (subst (λ (q : Phase). IsReplyContent (IsNextFrom agents) (IsGotFrom agents) (IsTooLarge agents) q w m) (sym at.0)
@@ -254,23 +312,32 @@ module _ (agents : Agents) (lawful : AreLawful agents) (w : Walker) (good : IsWa
       subst IsMessageInRange (sym e) (response_in_range w good 0 bindings agents.max_size (omega arith) each (subst (Fits agents.max_size) e f) lawful.size)
   in_range r (whole (unwritten k e) fits) f = absurd (set_phase w.phase w.method k)
   in_range r (bulk all bindings k asked longest e) f =
-      let one_name : IsOneBulk view view_good w.asked (request_repetitions w.phase w.method) all = one_bulk view view_good (request_of w) w.asked all refl refl asked in
-      let own : IsChain (IsNext view) w.asked bindings = chain_front (IsNext view) w.asked bindings longest.more (subst (IsChain (IsNext view) w.asked) longest.front one_name.chain) in
+      let one_name : IsOneBulk view view_good w.asked (request_repetitions w.phase w.method) all = one_bulk view view_good
+      (request_of w) w.asked all refl refl asked in
+      let own : IsChain (IsNext view) w.asked bindings = chain_front (IsNext view) w.asked bindings longest.more (subst (IsChain
+      (IsNext view) w.asked) longest.front one_name.chain) in
       let each = chain_in_range view view_good w.asked bindings good.asked good.identifier own in
       subst IsMessageInRange (sym e) (response_in_range w good 0 bindings agents.max_size (omega arith) each (subst (Fits agents.max_size) e f) lawful.size)
   in_range r (shortened large_one a no_fit e) f =
       subst IsMessageInRange (sym e) (response_in_range w good 1 [] agents.max_size (omega arith) tt (subst (Fits agents.max_size) e f) lawful.size)
 
 -- the reply of one of the agents to the waiting request
-pub honest_reply : (agents : Agents) → AreLawful agents → (w : Walker) → IsWalker w → is_over w.phase ≡ false → (reply : List ℕ) → IsReplyFrom agents (canon (request_of w)) reply
+pub honest_reply : (agents : Agents) → AreLawful agents → (w : Walker) → IsWalker w → is_over w.phase ≡ false → (reply : List ℕ)
+    → IsReplyFrom agents (canon (request_of w)) reply
     → (m : Message) × Spells m reply × IsReplyTo (IsNextFrom agents) (IsGotFrom agents) (IsTooLarge agents) w m
 honest_reply agents lawful w good waits reply h =
     let view = h.0 in
     let agent = h.2 in
-    let own : Spells (request_of w) (canon (request_of w)) = strict_is_read (request_of w) (canon (request_of w)) (strict_canon (request_of w) (request_in_range w good)) in
-    let same : agent.request ≡ request_of w = (one_message agent.request (request_of w) (canon (request_of w)) (canon (request_of w)) [] [] agent.is_request.spelt own refl).0 in
+    let own : Spells (request_of w) (canon (request_of w)) = strict_is_read (request_of w) (canon (request_of w)) (strict_canon (request_of w)
+    (request_in_range w good)) in
+    let same : agent.request ≡ request_of w = (one_message agent.request (request_of w) (canon (request_of w)) (canon
+    (request_of w)) [] [] agent.is_request.spelt own refl).0 in
     let community : w.community ≡ agents.community = ap (λ (m : Message). m.community) (sym same) ∙ agent.is_request.named in
     let is_response = subst (λ (q : Message). IsResponse view agents.max_size q agent.response) same agent.is_response in
     let ranged = in_range agents lawful w good waits view h.1 community agent.response is_response agent.fits in
-    let spelt : Spells agent.response (canon agent.response) = strict_is_read agent.response (canon agent.response) (strict_canon agent.response ranged) in
-    (agent.response, subst (Spells agent.response) (sym agent.encoding) spelt, content_of agents lawful w good waits view h.1 community agent.response agent.response refl is_response)
+    let spelt : Spells agent.response (canon agent.response) = strict_is_read agent.response (canon agent.response) (strict_canon agent.response ranged) in (
+      agent.response,
+      subst (Spells agent.response)
+          (sym agent.encoding) spelt,
+      content_of agents lawful w good waits view h.1 community agent.response agent.response refl is_response,
+    )

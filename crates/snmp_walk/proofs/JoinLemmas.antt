@@ -9,7 +9,20 @@ use Rattle.std.specs.FinMap.{get, entries, find, is_sorted, get-entries, entries
 use Rattle.std.specs.FinMap.Entries.{below_all}
 use Rattle.snmp_oid.specs.Identifier.{Precedes}
 use Rattle.snmp_wire.specs.Message.{Datum, VarBind}
-use Rattle.snmp_table.specs.Table.{MibView, IsRow, IsInstanceName, IsInstanceValue, IsMibView, IsGet, variable, unknown_object, unknown_instance, IsNext, successor, end_of_view}
+use Rattle.snmp_table.specs.Table.{
+  MibView,
+  IsRow,
+  IsInstanceName,
+  IsInstanceValue,
+  IsMibView,
+  IsGet,
+  variable,
+  unknown_object,
+  unknown_instance,
+  IsNext,
+  successor,
+  end_of_view,
+}
 use Rattle.snmp_table.specs.Listing.{variables}
 use Rattle.snmp_walk.specs.Names.{is_missing, comes_after}
 use Rattle.snmp_walk.specs.Walk.{rows_after, rows_named, AreAfter, AreRising, AreInstances, or_end}
@@ -32,7 +45,8 @@ after_entries x (e ∷ es) h = let p = and_parts (is_lt (slice_cmp nat_cmp x e.0
 
 rising_entries : (es : List (List ℕ × Datum)) → is_sorted (slice_cmp nat_cmp) es ≡ true → AreRising (map binding_of es)
 rising_entries [] h = tt
-rising_entries (e ∷ es) h = let p = and_parts (below_all (slice_cmp nat_cmp) e.0 es) (is_sorted (slice_cmp nat_cmp) es) h in (after_entries e.0 es p.0, rising_entries es p.1)
+rising_entries (e ∷ es) h = let p = and_parts (below_all (slice_cmp nat_cmp) e.0 es) (is_sorted (slice_cmp nat_cmp) es) h in
+    (after_entries e.0 es p.0, rising_entries es p.1)
 
 -- one of the bindings
 abbrev IsIn : VarBind → List VarBind → Type 0
@@ -72,7 +86,8 @@ no_tie q x after = false_from_ne_true (eq_by_cmp (slice_cmp nat_cmp) q x) (λ ti
     false≢true (sym (after-irrefl x) ∙ itself))
 
 -- what is in the list is found
-in_found : (p : VarBind) (es : List (List ℕ × Datum)) → is_sorted (slice_cmp nat_cmp) es ≡ true → IsIn p (map binding_of es) → find (slice_cmp nat_cmp) p.name es ≡ Some p.value
+in_found : (p : VarBind) (es : List (List ℕ × Datum)) → is_sorted (slice_cmp nat_cmp) es ≡ true → IsIn p (map binding_of es)
+    → find (slice_cmp nat_cmp) p.name es ≡ Some p.value
 in_found p [] h i = absurd i
 in_found p (e ∷ es) h (inl same) =
     let tie : eq_by_cmp (slice_cmp nat_cmp) p.name e.0 ≡ true = ap (λ (b : VarBind). eq_by_cmp (slice_cmp nat_cmp) b.name e.0) same ∙ tie_self e.0 in
@@ -101,14 +116,17 @@ none_named x (q ∷ rows) h =
     false≢true (sym (after-irrefl x) ∙ itself)) in
     cond-false _ (q ∷ rows_named x rows) (rows_named x rows) other ∙ none_named x rows h.1
 
-named_by : (o : List ℕ) (v : Datum) (e : List ℕ × Datum) (es : List (List ℕ × Datum)) (b : Bool) → b ≡ eq_by_cmp (slice_cmp nat_cmp) o e.0 → AreAfter e.0 (map binding_of es)
-    → cond b (Some e.1) (find (slice_cmp nat_cmp) o es) ≡ Some v → (find (slice_cmp nat_cmp) o es ≡ Some v → rows_named o (map binding_of es) ≡ binding_of (o, v) ∷ [])
+named_by : (o : List ℕ) (v : Datum) (e : List ℕ × Datum) (es : List (List ℕ × Datum)) (b : Bool) → b ≡ eq_by_cmp (slice_cmp nat_cmp) o e.0
+    → AreAfter e.0 (map binding_of es)
+    → cond b (Some e.1) (find (slice_cmp nat_cmp) o es) ≡ Some v → (find (slice_cmp nat_cmp) o es ≡ Some v
+    → rows_named o (map binding_of es) ≡ binding_of (o, v) ∷ [])
     → cond b (binding_of e ∷ rows_named o (map binding_of es)) (rows_named o (map binding_of es)) ≡ binding_of (o, v) ∷ []
 named_by o v e es true t after h later =
     let name : o ≡ e.0 = tie_is o e.0 (sym t) in
     let value : e.1 ≡ v = cc in
     let rest : rows_named o (map binding_of es) ≡ [] = ap (λ (n : List ℕ). rows_named n (map binding_of es)) name ∙ none_named e.0 (map binding_of es) after in
-    ap (λ (s : List VarBind). binding_of e ∷ s) rest ∙ ap (λ (n : List ℕ). binding_of (n, e.1) ∷ []) (sym name) ∙ ap (λ (d : Datum). binding_of (o, d) ∷ []) value
+    ap (λ (s : List VarBind). binding_of e ∷ s) rest ∙ ap (λ (n : List ℕ). binding_of (n, e.1) ∷ []) (sym name)
+    ∙ ap (λ (d : Datum). binding_of (o, d) ∷ []) value
 named_by o v e es false t after h later = later h
 
 named_found : (o : List ℕ) (v : Datum) (es : List (List ℕ × Datum)) → is_sorted (slice_cmp nat_cmp) es ≡ true → find (slice_cmp nat_cmp) o es ≡ Some v
@@ -116,7 +134,8 @@ named_found : (o : List ℕ) (v : Datum) (es : List (List ℕ × Datum)) → is_
 named_found o v [] s h = let never : ⊥ = cc in absurd never
 named_found o v (e ∷ es) s h =
     let parts = and_parts (below_all (slice_cmp nat_cmp) e.0 es) (is_sorted (slice_cmp nat_cmp) es) s in
-    ap (λ (b : Bool). cond b (binding_of e ∷ rows_named o (map binding_of es)) (rows_named o (map binding_of es))) (same_test o e.0 (eq_by_cmp (slice_cmp nat_cmp) o e.0) refl)
+    ap (λ (b : Bool). cond b (binding_of e ∷ rows_named o (map binding_of es)) (rows_named o (map binding_of es))) (same_test o e.0 (eq_by_cmp
+    (slice_cmp nat_cmp) o e.0) refl)
     ∙ named_by o v e es (eq_by_cmp (slice_cmp nat_cmp) o e.0) refl (after_entries e.0 es parts.0) h (named_found o v es parts.1)
 
 unnamed_by : (o : List ℕ) (e : List ℕ × Datum) (es : List (List ℕ × Datum)) (b : Bool)
@@ -128,10 +147,12 @@ unnamed_by o e es false h later = later h
 named_none : (o : List ℕ) (es : List (List ℕ × Datum)) → find (slice_cmp nat_cmp) o es ≡ None → rows_named o (map binding_of es) ≡ []
 named_none o [] h = refl
 named_none o (e ∷ es) h =
-    ap (λ (b : Bool). cond b (binding_of e ∷ rows_named o (map binding_of es)) (rows_named o (map binding_of es))) (same_test o e.0 (eq_by_cmp (slice_cmp nat_cmp) o e.0) refl)
+    ap (λ (b : Bool). cond b (binding_of e ∷ rows_named o (map binding_of es)) (rows_named o (map binding_of es))) (same_test o e.0 (eq_by_cmp
+    (slice_cmp nat_cmp) o e.0) refl)
     ∙ unnamed_by o e es (eq_by_cmp (slice_cmp nat_cmp) o e.0) h (named_none o es)
 
-instances_of : (P : VarBind → Type 0) (rows : List VarBind) → ((p : VarBind) → IsIn p rows → IsInstanceName p.name × IsInstanceValue p.value) → AreInstances rows
+instances_of : (P : VarBind → Type 0) (rows : List VarBind) → ((p : VarBind) → IsIn p rows → IsInstanceName p.name × IsInstanceValue p.value)
+    → AreInstances rows
 instances_of P [] h = tt
 instances_of P (q ∷ rows) h =
     let here = h q (inl refl) in
@@ -167,7 +188,8 @@ module _ (view : MibView) (good : IsMibView view) where
   in_rows_after o p (q ∷ rows) after i = in_rows_by o p q rows (comes_after o q.name) refl i after (in_rows_after o p rows after)
 
   -- and each of those is behind it, and one of all
-  from_rows_by : (o : List ℕ) (p q : VarBind) (rows : List VarBind) (b : Bool) → b ≡ comes_after o q.name → IsIn p (cond b (q ∷ rows_after o rows) (rows_after o rows))
+  from_rows_by : (o : List ℕ) (p q : VarBind) (rows : List VarBind) (b : Bool) → b ≡ comes_after o q.name
+      → IsIn p (cond b (q ∷ rows_after o rows) (rows_after o rows))
       → (IsIn p (rows_after o rows) → (comes_after o p.name ≡ true) × IsIn p rows) → (comes_after o p.name ≡ true) × ((p ≡ q) ⊎ IsIn p rows)
   from_rows_by o p q rows true e (inl same) later = (ap (λ (b : VarBind). comes_after o b.name) same ∙ sym e, inl same)
   from_rows_by o p q rows true e (inr i) later = ((later i).0, inr (later i).1)
@@ -210,12 +232,16 @@ module _ (view : MibView) (good : IsMibView view) where
       let value : Some p.value ≡ Some q.value = sym row ∙ ap (get view.rows) same ∙ row_q in
       let v : p.value ≡ q.value = cc in
       ap (λ (n : List ℕ). binding_of (n, p.value)) same ∙ ap (λ (d : Datum). binding_of (q.name, d)) v
-  get_one o p q (variable e row) (unknown_object none unknown is) = let a : get view.rows o ≡ Some p.value = ap (get view.rows) (sym e) ∙ row in let never : ⊥ = cc in absurd never
-  get_one o p q (variable e row) (unknown_instance none has is) = let a : get view.rows o ≡ Some p.value = ap (get view.rows) (sym e) ∙ row in let never : ⊥ = cc in absurd never
-  get_one o p q (unknown_object none unknown is) (variable f row) = let a : get view.rows o ≡ Some q.value = ap (get view.rows) (sym f) ∙ row in let never : ⊥ = cc in absurd never
+  get_one o p q (variable e row) (unknown_object none unknown is) = let a : get view.rows o ≡ Some p.value = ap (get view.rows) (sym e)
+      ∙ row in let never : ⊥ = cc in absurd never
+  get_one o p q (variable e row) (unknown_instance none has is) = let a : get view.rows o ≡ Some p.value = ap (get view.rows) (sym e)
+      ∙ row in let never : ⊥ = cc in absurd never
+  get_one o p q (unknown_object none unknown is) (variable f row) = let a : get view.rows o ≡ Some q.value = ap (get view.rows) (sym f)
+      ∙ row in let never : ⊥ = cc in absurd never
   get_one o p q (unknown_object none unknown is) (unknown_object none_q unknown_q is_q) = is ∙ sym is_q
   get_one o p q (unknown_object none unknown is) (unknown_instance none_q has is_q) = absurd (unknown has)
-  get_one o p q (unknown_instance none has is) (variable f row) = let a : get view.rows o ≡ Some q.value = ap (get view.rows) (sym f) ∙ row in let never : ⊥ = cc in absurd never
+  get_one o p q (unknown_instance none has is) (variable f row) = let a : get view.rows o ≡ Some q.value = ap (get view.rows) (sym f)
+      ∙ row in let never : ⊥ = cc in absurd never
   get_one o p q (unknown_instance none has is) (unknown_object none_q unknown is_q) = absurd (unknown has)
   get_one o p q (unknown_instance none has is) (unknown_instance none_q has_q is_q) = is ∙ sym is_q
 

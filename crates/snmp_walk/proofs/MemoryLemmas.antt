@@ -1,5 +1,33 @@
 -- What a link in memory serves, and what its next receive gives.
-use Rattle.std.proofs.Common.{◌≡◌, inl, inr, ℕ, zero, suc, ◌+◌, ◌<◌, ◌≤◌, List, [], ◌∷◌, ◌++◌, length, get_or, drop, refl, sym, ◌∙◌, ap, subst, arith, drop-cons, add-one, Option, Some, None}
+use Rattle.std.proofs.Common.{
+  ◌≡◌,
+  inl,
+  inr,
+  ℕ,
+  zero,
+  suc,
+  ◌+◌,
+  ◌<◌,
+  ◌≤◌,
+  List,
+  [],
+  ◌∷◌,
+  ◌++◌,
+  length,
+  get_or,
+  drop,
+  refl,
+  sym,
+  ◌∙◌,
+  ap,
+  subst,
+  arith,
+  drop-cons,
+  add-one,
+  Option,
+  Some,
+  None,
+}
 use Rattle.std.specs.Prelude.{All, unwrap_or, IfSome}
 use Rattle.std.specs.List.{slice_get}
 use Rattle.std.proofs.lemmas.List.{drop_all, take-append-le}
@@ -22,7 +50,8 @@ latest_found (d ∷ []) = refl
 latest_found (d ∷ e ∷ sent) = latest_found (e ∷ sent)
 
 -- what a number's datagram gives is what the receive gives
-pub received_at : (agents : Agents) (sent : List (List ℕ)) (ahead : List (Option ℕ)) (number : ℕ) (left : List (Option ℕ)) (reply : Option (List ℕ)) → IsNextNumber sent ahead number left
+pub received_at : (agents : Agents) (sent : List (List ℕ)) (ahead : List (Option ℕ)) (number : ℕ) (left : List (Option ℕ)) (reply : Option (List ℕ))
+    → IsNextNumber sent ahead number left
     → Gives agents (datagram_at sent number) reply → Receives agents sent ahead reply left
 received_at agents sent [] number left reply h given =
     (h.0, subst (λ (d : Option (List ℕ)). Gives agents d reply) (ap (datagram_at sent) h.1 ∙ latest_found sent) given)
@@ -33,7 +62,8 @@ pub number_in : (sent : List (List ℕ)) (deliveries : List (Option ℕ)) (used 
     → IsNextNumber sent (drop used deliveries) (unwrap_or e 0) (drop (used + 1) deliveries)
 number_in sent deliveries used e h is =
     let here : drop used deliveries ≡ e ∷ drop (used + 1) deliveries =
-    drop-cons deliveries used e h ∙ ap (λ (x : Option ℕ). x ∷ drop (suc used) deliveries) (sym is) ∙ ap (λ (n : ℕ). e ∷ drop n deliveries) (sym (add-one used)) in
+    drop-cons deliveries used e h ∙ ap (λ (x : Option ℕ). x ∷ drop (suc used) deliveries) (sym is)
+    ∙ ap (λ (n : ℕ). e ∷ drop n deliveries) (sym (add-one used)) in
     subst (λ (ahead : List (Option ℕ)). IsNextNumber sent ahead (unwrap_or e 0) (drop (used + 1) deliveries)) (sym here) (refl, refl)
 
 pub number_past : (sent : List (List ℕ)) (deliveries : List (Option ℕ)) (used : ℕ) → length deliveries ≤ used
@@ -45,9 +75,11 @@ number_past sent deliveries used h =
 -- what the agent of one of the tables does with the datagram is what the agents make of it
 pub given_reply : (tables : List MibView) (config : Config) (view : MibView) (d reply : List ℕ) (found : Option (List ℕ)) → OneOf tables view → found ≡ Some d
     → IsReply (agent_of view config) d reply → Gives (agents_over tables config) found (Some reply)
-given_reply tables config view d reply found one is h = subst (λ (x : Option (List ℕ)). Gives (agents_over tables config) x (Some reply)) (sym is) (view, one, h)
+given_reply tables config view d reply found one is h = subst (λ (x : Option (List ℕ)). Gives (agents_over tables config) x (Some reply)) (sym is)
+    (view, one, h)
 
-pub given_none : (tables : List MibView) (config : Config) (view : MibView) (d : List ℕ) (why : Why) (found : Option (List ℕ)) → OneOf tables view → found ≡ Some d
+pub given_none : (tables : List MibView) (config : Config) (view : MibView) (d : List ℕ) (why : Why) (found : Option (List ℕ)) → OneOf tables view
+    → found ≡ Some d
     → IsDropped (agent_of view config) d why → Gives (agents_over tables config) found None
 given_none tables config view d why found one is h =
     subst (λ (x : Option (List ℕ)). Gives (agents_over tables config) x None) (sym is) record { view = view; one = one; why = why; dropped = h }

@@ -27,8 +27,16 @@ below_from_test root name test =
     let parts = and_parts (pointwise nat_eq root (take (length root) name)) (nat_lt (length root) (length name)) test in
     let front : root ≡ take (length root) name = same_text root (take (length root) name) (sym parts.0) in
     let longer : length root < length name = ltb-true _ _ parts.1 in
-    let whole : root ++ drop (length root) name ≡ name = ap (λ (s : List ℕ). s ++ drop (length root) name) front ∙ take-append-drop (length root) name in
-    (drop (length root) name, (λ none. let short : length (drop (length root) name) ≡ 0 = ap length none in absurd (omega (arith, short, length-drop (length root) name))), sym whole)
+    let whole : root ++ drop (length root) name ≡ name = ap (λ (s : List ℕ). s ++ drop (length root) name) front ∙ take-append-drop (length root) name in (
+      drop (length root) name,
+      (λ none. let short : length (drop (length root) name) ≡ 0 = ap length none in absurd (omega (
+        arith,
+        short,
+        length-drop
+            (length root) name,
+      ))),
+      sym whole,
+    )
 
 pub below_decided : (root name : List ℕ) → Decides (is_below name root) (IsBelow name root)
 below_decided root name = (below_from_test root name, test_from_below root name)

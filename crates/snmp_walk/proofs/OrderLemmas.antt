@@ -1,5 +1,29 @@
 -- The order of names, and that those below a root lie together in it.
-use Rattle.std.proofs.Common.{append-nil, append_assoc, ◌⊎◌, inl, inr, ◌≡◌, ℕ, zero, suc, ◌≤◌, true, false, List, [], ◌∷◌, ◌++◌, length, refl, sym, ◌∙◌, ap, subst, arith}
+use Rattle.std.proofs.Common.{
+  append-nil,
+  append_assoc,
+  ◌⊎◌,
+  inl,
+  inr,
+  ◌≡◌,
+  ℕ,
+  zero,
+  suc,
+  ◌≤◌,
+  true,
+  false,
+  List,
+  [],
+  ◌∷◌,
+  ◌++◌,
+  length,
+  refl,
+  sym,
+  ◌∙◌,
+  ap,
+  subst,
+  arith,
+}
 use Rattle.std.proofs.lemmas.Bool.{false≢true, false_from_ne_true}
 use Rattle.std.specs.Ordering.{nat_cmp, is_lt, ordering_then}
 use Rattle.std.specs.Cmp.{ranked, nat_cmp_is, tied_itself}
@@ -91,7 +115,8 @@ less_than_below (x ∷ []) (a ∷ []) long h = absurd (omega (arith, long))
 less_than_below (x ∷ []) (a ∷ b ∷ []) long h = absurd (omega (arith, long))
 less_than_below (x ∷ []) (a ∷ b ∷ c ∷ name) long h =
     let same : a ≡ x = cc (h.2) in
-    subst (λ (n : ℕ). slice_cmp nat_cmp (x ∷ 0 ∷ []) (n ∷ b ∷ c ∷ name) ≡ Less) (sym same) (same_first x (0 ∷ []) (b ∷ c ∷ name) ∙ zero_first b [] (c ∷ name) refl)
+    subst (λ (n : ℕ). slice_cmp nat_cmp (x ∷ 0 ∷ []) (n ∷ b ∷ c ∷ name) ≡ Less) (sym same) (same_first x (0 ∷ []) (b ∷ c ∷ name)
+    ∙ zero_first b [] (c ∷ name) refl)
 less_than_below (x ∷ y ∷ root) name long h =
     subst (λ (n : List ℕ). slice_cmp nat_cmp (x ∷ y ∷ root) n ≡ Less) (sym h.2) (less_longer (x ∷ y ∷ root) h.0 h.1)
 

@@ -26,7 +26,8 @@ pub reply_awaited : (Next Got : List ℕ → VarBind → Type 0) (Large : VarBin
     → IsReplyTo Next Got Large w m → awaits w.community w.id m ≡ true
 reply_awaited Next Got Large w m r =
     let version : int_eq m.version (pos 1) ≡ true = ap (λ (n : ℤ). int_eq n (pos 1)) r.version in
-    let community : pointwise nat_eq m.community w.community ≡ true = ap (λ (c : List ℕ). pointwise nat_eq c w.community) r.community ∙ nat_list_eq_equiv.refl w.community in
+    let community : pointwise nat_eq m.community w.community ≡ true = ap (λ (c : List ℕ). pointwise nat_eq c w.community) r.community
+    ∙ nat_list_eq_equiv.refl w.community in
     let response : is_response m.kind ≡ true = ap is_response r.kind in
     let id : int_eq m.id (pos w.id) ≡ true = ap (λ (n : ℤ). int_eq n (pos w.id)) r.id ∙ int_eq_equiv.refl (pos w.id) in
     and_from _ _ (and_from _ _ (and_from _ _ version community) response) id
@@ -76,15 +77,18 @@ asked_of agents sent w lawful good waits earlier = record {
 -- what a request of the walk heard
 pub heard_result : {E : Type 0} (agents : Agents) (honest : Type 0) (sent : List (List ℕ)) (w : Walker) (r : Result (Option ℕ) E) (buffer : List ℕ)
     → is_over w.phase ≡ false → IsWalker w → (honest → AreLawful agents) → IfOk r (λ heard. IfSome heard (λ n. IsAwaited w.community w.id (take n buffer)))
-    → (honest → IsAsked agents w.community w.id (canon (request_of w)) sent → IfOk r (λ heard. IfSome heard (λ n. IsReplyFrom agents (canon (request_of w)) (take n buffer))))
+    → (honest → IsAsked agents w.community w.id (canon (request_of w)) sent
+    → IfOk r (λ heard. IfSome heard (λ n. IsReplyFrom agents (canon (request_of w)) (take n buffer))))
     → IfOk r (λ heard. IfSome heard (λ n. IsHeard agents (honest × IsEarlier sent w) w (take n buffer)))
 heard_result agents honest sent w (Ok None) buffer waits good lawful is reply = tt
 heard_result agents honest sent w (Ok (Some n)) buffer waits good lawful is reply =
-    heard_of agents (honest × IsEarlier sent w) w (take n buffer) waits good is (λ h. (lawful h.0, reply h.0 (asked_of agents sent w (lawful h.0) good waits h.1)))
+    heard_of agents (honest
+    × IsEarlier sent w) w (take n buffer) waits good is (λ h. (lawful h.0, reply h.0 (asked_of agents sent w (lawful h.0) good waits h.1)))
 heard_result agents honest sent w (Err e) buffer waits good lawful is reply = tt
 
 pub exchanges_by : (agents : Agents) (honest same_honest : Type 0) (tries : ℕ) (q : List ℕ) (old : Traffic) (silent same_silent : Type 0) (new : Traffic)
-    → (same_honest → honest) → (same_silent → silent) → Exchanges agents honest tries q old silent new → Exchanges agents same_honest tries q old same_silent new
+    → (same_honest → honest) → (same_silent → silent) → Exchanges agents honest tries q old silent new
+    → Exchanges agents same_honest tries q old same_silent new
 exchanges_by agents honest same_honest tries q old silent same_silent new f g x = record {
   times = x.times;
   few = x.few;
@@ -94,14 +98,16 @@ exchanges_by agents honest same_honest tries q old silent same_silent new f g x 
 }
 
 -- the same, by what was handed to the exchange
-module _ (agents : Agents) (honest : Type 0) (w : Walker) (community : List ℕ) (id : ℕ) (q : List ℕ) (same_community : community ≡ w.community) (same_id : id ≡ w.id)
+module _ (agents : Agents) (honest : Type 0) (w : Walker) (community : List ℕ) (id : ℕ) (q : List ℕ) (same_community : community ≡ w.community)
+    (same_id : id ≡ w.id)
     (is : q ≡ canon (request_of w)) (waits : is_over w.phase ≡ false) (good : IsWalker w) (lawful : honest → AreLawful agents) where
   by_hand : (sent : List (List ℕ)) → IsAsked agents w.community w.id (canon (request_of w)) sent → IsAsked agents community id q sent
   by_hand sent a =
       subst (λ (c : List ℕ). IsAsked agents c id q sent) (sym same_community)
       (subst (λ (i : ℕ). IsAsked agents w.community i q sent) (sym same_id) (subst (λ (x : List ℕ). IsAsked agents w.community w.id x sent) (sym is) a))
 
-  pub heard_by_hand : {E : Type 0} (sent : List (List ℕ)) (r : Result (Option ℕ) E) (buffer : List ℕ) → IfOk r (λ heard. IfSome heard (λ n. IsAwaited community id (take n buffer)))
+  pub heard_by_hand : {E : Type 0} (sent : List (List ℕ)) (r : Result (Option ℕ) E) (buffer : List ℕ)
+      → IfOk r (λ heard. IfSome heard (λ n. IsAwaited community id (take n buffer)))
       → (honest → IsAsked agents community id q sent → IfOk r (λ heard. IfSome heard (λ n. IsReplyFrom agents q (take n buffer))))
       → IfOk r (λ heard. IfSome heard (λ n. IsHeard agents (honest × IsEarlier sent w) w (take n buffer)))
   heard_by_hand sent r buffer awaited reply =
@@ -110,7 +116,8 @@ module _ (agents : Agents) (honest : Type 0) (w : Walker) (community : List ℕ)
       (subst (λ (c : List ℕ). IfOk r (λ heard. IfSome heard (λ n. IsAwaited c id (take n buffer)))) same_community awaited))
       (λ h a. subst (λ (x : List ℕ). IfOk r (λ heard. IfSome heard (λ n. IsReplyFrom agents x (take n buffer)))) is (reply h (by_hand sent a)))
 
-  pub exchanged_by_hand : (tries : ℕ) (old : Traffic) (silent : Type 0) (new : Traffic) → Exchanges agents (honest × IsAsked agents community id q old.sent) tries q old silent new
+  pub exchanged_by_hand : (tries : ℕ) (old : Traffic) (silent : Type 0) (new : Traffic)
+      → Exchanges agents (honest × IsAsked agents community id q old.sent) tries q old silent new
       → Exchanges agents (honest × IsEarlier old.sent w) tries (canon (request_of w)) old silent new
   exchanged_by_hand tries old silent new x =
       subst (λ (y : List ℕ). Exchanges agents (honest × IsEarlier old.sent w) tries y old silent new) is

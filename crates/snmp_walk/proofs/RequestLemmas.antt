@@ -1,5 +1,32 @@
 -- A walk's requests can be encoded, and fit a datagram.
-use Rattle.std.proofs.Common.{◌≡◌, ℕ, zero, suc, ◌+◌, ◌-◌, ◌*◌, ◌/◌, ◌%◌, ◌^◌, ◌≤◌, Bool, true, false, cond, List, [], ◌∷◌, ◌++◌, length, arith, refl, length-append, ℤ, pos, negsuc}
+use Rattle.std.proofs.Common.{
+  ◌≡◌,
+  ℕ,
+  zero,
+  suc,
+  ◌+◌,
+  ◌-◌,
+  ◌*◌,
+  ◌/◌,
+  ◌%◌,
+  ◌^◌,
+  ◌≤◌,
+  Bool,
+  true,
+  false,
+  cond,
+  List,
+  [],
+  ◌∷◌,
+  ◌++◌,
+  length,
+  arith,
+  refl,
+  length-append,
+  ℤ,
+  pos,
+  negsuc,
+}
 use Rattle.std.specs.Prelude.{All, nat_lt}
 use Rattle.std.specs.List.{flat_map}
 use Rattle.std.proofs.lemmas.List.Elements.{All-cons, All-nil}
@@ -7,7 +34,27 @@ use Rattle.snmp_oid.specs.Identifier.{IsWire}
 use Rattle.snmp_wire.specs.Message.{VarBind, Message, null_value, integer_value, octet_string, object_id, var_bind}
 use Rattle.snmp_wire.specs.Identifier.{subidentifiers}
 use Rattle.snmp_wire.specs.Spelling.{value_tag, kind_tag, sequence_tag}
-use Rattle.snmp_wire.specs.Canon.{digit_count, octets, number_size, canon_number, length_size, canon_length, subidentifier_size, septets, canon_subidentifier, canon_header, canon_element, canon_content, canon_value, canon_binding, canon_bindings, canon_opening, canon_fields, canon, IsEncodable}
+use Rattle.snmp_wire.specs.Canon.{
+  digit_count,
+  octets,
+  number_size,
+  canon_number,
+  length_size,
+  canon_length,
+  subidentifier_size,
+  septets,
+  canon_subidentifier,
+  canon_header,
+  canon_element,
+  canon_content,
+  canon_value,
+  canon_binding,
+  canon_bindings,
+  canon_opening,
+  canon_fields,
+  canon,
+  IsEncodable,
+}
 use Rattle.snmp_wire.specs.declared.binding.Binding.{Binding}
 use Rattle.snmp_ber.specs.declared.value.ValueRef.TheVariants as value
 use Rattle.snmp_walk.specs.Walker.{Walker}
@@ -20,7 +67,11 @@ cond_bound false x y n h k = k
 digit_bound : (base limit more n : ℕ) → digit_count base limit more n ≤ more + 1
 digit_bound base limit zero n = omega arith
 digit_bound base limit (suc more) n =
-    cond_bound (nat_lt n limit) 1 (1 + digit_count base (limit * base) more n) (suc more + 1) (omega arith) (omega (arith, digit_bound base (limit * base) more n))
+    cond_bound (nat_lt n limit) 1 (1 + digit_count base (limit * base) more n) (suc more + 1) (omega arith) (omega (
+      arith,
+      digit_bound base
+          (limit * base) more n,
+    ))
 
 octets_length : (count n : ℕ) → length (octets count n) ≡ count
 unfolding octets
@@ -59,7 +110,13 @@ septets_length (suc count) n = omega (arith, septets_length count n)
 subidentifier_bound : (n : ℕ) → length (canon_subidentifier n) ≤ 5
 unfolding canon_subidentifier subidentifier_size
 subidentifier_bound n =
-    omega (arith, length-append (septets (subidentifier_size n - 1) (n / 128)) (n % 128 ∷ []), septets_length (subidentifier_size n - 1) (n / 128), digit_bound 128 128 4 n)
+    omega (
+      arith,
+      length-append (septets (subidentifier_size n - 1) (n / 128)) (n % 128 ∷ []),
+      septets_length (subidentifier_size n - 1)
+          (n / 128),
+      digit_bound 128 128 4 n,
+    )
 
 each_bound : (xs : List ℕ) → length (flat_map canon_subidentifier xs) ≤ 5 * length xs
 each_bound [] = omega arith
@@ -77,7 +134,13 @@ integer_bound z = element_bound (value_tag (integer_value z)) (canon_number z) 9
 name_bound : (name : List ℕ) → length name ≤ 128 → length (canon_value (object_id name)) ≤ 646
 unfolding canon_value canon_content
 name_bound name h =
-    element_bound (value_tag (object_id name)) (flat_map canon_subidentifier (subidentifiers name)) 640 (omega (arith, each_bound (subidentifiers name), parts_bound name, h))
+    element_bound (value_tag (object_id name)) (flat_map canon_subidentifier (subidentifiers name)) 640 (omega (
+      arith,
+      each_bound
+          (subidentifiers name),
+      parts_bound name,
+      h,
+    ))
 
 null_bound : length (canon_value null_value) ≤ 6
 unfolding canon_value canon_content
@@ -106,13 +169,27 @@ message_bound m h k =
     let a = canon_value (integer_value m.a) in
     let b = canon_value (integer_value m.b) in
     let list = canon_element sequence_tag (canon_bindings m.bindings) in
-    let fields : length (canon_fields m) ≤ 45 = omega (arith, integer_bound m.id, integer_bound m.a, integer_bound m.b, length-append (id ++ a) b, length-append id a) in
+    let fields : length (canon_fields m) ≤ 45 = omega (
+      arith,
+      integer_bound m.id,
+      integer_bound m.a,
+      integer_bound m.b,
+      length-append
+          (id ++ a) b,
+      length-append id a,
+    ) in
     let list_bound : length list ≤ 664 = element_bound sequence_tag (canon_bindings m.bindings) 658 k in
     let pdu_content : length (canon_fields m ++ list) ≤ 709 = omega (arith, fields, list_bound, length-append (canon_fields m) list) in
     let pdu = canon_element (kind_tag m.kind) (canon_fields m ++ list) in
     let pdu_bound : length pdu ≤ 715 = element_bound (kind_tag m.kind) (canon_fields m ++ list) 709 pdu_content in
     let opening : length (canon_opening m) ≤ 276 =
-    omega (arith, integer_bound m.version, text_bound m.community h, length-append (canon_value (integer_value m.version)) (canon_value (octet_string m.community))) in
+    omega (
+      arith,
+      integer_bound m.version,
+      text_bound m.community h,
+      length-append (canon_value (integer_value m.version)) (canon_value
+          (octet_string m.community)),
+    ) in
     let content : length (canon_opening m ++ pdu) ≤ 991 = omega (arith, opening, pdu_bound, length-append (canon_opening m) pdu) in
     let whole : length (canon_element sequence_tag (canon_opening m ++ pdu)) ≤ 997 = element_bound sequence_tag (canon_opening m ++ pdu) 991 content in
     omega (arith, whole)

@@ -1,8 +1,36 @@
 -- How long a single_response of one binding is: no longer with an exception in place of the value, nor with a lesser id.
 use Rattle.std.proofs.Common.{◌≡◌, ℕ, ◌^◌, ◌<◌, ◌≤◌, List, [], ◌∷◌, ◌++◌, length, arith, length-append, pos}
-use Rattle.snmp_wire.specs.Message.{Datum, VarBind, Message, integer_value, octet_string, null_value, object_id, ip_address, counter32, gauge32, time_ticks, opaque_octets, counter64, no_such_object, no_such_instance, end_of_mib_view}
+use Rattle.snmp_wire.specs.Message.{
+  Datum,
+  VarBind,
+  Message,
+  integer_value,
+  octet_string,
+  null_value,
+  object_id,
+  ip_address,
+  counter32,
+  gauge32,
+  time_ticks,
+  opaque_octets,
+  counter64,
+  no_such_object,
+  no_such_instance,
+  end_of_mib_view,
+}
 use Rattle.snmp_wire.specs.Spelling.{value_tag, kind_tag, sequence_tag}
-use Rattle.snmp_wire.specs.Canon.{number_size, canon_number, canon_element, canon_content, canon_value, canon_binding, canon_bindings, canon_opening, canon_fields, canon}
+use Rattle.snmp_wire.specs.Canon.{
+  number_size,
+  canon_number,
+  canon_element,
+  canon_content,
+  canon_value,
+  canon_binding,
+  canon_bindings,
+  canon_opening,
+  canon_fields,
+  canon,
+}
 use Rattle.snmp_wire.proofs.CanonLemmas.{length-from_zero}
 use Rattle.snmp_wire.proofs.ElementLemmas.{length-canon_element}
 use Rattle.snmp_wire.proofs.MessageWriting.{length-canon_fields, length-canon_opening}
@@ -23,7 +51,13 @@ longer_binding : (name : List ℕ) (v u : Datum) → length (canon_content v) �
 unfolding canon_binding
 longer_binding name v u h =
     longer_element sequence_tag sequence_tag (canon_value (object_id name) ++ canon_value v) (canon_value (object_id name) ++ canon_value u)
-    (omega (arith, longer_value v u h, length-append (canon_value (object_id name)) (canon_value v), length-append (canon_value (object_id name)) (canon_value u)))
+    (omega (
+      arith,
+      longer_value v u h,
+      length-append (canon_value (object_id name)) (canon_value v),
+      length-append (canon_value (object_id name))
+          (canon_value u),
+    ))
 
 exception_content : (v : Datum) → IsException v → length (canon_content v) ≤ 0
 unfolding canon_content
@@ -50,7 +84,8 @@ longer_integer : (n k : ℕ) → n ≤ k → length (canon_value (integer_value 
 unfolding canon_value canon_content
 longer_integer n k h =
     let sizes : number_size n ≤ number_size k = longer_number n k h in
-    longer_element (value_tag (integer_value (pos n))) (value_tag (integer_value (pos k))) (canon_number (pos n)) (canon_number (pos k)) (omega (arith, sizes, length-from_zero n, length-from_zero k))
+    longer_element (value_tag (integer_value (pos n))) (value_tag (integer_value (pos k))) (canon_number (pos n)) (canon_number (pos k)) (omega
+    (arith, sizes, length-from_zero n, length-from_zero k))
 
 one_binding : (p : VarBind) → length (canon_bindings (p ∷ [])) ≡ length (canon_binding p)
 unfolding canon_bindings
@@ -80,7 +115,8 @@ longer_response community id last p q h k =
     (omega (arith, length-canon_fields m, length-canon_fields n, longer_integer id last h)) (omega (arith, k, one_binding p, one_binding q))
 
 -- what there is room for fits with each id
-pub room_fits : (agents : Agents) (p : VarBind) (id : ℕ) → id < 2 ^ 31 → HasRoom agents p → length (canon (single_response agents.community id p)) ≤ agents.max_size
+pub room_fits : (agents : Agents) (p : VarBind) (id : ℕ) → id < 2 ^ 31 → HasRoom agents p
+    → length (canon (single_response agents.community id p)) ≤ agents.max_size
 room_fits agents p id low room =
     let longer = longer_response agents.community id 2147483647 p p (omega (arith, low)) (omega arith) in
     omega (arith, longer, room)
@@ -91,9 +127,11 @@ room_small agents p room large =
     omega (arith, fits, large.2)
 
 -- where a name has room with a value, it has room with an exception
-pub room_exception : (agents : Agents) (name : List ℕ) (v u : Datum) → IsException v → HasRoom agents (record { name = name; value = u }) → HasRoom agents (record { name = name; value = v })
+pub room_exception : (agents : Agents) (name : List ℕ) (v u : Datum) → IsException v → HasRoom agents (record { name = name; value = u })
+    → HasRoom agents (record { name = name; value = v })
 room_exception agents name v u is room =
     let empty = exception_content v is in
     let shorter = longer_binding name v u (omega (arith, empty)) in
-    let longer = longer_response agents.community 2147483647 2147483647 (record { name = name; value = v }) (record { name = name; value = u }) (omega arith) shorter in
+    let longer = longer_response agents.community 2147483647 2147483647 (record { name = name; value = v }) (record { name = name; value = u })
+    (omega arith) shorter in
     omega (arith, longer, room)

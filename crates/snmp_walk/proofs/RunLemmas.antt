@@ -1,5 +1,35 @@
 -- A run, turn by turn.
-use Rattle.std.proofs.Common.{◌≡◌, ◌⊎◌, inl, inr, ℕ, ◌+◌, ◌^◌, ◌<◌, Bool, true, false, cond, List, [], ◌∷◌, ◌++◌, refl, sym, ◌∙◌, ap, subst, arith, append-nil, append_assoc, Option, Some, None, length, replicate}
+use Rattle.std.proofs.Common.{
+  ◌≡◌,
+  ◌⊎◌,
+  inl,
+  inr,
+  ℕ,
+  ◌+◌,
+  ◌^◌,
+  ◌<◌,
+  Bool,
+  true,
+  false,
+  cond,
+  List,
+  [],
+  ◌∷◌,
+  ◌++◌,
+  refl,
+  sym,
+  ◌∙◌,
+  ap,
+  subst,
+  arith,
+  append-nil,
+  append_assoc,
+  Option,
+  Some,
+  None,
+  length,
+  replicate,
+}
 use Rattle.std.specs.Prelude.{Result, Err}
 use Rattle.snmp_wire.specs.Message.{VarBind, Message}
 use Rattle.snmp_walk.specs.declared.mode.Mode.{Mode}
@@ -16,7 +46,21 @@ use Rattle.snmp_walk.specs.Trail.{last_name, IsTrail, AreLawfulReplies}
 use Rattle.snmp_walk.specs.Walker.{Walker, IsWalker}
 use Rattle.snmp_walk.specs.Request.{first_phase}
 use Rattle.snmp_walk.specs.Taken.{is_over, take_of}
-use Rattle.snmp_walk.specs.Standing.{IsOpening, IsGiven, IsAlone, IsPartOfWalk, IsStage, IsPaced, Reaches, Ends, Advances, Rises, Named, IsReplyEnd, AdvancesAnyhow}
+use Rattle.snmp_walk.specs.Standing.{
+  IsOpening,
+  IsGiven,
+  IsAlone,
+  IsPartOfWalk,
+  IsStage,
+  IsPaced,
+  Reaches,
+  Ends,
+  Advances,
+  Rises,
+  Named,
+  IsReplyEnd,
+  AdvancesAnyhow,
+}
 use Rattle.snmp_walk.specs.Link.{Agents, IsNextFrom, IsGotFrom, IsTooLarge, IsUnanswered, AreViews}
 use Rattle.snmp_walk.specs.Sink.{Given, Took}
 use Rattle.snmp_walk.specs.Run.{IsFrom, Turns, goes_on, ends, is_refused, is_silent, fails, rows_in}
@@ -73,12 +117,24 @@ module _ (Next Got : List ℕ → VarBind → Type 0) (first : Walker) where
 
   -- a front of what was given is a beginning too
   given_front : (xs ys : List VarBind) (o : List ℕ) (g : IsGiven Next Got first (xs ++ ys) o)
-      → ((rest : List VarBind) × (g.front ≡ xs ++ rest)) ⊎ ((more : List VarBind) × (xs ≡ g.front ++ more) × (g.trail ≡ more ++ ys)) → IsPartOfWalk Next Got first xs
+      → ((rest : List VarBind) × (g.front ≡ xs ++ rest)) ⊎ ((more : List VarBind) × (xs ≡ g.front ++ more) × (g.trail ≡ more ++ ys))
+      → IsPartOfWalk Next Got first xs
   given_front xs ys o g (inl h) = by_opening (opening_front first.mode xs h.0 g.front g.opening h.1)
     where
       by_opening : (xs ≡ []) ⊎ (xs ≡ g.front) → IsPartOfWalk Next Got first xs
       by_opening (inl none) = inl none
-      by_opening (inr whole) = inr (inl (first.asked, record { front = g.front; trail = []; parts = whole ∙ sym (append-nil g.front); opening = g.opening; is_trail = tt; last = refl }))
+      by_opening (inr whole) = inr (inl (
+        first.asked,
+        record {
+          front = g.front;
+          trail = [];
+          parts = whole
+              ∙ sym (append-nil g.front);
+          opening = g.opening;
+          is_trail = tt;
+          last = refl;
+        },
+      ))
   given_front xs ys o g (inr h) =
       inr (inl (
         last_name first.asked h.0,
@@ -107,9 +163,25 @@ module _ (Next Got : List ℕ → VarBind → Type 0) (first : Walker) where
 
   -- before the first request
   fresh_stage : (m : Mode) → first.mode ≡ m → IsStage Next Got first [] first.asked (first_phase m)
-  fresh_stage mode.Plain e = record { front = []; trail = []; parts = refl; opening = subst (λ (n : Mode). IsOpening Got n first.asked []) (sym e) refl; is_trail = tt; last = refl }
+  fresh_stage mode.Plain e = record {
+    front = [];
+    trail = [];
+    parts = refl;
+    opening = subst (λ (n : Mode). IsOpening Got n first.asked [])
+        (sym e) refl;
+    is_trail = tt;
+    last = refl;
+  }
   fresh_stage mode.Include e = (refl, refl, e)
-  fresh_stage mode.NoLast e = record { front = []; trail = []; parts = refl; opening = subst (λ (n : Mode). IsOpening Got n first.asked []) (sym e) refl; is_trail = tt; last = refl }
+  fresh_stage mode.NoLast e = record {
+    front = [];
+    trail = [];
+    parts = refl;
+    opening = subst (λ (n : Mode). IsOpening Got n first.asked [])
+        (sym e) refl;
+    is_trail = tt;
+    last = refl;
+  }
 
   fresh_pace : (m : Mode) → first.mode ≡ m → IsPaced Got first [] first.id (first_phase m)
   fresh_pace mode.Plain e = ([], [], refl, subst (λ (n : Mode). IsOpening Got n first.asked []) (sym e) refl, omega arith)
@@ -134,7 +206,8 @@ module _ (Next Got : List ℕ → VarBind → Type 0) (first : Walker) where
       waits phase.Over s = absurd s
 
 -- what replies end with leaves the sink as it was given
-took_reply : {S : Type 0} (takes : S → VarBind → Result (Unit {0}) SinkFault → S → Type 0) (before after : S) (rows : List VarBind) (why : WalkEnd) → IsReplyEnd why
+took_reply : {S : Type 0} (takes : S → VarBind → Result (Unit {0}) SinkFault → S → Type 0) (before after : S) (rows : List VarBind) (why : WalkEnd)
+    → IsReplyEnd why
     → Given takes before rows after → Took takes before rows [] why after
 took_reply takes before after rows (ending.Done n) own h = (h, refl)
 took_reply takes before after rows (ending.Fault a b) own h = (h, refl)
@@ -166,7 +239,8 @@ lawful_reply agents Silent first w given more (ending.Sink fault) own none h e =
 abbrev AllSmall : VarBind → Type 0
 AllSmall p = Unit {0}
 
-keeps_part : (first w v : Walker) (given : List VarBind) (st : Step) → Reaches Rises Named first w given → AdvancesAnyhow first w given st v → IsPartOfWalk Rises Named first (given ++ rows_in st)
+keeps_part : (first w v : Walker) (given : List VarBind) (st : Step) → Reaches Rises Named first w given → AdvancesAnyhow first w given st v
+    → IsPartOfWalk Rises Named first (given ++ rows_in st)
 keeps_part first w v given step.Stray h k =
     subst (IsPartOfWalk Rises Named first) (sym (append-nil given)) (part_of_stage Rises Named AllSmall rising_answers first given w.asked w.phase h.stage)
 keeps_part first w v given (step.Rows rows) h k = part_of_stage Rises Named AllSmall rising_answers first (given ++ rows) v.asked v.phase k.2.stage
@@ -176,7 +250,8 @@ module _ (agents : Agents) (laws : AreLawfulReplies (IsNextFrom agents) (IsGotFr
   advances_part : (w v : Walker) (given : List VarBind) (st : Step) → Advances (IsNextFrom agents) (IsGotFrom agents) (IsTooLarge agents) first w given st v
       → IsPartOfWalk (IsNextFrom agents) (IsGotFrom agents) first (given ++ rows_in st)
   advances_part w v given step.Stray k = absurd k
-  advances_part w v given (step.Rows rows) k = part_of_stage (IsNextFrom agents) (IsGotFrom agents) (IsTooLarge agents) laws first (given ++ rows) v.asked v.phase k.stage
+  advances_part w v given (step.Rows rows) k = part_of_stage (IsNextFrom agents) (IsGotFrom agents) (IsTooLarge agents) laws first
+      (given ++ rows) v.asked v.phase k.stage
   advances_part w v given (step.Last rows why) k = k.0
 
 -- what the turns of a run show of it
@@ -184,7 +259,8 @@ pub record RunFacts (agents : Agents) (Silent : Walker → Type 0) (first : Walk
   pub part : IsPartOfWalk (IsNextFrom agents) (IsGotFrom agents) first (rows ++ refused)
   pub lawful : IsLawfulEnd agents Silent first rows end
 
-module _ {S : Type 0} (takes : S → VarBind → Result (Unit {0}) SinkFault → S → Type 0) (agents : Agents) (Silent : Walker → Type 0) (honest : Type 0) (first w : Walker) (before s t : S)
+module _ {S : Type 0} (takes : S → VarBind → Result (Unit {0}) SinkFault → S → Type 0) (agents : Agents) (Silent : Walker
+    → Type 0) (honest : Type 0) (first w : Walker) (before s t : S)
     (given : List VarBind) (sunk : Given takes before given s) (stands : Reaches Rises Named first w given) where
   -- the walk after one more turn
   pub record GoesOn (rows : List VarBind) (new : Walker) : Type 0 where
@@ -219,9 +295,11 @@ module _ {S : Type 0} (takes : S → VarBind → Result (Unit {0}) SinkFault →
     pub refused : List VarBind
     pub sink : Took takes before (given ++ rows) refused end t
     pub part : IsPartOfWalk Rises Named first ((given ++ rows) ++ refused)
-    pub facts : honest → AreLawfulReplies (IsNextFrom agents) (IsGotFrom agents) → Reaches (IsNextFrom agents) (IsGotFrom agents) first w given → RunFacts agents Silent first (given ++ rows) refused end
+    pub facts : honest → AreLawfulReplies (IsNextFrom agents) (IsGotFrom agents) → Reaches (IsNextFrom agents) (IsGotFrom agents) first w given
+        → RunFacts agents Silent first (given ++ rows) refused end
 
-  over_reply : (rows : List VarBind) (m : Message) (why : WalkEnd) → IsFrom agents honest w m → (take_of w m).0 ≡ step.Last rows why → Given takes s rows t → IsOver rows why
+  over_reply : (rows : List VarBind) (m : Message) (why : WalkEnd) → IsFrom agents honest w m → (take_of w m).0 ≡ step.Last rows why → Given takes s rows t
+      → IsOver rows why
   over_reply rows m why from e sink =
       let any = subst (λ (st : Step). AdvancesAnyhow first w given st (take_of w m).1) e (taken_any first w given m stands) in
       record {
@@ -231,39 +309,51 @@ module _ {S : Type 0} (takes : S → VarBind → Result (Unit {0}) SinkFault →
         facts = λ h laws k.
             let step_of = subst (λ (st : Step). Advances (IsNextFrom agents) (IsGotFrom agents) (IsTooLarge agents) first w given st (take_of w m).1) e
             (taken (IsNextFrom agents) (IsGotFrom agents) (IsTooLarge agents) laws first given w m k (from h)) in
-            record { part = subst (IsPartOfWalk (IsNextFrom agents) (IsGotFrom agents) first) (sym (append-nil (given ++ rows))) step_of.0; lawful = lawful_reply agents Silent first w given rows why any.0 (subst EndsEmpty e (ends_empty w m)) k step_of.1 };
+            record {
+              part = subst (IsPartOfWalk (IsNextFrom agents) (IsGotFrom agents) first) (sym (append-nil
+                  (given ++ rows))) step_of.0;
+              lawful = lawful_reply agents Silent first w given rows why any.0 (subst EndsEmpty e
+                  (ends_empty w m)) k step_of.1;
+            };
       }
 
-  over_refused : (rows : List VarBind) (m : Message) (fault : SinkFault) (p : VarBind) (left : List VarBind) (between : S) → IsFrom agents honest w m → rows_in (take_of w m).0 ≡ rows ++ p ∷ left
+  over_refused : (rows : List VarBind) (m : Message) (fault : SinkFault) (p : VarBind) (left : List VarBind) (between : S) → IsFrom agents honest w m
+      → rows_in (take_of w m).0 ≡ rows ++ p ∷ left
       → Given takes s rows between → takes between p (Err fault) t → IsOver rows (ending.Sink fault)
   over_refused rows m fault p left between from e sink refused =
       let cut : given ++ rows_in (take_of w m).0 ≡ ((given ++ rows) ++ p ∷ []) ++ left =
       ap (λ (r : List VarBind). given ++ r) e ∙ sym (append_assoc given rows (p ∷ left)) ∙ sym (append_assoc (given ++ rows) (p ∷ []) left) in
-      let any = subst (IsPartOfWalk Rises Named first) cut (keeps_part first w (take_of w m).1 given (take_of w m).0 stands (taken_any first w given m stands)) in
+      let any = subst (IsPartOfWalk Rises Named first) cut (keeps_part first w (take_of w m).1 given (take_of w m).0 stands
+      (taken_any first w given m stands)) in
       record {
         refused = p ∷ [];
         sink = (between, given-append S takes given rows before s between sunk sink, (p, refl, refused));
         part = part_front Rises Named first ((given ++ rows) ++ p ∷ []) left any;
         facts = λ h laws k.
-            let whole = subst (IsPartOfWalk (IsNextFrom agents) (IsGotFrom agents) first) cut (advances_part agents laws first w (take_of w m).1 given (take_of w m).0
+            let whole = subst (IsPartOfWalk (IsNextFrom agents) (IsGotFrom agents) first) cut (advances_part agents laws first w (take_of w m).1 given
+            (take_of w m).0
             (taken (IsNextFrom agents) (IsGotFrom agents) (IsTooLarge agents) laws first given w m k (from h))) in
             record { part = part_front (IsNextFrom agents) (IsGotFrom agents) first ((given ++ rows) ++ p ∷ []) left whole; lawful = tt };
       }
 
-  over_none : (why : WalkEnd) → Took takes before given [] why t → (honest → AreLawfulReplies (IsNextFrom agents) (IsGotFrom agents) → Reaches (IsNextFrom agents) (IsGotFrom agents) first w given → IsLawfulEnd agents Silent first given why)
+  over_none : (why : WalkEnd) → Took takes before given [] why t → (honest → AreLawfulReplies (IsNextFrom agents) (IsGotFrom agents)
+      → Reaches (IsNextFrom agents) (IsGotFrom agents) first w given → IsLawfulEnd agents Silent first given why)
       → IsOver [] why
   over_none why sink lawful = record {
     refused = [];
     sink = subst (λ (r : List VarBind). Took takes before r [] why t) (sym (append-nil given)) sink;
     part = subst (λ (r : List VarBind). IsPartOfWalk Rises Named first (r ++ [])) (sym (append-nil given))
-        (subst (IsPartOfWalk Rises Named first) (sym (append-nil given)) (part_of_stage Rises Named AllSmall rising_answers first given w.asked w.phase stands.stage));
+        (subst (IsPartOfWalk Rises Named first) (sym (append-nil given))
+        (part_of_stage Rises Named AllSmall rising_answers first given w.asked w.phase stands.stage));
     facts = λ h laws k. subst (λ (r : List VarBind). RunFacts agents Silent first r [] why) (sym (append-nil given)) (record {
-      part = subst (IsPartOfWalk (IsNextFrom agents) (IsGotFrom agents) first) (sym (append-nil given)) (part_of_stage (IsNextFrom agents) (IsGotFrom agents) (IsTooLarge agents) laws first given w.asked w.phase k.stage);
+      part = subst (IsPartOfWalk (IsNextFrom agents) (IsGotFrom agents) first) (sym (append-nil given)) (part_of_stage (IsNextFrom agents) (IsGotFrom agents)
+          (IsTooLarge agents) laws first given w.asked w.phase k.stage);
       lawful = lawful h laws k;
     });
   }
 
-  pub over : IsWalker w → (rows : List VarBind) (new : Walker) (end : WalkEnd) → (end ≡ ending.NoResponse → honest → Silent w) → Turns takes agents honest w s rows (Some end) new t → IsOver rows end
+  pub over : IsWalker w → (rows : List VarBind) (new : Walker) (end : WalkEnd) → (end ≡ ending.NoResponse → honest → Silent w)
+      → Turns takes agents honest w s rows (Some end) new t → IsOver rows end
   over good rows new end quiet (goes_on m from e f sink en) = let no : ⊥ = cc in absurd no
   over good rows new end quiet (ends m why from e sink en) =
       let same : why ≡ end = cc in
@@ -274,7 +364,13 @@ module _ {S : Type 0} (takes : S → VarBind → Result (Unit {0}) SinkFault →
   over good rows new end quiet (is_silent r a en) =
       let same : ending.NoResponse ≡ end = cc in
       let sink : Given takes before given t = subst (Given takes before given) (sym a) sunk in
-      subst (λ (x : List VarBind). IsOver x end) (sym r) (subst (IsOver []) same (over_none ending.NoResponse (sink, refl) (λ h laws k. (w, good, k, quiet (sym same) h))))
+      subst (λ (x : List VarBind). IsOver x end) (sym r) (subst (IsOver []) same (over_none ending.NoResponse (sink, refl) (λ h laws k. (
+        w,
+        good,
+        k,
+        quiet
+            (sym same) h,
+      ))))
   over good rows new end quiet (fails r a en) =
       let same : ending.Link ≡ end = cc in
       let sink : Given takes before given t = subst (Given takes before given) (sym a) sunk in
@@ -283,7 +379,8 @@ module _ {S : Type 0} (takes : S → VarBind → Result (Unit {0}) SinkFault →
 -- ---- runs
 
 -- where a run stands between two turns
-pub record Runs {S : Type 0} (takes : S → VarBind → Result (Unit {0}) SinkFault → S → Type 0) (agents : Agents) (keeps honest : Type 0) (tries : ℕ) (first : Walker) (before : S) (old : Traffic)
+pub record Runs {S : Type 0} (takes : S → VarBind → Result (Unit {0}) SinkFault → S
+    → Type 0) (agents : Agents) (keeps honest : Type 0) (tries : ℕ) (first : Walker) (before : S) (old : Traffic)
     (w : Walker) (s : S) (now : Traffic) : Type 0 where
   pub given : List VarBind
   pub sunk : Given takes before given s
@@ -293,7 +390,8 @@ pub record Runs {S : Type 0} (takes : S → VarBind → Result (Unit {0}) SinkFa
   pub sends : keeps → Sends tries first given old w.id now
   pub used : honest → old.sent ≡ [] → AreUsed old now
 
-pub runs_first : {S : Type 0} (takes : S → VarBind → Result (Unit {0}) SinkFault → S → Type 0) (agents : Agents) (keeps honest : Type 0) (tries : ℕ) (first : Walker) (before : S) (old : Traffic)
+pub runs_first : {S : Type 0} (takes : S → VarBind → Result (Unit {0}) SinkFault → S
+    → Type 0) (agents : Agents) (keeps honest : Type 0) (tries : ℕ) (first : Walker) (before : S) (old : Traffic)
     → IsFresh first → Runs takes agents keeps honest tries first before old first before old
 runs_first takes agents keeps honest tries first before old fresh = record {
   given = [];
@@ -305,8 +403,10 @@ runs_first takes agents keeps honest tries first before old fresh = record {
   used = λ h none. used_first old;
 }
 
-module _ {S : Type 0} (takes : S → VarBind → Result (Unit {0}) SinkFault → S → Type 0) (agents : Agents) (keeps honest : Type 0) (keeping : honest → keeps) (tries : ℕ) (first : Walker) (before : S) (old : Traffic)
-    (w : Walker) (s : S) (now : Traffic) (r : Runs takes agents keeps honest tries first before old w s now) (good : IsWalker w) (here : Type 0) (here_honest : honest → here) where
+module _ {S : Type 0} (takes : S → VarBind → Result (Unit {0}) SinkFault → S → Type 0) (agents : Agents) (keeps honest : Type 0) (keeping : honest
+    → keeps) (tries : ℕ) (first : Walker) (before : S) (old : Traffic)
+    (w : Walker) (s : S) (now : Traffic) (r : Runs takes agents keeps honest tries first before old w s now) (good : IsWalker w) (here : Type 0)
+    (here_honest : honest → here) where
   -- one more turn
   pub record RunsOn (v : Walker) (t : S) (later : Traffic) : Type 0 where
     pub runs : Runs takes agents keeps honest tries first before old v t later
@@ -316,7 +416,8 @@ module _ {S : Type 0} (takes : S → VarBind → Result (Unit {0}) SinkFault →
   waits : is_over w.phase ≡ false
   waits = stands_waits Rises Named first w r.given r.stands
 
-  pub runs_on : (rows : List VarBind) (v : Walker) (t : S) (later : Traffic) (silent : Type 0) → Turns takes agents (here × IsEarlier now.sent w) w s rows None v t
+  pub runs_on : (rows : List VarBind) (v : Walker) (t : S) (later : Traffic) (silent : Type 0)
+      → Turns takes agents (here × IsEarlier now.sent w) w s rows None v t
       → (keeps → Exchanges agents (here × IsEarlier now.sent w) tries (canon (request_of w)) now silent later) → RunsOn v t later
   runs_on rows v t later silent turn x =
       let gone = turned takes agents (HasNone agents) (here × IsEarlier now.sent w) first w before s t r.given r.sunk r.stands rows v turn in
@@ -329,14 +430,17 @@ module _ {S : Type 0} (takes : S → VarBind → Result (Unit {0}) SinkFault →
           earlier = λ k none. earlier_more w v now.sent later.sent (x k).times good waits (omega (arith, gone.id)) (x k).sent (r.earlier k none);
           sends = λ k. subst (λ (n : ℕ). Sends tries first (r.given ++ rows) old n later) (sym gone.id)
               (sends_more agents (here × IsEarlier now.sent w) silent tries first w r.given rows old now later good r.stands (r.sends k) (x k));
-          used = λ h none. used_more agents (here × IsEarlier now.sent w) silent tries (canon (request_of w)) old now later (here_honest h, r.earlier (keeping h) none) (r.used h none) (x (keeping h));
+          used = λ h none. used_more agents (here
+              × IsEarlier now.sent w) silent tries (canon (request_of w)) old now later (here_honest h, r.earlier (keeping h) none) (r.used h none) (x
+              (keeping h));
         };
         id = gone.id;
         low = gone.low;
       }
 
   -- what is known where no reply came
-  no_reply : (silent : Type 0) (later : Traffic) → silent → honest → old.sent ≡ [] → Exchanges agents (here × IsEarlier now.sent w) tries (canon (request_of w)) now silent later
+  no_reply : (silent : Type 0) (later : Traffic) → silent → honest → old.sent ≡ []
+      → Exchanges agents (here × IsEarlier now.sent w) tries (canon (request_of w)) now silent later
       → HasNoReply agents tries old later w
   no_reply silent later quiet h none x =
       let more = x.honestly (here_honest h, r.earlier (keeping h) none) in
@@ -378,6 +482,13 @@ module _ {S : Type 0} (takes : S → VarBind → Result (Unit {0}) SinkFault →
             facts agents tries old later first (r.given ++ rows) done.refused end some fresh (views h) shown.part
             (lawful_by agents (IsQuiet later) (HasNoReply agents tries old later) first (r.given ++ rows) end (λ u f. f h none) shown.lawful),
         λ k. send_facts agents (honest × (old.sent ≡ [])) tries old later first w (r.given ++ rows) r.given fresh good
-            (sends_more agents (here × IsEarlier now.sent w) (Some end ≡ Some ending.NoResponse) tries first w r.given rows old now later good r.stands (r.sends k) (x k))
-            (λ h. (used_more agents (here × IsEarlier now.sent w) (Some end ≡ Some ending.NoResponse) tries (canon (request_of w)) old now later (here_honest h.0, r.earlier k h.1) (r.used h.0 h.1) (x k), views h.0, r.honestly h.0 (views h.0) h.1)),
+            (sends_more agents (here
+            × IsEarlier now.sent w) (Some end ≡ Some ending.NoResponse) tries first w r.given rows old now later good r.stands (r.sends k) (x k))
+            (λ h. (
+              used_more agents (here
+                  × IsEarlier now.sent w) (Some end ≡ Some ending.NoResponse) tries (canon (request_of w)) old now later (here_honest h.0, r.earlier k h.1)
+                  (r.used h.0 h.1) (x k),
+              views h.0,
+              r.honestly h.0 (views h.0) h.1,
+            )),
       )

@@ -1,5 +1,35 @@
 -- What a run sends, request by request.
-use Rattle.std.proofs.Common.{◌≡◌, ◌⊎◌, inl, inr, ℕ, zero, suc, ◌+◌, ◌*◌, ◌^◌, ◌<◌, ◌≤◌, false, List, [], ◌∷◌, ◌++◌, length, replicate, refl, sym, ◌∙◌, ap, subst, arith, append-nil, append_assoc, length-append, Option}
+use Rattle.std.proofs.Common.{
+  ◌≡◌,
+  ◌⊎◌,
+  inl,
+  inr,
+  ℕ,
+  zero,
+  suc,
+  ◌+◌,
+  ◌*◌,
+  ◌^◌,
+  ◌<◌,
+  ◌≤◌,
+  false,
+  List,
+  [],
+  ◌∷◌,
+  ◌++◌,
+  length,
+  replicate,
+  refl,
+  sym,
+  ◌∙◌,
+  ap,
+  subst,
+  arith,
+  append-nil,
+  append_assoc,
+  length-append,
+  Option,
+}
 use Rattle.std.proofs.lemmas.List.{length-replicate}
 use Rattle.snmp_wire.specs.Message.{VarBind}
 use Rattle.snmp_wire.specs.Canon.{canon}
@@ -32,7 +62,8 @@ last_named : (o : List ℕ) (rows : List VarBind) → (last_name o rows ≡ o) �
 last_named o [] = inl refl
 last_named o (p ∷ rows) = by_rest (last_named p.name rows)
   where
-    by_rest : (last_name p.name rows ≡ p.name) ⊎ IsNameIn rows (last_name p.name rows) → (last_name p.name rows ≡ o) ⊎ IsNameIn (p ∷ rows) (last_name p.name rows)
+    by_rest : (last_name p.name rows ≡ p.name) ⊎ IsNameIn rows (last_name p.name rows)
+        → (last_name p.name rows ≡ o) ⊎ IsNameIn (p ∷ rows) (last_name p.name rows)
     by_rest (inl e) = inr (inl e)
     by_rest (inr h) = inr (inr h)
 
@@ -61,10 +92,17 @@ asks_now first w given rows h = record { same = h.same; name = asks_more first g
 
 -- ---- requests
 
-tries_more : (tries : ℕ) (first : Walker) (rows more : List VarBind) (id : ℕ) (requests : List Try) → AreTries tries first rows id requests → AreTries tries first (rows ++ more) id requests
+tries_more : (tries : ℕ) (first : Walker) (rows more : List VarBind) (id : ℕ) (requests : List Try) → AreTries tries first rows id requests
+    → AreTries tries first (rows ++ more) id requests
 tries_more tries first rows more id [] h = tt
-tries_more tries first rows more id (t ∷ requests) h =
-    (h.0, h.1, h.2, record { same = h.3.same; name = asks_more first rows more t.by.phase t.by.asked h.3.name }, tries_more tries first rows more (id + 1) requests h.4)
+tries_more tries first rows more id (t ∷ requests) h = (
+  h.0,
+  h.1,
+  h.2,
+  record { same = h.3.same; name = asks_more first rows more t.by.phase t.by.asked h.3.name },
+  tries_more tries first rows more
+      (id + 1) requests h.4,
+)
 
 tries_push : (tries : ℕ) (first : Walker) (rows : List VarBind) (id : ℕ) (requests : List Try) (t : Try) → AreTries tries first rows id requests
     → t.by.id ≡ id + length requests → t.by.id < 2 ^ 31 → t.times ≤ tries → Asks first rows t.by → AreTries tries first rows id (requests ++ t ∷ [])
@@ -99,7 +137,8 @@ sends_more agents honest silent tries first w given rows old now later good stan
       sent = x.sent ∙ ap (λ (s : List (List ℕ)). s ++ replicate x.times (canon (request_of w))) h.sent
           ∙ append_assoc old.sent (sent_by h.requests) (replicate x.times (canon (request_of w)))
           ∙ ap (λ (s : List (List ℕ)). old.sent ++ s) (sym (sent_push h.requests t));
-      are_tries = tries_push tries first (given ++ rows) first.id h.requests t (tries_more tries first given rows first.id h.requests h.are_tries) h.ids good.id x.few (asks_now first w given rows stands);
+      are_tries = tries_push tries first (given ++ rows) first.id h.requests t
+          (tries_more tries first given rows first.id h.requests h.are_tries) h.ids good.id x.few (asks_now first w given rows stands);
       ids = omega (arith, h.ids, length-append h.requests (t ∷ []));
     }
 
@@ -111,7 +150,8 @@ before_more w v good waits less d (inr u) = inr (u.0, u.1, u.2, omega (arith, u.
 
 pub earlier_more : (w v : Walker) (sent later : List (List ℕ)) (times : ℕ) → IsWalker w → is_over w.phase ≡ false → w.id < v.id
     → later ≡ sent ++ replicate times (canon (request_of w)) → IsEarlier sent w → IsEarlier later v
-earlier_more w v sent later times good waits less e h d one = by_part (one_append sent (replicate times (canon (request_of w))) d (subst (λ (s : List (List ℕ)). OneOf s d) e one))
+earlier_more w v sent later times good waits less e h d one = by_part (one_append sent (replicate times (canon (request_of w))) d (subst (λ (s : List
+    (List ℕ)). OneOf s d) e one))
   where
     by_part : OneOf sent d ⊎ OneOf (replicate times (canon (request_of w))) d → IsSentBefore v d
     by_part (inl o) = before_more w v good waits less d (h d o)
@@ -138,5 +178,14 @@ used_more agents honest silent tries q old now later h u x =
     record {
       used = u.used ++ more.0;
       parts = u.parts ∙ ap (λ (es : List (Option ℕ)). u.used ++ es) more.1 ∙ sym (append_assoc u.used more.0 later.ahead);
-      few = omega (arith, u.few, more.2, length-append u.used more.0, ap length x.sent, length-append now.sent (replicate x.times q), length-replicate x.times q);
+      few = omega (
+        arith,
+        u.few,
+        more.2,
+        length-append u.used more.0,
+        ap length x.sent,
+        length-append now.sent
+            (replicate x.times q),
+        length-replicate x.times q,
+      );
     }

@@ -1,5 +1,34 @@
 -- An honest reply to the waiting request takes a walk a step further, or ends it lawfully.
-use Rattle.std.proofs.Common.{◌≡◌, inl, inr, ℕ, ◌+◌, ◌<◌, ◌≤◌, Bool, true, false, cond, List, [], ◌∷◌, ◌++◌, length, refl, sym, ◌∙◌, ap, subst, arith, append_assoc, append-nil, length-append, pos, ℤ, Some}
+use Rattle.std.proofs.Common.{
+  ◌≡◌,
+  inl,
+  inr,
+  ℕ,
+  ◌+◌,
+  ◌<◌,
+  ◌≤◌,
+  Bool,
+  true,
+  false,
+  cond,
+  List,
+  [],
+  ◌∷◌,
+  ◌++◌,
+  length,
+  refl,
+  sym,
+  ◌∙◌,
+  ap,
+  subst,
+  arith,
+  append_assoc,
+  append-nil,
+  length-append,
+  pos,
+  ℤ,
+  Some,
+}
 use Rattle.std.proofs.lemmas.Bool.{ltb-true, le-ltb, or_from, and_from, and_parts, eqb-true, ltb-false, eq-eqb}
 use Rattle.std.proofs.lemmas.Cmp.{int_eq_equiv}
 use Rattle.std.specs.Prelude.{nat_lt, ◌==◌, ◌&&◌, ◌||◌, not}
@@ -18,8 +47,41 @@ use Rattle.snmp_walk.specs.Names.{is_missing}
 use Rattle.snmp_walk.specs.Trail.{last_name, IsTrail, IsAtEnd, AreLawfulReplies}
 use Rattle.snmp_walk.specs.Walker.{Walker}
 use Rattle.std.specs.Ordering.{int_eq}
-use Rattle.snmp_walk.specs.Taken.{is_over, is_response, is_awaited, is_plain, inside_front, rising_front, asked_for, stops, goes_on, closes, reads_next, got, if_present, reads_first, reads_last, reads_for, take_of}
-use Rattle.snmp_walk.specs.Standing.{IsChain, IsLarge, IsReplyContent, IsReplyTo, IsOpening, IsGiven, IsAlone, IsPartOfWalk, IsStage, IsReplyTooLarge, opening_gets, IsPaced, Reaches, Advances}
+use Rattle.snmp_walk.specs.Taken.{
+  is_over,
+  is_response,
+  is_awaited,
+  is_plain,
+  inside_front,
+  rising_front,
+  asked_for,
+  stops,
+  goes_on,
+  closes,
+  reads_next,
+  got,
+  if_present,
+  reads_first,
+  reads_last,
+  reads_for,
+  take_of,
+}
+use Rattle.snmp_walk.specs.Standing.{
+  IsChain,
+  IsLarge,
+  IsReplyContent,
+  IsReplyTo,
+  IsOpening,
+  IsGiven,
+  IsAlone,
+  IsPartOfWalk,
+  IsStage,
+  IsReplyTooLarge,
+  opening_gets,
+  IsPaced,
+  Reaches,
+  Advances,
+}
 use Rattle.snmp_walk.proofs.TrailLemmas.{last_name-append, trail-append, IsFront, chain_front, chain_has_values}
 
 module _ (Next Got : List ℕ → VarBind → Type 0) (Large : VarBind → Type 0) (laws : AreLawfulReplies Next Got) (first : Walker) where
@@ -35,8 +97,10 @@ module _ (Next Got : List ℕ → VarBind → Type 0) (Large : VarBind → Type 
 
   -- the walk goes on, or has no id left
   pub goes : (given more : List VarBind) (w : Walker) (next : Phase) (s : Bool) → s ≡ nat_lt w.id 2147483647
-      → Reaches Next Got first w given → IsStage Next Got first (given ++ more) (last_name w.asked more) next → IsPaced Got first (given ++ more) (w.id + 1) next
-      → Goes w given (cond s (step.Rows more, record w { phase = next; asked = last_name w.asked more; id = w.id + 1; count = w.count + length more }) (stops w more ending.TooManyRequests))
+      → Reaches Next Got first w given → IsStage Next Got first (given ++ more) (last_name w.asked more) next
+      → IsPaced Got first (given ++ more) (w.id + 1) next
+      → Goes w given (cond s (step.Rows more, record w { phase = next; asked = last_name w.asked more; id = w.id + 1; count = w.count + length more })
+      (stops w more ending.TooManyRequests))
   goes given more w next true e h stage pace = record {
     same = ap (λ (v : Walker). record v { phase = next; asked = last_name w.asked more; id = w.id + 1; count = w.count + length more }) h.same;
     count = omega (arith, h.count, length-append given more);
@@ -76,7 +140,8 @@ module _ (Next Got : List ℕ → VarBind → Type 0) (Large : VarBind → Type 
   no_length (x ∷ xs) e = absurd (omega (arith, e))
 
   -- a plain walk that gave nothing has made no request before
-  plain_pace : (given : List VarBind) (w : Walker) → w.phase ≡ phase.Rows → Reaches Next Got first w given → given ≡ [] → first.mode ≡ mode.Plain → w.id ≤ first.id
+  plain_pace : (given : List VarBind) (w : Walker) → w.phase ≡ phase.Rows → Reaches Next Got first w given → given ≡ [] → first.mode ≡ mode.Plain
+      → w.id ≤ first.id
   plain_pace given w waits h none plain =
       let p = subst (IsPaced Got first given w.id) waits h.paced in
       let empty : p.1 ≡ [] = (append_none p.0 p.1 (sym p.2 ∙ none)).1 in
@@ -108,7 +173,8 @@ module _ (Next Got : List ℕ → VarBind → Type 0) (Large : VarBind → Type 
       whole given more w o h.count h' end (λ plain none.
       let empty = append_none given more none in
       let zero_count : w.count + length more ≡ 0 = omega (arith, h.count, ap length empty.0, ap length empty.1) in
-      let yes_both : (is_plain w.mode && (w.count + length more == 0)) ≡ true = and_from _ _ (plain_to w.mode (mode_is w given h ∙ plain)) (eq-eqb _ _ zero_count) in
+      let yes_both : (is_plain w.mode && (w.count + length more == 0)) ≡ true = and_from _ _ (plain_to w.mode (mode_is w given h
+      ∙ plain)) (eq-eqb _ _ zero_count) in
       let no : ⊥ = cc in no)
 
   -- more of the trail
@@ -124,7 +190,8 @@ module _ (Next Got : List ℕ → VarBind → Type 0) (Large : VarBind → Type 
   }
 
   -- a chain of answers
-  reads_chain : (given bindings inside rows : List VarBind) (w : Walker) (b : Bool) → b ≡ nat_lt (length rows) (length bindings) → w.phase ≡ phase.Rows → 1 ≤ length bindings
+  reads_chain : (given bindings inside rows : List VarBind) (w : Walker) (b : Bool) → b ≡ nat_lt (length rows) (length bindings) → w.phase ≡ phase.Rows
+      → 1 ≤ length bindings
       → Reaches Next Got first w given → IsGiven Next Got first given w.asked → IsFront Next first.root w.asked bindings inside rows
       → Goes w given (cond b (closes w rows) (goes_on w phase.Rows rows))
   reads_chain given bindings inside rows w true e waits some h before front =
@@ -143,9 +210,11 @@ module _ (Next Got : List ℕ → VarBind → Type 0) (Large : VarBind → Type 
   reads_front : (given bindings inside rows : List VarBind) (w : Walker) → w.phase ≡ phase.Rows → 1 ≤ length bindings
       → Reaches Next Got first w given → IsGiven Next Got first given w.asked → IsFront Next first.root w.asked bindings inside rows
       → (unsorted : Step × Walker)
-      → Goes w given (cond (nat_lt (length rows) (length inside)) unsorted (cond (nat_lt (length rows) (length bindings)) (closes w rows) (goes_on w phase.Rows rows)))
+      → Goes w given (cond (nat_lt (length rows) (length inside)) unsorted (cond (nat_lt (length rows) (length bindings)) (closes w rows)
+      (goes_on w phase.Rows rows)))
   reads_front given bindings inside rows w waits some h before front unsorted =
-      rw (le-ltb (length rows) (length inside) (omega (arith, ap length front.rising))) (reads_chain given bindings inside rows w _ refl waits some h before front)
+      rw (le-ltb (length rows) (length inside) (omega (arith, ap length front.rising)))
+      (reads_chain given bindings inside rows w _ refl waits some h before front)
 
   -- a reply with the next instances
   reads_instances : (given bindings : List VarBind) (w : Walker) → w.phase ≡ phase.Rows → Reaches Next Got first w given → IsGiven Next Got first given w.asked
@@ -157,8 +226,10 @@ module _ (Next Got : List ℕ → VarBind → Type 0) (Large : VarBind → Type 
       let fine : (nat_lt (asked_for w.method) (length (b ∷ more)) || list_any (λ p. is_missing p.value) (b ∷ more)) ≡ false =
       or_from _ _ (le-ltb _ _ few) (chain_has_values Next Got laws first.root w.asked (b ∷ more) chain) in
       let front = chain_front Next Got laws w.root w.asked (b ∷ more) chain in
-      rw fine (reads_front given (b ∷ more) (inside_front w.root (b ∷ more)) (rising_front w.asked (inside_front w.root (b ∷ more))) w waits (omega arith) h before
-      (subst (λ (r : List ℕ). IsFront Next r w.asked (b ∷ more) (inside_front w.root (b ∷ more)) (rising_front w.asked (inside_front w.root (b ∷ more)))) (root_is w given h) front) _)
+      rw fine (reads_front given (b ∷ more) (inside_front w.root (b ∷ more)) (rising_front w.asked (inside_front w.root (b ∷ more))) w waits
+      (omega arith) h before
+      (subst (λ (r : List ℕ). IsFront Next r w.asked (b ∷ more) (inside_front w.root (b ∷ more)) (rising_front w.asked (inside_front w.root (b ∷ more))))
+      (root_is w given h) front) _)
 
   -- the binding of a Get's reply
   got_is : (o : List ℕ) (p : VarBind) → Got o p → got o (p ∷ []) ≡ Some p
@@ -174,7 +245,8 @@ module _ (Next Got : List ℕ → VarBind → Type 0) (Large : VarBind → Type 
   include_opening m o p e h = let P : Mode → Type 0 = λ n. IsOpening Got n o (if_present p) in subst P (sym e) (p, h, refl)
 
   -- the reply to the Get with which a walk begins
-  pub reads_root : (given : List VarBind) (w : Walker) (p : VarBind) → w.phase ≡ phase.First → Reaches Next Got first w given → IsStage Next Got first given w.asked phase.First
+  pub reads_root : (given : List VarBind) (w : Walker) (p : VarBind) → w.phase ≡ phase.First → Reaches Next Got first w given
+      → IsStage Next Got first given w.asked phase.First
       → Got w.asked p → Goes w given (reads_first w (Some p))
   reads_root given w p waits h stage answer =
       let at : Got first.asked p = subst (λ (o : List ℕ). Got o p) stage.1 answer in
@@ -201,7 +273,8 @@ module _ (Next Got : List ℕ → VarBind → Type 0) (Large : VarBind → Type 
       (inr (inr alone), (omega (arith, h.count, length-append given (p ∷ [])), inr alone))
 
   -- tooBig
-  refused : (given : List VarBind) (w : Walker) (m : Message) (p : Phase) → w.phase ≡ p → Reaches Next Got first w given → IsStage Next Got first given w.asked p
+  refused : (given : List VarBind) (w : Walker) (m : Message) (p : Phase) → w.phase ≡ p → Reaches Next Got first w given
+      → IsStage Next Got first given w.asked p
       → m.a ≡ pos 1 → m.b ≡ pos 0 → IsReplyTooLarge Next Got Large p w.asked → (answered : Step × Walker)
       → Goes w given (cond (int_eq m.a (pos 0)) answered (stops w [] (ending.Fault m.a m.b)))
   refused given w m p waits h stage status index large answered =
@@ -214,7 +287,8 @@ module _ (Next Got : List ℕ → VarBind → Type 0) (Large : VarBind → Type 
       → Goes w given (cond (int_eq m.a (pos 0)) answered stopped)
   fine given w m answered stopped status h = let zero_status : int_eq m.a (pos 0) ≡ true = ap (λ (n : ℤ). int_eq n (pos 0)) status in rw zero_status h
 
-  reads_content : (given : List VarBind) (w : Walker) (m : Message) (p : Phase) → w.phase ≡ p → Reaches Next Got first w given → IsStage Next Got first given w.asked p
+  reads_content : (given : List VarBind) (w : Walker) (m : Message) (p : Phase) → w.phase ≡ p → Reaches Next Got first w given
+      → IsStage Next Got first given w.asked p
       → IsReplyContent Next Got Large p w m → Goes w given (cond (int_eq m.a (pos 0)) (reads_for p w m.bindings) (stops w [] (ending.Fault m.a m.b)))
   reads_content given w m phase.First waits h stage (inl c) =
       fine given w m _ _ c.0 (rw (c.1.2, got_is w.asked c.1.0 c.1.1) (reads_root given w c.1.0 waits h stage c.1.1))
@@ -235,7 +309,8 @@ module _ (Next Got : List ℕ → VarBind → Type 0) (Large : VarBind → Type 
   awaited : (given : List VarBind) (w : Walker) (m : Message) → Reaches Next Got first w given → IsReplyTo Next Got Large w m → is_awaited w m ≡ true
   awaited given w m h r =
       let version : int_eq m.version (pos 1) ≡ true = ap (λ (n : ℤ). int_eq n (pos 1)) r.version in
-      let community : pointwise nat_eq m.community w.community ≡ true = ap (λ (c : List ℕ). pointwise nat_eq c w.community) r.community ∙ nat_list_eq_equiv.refl w.community in
+      let community : pointwise nat_eq m.community w.community ≡ true = ap (λ (c : List ℕ). pointwise nat_eq c w.community) r.community
+      ∙ nat_list_eq_equiv.refl w.community in
       let response : is_response m.kind ≡ true = ap is_response r.kind in
       let id : int_eq m.id (pos w.id) ≡ true = ap (λ (n : ℤ). int_eq n (pos w.id)) r.id ∙ int_eq_equiv.refl (pos w.id) in
       and_from _ _ (waiting given w.asked w.phase h.stage) (and_from _ _ (and_from _ _ (and_from _ _ version community) response) id)

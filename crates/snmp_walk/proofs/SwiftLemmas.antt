@@ -1,5 +1,32 @@
 -- Where each single binding has room and ids are enough, a walk over one table ends for no other reason than its own, the link's or the sink's.
-use Rattle.std.proofs.Common.{◌≡◌, ◌≢◌, ◌⊎◌, ◌≤ℤ◌, ℤ, inl, inr, ℕ, ◌+◌, ◌<◌, ◌≤◌, false, true, List, [], ◌∷◌, ◌++◌, length, refl, sym, ◌∙◌, ap, subst, arith, pos, length-append}
+use Rattle.std.proofs.Common.{
+  ◌≡◌,
+  ◌≢◌,
+  ◌⊎◌,
+  ◌≤ℤ◌,
+  ℤ,
+  inl,
+  inr,
+  ℕ,
+  ◌+◌,
+  ◌<◌,
+  ◌≤◌,
+  false,
+  true,
+  List,
+  [],
+  ◌∷◌,
+  ◌++◌,
+  length,
+  refl,
+  sym,
+  ◌∙◌,
+  ap,
+  subst,
+  arith,
+  pos,
+  length-append,
+}
 use Rattle.std.proofs.lemmas.Bool.{false≢true}
 use Rattle.snmp_wire.specs.declared.kind.Kind.TheVariants as kind
 use Rattle.snmp_wire.specs.Message.{VarBind, Message, end_of_mib_view}
@@ -12,7 +39,22 @@ use Rattle.snmp_table.specs.Table.{MibView, IsMibView, IsGet, variable, unknown_
 use Rattle.snmp_table.specs.Listing.{variables}
 use Rattle.snmp_agent.specs.declared.config.Why.{Why}
 use Rattle.snmp_agent.specs.declared.config.Why.TheVariants as why
-use Rattle.snmp_agent.specs.Reply.{IsServed, response, IsWhole, got, got_next, unwritten, Fits, IsLongestFront, IsResponse, whole, shortened, bulk, IsDropped, no_error}
+use Rattle.snmp_agent.specs.Reply.{
+  IsServed,
+  response,
+  IsWhole,
+  got,
+  got_next,
+  unwritten,
+  Fits,
+  IsLongestFront,
+  IsResponse,
+  whole,
+  shortened,
+  bulk,
+  IsDropped,
+  no_error,
+}
 use Rattle.snmp_walk.specs.declared.mode.Mode.{Mode}
 use Rattle.snmp_walk.specs.declared.mode.Mode.TheVariants as mode
 use Rattle.snmp_walk.specs.declared.mode.Method.{Method}
@@ -55,7 +97,8 @@ served phase.Rows (method.Bulk r) = tt
 served phase.Last m = tt
 served phase.Over m = tt
 
-module _ (agents : Agents) (first : Walker) (view : MibView) (answer : VarBind) (table : IsOneTable (variables view) answer (IsNextFrom agents) (IsGotFrom agents) first)
+module _ (agents : Agents) (first : Walker) (view : MibView) (answer : VarBind) (table : IsOneTable (variables view) answer (IsNextFrom agents)
+    (IsGotFrom agents) first)
     (s : List ℕ) (begins : first.asked ≡ first.root ++ s) where
   -- what is given before the instances below the root is the same
   one_opening : (m : Mode) (f g : List VarBind) → IsOpening (IsGotFrom agents) m first.asked f → IsOpening (IsGotFrom agents) m first.asked g → f ≡ g
@@ -71,14 +114,16 @@ module _ (agents : Agents) (first : Walker) (view : MibView) (answer : VarBind) 
       let rest = trail_rest (variables view) answer (IsNextFrom agents) (IsGotFrom agents) first table s begins first.asked stage.trail stage.is_trail in
       let same : pace.0 ≡ stage.front = one_opening first.mode pace.0 stage.front pace.3 stage.opening in
       let behind : List VarBind = rest_of first.root (last_name first.asked stage.trail) (variables view) in
-      let long : length (rest_of first.root first.asked (variables view)) ≡ length stage.trail + length behind = ap length rest ∙ length-append stage.trail behind in
+      let long : length (rest_of first.root first.asked (variables view)) ≡ length stage.trail + length behind = ap length rest
+      ∙ length-append stage.trail behind in
       let parts : length pace.0 + length pace.1 ≡ length stage.front + length stage.trail =
       sym (length-append pace.0 pace.1) ∙ ap length (sym pace.2 ∙ stage.parts) ∙ length-append stage.front stage.trail in
       omega (arith, pace.4, opening_is_get first.mode, ap length same, long, parts)
   few_ids w given phase.Last stage pace = let one : gets first.mode ≡ 1 = ap gets stage.2 in omega (arith, pace, one)
   few_ids w given phase.Over stage pace = absurd pace
 
-module _ (agents : Agents) (first : Walker) (view : MibView) (good_views : AreViews agents.tables) (one_view : agents.tables ≡ view ∷ []) (rooms : HasRoomForEach agents view first) where
+module _ (agents : Agents) (first : Walker) (view : MibView) (good_views : AreViews agents.tables) (one_view : agents.tables ≡ view ∷ [])
+    (rooms : HasRoomForEach agents view first) where
   view_good : IsMibView view
   view_good = (subst AreViews one_view good_views).0
 
@@ -159,7 +204,8 @@ module _ (agents : Agents) (first : Walker) (view : MibView) (good_views : AreVi
         length (canon (record { version = pos 1; community = c; kind = kind.Response; id = pos w.id; a = pos 0; b = pos 0; bindings = p ∷ [] })) in
         subst (λ (c : List ℕ). Size c ≤ agents.max_size) (sym community) (room_fits agents p w.id good.id room)
 
-    asked_at_get : (p : Phase) → (p ≡ phase.First) ⊎ (p ≡ phase.Last) → IsStage (IsNextFrom agents) (IsGotFrom agents) first given w.asked p → w.asked ≡ first.asked
+    asked_at_get : (p : Phase) → (p ≡ phase.First) ⊎ (p ≡ phase.Last) → IsStage (IsNextFrom agents) (IsGotFrom agents) first given w.asked p
+        → w.asked ≡ first.asked
     asked_at_get p (inl e) s = (subst (IsStage (IsNextFrom agents) (IsGotFrom agents) first given w.asked) e s).1
     asked_at_get p (inr e) s = (subst (IsStage (IsNextFrom agents) (IsGotFrom agents) first given w.asked) e s).1
 
@@ -193,9 +239,11 @@ module _ (agents : Agents) (first : Walker) (view : MibView) (good_views : AreVi
     response_fits r (shortened large is no_fit e) = absurd (no_fit (whole_fits large is))
     response_fits r (bulk all bindings k asked longest e) =
         let at = bulk_phase w.phase w.method k in
-        let repetitions : request_repetitions w.phase w.method ≡ at.1 = ap (λ (q : Phase). request_repetitions q w.method) at.0 ∙ ap (request_repetitions phase.Rows) at.2 in
+        let repetitions : request_repetitions w.phase w.method ≡ at.1 = ap (λ (q : Phase). request_repetitions q w.method) at.0
+        ∙ ap (request_repetitions phase.Rows) at.2 in
         let positive : pos 1 ≤ℤ request_repetitions w.phase w.method = subst (λ (z : ℤ). pos 1 ≤ℤ z) (sym repetitions) (subst IsMethod at.2 good.method) in
-        let one_name : IsOneBulk view view_good w.asked (request_repetitions w.phase w.method) all = one_bulk view view_good (request_of w) w.asked all refl refl asked in
+        let one_name : IsOneBulk view view_good w.asked (request_repetitions w.phase w.method) all = one_bulk view view_good
+        (request_of w) w.asked all refl refl asked in
         subst (Fits agents.max_size) (sym e) (bulk_fits all bindings one_name.chain (one_name.some positive) longest)
 
     no_drop : (cause : Why) → IsDropped (agent_in agents view) (canon (request_of w)) cause → ⊥
@@ -215,7 +263,8 @@ module _ (agents : Agents) (first : Walker) (view : MibView) (good_views : AreVi
         let same : u.view ≡ view = only_one view u.view agents.tables one_view u.one in
         no_drop u.why (subst (λ (v : MibView). IsDropped (agent_in agents v) (canon (request_of w)) u.why) same u.dropped)
 
-  module _ (answer : VarBind) (table : IsOneTable (variables view) answer (IsNextFrom agents) (IsGotFrom agents) first) (s : List ℕ) (begins : first.asked ≡ first.root ++ s) where
+  module _ (answer : VarBind) (table : IsOneTable (variables view) answer (IsNextFrom agents) (IsGotFrom agents) first) (s : List ℕ)
+      (begins : first.asked ≡ first.root ++ s) where
     -- ids are enough
     low_id : (w : Walker) (given : List VarBind) (p : Phase) → HasIds first view → IsStage (IsNextFrom agents) (IsGotFrom agents) first given w.asked p
         → IsPaced (IsGotFrom agents) first given w.id p → w.id < 2147483647
@@ -224,7 +273,8 @@ module _ (agents : Agents) (first : Walker) (view : MibView) (good_views : AreVi
         let rest = trail_rest (variables view) answer (IsNextFrom agents) (IsGotFrom agents) first table s begins first.asked stage.trail stage.is_trail in
         let same : pace.0 ≡ stage.front = one_opening agents first view answer table s begins first.mode pace.0 stage.front pace.3 stage.opening in
         let behind : List VarBind = rest_of first.root (last_name first.asked stage.trail) (variables view) in
-        let long : length (rest_of first.root first.asked (variables view)) ≡ length stage.trail + length behind = ap length rest ∙ length-append stage.trail behind in
+        let long : length (rest_of first.root first.asked (variables view)) ≡ length stage.trail + length behind = ap length rest
+        ∙ length-append stage.trail behind in
         let parts : length pace.0 + length pace.1 ≡ length stage.front + length stage.trail =
         sym (length-append pace.0 pace.1) ∙ ap length (sym pace.2 ∙ stage.parts) ∙ length-append stage.front stage.trail in
         omega (arith, ids, pace.4, gets_few first.mode, ap length same, long, parts)
@@ -232,7 +282,8 @@ module _ (agents : Agents) (first : Walker) (view : MibView) (good_views : AreVi
     low_id w given phase.Over ids stage pace = absurd pace
 
     -- the ends that are left
-    pub left_end : (Silent : Walker → Type 0) (rows : List VarBind) (end : WalkEnd) → HasIds first view → IsLawfulEnd agents Silent first rows end → IsDoneOrCutOff end
+    pub left_end : (Silent : Walker → Type 0) (rows : List VarBind) (end : WalkEnd) → HasIds first view → IsLawfulEnd agents Silent first rows end
+        → IsDoneOrCutOff end
     left_end Silent rows (ending.Done n) ids h = tt
     left_end Silent rows (ending.Fault status index) ids h = no_refusal rows h.0.asked h.0.phase h.1.stage h.2.2
     left_end Silent rows (ending.NoProgress o) ids h =

@@ -44,7 +44,8 @@ pub record IsFirst (rows : List VarBind) (o : List ℕ) (p : VarBind) (more : Li
 first_here : (r : VarBind) (rows : List VarBind) (o : List ℕ) → AreAfter r.name rows → comes_after o r.name ≡ true → IsFirst (r ∷ rows) o r rows
 first_here r rows o h e = record { behind = rw (after-irrefl r.name) (all_after r.name rows h); after = h; comes = e }
 
-first_later : (r : VarBind) (rows : List VarBind) (o : List ℕ) (p : VarBind) (more : List VarBind) → comes_after o r.name ≡ false → IsFirst rows o p more → IsFirst (r ∷ rows) o p more
+first_later : (r : VarBind) (rows : List VarBind) (o : List ℕ) (p : VarBind) (more : List VarBind) → comes_after o r.name ≡ false → IsFirst rows o p more
+    → IsFirst (r ∷ rows) o p more
 first_later r rows o p more e h = record { behind = rw (not_after o p.name r.name h.comes e) h.behind; after = h.after; comes = h.comes }
 
 first_by : (r : VarBind) (rows : List VarBind) (o : List ℕ) (p : VarBind) (more : List VarBind) (b : Bool) → comes_after o r.name ≡ b → AreAfter r.name rows
@@ -56,12 +57,14 @@ first_by r rows o p more true e h same later =
     subst (λ (s : List VarBind). IsFirst (r ∷ rows) o p s) rest (subst (λ (q : VarBind). IsFirst (r ∷ rows) o q rows) first (first_here r rows o h e))
 first_by r rows o p more false e h same later = first_later r rows o p more e (later same)
 
-pub first_of_rows : (rows : List VarBind) (o : List ℕ) (p : VarBind) (more : List VarBind) → AreRising rows → rows_after o rows ≡ p ∷ more → IsFirst rows o p more
+pub first_of_rows : (rows : List VarBind) (o : List ℕ) (p : VarBind) (more : List VarBind) → AreRising rows → rows_after o rows ≡ p ∷ more
+    → IsFirst rows o p more
 first_of_rows [] o p more h e = let no : ⊥ = cc in absurd no
 first_of_rows (r ∷ rows) o p more h e = first_by r rows o p more (comes_after o r.name) refl h.0 e (first_of_rows rows o p more h.1)
 
 -- none of these is below the root
-none_below : (root s : List ℕ) (p : VarBind) (more : List VarBind) → comes_after (root ++ s) p.name ≡ true → is_below p.name root ≡ false → AreAfter p.name more → rows_below root more ≡ []
+none_below : (root s : List ℕ) (p : VarBind) (more : List VarBind) → comes_after (root ++ s) p.name ≡ true → is_below p.name root ≡ false
+    → AreAfter p.name more → rows_below root more ≡ []
 none_below root s p [] c out h = refl
 none_below root s p (q ∷ more) c out h = rw (outside_after root s p.name q.name c out h.0) (none_below root s p more c out h.1)
 
@@ -77,7 +80,8 @@ first_value (r ∷ rows) o p more h e = value_by r rows o p more (comes_after o 
 
 module _ (rows : List VarBind) (rising : AreRising rows) (instances : AreInstances rows) (root : List ℕ) where
   outside_parts : (p : VarBind) → is_end p.value ≡ false → is_inside root p ≡ false → is_below p.name root ≡ false
-  outside_parts p v h = let e : (not (is_end p.value) && is_below p.name root) ≡ is_below p.name root = ap (λ (b : Bool). not b && is_below p.name root) v in sym e ∙ h
+  outside_parts p v h = let e : (not (is_end p.value) && is_below p.name root) ≡ is_below p.name root = ap (λ
+      (b : Bool). not b && is_below p.name root) v in sym e ∙ h
 
   -- an answer below the root is the next row of the rest
   pub rest_next : (o : List ℕ) (p : VarBind) (behind : List VarBind) → behind ≡ rows_after o rows → p ≡ or_end o behind → is_inside root p ≡ true
@@ -89,10 +93,12 @@ module _ (rows : List VarBind) (rising : AreRising rows) (instances : AreInstanc
       let below : is_below p.name root ≡ true = (and_parts (not (is_end p.value)) (is_below p.name root) inside).1 in
       filter-commute (λ row. comes_after o row.name) (λ row. is_below row.name root) rows
       ∙ ap (rows_below root) (sym e ∙ ap (λ (r : VarBind). r ∷ more) (sym is))
-      ∙ rw below (ap (λ (s : List VarBind). p ∷ s) (ap (rows_below root) (sym here) ∙ sym (filter-commute (λ row. comes_after p.name row.name) (λ row. is_below row.name root) rows)))
+      ∙ rw below (ap (λ (s : List VarBind). p ∷ s) (ap (rows_below root) (sym here)
+      ∙ sym (filter-commute (λ row. comes_after p.name row.name) (λ row. is_below row.name root) rows)))
 
   -- an answer that isn't below the root has no row below it behind it
-  pub rest_ends : (o s : List ℕ) (p : VarBind) (behind : List VarBind) → o ≡ root ++ s → behind ≡ rows_after o rows → p ≡ or_end o behind → is_inside root p ≡ false
+  pub rest_ends : (o s : List ℕ) (p : VarBind) (behind : List VarBind) → o ≡ root ++ s → behind ≡ rows_after o rows → p ≡ or_end o behind
+      → is_inside root p ≡ false
       → rest_of root o rows ≡ []
   rest_ends o s p [] at e is out = filter-commute (λ row. comes_after o row.name) (λ row. is_below row.name root) rows ∙ ap (rows_below root) (sym e)
   rest_ends o s p (q ∷ more) at e is out =
@@ -142,7 +148,8 @@ module _ (rows : List VarBind) (got : VarBind) (Next Got : List ℕ → VarBind 
       → rest_of first.root first.asked rows ≡ trail
   trail_ends trail h end =
       let at = trail_begins first.asked s trail begins h in
-      let none = rest_ends rows table.rising table.instances first.root (last_name first.asked trail) at.0 end.0 (rows_after (last_name first.asked trail) rows) at.1 refl (table.next _ _ end.1) end.2 in
+      let none = rest_ends rows table.rising table.instances first.root (last_name first.asked trail) at.0 end.0 (rows_after
+      (last_name first.asked trail) rows) at.1 refl (table.next _ _ end.1) end.2 in
       trail_rest first.asked trail h ∙ ap (λ (t : List VarBind). trail ++ t) none ∙ append-nil trail
 
   abbrev All : List VarBind
@@ -171,7 +178,8 @@ module _ (rows : List VarBind) (got : VarBind) (Next Got : List ℕ → VarBind 
 
   alone_whole : (given : List VarBind) → IsAlone Next Got first given → All ≡ given
   alone_whole given h =
-      ap (λ (m : Mode). Of m) h.plain ∙ ap (or_only got) (trail_ends [] tt h.none) ∙ ap (λ (p : VarBind). p ∷ []) (sym (table.answer h.answer h.is_answer)) ∙ sym h.only
+      ap (λ (m : Mode). Of m) h.plain ∙ ap (or_only got) (trail_ends [] tt h.none) ∙ ap (λ (p : VarBind). p ∷ []) (sym (table.answer h.answer h.is_answer))
+      ∙ sym h.only
 
   whole_given : (m : Mode) (front trail : List VarBind) → IsOpening Got m first.asked front → IsTrail Next first.root first.asked trail
       → IsAtEnd Next first.root (last_name first.asked trail) → (m ≡ mode.Plain → front ++ trail ≡ [] → ⊥) → Of m ≡ front ++ trail
@@ -185,7 +193,8 @@ module _ (rows : List VarBind) (got : VarBind) (Next Got : List ℕ → VarBind 
       trail_ends trail h end ∙ ap (λ (f : List VarBind). f ++ trail) (sym opening)
 
   -- what was given is a beginning of the walk
-  pub part_is : (given : List VarBind) → IsPartOfWalk Next Got first given → (more : List VarBind) × (walk_from first.mode first.root first.asked got rows ≡ given ++ more)
+  pub part_is : (given : List VarBind) → IsPartOfWalk Next Got first given
+      → (more : List VarBind) × (walk_from first.mode first.root first.asked got rows ≡ given ++ more)
   part_is given (inl none) = (All, ap (λ (g : List VarBind). g ++ All) (sym none))
   part_is given (inr (inl h)) =
       let part = part_given first.mode h.1.front h.1.trail h.1.opening h.1.is_trail in
@@ -201,7 +210,8 @@ module _ (rows : List VarBind) (got : VarBind) (Next Got : List ℕ → VarBind 
   whole_is given (inr h) = sym (alone_whole given h)
 
 -- behind the root as it is sent stand all instances below it
-wire_first : (root : List ℕ) (r : VarBind) (rows : List VarBind) (b : Bool) → is_below r.name root ≡ b → 3 ≤ length r.name → rest_of root (wire root) rows ≡ rows_below root rows
+wire_first : (root : List ℕ) (r : VarBind) (rows : List VarBind) (b : Bool) → is_below r.name root ≡ b → 3 ≤ length r.name
+    → rest_of root (wire root) rows ≡ rows_below root rows
     → rows_after (wire root) (cond b (r ∷ rows_below root rows) (rows_below root rows)) ≡ cond b (r ∷ rows_below root rows) (rows_below root rows)
 wire_first root r rows true e long h = rw (below_after_wire root r.name long e) (ap (λ (t : List VarBind). r ∷ t) h)
 wire_first root r rows false e long h = h
@@ -211,7 +221,8 @@ rest_from_wire root [] h = refl
 rest_from_wire root (r ∷ rows) h = wire_first root r rows (is_below r.name root) refl h.0 (rest_from_wire root rows h.3)
 
 -- a walk that isn't resumed
-pub walk_from_wire : (m : Mode) (root : List ℕ) (got : VarBind) (rows : List VarBind) → AreInstances rows → walk_from m root (wire root) got rows ≡ walk_of m root got rows
+pub walk_from_wire : (m : Mode) (root : List ℕ) (got : VarBind) (rows : List VarBind) → AreInstances rows
+    → walk_from m root (wire root) got rows ≡ walk_of m root got rows
 walk_from_wire mode.Plain root got rows h = ap (or_only got) (rest_from_wire root rows h)
 walk_from_wire mode.Include root got rows h = ap (λ (t : List VarBind). rows_named (wire root) rows ++ t) (rest_from_wire root rows h)
 walk_from_wire mode.NoLast root got rows h = rest_from_wire root rows h

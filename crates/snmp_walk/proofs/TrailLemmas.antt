@@ -52,7 +52,8 @@ module _ (Next Got : List ℕ → VarBind → Type 0) (laws : AreLawfulReplies N
       → IsFront Next root o bindings (inside_front root bindings) (rising_front o (inside_front root bindings))
   chain_front o [] h = record { rising = refl; is_trail = tt; leaves = λ l. absurd (omega (arith, l)); short = omega arith }
   chain_front o (p ∷ more) h =
-      let first = front_first o p more (inside_front root more) (rising_front p.name (inside_front root more)) (is_inside root p) refl h.0 (chain_front p.name more h.1) in
+      let first = front_first o p more (inside_front root more) (rising_front p.name (inside_front root more)) (is_inside root p) refl h.0
+      (chain_front p.name more h.1) in
       let P : List VarBind → Type 0 = λ rows. IsFront Next root o (p ∷ more) (cond (is_inside root p) (p ∷ inside_front root more) []) rows in
       let Q : List VarBind → Type 0 = λ inside. IsFront Next root o (p ∷ more) inside (rising_front o inside) in
       subst Q (sym (take_while-cons (is_inside root) p more)) (subst P (rising_first o p (inside_front root more) (is_inside root p)) first)

@@ -10,7 +10,22 @@ use Rattle.snmp_walk.specs.declared.end.WalkEnd.TheVariants as ending
 use Rattle.snmp_walk.specs.declared.rows.Step.{Step}
 use Rattle.snmp_walk.specs.declared.rows.Step.TheVariants as step
 use Rattle.snmp_walk.specs.Walker.{Walker}
-use Rattle.snmp_walk.specs.Taken.{is_over, is_awaited, stops, goes_on, closes, reads, reads_next, got, reads_first, reads_last, reads_for, reads_reply, take_of, Takes}
+use Rattle.snmp_walk.specs.Taken.{
+  is_over,
+  is_awaited,
+  stops,
+  goes_on,
+  closes,
+  reads,
+  reads_next,
+  got,
+  reads_first,
+  reads_last,
+  reads_for,
+  reads_reply,
+  take_of,
+  Takes,
+}
 use Rattle.snmp_walk.specs.Standing.{IsReplyEnd}
 use Rattle.snmp_walk.specs.Link.{Agents}
 use Rattle.snmp_walk.specs.declared.end.SinkFault.{SinkFault}
@@ -36,7 +51,8 @@ closes_news w rows = news_cond _ (goes_on w phase.Last []) (stops w rows _) (goe
 next_news : (w : Walker) (bindings : List VarBind) → HasNews (reads_next w bindings).0
 next_news w [] = tt
 next_news w (b ∷ more) = news_cond _ (stops w [] ending.BadReply) (reads w (b ∷ more)) tt
-    (news_cond _ (stops w _ _) (cond _ (closes w _) (goes_on w phase.Rows _)) tt (news_cond _ (closes w _) (goes_on w phase.Rows _) (closes_news w _) (goes_news w phase.Rows _)))
+    (news_cond _ (stops w _ _) (cond _ (closes w _) (goes_on w phase.Rows _)) tt (news_cond _ (closes w _) (goes_on w phase.Rows _) (closes_news w _)
+    (goes_news w phase.Rows _)))
 
 first_news : (w : Walker) (g : Option VarBind) → HasNews (reads_first w g).0
 first_news w None = tt
@@ -67,7 +83,8 @@ pub record IsTaken (agents : Agents) (honest : Type 0) (w : Walker) (given : Ste
   pub new_is : new ≡ (take_of w message).1
   pub news : HasNews given
 
-taken_message : (agents : Agents) (honest : Type 0) (w : Walker) (m : Message) (given : Step) (new : Walker) → is_over w.phase ≡ false → is_awaited w m ≡ true → IsFrom agents honest w m
+taken_message : (agents : Agents) (honest : Type 0) (w : Walker) (m : Message) (given : Step) (new : Walker) → is_over w.phase ≡ false
+    → is_awaited w m ≡ true → IsFrom agents honest w m
     → given ≡ (take_of w m).0 → new ≡ (take_of w m).1 → IsTaken agents honest w given new
 taken_message agents honest w m given new waits awaited from e f = record {
   message = m;
@@ -97,17 +114,20 @@ module _ {S : Type 0} (takes : S → VarBind → Result (Unit {0}) SinkFault →
       → (r : List VarBind) × Turns takes agents honest w s r None new t
   turn_goes given new rows h e sink = (rows, turn_on h.message h.from (sym h.given_is ∙ e) h.new_is sink refl)
 
-  pub turn_ends : (given : Step) (new : Walker) (rows : List VarBind) (why : WalkEnd) → IsTaken agents honest w given new → given ≡ step.Last rows why → Given takes s rows t
+  pub turn_ends : (given : Step) (new : Walker) (rows : List VarBind) (why : WalkEnd) → IsTaken agents honest w given new → given ≡ step.Last rows why
+      → Given takes s rows t
       → (r : List VarBind) × Turns takes agents honest w s r (Some why) new t
   turn_ends given new rows why h e sink = (rows, ends h.message why h.from (sym h.given_is ∙ e) sink refl)
 
   pub turn_refused : (given : Step) (new : Walker) (rows : List VarBind) (fault : SinkFault) → IsTaken agents honest w given new → rows_in given ≡ rows
-      → ((front : List VarBind) × (p : VarBind) × (back : List VarBind) × (rows ≡ front ++ p ∷ back) × (between : S) × Given takes s front between × takes between p (Err fault) t)
+      → ((front : List VarBind) × (p : VarBind) × (back : List VarBind) × (rows ≡ front ++ p ∷ back) × (between : S) × Given takes s front between
+      × takes between p (Err fault) t)
       → (r : List VarBind) × Turns takes agents honest w s r (Some (ending.Sink fault)) new t
   turn_refused given new rows fault h e sink =
       (sink.0, is_refused h.message fault sink.1 sink.2 sink.4 h.from (ap rows_in (sym h.given_is) ∙ e ∙ sink.3) sink.5 sink.6 refl)
 
-pub reply_end : (agents : Agents) (honest : Type 0) (w : Walker) (given : Step) (new : Walker) (rows : List VarBind) (why : WalkEnd) → IsTaken agents honest w given new
+pub reply_end : (agents : Agents) (honest : Type 0) (w : Walker) (given : Step) (new : Walker) (rows : List VarBind) (why : WalkEnd)
+    → IsTaken agents honest w given new
     → given ≡ step.Last rows why → IsReplyEnd why
 reply_end agents honest w given new rows why h e = subst HasNews e h.news
 

@@ -7,7 +7,23 @@ use Rattle.std.specs.Cmp.Lexicographic.{slice_cmp}
 use Rattle.std.specs.declared.cmp.Ordering.{Ordering}
 use Rattle.std.specs.declared.cmp.Ordering.TheVariants.{Less}
 use Rattle.snmp_oid.specs.Identifier.{Precedes}
-use Rattle.snmp_wire.specs.Message.{Datum, VarBind, integer_value, octet_string, null_value, object_id, ip_address, counter32, gauge32, time_ticks, opaque_octets, counter64, no_such_object, no_such_instance, end_of_mib_view}
+use Rattle.snmp_wire.specs.Message.{
+  Datum,
+  VarBind,
+  integer_value,
+  octet_string,
+  null_value,
+  object_id,
+  ip_address,
+  counter32,
+  gauge32,
+  time_ticks,
+  opaque_octets,
+  counter64,
+  no_such_object,
+  no_such_instance,
+  end_of_mib_view,
+}
 use Rattle.snmp_table.specs.Table.{MibView, IsInstanceValue, IsMibView, IsGet, variable, unknown_object, unknown_instance, IsNext, successor, end_of_view}
 use Rattle.snmp_walk.specs.Names.{is_end, is_missing, comes_after}
 use Rattle.snmp_walk.specs.Trail.{AreLawfulReplies}
@@ -24,7 +40,8 @@ pub less_precedes : (o p : List ℕ) → Precedes o p → slice_cmp nat_cmp o p 
 less_precedes o p (inl h) = subst (λ (q : List ℕ). slice_cmp nat_cmp o q ≡ Less) (sym h.2) (less_longer o h.0 h.1)
 less_precedes o p (inr h) =
     subst (λ (q : List ℕ). slice_cmp nat_cmp q p ≡ Less) (sym h.this)
-    (subst (λ (q : List ℕ). slice_cmp nat_cmp (h.front ++ h.smaller ∷ h.after) q ≡ Less) (sym h.that) (less_parts h.front h.smaller h.larger h.after h.behind h.is_smaller))
+    (subst (λ (q : List ℕ). slice_cmp nat_cmp (h.front ++ h.smaller ∷ h.after) q ≡ Less) (sym h.that)
+    (less_parts h.front h.smaller h.larger h.after h.behind h.is_smaller))
 
 pub value_no_end : (v : Datum) → IsInstanceValue v → is_end v ≡ false
 value_no_end (integer_value n) h = refl

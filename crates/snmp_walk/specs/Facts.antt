@@ -1,5 +1,19 @@
 -- What holds of a whole run.
-use Rattle.std.specs.Prelude.{◌≡◌, ℕ, ◌+◌, ◌*◌, ◌≤◌, ◌⊎◌, List, [], ◌∷◌, ◌++◌, length, replicate, Option}
+use Rattle.std.specs.Prelude.{
+  ◌≡◌,
+  ℕ,
+  ◌+◌,
+  ◌*◌,
+  ◌≤◌,
+  ◌⊎◌,
+  List,
+  [],
+  ◌∷◌,
+  ◌++◌,
+  length,
+  replicate,
+  Option,
+}
 use Rattle.snmp_walk.specs.declared.mode.Mode.{Mode}
 use Rattle.snmp_walk.specs.declared.mode.Mode.TheVariants as mode
 use Rattle.snmp_walk.specs.Traffic.{Traffic, Lost}
@@ -17,7 +31,8 @@ use Rattle.snmp_walk.specs.Standing.{Reaches, IsPartOfWalk, Ends}
 use Rattle.snmp_walk.specs.Link.{Agents, IsNextFrom, IsGotFrom, IsTooLarge, IsUnanswered}
 use Rattle.snmp_walk.specs.Room.{HasRoomForEach, HasIds}
 
--- a walk of which nothing was taken yet, and which asks for the root or behind a name that begins with it
+-- a walk of which nothing was taken yet, and which asks for the root or behind a name that begins
+-- with it
 pub record IsFresh (w : Walker) : Type 0 where
   pub phase : w.phase ≡ first_phase w.mode
   pub count : w.count ≡ 0
@@ -30,13 +45,16 @@ abbrev pub IsLawfulEnd : Agents → (Walker → Type 0) → Walker → List VarB
 IsLawfulEnd agents Silent first rows ending.Link = Unit {0}
 IsLawfulEnd agents Silent first rows (ending.Sink fault) = Unit {0}
 IsLawfulEnd agents Silent first rows ending.NoResponse =
-    (w : Walker) × IsWalker w × Reaches (IsNextFrom agents) (IsGotFrom agents) first w rows × Silent w
+    (w : Walker) × IsWalker w × Reaches (IsNextFrom agents) (IsGotFrom agents) first w rows
+    × Silent w
 IsLawfulEnd agents Silent first rows (ending.Fault status index) =
     (w : Walker) × Reaches (IsNextFrom agents) (IsGotFrom agents) first w rows
-    × Ends (IsNextFrom agents) (IsGotFrom agents) (IsTooLarge agents) first w rows (ending.Fault status index)
+    × Ends (IsNextFrom agents) (IsGotFrom agents) (IsTooLarge agents) first w rows
+    (ending.Fault status index)
 IsLawfulEnd agents Silent first rows (ending.NoProgress asked) =
     (w : Walker) × Reaches (IsNextFrom agents) (IsGotFrom agents) first w rows
-    × Ends (IsNextFrom agents) (IsGotFrom agents) (IsTooLarge agents) first w rows (ending.NoProgress asked)
+    × Ends (IsNextFrom agents) (IsGotFrom agents) (IsTooLarge agents) first w rows
+    (ending.NoProgress asked)
 IsLawfulEnd agents Silent first rows why =
     (w : Walker) × (given : List VarBind) × (more : List VarBind) × (rows ≡ given ++ more)
     × Reaches (IsNextFrom agents) (IsGotFrom agents) first w given
@@ -48,14 +66,16 @@ pub record HasNoReply (agents : Agents) (tries : ℕ) (old new : Traffic) (w : W
   pub earlier : List (List ℕ)
   pub sent : new.sent ≡ earlier ++ replicate tries (canon (request_of w))
   pub lost : IsUnanswered agents (canon (request_of w))
-      ⊎ ((before : List (Option ℕ)) × (used : List (Option ℕ)) × (old.ahead ≡ before ++ (used ++ new.ahead))
+      ⊎ ((before : List (Option ℕ)) × (used : List (Option ℕ))
+      × (old.ahead ≡ before ++ (used ++ new.ahead))
       × Lost agents (earlier ++ canon (request_of w) ∷ []) (canon (request_of w)) used tries 0)
 
 -- the agents have no reply to the request of w
 abbrev pub HasNone : Agents → Walker → Type 0
 HasNone agents w = IsUnanswered agents (canon (request_of w))
 
--- what the walk gives of one table, `got` being what that answers to a Get of the name from which the walk begins
+-- what the walk gives of one table, `got` being what that answers to a Get of the name from which
+-- the walk begins
 abbrev pub walk_at : Walker → MibView → VarBind → List VarBind
 walk_at first view got = walk_from first.mode first.root first.asked got (variables view)
 
@@ -77,23 +97,28 @@ IsDoneOrCutOff why = IsDoneOrStopped why
 
 -- What is promised of a run over an honest link over which nothing was sent before. It gave these
 -- rows to the sink, and then the one that was refused, if any was.
-pub record WalkFacts (agents : Agents) (tries : ℕ) (old : Traffic) (first : Walker) (rows refused : List VarBind) (end : WalkEnd) (new : Traffic) : Type 0 where
+pub record WalkFacts (agents : Agents) (tries : ℕ) (old : Traffic) (first : Walker)
+    (rows refused : List VarBind) (end : WalkEnd) (new : Traffic) : Type 0 where
   pub part : IsPartOfWalk (IsNextFrom agents) (IsGotFrom agents) first (rows ++ refused)
   pub lawful : IsLawfulEnd agents (HasNoReply agents tries old new) first rows end
   -- where each receive gives the reply to the latest datagram, none comes only where there is none
   pub replied : old.ahead ≡ [] → IsLawfulEnd agents (HasNone agents) first rows end
   -- over one table what was given, with what was refused, is a beginning of the walk,
-  pub beginning : (view : MibView) (got : VarBind) → agents.tables ≡ view ∷ [] → IsGet view first.asked got
+  pub beginning : (view : MibView) (got : VarBind) → agents.tables ≡ view ∷ []
+      → IsGet view first.asked got
       → (more : List VarBind) × (walk_at first view got ≡ (rows ++ refused) ++ more)
   -- and where the walk is done it is all of it
-  pub all_at_done : (view : MibView) (got : VarBind) → agents.tables ≡ view ∷ [] → IsGet view first.asked got → IsDone end
+  pub all_at_done : (view : MibView) (got : VarBind) → agents.tables ≡ view ∷ []
+      → IsGet view first.asked got → IsDone end
       → rows ≡ walk_at first view got
   -- Over one table, where there is room for each single binding and ids are enough, a walk is done
   -- unless the link or the sink stops it or no reply comes,
-  pub done_unless_lost : (view : MibView) (got : VarBind) → agents.tables ≡ view ∷ [] → IsGet view first.asked got
+  pub done_unless_lost : (view : MibView) (got : VarBind) → agents.tables ≡ view ∷ []
+      → IsGet view first.asked got
       → HasRoomForEach agents view first → HasIds first view → IsDoneOrCutOff end
   -- which it does where each receive gives the reply to the latest datagram
-  pub done_unless_stopped : (view : MibView) (got : VarBind) → agents.tables ≡ view ∷ [] → IsGet view first.asked got
+  pub done_unless_stopped : (view : MibView) (got : VarBind) → agents.tables ≡ view ∷ []
+      → IsGet view first.asked got
       → HasRoomForEach agents view first → HasIds first view → old.ahead ≡ [] → IsDoneOrStopped end
 
 -- how many Gets a walk of this mode may send beside the requests for the next instances
@@ -103,14 +128,18 @@ gets _ = 1
 
 -- What is promised of what a run sends, which gave these rows, over a link that keeps the list of
 -- the datagrams sent; and where it is honest and nothing was sent before.
-pub record SendFacts (agents : Agents) (honest : Type 0) (tries : ℕ) (old : Traffic) (first : Walker) (rows : List VarBind) (new : Traffic) : Type 0 where
+pub record SendFacts (agents : Agents) (honest : Type 0) (tries : ℕ) (old : Traffic)
+    (first : Walker) (rows : List VarBind) (new : Traffic) : Type 0 where
   pub requests : List Try
   pub sent : new.sent ≡ old.sent ++ sent_by requests
   -- ids rise by one, and each request is sent so many times at most
   pub are_tries : AreTries tries first rows first.id requests
   pub few : first.id + length requests ≤ 2147483648
   -- at most 64 deliveries are used for each datagram sent
-  pub used : honest → (used : List (Option ℕ)) × (old.ahead ≡ used ++ new.ahead) × (length used ≤ 64 * length (sent_by requests))
+  pub used : honest → (used : List (Option ℕ)) × (old.ahead ≡ used ++ new.ahead)
+      × (length used ≤ 64 * length (sent_by requests))
   -- over one table there is at most one request for each row below the root, one more, and a Get
-  pub few_of_table : honest → (view : MibView) (got : VarBind) → agents.tables ≡ view ∷ [] → IsGet view first.asked got
-      → length requests ≤ length (rest_of first.root first.asked (variables view)) + 1 + gets first.mode
+  pub few_of_table : honest → (view : MibView) (got : VarBind) → agents.tables ≡ view ∷ []
+      → IsGet view first.asked got
+      → length requests
+      ≤ length (rest_of first.root first.asked (variables view)) + 1 + gets first.mode

@@ -1,5 +1,25 @@
 -- What a Get of names asks and brings (RFC 3416, section 4.2.1).
-use Rattle.std.specs.Prelude.{◌≡◌, ◌<◌, ℕ, pos, Bool, true, false, ◌&&◌, not, if◌then◌else◌, List, [], ◌∷◌, ◌++◌, map, length, Result, Ok, Err}
+use Rattle.std.specs.Prelude.{
+  ◌≡◌,
+  ◌<◌,
+  ℕ,
+  pos,
+  Bool,
+  true,
+  false,
+  ◌&&◌,
+  not,
+  if◌then◌else◌,
+  List,
+  [],
+  ◌∷◌,
+  ◌++◌,
+  map,
+  length,
+  Result,
+  Ok,
+  Err,
+}
 use Rattle.std.specs.Bool.{nat_eq}
 use Rattle.std.specs.Ordering.{int_eq}
 use Rattle.std.specs.Cmp.Lexicographic.{pointwise}
@@ -38,7 +58,8 @@ abbrev pub are_for : List (List ℕ) → List VarBind → Bool
 are_for [] [] = true
 are_for [] (p ∷ more) = false
 are_for (o ∷ names) [] = false
-are_for (o ∷ names) (p ∷ more) = (pointwise nat_eq p.name (wire o) && not (is_end p.value)) && are_for names more
+are_for (o ∷ names) (p ∷ more) = (pointwise nat_eq p.name (wire o) && not
+    (is_end p.value)) && are_for names more
 
 -- what a reply brings: its bindings, or the end where it has an error status or other bindings
 abbrev pub answers_of : List (List ℕ) → Message → Result (List VarBind) WalkEnd
@@ -57,16 +78,25 @@ IsBrought agents honest community id names m =
 
 -- How a Get ends: which bindings the sink was given, and then refused, if it did. `From` says of a
 -- message that the link brought it.
-pub data GetEnds {S : Type 0} (takes : S → VarBind → Result (Unit {0}) SinkFault → S → Type 0) (request : Message) (names : List (List ℕ))
-    (From : Message → Type 0) (before : S) (rows refused : List VarBind) (end : WalkEnd) (after : S) : Type 0 where
-  gives : (m : Message) → From m → answers_of names m ≡ Ok rows → refused ≡ [] → Given takes before rows after
-      → end ≡ ending.Done (length names) → GetEnds takes request names From before rows refused end after
-  is_refused : (m : Message) (p : VarBind) (more : List VarBind) (fault : SinkFault) (between : S) → From m
-      → answers_of names m ≡ Ok (rows ++ p ∷ more) → refused ≡ p ∷ [] → Given takes before rows between
-      → takes between p (Err fault) after → end ≡ ending.Sink fault → GetEnds takes request names From before rows refused end after
-  fails : (m : Message) → From m → answers_of names m ≡ Err end → rows ≡ [] → refused ≡ [] → after ≡ before
+pub data GetEnds {S : Type 0} (takes : S → VarBind → Result (Unit {0}) SinkFault → S
+    → Type 0) (request : Message) (names : List (List ℕ))
+    (From : Message → Type 0) (before : S) (rows refused : List VarBind) (end : WalkEnd)
+    (after : S) : Type 0 where
+  gives : (m : Message) → From m → answers_of names m ≡ Ok rows → refused ≡ []
+      → Given takes before rows after
+      → end ≡ ending.Done (length names)
       → GetEnds takes request names From before rows refused end after
-  is_too_long : 65507 < length (canon request) → end ≡ ending.RequestTooLong → rows ≡ [] → refused ≡ [] → after ≡ before
+  is_refused : (m : Message) (p : VarBind) (more : List VarBind) (fault : SinkFault)
+      (between : S) → From m
+      → answers_of names m ≡ Ok (rows ++ p ∷ more) → refused ≡ p ∷ []
+      → Given takes before rows between
+      → takes between p (Err fault) after → end ≡ ending.Sink fault
+      → GetEnds takes request names From before rows refused end after
+  fails : (m : Message) → From m → answers_of names m ≡ Err end → rows ≡ [] → refused ≡ []
+      → after ≡ before
+      → GetEnds takes request names From before rows refused end after
+  is_too_long : 65507 < length (canon request) → end ≡ ending.RequestTooLong → rows ≡ []
+      → refused ≡ [] → after ≡ before
       → GetEnds takes request names From before rows refused end after
   is_silent : end ≡ ending.NoResponse → rows ≡ [] → refused ≡ [] → after ≡ before
       → GetEnds takes request names From before rows refused end after

@@ -1,5 +1,22 @@
 -- What is heard after a request was sent.
-use Rattle.std.specs.Prelude.{◌≡◌, ℕ, ◌+◌, ◌*◌, ◌≤◌, ◌<◌, ◌⊎◌, Bool, true, false, List, [], ◌∷◌, ◌++◌, length, replicate}
+use Rattle.std.specs.Prelude.{
+  ◌≡◌,
+  ℕ,
+  ◌+◌,
+  ◌*◌,
+  ◌≤◌,
+  ◌<◌,
+  ◌⊎◌,
+  Bool,
+  true,
+  false,
+  List,
+  [],
+  ◌∷◌,
+  ◌++◌,
+  length,
+  replicate,
+}
 use Rattle.std.specs.Prelude.{Option}
 use Rattle.snmp_wire.specs.Message.{Message}
 use Rattle.snmp_wire.specs.Spelling.{Spells}
@@ -18,14 +35,18 @@ pub record IsAwaited (community : List ℕ) (id : ℕ) (octets : List ℕ) : Typ
   pub awaited : awaits community id message ≡ true
 
 -- each reply to the request is awaited, and no reply to another of the datagrams sent is
-pub record IsAsked (agents : Agents) (community : List ℕ) (id : ℕ) (q : List ℕ) (sent : List (List ℕ)) : Type 0 where
-  pub own : (octets : List ℕ) → IsReplyFrom agents q octets → (m : Message) × Spells m octets × (awaits community id m ≡ true)
+pub record IsAsked (agents : Agents) (community : List ℕ) (id : ℕ) (q : List ℕ) (sent : List
+    (List ℕ)) : Type 0 where
+  pub own : (octets : List ℕ) → IsReplyFrom agents q octets
+      → (m : Message) × Spells m octets × (awaits community id m ≡ true)
   pub others : (d : List ℕ) → OneOf sent d → (d ≡ q)
-      ⊎ ((octets : List ℕ) (m : Message) → IsReplyFrom agents d octets → Spells m octets → awaits community id m ≡ false)
+      ⊎ ((octets : List ℕ) (m : Message) → IsReplyFrom agents d octets → Spells m octets
+      → awaits community id m ≡ false)
 
 -- which deliveries one try of the request used, and that they may belong to a lost request where
 -- it brought no reply
-pub record Hears (agents : Agents) (q : List ℕ) (old : Traffic) (silent : Type 0) (new : Traffic) : Type 0 where
+pub record Hears (agents : Agents) (q : List ℕ) (old : Traffic) (silent : Type 0)
+    (new : Traffic) : Type 0 where
   pub used : List (Option ℕ)
   pub parts : old.ahead ≡ used ++ new.ahead
   pub few : length used ≤ 64
@@ -35,7 +56,8 @@ pub record Hears (agents : Agents) (q : List ℕ) (old : Traffic) (silent : Type
 
 -- how often the request was sent, of so many tries, and which deliveries were used; where it
 -- brought no reply, the agents have none or the deliveries lost it
-pub record Exchanges (agents : Agents) (honest : Type 0) (tries : ℕ) (q : List ℕ) (old : Traffic) (silent : Type 0) (new : Traffic) : Type 0 where
+pub record Exchanges (agents : Agents) (honest : Type 0) (tries : ℕ) (q : List ℕ) (old : Traffic)
+    (silent : Type 0) (new : Traffic) : Type 0 where
   pub times : ℕ
   pub few : times ≤ tries
   pub sent : new.sent ≡ old.sent ++ replicate times q
@@ -48,7 +70,8 @@ pub record Exchanges (agents : Agents) (honest : Type 0) (tries : ℕ) (q : List
 abbrev pub IsSentBefore : Walker → List ℕ → Type 0
 IsSentBefore w d =
     (d ≡ canon (request_of w))
-    ⊎ ((v : Walker) × IsWalker v × (is_over v.phase ≡ false) × (v.id < w.id) × (d ≡ canon (request_of v)))
+    ⊎ ((v : Walker) × IsWalker v × (is_over v.phase ≡ false) × (v.id < w.id)
+    × (d ≡ canon (request_of v)))
 
 -- each of these datagrams is
 abbrev pub IsEarlier : List (List ℕ) → Walker → Type 0

@@ -1,5 +1,21 @@
 -- What a link promises, and what may be said of the agents behind it.
-use Rattle.std.specs.Prelude.{pos, ◌≡◌, ℕ, ◌^◌, ◌<◌, ◌≤◌, ◌⊎◌, List, [], ◌∷◌, length, take, Option, Some, None}
+use Rattle.std.specs.Prelude.{
+  pos,
+  ◌≡◌,
+  ℕ,
+  ◌^◌,
+  ◌<◌,
+  ◌≤◌,
+  ◌⊎◌,
+  List,
+  [],
+  ◌∷◌,
+  length,
+  take,
+  Option,
+  Some,
+  None,
+}
 use Rattle.snmp_wire.specs.declared.kind.Kind.TheVariants as kind
 use Rattle.snmp_wire.specs.Message.{VarBind, Message}
 use Rattle.snmp_wire.specs.Canon.{canon}
@@ -9,7 +25,8 @@ use Rattle.snmp_agent.specs.declared.config.Why.{Why}
 use Rattle.snmp_walk.specs.Walker.{Walker}
 use Rattle.snmp_walk.specs.Request.{request_of}
 
--- the agents that may answer: the tables that they serve, their community, and the greatest size of their messages
+-- the agents that may answer: the tables that they serve, their community, and the greatest size of
+-- their messages
 pub record Agents : Type 0 where
   pub tables : List MibView
   pub community : List ℕ
@@ -42,15 +59,22 @@ IsGotFrom agents o p = (view : MibView) × OneOf agents.tables view × IsGet vie
 
 -- Some message of the agents has no room for the binding, by its id.
 abbrev pub IsTooLarge : Agents → VarBind → Type 0
-IsTooLarge agents p = (id : ℕ) × (id < 2 ^ 31) × (agents.max_size < length (canon (single_response agents.community id p)))
+IsTooLarge agents p = (id : ℕ) × (id < 2 ^ 31)
+    × (agents.max_size < length (canon (single_response agents.community id p)))
 
 -- one of them, with its table
 abbrev pub agent_in : Agents → MibView → Agent
-agent_in agents view = record { view = view; community = agents.community; max_size = agents.max_size }
+agent_in agents view = record {
+  view = view;
+  community = agents.community;
+  max_size =
+      agents.max_size;
+}
 
 -- the octets are the reply of one of the agents to the datagram
 abbrev pub IsReplyFrom : Agents → List ℕ → List ℕ → Type 0
-IsReplyFrom agents datagram reply = (view : MibView) × OneOf agents.tables view × IsReply (agent_in agents view) datagram reply
+IsReplyFrom agents datagram reply = (view : MibView) × OneOf agents.tables view
+    × IsReply (agent_in agents view) datagram reply
 
 -- one of the agents has no reply to the datagram
 pub record IsUnanswered (agents : Agents) (datagram : List ℕ) : Type 0 where

@@ -35,6 +35,7 @@ pub record IsReadyFor (link : MemoryLink) (sends octets : ℕ) : Type 0 where
 
 -- the number of the datagram whose reply the next delivery gives, 0 where it gives nothing, and
 -- the deliveries left after it
-abbrev pub IsNextNumber : List (List ℕ) → (ahead : List (Option ℕ)) → ℕ → (left : List (Option ℕ)) → Type 0
+abbrev pub IsNextNumber : List (List ℕ) → (ahead : List (Option ℕ)) → ℕ
+    → (left : List (Option ℕ)) → Type 0
 IsNextNumber sent [] number left = (left ≡ []) × (number ≡ length sent)
 IsNextNumber sent (e ∷ next) number left = (left ≡ next) × (number ≡ unwrap_or e 0)

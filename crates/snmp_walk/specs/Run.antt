@@ -1,5 +1,24 @@
 -- What a run of a walk hears and gives.
-use Rattle.std.specs.Prelude.{◌≡◌, ℕ, ◌+◌, ◌^◌, ◌<◌, ◌≤◌, ◌⊎◌, true, List, [], ◌∷◌, ◌++◌, replicate, Option, Some, None, Result, Err}
+use Rattle.std.specs.Prelude.{
+  ◌≡◌,
+  ℕ,
+  ◌+◌,
+  ◌^◌,
+  ◌<◌,
+  ◌≤◌,
+  ◌⊎◌,
+  true,
+  List,
+  [],
+  ◌∷◌,
+  ◌++◌,
+  replicate,
+  Option,
+  Some,
+  None,
+  Result,
+  Err,
+}
 use Rattle.snmp_wire.specs.Message.{VarBind, Message}
 use Rattle.snmp_wire.specs.Spelling.{Spells}
 use Rattle.snmp_wire.specs.Canon.{canon}
@@ -17,13 +36,16 @@ use Rattle.snmp_walk.specs.Taken.{is_awaited, take_of}
 use Rattle.snmp_walk.specs.Standing.{IsReplyTo}
 use Rattle.snmp_walk.specs.Link.{Agents, OneOf, IsNextFrom, IsGotFrom, IsTooLarge}
 
--- The datagram spells the reply that the walk waits for, which the agents gave where the link is honest.
-pub record IsHeard (agents : Agents) (honest : Type 0) (w : Walker) (datagram : List ℕ) : Type 0 where
+-- The datagram spells the reply that the walk waits for, which the agents gave where the link is
+-- honest.
+pub record IsHeard (agents : Agents) (honest : Type 0) (w : Walker)
+    (datagram : List ℕ) : Type 0 where
   pub message : Message
   pub spelt : Spells message datagram
   pub only : (m : Message) → Spells m datagram → m ≡ message
   pub awaited : is_awaited w message ≡ true
-  pub reply : honest → IsReplyTo (IsNextFrom agents) (IsGotFrom agents) (IsTooLarge agents) w message
+  pub reply : honest → IsReplyTo (IsNextFrom agents) (IsGotFrom agents)
+      (IsTooLarge agents) w message
 
 -- the bindings that a step gives
 abbrev pub rows_in : Step → List VarBind
@@ -33,21 +55,28 @@ rows_in (step.Last rows why) = rows
 
 -- an honest reply, where the link is honest
 abbrev pub IsFrom : Agents → Type 0 → Walker → Message → Type 0
-IsFrom agents honest w m = honest → IsReplyTo (IsNextFrom agents) (IsGotFrom agents) (IsTooLarge agents) w m
+IsFrom agents honest w m = honest
+    → IsReplyTo (IsNextFrom agents) (IsGotFrom agents) (IsTooLarge agents) w m
 
--- One turn of a run, from a request to the rows that its reply brings: which rows the sink was given, how the walk ended, if it did, and what the walk and the sink are then.
-pub data Turns {S : Type 0} (takes : S → VarBind → Result (Unit {0}) SinkFault → S → Type 0) (agents : Agents) (honest : Type 0) (old : Walker) (before : S)
+-- One turn of a run, from a request to the rows that its reply brings: which rows the sink was
+-- given, how the walk ended, if it did, and what the walk and the sink are then.
+pub data Turns {S : Type 0} (takes : S → VarBind → Result (Unit {0}) SinkFault → S
+    → Type 0) (agents : Agents) (honest : Type 0) (old : Walker) (before : S)
     (rows : List VarBind) (end : Option WalkEnd) (new : Walker) (after : S) : Type 0 where
-  goes_on : (m : Message) → IsFrom agents honest old m → (take_of old m).0 ≡ step.Rows rows → new ≡ (take_of old m).1 → Given takes before rows after
+  goes_on : (m : Message) → IsFrom agents honest old m → (take_of old m).0 ≡ step.Rows rows
+      → new ≡ (take_of old m).1 → Given takes before rows after
       → end ≡ None → Turns takes agents honest old before rows end new after
-  ends : (m : Message) (why : WalkEnd) → IsFrom agents honest old m → (take_of old m).0 ≡ step.Last rows why → Given takes before rows after
+  ends : (m : Message) (why : WalkEnd) → IsFrom agents honest old m
+      → (take_of old m).0 ≡ step.Last rows why → Given takes before rows after
       → end ≡ Some why → Turns takes agents honest old before rows end new after
-  is_refused : (m : Message) (fault : SinkFault) (p : VarBind) (left : List VarBind) (between : S) → IsFrom agents honest old m → rows_in (take_of old m).0 ≡ rows ++ p ∷ left
+  is_refused : (m : Message) (fault : SinkFault) (p : VarBind) (left : List VarBind)
+      (between : S) → IsFrom agents honest old m → rows_in (take_of old m).0 ≡ rows ++ p ∷ left
       → Given takes before rows between → takes between p (Err fault) after
       → end ≡ Some (ending.Sink fault) → Turns takes agents honest old before rows end new after
   is_silent : rows ≡ [] → after ≡ before
       → end ≡ Some ending.NoResponse → Turns takes agents honest old before rows end new after
-  fails : rows ≡ [] → after ≡ before → end ≡ Some ending.Link → Turns takes agents honest old before rows end new after
+  fails : rows ≡ [] → after ≡ before → end ≡ Some ending.Link
+      → Turns takes agents honest old before rows end new after
 
 -- a request of the walk, and how often it was sent
 pub record Try : Type 0 where

@@ -1,4 +1,5 @@
--- What a sink was given: bindings whose calls answered Ok, each begun in the state that the one before left.
+-- What a sink was given: bindings whose calls answered Ok, each begun in the state that the one
+-- before left.
 use Rattle.std.specs.Prelude.{◌≡◌, List, [], ◌∷◌, Result, Ok, Err}
 use Rattle.snmp_wire.specs.Message.{VarBind}
 use Rattle.snmp_walk.specs.declared.end.SinkFault.{SinkFault}
@@ -6,15 +7,22 @@ use Rattle.snmp_walk.specs.declared.end.WalkEnd.{WalkEnd}
 use Rattle.snmp_walk.specs.declared.end.WalkEnd.TheVariants as ending
 
 -- the bindings took the sink from one state to the other
-abbrev pub Given : {S : Type 0} → (S → VarBind → Result (Unit {0}) SinkFault → S → Type 0) → S → List VarBind → S → Type 0
+abbrev pub Given : {S : Type 0} → (S → VarBind → Result (Unit {0}) SinkFault → S → Type 0) → S
+    → List VarBind → S → Type 0
 Given {S} takes old [] new = new ≡ old
-Given {S} takes old (p ∷ more) new = (between : S) × takes old p (Ok tt) between × Given takes between more new
+Given {S} takes old (p ∷ more) new = (between : S) × takes old p (Ok tt) between
+    × Given takes between more new
 
 -- it refused one binding, and these are that one
-abbrev pub Refused : {S : Type 0} → (S → VarBind → Result (Unit {0}) SinkFault → S → Type 0) → S → List VarBind → SinkFault → S → Type 0
-Refused {S} takes old refused fault new = (p : VarBind) × (refused ≡ p ∷ []) × takes old p (Err fault) new
+abbrev pub Refused : {S : Type 0} → (S → VarBind → Result (Unit {0}) SinkFault → S → Type 0) → S
+    → List VarBind → SinkFault → S → Type 0
+Refused {S} takes old refused fault new = (p : VarBind) × (refused ≡ p ∷ [])
+    × takes old p (Err fault) new
 
--- the bindings were given, and then, where the walk ended for the sink's sake, one was refused, and else none
-abbrev pub Took : {S : Type 0} → (S → VarBind → Result (Unit {0}) SinkFault → S → Type 0) → S → (rows refused : List VarBind) → WalkEnd → S → Type 0
-Took {S} takes old rows refused (ending.Sink fault) new = (between : S) × Given takes old rows between × Refused takes between refused fault new
+-- the bindings were given, and then, where the walk ended for the sink's sake, one was refused, and
+-- else none
+abbrev pub Took : {S : Type 0} → (S → VarBind → Result (Unit {0}) SinkFault → S → Type 0) → S
+    → (rows refused : List VarBind) → WalkEnd → S → Type 0
+Took {S} takes old rows refused (ending.Sink fault) new = (between : S)
+    × Given takes old rows between × Refused takes between refused fault new
 Took {S} takes old rows refused _ new = Given takes old rows new × (refused ≡ [])

@@ -1,6 +1,25 @@
--- Where a walk stands between two replies, and how it may end, when each reply is an honest one to the request that was waiting: agents that answer
--- GetNext as `Next` says and Get as `Got` says, and whose largest message has no room for a binding that is `Large`.
-use Rattle.std.specs.Prelude.{◌≡◌, ◌≢◌, ℕ, ◌+◌, ◌^◌, ◌<◌, pos, ◌≤◌, ◌⊎◌, true, false, List, [], ◌∷◌, ◌++◌, length}
+-- Where a walk stands between two replies, and how it may end, when each reply is an honest one to
+-- the request that was waiting: agents that answer
+-- GetNext as `Next` says and Get as `Got` says, and whose largest message has no room for a binding
+-- that is `Large`.
+use Rattle.std.specs.Prelude.{
+  ◌≡◌,
+  ◌≢◌,
+  ℕ,
+  ◌+◌,
+  ◌^◌,
+  ◌<◌,
+  pos,
+  ◌≤◌,
+  ◌⊎◌,
+  true,
+  false,
+  List,
+  [],
+  ◌∷◌,
+  ◌++◌,
+  length,
+}
 use Rattle.snmp_wire.specs.declared.kind.Kind.TheVariants as kind
 use Rattle.snmp_wire.specs.Message.{VarBind, Message}
 use Rattle.snmp_walk.specs.declared.mode.Mode.{Mode}
@@ -27,24 +46,29 @@ abbrev pub IsLarge : (List ℕ → VarBind → Type 0) → (VarBind → Type 0) 
 IsLarge Answer Large o = (p : VarBind) × Answer o p × Large p
 
 -- an honest reply is the answers, or tooBig where they have no room
-abbrev pub IsGetContent : (List ℕ → VarBind → Type 0) → (VarBind → Type 0) → List ℕ → Message → Type 0
+abbrev pub IsGetContent : (List ℕ → VarBind → Type 0) → (VarBind → Type 0) → List ℕ → Message
+    → Type 0
 IsGetContent Got Large o m =
     ((m.a ≡ pos 0) × ((p : VarBind) × Got o p × (m.bindings ≡ p ∷ [])))
     ⊎ ((m.a ≡ pos 1) × (m.b ≡ pos 0) × IsLarge Got Large o)
 
-abbrev pub IsNextContent : (List ℕ → VarBind → Type 0) → (VarBind → Type 0) → Walker → Message → Type 0
+abbrev pub IsNextContent : (List ℕ → VarBind → Type 0) → (VarBind → Type 0) → Walker → Message
+    → Type 0
 IsNextContent Next Large w m =
-    ((m.a ≡ pos 0) × IsChain Next w.asked m.bindings × (length m.bindings ≤ asked_for w.method) × (m.bindings ≡ [] → IsLarge Next Large w.asked))
+    ((m.a ≡ pos 0) × IsChain Next w.asked m.bindings × (length m.bindings ≤ asked_for w.method)
+    × (m.bindings ≡ [] → IsLarge Next Large w.asked))
     ⊎ ((m.a ≡ pos 1) × (m.b ≡ pos 0) × IsLarge Next Large w.asked)
 
-abbrev pub IsReplyContent : (Next Got : List ℕ → VarBind → Type 0) → (VarBind → Type 0) → Phase → Walker → Message → Type 0
+abbrev pub IsReplyContent : (Next Got : List ℕ → VarBind → Type 0) → (VarBind → Type 0) → Phase
+    → Walker → Message → Type 0
 IsReplyContent Next Got Large phase.First w m = IsGetContent Got Large w.asked m
 IsReplyContent Next Got Large phase.Rows w m = IsNextContent Next Large w m
 IsReplyContent Next Got Large phase.Last w m = IsGetContent Got Large w.asked m
 IsReplyContent Next Got Large phase.Over w m = ⊥
 
 -- the message is an honest reply to the waiting request
-pub record IsReplyTo (Next Got : List ℕ → VarBind → Type 0) (Large : VarBind → Type 0) (w : Walker) (m : Message) : Type 0 where
+pub record IsReplyTo (Next Got : List ℕ → VarBind → Type 0) (Large : VarBind → Type 0)
+    (w : Walker) (m : Message) : Type 0 where
   pub version : m.version ≡ pos 1
   pub community : m.community ≡ w.community
   pub kind : m.kind ≡ kind.Response
@@ -57,7 +81,8 @@ IsOpening Got mode.Include o front = (p : VarBind) × Got o p × (front ≡ if_p
 IsOpening Got _ o front = front ≡ []
 
 -- these were given, and the walk asks behind the name o
-pub record IsGiven (Next Got : List ℕ → VarBind → Type 0) (first : Walker) (given : List VarBind) (o : List ℕ) : Type 0 where
+pub record IsGiven (Next Got : List ℕ → VarBind → Type 0) (first : Walker)
+    (given : List VarBind) (o : List ℕ) : Type 0 where
   pub front : List VarBind
   pub trail : List VarBind
   pub parts : given ≡ front ++ trail
@@ -66,7 +91,8 @@ pub record IsGiven (Next Got : List ℕ → VarBind → Type 0) (first : Walker)
   pub last : o ≡ last_name first.asked trail
 
 -- nothing stood below the root, and its own answer was given
-pub record IsAlone (Next Got : List ℕ → VarBind → Type 0) (first : Walker) (given : List VarBind) : Type 0 where
+pub record IsAlone (Next Got : List ℕ → VarBind → Type 0) (first : Walker)
+    (given : List VarBind) : Type 0 where
   pub plain : first.mode ≡ mode.Plain
   pub none : IsAtEnd Next first.root first.asked
   pub answer : VarBind
@@ -75,17 +101,23 @@ pub record IsAlone (Next Got : List ℕ → VarBind → Type 0) (first : Walker)
 
 -- a beginning of what the walk gives
 abbrev pub IsPartOfWalk : (Next Got : List ℕ → VarBind → Type 0) → Walker → List VarBind → Type 0
-IsPartOfWalk Next Got first given = (given ≡ []) ⊎ (((o : List ℕ) × IsGiven Next Got first given o) ⊎ IsAlone Next Got first given)
+IsPartOfWalk Next Got first given =
+    (given ≡ [])
+    ⊎ (((o : List ℕ) × IsGiven Next Got first given o) ⊎ IsAlone Next Got first given)
 
 -- all that the walk gives
 abbrev pub IsWholeWalk : (Next Got : List ℕ → VarBind → Type 0) → Walker → List VarBind → Type 0
 IsWholeWalk Next Got first given =
-    ((o : List ℕ) × IsGiven Next Got first given o × IsAtEnd Next first.root o × (first.mode ≡ mode.Plain → given ≢ [])) ⊎ IsAlone Next Got first given
+    ((o : List ℕ) × IsGiven Next Got first given o × IsAtEnd Next first.root o
+    × (first.mode ≡ mode.Plain → given ≢ [])) ⊎ IsAlone Next Got first given
 
-abbrev pub IsStage : (Next Got : List ℕ → VarBind → Type 0) → Walker → List VarBind → List ℕ → Phase → Type 0
-IsStage Next Got first given o phase.First = (given ≡ []) × (o ≡ first.asked) × (first.mode ≡ mode.Include)
+abbrev pub IsStage : (Next Got : List ℕ → VarBind → Type 0) → Walker → List VarBind → List ℕ
+    → Phase → Type 0
+IsStage Next Got first given o phase.First = (given ≡ []) × (o ≡ first.asked)
+    × (first.mode ≡ mode.Include)
 IsStage Next Got first given o phase.Rows = IsGiven Next Got first given o
-IsStage Next Got first given o phase.Last = (given ≡ []) × (o ≡ first.asked) × (first.mode ≡ mode.Plain) × IsAtEnd Next first.root first.asked
+IsStage Next Got first given o phase.Last = (given ≡ []) × (o ≡ first.asked)
+    × (first.mode ≡ mode.Plain) × IsAtEnd Next first.root first.asked
 IsStage Next Got first given o phase.Over = ⊥
 
 -- the Get of the root with which a walk begins that includes it
@@ -93,53 +125,68 @@ abbrev pub opening_gets : Mode → ℕ
 opening_gets mode.Include = 1
 opening_gets _ = 0
 
--- How far the ids have come: each request before the waiting one brought a row behind the root's own at least, but for the Get with which a walk
--- begins that includes its root, and the request that found nothing, before the Get with which a plain walk ends.
+-- How far the ids have come: each request before the waiting one brought a row behind the root's
+-- own at least, but for the Get with which a walk
+-- begins that includes its root, and the request that found nothing, before the Get with which a
+-- plain walk ends.
 abbrev pub IsPaced : (List ℕ → VarBind → Type 0) → Walker → List VarBind → ℕ → Phase → Type 0
 IsPaced Got first given id phase.First = id ≡ first.id
 IsPaced Got first given id phase.Rows =
-    (front : List VarBind) × (trail : List VarBind) × (given ≡ front ++ trail) × IsOpening Got first.mode first.asked front
+    (front : List VarBind) × (trail : List VarBind) × (given ≡ front ++ trail)
+    × IsOpening Got first.mode first.asked front
     × (id ≤ first.id + opening_gets first.mode + length trail)
 IsPaced Got first given id phase.Last = id ≤ first.id + 1
 IsPaced Got first given id phase.Over = ⊥
 
 -- the walk that began as `first` has given these bindings and waits for a reply
-pub record Reaches (Next Got : List ℕ → VarBind → Type 0) (first w : Walker) (given : List VarBind) : Type 0 where
+pub record Reaches (Next Got : List ℕ → VarBind → Type 0) (first w : Walker)
+    (given : List VarBind) : Type 0 where
   pub same : w ≡ record first { phase = w.phase; asked = w.asked; id = w.id; count = w.count }
   pub count : w.count ≡ length given
   pub paced : IsPaced Got first given w.id w.phase
   pub stage : IsStage Next Got first given w.asked w.phase
 
 -- the answer to the waiting request has no room
-abbrev pub IsReplyTooLarge : (Next Got : List ℕ → VarBind → Type 0) → (VarBind → Type 0) → Phase → List ℕ → Type 0
+abbrev pub IsReplyTooLarge : (Next Got : List ℕ → VarBind → Type 0) → (VarBind → Type 0) → Phase
+    → List ℕ → Type 0
 IsReplyTooLarge Next Got Large phase.First o = IsLarge Got Large o
 IsReplyTooLarge Next Got Large phase.Rows o = IsLarge Next Large o
 IsReplyTooLarge Next Got Large phase.Last o = IsLarge Got Large o
 IsReplyTooLarge Next Got Large phase.Over o = ⊥
 
 -- the walk may end so, after these bindings, where w was waiting for the reply
-abbrev pub Ends : (Next Got : List ℕ → VarBind → Type 0) → (VarBind → Type 0) → Walker → Walker → List VarBind → WalkEnd → Type 0
-Ends Next Got Large first w given (ending.Done n) = (n ≡ length given) × IsWholeWalk Next Got first given
-Ends Next Got Large first w given (ending.Fault status index) = (status ≡ pos 1) × (index ≡ pos 0) × IsReplyTooLarge Next Got Large w.phase w.asked
-Ends Next Got Large first w given (ending.NoProgress o) = (w.phase ≡ phase.Rows) × (o ≡ w.asked) × IsLarge Next Large o
+abbrev pub Ends : (Next Got : List ℕ → VarBind → Type 0) → (VarBind → Type 0) → Walker → Walker
+    → List VarBind → WalkEnd → Type 0
+Ends Next Got Large first w given (ending.Done n) = (n ≡ length given)
+    × IsWholeWalk Next Got first given
+Ends Next Got Large first w given (ending.Fault status index) = (status ≡ pos 1)
+    × (index ≡ pos 0) × IsReplyTooLarge Next Got Large w.phase w.asked
+Ends Next Got Large first w given (ending.NoProgress o) = (w.phase ≡ phase.Rows) × (o ≡ w.asked)
+    × IsLarge Next Large o
 Ends Next Got Large first w given ending.TooManyRequests = 2147483647 ≤ w.id
 Ends Next Got Large first w given _ = ⊥
 
 -- a step of the walk w
-abbrev pub Advances : (Next Got : List ℕ → VarBind → Type 0) → (VarBind → Type 0) → Walker → Walker → List VarBind → Step → Walker → Type 0
+abbrev pub Advances : (Next Got : List ℕ → VarBind → Type 0) → (VarBind → Type 0) → Walker
+    → Walker → List VarBind → Step → Walker → Type 0
 Advances Next Got Large first old given step.Stray w = ⊥
-Advances Next Got Large first old given (step.Rows more) w = Reaches Next Got first w (given ++ more)
-Advances Next Got Large first old given (step.Last more why) w = IsPartOfWalk Next Got first (given ++ more) × Ends Next Got Large first old (given ++ more) why
+Advances Next Got Large first old given (step.Rows more) w = Reaches Next Got first w
+    (given ++ more)
+Advances Next Got Large first old given (step.Last more why) w = IsPartOfWalk Next Got first
+    (given ++ more) × Ends Next Got Large first old (given ++ more) why
 
--- The agents are one table: its rows by rising names, what it answers to a GetNext, and `got` to a Get of the name that the walk begins from.
-pub record IsOneTable (rows : List VarBind) (got : VarBind) (Next Got : List ℕ → VarBind → Type 0) (first : Walker) : Type 0 where
+-- The agents are one table: its rows by rising names, what it answers to a GetNext, and `got` to a
+-- Get of the name that the walk begins from.
+pub record IsOneTable (rows : List VarBind) (got : VarBind)
+    (Next Got : List ℕ → VarBind → Type 0) (first : Walker) : Type 0 where
   pub rising : AreRising rows
   pub instances : AreInstances rows
   pub next : (o : List ℕ) (p : VarBind) → Next o p → p ≡ or_end o (rows_after o rows)
   pub answer : (p : VarBind) → Got first.asked p → p ≡ got
   pub row : if_present got ≡ rows_named first.asked rows
 
--- What may be said of any replies at all: a name that is given for an instance comes after the one before it, and what is given for the root has its name.
+-- What may be said of any replies at all: a name that is given for an instance comes after the one
+-- before it, and what is given for the root has its name.
 abbrev pub Rises : List ℕ → VarBind → Type 0
 Rises o p = (is_end p.value ≡ false → comes_after o p.name ≡ true) × (is_missing p.value ≡ false)
 
@@ -154,8 +201,11 @@ IsReplyEnd ending.Link = ⊥
 IsReplyEnd (ending.Sink fault) = ⊥
 IsReplyEnd _ = Unit {0}
 
--- Whatever the message is: a stray changes nothing, a next request has the next id, and what was given rises.
+-- Whatever the message is: a stray changes nothing, a next request has the next id, and what was
+-- given rises.
 abbrev pub AdvancesAnyhow : Walker → Walker → List VarBind → Step → Walker → Type 0
 AdvancesAnyhow first old given step.Stray w = w ≡ old
-AdvancesAnyhow first old given (step.Rows more) w = (w.id ≡ old.id + 1) × (w.id < 2 ^ 31) × Reaches Rises Named first w (given ++ more)
-AdvancesAnyhow first old given (step.Last more why) w = IsReplyEnd why × IsPartOfWalk Rises Named first (given ++ more)
+AdvancesAnyhow first old given (step.Rows more) w = (w.id ≡ old.id + 1) × (w.id < 2 ^ 31)
+    × Reaches Rises Named first w (given ++ more)
+AdvancesAnyhow first old given (step.Last more why) w = IsReplyEnd why
+    × IsPartOfWalk Rises Named first (given ++ more)

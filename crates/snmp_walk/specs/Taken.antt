@@ -1,6 +1,33 @@
--- What a message means to a walk (RFC 3416, section 4.2, and this project's profile): the rules by which a reply is judged, as one function of
+-- What a message means to a walk (RFC 3416, section 4.2, and this project's profile): the rules by
+-- which a reply is judged, as one function of
 -- the walk's state and the message.
-use Rattle.std.specs.Prelude.{◌≡◌, ◌⊎◌, ℕ, zero, suc, unsigned_abs, pos, Bool, true, false, ◌&&◌, ◌||◌, not, ◌==◌, nat_lt, if◌then◌else◌, ◌+◌, List, [], ◌∷◌, length, Option, Some, None, take_while}
+use Rattle.std.specs.Prelude.{
+  ◌≡◌,
+  ◌⊎◌,
+  ℕ,
+  zero,
+  suc,
+  unsigned_abs,
+  pos,
+  Bool,
+  true,
+  false,
+  ◌&&◌,
+  ◌||◌,
+  not,
+  ◌==◌,
+  nat_lt,
+  if◌then◌else◌,
+  ◌+◌,
+  List,
+  [],
+  ◌∷◌,
+  length,
+  Option,
+  Some,
+  None,
+  take_while,
+}
 use Rattle.std.specs.List.{list_any}
 use Rattle.std.specs.Bool.{nat_eq}
 use Rattle.std.specs.Ordering.{int_eq}
@@ -69,14 +96,23 @@ stops w rows why = (step.Last rows why, record w { phase = phase.Over })
 abbrev pub goes_on : Walker → Phase → List VarBind → Step × Walker
 goes_on w next rows =
     if nat_lt w.id 2147483647
-    then (step.Rows rows, record w { phase = next; asked = last_name w.asked rows; id = w.id + 1; count = w.count + length rows })
+    then (
+      step.Rows rows,
+      record w {
+        phase = next;
+        asked = last_name w.asked rows;
+        id = w.id + 1;
+        count = w.count + length rows;
+      },
+    )
     else stops w rows ending.TooManyRequests
 
 abbrev pub is_plain : Mode → Bool
 is_plain mode.Plain = true
 is_plain _ = false
 
--- Nothing more stands below the root: where a plain walk gave nothing it asks for the root itself, else the walk is done.
+-- Nothing more stands below the root: where a plain walk gave nothing it asks for the root itself,
+-- else the walk is done.
 abbrev pub closes : Walker → List VarBind → Step × Walker
 closes w rows =
     if is_plain w.mode && (w.count + length rows == 0)
@@ -88,7 +124,8 @@ abbrev pub reads : Walker → List VarBind → Step × Walker
 reads w bindings =
     let inside = inside_front w.root bindings in
     let rows = rising_front w.asked inside in
-    if nat_lt (length rows) (length inside) then stops w rows (ending.NotIncreasing (last_name w.asked rows) (name_at inside (length rows)))
+    if nat_lt (length rows) (length inside) then stops w rows (ending.NotIncreasing
+    (last_name w.asked rows) (name_at inside (length rows)))
     else if nat_lt (length rows) (length bindings) then closes w rows
     else goes_on w phase.Rows rows
 
@@ -96,7 +133,8 @@ reads w bindings =
 abbrev pub reads_next : Walker → List VarBind → Step × Walker
 reads_next w [] = stops w [] (ending.NoProgress w.asked)
 reads_next w (b ∷ more) =
-    if nat_lt (asked_for w.method) (length (b ∷ more)) || list_any (λ p. is_missing p.value) (b ∷ more)
+    if nat_lt (asked_for w.method) (length (b ∷ more)) || list_any (λ p. is_missing p.value)
+    (b ∷ more)
     then stops w [] ending.BadReply
     else reads w (b ∷ more)
 
@@ -128,7 +166,8 @@ reads_for phase.Over w bindings = (step.Stray, w)
 
 -- the reply that was waited for: an error status ends the walk, else its bindings decide
 abbrev pub reads_reply : Walker → Message → Step × Walker
-reads_reply w m = if int_eq m.a (pos 0) then reads_for w.phase w m.bindings else stops w [] (ending.Fault m.a m.b)
+reads_reply w m = if int_eq m.a (pos 0) then reads_for w.phase w m.bindings else stops w []
+    (ending.Fault m.a m.b)
 
 -- what a message is to a walk, and the walk after it
 abbrev pub take_of : Walker → Message → Step × Walker

@@ -1,5 +1,21 @@
 -- What goes over a link: the datagrams sent, and which of their replies the next receives give.
-use Rattle.std.specs.Prelude.{◌≡◌, ◌≢◌, ℕ, zero, suc, ◌+◌, ◌⊎◌, List, [], ◌∷◌, ◌++◌, take, Option, Some, None}
+use Rattle.std.specs.Prelude.{
+  ◌≡◌,
+  ◌≢◌,
+  ℕ,
+  zero,
+  suc,
+  ◌+◌,
+  ◌⊎◌,
+  List,
+  [],
+  ◌∷◌,
+  ◌++◌,
+  take,
+  Option,
+  Some,
+  None,
+}
 use Rattle.std.specs.List.{slice_get}
 use Rattle.snmp_walk.specs.Link.{Agents, IsReplyFrom, IsUnanswered}
 
@@ -32,10 +48,12 @@ Gives agents (Some datagram) None = IsUnanswered agents datagram
 Gives agents (Some datagram) (Some reply) = IsReplyFrom agents datagram reply
 
 -- what one receive gives, and the deliveries that are left after it
-abbrev pub Receives : Agents → (sent : List (List ℕ)) → (ahead : List (Option ℕ)) → Option (List ℕ) → (left : List (Option ℕ)) → Type 0
+abbrev pub Receives : Agents → (sent : List (List ℕ)) → (ahead : List (Option ℕ))
+    → Option (List ℕ) → (left : List (Option ℕ)) → Type 0
 Receives agents sent [] reply left = (left ≡ []) × Gives agents (latest sent) reply
 Receives agents sent (None ∷ next) reply left = (left ≡ next) × (reply ≡ None)
-Receives agents sent (Some k ∷ next) reply left = (left ≡ next) × Gives agents (datagram_at sent k) reply
+Receives agents sent (Some k ∷ next) reply left = (left ≡ next)
+    × Gives agents (datagram_at sent k) reply
 
 -- the delivery gives nothing
 abbrev pub IsNothing : Agents → List (List ℕ) → Option ℕ → Type 0
@@ -46,7 +64,8 @@ IsNothing agents sent (Some k) = Gives agents (datagram_at sent k) None
 abbrev pub IsOther : Agents → List (List ℕ) → List ℕ → Option ℕ → Type 0
 IsOther agents sent q None = ⊥
 IsOther agents sent q (Some k) =
-    (d : List ℕ) × (reply : List ℕ) × (datagram_at sent k ≡ Some d) × (d ≢ q) × IsReplyFrom agents d reply
+    (d : List ℕ) × (reply : List ℕ) × (datagram_at sent k ≡ Some d) × (d ≢ q)
+    × IsReplyFrom agents d reply
 
 -- the datagrams sent, once the request is sent again where tries are left
 abbrev pub resent : List (List ℕ) → List ℕ → ℕ → List (List ℕ)

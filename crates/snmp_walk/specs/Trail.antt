@@ -1,5 +1,7 @@
--- How a walk comes from row to row: each is what may be answered to a GetNext of the name before it. `Next o p` says that the binding p may be
--- answered to a GetNext of the name o, and `Got o p` that it may be answered to a Get of o. With one table that doesn't change each name has
+-- How a walk comes from row to row: each is what may be answered to a GetNext of the name before
+-- it. `Next o p` says that the binding p may be
+-- answered to a GetNext of the name o, and `Got o p` that it may be answered to a Get of o. With
+-- one table that doesn't change each name has
 -- one answer; with several, one for each table.
 use Rattle.std.specs.Prelude.{◌≡◌, ℕ, true, false, List, [], ◌∷◌}
 use Rattle.snmp_wire.specs.Message.{VarBind}
@@ -13,7 +15,8 @@ last_name o (p ∷ more) = last_name p.name more
 -- each binding is an answer to a GetNext of the name before it, and an instance below the root
 abbrev pub IsTrail : (List ℕ → VarBind → Type 0) → List ℕ → List ℕ → List VarBind → Type 0
 IsTrail Next root o [] = Unit {0}
-IsTrail Next root o (p ∷ more) = Next o p × (is_inside root p ≡ true) × IsTrail Next root p.name more
+IsTrail Next root o (p ∷ more) = Next o p × (is_inside root p ≡ true)
+    × IsTrail Next root p.name more
 
 -- an answer to a GetNext of the name ends the walk: it is endOfMibView, or isn't below the root
 abbrev pub IsAtEnd : (List ℕ → VarBind → Type 0) → List ℕ → List ℕ → Type 0
@@ -21,7 +24,8 @@ IsAtEnd Next root o = (p : VarBind) × Next o p × (is_inside root p ≡ false)
 
 -- what agents answer, whatever their tables hold (RFC 3416, sections 4.2.1 and 4.2.2)
 pub record AreLawfulReplies (Next Got : List ℕ → VarBind → Type 0) : Type 0 where
-  pub rises : (o : List ℕ) (p : VarBind) → Next o p → is_end p.value ≡ false → comes_after o p.name ≡ true
+  pub rises : (o : List ℕ) (p : VarBind) → Next o p → is_end p.value ≡ false
+      → comes_after o p.name ≡ true
   pub is_value : (o : List ℕ) (p : VarBind) → Next o p → is_missing p.value ≡ false
   pub same_name : (o : List ℕ) (p : VarBind) → Got o p → p.name ≡ o
   pub is_answer : (o : List ℕ) (p : VarBind) → Got o p → is_end p.value ≡ false

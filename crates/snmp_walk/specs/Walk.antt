@@ -25,7 +25,8 @@ abbrev pub or_only : VarBind → List VarBind → List VarBind
 or_only got [] = got ∷ []
 or_only got (row ∷ rows) = row ∷ rows
 
--- What a walk gives, `got` being what a Get of the root answers: the rows below the root, or that answer alone where there are none;
+-- What a walk gives, `got` being what a Get of the root answers: the rows below the root, or that
+-- answer alone where there are none;
 -- including the root: its own row, if there is one, and then those; or just those.
 abbrev pub walk_of : Mode → List ℕ → VarBind → List VarBind → List VarBind
 walk_of Plain root got rows = or_only got (rows_below root rows)
@@ -49,14 +50,16 @@ AreRising (row ∷ rows) = AreAfter row.name rows × AreRising rows
 -- each is an instance that an agent may have: a name of three numbers at least, and a value
 abbrev pub AreInstances : List VarBind → Type 0
 AreInstances [] = Unit {0}
-AreInstances (row ∷ rows) = (3 ≤ length row.name) × (is_end row.value ≡ false) × (is_missing row.value ≡ false) × AreInstances rows
+AreInstances (row ∷ rows) = (3 ≤ length row.name) × (is_end row.value ≡ false)
+    × (is_missing row.value ≡ false) × AreInstances rows
 
 -- the first of the bindings, else the name with endOfMibView
 abbrev pub or_end : List ℕ → List VarBind → VarBind
 or_end o [] = record { name = o; value = end_of_mib_view }
 or_end o (p ∷ more) = p
 
--- What a walk gives that begins behind the name o, which is the root as it is sent or, where a walk is resumed, a name below it.
+-- What a walk gives that begins behind the name o, which is the root as it is sent or, where a walk
+-- is resumed, a name below it.
 abbrev pub walk_from : Mode → List ℕ → List ℕ → VarBind → List VarBind → List VarBind
 walk_from Plain root o got rows = or_only got (rest_of root o rows)
 walk_from Include root o got rows = rows_named o rows ++ rest_of root o rows

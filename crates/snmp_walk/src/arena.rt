@@ -1,5 +1,6 @@
 //! Datagrams in one piece of memory.
-ghost use Rattle.std.specs.Prelude.{◌≡◌, ◌≤◌, ◌+◌, ◌++◌, [], ◌∷◌, ℕ, length, Option, Some, None, OnOk, OnErr, IsOk, IfSome, IfNone, OnSome};
+ghost use Rattle.std.specs.Prelude.{◌≡◌, ◌≤◌, ◌+◌, ◌++◌, [], ◌∷◌, ℕ, length, Option, Some, None};
+ghost use Rattle.std.specs.Prelude.{OnOk, OnErr, IsOk, IfSome, IfNone, OnSome};
 ghost use Rattle.snmp_walk.specs.Traffic.{datagram_at};
 
 use std::alloc::{AllocError, Global};
@@ -35,7 +36,8 @@ impl Model for Arena {
 }
 
 impl Arena {
-    ghost use Rattle.std.specs.Prelude.{◌≡◌, ◌≤◌, ◌+◌, ◌++◌, ℕ, [], ◌∷◌, length, Option, Some, None, OnOk, OnErr, IsOk, IfSome, IfNone, IfOk};
+    ghost use Rattle.std.specs.Prelude.{◌≡◌, ◌≤◌, ◌+◌, ◌++◌, ℕ, [], ◌∷◌, length, Option, Some};
+    ghost use Rattle.std.specs.Prelude.{None, OnOk, OnErr, IsOk, IfSome, IfNone, IfOk};
 
     /// An arena of no datagram, for which no memory is reserved.
     pub(crate) fn new(alloc: Global) -> Arena
@@ -61,7 +63,8 @@ impl Arena {
     pub(crate) fn push(&mut self, datagram: &[u8]) -> Result<(), AllocError>
         ensures added { OnOk result (self.new.datagrams ≡ self.old.datagrams ++ datagram.now ∷ []) }
         ensures unchanged { OnErr result (self.new.datagrams ≡ self.old.datagrams) }
-        ensures ready { (s o : ℕ) → s + 1 ≤ self.old.places → o + length datagram.now ≤ self.old.room
+        ensures ready { (s o : ℕ) → s + 1 ≤ self.old.places
+            → o + length datagram.now ≤ self.old.room
             → IsOk result × (s ≤ self.new.places) × (o ≤ self.new.room) }
     {
         let span = Span {

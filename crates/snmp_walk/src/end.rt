@@ -8,14 +8,16 @@ use thiserror::Error;
 pub enum WalkEnd {
     /// All was given: so many bindings.
     Done(u64),
-    /// The agent answered with this error status, which isn't 0, and this error index (RFC 3416, section 3).
+    /// The agent answered with this error status, which isn't 0, and this error index (RFC 3416,
+    /// section 3).
     Fault(i32, i32),
     /// The agent answered a request for the next instances with no binding.
     NoProgress {
         /// The name behind which instances were asked for.
         asked: Oid,
     },
-    /// The reply isn't one to what was asked: more bindings than asked for, another name, or an exception that has no place there.
+    /// The reply isn't one to what was asked: more bindings than asked for, another name, or an
+    /// exception that has no place there.
     BadReply,
     /// A name below the root doesn't come behind the one before it.
     NotIncreasing {

@@ -1,7 +1,9 @@
 //! A Get over a link: one request for all its names (RFC 3416, section 4.2.1).
-ghost use Rattle.std.specs.Prelude.{◌≡◌, ◌≤◌, ◌<◌, ◌^◌, ◌+◌, ◌++◌, ◌≢◌, replicate, ℕ, List, [], All, length, take, IfSome, IfNone, IsSome, ◌↔◌, ◌&&◌, not};
+ghost use Rattle.std.specs.Prelude.{◌≡◌, ◌≤◌, ◌<◌, ◌^◌, ◌+◌, ◌++◌, ◌≢◌, replicate, ℕ, List, []};
+ghost use Rattle.std.specs.Prelude.{All, length, take, IfSome, IfNone, IsSome, ◌↔◌, ◌&&◌, not};
 ghost use Rattle.snmp_oid.specs.Identifier.{IsWire, wire};
-ghost use Rattle.snmp_wire.specs.Canon.{canon, canon_binding, canon_bindings, canon_head, IsEncodable};
+ghost use Rattle.snmp_wire.specs.Canon.{canon, canon_binding, canon_bindings, canon_head};
+ghost use Rattle.snmp_wire.specs.Canon.{IsEncodable};
 ghost use Rattle.snmp_wire.specs.Parts.{parts_message};
 ghost use Rattle.std.specs.Bool.{nat_eq};
 ghost use Rattle.std.specs.Cmp.Lexicographic.{pointwise};
@@ -13,7 +15,8 @@ ghost use Rattle.snmp_io.specs.Count.{HasRisen};
 ghost use Rattle.std.specs.List.{AllByRecursion};
 ghost use Rattle.snmp_wire.specs.Range.{IsBindingInRange, IsMessageInRange};
 ghost use Rattle.snmp_wire.specs.Spelling.{Spells};
-ghost use Rattle.snmp_walk.specs.Get.{asked_names, get_request, are_for as are_these, answers_of, IsBrought, GetEnds};
+ghost use Rattle.snmp_walk.specs.Get.{asked_names, get_request, are_for as are_these, answers_of};
+ghost use Rattle.snmp_walk.specs.Get.{IsBrought, GetEnds};
 
 use crate::sink::give;
 use crate::tries::exchange;
@@ -45,7 +48,8 @@ pub fn run_get<L: Link, S: Sink>(
         × GetEnds S.takes (get_request community.now id names.now) names.now (IsBrought (L.agents link.old) (L.honest link.old × ((L.traffic link.old).sent ≡ [])) community.now id names.now) sink.old rows refused result sink.new }
     ensures sent { L.keeps link.old → (times : ℕ) × (times ≤ retries + 1)
         × ((L.traffic link.new).sent ≡ (L.traffic link.old).sent ++ replicate times (canon (get_request community.now id names.now))) }
-    ensures fault { result ≡ WalkEnd.Link → HasRisen (L.fault_count link.old) (L.fault_count link.new) }
+    ensures fault { result ≡ WalkEnd.Link
+        → HasRisen (L.fault_count link.old) (L.fault_count link.new) }
 {
     let mut request = [0; 65507];
     let Some(length) = write_request(names, community, id, &mut request) else {
@@ -107,7 +111,8 @@ fn write_request(names: &[Oid], community: &[u8], id: u32, out: &mut [u8; 65507]
     requires wire { All (λ o. IsWire (wire o)) names.now }
     requires community { length community.now ≤ 255 }
     requires id { id < 2 ^ 31 }
-    ensures some { IfSome result (λ n. (n ≤ 65507) × (take n out.new ≡ canon (get_request community.now id names.now))) }
+    ensures some { IfSome result (λ n. (n ≤ 65507)
+        × (take n out.new ≡ canon (get_request community.now id names.now))) }
     ensures none { IfNone result (65507 < length (canon (get_request community.now id names.now))) }
     ensures range { IfSome result (λ _. IsMessageInRange (get_request community.now id names.now)) }
 {
@@ -138,7 +143,8 @@ fn put_head(parts: &Parts<'_>, total: usize, out: &mut [u8]) -> usize
     requires datagram { total ≤ 65507 }
     requires room { length (canon_head (parts_message parts.now) total) + total ≤ length out.old }
     ensures size { result ≡ length (canon_head (parts_message parts.now) total) + total }
-    ensures message { take result out.new ≡ canon_head (parts_message parts.now) total ++ take total out.old }
+    ensures message { take result out.new ≡ canon_head (parts_message parts.now) total ++ take
+        total out.old }
 {
     let head = head_size(parts, total as u64) as usize;
     out.copy_within(..total, head);
@@ -148,13 +154,18 @@ fn put_head(parts: &Parts<'_>, total: usize, out: &mut [u8]) -> usize
     }
 }
 
-/// Writes a binding after the `total` octets of those before it, and returns how many they are then.
+/// Writes a binding after the `total` octets of those before it, and returns how many they are
+/// then.
 /// None where they don't fit.
 fn append(binding: &Binding<'_>, total: usize, out: &mut [u8]) -> Option<usize>
     requires encodable { IsEncodable (var_bind binding.now) }
     requires total { total ≤ length out.old }
-    ensures written { IfSome result (λ n. (n ≡ total + length (canon_binding (var_bind binding.now))) × (take n out.new ≡ take total out.old ++ canon_binding (var_bind binding.now)) × (n ≤ length out.old)) }
-    ensures too_long { IfNone result (length out.old < total + length (canon_binding (var_bind binding.now))) }
+    ensures written { IfSome result
+        (λ n. (n ≡ total + length (canon_binding (var_bind binding.now)))
+        × (take n out.new ≡ take total out.old ++ canon_binding (var_bind binding.now))
+        × (n ≤ length out.old)) }
+    ensures too_long { IfNone result (length out.old < total + length (canon_binding (var_bind
+        binding.now))) }
 {
     match encode_binding(binding, &mut out[total..]) {
         Some(size) => Some(total + size),
@@ -166,7 +177,9 @@ fn append(binding: &Binding<'_>, total: usize, out: &mut [u8]) -> Option<usize>
 /// they take. None where that is more than 65507.
 fn write_names(names: &[Oid], out: &mut [u8; 65507]) -> Option<usize>
     requires { All (λ o. IsWire (wire o)) names.now }
-    ensures some { IfSome result (λ n. (n ≤ 65507) × (n ≡ length (canon_bindings (asked_names names.now))) × (take n out.new ≡ canon_bindings (asked_names names.now))) }
+    ensures some { IfSome result (λ n. (n ≤ 65507)
+        × (n ≡ length (canon_bindings (asked_names names.now)))
+        × (take n out.new ≡ canon_bindings (asked_names names.now))) }
     ensures none { IfNone result (65507 < length (canon_bindings (asked_names names.now))) }
     ensures range { IfSome result (λ _. AllByRecursion IsBindingInRange (asked_names names.now)) }
 {
@@ -213,7 +226,8 @@ fn are_for(names: &[Oid], mut bindings: Bindings<'_>) -> bool
 /// Whether the binding is of this name, and no endOfMibView.
 fn is_for(name: &Oid, binding: &Binding<'_>) -> bool
     requires { IsWire (wire name.now) }
-    ensures { result ≡ (pointwise nat_eq (var_bind binding.now).name (wire name.now) && not (is_end (var_bind binding.now).value)) }
+    ensures { result ≡ (pointwise nat_eq (var_bind binding.now).name (wire name.now) && not (is_end
+        (var_bind binding.now).value)) }
 {
     match name.to_wire() {
         Ok(sent) => binding.name == sent && !matches!(binding.value, ValueRef::EndOfMibView),

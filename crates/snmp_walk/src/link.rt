@@ -1,5 +1,6 @@
 //! What a walk sends its requests by.
-ghost use Rattle.std.specs.Prelude.{◌≡◌, ◌≤◌, ◌+◌, ◌++◌, [], ◌∷◌, ◌⊎◌, ℕ, List, length, Option, Some, None, IsOk, OnOk, IfOk, OnErr, IfSome};
+ghost use Rattle.std.specs.Prelude.{◌≡◌, ◌≤◌, ◌+◌, ◌++◌, [], ◌∷◌, ◌⊎◌, ℕ, List, length, Option};
+ghost use Rattle.std.specs.Prelude.{Some, None, IsOk, OnOk, IfOk, OnErr, IfSome};
 
 use crate::LinkFault;
 
@@ -33,15 +34,19 @@ pub trait Link {
 
     /// Sends a datagram. A fault changes the count of faults alone.
     fn send(&mut self, datagram: &[u8]) -> Result<(), LinkFault>
-        ensures sent { keeps self.old → OnOk result ((traffic self.new).sent ≡ (traffic self.old).sent ++ datagram.now ∷ []) }
-        ensures ahead { honest self.old → OnOk result ((traffic self.new).ahead ≡ (traffic self.old).ahead) }
+        ensures sent { keeps self.old
+            → OnOk result ((traffic self.new).sent ≡ (traffic self.old).sent ++ datagram.now ∷ []) }
+        ensures ahead { honest self.old
+            → OnOk result ((traffic self.new).ahead ≡ (traffic self.old).ahead) }
         ensures unchanged { OnErr result (traffic self.new ≡ traffic self.old) }
         ensures keeps { keeps self.old → keeps self.new }
         ensures honest { honest self.old → honest self.new }
         ensures agents { agents self.new ≡ agents self.old }
         ensures count { OnOk result (fault_count self.new ≡ fault_count self.old) }
         ensures fault { OnErr result (HasRisen (fault_count self.old) (fault_count self.new)) }
-        ensures ready { (sends octets : ℕ) → ready self.old (sends + 1) (octets + length datagram.now) → IsOk result × ready self.new sends octets };
+        ensures ready { (sends octets : ℕ)
+            → ready self.old (sends + 1) (octets + length datagram.now) → IsOk result
+            × ready self.new sends octets };
 
     /// Receives a datagram into the front of the buffer and returns its length, or None where none
     /// comes in time. A fault changes the count of faults alone.
@@ -56,7 +61,8 @@ pub trait Link {
         ensures agents { agents self.new ≡ agents self.old }
         ensures count { OnOk result (fault_count self.new ≡ fault_count self.old) }
         ensures fault { OnErr result (HasRisen (fault_count self.old) (fault_count self.new)) }
-        ensures ready { (sends octets : ℕ) → ready self.old sends octets → 65507 ≤ length buffer.old → IsOk result × ready self.new sends octets };
+        ensures ready { (sends octets : ℕ) → ready self.old sends octets
+            → 65507 ≤ length buffer.old → IsOk result × ready self.new sends octets };
 
     /// How many sends and receives failed, up to 18446744073709551615.
     fn faults(&self) -> u64

@@ -28,11 +28,13 @@ pub struct MemoryLink<'a> {
 }
 
 impl<'a> MemoryLink<'a> {
-    ghost use Rattle.std.specs.Prelude.{◌≡◌, ◌<◌, [], ◌∷◌, ℕ, All, length, OnOk, OnErr, IfSome, ◌≤◌};
+    ghost use Rattle.std.specs.Prelude.{◌≡◌, ◌<◌, [], ◌∷◌, ℕ, All, length, OnOk, OnErr, IfSome};
+    ghost use Rattle.std.specs.Prelude.{◌≤◌};
     ghost use Rattle.snmp_table.specs.Table.{IsMibView};
     ghost use Rattle.snmp_walk.specs.Link.{AreViews, OneOf};
     ghost use Rattle.snmp_walk.specs.Traffic.{Gives, datagram_at, received};
-    ghost use Rattle.snmp_walk.specs.Memory.{IsHonest, IsReadyFor, IsNextNumber, agents_of, agents_over, traffic_of};
+    ghost use Rattle.snmp_walk.specs.Memory.{IsHonest, IsReadyFor, IsNextNumber, agents_of};
+    ghost use Rattle.snmp_walk.specs.Memory.{agents_over, traffic_of};
 
     /// A link to the agent of one table, over which nothing was sent.
     pub fn new(
@@ -92,7 +94,8 @@ impl<'a> MemoryLink<'a> {
 
     /// The number of the datagram whose reply the next receive gives, or 0 where it gives nothing.
     fn next_number(&mut self) -> usize
-        ensures number { IsNextNumber self.old.arena.datagrams (traffic_of self.old).ahead result (traffic_of self.new).ahead }
+        ensures number { IsNextNumber self.old.arena.datagrams (traffic_of self.old).ahead result
+            (traffic_of self.new).ahead }
         ensures arena { self.new.arena ≡ self.old.arena }
         ensures agents { agents_of self.new ≡ agents_of self.old }
         ensures count { self.new.fault_count ≡ self.old.fault_count }
@@ -121,7 +124,8 @@ impl<'a> MemoryLink<'a> {
     fn reply_to(&self, number: usize, out: &mut [u8; 65507]) -> Option<usize>
         ensures length { IfSome result (λ n. n ≤ 65507) }
         ensures room { length out.new ≡ 65507 }
-        ensures reply { Gives (agents_of self.now) (datagram_at self.now.arena.datagrams number) (received result out.new) }
+        ensures reply { Gives (agents_of self.now) (datagram_at self.now.arena.datagrams number)
+            (received result out.new) }
     {
         let datagram = self.arena.datagram(number)?;
         match answer(self.table_for(number), &self.config, datagram, out) {

@@ -3,7 +3,8 @@
 /// What a walk gives beside the instances below its root.
 #[derive(Clone, Copy, Debug, PartialEq, Eq)]
 pub enum Mode {
-    /// Where nothing stands below the root, the answer to a Get of the root itself, exception or not.
+    /// Where nothing stands below the root, the answer to a Get of the root itself, exception or
+    /// not.
     Plain,
     /// Before them the root's own instance, if there is one.
     Include,
@@ -16,6 +17,7 @@ pub enum Mode {
 pub enum Method {
     /// GetNext (RFC 3416, section 4.2.2), which asks for one instance.
     Next,
-    /// GetBulk (RFC 3416, section 4.2.3) with so many repetitions, 1 to 2147483647: it asks for as many instances.
+    /// GetBulk (RFC 3416, section 4.2.3) with so many repetitions, 1 to 2147483647: it asks for as
+    /// many instances.
     Bulk(i32),
 }

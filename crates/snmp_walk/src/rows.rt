@@ -33,7 +33,8 @@ impl<'a> Rows<'a> {
         Rows { bindings, left }
     }
 
-    /// Reads the next binding into one that is there, and answers whether there was one. It stays as it was where none is left.
+    /// Reads the next binding into one that is there, and answers whether there was one. It stays
+    /// as it was where none is left.
     ///
     /// This is [`Iterator::next`] for whoever reads many, as [`Bindings::read_next`] is.
     pub fn read_next(&mut self, into: &mut Binding<'a>) -> bool

@@ -1,5 +1,7 @@
 //! A walk over a link: from the first request to the end, each binding to a sink as it comes.
-ghost use Rattle.std.specs.Prelude.{◌≡◌, ◌≢◌, ◌≤◌, ◌⊎◌, ◌+◌, ◌++◌, ℕ, List, [], length, take, Option, Some, None, Ok, Err, IfOk, IfSome, IfNone, OnOk, OnErr, false};
+ghost use Rattle.std.specs.Prelude.{◌≡◌, ◌≢◌, ◌≤◌, ◌⊎◌, ◌+◌, ◌++◌, ℕ, List, [], length, take};
+ghost use Rattle.std.specs.Prelude.{Option, Some, None, Ok, Err, IfOk, IfSome, IfNone, OnOk, OnErr};
+ghost use Rattle.std.specs.Prelude.{false};
 ghost use Rattle.snmp_io.specs.Count.{HasRisen};
 ghost use Rattle.snmp_wire.specs.Canon.{canon};
 ghost use Rattle.snmp_wire.specs.Message.{VarBind};
@@ -16,10 +18,13 @@ use crate::sink::give;
 use crate::tries::exchange;
 use crate::{Link, LinkFault, Sink, Step, WalkCore, WalkEnd};
 
-/// Walks over the link from a core of which nothing was taken yet: each request is sent at most `retries + 1` times, and each binding of the walk is given to the sink as it comes.
+/// Walks over the link from a core of which nothing was taken yet: each request is sent at most
+/// `retries + 1` times, and each binding of the walk is given to the sink as it comes.
 ///
 /// Whatever the link brings, the walk ends, and the names given below the root rise.
-/// Over an honest link to the agent of one table, whose messages have room for each single binding, and with ids enough for a request for each row and two more, it is done unless the link or the sink stops it or messages are lost.
+/// Over an honest link to the agent of one table, whose messages have room for each single binding,
+/// and with ids enough for a request for each row and two more, it is done unless the link or the
+/// sink stops it or messages are lost.
 pub fn run_walk<L: Link, S: Sink>(
     link: &mut L,
     core: WalkCore,
@@ -27,10 +32,13 @@ pub fn run_walk<L: Link, S: Sink>(
     sink: &mut S,
 ) -> WalkEnd
     requires { IsFresh core }
-    ensures given { (rows : List VarBind) × (refused : List VarBind) × Took S.takes sink.old rows refused result sink.new × IsPartOfWalk Rises Named core (rows ++ refused)
+    ensures given { (rows : List VarBind) × (refused : List VarBind)
+        × Took S.takes sink.old rows refused result sink.new
+        × IsPartOfWalk Rises Named core (rows ++ refused)
         × (L.honest link.old → (L.traffic link.old).sent ≡ [] → WalkFacts (L.agents link.old) (retries + 1) (L.traffic link.old) core rows refused result (L.traffic link.new))
         × (L.keeps link.old → SendFacts (L.agents link.old) (L.honest link.old × ((L.traffic link.old).sent ≡ [])) (retries + 1) (L.traffic link.old) core rows (L.traffic link.new)) }
-    ensures fault { result ≡ WalkEnd.Link → HasRisen (L.fault_count link.old) (L.fault_count link.new) }
+    ensures fault { result ≡ WalkEnd.Link
+        → HasRisen (L.fault_count link.old) (L.fault_count link.new) }
 {
     let mut core = core;
     let mut request = [0; 65507];
@@ -53,8 +61,12 @@ fn ask<L: Link>(
     requires { is_over core.now.phase ≡ false }
     ensures length { IfOk result (λ heard. IfSome heard (λ n. n ≤ 65507)) }
     ensures walker { IsWalker core.now }
-    ensures heard { IfOk result (λ heard. IfSome heard (λ n. IsHeard (L.agents link.old) (L.honest link.old × IsEarlier (L.traffic link.old).sent core.now) core.now (take n buffer.new))) }
-    ensures exchanged { L.keeps link.old → Exchanges (L.agents link.old) (L.honest link.old × IsEarlier (L.traffic link.old).sent core.now) (retries + 1) (canon (request_of core.now)) (L.traffic link.old) (result ≡ Ok None) (L.traffic link.new) }
+    ensures heard { IfOk result (λ heard. IfSome heard
+        (λ n. IsHeard (L.agents link.old) (L.honest link.old
+        × IsEarlier (L.traffic link.old).sent core.now) core.now (take n buffer.new))) }
+    ensures exchanged { L.keeps link.old → Exchanges (L.agents link.old) (L.honest link.old
+        × IsEarlier (L.traffic link.old).sent core.now) (retries + 1) (canon (request_of core.now))
+        (L.traffic link.old) (result ≡ Ok None) (L.traffic link.new) }
     ensures keeps { L.keeps link.old → L.keeps link.new }
     ensures honest { L.honest link.old → L.honest link.new }
     ensures agents { L.agents link.new ≡ L.agents link.old }
@@ -72,7 +84,8 @@ fn ask<L: Link>(
     )
 }
 
-/// One turn of a walk: sends its request, reads the reply, and gives what that brings to the sink. Some is how the walk ended.
+/// One turn of a walk: sends its request, reads the reply, and gives what that brings to the sink.
+/// Some is how the walk ended.
 fn turn<L: Link, S: Sink>(
     link: &mut L,
     core: &mut WalkCore,
@@ -82,14 +95,20 @@ fn turn<L: Link, S: Sink>(
     buffer: &mut [u8; 65507],
 ) -> Option<WalkEnd>
     requires { is_over core.old.phase ≡ false }
-    ensures turns { (rows : List VarBind) × Turns S.takes (L.agents link.old) (L.honest link.old × IsEarlier (L.traffic link.old).sent core.old) core.old sink.old rows result core.new sink.new }
-    ensures exchanged { L.keeps link.old → Exchanges (L.agents link.old) (L.honest link.old × IsEarlier (L.traffic link.old).sent core.old) (retries + 1) (canon (request_of core.old)) (L.traffic link.old) (result ≡ Some WalkEnd.NoResponse) (L.traffic link.new) }
+    ensures turns { (rows : List VarBind) × Turns S.takes (L.agents link.old) (L.honest link.old
+        × IsEarlier (L.traffic link.old).sent core.old) core.old sink.old rows result core.new
+        sink.new }
+    ensures exchanged { L.keeps link.old → Exchanges (L.agents link.old) (L.honest link.old
+        × IsEarlier (L.traffic link.old).sent core.old) (retries + 1) (canon (request_of core.old))
+        (L.traffic link.old) (result ≡ Some WalkEnd.NoResponse) (L.traffic link.new) }
     ensures walker { IsWalker core.old }
     ensures keeps { L.keeps link.old → L.keeps link.new }
     ensures honest { L.honest link.old → L.honest link.new }
     ensures agents { L.agents link.new ≡ L.agents link.old }
-    ensures count { (result ≡ Some WalkEnd.Link → ⊥) → L.fault_count link.new ≡ L.fault_count link.old }
-    ensures fault { result ≡ Some WalkEnd.Link → HasRisen (L.fault_count link.old) (L.fault_count link.new) }
+    ensures count { (result ≡ Some WalkEnd.Link → ⊥)
+        → L.fault_count link.new ≡ L.fault_count link.old }
+    ensures fault { result ≡ Some WalkEnd.Link
+        → HasRisen (L.fault_count link.old) (L.fault_count link.new) }
 {
     let heard = match ask(link, core, retries, request, buffer) {
         Ok(Some(heard)) => heard,

@@ -24,7 +24,9 @@ ghost use Rattle.snmp_walk.specs.Sink.{Given};
 /// Gives the bindings to the sink, in order, until it refuses one.
 pub(crate) fn give<S: Sink>(mut rows: Rows<'_>, sink: &mut S) -> Result<(), SinkFault>
     ensures ok { OnOk result (Given S.takes sink.old rows.entry sink.new) }
-    ensures err { IfErr result (λ fault. (front : List VarBind) × (p : VarBind) × (back : List VarBind) × (rows.entry ≡ front ++ p ∷ back) × (between : S) × Given S.takes sink.old front between × S.takes between p (Err fault) sink.new) }
+    ensures err { IfErr result (λ fault. (front : List VarBind) × (p : VarBind)
+        × (back : List VarBind) × (rows.entry ≡ front ++ p ∷ back) × (between : S)
+        × Given S.takes sink.old front between × S.takes between p (Err fault) sink.new) }
 {
     let mut binding = Binding {
         name: Oid::new(),

@@ -1,5 +1,6 @@
 //! One request over a link: it is sent until its reply comes or no try is left.
-ghost use Rattle.std.specs.Prelude.{◌≡◌, ◌≤◌, ◌<◌, ◌+◌, ◌^◌, ℕ, List, length, take, Some, None, Ok, IfOk, IfSome, OnOk, OnErr, true};
+ghost use Rattle.std.specs.Prelude.{◌≡◌, ◌≤◌, ◌<◌, ◌+◌, ◌^◌, ℕ, List, length, take, Some, None, Ok};
+ghost use Rattle.std.specs.Prelude.{IfOk, IfSome, OnOk, OnErr, true};
 ghost use Rattle.snmp_io.specs.Count.{HasRisen};
 ghost use Rattle.snmp_wire.specs.Message.{Message};
 ghost use Rattle.snmp_wire.specs.Spelling.{Spells};
@@ -26,10 +27,14 @@ pub(crate) fn exchange<L: Link>(
 ) -> Result<Option<usize>, LinkFault>
     requires { id < 2 ^ 31 }
     ensures length { IfOk result (λ heard. IfSome heard (λ n. n ≤ 65507)) }
-    ensures awaited { IfOk result (λ heard. IfSome heard (λ n. IsAwaited community.now id (take n buffer.new))) }
-    ensures reply { L.honest link.old → IsAsked (L.agents link.old) community.now id request.now (L.traffic link.old).sent
+    ensures awaited { IfOk result (λ heard. IfSome heard
+        (λ n. IsAwaited community.now id (take n buffer.new))) }
+    ensures reply { L.honest link.old
+        → IsAsked (L.agents link.old) community.now id request.now (L.traffic link.old).sent
         → IfOk result (λ heard. IfSome heard (λ n. IsReplyFrom (L.agents link.old) request.now (take n buffer.new))) }
-    ensures exchanged { L.keeps link.old → Exchanges (L.agents link.old) (L.honest link.old × IsAsked (L.agents link.old) community.now id request.now (L.traffic link.old).sent) (retries + 1) request.now (L.traffic link.old) (result ≡ Ok None) (L.traffic link.new) }
+    ensures exchanged { L.keeps link.old → Exchanges (L.agents link.old) (L.honest link.old
+        × IsAsked (L.agents link.old) community.now id request.now (L.traffic link.old).sent)
+        (retries + 1) request.now (L.traffic link.old) (result ≡ Ok None) (L.traffic link.new) }
     ensures keeps { L.keeps link.old → L.keeps link.new }
     ensures honest { L.honest link.old → L.honest link.new }
     ensures agents { L.agents link.new ≡ L.agents link.old }
@@ -56,10 +61,13 @@ fn hear<L: Link>(
 ) -> Result<Option<usize>, LinkFault>
     requires { id < 2 ^ 31 }
     ensures length { IfOk result (λ heard. IfSome heard (λ n. n ≤ 65507)) }
-    ensures awaited { IfOk result (λ heard. IfSome heard (λ n. IsAwaited community.now id (take n buffer.new))) }
-    ensures reply { (q : List ℕ) → L.honest link.old → latest (L.traffic link.old).sent ≡ Some q → IsAsked (L.agents link.old) community.now id q (L.traffic link.old).sent
+    ensures awaited { IfOk result (λ heard. IfSome heard
+        (λ n. IsAwaited community.now id (take n buffer.new))) }
+    ensures reply { (q : List ℕ) → L.honest link.old → latest (L.traffic link.old).sent ≡ Some q
+        → IsAsked (L.agents link.old) community.now id q (L.traffic link.old).sent
         → IfOk result (λ heard. IfSome heard (λ n. IsReplyFrom (L.agents link.old) q (take n buffer.new))) }
-    ensures heard { (q : List ℕ) → L.honest link.old → latest (L.traffic link.old).sent ≡ Some q → IsAsked (L.agents link.old) community.now id q (L.traffic link.old).sent
+    ensures heard { (q : List ℕ) → L.honest link.old → latest (L.traffic link.old).sent ≡ Some q
+        → IsAsked (L.agents link.old) community.now id q (L.traffic link.old).sent
         → Hears (L.agents link.old) q (L.traffic link.old) (result ≡ Ok None) (L.traffic link.new) }
     ensures sent { L.keeps link.old → (L.traffic link.new).sent ≡ (L.traffic link.old).sent }
     ensures keeps { L.keeps link.old → L.keeps link.new }

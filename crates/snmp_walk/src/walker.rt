@@ -1,5 +1,6 @@
 //! The core of a walk: which request to send, and what the reply means.
-ghost use Rattle.std.specs.Prelude.{◌≡◌, ◌<◌, ◌≤◌, ℕ, length, All, IsOk, IfOk, IfErr, ◌↔◌, ◌^◌, true, false, IsTrue};
+ghost use Rattle.std.specs.Prelude.{◌≡◌, ◌<◌, ◌≤◌, ℕ, length, All, IsOk, IfOk, IfErr, ◌↔◌, ◌^◌};
+ghost use Rattle.std.specs.Prelude.{true, false, IsTrue};
 ghost use Rattle.std.specs.Bool.{nat_eq};
 ghost use Rattle.snmp_oid.specs.Identifier.{IsIdentifier, IsWire, IsBelow, wire};
 ghost use Rattle.snmp_walk.specs.Names.{is_below, comes_after, is_inside, is_missing, is_end};
@@ -57,7 +58,8 @@ impl Model for WalkCore {
 }
 
 impl WalkCore {
-    ghost use Rattle.std.specs.Prelude.{◌≡◌, ◌<◌, ◌≤◌, ◌⊎◌, ℕ, length, take, All, IsOk, IfOk, IfErr, ◌↔◌, ◌^◌, true, false, IsTrue, Err};
+    ghost use Rattle.std.specs.Prelude.{◌≡◌, ◌<◌, ◌≤◌, ◌⊎◌, ℕ, length, take, All, IsOk, IfOk};
+    ghost use Rattle.std.specs.Prelude.{IfErr, ◌↔◌, ◌^◌, true, false, IsTrue, Err};
     ghost use Rattle.snmp_oid.specs.Identifier.{IsIdentifier, IsWire, IsBelow, wire};
     ghost use Rattle.snmp_wire.specs.Canon.{canon};
     ghost use Rattle.snmp_wire.specs.Message.{Message, VarBind};
@@ -67,13 +69,17 @@ impl WalkCore {
     ghost use Rattle.snmp_walk.specs.Walk.{walk_of, rest_of};
     ghost use Rattle.snmp_table.specs.Table.{MibView, IsMibView};
     ghost use Rattle.snmp_table.specs.Listing.{variables};
-    ghost use Rattle.snmp_walk.specs.Request.{started, resumed, request_of, request_kind, request_repetitions};
-    ghost use Rattle.snmp_walk.specs.Taken.{is_over, is_awaited, stops, goes_on, closes, reads_next, reads_first, reads_last, got, take_of, Takes, asked_for};
+    ghost use Rattle.snmp_walk.specs.Request.{started, resumed, request_of, request_kind};
+    ghost use Rattle.snmp_walk.specs.Request.{request_repetitions};
+    ghost use Rattle.snmp_walk.specs.Taken.{is_over, is_awaited, stops, goes_on, closes};
+    ghost use Rattle.snmp_walk.specs.Taken.{reads_next, reads_first, reads_last, got, take_of};
+    ghost use Rattle.snmp_walk.specs.Taken.{Takes, asked_for};
     ghost use Rattle.std.specs.Option.{option_map};
     ghost use Rattle.snmp_walk.specs.Reading.{IsFrontOf, is_misplaced, AreSendable};
     ghost use Rattle.snmp_walk.specs.Trail.{last_name};
 
-    /// A walk of the instances below `root`, whose requests have this community of at most 255 octets and ids from `first_id` on, which is at most 2147483647.
+    /// A walk of the instances below `root`, whose requests have this community of at most 255
+    /// octets and ids from `first_id` on, which is at most 2147483647.
     ///
     /// `NotWire` where the root, padded with zeros to two numbers, has no encoding (X.690, 8.19.4).
     pub fn start(
@@ -88,7 +94,8 @@ impl WalkCore {
         requires first_id { first_id < 2 ^ 31 }
         ensures ok { IfOk result (λ w. w ≡ started root mode method community.now first_id) }
         ensures fresh { IfOk result IsFresh }
-        ensures walk { IfOk result (λ w. (view : MibView) (got : VarBind) → IsMibView view → walk_at w view got ≡ walk_of mode root got (variables view)) }
+        ensures walk { IfOk result (λ w. (view : MibView) (got : VarBind) → IsMibView view
+            → walk_at w view got ≡ walk_of mode root got (variables view)) }
         ensures variant { IsOk result ↔ IsWire (wire root) }
         ensures err { IfErr result (λ e. e ≡ StartError.NotWire) }
     {
@@ -107,9 +114,11 @@ impl WalkCore {
         })
     }
 
-    /// The rest of a walk of the instances below `root`, behind the name `after`, without the root's own instance.
+    /// The rest of a walk of the instances below `root`, behind the name `after`, without the
+    /// root's own instance.
     ///
-    /// `NotWire` where one of the names, padded with zeros to two numbers, has no encoding, and `AfterOutsideRoot` where `after` is neither the root nor below it. Of several faults
+    /// `NotWire` where one of the names, padded with zeros to two numbers, has no encoding, and
+    /// `AfterOutsideRoot` where `after` is neither the root nor below it. Of several faults
     /// that of the root comes first, and that of `after` last.
     pub fn resume(
         root: Oid,
@@ -123,10 +132,14 @@ impl WalkCore {
         requires first_id { first_id < 2 ^ 31 }
         ensures ok { IfOk result (λ w. w ≡ resumed root after.now method community.now first_id) }
         ensures fresh { IfOk result IsFresh }
-        ensures walk { IfOk result (λ w. (view : MibView) (got : VarBind) → walk_at w view got ≡ rest_of root (wire after.now) (variables view)) }
-        ensures variant { IsOk result ↔ (IsWire (wire root) × ((after.now ≡ root) ⊎ IsBelow after.now root) × IsWire (wire after.now)) }
-        ensures not_wire { result ≡ Err StartError.NotWire → IsWire (wire root) × IsWire (wire after.now) → ⊥ }
-        ensures outside { result ≡ Err StartError.AfterOutsideRoot → IsWire (wire root) × (after.now ≡ root → ⊥) × (IsBelow after.now root → ⊥) }
+        ensures walk { IfOk result (λ w. (view : MibView) (got : VarBind)
+            → walk_at w view got ≡ rest_of root (wire after.now) (variables view)) }
+        ensures variant { IsOk result ↔ (IsWire (wire root)
+            × ((after.now ≡ root) ⊎ IsBelow after.now root) × IsWire (wire after.now)) }
+        ensures not_wire { result ≡ Err StartError.NotWire → IsWire (wire root)
+            × IsWire (wire after.now) → ⊥ }
+        ensures outside { result ≡ Err StartError.AfterOutsideRoot → IsWire (wire root)
+            × (after.now ≡ root → ⊥) × (IsBelow after.now root → ⊥) }
     {
         if root.to_wire().is_err() {
             return Err(StartError::NotWire);
@@ -149,9 +162,12 @@ impl WalkCore {
         })
     }
 
-    /// The octets of the waiting request (RFC 3416, section 3), at the front of `out`, and how many there are; 0 after the end of the walk.
+    /// The octets of the waiting request (RFC 3416, section 3), at the front of `out`, and how many
+    /// there are; 0 after the end of the walk.
     pub fn request(&self, out: &mut [u8; 65507]) -> usize
-        ensures waiting { is_over self.now.phase ≡ false → (result ≡ length (canon (request_of self.now))) × (take result out.new ≡ canon (request_of self.now)) }
+        ensures waiting { is_over self.now.phase ≡ false
+            → (result ≡ length (canon (request_of self.now)))
+            × (take result out.new ≡ canon (request_of self.now)) }
         ensures over { is_over self.now.phase ≡ true → (result ≡ 0) × (out.new ≡ out.old) }
         ensures walker { IsWalker self.now }
     {
@@ -177,7 +193,8 @@ impl WalkCore {
         }
     }
 
-    /// Reads a datagram: whatever isn't the reply that is waited for is `Stray` and changes nothing, and after the end of the walk everything is.
+    /// Reads a datagram: whatever isn't the reply that is waited for is `Stray` and changes
+    /// nothing, and after the end of the walk everything is.
     pub fn take<'a>(&mut self, datagram: &'a [u8]) -> Step<'a>
         ensures { Takes self.old datagram.now result self.new }
     {
@@ -238,7 +255,8 @@ impl WalkCore {
         Step::Last(rows, why)
     }
 
-    /// Gives these bindings, `count` of them and the last of them of the name `last`, and waits for the reply to the next request.
+    /// Gives these bindings, `count` of them and the last of them of the name `last`, and waits for
+    /// the reply to the next request.
     fn go_on<'a>(&mut self, next: Phase, rows: Rows<'a>, count: u32, last: Oid) -> Step<'a>
         requires count { count ≡ length rows }
         requires last { last ≡ last_name self.old.asked rows }
@@ -256,7 +274,8 @@ impl WalkCore {
         Step::Rows(rows)
     }
 
-    /// Nothing more stands below the root: gives these bindings, `count` of them, and then asks for the root itself or ends the walk.
+    /// Nothing more stands below the root: gives these bindings, `count` of them, and then asks for
+    /// the root itself or ends the walk.
     fn close<'a>(&mut self, rows: Rows<'a>, count: u32) -> Step<'a>
         requires count { count ≡ length rows }
         ensures { (result, self.new) ≡ closes self.old rows.entry }
@@ -269,7 +288,8 @@ impl WalkCore {
         self.stop(rows, WalkEnd::Done(given))
     }
 
-    /// Whether there are more bindings than were asked for, or noSuchObject or noSuchInstance among them.
+    /// Whether there are more bindings than were asked for, or noSuchObject or noSuchInstance among
+    /// them.
     fn is_misplaced(&self, mut bindings: Bindings<'_>) -> bool
         ensures value { result ≡ is_misplaced (asked_for self.now.method) bindings.entry }
         ensures few { result ≡ false → length bindings.entry < 2 ^ 32 }
@@ -288,7 +308,8 @@ impl WalkCore {
         false
     }
 
-    /// The instances below the root at the front of these bindings, their names rising from the one asked for.
+    /// The instances below the root at the front of these bindings, their names rising from the one
+    /// asked for.
     fn front(&self, mut bindings: Bindings<'_>) -> Front
         requires few { length bindings < 2 ^ 32 }
         requires wire { AreSendable bindings }
@@ -324,9 +345,11 @@ impl WalkCore {
         }
     }
 
-    /// What the reply to a Get says of the name asked for: whether it has no value. None where the reply isn't one binding of that name, or has endOfMibView.
+    /// What the reply to a Get says of the name asked for: whether it has no value. None where the
+    /// reply isn't one binding of that name, or has endOfMibView.
     fn got(&self, mut bindings: Bindings<'_>) -> Option<bool>
-        ensures { result ≡ option_map (λ b. is_missing b.value) (got self.now.asked bindings.entry) }
+        ensures { result ≡ option_map
+            (λ b. is_missing b.value) (got self.now.asked bindings.entry) }
     {
         let binding = bindings.next()?;
         if bindings.next().is_some()
@@ -340,7 +363,8 @@ impl WalkCore {
 
     /// Reads the reply to the Get with which a walk begins that includes the root.
     fn read_first<'a>(&mut self, message: &MessageRef<'a>) -> Step<'a>
-        ensures { (result, self.new) ≡ reads_first self.old (got self.old.asked message.now.bindings) }
+        ensures { (result, self.new) ≡ reads_first self.old (got self.old.asked
+            message.now.bindings) }
     {
         let bindings = message.bindings();
         match self.got(message.bindings()) {
@@ -360,7 +384,8 @@ impl WalkCore {
 
     /// Reads the reply to the Get with which a plain walk ends that gave nothing.
     fn read_last<'a>(&mut self, message: &MessageRef<'a>) -> Step<'a>
-        ensures { (result, self.new) ≡ reads_last self.old (got self.old.asked message.now.bindings) }
+        ensures { (result, self.new) ≡ reads_last self.old (got self.old.asked
+            message.now.bindings) }
     {
         let bindings = message.bindings();
         if self.got(message.bindings()).is_none() {

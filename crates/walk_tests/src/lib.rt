@@ -1,4 +1,5 @@
-//! Tests of walks: over links in memory with any deliveries and tables, and over an agent that lies.
+//! Tests of walks: over links in memory with any deliveries and tables, and over an agent that
+//! lies.
 #![tactic(auto)]
 
 #[cfg(test)]

@@ -14,7 +14,8 @@ names-preserved c =
     let w = c.in-Some.ensures.written in
     let here = canon_binding (var_bind c.asked-binding.result) in
     let front = canon_bindings (asked_names (take c.names.name-index c.args.names.now)) in
-    let more = written_more c.args.names.now c.names.name-index c.name-item.result (var_bind c.asked-binding.result) c.names-test.true c.name-item.is c.asked-binding.ensures.value in
+    let more = written_more c.args.names.now c.names.name-index c.name-item.result
+    (var_bind c.asked-binding.result) c.names-test.true c.name-item.is c.asked-binding.ensures.value in
     let long : length c.names.out ≡ 65507 = omega arith in (
       omega (arith, w.2, long),
       omega (arith, w.0, inv.1, ap length more, length-append front here),
@@ -27,7 +28,8 @@ returns-in-None-clause-none c =
     let inv = c.names.invariant in
     let here = canon_binding (var_bind c.asked-binding.result) in
     let front = canon_bindings (asked_names (take c.names.name-index c.args.names.now)) in
-    let more = written_more c.args.names.now c.names.name-index c.name-item.result (var_bind c.asked-binding.result) c.names-test.true c.name-item.is c.asked-binding.ensures.value in
+    let more = written_more c.args.names.now c.names.name-index c.name-item.result
+    (var_bind c.asked-binding.result) c.names-test.true c.name-item.is c.asked-binding.ensures.value in
     let long : length c.names.out ≡ 65507 = omega arith in
     let past = c.in-None.ensures.too_long in
     let all = longer_all c.args.names.now (c.names.name-index + 1) in

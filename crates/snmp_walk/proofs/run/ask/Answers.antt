@@ -4,12 +4,16 @@ use Rattle.snmp_walk.proofs.run.ask.Goals as goal
 
 pub returns-clause-heard : goal.returns-clause-heard
 returns-clause-heard g c =
-    heard_by_hand (g.L.Link.agents c.args.link.now) (g.L.Link.honest c.args.link.now) c.args.core.now c.community.result.now c.id.result _ c.community.ensures c.id.ensures.value
-    (c.request-length.ensures.waiting c.requires).1 c.requires c.id.ensures.walker (g.met.L.Link.lawful c.args.link.now) (g.L.Link.traffic c.args.link.now).sent c.exchange.result c.exchange.new.buffer
+    heard_by_hand (g.L.Link.agents c.args.link.now)
+    (g.L.Link.honest c.args.link.now) c.args.core.now c.community.result.now c.id.result _ c.community.ensures c.id.ensures.value
+    (c.request-length.ensures.waiting c.requires).1 c.requires c.id.ensures.walker (g.met.L.Link.lawful c.args.link.now)
+    (g.L.Link.traffic c.args.link.now).sent c.exchange.result c.exchange.new.buffer
     c.exchange.ensures.awaited c.exchange.ensures.reply
 
 pub returns-clause-exchanged : goal.returns-clause-exchanged
 returns-clause-exchanged g c = λ keeps.
-    exchanged_by_hand (g.L.Link.agents c.args.link.now) (g.L.Link.honest c.args.link.now) c.args.core.now c.community.result.now c.id.result _ c.community.ensures c.id.ensures.value
-    (c.request-length.ensures.waiting c.requires).1 c.requires c.id.ensures.walker (g.met.L.Link.lawful c.args.link.now) (c.args.retries + 1) (g.L.Link.traffic c.args.link.now) _ _
+    exchanged_by_hand (g.L.Link.agents c.args.link.now)
+    (g.L.Link.honest c.args.link.now) c.args.core.now c.community.result.now c.id.result _ c.community.ensures c.id.ensures.value
+    (c.request-length.ensures.waiting c.requires).1 c.requires c.id.ensures.walker (g.met.L.Link.lawful c.args.link.now) (c.args.retries + 1)
+    (g.L.Link.traffic c.args.link.now) _ _
     (c.exchange.ensures.exchanged keeps)

@@ -11,19 +11,30 @@ use Rattle.snmp_walk.proofs.TurnLemmas.{no_link_end}
 use Rattle.snmp_walk.proofs.run.run_walk.Goals as goal
 
 pub turns-init : goal.turns-init
-turns-init g c =
-    (runs_first g.S.Sink.takes _ _ _ (c.args.retries + 1) c.args.core c.args.sink.now (g.L.Link.traffic c.args.link.now) c.requires, (λ h. h), (λ h. h), refl, refl)
+turns-init g c = (
+  runs_first g.S.Sink.takes _ _ _ (c.args.retries + 1) c.args.core c.args.sink.now (g.L.Link.traffic c.args.link.now) c.requires,
+  (λ h. h),
+  (λ h. h),
+  refl,
+  refl,
+)
 
 pub returns-in-Some-clause-given : goal.returns-in-Some-clause-given
 returns-in-Some-clause-given g c =
     let inv = c.turns.invariant in
     let agents : Agents = g.L.Link.agents c.args.link.now in
     let t = c.in-Some.ensures.turns in
-    let same = subst (λ (a : Agents). Turns g.S.Sink.takes a (g.L.Link.honest c.turns.link × IsEarlier (g.L.Link.traffic c.turns.link).sent c.turns.core) c.turns.core c.turns.sink t.0 (Some c.in-Some.end) c.turn.new.core c.turn.new.sink) inv.3 t.1 in
-    ran g.S.Sink.takes agents (g.L.Link.keeps c.args.link.now) (g.L.Link.honest c.args.link.now) (g.met.L.Link.keeping c.args.link.now) (c.args.retries + 1) c.args.core c.args.sink.now
-    (g.L.Link.traffic c.args.link.now) c.turns.core c.turns.sink (g.L.Link.traffic c.turns.link) inv.0 c.turn.ensures.walker (g.L.Link.honest c.turns.link) inv.1 t.0 c.turn.new.core c.turn.new.sink
+    let same = subst (λ (a : Agents). Turns g.S.Sink.takes a (g.L.Link.honest c.turns.link
+    × IsEarlier (g.L.Link.traffic c.turns.link).sent c.turns.core) c.turns.core c.turns.sink t.0
+    (Some c.in-Some.end) c.turn.new.core c.turn.new.sink) inv.3 t.1 in
+    ran g.S.Sink.takes agents (g.L.Link.keeps c.args.link.now) (g.L.Link.honest c.args.link.now) (g.met.L.Link.keeping c.args.link.now)
+    (c.args.retries + 1) c.args.core c.args.sink.now
+    (g.L.Link.traffic c.args.link.now) c.turns.core c.turns.sink (g.L.Link.traffic c.turns.link) inv.0 c.turn.ensures.walker
+    (g.L.Link.honest c.turns.link) inv.1 t.0 c.turn.new.core c.turn.new.sink
     (g.L.Link.traffic c.turn.new.link) c.in-Some.end c.requires (omega arith) (λ h. (g.met.L.Link.lawful c.args.link.now h).views) same
-    (λ k. subst (λ (a : Agents). Exchanges a (g.L.Link.honest c.turns.link × IsEarlier (g.L.Link.traffic c.turns.link).sent c.turns.core) (c.args.retries + 1) (canon (request_of c.turns.core)) (g.L.Link.traffic c.turns.link) (Some c.in-Some.end ≡ Some ending.NoResponse) (g.L.Link.traffic c.turn.new.link)) inv.3
+    (λ k. subst (λ (a : Agents). Exchanges a (g.L.Link.honest c.turns.link
+    × IsEarlier (g.L.Link.traffic c.turns.link).sent c.turns.core) (c.args.retries + 1) (canon (request_of c.turns.core)) (g.L.Link.traffic c.turns.link)
+    (Some c.in-Some.end ≡ Some ending.NoResponse) (g.L.Link.traffic c.turn.new.link)) inv.3
     (c.in-Some.ensures.exchanged (inv.2 k)))
 
 pub returns-in-Some-clause-fault : goal.returns-in-Some-clause-fault
@@ -35,11 +46,16 @@ turns-smaller g c =
     let inv = c.turns.invariant in
     let agents : Agents = g.L.Link.agents c.args.link.now in
     let t = c.in_default.ensures.turns in
-    let same = subst (λ (a : Agents). Turns g.S.Sink.takes a (g.L.Link.honest c.turns.link × IsEarlier (g.L.Link.traffic c.turns.link).sent c.turns.core) c.turns.core c.turns.sink t.0 None c.turn.new.core c.turn.new.sink) inv.3 t.1 in
-    let on = runs_on g.S.Sink.takes agents (g.L.Link.keeps c.args.link.now) (g.L.Link.honest c.args.link.now) (g.met.L.Link.keeping c.args.link.now) (c.args.retries + 1) c.args.core c.args.sink.now
-    (g.L.Link.traffic c.args.link.now) c.turns.core c.turns.sink (g.L.Link.traffic c.turns.link) inv.0 c.turn.ensures.walker (g.L.Link.honest c.turns.link) inv.1 t.0 c.turn.new.core c.turn.new.sink
+    let same = subst (λ (a : Agents). Turns g.S.Sink.takes a (g.L.Link.honest c.turns.link
+    × IsEarlier (g.L.Link.traffic c.turns.link).sent c.turns.core) c.turns.core c.turns.sink t.0 None c.turn.new.core c.turn.new.sink) inv.3 t.1 in
+    let on = runs_on g.S.Sink.takes agents (g.L.Link.keeps c.args.link.now) (g.L.Link.honest c.args.link.now) (g.met.L.Link.keeping c.args.link.now)
+    (c.args.retries + 1) c.args.core c.args.sink.now
+    (g.L.Link.traffic c.args.link.now) c.turns.core c.turns.sink (g.L.Link.traffic c.turns.link) inv.0 c.turn.ensures.walker
+    (g.L.Link.honest c.turns.link) inv.1 t.0 c.turn.new.core c.turn.new.sink
     (g.L.Link.traffic c.turn.new.link) (None ≡ Some ending.NoResponse) same
-    (λ k. subst (λ (a : Agents). Exchanges a (g.L.Link.honest c.turns.link × IsEarlier (g.L.Link.traffic c.turns.link).sent c.turns.core) (c.args.retries + 1) (canon (request_of c.turns.core)) (g.L.Link.traffic c.turns.link) (None ≡ Some ending.NoResponse) (g.L.Link.traffic c.turn.new.link)) inv.3
+    (λ k. subst (λ (a : Agents). Exchanges a (g.L.Link.honest c.turns.link
+    × IsEarlier (g.L.Link.traffic c.turns.link).sent c.turns.core) (c.args.retries + 1) (canon (request_of c.turns.core)) (g.L.Link.traffic c.turns.link)
+    (None ≡ Some ending.NoResponse) (g.L.Link.traffic c.turn.new.link)) inv.3
     (c.in_default.ensures.exchanged (inv.2 k))) in
     let id = on.id in
     let low = on.low in
@@ -50,11 +66,16 @@ turns-preserved g c =
     let inv = c.turns.invariant in
     let agents : Agents = g.L.Link.agents c.args.link.now in
     let t = c.in_default.ensures.turns in
-    let same = subst (λ (a : Agents). Turns g.S.Sink.takes a (g.L.Link.honest c.turns.link × IsEarlier (g.L.Link.traffic c.turns.link).sent c.turns.core) c.turns.core c.turns.sink t.0 None c.turn.new.core c.turn.new.sink) inv.3 t.1 in
-    let on = runs_on g.S.Sink.takes agents (g.L.Link.keeps c.args.link.now) (g.L.Link.honest c.args.link.now) (g.met.L.Link.keeping c.args.link.now) (c.args.retries + 1) c.args.core c.args.sink.now
-    (g.L.Link.traffic c.args.link.now) c.turns.core c.turns.sink (g.L.Link.traffic c.turns.link) inv.0 c.turn.ensures.walker (g.L.Link.honest c.turns.link) inv.1 t.0 c.turn.new.core c.turn.new.sink
+    let same = subst (λ (a : Agents). Turns g.S.Sink.takes a (g.L.Link.honest c.turns.link
+    × IsEarlier (g.L.Link.traffic c.turns.link).sent c.turns.core) c.turns.core c.turns.sink t.0 None c.turn.new.core c.turn.new.sink) inv.3 t.1 in
+    let on = runs_on g.S.Sink.takes agents (g.L.Link.keeps c.args.link.now) (g.L.Link.honest c.args.link.now) (g.met.L.Link.keeping c.args.link.now)
+    (c.args.retries + 1) c.args.core c.args.sink.now
+    (g.L.Link.traffic c.args.link.now) c.turns.core c.turns.sink (g.L.Link.traffic c.turns.link) inv.0 c.turn.ensures.walker
+    (g.L.Link.honest c.turns.link) inv.1 t.0 c.turn.new.core c.turn.new.sink
     (g.L.Link.traffic c.turn.new.link) (None ≡ Some ending.NoResponse) same
-    (λ k. subst (λ (a : Agents). Exchanges a (g.L.Link.honest c.turns.link × IsEarlier (g.L.Link.traffic c.turns.link).sent c.turns.core) (c.args.retries + 1) (canon (request_of c.turns.core)) (g.L.Link.traffic c.turns.link) (None ≡ Some ending.NoResponse) (g.L.Link.traffic c.turn.new.link)) inv.3
+    (λ k. subst (λ (a : Agents). Exchanges a (g.L.Link.honest c.turns.link
+    × IsEarlier (g.L.Link.traffic c.turns.link).sent c.turns.core) (c.args.retries + 1) (canon (request_of c.turns.core)) (g.L.Link.traffic c.turns.link)
+    (None ≡ Some ending.NoResponse) (g.L.Link.traffic c.turn.new.link)) inv.3
     (c.in_default.ensures.exchanged (inv.2 k))) in (
       on.runs,
       (λ h. c.turn.ensures.honest (inv.1 h)),

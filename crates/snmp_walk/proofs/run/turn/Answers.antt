@@ -10,7 +10,8 @@ pub returns-in-Ok-None-clause-turns : goal.returns-in-Ok-None-clause-turns
 returns-in-Ok-None-clause-turns g c = ([], is_silent refl refl refl)
 
 pub returns-in-Ok-None-clause-exchanged : goal.returns-in-Ok-None-clause-exchanged
-returns-in-Ok-None-clause-exchanged g c = λ keeps. exchanges_by _ _ _ _ _ _ _ _ _ (λ h. h) (λ s. c.in-Ok-None.is ∙ ap Ok c.in-Ok-None.field-0-is) (c.ask.ensures.exchanged keeps)
+returns-in-Ok-None-clause-exchanged g c = λ keeps. exchanges_by _ _ _ _ _ _ _ _ _ (λ h. h) (λ s. c.in-Ok-None.is
+    ∙ ap Ok c.in-Ok-None.field-0-is) (c.ask.ensures.exchanged keeps)
 
 pub returns-in-Err-clause-exchanged : goal.returns-in-Err-clause-exchanged
 returns-in-Err-clause-exchanged g c = λ keeps. exchanges_by _ _ _ _ _ _ _ _ _ (λ h. h) (λ s. absurd (link_end s)) (c.ask.ensures.exchanged keeps)
@@ -34,13 +35,15 @@ pub returns-in-Err-give-clause-turns : goal.returns-in-Err-give-clause-turns
 returns-in-Err-give-clause-turns g c =
     let heard = if_some c.in-Ok-Some.field-0 _ c.in-Ok-Some.heard c.in-Ok-Some.field-0-is c.in-Ok-Some.ensures.heard in
     let taken = is_taken _ _ c.args.core.now _ c.take.result c.take.new.self c.requires heard c.take.ensures in
-    turn_refused g.S.Sink.takes _ _ c.args.core.now c.args.sink.now c.give.new.sink _ _ c.in-Rows.rows c.in-Err-give.fault taken (ap rows_in c.in-Rows.is) c.in-Err-give.ensures.err
+    turn_refused g.S.Sink.takes _ _ c.args.core.now c.args.sink.now c.give.new.sink _ _ c.in-Rows.rows c.in-Err-give.fault taken
+    (ap rows_in c.in-Rows.is) c.in-Err-give.ensures.err
 
 pub returns-in-Ok-give-clause-turns : goal.returns-in-Ok-give-clause-turns
 returns-in-Ok-give-clause-turns g c =
     let heard = if_some c.in-Ok-Some.field-0 _ c.in-Ok-Some.heard c.in-Ok-Some.field-0-is c.in-Ok-Some.ensures.heard in
     let taken = is_taken _ _ c.args.core.now _ c.take.result c.take.new.self c.requires heard c.take.ensures in
-    turn_ends g.S.Sink.takes _ _ c.args.core.now c.args.sink.now c.give-in-Last.new.sink _ _ c.in-Last.rows c.in-Last.end taken c.in-Last.is c.in-Ok-give.ensures.ok
+    turn_ends g.S.Sink.takes _ _ c.args.core.now c.args.sink.now c.give-in-Last.new.sink _ _ c.in-Last.rows c.in-Last.end taken c.in-Last.is
+    c.in-Ok-give.ensures.ok
 
 pub returns-in-Ok-give-clause-fault : goal.returns-in-Ok-give-clause-fault
 returns-in-Ok-give-clause-fault g c = λ link.
@@ -52,10 +55,12 @@ pub returns-in-Ok-give-clause-exchanged : goal.returns-in-Ok-give-clause-exchang
 returns-in-Ok-give-clause-exchanged g c = λ keeps.
     let heard = if_some c.in-Ok-Some.field-0 _ c.in-Ok-Some.heard c.in-Ok-Some.field-0-is c.in-Ok-Some.ensures.heard in
     let taken = is_taken _ _ c.args.core.now _ c.take.result c.take.new.self c.requires heard c.take.ensures in
-    exchanges_by _ _ _ _ _ _ _ _ _ (λ h. h) (λ s. absurd (no_silence c.in-Last.end s (reply_end _ _ c.args.core.now _ _ c.in-Last.rows c.in-Last.end taken c.in-Last.is))) (c.ask.ensures.exchanged keeps)
+    exchanges_by _ _ _ _ _ _ _ _ _ (λ h. h) (λ s. absurd (no_silence c.in-Last.end s
+    (reply_end _ _ c.args.core.now _ _ c.in-Last.rows c.in-Last.end taken c.in-Last.is))) (c.ask.ensures.exchanged keeps)
 
 pub returns-in-Err-give-2-clause-turns : goal.returns-in-Err-give-2-clause-turns
 returns-in-Err-give-2-clause-turns g c =
     let heard = if_some c.in-Ok-Some.field-0 _ c.in-Ok-Some.heard c.in-Ok-Some.field-0-is c.in-Ok-Some.ensures.heard in
     let taken = is_taken _ _ c.args.core.now _ c.take.result c.take.new.self c.requires heard c.take.ensures in
-    turn_refused g.S.Sink.takes _ _ c.args.core.now c.args.sink.now c.give-in-Last.new.sink _ _ c.in-Last.rows c.in-Err-give-2.fault taken (ap rows_in c.in-Last.is) c.in-Err-give-2.ensures.err
+    turn_refused g.S.Sink.takes _ _ c.args.core.now c.args.sink.now c.give-in-Last.new.sink _ _ c.in-Last.rows c.in-Err-give-2.fault taken
+    (ap rows_in c.in-Last.is) c.in-Err-give-2.ensures.err

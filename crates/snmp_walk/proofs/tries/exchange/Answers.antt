@@ -14,10 +14,12 @@ never_ok (Ok x) is other = let no : ⊥ = cc in no
 never_ok (Err e) is other = let no : ⊥ = cc in no
 
 -- what was sent once more
-sent_again : (old before between now : Traffic) (q : List ℕ) (count : ℕ) → before.sent ≡ old.sent ++ replicate count q → between.sent ≡ before.sent ++ q ∷ [] → now.sent ≡ between.sent
+sent_again : (old before between now : Traffic) (q : List ℕ) (count : ℕ) → before.sent ≡ old.sent ++ replicate count q → between.sent ≡ before.sent ++ q ∷ []
+    → now.sent ≡ between.sent
     → now.sent ≡ old.sent ++ replicate (count + 1) q
 sent_again old before between now q count e f g =
-    g ∙ f ∙ ap (λ (s : List (List ℕ)). s ++ q ∷ []) e ∙ append_assoc old.sent (replicate count q) (q ∷ []) ∙ ap (λ (s : List (List ℕ)). old.sent ++ s) (sym (replicate_next count q))
+    g ∙ f ∙ ap (λ (s : List (List ℕ)). s ++ q ∷ []) e ∙ append_assoc old.sent (replicate count q) (q ∷ [])
+    ∙ ap (λ (s : List (List ℕ)). old.sent ++ s) (sym (replicate_next count q))
 
 pub tries-preserved : goal.tries-preserved
 tries-preserved g c =
@@ -33,15 +35,18 @@ tries-preserved g c =
       λ h. c.hear.ensures.keeps (c.send.ensures.keeps (inv.1 h)),
       c.hear.ensures.agents ∙ same,
       c.in_ok-length.ensures.count ∙ c.in_ok-send.ensures.count ∙ inv.3,
-      λ h. sent_again old before between now q c.tries.counter (inv.4 h) (c.in_ok-send.ensures.sent (inv.1 h)) (c.hear.ensures.sent (c.send.ensures.keeps (inv.1 h))),
+      λ h. sent_again old before between now q c.tries.counter (inv.4 h) (c.in_ok-send.ensures.sent (inv.1 h)) (c.hear.ensures.sent (c.send.ensures.keeps
+          (inv.1 h))),
       λ h asked.
           let keeps = g.met.L.Link.keeping c.args.link.now h in
           let sent = inv.4 keeps in
           let more = c.in_ok-send.ensures.sent (inv.1 keeps) in
-          let heard = c.hear.ensures.heard q (c.send.ensures.honest (inv.0 h)) (last_now agents (g.L.Link.agents c.send.new.self) same c.args.community.now c.args.id q old before between c.tries.counter sent more asked)
+          let heard = c.hear.ensures.heard q (c.send.ensures.honest (inv.0 h)) (last_now agents
+          (g.L.Link.agents c.send.new.self) same c.args.community.now c.args.id q old before between c.tries.counter sent more asked)
           (asked_now agents (g.L.Link.agents c.send.new.self) same c.args.community.now c.args.id q old before between c.tries.counter sent more asked) in
           missing_more agents q old between now c.tries.counter (c.args.retries + 1) (c.hear.result ≡ Ok None) (c.in_ok-length.was ∙ ap Ok c.in_default.is)
-          (try_sent agents (g.L.Link.agents c.send.new.self) same c.args.community.now c.args.id q old before between c.tries.counter sent more asked) before (c.in_ok-send.ensures.ahead (inv.0 h))
+          (try_sent agents (g.L.Link.agents c.send.new.self) same c.args.community.now c.args.id q old before between c.tries.counter sent more asked) before
+          (c.in_ok-send.ensures.ahead (inv.0 h))
           (subst (λ (a : Agents). Hears a q between (c.hear.result ≡ Ok None) now) same heard) (inv.5 h asked),
     )
 
@@ -63,10 +68,12 @@ returns-in_err-length-clause-exchanged g c = λ keeps.
       sent = sent_again old before between now q c.tries.counter sent more (c.hear.ensures.sent (c.send.ensures.keeps (inv.1 keeps)));
       all = λ s. absurd (never_ok _ c.from_residual-in_err-length.ensures.0 s);
       honestly = λ h.
-          let heard = c.hear.ensures.heard q (c.send.ensures.honest (inv.0 h.0)) (last_now agents (g.L.Link.agents c.send.new.self) same c.args.community.now c.args.id q old before between c.tries.counter sent more h.1)
+          let heard = c.hear.ensures.heard q (c.send.ensures.honest (inv.0 h.0)) (last_now agents
+          (g.L.Link.agents c.send.new.self) same c.args.community.now c.args.id q old before between c.tries.counter sent more h.1)
           (asked_now agents (g.L.Link.agents c.send.new.self) same c.args.community.now c.args.id q old before between c.tries.counter sent more h.1) in
           heard_more agents q old before between now c.tries.counter (c.args.retries + 1) (c.hear.result ≡ Ok None) _ (c.in_ok-send.ensures.ahead (inv.0 h.0))
-          (subst (λ (a : Agents). Hears a q between (c.hear.result ≡ Ok None) now) same heard) (inv.5 h.0 h.1) (λ s. never_ok _ c.from_residual-in_err-length.ensures.0 s);
+          (subst (λ (a : Agents). Hears a q between (c.hear.result ≡ Ok None) now) same heard) (inv.5 h.0 h.1)
+          (λ s. never_ok _ c.from_residual-in_err-length.ensures.0 s);
     }
 
 pub returns-in-Some-clause-reply : goal.returns-in-Some-clause-reply
@@ -81,7 +88,8 @@ returns-in-Some-clause-reply g c = λ h asked.
     let keeps = g.met.L.Link.keeping c.args.link.now h in
     let sent = inv.4 keeps in
     let more = c.in_ok-send.ensures.sent (inv.1 keeps) in
-    let reply = c.in_ok-length.ensures.reply q (c.send.ensures.honest (inv.0 h)) (last_now agents (g.L.Link.agents c.send.new.self) same c.args.community.now c.args.id q old before between c.tries.counter sent more asked)
+    let reply = c.in_ok-length.ensures.reply q (c.send.ensures.honest (inv.0 h)) (last_now agents
+    (g.L.Link.agents c.send.new.self) same c.args.community.now c.args.id q old before between c.tries.counter sent more asked)
     (asked_now agents (g.L.Link.agents c.send.new.self) same c.args.community.now c.args.id q old before between c.tries.counter sent more asked) in
     subst (λ (a : Agents). IsReplyFrom a q (take c.in-Some.length c.hear.new.buffer)) same
     (if_some c.in_ok-length.field-0 (λ n. IsReplyFrom (g.L.Link.agents c.send.new.self) q (take n c.hear.new.buffer)) c.in-Some.length c.in-Some.is reply)
@@ -104,7 +112,8 @@ returns-in-Some-clause-exchanged g c = λ keeps.
       sent = sent_again old before between now q c.tries.counter sent more (c.hear.ensures.sent (c.send.ensures.keeps (inv.1 keeps)));
       all = λ s. let no : ⊥ = cc in absurd no;
       honestly = λ h.
-          let heard = c.hear.ensures.heard q (c.send.ensures.honest (inv.0 h.0)) (last_now agents (g.L.Link.agents c.send.new.self) same c.args.community.now c.args.id q old before between c.tries.counter sent more h.1)
+          let heard = c.hear.ensures.heard q (c.send.ensures.honest (inv.0 h.0)) (last_now agents
+          (g.L.Link.agents c.send.new.self) same c.args.community.now c.args.id q old before between c.tries.counter sent more h.1)
           (asked_now agents (g.L.Link.agents c.send.new.self) same c.args.community.now c.args.id q old before between c.tries.counter sent more h.1) in
           heard_more agents q old before between now c.tries.counter (c.args.retries + 1) (c.hear.result ≡ Ok None) _ (c.in_ok-send.ensures.ahead (inv.0 h.0))
           (subst (λ (a : Agents). Hears a q between (c.hear.result ≡ Ok None) now) same heard) (inv.5 h.0 h.1) (λ s. let no : ⊥ = cc in no);

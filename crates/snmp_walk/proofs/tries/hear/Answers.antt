@@ -13,9 +13,11 @@ returns-in_default-clause-heard g c = λ q h last asked.
     let left : Traffic = g.L.Link.traffic c.receive.new.self in
     let long : 65507 ≤ length c.receives.buffer = grind (arith, common_steps) in
     let less : c.receives.counter < 64 = omega arith in
-    let r = received_by (g.L.Link.agents c.receives.link) (g.L.Link.agents c.args.link.now) inv.2 now.sent now.ahead left.ahead c.in_ok-length.field-0 None c.receive.new.buffer c.in_default.is
+    let r = received_by (g.L.Link.agents c.receives.link)
+    (g.L.Link.agents c.args.link.now) inv.2 now.sent now.ahead left.ahead c.in_ok-length.field-0 None c.receive.new.buffer c.in_default.is
     (c.in_ok-length.ensures.reply (inv.0 h) long) in
-    none_heard (g.L.Link.agents c.args.link.now) c.args.community.now c.args.id q old asked last c.receives.counter now left (inv.4 (g.met.L.Link.keeping c.args.link.now h)) less now.ahead refl r
+    none_heard (g.L.Link.agents c.args.link.now) c.args.community.now c.args.id q old asked last c.receives.counter now left (inv.4
+    (g.met.L.Link.keeping c.args.link.now h)) less now.ahead refl r
     (inv.5 q h last asked) _
 
 pub returns-then-is_reply-clause-reply : goal.returns-then-is_reply-clause-reply
@@ -25,10 +27,12 @@ returns-then-is_reply-clause-reply g c = λ q h last asked.
     let now : Traffic = g.L.Link.traffic c.receives.link in
     let left : Traffic = g.L.Link.traffic c.receive.new.self in
     let long : 65507 ≤ length c.receives.buffer = grind (arith, common_steps) in
-    let r = received_by (g.L.Link.agents c.receives.link) (g.L.Link.agents c.args.link.now) inv.2 now.sent now.ahead left.ahead c.in_ok-length.field-0 (Some c.in-Some.length) c.receive.new.buffer c.in-Some.is
+    let r = received_by (g.L.Link.agents c.receives.link) (g.L.Link.agents c.args.link.now) inv.2 now.sent now.ahead left.ahead c.in_ok-length.field-0
+    (Some c.in-Some.length) c.receive.new.buffer c.in-Some.is
     (c.in_ok-length.ensures.reply (inv.0 h) long) in
     let is = c.is_reply.ensures.awaited c.if-is_reply.true in
-    reply_heard (g.L.Link.agents c.args.link.now) c.args.community.now c.args.id q old asked last now left (take c.in-Some.length c.receive.new.buffer) (inv.4 (g.met.L.Link.keeping c.args.link.now h)) now.ahead refl r
+    reply_heard (g.L.Link.agents c.args.link.now) c.args.community.now c.args.id q old asked last now left (take c.in-Some.length c.receive.new.buffer) (inv.4
+    (g.met.L.Link.keeping c.args.link.now h)) now.ahead refl r
     is.message is.spelt is.awaited
 
 pub returns-then-is_reply-clause-heard : goal.returns-then-is_reply-clause-heard
@@ -39,9 +43,11 @@ returns-then-is_reply-clause-heard g c = λ q h last asked.
     let left : Traffic = g.L.Link.traffic c.receive.new.self in
     let long : 65507 ≤ length c.receives.buffer = grind (arith, common_steps) in
     let less : c.receives.counter < 64 = omega arith in
-    let r = received_by (g.L.Link.agents c.receives.link) (g.L.Link.agents c.args.link.now) inv.2 now.sent now.ahead left.ahead c.in_ok-length.field-0 (Some c.in-Some.length) c.receive.new.buffer c.in-Some.is
+    let r = received_by (g.L.Link.agents c.receives.link) (g.L.Link.agents c.args.link.now) inv.2 now.sent now.ahead left.ahead c.in_ok-length.field-0
+    (Some c.in-Some.length) c.receive.new.buffer c.in-Some.is
     (c.in_ok-length.ensures.reply (inv.0 h) long) in
-    heard_used (g.L.Link.agents c.args.link.now) q old now left c.receives.counter (Some (take c.in-Some.length c.receive.new.buffer)) less now.ahead refl r (inv.5 q h last asked) _ (λ e. cc)
+    heard_used (g.L.Link.agents c.args.link.now) q old now left c.receives.counter (Some (take c.in-Some.length c.receive.new.buffer)) less now.ahead refl r
+    (inv.5 q h last asked) _ (λ e. cc)
 
 pub receives-preserved : goal.receives-preserved
 receives-preserved g c =
@@ -57,9 +63,11 @@ receives-preserved g c =
       c.in_ok-length.ensures.count ∙ inv.3,
       λ h. c.receive.ensures.sent (inv.1 h) ∙ inv.4 h,
       λ q h last asked.
-          let r = received_by (g.L.Link.agents c.receives.link) (g.L.Link.agents c.args.link.now) inv.2 now.sent now.ahead left.ahead c.in_ok-length.field-0 (Some c.in-Some.length) c.receive.new.buffer c.in-Some.is
+          let r = received_by (g.L.Link.agents c.receives.link) (g.L.Link.agents c.args.link.now) inv.2 now.sent now.ahead left.ahead c.in_ok-length.field-0
+          (Some c.in-Some.length) c.receive.new.buffer c.in-Some.is
           (c.in_ok-length.ensures.reply (inv.0 h) long) in
-          stray_heard (g.L.Link.agents c.args.link.now) c.args.community.now c.args.id q old asked last c.receives.counter now left (take c.in-Some.length c.receive.new.buffer)
+          stray_heard (g.L.Link.agents c.args.link.now) c.args.community.now c.args.id q old asked last c.receives.counter now left
+          (take c.in-Some.length c.receive.new.buffer)
           (inv.4 (g.met.L.Link.keeping c.args.link.now h)) less now.ahead refl r
           (λ m spelt. sym c.if-is_reply.false ∙ c.is_reply.ensures.value m spelt) (inv.5 q h last asked),
     )

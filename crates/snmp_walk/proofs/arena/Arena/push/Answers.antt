@@ -11,5 +11,6 @@ returns-clause-added c =
     let span : Span = record { start = c.len.result; len = length more } in
     let long : c.len.result ≡ length octets = cc in
     let pushed = cut-push octets more c.self.inside.spans.items span c.self.invariant long refl in
-    let here : cut c.extend_from_slice.new.self.items c.push.new.self.items ≡ cut (octets ++ more) (c.self.inside.spans.items ++ span ∷ []) = cc (c.in-Ok.ensures.items, c.in_ok-extend_from_slice.ensures.items) in
+    let here : cut c.extend_from_slice.new.self.items c.push.new.self.items ≡ cut (octets ++ more) (c.self.inside.spans.items ++ span ∷ []) = cc
+    (c.in-Ok.ensures.items, c.in_ok-extend_from_slice.ensures.items) in
     here ∙ pushed ∙ ap (λ (s : Store). s.datagrams ++ more ∷ []) c.self.view_is

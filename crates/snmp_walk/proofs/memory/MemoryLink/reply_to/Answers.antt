@@ -3,10 +3,12 @@ use Rattle.snmp_walk.proofs.memory.MemoryLink.reply_to.Goals as goal
 
 pub returns-in-Reply-clause-reply : goal.returns-in-Reply-clause-reply
 returns-in-Reply-clause-reply c =
-    given_reply c.args.self.now.tables.now c.args.self.now.config c.table_for.result.now c.in_ok-datagram.datagram.now _ _ c.table_for.ensures c.in_ok-datagram.ensures.some
+    given_reply c.args.self.now.tables.now c.args.self.now.config c.table_for.result.now c.in_ok-datagram.datagram.now _ _ c.table_for.ensures
+    c.in_ok-datagram.ensures.some
     (c.answer.ensures.reply c.in-Reply.length c.in-Reply.is)
 
 pub returns-in-Dropped-clause-reply : goal.returns-in-Dropped-clause-reply
 returns-in-Dropped-clause-reply c =
-    given_none c.args.self.now.tables.now c.args.self.now.config c.table_for.result.now c.in_ok-datagram.datagram.now _ _ c.table_for.ensures c.in_ok-datagram.ensures.some
+    given_none c.args.self.now.tables.now c.args.self.now.config c.table_for.result.now c.in_ok-datagram.datagram.now _ _ c.table_for.ensures
+    c.in_ok-datagram.ensures.some
     (c.answer.ensures.dropped _ c.in-Dropped.is)

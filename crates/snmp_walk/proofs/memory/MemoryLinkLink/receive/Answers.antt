@@ -13,12 +13,16 @@ pub returns-clause-reply : goal.returns-clause-reply
 returns-clause-reply c = λ h long.
     let self = c.args.self.now in
     let given : Gives (agents_of self) (datagram_at self.arena.datagrams c.next_number-number.result) (received c.reply_to.result c.reply_to.new.out) =
-    subst (λ (a : Agents). Gives a (datagram_at self.arena.datagrams c.next_number-number.result) (received c.reply_to.result c.reply_to.new.out)) c.next_number-number.ensures.agents
-    (subst (λ (s : Store). Gives (agents_of c.next_number-number.new.self) (datagram_at s.datagrams c.next_number-number.result) (received c.reply_to.result c.reply_to.new.out)) c.next_number-number.ensures.arena
+    subst (λ (a : Agents). Gives a (datagram_at self.arena.datagrams c.next_number-number.result)
+    (received c.reply_to.result c.reply_to.new.out)) c.next_number-number.ensures.agents
+    (subst (λ (s : Store). Gives (agents_of c.next_number-number.new.self) (datagram_at s.datagrams c.next_number-number.result)
+    (received c.reply_to.result c.reply_to.new.out)) c.next_number-number.ensures.arena
     c.reply_to.ensures.reply) in
-    subst (λ (r : Option (List ℕ)). Receives (agents_of self) self.arena.datagrams (drop self.used self.deliveries.now) r (drop c.next_number-number.new.self.used c.next_number-number.new.self.deliveries.now))
+    subst (λ (r : Option (List ℕ)). Receives (agents_of self) self.arena.datagrams (drop self.used self.deliveries.now) r
+    (drop c.next_number-number.new.self.used c.next_number-number.new.self.deliveries.now))
     (sym (received_front c.reply_to.result c.reply_to.new.out _ c.reply_to.ensures.length c.reply_to.ensures.room))
-    (received_at (agents_of self) self.arena.datagrams (drop self.used self.deliveries.now) c.next_number-number.result _ _ c.next_number-number.ensures.number given)
+    (received_at (agents_of self) self.arena.datagrams
+    (drop self.used self.deliveries.now) c.next_number-number.result _ _ c.next_number-number.ensures.number given)
 
 pub returns-clause-ready : goal.returns-clause-ready
 returns-clause-ready c = λ s o h long.
