@@ -1,5 +1,38 @@
 -- A text cut octet by octet: at each place, what stands before it and the parts after it.
-use Rattle.std.proofs.Common.{◌≡◌, ℕ, ◌+◌, ◌-◌, ◌<◌, ◌≤◌, Bool, true, false, ◌&&◌, nat_eq, cond, List, [], ◌∷◌, ◌++◌, length, take, drop, get_or, Option, Some, None, option_map, refl, sym, ◌∙◌, ap, subst, append_assoc, arith, length-drop}
+use Rattle.std.proofs.Common.{
+  ◌≡◌,
+  ℕ,
+  ◌+◌,
+  ◌-◌,
+  ◌<◌,
+  ◌≤◌,
+  Bool,
+  true,
+  false,
+  ◌&&◌,
+  nat_eq,
+  cond,
+  List,
+  [],
+  ◌∷◌,
+  ◌++◌,
+  length,
+  take,
+  drop,
+  get_or,
+  Option,
+  Some,
+  None,
+  option_map,
+  refl,
+  sym,
+  ◌∙◌,
+  ap,
+  subst,
+  append_assoc,
+  arith,
+  length-drop,
+}
 use Rattle.std.proofs.lemmas.List.{at_drop_more, at_drop_all, append-nil, take_all, take_more, drop-drop}
 use Rattle.smi_name.specs.Cut.{is_unquoted, open_after, with_prefix, parts_after, name_parts, is_double_colon, longer_module, module_after}
 

@@ -1,5 +1,38 @@
 -- Decimal digits as a part of a name, read as a name of one number.
-use Rattle.std.proofs.Common.{◌≡◌, ◌≢◌, ℕ, ◌<◌, ◌≤◌, ◌^◌, Bool, true, false, ◌&&◌, cond, ltb, List, [], ◌∷◌, length, IfSome, IfNone, Result, Ok, Err, slice_index, Option, Some, None, refl, sym, ap, subst, inl, inr, arith}
+use Rattle.std.proofs.Common.{
+  ◌≡◌,
+  ◌≢◌,
+  ℕ,
+  ◌<◌,
+  ◌≤◌,
+  ◌^◌,
+  Bool,
+  true,
+  false,
+  ◌&&◌,
+  cond,
+  ltb,
+  List,
+  [],
+  ◌∷◌,
+  length,
+  IfSome,
+  IfNone,
+  Result,
+  Ok,
+  Err,
+  slice_index,
+  Option,
+  Some,
+  None,
+  refl,
+  sym,
+  ap,
+  subst,
+  inl,
+  inr,
+  arith,
+}
 use Rattle.std.specs.Str.{all_ascii_digits}
 use Rattle.std.proofs.lemmas.Bool.{ltb-true, lt-ltb}
 use Rattle.snmp_oid.specs.Numeric.{IsNumeral, IsNumericName, dot, decimal_value}

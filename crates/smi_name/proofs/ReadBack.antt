@@ -1,5 +1,42 @@
 -- What a name shows by module and label, or in numbers, means the identifier again.
-use Rattle.std.proofs.Common.{◌≡◌, ◌≢◌, ℕ, ◌≤◌, ◌<◌, ◌^◌, Bool, true, false, eqb, cond, List, [], ◌∷◌, ◌++◌, length, map, take, drop, decimal, All, inl, inr, Option, Some, None, Result, Ok, refl, sym, ◌∙◌, ap, subst, append_assoc, arith, length-append}
+use Rattle.std.proofs.Common.{
+  ◌≡◌,
+  ◌≢◌,
+  ℕ,
+  ◌≤◌,
+  ◌<◌,
+  ◌^◌,
+  Bool,
+  true,
+  false,
+  eqb,
+  cond,
+  List,
+  [],
+  ◌∷◌,
+  ◌++◌,
+  length,
+  map,
+  take,
+  drop,
+  decimal,
+  All,
+  inl,
+  inr,
+  Option,
+  Some,
+  None,
+  Result,
+  Ok,
+  refl,
+  sym,
+  ◌∙◌,
+  ap,
+  subst,
+  append_assoc,
+  arith,
+  length-append,
+}
 use Rattle.std.specs.List.{flat_map}
 use Rattle.std.proofs.lemmas.Bool.{le-leb, eqb-true}
 use Rattle.std.proofs.lemmas.List.{append-nil, take-append-drop}
@@ -15,7 +52,25 @@ use Rattle.smi_letters.specs.declared.letters.NameForm.TheVariants.{Numeric, Ful
 use Rattle.smi_name.specs.Cut.{name_parts, module_after}
 use Rattle.smi_name.specs.Naming.{Naming, Standing, IsSound, LeadsTo}
 use Rattle.smi_name.specs.Word.{Word}
-use Rattle.smi_name.specs.Meaning.{Scope, in_module, anywhere, among_roots, and_then, fitting, known, found_in, first_word_meaning, later_word_meaning, part_meaning, further_meaning, head_meaning, parts_meaning, plain_meaning, scoped_meaning, meaning}
+use Rattle.smi_name.specs.Meaning.{
+  Scope,
+  in_module,
+  anywhere,
+  among_roots,
+  and_then,
+  fitting,
+  known,
+  found_in,
+  first_word_meaning,
+  later_word_meaning,
+  part_meaning,
+  further_meaning,
+  head_meaning,
+  parts_meaning,
+  plain_meaning,
+  scoped_meaning,
+  meaning,
+}
 use Rattle.smi_name.specs.Name.{qualified, standing_text, name_text, ReadsBack}
 use Rattle.smi_name.proofs.PlainLemmas.{plain_word, plain_digits, plain_word_begins}
 use Rattle.smi_name.proofs.ShownLemmas.{plain_is_whole, piece_is_whole, joined_parts, joined_module}

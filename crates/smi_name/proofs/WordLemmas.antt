@@ -1,5 +1,33 @@
 -- A shown piece, or a label, is read as the word that it shows.
-use Rattle.std.proofs.Common.{◌≡◌, ◌≢◌, ℕ, ◌+◌, ◌-◌, true, ◌&&◌, eqb, ltb, cond, List, [], ◌∷◌, ◌++◌, length, take, get_or, decimal, Option, Some, None, Ok, refl, ◌∙◌, ap, arith, length-append}
+use Rattle.std.proofs.Common.{
+  ◌≡◌,
+  ◌≢◌,
+  ℕ,
+  ◌+◌,
+  ◌-◌,
+  true,
+  ◌&&◌,
+  eqb,
+  ltb,
+  cond,
+  List,
+  [],
+  ◌∷◌,
+  ◌++◌,
+  length,
+  take,
+  get_or,
+  decimal,
+  Option,
+  Some,
+  None,
+  Ok,
+  refl,
+  ◌∙◌,
+  ap,
+  arith,
+  length-append,
+}
 use Rattle.std.specs.List.{list_all}
 use Rattle.std.specs.Char.{is_ascii_digit}
 use Rattle.std.specs.Str.{all_ascii_digits}

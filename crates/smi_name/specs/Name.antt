@@ -5,7 +5,12 @@ use Rattle.snmp_oid.specs.Numeric.{numeric_text}
 use Rattle.smi_index.specs.Pieces.{instance_pieces, shown_pieces}
 use Rattle.smi_name.specs.Naming.{Naming, Standing}
 use Rattle.smi_letters.specs.declared.letters.NameForm.{NameForm}
-use Rattle.smi_letters.specs.declared.letters.NameForm.TheVariants.{Numeric, Full, Label, ModuleLabel}
+use Rattle.smi_letters.specs.declared.letters.NameForm.TheVariants.{
+  Numeric,
+  Full,
+  Label,
+  ModuleLabel,
+}
 
 -- the label with its module, a root's alone
 abbrev pub qualified : Option (List ℕ) → List ℕ → List ℕ

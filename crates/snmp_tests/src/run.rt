@@ -11,7 +11,8 @@ pub const THREE: &[u8] =
 pub const THREE_LINES: &[u8] =
     b".1.3.6.1.4.1.32473.1.1.0 = INTEGER: 1\n.1.3.6.1.4.1.32473.1.2.0 = STRING: \"wes\"\n.1.3.6.1.4.1.32473.1.10.0 = INTEGER: 3\n";
 
-/// Whether the words, over a file `t.tab` of this text, print these texts on standard output and standard error, and have this status.
+/// Whether the words, over a file `t.tab` of this text, print these texts on standard output and
+/// standard error, and have this status.
 pub fn prints(
     rt: &HostRuntime,
     table: &[u8],
@@ -28,7 +29,8 @@ pub fn prints(
     answered == status && out.out.octets() == lines && err.octets() == messages
 }
 
-/// Whether a walk of the table from a name, with numeric names, prints these lines and nothing else, and is done.
+/// Whether a walk of the table from a name, with numeric names, prints these lines and nothing
+/// else, and is done.
 pub fn walks(rt: &HostRuntime, table: &[u8], root: &str, lines: &[u8]) -> bool {
     prints(
         rt,

@@ -17,7 +17,20 @@ use Rattle.snmp_words.specs.Words.{WalkWords}
 use Rattle.snmp_tools.specs.Headline.{EndsAtStatus0, IsFeasible, IsMishap, IsWalk, WritesAllAtStatus0, WritesFront, text_of}
 use Rattle.snmp_tools.specs.Lines.{IsPrintedUpTo}
 use Rattle.snmp_tools.specs.Message.{Fault, bad_table, ended, message_of, out_of_memory, status_of}
-use Rattle.snmp_tools.specs.Outcome.{AreRowsOf, IsFinished, IsOutcome, IsOwnEnd, IsPrinted, IsReported, IsRun, IsWalkOver, agent_over, first_of, refused, walked}
+use Rattle.snmp_tools.specs.Outcome.{
+  AreRowsOf,
+  IsFinished,
+  IsOutcome,
+  IsOwnEnd,
+  IsPrinted,
+  IsReported,
+  IsRun,
+  IsWalkOver,
+  agent_over,
+  first_of,
+  refused,
+  walked,
+}
 use Rattle.snmp_tools.specs.Plan.{AskFor, Holdings, IsRefusal, Plan}
 use Rattle.snmp_tools.proofs.Outcomes.{finished_all, finished_front, no_fault_at_0}
 use Rattle.snmp_tools.proofs.Plans.{IsWant, held_is, one_plan, plain_want, table_want, wants}
@@ -45,16 +58,20 @@ want_told : (why : Fault) (before after err_before err_after : Stream) (status :
 want_told why before after err_before err_after status (plain_want e) told =
     line_told out_of_memory before after err_before err_after status refl refl (subst (λ (w : Fault). IsReported (Some w) err_before err_after status) e told)
 want_told why before after err_before err_after status (table_want path e) told =
-    line_told (bad_table path table_error.Memory) before after err_before err_after status refl refl (subst (λ (w : Fault). IsReported (Some w) err_before err_after status) e told)
+    line_told (bad_table path table_error.Memory) before after err_before err_after status refl refl (subst (λ (w : Fault). IsReported
+    (Some w) err_before err_after status) e told)
 
 -- a walk that ended for no reason but its own, the output's or memory's
-own_told : (counts : Bool) (agent : List ℕ) (given turned : List VarBind) (end : WalkEnd) (before between after err_before err_after : Stream) (fault : Option Fault) (status : ℕ)
-    → IsOwnEnd end → IsPrintedUpTo before given turned end between → IsFinished counts agent end between after fault → IsReported fault err_before err_after status
+own_told : (counts : Bool) (agent : List ℕ) (given turned : List VarBind) (end : WalkEnd) (before between after err_before err_after : Stream)
+    (fault : Option Fault) (status : ℕ)
+    → IsOwnEnd end → IsPrintedUpTo before given turned end between → IsFinished counts agent end between after fault
+    → IsReported fault err_before err_after status
     → (status ≡ 0) ⊎ IsMishap before after err_before err_after status
 own_told counts agent given turned (ending.Done n) before between after err_before err_after fault status own printed (inl finish) told =
     inl (subst (λ (f : Option Fault). IsReported f err_before err_after status) finish.1 told).0
 own_told counts agent given turned (ending.Done n) before between after err_before err_after fault status own printed (inr (inl finish)) told =
-    inr (want_told out_of_memory before after err_before err_after status (plain_want refl) (subst (λ (f : Option Fault). IsReported f err_before err_after status) finish.1 told))
+    inr (want_told out_of_memory before after err_before err_after status (plain_want refl) (subst (λ
+    (f : Option Fault). IsReported f err_before err_after status) finish.1 told))
 own_told counts agent given turned (ending.Done n) before between after err_before err_after fault status own printed (inr (inr finish)) told =
     let faults : between.faults ≡ before.faults = ap (λ (s : Stream). s.faults) printed in
     let risen = subst (λ (m : ℕ). HasRisen m after.faults) faults finish.0.counted in
@@ -87,18 +104,21 @@ module _ (one_name : (text o p : List ℕ) → IsNumericName text o → IsNumeri
 
     view_is : (plan : Plan) (view : MibView) → IsWalkOver bulk words files plan view → walk.view ≡ view
     view_is plan view over =
-        let text : over.text ≡ walk.text = held_is (files plan.path) over.text walk.text over.held (ap (λ (p : Plan). files p.path) (sym (plan_is plan view over)) ∙ walk.held) in
+        let text : over.text ≡ walk.text = held_is (files plan.path) over.text walk.text over.held (ap (λ (p : Plan). files p.path) (sym
+        (plan_is plan view over)) ∙ walk.held) in
         one_table (lines walk.text) walk.view view walk.table (subst (λ (t : List ℕ). IsTableOf (lines t) view) text over.table)
 
     rows_over : (plan : Plan) (view : MibView) → IsWalkOver bulk words files plan view → AreRowsOf plan view rows
     rows_over plan view over =
-        subst (λ (v : MibView). AreRowsOf plan v rows) (view_is plan view over) (subst (λ (p : Plan). AreRowsOf p walk.view rows) (plan_is plan view over) walk.are_rows)
+        subst (λ (v : MibView). AreRowsOf plan v rows) (view_is plan view over) (subst (λ (p : Plan). AreRowsOf p walk.view rows)
+        (plan_is plan view over) walk.are_rows)
 
     front : (fault : Option Fault) → IsOutcome bulk words files before after fault → TakesFront before (text_of walk.plan rows) after
     front fault (refused why refusal same is) = nothing_taken before after (text_of walk.plan rows) same
     front fault (walked plan view over printed) =
         subst (λ (p : Plan). TakesFront before (text_of p rows) after) (sym (plan_is plan view over))
-        (finished_front plan view words.asking.agent before rows (rows_over plan view over) printed.given printed.turned printed.end printed.between after fault printed.lines printed.finish
+        (finished_front plan view words.asking.agent before rows
+        (rows_over plan view over) printed.given printed.turned printed.end printed.between after fault printed.lines printed.finish
         printed.is_walked.counted (printed.is_walked.whole rows (rows_over plan view over)) (printed.is_walked.front rows (rows_over plan view over)))
 
     all : (fault : Option Fault) → fault ≡ None → IsOutcome bulk words files before after fault → after ≡ extended before (text_of walk.plan rows)
@@ -107,10 +127,12 @@ module _ (one_name : (text o p : List ℕ) → IsNumericName text o → IsNumeri
         let finish : IsFinished plan.counts words.asking.agent printed.end printed.between after None =
         subst (λ (f : Option Fault). IsFinished plan.counts words.asking.agent printed.end printed.between after f) none printed.finish in
         subst (λ (p : Plan). after ≡ extended before (text_of p rows)) (sym (plan_is plan view over))
-        (finished_all plan view words.asking.agent before rows (rows_over plan view over) printed.given printed.turned printed.end printed.between after printed.lines finish
+        (finished_all plan view words.asking.agent before rows
+        (rows_over plan view over) printed.given printed.turned printed.end printed.between after printed.lines finish
         printed.is_walked.counted (printed.is_walked.whole rows (rows_over plan view over)))
 
-    ends : IsFeasible walk.plan walk.view → (fault : Option Fault) → IsOutcome bulk words files before after fault → IsReported fault err_before err_after status
+    ends : IsFeasible walk.plan walk.view → (fault : Option Fault) → IsOutcome bulk words files before after fault
+        → IsReported fault err_before err_after status
         → (status ≡ 0) ⊎ IsMishap before after err_before err_after status
     ends can fault (refused why refusal same is) told =
         inr (want_told why before after err_before err_after status (wants no_fault bulk words files rows walk can why refusal)

@@ -115,7 +115,8 @@ pub next_part : (bulk : Bool) (choices : Choices) (text : List ℕ) (at n : ℕ)
     → before_rest bulk (after_part bulk (slice_index_or text at 0, take n (drop (at + 1) text)) choices) (parts_of (drop (at + (1 + n)) text)) ≡ whole
 next_part bulk choices text at n whole low all maximal same =
     let ends : drop n (drop (at + 1) text) ≡ drop (at + (1 + n)) text = drop-drop n (at + 1) text ∙ ap (λ m. drop m text) (omega arith) in
-    let none : NoDigitFirst (drop (at + (1 + n)) text) = let P : List ℕ → Type 0 = λ t. NoDigitFirst t in subst P ends (no_digit_at (drop (at + 1) text) n maximal) in
+    let none : NoDigitFirst (drop (at + (1 + n)) text) = let P : List ℕ
+    → Type 0 = λ t. NoDigitFirst t in subst P ends (no_digit_at (drop (at + 1) text) n maximal) in
     sym (part_read bulk choices (slice_index_or text at 0) (take n (drop (at + 1) text)) (drop (at + (1 + n)) text) all none)
     ∙ ap (λ t. after_whole bulk choices (parts_of t)) (sym (text_at text at n low)) ∙ same
 
@@ -143,7 +144,8 @@ digit_weight : (c : ℕ) → is_digit c ≡ true → digit_value c + 48 ≡ c
 digit_weight c e =
     let range : (48 ≤ c) × (c ≤ 57) = (grind (arith, nat_tests), grind (arith, nat_tests)) in digit_value_digit c range
 
-pub weight_at : (digits : List ℕ) (i : ℕ) → list_all is_digit digits ≡ true → i < length digits → digit_value (slice_index_or digits i 0) + 48 ≡ slice_index_or digits i 0
+pub weight_at : (digits : List ℕ) (i : ℕ) → list_all is_digit digits ≡ true → i < length digits
+    → digit_value (slice_index_or digits i 0) + 48 ≡ slice_index_or digits i 0
 weight_at [] i all low = absurd (omega (arith, low))
 weight_at (c ∷ more) zero all low = digit_weight c (two (is_digit c) (list_all is_digit more) all).0
 weight_at (c ∷ more) (suc i) all low = weight_at more i (two (is_digit c) (list_all is_digit more) all).1 (omega (arith, low))

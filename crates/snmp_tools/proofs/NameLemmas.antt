@@ -5,7 +5,8 @@ use Rattle.snmp_oid.specs.Numeric.{IsNumericName, IsTooLong}
 use Rattle.snmp_oid.specs.declared.numeric.OidTextError.{OidTextError}
 use Rattle.snmp_oid.specs.declared.numeric.OidTextError.TheVariants as error
 
-module _ (text : List ℕ) (r : Result (List ℕ) OidTextError) (only : (o : List ℕ) → IsNumericName text o → length o ≤ 128 → r ≡ Ok o) (long : IsTooLong text → r ≡ Err error.TooLong) where
+module _ (text : List ℕ) (r : Result (List ℕ) OidTextError) (only : (o : List ℕ) → IsNumericName text o → length o ≤ 128 → r ≡ Ok o) (long : IsTooLong text
+    → r ≡ Err error.TooLong) where
   by_length : (o : List ℕ) → IsNumericName text o → (r ≡ Ok o) ⊎ ((128 < length o) × (r ≡ Err error.TooLong))
   by_length o h = split (cases_lt 128 (length o))
     where

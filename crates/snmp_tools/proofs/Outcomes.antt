@@ -55,7 +55,8 @@ printed_front before after rows turned ending.NoResponse h = whole_first before 
 printed_front before after rows turned ending.Link h = whole_first before after (lines_of rows) (lines_of turned) h
 
 -- all the lines of a walk that is done
-printed_all : (before after : Stream) (rows turned : List VarBind) (count : ℕ) → IsPrintedUpTo before rows turned (ending.Done count) after → after ≡ extended before (lines_of rows)
+printed_all : (before after : Stream) (rows turned : List VarBind) (count : ℕ) → IsPrintedUpTo before rows turned (ending.Done count) after
+    → after ≡ extended before (lines_of rows)
 printed_all before after rows turned count h = h
 
 -- the whole text is lines, and what follows them
@@ -69,18 +70,21 @@ whole_text plan given turned more rows e =
 module _ (plan : Plan) (view : MibView) (agent : List ℕ) (before : Stream) (rows : List VarBind) (is : AreRowsOf plan view rows) where
   -- where the walk was done, what follows is the count line, or a front of it
   done_front : (given : List VarBind) (count : ℕ) (between after : Stream) (fault : Option Fault) → given ≡ rows → count ≡ length given
-      → between ≡ extended before (lines_of given) → IsFinished plan.counts agent (ending.Done count) between after fault → TakesFront before (text_of plan rows) after
+      → between ≡ extended before (lines_of given) → IsFinished plan.counts agent (ending.Done count) between after fault
+      → TakesFront before (text_of plan rows) after
   done_front given count between after fault whole counted printed (inl finish) =
       let text : after ≡ extended before (text_of plan rows) =
       finish.0 ∙ ap (λ (s : Stream). extended s (count_text plan.counts count)) printed ∙ extended-twice before (lines_of given) (count_text plan.counts count)
-      ∙ ap (λ (n : ℕ). extended before (lines_of given ++ count_text plan.counts n)) counted ∙ ap (λ (g : List VarBind). extended before (text_of plan g)) whole in
+      ∙ ap (λ (n : ℕ). extended before (lines_of given ++ count_text plan.counts n)) counted
+      ∙ ap (λ (g : List VarBind). extended before (text_of plan g)) whole in
       subst (λ (t : List ℕ). TakesFront before t after) (append-nil_of (text_of plan rows)) (whole_first before after (text_of plan rows) [] text)
     where
       append-nil_of : (t : List ℕ) → t ++ [] ≡ t
       append-nil_of [] = refl
       append-nil_of (x ∷ t) = ap (λ (m : List ℕ). x ∷ m) (append-nil_of t)
   done_front given count between after fault whole counted printed (inr (inl finish)) =
-      whole_first before after (lines_of rows) (count_text plan.counts (length rows)) (finish.0 ∙ printed ∙ ap (λ (g : List VarBind). extended before (lines_of g)) whole)
+      whole_first before after (lines_of rows) (count_text plan.counts (length rows)) (finish.0 ∙ printed
+      ∙ ap (λ (g : List VarBind). extended before (lines_of g)) whole)
   done_front given count between after fault whole counted printed (inr (inr finish)) =
       subst (λ (t : List ℕ). TakesFront before t after)
       (ap (λ (n : ℕ). lines_of given ++ count_text plan.counts n) counted ∙ ap (λ (g : List VarBind). text_of plan g) whole)
@@ -93,27 +97,39 @@ module _ (plan : Plan) (view : MibView) (agent : List ℕ) (before : Stream) (ro
       (front_of_longer before after (lines_of given ++ lines_of turned) (lines_of left.0 ++ count_text plan.counts (length rows))
       (subst (λ (s : Stream). TakesFront before (lines_of given ++ lines_of turned) s) (sym same) (printed_front before between given turned end printed)))
 
-  pub finished_front : (given turned : List VarBind) (end : WalkEnd) (between after : Stream) (fault : Option Fault) → IsPrintedUpTo before given turned end between
+  pub finished_front : (given turned : List VarBind) (end : WalkEnd) (between after : Stream) (fault : Option Fault)
+      → IsPrintedUpTo before given turned end between
       → IsFinished plan.counts agent end between after fault → Counts end (length given) → (IsDone end → given ≡ rows)
       → ((more : List VarBind) × (rows ≡ (given ++ turned) ++ more)) → TakesFront before (text_of plan rows) after
-  finished_front given turned (ending.Done count) between after fault printed finish counted whole left = done_front given count between after fault (whole tt) counted printed finish
-  finished_front given turned (ending.Sink why) between after fault printed finish counted whole left = end_front given turned (ending.Sink why) between after printed finish.0 left
-  finished_front given turned (ending.Fault status index) between after fault printed finish counted whole left = end_front given turned (ending.Fault status index) between after printed finish.0 left
-  finished_front given turned (ending.NoProgress asked) between after fault printed finish counted whole left = end_front given turned (ending.NoProgress asked) between after printed finish.0 left
-  finished_front given turned ending.BadReply between after fault printed finish counted whole left = end_front given turned ending.BadReply between after printed finish.0 left
+  finished_front given turned (ending.Done count) between after fault printed finish counted whole left = done_front given count between after fault
+      (whole tt) counted printed finish
+  finished_front given turned (ending.Sink why) between after fault printed finish counted whole left = end_front given turned
+      (ending.Sink why) between after printed finish.0 left
+  finished_front given turned (ending.Fault status index) between after fault printed finish counted whole left = end_front given turned
+      (ending.Fault status index) between after printed finish.0 left
+  finished_front given turned (ending.NoProgress asked) between after fault printed finish counted whole left = end_front given turned
+      (ending.NoProgress asked) between after printed finish.0 left
+  finished_front given turned ending.BadReply between after fault printed finish counted whole left = end_front given turned ending.BadReply between after
+      printed finish.0 left
   finished_front given turned (ending.NotIncreasing last got) between after fault printed finish counted whole left =
       end_front given turned (ending.NotIncreasing last got) between after printed finish.0 left
-  finished_front given turned ending.TooManyRequests between after fault printed finish counted whole left = end_front given turned ending.TooManyRequests between after printed finish.0 left
-  finished_front given turned ending.RequestTooLong between after fault printed finish counted whole left = end_front given turned ending.RequestTooLong between after printed finish.0 left
-  finished_front given turned ending.NoResponse between after fault printed finish counted whole left = end_front given turned ending.NoResponse between after printed finish.0 left
-  finished_front given turned ending.Link between after fault printed finish counted whole left = end_front given turned ending.Link between after printed finish.0 left
+  finished_front given turned ending.TooManyRequests between after fault printed finish counted whole left = end_front given turned ending.TooManyRequests
+      between after printed finish.0 left
+  finished_front given turned ending.RequestTooLong between after fault printed finish counted whole left = end_front given turned ending.RequestTooLong
+      between after printed finish.0 left
+  finished_front given turned ending.NoResponse between after fault printed finish counted whole left = end_front given turned ending.NoResponse between after
+      printed finish.0 left
+  finished_front given turned ending.Link between after fault printed finish counted whole left = end_front given turned ending.Link between after printed
+      finish.0 left
 
   -- no fault is reported of a walk alone that was done and printed whole
   pub finished_all : (given turned : List VarBind) (end : WalkEnd) (between after : Stream) → IsPrintedUpTo before given turned end between
-      → IsFinished plan.counts agent end between after None → Counts end (length given) → (IsDone end → given ≡ rows) → after ≡ extended before (text_of plan rows)
+      → IsFinished plan.counts agent end between after None → Counts end (length given) → (IsDone end → given ≡ rows)
+      → after ≡ extended before (text_of plan rows)
   finished_all given turned (ending.Done count) between after printed (inl finish) counted whole =
       finish.0 ∙ ap (λ (s : Stream). extended s (count_text plan.counts count)) printed ∙ extended-twice before (lines_of given) (count_text plan.counts count)
-      ∙ ap (λ (n : ℕ). extended before (lines_of given ++ count_text plan.counts n)) counted ∙ ap (λ (g : List VarBind). extended before (text_of plan g)) (whole tt)
+      ∙ ap (λ (n : ℕ). extended before (lines_of given ++ count_text plan.counts n)) counted
+      ∙ ap (λ (g : List VarBind). extended before (text_of plan g)) (whole tt)
   finished_all given turned (ending.Done count) between after printed (inr (inl finish)) counted whole = let e = finish.1 in let no : ⊥ = cc in absurd no
   finished_all given turned (ending.Done count) between after printed (inr (inr finish)) counted whole = let e = finish.1 in let no : ⊥ = cc in absurd no
   finished_all given turned (ending.Sink why) between after printed finish counted whole = let e = finish.1 in let no : ⊥ = cc in absurd no

@@ -88,7 +88,8 @@ goes_after (Some other) after text root h e can =
     (h.0, subst (λ (t : List ℕ). IsNumericName t h.0) same h.1.name, go.0, go.1)
 
 module _ (no_fault : (ls : List (List ℕ)) (view : MibView) (fault : TableError) → IsTableOf ls view → IsFirstFault ls fault → fault ≡ table_error.Memory)
-    (bulk : Bool) (words : WalkWords) (files : Holdings) (rows : List VarBind) (walk : IsWalk bulk words files rows) (can : IsFeasible walk.plan walk.view) where
+    (bulk : Bool) (words : WalkWords) (files : Holdings) (rows : List VarBind) (walk : IsWalk bulk words files rows)
+    (can : IsFeasible walk.plan walk.view) where
   unreadable_not : (held : Option (Option (List ℕ))) → held ≡ Some (Some walk.text) → HoldsIfKnown held None → ⊥
   unreadable_not None e k = let no : ⊥ = cc in no
   unreadable_not (Some x) e k = let no : ⊥ = cc in no

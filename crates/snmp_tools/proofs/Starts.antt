@@ -24,13 +24,15 @@ module _ (one_name : (text o p : List ℕ) → IsNumericName text o → IsNumeri
     (bulk : Bool) (words : WalkWords) (files : Holdings) (plan : Plan) (asked : AskFor bulk words plan) where
   pub table_refused : (why : Fault) → TableFails (files plan.path) plan.path why → IsRefusal bulk words files why
   table_refused why f =
-      at_table bulk words files why asked.version asked.letters (asked.choices, asked.chosen) asked.short_community (plan.path, asked.agent) (plan.root, asked.root)
+      at_table bulk words files why asked.version asked.letters (asked.choices, asked.chosen) asked.short_community (plan.path, asked.agent)
+      (plan.root, asked.root)
       (plan.after, asked.after) (plan.path, asked.agent, f)
 
   module _ (text : List ℕ) (view : MibView) (held : HoldsIfKnown (files plan.path) (Some text)) (table : IsTableOf (lines text) view) where
     pub start_refused : (why : Fault) → StartFails plan (root_text words) (unwrap_or words.after []) why → IsRefusal bulk words files why
     start_refused why (inl f) =
-        at_root_sent bulk words files why asked.version asked.letters (asked.choices, asked.chosen) asked.short_community (plan.path, asked.agent) (plan.root, asked.root)
+        at_root_sent bulk words files why asked.version asked.letters (asked.choices, asked.chosen) asked.short_community (plan.path, asked.agent)
+        (plan.root, asked.root)
         (plan.after, asked.after) (plan.path, text, view, asked.agent, held, table)
         ((λ o name wire_o. f.0 (subst (λ (x : List ℕ). IsWire (wire x)) (one_name (root_text words) o plan.root name asked.root.name) wire_o)), f.1)
     start_refused why (inr f) = resumed (f.1.2)
@@ -43,16 +45,19 @@ module _ (one_name : (text o p : List ℕ) → IsNumericName text o → IsNumeri
 
         resumed : ResumeFails plan.root f.1.0 (unwrap_or words.after []) why → IsRefusal bulk words files why
         resumed (inl g) =
-            at_after_below bulk words files why asked.version asked.letters (asked.choices, asked.chosen) asked.short_community (plan.path, asked.agent) (plan.root, asked.root)
+            at_after_below bulk words files why asked.version asked.letters (asked.choices, asked.chosen) asked.short_community (plan.path, asked.agent)
+            (plan.root, asked.root)
             (plan.after, asked.after) (plan.path, text, view, asked.agent, held, table) (plan.root, asked.root, f.0) (
               unwrap_or words.after [],
               given.0,
-              (λ o p name_o name_p below. g.0 (subst (λ (x : List ℕ). (x ≡ plan.root) ⊎ IsBelow x plan.root) (one_name (unwrap_or words.after []) p f.1.0 name_p given.1.name)
+              (λ o p name_o name_p below. g.0 (subst (λ (x : List ℕ). (x ≡ plan.root)
+                  ⊎ IsBelow x plan.root) (one_name (unwrap_or words.after []) p f.1.0 name_p given.1.name)
                   (subst (λ (x : List ℕ). (p ≡ x) ⊎ IsBelow p x) (one_name (root_text words) o plan.root name_o asked.root.name) below))),
               g.1,
             )
         resumed (inr g) =
-            at_after_sent bulk words files why asked.version asked.letters (asked.choices, asked.chosen) asked.short_community (plan.path, asked.agent) (plan.root, asked.root)
+            at_after_sent bulk words files why asked.version asked.letters (asked.choices, asked.chosen) asked.short_community (plan.path, asked.agent)
+            (plan.root, asked.root)
             (plan.after, asked.after) (plan.path, text, view, asked.agent, held, table) (plan.root, asked.root, f.0)
             (plan.root, unwrap_or words.after [], f.1.0, asked.root, given.0, given.1, g.0) (
               unwrap_or words.after [],

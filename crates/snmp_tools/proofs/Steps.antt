@@ -28,13 +28,52 @@ module _ (bulk : Bool) (words : WalkWords) (files : Holdings) (why : Fault) wher
   at_letters v f = inr (record { done = take 1 walk_steps; failed = letters_step; left = drop 2 walk_steps; order = refl; are_done = (v, tt); fails = f })
 
   pub at_choices : Done version_step → Done letters_step → Fails choices_step → Refused
-  at_choices v l f = inr (record { done = take 2 walk_steps; failed = choices_step; left = drop 3 walk_steps; order = refl; are_done = (v, (l, tt)); fails = f })
+  at_choices v l f = inr (record {
+    done = take 2 walk_steps;
+    failed = choices_step;
+    left = drop 3 walk_steps;
+    order = refl;
+    are_done = (
+      v,
+      (l, tt),
+    );
+    fails = f;
+  })
 
   pub at_community : Done version_step → Done letters_step → Done choices_step → Fails community_step → Refused
-  at_community v l c f = inr (record { done = take 3 walk_steps; failed = community_step; left = drop 4 walk_steps; order = refl; are_done = (v, (l, (c, tt))); fails = f })
+  at_community v l c f = inr (record {
+    done = take 3 walk_steps;
+    failed = community_step;
+    left = drop 4 walk_steps;
+    order = refl;
+    are_done = (
+      v,
+      (
+        l,
+        (c, tt),
+      ),
+    );
+    fails = f;
+  })
 
   pub at_agent : Done version_step → Done letters_step → Done choices_step → Done community_step → Fails agent_step → Refused
-  at_agent v l c s f = inr (record { done = take 4 walk_steps; failed = agent_step; left = drop 5 walk_steps; order = refl; are_done = (v, (l, (c, (s, tt)))); fails = f })
+  at_agent v l c s f = inr (record {
+    done = take 4 walk_steps;
+    failed = agent_step;
+    left = drop 5 walk_steps;
+    order = refl;
+    are_done = (
+      v,
+      (
+        l,
+        (
+          c,
+          (s, tt),
+        ),
+      ),
+    );
+    fails = f;
+  })
 
   pub at_root : Done version_step → Done letters_step → Done choices_step → Done community_step → Done agent_step → Fails root_step → Refused
   at_root v l c s a f =
@@ -42,17 +81,92 @@ module _ (bulk : Bool) (words : WalkWords) (files : Holdings) (why : Fault) wher
 
   pub at_after : Done version_step → Done letters_step → Done choices_step → Done community_step → Done agent_step → Done root_step → Fails after_step → Refused
   at_after v l c s a r f =
-      inr (record { done = take 6 walk_steps; failed = after_step; left = drop 7 walk_steps; order = refl; are_done = (v, (l, (c, (s, (a, (r, tt)))))); fails = f })
+      inr (record {
+        done = take 6 walk_steps;
+        failed = after_step;
+        left = drop 7 walk_steps;
+        order = refl;
+        are_done = (
+          v,
+          (
+            l,
+            (
+              c,
+              (
+                s,
+                (
+                  a,
+                  (r, tt),
+                ),
+              ),
+            ),
+          ),
+        );
+        fails = f;
+      })
 
   pub at_table : Done version_step → Done letters_step → Done choices_step → Done community_step → Done agent_step → Done root_step → Done after_step
       → Fails table_step → Refused
   at_table v l c s a r p f =
-      inr (record { done = take 7 walk_steps; failed = table_step; left = drop 8 walk_steps; order = refl; are_done = (v, (l, (c, (s, (a, (r, (p, tt))))))); fails = f })
+      inr (record {
+        done = take 7 walk_steps;
+        failed = table_step;
+        left = drop 8 walk_steps;
+        order = refl;
+        are_done = (
+          v,
+          (
+            l,
+            (
+              c,
+              (
+                s,
+                (
+                  a,
+                  (
+                    r,
+                    (p, tt),
+                  ),
+                ),
+              ),
+            ),
+          ),
+        );
+        fails = f;
+      })
 
   pub at_root_sent : Done version_step → Done letters_step → Done choices_step → Done community_step → Done agent_step → Done root_step → Done after_step
       → Done table_step → Fails root_sent_step → Refused
   at_root_sent v l c s a r p t f =
-      inr (record { done = take 8 walk_steps; failed = root_sent_step; left = drop 9 walk_steps; order = refl; are_done = (v, (l, (c, (s, (a, (r, (p, (t, tt)))))))); fails = f })
+      inr (record {
+        done = take 8 walk_steps;
+        failed = root_sent_step;
+        left = drop 9 walk_steps;
+        order = refl;
+        are_done = (
+          v,
+          (
+            l,
+            (
+              c,
+              (
+                s,
+                (
+                  a,
+                  (
+                    r,
+                    (
+                      p,
+                      (t, tt),
+                    ),
+                  ),
+                ),
+              ),
+            ),
+          ),
+        );
+        fails = f;
+      })
 
   pub at_after_below : Done version_step → Done letters_step → Done choices_step → Done community_step → Done agent_step → Done root_step → Done after_step
       → Done table_step → Done root_sent_step → Fails after_below_step → Refused

@@ -30,7 +30,8 @@ own_end ending.RequestTooLong s = absurd s
 own_end ending.NoResponse s = absurd s
 
 -- the same of the end that is reported
-lawful_in : (plan : Plan) (view : MibView) (core : Walker) (rows : List VarBind) (end : WalkEnd) → IsLawfulEnd (agent_over plan view) (HasNone (agent_over plan view)) core rows end
+lawful_in : (plan : Plan) (view : MibView) (core : Walker) (rows : List VarBind) (end : WalkEnd)
+    → IsLawfulEnd (agent_over plan view) (HasNone (agent_over plan view)) core rows end
     → IsLawfulEnd (agent_over plan view) (HasNone (agent_over plan view)) core rows (end_in_memory end)
 lawful_in plan view core rows (ending.Done n) h = h
 lawful_in plan view core rows (ending.Sink fault) h = h
@@ -43,7 +44,8 @@ lawful_in plan view core rows ending.TooManyRequests h = h
 lawful_in plan view core rows ending.RequestTooLong h = h
 lawful_in plan view core rows ending.NoResponse h = h
 
-pub printed_in : (before after : Stream) (rows refused : List VarBind) (end : WalkEnd) → IsPrintedUpTo before rows refused end after → IsPrintedUpTo before rows refused (end_in_memory end) after
+pub printed_in : (before after : Stream) (rows refused : List VarBind) (end : WalkEnd) → IsPrintedUpTo before rows refused end after
+    → IsPrintedUpTo before rows refused (end_in_memory end) after
 printed_in before after rows refused (ending.Done n) h = h
 printed_in before after rows refused (ending.Sink fault) h = h
 printed_in before after rows refused ending.Link h = h
@@ -126,5 +128,6 @@ module _ (plan : Plan) (view : MibView) (core : Walker) (good : IsMibView view) 
     complete = λ room ids.
         let b = one core.asked in
         own_end end (facts.done_unless_stopped view b.0 refl b.1
-        (subst (λ (c : Walker). HasRoomForEach (agent_over plan view) view c) (sym from.is) room) (subst (λ (c : Walker). HasIds c view) (sym from.is) ids) none);
+        (subst (λ (c : Walker). HasRoomForEach (agent_over plan view) view c) (sym from.is) room) (subst (λ (c : Walker). HasIds c view)
+        (sym from.is) ids) none);
   }

@@ -44,7 +44,8 @@ AreRowsAfter None plan view rows = (got : VarBind) × IsGet view (wire plan.root
 AreRowsAfter (Some after) plan view rows = rows ≡ rest_of plan.root (wire after) (variables view)
 
 -- The rows of the walk over a table: those below the root by rising names, where there are none the
--- answer to a Get of the root, and before them the root's own, as the mode says; of a walk that goes
+-- answer to a Get of the root, and before them the root's own, as the mode says; of a walk that
+-- goes
 -- on after a name, those below the root and above that name.
 abbrev pub AreRowsOf : Plan → MibView → List VarBind → Type 0
 AreRowsOf plan view rows = AreRowsAfter plan.after plan view rows

@@ -1,5 +1,32 @@
 -- What follows of a command that has a stated shape.
-use Rattle.std.proofs.Common.{◌≡◌, ◌⊎◌, ◌&&◌, ap, refl, sym, inl, inr, true, false, not, true≢false, Bool, List, [], ◌∷◌, Option, Some, None, cond, option_map, IsSome, is_some, codes, find, ◌∙◌}
+use Rattle.std.proofs.Common.{
+  ◌≡◌,
+  ◌⊎◌,
+  ◌&&◌,
+  ap,
+  refl,
+  sym,
+  inl,
+  inr,
+  true,
+  false,
+  not,
+  true≢false,
+  Bool,
+  List,
+  [],
+  ◌∷◌,
+  Option,
+  Some,
+  None,
+  cond,
+  option_map,
+  IsSome,
+  is_some,
+  codes,
+  find,
+  ◌∙◌,
+}
 use Rattle.clap.specs.Simple.{App, built, Shape, argument_words, entered, label_of, names_of, rows_at}
 use Rattle.clap.specs.Walk.{Row, Text, answers_to, stop_after}
 use Rattle.clap.specs.Kinds.{IsAmong, Kinds}

@@ -1,6 +1,29 @@
 -- What the words of a command line state: the command, and the texts and numbers that they give it.
-use Rattle.std.specs.Prelude.{◌≡◌, ◌≢◌, ⊤, ◌++◌, ℕ, Bool, true, false, List, [], ◌∷◌, Option, Some, None}
-use Rattle.std.specs.Prelude.{string_bytes, codes, unwrap_or, option_and_then, option_map, if◌then◌else◌, map}
+use Rattle.std.specs.Prelude.{
+  ◌≡◌,
+  ◌≢◌,
+  ⊤,
+  ◌++◌,
+  ℕ,
+  Bool,
+  true,
+  false,
+  List,
+  [],
+  ◌∷◌,
+  Option,
+  Some,
+  None,
+}
+use Rattle.std.specs.Prelude.{
+  string_bytes,
+  codes,
+  unwrap_or,
+  option_and_then,
+  option_map,
+  if◌then◌else◌,
+  map,
+}
 use Rattle.std.specs.List.{flat_map}
 use Rattle.std.specs.Str.{bytes_eq}
 use Rattle.std.specs.Str.Parse.{digits_value, without_leading_plus}
@@ -58,7 +81,8 @@ text_or id default rows = unwrap_or (first_of id rows) default
 -- the number that a text of decimal digits writes, where it is in the range
 abbrev pub number_in : (low high : ℕ) → Text → Option ℕ
 number_in low high text =
-    if is_unsigned_in low high text then Some (digits_value 10 (without_leading_plus text)) else None
+    if is_unsigned_in low high text then Some (digits_value 10
+    (without_leading_plus text)) else None
 
 -- the number given for an id, or this one where none was
 abbrev pub number_of : Text → (default low high : ℕ) → List Row → ℕ

@@ -14,7 +14,8 @@ use std::alloc::{AllocError, Global};
 /// The job of the subcommand that was met.
 pub(crate) fn job_of<'a>(alloc: Global, matches: &ArgMatches<'a>) -> Result<Job<'a>, AllocError>
     requires { IsSome (stated_in (subcommand_rows_of matches.now)) }
-    ensures { IfOk result (λ job. stated_in (subcommand_rows_of matches.now) ≡ Some (job_words job)) }
+    ensures { IfOk result
+        (λ job. stated_in (subcommand_rows_of matches.now) ≡ Some (job_words job)) }
 {
     let Some((command, given)) = matches.subcommand() else {
         unreachable!()

@@ -5,7 +5,8 @@ use Rattle.snmp_io.proofs.output.write_all.Goals as goal
 
 pub returns-in_err-written-clause-front_at_fault : goal.returns-in_err-written-clause-front_at_fault
 returns-in_err-written-clause-front_at_fault g c =
-    let cut = fails_after_front (g.O.Output.stream c.args.out.now) (g.O.Output.stream c.pieces.out) (g.O.Output.stream c.write.new.self) c.pieces.written c.args.text.now c.pieces.invariant.taken
+    let cut = fails_after_front (g.O.Output.stream c.args.out.now) (g.O.Output.stream c.pieces.out)
+    (g.O.Output.stream c.write.new.self) c.pieces.written c.args.text.now c.pieces.invariant.taken
     c.in_err-written.ensures.none_taken_at_fault c.in_err-written.ensures.fault_counted in
     search (rules, cut)
 

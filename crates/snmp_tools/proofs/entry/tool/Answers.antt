@@ -11,7 +11,8 @@ one_job : (a b : Stated) (stated : Option Stated) → stated ≡ Some a → stat
 one_job a b stated e f = cc
 
 pub returns-in-Ok-clause-all_written_at_status_0 : goal.returns-in-Ok-clause-all_written_at_status_0
-returns-in-Ok-clause-all_written_at_status_0 g c = λ bulk w taken stated. c.run_job.ensures.all_written_at_status_0 bulk w (one_job _ _ _ c.in-Ok.ensures.job stated)
+returns-in-Ok-clause-all_written_at_status_0 g c = λ bulk w taken stated. c.run_job.ensures.all_written_at_status_0 bulk w
+    (one_job _ _ _ c.in-Ok.ensures.job stated)
 
 pub returns-in-Ok-clause-ends_at_status_0 : goal.returns-in-Ok-clause-ends_at_status_0
 returns-in-Ok-clause-ends_at_status_0 g c = λ bulk w taken stated. c.run_job.ensures.ends_at_status_0 bulk w (one_job _ _ _ c.in-Ok.ensures.job stated)
@@ -24,4 +25,5 @@ returns-in-Err-Memory-clause-outcome_reported g c = λ bulk w taken stated. reco
 }
 
 pub returns-in-Err-Memory-clause-front_written : goal.returns-in-Err-Memory-clause-front_written
-returns-in-Err-Memory-clause-front_written g c = λ bulk w taken stated. refused_front bulk w (g.F.Files.text_at c.args.files.now) (g.O.Output.stream c.args.out.now.out)
+returns-in-Err-Memory-clause-front_written g c = λ bulk w taken stated. refused_front bulk w (g.F.Files.text_at c.args.files.now)
+    (g.O.Output.stream c.args.out.now.out)

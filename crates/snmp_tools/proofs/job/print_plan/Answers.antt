@@ -16,9 +16,11 @@ returns-clause-done g c =
     let given = c.print_walk-end.ensures.given in
     let traffic = c.new-link.ensures.traffic in
     let tries = c.args.asking.now.retries + 1 in
-    let facts = subst (λ (a : Agents). WalkFacts a tries (traffic_of c.new-link.result) c.args.core given.0 given.1 c.print_walk-end.result (traffic_of c.print_walk-end.new.link)) c.new-link.ensures.agents
+    let facts = subst (λ (a : Agents). WalkFacts a tries (traffic_of c.new-link.result) c.args.core given.0 given.1 c.print_walk-end.result
+    (traffic_of c.print_walk-end.new.link)) c.new-link.ensures.agents
     (given.3 (c.new-link.ensures.honest c.is_mib_view.ensures) (ap (λ (t : Traffic). t.sent) traffic)) in
-    let walked = is_walked (plan_of c.args.plan.now) c.args.table.now c.args.core c.is_mib_view.ensures (c.one_answer.ensures.get c.args.table.now) c.requires tries (traffic_of c.new-link.result)
+    let walked = is_walked (plan_of c.args.plan.now) c.args.table.now c.args.core c.is_mib_view.ensures
+    (c.one_answer.ensures.get c.args.table.now) c.requires tries (traffic_of c.new-link.result)
     (traffic_of c.print_walk-end.new.link) given.0 given.1 c.print_walk-end.result facts (ap (λ (t : Traffic). t.ahead) traffic) in
     on_ok_weaker c.finish.result (λ f. record {
       given = given.0;
@@ -27,7 +29,8 @@ returns-clause-done g c =
       between = g.O.Output.stream c.print_walk-end.new.out.out;
       is_walked = walked;
       lines = printed_in _ _ given.0 given.1 c.print_walk-end.result given.2;
-      finish = subst (λ (e : WalkEnd). IsFinished c.args.plan.now.counts c.args.asking.now.agent.now e (g.O.Output.stream c.print_walk-end.new.out.out) (g.O.Output.stream c.finish.new.out.out) None) c.end_in_memory.ensures f;
+      finish = subst (λ (e : WalkEnd). IsFinished c.args.plan.now.counts c.args.asking.now.agent.now e (g.O.Output.stream c.print_walk-end.new.out.out)
+          (g.O.Output.stream c.finish.new.out.out) None) c.end_in_memory.ensures f;
     }) c.finish.ensures.done
 
 pub returns-clause-failed : goal.returns-clause-failed
@@ -35,9 +38,11 @@ returns-clause-failed g c =
     let given = c.print_walk-end.ensures.given in
     let traffic = c.new-link.ensures.traffic in
     let tries = c.args.asking.now.retries + 1 in
-    let facts = subst (λ (a : Agents). WalkFacts a tries (traffic_of c.new-link.result) c.args.core given.0 given.1 c.print_walk-end.result (traffic_of c.print_walk-end.new.link)) c.new-link.ensures.agents
+    let facts = subst (λ (a : Agents). WalkFacts a tries (traffic_of c.new-link.result) c.args.core given.0 given.1 c.print_walk-end.result
+    (traffic_of c.print_walk-end.new.link)) c.new-link.ensures.agents
     (given.3 (c.new-link.ensures.honest c.is_mib_view.ensures) (ap (λ (t : Traffic). t.sent) traffic)) in
-    let walked = is_walked (plan_of c.args.plan.now) c.args.table.now c.args.core c.is_mib_view.ensures (c.one_answer.ensures.get c.args.table.now) c.requires tries (traffic_of c.new-link.result)
+    let walked = is_walked (plan_of c.args.plan.now) c.args.table.now c.args.core c.is_mib_view.ensures
+    (c.one_answer.ensures.get c.args.table.now) c.requires tries (traffic_of c.new-link.result)
     (traffic_of c.print_walk-end.new.link) given.0 given.1 c.print_walk-end.result facts (ap (λ (t : Traffic). t.ahead) traffic) in
     IfErr-weaker c.finish.result _ _ (λ e f. record {
       given = given.0;
@@ -46,5 +51,6 @@ returns-clause-failed g c =
       between = g.O.Output.stream c.print_walk-end.new.out.out;
       is_walked = walked;
       lines = printed_in _ _ given.0 given.1 c.print_walk-end.result given.2;
-      finish = subst (λ (w : WalkEnd). IsFinished c.args.plan.now.counts c.args.asking.now.agent.now w (g.O.Output.stream c.print_walk-end.new.out.out) (g.O.Output.stream c.finish.new.out.out) (Some (fault_of e))) c.end_in_memory.ensures f;
+      finish = subst (λ (w : WalkEnd). IsFinished c.args.plan.now.counts c.args.asking.now.agent.now w (g.O.Output.stream c.print_walk-end.new.out.out)
+          (g.O.Output.stream c.finish.new.out.out) (Some (fault_of e))) c.end_in_memory.ensures f;
     }) c.finish.ensures.failed

@@ -11,7 +11,8 @@ pub returns-in-Walk-clause-front_written : goal.returns-in-Walk-clause-front_wri
 returns-in-Walk-clause-front_written g c = λ bulk words is.
     let stated = subst (λ (j : Job). IsWalkJob j bulk words) c.in-Walk.is is in
     let run = one_by_one (walk_words c.in-Walk.walk) bulk words
-    (λ b w. IsRun b w (g.F.Files.text_at c.args.files.now) (g.O.Output.stream c.args.out.now.out) (g.O.Output.stream c.do_walk.new.out.out) (g.E.Output.stream c.args.err.now) (g.E.Output.stream c.do_walk.new.err) c.do_walk.result)
+    (λ b w. IsRun b w (g.F.Files.text_at c.args.files.now) (g.O.Output.stream c.args.out.now.out) (g.O.Output.stream c.do_walk.new.out.out)
+    (g.E.Output.stream c.args.err.now) (g.E.Output.stream c.do_walk.new.err) c.do_walk.result)
     stated c.do_walk.ensures in
     writes_front c.names.ensures.at_most_one c.one_table.ensures c.no_fault.ensures bulk words (g.F.Files.text_at c.args.files.now) _ _ _ _ c.do_walk.result run
 
@@ -19,7 +20,8 @@ pub returns-in-Walk-clause-all_written_at_status_0 : goal.returns-in-Walk-clause
 returns-in-Walk-clause-all_written_at_status_0 g c = λ bulk words is.
     let stated = subst (λ (j : Job). IsWalkJob j bulk words) c.in-Walk.is is in
     let run = one_by_one (walk_words c.in-Walk.walk) bulk words
-    (λ b w. IsRun b w (g.F.Files.text_at c.args.files.now) (g.O.Output.stream c.args.out.now.out) (g.O.Output.stream c.do_walk.new.out.out) (g.E.Output.stream c.args.err.now) (g.E.Output.stream c.do_walk.new.err) c.do_walk.result)
+    (λ b w. IsRun b w (g.F.Files.text_at c.args.files.now) (g.O.Output.stream c.args.out.now.out) (g.O.Output.stream c.do_walk.new.out.out)
+    (g.E.Output.stream c.args.err.now) (g.E.Output.stream c.do_walk.new.err) c.do_walk.result)
     stated c.do_walk.ensures in
     writes_all c.names.ensures.at_most_one c.one_table.ensures c.no_fault.ensures bulk words (g.F.Files.text_at c.args.files.now) _ _ _ _ c.do_walk.result run
 
@@ -27,7 +29,8 @@ pub returns-in-Walk-clause-ends_at_status_0 : goal.returns-in-Walk-clause-ends_a
 returns-in-Walk-clause-ends_at_status_0 g c = λ bulk words is.
     let stated = subst (λ (j : Job). IsWalkJob j bulk words) c.in-Walk.is is in
     let run = one_by_one (walk_words c.in-Walk.walk) bulk words
-    (λ b w. IsRun b w (g.F.Files.text_at c.args.files.now) (g.O.Output.stream c.args.out.now.out) (g.O.Output.stream c.do_walk.new.out.out) (g.E.Output.stream c.args.err.now) (g.E.Output.stream c.do_walk.new.err) c.do_walk.result)
+    (λ b w. IsRun b w (g.F.Files.text_at c.args.files.now) (g.O.Output.stream c.args.out.now.out) (g.O.Output.stream c.do_walk.new.out.out)
+    (g.E.Output.stream c.args.err.now) (g.E.Output.stream c.do_walk.new.err) c.do_walk.result)
     stated c.do_walk.ensures in
     ends_at_0 c.names.ensures.at_most_one c.one_table.ensures c.no_fault.ensures bulk words (g.F.Files.text_at c.args.files.now) _ _ _ _ c.do_walk.result run
 
@@ -35,22 +38,28 @@ pub returns-in-BulkWalk-clause-front_written : goal.returns-in-BulkWalk-clause-f
 returns-in-BulkWalk-clause-front_written g c = λ bulk words is.
     let stated = subst (λ (j : Job). IsWalkJob j bulk words) c.in-BulkWalk.is is in
     let run = many_at_a_time (walk_words c.in-BulkWalk.walk) bulk words
-    (λ b w. IsRun b w (g.F.Files.text_at c.args.files.now) (g.O.Output.stream c.args.out.now.out) (g.O.Output.stream c.do_walk-in-BulkWalk.new.out.out) (g.E.Output.stream c.args.err.now) (g.E.Output.stream c.do_walk-in-BulkWalk.new.err) c.do_walk-in-BulkWalk.result)
+    (λ b w. IsRun b w (g.F.Files.text_at c.args.files.now) (g.O.Output.stream c.args.out.now.out) (g.O.Output.stream c.do_walk-in-BulkWalk.new.out.out)
+    (g.E.Output.stream c.args.err.now) (g.E.Output.stream c.do_walk-in-BulkWalk.new.err) c.do_walk-in-BulkWalk.result)
     stated c.do_walk-in-BulkWalk.ensures in
-    writes_front c.names.ensures.at_most_one c.one_table.ensures c.no_fault.ensures bulk words (g.F.Files.text_at c.args.files.now) _ _ _ _ c.do_walk-in-BulkWalk.result run
+    writes_front c.names.ensures.at_most_one c.one_table.ensures c.no_fault.ensures bulk words
+    (g.F.Files.text_at c.args.files.now) _ _ _ _ c.do_walk-in-BulkWalk.result run
 
 pub returns-in-BulkWalk-clause-all_written_at_status_0 : goal.returns-in-BulkWalk-clause-all_written_at_status_0
 returns-in-BulkWalk-clause-all_written_at_status_0 g c = λ bulk words is.
     let stated = subst (λ (j : Job). IsWalkJob j bulk words) c.in-BulkWalk.is is in
     let run = many_at_a_time (walk_words c.in-BulkWalk.walk) bulk words
-    (λ b w. IsRun b w (g.F.Files.text_at c.args.files.now) (g.O.Output.stream c.args.out.now.out) (g.O.Output.stream c.do_walk-in-BulkWalk.new.out.out) (g.E.Output.stream c.args.err.now) (g.E.Output.stream c.do_walk-in-BulkWalk.new.err) c.do_walk-in-BulkWalk.result)
+    (λ b w. IsRun b w (g.F.Files.text_at c.args.files.now) (g.O.Output.stream c.args.out.now.out) (g.O.Output.stream c.do_walk-in-BulkWalk.new.out.out)
+    (g.E.Output.stream c.args.err.now) (g.E.Output.stream c.do_walk-in-BulkWalk.new.err) c.do_walk-in-BulkWalk.result)
     stated c.do_walk-in-BulkWalk.ensures in
-    writes_all c.names.ensures.at_most_one c.one_table.ensures c.no_fault.ensures bulk words (g.F.Files.text_at c.args.files.now) _ _ _ _ c.do_walk-in-BulkWalk.result run
+    writes_all c.names.ensures.at_most_one c.one_table.ensures c.no_fault.ensures bulk words
+    (g.F.Files.text_at c.args.files.now) _ _ _ _ c.do_walk-in-BulkWalk.result run
 
 pub returns-in-BulkWalk-clause-ends_at_status_0 : goal.returns-in-BulkWalk-clause-ends_at_status_0
 returns-in-BulkWalk-clause-ends_at_status_0 g c = λ bulk words is.
     let stated = subst (λ (j : Job). IsWalkJob j bulk words) c.in-BulkWalk.is is in
     let run = many_at_a_time (walk_words c.in-BulkWalk.walk) bulk words
-    (λ b w. IsRun b w (g.F.Files.text_at c.args.files.now) (g.O.Output.stream c.args.out.now.out) (g.O.Output.stream c.do_walk-in-BulkWalk.new.out.out) (g.E.Output.stream c.args.err.now) (g.E.Output.stream c.do_walk-in-BulkWalk.new.err) c.do_walk-in-BulkWalk.result)
+    (λ b w. IsRun b w (g.F.Files.text_at c.args.files.now) (g.O.Output.stream c.args.out.now.out) (g.O.Output.stream c.do_walk-in-BulkWalk.new.out.out)
+    (g.E.Output.stream c.args.err.now) (g.E.Output.stream c.do_walk-in-BulkWalk.new.err) c.do_walk-in-BulkWalk.result)
     stated c.do_walk-in-BulkWalk.ensures in
-    ends_at_0 c.names.ensures.at_most_one c.one_table.ensures c.no_fault.ensures bulk words (g.F.Files.text_at c.args.files.now) _ _ _ _ c.do_walk-in-BulkWalk.result run
+    ends_at_0 c.names.ensures.at_most_one c.one_table.ensures c.no_fault.ensures bulk words
+    (g.F.Files.text_at c.args.files.now) _ _ _ _ c.do_walk-in-BulkWalk.result run

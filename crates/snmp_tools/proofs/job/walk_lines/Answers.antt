@@ -11,7 +11,8 @@ use Rattle.snmp_tools.proofs.Starts.{start_refused, table_refused}
 use Rattle.snmp_tools.proofs.Steps.{text_or}
 use Rattle.snmp_tools.proofs.job.walk_lines.Goals as goal
 
-table_or_want : (one_name : (text o p : List ℕ) → IsNumericName text o → IsNumericName text p → o ≡ p) (bulk : Bool) (words : WalkWords) (files : Holdings) (plan : Plan)
+table_or_want : (one_name : (text o p : List ℕ) → IsNumericName text o → IsNumericName text p
+    → o ≡ p) (bulk : Bool) (words : WalkWords) (files : Holdings) (plan : Plan)
     → AskFor bulk words plan → (why : Fault) → (why ≡ out_of_memory) ⊎ TableFails (files plan.path) plan.path why → IsRefusal bulk words files why
 table_or_want one_name bulk words files plan asked why (inl e) = inl e
 table_or_want one_name bulk words files plan asked why (inr f) = table_refused one_name bulk words files plan asked why f
@@ -22,7 +23,8 @@ returns-in-Err-clause-failed g c = refused (fault_of c.in-Err.failure) (c.in-Err
 pub returns-in-Err-table_at-clause-failed : goal.returns-in-Err-table_at-clause-failed
 returns-in-Err-table_at-clause-failed g c =
     refused (fault_of c.in-Err-table_at.failure)
-    (table_or_want c.names.ensures.at_most_one c.args.bulk (walk_words c.args.walk.now) (g.F.Files.text_at c.args.files.now) (plan_of c.in-Ok.plan) c.in-Ok.ensures.asked
+    (table_or_want c.names.ensures.at_most_one c.args.bulk (walk_words c.args.walk.now) (g.F.Files.text_at c.args.files.now)
+    (plan_of c.in-Ok.plan) c.in-Ok.ensures.asked
     (fault_of c.in-Err-table_at.failure) c.in-Err-table_at.ensures.err)
     refl refl
 
@@ -35,7 +37,8 @@ returns-in-Err-start-clause-failed g c =
     ap (λ (s : Bor (List ℕ)). s.now) c.unwrap_or.ensures ∙ text_or c.args.walk.now.after _ in
     let why = fault_of c.in-Err-start.failure in
     refused why
-    (start_refused c.names.ensures.at_most_one c.args.bulk (walk_words c.args.walk.now) (g.F.Files.text_at c.args.files.now) (plan_of c.in-Ok.plan) c.in-Ok.ensures.asked
+    (start_refused c.names.ensures.at_most_one c.args.bulk (walk_words c.args.walk.now) (g.F.Files.text_at c.args.files.now)
+    (plan_of c.in-Ok.plan) c.in-Ok.ensures.asked
     stated.0 _ stated.1 stated.2 why
     (subst (λ (t : List ℕ). StartFails (plan_of c.in-Ok.plan) (root_text (walk_words c.args.walk.now)) t why) after
     (subst (λ (t : List ℕ). StartFails (plan_of c.in-Ok.plan) t c.unwrap_or.result.now why) root c.in-Err-start.ensures.err)))

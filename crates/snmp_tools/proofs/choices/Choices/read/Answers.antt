@@ -10,7 +10,8 @@ parts-preserved c =
     let text = c.as_bytes-letters.result.now in
     let at = c.parts.at in
     let n = c.front_digits-digits.result in
-    let read = next_part_in c.args.bulk (chosen c.parts.choices) text (take (length text - (at + 1)) (drop (at + 1) text)) at n (choices_of c.args.bulk c.args.letters.now)
+    let read = next_part_in c.args.bulk (chosen c.parts.choices) text (take (length text - (at + 1)) (drop (at + 1) text)) at n
+    (choices_of c.args.bulk c.args.letters.now)
     c.parts-test.true refl c.front_digits-digits.ensures.digits c.front_digits-digits.ensures.maximal c.parts.invariant.same in
     record {
       within = grind (arith, common_steps, c.front_digits-digits.ensures.within);
@@ -22,6 +23,7 @@ returns-in-Err c =
     let text = c.as_bytes-letters.result.now in
     let at = c.parts.at in
     let n = c.front_digits-digits.result in
-    let read = next_part_in c.args.bulk (chosen c.parts.choices) text (take (length text - (at + 1)) (drop (at + 1) text)) at n (choices_of c.args.bulk c.args.letters.now)
+    let read = next_part_in c.args.bulk (chosen c.parts.choices) text (take (length text - (at + 1)) (drop (at + 1) text)) at n
+    (choices_of c.args.bulk c.args.letters.now)
     c.parts-test.true refl c.front_digits-digits.ensures.digits c.front_digits-digits.ensures.maximal c.parts.invariant.same in
     read_no_more c.args.bulk _ c.in-Err.octet (parts_of (drop (at + (1 + n)) text)) (choices_of c.args.bulk c.args.letters.now) read c.in-Err.ensures
