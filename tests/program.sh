@@ -48,6 +48,16 @@ expect 0 "$e.1.1.0 = INTEGER: 1
 " '' snmpwalk -On table:three.tab $e.1.1.0
 expect 0 '.1.0 = No Such Object available on this agent at this OID
 ' '' snmpwalk -On table:/dev/null .1
+expect 0 "$three" '' snmpbulkwalk -On -Cr1 table:three.tab $e.1
+expect 0 "$three" '' snmpbulkwalk -On -Cr2147483647 --max-size 134 table:three.tab $e.1
+expect 0 "${three}Variables found: 3
+" '' snmpwalk -On -Cp table:three.tab $e.1
+expect 0 "$e.1.2.0 = STRING: \"wes\"
+$e.1.10.0 = INTEGER: 3
+" '' snmpwalk -On --after $e.1.1.0 table:three.tab $e.1
+expect 0 '' '' snmpwalk -On --after $e.1.10.0 table:three.tab $e.1
+expect 0 '' '' snmpwalk -On -CI table:/dev/null .1
+expect 0 'Reads the managed objects of SNMP agents...' '' --help
 
 # status 1
 expect 1 '' 'no.tab: cannot be read
@@ -58,12 +68,20 @@ expect 1 '' 'program.txt:1: bad line
 ' snmpwalk -On table:program.txt .1
 expect 1 '' 'Unknown letter: z
 ' snmpwalk -Oz table:three.tab .1
+expect 1 '' 'Unknown version: 1
+' snmpwalk -On -v 1 table:no.tab .3
+expect 1 '' 'Unknown letter: r
+' snmpbulkwalk -On -Cr0 table:three.tab $e.1
+expect 1 '' 'Not below the root: .1.3.6.1.2.1
+' snmpwalk -On --after .1.3.6.1.2.1 table:three.tab $e.1
 expect 1 '' 'Bad agent address: table:
 ' snmpwalk -On table: .1
 expect 1 '' 'Name cannot be sent: .3
 ' snmpwalk -On table:three.tab .3
 target=/dev/full expect 1 '' 'The output failed.
 ' snmpwalk -On table:three.tab $e.1
+expect 1 '' 'No progress after .1.3.6.1.4.1.32473.1
+' snmpbulkwalk -On "table:$got/large.tab" $e.1
 expect 1 '' 'error: ...' walk
 
 # status 2
