@@ -1,6 +1,5 @@
 -- How replies are made: what private functions are proved to find and to write. No clause of a
--- public
--- call is stated by these.
+-- public call is stated by these.
 use Rattle.std.specs.Prelude.{◌≡◌, ◌≢◌, ◌⊎◌, ℕ, zero, suc, ℤ, pos, ◌+◌, ◌≤◌, ◌<◌, List, [], ◌∷◌}
 use Rattle.std.specs.Prelude.{◌++◌, length, take}
 use Rattle.snmp_oid.specs.Identifier.{IsWire}
@@ -28,7 +27,7 @@ IsPaired kind.InformRequest = ⊥
 IsPaired kind.Trap = ⊥
 IsPaired kind.Report = ⊥
 
--- what a request of the kind is given for one of its bindings
+-- what the reply to a request of the kind has for one of its bindings
 abbrev pub IsAnswer : MibView → Kind → VarBind → VarBind → Type 0
 IsAnswer view kind.GetRequest asked given = IsGet view asked.name given
 IsAnswer view kind.GetNextRequest asked given = IsNext view asked.name given

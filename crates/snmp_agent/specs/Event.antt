@@ -11,7 +11,7 @@ pub data Event : Type 0 where
   sent : List ℕ → Event
   send_failed : List ℕ → Event
 
--- the log with these events more, if it is known
+-- the log followed by these events, if it is known
 abbrev pub extended : Option (List Event) → List Event → Option (List Event)
 extended log events = option_map (λ before. before ++ events) log
 

@@ -1,4 +1,4 @@
--- The replies of an agent that reads alone (RFC 3416, section 4.2; RFC 1901, section 3).
+-- The replies of a read-only agent (RFC 3416, section 4.2; RFC 1901, section 3).
 use Rattle.std.specs.Prelude.{◌≡◌, ◌≢◌, ℕ, ℤ, pos, negsuc, ◌≤◌, ◌<◌, List, [], ◌∷◌, ◌++◌, length}
 use Rattle.std.specs.Prelude.{take, drop}
 use Rattle.snmp_wire.specs.declared.kind.Kind.{Kind}
@@ -85,9 +85,8 @@ failed_place [] = pos 0
 failed_place (_ ∷ _) = pos 1
 
 -- the Response to a request that has one binding for each of its own, whatever its size: to a Get
--- the bindings asked for (4.2.1), to a GetNext
--- their successors (4.2.2), and to a Set, since nothing can be written, its own bindings and an
--- error (4.2.5)
+-- the bindings asked for (4.2.1), to a GetNext their successors (4.2.2), and to a Set, since
+-- nothing can be written, its own bindings and an error (4.2.5)
 pub data IsWhole (view : MibView) (q r : Message) : Type 0 where
   got : (bindings : List VarBind) → q.kind ≡ kind.GetRequest
       → AreAnswers (λ asked given. IsGet view asked.name given) q.bindings bindings
@@ -120,9 +119,8 @@ joined [] = []
 joined (round ∷ more) = round ++ joined more
 
 -- The rounds of the names that repeat. The round after i others holds for each name, at its place,
--- what a GetNext gives that is asked i times more
--- from the name that it gave: the name's successor number i + 1. There are as many rounds as
--- repetitions; fewer only where the last is endOfMibView
+-- what a GetNext gives that is asked i times more from the name that it gave: the name's successor
+-- number i + 1. There are as many rounds as repetitions; fewer only where the last is endOfMibView
 -- throughout, and no round comes after such a one.
 pub record AreRounds (view : MibView) (repetitions : ℕ) (names : List VarBind) (rounds : List
     (List VarBind)) : Type 0 where
@@ -137,9 +135,8 @@ pub record AreRounds (view : MibView) (repetitions : ℕ) (names : List VarBind)
       × AreEnds round
 
 -- All variable bindings that a GetBulk asks for, whatever their size: the successors of its first
--- names, as many as non-repeaters says or all that
--- there are, and then max-repetitions rounds of the other names. Either number counts as 0 where it
--- is less.
+-- names, as many as non-repeaters says or all that there are, and then max-repetitions rounds of
+-- the other names. Either number counts as 0 where it is less.
 pub record IsBulk (view : MibView) (q : Message) (bindings : List VarBind) : Type 0 where
   pub singles : List VarBind
   pub rounds : List (List VarBind)
@@ -160,8 +157,8 @@ pub record IsLongestFront (max_size : ℕ) (q : Message) (all bindings : List Va
 -- ---- sizes
 
 -- The Response that is to be sent where messages have at most `max_size` octets: the whole one
--- where it fits, else an error without bindings
--- (4.2.1, 4.2.2, 4.2.5); to a GetBulk as many bindings, from the first on, as fit (4.2.3).
+-- where it fits, else an error without bindings (4.2.1, 4.2.2, 4.2.5); to a GetBulk as many
+-- bindings, from the first on, as fit (4.2.3).
 pub data IsResponse (view : MibView) (max_size : ℕ) (q r : Message) : Type 0 where
   whole : IsWhole view q r → Fits max_size r → IsResponse view max_size q r
   shortened : (large : Message) → IsWhole view q large → (Fits max_size large → ⊥)

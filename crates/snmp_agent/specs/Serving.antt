@@ -29,7 +29,7 @@ AreTurns agent (latest ∷ earlier) events =
     (before : List Event) × (now : List Event) × (events ≡ before ++ now)
     × AreTurns agent earlier before × IsTurn agent latest now
 
--- one turn more of its kind
+-- the counts with one more turn of this kind
 abbrev pub one_more : Turn → Served → Served
 one_more turn.Replied served = record served { replies = served.replies + 1 }
 one_more turn.Dropped served = record served { dropped = served.dropped + 1 }

@@ -33,7 +33,7 @@ const NOT_WRITABLE: i32 = 17;
 /// The reply to a datagram, in the front of `out`, or why there is none (RFC 3416, sections 4.2.1,
 /// 4.2.2, 4.2.3 and 4.2.5).
 ///
-/// The octets after the reply are left open. No memory is taken.
+/// The octets after the reply are unspecified. No memory is taken.
 pub fn answer(
     table: &Table,
     config: &Config<'_>,

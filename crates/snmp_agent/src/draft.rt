@@ -1,5 +1,5 @@
-//! A reply in the making: its bindings are written to the front of the output one after the other,
-//! and are moved to make room for the head once they are all there.
+//! A reply that is being written: its bindings are written to the front of the output one after the
+//! other, and are moved to make room for the head once they are all there.
 ghost use Rattle.std.specs.Prelude.{◌≡◌, ◌+◌, ◌≤◌, ◌<◌, ◌++◌, List, [], length, take, IfSome};
 ghost use Rattle.std.specs.Prelude.{IfNone, IsTrue, ◌↔◌};
 ghost use Rattle.snmp_wire.specs.Message.{VarBind, var_bind, datum, null_value};
@@ -63,8 +63,8 @@ pub fn blank<'a>() -> Binding<'a>
     }
 }
 
-/// Makes one of the bindings of a request of this kind what is given for it: for a Get the variable
-/// of its name, for a GetNext the one after it, and for a Set the binding itself.
+/// Changes a binding of a request of this kind to the one in its reply: for a Get the variable of
+/// its name, for a GetNext the one after it, and for a Set the binding itself.
 fn answer_to<'a>(table: &'a Table, kind: Kind, binding: &mut Binding<'a>)
     requires paired { IsPaired kind }
     requires writable { IsWritable (var_bind binding.old) }
@@ -78,7 +78,7 @@ fn answer_to<'a>(table: &'a Table, kind: Kind, binding: &mut Binding<'a>)
     }
 }
 
-/// The bindings of a reply in the making, in the front of an output.
+/// The bindings of a reply that is being written, in the front of an output.
 #[derive(Clone, Copy)]
 pub struct Draft {
     /// How many octets they may take.
@@ -150,8 +150,8 @@ fn is_short(value: &ValueRef<'_>) -> bool
     }
 }
 
-/// Writes the head before the bindings in the first `total` octets, which are moved, and returns
-/// the length of the message.
+/// Makes a message of the bindings in the first `total` octets: moves them, writes the head before
+/// them, and returns the length of the message.
 pub fn seal(parts: &Parts<'_>, out: &mut [u8; MAX_DATAGRAM], total: usize) -> usize
     requires community { length parts.now.community.now ≤ 255 }
     requires datagram { total ≤ 65507 }

@@ -14,7 +14,7 @@ pub trait Endpoint {
     ghost use Rattle.std.specs.Prelude.{List, Option};
     ghost use Rattle.snmp_agent.specs.Event.{Event, extended, event_of_receive, event_of_reply};
 
-    /// What happened there so far, if that is known. Of a socket it isn't.
+    /// What happened there so far, if that is known. For a socket it isn't.
     ghost log: { Self → Option (List Event) };
 
     /// Receives a datagram to the front of the buffer, and returns its length, or None where none

@@ -32,12 +32,10 @@ pub enum Turn {
     Failed,
 }
 
-/// Serves a table over a UDP socket (RFC 3417, section 3) for a number of turns: in each one
-/// datagram
-/// is received, or the socket's time-out passes, and the agent's reply goes to where the datagram
-/// came
-/// from. A turn in which a receive or a send fails counts under `faults` alone, and the next
-/// follows.
+/// Serves a table over a UDP socket (RFC 3417, section 3) for a number of turns. In each turn one
+/// datagram is received, or the socket's time-out passes, and the agent's reply goes to where the
+/// datagram came from. A turn in which a receive or a send fails counts under `faults` alone, and
+/// the next follows.
 ///
 /// A socket without a time-out waits for each datagram. No memory is taken.
 pub fn serve(socket: &UdpSocket, table: &Table, config: &Config<'_>, turns: u64) -> Served
@@ -46,7 +44,7 @@ pub fn serve(socket: &UdpSocket, table: &Table, config: &Config<'_>, turns: u64)
     serve_at(&mut SocketEndpoint::new(socket), table, config, turns)
 }
 
-/// [`serve`] at any endpoint: each datagram that it received has its reply there, if it has one.
+/// [`serve`] at any endpoint, which receives the datagrams and sends the replies.
 pub fn serve_at<E: Endpoint>(
     endpoint: &mut E,
     table: &Table,

@@ -5,7 +5,7 @@ use Rattle.snmp_ber.specs.Value.{Datum, integer_value, octet_string, null_value,
 use Rattle.snmp_ber.specs.Value.{ip_address, counter32, gauge32, time_ticks, opaque_octets}
 use Rattle.snmp_ber.specs.Value.{counter64, no_such_object, no_such_instance, end_of_mib_view}
 
--- the value without where it lies
+-- the value that an owned one stands for
 abbrev pub owned : Value → Datum
 owned (value.Integer n) = integer_value n
 owned (value.Octets octets) = octet_string octets

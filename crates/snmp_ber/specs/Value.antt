@@ -20,7 +20,7 @@ pub data Datum : Type 0 where
   no_such_instance : Datum
   end_of_mib_view : Datum
 
--- the value without where it lies
+-- the value that a borrowed one stands for, wherever its octets lie
 abbrev pub datum : ValueRef → Datum
 datum (value.Integer n) = integer_value n
 datum (value.Octets octets) = octet_string octets.now

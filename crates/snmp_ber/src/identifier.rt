@@ -136,8 +136,7 @@ fn check_numbers(octets: &[u8]) -> Result<(), BerError>
     Ok(())
 }
 
-/// How many numbers stand at the front, one, four or eight of at most `room`, and what follows
-/// them.
+/// How many numbers are at the front, one, four or eight of at most `room`, and what follows them.
 #[inline(always)]
 fn some_numbers_at(room: usize, octets: &[u8]) -> Result<(usize, &[u8]), BerError>
     requires { 0 < length octets.now }
@@ -282,15 +281,15 @@ fn push_numbers(oid: &mut Oid, octets: &[u8])
     }
 }
 
-/// Appends eight numbers, each of one octet, to an identifier that has room for them. Apart from
-/// the test of the octets, the compiler widens all in a few instructions.
+/// Appends eight numbers, each of one octet, to an identifier that has room for them. In a function
+/// separate from the test of the octets, the compiler widens all of them in a few instructions.
 #[inline(never)]
 fn push_eight(oid: &mut Oid, octets: &[u8])
     requires eight { length octets.now ≡ 8 }
     requires room { length oid.old + 8 ≤ 128 }
     ensures { oid.new ≡ oid.old ++ octets.now }
 {
-    // All are read before the first is written, so that the compiler need not ask whether a write
+    // All are read before the first is written, so that the compiler need not assume that a write
     // changes them.
     let (a, b, c, d) = (octets[0], octets[1], octets[2], octets[3]);
     let (e, f, g, h) = (octets[4], octets[5], octets[6], octets[7]);
@@ -372,7 +371,7 @@ fn first_size(first: u32, second: u32) -> u64
 
 /// How many octets numbers take, each as a subidentifier.
 ///
-/// In most names eight short numbers, the column among them, stand before the last.
+/// In most names eight short numbers, the column among them, precede the last.
 #[inline(always)]
 fn numbers_size(numbers: &[u32]) -> u64
     requires { length numbers.now ≤ 128 }
@@ -473,8 +472,8 @@ pub fn put_identifier(out: &mut [u8], end: usize, name: &Oid) -> usize
     put_subidentifier(out, start, first_subidentifier(*first, *second))
 }
 
-/// Writes numbers before `end`, each as a subidentifier, and returns where they begin. What most
-/// are, [`numbers_size`] says.
+/// Writes numbers before `end`, each as a subidentifier, and returns where they begin.
+/// [`numbers_size`] says what most of them are.
 #[inline(always)]
 fn put_numbers(out: &mut [u8], end: usize, numbers: &[u32]) -> usize
     requires room { length (flat_map canon_subidentifier numbers.now) ≤ end }

@@ -9,7 +9,8 @@ use crate::BerError;
 use crate::number::{put_octets, unsigned};
 use crate::writing::put_octet;
 
-/// The length at the front, and what follows. The octets end before it does: `cut`.
+/// The length at the front, and what follows. The error is `cut` where the octets end before the
+/// length does.
 #[tactic(auto, unfolding(crate::specs::Reading::length_at))]
 #[inline(always)]
 fn length_at(octets: &[u8], cut: BerError) -> Result<(usize, &[u8]), BerError>
@@ -44,7 +45,8 @@ fn long_length_at(first: u8, octets: &[u8], cut: BerError) -> Result<(usize, &[u
     Ok((unsigned(digits) as usize, rest))
 }
 
-/// The content after a tag, and what follows. The octets end before it does: `cut`.
+/// The content after a tag, and what follows. The error is `cut` where the octets end before the
+/// content does.
 #[tactic(auto, unfolding(crate::specs::Reading::content_at))]
 #[inline(always)]
 pub fn content_at(octets: &[u8], cut: BerError) -> Result<(&[u8], &[u8]), BerError>

@@ -1,7 +1,7 @@
 //! The Basic Encoding Rules of values (X.690; RFC 3417, section 8): whole numbers, lengths, object
 //! identifiers, and the value of a variable binding.
 //!
-//! Stands on the identifiers. Bindings and messages are read and written from these pieces.
+//! Built on the identifiers. Bindings and messages are read and written from these pieces.
 #![tactic(auto)]
 
 mod error;

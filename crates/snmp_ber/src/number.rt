@@ -46,7 +46,7 @@ pub(crate) fn integer_of(content: &[u8]) -> Result<i32, BerError>
     }
 }
 
-/// The octet that may stand before this one in two's complement and change nothing.
+/// The octet that may precede this one in two's complement without changing the number.
 #[inline]
 fn sign_of(octet: u8) -> u8
     ensures { result ≡ reading.sign_of octet }
@@ -112,7 +112,7 @@ fn without_zero(width: usize, content: &[u8]) -> &[u8]
     }
 }
 
-/// How many octets a number from 0 takes.
+/// How many octets a number from 0 up takes.
 #[inline]
 pub(crate) fn unsigned_size(number: u64) -> usize
     ensures value { result ≡ number_size number }
@@ -121,7 +121,7 @@ pub(crate) fn unsigned_size(number: u64) -> usize
     if number < 128 {
         1
     } else {
-        // Behind the seventh bit, one octet more for each eight.
+        // After the seventh bit, one octet more for each eight.
         (number.ilog2() as usize + 9) / 8
     }
 }

@@ -96,7 +96,7 @@ impl Value {
         })
     }
 
-    /// The value, its strings lent.
+    /// The value, its strings borrowed.
     pub fn as_ref(&self) -> ValueRef<'_>
         ensures { datum result ≡ owned self.now }
     {

@@ -72,7 +72,7 @@ pub fn check_value(tag: u8, content: &[u8]) -> Result<(), BerError>
     }
 }
 
-/// Reads the value of this tag and content into one that is there.
+/// Reads the value of this tag and content into an existing one.
 #[inline(always)]
 pub fn read_value<'a>(tag: u8, content: &'a [u8], into: &mut ValueRef<'a>)
     requires { IsOk (reading.typed_value tag content.now) }
@@ -83,8 +83,8 @@ pub fn read_value<'a>(tag: u8, content: &'a [u8], into: &mut ValueRef<'a>)
     }
 }
 
-/// [`read_value`] over a value of whatever type. It stands apart since here all octets of a value
-/// are set.
+/// [`read_value`] over a value of whatever type. It is a function of its own since here all octets
+/// of a value are set.
 #[tactic(auto, unfolding(crate::specs::Reading::typed_value, crate::specs::Reading::unsigned_of))]
 #[inline(never)]
 fn replace_value<'a>(tag: u8, content: &'a [u8], into: &mut ValueRef<'a>)
@@ -193,8 +193,8 @@ pub fn content_size(value: &ValueRef<'_>) -> u64
     }
 }
 
-/// How many octets the content of an identifier takes. Few values are identifiers, so this stays
-/// out of the others' way.
+/// How many octets the content of an identifier takes. Few values are identifiers, so this isn't
+/// inlined.
 #[inline(never)]
 fn object_id_size(name: &Oid) -> u64
     requires { IsWire name.now }
@@ -305,7 +305,7 @@ fn put_string(out: &mut [u8], end: usize, tag: u8, text: &[u8]) -> usize
 }
 
 /// Writes an OBJECT IDENTIFIER before `end`, and returns where it begins. Few values are
-/// identifiers, so this stays out of the others' way.
+/// identifiers, so this isn't inlined.
 #[inline(never)]
 fn put_object_id(out: &mut [u8], end: usize, name: &Oid) -> usize
     requires encodable { IsWire name.now }

@@ -3,7 +3,7 @@
 ghost use Rattle.std.specs.Prelude.{◌≡◌, ℕ, ◌+◌, ◌<◌, ◌≤◌, [], ◌∷◌, length};
 ghost use Rattle.snmp_ber.specs.Writing.{Writes};
 
-/// Writes an octet before `end`, and returns where it stands.
+/// Writes an octet before `end`, and returns its place.
 #[inline]
 #[tactic(auto, using(crate::proofs::WritingLemmas::writes_one))]
 pub(crate) fn put_octet(out: &mut [u8], end: usize, octet: u8) -> usize

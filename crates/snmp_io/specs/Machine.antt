@@ -5,7 +5,7 @@ use Rattle.std.specs.declared.io.ErrorKind.TheVariants.{OutOfMemory}
 use Rattle.snmp_io.specs.declared.machine.ReadError.{ReadError}
 use Rattle.snmp_io.specs.declared.machine.ReadError.TheVariants.{Failed, TooLong}
 
--- the read failed since memory ran out
+-- the read failed because memory ran out
 abbrev pub IsWantOfMemory : ReadError → Type 0
 IsWantOfMemory (Failed error) = error_kind error ≡ OutOfMemory
 IsWantOfMemory TooLong = ⊥

@@ -7,11 +7,11 @@ pub record Stream : Type 0 where
   pub taken : Option (List ℕ)
   pub faults : ℕ
 
--- the octets taken, with text after them
+-- the octets taken, followed by the text
 abbrev pub appended : Option (List ℕ) → List ℕ → Option (List ℕ)
 appended before text = option_map (λ taken. taken ++ text) before
 
--- the stream after it took the text as well
+-- the stream after the text too was taken
 abbrev pub extended : Stream → List ℕ → Stream
 extended before text = record { taken = appended before.taken text; faults = before.faults }
 

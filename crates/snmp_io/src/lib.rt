@@ -1,6 +1,6 @@
-//! What the tools touch of the machine, as traits: outputs that take octets, and files that hold
-//! texts. The traits keep facts that a promise can rest on. The machine's own outputs and files
-//! state none of them, those in memory all.
+//! The parts of the machine that the tools use, as traits: outputs that take octets, and files that
+//! hold texts. The traits state facts that a promise can rest on. Of the machine's own outputs and
+//! files only the number of failed writes is known; those in memory keep every fact.
 #![tactic(auto)]
 
 mod files;

@@ -11,10 +11,10 @@ use std::io::{ErrorKind, Read, Write};
 use std::marker::Model;
 use std::{io, rt};
 
-/// The octets that are read of a file: one with more, or without an end, is unreadable.
+/// How many octets a file may have: one with more, or without an end, is unreadable.
 const MOST_OCTETS: usize = 268_435_456;
 
-/// How often a write is tried that a signal interrupts.
+/// How often a write is tried when signals interrupt it.
 const TRIES: u8 = 100;
 
 /// An output of the machine, as standard output. It holds nothing back.

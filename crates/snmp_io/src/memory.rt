@@ -1,4 +1,4 @@
-//! An output and files in memory, which keep every fact: for tests of what is written and read.
+//! An output and files in memory, which keep every fact, for tests of what is written and read.
 ghost use Rattle.std.specs.Prelude.{◌≡◌, [], ◌∷◌, Some, option_map};
 ghost use Rattle.snmp_io.specs.Memory.{Kept, held_at};
 
@@ -22,7 +22,7 @@ impl Model for MemoryOutput {
 }
 
 impl MemoryOutput {
-    /// An output that fails for want of memory alone.
+    /// An output that fails only where memory runs out.
     pub fn new(alloc: Global) -> MemoryOutput
         ensures { result ≡ record { octets = []; limit = usize.MAX; faults = 0 } }
     {

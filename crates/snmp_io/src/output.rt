@@ -16,8 +16,8 @@ pub trait Output {
     /// What is known of it: the octets that it took, and how many writes failed.
     ghost stream: { Self → Stream };
 
-    /// Takes a front of `piece`, not empty where the piece isn't, and returns its length. At a
-    /// fault, which is counted, nothing of the piece was taken.
+    /// Takes a front of `piece`, not empty where the piece isn't, and returns its length. Where
+    /// that fails, the fault is counted and nothing of the piece was taken.
     fn write(&mut self, piece: &[u8]) -> Result<usize, OutputFault>
         ensures not_empty { IfOk result (λ n. 0 < length piece.now → 0 < n) }
         ensures within_piece { IfOk result (λ n. n ≤ length piece.now) }

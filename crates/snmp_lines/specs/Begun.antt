@@ -1,4 +1,4 @@
--- What a call that found no memory leaves: the old text, and perhaps a part of the new one.
+-- What a call leaves where memory runs out: the old text, and perhaps a part of the new one.
 use Rattle.std.specs.Prelude.{◌≡◌, ℕ, List, ◌++◌}
 
 abbrev pub IsBegun : List ℕ → List ℕ → Type 0

@@ -1,5 +1,5 @@
-//! The parts of a line that are made of several pieces: each function appends its text, or finds no
-//! memory and leaves what it has appended so far.
+//! The parts of a line that are made of several pieces: each function appends its text. Where
+//! memory runs out, what it has appended so far remains.
 ghost use Rattle.std.specs.Prelude.{◌≡◌, ℕ, ◌<◌, ◌∷◌, ◌++◌, OnOk, OnErr, decimal, List};
 ghost use Rattle.std.specs.List.{flat_map};
 ghost use Rattle.snmp_lines.specs.Line.{escaped, hex_digit, hex_octet, hexadecimal, address_text};
@@ -20,7 +20,7 @@ pub fn escaped_text(out: &mut Vec<u8>, octets: &[u8]) -> Result<(), AllocError>
     Ok(())
 }
 
-/// A character, behind a backslash where it is a quote or a backslash.
+/// A character, after a backslash where it is a quote or a backslash.
 fn escaped_octet(out: &mut Vec<u8>, octet: u8) -> Result<(), AllocError>
     ensures ok { OnOk result (out.new.items ≡ out.old.items ++ escaped octet) }
     ensures err { OnErr result (IsBegun out.old.items out.new.items) }
@@ -100,7 +100,7 @@ pub fn time(out: &mut Vec<u8>, ticks: u32) -> Result<(), AllocError>
     two(out, b'.', ticks % 100)
 }
 
-/// Nothing for no day, else the number of days.
+/// The number of days, or nothing where it is 0.
 fn days(out: &mut Vec<u8>, days: u32) -> Result<(), AllocError>
     ensures ok { OnOk result (out.new.items ≡ out.old.items ++ days_text days) }
     ensures err { OnErr result (IsBegun out.old.items out.new.items) }

@@ -9,7 +9,7 @@ use crate::value::typed;
 use snmp_wire::Binding;
 use std::alloc::AllocError;
 
-/// Appends the line of a binding: name, ` = `, value and a newline. Without memory `out` is
+/// Appends the line of a binding: name, ` = `, value and a newline. Where memory runs out, `out` is
 /// unchanged.
 pub fn line(binding: &Binding<'_>, out: &mut Vec<u8>) -> Result<(), AllocError>
     ensures ok { OnOk result (out.new.items ≡ out.old.items ++ line_of (var_bind binding.now)) }
@@ -23,7 +23,7 @@ pub fn line(binding: &Binding<'_>, out: &mut Vec<u8>) -> Result<(), AllocError>
     done
 }
 
-/// The line of a binding, or without memory perhaps a part of it.
+/// Appends the line of a binding, or where memory runs out perhaps a part of it.
 fn parts(out: &mut Vec<u8>, binding: &Binding<'_>) -> Result<(), AllocError>
     ensures ok { OnOk result (out.new.items ≡ out.old.items ++ line_of (var_bind binding.now)) }
     ensures err { OnErr result (IsBegun out.old.items out.new.items) }

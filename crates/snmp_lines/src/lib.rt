@@ -1,6 +1,6 @@
 //! Lines: what a tool prints of a variable binding, with names and identifiers in numbers.
 //!
-//! Stands on the values of messages. A walk gives bindings; the tools write each as such a line.
+//! Built on the values of messages. A walk gives bindings; the tools write each as such a line.
 #![tactic(auto)]
 
 mod append;

@@ -1,4 +1,4 @@
-//! The plain pieces of lines and messages: each is appended, or without memory the target is
+//! The plain pieces of lines and messages: each is appended, or where memory runs out the target is
 //! unchanged.
 ghost use Rattle.std.specs.Prelude.{◌≡◌, ◌++◌, OnOk, OnErr, decimal};
 ghost use Rattle.std.specs.Fmt.{signed_decimal};
@@ -8,7 +8,7 @@ use itoa::Buffer;
 use snmp_oid::{LONGEST_TEXT, Oid, write_numeric};
 use std::alloc::AllocError;
 
-/// Octets as they stand.
+/// Octets, unchanged.
 pub fn octets(out: &mut Vec<u8>, octets: &[u8]) -> Result<(), AllocError>
     ensures ok { OnOk result (out.new.items ≡ out.old.items ++ octets.now) }
     ensures err { OnErr result (out.new.items ≡ out.old.items) }

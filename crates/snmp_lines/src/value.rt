@@ -13,11 +13,11 @@ use snmp_oid::Oid;
 use snmp_wire::ValueRef;
 use std::alloc::AllocError;
 
-/// Appends the text of a value: its type, a colon, a blank and the value; of an exception a
-/// sentence.
+/// Appends the text of a value: its type, a colon, a blank and the value. The text of an exception
+/// is a sentence.
 ///
-/// Strings are shown as text where each octet is printable ASCII, else in hexadecimal. Without
-/// memory `out` is unchanged.
+/// Strings are shown as text where each octet is printable ASCII, else in hexadecimal. Where memory
+/// runs out, `out` is unchanged.
 pub fn value_text(value: &ValueRef<'_>, out: &mut Vec<u8>) -> Result<(), AllocError>
     ensures ok { OnOk result (out.new.items ≡ out.old.items ++ value_text (datum value.now)) }
     ensures err { OnErr result (out.new.items ≡ out.old.items) }
@@ -30,7 +30,7 @@ pub fn value_text(value: &ValueRef<'_>, out: &mut Vec<u8>) -> Result<(), AllocEr
     done
 }
 
-/// The text of a value, or without memory perhaps a part of it.
+/// Appends the text of a value, or where memory runs out perhaps a part of it.
 pub(crate) fn typed(out: &mut Vec<u8>, value: &ValueRef<'_>) -> Result<(), AllocError>
     ensures ok { OnOk result (out.new.items ≡ out.old.items ++ value_text (datum value.now)) }
     ensures err { OnErr result (IsBegun out.old.items out.new.items) }
@@ -61,7 +61,7 @@ pub(crate) fn typed(out: &mut Vec<u8>, value: &ValueRef<'_>) -> Result<(), Alloc
     }
 }
 
-/// An unsigned number behind the name of its type.
+/// An unsigned number after the name of its type.
 fn number(out: &mut Vec<u8>, name: &[u8], n: u64) -> Result<(), AllocError>
     ensures ok { OnOk result (out.new.items ≡ out.old.items ++ (name.now ++ decimal n)) }
     ensures err { OnErr result (IsBegun out.old.items out.new.items) }
@@ -100,7 +100,7 @@ fn address(out: &mut Vec<u8>, octets: &[u8; 4]) -> Result<(), AllocError>
     append::address(out, octets)
 }
 
-/// TimeTicks: the number, and behind it the time that it stands for.
+/// TimeTicks: the number, and after it the time that it stands for.
 fn ticks(out: &mut Vec<u8>, n: u32) -> Result<(), AllocError>
     ensures ok { OnOk result (out.new.items ≡ out.old.items ++ (codes "Timeticks: (" ++ decimal n
         ++ codes ") " ++ time_text n)) }

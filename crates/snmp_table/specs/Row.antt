@@ -12,7 +12,7 @@ use Rattle.snmp_table.specs.declared.row.RowValue.{RowValue}
 use Rattle.snmp_table.specs.declared.row.RowValue.TheVariants as value
 use Rattle.snmp_table.specs.Table.{MibView}
 
--- the value without where it lies
+-- the value that a row's stands for
 abbrev pub datum_of : RowValue → Datum
 datum_of (value.Integer n) = integer_value n
 datum_of (value.Octets octets) = octet_string octets.items
@@ -24,7 +24,7 @@ datum_of (value.TimeTicks n) = time_ticks n
 datum_of (value.Opaque octets) = opaque_octets octets.items
 datum_of (value.Counter64 n) = counter64 n
 
--- an identifier among values is no longer than identifiers are
+-- where the value is an identifier, it has at most 128 numbers
 abbrev pub IsShort : RowValue → Type 0
 IsShort (value.ObjectId numbers) = length numbers.items ≤ 128
 IsShort _ = Unit {0}
@@ -32,7 +32,7 @@ IsShort _ = Unit {0}
 abbrev pub entry_of : Row → List ℕ × Datum
 entry_of row = (row.name.items, datum_of row.value)
 
--- what rows and object prefixes are seen as
+-- the MIB view that rows and object prefixes stand for
 abbrev pub view_of : List Row → List (List ℕ) → MibView
 view_of rows objects = record {
   rows = from_sorted
@@ -40,12 +40,12 @@ view_of rows objects = record {
   objects = from_list objects;
 }
 
--- an identifier is no longer than identifiers are, as the name of a row and among values
+-- the name of the row has at most 128 numbers, and so has its value where that is an identifier
 pub record IsShortRow (row : Row) : Type 0 where
   pub name : length row.name.items ≤ 128
   pub value : IsShort row.value
 
--- how a tag is written
+-- the text of a tag
 abbrev pub tag_text : Tag → List ℕ
 tag_text tag.Integer = codes "2"
 tag_text tag.OctetString = codes "4"

@@ -14,8 +14,8 @@ use Rattle.snmp_wire.specs.Message.Datum.{counter64, no_such_object, no_such_ins
 use Rattle.snmp_wire.specs.Message.Datum.{end_of_mib_view}
 
 -- The variables that an agent gives access to: the value of each instance, by its name, and the
--- object prefixes, each of which
--- begins the names of all instances of an object, whether the object has instances or not.
+-- object prefixes, each of which begins the names of all instances of an object, whether the object
+-- has instances or not.
 pub record MibView : Type 0 where
   pub rows : FinMap (slice_cmp nat_cmp) Datum
   pub objects : FinSet (slice_cmp nat_cmp)
@@ -71,8 +71,8 @@ HasObject view o = (object : List ℕ) × (rest : List ℕ) × (contains view.ob
     × (o ≡ object ++ rest)
 
 -- what a Get of the name o gives (RFC 3416, section 4.2.1): the variable of that name; else
--- noSuchObject where no object of the
--- view has that name's beginning, and noSuchInstance where one has
+-- noSuchObject where no object of the view has that name's beginning, and noSuchInstance where one
+-- has
 pub data IsGet (view : MibView) (o : List ℕ) (p : VarBind) : Type 0 where
   variable : p.name ≡ o → IsRow view p → IsGet view o p
   unknown_object : get view.rows o ≡ None → (HasObject view o → ⊥)

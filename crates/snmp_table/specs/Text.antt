@@ -1,6 +1,6 @@
 -- The text of a table, in a format of this project's own: a statement on each line. Lines end with
--- LF, CR LF or the text, as those of Rust's `str::lines` do: a CR
--- that no LF follows belongs to its line.
+-- LF, CR LF or the text, as those of Rust's `str::lines` do: a CR that no LF follows belongs to its
+-- line.
 use Rattle.std.specs.Prelude.{◌≡◌, ◌≢◌, ℕ, ℤ, pos, ◌^◌, ◌<◌, ◌≤◌, ◌⊎◌, true, List, [], ◌∷◌, ◌++◌}
 use Rattle.std.specs.Prelude.{length, codes, All, Contains, Ok, FitsSigned, neg_ℤ}
 use Rattle.std.specs.Int.{w32}
@@ -83,7 +83,7 @@ IsBlank line = (line ≡ []) ⊎ ((comment : List ℕ) × (line ≡ codes "#" ++
 abbrev pub IsObjectLine : List ℕ → List ℕ → Type 0
 IsObjectLine line text = line ≡ codes "object " ++ text
 
--- any other line with two bars: a name, a known tag, and a text, in which more bars may stand
+-- any other line with two bars: a name, a known tag, and a text, which may have more bars
 pub record IsRowLine (line name tag text : List ℕ) : Type 0 where
   pub not_blank : IsBlank line → ⊥
   pub no_object : (object : List ℕ) → IsObjectLine line object → ⊥

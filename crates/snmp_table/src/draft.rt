@@ -18,7 +18,7 @@ impl Draft {
     ghost use Rattle.std.specs.Prelude.{map};
     ghost use Rattle.snmp_table.specs.Draft.{IsDraft, IsFaultBehind, row_of};
 
-    /// Of no line.
+    /// A draft of no lines.
     pub fn new(alloc: Global) -> Draft
         ensures { IsDraft [] result }
     {

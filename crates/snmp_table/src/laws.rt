@@ -13,7 +13,7 @@ pub fn one_table()
         → v ≡ w }
 {}
 
-/// Lines that state a table have no fault: only want of memory keeps them from being read.
+/// Lines that state a table have no fault: reading them fails only where memory runs out.
 pub fn no_fault()
     ensures { (lines : List (List ℕ)) (view : MibView) (fault : TableError) → IsTableOf lines view
         → IsFirstFault lines fault → fault ≡ TableError.Memory }

@@ -1,6 +1,6 @@
 //! The table of an agent: the instances that it serves, and the text file that states them.
 //!
-//! Stands on identifiers and values. The agent replies to requests from it.
+//! Built on identifiers and values. The agent replies to requests from it.
 #![tactic(auto)]
 
 mod change;

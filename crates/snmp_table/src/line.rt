@@ -78,7 +78,7 @@ pub fn read_line(alloc: Global, line: &[u8]) -> Result<Line, LineFault>
     }
 }
 
-/// Which form a line has, None where none.
+/// The form that a line has, or None where it has none.
 fn form_of(line: &[u8]) -> Option<Form<'_>>
     ensures { IsForm line.now result }
 {

@@ -42,7 +42,7 @@ impl Row {
     ghost use Rattle.snmp_table.specs.Row.{entry_of, IsShortRow};
     ghost use Rattle.snmp_table.specs.Places.{var_of};
 
-    /// Makes a binding that is there the row's.
+    /// Changes a binding to the row's.
     pub fn read_into<'a>(&'a self, into: &mut Binding<'a>)
         requires { IsShortRow self.now }
         ensures { var_bind into.new ≡ var_of (entry_of self.now) }
@@ -57,7 +57,7 @@ impl RowValue {
     ghost use Rattle.snmp_wire.specs.Message.{datum};
     ghost use Rattle.snmp_table.specs.Row.{datum_of, IsShort};
 
-    /// Makes a value that is there this one.
+    /// Changes a value to this one.
     #[inline]
     fn read_into<'a>(&'a self, into: &mut ValueRef<'a>)
         requires { IsShort self.now }
@@ -86,7 +86,7 @@ impl RowValue {
         true
     }
 
-    /// The value, lent.
+    /// The value, borrowed.
     pub fn as_ref(&self) -> ValueRef<'_>
         requires { IsShort self.now }
         ensures { datum result ≡ datum_of self.now }
@@ -116,7 +116,7 @@ fn identifier(numbers: &[u32]) -> Oid
     }
 }
 
-/// Makes an identifier that is there the one of these numbers.
+/// Changes an identifier to the one of these numbers.
 #[inline]
 pub fn set_name(name: &mut Oid, numbers: &[u32])
     requires { length numbers.now ≤ 128 }

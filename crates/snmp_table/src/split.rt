@@ -2,7 +2,8 @@
 ghost use Rattle.std.specs.Prelude.{◌≡◌, ◌≢◌, ◌<◌, ◌++◌, ◌∷◌, length, All, MatchOption};
 ghost use Rattle.std.specs.Str.Lines.{lines, strip_carriage_return};
 
-/// The texts before the first such octet and after it, None where there is none.
+/// The texts before and after the first octet that equals the separator, or None where there is
+/// none.
 pub fn split_once(text: &[u8], separator: u8) -> Option<(&[u8], &[u8])>
     ensures { MatchOption result (All (λ octet. octet ≢ separator) text.now)
         (λ parts. (text.now ≡ parts.0.now ++ separator ∷ parts.1.now)

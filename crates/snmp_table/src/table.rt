@@ -93,7 +93,7 @@ impl Table {
     }
 
     /// Gives the instance of this name the value, and returns whether it had one before. All else
-    /// stays as it was; after an error all does. No message leads here: a table is served
+    /// is unchanged; after an error the whole table is. No message changes a table: it is served
     /// read-only.
     pub fn put(&mut self, name: &Oid, value: ValueRef<'_>) -> Result<bool, PutError>
         ensures put { IfOk result (λ _. self.new ≡ with_row self.old name.now (datum value.entry)) }
@@ -117,8 +117,7 @@ impl Table {
         Ok(replaced)
     }
 
-    /// Removes the instance of this name, and returns whether there was one. All else stays as it
-    /// was.
+    /// Removes the instance of this name, and returns whether there was one. All else is unchanged.
     /// No memory is taken.
     pub fn remove(&mut self, name: &Oid) -> bool
         ensures removed { self.new ≡ without_row self.old name.now }
@@ -150,9 +149,9 @@ impl Table {
         }
     }
 
-    /// Makes a binding what a GetNext of its name gives: the first row after it, else the name
-    /// itself with `EndOfMibView` (RFC 3416, section 4.2.2).
-    /// Where the call before gave that name, at `place`, nothing has to be searched.
+    /// Changes a binding to what a GetNext of its name gives: the first row after it, else the name
+    /// itself with `EndOfMibView` (RFC 3416, section 4.2.2). Where the call before gave that name,
+    /// at `place`, nothing has to be searched.
     pub fn advance<'a>(&'a self, binding: &mut Binding<'a>, place: &mut Place)
         ensures answer { IsNext self.now binding.old.name (var_bind binding.new) }
         ensures name { IsWire binding.old.name → IsWire binding.new.name }
@@ -165,8 +164,8 @@ impl Table {
         read_first_or_end(behind, binding);
     }
 
-    /// Makes a binding what a GetNext gives that is asked again, `rounds` times more, each time
-    /// from the name that it gave, as a GetBulk does (RFC 3416, section 4.2.3).
+    /// Changes a binding to what a GetNext gives that is asked again, `rounds` times more, each
+    /// time from the name that it gave, as a GetBulk does (RFC 3416, section 4.2.3).
     pub fn read_next_after<'a>(&'a self, name: &Oid, rounds: usize, into: &mut Binding<'a>)
         ensures answer { IsNextAfter self.now rounds name.now (var_bind into.new) }
         ensures name { IsWire name.now → IsWire into.new.name }
@@ -243,7 +242,7 @@ fn place_near(rows: &[Row], name: &[u32], place: Place) -> usize
     }
 }
 
-/// Makes a binding the first row's, or its value `EndOfMibView` if there is no row.
+/// Changes a binding to the first row's, or its value to `EndOfMibView` if there is no row.
 fn read_first_or_end<'a>(rows: &'a [Row], binding: &mut Binding<'a>)
     requires { All IsShortRow rows.now }
     ensures { var_bind binding.new ≡ nth_or_end binding.old.name (row_bindings rows.now) 0 }
@@ -254,8 +253,8 @@ fn read_first_or_end<'a>(rows: &'a [Row], binding: &mut Binding<'a>)
     }
 }
 
-/// Makes a binding that is there the row's at this place, or past the end the last name, `name` if
-/// there is no row, with `EndOfMibView`.
+/// Changes a binding to the row's at this place. Past the end it becomes the last name, or `name`
+/// if there is no row, with `EndOfMibView`.
 fn read_nth_or_end<'a>(rows: &'a [Row], name: &Oid, place: usize, into: &mut Binding<'a>)
     requires { All IsShortRow rows.now }
     ensures { var_bind into.new ≡ nth_or_end name.now (row_bindings rows.now) place }
@@ -269,8 +268,7 @@ fn read_nth_or_end<'a>(rows: &'a [Row], name: &Oid, place: usize, into: &mut Bin
     }
 }
 
-/// Makes a value that is there `EndOfMibView`. Where it is that already, this saves setting over
-/// 500 octets.
+/// Changes a value to `EndOfMibView`. Where it is that already, this saves setting over 500 octets.
 fn set_end(value: &mut ValueRef<'_>)
     ensures { datum value.new ≡ end_of_mib_view }
 {

@@ -163,7 +163,7 @@ fn string(alloc: Global, text: &[u8]) -> Result<Option<Vec<u8>>, AllocError>
     Ok(Some(Vec::from_slice(alloc, text)?))
 }
 
-/// The octets that pairs of hexadecimal digits spell.
+/// The octets that pairs of hexadecimal digits encode.
 fn hexadecimal(alloc: Global, text: &[u8]) -> Result<Option<Vec<u8>>, AllocError>
     ensures { IfOk result (λ octets. IsOnly (λ s. (decode_of text.now ≡ Ok s)
         × IsTableString s) (option_map (λ v. v.items) octets)) }

@@ -77,7 +77,7 @@ fn lines_end_in_either_way(rt: HostRuntime) -> Result<(), Fail> {
     Ok(())
 }
 
-/// A text of 1.3.6 and so many of the largest number behind it, and then this.
+/// The text of 1.3.6 with the largest number `count` times after it, and then `end`.
 fn long_name(rt: &HostRuntime, count: usize, end: &[u8]) -> Result<Vec<u8>, Fail> {
     let mut text = Vec::from_slice(rt.alloc(), b".1.3.6")?;
     for _ in 0..count {

@@ -51,8 +51,8 @@ abbrev pub CanGoOn : List ℕ → Option (List ℕ) → Type 0
 CanGoOn root None = Unit {0}
 CanGoOn root (Some after) = ((after ≡ root) ⊎ IsBelow after root) × IsWire (wire after)
 
--- what a walk needs beside memory and an output that takes its lines: names that can be sent, room
--- for each single binding in the agent's messages, and ids enough
+-- what a walk needs besides memory and an output that takes its lines: names that can be sent, room
+-- for each single binding in the agent's messages, and enough ids
 pub record IsFeasible (plan : Plan) (view : MibView) : Type 0 where
   pub root : IsWire (wire plan.root)
   pub after : CanGoOn plan.root plan.after

@@ -10,7 +10,7 @@ use Rattle.snmp_lines.specs.Line.{line_of, lines_of}
 use Rattle.snmp_io.specs.Output.{FailsWithin, Stream, extended}
 
 -- What the output took of a text: the whole, a front where the output failed, and nothing where
--- there was no memory for the text.
+-- memory for the text ran out.
 abbrev pub TakesText : Stream → List ℕ → Result (Unit {0}) SinkFault → Stream → Type 0
 TakesText before text (Ok _) after = after ≡ extended before text
 TakesText before text (Err fault.Output) after = FailsWithin before text after
@@ -31,6 +31,6 @@ IsPrintedUpTo before rows refused _ after = after ≡ extended before (lines_of 
 abbrev pub count_line : ℕ → List ℕ
 count_line count = codes "Variables found: " ++ decimal count ++ codes "\n"
 
--- it, where it is wanted
+-- the line of -Cp, where it is asked for
 abbrev pub count_text : Bool → ℕ → List ℕ
 count_text counts count = if counts then count_line count else []

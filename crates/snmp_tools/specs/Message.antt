@@ -1,4 +1,4 @@
--- Why a job isn't done, and what is printed of it on standard error: one line.
+-- Why a job isn't done, and the line on standard error that says so.
 use Rattle.std.specs.Prelude.{ℕ, ℤ, pos, negsuc, List, [], ◌∷◌, ◌++◌, codes, decimal}
 use Rattle.std.specs.Prelude.{slice_index_or}
 use Rattle.std.specs.Fmt.{signed_decimal}
@@ -77,7 +77,7 @@ abbrev pub fault_text : ℤ → ℤ → List ℕ
 fault_text status index = codes "Error in packet: " ++ status_name status ++ codes " ("
     ++ signed_decimal status ++ codes "), index " ++ signed_decimal index
 
--- how a walk ended, other than with all that there is
+-- how a walk ended before all of it was given
 abbrev pub end_message : List ℕ → WalkEnd → List ℕ
 end_message agent (walk_end.Done count) = []
 end_message agent (walk_end.Fault status index) = fault_text status index

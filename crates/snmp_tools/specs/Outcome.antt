@@ -43,10 +43,9 @@ AreRowsAfter None plan view rows = (got : VarBind) × IsGet view (wire plan.root
     × (rows ≡ walk_of plan.mode plan.root got (variables view))
 AreRowsAfter (Some after) plan view rows = rows ≡ rest_of plan.root (wire after) (variables view)
 
--- The rows of the walk over a table: those below the root by rising names, where there are none the
--- answer to a Get of the root, and before them the root's own, as the mode says; of a walk that
--- goes
--- on after a name, those below the root and above that name.
+-- The rows of the walk over a table: those below the root by rising names, where there are none
+-- what a Get of the root gives, and before them the root's own, as the mode says. The rows of a
+-- walk that goes on after a name are those below the root and above that name.
 abbrev pub AreRowsOf : Plan → MibView → List VarBind → Type 0
 AreRowsOf plan view rows = AreRowsAfter plan.after plan view rows
 
@@ -58,26 +57,27 @@ pub record IsWalkOver (bulk : Bool) (words : WalkWords) (files : Holdings) (plan
   pub held : HoldsIfKnown (files plan.path) (Some text)
   pub table : IsTableOf (lines text) view
 
--- all was given, or the output or want of memory stopped it
+-- all was given, or the output failed, or memory ran out
 abbrev pub IsOwnEnd : WalkEnd → Type 0
 IsOwnEnd (ending.Done count) = Unit {0}
 IsOwnEnd (ending.Sink fault) = Unit {0}
 IsOwnEnd _ = ⊥
 
--- How a walk over a link in memory ended: such a link fails where memory runs out, and then alone.
+-- How a walk over a link in memory ended: such a link fails only where memory runs out.
 abbrev pub end_in_memory : WalkEnd → WalkEnd
 end_in_memory ending.Link = ending.Sink sink.Memory
 end_in_memory end = end
 
--- the number of bindings that the end tells of
+-- where the walk is done, the number of bindings that its end states
 abbrev pub Counts : WalkEnd → ℕ → Type 0
 Counts (ending.Done count) n = count ≡ n
 Counts _ n = Unit {0}
 
--- the walk gave these rows, was refused the next one or none, and ended so
+-- the walk gave these rows, was refused the next one or none, and ended in this way
 pub record IsWalked (plan : Plan) (view : MibView) (given refused : List VarBind) (end : WalkEnd) :
     Type 0 where
-  -- with an error only where the next answer has no room, or where ids or the agent's reply ran out
+  -- with an error only where the next binding has no room, or where there are no more ids or no
+  -- reply
   pub lawful : IsLawfulEnd (agent_over plan view) (HasNone (agent_over plan view)) (first_of plan)
       given end
   pub linked : end ≢ ending.Link
@@ -85,8 +85,8 @@ pub record IsWalked (plan : Plan) (view : MibView) (given refused : List VarBind
   pub front : (rows : List VarBind) → AreRowsOf plan view rows
       → (more : List VarBind) × (rows ≡ (given ++ refused) ++ more)
   pub whole : (rows : List VarBind) → AreRowsOf plan view rows → IsDone end → given ≡ rows
-  -- where there is room for each single binding and ids are enough, nothing but the output or want
-  -- of memory ends it early
+  -- where there is room for each single binding and there are enough ids, it ends early only where
+  -- the output fails or memory runs out
   pub complete : HasRoomForEach (agent_over plan view) view (first_of plan)
       → HasIds (first_of plan) view → IsOwnEnd end
 
@@ -124,8 +124,8 @@ pub data IsOutcome (bulk : Bool) (words : WalkWords) (files : Holdings) (before 
 
 -- ---- what is reported
 
--- The status, and the line of a fault on standard error; where there is no memory for the line,
--- that is reported.
+-- The status, and the line of a fault on standard error; where memory for the line runs out, that
+-- is reported.
 abbrev pub IsReported : Option Fault → Stream → Stream → ℕ → Type 0
 IsReported None before after status = (status ≡ 0) × (after ≡ before)
 IsReported (Some why) before after status =

@@ -28,7 +28,7 @@ pub record Plan : Type 0 where
   pub community : List ℕ
   pub max_size : ℕ
   pub root : List ℕ
-  -- the name after which it goes on, if it broke off
+  -- the name after which it goes on, if one is given
   pub after : Option (List ℕ)
   pub mode : Mode
   pub method : Method
@@ -43,12 +43,12 @@ IsTablePath agent path = (path ≢ []) × (agent ≡ codes "table:" ++ path)
 abbrev pub root_text : WalkWords → List ℕ
 root_text words = unwrap_or words.name (codes "1.3.6.1.2.1")
 
--- the text is this name, of at most 128 numbers
+-- the text states this name, which has at most 128 numbers
 pub record IsShortName (text o : List ℕ) : Type 0 where
   pub name : IsNumericName text o
   pub short : length o ≤ 128
 
--- the name that a text is, where there is one
+-- the name that a text states, where there is a text
 abbrev pub IsNameIfGiven : Option (List ℕ) → Option (List ℕ) → Type 0
 IsNameIfGiven None name = name ≡ None
 IsNameIfGiven (Some text) name = (o : List ℕ) × IsShortName text o × (name ≡ Some o)
@@ -110,7 +110,7 @@ IsDoneBy bulk words files after_below_step =
     × (words.after ≡ Some text) × IsShortName text after × ((after ≡ root) ⊎ IsBelow after root)
 IsDoneBy bulk words files after_sent_step = Unit {0}
 
--- a text is no name, or one of more than 128 numbers
+-- a text states no name, or one of more than 128 numbers
 abbrev pub NameFails : List ℕ → Fault → Type 0
 NameFails text why =
     (((at : ℕ) × IsFirstBadPart text at) × ((o : List ℕ) → IsNumericName text o → ⊥)
@@ -125,7 +125,7 @@ TableFails held path why =
     ⊎ ((text : List ℕ) × (error : TableError) × HoldsIfKnown held (Some text)
     × IsFirstFault (lines text) error × (why ≡ bad_table path error))
 
--- the step fails so
+-- the step fails for this reason
 abbrev pub FailsBy : Bool → WalkWords → Holdings → Step → Fault → Type 0
 FailsBy bulk words files version_step why =
     (words.asking.protocol ≢ codes "2c") × (why ≡ bad_version words.asking.protocol)

@@ -11,7 +11,7 @@ use Rattle.snmp_tools.specs.Message.{Fault, outside_root, unsendable}
 use Rattle.snmp_tools.specs.Outcome.{first_of}
 use Rattle.snmp_tools.specs.Plan.{Plan}
 
--- the rows that the walk gives, `got` being the answer to a Get of the root
+-- the rows that the walk gives, `got` being what a Get of the root gives
 abbrev pub rows_after : Option (List ℕ) → Plan → VarBind → List VarBind → List VarBind
 rows_after None plan got rows = walk_of plan.mode plan.root got rows
 rows_after (Some after) plan got rows = rest_of plan.root (wire after) rows

@@ -4,7 +4,7 @@ use Rattle.std.specs.Borrow.{Bor}
 use Rattle.snmp_io.specs.Output.{FailsWithin, Stream, extended}
 use Rattle.snmp_words.specs.Words.{AskForHelp}
 
--- the words that are lent
+-- the texts of borrowed words
 abbrev pub texts : List (Bor (List ℕ)) → List (List ℕ)
 texts words = map (λ word. word.now) words
 
@@ -13,8 +13,8 @@ abbrev pub PrintsHelp : Stream → List ℕ → Stream → ℕ → Type 0
 PrintsHelp before text after status = ((after ≡ extended before text) × (status ≡ 0))
     ⊎ (FailsWithin before text after × (status ≡ 1))
 
--- a mistake has status 1 and prints nothing on the output; help, or the version, is printed where
--- the words ask for it
+-- the status is 1 and nothing is printed on the output; or the words ask for help or for the
+-- version, which is printed
 abbrev pub IsHelpOrMistake : List (List ℕ) → Stream → Stream → ℕ → Type 0
 IsHelpOrMistake words before after status = ((after ≡ before) × (status ≡ 1))
     ⊎ (AskForHelp words × ((text : List ℕ) × PrintsHelp before text after status))

@@ -17,8 +17,8 @@ use std::alloc::Global;
 /// returns the exit status.
 ///
 /// It is 0 where that was done, 2 where an agent replied with an error status, and 1 in any other
-/// case. A failure is one line on `err`, save that what is wrong with the shape of the words may
-/// take several.
+/// case. A failure is one line on `err`, except that a mistake in the shape of the words may take
+/// several.
 pub fn tool<F: Files, O: Output, E: Output>(
     alloc: Global,
     words: &[&str],

@@ -34,7 +34,7 @@ pub enum Failure<'a> {
     NotWire(&'a str),
     /// The name of `--after` is neither the root nor below it.
     AfterOutsideRoot(&'a str),
-    /// The walk over this agent ended otherwise than with all that there is.
+    /// The walk over this agent ended before all of it was given.
     Ended(&'a str, WalkEnd),
     /// Memory ran out.
     Memory,

@@ -80,8 +80,8 @@ fn do_walk<F: Files, O: Output, E: Output>(
     }
 }
 
-// Reports a failure on `err`, and returns its status. Where there is no memory for its message,
-// that is reported.
+// Reports a failure on `err`, and returns its status. Where memory for its message runs out, that
+// is reported.
 fn report<E: Output>(alloc: Global, failure: &Failure<'_>, err: &mut E) -> u8
     ensures { IsReported (Some (fault_of failure.now)) (E.stream err.old) (E.stream err.new)
         result }
@@ -104,7 +104,7 @@ fn message_line(alloc: Global, failure: &Failure<'_>) -> Result<Vec<u8>, AllocEr
     Ok(text)
 }
 
-/// Writes a text. A fault is passed over: there is nowhere left to report it.
+/// Writes a text. A fault is ignored: there is nowhere left to report it.
 pub(crate) fn tell<E: Output>(err: &mut E, text: &[u8])
     ensures { IsWritten (E.stream err.old) text.now (E.stream err.new) }
 {
@@ -143,7 +143,7 @@ fn walk_lines<'a, F: Files, O: Output>(
 }
 
 // Prints the walk of a plan over a table, and after it the number of its bindings where that is
-// wanted.
+// asked for.
 fn print_plan<'a, O: Output>(
     alloc: Global,
     plan: &Plan<'a>,
@@ -170,7 +170,7 @@ fn print_plan<'a, O: Output>(
     finish(end_in_memory(end), plan.counts, asking.agent, out)
 }
 
-// How a walk over a link in memory ended: such a link fails where memory runs out, and then alone.
+// How a walk over a link in memory ended: such a link fails only where memory runs out.
 fn end_in_memory(end: WalkEnd) -> WalkEnd
     ensures { result ≡ end_in_memory end }
 {
@@ -180,7 +180,7 @@ fn end_in_memory(end: WalkEnd) -> WalkEnd
     }
 }
 
-// Prints what follows the lines of a walk that ended so.
+// Prints what follows the lines of a walk that ended in this way.
 fn finish<'a, O: Output>(
     end: WalkEnd,
     counts: bool,

@@ -1,4 +1,5 @@
-//! The words of a walk are judged: the plan that they ask for, or the first that has no meaning.
+//! Judges the words of a walk: the plan that they ask for, or the first of them that has no
+//! meaning.
 ghost use Rattle.std.specs.Prelude.{◌≡◌, ◌↔◌, ℕ, List, Some, codes, option_map};
 ghost use Rattle.std.specs.Prelude.{IfErr, IfNone, IfOk, IfSome, IsTrue};
 ghost use Rattle.snmp_walk.specs.Walker.{IsMethod};
@@ -89,7 +90,7 @@ fn table_path(agent: &str) -> Option<&str>
     }
 }
 
-// The name that a text is.
+// The name that a text states.
 fn name(text: &str) -> Result<Oid, Failure<'_>>
     ensures ok { IfOk result (IsShortName text.now) }
     ensures err { IfErr result (λ e. NameFails text.now (fault_of e)) }
@@ -101,7 +102,7 @@ fn name(text: &str) -> Result<Oid, Failure<'_>>
     }
 }
 
-// The name that a text is, where there is one.
+// The name that a text states, where there is a text.
 fn name_if_given<'a>(text: Option<&'a str>) -> Result<Option<Oid>, Failure<'a>>
     ensures ok { IfOk result (IsNameIfGiven (option_map (λ t. t.now) text.entry)) }
     ensures err { IfErr result (λ e. (t : List ℕ) × (option_map (λ t. t.now) text.entry ≡ Some t)

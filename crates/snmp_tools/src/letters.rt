@@ -87,7 +87,7 @@ impl Choices {
         }
     }
 
-    /// What the walk gives beside the instances below its root.
+    /// What the walk gives besides the instances below its root.
     pub(crate) fn mode(self) -> Mode
         ensures { result ≡ mode_of (chosen self) }
     {
@@ -100,7 +100,7 @@ impl Choices {
         }
     }
 
-    /// By which requests the walk asks.
+    /// The requests by which the walk asks for instances.
     pub(crate) fn method(self, bulk: bool) -> Method
         ensures method { result ≡ method_of bulk (chosen self) }
         ensures lawful { IsMethod result }
@@ -113,7 +113,7 @@ impl Choices {
     }
 }
 
-// How many digits stand at the front of a text.
+// How many digits are at the front of a text.
 fn front_digits(text: &[u8]) -> usize
     ensures within { result ≤ length text.now }
     ensures digits { list_all is_digit (take result text.now) ≡ true }
@@ -127,7 +127,7 @@ fn front_digits(text: &[u8]) -> usize
     text.len()
 }
 
-// The number of repetitions that digits write.
+// The number of repetitions that digits state.
 fn repetitions(digits: &[u8]) -> Option<u32>
     requires { list_all is_digit digits.now ≡ true }
     ensures value { result ≡ repetitions_in digits.now }

@@ -1,7 +1,7 @@
 //! The tools: each job from its words to what it prints.
 //!
-//! Stands on the words, on outputs and files, on tables, walks and lines. The program hands it the
-//! machine.
+//! Built on the words, on outputs and files, on tables, walks and lines. The program passes the
+//! machine to it.
 #![tactic(auto)]
 
 mod choices;

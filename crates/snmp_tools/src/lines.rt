@@ -1,4 +1,4 @@
-//! The output of the tools: texts as they stand, and a line for each binding of a walk.
+//! The output of the tools: texts as they are, and a line for each binding of a walk.
 ghost use Rattle.std.specs.Prelude.{◌≡◌, ◌+◌, ◌++◌, List, OnOk, []};
 ghost use Rattle.snmp_wire.specs.Message.{VarBind};
 ghost use Rattle.snmp_walk.specs.Facts.{IsFresh, WalkFacts};
@@ -17,7 +17,7 @@ use std::alloc::{AllocError, Global};
 pub struct Lines<O: Output> {
     /// Where the lines go.
     pub out: O,
-    /// The line that is being written, whose memory serves for the next.
+    /// The line that is being written, whose memory is used again for the next.
     text: Vec<u8>,
 }
 
@@ -48,7 +48,7 @@ impl<O: Output> Lines<O> {
     }
 }
 
-// Appends the line that tells how many bindings were found.
+// Appends the line that says how many bindings were found.
 fn count_line(count: u64, out: &mut Vec<u8>) -> Result<(), AllocError>
     ensures { OnOk result (out.new.items ≡ out.old.items ++ count_line count) }
 {

@@ -15,11 +15,11 @@ pub(crate) struct Plan<'a> {
     pub(crate) max_size: usize,
     /// The root of the subtree.
     pub(crate) root: Oid,
-    /// The name after which the walk goes on, if it broke off.
+    /// The name after which the walk goes on, if one is given.
     pub(crate) after: Option<Oid>,
-    /// What it gives beside the instances below the root.
+    /// What it gives besides the instances below the root.
     pub(crate) mode: Mode,
-    /// By which requests it asks.
+    /// The requests by which it asks for instances.
     pub(crate) method: Method,
     /// Whether the number of bindings is printed after them.
     pub(crate) counts: bool,

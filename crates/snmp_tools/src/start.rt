@@ -1,4 +1,4 @@
-//! How a walk begins: its names must be such as can be sent.
+//! How a walk begins: its names must have an encoding.
 ghost use Rattle.std.specs.Prelude.{◌≡◌, ◌⊎◌, IfErr, IfOk, unwrap_or, option_map, [], List, ℕ};
 ghost use Rattle.std.specs.Prelude.{length, ◌≤◌};
 ghost use Rattle.snmp_oid.specs.Identifier.{IsWire, wire};
@@ -68,7 +68,7 @@ fn resume<'a>(plan: &Plan<'a>, after: &Oid, text: &'a str) -> Result<WalkCore, F
     }
 }
 
-// An identifier once more.
+// A copy of the identifier.
 fn copied(name: &Oid) -> Oid
     ensures { result ≡ name.now }
 {

@@ -1,4 +1,4 @@
--- What holds of a whole run.
+-- What is true of a whole run.
 use Rattle.std.specs.Prelude.{
   ◌≡◌,
   ℕ,
@@ -31,8 +31,7 @@ use Rattle.snmp_walk.specs.Standing.{Reaches, IsPartOfWalk, Ends}
 use Rattle.snmp_walk.specs.Link.{Agents, IsNextFrom, IsGotFrom, IsTooLarge, IsUnanswered}
 use Rattle.snmp_walk.specs.Room.{HasRoomForEach, HasIds}
 
--- a walk of which nothing was taken yet, and which asks for the root or behind a name that begins
--- with it
+-- a walk that has taken no reply yet, and asks for the root or after a name that begins with it
 pub record IsFresh (w : Walker) : Type 0 where
   pub phase : w.phase ≡ first_phase w.mode
   pub count : w.count ≡ 0
@@ -74,8 +73,8 @@ pub record HasNoReply (agents : Agents) (tries : ℕ) (old new : Traffic) (w : W
 abbrev pub HasNone : Agents → Walker → Type 0
 HasNone agents w = IsUnanswered agents (canon (request_of w))
 
--- what the walk gives of one table, `got` being what that answers to a Get of the name from which
--- the walk begins
+-- what the walk gives of one table, `got` being what a Get of the name that the walk begins from
+-- gives
 abbrev pub walk_at : Walker → MibView → VarBind → List VarBind
 walk_at first view got = walk_from first.mode first.root first.asked got (variables view)
 
@@ -111,8 +110,8 @@ pub record WalkFacts (agents : Agents) (tries : ℕ) (old : Traffic) (first : Wa
   pub all_at_done : (view : MibView) (got : VarBind) → agents.tables ≡ view ∷ []
       → IsGet view first.asked got → IsDone end
       → rows ≡ walk_at first view got
-  -- Over one table, where there is room for each single binding and ids are enough, a walk is done
-  -- unless the link or the sink stops it or no reply comes,
+  -- Over one table, where there is room for each single binding and there are enough ids, a walk is
+  -- done unless the link or the sink stops it or no reply comes,
   pub done_unless_lost : (view : MibView) (got : VarBind) → agents.tables ≡ view ∷ []
       → IsGet view first.asked got
       → HasRoomForEach agents view first → HasIds first view → IsDoneOrCutOff end
@@ -121,7 +120,7 @@ pub record WalkFacts (agents : Agents) (tries : ℕ) (old : Traffic) (first : Wa
       → IsGet view first.asked got
       → HasRoomForEach agents view first → HasIds first view → old.ahead ≡ [] → IsDoneOrStopped end
 
--- how many Gets a walk of this mode may send beside the requests for the next instances
+-- how many Gets a walk of this mode may send besides the requests for the next instances
 abbrev pub gets : Mode → ℕ
 gets mode.NoLast = 0
 gets _ = 1
@@ -132,7 +131,7 @@ pub record SendFacts (agents : Agents) (honest : Type 0) (tries : ℕ) (old : Tr
     (first : Walker) (rows : List VarBind) (new : Traffic) : Type 0 where
   pub requests : List Try
   pub sent : new.sent ≡ old.sent ++ sent_by requests
-  -- ids rise by one, and each request is sent so many times at most
+  -- ids rise by one, and each request is sent at most this many times
   pub are_tries : AreTries tries first rows first.id requests
   pub few : first.id + length requests ≤ 2147483648
   -- at most 64 deliveries are used for each datagram sent

@@ -1,4 +1,4 @@
--- What a Get of names asks and brings (RFC 3416, section 4.2.1).
+-- The request of a Get of names, and what its reply brings (RFC 3416, section 4.2.1).
 use Rattle.std.specs.Prelude.{
   ◌≡◌,
   ◌<◌,

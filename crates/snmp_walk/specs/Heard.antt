@@ -1,4 +1,4 @@
--- What is heard after a request was sent.
+-- What is received after a request was sent.
 use Rattle.std.specs.Prelude.{
   ◌≡◌,
   ℕ,
@@ -27,7 +27,7 @@ use Rattle.snmp_walk.specs.Taken.{awaits, is_over}
 use Rattle.snmp_walk.specs.Link.{Agents, OneOf, IsReplyFrom, IsUnanswered}
 use Rattle.snmp_walk.specs.Traffic.{Traffic, resent, Lost}
 
--- the octets spell one message, a Response of this community and this request-id
+-- the octets encode one message, a Response of this community and this request-id
 pub record IsAwaited (community : List ℕ) (id : ℕ) (octets : List ℕ) : Type 0 where
   pub message : Message
   pub spelt : Spells message octets
@@ -43,8 +43,8 @@ pub record IsAsked (agents : Agents) (community : List ℕ) (id : ℕ) (q : List
       ⊎ ((octets : List ℕ) (m : Message) → IsReplyFrom agents d octets → Spells m octets
       → awaits community id m ≡ false)
 
--- which deliveries one try of the request used, and that they may belong to a lost request where
--- it brought no reply
+-- which deliveries one try of the request used, and that they may belong to a lost request where no
+-- reply came
 pub record Hears (agents : Agents) (q : List ℕ) (old : Traffic) (silent : Type 0)
     (new : Traffic) : Type 0 where
   pub used : List (Option ℕ)
@@ -54,8 +54,8 @@ pub record Hears (agents : Agents) (q : List ℕ) (old : Traffic) (silent : Type
       ⊎ ((t : ℕ) (rest : List (Option ℕ)) → Lost agents (resent old.sent q t) q rest t 0
       → Lost agents old.sent q (used ++ rest) (t + 1) 0)
 
--- how often the request was sent, of so many tries, and which deliveries were used; where it
--- brought no reply, the agents have none or the deliveries lost it
+-- how often the request was sent, at most `tries` times, and which deliveries were used; where no
+-- reply came, the agents have none or the deliveries lost it
 pub record Exchanges (agents : Agents) (honest : Type 0) (tries : ℕ) (q : List ℕ) (old : Traffic)
     (silent : Type 0) (new : Traffic) : Type 0 where
   pub times : ℕ
@@ -73,6 +73,6 @@ IsSentBefore w d =
     ⊎ ((v : Walker) × IsWalker v × (is_over v.phase ≡ false) × (v.id < w.id)
     × (d ≡ canon (request_of v)))
 
--- each of these datagrams is
+-- each of these datagrams is such a request
 abbrev pub IsEarlier : List (List ℕ) → Walker → Type 0
 IsEarlier sent w = (d : List ℕ) → OneOf sent d → IsSentBefore w d

@@ -1,4 +1,4 @@
--- What a link promises, and what may be said of the agents behind it.
+-- What a link promises, and what its agents may reply.
 use Rattle.std.specs.Prelude.{
   pos,
   ◌≡◌,
@@ -25,7 +25,7 @@ use Rattle.snmp_agent.specs.declared.config.Why.{Why}
 use Rattle.snmp_walk.specs.Walker.{Walker}
 use Rattle.snmp_walk.specs.Request.{request_of}
 
--- the agents that may answer: the tables that they serve, their community, and the greatest size of
+-- the agents that may reply: the tables that they serve, their community, and the greatest size of
 -- their messages
 pub record Agents : Type 0 where
   pub tables : List MibView
@@ -44,25 +44,26 @@ single_response community id p = record {
   bindings = p ∷ [];
 }
 
--- one of them
+-- the element is one of the list
 abbrev pub OneOf : {X : Type 0} → List X → X → Type 0
 OneOf [] x = ⊥
 OneOf (y ∷ ys) x = (x ≡ y) ⊎ OneOf ys x
 
--- what may be answered to a GetNext of the name
+-- what an agent may give for a GetNext of the name
 abbrev pub IsNextFrom : Agents → List ℕ → VarBind → Type 0
 IsNextFrom agents o p = (view : MibView) × OneOf agents.tables view × IsNext view o p
 
--- what may be answered to a Get of the name
+-- what an agent may give for a Get of the name
 abbrev pub IsGotFrom : Agents → List ℕ → VarBind → Type 0
 IsGotFrom agents o p = (view : MibView) × OneOf agents.tables view × IsGet view o p
 
--- Some message of the agents has no room for the binding, by its id.
+-- For some request-id, the Response with this binding alone is longer than the agents' messages may
+-- be.
 abbrev pub IsTooLarge : Agents → VarBind → Type 0
 IsTooLarge agents p = (id : ℕ) × (id < 2 ^ 31)
     × (agents.max_size < length (canon (single_response agents.community id p)))
 
--- one of them, with its table
+-- the agent that serves this table
 abbrev pub agent_in : Agents → MibView → Agent
 agent_in agents view = record {
   view = view;
@@ -83,12 +84,12 @@ pub record IsUnanswered (agents : Agents) (datagram : List ℕ) : Type 0 where
   pub why : Why
   pub dropped : IsDropped (agent_in agents view) datagram why
 
--- the tables are tables of agents
+-- each table is a MIB view
 abbrev pub AreViews : List MibView → Type 0
 AreViews [] = Unit {0}
 AreViews (view ∷ views) = IsMibView view × AreViews views
 
--- what agents are
+-- the agents serve MIB views, and their messages fit datagrams
 pub record AreLawful (agents : Agents) : Type 0 where
   pub views : AreViews agents.tables
   pub size : agents.max_size ≤ 65507

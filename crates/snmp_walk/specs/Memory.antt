@@ -28,7 +28,7 @@ traffic_of link = record {
 pub record IsHonest (link : MemoryLink) : Type 0 where
   pub lawful : AreLawful (agents_of link)
 
--- there is memory for so many more datagrams of so many octets together
+-- there is memory for `sends` more datagrams of `octets` octets together
 pub record IsReadyFor (link : MemoryLink) (sends octets : ℕ) : Type 0 where
   pub places : sends ≤ link.arena.places
   pub room : octets ≤ link.arena.room

@@ -1,4 +1,4 @@
--- Names in a walk as tests: which stand below its root, and which come after another (RFC 3416,
+-- Tests of names in a walk: which are below its root, and which come after another (RFC 3416,
 -- section 4.2.2).
 use Rattle.std.specs.Prelude.{ℕ, Bool, true, false, ◌&&◌, not, nat_lt, List, length}
 use Rattle.std.specs.List.{starts_with}

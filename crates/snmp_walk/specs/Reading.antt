@@ -25,7 +25,7 @@ use Rattle.snmp_walk.specs.Names.{is_inside, is_missing, comes_after}
 use Rattle.snmp_walk.specs.Trail.{last_name}
 use Rattle.snmp_walk.specs.Taken.{inside_front, rising_front, name_at}
 
--- from the binding behind the name `last`, with so many rows before it
+-- what is read from the binding after the name `last` on, with this many rows before it
 abbrev pub front_from : List ℕ → List ℕ → ℕ → List VarBind → Front
 front_from root last rows [] = record { rows = rows; last = last; ending = ending.GoesOn }
 front_from root last rows (b ∷ more) =
@@ -43,8 +43,8 @@ EndsAs ending.Leaves rows inside bindings = (length rows ≡ length inside)
 EndsAs (ending.Falls name) rows inside bindings = (length rows < length inside)
     × (name ≡ name_at inside (length rows))
 
--- what is read of bindings whose front before the first that ends the walk is `inside`, and of
--- which `rows` rise
+-- what is read of bindings where `inside` are those before the first that ends the walk, and `rows`
+-- those of them that rise
 pub record IsReadAs (last : List ℕ) (before : ℕ) (bindings inside rows : List VarBind)
     (front : Front) : Type 0 where
   pub count : front.rows ≡ before + length rows

@@ -12,7 +12,7 @@ use Rattle.snmp_walk.specs.declared.phase.Phase.{Phase}
 use Rattle.snmp_walk.specs.declared.phase.Phase.TheVariants as phase
 use Rattle.snmp_walk.specs.Walker.{Walker}
 
--- a walk that includes its root begins with a Get of it, and any other with the instances behind it
+-- a walk that includes its root begins with a Get of it, and any other with the instances after it
 abbrev pub first_phase : Mode → Phase
 first_phase mode.Include = phase.First
 first_phase _ = phase.Rows
@@ -30,7 +30,7 @@ started root mode method community id = record {
   count = 0;
 }
 
--- a walk that goes on behind a name
+-- a walk that goes on after a name
 abbrev pub resumed : List ℕ → List ℕ → Method → List ℕ → ℕ → Walker
 resumed root after method community id = record {
   root = root;
@@ -43,7 +43,7 @@ resumed root after method community id = record {
   count = 0;
 }
 
--- by which PDU the next instances are asked for
+-- the PDU that asks for the next instances
 abbrev pub next_kind : Method → Kind
 next_kind method.Next = kind.GetNextRequest
 next_kind (method.Bulk repetitions) = kind.GetBulkRequest

@@ -1,5 +1,5 @@
--- What a walk over one table needs to end for no other reason than its own: room for each single
--- binding, and ids enough.
+-- What a walk over one table needs so that it can be done: room for each single binding, and enough
+-- ids.
 use Rattle.std.specs.Prelude.{◌≡◌, ◌+◌, ◌≤◌, length}
 use Rattle.snmp_wire.specs.Message.{
   Datum,
@@ -15,8 +15,8 @@ use Rattle.snmp_walk.specs.Walk.{rest_of}
 use Rattle.snmp_walk.specs.Walker.{Walker}
 use Rattle.snmp_walk.specs.Link.{Agents, single_response}
 
--- The agents' messages have room for the binding: the single_response of it alone, with the
--- greatest request-id, is no longer than their greatest size.
+-- The agents' messages have room for the binding: the Response with this binding alone and the
+-- greatest request-id is no longer than their greatest size.
 abbrev pub HasRoom : Agents → VarBind → Type 0
 HasRoom agents p = length (canon (single_response agents.community 2147483647 p)) ≤ agents.max_size
 
@@ -27,16 +27,16 @@ IsException no_such_instance = Unit {0}
 IsException end_of_mib_view = Unit {0}
 IsException _ = ⊥
 
--- The walk asks by the agents' community, and there is room for each row of the table alone, and
--- for the name that the walk begins from with an exception.
+-- The walk's requests have the agents' community, and there is room for each row of the table
+-- alone, and for the name that the walk begins from with an exception.
 pub record HasRoomForEach (agents : Agents) (view : MibView) (first : Walker) : Type 0 where
   pub community : first.community ≡ agents.community
   pub rows : (p : VarBind) → IsRow view p → HasRoom agents p
   pub exceptions : (v : Datum) → IsException v
       → HasRoom agents (record { name = first.asked; value = v })
 
--- Ids are enough for a request for each row that the walk gives below its root, one more, and a
--- Get.
+-- There are enough ids for a request for each row that the walk gives below its root, one more, and
+-- a Get.
 abbrev pub HasIds : Walker → MibView → Type 0
 HasIds first view = first.id + length (rest_of first.root first.asked
     (variables view)) + 2 ≤ 2147483647

@@ -1,4 +1,4 @@
--- What a run of a walk hears and gives.
+-- What a run of a walk receives and gives.
 use Rattle.std.specs.Prelude.{
   ◌≡◌,
   ℕ,
@@ -36,7 +36,7 @@ use Rattle.snmp_walk.specs.Taken.{is_awaited, take_of}
 use Rattle.snmp_walk.specs.Standing.{IsReplyTo}
 use Rattle.snmp_walk.specs.Link.{Agents, OneOf, IsNextFrom, IsGotFrom, IsTooLarge}
 
--- The datagram spells the reply that the walk waits for, which the agents gave where the link is
+-- The datagram encodes the reply that the walk waits for, which the agents sent where the link is
 -- honest.
 pub record IsHeard (agents : Agents) (honest : Type 0) (w : Walker)
     (datagram : List ℕ) : Type 0 where
@@ -103,7 +103,7 @@ pub record Asks (first : Walker) (rows : List VarBind) (by : Walker) : Type 0 wh
   pub same : by ≡ record first { phase = by.phase; asked = by.asked; id = by.id; count = by.count }
   pub name : AsksFor first rows by.phase by.asked
 
--- requests in turn, of ids that rise by one from this one on, each sent so many times at most
+-- requests in turn, of ids that rise by one from this one on, each sent at most `tries` times
 abbrev pub AreTries : ℕ → Walker → List VarBind → ℕ → List Try → Type 0
 AreTries tries first rows id [] = Unit {0}
 AreTries tries first rows id (t ∷ more) =

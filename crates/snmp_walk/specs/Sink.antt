@@ -1,4 +1,4 @@
--- What a sink was given: bindings whose calls answered Ok, each begun in the state that the one
+-- What a sink was given: bindings whose calls returned Ok, each made in the state that the call
 -- before left.
 use Rattle.std.specs.Prelude.{◌≡◌, List, [], ◌∷◌, Result, Ok, Err}
 use Rattle.snmp_wire.specs.Message.{VarBind}

@@ -1,7 +1,6 @@
 -- Where a walk stands between two replies, and how it may end, when each reply is an honest one to
--- the request that was waiting: agents that answer
--- GetNext as `Next` says and Get as `Got` says, and whose largest message has no room for a binding
--- that is `Large`.
+-- the request that was waiting: agents give for a GetNext what `Next` says and for a Get what `Got`
+-- says, and their largest message has no room for a binding that is `Large`.
 use Rattle.std.specs.Prelude.{
   ◌≡◌,
   ◌≢◌,
@@ -36,16 +35,16 @@ use Rattle.snmp_walk.specs.Taken.{asked_for, if_present}
 use Rattle.snmp_walk.specs.Walker.{Walker}
 use Rattle.snmp_walk.specs.Walk.{AreRising, AreInstances, or_end, rows_after, rows_named}
 
--- each binding is an answer to a GetNext of the name before it
+-- each binding is one that a GetNext of the name before it gives
 abbrev pub IsChain : (List ℕ → VarBind → Type 0) → List ℕ → List VarBind → Type 0
 IsChain Next o [] = Unit {0}
 IsChain Next o (p ∷ more) = Next o p × IsChain Next p.name more
 
--- the answer to a request has no room
+-- a binding that the request may be given has no room
 abbrev pub IsLarge : (List ℕ → VarBind → Type 0) → (VarBind → Type 0) → List ℕ → Type 0
 IsLarge Answer Large o = (p : VarBind) × Answer o p × Large p
 
--- an honest reply is the answers, or tooBig where they have no room
+-- an honest reply has the bindings asked for, or tooBig where they have no room
 abbrev pub IsGetContent : (List ℕ → VarBind → Type 0) → (VarBind → Type 0) → List ℕ → Message
     → Type 0
 IsGetContent Got Large o m =
@@ -80,7 +79,7 @@ abbrev pub IsOpening : (List ℕ → VarBind → Type 0) → Mode → List ℕ �
 IsOpening Got mode.Include o front = (p : VarBind) × Got o p × (front ≡ if_present p)
 IsOpening Got _ o front = front ≡ []
 
--- these were given, and the walk asks behind the name o
+-- these were given, and the walk asks after the name o
 pub record IsGiven (Next Got : List ℕ → VarBind → Type 0) (first : Walker)
     (given : List VarBind) (o : List ℕ) : Type 0 where
   pub front : List VarBind
@@ -90,7 +89,7 @@ pub record IsGiven (Next Got : List ℕ → VarBind → Type 0) (first : Walker)
   pub is_trail : IsTrail Next first.root first.asked trail
   pub last : o ≡ last_name first.asked trail
 
--- nothing stood below the root, and its own answer was given
+-- nothing was below the root, and what a Get of it gives was given
 pub record IsAlone (Next Got : List ℕ → VarBind → Type 0) (first : Walker)
     (given : List VarBind) : Type 0 where
   pub plain : first.mode ≡ mode.Plain
@@ -99,7 +98,7 @@ pub record IsAlone (Next Got : List ℕ → VarBind → Type 0) (first : Walker)
   pub is_answer : Got first.asked answer
   pub only : given ≡ answer ∷ []
 
--- a beginning of what the walk gives
+-- the first bindings that the walk gives, or none
 abbrev pub IsPartOfWalk : (Next Got : List ℕ → VarBind → Type 0) → Walker → List VarBind → Type 0
 IsPartOfWalk Next Got first given =
     (given ≡ [])
@@ -120,15 +119,14 @@ IsStage Next Got first given o phase.Last = (given ≡ []) × (o ≡ first.asked
     × (first.mode ≡ mode.Plain) × IsAtEnd Next first.root first.asked
 IsStage Next Got first given o phase.Over = ⊥
 
--- the Get of the root with which a walk begins that includes it
+-- how many Gets of the root a walk begins with: one where it includes the root
 abbrev pub opening_gets : Mode → ℕ
 opening_gets mode.Include = 1
 opening_gets _ = 0
 
--- How far the ids have come: each request before the waiting one brought a row behind the root's
--- own at least, but for the Get with which a walk
--- begins that includes its root, and the request that found nothing, before the Get with which a
--- plain walk ends.
+-- How far the ids have come: each request before the waiting one brought at least one row after the
+-- root's own. Exceptions are the Get that a walk begins with where it includes its root, and the
+-- request that found nothing, before the Get that ends a plain walk.
 abbrev pub IsPaced : (List ℕ → VarBind → Type 0) → Walker → List VarBind → ℕ → Phase → Type 0
 IsPaced Got first given id phase.First = id ≡ first.id
 IsPaced Got first given id phase.Rows =
@@ -146,7 +144,7 @@ pub record Reaches (Next Got : List ℕ → VarBind → Type 0) (first w : Walke
   pub paced : IsPaced Got first given w.id w.phase
   pub stage : IsStage Next Got first given w.asked w.phase
 
--- the answer to the waiting request has no room
+-- a binding that the waiting request may be given has no room
 abbrev pub IsReplyTooLarge : (Next Got : List ℕ → VarBind → Type 0) → (VarBind → Type 0) → Phase
     → List ℕ → Type 0
 IsReplyTooLarge Next Got Large phase.First o = IsLarge Got Large o
@@ -154,7 +152,7 @@ IsReplyTooLarge Next Got Large phase.Rows o = IsLarge Next Large o
 IsReplyTooLarge Next Got Large phase.Last o = IsLarge Got Large o
 IsReplyTooLarge Next Got Large phase.Over o = ⊥
 
--- the walk may end so, after these bindings, where w was waiting for the reply
+-- the walk may end in this way after these bindings, w being its state that waited for the reply
 abbrev pub Ends : (Next Got : List ℕ → VarBind → Type 0) → (VarBind → Type 0) → Walker → Walker
     → List VarBind → WalkEnd → Type 0
 Ends Next Got Large first w given (ending.Done n) = (n ≡ length given)
@@ -175,7 +173,7 @@ Advances Next Got Large first old given (step.Rows more) w = Reaches Next Got fi
 Advances Next Got Large first old given (step.Last more why) w = IsPartOfWalk Next Got first
     (given ++ more) × Ends Next Got Large first old (given ++ more) why
 
--- The agents are one table: its rows by rising names, what it answers to a GetNext, and `got` to a
+-- The agents are one table: its rows by rising names, what it gives for a GetNext, and `got` for a
 -- Get of the name that the walk begins from.
 pub record IsOneTable (rows : List VarBind) (got : VarBind)
     (Next Got : List ℕ → VarBind → Type 0) (first : Walker) : Type 0 where
@@ -193,7 +191,7 @@ Rises o p = (is_end p.value ≡ false → comes_after o p.name ≡ true) × (is_
 abbrev pub Named : List ℕ → VarBind → Type 0
 Named o p = (p.name ≡ o) × (is_end p.value ≡ false)
 
--- the ends that replies lead to
+-- the ends that a reply may lead to
 abbrev pub IsReplyEnd : WalkEnd → Type 0
 IsReplyEnd ending.RequestTooLong = ⊥
 IsReplyEnd ending.NoResponse = ⊥

@@ -1,6 +1,5 @@
 -- What a message means to a walk (RFC 3416, section 4.2, and this project's profile): the rules by
--- which a reply is judged, as one function of
--- the walk's state and the message.
+-- which a reply is judged, as one function of the walk's state and the message.
 use Rattle.std.specs.Prelude.{
   ◌≡◌,
   ◌⊎◌,
@@ -64,7 +63,7 @@ awaits community id m =
     int_eq m.version (pos 1) && pointwise nat_eq m.community community && is_response m.kind
     && int_eq m.id (pos id)
 
--- the message is the reply that is waited for
+-- the message is the reply to the waiting request
 abbrev pub is_awaited : Walker → Message → Bool
 is_awaited w m = not (is_over w.phase) && awaits w.community w.id m
 
@@ -111,8 +110,8 @@ abbrev pub is_plain : Mode → Bool
 is_plain mode.Plain = true
 is_plain _ = false
 
--- Nothing more stands below the root: where a plain walk gave nothing it asks for the root itself,
--- else the walk is done.
+-- Nothing more is below the root: where a plain walk gave nothing it asks for the root itself, else
+-- the walk is done.
 abbrev pub closes : Walker → List VarBind → Step × Walker
 closes w rows =
     if is_plain w.mode && (w.count + length rows == 0)
@@ -148,12 +147,12 @@ got asked (b ∷ c ∷ more) = None
 abbrev pub if_present : VarBind → List VarBind
 if_present b = if is_missing b.value then [] else b ∷ []
 
--- the reply to the Get with which a walk begins that includes the root
+-- the reply to the first request of a walk that includes the root, a Get of it
 abbrev pub reads_first : Walker → Option VarBind → Step × Walker
 reads_first w None = stops w [] ending.BadReply
 reads_first w (Some b) = goes_on w phase.Rows (if_present b)
 
--- the reply to the Get with which a plain walk ends that gave nothing
+-- the reply to the last request of a plain walk that gave nothing, a Get of the root
 abbrev pub reads_last : Walker → Option VarBind → Step × Walker
 reads_last w None = stops w [] ending.BadReply
 reads_last w (Some b) = stops w (b ∷ []) (ending.Done (w.count + 1))
@@ -169,11 +168,11 @@ abbrev pub reads_reply : Walker → Message → Step × Walker
 reads_reply w m = if int_eq m.a (pos 0) then reads_for w.phase w m.bindings else stops w []
     (ending.Fault m.a m.b)
 
--- what a message is to a walk, and the walk after it
+-- what a message means to a walk, and the walk after it
 abbrev pub take_of : Walker → Message → Step × Walker
 take_of w m = if is_awaited w m then reads_reply w m else (step.Stray, w)
 
--- The datagram is read by the message that it spells, and one that spells none changes nothing.
+-- The datagram is read as the message that it encodes, and one that encodes none changes nothing.
 abbrev pub Takes : Walker → List ℕ → Step → Walker → Type 0
 Takes old datagram given new =
     ((m : Message) × Spells m datagram × (given ≡ (take_of old m).0) × (new ≡ (take_of old m).1))

@@ -22,8 +22,8 @@ use Rattle.snmp_walk.specs.Link.{Agents, IsReplyFrom, IsUnanswered}
 pub record Traffic : Type 0 where
   -- the datagrams sent, in order
   pub sent : List (List ℕ)
-  -- What the next receives give, in order: nothing, or the reply to the k-th datagram sent, which
-  -- count from 1. After these each receive gives the reply to the latest datagram.
+  -- What the next receives give, in order: nothing, or the reply to the k-th datagram sent, counted
+  -- from 1. After these each receive gives the reply to the latest datagram.
   pub ahead : List (Option ℕ)
 
 -- the k-th datagram sent; there is none for 0
@@ -41,7 +41,7 @@ abbrev pub received : Option ℕ → List ℕ → Option (List ℕ)
 received None buffer = None
 received (Some n) buffer = Some (take n buffer)
 
--- what the agents make of a datagram: a reply to it, or nothing where there is none
+-- what the agents return for a datagram: a reply to it, or nothing where there is none
 abbrev pub Gives : Agents → Option (List ℕ) → Option (List ℕ) → Type 0
 Gives agents None reply = reply ≡ None
 Gives agents (Some datagram) None = IsUnanswered agents datagram
@@ -72,7 +72,7 @@ abbrev pub resent : List (List ℕ) → List ℕ → ℕ → List (List ℕ)
 resent sent q zero = sent
 resent sent q (suc t) = sent ++ q ∷ []
 
--- The deliveries bring no reply to the request in so many tries, of which the first has received
+-- The deliveries bring no reply to the request in `tries` tries, the first of which has received
 -- `count` other replies: each try ends with a receive that gives nothing, or with its 64th.
 abbrev pub Lost : Agents → List (List ℕ) → List ℕ → List (Option ℕ) → (tries count : ℕ) → Type 0
 Lost agents sent q [] tries count = tries ≡ 0

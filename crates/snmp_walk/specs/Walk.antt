@@ -12,7 +12,7 @@ use Rattle.snmp_walk.specs.Names.{is_below, is_end, is_missing, comes_after}
 abbrev pub rows_below : List ℕ → List VarBind → List VarBind
 rows_below root rows = filter (λ row. is_below row.name root) rows
 
--- the rows behind a name
+-- the rows after a name
 abbrev pub rows_after : List ℕ → List VarBind → List VarBind
 rows_after o rows = filter (λ row. comes_after o row.name) rows
 
@@ -25,19 +25,19 @@ abbrev pub or_only : VarBind → List VarBind → List VarBind
 or_only got [] = got ∷ []
 or_only got (row ∷ rows) = row ∷ rows
 
--- What a walk gives, `got` being what a Get of the root answers: the rows below the root, or that
--- answer alone where there are none;
--- including the root: its own row, if there is one, and then those; or just those.
+-- What a walk gives, `got` being what a Get of the root gives. A plain walk: the rows below the
+-- root, or `got` alone where there are none. A walk that includes the root: the root's own row, if
+-- there is one, and then the rows below it. Without the last Get: the rows below the root alone.
 abbrev pub walk_of : Mode → List ℕ → VarBind → List VarBind → List VarBind
 walk_of Plain root got rows = or_only got (rows_below root rows)
 walk_of Include root got rows = rows_named (wire root) rows ++ rows_below root rows
 walk_of NoLast root got rows = rows_below root rows
 
--- what is left of it behind a name
+-- what is left of it after a name
 abbrev pub rest_of : List ℕ → List ℕ → List VarBind → List VarBind
 rest_of root o rows = rows_after o (rows_below root rows)
 
--- the names come after o, each
+-- each name comes after o
 abbrev pub AreAfter : List ℕ → List VarBind → Type 0
 AreAfter o [] = Unit {0}
 AreAfter o (row ∷ rows) = (comes_after o row.name ≡ true) × AreAfter o rows
@@ -58,7 +58,7 @@ abbrev pub or_end : List ℕ → List VarBind → VarBind
 or_end o [] = record { name = o; value = end_of_mib_view }
 or_end o (p ∷ more) = p
 
--- What a walk gives that begins behind the name o, which is the root as it is sent or, where a walk
+-- What a walk gives that begins after the name o, which is the root as it is sent or, where a walk
 -- is resumed, a name below it.
 abbrev pub walk_from : Mode → List ℕ → List ℕ → VarBind → List VarBind → List VarBind
 walk_from Plain root o got rows = or_only got (rest_of root o rows)

@@ -14,24 +14,24 @@ pub record Walker : Type 0 where
   pub community : List ℕ
   -- which request is waiting
   pub phase : Phase
-  -- the name that it asks for, or behind which it asks
+  -- the name that it asks for, or after which it asks
   pub asked : List ℕ
   -- its id
   pub id : ℕ
   -- how many bindings were given
   pub count : ℕ
 
--- repetitions are 1 at least
+-- a GetBulk has at least 1 repetition
 abbrev pub IsMethod : Method → Type 0
 IsMethod Next = Unit {0}
 IsMethod (Bulk repetitions) = pos 1 ≤ℤ repetitions
 
--- and at most 2147483647
+-- the repetitions of a GetBulk fit 32 bits with a sign: they are at most 2147483647
 abbrev pub HasRange : Method → Type 0
 HasRange Next = Unit {0}
 HasRange (Bulk repetitions) = FitsSigned w32 repetitions
 
--- what is true of each
+-- what is true of each state of a walk
 pub record IsWalker (w : Walker) : Type 0 where
   pub method : IsMethod w.method
   pub community : length w.community ≤ 255

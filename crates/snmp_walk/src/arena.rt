@@ -6,7 +6,7 @@ ghost use Rattle.snmp_walk.specs.Traffic.{datagram_at};
 use std::alloc::{AllocError, Global};
 use std::marker::Model;
 
-/// Where a datagram stands among the octets.
+/// The place of a datagram among the octets.
 #[derive(Clone, Copy)]
 struct Span {
     start: usize,
@@ -39,7 +39,7 @@ impl Arena {
     ghost use Rattle.std.specs.Prelude.{◌≡◌, ◌≤◌, ◌+◌, ◌++◌, ℕ, [], ◌∷◌, length, Option, Some};
     ghost use Rattle.std.specs.Prelude.{None, OnOk, OnErr, IsOk, IfSome, IfNone, IfOk};
 
-    /// An arena of no datagram, for which no memory is reserved.
+    /// An arena without datagrams, for which no memory is reserved.
     pub(crate) fn new(alloc: Global) -> Arena
         ensures { result.datagrams ≡ [] }
     {
@@ -49,7 +49,7 @@ impl Arena {
         }
     }
 
-    /// Reserves memory for so many more datagrams of so many octets together.
+    /// Reserves memory for `sends` more datagrams of `octets` octets together.
     pub(crate) fn reserve(&mut self, sends: usize, octets: usize) -> Result<(), AllocError>
         ensures datagrams { self.new.datagrams ≡ self.old.datagrams }
         ensures reserved { OnOk result ((sends ≤ self.new.places) × (octets ≤ self.new.room)) }
@@ -86,7 +86,7 @@ impl Arena {
         self.spans.len()
     }
 
-    /// The datagram of this number; they count from 1.
+    /// The datagram of this number; datagrams are numbered from 1.
     pub(crate) fn datagram(&self, number: usize) -> Option<&[u8]>
         ensures some { IfSome result (λ d. datagram_at self.now.datagrams number ≡ Some d.now) }
         ensures none { IfNone result (datagram_at self.now.datagrams number ≡ None) }

@@ -45,9 +45,13 @@ pub fn run_get<L: Link, S: Sink>(
     requires community { length community.now ≤ 255 }
     requires id { id < 2 ^ 31 }
     ensures given { (rows : List VarBind) × (refused : List VarBind)
-        × GetEnds S.takes (get_request community.now id names.now) names.now (IsBrought (L.agents link.old) (L.honest link.old × ((L.traffic link.old).sent ≡ [])) community.now id names.now) sink.old rows refused result sink.new }
+        × GetEnds S.takes (get_request community.now id names.now) names.now
+        (IsBrought (L.agents link.old)
+        (L.honest link.old × ((L.traffic link.old).sent ≡ []))
+        community.now id names.now) sink.old rows refused result sink.new }
     ensures sent { L.keeps link.old → (times : ℕ) × (times ≤ retries + 1)
-        × ((L.traffic link.new).sent ≡ (L.traffic link.old).sent ++ replicate times (canon (get_request community.now id names.now))) }
+        × ((L.traffic link.new).sent ≡ (L.traffic link.old).sent
+        ++ replicate times (canon (get_request community.now id names.now))) }
     ensures fault { result ≡ WalkEnd.Link
         → HasRisen (L.fault_count link.old) (L.fault_count link.new) }
 {
@@ -90,7 +94,7 @@ fn read_get<'a>(names: &[Oid], datagram: &'a [u8]) -> Result<Rows<'a>, WalkEnd>
     }
 }
 
-/// The same of the message that the reply is.
+/// The bindings of this reply to a Get of these names, or how the Get ends without them.
 fn read_message<'a>(names: &[Oid], message: &MessageRef<'a>) -> Result<Rows<'a>, WalkEnd>
     requires { All (λ o. IsWire (wire o)) names.now }
     ensures { result ≡ answers_of names.now message.now }
@@ -105,8 +109,8 @@ fn read_message<'a>(names: &[Oid], message: &MessageRef<'a>) -> Result<Rows<'a>,
     Ok(Rows::front(message.bindings(), names.len()))
 }
 
-/// The octets of the request for these names, at the front of `out`, and how many there are. None
-/// where they are more than 65507.
+/// Writes the request for these names to the front of `out`, and returns its length, or None where
+/// that is more than 65507 octets.
 fn write_request(names: &[Oid], community: &[u8], id: u32, out: &mut [u8; 65507]) -> Option<usize>
     requires wire { All (λ o. IsWire (wire o)) names.now }
     requires community { length community.now ≤ 255 }
@@ -136,8 +140,8 @@ fn write_request(names: &[Oid], community: &[u8], id: u32, out: &mut [u8; 65507]
     Some(put_head(&parts, total, &mut out[..]))
 }
 
-/// Writes what stands before the bindings in the first `total` octets, which make room for it, and
-/// returns the length of the message.
+/// Makes a message of the bindings in the first `total` octets: moves them, writes what precedes
+/// them, and returns the length of the message.
 fn put_head(parts: &Parts<'_>, total: usize, out: &mut [u8]) -> usize
     requires community { length parts.now.community.now ≤ 255 }
     requires datagram { total ≤ 65507 }
@@ -154,9 +158,8 @@ fn put_head(parts: &Parts<'_>, total: usize, out: &mut [u8]) -> usize
     }
 }
 
-/// Writes a binding after the `total` octets of those before it, and returns how many they are
-/// then.
-/// None where they don't fit.
+/// Writes a binding after the `total` octets of those before it, and returns how many octets all of
+/// them take, or None where they don't fit.
 fn append(binding: &Binding<'_>, total: usize, out: &mut [u8]) -> Option<usize>
     requires encodable { IsEncodable (var_bind binding.now) }
     requires total { total ≤ length out.old }
@@ -209,7 +212,7 @@ fn asked<'a>(name: &Oid) -> Binding<'a>
     }
 }
 
-/// Whether the bindings are of just these names, in order, and none is endOfMibView.
+/// Whether the bindings have just these names, in order, and none has endOfMibView.
 fn are_for(names: &[Oid], mut bindings: Bindings<'_>) -> bool
     requires { All (λ o. IsWire (wire o)) names.now }
     ensures { result ≡ are_these names.now bindings.entry }
@@ -223,7 +226,7 @@ fn are_for(names: &[Oid], mut bindings: Bindings<'_>) -> bool
     !bindings.read_next(&mut binding)
 }
 
-/// Whether the binding is of this name, and no endOfMibView.
+/// Whether the binding has this name, and not endOfMibView.
 fn is_for(name: &Oid, binding: &Binding<'_>) -> bool
     requires { IsWire (wire name.now) }
     ensures { result ≡ (pointwise nat_eq (var_bind binding.now).name (wire name.now) && not (is_end

@@ -1,4 +1,4 @@
-//! What a walk sends its requests by.
+//! Links, over which a walk sends its requests and receives replies.
 ghost use Rattle.std.specs.Prelude.{◌≡◌, ◌≤◌, ◌+◌, ◌++◌, [], ◌∷◌, ◌⊎◌, ℕ, List, length, Option};
 ghost use Rattle.std.specs.Prelude.{Some, None, IsOk, OnOk, IfOk, OnErr, IfSome};
 
@@ -14,10 +14,10 @@ pub trait Link {
     ghost use Rattle.snmp_walk.specs.Link.{Agents, AreLawful};
     ghost use Rattle.snmp_walk.specs.Traffic.{Traffic, Receives, received};
 
-    /// That this link keeps the list of the datagrams sent.
+    /// Whether this link keeps the list of the datagrams sent.
     ghost keeps: { Self → Type 0 };
 
-    /// That what it gives are the replies of its agents, as its deliveries say.
+    /// Whether what it delivers are replies of its agents, as `traffic` says.
     ghost honest: { Self → Type 0 };
 
     /// The agents that may reply.
@@ -29,7 +29,8 @@ pub trait Link {
     /// How many sends and receives failed.
     ghost fault_count: { Self → ℕ };
 
-    /// That so many sends, of so many octets together, and any receives into 65507 octets succeed.
+    /// Whether this many sends, of this many octets together, and any receives into 65507 octets
+    /// succeed.
     ghost ready: { Self → ℕ → ℕ → Type 0 };
 
     /// Sends a datagram. A fault changes the count of faults alone.
@@ -53,7 +54,8 @@ pub trait Link {
     fn receive(&mut self, buffer: &mut [u8]) -> Result<Option<usize>, LinkFault>
         ensures length { IfOk result (λ got. IfSome got (λ n. n ≤ length buffer.old)) }
         ensures reply { honest self.old → 65507 ≤ length buffer.old
-            → IfOk result (λ got. Receives (agents self.old) (traffic self.old).sent (traffic self.old).ahead (received got buffer.new) (traffic self.new).ahead) }
+            → IfOk result (λ got. Receives (agents self.old) (traffic self.old).sent
+            (traffic self.old).ahead (received got buffer.new) (traffic self.new).ahead) }
         ensures sent { keeps self.old → (traffic self.new).sent ≡ (traffic self.old).sent }
         ensures unchanged { OnErr result (traffic self.new ≡ traffic self.old) }
         ensures keeps { keeps self.old → keeps self.new }

@@ -11,9 +11,9 @@ use std::alloc::{AllocError, Global};
 /// A link to an agent in memory, over one table or over tables that take turns.
 ///
 /// It keeps the datagrams that are sent. Each receive uses the next of the deliveries that it was
-/// made with: nothing, or the agent's reply to the k-th datagram sent, which count from 1. After
-/// the last of them a receive gives the reply to the latest datagram. Where the agent has no reply,
-/// or there is no such datagram, nothing is received.
+/// made with: nothing, or the agent's reply to the k-th datagram sent, counted from 1. After the
+/// last delivery a receive gives the reply to the latest datagram. Where the agent has no reply, or
+/// there is no such datagram, nothing is received.
 #[derive(Drop)]
 pub struct MemoryLink<'a> {
     tables: &'a [Table],
@@ -36,7 +36,7 @@ impl<'a> MemoryLink<'a> {
     ghost use Rattle.snmp_walk.specs.Memory.{IsHonest, IsReadyFor, IsNextNumber, agents_of};
     ghost use Rattle.snmp_walk.specs.Memory.{agents_over, traffic_of};
 
-    /// A link to the agent of one table, over which nothing was sent.
+    /// A link to the agent of one table, over which nothing has been sent.
     pub fn new(
         alloc: Global,
         table: &'a Table,
@@ -51,11 +51,11 @@ impl<'a> MemoryLink<'a> {
         MemoryLink::changing(alloc, std::slice::from_ref(table), config, &[], deliveries)
     }
 
-    /// A link to an agent whose table changes, over which nothing was sent.
+    /// A link to an agent whose table changes, over which nothing has been sent.
     ///
     /// The reply to the i-th datagram sent is that of the table whose place is the i-th of `uses`,
-    /// and after these of the last table. Places count from 0. There is at least one table, and
-    /// each place is that of one.
+    /// and after these that of the last table. Places count from 0. There is at least one table,
+    /// and each place in `uses` is that of a table.
     pub fn changing(
         alloc: Global,
         tables: &'a [Table],

@@ -1,10 +1,10 @@
-//! How a walk is made.
+//! The mode of a walk, and the method by which it asks for instances.
 
-/// What a walk gives beside the instances below its root.
+/// What a walk gives besides the instances below its root.
 #[derive(Clone, Copy, Debug, PartialEq, Eq)]
 pub enum Mode {
-    /// Where nothing stands below the root, the answer to a Get of the root itself, exception or
-    /// not.
+    /// Where nothing is below the root, what a Get of the root itself gives, a value or an
+    /// exception.
     Plain,
     /// Before them the root's own instance, if there is one.
     Include,
@@ -12,12 +12,12 @@ pub enum Mode {
     NoLast,
 }
 
-/// By which requests a walk asks for the next instances.
+/// The requests by which a walk asks for the next instances.
 #[derive(Clone, Copy, Debug, PartialEq, Eq)]
 pub enum Method {
     /// GetNext (RFC 3416, section 4.2.2), which asks for one instance.
     Next,
-    /// GetBulk (RFC 3416, section 4.2.3) with so many repetitions, 1 to 2147483647: it asks for as
-    /// many instances.
+    /// GetBulk (RFC 3416, section 4.2.3) with this number of repetitions, 1 to 2147483647: it asks
+    /// for as many instances.
     Bulk(i32),
 }

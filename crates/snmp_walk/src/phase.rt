@@ -3,11 +3,11 @@
 /// Which request of a walk is waiting for its reply.
 #[derive(Clone, Copy, Debug, PartialEq, Eq)]
 pub enum Phase {
-    /// The Get of the root with which a walk begins that includes it.
+    /// The Get of the root, the first request of a walk that includes it.
     First,
     /// The request for the next instances.
     Rows,
-    /// The Get of the root with which a walk ends that found nothing below it.
+    /// The Get of the root, the last request of a walk that found nothing below it.
     Last,
     /// None: the walk has ended.
     Over,

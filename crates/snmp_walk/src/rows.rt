@@ -1,4 +1,4 @@
-//! What one datagram brings: the bindings that a walk gives of it.
+//! The bindings that a walk gives for one datagram, and what the datagram means to it.
 ghost use Rattle.std.specs.Prelude.{◌≡◌, ◌≤◌, ℕ, List, [], ◌∷◌, take, length, true, false};
 ghost use Rattle.snmp_wire.specs.Message.{var_bind};
 
@@ -6,7 +6,7 @@ use crate::WalkEnd;
 use snmp_wire::{Binding, Bindings};
 use std::marker::Model;
 
-/// The bindings that a walk gives of a datagram, in order: the front of the datagram's own.
+/// The bindings that a walk gives for a datagram, in order: the first ones of the datagram.
 #[derive(Drop)]
 pub struct Rows<'a> {
     bindings: Bindings<'a>,
@@ -25,7 +25,7 @@ impl<'a> Model for Rows<'a> {
 }
 
 impl<'a> Rows<'a> {
-    /// The first of these bindings, `left` of them.
+    /// The first `left` of these bindings.
     pub(crate) fn front(bindings: Bindings<'a>, left: usize) -> Rows<'a>
         requires { left ≤ length bindings }
         ensures { result ≡ take left bindings.entry }
@@ -33,10 +33,11 @@ impl<'a> Rows<'a> {
         Rows { bindings, left }
     }
 
-    /// Reads the next binding into one that is there, and answers whether there was one. It stays
-    /// as it was where none is left.
+    /// Reads the next binding into `into`, and returns whether there was one. Where none is left,
+    /// `into` is unchanged.
     ///
-    /// This is [`Iterator::next`] for whoever reads many, as [`Bindings::read_next`] is.
+    /// This is [`Iterator::next`] for callers that read many bindings, as [`Bindings::read_next`]
+    /// is.
     pub fn read_next(&mut self, into: &mut Binding<'a>) -> bool
         ensures some { result ≡ true → self.old ≡ var_bind into.new ∷ self.new }
         ensures none { result ≡ false → (self.old ≡ []) × (self.new ≡ []) × (into.new ≡ into.old) }
@@ -68,12 +69,12 @@ impl<'a> Iterator for Rows<'a> {
     }
 }
 
-/// What a datagram was to a walk.
+/// What a datagram means to a walk.
 #[derive(Drop)]
 pub enum Step<'a> {
-    /// Nothing: it isn't the reply that is waited for, and the walk is as it was.
+    /// It isn't the reply to the waiting request, and the walk is unchanged.
     Stray,
-    /// The reply: these bindings are given, and the next request is waiting.
+    /// The reply: these bindings are given, and the next request waits.
     Rows(Rows<'a>),
     /// The reply that ends the walk: these bindings are given before the end.
     Last(Rows<'a>, WalkEnd),

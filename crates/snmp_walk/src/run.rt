@@ -18,13 +18,13 @@ use crate::sink::give;
 use crate::tries::exchange;
 use crate::{Link, LinkFault, Sink, Step, WalkCore, WalkEnd};
 
-/// Walks over the link from a core of which nothing was taken yet: each request is sent at most
+/// Walks over the link with a core that has taken no reply yet: each request is sent at most
 /// `retries + 1` times, and each binding of the walk is given to the sink as it comes.
 ///
-/// Whatever the link brings, the walk ends, and the names given below the root rise.
-/// Over an honest link to the agent of one table, whose messages have room for each single binding,
-/// and with ids enough for a request for each row and two more, it is done unless the link or the
-/// sink stops it or messages are lost.
+/// Whatever the link brings, the walk ends, and the names given below the root rise. Over an honest
+/// link to the agent of one table, whose messages have room for each single binding, and with
+/// enough ids for a request for each row and two more, it is done unless the link or the sink stops
+/// it or messages are lost.
 pub fn run_walk<L: Link, S: Sink>(
     link: &mut L,
     core: WalkCore,
@@ -35,8 +35,12 @@ pub fn run_walk<L: Link, S: Sink>(
     ensures given { (rows : List VarBind) × (refused : List VarBind)
         × Took S.takes sink.old rows refused result sink.new
         × IsPartOfWalk Rises Named core (rows ++ refused)
-        × (L.honest link.old → (L.traffic link.old).sent ≡ [] → WalkFacts (L.agents link.old) (retries + 1) (L.traffic link.old) core rows refused result (L.traffic link.new))
-        × (L.keeps link.old → SendFacts (L.agents link.old) (L.honest link.old × ((L.traffic link.old).sent ≡ [])) (retries + 1) (L.traffic link.old) core rows (L.traffic link.new)) }
+        × (L.honest link.old → (L.traffic link.old).sent ≡ []
+        → WalkFacts (L.agents link.old) (retries + 1) (L.traffic link.old) core rows refused
+        result (L.traffic link.new))
+        × (L.keeps link.old → SendFacts (L.agents link.old)
+        (L.honest link.old × ((L.traffic link.old).sent ≡ []))
+        (retries + 1) (L.traffic link.old) core rows (L.traffic link.new)) }
     ensures fault { result ≡ WalkEnd.Link
         → HasRisen (L.fault_count link.old) (L.fault_count link.new) }
 {
@@ -84,8 +88,8 @@ fn ask<L: Link>(
     )
 }
 
-/// One turn of a walk: sends its request, reads the reply, and gives what that brings to the sink.
-/// Some is how the walk ended.
+/// One turn of a walk: sends the request, reads the reply, and gives the bindings that it brings to
+/// the sink. Returns how the walk ended, or None where it goes on.
 fn turn<L: Link, S: Sink>(
     link: &mut L,
     core: &mut WalkCore,

@@ -4,13 +4,14 @@ ghost use Rattle.std.specs.Prelude.{◌≡◌, ◌++◌, ◌∷◌, ◌⊎◌, L
 use crate::{Rows, SinkFault};
 use snmp_wire::{Binding, Oid, ValueRef};
 
-/// What a walk gives its bindings to, one by one.
+/// What takes the bindings of a walk, one by one.
 pub trait Sink {
     ghost use Rattle.std.specs.Prelude.{Result};
     ghost use Rattle.snmp_wire.specs.Message.{VarBind, var_bind};
     ghost use Rattle.snmp_walk.specs.declared.end.SinkFault.{SinkFault};
 
-    /// That the state before, a binding and the answer are followed by this state.
+    /// Whether a sink in the first state may take or refuse this binding, with this result, and be
+    /// in the last state then.
     ghost takes: { Self → VarBind → Result (Unit {0}) SinkFault → Self → Type 0 };
 
     /// Takes a binding, or refuses it: then the walk ends.

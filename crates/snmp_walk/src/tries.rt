@@ -16,7 +16,7 @@ use snmp_wire::{Kind, MessageRef, decode};
 const RECEIVES: u32 = 64;
 
 /// Sends the request, once and `retries` times more, until a reply of this community and id comes,
-/// and returns its length. None where no try brought one.
+/// and returns its length. Returns None where no try receives one.
 pub(crate) fn exchange<L: Link>(
     link: &mut L,
     community: &[u8],
@@ -31,7 +31,8 @@ pub(crate) fn exchange<L: Link>(
         (λ n. IsAwaited community.now id (take n buffer.new))) }
     ensures reply { L.honest link.old
         → IsAsked (L.agents link.old) community.now id request.now (L.traffic link.old).sent
-        → IfOk result (λ heard. IfSome heard (λ n. IsReplyFrom (L.agents link.old) request.now (take n buffer.new))) }
+        → IfOk result (λ heard. IfSome heard
+        (λ n. IsReplyFrom (L.agents link.old) request.now (take n buffer.new))) }
     ensures exchanged { L.keeps link.old → Exchanges (L.agents link.old) (L.honest link.old
         × IsAsked (L.agents link.old) community.now id request.now (L.traffic link.old).sent)
         (retries + 1) request.now (L.traffic link.old) (result ≡ Ok None) (L.traffic link.new) }
@@ -51,8 +52,8 @@ pub(crate) fn exchange<L: Link>(
     Ok(None)
 }
 
-/// Receives until a reply of this community and id comes, and returns its length. None where
-/// nothing comes in time, or 64 datagrams were others.
+/// Receives until a reply of this community and id comes, and returns its length. Returns None
+/// where nothing comes in time, or 64 datagrams that came were others.
 fn hear<L: Link>(
     link: &mut L,
     community: &[u8],
@@ -65,7 +66,8 @@ fn hear<L: Link>(
         (λ n. IsAwaited community.now id (take n buffer.new))) }
     ensures reply { (q : List ℕ) → L.honest link.old → latest (L.traffic link.old).sent ≡ Some q
         → IsAsked (L.agents link.old) community.now id q (L.traffic link.old).sent
-        → IfOk result (λ heard. IfSome heard (λ n. IsReplyFrom (L.agents link.old) q (take n buffer.new))) }
+        → IfOk result (λ heard. IfSome heard
+        (λ n. IsReplyFrom (L.agents link.old) q (take n buffer.new))) }
     ensures heard { (q : List ℕ) → L.honest link.old → latest (L.traffic link.old).sent ≡ Some q
         → IsAsked (L.agents link.old) community.now id q (L.traffic link.old).sent
         → Hears (L.agents link.old) q (L.traffic link.old) (result ≡ Ok None) (L.traffic link.new) }

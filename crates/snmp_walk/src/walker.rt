@@ -114,12 +114,12 @@ impl WalkCore {
         })
     }
 
-    /// The rest of a walk of the instances below `root`, behind the name `after`, without the
-    /// root's own instance.
+    /// The rest of a walk of the instances below `root`, after the name `after`, without the root's
+    /// own instance.
     ///
     /// `NotWire` where one of the names, padded with zeros to two numbers, has no encoding, and
-    /// `AfterOutsideRoot` where `after` is neither the root nor below it. Of several faults
-    /// that of the root comes first, and that of `after` last.
+    /// `AfterOutsideRoot` where `after` is neither the root nor below it. Of several faults that of
+    /// the root comes first, and that of `after` last.
     pub fn resume(
         root: Oid,
         after: &Oid,
@@ -193,8 +193,8 @@ impl WalkCore {
         }
     }
 
-    /// Reads a datagram: whatever isn't the reply that is waited for is `Stray` and changes
-    /// nothing, and after the end of the walk everything is.
+    /// Reads a datagram. Anything but the reply to the waiting request is `Stray` and changes
+    /// nothing; after the end of the walk every datagram is.
     pub fn take<'a>(&mut self, datagram: &'a [u8]) -> Step<'a>
         ensures { Takes self.old datagram.now result self.new }
     {
@@ -240,7 +240,7 @@ impl WalkCore {
         }
     }
 
-    /// Whether the message is the reply that is waited for.
+    /// Whether the message is the reply to the waiting request.
     fn awaits(&self, message: &MessageRef<'_>) -> bool
         ensures { result ≡ is_awaited self.now message.now }
     {
@@ -255,8 +255,8 @@ impl WalkCore {
         Step::Last(rows, why)
     }
 
-    /// Gives these bindings, `count` of them and the last of them of the name `last`, and waits for
-    /// the reply to the next request.
+    /// Gives these `count` bindings, the last of which has the name `last`, and waits for the reply
+    /// to the next request.
     fn go_on<'a>(&mut self, next: Phase, rows: Rows<'a>, count: u32, last: Oid) -> Step<'a>
         requires count { count ≡ length rows }
         requires last { last ≡ last_name self.old.asked rows }
@@ -274,8 +274,8 @@ impl WalkCore {
         Step::Rows(rows)
     }
 
-    /// Nothing more stands below the root: gives these bindings, `count` of them, and then asks for
-    /// the root itself or ends the walk.
+    /// Nothing more is below the root: gives these `count` bindings, and then asks for the root
+    /// itself or ends the walk.
     fn close<'a>(&mut self, rows: Rows<'a>, count: u32) -> Step<'a>
         requires count { count ≡ length rows }
         ensures { (result, self.new) ≡ closes self.old rows.entry }
@@ -345,8 +345,8 @@ impl WalkCore {
         }
     }
 
-    /// What the reply to a Get says of the name asked for: whether it has no value. None where the
-    /// reply isn't one binding of that name, or has endOfMibView.
+    /// Whether the reply to a Get has no value for the name asked for. None where the reply isn't
+    /// one binding of that name, or has endOfMibView.
     fn got(&self, mut bindings: Bindings<'_>) -> Option<bool>
         ensures { result ≡ option_map
             (λ b. is_missing b.value) (got self.now.asked bindings.entry) }
@@ -361,7 +361,7 @@ impl WalkCore {
         Some(lacks_value(&binding.value))
     }
 
-    /// Reads the reply to the Get with which a walk begins that includes the root.
+    /// Reads the reply to the first request of a walk that includes the root, a Get of it.
     fn read_first<'a>(&mut self, message: &MessageRef<'a>) -> Step<'a>
         ensures { (result, self.new) ≡ reads_first self.old (got self.old.asked
             message.now.bindings) }
@@ -382,7 +382,7 @@ impl WalkCore {
         }
     }
 
-    /// Reads the reply to the Get with which a plain walk ends that gave nothing.
+    /// Reads the reply to the last request of a plain walk that gave nothing, a Get of the root.
     fn read_last<'a>(&mut self, message: &MessageRef<'a>) -> Step<'a>
         ensures { (result, self.new) ≡ reads_last self.old (got self.old.asked
             message.now.bindings) }
@@ -441,25 +441,25 @@ impl WalkCore {
     }
 }
 
-/// The bindings at the front of a reply that a walk gives, and what stands behind them.
+/// The bindings at the front of a reply that a walk gives, and what follows them.
 #[derive(Drop)]
 struct Front {
     /// How many there are.
     rows: u32,
     /// The name of the last of them, or the one asked for.
     last: Oid,
-    /// What stands behind them.
+    /// What follows them.
     ending: Ending,
 }
 
-/// What stands behind the bindings that a walk gives.
+/// What follows the bindings that a walk gives.
 #[derive(Drop)]
 enum Ending {
     /// Nothing: the walk goes on.
     GoesOn,
     /// A binding that ends the walk: endOfMibView, or a name that isn't below the root.
     Leaves,
-    /// This name below the root, which doesn't come behind the one before it.
+    /// This name below the root, which doesn't come after the one before it.
     Falls(Oid),
 }
 
@@ -498,7 +498,7 @@ fn owned(community: &[u8]) -> ArrayVec<u8, 255>
     }
 }
 
-/// The same identifier, once more.
+/// A copy of the identifier.
 pub(crate) fn copy_of(oid: &Oid) -> Oid
     ensures value { result ≡ oid.now }
     ensures identifier { IsIdentifier oid.now }
@@ -517,7 +517,7 @@ fn blank<'a>() -> Binding<'a> {
     }
 }
 
-/// Puts one name in the place of another.
+/// Replaces a name by another.
 fn put_name(last: &mut Oid, name: &Oid)
     ensures value { last.new ≡ name.now }
     ensures identifier { IsIdentifier name.now }
@@ -536,7 +536,7 @@ fn stands_below(name: &Oid, root: &Oid) -> bool
     name.is_below(root)
 }
 
-/// Whether the second name comes behind the first.
+/// Whether the second name comes after the first.
 fn comes_behind(before: &Oid, name: &Oid) -> bool
     ensures { result ≡ comes_after before.now name.now }
 {

@@ -14,7 +14,7 @@ use Rattle.clap.specs.declared.builder.value_parser.ValueParser.TheVariants.{Uns
 abbrev pub one_text : Text → Rule
 one_text id = record (new_rule id) { value_names = 1 }
 
--- it may stand several times
+-- it may be given several times
 abbrev pub repeated : Rule → Rule
 repeated rule = record rule { action = Some Append }
 
@@ -69,18 +69,18 @@ abbrev pub with_rules : App → List Rule → App
 with_rules app [] = app
 with_rules app (rule ∷ rules) = with_rules (with_rule app rule) rules
 
--- how lines are shown, and as whom an agent is asked
+-- how lines are shown, and the version and community of requests
 abbrev pub showing_rules : List Rule
 showing_rules = letters_rule ∷ protocol_rule ∷ community_rule ∷ []
 
--- how often and how long, and the size of messages
+-- how often a request is sent again, how long a reply is waited for, and the size of messages
 abbrev pub sending_rules : List Rule
 sending_rules = retries_rule ∷ seconds_rule ∷ size_rule ∷ []
 
 abbrev pub asking_rules : List Rule
 asking_rules = showing_rules ++ sending_rules
 
--- what is asked of a subtree
+-- the letters of -C, the name to go on after, the agent, and the name of the root
 abbrev pub walking_rules : List Rule
 walking_rules = walk_letters_rule ∷ after_rule ∷ agent_rule ∷ name_rule ∷ []
 
@@ -88,7 +88,7 @@ walking_rules = walk_letters_rule ∷ after_rule ∷ agent_rule ∷ name_rule �
 abbrev pub walk_app : Text → App
 walk_app name = with_rules (with_rules (new_app name) asking_rules) walking_rules
 
--- snmp, before it has its commands
+-- snmp without its subcommands
 abbrev pub top_app : App
 top_app = on_top (λ s. record s {
   has_version = true;
@@ -101,11 +101,12 @@ abbrev pub snmp_app : App
 snmp_app = with_subcommand (with_subcommand top_app
     (walk_app (codes "snmpwalk")).top) (walk_app (codes "snmpbulkwalk")).top
 
--- the command takes the words: they name what it has, with as many texts as it wants, each number
--- in its range, no option twice that may stand once, and ask for no help
+-- the command takes the words: they name options and subcommands that it has, with as many texts as
+-- these need, each number in its range, and no option twice that may be given once; and they don't
+-- ask for help
 abbrev pub is_taken : List Text → Bool
 is_taken words = takes snmp_app words
 
--- the kinds of mistake, or the wish for help, that the words have
+-- the kinds of mistake that the words have, or that they ask for help
 abbrev pub faults_of : List Text → Kinds
 faults_of words = fault_of snmp_app words

@@ -43,7 +43,7 @@ use Rattle.snmp_words.specs.declared.UsageError.TheVariants.{Memory, Parse}
 
 -- ---- what the words state
 
--- whom to ask, by which messages, and how to show what comes
+-- the agent to ask, by which messages, and how the replies are shown
 pub record AskingWords : Type 0 where
   pub letters : Text
   pub protocol : Text
@@ -78,7 +78,7 @@ joined_of id rows = flat_map (λ text. text) (texts_of id rows)
 abbrev pub text_or : Text → Text → List Row → Text
 text_or id default rows = unwrap_or (first_of id rows) default
 
--- the number that a text of decimal digits writes, where it is in the range
+-- the number that a text of decimal digits states, where it is in the range
 abbrev pub number_in : (low high : ℕ) → Text → Option ℕ
 number_in low high text =
     if is_unsigned_in low high text then Some (digits_value 10
@@ -155,12 +155,12 @@ asks_help kind.DisplayHelp = true
 asks_help kind.DisplayVersion = true
 asks_help _ = false
 
--- the error stands for a parse that failed so; memory for its text may have run out
+-- the error stands for a parse that failed in this way; memory for its text may have run out
 abbrev pub StandsFor : UsageError → ErrorKind → Type 0
 StandsFor Memory k = ⊤
 StandsFor (Parse text help) k = help ≡ asks_help k
 
--- the error is want of memory, or stands for one of the faults
+-- the error says that memory ran out, or stands for one of the faults
 abbrev pub HasFaultOf : UsageError → Kinds → Type 0
 HasFaultOf Memory faults = ⊤
 HasFaultOf (Parse text help) faults = (k : ErrorKind) × IsAmong k faults × (help ≡ asks_help k)

@@ -52,7 +52,7 @@ fn bulk_walk_command<'a>(alloc: Global) -> Result<Command<'a>, AllocError>
     with_walking(alloc, with_asking(alloc, command)?)
 }
 
-// The options that say how to ask, and how to show what comes.
+// The options that say how an agent is asked, and how the replies are shown.
 fn with_asking<'a>(alloc: Global, command: Command<'a>) -> Result<Command<'a>, AllocError>
     ensures { IfOk result (λ c. app_of c ≡ with_rules (app_of command.entry) asking_rules) }
 {

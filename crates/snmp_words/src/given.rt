@@ -11,7 +11,7 @@ use crate::job::{Asking, Job, WalkJob};
 use clap::ArgMatches;
 use std::alloc::{AllocError, Global};
 
-/// The job of the subcommand that was met.
+/// The job of the subcommand that was given.
 pub(crate) fn job_of<'a>(alloc: Global, matches: &ArgMatches<'a>) -> Result<Job<'a>, AllocError>
     requires { IsSome (stated_in (subcommand_rows_of matches.now)) }
     ensures { IfOk result
@@ -58,7 +58,8 @@ fn asking_of<'a>(alloc: Global, given: &ArgMatches<'a>) -> Result<Asking<'a>, Al
 
 // The first text given for an id.
 fn first_text<'a>(given: &ArgMatches<'a>, id: &str) -> Option<&'a str>
-    ensures { option_map (λ text. text.now) result ≡ first_of id.now (rows_of (found_of given.now)) }
+    ensures { option_map (λ text. text.now) result
+        ≡ first_of id.now (rows_of (found_of given.now)) }
 {
     given.get_str(id)
 }
@@ -88,7 +89,7 @@ fn number(given: &ArgMatches<'_>, id: &str, default: u64, low: u64, high: u64) -
     }
 }
 
-// The number that a text of decimal digits writes, where it is in the range.
+// The number that a text of decimal digits states, where it is in the range.
 fn number_in(text: &str, low: u64, high: u64) -> Option<u64>
     ensures value { result ≡ number_in low high text.now }
     ensures range { IfSome result (λ n. (low ≤ n) × (n ≤ high)) }

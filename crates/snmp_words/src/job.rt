@@ -10,16 +10,16 @@ pub enum Job<'a> {
     BulkWalk(WalkJob<'a>),
 }
 
-/// Whom to ask, by which messages, and how to show what comes.
+/// The agent to ask, by which messages, and how the replies are shown.
 #[derive(Debug, Drop)]
 pub struct Asking<'a> {
-    /// The letters of `-O`: how lines are shown. Those of several `-O` stand one after the other.
+    /// The letters of `-O`: how lines are shown. Those of several `-O` are joined in order.
     pub letters: String,
     /// The version of SNMP: `2c` where none was given.
     pub protocol: &'a str,
     /// The community of requests: `public` where none was given.
     pub community: &'a str,
-    /// How often a request is sent again to which no reply came: 5 where no number was given.
+    /// How often a request without a reply is sent again: 5 where no number was given.
     pub retries: u64,
     /// How many seconds a reply is waited for: 1 where no number was given.
     pub seconds: u64,
@@ -37,10 +37,10 @@ pub struct Asking<'a> {
 /// The words of `snmpwalk` and `snmpbulkwalk`.
 #[derive(Debug, Drop)]
 pub struct WalkJob<'a> {
-    /// Whom to ask, and how.
+    /// The agent to ask, and how.
     pub asking: Asking<'a>,
-    /// The letters of `-C`: what the walk includes, and what is counted. Those of several `-C`
-    /// stand one after the other.
+    /// The letters of `-C`: what the walk includes, and what is counted. Those of several `-C` are
+    /// joined in order.
     pub letters: String,
     /// The name after which the walk goes on, of `--after`.
     pub after: Option<&'a str>,

@@ -1,8 +1,7 @@
 //! The words of a command line, read by `clap` into the job that they state.
 //!
-//! This is the first stop of a walk: words, tools, walk, wire, agent, and back. Only the shape of
-//! the words is looked at here. Whether letters, agent and name mean anything is for the tools to
-//! say.
+//! Only the shape of the words is checked here. The tools check whether letters, agent and name
+//! have a meaning.
 #![tactic(auto)]
 
 mod command;
@@ -27,8 +26,8 @@ use thiserror::Error;
 /// Why the words give no job.
 #[derive(Debug, Drop, Error)]
 pub enum UsageError {
-    /// The words were refused, or they asked for help: the text for the user, which ends its last
-    /// line, and whether it is the help that was asked for.
+    /// The words were refused, or they ask for help: the text for the user, which ends with a
+    /// newline, and whether it is the help that was asked for.
     #[error("{text}")]
     Parse { text: String, help: bool },
     /// Memory ran out.
@@ -45,8 +44,8 @@ impl From<AllocError> for UsageError {
 }
 
 /// Reads the words of a command line, the program's name among them as the first. Both `-On` and
-/// `-O n` give the option its letters. Words that the command takes are refused for want of memory
-/// alone.
+/// `-O n` give the option its letters. Words that the command takes are refused only where memory
+/// runs out.
 pub fn read_words<'a>(alloc: Global, words: &'a [&'a str]) -> Result<Job<'a>, UsageError>
     ensures job { IfOk result (λ job.
         stated_job (texts words.entry.now) ≡ Some (job_words job)) }

@@ -111,7 +111,7 @@ impl<'a> Link for Liar<'a> {
     }
 }
 
-/// The walk over this liar from this first id gives so many rows and ends so.
+/// The walk over this liar from this first id gives this many rows and ends in this way.
 fn assert_end(
     rt: &impl Abort,
     mut liar: Liar<'_>,

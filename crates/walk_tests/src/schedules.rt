@@ -26,8 +26,7 @@ impl Random {
     }
 }
 
-/// What a walk of so many rows by GetNext comes to: rows given, datagrams sent, and whether it is
-/// done.
+/// What a walk by GetNext brings: rows given, datagrams sent, and whether it is done.
 #[derive(Clone, Copy, PartialEq, Eq, Debug)]
 struct Outcome {
     rows: usize,

@@ -59,6 +59,6 @@ fn rows_of_both_tables_are_given_in_order(rt: HostRuntime) -> Result<(), Fail> {
 fn a_table_that_empties_ends_the_walk(rt: HostRuntime) -> Result<(), Fail> {
     let one: &[u8] = b"1.3.6.1.4.1.32473.8.1|2|1\n";
     assert_changing(&rt, rt.alloc(), [one, b""], false, 1, 1)?;
-    // The root's own answer, an exception, is the one binding.
+    // What a Get of the root gives, an exception, is the one binding.
     assert_changing(&rt, rt.alloc(), [one, b""], true, 0, 1)
 }

@@ -40,7 +40,8 @@ struct Brought {
     requests: usize,
 }
 
-/// The walk of a case gives these integers, sends so much, and ends so.
+/// The walk of a case gives these integers, sends this many datagrams and requests, and ends in
+/// this way.
 fn assert_walk(
     rt: &impl Abort,
     alloc: Global,
