@@ -16,7 +16,7 @@ static TRIPLE: [IndexPart; 3] = [
     IndexPart::Address,
 ];
 
-/// Whether the numbers after the column are shown so, and are read back.
+/// Whether the numbers after the column are shown as this text, and the text is read back.
 fn shows(
     rt: &HostRuntime,
     tree: &Sample<'_>,

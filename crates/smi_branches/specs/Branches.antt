@@ -43,8 +43,8 @@ IsBeginning oids o = (k : ℕ) × (rest : List ℕ) × (k < length oids) × (oid
 abbrev pub branch_of : List Branch → List ℕ → Option ℕ
 branch_of bs o = walk (follower bs) 0 o
 
--- the branches are those of beginnings of `known`, one for each, and at each stands what stands in
--- `oids` for it
+-- the branches are those of the beginnings of `known`, one for each, and at each stands the place
+-- that `oids` has for it
 pub record AreBranches (known oids : List (List ℕ)) (bs : List Branch) : Type 0 where
   pub some : 0 < length bs
   pub within : (at n b : ℕ) → follower bs at n ≡ Some b → b < length bs
@@ -57,7 +57,7 @@ pub record AreBranches (known oids : List (List ℕ)) (bs : List Branch) : Type 
 abbrev pub AreBranchesOf : List (List ℕ) → List Branch → Type 0
 AreBranchesOf oids bs = AreBranches oids oids bs
 
--- a branch that leads on by the number to the place is there, or was made, and nothing else is
+-- branch `at` leads by the number n to a branch that was there or is added, and nothing else is
 -- changed
 pub data Grows (old new : List Branch) (at n : ℕ) : ℕ → Type 0 where
   there : {b : ℕ} → new ≡ old → follower old at n ≡ Some b → Grows old new at n b

@@ -1,6 +1,4 @@
--- Which place of a list of identifiers stands for an identifier: the first with it. What is asked
--- of such
--- a list.
+-- The place that stands for an identifier in a list of identifiers: the first one with it.
 use Rattle.std.specs.Prelude.{
   ◌≡◌,
   ℕ,
@@ -32,20 +30,19 @@ place_of oids o = position_from (λ x. pointwise nat_eq x o) 0 oids
 abbrev pub oid_at : List (List ℕ) → ℕ → List ℕ
 oid_at oids k = slice_index_or oids k []
 
--- the numbers from the left, so many of them, are an identifier of the list, and no more of them
--- are
+-- the first `depth` numbers are the identifier at this place of the list, and no more of them are
+-- one of the list
 pub record IsDeepestAt (oids : List (List ℕ)) (o : List ℕ) (place depth : ℕ) : Type 0 where
   pub within : depth ≤ length o
   pub here : place_of oids (take depth o) ≡ Some place
   pub none_longer : (j : ℕ) → depth < j → j ≤ length o → place_of oids (take j o) ≡ None
 
--- no beginning of the identifier is one of the list
+-- no beginning of the identifier is in the list
 abbrev pub HasNone : List (List ℕ) → List ℕ → Type 0
 HasNone oids o = (j : ℕ) → j ≤ length o → place_of oids (take j o) ≡ None
 
 -- the places of the identifiers that are one number longer than o, in the order of that number:
--- those that
--- stand for their identifiers
+-- those that stand for their identifiers
 pub record AreChildren (oids : List (List ℕ)) (o : List ℕ) (places : List ℕ) : Type 0 where
   pub numbers : List ℕ
   pub rising : IsStrictlySortedBy nat_cmp numbers

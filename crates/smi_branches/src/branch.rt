@@ -25,7 +25,7 @@ pub(crate) fn next(branches: &[Branch], at: usize, number: u32) -> Option<usize>
     branch.after.get(&number).copied()
 }
 
-/// The branch of a beginning that is one number longer, which is made if it isn't there.
+/// The branch of a beginning that is one number longer, which is added if it isn't there.
 fn grow(
     alloc: Global,
     branches: &mut Vec<Branch>,

@@ -1,4 +1,4 @@
-//! A list of identifiers, with what follows each beginning of one.
+//! A list of object identifiers, with what follows each beginning of one.
 ghost use Rattle.std.specs.Prelude.{◌≡◌, ◌<◌, ◌≤◌, ℕ, List, [], ◌∷◌, ◌++◌, length, IfOk};
 ghost use Rattle.std.specs.Prelude.{MatchOption};
 ghost use Rattle.std.specs.Ordering.{nat_cmp};
@@ -15,14 +15,15 @@ use std::collections::BTreeMap;
 use std::collections::btree_map::Iter;
 use std::marker::Model;
 
-/// A list of identifiers, which are found number by number. Each is known by its place in the list.
+/// A list of object identifiers, which are found number by number. Each is known by its place in
+/// the list.
 ///
 /// Where an identifier stands at several places, the first stands for it.
 #[derive(Drop)]
 pub struct Identifiers {
     oids: Vec<Oid>,
     branches: Vec<Branch>,
-    /// What follows a list of numbers that begins no identifier.
+    /// What follows a list of numbers with which no identifier begins: nothing.
     nothing: BTreeMap<u32, usize>,
 }
 
@@ -86,9 +87,8 @@ impl Identifiers {
         standing(&self.branches, at)
     }
 
-    /// The place of the longest beginning of an identifier that is in the list, the whole
-    /// identifier among
-    /// them.
+    /// The place of the longest beginning of an identifier that is in the list. The whole
+    /// identifier counts as a beginning.
     pub fn deepest(&self, oid: &Oid) -> Option<Deepest>
         ensures { MatchOption result
             (HasNone self.now oid.now)
@@ -108,8 +108,7 @@ impl Identifiers {
     }
 
     /// The places of the identifiers that are one number longer, in the order of that number. Each
-    /// stands for
-    /// its identifier.
+    /// stands for its identifier.
     pub fn children(&self, oid: &Oid) -> Children<'_>
         ensures { AreChildren self.now oid.now (places_left result) }
     {
@@ -139,7 +138,7 @@ fn standing(branches: &[Branch], at: usize) -> Option<usize>
     branches.get(at)?.standing
 }
 
-/// What stands at a branch, as the deepest place so far, or what is the deepest place before it.
+/// The place at a branch, as the deepest so far, or the deepest before it if none stands there.
 fn deeper(branches: &[Branch], at: usize, depth: usize, deepest: Option<Deepest>) -> Option<Deepest>
     ensures { result ≡ deeper_of (standing_at branches.now at) depth deepest }
 {

@@ -1,8 +1,8 @@
-//! Identifiers found by their numbers: what follows each beginning of an identifier, in order.
+//! Object identifiers found by their numbers: what follows each beginning of an identifier, in
+//! order.
 //!
-//! Stands on identifiers alone. The tree of names keeps its nodes' identifiers here, and finds the
-//! deepest node,
-//! the node at an identifier and the children of one, number by number.
+//! Depends on object identifiers alone. The tree of names keeps its nodes' identifiers here, and
+//! finds the deepest node, the node at an identifier and the children of one, number by number.
 #![tactic(auto)]
 
 mod branch;

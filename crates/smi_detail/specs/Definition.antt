@@ -1,5 +1,5 @@
--- The clauses of a definition as details have them: a line each, two blanks before the word and a
--- tab after it.
+-- The clauses of a definition as details show them: one per line, with two blanks before the word
+-- and a tab after it.
 use Rattle.std.specs.Prelude.{ℕ, List, [], ◌++◌, codes, Option, Some, None}
 use Rattle.smi_module.specs.declared.tree.DefKind.{DefKind}
 use Rattle.smi_module.specs.declared.tree.DefKind.TheVariants as D
@@ -23,7 +23,7 @@ object_type_text d =
     clause_text (codes "SYNTAX") (syntax_text d.syntax) ++ units_clause d.units
     ++ clause_text (codes "MAX-ACCESS") d.max_access ++ status_text d.status
 
--- those that the definition has of SYNTAX, UNITS, MAX-ACCESS, STATUS and DESCRIPTION, strings with
+-- those of SYNTAX, UNITS, MAX-ACCESS, STATUS and DESCRIPTION that the definition has, strings with
 -- their quotes
 abbrev pub definition_text : DefKind → List ℕ
 definition_text (D.ObjectIdentifier value) = []

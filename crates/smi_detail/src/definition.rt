@@ -1,4 +1,4 @@
-//! The clauses of a definition, a line each.
+//! The clauses of a definition, one per line.
 ghost use Rattle.std.specs.Prelude.{◌≡◌, [], ◌++◌, codes};
 ghost use Rattle.text_draft.specs.Draft.{Adds};
 ghost use Rattle.smi_detail.specs.Definition.{clause_text, definition_text, object_type_text};
@@ -9,8 +9,8 @@ use crate::syntax_text;
 use smi_module::{DefKind, ObjectType, Status, Text};
 use text_draft::Draft;
 
-/// Appends those that a definition has of SYNTAX, UNITS, MAX-ACCESS, STATUS and DESCRIPTION (RFC
-/// 2578, sections 5 to 8), a line each; a definition whose clauses are raw has none.
+/// Appends those of SYNTAX, UNITS, MAX-ACCESS, STATUS and DESCRIPTION that a definition has (RFC
+/// 2578, sections 5 to 8), one per line. A definition whose clauses are raw has none.
 pub fn definition_text(kind: &DefKind, draft: &mut Draft)
     ensures { Adds draft.old (definition_text kind.now) draft.new }
 {

@@ -47,7 +47,7 @@ fn node_text(node: Node<'_>, definition: Option<&Def>, draft: &mut Draft)
     clauses_text(definition, draft);
 }
 
-/// The module, not of a root.
+/// The module of a node, which a root doesn't have.
 fn from_text(home: Option<&[u8]>, draft: &mut Draft)
     ensures { Adds draft.old (from_text (option_copied home.entry)) draft.new }
 {

@@ -1,6 +1,6 @@
 //! Details of an identifier: what `snmptranslate -Td` prints, over any tree of nodes.
 //!
-//! Stands on names; the tree of loaded modules says which definition a node has.
+//! Depends on names; the tree of loaded modules says which definition a node has.
 #![tactic(auto)]
 
 mod definition;

@@ -1,4 +1,4 @@
-//! What details need of a tree.
+//! The tree of nodes that details are shown by.
 ghost use Rattle.std.specs.Prelude.{◌≡◌, List, ℕ, Option};
 ghost use Rattle.std.specs.Option.{option_copied};
 ghost use Rattle.smi_module.specs.declared.tree.Def.{Def};
@@ -11,8 +11,8 @@ use snmp_oid::Oid;
 pub trait DetailTree: NameTree {
     ghost definition_at: { Self → List ℕ → Option Def };
 
-    /// The definition of the node that stands for the longest beginning of an identifier; None
-    /// where there is no node, and of a built-in root.
+    /// The definition of the node that stands for the longest beginning of an identifier; None if
+    /// there is no node, or if it is a built-in root.
     fn definition(&self, oid: &Oid) -> Option<&Def>
         ensures { option_copied result ≡ definition_at self.now oid.now };
 }

@@ -27,7 +27,7 @@ abbrev pub Shows : List ℕ → HintValue → List ℕ → Type 0
 Shows hint (value.Number n) text = ShowsNumber hint n text
 Shows hint (value.Octets octets) text = ShowsOctets hint octets.now text
 
--- the hint is one of such values
+-- the hint is one for values like this one
 abbrev pub IsOf : List ℕ → HintValue → Type 0
 IsOf hint (value.Number _) = IsOfNumbers hint
 IsOf hint (value.Octets _) = IsOfOctets hint

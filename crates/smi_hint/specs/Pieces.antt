@@ -14,7 +14,7 @@ use Rattle.smi_hint.specs.declared.spec.Spec.{Spec}
 abbrev pub number_of : List ℕ → ℕ
 number_of octets = number_from_digits 256 octets
 
--- one application: text as it stands, else one number; no octets give no text
+-- one application: text unchanged, or one number; no octets give no text
 abbrev pub piece_text : OctetFormat → List ℕ → List ℕ
 piece_text format [] = []
 piece_text octet_format.Text (octet ∷ more) = octet ∷ more
@@ -28,13 +28,13 @@ ArePieces width [] octets rest = rest ≡ octets
 ArePieces width (piece ∷ pieces) octets rest =
     (octets ≢ []) × (piece ≡ take width octets) × ArePieces width pieces (drop width octets) rest
 
--- as many pieces as are wanted, or until nothing remains
+-- `times` pieces, or fewer if nothing remains after them
 pub record IsCut (width times : ℕ) (pieces : List (List ℕ)) (octets rest : List ℕ) : Type 0 where
   pub are_pieces : ArePieces width pieces octets rest
   pub at_most : length pieces ≤ times
   pub enough : (length pieces ≡ times) ⊎ (rest ≡ [])
 
--- a mark stands where octets remain
+-- a mark is shown if octets remain
 abbrev pub mark_before : Option ℕ → List ℕ → List ℕ
 mark_before mark [] = []
 mark_before mark (_ ∷ _) = option_to_list mark
@@ -52,7 +52,7 @@ pieces_text spec (piece ∷ next ∷ more) rest =
     piece_text spec.format piece ++ option_to_list spec.separator
     ++ pieces_text spec (next ∷ more) rest
 
--- how often a spec is applied: as the first octet says behind a star, else once
+-- how often a spec is applied: as often as the first octet says if it has a star, otherwise once
 abbrev pub times_of : Spec → List ℕ → ℕ
 times_of spec octets = if spec.is_counted then slice_index octets 0 else 1
 
@@ -70,7 +70,8 @@ pub record IsGroup (spec : Spec) (pieces : List (List ℕ)) (octets rest : List 
   pub some : octets ≢ []
   pub cut : IsCut spec.length (times_of spec octets) pieces (body_of spec octets) rest
 
--- the specs are applied in turn while octets remain, to these groups of pieces, with this text
+-- the specs are applied one after the other while octets remain, to these groups of pieces, with
+-- this text
 abbrev pub AreGroups : List Spec → List (List (List ℕ)) → List ℕ → List ℕ → Type 0
 AreGroups specs [] octets text = (octets ≡ []) × (text ≡ [])
 AreGroups [] (pieces ∷ groups) octets text = ⊥

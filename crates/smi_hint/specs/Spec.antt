@@ -49,7 +49,7 @@ at_letter text = after_digits (after_star text)
 abbrev pub after_letter : List ℕ → List ℕ
 after_letter text = drop 1 (at_letter text)
 
--- a spec may have a terminator where it has a star and a separator
+-- a spec may have a terminator only if it has a star and a separator
 abbrev pub may_end : Spec → Bool
 may_end spec = spec.is_counted && is_some spec.separator
 

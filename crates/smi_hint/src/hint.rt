@@ -1,4 +1,4 @@
-//! A display hint: read once, and then asked for texts.
+//! A display hint, which is read once and then applied to values.
 ghost use Rattle.std.specs.Prelude.{◌≡◌, ◌≤◌, ◌↔◌, ◌⊎◌, List, ℕ, IsSome, IfSome, IsTrue};
 ghost use Rattle.std.specs.Prelude.{MatchOption, false};
 ghost use Rattle.text_draft.specs.Draft.{Adds};
@@ -45,7 +45,7 @@ impl<'a> Model for Hint<'a> {
 impl<'a> Hint<'a> {
     ghost use Rattle.smi_hint.specs.Hint.{IsOfNumbers, IsOfOctets, IsOf, Shows};
 
-    /// The hint that a text is, or None where it is none.
+    /// Reads a hint, or returns None if the text isn't one.
     pub fn parse(text: &'a [u8]) -> Option<Hint<'a>>
         ensures found { IfSome result (λ hint. hint ≡ text.now) }
         ensures some_of_hints { IsSome result ↔ (IsOfNumbers text.now ⊎ IsOfOctets text.now) }
@@ -70,8 +70,8 @@ impl<'a> Hint<'a> {
         self.number.is_some()
     }
 
-    /// Appends a value as the hint shows it. The caller hands in a number for a hint of integers,
-    /// and octets for one of octets.
+    /// Appends a value as the hint shows it. The value must be a number for a hint of integers, and
+    /// octets for a hint of octets.
     pub fn append(&self, value: HintValue<'_>, draft: &mut Draft)
         requires { IsOf self.now value }
         ensures { (text : List ℕ) × Shows self.now value.entry text

@@ -42,7 +42,7 @@ pub(crate) fn number_form(text: &[u8]) -> Option<NumberForm>
     }
 }
 
-/// The form of decimal digits with as many places as a text says, if it is a number up to 20.
+/// The form of decimal digits with the number of places that a text says, if it is at most 20.
 fn decimal_places(text: &[u8]) -> Option<NumberForm>
     ensures found { IfSome result (λ form. IsNumberHint (codes "d-" ++ text.now) form) }
     ensures none { IfNone result
@@ -58,8 +58,8 @@ fn decimal_places(text: &[u8]) -> Option<NumberForm>
     }
 }
 
-/// The number that the digits at the front of a text give, where it is at most `most`, and what
-/// stands after them.
+/// The number that the digits at the front of a text stand for, if it is at most `most`, and what
+/// follows them.
 pub(crate) fn front_number(text: &[u8], most: u32) -> Option<(u32, &[u8])>
     requires { most < 2 ^ 24 }
     ensures found { IfSome result (λ r. StartsWithNumber text.now r.0 r.1.now) }
@@ -125,7 +125,7 @@ fn append_magnitude(draft: &mut Draft, form: NumberForm, n: u64)
 }
 
 /// Appends a number in decimal digits with a point before the last `places` of them, and zeros
-/// before them where there are too few.
+/// before them if there are too few.
 fn append_with_point(draft: &mut Draft, places: usize, n: u64)
     requires { 0 < places }
     ensures { Adds draft.old (with_point places (decimal n)) draft.new }

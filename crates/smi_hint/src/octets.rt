@@ -1,4 +1,5 @@
-//! Octets under a display hint: each spec is applied in turn, the last one again and again.
+//! Octets under a display hint: the specs are applied one after the other, the last one again and
+//! again.
 ghost use Rattle.std.specs.Prelude.{◌≡◌, ◌≢◌, ◌<◌, ◌≤◌, List, ℕ, [], ◌++◌, length, drop, take};
 ghost use Rattle.std.specs.Prelude.{if◌then◌else◌, true};
 ghost use Rattle.text_draft.specs.Draft.{Adds};
@@ -39,7 +40,7 @@ fn next_spec(text: &[u8]) -> (Spec, &[u8])
     }
 }
 
-/// Appends what one spec shows of the octets in front, and returns the octets after them.
+/// Appends what one spec shows of the first octets, and returns the octets after them.
 fn append_group<'a>(draft: &mut Draft, spec: &Spec, octets: &'a [u8]) -> &'a [u8]
     requires some { octets.now ≢ [] }
     requires fits { spec.now.length ≤ longest spec.now.format }
@@ -54,7 +55,7 @@ fn append_group<'a>(draft: &mut Draft, spec: &Spec, octets: &'a [u8]) -> &'a [u8
     }
 }
 
-/// Appends what a spec shows where it is applied a number of times, and returns the octets after
+/// Appends what a spec shows when it is applied a number of times, and returns the octets after
 /// that.
 fn append_pieces<'a>(draft: &mut Draft, spec: &Spec, times: usize, octets: &'a [u8]) -> &'a [u8]
     requires { spec.now.length ≤ longest spec.now.format }
@@ -63,7 +64,7 @@ fn append_pieces<'a>(draft: &mut Draft, spec: &Spec, times: usize, octets: &'a [
         × Adds draft.old (pieces_text spec.now pieces result.now) draft.new }
 {
     if spec.length == 0 && spec.separator.is_none() && times > 1 {
-        // Empty pieces with no marks between them have no text: one stands for all.
+        // Empty pieces with no marks between them have no text: one is enough for all.
         append_cut(draft, spec, 1, octets)
     } else {
         append_cut(draft, spec, times, octets)

@@ -16,22 +16,22 @@ pub enum OctetFormat {
     Decimal,
     /// `o`: as one number to the base 8.
     Octal,
-    /// `a` and `t`: as they stand.
+    /// `a` and `t`: as text, unchanged.
     Text,
 }
 
 /// One spec of a hint: how many octets are shown, in which format, and what stands after them.
 #[derive(Clone, Copy, Debug, PartialEq, Eq)]
 pub struct Spec {
-    /// Whether an octet in front says how often the spec is applied (`*`).
+    /// Whether the first octet says how often the spec is applied (`*`).
     pub is_counted: bool,
     /// How many octets one application takes, 0 to 65535.
     pub length: u16,
     /// How they are shown.
     pub format: OctetFormat,
-    /// The octet after an application, where octets remain.
+    /// The octet shown after an application, if octets remain.
     pub separator: Option<u8>,
-    /// The octet in its place after the last application of a count.
+    /// The octet shown in its place after the last of the applications that a `*` counts.
     pub terminator: Option<u8>,
 }
 

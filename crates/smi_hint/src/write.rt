@@ -1,4 +1,4 @@
-//! A value under a hint, appended to what there is.
+//! Appending a value as a hint shows it.
 ghost use Rattle.std.specs.Prelude.{◌≡◌, List, ℕ, ◌++◌, OnOk, OnErr};
 ghost use Rattle.smi_hint.specs.Hint.{IsOf, Shows};
 ghost use Rattle.smi_hint.specs.Pieces.{ShowsOctets};
@@ -7,9 +7,9 @@ use crate::hint::{Hint, HintValue};
 use std::alloc::AllocError;
 use text_draft::Draft;
 
-/// Appends a value to `out` as a hint shows it. Where memory runs out, `out` is unchanged.
+/// Appends a value to `out` as a hint shows it. If memory runs out, `out` is unchanged.
 ///
-/// The caller hands in a number for a hint of integers, and octets for one of octets.
+/// The value must be a number for a hint of integers, and octets for a hint of octets.
 pub fn write_hint(
     hint: &Hint<'_>,
     value: HintValue<'_>,

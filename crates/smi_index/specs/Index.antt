@@ -1,6 +1,6 @@
--- An index as numbers after a column's identifier: the encodings of its parts in turn (RFC 2578,
--- section 7.7). A contract sees the value of a part as the list of its numbers, without a length
--- before it.
+-- An index as numbers after a column's identifier: the encodings of its parts, one after the other
+-- (RFC 2578, section 7.7). A contract sees the value of a part as the list of its numbers, without
+-- a length before it.
 use Rattle.std.specs.Prelude.{◌≡◌, ◌≢◌, ℕ, Bool, true, nat_le, List, [], ◌∷◌, ◌++◌, length}
 use Rattle.std.specs.List.{list_all}
 use Rattle.smi_index.specs.declared.part.Extent.{Extent}
@@ -16,8 +16,8 @@ is_octet n = nat_le n 255
 abbrev pub AreOctetNumbers : List ℕ → Type 0
 AreOctetNumbers value = list_all is_octet value ≡ true
 
--- a string as numbers: those of a fixed size, or a length and then as many, or, implied, at least
--- one
+-- a string as numbers: as many as its fixed size; or a length, and then this many; or, implied, at
+-- least one
 abbrev pub IsInExtent : Extent → List ℕ → List ℕ → Type 0
 IsInExtent (Fixed size) value here = (length value ≡ size) × (here ≡ value)
 IsInExtent Counted value here = here ≡ length value ∷ value
@@ -46,14 +46,14 @@ LeavesAfter (Octets extent) rest = LeavesIn extent rest
 LeavesAfter Identifier rest = Unit {0}
 LeavesAfter ImpliedIdentifier rest = rest ≡ []
 
--- the encoding of a value stands at the front of the numbers, and the rest after it
+-- the numbers are the encoding of a value, and then the rest
 pub record IsRead (part : IndexPart) (numbers value rest : List ℕ) : Type 0 where
   pub here : List ℕ
   pub whole : numbers ≡ here ++ rest
   pub encoding : IsEncoding part value here
   pub after : LeavesAfter part rest
 
--- the whole list of numbers is the encodings of the values in turn
+-- the whole list of numbers is the encodings of the values, one after the other
 abbrev pub AreRead : List IndexPart → List ℕ → List (List ℕ) → Type 0
 AreRead [] numbers [] = numbers ≡ []
 AreRead [] numbers (value ∷ values) = ⊥

@@ -31,7 +31,7 @@ piece_numbers (plain_number n) = n ∷ []
 piece_numbers (counted_text octets) = length octets ∷ octets
 piece_numbers (plain_text octets) = octets
 
--- what a name may have as a piece; of single quotes there is at least one octet between them
+-- what a name may have as a piece; between single quotes there is at least one octet
 abbrev pub IsPiece : Piece → Type 0
 IsPiece (plain_number n) = n < 2 ^ 32
 IsPiece (counted_text octets) = IsTrue (list_all is_quotable octets)
@@ -72,8 +72,8 @@ value_numbers (Octets extent) value = extent_numbers extent value
 value_numbers Identifier value = length value ∷ value
 value_numbers ImpliedIdentifier value = value
 
--- a value of an index: an OCTET STRING as text where its octets may stand between quotes, all else
--- as numbers
+-- a value of an index: an OCTET STRING as text if its octets may stand between quotes, anything
+-- else as numbers
 abbrev pub value_pieces : IndexPart → List ℕ → List Piece
 value_pieces (Text extent) value =
     if is_shown_text value then as_text extent value ∷ []
@@ -89,7 +89,7 @@ index_pieces [] values = []
 index_pieces (part ∷ parts) [] = []
 index_pieces (part ∷ parts) (value ∷ values) = value_pieces part value ++ index_pieces parts values
 
--- the numbers after a node: by its index where that reads them whole, else as they are
+-- the numbers after a node: by its index if that reads all of them, otherwise as numbers
 abbrev pub instance_pieces : Option (List IndexPart) → List ℕ → List Piece
 instance_pieces None numbers = as_numbers numbers
 instance_pieces (Some parts) numbers =

@@ -9,12 +9,12 @@ use Rattle.smi_index.specs.declared.part.IndexPart.{IndexPart}
 use Rattle.smi_index.specs.declared.part.IndexPart.TheVariants.{Number, Address, Text, Octets}
 use Rattle.smi_index.specs.declared.part.IndexPart.TheVariants.{Identifier, ImpliedIdentifier}
 
--- the first numbers, this many, and the rest
+-- the first `size` numbers and the rest
 abbrev pub front_and_rest : ℕ → List ℕ → Option (List ℕ × List ℕ)
 front_and_rest size numbers =
     if nat_le size (length numbers) then Some (take size numbers, drop size numbers) else None
 
--- as many as the first says
+-- a length, and then this many numbers
 abbrev pub counted : List ℕ → Option (List ℕ × List ℕ)
 counted [] = None
 counted (size ∷ numbers) = front_and_rest size numbers
@@ -44,7 +44,7 @@ front_of (Octets extent) numbers = of_octets (in_extent extent numbers)
 front_of Identifier numbers = counted numbers
 front_of ImpliedIdentifier numbers = remaining numbers
 
--- the values of all parts, where no number is left
+-- the values of all parts, if no number is left
 abbrev pub values_of : List IndexPart → List ℕ → Option (List (List ℕ))
 values_of [] [] = Some []
 values_of [] (n ∷ more) = None

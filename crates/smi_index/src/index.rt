@@ -17,7 +17,7 @@ pub fn reads(parts: &[IndexPart], numbers: &[u32]) -> bool
     are_read(parts, numbers)
 }
 
-/// What `reads` returns, by the parts in turn.
+/// What `reads` returns, part by part.
 fn are_read(parts: &[IndexPart], numbers: &[u32]) -> bool
     ensures { result ≡ is_some (values_of parts.now numbers.now) }
 {
@@ -31,9 +31,9 @@ fn are_read(parts: &[IndexPart], numbers: &[u32]) -> bool
     left.is_empty()
 }
 
-/// Numbers are the encodings of one list of values at most.
+/// Numbers are the encodings of at most one list of values.
 ///
-/// A law: the call does nothing, and its caller knows what it states.
+/// A law: the call does nothing, and its caller may use what it ensures.
 #[inline]
 pub fn one_list()
     ensures { (parts : List IndexPart) (numbers : List ℕ) (values others : List (List ℕ))

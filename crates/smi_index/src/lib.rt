@@ -1,7 +1,8 @@
 //! The instance part of a name: which numbers the index of a row takes, what values they stand for,
 //! and their text.
 //!
-//! Stands below the names of managed objects; a tree of modules says which parts an index has.
+//! The names of managed objects build on this crate; a tree of modules says which parts an index
+//! has.
 #![tactic(auto)]
 
 mod index;

@@ -6,12 +6,12 @@ ghost use Rattle.smi_index.specs.Index.{IsRead, is_octet};
 ghost use Rattle.smi_index.specs.Reading.{front_and_rest, counted, remaining, of_octets, in_extent};
 ghost use Rattle.smi_index.specs.Reading.{front_of};
 
-/// How many numbers a string of an index has (RFC 2578, section 7.7).
+/// What decides how many numbers a string of an index has (RFC 2578, section 7.7).
 #[derive(Clone, Copy, Debug, PartialEq, Eq)]
 pub enum Extent {
     /// The number that its SIZE fixes.
     Fixed(u64),
-    /// Those that a length before it counts.
+    /// The number that stands before it as its length.
     Counted,
     /// All that remain, at least one: the index says IMPLIED.
     Implied,
@@ -28,14 +28,14 @@ pub enum IndexPart {
     Text(Extent),
     /// BITS or Opaque: numbers up to 255.
     Octets(Extent),
-    /// OBJECT IDENTIFIER: a length, and then as many numbers.
+    /// OBJECT IDENTIFIER: a length, and then this many numbers.
     Identifier,
-    /// OBJECT IDENTIFIER behind IMPLIED: all numbers that remain, at least one.
+    /// OBJECT IDENTIFIER after IMPLIED: all numbers that remain, at least one.
     ImpliedIdentifier,
 }
 
-/// The value of a part that stands at the front of the numbers, without a length before it, and the
-/// numbers after it; None where no encoding of one stands there (RFC 2578, section 7.7).
+/// The value of a part at the front of the numbers, without its length, and the numbers after it;
+/// None if no encoding of a value stands there (RFC 2578, section 7.7).
 pub fn read_part<'a>(part: IndexPart, numbers: &'a [u32]) -> Option<(&'a [u32], &'a [u32])>
     ensures reads { option_map (λ r. (r.0.now, r.1.now)) result ≡ front_of part numbers.now }
     ensures found { IfSome result (λ r. IsRead part numbers.now r.0.now r.1.now) }
@@ -60,9 +60,9 @@ fn front<'a>(part: IndexPart, numbers: &'a [u32]) -> Option<(&'a [u32], &'a [u32
     }
 }
 
-/// Numbers are the encoding of one value at most, and what remains after it is one list.
+/// Numbers begin with the encoding of at most one value, and what remains after it is one list.
 ///
-/// A law: the call does nothing, and its caller knows what it states.
+/// A law: the call does nothing, and its caller may use what it ensures.
 #[inline]
 pub fn one_reading()
     ensures { (part : IndexPart) (numbers value rest other left : List ℕ)
@@ -81,7 +81,7 @@ fn split_extent<'a>(extent: Extent, numbers: &'a [u32]) -> Option<(&'a [u32], &'
     }
 }
 
-/// The first `size` numbers and the rest, None where there are fewer.
+/// The first `size` numbers and the rest, None if there are fewer.
 fn split<'a>(numbers: &'a [u32], size: u64) -> Option<(&'a [u32], &'a [u32])>
     ensures { option_map (λ r. (r.0.now, r.1.now)) result ≡ front_and_rest size numbers.now }
 {
@@ -92,7 +92,7 @@ fn split<'a>(numbers: &'a [u32], size: u64) -> Option<(&'a [u32], &'a [u32])>
     }
 }
 
-/// As many numbers as the first says, and the rest.
+/// The numbers that a length at the front counts, and the rest.
 fn split_counted<'a>(numbers: &'a [u32]) -> Option<(&'a [u32], &'a [u32])>
     ensures { option_map (λ r. (r.0.now, r.1.now)) result ≡ counted numbers.now }
 {
@@ -113,7 +113,7 @@ fn split_all<'a>(numbers: &'a [u32]) -> Option<(&'a [u32], &'a [u32])>
     }
 }
 
-/// What was read, where its value has numbers up to 255 alone.
+/// What was read, if its value has only numbers up to 255.
 fn octets_alone<'a>(read: Option<(&'a [u32], &'a [u32])>) -> Option<(&'a [u32], &'a [u32])>
     ensures { option_map (λ r. (r.0.now, r.1.now)) result
         ≡ of_octets (option_map (λ r. (r.0.now, r.1.now)) read.entry) }
@@ -124,7 +124,7 @@ fn octets_alone<'a>(read: Option<(&'a [u32], &'a [u32])>) -> Option<(&'a [u32], 
     }
 }
 
-/// Whether each number is an octet's.
+/// Whether each number is at most 255.
 fn are_octets(numbers: &[u32]) -> bool
     ensures { result ≡ list_all is_octet numbers.now }
 {

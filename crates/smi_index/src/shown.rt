@@ -24,7 +24,7 @@ pub fn numbers_text(numbers: &[u32], draft: &mut Draft)
 }
 
 /// Appends the numbers after a column by its index: strings whose octets may stand between quotes
-/// as texts, all else as numbers, with a dot before each. Where the index doesn't read the whole
+/// as texts, anything else as numbers, with a dot before each. If the index doesn't read the whole
 /// list of numbers, all of it is shown as numbers.
 pub fn index_text(parts: &[IndexPart], numbers: &[u32], draft: &mut Draft)
     ensures { let pieces = instance_pieces (Some parts.now) numbers.now in
@@ -37,9 +37,9 @@ pub fn index_text(parts: &[IndexPart], numbers: &[u32], draft: &mut Draft)
     }
 }
 
-/// The pieces that show numbers stand for just these numbers, and each may stand in a name.
+/// The pieces that show numbers stand for exactly these numbers, and each may stand in a name.
 ///
-/// A law: the call does nothing, and its caller knows what it states.
+/// A law: the call does nothing, and its caller may use what it ensures.
 #[inline]
 pub fn pieces_stand_for_numbers()
     ensures whole { (index : Option (List IndexPart)) (numbers : List ℕ)
@@ -87,8 +87,8 @@ fn number_text(number: u64, draft: &mut Draft)
     draft.number(number);
 }
 
-/// A string between quotes, after a dot: double ones where a length counts its octets, else single
-/// ones.
+/// A string between quotes, after a dot: double quotes if a length counts its octets, otherwise
+/// single ones.
 fn quoted_text(extent: Extent, value: &[u32], draft: &mut Draft)
     requires { is_shown_text value.now ≡ true }
     ensures { Adds draft.old (shown_pieces (as_text extent value.now ∷ [])) draft.new }
@@ -102,7 +102,7 @@ fn quoted_text(extent: Extent, value: &[u32], draft: &mut Draft)
     draft.octet(quote);
 }
 
-/// Octets as they stand.
+/// Octets, unchanged.
 fn octets_text(value: &[u32], draft: &mut Draft)
     requires { list_all is_quotable value.now ≡ true }
     ensures { Adds draft.old value.now draft.new }

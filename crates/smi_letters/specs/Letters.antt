@@ -1,4 +1,4 @@
--- Letters that say how names and values are shown.
+-- The letters of `-O`, which say how names and values are shown.
 use Rattle.std.specs.Prelude.{◌≡◌, ℕ, Bool, true, not, ◌==◌, if◌then◌else◌, List, reverse}
 use Rattle.std.specs.Prelude.{codes, Option, Some, None, find}
 use Rattle.std.specs.List.{list_any}
@@ -18,7 +18,7 @@ is_one_of letters octet = list_any (λ letter. letter == octet) letters
 abbrev pub all_letters : List ℕ
 all_letters = codes "nfsSqQvetbUxa"
 
--- the first octet that is no letter
+-- the first octet that is not one of the letters
 abbrev pub first_other : List ℕ → Option ℕ
 first_other text = find (λ octet. not (is_one_of all_letters octet)) text
 
@@ -30,7 +30,7 @@ last_of letters text = find (is_one_of letters) (reverse text)
 abbrev pub has_letter : ℕ → List ℕ → Bool
 has_letter letter text = list_any (λ octet. octet == letter) text
 
--- n, f and s; S, and where none stands
+-- n, f and s; S, which is also the default
 abbrev pub name_form : Option ℕ → NameForm
 name_form None = names.ModuleLabel
 name_form (Some octet) =
@@ -59,7 +59,7 @@ pub record AreLetters (text : List ℕ) (letters : Letters) : Type 0 where
   pub b : letters.numeric_index ≡ has_letter 98 text
   pub U : letters.no_units ≡ has_letter 85 text
 
--- what one letter more says
+-- the options with one more letter
 pub record IsWith (old : Letters) (octet : ℕ) (new : Letters) : Type 0 where
   pub n_f_s_S : new.names
       ≡ (if is_one_of (codes "nfsS") octet then name_form (Some octet) else old.names)

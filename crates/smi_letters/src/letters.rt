@@ -5,31 +5,32 @@ ghost use Rattle.std.specs.Prelude.{IfSome, IfNone};
 /// How a name is shown.
 #[derive(Clone, Copy, Debug, PartialEq, Eq)]
 pub enum NameForm {
-    /// `n`: the numbers, each with a dot in front.
+    /// `n`: the numbers, each with a dot before it.
     Numeric,
-    /// `f`: the label of each number where a node stands, each with a dot in front.
+    /// `f`: the label of each number that has a node, otherwise the number, each with a dot before
+    /// it.
     Full,
     /// `s`: the label of the deepest node, then the rest.
     Label,
-    /// `S`: the module and the label of the deepest node, then the rest. The form without a letter.
+    /// `S`: the module and the label of the deepest node, then the rest. The default.
     ModuleLabel,
 }
 
-/// Whether a value has the word of its type in front, as `INTEGER: `.
+/// Whether the word of its type stands before a value, such as `INTEGER: `.
 #[derive(Clone, Copy, Debug, PartialEq, Eq)]
 pub enum TypeForm {
-    /// It has. The form without a letter.
+    /// The word is shown. The default.
     Typed,
-    /// `Q`: it has not.
+    /// `Q`: the word is left out.
     Untyped,
-    /// `q`: it has not, and in a line a blank stands between name and value.
+    /// `q`: the word is left out, and in a line a blank stands between name and value.
     Quick,
 }
 
 /// How a string without a display hint is shown.
 #[derive(Clone, Copy, Debug, PartialEq, Eq)]
 pub enum StringForm {
-    /// As text where each octet is printable, else in hexadecimal. The form without a letter.
+    /// As text if each octet is printable, otherwise in hexadecimal. The default.
     Plain,
     /// `x`: in hexadecimal.
     Hexadecimal,
@@ -40,13 +41,13 @@ pub enum StringForm {
 /// How names and values are shown: what the letters of `-O` say.
 #[derive(Clone, Copy, Debug, PartialEq, Eq)]
 pub struct Letters {
-    /// `n`, `f`, `s` and `S`, of which the last one given holds.
+    /// `n`, `f`, `s` and `S`; the last one given counts.
     pub names: NameForm,
-    /// `q` and `Q`, of which the last one given holds.
+    /// `q` and `Q`; the last one given counts.
     pub types: TypeForm,
-    /// `x` and `a`, of which the last one given holds.
+    /// `x` and `a`; the last one given counts.
     pub strings: StringForm,
-    /// `v`: a line has the value alone.
+    /// `v`: a line has only the value.
     pub value_alone: bool,
     /// `e`: the number of an enumeration stands in place of its name.
     pub numeric_enumerations: bool,
@@ -62,7 +63,7 @@ impl Letters {
     ghost use Rattle.smi_letters.specs.Letters.{AreLetters, IsWith, first_other, is_one_of};
     ghost use Rattle.smi_letters.specs.Letters.{all_letters};
 
-    /// What no letters say.
+    /// The options without any letters.
     pub fn new() -> Letters
         ensures { AreLetters [] result }
     {
@@ -78,7 +79,7 @@ impl Letters {
         }
     }
 
-    /// Reads letters, in any order. The error is the first octet that is none of them.
+    /// Reads letters, in any order. The error is the first octet that is not one of them.
     pub fn parse(text: &[u8]) -> Result<Letters, u8>
         ensures ok { IfOk result (AreLetters text.now) }
         ensures ok_where_all_are_letters { IsOk result ↔ (first_other text.now ≡ None) }
@@ -94,7 +95,7 @@ impl Letters {
         Ok(letters)
     }
 
-    /// What one letter more says, or None of an octet that is no letter.
+    /// The options with one more letter, or None if the octet is not one of the letters.
     fn with(self, octet: u8) -> Option<Letters>
         ensures with { IfSome result (IsWith self octet) }
         ensures letter { IfSome result (λ _. is_one_of all_letters octet ≡ true) }

@@ -1,8 +1,7 @@
--- The lexemes of a module text and what may stand between them, each as a relation on octets.
--- SMIv2 takes them from ASN.1 (RFC 2578, section 3; X.208, section 8). This lexer is wider in what
--- texts in use need:
--- `_` in words, a hyphen before digits as part of the number, and lower-case digits and letters of
--- literals.
+-- The lexemes of a module text and what may stand between them, each as a relation on octets. SMIv2
+-- takes them from ASN.1 (RFC 2578, section 3; X.208, section 8). This lexer accepts more, because
+-- texts in use need it: `_` in words, a hyphen before digits as part of the number, and lower-case
+-- digits and letters in literals.
 use Rattle.std.specs.Prelude.{
   ◌≡◌,
   ◌≢◌,
@@ -66,7 +65,7 @@ is_newline c = c == 10
 abbrev pub is_hyphen : ℕ → Bool
 is_hyphen c = c == 45
 
--- tab, LF, VT, FF, CR and the blank
+-- tab, LF, VT, FF, CR and space
 abbrev pub is_blank : ℕ → Bool
 is_blank c = c == 9 || c == 10 || c == 11 || c == 12 || c == 13 || c == 32
 
@@ -77,7 +76,7 @@ is_word_octet c = is_ascii_alphanumeric c || c == 95
 abbrev pub is_binary_digit : ℕ → Bool
 is_binary_digit c = c == 48 || c == 49
 
--- the first of the octets passes
+-- there is a first octet, and it passes the test
 abbrev pub begins : (ℕ → Bool) → List ℕ → Bool
 begins test [] = false
 begins test (c ∷ cs) = test c
@@ -90,12 +89,12 @@ is_word_rest [] = true
 is_word_rest (c ∷ cs) = (is_word_octet c ||
     (is_hyphen c && begins is_word_octet cs)) && is_word_rest cs
 
--- such a first letter, and what may follow it
+-- a word: a first letter that passes the test, and then what may follow it
 abbrev pub IsWord : (ℕ → Bool) → List ℕ → Type 0
 IsWord is_first text = (c : ℕ) × (rest : List ℕ) × (text ≡ c ∷ rest) × IsTrue (is_first c)
     × IsTrue (is_word_rest rest)
 
--- digits with a hyphen directly before them or not
+-- digits, with or without a hyphen directly before them
 abbrev pub IsNumber : List ℕ → Type 0
 IsNumber text = (sign digits : List ℕ) × (text ≡ sign ++ digits)
     × ((sign ≡ []) ⊎ (sign ≡ codes "-")) × (digits ≢ []) × IsTrue (list_all is_ascii_digit digits)
@@ -147,8 +146,7 @@ is_remark [] = true
 is_remark (c ∷ cs) = not (is_newline c) && not (is_hyphen c && begins is_hyphen cs) && is_remark cs
 
 -- A run of hyphens, a remark, and the next run or nothing. Where no other run follows on the line,
--- the longest
--- comment ends before the line does.
+-- the longest comment ends before the line does.
 abbrev pub IsComment : List ℕ → Type 0
 IsComment text = (opening remark closing : List ℕ) × (text ≡ opening ++ remark ++ closing)
     × IsRun opening × IsTrue (is_remark remark) × ((closing ≡ []) ⊎ IsRun closing)
@@ -159,7 +157,7 @@ IsGap text = ((c : ℕ) × (text ≡ c ∷ []) × IsTrue (is_blank c)) ⊎ IsCom
 
 -- ---- both
 
--- what a stretch of the text is
+-- what a piece of the text is
 pub data Part : Type 0 where
   gap : Part
   lexeme : TokenKind → Part
@@ -168,7 +166,7 @@ abbrev pub IsPart : Part → List ℕ → Type 0
 IsPart gap text = IsGap text
 IsPart (lexeme kind) text = IsLexeme kind text
 
--- a `"` or `'` that has no other behind it
+-- a `"` or `'` with no other one after it
 abbrev pub is_open_string : List ℕ → Bool
 is_open_string [] = false
 is_open_string (c ∷ cs) = (c == 34 || c == 39) && list_all (λ d. not (d == c)) cs

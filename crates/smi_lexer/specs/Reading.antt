@@ -1,7 +1,6 @@
--- The tokens of a text, computed: the plain, slow reading that tries every front of what is left,
--- from the
--- longest on. The law that it is what `Lexes` says stands in proofs/; only private clauses cite
--- this file.
+-- The tokens of a text, computed in the plain, slow way: every front of what is left is tried, the
+-- longest first. The law that this agrees with `Lexes` is in proofs/; only private clauses use this
+-- file.
 use Rattle.std.specs.Prelude.{
   ◌≡◌,
   ℕ,
@@ -93,7 +92,7 @@ use Rattle.smi_lexer.specs.Lexeme.{
   is_word_rest,
 }
 
--- ---- what a stretch of octets is, told by the first of them
+-- ---- what a piece of a text is, by its first octet
 
 -- the symbols of one octet
 abbrev pub symbols : List (ℕ × TokenKind)
@@ -123,28 +122,28 @@ abbrev pub is_nothing : List ℕ → Bool
 is_nothing [] = true
 is_nothing (c ∷ cs) = false
 
--- one octet, which passes
+-- one octet, which passes the test
 abbrev pub is_sole : (ℕ → Bool) → List ℕ → Bool
 is_sole test [] = false
 is_sole test (c ∷ cs) = test c && is_nothing cs
 
--- behind the run of hyphens that a comment begins with
+-- after the run of hyphens that a comment begins with
 abbrev pub is_remark_rest : List ℕ → Bool
 is_remark_rest [] = true
 is_remark_rest (c ∷ cs) = if is_newline c then false else
     (if is_hyphen c && begins is_hyphen cs then list_all is_hyphen cs else is_remark_rest cs)
 
--- behind the first two hyphens of a comment
+-- after the first two hyphens of a comment
 abbrev pub is_comment_rest : List ℕ → Bool
 is_comment_rest [] = true
 is_comment_rest (c ∷ cs) = if is_hyphen c then is_comment_rest cs else is_remark_rest (c ∷ cs)
 
--- behind the first `"` of a string
+-- after the first `"` of a string
 abbrev pub is_string_rest : List ℕ → Bool
 is_string_rest [] = false
 is_string_rest (c ∷ cs) = if c == 34 then is_nothing cs else is_string_rest cs
 
--- behind the first `'` of a literal
+-- after the first `'` of a literal
 abbrev pub is_literal_rest : (ℕ → Bool) → (ℕ → Bool) → List ℕ → Bool
 is_literal_rest is_digit is_letter [] = false
 is_literal_rest is_digit is_letter
@@ -165,7 +164,7 @@ literal_part cs =
     if is_literal_rest is_ascii_hexdigit is_hex_letter cs then Some (lexeme Hex)
     else then_some (is_literal_rest is_binary_digit is_binary_letter cs) (lexeme Binary)
 
--- what these digits and this letter make a literal
+-- the kind of literal that these digits and this letter make, if they make one
 abbrev pub literal_of : List ℕ → ℕ → Option Part
 literal_of digits letter =
     if list_all is_ascii_hexdigit digits && is_hex_letter letter then Some (lexeme Hex)
@@ -182,7 +181,7 @@ symbol_part Colon (c ∷ cs) = then_some (c == 58 && is_sole (λ d. d == 61) cs)
 symbol_part Dot (c ∷ cs) = then_some (c == 46 && is_nothing cs) (lexeme Range)
 symbol_part _ (c ∷ cs) = None
 
--- the part that an octet of this class and these octets behind it are, if they are one
+-- the part that an octet of this class and the octets after it are, if they are one
 abbrev pub part_in : Class → List ℕ → Option Part
 part_in Blank cs = then_some (is_nothing cs) gap
 part_in Lowercase cs = then_some (is_word_rest cs) (lexeme Lower)
@@ -200,31 +199,31 @@ part_of (c ∷ cs) = part_in (class_of c) cs
 
 -- ---- the longest front
 
--- the part of this length where there is one, else the shorter front
+-- the part of this length if there is one, otherwise the shorter one
 abbrev pub part_or_shorter : ℕ → Option Part → Option (Part × ℕ) → Option (Part × ℕ)
 part_or_shorter n None shorter = shorter
 part_or_shorter n (Some part) shorter = Some (part, n)
 
--- the longest front of at most so many octets that is a part, and its length
+-- the longest front of at most n octets that is a part, and its length
 abbrev pub longest_front : ℕ → List ℕ → Option (Part × ℕ)
 longest_front zero text = None
 longest_front (suc n) text = part_or_shorter (suc n) (part_of (take (suc n) text))
     (longest_front n text)
 
--- the same of whole fronts: this test passes the front of n octets, and no longer one
+-- the same for a test: the front of n octets passes it, and no longer one does
 pub record IsLongestFront (test : List ℕ → Bool) (text : List ℕ) (n : ℕ) : Type 0 where
   pub within : n ≤ length text
   pub passes : test (take n text) ≡ true
   pub longest : (m : ℕ) → n < m → m ≤ length text → test (take m text) ≡ false
 
--- the front of n octets reads as this part, and no longer one as any
+-- the front of n octets reads as this part, and no longer front reads as a part
 pub record IsPartFront (reading : List ℕ
     → Option Part) (text : List ℕ) (part : Part) (n : ℕ) : Type 0 where
   pub within : n ≤ length text
   pub reads : reading (take n text) ≡ Some part
   pub longest : (m : ℕ) → n < m → m ≤ length text → reading (take m text) ≡ None
 
--- no front reads as a lexeme; none as a gap
+-- no front reads as a lexeme; no front is a gap
 abbrev pub HasNoLexeme : (List ℕ → Option Part) → List ℕ → Type 0
 HasNoLexeme reading text = (kind : TokenKind) (m : ℕ)
     → reading (take m text) ≡ Some (lexeme kind) → ⊥
@@ -232,7 +231,7 @@ HasNoLexeme reading text = (kind : TokenKind) (m : ℕ)
 abbrev pub HasNoGap : List ℕ → Type 0
 HasNoGap text = (m : ℕ) → part_of (take m text) ≡ Some gap → ⊥
 
--- the lexeme of the longest front, and its length, or none
+-- the kind and length of the lexeme that the longest front is, or None if no front is a lexeme
 abbrev pub IsLexemeFront : (List ℕ → Option Part) → List ℕ → Option (TokenKind × ℕ) → Type 0
 IsLexemeFront reading text None = HasNoLexeme reading text
 IsLexemeFront reading text (Some front) = IsPartFront reading text (lexeme front.0) front.1
@@ -269,8 +268,8 @@ abbrev pub front_rest : Option (Part × ℕ) → ℕ
 front_rest None = 0
 front_rest (Some front) = pred front.1
 
--- the items of a text whose first octets, so many, are read; `at` octets and `lines` ended lines
--- stand before it
+-- the items of a text of which the first `skipped` octets are read already; `at` octets, in which
+-- `lines` lines end, stand before it
 unfoldable pub items_at : ℕ → ℕ → ℕ → List ℕ → List Item
 items_at skipped at lines [] = []
 items_at (suc skipped) at lines (c ∷ cs) = items_at skipped (at + 1) (lines + newlines (c ∷ [])) cs
@@ -279,12 +278,12 @@ items_at zero at lines (c ∷ cs) =
     (items_at (front_rest (longest_front (length (c ∷ cs)) (c ∷ cs))) (at + 1) (lines + newlines
     (c ∷ [])) cs)
 
--- so many octets at the front, in which so many lines end, give no item
+-- the first n octets, in which this many lines end, give no item
 abbrev pub Skips : List ℕ → ℕ → ℕ → Type 0
 Skips text n lines = (at before : ℕ)
     → items_at 0 at before text ≡ items_at 0 (at + n) (before + lines) (drop n text)
 
--- the first n octets pass, and then make no difference to the test
+-- the first n octets make no difference to the test of a front of n octets or more
 pub record GoesOn (test : List ℕ → Bool) (text : List ℕ) (n : ℕ) : Type 0 where
   pub within : n ≤ length text
   pub same : (k : ℕ) → test (take (n + k) text) ≡ test (take k (drop n text))
@@ -299,7 +298,7 @@ IsRemarkEnd (c ∷ d ∷ cs) = (c ≡ 10) ⊎ ((c ≡ 45) × (d ≡ 45))
 abbrev pub is_other : ℕ → ℕ → Bool
 is_other octet c = not (c == octet)
 
--- where an octet stands first, or that it stands nowhere
+-- where an octet stands first, or None where it does not occur
 abbrev pub IsFirstPlace : ℕ → List ℕ → Option ℕ → Type 0
 IsFirstPlace octet text None = list_all (is_other octet) text ≡ true
 IsFirstPlace octet text (Some i) = (i < length text) × (get_or text i 0 ≡ octet)

@@ -16,7 +16,7 @@ pub record Lexeme : Type 0 where
 abbrev pub lexeme_of : Token → Lexeme
 lexeme_of t = record { kind = t.kind; span = t.span; text = t.text.now; line = t.line }
 
--- what a lexer gives at one call: a token, or the fault at which the text breaks off
+-- what one call of a lexer returns: a token, or the fault at which the text breaks off
 abbrev pub Item : Type 0
 Item = Result Lexeme LexError
 

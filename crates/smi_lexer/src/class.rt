@@ -1,4 +1,4 @@
-//! The classes of octets: what a lexeme or gap may be is told by its first octet.
+//! The classes of octets: the first octet of a lexeme or gap decides what it may be.
 ghost use Rattle.std.specs.Prelude.{◌≡◌};
 ghost use Rattle.smi_lexer.specs.Reading.{class_of};
 
@@ -7,7 +7,7 @@ use crate::token::TokenKind;
 /// What an octet may begin.
 #[derive(Clone, Copy)]
 pub enum Class {
-    /// A gap of one octet: tab, LF, VT, FF, CR or blank.
+    /// A gap of one octet: tab, LF, VT, FF, CR or space.
     Blank,
     /// A word.
     Lowercase,

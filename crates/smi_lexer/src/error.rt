@@ -2,7 +2,8 @@
 
 use thiserror::Error;
 
-/// What stands where no lexeme begins. Each has the line where it begins, counted from 1.
+/// What stands where a lexeme should begin. Each error has the line where it begins, counted from
+/// 1.
 #[derive(Clone, Copy, Debug, PartialEq, Eq, Error)]
 pub enum LexError {
     /// An octet with which no lexeme begins, or a `'` whose literal is malformed.

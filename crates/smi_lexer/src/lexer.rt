@@ -1,4 +1,5 @@
-//! The lexer: the tokens of a text one after the other, and last the fault where it breaks off.
+//! The lexer: it returns the tokens of a text one after the other, and last the fault if it breaks
+//! off.
 ghost use Rattle.std.specs.Prelude.{◌≡◌, ℕ, List, []};
 ghost use Rattle.smi_lexer.specs.Lexes.{AreInOrder, Lexes, fault_on};
 ghost use Rattle.smi_lexer.specs.Token.{Item, tokens_of};
@@ -8,12 +9,11 @@ use crate::scan::{gaps_at, is_open, lexeme_at, lines_in};
 use crate::token::{Span, Token};
 use std::marker::Model;
 
-/// An iterator over the tokens of a module text. Where neither a lexeme nor a gap begins it gives
-/// the fault, and
-/// then ends. It takes no memory.
+/// An iterator over the tokens of a module text. Where neither a lexeme nor a gap begins it returns
+/// the fault, and then ends. It does not allocate.
 #[derive(Drop)]
 pub struct Lexer<'a> {
-    /// What isn't read yet.
+    /// The octets that aren't read yet.
     rest: &'a [u8],
     /// How many octets are read.
     at: usize,
@@ -37,9 +37,9 @@ impl<'a> Model for Lexer<'a> {
 impl<'a> Lexer<'a> {
     /// The lexer of a whole text.
     pub fn new(text: &'a [u8]) -> Self
-        // These are the text's tokens, then the fault where it breaks off before its end.
+        // These are the text's tokens, and then the fault if it breaks off before its end.
         ensures tokens { Lexes [] text.now result }
-        // They are its only ones.
+        // A text has no other list of tokens.
         ensures only { (items : List Item) → Lexes [] text.now items → items ≡ result }
         // So spans rise.
         ensures spans { AreInOrder text.now 0 (tokens_of result) }
@@ -73,7 +73,7 @@ impl<'a> Iterator for Lexer<'a> {
         }
         let line = lines + 1;
         let Some((kind, len)) = lexeme_at(text) else {
-            // Nothing is left behind a fault.
+            // Nothing is left after a fault.
             self.rest = &[];
             return Some(Err(fault_at(text, line)));
         };
@@ -94,7 +94,7 @@ impl<'a> Iterator for Lexer<'a> {
     }
 }
 
-/// Why no token begins at the front of the text, which stands on this line.
+/// Why no token begins at the front of the text, which stands on line `line`.
 fn fault_at(text: &[u8], line: usize) -> LexError
     ensures { result ≡ fault_on line text.now }
 {

@@ -1,4 +1,4 @@
-//! How far lexemes and gaps reach: plain work on octets, for the lexer's `next`.
+//! The lengths of lexemes and gaps, for the lexer's `next`.
 ghost use Rattle.std.specs.Prelude.{◌≡◌, ◌≤◌, ◌<◌, ℕ, drop, length};
 ghost use Rattle.std.specs.List.{list_all};
 ghost use Rattle.std.specs.Option.{option_map};
@@ -26,7 +26,7 @@ fn is_word_octet(octet: u8) -> bool
     octet.is_ascii_alphanumeric() || octet == b'_'
 }
 
-/// Of the octets behind a word's first letter, how many belong to the word.
+/// How many of the octets after a word's first letter belong to the word.
 fn word_rest_len(text: &[u8]) -> usize
     ensures { IsLongestFront is_word_rest text.now result }
 {
@@ -82,7 +82,7 @@ fn remark_len(text: &[u8]) -> usize
     text.len()
 }
 
-/// Of the octets behind the first two hyphens of a comment, how many belong to it.
+/// How many of the octets after the first two hyphens of a comment belong to it.
 fn comment_rest_len(text: &[u8]) -> usize
     ensures { IsLongestFront is_comment_rest text.now result }
 {
@@ -93,7 +93,7 @@ fn comment_rest_len(text: &[u8]) -> usize
     opening + (len + hyphens_len(closing))
 }
 
-/// Where an octet stands first.
+/// Where an octet stands first, if it occurs.
 fn place_of(octet: u8, text: &[u8]) -> Option<usize>
     ensures { IsFirstPlace octet text.now result }
 {
@@ -105,7 +105,7 @@ fn place_of(octet: u8, text: &[u8]) -> Option<usize>
     None
 }
 
-/// Of the octets behind a string's first quote, how many belong to it.
+/// How many of the octets after a string's first quote belong to it.
 fn string_rest(text: &[u8]) -> Option<(TokenKind, usize)>
     ensures { IsLexemeFront string_part text.now result }
 {
@@ -125,7 +125,7 @@ fn is_binary(digits: &[u8]) -> bool
     digits.iter().all(|digit| *digit == b'0' || *digit == b'1')
 }
 
-/// What a literal's digits and its letter make it.
+/// The kind of a literal, by its digits and its letter.
 fn literal_kind(digits: &[u8], letter: u8) -> Option<TokenKind>
     ensures { option_map lexeme result ≡ literal_of digits.now letter }
 {
@@ -136,7 +136,7 @@ fn literal_kind(digits: &[u8], letter: u8) -> Option<TokenKind>
     }
 }
 
-/// Of the octets behind a literal's first quote, how many belong to it.
+/// How many of the octets after a literal's first quote belong to it.
 fn literal_rest(text: &[u8]) -> Option<(TokenKind, usize)>
     ensures { IsLexemeFront literal_part text.now result }
 {
@@ -149,7 +149,7 @@ fn literal_rest(text: &[u8]) -> Option<(TokenKind, usize)>
     Some((kind, end + 2))
 }
 
-/// Of the octets behind a hyphen, how many belong to its number.
+/// How many of the octets after a hyphen belong to its number.
 fn number_rest(text: &[u8]) -> Option<(TokenKind, usize)>
     ensures { IsLexemeFront hyphen_part text.now result }
 {
@@ -161,7 +161,7 @@ fn number_rest(text: &[u8]) -> Option<(TokenKind, usize)>
     }
 }
 
-/// The longest symbol that begins with this one, and how many of the octets behind it belong to it.
+/// The longest symbol that begins with this one, and how many of the octets after it belong to it.
 fn symbol_rest(kind: TokenKind, text: &[u8]) -> (TokenKind, usize)
     ensures { IsPartFront (symbol_part kind) text.now (lexeme result.0) result.1 }
 {
@@ -172,7 +172,7 @@ fn symbol_rest(kind: TokenKind, text: &[u8]) -> (TokenKind, usize)
     }
 }
 
-/// The longest lexeme that begins with an octet of this class, and how many of the octets behind it
+/// The longest lexeme that begins with an octet of this class, and how many of the octets after it
 /// belong to it.
 fn lexeme_rest(class: Class, text: &[u8]) -> Option<(TokenKind, usize)>
     ensures { IsLexemeFront (part_in class) text.now result }
@@ -222,7 +222,7 @@ pub fn gaps_at(text: &[u8]) -> (usize, usize)
     (n, lines)
 }
 
-/// How many lines end in a lexeme of this kind, which no kind but a string does.
+/// How many lines end in a lexeme of this kind. A line can end only in a string.
 pub fn lines_in(kind: TokenKind, octets: &[u8]) -> usize
     ensures count { IsLexeme kind octets.now → result ≡ newlines octets.now }
     ensures within { result ≤ length octets.now }
@@ -246,7 +246,7 @@ fn newlines_in(text: &[u8]) -> usize
     lines
 }
 
-/// Whether a `"` or `'` stands at the front, and no other behind it.
+/// Whether a `"` or `'` stands at the front, with no other one after it.
 pub fn is_open(text: &[u8]) -> bool
     ensures { result ≡ is_open_string text.now }
 {

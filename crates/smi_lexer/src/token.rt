@@ -1,22 +1,21 @@
-//! What the lexer gives to the parser: tokens of a module text.
+//! The tokens of a module text, which the lexer returns to the parser.
 ghost use Rattle.smi_lexer.specs.Lexeme.{IsLexeme};
 
-/// What a token is. The words of the grammar, as `BEGIN` or `OBJECT-TYPE`, are `Upper` too: the
-/// parser tells
-/// them apart by their text.
+/// The kind of a token. Words of the grammar, such as `BEGIN` or `OBJECT-TYPE`, are `Upper` too:
+/// the parser tells them apart by their text.
 #[derive(Clone, Copy, Debug, PartialEq, Eq)]
 pub enum TokenKind {
     /// A word that begins with a lower-case letter.
     Lower,
     /// A word that begins with an upper-case letter.
     Upper,
-    /// Decimal digits, perhaps with a hyphen directly before them.
+    /// Decimal digits, with or without a hyphen directly before them.
     Number,
-    /// A quoted string, its quotes included.
+    /// A quoted string, with its quotes.
     Text,
-    /// A hexadecimal literal, as `'0F'H`, its quotes and letter included.
+    /// A hexadecimal literal, such as `'0F'H`, with its quotes and letter.
     Hex,
-    /// A binary literal, as `'01'B`, its quotes and letter included.
+    /// A binary literal, such as `'01'B`, with its quotes and letter.
     Binary,
     /// `::=`
     Assign,
@@ -66,7 +65,7 @@ pub struct Token<'a> {
     pub kind: TokenKind,
     /// Where it stands in the source.
     pub span: Span,
-    /// Its octets, as they stand in the source.
+    /// Its octets, unchanged from the source.
     pub text: &'a [u8],
     /// The line of its first octet. Lines count from 1, and end with LF.
     pub line: usize,

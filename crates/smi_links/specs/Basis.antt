@@ -1,4 +1,4 @@
--- What the names at places rest on, and what they come to.
+-- What the names at places are based on, and what they resolve to.
 use Rattle.std.specs.Prelude.{ℕ, ◌<◌, ◌≤◌, List, length, map, slice_index_or}
 use Rattle.smi_links.specs.Chain.{
   Origin,
@@ -24,16 +24,15 @@ origin_of B.Nowhere = nowhere
 abbrev pub origin_at : List Basis → ℕ → Origin ℕ
 origin_at bases p = slice_index_or (map origin_of bases) p nowhere
 
--- a comes to this: to its identifier, of at most 128 numbers (RFC 2578, section 3.5), or to none,
--- for
--- one of three reasons
+-- a resolves to this: to its identifier, of at most 128 numbers (RFC 2578, section 3.5), or to
+-- none, for one of three reasons
 abbrev pub ComesTo : {A : Type 0} → (A → Origin A) → A → Resolution → Type 0
 ComesTo origin a (R.Numbers o) = Means origin a o × (length o ≤ 128)
 ComesTo origin a R.Cycle = HasEnd (λ b. next_of (origin b)) a → ⊥
 ComesTo origin a R.Unresolved = EndsNowhere origin a
 ComesTo origin a R.TooLong = (o : List ℕ) × Means origin a o × (128 < length o)
 
--- what each place comes to is right
+-- what each place resolves to is right
 abbrev pub EachComesTo : (ℕ → Origin ℕ) → List Resolution → Type 0
 EachComesTo origin resolutions =
     (p : ℕ) (d : Resolution) → p < length resolutions

@@ -1,7 +1,6 @@
 -- Chains: each thing has its numbers by itself, or after those of another thing, or leads nowhere.
 -- In a module text the things are names, and the chains are those of parents and of imports (RFC
--- 2578,
--- sections 3.2 and 7.10).
+-- 2578, sections 3.2 and 7.10).
 use Rattle.std.specs.Prelude.{◌≡◌, ℕ, List, ◌++◌, Option, Some, None}
 
 -- where a thing's numbers come from: itself alone, itself after those of another thing, or nowhere

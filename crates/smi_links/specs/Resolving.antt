@@ -1,4 +1,4 @@
--- What one step of a chain gives.
+-- What one step of a chain resolves to.
 use Rattle.std.specs.Prelude.{ℕ, nat_le, List, [], ◌++◌, ◌+◌, length, slice_index_or, if◌then◌else◌}
 use Rattle.smi_links.specs.declared.basis.Basis.{Basis}
 use Rattle.smi_links.specs.declared.basis.Basis.TheVariants as B

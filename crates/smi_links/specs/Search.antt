@@ -22,7 +22,7 @@ use Rattle.smi_links.specs.declared.order.Mark.TheVariants as M
 abbrev pub mark_at : List Mark → ℕ → Mark
 mark_at marks p = slice_index_or marks p M.New
 
--- what is reached stays so
+-- a place that is reached stays reached
 abbrev pub StayReached : List Mark → List Mark → Type 0
 StayReached old new = (p : ℕ) → mark_at old p ≢ M.New → mark_at new p ≢ M.New
 
@@ -31,7 +31,7 @@ abbrev pub Leads : List (Option ℕ) → List ℕ → Option ℕ → Option ℕ 
 Leads next [] from to = from ≡ to
 Leads next (p ∷ rest) from to = (from ≡ Some p) × Leads next rest (next_at next p) to
 
--- the chain from here has an end, and this is in the order, if it is a place
+-- the chain from `to` has an end, and `to` is in the order if it is a place
 abbrev pub IsSettled : List (Option ℕ) → List ℕ → Option ℕ → Type 0
 IsSettled next order to =
     (q : ℕ) → to ≡ Some q → HasEnd (next_at next) q × (q < length next → Contains order q)

@@ -1,11 +1,11 @@
-//! What a name's numbers rest on, and what the name comes to.
+//! What a name's identifier is based on, and what the name resolves to.
 ghost use Rattle.std.specs.Prelude.{◌≡◌};
 ghost use Rattle.smi_links.specs.Basis.{origin_of};
 ghost use Rattle.smi_links.specs.Chain.{next_of};
 
 use snmp_oid::Oid;
 
-/// What the numbers of a name's identifier rest on (RFC 2578, section 7.10).
+/// What the numbers of a name's identifier are based on (RFC 2578, section 7.10).
 #[derive(Debug, Drop)]
 pub enum Basis {
     /// Numbers alone.
@@ -28,7 +28,7 @@ impl Basis {
     }
 }
 
-/// What a name comes to.
+/// What a name resolves to: its identifier, or the reason why it has none.
 #[derive(Debug, Drop)]
 pub enum Resolution {
     /// Its identifier, of at most 128 numbers.

@@ -1,10 +1,8 @@
-//! Chains of names, resolved without recursion: where each chain ends, and which numbers stand
-//! along
+//! Chains of names, resolved without recursion: where each chain ends, and which numbers come along
 //! it.
 //!
-//! Stands on identifiers alone. The tree of names resolves definitions, imports and types with it,
-//! and
-//! gives each of them a place, which is a number.
+//! Depends on object identifiers alone. The tree of names resolves definitions, imports and types
+//! with it, and gives each of them a place, which is a number.
 #![tactic(auto)]
 
 mod basis;

@@ -7,7 +7,7 @@ ghost use Rattle.smi_links.specs.Search.{Keeps, Leads, StayReached, mark_at};
 
 use std::alloc::{AllocError, Global};
 
-/// How far a place has come.
+/// The state of a place in the search.
 #[derive(Clone, Copy, Debug)]
 enum Mark {
     /// Not reached.
@@ -26,9 +26,8 @@ struct Search {
     path: Vec<usize>,
 }
 
-/// The places whose chains end, each after the one that it leads to. What leads beyond the last
-/// place
-/// ends there.
+/// The places whose chains end, each after the one that it leads to. A chain ends where it leads
+/// beyond the last place.
 ///
 /// Each place is visited once, without recursion.
 pub fn ordered(alloc: Global, next: &[Option<usize>]) -> Result<Vec<usize>, AllocError>
@@ -50,7 +49,7 @@ pub fn ordered(alloc: Global, next: &[Option<usize>]) -> Result<Vec<usize>, Allo
 }
 
 impl Search {
-    /// Goes from a place to the next, and on, as far as places are new; says where that ends.
+    /// Follows a chain from a place while its places are new, and returns where that stops.
     fn climb(&mut self, next: &[Option<usize>], start: usize) -> Result<Option<usize>, AllocError>
         requires kept { Keeps next.now self.old.marks.items self.old.order.items
             self.old.path.items }
@@ -78,7 +77,7 @@ impl Search {
         Ok(to)
     }
 
-    /// Whether a place is there and new.
+    /// Whether there is such a place, and it is new.
     fn is_new(&self, place: usize) -> bool
         ensures new { IsTrue result
             ↔ ((place < vec_len self.now.marks) × (mark_at self.now.marks.items place ≡ Mark.New)) }

@@ -1,4 +1,4 @@
-//! What the names at places come to.
+//! What the names at places resolve to.
 ghost use Rattle.std.specs.Prelude.{◌≡◌, ℕ, ◌<◌, length, map, replicate, IfOk};
 ghost use Rattle.smi_links.specs.Chain.{next_of};
 ghost use Rattle.smi_links.specs.Basis.{origin_of, origin_at, EachComesTo};
@@ -9,11 +9,10 @@ use crate::order::ordered;
 use snmp_oid::Oid;
 use std::alloc::{AllocError, Global};
 
-/// What the name at each place comes to.
+/// What the name at each place resolves to.
 ///
 /// Each place is visited once, without recursion, so chains may be of any length and may lead back
-/// to
-/// themselves.
+/// to themselves.
 pub fn resolutions(alloc: Global, bases: &[Basis]) -> Result<Vec<Resolution>, AllocError>
     ensures length { IfOk result (λ resolutions. length resolutions.items ≡ length bases.now) }
     ensures each { IfOk result
@@ -40,7 +39,7 @@ fn next_places(alloc: Global, bases: &[Basis]) -> Result<Vec<Option<usize>>, All
     Ok(next)
 }
 
-/// As many resolutions, each of them a cycle.
+/// This many resolutions, each of them a cycle.
 fn cycles(alloc: Global, count: usize) -> Result<Vec<Resolution>, AllocError>
     ensures { IfOk result (λ resolutions. resolutions.items ≡ replicate count Resolution.Cycle) }
 {
@@ -51,7 +50,7 @@ fn cycles(alloc: Global, count: usize) -> Result<Vec<Resolution>, AllocError>
     Ok(resolutions)
 }
 
-/// What a name comes to, given what the one comes to that it leads to.
+/// What a name resolves to, given the resolution of the name that it leads to.
 fn resolution(basis: &Basis, resolutions: &[Resolution]) -> Resolution
     ensures { result ≡ resolution_of basis.now resolutions.now }
 {

@@ -1,4 +1,4 @@
--- What the numbers of each entry's name rest on.
+-- What the numbers of each entry's name are based on.
 use Rattle.std.specs.Prelude.{◌≡◌, ℕ, List, length, Some}
 use Rattle.std.specs.List.{slice_get}
 use Rattle.smi_links.specs.Basis.{origin_of}

@@ -27,7 +27,7 @@ pub record Place : Type 0 where
   pub home : List ℕ
   pub name : List ℕ
 
--- the names that stand at the top without a definition (RFC 2578, section 2)
+-- the names at the top, which have no definition (RFC 2578, section 2)
 abbrev pub root_arc : List ℕ → Option ℕ
 root_arc x =
     if same_text (codes "ccitt") x then Some 0 else
@@ -44,7 +44,7 @@ abbrev pub or_else : {A : Type 0} → Option A → Option A → Option A
 or_else None d = d
 or_else (Some x) d = Some x
 
--- the module's own definition decides; else the first import of the name; else a root
+-- the module's own definition decides, otherwise the first import of the name, otherwise a root
 abbrev pub decision : Module → List ℕ → Option Decision
 decision m x =
     or_else (or_else (option_map defined (definition_of m x)) (option_map imported (import_of m x)))
@@ -68,9 +68,8 @@ abbrev pub after_name : Place → Option (List ℕ) → Origin Place
 after_name place None = nowhere
 after_name place (Some ns) = after place ns
 
--- an identifier value: a name in the first place has its meaning, a number and a name with a number
--- stand
--- for the number, and a later name has none
+-- an identifier value: a name in the first place has its meaning, a number or a name with a number
+-- stands for the number, and a name alone in a later place has none
 abbrev pub origin_of_parts : List ℕ → List Part → Origin Place
 origin_of_parts home [] = nowhere
 origin_of_parts home (P.Name x ∷ rest) = after_name (record { home = home; name = x.octets })
@@ -90,7 +89,7 @@ origin_by place (Some (imported i)) = after
     (record { home = i.source.octets; name = place.name }) []
 origin_by place (Some (root n)) = numbers (n ∷ [])
 
--- the module of a name, the first of those that are loaded
+-- the first loaded module of a name
 abbrev pub module_named : List Module → List ℕ → Option Module
 module_named ms x = find (λ m. same_text m.name.octets x) ms
 

@@ -1,4 +1,4 @@
--- What a directory of names and their resolutions say.
+-- What a directory of names and their resolutions state.
 use Rattle.std.specs.Prelude.{◌≡◌, ℕ, List, Some, None}
 use Rattle.std.specs.List.{slice_get}
 use Rattle.smi_links.specs.Chain.{nowhere}
@@ -16,7 +16,7 @@ pub record IsDirectory (ms : List Module) (d : Directory) : Type 0 where
   pub placed : (x : List ℕ) → place_in d.homes x ≡ module_place ms x
   pub named : AreEach ms d.scopes.items d.entries.items
 
--- and each name comes to what its place has
+-- and each name resolves to what its place has
 pub record IsResolved (ms : List Module) (d : Directory) (rs : List Resolution) : Type 0 where
   pub directory : IsDirectory ms d
   pub comes : (a : Place) (r : Resolution) → slice_get rs (place_by d a) ≡ Some r

@@ -21,7 +21,7 @@ decision_of (D.Definition d) = defined d.now
 decision_of (D.Import i) = imported i.now
 decision_of (D.Root n) = root n
 
--- what an entry says: in this module, this name is decided so
+-- what an entry says: this decides what this name means in this module
 pub record Content : Type 0 where
   pub home : Module
   pub name : List ℕ
@@ -30,7 +30,7 @@ pub record Content : Type 0 where
 abbrev pub content_of : Entry → Content
 content_of e = record { home = e.«module».now; name = e.name.now; decided = decision_of e.decider }
 
--- what is known of a name by a scope
+-- what a scope knows of a name
 abbrev pub known : List Entry → BTreeMap (Bor (List ℕ)) ℕ → List ℕ → Option Content
 known entries scope x =
     option_and_then (λ p. option_map content_of (slice_get entries p)) (place_in scope x)
@@ -41,7 +41,7 @@ decided_as m x d = option_map (λ v. record { home = m; name = x; decided = v })
 abbrev pub IsWithin : List Entry → BTreeMap (Bor (List ℕ)) ℕ → Type 0
 IsWithin entries scope = (x : List ℕ) (p : ℕ) → place_in scope x ≡ Some p → p < length entries
 
--- the scope knows more: what `more` decides, where it knew nothing
+-- the scope knows more: where it knew nothing, it has what `more` decides
 pub record KnowsMore (old : List Entry) (before : BTreeMap (Bor (List ℕ)) ℕ) (new : List Entry)
     (scope : BTreeMap (Bor (List ℕ)) ℕ) (m : Module) (more : List ℕ
     → Option Decision) : Type 0 where

@@ -1,4 +1,4 @@
-//! The places of names: which entry a name of a module has, and what its numbers rest on.
+//! The places of names: which entry a name of a module has, and what its numbers are based on.
 ghost use Rattle.std.specs.Prelude.{◌≡◌, ◌∷◌, ℕ, List, [], length, option_map, IfOk, OnOk, Some};
 ghost use Rattle.std.specs.Prelude.{None, if◌then◌else◌};
 ghost use Rattle.smi_links.specs.Basis.{origin_of};
@@ -23,7 +23,7 @@ pub(crate) struct Directory<'a> {
     pub(crate) entries: Vec<Entry<'a>>,
 }
 
-/// Puts a name at a place, unless it has one.
+/// Gives a name a place, unless it has one.
 fn put_first<'a>(scope: &mut Scope<'a>, name: &'a [u8], place: usize) -> Result<(), AllocError>
     ensures put { OnOk result ((x : List ℕ) → place_in scope.new x
         ≡ or_else (place_in scope.old x) (if same_text name.now x then Some place else None)) }
@@ -84,7 +84,7 @@ fn arcs(alloc: Global, parts: &[Part]) -> Result<Option<Vec<u32>>, AllocError>
 }
 
 impl<'a> Directory<'a> {
-    /// The place of a name in the module of a name; the one past the last where it has no meaning
+    /// The place of a name in the module of a name; the one past the last if it has no meaning
     /// there.
     pub(crate) fn place(&self, home: &'a [u8], name: &'a [u8]) -> usize
         ensures { result ≡ place_by self.now (record { home = home.now; name = name.now }) }
@@ -101,7 +101,7 @@ impl<'a> Directory<'a> {
         }
     }
 
-    /// What the numbers of an identifier value rest on.
+    /// What the numbers of an identifier value are based on.
     fn basis_of_parts(
         &self,
         alloc: Global,
@@ -124,7 +124,7 @@ impl<'a> Directory<'a> {
         }
     }
 
-    /// What the numbers of an entry's name rest on.
+    /// What the numbers of an entry's name are based on.
     fn basis(&self, alloc: Global, entry: &Entry<'a>) -> Result<Basis, AllocError>
         ensures { IfOk result (λ basis. origin_of basis
             ≡ map_origin (place_by self.now)
@@ -149,7 +149,7 @@ impl<'a> Directory<'a> {
         }
     }
 
-    /// What the numbers of each entry's name rest on.
+    /// What the numbers of each entry's name are based on.
     pub(crate) fn bases(&self, alloc: Global) -> Result<Vec<Basis>, AllocError>
         ensures { IfOk result (λ bases. AreBases self.now self.now.entries.items bases.items) }
     {

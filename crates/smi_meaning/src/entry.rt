@@ -9,7 +9,7 @@ pub enum Decider<'a> {
     Definition(&'a Def),
     /// The first FROM clause that imports it.
     Import(&'a Import),
-    /// None of these, but it is the root with this number.
+    /// Neither of these, but it is the root with this number.
     Root(u32),
 }
 

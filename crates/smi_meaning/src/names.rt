@@ -13,9 +13,9 @@ use smi_module::Module;
 use std::alloc::{AllocError, Global};
 use std::marker::Model;
 
-/// The names of modules: what decides each, and what it comes to.
+/// The names of modules: what decides the meaning of each, and what it resolves to.
 ///
-/// Where two modules have one name, the first stands for it.
+/// Of two modules with the same name, the first is used.
 #[derive(Drop)]
 pub struct Names<'a> {
     modules: &'a [Module],
@@ -56,7 +56,7 @@ impl<'a> Names<'a> {
         })
     }
 
-    /// What a name comes to in the module of a name; None where it has no meaning there.
+    /// What a name resolves to in the module of a name; None if it has no meaning there.
     pub fn resolution(&self, home: &'a [u8], name: &'a [u8]) -> Option<&Resolution>
         ensures { let place : Place = record { home = home.now; name = name.now } in
             MatchOption result (origin self.now place ≡ nowhere)
@@ -66,7 +66,7 @@ impl<'a> Names<'a> {
         self.resolutions.get(place)
     }
 
-    /// What decides a name in the module of a name.
+    /// What decides the meaning of a name in the module of a name.
     pub fn decider(&self, home: &'a [u8], name: &'a [u8]) -> Option<Decider<'a>>
         ensures { option_map decision_of result
             ≡ option_and_then (λ m. decision m name.now) (module_named self.now home.now) }

@@ -116,7 +116,7 @@ fn enter_roots<'a>(
     Ok(())
 }
 
-/// The FROM clauses of a module, none where it has no IMPORTS.
+/// The FROM clauses of a module, none if it has no IMPORTS.
 pub(crate) fn import_clauses(module: &Module) -> &[Import]
     ensures { result.now ≡ lookup.import_clauses module.now }
 {

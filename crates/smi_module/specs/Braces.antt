@@ -3,8 +3,8 @@ use Rattle.std.specs.Prelude.{◌≡◌, ◌≢◌, List, [], ◌∷◌, ◌++�
 use Rattle.smi_lexer.specs.declared.token.TokenKind.TheVariants.{OpenBrace, CloseBrace}
 use Rattle.smi_module.specs.declared.tree.TokenText.{TokenText}
 
--- each brace that opens has one behind it that closes it, with balanced tokens between the two, and
--- no other closes
+-- each opening brace is followed by the brace that closes it, with balanced tokens between the two,
+-- and there is no other closing brace
 pub data IsBalanced : List TokenText → Type 0 where
   none : IsBalanced []
   other : {x : TokenText} {xs : List TokenText} → x.kind ≢ OpenBrace → x.kind ≢ CloseBrace

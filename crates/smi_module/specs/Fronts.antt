@@ -12,12 +12,12 @@ opening_braces xs = count_by (λ x. same_kind x.kind OpenBrace) xs
 abbrev pub closing_braces : List TokenText → ℕ
 closing_braces xs = count_by (λ x. same_kind x.kind CloseBrace) xs
 
--- the beginnings of the tokens, none of them and all of them included
+-- the fronts of the tokens, the empty one and the whole list included
 abbrev pub fronts : List TokenText → List (List TokenText)
 fronts [] = [] ∷ []
 fronts (x ∷ xs) = [] ∷ map (λ front. x ∷ front) (fronts xs)
 
--- each beginning opens as many braces as it closes, or more, and the whole opens as many as it
+-- each front opens at least as many braces as it closes, and the whole list opens as many as it
 -- closes
 unfoldable pub has_balanced_braces : List TokenText → Bool
 has_balanced_braces xs =

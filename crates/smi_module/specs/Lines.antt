@@ -5,7 +5,7 @@ use Rattle.smi_module.specs.declared.tree.Module.{Module}
 use Rattle.smi_module.specs.declared.tree.Import.{Import}
 use Rattle.smi_module.specs.declared.tree.Def.{Def}
 
--- what a mark says of a token but for its line
+-- what a mark says of a token, without its line
 abbrev pub plain : Mark → Mark
 plain (spelled k x ok) = spelled k x ok
 plain (on_line n m) = plain m
@@ -16,7 +16,7 @@ unlined_import x = record { symbols = x.symbols; source = x.source; line = 0 }
 abbrev pub unlined_def : Def → Def
 unlined_def x = record { label = x.label; line = 0; kind = x.kind }
 
--- the tree with 0 in the place of each line
+-- the tree with 0 in place of each line
 abbrev pub unlined : Module → Module
 unlined m = record {
   name = m.name;

@@ -30,15 +30,15 @@ use Rattle.smi_module.specs.Number.{arc_in}
 abbrev pub defines : List ℕ → Def → Bool
 defines name d = same_text d.label.octets name
 
--- one of the symbols of the clause is this name
+-- this name is one of the symbols of the clause
 abbrev pub imports : List ℕ → Import → Bool
 imports name i = list_any (λ s. same_text s.text name) i.symbols
 
--- the clauses FROM of a module, none where it has no IMPORTS
+-- the FROM clauses of a module, none if it has no IMPORTS
 abbrev pub import_clauses : Module → List Import
 import_clauses m = unwrap_or m.imports []
 
--- the first of the definitions that is of the name, and the first of the clauses that imports it
+-- the first of the definitions that defines the name, and the first of the clauses that imports it
 abbrev pub first_definition : List ℕ → List Def → Option Def
 first_definition name ds = find (defines name) ds
 
@@ -57,7 +57,7 @@ import_of m name = first_import name (import_clauses m)
 abbrev pub labels : List Def → List (List ℕ)
 labels ds = map (λ d. d.label.octets) ds
 
--- no label stands twice
+-- no label occurs twice
 abbrev pub are_distinct : List (List ℕ) → Bool
 are_distinct [] = true
 are_distinct (x ∷ xs) = not (list_any (same_text x) xs) && are_distinct xs

@@ -28,7 +28,7 @@ use Rattle.smi_lexer.specs.declared.token.TokenKind.TheVariants.{
 }
 use Rattle.smi_lexer.specs.Token.{Lexeme}
 
--- the place of a kind among the kinds
+-- the number of a kind among the kinds
 abbrev pub kind_number : TokenKind → ℕ
 kind_number Lower = 0
 kind_number Upper = 1

@@ -35,7 +35,8 @@ use Rattle.smi_module.specs.Reserved.{is_reserved, macros}
 abbrev pub digit_value : ℕ → ℕ
 digit_value c = if nat_le c 57 then c - 48 else (if nat_le c 70 then c - 55 else c - 87)
 
--- the number that the digits write, each at its weight, a power of the base; no digits write zero
+-- the number that the digits stand for, each with its weight, a power of the base; no digits stand
+-- for zero
 unfoldable pub number_value : ℕ → List ℕ → ℕ
 number_value base [] = 0
 number_value base (c ∷ cs) = digit_value c * base ^ length cs + number_value base cs
@@ -57,7 +58,7 @@ unfoldable pub is_number : List ℕ → Bool
 is_number x = nat_le (magnitude x)
     (if is_negative x then 9223372036854775808 else 18446744073709551615)
 
--- the digits of a literal as `'0F'H`: those between its quotes
+-- the digits of a literal such as `'0F'H`: those between its quotes
 abbrev pub literal_digits : List ℕ → List ℕ
 literal_digits x = take (length x - 3) (drop 1 x)
 
@@ -72,9 +73,9 @@ is_bound k x =
     || (same_kind k K.Hex && is_literal 16 x)
     || (same_kind k K.Binary && is_literal 2 x)
 
--- ---- what they are worth
+-- ---- values
 
--- below zero where a hyphen stands before the digits
+-- the value, below zero if a hyphen stands before the digits
 abbrev pub signed_value : List ℕ → ℤ
 signed_value x = if is_negative x then pos 0 -ℤ pos (magnitude x) else pos (magnitude x)
 
@@ -84,11 +85,11 @@ bound_value K.Hex x = pos (number_value 16 (literal_digits x))
 bound_value K.Binary x = pos (number_value 2 (literal_digits x))
 bound_value _ x = signed_value x
 
--- the number, where it is no greater than this
+-- the number, if it is no greater than this
 abbrev pub up_to : ℕ → ℕ → Option ℕ
 up_to most n = then_some (nat_le n most) n
 
--- the value of a text that is in its range
+-- the value of a text that is in the range
 abbrev pub arc_in : List ℕ → Option ℕ
 arc_in x = then_some (is_arc x) (magnitude x)
 

@@ -1,7 +1,6 @@
--- How a list of module trees is spelled: one case for each production of the grammar, with the
--- marks of its tokens in turn.
--- In the comments a word stands for itself, UPPER, LOWER, NUM and STR for a token of that kind (RFC
--- 2578, sections 3 to 8; RFC 2579; RFC 2580).
+-- The spelling of a list of module trees: one case for each production of the grammar, with the
+-- marks of its tokens in order. In the comments a word stands for itself, and UPPER, LOWER, NUM and
+-- STR for a token of that kind (RFC 2578, sections 3 to 8; RFC 2579; RFC 2580).
 use Rattle.std.specs.Prelude.{
   ℕ,
   Bool,
@@ -63,14 +62,14 @@ use Rattle.smi_module.specs.declared.tree.Range.{Range}
 abbrev pub word : List ℕ → Mark
 word w = spelled K.Upper w true
 
--- UPPER: no reserved word
+-- an UPPER that is not a reserved word
 abbrev pub upper : Name → Mark
 upper x = spelled K.Upper x.octets (not (is_reserved x.octets))
 
 abbrev pub lower : Name → Mark
 lower x = spelled K.Lower x.octets true
 
--- LOWER that is no name
+-- a LOWER that is kept as a text, not as a name
 abbrev pub lower_text : List ℕ → Mark
 lower_text x = spelled K.Lower x true
 

@@ -3,7 +3,7 @@ ghost use Rattle.std.specs.Prelude.{◌≡◌, length};
 
 use std::marker::Model;
 
-/// A text of the module, owned: its octets as they stand there.
+/// An owned text of the module: its octets, unchanged.
 #[derive(Drop, Debug)]
 pub struct Text {
     bytes: Vec<u8>,

@@ -1,7 +1,6 @@
-//! Module trees of SMIv2 (RFC 2578, RFC 2579, RFC 2580): what a module text says, how it is spelled
-//! in tokens, and
-//! what its names and numbers mean. The parser of `smi_text` stands above, and the tree of names of
-//! `smi_tree`.
+//! Module trees of SMIv2 (RFC 2578, RFC 2579, RFC 2580): what a module text says, the tokens that
+//! state it, and what its names and numbers mean. The parser in `smi_text` and the tree of names in
+//! `smi_tree` build on this crate.
 #![tactic(auto)]
 
 mod items;

@@ -44,16 +44,14 @@ fn definition_among<'a>(defs: &'a [Def], name: &[u8]) -> Option<&'a Def>
 }
 
 impl Module {
-    /// The definition of a name: the first in the text, if the module has one (RFC 2578, section
-    /// 3.1).
+    /// The first definition of a name in the text, if the module has one (RFC 2578, section 3.1).
     pub fn define(&self, name: &[u8]) -> Option<&Def>
         ensures { option_copied result ≡ lookup.definition_of self.now name.now }
     {
         definition_among(self.defs.as_slice(), name)
     }
 
-    /// The FROM clause that imports a name: the first in the text, if one does (RFC 2578, section
-    /// 3.2).
+    /// The first FROM clause in the text that imports a name, if one does (RFC 2578, section 3.2).
     pub fn import(&self, name: &[u8]) -> Option<&Import>
         ensures { option_copied result ≡ lookup.import_of self.now name.now }
     {
@@ -85,7 +83,8 @@ impl Def {
         }
     }
 
-    /// The words that say what is defined, as `OBJECT-TYPE`. The assignment of a type has none.
+    /// The words that say what is defined, such as `OBJECT-TYPE`. The assignment of a type has
+    /// none.
     pub fn kind_words(&self) -> &'static [u8]
         ensures { result.now ≡ lookup.kind_words self.now.kind }
     {

@@ -22,7 +22,7 @@ fn digit_value(digit: u8) -> u8
     }
 }
 
-/// The number that the digits write, if it is at most `most`.
+/// The number that the digits stand for, if it is at most `most`.
 fn value_up_to(base: u64, digits: &[u8], most: u64) -> Option<u64>
     requires { 0 < base }
     ensures { result ≡ number.up_to most (number_value base digits.now) }
@@ -47,15 +47,15 @@ fn is_negative(text: &[u8]) -> bool
     matches!(text, [b'-', ..])
 }
 
-/// The digits of a NUM.
+/// The digits of a NUM, without its hyphen.
 fn digits(text: &[u8]) -> &[u8]
     ensures { result.now ≡ (if is_negative text.now then drop 1 text.now else text.now) }
 {
     if is_negative(text) { &text[1..] } else { text }
 }
 
-/// The number of an identifier that a NUM writes, 0 to 4294967295 (RFC 2578, section 3.5). `-0` is
-/// 0.
+/// The number of an identifier that a NUM stands for, 0 to 4294967295 (RFC 2578, section 3.5). `-0`
+/// is 0.
 pub fn arc(text: &[u8]) -> Option<u32>
     ensures { result ≡ number.arc_in text.now }
 {
@@ -73,8 +73,8 @@ pub fn is_arc(text: &[u8]) -> bool
     arc(text).is_some()
 }
 
-/// The number that a NUM writes elsewhere, -9223372036854775808 to 18446744073709551615 (RFC 2578,
-/// section 7.1.1).
+/// The number that a NUM stands for elsewhere, -9223372036854775808 to 18446744073709551615 (RFC
+/// 2578, section 7.1.1).
 pub fn number(text: &[u8]) -> Option<i128>
     ensures { result ≡ number.number_in text.now }
 {
@@ -93,7 +93,7 @@ pub fn number(text: &[u8]) -> Option<i128>
     }
 }
 
-/// Whether a NUM can stand where no number of an identifier does.
+/// Whether a NUM can stand in a place that isn't for a number of an identifier.
 pub fn is_number(text: &[u8]) -> bool
     ensures { result ≡ number.is_number text.now }
 {

@@ -4,7 +4,7 @@ ghost use Rattle.std.specs.Prelude.{◌≡◌, ◌++◌, List, ℕ, codes};
 use crate::items::Text;
 
 impl Text {
-    /// What stands between the quotes of a string (RFC 2578, section 3.1.1).
+    /// The octets between the quotes of a string (RFC 2578, section 3.1.1).
     pub fn unquoted(&self) -> &[u8]
         ensures { (body : List ℕ) → self.now ≡ codes "\"" ++ body ++ codes "\""
             → result.now ≡ body }

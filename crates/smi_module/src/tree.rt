@@ -1,6 +1,6 @@
 //! Module trees: what a module text says, without blanks and comments (RFC 2578, sections 3 to 8;
 //! RFC 2579; RFC 2580).
-//! A tree owns its texts, which are those of the tokens as they stand: strings keep their quotes,
+//! A tree owns its texts, which are the unchanged texts of the tokens: strings keep their quotes,
 //! numbers their zeros.
 use crate::items::{Items, Text};
 use crate::names::Name;
@@ -10,9 +10,9 @@ use smi_lexer::TokenKind;
 #[derive(Debug, Drop)]
 pub struct Module {
     pub name: Name,
-    /// The identifier in braces after the name, where it stands. It may be empty.
+    /// The identifier in braces after the name, if there are braces. It may be empty.
     pub heading: Option<Items<Part>>,
-    /// What is imported, one for each FROM, where IMPORTS stands. It may be empty.
+    /// What is imported, one item for each FROM, if there is an IMPORTS. It may be empty.
     pub imports: Option<Items<Import>>,
     /// The definitions, in the order of the text. No two have the same label.
     pub defs: Items<Def>,
@@ -29,7 +29,7 @@ pub struct Import {
     pub line: usize,
 }
 
-/// A token that a tree keeps as it stands.
+/// A token that a tree keeps unchanged.
 #[derive(Debug, Drop)]
 pub struct TokenText {
     pub kind: TokenKind,
@@ -45,7 +45,7 @@ pub struct Def {
     pub kind: DefKind,
 }
 
-/// What a definition gives its name: one variant for each form that the grammar has.
+/// What a definition defines its name as: one variant for each form in the grammar.
 #[derive(Debug, Drop)]
 pub enum DefKind {
     /// `OBJECT IDENTIFIER ::= { .. }` (RFC 2578, section 3.6).
@@ -142,7 +142,7 @@ pub struct ObjectType {
     pub value: Items<Part>,
 }
 
-/// How the rows of a table are told apart (RFC 2578, sections 7.7 and 7.8).
+/// How the rows of a table are identified: INDEX or AUGMENTS (RFC 2578, sections 7.7 and 7.8).
 #[derive(Debug, Drop)]
 pub enum Index {
     /// INDEX.
@@ -156,7 +156,7 @@ pub enum Index {
 pub struct IndexParts {
     /// At least one.
     pub names: Items<Name>,
-    /// Whether the last one stands behind IMPLIED.
+    /// Whether IMPLIED stands before the last one.
     pub implied: bool,
 }
 
@@ -193,7 +193,7 @@ pub struct TextualConvention {
     pub syntax: Syntax,
 }
 
-/// A type, perhaps behind a tag as the base types of RFC 2578's own module have it.
+/// A type, with a tag before it if it has one, as the base types of RFC 2578's own module do.
 #[derive(Debug, Drop)]
 pub struct TypeAssignment {
     /// The number of `[APPLICATION n] IMPLICIT`.
@@ -245,7 +245,7 @@ pub enum Refinement {
     Size(Items<Range>),
 }
 
-/// A range, or one value where there is no upper bound.
+/// A range, or one value if there is no upper bound.
 #[derive(Debug, Drop)]
 pub struct Range {
     /// A number, or a hexadecimal or binary literal.

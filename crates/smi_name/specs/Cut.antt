@@ -31,7 +31,7 @@ parts_after state (octet ∷ more) =
 abbrev pub name_parts : List ℕ → List (List ℕ)
 name_parts text = parts_after None text
 
--- `::` stands in front
+-- `::` stands at the front
 abbrev pub is_double_colon : List ℕ → Bool
 is_double_colon [] = false
 is_double_colon (first ∷ []) = false

@@ -71,7 +71,7 @@ scoped_meaning naming text (Some (home, rest)) =
     if naming.is_loaded home then parts_meaning naming (in_module home) (name_parts rest)
     else Err Unknown
 
--- a dot alone is the empty identifier, and no text at all is no name
+-- a dot alone is the empty identifier, and the empty text is not a name
 abbrev pub meaning : Naming → List ℕ → Result (List ℕ) NameError
 meaning naming [] = Err Unknown
 meaning naming (octet ∷ []) =

@@ -17,13 +17,13 @@ abbrev pub qualified : Option (List ℕ) → List ℕ → List ℕ
 qualified None label = label
 qualified (Some home) label = home ++ codes "::" ++ label
 
--- the name of the last number of an identifier: the label where a node stands for the identifier,
--- else the number
+-- the name of the last number of an identifier: the label if a node stands for the identifier,
+-- otherwise the number
 abbrev pub arc_text : Option Standing → List ℕ → ℕ → List ℕ
 arc_text None o n = decimal n
 arc_text (Some node) o n = if node.depth == length o then node.label else decimal n
 
--- each number after those before it, with a dot in front
+-- each number after those before it, with a dot before each
 abbrev pub path_text : Naming → List ℕ → List ℕ → List ℕ
 path_text naming before [] = []
 path_text naming before (n ∷ more) =
@@ -47,7 +47,7 @@ standing_text naming form numeric_index o None = numeric_text o
 standing_text naming form numeric_index o (Some node) =
     node_text naming form o node ++ instance_text numeric_index o node
 
--- in numbers, or by the deepest node and what follows it; in numbers too where there is no node
+-- in numbers, or by the deepest node and what follows it; in numbers too if there is no node
 abbrev pub name_text : Naming → NameForm → Bool → List ℕ → List ℕ
 name_text naming Numeric numeric_index o = numeric_text o
 name_text naming Full numeric_index o =

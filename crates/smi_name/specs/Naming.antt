@@ -1,11 +1,11 @@
--- What names are read and shown by: the nodes of a tree, found by module and label, by identifier,
+-- The nodes of a tree by which names are read and shown, found by module and label, by identifier,
 -- or as a child.
 use Rattle.std.specs.Prelude.{◌≡◌, ℕ, ◌≤◌, Bool, true, List, length, take, Option, Some, None}
 use Rattle.smi_module.specs.Word.{is_word}
 use Rattle.smi_index.specs.declared.part.IndexPart.{IndexPart}
 
 -- a node: its module, None for a built-in root; its label; how many numbers its identifier has; the
--- parts of the index that reads the numbers after it, None where it is no column with such an index
+-- parts of the index that reads the numbers after it, None if it isn't a column with such an index
 pub record Standing : Type 0 where
   pub home : Option (List ℕ)
   pub label : List ℕ

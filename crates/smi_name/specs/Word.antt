@@ -1,4 +1,4 @@
--- A part of a name by itself: a number, a text in quotes, or a label; or why it is none of them.
+-- A part of a name, on its own: a number, a text in quotes, or a label; or why it is none of them.
 use Rattle.std.specs.Prelude.{ℕ, ◌-◌, ◌^◌, ◌&&◌, ◌==◌, nat_lt, if◌then◌else◌, List, [], ◌∷◌, length}
 use Rattle.std.specs.Prelude.{take, slice_index, Option, Some, None, Result, Ok, Err}
 use Rattle.std.specs.List.{list_all}
@@ -13,7 +13,7 @@ pub data Word : Type 0 where
   a_piece : Piece → Word
   a_label : List ℕ → Word
 
--- the number of 32 bits that decimal digits spell, leading zeros among them or not
+-- the number of 32 bits that decimal digits stand for, with or without leading zeros
 abbrev pub numeral_of : List ℕ → Option ℕ
 numeral_of part =
     if all_ascii_digits part && nat_lt (decimal_value part) (2 ^ 32) then Some (decimal_value part)
@@ -36,7 +36,7 @@ abbrev pub counted_word : Option (List ℕ) → Result Word NameError
 counted_word None = Err BadIndex
 counted_word (Some octets) = Ok (a_piece (counted_text octets))
 
--- two single quotes alone are no part
+-- two single quotes alone are not a part
 abbrev pub plain_word : Option (List ℕ) → Result Word NameError
 plain_word None = Err BadIndex
 plain_word (Some []) = Err BadIndex

@@ -5,7 +5,7 @@ ghost use Rattle.std.specs.Prelude.{◌&&◌};
 ghost use Rattle.smi_name.specs.Cut.{is_unquoted};
 ghost use Rattle.smi_name.specs.Left.{parts_left};
 
-/// The first part of a text, and what stands after the dot that ends it, None where none does.
+/// The first part of a text, and what follows the dot that ends it, None if no dot does.
 pub fn cut_part(text: &[u8]) -> (&[u8], Option<&[u8]>)
     ensures parts { let left = parts_left (option_map (λ rest. rest.now) result.1) in
         result.0.now ∷ left ≡ name_parts text.now }
@@ -35,14 +35,14 @@ pub fn cut_module(text: &[u8]) -> Option<(&[u8], &[u8])>
     None
 }
 
-/// Whether `::` stands in front, outside quotes.
+/// Whether `::` stands at the front, outside quotes.
 fn ends_module(before: Option<u8>, text: &[u8]) -> bool
     ensures { result ≡ (is_unquoted before && is_double_colon text.now) }
 {
     before.is_none() && is_double_colon(text)
 }
 
-/// Whether `::` stands in front.
+/// Whether `::` stands at the front.
 fn is_double_colon(text: &[u8]) -> bool
     ensures { result ≡ is_double_colon text.now }
 {

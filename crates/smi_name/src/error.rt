@@ -1,4 +1,4 @@
-//! Why a text is no name.
+//! Why a text is not a name.
 use thiserror::Error;
 
 /// Why a text means no identifier: the first fault from the left.
@@ -10,7 +10,7 @@ pub enum NameError {
     /// A part in quotes is malformed, or isn't followed by a dot or the end.
     #[error("bad index")]
     BadIndex,
-    /// A part is empty, or begins with a digit and is no number up to 4294967295.
+    /// A part is empty, or begins with a digit and isn't a number up to 4294967295.
     #[error("bad number")]
     BadNumber,
     /// There would be more than 128 numbers.

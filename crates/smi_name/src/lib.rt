@@ -1,7 +1,7 @@
 //! Names of managed objects: the identifier that a name means, and the name of an identifier, over
 //! any tree of nodes.
 //!
-//! Stands on the index of rows; the tree of loaded modules says which nodes there are.
+//! Depends on the index of rows; the tree of loaded modules says which nodes there are.
 #![tactic(auto)]
 
 mod cut;

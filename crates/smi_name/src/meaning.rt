@@ -20,7 +20,7 @@ use crate::{NameError, NameTree};
 use smi_index::pieces_stand_for_numbers;
 use snmp_oid::{Oid, names};
 
-/// The identifier that a name means, or the first fault from the left. Takes no memory.
+/// The identifier that a name means, or the first fault from the left. Does not allocate.
 ///
 /// The name is `.`, or parts after dots: an optional `MODULE::` or `.`, a first part, and further
 /// parts. A number is itself, `"text"` its length and octets, `'text'` its octets alone; a label is
@@ -76,7 +76,7 @@ fn plain_meaning<T: NameTree>(tree: &T, text: &[u8]) -> Result<Oid, NameError>
     }
 }
 
-/// What parts mean, the first of them in this scope.
+/// What parts mean, with the label of the first looked up in this scope.
 fn parts_meaning<T: NameTree>(tree: &T, scope: Scope<'_>, text: &[u8]) -> Result<Oid, NameError>
     ensures { let parts = name_parts text.now in
         result ≡ parts_meaning (T.naming tree.now) (scope_in scope.entry) parts }
@@ -88,7 +88,7 @@ fn parts_meaning<T: NameTree>(tree: &T, scope: Scope<'_>, text: &[u8]) -> Result
     }
 }
 
-/// What further parts mean after what stands so far.
+/// What further parts mean after the identifier so far.
 fn further_meaning<T: NameTree>(
     tree: &T,
     so_far: Oid,
@@ -132,7 +132,7 @@ fn labelled<T: NameTree>(tree: &T, scope: Scope<'_>, label: &[u8]) -> Result<Oid
     }
 }
 
-/// What a further part means after what stands so far.
+/// What a further part means after the identifier so far.
 fn part_meaning<T: NameTree>(tree: &T, so_far: Oid, part: &[u8]) -> Result<Oid, NameError>
     ensures { result ≡ part_meaning (T.naming tree.now) so_far part.now }
 {

@@ -33,7 +33,7 @@ pub fn name_text<T: NameTree>(
     }
 }
 
-/// Each number after a dot, a dot alone for none.
+/// Each number after a dot; a dot alone if there are no numbers.
 fn numeric(oid: &Oid, draft: &mut Draft)
     ensures { Adds draft.old (numeric_text oid.now) draft.new }
 {
@@ -44,7 +44,7 @@ fn numeric(oid: &Oid, draft: &mut Draft)
     }
 }
 
-/// The deepest node and what follows it, or numbers where there is no node.
+/// The deepest node and what follows it, or numbers if there is no node.
 fn by_node<T: NameTree>(tree: &T, form: NameForm, numeric_index: bool, oid: &Oid, draft: &mut Draft)
     ensures { let standing = (T.naming tree.now).deepest oid.now in
         let text = standing_text (T.naming tree.now) form numeric_index oid.now standing in

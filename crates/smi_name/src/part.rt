@@ -1,4 +1,4 @@
-//! Reads a part of a name by itself.
+//! Reads a part of a name on its own.
 ghost use Rattle.std.specs.Prelude.{◌≡◌, ◌≢◌, ◌<◌, ℕ, [], length, option_map, slice_index, Some};
 ghost use Rattle.std.specs.Prelude.{None};
 ghost use Rattle.std.specs.Prelude.{◌∷◌, IfNone, IfSome};
@@ -34,7 +34,7 @@ pub fn read_part(part: &[u8]) -> Result<Part<'_>, NameError>
     }
 }
 
-/// The number of 32 bits that decimal digits spell.
+/// The number of 32 bits that decimal digits stand for.
 fn numeral(part: &[u8]) -> Option<u32>
     requires some { part.now ≢ [] }
     requires dotless { slice_index part.now 0 ≢ 46 }
@@ -46,7 +46,7 @@ fn numeral(part: &[u8]) -> Option<u32>
     }
 }
 
-/// The number, where there is just one.
+/// The number, if there is just one.
 fn only_number(numbers: &[u32]) -> Option<u32>
     ensures found { IfSome result (λ n. numbers.now ≡ n ∷ []) }
     ensures none { IfNone result (length numbers.now ≢ 1) }

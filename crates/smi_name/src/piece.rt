@@ -30,7 +30,7 @@ fn with_number(oid: Oid, number: u32) -> Result<Oid, NameError>
     }
 }
 
-/// An identifier with a length and as many octets after it.
+/// An identifier with the number of octets and then the octets after it.
 fn with_counted(oid: Oid, octets: &[u8]) -> Result<Oid, NameError>
     ensures { result ≡ fitting (oid ++ length octets.now ∷ octets.now) }
 {

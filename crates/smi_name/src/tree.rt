@@ -1,4 +1,4 @@
-//! What names need of a tree.
+//! The tree of nodes that names are read and shown by.
 ghost use Rattle.std.specs.Prelude.{◌≡◌, option_map};
 ghost use Rattle.std.specs.Option.{option_copied};
 ghost use Rattle.smi_name.specs.Naming.{IsSound, Naming, Standing};
@@ -16,11 +16,11 @@ pub struct Node<'a> {
     pub label: &'a [u8],
     /// How many numbers its identifier has.
     pub depth: usize,
-    /// The parts of the index of a column, None where it is no column or its index can't be read.
+    /// The parts of the index of a column, None if it isn't a column or its index can't be read.
     pub index: Option<&'a [IndexPart]>,
 }
 
-/// A tree whose nodes have labels: what names are read and shown by.
+/// A tree of nodes with labels, by which names are read and shown.
 pub trait NameTree {
     ghost naming: { Self → Naming };
 

@@ -1,6 +1,6 @@
-//! A part of a name by itself.
+//! A part of a name, on its own.
 
-/// What a part of a name says by itself.
+/// What a part of a name means on its own, without a tree.
 #[derive(Clone, Copy)]
 pub enum Part<'a> {
     /// Numbers.

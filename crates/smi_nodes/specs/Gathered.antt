@@ -61,7 +61,7 @@ oids_by R.Cycle = []
 oids_by R.Unresolved = []
 oids_by R.TooLong = []
 
--- more is gathered: what a definition gives whose name comes to r
+-- what is gathered grows by what a definition gives whose name resolves to r
 pub record Extends (old new : Gathered) (s : Source) (m : Module) (d : Def)
     (r : Resolution) : Type 0 where
   pub sources : new.sources.items ≡ old.sources.items ++ sources_by s r

@@ -12,8 +12,7 @@ use Rattle.smi_nodes.specs.declared.warning.Warning.{Warning}
 use Rattle.smi_nodes.specs.declared.warning.Warning.TheVariants as W
 
 -- a node: the module that defines it, its label, its identifier and its definition; a root has no
--- module and
--- no definition
+-- module and no definition
 pub record Node : Type 0 where
   pub home : Option Module
   pub label : List ℕ
@@ -32,14 +31,14 @@ roots =
 abbrev pub node_of : Module → Def → List ℕ → Node
 node_of m d o = record { home = Some m; label = d.label.octets; oid = o; definition = Some d }
 
--- the node that a definition gives, by what its name comes to
+-- the node that a definition gives, by what its name resolves to
 abbrev pub nodes_by : Module → Def → Resolution → List Node
 nodes_by m d (R.Numbers o) = node_of m d o ∷ []
 nodes_by m d R.Cycle = []
 nodes_by m d R.Unresolved = []
 nodes_by m d R.TooLong = []
 
--- the warning that it gives
+-- the warning that a definition gives, by what its name resolves to
 abbrev pub warnings_by : Module → Def → Resolution → List Warning
 warnings_by m d (R.Numbers o) = []
 warnings_by m d R.Cycle = W.Cycle m.name.octets d.label.octets ∷ []
@@ -47,7 +46,7 @@ warnings_by m d R.Unresolved = W.Unresolved m.name.octets d.label.octets ∷ []
 warnings_by m d R.TooLong = W.TooLong m.name.octets d.label.octets ∷ []
 
 -- a definition gives these nodes and warnings: a type or a macro none, any other by what its name
--- comes to
+-- resolves to
 abbrev pub GivesBy : List Module → Module → Def → Option (List Part) → List Node → List Warning
     → Type 0
 GivesBy ms m d None ns ws = (ns ≡ []) × (ws ≡ [])

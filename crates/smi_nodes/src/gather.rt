@@ -23,14 +23,14 @@ pub struct Gathered {
     pub warnings: Vec<Warning>,
 }
 
-/// A text of its own with these octets.
+/// An owned text of these octets.
 fn text(alloc: Global, octets: &[u8]) -> Result<Text, AllocError>
     ensures { IfOk result (λ text. text ≡ octets.now) }
 {
     Ok(Text::new(Vec::from_slice(alloc, octets)?))
 }
 
-/// An identifier with the same numbers.
+/// A copy of an identifier.
 fn copied(oid: &Oid) -> Oid
     ensures { result ≡ oid.now }
 {
@@ -49,7 +49,7 @@ fn single(number: u32) -> Oid
 }
 
 impl Gathered {
-    /// Adds what a definition gives whose name comes to this.
+    /// Adds what a definition gives whose name has this resolution.
     fn add(
         &mut self,
         alloc: Global,
@@ -86,7 +86,7 @@ impl Gathered {
 }
 
 impl Gathered {
-    /// Adds what a definition gives, by what its name comes to in its module.
+    /// Adds what a definition gives, by what its name resolves to in its module.
     fn add_definition<'a>(
         &mut self,
         alloc: Global,
@@ -97,7 +97,8 @@ impl Gathered {
     ) -> Result<(), AllocError>
         requires long { length self.old.sources.items ≡ length self.old.oids.items }
         requires there { IsSourceOf names.now source module.now def.now }
-        ensures added { OnOk result (AddsDefinition names.now self.old self.new module.now def.now) }
+        ensures added { OnOk result
+            (AddsDefinition names.now self.old self.new module.now def.now) }
     {
         if def.identifier().is_none() {
             return Ok(());
@@ -149,8 +150,8 @@ impl Gathered {
     }
 }
 
-/// The nodes and warnings of modules, by what their names come to: the roots, and then each
-/// module's, in order.
+/// The nodes and warnings of modules, by what their names resolve to: the roots, and then those of
+/// each module, in order.
 pub fn nodes<'a>(
     alloc: Global,
     names: &Names<'a>,

@@ -1,8 +1,8 @@
-//! What is amiss in modules that are loaded.
+//! Warnings about modules that are loaded.
 
 use smi_module::Text;
 
-/// What is amiss in a module that is loaded.
+/// A warning about a module that is loaded.
 #[derive(Debug, Drop)]
 pub enum Warning {
     /// A definition whose chain of parents has no end.

@@ -13,13 +13,13 @@ use Rattle.smi_value.specs.Value.{IsValueText}
 abbrev pub names_by : Naming → Letters → List ℕ → List ℕ
 names_by naming letters o = name_text naming letters.names letters.numeric_index o
 
--- between name and value: with q a blank
+-- what stands between name and value: a blank if q is given
 abbrev pub separator : TypeForm → List ℕ
 separator Typed = codes " = "
 separator Untyped = codes " = "
 separator Quick = codes " "
 
--- before the value: the name, unless v is given
+-- what stands before the value: the name, unless v is given
 abbrev pub front_text : Letters → List ℕ → List ℕ
 front_text letters name = if letters.value_alone then codes "" else name ++ separator letters.types
 

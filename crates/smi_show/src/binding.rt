@@ -15,7 +15,7 @@ use std::alloc::AllocError;
 use text_draft::Draft;
 
 /// Appends the text of the value of an instance: its type, a colon, a blank and the value, as the
-/// letters and the syntax of the object say. Where memory runs out `out` is unchanged.
+/// letters and the syntax of the object say. If memory runs out, `out` is unchanged.
 pub fn value_text<T: ShowTree>(
     tree: &T,
     letters: &Letters,
@@ -34,8 +34,8 @@ pub fn value_text<T: ShowTree>(
     draft.finish(out)
 }
 
-/// Appends the line of a binding: name, ` = `, value and a newline, as the letters say. Where
-/// memory runs out `out` is unchanged.
+/// Appends the line of a binding: name, ` = `, value and a newline, as the letters say. If memory
+/// runs out, `out` is unchanged.
 pub fn line<T: ShowTree>(
     tree: &T,
     letters: &Letters,
@@ -71,7 +71,7 @@ fn append_line<T: ShowTree>(
     draft.octets(b"\n");
 }
 
-/// The name and what stands between it and the value, unless the value stands alone.
+/// The name and what stands between it and the value, unless only the value is shown.
 fn append_front<T: ShowTree>(tree: &T, letters: &Letters, name: &Oid, draft: &mut Draft)
     ensures { let shown = names_by (T.naming tree.now) letters.now name.now in
         Adds draft.old (front_text letters.now shown) draft.new }

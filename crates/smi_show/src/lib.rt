@@ -1,7 +1,7 @@
 //! Names, values, lines and details as text, appended to a `Vec<u8>`, over any tree of nodes.
 //!
-//! The top of the texts: what the tools print of names and bindings. Each call appends its text
-//! whole, or leaves the `Vec<u8>` unchanged where memory runs out.
+//! This is what the tools print of names and bindings. Each call appends its whole text, or leaves
+//! the `Vec<u8>` unchanged if memory runs out.
 #![tactic(auto)]
 
 mod binding;

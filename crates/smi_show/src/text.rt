@@ -10,7 +10,7 @@ use snmp_oid::Oid;
 use std::alloc::AllocError;
 use text_draft::Draft;
 
-/// Appends the name of an identifier, as the letters say. Where memory runs out `out` is unchanged.
+/// Appends the name of an identifier, as the letters say. If memory runs out, `out` is unchanged.
 pub fn name_text<T: NameTree>(
     tree: &T,
     letters: &Letters,
@@ -26,8 +26,8 @@ pub fn name_text<T: NameTree>(
     draft.finish(out)
 }
 
-/// Appends the details of an identifier: what `snmptranslate -Td` prints. Where memory runs out
-/// `out` is unchanged.
+/// Appends the details of an identifier: what `snmptranslate -Td` prints. If memory runs out, `out`
+/// is unchanged.
 pub fn detail<T: DetailTree>(
     tree: &T,
     letters: &Letters,

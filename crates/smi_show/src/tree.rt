@@ -1,4 +1,4 @@
-//! What lines need of a tree.
+//! The tree of nodes that lines are shown by.
 ghost use Rattle.std.specs.Prelude.{◌≡◌, List, ℕ, Option};
 ghost use Rattle.smi_value.specs.Syntax.{ObjectSyntax};
 
@@ -10,8 +10,8 @@ use snmp_oid::Oid;
 pub trait ShowTree: DetailTree {
     ghost syntax_at: { Self → List ℕ → Option ObjectSyntax };
 
-    /// The syntax of the node that stands for the longest beginning of an identifier, where that is
-    /// an object whose type is known.
+    /// The syntax of the node that stands for the longest beginning of an identifier, if that is an
+    /// object whose type is known.
     fn syntax(&self, oid: &Oid) -> Option<ValueSyntax<'_>>
         ensures { result ≡ syntax_at self.now oid.now };
 }

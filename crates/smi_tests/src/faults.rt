@@ -1,4 +1,4 @@
-//! Texts that are refused, with the fault and its line; and the smallest that are not.
+//! Texts that are refused, with the fault and its line, and the smallest texts that are read.
 
 use crate::reading::{bad_byte, counts, fault, fault_of, is_named, open_string, syntax};
 use smi_text::{ParseError, parse_modules};
@@ -132,7 +132,7 @@ fn names_that_are_defined_twice(rt: HostRuntime) -> Result<(), Fail> {
             b"B DEFINITIONS ::= BEGIN END\nA DEFINITIONS ::= BEGIN\na OBJECT IDENTIFIER ::= { iso 1 }\nb OBJECT IDENTIFIER ::= { a 2 }\na MODULE-COMPLIANCE ::= { a 1 }\nEND",
             double_name(5),
         ),
-        // The case of letters matters, modules have names of their own, and imports are no
+        // The case of letters matters, each module has its own names, and imports are not
         // definitions.
         (
             b"A DEFINITIONS ::= BEGIN x OBJECT IDENTIFIER ::= { iso 1 } X ::= BITS xX ::= BITS END",
@@ -150,7 +150,7 @@ fn names_that_are_defined_twice(rt: HostRuntime) -> Result<(), Fail> {
             b"A DEFINITIONS ::= BEGIN IMPORTS X, X FROM B X FROM B; X ::= BITS END",
             None,
         ),
-        // Where the fault of a definition comes first.
+        // The fault of a definition comes first.
         (
             b"A DEFINITIONS ::= BEGIN\nX ::= BITS\nX ::= ;\nX ::= BITS END",
             syntax(3),
@@ -183,7 +183,7 @@ fn the_first_fault_of_several(rt: HostRuntime) -> Result<(), Fail> {
         (b"A DEFINITIONS BEGIN\n?", syntax(1)),
         (b"A DEFINITIONS\n? BEGIN", bad_byte(2)),
         (b"A DEFINITIONS ::= BEGIN END\n'1", open_string(2)),
-        // Tokens that are kept as they are end at a fault too.
+        // Tokens that are kept unchanged end at a fault too.
         (
             b"A DEFINITIONS ::= BEGIN\nX ::= CHOICE { { ?\n} } END",
             bad_byte(2),

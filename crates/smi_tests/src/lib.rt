@@ -1,5 +1,5 @@
-//! Tests of the reading of module texts, through the public calls of `smi_text`. They stand apart
-//! so that the parser is proved once.
+//! Tests of the reading of module texts, through the public functions of `smi_text`. They are a
+//! separate crate so that the parser is proved only once.
 #![tactic(auto)]
 
 #[cfg(test)]

@@ -1,4 +1,4 @@
-//! Readings of texts, and what the tests look at in them.
+//! Helpers of the tests: reading texts, and comparing what was read.
 
 use smi_text::{Def, LexError, Module, Name, ParseError, Text, TokenText, parse_modules};
 use std::alloc::Global;
@@ -9,7 +9,7 @@ pub(crate) fn fault(alloc: Global, text: &[u8]) -> Option<ParseError> {
     parse_modules(alloc, text).err()
 }
 
-/// The fault of a syntax on this line.
+/// The fault of wrong syntax on this line.
 pub(crate) fn syntax(line: usize) -> Option<ParseError> {
     Some(ParseError::Syntax { line })
 }
@@ -24,7 +24,7 @@ pub(crate) fn open_string(line: usize) -> Option<ParseError> {
     Some(ParseError::Lex(LexError::OpenString { line }))
 }
 
-/// The fault of a text of three pieces, the second of which has the second line for itself.
+/// The fault of a text of three pieces, the second of which is the whole second line.
 pub(crate) fn fault_in_line(
     alloc: Global,
     before: &[u8],
@@ -64,7 +64,7 @@ pub(crate) fn is_named(name: &Name, octets: &str) -> bool {
     name.as_bytes() == octets.as_bytes()
 }
 
-/// Whether a text is there, and has these octets.
+/// Whether there is a text, and it has these octets.
 pub(crate) fn is_some(text: &Option<Text>, octets: &str) -> bool {
     match text {
         Some(text) => is(text, octets),

@@ -16,7 +16,8 @@ fn tiny_modules(rt: HostRuntime) -> Result<(), Fail> {
 #[test]
 fn each_production_broken_off(rt: HostRuntime) -> Result<(), Fail> {
     let alloc = rt.alloc();
-    // Without its last line feed the text is whole; with less of it its last module has no end.
+    // Without its last line feed the text is still whole; if it is any shorter, its last module has
+    // no end.
     for len in 0..ALL.len().saturating_sub(1) {
         let (front, _) = ALL.split_at(len);
         if let Ok((modules, _)) = counts(alloc, front) {
@@ -119,7 +120,7 @@ fn value_of(def: &Def) -> &[Part] {
     }
 }
 
-/// Whether a part is written so.
+/// Whether a part is written like this.
 fn is_part(part: &Part, word: &str) -> bool {
     match part {
         Part::Number(number) => is(number, word),
@@ -301,7 +302,7 @@ fn is_table_of(syntax: &Syntax, name: &str) -> bool {
     }
 }
 
-/// Whether the row of this name is told apart by these objects, the last behind IMPLIED or not.
+/// Whether the row of this name has these objects as its INDEX, the last one after IMPLIED or not.
 fn has_index(modules: &[Module], name: &str, names: &str, implied: bool) -> Option<bool> {
     match object(modules, name)?.index.as_ref()? {
         Index::Own(parts) => Some(are(parts.names.as_slice(), names) && parts.implied == implied),
@@ -357,7 +358,7 @@ fn has_conventions(modules: &[Module]) -> Option<bool> {
     )
 }
 
-/// Whether ranges have these ends in turn; a `-` stands for no upper end.
+/// Whether ranges have these ends, in order; a `-` stands for no upper end.
 fn are_ranges(ranges: &[Range], words: &str) -> bool {
     let mut left = words.split_whitespace();
     for range in ranges {

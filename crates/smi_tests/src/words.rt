@@ -8,15 +8,14 @@ use std::test::Fail;
 const WORDS: &str =
     "DEFINITIONS BEGIN END IMPORTS FROM OBJECT IDENTIFIER LAST-UPDATED ORGANIZATION CONTACT-INFO DESCRIPTION REVISION SYNTAX UNITS MAX-ACCESS DEFVAL OBJECTS NOTIFICATIONS DISPLAY-HINT APPLICATION IMPLICIT SEQUENCE CHOICE MACRO STATUS REFERENCE INDEX IMPLIED AUGMENTS OF INTEGER OCTET STRING BITS SIZE MODULE-IDENTITY OBJECT-IDENTITY OBJECT-TYPE NOTIFICATION-TYPE TEXTUAL-CONVENTION OBJECT-GROUP NOTIFICATION-GROUP MODULE-COMPLIANCE AGENT-CAPABILITIES";
 
-/// Those that name a macro.
+/// The words that name a macro.
 const MACROS: &str =
     "MODULE-IDENTITY OBJECT-IDENTITY OBJECT-TYPE NOTIFICATION-TYPE TEXTUAL-CONVENTION OBJECT-GROUP NOTIFICATION-GROUP MODULE-COMPLIANCE AGENT-CAPABILITIES";
 
-/// A place stands as four pieces with `@` between them: the text before it, the text after it, the
-/// words with which
-/// the whole is a text, and those which may stand there, so that the fault comes behind them.
-/// MACROS stands for all
-/// names of macros, ANY for all words. Here no module is open before the place.
+/// Places outside of a module. Each has four pieces with `@` between them: the text before the
+/// place, the text after it, the words with which the whole is a module text, and the words that
+/// may stand there although the whole isn't one, so that the fault comes after the word. MACROS
+/// stands for all names of macros, ANY for all words.
 const OUTSIDE: [&str; 6] = [
     "@DEFINITIONS ::= BEGIN END@@",
     "A {@} DEFINITIONS ::= BEGIN END@@",
@@ -26,7 +25,7 @@ const OUTSIDE: [&str; 6] = [
     "A DEFINITIONS ::=@END@BEGIN@",
 ];
 
-/// Here a module's head stands before the place.
+/// Places in a module, whose head comes before the text.
 const INSIDE: [&str; 80] = [
     "IMPORTS@FROM B; END@MACROS@",
     "IMPORTS a,@FROM B; END@MACROS@",
@@ -132,7 +131,7 @@ fn is_among_macros(word: &str) -> bool {
     false
 }
 
-/// The first word that gets another answer than it should in a place behind this head.
+/// The first word whose fault in a place after this head isn't the expected one.
 fn wrong_word(alloc: Global, head: &str, place: &str) -> Result<Option<&'static str>, Fail> {
     let (before, rest) = place.split_once('@').unwrap_or(("", ""));
     let (after, rest) = rest.split_once('@').unwrap_or(("", ""));

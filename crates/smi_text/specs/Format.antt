@@ -1,6 +1,5 @@
--- Productions as values: how a part of the tree is spelled, how it is read from the front of the
--- tokens, what it begins
--- with, and what must not follow it.
+-- Productions of the grammar as values: how a part of the tree is spelled, how it is read from the
+-- front of the tokens, what it begins with, and what must not follow it.
 use Rattle.std.specs.Prelude.{
   ◌≡◌,
   ℕ,
@@ -37,7 +36,8 @@ use Rattle.smi_module.specs.Reserved.{is_reserved}
 use Rattle.smi_module.specs.Spelling.{put_line}
 use Rattle.smi_module.specs.declared.names.Name.{Name}
 
--- which token may stand ahead: a word of the grammar, a name, one of a kind, or any but such a one
+-- which token may be ahead: a word of the grammar, a name, one of a kind, or any token but such a
+-- one
 pub data Ahead : Type 0 where
   a_word : List ℕ → Ahead
   a_name : Ahead
@@ -55,7 +55,7 @@ meets t (a_kind k) = same_kind t.kind k
 meets t (no_word w) = not (is_this_word w t)
 meets t (no_kind k) = not (same_kind t.kind k)
 
--- the token ahead, where the text neither ends nor breaks off
+-- the token ahead, if the text neither ends nor breaks off here
 abbrev pub token_ahead : List Item → Option Lexeme
 token_ahead [] = None
 token_ahead (Ok t ∷ items) = Some t
@@ -103,7 +103,7 @@ pub record Format (A : Type 0) : Type 0 where
   pub first : List Ahead
   -- what must not follow it
   pub stop : List Ahead
-  -- whether it may be spelled by no token
+  -- whether its spelling may be empty
   pub empty : Bool
 
 -- the mark of no token
@@ -145,7 +145,7 @@ unfoldable pub text_where : TokenKind → (List ℕ → Bool) → Format (List �
 text_where k ok = one (a_kind k ∷ []) (λ x. spelled k x (ok x))
     (λ t. if same_kind t.kind k && ok t.text then Some t.text else None)
 
--- the name of these octets, where they are a word
+-- the name of these octets, if they are a word
 abbrev pub name_when : (x : List ℕ) (b : Bool) → is_word x ≡ b → Option Name
 name_when x true word = Some (record { octets = x; lexical = word })
 name_when x false other = None
@@ -163,7 +163,7 @@ name_where cs k ok =
 unfoldable pub lower : Format Name
 lower = name_where (a_kind Lower ∷ []) Lower (λ _. true)
 
--- a name in upper case, which is no reserved word
+-- a name in upper case, which is not a reserved word
 unfoldable pub name : Format Name
 name = name_where (a_name ∷ []) Upper (λ x. not (is_reserved x))
 
@@ -181,7 +181,7 @@ pair f g = record {
   empty = f.empty && g.empty;
 }
 
--- a part behind what says nothing more
+-- a part that follows tokens of which nothing is kept
 unfoldable pub behind : {A : Type 0} → Format (Unit {0}) → Format A → Format A
 behind w f = record {
   spell = λ x. w.spell tt ++ f.spell x;
@@ -191,7 +191,7 @@ behind w f = record {
   empty = false;
 }
 
--- a part before what says nothing more
+-- a part before tokens of which nothing is kept
 unfoldable pub before : {A : Type 0} → Format A → Format (Unit {0}) → Format A
 before f w = record {
   spell = λ x. f.spell x ++ w.spell tt;
@@ -231,7 +231,7 @@ either f g = record {
   empty = false;
 }
 
--- any number of one part, read as often as it begins; the number bounds the recursion
+-- any number of one part, read while one begins; the number bounds the recursion
 unfoldable pub read_many : {A : Type 0} → Format A → ℕ → List Item → Reading (List A)
 read_many f zero ts = Some ([], ts)
 read_many f (suc n) ts =
@@ -247,7 +247,7 @@ many f = record {
   empty = true;
 }
 
--- a part of the tree, made of its pieces; what has no pieces is not spelled by it
+-- a part of the tree, made of its pieces; a part without pieces has no spelling here
 abbrev pub spell_pieces : {A : Type 0} → (A → List Mark) → Option A → List Mark
 spell_pieces f None = never
 spell_pieces f (Some x) = f x
@@ -261,7 +261,7 @@ shaped to from f = record {
   empty = f.empty;
 }
 
--- these before what was read
+-- these parts before those that were read
 unfoldable pub with_front : {A : Type 0} → List A → Reading (List A) → Reading (List A)
 with_front xs r = option_map (λ p. (xs ++ p.0, p.1)) r
 

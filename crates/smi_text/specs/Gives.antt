@@ -1,4 +1,4 @@
--- What the steps of the parser give.
+-- What the steps of the parser return.
 use Rattle.std.specs.Prelude.{
   ◌≡◌,
   ℕ,
@@ -34,25 +34,25 @@ use Rattle.smi_module.specs.declared.tree.Part.{Part}
 use Rattle.smi_module.specs.declared.tree.Import.{Import}
 use Rattle.smi_module.specs.declared.tree.Def.{Def}
 
--- the step stopped for want of memory
+-- the step stopped because memory ran out
 abbrev pub is_memory : Stop → Bool
 is_memory Memory = true
 is_memory (Syntax line) = false
 is_memory (Lex fault) = false
 
--- the part and the tokens after it, as they are read; else, memory aside, a stop where no part
--- stands
+-- the part and the tokens after it, as they are read; or a stop, where no part stands or memory ran
+-- out
 abbrev pub Gives : {A : Type 0} → Result A Stop → List Item → Reading A → Type 0
 Gives (Ok x) rest r = r ≡ Some (x, rest)
 Gives (Err e) rest r = is_memory e ≡ false → r ≡ None
 
--- the error that a stop is
+-- the error that reports a stop
 abbrev pub error_of : Stop → ParseError
 error_of (Syntax line) = E.Syntax line
 error_of (Lex fault) = E.Lex fault
 error_of Memory = E.Memory
 
--- what the steps of a whole module give
+-- ---- the steps of a whole module
 
 -- the text of the token ahead
 abbrev pub text_of_token : Option Lexeme → List ℕ
@@ -67,8 +67,8 @@ abbrev pub IsLabelAhead : Option (Bor (List ℕ)) → List Item → Type 0
 IsLabelAhead None tokens = begins definition.first tokens ≡ false
 IsLabelAhead (Some x) tokens = (begins definition.first tokens ≡ true) × (x.now ≡ text_ahead tokens)
 
--- the items begin with definitions, the last of which stands on this line and is the first that
--- defines a name again
+-- the items begin with definitions; the last of them stands on this line, and is the first to
+-- define a name a second time
 pub record RepeatsIn (line : ℕ) (items : List Item) : Type 0 where
   pub before : List Def
   pub once : are_distinct (labels before) ≡ true
@@ -92,7 +92,7 @@ pub record ReadsModule (m : Module) (tokens rest : List Item) : Type 0 where
   pub read : module_text.read tokens ≡ Some (m, rest)
   pub distinct : are_distinct (labels m.defs) ≡ true
 
--- a module with a second definition of a name, up to that definition
+-- a module up to the second definition of a name
 pub record OpensTwice (line : ℕ) (tokens : List Item) : Type 0 where
   pub name : Name
   pub heading : Option (List Part)
@@ -111,7 +111,7 @@ pub record ReadsModules (ms : List Module) (tokens : List Item) : Type 0 where
   pub read : file.read tokens ≡ Some (ms, [])
   pub distinct : HasNoDoubles ms
 
--- such definitions stand in a module, behind modules of which none defines a name twice
+-- such definitions stand in a module, after modules none of which defines a name twice
 pub record RepeatsAgain (line : ℕ) (items : List Item) : Type 0 where
   pub modules : List Module
   pub once : HasNoDoubles modules
@@ -128,8 +128,8 @@ ModulesFault (E.Syntax line) tokens = (ms : List Module) → file.read tokens �
 ModulesFault (E.DoubleName line) tokens = RepeatsAgain line tokens
 ModulesFault E.Memory tokens = Unit {0}
 
--- the error that is reported where the reading of a text stopped with this one: in the lexer, the
--- first fault of the text
+-- the error that is reported for the one with which the reading of a text stopped: for one of the
+-- lexer, the first fault of the text
 abbrev pub IsLexFault : ParseError → List ℕ → Type 0
 IsLexFault (E.Lex fault) text = BreaksOff fault text
 IsLexFault (E.Syntax line) text = Unit {0}

@@ -98,7 +98,7 @@ use Rattle.smi_module.specs.declared.tree.Range.{Range}
 
 -- pieces and parts
 
--- a clause: its word, and the string behind it
+-- a clause: its word, and the string after it
 unfoldable pub clause : List ℕ → Format (List ℕ)
 clause w = behind (word w) (text K.Text)
 
@@ -110,7 +110,7 @@ braced f = behind (token K.OpenBrace) (before f (token K.CloseBrace))
 unfoldable pub parenthesized : {A : Type 0} → Format A → Format A
 parenthesized f = behind (token K.OpenParen) (before f (token K.CloseParen))
 
--- a token as it stands, for which a test holds
+-- a token that is kept unchanged, for which a test holds
 abbrev pub kept_text : Lexeme → TokenText
 kept_text t = record { kind = t.kind; text = t.text }
 
@@ -279,7 +279,7 @@ status =
     (pair (behind (word (codes "STATUS")) (text K.Lower)) (pair (clause (codes "DESCRIPTION"))
     (maybe (clause (codes "REFERENCE")))))
 
--- the marks of the names of an index: the last one may stand behind IMPLIED
+-- the marks of the names of an index: IMPLIED may stand before the last one
 abbrev pub index_marks : List Name → Bool → List Mark
 index_marks [] implied = never
 index_marks (x ∷ []) implied =
@@ -294,7 +294,7 @@ implied_name = behind (word (codes "IMPLIED")) lower
 abbrev pub parts_of : List Name → Bool → IndexParts
 parts_of xs implied = record { names = xs; implied = implied }
 
--- these names before those that were read
+-- these names, and then those that were read
 unfoldable pub with_names : List Name → Reading IndexParts → Reading IndexParts
 with_names xs r = option_map (λ p. (parts_of (xs ++ p.0.names) p.0.implied, p.1)) r
 
@@ -344,7 +344,7 @@ unfoldable pub before_end : Format TokenText
 before_end = kept (no_word (codes "END") ∷ []) (λ k x. not (same_kind k K.Upper && same_text x
     (codes "END")))
 
--- how many braces are open behind a token of this kind
+-- how many braces are open after a token of this kind
 abbrev pub depth_after : TokenKind → ℕ → ℕ
 depth_after k depth =
     if same_kind k K.OpenBrace then depth + 1 else
@@ -354,7 +354,7 @@ depth_after k depth =
 abbrev pub is_outside : TokenKind → ℕ → Bool
 is_outside k depth = same_kind k K.CloseBrace && (depth == 0)
 
--- with so many braces open, each brace is closed again, and none is closed that is not open
+-- after `depth` open braces, the tokens close each brace that is open, and none that is not
 unfoldable pub is_balanced : ℕ → List TokenText → Bool
 is_balanced depth [] = depth == 0
 is_balanced depth (x ∷ xs) = not (is_outside x.kind depth) && is_balanced
@@ -503,7 +503,7 @@ to_group p = record { members = p.0; status = p.1.0; value = p.1.1 }
 abbrev pub from_group : Group → Option (List Name × (Status × List Part))
 from_group d = Some (d.members, (d.status, d.value))
 
--- a group behind its word, its members behind theirs
+-- a group after its word, with its members after theirs
 unfoldable pub group : List ℕ → List ℕ → Format Group
 group w v = behind (word w) (shaped to_group from_group (pair (behind (word v) names)
     (pair status value)))
@@ -534,7 +534,7 @@ textual_convention =
     (shaped to_textual_convention from_textual_convention
     (pair (maybe (clause (codes "DISPLAY-HINT"))) (pair status syntax_clause)))
 
--- a definition by a name in lower case, by what stands behind it
+-- a definition of a name in lower case, by what follows the name
 abbrev pub Lower : Type 0
 Lower =
     ObjectType ⊎ (List Part ⊎ (ObjectIdentity ⊎ (ModuleIdentity ⊎ (NotificationType ⊎ (Group
@@ -577,7 +577,7 @@ lower_definition =
     (either (raw_definition (codes "MODULE-COMPLIANCE")) (raw_definition
     (codes "AGENT-CAPABILITIES"))))))))))
 
--- a type, by what stands behind `::=`
+-- a type, by what follows `::=`
 unfoldable pub tag : Format (List ℕ)
 tag =
     behind (token K.OpenBracket) (behind (word (codes "APPLICATION"))
@@ -668,7 +668,7 @@ abbrev pub to_upper : DefKind ⊎ DefKind → DefKind
 to_upper (inl k) = k
 to_upper (inr k) = k
 
--- what stands behind a name in upper case
+-- what follows a name in upper case
 unfoldable pub upper_definition : Format DefKind
 upper_definition = shaped to_upper from_upper (either (behind
     (token K.Assign) assigned) macro_definition)

@@ -32,8 +32,8 @@ pub record BreaksOff (fault : LexError) (text : List ℕ) : Type 0 where
   pub lexed : Lexes [] text items
   pub at : fault_of items ≡ Some fault
 
--- the tokens begin with definitions, the last of which stands on this line and is the first that
--- defines a name again
+-- the tokens begin with definitions; the last of them stands on this line, and is the first to
+-- define a name a second time
 pub record HasSecond (line : ℕ) (tokens : List Lexeme) : Type 0 where
   pub before : List Def
   pub once : are_distinct (labels before) ≡ true
@@ -43,7 +43,7 @@ pub record HasSecond (line : ℕ) (tokens : List Lexeme) : Type 0 where
   pub defined : list_any (same_text second.label.octets) (labels before) ≡ true
   pub on_line : second.line ≡ line
 
--- such definitions stand in a module of the text, behind modules of which none defines a name twice
+-- such definitions stand in a module of the text, after modules none of which defines a name twice
 pub record DefinesAgain (line : ℕ) (tokens : List Lexeme) : Type 0 where
   pub modules : List Module
   pub once : HasNoDoubles modules
@@ -59,7 +59,7 @@ pub record HasDouble (line : ℕ) (text : List ℕ) : Type 0 where
   pub lexed : Lexes [] text items
   pub again : DefinesAgain line (tokens_of items)
 
--- when each error comes; want of memory has no cause in the text
+-- when each error is returned; the text is not the cause where memory runs out
 abbrev pub IsCause : ParseError → List ℕ → Type 0
 IsCause (E.Lex fault) text = BreaksOff fault text
 IsCause (E.Syntax line) text = (ms : List Module) → Spells ms text → ⊥

@@ -85,7 +85,7 @@ impl Production for BeforeEnd {
     }
 }
 
-/// How many braces are open behind a token of this kind.
+/// How many braces are open after a token of this kind.
 fn depth_after(kind: TokenKind, depth: usize) -> usize
     requires { depth + 1 < 2 ^ 64 }
     ensures { result ≡ grammar.depth_after kind depth }
@@ -152,7 +152,7 @@ impl<'a> Parser<'a> {
         }
     }
 
-    /// Reads the names of an INDEX: the last one may stand behind IMPLIED.
+    /// Reads the names of an INDEX: IMPLIED may stand before the last one.
     fn index_names(&mut self) -> Result<IndexParts, Stop>
         ensures { Gives result self.new (grammar.index_names.read self.old) }
     {
@@ -179,7 +179,7 @@ impl<'a> Parser<'a> {
         }
     }
 
-    /// Reads how the rows of a table are told apart.
+    /// Reads how the rows of a table are identified, by INDEX or by AUGMENTS.
     fn index(&mut self) -> Result<Index, Stop>
         ensures { Gives result self.new (grammar.index.read self.old) }
     {
@@ -198,7 +198,7 @@ impl<'a> Parser<'a> {
         }
     }
 
-    /// Reads how the rows of a table are told apart, if INDEX or AUGMENTS is ahead.
+    /// Reads how the rows of a table are identified, if INDEX or AUGMENTS is ahead.
     pub(crate) fn index_if_any(&mut self) -> Result<Option<Index>, Stop>
         ensures { Gives result self.new ((format.maybe grammar.index).read self.old) }
     {
@@ -251,8 +251,8 @@ impl<'a> Parser<'a> {
         }
     }
 
-    /// Reads tokens up to the brace that closes the one before them. Each brace between them is
-    /// closed again.
+    /// Reads tokens up to the brace that closes the one before them. Each brace that opens among
+    /// them is closed among them.
     fn balanced(&mut self) -> Result<Items<TokenText>, Stop>
         ensures { Gives result self.new (grammar.balanced.read self.old) }
     {
@@ -271,7 +271,7 @@ impl<'a> Parser<'a> {
         }
     }
 
-    /// Reads such tokens with the braces round them.
+    /// Reads such tokens with the braces around them.
     pub(crate) fn braced_tokens(&mut self) -> Result<Items<TokenText>, Stop>
         ensures { Gives result self.new ((grammar.braced grammar.balanced).read self.old) }
     {

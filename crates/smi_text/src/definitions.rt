@@ -105,7 +105,7 @@ impl<'a> Parser<'a> {
         })
     }
 
-    /// Reads a group behind its word, its members behind theirs.
+    /// Reads a group: `word`, and then its clauses, with its members after the word `members`.
     fn group(&mut self, word: &[u8], members: &[u8]) -> Result<Group, Stop>
         ensures { Gives result self.new ((grammar.group word.now members.now).read self.old) }
     {
@@ -121,7 +121,7 @@ impl<'a> Parser<'a> {
         })
     }
 
-    /// Reads a definition behind its word whose clauses are kept as tokens.
+    /// Reads a definition that begins with `word`, and whose clauses are kept as tokens.
     fn raw_definition(&mut self, word: &[u8]) -> Result<RawDefinition, Stop>
         ensures { Gives result self.new ((grammar.raw_definition word.now).read self.old) }
     {
@@ -131,7 +131,7 @@ impl<'a> Parser<'a> {
         Ok(RawDefinition { clauses, value })
     }
 
-    /// Reads what stands behind a name in lower case.
+    /// Reads what follows a name in lower case.
     fn lower_definition(&mut self) -> Result<DefKind, Stop>
         ensures { Gives result self.new (grammar.lower_definition.read self.old) }
     {
@@ -203,7 +203,7 @@ impl<'a> Parser<'a> {
         Ok(fields)
     }
 
-    /// Reads what stands behind a name and `::=`.
+    /// Reads what follows a name and `::=`.
     fn assigned(&mut self) -> Result<DefKind, Stop>
         ensures { Gives result self.new (grammar.assigned.read self.old) }
     {
@@ -242,7 +242,7 @@ impl<'a> Parser<'a> {
         Ok(DefKind::Macro(tokens))
     }
 
-    /// Reads what stands behind a name in upper case.
+    /// Reads what follows a name in upper case.
     fn upper_definition(&mut self) -> Result<DefKind, Stop>
         ensures { Gives result self.new (grammar.upper_definition.read self.old) }
     {

@@ -7,14 +7,14 @@ use thiserror::Error;
 /// Why a text is refused as a whole. Lines count from 1.
 #[derive(Clone, Copy, Debug, PartialEq, Eq, Error)]
 pub enum ParseError {
-    /// The text has something that is no token.
+    /// The text has octets that are not a token.
     #[error(transparent)]
     Lex(LexError),
-    /// No module text can go on with the token in this line, or the text ends too early in its last
+    /// No module text can continue with the token in this line, or the text ends too early, in this
     /// line.
     #[error("line {line}: no module goes on like this")]
     Syntax { line: usize },
-    /// The definition in this line gives a name that its module has defined before.
+    /// The definition in this line is of a name that its module has already defined.
     #[error("line {line}: a second definition of the name")]
     DoubleName { line: usize },
     /// An allocation was refused.

@@ -1,4 +1,4 @@
-//! The whole of a module text: its tokens, and then its modules one after the other.
+//! The reading of a whole text: its modules, one after the other.
 #![tactic(auto, unfolding(crate::specs::Format::begins))]
 
 ghost use Rattle.std.specs.Prelude.{◌≡◌, List, [], IfOk, IfErr, IfSome, MatchResult, MatchBool};
@@ -35,7 +35,7 @@ impl<'a> Parser<'a> {
         }
     }
 
-    /// Reads the definitions of a module, up to a second one of some name.
+    /// Reads the definitions of a module. A second definition of a name is an error.
     fn definitions(&mut self) -> Result<Items<Def>, ParseError>
         ensures ok { IfOk result (λ defs. ReadsDefinitions defs self.old self.new) }
         ensures fault { IfErr result (λ error. DefinitionsFault error self.old) }
@@ -83,7 +83,7 @@ impl<'a> Parser<'a> {
     }
 }
 
-/// The fault where a text breaks off.
+/// The fault where a text breaks off, if it does.
 fn first_fault(text: &[u8]) -> Option<LexError>
     ensures { IfSome result (λ fault. BreaksOff fault text.now) }
 {
@@ -96,15 +96,15 @@ fn first_fault(text: &[u8]) -> Option<LexError>
     None
 }
 
-/// Why a text is refused, where its reading stopped so. A stop in the lexer is at the text's own
-/// fault.
+/// The error that reports why the reading of a text stopped. A stop in the lexer is reported as the
+/// text's own fault.
 fn cause_of(stop: ParseError, text: &[u8]) -> ParseError
     ensures { IsCauseOf stop result text.now }
 {
     match stop {
         ParseError::Lex(_) => match first_fault(text) {
             Some(fault) => ParseError::Lex(fault),
-            // The reading of a text that lexes to its end doesn't stop so.
+            // A text that lexes to its end has no such stop.
             None => ParseError::Syntax { line: 1 },
         },
         ParseError::Syntax { line } => ParseError::Syntax { line },
@@ -113,17 +113,18 @@ fn cause_of(stop: ParseError, text: &[u8]) -> ParseError
     }
 }
 
-/// Reads the modules of a text (RFC 2578, section 3). A text without a module gives an empty list.
+/// Reads the modules of a text (RFC 2578, section 3). For a text without a module it returns an
+/// empty list.
 ///
-/// A fault anywhere refuses the whole text. The first one in the text is reported.
+/// A fault anywhere refuses the whole text. The first fault in the text is reported.
 pub fn parse_modules(alloc: Global, text: &[u8]) -> Result<Vec<Module>, ParseError>
-    // What is read is what the text spells, and no module of it defines a name twice.
+    // The text is a spelling of the modules returned, none of which defines a name twice.
     ensures found { IfOk result (λ ms. Spells ms.items text.now × HasNoDoubles ms.items) }
-    // Such modules are read, memory aside.
+    // A text of such modules is read, unless memory runs out.
     ensures only { (ms : List Tree) → Spells ms text.now → HasNoDoubles ms
         → MatchResult result (λ found. found.items ≡ ms) (λ error. error ≡ ParseError.Memory) }
 
-    // Each error comes only with its cause.
+    // Each error is returned only with its cause.
     ensures cause { IfErr result (λ error. IsCause error text.now) }
 {
     let mut parser = Parser::new(alloc, text);
@@ -133,20 +134,20 @@ pub fn parse_modules(alloc: Global, text: &[u8]) -> Result<Vec<Module>, ParseErr
     }
 }
 
-/// Tokens spell one list of modules at most.
+/// Tokens are the spelling of at most one list of modules.
 pub fn one_reading()
     ensures { (ms ns : List Tree) (tokens : List Lexeme) → Stands (spelling ms) tokens []
         → Stands (spelling ns) tokens [] → ms ≡ ns }
 {}
 
-/// Kinds and texts of tokens spell one list of modules at most, but for the lines in it.
+/// Kinds and texts of tokens are the spelling of at most one list of modules, apart from its lines.
 pub fn one_reading_without_lines()
     ensures { (ms ns : List Tree) (tokens : List Lexeme)
         → Stands (map plain (spelling ms)) tokens [] → Stands (map plain (spelling ns)) tokens [] →
         map unlined ms ≡ map unlined ns }
 {}
 
-/// The tokens that a spelling takes for balanced are those whose braces are.
+/// The tokens that a spelling counts as balanced are those with balanced braces.
 pub fn balanced_braces()
     ensures { (xs : List TokenText) → is_balanced 0 xs ≡ true ↔ IsBalanced xs }
 {}

@@ -116,7 +116,7 @@ impl<'a> Parser<'a> {
         }
     }
 
-    /// Reads the identifier behind a module's name.
+    /// Reads the identifier after a module's name.
     fn heading(&mut self) -> Result<Items<Part>, Stop>
         ensures { Gives result self.new (grammar.heading.read self.old) }
     {
@@ -126,7 +126,7 @@ impl<'a> Parser<'a> {
         Ok(parts)
     }
 
-    /// Reads the identifier behind a module's name, if a brace is ahead.
+    /// Reads the identifier after a module's name, if a brace is ahead.
     fn heading_if_any(&mut self) -> Result<Option<Items<Part>>, Stop>
         ensures { Gives result self.new ((format.maybe grammar.heading).read self.old) }
     {

@@ -7,7 +7,7 @@ ghost use Rattle.smi_text.specs.Names.{has};
 use crate::stop::Stop;
 use std::collections::BTreeSet;
 
-/// Puts a name among those that are there, and says whether it is new.
+/// Adds a name to a set of names, and returns whether it is new.
 pub(crate) fn add<'a>(names: &mut BTreeSet<&'a [u8]>, name: &'a [u8]) -> Result<bool, Stop>
     ensures new { IfOk result (λ new. new ≡ not (has names.old name.now)) }
     ensures added { IfOk result (λ _. (x : List ℕ)

@@ -20,7 +20,8 @@ use std::alloc::Global;
 use std::collections::BTreeSet;
 use std::marker::Model;
 
-/// What is left of a text: a lexer, and the token that it gave last, which productions take.
+/// What is left of a text: a lexer, and the token that it returned last, which is the next to be
+/// read.
 #[derive(Drop)]
 pub(crate) struct Parser<'a> {
     alloc: Global,
@@ -48,17 +49,17 @@ pub(crate) trait Production {
 
     ghost format: { Format Self.Output };
 
-    /// Whether it begins with the token ahead.
+    /// Whether one begins with the token ahead.
     fn is_ahead(parser: &Parser<'_>) -> bool
         ensures { result ≡ begins format.first parser.now };
 
-    /// Reads it, and takes a token at least.
+    /// Reads one, which has at least one token.
     fn read(parser: &mut Parser<'_>) -> Result<Self::Output, Stop>
         ensures gives { Gives result parser.new (format.read parser.old) }
         ensures shorter { OnOk result (length parser.new < length parser.old) };
 }
 
-/// A production behind a comma.
+/// A production after a comma.
 pub(crate) struct AfterComma<P>(P);
 
 impl<P: Production> Production for AfterComma<P> {
@@ -76,7 +77,7 @@ impl<P: Production> Production for AfterComma<P> {
     }
 }
 
-/// A production behind a bar.
+/// A production after a bar.
 pub(crate) struct AfterBar<P>(P);
 
 impl<P: Production> Production for AfterBar<P> {
@@ -94,7 +95,7 @@ impl<P: Production> Production for AfterBar<P> {
     }
 }
 
-/// Puts a part behind those that are there.
+/// Appends a part to a list.
 pub(crate) fn keep<T: Drop>(items: &mut Vec<T>, item: T) -> Result<(), Stop>
     ensures ok { OnOk result (items.new.items ≡ items.old.items ++ item ∷ []) }
     ensures err { IfErr result (λ e. e ≡ Stop.Memory) }
@@ -193,7 +194,7 @@ impl<'a> Parser<'a> {
         self.at_kind(first) || self.at_kind(second)
     }
 
-    /// The stop of a text that can't go on with what is ahead.
+    /// The stop of a text that can't continue with what is ahead.
     pub(crate) fn syntax(&self) -> Stop
         ensures { is_memory result ≡ false }
     {
@@ -232,7 +233,7 @@ impl<'a> Parser<'a> {
         }
     }
 
-    /// Moves past the token ahead, whose text is handed in, and keeps that text.
+    /// Moves past the token ahead, whose text is `text`, and keeps a copy of the text.
     pub(crate) fn take_text(&mut self, text: &[u8]) -> Result<Text, Stop>
         ensures ok { IfOk result (λ x. (x ≡ text.now) × (self.new ≡ drop 1 self.old)) }
         ensures err { IfErr result (λ e. e ≡ Stop.Memory) }
@@ -252,7 +253,7 @@ impl<'a> Parser<'a> {
         }
     }
 
-    /// Moves past the token ahead, a word that is handed in, and keeps it as a name.
+    /// Moves past the token ahead, which is the word `token`, and keeps a copy of it as a name.
     pub(crate) fn take_name(&mut self, token: Token<'a>) -> Result<Name, Stop>
         requires { is_word_kind token.kind ≡ true }
         ensures ok { IfOk result (λ x. (name_of token.entry.text.now ≡ Some x)
@@ -273,7 +274,7 @@ impl<'a> Parser<'a> {
         }
     }
 
-    /// Reads a name in upper case, which is no reserved word.
+    /// Reads a name in upper case, which is not a reserved word.
     pub(crate) fn name(&mut self) -> Result<Name, Stop>
         ensures { Gives result self.new (format.name.read self.old) }
     {
@@ -285,7 +286,7 @@ impl<'a> Parser<'a> {
         }
     }
 
-    /// Reads a word and the string behind it.
+    /// Reads a word and the string after it.
     pub(crate) fn clause(&mut self, word: &[u8]) -> Result<Text, Stop>
         ensures { Gives result self.new ((grammar.clause word.now).read self.old) }
     {
@@ -293,7 +294,7 @@ impl<'a> Parser<'a> {
         self.text(TokenKind::Text)
     }
 
-    /// Reads a word and the string behind it, if the word is ahead.
+    /// Reads a word and the string after it, if the word is ahead.
     pub(crate) fn clause_if_any(&mut self, word: &[u8]) -> Result<Option<Text>, Stop>
         ensures { Gives result self.new ((format.maybe (grammar.clause word.now)).read self.old) }
     {
@@ -304,7 +305,7 @@ impl<'a> Parser<'a> {
         }
     }
 
-    /// Moves past the token ahead, whose kind and text are handed in, and keeps them.
+    /// Moves past the token ahead, which has this kind and text, and keeps a copy of them.
     pub(crate) fn take_token(&mut self, kind: TokenKind, text: &[u8]) -> Result<TokenText, Stop>
         ensures ok { IfOk result (λ x. (x ≡ record { kind = kind; text = text.now })
             × (self.new ≡ drop 1 self.old)) }
@@ -314,7 +315,7 @@ impl<'a> Parser<'a> {
         Ok(TokenText { kind, text })
     }
 
-    /// Reads any number of a production, and puts them behind those that are there.
+    /// Reads any number of a production, and appends them to a list.
     pub(crate) fn many_after<P: Production>(
         &mut self,
         items: Vec<P::Output>,
@@ -342,8 +343,7 @@ impl<'a> Parser<'a> {
         self.many_after::<P>(items)
     }
 
-    /// Reads any number of a production, and puts them behind the first part, which was read
-    /// before.
+    /// Reads any number of a production, after a first part that was read before.
     pub(crate) fn and_more<P: Production>(
         &mut self,
         first: P::Output,

@@ -268,7 +268,7 @@ impl<'a> Parser<'a> {
         self.and_more::<AfterBar<OneRange>>(first)
     }
 
-    /// Reads ranges of lengths behind SIZE.
+    /// Reads ranges of lengths after SIZE.
     fn size(&mut self) -> Result<Items<Range>, Stop>
         ensures { Gives result self.new (grammar.size.read self.old) }
     {
@@ -356,7 +356,7 @@ impl<'a> Parser<'a> {
         }
     }
 
-    /// Reads a type that is no `SEQUENCE OF`.
+    /// Reads a type other than `SEQUENCE OF`.
     pub(crate) fn simple_type(&mut self) -> Result<SimpleType, Stop>
         ensures { Gives result self.new (grammar.simple_type.read self.old) }
     {
@@ -365,7 +365,7 @@ impl<'a> Parser<'a> {
         Ok(SimpleType { base, refinement })
     }
 
-    /// Reads what stands behind SEQUENCE in the type of a table: OF and its row's type.
+    /// Reads what follows SEQUENCE in the type of a table: OF and its row's type.
     pub(crate) fn of_row(&mut self) -> Result<Name, Stop>
         ensures { Gives result self.new (grammar.of_row.read self.old) }
     {

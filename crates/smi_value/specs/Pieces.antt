@@ -76,8 +76,8 @@ dumped (place, octet) =
 abbrev pub hexadecimal_text : List ℕ → List ℕ
 hexadecimal_text octets = flat_map dumped (enumerate_from 0 octets)
 
--- a string without a hint: two quotes for none; as text where each octet is printable or `a` is
--- given, but in hexadecimal where `x` is
+-- a string without a hint: two quotes if it is empty; as text if each octet is printable or `a` is
+-- given, but in hexadecimal if `x` is given
 abbrev pub is_text : StringForm → List ℕ → Bool
 is_text strings.Plain octets = list_all is_printable octets
 is_text strings.Hexadecimal octets = false
@@ -112,7 +112,7 @@ clock_text ticks =
     ++ two_digits 58 (ticks / 100 % 60)
     ++ two_digits 46 (ticks % 100)
 
--- TimeTicks: the number and the time, the time alone behind q and Q, the number alone behind t
+-- TimeTicks: the number and the time; the time alone with q or Q; the number alone with t
 abbrev pub ticks_text : Letters → ℕ → List ℕ
 ticks_text letters ticks =
     if letters.raw_ticks then decimal ticks else
@@ -121,13 +121,13 @@ ticks_text letters ticks =
     ++ days_text (ticks / 8640000) ++ clock_text ticks
     else decimal (ticks / 8640000) ++ codes ":" ++ clock_text ticks)
 
--- the name and number of an enumeration; the name alone behind q and Q, the number behind e
+-- the name and number of an enumeration; the name alone with q or Q; the number alone with e
 abbrev pub named_text : Letters → List ℕ → List ℕ → List ℕ
 named_text letters name number =
     if letters.numeric_enumerations then number else
     (if is_typed letters.types then name ++ codes "(" ++ number ++ codes ")" else name)
 
--- a bit that is set: its name and number, the number alone where it has no name or behind e
+-- a bit that is set: its name and number; the number alone if it has no name, or with e
 abbrev pub bit_name : Letters → Option (List ℕ) → List ℕ → List ℕ
 bit_name letters None number = number ++ codes " "
 bit_name letters (Some name) number =

@@ -34,7 +34,7 @@ abbrev pub syntax_at : ValueBase → Option ObjectSyntax → ObjectSyntax
 syntax_at base None = no_syntax
 syntax_at base (Some syntax) = if same_base syntax.base base then syntax else no_syntax
 
--- the object is one of BITS
+-- the object's type is BITS
 abbrev pub is_of_bits : Option ObjectSyntax → Bool
 is_of_bits None = false
 is_of_bits (Some syntax) = same_base syntax.base base.Bits

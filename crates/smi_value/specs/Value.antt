@@ -27,13 +27,13 @@ use Rattle.smi_value.specs.Pieces.{
 }
 use Rattle.smi_value.specs.Pieces.{address_text, hexadecimal_text}
 
--- a number under a hint of integers, else in decimal digits
+-- a number under a hint of integers, otherwise in decimal digits
 abbrev pub IsNumberText : Option (List ℕ) → ℤ → List ℕ → Type 0
 IsNumberText None n text = text ≡ signed_decimal n
 IsNumberText (Some hint) n text =
     ShowsNumber hint n text ⊎ ((IsOfNumbers hint → ⊥) × (text ≡ signed_decimal n))
 
--- a number behind the word of its type, with the units after it
+-- a number after the word of its type, with the units after it
 pub record IsTypedNumber (letters : Letters) (word : List ℕ) (hint units : Option (List ℕ)) (n : ℤ)
     (text : List ℕ) : Type 0 where
   pub shown : List ℕ

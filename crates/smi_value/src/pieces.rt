@@ -29,7 +29,7 @@ pub(crate) fn append_word(draft: &mut Draft, letters: &Letters, word: &[u8])
     }
 }
 
-/// Whether values have the words of their types.
+/// Whether values are shown with the words of their types.
 fn is_typed(form: TypeForm) -> bool
     ensures { result ≡ is_typed form }
 {
@@ -110,7 +110,7 @@ fn append_escaped(draft: &mut Draft, octets: &[u8])
     }
 }
 
-/// Appends an octet as a character, with a backslash in front of a quote and of a backslash.
+/// Appends an octet as a character, with a backslash before a quote or a backslash.
 fn append_character(draft: &mut Draft, octet: u8)
     ensures { Adds draft.old (escaped (dotted octet)) draft.new }
 {
@@ -132,7 +132,7 @@ pub(crate) fn append_hexadecimal(draft: &mut Draft, octets: &[u8])
     }
 }
 
-/// Appends an octet in hexadecimal and a blank, on a new line where a multiple of sixteen others
+/// Appends an octet in hexadecimal and a blank, on a new line if a multiple of sixteen others
 /// precede it.
 fn append_dumped(draft: &mut Draft, place: usize, octet: u8)
     ensures { Adds draft.old (dumped (place, octet)) draft.new }
@@ -310,7 +310,8 @@ fn append_bit(draft: &mut Draft, letters: &Letters, names: &[NamedNumber], bit: 
 
 /// Appends a bit by its name, if it has one, and the digits of its number.
 fn append_bit_name(draft: &mut Draft, letters: &Letters, name: Option<&[u8]>, number: &[u8])
-    ensures { Adds draft.old (bit_name letters.now (option_copied name.entry) number.now) draft.new }
+    ensures { Adds draft.old
+        (bit_name letters.now (option_copied name.entry) number.now) draft.new }
 {
     match name {
         Some(name) if !letters.numeric_enumerations => {

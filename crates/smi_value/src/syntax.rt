@@ -31,8 +31,7 @@ impl<'a> Model for ValueSyntax<'a> {
 
 impl<'a> ValueSyntax<'a> {
     /// The syntax of an object: the type of its values, the names of its numbers or bits, its
-    /// display
-    /// hint, and its units.
+    /// display hint, and its units.
     pub fn new(
         base: ValueBase,
         names: &'a [NamedNumber],

@@ -25,8 +25,7 @@ use text_draft::Draft;
 ///
 /// The syntax is that of the object that the value belongs to, if it is known; of another type than
 /// the value's it has no effect. The text of an identifier is that of a name, which needs a tree:
-/// the
-/// caller appends it after [`append_identifier_word`].
+/// the caller appends it after [`append_identifier_word`].
 pub fn append_value(
     draft: &mut Draft,
     letters: &Letters,
@@ -86,8 +85,7 @@ pub fn append_value(
 }
 
 /// Appends the word of an identifier, which stands before the text of its name, unless `q` or `Q`
-/// is
-/// given.
+/// is given.
 pub fn append_identifier_word(draft: &mut Draft, letters: &Letters)
     ensures { Adds draft.old (type_word letters.now (codes "OID: ")) draft.new }
 {
@@ -124,7 +122,7 @@ fn append_integer(draft: &mut Draft, letters: &Letters, syntax: Option<&ValueSyn
     }
 }
 
-/// Appends a number behind the word of its type, under a hint if there is one, with its units.
+/// Appends a number after the word of its type, under a hint if there is one, with its units.
 fn append_typed_number(
     draft: &mut Draft,
     letters: &Letters,
@@ -142,7 +140,7 @@ fn append_typed_number(
     append_units(draft, letters, units);
 }
 
-/// Appends a number under a hint of integers, else in decimal digits.
+/// Appends a number under a hint of integers, otherwise in decimal digits.
 fn append_number(draft: &mut Draft, hint: Option<&[u8]>, n: i64)
     ensures { (text : List ℕ) × IsNumberText (option_copied hint.entry) n text
         × Adds draft.old text draft.new }
@@ -153,7 +151,7 @@ fn append_number(draft: &mut Draft, hint: Option<&[u8]>, n: i64)
     }
 }
 
-/// Appends a number under a hint, where the text is one of integers, else in decimal digits.
+/// Appends a number under a hint, if the text is one of integers, otherwise in decimal digits.
 fn append_hinted_number(draft: &mut Draft, hint: &[u8], n: i64)
     ensures { (text : List ℕ) × IsNumberText (Some hint.now) n text
         × Adds draft.old text draft.new }
@@ -186,7 +184,7 @@ fn append_octets(
     }
 }
 
-/// Appends octets under a hint, where the text is one of octets, else as a string.
+/// Appends octets under a hint, if the text is one of octets, otherwise as a string.
 fn append_hinted_string(draft: &mut Draft, letters: &Letters, hint: &[u8], octets: &[u8])
     ensures { (text : List ℕ) × IsStringText letters.now (Some hint.now) octets.now text
         × Adds draft.old text draft.new }

@@ -2,7 +2,7 @@
 use Rattle.std.specs.Prelude.{◌≡◌, ℕ, ◌+◌, ◌/◌, ◌%◌, nat_lt, if◌then◌else◌, List, [], ◌∷◌, ◌++◌}
 use Rattle.std.specs.Prelude.{Option, Some}
 
--- what stood there before, and what has been appended to it: None where memory ran out
+-- what stood there before, and what has been appended to it: None if memory ran out
 pub record Written : Type 0 where
   pub before : List ℕ
   pub added : Option (List ℕ)

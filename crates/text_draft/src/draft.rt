@@ -10,10 +10,11 @@ use std::alloc::AllocError;
 use std::marker::Model;
 use std::mem;
 
-/// A text that is being appended to a `Vec<u8>`, which is left unchanged where memory runs out.
+/// A text that is being appended to a `Vec<u8>`, which is left unchanged if memory runs out.
 ///
-/// Each call appends a piece and needs no test: memory that runs out is remembered, and reported by
-/// [`Draft::finish`]. A draft has to be finished, so that its octets go back where they came from.
+/// Each call appends a piece and returns no error: if memory runs out, the draft remembers it, and
+/// [`Draft::finish`] reports it. A draft has to be finished, so that its octets go back where they
+/// came from.
 pub struct Draft {
     octets: Vec<u8>,
     start: usize,
@@ -33,7 +34,7 @@ impl Model for Draft {
 
 impl Draft {
     /// Begins a text after what `out` has. Until [`Draft::finish`] gives it back, `out` is empty.
-    /// Takes no memory.
+    /// Does not allocate.
     #[inline]
     pub fn after(out: &mut Vec<u8>) -> Draft
         ensures { result ≡ begun out.old.items }
@@ -47,7 +48,7 @@ impl Draft {
         }
     }
 
-    /// Appends octets as they stand.
+    /// Appends octets, unchanged.
     #[inline]
     pub fn octets(&mut self, octets: &[u8])
         ensures { Adds self.old octets.now self.new }
@@ -73,7 +74,7 @@ impl Draft {
         self.octets(buffer.format(n).as_bytes());
     }
 
-    /// Appends a number in decimal digits, with a `-` in front of a negative one.
+    /// Appends a number in decimal digits, with a `-` before a negative one.
     pub fn integer(&mut self, n: i64)
         ensures { Adds self.old (signed_decimal n) self.new }
     {
@@ -89,8 +90,8 @@ impl Draft {
         self.octets(&[upper_digit(octet / 16), upper_digit(octet % 16)]);
     }
 
-    /// Gives `out` its octets back, with the text after them. Where memory ran out they are what
-    /// they were before the text began.
+    /// Gives `out` its octets back, with the text after them. If memory ran out, `out` is what it
+    /// was before the text began.
     pub fn finish(self, out: &mut Vec<u8>) -> Result<(), AllocError>
         ensures ok { OnOk result (IfSome self.added (λ text. out.new.items ≡ self.before ++ text)) }
         ensures unchanged_on_error { OnErr result (out.new.items ≡ self.before) }

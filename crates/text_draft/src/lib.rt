@@ -1,7 +1,8 @@
-//! Texts that are appended to a `Vec<u8>` piece by piece, and leave it unchanged where memory runs
+//! Texts that are appended to a `Vec<u8>` piece by piece, and leave it unchanged if memory runs
 //! out.
 //!
-//! Stands below the crates that show names and values: each text that they append is such a draft.
+//! The crates that show names and values build on this one: each text that they append is such a
+//! draft.
 #![tactic(auto)]
 
 mod draft;

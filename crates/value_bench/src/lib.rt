@@ -1,4 +1,5 @@
-//! The texts of values as a function that a C program can call: what `bench/values.sh` counts.
+//! The texts of values, as a function that a C program can call and that `bench/values.sh`
+//! measures.
 #![tactic(auto)]
 
 use smi_letters::Letters;
@@ -7,10 +8,10 @@ use snmp_ber::ValueRef;
 use std::alloc::{AllocError, Global};
 use text_draft::Draft;
 
-/// Shows a value of some octets a number of times, and returns how many octets its text has.
+/// Shows a value `times` times, and returns how many octets its text has.
 ///
-/// `kind` is 0 for INTEGER 5, 1 for the greatest TimeTicks, 2 for a string without a syntax, and 3 for
-/// one under the display hint that the text in front of it, `hint_len` octets, says.
+/// `kind` is 0 for INTEGER 5, 1 for the greatest TimeTicks, 2 for a string without a syntax, and 3
+/// for a string under the display hint in the first `hint_len` octets of `text`.
 #[unsafe(no_mangle)]
 pub extern "C" fn value_text_octets(
     alloc: Global,
@@ -38,7 +39,7 @@ pub extern "C" fn value_text_octets(
     out.len()
 }
 
-/// Appends the text of a value that is no identifier.
+/// Appends the text of a value that is not an identifier.
 fn show(
     out: &mut Vec<u8>,
     letters: &Letters,

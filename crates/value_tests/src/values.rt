@@ -1,4 +1,4 @@
-//! Each row of the table of values, with each letter that bears on it.
+//! Each row of the table of values, with each letter that affects it.
 ghost use Rattle.snmp_ber.specs.Value.{datum};
 ghost use Rattle.smi_value.specs.Value.{IsNoIdentifier};
 

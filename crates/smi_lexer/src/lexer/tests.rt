@@ -1,4 +1,4 @@
-//! Texts with the tokens and faults that a reader of the standard gave them by hand.
+//! Texts with their tokens and faults, written by hand from the standard.
 
 use super::*;
 use crate::token::TokenKind;
@@ -11,10 +11,10 @@ use std::process::Abort;
 /// A token's kind, text and line.
 type Row = (TokenKind, &'static [u8], usize);
 
-/// A text, its tokens, and the fault where it breaks off.
+/// A text, its tokens, and its fault if it breaks off.
 type Case = (&'static [u8], &'static [Row], Option<LexError>);
 
-/// Compares the tokens of a text, its fault, and that it has ended then.
+/// Compares the tokens and the fault of a text, and checks that the lexer ends after them.
 fn expect(rt: &impl Abort, text: &[u8], rows: &[Row], fault: Option<LexError>) {
     let mut lexer = Lexer::new(text);
     for (kind, octets, line) in rows {
