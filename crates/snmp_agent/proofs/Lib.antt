@@ -1,5 +1,4 @@
 pub mod ServerTurns
-pub mod Sizes
 pub mod Answers
 pub mod Encodings
 pub mod OneReply

@@ -64,12 +64,12 @@ use Rattle.snmp_walk.specs.Taken.{
   reads_reply,
   take_of,
 }
-use Rattle.snmp_walk.specs.Standing.{IsGiven, IsPartOfWalk, IsStage, IsPaced, Reaches, Advances, Rises, Named, IsReplyEnd, AdvancesAnyhow}
+use Rattle.snmp_walk.specs.Standing.{IsGiven, IsPartOfWalk, IsStage, IsPaced, Reaches, Advances, Rises, Named, IsReplyEnd, CountsAll, AdvancesAnyhow}
 use Rattle.snmp_walk.proofs.StandingLemmas.{part_of_stage, closed, given_more, more_pace, reads_root, reads_alone, root_is}
 
 -- no binding is said to be large here
-abbrev Small : VarBind → Type 0
-Small p = Unit {0}
+abbrev Small : ℕ → VarBind → Type 0
+Small id p = Unit {0}
 
 pub rising_answers : AreLawfulReplies Rises Named
 rising_answers = record { rises = λ o p h. h.0; is_value = λ o p h. h.1; same_name = λ o p h. h.0; is_answer = λ o p h. h.1 }
@@ -111,27 +111,29 @@ module _ (first : Walker) where
   either_way old given true x y p q = p refl
   either_way old given false x y p q = q refl
 
-  stops_any : (old : Walker) (given more : List VarBind) (why : WalkEnd) → IsReplyEnd why → IsPartOfWalk Rises Named first (given ++ more)
+  stops_any : (old : Walker) (given more : List VarBind) (why : WalkEnd) → IsReplyEnd why → CountsAll why (given ++ more)
+      → IsPartOfWalk Rises Named first (given ++ more)
       → Advances_anyhow old given (stops old more why)
-  stops_any old given more why own h = (own, h)
+  stops_any old given more why own counts h = (own, h, counts)
 
-  stops_now : (old : Walker) (given : List VarBind) (why : WalkEnd) → IsReplyEnd why → Reaches Rises Named first old given
+  stops_now : (old : Walker) (given : List VarBind) (why : WalkEnd) → IsReplyEnd why → CountsAll why (given ++ []) → Reaches Rises Named first old given
       → Advances_anyhow old given (stops old [] why)
-  stops_now old given why own h = (
+  stops_now old given why own counts h = (
     own,
     subst (IsPartOfWalk Rises Named first) (sym (append-nil given))
         (part_of_stage Rises Named Small rising_answers first given old.asked old.phase h.stage),
+    counts,
   )
 
   goes_any : (old : Walker) (given more : List VarBind) (next : Phase) → Reaches Rises Named first old given
-      → IsStage Rises Named first (given ++ more) (last_name old.asked more) next → IsPaced Named first (given ++ more) (old.id + 1) next
+      → IsStage Rises Named first (given ++ more) (last_name old.asked more) next → IsPaced Rises Named first (given ++ more) (old.id + 1) next
       → Advances_anyhow old given (goes_on old next more)
   goes_any old given more next h stage pace =
       either_way old given (nat_lt old.id 2147483647)
       (step.Rows more, record old { phase = next; asked = last_name old.asked more; id = old.id + 1; count = old.count + length more })
       (stops old more ending.TooManyRequests)
       (λ less. let low : old.id < 2147483647 = ltb-true _ _ less in (refl, omega arith, went low less))
-      (λ _. stops_any old given more ending.TooManyRequests tt (part_of_stage Rises Named Small rising_answers first (given ++ more)
+      (λ _. stops_any old given more ending.TooManyRequests tt tt (part_of_stage Rises Named Small rising_answers first (given ++ more)
       (last_name old.asked more) next stage))
     where
       went : old.id < 2147483647 → nat_lt old.id 2147483647 ≡ true
@@ -155,14 +157,14 @@ module _ (first : Walker) where
       (step.Rows more, record old { phase = next; asked = last_name old.asked more; id = old.id + 1; count = old.count + length more })
       (stops old more ending.TooManyRequests))
   went_on old given more next true e h = let low : old.id < 2147483647 = ltb-true _ _ (sym e) in (refl, omega arith, h)
-  went_on old given more next false e h = (tt, h.0)
+  went_on old given more next false e h = (tt, h.0, tt)
 
   closed_any : (old : Walker) (given more : List VarBind) (b : Bool) (n : ℕ)
       → Advances Rises Named Small first old given (cond b (goes_on old phase.Last []) (stops old more (ending.Done n))).0 (cond b (goes_on old phase.Last [])
       (stops old more (ending.Done n))).1
       → Advances_anyhow old given (cond b (goes_on old phase.Last []) (stops old more (ending.Done n)))
   closed_any old given more true n h = went_on old given [] phase.Last (nat_lt old.id 2147483647) refl h
-  closed_any old given more false n h = (tt, h.0)
+  closed_any old given more false n h = (tt, h.0, h.1.0)
 
   reads_any : (old : Walker) (given bindings : List VarBind) → old.phase ≡ phase.Rows → 1 ≤ length bindings → Reaches Rises Named first old given
       → IsGiven Rises Named first given old.asked
@@ -177,21 +179,21 @@ module _ (first : Walker) where
       let falls : WalkEnd = ending.NotIncreasing (last_name old.asked rows) (name_at (inside_front old.root bindings) (length rows)) in
       either_way old given (nat_lt (length rows) (length (inside_front old.root bindings))) (stops old rows falls)
       (cond (nat_lt (length rows) (length bindings)) (closes old rows) (goes_on old phase.Rows rows))
-      (λ _. stops_any old given rows falls tt (inr (inl (last_name old.asked rows, after))))
+      (λ _. stops_any old given rows falls tt tt (inr (inl (last_name old.asked rows, after))))
       (λ _. either_way old given (nat_lt (length rows) (length bindings)) (closes old rows) (goes_on old phase.Rows rows)
       (λ _. closed_any old given rows (is_plain old.mode && (old.count + length rows == 0)) (old.count + length rows)
       (closed Rises Named Small rising_answers first given rows old (last_name old.asked rows) _ refl waits h before after (anywhere first.root
       (last_name old.asked rows))))
       (λ all. let long : length bindings ≤ length rows = ltb-false _ _ all in
-      goes_any old given rows phase.Rows h after (more_pace Rises Named Small rising_answers first given rows old waits h (omega (arith, some, long)))))
+      goes_any old given rows phase.Rows h after (more_pace Rises Named Small rising_answers first given rows old waits h before trail (omega (arith, some, long)))))
 
   reads_next_any : (old : Walker) (given bindings : List VarBind) → old.phase ≡ phase.Rows → Reaches Rises Named first old given
       → IsGiven Rises Named first given old.asked
       → Advances_anyhow old given (reads_next old bindings)
-  reads_next_any old given [] waits h before = stops_now old given (ending.NoProgress old.asked) tt h
+  reads_next_any old given [] waits h before = stops_now old given (ending.NoProgress old.asked) tt tt h
   reads_next_any old given (b ∷ more) waits h before =
       either_way old given (nat_lt (asked_for old.method) (length (b ∷ more)) || list_any (λ p. is_missing p.value) (b ∷ more))
-      (stops old [] ending.BadReply) (reads old (b ∷ more)) (λ _. stops_now old given ending.BadReply tt h)
+      (stops old [] ending.BadReply) (reads old (b ∷ more)) (λ _. stops_now old given ending.BadReply tt tt h)
       (λ fine. reads_any old given (b ∷ more) waits (omega arith) h before (or_parts (nat_lt (asked_for old.method) (length (b ∷ more))) (list_any
       (λ p. is_missing p.value) (b ∷ more)) fine).1)
 
@@ -212,7 +214,7 @@ module _ (first : Walker) where
   reads_first_any : (old : Walker) (given : List VarBind) (g : Option VarBind) → old.phase ≡ phase.First → Reaches Rises Named first old given
       → IsStage Rises Named first given old.asked phase.First
       → ((p : VarBind) → g ≡ Some p → Named old.asked p) → Advances_anyhow old given (reads_first old g)
-  reads_first_any old given None waits h stage named = stops_now old given ending.BadReply tt h
+  reads_first_any old given None waits h stage named = stops_now old given ending.BadReply tt tt h
   reads_first_any old given (Some b) waits h stage named =
       went_on old given (if_present b) phase.Rows (nat_lt old.id 2147483647) refl (reads_root Rises Named Small rising_answers first given old b waits h stage
       (named b refl))
@@ -220,8 +222,10 @@ module _ (first : Walker) where
   reads_last_any : (old : Walker) (given : List VarBind) (g : Option VarBind) → Reaches Rises Named first old given
       → IsStage Rises Named first given old.asked phase.Last
       → ((p : VarBind) → g ≡ Some p → Named old.asked p) → Advances_anyhow old given (reads_last old g)
-  reads_last_any old given None h stage named = stops_now old given ending.BadReply tt h
-  reads_last_any old given (Some b) h stage named = (tt, (reads_alone Rises Named Small rising_answers first given old b h stage (named b refl)).0)
+  reads_last_any old given None h stage named = stops_now old given ending.BadReply tt tt h
+  reads_last_any old given (Some b) h stage named =
+      let alone = reads_alone Rises Named Small rising_answers first given old b h stage (named b refl) in
+      (tt, alone.0, alone.1.0)
 
   reads_for_any : (old : Walker) (given bindings : List VarBind) (p : Phase) → old.phase ≡ p → Reaches Rises Named first old given
       → IsStage Rises Named first given old.asked p
@@ -236,5 +240,5 @@ module _ (first : Walker) where
   taken_any old given m h =
       either_way old given (is_awaited old m) (reads_reply old m) (step.Stray, old)
       (λ _. either_way old given (int_eq m.a (pos 0)) (reads_for old.phase old m.bindings) (stops old [] (ending.Fault m.a m.b))
-      (λ _. reads_for_any old given m.bindings old.phase refl h h.stage) (λ _. stops_now old given (ending.Fault m.a m.b) tt h))
+      (λ _. reads_for_any old given m.bindings old.phase refl h h.stage) (λ _. stops_now old given (ending.Fault m.a m.b) tt tt h))
       (λ _. refl)

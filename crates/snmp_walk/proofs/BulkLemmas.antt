@@ -2,6 +2,12 @@
 use Rattle.std.proofs.Common.{
   ◌≡◌,
   ◌≢◌,
+  ◌⊎◌,
+  inl,
+  inr,
+  Bool,
+  true,
+  false,
   ℕ,
   zero,
   suc,
@@ -29,10 +35,15 @@ use Rattle.std.proofs.Common.{
 }
 use Rattle.std.specs.Prelude.{unsigned_abs}
 use Rattle.std.proofs.lemmas.Int.{ints}
-use Rattle.snmp_wire.specs.Message.{VarBind, Message, null_value}
+use Rattle.snmp_wire.specs.Message.{Datum, VarBind, Message, null_value, end_of_mib_view}
+use Rattle.std.specs.List.{list_any}
+use Rattle.std.specs.Prelude.{◌||◌}
+use Rattle.std.proofs.lemmas.Bool.{cases_lt}
+use Rattle.snmp_walk.specs.Names.{is_end}
 use Rattle.snmp_table.specs.Table.{MibView, IsMibView, IsNext, IsNextAfter}
-use Rattle.snmp_agent.specs.Reply.{AreAnswers, AreRounds, IsBulk, joined, or_zero}
+use Rattle.snmp_agent.specs.Reply.{AreAnswers, AreEnds, AreRounds, IsBulk, joined, or_zero}
 use Rattle.snmp_walk.specs.Standing.{IsChain}
+use Rattle.snmp_walk.specs.Codec.{Codec}
 use Rattle.snmp_walk.proofs.JoinLemmas.{next_first}
 
 -- ---- chains
@@ -70,14 +81,31 @@ repeats : (z : ℤ) → or_zero z ≤ unsigned_abs z
 repeats (pos n) = omega (arith, ints)
 repeats (negsuc n) = omega (arith, ints)
 
+same_repeats : (z : ℤ) → pos 1 ≤ℤ z → or_zero z ≡ unsigned_abs z
+same_repeats (pos n) h = omega (arith, ints)
+same_repeats (negsuc n) h = absurd (omega (arith, ints, h))
+
+or_right : (b c : Bool) → c ≡ true → (b || c) ≡ true
+or_right true c h = refl
+or_right false c h = h
+
+any_later : (xs ys : List VarBind) → list_any (λ p. is_end p.value) ys ≡ true → list_any (λ p. is_end p.value) (xs ++ ys) ≡ true
+any_later [] ys h = h
+any_later (x ∷ xs) ys h = or_right (is_end x.value) (list_any (λ p. is_end p.value) (xs ++ ys)) (any_later xs ys h)
+
+end_joined : (before : List (List VarBind)) (p : VarBind) → p.value ≡ end_of_mib_view
+    → list_any (λ q. is_end q.value) (joined (before ++ (p ∷ []) ∷ [])) ≡ true
+end_joined [] p h = ap (λ (v : Datum). is_end v || false) h
+end_joined (r ∷ before) p h = any_later r (joined (before ++ (p ∷ []) ∷ [])) (end_joined before p h)
+
 some_rounds : (z : ℤ) → pos 1 ≤ℤ z → 0 < or_zero z
 some_rounds (pos n) h = omega (arith, ints, h)
 some_rounds (negsuc n) h = absurd (omega (arith, ints, h))
 
-module _ (view : MibView) (good : IsMibView view) where
+module _ (codec : Codec) (view : MibView) (good : IsMibView view) where
   -- a name has one successor
   one_next : (o : List ℕ) (p q : VarBind) → IsNext view o p → IsNext view o q → p ≡ q
-  one_next o p q a b = next_first view good o p a ∙ sym (next_first view good o q b)
+  one_next o p q a b = next_first view good codec o p a ∙ sym (next_first view good codec o q b)
 
   one_after : (i : ℕ) (o : List ℕ) (p q : VarBind) → IsNextAfter view i o p → IsNextAfter view i o q → p ≡ q
   one_after zero o p q a b = one_next o p q a b
@@ -117,6 +145,7 @@ module _ (view : MibView) (good : IsMibView view) where
     pub chain : IsChain (IsNext view) asked all
     pub few : length all ≤ unsigned_abs repetitions
     pub some : pos 1 ≤ℤ repetitions → all ≢ []
+    pub full : pos 1 ≤ℤ repetitions → (length all ≡ unsigned_abs repetitions) ⊎ (list_any (λ p. is_end p.value) all ≡ true)
 
   bulk_rounds : (asked : List ℕ) (repetitions : ℤ) (rounds : List (List VarBind)) → AreRounds view (or_zero repetitions) (asked_of asked) rounds
       → IsOneBulk asked repetitions (joined rounds)
@@ -129,8 +158,22 @@ module _ (view : MibView) (good : IsMibView view) where
             let short : length rounds ≡ 0 = sym h.1 ∙ ap length none in
             let last = are.closed (omega (arith, short, some_rounds repetitions positive)) in
             none_left rounds short last.0 last.1 last.2;
+        full = λ positive. by_count positive (cases_lt (length rounds) (or_zero repetitions));
       }
     where
+      by_count : pos 1 ≤ℤ repetitions → (length rounds < or_zero repetitions) ⊎ (or_zero repetitions ≤ length rounds)
+          → (length (joined rounds) ≡ unsigned_abs repetitions) ⊎ (list_any (λ p. is_end p.value) (joined rounds) ≡ true)
+      by_count positive (inl less) =
+          let h = chained asked (or_zero repetitions) rounds are rounds [] asked refl refl in
+          let last = are.closed less in
+          let p = one_given (λ a g. IsNextAfter view (length last.0) a.name g) asked last.1 (are.successors last.0 [] last.1 last.2) in
+          let value : p.0.value ≡ end_of_mib_view = (subst AreEnds p.1 last.3).0 in
+          let parts : rounds ≡ last.0 ++ (p.0 ∷ []) ∷ [] = last.2 ∙ ap (λ (r : List VarBind). last.0 ++ r ∷ []) p.1 in
+          inr (ap (λ (rs : List (List VarBind)). list_any (λ q. is_end q.value) (joined rs)) parts ∙ end_joined last.0 p.0 value)
+      by_count positive (inr all) =
+          let h = chained asked (or_zero repetitions) rounds are rounds [] asked refl refl in
+          inl (omega (arith, h.1, are.few, all, same_repeats repetitions positive))
+
       none_left : (rs : List (List VarBind)) → length rs ≡ 0 → (before : List (List VarBind)) (round : List VarBind) → rs ≡ before ++ round ∷ [] → ⊥
       none_left [] short before round e = no_round before [] round e
       none_left (r ∷ rs) short before round e = omega (arith, short)

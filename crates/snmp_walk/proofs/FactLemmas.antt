@@ -7,27 +7,33 @@ use Rattle.snmp_walk.specs.declared.end.WalkEnd.{WalkEnd}
 use Rattle.snmp_walk.specs.declared.end.WalkEnd.TheVariants as ending
 use Rattle.snmp_walk.specs.Walker.{Walker, IsWalker}
 use Rattle.snmp_walk.specs.Standing.{Reaches, IsPartOfWalk, IsWholeWalk, IsOneTable}
-use Rattle.snmp_walk.specs.Link.{Agents, IsNextFrom, IsGotFrom, AreViews, IsUnanswered}
-use Rattle.snmp_walk.specs.Facts.{IsFresh, IsLawfulEnd, HasNoReply, HasNone, IsDone, WalkFacts, SendFacts}
+use Rattle.snmp_walk.specs.Link.{Agents, OneOf, IsNextFrom, IsGotFrom, AreViews, IsUnanswered}
+use Rattle.snmp_walk.specs.Facts.{IsFresh, IsLawfulEnd, HasNoReply, HasNone, IsDone, TableFacts, WalkFacts, SendFacts}
+use Rattle.snmp_walk.specs.Codec.{Codec}
 use Rattle.snmp_walk.proofs.JoinLemmas.{variables_rise, variables_are, next_first, get_one, get_row}
 use Rattle.snmp_walk.proofs.TableLemmas.{part_is, whole_is}
 use Rattle.snmp_walk.proofs.ViewLemmas.{only_one}
-use Rattle.snmp_walk.proofs.SwiftLemmas.{left_end, swift_end, few_ids}
+use Rattle.snmp_walk.proofs.SwiftLemmas.{left_end, swift_end, few_in, trail_in_rest}
+use Rattle.snmp_walk.proofs.TablesLemmas.{once, rises, part_from, common_in, common_in_whole, few_rows, whole_some}
+use Rattle.snmp_walk.proofs.PartLemmas.{part_front}
+use Rattle.snmp_walk.proofs.FullLemmas.{AreRoomy, IsFast, fast_few}
+use Rattle.snmp_walk.specs.Walk.{rest_of}
+use Rattle.snmp_walk.specs.Room.{HasRoomForEach}
 use Rattle.snmp_walk.proofs.SendLemmas.{Sends, AreUsed}
-use Rattle.snmp_walk.specs.Run.{sent_by}
+use Rattle.snmp_walk.specs.Run.{Try, sent_by}
 use Rattle.snmp_walk.specs.Request.{request_of}
 use Rattle.snmp_wire.specs.Canon.{canon}
 use Rattle.snmp_walk.specs.Traffic.{Traffic, Lost}
 
-pub one_table : (agents : Agents) (first : Walker) (view : MibView) (got : VarBind) → AreViews agents.tables → agents.tables ≡ view ∷ []
+pub one_table : Codec → (agents : Agents) (first : Walker) (view : MibView) (got : VarBind) → AreViews agents.tables → agents.tables ≡ view ∷ []
     → IsGet view first.asked got
     → IsOneTable (variables view) got (IsNextFrom agents) (IsGotFrom agents) first
-one_table agents first view got views e answer =
+one_table codec agents first view got views e answer =
     let good : IsMibView view = (subst AreViews e views).0 in
     record {
       rising = variables_rise view good;
       instances = variables_are view good;
-      next = λ o p n. next_first view good o p (subst (λ (v : MibView). IsNext v o p) (only_one view n.0 agents.tables e n.1) n.2);
+      next = λ o p n. next_first view good codec o p (subst (λ (v : MibView). IsNext v o p) (only_one view n.0 agents.tables e n.1) n.2);
       answer = λ p n. get_one view good first.asked p got (subst (λ (v : MibView). IsGet v first.asked p) (only_one view n.0 agents.tables e n.1) n.2) answer;
       row = get_row view good first.asked got answer;
     }
@@ -78,36 +84,78 @@ lawful_by agents Silent Other first rows ending.NoResponse by h = (h.0, h.1, h.2
 lawful_by agents Silent Other first rows ending.Link by h = h
 lawful_by agents Silent Other first rows (ending.Sink fault) by h = h
 
-pub facts : (agents : Agents) (tries : ℕ) (old new : Traffic) (first : Walker) (rows refused : List VarBind) (end : WalkEnd) → 0 < tries → IsFresh first
+-- there is room for each binding of the one table
+only_room : (agents : Agents) (first : Walker) (view : MibView) → agents.tables ≡ view ∷ [] → HasRoomForEach agents view first → (v : MibView)
+    → OneOf agents.tables v → HasRoomForEach agents v first
+only_room agents first view e rooms v one = subst (λ (u : MibView). HasRoomForEach agents u first) (sym (only_one view v agents.tables e one)) rooms
+
+table_facts : Codec → (agents : Agents) (tries : ℕ) (old new : Traffic) (first : Walker) (rows refused : List VarBind) (end : WalkEnd) → 0 < tries
+    → IsFresh first
+    → AreViews agents.tables
+    → IsPartOfWalk (IsNextFrom agents) (IsGotFrom agents) first (rows ++ refused) → IsLawfulEnd agents (HasNoReply agents tries old new) first rows end
+    → TableFacts agents old first rows refused end
+table_facts codec agents tries old new first rows refused end some fresh views part lawful =
+    let s = fresh.begins.0 in
+    let begins = fresh.begins.1 in
+    let given = part_front (IsNextFrom agents) (IsGotFrom agents) first rows refused part in
+    let rising = rises codec agents views first s begins rows given in
+    record {
+      from_tables = part_from codec agents views first s begins (rows ++ refused) part;
+      common_names = λ name of each front last e passed. once rows name rising
+          (common_in codec agents views first s begins rows given name of each front last e passed);
+      common_at_done = λ done name of each.
+          once rows name rising (common_in_whole codec agents views first s begins rows (lawful_whole agents
+          (HasNoReply agents tries old new) first rows end done
+          lawful) name of each);
+      some_at_done = λ done plain.
+          whole_some (IsNextFrom agents) (IsGotFrom agents) first rows (lawful_whole agents (HasNoReply agents tries old new) first rows end done lawful) plain;
+      done_unless_lost_in_tables = λ names all rooms ids.
+          left_end codec agents first views rooms (length names) (few_rows codec agents views first s begins names all) ids
+          (HasNoReply agents tries old new) rows end lawful;
+      done_unless_stopped_in_tables = λ names all rooms ids none.
+          swift_end codec agents first views rooms (length names) (few_rows codec agents views first s begins names all) ids rows end
+          (lawful_by agents (HasNoReply agents tries old new) (HasNone agents) first rows end (λ w h. none_lost agents tries old new w some none h) lawful);
+    }
+
+pub facts : Codec → (agents : Agents) (tries : ℕ) (old new : Traffic) (first : Walker) (rows refused : List VarBind) (end : WalkEnd) → 0 < tries → IsFresh first
     → AreViews agents.tables
     → IsPartOfWalk (IsNextFrom agents) (IsGotFrom agents) first (rows ++ refused) → IsLawfulEnd agents (HasNoReply agents tries old new) first rows end
     → WalkFacts agents tries old first rows refused end new
-facts agents tries old new first rows refused end some fresh views part lawful = record {
+facts codec agents tries old new first rows refused end some fresh views part lawful = record {
   part = part;
   lawful = lawful;
   replied = λ none. lawful_by agents (HasNoReply agents tries old new) (HasNone agents) first rows end
       (λ w h. none_lost agents tries old new w some none h) lawful;
   beginning = λ view got e answer.
-      part_is (variables view) got (IsNextFrom agents) (IsGotFrom agents) first (one_table agents first view got views e answer) fresh.begins.0 fresh.begins.1
+      part_is (variables view) got (IsNextFrom agents) (IsGotFrom agents) first
+      (one_table codec agents first view got views e answer) fresh.begins.0 fresh.begins.1
       (rows ++ refused) part;
   all_at_done = λ view got e answer done.
       whole_is (variables view) got (IsNextFrom agents) (IsGotFrom agents) first
-      (one_table agents first view got views e answer) fresh.begins.0 fresh.begins.1 rows
+      (one_table codec agents first view got views e answer) fresh.begins.0 fresh.begins.1 rows
       (lawful_whole agents (HasNoReply agents tries old new) first rows end done lawful);
   done_unless_lost = λ view got e answer rooms ids.
-      left_end agents first view views e rooms got (one_table agents first view got views e answer) fresh.begins.0 fresh.begins.1
-      (HasNoReply agents tries old new) rows end ids lawful;
+      left_end codec agents first views (only_room agents first view e rooms) (length (rest_of first.root first.asked (variables view)))
+      (trail_in_rest agents first view got (one_table codec agents first view got views e answer) fresh.begins.0 fresh.begins.1) ids
+      (HasNoReply agents tries old new) rows end lawful;
   done_unless_stopped = λ view got e answer rooms ids none.
-      swift_end agents first view views e rooms got (one_table agents first view got views e answer) fresh.begins.0 fresh.begins.1 rows end ids
+      swift_end codec agents first views (only_room agents first view e rooms) (length (rest_of first.root first.asked (variables view)))
+      (trail_in_rest agents first view got (one_table codec agents first view got views e answer) fresh.begins.0 fresh.begins.1) ids rows end
       (lawful_by agents (HasNoReply agents tries old new) (HasNone agents) first rows end (λ w h. none_lost agents tries old new w some none h) lawful);
+  of_tables = table_facts codec agents tries old new first rows refused end some fresh views part lawful;
 }
 
 -- what a run sent
-pub send_facts : (agents : Agents) (honest : Type 0) (tries : ℕ) (old new : Traffic) (first w : Walker) (rows given : List VarBind) → IsFresh first → IsWalker w
-    → Sends tries first rows old (w.id + 1) new
-    → (honest → AreUsed old new × AreViews agents.tables × Reaches (IsNextFrom agents) (IsGotFrom agents) first w given)
-    → SendFacts agents honest tries old first rows new
-send_facts agents honest tries old new first w rows given fresh good h honestly = record {
+pub send_facts : Codec → (agents : Agents) (honest Roomy : Type 0) (tries : ℕ) (old new : Traffic) (first w : Walker) (rows given : List VarBind)
+    (end : WalkEnd) → IsFresh first → IsWalker w
+    → (h : Sends tries first rows old (w.id + 1) new)
+    → (honest → AreUsed old new × AreViews agents.tables × Reaches (IsNextFrom agents) (IsGotFrom agents) first w given
+    × IsFast (IsNextFrom agents) (IsGotFrom agents) Roomy first given w.id w.phase)
+    → (AreRoomy agents h.requests → Roomy)
+    → (end ≡ ending.NoResponse → (before : List Try) × (last : Try) × (h.requests ≡ before ++ last ∷ []) × (last.times ≡ tries))
+    → SendFacts agents honest tries old first rows end new
+send_facts codec agents honest Roomy tries old new first w rows given end fresh good h honestly less quiet = record {
+  all_tries = quiet;
   requests = h.requests;
   sent = h.sent;
   are_tries = h.are_tries;
@@ -117,7 +165,24 @@ send_facts agents honest tries old new first w rows given fresh good h honestly 
       (u.used, u.parts, omega (arith, u.few, ap length h.sent, length-append old.sent (sent_by h.requests)));
   few_of_table = λ k view got e answer.
       let f = honestly k in
-      let ids = few_ids agents first view got
-      (one_table agents first view got f.1 e answer) fresh.begins.0 fresh.begins.1 w given w.phase f.2.stage f.2.paced in
+      let ids = few_in (IsNextFrom agents) (IsGotFrom agents) first (length (rest_of first.root first.asked (variables view)))
+      (trail_in_rest agents first view got (one_table codec agents first view got f.1 e answer) fresh.begins.0 fresh.begins.1) w given w.phase f.2.stage
+      f.2.paced in
       omega (arith, h.ids, ids);
+  few_of_tables = λ k names all.
+      let f = honestly k in
+      let ids = few_in (IsNextFrom agents) (IsGotFrom agents) first (length names)
+      (few_rows codec agents f.1 first fresh.begins.0 fresh.begins.1 names all) w given w.phase f.2.stage f.2.paced in
+      omega (arith, h.ids, ids);
+  few_of_table_where_all_fit = λ k room view got e answer.
+      let f = honestly k in
+      let few = fast_few (IsNextFrom agents) (IsGotFrom agents) Roomy first w given (length (rest_of first.root first.asked (variables view)))
+      (trail_in_rest agents first view got (one_table codec agents first view got f.1 e answer) fresh.begins.0 fresh.begins.1) w.phase f.2.stage f.2.paced f.3
+      (less room) in
+      (few.0, few.1, omega (arith, h.ids, few.2));
+  few_of_tables_where_all_fit = λ k room names all.
+      let f = honestly k in
+      let few = fast_few (IsNextFrom agents) (IsGotFrom agents) Roomy first w given (length names)
+      (few_rows codec agents f.1 first fresh.begins.0 fresh.begins.1 names all) w.phase f.2.stage f.2.paced f.3 (less room) in
+      (few.0, few.1, omega (arith, h.ids, few.2));
 }

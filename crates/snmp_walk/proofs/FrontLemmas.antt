@@ -1,12 +1,9 @@
 -- The front of a reply that a walk gives, read binding by binding, is the one that the rules name.
 use Rattle.std.proofs.Common.{◌≡◌, ℕ, suc, ◌+◌, Bool, true, false, cond, List, [], ◌∷◌, length, take, refl, sym, ◌∙◌, ap, subst, arith}
 use Rattle.std.proofs.lemmas.List.Sums.{take_while-cons}
-use Rattle.std.proofs.lemmas.Bool.{le-ltb, lt-ltb}
-use Rattle.std.specs.Prelude.{nat_lt}
+use Rattle.std.proofs.lemmas.Bool.{le-ltb, lt-ltb, false≢true}
+use Rattle.std.specs.Prelude.{nat_lt, ◌||◌}
 use Rattle.snmp_wire.specs.Message.{VarBind}
-use Rattle.snmp_walk.specs.declared.walker.Ending.{Ending}
-use Rattle.snmp_walk.specs.declared.walker.Ending.TheVariants.{GoesOn, Leaves, Falls}
-use Rattle.snmp_walk.specs.declared.walker.Front.{Front}
 use Rattle.snmp_walk.specs.declared.phase.Phase.TheVariants as phase
 use Rattle.snmp_walk.specs.declared.end.WalkEnd.TheVariants as walk_end
 use Rattle.snmp_walk.specs.declared.rows.Step.{Step}
@@ -14,27 +11,31 @@ use Rattle.snmp_walk.specs.Names.{is_inside, comes_after}
 use Rattle.snmp_walk.specs.Trail.{last_name}
 use Rattle.snmp_walk.specs.Walker.{Walker}
 use Rattle.snmp_walk.specs.Taken.{inside_front, rising_front, name_at, asked_for, stops, goes_on, closes, reads, reads_next}
-use Rattle.snmp_walk.specs.Reading.{front_from, EndsAs, IsReadAs, IsFrontOf, is_misplaced}
+use Rattle.snmp_walk.specs.declared.walker.Ending.{Ending}
+use Rattle.snmp_walk.specs.declared.walker.Ending.TheVariants as ending
+use Rattle.snmp_walk.specs.declared.walker.Front.{Front}
+use Rattle.snmp_walk.specs.Reading.{ending_at, after_of, read_front, After, nothing, leaving}
+use Rattle.snmp_walk.specs.Reading.{falling, ReadFront, front_from, EndsAs, IsReadAs, IsFrontOf, is_misplaced}
 
-longer : (e : Ending) (b : VarBind) (rows inside more : List VarBind) → EndsAs e rows inside more → EndsAs e (b ∷ rows) (b ∷ inside) (b ∷ more)
-longer GoesOn b rows inside more h = (ap suc h.0, ap suc h.1)
-longer Leaves b rows inside more h = (ap suc h.0, omega (arith, h.1))
-longer (Falls name) b rows inside more h = (omega (arith, h.0), h.1)
+longer : (e : After) (b : VarBind) (rows inside more : List VarBind) → EndsAs e rows inside more → EndsAs e (b ∷ rows) (b ∷ inside) (b ∷ more)
+longer nothing b rows inside more h = (ap suc h.0, ap suc h.1)
+longer leaving b rows inside more h = (ap suc h.0, omega (arith, h.1))
+longer (falling name) b rows inside more h = (omega (arith, h.0), h.1)
 
 -- one more row in front of what was read
-more_rows : (last : List ℕ) (before : ℕ) (b : VarBind) (more inside rows : List VarBind) (front : Front)
+more_rows : (last : List ℕ) (before : ℕ) (b : VarBind) (more inside rows : List VarBind) (front : ReadFront)
     → IsReadAs b.name (before + 1) more inside rows front → IsReadAs last before (b ∷ more) (b ∷ inside) (b ∷ rows) front
 more_rows last before b more inside rows front h = record {
   count = omega (arith, h.count);
   taken = ap (λ (s : List VarBind). b ∷ s) h.taken;
   name = h.name;
-  ends = longer front.ending b rows inside more h.ends;
+  ends = longer front.after b rows inside more h.ends;
 }
 
-first_row : (last : List ℕ) (before : ℕ) (b : VarBind) (more inside rows : List VarBind) (front : Front) (is_in rises : Bool)
+first_row : (last : List ℕ) (before : ℕ) (b : VarBind) (more inside rows : List VarBind) (front : ReadFront) (is_in rises : Bool)
     → IsReadAs b.name (before + 1) more inside rows front
     → IsReadAs last before (b ∷ more) (cond is_in (b ∷ inside) []) (cond is_in (cond rises (b ∷ rows) []) [])
-    (cond is_in (cond rises front record { rows = before; last = last; ending = Falls b.name }) record { rows = before; last = last; ending = Leaves })
+    (cond is_in (cond rises front record { rows = before; last = last; after = falling b.name }) record { rows = before; last = last; after = leaving })
 first_row last before b more inside rows front true true h = more_rows last before b more inside rows front h
 first_row last before b more inside rows front true false h = record { count = omega arith; taken = refl; name = refl; ends = (omega arith, refl) }
 first_row last before b more inside rows front false rises h = record { count = omega arith; taken = refl; name = refl; ends = (refl, omega arith) }
@@ -56,38 +57,143 @@ front_read root last before (b ∷ more) =
     subst Q (sym e) (subst P (rising_first last b (inside_front root more) (is_inside root b)) h)
 
 -- what a reply means whose front was read
-abbrev pub reads_as : Ending → Walker → List VarBind → Step × Walker
-reads_as GoesOn w rows = goes_on w phase.Rows rows
-reads_as Leaves w rows = closes w rows
-reads_as (Falls name) w rows = stops w rows (walk_end.NotIncreasing (last_name w.asked rows) name)
+abbrev pub reads_as : After → Walker → List VarBind → Step × Walker
+reads_as nothing w rows = goes_on w phase.Rows rows
+reads_as leaving w rows = closes w rows
+reads_as (falling name) w rows = stops w rows (walk_end.NotIncreasing (last_name w.asked rows) name)
 
-reads_by : (w : Walker) (bindings inside rows : List VarBind) (e : Ending) → EndsAs e rows inside bindings
+reads_by : (w : Walker) (bindings inside rows : List VarBind) (e : After) → EndsAs e rows inside bindings
     → (cond (nat_lt (length rows) (length inside)) (stops w rows (walk_end.NotIncreasing (last_name w.asked rows) (name_at inside (length rows))))
     (cond (nat_lt (length rows) (length bindings)) (closes w rows) (goes_on w phase.Rows rows)))
     ≡ reads_as e w rows
-reads_by w bindings inside rows GoesOn h = rw (
+reads_by w bindings inside rows nothing h = rw (
   le-ltb (length rows) (length inside) (omega (arith, h.0)),
   le-ltb (length rows) (length bindings) (omega
       (arith, h.1)),
 )
-reads_by w bindings inside rows Leaves h = rw (le-ltb (length rows) (length inside) (omega (arith, h.0)), lt-ltb (length rows) (length bindings) h.1)
-reads_by w bindings inside rows (Falls name) h = rw (lt-ltb (length rows) (length inside) h.0, h.1)
+reads_by w bindings inside rows leaving h = rw (le-ltb (length rows) (length inside) (omega (arith, h.0)), lt-ltb (length rows) (length bindings) h.1)
+reads_by w bindings inside rows (falling name) h = rw (lt-ltb (length rows) (length inside) h.0, h.1)
 
-front_taken : (last : List ℕ) (bindings inside rows : List VarBind) (front : Front) → IsReadAs last 0 bindings inside rows front
+front_taken : (last : List ℕ) (bindings inside rows : List VarBind) (front : ReadFront) → IsReadAs last 0 bindings inside rows front
     → take front.rows bindings ≡ rows
 front_taken last bindings inside rows front h = let e : front.rows ≡ length rows = omega (arith, h.count) in ap (λ n. take n bindings) e ∙ h.taken
 
 placed : (w : Walker) (b : VarBind) (more : List VarBind) → is_misplaced (asked_for w.method) (b ∷ more) ≡ false → reads_next w (b ∷ more) ≡ reads w (b ∷ more)
 placed w b more fine = rw fine
 
-pub reads_next_by : (w : Walker) (bindings : List VarBind) (front : Front) → (bindings ≡ [] → ⊥) → is_misplaced (asked_for w.method) bindings ≡ false
-    → IsFrontOf w.root w.asked 0 bindings front → reads_next w bindings ≡ reads_as front.ending w (take front.rows bindings)
+reads_next_by : (w : Walker) (bindings : List VarBind) (front : ReadFront) → (bindings ≡ [] → ⊥) → is_misplaced (asked_for w.method) bindings ≡ false
+    → IsFrontOf w.root w.asked 0 bindings front → reads_next w bindings ≡ reads_as front.after w (take front.rows bindings)
 reads_next_by w [] front some fine h = absurd (some refl)
 reads_next_by w (b ∷ more) front some fine h =
     placed w b more fine
-    ∙ reads_by w (b ∷ more) (inside_front w.root (b ∷ more)) (rising_front w.asked (inside_front w.root (b ∷ more))) front.ending h.ends
-    ∙ ap (reads_as front.ending w) (sym (front_taken w.asked (b ∷ more) _ _ front h))
+    ∙ reads_by w (b ∷ more) (inside_front w.root (b ∷ more)) (rising_front w.asked (inside_front w.root (b ∷ more))) front.after h.ends
+    ∙ ap (reads_as front.after w) (sym (front_taken w.asked (b ∷ more) _ _ front h))
 
-pub front_is : (root last : List ℕ) (before : ℕ) (bindings : List VarBind) (front : Front) → front_from root last before bindings ≡ front
+-- of no bindings nothing is read
+none_read : (root asked : List ℕ) (bindings : List VarBind) (front : ReadFront) → bindings ≡ [] → IsFrontOf root asked 0 bindings front
+    → (front.rows ≡ 0) × (front.after ≡ nothing)
+none_read root asked bindings front none h = of_none (subst (λ (bs : List VarBind). IsFrontOf root asked 0 bs front) none h)
+  where
+    by_end : (e : After) → EndsAs e [] [] [] → e ≡ nothing
+    by_end nothing h = refl
+    by_end leaving h = absurd (omega (arith, h.1))
+    by_end (falling name) h = absurd (omega (arith, h.0))
+
+    of_none : IsFrontOf root asked 0 [] front → (front.rows ≡ 0) × (front.after ≡ nothing)
+    of_none h = (omega (arith, h.count), by_end front.after h.ends)
+
+pub front_is : (root last : List ℕ) (before : ℕ) (bindings : List VarBind) (front : ReadFront) → front_from root last before bindings ≡ front
     → IsFrontOf root last before bindings front
 front_is root last before bindings front e = subst (IsFrontOf root last before bindings) e (front_read root last before bindings)
+
+-- one more binding, by how it ends what is read
+abbrev Read : List ℕ → List ℕ → ℕ → VarBind → List VarBind → Bool → Bool → ReadFront
+Read root last rows b more is_in rises =
+    cond is_in (cond rises (front_from root b.name (rows + 1) more) record { rows = rows; last = last; after = falling b.name })
+    record { rows = rows; last = last; after = leaving }
+
+abbrev EndOf : Bool → Bool → Ending
+EndOf is_in rises = cond is_in (cond rises ending.GoesOn ending.Falls) ending.Leaves
+
+ended_by : (root last : List ℕ) (rows : ℕ) (b : VarBind) (more : List VarBind) (is_in rises : Bool) (e : Ending) → e ≡ EndOf is_in rises
+    → (e ≡ ending.GoesOn → ⊥)
+    → Read root last rows b more is_in rises ≡ record { rows = rows; last = last; after = after_of e b.name }
+ended_by root last rows b more true true e is on = absurd (on is)
+ended_by root last rows b more true false e is on = ap (λ (x : Ending). record { rows = rows; last = last; after = after_of x b.name }) (sym is)
+ended_by root last rows b more false rises e is on = ap (λ (x : Ending). record { rows = rows; last = last; after = after_of x b.name }) (sym is)
+
+goes_by : (root last : List ℕ) (rows : ℕ) (b : VarBind) (more : List VarBind) (is_in rises : Bool) (e : Ending) → e ≡ EndOf is_in rises
+    → e ≡ ending.GoesOn
+    → Read root last rows b more is_in rises ≡ front_from root b.name (rows + 1) more
+goes_by root last rows b more true true e is on = refl
+goes_by root last rows b more true false e is on = let never : ⊥ = cc in absurd never
+goes_by root last rows b more false rises e is on = let never : ⊥ = cc in absurd never
+
+-- a loop over bindings: what is left of them, and what was read
+module _ (root asked last : List ℕ) (rows : ℕ) (b : VarBind) (all left more : List VarBind)
+    (so_far : front_from root asked 0 all ≡ front_from root last rows left) (is : left ≡ b ∷ more) (e : Ending) (end_is : e ≡ ending_at root last b) where
+  pub front_ended : (front : Front) → front ≡ record { rows = rows; ending = e } → (e ≡ ending.GoesOn → ⊥)
+      → IsFrontOf root asked 0 all (read_front front last b.name)
+  front_ended front same on =
+      let read : front_from root asked 0 all ≡ record { rows = rows; last = last; after = after_of e b.name } =
+      so_far ∙ ap (front_from root last rows) is ∙ ended_by root last rows b more (is_inside root b) (comes_after last b.name) e end_is on in
+      front_is root asked 0 all (read_front front last b.name) (read ∙ ap (λ (f : Front). read_front f last b.name) (sym same))
+
+  pub front_goes : (now : List ℕ) → now ≡ b.name → e ≡ ending.GoesOn → front_from root asked 0 all ≡ front_from root now (rows + 1) more
+  front_goes now at on =
+      so_far ∙ ap (front_from root last rows) is ∙ goes_by root last rows b more (is_inside root b) (comes_after last b.name) e end_is on
+      ∙ ap (λ (o : List ℕ). front_from root o (rows + 1) more) (sym at)
+
+-- nothing is left
+pub front_done : (root asked last name : List ℕ) (rows : ℕ) (all left : List VarBind) → front_from root asked 0 all ≡ front_from root last rows left
+    → left ≡ [] → IsFrontOf root asked 0 all (read_front (record { rows = rows; ending = ending.GoesOn }) last name)
+front_done root asked last name rows all left so_far none =
+    front_is root asked 0 all (read_front (record { rows = rows; ending = ending.GoesOn }) last name) (so_far ∙ ap (front_from root last rows) none)
+
+-- how a reply is read, by what follows the instances at its front
+module _ (w : Walker) (bindings : List VarBind) (front : ReadFront) (fine : is_misplaced (asked_for w.method) bindings ≡ false)
+    (h : IsFrontOf w.root w.asked 0 bindings front) where
+  pub read_leaving : front.after ≡ leaving → reads_next w bindings ≡ closes w (take front.rows bindings)
+  read_leaving e =
+      reads_next_by w bindings front (λ none. let no : ⊥ = cc (sym e ∙ (none_read w.root w.asked bindings front none h).1) in no) fine h
+      ∙ ap (λ (a : After). reads_as a w (take front.rows bindings)) e
+
+  pub read_going : front.after ≡ nothing → (front.rows ≡ 0 → ⊥) → reads_next w bindings ≡ goes_on w phase.Rows (take front.rows bindings)
+  read_going e some =
+      reads_next_by w bindings front (λ none. some (none_read w.root w.asked bindings front none h).0) fine h
+      ∙ ap (λ (a : After). reads_as a w (take front.rows bindings)) e
+
+  pub read_falling : (name last : List ℕ) → front.after ≡ falling name → last ≡ front.last
+      → reads_next w bindings ≡ stops w (take front.rows bindings) (walk_end.NotIncreasing last name)
+  read_falling name last e at =
+      reads_next_by w bindings front (λ none. let no : ⊥ = cc (sym e ∙ (none_read w.root w.asked bindings front none h).1) in no) fine h
+      ∙ ap (λ (a : After). reads_as a w (take front.rows bindings)) e
+      ∙ ap (λ (n : List ℕ). stops w (take front.rows bindings) (walk_end.NotIncreasing n name))
+      (ap (last_name w.asked) (front_taken w.asked bindings _ _ front h) ∙ sym (at ∙ h.name))
+
+  pub read_empty : (last : List ℕ) → front.after ≡ nothing → front.rows ≡ 0 → last ≡ front.last
+      → reads_next w bindings ≡ stops w (take front.rows bindings) (walk_end.NoProgress last)
+  read_empty last e none at = by_bindings bindings h
+    where
+      by_end : (bs : List VarBind) (rows : List VarBind) (e : After) → e ≡ nothing → EndsAs e rows (inside_front w.root bs) bs → length rows ≡ length bs
+      by_end bs rows nothing same k = k.1
+      by_end bs rows leaving same k = let no : ⊥ = cc in absurd no
+      by_end bs rows (falling name) same k = let no : ⊥ = cc in absurd no
+
+      by_bindings : (bs : List VarBind) → IsFrontOf w.root w.asked 0 bs front → reads_next w bs ≡ stops w (take front.rows bs) (walk_end.NoProgress last)
+      by_bindings [] k =
+          let name : w.asked ≡ last = sym (at ∙ k.name) in
+          ap (λ (n : List ℕ). stops w [] (walk_end.NoProgress n)) name
+          ∙ ap (λ (s : List VarBind). stops w s (walk_end.NoProgress last)) (ap (λ (n : ℕ). take n []) (sym none))
+      by_bindings (b ∷ more) k =
+          let long = by_end (b ∷ more) (rising_front w.asked (inside_front w.root (b ∷ more))) front.after e k.ends in
+          absurd (omega (arith, long, k.count, none))
+
+-- a reply with bindings out of place
+pub none_misplaced : (room : ℕ) → is_misplaced room [] ≡ false
+none_misplaced room = ap (λ (b : Bool). b || false) (le-ltb room 0 (omega arith))
+
+pub read_misplaced : (w : Walker) (bindings : List VarBind) → is_misplaced (asked_for w.method) bindings ≡ true
+    → reads_next w bindings ≡ stops w [] walk_end.BadReply
+read_misplaced w [] out = absurd (false≢true (sym (none_misplaced (asked_for w.method)) ∙ out))
+read_misplaced w (b ∷ more) out = rw out refl

@@ -38,9 +38,7 @@ use Rattle.snmp_wire.specs.Message.{VarBind, Message}
 use Rattle.snmp_wire.specs.Spelling.{Spells}
 use Rattle.snmp_wire.specs.Canon.{canon}
 use Rattle.snmp_wire.specs.Range.{IsBindingInRange, IsMessageInRange}
-use Rattle.snmp_wire.proofs.MessageLaws.{one_message}
-use Rattle.snmp_wire.proofs.StrictMessages.{strict_canon}
-use Rattle.snmp_wire.proofs.Lenient.{strict_is_read}
+use Rattle.snmp_walk.specs.Codec.{Codec}
 use Rattle.snmp_table.specs.Table.{MibView, IsMibView, IsGet}
 use Rattle.snmp_agent.specs.Reply.{response, AreAnswers, got, got_next, unwritten, Fits, IsResponse, whole, shortened, bulk}
 use Rattle.snmp_walk.specs.Taken.{awaits}
@@ -59,7 +57,7 @@ gets_in_range view good (o ∷ names) (p ∷ bindings) h a =
     let name = h.0.name in
     (get_in_range view good (wire o) p name.0 name.1 a.0, gets_in_range view good names bindings h.1 a.1)
 
-module _ (community : List ℕ) (id : ℕ) (names : List (List ℕ)) (ranged : IsMessageInRange (get_request community id names)) where
+module _ (codec : Codec) (community : List ℕ) (id : ℕ) (names : List (List ℕ)) (ranged : IsMessageInRange (get_request community id names)) where
   -- a Response to the request is awaited
   awaited : (a : ℕ) (bindings : List VarBind) → awaits community id (response (get_request community id names) (pos a) (pos 0) bindings) ≡ true
   awaited a bindings = and_from _ _ (and_from _ _ (and_from _ _ (int_eq_equiv.refl (pos 1)) (nat_list_eq_equiv.refl community)) refl) (int_eq_equiv.refl
@@ -75,7 +73,7 @@ module _ (community : List ℕ) (id : ℕ) (names : List (List ℕ)) (ranged : I
     a = fits_from a (omega arith);
     b = fits_from 0 (omega arith);
     bindings = each;
-    total = omega (arith, datagram, bindings_within (response (get_request community id names) (pos a) (pos 0) bindings) n fits);
+    total = omega (arith, datagram, bindings_within codec (response (get_request community id names) (pos a) (pos 0) bindings) n fits);
   }
 
   -- the Response has an encoding, and is awaited
@@ -92,8 +90,8 @@ module _ (community : List ℕ) (id : ℕ) (names : List (List ℕ)) (ranged : I
   response_of view good n datagram r (shortened large is no_fit e) f =
       (subst IsMessageInRange (sym e) (ranged_response 1 [] n (omega arith) tt (subst (Fits n) e f) datagram), ap (awaits community id) e ∙ awaited 1 [])
 
-  own : Spells (get_request community id names) (canon (get_request community id names))
-  own = strict_is_read (get_request community id names) (canon (get_request community id names)) (strict_canon (get_request community id names) ranged)
+  pub own : Spells (get_request community id names) (canon (get_request community id names))
+  own = codec.read (get_request community id names) (canon (get_request community id names)) (codec.strict (get_request community id names) ranged)
 
   -- what an agent replies to it
   pub record IsAnswered (agents : Agents) (octets : List ℕ) : Type 0 where
@@ -111,12 +109,12 @@ module _ (community : List ℕ) (id : ℕ) (names : List (List ℕ)) (ranged : I
       let view = h.0 in
       let agent = h.2 in
       let q : Message = get_request community id names in
-      let same : agent.request ≡ q = (one_message agent.request q (canon q) (canon q) [] [] agent.is_request.spelt own refl).0 in
+      let same : agent.request ≡ q = (codec.one agent.request q (canon q) (canon q) [] [] agent.is_request.spelt own refl).0 in
       let is_response = subst (λ (x : Message). IsResponse view agents.max_size x agent.response) same agent.is_response in
       let ok = response_of view (view_of agents.tables lawful.views view h.1) agents.max_size lawful.size agent.response is_response agent.fits in
       record {
         message = agent.response;
-        spelt = subst (Spells agent.response) (sym agent.encoding) (strict_is_read agent.response (canon agent.response) (strict_canon agent.response ok.0));
+        spelt = subst (Spells agent.response) (sym agent.encoding) (codec.read agent.response (canon agent.response) (codec.strict agent.response ok.0));
         awaited_is = ok.1;
         view = view;
         one = h.1;
@@ -124,7 +122,7 @@ module _ (community : List ℕ) (id : ℕ) (names : List (List ℕ)) (ranged : I
         is_response = is_response;
       }
 
-  asked_alone : (agents : Agents) → AreLawful agents → (sent : List (List ℕ)) → sent ≡ []
+  pub asked_alone : (agents : Agents) → AreLawful agents → (sent : List (List ℕ)) → sent ≡ []
       → IsAsked agents community id (canon (get_request community id names)) sent
   asked_alone agents lawful sent none = record {
     own = λ octets reply. let a = answered agents lawful octets reply in (a.message, a.spelt, a.awaited_is);
@@ -132,13 +130,15 @@ module _ (community : List ℕ) (id : ℕ) (names : List (List ℕ)) (ranged : I
   }
 
   -- the message that was heard
-  pub brought : (agents : Agents) (honest : Type 0) → (honest → AreLawful agents) → (q : List ℕ) → q ≡ canon (get_request community id names)
+  pub brought : (Comes : List ℕ → Type 0) (agents : Agents) (honest : Type 0) → (honest → AreLawful agents) → (q : List ℕ)
+      → q ≡ canon (get_request community id names)
       → (sent : List (List ℕ))
       → (o : Option ℕ) (n : ℕ) (buffer : List ℕ) → o ≡ Some n → IfSome o (λ k. IsAwaited community id (take k buffer))
+      → IfSome o (λ k. Comes (take k buffer))
       → (honest → IsAsked agents community id q sent → IfSome o (λ k. IsReplyFrom agents q (take k buffer)))
-      → (m : Message) × Spells m (take n buffer) × IsBrought agents (honest × (sent ≡ [])) community id names m
-  brought agents honest lawful q is sent None n buffer e heard reply = let no : ⊥ = cc in absurd no
-  brought agents honest lawful q is sent (Some k) n buffer e heard reply =
+      → (m : Message) × Spells m (take n buffer) × IsBrought Comes agents (honest × (sent ≡ [])) community id names m
+  brought Comes agents honest lawful q is sent None n buffer e heard came reply = let no : ⊥ = cc in absurd no
+  brought Comes agents honest lawful q is sent (Some k) n buffer e heard came reply =
       let same : k ≡ n = cc in
       let here : IsAwaited community id (take n buffer) = subst (λ (j : ℕ). IsAwaited community id (take j buffer)) same heard in (
         here.message,
@@ -151,5 +151,6 @@ module _ (community : List ℕ) (id : ℕ) (names : List (List ℕ)) (ranged : I
               subst (λ (x : List ℕ). IsReplyFrom agents x (take n buffer)) is (subst (λ (j : ℕ). IsReplyFrom agents q (take j buffer)) same r) in
               let a = answered agents (lawful h.0) (take n buffer) r_here in
               (a.view, a.one, a.named, subst (IsResponse a.view agents.max_size (get_request community id names)) (here.only a.message a.spelt) a.is_response),
+          (take n buffer, subst (λ (j : ℕ). Comes (take j buffer)) same came, here.spelt),
         ),
       )

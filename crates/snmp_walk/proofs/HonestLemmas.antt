@@ -26,6 +26,8 @@ use Rattle.std.proofs.Common.{
   ℤ,
   pos,
   length-append,
+  append-nil,
+  true,
 }
 use Rattle.std.proofs.lemmas.Bool.{false≢true, cases_lt}
 use Rattle.std.specs.Prelude.{FitsSigned, unsigned_abs}
@@ -54,10 +56,7 @@ use Rattle.snmp_wire.specs.Message.{
 use Rattle.snmp_wire.specs.Spelling.{Spells}
 use Rattle.snmp_wire.specs.Canon.{canon, canon_bindings, canon_head}
 use Rattle.snmp_wire.specs.Range.{IsInRange, IsBindingInRange, IsMessageInRange}
-use Rattle.snmp_wire.proofs.MessageLaws.{one_message}
-use Rattle.snmp_wire.proofs.StrictMessages.{strict_canon}
-use Rattle.snmp_wire.proofs.Lenient.{strict_is_read}
-use Rattle.snmp_wire.proofs.MessageWriting.{canon_parts}
+use Rattle.snmp_walk.specs.Codec.{Codec}
 use Rattle.snmp_table.specs.Table.{MibView, IsInstanceValue, IsMibView, IsGet, variable, unknown_object, unknown_instance, IsNext, successor, end_of_view}
 use Rattle.snmp_agent.specs.Reply.{response, AreAnswers, got, got_next, unwritten, Fits, IsLongestFront, IsResponse, whole, shortened, bulk, no_error}
 use Rattle.snmp_walk.specs.declared.mode.Method.{Method}
@@ -71,6 +70,11 @@ use Rattle.snmp_walk.specs.Standing.{IsChain, IsLarge, IsReplyContent, IsReplyTo
 use Rattle.snmp_walk.specs.Link.{Agents, OneOf, AreLawful, IsNextFrom, IsGotFrom, IsTooLarge, IsReplyFrom}
 use Rattle.snmp_walk.proofs.RequestLemmas.{name_short}
 use Rattle.snmp_walk.proofs.ViewLemmas.{view_of}
+use Rattle.snmp_walk.proofs.RoomLemmas.{longer_full}
+use Rattle.snmp_walk.specs.Room.{full_response}
+use Rattle.snmp_walk.specs.Names.{is_end}
+use Rattle.snmp_walk.specs.Run.{IsFull, IsFullReply}
+use Rattle.std.specs.List.{list_any}
 use Rattle.snmp_walk.proofs.BulkLemmas.{IsOneBulk, one_bulk, chain_front, chain_by}
 
 -- numbers from 0 below 2^31
@@ -134,20 +138,20 @@ chain_in_range view good o (p ∷ ps) w i h =
     (first, chain_in_range view good p.name ps name.0 name.1 h.1)
 
 -- a message of at most so many octets has no more of bindings
-pub bindings_within : (m : Message) (n : ℕ) → length (canon m) ≤ n → length (canon_bindings m.bindings) ≤ n
-bindings_within m n h =
-    omega (arith, h, ap length (canon_parts m), length-append (canon_head m (length (canon_bindings m.bindings))) (canon_bindings m.bindings))
+pub bindings_within : Codec → (m : Message) (n : ℕ) → length (canon m) ≤ n → length (canon_bindings m.bindings) ≤ n
+bindings_within codec m n h =
+    omega (arith, h, ap length (codec.pieces m), length-append (canon_head m (length (canon_bindings m.bindings))) (canon_bindings m.bindings))
 
-response_in_range : (w : Walker) → IsWalker w → (a : ℕ) (bindings : List VarBind) (n : ℕ) → a < 2 → AllByRecursion IsBindingInRange bindings
+response_in_range : Codec → (w : Walker) → IsWalker w → (a : ℕ) (bindings : List VarBind) (n : ℕ) → a < 2 → AllByRecursion IsBindingInRange bindings
     → length (canon (response (request_of w) (pos a) (pos 0) bindings)) ≤ n → n ≤ 65507 → IsMessageInRange (response (request_of w) (pos a) (pos 0) bindings)
-response_in_range w good a bindings n small each fits datagram = record {
+response_in_range codec w good a bindings n small each fits datagram = record {
   version = fits_from 1 (omega arith);
   community = (good.octets, omega (arith, good.community));
   id = fits_from w.id good.id;
   a = fits_from a (omega arith);
   b = fits_from 0 (omega arith);
   bindings = each;
-  total = omega (arith, datagram, bindings_within (response (request_of w) (pos a) (pos 0) bindings) n fits);
+  total = omega (arith, datagram, bindings_within codec (response (request_of w) (pos a) (pos 0) bindings) n fits);
 }
 
 -- the answers to a request of one name
@@ -201,14 +205,14 @@ above n k f = by_cases (cases_lt n k)
     by_cases (inl h) = h
     by_cases (inr h) = absurd (f h)
 
-module _ (agents : Agents) (lawful : AreLawful agents) (w : Walker) (good : IsWalker w) (waits : is_over w.phase ≡ false)
+module _ (codec : Codec) (agents : Agents) (lawful : AreLawful agents) (w : Walker) (good : IsWalker w) (waits : is_over w.phase ≡ false)
     (view : MibView) (one : OneOf agents.tables view) (community : w.community ≡ agents.community) where
   view_good : IsMibView view
   view_good = view_of agents.tables lawful.views view one
 
   of_get : (m : Message) (p : VarBind) → (w.phase ≡ phase.First) ⊎ (w.phase ≡ phase.Last)
       → ((m.a ≡ pos 0) × ((q : VarBind) × IsGotFrom agents w.asked q × (m.bindings ≡ q ∷ []))) ⊎ ((m.a ≡ pos 1) × (m.b ≡ pos 0)
-      × IsLarge (IsGotFrom agents) (IsTooLarge agents) w.asked)
+      × IsLarge (IsGotFrom agents) (IsTooLarge agents w.id) w.asked)
       → IsReplyContent (IsNextFrom agents) (IsGotFrom agents) (IsTooLarge agents) w.phase w m
   of_get m p (inl e) c = subst (λ (q : Phase). IsReplyContent (IsNextFrom agents) (IsGotFrom agents) (IsTooLarge agents) q w m) (sym e) c
   of_get m p (inr e) c = subst (λ (q : Phase). IsReplyContent (IsNextFrom agents) (IsGotFrom agents) (IsTooLarge agents) q w m) (sym e) c
@@ -225,17 +229,17 @@ module _ (agents : Agents) (lawful : AreLawful agents) (w : Walker) (good : IsWa
   }
 
   -- what is too large for the agent is too large
-  large : (p : VarBind) → (Fits agents.max_size (response (request_of w) no_error (pos 0) (p ∷ [])) → ⊥) → IsTooLarge agents p
+  large : (p : VarBind) → (Fits agents.max_size (response (request_of w) no_error (pos 0) (p ∷ [])) → ⊥) → IsTooLarge agents w.id p
   large p no_fit =
       let Response = λ (c : List ℕ). length (canon
       (record { version = pos 1; community = c; kind = kind.Response; id = pos w.id; a = pos 0; b = pos 0; bindings = p ∷ [] })) in
       let more : agents.max_size < Response w.community = above agents.max_size (Response w.community) no_fit in
-      (w.id, good.id, subst (λ (c : List ℕ). agents.max_size < Response c) community more)
+      (good.id, subst (λ (c : List ℕ). agents.max_size < Response c) community more)
 
   -- where no binding came, the first has no room
   first_large : (all bindings : List VarBind) → bindings ≡ [] → IsChain (IsNext view) w.asked all → all ≢ []
       → IsLongestFront agents.max_size (request_of w) all bindings
-      → IsLarge (IsNextFrom agents) (IsTooLarge agents) w.asked
+      → IsLarge (IsNextFrom agents) (IsTooLarge agents w.id) w.asked
   first_large [] bindings none chain some longest = absurd (some refl)
   first_large (p ∷ later) bindings none chain some longest = (
     p,
@@ -260,7 +264,7 @@ module _ (agents : Agents) (lawful : AreLawful agents) (w : Walker) (good : IsWa
       let chain : IsChain (IsNextFrom agents) w.asked m.bindings = subst (IsChain (IsNextFrom agents) w.asked) (sym only) ((view, one, p.2), tt) in
       let few : length m.bindings ≤ asked_for w.method =
       subst (λ (x : Method). length m.bindings ≤ asked_for x) (sym at.1) (omega (arith, ap length only)) in
-      let some : m.bindings ≡ [] → IsLarge (IsNextFrom agents) (IsTooLarge agents) w.asked = λ none. let never : ⊥ = cc in absurd never in
+      let some : m.bindings ≡ [] → IsLarge (IsNextFrom agents) (IsTooLarge agents w.id) w.asked = λ none. let never : ⊥ = cc in absurd never in
       replied m 0 bindings is (subst (λ (q : Phase). IsReplyContent (IsNextFrom agents) (IsGotFrom agents) (IsTooLarge agents) q w m) (sym at.0)
       (inl (ap (λ (x : Message). x.a) is, chain, few, some)))
   content_of m r same (whole (unwritten k e) fits) = absurd (set_phase w.phase w.method k)
@@ -286,7 +290,7 @@ module _ (agents : Agents) (lawful : AreLawful agents) (w : Walker) (good : IsWa
       let repetitions : request_repetitions w.phase w.method ≡ at.1 = ap (λ (q : Phase). request_repetitions q w.method) at.0
       ∙ ap (request_repetitions phase.Rows) at.2 in
       let positive : pos 1 ≤ℤ request_repetitions w.phase w.method = subst (λ (z : ℤ). pos 1 ≤ℤ z) (sym repetitions) (subst IsMethod at.2 good.method) in
-      let one_name : IsOneBulk view view_good w.asked (request_repetitions w.phase w.method) all = one_bulk view view_good
+      let one_name : IsOneBulk codec view view_good w.asked (request_repetitions w.phase w.method) all = one_bulk codec view view_good
       (request_of w) w.asked all refl refl asked in
       let only : m.bindings ≡ bindings = ap (λ (x : Message). x.bindings) is in
       let own : IsChain (IsNext view) w.asked bindings = chain_front (IsNext view) w.asked bindings longest.more (subst (IsChain
@@ -296,48 +300,100 @@ module _ (agents : Agents) (lawful : AreLawful agents) (w : Walker) (good : IsWa
       let few : length m.bindings ≤ asked_for w.method =
       few_bindings m.bindings bindings longest.more all w.method at.1 only longest.front at.2 (subst (λ
       (z : ℤ). length all ≤ unsigned_abs z) repetitions one_name.few) in
-      let some : m.bindings ≡ [] → IsLarge (IsNextFrom agents) (IsTooLarge agents) w.asked = λ none.
+      let some : m.bindings ≡ [] → IsLarge (IsNextFrom agents) (IsTooLarge agents w.id) w.asked = λ none.
       first_large all bindings (sym only ∙ none) one_name.chain (one_name.some positive) longest in
       replied m 0 bindings is (subst (λ (q : Phase). IsReplyContent (IsNextFrom agents) (IsGotFrom agents) (IsTooLarge agents) q w m) (sym at.0)
       (inl (ap (λ (x : Message). x.a) is, chain, few, some)))
+
+  no_get : (w.phase ≡ phase.First) ⊎ (w.phase ≡ phase.Last) → w.phase ≡ phase.Rows → ⊥
+  no_get (inl e) rows = let both : phase.First ≡ phase.Rows = sym e ∙ rows in let never : ⊥ = cc in never
+  no_get (inr e) rows = let both : phase.Last ≡ phase.Rows = sym e ∙ rows in let never : ⊥ = cc in never
+
+  -- all bindings fit
+  all_fit : (all : List VarBind) → length (canon (full_response agents.community 2147483647 all)) ≤ agents.max_size
+      → Fits agents.max_size (response (request_of w) no_error (pos 0) all)
+  all_fit all room =
+      let Size = λ (c : List ℕ). length (canon
+      (record { version = pos 1; community = c; kind = kind.Response; id = pos w.id; a = pos 0; b = pos 0; bindings = all })) in
+      let longer = longer_full codec agents.community w.id 2147483647 all (omega (arith, good.id)) in
+      let fits : Size agents.community ≤ agents.max_size = omega (arith, room, longer) in
+      subst (λ (c : List ℕ). Size c ≤ agents.max_size) (sym community) fits
+
+  -- a front that isn't shorter is all
+  whole_front : (all bindings more : List VarBind) → all ≡ bindings ++ more → length all ≤ length bindings → all ≡ bindings
+  whole_front all bindings more front long =
+      front ∙ ap (λ (s : List VarBind). bindings ++ s) (no_more more (omega (arith, long, ap length front, length-append bindings more)))
+      ∙ append-nil bindings
+    where
+      no_more : (xs : List VarBind) → length xs ≡ 0 → xs ≡ []
+      no_more [] e = refl
+      no_more (x ∷ xs) e = absurd (omega (arith, e))
+
+  -- a reply has all bindings that were asked for, where they have room
+  full_of : (m r : Message) → m ≡ r → IsResponse view agents.max_size (request_of w) r → IsFullReply agents w m
+  full_of m r same (whole (got bindings k answers e) fits) = λ room rows status. absurd (no_get (get_phase w.phase w.method waits k) rows)
+  full_of m r same (whole (got_next bindings k answers e) fits) = λ room rows status.
+      let p = one_answer (λ asked given. IsNext view asked.name given) w.asked bindings answers in
+      let only : m.bindings ≡ p.0 ∷ [] = ap (λ (x : Message). x.bindings) (same ∙ e) ∙ p.1 in
+      inl (subst (λ (x : Method). length m.bindings ≡ asked_for x) (sym (next_phase w.phase w.method k).1) (ap length only))
+  full_of m r same (whole (unwritten k e) fits) = absurd (set_phase w.phase w.method k)
+  full_of m r same (shortened large_one a no_fit e) = λ room rows status.
+      let both : pos 1 ≡ pos 0 = sym (ap (λ (x : Message). x.a) (same ∙ e)) ∙ status in
+      let never : ⊥ = cc in absurd never
+  full_of m r same (bulk all bindings k asked longest e) = λ room rows status.
+      let at = bulk_phase w.phase w.method k in
+      let repetitions : request_repetitions w.phase w.method ≡ at.1 = ap (λ (q : Phase). request_repetitions q w.method) at.0
+      ∙ ap (request_repetitions phase.Rows) at.2 in
+      let positive : pos 1 ≤ℤ request_repetitions w.phase w.method = subst (λ (z : ℤ). pos 1 ≤ℤ z) (sym repetitions) (subst IsMethod at.2 good.method) in
+      let one_name : IsOneBulk codec view view_good w.asked (request_repetitions w.phase w.method) all = one_bulk codec view view_good
+      (request_of w) w.asked all refl refl asked in
+      let long : length all ≤ length bindings = longest.longest all [] (sym (append-nil all)) (all_fit all (room view one all asked)) in
+      let is : all ≡ m.bindings = whole_front all bindings longest.more longest.front long ∙ sym (ap (λ (x : Message). x.bindings) (same ∙ e)) in
+      let count : unsigned_abs (request_repetitions w.phase w.method) ≡ asked_for w.method =
+      ap unsigned_abs repetitions ∙ sym (ap asked_for at.2) in
+      subst (IsFull w.method) is (subst (λ (n : ℕ). (length all ≡ n) ⊎ (list_any (λ p. is_end p.value) all ≡ true)) count (one_name.full positive))
 
   in_range : (r : Message) → IsResponse view agents.max_size (request_of w) r → Fits agents.max_size r → IsMessageInRange r
   in_range r (whole (got bindings k answers e) fits) f =
       let p = one_answer (λ asked given. IsGet view asked.name given) w.asked bindings answers in
       let each = subst (AllByRecursion IsBindingInRange) (sym p.1) (get_in_range view view_good w.asked p.0 good.asked good.identifier p.2, tt) in
-      subst IsMessageInRange (sym e) (response_in_range w good 0 bindings agents.max_size (omega arith) each (subst (Fits agents.max_size) e f) lawful.size)
+      subst IsMessageInRange (sym e) (response_in_range codec w good 0 bindings agents.max_size (omega arith) each (subst
+      (Fits agents.max_size) e f) lawful.size)
   in_range r (whole (got_next bindings k answers e) fits) f =
       let p = one_answer (λ asked given. IsNext view asked.name given) w.asked bindings answers in
       let each = subst (AllByRecursion IsBindingInRange) (sym p.1) (next_in_range view view_good w.asked p.0 good.asked good.identifier p.2, tt) in
-      subst IsMessageInRange (sym e) (response_in_range w good 0 bindings agents.max_size (omega arith) each (subst (Fits agents.max_size) e f) lawful.size)
+      subst IsMessageInRange (sym e) (response_in_range codec w good 0 bindings agents.max_size (omega arith) each (subst
+      (Fits agents.max_size) e f) lawful.size)
   in_range r (whole (unwritten k e) fits) f = absurd (set_phase w.phase w.method k)
   in_range r (bulk all bindings k asked longest e) f =
-      let one_name : IsOneBulk view view_good w.asked (request_repetitions w.phase w.method) all = one_bulk view view_good
+      let one_name : IsOneBulk codec view view_good w.asked (request_repetitions w.phase w.method) all = one_bulk codec view view_good
       (request_of w) w.asked all refl refl asked in
       let own : IsChain (IsNext view) w.asked bindings = chain_front (IsNext view) w.asked bindings longest.more (subst (IsChain
       (IsNext view) w.asked) longest.front one_name.chain) in
       let each = chain_in_range view view_good w.asked bindings good.asked good.identifier own in
-      subst IsMessageInRange (sym e) (response_in_range w good 0 bindings agents.max_size (omega arith) each (subst (Fits agents.max_size) e f) lawful.size)
+      subst IsMessageInRange (sym e) (response_in_range codec w good 0 bindings agents.max_size (omega arith) each (subst
+      (Fits agents.max_size) e f) lawful.size)
   in_range r (shortened large_one a no_fit e) f =
-      subst IsMessageInRange (sym e) (response_in_range w good 1 [] agents.max_size (omega arith) tt (subst (Fits agents.max_size) e f) lawful.size)
+      subst IsMessageInRange (sym e) (response_in_range codec w good 1 [] agents.max_size (omega arith) tt (subst (Fits agents.max_size) e f) lawful.size)
 
 -- the reply of one of the agents to the waiting request
-pub honest_reply : (agents : Agents) → AreLawful agents → (w : Walker) → IsWalker w → is_over w.phase ≡ false → (reply : List ℕ)
+pub honest_reply : Codec → (agents : Agents) → AreLawful agents → (w : Walker) → IsWalker w → is_over w.phase ≡ false → (reply : List ℕ)
     → IsReplyFrom agents (canon (request_of w)) reply
-    → (m : Message) × Spells m reply × IsReplyTo (IsNextFrom agents) (IsGotFrom agents) (IsTooLarge agents) w m
-honest_reply agents lawful w good waits reply h =
+    → (m : Message) × Spells m reply × IsReplyTo (IsNextFrom agents) (IsGotFrom agents) (IsTooLarge agents) w m × IsFullReply agents w m
+honest_reply codec agents lawful w good waits reply h =
     let view = h.0 in
     let agent = h.2 in
-    let own : Spells (request_of w) (canon (request_of w)) = strict_is_read (request_of w) (canon (request_of w)) (strict_canon (request_of w)
+    let own : Spells (request_of w) (canon (request_of w)) = codec.read (request_of w) (canon (request_of w)) (codec.strict (request_of w)
     (request_in_range w good)) in
-    let same : agent.request ≡ request_of w = (one_message agent.request (request_of w) (canon (request_of w)) (canon
+    let same : agent.request ≡ request_of w = (codec.one agent.request (request_of w) (canon (request_of w)) (canon
     (request_of w)) [] [] agent.is_request.spelt own refl).0 in
     let community : w.community ≡ agents.community = ap (λ (m : Message). m.community) (sym same) ∙ agent.is_request.named in
     let is_response = subst (λ (q : Message). IsResponse view agents.max_size q agent.response) same agent.is_response in
-    let ranged = in_range agents lawful w good waits view h.1 community agent.response is_response agent.fits in
-    let spelt : Spells agent.response (canon agent.response) = strict_is_read agent.response (canon agent.response) (strict_canon agent.response ranged) in (
+    let ranged = in_range codec agents lawful w good waits view h.1 community agent.response is_response agent.fits in
+    let spelt : Spells agent.response (canon agent.response) = codec.read agent.response (canon agent.response) (codec.strict agent.response ranged) in (
       agent.response,
       subst (Spells agent.response)
           (sym agent.encoding) spelt,
-      content_of agents lawful w good waits view h.1 community agent.response agent.response refl is_response,
+      content_of codec agents lawful w good waits view h.1 community agent.response agent.response refl is_response,
+      full_of codec agents lawful w good waits view h.1 community agent.response agent.response refl is_response,
     )

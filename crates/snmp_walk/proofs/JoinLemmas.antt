@@ -28,7 +28,7 @@ use Rattle.snmp_walk.specs.Names.{is_missing, comes_after}
 use Rattle.snmp_walk.specs.Walk.{rows_after, rows_named, AreAfter, AreRising, AreInstances, or_end}
 use Rattle.snmp_walk.proofs.OrderLemmas.{less_from_after, after-irrefl}
 use Rattle.snmp_walk.specs.Taken.{if_present}
-use Rattle.snmp_oid.proofs.IdentifierLemmas.{precedes_from_less}
+use Rattle.snmp_walk.specs.Codec.{Codec}
 use Rattle.snmp_walk.proofs.TableLemmas.{first_of_rows}
 use Rattle.snmp_walk.proofs.ViewLemmas.{less_precedes, value_no_end, value_no_miss}
 
@@ -49,7 +49,7 @@ rising_entries (e ∷ es) h = let p = and_parts (below_all (slice_cmp nat_cmp) e
     (after_entries e.0 es p.0, rising_entries es p.1)
 
 -- one of the bindings
-abbrev IsIn : VarBind → List VarBind → Type 0
+abbrev pub IsIn : VarBind → List VarBind → Type 0
 IsIn p [] = ⊥
 IsIn p (q ∷ more) = (p ≡ q) ⊎ IsIn p more
 
@@ -58,8 +58,12 @@ in_after x p [] h i = absurd i
 in_after x p (q ∷ rows) h (inl e) = ap (λ (b : VarBind). comes_after x b.name) e ∙ h.0
 in_after x p (q ∷ rows) h (inr i) = in_after x p rows h.1 i
 
+-- by the test, one name precedes the other
+pub after_precedes : Codec → (o p : List ℕ) → comes_after o p ≡ true → Precedes o p
+after_precedes codec o p e = codec.less o p (less_from_after o p e)
+
 -- tests that tell names apart
-tie_is : (q x : List ℕ) → eq_by_cmp (slice_cmp nat_cmp) q x ≡ true → q ≡ x
+pub tie_is : (q x : List ℕ) → eq_by_cmp (slice_cmp nat_cmp) q x ≡ true → q ≡ x
 tie_is q x e = same_text q x (sym e ∙ sym (texts_ties q x))
 
 tie_self : (q : List ℕ) → eq_by_cmp (slice_cmp nat_cmp) q q ≡ true
@@ -199,17 +203,17 @@ module _ (view : MibView) (good : IsMibView view) where
   from_rows_after o p [] i = absurd i
   from_rows_after o p (q ∷ rows) i = from_rows_by o p q rows (comes_after o q.name) refl i (from_rows_after o p rows)
 
-  behind_row : (o : List ℕ) (q : VarBind) → IsIn q (rows_after o (variables view)) → IsRow view q × Precedes o q.name
-  behind_row o q i =
-      let h = from_rows_after o q (variables view) i in (in_row q h.1, precedes_from_less o q.name (less_from_after o q.name h.0))
+  behind_row : Codec → (o : List ℕ) (q : VarBind) → IsIn q (rows_after o (variables view)) → IsRow view q × Precedes o q.name
+  behind_row codec o q i =
+      let h = from_rows_after o q (variables view) i in (in_row q h.1, codec.less o q.name (less_from_after o q.name h.0))
 
   -- a GetNext is answered by the first row behind the name
-  next_by : (o : List ℕ) (p : VarBind) (behind : List VarBind) → behind ≡ rows_after o (variables view) → IsNext view o p → p ≡ or_end o behind
-  next_by o p [] e (successor s) =
+  next_by : Codec → (o : List ℕ) (p : VarBind) (behind : List VarBind) → behind ≡ rows_after o (variables view) → IsNext view o p → p ≡ or_end o behind
+  next_by codec o p [] e (successor s) =
       let i = in_rows_after o p (variables view) (ap is_lt (less_precedes o p.name s.behind)) (row_in p s.row) in
       absurd (subst (IsIn p) (sym e) i)
-  next_by o p [] e (end_of_view none is) = is
-  next_by o p (q ∷ more) e (successor s) =
+  next_by codec o p [] e (end_of_view none is) = is
+  next_by codec o p (q ∷ more) e (successor s) =
       let i = in_rows_after o p (variables view) (ap is_lt (less_precedes o p.name s.behind)) (row_in p s.row) in
       let first = first_of_rows (variables view) o q more variables_rise (sym e) in
       nearest_is (subst (IsIn p) (sym e) i) first.after
@@ -217,13 +221,13 @@ module _ (view : MibView) (good : IsMibView view) where
       nearest_is : (p ≡ q) ⊎ IsIn p more → AreAfter q.name more → p ≡ q
       nearest_is (inl same) after = same
       nearest_is (inr later) after =
-          let q_row = behind_row o q (subst (IsIn q) e (inl refl)) in
-          absurd (s.nearest q q_row.0 q_row.1 (precedes_from_less q.name p.name (less_from_after q.name p.name (in_after q.name p more after later))))
-  next_by o p (q ∷ more) e (end_of_view none is) =
-      let q_row = behind_row o q (subst (IsIn q) e (inl refl)) in absurd (none q q_row.0 q_row.1)
+          let q_row = behind_row codec o q (subst (IsIn q) e (inl refl)) in
+          absurd (s.nearest q q_row.0 q_row.1 (codec.less q.name p.name (less_from_after q.name p.name (in_after q.name p more after later))))
+  next_by codec o p (q ∷ more) e (end_of_view none is) =
+      let q_row = behind_row codec o q (subst (IsIn q) e (inl refl)) in absurd (none q q_row.0 q_row.1)
 
-  pub next_first : (o : List ℕ) (p : VarBind) → IsNext view o p → p ≡ or_end o (rows_after o (variables view))
-  next_first o p h = next_by o p (rows_after o (variables view)) refl h
+  pub next_first : Codec → (o : List ℕ) (p : VarBind) → IsNext view o p → p ≡ or_end o (rows_after o (variables view))
+  next_first codec o p h = next_by codec o p (rows_after o (variables view)) refl h
 
   -- a Get has one answer
   pub get_one : (o : List ℕ) (p q : VarBind) → IsGet view o p → IsGet view o q → p ≡ q

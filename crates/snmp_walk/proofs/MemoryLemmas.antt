@@ -92,3 +92,8 @@ received_front (Some n) out rest h e = ap Some (take-append-le n out rest (omega
 pub within_more : (r : Option ℕ) (m : ℕ) → IfSome r (λ n. n ≤ 65507) → 65507 ≤ m → IfSome r (λ n. n ≤ m)
 within_more None m h k = tt
 within_more (Some n) m h k = omega (arith, h, k)
+
+-- a receive may bring anything
+pub brought_any : (o : Option ℕ) → IfSome o (λ n. Unit {0})
+brought_any None = tt
+brought_any (Some n) = tt

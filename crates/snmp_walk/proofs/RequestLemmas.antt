@@ -162,7 +162,7 @@ name_short name h =
     let b : VarBind = record { name = name; value = null_value } in
     omega (arith, binding_bound name h, length-append (canon_binding b) [])
 
-message_bound : (m : Message) → length m.community ≤ 255 → length (canon_bindings m.bindings) ≤ 658 → length (canon m) ≤ 65507
+message_bound : (m : Message) → length m.community ≤ 255 → length (canon_bindings m.bindings) ≤ 658 → length (canon m) ≤ 1000
 unfolding canon canon_opening canon_fields
 message_bound m h k =
     let id = canon_value (integer_value m.id) in
@@ -194,8 +194,12 @@ message_bound m h k =
     let whole : length (canon_element sequence_tag (canon_opening m ++ pdu)) ≤ 997 = element_bound sequence_tag (canon_opening m ++ pdu) 991 content in
     omega (arith, whole)
 
+-- no request of a walk is longer than 1,000 octets
+pub request_short : (w : Walker) → length w.community ≤ 255 → length w.asked ≤ 128 → length (canon (request_of w)) ≤ 1000
+request_short w h k = message_bound (request_of w) h (name_short w.asked k)
+
 pub request_fits : (w : Walker) → length w.community ≤ 255 → length w.asked ≤ 128 → length (canon (request_of w)) ≤ 65507
-request_fits w h k = message_bound (request_of w) h (name_short w.asked k)
+request_fits w h k = omega (arith, request_short w h k)
 
 pub encodable : (name : List ℕ) → IsWire name → All (λ (b : Binding). IsEncodable (var_bind b)) (record { name = name; value = value.Null } ∷ [])
 encodable name h =

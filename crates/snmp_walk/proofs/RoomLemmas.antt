@@ -31,107 +31,114 @@ use Rattle.snmp_wire.specs.Canon.{
   canon_fields,
   canon,
 }
-use Rattle.snmp_wire.proofs.CanonLemmas.{length-from_zero}
-use Rattle.snmp_wire.proofs.ElementLemmas.{length-canon_element}
-use Rattle.snmp_wire.proofs.MessageWriting.{length-canon_fields, length-canon_opening}
-use Rattle.snmp_agent.proofs.Sizes.{more_digits, longer_length}
 use Rattle.snmp_walk.specs.Link.{Agents, single_response, IsTooLarge}
-use Rattle.snmp_walk.specs.Room.{HasRoom, IsException}
+use Rattle.snmp_walk.specs.Room.{HasRoom, full_response, IsException}
+use Rattle.snmp_walk.specs.Codec.{Codec}
 
--- an element with more content is no shorter, whatever the tags
-longer_element : (s t : ℕ) (a b : List ℕ) → length a ≤ length b → length (canon_element s a) ≤ length (canon_element t b)
-longer_element s t a b h = omega (arith, h, length-canon_element s a, length-canon_element t b, longer_length (length a) (length b) h)
+module _ (codec : Codec) where
+  -- an element with more content is no shorter, whatever the tags
+  longer_element : (s t : ℕ) (a b : List ℕ) → length a ≤ length b → length (canon_element s a) ≤ length (canon_element t b)
+  longer_element s t a b h = omega (arith, h, codec.elements.element s a, codec.elements.element t b, codec.elements.lengths_rise (length a) (length b) h)
 
-longer_value : (v u : Datum) → length (canon_content v) ≤ length (canon_content u) → length (canon_value v) ≤ length (canon_value u)
-unfolding canon_value
-longer_value v u h = longer_element (value_tag v) (value_tag u) (canon_content v) (canon_content u) h
+  longer_value : (v u : Datum) → length (canon_content v) ≤ length (canon_content u) → length (canon_value v) ≤ length (canon_value u)
+  unfolding canon_value
+  longer_value v u h = longer_element (value_tag v) (value_tag u) (canon_content v) (canon_content u) h
 
-longer_binding : (name : List ℕ) (v u : Datum) → length (canon_content v) ≤ length (canon_content u)
-    → length (canon_binding (record { name = name; value = v })) ≤ length (canon_binding (record { name = name; value = u }))
-unfolding canon_binding
-longer_binding name v u h =
-    longer_element sequence_tag sequence_tag (canon_value (object_id name) ++ canon_value v) (canon_value (object_id name) ++ canon_value u)
-    (omega (
-      arith,
-      longer_value v u h,
-      length-append (canon_value (object_id name)) (canon_value v),
-      length-append (canon_value (object_id name))
-          (canon_value u),
-    ))
+  longer_binding : (name : List ℕ) (v u : Datum) → length (canon_content v) ≤ length (canon_content u)
+      → length (canon_binding (record { name = name; value = v })) ≤ length (canon_binding (record { name = name; value = u }))
+  unfolding canon_binding
+  longer_binding name v u h =
+      longer_element sequence_tag sequence_tag (canon_value (object_id name) ++ canon_value v) (canon_value (object_id name) ++ canon_value u)
+      (omega (
+        arith,
+        longer_value v u h,
+        length-append (canon_value (object_id name)) (canon_value v),
+        length-append (canon_value (object_id name))
+            (canon_value u),
+      ))
 
-exception_content : (v : Datum) → IsException v → length (canon_content v) ≤ 0
-unfolding canon_content
-exception_content (integer_value n) h = absurd h
-exception_content (octet_string s) h = absurd h
-exception_content null_value h = absurd h
-exception_content (object_id o) h = absurd h
-exception_content (ip_address a) h = absurd h
-exception_content (counter32 n) h = absurd h
-exception_content (gauge32 n) h = absurd h
-exception_content (time_ticks n) h = absurd h
-exception_content (opaque_octets s) h = absurd h
-exception_content (counter64 n) h = absurd h
-exception_content no_such_object h = omega arith
-exception_content no_such_instance h = omega arith
-exception_content end_of_mib_view h = omega arith
+  exception_content : (v : Datum) → IsException v → length (canon_content v) ≤ 0
+  unfolding canon_content
+  exception_content (integer_value n) h = absurd h
+  exception_content (octet_string s) h = absurd h
+  exception_content null_value h = absurd h
+  exception_content (object_id o) h = absurd h
+  exception_content (ip_address a) h = absurd h
+  exception_content (counter32 n) h = absurd h
+  exception_content (gauge32 n) h = absurd h
+  exception_content (time_ticks n) h = absurd h
+  exception_content (opaque_octets s) h = absurd h
+  exception_content (counter64 n) h = absurd h
+  exception_content no_such_object h = omega arith
+  exception_content no_such_instance h = omega arith
+  exception_content end_of_mib_view h = omega arith
 
-longer_number : (n k : ℕ) → n ≤ k → number_size n ≤ number_size k
-unfolding number_size
-longer_number n k h = more_digits 256 128 8 n k h
+  longer_number : (n k : ℕ) → n ≤ k → number_size n ≤ number_size k
+  unfolding number_size
+  longer_number n k h = codec.elements.digits_rise 256 128 8 n k h
 
--- an integer from 0 that isn't less is no shorter
-longer_integer : (n k : ℕ) → n ≤ k → length (canon_value (integer_value (pos n))) ≤ length (canon_value (integer_value (pos k)))
-unfolding canon_value canon_content
-longer_integer n k h =
-    let sizes : number_size n ≤ number_size k = longer_number n k h in
-    longer_element (value_tag (integer_value (pos n))) (value_tag (integer_value (pos k))) (canon_number (pos n)) (canon_number (pos k)) (omega
-    (arith, sizes, length-from_zero n, length-from_zero k))
+  -- an integer from 0 that isn't less is no shorter
+  longer_integer : (n k : ℕ) → n ≤ k → length (canon_value (integer_value (pos n))) ≤ length (canon_value (integer_value (pos k)))
+  unfolding canon_value canon_content
+  longer_integer n k h =
+      let sizes : number_size n ≤ number_size k = longer_number n k h in
+      longer_element (value_tag (integer_value (pos n))) (value_tag (integer_value (pos k))) (canon_number (pos n)) (canon_number (pos k)) (omega
+      (arith, sizes, codec.elements.number n, codec.elements.number k))
 
-one_binding : (p : VarBind) → length (canon_bindings (p ∷ [])) ≡ length (canon_binding p)
-unfolding canon_bindings
-one_binding p = omega (arith, length-append (canon_binding p) [])
+  one_binding : (p : VarBind) → length (canon_bindings (p ∷ [])) ≡ length (canon_binding p)
+  unfolding canon_bindings
+  one_binding p = omega (arith, length-append (canon_binding p) [])
 
--- messages whose parts are no shorter are no shorter
-longer_message : (m n : Message) → length (canon_opening m) ≤ length (canon_opening n) → length (canon_fields m) ≤ length (canon_fields n)
-    → length (canon_bindings m.bindings) ≤ length (canon_bindings n.bindings) → length (canon m) ≤ length (canon n)
-unfolding canon
-longer_message m n opening fields bindings =
-    let list = longer_element sequence_tag sequence_tag (canon_bindings m.bindings) (canon_bindings n.bindings) bindings in
-    let m_list = canon_element sequence_tag (canon_bindings m.bindings) in
-    let n_list = canon_element sequence_tag (canon_bindings n.bindings) in
-    let pdu = longer_element (kind_tag m.kind) (kind_tag n.kind) (canon_fields m ++ m_list) (canon_fields n ++ n_list)
-    (omega (arith, list, fields, length-append (canon_fields m) m_list, length-append (canon_fields n) n_list)) in
-    let m_pdu = canon_element (kind_tag m.kind) (canon_fields m ++ m_list) in
-    let n_pdu = canon_element (kind_tag n.kind) (canon_fields n ++ n_list) in
-    longer_element sequence_tag sequence_tag (canon_opening m ++ m_pdu) (canon_opening n ++ n_pdu)
-    (omega (arith, pdu, opening, length-append (canon_opening m) m_pdu, length-append (canon_opening n) n_pdu))
+  -- messages whose parts are no shorter are no shorter
+  longer_message : (m n : Message) → length (canon_opening m) ≤ length (canon_opening n) → length (canon_fields m) ≤ length (canon_fields n)
+      → length (canon_bindings m.bindings) ≤ length (canon_bindings n.bindings) → length (canon m) ≤ length (canon n)
+  unfolding canon
+  longer_message m n opening fields bindings =
+      let list = longer_element sequence_tag sequence_tag (canon_bindings m.bindings) (canon_bindings n.bindings) bindings in
+      let m_list = canon_element sequence_tag (canon_bindings m.bindings) in
+      let n_list = canon_element sequence_tag (canon_bindings n.bindings) in
+      let pdu = longer_element (kind_tag m.kind) (kind_tag n.kind) (canon_fields m ++ m_list) (canon_fields n ++ n_list)
+      (omega (arith, list, fields, length-append (canon_fields m) m_list, length-append (canon_fields n) n_list)) in
+      let m_pdu = canon_element (kind_tag m.kind) (canon_fields m ++ m_list) in
+      let n_pdu = canon_element (kind_tag n.kind) (canon_fields n ++ n_list) in
+      longer_element sequence_tag sequence_tag (canon_opening m ++ m_pdu) (canon_opening n ++ n_pdu)
+      (omega (arith, pdu, opening, length-append (canon_opening m) m_pdu, length-append (canon_opening n) n_pdu))
 
-pub longer_response : (community : List ℕ) (id last : ℕ) (p q : VarBind) → id ≤ last → length (canon_binding p) ≤ length (canon_binding q)
-    → length (canon (single_response community id p)) ≤ length (canon (single_response community last q))
-longer_response community id last p q h k =
-    let m : Message = single_response community id p in
-    let n : Message = single_response community last q in
-    longer_message m n (omega (arith, length-canon_opening m, length-canon_opening n))
-    (omega (arith, length-canon_fields m, length-canon_fields n, longer_integer id last h)) (omega (arith, k, one_binding p, one_binding q))
+  pub longer_response : (community : List ℕ) (id last : ℕ) (p q : VarBind) → id ≤ last → length (canon_binding p) ≤ length (canon_binding q)
+      → length (canon (single_response community id p)) ≤ length (canon (single_response community last q))
+  longer_response community id last p q h k =
+      let m : Message = single_response community id p in
+      let n : Message = single_response community last q in
+      longer_message m n (omega (arith, codec.sizes.opening m, codec.sizes.opening n))
+      (omega (arith, codec.sizes.fields m, codec.sizes.fields n, longer_integer id last h)) (omega (arith, k, one_binding p, one_binding q))
 
--- what there is room for fits with each id
-pub room_fits : (agents : Agents) (p : VarBind) (id : ℕ) → id < 2 ^ 31 → HasRoom agents p
-    → length (canon (single_response agents.community id p)) ≤ agents.max_size
-room_fits agents p id low room =
-    let longer = longer_response agents.community id 2147483647 p p (omega (arith, low)) (omega arith) in
-    omega (arith, longer, room)
+  -- with a lesser id all bindings are no longer
+  pub longer_full : (community : List ℕ) (id last : ℕ) (bindings : List VarBind) → id ≤ last
+      → length (canon (full_response community id bindings)) ≤ length (canon (full_response community last bindings))
+  longer_full community id last bindings h =
+      let m : Message = full_response community id bindings in
+      let n : Message = full_response community last bindings in
+      longer_message m n (omega (arith, codec.sizes.opening m, codec.sizes.opening n))
+      (omega (arith, codec.sizes.fields m, codec.sizes.fields n, longer_integer id last h)) (omega arith)
 
-pub room_small : (agents : Agents) (p : VarBind) → HasRoom agents p → IsTooLarge agents p → ⊥
-room_small agents p room large =
-    let fits = room_fits agents p large.0 large.1 room in
-    omega (arith, fits, large.2)
+  -- what there is room for fits with each id
+  pub room_fits : (agents : Agents) (p : VarBind) (id : ℕ) → id < 2 ^ 31 → HasRoom agents p
+      → length (canon (single_response agents.community id p)) ≤ agents.max_size
+  room_fits agents p id low room =
+      let longer = longer_response agents.community id 2147483647 p p (omega (arith, low)) (omega arith) in
+      omega (arith, longer, room)
 
--- where a name has room with a value, it has room with an exception
-pub room_exception : (agents : Agents) (name : List ℕ) (v u : Datum) → IsException v → HasRoom agents (record { name = name; value = u })
-    → HasRoom agents (record { name = name; value = v })
-room_exception agents name v u is room =
-    let empty = exception_content v is in
-    let shorter = longer_binding name v u (omega (arith, empty)) in
-    let longer = longer_response agents.community 2147483647 2147483647 (record { name = name; value = v }) (record { name = name; value = u })
-    (omega arith) shorter in
-    omega (arith, longer, room)
+  pub room_small : (agents : Agents) (id : ℕ) (p : VarBind) → HasRoom agents p → IsTooLarge agents id p → ⊥
+  room_small agents id p room large =
+      let fits = room_fits agents p id large.0 room in
+      omega (arith, fits, large.1)
+
+  -- where a name has room with a value, it has room with an exception
+  pub room_exception : (agents : Agents) (name : List ℕ) (v u : Datum) → IsException v → HasRoom agents (record { name = name; value = u })
+      → HasRoom agents (record { name = name; value = v })
+  room_exception agents name v u is room =
+      let empty = exception_content v is in
+      let shorter = longer_binding name v u (omega (arith, empty)) in
+      let longer = longer_response agents.community 2147483647 2147483647 (record { name = name; value = v }) (record { name = name; value = u })
+      (omega arith) shorter in
+      omega (arith, longer, room)

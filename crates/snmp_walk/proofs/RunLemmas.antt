@@ -27,7 +27,6 @@ use Rattle.std.proofs.Common.{
   Option,
   Some,
   None,
-  length,
   replicate,
 }
 use Rattle.std.specs.Prelude.{Result, Err}
@@ -59,108 +58,50 @@ use Rattle.snmp_walk.specs.Standing.{
   Rises,
   Named,
   IsReplyEnd,
+  CountsAll,
   AdvancesAnyhow,
 }
 use Rattle.snmp_walk.specs.Link.{Agents, IsNextFrom, IsGotFrom, IsTooLarge, IsUnanswered, AreViews}
 use Rattle.snmp_walk.specs.Sink.{Given, Took}
 use Rattle.snmp_walk.specs.Run.{IsFrom, Turns, goes_on, ends, is_refused, is_silent, fails, rows_in}
-use Rattle.snmp_walk.specs.Facts.{IsFresh, IsLawfulEnd, HasNoReply, HasNone, WalkFacts, SendFacts}
+use Rattle.snmp_walk.specs.Facts.{IsFresh, IsLawfulEnd, HasNoReply, HasNone, WalkFacts, SendFacts, EndFacts, IsEndOfRun, IsReadyForAll, ReadyFacts}
 use Rattle.snmp_walk.specs.Traffic.{Traffic, Lost}
 use Rattle.snmp_walk.specs.Heard.{Exchanges, IsEarlier}
 use Rattle.snmp_walk.specs.Request.{request_of}
 use Rattle.snmp_wire.specs.Canon.{canon}
 use Rattle.snmp_walk.proofs.ViewLemmas.{views_answer}
-use Rattle.snmp_walk.proofs.FactLemmas.{facts, lawful_by, send_facts}
-use Rattle.snmp_walk.proofs.SendLemmas.{Sends, sends_first, sends_more, AreUsed, used_first, used_more, earlier_first, earlier_more}
+use Rattle.snmp_walk.specs.Codec.{Codec}
+use Rattle.snmp_walk.proofs.FactLemmas.{one_table, facts, lawful_by, send_facts}
+use Rattle.snmp_walk.proofs.SwiftLemmas.{few_in, gets_one, trail_in_rest}
+use Rattle.snmp_walk.proofs.TablesLemmas.{few_rows}
+use Rattle.snmp_walk.specs.Walk.{rest_of}
+use Rattle.snmp_table.specs.Listing.{variables}
+use Rattle.std.specs.Prelude.{◌≢◌, length, ◌≤◌}
+use Rattle.snmp_walk.proofs.SendLemmas.{
+  Sends,
+  sends_first,
+  sends_at,
+  sends_more,
+  one_left,
+  one_right,
+  AreUsed,
+  used_first,
+  used_more,
+  earlier_first,
+  earlier_more,
+}
 use Rattle.snmp_walk.proofs.EndLemmas.{GivesNone, EndsEmpty, ends_empty}
+use Rattle.snmp_walk.proofs.RisingLemmas.{end_facts, read_end}
+use Rattle.snmp_walk.proofs.PartLemmas.{part_front}
+use Rattle.snmp_walk.proofs.FullLemmas.{AreRoomy, IsFast, fast_first, fast_on}
+use Rattle.snmp_walk.specs.Room.{HasRoomForAll}
+use Rattle.snmp_walk.specs.Run.{Try}
+use Rattle.snmp_wire.specs.Spelling.{Spells}
 use Rattle.snmp_walk.proofs.SinkLemmas.{given-append}
 use Rattle.snmp_walk.proofs.StandingLemmas.{taken, part_of_stage}
 use Rattle.snmp_walk.proofs.AnyLemmas.{taken_any, rising_answers}
 
--- a list of one at most has itself and nothing as fronts
-short_front : (b : Bool) (p : VarBind) (xs ys : List VarBind) → cond b [] (p ∷ []) ≡ xs ++ ys → (xs ≡ []) ⊎ (xs ≡ cond b [] (p ∷ []))
-short_front b p [] ys e = inl refl
-short_front true p (x ∷ xs) ys e = let no : ⊥ = cc in absurd no
-short_front false p (x ∷ []) ys e = let same : x ≡ p = cc in inr (ap (λ (q : VarBind). q ∷ []) same)
-short_front false p (x ∷ y ∷ xs) ys e = let no : ⊥ = cc in absurd no
-
-none_front : (xs ys : List VarBind) → [] ≡ xs ++ ys → xs ≡ []
-none_front [] ys e = refl
-none_front (x ∷ xs) ys e = let no : ⊥ = cc in absurd no
-
--- two ways to cut a list
-two_cuts : (xs ys front trail : List VarBind) → xs ++ ys ≡ front ++ trail
-    → ((rest : List VarBind) × (front ≡ xs ++ rest)) ⊎ ((more : List VarBind) × (xs ≡ front ++ more) × (trail ≡ more ++ ys))
-two_cuts [] ys front trail e = inl (front, refl)
-two_cuts (x ∷ xs) ys [] trail e = inr (x ∷ xs, refl, sym e)
-two_cuts (x ∷ xs) ys (f ∷ front) trail e =
-    let same : x ≡ f = cc in
-    let rest : xs ++ ys ≡ front ++ trail = cc in
-    longer same (two_cuts xs ys front trail rest)
-  where
-    longer : x ≡ f → ((rest : List VarBind) × (front ≡ xs ++ rest)) ⊎ ((more : List VarBind) × (xs ≡ front ++ more) × (trail ≡ more ++ ys))
-        → ((rest : List VarBind) × (f ∷ front ≡ (x ∷ xs) ++ rest)) ⊎ ((more : List VarBind) × (x ∷ xs ≡ (f ∷ front) ++ more) × (trail ≡ more ++ ys))
-    longer s (inl h) = inl (h.0, (let e1 = h.1 in cc))
-    longer s (inr h) = inr (h.0, (let e1 = h.1 in cc), h.2)
-
-trail_front : (Next : List ℕ → VarBind → Type 0) (root o : List ℕ) (xs ys : List VarBind) → IsTrail Next root o (xs ++ ys) → IsTrail Next root o xs
-trail_front Next root o [] ys h = tt
-trail_front Next root o (x ∷ xs) ys h = (h.0, h.1, trail_front Next root x.name xs ys h.2)
-
 module _ (Next Got : List ℕ → VarBind → Type 0) (first : Walker) where
-  opening_front : (m : Mode) (xs rest front : List VarBind) → IsOpening Got m first.asked front → front ≡ xs ++ rest → (xs ≡ []) ⊎ (xs ≡ front)
-  opening_front mode.Plain xs rest front h e = inl (none_front xs rest (sym h ∙ e))
-  opening_front mode.NoLast xs rest front h e = inl (none_front xs rest (sym h ∙ e))
-  opening_front mode.Include xs rest front h e =
-      let P : List VarBind → Type 0 = λ f. (xs ≡ []) ⊎ (xs ≡ f) in
-      subst P (sym h.2) (short_front (is_missing h.0.value) h.0 xs rest (sym h.2 ∙ e))
-
-  -- a front of what was given is a beginning too
-  given_front : (xs ys : List VarBind) (o : List ℕ) (g : IsGiven Next Got first (xs ++ ys) o)
-      → ((rest : List VarBind) × (g.front ≡ xs ++ rest)) ⊎ ((more : List VarBind) × (xs ≡ g.front ++ more) × (g.trail ≡ more ++ ys))
-      → IsPartOfWalk Next Got first xs
-  given_front xs ys o g (inl h) = by_opening (opening_front first.mode xs h.0 g.front g.opening h.1)
-    where
-      by_opening : (xs ≡ []) ⊎ (xs ≡ g.front) → IsPartOfWalk Next Got first xs
-      by_opening (inl none) = inl none
-      by_opening (inr whole) = inr (inl (
-        first.asked,
-        record {
-          front = g.front;
-          trail = [];
-          parts = whole
-              ∙ sym (append-nil g.front);
-          opening = g.opening;
-          is_trail = tt;
-          last = refl;
-        },
-      ))
-  given_front xs ys o g (inr h) =
-      inr (inl (
-        last_name first.asked h.0,
-        record {
-          front = g.front;
-          trail = h.0;
-          parts = h.1;
-          opening = g.opening;
-          is_trail = trail_front Next first.root first.asked h.0 ys (subst (IsTrail Next first.root first.asked) h.2 g.is_trail);
-          last = refl;
-        },
-      ))
-
-  alone_front : (xs ys : List VarBind) → IsAlone Next Got first (xs ++ ys) → IsPartOfWalk Next Got first xs
-  alone_front [] ys h = inl refl
-  alone_front (x ∷ []) ys h =
-      let e = h.only in
-      let same : x ≡ h.answer = cc in
-      inr (inr record { plain = h.plain; none = h.none; answer = h.answer; is_answer = h.is_answer; only = ap (λ (q : VarBind). q ∷ []) same })
-  alone_front (x ∷ y ∷ xs) ys h = let e = h.only in let no : ⊥ = cc in absurd no
-
-  pub part_front : (xs ys : List VarBind) → IsPartOfWalk Next Got first (xs ++ ys) → IsPartOfWalk Next Got first xs
-  part_front xs ys (inl none) = inl (none_front xs ys (sym none))
-  part_front xs ys (inr (inl h)) = given_front xs ys h.0 h.1 (two_cuts xs ys h.1.front h.1.trail h.1.parts)
-  part_front xs ys (inr (inr h)) = alone_front xs ys h
-
   -- before the first request
   fresh_stage : (m : Mode) → first.mode ≡ m → IsStage Next Got first [] first.asked (first_phase m)
   fresh_stage mode.Plain e = record {
@@ -183,16 +124,16 @@ module _ (Next Got : List ℕ → VarBind → Type 0) (first : Walker) where
     last = refl;
   }
 
-  fresh_pace : (m : Mode) → first.mode ≡ m → IsPaced Got first [] first.id (first_phase m)
-  fresh_pace mode.Plain e = ([], [], refl, subst (λ (n : Mode). IsOpening Got n first.asked []) (sym e) refl, omega arith)
+  fresh_pace : (m : Mode) → first.mode ≡ m → IsPaced Next Got first [] first.id (first_phase m)
+  fresh_pace mode.Plain e = ([], [], refl, subst (λ (n : Mode). IsOpening Got n first.asked []) (sym e) refl, omega arith, tt)
   fresh_pace mode.Include e = refl
-  fresh_pace mode.NoLast e = ([], [], refl, subst (λ (n : Mode). IsOpening Got n first.asked []) (sym e) refl, omega arith)
+  fresh_pace mode.NoLast e = ([], [], refl, subst (λ (n : Mode). IsOpening Got n first.asked []) (sym e) refl, omega arith, tt)
 
   pub fresh_stands : IsFresh first → Reaches Next Got first first []
   fresh_stands h = record {
     same = refl;
     count = h.count;
-    paced = subst (IsPaced Got first [] first.id) (sym h.phase) (fresh_pace first.mode refl);
+    paced = subst (IsPaced Next Got first [] first.id) (sym h.phase) (fresh_pace first.mode refl);
     stage = subst (IsStage Next Got first [] first.asked) (sym h.phase) (fresh_stage first.mode refl);
   }
 
@@ -236,8 +177,8 @@ lawful_reply agents Silent first w given more ending.NoResponse own none h e = a
 lawful_reply agents Silent first w given more ending.Link own none h e = absurd own
 lawful_reply agents Silent first w given more (ending.Sink fault) own none h e = absurd own
 
-abbrev AllSmall : VarBind → Type 0
-AllSmall p = Unit {0}
+abbrev AllSmall : ℕ → VarBind → Type 0
+AllSmall id p = Unit {0}
 
 keeps_part : (first w v : Walker) (given : List VarBind) (st : Step) → Reaches Rises Named first w given → AdvancesAnyhow first w given st v
     → IsPartOfWalk Rises Named first (given ++ rows_in st)
@@ -259,7 +200,7 @@ pub record RunFacts (agents : Agents) (Silent : Walker → Type 0) (first : Walk
   pub part : IsPartOfWalk (IsNextFrom agents) (IsGotFrom agents) first (rows ++ refused)
   pub lawful : IsLawfulEnd agents Silent first rows end
 
-module _ {S : Type 0} (takes : S → VarBind → Result (Unit {0}) SinkFault → S → Type 0) (agents : Agents) (Silent : Walker
+module _ {S : Type 0} (takes : S → VarBind → Result (Unit {0}) SinkFault → S → Type 0) (Comes : List ℕ → Type 0) (agents : Agents) (Silent : Walker
     → Type 0) (honest : Type 0) (first w : Walker) (before s t : S)
     (given : List VarBind) (sunk : Given takes before given s) (stands : Reaches Rises Named first w given) where
   -- the walk after one more turn
@@ -271,7 +212,7 @@ module _ {S : Type 0} (takes : S → VarBind → Result (Unit {0}) SinkFault →
     pub honestly : honest → AreLawfulReplies (IsNextFrom agents) (IsGotFrom agents) → Reaches (IsNextFrom agents) (IsGotFrom agents) first w given
         → Reaches (IsNextFrom agents) (IsGotFrom agents) first new (given ++ rows)
 
-  pub turned : (rows : List VarBind) (new : Walker) → Turns takes agents honest w s rows None new t → GoesOn rows new
+  pub turned : (rows : List VarBind) (new : Walker) → Turns takes Comes agents honest w s rows None new t → GoesOn rows new
   turned rows new (goes_on m from e f sink en) =
       let any = subst (λ (st : Step). AdvancesAnyhow first w given st (take_of w m).1) e (taken_any first w given m stands) in
       let here = subst (λ (v : Walker). AdvancesAnyhow first w given (step.Rows rows) v) (sym f) any in
@@ -282,10 +223,10 @@ module _ {S : Type 0} (takes : S → VarBind → Result (Unit {0}) SinkFault →
         stands_on = here.2;
         honestly = λ h laws k.
             let step_of = subst (λ (st : Step). Advances (IsNextFrom agents) (IsGotFrom agents) (IsTooLarge agents) first w given st (take_of w m).1) e
-            (taken (IsNextFrom agents) (IsGotFrom agents) (IsTooLarge agents) laws first given w m k (from h)) in
+            (taken (IsNextFrom agents) (IsGotFrom agents) (IsTooLarge agents) laws first given w m k (from h).0) in
             subst (λ (v : Walker). Reaches (IsNextFrom agents) (IsGotFrom agents) first v (given ++ rows)) (sym f) step_of;
       }
-  turned rows new (ends m why from e sink en) = let no : ⊥ = cc in absurd no
+  turned rows new (ends m datagram why from comes spelt e sink en) = let no : ⊥ = cc in absurd no
   turned rows new (is_refused m fault p left between from e sink refused en) = let no : ⊥ = cc in absurd no
   turned rows new (is_silent r a en) = let no : ⊥ = cc in absurd no
   turned rows new (fails r a en) = let no : ⊥ = cc in absurd no
@@ -295,20 +236,34 @@ module _ {S : Type 0} (takes : S → VarBind → Result (Unit {0}) SinkFault →
     pub refused : List VarBind
     pub sink : Took takes before (given ++ rows) refused end t
     pub part : IsPartOfWalk Rises Named first ((given ++ rows) ++ refused)
+    pub ending : EndFacts Comes first (given ++ rows) refused end
     pub facts : honest → AreLawfulReplies (IsNextFrom agents) (IsGotFrom agents) → Reaches (IsNextFrom agents) (IsGotFrom agents) first w given
         → RunFacts agents Silent first (given ++ rows) refused end
 
-  over_reply : (rows : List VarBind) (m : Message) (why : WalkEnd) → IsFrom agents honest w m → (take_of w m).0 ≡ step.Last rows why → Given takes s rows t
+  over_reply : (rows : List VarBind) (m : Message) (datagram : List ℕ) (why : WalkEnd) → IsFrom agents honest w m → Comes datagram → Spells m datagram
+      → (take_of w m).0 ≡ step.Last rows why → Given takes s rows t
       → IsOver rows why
-  over_reply rows m why from e sink =
+  over_reply rows m datagram why from comes spelt e sink =
       let any = subst (λ (st : Step). AdvancesAnyhow first w given st (take_of w m).1) e (taken_any first w given m stands) in
       record {
         refused = [];
         sink = took_reply takes before t (given ++ rows) why any.0 (given-append S takes given rows before s t sunk sink);
         part = subst (IsPartOfWalk Rises Named first) (sym (append-nil (given ++ rows))) any.1;
+        ending = end_facts Comes first (given ++ rows) [] why (subst (IsPartOfWalk Rises Named first) (sym (append-nil (given ++ rows))) any.1) any.2
+            (read_end Comes first (given ++ rows) why any.0 (record {
+              w = w;
+              given = given;
+              more = rows;
+              parts = refl;
+              waits = stands;
+              datagram = datagram;
+              comes = comes;
+              over = (take_of w m).1;
+              taken = inl (m, spelt, sym e, refl);
+            }));
         facts = λ h laws k.
             let step_of = subst (λ (st : Step). Advances (IsNextFrom agents) (IsGotFrom agents) (IsTooLarge agents) first w given st (take_of w m).1) e
-            (taken (IsNextFrom agents) (IsGotFrom agents) (IsTooLarge agents) laws first given w m k (from h)) in
+            (taken (IsNextFrom agents) (IsGotFrom agents) (IsTooLarge agents) laws first given w m k (from h).0) in
             record {
               part = subst (IsPartOfWalk (IsNextFrom agents) (IsGotFrom agents) first) (sym (append-nil
                   (given ++ rows))) step_of.0;
@@ -329,18 +284,23 @@ module _ {S : Type 0} (takes : S → VarBind → Result (Unit {0}) SinkFault →
         refused = p ∷ [];
         sink = (between, given-append S takes given rows before s between sunk sink, (p, refl, refused));
         part = part_front Rises Named first ((given ++ rows) ++ p ∷ []) left any;
+        ending = end_facts Comes first (given ++ rows) (p ∷ []) (ending.Sink fault) (part_front Rises Named first ((given ++ rows) ++ p ∷ []) left any) tt tt;
         facts = λ h laws k.
             let whole = subst (IsPartOfWalk (IsNextFrom agents) (IsGotFrom agents) first) cut (advances_part agents laws first w (take_of w m).1 given
             (take_of w m).0
-            (taken (IsNextFrom agents) (IsGotFrom agents) (IsTooLarge agents) laws first given w m k (from h))) in
+            (taken (IsNextFrom agents) (IsGotFrom agents) (IsTooLarge agents) laws first given w m k (from h).0)) in
             record { part = part_front (IsNextFrom agents) (IsGotFrom agents) first ((given ++ rows) ++ p ∷ []) left whole; lawful = tt };
       }
 
-  over_none : (why : WalkEnd) → Took takes before given [] why t → (honest → AreLawfulReplies (IsNextFrom agents) (IsGotFrom agents)
+  over_none : (why : WalkEnd) → CountsAll why given → IsEndOfRun Comes first given why → Took takes before given [] why t → (honest
+      → AreLawfulReplies (IsNextFrom agents) (IsGotFrom agents)
       → Reaches (IsNextFrom agents) (IsGotFrom agents) first w given → IsLawfulEnd agents Silent first given why)
       → IsOver [] why
-  over_none why sink lawful = record {
+  over_none why counts reason sink lawful = record {
     refused = [];
+    ending = subst (λ (r : List VarBind). EndFacts Comes first r [] why) (sym (append-nil given))
+        (end_facts Comes first given [] why (subst (IsPartOfWalk Rises Named first) (sym (append-nil given))
+        (part_of_stage Rises Named AllSmall rising_answers first given w.asked w.phase stands.stage)) counts reason);
     sink = subst (λ (r : List VarBind). Took takes before r [] why t) (sym (append-nil given)) sink;
     part = subst (λ (r : List VarBind). IsPartOfWalk Rises Named first (r ++ [])) (sym (append-nil given))
         (subst (IsPartOfWalk Rises Named first) (sym (append-nil given))
@@ -353,18 +313,18 @@ module _ {S : Type 0} (takes : S → VarBind → Result (Unit {0}) SinkFault →
   }
 
   pub over : IsWalker w → (rows : List VarBind) (new : Walker) (end : WalkEnd) → (end ≡ ending.NoResponse → honest → Silent w)
-      → Turns takes agents honest w s rows (Some end) new t → IsOver rows end
+      → Turns takes Comes agents honest w s rows (Some end) new t → IsOver rows end
   over good rows new end quiet (goes_on m from e f sink en) = let no : ⊥ = cc in absurd no
-  over good rows new end quiet (ends m why from e sink en) =
+  over good rows new end quiet (ends m datagram why from comes spelt e sink en) =
       let same : why ≡ end = cc in
-      subst (IsOver rows) same (over_reply rows m why from e sink)
+      subst (IsOver rows) same (over_reply rows m datagram why from comes spelt e sink)
   over good rows new end quiet (is_refused m fault p left between from e sink refused en) =
       let same : ending.Sink fault ≡ end = cc in
       subst (IsOver rows) same (over_refused rows m fault p left between from e sink refused)
   over good rows new end quiet (is_silent r a en) =
       let same : ending.NoResponse ≡ end = cc in
       let sink : Given takes before given t = subst (Given takes before given) (sym a) sunk in
-      subst (λ (x : List VarBind). IsOver x end) (sym r) (subst (IsOver []) same (over_none ending.NoResponse (sink, refl) (λ h laws k. (
+      subst (λ (x : List VarBind). IsOver x end) (sym r) (subst (IsOver []) same (over_none ending.NoResponse tt tt (sink, refl) (λ h laws k. (
         w,
         good,
         k,
@@ -374,7 +334,29 @@ module _ {S : Type 0} (takes : S → VarBind → Result (Unit {0}) SinkFault →
   over good rows new end quiet (fails r a en) =
       let same : ending.Link ≡ end = cc in
       let sink : Given takes before given t = subst (Given takes before given) (sym a) sunk in
-      subst (λ (x : List VarBind). IsOver x end) (sym r) (subst (IsOver []) same (over_none ending.Link (sink, refl) (λ h laws k. tt)))
+      subst (λ (x : List VarBind). IsOver x end) (sym r) (subst (IsOver []) same (over_none ending.Link tt tt (sink, refl) (λ h laws k. tt)))
+
+-- one turn more, where there is room for all that is asked for
+fast_turn : {S : Type 0} (takes : S → VarBind → Result (Unit {0}) SinkFault → S → Type 0) (Comes : List ℕ
+    → Type 0) (agents : Agents) (honest : Type 0) (first w : Walker) (s t : S)
+    (given : List VarBind)
+    → AreLawfulReplies (IsNextFrom agents) (IsGotFrom agents) → (Roomy More : Type 0) → (More → Roomy)
+    → (More → w.phase ≡ phase.Rows → HasRoomForAll agents w) → Reaches (IsNextFrom agents) (IsGotFrom agents) first w given
+    → (rows : List VarBind) (v : Walker) → Reaches (IsNextFrom agents) (IsGotFrom agents) first v (given ++ rows) → v.id ≡ w.id + 1 → honest
+    → Turns takes Comes agents honest w s rows None v t → IsFast (IsNextFrom agents) (IsGotFrom agents) Roomy first given w.id w.phase
+    → IsFast (IsNextFrom agents) (IsGotFrom agents) More first (given ++ rows) v.id v.phase
+fast_turn takes Comes agents honest first w s t given laws Roomy More less room before rows v after next h (goes_on m from e f sink en) fast =
+    let r = from h in
+    fast_on agents laws first w v given rows Roomy More less room before after next m r.0 r.1 e f w.phase v.phase refl refl fast
+fast_turn takes Comes agents honest first w s t given laws Roomy More less room before rows v after next h
+    (ends m datagram why from comes spelt e sink en) fast =
+    let no : ⊥ = cc in absurd no
+fast_turn takes Comes agents honest first w s t given laws Roomy More less room before rows v after next h
+    (is_refused m fault p left between from e sink refused en) fast =
+    let no : ⊥ = cc in absurd no
+fast_turn takes Comes agents honest first w s t given laws Roomy More less room before rows v after next h
+    (is_silent r a en) fast = let no : ⊥ = cc in absurd no
+fast_turn takes Comes agents honest first w s t given laws Roomy More less room before rows v after next h (fails r a en) fast = let no : ⊥ = cc in absurd no
 
 -- ---- runs
 
@@ -389,6 +371,8 @@ pub record Runs {S : Type 0} (takes : S → VarBind → Result (Unit {0}) SinkFa
   pub earlier : keeps → old.sent ≡ [] → IsEarlier now.sent w
   pub sends : keeps → Sends tries first given old w.id now
   pub used : honest → old.sent ≡ [] → AreUsed old now
+  pub fast : (k : keeps) → honest → AreViews agents.tables → old.sent ≡ []
+      → IsFast (IsNextFrom agents) (IsGotFrom agents) (AreRoomy agents (sends k).requests) first given w.id w.phase
 
 pub runs_first : {S : Type 0} (takes : S → VarBind → Result (Unit {0}) SinkFault → S
     → Type 0) (agents : Agents) (keeps honest : Type 0) (tries : ℕ) (first : Walker) (before : S) (old : Traffic)
@@ -401,9 +385,11 @@ runs_first takes agents keeps honest tries first before old fresh = record {
   earlier = λ k none. earlier_first old.sent first none;
   sends = λ k. sends_first tries first old;
   used = λ h none. used_first old;
+  fast = λ k h views none. fast_first (IsNextFrom agents) (IsGotFrom agents) (AreRoomy agents []) first fresh;
 }
 
-module _ {S : Type 0} (takes : S → VarBind → Result (Unit {0}) SinkFault → S → Type 0) (agents : Agents) (keeps honest : Type 0) (keeping : honest
+module _ {S : Type 0} (takes : S → VarBind → Result (Unit {0}) SinkFault → S → Type 0) (Comes : List ℕ
+    → Type 0) (agents : Agents) (keeps honest : Type 0) (keeping : honest
     → keeps) (tries : ℕ) (first : Walker) (before : S) (old : Traffic)
     (w : Walker) (s : S) (now : Traffic) (r : Runs takes agents keeps honest tries first before old w s now) (good : IsWalker w) (here : Type 0)
     (here_honest : honest → here) where
@@ -417,10 +403,10 @@ module _ {S : Type 0} (takes : S → VarBind → Result (Unit {0}) SinkFault →
   waits = stands_waits Rises Named first w r.given r.stands
 
   pub runs_on : (rows : List VarBind) (v : Walker) (t : S) (later : Traffic) (silent : Type 0)
-      → Turns takes agents (here × IsEarlier now.sent w) w s rows None v t
+      → Turns takes Comes agents (here × IsEarlier now.sent w) w s rows None v t
       → (keeps → Exchanges agents (here × IsEarlier now.sent w) tries (canon (request_of w)) now silent later) → RunsOn v t later
   runs_on rows v t later silent turn x =
-      let gone = turned takes agents (HasNone agents) (here × IsEarlier now.sent w) first w before s t r.given r.sunk r.stands rows v turn in
+      let gone = turned takes Comes agents (HasNone agents) (here × IsEarlier now.sent w) first w before s t r.given r.sunk r.stands rows v turn in
       record {
         runs = record {
           given = r.given ++ rows;
@@ -428,8 +414,16 @@ module _ {S : Type 0} (takes : S → VarBind → Result (Unit {0}) SinkFault →
           stands = gone.stands_on;
           honestly = λ h views none. gone.honestly (here_honest h, r.earlier (keeping h) none) (views_answer agents views) (r.honestly h views none);
           earlier = λ k none. earlier_more w v now.sent later.sent (x k).times good waits (omega (arith, gone.id)) (x k).sent (r.earlier k none);
-          sends = λ k. subst (λ (n : ℕ). Sends tries first (r.given ++ rows) old n later) (sym gone.id)
+          sends = λ k. sends_at tries first (r.given ++ rows) old (w.id + 1) v.id later (sym gone.id)
               (sends_more agents (here × IsEarlier now.sent w) silent tries first w r.given rows old now later good r.stands (r.sends k) (x k));
+          fast = λ k h views none.
+              let last : Try = record { by = w; times = (x k).times } in
+              let before = r.honestly h views none in
+              let laws = views_answer agents views in
+              fast_turn takes Comes agents (here × IsEarlier now.sent w) first w s t r.given laws (AreRoomy agents (r.sends k).requests)
+              (AreRoomy agents ((r.sends k).requests ++ last ∷ [])) (λ all u one. all u (one_left (r.sends k).requests (last ∷ []) u one))
+              (λ all waits. all last (one_right (r.sends k).requests (last ∷ []) last (inl refl)) waits) before rows v
+              (gone.honestly (here_honest h, r.earlier k none) laws before) gone.id (here_honest h, r.earlier k none) turn (r.fast k h views none);
           used = λ h none. used_more agents (here
               × IsEarlier now.sent w) silent tries (canon (request_of w)) old now later (here_honest h, r.earlier (keeping h) none) (r.used h none) (x
               (keeping h));
@@ -464,14 +458,15 @@ module _ {S : Type 0} (takes : S → VarBind → Result (Unit {0}) SinkFault →
   IsQuiet later v = honest → old.sent ≡ [] → HasNoReply agents tries old later v
 
   -- the last turn
-  pub ran : (rows : List VarBind) (v : Walker) (t : S) (later : Traffic) (end : WalkEnd) → IsFresh first → 0 < tries → (honest → AreViews agents.tables)
-      → Turns takes agents (here × IsEarlier now.sent w) w s rows (Some end) v t
+  pub ran : Codec → (rows : List VarBind) (v : Walker) (t : S) (later : Traffic) (end : WalkEnd) → IsFresh first → 0 < tries → (honest → AreViews agents.tables)
+      → Turns takes Comes agents (here × IsEarlier now.sent w) w s rows (Some end) v t
       → (keeps → Exchanges agents (here × IsEarlier now.sent w) tries (canon (request_of w)) now (Some end ≡ Some ending.NoResponse) later)
       → (all : List VarBind) × (refused : List VarBind) × Took takes before all refused end t × IsPartOfWalk Rises Named first (all ++ refused)
       × (honest → old.sent ≡ [] → WalkFacts agents tries old first all refused end later)
-      × (keeps → SendFacts agents (honest × (old.sent ≡ [])) tries old first all later)
-  ran rows v t later end fresh some views turn x =
-      let done = over takes agents (IsQuiet later) (here × IsEarlier now.sent w) first w before s t r.given r.sunk r.stands good rows v end
+      × (keeps → SendFacts agents (honest × (old.sent ≡ [])) tries old first all end later)
+      × EndFacts Comes first all refused end
+  ran codec rows v t later end fresh some views turn x =
+      let done = over takes Comes agents (IsQuiet later) (here × IsEarlier now.sent w) first w before s t r.given r.sunk r.stands good rows v end
       (λ silent k. λ h none. no_reply (Some end ≡ Some ending.NoResponse) later (ap Some silent) h none (x (keeping h))) turn in (
         r.given ++ rows,
         done.refused,
@@ -479,9 +474,10 @@ module _ {S : Type 0} (takes : S → VarBind → Result (Unit {0}) SinkFault →
         done.part,
         λ h none.
             let shown = done.facts (here_honest h, r.earlier (keeping h) none) (views_answer agents (views h)) (r.honestly h (views h) none) in
-            facts agents tries old later first (r.given ++ rows) done.refused end some fresh (views h) shown.part
+            facts codec agents tries old later first (r.given ++ rows) done.refused end some fresh (views h) shown.part
             (lawful_by agents (IsQuiet later) (HasNoReply agents tries old later) first (r.given ++ rows) end (λ u f. f h none) shown.lawful),
-        λ k. send_facts agents (honest × (old.sent ≡ [])) tries old later first w (r.given ++ rows) r.given fresh good
+        λ k. send_facts codec agents (honest × (old.sent ≡ [])) (AreRoomy agents (r.sends k).requests) tries old later first w
+            (r.given ++ rows) r.given end fresh good
             (sends_more agents (here
             × IsEarlier now.sent w) (Some end ≡ Some ending.NoResponse) tries first w r.given rows old now later good r.stands (r.sends k) (x k))
             (λ h. (
@@ -490,5 +486,30 @@ module _ {S : Type 0} (takes : S → VarBind → Result (Unit {0}) SinkFault →
                   (r.used h.0 h.1) (x k),
               views h.0,
               r.honestly h.0 (views h.0) h.1,
-            )),
+              r.fast k h.0 (views h.0) h.1,
+            )) (λ all u one. all u (one_left (r.sends k).requests (record { by = w; times = (x k).times } ∷ []) u one))
+            (λ silent. let last : Try = record { by = w; times = (x k).times } in ((r.sends k).requests, last, refl, (x k).all (ap Some silent))),
+        done.ending,
       )
+
+-- a run over a link that is ready for all its requests has no fault of the link
+pub ready_facts : {S : Type 0} → Codec → (takes : S → VarBind → Result (Unit {0}) SinkFault → S → Type 0) (agents : Agents) (keeps honest : Type 0) (tries : ℕ)
+    (first : Walker) (before : S) (old : Traffic) (w : Walker) (s : S) (now : Traffic)
+    → Runs takes agents keeps honest tries first before old w s now → IsFresh first → (honest → AreViews agents.tables) → (Ready : ℕ → ℕ → Type 0)
+    (end : WalkEnd) → ((k : ℕ) → w.id ≤ first.id + k + 1 → IsReadyForAll Ready tries k → end ≢ ending.Link)
+    → ReadyFacts agents (honest × (old.sent ≡ [])) Ready tries first end
+ready_facts codec takes agents keeps honest tries first before old w s now r fresh views Ready end fine = record {
+  over_table = λ h view got one answer ready.
+      let good = views h.0 in
+      let f = r.honestly h.0 good h.1 in
+      let few = few_in (IsNextFrom agents) (IsGotFrom agents) first (length (rest_of first.root first.asked (variables view)))
+      (trail_in_rest agents first view got (one_table codec agents first view got good one answer) fresh.begins.0 fresh.begins.1) w r.given w.phase
+      f.stage f.paced in
+      fine (length (rest_of first.root first.asked (variables view))) (omega (arith, few, gets_one first.mode)) ready;
+  over_tables = λ h names all ready.
+      let good = views h.0 in
+      let f = r.honestly h.0 good h.1 in
+      let few = few_in (IsNextFrom agents) (IsGotFrom agents) first (length names)
+      (few_rows codec agents good first fresh.begins.0 fresh.begins.1 names all) w r.given w.phase f.stage f.paced in
+      fine (length names) (omega (arith, few, gets_one first.mode)) ready;
+}

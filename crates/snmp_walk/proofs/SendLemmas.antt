@@ -48,12 +48,12 @@ use Rattle.snmp_walk.proofs.HearLemmas.{one_append, one_same}
 
 -- ---- names
 
-named_more : (rows more : List VarBind) (name : List ℕ) → IsNameIn rows name → IsNameIn (rows ++ more) name
+pub named_more : (rows more : List VarBind) (name : List ℕ) → IsNameIn rows name → IsNameIn (rows ++ more) name
 named_more [] more name h = absurd h
 named_more (p ∷ rows) more name (inl e) = inl e
 named_more (p ∷ rows) more name (inr h) = inr (named_more rows more name h)
 
-named_after : (front rows : List VarBind) (name : List ℕ) → IsNameIn rows name → IsNameIn (front ++ rows) name
+pub named_after : (front rows : List VarBind) (name : List ℕ) → IsNameIn rows name → IsNameIn (front ++ rows) name
 named_after [] rows name h = h
 named_after (p ∷ front) rows name h = inr (named_after front rows name h)
 
@@ -87,12 +87,21 @@ asks_stage first given phase.Rows name h = by_last (last_named first.asked h.tra
         (named_after h.front h.trail name (subst (IsNameIn h.trail) (sym h.last) n)))
 
 -- what the waiting walk asks
-asks_now : (first w : Walker) (given rows : List VarBind) → Reaches Rises Named first w given → Asks first (given ++ rows) w
+pub asks_now : (first w : Walker) (given rows : List VarBind) → Reaches Rises Named first w given → Asks first (given ++ rows) w
 asks_now first w given rows h = record { same = h.same; name = asks_more first given rows w.phase w.asked (asks_stage first given w.phase w.asked h.stage) }
 
 -- ---- requests
 
-tries_more : (tries : ℕ) (first : Walker) (rows more : List VarBind) (id : ℕ) (requests : List Try) → AreTries tries first rows id requests
+pub one_left : {X : Type 0} (xs ys : List X) (x : X) → OneOf xs x → OneOf (xs ++ ys) x
+one_left [] ys x one = absurd one
+one_left (y ∷ xs) ys x (inl e) = inl e
+one_left (y ∷ xs) ys x (inr one) = inr (one_left xs ys x one)
+
+pub one_right : {X : Type 0} (xs ys : List X) (x : X) → OneOf ys x → OneOf (xs ++ ys) x
+one_right [] ys x one = one
+one_right (y ∷ xs) ys x one = inr (one_right xs ys x one)
+
+pub tries_more : (tries : ℕ) (first : Walker) (rows more : List VarBind) (id : ℕ) (requests : List Try) → AreTries tries first rows id requests
     → AreTries tries first (rows ++ more) id requests
 tries_more tries first rows more id [] h = tt
 tries_more tries first rows more id (t ∷ requests) h = (
@@ -104,13 +113,13 @@ tries_more tries first rows more id (t ∷ requests) h = (
       (id + 1) requests h.4,
 )
 
-tries_push : (tries : ℕ) (first : Walker) (rows : List VarBind) (id : ℕ) (requests : List Try) (t : Try) → AreTries tries first rows id requests
+pub tries_push : (tries : ℕ) (first : Walker) (rows : List VarBind) (id : ℕ) (requests : List Try) (t : Try) → AreTries tries first rows id requests
     → t.by.id ≡ id + length requests → t.by.id < 2 ^ 31 → t.times ≤ tries → Asks first rows t.by → AreTries tries first rows id (requests ++ t ∷ [])
 tries_push tries first rows id [] t h e low few asks = let same : t.by.id ≡ id = omega (arith, e) in (same, omega (arith, low, same), few, asks, tt)
 tries_push tries first rows id (u ∷ requests) t h e low few asks =
     (h.0, h.1, h.2, h.3, tries_push tries first rows (id + 1) requests t h.4 (omega (arith, e)) low few asks)
 
-sent_push : (requests : List Try) (t : Try) → sent_by (requests ++ t ∷ []) ≡ sent_by requests ++ replicate t.times (canon (request_of t.by))
+pub sent_push : (requests : List Try) (t : Try) → sent_by (requests ++ t ∷ []) ≡ sent_by requests ++ replicate t.times (canon (request_of t.by))
 sent_push [] t = append-nil (replicate t.times (canon (request_of t.by)))
 sent_push (u ∷ requests) t =
     ap (λ (s : List (List ℕ)). replicate u.times (canon (request_of u.by)) ++ s) (sent_push requests t)
@@ -123,11 +132,17 @@ pub record Sends (tries : ℕ) (first : Walker) (given : List VarBind) (old : Tr
   pub are_tries : AreTries tries first given first.id requests
   pub ids : next ≡ first.id + length requests
 
-pub sends_first : (tries : ℕ) (first : Walker) (old : Traffic) → Sends tries first [] old first.id old
+abbrev pub sends_first : (tries : ℕ) (first : Walker) (old : Traffic) → Sends tries first [] old first.id old
 sends_first tries first old = record { requests = []; sent = sym (append-nil old.sent); are_tries = tt; ids = omega arith }
 
 -- and with it
-pub sends_more : (agents : Agents) (honest silent : Type 0) (tries : ℕ) (first w : Walker) (given rows : List VarBind) (old now later : Traffic) → IsWalker w
+-- the same, by the next id
+abbrev pub sends_at : (tries : ℕ) (first : Walker) (given : List VarBind) (old : Traffic) (next other : ℕ) (now : Traffic) → next ≡ other
+    → Sends tries first given old next now → Sends tries first given old other now
+sends_at tries first given old next other now e h = record { requests = h.requests; sent = h.sent; are_tries = h.are_tries; ids = sym e ∙ h.ids }
+
+abbrev pub sends_more : (agents : Agents) (honest silent : Type 0) (tries : ℕ) (first w : Walker) (given rows : List VarBind) (old now later : Traffic)
+    → IsWalker w
     → Reaches Rises Named first w given → Sends tries first given old w.id now → Exchanges agents honest tries (canon (request_of w)) now silent later
     → Sends tries first (given ++ rows) old (w.id + 1) later
 sends_more agents honest silent tries first w given rows old now later good stands h x =

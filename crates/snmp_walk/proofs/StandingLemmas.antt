@@ -84,7 +84,7 @@ use Rattle.snmp_walk.specs.Standing.{
 }
 use Rattle.snmp_walk.proofs.TrailLemmas.{last_name-append, trail-append, IsFront, chain_front, chain_has_values}
 
-module _ (Next Got : List ℕ → VarBind → Type 0) (Large : VarBind → Type 0) (laws : AreLawfulReplies Next Got) (first : Walker) where
+module _ (Next Got : List ℕ → VarBind → Type 0) (Large : ℕ → VarBind → Type 0) (laws : AreLawfulReplies Next Got) (first : Walker) where
   -- a step as a pair
   abbrev pub Goes : Walker → List VarBind → Step × Walker → Type 0
   Goes old given s = Advances Next Got Large first old given s.0 s.1
@@ -95,10 +95,22 @@ module _ (Next Got : List ℕ → VarBind → Type 0) (Large : VarBind → Type 
   part_of_stage given o phase.Last h = inl h.0
   part_of_stage given o phase.Over h = absurd h
 
+  present_last : (o : List ℕ) (p : VarBind) (b : Bool) (trail : List VarBind) → p.name ≡ o → last_name o (cond b [] (p ∷ []) ++ trail) ≡ last_name o trail
+  present_last o p true trail e = refl
+  present_last o p false trail e = ap (λ (n : List ℕ). last_name n trail) e
+
+  -- what a walk gives before the instances has the name that it begins from
+  pub opening_last : (m : Mode) (o : List ℕ) (front trail : List VarBind) → IsOpening Got m o front → last_name o (front ++ trail) ≡ last_name o trail
+  opening_last mode.Plain o front trail h = ap (λ (f : List VarBind). last_name o (f ++ trail)) h
+  opening_last mode.Include o front trail h =
+      ap (λ (f : List VarBind). last_name o (f ++ trail)) h.2
+      ∙ present_last o h.0 (is_missing h.0.value) trail (laws.same_name o h.0 h.1)
+  opening_last mode.NoLast o front trail h = ap (λ (f : List VarBind). last_name o (f ++ trail)) h
+
   -- the walk goes on, or has no id left
   pub goes : (given more : List VarBind) (w : Walker) (next : Phase) (s : Bool) → s ≡ nat_lt w.id 2147483647
       → Reaches Next Got first w given → IsStage Next Got first (given ++ more) (last_name w.asked more) next
-      → IsPaced Got first (given ++ more) (w.id + 1) next
+      → IsPaced Next Got first (given ++ more) (w.id + 1) next
       → Goes w given (cond s (step.Rows more, record w { phase = next; asked = last_name w.asked more; id = w.id + 1; count = w.count + length more })
       (stops w more ending.TooManyRequests))
   goes given more w next true e h stage pace = record {
@@ -143,17 +155,31 @@ module _ (Next Got : List ℕ → VarBind → Type 0) (Large : VarBind → Type 
   plain_pace : (given : List VarBind) (w : Walker) → w.phase ≡ phase.Rows → Reaches Next Got first w given → given ≡ [] → first.mode ≡ mode.Plain
       → w.id ≤ first.id
   plain_pace given w waits h none plain =
-      let p = subst (IsPaced Got first given w.id) waits h.paced in
+      let p = subst (IsPaced Next Got first given w.id) waits h.paced in
       let empty : p.1 ≡ [] = (append_none p.0 p.1 (sym p.2 ∙ none)).1 in
       let gets : opening_gets first.mode ≡ 0 = ap opening_gets plain in
       omega (arith, p.4, gets, ap length empty)
 
   -- a reply with a row at least takes the walk to the next id
-  pub more_pace : (given rows : List VarBind) (w : Walker) → w.phase ≡ phase.Rows → Reaches Next Got first w given → 1 ≤ length rows
-      → IsPaced Got first (given ++ rows) (w.id + 1) phase.Rows
-  more_pace given rows w waits h some =
-      let p = subst (IsPaced Got first given w.id) waits h.paced in
-      (p.0, p.1 ++ rows, ap (λ (s : List VarBind). s ++ rows) p.2 ∙ append_assoc p.0 p.1 rows, p.3, omega (arith, p.4, some, length-append p.1 rows))
+  -- the name asked from is the last of those given below the root
+  pub asked_last : (given : List VarBind) (o : List ℕ) (front trail : List VarBind) → IsGiven Next Got first given o → given ≡ front ++ trail
+      → IsOpening Got first.mode first.asked front → o ≡ last_name first.asked trail
+  asked_last given o front trail g parts opening =
+      g.last ∙ sym (opening_last first.mode first.asked g.front g.trail g.opening) ∙ ap (last_name first.asked) (sym g.parts ∙ parts)
+      ∙ opening_last first.mode first.asked front trail opening
+
+  pub more_pace : (given rows : List VarBind) (w : Walker) → w.phase ≡ phase.Rows → Reaches Next Got first w given → IsGiven Next Got first given w.asked
+      → IsTrail Next first.root w.asked rows → 1 ≤ length rows → IsPaced Next Got first (given ++ rows) (w.id + 1) phase.Rows
+  more_pace given rows w waits h g trail some =
+      let p = subst (IsPaced Next Got first given w.id) waits h.paced in
+      let last : w.asked ≡ last_name first.asked p.1 = asked_last given w.asked p.0 p.1 g p.2 p.3 in (
+        p.0,
+        p.1 ++ rows,
+        ap (λ (s : List VarBind). s ++ rows) p.2 ∙ append_assoc p.0 p.1 rows,
+        p.3,
+        omega (arith, p.4, some, length-append p.1 rows),
+        trail-append Next first.root first.asked p.1 rows p.5 (subst (λ (n : List ℕ). IsTrail Next first.root n rows) last trail),
+      )
 
   -- nothing more stands below the root
   pub closed : (given more : List VarBind) (w : Walker) (o : List ℕ) (b : Bool) → b ≡ (is_plain w.mode && (w.count + length more == 0)) → w.phase ≡ phase.Rows
@@ -205,7 +231,8 @@ module _ (Next Got : List ℕ → VarBind → Type 0) (Large : VarBind → Type 
   reads_chain given bindings inside rows w false e waits some h before front =
       let trail = subst (IsTrail Next first.root w.asked) (sym front.rising) front.is_trail in
       let all : length bindings ≤ length rows = ltb-false (length rows) (length bindings) (sym e) in
-      goes given rows w phase.Rows _ refl h (given_more given rows w.asked before trail) (more_pace given rows w waits h (omega (arith, some, all)))
+      goes given rows w phase.Rows _ refl h (given_more given rows w.asked before trail) (more_pace given rows w waits h before trail (omega
+      (arith, some, all)))
 
   reads_front : (given bindings inside rows : List VarBind) (w : Walker) → w.phase ≡ phase.Rows → 1 ≤ length bindings
       → Reaches Next Got first w given → IsGiven Next Got first given w.asked → IsFront Next first.root w.asked bindings inside rows
@@ -218,7 +245,7 @@ module _ (Next Got : List ℕ → VarBind → Type 0) (Large : VarBind → Type 
 
   -- a reply with the next instances
   reads_instances : (given bindings : List VarBind) (w : Walker) → w.phase ≡ phase.Rows → Reaches Next Got first w given → IsGiven Next Got first given w.asked
-      → IsChain Next w.asked bindings → length bindings ≤ asked_for w.method → (bindings ≡ [] → IsLarge Next Large w.asked)
+      → IsChain Next w.asked bindings → length bindings ≤ asked_for w.method → (bindings ≡ [] → IsLarge Next (Large w.id) w.asked)
       → Goes w given (reads_next w bindings)
   reads_instances given [] w waits h before chain few large =
       (inr (inl (w.asked, subst (λ (s : List VarBind). IsGiven Next Got first s w.asked) (sym (append-nil given)) before)), (waits, refl, large refl))
@@ -253,11 +280,11 @@ module _ (Next Got : List ℕ → VarBind → Type 0) (Large : VarBind → Type 
       let name : last_name w.asked (if_present p) ≡ w.asked = present_name w.asked p (is_missing p.value) (laws.same_name w.asked p answer) in
       let parts : given ++ if_present p ≡ if_present p ++ [] = ap (λ (s : List VarBind). s ++ if_present p) stage.0 ∙ sym (append-nil (if_present p)) in
       let opening = include_opening first.mode first.asked p stage.2 at in
-      let pace : w.id ≡ first.id = subst (IsPaced Got first given w.id) waits h.paced in
+      let pace : w.id ≡ first.id = subst (IsPaced Next Got first given w.id) waits h.paced in
       let gets : opening_gets first.mode ≡ 1 = ap opening_gets stage.2 in
       goes given (if_present p) w phase.Rows _ refl h
       (record { front = if_present p; trail = []; parts = parts; opening = opening; is_trail = tt; last = name ∙ stage.1 })
-      (if_present p, [], parts, opening, omega (arith, pace, gets))
+      (if_present p, [], parts, opening, omega (arith, pace, gets), tt)
 
   -- the reply to the Get with which a walk ends that gave nothing
   pub reads_alone : (given : List VarBind) (w : Walker) (p : VarBind) → Reaches Next Got first w given → IsStage Next Got first given w.asked phase.Last
@@ -275,12 +302,13 @@ module _ (Next Got : List ℕ → VarBind → Type 0) (Large : VarBind → Type 
   -- tooBig
   refused : (given : List VarBind) (w : Walker) (m : Message) (p : Phase) → w.phase ≡ p → Reaches Next Got first w given
       → IsStage Next Got first given w.asked p
-      → m.a ≡ pos 1 → m.b ≡ pos 0 → IsReplyTooLarge Next Got Large p w.asked → (answered : Step × Walker)
+      → m.a ≡ pos 1 → m.b ≡ pos 0 → IsReplyTooLarge Next Got (Large w.id) p w.asked → (answered : Step × Walker)
       → Goes w given (cond (int_eq m.a (pos 0)) answered (stops w [] (ending.Fault m.a m.b)))
   refused given w m p waits h stage status index large answered =
       let no_zero : int_eq m.a (pos 0) ≡ false = ap (λ (n : ℤ). int_eq n (pos 0)) status in
       let part = subst (IsPartOfWalk Next Got first) (sym (append-nil given)) (part_of_stage given w.asked p stage) in
-      let why : IsReplyTooLarge Next Got Large w.phase w.asked = subst (λ (q : Phase). IsReplyTooLarge Next Got Large q w.asked) (sym waits) large in
+      let why : IsReplyTooLarge Next Got (Large w.id) w.phase w.asked = subst (λ (q : Phase). IsReplyTooLarge Next Got (Large w.id) q w.asked)
+      (sym waits) large in
       rw no_zero (part, (status, index, why))
 
   fine : (given : List VarBind) (w : Walker) (m : Message) (answered stopped : Step × Walker) → m.a ≡ pos 0 → Goes w given answered

@@ -27,11 +27,11 @@ pub filter-commute : (p q : VarBind → Bool) (xs : List VarBind) → filter p (
 filter-commute p q [] = refl
 filter-commute p q (x ∷ xs) = filter_both p q x (filter q xs) (filter p xs) (p x) (q x) refl refl (filter-commute p q xs)
 
-all_after : (o : List ℕ) (rows : List VarBind) → AreAfter o rows → rows_after o rows ≡ rows
+pub all_after : (o : List ℕ) (rows : List VarBind) → AreAfter o rows → rows_after o rows ≡ rows
 all_after o [] h = refl
 all_after o (r ∷ rows) h = rw h.0 (ap (λ (s : List VarBind). r ∷ s) (all_after o rows h.1))
 
-after_more : (o : List ℕ) (r : VarBind) (rows : List VarBind) → comes_after o r.name ≡ true → AreAfter r.name rows → AreAfter o rows
+pub after_more : (o : List ℕ) (r : VarBind) (rows : List VarBind) → comes_after o r.name ≡ true → AreAfter r.name rows → AreAfter o rows
 after_more o r [] e h = tt
 after_more o r (q ∷ rows) e h = (after-trans o r.name q.name e h.0, after_more o r rows e h.1)
 

@@ -30,6 +30,7 @@ use Rattle.snmp_walk.specs.Standing.{IsReplyEnd}
 use Rattle.snmp_walk.specs.Link.{Agents}
 use Rattle.snmp_walk.specs.declared.end.SinkFault.{SinkFault}
 use Rattle.snmp_walk.specs.Sink.{Given}
+use Rattle.snmp_wire.specs.Spelling.{Spells}
 use Rattle.snmp_walk.specs.Run.{IsHeard, IsFrom, Turns, goes_on as turn_on, ends, is_refused, rows_in}
 
 -- no stray, and an end that replies lead to
@@ -76,60 +77,70 @@ news_by w m true e waits = reply_news w m waits
 news_by w m false e waits = absurd (false≢true e)
 
 -- a message was taken
-pub record IsTaken (agents : Agents) (honest : Type 0) (w : Walker) (given : Step) (new : Walker) : Type 0 where
+pub record IsTaken (Comes : List ℕ → Type 0) (agents : Agents) (honest : Type 0) (w : Walker) (given : Step) (new : Walker) : Type 0 where
   pub message : Message
+  pub datagram : List ℕ
+  pub comes : Comes datagram
+  pub spelt : Spells message datagram
   pub from : IsFrom agents honest w message
   pub given_is : given ≡ (take_of w message).0
   pub new_is : new ≡ (take_of w message).1
   pub news : HasNews given
 
-taken_message : (agents : Agents) (honest : Type 0) (w : Walker) (m : Message) (given : Step) (new : Walker) → is_over w.phase ≡ false
-    → is_awaited w m ≡ true → IsFrom agents honest w m
-    → given ≡ (take_of w m).0 → new ≡ (take_of w m).1 → IsTaken agents honest w given new
-taken_message agents honest w m given new waits awaited from e f = record {
+taken_message : (Comes : List ℕ → Type 0) (agents : Agents) (honest : Type 0) (w : Walker) (m : Message) (datagram : List ℕ) (given : Step)
+    (new : Walker) → is_over w.phase ≡ false
+    → Comes datagram → Spells m datagram → is_awaited w m ≡ true → IsFrom agents honest w m
+    → given ≡ (take_of w m).0 → new ≡ (take_of w m).1 → IsTaken Comes agents honest w given new
+taken_message Comes agents honest w m datagram given new waits comes spelt awaited from e f = record {
   message = m;
+  datagram = datagram;
+  comes = comes;
+  spelt = spelt;
   from = from;
   given_is = e;
   new_is = f;
   news = subst HasNews (sym e) (news_by w m (is_awaited w m) awaited waits);
 }
 
-pub is_taken : (agents : Agents) (honest : Type 0) (w : Walker) (datagram : List ℕ) (given : Step) (new : Walker) → is_over w.phase ≡ false
-    → IsHeard agents honest w datagram → Takes w datagram given new → IsTaken agents honest w given new
-is_taken agents honest w datagram given new waits h (inl t) =
+pub is_taken : (Comes : List ℕ → Type 0) (agents : Agents) (honest : Type 0) (w : Walker) (datagram : List ℕ) (given : Step) (new : Walker)
+    → is_over w.phase ≡ false
+    → Comes datagram → IsHeard agents honest w datagram → Takes w datagram given new → IsTaken Comes agents honest w given new
+is_taken Comes agents honest w datagram given new waits comes h (inl t) =
     let same : h.message ≡ t.0 = sym (h.only t.0 t.1) in
-    taken_message agents honest w t.0 given new waits (subst (λ (m : Message). is_awaited w m ≡ true) same h.awaited)
-    (subst (IsFrom agents honest w) same h.reply) t.2 t.3
-is_taken agents honest w datagram given new waits h (inr t) = absurd (t.0 h.message h.spelt)
+    taken_message Comes agents honest w t.0 datagram given new waits comes t.1 (subst (λ (m : Message). is_awaited w m ≡ true) same h.awaited)
+    (subst (IsFrom agents honest w) same (λ k. (h.reply k, h.full k))) t.2 t.3
+is_taken Comes agents honest w datagram given new waits comes h (inr t) = absurd (t.0 h.message h.spelt)
 
 pub if_some : {X : Type 0} (o : Option X) (P : X → Type 0) (x : X) → o ≡ Some x → IfSome o P → P x
 if_some None P x e h = let no : ⊥ = cc in absurd no
 if_some (Some y) P x e h = let same : y ≡ x = cc in subst P same h
 
-module _ {S : Type 0} (takes : S → VarBind → Result (Unit {0}) SinkFault → S → Type 0) (agents : Agents) (honest : Type 0) (w : Walker) (s t : S) where
-  pub no_stray : (given : Step) (new : Walker) → IsTaken agents honest w given new → given ≡ step.Stray → ⊥
+module _ {S : Type 0} (takes : S → VarBind → Result (Unit {0}) SinkFault → S → Type 0) (Comes : List ℕ
+    → Type 0) (agents : Agents) (honest : Type 0) (w : Walker)
+    (s t : S) where
+  pub no_stray : (given : Step) (new : Walker) → IsTaken Comes agents honest w given new → given ≡ step.Stray → ⊥
   no_stray given new h e = subst HasNews e h.news
 
-  pub turn_goes : (given : Step) (new : Walker) (rows : List VarBind) → IsTaken agents honest w given new → given ≡ step.Rows rows → Given takes s rows t
-      → (r : List VarBind) × Turns takes agents honest w s r None new t
+  pub turn_goes : (given : Step) (new : Walker) (rows : List VarBind) → IsTaken Comes agents honest w given new → given ≡ step.Rows rows → Given takes s rows t
+      → (r : List VarBind) × Turns takes Comes agents honest w s r None new t
   turn_goes given new rows h e sink = (rows, turn_on h.message h.from (sym h.given_is ∙ e) h.new_is sink refl)
 
-  pub turn_ends : (given : Step) (new : Walker) (rows : List VarBind) (why : WalkEnd) → IsTaken agents honest w given new → given ≡ step.Last rows why
+  pub turn_ends : (given : Step) (new : Walker) (rows : List VarBind) (why : WalkEnd) → IsTaken Comes agents honest w given new → given ≡ step.Last rows why
       → Given takes s rows t
-      → (r : List VarBind) × Turns takes agents honest w s r (Some why) new t
-  turn_ends given new rows why h e sink = (rows, ends h.message why h.from (sym h.given_is ∙ e) sink refl)
+      → (r : List VarBind) × Turns takes Comes agents honest w s r (Some why) new t
+  turn_ends given new rows why h e sink = (rows, ends h.message h.datagram why h.from h.comes h.spelt (sym h.given_is ∙ e) sink refl)
 
-  pub turn_refused : (given : Step) (new : Walker) (rows : List VarBind) (fault : SinkFault) → IsTaken agents honest w given new → rows_in given ≡ rows
+  pub turn_refused : (given : Step) (new : Walker) (rows : List VarBind) (fault : SinkFault) → IsTaken Comes agents honest w given new → rows_in given ≡ rows
       → ((front : List VarBind) × (p : VarBind) × (back : List VarBind) × (rows ≡ front ++ p ∷ back) × (between : S) × Given takes s front between
       × takes between p (Err fault) t)
-      → (r : List VarBind) × Turns takes agents honest w s r (Some (ending.Sink fault)) new t
+      → (r : List VarBind) × Turns takes Comes agents honest w s r (Some (ending.Sink fault)) new t
   turn_refused given new rows fault h e sink =
       (sink.0, is_refused h.message fault sink.1 sink.2 sink.4 h.from (ap rows_in (sym h.given_is) ∙ e ∙ sink.3) sink.5 sink.6 refl)
 
-pub reply_end : (agents : Agents) (honest : Type 0) (w : Walker) (given : Step) (new : Walker) (rows : List VarBind) (why : WalkEnd)
-    → IsTaken agents honest w given new
+pub reply_end : (Comes : List ℕ → Type 0) (agents : Agents) (honest : Type 0) (w : Walker) (given : Step) (new : Walker) (rows : List VarBind) (why : WalkEnd)
+    → IsTaken Comes agents honest w given new
     → given ≡ step.Last rows why → IsReplyEnd why
-reply_end agents honest w given new rows why h e = subst HasNews e h.news
+reply_end Comes agents honest w given new rows why h e = subst HasNews e h.news
 
 pub no_link : (why : WalkEnd) → Some why ≡ Some ending.Link → IsReplyEnd why → ⊥
 no_link why e own = let same : why ≡ ending.Link = cc in subst IsReplyEnd same own

@@ -82,12 +82,12 @@ next_value : (view : MibView) → IsMibView view → (o : List ℕ) (p : VarBind
 next_value view good o p (successor s) = value_no_miss p.value (good.values p s.row)
 next_value view good o p (end_of_view none is) = ap (λ (b : VarBind). is_missing b.value) is
 
-get_name : (view : MibView) (o : List ℕ) (p : VarBind) → IsGet view o p → p.name ≡ o
+pub get_name : (view : MibView) (o : List ℕ) (p : VarBind) → IsGet view o p → p.name ≡ o
 get_name view o p (variable e row) = e
 get_name view o p (unknown_object none unknown is) = ap (λ (b : VarBind). b.name) is
 get_name view o p (unknown_instance none has is) = ap (λ (b : VarBind). b.name) is
 
-get_value : (view : MibView) → IsMibView view → (o : List ℕ) (p : VarBind) → IsGet view o p → is_end p.value ≡ false
+pub get_value : (view : MibView) → IsMibView view → (o : List ℕ) (p : VarBind) → IsGet view o p → is_end p.value ≡ false
 get_value view good o p (variable e row) = value_no_end p.value (good.values p row)
 get_value view good o p (unknown_object none unknown is) = ap (λ (b : VarBind). is_end b.value) is
 get_value view good o p (unknown_instance none has is) = ap (λ (b : VarBind). is_end b.value) is

@@ -5,6 +5,8 @@ use Rattle.std.specs.Prelude.{
   ◌+◌,
   ◌*◌,
   ◌≤◌,
+  ◌≢◌,
+  false,
   ◌⊎◌,
   List,
   [],
@@ -24,18 +26,63 @@ use Rattle.snmp_walk.specs.declared.end.WalkEnd.{WalkEnd}
 use Rattle.snmp_walk.specs.declared.end.WalkEnd.TheVariants as ending
 use Rattle.snmp_table.specs.Table.{MibView, IsGet}
 use Rattle.snmp_table.specs.Listing.{variables}
-use Rattle.snmp_walk.specs.Walk.{walk_from, rest_of}
+use Rattle.snmp_walk.specs.declared.rows.Step.TheVariants as step
+use Rattle.snmp_walk.specs.Walk.{walk_from, rest_of, AreRising}
+use Rattle.snmp_walk.specs.Taken.{Takes, asked_for}
+use Rattle.snmp_walk.specs.declared.phase.Phase.TheVariants as phase
 use Rattle.snmp_walk.specs.Walker.{Walker, IsWalker}
 use Rattle.snmp_walk.specs.Request.{request_of, first_phase}
-use Rattle.snmp_walk.specs.Standing.{Reaches, IsPartOfWalk, Ends}
-use Rattle.snmp_walk.specs.Link.{Agents, IsNextFrom, IsGotFrom, IsTooLarge, IsUnanswered}
-use Rattle.snmp_walk.specs.Room.{HasRoomForEach, HasIds}
+use Rattle.snmp_walk.specs.Standing.{Reaches, IsPartOfWalk, Ends, Rises, Named, CountsAll}
+use Rattle.snmp_walk.specs.Link.{Agents, OneOf, IsNextFrom, IsGotFrom, IsTooLarge, IsUnanswered}
+use Rattle.snmp_walk.specs.Room.{HasRoomForEach, HasRoomForAll, HasIds}
+use Rattle.snmp_walk.specs.Names.{comes_after}
+use Rattle.snmp_walk.specs.Tables.{
+  IsOfWalk,
+  AreFromTables,
+  IsInEach,
+  IsGivenOnce,
+  HoldsNames,
+  HasRoomInEach,
+  HasIdsFor,
+}
 
 -- a walk that has taken no reply yet, and asks for the root or after a name that begins with it
 pub record IsFresh (w : Walker) : Type 0 where
   pub phase : w.phase ≡ first_phase w.mode
   pub count : w.count ≡ 0
   pub begins : (s : List ℕ) × (w.asked ≡ w.root ++ s)
+
+-- The walk that began as `first` gave these rows and ended in this way by a datagram that came over
+-- the link: w had given the first of them and was waiting for a reply, and reads the datagram as
+-- the other rows and this end.
+pub record IsReadSo (Comes : List ℕ → Type 0) (first : Walker) (rows : List VarBind)
+    (end : WalkEnd) : Type 0 where
+  pub w : Walker
+  pub given : List VarBind
+  pub more : List VarBind
+  pub parts : rows ≡ given ++ more
+  pub waits : Reaches Rises Named first w given
+  pub datagram : List ℕ
+  pub comes : Comes datagram
+  pub over : Walker
+  pub taken : Takes w datagram (step.Last more end) over
+
+-- Why a run ends, whatever the link brings: by a reply that is read so, or by none, by the link or
+-- by the sink. A request of a walk is never too long.
+abbrev pub IsEndOfRun : (List ℕ → Type 0) → Walker → List VarBind → WalkEnd → Type 0
+IsEndOfRun Comes first rows ending.RequestTooLong = ⊥
+IsEndOfRun Comes first rows ending.NoResponse = Unit {0}
+IsEndOfRun Comes first rows ending.Link = Unit {0}
+IsEndOfRun Comes first rows (ending.Sink fault) = Unit {0}
+IsEndOfRun Comes first rows why = IsReadSo Comes first rows why
+
+-- What is promised of a run over any link: the names given, with the one that was refused, rise; a
+-- walk that is done has counted the bindings; and each end comes for its own reason.
+pub record EndFacts (Comes : List ℕ → Type 0) (first : Walker) (rows refused : List VarBind)
+    (end : WalkEnd) : Type 0 where
+  pub rising : AreRising (rows ++ refused)
+  pub counted : CountsAll end rows
+  pub reason : IsEndOfRun Comes first rows end
 
 -- How a run may end over an honest link, after these bindings: w was waiting for the reply that
 -- ended it, which gave none of them where it was an error or had no binding, and else the last.
@@ -94,6 +141,31 @@ abbrev pub IsDoneOrCutOff : WalkEnd → Type 0
 IsDoneOrCutOff ending.NoResponse = Unit {0}
 IsDoneOrCutOff why = IsDoneOrStopped why
 
+-- What is promised of a run where the agents have several tables, each reply being that of one of
+-- them.
+pub record TableFacts (agents : Agents) (old : Traffic) (first : Walker)
+    (rows refused : List VarBind) (end : WalkEnd) : Type 0 where
+  -- each binding given is that of one of the tables
+  pub from_tables : AreFromTables agents first (rows ++ refused)
+  -- each name of the walk that all tables have, and that doesn't come after the last name given, is
+  -- given once,
+  pub common_names : (name : List ℕ) → IsOfWalk first name → IsInEach agents name
+      → (front : List VarBind) (last : VarBind) → rows ≡ front ++ last ∷ []
+      → comes_after last.name name ≡ false → IsGivenOnce rows name
+  -- and where the walk is done each of them is
+  pub common_at_done : IsDone end → (name : List ℕ) → IsOfWalk first name → IsInEach agents name
+      → IsGivenOnce rows name
+  -- a plain walk that is done gave a binding at least
+  pub some_at_done : IsDone end → first.mode ≡ mode.Plain → rows ≢ []
+  -- Where there is room for each single binding of each table, and enough ids for the names that
+  -- the tables have together, a walk is done unless the link or the sink stops it or no reply
+  -- comes,
+  pub done_unless_lost_in_tables : (names : List (List ℕ)) → HoldsNames agents first names
+      → HasRoomInEach agents first → HasIdsFor first names → IsDoneOrCutOff end
+  -- which it does where each receive gives the reply to the latest datagram
+  pub done_unless_stopped_in_tables : (names : List (List ℕ)) → HoldsNames agents first names
+      → HasRoomInEach agents first → HasIdsFor first names → old.ahead ≡ [] → IsDoneOrStopped end
+
 -- What is promised of a run over an honest link over which nothing was sent before. It gave these
 -- rows to the sink, and then the one that was refused, if any was.
 pub record WalkFacts (agents : Agents) (tries : ℕ) (old : Traffic) (first : Walker)
@@ -119,6 +191,8 @@ pub record WalkFacts (agents : Agents) (tries : ℕ) (old : Traffic) (first : Wa
   pub done_unless_stopped : (view : MibView) (got : VarBind) → agents.tables ≡ view ∷ []
       → IsGet view first.asked got
       → HasRoomForEach agents view first → HasIds first view → old.ahead ≡ [] → IsDoneOrStopped end
+  -- over several tables
+  pub of_tables : TableFacts agents old first rows refused end
 
 -- how many Gets a walk of this mode may send besides the requests for the next instances
 abbrev pub gets : Mode → ℕ
@@ -128,12 +202,15 @@ gets _ = 1
 -- What is promised of what a run sends, which gave these rows, over a link that keeps the list of
 -- the datagrams sent; and where it is honest and nothing was sent before.
 pub record SendFacts (agents : Agents) (honest : Type 0) (tries : ℕ) (old : Traffic)
-    (first : Walker) (rows : List VarBind) (new : Traffic) : Type 0 where
+    (first : Walker) (rows : List VarBind) (end : WalkEnd) (new : Traffic) : Type 0 where
   pub requests : List Try
   pub sent : new.sent ≡ old.sent ++ sent_by requests
   -- ids rise by one, and each request is sent at most this many times
   pub are_tries : AreTries tries first rows first.id requests
   pub few : first.id + length requests ≤ 2147483648
+  -- where no reply came, the last request was sent just as many times
+  pub all_tries : end ≡ ending.NoResponse → (before : List Try) × (last : Try)
+      × (requests ≡ before ++ last ∷ []) × (last.times ≡ tries)
   -- at most 64 deliveries are used for each datagram sent
   pub used : honest → (used : List (Option ℕ)) × (old.ahead ≡ used ++ new.ahead)
       × (length used ≤ 64 * length (sent_by requests))
@@ -142,3 +219,40 @@ pub record SendFacts (agents : Agents) (honest : Type 0) (tries : ℕ) (old : Tr
       → IsGet view first.asked got
       → length requests
       ≤ length (rest_of first.root first.asked (variables view)) + 1 + gets first.mode
+  -- over several tables there is at most one request for each name that they have together below
+  -- the root, one more, and a Get
+  pub few_of_tables : honest → (names : List (List ℕ)) → HoldsNames agents first names
+      → length requests ≤ length names + 1 + gets first.mode
+  -- Where there is room for all bindings that each request for the next instances asks for, a walk
+  -- by GetBulk of r repetitions sends at most k / r + 1 of them over one table, k being the number
+  -- of rows below the root,
+  pub few_of_table_where_all_fit : honest
+      → ((t : Try) → OneOf requests t → t.by.phase ≡ phase.Rows → HasRoomForAll agents t.by)
+      → (view : MibView) (got : VarBind) → agents.tables ≡ view ∷ []
+      → IsGet view first.asked got → (n : ℕ) × (asked_for first.method * n
+      ≤ length (rest_of first.root first.asked (variables view)))
+      × (length requests ≤ n + 1 + gets first.mode)
+  -- and over several tables, k being the number of names that they have together
+  pub few_of_tables_where_all_fit : honest
+      → ((t : Try) → OneOf requests t → t.by.phase ≡ phase.Rows → HasRoomForAll agents t.by)
+      → (names : List (List ℕ)) → HoldsNames agents first names
+      → (n : ℕ) × (asked_for first.method * n ≤ length names)
+      × (length requests ≤ n + 1 + gets first.mode)
+
+-- ready for each try of as many requests as a walk of k names may send, and one more: each has at
+-- most 1,000 octets
+abbrev pub IsReadyForAll : (ℕ → ℕ → Type 0) → (tries k : ℕ) → Type 0
+IsReadyForAll Ready tries k = Ready ((k + 3) * tries) ((k + 3) * tries * 1000)
+
+-- What is promised of a run over an honest link over which nothing was sent before, and which is
+-- ready for so many sends: it has no fault of the link.
+pub record ReadyFacts (agents : Agents) (honest : Type 0) (Ready : ℕ → ℕ → Type 0) (tries : ℕ)
+    (first : Walker) (end : WalkEnd) : Type 0 where
+  -- over one table, k being the number of rows below the root,
+  pub over_table : honest → (view : MibView) (got : VarBind) → agents.tables ≡ view ∷ []
+      → IsGet view first.asked got
+      → IsReadyForAll Ready tries (length (rest_of first.root first.asked (variables view)))
+      → end ≢ ending.Link
+  -- and over several tables, k being the number of names that they have together
+  pub over_tables : honest → (names : List (List ℕ)) → HoldsNames agents first names
+      → IsReadyForAll Ready tries (length names) → end ≢ ending.Link

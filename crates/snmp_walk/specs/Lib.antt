@@ -1,5 +1,7 @@
+pub mod Codec
 pub mod Names
 pub mod Walk
+pub mod Ordered
 pub mod Trail
 pub mod Walker
 pub mod Request
@@ -12,6 +14,7 @@ pub mod Heard
 pub mod Room
 pub mod Sink
 pub mod Run
+pub mod Tables
 pub mod Get
 pub mod Facts
 pub mod Arena

@@ -1,29 +1,11 @@
 -- What a link promises, and what its agents may reply.
-use Rattle.std.specs.Prelude.{
-  pos,
-  ◌≡◌,
-  ℕ,
-  ◌^◌,
-  ◌<◌,
-  ◌≤◌,
-  ◌⊎◌,
-  List,
-  [],
-  ◌∷◌,
-  length,
-  take,
-  Option,
-  Some,
-  None,
-}
+use Rattle.std.specs.Prelude.{pos, ◌≡◌, ℕ, ◌^◌, ◌<◌, ◌≤◌, ◌⊎◌, List, [], ◌∷◌, length}
 use Rattle.snmp_wire.specs.declared.kind.Kind.TheVariants as kind
 use Rattle.snmp_wire.specs.Message.{VarBind, Message}
 use Rattle.snmp_wire.specs.Canon.{canon}
 use Rattle.snmp_table.specs.Table.{MibView, IsGet, IsNext, IsMibView}
 use Rattle.snmp_agent.specs.Reply.{Agent, IsReply, IsDropped}
 use Rattle.snmp_agent.specs.declared.config.Why.{Why}
-use Rattle.snmp_walk.specs.Walker.{Walker}
-use Rattle.snmp_walk.specs.Request.{request_of}
 
 -- the agents that may reply: the tables that they serve, their community, and the greatest size of
 -- their messages
@@ -57,10 +39,10 @@ IsNextFrom agents o p = (view : MibView) × OneOf agents.tables view × IsNext v
 abbrev pub IsGotFrom : Agents → List ℕ → VarBind → Type 0
 IsGotFrom agents o p = (view : MibView) × OneOf agents.tables view × IsGet view o p
 
--- For some request-id, the Response with this binding alone is longer than the agents' messages may
+-- The Response of this request-id, with this binding alone, is longer than the agents' messages may
 -- be.
-abbrev pub IsTooLarge : Agents → VarBind → Type 0
-IsTooLarge agents p = (id : ℕ) × (id < 2 ^ 31)
+abbrev pub IsTooLarge : Agents → ℕ → VarBind → Type 0
+IsTooLarge agents id p = (id < 2 ^ 31)
     × (agents.max_size < length (canon (single_response agents.community id p)))
 
 -- the agent that serves this table
@@ -83,6 +65,10 @@ pub record IsUnanswered (agents : Agents) (datagram : List ℕ) : Type 0 where
   pub one : OneOf agents.tables view
   pub why : Why
   pub dropped : IsDropped (agent_in agents view) datagram why
+
+-- the octets are a datagram that a receive may bring
+abbrev pub ComesOver : {L : Type 0} → (L → List ℕ → L → Type 0) → List ℕ → Type 0
+ComesOver {L} brings octets = (before : L) × (after : L) × brings before octets after
 
 -- each table is a MIB view
 abbrev pub AreViews : List MibView → Type 0

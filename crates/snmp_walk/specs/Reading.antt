@@ -25,35 +25,69 @@ use Rattle.snmp_walk.specs.Names.{is_inside, is_missing, comes_after}
 use Rattle.snmp_walk.specs.Trail.{last_name}
 use Rattle.snmp_walk.specs.Taken.{inside_front, rising_front, name_at}
 
+-- what follows the instances that are read: nothing, a binding that ends the walk, or one below the
+-- root whose name doesn't rise
+pub data After : Type 0 where
+  nothing : After
+  leaving : After
+  falling : (name : List ℕ) → After
+
+-- how many instances are read, the name of the last of them, and what follows them
+pub record ReadFront : Type 0 where
+  pub rows : ℕ
+  pub last : List ℕ
+  pub after : After
+
 -- what is read from the binding after the name `last` on, with this many rows before it
-abbrev pub front_from : List ℕ → List ℕ → ℕ → List VarBind → Front
-front_from root last rows [] = record { rows = rows; last = last; ending = ending.GoesOn }
+abbrev pub front_from : List ℕ → List ℕ → ℕ → List VarBind → ReadFront
+front_from root last rows [] = record { rows = rows; last = last; after = nothing }
 front_from root last rows (b ∷ more) =
     if is_inside root b
     then (if comes_after last b.name then front_from root b.name
-    (rows + 1) more else record { rows = rows; last = last; ending = ending.Falls b.name })
-    else record { rows = rows; last = last; ending = ending.Leaves }
+    (rows + 1) more else record { rows = rows; last = last; after = falling b.name })
+    else record { rows = rows; last = last; after = leaving }
+
+-- how the binding after the name `last` ends what is read, if it does
+abbrev pub ending_at : (root last : List ℕ) → VarBind → Ending
+ending_at root last b =
+    if is_inside root b
+    then (if comes_after last b.name then ending.GoesOn else ending.Falls)
+    else ending.Leaves
+
+-- the ending, with the name of the last binding that was read
+abbrev pub after_of : Ending → List ℕ → After
+after_of ending.GoesOn name = nothing
+after_of ending.Leaves name = leaving
+after_of ending.Falls name = falling name
+
+-- the front, with the names of its last row and of the last binding that was read
+abbrev pub read_front : Front → (last name : List ℕ) → ReadFront
+read_front front last name = record {
+  rows = front.rows;
+  last = last;
+  after = after_of front.ending name;
+}
 
 -- how the reading ended, by the rows, the bindings before the first that ends the walk, and all
-abbrev pub EndsAs : Ending → List VarBind → List VarBind → List VarBind → Type 0
-EndsAs ending.GoesOn rows inside bindings = (length rows ≡ length inside)
+abbrev pub EndsAs : After → List VarBind → List VarBind → List VarBind → Type 0
+EndsAs nothing rows inside bindings = (length rows ≡ length inside)
     × (length rows ≡ length bindings)
-EndsAs ending.Leaves rows inside bindings = (length rows ≡ length inside)
+EndsAs leaving rows inside bindings = (length rows ≡ length inside)
     × (length rows < length bindings)
-EndsAs (ending.Falls name) rows inside bindings = (length rows < length inside)
+EndsAs (falling name) rows inside bindings = (length rows < length inside)
     × (name ≡ name_at inside (length rows))
 
 -- what is read of bindings where `inside` are those before the first that ends the walk, and `rows`
 -- those of them that rise
 pub record IsReadAs (last : List ℕ) (before : ℕ) (bindings inside rows : List VarBind)
-    (front : Front) : Type 0 where
+    (front : ReadFront) : Type 0 where
   pub count : front.rows ≡ before + length rows
   pub taken : take (length rows) bindings ≡ rows
   pub name : front.last ≡ last_name last rows
-  pub ends : EndsAs front.ending rows inside bindings
+  pub ends : EndsAs front.after rows inside bindings
 
 -- the front is the one that the rules name
-abbrev pub IsFrontOf : List ℕ → List ℕ → ℕ → List VarBind → Front → Type 0
+abbrev pub IsFrontOf : List ℕ → List ℕ → ℕ → List VarBind → ReadFront → Type 0
 IsFrontOf root last before bindings front =
     IsReadAs last before bindings (inside_front root bindings) (rising_front last
     (inside_front root bindings)) front

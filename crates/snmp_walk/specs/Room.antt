@@ -1,9 +1,11 @@
 -- What a walk over one table needs so that it can be done: room for each single binding, and enough
 -- ids.
-use Rattle.std.specs.Prelude.{◌≡◌, ◌+◌, ◌≤◌, length}
+use Rattle.std.specs.Prelude.{◌≡◌, ℕ, pos, ◌+◌, ◌≤◌, List, length}
+use Rattle.snmp_wire.specs.declared.kind.Kind.TheVariants as kind
 use Rattle.snmp_wire.specs.Message.{
   Datum,
   VarBind,
+  Message,
   no_such_object,
   no_such_instance,
   end_of_mib_view,
@@ -13,12 +15,34 @@ use Rattle.snmp_table.specs.Table.{MibView, IsRow}
 use Rattle.snmp_table.specs.Listing.{variables}
 use Rattle.snmp_walk.specs.Walk.{rest_of}
 use Rattle.snmp_walk.specs.Walker.{Walker}
-use Rattle.snmp_walk.specs.Link.{Agents, single_response}
+use Rattle.snmp_walk.specs.Link.{Agents, OneOf, single_response}
+use Rattle.snmp_walk.specs.Request.{request_of}
+use Rattle.snmp_agent.specs.Reply.{IsBulk}
 
 -- The agents' messages have room for the binding: the Response with this binding alone and the
 -- greatest request-id is no longer than their greatest size.
 abbrev pub HasRoom : Agents → VarBind → Type 0
 HasRoom agents p = length (canon (single_response agents.community 2147483647 p)) ≤ agents.max_size
+
+-- the response of these bindings
+abbrev pub full_response : List ℕ → ℕ → List VarBind → Message
+full_response community id bindings = record {
+  version = pos 1;
+  community = community;
+  kind = kind.Response;
+  id = pos id;
+  a = pos 0;
+  b = pos 0;
+  bindings = bindings;
+}
+
+-- Whichever table replies, the agents' messages have room for all bindings that the GetBulk of w
+-- asks for: the Response with them and the greatest request-id is no longer than their greatest
+-- size.
+abbrev pub HasRoomForAll : Agents → Walker → Type 0
+HasRoomForAll agents w = (view : MibView) → OneOf agents.tables view → (all : List VarBind)
+    → IsBulk view (request_of w) all
+    → length (canon (full_response agents.community 2147483647 all)) ≤ agents.max_size
 
 -- what stands in place of a value (RFC 3416, section 3)
 abbrev pub IsException : Datum → Type 0

@@ -12,6 +12,8 @@ use Rattle.std.specs.Prelude.{
   [],
   ◌∷◌,
   ◌++◌,
+  length,
+  pos,
   replicate,
   Option,
   Some,
@@ -32,9 +34,23 @@ use Rattle.snmp_walk.specs.declared.rows.Step.TheVariants as step
 use Rattle.snmp_walk.specs.Walker.{Walker}
 use Rattle.snmp_walk.specs.Request.{request_of}
 use Rattle.snmp_walk.specs.Sink.{Given}
-use Rattle.snmp_walk.specs.Taken.{is_awaited, take_of}
+use Rattle.snmp_walk.specs.declared.mode.Method.{Method}
+use Rattle.snmp_walk.specs.Names.{is_end}
+use Rattle.snmp_walk.specs.Taken.{is_awaited, take_of, asked_for}
+use Rattle.snmp_walk.specs.Room.{HasRoomForAll}
+use Rattle.std.specs.List.{list_any}
 use Rattle.snmp_walk.specs.Standing.{IsReplyTo}
-use Rattle.snmp_walk.specs.Link.{Agents, OneOf, IsNextFrom, IsGotFrom, IsTooLarge}
+use Rattle.snmp_walk.specs.Link.{Agents, IsNextFrom, IsGotFrom, IsTooLarge}
+
+-- as many bindings as were asked for, or endOfMibView among them
+abbrev pub IsFull : Method → List VarBind → Type 0
+IsFull method bindings = (length bindings ≡ asked_for method)
+    ⊎ (list_any (λ p. is_end p.value) bindings ≡ true)
+
+-- where the agents have room for all bindings that are asked for, a reply without an error has them
+abbrev pub IsFullReply : Agents → Walker → Message → Type 0
+IsFullReply agents w m = HasRoomForAll agents w → w.phase ≡ phase.Rows → m.a ≡ pos 0
+    → IsFull w.method m.bindings
 
 -- The datagram encodes the reply that the walk waits for, which the agents sent where the link is
 -- honest.
@@ -46,6 +62,7 @@ pub record IsHeard (agents : Agents) (honest : Type 0) (w : Walker)
   pub awaited : is_awaited w message ≡ true
   pub reply : honest → IsReplyTo (IsNextFrom agents) (IsGotFrom agents)
       (IsTooLarge agents) w message
+  pub full : honest → IsFullReply agents w message
 
 -- the bindings that a step gives
 abbrev pub rows_in : Step → List VarBind
@@ -57,26 +74,31 @@ rows_in (step.Last rows why) = rows
 abbrev pub IsFrom : Agents → Type 0 → Walker → Message → Type 0
 IsFrom agents honest w m = honest
     → IsReplyTo (IsNextFrom agents) (IsGotFrom agents) (IsTooLarge agents) w m
+    × IsFullReply agents w m
 
 -- One turn of a run, from a request to the rows that its reply brings: which rows the sink was
--- given, how the walk ended, if it did, and what the walk and the sink are then.
+-- given, how the walk ended, if it did, and what the walk and the sink are then. `Comes` says of a
+-- datagram that it came over the link.
 pub data Turns {S : Type 0} (takes : S → VarBind → Result (Unit {0}) SinkFault → S
-    → Type 0) (agents : Agents) (honest : Type 0) (old : Walker) (before : S)
+    → Type 0) (Comes : List ℕ → Type 0) (agents : Agents) (honest : Type 0) (old : Walker)
+    (before : S)
     (rows : List VarBind) (end : Option WalkEnd) (new : Walker) (after : S) : Type 0 where
   goes_on : (m : Message) → IsFrom agents honest old m → (take_of old m).0 ≡ step.Rows rows
       → new ≡ (take_of old m).1 → Given takes before rows after
-      → end ≡ None → Turns takes agents honest old before rows end new after
-  ends : (m : Message) (why : WalkEnd) → IsFrom agents honest old m
+      → end ≡ None → Turns takes Comes agents honest old before rows end new after
+  ends : (m : Message) (datagram : List ℕ) (why : WalkEnd) → IsFrom agents honest old m
+      → Comes datagram → Spells m datagram
       → (take_of old m).0 ≡ step.Last rows why → Given takes before rows after
-      → end ≡ Some why → Turns takes agents honest old before rows end new after
+      → end ≡ Some why → Turns takes Comes agents honest old before rows end new after
   is_refused : (m : Message) (fault : SinkFault) (p : VarBind) (left : List VarBind)
       (between : S) → IsFrom agents honest old m → rows_in (take_of old m).0 ≡ rows ++ p ∷ left
       → Given takes before rows between → takes between p (Err fault) after
-      → end ≡ Some (ending.Sink fault) → Turns takes agents honest old before rows end new after
+      → end ≡ Some (ending.Sink fault)
+      → Turns takes Comes agents honest old before rows end new after
   is_silent : rows ≡ [] → after ≡ before
-      → end ≡ Some ending.NoResponse → Turns takes agents honest old before rows end new after
+      → end ≡ Some ending.NoResponse → Turns takes Comes agents honest old before rows end new after
   fails : rows ≡ [] → after ≡ before → end ≡ Some ending.Link
-      → Turns takes agents honest old before rows end new after
+      → Turns takes Comes agents honest old before rows end new after
 
 -- a request of the walk, and how often it was sent
 pub record Try : Type 0 where

@@ -1,6 +1,7 @@
 -- Where a walk stands between two replies, and how it may end, when each reply is an honest one to
 -- the request that was waiting: agents give for a GetNext what `Next` says and for a Get what `Got`
--- says, and their largest message has no room for a binding that is `Large`.
+-- says, and their largest message has no room for a binding that is `Large` in the reply to a
+-- request of this id.
 use Rattle.std.specs.Prelude.{
   ◌≡◌,
   ◌≢◌,
@@ -58,15 +59,15 @@ IsNextContent Next Large w m =
     × (m.bindings ≡ [] → IsLarge Next Large w.asked))
     ⊎ ((m.a ≡ pos 1) × (m.b ≡ pos 0) × IsLarge Next Large w.asked)
 
-abbrev pub IsReplyContent : (Next Got : List ℕ → VarBind → Type 0) → (VarBind → Type 0) → Phase
-    → Walker → Message → Type 0
-IsReplyContent Next Got Large phase.First w m = IsGetContent Got Large w.asked m
-IsReplyContent Next Got Large phase.Rows w m = IsNextContent Next Large w m
-IsReplyContent Next Got Large phase.Last w m = IsGetContent Got Large w.asked m
+abbrev pub IsReplyContent : (Next Got : List ℕ → VarBind → Type 0) → (ℕ → VarBind → Type 0)
+    → Phase → Walker → Message → Type 0
+IsReplyContent Next Got Large phase.First w m = IsGetContent Got (Large w.id) w.asked m
+IsReplyContent Next Got Large phase.Rows w m = IsNextContent Next (Large w.id) w m
+IsReplyContent Next Got Large phase.Last w m = IsGetContent Got (Large w.id) w.asked m
 IsReplyContent Next Got Large phase.Over w m = ⊥
 
 -- the message is an honest reply to the waiting request
-pub record IsReplyTo (Next Got : List ℕ → VarBind → Type 0) (Large : VarBind → Type 0)
+pub record IsReplyTo (Next Got : List ℕ → VarBind → Type 0) (Large : ℕ → VarBind → Type 0)
     (w : Walker) (m : Message) : Type 0 where
   pub version : m.version ≡ pos 1
   pub community : m.community ≡ w.community
@@ -127,21 +128,23 @@ opening_gets _ = 0
 -- How far the ids have come: each request before the waiting one brought at least one row after the
 -- root's own. Exceptions are the Get that a walk begins with where it includes its root, and the
 -- request that found nothing, before the Get that ends a plain walk.
-abbrev pub IsPaced : (List ℕ → VarBind → Type 0) → Walker → List VarBind → ℕ → Phase → Type 0
-IsPaced Got first given id phase.First = id ≡ first.id
-IsPaced Got first given id phase.Rows =
+abbrev pub IsPaced : (Next Got : List ℕ → VarBind → Type 0) → Walker → List VarBind → ℕ → Phase
+    → Type 0
+IsPaced Next Got first given id phase.First = id ≡ first.id
+IsPaced Next Got first given id phase.Rows =
     (front : List VarBind) × (trail : List VarBind) × (given ≡ front ++ trail)
     × IsOpening Got first.mode first.asked front
     × (id ≤ first.id + opening_gets first.mode + length trail)
-IsPaced Got first given id phase.Last = id ≤ first.id + 1
-IsPaced Got first given id phase.Over = ⊥
+    × IsTrail Next first.root first.asked trail
+IsPaced Next Got first given id phase.Last = id ≤ first.id + 1
+IsPaced Next Got first given id phase.Over = ⊥
 
 -- the walk that began as `first` has given these bindings and waits for a reply
 pub record Reaches (Next Got : List ℕ → VarBind → Type 0) (first w : Walker)
     (given : List VarBind) : Type 0 where
   pub same : w ≡ record first { phase = w.phase; asked = w.asked; id = w.id; count = w.count }
   pub count : w.count ≡ length given
-  pub paced : IsPaced Got first given w.id w.phase
+  pub paced : IsPaced Next Got first given w.id w.phase
   pub stage : IsStage Next Got first given w.asked w.phase
 
 -- a binding that the waiting request may be given has no room
@@ -153,19 +156,19 @@ IsReplyTooLarge Next Got Large phase.Last o = IsLarge Got Large o
 IsReplyTooLarge Next Got Large phase.Over o = ⊥
 
 -- the walk may end in this way after these bindings, w being its state that waited for the reply
-abbrev pub Ends : (Next Got : List ℕ → VarBind → Type 0) → (VarBind → Type 0) → Walker → Walker
-    → List VarBind → WalkEnd → Type 0
+abbrev pub Ends : (Next Got : List ℕ → VarBind → Type 0) → (ℕ → VarBind → Type 0) → Walker
+    → Walker → List VarBind → WalkEnd → Type 0
 Ends Next Got Large first w given (ending.Done n) = (n ≡ length given)
     × IsWholeWalk Next Got first given
 Ends Next Got Large first w given (ending.Fault status index) = (status ≡ pos 1)
-    × (index ≡ pos 0) × IsReplyTooLarge Next Got Large w.phase w.asked
+    × (index ≡ pos 0) × IsReplyTooLarge Next Got (Large w.id) w.phase w.asked
 Ends Next Got Large first w given (ending.NoProgress o) = (w.phase ≡ phase.Rows) × (o ≡ w.asked)
-    × IsLarge Next Large o
+    × IsLarge Next (Large w.id) o
 Ends Next Got Large first w given ending.TooManyRequests = 2147483647 ≤ w.id
 Ends Next Got Large first w given _ = ⊥
 
 -- a step of the walk w
-abbrev pub Advances : (Next Got : List ℕ → VarBind → Type 0) → (VarBind → Type 0) → Walker
+abbrev pub Advances : (Next Got : List ℕ → VarBind → Type 0) → (ℕ → VarBind → Type 0) → Walker
     → Walker → List VarBind → Step → Walker → Type 0
 Advances Next Got Large first old given step.Stray w = ⊥
 Advances Next Got Large first old given (step.Rows more) w = Reaches Next Got first w
@@ -199,11 +202,16 @@ IsReplyEnd ending.Link = ⊥
 IsReplyEnd (ending.Sink fault) = ⊥
 IsReplyEnd _ = Unit {0}
 
--- Whatever the message is: a stray changes nothing, a next request has the next id, and what was
--- given rises.
+-- the number with which a walk is done is that of the bindings given
+abbrev pub CountsAll : WalkEnd → List VarBind → Type 0
+CountsAll (ending.Done n) given = n ≡ length given
+CountsAll _ given = Unit {0}
+
+-- Whatever the message is: a stray changes nothing, a next request has the next id, what was given
+-- rises, and a walk that is done has counted it.
 abbrev pub AdvancesAnyhow : Walker → Walker → List VarBind → Step → Walker → Type 0
 AdvancesAnyhow first old given step.Stray w = w ≡ old
 AdvancesAnyhow first old given (step.Rows more) w = (w.id ≡ old.id + 1) × (w.id < 2 ^ 31)
     × Reaches Rises Named first w (given ++ more)
 AdvancesAnyhow first old given (step.Last more why) w = IsReplyEnd why
-    × IsPartOfWalk Rises Named first (given ++ more)
+    × IsPartOfWalk Rises Named first (given ++ more) × CountsAll why (given ++ more)

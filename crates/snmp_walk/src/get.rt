@@ -11,13 +11,15 @@ ghost use Rattle.snmp_ber.specs.Value.{null_value};
 ghost use Rattle.snmp_wire.specs.Message.{Message, VarBind, var_bind};
 ghost use Rattle.snmp_walk.specs.Names.{is_end};
 ghost use Rattle.snmp_walk.specs.Taken.{awaits};
+ghost use Rattle.snmp_walk.specs.Link.{ComesOver};
 ghost use Rattle.snmp_io.specs.Count.{HasRisen};
 ghost use Rattle.std.specs.List.{AllByRecursion};
 ghost use Rattle.snmp_wire.specs.Range.{IsBindingInRange, IsMessageInRange};
 ghost use Rattle.snmp_wire.specs.Spelling.{Spells};
 ghost use Rattle.snmp_walk.specs.Get.{asked_names, get_request, are_for as are_these, answers_of};
-ghost use Rattle.snmp_walk.specs.Get.{IsBrought, GetEnds};
+ghost use Rattle.snmp_walk.specs.Get.{IsBrought, GetEnds, GetFacts};
 
+use crate::laws::codec;
 use crate::sink::give;
 use crate::tries::exchange;
 use crate::walker::copy_of;
@@ -46,15 +48,22 @@ pub fn run_get<L: Link, S: Sink>(
     requires id { id < 2 ^ 31 }
     ensures given { (rows : List VarBind) × (refused : List VarBind)
         × GetEnds S.takes (get_request community.now id names.now) names.now
-        (IsBrought (L.agents link.old)
+        (IsBrought (ComesOver L.brings) (L.agents link.old)
         (L.honest link.old × ((L.traffic link.old).sent ≡ []))
-        community.now id names.now) sink.old rows refused result sink.new }
+        community.now id names.now) sink.old rows refused result sink.new
+        × (L.honest link.old → (L.traffic link.old).sent ≡ []
+        → GetFacts (L.agents link.old) (retries + 1) (L.traffic link.old)
+        (get_request community.now id names.now) names.now rows refused result
+        (L.traffic link.new)) }
+    ensures too_long { (result ≡ WalkEnd.RequestTooLong)
+        ↔ (65507 < length (canon (get_request community.now id names.now))) }
     ensures sent { L.keeps link.old → (times : ℕ) × (times ≤ retries + 1)
         × ((L.traffic link.new).sent ≡ (L.traffic link.old).sent
         ++ replicate times (canon (get_request community.now id names.now))) }
     ensures fault { result ≡ WalkEnd.Link
         → HasRisen (L.fault_count link.old) (L.fault_count link.new) }
 {
+    codec();
     let mut request = [0; 65507];
     let Some(length) = write_request(names, community, id, &mut request) else {
         return WalkEnd::RequestTooLong;

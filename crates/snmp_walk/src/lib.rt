@@ -8,6 +8,7 @@
 mod arena;
 mod end;
 mod get;
+mod laws;
 mod link;
 mod memory;
 mod mode;
@@ -20,6 +21,7 @@ mod walker;
 
 pub use end::{LinkFault, SinkFault, StartError, WalkEnd};
 pub use get::run_get;
+pub use laws::{instances_below, rest_of_a_walk};
 pub use link::Link;
 pub use memory::MemoryLink;
 pub use mode::{Method, Mode};

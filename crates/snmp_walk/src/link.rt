@@ -1,6 +1,6 @@
 //! Links, over which a walk sends its requests and receives replies.
 ghost use Rattle.std.specs.Prelude.{◌≡◌, ◌≤◌, ◌+◌, ◌++◌, [], ◌∷◌, ◌⊎◌, ℕ, List, length, Option};
-ghost use Rattle.std.specs.Prelude.{Some, None, IsOk, OnOk, IfOk, OnErr, IfSome};
+ghost use Rattle.std.specs.Prelude.{Some, None, IsOk, OnOk, IfOk, OnErr, IfSome, take};
 
 use crate::LinkFault;
 
@@ -9,7 +9,7 @@ use crate::LinkFault;
 /// The facts below are what a walk's promises rest on. A link in memory keeps all of them; another
 /// may keep the first alone, or none, as a socket.
 pub trait Link {
-    ghost use Rattle.std.specs.Prelude.{Option};
+    ghost use Rattle.std.specs.Prelude.{Option, take};
     ghost use Rattle.snmp_io.specs.Count.{HasRisen};
     ghost use Rattle.snmp_walk.specs.Link.{Agents, AreLawful};
     ghost use Rattle.snmp_walk.specs.Traffic.{Traffic, Receives, received};
@@ -33,6 +33,10 @@ pub trait Link {
     /// succeed.
     ghost ready: { Self → ℕ → ℕ → Type 0 };
 
+    /// Whether a receive in the first state may bring these octets, and leave the link in the last
+    /// state.
+    ghost brings: { Self → List ℕ → Self → Type 0 };
+
     /// Sends a datagram. A fault changes the count of faults alone.
     fn send(&mut self, datagram: &[u8]) -> Result<(), LinkFault>
         ensures sent { keeps self.old
@@ -53,6 +57,8 @@ pub trait Link {
     /// comes in time. A fault changes the count of faults alone.
     fn receive(&mut self, buffer: &mut [u8]) -> Result<Option<usize>, LinkFault>
         ensures length { IfOk result (λ got. IfSome got (λ n. n ≤ length buffer.old)) }
+        ensures brings { IfOk result (λ got. IfSome got
+            (λ n. brings self.old (take n buffer.new) self.new)) }
         ensures reply { honest self.old → 65507 ≤ length buffer.old
             → IfOk result (λ got. Receives (agents self.old) (traffic self.old).sent
             (traffic self.old).ahead (received got buffer.new) (traffic self.new).ahead) }

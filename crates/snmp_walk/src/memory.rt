@@ -150,6 +150,8 @@ impl<'a> Link for MemoryLink<'a> {
 
     ghost ready = { IsReadyFor };
 
+    ghost brings = { λ _ _ _. Unit {0} };
+
     ghost keeping = { λ _ _. tt };
 
     ghost lawful = { λ link h. h.lawful };

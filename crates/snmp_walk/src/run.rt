@@ -1,6 +1,7 @@
 //! A walk over a link: from the first request to the end, each binding to a sink as it comes.
 ghost use Rattle.std.specs.Prelude.{◌≡◌, ◌≢◌, ◌≤◌, ◌⊎◌, ◌+◌, ◌++◌, ℕ, List, [], length, take};
 ghost use Rattle.std.specs.Prelude.{Option, Some, None, Ok, Err, IfOk, IfSome, IfNone, OnOk, OnErr};
+ghost use Rattle.std.specs.Prelude.{IsOk, ◌*◌};
 ghost use Rattle.std.specs.Prelude.{false};
 ghost use Rattle.snmp_io.specs.Count.{HasRisen};
 ghost use Rattle.snmp_wire.specs.Canon.{canon};
@@ -12,8 +13,11 @@ ghost use Rattle.snmp_walk.specs.Run.{IsHeard, Turns};
 ghost use Rattle.snmp_walk.specs.Heard.{Exchanges, IsEarlier};
 ghost use Rattle.snmp_walk.specs.Sink.{Took};
 ghost use Rattle.snmp_walk.specs.Standing.{IsPartOfWalk, Rises, Named};
-ghost use Rattle.snmp_walk.specs.Facts.{IsFresh, WalkFacts, SendFacts};
+ghost use Rattle.snmp_walk.specs.Link.{ComesOver};
+ghost use Rattle.snmp_walk.specs.Facts.{ReadyFacts};
+ghost use Rattle.snmp_walk.specs.Facts.{IsFresh, WalkFacts, SendFacts, EndFacts};
 
+use crate::laws::codec;
 use crate::sink::give;
 use crate::tries::exchange;
 use crate::{Link, LinkFault, Sink, Step, WalkCore, WalkEnd};
@@ -21,10 +25,12 @@ use crate::{Link, LinkFault, Sink, Step, WalkCore, WalkEnd};
 /// Walks over the link with a core that has taken no reply yet: each request is sent at most
 /// `retries + 1` times, and each binding of the walk is given to the sink as it comes.
 ///
-/// Whatever the link brings, the walk ends, and the names given below the root rise. Over an honest
-/// link to the agent of one table, whose messages have room for each single binding, and with
-/// enough ids for a request for each row and two more, it is done unless the link or the sink stops
-/// it or messages are lost.
+/// Whatever the link brings, the walk ends, each way for its own reason, and the names given below
+/// the root rise. Over an honest link to the agent of one table, whose messages have room for each
+/// single binding, and with enough ids for a request for each row and two more, it is done unless
+/// the link or the sink stops it or messages are lost. Where the table changes under the walk, each
+/// name that all the tables have is given once. A link that is ready for the tries of a request for
+/// each row and three more, of 1,000 octets each, doesn't stop it.
 pub fn run_walk<L: Link, S: Sink>(
     link: &mut L,
     core: WalkCore,
@@ -40,10 +46,15 @@ pub fn run_walk<L: Link, S: Sink>(
         result (L.traffic link.new))
         × (L.keeps link.old → SendFacts (L.agents link.old)
         (L.honest link.old × ((L.traffic link.old).sent ≡ []))
-        (retries + 1) (L.traffic link.old) core rows (L.traffic link.new)) }
+        (retries + 1) (L.traffic link.old) core rows result (L.traffic link.new))
+        × EndFacts (ComesOver L.brings) core rows refused result }
     ensures fault { result ≡ WalkEnd.Link
         → HasRisen (L.fault_count link.old) (L.fault_count link.new) }
+    ensures ready { ReadyFacts (L.agents link.old)
+        (L.honest link.old × ((L.traffic link.old).sent ≡ [])) (L.ready link.old) (retries + 1)
+        core result }
 {
+    codec();
     let mut core = core;
     let mut request = [0; 65507];
     let mut buffer = [0; 65507];
@@ -65,6 +76,8 @@ fn ask<L: Link>(
     requires { is_over core.now.phase ≡ false }
     ensures length { IfOk result (λ heard. IfSome heard (λ n. n ≤ 65507)) }
     ensures walker { IsWalker core.now }
+    ensures brought { IfOk result (λ heard. IfSome heard
+        (λ n. ComesOver L.brings (take n buffer.new))) }
     ensures heard { IfOk result (λ heard. IfSome heard
         (λ n. IsHeard (L.agents link.old) (L.honest link.old
         × IsEarlier (L.traffic link.old).sent core.now) core.now (take n buffer.new))) }
@@ -76,7 +89,11 @@ fn ask<L: Link>(
     ensures agents { L.agents link.new ≡ L.agents link.old }
     ensures count { OnOk result (L.fault_count link.new ≡ L.fault_count link.old) }
     ensures fault { OnErr result (HasRisen (L.fault_count link.old) (L.fault_count link.new)) }
+    ensures ready { (times : ℕ) × (times ≤ retries + 1) × ((sends octets : ℕ)
+        → L.ready link.old (sends + times) (octets + times * length (canon (request_of core.now)))
+        → IsOk result × L.ready link.new sends octets) }
 {
+    codec();
     let length = core.request(request);
     exchange(
         link,
@@ -99,7 +116,8 @@ fn turn<L: Link, S: Sink>(
     buffer: &mut [u8; 65507],
 ) -> Option<WalkEnd>
     requires { is_over core.old.phase ≡ false }
-    ensures turns { (rows : List VarBind) × Turns S.takes (L.agents link.old) (L.honest link.old
+    ensures turns { (rows : List VarBind) × Turns S.takes (ComesOver L.brings)
+        (L.agents link.old) (L.honest link.old
         × IsEarlier (L.traffic link.old).sent core.old) core.old sink.old rows result core.new
         sink.new }
     ensures exchanged { L.keeps link.old → Exchanges (L.agents link.old) (L.honest link.old
@@ -113,6 +131,9 @@ fn turn<L: Link, S: Sink>(
         → L.fault_count link.new ≡ L.fault_count link.old }
     ensures fault { result ≡ Some WalkEnd.Link
         → HasRisen (L.fault_count link.old) (L.fault_count link.new) }
+    ensures ready { (times : ℕ) × (times ≤ retries + 1) × ((sends octets : ℕ)
+        → L.ready link.old (sends + times) (octets + times * length (canon (request_of core.old)))
+        → (result ≡ Some WalkEnd.Link → ⊥) × L.ready link.new sends octets) }
 {
     let heard = match ask(link, core, retries, request, buffer) {
         Ok(Some(heard)) => heard,

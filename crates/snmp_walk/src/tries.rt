@@ -1,11 +1,11 @@
 //! One request over a link: it is sent until its reply comes or no try is left.
 ghost use Rattle.std.specs.Prelude.{◌≡◌, ◌≤◌, ◌<◌, ◌+◌, ◌^◌, ℕ, List, length, take, Some, None, Ok};
-ghost use Rattle.std.specs.Prelude.{IfOk, IfSome, OnOk, OnErr, true};
+ghost use Rattle.std.specs.Prelude.{IfOk, IfSome, IsOk, OnOk, OnErr, true, ◌*◌};
 ghost use Rattle.snmp_io.specs.Count.{HasRisen};
 ghost use Rattle.snmp_wire.specs.Message.{Message};
 ghost use Rattle.snmp_wire.specs.Spelling.{Spells};
 ghost use Rattle.snmp_walk.specs.Taken.{awaits};
-ghost use Rattle.snmp_walk.specs.Link.{IsReplyFrom};
+ghost use Rattle.snmp_walk.specs.Link.{IsReplyFrom, ComesOver};
 ghost use Rattle.snmp_walk.specs.Traffic.{latest};
 ghost use Rattle.snmp_walk.specs.Heard.{IsAwaited, IsAsked, Hears, Exchanges};
 
@@ -29,6 +29,8 @@ pub(crate) fn exchange<L: Link>(
     ensures length { IfOk result (λ heard. IfSome heard (λ n. n ≤ 65507)) }
     ensures awaited { IfOk result (λ heard. IfSome heard
         (λ n. IsAwaited community.now id (take n buffer.new))) }
+    ensures brought { IfOk result (λ heard. IfSome heard
+        (λ n. ComesOver L.brings (take n buffer.new))) }
     ensures reply { L.honest link.old
         → IsAsked (L.agents link.old) community.now id request.now (L.traffic link.old).sent
         → IfOk result (λ heard. IfSome heard
@@ -41,6 +43,9 @@ pub(crate) fn exchange<L: Link>(
     ensures agents { L.agents link.new ≡ L.agents link.old }
     ensures count { OnOk result (L.fault_count link.new ≡ L.fault_count link.old) }
     ensures fault { OnErr result (HasRisen (L.fault_count link.old) (L.fault_count link.new)) }
+    ensures ready { (times : ℕ) × (times ≤ retries + 1) × ((sends octets : ℕ)
+        → L.ready link.old (sends + times) (octets + times * length request.now)
+        → IsOk result × L.ready link.new sends octets) }
 {
     let tries = u64::from(retries) + 1;
     'tries: for _ in 0..tries {
@@ -64,6 +69,8 @@ fn hear<L: Link>(
     ensures length { IfOk result (λ heard. IfSome heard (λ n. n ≤ 65507)) }
     ensures awaited { IfOk result (λ heard. IfSome heard
         (λ n. IsAwaited community.now id (take n buffer.new))) }
+    ensures brought { IfOk result (λ heard. IfSome heard
+        (λ n. ComesOver L.brings (take n buffer.new))) }
     ensures reply { (q : List ℕ) → L.honest link.old → latest (L.traffic link.old).sent ≡ Some q
         → IsAsked (L.agents link.old) community.now id q (L.traffic link.old).sent
         → IfOk result (λ heard. IfSome heard
@@ -77,6 +84,8 @@ fn hear<L: Link>(
     ensures agents { L.agents link.new ≡ L.agents link.old }
     ensures count { OnOk result (L.fault_count link.new ≡ L.fault_count link.old) }
     ensures fault { OnErr result (HasRisen (L.fault_count link.old) (L.fault_count link.new)) }
+    ensures ready { (sends octets : ℕ) → L.ready link.old sends octets
+        → IsOk result × L.ready link.new sends octets }
 {
     'receives: for _ in 0..RECEIVES {
         let Some(length) = link.receive(buffer)? else {

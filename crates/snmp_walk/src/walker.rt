@@ -4,6 +4,7 @@ ghost use Rattle.std.specs.Prelude.{true, false, IsTrue};
 ghost use Rattle.std.specs.Bool.{nat_eq};
 ghost use Rattle.snmp_oid.specs.Identifier.{IsIdentifier, IsWire, IsBelow, wire};
 ghost use Rattle.snmp_walk.specs.Names.{is_below, comes_after, is_inside, is_missing, is_end};
+ghost use Rattle.snmp_walk.specs.Reading.{is_misplaced};
 ghost use Rattle.snmp_wire.specs.Message.{var_bind, datum};
 ghost use Rattle.snmp_walk.specs.Request.{first_phase as phase_at_first};
 
@@ -75,8 +76,12 @@ impl WalkCore {
     ghost use Rattle.snmp_walk.specs.Taken.{reads_next, reads_first, reads_last, got, take_of};
     ghost use Rattle.snmp_walk.specs.Taken.{Takes, asked_for};
     ghost use Rattle.std.specs.Option.{option_map};
-    ghost use Rattle.snmp_walk.specs.Reading.{IsFrontOf, is_misplaced, AreSendable};
+    ghost use Rattle.snmp_walk.specs.Reading.{IsFrontOf, is_misplaced, AreSendable, read_front};
+    ghost use Rattle.snmp_walk.specs.Reading.{ending_at};
+    ghost use Rattle.snmp_wire.specs.Message.{var_bind};
+    ghost use Rattle.std.specs.Prelude.{IfSome, IfNone};
     ghost use Rattle.snmp_walk.specs.Trail.{last_name};
+    ghost use Rattle.snmp_walk.specs.Ordered.{IsAtOrBelow, IsUnsendable};
 
     /// A walk of the instances below `root`, whose requests have this community of at most 255
     /// octets and ids from `first_id` on, which is at most 2147483647.
@@ -117,9 +122,9 @@ impl WalkCore {
     /// The rest of a walk of the instances below `root`, after the name `after`, without the root's
     /// own instance.
     ///
-    /// `NotWire` where one of the names, padded with zeros to two numbers, has no encoding, and
-    /// `AfterOutsideRoot` where `after` is neither the root nor below it. Of several faults that of
-    /// the root comes first, and that of `after` last.
+    /// `NotWire` where the root, padded with zeros to two numbers, has no encoding, else
+    /// `AfterOutsideRoot` where `after` is neither the root nor below it, else `NotWire` where
+    /// `after` has none.
     pub fn resume(
         root: Oid,
         after: &Oid,
@@ -135,11 +140,11 @@ impl WalkCore {
         ensures walk { IfOk result (λ w. (view : MibView) (got : VarBind)
             → walk_at w view got ≡ rest_of root (wire after.now) (variables view)) }
         ensures variant { IsOk result ↔ (IsWire (wire root)
-            × ((after.now ≡ root) ⊎ IsBelow after.now root) × IsWire (wire after.now)) }
-        ensures not_wire { result ≡ Err StartError.NotWire → IsWire (wire root)
-            × IsWire (wire after.now) → ⊥ }
+            × IsAtOrBelow after.now root × IsWire (wire after.now)) }
+        ensures not_wire { result ≡ Err StartError.NotWire → IsUnsendable root
+            ⊎ (IsAtOrBelow after.now root × IsUnsendable after.now) }
         ensures outside { result ≡ Err StartError.AfterOutsideRoot → IsWire (wire root)
-            × (after.now ≡ root → ⊥) × (IsBelow after.now root → ⊥) }
+            × (IsAtOrBelow after.now root → ⊥) }
     {
         if root.to_wire().is_err() {
             return Err(StartError::NotWire);
@@ -257,18 +262,18 @@ impl WalkCore {
 
     /// Gives these `count` bindings, the last of which has the name `last`, and waits for the reply
     /// to the next request.
-    fn go_on<'a>(&mut self, next: Phase, rows: Rows<'a>, count: u32, last: Oid) -> Step<'a>
+    fn go_on<'a>(&mut self, next: Phase, rows: Rows<'a>, count: u32, last: &Oid) -> Step<'a>
         requires count { count ≡ length rows }
-        requires last { last ≡ last_name self.old.asked rows }
-        requires wire { IsWire last }
-        requires identifier { IsIdentifier last }
+        requires last { last.now ≡ last_name self.old.asked rows }
+        requires wire { IsWire last.now }
+        requires identifier { IsIdentifier last.now }
         ensures { (result, self.new) ≡ goes_on self.old next rows.entry }
     {
         if self.id >= MAX_ID {
             return self.stop(rows, WalkEnd::TooManyRequests);
         }
         self.phase = next;
-        self.asked = last;
+        self.asked.set_to(last);
         self.id += 1;
         self.count += u64::from(count);
         Step::Rows(rows)
@@ -283,66 +288,81 @@ impl WalkCore {
         let given = self.count + u64::from(count);
         if self.mode == Mode::Plain && given == 0 {
             let asked = copy_of(&self.asked);
-            return self.go_on(Phase::Last, rows, 0, asked);
+            return self.go_on(Phase::Last, rows, 0, &asked);
         }
         self.stop(rows, WalkEnd::Done(given))
     }
 
-    /// Whether there are more bindings than were asked for, or noSuchObject or noSuchInstance among
-    /// them.
-    fn is_misplaced(&self, mut bindings: Bindings<'_>) -> bool
-        ensures value { result ≡ is_misplaced (asked_for self.now.method) bindings.entry }
-        ensures few { result ≡ false → length bindings.entry < 2 ^ 32 }
+    /// The instances below the root at the front of these bindings, their names rising from `last`,
+    /// the name asked for, on. Then `last` is the name of the last of them, and `binding` the one
+    /// that ends them, if one does. None where there are more bindings than were asked for, or
+    /// noSuchObject or noSuchInstance among them.
+    ///
+    /// Each binding is read once.
+    fn front<'a>(
+        &self,
+        mut bindings: Bindings<'a>,
+        last: &mut Oid,
+        binding: &mut Binding<'a>,
+    ) -> Option<Front>
+        requires asked { last.old ≡ self.now.asked }
+        requires wire { AreSendable bindings }
+        requires asked_wire { IsWire last.old }
+        requires asked_identifier { IsIdentifier last.old }
+        ensures none { IfNone result
+            (is_misplaced (asked_for self.now.method) bindings.entry ≡ true) }
+        ensures some { IfSome result
+            (λ front. (is_misplaced (asked_for self.now.method) bindings.entry ≡ false)
+            × IsFrontOf self.now.root self.now.asked 0 bindings.entry
+            (read_front front last.new (var_bind binding.new).name)) }
+        ensures wire { IsWire last.new }
+        ensures identifier { IsIdentifier last.new }
     {
-        let mut room = match self.method {
-            Method::Next => 1,
-            Method::Bulk(repetitions) => repetitions.unsigned_abs(),
-        };
-        let mut binding = blank();
-        'bindings: while bindings.read_next(&mut binding) {
+        let mut room = self.asked_for();
+        let mut rows = 0;
+        'bindings: while bindings.read_next(binding) {
             if room == 0 || lacks_value(&binding.value) {
-                return true;
+                return None;
             }
             room -= 1;
-        }
-        false
-    }
-
-    /// The instances below the root at the front of these bindings, their names rising from the one
-    /// asked for.
-    fn front(&self, mut bindings: Bindings<'_>) -> Front
-        requires few { length bindings < 2 ^ 32 }
-        requires wire { AreSendable bindings }
-        ensures value { IsFrontOf self.now.root self.now.asked 0 bindings.entry result }
-        ensures wire { IsWire result.last }
-        ensures identifier { IsIdentifier result.last }
-    {
-        let mut rows = 0;
-        let mut last = copy_of(&self.asked);
-        let mut binding = blank();
-        'bindings: while bindings.read_next(&mut binding) {
-            if !is_row(&binding, &self.root) {
-                return Front {
-                    rows,
-                    last,
-                    ending: Ending::Leaves,
-                };
-            }
-            if !comes_behind(&last, &binding.name) {
-                return Front {
-                    rows,
-                    last,
-                    ending: Ending::Falls(copy_of(&binding.name)),
+            let ending = self.ending_at(last, binding);
+            if ending != Ending::GoesOn {
+                return if is_misplaced(room, bindings) {
+                    None
+                } else {
+                    Some(Front { rows, ending })
                 };
             }
             rows += 1;
-            put_name(&mut last, &binding.name);
+            last.set_to(&binding.name);
         }
-        Front {
+        Some(Front {
             rows,
-            last,
             ending: Ending::GoesOn,
+        })
+    }
+
+    /// How many bindings a request for the next instances asks for.
+    fn asked_for(&self) -> u32
+        ensures { result ≡ asked_for self.now.method }
+    {
+        match self.method {
+            Method::Next => 1,
+            Method::Bulk(repetitions) => repetitions.unsigned_abs(),
         }
+    }
+
+    /// Whether the binding goes on after the name `last`, or how it ends the instances.
+    fn ending_at(&self, last: &Oid, binding: &Binding<'_>) -> Ending
+        ensures { result ≡ ending_at self.now.root last.now (var_bind binding.now) }
+    {
+        if !is_row(binding, &self.root) {
+            return Ending::Leaves;
+        }
+        if !comes_behind(last, &binding.name) {
+            return Ending::Falls;
+        }
+        Ending::GoesOn
     }
 
     /// Whether the reply to a Get has no value for the name asked for. None where the reply isn't
@@ -376,7 +396,7 @@ impl WalkCore {
                     Phase::Rows,
                     Rows::front(bindings, count as usize),
                     count,
-                    asked,
+                    &asked,
                 )
             }
         }
@@ -400,20 +420,21 @@ impl WalkCore {
         requires { AreSendable message.now.bindings }
         ensures { (result, self.new) ≡ reads_next self.old message.now.bindings }
     {
-        let bindings = message.bindings();
-        if message.bindings().next().is_none() {
-            let asked = copy_of(&self.asked);
-            return self.stop(Rows::front(bindings, 0), WalkEnd::NoProgress { asked });
-        }
-        if self.is_misplaced(message.bindings()) {
-            return self.stop(Rows::front(bindings, 0), WalkEnd::BadReply);
-        }
-        let Front { rows, last, ending } = self.front(message.bindings());
-        let given = Rows::front(bindings, rows as usize);
+        let mut last = copy_of(&self.asked);
+        let mut binding = Binding::empty();
+        let Some(Front { rows, ending }) = self.front(message.bindings(), &mut last, &mut binding)
+        else {
+            return self.stop(Rows::front(message.bindings(), 0), WalkEnd::BadReply);
+        };
+        let given = Rows::front(message.bindings(), rows as usize);
         match ending {
-            Ending::GoesOn => self.go_on(Phase::Rows, given, rows, last),
+            Ending::GoesOn if rows == 0 => self.stop(given, WalkEnd::NoProgress { asked: last }),
+            Ending::GoesOn => self.go_on(Phase::Rows, given, rows, &last),
             Ending::Leaves => self.close(given, rows),
-            Ending::Falls(got) => self.stop(given, WalkEnd::NotIncreasing { last, got }),
+            Ending::Falls => {
+                let got = binding.name;
+                self.stop(given, WalkEnd::NotIncreasing { last, got })
+            }
         }
     }
 
@@ -441,26 +462,24 @@ impl WalkCore {
     }
 }
 
-/// The bindings at the front of a reply that a walk gives, and what follows them.
-#[derive(Drop)]
+/// The bindings at the front of a reply that a walk gives.
+#[derive(Clone, Copy)]
 struct Front {
     /// How many there are.
     rows: u32,
-    /// The name of the last of them, or the one asked for.
-    last: Oid,
     /// What follows them.
     ending: Ending,
 }
 
 /// What follows the bindings that a walk gives.
-#[derive(Drop)]
+#[derive(Clone, Copy, PartialEq, Eq)]
 enum Ending {
     /// Nothing: the walk goes on.
     GoesOn,
     /// A binding that ends the walk: endOfMibView, or a name that isn't below the root.
     Leaves,
-    /// This name below the root, which doesn't come after the one before it.
-    Falls(Oid),
+    /// A name below the root that doesn't come after the one before it.
+    Falls,
 }
 
 /// The last id of a request (RFC 3416, section 3).
@@ -509,24 +528,20 @@ pub(crate) fn copy_of(oid: &Oid) -> Oid
     }
 }
 
-/// A binding for [`Bindings::read_next`] to fill.
-fn blank<'a>() -> Binding<'a> {
-    Binding {
-        name: Oid::new(),
-        value: ValueRef::Null,
-    }
-}
-
-/// Replaces a name by another.
-fn put_name(last: &mut Oid, name: &Oid)
-    ensures value { last.new ≡ name.now }
-    ensures identifier { IsIdentifier name.now }
+/// Whether there are more of these bindings than there is room for, or noSuchObject or
+/// noSuchInstance among them.
+fn is_misplaced(room: u32, mut bindings: Bindings<'_>) -> bool
+    ensures { result ≡ is_misplaced room bindings.entry }
 {
-    last.clear();
-    match last.extend_from_slice(name.as_slice()) {
-        Ok(()) => {}
-        Err(_) => unreachable!(),
+    let mut room = room;
+    let mut binding = Binding::empty();
+    'bindings: while bindings.read_next(&mut binding) {
+        if room == 0 || lacks_value(&binding.value) {
+            return true;
+        }
+        room -= 1;
     }
+    false
 }
 
 /// Whether the name is longer than the root and begins with it.

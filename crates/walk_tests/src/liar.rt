@@ -80,6 +80,8 @@ impl<'a> Link for Liar<'a> {
 
     ghost ready = { λ _ _ _. ⊥ };
 
+    ghost brings = { λ _ _ _. Unit {0} };
+
     ghost keeping = { λ _ h. h };
 
     ghost lawful = { λ _ h. absurd h };

@@ -3,6 +3,8 @@
 #![tactic(auto)]
 
 #[cfg(test)]
+mod gets;
+#[cfg(test)]
 mod liar;
 #[cfg(test)]
 mod schedules;

@@ -15,19 +15,25 @@ impl Digits {
     pub fn new() -> Digits {
         Digits { number: 0, rows: 0 }
     }
+
+    /// Counts a binding, and writes its digit if it has one.
+    pub fn add(&mut self, digit: Option<u8>) {
+        self.rows = self.rows.saturating_add(1);
+        if let Some(digit) = digit {
+            self.number = self.number.wrapping_mul(10).wrapping_add(u64::from(digit));
+        }
+    }
 }
 
 impl Sink for Digits {
     ghost takes = { λ _ _ _ _. Unit {0} };
 
     fn row(&mut self, binding: &Binding<'_>) -> Result<(), SinkFault> {
-        self.rows = self.rows.saturating_add(1);
-        if let ValueRef::Integer(digit) = binding.value {
-            self.number = self
-                .number
-                .wrapping_mul(10)
-                .wrapping_add(u64::from(digit.unsigned_abs()));
-        }
+        let digit = match binding.value {
+            ValueRef::Integer(digit) => u8::try_from(digit).ok(),
+            _ => None,
+        };
+        self.add(digit);
         Ok(())
     }
 }
@@ -67,6 +73,8 @@ impl<'a> Link for Counted<'a> {
     ghost fault_count = { λ c. c.link.fault_count };
 
     ghost ready = { λ _ _ _. ⊥ };
+
+    ghost brings = { λ _ _ _. Unit {0} };
 
     ghost keeping = { λ _ h. h };
 

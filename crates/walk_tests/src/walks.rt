@@ -3,7 +3,7 @@
 use crate::sinks::{Counted, Digits};
 use snmp_agent::Config;
 use snmp_table::Table;
-use snmp_walk::{MemoryLink, Method, Mode, WalkCore, WalkEnd, run_walk};
+use snmp_walk::{MemoryLink, Method, Mode, StartError, WalkCore, WalkEnd, run_walk};
 use snmp_wire::parse_numeric;
 use std::alloc::Global;
 use std::process::Abort;
@@ -234,19 +234,97 @@ fn ids_run_out(rt: HostRuntime) -> Result<(), Fail> {
     Ok(())
 }
 
-#[test]
-fn a_resumed_walk_gives_the_rest(rt: HostRuntime) -> Result<(), Fail> {
-    let table = Table::read(rt.alloc(), THREE)?;
+/// The walk below the root that is resumed after this name ends so, with these integers as digits.
+fn assert_resumed(
+    rt: &impl Abort,
+    alloc: Global,
+    after: &[u8],
+    number: u64,
+    end: &WalkEnd,
+) -> Result<(), Fail> {
+    let table = Table::read(alloc, THREE)?;
     let config = Config {
         community: b"public",
         max_size: 1472,
     };
-    let after = parse_numeric(b"1.3.6.1.4.1.32473.1.1.0")?;
+    let after = parse_numeric(after)?;
     let core = WalkCore::resume(parse_numeric(ROOT)?, &after, Method::Next, b"public", 1)?;
-    let mut link = MemoryLink::new(rt.alloc(), &table, config, &[]);
+    let mut link = MemoryLink::new(alloc, &table, config, &[]);
     let mut digits = Digits::new();
     let ended = run_walk(&mut link, core, 0, &mut digits);
-    assert!(&rt; ended == WalkEnd::Done(2));
-    assert_eq!(&rt; digits.number, 23);
+    assert!(rt; ended == *end);
+    assert_eq!(rt; digits.number, number);
+    Ok(())
+}
+
+#[test]
+fn a_resumed_walk_gives_the_rest(rt: HostRuntime) -> Result<(), Fail> {
+    let cases: [(&[u8], u64, u64); 5] = [
+        (b"1.3.6.1.4.1.32473.1", 123, 3),
+        (b"1.3.6.1.4.1.32473.1.1.0", 23, 2),
+        (b"1.3.6.1.4.1.32473.1.2", 23, 2),
+        (b"1.3.6.1.4.1.32473.1.2.0", 3, 1),
+        (b"1.3.6.1.4.1.32473.1.10.0", 0, 0),
+    ];
+    for (after, number, rows) in cases {
+        assert_resumed(&rt, rt.alloc(), after, number, &WalkEnd::Done(rows))?;
+    }
+    Ok(())
+}
+
+/// A walk below this root that is resumed after this name is refused, for this reason.
+fn assert_refused(rt: &impl Abort, root: &[u8], after: &[u8], why: StartError) -> Result<(), Fail> {
+    let after = parse_numeric(after)?;
+    match WalkCore::resume(parse_numeric(root)?, &after, Method::Next, b"public", 1) {
+        Ok(_) => assert!(rt; false),
+        Err(error) => assert!(rt; error == why),
+    }
+    Ok(())
+}
+
+#[test]
+fn the_first_refusal_of_a_resumed_walk_is_the_roots(rt: HostRuntime) -> Result<(), Fail> {
+    let cases: [(&[u8], &[u8], StartError); 9] = [
+        (b"3.1", b"3.1.1", StartError::NotWire),
+        (b"3.1", b"1.3", StartError::NotWire),
+        (b"1.40", b"3.1", StartError::NotWire),
+        (ROOT, b"1.3.6.1.2.1", StartError::AfterOutsideRoot),
+        (ROOT, b"3.1", StartError::AfterOutsideRoot),
+        (ROOT, b"1.3.6.1.4.1.32473", StartError::AfterOutsideRoot),
+        (b"1", b"1.40", StartError::NotWire),
+        (b".", b"3", StartError::NotWire),
+        (b".", b"0.40.1", StartError::NotWire),
+    ];
+    for (root, after, why) in cases {
+        assert_refused(&rt, root, after, why)?;
+    }
+    Ok(())
+}
+
+#[test]
+fn the_longest_name_is_walked(rt: HostRuntime) -> Result<(), Fail> {
+    let mut text = Vec::new(rt.alloc());
+    text.extend_from_slice(b"1.3.6")?;
+    for _ in 0..125 {
+        text.extend_from_slice(b".4294967295")?;
+    }
+    text.extend_from_slice(b"|2|5\n")?;
+    for method in [Method::Next, Method::Bulk(10)] {
+        let case = Case {
+            table: &text,
+            root: b"1.3.6.4294967295",
+            method,
+            max_size: 1472,
+            retries: 0,
+            deliveries: &[],
+        };
+        let requests = if method == Method::Next { 2 } else { 1 };
+        let brought = Brought {
+            number: 5,
+            sends: requests,
+            requests,
+        };
+        assert_walk(&rt, rt.alloc(), case, brought, &WalkEnd::Done(1))?;
+    }
     Ok(())
 }

@@ -1,12 +1,14 @@
-use Rattle.std.proofs.Common.{◌≡◌, ◌+◌, ◌∙◌, ap, subst, sym, refl, ℕ, arith, Some, None}
+use Rattle.std.proofs.Common.{◌≡◌, ◌+◌, ◌∙◌, ap, subst, sym, refl, ℕ, arith, length, Some, None}
 use Rattle.snmp_io.specs.Count.{HasRisen}
 use Rattle.snmp_wire.specs.Canon.{canon}
 use Rattle.snmp_walk.specs.Request.{request_of}
-use Rattle.snmp_walk.specs.Link.{Agents}
+use Rattle.snmp_walk.specs.Link.{Agents, ComesOver}
 use Rattle.snmp_walk.specs.Heard.{Exchanges, IsEarlier}
 use Rattle.snmp_walk.specs.Run.{Turns}
 use Rattle.snmp_walk.specs.declared.end.WalkEnd.TheVariants as ending
-use Rattle.snmp_walk.proofs.RunLemmas.{runs_first, runs_on, ran}
+use Rattle.snmp_walk.proofs.RunLemmas.{runs_first, runs_on, ran, ready_facts}
+use Rattle.snmp_walk.proofs.ReadyLemmas.{left_first, left_more, left_fine}
+use Rattle.snmp_walk.proofs.RequestLemmas.{request_short}
 use Rattle.snmp_walk.proofs.TurnLemmas.{no_link_end}
 use Rattle.snmp_walk.proofs.run.run_walk.Goals as goal
 
@@ -17,6 +19,7 @@ turns-init g c = (
   (λ h. h),
   refl,
   refl,
+  left_first (g.L.Link.ready c.args.link.now) (c.args.retries + 1) c.args.core.id,
 )
 
 pub returns-in-Some-clause-given : goal.returns-in-Some-clause-given
@@ -24,13 +27,14 @@ returns-in-Some-clause-given g c =
     let inv = c.turns.invariant in
     let agents : Agents = g.L.Link.agents c.args.link.now in
     let t = c.in-Some.ensures.turns in
-    let same = subst (λ (a : Agents). Turns g.S.Sink.takes a (g.L.Link.honest c.turns.link
+    let same = subst (λ (a : Agents). Turns g.S.Sink.takes (ComesOver g.L.Link.brings) a (g.L.Link.honest c.turns.link
     × IsEarlier (g.L.Link.traffic c.turns.link).sent c.turns.core) c.turns.core c.turns.sink t.0
     (Some c.in-Some.end) c.turn.new.core c.turn.new.sink) inv.3 t.1 in
-    ran g.S.Sink.takes agents (g.L.Link.keeps c.args.link.now) (g.L.Link.honest c.args.link.now) (g.met.L.Link.keeping c.args.link.now)
+    ran g.S.Sink.takes (ComesOver g.L.Link.brings) agents (g.L.Link.keeps c.args.link.now) (g.L.Link.honest c.args.link.now)
+    (g.met.L.Link.keeping c.args.link.now)
     (c.args.retries + 1) c.args.core c.args.sink.now
     (g.L.Link.traffic c.args.link.now) c.turns.core c.turns.sink (g.L.Link.traffic c.turns.link) inv.0 c.turn.ensures.walker
-    (g.L.Link.honest c.turns.link) inv.1 t.0 c.turn.new.core c.turn.new.sink
+    (g.L.Link.honest c.turns.link) inv.1 c.codec.ensures t.0 c.turn.new.core c.turn.new.sink
     (g.L.Link.traffic c.turn.new.link) c.in-Some.end c.requires (omega arith) (λ h. (g.met.L.Link.lawful c.args.link.now h).views) same
     (λ k. subst (λ (a : Agents). Exchanges a (g.L.Link.honest c.turns.link
     × IsEarlier (g.L.Link.traffic c.turns.link).sent c.turns.core) (c.args.retries + 1) (canon (request_of c.turns.core)) (g.L.Link.traffic c.turns.link)
@@ -41,14 +45,28 @@ pub returns-in-Some-clause-fault : goal.returns-in-Some-clause-fault
 returns-in-Some-clause-fault g c = λ link.
     subst (λ (n : ℕ). HasRisen n (g.L.Link.fault_count c.turn.new.link)) c.turns.invariant.4 (c.in-Some.ensures.fault (ap Some link))
 
+pub returns-in-Some-clause-ready : goal.returns-in-Some-clause-ready
+returns-in-Some-clause-ready g c =
+    let inv = c.turns.invariant in
+    let agents : Agents = g.L.Link.agents c.args.link.now in
+    ready_facts c.codec.ensures g.S.Sink.takes agents (g.L.Link.keeps c.args.link.now) (g.L.Link.honest c.args.link.now)
+    (c.args.retries + 1) c.args.core c.args.sink.now
+    (g.L.Link.traffic c.args.link.now) c.turns.core c.turns.sink (g.L.Link.traffic c.turns.link) inv.0 c.requires
+    (λ h. (g.met.L.Link.lawful c.args.link.now h).views) (g.L.Link.ready c.args.link.now) c.in-Some.end
+    (λ k few ready link. left_fine (g.L.Link.ready c.args.link.now) (g.L.Link.ready c.turns.link) (g.L.Link.ready c.turn.new.link) (c.args.retries + 1)
+    c.args.core.id c.turns.core.id inv.5 c.in-Some.ensures.ready.0 (length (canon (request_of c.turns.core))) c.in-Some.ensures.ready.1
+    (request_short c.turns.core c.turn.ensures.walker.community c.turn.ensures.walker.identifier.short) _ c.in-Some.ensures.ready.2 k few ready
+    (ap Some link))
+
 pub turns-smaller : goal.turns-smaller
 turns-smaller g c =
     let inv = c.turns.invariant in
     let agents : Agents = g.L.Link.agents c.args.link.now in
     let t = c.in_default.ensures.turns in
-    let same = subst (λ (a : Agents). Turns g.S.Sink.takes a (g.L.Link.honest c.turns.link
+    let same = subst (λ (a : Agents). Turns g.S.Sink.takes (ComesOver g.L.Link.brings) a (g.L.Link.honest c.turns.link
     × IsEarlier (g.L.Link.traffic c.turns.link).sent c.turns.core) c.turns.core c.turns.sink t.0 None c.turn.new.core c.turn.new.sink) inv.3 t.1 in
-    let on = runs_on g.S.Sink.takes agents (g.L.Link.keeps c.args.link.now) (g.L.Link.honest c.args.link.now) (g.met.L.Link.keeping c.args.link.now)
+    let on = runs_on g.S.Sink.takes (ComesOver g.L.Link.brings) agents (g.L.Link.keeps c.args.link.now) (g.L.Link.honest c.args.link.now)
+    (g.met.L.Link.keeping c.args.link.now)
     (c.args.retries + 1) c.args.core c.args.sink.now
     (g.L.Link.traffic c.args.link.now) c.turns.core c.turns.sink (g.L.Link.traffic c.turns.link) inv.0 c.turn.ensures.walker
     (g.L.Link.honest c.turns.link) inv.1 t.0 c.turn.new.core c.turn.new.sink
@@ -66,9 +84,10 @@ turns-preserved g c =
     let inv = c.turns.invariant in
     let agents : Agents = g.L.Link.agents c.args.link.now in
     let t = c.in_default.ensures.turns in
-    let same = subst (λ (a : Agents). Turns g.S.Sink.takes a (g.L.Link.honest c.turns.link
+    let same = subst (λ (a : Agents). Turns g.S.Sink.takes (ComesOver g.L.Link.brings) a (g.L.Link.honest c.turns.link
     × IsEarlier (g.L.Link.traffic c.turns.link).sent c.turns.core) c.turns.core c.turns.sink t.0 None c.turn.new.core c.turn.new.sink) inv.3 t.1 in
-    let on = runs_on g.S.Sink.takes agents (g.L.Link.keeps c.args.link.now) (g.L.Link.honest c.args.link.now) (g.met.L.Link.keeping c.args.link.now)
+    let on = runs_on g.S.Sink.takes (ComesOver g.L.Link.brings) agents (g.L.Link.keeps c.args.link.now) (g.L.Link.honest c.args.link.now)
+    (g.met.L.Link.keeping c.args.link.now)
     (c.args.retries + 1) c.args.core c.args.sink.now
     (g.L.Link.traffic c.args.link.now) c.turns.core c.turns.sink (g.L.Link.traffic c.turns.link) inv.0 c.turn.ensures.walker
     (g.L.Link.honest c.turns.link) inv.1 t.0 c.turn.new.core c.turn.new.sink
@@ -82,4 +101,8 @@ turns-preserved g c =
       (λ k. c.turn.ensures.keeps (inv.2 k)),
       c.turn.ensures.agents ∙ inv.3,
       c.in_default.ensures.count (λ e. no_link_end e) ∙ inv.4,
+      left_more (g.L.Link.ready c.args.link.now) (g.L.Link.ready c.turns.link) (g.L.Link.ready c.turn.new.link) (c.args.retries + 1) c.args.core.id
+          c.turns.core.id inv.5 c.in_default.ensures.ready.0 (length (canon (request_of c.turns.core))) c.in_default.ensures.ready.1
+          (request_short c.turns.core c.turn.ensures.walker.community c.turn.ensures.walker.identifier.short) _ c.in_default.ensures.ready.2
+          c.turn.new.core.id on.id,
     )

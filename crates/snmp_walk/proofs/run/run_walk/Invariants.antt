@@ -1,5 +1,6 @@
 use Rattle.std.proofs.Common.{◌^◌, ◌-◌, ◌+◌, ◌≡◌}
 use Rattle.snmp_walk.proofs.RunLemmas.{Runs}
+use Rattle.snmp_walk.proofs.ReadyLemmas.{IsLeft}
 use Rattle.snmp_walk.proofs.run.run_walk.Given as goal
 
 abbrev pub invariant-turns : goal.invariant-turns
@@ -10,6 +11,7 @@ invariant-turns g l =
     × (g.L.Link.keeps l.fn.link → g.L.Link.keeps l.link)
     × (g.L.Link.agents l.link ≡ g.L.Link.agents l.fn.link)
     × (g.L.Link.fault_count l.link ≡ g.L.Link.fault_count l.fn.link)
+    × IsLeft (g.L.Link.ready l.fn.link) (g.L.Link.ready l.link) (l.retries + 1) l.fn.core.id l.core.id
 
 abbrev pub decreases-turns : goal.decreases-turns
 decreases-turns g l = 2 ^ 31 - l.core.id

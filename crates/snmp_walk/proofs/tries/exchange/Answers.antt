@@ -1,7 +1,8 @@
-use Rattle.std.proofs.Common.{◌≡◌, ◌<◌, ◌≤◌, ◌+◌, ◌∙◌, sym, ap, subst, refl, arith, take, replicate, ℕ, List, [], ◌∷◌, ◌++◌, Option, Some, None, Ok}
+use Rattle.std.proofs.Common.{◌≡◌, ◌<◌, ◌≤◌, ◌+◌, ◌∙◌, sym, ap, subst, refl, arith, length, take, replicate, ℕ, List, [], ◌∷◌, ◌++◌, Option, Some, None, Ok}
 use Rattle.std.proofs.lemmas.Grind.{replicate_next}
 use Rattle.std.proofs.Common.{append_assoc}
 use Rattle.std.specs.Prelude.{Result, Err, IsErr}
+use Rattle.snmp_walk.proofs.ReadyLemmas.{one_more, never_err}
 use Rattle.snmp_walk.specs.Link.{Agents, IsReplyFrom}
 use Rattle.snmp_walk.specs.Traffic.{Traffic, latest}
 use Rattle.snmp_walk.specs.Heard.{IsAsked, Hears}
@@ -48,7 +49,42 @@ tries-preserved g c =
           (try_sent agents (g.L.Link.agents c.send.new.self) same c.args.community.now c.args.id q old before between c.tries.counter sent more asked) before
           (c.in_ok-send.ensures.ahead (inv.0 h))
           (subst (λ (a : Agents). Hears a q between (c.hear.result ≡ Ok None) now) same heard) (inv.5 h asked),
+      λ sends octets h. (c.hear.ensures.ready sends octets (c.send.ensures.ready sends octets (inv.6 (sends + 1) (octets + length q)
+          (one_more (g.L.Link.ready c.args.link.now) sends octets c.tries.counter (length q) h))).1).1,
     )
+
+pub returns-in_err-send-clause-ready : goal.returns-in_err-send-clause-ready
+returns-in_err-send-clause-ready g c = (
+  c.tries.counter + 1,
+  omega arith,
+  λ sends octets h.
+      let q : List ℕ = c.args.request.now in
+      let sent = c.send.ensures.ready sends octets (c.tries.invariant.6 (sends + 1) (octets + length q)
+      (one_more (g.L.Link.ready c.args.link.now) sends octets c.tries.counter (length q) h)) in
+      absurd (never_err _ _ c.in_err-send.was sent.0),
+)
+
+pub returns-in_err-length-clause-ready : goal.returns-in_err-length-clause-ready
+returns-in_err-length-clause-ready g c = (
+  c.tries.counter + 1,
+  omega arith,
+  λ sends octets h.
+      let q : List ℕ = c.args.request.now in
+      let sent = c.send.ensures.ready sends octets (c.tries.invariant.6 (sends + 1) (octets + length q)
+      (one_more (g.L.Link.ready c.args.link.now) sends octets c.tries.counter (length q) h)) in
+      absurd (never_err _ _ c.in_err-length.was (c.hear.ensures.ready sends octets sent.1).0),
+)
+
+pub returns-in-Some-clause-ready : goal.returns-in-Some-clause-ready
+returns-in-Some-clause-ready g c = (
+  c.tries.counter + 1,
+  omega arith,
+  λ sends octets h.
+      let q : List ℕ = c.args.request.now in
+      let sent = c.send.ensures.ready sends octets (c.tries.invariant.6 (sends + 1) (octets + length q)
+      (one_more (g.L.Link.ready c.args.link.now) sends octets c.tries.counter (length q) h)) in
+      (refl, (c.hear.ensures.ready sends octets sent.1).1),
+)
 
 pub returns-in_err-length-clause-exchanged : goal.returns-in_err-length-clause-exchanged
 returns-in_err-length-clause-exchanged g c = λ keeps.

@@ -1,4 +1,4 @@
-use Rattle.std.proofs.Common.{◌≡◌, ◌+◌, ℕ, List, ◌++◌, replicate}
+use Rattle.std.proofs.Common.{◌≡◌, ◌+◌, ◌*◌, ℕ, List, ◌++◌, replicate, length}
 use Rattle.snmp_walk.specs.Heard.{IsAsked}
 use Rattle.snmp_walk.proofs.HearLemmas.{Missing}
 use Rattle.snmp_walk.proofs.tries.exchange.Given as goal
@@ -12,3 +12,4 @@ invariant-tries g l =
     × (g.L.Link.keeps l.fn.link → (g.L.Link.traffic l.link).sent ≡ (g.L.Link.traffic l.fn.link).sent ++ replicate l.counter l.request)
     × (g.L.Link.honest l.fn.link → IsAsked (g.L.Link.agents l.fn.link) l.community l.id l.request (g.L.Link.traffic l.fn.link).sent
     → Missing (g.L.Link.agents l.fn.link) l.request (g.L.Link.traffic l.fn.link) l.counter (l.fn.retries + 1) (g.L.Link.traffic l.link))
+    × ((sends octets : ℕ) → g.L.Link.ready l.fn.link (sends + l.counter) (octets + l.counter * length l.request) → g.L.Link.ready l.link sends octets)

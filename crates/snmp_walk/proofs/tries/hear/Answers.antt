@@ -3,6 +3,7 @@ use Rattle.std.proofs.lemmas.Grind.{common_steps}
 use Rattle.snmp_walk.specs.Link.{Agents}
 use Rattle.snmp_walk.specs.Traffic.{Traffic, received, Receives}
 use Rattle.snmp_walk.proofs.HearLemmas.{Waits, stray_heard, none_heard, reply_heard, heard_used, received_by}
+use Rattle.snmp_walk.proofs.TurnLemmas.{if_some}
 use Rattle.snmp_walk.proofs.tries.hear.Goals as goal
 
 pub returns-in_default-clause-heard : goal.returns-in_default-clause-heard
@@ -19,6 +20,14 @@ returns-in_default-clause-heard g c = λ q h last asked.
     none_heard (g.L.Link.agents c.args.link.now) c.args.community.now c.args.id q old asked last c.receives.counter now left (inv.4
     (g.met.L.Link.keeping c.args.link.now h)) less now.ahead refl r
     (inv.5 q h last asked) _
+
+pub returns-then-is_reply-clause-brought : goal.returns-then-is_reply-clause-brought
+returns-then-is_reply-clause-brought g c = (
+  c.receives.link,
+  c.receive.new.self,
+  if_some c.in_ok-length.field-0 (λ n. g.L.Link.brings c.receives.link (take n c.receive.new.buffer) c.receive.new.self) c.in-Some.length c.in-Some.is
+      c.in_ok-length.ensures.brings,
+)
 
 pub returns-then-is_reply-clause-reply : goal.returns-then-is_reply-clause-reply
 returns-then-is_reply-clause-reply g c = λ q h last asked.
@@ -70,4 +79,5 @@ receives-preserved g c =
           (take c.in-Some.length c.receive.new.buffer)
           (inv.4 (g.met.L.Link.keeping c.args.link.now h)) less now.ahead refl r
           (λ m spelt. sym c.if-is_reply.false ∙ c.is_reply.ensures.value m spelt) (inv.5 q h last asked),
+      λ sends octets h. (c.receive.ensures.ready sends octets (inv.6 sends octets h) long).1,
     )

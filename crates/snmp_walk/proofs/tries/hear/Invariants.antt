@@ -14,3 +14,4 @@ invariant-receives g l =
     × ((q : List ℕ) → g.L.Link.honest l.fn.link → latest (g.L.Link.traffic l.fn.link).sent ≡ Some q
     → IsAsked (g.L.Link.agents l.fn.link) l.community l.id q (g.L.Link.traffic l.fn.link).sent
     → Waits (g.L.Link.agents l.fn.link) q (g.L.Link.traffic l.fn.link) l.counter (g.L.Link.traffic l.link))
+    × ((sends octets : ℕ) → g.L.Link.ready l.fn.link sends octets → g.L.Link.ready l.link sends octets)

@@ -3,7 +3,7 @@ use Rattle.snmp_walk.specs.Link.{Agents}
 use Rattle.snmp_walk.specs.Memory.{agents_of}
 use Rattle.snmp_walk.specs.Traffic.{received, datagram_at, Gives, Receives}
 use Rattle.snmp_walk.specs.Arena.{Store}
-use Rattle.snmp_walk.proofs.MemoryLemmas.{received_front, received_at, within_more}
+use Rattle.snmp_walk.proofs.MemoryLemmas.{brought_any, received_front, received_at, within_more}
 use Rattle.snmp_walk.proofs.memory.MemoryLinkLink.receive.Goals as goal
 
 pub returns-clause-length : goal.returns-clause-length
@@ -33,3 +33,6 @@ returns-clause-ready c = λ s o h long.
         room = subst (λ (a : Store). o ≤ a.room) (sym same) h.room;
       },
     )
+
+pub returns-clause-brings : goal.returns-clause-brings
+returns-clause-brings c = brought_any c.reply_to.result

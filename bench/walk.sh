@@ -1,0 +1,15 @@
+#!/usr/bin/env bash
+# Counts the instructions that a walk over a link in memory takes for each row, by GetNext and by GetBulk of
+# 50: request, agent and reply together, without printing. It is the difference of walks over 4,000 and
+# 2,000 rows, so that what a walk does once doesn't count, nor the reading of the table.
+source "$(dirname "${BASH_SOURCE[0]}")/common.sh"
+driver walk_bench walk.c
+rows=2000
+for repetitions in 0 1 10 50; do
+    given=$("$work/driver" "$repetitions" "$rows" 1)
+    [ "$given" = "$rows" ] || { echo "$given rows in place of $rows" >&2; exit 1; }
+    short=$(each 1 "$repetitions" "$rows")
+    long=$(each 1 "$repetitions" $((2 * rows)))
+    case $repetitions in 0) method=GetNext ;; *) method="GetBulk of $repetitions" ;; esac
+    echo "$method: $(((long - short) / rows)) instructions a row"
+done

@@ -1,0 +1,70 @@
+-- What is given of any walk rises, and why a run ends whatever its link brings.
+use Rattle.std.proofs.Common.{◌≡◌, inl, inr, ℕ, Bool, true, false, cond, List, [], ◌∷◌, ◌++◌, sym, subst}
+use Rattle.std.proofs.lemmas.Bool.{and_parts, not-true}
+use Rattle.std.specs.Prelude.{not}
+use Rattle.snmp_wire.specs.Message.{VarBind}
+use Rattle.snmp_walk.specs.declared.mode.Mode.{Mode}
+use Rattle.snmp_walk.specs.declared.mode.Mode.TheVariants as mode
+use Rattle.snmp_walk.specs.declared.end.WalkEnd.{WalkEnd}
+use Rattle.snmp_walk.specs.declared.end.WalkEnd.TheVariants as ending
+use Rattle.snmp_walk.specs.Names.{is_below, is_end, is_missing, comes_after}
+use Rattle.snmp_walk.specs.Walk.{AreAfter, AreRising}
+use Rattle.snmp_walk.specs.Walker.{Walker}
+use Rattle.snmp_walk.specs.Trail.{IsTrail, AreLawfulReplies}
+use Rattle.snmp_walk.specs.Standing.{IsOpening, IsPartOfWalk, Rises, Named, IsReplyEnd, CountsAll}
+use Rattle.snmp_walk.specs.Facts.{IsReadSo, IsEndOfRun, EndFacts}
+use Rattle.snmp_walk.proofs.TableLemmas.{after_more}
+use Rattle.snmp_walk.proofs.AnyLemmas.{rising_answers}
+
+module _ (Next Got : List ℕ → VarBind → Type 0) (laws : AreLawfulReplies Next Got) (root : List ℕ) where
+  -- a trail rises from the name before it
+  pub trail_rises : (o : List ℕ) (trail : List VarBind) → IsTrail Next root o trail → AreAfter o trail × AreRising trail
+  trail_rises o [] h = (tt, tt)
+  trail_rises o (p ∷ trail) h =
+      let value : is_end p.value ≡ false = not-true (is_end p.value) (and_parts (not (is_end p.value)) (is_below p.name root) h.1).0 in
+      let comes : comes_after o p.name ≡ true = laws.rises o p h.0 value in
+      let rest = trail_rises p.name trail h.2 in
+      ((comes, after_more o p trail comes rest.0), rest)
+
+  present_rises : (o : List ℕ) (p : VarBind) (b : Bool) (trail : List VarBind) → p.name ≡ o → AreAfter o trail × AreRising trail
+      → AreRising (cond b [] (p ∷ []) ++ trail)
+  present_rises o p true trail e h = h.1
+  present_rises o p false trail e h = (subst (λ (n : List ℕ). AreAfter n trail) (sym e) h.0, h.1)
+
+  opening_rises : (m : Mode) (o : List ℕ) (front trail : List VarBind) → IsOpening Got m o front → AreAfter o trail × AreRising trail
+      → AreRising (front ++ trail)
+  opening_rises mode.Plain o front trail opening h = subst (λ (f : List VarBind). AreRising (f ++ trail)) (sym opening) h.1
+  opening_rises mode.Include o front trail opening h =
+      subst (λ (f : List VarBind). AreRising (f ++ trail)) (sym opening.2)
+      (present_rises o opening.0 (is_missing opening.0.value) trail (laws.same_name o opening.0 opening.1) h)
+  opening_rises mode.NoLast o front trail opening h = subst (λ (f : List VarBind). AreRising (f ++ trail)) (sym opening) h.1
+
+pub part_rises : (Next Got : List ℕ → VarBind → Type 0) → AreLawfulReplies Next Got → (first : Walker) (given : List VarBind)
+    → IsPartOfWalk Next Got first given → AreRising given
+part_rises Next Got laws first given (inl none) = subst AreRising (sym none) tt
+part_rises Next Got laws first given (inr (inl h)) =
+    subst AreRising (sym h.1.parts) (opening_rises Next Got laws first.root first.mode first.asked h.1.front h.1.trail h.1.opening
+    (trail_rises Next Got laws first.root first.asked h.1.trail h.1.is_trail))
+part_rises Next Got laws first given (inr (inr h)) = subst AreRising (sym h.only) (tt, tt)
+
+-- an end that replies lead to is read so
+pub read_end : (Comes : List ℕ → Type 0) (first : Walker) (rows : List VarBind) (end : WalkEnd) → IsReplyEnd end → IsReadSo Comes first rows end
+    → IsEndOfRun Comes first rows end
+read_end Comes first rows (ending.Done n) own h = h
+read_end Comes first rows (ending.Fault a b) own h = h
+read_end Comes first rows (ending.NoProgress o) own h = h
+read_end Comes first rows ending.BadReply own h = h
+read_end Comes first rows (ending.NotIncreasing o p) own h = h
+read_end Comes first rows ending.TooManyRequests own h = h
+read_end Comes first rows ending.RequestTooLong own h = absurd own
+read_end Comes first rows ending.NoResponse own h = absurd own
+read_end Comes first rows ending.Link own h = absurd own
+read_end Comes first rows (ending.Sink fault) own h = absurd own
+
+pub end_facts : (Comes : List ℕ → Type 0) (first : Walker) (rows refused : List VarBind) (end : WalkEnd) → IsPartOfWalk Rises Named first (rows ++ refused)
+    → CountsAll end rows → IsEndOfRun Comes first rows end → EndFacts Comes first rows refused end
+end_facts Comes first rows refused end part counts reason = record {
+  rising = part_rises Rises Named rising_answers first (rows ++ refused) part;
+  counted = counts;
+  reason = reason;
+}

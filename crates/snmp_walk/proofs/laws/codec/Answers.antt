@@ -1,0 +1,12 @@
+use Rattle.snmp_walk.proofs.laws.codec.Goals as goal
+
+pub returns : goal.returns
+returns c = record {
+  one = c.one_spelling.ensures;
+  read = c.strict_is_read.ensures;
+  strict = c.encoding_is_strict.ensures;
+  pieces = c.pieces.ensures;
+  sizes = c.message_sizes.ensures;
+  elements = c.element_sizes.ensures;
+  less = λ o p. (c.order.ensures.less o p).0;
+}

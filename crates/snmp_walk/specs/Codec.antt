@@ -1,0 +1,24 @@
+-- What the crates below state, as laws, of names and of messages and their encodings.
+use Rattle.std.specs.Prelude.{◌≡◌, ℕ, List}
+use Rattle.std.specs.Ordering.{nat_cmp}
+use Rattle.std.specs.Cmp.Lexicographic.{slice_cmp}
+use Rattle.std.specs.declared.cmp.Ordering.TheVariants.{Less}
+use Rattle.snmp_oid.specs.Identifier.{Precedes}
+use Rattle.snmp_ber.specs.Sizes.{ElementSizes}
+use Rattle.snmp_wire.specs.Sizes.{MessageSizes}
+use Rattle.snmp_wire.specs.Laws.{OneMessage, StrictIsRead, EncodingIsStrict, HasPieces}
+
+pub record Codec : Type 0 where
+  -- octets encode one message at most
+  pub one : OneMessage
+  -- what encodes a message by the standard is read
+  pub read : StrictIsRead
+  -- and so is what is written
+  pub strict : EncodingIsStrict
+  -- it is the head, and then the bindings
+  pub pieces : HasPieces
+  -- how long it is, and how long its elements are
+  pub sizes : MessageSizes
+  pub elements : ElementSizes
+  -- a name that is less precedes
+  pub less : (o p : List ℕ) → slice_cmp nat_cmp o p ≡ Less → Precedes o p

@@ -1,0 +1,64 @@
+-- What a walk gives where the agent's table changes: each reply is that of one of several tables.
+use Rattle.std.specs.Prelude.{◌≡◌, ◌≢◌, ℕ, ◌+◌, ◌≤◌, ◌⊎◌, true, false, List, [], ◌∷◌, ◌++◌, length}
+use Rattle.snmp_wire.specs.Message.{VarBind}
+use Rattle.snmp_table.specs.Table.{MibView, IsRow}
+use Rattle.snmp_walk.specs.declared.mode.Mode.TheVariants as mode
+use Rattle.snmp_walk.specs.Names.{is_below, comes_after}
+use Rattle.snmp_walk.specs.Run.{IsNameIn}
+use Rattle.snmp_walk.specs.Walker.{Walker}
+use Rattle.snmp_walk.specs.Link.{Agents, OneOf, IsGotFrom}
+use Rattle.snmp_walk.specs.Room.{HasRoomForEach}
+
+-- the name is below the root of the walk, and comes after the name that the walk begins from
+abbrev pub IsBelowRoot : Walker → List ℕ → Type 0
+IsBelowRoot first name = (is_below name first.root ≡ true) × (comes_after first.asked name ≡ true)
+
+-- the walk gives variables of this name: one below its root or, where it includes the root, that of
+-- the root
+abbrev pub IsOfWalk : Walker → List ℕ → Type 0
+IsOfWalk first name = IsBelowRoot first name ⊎ ((first.mode ≡ mode.Include) × (name ≡ first.asked))
+
+-- a variable of one of the tables that the walk gives
+abbrev pub IsFromTable : Agents → Walker → VarBind → Type 0
+IsFromTable agents first p = (view : MibView) × OneOf agents.tables view × IsRow view p
+    × IsOfWalk first p.name
+
+-- Each binding given is a variable of one of the tables; or a plain walk gave one binding alone,
+-- what a Get of the name that it begins from gives.
+abbrev pub AreFromTables : Agents → Walker → List VarBind → Type 0
+AreFromTables agents first given =
+    ((p : VarBind) → OneOf given p → IsFromTable agents first p)
+    ⊎ ((first.mode ≡ mode.Plain) × (p : VarBind) × (given ≡ p ∷ [])
+    × IsGotFrom agents first.asked p)
+
+-- the table has a variable of this name
+abbrev pub HasName : MibView → List ℕ → Type 0
+HasName view name = (p : VarBind) × IsRow view p × (p.name ≡ name)
+
+-- each of the tables has a variable of this name
+abbrev pub IsInEach : Agents → List ℕ → Type 0
+IsInEach agents name = (view : MibView) → OneOf agents.tables view → HasName view name
+
+-- one of the bindings has this name, and no other has
+pub record IsGivenOnce (given : List VarBind) (name : List ℕ) : Type 0 where
+  pub before : List VarBind
+  pub binding : VarBind
+  pub behind : List VarBind
+  pub parts : given ≡ before ++ binding ∷ behind
+  pub named : binding.name ≡ name
+  pub not_before : IsNameIn before name → ⊥
+  pub not_behind : IsNameIn behind name → ⊥
+
+-- these are all names below the root that one of the tables has, and maybe others
+abbrev pub HoldsNames : Agents → Walker → List (List ℕ) → Type 0
+HoldsNames agents first names = (view : MibView) → OneOf agents.tables view
+    → (p : VarBind) → IsRow view p → IsBelowRoot first p.name → OneOf names p.name
+
+-- there is room for each single binding of each table
+abbrev pub HasRoomInEach : Agents → Walker → Type 0
+HasRoomInEach agents first = (view : MibView) → OneOf agents.tables view
+    → HasRoomForEach agents view first
+
+-- There are enough ids for a request for each of these names, one more, and a Get.
+abbrev pub HasIdsFor : Walker → List (List ℕ) → Type 0
+HasIdsFor first names = first.id + length names + 2 ≤ 2147483647

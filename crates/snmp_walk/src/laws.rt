@@ -1,0 +1,63 @@
+//! Laws of walks, as calls that do nothing. A proof of a crate above calls them.
+ghost use Rattle.std.specs.Prelude.{◌≡◌, ◌++◌, ◌∷◌, ◌↔◌, ℕ, List};
+ghost use Rattle.snmp_oid.specs.Identifier.{IsWire, IsBelow, Precedes, wire};
+ghost use Rattle.snmp_wire.specs.Message.{VarBind};
+ghost use Rattle.snmp_table.specs.Table.{MibView, IsMibView, IsRow, IsGet};
+ghost use Rattle.snmp_table.specs.Listing.{variables};
+ghost use Rattle.snmp_walk.specs.declared.mode.Mode.{Mode};
+ghost use Rattle.snmp_walk.specs.Walk.{rows_below, walk_of, rest_of};
+ghost use Rattle.snmp_walk.specs.Codec.{Codec};
+ghost use Rattle.snmp_walk.specs.Link.{OneOf};
+ghost use Rattle.snmp_walk.specs.Ordered.{AreOrdered, IsResumable};
+
+use snmp_ber::element_sizes;
+use snmp_oid::order;
+use snmp_wire::{encoding_is_strict, message_sizes, one_spelling, pieces, strict_is_read};
+
+/// The instances that a walk gives below its root are those of the table, in the order of their
+/// names, and those that are left after a name are the ones that come after it.
+pub fn instances_below()
+    ensures below { (view : MibView) (root : List ℕ) (p : VarBind) → IsMibView view
+        → OneOf (rows_below root (variables view)) p ↔ (IsRow view p × IsBelow p.name root) }
+    ensures ordered { (view : MibView) (root : List ℕ) → IsMibView view
+        → AreOrdered (rows_below root (variables view)) }
+    ensures left { (view : MibView) (root o : List ℕ) (p : VarBind) → IsMibView view
+        → OneOf (rest_of root o (variables view)) p
+        ↔ (IsRow view p × IsBelow p.name root × Precedes o p.name) }
+    ensures left_ordered { (view : MibView) (root o : List ℕ) → IsMibView view
+        → AreOrdered (rest_of root o (variables view)) }
+{
+    order();
+}
+
+/// A walk is its beginning up to any of its names, and then the rest from there. `got` is what a
+/// Get of the root gives.
+pub fn rest_of_a_walk()
+    ensures rest { (view : MibView) (mode : Mode) (root : List ℕ) (got p : VarBind)
+        (front more : List VarBind) → IsMibView view → IsGet view (wire root) got
+        → walk_of mode root got (variables view) ≡ front ++ p ∷ more
+        → more ≡ rest_of root p.name (variables view) }
+    // The same of a walk that is resumed.
+    ensures rest_again { (view : MibView) (root o : List ℕ) (p : VarBind)
+        (front more : List VarBind) → IsMibView view
+        → rest_of root o (variables view) ≡ front ++ p ∷ more
+        → more ≡ rest_of root p.name (variables view) }
+    // After each of its names a walk can be resumed.
+    ensures resumable { (view : MibView) (mode : Mode) (root : List ℕ) (got p : VarBind)
+        → IsMibView view → IsGet view (wire root) got → IsWire (wire root)
+        → OneOf (walk_of mode root got (variables view)) p → IsResumable root p.name }
+{}
+
+/// What the crates below state of names, and of messages and their encodings.
+#[inline]
+pub(crate) fn codec()
+    ensures { Codec }
+{
+    one_spelling();
+    strict_is_read();
+    encoding_is_strict();
+    pieces();
+    message_sizes();
+    element_sizes();
+    order();
+}
