@@ -3,6 +3,8 @@
 
 usage: modules_text.py OCTETS            modules in turn until there are that many octets
        modules_text.py definitions N     one module of N small definitions
+       modules_text.py parents N         one module of N definitions, each below the next one
+       modules_text.py types N           one object of the first of N types, each made of the next one
        modules_text.py braces N          one DEFVAL of N nested braces
        modules_text.py string OCTETS     one definition whose description has that many octets
 """
@@ -200,6 +202,17 @@ def definitions(count):
     return "MANY DEFINITIONS ::= BEGIN\n" + lines + "END\n"
 
 
+def parents(count):
+    lines = "".join(f"name{i} OBJECT IDENTIFIER ::= {{ name{i + 1} 1 }}\n" for i in range(count))
+    return "PARENTS DEFINITIONS ::= BEGIN\n" + lines + f"name{count} OBJECT IDENTIFIER ::= {{ iso 1 }}\nEND\n"
+
+
+def type_chain(count):
+    lines = "".join(f"Type{i} ::= Type{i + 1}\n" for i in range(count))
+    return ("TYPES DEFINITIONS ::= BEGIN\n"
+            'x OBJECT-TYPE SYNTAX Type0 MAX-ACCESS read-only STATUS current DESCRIPTION "" ::= { iso 1 }\n' + lines + f"Type{count} ::= INTEGER {{ last(1) }}\nEND\n")
+
+
 def braces(count):
     return ('DEEP DEFINITIONS ::= BEGIN\nx OBJECT-TYPE SYNTAX BITS MAX-ACCESS read-only STATUS current DESCRIPTION ""\n'
             "DEFVAL { " + "{" * count + "}" * count + " } ::= { iso 1 }\nEND\n")
@@ -210,7 +223,7 @@ def string(octets):
             '" ::= { iso 1 }\nEND\n')
 
 
-KINDS = {"definitions": definitions, "braces": braces, "string": string}
+KINDS = {"definitions": definitions, "parents": parents, "types": type_chain, "braces": braces, "string": string}
 
 if len(sys.argv) == 3:
     sys.stdout.write(KINDS[sys.argv[1]](int(sys.argv[2])))

@@ -41,7 +41,8 @@ use Rattle.smi_module.specs.declared.tree.DefKind.TheVariants as D
 use Rattle.smi_module.specs.declared.tree.Module.{Module}
 use Rattle.smi_text.proofs.Marks.{and-left, and-right, and-both, or-false, false-from, same_text-eq, same_text-same, Takes-append}
 use Rattle.smi_text.proofs.Laws.{some-inj}
-use Rattle.smi_text.proofs.Productions.{definition-law, module_text-law, file-law}
+use Rattle.smi_text.proofs.DefinitionLaws.{definition-law}
+use Rattle.smi_text.proofs.ModuleLaws.{module_text-law, file-law}
 use Rattle.smi_text.proofs.Spells.{def-spells, module-spells, file-spells}
 
 -- the label of a definition is the text of its first token

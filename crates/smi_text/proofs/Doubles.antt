@@ -104,7 +104,8 @@ use Rattle.smi_text.proofs.Lawful.{Lawful}
 use Rattle.smi_text.proofs.Marks.{and-left, and-right, or-cases, or-left, or-right, same_text-eq, same_text-same, Takes-split, apart-false}
 use Rattle.smi_text.proofs.Many.{many-fails, many-goes_on, with_front-append, with_front-nil}
 use Rattle.smi_text.proofs.Laws.{starts-with, some-inj}
-use Rattle.smi_text.proofs.Productions.{definition-law, head-law, module_text-law}
+use Rattle.smi_text.proofs.DefinitionLaws.{definition-law}
+use Rattle.smi_text.proofs.ModuleLaws.{head-law, module_text-law}
 use Rattle.smi_text.proofs.Shorter.{definition-solid, module_text-solid}
 use Rattle.smi_text.proofs.Spells.{def-spells, head-spells, module-spells, lists}
 use Rattle.smi_text.proofs.DefinitionLists.{read-label, spelled-label}

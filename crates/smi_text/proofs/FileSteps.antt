@@ -44,7 +44,8 @@ use Rattle.smi_text.proofs.Many.{
   with_front-nil,
 }
 use Rattle.smi_text.proofs.Laws.{starts-with, some-inj}
-use Rattle.smi_text.proofs.Productions.{definition-law, head-law, module_text-law}
+use Rattle.smi_text.proofs.DefinitionLaws.{definition-law}
+use Rattle.smi_text.proofs.ModuleLaws.{head-law, module_text-law}
 use Rattle.smi_text.proofs.Shorter.{definition-solid, module_text-solid}
 use Rattle.smi_text.proofs.Spells.{head-spells}
 use Rattle.smi_text.proofs.DefinitionLists.{read-stands, read-label, stands-more, distinct-more, among-more, no-doubles-more, module-stands}

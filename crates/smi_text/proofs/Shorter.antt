@@ -89,18 +89,11 @@ use Rattle.smi_text.specs.Grammar.{
 }
 use Rattle.smi_text.proofs.Lawful.{Lawful}
 use Rattle.smi_text.proofs.Many.{reading-shorter}
-use Rattle.smi_text.proofs.Productions.{
-  part-law,
-  later_part-law,
-  named_number-law,
-  range-law,
-  field-law,
-  revision-law,
-  before_assign-law,
-  before_end-law,
-  symbol-law,
-  import_clause-law,
-}
+use Rattle.smi_text.proofs.IdentifierLaws.{part-law, later_part-law}
+use Rattle.smi_text.proofs.TypeLaws.{named_number-law, range-law, field-law}
+use Rattle.smi_text.proofs.ClauseLaws.{revision-law}
+use Rattle.smi_text.proofs.RawLaws.{before_assign-law, before_end-law}
+use Rattle.smi_text.proofs.ModuleLaws.{symbol-law, import_clause-law}
 use Rattle.smi_text.proofs.Laws.{lower-law}
 use Rattle.smi_module.specs.declared.names.Name.{Name}
 use Rattle.smi_module.specs.declared.tree.Revision.{Revision}

@@ -1,0 +1,129 @@
+-- Raw runs of tokens are lawful.
+use Rattle.std.proofs.Common.{◌≡◌, ℕ, Bool, true, false, ◌&&◌, not, List, [], ◌∷◌, ◌++◌, Some, None, Ok, Err, if◌then◌else◌, refl, subst, inl, inr, ◌⊎◌}
+use Rattle.std.specs.Prelude.{◌==◌, codes}
+use Rattle.smi_lexer.specs.declared.token.TokenKind.TheVariants as K
+use Rattle.smi_lexer.specs.Token.{Lexeme, Item}
+use Rattle.smi_module.specs.Mark.{same_kind, same_text}
+use Rattle.smi_text.specs.Format.{Takes}
+use Rattle.smi_text.specs.Format.{Reading, no_word, no_kind, never, begins, before, behind, token, with_front, word, lower}
+use Rattle.smi_text.specs.Grammar.{kept_text, depth_after, is_outside, raw_marks, balanced, before_assign, before_end, braced, default_value, is_balanced}
+use Rattle.smi_text.specs.Grammar.{read_balanced}
+use Rattle.smi_text.proofs.Lawful.{Lawful}
+use Rattle.smi_text.proofs.Marks.{and-left, and-right, and-both, or-false, map-inv}
+use Rattle.smi_text.proofs.Laws.{some-inj, any-one, never-stands, word-law, behind-law}
+use Rattle.smi_module.specs.declared.tree.TokenText.{TokenText}
+use Rattle.smi_module.specs.declared.tree.Part.TheVariants as P
+use Rattle.smi_text.proofs.PieceLaws.{braced-law, same-token, kept-law}
+
+-- raw runs
+
+pub before_assign-law : Lawful before_assign
+unfolding before_assign
+before_assign-law = kept-law (no_kind K.Assign ∷ []) (λ k x. not (same_kind k K.Assign)) (λ t h. any-one t (no_kind K.Assign) h)
+
+pub before_end-law : Lawful before_end
+unfolding before_end
+before_end-law =
+    kept-law (no_word (codes "END") ∷ []) (λ k x. not (same_kind k K.Upper && same_text x (codes "END"))) (λ t h. any-one t (no_word (codes "END")) h)
+
+abbrev put_kept : TokenText → List TokenText × List Item → List TokenText × List Item
+put_kept x p = ((x ∷ []) ++ p.0, p.1)
+
+abbrev read_end : List Item → Bool → Reading (List TokenText)
+read_end items b = if b then Some ([], items) else None
+
+abbrev read_inside : ℕ → Lexeme → List Item → Bool → Reading (List TokenText)
+read_inside depth t ts b = if b then Some ([], Ok t ∷ ts) else with_front (kept_text t ∷ []) (read_balanced (depth_after t.kind depth) ts)
+
+ended-takes : (depth : ℕ) (items rest : List Item) (xs : List TokenText) → read_end items (depth == 0) ≡ Some (xs, rest)
+    → (is_balanced depth xs ≡ true) × Takes (raw_marks xs) items rest
+unfolding is_balanced
+ended-takes depth items rest xs h =
+    elim (depth == 0) as (λ b. depth == 0 ≡ b → read_end items b ≡ Some (xs, rest) → (is_balanced depth xs ≡ true) × Takes (raw_marks xs) items rest) [
+      | true ↦ λ b k.
+          let P : List TokenText × List Item → Type 0 = λ w. (is_balanced depth w.0 ≡ true) × Takes (raw_marks w.0) items w.1 in
+          subst P (some-inj {A = List TokenText × List Item} ([], items) (xs, rest) k) (b, refl)
+      | false ↦ λ b k. absurd (cc)
+    ] refl h
+
+balanced-takes : (depth : ℕ) (ts rest : List Item) (xs : List TokenText) → read_balanced depth ts ≡ Some (xs, rest)
+    → (is_balanced depth xs ≡ true) × Takes (raw_marks xs) ts rest
+unfolding read_balanced is_balanced with_front
+balanced-takes depth [] rest xs h = ended-takes depth [] rest xs h
+balanced-takes depth (Err f ∷ ts) rest xs h = ended-takes depth (Err f ∷ ts) rest xs h
+balanced-takes depth (Ok t ∷ ts) rest xs h =
+    let P : List TokenText × List Item → Type 0 = λ w. (is_balanced depth w.0 ≡ true) × Takes (raw_marks w.0) (Ok t ∷ ts) w.1 in
+    elim (is_outside t.kind depth) as (λ b. is_outside t.kind depth ≡ b → read_inside depth t ts b ≡ Some (xs, rest)
+    → (is_balanced depth xs ≡ true) × Takes (raw_marks xs) (Ok t ∷ ts) rest) [
+      | true ↦ λ b k.
+          subst P (some-inj {A = List TokenText × List Item} ([], Ok t ∷ ts) (xs, rest) k) (and-right (same_kind t.kind K.CloseBrace) (depth == 0) b, refl)
+      | false ↦ λ b k.
+          let r = map-inv (put_kept (kept_text t)) (read_balanced (depth_after t.kind depth) ts) (xs, rest) k in
+          let s = balanced-takes (depth_after t.kind depth) ts r.0.1 r.0.0 r.1 in
+          subst P r.2 (and-both (not (is_outside t.kind depth)) (is_balanced (depth_after t.kind depth) r.0.0) (rw b refl) s.0, ((refl, refl, refl), s.1))
+    ] refl h
+
+not-close : (b : Bool) → not (b && true) ≡ true → not b ≡ true
+not-close true h = h
+not-close false h = h
+
+pub not-true : (b : Bool) → not b ≡ true → b ≡ false
+not-true true h = absurd (cc)
+not-true false h = refl
+
+not-false : (b : Bool) → not b ≡ false → b ≡ true
+not-false true h = refl
+not-false false h = absurd (cc)
+
+balanced-end : (depth : ℕ) (rest : List Item) → depth == 0 ≡ true → begins (no_kind K.CloseBrace ∷ []) rest ≡ false → read_balanced depth rest ≡ Some ([], rest)
+unfolding read_balanced begins
+balanced-end depth [] d s = rw d refl
+balanced-end depth (Err f ∷ ts) d s = rw d refl
+balanced-end depth (Ok t ∷ ts) d s =
+    rw (and-both (same_kind t.kind K.CloseBrace) (depth == 0) (not-false (same_kind t.kind K.CloseBrace) (or-false (not
+    (same_kind t.kind K.CloseBrace)) false s).0) d) refl
+
+balanced-again : (depth : ℕ) (xs : List TokenText) (ts rest : List Item) → is_balanced depth xs ≡ true → Takes (raw_marks xs) ts rest
+    → begins (no_kind K.CloseBrace ∷ []) rest ≡ false → read_balanced depth ts ≡ Some (xs, rest)
+unfolding is_balanced read_balanced with_front
+balanced-again depth [] ts rest b h s = rw h (balanced-end depth rest b s)
+balanced-again depth (x ∷ xs) [] rest b h s = absurd h
+balanced-again depth (x ∷ xs) (Err f ∷ ts) rest b h s = absurd h
+balanced-again depth (x ∷ xs) (Ok t ∷ ts) rest b h s =
+    let inside = not-true (is_outside x.kind depth) (and-left (not (is_outside x.kind depth)) (is_balanced (depth_after x.kind depth) xs) b) in
+    let next = balanced-again (depth_after x.kind depth) xs ts rest (and-right (not (is_outside x.kind depth)) (is_balanced
+    (depth_after x.kind depth) xs) b) h.1 s in
+    let e = same-token t x h.0.0 h.0.1 in
+    rw (e, h.0.0, inside, next) refl
+
+balanced-starts : (xs : List TokenText) (ts rest : List Item) → is_balanced 0 xs ≡ true → Takes (raw_marks xs) ts rest
+    → (begins (no_kind K.CloseBrace ∷ []) ts ≡ true) ⊎ (ts ≡ rest)
+unfolding begins is_balanced
+balanced-starts [] ts rest b h = inr h
+balanced-starts (x ∷ xs) [] rest b h = absurd h
+balanced-starts (x ∷ xs) (Err f ∷ ts) rest b h = absurd h
+balanced-starts (x ∷ xs) (Ok t ∷ ts) rest b h =
+    inl (any-one t (no_kind K.CloseBrace) (rw h.0.0 (not-close (same_kind x.kind K.CloseBrace) (and-left (not (same_kind x.kind K.CloseBrace && true))
+    (is_balanced (depth_after x.kind 0) xs) b))))
+
+balanced-pieces : (xs : List TokenText) (ts rest : List Item) → Takes (if is_balanced 0 xs then raw_marks xs else never) ts rest
+    → (is_balanced 0 xs ≡ true) × Takes (raw_marks xs) ts rest
+balanced-pieces xs ts rest =
+    elim (is_balanced 0 xs) as (λ b. Takes (if b then raw_marks xs else never) ts rest → (b ≡ true) × Takes (raw_marks xs) ts rest) [
+      | true ↦ λ h. (refl, h)
+      | false ↦ λ h. absurd (never-stands ts rest h)
+    ]
+
+pub balanced-law : Lawful balanced
+unfolding balanced
+balanced-law = record {
+  takes = λ ts rest xs h. let p = balanced-takes 0 ts rest xs h in rw (p.0) (p.1);
+  again = λ xs ts rest h s. let p = balanced-pieces xs ts rest h in balanced-again 0 xs ts rest p.0 p.1 s;
+  starts = λ xs ts rest h.
+      let p = balanced-pieces xs ts rest h in
+      elim (balanced-starts xs ts rest p.0 p.1) [ inl b ↦ inl b | inr e ↦ inr (refl, e) ];
+}
+
+pub default_value-law : Lawful default_value
+unfolding balanced before behind braced default_value token word lower
+default_value-law = behind-law (word (codes "DEFVAL")) (braced balanced) (word-law (codes "DEFVAL")) (braced-law balanced balanced-law refl) refl refl
