@@ -83,8 +83,23 @@ fn value_text(part: IndexPart, value: &[u32], draft: &mut Draft)
 fn number_text(number: u64, draft: &mut Draft)
     ensures { Adds draft.old (codes "." ++ decimal number) draft.new }
 {
-    draft.octet(b'.');
-    draft.number(number);
+    if number < 10 {
+        draft.octets(&[b'.', b'0' + number as u8]);
+    } else if number < 100 {
+        draft.octets(&[b'.', b'0' + (number / 10) as u8, b'0' + (number % 10) as u8]);
+    } else if number < 1000 {
+        let ones = b'0' + (number % 10) as u8;
+        let tens = number / 10;
+        draft.octets(&[
+            b'.',
+            b'0' + (tens / 10) as u8,
+            b'0' + (tens % 10) as u8,
+            ones,
+        ]);
+    } else {
+        draft.octet(b'.');
+        draft.number(number);
+    }
 }
 
 /// A string between quotes, after a dot: double quotes if a length counts its octets, otherwise

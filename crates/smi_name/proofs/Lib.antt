@@ -4,3 +4,5 @@ pub mod PlainLemmas
 pub mod ShownLemmas
 pub mod WordLemmas
 pub mod ReadBack
+pub mod MeantWords
+pub mod MeantTexts

@@ -132,7 +132,7 @@ label_and_pieces known naming scope label front pieces word found all low =
     ∙ further_pieces known naming front pieces all low
 
 -- a text of more than a dot is read by its module and parts
-scoped : (naming : Naming) (text : List ℕ) → text ≢ [] → text ≢ 46 ∷ [] → meaning naming text ≡ scoped_meaning naming text (module_after None text)
+pub scoped : (naming : Naming) (text : List ℕ) → text ≢ [] → text ≢ 46 ∷ [] → meaning naming text ≡ scoped_meaning naming text (module_after None text)
 scoped naming [] some more = absurd (some refl)
 scoped naming (octet ∷ []) some more = at (eqb octet 46) refl
   where
@@ -188,7 +188,7 @@ module_back known naming home label front pieces home_word loaded word found all
     ∙ label_and_pieces known naming (in_module home) label front pieces word found all low
 
 -- numbers alone, after a leading dot
-numbers_text : (numbers : List ℕ) → flat_map (λ m. dot ∷ decimal m) numbers ≡ shown_pieces (as_numbers numbers)
+pub numbers_text : (numbers : List ℕ) → flat_map (λ m. dot ∷ decimal m) numbers ≡ shown_pieces (as_numbers numbers)
 numbers_text [] = refl
 numbers_text (n ∷ more) = ap (λ (t : List ℕ). (dot ∷ decimal n) ++ t) (numbers_text more)
 

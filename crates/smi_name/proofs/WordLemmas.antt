@@ -40,10 +40,10 @@ use Rattle.smi_name.specs.Word.{a_piece, a_label, numeral_of, quoted_in, number_
 use Rattle.smi_name.proofs.NumeralLemmas.{numeral_is}
 use Rattle.smi_name.proofs.PlainLemmas.{and_left, word_no_digit, plain_word_begins}
 
-digit_first : (octet : ℕ) (more : List ℕ) → is_ascii_digit octet ≡ true → word_of (octet ∷ more) ≡ number_word (numeral_of (octet ∷ more))
+pub digit_first : (octet : ℕ) (more : List ℕ) → is_ascii_digit octet ≡ true → word_of (octet ∷ more) ≡ number_word (numeral_of (octet ∷ more))
 digit_first octet more h = rw h refl
 
-digits_word : (text : List ℕ) (n : ℕ) → IsNumeral text n → word_of text ≡ Ok (a_piece (plain_number n))
+pub digits_word : (text : List ℕ) (n : ℕ) → IsNumeral text n → word_of text ≡ Ok (a_piece (plain_number n))
 digits_word [] n h = absurd (h.some refl)
 digits_word (octet ∷ more) n h =
     let digit : is_ascii_digit octet ≡ true = and_left (is_ascii_digit octet) (all_ascii_digits more) h.digits in
@@ -63,13 +63,13 @@ quoted_read quote octets h =
     let front : take (length octets) (octets ++ quote ∷ []) ≡ octets = take-append_seam octets (quote ∷ []) in
     rw some (rw last (rw front (rw h refl)))
 
-quoted_back : (quote : ℕ) (octets : List ℕ) → list_all is_quotable octets ≡ true → quoted_in quote (octets ++ quote ∷ []) ≡ Some octets
+pub quoted_back : (quote : ℕ) (octets : List ℕ) → list_all is_quotable octets ≡ true → quoted_in quote (octets ++ quote ∷ []) ≡ Some octets
 unfolding quoted_at
 quoted_back quote octets h =
     let size : length (octets ++ quote ∷ []) - 1 ≡ length octets = omega (arith, length-append octets (quote ∷ [])) in
     ap (quoted_at quote (octets ++ quote ∷ [])) size ∙ quoted_read quote octets h
 
-some_text : (octets : List ℕ) → octets ≢ [] → plain_word (Some octets) ≡ Ok (a_piece (plain_text octets))
+pub some_text : (octets : List ℕ) → octets ≢ [] → plain_word (Some octets) ≡ Ok (a_piece (plain_text octets))
 some_text [] some = absurd (some refl)
 some_text (octet ∷ more) some = refl
 

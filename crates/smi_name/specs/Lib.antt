@@ -6,3 +6,4 @@ pub mod Word
 pub mod Meaning
 pub mod Part
 pub mod Name
+pub mod Meant

@@ -6,6 +6,7 @@
 
 mod cut;
 mod error;
+mod laws;
 mod meaning;
 mod name;
 mod part;
@@ -15,6 +16,7 @@ mod tree;
 mod word;
 
 pub use error::NameError;
+pub use laws::one_meaning;
 pub use meaning::resolve;
 pub use name::name_text;
 pub use smi_letters::NameForm;

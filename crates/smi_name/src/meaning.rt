@@ -8,6 +8,7 @@ ghost use Rattle.smi_name.specs.Left.{parts_left};
 ghost use Rattle.smi_name.specs.Meaning.{further_meaning, head_meaning, meaning, part_meaning};
 ghost use Rattle.smi_name.specs.Meaning.{found_in, known, parts_meaning, plain_meaning};
 ghost use Rattle.smi_name.specs.Meaning.{scoped_meaning};
+ghost use Rattle.smi_name.specs.Meant.{Means};
 ghost use Rattle.smi_name.specs.Name.{ReadsBack, name_text};
 ghost use Rattle.smi_name.specs.Part.{scope_in};
 
@@ -28,6 +29,7 @@ use snmp_oid::{Oid, names};
 /// later part is that of a child. What [`crate::name_text`] shows by module and label, or in
 /// numbers, is read back.
 pub fn resolve<T: NameTree>(tree: &T, text: &[u8]) -> Result<Oid, NameError>
+    ensures stated { Means (T.naming tree.now) text.now result }
     ensures meant { result ≡ meaning (T.naming tree.now) text.now }
     ensures reads_back { (form : NameForm) (numeric_index : Bool) (o : List ℕ)
         → ReadsBack form → IsIdentifier o

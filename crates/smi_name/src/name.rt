@@ -11,7 +11,7 @@ ghost use Rattle.smi_name.specs.Standing.{standing_of};
 
 use crate::{NameForm, NameTree, Node};
 use smi_index::{index_text, numbers_text};
-use snmp_oid::{LONGEST_TEXT, Oid, write_numeric};
+use snmp_oid::Oid;
 use text_draft::Draft;
 
 /// Appends the name of an identifier.
@@ -37,10 +37,9 @@ pub fn name_text<T: NameTree>(
 fn numeric(oid: &Oid, draft: &mut Draft)
     ensures { Adds draft.old (numeric_text oid.now) draft.new }
 {
-    let mut text = [0; LONGEST_TEXT];
-    match write_numeric(oid, &mut text) {
-        Some(len) => draft.octets(&text[..len]),
-        None => unreachable!(),
+    match oid.as_slice() {
+        [] => draft.octet(b'.'),
+        numbers => numbers_text(numbers, draft),
     }
 }
 

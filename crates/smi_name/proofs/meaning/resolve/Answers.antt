@@ -1,5 +1,7 @@
-use Rattle.std.proofs.Common.{◌∙◌, ap}
+use Rattle.std.proofs.Common.{◌∙◌, ap, sym, subst}
 use Rattle.smi_name.specs.Meaning.{meaning}
+use Rattle.smi_name.specs.Meant.{Means}
+use Rattle.smi_name.proofs.MeantTexts.{means}
 use Rattle.smi_name.proofs.ReadBack.{Known, name_back, written_numeral}
 use Rattle.smi_name.proofs.meaning.resolve.Goals as goal
 
@@ -13,3 +15,8 @@ returns-clause-reads_back g c = λ form numeric_index o reads is shown. (
     } in
     c.meaning_of.ensures ∙ ap (meaning naming) shown ∙ name_back known naming form numeric_index o c.sound.ensures reads is
     )
+
+pub returns-clause-stated : goal.returns-clause-stated
+returns-clause-stated g c =
+    let naming = g.T.NameTree.naming c.args.tree.now in
+    subst (Means naming c.args.text.now) (sym c.meaning_of.ensures) (means naming c.args.text.now)
