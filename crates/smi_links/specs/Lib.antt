@@ -3,3 +3,4 @@ pub mod Basis
 pub mod Order
 pub mod Search
 pub mod Resolving
+pub mod Ends

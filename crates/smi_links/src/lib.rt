@@ -6,9 +6,11 @@
 #![tactic(auto)]
 
 mod basis;
+mod chain;
 mod order;
 mod resolve;
 
 pub use basis::{Basis, Resolution};
+pub use chain::ends;
 pub use order::ordered;
 pub use resolve::resolutions;

@@ -26,6 +26,7 @@ use Rattle.std.proofs.Common.{
   append_assoc,
 }
 use Rattle.std.proofs.lemmas.List.{append-nil, length_push}
+use Rattle.std.proofs.lemmas.List.Elements.{All-nil, All-push, All-append}
 use Rattle.std.proofs.lemmas.Slice.Eq.{bytes_eq-Decides}
 use Rattle.std.specs.List.{slice_get, find, list_any}
 use Rattle.std.specs.Option.{option_and_then, option_map}
@@ -34,7 +35,7 @@ use Rattle.std.specs.BTreeMap.{BTreeMap}
 use Rattle.smi_module.specs.Mark.{same_text}
 use Rattle.smi_module.specs.declared.tree.Module.{Module}
 use Rattle.smi_meaning.specs.Meaning.{Decision, or_else}
-use Rattle.smi_meaning.specs.Scopes.{Content, content_of, place_in, known, decided_as, IsWithin, KnowsMore}
+use Rattle.smi_meaning.specs.Scopes.{Content, content_of, place_in, known, decided_as, IsWithin, IsOf, KnowsMore}
 use Rattle.smi_meaning.specs.declared.entry.Entry.{Entry}
 
 pub same : (xs ys : List ℕ) → same_text xs ys ≡ true → xs ≡ ys
@@ -93,14 +94,15 @@ or_else_none : {A : Type 0} (o : Option A) → or_else o None ≡ o
 or_else_none None = refl
 or_else_none (Some x) = refl
 
-module _ (old : List Entry) (scope : Scope) (m : Module) (within : IsWithin old scope) where
+module _ (old : List Entry) (scope : Scope) (m : Module) (i : ℕ) (within : IsWithin old scope) where
   -- the name is there
   pub KnowsMore-there : (name : List ℕ) (d : Decision) (p : ℕ) → place_in scope name ≡ Some p
-      → KnowsMore old scope old scope m (λ x. cond (same_text name x) (Some d) None)
+      → KnowsMore old scope old scope m i (λ x. cond (same_text name x) (Some d) None)
   KnowsMore-there name d p there = record {
     knows = λ x. by x (same_text name x) refl;
     added = [];
     grown = sym (append-nil old);
+    of = All-nil (IsOf m i);
     within = within;
   }
     where
@@ -115,11 +117,12 @@ module _ (old : List Entry) (scope : Scope) (m : Module) (within : IsWithin old 
   -- the name is new
   pub KnowsMore-entered : (new : Scope) (name : List ℕ) (e : Entry) → place_in scope name ≡ None
       → ((x : List ℕ) → place_in new x ≡ cond (same_text name x) (Some (length old)) (place_in scope x)) → e.module.now ≡ m → e.name.now ≡ name
-      → KnowsMore old scope (old ++ e ∷ []) new m (λ x. cond (same_text name x) (Some (content_of e).decided) None)
-  KnowsMore-entered new name e none places home named = record {
+      → IsOf m i e → KnowsMore old scope (old ++ e ∷ []) new m i (λ x. cond (same_text name x) (Some (content_of e).decided) None)
+  KnowsMore-entered new name e none places home named is_of = record {
     knows = λ x. by x (same_text name x) refl;
     added = e ∷ [];
     grown = refl;
+    of = All-push (IsOf m i) [] e (All-nil (IsOf m i)) is_of;
     within = λ x p at. inside x p (same_text name x) (sym (places x) ∙ at);
   }
     where
@@ -139,15 +142,22 @@ module _ (old : List Entry) (scope : Scope) (m : Module) (within : IsWithin old 
       inside x p true at = let is : length old ≡ p = cc in omega (arith, length_push old e)
       inside x p false at = omega (arith, within x p at, length_push old e)
 
-  pub KnowsMore-start : KnowsMore old scope old scope m (λ x. None)
-  KnowsMore-start = record { knows = λ x. sym (or_else_none (known old scope x)); added = []; grown = sym (append-nil old); within = within }
+  pub KnowsMore-start : KnowsMore old scope old scope m i (λ x. None)
+  KnowsMore-start = record {
+    knows = λ x. sym (or_else_none (known old scope x));
+    added = [];
+    grown = sym (append-nil old);
+    of = All-nil (IsOf m i);
+    within = within;
+  }
 
-pub KnowsMore-then : (e0 e1 e2 : List Entry) (s0 s1 s2 : Scope) (m : Module) (f g : List ℕ → Option Decision)
-    → KnowsMore e0 s0 e1 s1 m f → KnowsMore e1 s1 e2 s2 m g → KnowsMore e0 s0 e2 s2 m (λ x. or_else (f x) (g x))
-KnowsMore-then e0 e1 e2 s0 s1 s2 m f g a b = record {
+pub KnowsMore-then : (e0 e1 e2 : List Entry) (s0 s1 s2 : Scope) (m : Module) (i : ℕ) (f g : List ℕ → Option Decision)
+    → KnowsMore e0 s0 e1 s1 m i f → KnowsMore e1 s1 e2 s2 m i g → KnowsMore e0 s0 e2 s2 m i (λ x. or_else (f x) (g x))
+KnowsMore-then e0 e1 e2 s0 s1 s2 m i f g a b = record {
   knows = λ x. b.knows x ∙ rw (a.knows x) (both x (known e0 s0 x) (f x));
   added = a.added ++ b.added;
   grown = b.grown ∙ rw a.grown append_assoc_of;
+  of = All-append (IsOf m i) a.added b.added a.of b.of;
   within = b.within;
 }
   where
@@ -160,11 +170,12 @@ KnowsMore-then e0 e1 e2 s0 s1 s2 m f g a b = record {
     append_assoc_of : (e0 ++ a.added) ++ b.added ≡ e0 ++ (a.added ++ b.added)
     append_assoc_of = append_assoc e0 a.added b.added
 
-pub KnowsMore-same : (e0 e1 : List Entry) (s0 s1 : Scope) (m : Module) (f g : List ℕ → Option Decision)
-    → KnowsMore e0 s0 e1 s1 m f → ((x : List ℕ) → f x ≡ g x) → KnowsMore e0 s0 e1 s1 m g
-KnowsMore-same e0 e1 s0 s1 m f g a h = record {
+pub KnowsMore-same : (e0 e1 : List Entry) (s0 s1 : Scope) (m : Module) (i : ℕ) (f g : List ℕ → Option Decision)
+    → KnowsMore e0 s0 e1 s1 m i f → ((x : List ℕ) → f x ≡ g x) → KnowsMore e0 s0 e1 s1 m i g
+KnowsMore-same e0 e1 s0 s1 m i f g a h = record {
   knows = λ x. a.knows x ∙ rw (h x) refl;
   added = a.added;
   grown = a.grown;
+  of = a.of;
   within = a.within;
 }

@@ -23,6 +23,7 @@ use Rattle.std.proofs.Common.{
   Option,
   Some,
   None,
+  All,
   refl,
   sym,
   ap,
@@ -33,6 +34,7 @@ use Rattle.std.proofs.Common.{
   inr,
 }
 use Rattle.std.proofs.lemmas.List.{take_more, length_push, length-take-le}
+use Rattle.std.proofs.lemmas.List.Elements.{All-append}
 use Rattle.std.proofs.lemmas.Bool.{cases_eq}
 use Rattle.std.specs.List.{slice_get, find, position_from}
 use Rattle.smi_module.specs.Mark.{same_text}
@@ -40,8 +42,8 @@ use Rattle.smi_module.specs.Lookup.{part_number}
 use Rattle.smi_module.specs.declared.tree.Module.{Module}
 use Rattle.smi_module.specs.declared.tree.Part.{Part}
 use Rattle.smi_meaning.specs.Meaning.{or_else, both, arcs, decision}
-use Rattle.smi_meaning.specs.Scopes.{place_in, known, decided_as, IsWithin}
-use Rattle.smi_meaning.specs.Names.{Scope, module_place, AreEach}
+use Rattle.smi_meaning.specs.Scopes.{place_in, known, decided_as, IsWithin, IsOf}
+use Rattle.smi_meaning.specs.Names.{Scope, module_place, IsSourced, AreEach}
 use Rattle.smi_meaning.specs.declared.entry.Entry.{Entry}
 use Rattle.smi_meaning.proofs.Knowing.{same, known-append}
 
@@ -117,11 +119,31 @@ get-push_at : {X : Type 0} (xs : List X) (y : X) → slice_get (xs ++ y ∷ []) 
 get-push_at [] y = refl
 get-push_at (x ∷ xs) y = get-push_at xs y
 
+-- what is read at a place
+pub get_read : {X : Type 0} (xs : List X) (j : ℕ) (x : X) → j < length xs → x ≡ get_or xs j x → slice_get xs j ≡ Some x
+get_read [] j x l e = absurd (omega arith)
+get_read (y ∷ xs) zero x l e = ap (λ z. Some z) (sym e)
+get_read (y ∷ xs) (suc j) x l e = get_read xs j x (omega arith) e
+
+get-more : {X : Type 0} (xs : List X) (j : ℕ) (x y : X) → slice_get xs j ≡ Some x → slice_get (xs ++ y ∷ []) j ≡ Some x
+get-more [] j x y e = absurd (cc)
+get-more (z ∷ xs) zero x y e = e
+get-more (z ∷ xs) (suc j) x y e = get-more xs j x y e
+
+-- entries stay where they are, and those of the module more are of the last one
+AreSourced-more : (ms : List Module) (old added : List Entry) (m : Module) (i : ℕ) → i ≡ length ms → All (IsSourced ms) old → All (IsOf m i) added
+    → All (IsSourced (ms ++ m ∷ [])) (old ++ added)
+AreSourced-more ms old added m i last sourced of =
+    All-append (IsSourced (ms ++ m ∷ [])) old added (λ k d l. let h = sourced k d l in (
+      get-more ms (get_or old k d).source.0 (get_or old k d).module.now m h.0,
+      h.1,
+    )) (λ k d l. let h = of k d l in (rw (h.0, h.1, last) (get-push_at ms m), h.2))
+
 -- one module more
-pub AreEach-more : (ms : List Module) (scopes : List Scope) (old added : List Entry) (m : Module) (scope : Scope) → AreEach ms scopes old
+pub AreEach-more : (ms : List Module) (scopes : List Scope) (old added : List Entry) (m : Module) (i : ℕ) (scope : Scope) → AreEach ms scopes old
     → ((x : List ℕ) → known (old ++ added) scope x ≡ decided_as m x (decision m x)) → IsWithin (old ++ added) scope
-    → AreEach (ms ++ m ∷ []) (scopes ++ scope ∷ []) (old ++ added)
-AreEach-more ms scopes old added m scope are knows within = record {
+    → i ≡ length ms → All (IsOf m i) added → AreEach (ms ++ m ∷ []) (scopes ++ scope ∷ []) (old ++ added)
+AreEach-more ms scopes old added m at_end scope are knows within last of = record {
   long = length_push scopes scope ∙ rw are.long (sym (length_push ms m));
   each = λ i n s em es x. elim (cases_eq i (length ms)) [
     | inl end ↦
@@ -137,6 +159,7 @@ AreEach-more ms scopes old added m scope are knows within = record {
     | inl end ↦ let is : scope ≡ s = let a = rw (sym end) at (get-push_at scopes scope) in cc in within x p (rw is at)
     | inr before ↦ omega (arith, are.within i s (sym (get-push scopes i scope before) ∙ es) x p at, length-append old added)
   ];
+  sourced = AreSourced-more ms old added m at_end last are.sourced of;
 }
 
 pub arcs-push : (ps : List Part) (p : Part) (ns : List ℕ) (n : ℕ) → arcs ps ≡ Some ns → part_number p ≡ Some n → arcs (ps ++ p ∷ []) ≡ Some (ns ++ n ∷ [])

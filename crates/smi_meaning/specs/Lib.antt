@@ -3,3 +3,4 @@ pub mod Scopes
 pub mod Names
 pub mod Directory
 pub mod Resolved
+pub mod Known

@@ -1,5 +1,5 @@
 -- The places of names of modules among the entries.
-use Rattle.std.specs.Prelude.{◌≡◌, ℕ, List, length, Option, Some, unwrap_or}
+use Rattle.std.specs.Prelude.{◌≡◌, ℕ, List, length, Option, Some, unwrap_or, All}
 use Rattle.std.specs.List.{slice_get, position_from}
 use Rattle.std.specs.Option.{option_and_then}
 use Rattle.std.specs.Borrow.{Bor}
@@ -8,7 +8,7 @@ use Rattle.smi_links.specs.Chain.{Origin, numbers, after, nowhere}
 use Rattle.smi_module.specs.Mark.{same_text}
 use Rattle.smi_module.specs.declared.tree.Module.{Module}
 use Rattle.smi_meaning.specs.Meaning.{Place, decision}
-use Rattle.smi_meaning.specs.Scopes.{place_in, known, decided_as, IsWithin}
+use Rattle.smi_meaning.specs.Scopes.{place_in, known, decided_as, IsWithin, IsDefinedAt}
 use Rattle.smi_meaning.specs.declared.entry.Entry.{Entry}
 
 abbrev pub Scope : Type 0
@@ -30,6 +30,10 @@ map_origin f nowhere = nowhere
 abbrev pub module_place : List Module → List ℕ → Option ℕ
 module_place ms x = position_from (λ m. same_text m.name.octets x) 0 ms
 
+-- the definition that decides the meaning of an entry's name stands where the entry states
+abbrev pub IsSourced : List Module → Entry → Type 0
+IsSourced ms e = (slice_get ms e.source.0 ≡ Some e.«module».now) × IsDefinedAt e
+
 -- each name with a meaning in a module has an entry
 pub record AreEach (ms : List Module) (scopes : List Scope) (entries : List Entry) : Type 0 where
   pub long : length scopes ≡ length ms
@@ -37,3 +41,4 @@ pub record AreEach (ms : List Module) (scopes : List Scope) (entries : List Entr
       → slice_get scopes i ≡ Some scope
       → (x : List ℕ) → known entries scope x ≡ decided_as m x (decision m x)
   pub within : (i : ℕ) (scope : Scope) → slice_get scopes i ≡ Some scope → IsWithin entries scope
+  pub sourced : All (IsSourced ms) entries

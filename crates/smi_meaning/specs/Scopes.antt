@@ -1,5 +1,5 @@
 -- The names of modules with their places among the entries.
-use Rattle.std.specs.Prelude.{◌≡◌, ℕ, ◌<◌, List, ◌++◌, length, Option, Some, option_map}
+use Rattle.std.specs.Prelude.{◌≡◌, ℕ, ◌<◌, List, ◌++◌, length, Option, Some, option_map, All}
 use Rattle.std.specs.List.{slice_get}
 use Rattle.std.specs.Option.{option_and_then}
 use Rattle.std.specs.Ordering.{nat_cmp}
@@ -7,6 +7,7 @@ use Rattle.std.specs.Borrow.{Bor}
 use Rattle.std.specs.BTreeMap.{BTreeMap, get_by}
 use Rattle.std.specs.Cmp.Lexicographic.{slice_cmp}
 use Rattle.smi_module.specs.declared.tree.Module.{Module}
+use Rattle.smi_module.specs.declared.tree.Def.{Def}
 use Rattle.smi_meaning.specs.Meaning.{Decision, defined, imported, root, or_else}
 use Rattle.smi_meaning.specs.declared.entry.Decider.{Decider}
 use Rattle.smi_meaning.specs.declared.entry.Decider.TheVariants as D
@@ -41,12 +42,22 @@ decided_as m x d = option_map (λ v. record { home = m; name = x; decided = v })
 abbrev pub IsWithin : List Entry → BTreeMap (Bor (List ℕ)) ℕ → Type 0
 IsWithin entries scope = (x : List ℕ) (p : ℕ) → place_in scope x ≡ Some p → p < length entries
 
+-- a definition that decides stands in the module at the place that the entry states
+abbrev pub IsDefinedAt : Entry → Type 0
+IsDefinedAt e = (d : Def) → decision_of e.decider ≡ defined d
+    → slice_get e.«module».now.defs e.source.1 ≡ Some d
+
+-- an entry is one of the module at a place
+abbrev pub IsOf : Module → ℕ → Entry → Type 0
+IsOf m i e = (e.«module».now ≡ m) × (e.source.0 ≡ i) × IsDefinedAt e
+
 -- the scope knows more: where it knew nothing, it has what `more` decides
 pub record KnowsMore (old : List Entry) (before : BTreeMap (Bor (List ℕ)) ℕ) (new : List Entry)
-    (scope : BTreeMap (Bor (List ℕ)) ℕ) (m : Module) (more : List ℕ
+    (scope : BTreeMap (Bor (List ℕ)) ℕ) (m : Module) (i : ℕ) (more : List ℕ
     → Option Decision) : Type 0 where
   pub knows : (x : List ℕ)
       → known new scope x ≡ or_else (known old before x) (decided_as m x (more x))
   pub added : List Entry
   pub grown : new ≡ old ++ added
+  pub of : All (IsOf m i) added
   pub within : IsWithin new scope

@@ -59,11 +59,12 @@ pub(crate) fn scopes<'a>(
     entries: &mut Vec<Entry<'a>>,
     modules: &'a [Module],
 ) -> Result<Vec<Scope<'a>>, AllocError>
+    requires { entries.old.items ≡ [] }
     ensures { IfOk result (λ scopes. AreEach modules.now scopes.items entries.new.items) }
 {
     let mut scopes = Vec::new(alloc);
-    'modules: for module in modules {
-        let scope = scope(alloc, entries, module)?;
+    'modules: for (i, module) in modules.iter().enumerate() {
+        let scope = scope(alloc, entries, module, i)?;
         scopes.push(scope)?;
     }
     Ok(scopes)

@@ -13,10 +13,15 @@ pub enum Decider<'a> {
     Root(u32),
 }
 
-/// A name of a module.
+/// A name that has a meaning in a module.
 #[derive(Clone, Copy)]
-pub(crate) struct Entry<'a> {
-    pub(crate) module: &'a Module,
-    pub(crate) name: &'a [u8],
-    pub(crate) decider: Decider<'a>,
+pub struct Entry<'a> {
+    /// The module.
+    pub module: &'a Module,
+    /// The octets of the name.
+    pub name: &'a [u8],
+    /// What decides its meaning.
+    pub decider: Decider<'a>,
+    /// The place of the module and, if a definition decides, the place of the definition in it.
+    pub source: (usize, usize),
 }

@@ -5,11 +5,14 @@
 #![tactic(auto)]
 
 mod directory;
+mod entries;
 mod entry;
 mod laws;
 mod names;
 mod scope;
 
-pub use entry::Decider;
+pub use entries::Entries;
+pub use entry::{Decider, Entry};
 pub use laws::one_meaning;
 pub use names::Names;
+pub use scope::import_clauses;

@@ -5,8 +5,10 @@ ghost use Rattle.smi_links.specs.Chain.{nowhere};
 ghost use Rattle.smi_links.specs.Basis.{ComesTo};
 ghost use Rattle.smi_meaning.specs.Meaning.{origin, module_named, decision, Place};
 ghost use Rattle.smi_meaning.specs.Scopes.{decision_of};
+ghost use Rattle.smi_meaning.specs.Names.{module_place};
 
 use crate::directory::{Directory, find, homes, scopes};
+use crate::entries::Entries;
 use crate::entry::Decider;
 use smi_links::{Resolution, resolutions};
 use smi_module::Module;
@@ -74,6 +76,23 @@ impl<'a> Names<'a> {
         let place = self.directory.place(home, name);
         let entry = self.directory.entries.get(place)?;
         Some(entry.decider)
+    }
+
+    /// The names by their places.
+    pub fn entries(&self) -> Entries<'_, 'a>
+        ensures { result.modules ≡ self.now }
+    {
+        Entries {
+            modules: self.modules,
+            directory: &self.directory,
+        }
+    }
+
+    /// The place of the first module of a name.
+    pub fn module_place(&self, name: &'a [u8]) -> Option<usize>
+        ensures { result ≡ module_place self.now name.now }
+    {
+        find(&self.directory.homes, name)
     }
 
     /// Whether there is a module of this name.

@@ -1,5 +1,5 @@
 -- Nodes and warnings are added at the end.
-use Rattle.std.proofs.Common.{◌≡◌, ℕ, zero, suc, ◌<◌, List, [], ◌∷◌, ◌++◌, length, get_or, Some, None, refl, sym, ap, ◌∙◌, arith, append_assoc}
+use Rattle.std.proofs.Common.{◌≡◌, ℕ, zero, suc, ◌<◌, true, false, List, [], ◌∷◌, ◌++◌, length, get_or, Some, None, refl, sym, ap, ◌∙◌, arith, append_assoc}
 use Rattle.std.proofs.lemmas.List.{append-nil, length_push}
 use Rattle.std.specs.List.{slice_get}
 use Rattle.smi_links.specs.Basis.{ComesTo}
@@ -10,12 +10,15 @@ use Rattle.smi_module.specs.declared.tree.Def.{Def}
 use Rattle.smi_module.specs.declared.tree.Part.{Part}
 use Rattle.smi_module.specs.Lookup.{identifier_of}
 use Rattle.smi_meaning.specs.Meaning.{origin}
-use Rattle.smi_nodes.specs.Nodes.{Node, nodes_by, warnings_by, roots, none, more, none_yet, then_module}
-use Rattle.smi_nodes.specs.Gathered.{node_from, nodes_of, sources_by, oids_by, IsSourceOf, Extends, Adds, AddsDefinition, AddsDefinitions, AreGathered}
+use Rattle.smi_nodes.specs.Imports.{import_warnings}
+use Rattle.smi_nodes.specs.Nodes.{Node, nodes_by, warnings_by, roots, none, more, is_loaded, left_out, loaded, none_yet, then_module}
+use Rattle.smi_nodes.specs.Gathered.{node_from, nodes_of, sources_by, oids_by, IsSourceOf}
+use Rattle.smi_nodes.specs.Gathered.{Extends, Adds, AddsDefinition, AddsDefinitions, AddsModule, AreGathered}
 use Rattle.smi_nodes.specs.declared.source.Source.{Source}
 use Rattle.smi_nodes.specs.declared.source.Source.TheVariants as S
 use Rattle.smi_nodes.specs.declared.gather.Gathered.{Gathered}
 use Rattle.smi_nodes.specs.declared.warning.Warning.{Warning}
+use Rattle.smi_nodes.specs.declared.warning.Warning.TheVariants as W
 
 nodes_of-push : (ms : List Module) (ss : List Source) (os : List (List ℕ)) (s : Source) (o : List ℕ) → length ss ≡ length os
     → nodes_of ms (ss ++ s ∷ []) (os ++ o ∷ []) ≡ nodes_of ms ss os ++ node_from ms s o ∷ []
@@ -94,13 +97,46 @@ AddsDefinitions-more ms a b c m ds d f g = record {
   adds = Adds-then ms a b c f.ns g.ns f.ws g.ws f.adds g.adds;
 }
 
-pub AreGathered-more : (ms : List Module) (a b : Gathered) (before : List Module) (m : Module) → AreGathered ms a before → AddsDefinitions ms a b m m.defs
+pub AreGathered-more : (ms : List Module) (a b : Gathered) (before : List Module) (m : Module) → AreGathered ms a before → AddsModule ms a b before m
     → AreGathered ms b (before ++ m ∷ [])
 AreGathered-more ms a b before m f g = record {
   ns = f.ns ++ g.ns;
   long = g.adds.long;
   nodes = g.adds.nodes ∙ rw f.nodes (append_assoc roots f.ns g.ns);
-  loads = rw g.adds.warnings (then_module before m f.ns g.ns a.warnings.items g.ws f.loads g.gathers);
+  loads = rw g.adds.warnings (then_module before m f.ns g.ns a.warnings.items g.ws f.loads g.brings);
+}
+
+-- only warnings are added
+pub Adds-warnings : (ms : List Module) (old new : Gathered) (ws : List Warning) → length old.sources.items ≡ length old.oids.items
+    → new.sources.items ≡ old.sources.items → new.oids.items ≡ old.oids.items → new.warnings.items ≡ old.warnings.items ++ ws
+    → Adds ms old new [] ws
+Adds-warnings ms old new ws long s o w = record {
+  long = rw (s, o) long;
+  nodes = rw (s, o) (sym (append-nil (nodes_of ms old.sources.items old.oids.items)));
+  warnings = w;
+}
+
+pub AddsModule-left_out : (ms : List Module) (old new : Gathered) (before : List Module) (m : Module) → length old.sources.items ≡ length old.oids.items
+    → is_loaded before m.name.octets ≡ true
+    → new.sources.items ≡ old.sources.items → new.oids.items ≡ old.oids.items
+    → new.warnings.items ≡ old.warnings.items ++ W.DoubleModule m.name.octets ∷ []
+    → AddsModule ms old new before m
+AddsModule-left_out ms old new before m long double s o w = record {
+  ns = [];
+  ws = W.DoubleModule m.name.octets ∷ [];
+  brings = left_out double;
+  adds = Adds-warnings ms old new (W.DoubleModule m.name.octets ∷ []) long s o w;
+}
+
+pub AddsModule-loaded : (ms : List Module) (a b c : Gathered) (before : List Module) (m : Module) → length a.sources.items ≡ length a.oids.items
+    → is_loaded before m.name.octets ≡ false
+    → b.sources.items ≡ a.sources.items → b.oids.items ≡ a.oids.items → b.warnings.items ≡ a.warnings.items ++ import_warnings ms m
+    → AddsDefinitions ms b c m m.defs → AddsModule ms a c before m
+AddsModule-loaded ms a b c before m long first s o w f = record {
+  ns = f.ns;
+  ws = import_warnings ms m ++ f.ws;
+  brings = loaded f.ns f.ws first f.gathers;
+  adds = Adds-then ms a b c [] f.ns (import_warnings ms m) f.ws (Adds-warnings ms a b (import_warnings ms m) long s o w) f.adds;
 }
 
 -- an element of a list by its place

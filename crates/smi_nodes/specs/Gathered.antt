@@ -19,7 +19,8 @@ use Rattle.smi_links.specs.declared.basis.Resolution.{Resolution}
 use Rattle.smi_links.specs.declared.basis.Resolution.TheVariants as R
 use Rattle.smi_module.specs.declared.tree.Module.{Module}
 use Rattle.smi_module.specs.declared.tree.Def.{Def}
-use Rattle.smi_nodes.specs.Nodes.{Node, node_of, warnings_by, roots, Gives, Gathers, Loads}
+use Rattle.smi_nodes.specs.Nodes.{Node, node_of, warnings_by, roots, Gives, Gathers}
+use Rattle.smi_nodes.specs.Nodes.{Brings, Loads}
 use Rattle.smi_nodes.specs.declared.warning.Warning.{Warning}
 use Rattle.smi_nodes.specs.declared.source.Source.{Source}
 use Rattle.smi_nodes.specs.declared.source.Source.TheVariants as S
@@ -96,7 +97,15 @@ pub record AddsDefinitions (ms : List Module) (old new : Gathered) (m : Module)
   pub gathers : Gathers ms m ds ns ws
   pub adds : Adds ms old new ns ws
 
--- what is gathered is what modules give, after the roots
+-- what a module brings after those before it is added
+pub record AddsModule (ms : List Module) (old new : Gathered) (before : List Module)
+    (m : Module) : Type 0 where
+  pub ns : List Node
+  pub ws : List Warning
+  pub brings : Brings ms before m ns ws
+  pub adds : Adds ms old new ns ws
+
+-- what is gathered is what modules bring, after the roots
 pub record AreGathered (ms : List Module) (g : Gathered) (before : List Module) : Type 0 where
   pub ns : List Node
   pub long : length g.sources.items ≡ length g.oids.items

@@ -1,5 +1,20 @@
 -- The nodes of the tree of names, in order of loading (RFC 2578, sections 2 and 3.6).
-use Rattle.std.specs.Prelude.{◌≡◌, ℕ, List, [], ◌∷◌, ◌++◌, Option, Some, None, codes}
+use Rattle.std.specs.Prelude.{
+  ◌≡◌,
+  ℕ,
+  Bool,
+  true,
+  false,
+  List,
+  [],
+  ◌∷◌,
+  ◌++◌,
+  Option,
+  Some,
+  None,
+  is_some,
+  codes,
+}
 use Rattle.smi_links.specs.Basis.{ComesTo}
 use Rattle.smi_links.specs.declared.basis.Resolution.{Resolution}
 use Rattle.smi_links.specs.declared.basis.Resolution.TheVariants as R
@@ -7,7 +22,8 @@ use Rattle.smi_module.specs.declared.tree.Module.{Module}
 use Rattle.smi_module.specs.declared.tree.Def.{Def}
 use Rattle.smi_module.specs.declared.tree.Part.{Part}
 use Rattle.smi_module.specs.Lookup.{identifier_of}
-use Rattle.smi_meaning.specs.Meaning.{origin}
+use Rattle.smi_meaning.specs.Meaning.{origin, module_named}
+use Rattle.smi_nodes.specs.Imports.{import_warnings}
 use Rattle.smi_nodes.specs.declared.warning.Warning.{Warning}
 use Rattle.smi_nodes.specs.declared.warning.Warning.TheVariants as W
 
@@ -66,10 +82,22 @@ pub data Gathers (ms : List Module) (m : Module) : List Def → List Node → Li
       → Gathers ms m ds ns ws → Gives ms m d more_nodes more_warnings
       → Gathers ms m (ds ++ d ∷ []) (ns ++ more_nodes) (ws ++ more_warnings)
 
--- and so do modules
+-- a module of this name is among these
+abbrev pub is_loaded : List Module → List ℕ → Bool
+is_loaded ms name = is_some (module_named ms name)
+
+-- what a module brings after those before it: a warning alone if one of them has its name,
+-- otherwise the warnings of its imports, and then what its definitions give
+pub data Brings (ms before : List Module) (m : Module) : List Node → List Warning → Type 0 where
+  left_out : is_loaded before m.name.octets ≡ true
+      → Brings ms before m [] (W.DoubleModule m.name.octets ∷ [])
+  loaded : (ns : List Node) (ws : List Warning) → is_loaded before m.name.octets ≡ false
+      → Gathers ms m m.defs ns ws → Brings ms before m ns (import_warnings ms m ++ ws)
+
+-- modules bring nodes and warnings, one after the other
 pub data Loads (ms : List Module) : List Module → List Node → List Warning → Type 0 where
   none_yet : Loads ms [] [] []
   then_module : (before : List Module) (m : Module) (ns more_nodes : List Node)
       (ws more_warnings : List Warning)
-      → Loads ms before ns ws → Gathers ms m m.defs more_nodes more_warnings
+      → Loads ms before ns ws → Brings ms before m more_nodes more_warnings
       → Loads ms (before ++ m ∷ []) (ns ++ more_nodes) (ws ++ more_warnings)

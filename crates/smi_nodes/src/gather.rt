@@ -1,9 +1,12 @@
 //! The nodes and warnings that modules give, in order of loading.
-ghost use Rattle.std.specs.Prelude.{◌≡◌, List, [], ◌∷◌, length, Some, OnOk, IfOk, slice_get};
+ghost use Rattle.std.specs.Prelude.{◌≡◌, List, [], ◌∷◌, length, take, Some, OnOk, IfOk, slice_get};
+ghost use Rattle.std.specs.Prelude.{false};
+ghost use Rattle.smi_nodes.specs.Nodes.{is_loaded};
 ghost use Rattle.smi_nodes.specs.Gathered.{Extends, AddsDefinition, AddsDefinitions, AreGathered};
-ghost use Rattle.smi_nodes.specs.Gathered.{IsSourceOf};
+ghost use Rattle.smi_nodes.specs.Gathered.{AddsModule, IsSourceOf};
 ghost use Rattle.smi_module.specs.declared.tree.Module.{Module};
 
+use crate::imports::add_import_warnings;
 use crate::source::Source;
 use crate::warning::Warning;
 use smi_links::Resolution;
@@ -24,7 +27,7 @@ pub struct Gathered {
 }
 
 /// An owned text of these octets.
-fn text(alloc: Global, octets: &[u8]) -> Result<Text, AllocError>
+pub(crate) fn text(alloc: Global, octets: &[u8]) -> Result<Text, AllocError>
     ensures { IfOk result (λ text. text ≡ octets.now) }
 {
     Ok(Text::new(Vec::from_slice(alloc, octets)?))
@@ -46,6 +49,16 @@ fn single(number: u32) -> Oid
     let mut oid = Oid::new();
     oid.push_with_room(number);
     oid
+}
+
+/// Whether one of the modules before this place has the name of a module.
+fn is_double<'a>(names: &Names<'a>, module: &'a Module, place: usize) -> bool
+    ensures { result ≡ is_loaded (take place names.now) module.now.name.octets }
+{
+    match names.module_place(module.name.as_bytes()) {
+        Some(first) => first < place,
+        None => false,
+    }
 }
 
 impl Gathered {
@@ -110,7 +123,7 @@ impl Gathered {
     }
 
     /// Adds what the definitions of a module give, in order of the text.
-    fn add_module<'a>(
+    fn add_definitions<'a>(
         &mut self,
         alloc: Global,
         names: &Names<'a>,
@@ -128,6 +141,47 @@ impl Gathered {
             self.add_definition(alloc, names, module, def, source)?;
         }
         Ok(())
+    }
+
+    /// Adds what a module gives whose name no earlier one has: the warnings of its imports, and
+    /// then what its definitions give.
+    fn add_loaded<'a>(
+        &mut self,
+        alloc: Global,
+        names: &Names<'a>,
+        module: &'a Module,
+        place: usize,
+    ) -> Result<(), AllocError>
+        requires long { length self.old.sources.items ≡ length self.old.oids.items }
+        requires there { slice_get names.now place ≡ Some module.now }
+        requires first { is_loaded (take place names.now) module.now.name.octets ≡ false }
+        ensures added { OnOk result
+            (AddsModule names.now self.old self.new (take place names.now) module.now) }
+    {
+        add_import_warnings(alloc, &mut self.warnings, names, module)?;
+        self.add_definitions(alloc, names, module, place)?;
+        Ok(())
+    }
+
+    /// Adds what the module at a place brings after those before it.
+    fn add_module<'a>(
+        &mut self,
+        alloc: Global,
+        names: &Names<'a>,
+        module: &'a Module,
+        place: usize,
+    ) -> Result<(), AllocError>
+        requires long { length self.old.sources.items ≡ length self.old.oids.items }
+        requires there { slice_get names.now place ≡ Some module.now }
+        ensures added { OnOk result
+            (AddsModule names.now self.old self.new (take place names.now) module.now) }
+    {
+        if is_double(names, module, place) {
+            let name = text(alloc, module.name.as_bytes())?;
+            self.warnings.push(Warning::DoubleModule(name))?;
+            return Ok(());
+        }
+        self.add_loaded(alloc, names, module, place)
     }
 
     /// The roots alone (RFC 2578, section 2).

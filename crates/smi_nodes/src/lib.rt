@@ -1,10 +1,11 @@
-//! The nodes that modules define, each with its identifier, and the warnings for definitions
-//! without one.
+//! The nodes that modules define, each with its identifier, and the warnings for modules, imports
+//! and definitions that lack what they refer to.
 //!
 //! Depends on module trees and on the meanings of their names. The tree of names keeps the nodes.
 #![tactic(auto)]
 
 mod gather;
+mod imports;
 mod source;
 mod warning;
 

@@ -2,7 +2,6 @@
 use Rattle.std.proofs.Common.{rules, ◌≡◌, ℕ, true, false, [], ◌∷◌, ◌++◌, Option, Some, None, length, is_some, refl, ◌∙◌}
 use Rattle.std.proofs.lemmas.Map.Text.{btree_map_updates_str}
 use Rattle.smi_meaning.specs.Scopes.{place_in, decision_of}
-use Rattle.smi_meaning.specs.declared.entry.Entry.{Entry}
 use Rattle.smi_meaning.proofs.Knowing.{KnowsMore-there, KnowsMore-entered}
 use Rattle.smi_meaning.proofs.scope.enter.Goals as goal
 
@@ -16,23 +15,23 @@ none_of (Some p) e = cc
 
 pub returns-then-contains_key : goal.returns-then-contains_key
 returns-then-contains_key c =
-    let there : is_some (place_in c.args.scope.now c.args.name.now) ≡ true = search rules in
-    let p = some_of (place_in c.args.scope.now c.args.name.now) there in
+    let e = c.args.entry in
+    let there : is_some (place_in c.args.scope.now e.name.now) ≡ true = search rules in
+    let p = some_of (place_in c.args.scope.now e.name.now) there in
     record {
-      entered = KnowsMore-there c.args.entries.now.items c.args.scope.now c.args.module.now c.requires c.args.name.now
-          (decision_of c.args.decider) p.0 p.1;
+      entered = KnowsMore-there c.args.entries.now.items c.args.scope.now e.module.now e.source.0 c.requires.within e.name.now
+          (decision_of e.decider) p.0 p.1;
     }
 
 pub returns : goal.returns
 returns c =
-    let e : Entry = record { «module» = c.args.module; name = c.args.name; decider = c.args.decider } in
-    let pushed : c.push.new.self.items ≡ c.args.entries.now.items ++ record { «module» = c.args.module; name = c.args.name; decider = c.args.decider } ∷ [] =
-    search rules in
-    let absent : is_some (place_in c.args.scope.now c.args.name.now) ≡ false = search rules in
+    let e = c.args.entry in
+    let pushed : c.push.new.self.items ≡ c.args.entries.now.items ++ c.args.entry ∷ [] = search rules in
+    let absent : is_some (place_in c.args.scope.now e.name.now) ≡ false = search rules in
     let place : c.len-place.result ≡ length c.args.entries.now.items = search rules in
-    let none = none_of (place_in c.args.scope.now c.args.name.now) absent in
-    let places = btree_map_updates_str c.args.name.now c.args.scope.now c.insert.new.self _ c.in_ok-insert.ensures.updates in
+    let none = none_of (place_in c.args.scope.now e.name.now) absent in
+    let places = btree_map_updates_str e.name.now c.args.scope.now c.insert.new.self _ c.in_ok-insert.ensures.updates in
     rw pushed (record {
-      entered = KnowsMore-entered c.args.entries.now.items c.args.scope.now c.args.module.now c.requires c.insert.new.self c.args.name.now e none
-          (λ x. places x ∙ rw place refl) refl refl;
+      entered = KnowsMore-entered c.args.entries.now.items c.args.scope.now e.module.now e.source.0 c.requires.within c.insert.new.self e.name.now e none
+          (λ x. places x ∙ rw place refl) refl refl (refl, refl, c.requires.found);
     })

@@ -1,12 +1,13 @@
 -- One definition more.
 use Rattle.std.proofs.Common.{◌≡◌, ℕ, ◌+◌, ◌<◌, Bool, true, false, cond, length, List, [], ◌∷◌, Option, Some, None, get_or, take, refl, sym, ap, ◌∙◌}
-use Rattle.std.proofs.lemmas.List.{take_more}
+use Rattle.std.proofs.lemmas.List.{take_more, take_all}
 use Rattle.std.specs.Option.{option_map}
 use Rattle.smi_module.specs.Mark.{same_text}
 use Rattle.smi_module.specs.Lookup.{first_definition, defines}
 use Rattle.smi_module.specs.declared.tree.Def.{Def}
 use Rattle.smi_meaning.specs.Meaning.{defined, or_else}
 use Rattle.smi_meaning.proofs.Knowing.{KnowsMore-then, KnowsMore-same, find-append}
+use Rattle.smi_meaning.proofs.Placing.{get_read}
 use Rattle.smi_meaning.proofs.scope.enter_definitions.Goals as goal
 
 merged : (a : Option Def) (b : Bool) (d : Def)
@@ -22,9 +23,21 @@ more ds k d x l e =
     merged (first_definition x (take k ds)) (same_text d.label.octets x) d
     ∙ ap (λ o. option_map defined o) (sym (find-append (defines x) (take k ds) (d ∷ [])) ∙ rw (take_more ds k d l, sym e) refl)
 
+pub enter-requires-clause-found : goal.enter-requires-clause-found
+enter-requires-clause-found c = λ d h.
+    let same : c.index-defs-k.result ≡ d = cc in
+    let read = get_read c.as_slice-defs.result.now c.defs.k c.index-defs-k.result c.defs-test.true c.index-defs-k.is in
+    rw (sym c.as_slice-defs.ensures, sym same) read
+
 pub defs-preserved : goal.defs-preserved
 defs-preserved c =
-    let label : c.as_bytes.result.now ≡ c.def-item.result.label.octets = c.as_bytes.ensures.octets in
+    let label : c.as_bytes.result.now ≡ c.index-defs-k.result.label.octets = c.as_bytes.ensures.octets in
     let entered = rw label at c.in_ok-enter.ensures.entered in
-    KnowsMore-same _ _ _ _ _ _ _ (KnowsMore-then _ _ _ _ _ _ _ _ _ c.defs.invariant entered)
-    (λ x. more c.args.defs.now c.defs.def-index c.def-item.result x c.defs-test.true c.def-item.is)
+    KnowsMore-same _ _ _ _ _ _ _ _ (KnowsMore-then _ _ _ _ _ _ _ _ _ _ c.defs.invariant entered)
+    (λ x. more c.as_slice-defs.result.now c.defs.k c.index-defs-k.result x c.defs-test.true c.index-defs-k.is)
+
+pub returns : goal.returns
+returns c =
+    let all = take_all c.defs.k c.as_slice-defs.result.now c.defs-test.false in
+    let known = rw (all, c.as_slice-defs.ensures) at c.defs.invariant in
+    record { entered = known }

@@ -7,5 +7,5 @@ use Rattle.smi_meaning.proofs.scope.enter_definitions.Given as goal
 
 abbrev pub invariant-defs : goal.invariant-defs
 invariant-defs l =
-    KnowsMore l.initial.entries.items l.initial.scope l.entries.items l.scope l.module
-    (λ x. option_map defined (first_definition x (take l.def-index l.defs)))
+    KnowsMore l.initial.entries.items l.initial.scope l.entries.items l.scope l.module l.place
+    (λ x. option_map defined (first_definition x (take l.k l.defs)))

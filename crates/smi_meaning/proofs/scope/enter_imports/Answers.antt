@@ -21,5 +21,5 @@ more is k i x l e =
 
 pub imports-preserved : goal.imports-preserved
 imports-preserved c =
-    KnowsMore-same _ _ _ _ _ _ _ (KnowsMore-then _ _ _ _ _ _ _ _ _ c.imports.invariant c.in_ok-enter_symbols.ensures.entered)
+    KnowsMore-same _ _ _ _ _ _ _ _ (KnowsMore-then _ _ _ _ _ _ _ _ _ _ c.imports.invariant c.in_ok-enter_symbols.ensures.entered)
     (λ x. more c.args.imports.now c.imports.import-index c.import-item.result x c.imports-test.true c.import-item.is)

@@ -15,9 +15,14 @@ three false false false = refl
 
 pub returns : goal.returns
 returns c =
+    let a = c.root_entry.ensures.entry in
+    let b = c.root_entry-2.ensures.entry in
+    let d = c.root_entry-3.ensures.entry in
+    let first = rw (a.0, a.1, a.2, a.3) at c.in_ok-enter.ensures.entered in
+    let second = rw (b.0, b.1, b.2, b.3) at c.in_ok-enter-2.ensures.entered in
+    let third = rw (d.0, d.1, d.2, d.3) at c.in_ok-enter-3.ensures.entered in
     record {
-      entered = KnowsMore-same _ _ _ _ _ _ _
-          (KnowsMore-then _ _ _ _ _ _ _ _ _
-          (KnowsMore-then _ _ _ _ _ _ _ _ _ c.in_ok-enter.ensures.entered c.in_ok-enter-2.ensures.entered) c.in_ok-enter-3.ensures.entered)
+      entered = KnowsMore-same _ _ _ _ _ _ _ _
+          (KnowsMore-then _ _ _ _ _ _ _ _ _ _ (KnowsMore-then _ _ _ _ _ _ _ _ _ _ first second) third)
           (λ x. three (same_text (codes "ccitt") x) (same_text (codes "iso") x) (same_text (codes "joint-iso-ccitt") x));
     }

@@ -33,7 +33,7 @@ pub symbols-preserved : goal.symbols-preserved
 symbols-preserved c =
     let text : c.as_bytes.result.now ≡ c.symbol-item.result.text = c.as_bytes.ensures in
     let entered = rw text at c.in_ok-enter.ensures.entered in
-    KnowsMore-same _ _ _ _ _ _ _ (KnowsMore-then _ _ _ _ _ _ _ _ _ c.symbols.invariant entered)
+    KnowsMore-same _ _ _ _ _ _ _ _ (KnowsMore-then _ _ _ _ _ _ _ _ _ _ c.symbols.invariant entered)
     (λ x. more c.as_slice-symbols.result.now c.symbols.symbol-index c.symbol-item.result x (imported c.args.import.now) c.symbols-test.true c.symbol-item.is)
 
 pub returns : goal.returns
@@ -41,4 +41,4 @@ returns c =
     let list : c.as_slice-symbols.result.now ≡ c.args.import.now.symbols = c.as_slice-symbols.ensures in
     let all = take_all c.symbols.symbol-index c.as_slice-symbols.result.now c.symbols-test.false in
     let known = rw (all, list) at c.symbols.invariant in
-    record { entered = KnowsMore-same _ _ _ _ _ _ _ known (λ x. whole c.args.import.now x) }
+    record { entered = KnowsMore-same _ _ _ _ _ _ _ _ known (λ x. whole c.args.import.now x) }

@@ -1,0 +1,11 @@
+pub mod Bounds
+pub mod Lists
+pub mod Naming
+pub mod Resolving
+pub mod Parting
+pub mod Listing
+pub mod Keeping
+pub mod Nodes
+pub mod Using
+pub mod Indexing
+pub mod Single

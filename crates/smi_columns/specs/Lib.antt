@@ -1,0 +1,5 @@
+pub mod Definitions
+pub mod Parts
+pub mod Index
+pub mod Named
+pub mod Kept

@@ -1,0 +1,19 @@
+//! Laws of indexes, for any modules.
+ghost use Rattle.std.specs.Prelude.{◌≡◌, List};
+ghost use Rattle.smi_module.specs.declared.tree.Module.{Module};
+ghost use Rattle.smi_index.specs.declared.part.IndexPart.{IndexPart};
+ghost use Rattle.smi_nodes.specs.Nodes.{Node};
+ghost use Rattle.smi_columns.specs.Index.{IsIndexOf};
+
+use smi_types::one_syntax;
+
+/// A column has at most one index.
+///
+/// A law: the call does nothing, and its caller may use what it ensures.
+pub fn one_index()
+    ensures { (modules : List Module) (nodes : List Node) (column : Node)
+        (parts others : List IndexPart) → IsIndexOf modules nodes column parts
+        → IsIndexOf modules nodes column others → parts ≡ others }
+{
+    one_syntax();
+}

@@ -1,0 +1,5 @@
+pub mod Chain
+pub mod Types
+pub mod Leads
+pub mod Nearest
+pub mod Kept
