@@ -1,0 +1,39 @@
+// Loads the modules of a file, for bench/tree.sh: tree nodes|names|identifiers|syntaxes FILE TIMES.
+// It prints the nodes, or how often the name, the identifier or the syntax was found.
+#include <stddef.h>
+#include <stdint.h>
+#include <stdio.h>
+#include <stdlib.h>
+#include <string.h>
+
+// The nodes of the modules of the text, or SIZE_MAX where it is refused.
+size_t tree_nodes_in(const uint8_t *text, size_t length);
+// How often a look-up finds something, so many times.
+size_t tree_names_in(const uint8_t *text, size_t length, size_t times);
+size_t tree_identifiers_in(const uint8_t *text, size_t length, size_t times);
+size_t tree_syntaxes_in(const uint8_t *text, size_t length, size_t times);
+
+int main(int count, char **words) {
+    FILE *file = count == 4 ? fopen(words[2], "rb") : NULL;
+    if (file == NULL) return 2;
+    fseek(file, 0, SEEK_END);
+    size_t length = (size_t)ftell(file);
+    rewind(file);
+    uint8_t *text = malloc(length + 1);
+    if (text == NULL || fread(text, 1, length, file) != length) return 2;
+    fclose(file);
+    size_t times = strtoul(words[3], NULL, 10);
+    size_t found = 0;
+    if (strcmp(words[1], "nodes") == 0)
+        for (size_t i = times; i > 0; i--) found = tree_nodes_in(text, length);
+    else if (strcmp(words[1], "names") == 0)
+        found = tree_names_in(text, length, times);
+    else if (strcmp(words[1], "identifiers") == 0)
+        found = tree_identifiers_in(text, length, times);
+    else
+        found = tree_syntaxes_in(text, length, times);
+    free(text);
+    if (found == SIZE_MAX) return 1;
+    printf("%zu octets, %zu %s\n", length, found, words[1]);
+    return 0;
+}

@@ -1,0 +1,30 @@
+#!/usr/bin/env bash
+# Counts the instructions of reading and loading modules: for each octet of a text of 1 MB with every
+# production, at n and 2n for many definitions, for chains of parents and of types, and of one look-up in a
+# tree of 20,000 nodes.
+source "$(dirname "${BASH_SOURCE[0]}")/common.sh"
+driver tree_bench tree.c
+
+echo 'SNMPv2-SMI DEFINITIONS ::= BEGIN enterprises OBJECT IDENTIFIER ::= { iso 3 6 1 4 1 } END' >"$work/text"
+python3 "$top/bench/modules_text.py" 1000000 >>"$work/text"
+octets=$(stat -c %s "$work/text")
+n=$(within tree_nodes_in nodes "$work/text" 1)
+awk -v found="$("$work/driver" nodes "$work/text" 1)" -v n="$n" -v octets="$octets" \
+    'BEGIN { printf "%s: %d instructions, %.1f for each octet\n", found, n, n / octets }'
+
+for kind in definitions:5000 parents:5000 types:5000; do
+    name=${kind%:*}
+    size=${kind#*:}
+    python3 "$top/bench/modules_text.py" "$name" "$size" >"$work/one"
+    python3 "$top/bench/modules_text.py" "$name" $((2 * size)) >"$work/two"
+    one=$(within tree_nodes_in nodes "$work/one" 1)
+    two=$(within tree_nodes_in nodes "$work/two" 1)
+    awk -v name="$name" -v size="$size" -v one="$one" -v two="$two" \
+        'BEGIN { printf "%s: %d instructions at %d, %d at %d, %.2f times as many\n", name, one, size, two, 2 * size, two / one }'
+done
+
+python3 "$top/bench/modules_text.py" definitions 20000 >"$work/many"
+python3 "$top/bench/modules_text.py" types 10000 >"$work/chain"
+printf 'a name: %d instructions\n' "$(each 1000 names "$work/many")"
+printf 'an identifier: %d instructions\n' "$(each 1000 identifiers "$work/many")"
+printf 'a syntax behind 10,000 types: %d instructions\n' "$(each 1000 syntaxes "$work/chain")"

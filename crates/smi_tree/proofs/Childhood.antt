@@ -1,0 +1,138 @@
+-- The first child with a label is the one with the lowest number.
+use Rattle.std.proofs.Common.{◌≡◌, ◌≢◌, ℕ, zero, suc, ◌+◌, ◌<◌, ◌≤◌, ◌⊎◌, inl, inr, max, Bool, true, false, cond, List, [], ◌∷◌, ◌++◌, length, get_or}
+use Rattle.std.proofs.Common.{Option, Some, None, refl, sym, ◌∙◌, arith, nat_eq}
+use Rattle.std.specs.declared.cmp.Ordering.TheVariants.{Less}
+use Rattle.std.specs.List.{AllByRecursion, position_from, find, filter_map, Contains}
+use Rattle.std.specs.List.Sorted.{IsStrictlySortedBy}
+use Rattle.std.specs.Ordering.{nat_cmp}
+use Rattle.std.specs.Cmp.{ranked}
+use Rattle.std.specs.Cmp.Lexicographic.{pointwise}
+use Rattle.std.proofs.lemmas.Bool.{cases_eq}
+use Rattle.std.proofs.lemmas.Slice.Eq.{bytes_eq-Decides}
+use Rattle.smi_branches.specs.Standing.{place_of, AreChildren}
+use Rattle.smi_meaning.specs.Meaning.{or_else}
+use Rattle.smi_nodes.specs.Nodes.{Node}
+use Rattle.smi_tree.specs.Nodes.{is_labelled, if_labelled, of_lowest, last_number, highest, child_at, child_of, oids_of}
+
+-- what the first of numbers gives that gives anything
+abbrev pub of_first : (ℕ → Option ℕ) → List ℕ → Option ℕ
+of_first f [] = None
+of_first f (n ∷ ns) = or_else (f n) (of_first f ns)
+
+-- what the lowest number gives that gives anything
+pub data IsOfLowest (f : ℕ → Option ℕ) : Option ℕ → Type 0 where
+  nothing : ((m : ℕ) → f m ≡ None) → IsOfLowest f None
+  lowest : (n k : ℕ) → f n ≡ Some k → ((m : ℕ) → m < n → f m ≡ None) → IsOfLowest f (Some k)
+
+of_lowest-none : (f : ℕ → Option ℕ) (b : ℕ) → ((m : ℕ) → m < b → f m ≡ None) → of_lowest f b ≡ None
+unfolding of_lowest
+of_lowest-none f zero h = refl
+of_lowest-none f (suc b) h = rw (of_lowest-none f b (λ m l. h m (omega arith)), h b (omega arith)) refl
+
+of_lowest-some : (f : ℕ → Option ℕ) (b n k : ℕ) → n < b → f n ≡ Some k → ((m : ℕ) → m < n → f m ≡ None) → of_lowest f b ≡ Some k
+unfolding of_lowest
+of_lowest-some f zero n k l e h = absurd (omega arith)
+of_lowest-some f (suc b) n k l e h = by (cases_eq n b) (λ l. of_lowest-some f b n k l e h)
+  where
+    by : (n ≡ b) ⊎ (n ≢ b) → (n < b → of_lowest f b ≡ Some k) → or_else (of_lowest f b) (f b) ≡ Some k
+    by (inl same) r = let at : f b ≡ Some k = rw same at e in rw (of_lowest-none f b (λ m l. h m (omega arith)), at) refl
+    by (inr other) r = rw (r (omega arith)) refl
+
+pub of_lowest-is : (f : ℕ → Option ℕ) (b : ℕ) (r : Option ℕ) → IsOfLowest f r → ((n k : ℕ) → f n ≡ Some k → n < b) → r ≡ of_lowest f b
+of_lowest-is f b _ (nothing h) within = sym (of_lowest-none f b (λ m l. h m))
+of_lowest-is f b _ (lowest n k e h) within = sym (of_lowest-some f b n k (within n k e) e h)
+
+-- what rising numbers give first, if no other number gives anything
+sorted_head : (n : ℕ) (ns : List ℕ) → IsStrictlySortedBy nat_cmp (n ∷ ns) → AllByRecursion (λ y. nat_cmp n y ≡ Less) ns
+unfolding IsStrictlySortedBy
+sorted_head n ns h = h.0
+
+sorted_rest : (n : ℕ) (ns : List ℕ) → IsStrictlySortedBy nat_cmp (n ∷ ns) → IsStrictlySortedBy nat_cmp ns
+unfolding IsStrictlySortedBy
+sorted_rest n ns h = h.1
+
+all-at : (P : ℕ → Type 0) (ns : List ℕ) (i d : ℕ) → AllByRecursion P ns → i < length ns → P (get_or ns i d)
+all-at P [] i d h l = absurd (omega arith)
+all-at P (n ∷ ns) zero d h l = h.0
+all-at P (n ∷ ns) (suc i) d h l = all-at P ns i d h.1 (omega arith)
+
+in-rest : (n m : ℕ) (ns : List ℕ) → Contains (n ∷ ns) m → n ≢ m → Contains ns m
+in-rest n m ns (zero, l, e) other = absurd (other e)
+in-rest n m ns (suc i, l, e) other = (i, omega arith, e)
+
+of_first-lowest : (f : ℕ → Option ℕ) (ns : List ℕ) → IsStrictlySortedBy nat_cmp ns → ((n k : ℕ) → f n ≡ Some k → Contains ns n)
+    → IsOfLowest f (of_first f ns)
+of_first-lowest f [] rising all = nothing (λ m. by m (f m) refl)
+  where
+    by : (m : ℕ) (r : Option ℕ) → f m ≡ r → f m ≡ None
+    by m None e = e
+    by m (Some k) e = let there = all m k e in absurd (omega (arith, there.1))
+of_first-lowest f (n ∷ ns) rising all =
+    by (f n) refl (λ none. of_first-lowest f ns (sorted_rest n ns rising) (λ m k e. in-rest n m ns (all m k e) (none m k e)))
+  where
+    before : (k : ℕ) → (m : ℕ) → m < n → (r : Option ℕ) → f m ≡ r → f m ≡ None
+    before k m l None e = e
+    before k m l (Some j) e =
+        let there = in-rest n m ns (all m j e) (λ s. absurd (omega (arith, s, l))) in
+        let above = all-at (λ y. nat_cmp n y ≡ Less) ns there.0 m (sorted_head n ns rising) there.1 in
+        let less : nat_cmp n m ≡ Less = rw there.2 at above in
+        let more : n < m = ranked n m Less (sym less) in
+        absurd (omega arith)
+
+    by : (r : Option ℕ) → f n ≡ r → (((m k : ℕ) → f m ≡ Some k → n ≢ m) → IsOfLowest f (of_first f ns)) → IsOfLowest f (or_else (f n) (of_first f ns))
+    by None e rest = rw e (rest (λ m k h same. let at : f n ≡ Some k = rw same h in cc))
+    by (Some k) e rest = rw e (lowest n k e (λ m l. before k m l (f m) refl))
+
+-- the first of numbers' places with the label
+find-first : (p : ℕ → Bool) (g : ℕ → Option ℕ) (h : ℕ → Option ℕ) (ns : List ℕ)
+    → ((n : ℕ) → g n ≡ None → h n ≡ None) → ((n k : ℕ) → g n ≡ Some k → h n ≡ cond (p k) (Some k) None)
+    → find p (filter_map g ns) ≡ of_first h ns
+find-first p g h [] none some = refl
+find-first p g h (n ∷ ns) none some = by (g n) refl (find-first p g h ns none some)
+  where
+    by : (r : Option ℕ) → g n ≡ r → find p (filter_map g ns) ≡ of_first h ns → find p (filter_map g (n ∷ ns)) ≡ or_else (h n) (of_first h ns)
+    by None e rest = rw (e, none n e) rest
+    by (Some k) e rest = rw (e, some n k e) (passes (p k) refl)
+      where
+        passes : (b : Bool) → p k ≡ b → find p (k ∷ filter_map g ns) ≡ or_else (cond b (Some k) None) (of_first h ns)
+        passes true t = rw t refl
+        passes false t = rw t rest
+
+-- an identifier of the list ends with a number up to the highest
+last_number-push : (o : List ℕ) (n : ℕ) → last_number (o ++ n ∷ []) ≡ n
+last_number-push [] n = refl
+last_number-push (m ∷ []) n = refl
+last_number-push (m ∷ k ∷ o) n = last_number-push (k ∷ o) n
+
+ends-below : (oids : List (List ℕ)) (o : List ℕ) (n b k : ℕ) → position_from (λ x. pointwise nat_eq x (o ++ n ∷ [])) b oids ≡ Some k → n ≤ highest oids
+ends-below [] o n b k e = cc
+ends-below (x ∷ oids) o n b k e = by (pointwise nat_eq x (o ++ n ∷ [])) refl e (λ h. ends-below oids o n (b + 1) k h)
+  where
+    by : (v : Bool) → pointwise nat_eq x (o ++ n ∷ []) ≡ v → cond v (Some b) (position_from (λ x. pointwise nat_eq x (o ++ n ∷ [])) (b + 1) oids) ≡ Some k
+        → (position_from (λ x. pointwise nat_eq x (o ++ n ∷ [])) (b + 1) oids ≡ Some k → n ≤ highest oids) → n ≤ max (last_number x) (highest oids)
+    by true t e f =
+        let same : x ≡ o ++ n ∷ [] = (bytes_eq-Decides x (o ++ n ∷ [])).0 t in
+        let last : last_number x ≡ n = rw same (last_number-push o n) in
+        omega (arith, last)
+    by false t e f = let below = f e in omega (arith, below)
+
+-- a child is found among the children
+pub child-found : (nodes : List Node) (o label : List ℕ) (places : List ℕ) → AreChildren (oids_of nodes) o places
+    → find (is_labelled nodes label) places ≡ child_of nodes o label
+child-found nodes o label places c =
+    rw c.there
+    (find-first (is_labelled nodes label) (λ n. place_of (oids_of nodes) (o ++ n ∷ [])) (child_at nodes o label) c.numbers
+    (λ n none. rw none refl) (λ n k some. rw some refl)
+    ∙ of_lowest-is (child_at nodes o label) (suc (highest (oids_of nodes))) (of_first (child_at nodes o label) c.numbers)
+    (of_first-lowest (child_at nodes o label) c.numbers c.rising (λ n k e. there n k (place_of (oids_of nodes) (o ++ n ∷ [])) refl e))
+    (λ n k e. below n k (place_of (oids_of nodes) (o ++ n ∷ [])) refl e))
+  where
+    there : (n k : ℕ) (r : Option ℕ) → place_of (oids_of nodes) (o ++ n ∷ []) ≡ r → if_labelled nodes label (place_of (oids_of nodes) (o ++ n ∷ [])) ≡ Some k
+        → Contains c.numbers n
+    there n k None e h = let at : None ≡ Some k = rw e at h in cc
+    there n k (Some j) e h = c.all n j e
+
+    below : (n k : ℕ) (r : Option ℕ) → place_of (oids_of nodes) (o ++ n ∷ []) ≡ r → if_labelled nodes label (place_of (oids_of nodes) (o ++ n ∷ [])) ≡ Some k
+        → n < suc (highest (oids_of nodes))
+    below n k None e h = let at : None ≡ Some k = rw e at h in cc
+    below n k (Some j) e h = let most = ends-below (oids_of nodes) o n 0 j e in omega (arith, most)

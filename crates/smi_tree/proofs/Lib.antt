@@ -1,0 +1,9 @@
+pub mod TextMap
+pub mod Listing
+pub mod Scoping
+pub mod Bridging
+pub mod Childhood
+pub mod Syntaxes
+pub mod Reaching
+pub mod Soundness
+pub mod Sounding

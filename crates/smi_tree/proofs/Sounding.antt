@@ -1,0 +1,204 @@
+-- Names of nodes are sound: labels are words, and lead to the nodes that they are shown for.
+use Rattle.std.proofs.Common.{◌≡◌, ℕ, zero, suc, ◌+◌, ◌≤◌, ◌⊎◌, inl, inr, Bool, true, false, cond, ◌&&◌, List, [], ◌∷◌, ◌++◌, length, take}
+use Rattle.std.proofs.Common.{Option, Some, None, refl, sym, ap, subst, ◌∙◌, arith, nat_eq}
+use Rattle.std.specs.Prelude.{codes, slice_index_or}
+use Rattle.std.specs.List.{slice_get, position_from}
+use Rattle.std.specs.Option.{option_and_then}
+use Rattle.std.specs.Cmp.Lexicographic.{pointwise}
+use Rattle.std.proofs.lemmas.Slice.Eq.{bytes_eq-Decides}
+use Rattle.smi_module.specs.Mark.{same_text}
+use Rattle.smi_module.specs.Word.{is_word}
+use Rattle.smi_module.specs.declared.tree.Module.{Module}
+use Rattle.smi_meaning.specs.Meaning.{Means, Place, or_else}
+use Rattle.smi_branches.specs.Standing.{place_of}
+use Rattle.smi_name.specs.Naming.{Naming, Standing, LeadsTo, IsSound}
+use Rattle.smi_nodes.specs.Nodes.{Node, root_node, roots, Loads}
+use Rattle.smi_nodes.specs.declared.warning.Warning.{Warning}
+use Rattle.smi_tree.specs.Nodes.{oids_of, is_of, place_in_module, place_anywhere}
+use Rattle.smi_tree.specs.Standing.{Longest, at_depth, longest_up_to, longest}
+use Rattle.smi_tree.specs.Tree.{Contents}
+use Rattle.smi_tree.specs.Naming.{home_name, standing_of, standing_at, oid_of, naming_of}
+use Rattle.smi_tree.proofs.Listing.{same, same_itself}
+use Rattle.smi_tree.proofs.Soundness.{IsOfModule, root-or-module}
+
+-- the place of the longest beginning is that of its first numbers
+abbrev Reaches : List (List ℕ) → List ℕ → ℕ → Longest → Type 0
+Reaches oids o j l = (l.depth ≤ j) × (place_of oids (take l.depth o) ≡ Some l.place)
+
+reached : (oids : List (List ℕ)) (o : List ℕ) (j : ℕ) (l : Longest) → longest_up_to oids o j ≡ Some l → Reaches oids o j l
+unfolding longest_up_to
+reached oids o zero l e = by (place_of oids []) refl e
+  where
+    by : (r : Option ℕ) → place_of oids [] ≡ r → at_depth 0 r ≡ Some l → Reaches oids o zero l
+    by None f e = cc
+    by (Some p) f e =
+        let here : Longest = record { place = p; depth = 0 } in
+        let is : here ≡ l = cc in
+        let low : 0 ≤ 0 = omega arith in
+        subst (λ l. Reaches oids o zero l) is (low, f)
+reached oids o (suc j) l e = by (place_of oids (take (suc j) o)) refl e (reached oids o j l)
+  where
+    by : (r : Option ℕ) → place_of oids (take (suc j) o) ≡ r → or_else (at_depth (suc j) r) (longest_up_to oids o j) ≡ Some l
+        → (longest_up_to oids o j ≡ Some l → Reaches oids o j l) → Reaches oids o (suc j) l
+    by None f e rest = let r = rest e in (omega (arith, r.0), r.1)
+    by (Some p) f e rest =
+        let here : Longest = record { place = p; depth = suc j } in
+        let is : here ≡ l = cc in
+        let low : suc j ≤ suc j = omega arith in
+        subst (λ l. Reaches oids o (suc j) l) is (low, f)
+
+-- the identifier at the first place of one
+found-at : (oids : List (List ℕ)) (o : List ℕ) (b k : ℕ) → position_from (λ x. pointwise nat_eq x o) b oids ≡ Some k
+    → (i : ℕ) × (k ≡ b + i) × (slice_get oids i ≡ Some o)
+found-at [] o b k e = cc
+found-at (x ∷ oids) o b k e = by (pointwise nat_eq x o) refl e (found-at oids o (b + 1) k)
+  where
+    by : (v : Bool) → pointwise nat_eq x o ≡ v → cond v (Some b) (position_from (λ x. pointwise nat_eq x o) (b + 1) oids) ≡ Some k
+        → (position_from (λ x. pointwise nat_eq x o) (b + 1) oids ≡ Some k → (i : ℕ) × (k ≡ b + 1 + i) × (slice_get oids i ≡ Some o))
+        → (i : ℕ) × (k ≡ b + i) × (slice_get (x ∷ oids) i ≡ Some o)
+    by true t e rest = let here : b ≡ k = cc in (0, omega arith, ap (λ z. Some z) ((bytes_eq-Decides x o).0 t))
+    by false t e rest = let r = rest e in (suc r.0, omega (arith, r.1), r.2)
+
+node-of : (nodes : List Node) (i : ℕ) (o : List ℕ) → slice_get (oids_of nodes) i ≡ Some o → (n : Node) × (slice_get nodes i ≡ Some n) × (n.oid ≡ o)
+node-of [] i o e = cc
+node-of (n ∷ nodes) zero o e = (n, refl, cc)
+node-of (n ∷ nodes) (suc i) o e = node-of nodes i o e
+
+oid-at : (nodes : List Node) (i : ℕ) (n : Node) → slice_get nodes i ≡ Some n → slice_get (oids_of nodes) i ≡ Some n.oid
+oid-at [] i n e = cc
+oid-at (m ∷ nodes) zero n e = let same_node : m ≡ n = cc in ap (λ (n : Node). Some n.oid) same_node
+oid-at (m ∷ nodes) (suc i) n e = oid-at nodes i n e
+
+-- a node as names see it, and the node that it is
+record StandsFor (t : Contents) (o : List ℕ) (node : Standing) : Type 0 where
+  place : ℕ
+  n : Node
+  there : slice_get t.nodes place ≡ Some n
+  home : node.home ≡ home_name n.home
+  label : node.label ≡ n.label
+  depth : node.depth ≤ length o
+  oid : n.oid ≡ take node.depth o
+
+stands : (t : Contents) (o : List ℕ) (node : Standing) → option_and_then (standing_at t) (longest t.nodes o) ≡ Some node → StandsFor t o node
+stands t o node e = by (longest t.nodes o) refl e
+  where
+    by : (r : Option Longest) → longest t.nodes o ≡ r → option_and_then (standing_at t) r ≡ Some node → StandsFor t o node
+    by None f e = cc
+    by (Some l) f e =
+        let r = reached (oids_of t.nodes) o (length o) l f in
+        let at = found-at (oids_of t.nodes) (take l.depth o) 0 l.place r.1 in
+        let n = node-of t.nodes at.0 (take l.depth o) at.2 in
+        let place : l.place ≡ at.0 = omega (arith, at.1) in
+        let there : slice_get t.nodes l.place ≡ Some n.0 = subst (λ k. slice_get t.nodes k ≡ Some n.0) (sym place) n.1 in
+        let seen : Some (standing_of l.depth (slice_index_or t.indexes l.place None) n.0) ≡ Some node = rw there at e in
+        let is : standing_of l.depth (slice_index_or t.indexes l.place None) n.0 ≡ node = cc in
+        subst (λ node. StandsFor t o node) is
+        (record { place = l.place; n = n.0; there = there; home = refl; label = refl; depth = r.0; oid = n.2 })
+
+-- the first thing that passes, where one does
+first-passing : {A : Type 0} (t : A → Bool) (b i : ℕ) (xs : List A) (x : A) → slice_get xs i ≡ Some x → t x ≡ true
+    → (j : ℕ) × (y : A) × (position_from t b xs ≡ Some (b + j)) × (slice_get xs j ≡ Some y) × (t y ≡ true)
+first-passing t b i [] x e p = cc
+first-passing t b zero (y ∷ xs) x e p =
+    let here : y ≡ x = cc in
+    let passes : t y ≡ true = rw here p in
+    let zeroth : b ≡ b + 0 = omega arith in
+    (0, y, rw passes (ap (λ k. Some k) zeroth), refl, passes)
+first-passing t b (suc i) (y ∷ xs) x e p = by (t y) refl (first-passing t (b + 1) i xs x e p)
+  where
+    by : (v : Bool) → t y ≡ v → (j : ℕ) × (z : _) × (position_from t (b + 1) xs ≡ Some (b + 1 + j)) × (slice_get xs j ≡ Some z) × (t z ≡ true)
+        → (j : ℕ) × (z : _) × (position_from t b (y ∷ xs) ≡ Some (b + j)) × (slice_get (y ∷ xs) j ≡ Some z) × (t z ≡ true)
+    by true f r = let zeroth : b ≡ b + 0 = omega arith in (0, y, rw f (ap (λ k. Some k) zeroth), refl, f)
+    by false f r = let more : b + 1 + r.0 ≡ b + suc r.0 = omega arith in (suc r.0, r.1, rw f (r.2 ∙ ap (λ k. Some k) more), r.3, r.4)
+
+-- the roots
+root-case : (P : Node → Type 0) → P (root_node (codes "ccitt") 0) → P (root_node (codes "iso") 1) → P (root_node (codes "joint-iso-ccitt") 2)
+    → (k : ℕ) (n : Node) → slice_get roots k ≡ Some n → P n
+root-case P c i j zero n e = let is : root_node (codes "ccitt") 0 ≡ n = cc in subst P is c
+root-case P c i j (suc zero) n e = let is : root_node (codes "iso") 1 ≡ n = cc in subst P is i
+root-case P c i j (suc (suc zero)) n e = let is : root_node (codes "joint-iso-ccitt") 2 ≡ n = cc in subst P is j
+root-case P c i j (suc (suc (suc k))) n e = cc
+
+root-leads : (ns : List Node) (k : ℕ) (n : Node) → slice_get roots k ≡ Some n
+    → oid_of (roots ++ ns) (place_anywhere (roots ++ ns) n.label) ≡ Some n.oid
+root-leads ns = root-case (λ n. oid_of (roots ++ ns) (place_anywhere (roots ++ ns) n.label) ≡ Some n.oid) refl refl refl
+
+root-word : (k : ℕ) (n : Node) → slice_get roots k ≡ Some n → is_word n.label ≡ true
+root-word = root-case (λ n. is_word n.label ≡ true) refl refl refl
+
+root-home : (k : ℕ) (n : Node) → slice_get roots k ≡ Some n → n.home ≡ None
+root-home = root-case (λ n. n.home ≡ None) refl refl refl
+
+-- a root by its place
+pub among-roots : (ns : List Node) (x : List ℕ) (k : ℕ) → Some k ≡ place_anywhere roots x
+    → oid_of (roots ++ ns) (Some k) ≡ oid_of roots (place_anywhere roots x)
+among-roots ns x k e = rw (sym e) (by (same_text (codes "ccitt") x) (same_text (codes "iso") x) (same_text (codes "joint-iso-ccitt") x) e)
+  where
+    by : (a b d : Bool) → Some k ≡ cond a (Some 0) (cond b (Some 1) (cond d (Some 2) None)) → oid_of (roots ++ ns) (Some k) ≡ oid_of roots (Some k)
+    by true b d f = let at : k ≡ 0 = cc in rw at refl
+    by false true d f = let at : k ≡ 1 = cc in rw at refl
+    by false false true f = let at : k ≡ 2 = cc in rw at refl
+    by false false false f = cc
+
+-- a node's module and label lead to its identifier
+abbrev pub OneMeaning : Type 0
+OneMeaning = (modules : List Module) (place : Place) (o p : List ℕ) → Means modules place o → Means modules place p → o ≡ p
+
+both-true : (a b : Bool) → (a && b) ≡ true → (a ≡ true) × (b ≡ true)
+both-true true b e = (refl, e)
+both-true false b e = cc
+
+in-its-module : (ms : List Module) (ns : List Node) (ws : List Warning) → OneMeaning → Loads ms ms ns ws → (k : ℕ) (n : Node)
+    → slice_get (roots ++ ns) k ≡ Some n → (f : IsOfModule ms n)
+    → oid_of (roots ++ ns) (place_in_module (roots ++ ns) f.home.name.octets f.definition.label.octets) ≡ Some n.oid
+in-its-module ms ns ws law l k n there f =
+    let home = f.home.name.octets in
+    let x = f.definition.label.octets in
+    let passes : is_of f.home.name.octets f.definition.label.octets n ≡ true =
+    rw (f.is, same_itself f.home.name.octets, same_itself f.definition.label.octets) refl in
+    let first = first-passing (is_of home x) 0 k (roots ++ ns) n there passes in
+    let place : 0 + first.0 ≡ first.0 = omega arith in
+    let at : position_from (is_of f.home.name.octets f.definition.label.octets) 0 (roots ++ ns) ≡ Some first.0 = rw place at first.2 in
+    let read = oid-at (roots ++ ns) first.0 first.1 first.3 in
+    rw at (read ∙ ap (λ o. Some o) (by first.1 (root-or-module ms ns ws first.0 first.1 l first.3) first.4))
+  where
+    by : (y : Node) → ((j : ℕ) × (slice_get roots j ≡ Some y)) ⊎ IsOfModule ms y → is_of f.home.name.octets f.definition.label.octets y ≡ true → y.oid ≡ n.oid
+    by y (inl r) t = let named = rw (root-home r.0 y r.1) at t in cc
+    by y (inr g) t =
+        let both = both-true (same_text g.home.name.octets f.home.name.octets) (same_text g.definition.label.octets f.definition.label.octets) (rw g.is at t) in
+        let home : g.home.name.octets ≡ f.home.name.octets = same g.home.name.octets f.home.name.octets both.0 in
+        let label : g.definition.label.octets ≡ f.definition.label.octets = same g.definition.label.octets f.definition.label.octets both.1 in
+        let means = rw (home, label) at g.means in
+        law ms (record { home = f.home.name.octets; name = f.definition.label.octets }) y.oid n.oid means f.means
+
+leads-by : (t : Contents) (ns : List Node) (ws : List Warning) → OneMeaning → t.nodes ≡ roots ++ ns → Loads t.modules t.modules ns ws → (k : ℕ) (n : Node)
+    → slice_get (roots ++ ns) k ≡ Some n → ((j : ℕ) × (slice_get roots j ≡ Some n)) ⊎ IsOfModule t.modules n
+    → LeadsTo (naming_of t) (home_name n.home) n.label n.oid
+leads-by t ns ws law nodes l k n there (inl r) = rw (root-home r.0 n r.1, nodes) (root-leads ns r.0 n r.1)
+leads-by t ns ws law nodes l k n there (inr f) =
+    let home : home_name n.home ≡ Some f.home.name.octets = rw f.is refl in
+    let label : n.label ≡ f.definition.label.octets = rw f.is refl in
+    let found = in-its-module t.modules ns ws law l k n there f in
+    rw (home, label, nodes) (f.home.name.lexical, f.loaded, found)
+
+leads-alike : (naming : Naming) (h i : Option (List ℕ)) (x y o p : List ℕ) → h ≡ i → x ≡ y → o ≡ p → LeadsTo naming h x o → LeadsTo naming i y p
+leads-alike naming h i x y o p e f g leads = rw (sym e, sym f, sym g) leads
+
+word-by : (t : Contents) (n : Node) → ((j : ℕ) × (slice_get roots j ≡ Some n)) ⊎ IsOfModule t.modules n → is_word n.label ≡ true
+word-by t n (inl r) = root-word r.0 n r.1
+word-by t n (inr f) = rw f.is f.definition.label.lexical
+
+pub sound-by : (t : Contents) (ns : List Node) (ws : List Warning) → OneMeaning → t.nodes ≡ roots ++ ns → Loads t.modules t.modules ns ws
+    → IsSound (naming_of t)
+sound-by t ns ws law nodes l = record {
+  within = λ o node e. (stands t o node e).depth;
+  words = λ o node e.
+      let s = stands t o node e in
+      let there = subst (λ (ns : List Node). slice_get ns s.place ≡ Some s.n) nodes s.there in
+      rw s.label (word-by t s.n (root-or-module t.modules ns ws s.place s.n l there));
+  leads = λ o node e.
+      let s = stands t o node e in
+      let there = subst (λ (ns : List Node). slice_get ns s.place ≡ Some s.n) nodes s.there in
+      leads-alike (naming_of t) (home_name s.n.home) node.home s.n.label node.label s.n.oid (take node.depth o) (sym s.home) (sym s.label) s.oid
+      (leads-by t ns ws law nodes l s.place s.n there (root-or-module t.modules ns ws s.place s.n l there));
+}

@@ -1,0 +1,95 @@
+-- Nodes of modules have words as labels, which lead to them.
+use Rattle.std.proofs.Common.{◌≡◌, ℕ, zero, suc, ◌⊎◌, inl, inr, Bool, true, false, cond, List, [], ◌∷◌, ◌++◌}
+use Rattle.std.proofs.Common.{Option, Some, None, is_some, refl, subst}
+use Rattle.std.specs.List.{slice_get}
+use Rattle.smi_links.specs.declared.basis.Resolution.TheVariants as R
+use Rattle.smi_module.specs.Mark.{same_text}
+use Rattle.smi_module.specs.Lookup.{identifier_of}
+use Rattle.smi_module.specs.declared.tree.Module.{Module}
+use Rattle.smi_module.specs.declared.tree.Def.{Def}
+use Rattle.smi_module.specs.declared.tree.Part.{Part}
+use Rattle.smi_meaning.specs.Meaning.{Means, module_named}
+use Rattle.smi_nodes.specs.Nodes.{Node, node_of, roots, GivesBy, Gathers, none, more, is_loaded, Brings, left_out, loaded, Loads, none_yet, then_module}
+use Rattle.smi_nodes.specs.declared.warning.Warning.{Warning}
+use Rattle.smi_tree.proofs.Listing.{same_itself}
+
+-- a node of a module that is loaded, whose label means its identifier
+pub record IsOfModule (ms : List Module) (n : Node) : Type 0 where
+  pub home : Module
+  pub definition : Def
+  pub is : n ≡ node_of home definition n.oid
+  pub loaded : is_loaded ms home.name.octets ≡ true
+  pub means : Means ms (record { home = home.name.octets; name = definition.label.octets }) n.oid
+
+in-either : {A : Type 0} (xs ys : List A) (k : ℕ) (x : A) → slice_get (xs ++ ys) k ≡ Some x → (slice_get xs k ≡ Some x) ⊎ ((j : ℕ) × (slice_get ys j ≡ Some x))
+in-either [] ys k x e = inr (k, e)
+in-either (y ∷ xs) ys zero x e = inl e
+in-either (y ∷ xs) ys (suc k) x e = in-either xs ys k x e
+
+given : (ms : List Module) (m : Module) (d : Def) (v : Option (List Part)) (ns : List Node) (ws : List Warning) (k : ℕ) (n : Node)
+    → is_loaded ms m.name.octets ≡ true → GivesBy ms m d v ns ws → slice_get ns k ≡ Some n → IsOfModule ms n
+given ms m d None ns ws k n l g e = let at : slice_get [] k ≡ Some n = rw g.0 at e in cc
+given ms m d (Some v) ns ws k n l (R.Numbers o, comes, is, w) e = one k (rw is at e)
+  where
+    one : (k : ℕ) → slice_get (node_of m d o ∷ []) k ≡ Some n → IsOfModule ms n
+    one zero f =
+        let here : node_of m d o ≡ n = cc in
+        let P : Node → Type 0 = λ n. IsOfModule ms n in
+        subst P here (record { home = m; definition = d; is = refl; loaded = l; means = comes.0 })
+    one (suc k) f = cc
+given ms m d (Some v) ns ws k n l (R.Cycle, comes, is, w) e = let at : slice_get [] k ≡ Some n = rw is at e in cc
+given ms m d (Some v) ns ws k n l (R.Unresolved, comes, is, w) e = let at : slice_get [] k ≡ Some n = rw is at e in cc
+given ms m d (Some v) ns ws k n l (R.TooLong, comes, is, w) e = let at : slice_get [] k ≡ Some n = rw is at e in cc
+
+gathered : (ms : List Module) (m : Module) (ds : List Def) (ns : List Node) (ws : List Warning) (k : ℕ) (n : Node) → is_loaded ms m.name.octets ≡ true
+    → Gathers ms m ds ns ws → slice_get ns k ≡ Some n → IsOfModule ms n
+gathered ms m _ _ _ k n l none e = cc
+gathered ms m _ _ _ k n l (more ds d ns more_nodes ws more_warnings g gives) e =
+    by (in-either ns more_nodes k n e) (gathered ms m ds ns ws k n l g)
+  where
+    by : (slice_get ns k ≡ Some n) ⊎ ((j : ℕ) × (slice_get more_nodes j ≡ Some n)) → (slice_get ns k ≡ Some n → IsOfModule ms n) → IsOfModule ms n
+    by (inl f) rest = rest f
+    by (inr f) rest = given ms m d (identifier_of d.kind) more_nodes more_warnings f.0 n l gives f.1
+
+-- a module more
+loaded-more : (ms : List Module) (m : Module) (x : List ℕ) → is_loaded ms x ≡ true → is_loaded (ms ++ m ∷ []) x ≡ true
+loaded-more [] m x e = cc
+loaded-more (y ∷ ms) m x e = by (same_text y.name.octets x) e (loaded-more ms m x)
+  where
+    by : (b : Bool) → is_some (cond b (Some y) (module_named ms x)) ≡ true → (is_loaded ms x ≡ true → is_loaded (ms ++ m ∷ []) x ≡ true)
+        → is_some (cond b (Some y) (module_named (ms ++ m ∷ []) x)) ≡ true
+    by true f rest = refl
+    by false f rest = rest f
+
+loaded-last : (ms : List Module) (m : Module) → is_loaded (ms ++ m ∷ []) m.name.octets ≡ true
+loaded-last [] m = rw (same_itself m.name.octets) refl
+loaded-last (y ∷ ms) m = by (same_text y.name.octets m.name.octets) (loaded-last ms m)
+  where
+    by : (b : Bool) → is_loaded (ms ++ m ∷ []) m.name.octets ≡ true
+        → is_some (cond b (Some y) (module_named (ms ++ m ∷ []) m.name.octets)) ≡ true
+    by true rest = refl
+    by false rest = rest
+
+brought : (ms before : List Module) (m : Module) (ns : List Node) (ws : List Warning) (k : ℕ) (n : Node) → is_loaded ms m.name.octets ≡ true
+    → Brings ms before m ns ws → slice_get ns k ≡ Some n → IsOfModule ms n
+brought ms before m _ _ k n l (left_out d) e = cc
+brought ms before m _ _ k n l (loaded ns ws first g) e = gathered ms m m.defs ns ws k n l g e
+
+each-loaded : (ms before : List Module) (ns : List Node) (ws : List Warning) (k : ℕ) (n : Node)
+    → ((x : List ℕ) → is_loaded before x ≡ true → is_loaded ms x ≡ true) → Loads ms before ns ws → slice_get ns k ≡ Some n → IsOfModule ms n
+each-loaded ms _ _ _ k n h none_yet e = cc
+each-loaded ms _ _ _ k n h (then_module before m ns more_nodes ws more_warnings l b) e =
+    by (in-either ns more_nodes k n e) (each-loaded ms before ns ws k n (λ x f. h x (loaded-more before m x f)) l)
+  where
+    by : (slice_get ns k ≡ Some n) ⊎ ((j : ℕ) × (slice_get more_nodes j ≡ Some n)) → (slice_get ns k ≡ Some n → IsOfModule ms n) → IsOfModule ms n
+    by (inl f) rest = rest f
+    by (inr f) rest = brought ms before m more_nodes more_warnings f.0 n (h m.name.octets (loaded-last before m)) b f.1
+
+-- a node of a tree is a root, or of a module
+pub root-or-module : (ms : List Module) (ns : List Node) (ws : List Warning) (k : ℕ) (n : Node) → Loads ms ms ns ws
+    → slice_get (roots ++ ns) k ≡ Some n → ((j : ℕ) × (slice_get roots j ≡ Some n)) ⊎ IsOfModule ms n
+root-or-module ms ns ws k n l e = by (in-either roots ns k n e)
+  where
+    by : (slice_get roots k ≡ Some n) ⊎ ((j : ℕ) × (slice_get ns j ≡ Some n)) → ((j : ℕ) × (slice_get roots j ≡ Some n)) ⊎ IsOfModule ms n
+    by (inl f) = inl (k, f)
+    by (inr f) = inr (each-loaded ms ms ns ws f.0 n (λ x h. h) l f.1)

@@ -1,0 +1,85 @@
+-- What is kept for the sources of nodes is their syntax.
+use Rattle.std.proofs.Common.{◌≡◌, ℕ, zero, suc, List, [], ◌∷◌, MatchOption, Option, Some, None, slice_index_or, length, refl, sym, ap, ◌∙◌, arith}
+use Rattle.std.specs.List.{slice_get}
+use Rattle.std.specs.Option.{option_and_then}
+use Rattle.smi_module.specs.declared.tree.Module.{Module}
+use Rattle.smi_meaning.specs.Meaning.{Place}
+use Rattle.smi_nodes.specs.Nodes.{Node}
+use Rattle.smi_nodes.specs.Gathered.{node_from, nodes_of, AreGathered}
+use Rattle.smi_nodes.specs.declared.gather.Gathered.{Gathered}
+use Rattle.smi_nodes.specs.Gathered as gathered
+use Rattle.smi_nodes.specs.declared.source.Source.{Source}
+use Rattle.smi_nodes.specs.declared.source.Source.TheVariants as S
+use Rattle.smi_types.specs.Chain.{TypeOrigin, no_type}
+use Rattle.smi_types.specs.Types.{Facts, HasSyntax, HasNoSyntax, object_in, object_origin}
+use Rattle.smi_types.specs.Kept.{kept_syntax}
+use Rattle.smi_types.specs.declared.types.Types.{Types}
+use Rattle.smi_tree.specs.Places.{definition_from}
+use Rattle.smi_tree.specs.Shown.{IsSyntaxOf, AreSyntaxesOf, syntax_from, syntaxes_from, units_of, units_at}
+use Rattle.smi_index.specs.declared.part.IndexPart.{IndexPart}
+use Rattle.smi_columns.specs.Index.{AreIndexesOf}
+use Rattle.smi_tree.specs.Tree.{IsTree}
+use Rattle.smi_tree.specs.Kept.{contents}
+use Rattle.smi_tree.proofs.Bridging.{parts, node-none}
+
+no_syntax : (ms : List Module) → HasNoSyntax ms no_type
+no_syntax ms f h = elim h.chain [ ]
+
+same_object : (ms : List Module) (i k : ℕ) → object_in (slice_get ms i) (gathered.def_at (slice_get ms i) k) ≡ object_origin ms i k
+same_object ms i k = by (slice_get ms i)
+  where
+    by : (m : Option Module) → object_in m (gathered.def_at m k) ≡ object_in m (option_and_then (λ n. slice_get n.defs k) m)
+    by None = refl
+    by (Some m) = refl
+
+module _ (ms : List Module) (t : Types)
+    (right : (i k : ℕ) → MatchOption (kept_syntax ms t i k) (HasNoSyntax ms (object_origin ms i k)) (λ f. HasSyntax ms (object_origin ms i k) f)) where
+  of_origin : (n : Node) (o : TypeOrigin Place) → object_in n.home n.definition ≡ o → (r : Option Facts)
+      → MatchOption r (HasNoSyntax ms o) (λ f. HasSyntax ms o f) → IsSyntaxOf ms n r
+  of_origin n o same None h = rw same h
+  of_origin n o same (Some f) h = rw same h
+
+  of_source : (s : Source) (o : List ℕ) → IsSyntaxOf ms (node_from ms s o) (syntax_from ms t s)
+  of_source (S.Root n) o = no_syntax ms
+  of_source (S.Definition i k) o =
+      of_origin (node_from ms (S.Definition i k) o) (object_origin ms i k) (rw (parts ms (S.Definition i k) o) (same_object ms i k)) (kept_syntax ms t i k)
+      (right i k)
+
+  pub syntaxes_right : (ss : List Source) (os : List (List ℕ)) → AreSyntaxesOf ms (nodes_of ms ss os) (syntaxes_from ms t ss)
+  syntaxes_right [] os k n e = absurd (cc)
+  syntaxes_right (s ∷ ss) [] k n e = absurd (cc)
+  syntaxes_right (s ∷ ss) (o ∷ os) zero n e = let same : node_from ms s o ≡ n = cc in rw (sym same) (of_source s o)
+  syntaxes_right (s ∷ ss) (o ∷ os) (suc k) n e = syntaxes_right ss os k n e
+
+pub kept-none : (ms : List Module) (t : Types) (ss : List Source) (k : ℕ) → slice_get ss k ≡ None → slice_index_or (syntaxes_from ms t ss) k None ≡ None
+kept-none ms t [] k e = refl
+kept-none ms t (s ∷ ss) zero e = absurd (cc)
+kept-none ms t (s ∷ ss) (suc k) e = kept-none ms t ss k e
+
+-- UNITS of a node are those of its source's definition
+pub units-there : (ms : List Module) (ss : List Source) (os : List (List ℕ)) (k : ℕ) (s : Source) → length ss ≡ length os → slice_get ss k ≡ Some s
+    → units_at (nodes_of ms ss os) k ≡ option_and_then (λ d. units_of d.kind) (definition_from ms s)
+units-there ms [] os k s l e = absurd (cc)
+units-there ms (x ∷ ss) [] k s l e = absurd (omega (arith, l))
+units-there ms (x ∷ ss) (o ∷ os) zero s l e =
+    let same : x ≡ s = cc in
+    ap (λ n. option_and_then (λ d. units_of d.kind) n.definition) (parts ms x o)
+    ∙ ap (λ z. option_and_then (λ d. units_of d.kind) (definition_from ms z)) same
+units-there ms (x ∷ ss) (o ∷ os) (suc k) s l e = let h : length ss ≡ length os = omega (arith, l) in units-there ms ss os k s h e
+
+pub units-none : (ms : List Module) (ss : List Source) (os : List (List ℕ)) (k : ℕ) → length ss ≡ length os → slice_get ss k ≡ None
+    → units_at (nodes_of ms ss os) k ≡ None
+units-none ms ss os k l e = rw (node-none ms ss os k l e) refl
+
+-- what is gathered, with the types and indexes of the modules, is a tree
+pub is_tree : (ms : List Module) (g : Gathered) (t : Types) (os : List (List ℕ)) (indexes : List (Option (List IndexPart))) → AreGathered ms g ms
+    → os ≡ g.oids.items → AreSyntaxesOf ms (nodes_of ms g.sources.items os) (syntaxes_from ms t g.sources.items)
+    → AreIndexesOf ms (nodes_of ms g.sources.items os) indexes → IsTree ms (contents ms g.sources.items os t indexes) g.warnings.items
+is_tree ms g t os indexes found same syntaxes indexed = record {
+  passed = refl;
+  ns = found.ns;
+  nodes = rw same found.nodes;
+  loads = found.loads;
+  syntaxes = syntaxes;
+  indexes = indexed;
+}

@@ -1,0 +1,12 @@
+use Rattle.std.proofs.Common.{◌≡◌, length}
+use Rattle.std.specs.List.{find}
+use Rattle.smi_branches.specs.Children.{places_left}
+use Rattle.smi_tree.specs.Nodes.{is_labelled}
+use Rattle.smi_tree.proofs.tree.Tree.child.Given as goal
+
+abbrev pub invariant-children : goal.invariant-children
+invariant-children l =
+    find (is_labelled l.self.nodes l.label) (places_left l.children) ≡ find (is_labelled l.self.nodes l.label) (places_left l.initial.children)
+
+abbrev pub decreases-children : goal.decreases-children
+decreases-children l = length (places_left l.children)

@@ -1,0 +1,18 @@
+-- What is gathered is a tree.
+use Rattle.std.proofs.Common.{◌≡◌, length, sym, ap, ◌∙◌}
+use Rattle.smi_tree.proofs.Syntaxes.{is_tree}
+use Rattle.smi_tree.proofs.tree.resolve.Goals as goal
+
+pub returns : goal.returns
+returns c =
+    let ms = c.args.modules.now in
+    let g = c.in_ok-gathered.gathered in
+    let t = c.in_ok-types.types in
+    let os = c.in_ok-identifiers.identifiers in
+    let found = c.in_ok-gathered.ensures in
+    let same : c.in_ok-identifiers.identifiers ≡ c.in_ok-gathered.gathered.oids.items = c.in_ok-identifiers.ensures in
+    let indexed = rw (c.deref.ensures.value) at c.in_ok-indexes.ensures in
+    record {
+      long = found.long ∙ sym (ap (λ l. length l) same);
+      tree = is_tree ms g t os c.in_ok-indexes.indexes found same (c.kept_syntaxes.ensures ms t c.in_ok-types.ensures g.sources.items os) indexed;
+    }

@@ -1,0 +1,32 @@
+-- What a tree keeps of its nodes.
+use Rattle.std.specs.Prelude.{◌≡◌, ℕ, List, length, Option}
+use Rattle.std.specs.List.{position_from}
+use Rattle.smi_module.specs.declared.tree.Module.{Module}
+use Rattle.smi_meaning.specs.Names.{module_place}
+use Rattle.smi_nodes.specs.Gathered.{nodes_of}
+use Rattle.smi_nodes.specs.declared.source.Source.{Source}
+use Rattle.smi_nodes.specs.declared.warning.Warning.{Warning}
+use Rattle.smi_types.specs.declared.types.Types.{Types}
+use Rattle.smi_index.specs.declared.part.IndexPart.{IndexPart}
+use Rattle.smi_tree.specs.Shown.{syntaxes_from}
+use Rattle.smi_tree.specs.Tree.{Contents, IsTree}
+use Rattle.smi_tree.specs.Places.{Places, place_in, has_label, AreScopes}
+
+abbrev pub contents : List Module → List Source → List (List ℕ) → Types
+    → List (Option (List IndexPart)) → Contents
+contents ms ss os types indexes = record {
+  modules = ms;
+  nodes = nodes_of ms ss os;
+  syntaxes = syntaxes_from ms types ss;
+  indexes = indexes;
+}
+
+pub record IsKept (ms : List Module) (ss : List Source) (os : List (List ℕ)) (types : Types)
+    (indexes : List (Option (List IndexPart))) (of_homes of_labels : Places)
+    (of_modules : List Places) : Type 0 where
+  pub long : length ss ≡ length os
+  pub warnings : List Warning
+  pub tree : IsTree ms (contents ms ss os types indexes) warnings
+  pub homes : (x : List ℕ) → place_in of_homes x ≡ module_place ms x
+  pub labels : (x : List ℕ) → place_in of_labels x ≡ position_from (has_label ms x) 0 ss
+  pub scopes : AreScopes ms ss of_modules

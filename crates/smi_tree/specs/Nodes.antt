@@ -1,0 +1,83 @@
+-- Nodes found by their names and by their identifiers, in a list in order of loading.
+use Rattle.std.specs.Prelude.{
+  ℕ,
+  Bool,
+  false,
+  ◌&&◌,
+  zero,
+  suc,
+  List,
+  [],
+  ◌∷◌,
+  ◌++◌,
+  max,
+  unwrap_or,
+  Option,
+  Some,
+  None,
+  map,
+  option_map,
+  if◌then◌else◌,
+}
+use Rattle.std.specs.List.{slice_get, position_from}
+use Rattle.smi_module.specs.Mark.{same_text}
+use Rattle.smi_module.specs.declared.tree.Module.{Module}
+use Rattle.smi_branches.specs.Standing.{place_of}
+use Rattle.smi_meaning.specs.Meaning.{or_else}
+use Rattle.smi_nodes.specs.Nodes.{Node}
+
+-- the node is of this label
+abbrev pub has_label : List ℕ → Node → Bool
+has_label label n = same_text n.label label
+
+-- the module of a node, if it has one, is of this name
+abbrev pub is_named : List ℕ → Option Module → Bool
+is_named home None = false
+is_named home (Some m) = same_text m.name.octets home
+
+abbrev pub is_of : List ℕ → List ℕ → Node → Bool
+is_of home label n = is_named home n.home && has_label label n
+
+-- the first node of the label in the module of the name
+abbrev pub place_in_module : List Node → List ℕ → List ℕ → Option ℕ
+place_in_module nodes home label = position_from (is_of home label) 0 nodes
+
+-- the first node of the label
+abbrev pub place_anywhere : List Node → List ℕ → Option ℕ
+place_anywhere nodes label = position_from (has_label label) 0 nodes
+
+-- the identifiers of nodes
+abbrev pub oids_of : List Node → List (List ℕ)
+oids_of nodes = map (λ n. n.oid) nodes
+
+-- the node at the place has the label
+abbrev pub is_labelled : List Node → List ℕ → ℕ → Bool
+is_labelled nodes label k = unwrap_or (option_map (has_label label) (slice_get nodes k)) false
+
+abbrev pub if_labelled : List Node → List ℕ → Option ℕ → Option ℕ
+if_labelled nodes label None = None
+if_labelled nodes label (Some k) = if is_labelled nodes label k then Some k else None
+
+-- what the lowest number below a bound gives that gives anything
+unfoldable pub of_lowest : (ℕ → Option ℕ) → ℕ → Option ℕ
+of_lowest f zero = None
+of_lowest f (suc n) = or_else (of_lowest f n) (f n)
+
+-- the last number of an identifier
+abbrev pub last_number : List ℕ → ℕ
+last_number [] = 0
+last_number (n ∷ []) = n
+last_number (n ∷ m ∷ rest) = last_number (m ∷ rest)
+
+-- the highest last number of identifiers
+abbrev pub highest : List (List ℕ) → ℕ
+highest [] = 0
+highest (o ∷ os) = max (last_number o) (highest os)
+
+-- the node that stands for o and one number more, if it has the label
+abbrev pub child_at : List Node → List ℕ → List ℕ → ℕ → Option ℕ
+child_at nodes o label n = if_labelled nodes label (place_of (oids_of nodes) (o ++ n ∷ []))
+
+-- the first child with the label: the one with the lowest number
+abbrev pub child_of : List Node → List ℕ → List ℕ → Option ℕ
+child_of nodes o label = of_lowest (child_at nodes o label) (suc (highest (oids_of nodes)))

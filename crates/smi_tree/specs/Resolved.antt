@@ -1,0 +1,11 @@
+-- What modules define, resolved.
+use Rattle.std.specs.Prelude.{◌≡◌, List, length}
+use Rattle.smi_module.specs.declared.tree.Module.{Module}
+use Rattle.smi_tree.specs.Tree.{IsTree}
+use Rattle.smi_tree.specs.Kept.{contents}
+use Rattle.smi_tree.specs.declared.tree.Resolved.{Resolved}
+
+pub record IsResolved (ms : List Module) (r : Resolved) : Type 0 where
+  pub long : length r.sources.items ≡ length r.identifiers
+  pub tree : IsTree ms (contents ms r.sources.items r.identifiers r.types r.indexes)
+      r.warnings.items

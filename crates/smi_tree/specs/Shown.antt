@@ -1,0 +1,96 @@
+-- The syntax of objects as values are shown by it (RFC 2578, sections 7.1 and 7.2; RFC 2579,
+-- section 3.1).
+use Rattle.std.specs.Prelude.{
+  ◌≡◌,
+  ℕ,
+  ◌-◌,
+  List,
+  [],
+  length,
+  take,
+  drop,
+  unwrap_or,
+  Option,
+  Some,
+  None,
+  map,
+  option_map,
+  slice_index_or,
+}
+use Rattle.std.specs.List.{slice_get}
+use Rattle.std.specs.Option.{option_and_then}
+use Rattle.smi_module.specs.declared.tree.Module.{Module}
+use Rattle.smi_module.specs.declared.tree.DefKind.{DefKind}
+use Rattle.smi_module.specs.declared.tree.DefKind.TheVariants as D
+use Rattle.smi_nodes.specs.Nodes.{Node}
+use Rattle.smi_nodes.specs.declared.source.Source.{Source}
+use Rattle.smi_nodes.specs.declared.source.Source.TheVariants as S
+use Rattle.smi_types.specs.Types.{Facts, HasSyntax, HasNoSyntax, object_in}
+use Rattle.smi_types.specs.Kept.{kept_syntax}
+use Rattle.smi_types.specs.declared.base.TypeBase.{TypeBase}
+use Rattle.smi_types.specs.declared.base.TypeBase.TheVariants as T
+use Rattle.smi_types.specs.declared.types.Types.{Types}
+use Rattle.smi_value.specs.Syntax.{ObjectSyntax}
+use Rattle.smi_value.specs.declared.base.ValueBase.{ValueBase}
+use Rattle.smi_value.specs.declared.base.ValueBase.TheVariants as V
+
+-- the syntax of a node's object is this one, or it has none
+abbrev pub IsSyntaxOf : List Module → Node → Option Facts → Type 0
+IsSyntaxOf ms n (Some facts) = HasSyntax ms (object_in n.home n.definition) facts
+IsSyntaxOf ms n None = HasNoSyntax ms (object_in n.home n.definition)
+
+-- each node has its syntax
+abbrev pub AreSyntaxesOf : List Module → List Node → List (Option Facts) → Type 0
+AreSyntaxesOf ms nodes syntaxes =
+    (k : ℕ) (n : Node) → slice_get nodes k ≡ Some n
+    → IsSyntaxOf ms n (slice_index_or syntaxes k None)
+
+-- the syntax that is kept for a source
+abbrev pub syntax_from : List Module → Types → Source → Option Facts
+syntax_from ms t (S.Root n) = None
+syntax_from ms t (S.Definition i k) = kept_syntax ms t i k
+
+abbrev pub syntaxes_from : List Module → Types → List Source → List (Option Facts)
+syntaxes_from ms t ss = map (syntax_from ms t) ss
+
+-- the type that a value has on the wire, where its syntax says more than that
+abbrev pub value_base : TypeBase → ValueBase
+value_base T.Integer = V.Integer
+value_base T.OctetString = V.OctetString
+value_base T.ObjectIdentifier = V.Other
+value_base T.Bits = V.Bits
+value_base T.Counter32 = V.Counter32
+value_base T.Gauge32 = V.Gauge32
+value_base T.Unsigned32 = V.Gauge32
+value_base T.TimeTicks = V.TimeTicks
+value_base T.IpAddress = V.Other
+value_base T.Opaque = V.Other
+value_base T.Counter64 = V.Counter64
+
+-- the octets between the quotes of a string
+abbrev pub between_quotes : List ℕ → List ℕ
+between_quotes x = take (length x - 2) (drop 1 x)
+
+-- UNITS of an OBJECT-TYPE
+abbrev pub units_of : DefKind → Option (List ℕ)
+units_of (D.ObjectType d) = d.units
+units_of _ = None
+
+-- UNITS of the node at a place
+abbrev pub units_at : List Node → ℕ → Option (List ℕ)
+units_at nodes k =
+    option_and_then (λ n. option_and_then (λ d. units_of d.kind) n.definition) (slice_get nodes k)
+
+-- a syntax with UNITS, as values are shown by it
+abbrev pub object_syntax : Facts → Option (List ℕ) → ObjectSyntax
+object_syntax f units = record {
+  base = value_base f.base;
+  names = unwrap_or f.names [];
+  hint = option_map between_quotes f.hint;
+  units = option_map between_quotes units;
+}
+
+-- the syntax by which values of the node at a place are shown
+abbrev pub shown_at : List Node → List (Option Facts) → ℕ → Option ObjectSyntax
+shown_at nodes syntaxes k =
+    option_map (λ f. object_syntax f (units_at nodes k)) (slice_index_or syntaxes k None)

@@ -1,0 +1,37 @@
+-- The node that stands for the longest beginning of an identifier.
+use Rattle.std.specs.Prelude.{ℕ, zero, suc, List, [], length, take, Option, Some, None}
+use Rattle.std.specs.List.{slice_get}
+use Rattle.std.specs.Option.{option_and_then}
+use Rattle.smi_branches.specs.Standing.{place_of}
+use Rattle.smi_branches.specs.declared.identifiers.Deepest.{Deepest}
+use Rattle.smi_meaning.specs.Meaning.{or_else}
+use Rattle.smi_module.specs.declared.tree.Def.{Def}
+use Rattle.smi_nodes.specs.Nodes.{Node}
+use Rattle.smi_tree.specs.Nodes.{oids_of}
+
+-- a place, and how many numbers the beginning has for which it stands
+pub record Longest : Type 0 where
+  pub place : ℕ
+  pub depth : ℕ
+
+abbrev pub longest_of : Deepest → Longest
+longest_of d = record { place = d.place; depth = d.depth }
+
+abbrev pub at_depth : ℕ → Option ℕ → Option Longest
+at_depth depth None = None
+at_depth depth (Some place) = Some (record { place = place; depth = depth })
+
+-- the longest of the beginnings of o, of up to j numbers, that is in the list
+unfoldable pub longest_up_to : List (List ℕ) → List ℕ → ℕ → Option Longest
+longest_up_to oids o zero = at_depth 0 (place_of oids [])
+longest_up_to oids o (suc j) =
+    or_else (at_depth (suc j) (place_of oids (take (suc j) o))) (longest_up_to oids o j)
+
+abbrev pub longest : List Node → List ℕ → Option Longest
+longest nodes o = longest_up_to (oids_of nodes) o (length o)
+
+-- the definition of the node that stands for the longest beginning
+abbrev pub definition_at : List Node → List ℕ → Option Def
+definition_at nodes o =
+    option_and_then (λ l. option_and_then (λ n. n.definition) (slice_get nodes l.place))
+    (longest nodes o)

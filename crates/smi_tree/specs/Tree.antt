@@ -1,0 +1,39 @@
+-- What a tree of names holds.
+use Rattle.std.specs.Prelude.{◌≡◌, List, ◌++◌, Option}
+use Rattle.std.specs.Option.{option_copied}
+use Rattle.smi_module.specs.declared.tree.Module.{Module}
+use Rattle.smi_nodes.specs.Nodes.{Node, roots, Loads}
+use Rattle.smi_nodes.specs.declared.warning.Warning.{Warning}
+use Rattle.smi_types.specs.Types.{Facts}
+use Rattle.smi_columns.specs.Index.{AreIndexesOf}
+use Rattle.smi_index.specs.declared.part.IndexPart.{IndexPart}
+use Rattle.smi_tree.specs.Shown.{AreSyntaxesOf}
+use Rattle.smi_tree.specs.declared.node.Node.{Node as Seen}
+
+-- the modules that were passed, and the nodes in order of loading, each with the syntax of its
+-- object and with its index
+pub record Contents : Type 0 where
+  pub modules : List Module
+  pub nodes : List Node
+  pub syntaxes : List (Option Facts)
+  pub indexes : List (Option (List IndexPart))
+
+-- the tree has the roots, and then what the modules bring, with these warnings; the syntax of each
+-- node is what its chain of types gives, and its index is that of its row
+pub record IsTree (modules : List Module) (tree : Contents) (warnings : List Warning)
+    : Type 0 where
+  pub passed : tree.modules ≡ modules
+  pub ns : List Node
+  pub nodes : tree.nodes ≡ roots ++ ns
+  pub loads : Loads modules modules ns warnings
+  pub syntaxes : AreSyntaxesOf modules tree.nodes tree.syntaxes
+  pub indexes : AreIndexesOf modules tree.nodes tree.indexes
+
+-- a node as it is shown
+abbrev pub node_of : Seen → Node
+node_of n = record {
+  home = option_copied n.home;
+  label = n.label.now;
+  oid = n.oid.now;
+  definition = option_copied n.definition;
+}

@@ -1,0 +1,20 @@
+//! The tree as details are shown by it.
+ghost use Rattle.std.specs.Prelude.{◌≡◌};
+
+use crate::tree::Tree;
+use smi_detail::DetailTree;
+use smi_module::Def;
+use snmp_oid::Oid;
+
+impl DetailTree for Tree {
+    ghost use Rattle.smi_tree.specs.Naming.{definition_of};
+
+    ghost definition_at = { definition_of };
+
+    fn definition(&self, oid: &Oid) -> Option<&Def> {
+        match self.deepest(oid) {
+            Some(deepest) => self.definition_of(deepest.place),
+            None => None,
+        }
+    }
+}

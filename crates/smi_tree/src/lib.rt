@@ -1,0 +1,19 @@
+//! The tree of names: the nodes that loaded modules define, found by name and by identifier.
+//!
+//! Depends on module trees, on what their names mean and on the nodes that they define. Names,
+//! values and details are shown by it, and words of the command line are read by it.
+#![tactic(auto)]
+
+mod detail;
+mod naming;
+mod node;
+mod places;
+mod show;
+mod shown;
+mod tree;
+
+pub use node::Node;
+pub use smi_branches::{Children, Deepest};
+pub use smi_nodes::Warning;
+pub use smi_types::TypeSyntax;
+pub use tree::{NodeId, Tree};

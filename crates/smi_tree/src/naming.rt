@@ -1,0 +1,98 @@
+//! The tree as names are read and shown by it.
+ghost use Rattle.std.specs.Prelude.{◌≡◌, ◌<◌, length, Some};
+ghost use Rattle.std.specs.Option.{option_copied};
+ghost use Rattle.smi_name.specs.Standing.{standing_of as seen_as};
+ghost use Rattle.smi_nodes.specs.Nodes.{roots};
+ghost use Rattle.smi_tree.specs.Nodes.{place_anywhere};
+ghost use Rattle.smi_tree.specs.Naming.{home_name, standing_at};
+ghost use Rattle.smi_tree.specs.Standing.{longest_of};
+
+use crate::tree::Tree;
+use smi_branches::Deepest;
+use smi_meaning::one_meaning;
+use smi_module::Module;
+use smi_name::{NameTree, Node};
+use snmp_oid::Oid;
+
+impl Tree {
+    /// The node at a place, as names see it, with the length of its identifier.
+    fn seen(&self, deepest: Deepest) -> Node<'_>
+        requires { deepest.place < length self.now.nodes }
+        ensures { Some (seen_as result) ≡ standing_at self.now (longest_of deepest) }
+    {
+        let node = self.node(deepest.place);
+        Node {
+            home: home_name(node.home),
+            label: node.label,
+            depth: deepest.depth,
+            index: self.index_of(deepest.place),
+        }
+    }
+}
+
+/// The place of the root of a label (RFC 2578, section 2).
+fn root_place(label: &[u8]) -> Option<usize>
+    ensures { result ≡ place_anywhere roots label.now }
+{
+    if &b"ccitt"[..] == label {
+        Some(0)
+    } else if &b"iso"[..] == label {
+        Some(1)
+    } else if &b"joint-iso-ccitt"[..] == label {
+        Some(2)
+    } else {
+        None
+    }
+}
+
+/// The name of a module.
+fn home_name(home: Option<&Module>) -> Option<&[u8]>
+    ensures { option_copied result ≡ home_name (option_copied home.entry) }
+{
+    match home {
+        Some(module) => Some(module.name.as_bytes()),
+        None => None,
+    }
+}
+
+impl NameTree for Tree {
+    ghost use Rattle.smi_tree.specs.Naming.{naming_of};
+
+    ghost naming = { naming_of };
+
+    fn is_loaded(&self, home: &[u8]) -> bool {
+        self.has_module(home)
+    }
+
+    fn in_module(&self, home: &[u8], label: &[u8]) -> Option<&Oid> {
+        self.found(self.find(home, label))
+    }
+
+    fn anywhere(&self, label: &[u8]) -> Option<&Oid> {
+        self.found(self.find_any(label))
+    }
+
+    fn among_roots(&self, label: &[u8]) -> Option<&Oid> {
+        self.is_tree();
+        match root_place(label) {
+            Some(id) => self.found(Some(id)),
+            None => None,
+        }
+    }
+
+    fn child(&self, oid: &Oid, label: &[u8]) -> Option<&Oid> {
+        self.found(self.child(oid, label))
+    }
+
+    fn deepest(&self, oid: &Oid) -> Option<Node<'_>> {
+        match self.deepest(oid) {
+            Some(deepest) => Some(self.seen(deepest)),
+            None => None,
+        }
+    }
+
+    fn sound(&self) {
+        self.is_tree();
+        one_meaning();
+    }
+}

@@ -1,0 +1,77 @@
+//! The nodes of a tree, by where each comes from.
+ghost use Rattle.std.specs.Prelude.{◌≡◌, ℕ, List};
+ghost use Rattle.std.specs.List.{slice_get};
+ghost use Rattle.std.specs.Option.{option_copied};
+ghost use Rattle.smi_nodes.specs.Gathered.{root_label};
+ghost use Rattle.smi_tree.specs.Places.{home_from, label_from, definition_from};
+
+use smi_module::{Def, Module};
+use smi_nodes::Source;
+use snmp_oid::Oid;
+
+/// A node of a tree: a definition with an identifier, or a root.
+#[derive(Clone, Copy, Debug)]
+pub struct Node<'a> {
+    /// The module that defines it, None for a root.
+    pub home: Option<&'a Module>,
+    /// Its label.
+    pub label: &'a [u8],
+    /// Its identifier.
+    pub oid: &'a Oid,
+    /// Its definition, None for a root.
+    pub definition: Option<&'a Def>,
+}
+
+/// The item at a place of a list.
+pub(crate) fn at<T>(items: &[T], place: usize) -> Option<&T>
+    ensures { option_copied result ≡ slice_get items.now place }
+{
+    items.get(place)
+}
+
+/// The module of a source, None for a root.
+pub(crate) fn home(modules: &[Module], source: Source) -> Option<&Module>
+    ensures { option_copied result ≡ home_from modules.now source }
+{
+    match source {
+        Source::Root(_) => None,
+        Source::Definition(place, _) => modules.get(place),
+    }
+}
+
+/// The definition of a source, None for a root.
+pub(crate) fn definition(modules: &[Module], source: Source) -> Option<&Def>
+    ensures { option_copied result ≡ definition_from modules.now source }
+{
+    match source {
+        Source::Root(_) => None,
+        Source::Definition(place, k) => match modules.get(place) {
+            Some(module) => module.defs.as_slice().get(k),
+            None => None,
+        },
+    }
+}
+
+/// The label of the root with a number (RFC 2578, section 2).
+fn root_label(number: u32) -> &'static [u8]
+    ensures { result.now ≡ root_label number }
+{
+    match number {
+        0 => b"ccitt",
+        1 => b"iso",
+        _ => b"joint-iso-ccitt",
+    }
+}
+
+/// The label of a source.
+pub(crate) fn label(modules: &[Module], source: Source) -> &[u8]
+    ensures { result.now ≡ label_from modules.now source }
+{
+    match source {
+        Source::Root(number) => root_label(number),
+        Source::Definition(_, _) => match definition(modules, source) {
+            Some(def) => def.label.as_bytes(),
+            None => b"",
+        },
+    }
+}

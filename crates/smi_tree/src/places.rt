@@ -1,0 +1,123 @@
+//! Nodes by their names: maps from names to places.
+//!
+//! Names come from files that others wrote, so the maps are ordered ones: no choice of names makes
+//! a look-up take longer than the logarithm of their number.
+ghost use Rattle.std.specs.Prelude.{◌≡◌, ℕ, List, length, Some, None, IfOk, OnOk};
+ghost use Rattle.std.specs.Prelude.{if◌then◌else◌};
+ghost use Rattle.std.specs.List.{position_from};
+ghost use Rattle.smi_module.specs.Mark.{same_text};
+ghost use Rattle.smi_meaning.specs.Meaning.{or_else};
+ghost use Rattle.smi_meaning.specs.Names.{module_place};
+ghost use Rattle.smi_tree.specs.Places as places;
+ghost use Rattle.smi_tree.specs.Places.{place_in, AreEmpty, Puts, AreScopes};
+
+use crate::node::{home, label};
+use smi_module::Module;
+use smi_nodes::Source;
+use std::alloc::{AllocError, Global};
+use std::collections::BTreeMap;
+
+/// Names, each with its place.
+pub(crate) type Places = BTreeMap<Vec<u8>, usize>;
+
+/// Gives a name a place, unless it has one.
+fn put_first(
+    alloc: Global,
+    places: &mut Places,
+    name: &[u8],
+    place: usize,
+) -> Result<(), AllocError>
+    ensures put { OnOk result ((x : List ℕ) → place_in places.new x
+        ≡ or_else (place_in places.old x) (if same_text name.now x then Some place else None)) }
+{
+    if places.contains_key(name) {
+        return Ok(());
+    }
+    places.insert(Vec::from_slice(alloc, name)?, place)?;
+    Ok(())
+}
+
+/// The place of a name.
+pub(crate) fn find(places: &Places, name: &[u8]) -> Option<usize>
+    ensures { result ≡ place_in places.now name.now }
+{
+    places.get(name).copied()
+}
+
+/// The place of each module, by its name: the first of those that have it.
+pub(crate) fn homes(alloc: Global, modules: &[Module]) -> Result<Places, AllocError>
+    ensures { IfOk result (λ homes. (x : List ℕ) → place_in homes x ≡ module_place modules.now x) }
+{
+    let mut homes = BTreeMap::new(alloc);
+    'modules: for (i, module) in modules.iter().enumerate() {
+        put_first(alloc, &mut homes, module.name.as_bytes(), i)?;
+    }
+    Ok(homes)
+}
+
+/// The first place of each label.
+pub(crate) fn labels(
+    alloc: Global,
+    modules: &[Module],
+    sources: &[Source],
+) -> Result<Places, AllocError>
+    ensures { IfOk result (λ labels. (x : List ℕ) → place_in labels x
+        ≡ position_from (places.has_label modules.now x) 0 sources.now) }
+{
+    let mut labels = BTreeMap::new(alloc);
+    'sources: for (k, source) in sources.iter().enumerate() {
+        put_first(alloc, &mut labels, label(modules, *source), k)?;
+    }
+    Ok(labels)
+}
+
+/// This many maps without names.
+fn empty(alloc: Global, count: usize) -> Result<Vec<Places>, AllocError>
+    ensures { IfOk result (λ scopes. AreEmpty scopes.items count) }
+{
+    let mut scopes = Vec::with_capacity(alloc, count)?;
+    'count: for _i in 0..count {
+        scopes.push(BTreeMap::new(alloc))?;
+    }
+    Ok(scopes)
+}
+
+/// Gives the label of a source a place in its module, unless it has one.
+fn put_in_module(
+    alloc: Global,
+    scopes: &mut Vec<Places>,
+    modules: &[Module],
+    homes: &Places,
+    source: Source,
+    place: usize,
+) -> Result<(), AllocError>
+    requires long { length scopes.old.items ≡ length modules.now }
+    requires placed { (x : List ℕ) → place_in homes.now x ≡ module_place modules.now x }
+    ensures put { OnOk result (Puts modules.now source place scopes.old.items scopes.new.items) }
+{
+    let Some(module) = home(modules, source) else {
+        return Ok(());
+    };
+    let Some(at) = find(homes, module.name.as_bytes()) else {
+        return Ok(());
+    };
+    let scope = &mut scopes[at];
+    put_first(alloc, scope, label(modules, source), place)
+}
+
+/// The first place of each label in each module.
+pub(crate) fn scopes(
+    alloc: Global,
+    modules: &[Module],
+    homes: &Places,
+    sources: &[Source],
+) -> Result<Vec<Places>, AllocError>
+    requires { (x : List ℕ) → place_in homes.now x ≡ module_place modules.now x }
+    ensures { IfOk result (λ scopes. AreScopes modules.now sources.now scopes.items) }
+{
+    let mut scopes = empty(alloc, modules.len())?;
+    'sources: for (k, source) in sources.iter().enumerate() {
+        put_in_module(alloc, &mut scopes, modules, homes, *source, k)?;
+    }
+    Ok(scopes)
+}

@@ -1,0 +1,18 @@
+//! The tree as values are shown by it.
+use crate::tree::Tree;
+use smi_show::ShowTree;
+use smi_value::ValueSyntax;
+use snmp_oid::Oid;
+
+impl ShowTree for Tree {
+    ghost use Rattle.smi_tree.specs.Naming.{syntax_at};
+
+    ghost syntax_at = { syntax_at };
+
+    fn syntax(&self, oid: &Oid) -> Option<ValueSyntax<'_>> {
+        match self.deepest(oid) {
+            Some(deepest) => self.value_syntax(deepest.place),
+            None => None,
+        }
+    }
+}

@@ -1,0 +1,113 @@
+//! The syntax of objects as values are shown by it.
+ghost use Rattle.std.specs.Prelude.{◌≡◌, ℕ, List, option_map};
+ghost use Rattle.std.specs.Option.{option_and_then, option_copied};
+ghost use Rattle.smi_module.specs.declared.tree.Module.{Module};
+ghost use Rattle.smi_nodes.specs.Gathered.{nodes_of};
+ghost use Rattle.smi_nodes.specs.declared.source.Source.{Source};
+ghost use Rattle.smi_types.specs.Kept.{facts_of, AreTypesOf};
+ghost use Rattle.smi_types.specs.declared.types.Types.{Types};
+ghost use Rattle.smi_tree.specs.Places.{definition_from};
+ghost use Rattle.smi_tree.specs.Shown.{AreSyntaxesOf, syntax_from, syntaxes_from};
+ghost use Rattle.smi_tree.specs.Shown.{value_base, between_quotes, units_of, object_syntax};
+
+use crate::node::definition;
+use smi_module::{DefKind, Module, Text};
+use smi_nodes::Source;
+use smi_types::{TypeBase, TypeSyntax, Types, kept_is_right};
+use smi_value::{ValueBase, ValueSyntax};
+
+/// The type that a value of a base type has on the wire, where its syntax says more than that.
+fn value_base(base: TypeBase) -> ValueBase
+    ensures { result ≡ value_base base }
+{
+    match base {
+        TypeBase::Integer => ValueBase::Integer,
+        TypeBase::OctetString => ValueBase::OctetString,
+        TypeBase::Bits => ValueBase::Bits,
+        TypeBase::Counter32 => ValueBase::Counter32,
+        TypeBase::Gauge32 | TypeBase::Unsigned32 => ValueBase::Gauge32,
+        TypeBase::TimeTicks => ValueBase::TimeTicks,
+        TypeBase::Counter64 => ValueBase::Counter64,
+        TypeBase::ObjectIdentifier | TypeBase::IpAddress | TypeBase::Opaque => ValueBase::Other,
+    }
+}
+
+/// The octets between the quotes of a string.
+fn between_quotes(text: &Text) -> &[u8]
+    ensures { result.now ≡ between_quotes text.now }
+{
+    let octets = text.as_bytes();
+    if octets.len() < 2 {
+        return &[];
+    }
+    &octets[1..octets.len() - 1]
+}
+
+/// UNITS of an OBJECT-TYPE, if it has them.
+fn units_of(kind: &DefKind) -> Option<&Text>
+    ensures { option_copied result ≡ units_of kind.now }
+{
+    match kind {
+        DefKind::ObjectType(clauses) => match &clauses.units {
+            Some(units) => Some(units),
+            None => None,
+        },
+        _ => None,
+    }
+}
+
+/// A syntax with UNITS, as values are shown by it.
+pub(crate) fn value_syntax<'a>(syntax: TypeSyntax<'a>, units: Option<&'a Text>) -> ValueSyntax<'a>
+    ensures { result ≡ object_syntax (facts_of syntax.entry) (option_copied units.entry) }
+{
+    ValueSyntax::new(
+        value_base(syntax.base),
+        match syntax.names {
+            Some(names) => names,
+            None => &[],
+        },
+        match syntax.hint {
+            Some(hint) => Some(between_quotes(hint)),
+            None => None,
+        },
+        match units {
+            Some(units) => Some(between_quotes(units)),
+            None => None,
+        },
+    )
+}
+
+/// The syntax of the object of a source, if it is one with a type of a value.
+pub(crate) fn syntax<'a>(
+    types: &Types,
+    modules: &'a [Module],
+    source: Source,
+) -> Option<TypeSyntax<'a>>
+    ensures { option_map facts_of result ≡ syntax_from modules.now types.now source }
+{
+    match source {
+        Source::Root(_) => None,
+        Source::Definition(place, k) => types.kept(modules, place, k),
+    }
+}
+
+/// UNITS of the object of a source, if it has them.
+pub(crate) fn units(modules: &[Module], source: Source) -> Option<&Text>
+    ensures { option_copied result
+        ≡ option_and_then (λ d. units_of d.kind) (definition_from modules.now source) }
+{
+    match definition(modules, source) {
+        Some(def) => units_of(&def.kind),
+        None => None,
+    }
+}
+
+/// The syntaxes that are kept for nodes are those that their objects have.
+pub(crate) fn kept_syntaxes()
+    ensures { (modules : List Module) (types : Types) → AreTypesOf modules types
+        → (sources : List Source) (oids : List (List ℕ))
+        → AreSyntaxesOf modules (nodes_of modules sources oids)
+        (syntaxes_from modules types sources) }
+{
+    kept_is_right();
+}

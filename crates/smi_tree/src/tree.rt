@@ -1,0 +1,290 @@
+//! The tree of names, and what it is asked for.
+ghost use Rattle.std.specs.Prelude.{◌≡◌, ◌<◌, ℕ, List, length, Some, None, IfOk, MatchOption};
+ghost use Rattle.std.specs.Prelude.{is_some, option_map, slice_index_or};
+ghost use Rattle.std.specs.Option.{option_and_then, option_copied};
+ghost use Rattle.std.specs.List.{slice_get};
+ghost use Rattle.smi_branches.specs.Children.{places_left};
+ghost use Rattle.smi_branches.specs.Standing.{AreChildren, HasNone, IsDeepestAt, oid_at};
+ghost use Rattle.smi_meaning.specs.Meaning.{module_named};
+ghost use Rattle.smi_tree.specs.Nodes.{child_of, is_labelled, oids_of, place_anywhere};
+ghost use Rattle.smi_tree.specs.Nodes.{place_in_module};
+ghost use Rattle.smi_types.specs.Kept.{facts_of};
+ghost use Rattle.smi_tree.specs.Resolved.{IsResolved};
+ghost use Rattle.smi_tree.specs.Shown.{shown_at, units_at};
+ghost use Rattle.smi_tree.specs.Naming.{oid_of};
+ghost use Rattle.smi_tree.specs.Tree.{IsTree, node_of};
+ghost use Rattle.smi_nodes.specs.declared.warning.Warning.{Warning};
+
+use crate::node::{Node, at, definition, home, label};
+use crate::places::{Places, find, homes, labels, scopes};
+use crate::shown::{kept_syntaxes, syntax, units, value_syntax};
+use smi_branches::{Children, Deepest, Identifiers};
+use smi_columns::Indexes;
+use smi_index::IndexPart;
+use smi_meaning::Names;
+use smi_module::{Def, Module, Text};
+use smi_nodes::{Source, Warning, nodes};
+use smi_types::{TypeSyntax, Types};
+use smi_value::ValueSyntax;
+use snmp_oid::Oid;
+use std::alloc::{AllocError, Global};
+use std::marker::Model;
+
+/// The place of a node in order of loading, the roots first. It is below the tree's `len()`.
+pub type NodeId = usize;
+
+/// The nodes that modules define, with those of the roots before them (RFC 2578, sections 2 and
+/// 3.6).
+///
+/// Of several nodes with one identifier the first in order of loading stands for it. No call but
+/// [`Tree::load`] allocates.
+#[derive(Drop)]
+pub struct Tree {
+    modules: Vec<Module>,
+    /// Where each node comes from.
+    sources: Vec<Source>,
+    /// The identifier of each node.
+    identifiers: Identifiers,
+    /// The place of each module's name.
+    homes: Places,
+    /// The first node of each label.
+    labels: Places,
+    /// The first node of each label in each module.
+    scopes: Vec<Places>,
+    /// The types of the modules.
+    types: Types,
+    /// The index of each node.
+    indexes: Indexes,
+}
+
+impl Model for Tree {
+    ghost use Rattle.smi_tree.specs.Tree.{Contents};
+    ghost use Rattle.smi_tree.specs.Kept.{contents, IsKept};
+
+    ghost Value = { Contents };
+
+    ghost view = { λ s.
+        contents s.modules.items s.sources.items s.identifiers s.types s.indexes };
+
+    ghost invariant = { λ s.
+        IsKept s.modules.items s.sources.items s.identifiers s.types s.indexes s.homes s.labels
+        s.scopes.items };
+}
+
+/// What modules define, resolved.
+struct Resolved {
+    sources: Vec<Source>,
+    identifiers: Identifiers,
+    types: Types,
+    indexes: Indexes,
+    warnings: Vec<Warning>,
+}
+
+/// What modules define, by what their names mean.
+fn resolve(alloc: Global, modules: &[Module]) -> Result<Resolved, AllocError>
+    ensures { IfOk result (λ resolved. IsResolved modules.now resolved) }
+{
+    let names = Names::new(alloc, modules)?;
+    let gathered = nodes(alloc, &names, modules)?;
+    let sources = gathered.sources;
+    let identifiers = Identifiers::new(alloc, gathered.oids)?;
+    let types = Types::new(alloc, &names, modules)?;
+    kept_syntaxes();
+    let indexes = Indexes::new(alloc, &names, modules, &types, &sources, &identifiers)?;
+    Ok(Resolved {
+        sources,
+        identifiers,
+        types,
+        indexes,
+        warnings: gathered.warnings,
+    })
+}
+
+impl Tree {
+    /// The tree of modules, with the warnings that they give, in order.
+    ///
+    /// Names may refer to what stands later, in the same module or in another. A module whose name
+    /// an earlier one has is left out.
+    pub fn load(alloc: Global, modules: Vec<Module>) -> Result<(Tree, Vec<Warning>), AllocError>
+        ensures { IfOk result (λ loaded. IsTree modules.items loaded.0 loaded.1.items) }
+    {
+        let Resolved {
+            sources,
+            identifiers,
+            types,
+            indexes,
+            warnings,
+        } = resolve(alloc, &modules)?;
+        let homes = homes(alloc, &modules)?;
+        let labels = labels(alloc, &modules, &sources)?;
+        let scopes = scopes(alloc, &modules, &homes, &sources)?;
+        let tree = Tree {
+            modules,
+            sources,
+            identifiers,
+            homes,
+            labels,
+            scopes,
+            types,
+            indexes,
+        };
+        Ok((tree, warnings))
+    }
+
+    /// How many nodes there are, the roots included.
+    pub fn len(&self) -> usize
+        ensures { result ≡ length self.now.nodes }
+    {
+        self.sources.len()
+    }
+
+    /// A node.
+    pub fn node(&self, id: NodeId) -> Node<'_>
+        requires { id < length self.now.nodes }
+        ensures { slice_get self.now.nodes id ≡ Some (node_of result) }
+    {
+        let source = self.sources[id];
+        Node {
+            home: home(&self.modules, source),
+            label: label(&self.modules, source),
+            oid: self.identifiers.get(id),
+            definition: definition(&self.modules, source),
+        }
+    }
+
+    /// The syntax of a node's object: what its chain of types gives. None if it is no object, or if
+    /// that chain is broken, leads back to itself or ends at no type of a value (RFC 2578, sections
+    /// 7.1 and 9).
+    pub fn syntax_of(&self, id: NodeId) -> Option<TypeSyntax<'_>>
+        ensures { option_map facts_of result ≡ slice_index_or self.now.syntaxes id None }
+    {
+        match at(&self.sources, id) {
+            Some(source) => syntax(&self.types, &self.modules, *source),
+            None => None,
+        }
+    }
+
+    /// The parts of the index of a node. None if it is no column, or if its index can't be read
+    /// (RFC 2578, sections 7.7 and 7.8).
+    pub fn index_of(&self, id: NodeId) -> Option<&[IndexPart]>
+        ensures { option_map (λ parts. parts.now) result
+            ≡ slice_index_or self.now.indexes id None }
+    {
+        self.indexes.get(id)
+    }
+
+    /// The identifier of a node that was found.
+    pub(crate) fn found(&self, place: Option<NodeId>) -> Option<&Oid>
+        ensures { option_copied result ≡ oid_of self.now.nodes place }
+    {
+        match place {
+            Some(id) if id < self.identifiers.len() => Some(self.identifiers.get(id)),
+            _ => None,
+        }
+    }
+
+    /// The definition of a node, None for a root.
+    pub(crate) fn definition_of(&self, id: NodeId) -> Option<&Def>
+        ensures { option_copied result
+            ≡ option_and_then (λ n. n.definition) (slice_get self.now.nodes id) }
+    {
+        match at(&self.sources, id) {
+            Some(source) => definition(&self.modules, *source),
+            None => None,
+        }
+    }
+
+    /// What a tree holds is what its modules bring.
+    pub(crate) fn is_tree(&self)
+        ensures { (warnings : List Warning) × IsTree self.now.modules self.now warnings }
+    {
+        let _ = &self.modules;
+    }
+
+    /// UNITS of a node's object, if it has them (RFC 2578, section 7.2).
+    fn units(&self, id: NodeId) -> Option<&Text>
+        ensures { option_copied result ≡ units_at self.now.nodes id }
+    {
+        match at(&self.sources, id) {
+            Some(source) => units(&self.modules, *source),
+            None => None,
+        }
+    }
+
+    /// The syntax by which values of a node's object are shown.
+    pub(crate) fn value_syntax(&self, id: NodeId) -> Option<ValueSyntax<'_>>
+        ensures { result ≡ shown_at self.now.nodes self.now.syntaxes id }
+    {
+        match self.syntax_of(id) {
+            Some(syntax) => Some(value_syntax(syntax, self.units(id))),
+            None => None,
+        }
+    }
+
+    /// Whether a module of this name is loaded.
+    pub fn has_module(&self, name: &[u8]) -> bool
+        ensures { result ≡ is_some (module_named self.now.modules name.now) }
+    {
+        find(&self.homes, name).is_some()
+    }
+
+    /// The first node of a label in the module of a name.
+    pub fn find(&self, home: &[u8], label: &[u8]) -> Option<NodeId>
+        ensures { result ≡ place_in_module self.now.nodes home.now label.now }
+    {
+        let Some(place) = find(&self.homes, home) else {
+            return None;
+        };
+        let Some(scope) = at(&self.scopes, place) else {
+            return None;
+        };
+        find(scope, label)
+    }
+
+    /// The first node of a label, the roots before all others.
+    pub fn find_any(&self, label: &[u8]) -> Option<NodeId>
+        ensures { result ≡ place_anywhere self.now.nodes label.now }
+    {
+        find(&self.labels, label)
+    }
+
+    /// The node that stands for the longest beginning of an identifier, with the length of that
+    /// beginning. What follows it is the rest.
+    pub fn deepest(&self, oid: &Oid) -> Option<Deepest>
+        ensures { MatchOption result (HasNone (oids_of self.now.nodes) oid.now)
+            (λ deepest. IsDeepestAt (oids_of self.now.nodes) oid.now deepest.place
+            deepest.depth) }
+    {
+        self.identifiers.deepest(oid)
+    }
+
+    /// The nodes that stand for the identifiers one number longer, in order of that number.
+    pub fn children(&self, oid: &Oid) -> Children<'_>
+        ensures { AreChildren (oids_of self.now.nodes) oid.now (places_left result) }
+    {
+        self.identifiers.children(oid)
+    }
+
+    /// The first of the children of an identifier that has a label.
+    pub fn child(&self, oid: &Oid, label: &[u8]) -> Option<NodeId>
+        ensures { result ≡ child_of self.now.nodes oid.now label.now }
+    {
+        let mut children = self.children(oid);
+        'children: while let Some(id) = children.next() {
+            if self.has_label(id, label) {
+                return Some(id);
+            }
+        }
+        None
+    }
+
+    /// Whether a node has a label.
+    fn has_label(&self, id: NodeId, name: &[u8]) -> bool
+        ensures { result ≡ is_labelled self.now.nodes name.now id }
+    {
+        match at(&self.sources, id) {
+            Some(source) => label(&self.modules, *source) == name,
+            None => false,
+        }
+    }
+}

@@ -1,0 +1,288 @@
+//! The indexes of columns: by INDEX and AUGMENTS of their rows, over each base type.
+
+use smi_branches::Identifiers;
+use smi_columns::Indexes;
+use smi_index::{Extent, IndexPart};
+use smi_meaning::Names;
+use smi_module::Module;
+use smi_nodes::{Gathered, Source, nodes};
+use smi_text::parse_modules;
+use smi_types::Types;
+use std::alloc::Global;
+use std::test::Fail;
+
+/// A label, and the index of its node.
+type Row<'a> = (&'a str, Option<&'a [IndexPart]>);
+
+const NUMBER: IndexPart = IndexPart::Number;
+
+const TEXT: IndexPart = IndexPart::Text(Extent::Counted);
+
+const IMPLIED_TEXT: IndexPart = IndexPart::Text(Extent::Implied);
+
+const SIX: IndexPart = IndexPart::Text(Extent::Fixed(6));
+
+const OCTETS: IndexPart = IndexPart::Octets(Extent::Counted);
+
+/// The place of the first node of a label.
+fn place_of(modules: &[Module], sources: &[Source], label: &str) -> Option<usize> {
+    for (place, source) in sources.iter().enumerate() {
+        if has_label(modules, *source, label) {
+            return Some(place);
+        }
+    }
+    None
+}
+
+fn has_label(modules: &[Module], source: Source, label: &str) -> bool {
+    let Source::Definition(i, k) = source else {
+        return false;
+    };
+    match modules.get(i) {
+        Some(module) => match module.defs.as_slice().get(k) {
+            Some(def) => def.label.as_bytes() == label.as_bytes(),
+            None => false,
+        },
+        None => false,
+    }
+}
+
+fn is_index(found: Option<&[IndexPart]>, expected: Option<&[IndexPart]>) -> bool {
+    match (found, expected) {
+        (Some(found), Some(expected)) => found == expected,
+        (None, None) => true,
+        _ => false,
+    }
+}
+
+/// The first row whose node has another index over the modules of a text, or isn't there.
+fn wrong_row(alloc: Global, text: &[u8], rows: &[Row<'_>]) -> Result<Option<usize>, Fail> {
+    let modules = parse_modules(alloc, text)?;
+    let names = Names::new(alloc, &modules)?;
+    let types = Types::new(alloc, &names, &modules)?;
+    let Gathered { sources, oids, .. } = nodes(alloc, &names, &modules)?;
+    let identifiers = Identifiers::new(alloc, oids)?;
+    if sources.len() != identifiers.len() {
+        return Err("a node without an identifier")?;
+    }
+    let indexes = Indexes::new(alloc, &names, &modules, &types, &sources, &identifiers)?;
+    for (k, (label, expected)) in rows.iter().enumerate() {
+        let found = match place_of(&modules, &sources, label) {
+            Some(place) => is_index(indexes.get(place), *expected),
+            None => false,
+        };
+        if !found {
+            return Ok(Some(k));
+        }
+    }
+    Ok(None)
+}
+
+const TINY: &[u8] = b"TINY-SMI DEFINITIONS ::= BEGIN
+enterprises OBJECT IDENTIFIER ::= { private 1 }
+private     OBJECT IDENTIFIER ::= { internet 4 }
+internet    OBJECT IDENTIFIER ::= { iso org(3) dod(6) 1 }
+END
+TINY-MIB DEFINITIONS ::= BEGIN
+IMPORTS enterprises FROM TINY-SMI;
+tiny OBJECT IDENTIFIER ::= { enterprises 32473 }
+Mac ::= TEXTUAL-CONVENTION DISPLAY-HINT \"1x:\" STATUS current
+  DESCRIPTION \"An address.\" SYNTAX OCTET STRING (SIZE (6))
+tinyState OBJECT-TYPE SYNTAX INTEGER { up(1), down(2) } MAX-ACCESS read-only
+  STATUS current DESCRIPTION \"State.\" ::= { tiny 1 }
+tinyTable OBJECT-TYPE SYNTAX SEQUENCE OF TinyEntry MAX-ACCESS not-accessible
+  STATUS current DESCRIPTION \"Table.\" ::= { tiny 2 }
+tinyEntry OBJECT-TYPE SYNTAX TinyEntry MAX-ACCESS not-accessible
+  STATUS current DESCRIPTION \"Row.\" INDEX { tinyName } ::= { tinyTable 1 }
+TinyEntry ::= SEQUENCE { tinyName OCTET STRING, tinyMac Mac }
+tinyName OBJECT-TYPE SYNTAX OCTET STRING (SIZE (0..32)) MAX-ACCESS not-accessible
+  STATUS current DESCRIPTION \"Name.\" ::= { tinyEntry 1 }
+tinyMac OBJECT-TYPE SYNTAX Mac MAX-ACCESS read-only
+  STATUS current DESCRIPTION \"Address.\" ::= { tinyEntry 2 }
+tinyKeyTable OBJECT IDENTIFIER ::= { tiny 3 }
+tinyKeyEntry OBJECT-TYPE SYNTAX TinyKeyEntry MAX-ACCESS not-accessible
+  STATUS current DESCRIPTION \"Key row.\" INDEX { IMPLIED tinyName } ::= { tinyKeyTable 1 }
+TinyKeyEntry ::= SEQUENCE { tinyKeyUse Gauge32 }
+tinyKeyUse OBJECT-TYPE SYNTAX Gauge32 UNITS \"jobs\" MAX-ACCESS read-only
+  STATUS current DESCRIPTION \"Use.\" ::= { tinyKeyEntry 1 }
+END
+";
+
+#[test]
+fn columns_of_a_table(rt: HostRuntime) -> Result<(), Fail> {
+    let text = [TEXT];
+    let implied = [IMPLIED_TEXT];
+    let rows = [
+        ("tinyName", Some(text.as_slice())),
+        ("tinyMac", Some(&text)),
+        ("tinyKeyUse", Some(&implied)),
+        ("tinyState", None),
+        ("tinyTable", None),
+        ("tinyEntry", None),
+        ("tinyKeyEntry", None),
+        ("tiny", None),
+    ];
+    assert_eq!(rt; wrong_row(rt.alloc(), TINY, &rows)?, None);
+    Ok(())
+}
+
+/// What stands before an index object, its type, and the part for it.
+const PARTS: [(&str, &str, Option<IndexPart>); 27] = [
+    ("", "INTEGER", Some(NUMBER)),
+    ("", "INTEGER { up(1) }", Some(NUMBER)),
+    ("IMPLIED", "Integer32 (0..9)", Some(NUMBER)),
+    ("", "Counter32", Some(NUMBER)),
+    ("", "Gauge32", Some(NUMBER)),
+    ("", "Unsigned32", Some(NUMBER)),
+    ("", "TimeTicks", Some(NUMBER)),
+    ("", "Counter64", None),
+    ("", "IpAddress", Some(IndexPart::Address)),
+    ("", "OBJECT IDENTIFIER", Some(IndexPart::Identifier)),
+    (
+        "IMPLIED",
+        "OBJECT IDENTIFIER",
+        Some(IndexPart::ImpliedIdentifier),
+    ),
+    ("", "OCTET STRING", Some(TEXT)),
+    ("IMPLIED", "OCTET STRING", Some(IMPLIED_TEXT)),
+    ("", "OCTET STRING (SIZE (6))", Some(SIX)),
+    ("IMPLIED", "OCTET STRING (SIZE (6))", Some(SIX)),
+    ("", "OCTET STRING (SIZE (6..6))", Some(SIX)),
+    ("", "OCTET STRING (SIZE ('06'H))", Some(SIX)),
+    ("", "OCTET STRING (SIZE (0..32))", Some(TEXT)),
+    ("IMPLIED", "OCTET STRING (SIZE (1..32))", Some(IMPLIED_TEXT)),
+    ("", "OCTET STRING (SIZE (6 | 8))", Some(TEXT)),
+    ("", "Mac", Some(SIX)),
+    ("", "Mac (SIZE (0..6))", Some(TEXT)),
+    ("", "Opaque", Some(OCTETS)),
+    (
+        "",
+        "Opaque (SIZE (4))",
+        Some(IndexPart::Octets(Extent::Fixed(4))),
+    ),
+    ("", "BITS { a(0) }", Some(OCTETS)),
+    (
+        "IMPLIED",
+        "BITS { a(0) }",
+        Some(IndexPart::Octets(Extent::Implied)),
+    ),
+    ("", "Missing", None),
+];
+
+/// A module of a row with one index object of a type.
+fn row_of(alloc: Global, implied: &str, syntax: &str) -> Result<String, Fail> {
+    Ok(format!(in alloc;
+        "M DEFINITIONS ::= BEGIN
+Mac ::= OCTET STRING (SIZE (6))
+entry OBJECT-TYPE SYNTAX Entry MAX-ACCESS not-accessible STATUS current DESCRIPTION \"\"
+  INDEX {{ {implied} column }} ::= {{ iso 1 }}
+column OBJECT-TYPE SYNTAX {syntax} MAX-ACCESS read-only STATUS current DESCRIPTION \"\"
+  ::= {{ entry 1 }}
+END
+"
+    )?)
+}
+
+#[test]
+fn each_base_type_in_an_index(rt: HostRuntime) -> Result<(), Fail> {
+    for (implied, syntax, part) in PARTS {
+        let text = row_of(rt.alloc(), implied, syntax)?;
+        let parts = [part.unwrap_or(NUMBER)];
+        let expected = if part.is_some() {
+            Some(parts.as_slice())
+        } else {
+            None
+        };
+        let wrong = wrong_row(rt.alloc(), text.as_bytes(), &[("column", expected)])?;
+        assert_eq!(rt; wrong, None, "{implied} {syntax}");
+    }
+    Ok(())
+}
+
+/// Rows of each kind, and their columns.
+const ROWS: &[u8] = b"M DEFINITIONS ::= BEGIN IMPORTS key FROM N farRow FROM P absentRow FROM N;
+rowA OBJECT-TYPE SYNTAX R MAX-ACCESS not-accessible STATUS current DESCRIPTION \"\"
+  INDEX { key, local, IMPLIED nameA } ::= { iso 1 }
+nameA OBJECT-TYPE SYNTAX OCTET STRING MAX-ACCESS read-only STATUS current DESCRIPTION \"\"
+  ::= { rowA 1 }
+local OBJECT-TYPE SYNTAX OCTET STRING (SIZE (6)) MAX-ACCESS read-only STATUS current
+  DESCRIPTION \"\" ::= { rowA 2 }
+belowA OBJECT IDENTIFIER ::= { rowA 3 }
+deepA OBJECT-TYPE SYNTAX INTEGER MAX-ACCESS read-only STATUS current DESCRIPTION \"\"
+  ::= { rowA 2 1 }
+rowB OBJECT-TYPE SYNTAX R MAX-ACCESS not-accessible STATUS current DESCRIPTION \"\"
+  AUGMENTS { rowA } ::= { iso 2 }
+colB OBJECT-TYPE SYNTAX INTEGER MAX-ACCESS read-only STATUS current DESCRIPTION \"\" ::= { rowB 1 }
+rowC OBJECT-TYPE SYNTAX R MAX-ACCESS not-accessible STATUS current DESCRIPTION \"\"
+  AUGMENTS { rowB } ::= { iso 3 }
+colC OBJECT-TYPE SYNTAX INTEGER MAX-ACCESS read-only STATUS current DESCRIPTION \"\" ::= { rowC 1 }
+rowD OBJECT-TYPE SYNTAX R MAX-ACCESS not-accessible STATUS current DESCRIPTION \"\"
+  AUGMENTS { farRow } ::= { iso 4 }
+colD OBJECT-TYPE SYNTAX INTEGER MAX-ACCESS read-only STATUS current DESCRIPTION \"\" ::= { rowD 1 }
+rowE OBJECT-TYPE SYNTAX R MAX-ACCESS not-accessible STATUS current DESCRIPTION \"\"
+  AUGMENTS { absentRow } ::= { iso 5 }
+colE OBJECT-TYPE SYNTAX INTEGER MAX-ACCESS read-only STATUS current DESCRIPTION \"\" ::= { rowE 1 }
+rowF OBJECT-TYPE SYNTAX R MAX-ACCESS not-accessible STATUS current DESCRIPTION \"\"
+  INDEX { nameA, gone } ::= { iso 6 }
+colF OBJECT-TYPE SYNTAX INTEGER MAX-ACCESS read-only STATUS current DESCRIPTION \"\" ::= { rowF 1 }
+rowG OBJECT-TYPE SYNTAX R MAX-ACCESS not-accessible STATUS current DESCRIPTION \"\"
+  INDEX { ringed } ::= { iso 7 }
+ringed OBJECT-TYPE SYNTAX INTEGER MAX-ACCESS read-only STATUS current DESCRIPTION \"\"
+  ::= { ringed 1 }
+colG OBJECT-TYPE SYNTAX INTEGER MAX-ACCESS read-only STATUS current DESCRIPTION \"\" ::= { rowG 1 }
+rowH OBJECT-TYPE SYNTAX R MAX-ACCESS not-accessible STATUS current DESCRIPTION \"\"
+  INDEX { belowA } ::= { iso 8 }
+colH OBJECT-TYPE SYNTAX INTEGER MAX-ACCESS read-only STATUS current DESCRIPTION \"\" ::= { rowH 1 }
+first OBJECT-TYPE SYNTAX R MAX-ACCESS not-accessible STATUS current DESCRIPTION \"\"
+  INDEX { local } ::= { iso 9 }
+second OBJECT-TYPE SYNTAX R MAX-ACCESS not-accessible STATUS current DESCRIPTION \"\"
+  INDEX { nameA } ::= { iso 9 }
+col9 OBJECT-TYPE SYNTAX INTEGER MAX-ACCESS read-only STATUS current DESCRIPTION \"\" ::= { second 1 }
+plain OBJECT-TYPE SYNTAX R MAX-ACCESS not-accessible STATUS current DESCRIPTION \"\" ::= { iso 10 }
+later OBJECT-TYPE SYNTAX R MAX-ACCESS not-accessible STATUS current DESCRIPTION \"\"
+  INDEX { nameA } ::= { iso 10 }
+col10 OBJECT-TYPE SYNTAX INTEGER MAX-ACCESS read-only STATUS current DESCRIPTION \"\" ::= { later 1 }
+self OBJECT-TYPE SYNTAX R MAX-ACCESS not-accessible STATUS current DESCRIPTION \"\"
+  AUGMENTS { self } ::= { iso 11 }
+col11 OBJECT-TYPE SYNTAX INTEGER MAX-ACCESS read-only STATUS current DESCRIPTION \"\" ::= { self 1 }
+END
+N DEFINITIONS ::= BEGIN IMPORTS key FROM P; END
+P DEFINITIONS ::= BEGIN
+farRow OBJECT-TYPE SYNTAX R MAX-ACCESS not-accessible STATUS current DESCRIPTION \"\"
+  INDEX { local, key } ::= { iso 12 }
+local OBJECT-TYPE SYNTAX IpAddress MAX-ACCESS read-only STATUS current DESCRIPTION \"\"
+  ::= { farRow 1 }
+key OBJECT-TYPE SYNTAX INTEGER MAX-ACCESS read-only STATUS current DESCRIPTION \"\"
+  ::= { farRow 2 }
+END
+";
+
+#[test]
+fn rows_that_augment_and_rows_of_one_identifier(rt: HostRuntime) -> Result<(), Fail> {
+    let a = [NUMBER, SIX, IMPLIED_TEXT];
+    let far = [IndexPart::Address, NUMBER];
+    let first = [SIX];
+    let rows = [
+        ("nameA", Some(a.as_slice())),
+        // Neither an object, nor right below the row.
+        ("belowA", None),
+        ("deepA", None),
+        ("colB", Some(&a)),
+        // A row that augments one which augments.
+        ("colC", None),
+        // The names of the other row's INDEX mean what they mean in its own module.
+        ("colD", Some(&far)),
+        ("key", Some(&far)),
+        // Names of rows and objects that lead to nothing, to a ring, or to no object.
+        ("colE", None),
+        ("colF", None),
+        ("colG", None),
+        ("colH", None),
+        // The first of two rows of one identifier stands for it.
+        ("col9", Some(&first)),
+        ("col10", None),
+        ("col11", None),
+    ];
+    assert_eq!(rt; wrong_row(rt.alloc(), ROWS, &rows)?, None);
+    Ok(())
+}

@@ -1,0 +1,178 @@
+//! What names mean in modules that import from one another.
+
+use crate::reading::comes_to;
+use smi_meaning::{Decider, Names};
+use smi_text::parse_modules;
+use std::test::Fail;
+
+const MODULES: &[u8] = b"A DEFINITIONS ::= BEGIN
+IMPORTS x, y FROM B
+  x, y, z, iso FROM C
+  far FROM R1
+  round FROM R1
+  own FROM A
+  gone FROM GONE
+  absent, OBJECT-TYPE FROM B;
+early OBJECT IDENTIFIER ::= { late 1 }
+x OBJECT IDENTIFIER ::= { joint-iso-ccitt 1 }
+late OBJECT IDENTIFIER ::= { y 5 }
+under OBJECT IDENTIFIER ::= { iso 6 org(7) }
+named OBJECT IDENTIFIER ::= { iso(1) 3 }
+number OBJECT IDENTIFIER ::= { 1 3 }
+each OBJECT IDENTIFIER ::= { other 1 }
+other OBJECT IDENTIFIER ::= { each 2 }
+on OBJECT IDENTIFIER ::= { each 3 }
+missing OBJECT IDENTIFIER ::= { nothing 1 }
+onMissing OBJECT IDENTIFIER ::= { missing 1 }
+T ::= INTEGER
+END
+B DEFINITIONS ::= BEGIN IMPORTS z FROM D;
+x OBJECT IDENTIFIER ::= { iso 3 }
+y OBJECT IDENTIFIER ::= { iso 2 }
+END
+C DEFINITIONS ::= BEGIN IMPORTS z FROM D;
+y OBJECT IDENTIFIER ::= { iso 4 }
+iso OBJECT IDENTIFIER ::= { joint-iso-ccitt 9 }
+END
+D DEFINITIONS ::= BEGIN z OBJECT IDENTIFIER ::= { ccitt 7 } END
+R1 DEFINITIONS ::= BEGIN IMPORTS far, round FROM R2; back OBJECT IDENTIFIER ::= { iso 11 } END
+R2 DEFINITIONS ::= BEGIN IMPORTS far, round FROM R3; END
+R3 DEFINITIONS ::= BEGIN IMPORTS round, back FROM R1;
+far OBJECT IDENTIFIER ::= { back 10 }
+END
+A DEFINITIONS ::= BEGIN hidden OBJECT IDENTIFIER ::= { iso 12 } END
+";
+
+/// The first row whose name doesn't resolve to what the row says, in the module of a name.
+fn unresolved_row<'a>(
+    names: &Names<'a>,
+    rows: &[(&'a str, &'a str, &'static str)],
+) -> Option<usize> {
+    for (k, (home, name, expected)) in rows.iter().enumerate() {
+        let found = names.resolution(home.as_bytes(), name.as_bytes());
+        if !comes_to(found, expected) {
+            return Some(k);
+        }
+    }
+    None
+}
+
+/// What decides a name: a definition by its line, an import by its line and module, a root by its
+/// number.
+type Decided<'a> = Option<(usize, &'a str, u32)>;
+
+/// Whether this decides a name.
+fn is_decided(decider: Option<Decider<'_>>, expected: Decided<'_>) -> bool {
+    let Some((line, source, number)) = expected else {
+        return decider.is_none();
+    };
+    match decider {
+        Some(Decider::Definition(def)) => def.line == line && source.is_empty(),
+        Some(Decider::Import(import)) => {
+            import.line == line && import.source.as_bytes() == source.as_bytes()
+        }
+        Some(Decider::Root(root)) => line == 0 && root == number,
+        None => false,
+    }
+}
+
+/// The first row whose name isn't decided by what the row says, in the module of a name.
+fn undecided_row<'a>(names: &Names<'a>, rows: &[(&'a str, &'a str, Decided<'a>)]) -> Option<usize> {
+    for (k, (home, name, expected)) in rows.iter().enumerate() {
+        if !is_decided(names.decider(home.as_bytes(), name.as_bytes()), *expected) {
+            return Some(k);
+        }
+    }
+    None
+}
+
+#[test]
+fn names_resolve_in_their_modules(rt: HostRuntime) -> Result<(), Fail> {
+    let modules = parse_modules(rt.alloc(), MODULES)?;
+    let names = Names::new(rt.alloc(), &modules)?;
+    let rows = [
+        // Its own definition, not the imports of the name.
+        ("A", "x", "2.1"),
+        // The first import of the name.
+        ("A", "y", "1.2"),
+        ("A", "late", "1.2.5"),
+        ("A", "early", "1.2.5.1"),
+        // An import that the named module imports.
+        ("A", "z", "0.7"),
+        // An imported name comes before the root.
+        ("A", "iso", "2.9"),
+        ("A", "under", "2.9.6.7"),
+        ("A", "joint-iso-ccitt", "2"),
+        ("B", "iso", "1"),
+        ("D", "ccitt", "0"),
+        ("A", "named", "1.3"),
+        ("A", "number", "1.3"),
+        // Imports that go round a ring of modules, one to a definition and one to none.
+        ("A", "far", "1.11.10"),
+        ("A", "round", "cycle"),
+        ("R3", "round", "cycle"),
+        ("A", "own", "cycle"),
+        ("A", "each", "cycle"),
+        ("A", "on", "cycle"),
+        ("A", "gone", "unresolved"),
+        ("A", "absent", "unresolved"),
+        ("A", "OBJECT-TYPE", "unresolved"),
+        ("A", "missing", "unresolved"),
+        ("A", "onMissing", "unresolved"),
+        ("A", "T", "unresolved"),
+        ("A", "nothing", "no meaning"),
+        ("A", "hidden", "no meaning"),
+        ("B", "late", "no meaning"),
+        ("GONE", "iso", "no meaning"),
+        ("", "", "no meaning"),
+    ];
+    assert_eq!(rt; unresolved_row(&names, &rows), None);
+    assert!(rt; names.is_loaded(b"R3") && names.is_loaded(b"A"));
+    assert!(rt; !names.is_loaded(b"GONE") && !names.is_loaded(b""));
+    Ok(())
+}
+
+#[test]
+fn names_are_decided(rt: HostRuntime) -> Result<(), Fail> {
+    let modules = parse_modules(rt.alloc(), MODULES)?;
+    let names = Names::new(rt.alloc(), &modules)?;
+    let rows = [
+        ("A", "x", Some((10, "", 0))),
+        ("A", "T", Some((20, "", 0))),
+        ("A", "y", Some((2, "B", 0))),
+        ("A", "iso", Some((3, "C", 0))),
+        ("A", "gone", Some((7, "GONE", 0))),
+        ("A", "OBJECT-TYPE", Some((8, "B", 0))),
+        ("A", "joint-iso-ccitt", Some((0, "", 2))),
+        ("R2", "iso", Some((0, "", 1))),
+        ("A", "nothing", None),
+        ("GONE", "iso", None),
+    ];
+    assert_eq!(rt; undecided_row(&names, &rows), None);
+    Ok(())
+}
+
+#[test]
+fn parents_in_text_up_to_128_numbers(rt: HostRuntime) -> Result<(), Fail> {
+    let alloc = rt.alloc();
+    let mut text = Vec::from_slice(alloc, b"A DEFINITIONS ::= BEGIN\n")?;
+    // Each stands before its parent.
+    for k in 0..200 {
+        let parent: u32 = 199 - k;
+        let line = format!(in alloc;
+            "x{} OBJECT IDENTIFIER ::= {{ x{} 1 }}\n",
+            parent + 1,
+            parent
+        )?;
+        text.extend_from_slice(line.as_bytes())?;
+    }
+    text.extend_from_slice(b"x0 OBJECT IDENTIFIER ::= { iso }\nEND\n")?;
+    let modules = parse_modules(alloc, &text)?;
+    let names = Names::new(alloc, &modules)?;
+    assert!(rt; comes_to(names.resolution(b"A", b"x0"), "1"));
+    assert!(rt; comes_to(names.resolution(b"A", b"x3"), "1.1.1.1"));
+    assert!(rt; !comes_to(names.resolution(b"A", b"x127"), "too long"));
+    assert!(rt; comes_to(names.resolution(b"A", b"x128"), "too long"));
+    assert!(rt; comes_to(names.resolution(b"A", b"x200"), "too long"));
+    Ok(())
+}
