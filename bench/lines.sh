@@ -1,0 +1,12 @@
+#!/usr/bin/env bash
+# Counts the instructions of a line, `NAME = INTEGER: 5`, by how many numbers its name has, in numbers
+# and by module and label.
+source "$(dirname "${BASH_SOURCE[0]}")/common.sh"
+driver show_bench lines.c
+
+for numbers in 2 12 24; do
+    for number in 1 65 4294967295; do
+        octets=$("$work/driver" 1 $numbers $number 1)
+        echo "$numbers numbers of $number: $(each 1000 1 $numbers $number) instructions, $octets octets of text"
+    done
+done

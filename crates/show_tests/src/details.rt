@@ -1,0 +1,112 @@
+//! Details of identifiers, as `snmptranslate -Td` prints them.
+
+use crate::Known;
+use name_tests::Sample;
+use smi_index::{Extent, IndexPart};
+use smi_module::{Def, Module};
+use smi_show::{Letters, detail};
+use smi_text::parse_modules;
+use snmp_oid::Oid;
+use std::test::Fail;
+
+static COUNTED: [IndexPart; 1] = [IndexPart::Text(Extent::Counted)];
+
+/// Checks the details of an identifier.
+fn check(
+    rt: &HostRuntime,
+    definition: Option<&Def>,
+    letters: &[u8],
+    numbers: &[u32],
+    text: &[u8],
+) -> Result<(), Fail> {
+    let mut tree = Known::new(Sample::new(&COUNTED));
+    tree.definition = definition;
+    let letters = Letters::parse(letters).map_err(|_| "no letters")?;
+    let mut out = Vec::new(rt.alloc());
+    detail(&tree, &letters, &Oid::from_slice(numbers)?, &mut out)?;
+    if out.as_slice() == text {
+        Ok(())
+    } else {
+        Err("another text")?
+    }
+}
+
+/// The only definition of the only module.
+fn only(modules: &[Module]) -> Option<&Def> {
+    match modules {
+        [module] => module.defs.as_slice().first(),
+        _ => None,
+    }
+}
+
+const STATE: &[u8] = b"TINY-MIB DEFINITIONS ::= BEGIN
+tinyMac OBJECT-TYPE SYNTAX INTEGER { up(1), down(2) } MAX-ACCESS read-only
+  STATUS current DESCRIPTION \"State.\" ::= { tiny 1 }
+END";
+
+const STATE_DETAILS: &[u8] = b"TINY-MIB::tinyMac
+tinyMac OBJECT-TYPE
+  -- FROM\tTINY-MIB
+  SYNTAX\tINTEGER { up ( 1 ) , down ( 2 ) }
+  MAX-ACCESS\tread-only
+  STATUS\tcurrent
+  DESCRIPTION\t\"State.\"
+::= { iso(1) 3 6 2 }
+";
+
+const ROW: &[u8] = b"TINY-MIB DEFINITIONS ::= BEGIN
+tinyMac OBJECT-TYPE SYNTAX OCTET STRING (SIZE (0..4 | 6)) UNITS \"octets\"
+  MAX-ACCESS read-only STATUS current DESCRIPTION \"One
+line more.\" ::= { tiny 1 }
+END";
+
+const ROW_DETAILS: &[u8] = b".iso.3.6.tinyMac.0
+tinyMac OBJECT-TYPE
+  -- FROM\tTINY-MIB
+  SYNTAX\tOCTET STRING ( SIZE ( 0 .. 4 | 6 ) )
+  UNITS\t\"octets\"
+  MAX-ACCESS\tread-only
+  STATUS\tcurrent
+  DESCRIPTION\t\"One
+line more.\"
+::= { iso(1) 3 6 tinyMac(2) 0 }
+";
+
+const GROUP: &[u8] = b"TINY-MIB DEFINITIONS ::= BEGIN
+tinyMac MODULE-IDENTITY LAST-UPDATED \"1\" ORGANIZATION \"o\" CONTACT-INFO \"c\"
+  DESCRIPTION \"First.\" REVISION \"1\" DESCRIPTION \"Second.\" ::= { tiny 1 }
+END";
+
+const GROUP_DETAILS: &[u8] = b"TINY-MIB::tinyMac
+tinyMac MODULE-IDENTITY
+  -- FROM\tTINY-MIB
+  DESCRIPTION\t\"First.\"
+::= { iso(1) 3 6 2 }
+";
+
+#[test]
+fn clauses_of_a_definition(rt: HostRuntime) -> Result<(), Fail> {
+    let modules = parse_modules(rt.alloc(), STATE)?;
+    check(&rt, only(&modules), b"", &[1, 3, 6, 2], STATE_DETAILS)?;
+    let modules = parse_modules(rt.alloc(), ROW)?;
+    check(&rt, only(&modules), b"f", &[1, 3, 6, 2, 0], ROW_DETAILS)?;
+    let modules = parse_modules(rt.alloc(), GROUP)?;
+    check(&rt, only(&modules), b"", &[1, 3, 6, 2], GROUP_DETAILS)
+}
+
+#[test]
+fn roots_and_other_identifiers(rt: HostRuntime) -> Result<(), Fail> {
+    let root = b"iso\niso OBJECT IDENTIFIER\n::= { 1 }\n";
+    check(&rt, None, b"", &[1], root)?;
+    let below = b"iso.3.7\niso OBJECT IDENTIFIER\n::= { iso(1) 3 7 }\n";
+    check(&rt, None, b"", &[1, 3, 7], below)?;
+    check(&rt, None, b"", &[2, 5], b".2.5\n::= { 2 5 }\n")?;
+    check(&rt, None, b"", &[], b".\n::= { }\n")?;
+    check(
+        &rt,
+        None,
+        b"n",
+        &[1],
+        b".1\niso OBJECT IDENTIFIER\n::= { 1 }\n",
+    )
+}

@@ -1,0 +1,11 @@
+//! Tests of lines, values and details over a small tree.
+#![tactic(auto)]
+
+mod known;
+
+pub use known::Known;
+
+#[cfg(test)]
+mod details;
+#[cfg(test)]
+mod lines;

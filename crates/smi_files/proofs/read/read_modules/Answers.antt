@@ -1,0 +1,19 @@
+use Rattle.std.proofs.Common.{◌++◌, subst, sym, ℕ, List}
+use Rattle.std.proofs.lemmas.Result.{err_from_is_err_and}
+use Rattle.smi_files.specs.Files.{AreModulesOf, MayHold}
+use Rattle.smi_files.proofs.Reading.{AreModulesOf-more, refused_at, texts-more}
+use Rattle.smi_files.proofs.read.read_modules.Goals as goal
+
+pub returns-in_err-found-clause-refused : goal.returns-in_err-found-clause-refused
+returns-in_err-found-clause-refused g c =
+    let p = err_from_is_err_and c.from_residual.result c.from_residual.ensures.1 in
+    rw (p.1, p.2) (refused_at (g.F.Files.text_at c.args.files.now) c.args.paths.now c.paths.path-index _ _ _ c.paths-test.true c.paths.invariant
+    c.in_err-found.ensures.refused)
+
+pub paths-preserved : goal.paths-preserved
+paths-preserved g c =
+    let files = g.F.Files.text_at c.args.files.now in
+    let more = AreModulesOf-more (MayHold files) _ _ _ _ c.paths.invariant c.in_ok-found.ensures.read in
+    rw c.in_ok-append.ensures.items
+    (subst (λ (ps : List (List ℕ)). AreModulesOf (MayHold files) ps (c.paths.modules.items ++ c.in_ok-found.found.items))
+    (sym (texts-more c.args.paths.now c.paths.path-index _ c.paths-test.true)) more)
