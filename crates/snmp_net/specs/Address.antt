@@ -1,0 +1,55 @@
+-- The words that say where an agent is reached.
+use Rattle.std.specs.Prelude.{◌≡◌, ◌≢◌, ◌≤◌, ◌⊎◌, ◌++◌, ℕ, List, [], ◌∷◌, Contains, codes}
+use Rattle.std.specs.Str.Parse.{IsNumeral, digits_value}
+use Rattle.snmp_net.specs.declared.address.AgentAddress.{AgentAddress}
+use Rattle.snmp_net.specs.declared.address.AgentAddress.TheVariants as agent
+
+-- where an agent is: over the table in a file, or at a UDP port of a host
+pub data Address : Type 0 where
+  table : (path : List ℕ) → Address
+  udp : (host : List ℕ) → (port : ℕ) → Address
+
+-- the octet of `:`
+abbrev pub colon : ℕ
+colon = 58
+
+-- a host's name, or its IPv4 address
+pub record IsHost (host : List ℕ) : Type 0 where
+  pub some : host ≢ []
+  pub no_colon : ¬ Contains host colon
+
+-- decimal digits that state a UDP port, leading zeros among them or not
+pub record IsPort (digits : List ℕ) (port : ℕ) : Type 0 where
+  pub numeral : IsNumeral 10 digits
+  pub value : digits_value 10 digits ≡ port
+  pub from : 1 ≤ port
+  pub to : port ≤ 65535
+
+-- a host and its port, with a colon between them
+pub record IsHostAndPort (word host : List ℕ) (port : ℕ) : Type 0 where
+  pub digits : List ℕ
+  pub parts : word ≡ host ++ colon ∷ digits
+  pub host_stated : IsHost host
+  pub port_stated : IsPort digits port
+
+-- a host alone, of which the port of SNMP is meant (RFC 3417, section 3), or a host and its port
+abbrev pub IsTarget : (word host : List ℕ) → (port : ℕ) → Type 0
+IsTarget word host port =
+    (IsHost word × (host ≡ word) × (port ≡ 161)) ⊎ IsHostAndPort word host port
+
+-- the word doesn't begin so
+abbrev pub LacksPrefix : (word prefix : List ℕ) → Type 0
+LacksPrefix word prefix = (rest : List ℕ) → word ≢ prefix ++ rest
+
+-- The word states where an agent is. One that begins with `table:` or `udp:` is read as that; a
+-- path isn't empty.
+abbrev pub IsAgent : (word : List ℕ) → Address → Type 0
+IsAgent word (table path) = (path ≢ []) × (word ≡ codes "table:" ++ path)
+IsAgent word (udp host port) =
+    ((rest : List ℕ) × (word ≡ codes "udp:" ++ rest) × IsTarget rest host port)
+    ⊎ (LacksPrefix word (codes "table:") × LacksPrefix word (codes "udp:")
+    × IsTarget word host port)
+
+abbrev pub address_of : AgentAddress → Address
+address_of (agent.Table path) = table path.now
+address_of (agent.Udp at) = udp at.host.now at.port

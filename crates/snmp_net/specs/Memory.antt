@@ -1,0 +1,33 @@
+-- Which links are opened to agents in memory.
+use Rattle.std.specs.Prelude.{◌≡◌, ℕ, ◌==◌, ◌&&◌, List, [], ◌∷◌, Option, Some, find, length}
+use Rattle.std.specs.Str.{bytes_eq}
+use Rattle.snmp_table.specs.Table.{IsMibView}
+use Rattle.snmp_agent.specs.declared.server.Served.{Served}
+use Rattle.snmp_agent.specs.declared.server.Turn.{Turn}
+use Rattle.snmp_agent.specs.Reply.{Agent}
+use Rattle.snmp_agent.specs.Serving.{AreTurns, Event, tally}
+use Rattle.snmp_walk.specs.Memory.{IsHonest, agents_of, agents_over, traffic_of}
+use Rattle.snmp_walk.specs.declared.memory.MemoryLink.{MemoryLink}
+use Rattle.snmp_net.specs.declared.memory.MemoryAgent.{MemoryAgent}
+
+-- the first of the agents that is reached at this port of this host
+abbrev pub agent_at : List MemoryAgent → (host : List ℕ) → (port : ℕ) → Option MemoryAgent
+agent_at agents host port = find (λ a. bytes_eq a.host.now host && (a.port == port)) agents
+
+-- a link to this agent over which nothing was sent
+pub record IsLinkTo (agent : MemoryAgent) (link : MemoryLink) : Type 0 where
+  pub agents : agents_of link ≡ agents_over (agent.table.now ∷ []) agent.config
+  pub traffic : traffic_of link ≡ record { sent = []; ahead = agent.deliveries.now }
+  pub no_fault : link.fault_count ≡ 0
+  pub honest : IsMibView agent.table.now → IsHonest link
+
+-- a link to the agent that is reached there
+abbrev pub OpensTo : List MemoryAgent → (host : List ℕ) → (port : ℕ) → MemoryLink → Type 0
+OpensTo agents host port link =
+    (agent : MemoryAgent) × (agent_at agents host port ≡ Some agent) × IsLinkTo agent link
+
+-- what the agent did by turns, in this many turns
+abbrev pub AreServed : Agent → (turns : ℕ) → Served → Type 0
+AreServed agent turns served =
+    (done : List Turn) × (events : List Event) × AreTurns agent done events
+    × (length done ≡ turns) × (served ≡ tally done)

@@ -1,0 +1,61 @@
+//! What opens links to agents, and sockets at which a table is served.
+ghost use Rattle.std.specs.Prelude.{◌≡◌, ◌<◌, ◌+◌, [], ℕ, List, IfOk, OnOk, OnErr};
+ghost use Rattle.snmp_io.specs.Count.{HasRisen};
+ghost use Rattle.snmp_agent.specs.Reply.{Agent, agent_of};
+ghost use Rattle.snmp_agent.specs.declared.server.Served.{Served};
+
+use snmp_agent::{Config, Served};
+use snmp_table::Table;
+use snmp_walk::{Link, LinkFault};
+
+/// What opens links to agents, and doors at which an agent is served.
+///
+/// The facts of a link that it opens are what a walk's promises rest on. Of the machine's own
+/// nothing is known.
+pub trait Links {
+    /// A link to an agent.
+    type Wire: Link + Drop;
+
+    /// Where an agent receives requests and sends its replies.
+    type Door: Drop;
+
+    /// Whether a link that is opened to this port of this host may be this one.
+    ghost opens: { Self → (host : List ℕ) → (port : ℕ) → Self.Wire → Type 0 };
+
+    /// What may have been served at a door by this agent in so many turns.
+    ghost serves: { Self.Door → Agent → (turns : ℕ) → Served → Type 0 };
+
+    /// How many calls failed.
+    ghost fault_count: { Self → ℕ };
+
+    /// Opens a link to the agent at a UDP port of a host. A receive over it waits this many
+    /// seconds. A fault changes the count of faults.
+    fn open(&mut self, host: &str, port: u16, seconds: u64) -> Result<Self::Wire, LinkFault>
+        requires { 0 < seconds }
+        ensures opened { IfOk result (λ wire. opens self.old host.now port wire) }
+        ensures fresh { IfOk result (λ wire. (Self.Wire.traffic wire).sent ≡ []) }
+        ensures count { OnOk result (fault_count self.new ≡ fault_count self.old) }
+        ensures fault { OnErr result (HasRisen (fault_count self.old) (fault_count self.new)) };
+
+    /// Opens a door at a UDP port of a host. A fault changes the count of faults.
+    fn bind(&mut self, host: &str, port: u16) -> Result<Self::Door, LinkFault>
+        ensures count { OnOk result (fault_count self.new ≡ fault_count self.old) }
+        ensures fault { OnErr result (HasRisen (fault_count self.old) (fault_count self.new)) };
+
+    /// Serves a table at a door for a number of turns, as [`snmp_agent::serve`] does. In each a
+    /// request may take one second to come.
+    fn serve(
+        &mut self,
+        door: &mut Self::Door,
+        table: &Table,
+        config: &Config<'_>,
+        turns: u64,
+    ) -> Served
+        ensures adds_up { result.replies + result.dropped + result.idle + result.faults ≡ turns }
+        ensures served { serves door.old (agent_of table.now config.now) turns result }
+        ensures count { fault_count self.new ≡ fault_count self.old };
+
+    /// How many calls failed, up to 18446744073709551615.
+    fn faults(&self) -> u64
+        ensures { result ≡ fault_count self.now };
+}

@@ -1,0 +1,89 @@
+//! Links and doors over the machine's UDP sockets.
+ghost use Rattle.std.specs.Prelude.{◌≡◌, ◌<◌, ℕ};
+ghost use Rattle.snmp_io.specs.Count.{HasRisen};
+
+use crate::links::Links;
+use crate::udp::{UdpLink, first_address};
+use snmp_agent::{Config, Served};
+use snmp_table::Table;
+use snmp_walk::LinkFault;
+use std::net::{Net, UdpSocket};
+use std::time::Duration;
+
+/// The seconds that a server waits for a request in each turn.
+const TURN_SECONDS: u64 = 1;
+
+/// Links and doors over UDP, of which nothing is known.
+#[derive(Drop)]
+pub struct MachineLinks<N> {
+    net: N,
+    faults: u64,
+}
+
+impl<N> MachineLinks<N> {
+    ghost use Rattle.std.specs.Prelude.{◌≡◌};
+
+    /// Links through this network, of which no call has failed.
+    pub fn new(net: N) -> MachineLinks<N>
+        ensures { result.faults ≡ 0 }
+    {
+        MachineLinks { net, faults: 0 }
+    }
+
+    /// Counts a fault, and returns it.
+    fn fault(&mut self) -> LinkFault
+        ensures { HasRisen self.old.faults self.new.faults }
+    {
+        self.faults = self.faults.saturating_add(1);
+        LinkFault
+    }
+}
+
+impl<N: Net> Links for MachineLinks<N> {
+    type Wire = UdpLink;
+
+    type Door = UdpSocket;
+
+    ghost opens = { λ _ _ _ _. Unit {0} };
+
+    ghost serves = { λ _ _ _ _. Unit {0} };
+
+    ghost fault_count = { λ links. links.faults };
+
+    fn open(&mut self, host: &str, port: u16, seconds: u64) -> Result<UdpLink, LinkFault> {
+        match UdpLink::open(&self.net, host, port, seconds) {
+            Some(link) => Ok(link),
+            None => Err(self.fault()),
+        }
+    }
+
+    fn bind(&mut self, host: &str, port: u16) -> Result<UdpSocket, LinkFault> {
+        match bound(&self.net, host, port) {
+            Some(socket) => Ok(socket),
+            None => Err(self.fault()),
+        }
+    }
+
+    fn serve(
+        &mut self,
+        door: &mut UdpSocket,
+        table: &Table,
+        config: &Config<'_>,
+        turns: u64,
+    ) -> Served {
+        snmp_agent::serve(door, table, config, turns)
+    }
+
+    fn faults(&self) -> u64 {
+        self.faults
+    }
+}
+
+/// A socket at the first IPv4 address that the host has.
+fn bound<N: Net>(net: &N, host: &str, port: u16) -> Option<UdpSocket> {
+    let socket = UdpSocket::bind(net, first_address(net, host, port)?).ok()?;
+    socket
+        .set_read_timeout(Some(Duration::from_secs(TURN_SECONDS)))
+        .ok()?;
+    Some(socket)
+}

@@ -1,0 +1,151 @@
+//! Links to agents in the same memory, which keep every fact, for tests of what is walked.
+ghost use Rattle.std.specs.Prelude.{◌≡◌, ◌<◌, ◌≤◌, ℕ, List, Option, IfOk, IfSome, IfNone, length};
+ghost use Rattle.snmp_io.specs.Count.{HasRisen};
+ghost use Rattle.snmp_net.specs.Memory.{AreServed, OpensTo, agent_at};
+
+use crate::links::Links;
+use snmp_agent::{Config, Endpoint, EndpointFault, Served, serve_at};
+use snmp_table::Table;
+use snmp_walk::{LinkFault, MemoryLink};
+use std::alloc::Global;
+
+/// An agent in memory, and the host and port at which it is reached.
+#[derive(Clone, Copy)]
+pub struct MemoryAgent<'a> {
+    pub host: &'a str,
+    pub port: u16,
+    /// The table that it serves.
+    pub table: &'a Table,
+    pub config: Config<'a>,
+    /// What each receive from it brings, as [`MemoryLink::new`] has them.
+    pub deliveries: &'a [Option<usize>],
+}
+
+/// Links to agents in memory, and doors at which requests come from memory.
+#[derive(Drop)]
+pub struct MemoryLinks<'a> {
+    alloc: Global,
+    agents: &'a [MemoryAgent<'a>],
+    requests: &'a [&'a [u8]],
+    faults: u64,
+}
+
+impl<'a> MemoryLinks<'a> {
+    ghost use Rattle.std.specs.Prelude.{◌≡◌};
+
+    /// Links to these agents: to the first of those that are reached at a port of a host. These
+    /// requests come at each door.
+    pub fn new(
+        alloc: Global,
+        agents: &'a [MemoryAgent<'a>],
+        requests: &'a [&'a [u8]],
+    ) -> MemoryLinks<'a>
+        ensures agents { result.agents.now ≡ agents.now }
+        ensures no_fault { result.faults ≡ 0 }
+    {
+        MemoryLinks {
+            alloc,
+            agents,
+            requests,
+            faults: 0,
+        }
+    }
+
+    /// Counts a fault, and returns it.
+    fn fault(&mut self) -> LinkFault
+        ensures { HasRisen self.old.faults self.new.faults }
+    {
+        self.faults = self.faults.saturating_add(1);
+        LinkFault
+    }
+}
+
+impl<'a> Links for MemoryLinks<'a> {
+    type Wire = MemoryLink<'a>;
+
+    type Door = MemoryDoor<'a>;
+
+    ghost opens = { λ links. OpensTo links.agents.now };
+
+    ghost serves = { λ _. AreServed };
+
+    ghost fault_count = { λ links. links.faults };
+
+    fn open(&mut self, host: &str, port: u16, _seconds: u64) -> Result<MemoryLink<'a>, LinkFault> {
+        match agent_at(self.agents, host, port) {
+            Some(agent) => Ok(MemoryLink::new(
+                self.alloc,
+                agent.table,
+                agent.config,
+                agent.deliveries,
+            )),
+            None => Err(self.fault()),
+        }
+    }
+
+    fn bind(&mut self, host: &str, port: u16) -> Result<MemoryDoor<'a>, LinkFault> {
+        match agent_at(self.agents, host, port) {
+            None => Ok(MemoryDoor {
+                requests: self.requests,
+                used: 0,
+            }),
+            Some(_) => Err(self.fault()),
+        }
+    }
+
+    fn serve(
+        &mut self,
+        door: &mut MemoryDoor<'a>,
+        table: &Table,
+        config: &Config<'_>,
+        turns: u64,
+    ) -> Served {
+        serve_at(door, table, config, turns)
+    }
+
+    fn faults(&self) -> u64 {
+        self.faults
+    }
+}
+
+/// The first of the agents that is reached at this port of this host.
+fn agent_at<'a>(agents: &'a [MemoryAgent<'a>], host: &str, port: u16) -> Option<MemoryAgent<'a>>
+    ensures { result ≡ agent_at agents.now host.now port }
+{
+    'agents: for agent in agents {
+        if agent.host == host && agent.port == port {
+            return Some(*agent);
+        }
+    }
+    None
+}
+
+/// Where requests come from memory, one a turn, and after the last nothing. Replies go nowhere.
+#[derive(Drop)]
+pub struct MemoryDoor<'a> {
+    requests: &'a [&'a [u8]],
+    used: usize,
+}
+
+impl<'a> Endpoint for MemoryDoor<'a> {
+    ghost use Rattle.std.specs.Prelude.{None};
+
+    ghost log = { λ _. None };
+
+    fn receive(&mut self, buffer: &mut [u8]) -> Result<Option<usize>, EndpointFault> {
+        let Some(request) = self.requests.get(self.used) else {
+            return Ok(None);
+        };
+        self.used += 1;
+        let length = request.len();
+        if length > buffer.len() {
+            return Err(EndpointFault);
+        }
+        buffer[..length].copy_from_slice(request);
+        Ok(Some(length))
+    }
+
+    fn reply(&mut self, _datagram: &[u8]) -> Result<(), EndpointFault> {
+        Ok(())
+    }
+}

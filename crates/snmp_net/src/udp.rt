@@ -1,0 +1,108 @@
+//! A link to an agent over UDP (RFC 3417, section 3).
+ghost use Rattle.std.specs.Prelude.{◌≡◌, ◌<◌, IfSome};
+ghost use Rattle.snmp_io.specs.Count.{HasRisen};
+
+use snmp_walk::{Link, LinkFault};
+use std::io::ErrorKind;
+use std::net::{Net, SocketAddr, ToSocketAddrs, UdpSocket};
+use std::time::Duration;
+
+/// A link to the agent at a UDP port of a host, of which nothing is known.
+///
+/// A datagram of another sender is handed on as one of no octets, which is a stray to every
+/// request. So is a receive that a signal interrupts. No error of the network tells that a host or
+/// a port isn't there: nothing comes, as where a datagram is lost.
+#[derive(Drop)]
+pub struct UdpLink {
+    socket: UdpSocket,
+    agent: SocketAddr,
+    faults: u64,
+}
+
+impl UdpLink {
+    ghost use Rattle.std.specs.Prelude.{◌≡◌, ◌<◌, IfSome};
+    ghost use Rattle.snmp_io.specs.Count.{HasRisen};
+
+    /// A link to the first IPv4 address that the host has. A receive over it waits this many
+    /// seconds.
+    pub(crate) fn open<N: Net>(net: &N, host: &str, port: u16, seconds: u64) -> Option<UdpLink>
+        requires { 0 < seconds }
+        ensures { IfSome result (λ link. link.faults ≡ 0) }
+    {
+        let agent = first_address(net, host, port)?;
+        let socket = UdpSocket::bind(net, "0.0.0.0:0").ok()?;
+        socket
+            .set_read_timeout(Some(Duration::from_secs(seconds)))
+            .ok()?;
+        Some(UdpLink {
+            socket,
+            agent,
+            faults: 0,
+        })
+    }
+
+    /// Counts a fault, and returns it.
+    fn fault(&mut self) -> LinkFault
+        ensures { HasRisen self.old.faults self.new.faults }
+    {
+        self.faults = self.faults.saturating_add(1);
+        LinkFault
+    }
+}
+
+impl Link for UdpLink {
+    ghost use Rattle.std.specs.Prelude.{[]};
+    ghost use Rattle.snmp_walk.specs.Link.{Agents};
+    ghost use Rattle.snmp_walk.specs.Traffic.{Traffic};
+
+    ghost keeps = { λ _. ⊥ };
+
+    ghost honest = { λ _. ⊥ };
+
+    ghost agents = { λ _. record { tables = []; community = []; max_size = 0 } };
+
+    ghost traffic = { λ _. record { sent = []; ahead = [] } };
+
+    ghost fault_count = { λ link. link.faults };
+
+    ghost ready = { λ _ _ _. ⊥ };
+
+    ghost brings = { λ _ _ _. Unit {0} };
+
+    ghost keeping = { λ _ h. h };
+
+    ghost lawful = { λ _ h. absurd h };
+
+    fn send(&mut self, datagram: &[u8]) -> Result<(), LinkFault> {
+        match self.socket.send_to(datagram, self.agent) {
+            Ok(size) if size == datagram.len() => Ok(()),
+            _ => Err(self.fault()),
+        }
+    }
+
+    fn receive(&mut self, buffer: &mut [u8]) -> Result<Option<usize>, LinkFault> {
+        match self.socket.recv_from(buffer) {
+            Ok((size, sender)) if sender == self.agent => Ok(Some(size)),
+            Ok(_) => Ok(Some(0)),
+            Err(error) => match error.kind() {
+                ErrorKind::WouldBlock | ErrorKind::TimedOut => Ok(None),
+                ErrorKind::Interrupted => Ok(Some(0)),
+                _ => Err(self.fault()),
+            },
+        }
+    }
+
+    fn faults(&self) -> u64 {
+        self.faults
+    }
+}
+
+/// The first IPv4 address that the host has, with this port.
+pub(crate) fn first_address<N: Net>(net: &N, host: &str, port: u16) -> Option<SocketAddr> {
+    'addresses: for address in (host, port).to_socket_addrs(net).ok()? {
+        if address.is_ipv4() {
+            return Some(address);
+        }
+    }
+    None
+}

@@ -1,0 +1,10 @@
+//! The job of snmpd: a table file is read, and served at a UDP port.
+//!
+//! Built on the words, the network and tables. The tools do this job among theirs.
+#![tactic(auto)]
+
+mod error;
+mod service;
+
+pub use error::ServeError;
+pub use service::serve_table;
