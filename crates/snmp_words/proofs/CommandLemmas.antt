@@ -1,39 +1,14 @@
 -- What follows of a command that has a stated shape.
-use Rattle.std.proofs.Common.{
-  ◌≡◌,
-  ◌⊎◌,
-  ◌&&◌,
-  ap,
-  refl,
-  sym,
-  inl,
-  inr,
-  true,
-  false,
-  not,
-  true≢false,
-  Bool,
-  List,
-  [],
-  ◌∷◌,
-  Option,
-  Some,
-  None,
-  cond,
-  option_map,
-  IsSome,
-  is_some,
-  codes,
-  find,
-  ◌∙◌,
-}
-use Rattle.clap.specs.Simple.{App, built, Shape, argument_words, entered, label_of, names_of, rows_at}
+use Rattle.std.proofs.Common.{◌≡◌, ◌⊎◌, ◌&&◌, ap, ap₂, refl, sym, inl, inr, true, false, not, true≢false, Bool, List, [], ◌∷◌, Option, Some, None, cond, option_map, IsSome, is_some, find, ◌∙◌}
+use Rattle.clap.specs.Built.{AddsSubcommand}
+use Rattle.clap.specs.Simple.{App, app_of, built, Shape, argument_words, entered, label_of, names_of, rows_at, with_subcommand}
 use Rattle.clap.specs.Walk.{Row, Text, answers_to, stop_after}
 use Rattle.clap.specs.Kinds.{IsAmong, Kinds}
 use Rattle.clap.specs.declared.error.ErrorKind.{ErrorKind}
 use Rattle.clap.specs.declared.error.ErrorKind.TheVariants.{OutOfMemory}
 use Rattle.clap.specs.Words.{has_subcommand, subcommand_of, subcommand_rows_of}
 use Rattle.clap.specs.declared.ArgMatches.{ArgMatches}
+use Rattle.clap.specs.declared.builder.command.Command.{Command}
 use Rattle.snmp_words.specs.Command.{snmp_app}
 use Rattle.snmp_words.specs.Words.{HasFaultOf, IsMemory, StandsFor, stated_by, stated_in}
 use Rattle.snmp_words.specs.declared.UsageError.{UsageError}
@@ -45,6 +20,13 @@ plain_is_local true true false rest e = refl
 plain_is_local true true true rest e = absurd (true≢false (sym e))
 plain_is_local true false globals rest e = absurd (true≢false (sym e))
 plain_is_local false external globals rest e = absurd (true≢false (sym e))
+
+-- a command with a subcommand more
+pub subcommand_added : (command sub result : Command) (a b : App) → AddsSubcommand command sub result → app_of command ≡ a → app_of sub ≡ b
+    → b.top.is_plain ≡ true → app_of result ≡ with_subcommand a b.top
+subcommand_added command sub result a b adds is sub_is plain =
+    adds.shape (plain_is_local _ _ _ _ (ap (λ (x : App). x.top.is_plain) sub_is ∙ plain))
+    ∙ ap₂ with_subcommand is (ap (λ (x : App). x.top) sub_is)
 
 is_some-map : {X Y : Type 0} (f : X → Y) (o : Option X) → is_some (option_map f o) ≡ is_some o
 is_some-map f None = refl
@@ -79,7 +61,7 @@ pub states_job : (m : ArgMatches) (words : List Text) → has_subcommand m ≡ t
     → IsSome (stated_in (subcommand_rows_of m))
 states_job m words met rows =
     let some : is_some (subcommand_of snmp_app words) ≡ true = ap is_some (sym rows) ∙ is_some-map _ _ ∙ met in
-    let all : AllState (built snmp_app).subs = (λ rows. refl, (λ rows. refl, tt)) in
+    let all : AllState (built snmp_app).subs = (λ rows. refl, (λ rows. refl, (λ rows. refl, tt))) in
     let states : (subcommand_of snmp_app words ≡ None) ⊎ (is_some (stated_in (subcommand_of snmp_app words)) ≡ true) =
     entered_states (built snmp_app) all (stop_after (built snmp_app).top.rules (names_of (built snmp_app)) (argument_words snmp_app words)) in
     elim states [

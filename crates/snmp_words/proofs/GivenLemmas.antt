@@ -1,6 +1,6 @@
 -- Texts and numbers that a command was given.
-use Rattle.std.proofs.Common.{◌≡◌, ◌∙◌, ◌++◌, ◌<◌, ◌≤◌, ap, refl, sym, true, false, Bool, cond, List, [], ◌∷◌, Option, Some, None}
-use Rattle.std.proofs.Common.{ℕ, Bor, true≢false, unwrap_or, option_map, option_and_then}
+use Rattle.std.proofs.Common.{◌≡◌, ◌∙◌, ◌++◌, ap, refl, sym, true, false, Bool, List, [], ◌∷◌, Option, Some, None}
+use Rattle.std.proofs.Common.{ℕ, Bor, unwrap_or, option_map}
 use Rattle.std.specs.Prelude.{if◌then◌else◌}
 use Rattle.std.specs.List.{flat_map, join_by}
 use Rattle.std.specs.Str.Parse.{digits_value, without_leading_plus}

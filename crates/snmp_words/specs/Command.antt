@@ -27,7 +27,7 @@ required rule = record rule { required = true }
 
 -- -O LETTERS
 abbrev pub letters_rule : Rule
-letters_rule = required (repeated (record (one_text (codes "letters")) { short = Some 79 }))
+letters_rule = repeated (record (one_text (codes "letters")) { short = Some 79 })
 
 -- -v VERSION
 abbrev pub protocol_rule : Rule
@@ -57,6 +57,20 @@ walk_letters_rule = repeated (record (one_text (codes "walk")) { short = Some 67
 abbrev pub after_rule : Rule
 after_rule = record (one_text (codes "after")) { long = Some (codes "after") }
 
+-- --table FILE
+abbrev pub table_rule : Rule
+table_rule = required (record (one_text (codes "table")) { long = Some (codes "table") })
+
+-- --listen HOST:PORT
+abbrev pub listen_rule : Rule
+listen_rule = record (one_text (codes "listen")) { long = Some (codes "listen") }
+
+-- --turns N
+abbrev pub turns_rule : Rule
+turns_rule = numbered 0 18446744073709551615 (record (one_text (codes "turns")) {
+  long = Some (codes "turns");
+})
+
 abbrev pub agent_rule : Rule
 agent_rule = required (one_text (codes "agent"))
 
@@ -69,7 +83,7 @@ abbrev pub with_rules : App → List Rule → App
 with_rules app [] = app
 with_rules app (rule ∷ rules) = with_rules (with_rule app rule) rules
 
--- how lines are shown, and the version and community of requests
+-- how names and values are shown, and the version and community of requests
 abbrev pub showing_rules : List Rule
 showing_rules = letters_rule ∷ protocol_rule ∷ community_rule ∷ []
 
@@ -84,9 +98,21 @@ asking_rules = showing_rules ++ sending_rules
 abbrev pub walking_rules : List Rule
 walking_rules = walk_letters_rule ∷ after_rule ∷ agent_rule ∷ name_rule ∷ []
 
+-- the table that is served, the community, and where requests arrive
+abbrev pub place_rules : List Rule
+place_rules = table_rule ∷ community_rule ∷ listen_rule ∷ []
+
+-- an agent's options: beside those, the size of replies, and the number of turns
+abbrev pub serving_rules : List Rule
+serving_rules = place_rules ++ size_rule ∷ turns_rule ∷ []
+
 -- snmpwalk OPTION.. AGENT [NAME], and snmpbulkwalk with the same words
 abbrev pub walk_app : Text → App
 walk_app name = with_rules (with_rules (new_app name) asking_rules) walking_rules
+
+-- snmpd OPTION..
+abbrev pub serve_app : App
+serve_app = with_rules (new_app (codes "snmpd")) serving_rules
 
 -- snmp without its subcommands
 abbrev pub top_app : App
@@ -96,10 +122,16 @@ top_app = on_top (λ s. record s {
   disable_help_subcommand = true;
 }) (new_app (codes "snmp"))
 
--- snmp COMMAND ..
+abbrev pub with_commands : App → List App → App
+with_commands app [] = app
+with_commands app (command ∷ commands) = with_commands (with_subcommand app command.top) commands
+
+-- the commands of snmp
+abbrev pub commands : List App
+commands = walk_app (codes "snmpwalk") ∷ walk_app (codes "snmpbulkwalk") ∷ serve_app ∷ []
+
 abbrev pub snmp_app : App
-snmp_app = with_subcommand (with_subcommand top_app
-    (walk_app (codes "snmpwalk")).top) (walk_app (codes "snmpbulkwalk")).top
+snmp_app = with_commands top_app commands
 
 -- the command takes the words: they name options and subcommands that it has, with as many texts as
 -- these need, each number in its range, and no option twice that may be given once; and they don't

@@ -15,28 +15,21 @@ use Rattle.std.specs.Prelude.{
   Some,
   None,
 }
-use Rattle.std.specs.Prelude.{
-  string_bytes,
-  codes,
-  unwrap_or,
-  option_and_then,
-  option_map,
-  if◌then◌else◌,
-  map,
-}
+use Rattle.std.specs.Prelude.{string_bytes, codes, unwrap_or, option_and_then, option_map, if◌then◌else◌}
 use Rattle.std.specs.List.{flat_map}
 use Rattle.std.specs.Str.{bytes_eq}
 use Rattle.std.specs.Str.Parse.{digits_value, without_leading_plus}
 use Rattle.clap.specs.Kinds.{IsAmong, Kinds}
 use Rattle.clap.specs.Simple.{subcommand_of}
 use Rattle.clap.specs.ValueTests.{is_unsigned_in}
-use Rattle.clap.specs.Walk.{Row, Text, all_of, first_of, texts}
+use Rattle.clap.specs.Walk.{Row, Text, all_of, first_of}
 use Rattle.clap.specs.declared.error.kind.ErrorKind.{ErrorKind}
 use Rattle.clap.specs.declared.error.kind.ErrorKind.TheVariants as kind
 use Rattle.snmp_words.specs.Command.{faults_of, snmp_app}
 use Rattle.snmp_words.specs.declared.job.Asking.{Asking}
 use Rattle.snmp_words.specs.declared.job.Job.{Job}
 use Rattle.snmp_words.specs.declared.job.Job.TheVariants as job
+use Rattle.snmp_words.specs.declared.job.ServeJob.{ServeJob}
 use Rattle.snmp_words.specs.declared.job.WalkJob.{WalkJob}
 use Rattle.snmp_words.specs.declared.UsageError.{UsageError}
 use Rattle.snmp_words.specs.declared.UsageError.TheVariants.{Memory, Parse}
@@ -59,10 +52,18 @@ pub record WalkWords : Type 0 where
   pub after : Option Text
   pub name : Option Text
 
+pub record ServeWords : Type 0 where
+  pub table : Text
+  pub community : Text
+  pub listen : Text
+  pub max_size : ℕ
+  pub turns : ℕ
+
 -- a command with its words
 pub data Stated : Type 0 where
   snmpwalk : WalkWords → Stated
   snmpbulkwalk : WalkWords → Stated
+  snmpd : ServeWords → Stated
 
 -- ---- what a command's rows give
 
@@ -89,6 +90,10 @@ abbrev pub number_of : Text → (default low high : ℕ) → List Row → ℕ
 number_of id default low high rows =
     unwrap_or (option_and_then (number_in low high) (first_of id rows)) default
 
+-- the greatest number of 64 bits
+abbrev pub most_turns : ℕ
+most_turns = 18446744073709551615
+
 abbrev pub asking_of_rows : List Row → AskingWords
 asking_of_rows rows = record {
   letters = joined_of (codes "letters") rows;
@@ -108,10 +113,28 @@ walk_of_rows rows = record {
   name = first_of (codes "name") rows;
 }
 
+abbrev pub serve_of_rows : List Row → ServeWords
+serve_of_rows rows = record {
+  table = text_or (codes "table") [] rows;
+  community = text_or (codes "community") (codes "public") rows;
+  listen = text_or (codes "listen") (codes "127.0.0.1:161") rows;
+  max_size = number_of (codes "size") 1472 1 65507 rows;
+  turns = number_of (codes "turns") most_turns 0 most_turns rows;
+}
+
+-- the words of each command
+abbrev pub readings : List (Text × (List Row → Stated))
+readings = (codes "snmpwalk", λ rows. snmpwalk (walk_of_rows rows))
+    ∷ (codes "snmpbulkwalk", λ rows. snmpbulkwalk (walk_of_rows rows))
+    ∷ (codes "snmpd", λ rows. snmpd (serve_of_rows rows)) ∷ []
+
+abbrev pub stated_among : List (Text × (List Row → Stated)) → Text × List Row → Option Stated
+stated_among [] p = None
+stated_among (reading ∷ more) p =
+    if bytes_eq p.0 reading.0 then Some (reading.1 p.1) else stated_among more p
+
 abbrev pub stated_by : Text × List Row → Option Stated
-stated_by p = if bytes_eq p.0 (codes "snmpwalk") then Some (snmpwalk (walk_of_rows p.1))
-    else (if bytes_eq p.0 (codes "snmpbulkwalk") then Some (snmpbulkwalk (walk_of_rows p.1))
-    else None)
+stated_by = stated_among readings
 
 abbrev pub stated_in : Option (Text × List Row) → Option Stated
 stated_in = option_and_then stated_by
@@ -141,9 +164,19 @@ walk_words w = record {
   name = option_map (λ text. text.now) w.name;
 }
 
+abbrev pub serve_words : ServeJob → ServeWords
+serve_words s = record {
+  table = s.table.now;
+  community = s.community.now;
+  listen = s.listen.now;
+  max_size = s.max_size;
+  turns = s.turns;
+}
+
 abbrev pub job_words : Job → Stated
 job_words (job.Walk w) = snmpwalk (walk_words w)
 job_words (job.BulkWalk w) = snmpbulkwalk (walk_words w)
+job_words (job.Serve s) = snmpd (serve_words s)
 
 -- ---- refusals
 

@@ -4,10 +4,11 @@ ghost use Rattle.std.specs.Prelude.{string_bytes};
 ghost use Rattle.clap.specs.Walk.{first_of, rows_of};
 ghost use Rattle.clap.specs.Words.{found_of, subcommand_rows_of};
 ghost use Rattle.snmp_words.specs.Words.{asking_of_rows, asking_words};
-ghost use Rattle.snmp_words.specs.Words.{job_words, joined_of, number_in, number_of, stated_in};
+ghost use Rattle.snmp_words.specs.Words.{job_words, joined_of, number_in, number_of};
+ghost use Rattle.snmp_words.specs.Words.{serve_of_rows, serve_words, stated_in};
 ghost use Rattle.snmp_words.specs.Words.{walk_of_rows, walk_words};
 
-use crate::job::{Asking, Job, WalkJob};
+use crate::job::{Asking, Job, ServeJob, WalkJob};
 use clap::ArgMatches;
 use std::alloc::{AllocError, Global};
 
@@ -23,6 +24,7 @@ pub(crate) fn job_of<'a>(alloc: Global, matches: &ArgMatches<'a>) -> Result<Job<
     match command {
         "snmpwalk" => Ok(Job::Walk(walk_job(alloc, given)?)),
         "snmpbulkwalk" => Ok(Job::BulkWalk(walk_job(alloc, given)?)),
+        "snmpd" => Ok(Job::Serve(serve_job(given))),
         _ => unreachable!(),
     }
 }
@@ -38,6 +40,18 @@ fn walk_job<'a>(alloc: Global, given: &ArgMatches<'a>) -> Result<WalkJob<'a>, Al
         after: first_text(given, "after"),
         name: first_text(given, "name"),
     })
+}
+
+fn serve_job<'a>(given: &ArgMatches<'a>) -> ServeJob<'a>
+    ensures { serve_words result ≡ serve_of_rows (rows_of (found_of given.now)) }
+{
+    ServeJob {
+        table: first_text(given, "table").unwrap_or(""),
+        community: first_text(given, "community").unwrap_or("public"),
+        listen: first_text(given, "listen").unwrap_or("127.0.0.1:161"),
+        max_size: number(given, "size", 1472, 1, 65507),
+        turns: number(given, "turns", u64::MAX, 0, u64::MAX),
+    }
 }
 
 fn asking_of<'a>(alloc: Global, given: &ArgMatches<'a>) -> Result<Asking<'a>, AllocError>

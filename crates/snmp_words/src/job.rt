@@ -8,6 +8,8 @@ pub enum Job<'a> {
     Walk(WalkJob<'a>),
     /// `snmpbulkwalk`: the instances below a name, many at a time.
     BulkWalk(WalkJob<'a>),
+    /// `snmpd`: a table that is served.
+    Serve(ServeJob<'a>),
 }
 
 /// The agent to ask, by which messages, and how the replies are shown.
@@ -46,4 +48,21 @@ pub struct WalkJob<'a> {
     pub after: Option<&'a str>,
     /// The name of the walk's root.
     pub name: Option<&'a str>,
+}
+
+/// The words of `snmpd`.
+#[derive(Debug, Drop)]
+pub struct ServeJob<'a> {
+    /// The path of the table file, of `--table`.
+    pub table: &'a str,
+    /// The community of the agent: `public` where none was given.
+    pub community: &'a str,
+    /// Where requests are received: `127.0.0.1:161` where nothing was given.
+    pub listen: &'a str,
+    /// The greatest size of a reply, in octets: 1472 where none was given.
+    pub max_size: u64,
+    /// How many turns are served: 18446744073709551615 where no number was given.
+    pub turns: u64,
+    ghost some_size: { 1 ≤ max_size },
+    ghost datagram_size: { max_size ≤ 65507 },
 }

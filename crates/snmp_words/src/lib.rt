@@ -7,6 +7,7 @@
 mod command;
 mod given;
 mod job;
+mod options;
 
 ghost use Rattle.std.specs.Prelude.{◌≡◌, [], ◌∷◌, List, ℕ, Some, codes, true};
 ghost use Rattle.std.specs.Prelude.{IfErr, IfOk, OnOk};
@@ -19,7 +20,7 @@ ghost use Rattle.snmp_words.specs.Words.{stated_job, walk_line, words_of_walk};
 use clap::error::ErrorKind;
 use command::snmp_command;
 use given::job_of;
-pub use job::{Asking, Job, WalkJob};
+pub use job::{Asking, Job, ServeJob, WalkJob};
 use std::alloc::{AllocError, Global};
 use thiserror::Error;
 

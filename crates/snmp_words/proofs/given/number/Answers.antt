@@ -1,4 +1,4 @@
-use Rattle.std.proofs.Common.{◌≡◌, ◌∙◌, ap, ℕ, List, Option, unwrap_or, option_and_then}
+use Rattle.std.proofs.Common.{◌∙◌, ap, ℕ, List, Option, unwrap_or, option_and_then}
 use Rattle.clap.specs.Words.{found_of}
 use Rattle.clap.proofs.WalkLemmas.{first_value-rows}
 use Rattle.snmp_words.specs.Words.{number_in}

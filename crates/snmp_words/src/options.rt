@@ -1,0 +1,187 @@
+//! The options and words of the commands, each with its help.
+ghost use Rattle.std.specs.Prelude.{◌≡◌, false};
+ghost use Rattle.clap.specs.Walk.{rule_of};
+ghost use Rattle.snmp_words.specs.Command.{after_rule, agent_rule, community_rule};
+ghost use Rattle.snmp_words.specs.Command.{letters_rule, listen_rule, name_rule};
+ghost use Rattle.snmp_words.specs.Command.{protocol_rule, retries_rule, seconds_rule};
+ghost use Rattle.snmp_words.specs.Command.{size_rule, table_rule, turns_rule, walk_letters_rule};
+
+use clap::{Arg, ArgAction, value_parser};
+use std::alloc::Global;
+
+const LETTERS_HELP: &str = "How names and values are shown; may be repeated. \
+                            Of n, f, s and S, of q and Q, and of x and a, the last one counts\n\
+                            n: names in numbers\n\
+                            f: names with the labels from the root on\n\
+                            s: names with their last label\n\
+                            S: names with module and label; the default\n\
+                            q: a blank in place of the equals sign, and no types\n\
+                            Q: no types\n\
+                            v: values alone\n\
+                            e: enumerations as numbers\n\
+                            t: TimeTicks as a number\n\
+                            b: indexes in names as numbers\n\
+                            U: no units\n\
+                            x: strings in hexadecimal\n\
+                            a: strings as text";
+
+const WALK_LETTERS_HELP: &str = "What is walked; may be repeated\n\
+                                 i: the root's own instance comes first\n\
+                                 p: the number of instances is printed at the end\n\
+                                 I: snmpwalk: the root's own instance isn't printed in place of \
+                                 an empty walk\n\
+                                 rN: snmpbulkwalk: N instances a request, 1 to 2147483647; \
+                                 by default 10";
+
+/// `-O LETTERS`
+pub(crate) fn letters_option<'a>(alloc: Global) -> Arg<'a>
+    ensures rule { rule_of result ≡ letters_rule }
+    ensures local { result.global ≡ false }
+{
+    Arg::new(alloc, "letters")
+        .short('O')
+        .value_name("LETTERS")
+        .help(LETTERS_HELP)
+        .action(ArgAction::Append)
+}
+
+/// `-v VERSION`
+pub(crate) fn protocol_option<'a>(alloc: Global) -> Arg<'a>
+    ensures rule { rule_of result ≡ protocol_rule }
+    ensures local { result.global ≡ false }
+{
+    Arg::new(alloc, "protocol")
+        .short('v')
+        .value_name("VERSION")
+        .help("The version of SNMP; 2c is the only one, and the default")
+}
+
+/// `-c COMMUNITY`
+pub(crate) fn community_option<'a>(alloc: Global) -> Arg<'a>
+    ensures rule { rule_of result ≡ community_rule }
+    ensures local { result.global ≡ false }
+{
+    Arg::new(alloc, "community")
+        .short('c')
+        .value_name("COMMUNITY")
+        .help("The community of the messages, of at most 255 octets; by default public")
+}
+
+/// `-r RETRIES`
+pub(crate) fn retries_option<'a>(alloc: Global) -> Arg<'a>
+    ensures rule { rule_of result ≡ retries_rule }
+    ensures local { result.global ≡ false }
+{
+    Arg::new(alloc, "retries")
+        .short('r')
+        .value_name("RETRIES")
+        .help("How often a request without a reply is sent again, 0 to 1000; by default 5")
+        .value_parser(value_parser!(u64).range(0..=1000))
+}
+
+/// `-t SECONDS`
+pub(crate) fn seconds_option<'a>(alloc: Global) -> Arg<'a>
+    ensures rule { rule_of result ≡ seconds_rule }
+    ensures local { result.global ≡ false }
+{
+    Arg::new(alloc, "seconds")
+        .short('t')
+        .value_name("SECONDS")
+        .help("How many seconds to wait for each reply, 1 to 3600; by default 1")
+        .value_parser(value_parser!(u64).range(1..=3600))
+}
+
+/// `--max-size OCTETS`
+pub(crate) fn size_option<'a>(alloc: Global) -> Arg<'a>
+    ensures rule { rule_of result ≡ size_rule }
+    ensures local { result.global ≡ false }
+{
+    Arg::new(alloc, "size")
+        .long("max-size")
+        .value_name("OCTETS")
+        .help(
+            "The greatest reply of an agent that serves a table, 1 to 65507 octets; by default 1472",
+        )
+        .value_parser(value_parser!(u64).range(1..=65507))
+}
+
+/// `-C LETTERS`
+pub(crate) fn walk_letters_option<'a>(alloc: Global) -> Arg<'a>
+    ensures rule { rule_of result ≡ walk_letters_rule }
+    ensures local { result.global ≡ false }
+{
+    Arg::new(alloc, "walk")
+        .short('C')
+        .value_name("LETTERS")
+        .help(WALK_LETTERS_HELP)
+        .action(ArgAction::Append)
+}
+
+/// `--after NAME`
+pub(crate) fn after_option<'a>(alloc: Global) -> Arg<'a>
+    ensures rule { rule_of result ≡ after_rule }
+    ensures local { result.global ≡ false }
+{
+    Arg::new(alloc, "after")
+        .long("after")
+        .value_name("NAME")
+        .help("Goes on after this name, the last of a walk that broke off")
+}
+
+/// `--table FILE`
+pub(crate) fn table_option<'a>(alloc: Global) -> Arg<'a>
+    ensures rule { rule_of result ≡ table_rule }
+    ensures local { result.global ≡ false }
+{
+    Arg::new(alloc, "table")
+        .long("table")
+        .value_name("FILE")
+        .help("The file of the table that is served: OID|TAG|VALUE lines")
+        .required(true)
+}
+
+/// `--listen HOST:PORT`
+pub(crate) fn listen_option<'a>(alloc: Global) -> Arg<'a>
+    ensures rule { rule_of result ≡ listen_rule }
+    ensures local { result.global ≡ false }
+{
+    Arg::new(alloc, "listen")
+        .long("listen")
+        .value_name("HOST:PORT")
+        .help("Where requests are received; by default 127.0.0.1:161")
+}
+
+/// `--turns N`
+pub(crate) fn turns_option<'a>(alloc: Global) -> Arg<'a>
+    ensures rule { rule_of result ≡ turns_rule }
+    ensures local { result.global ≡ false }
+{
+    Arg::new(alloc, "turns")
+        .long("turns")
+        .value_name("N")
+        .help(
+            "Ends after N turns: a request, or a second without one; by default 18446744073709551615",
+        )
+        .value_parser(value_parser!(u64))
+}
+
+/// `AGENT`
+pub(crate) fn agent_word<'a>(alloc: Global) -> Arg<'a>
+    ensures rule { rule_of result ≡ agent_rule }
+    ensures local { result.global ≡ false }
+{
+    Arg::new(alloc, "agent")
+        .value_name("AGENT")
+        .help("The agent: table:FILE, over a table file in memory")
+        .required(true)
+}
+
+/// `[NAME]`
+pub(crate) fn name_word<'a>(alloc: Global) -> Arg<'a>
+    ensures rule { rule_of result ≡ name_rule }
+    ensures local { result.global ≡ false }
+{
+    Arg::new(alloc, "name").value_name("NAME").help(
+        "The name of the root, such as .1.3.6.1.2.1.2.2; by default 1.3.6.1.2.1",
+    )
+}
