@@ -48,6 +48,8 @@ expect 0 "$e.1.1.0 = INTEGER: 1
 " '' snmpwalk -On table:three.tab $e.1.1.0
 expect 0 '.1.0 = No Such Object available on this agent at this OID
 ' '' snmpwalk -On table:/dev/null .1
+expect 0 'iso.3.6.1.4.1.32473.1.10.0 3
+' '' snmpwalk -Oqs table:three.tab iso.3.6.1.4.1.32473.1.10
 expect 0 "$three" '' snmpbulkwalk -On -Cr1 table:three.tab $e.1
 expect 0 "$three" '' snmpbulkwalk -On -Cr2147483647 --max-size 134 table:three.tab $e.1
 expect 0 "${three}Variables found: 3
@@ -55,6 +57,9 @@ expect 0 "${three}Variables found: 3
 expect 0 "$e.1.2.0 = STRING: \"wes\"
 $e.1.10.0 = INTEGER: 3
 " '' snmpwalk -On --after $e.1.1.0 table:three.tab $e.1
+expect 0 'listening on 127.0.0.1:16161
+0 replies, 0 dropped
+' '' snmpd --table three.tab --listen 127.0.0.1:16161 --turns 0
 expect 0 '' '' snmpwalk -On --after $e.1.10.0 table:three.tab $e.1
 expect 0 '' '' snmpwalk -On -CI table:/dev/null .1
 expect 0 'Reads the managed objects of SNMP agents...' '' --help
@@ -68,6 +73,8 @@ expect 1 '' 'program.txt:1: bad line
 ' snmpwalk -On table:program.txt .1
 expect 1 '' 'Unknown letter: z
 ' snmpwalk -Oz table:three.tab .1
+expect 1 '' 'Unknown name: mib-2
+' snmpwalk -On table:three.tab mib-2
 expect 1 '' 'Unknown version: 1
 ' snmpwalk -On -v 1 table:no.tab .3
 expect 1 '' 'Unknown letter: r

@@ -1,16 +1,18 @@
-//! The program `snmp`: it hands the words, files and outputs of the machine to the tools.
+//! The program `snmp`: it hands the words, files, network and outputs of the machine to the tools.
 #![tactic(auto)]
 
 use snmp_io::{MachineFiles, MachineOutput, Output, write_all};
-use snmp_tools::{Lines, tool};
+use snmp_net::MachineLinks;
+use snmp_tools::tool;
 use std::env::Env;
 use std::io::ErrorKind;
+use std::net::Net;
 use std::process::ExitCode;
 use std::rt::Files;
 use std::{env, io};
 
 fn main(rt: HostRuntime) -> ExitCode {
-    let mut out = Lines::new(rt.alloc(), MachineOutput::new(rt.stdout()));
+    let mut out = MachineOutput::new(rt.stdout());
     let mut err = MachineOutput::new(rt.stderr());
     let status = match run(&rt, &mut out, &mut err) {
         Ok(status) => status,
@@ -19,15 +21,17 @@ fn main(rt: HostRuntime) -> ExitCode {
     ExitCode::from(status)
 }
 
-fn run<R, O, E>(rt: &R, out: &mut Lines<O>, err: &mut E) -> io::Result<u8>
+fn run<R, O, E>(rt: &R, out: &mut O, err: &mut E) -> io::Result<u8>
 where
-    R: Env + Files + AllocGlobal,
+    R: Env + Files + Net + AllocGlobal,
     O: Output,
     E: Output,
 {
     let words: Vec<String> = env::args(rt)?.collect(rt.alloc())?;
     let texts: Vec<&str> = words.iter().map(|word| word.as_str()).collect(rt.alloc())?;
-    Ok(tool(rt.alloc(), texts.as_slice(), &MachineFiles { rt }, out, err))
+    let files = MachineFiles { rt };
+    let mut links = MachineLinks::new(rt);
+    Ok(tool(rt.alloc(), texts.as_slice(), &files, &mut links, out, err))
 }
 
 // No words can be had: memory ran out, or one of them is no text.

@@ -2,7 +2,8 @@
 
 use crate::run::{THREE, prints};
 use snmp_io::memory::{MemoryFiles, MemoryOutput};
-use snmp_tools::{Lines, tool};
+use snmp_net::memory::MemoryLinks;
+use snmp_tools::tool;
 use std::test::Fail;
 
 /// Whether a walk of the table from the name prints this message alone, with status 1.
@@ -47,15 +48,39 @@ fn a_reply_that_is_too_big(rt: HostRuntime) -> Result<(), Fail> {
 fn words_without_a_meaning(rt: HostRuntime) -> Result<(), Fail> {
     let letter = ["snmp", "snmpwalk", "-On4", "table:t.tab", ".1"];
     assert!(rt; prints(&rt, THREE, &letter, b"", b"Unknown letter: 4\n", 1));
-    for agent in ["localhost", "table:", "udp:localhost:161"] {
+    for agent in [
+        "",
+        "table:",
+        "udp:",
+        "localhost:0",
+        "localhost:65536",
+        "a:b:1",
+        "udp:a:+1",
+    ] {
         let words = ["snmp", "snmpwalk", "-On", agent, ".1"];
         let message = format!(in rt.alloc(); "Bad agent address: {agent}\n")?;
         assert!(rt; prints(&rt, THREE, &words, b"", message.as_bytes(), 1));
     }
-    for name in ["iso.3", "", "1..3", ".1.", "4294967296", "-1"] {
-        let words = ["snmp", "snmpwalk", "-On", "table:t.tab", "--", name];
+    for name in ["1..3", ".1.", "4294967296", "iso.4294967296", "1.2a", "..1"] {
         let message = format!(in rt.alloc(); "Bad number: {name}\n")?;
+        assert!(rt; refuses(&rt, THREE, name, message.as_bytes()));
+    }
+    for name in [
+        "",
+        "mib-2",
+        "iso.org",
+        ".1.iso",
+        "NO-MIB::1.3",
+        "::iso",
+        "-1",
+    ] {
+        let words = ["snmp", "snmpwalk", "-On", "table:t.tab", "--", name];
+        let message = format!(in rt.alloc(); "Unknown name: {name}\n")?;
         assert!(rt; prints(&rt, THREE, &words, b"", message.as_bytes(), 1));
+    }
+    for name in ["1.3.''", "1.3.'abc", "1.3.\"a\"b", "'abc::x"] {
+        let message = format!(in rt.alloc(); "Bad index: {name}\n")?;
+        assert!(rt; refuses(&rt, THREE, name, message.as_bytes()));
     }
     for name in [".3", ".1.40", ".0.40.1", ".4294967295.1"] {
         let message = format!(in rt.alloc(); "Name cannot be sent: {name}\n")?;
@@ -77,12 +102,12 @@ fn a_name_that_is_too_long(rt: HostRuntime) -> Result<(), Fail> {
 
 #[test]
 fn letters_come_before_the_agent_and_that_before_the_name(rt: HostRuntime) -> Result<(), Fail> {
-    let all = ["snmp", "snmpwalk", "-Ox", "nowhere", "iso"];
-    assert!(rt; prints(&rt, THREE, &all, b"", b"Unknown letter: x\n", 1));
-    let two = ["snmp", "snmpwalk", "-On", "nowhere", "iso"];
-    assert!(rt; prints(&rt, THREE, &two, b"", b"Bad agent address: nowhere\n", 1));
-    let one = ["snmp", "snmpwalk", "-On", "table:gone.tab", "iso"];
-    assert!(rt; prints(&rt, THREE, &one, b"", b"Bad number: iso\n", 1));
+    let all = ["snmp", "snmpwalk", "-OX", "nowhere", "mib"];
+    assert!(rt; prints(&rt, THREE, &all, b"", b"Unknown letter: X\n", 1));
+    let two = ["snmp", "snmpwalk", "-On", "no:where", "mib"];
+    assert!(rt; prints(&rt, THREE, &two, b"", b"Bad agent address: no:where\n", 1));
+    let one = ["snmp", "snmpwalk", "-On", "table:gone.tab", "mib"];
+    assert!(rt; prints(&rt, THREE, &one, b"", b"Unknown name: mib\n", 1));
     Ok(())
 }
 
@@ -140,7 +165,7 @@ fn faults_of_a_table_with_their_lines(rt: HostRuntime) -> Result<(), Fail> {
 fn an_output_that_fails_after_forty_octets(rt: HostRuntime) -> Result<(), Fail> {
     let held = [("t.tab", THREE)];
     let files = MemoryFiles { files: &held };
-    let mut out = Lines::new(rt.alloc(), MemoryOutput::with_limit(rt.alloc(), 40));
+    let mut out = MemoryOutput::with_limit(rt.alloc(), 40);
     let mut err = MemoryOutput::new(rt.alloc());
     let words = [
         "snmp",
@@ -149,9 +174,10 @@ fn an_output_that_fails_after_forty_octets(rt: HostRuntime) -> Result<(), Fail> 
         "table:t.tab",
         ".1.3.6.1.4.1.32473.1",
     ];
-    let status = tool(rt.alloc(), &words, &files, &mut out, &mut err);
+    let mut links = MemoryLinks::new(rt.alloc(), &[], &[]);
+    let status = tool(rt.alloc(), &words, &files, &mut links, &mut out, &mut err);
     assert!(rt; status == 1);
-    assert!(rt; out.out.octets() == b".1.3.6.1.4.1.32473.1.1.0 = INTEGER: 1\n.1".as_slice());
+    assert!(rt; out.octets() == b".1.3.6.1.4.1.32473.1.1.0 = INTEGER: 1\n.1".as_slice());
     assert!(rt; err.octets() == b"The output failed.\n".as_slice());
     Ok(())
 }
@@ -160,41 +186,46 @@ fn an_output_that_fails_after_forty_octets(rt: HostRuntime) -> Result<(), Fail> 
 fn faults_that_cannot_be_told_change_nothing_else(rt: HostRuntime) -> Result<(), Fail> {
     let held = [("t.tab", THREE)];
     let files = MemoryFiles { files: &held };
-    let mut out = Lines::new(rt.alloc(), MemoryOutput::new(rt.alloc()));
+    let mut out = MemoryOutput::new(rt.alloc());
     let mut err = MemoryOutput::with_limit(rt.alloc(), 0);
-    let words = ["snmp", "snmpwalk", "-On", "table:t.tab", "iso"];
-    let status = tool(rt.alloc(), &words, &files, &mut out, &mut err);
+    let words = ["snmp", "snmpwalk", "-On", "table:t.tab", "mib"];
+    let mut links = MemoryLinks::new(rt.alloc(), &[], &[]);
+    let status = tool(rt.alloc(), &words, &files, &mut links, &mut out, &mut err);
     assert!(rt; status == 1);
-    assert!(rt; out.out.octets().is_empty());
+    assert!(rt; out.octets().is_empty());
     Ok(())
 }
 
 #[test]
 fn words_that_make_no_command(rt: HostRuntime) -> Result<(), Fail> {
     let held = [("t.tab", THREE)];
+    let mut links = MemoryLinks::new(rt.alloc(), &[], &[]);
     let files = MemoryFiles { files: &held };
-    let mut out = Lines::new(rt.alloc(), MemoryOutput::new(rt.alloc()));
+    let mut out = MemoryOutput::new(rt.alloc());
     let mut err = MemoryOutput::new(rt.alloc());
+    let mut links = MemoryLinks::new(rt.alloc(), &[], &[]);
     assert!(rt;
         tool(
             rt.alloc(),
             &["snmp", "snmpwalk"],
             &files,
+            &mut links,
             &mut out,
             &mut err
         ) == 1
     );
-    assert!(rt; out.out.octets().is_empty() && !err.octets().is_empty());
+    assert!(rt; out.octets().is_empty() && !err.octets().is_empty());
     let mut err = MemoryOutput::new(rt.alloc());
     assert!(rt;
         tool(
             rt.alloc(),
             &["snmp", "snmpwalk", "--help"],
             &files,
+            &mut links,
             &mut out,
             &mut err
         ) == 0
     );
-    assert!(rt; !out.out.octets().is_empty() && err.octets().is_empty());
+    assert!(rt; !out.octets().is_empty() && err.octets().is_empty());
     Ok(())
 }

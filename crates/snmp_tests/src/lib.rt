@@ -4,8 +4,14 @@
 #[cfg(test)]
 mod faults;
 #[cfg(test)]
+mod letters;
+#[cfg(test)]
+mod network;
+#[cfg(test)]
 mod options;
 #[cfg(test)]
 mod run;
+#[cfg(test)]
+mod serving;
 #[cfg(test)]
 mod walks;

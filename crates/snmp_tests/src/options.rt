@@ -119,10 +119,10 @@ fn a_walk_goes_on_after_a_name(rt: HostRuntime) -> Result<(), Fail> {
 
 #[test]
 fn words_are_refused_in_their_order(rt: HostRuntime) -> Result<(), Fail> {
-    let words = ["snmp", "snmpwalk", "-Ox", "-v1", "-Cz", "nowhere"];
+    let words = ["snmp", "snmpwalk", "-OX", "-v1", "-Cz", "nowhere"];
     assert!(rt; prints(&rt, THREE, &words, b"", b"Unknown version: 1\n", 1));
-    let words = ["snmp", "snmpwalk", "-Ox", "-Cz", "nowhere"];
-    assert!(rt; prints(&rt, THREE, &words, b"", b"Unknown letter: x\n", 1));
+    let words = ["snmp", "snmpwalk", "-OX", "-Cz", "nowhere"];
+    assert!(rt; prints(&rt, THREE, &words, b"", b"Unknown letter: X\n", 1));
     let words = ["snmp", "snmpwalk", "-On", "-Cz", "nowhere"];
     assert!(rt; prints(&rt, THREE, &words, b"", b"Unknown letter: z\n", 1));
     for (letters, message) in [
@@ -136,7 +136,7 @@ fn words_are_refused_in_their_order(rt: HostRuntime) -> Result<(), Fail> {
         assert!(rt; with(&rt, THREE, ("snmpbulkwalk", letters, ROOT), b"", message, 1));
     }
     let words = ["snmp", "snmpwalk", "-On", "--after=x", "table:t.tab", "y"];
-    assert!(rt; prints(&rt, THREE, &words, b"", b"Bad number: y\n", 1));
+    assert!(rt; prints(&rt, THREE, &words, b"", b"Unknown name: y\n", 1));
     let words = [
         "snmp",
         "snmpwalk",
@@ -145,6 +145,6 @@ fn words_are_refused_in_their_order(rt: HostRuntime) -> Result<(), Fail> {
         "table:gone.tab",
         ".1",
     ];
-    assert!(rt; prints(&rt, THREE, &words, b"", b"Bad number: x\n", 1));
+    assert!(rt; prints(&rt, THREE, &words, b"", b"Unknown name: x\n", 1));
     Ok(())
 }

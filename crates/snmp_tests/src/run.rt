@@ -1,7 +1,8 @@
 //! How a test runs the tools.
 
 use snmp_io::memory::{MemoryFiles, MemoryOutput};
-use snmp_tools::{Lines, tool};
+use snmp_net::memory::MemoryLinks;
+use snmp_tools::tool;
 
 /// The table of three instances.
 pub const THREE: &[u8] =
@@ -23,10 +24,11 @@ pub fn prints(
 ) -> bool {
     let held = [("t.tab", table)];
     let files = MemoryFiles { files: &held };
-    let mut out = Lines::new(rt.alloc(), MemoryOutput::new(rt.alloc()));
+    let mut out = MemoryOutput::new(rt.alloc());
     let mut err = MemoryOutput::new(rt.alloc());
-    let answered = tool(rt.alloc(), words, &files, &mut out, &mut err);
-    answered == status && out.out.octets() == lines && err.octets() == messages
+    let mut links = MemoryLinks::new(rt.alloc(), &[], &[]);
+    let answered = tool(rt.alloc(), words, &files, &mut links, &mut out, &mut err);
+    answered == status && out.octets() == lines && err.octets() == messages
 }
 
 /// Whether a walk of the table from a name, with numeric names, prints these lines and nothing

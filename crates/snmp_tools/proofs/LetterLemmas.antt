@@ -1,34 +1,20 @@
--- The letters of -O and -C, found place by place.
-use Rattle.std.proofs.Common.{◌≡◌, ◌≢◌, ◌∙◌, ◌+◌, ◌-◌, ◌*◌, ◌<◌, ◌≤◌, ◌++◌, ℕ, Bool, true, false, cond, List, [], ◌∷◌, Result, Ok, Err, zero, suc}
-use Rattle.std.proofs.Common.{Option, Some, None, length, take, drop, slice_index_or, refl, sym, ap, subst, drop-cons, add-one, arith, inl, inr}
+-- The letters of -C, found place by place.
+use Rattle.std.proofs.Common.{◌≡◌, ◌∙◌, ◌+◌, ◌-◌, ◌*◌, ◌<◌, ◌≤◌, ◌++◌, ℕ, Bool, true, false, List, [], ◌∷◌, Result, Ok, Err, zero, suc}
+use Rattle.std.proofs.Common.{Some, None, length, take, drop, slice_index_or, refl, sym, ap, subst, drop-cons, add-one, arith, inl, inr}
 use Rattle.std.proofs.Common.{drop_of_length-le, length-drop}
 use Rattle.std.proofs.Math.Seq.{take-length}
 use Rattle.std.proofs.lemmas.Bool.{cases_lt, false≢true, ne_eqb}
 use Rattle.std.proofs.lemmas.Bool.Decides.{nat_tests}
 use Rattle.std.proofs.lemmas.List.{take-append-drop, drop-drop}
 use Rattle.std.proofs.lemmas.Str.{digit_value_digit}
-use Rattle.std.specs.Prelude.{not, ◌&&◌, ◌==◌, nat_le, if◌then◌else◌}
+use Rattle.std.specs.Prelude.{◌&&◌, ◌==◌, nat_le, if◌then◌else◌}
 use Rattle.std.specs.Char.{digit_value}
 use Rattle.std.specs.List.{list_all}
 use Rattle.std.specs.Str.Parse.{digits_value, digits_value_after}
-use Rattle.snmp_tools.specs.Letters.{Choices, after_part, after_parts, after_whole, is_digit, other_letter, parts_of, put, repetitions_in}
+use Rattle.snmp_tools.specs.Letters.{Choices, after_part, after_parts, after_whole, is_digit, parts_of, put, repetitions_in}
 
 pub at_place : (letters : List ℕ) (place : ℕ) → place < length letters → drop place letters ≡ slice_index_or letters place 0 ∷ drop (place + 1) letters
 at_place letters place low = rw (add-one, drop-cons letters place 0) refl
-
-first_by : (letter : ℕ) (more : List ℕ) (b : Bool) → (letter == 110) ≡ b → other_letter (letter ∷ more) ≡ cond b (other_letter more) (Some letter)
-first_by letter more true e = rw e refl
-first_by letter more false e = rw e refl
-
-pub another : (letters : List ℕ) (place : ℕ) → place < length letters → (slice_index_or letters place 0 == 110) ≡ false
-    → other_letter (drop place letters) ≡ Some (slice_index_or letters place 0)
-another letters place low e = ap other_letter (at_place letters place low) ∙ first_by (slice_index_or letters place 0) (drop (place + 1) letters) false e
-
-pub passed : (letters : List ℕ) (place : ℕ) → place < length letters → (slice_index_or letters place 0 == 110) ≡ true
-    → other_letter (drop place letters) ≡ other_letter (drop (place + 1) letters)
-passed letters place low e = ap other_letter (at_place letters place low) ∙ first_by (slice_index_or letters place 0) (drop (place + 1) letters) true e
-
--- ---- the letters of -C
 
 -- the text doesn't begin with a digit
 abbrev pub NoDigitFirst : List ℕ → Type 0

@@ -1,6 +1,5 @@
 pub mod Headlines
 pub mod LetterLemmas
-pub mod NameLemmas
 pub mod Outcomes
 pub mod Plans
 pub mod Printed
@@ -10,3 +9,4 @@ pub mod Steps
 pub mod Streams
 pub mod Texts
 pub mod Walked
+pub mod Wholes

@@ -1,9 +1,14 @@
 -- The words of a walk ask for one plan, and the steps before it fail for want of memory alone.
-use Rattle.std.proofs.Common.{◌≡◌, ◌≢◌, ◌⊎◌, inl, inr, ◌++◌, ℕ, Bool, ◌<◌, ◌≤◌, length, arith, List, [], ◌∷◌, Option, Some, None, Result, Ok, Err}
-use Rattle.std.proofs.Common.{refl, sym, ◌∙◌, ap, subst, codes}
+use Rattle.std.proofs.Common.{◌≡◌, ◌⊎◌, inl, inr, ℕ, Bool, ◌<◌, ◌≤◌, length, arith, List, Option, Some, None, Result, Ok, Err}
+use Rattle.std.proofs.Common.{sym, ◌∙◌, ap, subst}
 use Rattle.std.specs.Str.Lines.{lines}
+use Rattle.smi_letters.specs.declared.letters.Letters.{Letters}
+use Rattle.smi_letters.specs.declared.letters.NameForm.{NameForm}
+use Rattle.smi_letters.specs.declared.letters.StringForm.{StringForm}
+use Rattle.smi_letters.specs.declared.letters.TypeForm.{TypeForm}
+use Rattle.smi_name.specs.Meaning.{meaning}
+use Rattle.smi_name.specs.declared.error.NameError.{NameError}
 use Rattle.snmp_oid.specs.Identifier.{IsBelow, IsWire, wire}
-use Rattle.snmp_oid.specs.Numeric.{IsNumericName}
 use Rattle.snmp_wire.specs.Message.{VarBind}
 use Rattle.snmp_table.specs.Table.{MibView}
 use Rattle.snmp_table.specs.declared.error.TableError.{TableError}
@@ -12,30 +17,58 @@ use Rattle.snmp_table.specs.Stated.{IsTableOf, IsFirstFault}
 use Rattle.snmp_walk.specs.declared.mode.Method.{Method}
 use Rattle.snmp_walk.specs.declared.mode.Mode.{Mode}
 use Rattle.snmp_io.specs.Files.{HoldsIfKnown}
-use Rattle.snmp_words.specs.Words.{WalkWords}
+use Rattle.snmp_words.specs.Words.{AskingWords, WalkWords}
+use Rattle.snmp_net.specs.Address.{Address, table}
+use Rattle.snmp_tools.specs.Asking.{AreShown, AskingFails, AskingStep, HasAgent, IsNameIfGiven, NameFails, ReachFails, TableFails}
+use Rattle.snmp_tools.specs.Asking.{agent_step, community_step, letters_step, version_step}
 use Rattle.snmp_tools.specs.Headline.{CanGoOn, IsFeasible, IsWalk}
 use Rattle.snmp_tools.specs.Letters.{Choices, choices_of, method_of, mode_of}
 use Rattle.snmp_tools.specs.Message.{Fault, bad_table, out_of_memory}
-use Rattle.snmp_tools.specs.Plan.{AskFor, FailsBy, Holdings, IsNameIfGiven, IsRefusal, IsShortName, IsTablePath, NameFails, Plan, Step, TableFails, root_text}
-use Rattle.snmp_tools.specs.Plan.{version_step, letters_step, choices_step, community_step, agent_step, root_step, after_step, table_step, root_sent_step}
+use Rattle.snmp_tools.specs.Mib.{Holdings, Holds, IsMibOf, MayHold, Mib}
+use Rattle.snmp_tools.specs.Plan.{AskFor, FailsBy, IsAfterOf, IsRefusal, IsRootOf, Plan, Step, root_text}
+use Rattle.snmp_tools.specs.Plan.{asking, choices_step, root_step, after_step, reach_step, root_sent_step}
 use Rattle.snmp_tools.specs.Plan.{after_below_step, after_sent_step}
 
 pub held_is : (held : Option (Option (List ℕ))) (text other : List ℕ) → HoldsIfKnown held (Some text) → held ≡ Some (Some other) → text ≡ other
 held_is None text other h e = let no : ⊥ = cc in absurd no
 held_is (Some x) text other h e = cc
 
-same_path : (front a b : List ℕ) → front ++ a ≡ front ++ b → a ≡ b
-same_path [] a b e = e
-same_path (c ∷ front) a b e = same_path front a b cc
+pub one_path : (a b : List ℕ) → table a ≡ table b → a ≡ b
+one_path a b e = cc
+
+-- a job knows the same names where its files are known
+pub one_mib : (files : Holdings) (words : AskingWords) (a b : Mib) → IsMibOf (Holds files) words a → IsMibOf (MayHold files) words b → a ≡ b
+one_mib files words a b e f = e ∙ sym f
+
+-- letters of the same forms are the same
+same_letters : (a b : Letters) → a.names ≡ b.names → a.types ≡ b.types → a.strings ≡ b.strings → a.value_alone ≡ b.value_alone
+    → a.numeric_enumerations ≡ b.numeric_enumerations → a.raw_ticks ≡ b.raw_ticks → a.numeric_index ≡ b.numeric_index → a.no_units ≡ b.no_units → a ≡ b
+same_letters a b names types strings value_alone enumerations ticks index units =
+    ap (λ (x : NameForm). record a { names = x }) names
+    ∙ ap (λ (x : TypeForm). record a { names = b.names; types = x }) types
+    ∙ ap (λ (x : StringForm). record a { names = b.names; types = b.types; strings = x }) strings
+    ∙ ap (λ (x : Bool). record a { names = b.names; types = b.types; strings = b.strings; value_alone = x }) value_alone
+    ∙ ap (λ (x : Bool). record b { numeric_enumerations = x; raw_ticks = a.raw_ticks; numeric_index = a.numeric_index; no_units = a.no_units }) enumerations
+    ∙ ap (λ (x : Bool). record b { raw_ticks = x; numeric_index = a.numeric_index; no_units = a.no_units }) ticks
+    ∙ ap (λ (x : Bool). record b { numeric_index = x; no_units = a.no_units }) index
+    ∙ ap (λ (x : Bool). record b { no_units = x }) units
+
+pub one_reading : (text : List ℕ) (a b : Letters) → AreShown text a → AreShown text b → a ≡ b
+one_reading text a b x y =
+    let p = x.read in
+    let q = y.read in
+    same_letters a b (p.n_f_s_S ∙ sym q.n_f_s_S) (p.q_Q ∙ sym q.q_Q) (p.x_a ∙ sym q.x_a) (p.v ∙ sym q.v) (p.e ∙ sym q.e) (p.t ∙ sym q.t) (p.b ∙ sym q.b)
+    (p.U ∙ sym q.U)
 
 -- plans of the same parts are the same
-same_plan : (p q : Plan) → p.path ≡ q.path → p.community ≡ q.community → p.max_size ≡ q.max_size → p.root ≡ q.root → p.after ≡ q.after → p.mode ≡ q.mode
-    → p.method ≡ q.method → p.counts ≡ q.counts → p ≡ q
-same_plan p q path community size root after mode method counts =
-    ap (λ (x : List ℕ). record p { path = x }) path
-    ∙ ap (λ (x : List ℕ). record p { path = q.path; community = x }) community
-    ∙ ap (λ (x : ℕ). record p { path = q.path; community = q.community; max_size = x }) size
-    ∙ ap (λ (x : List ℕ). record p { path = q.path; community = q.community; max_size = q.max_size; root = x }) root
+same_plan : (p q : Plan) → p.agent ≡ q.agent → p.community ≡ q.community → p.max_size ≡ q.max_size → p.letters ≡ q.letters → p.root ≡ q.root
+    → p.after ≡ q.after → p.mode ≡ q.mode → p.method ≡ q.method → p.counts ≡ q.counts → p ≡ q
+same_plan p q agent community size letters root after mode method counts =
+    ap (λ (x : Address). record p { agent = x }) agent
+    ∙ ap (λ (x : List ℕ). record p { agent = q.agent; community = x }) community
+    ∙ ap (λ (x : ℕ). record p { agent = q.agent; community = q.community; max_size = x }) size
+    ∙ ap (λ (x : Letters). record p { agent = q.agent; community = q.community; max_size = q.max_size; letters = x }) letters
+    ∙ ap (λ (x : List ℕ). record q { root = x; after = p.after; mode = p.mode; method = p.method; counts = p.counts }) root
     ∙ ap (λ (x : Option (List ℕ)). record q { after = x; mode = p.mode; method = p.method; counts = p.counts }) after
     ∙ ap (λ (x : Mode). record q { mode = x; method = p.method; counts = p.counts }) mode
     ∙ ap (λ (x : Method). record q { method = x; counts = p.counts }) method
@@ -47,18 +80,25 @@ one_choice read a b e f = cc
 no_choice : (read : Result Choices ℕ) (a : Choices) (octet : ℕ) → read ≡ Ok a → read ≡ Err octet → ⊥
 no_choice read a octet e f = cc
 
-module _ (one_name : (text o p : List ℕ) → IsNumericName text o → IsNumericName text p → o ≡ p) where
-  one_after : (text a b : Option (List ℕ)) → IsNameIfGiven text a → IsNameIfGiven text b → a ≡ b
-  one_after None a b e f = e ∙ sym f
-  one_after (Some text) a b e f = e.2 ∙ ap Some (one_name text e.0 f.0 e.1.name f.1.name) ∙ sym f.2
+one_name : (read : Result (List ℕ) NameError) (a b : List ℕ) → read ≡ Ok a → read ≡ Ok b → a ≡ b
+one_name read a b e f = cc
 
-  pub one_plan : (bulk : Bool) (words : WalkWords) (p q : Plan) → AskFor bulk words p → AskFor bulk words q → p ≡ q
-  one_plan bulk words p q a b =
-      let choice : a.choices ≡ b.choices = one_choice (choices_of bulk words.letters) a.choices b.choices a.chosen b.chosen in
-      same_plan p q (same_path (codes "table:") p.path q.path (sym a.agent.1 ∙ b.agent.1)) (a.community ∙ sym b.community) (a.max_size ∙ sym b.max_size)
-      (one_name (root_text words) p.root q.root a.root.name b.root.name) (one_after words.after p.after q.after a.after b.after)
-      (a.mode ∙ ap mode_of choice ∙ sym b.mode) (a.method ∙ ap (method_of bulk) choice ∙ sym b.method)
-      (a.counts ∙ ap (λ (c : Choices). c.counts) choice ∙ sym b.counts)
+no_name : (read : Result (List ℕ) NameError) (a : List ℕ) (error : NameError) → read ≡ Ok a → read ≡ Err error → ⊥
+no_name read a error e f = cc
+
+one_after : (mib : Mib) (text a b : Option (List ℕ)) → IsNameIfGiven mib text a → IsNameIfGiven mib text b → a ≡ b
+one_after mib None a b e f = e ∙ sym f
+one_after mib (Some text) a b e f = e.2 ∙ ap Some (one_name (meaning mib.naming text) e.0 f.0 e.1 f.1) ∙ sym f.2
+
+pub one_plan : (bulk : Bool) (words : WalkWords) (mib : Mib) (p q : Plan) → AskFor bulk words mib p → AskFor bulk words mib q
+    → HasAgent words.asking.agent q.agent → p ≡ q
+one_plan bulk words mib p q a b only =
+    let choice : a.choices ≡ b.choices = one_choice (choices_of bulk words.letters) a.choices b.choices a.chosen b.chosen in
+    same_plan p q (only.1 p.agent a.agent) (a.community ∙ sym b.community) (a.max_size ∙ sym b.max_size)
+    (one_reading words.asking.letters p.letters q.letters a.letters b.letters)
+    (one_name (meaning mib.naming (root_text words)) p.root q.root a.root b.root) (one_after mib words.after p.after q.after a.after b.after)
+    (a.mode ∙ ap mode_of choice ∙ sym b.mode) (a.method ∙ ap (method_of bulk) choice ∙ sym b.method)
+    (a.counts ∙ ap (λ (c : Choices). c.counts) choice ∙ sym b.counts)
 
 -- a fault whose message says that memory ran out
 pub data IsWant (why : Fault) : Type 0 where
@@ -68,24 +108,24 @@ pub data IsWant (why : Fault) : Type 0 where
 other_way : (n m : ℕ) → n < m → m ≤ n → ⊥
 other_way n m low high = omega (arith, low, high)
 
-name_stands : (text o : List ℕ) (why : Fault) → IsShortName text o → NameFails text why → ⊥
-name_stands text o why h (inl f) = f.1 o h.name
-name_stands text o why h (inr f) = other_way 128 (length o) (f.1 o h.name) h.short
+name_stands : (mib : Mib) (text o : List ℕ) (why : Fault) → meaning mib.naming text ≡ Ok o → NameFails mib text why → ⊥
+name_stands mib text o why h f = no_name (meaning mib.naming text) o f.0 h f.1
 
-after_stands : (given after : Option (List ℕ)) (text : List ℕ) (why : Fault) → IsNameIfGiven given after → given ≡ Some text → NameFails text why → ⊥
-after_stands None after text why h e f = let no : ⊥ = cc in no
-after_stands (Some other) after text why h e f =
+after_stands : (mib : Mib) (given after : Option (List ℕ)) (text : List ℕ) (why : Fault) → IsNameIfGiven mib given after → given ≡ Some text
+    → NameFails mib text why → ⊥
+after_stands mib None after text why h e f = let no : ⊥ = cc in no
+after_stands mib (Some other) after text why h e f =
     let same : other ≡ text = cc in
-    name_stands text h.0 why (subst (λ (t : List ℕ). IsShortName t h.0) same h.1) f
+    name_stands mib text h.0 why (subst (λ (t : List ℕ). meaning mib.naming t ≡ Ok h.0) same h.1) f
 
 -- the name after which the walk goes on, where the words give one
-goes_after : (given after : Option (List ℕ)) (text root : List ℕ) → IsNameIfGiven given after → given ≡ Some text → CanGoOn root after
-    → (o : List ℕ) × IsNumericName text o × ((o ≡ root) ⊎ IsBelow o root) × IsWire (wire o)
-goes_after None after text root h e can = let no : ⊥ = cc in absurd no
-goes_after (Some other) after text root h e can =
+goes_after : (mib : Mib) (given after : Option (List ℕ)) (text root o : List ℕ) → IsNameIfGiven mib given after → given ≡ Some text
+    → meaning mib.naming text ≡ Ok o → CanGoOn root after → ((o ≡ root) ⊎ IsBelow o root) × IsWire (wire o)
+goes_after mib None after text root o h e means can = let no : ⊥ = cc in absurd no
+goes_after mib (Some other) after text root o h e means can =
     let same : other ≡ text = cc in
-    let go : CanGoOn root (Some h.0) = subst (CanGoOn root) h.2 can in
-    (h.0, subst (λ (t : List ℕ). IsNumericName t h.0) same h.1.name, go.0, go.1)
+    let is : h.0 ≡ o = one_name (meaning mib.naming text) h.0 o (subst (λ (t : List ℕ). meaning mib.naming t ≡ Ok h.0) same h.1) means in
+    subst (CanGoOn root) (h.2 ∙ ap Some is) can
 
 module _ (no_fault : (ls : List (List ℕ)) (view : MibView) (fault : TableError) → IsTableOf ls view → IsFirstFault ls fault → fault ≡ table_error.Memory)
     (bulk : Bool) (words : WalkWords) (files : Holdings) (rows : List VarBind) (walk : IsWalk bulk words files rows)
@@ -94,33 +134,61 @@ module _ (no_fault : (ls : List (List ℕ)) (view : MibView) (fault : TableError
   unreadable_not None e k = let no : ⊥ = cc in no
   unreadable_not (Some x) e k = let no : ⊥ = cc in no
 
-  held_at_path : (path : List ℕ) → IsTablePath words.asking.agent path → files path ≡ Some (Some walk.text)
-  held_at_path path h = ap files (same_path (codes "table:") path walk.plan.path (sym h.1 ∙ walk.asked.agent.1)) ∙ walk.held
+  agent_is : (agent : Address) → HasAgent words.asking.agent agent → agent ≡ table walk.path
+  agent_is agent has = sym (has.1 walk.plan.agent walk.asked.agent) ∙ walk.over
 
-  table_want_only : (path : List ℕ) (why : Fault) → IsTablePath words.asking.agent path → TableFails (files path) path why → IsWant why
-  table_want_only path why h (inl f) = absurd (unreadable_not (files path) (held_at_path path h) f.0)
-  table_want_only path why h (inr f) =
-      let same : f.0 ≡ walk.text = held_is (files path) f.0 walk.text f.2 (held_at_path path h) in
+  table_want_only : (why : Fault) → TableFails (files walk.path) walk.path why → IsWant why
+  table_want_only why (inl f) = absurd (unreadable_not (files walk.path) walk.held f.0)
+  table_want_only why (inr f) =
+      let same : f.0 ≡ walk.text = held_is (files walk.path) f.0 walk.text f.2 walk.held in
       let memory : f.1 ≡ table_error.Memory =
       no_fault (lines walk.text) walk.view f.1 walk.table (subst (λ (t : List ℕ). IsFirstFault (lines t) f.1) same f.3) in
-      table_want path (f.4 ∙ ap (bad_table path) memory)
+      table_want walk.path (f.4 ∙ ap (bad_table walk.path) memory)
+
+  known_as : (mib : Mib) → IsMibOf (MayHold files) words.asking mib → mib ≡ walk.mib
+  known_as mib is = sym (one_mib files words.asking walk.mib mib walk.known is)
+
+  -- names mean what they mean to the walk
+  root_is : (root : List ℕ) → IsRootOf words files root → root ≡ walk.plan.root
+  root_is root is =
+      one_name (meaning walk.mib.naming (root_text words)) root walk.plan.root
+      (subst (λ (m : Mib). meaning m.naming (root_text words) ≡ Ok root) (known_as is.mib is.known) is.means) walk.asked.root
+
+  root_by : (mib : Mib) → IsMibOf (MayHold files) words.asking mib → IsRootOf words files walk.plan.root
+  root_by mib known = record {
+    mib = mib;
+    known = known;
+    means = subst (λ (m : Mib). meaning m.naming (root_text words) ≡ Ok walk.plan.root) (sym (known_as mib known)) walk.asked.root;
+  }
+
+  after_goes : (root text after : List ℕ) → IsRootOf words files root → IsAfterOf words files text after
+      → ((after ≡ root) ⊎ IsBelow after root) × IsWire (wire after)
+  after_goes root text after is goes =
+      let means = subst (λ (m : Mib). meaning m.naming text ≡ Ok after) (known_as goes.mib goes.known) goes.means in
+      let go = goes_after walk.mib words.after walk.plan.after text walk.plan.root after walk.asked.after goes.given means can.after in
+      (subst (λ (r : List ℕ). (after ≡ r) ⊎ IsBelow after r) (sym (root_is root is)) go.0, go.1)
+
+  asking_want : (step : AskingStep) (why : Fault) → AskingFails words.asking step why → ⊥
+  asking_want version_step why f = f.0 walk.asked.version
+  asking_want letters_step why f = let e = walk.asked.letters.known in let g = f.1 in cc
+  asking_want community_step why f = other_way 255 (length words.asking.community) f.0 walk.asked.short_community
+  asking_want agent_step why f = f.0 walk.plan.agent walk.asked.agent
 
   step_want : (step : Step) (why : Fault) → FailsBy bulk words files step why → IsWant why
-  step_want version_step why f = absurd (f.0 walk.asked.version)
-  step_want letters_step why f = let e = walk.asked.letters in let g = f.1 in let no : ⊥ = cc in absurd no
+  step_want (asking step) why f = absurd (asking_want step why f)
   step_want choices_step why f = absurd (no_choice (choices_of bulk words.letters) walk.asked.choices f.0 walk.asked.chosen f.1)
-  step_want community_step why f = absurd (other_way 255 (length words.asking.community) f.0 walk.asked.short_community)
-  step_want agent_step why f = absurd (f.0 walk.plan.path walk.asked.agent)
-  step_want root_step why f = absurd (name_stands (root_text words) walk.plan.root why walk.asked.root f)
-  step_want after_step why f = absurd (after_stands words.after walk.plan.after f.0 why walk.asked.after f.1 f.2)
-  step_want table_step why f = table_want_only f.0 why f.1 f.2
-  step_want root_sent_step why f = absurd (f.0 walk.plan.root walk.asked.root.name can.root)
-  step_want after_below_step why f =
-      let go = goes_after words.after walk.plan.after f.0 walk.plan.root walk.asked.after f.1 can.after in
-      absurd (f.2 walk.plan.root go.0 walk.asked.root.name go.1 go.2)
+  step_want root_step why f =
+      absurd (name_stands walk.mib (root_text words) walk.plan.root why walk.asked.root
+      (subst (λ (m : Mib). NameFails m (root_text words) why) (known_as f.0 f.1) f.2))
+  step_want after_step why f =
+      absurd (after_stands walk.mib words.after walk.plan.after f.1 why walk.asked.after f.3
+      (subst (λ (m : Mib). NameFails m f.1 why) (known_as f.0 f.2) f.4))
+  step_want reach_step why f =
+      table_want_only why (subst (λ (a : Address). ReachFails files a words.asking.agent why) (agent_is f.0 f.1) f.2)
+  step_want root_sent_step why f = absurd (f.2 (subst (λ (r : List ℕ). IsWire (wire r)) (sym (root_is f.0 f.1)) can.root))
+  step_want after_below_step why f = absurd (f.5 (after_goes f.0 f.1 f.2 f.3 f.4).0)
   step_want after_sent_step why f =
-      let go = goes_after words.after walk.plan.after f.0 walk.plan.root walk.asked.after f.1 can.after in
-      absurd (f.2 go.0 go.1 go.3)
+      absurd (f.3 (after_goes walk.plan.root f.0 f.1 (root_by f.2.mib f.2.known) f.2).1)
 
   pub wants : (why : Fault) → IsRefusal bulk words files why → IsWant why
   wants why (inl e) = plain_want e

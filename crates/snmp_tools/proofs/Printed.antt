@@ -1,46 +1,100 @@
--- What a sink of lines writes of the rows that it is given.
-use Rattle.std.proofs.Common.{◌≡◌, ◌<◌, ◌⊎◌, ◌++◌, ℕ, List, [], ◌∷◌, Option, Result, sym, ◌∙◌, ap, subst, append-nil}
+-- What a printer writes of the rows that it is given.
+use Rattle.std.proofs.Common.{◌≡◌, ◌++◌, ℕ, List, [], ◌∷◌, Result, Ok, Err, sym, refl, ◌∙◌, ap, subst, append-nil}
+use Rattle.smi_letters.specs.declared.letters.Letters.{Letters}
 use Rattle.snmp_wire.specs.Message.{VarBind}
 use Rattle.snmp_walk.specs.declared.end.SinkFault.{SinkFault}
 use Rattle.snmp_walk.specs.declared.end.SinkFault.TheVariants as fault
 use Rattle.snmp_walk.specs.declared.end.WalkEnd.{WalkEnd}
 use Rattle.snmp_walk.specs.declared.end.WalkEnd.TheVariants as ending
 use Rattle.snmp_walk.specs.Sink.{Given, Refused, Took}
-use Rattle.snmp_lines.specs.Line.{line_of, lines_of}
 use Rattle.snmp_io.specs.Output.{FailsWithin, Stream, extended}
 use Rattle.snmp_tools.proofs.Streams.{extended-nil, extended-twice}
-use Rattle.snmp_tools.specs.Lines.{TakesLine, IsPrintedUpTo}
+use Rattle.snmp_tools.specs.Lines.{AreLines, TakesLine, IsPrintedUpTo}
+use Rattle.snmp_tools.specs.Mib.{Mib}
 
--- a sink whose states are seen as what is known of an output
-module _ {S : Type 0} (stream : S → Stream) where
-  abbrev takes : S → VarBind → Result (Unit {0}) SinkFault → S → Type 0
-  takes old binding result new = TakesLine (stream old) binding result (stream new)
+-- a sink that stays what it is, and whose states are seen as what is known of an output
+module _ {S : Type 0} (takes : S → VarBind → Result (Unit {0}) SinkFault → S → Type 0) (stream : S → Stream) (Is : S → Type 0) (mib : Mib) (letters : Letters)
+    (stays : (old new : S) (binding : VarBind) (result : Result (Unit {0}) SinkFault) → Is old → takes old binding result new → Is new)
+    (writes : (old new : S) (binding : VarBind) (result : Result (Unit {0}) SinkFault) → Is old → takes old binding result new
+    → TakesLine mib letters (stream old) binding result (stream new)) where
+  stayed : (old new : S) (rows : List VarBind) → Is old → Given takes old rows new → Is new
+  stayed old new [] is e = subst Is (sym e) is
+  stayed old new (p ∷ more) is h = stayed h.0 new more (stays old h.0 p (Ok tt) is h.1) h.2
 
-  pub printed : (old new : S) (rows : List VarBind) → Given takes old rows new → stream new ≡ extended (stream old) (lines_of rows)
-  printed old new [] e = ap stream e ∙ sym (extended-nil (stream old))
-  printed old new (p ∷ more) h =
-      printed h.0 new more h.2
-      ∙ ap (λ (s : Stream). extended s (lines_of more)) h.1
-      ∙ extended-twice (stream old) (line_of p) (lines_of more)
+  printed : (old new : S) (rows : List VarBind) → Is old → Given takes old rows new
+      → (text : List ℕ) × AreLines mib letters rows text × (stream new ≡ extended (stream old) text)
+  printed old new [] is e = ([], refl, ap stream e ∙ sym (extended-nil (stream old)))
+  printed old new (p ∷ more) is h =
+      let first = writes old h.0 p (Ok tt) is h.1 in
+      let rest = printed h.0 new more (stays old h.0 p (Ok tt) is h.1) h.2 in (
+        first.0 ++ rest.0,
+        (first.0, rest.0, first.1, rest.1, refl),
+        rest.2 ∙ ap (λ (s : Stream). extended s rest.0) first.2 ∙ extended-twice (stream old) first.0 rest.0,
+      )
 
-  refused : (old between new : S) (rows turned : List VarBind) (why : SinkFault) → Given takes old rows between → Refused takes between turned why new
-      → IsPrintedUpTo (stream old) rows turned (ending.Sink why) (stream new)
-  refused old between new rows turned fault.Output given refusal =
-      let line : lines_of turned ≡ line_of refusal.0 = ap lines_of refusal.1 ∙ append-nil (line_of refusal.0) in
-      let P : Stream → Type 0 = λ s. FailsWithin s (lines_of turned) (stream new) in
-      let Q : List ℕ → Type 0 = λ text. FailsWithin (stream between) text (stream new) in
-      subst P (printed old between rows given) (subst Q (sym line) refusal.2)
-  refused old between new rows turned fault.Memory given refusal = refusal.2 ∙ printed old between rows given
+  refused : (old between new : S) (rows turned : List VarBind) (why : SinkFault) → Is old → Given takes old rows between → Refused takes between turned why new
+      → IsPrintedUpTo mib letters (stream old) rows turned (ending.Sink why) (stream new)
+  refused old between new rows turned fault.Output is given refusal =
+      let lines = printed old between rows is given in
+      let last = writes between new refusal.0 (Err fault.Output) (stayed old between rows is given) refusal.2 in
+      let P : Stream → Type 0 = λ s. FailsWithin s last.0 (stream new) in
+      let Q : List VarBind → Type 0 = λ ps. AreLines mib letters ps last.0 in
+      (lines.0, last.0, lines.1, subst Q (sym refusal.1) (last.0, [], last.1, refl, sym (append-nil last.0)), subst P lines.2 last.2)
+  refused old between new rows turned fault.Memory is given refusal =
+      let lines = printed old between rows is given in
+      (lines.0, lines.1, writes between new refusal.0 (Err fault.Memory) (stayed old between rows is given) refusal.2 ∙ lines.2)
 
-  pub printed_up_to : (old new : S) (rows turned : List VarBind) (why : WalkEnd) → Took takes old rows turned why new
-      → IsPrintedUpTo (stream old) rows turned why (stream new)
-  printed_up_to old new rows turned (ending.Sink why) h = refused old h.0 new rows turned why h.1 h.2
-  printed_up_to old new rows turned (ending.Done n) h = printed old new rows h.0
-  printed_up_to old new rows turned (ending.Fault status index) h = printed old new rows h.0
-  printed_up_to old new rows turned (ending.NoProgress asked) h = printed old new rows h.0
-  printed_up_to old new rows turned ending.BadReply h = printed old new rows h.0
-  printed_up_to old new rows turned (ending.NotIncreasing last got) h = printed old new rows h.0
-  printed_up_to old new rows turned ending.TooManyRequests h = printed old new rows h.0
-  printed_up_to old new rows turned ending.RequestTooLong h = printed old new rows h.0
-  printed_up_to old new rows turned ending.NoResponse h = printed old new rows h.0
-  printed_up_to old new rows turned ending.Link h = printed old new rows h.0
+  pub stays_to_the_end : (old new : S) (rows turned : List VarBind) (why : WalkEnd) → Is old → Took takes old rows turned why new → Is new
+  stays_to_the_end old new rows turned (ending.Sink why) is h = stays h.0 new h.2.0 (Err why) (stayed old h.0 rows is h.1) h.2.2
+  stays_to_the_end old new rows turned (ending.Done n) is h = stayed old new rows is h.0
+  stays_to_the_end old new rows turned (ending.Fault status index) is h = stayed old new rows is h.0
+  stays_to_the_end old new rows turned (ending.NoProgress asked) is h = stayed old new rows is h.0
+  stays_to_the_end old new rows turned ending.BadReply is h = stayed old new rows is h.0
+  stays_to_the_end old new rows turned (ending.NotIncreasing last got) is h = stayed old new rows is h.0
+  stays_to_the_end old new rows turned ending.TooManyRequests is h = stayed old new rows is h.0
+  stays_to_the_end old new rows turned ending.RequestTooLong is h = stayed old new rows is h.0
+  stays_to_the_end old new rows turned ending.NoResponse is h = stayed old new rows is h.0
+  stays_to_the_end old new rows turned ending.Link is h = stayed old new rows is h.0
+
+  pub printed_up_to : (old new : S) (rows turned : List VarBind) (why : WalkEnd) → Is old → Took takes old rows turned why new
+      → IsPrintedUpTo mib letters (stream old) rows turned why (stream new)
+  printed_up_to old new rows turned (ending.Sink why) is h = refused old h.0 new rows turned why is h.1 h.2
+  printed_up_to old new rows turned (ending.Done n) is h = printed old new rows is h.0
+  printed_up_to old new rows turned (ending.Fault status index) is h = printed old new rows is h.0
+  printed_up_to old new rows turned (ending.NoProgress asked) is h = printed old new rows is h.0
+  printed_up_to old new rows turned ending.BadReply is h = printed old new rows is h.0
+  printed_up_to old new rows turned (ending.NotIncreasing last got) is h = printed old new rows is h.0
+  printed_up_to old new rows turned ending.TooManyRequests is h = printed old new rows is h.0
+  printed_up_to old new rows turned ending.RequestTooLong is h = printed old new rows is h.0
+  printed_up_to old new rows turned ending.NoResponse is h = printed old new rows is h.0
+  printed_up_to old new rows turned ending.Link is h = printed old new rows is h.0
+
+-- a printer: it keeps its tree, its letters and its output
+module _ {S R N : Type 0} (tree : S → R) (letters : S → Letters) (name : S → N) (stream : S → Stream) (mib : R → Mib) where
+  abbrev prints : S → VarBind → Result (Unit {0}) SinkFault → S → Type 0
+  prints old binding result new =
+      (tree new ≡ tree old) × (letters new ≡ letters old) × (name new ≡ name old)
+      × TakesLine (mib (tree old)) (letters old) (stream old) binding result (stream new)
+
+  module _ (first : S) where
+    abbrev Is : S → Type 0
+    Is s = (tree s ≡ tree first) × (letters s ≡ letters first) × (name s ≡ name first)
+
+    stays : (old new : S) (binding : VarBind) (result : Result (Unit {0}) SinkFault) → Is old → prints old binding result new → Is new
+    stays old new binding result is h = (h.0 ∙ is.0, h.1 ∙ is.1, h.2 ∙ is.2)
+
+    writes : (old new : S) (binding : VarBind) (result : Result (Unit {0}) SinkFault) → Is old → prints old binding result new
+        → TakesLine (mib (tree first)) (letters first) (stream old) binding result (stream new)
+    writes old new binding result is h =
+        let P : R → Type 0 = λ r. TakesLine (mib r) (letters old) (stream old) binding result (stream new) in
+        let Q : Letters → Type 0 = λ l. TakesLine (mib (tree first)) l (stream old) binding result (stream new) in
+        subst Q is.1 (subst P is.0 h.3)
+
+    pub same_name : (new : S) (rows turned : List VarBind) (why : WalkEnd) → Took prints first rows turned why new → name new ≡ name first
+    same_name new rows turned why h =
+        (stays_to_the_end prints stream Is (mib (tree first)) (letters first) stays writes first new rows turned why (refl, refl, refl) h).2
+
+    pub lines_printed : (new : S) (rows turned : List VarBind) (why : WalkEnd) → Took prints first rows turned why new
+        → IsPrintedUpTo (mib (tree first)) (letters first) (stream first) rows turned why (stream new)
+    lines_printed new rows turned why h =
+        printed_up_to prints stream Is (mib (tree first)) (letters first) stays writes first new rows turned why (refl, refl, refl) h

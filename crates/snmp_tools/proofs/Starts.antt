@@ -1,67 +1,69 @@
 -- What a walk that was refused after its plan was made tells of its words.
-use Rattle.std.proofs.Common.{◌≡◌, ◌⊎◌, inl, inr, ℕ, Bool, List, [], Option, Some, None, unwrap_or, refl, sym, ◌∙◌, ap, subst}
-use Rattle.std.specs.Str.Lines.{lines}
-use Rattle.snmp_oid.specs.Identifier.{IsBelow, IsWire, wire}
-use Rattle.snmp_oid.specs.Numeric.{IsNumericName}
-use Rattle.snmp_table.specs.Stated.{IsTableOf}
-use Rattle.snmp_table.specs.Table.{MibView}
-use Rattle.snmp_io.specs.Files.{HoldsIfKnown}
+use Rattle.std.proofs.Common.{◌≡◌, inl, inr, ℕ, Bool, List, [], Option, Some, None, Ok, unwrap_or, refl, ◌∙◌, ap}
+use Rattle.smi_name.specs.Meaning.{meaning}
 use Rattle.snmp_words.specs.Words.{WalkWords}
-use Rattle.snmp_tools.specs.Message.{Fault, outside_root, unsendable}
-use Rattle.snmp_tools.specs.Plan.{AskFor, FailsBy, Holdings, IsDoneBy, IsNameIfGiven, IsRefusal, IsShortName, Plan, TableFails, root_text}
+use Rattle.snmp_net.specs.Address.{address_of}
+use Rattle.snmp_tools.specs.Asking.{HasAgent, IsNameIfGiven, IsReached, ReachFails}
+use Rattle.snmp_tools.specs.Message.{Fault}
+use Rattle.snmp_tools.specs.Mib.{Holdings, IsMibOf, MayHold, Mib}
+use Rattle.snmp_tools.specs.Plan.{AskFor, IsAfterOf, IsRefusal, IsRootOf, Plan, root_text}
+use Rattle.snmp_tools.specs.Chosen.{chosen}
+use Rattle.snmp_tools.specs.Planned.{AreOrdersOf, NamesFail}
+use Rattle.snmp_tools.specs.declared.plan.Orders.{Orders}
 use Rattle.snmp_tools.specs.Start.{ResumeFails, StartFails}
-use Rattle.snmp_tools.proofs.Steps.{at_after_below, at_after_sent, at_root_sent, at_table}
+use Rattle.snmp_tools.proofs.Steps.{at_after, at_after_below, at_after_sent, at_reach, at_root, at_root_sent}
 
 -- the name to go on after, where a plan has one
-given_after : (given : Option (List ℕ)) (planned : Option (List ℕ)) (after : List ℕ) → IsNameIfGiven given planned → planned ≡ Some after
-    → (given ≡ Some (unwrap_or given [])) × IsShortName (unwrap_or given []) after
-given_after None planned after h e = let no : ⊥ = cc in absurd no
-given_after (Some text) planned after h e =
+given_after : (mib : Mib) (given : Option (List ℕ)) (planned : Option (List ℕ)) (after : List ℕ) → IsNameIfGiven mib given planned → planned ≡ Some after
+    → (given ≡ Some (unwrap_or given [])) × (meaning mib.naming (unwrap_or given []) ≡ Ok after)
+given_after mib None planned after h e = let no : ⊥ = cc in absurd no
+given_after mib (Some text) planned after h e =
     let same : h.0 ≡ after = cc in
-    (refl, subst (λ (o : List ℕ). IsShortName text o) same h.1)
+    (refl, h.1 ∙ ap Ok same)
 
-module _ (one_name : (text o p : List ℕ) → IsNumericName text o → IsNumericName text p → o ≡ p)
-    (bulk : Bool) (words : WalkWords) (files : Holdings) (plan : Plan) (asked : AskFor bulk words plan) where
-  pub table_refused : (why : Fault) → TableFails (files plan.path) plan.path why → IsRefusal bulk words files why
-  table_refused why f =
-      at_table bulk words files why asked.version asked.letters (asked.choices, asked.chosen) asked.short_community (plan.path, asked.agent)
-      (plan.root, asked.root)
-      (plan.after, asked.after) (plan.path, asked.agent, f)
+module _ (bulk : Bool) (words : WalkWords) (files : Holdings) (mib : Mib) (known : IsMibOf (MayHold files) words.asking mib) where
+  pub names_refused : (orders : Orders) → AreOrdersOf bulk words orders → (why : Fault) → NamesFail words mib why → IsRefusal bulk words files why
+  names_refused orders are why (inl f) =
+      at_root bulk words files why are.version (orders.letters, are.letters) (chosen orders.choices, are.chosen) are.short_community
+      (address_of orders.agent, are.agent) (mib, known, f)
+  names_refused orders are why (inr f) =
+      at_after bulk words files why are.version (orders.letters, are.letters) (chosen orders.choices, are.chosen) are.short_community
+      (address_of orders.agent, are.agent) (f.0, record { mib = mib; known = known; means = f.1 }) (mib, f.2.0, known, f.2.1, f.2.2)
 
-  module _ (text : List ℕ) (view : MibView) (held : HoldsIfKnown (files plan.path) (Some text)) (table : IsTableOf (lines text) view) where
-    pub start_refused : (why : Fault) → StartFails plan (root_text words) (unwrap_or words.after []) why → IsRefusal bulk words files why
-    start_refused why (inl f) =
-        at_root_sent bulk words files why asked.version asked.letters (asked.choices, asked.chosen) asked.short_community (plan.path, asked.agent)
-        (plan.root, asked.root)
-        (plan.after, asked.after) (plan.path, text, view, asked.agent, held, table)
-        ((λ o name wire_o. f.0 (subst (λ (x : List ℕ). IsWire (wire x)) (one_name (root_text words) o plan.root name asked.root.name) wire_o)), f.1)
-    start_refused why (inr f) = resumed (f.1.2)
-      where
-        after : List ℕ
-        after = f.1.0
+  module _ (plan : Plan) (asked : AskFor bulk words mib plan) (only : HasAgent words.asking.agent plan.agent) where
+    is_root : IsRootOf words files plan.root
+    is_root = record { mib = mib; known = known; means = asked.root }
 
-        given : (words.after ≡ Some (unwrap_or words.after [])) × IsShortName (unwrap_or words.after []) f.1.0
-        given = given_after words.after plan.after f.1.0 asked.after f.1.1
+    pub reach_refused : (why : Fault) → ReachFails files plan.agent words.asking.agent why → IsRefusal bulk words files why
+    reach_refused why f =
+        at_reach bulk words files why asked.version (plan.letters, asked.letters) (asked.choices, asked.chosen) asked.short_community
+        (plan.agent, only) (plan.root, is_root) (mib, plan.after, known, asked.after) (plan.agent, only, f)
 
-        resumed : ResumeFails plan.root f.1.0 (unwrap_or words.after []) why → IsRefusal bulk words files why
-        resumed (inl g) =
-            at_after_below bulk words files why asked.version asked.letters (asked.choices, asked.chosen) asked.short_community (plan.path, asked.agent)
-            (plan.root, asked.root)
-            (plan.after, asked.after) (plan.path, text, view, asked.agent, held, table) (plan.root, asked.root, f.0) (
-              unwrap_or words.after [],
-              given.0,
-              (λ o p name_o name_p below. g.0 (subst (λ (x : List ℕ). (x ≡ plan.root)
-                  ⊎ IsBelow x plan.root) (one_name (unwrap_or words.after []) p f.1.0 name_p given.1.name)
-                  (subst (λ (x : List ℕ). (p ≡ x) ⊎ IsBelow p x) (one_name (root_text words) o plan.root name_o asked.root.name) below))),
-              g.1,
-            )
-        resumed (inr g) =
-            at_after_sent bulk words files why asked.version asked.letters (asked.choices, asked.chosen) asked.short_community (plan.path, asked.agent)
-            (plan.root, asked.root)
-            (plan.after, asked.after) (plan.path, text, view, asked.agent, held, table) (plan.root, asked.root, f.0)
-            (plan.root, unwrap_or words.after [], f.1.0, asked.root, given.0, given.1, g.0) (
-              unwrap_or words.after [],
-              given.0,
-              (λ p name wire_p. g.1 (subst (λ (x : List ℕ). IsWire (wire x)) (one_name (unwrap_or words.after []) p f.1.0 name given.1.name) wire_p)),
-              g.2,
-            )
+    module _ (reached : IsReached files plan.agent) where
+      pub start_refused : (why : Fault) → StartFails plan (root_text words) (unwrap_or words.after []) why → IsRefusal bulk words files why
+      start_refused why (inl f) =
+          at_root_sent bulk words files why asked.version (plan.letters, asked.letters) (asked.choices, asked.chosen) asked.short_community
+          (plan.agent, only) (plan.root, is_root) (mib, plan.after, known, asked.after) (plan.agent, only, reached)
+          (plan.root, is_root, f.0, f.1)
+      start_refused why (inr f) = resumed (f.1.2)
+        where
+          after : List ℕ
+          after = f.1.0
+
+          text : List ℕ
+          text = unwrap_or words.after []
+
+          is_after : IsAfterOf words files text after
+          is_after =
+              let given = given_after mib words.after plan.after f.1.0 asked.after f.1.1 in
+              record { mib = mib; known = known; given = given.0; means = given.1 }
+
+          resumed : ResumeFails plan.root f.1.0 text why → IsRefusal bulk words files why
+          resumed (inl g) =
+              at_after_below bulk words files why asked.version (plan.letters, asked.letters) (asked.choices, asked.chosen) asked.short_community
+              (plan.agent, only) (plan.root, is_root) (mib, plan.after, known, asked.after) (plan.agent, only, reached)
+              (plan.root, is_root, f.0) (plan.root, text, after, is_root, is_after, g.0, g.1)
+          resumed (inr g) =
+              at_after_sent bulk words files why asked.version (plan.letters, asked.letters) (asked.choices, asked.chosen) asked.short_community
+              (plan.agent, only) (plan.root, is_root) (mib, plan.after, known, asked.after) (plan.agent, only, reached)
+              (plan.root, is_root, f.0) (plan.root, text, after, is_root, is_after, g.0) (text, after, is_after, g.1, g.2)

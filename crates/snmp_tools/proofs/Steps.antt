@@ -1,15 +1,32 @@
 -- The first step that fails, after those that are done.
-use Rattle.std.proofs.Common.{◌≡◌, ◌⊎◌, inl, inr, ℕ, Bool, List, [], ◌∷◌, Bor, Option, Some, None, option_map, unwrap_or, drop, take, refl, ap, codes}
+use Rattle.std.proofs.Common.{◌≡◌, inl, inr, ℕ, Bool, List, [], ◌∷◌, Bor, Option, Some, None, option_map, unwrap_or, refl, ap}
 use Rattle.snmp_words.specs.Words.{WalkWords}
+use Rattle.snmp_tools.specs.Asking.{agent_step, community_step, letters_step, version_step}
 use Rattle.snmp_tools.specs.Message.{Fault}
-use Rattle.snmp_tools.specs.Plan.{AreDoneBy, FailsBy, Holdings, IsDoneBy, IsRefusal, Step, walk_steps}
-use Rattle.snmp_tools.specs.Plan.{version_step, letters_step, choices_step, community_step, agent_step, root_step, after_step, table_step, root_sent_step}
+use Rattle.snmp_tools.specs.Mib.{Holdings}
+use Rattle.snmp_tools.specs.Plan.{FailsBy, IsDoneBy, IsRefusal, Step, asking, choices_step, root_step, after_step, reach_step, root_sent_step}
 use Rattle.snmp_tools.specs.Plan.{after_below_step, after_sent_step}
+use Rattle.snmp_tools.specs.Planned.{AgentFails, ShowingFails}
+use Rattle.snmp_tools.specs.Steps.{IsFirstToFail}
 
 -- the text of a reference that may be there, or another's
 pub text_or : (o : Option (Bor (List ℕ))) (d : Bor (List ℕ)) → (unwrap_or o d).now ≡ unwrap_or (option_map (λ s. s.now) o) d.now
 text_or None d = refl
 text_or (Some s) d = refl
+
+module _ {S : Type 0} (IsDone : S → Type 0) (Fails : S → Fault → Type 0) (why : Fault) where
+  pub first : (step : S) (left : List S) → Fails step why → IsFirstToFail (step ∷ left) IsDone Fails why
+  first step left f = record { done = []; failed = step; left = left; order = refl; are_done = tt; fails = f }
+
+  pub later : (step : S) (steps : List S) → IsDone step → IsFirstToFail steps IsDone Fails why → IsFirstToFail (step ∷ steps) IsDone Fails why
+  later step steps d h = record {
+    done = step ∷ h.done;
+    failed = h.failed;
+    left = h.left;
+    order = ap (λ (more : List S). step ∷ more) h.order;
+    are_done = (d, h.are_done);
+    fails = h.fails;
+  }
 
 module _ (bulk : Bool) (words : WalkWords) (files : Holdings) (why : Fault) where
   abbrev Done : Step → Type 0
@@ -18,176 +35,64 @@ module _ (bulk : Bool) (words : WalkWords) (files : Holdings) (why : Fault) wher
   abbrev Fails : Step → Type 0
   Fails step = FailsBy bulk words files step why
 
-  abbrev Refused : Type 0
-  Refused = IsRefusal bulk words files why
+  abbrev Refused : List Step → Type 0
+  Refused steps = IsFirstToFail steps (IsDoneBy bulk words files) (FailsBy bulk words files) why
 
-  pub at_version : Fails version_step → Refused
-  at_version f = inr (record { done = []; failed = version_step; left = drop 1 walk_steps; order = refl; are_done = tt; fails = f })
+  fails : (step : Step) (left : List Step) → Fails step → Refused (step ∷ left)
+  fails step left f = first (IsDoneBy bulk words files) (FailsBy bulk words files) why step left f
 
-  pub at_letters : Done version_step → Fails letters_step → Refused
-  at_letters v f = inr (record { done = take 1 walk_steps; failed = letters_step; left = drop 2 walk_steps; order = refl; are_done = (v, tt); fails = f })
+  goes_on : (step : Step) (steps : List Step) → Done step → Refused steps → Refused (step ∷ steps)
+  goes_on step steps d h = later (IsDoneBy bulk words files) (FailsBy bulk words files) why step steps d h
 
-  pub at_choices : Done version_step → Done letters_step → Fails choices_step → Refused
-  at_choices v l f = inr (record {
-    done = take 2 walk_steps;
-    failed = choices_step;
-    left = drop 3 walk_steps;
-    order = refl;
-    are_done = (
-      v,
-      (l, tt),
-    );
-    fails = f;
-  })
+  abbrev sent_steps : List Step
+  sent_steps = root_sent_step ∷ after_below_step ∷ after_sent_step ∷ []
 
-  pub at_community : Done version_step → Done letters_step → Done choices_step → Fails community_step → Refused
-  at_community v l c f = inr (record {
-    done = take 3 walk_steps;
-    failed = community_step;
-    left = drop 4 walk_steps;
-    order = refl;
-    are_done = (
-      v,
-      (
-        l,
-        (c, tt),
-      ),
-    );
-    fails = f;
-  })
+  abbrev name_steps : List Step
+  name_steps = root_step ∷ after_step ∷ reach_step ∷ sent_steps
 
-  pub at_agent : Done version_step → Done letters_step → Done choices_step → Done community_step → Fails agent_step → Refused
-  at_agent v l c s f = inr (record {
-    done = take 4 walk_steps;
-    failed = agent_step;
-    left = drop 5 walk_steps;
-    order = refl;
-    are_done = (
-      v,
-      (
-        l,
-        (
-          c,
-          (s, tt),
-        ),
-      ),
-    );
-    fails = f;
-  })
+  -- before any name is looked up
+  pub at_showing : ShowingFails words.asking why → IsRefusal bulk words files why
+  at_showing (inl f) = inr (fails (asking version_step) _ f)
+  at_showing (inr f) = inr (goes_on (asking version_step) _ f.0 (fails (asking letters_step) _ f.1))
 
-  pub at_root : Done version_step → Done letters_step → Done choices_step → Done community_step → Done agent_step → Fails root_step → Refused
-  at_root v l c s a f =
-      inr (record { done = take 5 walk_steps; failed = root_step; left = drop 6 walk_steps; order = refl; are_done = (v, (l, (c, (s, (a, tt))))); fails = f })
+  module _ (v : Done (asking version_step)) (l : Done (asking letters_step)) where
+    shown : Refused (choices_step ∷ asking community_step ∷ asking agent_step ∷ name_steps) → IsRefusal bulk words files why
+    shown h = inr (goes_on (asking version_step) _ v (goes_on (asking letters_step) _ l h))
 
-  pub at_after : Done version_step → Done letters_step → Done choices_step → Done community_step → Done agent_step → Done root_step → Fails after_step → Refused
-  at_after v l c s a r f =
-      inr (record {
-        done = take 6 walk_steps;
-        failed = after_step;
-        left = drop 7 walk_steps;
-        order = refl;
-        are_done = (
-          v,
-          (
-            l,
-            (
-              c,
-              (
-                s,
-                (
-                  a,
-                  (r, tt),
-                ),
-              ),
-            ),
-          ),
-        );
-        fails = f;
-      })
+    pub at_choices : Fails choices_step → IsRefusal bulk words files why
+    at_choices f = shown (fails choices_step _ f)
 
-  pub at_table : Done version_step → Done letters_step → Done choices_step → Done community_step → Done agent_step → Done root_step → Done after_step
-      → Fails table_step → Refused
-  at_table v l c s a r p f =
-      inr (record {
-        done = take 7 walk_steps;
-        failed = table_step;
-        left = drop 8 walk_steps;
-        order = refl;
-        are_done = (
-          v,
-          (
-            l,
-            (
-              c,
-              (
-                s,
-                (
-                  a,
-                  (
-                    r,
-                    (p, tt),
-                  ),
-                ),
-              ),
-            ),
-          ),
-        );
-        fails = f;
-      })
+    module _ (c : Done choices_step) where
+      pub at_agent : AgentFails words.asking why → IsRefusal bulk words files why
+      at_agent (inl f) = shown (goes_on choices_step _ c (fails (asking community_step) _ f))
+      at_agent (inr f) = shown (goes_on choices_step _ c (goes_on (asking community_step) _ f.0 (fails (asking agent_step) _ f.1)))
 
-  pub at_root_sent : Done version_step → Done letters_step → Done choices_step → Done community_step → Done agent_step → Done root_step → Done after_step
-      → Done table_step → Fails root_sent_step → Refused
-  at_root_sent v l c s a r p t f =
-      inr (record {
-        done = take 8 walk_steps;
-        failed = root_sent_step;
-        left = drop 9 walk_steps;
-        order = refl;
-        are_done = (
-          v,
-          (
-            l,
-            (
-              c,
-              (
-                s,
-                (
-                  a,
-                  (
-                    r,
-                    (
-                      p,
-                      (t, tt),
-                    ),
-                  ),
-                ),
-              ),
-            ),
-          ),
-        );
-        fails = f;
-      })
+      module _ (s : Done (asking community_step)) (a : Done (asking agent_step)) where
+        reached : Refused name_steps → IsRefusal bulk words files why
+        reached h = shown (goes_on choices_step _ c (goes_on (asking community_step) _ s (goes_on (asking agent_step) _ a h)))
 
-  pub at_after_below : Done version_step → Done letters_step → Done choices_step → Done community_step → Done agent_step → Done root_step → Done after_step
-      → Done table_step → Done root_sent_step → Fails after_below_step → Refused
-  at_after_below v l c s a r p t o f =
-      inr (record {
-        done = take 9 walk_steps;
-        failed = after_below_step;
-        left = drop 10 walk_steps;
-        order = refl;
-        are_done = (v, (l, (c, (s, (a, (r, (p, (t, (o, tt)))))))));
-        fails = f;
-      })
+        pub at_root : Fails root_step → IsRefusal bulk words files why
+        at_root f = reached (fails root_step _ f)
 
-  pub at_after_sent : Done version_step → Done letters_step → Done choices_step → Done community_step → Done agent_step → Done root_step → Done after_step
-      → Done table_step → Done root_sent_step → Done after_below_step → Fails after_sent_step → Refused
-  at_after_sent v l c s a r p t o b f =
-      inr (record {
-        done = take 10 walk_steps;
-        failed = after_sent_step;
-        left = drop 11 walk_steps;
-        order = refl;
-        are_done = (v, (l, (c, (s, (a, (r, (p, (t, (o, (b, tt))))))))));
-        fails = f;
-      })
+        module _ (r : Done root_step) where
+          pub at_after : Fails after_step → IsRefusal bulk words files why
+          at_after f = reached (goes_on root_step _ r (fails after_step _ f))
+
+          module _ (p : Done after_step) where
+            named : Refused (reach_step ∷ sent_steps) → IsRefusal bulk words files why
+            named h = reached (goes_on root_step _ r (goes_on after_step _ p h))
+
+            pub at_reach : Fails reach_step → IsRefusal bulk words files why
+            at_reach f = named (fails reach_step _ f)
+
+            module _ (t : Done reach_step) where
+              pub at_root_sent : Fails root_sent_step → IsRefusal bulk words files why
+              at_root_sent f = named (goes_on reach_step _ t (fails root_sent_step _ f))
+
+              module _ (o : Done root_sent_step) where
+                pub at_after_below : Fails after_below_step → IsRefusal bulk words files why
+                at_after_below f = named (goes_on reach_step _ t (goes_on root_sent_step _ o (fails after_below_step _ f)))
+
+                pub at_after_sent : Done after_below_step → Fails after_sent_step → IsRefusal bulk words files why
+                at_after_sent b f =
+                    named (goes_on reach_step _ t (goes_on root_sent_step _ o (goes_on after_below_step _ b (fails after_sent_step _ f))))

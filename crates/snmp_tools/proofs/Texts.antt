@@ -1,7 +1,18 @@
--- Texts that are written piece by piece.
-use Rattle.std.proofs.Common.{◌≡◌, ◌∙◌, ◌++◌, ℕ, List, ap, sym, append_assoc}
+-- Texts that are appended one after the other.
+use Rattle.std.proofs.Common.{ℕ, List, ◌++◌, subst, sym, append_assoc}
+use Rattle.text_draft.specs.Draft.{Written, Grows, Adds}
 
--- two pieces of a whole, one after the other
-pub joined : (old first second whole now new : List ℕ) → now ≡ old ++ first → new ≡ now ++ second → whole ≡ first ++ second → new ≡ old ++ whole
-joined old first second whole now new e f g =
-    f ∙ ap (λ (s : List ℕ). s ++ second) e ∙ append_assoc old first second ∙ ap (λ (s : List ℕ). old ++ s) (sym g)
+pub adds_both : (old middle new : Written) (a b : List ℕ) → Adds old a middle → Adds middle b new → Adds old (a ++ b) new
+adds_both old middle new a b one two = record {
+  grows = two.goes_on old a one.grows;
+  goes_on = λ first text so_far. (
+      let P : List ℕ → Type 0 = λ t. Grows first t new in
+      subst P (append_assoc text a b) (two.goes_on first (text ++ a) (one.goes_on first text so_far))
+      );
+}
+
+-- a text, and then one of two pieces
+pub adds_after : (old middle new : Written) (a b c : List ℕ) → Adds old a middle → Adds middle (b ++ c) new → Adds old (a ++ b ++ c) new
+adds_after old middle new a b c one two =
+    let P : List ℕ → Type 0 = λ t. Adds old t new in
+    subst P (sym (append_assoc a b c)) (adds_both old middle new a (b ++ c) one two)

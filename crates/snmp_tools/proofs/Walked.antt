@@ -1,6 +1,6 @@
 -- What the facts of a walk over a table in memory are to the job that began it.
-use Rattle.std.proofs.Common.{◌≡◌, ◌⊎◌, inl, inr, ◌++◌, ℕ, List, [], ◌∷◌, length, Option, Some, None, refl, sym, ◌∙◌, ap, subst}
-use Rattle.snmp_oid.specs.Identifier.{wire}
+use Rattle.std.proofs.Common.{◌≡◌, ℕ, List, [], length, Option, Some, None, refl, sym, ◌∙◌, ap, subst}
+use Rattle.smi_letters.specs.declared.letters.Letters.{Letters}
 use Rattle.snmp_wire.specs.Message.{VarBind}
 use Rattle.snmp_table.specs.Exact.{HasOne}
 use Rattle.snmp_table.specs.Listing.{variables}
@@ -14,6 +14,7 @@ use Rattle.snmp_walk.specs.Facts.{WalkFacts, IsLawfulEnd, HasNone, IsDone, IsDon
 use Rattle.snmp_tools.specs.Lines.{IsPrintedUpTo}
 use Rattle.snmp_io.specs.Output.{Stream}
 use Rattle.snmp_tools.specs.Outcome.{AreRowsAfter, AreRowsOf, Counts, IsOwnEnd, IsWalked, agent_over, end_in_memory, first_after, first_of}
+use Rattle.snmp_tools.specs.Mib.{Mib}
 use Rattle.snmp_tools.specs.Plan.{Plan}
 use Rattle.snmp_tools.specs.Start.{IsStartOf, rows_after}
 
@@ -44,18 +45,18 @@ lawful_in plan view core rows ending.TooManyRequests h = h
 lawful_in plan view core rows ending.RequestTooLong h = h
 lawful_in plan view core rows ending.NoResponse h = h
 
-pub printed_in : (before after : Stream) (rows refused : List VarBind) (end : WalkEnd) → IsPrintedUpTo before rows refused end after
-    → IsPrintedUpTo before rows refused (end_in_memory end) after
-printed_in before after rows refused (ending.Done n) h = h
-printed_in before after rows refused (ending.Sink fault) h = h
-printed_in before after rows refused ending.Link h = h
-printed_in before after rows refused (ending.Fault status index) h = h
-printed_in before after rows refused (ending.NoProgress asked) h = h
-printed_in before after rows refused ending.BadReply h = h
-printed_in before after rows refused (ending.NotIncreasing last got) h = h
-printed_in before after rows refused ending.TooManyRequests h = h
-printed_in before after rows refused ending.RequestTooLong h = h
-printed_in before after rows refused ending.NoResponse h = h
+pub printed_in : (mib : Mib) (letters : Letters) (before after : Stream) (rows refused : List VarBind) (end : WalkEnd)
+    → IsPrintedUpTo mib letters before rows refused end after → IsPrintedUpTo mib letters before rows refused (end_in_memory end) after
+printed_in mib letters before after rows refused (ending.Done n) h = h
+printed_in mib letters before after rows refused (ending.Sink fault) h = h
+printed_in mib letters before after rows refused ending.Link h = h
+printed_in mib letters before after rows refused (ending.Fault status index) h = h
+printed_in mib letters before after rows refused (ending.NoProgress asked) h = h
+printed_in mib letters before after rows refused ending.BadReply h = h
+printed_in mib letters before after rows refused (ending.NotIncreasing last got) h = h
+printed_in mib letters before after rows refused ending.TooManyRequests h = h
+printed_in mib letters before after rows refused ending.RequestTooLong h = h
+printed_in mib letters before after rows refused ending.NoResponse h = h
 
 done_in : (end : WalkEnd) → IsDone (end_in_memory end) → IsDone end
 done_in (ending.Done n) h = h

@@ -1,8 +1,9 @@
 -- What a walk over a table file promises, on one page.
 --
--- `IsWalk` says which walk the words ask for: `AskFor` (Plan) reads the words, `IsTableOf`
--- (snmp_table) the file, and `AreRowsOf` (Outcome) has the rows, by `walk_of` and `rest_of`
--- (snmp_walk). `text_of` is their lines, by `lines_of` (snmp_lines), and the count line.
+-- `IsWalk` says which walk the words ask for: `AskFor` (Plan) reads the words, by the names that
+-- `IsMibOf` (Mib) knows, `IsTableOf` (snmp_table) reads the file, and `AreRowsOf` (Outcome) has the
+-- rows, by `walk_of` and `rest_of` (snmp_walk). `AreLines` (Lines) are their lines, by `IsLine`
+-- (smi_show), and `count_text` is the count line.
 use Rattle.std.specs.Prelude.{◌≡◌, ◌⊎◌, ◌++◌, ℕ, Bool, List, length, Option, Some, None, codes}
 use Rattle.std.specs.Str.Lines.{lines}
 use Rattle.snmp_oid.specs.Identifier.{IsBelow, IsWire, wire}
@@ -10,41 +11,50 @@ use Rattle.snmp_table.specs.Stated.{IsTableOf}
 use Rattle.snmp_table.specs.Table.{MibView}
 use Rattle.snmp_wire.specs.Message.{VarBind}
 use Rattle.snmp_walk.specs.Room.{HasIds, HasRoomForEach}
-use Rattle.snmp_lines.specs.Line.{lines_of}
 use Rattle.snmp_io.specs.Count.{HasRisen}
 use Rattle.snmp_io.specs.Output.{IsWritten, Stream, TakesFront, extended}
+use Rattle.snmp_net.specs.Address.{table}
 use Rattle.snmp_words.specs.Words.{WalkWords}
-use Rattle.snmp_tools.specs.Lines.{count_text}
+use Rattle.snmp_tools.specs.Lines.{AreLines, count_text}
+use Rattle.snmp_tools.specs.Mib.{Holdings, Holds, IsMibOf, Mib}
 use Rattle.snmp_tools.specs.Outcome.{AreRowsOf, agent_over, first_of}
-use Rattle.snmp_tools.specs.Plan.{AskFor, Holdings, Plan}
+use Rattle.snmp_tools.specs.Plan.{AskFor, Plan}
 
 -- the words of snmpwalk, or of snmpbulkwalk, ask for a walk over the table of a file, and these are
 -- its rows
 pub record IsWalk (bulk : Bool) (words : WalkWords) (files : Holdings) (rows : List VarBind) :
     Type 0 where
+  pub mib : Mib
+  pub known : IsMibOf (Holds files) words.asking mib
   pub plan : Plan
-  pub asked : AskFor bulk words plan
+  pub asked : AskFor bulk words mib plan
+  pub path : List ℕ
+  pub over : plan.agent ≡ table path
   pub text : List ℕ
-  pub held : files plan.path ≡ Some (Some text)
+  pub held : Holds files path text
   pub view : MibView
   pub table : IsTableOf (lines text) view
   pub are_rows : AreRowsOf plan view rows
 
 -- the lines of the rows, and with -Cp their number
-abbrev pub text_of : Plan → List VarBind → List ℕ
-text_of plan rows = lines_of rows ++ count_text plan.counts (length rows)
+abbrev pub IsWhole : Mib → Plan → (rows : List VarBind) → List ℕ → Type 0
+IsWhole mib plan rows text = (shown : List ℕ) × AreLines mib plan.letters rows shown
+    × (text ≡ shown ++ count_text plan.counts (length rows))
 
--- Whatever fails, a front of the walk's text is written, and nothing else.
+-- Whatever fails, a front of the lines of the first rows is written, or of the whole text, and
+-- nothing else.
 abbrev pub WritesFront : Bool → WalkWords → Holdings → (before after : Stream) → Type 0
 WritesFront bulk words files before after =
     (rows : List VarBind) (walk : IsWalk bulk words files rows)
-    → TakesFront before (text_of walk.plan rows) after
+    → (first : List VarBind) × (rest : List VarBind) × (text : List ℕ) × (rows ≡ first ++ rest)
+    × (AreLines walk.mib walk.plan.letters first text ⊎ IsWhole walk.mib walk.plan rows text)
+    × TakesFront before text after
 
 -- At status 0 the whole text is.
 abbrev pub WritesAllAtStatus0 : Bool → WalkWords → Holdings → (before after : Stream) → ℕ → Type 0
 WritesAllAtStatus0 bulk words files before after status =
     (rows : List VarBind) (walk : IsWalk bulk words files rows) → status ≡ 0
-    → after ≡ extended before (text_of walk.plan rows)
+    → (text : List ℕ) × IsWhole walk.mib walk.plan rows text × (after ≡ extended before text)
 
 -- the name to go on after is the root or below it, and can be sent
 abbrev pub CanGoOn : List ℕ → Option (List ℕ) → Type 0

@@ -1,19 +1,11 @@
--- What the letters of -O and -C choose.
-use Rattle.std.specs.Prelude.{ℕ, Bool, true, false, not, ◌&&◌, ◌==◌, nat_le, if◌then◌else◌, find}
+-- What the letters of -C choose.
+use Rattle.std.specs.Prelude.{ℕ, Bool, true, false, not, ◌&&◌, ◌==◌, nat_le, if◌then◌else◌}
 use Rattle.std.specs.Prelude.{List, [], ◌∷◌, Option, Some, None, Result, Ok, Err, pos}
 use Rattle.std.specs.Str.Parse.{digits_value}
 use Rattle.snmp_walk.specs.declared.mode.Method.{Method}
 use Rattle.snmp_walk.specs.declared.mode.Method.TheVariants as method
 use Rattle.snmp_walk.specs.declared.mode.Mode.{Mode}
 use Rattle.snmp_walk.specs.declared.mode.Mode.TheVariants as mode
-
--- ---- -O
-
--- the first letter of -O that isn't `n`, which stands for names in numbers
-abbrev pub other_letter : List ℕ → Option ℕ
-other_letter letters = find (λ letter. not (letter == 110)) letters
-
--- ---- -C
 
 abbrev pub is_digit : ℕ → Bool
 is_digit octet = nat_le 48 octet && nat_le octet 57

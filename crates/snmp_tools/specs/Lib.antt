@@ -1,10 +1,14 @@
+pub mod Asking
 pub mod Chosen
 pub mod Headline
 pub mod Letters
 pub mod Lines
 pub mod Message
+pub mod Mib
 pub mod Outcome
 pub mod Plan
 pub mod Planned
+pub mod Serving
 pub mod Start
+pub mod Steps
 pub mod Usage

@@ -1,13 +1,27 @@
--- What a walk writes on an output.
-use Rattle.std.specs.Prelude.{◌≡◌, ◌++◌, ℕ, Bool, List, [], Result, Ok, Err, codes, decimal}
+-- What a walk or a Get writes on an output.
+use Rattle.std.specs.Prelude.{◌≡◌, ◌++◌, ℕ, Bool, List, [], ◌∷◌, Result, Ok, Err, codes, decimal}
 use Rattle.std.specs.Prelude.{if◌then◌else◌}
+use Rattle.smi_letters.specs.declared.letters.Letters.{Letters}
+use Rattle.smi_show.specs.Line.{IsLine}
 use Rattle.snmp_wire.specs.Message.{VarBind}
 use Rattle.snmp_walk.specs.declared.end.SinkFault.{SinkFault}
 use Rattle.snmp_walk.specs.declared.end.SinkFault.TheVariants as fault
 use Rattle.snmp_walk.specs.declared.end.WalkEnd.{WalkEnd}
 use Rattle.snmp_walk.specs.declared.end.WalkEnd.TheVariants as ending
-use Rattle.snmp_lines.specs.Line.{line_of, lines_of}
 use Rattle.snmp_io.specs.Output.{FailsWithin, Stream, extended}
+use Rattle.snmp_tools.specs.Mib.{Mib}
+
+-- the line of a binding, by the letters of -O
+abbrev pub IsLineOf : Mib → Letters → VarBind → List ℕ → Type 0
+IsLineOf mib letters binding line =
+    IsLine mib.naming letters (mib.syntax_at binding.name) binding.name binding.value line
+
+-- the lines of bindings, one after the other
+abbrev pub AreLines : Mib → Letters → List VarBind → List ℕ → Type 0
+AreLines mib letters [] text = text ≡ []
+AreLines mib letters (binding ∷ more) text =
+    (line : List ℕ) × (rest : List ℕ) × IsLineOf mib letters binding line
+    × AreLines mib letters more rest × (text ≡ line ++ rest)
 
 -- What the output took of a text: the whole, a front where the output failed, and nothing where
 -- memory for the text ran out.
@@ -16,16 +30,30 @@ TakesText before text (Ok _) after = after ≡ extended before text
 TakesText before text (Err fault.Output) after = FailsWithin before text after
 TakesText before text (Err fault.Memory) after = after ≡ before
 
--- what it took of the line of a binding
-abbrev pub TakesLine : Stream → VarBind → Result (Unit {0}) SinkFault → Stream → Type 0
-TakesLine before binding result after = TakesText before (line_of binding) result after
+-- what it took of the line of a binding; where memory for the line ran out, nothing
+abbrev pub TakesLine : Mib → Letters → Stream → VarBind → Result (Unit {0}) SinkFault → Stream
+    → Type 0
+TakesLine mib letters before binding (Err fault.Memory) after = after ≡ before
+TakesLine mib letters before binding result after =
+    (line : List ℕ) × IsLineOf mib letters binding line × TakesText before line result after
 
 -- The lines of the rows were written, whole, and where the output ended the walk a front of the
 -- line of the row that it refused.
-abbrev pub IsPrintedUpTo : Stream → (rows refused : List VarBind) → WalkEnd → Stream → Type 0
-IsPrintedUpTo before rows refused (ending.Sink fault.Output) after =
-    FailsWithin (extended before (lines_of rows)) (lines_of refused) after
-IsPrintedUpTo before rows refused _ after = after ≡ extended before (lines_of rows)
+abbrev pub IsPrintedUpTo : Mib → Letters → Stream → (rows refused : List VarBind) → WalkEnd
+    → Stream → Type 0
+IsPrintedUpTo mib letters before rows refused (ending.Sink fault.Output) after =
+    (text : List ℕ) × (line : List ℕ) × AreLines mib letters rows text
+    × AreLines mib letters refused line × FailsWithin (extended before text) line after
+IsPrintedUpTo mib letters before rows refused _ after =
+    (text : List ℕ) × AreLines mib letters rows text × (after ≡ extended before text)
+
+-- rows of which these facts hold were given, and their lines printed, until it ended in this way
+pub record ArePrinted (mib : Mib) (letters : Letters) (before after : Stream) (end : WalkEnd)
+    (Facts : (rows refused : List VarBind) → Type 0) : Type 0 where
+  pub rows : List VarBind
+  pub refused : List VarBind
+  pub lines : IsPrintedUpTo mib letters before rows refused end after
+  pub facts : Facts rows refused
 
 -- the line of -Cp
 abbrev pub count_line : ℕ → List ℕ

@@ -3,6 +3,8 @@ use Rattle.std.specs.Prelude.{ℕ, ℤ, pos, negsuc, List, [], ◌∷◌, ◌++�
 use Rattle.std.specs.Prelude.{slice_index_or}
 use Rattle.std.specs.Fmt.{signed_decimal}
 use Rattle.snmp_oid.specs.Numeric.{numeric_text}
+use Rattle.smi_name.specs.declared.error.NameError.{NameError}
+use Rattle.smi_name.specs.declared.error.NameError.TheVariants as name
 use Rattle.snmp_table.specs.declared.error.TableError.{TableError}
 use Rattle.snmp_table.specs.declared.error.TableError.TheVariants as table
 use Rattle.snmp_walk.specs.declared.end.WalkEnd.{WalkEnd}
@@ -18,8 +20,7 @@ pub data Fault : Type 0 where
   bad_letter : ℕ → Fault
   long_community : Fault
   bad_agent : List ℕ → Fault
-  bad_number : List ℕ → Fault
-  long_name : List ℕ → Fault
+  bad_name : NameError → List ℕ → Fault
   unreadable : List ℕ → Fault
   bad_table : List ℕ → TableError → Fault
   unsendable : List ℕ → Fault
@@ -33,8 +34,7 @@ fault_of (failure.Version word) = bad_version word.now
 fault_of (failure.Letter letter) = bad_letter letter
 fault_of failure.Community = long_community
 fault_of (failure.Agent word) = bad_agent word.now
-fault_of (failure.BadNumber text) = bad_number text.now
-fault_of (failure.NameTooLong text) = long_name text.now
+fault_of (failure.Name text error) = bad_name error text.now
 fault_of (failure.Unreadable path) = unreadable path.now
 fault_of (failure.Table path error) = bad_table path.now error
 fault_of (failure.NotWire text) = unsendable text.now
@@ -59,6 +59,13 @@ status_names =
 abbrev pub status_name : ℤ → List ℕ
 status_name (pos n) = slice_index_or status_names n (codes "unknown")
 status_name (negsuc n) = codes "unknown"
+
+-- what is wrong with the text of a name
+abbrev pub name_fault : NameError → List ℕ
+name_fault name.Unknown = codes "Unknown name: "
+name_fault name.BadIndex = codes "Bad index: "
+name_fault name.BadNumber = codes "Bad number: "
+name_fault name.TooLong = codes "Name too long: "
 
 -- a fault of the table file at a path
 abbrev pub table_message : List ℕ → TableError → List ℕ
@@ -97,8 +104,7 @@ message_of (bad_version word) = codes "Unknown version: " ++ word
 message_of (bad_letter letter) = codes "Unknown letter: " ++ letter ∷ []
 message_of long_community = codes "Community too long."
 message_of (bad_agent word) = codes "Bad agent address: " ++ word
-message_of (bad_number text) = codes "Bad number: " ++ text
-message_of (long_name text) = codes "Name too long: " ++ text
+message_of (bad_name error text) = name_fault error ++ text
 message_of (unreadable path) = path ++ codes ": cannot be read"
 message_of (bad_table path error) = table_message path error
 message_of (unsendable text) = codes "Name cannot be sent: " ++ text

@@ -1,27 +1,29 @@
 -- What a job that walks writes, and what it reports.
-use Rattle.std.specs.Prelude.{◌≡◌, ◌≢◌, ◌⊎◌, ◌++◌, ℕ, Bool, List, [], ◌∷◌, length, codes}
+use Rattle.std.specs.Prelude.{◌≡◌, ◌≢◌, ◌⊎◌, ◌+◌, ◌++◌, ℕ, Bool, List, [], ◌∷◌, length, codes}
 use Rattle.std.specs.Prelude.{Option, Some, None}
-use Rattle.std.specs.Str.Lines.{lines}
-use Rattle.snmp_oid.specs.Identifier.{IsWire, wire}
+use Rattle.snmp_oid.specs.Identifier.{wire}
 use Rattle.snmp_table.specs.Listing.{variables}
-use Rattle.snmp_table.specs.Stated.{IsTableOf}
 use Rattle.snmp_table.specs.Table.{IsGet, MibView}
 use Rattle.snmp_wire.specs.Message.{VarBind}
-use Rattle.snmp_walk.specs.Facts.{HasNone, IsDone, IsLawfulEnd}
+use Rattle.snmp_walk.specs.Facts.{HasNone, IsDone, IsLawfulEnd, WalkFacts}
+use Rattle.snmp_walk.specs.Traffic.{Traffic}
+use Rattle.snmp_walk.specs.Standing.{CountsAll, IsPartOfWalk, Named, Rises}
 use Rattle.snmp_walk.specs.Link.{Agents}
 use Rattle.snmp_walk.specs.Request.{resumed, started}
 use Rattle.snmp_walk.specs.Room.{HasIds, HasRoomForEach}
-use Rattle.snmp_walk.specs.Walk.{rest_of, walk_of}
+use Rattle.snmp_walk.specs.Walk.{AreRising, rest_of, walk_of}
 use Rattle.snmp_walk.specs.Walker.{Walker}
 use Rattle.snmp_walk.specs.declared.end.SinkFault.TheVariants as sink
 use Rattle.snmp_walk.specs.declared.end.WalkEnd.{WalkEnd}
 use Rattle.snmp_walk.specs.declared.end.WalkEnd.TheVariants as ending
-use Rattle.snmp_io.specs.Files.{HoldsIfKnown}
 use Rattle.snmp_io.specs.Output.{FailsWithin, IsWritten, Stream, extended}
 use Rattle.snmp_words.specs.Words.{WalkWords}
 use Rattle.snmp_tools.specs.Lines.{IsPrintedUpTo, count_text}
 use Rattle.snmp_tools.specs.Message.{Fault, ended, message_of, out_of_memory, status_of}
-use Rattle.snmp_tools.specs.Plan.{AskFor, Holdings, IsRefusal, Plan}
+use Rattle.snmp_net.specs.Address.{table, udp}
+use Rattle.snmp_tools.specs.Asking.{HasAgent, HasTable}
+use Rattle.snmp_tools.specs.Mib.{Holdings, IsMibOf, MayHold, Mib}
+use Rattle.snmp_tools.specs.Plan.{AskFor, IsRefusal, Plan}
 
 -- ---- the walk
 
@@ -49,13 +51,25 @@ AreRowsAfter (Some after) plan view rows = rows ≡ rest_of plan.root (wire afte
 abbrev pub AreRowsOf : Plan → MibView → List VarBind → Type 0
 AreRowsOf plan view rows = AreRowsAfter plan.after plan view rows
 
--- the words ask for this walk, over this table, which their file states
-pub record IsWalkOver (bulk : Bool) (words : WalkWords) (files : Holdings) (plan : Plan)
-    (view : MibView) : Type 0 where
-  pub asked : AskFor bulk words plan
-  pub text : List ℕ
-  pub held : HoldsIfKnown (files plan.path) (Some text)
-  pub table : IsTableOf (lines text) view
+-- the words ask for this walk, by these names, over this table, which their file states
+pub record IsWalkOver (bulk : Bool) (words : WalkWords) (files : Holdings) (mib : Mib)
+    (plan : Plan) (view : MibView) : Type 0 where
+  pub known : IsMibOf (MayHold files) words.asking mib
+  pub asked : AskFor bulk words mib plan
+  pub only : HasAgent words.asking.agent plan.agent
+  pub path : List ℕ
+  pub over : plan.agent ≡ table path
+  pub states : HasTable files path view
+
+-- the words ask for this walk, by these names, over the network
+pub record IsNetWalk (bulk : Bool) (words : WalkWords) (files : Holdings) (mib : Mib)
+    (plan : Plan) : Type 0 where
+  pub known : IsMibOf (MayHold files) words.asking mib
+  pub asked : AskFor bulk words mib plan
+  pub only : HasAgent words.asking.agent plan.agent
+  pub host : List ℕ
+  pub port : ℕ
+  pub over : plan.agent ≡ udp host port
 
 -- all was given, or the output failed, or memory ran out
 abbrev pub IsOwnEnd : WalkEnd → Type 0
@@ -103,24 +117,63 @@ IsFinished counts agent (ending.Done count) before after fault =
 IsFinished counts agent end before after fault = (after ≡ before) × (fault ≡ Some (ended agent end))
 
 -- the walk of a plan over a table was printed, and why not all of it, if not all was
-pub record IsPrinted (plan : Plan) (view : MibView) (agent : List ℕ) (before after : Stream)
-    (fault : Option Fault) : Type 0 where
+pub record IsPrinted (mib : Mib) (plan : Plan) (view : MibView) (agent : List ℕ)
+    (before after : Stream) (fault : Option Fault) : Type 0 where
   pub given : List VarBind
   pub turned : List VarBind
   pub end : WalkEnd
   pub between : Stream
   pub is_walked : IsWalked plan view given turned end
-  pub lines : IsPrintedUpTo before given turned end between
+  pub lines : IsPrintedUpTo mib plan.letters before given turned end between
   pub finish : IsFinished plan.counts agent end between after fault
 
+-- What is known of the link that was opened: its facts, by which the walk over it is judged.
+pub record HasLinkFacts {W : Type 0} (Opens : (host : List ℕ) → (port : ℕ) → W → Type 0)
+    (Honest : W → Type 0) (agents : W → Agents) (traffic : W → Traffic) (host : List ℕ) (port : ℕ)
+    (tries : ℕ) (first : Walker) (given refused : List VarBind) (end : WalkEnd) : Type 0 where
+  pub link : W
+  pub after : W
+  pub opened : Opens host port link
+  pub judged : Honest link
+      → WalkFacts (agents link) tries (traffic link) first given refused end (traffic after)
+
+-- The walk of a plan over any link was printed: the names that it gave rise, those of instances are
+-- below the root, and where it is done its end counts them.
+pub record IsPrintedOver (Facts : (given refused : List VarBind) → WalkEnd → Type 0) (mib : Mib)
+    (plan : Plan) (agent : List ℕ) (before after : Stream) (fault : Option Fault) : Type 0 where
+  pub given : List VarBind
+  pub turned : List VarBind
+  pub end : WalkEnd
+  pub between : Stream
+  pub part : IsPartOfWalk Rises Named (first_of plan) (given ++ turned)
+  pub rising : AreRising (given ++ turned)
+  pub counted : CountsAll end given
+  pub facts : Facts given turned end
+  pub lines : IsPrintedUpTo mib plan.letters before given turned end between
+  pub finish : IsFinished plan.counts agent end between after fault
+
+-- what was written of a walk over a table file, whose words ask for this plan, or why nothing was
+abbrev pub IsTableOutcome : Bool → WalkWords → Holdings → Mib → Plan → (before after : Stream)
+    → Option Fault → Type 0
+IsTableOutcome bulk words files mib plan before after fault =
+    ((why : Fault) × IsRefusal bulk words files why × (after ≡ before) × (fault ≡ Some why))
+    ⊎ ((view : MibView) × IsWalkOver bulk words files mib plan view
+    × IsPrinted mib plan view words.asking.agent before after fault)
+
 -- what a job wrote, and why it wasn't done, if it wasn't
-pub data IsOutcome (bulk : Bool) (words : WalkWords) (files : Holdings) (before after : Stream)
-    (fault : Option Fault) : Type 0 where
+-- where `Facts` are what is known of a walk over a link to a port of a host, with so many tries
+pub data IsOutcome (Facts : (host : List ℕ) → (port tries : ℕ) → Walker
+    → (given refused : List VarBind) → WalkEnd → Type 0) (bulk : Bool) (words : WalkWords)
+    (files : Holdings) (before after : Stream) (fault : Option Fault) : Type 0 where
   refused : (why : Fault) → IsRefusal bulk words files why → after ≡ before → fault ≡ Some why
-      → IsOutcome bulk words files before after fault
-  walked : (plan : Plan) (view : MibView) → IsWalkOver bulk words files plan view
-      → IsPrinted plan view words.asking.agent before after fault
-      → IsOutcome bulk words files before after fault
+      → IsOutcome Facts bulk words files before after fault
+  walked : (mib : Mib) (plan : Plan) (view : MibView) → IsWalkOver bulk words files mib plan view
+      → IsPrinted mib plan view words.asking.agent before after fault
+      → IsOutcome Facts bulk words files before after fault
+  walked_over : (mib : Mib) (plan : Plan) (net : IsNetWalk bulk words files mib plan)
+      → IsPrintedOver (Facts net.host net.port (words.asking.retries + 1) (first_of plan))
+      mib plan words.asking.agent before after fault
+      → IsOutcome Facts bulk words files before after fault
 
 -- ---- what is reported
 
@@ -134,8 +187,10 @@ IsReported (Some why) before after status =
     ⊎ IsWritten before (codes "Out of memory.\n") after)
 
 -- the outcome of a job, which is reported
-pub record IsRun (bulk : Bool) (words : WalkWords) (files : Holdings)
+pub record IsRun (Facts : (host : List ℕ) → (port tries : ℕ) → Walker
+    → (given refused : List VarBind) → WalkEnd → Type 0)
+    (bulk : Bool) (words : WalkWords) (files : Holdings)
     (out_before out_after err_before err_after : Stream) (status : ℕ) : Type 0 where
   pub fault : Option Fault
-  pub outcome : IsOutcome bulk words files out_before out_after fault
+  pub outcome : IsOutcome Facts bulk words files out_before out_after fault
   pub reported : IsReported fault err_before err_after status

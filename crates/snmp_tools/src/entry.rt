@@ -1,15 +1,17 @@
 //! From words to status.
 ghost use Rattle.std.specs.Prelude.{◌≡◌, Bool, Some, true};
 ghost use Rattle.snmp_words.specs.Command.{is_taken};
-ghost use Rattle.snmp_words.specs.Words.{AreFaulty, WalkWords, stated_job};
+ghost use Rattle.snmp_serve.specs.Outcome.{AtDoor};
+ghost use Rattle.snmp_words.specs.Words.{AreFaulty, ServeWords, WalkWords, snmpd, stated_job};
+ghost use Rattle.snmp_tools.specs.Serving.{IsServeRun, risen};
 ghost use Rattle.snmp_tools.specs.Headline.{EndsAtStatus0, WritesAllAtStatus0, WritesFront};
-ghost use Rattle.snmp_tools.specs.Outcome.{IsRun};
+ghost use Rattle.snmp_tools.specs.Outcome.{HasLinkFacts, IsRun};
 ghost use Rattle.snmp_tools.specs.Planned.{walk_stated};
 ghost use Rattle.snmp_tools.specs.Usage.{IsHelpOrMistake, PrintsHelp, texts};
 
 use crate::job::{run_job, tell};
-use crate::lines::Lines;
 use snmp_io::{Files, Output, write_all};
+use snmp_net::Links;
 use snmp_words::{UsageError, read_words};
 use std::alloc::Global;
 
@@ -19,35 +21,42 @@ use std::alloc::Global;
 /// It is 0 where that was done, 2 where an agent replied with an error status, and 1 in any other
 /// case. A failure is one line on `err`, except that a mistake in the shape of the words may take
 /// several.
-pub fn tool<F: Files, O: Output, E: Output>(
+pub fn tool<F: Files, L: Links, O: Output, E: Output>(
     alloc: Global,
     words: &[&str],
     files: &F,
-    out: &mut Lines<O>,
+    links: &mut L,
+    out: &mut O,
     err: &mut E,
 ) -> u8
     ensures outcome_reported { (bulk : Bool) (w : WalkWords) → is_taken (texts words.now) ≡ true
         → stated_job (texts words.now) ≡ Some (walk_stated bulk w)
-        → IsRun bulk w (F.text_at files.now) (O.stream out.old.out) (O.stream out.new.out)
+        → IsRun (HasLinkFacts (L.opens links.old) L.Wire.honest L.Wire.agents L.Wire.traffic)
+        bulk w (F.text_at files.now) (O.stream out.old) (O.stream out.new)
         (E.stream err.old) (E.stream err.new) result }
     ensures front_written { (bulk : Bool) (w : WalkWords) → is_taken (texts words.now) ≡ true
         → stated_job (texts words.now) ≡ Some (walk_stated bulk w)
-        → WritesFront bulk w (F.text_at files.now) (O.stream out.old.out) (O.stream out.new.out) }
+        → WritesFront bulk w (F.text_at files.now) (O.stream out.old) (O.stream out.new) }
     ensures all_written_at_status_0 { (bulk : Bool) (w : WalkWords)
         → is_taken (texts words.now) ≡ true
         → stated_job (texts words.now) ≡ Some (walk_stated bulk w)
         → WritesAllAtStatus0 bulk w (F.text_at files.now)
-        (O.stream out.old.out) (O.stream out.new.out) result }
+        (O.stream out.old) (O.stream out.new) result }
     ensures ends_at_status_0 { (bulk : Bool) (w : WalkWords) → is_taken (texts words.now) ≡ true
         → stated_job (texts words.now) ≡ Some (walk_stated bulk w)
         → EndsAtStatus0 bulk w (F.text_at files.now)
-        (O.stream out.old.out) (O.stream out.new.out) (E.stream err.old) (E.stream err.new) result }
+        (O.stream out.old) (O.stream out.new) (E.stream err.old) (E.stream err.new) result }
+    ensures served { (w : ServeWords) → is_taken (texts words.now) ≡ true
+        → stated_job (texts words.now) ≡ Some (snmpd w)
+        → IsServeRun (AtDoor L.serves) (risen (L.fault_count links.old) (L.fault_count links.new))
+        w (F.text_at files.now) (O.stream out.old) (O.stream out.new)
+        (E.stream err.old) (E.stream err.new) result }
     ensures help_or_mistake { AreFaulty (texts words.now)
         → IsHelpOrMistake (texts words.now)
-        (O.stream out.old.out) (O.stream out.new.out) result }
+        (O.stream out.old) (O.stream out.new) result }
 {
     match read_words(alloc, words) {
-        Ok(job) => run_job(alloc, &job, files, out, err),
+        Ok(job) => run_job(alloc, &job, files, links, out, err),
         Err(UsageError::Parse { text, help: true }) => print_help(&text, out, err),
         Err(UsageError::Parse { text, help: false }) => {
             tell(err, text.as_bytes());
@@ -61,10 +70,10 @@ pub fn tool<F: Files, O: Output, E: Output>(
 }
 
 // Prints the help that was asked for, and returns the status.
-fn print_help<O: Output, E: Output>(text: &str, out: &mut Lines<O>, err: &mut E) -> u8
-    ensures { PrintsHelp (O.stream out.old.out) text.now (O.stream out.new.out) result }
+fn print_help<O: Output, E: Output>(text: &str, out: &mut O, err: &mut E) -> u8
+    ensures { PrintsHelp (O.stream out.old) text.now (O.stream out.new) result }
 {
-    match write_all(&mut out.out, text.as_bytes()) {
+    match write_all(out, text.as_bytes()) {
         Ok(()) => 0,
         Err(_) => {
             tell(err, b"The output failed.\n");

@@ -2,14 +2,16 @@
 ghost use Rattle.std.specs.Prelude.{◌≡◌, ◌++◌, ◌∷◌, codes, decimal, OnOk, OnErr};
 ghost use Rattle.std.specs.Fmt.{signed_decimal};
 ghost use Rattle.snmp_oid.specs.Numeric.{numeric_text};
-ghost use Rattle.snmp_lines.specs.Begun.{IsBegun};
-ghost use Rattle.snmp_tools.specs.Message.{end_message, fault_text, status_name, table_message};
+ghost use Rattle.text_draft.specs.Draft.{Adds};
+ghost use Rattle.snmp_tools.specs.Message.{end_message, fault_text, name_fault, status_name};
+ghost use Rattle.snmp_tools.specs.Message.{table_message};
 
-use snmp_lines::pieces;
-use snmp_oid::Oid;
+use smi_show::NameError;
+use snmp_oid::{LONGEST_TEXT, Oid, write_numeric};
 use snmp_table::TableError;
 use snmp_walk::{SinkFault, WalkEnd};
 use std::alloc::AllocError;
+use text_draft::Draft;
 
 /// Why a job wasn't done, with the words that its message repeats.
 #[derive(Debug, Drop)]
@@ -22,10 +24,8 @@ pub enum Failure<'a> {
     Community,
     /// The word for the agent is no address.
     Agent(&'a str),
-    /// A part of the name is no number.
-    BadNumber(&'a str),
-    /// The name has more than 128 numbers.
-    NameTooLong(&'a str),
+    /// The text is no name, for this reason.
+    Name(&'a str, NameError),
     /// The file can't be read.
     Unreadable(&'a str),
     /// The table file has a fault.
@@ -42,8 +42,8 @@ pub enum Failure<'a> {
 
 impl Failure<'_> {
     ghost use Rattle.std.specs.Prelude.{◌≡◌, ◌++◌, OnOk, OnErr};
+    ghost use Rattle.text_draft.specs.Draft.{Adds};
     ghost use Rattle.snmp_tools.specs.Message.{fault_of, message_of, status_of};
-    ghost use Rattle.snmp_lines.specs.Begun.{IsBegun};
 
     /// The exit status: 2 where the agent replied with an error status, else 1.
     pub fn status(&self) -> u8
@@ -61,121 +61,130 @@ impl Failure<'_> {
             out.new.items ≡ out.old.items ++ message_of (fault_of self.now)) }
         ensures unchanged_on_error { OnErr result (out.new.items ≡ out.old.items) }
     {
-        let before = out.len();
-        let done = self.parts(out);
-        if done.is_err() {
-            out.truncate(before);
-        }
-        done
+        let mut draft = Draft::after(out);
+        self.append_message(&mut draft);
+        draft.finish(out)
     }
 
-    // Appends the message, or where memory runs out perhaps a part of it.
-    fn parts(&self, out: &mut Vec<u8>) -> Result<(), AllocError>
-        ensures ok { OnOk result (
-            out.new.items ≡ out.old.items ++ message_of (fault_of self.now)) }
-        ensures err { OnErr result (IsBegun out.old.items out.new.items) }
+    // Appends the message.
+    fn append_message(&self, out: &mut Draft)
+        ensures { Adds out.old (message_of (fault_of self.now)) out.new }
     {
         match self {
-            Failure::Version(word) => two_texts(out, b"Unknown version: ", word.as_bytes()),
+            Failure::Version(word) => text_and_word(out, b"Unknown version: ", word),
             Failure::Letter(letter) => two_texts(out, b"Unknown letter: ", &[*letter]),
-            Failure::Community => pieces::octets(out, b"Community too long."),
-            Failure::Agent(word) => two_texts(out, b"Bad agent address: ", word.as_bytes()),
-            Failure::BadNumber(text) => two_texts(out, b"Bad number: ", text.as_bytes()),
-            Failure::NameTooLong(text) => two_texts(out, b"Name too long: ", text.as_bytes()),
-            Failure::Unreadable(path) => two_texts(out, path.as_bytes(), b": cannot be read"),
+            Failure::Community => out.octets(b"Community too long."),
+            Failure::Agent(word) => text_and_word(out, b"Bad agent address: ", word),
+            Failure::Name(text, error) => text_and_word(out, name_fault(error), text),
+            Failure::Unreadable(path) => word_and_text(out, path, b": cannot be read"),
             Failure::Table(path, fault) => table_message(fault, path, out),
-            Failure::NotWire(text) => two_texts(out, b"Name cannot be sent: ", text.as_bytes()),
-            Failure::AfterOutsideRoot(text) => {
-                two_texts(out, b"Not below the root: ", text.as_bytes())
-            }
+            Failure::NotWire(text) => text_and_word(out, b"Name cannot be sent: ", text),
+            Failure::AfterOutsideRoot(text) => text_and_word(out, b"Not below the root: ", text),
             Failure::Ended(agent, end) => end_message(end, agent, out),
-            Failure::Memory => pieces::octets(out, b"Out of memory."),
+            Failure::Memory => out.octets(b"Out of memory."),
         }
     }
 }
 
 // Two texts, one after the other.
-fn two_texts(out: &mut Vec<u8>, first: &[u8], second: &[u8]) -> Result<(), AllocError>
-    ensures ok { OnOk result (out.new.items ≡ out.old.items ++ (first.now ++ second.now)) }
-    ensures err { OnErr result (IsBegun out.old.items out.new.items) }
+fn two_texts(out: &mut Draft, first: &[u8], second: &[u8])
+    ensures { Adds out.old (first.now ++ second.now) out.new }
 {
-    pieces::octets(out, first)?;
-    pieces::octets(out, second)
+    out.octets(first);
+    out.octets(second);
+}
+
+// A word after a text.
+fn text_and_word(out: &mut Draft, text: &[u8], word: &str)
+    ensures { Adds out.old (text.now ++ word.now) out.new }
+{
+    two_texts(out, text, word.as_bytes());
+}
+
+// A text after a word.
+fn word_and_text(out: &mut Draft, word: &str, text: &[u8])
+    ensures { Adds out.old (word.now ++ text.now) out.new }
+{
+    two_texts(out, word.as_bytes(), text);
+}
+
+// What is wrong with the text of a name.
+fn name_fault<'a>(error: &NameError) -> &'a [u8]
+    ensures { result.now ≡ name_fault error.now }
+{
+    match error {
+        NameError::Unknown => b"Unknown name: ",
+        NameError::BadIndex => b"Bad index: ",
+        NameError::BadNumber => b"Bad number: ",
+        NameError::TooLong => b"Name too long: ",
+    }
 }
 
 // A fault of a table file, after the file's path and the line.
-fn table_message(fault: &TableError, path: &str, out: &mut Vec<u8>) -> Result<(), AllocError>
-    ensures ok { OnOk result (out.new.items ≡ out.old.items ++ table_message path.now fault.now) }
-    ensures err { OnErr result (IsBegun out.old.items out.new.items) }
+fn table_message(fault: &TableError, path: &str, out: &mut Draft)
+    ensures { Adds out.old (table_message path.now fault.now) out.new }
 {
     match fault {
         TableError::BadLine { line } => at_line(out, path, *line, b": bad line"),
         TableError::BadName { line } => at_line(out, path, *line, b": bad name"),
         TableError::BadValue { line } => at_line(out, path, *line, b": bad value"),
         TableError::Double { line } => at_line(out, path, *line, b": double name"),
-        TableError::Memory => pieces::octets(out, b"Out of memory."),
+        TableError::Memory => out.octets(b"Out of memory."),
     }
 }
 
 // A path, a line, and what is wrong there.
-fn at_line(out: &mut Vec<u8>, path: &str, line: usize, what: &[u8]) -> Result<(), AllocError>
-    ensures ok { OnOk result (out.new.items
-        ≡ out.old.items ++ (path.now ++ codes ":" ++ decimal line ++ what.now)) }
-    ensures err { OnErr result (IsBegun out.old.items out.new.items) }
+fn at_line(out: &mut Draft, path: &str, line: usize, what: &[u8])
+    ensures { Adds out.old (path.now ++ codes ":" ++ decimal line ++ what.now) out.new }
 {
-    two_texts(out, path.as_bytes(), b":")?;
-    pieces::number(out, line as u64)?;
-    pieces::octets(out, what)
+    two_texts(out, path.as_bytes(), b":");
+    out.number(line as u64);
+    out.octets(what);
 }
 
 // How a walk ended.
-fn end_message(end: &WalkEnd, agent: &str, out: &mut Vec<u8>) -> Result<(), AllocError>
-    ensures ok { OnOk result (out.new.items ≡ out.old.items ++ end_message agent.now end.now) }
-    ensures err { OnErr result (IsBegun out.old.items out.new.items) }
+fn end_message(end: &WalkEnd, agent: &str, out: &mut Draft)
+    ensures { Adds out.old (end_message agent.now end.now) out.new }
 {
     match end {
-        WalkEnd::Done(_) => Ok(()),
+        WalkEnd::Done(_) => out.octets(b""),
         WalkEnd::Fault(status, index) => fault_message(out, status, index),
         WalkEnd::NoProgress { asked } => text_and_name(out, b"No progress after ", asked),
         WalkEnd::BadReply => agent_message(out, b"Bad reply from ", agent),
         WalkEnd::NotIncreasing { last, got } => falling_message(out, last, got),
-        WalkEnd::TooManyRequests => pieces::octets(out, b"Too many requests."),
-        WalkEnd::RequestTooLong => pieces::octets(out, b"Request too long."),
+        WalkEnd::TooManyRequests => out.octets(b"Too many requests."),
+        WalkEnd::RequestTooLong => out.octets(b"Request too long."),
         WalkEnd::NoResponse => agent_message(out, b"Timeout: No Response from ", agent),
-        WalkEnd::Link => pieces::octets(out, b"The link failed."),
-        WalkEnd::Sink(SinkFault::Output) => pieces::octets(out, b"The output failed."),
-        WalkEnd::Sink(SinkFault::Memory) => pieces::octets(out, b"Out of memory."),
+        WalkEnd::Link => out.octets(b"The link failed."),
+        WalkEnd::Sink(SinkFault::Output) => out.octets(b"The output failed."),
+        WalkEnd::Sink(SinkFault::Memory) => out.octets(b"Out of memory."),
     }
 }
 
 // Two names of which the second should be above the first.
-fn falling_message(out: &mut Vec<u8>, last: &Oid, got: &Oid) -> Result<(), AllocError>
-    ensures ok { OnOk result (out.new.items ≡ out.old.items
-        ++ (codes "Error: OID not increasing: " ++ numeric_text last.now ++ codes " >= "
-        ++ numeric_text got.now)) }
-    ensures err { OnErr result (IsBegun out.old.items out.new.items) }
+fn falling_message(out: &mut Draft, last: &Oid, got: &Oid)
+    ensures { Adds out.old (codes "Error: OID not increasing: " ++ numeric_text last.now
+        ++ codes " >= " ++ numeric_text got.now) out.new }
 {
-    text_and_name(out, b"Error: OID not increasing: ", last)?;
-    text_and_name(out, b" >= ", got)
+    text_and_name(out, b"Error: OID not increasing: ", last);
+    text_and_name(out, b" >= ", got);
 }
 
 // An error status and error index.
-fn fault_message(out: &mut Vec<u8>, status: &i32, index: &i32) -> Result<(), AllocError>
-    ensures ok { OnOk result (out.new.items ≡ out.old.items ++ fault_text status.now index.now) }
-    ensures err { OnErr result (IsBegun out.old.items out.new.items) }
+fn fault_message(out: &mut Draft, status: &i32, index: &i32)
+    ensures { Adds out.old (fault_text status.now index.now) out.new }
 {
-    two_texts(out, b"Error in packet: ", status_name(*status))?;
-    text_and_integer(out, b" (", status)?;
-    text_and_integer(out, b"), index ", index)
+    two_texts(out, b"Error in packet: ", status_name(*status));
+    text_and_integer(out, b" (", status);
+    text_and_integer(out, b"), index ", index);
 }
 
 // A signed number after a text.
-fn text_and_integer(out: &mut Vec<u8>, text: &[u8], n: &i32) -> Result<(), AllocError>
-    ensures ok { OnOk result (out.new.items ≡ out.old.items ++ (text.now ++ signed_decimal n.now)) }
-    ensures err { OnErr result (IsBegun out.old.items out.new.items) }
+fn text_and_integer(out: &mut Draft, text: &[u8], n: &i32)
+    ensures { Adds out.old (text.now ++ signed_decimal n.now) out.new }
 {
-    pieces::octets(out, text)?;
-    pieces::integer(out, *n)
+    out.octets(text);
+    out.integer(i64::from(*n));
 }
 
 // The name of an error status (RFC 3416, section 3).
@@ -207,21 +216,21 @@ fn status_name<'a>(status: i32) -> &'a [u8]
 }
 
 // A name in numbers, after a text.
-fn text_and_name(out: &mut Vec<u8>, text: &[u8], name: &Oid) -> Result<(), AllocError>
-    ensures ok { OnOk result (
-        out.new.items ≡ out.old.items ++ (text.now ++ numeric_text name.now)) }
-    ensures err { OnErr result (IsBegun out.old.items out.new.items) }
+fn text_and_name(out: &mut Draft, text: &[u8], name: &Oid)
+    ensures { Adds out.old (text.now ++ numeric_text name.now) out.new }
 {
-    pieces::octets(out, text)?;
-    pieces::identifier(out, name)
+    let mut numbers = [0; LONGEST_TEXT];
+    out.octets(text);
+    match write_numeric(name, &mut numbers) {
+        Some(len) => out.octets(&numbers[..len]),
+        None => unreachable!(),
+    }
 }
 
 // The agent as given, after a text and before a full stop.
-fn agent_message(out: &mut Vec<u8>, text: &[u8], agent: &str) -> Result<(), AllocError>
-    ensures ok { OnOk result (
-        out.new.items ≡ out.old.items ++ (text.now ++ agent.now ++ codes ".")) }
-    ensures err { OnErr result (IsBegun out.old.items out.new.items) }
+fn agent_message(out: &mut Draft, text: &[u8], agent: &str)
+    ensures { Adds out.old (text.now ++ agent.now ++ codes ".") out.new }
 {
-    two_texts(out, text, agent.as_bytes())?;
-    pieces::octets(out, b".")
+    two_texts(out, text, agent.as_bytes());
+    out.octets(b".");
 }

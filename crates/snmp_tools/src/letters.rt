@@ -1,4 +1,4 @@
-//! The letters of `-O` and `-C`.
+//! The letters of `-C`.
 ghost use Rattle.std.specs.Prelude.{◌≡◌, ◌≤◌, ◌<◌, ◌+◌, true, IfErr, IfOk, IfSome, MatchOption};
 ghost use Rattle.std.specs.Prelude.{Ok, Err, Some, length, false, slice_index, take};
 ghost use Rattle.std.specs.List.{list_all};
@@ -6,22 +6,10 @@ ghost use Rattle.std.specs.Str.Parse.{digits_value};
 ghost use Rattle.snmp_walk.specs.Walker.{IsMethod};
 ghost use Rattle.snmp_tools.specs.Chosen.{chosen};
 ghost use Rattle.snmp_tools.specs.Letters.{after_part, choices_of, is_digit, method_of, mode_of};
-ghost use Rattle.snmp_tools.specs.Letters.{no_choices, other_letter, repetitions_in};
+ghost use Rattle.snmp_tools.specs.Letters.{no_choices, repetitions_in};
 
 use crate::choices::Choices;
 use snmp_walk::{Method, Mode};
-
-/// The first letter of `-O` that has no meaning: only `n` has one, names in numbers.
-pub(crate) fn other_letter(letters: &str) -> Option<u8>
-    ensures { result ≡ other_letter letters.now }
-{
-    'letters: for letter in letters.as_bytes() {
-        if *letter != b'n' {
-            return Some(*letter);
-        }
-    }
-    None
-}
 
 impl Choices {
     ghost use Rattle.std.specs.Prelude.{◌≡◌, MatchResult, Ok, Err};

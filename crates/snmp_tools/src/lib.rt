@@ -1,7 +1,7 @@
 //! The tools: each job from its words to what it prints.
 //!
-//! Built on the words, on outputs and files, on tables, walks and lines. The program passes the
-//! machine to it.
+//! Built on the words, on outputs and files, on tables and walks, and on the texts of names and
+//! values. The program passes the machine to it.
 #![tactic(auto)]
 
 mod choices;
@@ -12,11 +12,13 @@ mod judge;
 mod letters;
 mod lines;
 mod plan;
+mod serve;
 mod start;
+mod walk;
 
 pub use entry::tool;
 pub use failure::Failure;
 pub use job::run_job;
-pub use lines::Lines;
 pub use snmp_io::{FileFault, Files, Output, OutputFault};
-pub use snmp_words::{Asking, Job, UsageError, WalkJob, read_words};
+pub use snmp_net::Links;
+pub use snmp_words::{Asking, Job, ServeJob, UsageError, WalkJob, read_words};

@@ -1,50 +1,128 @@
-//! The output of the tools: texts as they are, and a line for each binding of a walk.
-ghost use Rattle.std.specs.Prelude.{◌≡◌, ◌+◌, ◌++◌, List, OnOk, []};
+//! Lines on an output: one for each binding of a walk, as it comes, and the count after them.
+ghost use Rattle.std.specs.Prelude.{◌≡◌, ◌+◌, ◌++◌, ◌∷◌, List, OnOk, [], length};
+ghost use Rattle.text_draft.specs.Draft.{Adds};
 ghost use Rattle.snmp_wire.specs.Message.{VarBind};
 ghost use Rattle.snmp_walk.specs.Facts.{IsFresh, WalkFacts};
+ghost use Rattle.snmp_walk.specs.Standing.{CountsAll, IsPartOfWalk, Named, Rises};
+ghost use Rattle.snmp_walk.specs.Walk.{AreRising};
 ghost use Rattle.snmp_io.specs.Count.{HasRisen};
-ghost use Rattle.snmp_tools.specs.Lines.{IsPrintedUpTo};
-ghost use Rattle.snmp_tools.specs.Lines.{TakesText, count_line};
+ghost use Rattle.snmp_tools.specs.Lines.{ArePrinted, TakesText, count_line};
+ghost use Rattle.snmp_tools.specs.Planned.{mib_in};
 
+use smi_show::{Letters, ShowTree, line};
 use snmp_io::{Output, OutputFault, write_all};
-use snmp_lines::{line, pieces};
 use snmp_walk::{Link, Sink, SinkFault, WalkCore, WalkEnd, run_walk};
 use snmp_wire::Binding;
-use std::alloc::{AllocError, Global};
+use std::alloc::AllocError;
+use text_draft::Draft;
 
-/// An output to which lines are written, one by one.
+/// What writes the lines of bindings, by the names and types of a tree and the letters of `-O`.
 #[derive(Drop)]
-pub struct Lines<O: Output> {
-    /// Where the lines go.
-    pub out: O,
-    /// The line that is being written, whose memory is used again for the next.
-    text: Vec<u8>,
+pub(crate) struct Printer<'a, T: ShowTree, O: Output> {
+    tree: &'a T,
+    letters: Letters,
+    // The line that is being written, whose memory is used again for the next.
+    text: &'a mut Vec<u8>,
+    out: &'a mut O,
 }
 
-impl<O: Output> Lines<O> {
-    /// An output of lines over this one.
-    pub fn new(alloc: Global, out: O) -> Lines<O>
-        ensures { result.out ≡ out }
-    {
-        Lines {
-            out,
-            text: Vec::new(alloc),
-        }
-    }
+impl<T: ShowTree, O: Output> Sink for Printer<'_, T, O> {
+    ghost use Rattle.snmp_tools.specs.Lines.{TakesLine};
+    ghost use Rattle.snmp_tools.specs.Planned.{mib_in};
 
-    /// Prints the number of bindings that were found.
-    pub(crate) fn print_count(&mut self, count: u64) -> Result<(), SinkFault>
-        ensures { TakesText (O.stream self.old.out) (count_line count) result
-            (O.stream self.new.out) }
-    {
+    ghost takes = { λ old binding result new.
+        (new.tree ≡ old.tree) × (new.letters ≡ old.letters)
+        × (new.out.ghost_name ≡ old.out.ghost_name)
+        × TakesLine (mib_in (T.naming old.tree.now) (T.syntax_at old.tree.now)) old.letters
+        (O.stream old.out.now) binding result (O.stream new.out.now) };
+
+    fn row(&mut self, binding: &Binding<'_>) -> Result<(), SinkFault> {
         self.text.clear();
-        if count_line(count, &mut self.text).is_err() {
+        let (name, value) = (&binding.name, &binding.value);
+        if line(self.tree, &self.letters, name, value, self.text).is_err() {
             return Err(SinkFault::Memory);
         }
-        match write_all(&mut self.out, &self.text) {
+        match write_all(self.out, self.text.as_slice()) {
             Ok(()) => Ok(()),
             Err(OutputFault) => Err(SinkFault::Output),
         }
+    }
+}
+
+impl<T: ShowTree, O: Output> Printer<'_, T, O> {
+    ghost use Rattle.std.specs.Prelude.{◌≡◌, ◌+◌, ◌++◌, [], List};
+    ghost use Rattle.snmp_wire.specs.Message.{VarBind};
+    ghost use Rattle.snmp_walk.specs.Facts.{IsFresh, WalkFacts};
+    ghost use Rattle.snmp_walk.specs.Standing.{CountsAll, IsPartOfWalk, Named, Rises};
+    ghost use Rattle.snmp_walk.specs.Walk.{AreRising};
+    ghost use Rattle.snmp_io.specs.Count.{HasRisen};
+    ghost use Rattle.snmp_tools.specs.Lines.{ArePrinted};
+    ghost use Rattle.snmp_tools.specs.Planned.{mib_in};
+
+    // Runs a walk whose bindings become lines.
+    fn print<L: Link>(&mut self, link: &mut L, core: WalkCore, retries: u32) -> WalkEnd
+        requires { IsFresh core }
+        ensures same_output { self.new.out.ghost_name ≡ self.old.out.ghost_name }
+        ensures printed { ArePrinted
+            (mib_in (T.naming self.old.tree.now) (T.syntax_at self.old.tree.now)) self.old.letters
+            (O.stream self.old.out.now) (O.stream self.new.out.now) result
+            (λ rows refused. IsPartOfWalk Rises Named core (rows ++ refused)
+            × AreRising (rows ++ refused) × CountsAll result rows
+            × (L.honest link.old → (L.traffic link.old).sent ≡ []
+            → WalkFacts (L.agents link.old) (retries + 1) (L.traffic link.old) core rows refused
+            result (L.traffic link.new))) }
+        ensures fault { result ≡ WalkEnd.Link
+            → HasRisen (L.fault_count link.old) (L.fault_count link.new) }
+    {
+        run_walk(link, core, retries, self)
+    }
+}
+
+/// Runs a walk whose bindings become lines on the output. `text` is the memory for a line.
+pub(crate) fn print_walk<T: ShowTree, L: Link, O: Output>(
+    link: &mut L,
+    core: WalkCore,
+    retries: u32,
+    tree: &T,
+    letters: Letters,
+    text: &mut Vec<u8>,
+    out: &mut O,
+) -> WalkEnd
+    requires { IsFresh core }
+    ensures printed { ArePrinted (mib_in (T.naming tree.now) (T.syntax_at tree.now)) letters
+        (O.stream out.old) (O.stream out.new) result
+        (λ rows refused. IsPartOfWalk Rises Named core (rows ++ refused)
+        × AreRising (rows ++ refused) × CountsAll result rows
+        × (L.honest link.old → (L.traffic link.old).sent ≡ []
+        → WalkFacts (L.agents link.old) (retries + 1) (L.traffic link.old) core rows refused
+        result (L.traffic link.new))) }
+    ensures fault { result ≡ WalkEnd.Link
+        → HasRisen (L.fault_count link.old) (L.fault_count link.new) }
+{
+    let mut printer = Printer {
+        tree,
+        letters,
+        text,
+        out,
+    };
+    printer.print(link, core, retries)
+}
+
+/// Prints the number of bindings that were found. `text` is the memory for the line.
+pub(crate) fn print_count<O: Output>(
+    count: u64,
+    text: &mut Vec<u8>,
+    out: &mut O,
+) -> Result<(), SinkFault>
+    ensures { TakesText (O.stream out.old) (count_line count) result (O.stream out.new) }
+{
+    text.clear();
+    if count_line(count, text).is_err() {
+        return Err(SinkFault::Memory);
+    }
+    match write_all(out, text.as_slice()) {
+        Ok(()) => Ok(()),
+        Err(OutputFault) => Err(SinkFault::Output),
     }
 }
 
@@ -52,44 +130,9 @@ impl<O: Output> Lines<O> {
 fn count_line(count: u64, out: &mut Vec<u8>) -> Result<(), AllocError>
     ensures { OnOk result (out.new.items ≡ out.old.items ++ count_line count) }
 {
-    pieces::octets(out, b"Variables found: ")?;
-    pieces::number(out, count)?;
-    pieces::octets(out, b"\n")
-}
-
-impl<O: Output> Sink for Lines<O> {
-    ghost use Rattle.snmp_tools.specs.Lines.{TakesLine};
-
-    ghost takes = { λ old binding result new.
-        TakesLine (O.stream old.out) binding result (O.stream new.out) };
-
-    fn row(&mut self, binding: &Binding<'_>) -> Result<(), SinkFault> {
-        self.text.clear();
-        if line(binding, &mut self.text).is_err() {
-            return Err(SinkFault::Memory);
-        }
-        match write_all(&mut self.out, &self.text) {
-            Ok(()) => Ok(()),
-            Err(OutputFault) => Err(SinkFault::Output),
-        }
-    }
-}
-
-/// Runs a walk whose bindings become lines on the output.
-pub(crate) fn print_walk<L: Link, O: Output>(
-    link: &mut L,
-    core: WalkCore,
-    retries: u32,
-    out: &mut Lines<O>,
-) -> WalkEnd
-    requires { IsFresh core }
-    ensures given { (rows : List VarBind) × (refused : List VarBind)
-        × IsPrintedUpTo (O.stream out.old.out) rows refused result (O.stream out.new.out)
-        × (L.honest link.old → (L.traffic link.old).sent ≡ []
-        → WalkFacts (L.agents link.old) (retries + 1) (L.traffic link.old) core rows refused result
-        (L.traffic link.new)) }
-    ensures fault { result ≡ WalkEnd.Link
-        → HasRisen (L.fault_count link.old) (L.fault_count link.new) }
-{
-    run_walk(link, core, retries, out)
+    let mut draft = Draft::after(out);
+    draft.octets(b"Variables found: ");
+    draft.number(count);
+    draft.octets(b"\n");
+    draft.finish(out)
 }

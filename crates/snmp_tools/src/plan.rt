@@ -1,18 +1,41 @@
 //! The plan of a walk: what its words ask for.
 ghost use Rattle.std.specs.Prelude.{◌≤◌, length};
 
+use crate::choices::Choices;
+use smi_show::Letters;
+use snmp_net::AgentAddress;
 use snmp_oid::Oid;
 use snmp_walk::{Method, Mode};
 
-/// A walk over the table in a file.
-#[derive(Debug, Drop)]
-pub(crate) struct Plan<'a> {
-    /// The table's file.
-    pub(crate) path: &'a str,
+/// What the words of a walk say, before any file is read and names are looked up.
+#[derive(Clone, Copy, Debug)]
+pub(crate) struct Orders<'a> {
+    /// How lines are shown.
+    pub(crate) letters: Letters,
+    /// What the letters of `-C` choose.
+    pub(crate) choices: Choices,
     /// The community of requests and of the agent.
     pub(crate) community: &'a [u8],
     /// The greatest size of the agent's messages, in octets.
     pub(crate) max_size: usize,
+    /// Where the agent is.
+    pub(crate) agent: AgentAddress<'a>,
+    ghost short_community: { length community.now ≤ 255 },
+    ghost some_size: { 1 ≤ max_size },
+    ghost datagram_size: { max_size ≤ 65507 },
+}
+
+/// A walk.
+#[derive(Debug, Drop)]
+pub(crate) struct Plan<'a> {
+    /// Where the agent is.
+    pub(crate) agent: AgentAddress<'a>,
+    /// The community of requests and of the agent.
+    pub(crate) community: &'a [u8],
+    /// The greatest size of the agent's messages, in octets.
+    pub(crate) max_size: usize,
+    /// How its lines are shown.
+    pub(crate) letters: Letters,
     /// The root of the subtree.
     pub(crate) root: Oid,
     /// The name after which the walk goes on, if one is given.

@@ -1,9 +1,9 @@
-use Rattle.std.proofs.Common.{◌≡◌, Bool, refl, sym, ap, subst, ◌∙◌, inl, inr, ℕ, Option, Some, None}
-use Rattle.snmp_words.specs.Words.{Stated, WalkWords, job_words}
-use Rattle.snmp_io.specs.Output.{Stream}
+use Rattle.std.proofs.Common.{◌≡◌, refl, inl, inr, Option, Some}
+use Rattle.snmp_serve.specs.Fault.{no_memory}
+use Rattle.snmp_serve.specs.Outcome as serve
+use Rattle.snmp_words.specs.Words.{Stated}
 use Rattle.snmp_tools.specs.Message.{out_of_memory}
-use Rattle.snmp_tools.specs.Outcome.{IsRun, refused}
-use Rattle.snmp_tools.specs.Planned.{walk_stated}
+use Rattle.snmp_tools.specs.Outcome.{refused}
 use Rattle.snmp_tools.proofs.Headlines.{refused_front}
 use Rattle.snmp_tools.proofs.entry.tool.Goals as goal
 
@@ -26,4 +26,11 @@ returns-in-Err-Memory-clause-outcome_reported g c = λ bulk w taken stated. reco
 
 pub returns-in-Err-Memory-clause-front_written : goal.returns-in-Err-Memory-clause-front_written
 returns-in-Err-Memory-clause-front_written g c = λ bulk w taken stated. refused_front bulk w (g.F.Files.text_at c.args.files.now)
-    (g.O.Output.stream c.args.out.now.out)
+    (g.O.Output.stream c.args.out.now)
+
+pub returns-in-Err-Memory-clause-served : goal.returns-in-Err-Memory-clause-served
+returns-in-Err-Memory-clause-served g c = λ w taken stated. record {
+  fault = Some no_memory;
+  outcome = serve.refused no_memory (inl refl) refl refl;
+  reported = (refl, inr c.tell-in-Err-Memory.ensures);
+}

@@ -1,7 +1,7 @@
-use Rattle.std.proofs.Common.{◌≡◌, ◌≤◌, ◌∙◌, ◌+◌, ◌-◌, ap, sym, arith, refl, slice_index_or, drop, take, length, List, ℕ, Result, length-drop, length-take}
+use Rattle.std.proofs.Common.{◌+◌, ◌-◌, arith, refl, drop, take, length}
 use Rattle.std.proofs.lemmas.Grind.{common_steps}
 use Rattle.snmp_tools.specs.Chosen.{chosen}
-use Rattle.snmp_tools.specs.Letters.{Choices, after_whole, choices_of, parts_of}
+use Rattle.snmp_tools.specs.Letters.{choices_of, parts_of}
 use Rattle.snmp_tools.proofs.LetterLemmas.{next_part_in, read_no_more, read_on}
 use Rattle.snmp_tools.proofs.choices.Choices.read.Goals as goal
 

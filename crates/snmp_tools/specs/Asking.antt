@@ -1,0 +1,88 @@
+-- The steps that jobs over an agent have in common: the words that say how lines are shown, the
+-- community, and the agent.
+use Rattle.std.specs.Prelude.{◌≡◌, ◌≢◌, ◌<◌, ◌≤◌, ◌⊎◌, ℕ, List, length, Some, None}
+use Rattle.std.specs.Prelude.{Option, Ok, Err, codes}
+use Rattle.std.specs.Str.Lines.{lines}
+use Rattle.smi_letters.specs.declared.letters.Letters.{Letters}
+use Rattle.smi_letters.specs.Letters.{AreLetters, first_other}
+use Rattle.smi_name.specs.Meaning.{meaning}
+use Rattle.smi_name.specs.declared.error.NameError.{NameError}
+use Rattle.snmp_io.specs.Files.{HoldsIfKnown}
+use Rattle.snmp_table.specs.Stated.{IsFirstFault, IsTableOf}
+use Rattle.snmp_table.specs.Table.{MibView}
+use Rattle.snmp_table.specs.declared.error.TableError.{TableError}
+use Rattle.snmp_net.specs.Address.{Address, IsAgent, table, udp}
+use Rattle.snmp_walk.specs.declared.end.WalkEnd.TheVariants as ending
+use Rattle.snmp_words.specs.Words.{AskingWords}
+use Rattle.snmp_tools.specs.Message.{Fault, bad_agent, bad_letter, bad_name, bad_table}
+use Rattle.snmp_tools.specs.Message.{bad_version, ended, long_community, unreadable}
+use Rattle.snmp_tools.specs.Mib.{Holdings, MayHold, Mib}
+
+-- ---- words before any file is read
+
+-- the words of -O say how lines are shown
+pub record AreShown (text : List ℕ) (letters : Letters) : Type 0 where
+  pub known : first_other text ≡ None
+  pub read : AreLetters text letters
+
+-- the word states where the agent is, and nothing else
+abbrev pub HasAgent : (word : List ℕ) → Address → Type 0
+HasAgent word agent =
+    IsAgent word agent × ((other : Address) → IsAgent word other → other ≡ agent)
+
+pub data AskingStep : Type 0 where
+  version_step : AskingStep
+  letters_step : AskingStep
+  community_step : AskingStep
+  agent_step : AskingStep
+
+-- the step is done: what it looks for is there
+abbrev pub IsAskingDone : AskingWords → AskingStep → Type 0
+IsAskingDone words version_step = words.protocol ≡ codes "2c"
+IsAskingDone words letters_step = (letters : Letters) × AreShown words.letters letters
+IsAskingDone words community_step = length words.community ≤ 255
+IsAskingDone words agent_step = (agent : Address) × HasAgent words.agent agent
+
+-- the step fails for this reason
+abbrev pub AskingFails : AskingWords → AskingStep → Fault → Type 0
+AskingFails words version_step why =
+    (words.protocol ≢ codes "2c") × (why ≡ bad_version words.protocol)
+AskingFails words letters_step why =
+    (letter : ℕ) × (first_other words.letters ≡ Some letter) × (why ≡ bad_letter letter)
+AskingFails words community_step why = (255 < length words.community) × (why ≡ long_community)
+AskingFails words agent_step why =
+    ((agent : Address) → IsAgent words.agent agent → ⊥) × (why ≡ bad_agent words.agent)
+
+-- ---- names and agents
+
+-- a text that isn't the name of an identifier
+abbrev pub NameFails : Mib → List ℕ → Fault → Type 0
+NameFails mib text why =
+    (error : NameError) × (meaning mib.naming text ≡ Err error) × (why ≡ bad_name error text)
+
+-- the name that a text states, where there is a text
+abbrev pub IsNameIfGiven : Mib → Option (List ℕ) → Option (List ℕ) → Type 0
+IsNameIfGiven mib None name = name ≡ None
+IsNameIfGiven mib (Some text) name =
+    (o : List ℕ) × (meaning mib.naming text ≡ Ok o) × (name ≡ Some o)
+
+-- the file at a path states this table
+abbrev pub HasTable : Holdings → List ℕ → MibView → Type 0
+HasTable files path view = (text : List ℕ) × MayHold files path text × IsTableOf (lines text) view
+
+-- the file at a path can't be read, or its text states no table
+abbrev pub TableFails : Option (Option (List ℕ)) → List ℕ → Fault → Type 0
+TableFails held path why =
+    (HoldsIfKnown held None × (why ≡ unreadable path))
+    ⊎ ((text : List ℕ) × (error : TableError) × HoldsIfKnown held (Some text)
+    × IsFirstFault (lines text) error × (why ≡ bad_table path error))
+
+-- the agent is over a table that its file states, or there is a link to it
+abbrev pub IsReached : Holdings → Address → Type 0
+IsReached files (table path) = (view : MibView) × HasTable files path view
+IsReached files (udp host port) = Unit {0}
+
+-- its file can't be read or states no table, or no link can be opened
+abbrev pub ReachFails : Holdings → Address → (word : List ℕ) → Fault → Type 0
+ReachFails files (table path) word why = TableFails (files path) path why
+ReachFails files (udp host port) word why = why ≡ ended word ending.Link

@@ -1,0 +1,51 @@
+//! The job of snmpd, and what of it is reported.
+ghost use Rattle.std.specs.Prelude.{◌≡◌};
+ghost use Rattle.snmp_serve.specs.Fault.{fault_of as serve_fault_of};
+ghost use Rattle.snmp_serve.specs.Outcome.{AtDoor};
+ghost use Rattle.snmp_words.specs.Words.{serve_words};
+ghost use Rattle.snmp_tools.specs.Message.{fault_of};
+ghost use Rattle.snmp_tools.specs.Serving.{IsServeRun, reported_as, risen};
+
+use crate::failure::Failure;
+use crate::job::report;
+use snmp_io::{Files, Output};
+use snmp_net::Links;
+use snmp_serve::{ServeError, serve_table};
+use snmp_walk::{SinkFault, WalkEnd};
+use snmp_words::ServeJob;
+use std::alloc::Global;
+
+/// Does the job of snmpd, and returns the exit status.
+pub(crate) fn do_serve<F: Files, L: Links, O: Output, E: Output>(
+    alloc: Global,
+    job: &ServeJob<'_>,
+    files: &F,
+    links: &mut L,
+    out: &mut O,
+    err: &mut E,
+) -> u8
+    ensures { IsServeRun (AtDoor L.serves)
+        (risen (L.fault_count links.old) (L.fault_count links.new))
+        (serve_words job.now) (F.text_at files.now) (O.stream out.old) (O.stream out.new)
+        (E.stream err.old) (E.stream err.new) result }
+{
+    match serve_table(alloc, job, files, links, out) {
+        Ok(()) => 0,
+        Err(error) => report(alloc, &failure_of(error, job.listen), err),
+    }
+}
+
+// The failure that is reported where a table isn't served at the place of a word.
+fn failure_of<'a>(error: ServeError<'a>, word: &'a str) -> Failure<'a>
+    ensures { fault_of result ≡ reported_as word.now (serve_fault_of error.entry) }
+{
+    match error {
+        ServeError::Community => Failure::Community,
+        ServeError::Place(place) => Failure::Agent(place),
+        ServeError::Unreadable(path) => Failure::Unreadable(path),
+        ServeError::Table(path, fault) => Failure::Table(path, fault),
+        ServeError::Door => Failure::Ended(word, WalkEnd::Link),
+        ServeError::Output => Failure::Ended(word, WalkEnd::Sink(SinkFault::Output)),
+        ServeError::Memory => Failure::Memory,
+    }
+}

@@ -1,0 +1,268 @@
+//! A walk: its words are judged, its names looked up, its agent reached, and its lines printed.
+ghost use Rattle.std.specs.Prelude.{◌≡◌, ◌⊎◌, ◌+◌, [], IfErr, IfOk, None, OnOk, Some, unwrap_or};
+ghost use Rattle.snmp_net.specs.Address.{address_of, table, udp};
+ghost use Rattle.snmp_words.specs.Words.{walk_words};
+ghost use Rattle.snmp_tools.specs.Asking.{HasTable, TableFails};
+ghost use Rattle.snmp_tools.specs.Message.{fault_of, out_of_memory};
+ghost use Rattle.snmp_tools.specs.Outcome.{HasLinkFacts, IsFinished, IsOutcome, IsPrinted};
+ghost use Rattle.snmp_tools.specs.Outcome.{IsPrintedOver, IsTableOutcome, end_in_memory, first_of};
+ghost use Rattle.snmp_tools.specs.Planned.{IsPlanFor, mib_in, plan_of};
+ghost use Rattle.snmp_tools.specs.Plan.{root_text};
+ghost use Rattle.snmp_tools.specs.Start.{IsStartOf, StartFails};
+ghost use Rattle.snmp_walk.specs.Facts.{WalkFacts};
+ghost use Rattle.snmp_walk.specs.Walker.{IsMethod};
+
+use crate::failure::Failure;
+use crate::judge::MIB_2;
+use crate::lines::{print_count, print_walk};
+use crate::plan::{Orders, Plan};
+use crate::start::start;
+use smi_roots::Roots;
+use smi_show::ShowTree;
+use snmp_agent::Config;
+use snmp_io::{FileFault, Files, Output};
+use snmp_net::{AgentAddress, Links, UdpAddress};
+use snmp_table::{Table, one_answer};
+use snmp_walk::{Link, MemoryLink, SinkFault, WalkCore, WalkEnd};
+use snmp_words::{Asking, WalkJob};
+use std::alloc::Global;
+
+/// Writes the lines of a walk.
+pub(crate) fn walk_lines<'a, F: Files, L: Links, O: Output>(
+    alloc: Global,
+    walk: &WalkJob<'a>,
+    bulk: bool,
+    files: &F,
+    links: &mut L,
+    out: &mut O,
+) -> Result<(), Failure<'a>>
+    ensures done { OnOk result (IsOutcome
+        (HasLinkFacts (L.opens links.old) L.Wire.honest L.Wire.agents L.Wire.traffic)
+        bulk (walk_words walk.now) (F.text_at files.now)
+        (O.stream out.old) (O.stream out.new) None) }
+    ensures failed { IfErr result (λ failure. IsOutcome
+        (HasLinkFacts (L.opens links.old) L.Wire.honest L.Wire.agents L.Wire.traffic)
+        bulk (walk_words walk.now) (F.text_at files.now)
+        (O.stream out.old) (O.stream out.new) (Some (fault_of failure))) }
+{
+    let orders = match Orders::read(walk, bulk) {
+        Ok(orders) => orders,
+        Err(failure) => return Err(failure),
+    };
+    let tree = load();
+    let plan = match Plan::read(walk, bulk, orders, &tree) {
+        Ok(plan) => plan,
+        Err(failure) => return Err(failure),
+    };
+    match plan.agent {
+        AgentAddress::Table(path) => over_table(alloc, walk, bulk, &plan, path, &tree, files, out),
+        AgentAddress::Udp(at) => over_net(alloc, walk, bulk, &plan, at, &tree, files, links, out),
+    }
+}
+
+// The tree of the names and types that a job knows.
+fn load() -> Roots {
+    Roots::new()
+}
+
+// The walk before its first request.
+fn begin<'a>(plan: &Plan<'a>, walk: &WalkJob<'a>) -> Result<WalkCore, Failure<'a>>
+    requires { IsMethod plan.now.method }
+    ensures ok { IfOk result (λ core. IsStartOf core (plan_of plan.now)) }
+    ensures err { IfErr result (λ e. StartFails (plan_of plan.now) (root_text (walk_words walk.now))
+        (unwrap_or (walk_words walk.now).after []) (fault_of e)) }
+{
+    start(plan, walk.name.unwrap_or(MIB_2), walk.after.unwrap_or(""))
+}
+
+// Writes the lines of a walk over the agent in memory that serves the table of a file.
+fn over_table<'a, T: ShowTree, F: Files, O: Output>(
+    alloc: Global,
+    walk: &WalkJob<'a>,
+    bulk: bool,
+    plan: &Plan<'a>,
+    path: &'a str,
+    tree: &T,
+    files: &F,
+    out: &mut O,
+) -> Result<(), Failure<'a>>
+    requires plan { IsPlanFor bulk (walk_words walk.now) (F.text_at files.now)
+        (mib_in (T.naming tree.now) (T.syntax_at tree.now)) (plan_of plan.now) }
+    requires method { IsMethod plan.now.method }
+    requires path { address_of plan.now.agent ≡ table path.now }
+    ensures done { OnOk result (IsTableOutcome bulk (walk_words walk.now) (F.text_at files.now)
+        (mib_in (T.naming tree.now) (T.syntax_at tree.now)) (plan_of plan.now)
+        (O.stream out.old) (O.stream out.new) None) }
+    ensures failed { IfErr result (λ failure.
+        IsTableOutcome bulk (walk_words walk.now) (F.text_at files.now)
+        (mib_in (T.naming tree.now) (T.syntax_at tree.now)) (plan_of plan.now)
+        (O.stream out.old) (O.stream out.new) (Some (fault_of failure))) }
+{
+    let table = match table_at(alloc, files, path) {
+        Ok(table) => table,
+        Err(failure) => return Err(failure),
+    };
+    let core = match begin(plan, walk) {
+        Ok(core) => core,
+        Err(failure) => return Err(failure),
+    };
+    print_plan(alloc, plan, tree, &table, core, &walk.asking, out)
+}
+
+// Writes the lines of a walk over the network.
+fn over_net<'a, T: ShowTree, F: Files, L: Links, O: Output>(
+    alloc: Global,
+    walk: &WalkJob<'a>,
+    bulk: bool,
+    plan: &Plan<'a>,
+    at: UdpAddress<'a>,
+    tree: &T,
+    files: &F,
+    links: &mut L,
+    out: &mut O,
+) -> Result<(), Failure<'a>>
+    requires plan { IsPlanFor bulk (walk_words walk.now) (F.text_at files.now)
+        (mib_in (T.naming tree.now) (T.syntax_at tree.now)) (plan_of plan.now) }
+    requires method { IsMethod plan.now.method }
+    requires at { address_of plan.now.agent ≡ udp at.host.now at.port }
+    ensures done { OnOk result (IsOutcome
+        (HasLinkFacts (L.opens links.old) L.Wire.honest L.Wire.agents L.Wire.traffic)
+        bulk (walk_words walk.now) (F.text_at files.now)
+        (O.stream out.old) (O.stream out.new) None) }
+    ensures failed { IfErr result (λ failure. IsOutcome
+        (HasLinkFacts (L.opens links.old) L.Wire.honest L.Wire.agents L.Wire.traffic)
+        bulk (walk_words walk.now) (F.text_at files.now)
+        (O.stream out.old) (O.stream out.new) (Some (fault_of failure))) }
+{
+    let mut link = match links.open(at.host, at.port, walk.asking.seconds) {
+        Ok(link) => link,
+        Err(_) => return Err(Failure::Ended(walk.asking.agent, WalkEnd::Link)),
+    };
+    let core = match begin(plan, walk) {
+        Ok(core) => core,
+        Err(failure) => return Err(failure),
+    };
+    print_over(alloc, plan, tree, &mut link, core, &walk.asking, out)
+}
+
+// Prints the walk of a plan over a link, and after it the number of its bindings where that is
+// asked for.
+fn print_over<'a, T: ShowTree, L: Link, O: Output>(
+    alloc: Global,
+    plan: &Plan<'a>,
+    tree: &T,
+    link: &mut L,
+    core: WalkCore,
+    asking: &Asking<'a>,
+    out: &mut O,
+) -> Result<(), Failure<'a>>
+    requires start { IsStartOf core (plan_of plan.now) }
+    requires fresh { (L.traffic link.old).sent ≡ [] }
+    ensures done { OnOk result (IsPrintedOver (λ given refused end. L.honest link.old
+        → WalkFacts (L.agents link.old) (asking.now.retries + 1) (L.traffic link.old)
+        (first_of (plan_of plan.now)) given refused end (L.traffic link.new))
+        (mib_in (T.naming tree.now) (T.syntax_at tree.now))
+        (plan_of plan.now) asking.now.agent.now (O.stream out.old) (O.stream out.new) None) }
+    ensures failed { IfErr result (λ failure. IsPrintedOver (λ given refused end.
+        L.honest link.old
+        → WalkFacts (L.agents link.old) (asking.now.retries + 1) (L.traffic link.old)
+        (first_of (plan_of plan.now)) given refused end (L.traffic link.new))
+        (mib_in (T.naming tree.now) (T.syntax_at tree.now))
+        (plan_of plan.now) asking.now.agent.now (O.stream out.old) (O.stream out.new)
+        (Some (fault_of failure))) }
+{
+    let retries = asking.retries as u32;
+    let mut text = Vec::new(alloc);
+    let end = print_walk(link, core, retries, tree, plan.letters, &mut text, out);
+    finish(end, plan.counts, asking.agent, &mut text, out)
+}
+
+// Prints the walk of a plan over a table, and after it the number of its bindings where that is
+// asked for.
+fn print_plan<'a, T: ShowTree, O: Output>(
+    alloc: Global,
+    plan: &Plan<'a>,
+    tree: &T,
+    table: &Table,
+    core: WalkCore,
+    asking: &Asking<'a>,
+    out: &mut O,
+) -> Result<(), Failure<'a>>
+    requires { IsStartOf core (plan_of plan.now) }
+    ensures done { OnOk result (IsPrinted (mib_in (T.naming tree.now) (T.syntax_at tree.now))
+        (plan_of plan.now) table.now asking.now.agent.now
+        (O.stream out.old) (O.stream out.new) None) }
+    ensures failed { IfErr result (λ failure.
+        IsPrinted (mib_in (T.naming tree.now) (T.syntax_at tree.now))
+        (plan_of plan.now) table.now asking.now.agent.now
+        (O.stream out.old) (O.stream out.new) (Some (fault_of failure))) }
+{
+    let config = Config {
+        community: plan.community,
+        max_size: plan.max_size,
+    };
+    table.is_mib_view();
+    one_answer();
+    let mut link = MemoryLink::new(alloc, table, config, &[]);
+    let retries = asking.retries as u32;
+    let mut text = Vec::new(alloc);
+    let end = print_walk(&mut link, core, retries, tree, plan.letters, &mut text, out);
+    finish(
+        end_in_memory(end),
+        plan.counts,
+        asking.agent,
+        &mut text,
+        out,
+    )
+}
+
+// How a walk over a link in memory ended: such a link fails only where memory runs out.
+fn end_in_memory(end: WalkEnd) -> WalkEnd
+    ensures { result ≡ end_in_memory end }
+{
+    match end {
+        WalkEnd::Link => WalkEnd::Sink(SinkFault::Memory),
+        end => end,
+    }
+}
+
+// Prints what follows the lines of a walk that ended in this way.
+fn finish<'a, O: Output>(
+    end: WalkEnd,
+    counts: bool,
+    agent: &'a str,
+    text: &mut Vec<u8>,
+    out: &mut O,
+) -> Result<(), Failure<'a>>
+    ensures done { OnOk result (IsFinished counts agent.now end
+        (O.stream out.old) (O.stream out.new) None) }
+    ensures failed { IfErr result (λ failure. IsFinished counts agent.now end
+        (O.stream out.old) (O.stream out.new) (Some (fault_of failure))) }
+{
+    match end {
+        WalkEnd::Done(count) if counts => match print_count(count, text, out) {
+            Ok(()) => Ok(()),
+            Err(SinkFault::Memory) => Err(Failure::Memory),
+            Err(SinkFault::Output) => Err(Failure::Ended(agent, WalkEnd::Sink(SinkFault::Output))),
+        },
+        WalkEnd::Done(_) => Ok(()),
+        end => Err(Failure::Ended(agent, end)),
+    }
+}
+
+// The table that the file at this path states.
+fn table_at<'a, F: Files>(alloc: Global, files: &F, path: &'a str) -> Result<Table, Failure<'a>>
+    ensures table { IfOk result (HasTable (F.text_at files.now) path.now) }
+    ensures err { IfErr result (λ e. (fault_of e ≡ out_of_memory)
+        ⊎ TableFails (F.text_at files.now path.now) path.now (fault_of e)) }
+{
+    let text = match files.read(alloc, path) {
+        Ok(text) => text,
+        Err(FileFault::Unreadable) => return Err(Failure::Unreadable(path)),
+        Err(FileFault::Memory) => return Err(Failure::Memory),
+    };
+    match Table::read(alloc, &text) {
+        Ok(table) => Ok(table),
+        Err(fault) => Err(Failure::Table(path, fault)),
+    }
+}
