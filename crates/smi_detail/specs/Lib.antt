@@ -1,4 +1,5 @@
 pub mod Syntax
+pub mod Tokens
 pub mod Definition
 pub mod Value
 pub mod Detail

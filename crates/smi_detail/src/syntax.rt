@@ -1,17 +1,22 @@
 //! A type as text: its tokens, joined by one blank.
-ghost use Rattle.std.specs.Prelude.{◌≡◌, [], ◌∷◌, ◌++◌, codes, take};
+ghost use Rattle.std.specs.Prelude.{◌≡◌, [], ◌∷◌, ◌++◌, codes, take, List};
 ghost use Rattle.std.specs.List.{flat_map};
 ghost use Rattle.text_draft.specs.Draft.{Adds};
 ghost use Rattle.smi_detail.specs.Syntax.{base_text, more_numbers, more_ranges, named_number_text};
 ghost use Rattle.smi_detail.specs.Syntax.{numbers_text, range_text, ranges_text};
 ghost use Rattle.smi_detail.specs.Syntax.{refinement_text, syntax_text};
+ghost use Rattle.smi_detail.specs.Tokens.{AreTokensOf, joined_by_blanks};
+ghost use Rattle.smi_lexer.specs.Token.{Lexeme};
 
 use smi_module::{Base, NamedNumber, Range, Refinement, Syntax};
 use text_draft::Draft;
 
 /// Appends the tokens of a type, joined by one blank.
+#[tactic(auto, using(crate::proofs::TokenTexts::own_tokens))]
 pub fn syntax_text(syntax: &Syntax, draft: &mut Draft)
-    ensures { Adds draft.old (syntax_text syntax.now) draft.new }
+    ensures added { Adds draft.old (syntax_text syntax.now) draft.new }
+    ensures own_tokens { (tokens : List Lexeme) → AreTokensOf syntax.now tokens
+        → syntax_text syntax.now ≡ joined_by_blanks tokens }
 {
     match syntax {
         Syntax::SequenceOf(row) => sequence_text(row.as_bytes(), draft),
