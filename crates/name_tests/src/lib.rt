@@ -1,8 +1,10 @@
 //! Tests of names over a small tree: names are read, refused at their first fault, and shown.
 #![tactic(auto)]
 
+mod random;
 mod sample;
 
+pub use random::random_oid;
 pub use sample::Sample;
 
 #[cfg(test)]

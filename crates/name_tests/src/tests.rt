@@ -1,5 +1,5 @@
 //! Names that are read, refused and shown.
-use crate::Sample;
+use crate::{Sample, random_oid};
 use smi_index::{Extent, IndexPart};
 use smi_name::{NameError, NameForm, name_text, resolve};
 use snmp_oid::Oid;
@@ -178,42 +178,13 @@ fn instances_are_shown(rt: HostRuntime) -> Result<(), Fail> {
     Ok(())
 }
 
-/// The next number of a sequence that looks random, and what is taken of it.
-fn next(state: u64) -> (u64, u32) {
-    let after = state
-        .wrapping_mul(6364136223846793005)
-        .wrapping_add(1442695040888963407);
-    (after, (after >> 33) as u32)
-}
-
-/// An identifier below 1.3.6.2, or elsewhere, of numbers that are often those of printable text.
-fn sample_oid(seed: u64) -> Oid {
-    let (mut state, first) = next(seed);
-    let mut oid = Oid::new();
-    if first % 8 != 0 {
-        for number in [1, 3, 6, 2] {
-            let _ = oid.push(number);
-        }
-    }
-    for _ in 0..first / 8 % 12 {
-        let (after, number) = next(state);
-        state = after;
-        let _ = oid.push(match number % 4 {
-            0 => number / 4 % 8,
-            1 => number,
-            _ => 32 + number / 4 % 96,
-        });
-    }
-    oid
-}
-
 #[test]
 fn what_is_shown_is_read_back(rt: HostRuntime) -> Result<(), Fail> {
     let parts = [COUNTED.as_slice(), &IMPLIED, &TRIPLE];
     let forms = [NameForm::Numeric, NameForm::ModuleLabel];
     let mut out = Vec::new(rt.alloc());
     for seed in 0..1000 {
-        let oid = sample_oid(seed);
+        let oid = random_oid(&[1, 3, 6, 2], seed);
         for index in parts {
             let tree = Sample::new(index);
             for form in forms {
