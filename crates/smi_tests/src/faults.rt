@@ -117,19 +117,25 @@ fn names_that_are_defined_twice(rt: HostRuntime) -> Result<(), Fail> {
     let alloc = rt.alloc();
     let rows = [
         (
-            b"A DEFINITIONS ::= BEGIN\nx OBJECT IDENTIFIER ::= { iso 1 }\nx OBJECT IDENTIFIER ::= { iso 2 }\nEND".as_slice(),
+            b"A DEFINITIONS ::= BEGIN\nx OBJECT IDENTIFIER ::= { iso 1 }\n\
+            x OBJECT IDENTIFIER ::= { iso 2 }\nEND"
+                .as_slice(),
             double_name(3),
         ),
         (
-            b"A DEFINITIONS ::= BEGIN X ::= BITS\ny OBJECT IDENTIFIER ::= { iso 1 } X ::=\nSEQUENCE OF Y\nEND",
+            b"A DEFINITIONS ::= BEGIN X ::= BITS\ny OBJECT IDENTIFIER ::= { iso 1 } X ::=\n\
+            SEQUENCE OF Y\nEND",
             double_name(2),
         ),
         (
-            b"A DEFINITIONS ::= BEGIN\nOBJECT-TYPE MACRO ::= BEGIN END\n\nOBJECT-TYPE MACRO ::=\nBEGIN END END",
+            b"A DEFINITIONS ::= BEGIN\nOBJECT-TYPE MACRO ::= BEGIN END\n\nOBJECT-TYPE MACRO ::=\n\
+            BEGIN END END",
             double_name(4),
         ),
         (
-            b"B DEFINITIONS ::= BEGIN END\nA DEFINITIONS ::= BEGIN\na OBJECT IDENTIFIER ::= { iso 1 }\nb OBJECT IDENTIFIER ::= { a 2 }\na MODULE-COMPLIANCE ::= { a 1 }\nEND",
+            b"B DEFINITIONS ::= BEGIN END\nA DEFINITIONS ::= BEGIN\n\
+            a OBJECT IDENTIFIER ::= { iso 1 }\nb OBJECT IDENTIFIER ::= { a 2 }\n\
+            a MODULE-COMPLIANCE ::= { a 1 }\nEND",
             double_name(5),
         ),
         // The case of letters matters, each module has its own names, and imports are not
@@ -241,18 +247,26 @@ fn clauses_in_wrong_places(rt: HostRuntime) -> Result<(), Fail> {
     let alloc = rt.alloc();
     let bad = [
         "x OBJECT IDENTIFIER ::= iso",
-        "x OBJECT-TYPE SYNTAX BITS STATUS current DESCRIPTION \"\" MAX-ACCESS read-only ::= { iso 1 }",
-        "x OBJECT-TYPE SYNTAX BITS MAX-ACCESS read-only STATUS current DESCRIPTION \"\" DEFVAL { } INDEX { a } ::= { iso 1 }",
-        "x OBJECT-TYPE SYNTAX BITS MAX-ACCESS read-only UNITS \"\" STATUS current DESCRIPTION \"\" ::= { iso 1 }",
-        "x OBJECT-TYPE SYNTAX BITS MAX-ACCESS read-only STATUS current REFERENCE \"\" DESCRIPTION \"\" ::= { iso 1 }",
-        "x OBJECT-TYPE SYNTAX BITS MAX-ACCESS read-only STATUS current DESCRIPTION \"\" INDEX { IMPLIED a, b } ::= { iso 1 }",
-        "x OBJECT-TYPE SYNTAX BITS MAX-ACCESS read-only STATUS current DESCRIPTION \"\" INDEX { } ::= { iso 1 }",
-        "x OBJECT-TYPE SYNTAX BITS MAX-ACCESS read-only STATUS current DESCRIPTION \"\" AUGMENTS { a, b } ::= { iso 1 }",
+        "x OBJECT-TYPE SYNTAX BITS STATUS current DESCRIPTION \"\" MAX-ACCESS read-only \
+        ::= { iso 1 }",
+        "x OBJECT-TYPE SYNTAX BITS MAX-ACCESS read-only STATUS current DESCRIPTION \"\" \
+        DEFVAL { } INDEX { a } ::= { iso 1 }",
+        "x OBJECT-TYPE SYNTAX BITS MAX-ACCESS read-only UNITS \"\" STATUS current \
+        DESCRIPTION \"\" ::= { iso 1 }",
+        "x OBJECT-TYPE SYNTAX BITS MAX-ACCESS read-only STATUS current REFERENCE \"\" \
+        DESCRIPTION \"\" ::= { iso 1 }",
+        "x OBJECT-TYPE SYNTAX BITS MAX-ACCESS read-only STATUS current DESCRIPTION \"\" \
+        INDEX { IMPLIED a, b } ::= { iso 1 }",
+        "x OBJECT-TYPE SYNTAX BITS MAX-ACCESS read-only STATUS current DESCRIPTION \"\" INDEX { } \
+        ::= { iso 1 }",
+        "x OBJECT-TYPE SYNTAX BITS MAX-ACCESS read-only STATUS current DESCRIPTION \"\" \
+        AUGMENTS { a, b } ::= { iso 1 }",
         "x OBJECT-TYPE SYNTAX BITS MAX-ACCESS read-only STATUS current DESCRIPTION \"\"",
         "x NOTIFICATION-TYPE OBJECTS { } STATUS current DESCRIPTION \"\" ::= { iso 1 }",
         "x OBJECT-GROUP STATUS current DESCRIPTION \"\" ::= { iso 1 }",
         "x OBJECT-IDENTITY STATUS current ::= { iso 1 }",
-        "x MODULE-IDENTITY LAST-UPDATED \"\" ORGANIZATION \"\" DESCRIPTION \"\" CONTACT-INFO \"\" ::= { iso 1 }",
+        "x MODULE-IDENTITY LAST-UPDATED \"\" ORGANIZATION \"\" DESCRIPTION \"\" CONTACT-INFO \"\" \
+        ::= { iso 1 }",
         "x MODULE-COMPLIANCE a b",
         "X ::= SEQUENCE { }",
         "X ::= SEQUENCE { a BITS, }",

@@ -38,7 +38,8 @@ fn tokens_spans_and_lines(rt: HostRuntime) -> Result<(), Fail> {
 fn ends_of_lines_and_pages(rt: HostRuntime) -> Result<(), Fail> {
     let alloc = rt.alloc();
     let text =
-        b"A DEFINITIONS ::= BEGIN\r\nIMPORTS a\r\nFROM B;\r\n\x0cx OBJECT IDENTIFIER ::= {\r\niso 1 }\r\nEND\r\n";
+        b"A DEFINITIONS ::= BEGIN\r\nIMPORTS a\r\nFROM B;\r\n\x0cx OBJECT IDENTIFIER ::= {\r\n\
+        iso 1 }\r\nEND\r\n";
     let modules = parse_modules(alloc, text)?;
     assert!(rt; definition(&modules, "x").is_some_and(|def| def.line == 4));
     let rows = [
@@ -62,7 +63,9 @@ fn comments(rt: HostRuntime) -> Result<(), Fail> {
     let alloc = rt.alloc();
     let rows = [
         (
-            b"A DEFINITIONS ::= BEGIN -- note -- x OBJECT IDENTIFIER ::= { iso 1 } -- end\nEND".as_slice(),
+            b"A DEFINITIONS ::= BEGIN -- note -- x OBJECT IDENTIFIER ::= { iso 1 } -- end\n\
+            END"
+                .as_slice(),
             Ok((1, 1)),
         ),
         (
@@ -109,7 +112,8 @@ fn octets_that_begin_nothing(rt: HostRuntime) -> Result<(), Fail> {
             bad_byte(2),
         ),
         (
-            b"A DEFINITIONS ::= BEGIN x OBJECT-IDENTITY STATUS current\nDESCRIPTION \"open\n\nEND\n",
+            b"A DEFINITIONS ::= BEGIN x OBJECT-IDENTITY STATUS current\nDESCRIPTION \"open\n\n\
+            END\n",
             open_string(2),
         ),
         (
@@ -151,8 +155,8 @@ fn octets_that_begin_nothing(rt: HostRuntime) -> Result<(), Fail> {
 #[test]
 fn signs_that_only_raw_text_has(rt: HostRuntime) -> Result<(), Fail> {
     let alloc = rt.alloc();
-    let raw =
-        "x MODULE-COMPLIANCE { } } ( [ ] < > , ; : | . = .. -5 'a'H '1'B \"\" a B END ::= { iso 1 }";
+    let raw = "x MODULE-COMPLIANCE { } } ( [ ] < > , ; : | . = .. -5 'a'H '1'B \"\" a B END \
+        ::= { iso 1 }";
     assert_eq!(rt; fault_of(alloc, raw)?, None);
     let raw = "X ::= CHOICE { ) ( ] [ < > , ; : | . = .. ::= { END } -5 'a'H '1'B \"\" a B }";
     assert_eq!(rt; fault_of(alloc, raw)?, None);

@@ -476,19 +476,26 @@ m MODULE-IDENTITY LAST-UPDATED \"1\" ORGANIZATION \"2\" CONTACT-INFO \"3\" DESCR
 \x20REVISION \"5\" DESCRIPTION \"6\" REVISION \"7\" DESCRIPTION \"8\" ::= { iso 1 }\n\
 o OBJECT IDENTIFIER ::= { iso org(3) dod(6) 1 }\n\
 oi OBJECT-IDENTITY STATUS current DESCRIPTION \"d\" REFERENCE \"r\" ::= { o 1 }\n\
-t1 OBJECT-TYPE SYNTAX INTEGER { a(1), b(-2) } UNITS \"u\" MAX-ACCESS read-only STATUS current DESCRIPTION \"d\" DEFVAL { { a { } } b } ::= { o 2 }\n\
-t2 OBJECT-TYPE SYNTAX SEQUENCE OF Row MAX-ACCESS not-accessible STATUS current DESCRIPTION \"d\" ::= { o 3 }\n\
-t3 OBJECT-TYPE SYNTAX Row MAX-ACCESS not-accessible STATUS current DESCRIPTION \"d\" INDEX { a, b, IMPLIED c } ::= { t2 1 }\n\
-t4 OBJECT-TYPE SYNTAX Row MAX-ACCESS not-accessible STATUS current DESCRIPTION \"d\" AUGMENTS { t3 } DEFVAL { } ::= { o 4 }\n\
-t5 OBJECT-TYPE SYNTAX BITS { x(0) } MAX-ACCESS read-only STATUS current DESCRIPTION \"d\" INDEX { a } ::= { 1 3 }\n\
-t6 OBJECT-TYPE SYNTAX OBJECT IDENTIFIER MAX-ACCESS read-only STATUS current DESCRIPTION \"d\" ::= { o(1) 3 }\n\
+t1 OBJECT-TYPE SYNTAX INTEGER { a(1), b(-2) } UNITS \"u\" MAX-ACCESS read-only STATUS current \
+DESCRIPTION \"d\" DEFVAL { { a { } } b } ::= { o 2 }\n\
+t2 OBJECT-TYPE SYNTAX SEQUENCE OF Row MAX-ACCESS not-accessible STATUS current DESCRIPTION \"d\" \
+::= { o 3 }\n\
+t3 OBJECT-TYPE SYNTAX Row MAX-ACCESS not-accessible STATUS current DESCRIPTION \"d\" \
+INDEX { a, b, IMPLIED c } ::= { t2 1 }\n\
+t4 OBJECT-TYPE SYNTAX Row MAX-ACCESS not-accessible STATUS current DESCRIPTION \"d\" \
+AUGMENTS { t3 } DEFVAL { } ::= { o 4 }\n\
+t5 OBJECT-TYPE SYNTAX BITS { x(0) } MAX-ACCESS read-only STATUS current DESCRIPTION \"d\" \
+INDEX { a } ::= { 1 3 }\n\
+t6 OBJECT-TYPE SYNTAX OBJECT IDENTIFIER MAX-ACCESS read-only STATUS current DESCRIPTION \"d\" \
+::= { o(1) 3 }\n\
 n1 NOTIFICATION-TYPE OBJECTS { t1, t2 } STATUS deprecated DESCRIPTION \"n\" ::= { o 5 }\n\
 n2 NOTIFICATION-TYPE STATUS current DESCRIPTION \"d\" ::= { o 6 }\n\
 g1 OBJECT-GROUP OBJECTS { t1 } STATUS current DESCRIPTION \"g\" ::= { o 7 }\n\
 g2 NOTIFICATION-GROUP NOTIFICATIONS { n1, n2 } STATUS current DESCRIPTION \"d\" ::= { o 8 }\n\
 c1 MODULE-COMPLIANCE STATUS current END { } } ::= { o 9 }\n\
 c2 AGENT-CAPABILITIES ::= { o 10 }\n\
-Tc ::= TEXTUAL-CONVENTION DISPLAY-HINT \"1d\" STATUS current DESCRIPTION \"d\" REFERENCE \"r\" SYNTAX OCTET STRING (SIZE (0..8 | '10'H..'11111'B | 99))\n\
+Tc ::= TEXTUAL-CONVENTION DISPLAY-HINT \"1d\" STATUS current DESCRIPTION \"d\" REFERENCE \"r\" \
+SYNTAX OCTET STRING (SIZE (0..8 | '10'H..'11111'B | 99))\n\
 Tc2 ::= TEXTUAL-CONVENTION STATUS current DESCRIPTION \"d\" SYNTAX Tc (1 | 2..3)\n\
 App ::= [APPLICATION 3] IMPLICIT OCTET STRING (SIZE (4))\n\
 Plain ::= INTEGER (-5..5)\n\
@@ -497,7 +504,8 @@ Row ::= SEQUENCE { a BITS, b OCTET STRING (SIZE (1)) }\n\
 Ch ::= CHOICE { a INTEGER, b { } }\n\
 OBJECT-TYPE MACRO ::= BEGIN a ::= b { ( END\n\
 MyMacro MACRO ::= BEGIN END\n\
-t7 OBJECT-TYPE SYNTAX Row (1..2) UNITS \"u\" MAX-ACCESS read-only STATUS current DESCRIPTION \"d\" REFERENCE \"r\" INDEX { IMPLIED a } DEFVAL { } ::= { o 11 }\n\
+t7 OBJECT-TYPE SYNTAX Row (1..2) UNITS \"u\" MAX-ACCESS read-only STATUS current \
+DESCRIPTION \"d\" REFERENCE \"r\" INDEX { IMPLIED a } DEFVAL { } ::= { o 11 }\n\
 Bare ::= OBJECT IDENTIFIER\n\
 END\n\
 EMPTY { } DEFINITIONS ::= BEGIN IMPORTS ; END\n";

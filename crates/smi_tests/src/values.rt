@@ -5,8 +5,9 @@ use smi_text::{Def, Part, TokenKind, parse_modules};
 use std::test::Fail;
 
 /// A module with two imports of `a`, the later one from another module.
-const LOOKED_UP: &[u8] =
-    b"A DEFINITIONS ::= BEGIN IMPORTS a, b FROM M\nOBJECT-TYPE, c, a FROM N;\nx OBJECT IDENTIFIER ::= { a -0 b(7) }\nY ::= BITS\ng OBJECT-GROUP OBJECTS { x } STATUS current DESCRIPTION \"d\" ::= { x 2 }\nEND\n";
+const LOOKED_UP: &[u8] = b"A DEFINITIONS ::= BEGIN IMPORTS a, b FROM M\nOBJECT-TYPE, c, a FROM N;\n\
+    x OBJECT IDENTIFIER ::= { a -0 b(7) }\nY ::= BITS\n\
+    g OBJECT-GROUP OBJECTS { x } STATUS current DESCRIPTION \"d\" ::= { x 2 }\nEND\n";
 
 #[test]
 fn names_are_looked_up(rt: HostRuntime) -> Result<(), Fail> {
