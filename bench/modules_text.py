@@ -3,6 +3,7 @@
 
 usage: modules_text.py OCTETS            modules in turn until there are that many octets
        modules_text.py definitions N     one module of N small definitions
+       modules_text.py objects N         one module of N small objects with named numbers
        modules_text.py parents N         one module of N definitions, each below the next one
        modules_text.py types N           one object of the first of N types, each made of the next one
        modules_text.py braces N          one DEFVAL of N nested braces
@@ -202,6 +203,13 @@ def definitions(count):
     return "MANY DEFINITIONS ::= BEGIN\n" + lines + "END\n"
 
 
+def objects(count):
+    lines = "".join(
+        f"name{i} OBJECT-TYPE SYNTAX INTEGER {{ up(1), down(2) }} MAX-ACCESS read-only STATUS current "
+        f'DESCRIPTION "" ::= {{ many {i} }}\n' for i in range(count))
+    return "MANY DEFINITIONS ::= BEGIN\nmany OBJECT IDENTIFIER ::= { iso 3 6 1 4 1 32473 }\n" + lines + "END\n"
+
+
 def parents(count):
     lines = "".join(f"name{i} OBJECT IDENTIFIER ::= {{ name{i + 1} 1 }}\n" for i in range(count))
     return "PARENTS DEFINITIONS ::= BEGIN\n" + lines + f"name{count} OBJECT IDENTIFIER ::= {{ iso 1 }}\nEND\n"
@@ -223,7 +231,8 @@ def string(octets):
             '" ::= { iso 1 }\nEND\n')
 
 
-KINDS = {"definitions": definitions, "parents": parents, "types": type_chain, "braces": braces, "string": string}
+KINDS = {"definitions": definitions, "objects": objects, "parents": parents, "types": type_chain, "braces": braces,
+         "string": string}
 
 if len(sys.argv) == 3:
     sys.stdout.write(KINDS[sys.argv[1]](int(sys.argv[2])))

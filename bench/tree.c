@@ -1,5 +1,6 @@
-// Loads the modules of a file, for bench/tree.sh: tree nodes|names|identifiers|syntaxes FILE TIMES.
-// It prints the nodes, or how often the name, the identifier or the syntax was found.
+// Loads the modules of a file, for bench/tree.sh: tree nodes|names|identifiers|syntaxes|lines FILE
+// TIMES. It prints the nodes, how often the name, the identifier or the syntax was found, or the octets of
+// the line.
 #include <stddef.h>
 #include <stdint.h>
 #include <stdio.h>
@@ -12,6 +13,8 @@ size_t tree_nodes_in(const uint8_t *text, size_t length);
 size_t tree_names_in(const uint8_t *text, size_t length, size_t times);
 size_t tree_identifiers_in(const uint8_t *text, size_t length, size_t times);
 size_t tree_syntaxes_in(const uint8_t *text, size_t length, size_t times);
+// The octets of a line, shown so many times.
+size_t tree_lines_in(const uint8_t *text, size_t length, size_t times);
 
 int main(int count, char **words) {
     FILE *file = count == 4 ? fopen(words[2], "rb") : NULL;
@@ -30,6 +33,8 @@ int main(int count, char **words) {
         found = tree_names_in(text, length, times);
     else if (strcmp(words[1], "identifiers") == 0)
         found = tree_identifiers_in(text, length, times);
+    else if (strcmp(words[1], "lines") == 0)
+        found = tree_lines_in(text, length, times);
     else
         found = tree_syntaxes_in(text, length, times);
     free(text);

@@ -1,7 +1,7 @@
 #!/usr/bin/env bash
 # Counts the instructions of reading and loading modules: for each octet of a text of 1 MB with every
-# production, at n and 2n for many definitions, for chains of parents and of types, and of one look-up in a
-# tree of 20,000 nodes.
+# production, at n and 2n for many definitions, for chains of parents and of types, and of one look-up and of
+# one line in a tree of 20,000 nodes.
 source "$(dirname "${BASH_SOURCE[0]}")/common.sh"
 driver tree_bench tree.c
 
@@ -24,7 +24,9 @@ for kind in definitions:5000 parents:5000 types:5000; do
 done
 
 python3 "$top/bench/modules_text.py" definitions 20000 >"$work/many"
+python3 "$top/bench/modules_text.py" objects 20000 >"$work/objects"
 python3 "$top/bench/modules_text.py" types 10000 >"$work/chain"
 printf 'a name: %d instructions\n' "$(each 1000 names "$work/many")"
 printf 'an identifier: %d instructions\n' "$(each 1000 identifiers "$work/many")"
 printf 'a syntax behind 10,000 types: %d instructions\n' "$(each 1000 syntaxes "$work/chain")"
+printf 'a line with a name and a syntax: %d instructions\n' "$(each 1000 lines "$work/objects")"

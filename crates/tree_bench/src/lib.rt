@@ -1,8 +1,10 @@
 //! The tree of names as functions that a C program can call: what `bench/tree.sh` counts.
 #![tactic(auto)]
 
+use smi_show::{Letters, line};
 use smi_text::parse_modules;
 use smi_tree::Tree;
+use snmp_ber::ValueRef;
 use snmp_oid::parse_numeric;
 use std::alloc::Global;
 
@@ -75,4 +77,26 @@ pub extern "C" fn tree_syntaxes_in(alloc: Global, text: &[u8], times: usize) -> 
         }
     }
     count
+}
+
+/// How many octets the line of an instance of an object has, shown so many times by the tree of a
+/// text; the greatest number where the text is refused or memory runs out.
+#[unsafe(no_mangle)]
+pub extern "C" fn tree_lines_in(alloc: Global, text: &[u8], times: usize) -> usize {
+    let Some(tree) = tree_in(alloc, text) else {
+        return usize::MAX;
+    };
+    let Ok(name) = parse_numeric(b"1.3.6.1.4.1.32473.12345.0") else {
+        return usize::MAX;
+    };
+    let mut out = Vec::new(alloc);
+    let letters = Letters::new();
+    let value = ValueRef::Integer(1);
+    for _i in 0..times {
+        out.clear();
+        if line(&tree, &letters, &name, &value, &mut out).is_err() {
+            return usize::MAX;
+        }
+    }
+    out.len()
 }
