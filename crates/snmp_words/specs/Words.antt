@@ -15,10 +15,11 @@ use Rattle.std.specs.Prelude.{
   Some,
   None,
 }
-use Rattle.std.specs.Prelude.{string_bytes, codes, unwrap_or, option_and_then, option_map, if◌then◌else◌}
+use Rattle.std.specs.Prelude.{string_bytes, codes, map, unwrap_or, option_and_then, option_map, if◌then◌else◌}
 use Rattle.std.specs.List.{flat_map}
 use Rattle.std.specs.Str.{bytes_eq}
 use Rattle.std.specs.Str.Parse.{digits_value, without_leading_plus}
+use Rattle.std.specs.Borrow.{Bor}
 use Rattle.clap.specs.Kinds.{IsAmong, Kinds}
 use Rattle.clap.specs.Simple.{subcommand_of}
 use Rattle.clap.specs.ValueTests.{is_unsigned_in}
@@ -27,17 +28,26 @@ use Rattle.clap.specs.declared.error.kind.ErrorKind.{ErrorKind}
 use Rattle.clap.specs.declared.error.kind.ErrorKind.TheVariants as kind
 use Rattle.snmp_words.specs.Command.{faults_of, snmp_app}
 use Rattle.snmp_words.specs.declared.job.Asking.{Asking}
+use Rattle.snmp_words.specs.declared.job.GetJob.{GetJob}
 use Rattle.snmp_words.specs.declared.job.Job.{Job}
 use Rattle.snmp_words.specs.declared.job.Job.TheVariants as job
 use Rattle.snmp_words.specs.declared.job.ServeJob.{ServeJob}
+use Rattle.snmp_words.specs.declared.job.TranslateJob.{TranslateJob}
 use Rattle.snmp_words.specs.declared.job.WalkJob.{WalkJob}
 use Rattle.snmp_words.specs.declared.UsageError.{UsageError}
 use Rattle.snmp_words.specs.declared.UsageError.TheVariants.{Memory, Parse}
 
 -- ---- what the words state
 
+pub record TranslateWords : Type 0 where
+  pub mibs : List Text
+  pub letters : Text
+  pub details : Text
+  pub names : List Text
+
 -- the agent to ask, by which messages, and how the replies are shown
 pub record AskingWords : Type 0 where
+  pub mibs : List Text
   pub letters : Text
   pub protocol : Text
   pub community : Text
@@ -45,6 +55,10 @@ pub record AskingWords : Type 0 where
   pub seconds : ℕ
   pub max_size : ℕ
   pub agent : Text
+
+pub record GetWords : Type 0 where
+  pub asking : AskingWords
+  pub names : List Text
 
 pub record WalkWords : Type 0 where
   pub asking : AskingWords
@@ -61,6 +75,8 @@ pub record ServeWords : Type 0 where
 
 -- a command with its words
 pub data Stated : Type 0 where
+  snmptranslate : TranslateWords → Stated
+  snmpget : GetWords → Stated
   snmpwalk : WalkWords → Stated
   snmpbulkwalk : WalkWords → Stated
   snmpd : ServeWords → Stated
@@ -94,8 +110,17 @@ number_of id default low high rows =
 abbrev pub most_turns : ℕ
 most_turns = 18446744073709551615
 
+abbrev pub translate_of_rows : List Row → TranslateWords
+translate_of_rows rows = record {
+  mibs = texts_of (codes "mib") rows;
+  letters = joined_of (codes "letters") rows;
+  details = text_or (codes "details") [] rows;
+  names = texts_of (codes "names") rows;
+}
+
 abbrev pub asking_of_rows : List Row → AskingWords
 asking_of_rows rows = record {
+  mibs = texts_of (codes "mib") rows;
   letters = joined_of (codes "letters") rows;
   protocol = text_or (codes "protocol") (codes "2c") rows;
   community = text_or (codes "community") (codes "public") rows;
@@ -103,6 +128,12 @@ asking_of_rows rows = record {
   seconds = number_of (codes "seconds") 1 1 3600 rows;
   max_size = number_of (codes "size") 1472 1 65507 rows;
   agent = text_or (codes "agent") [] rows;
+}
+
+abbrev pub get_of_rows : List Row → GetWords
+get_of_rows rows = record {
+  asking = asking_of_rows rows;
+  names = texts_of (codes "names") rows;
 }
 
 abbrev pub walk_of_rows : List Row → WalkWords
@@ -124,7 +155,9 @@ serve_of_rows rows = record {
 
 -- the words of each command
 abbrev pub readings : List (Text × (List Row → Stated))
-readings = (codes "snmpwalk", λ rows. snmpwalk (walk_of_rows rows))
+readings = (codes "snmptranslate", λ rows. snmptranslate (translate_of_rows rows))
+    ∷ (codes "snmpget", λ rows. snmpget (get_of_rows rows))
+    ∷ (codes "snmpwalk", λ rows. snmpwalk (walk_of_rows rows))
     ∷ (codes "snmpbulkwalk", λ rows. snmpbulkwalk (walk_of_rows rows))
     ∷ (codes "snmpd", λ rows. snmpd (serve_of_rows rows)) ∷ []
 
@@ -145,8 +178,21 @@ stated_job words = stated_in (subcommand_of snmp_app words)
 
 -- ---- what a job holds
 
+-- the texts behind references
+abbrev pub texts_at : List (Bor Text) → List Text
+texts_at texts = map (λ text. text.now) texts
+
+abbrev pub translate_words : TranslateJob → TranslateWords
+translate_words t = record {
+  mibs = texts_at t.mibs.items;
+  letters = string_bytes t.letters;
+  details = t.details.now;
+  names = texts_at t.names.items;
+}
+
 abbrev pub asking_words : Asking → AskingWords
 asking_words a = record {
+  mibs = texts_at a.mibs.items;
   letters = string_bytes a.letters;
   protocol = a.protocol.now;
   community = a.community.now;
@@ -154,6 +200,12 @@ asking_words a = record {
   seconds = a.seconds;
   max_size = a.max_size;
   agent = a.agent.now;
+}
+
+abbrev pub get_words : GetJob → GetWords
+get_words g = record {
+  asking = asking_words g.asking;
+  names = texts_at g.names.items;
 }
 
 abbrev pub walk_words : WalkJob → WalkWords
@@ -174,6 +226,8 @@ serve_words s = record {
 }
 
 abbrev pub job_words : Job → Stated
+job_words (job.Translate t) = snmptranslate (translate_words t)
+job_words (job.Get g) = snmpget (get_words g)
 job_words (job.Walk w) = snmpwalk (walk_words w)
 job_words (job.BulkWalk w) = snmpbulkwalk (walk_words w)
 job_words (job.Serve s) = snmpd (serve_words s)
@@ -216,6 +270,7 @@ walk_line letters path numbers = codes "snmp" ∷ codes "snmpwalk" ∷ (letters 
 abbrev pub words_of_walk : Text → Text → WalkWords
 words_of_walk path numbers = record {
   asking = record {
+    mibs = [];
     letters = codes "n";
     protocol = codes "2c";
     community = codes "public";

@@ -4,6 +4,10 @@ ghost use Rattle.std.specs.Prelude.{◌≤◌};
 /// What the words ask for, each text as it was given.
 #[derive(Debug, Drop)]
 pub enum Job<'a> {
+    /// `snmptranslate`: names in another form.
+    Translate(TranslateJob<'a>),
+    /// `snmpget`: the instances of names.
+    Get(GetJob<'a>),
     /// `snmpwalk`: the instances below a name, one by one.
     Walk(WalkJob<'a>),
     /// `snmpbulkwalk`: the instances below a name, many at a time.
@@ -12,9 +16,24 @@ pub enum Job<'a> {
     Serve(ServeJob<'a>),
 }
 
+/// The words of `snmptranslate`.
+#[derive(Debug, Drop)]
+pub struct TranslateJob<'a> {
+    /// The paths of module files, of `--mib`, in order.
+    pub mibs: Vec<&'a str>,
+    /// The letters of `-O`: how names are shown. Those of several `-O` are joined in order.
+    pub letters: String,
+    /// The letters of `-T`: what is shown in place of names.
+    pub details: &'a str,
+    /// The names, in order.
+    pub names: Vec<&'a str>,
+}
+
 /// The agent to ask, by which messages, and how the replies are shown.
 #[derive(Debug, Drop)]
 pub struct Asking<'a> {
+    /// The paths of module files, of `--mib`, in order.
+    pub mibs: Vec<&'a str>,
     /// The letters of `-O`: how lines are shown. Those of several `-O` are joined in order.
     pub letters: String,
     /// The version of SNMP: `2c` where none was given.
@@ -34,6 +53,15 @@ pub struct Asking<'a> {
     ghost few_seconds: { seconds ≤ 3600 },
     ghost some_size: { 1 ≤ max_size },
     ghost datagram_size: { max_size ≤ 65507 },
+}
+
+/// The words of `snmpget`.
+#[derive(Debug, Drop)]
+pub struct GetJob<'a> {
+    /// The agent to ask, and how.
+    pub asking: Asking<'a>,
+    /// The names, in order.
+    pub names: Vec<&'a str>,
 }
 
 /// The words of `snmpwalk` and `snmpbulkwalk`.

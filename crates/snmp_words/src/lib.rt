@@ -20,7 +20,7 @@ ghost use Rattle.snmp_words.specs.Words.{stated_job, walk_line, words_of_walk};
 use clap::error::ErrorKind;
 use command::snmp_command;
 use given::job_of;
-pub use job::{Asking, Job, ServeJob, WalkJob};
+pub use job::{Asking, GetJob, Job, ServeJob, TranslateJob, WalkJob};
 use std::alloc::{AllocError, Global};
 use thiserror::Error;
 
