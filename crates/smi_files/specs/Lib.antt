@@ -1,2 +1,4 @@
 pub mod Files
+pub mod Loaded
 pub mod Message
+pub mod Warned

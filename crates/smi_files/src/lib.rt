@@ -1,11 +1,14 @@
-//! Files of SMIv2 modules: each is read and parsed whole, in the order in which they are given.
+//! Files of SMIv2 modules: each is read and parsed whole, in the order in which they are given, and
+//! their modules are loaded into the tree of names.
 //!
-//! Depends on the parser and on what holds the files. The tools load the modules into the tree of
-//! names.
+//! Depends on the parser, on the tree and on what holds the files.
 #![tactic(auto)]
 
 mod error;
+mod load;
 mod read;
+mod warned;
 
 pub use error::FilesError;
+pub use load::load_tree;
 pub use read::{one_list_of_modules, read_modules};
