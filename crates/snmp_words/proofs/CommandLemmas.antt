@@ -61,7 +61,7 @@ pub states_job : (m : ArgMatches) (words : List Text) → has_subcommand m ≡ t
     → IsSome (stated_in (subcommand_rows_of m))
 states_job m words met rows =
     let some : is_some (subcommand_of snmp_app words) ≡ true = ap is_some (sym rows) ∙ is_some-map _ _ ∙ met in
-    let all : AllState (built snmp_app).subs = (λ rows. refl, (λ rows. refl, (λ rows. refl, tt))) in
+    let all : AllState (built snmp_app).subs = (λ rows. refl, (λ rows. refl, (λ rows. refl, (λ rows. refl, (λ rows. refl, tt))))) in
     let states : (subcommand_of snmp_app words ≡ None) ⊎ (is_some (stated_in (subcommand_of snmp_app words)) ≡ true) =
     entered_states (built snmp_app) all (stop_after (built snmp_app).top.rules (names_of (built snmp_app)) (argument_words snmp_app words)) in
     elim states [

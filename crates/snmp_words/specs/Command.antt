@@ -25,9 +25,17 @@ numbered low high rule = record rule { parser = Some (Unsigned low high) }
 abbrev pub required : Rule → Rule
 required rule = record rule { required = true }
 
+-- --mib FILE
+abbrev pub mib_rule : Rule
+mib_rule = repeated (record (one_text (codes "mib")) { long = Some (codes "mib") })
+
 -- -O LETTERS
 abbrev pub letters_rule : Rule
 letters_rule = repeated (record (one_text (codes "letters")) { short = Some 79 })
+
+-- -T LETTERS
+abbrev pub details_rule : Rule
+details_rule = record (one_text (codes "details")) { short = Some 84 }
 
 -- -v VERSION
 abbrev pub protocol_rule : Rule
@@ -77,15 +85,23 @@ agent_rule = required (one_text (codes "agent"))
 abbrev pub name_rule : Rule
 name_rule = one_text (codes "name")
 
+-- one name or more
+abbrev pub names_rule : Rule
+names_rule = repeated (required (one_text (codes "names")))
+
 -- ---- the commands
 
 abbrev pub with_rules : App → List Rule → App
 with_rules app [] = app
 with_rules app (rule ∷ rules) = with_rules (with_rule app rule) rules
 
--- how names and values are shown, and the version and community of requests
+-- the files of modules, how names are shown, what is shown in place of them, and the names
+abbrev pub translating_rules : List Rule
+translating_rules = mib_rule ∷ letters_rule ∷ details_rule ∷ names_rule ∷ []
+
+-- the files of modules, how names and values are shown, and the version and community of requests
 abbrev pub showing_rules : List Rule
-showing_rules = letters_rule ∷ protocol_rule ∷ community_rule ∷ []
+showing_rules = mib_rule ∷ letters_rule ∷ protocol_rule ∷ community_rule ∷ []
 
 -- how often a request is sent again, how long a reply is waited for, and the size of messages
 abbrev pub sending_rules : List Rule
@@ -93,6 +109,10 @@ sending_rules = retries_rule ∷ seconds_rule ∷ size_rule ∷ []
 
 abbrev pub asking_rules : List Rule
 asking_rules = showing_rules ++ sending_rules
+
+-- the agent, and the names
+abbrev pub getting_rules : List Rule
+getting_rules = agent_rule ∷ names_rule ∷ []
 
 -- the letters of -C, the name to go on after, the agent, and the name of the root
 abbrev pub walking_rules : List Rule
@@ -105,6 +125,14 @@ place_rules = table_rule ∷ community_rule ∷ listen_rule ∷ []
 -- an agent's options: beside those, the size of replies, and the number of turns
 abbrev pub serving_rules : List Rule
 serving_rules = place_rules ++ size_rule ∷ turns_rule ∷ []
+
+-- snmptranslate OPTION.. NAME..
+abbrev pub translate_app : App
+translate_app = with_rules (new_app (codes "snmptranslate")) translating_rules
+
+-- snmpget OPTION.. AGENT NAME..
+abbrev pub get_app : App
+get_app = with_rules (with_rules (new_app (codes "snmpget")) asking_rules) getting_rules
 
 -- snmpwalk OPTION.. AGENT [NAME], and snmpbulkwalk with the same words
 abbrev pub walk_app : Text → App
@@ -128,7 +156,8 @@ with_commands app (command ∷ commands) = with_commands (with_subcommand app co
 
 -- the commands of snmp
 abbrev pub commands : List App
-commands = walk_app (codes "snmpwalk") ∷ walk_app (codes "snmpbulkwalk") ∷ serve_app ∷ []
+commands = translate_app ∷ get_app ∷ walk_app (codes "snmpwalk") ∷ walk_app (codes "snmpbulkwalk")
+    ∷ serve_app ∷ []
 
 abbrev pub snmp_app : App
 snmp_app = with_commands top_app commands

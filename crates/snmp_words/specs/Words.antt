@@ -15,7 +15,8 @@ use Rattle.std.specs.Prelude.{
   Some,
   None,
 }
-use Rattle.std.specs.Prelude.{string_bytes, codes, map, unwrap_or, option_and_then, option_map, if◌then◌else◌}
+use Rattle.std.specs.Prelude.{string_bytes, codes, map, unwrap_or, option_and_then, option_map}
+use Rattle.std.specs.Prelude.{if◌then◌else◌}
 use Rattle.std.specs.List.{flat_map}
 use Rattle.std.specs.Str.{bytes_eq}
 use Rattle.std.specs.Str.Parse.{digits_value, without_leading_plus}
@@ -282,4 +283,39 @@ words_of_walk path numbers = record {
   letters = [];
   after = None;
   name = Some (codes "." ++ numbers);
+}
+
+-- ---- the words of a translation and of a get
+
+-- the words that ask for the details of a name, with two files of modules
+abbrev pub translate_line : (first second name : Text) → List Text
+translate_line first second name = codes "snmp" ∷ codes "snmptranslate" ∷ (codes "--mib=" ++ first)
+    ∷ (codes "--mib=" ++ second) ∷ codes "-Td" ∷ (codes "." ++ name) ∷ []
+
+abbrev pub words_of_translation : (first second name : Text) → TranslateWords
+words_of_translation first second name = record {
+  mibs = first ∷ second ∷ [];
+  letters = [];
+  details = codes "d";
+  names = (codes "." ++ name) ∷ [];
+}
+
+-- the words that ask an agent on a host for two instances, with a file of modules
+abbrev pub get_line : (modules host first second : Text) → List Text
+get_line modules host first second = codes "snmp" ∷ codes "snmpget" ∷ (codes "--mib=" ++ modules)
+    ∷ codes "-On" ∷ (codes "udp:" ++ host) ∷ (codes "." ++ first) ∷ (codes "." ++ second) ∷ []
+
+abbrev pub words_of_get : (modules host first second : Text) → GetWords
+words_of_get modules host first second = record {
+  asking = record {
+    mibs = modules ∷ [];
+    letters = codes "n";
+    protocol = codes "2c";
+    community = codes "public";
+    retries = 5;
+    seconds = 1;
+    max_size = 1472;
+    agent = codes "udp:" ++ host;
+  };
+  names = (codes "." ++ first) ∷ (codes "." ++ second) ∷ [];
 }

@@ -1,13 +1,19 @@
 //! The commands of the program, with the rules for their words and the help on them.
 ghost use Rattle.std.specs.Prelude.{◌≡◌, IfOk, codes};
 ghost use Rattle.clap.specs.Words.{app_of};
-ghost use Rattle.snmp_words.specs.Command.{asking_rules, place_rules, sending_rules, serve_app};
-ghost use Rattle.snmp_words.specs.Command.{serving_rules, showing_rules, snmp_app, top_app, walk_app};
-ghost use Rattle.snmp_words.specs.Command.{walking_rules, with_rules};
+ghost use Rattle.snmp_words.specs.Command.{asking_rules, get_app, getting_rules, place_rules};
+ghost use Rattle.snmp_words.specs.Command.{sending_rules, serve_app, serving_rules, showing_rules};
+ghost use Rattle.snmp_words.specs.Command.{snmp_app, top_app, translate_app, translating_rules};
+ghost use Rattle.snmp_words.specs.Command.{walk_app, walking_rules, with_rules};
 
 use crate::options;
 use clap::Command;
 use std::alloc::{AllocError, Global};
+
+const TRANSLATE_EXAMPLE: &str =
+    "Example: snmp snmptranslate --mib tiny.txt -Td TINY-MIB::tinyState";
+
+const GET_EXAMPLE: &str = "Example: snmp snmpget -On table:three.tab .1.3.6.1.4.1.32473.1.2.0";
 
 const WALK_EXAMPLE: &str = "Example: snmp snmpwalk -On -Cp table:three.tab .1.3.6.1.4.1.32473.1";
 
@@ -20,7 +26,9 @@ const SERVE_EXAMPLE: &str = "Example: snmp snmpd --table three.tab --listen 127.
 pub(crate) fn snmp_command<'a>(alloc: Global) -> Result<Command<'a>, AllocError>
     ensures { IfOk result (λ c. app_of c ≡ snmp_app) }
 {
-    let with_walk = top_command(alloc).subcommand(walk_command(alloc)?)?;
+    let with_translate = top_command(alloc).subcommand(translate_command(alloc)?)?;
+    let with_get = with_translate.subcommand(get_command(alloc)?)?;
+    let with_walk = with_get.subcommand(walk_command(alloc)?)?;
     let with_bulk_walk = with_walk.subcommand(bulk_walk_command(alloc)?)?;
     with_bulk_walk.subcommand(serve_command(alloc)?)
 }
@@ -29,10 +37,30 @@ fn top_command<'a>(alloc: Global) -> Command<'a>
     ensures { app_of result ≡ top_app }
 {
     Command::new(alloc, "snmp")
-        .about("Reads the managed objects of SNMP agents, and serves tables")
-        .version("0.5.0")
+        .about(
+            "Translates names of managed objects, reads them from SNMP agents, and serves tables",
+        )
+        .version("0.6.0")
         .subcommand_required(true)
         .disable_help_subcommand(true)
+}
+
+fn translate_command<'a>(alloc: Global) -> Result<Command<'a>, AllocError>
+    ensures { IfOk result (λ c. app_of c ≡ translate_app) }
+{
+    let command = Command::new(alloc, "snmptranslate")
+        .about("Prints names of managed objects in another form, or details of them")
+        .after_help(TRANSLATE_EXAMPLE);
+    with_translating(alloc, command)
+}
+
+fn get_command<'a>(alloc: Global) -> Result<Command<'a>, AllocError>
+    ensures { IfOk result (λ c. app_of c ≡ get_app) }
+{
+    let command = Command::new(alloc, "snmpget")
+        .about("Prints the instances that names stand for")
+        .after_help(GET_EXAMPLE);
+    with_getting(alloc, with_asking(alloc, command)?)
 }
 
 fn walk_command<'a>(alloc: Global) -> Result<Command<'a>, AllocError>
@@ -62,6 +90,17 @@ fn serve_command<'a>(alloc: Global) -> Result<Command<'a>, AllocError>
     with_serving(alloc, command)
 }
 
+// The options and words of a translation.
+fn with_translating<'a>(alloc: Global, command: Command<'a>) -> Result<Command<'a>, AllocError>
+    ensures { IfOk result (λ c. app_of c ≡ with_rules (app_of command.entry) translating_rules) }
+{
+    command
+        .arg(options::mib_option(alloc))?
+        .arg(options::letters_option(alloc))?
+        .arg(options::details_option(alloc))?
+        .arg(options::names_word(alloc))
+}
+
 // The options that say how an agent is asked, and how the replies are shown.
 fn with_asking<'a>(alloc: Global, command: Command<'a>) -> Result<Command<'a>, AllocError>
     ensures { IfOk result (λ c. app_of c ≡ with_rules (app_of command.entry) asking_rules) }
@@ -74,6 +113,7 @@ fn with_showing<'a>(alloc: Global, command: Command<'a>) -> Result<Command<'a>, 
     ensures { IfOk result (λ c. app_of c ≡ with_rules (app_of command.entry) showing_rules) }
 {
     command
+        .arg(options::mib_option(alloc))?
         .arg(options::letters_option(alloc))?
         .arg(options::protocol_option(alloc))?
         .arg(options::community_option(alloc))
@@ -86,6 +126,15 @@ fn with_sending<'a>(alloc: Global, command: Command<'a>) -> Result<Command<'a>, 
         .arg(options::retries_option(alloc))?
         .arg(options::seconds_option(alloc))?
         .arg(options::size_option(alloc))
+}
+
+// The words of a get.
+fn with_getting<'a>(alloc: Global, command: Command<'a>) -> Result<Command<'a>, AllocError>
+    ensures { IfOk result (λ c. app_of c ≡ with_rules (app_of command.entry) getting_rules) }
+{
+    command
+        .arg(options::agent_word(alloc))?
+        .arg(options::names_word(alloc))
 }
 
 // The options and words of a walk.

@@ -3,12 +3,13 @@ ghost use Rattle.std.specs.Prelude.{◌≡◌, ◌≤◌, IfOk, IfSome, IsSome, 
 ghost use Rattle.std.specs.Prelude.{string_bytes};
 ghost use Rattle.clap.specs.Walk.{first_of, rows_of};
 ghost use Rattle.clap.specs.Words.{found_of, subcommand_rows_of};
-ghost use Rattle.snmp_words.specs.Words.{asking_of_rows, asking_words};
+ghost use Rattle.snmp_words.specs.Words.{asking_of_rows, asking_words, get_of_rows, get_words};
 ghost use Rattle.snmp_words.specs.Words.{job_words, joined_of, number_in, number_of};
-ghost use Rattle.snmp_words.specs.Words.{serve_of_rows, serve_words, stated_in};
+ghost use Rattle.snmp_words.specs.Words.{serve_of_rows, serve_words, stated_in, texts_at};
+ghost use Rattle.snmp_words.specs.Words.{texts_of, translate_of_rows, translate_words};
 ghost use Rattle.snmp_words.specs.Words.{walk_of_rows, walk_words};
 
-use crate::job::{Asking, Job, ServeJob, WalkJob};
+use crate::job::{Asking, GetJob, Job, ServeJob, TranslateJob, WalkJob};
 use clap::ArgMatches;
 use std::alloc::{AllocError, Global};
 
@@ -22,11 +23,36 @@ pub(crate) fn job_of<'a>(alloc: Global, matches: &ArgMatches<'a>) -> Result<Job<
         unreachable!()
     };
     match command {
+        "snmptranslate" => Ok(Job::Translate(translate_job(alloc, given)?)),
+        "snmpget" => Ok(Job::Get(get_job(alloc, given)?)),
         "snmpwalk" => Ok(Job::Walk(walk_job(alloc, given)?)),
         "snmpbulkwalk" => Ok(Job::BulkWalk(walk_job(alloc, given)?)),
         "snmpd" => Ok(Job::Serve(serve_job(given))),
         _ => unreachable!(),
     }
+}
+
+fn translate_job<'a>(alloc: Global, given: &ArgMatches<'a>) -> Result<TranslateJob<'a>, AllocError>
+    ensures { IfOk result (λ job.
+        translate_words job ≡ translate_of_rows (rows_of (found_of given.now))) }
+{
+    let mibs = all_texts(alloc, given, "mib")?;
+    let letters = joined(alloc, given, "letters")?;
+    let names = all_texts(alloc, given, "names")?;
+    Ok(TranslateJob {
+        mibs,
+        letters,
+        details: first_text(given, "details").unwrap_or(""),
+        names,
+    })
+}
+
+fn get_job<'a>(alloc: Global, given: &ArgMatches<'a>) -> Result<GetJob<'a>, AllocError>
+    ensures { IfOk result (λ job. get_words job ≡ get_of_rows (rows_of (found_of given.now))) }
+{
+    let asking = asking_of(alloc, given)?;
+    let names = all_texts(alloc, given, "names")?;
+    Ok(GetJob { asking, names })
 }
 
 fn walk_job<'a>(alloc: Global, given: &ArgMatches<'a>) -> Result<WalkJob<'a>, AllocError>
@@ -58,8 +84,10 @@ fn asking_of<'a>(alloc: Global, given: &ArgMatches<'a>) -> Result<Asking<'a>, Al
     ensures { IfOk result (λ asking.
         asking_words asking ≡ asking_of_rows (rows_of (found_of given.now))) }
 {
+    let mibs = all_texts(alloc, given, "mib")?;
     let letters = joined(alloc, given, "letters")?;
     Ok(Asking {
+        mibs,
         letters,
         protocol: first_text(given, "protocol").unwrap_or("2c"),
         community: first_text(given, "community").unwrap_or("public"),
@@ -76,6 +104,21 @@ fn first_text<'a>(given: &ArgMatches<'a>, id: &str) -> Option<&'a str>
         ≡ first_of id.now (rows_of (found_of given.now)) }
 {
     given.get_str(id)
+}
+
+// The texts given for an id, in order.
+fn all_texts<'a>(
+    alloc: Global,
+    given: &ArgMatches<'a>,
+    id: &str,
+) -> Result<Vec<&'a str>, AllocError>
+    ensures { IfOk result (λ all.
+        texts_at all.items ≡ texts_of id.now (rows_of (found_of given.now))) }
+{
+    match given.get_strs(id) {
+        Some(all) => Vec::from_slice(alloc, all),
+        None => Ok(Vec::new(alloc)),
+    }
 }
 
 // The texts given for an id, one after the other.

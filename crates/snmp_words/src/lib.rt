@@ -14,8 +14,10 @@ ghost use Rattle.std.specs.Prelude.{IfErr, IfOk, OnOk};
 ghost use Rattle.clap.specs.Walk.{texts};
 ghost use Rattle.clap.specs.Words.{kind_of};
 ghost use Rattle.snmp_words.specs.Command.{faults_of, is_taken};
-ghost use Rattle.snmp_words.specs.Words.{HasFaultOf, IsMemory, StandsFor, job_words, snmpwalk};
-ghost use Rattle.snmp_words.specs.Words.{stated_job, walk_line, words_of_walk};
+ghost use Rattle.snmp_words.specs.Words.{HasFaultOf, IsMemory, StandsFor, get_line, job_words};
+ghost use Rattle.snmp_words.specs.Words.{snmpget, snmptranslate, snmpwalk, stated_job};
+ghost use Rattle.snmp_words.specs.Words.{translate_line, walk_line, words_of_get};
+ghost use Rattle.snmp_words.specs.Words.{words_of_translation, words_of_walk};
 
 use clap::error::ErrorKind;
 use command::snmp_command;
@@ -75,6 +77,26 @@ pub fn walks_are_taken()
     ensures apart_job { (path numbers : List ℕ) →
         stated_job (walk_line (codes "-O" ∷ codes "n" ∷ []) path numbers)
         ≡ Some (snmpwalk (words_of_walk path numbers)) }
+{}
+
+/// The details of any numeric name, with any two files of modules, are asked for by words that are
+/// taken and state that translation: the files in their order.
+pub fn translations_are_taken()
+    ensures taken { (first second name : List ℕ) →
+        is_taken (translate_line first second name) ≡ true }
+    ensures job { (first second name : List ℕ) →
+        stated_job (translate_line first second name)
+        ≡ Some (snmptranslate (words_of_translation first second name)) }
+{}
+
+/// The instances of any two numeric names, of an agent on any host, with any file of modules, are
+/// asked for by words that are taken and state that get: the names in their order.
+pub fn gets_are_taken()
+    ensures taken { (modules host first second : List ℕ) →
+        is_taken (get_line modules host first second) ≡ true }
+    ensures job { (modules host first second : List ℕ) →
+        stated_job (get_line modules host first second)
+        ≡ Some (snmpget (words_of_get modules host first second)) }
 {}
 
 // Help and the version are what was asked for.

@@ -1,9 +1,9 @@
 //! The options and words of the commands, each with its help.
 ghost use Rattle.std.specs.Prelude.{◌≡◌, false};
 ghost use Rattle.clap.specs.Walk.{rule_of};
-ghost use Rattle.snmp_words.specs.Command.{after_rule, agent_rule, community_rule};
-ghost use Rattle.snmp_words.specs.Command.{letters_rule, listen_rule, name_rule};
-ghost use Rattle.snmp_words.specs.Command.{protocol_rule, retries_rule, seconds_rule};
+ghost use Rattle.snmp_words.specs.Command.{after_rule, agent_rule, community_rule, details_rule};
+ghost use Rattle.snmp_words.specs.Command.{letters_rule, listen_rule, mib_rule, name_rule};
+ghost use Rattle.snmp_words.specs.Command.{names_rule, protocol_rule, retries_rule, seconds_rule};
 ghost use Rattle.snmp_words.specs.Command.{size_rule, table_rule, turns_rule, walk_letters_rule};
 
 use clap::{Arg, ArgAction, value_parser};
@@ -33,6 +33,29 @@ const WALK_LETTERS_HELP: &str = "What is walked; may be repeated\n\
                                  rN: snmpbulkwalk: N instances a request, 1 to 2147483647; \
                                  by default 10";
 
+const MIB_HELP: &str = "A file of MIB modules, whose names can be given and are shown; may be \
+                        repeated, in order";
+
+const DETAILS_HELP: &str = "What is shown in place of names\n\
+                            d: details";
+
+const AGENT_HELP: &str = "The agent\n\
+                          host[:port] or udp:host[:port]: the agent at that UDP port; by \
+                          default port 161\n\
+                          table:FILE: an agent in memory that serves the table of a file";
+
+/// `--mib FILE`
+pub(crate) fn mib_option<'a>(alloc: Global) -> Arg<'a>
+    ensures rule { rule_of result ≡ mib_rule }
+    ensures local { result.global ≡ false }
+{
+    Arg::new(alloc, "mib")
+        .long("mib")
+        .value_name("FILE")
+        .help(MIB_HELP)
+        .action(ArgAction::Append)
+}
+
 /// `-O LETTERS`
 pub(crate) fn letters_option<'a>(alloc: Global) -> Arg<'a>
     ensures rule { rule_of result ≡ letters_rule }
@@ -43,6 +66,17 @@ pub(crate) fn letters_option<'a>(alloc: Global) -> Arg<'a>
         .value_name("LETTERS")
         .help(LETTERS_HELP)
         .action(ArgAction::Append)
+}
+
+/// `-T LETTERS`
+pub(crate) fn details_option<'a>(alloc: Global) -> Arg<'a>
+    ensures rule { rule_of result ≡ details_rule }
+    ensures local { result.global ≡ false }
+{
+    Arg::new(alloc, "details")
+        .short('T')
+        .value_name("LETTERS")
+        .help(DETAILS_HELP)
 }
 
 /// `-v VERSION`
@@ -172,7 +206,7 @@ pub(crate) fn agent_word<'a>(alloc: Global) -> Arg<'a>
 {
     Arg::new(alloc, "agent")
         .value_name("AGENT")
-        .help("The agent: table:FILE, over a table file in memory")
+        .help(AGENT_HELP)
         .required(true)
 }
 
@@ -184,4 +218,16 @@ pub(crate) fn name_word<'a>(alloc: Global) -> Arg<'a>
     Arg::new(alloc, "name").value_name("NAME").help(
         "The name of the root, such as .1.3.6.1.2.1.2.2; by default 1.3.6.1.2.1",
     )
+}
+
+/// `NAME..`
+pub(crate) fn names_word<'a>(alloc: Global) -> Arg<'a>
+    ensures rule { rule_of result ≡ names_rule }
+    ensures local { result.global ≡ false }
+{
+    Arg::new(alloc, "names")
+        .value_name("NAME")
+        .help("A name, such as .1.3.6.1.2.1.1.3.0 or SNMPv2-MIB::sysUpTime.0; may be repeated")
+        .required(true)
+        .action(ArgAction::Append)
 }

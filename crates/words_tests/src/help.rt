@@ -39,6 +39,16 @@ const LETTERS: [&str; 13] = [
 fn each_command_has_help_and_an_example(rt: HostRuntime) -> Result<(), Fail> {
     for (command, usage, example) in [
         (
+            "snmptranslate",
+            "Usage: snmp snmptranslate [OPTIONS] <NAME>...",
+            "Example: snmp snmptranslate --mib tiny.txt -Td TINY-MIB::tinyState",
+        ),
+        (
+            "snmpget",
+            "Usage: snmp snmpget [OPTIONS] <AGENT> <NAME>...",
+            "Example: snmp snmpget -On table:three.tab .1.3.6.1.4.1.32473.1.2.0",
+        ),
+        (
             "snmpwalk",
             "Usage: snmp snmpwalk [OPTIONS] <AGENT> [NAME]",
             "Example: snmp snmpwalk -On -Cp table:three.tab .1.3.6.1.4.1.32473.1",
@@ -63,8 +73,22 @@ fn each_command_has_help_and_an_example(rt: HostRuntime) -> Result<(), Fail> {
 
 #[test]
 fn help_lists_each_letter(rt: HostRuntime) -> Result<(), Fail> {
-    for command in ["snmpwalk", "snmpbulkwalk"] {
+    for command in ["snmptranslate", "snmpget", "snmpwalk", "snmpbulkwalk"] {
         assert!(rt; helps(&rt, &["snmp", command, "--help"], &LETTERS));
+    }
+    assert!(rt; helps(&rt, &["snmp", "snmptranslate", "--help"], &["d: details"]));
+    assert!(rt; !helps(&rt, &["snmp", "snmpget", "--help"], &["d: details"]));
+    Ok(())
+}
+
+#[test]
+fn help_lists_the_forms_of_agents(rt: HostRuntime) -> Result<(), Fail> {
+    let forms = [
+        "host[:port] or udp:host[:port]: the agent at that UDP port; by default port 161",
+        "table:FILE: an agent in memory that serves the table of a file",
+    ];
+    for command in ["snmpget", "snmpwalk", "snmpbulkwalk"] {
+        assert!(rt; helps(&rt, &["snmp", command, "--help"], &forms));
     }
     Ok(())
 }
@@ -72,8 +96,8 @@ fn help_lists_each_letter(rt: HostRuntime) -> Result<(), Fail> {
 #[test]
 fn the_program_has_help_and_a_version(rt: HostRuntime) -> Result<(), Fail> {
     assert!(rt; helps(&rt, &["snmp", "--help"], &["Usage: snmp <COMMAND>"]));
-    assert!(rt; helps(&rt, &["snmp", "--version"], &["snmp 0.5.0"]));
-    assert!(rt; helps(&rt, &["snmp", "-V"], &["snmp 0.5.0"]));
+    assert!(rt; helps(&rt, &["snmp", "--version"], &["snmp 0.6.0"]));
+    assert!(rt; helps(&rt, &["snmp", "-V"], &["snmp 0.6.0"]));
     assert!(rt; !helps(&rt, &["snmp"], &[]));
     Ok(())
 }

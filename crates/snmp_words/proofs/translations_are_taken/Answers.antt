@@ -1,0 +1,11 @@
+use Rattle.std.proofs.Common.{refl}
+use Rattle.clap.proofs.OnLiterals.{clap_on_literals}
+use Rattle.snmp_words.proofs.translations_are_taken.Goals as goal
+
+pub returns-clause-taken : goal.returns-clause-taken
+unfolding clap_on_literals
+returns-clause-taken c first second name = refl
+
+pub returns-clause-job : goal.returns-clause-job
+unfolding clap_on_literals
+returns-clause-job c first second name = refl
