@@ -1,0 +1,7 @@
+//! Tests of the tree of names that module files give: its warnings, and what refuses files.
+#![tactic(auto)]
+
+#[cfg(test)]
+mod loading;
+#[cfg(test)]
+mod tiny;
