@@ -2,3 +2,4 @@ pub mod Bridging
 pub mod Equating
 pub mod Knowing
 pub mod Placing
+pub mod Single
