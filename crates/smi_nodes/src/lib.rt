@@ -6,9 +6,11 @@
 
 mod gather;
 mod imports;
+mod laws;
 mod source;
 mod warning;
 
 pub use gather::{Gathered, nodes};
+pub use laws::one_loading;
 pub use source::Source;
 pub use warning::Warning;
