@@ -1,5 +1,6 @@
 -- A column has one index.
-use Rattle.std.proofs.Common.{◌≡◌, ℕ, Bool, List, Option, refl, sym, ap, ◌∙◌, arith}
+use Rattle.std.proofs.Common.{◌≡◌, ℕ, Bool, List, Option, Some, None, refl, sym, ap, ◌∙◌, arith}
+use Rattle.std.proofs.lemmas.List.{ext_get_or}
 use Rattle.std.proofs.lemmas.Option.{slice_get_within}
 use Rattle.smi_index.specs.declared.part.Extent.{Extent}
 use Rattle.smi_index.specs.declared.part.Extent.TheVariants.{Fixed, Counted, Implied}
@@ -16,7 +17,7 @@ use Rattle.smi_types.specs.declared.base.TypeBase.{TypeBase}
 use Rattle.smi_types.specs.declared.base.TypeBase.TheVariants as T
 use Rattle.smi_nodes.specs.Nodes.{Node}
 use Rattle.smi_columns.specs.Parts.{IsFixedSize, HasExtent, IsPartOf}
-use Rattle.smi_columns.specs.Index.{IsPart, AreParts, IsIndexed, IsIndexOf, is_implied}
+use Rattle.smi_columns.specs.Index.{IsPart, AreParts, IsIndexed, IsIndexOf, IsIndex, AreIndexesOf, index_at, is_implied}
 use Rattle.smi_columns.proofs.Lists.{get_within, same_items}
 use Rattle.smi_columns.proofs.Parting.{defined_once}
 use Rattle.smi_columns.proofs.Indexing.{index_once}
@@ -80,3 +81,17 @@ module _ (ms : List Module) (one : (o : TypeOrigin Place) (f g : Facts) → HasS
   same_index nodes column ps qs a b =
       same_indexed b.index_module b.index_definition ps qs (index_once ms nodes column b.row b.row_module b.row_definition b.index_module
       b.index_definition ps b.of_row b.home b.defined b.uses a) b.indexed
+
+-- each node has one index or none, so the lists of them are the same
+module _ (ms : List Module) (nodes : List Node)
+    (one : (column : Node) (ps qs : List IndexPart) → IsIndexOf ms nodes column ps → IsIndexOf ms nodes column qs → ps ≡ qs) where
+  index_or_none : (node : Node) (r s : Option (List IndexPart)) → IsIndex ms nodes node r → IsIndex ms nodes node s → r ≡ s
+  index_or_none node None None a b = refl
+  index_or_none node None (Some qs) a b = absurd (a qs b)
+  index_or_none node (Some ps) None a b = absurd (b ps a)
+  index_or_none node (Some ps) (Some qs) a b = ap (λ x. Some x) (one node ps qs a b)
+
+  pub same_indexes : (is js : List (Option (List IndexPart))) → AreIndexesOf ms nodes is → AreIndexesOf ms nodes js → is ≡ js
+  same_indexes is js a b = ext_get_or None is js (a.long ∙ sym b.long) (λ k inside.
+      let node = get_within nodes k (omega (arith, a.long)) in
+      index_or_none node.0 (index_at is k) (index_at js k) (a.each k node.0 node.1) (b.each k node.0 node.1))

@@ -1,9 +1,9 @@
 //! Laws of indexes, for any modules.
-ghost use Rattle.std.specs.Prelude.{◌≡◌, List};
+ghost use Rattle.std.specs.Prelude.{◌≡◌, List, Option};
 ghost use Rattle.smi_module.specs.declared.tree.Module.{Module};
 ghost use Rattle.smi_index.specs.declared.part.IndexPart.{IndexPart};
 ghost use Rattle.smi_nodes.specs.Nodes.{Node};
-ghost use Rattle.smi_columns.specs.Index.{IsIndexOf};
+ghost use Rattle.smi_columns.specs.Index.{AreIndexesOf, IsIndexOf};
 
 use smi_types::one_syntax;
 
@@ -16,4 +16,13 @@ pub fn one_index()
         → IsIndexOf modules nodes column others → parts ≡ others }
 {
     one_syntax();
+}
+
+/// The nodes of modules have one list of indexes.
+pub fn one_list_of_indexes()
+    ensures { (modules : List Module) (nodes : List Node)
+        (indexes others : List (Option (List IndexPart))) → AreIndexesOf modules nodes indexes
+        → AreIndexesOf modules nodes others → indexes ≡ others }
+{
+    one_index();
 }

@@ -13,4 +13,4 @@ mod part;
 mod rows;
 
 pub use indexes::Indexes;
-pub use laws::one_index;
+pub use laws::{one_index, one_list_of_indexes};
