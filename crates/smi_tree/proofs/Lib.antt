@@ -7,3 +7,4 @@ pub mod Syntaxes
 pub mod Reaching
 pub mod Soundness
 pub mod Sounding
+pub mod Single

@@ -45,11 +45,20 @@ module _ (ms : List Module) (t : Types)
       of_origin (node_from ms (S.Definition i k) o) (object_origin ms i k) (rw (parts ms (S.Definition i k) o) (same_object ms i k)) (kept_syntax ms t i k)
       (right i k)
 
-  pub syntaxes_right : (ss : List Source) (os : List (List ℕ)) → AreSyntaxesOf ms (nodes_of ms ss os) (syntaxes_from ms t ss)
-  syntaxes_right [] os k n e = absurd (cc)
-  syntaxes_right (s ∷ ss) [] k n e = absurd (cc)
-  syntaxes_right (s ∷ ss) (o ∷ os) zero n e = let same : node_from ms s o ≡ n = cc in rw (sym same) (of_source s o)
-  syntaxes_right (s ∷ ss) (o ∷ os) (suc k) n e = syntaxes_right ss os k n e
+  each_right : (ss : List Source) (os : List (List ℕ)) (k : ℕ) (n : Node) → slice_get (nodes_of ms ss os) k ≡ Some n
+      → IsSyntaxOf ms n (slice_index_or (syntaxes_from ms t ss) k None)
+  each_right [] os k n e = absurd (cc)
+  each_right (s ∷ ss) [] k n e = absurd (cc)
+  each_right (s ∷ ss) (o ∷ os) zero n e = let same : node_from ms s o ≡ n = cc in rw (sym same) (of_source s o)
+  each_right (s ∷ ss) (o ∷ os) (suc k) n e = each_right ss os k n e
+
+  as_many : (ss : List Source) (os : List (List ℕ)) → length ss ≡ length os → length (syntaxes_from ms t ss) ≡ length (nodes_of ms ss os)
+  as_many [] os l = refl
+  as_many (s ∷ ss) [] l = absurd (omega arith)
+  as_many (s ∷ ss) (o ∷ os) l = ap (λ n. suc n) (as_many ss os (omega arith))
+
+  pub syntaxes_right : (ss : List Source) (os : List (List ℕ)) → length ss ≡ length os → AreSyntaxesOf ms (nodes_of ms ss os) (syntaxes_from ms t ss)
+  syntaxes_right ss os l = record { long = as_many ss os l; each = each_right ss os }
 
 pub kept-none : (ms : List Module) (t : Types) (ss : List Source) (k : ℕ) → slice_get ss k ≡ None → slice_index_or (syntaxes_from ms t ss) k None ≡ None
 kept-none ms t [] k e = refl

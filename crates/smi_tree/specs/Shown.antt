@@ -39,11 +39,12 @@ abbrev pub IsSyntaxOf : List Module → Node → Option Facts → Type 0
 IsSyntaxOf ms n (Some facts) = HasSyntax ms (object_in n.home n.definition) facts
 IsSyntaxOf ms n None = HasNoSyntax ms (object_in n.home n.definition)
 
--- each node has its syntax
-abbrev pub AreSyntaxesOf : List Module → List Node → List (Option Facts) → Type 0
-AreSyntaxesOf ms nodes syntaxes =
-    (k : ℕ) (n : Node) → slice_get nodes k ≡ Some n
-    → IsSyntaxOf ms n (slice_index_or syntaxes k None)
+-- the syntax of each node's object, in the order of the nodes
+pub record AreSyntaxesOf (ms : List Module) (nodes : List Node)
+    (syntaxes : List (Option Facts)) : Type 0 where
+  pub long : length syntaxes ≡ length nodes
+  pub each : (k : ℕ) (n : Node) → slice_get nodes k ≡ Some n
+      → IsSyntaxOf ms n (slice_index_or syntaxes k None)
 
 -- the syntax that is kept for a source
 abbrev pub syntax_from : List Module → Types → Source → Option Facts

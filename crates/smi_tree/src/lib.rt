@@ -5,6 +5,7 @@
 #![tactic(auto)]
 
 mod detail;
+mod laws;
 mod naming;
 mod node;
 mod places;
@@ -12,6 +13,7 @@ mod show;
 mod shown;
 mod tree;
 
+pub use laws::one_tree;
 pub use node::Node;
 pub use smi_branches::{Children, Deepest};
 pub use smi_nodes::Warning;

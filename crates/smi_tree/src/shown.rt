@@ -1,5 +1,5 @@
 //! The syntax of objects as values are shown by it.
-ghost use Rattle.std.specs.Prelude.{◌≡◌, ℕ, List, option_map};
+ghost use Rattle.std.specs.Prelude.{◌≡◌, ℕ, List, length, option_map};
 ghost use Rattle.std.specs.Option.{option_and_then, option_copied};
 ghost use Rattle.smi_module.specs.declared.tree.Module.{Module};
 ghost use Rattle.smi_nodes.specs.Gathered.{nodes_of};
@@ -105,7 +105,7 @@ pub(crate) fn units(modules: &[Module], source: Source) -> Option<&Text>
 /// The syntaxes that are kept for nodes are those that their objects have.
 pub(crate) fn kept_syntaxes()
     ensures { (modules : List Module) (types : Types) → AreTypesOf modules types
-        → (sources : List Source) (oids : List (List ℕ))
+        → (sources : List Source) (oids : List (List ℕ)) → length sources ≡ length oids
         → AreSyntaxesOf modules (nodes_of modules sources oids)
         (syntaxes_from modules types sources) }
 {

@@ -12,7 +12,8 @@ returns c =
     let found = c.in_ok-gathered.ensures in
     let same : c.in_ok-identifiers.identifiers ≡ c.in_ok-gathered.gathered.oids.items = c.in_ok-identifiers.ensures in
     let indexed = rw (c.deref.ensures.value) at c.in_ok-indexes.ensures in
+    let long = found.long ∙ sym (ap (λ l. length l) same) in
     record {
-      long = found.long ∙ sym (ap (λ l. length l) same);
-      tree = is_tree ms g t os c.in_ok-indexes.indexes found same (c.kept_syntaxes.ensures ms t c.in_ok-types.ensures g.sources.items os) indexed;
+      long = long;
+      tree = is_tree ms g t os c.in_ok-indexes.indexes found same (c.kept_syntaxes.ensures ms t c.in_ok-types.ensures g.sources.items os long) indexed;
     }

@@ -1,0 +1,50 @@
+-- Modules have one tree, by one list of nodes, of syntaxes, of indexes and of warnings.
+use Rattle.std.proofs.Common.{◌≡◌, ℕ, zero, suc, ◌<◌, List, [], ◌∷◌, ◌++◌, length, Option, Some, None, slice_index_or, refl, sym, ap, ◌∙◌, arith}
+use Rattle.std.proofs.lemmas.List.{ext_get_or}
+use Rattle.std.specs.List.{slice_get}
+use Rattle.smi_module.specs.declared.tree.Module.{Module}
+use Rattle.smi_meaning.specs.Meaning.{Place}
+use Rattle.smi_nodes.specs.Nodes.{Node, roots, Loads}
+use Rattle.smi_nodes.specs.declared.warning.Warning.{Warning}
+use Rattle.smi_types.specs.Chain.{TypeOrigin}
+use Rattle.smi_types.specs.Types.{Facts, HasSyntax, object_in}
+use Rattle.smi_columns.specs.Index.{AreIndexesOf}
+use Rattle.smi_index.specs.declared.part.IndexPart.{IndexPart}
+use Rattle.smi_tree.specs.Shown.{IsSyntaxOf, AreSyntaxesOf}
+use Rattle.smi_tree.specs.Tree.{Contents, IsTree}
+
+there : {X : Type 0} (xs : List X) (k : ℕ) → k < length xs → (x : X) × (slice_get xs k ≡ Some x)
+there [] k l = absurd (omega arith)
+there (x ∷ xs) zero l = (x, refl)
+there (x ∷ xs) (suc k) l = there xs k (omega arith)
+
+module _ (ms : List Module)
+    (loading : (before : List Module) (ns es : List Node) (ws vs : List Warning) → Loads ms before ns ws → Loads ms before es vs → (ns ≡ es) × (ws ≡ vs))
+    (syntax : (o : TypeOrigin Place) (f g : Facts) → HasSyntax ms o f → HasSyntax ms o g → f ≡ g)
+    (indexes : (nodes : List Node) (is js : List (Option (List IndexPart))) → AreIndexesOf ms nodes is → AreIndexesOf ms nodes js → is ≡ js) where
+  syntax_or_none : (n : Node) (r s : Option Facts) → IsSyntaxOf ms n r → IsSyntaxOf ms n s → r ≡ s
+  syntax_or_none n None None a b = refl
+  syntax_or_none n None (Some g) a b = absurd (a g b)
+  syntax_or_none n (Some f) None a b = absurd (b f a)
+  syntax_or_none n (Some f) (Some g) a b = ap (λ x. Some x) (syntax (object_in n.home n.definition) f g a b)
+
+  same_syntaxes : (nodes : List Node) (fs gs : List (Option Facts)) → AreSyntaxesOf ms nodes fs → AreSyntaxesOf ms nodes gs → fs ≡ gs
+  same_syntaxes nodes fs gs a b = ext_get_or None fs gs (a.long ∙ sym b.long) (λ k inside.
+      let node = there nodes k (omega (arith, a.long)) in
+      syntax_or_none node.0 (slice_index_or fs k None) (slice_index_or gs k None) (a.each k node.0 node.1) (b.each k node.0 node.1))
+
+  same_contents : (t u : Contents) → t.modules ≡ u.modules → t.nodes ≡ u.nodes → t.syntaxes ≡ u.syntaxes → t.indexes ≡ u.indexes → t ≡ u
+  same_contents t u modules nodes syntaxes indexes =
+      ap (λ x. record { modules = x; nodes = t.nodes; syntaxes = t.syntaxes; indexes = t.indexes }) modules
+      ∙ ap (λ x. record { modules = u.modules; nodes = x; syntaxes = t.syntaxes; indexes = t.indexes }) nodes
+      ∙ ap (λ x. record { modules = u.modules; nodes = u.nodes; syntaxes = x; indexes = t.indexes }) syntaxes
+      ∙ ap (λ x. record { modules = u.modules; nodes = u.nodes; syntaxes = u.syntaxes; indexes = x }) indexes
+
+  pub one_tree : (t u : Contents) (ws vs : List Warning) → IsTree ms t ws → IsTree ms u vs → (t ≡ u) × (ws ≡ vs)
+  one_tree t u ws vs a b =
+      let load = loading ms a.ns b.ns ws vs a.loads b.loads in
+      let nodes : t.nodes ≡ u.nodes = a.nodes ∙ ap (λ x. roots ++ x) load.0 ∙ sym b.nodes in (
+        same_contents t u (a.passed ∙ sym b.passed) nodes (same_syntaxes u.nodes t.syntaxes u.syntaxes (rw nodes at a.syntaxes) b.syntaxes)
+            (indexes u.nodes t.indexes u.indexes (rw nodes at a.indexes) b.indexes),
+        load.1,
+      )

@@ -1,0 +1,22 @@
+//! Laws of trees of names, for any modules.
+ghost use Rattle.std.specs.Prelude.{◌≡◌, List};
+ghost use Rattle.smi_module.specs.declared.tree.Module.{Module};
+ghost use Rattle.smi_nodes.specs.declared.warning.Warning.{Warning};
+ghost use Rattle.smi_tree.specs.Tree.{Contents, IsTree};
+
+use smi_columns::one_list_of_indexes;
+use smi_nodes::one_loading;
+use smi_types::one_syntax;
+
+/// Modules have one tree at most, with one list of warnings.
+///
+/// A law: the call does nothing, and its caller may use what it ensures.
+pub fn one_tree()
+    ensures { (modules : List Module) (tree other : Contents) (warnings more : List Warning)
+        → IsTree modules tree warnings → IsTree modules other more
+        → (tree ≡ other) × (warnings ≡ more) }
+{
+    one_loading();
+    one_syntax();
+    one_list_of_indexes();
+}
