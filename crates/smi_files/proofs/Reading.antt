@@ -1,5 +1,5 @@
 -- The modules of one file more, and that there is one list of them.
-use Rattle.std.proofs.Common.{◌≡◌, ◌∙◌, ◌⊎◌, inl, inr, ◌++◌, ◌+◌, ◌<◌, ap, ap₂, refl, sym, subst, ℕ, List, [], ◌∷◌, Bor, Option, Some, take, drop, length, get_or, unwrap_or}
+use Rattle.std.proofs.Common.{◌≡◌, ◌∙◌, ◌⊎◌, inl, inr, ◌++◌, ◌+◌, ◌<◌, ap, ap₂, refl, sym, subst, ℕ, List, [], ◌∷◌, Bor, Option, Some, None, take, drop, length, get_or, unwrap_or}
 use Rattle.std.proofs.Common.{append_assoc, append-nil}
 use Rattle.std.proofs.lemmas.List.{drop_more, map-append, take-append-drop, take_more}
 use Rattle.text_draft.specs.Draft.{Adds, Grows, Written}
@@ -83,3 +83,20 @@ refused_at files paths i d ms why inside read (inr fails) = inr (record {
   are_read = read;
   fails = fails;
 })
+
+-- a file that is known to hold a text isn't without one
+pub held_text : (held : Option (Option (List ℕ))) (text : List ℕ) → held ≡ Some (Some text) → HoldsIfKnown held None → ⊥
+held_text None text e k = let no : ⊥ = cc in no
+held_text (Some x) text e k = let no : ⊥ = cc in no
+
+-- each of the files is known to hold modules where all are
+pub held_at : (files : Holdings) (before : List (List ℕ)) (path : List ℕ) (left : List (List ℕ)) (ms : List Module)
+    → AreModulesOf (Holds files) (before ++ path ∷ left) ms → (first : List Module) × AreModulesIn (Holds files) path first
+held_at files [] path left ms (first, rest, is, more, whole) = (first, is)
+held_at files (p ∷ before) path left ms (first, rest, is, more, whole) = held_at files before path left rest more
+
+pub held_among : (files : Holdings) (paths : List (Bor (List ℕ))) (i : ℕ) (d : Bor (List ℕ)) (ms : List Module) → i < length paths
+    → AreModulesOf (Holds files) (texts paths) ms → (first : List Module) × AreModulesIn (Holds files) (get_or paths i d).now first
+held_among files paths i d ms inside are =
+    held_at files (texts (take i paths)) (get_or paths i d).now (texts (drop (i + 1) paths)) ms
+    (subst (λ (ps : List (List ℕ)). AreModulesOf (Holds files) ps ms) (texts-parts paths i d inside) are)

@@ -1,7 +1,8 @@
 //! The tree of names of module files.
-ghost use Rattle.std.specs.Prelude.{◌≡◌, IfErr, IfOk, OnErr};
+ghost use Rattle.std.specs.Prelude.{◌≡◌, IfErr, IfOk, List, OnErr};
+ghost use Rattle.smi_module.specs.declared.tree.Module.{Module};
 ghost use Rattle.snmp_io.specs.Output.{IsWritten};
-ghost use Rattle.smi_files.specs.Files.{IsRefused, MayHold, texts};
+ghost use Rattle.smi_files.specs.Files.{AreModulesOf, Holds, IsRefused, MayHold, no_memory, texts};
 ghost use Rattle.smi_files.specs.Loaded.{IsLoaded};
 ghost use Rattle.smi_files.specs.Message.{refusal_of};
 
@@ -27,6 +28,10 @@ pub fn load_tree<'a, F: Files, E: Output>(
         (texts paths.now) tree (E.stream err.old) (E.stream err.new)) }
     ensures refused { IfErr result (λ e.
         IsRefused (F.text_at files.now) (texts paths.now) (refusal_of e)) }
+    // Files that are known to hold modules are loaded, unless memory runs out.
+    ensures only { (ms : List Module)
+        → AreModulesOf (Holds (F.text_at files.now)) (texts paths.now) ms
+        → IfErr result (λ e. refusal_of e ≡ no_memory) }
     ensures untold { OnErr result (E.stream err.new ≡ E.stream err.old) }
 {
     let modules = read_modules(alloc, files, paths)?;

@@ -23,6 +23,9 @@ pub fn read_modules<'a, F: Files>(
         AreModulesOf (MayHold (F.text_at files.now)) (texts paths.now) ms.items) }
     ensures refused { IfErr result (λ e.
         IsRefused (F.text_at files.now) (texts paths.now) (refusal_of e)) }
+    // Files that are known to hold modules are read, unless memory runs out.
+    ensures only { (ms : List Tree) → AreModulesOf (Holds (F.text_at files.now)) (texts paths.now) ms
+        → IfErr result (λ e. refusal_of e ≡ no_memory) }
 {
     let mut modules = Vec::new(alloc);
     'paths: for path in paths {
@@ -42,6 +45,8 @@ fn modules_in<'a, F: Files>(
         AreModulesIn (MayHold (F.text_at files.now)) path.now ms.items) }
     ensures refused { IfErr result (λ e. (refusal_of e ≡ no_memory)
         ⊎ FileFails (F.text_at files.now) path.now (refusal_of e)) }
+    ensures only { (ms : List Tree) → AreModulesIn (Holds (F.text_at files.now)) path.now ms
+        → IfErr result (λ e. refusal_of e ≡ no_memory) }
 {
     let text = match files.read(alloc, path) {
         Ok(text) => text,

@@ -24,9 +24,13 @@ use Rattle.snmp_tools.specs.Asking.{agent_step, community_step, letters_step, ve
 use Rattle.snmp_tools.specs.Headline.{CanGoOn, IsFeasible, IsWalk}
 use Rattle.snmp_tools.specs.Letters.{Choices, choices_of, method_of, mode_of}
 use Rattle.snmp_tools.specs.Message.{Fault, bad_table, out_of_memory}
-use Rattle.snmp_tools.specs.Mib.{Holdings, Holds, IsMibOf, MayHold, Mib}
+use Rattle.smi_files.specs.Files.{AreModulesOf}
+use Rattle.smi_module.specs.declared.tree.Module.{Module}
+use Rattle.smi_nodes.specs.declared.warning.Warning.{Warning}
+use Rattle.smi_tree.specs.Tree.{Contents, IsTree}
+use Rattle.snmp_tools.specs.Mib.{AreLoaded, Holdings, Holds, IsMibOf, MayHold, Mib, mib_of}
 use Rattle.snmp_tools.specs.Plan.{AskFor, FailsBy, IsAfterOf, IsRefusal, IsRootOf, Plan, Step, root_text}
-use Rattle.snmp_tools.specs.Plan.{asking, choices_step, root_step, after_step, reach_step, root_sent_step}
+use Rattle.snmp_tools.specs.Plan.{asking, choices_step, mibs_step, root_step, after_step, reach_step, root_sent_step}
 use Rattle.snmp_tools.specs.Plan.{after_below_step, after_sent_step}
 
 pub held_is : (held : Option (Option (List ℕ))) (text other : List ℕ) → HoldsIfKnown held (Some text) → held ≡ Some (Some other) → text ≡ other
@@ -36,9 +40,20 @@ held_is (Some x) text other h e = cc
 pub one_path : (a b : List ℕ) → table a ≡ table b → a ≡ b
 one_path a b e = cc
 
--- a job knows the same names where its files are known
-pub one_mib : (files : Holdings) (words : AskingWords) (a b : Mib) → IsMibOf (Holds files) words a → IsMibOf (MayHold files) words b → a ≡ b
-one_mib files words a b e f = e ∙ sym f
+abbrev pub OneList : Type 0
+OneList = (files : Holdings) (paths : List (List ℕ)) (ms ns : List Module) → AreModulesOf (Holds files) paths ms → AreModulesOf (MayHold files) paths ns
+    → ms ≡ ns
+
+abbrev pub OneTree : Type 0
+OneTree = (modules : List Module) (t u : Contents) (v w : List Warning) → IsTree modules t v → IsTree modules u w → (t ≡ u) × (v ≡ w)
+
+-- a job knows the same names, and its modules have the same warnings, where its files are known
+pub one_load : OneList → OneTree → (files : Holdings) (paths : List (List ℕ)) (a b : Mib) (v w : List Warning)
+    → AreLoaded (Holds files) paths a v → AreLoaded (MayHold files) paths b w → (a ≡ b) × (v ≡ w)
+one_load one_list one_tree files paths a b v w e f =
+    let same : e.modules ≡ f.modules = one_list files paths e.modules f.modules e.read f.read in
+    let both = one_tree f.modules e.tree f.tree v w (subst (λ (ms : List Module). IsTree ms e.tree v) same e.loads) f.loads in
+    (e.is ∙ ap mib_of both.0 ∙ sym f.is, both.1)
 
 -- letters of the same forms are the same
 same_letters : (a b : Letters) → a.names ≡ b.names → a.types ≡ b.types → a.strings ≡ b.strings → a.value_alone ≡ b.value_alone
@@ -127,7 +142,7 @@ goes_after mib (Some other) after text root o h e means can =
     let is : h.0 ≡ o = one_name (meaning mib.naming text) h.0 o (subst (λ (t : List ℕ). meaning mib.naming t ≡ Ok h.0) same h.1) means in
     subst (CanGoOn root) (h.2 ∙ ap Some is) can
 
-module _ (no_fault : (ls : List (List ℕ)) (view : MibView) (fault : TableError) → IsTableOf ls view → IsFirstFault ls fault → fault ≡ table_error.Memory)
+module _ (one_list : OneList) (one_tree : OneTree) (no_fault : (ls : List (List ℕ)) (view : MibView) (fault : TableError) → IsTableOf ls view → IsFirstFault ls fault → fault ≡ table_error.Memory)
     (bulk : Bool) (words : WalkWords) (files : Holdings) (rows : List VarBind) (walk : IsWalk bulk words files rows)
     (can : IsFeasible walk.plan walk.view) where
   unreadable_not : (held : Option (Option (List ℕ))) → held ≡ Some (Some walk.text) → HoldsIfKnown held None → ⊥
@@ -146,7 +161,7 @@ module _ (no_fault : (ls : List (List ℕ)) (view : MibView) (fault : TableError
       table_want walk.path (f.4 ∙ ap (bad_table walk.path) memory)
 
   known_as : (mib : Mib) → IsMibOf (MayHold files) words.asking mib → mib ≡ walk.mib
-  known_as mib is = sym (one_mib files words.asking walk.mib mib walk.known is)
+  known_as mib is = sym (one_load one_list one_tree files words.asking.mibs walk.mib mib walk.warnings is.0 walk.known is.1).0
 
   -- names mean what they mean to the walk
   root_is : (root : List ℕ) → IsRootOf words files root → root ≡ walk.plan.root
@@ -177,6 +192,7 @@ module _ (no_fault : (ls : List (List ℕ)) (view : MibView) (fault : TableError
   step_want : (step : Step) (why : Fault) → FailsBy bulk words files step why → IsWant why
   step_want (asking step) why f = absurd (asking_want step why f)
   step_want choices_step why f = absurd (no_choice (choices_of bulk words.letters) walk.asked.choices f.0 walk.asked.chosen f.1)
+  step_want mibs_step why f = absurd (f.3 walk.known.modules walk.known.read)
   step_want root_step why f =
       absurd (name_stands walk.mib (root_text words) walk.plan.root why walk.asked.root
       (subst (λ (m : Mib). NameFails m (root_text words) why) (known_as f.0 f.1) f.2))

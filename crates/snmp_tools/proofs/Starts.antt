@@ -25,10 +25,10 @@ module _ (bulk : Bool) (words : WalkWords) (files : Holdings) (mib : Mib) (known
   pub names_refused : (orders : Orders) → AreOrdersOf bulk words orders → (why : Fault) → NamesFail words mib why → IsRefusal bulk words files why
   names_refused orders are why (inl f) =
       at_root bulk words files why are.version (orders.letters, are.letters) (chosen orders.choices, are.chosen) are.short_community
-      (address_of orders.agent, are.agent) (mib, known, f)
+      (address_of orders.agent, are.agent) (mib, known) (mib, known, f)
   names_refused orders are why (inr f) =
       at_after bulk words files why are.version (orders.letters, are.letters) (chosen orders.choices, are.chosen) are.short_community
-      (address_of orders.agent, are.agent) (f.0, record { mib = mib; known = known; means = f.1 }) (mib, f.2.0, known, f.2.1, f.2.2)
+      (address_of orders.agent, are.agent) (mib, known) (f.0, record { mib = mib; known = known; means = f.1 }) (mib, f.2.0, known, f.2.1, f.2.2)
 
   module _ (plan : Plan) (asked : AskFor bulk words mib plan) (only : HasAgent words.asking.agent plan.agent) where
     is_root : IsRootOf words files plan.root
@@ -37,13 +37,13 @@ module _ (bulk : Bool) (words : WalkWords) (files : Holdings) (mib : Mib) (known
     pub reach_refused : (why : Fault) → ReachFails files plan.agent words.asking.agent why → IsRefusal bulk words files why
     reach_refused why f =
         at_reach bulk words files why asked.version (plan.letters, asked.letters) (asked.choices, asked.chosen) asked.short_community
-        (plan.agent, only) (plan.root, is_root) (mib, plan.after, known, asked.after) (plan.agent, only, f)
+        (plan.agent, only) (mib, known) (plan.root, is_root) (mib, plan.after, known, asked.after) (plan.agent, only, f)
 
     module _ (reached : IsReached files plan.agent) where
       pub start_refused : (why : Fault) → StartFails plan (root_text words) (unwrap_or words.after []) why → IsRefusal bulk words files why
       start_refused why (inl f) =
           at_root_sent bulk words files why asked.version (plan.letters, asked.letters) (asked.choices, asked.chosen) asked.short_community
-          (plan.agent, only) (plan.root, is_root) (mib, plan.after, known, asked.after) (plan.agent, only, reached)
+          (plan.agent, only) (mib, known) (plan.root, is_root) (mib, plan.after, known, asked.after) (plan.agent, only, reached)
           (plan.root, is_root, f.0, f.1)
       start_refused why (inr f) = resumed (f.1.2)
         where
@@ -61,9 +61,9 @@ module _ (bulk : Bool) (words : WalkWords) (files : Holdings) (mib : Mib) (known
           resumed : ResumeFails plan.root f.1.0 text why → IsRefusal bulk words files why
           resumed (inl g) =
               at_after_below bulk words files why asked.version (plan.letters, asked.letters) (asked.choices, asked.chosen) asked.short_community
-              (plan.agent, only) (plan.root, is_root) (mib, plan.after, known, asked.after) (plan.agent, only, reached)
+              (plan.agent, only) (mib, known) (plan.root, is_root) (mib, plan.after, known, asked.after) (plan.agent, only, reached)
               (plan.root, is_root, f.0) (plan.root, text, after, is_root, is_after, g.0, g.1)
           resumed (inr g) =
               at_after_sent bulk words files why asked.version (plan.letters, asked.letters) (asked.choices, asked.chosen) asked.short_community
-              (plan.agent, only) (plan.root, is_root) (mib, plan.after, known, asked.after) (plan.agent, only, reached)
+              (plan.agent, only) (mib, known) (plan.root, is_root) (mib, plan.after, known, asked.after) (plan.agent, only, reached)
               (plan.root, is_root, f.0) (plan.root, text, after, is_root, is_after, g.0) (text, after, is_after, g.1, g.2)

@@ -1,11 +1,12 @@
 -- The first step that fails, after those that are done.
-use Rattle.std.proofs.Common.{◌≡◌, inl, inr, ℕ, Bool, List, [], ◌∷◌, Bor, Option, Some, None, option_map, unwrap_or, refl, ap}
+use Rattle.std.proofs.Common.{append_assoc}
+use Rattle.std.proofs.Common.{◌≡◌, ◌∙◌, ◌++◌, inl, inr, ℕ, Bool, List, [], ◌∷◌, Bor, Option, Some, None, option_map, unwrap_or, refl, ap}
 use Rattle.snmp_words.specs.Words.{WalkWords}
 use Rattle.snmp_tools.specs.Asking.{agent_step, community_step, letters_step, version_step}
 use Rattle.snmp_tools.specs.Message.{Fault}
 use Rattle.snmp_tools.specs.Mib.{Holdings}
-use Rattle.snmp_tools.specs.Plan.{FailsBy, IsDoneBy, IsRefusal, Step, asking, choices_step, root_step, after_step, reach_step, root_sent_step}
-use Rattle.snmp_tools.specs.Plan.{after_below_step, after_sent_step}
+use Rattle.snmp_tools.specs.Plan.{FailsBy, IsDoneBy, IsEarlyRefusal, IsRefusal, Step, asking, choices_step, mibs_step, root_step, after_step, reach_step}
+use Rattle.snmp_tools.specs.Plan.{after_below_step, after_sent_step, naming_steps, root_sent_step}
 use Rattle.snmp_tools.specs.Planned.{AgentFails, ShowingFails}
 use Rattle.snmp_tools.specs.Steps.{IsFirstToFail}
 
@@ -50,49 +51,68 @@ module _ (bulk : Bool) (words : WalkWords) (files : Holdings) (why : Fault) wher
   abbrev name_steps : List Step
   name_steps = root_step ∷ after_step ∷ reach_step ∷ sent_steps
 
-  -- before any name is looked up
-  pub at_showing : ShowingFails words.asking why → IsRefusal bulk words files why
+  -- before any module file is read
+  pub at_showing : ShowingFails words.asking why → IsEarlyRefusal bulk words files why
   at_showing (inl f) = inr (fails (asking version_step) _ f)
   at_showing (inr f) = inr (goes_on (asking version_step) _ f.0 (fails (asking letters_step) _ f.1))
 
   module _ (v : Done (asking version_step)) (l : Done (asking letters_step)) where
-    shown : Refused (choices_step ∷ asking community_step ∷ asking agent_step ∷ name_steps) → IsRefusal bulk words files why
-    shown h = inr (goes_on (asking version_step) _ v (goes_on (asking letters_step) _ l h))
+    shown : (steps : List Step) → Refused steps → Refused (asking version_step ∷ asking letters_step ∷ steps)
+    shown steps h = goes_on (asking version_step) _ v (goes_on (asking letters_step) _ l h)
 
-    pub at_choices : Fails choices_step → IsRefusal bulk words files why
-    at_choices f = shown (fails choices_step _ f)
+    pub at_choices : Fails choices_step → IsEarlyRefusal bulk words files why
+    at_choices f = inr (shown _ (fails choices_step _ f))
 
     module _ (c : Done choices_step) where
-      pub at_agent : AgentFails words.asking why → IsRefusal bulk words files why
-      at_agent (inl f) = shown (goes_on choices_step _ c (fails (asking community_step) _ f))
-      at_agent (inr f) = shown (goes_on choices_step _ c (goes_on (asking community_step) _ f.0 (fails (asking agent_step) _ f.1)))
+      chosen : (steps : List Step) → Refused steps → Refused (asking version_step ∷ asking letters_step ∷ choices_step ∷ steps)
+      chosen steps h = shown _ (goes_on choices_step _ c h)
+
+      pub at_agent : AgentFails words.asking why → IsEarlyRefusal bulk words files why
+      at_agent (inl f) = inr (chosen _ (fails (asking community_step) _ f))
+      at_agent (inr f) = inr (chosen _ (goes_on (asking community_step) _ f.0 (fails (asking agent_step) _ f.1)))
 
       module _ (s : Done (asking community_step)) (a : Done (asking agent_step)) where
-        reached : Refused name_steps → IsRefusal bulk words files why
-        reached h = shown (goes_on choices_step _ c (goes_on (asking community_step) _ s (goes_on (asking agent_step) _ a h)))
+        pub at_mibs : Fails mibs_step → IsEarlyRefusal bulk words files why
+        at_mibs f = inr (chosen _ (goes_on (asking community_step) _ s (goes_on (asking agent_step) _ a (fails mibs_step _ f))))
 
-        pub at_root : Fails root_step → IsRefusal bulk words files why
-        at_root f = reached (fails root_step _ f)
+        module _ (m : Done mibs_step) where
+          reached : Refused name_steps → IsRefusal bulk words files why
+          reached h = inr (chosen _ (goes_on (asking community_step) _ s (goes_on (asking agent_step) _ a (goes_on mibs_step _ m h))))
 
-        module _ (r : Done root_step) where
-          pub at_after : Fails after_step → IsRefusal bulk words files why
-          at_after f = reached (goes_on root_step _ r (fails after_step _ f))
+          pub at_root : Fails root_step → IsRefusal bulk words files why
+          at_root f = reached (fails root_step _ f)
 
-          module _ (p : Done after_step) where
-            named : Refused (reach_step ∷ sent_steps) → IsRefusal bulk words files why
-            named h = reached (goes_on root_step _ r (goes_on after_step _ p h))
+          module _ (r : Done root_step) where
+            pub at_after : Fails after_step → IsRefusal bulk words files why
+            at_after f = reached (goes_on root_step _ r (fails after_step _ f))
 
-            pub at_reach : Fails reach_step → IsRefusal bulk words files why
-            at_reach f = named (fails reach_step _ f)
+            module _ (p : Done after_step) where
+              named : Refused (reach_step ∷ sent_steps) → IsRefusal bulk words files why
+              named h = reached (goes_on root_step _ r (goes_on after_step _ p h))
 
-            module _ (t : Done reach_step) where
-              pub at_root_sent : Fails root_sent_step → IsRefusal bulk words files why
-              at_root_sent f = named (goes_on reach_step _ t (fails root_sent_step _ f))
+              pub at_reach : Fails reach_step → IsRefusal bulk words files why
+              at_reach f = named (fails reach_step _ f)
 
-              module _ (o : Done root_sent_step) where
-                pub at_after_below : Fails after_below_step → IsRefusal bulk words files why
-                at_after_below f = named (goes_on reach_step _ t (goes_on root_sent_step _ o (fails after_below_step _ f)))
+              module _ (t : Done reach_step) where
+                pub at_root_sent : Fails root_sent_step → IsRefusal bulk words files why
+                at_root_sent f = named (goes_on reach_step _ t (fails root_sent_step _ f))
 
-                pub at_after_sent : Done after_below_step → Fails after_sent_step → IsRefusal bulk words files why
-                at_after_sent b f =
-                    named (goes_on reach_step _ t (goes_on root_sent_step _ o (goes_on after_below_step _ b (fails after_sent_step _ f))))
+                module _ (o : Done root_sent_step) where
+                  pub at_after_below : Fails after_below_step → IsRefusal bulk words files why
+                  at_after_below f = named (goes_on reach_step _ t (goes_on root_sent_step _ o (fails after_below_step _ f)))
+
+                  pub at_after_sent : Done after_below_step → Fails after_sent_step → IsRefusal bulk words files why
+                  at_after_sent b f =
+                      named (goes_on reach_step _ t (goes_on root_sent_step _ o (goes_on after_below_step _ b (fails after_sent_step _ f))))
+
+  -- what fails before names are known fails in the whole order of steps
+  pub of_early : IsEarlyRefusal bulk words files why → IsRefusal bulk words files why
+  of_early (inl e) = inl e
+  of_early (inr first) = inr (record {
+    done = first.done;
+    failed = first.failed;
+    left = first.left ++ naming_steps;
+    order = ap (λ (steps : List Step). steps ++ naming_steps) first.order ∙ append_assoc first.done (first.failed ∷ first.left) naming_steps;
+    are_done = first.are_done;
+    fails = first.fails;
+  })

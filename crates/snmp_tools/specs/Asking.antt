@@ -3,6 +3,8 @@
 use Rattle.std.specs.Prelude.{◌≡◌, ◌≢◌, ◌<◌, ◌≤◌, ◌⊎◌, ℕ, List, length, Some, None}
 use Rattle.std.specs.Prelude.{Option, Ok, Err, codes}
 use Rattle.std.specs.Str.Lines.{lines}
+use Rattle.smi_files.specs.Files.{AreModulesOf, IsFirstToFail, Refusal}
+use Rattle.smi_module.specs.declared.tree.Module.{Module}
 use Rattle.smi_letters.specs.declared.letters.Letters.{Letters}
 use Rattle.smi_letters.specs.Letters.{AreLetters, first_other}
 use Rattle.smi_name.specs.Meaning.{meaning}
@@ -14,9 +16,9 @@ use Rattle.snmp_table.specs.declared.error.TableError.{TableError}
 use Rattle.snmp_net.specs.Address.{Address, IsAgent, table, udp}
 use Rattle.snmp_walk.specs.declared.end.WalkEnd.TheVariants as ending
 use Rattle.snmp_words.specs.Words.{AskingWords}
-use Rattle.snmp_tools.specs.Message.{Fault, bad_agent, bad_letter, bad_name, bad_table}
+use Rattle.snmp_tools.specs.Message.{Fault, bad_agent, bad_letter, bad_modules, bad_name, bad_table}
 use Rattle.snmp_tools.specs.Message.{bad_version, ended, long_community, unreadable}
-use Rattle.snmp_tools.specs.Mib.{Holdings, MayHold, Mib}
+use Rattle.snmp_tools.specs.Mib.{Holdings, Holds, MayHold, Mib}
 
 -- ---- words before any file is read
 
@@ -53,7 +55,13 @@ AskingFails words community_step why = (255 < length words.community) × (why �
 AskingFails words agent_step why =
     ((agent : Address) → IsAgent words.agent agent → ⊥) × (why ≡ bad_agent words.agent)
 
--- ---- names and agents
+-- ---- module files, names and agents
+
+-- the first module file that can't be read, or whose text has a fault
+abbrev pub MibsFail : Holdings → (paths : List (List ℕ)) → Fault → Type 0
+MibsFail files paths why =
+    (refusal : Refusal) × IsFirstToFail files paths refusal × (why ≡ bad_modules refusal)
+    × ((modules : List Module) → AreModulesOf (Holds files) paths modules → ⊥)
 
 -- a text that isn't the name of an identifier
 abbrev pub NameFails : Mib → List ℕ → Fault → Type 0

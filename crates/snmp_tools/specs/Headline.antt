@@ -1,11 +1,13 @@
 -- What a walk over a table file promises, on one page.
 --
--- `IsWalk` says which walk the words ask for: `AskFor` (Plan) reads the words, by the names that
--- `IsMibOf` (Mib) knows, `IsTableOf` (snmp_table) reads the file, and `AreRowsOf` (Outcome) has the
--- rows, by `walk_of` and `rest_of` (snmp_walk). `AreLines` (Lines) are their lines, by `IsLine`
--- (smi_show), and `count_text` is the count line.
+-- `IsWalk` says which walk the words ask for: `AskFor` (Plan) reads the words, by the names of the
+-- modules that `AreLoaded` (Mib) states, `IsTableOf` (snmp_table) reads the file, and `AreRowsOf`
+-- (Outcome) has the rows, by `walk_of` and `rest_of` (snmp_walk). `AreLines` (Lines) are their
+-- lines, by `IsLine` (smi_show), and `count_text` is the count line.
 use Rattle.std.specs.Prelude.{◌≡◌, ◌⊎◌, ◌++◌, ℕ, Bool, List, length, Option, Some, None, codes}
 use Rattle.std.specs.Str.Lines.{lines}
+use Rattle.smi_files.specs.Warned.{warning_lines}
+use Rattle.smi_nodes.specs.declared.warning.Warning.{Warning}
 use Rattle.snmp_oid.specs.Identifier.{IsBelow, IsWire, wire}
 use Rattle.snmp_table.specs.Stated.{IsTableOf}
 use Rattle.snmp_table.specs.Table.{MibView}
@@ -16,7 +18,7 @@ use Rattle.snmp_io.specs.Output.{IsWritten, Stream, TakesFront, extended}
 use Rattle.snmp_net.specs.Address.{table}
 use Rattle.snmp_words.specs.Words.{WalkWords}
 use Rattle.snmp_tools.specs.Lines.{AreLines, count_text}
-use Rattle.snmp_tools.specs.Mib.{Holdings, Holds, IsMibOf, Mib}
+use Rattle.snmp_tools.specs.Mib.{AreLoaded, Holdings, Holds, Mib}
 use Rattle.snmp_tools.specs.Outcome.{AreRowsOf, agent_over, first_of}
 use Rattle.snmp_tools.specs.Plan.{AskFor, Plan}
 
@@ -25,7 +27,8 @@ use Rattle.snmp_tools.specs.Plan.{AskFor, Plan}
 pub record IsWalk (bulk : Bool) (words : WalkWords) (files : Holdings) (rows : List VarBind) :
     Type 0 where
   pub mib : Mib
-  pub known : IsMibOf (Holds files) words.asking mib
+  pub warnings : List Warning
+  pub known : AreLoaded (Holds files) words.asking.mibs mib warnings
   pub plan : Plan
   pub asked : AskFor bulk words mib plan
   pub path : List ℕ
@@ -69,15 +72,20 @@ pub record IsFeasible (plan : Plan) (view : MibView) : Type 0 where
   pub room : HasRoomForEach (agent_over plan view) view (first_of plan)
   pub ids : HasIds (first_of plan) view
 
--- the status is 1, and the output failed, or that memory ran out was reported
-abbrev pub IsMishap : (before after err_before err_after : Stream) → ℕ → Type 0
-IsMishap before after err_before err_after status = (status ≡ 1)
-    × (HasRisen before.faults after.faults
-    ⊎ IsWritten err_before (codes "Out of memory.\n") err_after)
+-- it was reported that memory ran out, and before that the modules' warnings, if it was later
+abbrev pub IsOutOfMemory : List Warning → (err_before err_after : Stream) → Type 0
+IsOutOfMemory warnings err_before err_after =
+    (warned : Stream) × IsWritten warned (codes "Out of memory.\n") err_after
+    × ((warned ≡ err_before) ⊎ IsWritten err_before (warning_lines warnings) warned)
+
+-- the status is 1, and the output failed, or memory ran out
+abbrev pub IsMishap : List Warning → (before after err_before err_after : Stream) → ℕ → Type 0
+IsMishap warnings before after err_before err_after status = (status ≡ 1)
+    × (HasRisen before.faults after.faults ⊎ IsOutOfMemory warnings err_before err_after)
 
 -- Then the status is 0, unless the output fails or memory runs out.
 abbrev pub EndsAtStatus0 : Bool → WalkWords → Holdings
     → (before after err_before err_after : Stream) → ℕ → Type 0
 EndsAtStatus0 bulk words files before after err_before err_after status =
     (rows : List VarBind) (walk : IsWalk bulk words files rows) → IsFeasible walk.plan walk.view
-    → (status ≡ 0) ⊎ IsMishap before after err_before err_after status
+    → (status ≡ 0) ⊎ IsMishap walk.warnings before after err_before err_after status

@@ -3,6 +3,8 @@ use Rattle.std.specs.Prelude.{ℕ, ℤ, pos, negsuc, List, [], ◌∷◌, ◌++�
 use Rattle.std.specs.Prelude.{slice_index_or}
 use Rattle.std.specs.Fmt.{signed_decimal}
 use Rattle.snmp_oid.specs.Numeric.{numeric_text}
+use Rattle.smi_files.specs.Files.{Refusal}
+use Rattle.smi_files.specs.Message.{refusal_of, refusal_text}
 use Rattle.smi_name.specs.declared.error.NameError.{NameError}
 use Rattle.smi_name.specs.declared.error.NameError.TheVariants as name
 use Rattle.snmp_table.specs.declared.error.TableError.{TableError}
@@ -21,6 +23,7 @@ pub data Fault : Type 0 where
   long_community : Fault
   bad_agent : List ℕ → Fault
   bad_name : NameError → List ℕ → Fault
+  bad_modules : Refusal → Fault
   unreadable : List ℕ → Fault
   bad_table : List ℕ → TableError → Fault
   unsendable : List ℕ → Fault
@@ -35,6 +38,7 @@ fault_of (failure.Letter letter) = bad_letter letter
 fault_of failure.Community = long_community
 fault_of (failure.Agent word) = bad_agent word.now
 fault_of (failure.Name text error) = bad_name error text.now
+fault_of (failure.Modules why) = bad_modules (refusal_of why)
 fault_of (failure.Unreadable path) = unreadable path.now
 fault_of (failure.Table path error) = bad_table path.now error
 fault_of (failure.NotWire text) = unsendable text.now
@@ -105,6 +109,7 @@ message_of (bad_letter letter) = codes "Unknown letter: " ++ letter ∷ []
 message_of long_community = codes "Community too long."
 message_of (bad_agent word) = codes "Bad agent address: " ++ word
 message_of (bad_name error text) = name_fault error ++ text
+message_of (bad_modules why) = refusal_text why
 message_of (unreadable path) = path ++ codes ": cannot be read"
 message_of (bad_table path error) = table_message path error
 message_of (unsendable text) = codes "Name cannot be sent: " ++ text

@@ -1,9 +1,13 @@
 -- By which names and types of objects a job reads names and shows lines.
-use Rattle.std.specs.Prelude.{◌≡◌, ℕ, List, Option, None, Some}
-use Rattle.snmp_io.specs.Files.{HoldsIfKnown}
+use Rattle.std.specs.Prelude.{◌≡◌, ℕ, List, Option, Some}
+use Rattle.smi_files.specs.Files.{AreModulesOf}
+use Rattle.smi_module.specs.declared.tree.Module.{Module}
 use Rattle.smi_name.specs.Naming.{Naming}
+use Rattle.smi_nodes.specs.declared.warning.Warning.{Warning}
+use Rattle.smi_tree.specs.Naming.{naming_of, syntax_at}
+use Rattle.smi_tree.specs.Tree.{Contents, IsTree}
 use Rattle.smi_value.specs.Syntax.{ObjectSyntax}
-use Rattle.smi_roots.specs.Roots.{roots}
+use Rattle.snmp_io.specs.Files.{HoldsIfKnown}
 use Rattle.snmp_words.specs.Words.{AskingWords}
 
 -- what is known of files: by its path, the text of each, or that it has none
@@ -23,11 +27,20 @@ pub record Mib : Type 0 where
   pub naming : Naming
   pub syntax_at : List ℕ → Option ObjectSyntax
 
--- the built-in roots alone
-abbrev pub roots_alone : Mib
-roots_alone = record { naming = roots; syntax_at = λ _. None }
+-- the names and types of a tree
+abbrev pub mib_of : Contents → Mib
+mib_of tree = record { naming = naming_of tree; syntax_at = syntax_at tree }
 
--- the names and types that a job knows, where files hold texts in this sense: those of the built-in
--- roots
+-- the modules of the files give these names and types, with these warnings
+pub record AreLoaded (Held : (path text : List ℕ) → Type 0) (paths : List (List ℕ)) (mib : Mib)
+    (warnings : List Warning) : Type 0 where
+  pub modules : List Module
+  pub read : AreModulesOf Held paths modules
+  pub tree : Contents
+  pub loads : IsTree modules tree warnings
+  pub is : mib ≡ mib_of tree
+
+-- the names and types that a job knows, where files hold texts in this sense: those of the modules
+-- of --mib, and of the built-in roots
 abbrev pub IsMibOf : (Held : (path text : List ℕ) → Type 0) → AskingWords → Mib → Type 0
-IsMibOf Held words mib = mib ≡ roots_alone
+IsMibOf Held words mib = (warnings : List Warning) × AreLoaded Held words.mibs mib warnings

@@ -1,6 +1,8 @@
 -- What a job that walks writes, and what it reports.
 use Rattle.std.specs.Prelude.{◌≡◌, ◌≢◌, ◌⊎◌, ◌+◌, ◌++◌, ℕ, Bool, List, [], ◌∷◌, length, codes}
 use Rattle.std.specs.Prelude.{Option, Some, None}
+use Rattle.smi_files.specs.Warned.{warning_lines}
+use Rattle.smi_nodes.specs.declared.warning.Warning.{Warning}
 use Rattle.snmp_oid.specs.Identifier.{wire}
 use Rattle.snmp_table.specs.Listing.{variables}
 use Rattle.snmp_table.specs.Table.{IsGet, MibView}
@@ -22,8 +24,8 @@ use Rattle.snmp_tools.specs.Lines.{IsPrintedUpTo, count_text}
 use Rattle.snmp_tools.specs.Message.{Fault, ended, message_of, out_of_memory, status_of}
 use Rattle.snmp_net.specs.Address.{table, udp}
 use Rattle.snmp_tools.specs.Asking.{HasAgent, HasTable}
-use Rattle.snmp_tools.specs.Mib.{Holdings, IsMibOf, MayHold, Mib}
-use Rattle.snmp_tools.specs.Plan.{AskFor, IsRefusal, Plan}
+use Rattle.snmp_tools.specs.Mib.{AreLoaded, Holdings, IsMibOf, MayHold, Mib}
+use Rattle.snmp_tools.specs.Plan.{AskFor, IsEarlyRefusal, IsRefusal, Plan}
 
 -- ---- the walk
 
@@ -160,20 +162,35 @@ IsTableOutcome bulk words files mib plan before after fault =
     ⊎ ((view : MibView) × IsWalkOver bulk words files mib plan view
     × IsPrinted mib plan view words.asking.agent before after fault)
 
--- what a job wrote, and why it wasn't done, if it wasn't
--- where `Facts` are what is known of a walk over a link to a port of a host, with so many tries
-pub data IsOutcome (Facts : (host : List ℕ) → (port tries : ℕ) → Walker
+-- What a job wrote by the names and types of its modules, and why it wasn't done, if it wasn't.
+-- `Facts` are what is known of a walk over a link to a port of a host, with so many tries.
+pub data IsOutcomeBy (Facts : (host : List ℕ) → (port tries : ℕ) → Walker
     → (given refused : List VarBind) → WalkEnd → Type 0) (bulk : Bool) (words : WalkWords)
-    (files : Holdings) (before after : Stream) (fault : Option Fault) : Type 0 where
+    (files : Holdings) (mib : Mib) (before after : Stream) (fault : Option Fault) : Type 0 where
   refused : (why : Fault) → IsRefusal bulk words files why → after ≡ before → fault ≡ Some why
-      → IsOutcome Facts bulk words files before after fault
-  walked : (mib : Mib) (plan : Plan) (view : MibView) → IsWalkOver bulk words files mib plan view
+      → IsOutcomeBy Facts bulk words files mib before after fault
+  walked : (plan : Plan) (view : MibView) → IsWalkOver bulk words files mib plan view
       → IsPrinted mib plan view words.asking.agent before after fault
-      → IsOutcome Facts bulk words files before after fault
-  walked_over : (mib : Mib) (plan : Plan) (net : IsNetWalk bulk words files mib plan)
+      → IsOutcomeBy Facts bulk words files mib before after fault
+  walked_over : (plan : Plan) (net : IsNetWalk bulk words files mib plan)
       → IsPrintedOver (Facts net.host net.port (words.asking.retries + 1) (first_of plan))
       mib plan words.asking.agent before after fault
-      → IsOutcome Facts bulk words files before after fault
+      → IsOutcomeBy Facts bulk words files mib before after fault
+
+-- What a job wrote on its output and, of the warnings of its modules, on standard error: nothing
+-- where it was refused before these were loaded; else their lines, before anything else.
+pub data IsOutcome (Facts : (host : List ℕ) → (port tries : ℕ) → Walker
+    → (given refused : List VarBind) → WalkEnd → Type 0) (bulk : Bool) (words : WalkWords)
+    (files : Holdings) (before after err_before warned : Stream) (fault : Option Fault) : Type 0
+  where
+    not_loaded : (why : Fault) → IsEarlyRefusal bulk words files why → after ≡ before
+        → warned ≡ err_before → fault ≡ Some why
+        → IsOutcome Facts bulk words files before after err_before warned fault
+    loaded : (mib : Mib) (warnings : List Warning)
+        → AreLoaded (MayHold files) words.asking.mibs mib warnings
+        → IsWritten err_before (warning_lines warnings) warned
+        → IsOutcomeBy Facts bulk words files mib before after fault
+        → IsOutcome Facts bulk words files before after err_before warned fault
 
 -- ---- what is reported
 
@@ -192,5 +209,7 @@ pub record IsRun (Facts : (host : List ℕ) → (port tries : ℕ) → Walker
     (bulk : Bool) (words : WalkWords) (files : Holdings)
     (out_before out_after err_before err_after : Stream) (status : ℕ) : Type 0 where
   pub fault : Option Fault
-  pub outcome : IsOutcome Facts bulk words files out_before out_after fault
-  pub reported : IsReported fault err_before err_after status
+  -- what was written of warnings comes before what is reported
+  pub warned : Stream
+  pub outcome : IsOutcome Facts bulk words files out_before out_after err_before warned fault
+  pub reported : IsReported fault warned err_after status

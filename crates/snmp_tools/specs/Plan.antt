@@ -1,5 +1,5 @@
 -- What the words of a walk ask for, and why they may be refused.
-use Rattle.std.specs.Prelude.{◌≡◌, ◌≤◌, ◌⊎◌, ℕ, Bool, List, [], ◌∷◌, length}
+use Rattle.std.specs.Prelude.{◌≡◌, ◌≤◌, ◌⊎◌, ◌++◌, ℕ, Bool, List, [], ◌∷◌, length}
 use Rattle.std.specs.Prelude.{Option, Some, Ok, Err, codes, unwrap_or}
 use Rattle.smi_letters.specs.declared.letters.Letters.{Letters}
 use Rattle.smi_name.specs.Meaning.{meaning}
@@ -9,8 +9,8 @@ use Rattle.snmp_walk.specs.declared.mode.Mode.{Mode}
 use Rattle.snmp_words.specs.Words.{WalkWords}
 use Rattle.snmp_net.specs.Address.{Address, IsAgent}
 use Rattle.snmp_tools.specs.Asking.{AreShown, AskingFails, AskingStep, HasAgent, IsAskingDone}
-use Rattle.snmp_tools.specs.Asking.{IsNameIfGiven, IsReached, NameFails, ReachFails, agent_step}
-use Rattle.snmp_tools.specs.Asking.{community_step, letters_step, version_step}
+use Rattle.snmp_tools.specs.Asking.{IsNameIfGiven, IsReached, MibsFail, NameFails, ReachFails}
+use Rattle.snmp_tools.specs.Asking.{agent_step, community_step, letters_step, version_step}
 use Rattle.snmp_tools.specs.Letters.{Choices, choices_of, method_of, mode_of}
 use Rattle.snmp_tools.specs.Message.{Fault, bad_letter, out_of_memory, outside_root, unsendable}
 use Rattle.snmp_tools.specs.Mib.{Holdings, IsMibOf, MayHold, Mib}
@@ -59,6 +59,7 @@ pub record AskFor (bulk : Bool) (words : WalkWords) (mib : Mib) (plan : Plan) : 
 pub data Step : Type 0 where
   asking : AskingStep → Step
   choices_step : Step
+  mibs_step : Step
   root_step : Step
   after_step : Step
   reach_step : Step
@@ -66,10 +67,18 @@ pub data Step : Type 0 where
   after_below_step : Step
   after_sent_step : Step
 
+-- up to the modules
+abbrev pub loading_steps : List Step
+loading_steps = asking version_step ∷ asking letters_step ∷ choices_step ∷ asking community_step
+    ∷ asking agent_step ∷ mibs_step ∷ []
+
+-- by the names of the modules
+abbrev pub naming_steps : List Step
+naming_steps = root_step ∷ after_step ∷ reach_step ∷ root_sent_step ∷ after_below_step
+    ∷ after_sent_step ∷ []
+
 abbrev pub walk_steps : List Step
-walk_steps = asking version_step ∷ asking letters_step ∷ choices_step ∷ asking community_step
-    ∷ asking agent_step ∷ root_step ∷ after_step ∷ reach_step ∷ root_sent_step
-    ∷ after_below_step ∷ after_sent_step ∷ []
+walk_steps = loading_steps ++ naming_steps
 
 -- the root, by names that the job knows
 pub record IsRootOf (words : WalkWords) (files : Holdings) (root : List ℕ) : Type 0 where
@@ -89,6 +98,7 @@ abbrev pub IsDoneBy : Bool → WalkWords → Holdings → Step → Type 0
 IsDoneBy bulk words files (asking step) = IsAskingDone words.asking step
 IsDoneBy bulk words files choices_step =
     (choices : Choices) × (choices_of bulk words.letters ≡ Ok choices)
+IsDoneBy bulk words files mibs_step = (mib : Mib) × IsMibOf (MayHold files) words.asking mib
 IsDoneBy bulk words files root_step = (root : List ℕ) × IsRootOf words files root
 IsDoneBy bulk words files after_step =
     (mib : Mib) × (after : Option (List ℕ)) × IsMibOf (MayHold files) words.asking mib
@@ -107,6 +117,7 @@ abbrev pub FailsBy : Bool → WalkWords → Holdings → Step → Fault → Type
 FailsBy bulk words files (asking step) why = AskingFails words.asking step why
 FailsBy bulk words files choices_step why =
     (letter : ℕ) × (choices_of bulk words.letters ≡ Err letter) × (why ≡ bad_letter letter)
+FailsBy bulk words files mibs_step why = MibsFail files words.asking.mibs why
 FailsBy bulk words files root_step why =
     (mib : Mib) × IsMibOf (MayHold files) words.asking mib × NameFails mib (root_text words) why
 FailsBy bulk words files after_step why =
@@ -125,6 +136,12 @@ FailsBy bulk words files after_below_step why =
 FailsBy bulk words files after_sent_step why =
     (text : List ℕ) × (after : List ℕ) × IsAfterOf words files text after
     × (IsWire (wire after) → ⊥) × (why ≡ unsendable text)
+
+-- why no names are known: memory ran out, or a step up to the modules failed
+abbrev pub IsEarlyRefusal : Bool → WalkWords → Holdings → Fault → Type 0
+IsEarlyRefusal bulk words files why =
+    (why ≡ out_of_memory)
+    ⊎ IsFirstToFail loading_steps (IsDoneBy bulk words files) (FailsBy bulk words files) why
 
 -- why there is no walk: memory ran out, or a step failed
 abbrev pub IsRefusal : Bool → WalkWords → Holdings → Fault → Type 0

@@ -6,6 +6,7 @@ ghost use Rattle.text_draft.specs.Draft.{Adds};
 ghost use Rattle.snmp_tools.specs.Message.{end_message, fault_text, name_fault, status_name};
 ghost use Rattle.snmp_tools.specs.Message.{table_message};
 
+use smi_files::FilesError;
 use smi_show::NameError;
 use snmp_oid::{LONGEST_TEXT, Oid, write_numeric};
 use snmp_table::TableError;
@@ -26,6 +27,8 @@ pub enum Failure<'a> {
     Agent(&'a str),
     /// The text is no name, for this reason.
     Name(&'a str, NameError),
+    /// The module files can't be loaded.
+    Modules(FilesError<'a>),
     /// The file can't be read.
     Unreadable(&'a str),
     /// The table file has a fault.
@@ -76,6 +79,7 @@ impl Failure<'_> {
             Failure::Community => out.octets(b"Community too long."),
             Failure::Agent(word) => text_and_word(out, b"Bad agent address: ", word),
             Failure::Name(text, error) => text_and_word(out, name_fault(error), text),
+            Failure::Modules(why) => why.message(out),
             Failure::Unreadable(path) => word_and_text(out, path, b": cannot be read"),
             Failure::Table(path, fault) => table_message(fault, path, out),
             Failure::NotWire(text) => text_and_word(out, b"Name cannot be sent: ", text),

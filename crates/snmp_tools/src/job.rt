@@ -14,6 +14,8 @@ use crate::serve::do_serve;
 use crate::walk::walk_lines;
 use snmp_io::{Files, Output, write_all};
 use snmp_net::Links;
+use smi_files::one_list_of_modules;
+use smi_tree::one_tree;
 use snmp_table::{no_fault, one_table};
 use snmp_words::{Job, WalkJob};
 use std::alloc::{AllocError, Global};
@@ -52,7 +54,10 @@ pub fn run_job<F: Files, L: Links, O: Output, E: Output>(
 {
     one_table();
     no_fault();
+    one_list_of_modules();
+    one_tree();
     match job {
+        Job::Translate(_) | Job::Get(_) => 1,
         Job::Walk(walk) => do_walk(alloc, walk, false, files, links, out, err),
         Job::BulkWalk(walk) => do_walk(alloc, walk, true, files, links, out, err),
         Job::Serve(serve) => do_serve(alloc, serve, files, links, out, err),
@@ -73,7 +78,7 @@ fn do_walk<F: Files, L: Links, O: Output, E: Output>(
         bulk (walk_words walk.now) (F.text_at files.now)
         (O.stream out.old) (O.stream out.new) (E.stream err.old) (E.stream err.new) result }
 {
-    match walk_lines(alloc, walk, bulk, files, links, out) {
+    match walk_lines(alloc, walk, bulk, files, links, out, err) {
         Ok(()) => 0,
         Err(failure) => report(alloc, &failure, err),
     }

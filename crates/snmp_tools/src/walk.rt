@@ -1,12 +1,16 @@
 //! A walk: its words are judged, its names looked up, its agent reached, and its lines printed.
-ghost use Rattle.std.specs.Prelude.{◌≡◌, ◌⊎◌, ◌+◌, [], IfErr, IfOk, None, OnOk, Some, unwrap_or};
+ghost use Rattle.std.specs.Prelude.{◌≡◌, ◌⊎◌, ◌+◌, [], IfErr, IfOk, None, OnErr, OnOk, Some};
+ghost use Rattle.std.specs.Prelude.{unwrap_or};
+ghost use Rattle.smi_files.specs.Loaded.{IsLoaded};
 ghost use Rattle.snmp_net.specs.Address.{address_of, table, udp};
-ghost use Rattle.snmp_words.specs.Words.{walk_words};
-ghost use Rattle.snmp_tools.specs.Asking.{HasTable, TableFails};
+ghost use Rattle.snmp_words.specs.Words.{asking_words, walk_words};
+ghost use Rattle.snmp_tools.specs.Asking.{HasTable, MibsFail, TableFails};
 ghost use Rattle.snmp_tools.specs.Message.{fault_of, out_of_memory};
-ghost use Rattle.snmp_tools.specs.Outcome.{HasLinkFacts, IsFinished, IsOutcome, IsPrinted};
+ghost use Rattle.snmp_tools.specs.Mib.{IsMibOf, MayHold};
+ghost use Rattle.snmp_tools.specs.Outcome.{HasLinkFacts, IsFinished, IsOutcome, IsOutcomeBy};
+ghost use Rattle.snmp_tools.specs.Outcome.{IsPrinted};
 ghost use Rattle.snmp_tools.specs.Outcome.{IsPrintedOver, IsTableOutcome, end_in_memory, first_of};
-ghost use Rattle.snmp_tools.specs.Planned.{IsPlanFor, mib_in, plan_of};
+ghost use Rattle.snmp_tools.specs.Planned.{AreOrdersOf, IsPlanFor, mib_in, plan_of};
 ghost use Rattle.snmp_tools.specs.Plan.{root_text};
 ghost use Rattle.snmp_tools.specs.Start.{IsStartOf, StartFails};
 ghost use Rattle.snmp_walk.specs.Facts.{WalkFacts};
@@ -17,8 +21,9 @@ use crate::judge::MIB_2;
 use crate::lines::{print_count, print_walk};
 use crate::plan::{Orders, Plan};
 use crate::start::start;
-use smi_roots::Roots;
+use smi_files::{FilesError, load_tree};
 use smi_show::ShowTree;
+use smi_tree::Tree;
 use snmp_agent::Config;
 use snmp_io::{FileFault, Files, Output};
 use snmp_net::{AgentAddress, Links, UdpAddress};
@@ -27,42 +32,90 @@ use snmp_walk::{Link, MemoryLink, SinkFault, WalkCore, WalkEnd};
 use snmp_words::{Asking, WalkJob};
 use std::alloc::Global;
 
-/// Writes the lines of a walk.
-pub(crate) fn walk_lines<'a, F: Files, L: Links, O: Output>(
+/// Writes the lines of a walk, and before them, on `err`, those of its modules' warnings.
+pub(crate) fn walk_lines<'a, F: Files, L: Links, O: Output, E: Output>(
     alloc: Global,
     walk: &WalkJob<'a>,
     bulk: bool,
     files: &F,
     links: &mut L,
     out: &mut O,
+    err: &mut E,
 ) -> Result<(), Failure<'a>>
     ensures done { OnOk result (IsOutcome
         (HasLinkFacts (L.opens links.old) L.Wire.honest L.Wire.agents L.Wire.traffic)
-        bulk (walk_words walk.now) (F.text_at files.now)
-        (O.stream out.old) (O.stream out.new) None) }
+        bulk (walk_words walk.now) (F.text_at files.now) (O.stream out.old) (O.stream out.new)
+        (E.stream err.old) (E.stream err.new) None) }
     ensures failed { IfErr result (λ failure. IsOutcome
         (HasLinkFacts (L.opens links.old) L.Wire.honest L.Wire.agents L.Wire.traffic)
-        bulk (walk_words walk.now) (F.text_at files.now)
-        (O.stream out.old) (O.stream out.new) (Some (fault_of failure))) }
+        bulk (walk_words walk.now) (F.text_at files.now) (O.stream out.old) (O.stream out.new)
+        (E.stream err.old) (E.stream err.new) (Some (fault_of failure))) }
 {
     let orders = match Orders::read(walk, bulk) {
         Ok(orders) => orders,
         Err(failure) => return Err(failure),
     };
-    let tree = load();
-    let plan = match Plan::read(walk, bulk, orders, &tree) {
+    let tree = match load(alloc, &walk.asking, files, err) {
+        Ok(tree) => tree,
+        Err(failure) => return Err(failure),
+    };
+    walk_by(alloc, walk, bulk, orders, &tree, files, links, out)
+}
+
+// The tree of the names and types of a job's modules. The lines of its warnings are written.
+pub(crate) fn load<'a, F: Files, E: Output>(
+    alloc: Global,
+    asking: &Asking<'a>,
+    files: &F,
+    err: &mut E,
+) -> Result<Tree, Failure<'a>>
+    ensures loaded { IfOk result (λ tree.
+        IsLoaded (MayHold (F.text_at files.now)) (asking_words asking.now).mibs tree
+        (E.stream err.old) (E.stream err.new)) }
+    ensures failed { IfErr result (λ e. (fault_of e ≡ out_of_memory)
+        ⊎ MibsFail (F.text_at files.now) (asking_words asking.now).mibs (fault_of e)) }
+    ensures untold { OnErr result (E.stream err.new ≡ E.stream err.old) }
+{
+    match load_tree(alloc, files, &asking.mibs, err) {
+        Ok(tree) => Ok(tree),
+        Err(FilesError::Memory) => Err(Failure::Memory),
+        Err(why) => Err(Failure::Modules(why)),
+    }
+}
+
+// Writes the lines of a walk by the names and types of a tree.
+fn walk_by<'a, T: ShowTree, F: Files, L: Links, O: Output>(
+    alloc: Global,
+    walk: &WalkJob<'a>,
+    bulk: bool,
+    orders: Orders<'a>,
+    tree: &T,
+    files: &F,
+    links: &mut L,
+    out: &mut O,
+) -> Result<(), Failure<'a>>
+    requires orders { AreOrdersOf bulk (walk_words walk.now) orders }
+    requires known { IsMibOf (MayHold (F.text_at files.now)) (walk_words walk.now).asking
+        (mib_in (T.naming tree.now) (T.syntax_at tree.now)) }
+    ensures done { OnOk result (IsOutcomeBy
+        (HasLinkFacts (L.opens links.old) L.Wire.honest L.Wire.agents L.Wire.traffic)
+        bulk (walk_words walk.now) (F.text_at files.now)
+        (mib_in (T.naming tree.now) (T.syntax_at tree.now))
+        (O.stream out.old) (O.stream out.new) None) }
+    ensures failed { IfErr result (λ failure. IsOutcomeBy
+        (HasLinkFacts (L.opens links.old) L.Wire.honest L.Wire.agents L.Wire.traffic)
+        bulk (walk_words walk.now) (F.text_at files.now)
+        (mib_in (T.naming tree.now) (T.syntax_at tree.now))
+        (O.stream out.old) (O.stream out.new) (Some (fault_of failure))) }
+{
+    let plan = match Plan::read(walk, bulk, orders, tree) {
         Ok(plan) => plan,
         Err(failure) => return Err(failure),
     };
     match plan.agent {
-        AgentAddress::Table(path) => over_table(alloc, walk, bulk, &plan, path, &tree, files, out),
-        AgentAddress::Udp(at) => over_net(alloc, walk, bulk, &plan, at, &tree, files, links, out),
+        AgentAddress::Table(path) => over_table(alloc, walk, bulk, &plan, path, tree, files, out),
+        AgentAddress::Udp(at) => over_net(alloc, walk, bulk, &plan, at, tree, files, links, out),
     }
-}
-
-// The tree of the names and types that a job knows.
-fn load() -> Roots {
-    Roots::new()
 }
 
 // The walk before its first request.
@@ -125,13 +178,15 @@ fn over_net<'a, T: ShowTree, F: Files, L: Links, O: Output>(
         (mib_in (T.naming tree.now) (T.syntax_at tree.now)) (plan_of plan.now) }
     requires method { IsMethod plan.now.method }
     requires at { address_of plan.now.agent ≡ udp at.host.now at.port }
-    ensures done { OnOk result (IsOutcome
+    ensures done { OnOk result (IsOutcomeBy
         (HasLinkFacts (L.opens links.old) L.Wire.honest L.Wire.agents L.Wire.traffic)
         bulk (walk_words walk.now) (F.text_at files.now)
+        (mib_in (T.naming tree.now) (T.syntax_at tree.now))
         (O.stream out.old) (O.stream out.new) None) }
-    ensures failed { IfErr result (λ failure. IsOutcome
+    ensures failed { IfErr result (λ failure. IsOutcomeBy
         (HasLinkFacts (L.opens links.old) L.Wire.honest L.Wire.agents L.Wire.traffic)
         bulk (walk_words walk.now) (F.text_at files.now)
+        (mib_in (T.naming tree.now) (T.syntax_at tree.now))
         (O.stream out.old) (O.stream out.new) (Some (fault_of failure))) }
 {
     let mut link = match links.open(at.host, at.port, walk.asking.seconds) {

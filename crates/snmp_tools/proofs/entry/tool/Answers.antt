@@ -3,7 +3,7 @@ use Rattle.snmp_serve.specs.Fault.{no_memory}
 use Rattle.snmp_serve.specs.Outcome as serve
 use Rattle.snmp_words.specs.Words.{Stated}
 use Rattle.snmp_tools.specs.Message.{out_of_memory}
-use Rattle.snmp_tools.specs.Outcome.{refused}
+use Rattle.snmp_tools.specs.Outcome.{not_loaded}
 use Rattle.snmp_tools.proofs.Headlines.{refused_front}
 use Rattle.snmp_tools.proofs.entry.tool.Goals as goal
 
@@ -20,7 +20,8 @@ returns-in-Ok-clause-ends_at_status_0 g c = λ bulk w taken stated. c.run_job.en
 pub returns-in-Err-Memory-clause-outcome_reported : goal.returns-in-Err-Memory-clause-outcome_reported
 returns-in-Err-Memory-clause-outcome_reported g c = λ bulk w taken stated. record {
   fault = Some out_of_memory;
-  outcome = refused out_of_memory (inl refl) refl refl;
+  warned = g.E.Output.stream c.args.err.now;
+  outcome = not_loaded out_of_memory (inl refl) refl refl refl;
   reported = (refl, inr c.tell-in-Err-Memory.ensures);
 }
 

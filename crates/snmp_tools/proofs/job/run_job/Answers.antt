@@ -15,7 +15,7 @@ returns-in-Walk-clause-front_written g c = λ bulk words is.
     c.args.files.now) (g.O.Output.stream c.args.out.now) (g.O.Output.stream c.do_walk.new.out)
     (g.E.Output.stream c.args.err.now) (g.E.Output.stream c.do_walk.new.err) c.do_walk.result)
     stated c.do_walk.ensures in
-    writes_front c.one_table.ensures c.no_fault.ensures _ bulk words (g.F.Files.text_at c.args.files.now) _ _ _ _ c.do_walk.result run
+    writes_front c.one_table.ensures c.no_fault.ensures c.one_list_of_modules.ensures c.one_tree.ensures _ bulk words (g.F.Files.text_at c.args.files.now) _ _ _ _ c.do_walk.result run
 
 pub returns-in-Walk-clause-all_written_at_status_0 : goal.returns-in-Walk-clause-all_written_at_status_0
 returns-in-Walk-clause-all_written_at_status_0 g c = λ bulk words is.
@@ -25,7 +25,7 @@ returns-in-Walk-clause-all_written_at_status_0 g c = λ bulk words is.
     c.args.files.now) (g.O.Output.stream c.args.out.now) (g.O.Output.stream c.do_walk.new.out)
     (g.E.Output.stream c.args.err.now) (g.E.Output.stream c.do_walk.new.err) c.do_walk.result)
     stated c.do_walk.ensures in
-    writes_all c.one_table.ensures c.no_fault.ensures _ bulk words (g.F.Files.text_at c.args.files.now) _ _ _ _ c.do_walk.result run
+    writes_all c.one_table.ensures c.no_fault.ensures c.one_list_of_modules.ensures c.one_tree.ensures _ bulk words (g.F.Files.text_at c.args.files.now) _ _ _ _ c.do_walk.result run
 
 pub returns-in-Walk-clause-ends_at_status_0 : goal.returns-in-Walk-clause-ends_at_status_0
 returns-in-Walk-clause-ends_at_status_0 g c = λ bulk words is.
@@ -35,7 +35,7 @@ returns-in-Walk-clause-ends_at_status_0 g c = λ bulk words is.
     c.args.files.now) (g.O.Output.stream c.args.out.now) (g.O.Output.stream c.do_walk.new.out)
     (g.E.Output.stream c.args.err.now) (g.E.Output.stream c.do_walk.new.err) c.do_walk.result)
     stated c.do_walk.ensures in
-    ends_at_0 c.one_table.ensures c.no_fault.ensures _ bulk words (g.F.Files.text_at c.args.files.now) _ _ _ _ c.do_walk.result run
+    ends_at_0 c.one_table.ensures c.no_fault.ensures c.one_list_of_modules.ensures c.one_tree.ensures _ bulk words (g.F.Files.text_at c.args.files.now) _ _ _ _ c.do_walk.result run
 
 pub returns-in-BulkWalk-clause-front_written : goal.returns-in-BulkWalk-clause-front_written
 returns-in-BulkWalk-clause-front_written g c = λ bulk words is.
@@ -45,7 +45,7 @@ returns-in-BulkWalk-clause-front_written g c = λ bulk words is.
     c.args.files.now) (g.O.Output.stream c.args.out.now) (g.O.Output.stream c.do_walk-in-BulkWalk.new.out)
     (g.E.Output.stream c.args.err.now) (g.E.Output.stream c.do_walk-in-BulkWalk.new.err) c.do_walk-in-BulkWalk.result)
     stated c.do_walk-in-BulkWalk.ensures in
-    writes_front c.one_table.ensures c.no_fault.ensures _ bulk words
+    writes_front c.one_table.ensures c.no_fault.ensures c.one_list_of_modules.ensures c.one_tree.ensures _ bulk words
     (g.F.Files.text_at c.args.files.now) _ _ _ _ c.do_walk-in-BulkWalk.result run
 
 pub returns-in-BulkWalk-clause-all_written_at_status_0 : goal.returns-in-BulkWalk-clause-all_written_at_status_0
@@ -56,7 +56,7 @@ returns-in-BulkWalk-clause-all_written_at_status_0 g c = λ bulk words is.
     c.args.files.now) (g.O.Output.stream c.args.out.now) (g.O.Output.stream c.do_walk-in-BulkWalk.new.out)
     (g.E.Output.stream c.args.err.now) (g.E.Output.stream c.do_walk-in-BulkWalk.new.err) c.do_walk-in-BulkWalk.result)
     stated c.do_walk-in-BulkWalk.ensures in
-    writes_all c.one_table.ensures c.no_fault.ensures _ bulk words
+    writes_all c.one_table.ensures c.no_fault.ensures c.one_list_of_modules.ensures c.one_tree.ensures _ bulk words
     (g.F.Files.text_at c.args.files.now) _ _ _ _ c.do_walk-in-BulkWalk.result run
 
 pub returns-in-BulkWalk-clause-ends_at_status_0 : goal.returns-in-BulkWalk-clause-ends_at_status_0
@@ -67,5 +67,5 @@ returns-in-BulkWalk-clause-ends_at_status_0 g c = λ bulk words is.
     c.args.files.now) (g.O.Output.stream c.args.out.now) (g.O.Output.stream c.do_walk-in-BulkWalk.new.out)
     (g.E.Output.stream c.args.err.now) (g.E.Output.stream c.do_walk-in-BulkWalk.new.err) c.do_walk-in-BulkWalk.result)
     stated c.do_walk-in-BulkWalk.ensures in
-    ends_at_0 c.one_table.ensures c.no_fault.ensures _ bulk words
+    ends_at_0 c.one_table.ensures c.no_fault.ensures c.one_list_of_modules.ensures c.one_tree.ensures _ bulk words
     (g.F.Files.text_at c.args.files.now) _ _ _ _ c.do_walk-in-BulkWalk.result run

@@ -43,7 +43,7 @@ returns-clause-done g c =
       port = c.args.at.port;
       over = c.requires.at;
     } in
-    on_ok_weaker c.print_over.result (λ p. walked_over mib (plan_of c.args.plan.now) over (with_facts _ _ mib (plan_of c.args.plan.now) _ _ _ _ (λ given
+    on_ok_weaker c.print_over.result (λ p. walked_over (plan_of c.args.plan.now) over (with_facts _ _ mib (plan_of c.args.plan.now) _ _ _ _ (λ given
     turned end h. record {
       link = c.in-Ok.link;
       after = c.print_over.new.link;
@@ -63,7 +63,7 @@ returns-clause-failed g c =
       port = c.args.at.port;
       over = c.requires.at;
     } in
-    IfErr-weaker c.print_over.result _ _ (λ e p. walked_over mib (plan_of c.args.plan.now) over (with_facts _ _ mib (plan_of c.args.plan.now) _ _ _ _ (λ
+    IfErr-weaker c.print_over.result _ _ (λ e p. walked_over (plan_of c.args.plan.now) over (with_facts _ _ mib (plan_of c.args.plan.now) _ _ _ _ (λ
     given turned end h. record {
       link = c.in-Ok.link;
       after = c.print_over.new.link;

@@ -1,44 +1,54 @@
-use Rattle.std.proofs.Common.{refl, Some, None}
+use Rattle.std.proofs.Common.{◌≡◌, ◌⊎◌, inl, inr, refl, ℕ, List, Bool, Some, None}
 use Rattle.std.proofs.lemmas.Result.{IfErr-weaker, on_ok_weaker}
-use Rattle.snmp_tools.specs.Planned.{plan_of}
-use Rattle.snmp_tools.proofs.Wholes.{of_table}
-use Rattle.snmp_words.specs.Words.{walk_words}
-use Rattle.snmp_tools.specs.Message.{fault_of}
-use Rattle.snmp_tools.specs.Mib.{roots_alone}
-use Rattle.snmp_tools.specs.Outcome.{refused}
-use Rattle.snmp_tools.proofs.Starts.{names_refused}
+use Rattle.smi_files.specs.Loaded.{IsLoaded}
+use Rattle.smi_tree.specs.Tree.{Contents}
+use Rattle.snmp_io.specs.Output.{Stream}
+use Rattle.snmp_net.specs.Address.{address_of}
+use Rattle.snmp_words.specs.Words.{WalkWords, walk_words}
+use Rattle.snmp_tools.specs.Asking.{MibsFail}
+use Rattle.snmp_tools.specs.Chosen.{chosen}
+use Rattle.snmp_tools.specs.Message.{Fault, fault_of, out_of_memory}
+use Rattle.snmp_tools.specs.Mib.{AreLoaded, Holdings, MayHold, mib_of}
+use Rattle.snmp_tools.specs.Outcome.{loaded, not_loaded}
+use Rattle.snmp_tools.specs.Plan.{IsEarlyRefusal}
+use Rattle.snmp_tools.specs.Planned.{AreOrdersOf}
+use Rattle.snmp_tools.specs.declared.plan.Orders.{Orders}
+use Rattle.snmp_tools.proofs.Steps.{at_mibs}
 use Rattle.snmp_tools.proofs.walk.walk_lines.Goals as goal
 
+are_loaded : (files : Holdings) (paths : List (List ℕ)) (tree : Contents) (before after : Stream) (is : IsLoaded (MayHold files) paths tree before after)
+    → AreLoaded (MayHold files) paths (mib_of tree) is.warnings
+are_loaded files paths tree before after is = record { modules = is.modules; read = is.read; tree = tree; loads = is.loads; is = refl }
+
+early : (bulk : Bool) (words : WalkWords) (files : Holdings) (orders : Orders) (why : Fault) → AreOrdersOf bulk words orders
+    → (why ≡ out_of_memory) ⊎ MibsFail files words.asking.mibs why → IsEarlyRefusal bulk words files why
+early bulk words files orders why are (inl e) = inl e
+early bulk words files orders why are (inr f) =
+    at_mibs bulk words files why are.version (orders.letters, are.letters) (chosen orders.choices, are.chosen) are.short_community
+    (address_of orders.agent, are.agent) f
+
 pub returns-in-Err-clause-failed : goal.returns-in-Err-clause-failed
-returns-in-Err-clause-failed g c = refused (fault_of c.in-Err.failure) (c.in-Err.ensures.refused (g.F.Files.text_at c.args.files.now)) refl refl
+returns-in-Err-clause-failed g c =
+    not_loaded (fault_of c.in-Err.failure) (c.in-Err.ensures.refused (g.F.Files.text_at c.args.files.now)) refl refl refl
 
-pub returns-in-Err-read-clause-failed : goal.returns-in-Err-read-clause-failed
-returns-in-Err-read-clause-failed g c =
-    refused (fault_of c.in-Err-read.failure)
-    (names_refused c.args.bulk (walk_words c.args.walk.now) (g.F.Files.text_at c.args.files.now) roots_alone refl c.in-Ok.orders c.in-Ok.ensures.orders
-    (fault_of c.in-Err-read.failure) (c.in-Err-read.ensures.refused roots_alone refl))
-    refl refl
+pub returns-in-Err-load-clause-failed : goal.returns-in-Err-load-clause-failed
+returns-in-Err-load-clause-failed g c =
+    not_loaded (fault_of c.in-Err-load.failure)
+    (early c.args.bulk (walk_words c.args.walk.now) (g.F.Files.text_at c.args.files.now) c.in-Ok.orders (fault_of c.in-Err-load.failure)
+    c.in-Ok.ensures.orders c.in-Err-load.ensures.failed) refl c.in-Err-load.ensures.untold refl
 
-pub over_table-requires-clause-plan : goal.over_table-requires-clause-plan
-over_table-requires-clause-plan g c = record {
-  known = refl;
-  asked = c.in-Ok-read.ensures.asked roots_alone refl;
-  only = c.in-Ok-read.ensures.only;
-}
+pub walk_by-requires-clause-known : goal.walk_by-requires-clause-known
+walk_by-requires-clause-known g c =
+    (_, are_loaded (g.F.Files.text_at c.args.files.now) _ c.in-Ok-load.tree _ _ c.in-Ok-load.ensures.loaded)
 
-pub over_net-requires-clause-plan : goal.over_net-requires-clause-plan
-over_net-requires-clause-plan g c = record {
-  known = refl;
-  asked = c.in-Ok-read.ensures.asked roots_alone refl;
-  only = c.in-Ok-read.ensures.only;
-}
+pub returns-clause-done : goal.returns-clause-done
+returns-clause-done g c =
+    let is = c.in-Ok-load.ensures.loaded in
+    on_ok_weaker c.walk_by.result (λ h. loaded _ is.warnings (are_loaded (g.F.Files.text_at c.args.files.now) _ c.in-Ok-load.tree _ _ is) is.told h)
+    c.walk_by.ensures.done
 
-pub returns-in-Table-clause-done : goal.returns-in-Table-clause-done
-returns-in-Table-clause-done g c =
-    on_ok_weaker c.over_table.result (of_table _ c.args.bulk (walk_words c.args.walk.now) (g.F.Files.text_at c.args.files.now) _ (plan_of c.in-Ok-read.plan)
-    _ _ None) c.over_table.ensures.done
-
-pub returns-in-Table-clause-failed : goal.returns-in-Table-clause-failed
-returns-in-Table-clause-failed g c =
-    IfErr-weaker c.over_table.result _ _ (λ e h. of_table _ c.args.bulk (walk_words c.args.walk.now) (g.F.Files.text_at c.args.files.now) _
-    (plan_of c.in-Ok-read.plan) _ _ (Some (fault_of e)) h) c.over_table.ensures.failed
+pub returns-clause-failed : goal.returns-clause-failed
+returns-clause-failed g c =
+    let is = c.in-Ok-load.ensures.loaded in
+    IfErr-weaker c.walk_by.result _ _ (λ e h. loaded _ is.warnings
+    (are_loaded (g.F.Files.text_at c.args.files.now) _ c.in-Ok-load.tree _ _ is) is.told h) c.walk_by.ensures.failed
