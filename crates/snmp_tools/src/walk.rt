@@ -78,8 +78,9 @@ pub(crate) fn load<'a, F: Files, E: Output>(
 {
     match load_tree(alloc, files, &asking.mibs, err) {
         Ok(tree) => Ok(tree),
+        Err(FilesError::Unreadable(path)) => Err(Failure::Modules(FilesError::Unreadable(path))),
+        Err(FilesError::Text(path, why)) => Err(Failure::Modules(FilesError::Text(path, why))),
         Err(FilesError::Memory) => Err(Failure::Memory),
-        Err(why) => Err(Failure::Modules(why)),
     }
 }
 
