@@ -40,6 +40,15 @@ three="$e.1.1.0 = INTEGER: 1
 $e.1.2.0 = STRING: \"wes\"
 $e.1.10.0 = INTEGER: 3
 "
+tiny="TINY-MIB::tinyState.0 = INTEGER: up(1)
+TINY-MIB::tinyMac.\"wes\" = STRING: 0:16:3e:5a:78:8e
+TINY-MIB::tinyKeyUse.'wes' = Gauge32: 5 jobs
+"
+warnings='snmp: TINY-MIB imports absent from TINY-SMI, which has no absent
+snmp: TINY-MIB imports from GONE-MIB, which is not loaded
+snmp: TINY-MIB::loopA stands on a cycle
+snmp: TINY-MIB::loopB stands on a cycle
+'
 printf '%s|4|%01500d\n' 1.3.6.1.4.1.32473.1.1 0 >"$got/large.tab"
 
 # status 0
@@ -50,6 +59,7 @@ expect 0 '.1.0 = No Such Object available on this agent at this OID
 ' '' snmpwalk -On table:/dev/null .1
 expect 0 'iso.3.6.1.4.1.32473.1.10.0 3
 ' '' snmpwalk -Oqs table:three.tab iso.3.6.1.4.1.32473.1.10
+expect 0 "$tiny" "$warnings" snmpwalk --mib tiny.txt table:tiny.tab tiny
 expect 0 "$three" '' snmpbulkwalk -On -Cr1 table:three.tab $e.1
 expect 0 "$three" '' snmpbulkwalk -On -Cr2147483647 --max-size 134 table:three.tab $e.1
 expect 0 "${three}Variables found: 3
@@ -75,6 +85,10 @@ expect 1 '' 'Unknown letter: z
 ' snmpwalk -Oz table:three.tab .1
 expect 1 '' 'Unknown name: mib-2
 ' snmpwalk -On table:three.tab mib-2
+expect 1 '' 'no.txt: cannot be read
+' snmpwalk --mib tiny.txt --mib no.txt table:tiny.tab tiny
+expect 1 '' "${warnings}Unknown name: tinyer
+" snmpwalk --mib tiny.txt table:tiny.tab tinyer
 expect 1 '' 'Unknown version: 1
 ' snmpwalk -On -v 1 table:no.tab .3
 expect 1 '' 'Unknown letter: r

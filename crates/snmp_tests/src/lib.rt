@@ -6,6 +6,8 @@ mod faults;
 #[cfg(test)]
 mod letters;
 #[cfg(test)]
+mod mibs;
+#[cfg(test)]
 mod network;
 #[cfg(test)]
 mod options;
