@@ -25,8 +25,7 @@ use Rattle.snmp_tools.specs.Outcome.{AreRowsOf, IsFinished, IsNetWalk, IsOutcome
 use Rattle.snmp_tools.specs.Outcome.{loaded, not_loaded, refused, walked, walked_over}
 use Rattle.snmp_tools.specs.Plan.{AskFor, Plan}
 use Rattle.snmp_tools.proofs.Outcomes.{IsFrontOf, finished_all, finished_front, no_fault_at_0}
-use Rattle.snmp_tools.proofs.Plans.{IsWant, OneList, OneTree, held_is, one_load, one_path, one_plan, plain_want, table_want, wants}
-use Rattle.snmp_tools.proofs.Steps.{of_early}
+use Rattle.snmp_tools.proofs.Plans.{IsWant, OneList, OneTree, held_is, one_load, one_path, one_plan, plain_want, table_want, wants_early, wants_late}
 use Rattle.snmp_tools.proofs.Streams.{nothing_taken}
 
 -- memory ran out before anything was written
@@ -163,7 +162,7 @@ module _ (one_table : (ls : List (List ℕ)) (v w : MibView) → IsTableOf ls v 
       ends : IsFeasible walk.plan walk.view → (warned : Stream) (fault : Option Fault) → IsOutcomeBy Facts bulk words files mib before after fault
           → IsReported fault warned err_after status → (status ≡ 0) ⊎ Stops before after warned err_after status
       ends can warned fault (refused why refusal same is) told =
-          inr (want_told why before after warned err_after status (wants one_list one_tree no_fault bulk words files rows walk can why refusal)
+          inr (want_told why before after warned err_after status (wants_late one_list one_tree no_fault bulk words files rows walk can why refusal)
           (subst (λ (f : Option Fault). IsReported f warned err_after status) is told))
       ends can warned fault (walked plan view over printed) told =
           let feasible : IsFeasible plan view =
@@ -189,7 +188,7 @@ module _ (one_table : (ls : List (List ℕ)) (v w : MibView) → IsTableOf ls v 
     outcome_ends can warned fault (not_loaded why early same untold is) told =
         mishap walk.warnings before after err_before warned err_after status (inl untold)
         (inr (want_told why before after warned err_after status
-        (wants one_list one_tree no_fault bulk words files rows walk can why (of_early bulk words files why early))
+        (wants_early one_list one_tree no_fault bulk words files rows walk can why early)
         (subst (λ (f : Option Fault). IsReported f warned err_after status) is told)))
     outcome_ends can warned fault (loaded mib warnings loading lines by) told =
         mishap walk.warnings before after err_before warned err_after status

@@ -29,7 +29,7 @@ use Rattle.smi_module.specs.declared.tree.Module.{Module}
 use Rattle.smi_nodes.specs.declared.warning.Warning.{Warning}
 use Rattle.smi_tree.specs.Tree.{Contents, IsTree}
 use Rattle.snmp_tools.specs.Mib.{AreLoaded, Holdings, Holds, IsMibOf, MayHold, Mib, mib_of}
-use Rattle.snmp_tools.specs.Plan.{AskFor, FailsBy, IsAfterOf, IsRefusal, IsRootOf, Plan, Step, root_text}
+use Rattle.snmp_tools.specs.Plan.{AskFor, FailsBy, IsAfterOf, IsEarlyRefusal, IsLateRefusal, IsRootOf, Plan, Step, root_text}
 use Rattle.snmp_tools.specs.Plan.{asking, choices_step, mibs_step, root_step, after_step, reach_step, root_sent_step}
 use Rattle.snmp_tools.specs.Plan.{after_below_step, after_sent_step}
 
@@ -206,6 +206,10 @@ module _ (one_list : OneList) (one_tree : OneTree) (no_fault : (ls : List (List 
   step_want after_sent_step why f =
       absurd (f.3 (after_goes walk.plan.root f.0 f.1 (root_by f.2.mib f.2.known) f.2).1)
 
-  pub wants : (why : Fault) → IsRefusal bulk words files why → IsWant why
-  wants why (inl e) = plain_want e
-  wants why (inr first) = step_want first.failed why first.fails
+  pub wants_early : (why : Fault) → IsEarlyRefusal bulk words files why → IsWant why
+  wants_early why (inl e) = plain_want e
+  wants_early why (inr first) = step_want first.failed why first.fails
+
+  pub wants_late : (why : Fault) → IsLateRefusal bulk words files why → IsWant why
+  wants_late why (inl e) = plain_want e
+  wants_late why (inr both) = step_want both.1.failed why both.1.fails

@@ -6,7 +6,7 @@ use Rattle.snmp_net.specs.Address.{address_of}
 use Rattle.snmp_tools.specs.Asking.{HasAgent, IsNameIfGiven, IsReached, ReachFails}
 use Rattle.snmp_tools.specs.Message.{Fault}
 use Rattle.snmp_tools.specs.Mib.{Holdings, IsMibOf, MayHold, Mib}
-use Rattle.snmp_tools.specs.Plan.{AskFor, IsAfterOf, IsRefusal, IsRootOf, Plan, root_text}
+use Rattle.snmp_tools.specs.Plan.{AskFor, IsAfterOf, IsLateRefusal, IsRootOf, Plan, root_text}
 use Rattle.snmp_tools.specs.Chosen.{chosen}
 use Rattle.snmp_tools.specs.Planned.{AreOrdersOf, NamesFail}
 use Rattle.snmp_tools.specs.declared.plan.Orders.{Orders}
@@ -22,7 +22,7 @@ given_after mib (Some text) planned after h e =
     (refl, h.1 ∙ ap Ok same)
 
 module _ (bulk : Bool) (words : WalkWords) (files : Holdings) (mib : Mib) (known : IsMibOf (MayHold files) words.asking mib) where
-  pub names_refused : (orders : Orders) → AreOrdersOf bulk words orders → (why : Fault) → NamesFail words mib why → IsRefusal bulk words files why
+  pub names_refused : (orders : Orders) → AreOrdersOf bulk words orders → (why : Fault) → NamesFail words mib why → IsLateRefusal bulk words files why
   names_refused orders are why (inl f) =
       at_root bulk words files why are.version (orders.letters, are.letters) (chosen orders.choices, are.chosen) are.short_community
       (address_of orders.agent, are.agent) (mib, known) (mib, known, f)
@@ -34,13 +34,13 @@ module _ (bulk : Bool) (words : WalkWords) (files : Holdings) (mib : Mib) (known
     is_root : IsRootOf words files plan.root
     is_root = record { mib = mib; known = known; means = asked.root }
 
-    pub reach_refused : (why : Fault) → ReachFails files plan.agent words.asking.agent why → IsRefusal bulk words files why
+    pub reach_refused : (why : Fault) → ReachFails files plan.agent words.asking.agent why → IsLateRefusal bulk words files why
     reach_refused why f =
         at_reach bulk words files why asked.version (plan.letters, asked.letters) (asked.choices, asked.chosen) asked.short_community
         (plan.agent, only) (mib, known) (plan.root, is_root) (mib, plan.after, known, asked.after) (plan.agent, only, f)
 
     module _ (reached : IsReached files plan.agent) where
-      pub start_refused : (why : Fault) → StartFails plan (root_text words) (unwrap_or words.after []) why → IsRefusal bulk words files why
+      pub start_refused : (why : Fault) → StartFails plan (root_text words) (unwrap_or words.after []) why → IsLateRefusal bulk words files why
       start_refused why (inl f) =
           at_root_sent bulk words files why asked.version (plan.letters, asked.letters) (asked.choices, asked.chosen) asked.short_community
           (plan.agent, only) (mib, known) (plan.root, is_root) (mib, plan.after, known, asked.after) (plan.agent, only, reached)
@@ -58,7 +58,7 @@ module _ (bulk : Bool) (words : WalkWords) (files : Holdings) (mib : Mib) (known
               let given = given_after mib words.after plan.after f.1.0 asked.after f.1.1 in
               record { mib = mib; known = known; given = given.0; means = given.1 }
 
-          resumed : ResumeFails plan.root f.1.0 text why → IsRefusal bulk words files why
+          resumed : ResumeFails plan.root f.1.0 text why → IsLateRefusal bulk words files why
           resumed (inl g) =
               at_after_below bulk words files why asked.version (plan.letters, asked.letters) (asked.choices, asked.chosen) asked.short_community
               (plan.agent, only) (mib, known) (plan.root, is_root) (mib, plan.after, known, asked.after) (plan.agent, only, reached)

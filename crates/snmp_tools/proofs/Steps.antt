@@ -1,12 +1,11 @@
 -- The first step that fails, after those that are done.
-use Rattle.std.proofs.Common.{append_assoc}
-use Rattle.std.proofs.Common.{◌≡◌, ◌∙◌, ◌++◌, inl, inr, ℕ, Bool, List, [], ◌∷◌, Bor, Option, Some, None, option_map, unwrap_or, refl, ap}
+use Rattle.std.proofs.Common.{◌≡◌, inl, inr, ℕ, Bool, List, [], ◌∷◌, Bor, Option, Some, None, option_map, unwrap_or, refl, ap}
 use Rattle.snmp_words.specs.Words.{WalkWords}
 use Rattle.snmp_tools.specs.Asking.{agent_step, community_step, letters_step, version_step}
 use Rattle.snmp_tools.specs.Message.{Fault}
 use Rattle.snmp_tools.specs.Mib.{Holdings}
-use Rattle.snmp_tools.specs.Plan.{FailsBy, IsDoneBy, IsEarlyRefusal, IsRefusal, Step, asking, choices_step, mibs_step, root_step, after_step, reach_step}
-use Rattle.snmp_tools.specs.Plan.{after_below_step, after_sent_step, naming_steps, root_sent_step}
+use Rattle.snmp_tools.specs.Plan.{FailsBy, IsDoneBy, IsEarlyRefusal, IsLateRefusal, Step, asking, choices_step, mibs_step, root_step, after_step, reach_step}
+use Rattle.snmp_tools.specs.Plan.{after_below_step, after_sent_step, root_sent_step}
 use Rattle.snmp_tools.specs.Planned.{AgentFails, ShowingFails}
 use Rattle.snmp_tools.specs.Steps.{IsFirstToFail}
 
@@ -76,43 +75,31 @@ module _ (bulk : Bool) (words : WalkWords) (files : Holdings) (why : Fault) wher
         at_mibs f = inr (chosen _ (goes_on (asking community_step) _ s (goes_on (asking agent_step) _ a (fails mibs_step _ f))))
 
         module _ (m : Done mibs_step) where
-          reached : Refused name_steps → IsRefusal bulk words files why
-          reached h = inr (chosen _ (goes_on (asking community_step) _ s (goes_on (asking agent_step) _ a (goes_on mibs_step _ m h))))
+          reached : Refused name_steps → IsLateRefusal bulk words files why
+          reached h = inr ((v, l, c, s, a, m, tt), h)
 
-          pub at_root : Fails root_step → IsRefusal bulk words files why
+          pub at_root : Fails root_step → IsLateRefusal bulk words files why
           at_root f = reached (fails root_step _ f)
 
           module _ (r : Done root_step) where
-            pub at_after : Fails after_step → IsRefusal bulk words files why
+            pub at_after : Fails after_step → IsLateRefusal bulk words files why
             at_after f = reached (goes_on root_step _ r (fails after_step _ f))
 
             module _ (p : Done after_step) where
-              named : Refused (reach_step ∷ sent_steps) → IsRefusal bulk words files why
+              named : Refused (reach_step ∷ sent_steps) → IsLateRefusal bulk words files why
               named h = reached (goes_on root_step _ r (goes_on after_step _ p h))
 
-              pub at_reach : Fails reach_step → IsRefusal bulk words files why
+              pub at_reach : Fails reach_step → IsLateRefusal bulk words files why
               at_reach f = named (fails reach_step _ f)
 
               module _ (t : Done reach_step) where
-                pub at_root_sent : Fails root_sent_step → IsRefusal bulk words files why
+                pub at_root_sent : Fails root_sent_step → IsLateRefusal bulk words files why
                 at_root_sent f = named (goes_on reach_step _ t (fails root_sent_step _ f))
 
                 module _ (o : Done root_sent_step) where
-                  pub at_after_below : Fails after_below_step → IsRefusal bulk words files why
+                  pub at_after_below : Fails after_below_step → IsLateRefusal bulk words files why
                   at_after_below f = named (goes_on reach_step _ t (goes_on root_sent_step _ o (fails after_below_step _ f)))
 
-                  pub at_after_sent : Done after_below_step → Fails after_sent_step → IsRefusal bulk words files why
+                  pub at_after_sent : Done after_below_step → Fails after_sent_step → IsLateRefusal bulk words files why
                   at_after_sent b f =
                       named (goes_on reach_step _ t (goes_on root_sent_step _ o (goes_on after_below_step _ b (fails after_sent_step _ f))))
-
-  -- what fails before names are known fails in the whole order of steps
-  pub of_early : IsEarlyRefusal bulk words files why → IsRefusal bulk words files why
-  of_early (inl e) = inl e
-  of_early (inr first) = inr (record {
-    done = first.done;
-    failed = first.failed;
-    left = first.left ++ naming_steps;
-    order = ap (λ (steps : List Step). steps ++ naming_steps) first.order ∙ append_assoc first.done (first.failed ∷ first.left) naming_steps;
-    are_done = first.are_done;
-    fails = first.fails;
-  })

@@ -25,7 +25,7 @@ use Rattle.snmp_tools.specs.Message.{Fault, ended, message_of, out_of_memory, st
 use Rattle.snmp_net.specs.Address.{table, udp}
 use Rattle.snmp_tools.specs.Asking.{HasAgent, HasTable}
 use Rattle.snmp_tools.specs.Mib.{AreLoaded, Holdings, IsMibOf, MayHold, Mib}
-use Rattle.snmp_tools.specs.Plan.{AskFor, IsEarlyRefusal, IsRefusal, Plan}
+use Rattle.snmp_tools.specs.Plan.{AskFor, IsEarlyRefusal, IsLateRefusal, Plan}
 
 -- ---- the walk
 
@@ -158,7 +158,7 @@ pub record IsPrintedOver (Facts : (given refused : List VarBind) → WalkEnd →
 abbrev pub IsTableOutcome : Bool → WalkWords → Holdings → Mib → Plan → (before after : Stream)
     → Option Fault → Type 0
 IsTableOutcome bulk words files mib plan before after fault =
-    ((why : Fault) × IsRefusal bulk words files why × (after ≡ before) × (fault ≡ Some why))
+    ((why : Fault) × IsLateRefusal bulk words files why × (after ≡ before) × (fault ≡ Some why))
     ⊎ ((view : MibView) × IsWalkOver bulk words files mib plan view
     × IsPrinted mib plan view words.asking.agent before after fault)
 
@@ -167,7 +167,7 @@ IsTableOutcome bulk words files mib plan before after fault =
 pub data IsOutcomeBy (Facts : (host : List ℕ) → (port tries : ℕ) → Walker
     → (given refused : List VarBind) → WalkEnd → Type 0) (bulk : Bool) (words : WalkWords)
     (files : Holdings) (mib : Mib) (before after : Stream) (fault : Option Fault) : Type 0 where
-  refused : (why : Fault) → IsRefusal bulk words files why → after ≡ before → fault ≡ Some why
+  refused : (why : Fault) → IsLateRefusal bulk words files why → after ≡ before → fault ≡ Some why
       → IsOutcomeBy Facts bulk words files mib before after fault
   walked : (plan : Plan) (view : MibView) → IsWalkOver bulk words files mib plan view
       → IsPrinted mib plan view words.asking.agent before after fault

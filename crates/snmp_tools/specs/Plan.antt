@@ -1,5 +1,5 @@
 -- What the words of a walk ask for, and why they may be refused.
-use Rattle.std.specs.Prelude.{◌≡◌, ◌≤◌, ◌⊎◌, ◌++◌, ℕ, Bool, List, [], ◌∷◌, length}
+use Rattle.std.specs.Prelude.{◌≡◌, ◌≤◌, ◌⊎◌, ℕ, Bool, List, [], ◌∷◌, length}
 use Rattle.std.specs.Prelude.{Option, Some, Ok, Err, codes, unwrap_or}
 use Rattle.smi_letters.specs.declared.letters.Letters.{Letters}
 use Rattle.smi_name.specs.Meaning.{meaning}
@@ -14,7 +14,7 @@ use Rattle.snmp_tools.specs.Asking.{agent_step, community_step, letters_step, ve
 use Rattle.snmp_tools.specs.Letters.{Choices, choices_of, method_of, mode_of}
 use Rattle.snmp_tools.specs.Message.{Fault, bad_letter, out_of_memory, outside_root, unsendable}
 use Rattle.snmp_tools.specs.Mib.{Holdings, IsMibOf, MayHold, Mib}
-use Rattle.snmp_tools.specs.Steps.{IsFirstToFail}
+use Rattle.snmp_tools.specs.Steps.{AreDone, IsFirstToFail}
 
 -- ---- what is asked for
 
@@ -77,9 +77,6 @@ abbrev pub naming_steps : List Step
 naming_steps = root_step ∷ after_step ∷ reach_step ∷ root_sent_step ∷ after_below_step
     ∷ after_sent_step ∷ []
 
-abbrev pub walk_steps : List Step
-walk_steps = loading_steps ++ naming_steps
-
 -- the root, by names that the job knows
 pub record IsRootOf (words : WalkWords) (files : Holdings) (root : List ℕ) : Type 0 where
   pub mib : Mib
@@ -137,14 +134,15 @@ FailsBy bulk words files after_sent_step why =
     (text : List ℕ) × (after : List ℕ) × IsAfterOf words files text after
     × (IsWire (wire after) → ⊥) × (why ≡ unsendable text)
 
--- why no names are known: memory ran out, or a step up to the modules failed
+-- why no modules were loaded: memory ran out, or a step up to them failed
 abbrev pub IsEarlyRefusal : Bool → WalkWords → Holdings → Fault → Type 0
 IsEarlyRefusal bulk words files why =
     (why ≡ out_of_memory)
     ⊎ IsFirstToFail loading_steps (IsDoneBy bulk words files) (FailsBy bulk words files) why
 
--- why there is no walk: memory ran out, or a step failed
-abbrev pub IsRefusal : Bool → WalkWords → Holdings → Fault → Type 0
-IsRefusal bulk words files why =
+-- why there is no walk by the modules that were loaded: memory ran out, or a later step failed
+abbrev pub IsLateRefusal : Bool → WalkWords → Holdings → Fault → Type 0
+IsLateRefusal bulk words files why =
     (why ≡ out_of_memory)
-    ⊎ IsFirstToFail walk_steps (IsDoneBy bulk words files) (FailsBy bulk words files) why
+    ⊎ (AreDone (IsDoneBy bulk words files) loading_steps
+    × IsFirstToFail naming_steps (IsDoneBy bulk words files) (FailsBy bulk words files) why)

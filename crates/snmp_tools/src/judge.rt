@@ -10,7 +10,7 @@ ghost use Rattle.snmp_net.specs.Address.{address_of};
 ghost use Rattle.snmp_tools.specs.Asking.{AreShown, HasAgent, IsNameIfGiven, NameFails};
 ghost use Rattle.snmp_tools.specs.Message.{fault_of};
 ghost use Rattle.snmp_tools.specs.Mib.{Holdings, Mib};
-ghost use Rattle.snmp_tools.specs.Plan.{AskFor, IsRefusal, root_text};
+ghost use Rattle.snmp_tools.specs.Plan.{AskFor, IsEarlyRefusal, root_text};
 ghost use Rattle.snmp_tools.specs.Planned.{AgentFails, AreOrdersOf, NamesFail, ShowingFails};
 ghost use Rattle.snmp_tools.specs.Planned.{plan_of};
 
@@ -27,14 +27,14 @@ impl<'a> Orders<'a> {
     ghost use Rattle.snmp_words.specs.Words.{walk_words};
     ghost use Rattle.snmp_tools.specs.Message.{fault_of};
     ghost use Rattle.snmp_tools.specs.Mib.{Holdings};
-    ghost use Rattle.snmp_tools.specs.Plan.{IsRefusal};
+    ghost use Rattle.snmp_tools.specs.Plan.{IsEarlyRefusal};
     ghost use Rattle.snmp_tools.specs.Planned.{AreOrdersOf};
 
     /// What the words of snmpwalk, or of snmpbulkwalk, say before names are looked up.
     pub(crate) fn read(walk: &WalkJob<'a>, bulk: bool) -> Result<Orders<'a>, Failure<'a>>
         ensures orders { IfOk result (AreOrdersOf bulk (walk_words walk.now)) }
         ensures refused { (files : Holdings)
-            → IfErr result (λ e. IsRefusal bulk (walk_words walk.now) files (fault_of e)) }
+            → IfErr result (λ e. IsEarlyRefusal bulk (walk_words walk.now) files (fault_of e)) }
     {
         let letters = match read_shown(&walk.asking) {
             Ok(letters) => letters,

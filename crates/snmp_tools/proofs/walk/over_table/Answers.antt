@@ -6,13 +6,13 @@ use Rattle.snmp_tools.specs.Asking.{IsReached, ReachFails, TableFails}
 use Rattle.snmp_tools.specs.Message.{Fault, fault_of, out_of_memory}
 use Rattle.snmp_tools.specs.Mib.{Holdings, Mib}
 use Rattle.snmp_tools.specs.Outcome.{IsWalkOver}
-use Rattle.snmp_tools.specs.Plan.{IsRefusal, Plan}
+use Rattle.snmp_tools.specs.Plan.{IsLateRefusal, Plan}
 use Rattle.snmp_tools.specs.Planned.{IsPlanFor, mib_in, plan_of}
 use Rattle.snmp_tools.proofs.Starts.{reach_refused, start_refused}
 use Rattle.snmp_tools.proofs.walk.over_table.Goals as goal
 
 table_or_want : (bulk : Bool) (words : WalkWords) (files : Holdings) (mib : Mib) (plan : Plan) (path : List ℕ) → IsPlanFor bulk words files mib plan
-    → plan.agent ≡ table path → (why : Fault) → (why ≡ out_of_memory) ⊎ TableFails (files path) path why → IsRefusal bulk words files why
+    → plan.agent ≡ table path → (why : Fault) → (why ≡ out_of_memory) ⊎ TableFails (files path) path why → IsLateRefusal bulk words files why
 table_or_want bulk words files mib plan path for at why (inl e) = inl e
 table_or_want bulk words files mib plan path for at why (inr f) =
     let P : Address → Type 0 = λ a. ReachFails files a words.asking.agent why in
