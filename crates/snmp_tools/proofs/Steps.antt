@@ -76,7 +76,7 @@ module _ (bulk : Bool) (words : WalkWords) (files : Holdings) (why : Fault) wher
 
         module _ (m : Done mibs_step) where
           reached : Refused name_steps → IsLateRefusal bulk words files why
-          reached h = inr ((v, l, c, s, a, m, tt), h)
+          reached h = inr ((v, (l, (c, (s, (a, (m, tt)))))), h)
 
           pub at_root : Fails root_step → IsLateRefusal bulk words files why
           at_root f = reached (fails root_step _ f)

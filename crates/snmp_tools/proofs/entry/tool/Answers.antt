@@ -4,7 +4,7 @@ use Rattle.snmp_serve.specs.Outcome as serve
 use Rattle.snmp_words.specs.Words.{Stated}
 use Rattle.snmp_tools.specs.Message.{out_of_memory}
 use Rattle.snmp_tools.specs.Outcome.{not_loaded}
-use Rattle.snmp_tools.proofs.Headlines.{refused_front}
+use Rattle.snmp_tools.proofs.Headlines.{refused_end, refused_front}
 use Rattle.snmp_tools.proofs.entry.tool.Goals as goal
 
 one_job : (a b : Stated) (stated : Option Stated) → stated ≡ Some a → stated ≡ Some b → a ≡ b
@@ -28,6 +28,10 @@ returns-in-Err-Memory-clause-outcome_reported g c = λ bulk w taken stated. reco
 pub returns-in-Err-Memory-clause-front_written : goal.returns-in-Err-Memory-clause-front_written
 returns-in-Err-Memory-clause-front_written g c = λ bulk w taken stated. refused_front bulk w (g.F.Files.text_at c.args.files.now)
     (g.O.Output.stream c.args.out.now)
+
+pub returns-in-Err-Memory-clause-ends_at_status_0 : goal.returns-in-Err-Memory-clause-ends_at_status_0
+returns-in-Err-Memory-clause-ends_at_status_0 g c = λ bulk w taken stated. refused_end bulk w (g.F.Files.text_at c.args.files.now)
+    (g.O.Output.stream c.args.out.now) (g.O.Output.stream c.args.out.now) (g.E.Output.stream c.args.err.now) _ c.tell-in-Err-Memory.ensures
 
 pub returns-in-Err-Memory-clause-served : goal.returns-in-Err-Memory-clause-served
 returns-in-Err-Memory-clause-served g c = λ w taken stated. record {
