@@ -41,11 +41,20 @@ use Rattle.snmp_walk.specs.Link.{Agents, OneOf, AreLawful, IsUnanswered, agent_i
 use Rattle.snmp_walk.specs.Traffic.{Traffic, Lost}
 use Rattle.snmp_walk.specs.Heard.{Exchanges, IsAsked}
 use Rattle.snmp_walk.specs.Facts.{IsDone, IsDoneOrStopped}
+use Rattle.snmp_walk.specs.declared.rows.Step.{Step}
+use Rattle.snmp_walk.specs.declared.rows.Step.TheVariants as step
+use Rattle.snmp_walk.specs.declared.tries.Heard.{Heard}
+use Rattle.snmp_walk.specs.declared.tries.Heard.TheVariants as heard
+use Rattle.snmp_walk.specs.Sink.{Given}
+use Rattle.snmp_walk.specs.Read.{rows_in, Delivers, is_stray, goes_on as delivered_on, ends as delivered_last, is_refused as delivered_part}
+use Rattle.snmp_walk.proofs.GetLemmas.{no_link_of}
 use Rattle.snmp_walk.specs.Get.{
   asked_names,
   get_request,
   are_for,
   answers_of,
+  step_of,
+  got_step,
   IsBrought,
   GetEnds,
   gives,
@@ -130,6 +139,89 @@ short_enough n octets text few is long = absurd (omega (arith, few, long, ap len
   where
     short_take : (k : ℕ) (xs : List ℕ) → length (take k xs) ≤ k
     short_take k xs = omega (arith, length-take k xs, min-le_left k (length xs))
+
+-- how a Get ends by a reply that was read
+pub record IsGotEnd {S : Type 0} (takes : S → VarBind → Result (Unit {0}) SinkFault → S → Type 0) (request : Message) (names : List (List ℕ))
+    (From : Message → Type 0) (before : S) (end : WalkEnd) (after : S) : Type 0 where
+  pub rows : List VarBind
+  pub refused : List VarBind
+  pub ends : GetEnds takes request names From before rows refused end after
+  pub no_link : end ≡ ending.Link → ⊥
+  pub no_silence : end ≡ ending.NoResponse → ⊥
+  pub no_length : end ≡ ending.RequestTooLong → ⊥
+
+no_part : (rows left : List VarBind) (p : VarBind) → [] ≡ rows ++ p ∷ left → ⊥
+no_part [] left p e = cc
+no_part (q ∷ rows) left p e = cc
+
+module _ {S : Type 0} (takes : S → VarBind → Result (Unit {0}) SinkFault → S → Type 0) (request : Message) (names : List (List ℕ)) (From : Message → Type 0)
+    (before after : S) (m : Message) (from : From m) (given : Step) (what : Heard) where
+  by_ok : (all : List VarBind) → answers_of names m ≡ Ok all → given ≡ step.Last all (ending.Done (length names)) → (end : WalkEnd) → what ≡ heard.Ends end
+      → Delivers takes given before what after → IsGotEnd takes request names From before end after
+  by_ok all is e end f (is_stray h k l) = let no : ⊥ = cc in absurd no
+  by_ok all is e end f (delivered_on rows h k l) = let no : ⊥ = cc in absurd no
+  by_ok all is e end f (delivered_last rows cause h k l) =
+      let same : all ≡ rows = cc in
+      let done : end ≡ ending.Done (length names) = cc in
+      record {
+        rows = rows;
+        refused = [];
+        ends = gives m from (is ∙ ap Ok same) refl l done;
+        no_link = λ x. let no : ⊥ = cc in no;
+        no_silence = λ x. let no : ⊥ = cc in no;
+        no_length = λ x. let no : ⊥ = cc in no;
+      }
+  by_ok all is e end f (delivered_part fault rows p left between h k l n) =
+      let refusal : end ≡ ending.Sink fault = cc in
+      record {
+        rows = rows;
+        refused = p ∷ [];
+        ends = is_refused m p left fault between from (is ∙ ap Ok (sym (ap rows_in e) ∙ h)) refl l n refusal;
+        no_link = λ x. let no : ⊥ = cc in no;
+        no_silence = λ x. let no : ⊥ = cc in no;
+        no_length = λ x. let no : ⊥ = cc in no;
+      }
+
+  by_err : (cause : WalkEnd) → answers_of names m ≡ Err cause → given ≡ step.Last [] cause → (end : WalkEnd) → what ≡ heard.Ends end
+      → Delivers takes given before what after → IsGotEnd takes request names From before end after
+  by_err cause is e end f (is_stray h k l) = let no : ⊥ = cc in absurd no
+  by_err cause is e end f (delivered_on rows h k l) = let no : ⊥ = cc in absurd no
+  by_err cause is e end f (delivered_last rows other h k l) =
+      let none : rows ≡ [] = cc in
+      let same : cause ≡ end = cc in
+      let fails_so : answers_of names m ≡ Err end = is ∙ ap Err same in
+      record {
+        rows = [];
+        refused = [];
+        ends = fails m from fails_so refl refl (subst (λ (x : List VarBind). Given takes before x after) none l);
+        no_link = no_link_of names m end fails_so;
+        no_silence = no_silence_of names m end fails_so;
+        no_length = no_length_of names m end fails_so;
+      }
+  by_err cause is e end f (delivered_part fault rows p left between h k l n) = absurd (no_part rows left p (sym (ap rows_in e) ∙ h))
+
+  by_answers : (r : Result (List VarBind) WalkEnd) → answers_of names m ≡ r → given ≡ step_of (length names) r → (end : WalkEnd) → what ≡ heard.Ends end
+      → Delivers takes given before what after → IsGotEnd takes request names From before end after
+  by_answers (Ok all) is e = by_ok all is e
+  by_answers (Err cause) is e = by_err cause is e
+
+  pub got_ends : given ≡ got_step names m → (end : WalkEnd) → what ≡ heard.Ends end → Delivers takes given before what after
+      → IsGotEnd takes request names From before end after
+  got_ends e = by_answers (answers_of names m) refl e
+
+  never_last : (rows : List VarBind) (cause : WalkEnd) → given ≡ step.Last rows cause → what ≡ heard.GoesOn → Delivers takes given before what after → ⊥
+  never_last all cause e f (is_stray h k l) = cc
+  never_last all cause e f (delivered_on rows h k l) = cc
+  never_last all cause e f (delivered_last rows other h k l) = cc
+  never_last all cause e f (delivered_part fault rows p left between h k l n) = cc
+
+  goes_never : (r : Result (List VarBind) WalkEnd) → given ≡ step_of (length names) r → what ≡ heard.GoesOn → Delivers takes given before what after → ⊥
+  goes_never (Ok all) e = never_last all (ending.Done (length names)) e
+  goes_never (Err cause) e = never_last [] cause e
+
+  -- and it doesn't go on
+  pub got_ends_always : given ≡ got_step names m → what ≡ heard.GoesOn → Delivers takes given before what after → ⊥
+  got_ends_always e = goes_never (answers_of names m) e
 
 -- no deliveries lose nothing
 none_used : (used left : List (Option ℕ)) (ahead : List (Option ℕ)) → ahead ≡ used ++ left → ahead ≡ [] → used ≡ []

@@ -167,16 +167,6 @@ no_link_of names m end e link = by_status (int_eq m.a (pos 0)) (are_for names m.
     by_status true false is = cc
     by_status false c is = cc
 
--- the sink refused a binding
-pub refused_by : {S : Type 0} (takes : S → VarBind → Result (Unit {0}) SinkFault → S → Type 0) (request : Message) (names : List (List ℕ)) (From : Message
-    → Type 0) (before after : S)
-    (all : List VarBind) (fault : SinkFault) (m : Message) → From m → answers_of names m ≡ Ok all
-    → ((front : List VarBind) × (p : VarBind) × (back : List VarBind) × (all ≡ front ++ p ∷ back) × (between : S) × Given takes before front between
-    × takes between p (Err fault) after)
-    → (rows : List VarBind) × (refused : List VarBind) × GetEnds takes request names From before rows refused (ending.Sink fault) after
-refused_by takes request names From before after all fault m from e h =
-    (h.0, h.1 ∷ [], is_refused m h.1 h.2 fault h.4 from (e ∙ ap Ok h.3) refl h.5 h.6 refl)
-
 -- without an error status, and of just these names
 pub answered_all : (names : List (List ℕ)) (m : Message) (rows : List VarBind) → int_eq m.a (pos 0) ≡ true → are_for names m.bindings ≡ true
     → rows ≡ take (length names) m.bindings

@@ -29,7 +29,7 @@ use Rattle.std.proofs.Common.{
 }
 use Rattle.std.proofs.lemmas.Bool.{and_from}
 use Rattle.std.proofs.lemmas.Cmp.{int_eq_equiv}
-use Rattle.std.specs.Prelude.{Result, Ok, Err, IfOk, IfSome}
+use Rattle.std.specs.Prelude.{Result}
 use Rattle.std.specs.List.{AllByRecursion}
 use Rattle.std.specs.Cmp.Lexicographic.{nat_list_eq_equiv}
 use Rattle.snmp_oid.specs.Identifier.{wire}
@@ -43,7 +43,11 @@ use Rattle.snmp_table.specs.Table.{MibView, IsMibView, IsGet}
 use Rattle.snmp_agent.specs.Reply.{response, AreAnswers, got, got_next, unwritten, Fits, IsResponse, whole, shortened, bulk}
 use Rattle.snmp_walk.specs.Taken.{awaits}
 use Rattle.snmp_walk.specs.Link.{Agents, OneOf, AreLawful, IsReplyFrom}
-use Rattle.snmp_walk.specs.Heard.{IsAwaited, IsAsked}
+use Rattle.snmp_walk.specs.Heard.{IsAsked}
+use Rattle.snmp_walk.specs.declared.end.SinkFault.{SinkFault}
+use Rattle.snmp_walk.specs.declared.rows.Step.{Step}
+use Rattle.snmp_walk.specs.declared.tries.Heard.{Heard}
+use Rattle.snmp_walk.specs.Read.{IsRead}
 use Rattle.snmp_walk.specs.Get.{asked_names, get_request, IsBrought}
 use Rattle.snmp_walk.proofs.HonestLemmas.{get_in_range, bindings_within, fits_from}
 use Rattle.snmp_walk.proofs.ViewLemmas.{view_of}
@@ -130,27 +134,19 @@ module _ (codec : Codec) (community : List ℕ) (id : ℕ) (names : List (List �
   }
 
   -- the message that was heard
-  pub brought : (Comes : List ℕ → Type 0) (agents : Agents) (honest : Type 0) → (honest → AreLawful agents) → (q : List ℕ)
+  pub brought : {W S : Type 0} (Comes : List ℕ → Type 0) (agents : Agents) (honest : Type 0) → (honest → AreLawful agents) → (q : List ℕ)
       → q ≡ canon (get_request community id names)
-      → (sent : List (List ℕ))
-      → (o : Option ℕ) (n : ℕ) (buffer : List ℕ) → o ≡ Some n → IfSome o (λ k. IsAwaited community id (take k buffer))
-      → IfSome o (λ k. Comes (take k buffer))
-      → (honest → IsAsked agents community id q sent → IfSome o (λ k. IsReplyFrom agents q (take k buffer)))
-      → (m : Message) × Spells m (take n buffer) × IsBrought Comes agents (honest × (sent ≡ [])) community id names m
-  brought Comes agents honest lawful q is sent None n buffer e heard came reply = let no : ⊥ = cc in absurd no
-  brought Comes agents honest lawful q is sent (Some k) n buffer e heard came reply =
-      let same : k ≡ n = cc in
-      let here : IsAwaited community id (take n buffer) = subst (λ (j : ℕ). IsAwaited community id (take j buffer)) same heard in (
-        here.message,
-        here.spelt,
-        (
-          here.awaited,
-          λ h.
-              let r = reply h.0 (subst (λ (x : List ℕ). IsAsked agents community id x sent) (sym is) (asked_alone agents (lawful h.0) sent h.1)) in
-              let r_here : IsReplyFrom agents (canon (get_request community id names)) (take n buffer) =
-              subst (λ (x : List ℕ). IsReplyFrom agents x (take n buffer)) is (subst (λ (j : ℕ). IsReplyFrom agents q (take j buffer)) same r) in
-              let a = answered agents (lawful h.0) (take n buffer) r_here in
-              (a.view, a.one, a.named, subst (IsResponse a.view agents.max_size (get_request community id names)) (here.only a.message a.spelt) a.is_response),
-          (take n buffer, subst (λ (j : ℕ). Comes (take j buffer)) same came, here.spelt),
-        ),
+      → (sent : List (List ℕ)) (reads : Message → Step → W → Type 0) (takes : S → VarBind → Result (Unit {0}) SinkFault → S → Type 0) (before : S)
+      (what : Heard) (new : W) (after : S)
+      → (r : IsRead Comes (λ octets. honest → IsAsked agents community id q sent → IsReplyFrom agents q octets) community id reads takes before what new after)
+      → IsBrought Comes agents (honest × (sent ≡ [])) community id names r.is_read.message
+  brought Comes agents honest lawful q is sent reads takes before what new after here =
+      let m : Message = here.is_read.message in (
+        here.is_read.awaited,
+        λ h.
+            let r = here.reply h.0 (subst (λ (x : List ℕ). IsAsked agents community id x sent) (sym is) (asked_alone agents (lawful h.0) sent h.1)) in
+            let a = answered agents (lawful h.0) here.datagram (subst (λ (x : List ℕ). IsReplyFrom agents x here.datagram) is r) in
+            let same = (codec.one a.message m here.datagram here.datagram [] [] a.spelt here.is_read.spelt refl).0 in
+            (a.view, a.one, a.named, subst (IsResponse a.view agents.max_size (get_request community id names)) same a.is_response),
+        (here.datagram, here.comes, here.is_read.spelt),
       )

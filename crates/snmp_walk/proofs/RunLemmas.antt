@@ -63,7 +63,8 @@ use Rattle.snmp_walk.specs.Standing.{
 }
 use Rattle.snmp_walk.specs.Link.{Agents, IsNextFrom, IsGotFrom, IsTooLarge, IsUnanswered, AreViews}
 use Rattle.snmp_walk.specs.Sink.{Given, Took}
-use Rattle.snmp_walk.specs.Run.{IsFrom, Turns, goes_on, ends, is_refused, is_silent, fails, rows_in}
+use Rattle.snmp_walk.specs.Run.{IsFrom, Turns, goes_on, ends, is_refused, is_silent, fails}
+use Rattle.snmp_walk.specs.Read.{rows_in}
 use Rattle.snmp_walk.specs.Facts.{IsFresh, IsLawfulEnd, HasNoReply, HasNone, WalkFacts, SendFacts, EndFacts, IsEndOfRun, IsReadyForAll, ReadyFacts}
 use Rattle.snmp_walk.specs.Traffic.{Traffic, Lost}
 use Rattle.snmp_walk.specs.Heard.{Exchanges, IsEarlier}

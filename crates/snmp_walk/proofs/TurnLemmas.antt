@@ -1,7 +1,7 @@
 -- What was heard is taken, and isn't passed over.
 use Rattle.std.proofs.Common.{◌≡◌, inl, inr, ℕ, Bool, true, false, cond, List, [], ◌∷◌, ◌++◌, refl, sym, ◌∙◌, ap, subst, Option, Some, None}
 use Rattle.std.proofs.lemmas.Bool.{false≢true}
-use Rattle.std.specs.Prelude.{IfSome, Result, Err}
+use Rattle.std.specs.Prelude.{IfSome, IfNone, IfOk, OnErr, Result, Ok, Err}
 use Rattle.snmp_wire.specs.Message.{VarBind, Message}
 use Rattle.snmp_walk.specs.declared.phase.Phase.{Phase}
 use Rattle.snmp_walk.specs.declared.phase.Phase.TheVariants as phase
@@ -29,9 +29,18 @@ use Rattle.snmp_walk.specs.Taken.{
 use Rattle.snmp_walk.specs.Standing.{IsReplyEnd}
 use Rattle.snmp_walk.specs.Link.{Agents}
 use Rattle.snmp_walk.specs.declared.end.SinkFault.{SinkFault}
-use Rattle.snmp_walk.specs.Sink.{Given}
 use Rattle.snmp_wire.specs.Spelling.{Spells}
-use Rattle.snmp_walk.specs.Run.{IsHeard, IsFrom, Turns, goes_on as turn_on, ends, is_refused, rows_in}
+use Rattle.snmp_walk.specs.Run.{IsHeard, IsFrom, Turns, goes_on as turn_on, ends, is_refused}
+use Rattle.snmp_walk.specs.declared.tries.Heard.{Heard}
+use Rattle.snmp_walk.specs.declared.tries.Heard.TheVariants as heard
+use Rattle.snmp_walk.specs.Read.{
+  rows_in,
+  Delivers,
+  is_stray,
+  goes_on as delivered_on,
+  ends as delivered_last,
+  is_refused as delivered_part,
+}
 
 -- no stray, and an end that replies lead to
 abbrev pub HasNews : Step → Type 0
@@ -102,60 +111,79 @@ taken_message Comes agents honest w m datagram given new waits comes spelt await
   news = subst HasNews (sym e) (news_by w m (is_awaited w m) awaited waits);
 }
 
-pub is_taken : (Comes : List ℕ → Type 0) (agents : Agents) (honest : Type 0) (w : Walker) (datagram : List ℕ) (given : Step) (new : Walker)
+pub is_taken : (Comes : List ℕ → Type 0) (agents : Agents) (honest : Type 0) (w : Walker) (m : Message) (given : Step) (new : Walker)
     → is_over w.phase ≡ false
-    → Comes datagram → IsHeard agents honest w datagram → Takes w datagram given new → IsTaken Comes agents honest w given new
-is_taken Comes agents honest w datagram given new waits comes h (inl t) =
-    let same : h.message ≡ t.0 = sym (h.only t.0 t.1) in
-    taken_message Comes agents honest w t.0 datagram given new waits comes t.1 (subst (λ (m : Message). is_awaited w m ≡ true) same h.awaited)
-    (subst (IsFrom agents honest w) same (λ k. (h.reply k, h.full k))) t.2 t.3
-is_taken Comes agents honest w datagram given new waits comes h (inr t) = absurd (t.0 h.message h.spelt)
+    → IsHeard Comes agents honest w m → (given, new) ≡ take_of w m → IsTaken Comes agents honest w given new
+is_taken Comes agents honest w m given new waits h taken =
+    taken_message Comes agents honest w m h.datagram given new waits h.comes h.spelt h.awaited h.from
+    (ap (λ (x : Step × Walker). x.0) taken) (ap (λ (x : Step × Walker). x.1) taken)
+
+-- where a result is None or an error, what holds then
+pub if_silent : {X E : Type 0} (r : Result (Option X) E) (o : Option X) (P : Type 0) → r ≡ Ok o → o ≡ None → IfOk r (λ x. IfNone x P) → P
+if_silent (Ok None) o P e f h = h
+if_silent (Ok (Some x)) o P e f h = let no : ⊥ = cc in absurd no
+if_silent (Err x) o P e f h = let no : ⊥ = cc in absurd no
+
+pub if_cut : {X E : Type 0} (r : Result X E) (e : E) (P : Type 0) → r ≡ Err e → OnErr r P → P
+if_cut (Ok x) e P f h = let no : ⊥ = cc in absurd no
+if_cut (Err x) e P f h = h
 
 pub if_some : {X : Type 0} (o : Option X) (P : X → Type 0) (x : X) → o ≡ Some x → IfSome o P → P x
 if_some None P x e h = let no : ⊥ = cc in absurd no
 if_some (Some y) P x e h = let same : y ≡ x = cc in subst P same h
 
-module _ {S : Type 0} (takes : S → VarBind → Result (Unit {0}) SinkFault → S → Type 0) (Comes : List ℕ
-    → Type 0) (agents : Agents) (honest : Type 0) (w : Walker)
-    (s t : S) where
-  pub no_stray : (given : Step) (new : Walker) → IsTaken Comes agents honest w given new → given ≡ step.Stray → ⊥
-  no_stray given new h e = subst HasNews e h.news
+-- how the walk ended, if it did
+abbrev pub end_of : Heard → Option WalkEnd
+end_of heard.GoesOn = None
+end_of (heard.Ends why) = Some why
 
-  pub turn_goes : (given : Step) (new : Walker) (rows : List VarBind) → IsTaken Comes agents honest w given new → given ≡ step.Rows rows → Given takes s rows t
-      → (r : List VarBind) × Turns takes Comes agents honest w s r None new t
-  turn_goes given new rows h e sink = (rows, turn_on h.message h.from (sym h.given_is ∙ e) h.new_is sink refl)
+-- no end that replies don't lead to
+abbrev pub HasEnd : Heard → Type 0
+HasEnd heard.GoesOn = Unit {0}
+HasEnd (heard.Ends why) = (why ≡ ending.Link → ⊥) × (why ≡ ending.NoResponse → ⊥)
 
-  pub turn_ends : (given : Step) (new : Walker) (rows : List VarBind) (why : WalkEnd) → IsTaken Comes agents honest w given new → given ≡ step.Last rows why
-      → Given takes s rows t
-      → (r : List VarBind) × Turns takes Comes agents honest w s r (Some why) new t
-  turn_ends given new rows why h e sink = (rows, ends h.message h.datagram why h.from h.comes h.spelt (sym h.given_is ∙ e) sink refl)
+reply_has_end : (why : WalkEnd) → IsReplyEnd why → HasEnd (heard.Ends why)
+reply_has_end why own = (λ e. subst IsReplyEnd e own, λ e. subst IsReplyEnd e own)
 
-  pub turn_refused : (given : Step) (new : Walker) (rows : List VarBind) (fault : SinkFault) → IsTaken Comes agents honest w given new → rows_in given ≡ rows
-      → ((front : List VarBind) × (p : VarBind) × (back : List VarBind) × (rows ≡ front ++ p ∷ back) × (between : S) × Given takes s front between
-      × takes between p (Err fault) t)
-      → (r : List VarBind) × Turns takes Comes agents honest w s r (Some (ending.Sink fault)) new t
-  turn_refused given new rows fault h e sink =
-      (sink.0, is_refused h.message fault sink.1 sink.2 sink.4 h.from (ap rows_in (sym h.given_is) ∙ e ∙ sink.3) sink.5 sink.6 refl)
+sink_has_end : (fault : SinkFault) → HasEnd (heard.Ends (ending.Sink fault))
+sink_has_end fault = (λ e. cc, λ e. cc)
 
-pub reply_end : (Comes : List ℕ → Type 0) (agents : Agents) (honest : Type 0) (w : Walker) (given : Step) (new : Walker) (rows : List VarBind) (why : WalkEnd)
-    → IsTaken Comes agents honest w given new
-    → given ≡ step.Last rows why → IsReplyEnd why
-reply_end Comes agents honest w given new rows why h e = subst HasNews e h.news
+module _ {S : Type 0} (takes : S → VarBind → Result (Unit {0}) SinkFault → S → Type 0) (s t : S) where
+  has_end : (given : Step) (what : Heard) → Delivers takes given s what t → HasNews given → HasEnd what
+  has_end given what (is_stray e f g) news = subst HasEnd (sym f) tt
+  has_end given what (delivered_on rows e f g) news = subst HasEnd (sym f) tt
+  has_end given what (delivered_last rows why e f g) news = subst HasEnd (sym f) (reply_has_end why (subst HasNews e news))
+  has_end given what (delivered_part fault rows p left between e f g k) news = subst HasEnd (sym f) (sink_has_end fault)
 
-pub no_link : (why : WalkEnd) → Some why ≡ Some ending.Link → IsReplyEnd why → ⊥
-no_link why e own = let same : why ≡ ending.Link = cc in subst IsReplyEnd same own
+  turned : (Comes : List ℕ → Type 0) (agents : Agents) (honest : Type 0) (w : Walker) (given : Step) (new : Walker) (what : Heard)
+      → IsTaken Comes agents honest w given new → Delivers takes given s what t → (r : List VarBind) × Turns takes Comes agents honest w s r (end_of what) new t
+  turned Comes agents honest w given new what h (is_stray e f g) = absurd (subst HasNews e h.news)
+  turned Comes agents honest w given new what h (delivered_on rows e f g) = (rows, turn_on h.message h.from (sym h.given_is ∙ e) h.new_is g (ap end_of f))
+  turned Comes agents honest w given new what h (delivered_last rows why e f g) =
+      (rows, ends h.message h.datagram why h.from h.comes h.spelt (sym h.given_is ∙ e) g (ap end_of f))
+  turned Comes agents honest w given new what h (delivered_part fault rows p left between e f g k) =
+      (rows, is_refused h.message fault p left between h.from (ap rows_in (sym h.given_is) ∙ e) g k (ap end_of f))
 
-pub no_silence : (why : WalkEnd) → Some why ≡ Some ending.NoResponse → IsReplyEnd why → ⊥
-no_silence why e own = let same : why ≡ ending.NoResponse = cc in subst IsReplyEnd same own
+  -- a turn by a reply that was read, and how it doesn't end
+  pub turns_of : (Comes : List ℕ → Type 0) (agents : Agents) (honest : Type 0) (w : Walker) (m : Message) (given : Step) (new : Walker) (what x : Heard)
+      → what ≡ x → is_over w.phase ≡ false
+      → IsHeard Comes agents honest w m → (given, new) ≡ take_of w m → Delivers takes given s what t
+      → ((r : List VarBind) × Turns takes Comes agents honest w s r (end_of x) new t) × HasEnd x
+  turns_of Comes agents honest w m given new what x is waits h read delivered =
+      let taken = is_taken Comes agents honest w m given new waits h read in (
+        subst (λ (y : Heard). (r : List VarBind) × Turns takes Comes agents honest w s r (end_of y) new t) is
+            (turned Comes agents honest w given new what taken delivered),
+        subst HasEnd is (has_end given what delivered taken.news),
+      )
+
+pub same_end : (x y : WalkEnd) → Some x ≡ Some y → x ≡ y
+same_end x y e = cc
 
 pub no_end : None ≡ Some ending.NoResponse → ⊥
 no_end e = cc
 
 pub link_end : Some ending.Link ≡ Some ending.NoResponse → ⊥
 link_end e = cc
-
-pub sink_end : (fault : SinkFault) → Some (ending.Sink fault) ≡ Some ending.NoResponse → ⊥
-sink_end fault e = cc
 
 pub no_link_end : None ≡ Some ending.Link → ⊥
 no_link_end e = cc

@@ -37,6 +37,8 @@ use Rattle.snmp_wire.specs.Spelling.{Spells}
 use Rattle.snmp_agent.specs.Reply.{IsResponse, Fits, response}
 use Rattle.snmp_walk.specs.declared.end.SinkFault.{SinkFault}
 use Rattle.snmp_walk.specs.declared.end.WalkEnd.{WalkEnd}
+use Rattle.snmp_walk.specs.declared.rows.Step.{Step}
+use Rattle.snmp_walk.specs.declared.rows.Step.TheVariants as step
 use Rattle.snmp_walk.specs.declared.end.WalkEnd.TheVariants as ending
 use Rattle.snmp_walk.specs.Names.{is_end}
 use Rattle.snmp_walk.specs.Taken.{awaits}
@@ -75,6 +77,20 @@ answers_of names m =
     if int_eq m.a (pos 0)
     then (if are_for names m.bindings then Ok m.bindings else Err ending.BadReply)
     else Err (ending.Fault m.a m.b)
+
+-- a Get of these names that waits for its reply
+pub record WaitingGet : Type 0 where
+  pub names : List (List ℕ)
+  pub community : List ℕ
+  pub id : ℕ
+
+-- what a reply means to a Get: all its bindings and the end, or the end without them
+abbrev pub step_of : ℕ → Result (List VarBind) WalkEnd → Step
+step_of count (Ok rows) = step.Last rows (ending.Done count)
+step_of count (Err end) = step.Last [] end
+
+abbrev pub got_step : List (List ℕ) → Message → Step
+got_step names m = step_of (length names) (answers_of names m)
 
 -- The link brought this reply to the Get: a Response of its community and id, in a datagram that
 -- came over the link, and over an honest link the Response of one of the agents to it.

@@ -27,13 +27,6 @@ use Rattle.snmp_walk.specs.Taken.{awaits, is_over}
 use Rattle.snmp_walk.specs.Link.{Agents, OneOf, IsReplyFrom, IsUnanswered}
 use Rattle.snmp_walk.specs.Traffic.{Traffic, resent, Lost}
 
--- the octets encode one message, a Response of this community and this request-id
-pub record IsAwaited (community : List ℕ) (id : ℕ) (octets : List ℕ) : Type 0 where
-  pub message : Message
-  pub spelt : Spells message octets
-  pub only : (m : Message) → Spells m octets → m ≡ message
-  pub awaited : awaits community id message ≡ true
-
 -- each reply to the request is awaited, and no reply to another of the datagrams sent is
 pub record IsAsked (agents : Agents) (community : List ℕ) (id : ℕ) (q : List ℕ) (sent : List
     (List ℕ)) : Type 0 where

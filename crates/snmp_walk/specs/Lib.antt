@@ -13,6 +13,7 @@ pub mod Traffic
 pub mod Heard
 pub mod Room
 pub mod Sink
+pub mod Read
 pub mod Run
 pub mod Tables
 pub mod Get

@@ -34,6 +34,7 @@ use Rattle.snmp_walk.specs.declared.rows.Step.TheVariants as step
 use Rattle.snmp_walk.specs.Walker.{Walker}
 use Rattle.snmp_walk.specs.Request.{request_of}
 use Rattle.snmp_walk.specs.Sink.{Given}
+use Rattle.snmp_walk.specs.Read.{rows_in}
 use Rattle.snmp_walk.specs.declared.mode.Method.{Method}
 use Rattle.snmp_walk.specs.Names.{is_end}
 use Rattle.snmp_walk.specs.Taken.{is_awaited, take_of, asked_for}
@@ -52,29 +53,21 @@ abbrev pub IsFullReply : Agents → Walker → Message → Type 0
 IsFullReply agents w m = HasRoomForAll agents w → w.phase ≡ phase.Rows → m.a ≡ pos 0
     → IsFull w.method m.bindings
 
--- The datagram encodes the reply that the walk waits for, which the agents sent where the link is
--- honest.
-pub record IsHeard (agents : Agents) (honest : Type 0) (w : Walker)
-    (datagram : List ℕ) : Type 0 where
-  pub message : Message
-  pub spelt : Spells message datagram
-  pub only : (m : Message) → Spells m datagram → m ≡ message
-  pub awaited : is_awaited w message ≡ true
-  pub reply : honest → IsReplyTo (IsNextFrom agents) (IsGotFrom agents)
-      (IsTooLarge agents) w message
-  pub full : honest → IsFullReply agents w message
-
--- the bindings that a step gives
-abbrev pub rows_in : Step → List VarBind
-rows_in step.Stray = []
-rows_in (step.Rows rows) = rows
-rows_in (step.Last rows why) = rows
-
 -- an honest reply, where the link is honest
 abbrev pub IsFrom : Agents → Type 0 → Walker → Message → Type 0
 IsFrom agents honest w m = honest
     → IsReplyTo (IsNextFrom agents) (IsGotFrom agents) (IsTooLarge agents) w m
     × IsFullReply agents w m
+
+-- The message is the reply that the walk waits for, which came over the link in a datagram, and
+-- which the agents sent where the link is honest.
+pub record IsHeard (Comes : List ℕ → Type 0) (agents : Agents) (honest : Type 0) (w : Walker)
+    (message : Message) : Type 0 where
+  pub datagram : List ℕ
+  pub comes : Comes datagram
+  pub spelt : Spells message datagram
+  pub awaited : is_awaited w message ≡ true
+  pub from : IsFrom agents honest w message
 
 -- One turn of a run, from a request to the rows that its reply brings: which rows the sink was
 -- given, how the walk ended, if it did, and what the walk and the sink are then. `Comes` says of a

@@ -15,19 +15,18 @@ ghost use Rattle.snmp_walk.specs.Link.{ComesOver};
 ghost use Rattle.snmp_io.specs.Count.{HasRisen};
 ghost use Rattle.std.specs.List.{AllByRecursion};
 ghost use Rattle.snmp_wire.specs.Range.{IsBindingInRange, IsMessageInRange};
-ghost use Rattle.snmp_wire.specs.Spelling.{Spells};
 ghost use Rattle.snmp_walk.specs.Get.{asked_names, get_request, are_for as are_these, answers_of};
 ghost use Rattle.snmp_walk.specs.Get.{IsBrought, GetEnds, GetFacts};
 
 use crate::laws::codec;
-use crate::sink::give;
-use crate::tries::exchange;
+use crate::tries::{Heard, Waiter, exchange, is_awaited};
 use crate::walker::copy_of;
-use crate::{Link, Rows, Sink, WalkEnd};
+use crate::{Link, Rows, Sink, Step, WalkEnd};
 use snmp_wire::{
-    Binding, Bindings, Kind, MessageRef, Oid, Parts, ValueRef, decode, encode_binding, encode_head,
+    Binding, Bindings, Kind, MessageRef, Oid, Parts, ValueRef, encode_binding, encode_head,
     head_size, pieces,
 };
+use std::marker::Model;
 
 /// Gets the instances of these names: one Get of their wire forms is sent, at most `retries + 1`
 /// times, and the bindings of its reply are given to the sink in order (RFC 3416, section 4.2.1).
@@ -69,37 +68,72 @@ pub fn run_get<L: Link, S: Sink>(
         return WalkEnd::RequestTooLong;
     };
     let mut buffer = [0; 65507];
-    let heard = match exchange(
-        link,
+    let mut get = Get {
+        names,
         community,
         id,
+    };
+    let heard = match exchange(
+        link,
+        &mut get,
         retries,
         &request[..length],
         &mut buffer,
+        sink,
     ) {
         Ok(Some(heard)) => heard,
         Ok(None) => return WalkEnd::NoResponse,
         Err(_) => return WalkEnd::Link,
     };
-    let rows = match read_get(names, &buffer[..heard]) {
-        Ok(rows) => rows,
-        Err(end) => return end,
-    };
-    match give(rows, sink) {
-        Ok(()) => WalkEnd::Done(names.len() as u64),
-        Err(fault) => WalkEnd::Sink(fault),
+    match heard {
+        Heard::GoesOn => unreachable!(),
+        Heard::Ends(end) => end,
     }
 }
 
-/// The bindings of the reply to a Get of these names, or how the Get ends without them.
-fn read_get<'a>(names: &[Oid], datagram: &'a [u8]) -> Result<Rows<'a>, WalkEnd>
-    requires wire { All (λ o. IsWire (wire o)) names.now }
-    requires spelt { (m : Message) × Spells m datagram.now }
-    ensures { (m : Message) → Spells m datagram.now → result ≡ answers_of names.now m }
-{
-    match decode(datagram) {
-        Ok(message) => read_message(names, &message),
-        Err(_) => unreachable!(),
+/// A Get of these names that waits for its reply.
+#[derive(Drop)]
+struct Get<'n> {
+    names: &'n [Oid],
+    community: &'n [u8],
+    id: u32,
+}
+
+impl<'n> Model for Get<'n> {
+    ghost use Rattle.std.specs.Prelude.{◌<◌, ◌^◌, All};
+    ghost use Rattle.snmp_oid.specs.Identifier.{IsWire, wire};
+    ghost use Rattle.snmp_walk.specs.Get.{WaitingGet};
+
+    ghost Value = { WaitingGet };
+
+    ghost view = { λ get. record {
+      names = get.names.now;
+      community = get.community.now;
+      id = get.id;
+    } };
+
+    ghost invariant = { λ get. All (λ o. IsWire (wire o)) get.names.now × (get.id < 2 ^ 31) };
+}
+
+impl<'n> Waiter for Get<'n> {
+    ghost use Rattle.std.specs.Prelude.{◌≡◌};
+    ghost use Rattle.snmp_walk.specs.Get.{got_step};
+
+    ghost community = { λ get. get.community };
+
+    ghost id = { λ get. get.id };
+
+    ghost reads = { λ old m step new. step ≡ got_step old.names m };
+
+    fn awaits(&self, message: &MessageRef<'_>) -> bool {
+        is_awaited(self.community, self.id, message)
+    }
+
+    fn read<'a>(&mut self, reply: &MessageRef<'a>) -> Step<'a> {
+        match read_message(self.names, reply) {
+            Ok(rows) => Step::Last(rows, WalkEnd::Done(self.names.len() as u64)),
+            Err(end) => Step::Last(Rows::front(reply.bindings(), 0), end),
+        }
     }
 }
 

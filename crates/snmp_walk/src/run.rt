@@ -1,5 +1,5 @@
 //! A walk over a link: from the first request to the end, each binding to a sink as it comes.
-ghost use Rattle.std.specs.Prelude.{◌≡◌, ◌≢◌, ◌≤◌, ◌⊎◌, ◌+◌, ◌++◌, ℕ, List, [], length, take};
+ghost use Rattle.std.specs.Prelude.{◌≡◌, ◌≢◌, ◌≤◌, ◌⊎◌, ◌+◌, ◌++◌, ℕ, List, [], length};
 ghost use Rattle.std.specs.Prelude.{Option, Some, None, Ok, Err, IfOk, IfSome, IfNone, OnOk, OnErr};
 ghost use Rattle.std.specs.Prelude.{IsOk, ◌*◌};
 ghost use Rattle.std.specs.Prelude.{false};
@@ -9,7 +9,7 @@ ghost use Rattle.snmp_wire.specs.Message.{VarBind};
 ghost use Rattle.snmp_walk.specs.Request.{request_of};
 ghost use Rattle.snmp_walk.specs.Taken.{is_over};
 ghost use Rattle.snmp_walk.specs.Walker.{IsWalker};
-ghost use Rattle.snmp_walk.specs.Run.{IsHeard, Turns};
+ghost use Rattle.snmp_walk.specs.Run.{Turns};
 ghost use Rattle.snmp_walk.specs.Heard.{Exchanges, IsEarlier};
 ghost use Rattle.snmp_walk.specs.Sink.{Took};
 ghost use Rattle.snmp_walk.specs.Standing.{IsPartOfWalk, Rises, Named};
@@ -18,9 +18,8 @@ ghost use Rattle.snmp_walk.specs.Facts.{ReadyFacts};
 ghost use Rattle.snmp_walk.specs.Facts.{IsFresh, WalkFacts, SendFacts, EndFacts};
 
 use crate::laws::codec;
-use crate::sink::give;
-use crate::tries::exchange;
-use crate::{Link, LinkFault, Sink, Step, WalkCore, WalkEnd};
+use crate::tries::{Heard, exchange};
+use crate::{Link, Sink, WalkCore, WalkEnd};
 
 /// Walks over the link with a core that has taken no reply yet: each request is sent at most
 /// `retries + 1` times, and each binding of the walk is given to the sink as it comes.
@@ -65,46 +64,6 @@ pub fn run_walk<L: Link, S: Sink>(
     }
 }
 
-/// Sends the waiting request until its reply comes, and returns the reply's length.
-fn ask<L: Link>(
-    link: &mut L,
-    core: &WalkCore,
-    retries: u32,
-    request: &mut [u8; 65507],
-    buffer: &mut [u8; 65507],
-) -> Result<Option<usize>, LinkFault>
-    requires { is_over core.now.phase ≡ false }
-    ensures length { IfOk result (λ heard. IfSome heard (λ n. n ≤ 65507)) }
-    ensures walker { IsWalker core.now }
-    ensures brought { IfOk result (λ heard. IfSome heard
-        (λ n. ComesOver L.brings (take n buffer.new))) }
-    ensures heard { IfOk result (λ heard. IfSome heard
-        (λ n. IsHeard (L.agents link.old) (L.honest link.old
-        × IsEarlier (L.traffic link.old).sent core.now) core.now (take n buffer.new))) }
-    ensures exchanged { L.keeps link.old → Exchanges (L.agents link.old) (L.honest link.old
-        × IsEarlier (L.traffic link.old).sent core.now) (retries + 1) (canon (request_of core.now))
-        (L.traffic link.old) (result ≡ Ok None) (L.traffic link.new) }
-    ensures keeps { L.keeps link.old → L.keeps link.new }
-    ensures honest { L.honest link.old → L.honest link.new }
-    ensures agents { L.agents link.new ≡ L.agents link.old }
-    ensures count { OnOk result (L.fault_count link.new ≡ L.fault_count link.old) }
-    ensures fault { OnErr result (HasRisen (L.fault_count link.old) (L.fault_count link.new)) }
-    ensures ready { (times : ℕ) × (times ≤ retries + 1) × ((sends octets : ℕ)
-        → L.ready link.old (sends + times) (octets + times * length (canon (request_of core.now)))
-        → IsOk result × L.ready link.new sends octets) }
-{
-    codec();
-    let length = core.request(request);
-    exchange(
-        link,
-        core.community(),
-        core.id(),
-        retries,
-        &request[..length],
-        buffer,
-    )
-}
-
 /// One turn of a walk: sends the request, reads the reply, and gives the bindings that it brings to
 /// the sink. Returns how the walk ended, or None where it goes on.
 fn turn<L: Link, S: Sink>(
@@ -135,20 +94,15 @@ fn turn<L: Link, S: Sink>(
         → L.ready link.old (sends + times) (octets + times * length (canon (request_of core.old)))
         → (result ≡ Some WalkEnd.Link → ⊥) × L.ready link.new sends octets) }
 {
-    let heard = match ask(link, core, retries, request, buffer) {
+    codec();
+    let length = core.request(request);
+    let heard = match exchange(link, core, retries, &request[..length], buffer, sink) {
         Ok(Some(heard)) => heard,
         Ok(None) => return Some(WalkEnd::NoResponse),
         Err(_) => return Some(WalkEnd::Link),
     };
-    match core.take(&buffer[..heard]) {
-        Step::Stray => None,
-        Step::Rows(rows) => match give(rows, sink) {
-            Ok(()) => None,
-            Err(fault) => Some(WalkEnd::Sink(fault)),
-        },
-        Step::Last(rows, end) => match give(rows, sink) {
-            Ok(()) => Some(end),
-            Err(fault) => Some(WalkEnd::Sink(fault)),
-        },
+    match heard {
+        Heard::GoesOn => None,
+        Heard::Ends(end) => Some(end),
     }
 }

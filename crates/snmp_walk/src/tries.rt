@@ -1,42 +1,80 @@
 //! One request over a link: it is sent until its reply comes or no try is left.
-ghost use Rattle.std.specs.Prelude.{◌≡◌, ◌≤◌, ◌<◌, ◌+◌, ◌^◌, ℕ, List, length, take, Some, None, Ok};
-ghost use Rattle.std.specs.Prelude.{IfOk, IfSome, IsOk, OnOk, OnErr, true, ◌*◌};
+ghost use Rattle.std.specs.Prelude.{◌≡◌, ◌≤◌, ◌<◌, ◌+◌, ◌^◌, ℕ, List, length, Some, None, Ok};
+ghost use Rattle.std.specs.Prelude.{IfOk, IfSome, IfNone, OnErr, IsOk, true, false, OnOk, ◌*◌};
 ghost use Rattle.snmp_io.specs.Count.{HasRisen};
 ghost use Rattle.snmp_wire.specs.Message.{Message};
 ghost use Rattle.snmp_wire.specs.Spelling.{Spells};
 ghost use Rattle.snmp_walk.specs.Taken.{awaits};
 ghost use Rattle.snmp_walk.specs.Link.{IsReplyFrom, ComesOver};
 ghost use Rattle.snmp_walk.specs.Traffic.{latest};
-ghost use Rattle.snmp_walk.specs.Heard.{IsAwaited, IsAsked, Hears, Exchanges};
+ghost use Rattle.snmp_walk.specs.Heard.{IsAsked, Hears, Exchanges};
+ghost use Rattle.snmp_walk.specs.Read.{IsRead, IsReadAs, Delivers};
 
-use crate::{Link, LinkFault};
+use crate::sink::give;
+use crate::{Link, LinkFault, Sink, Step, WalkEnd};
 use snmp_wire::{Kind, MessageRef, decode};
+
+/// What waits for the reply to a request: a walk or a Get.
+pub(crate) trait Waiter {
+    ghost use Rattle.std.specs.Prelude.{List, ℕ};
+    ghost use Rattle.snmp_wire.specs.Message.{Message};
+    ghost use Rattle.snmp_walk.specs.declared.rows.Step.{Step};
+    ghost use Rattle.snmp_walk.specs.Taken.{awaits};
+    ghost use Rattle.snmp_walk.specs.Reading.{AreSendable};
+
+    /// The community of the request.
+    ghost community: { Self → List ℕ };
+
+    /// The id of the request.
+    ghost id: { Self → ℕ };
+
+    /// What its reply means to it, and what it is then.
+    ghost reads: { Self → Message → Step → Self → Type 0 };
+
+    /// Whether the message is the reply.
+    fn awaits(&self, message: &MessageRef<'_>) -> bool
+        ensures { result ≡ awaits (community self.now) (id self.now) message.now };
+
+    /// Reads the reply.
+    fn read<'a>(&mut self, reply: &MessageRef<'a>) -> Step<'a>
+        requires { AreSendable reply.now.bindings }
+        ensures { reads self.old reply.now result self.new };
+}
+
+/// What came of a reply, once its bindings were given.
+pub(crate) enum Heard {
+    /// The next request waits.
+    GoesOn,
+    /// It ended the walk or the Get.
+    Ends(WalkEnd),
+}
 
 /// How many datagrams are received after a request was sent, before it is sent again.
 const RECEIVES: u32 = 64;
 
-/// Sends the request, once and `retries` times more, until a reply of this community and id comes,
-/// and returns its length. Returns None where no try receives one.
-pub(crate) fn exchange<L: Link>(
+/// Sends the request, once and `retries` times more, until its reply comes, and gives the bindings
+/// that the reply brings to the sink. Returns None where no try receives it.
+pub(crate) fn exchange<L: Link, W: Waiter, S: Sink>(
     link: &mut L,
-    community: &[u8],
-    id: u32,
+    waiter: &mut W,
     retries: u32,
     request: &[u8],
     buffer: &mut [u8; 65507],
-) -> Result<Option<usize>, LinkFault>
-    requires { id < 2 ^ 31 }
-    ensures length { IfOk result (λ heard. IfSome heard (λ n. n ≤ 65507)) }
-    ensures awaited { IfOk result (λ heard. IfSome heard
-        (λ n. IsAwaited community.now id (take n buffer.new))) }
-    ensures brought { IfOk result (λ heard. IfSome heard
-        (λ n. ComesOver L.brings (take n buffer.new))) }
-    ensures reply { L.honest link.old
-        → IsAsked (L.agents link.old) community.now id request.now (L.traffic link.old).sent
-        → IfOk result (λ heard. IfSome heard
-        (λ n. IsReplyFrom (L.agents link.old) request.now (take n buffer.new))) }
+    sink: &mut S,
+) -> Result<Option<Heard>, LinkFault>
+    ensures read { IfOk result (λ heard. IfSome heard
+        (λ h. IsRead (ComesOver L.brings) (λ octets. L.honest link.old
+        → IsAsked (L.agents link.old) (W.community waiter.old) (W.id waiter.old) request.now
+        (L.traffic link.old).sent
+        → IsReplyFrom (L.agents link.old) request.now octets)
+        (W.community waiter.old) (W.id waiter.old) (W.reads waiter.old) S.takes sink.old h
+        waiter.new sink.new)) }
+    ensures silent { IfOk result (λ heard. IfNone heard
+        ((waiter.new ≡ waiter.old) × (sink.new ≡ sink.old))) }
+    ensures cut_off { OnErr result ((waiter.new ≡ waiter.old) × (sink.new ≡ sink.old)) }
     ensures exchanged { L.keeps link.old → Exchanges (L.agents link.old) (L.honest link.old
-        × IsAsked (L.agents link.old) community.now id request.now (L.traffic link.old).sent)
+        × IsAsked (L.agents link.old) (W.community waiter.old) (W.id waiter.old) request.now
+        (L.traffic link.old).sent)
         (retries + 1) request.now (L.traffic link.old) (result ≡ Ok None) (L.traffic link.new) }
     ensures keeps { L.keeps link.old → L.keeps link.new }
     ensures honest { L.honest link.old → L.honest link.new }
@@ -50,33 +88,35 @@ pub(crate) fn exchange<L: Link>(
     let tries = u64::from(retries) + 1;
     'tries: for _ in 0..tries {
         link.send(request)?;
-        if let Some(length) = hear(link, community, id, buffer)? {
-            return Ok(Some(length));
+        if let Some(heard) = hear(link, waiter, buffer, sink)? {
+            return Ok(Some(heard));
         }
     }
     Ok(None)
 }
 
-/// Receives until a reply of this community and id comes, and returns its length. Returns None
+/// Receives until the reply comes, and gives the bindings that it brings to the sink. Returns None
 /// where nothing comes in time, or 64 datagrams that came were others.
-fn hear<L: Link>(
+fn hear<L: Link, W: Waiter, S: Sink>(
     link: &mut L,
-    community: &[u8],
-    id: u32,
+    waiter: &mut W,
     buffer: &mut [u8; 65507],
-) -> Result<Option<usize>, LinkFault>
-    requires { id < 2 ^ 31 }
-    ensures length { IfOk result (λ heard. IfSome heard (λ n. n ≤ 65507)) }
-    ensures awaited { IfOk result (λ heard. IfSome heard
-        (λ n. IsAwaited community.now id (take n buffer.new))) }
-    ensures brought { IfOk result (λ heard. IfSome heard
-        (λ n. ComesOver L.brings (take n buffer.new))) }
-    ensures reply { (q : List ℕ) → L.honest link.old → latest (L.traffic link.old).sent ≡ Some q
-        → IsAsked (L.agents link.old) community.now id q (L.traffic link.old).sent
-        → IfOk result (λ heard. IfSome heard
-        (λ n. IsReplyFrom (L.agents link.old) q (take n buffer.new))) }
+    sink: &mut S,
+) -> Result<Option<Heard>, LinkFault>
+    ensures read { IfOk result (λ heard. IfSome heard
+        (λ h. IsRead (ComesOver L.brings) (λ octets. (q : List ℕ) → L.honest link.old
+        → latest (L.traffic link.old).sent ≡ Some q
+        → IsAsked (L.agents link.old) (W.community waiter.old) (W.id waiter.old) q
+        (L.traffic link.old).sent
+        → IsReplyFrom (L.agents link.old) q octets)
+        (W.community waiter.old) (W.id waiter.old) (W.reads waiter.old) S.takes sink.old h
+        waiter.new sink.new)) }
+    ensures silent { IfOk result (λ heard. IfNone heard
+        ((waiter.new ≡ waiter.old) × (sink.new ≡ sink.old))) }
+    ensures cut_off { OnErr result ((waiter.new ≡ waiter.old) × (sink.new ≡ sink.old)) }
     ensures heard { (q : List ℕ) → L.honest link.old → latest (L.traffic link.old).sent ≡ Some q
-        → IsAsked (L.agents link.old) community.now id q (L.traffic link.old).sent
+        → IsAsked (L.agents link.old) (W.community waiter.old) (W.id waiter.old) q
+        (L.traffic link.old).sent
         → Hears (L.agents link.old) q (L.traffic link.old) (result ≡ Ok None) (L.traffic link.new) }
     ensures sent { L.keeps link.old → (L.traffic link.new).sent ≡ (L.traffic link.old).sent }
     ensures keeps { L.keeps link.old → L.keeps link.new }
@@ -91,22 +131,45 @@ fn hear<L: Link>(
         let Some(length) = link.receive(buffer)? else {
             return Ok(None);
         };
-        if is_reply(community, id, &buffer[..length]) {
-            return Ok(Some(length));
+        if let Some(heard) = read_reply(waiter, &buffer[..length], sink) {
+            return Ok(Some(heard));
         }
     }
     Ok(None)
 }
 
-/// Whether the datagram is a reply of this community and id.
-fn is_reply(community: &[u8], id: u32, datagram: &[u8]) -> bool
-    requires { id < 2 ^ 31 }
-    ensures value { (m : Message) → Spells m datagram.now → result ≡ awaits community.now id m }
-    ensures awaited { result ≡ true → IsAwaited community.now id datagram.now }
+/// Reads the datagram, if it is the reply, and gives the bindings that it brings to the sink.
+fn read_reply<W: Waiter, S: Sink>(waiter: &mut W, datagram: &[u8], sink: &mut S) -> Option<Heard>
+    ensures some { IfSome result (IsReadAs datagram.now (W.community waiter.old) (W.id waiter.old)
+        (W.reads waiter.old) S.takes sink.old waiter.new sink.new) }
+    ensures none { IfNone result ((m : Message) → Spells m datagram.now
+        → awaits (W.community waiter.old) (W.id waiter.old) m ≡ false) }
+    ensures unchanged { IfNone result ((waiter.new ≡ waiter.old) × (sink.new ≡ sink.old)) }
 {
-    match decode(datagram) {
-        Ok(message) => is_awaited(community, id, &message),
-        Err(_) => false,
+    let Ok(message) = decode(datagram) else {
+        return None;
+    };
+    if !waiter.awaits(&message) {
+        return None;
+    }
+    let step = waiter.read(&message);
+    Some(deliver(step, sink))
+}
+
+/// Gives the bindings of a step to the sink.
+fn deliver<S: Sink>(step: Step<'_>, sink: &mut S) -> Heard
+    ensures { Delivers S.takes step.entry sink.old result sink.new }
+{
+    match step {
+        Step::Stray => Heard::GoesOn,
+        Step::Rows(rows) => match give(rows, sink) {
+            Ok(()) => Heard::GoesOn,
+            Err(fault) => Heard::Ends(WalkEnd::Sink(fault)),
+        },
+        Step::Last(rows, end) => match give(rows, sink) {
+            Ok(()) => Heard::Ends(end),
+            Err(fault) => Heard::Ends(WalkEnd::Sink(fault)),
+        },
     }
 }
 

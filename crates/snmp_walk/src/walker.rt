@@ -8,7 +8,7 @@ ghost use Rattle.snmp_walk.specs.Reading.{is_misplaced};
 ghost use Rattle.snmp_wire.specs.Message.{var_bind, datum};
 ghost use Rattle.snmp_walk.specs.Request.{first_phase as phase_at_first};
 
-use crate::tries::is_awaited;
+use crate::tries::{Waiter, is_awaited};
 use crate::{Method, Mode, Phase, Rows, StartError, Step, WalkEnd};
 use arrayvec::ArrayVec;
 use snmp_wire::{
@@ -209,21 +209,6 @@ impl WalkCore {
         }
     }
 
-    /// The community of its requests.
-    pub(crate) fn community(&self) -> &[u8]
-        ensures { result.now ≡ self.now.community }
-    {
-        self.community.as_slice()
-    }
-
-    /// The id of the waiting request.
-    pub(crate) fn id(&self) -> u32
-        ensures value { result ≡ self.now.id }
-        ensures walker { IsWalker self.now }
-    {
-        self.id
-    }
-
     /// The kind of the waiting request.
     fn kind(&self) -> Kind
         ensures { result ≡ request_kind self.now.phase self.now.method }
@@ -246,7 +231,7 @@ impl WalkCore {
     }
 
     /// Whether the message is the reply to the waiting request.
-    fn awaits(&self, message: &MessageRef<'_>) -> bool
+    fn is_awaiting(&self, message: &MessageRef<'_>) -> bool
         ensures { result ≡ is_awaited self.now message.now }
     {
         self.phase != Phase::Over && is_awaited(self.community.as_slice(), self.id, message)
@@ -443,7 +428,7 @@ impl WalkCore {
         requires { AreSendable message.now.bindings }
         ensures { (result, self.new) ≡ take_of self.old message.now }
     {
-        if !self.awaits(message) {
+        if !self.is_awaiting(message) {
             return Step::Stray;
         }
         let status = message.a();
@@ -459,6 +444,25 @@ impl WalkCore {
             Phase::Last => self.read_last(message),
             Phase::Over => Step::Stray,
         }
+    }
+}
+
+impl Waiter for WalkCore {
+    ghost use Rattle.std.specs.Prelude.{◌≡◌};
+    ghost use Rattle.snmp_walk.specs.Taken.{take_of};
+
+    ghost community = { λ w. w.community };
+
+    ghost id = { λ w. w.id };
+
+    ghost reads = { λ old m step new. (step, new) ≡ take_of old m };
+
+    fn awaits(&self, message: &MessageRef<'_>) -> bool {
+        is_awaited(self.community.as_slice(), self.id, message)
+    }
+
+    fn read<'a>(&mut self, reply: &MessageRef<'a>) -> Step<'a> {
+        self.take_message(reply)
     }
 }
 

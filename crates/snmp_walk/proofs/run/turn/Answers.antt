@@ -1,127 +1,135 @@
-use Rattle.std.proofs.Common.{◌≡◌, ◌∙◌, ◌+◌, ap, refl, length, [], Some, Ok}
+use Rattle.std.proofs.Common.{◌≡◌, ◌∙◌, ◌+◌, ℕ, List, ap, refl, subst, length, [], Some, Ok}
 use Rattle.std.specs.Prelude.{IsOk}
 use Rattle.snmp_wire.specs.Canon.{canon}
+use Rattle.snmp_walk.specs.Walker.{Walker}
 use Rattle.snmp_walk.specs.Request.{request_of}
-use Rattle.snmp_walk.proofs.ReadyLemmas.{leaves_by, never_err, silent_no_link, sink_no_link}
-use Rattle.snmp_walk.specs.declared.end.WalkEnd.TheVariants as ending
 use Rattle.snmp_walk.specs.Link.{ComesOver}
-use Rattle.snmp_walk.specs.Run.{is_silent, rows_in}
-use Rattle.snmp_walk.specs.Standing.{IsReplyEnd}
-use Rattle.snmp_walk.proofs.ReplyLemmas.{exchanges_by}
-use Rattle.snmp_walk.proofs.TurnLemmas.{
-  is_taken,
-  if_some,
-  no_stray,
-  turn_goes,
-  turn_ends,
-  turn_refused,
-  reply_end,
-  no_link,
-  no_silence,
-  link_end,
-  no_end,
-  no_link_end,
-}
+use Rattle.snmp_walk.specs.Run.{is_silent, fails}
+use Rattle.snmp_walk.specs.declared.end.WalkEnd.TheVariants as ending
+use Rattle.snmp_walk.specs.declared.tries.Heard.TheVariants as heard
+use Rattle.snmp_walk.proofs.ReadyLemmas.{Leaves, leaves_by, never_err, silent_no_link}
+use Rattle.snmp_walk.proofs.ReplyLemmas.{heard_by, exchanged_by}
+use Rattle.snmp_walk.proofs.TurnLemmas.{if_some, if_silent, if_cut, turns_of, same_end, no_end, link_end, no_link_end}
 use Rattle.snmp_walk.proofs.run.turn.Goals as goal
 
 pub returns-in-Ok-None-clause-turns : goal.returns-in-Ok-None-clause-turns
-returns-in-Ok-None-clause-turns g c = ([], is_silent refl refl refl)
+returns-in-Ok-None-clause-turns g c =
+    let same = if_silent c.exchange.result c.in-Ok-None.field-0 _ c.in-Ok-None.is c.in-Ok-None.field-0-is c.exchange.ensures.silent in
+    ([], is_silent refl same.1 refl)
+
+pub returns-in-Err-clause-turns : goal.returns-in-Err-clause-turns
+returns-in-Err-clause-turns g c =
+    let same = if_cut c.exchange.result _ _ c.in-Err.is c.exchange.ensures.cut_off in
+    ([], fails refl same.1 refl)
+
+pub returns-in-GoesOn-clause-turns : goal.returns-in-GoesOn-clause-turns
+returns-in-GoesOn-clause-turns g c =
+    let agents = g.L.Link.agents c.args.link.now in
+    let w : Walker = c.args.core.now in
+    let r = if_some c.in-Ok-Some.field-0 _ c.in-Ok-Some.heard c.in-Ok-Some.field-0-is c.in-Ok-Some.ensures.read in
+    let is_heard = heard_by c.codec.ensures agents (g.L.Link.honest c.args.link.now) w _ (c.request-length.ensures.waiting c.requires).1 c.requires
+    c.request-length.ensures.walker (g.met.L.Link.lawful c.args.link.now) (ComesOver g.L.Link.brings) (g.L.Link.traffic c.args.link.now).sent _
+    g.S.Sink.takes c.args.sink.now c.in-Ok-Some.heard c.exchange.new.waiter c.exchange.new.sink r in
+    let t = turns_of g.S.Sink.takes c.args.sink.now c.exchange.new.sink (ComesOver g.L.Link.brings) agents _ w r.is_read.message r.is_read.given
+    c.exchange.new.waiter c.in-Ok-Some.heard heard.GoesOn c.in-GoesOn.is c.requires is_heard r.is_read.read r.is_read.delivered in
+    t.0
+
+pub returns-in-Ends-clause-turns : goal.returns-in-Ends-clause-turns
+returns-in-Ends-clause-turns g c =
+    let agents = g.L.Link.agents c.args.link.now in
+    let w : Walker = c.args.core.now in
+    let r = if_some c.in-Ok-Some.field-0 _ c.in-Ok-Some.heard c.in-Ok-Some.field-0-is c.in-Ok-Some.ensures.read in
+    let is_heard = heard_by c.codec.ensures agents (g.L.Link.honest c.args.link.now) w _ (c.request-length.ensures.waiting c.requires).1 c.requires
+    c.request-length.ensures.walker (g.met.L.Link.lawful c.args.link.now) (ComesOver g.L.Link.brings) (g.L.Link.traffic c.args.link.now).sent _
+    g.S.Sink.takes c.args.sink.now c.in-Ok-Some.heard c.exchange.new.waiter c.exchange.new.sink r in
+    let t = turns_of g.S.Sink.takes c.args.sink.now c.exchange.new.sink (ComesOver g.L.Link.brings) agents _ w r.is_read.message r.is_read.given
+    c.exchange.new.waiter c.in-Ok-Some.heard (heard.Ends c.in-Ends.end) c.in-Ends.is c.requires is_heard r.is_read.read r.is_read.delivered in
+    t.0
 
 pub returns-in-Ok-None-clause-exchanged : goal.returns-in-Ok-None-clause-exchanged
-returns-in-Ok-None-clause-exchanged g c = λ keeps. exchanges_by _ _ _ _ _ _ _ _ _ (λ h. h) (λ s. c.in-Ok-None.is
-    ∙ ap Ok c.in-Ok-None.field-0-is) (c.ask.ensures.exchanged keeps)
+returns-in-Ok-None-clause-exchanged g c = λ keeps.
+    exchanged_by c.codec.ensures (g.L.Link.agents c.args.link.now) (g.L.Link.honest c.args.link.now) c.args.core.now _
+    (c.request-length.ensures.waiting c.requires).1 c.requires c.request-length.ensures.walker (g.met.L.Link.lawful c.args.link.now) (c.args.retries + 1)
+    (g.L.Link.traffic c.args.link.now) _ _ _
+    (λ s. c.in-Ok-None.is ∙ ap Ok c.in-Ok-None.field-0-is) (c.exchange.ensures.exchanged keeps)
 
 pub returns-in-Err-clause-exchanged : goal.returns-in-Err-clause-exchanged
-returns-in-Err-clause-exchanged g c = λ keeps. exchanges_by _ _ _ _ _ _ _ _ _ (λ h. h) (λ s. absurd (link_end s)) (c.ask.ensures.exchanged keeps)
+returns-in-Err-clause-exchanged g c = λ keeps.
+    exchanged_by c.codec.ensures (g.L.Link.agents c.args.link.now) (g.L.Link.honest c.args.link.now) c.args.core.now _
+    (c.request-length.ensures.waiting c.requires).1 c.requires c.request-length.ensures.walker (g.met.L.Link.lawful c.args.link.now) (c.args.retries + 1)
+    (g.L.Link.traffic c.args.link.now) _ _ _
+    (λ s. absurd (link_end s)) (c.exchange.ensures.exchanged keeps)
 
-pub returns-in-Stray-clause-turns : goal.returns-in-Stray-clause-turns
-returns-in-Stray-clause-turns g c =
-    let heard = if_some c.in-Ok-Some.field-0 _ c.in-Ok-Some.heard c.in-Ok-Some.field-0-is c.in-Ok-Some.ensures.heard in
-    let comes = if_some c.in-Ok-Some.field-0 _ c.in-Ok-Some.heard c.in-Ok-Some.field-0-is c.in-Ok-Some.ensures.brought in
-    let taken = is_taken (ComesOver g.L.Link.brings) _ _ c.args.core.now _ c.take.result c.take.new.self c.requires comes heard c.take.ensures in
-    absurd (no_stray g.S.Sink.takes (ComesOver g.L.Link.brings) _ _ c.args.core.now c.args.sink.now c.args.sink.now _ _ taken c.in-Stray.is)
+pub returns-in-GoesOn-clause-exchanged : goal.returns-in-GoesOn-clause-exchanged
+returns-in-GoesOn-clause-exchanged g c = λ keeps.
+    exchanged_by c.codec.ensures (g.L.Link.agents c.args.link.now) (g.L.Link.honest c.args.link.now) c.args.core.now _
+    (c.request-length.ensures.waiting c.requires).1 c.requires c.request-length.ensures.walker (g.met.L.Link.lawful c.args.link.now) (c.args.retries + 1)
+    (g.L.Link.traffic c.args.link.now) _ _ _
+    (λ s. absurd (no_end s)) (c.exchange.ensures.exchanged keeps)
 
-pub returns-in-Stray-clause-exchanged : goal.returns-in-Stray-clause-exchanged
-returns-in-Stray-clause-exchanged g c = λ keeps. exchanges_by _ _ _ _ _ _ _ _ _ (λ h. h) (λ s. absurd (no_end s)) (c.ask.ensures.exchanged keeps)
+pub returns-in-Ends-clause-exchanged : goal.returns-in-Ends-clause-exchanged
+returns-in-Ends-clause-exchanged g c = λ keeps.
+    let agents = g.L.Link.agents c.args.link.now in
+    let w : Walker = c.args.core.now in
+    let r = if_some c.in-Ok-Some.field-0 _ c.in-Ok-Some.heard c.in-Ok-Some.field-0-is c.in-Ok-Some.ensures.read in
+    let is_heard = heard_by c.codec.ensures agents (g.L.Link.honest c.args.link.now) w _ (c.request-length.ensures.waiting c.requires).1 c.requires
+    c.request-length.ensures.walker (g.met.L.Link.lawful c.args.link.now) (ComesOver g.L.Link.brings) (g.L.Link.traffic c.args.link.now).sent _
+    g.S.Sink.takes c.args.sink.now c.in-Ok-Some.heard c.exchange.new.waiter c.exchange.new.sink r in
+    let t = turns_of g.S.Sink.takes c.args.sink.now c.exchange.new.sink (ComesOver g.L.Link.brings) agents _ w r.is_read.message r.is_read.given
+    c.exchange.new.waiter c.in-Ok-Some.heard (heard.Ends c.in-Ends.end) c.in-Ends.is c.requires is_heard r.is_read.read r.is_read.delivered in
+    exchanged_by c.codec.ensures (g.L.Link.agents c.args.link.now) (g.L.Link.honest c.args.link.now) c.args.core.now _
+    (c.request-length.ensures.waiting c.requires).1 c.requires c.request-length.ensures.walker (g.met.L.Link.lawful c.args.link.now) (c.args.retries + 1)
+    (g.L.Link.traffic c.args.link.now) _ _ _
+    (λ s. absurd (t.1.1 (same_end c.in-Ends.end ending.NoResponse s))) (c.exchange.ensures.exchanged keeps)
 
-pub returns-in-Ok-clause-turns : goal.returns-in-Ok-clause-turns
-returns-in-Ok-clause-turns g c =
-    let heard = if_some c.in-Ok-Some.field-0 _ c.in-Ok-Some.heard c.in-Ok-Some.field-0-is c.in-Ok-Some.ensures.heard in
-    let comes = if_some c.in-Ok-Some.field-0 _ c.in-Ok-Some.heard c.in-Ok-Some.field-0-is c.in-Ok-Some.ensures.brought in
-    let taken = is_taken (ComesOver g.L.Link.brings) _ _ c.args.core.now _ c.take.result c.take.new.self c.requires comes heard c.take.ensures in
-    turn_goes g.S.Sink.takes (ComesOver g.L.Link.brings) _ _ c.args.core.now c.args.sink.now c.give.new.sink _ _ c.in-Rows.rows taken c.in-Rows.is
-    c.in-Ok.ensures.ok
-
-pub returns-in-Err-give-clause-turns : goal.returns-in-Err-give-clause-turns
-returns-in-Err-give-clause-turns g c =
-    let heard = if_some c.in-Ok-Some.field-0 _ c.in-Ok-Some.heard c.in-Ok-Some.field-0-is c.in-Ok-Some.ensures.heard in
-    let comes = if_some c.in-Ok-Some.field-0 _ c.in-Ok-Some.heard c.in-Ok-Some.field-0-is c.in-Ok-Some.ensures.brought in
-    let taken = is_taken (ComesOver g.L.Link.brings) _ _ c.args.core.now _ c.take.result c.take.new.self c.requires comes heard c.take.ensures in
-    turn_refused g.S.Sink.takes (ComesOver g.L.Link.brings) _ _ c.args.core.now c.args.sink.now c.give.new.sink _ _ c.in-Rows.rows c.in-Err-give.fault taken
-    (ap rows_in c.in-Rows.is) c.in-Err-give.ensures.err
-
-pub returns-in-Ok-give-clause-turns : goal.returns-in-Ok-give-clause-turns
-returns-in-Ok-give-clause-turns g c =
-    let heard = if_some c.in-Ok-Some.field-0 _ c.in-Ok-Some.heard c.in-Ok-Some.field-0-is c.in-Ok-Some.ensures.heard in
-    let comes = if_some c.in-Ok-Some.field-0 _ c.in-Ok-Some.heard c.in-Ok-Some.field-0-is c.in-Ok-Some.ensures.brought in
-    let taken = is_taken (ComesOver g.L.Link.brings) _ _ c.args.core.now _ c.take.result c.take.new.self c.requires comes heard c.take.ensures in
-    turn_ends g.S.Sink.takes (ComesOver g.L.Link.brings) _ _ c.args.core.now c.args.sink.now c.give-in-Last.new.sink _ _ c.in-Last.rows c.in-Last.end
-    taken c.in-Last.is
-    c.in-Ok-give.ensures.ok
-
-pub returns-in-Ok-give-clause-fault : goal.returns-in-Ok-give-clause-fault
-returns-in-Ok-give-clause-fault g c = λ link.
-    let heard = if_some c.in-Ok-Some.field-0 _ c.in-Ok-Some.heard c.in-Ok-Some.field-0-is c.in-Ok-Some.ensures.heard in
-    let comes = if_some c.in-Ok-Some.field-0 _ c.in-Ok-Some.heard c.in-Ok-Some.field-0-is c.in-Ok-Some.ensures.brought in
-    let taken = is_taken (ComesOver g.L.Link.brings) _ _ c.args.core.now _ c.take.result c.take.new.self c.requires comes heard c.take.ensures in
-    absurd (no_link c.in-Last.end link (reply_end (ComesOver g.L.Link.brings) _ _ c.args.core.now _ _ c.in-Last.rows c.in-Last.end taken c.in-Last.is))
-
-pub returns-in-Ok-give-clause-exchanged : goal.returns-in-Ok-give-clause-exchanged
-returns-in-Ok-give-clause-exchanged g c = λ keeps.
-    let heard = if_some c.in-Ok-Some.field-0 _ c.in-Ok-Some.heard c.in-Ok-Some.field-0-is c.in-Ok-Some.ensures.heard in
-    let comes = if_some c.in-Ok-Some.field-0 _ c.in-Ok-Some.heard c.in-Ok-Some.field-0-is c.in-Ok-Some.ensures.brought in
-    let taken = is_taken (ComesOver g.L.Link.brings) _ _ c.args.core.now _ c.take.result c.take.new.self c.requires comes heard c.take.ensures in
-    exchanges_by _ _ _ _ _ _ _ _ _ (λ h. h) (λ s. absurd (no_silence c.in-Last.end s
-    (reply_end (ComesOver g.L.Link.brings) _ _ c.args.core.now _ _ c.in-Last.rows c.in-Last.end taken c.in-Last.is))) (c.ask.ensures.exchanged keeps)
-
-pub returns-in-Err-give-2-clause-turns : goal.returns-in-Err-give-2-clause-turns
-returns-in-Err-give-2-clause-turns g c =
-    let heard = if_some c.in-Ok-Some.field-0 _ c.in-Ok-Some.heard c.in-Ok-Some.field-0-is c.in-Ok-Some.ensures.heard in
-    let comes = if_some c.in-Ok-Some.field-0 _ c.in-Ok-Some.heard c.in-Ok-Some.field-0-is c.in-Ok-Some.ensures.brought in
-    let taken = is_taken (ComesOver g.L.Link.brings) _ _ c.args.core.now _ c.take.result c.take.new.self c.requires comes heard c.take.ensures in
-    turn_refused g.S.Sink.takes (ComesOver g.L.Link.brings) _ _ c.args.core.now c.args.sink.now c.give-in-Last.new.sink _ _ c.in-Last.rows
-    c.in-Err-give-2.fault taken
-    (ap rows_in c.in-Last.is) c.in-Err-give-2.ensures.err
+pub returns-in-Ends-clause-fault : goal.returns-in-Ends-clause-fault
+returns-in-Ends-clause-fault g c = λ link.
+    let agents = g.L.Link.agents c.args.link.now in
+    let w : Walker = c.args.core.now in
+    let r = if_some c.in-Ok-Some.field-0 _ c.in-Ok-Some.heard c.in-Ok-Some.field-0-is c.in-Ok-Some.ensures.read in
+    let is_heard = heard_by c.codec.ensures agents (g.L.Link.honest c.args.link.now) w _ (c.request-length.ensures.waiting c.requires).1 c.requires
+    c.request-length.ensures.walker (g.met.L.Link.lawful c.args.link.now) (ComesOver g.L.Link.brings) (g.L.Link.traffic c.args.link.now).sent _
+    g.S.Sink.takes c.args.sink.now c.in-Ok-Some.heard c.exchange.new.waiter c.exchange.new.sink r in
+    let t = turns_of g.S.Sink.takes c.args.sink.now c.exchange.new.sink (ComesOver g.L.Link.brings) agents _ w r.is_read.message r.is_read.given
+    c.exchange.new.waiter c.in-Ok-Some.heard (heard.Ends c.in-Ends.end) c.in-Ends.is c.requires is_heard r.is_read.read r.is_read.delivered in
+    absurd (t.1.0 (same_end c.in-Ends.end ending.Link link))
 
 pub returns-in-Ok-None-clause-ready : goal.returns-in-Ok-None-clause-ready
-returns-in-Ok-None-clause-ready g c = leaves_by (g.L.Link.ready c.args.link.now) (g.L.Link.ready c.ask.new.link) (c.args.retries + 1)
-    (length (canon (request_of c.args.core.now))) (IsOk c.ask.result) _ (λ ok e. silent_no_link e) c.ask.ensures.ready
+returns-in-Ok-None-clause-ready g c =
+    let Of : List ℕ → Type 0 = λ q. Leaves (g.L.Link.ready c.args.link.now) (g.L.Link.ready c.exchange.new.link) (c.args.retries + 1) (length q)
+    (IsOk c.exchange.result) in
+    leaves_by (g.L.Link.ready c.args.link.now) (g.L.Link.ready c.exchange.new.link) (c.args.retries + 1) (length (canon (request_of c.args.core.now)))
+    (IsOk c.exchange.result) _ (λ ok e. silent_no_link e)
+    (subst Of (c.request-length.ensures.waiting c.requires).1 c.exchange.ensures.ready)
 
 pub returns-in-Err-clause-ready : goal.returns-in-Err-clause-ready
-returns-in-Err-clause-ready g c = leaves_by (g.L.Link.ready c.args.link.now) (g.L.Link.ready c.ask.new.link) (c.args.retries + 1)
-    (length (canon (request_of c.args.core.now))) (IsOk c.ask.result) _ (λ ok. absurd (never_err _ _ c.in-Err.is ok)) c.ask.ensures.ready
+returns-in-Err-clause-ready g c =
+    let Of : List ℕ → Type 0 = λ q. Leaves (g.L.Link.ready c.args.link.now) (g.L.Link.ready c.exchange.new.link) (c.args.retries + 1) (length q)
+    (IsOk c.exchange.result) in
+    leaves_by (g.L.Link.ready c.args.link.now) (g.L.Link.ready c.exchange.new.link) (c.args.retries + 1) (length (canon (request_of c.args.core.now)))
+    (IsOk c.exchange.result) _ (λ ok. absurd (never_err _ _ c.in-Err.is ok))
+    (subst Of (c.request-length.ensures.waiting c.requires).1 c.exchange.ensures.ready)
 
-pub returns-in-Stray-clause-ready : goal.returns-in-Stray-clause-ready
-returns-in-Stray-clause-ready g c = leaves_by (g.L.Link.ready c.args.link.now) (g.L.Link.ready c.ask.new.link) (c.args.retries + 1)
-    (length (canon (request_of c.args.core.now))) (IsOk c.ask.result) _ (λ ok e. no_link_end e) c.ask.ensures.ready
+pub returns-in-GoesOn-clause-ready : goal.returns-in-GoesOn-clause-ready
+returns-in-GoesOn-clause-ready g c =
+    let Of : List ℕ → Type 0 = λ q. Leaves (g.L.Link.ready c.args.link.now) (g.L.Link.ready c.exchange.new.link) (c.args.retries + 1) (length q)
+    (IsOk c.exchange.result) in
+    leaves_by (g.L.Link.ready c.args.link.now) (g.L.Link.ready c.exchange.new.link) (c.args.retries + 1) (length (canon (request_of c.args.core.now)))
+    (IsOk c.exchange.result) _ (λ ok e. no_link_end e)
+    (subst Of (c.request-length.ensures.waiting c.requires).1 c.exchange.ensures.ready)
 
-pub returns-in-Ok-clause-ready : goal.returns-in-Ok-clause-ready
-returns-in-Ok-clause-ready g c = leaves_by (g.L.Link.ready c.args.link.now) (g.L.Link.ready c.ask.new.link) (c.args.retries + 1)
-    (length (canon (request_of c.args.core.now))) (IsOk c.ask.result) _ (λ ok e. no_link_end e) c.ask.ensures.ready
-
-pub returns-in-Err-give-clause-ready : goal.returns-in-Err-give-clause-ready
-returns-in-Err-give-clause-ready g c = leaves_by (g.L.Link.ready c.args.link.now) (g.L.Link.ready c.ask.new.link) (c.args.retries + 1)
-    (length (canon (request_of c.args.core.now))) (IsOk c.ask.result) _ (λ ok e. sink_no_link c.in-Err-give.fault e) c.ask.ensures.ready
-
-pub returns-in-Ok-give-clause-ready : goal.returns-in-Ok-give-clause-ready
-returns-in-Ok-give-clause-ready g c =
-    let heard = if_some c.in-Ok-Some.field-0 _ c.in-Ok-Some.heard c.in-Ok-Some.field-0-is c.in-Ok-Some.ensures.heard in
-    let comes = if_some c.in-Ok-Some.field-0 _ c.in-Ok-Some.heard c.in-Ok-Some.field-0-is c.in-Ok-Some.ensures.brought in
-    let taken = is_taken (ComesOver g.L.Link.brings) _ _ c.args.core.now _ c.take.result c.take.new.self c.requires comes heard c.take.ensures in
-    leaves_by (g.L.Link.ready c.args.link.now) (g.L.Link.ready c.ask.new.link) (c.args.retries + 1)
-    (length (canon (request_of c.args.core.now))) (IsOk c.ask.result) _ (λ ok link. no_link c.in-Last.end link
-    (reply_end (ComesOver g.L.Link.brings) _ _ c.args.core.now _ _ c.in-Last.rows c.in-Last.end taken c.in-Last.is)) c.ask.ensures.ready
-
-pub returns-in-Err-give-2-clause-ready : goal.returns-in-Err-give-2-clause-ready
-returns-in-Err-give-2-clause-ready g c = leaves_by (g.L.Link.ready c.args.link.now) (g.L.Link.ready c.ask.new.link) (c.args.retries + 1)
-    (length (canon (request_of c.args.core.now))) (IsOk c.ask.result) _ (λ ok e. sink_no_link c.in-Err-give-2.fault e) c.ask.ensures.ready
+pub returns-in-Ends-clause-ready : goal.returns-in-Ends-clause-ready
+returns-in-Ends-clause-ready g c =
+    let agents = g.L.Link.agents c.args.link.now in
+    let w : Walker = c.args.core.now in
+    let r = if_some c.in-Ok-Some.field-0 _ c.in-Ok-Some.heard c.in-Ok-Some.field-0-is c.in-Ok-Some.ensures.read in
+    let is_heard = heard_by c.codec.ensures agents (g.L.Link.honest c.args.link.now) w _ (c.request-length.ensures.waiting c.requires).1 c.requires
+    c.request-length.ensures.walker (g.met.L.Link.lawful c.args.link.now) (ComesOver g.L.Link.brings) (g.L.Link.traffic c.args.link.now).sent _
+    g.S.Sink.takes c.args.sink.now c.in-Ok-Some.heard c.exchange.new.waiter c.exchange.new.sink r in
+    let t = turns_of g.S.Sink.takes c.args.sink.now c.exchange.new.sink (ComesOver g.L.Link.brings) agents _ w r.is_read.message r.is_read.given
+    c.exchange.new.waiter c.in-Ok-Some.heard (heard.Ends c.in-Ends.end) c.in-Ends.is c.requires is_heard r.is_read.read r.is_read.delivered in
+    let Of : List ℕ → Type 0 = λ q. Leaves (g.L.Link.ready c.args.link.now) (g.L.Link.ready c.exchange.new.link) (c.args.retries + 1) (length q)
+    (IsOk c.exchange.result) in
+    leaves_by (g.L.Link.ready c.args.link.now) (g.L.Link.ready c.exchange.new.link) (c.args.retries + 1) (length (canon (request_of c.args.core.now)))
+    (IsOk c.exchange.result) _ (λ ok link. t.1.0 (same_end c.in-Ends.end ending.Link link))
+    (subst Of (c.request-length.ensures.waiting c.requires).1 c.exchange.ensures.ready)

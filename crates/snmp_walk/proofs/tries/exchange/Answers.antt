@@ -1,18 +1,43 @@
-use Rattle.std.proofs.Common.{◌≡◌, ◌<◌, ◌≤◌, ◌+◌, ◌∙◌, sym, ap, subst, refl, arith, length, take, replicate, ℕ, List, [], ◌∷◌, ◌++◌, Option, Some, None, Ok}
+use Rattle.std.proofs.Common.{◌≡◌, ◌<◌, ◌≤◌, ◌+◌, ◌*◌, ◌∙◌, sym, ap, subst, refl, arith, length, take, replicate, ℕ, List, [], ◌∷◌, ◌++◌, Option, Some, None, Ok}
 use Rattle.std.proofs.lemmas.Grind.{replicate_next}
-use Rattle.std.proofs.Common.{append_assoc}
-use Rattle.std.specs.Prelude.{Result, Err, IsErr}
-use Rattle.snmp_walk.proofs.ReadyLemmas.{one_more, never_err}
-use Rattle.snmp_walk.specs.Link.{Agents, IsReplyFrom}
+use Rattle.std.proofs.Common.{append_assoc, append-nil}
+use Rattle.std.specs.Prelude.{Result, Err, IsErr, IfSome}
+use Rattle.snmp_wire.specs.Message.{VarBind, Message}
+use Rattle.snmp_walk.specs.declared.end.SinkFault.{SinkFault}
+use Rattle.snmp_walk.specs.declared.rows.Step.{Step}
+use Rattle.snmp_walk.specs.declared.tries.Heard.{Heard}
+use Rattle.snmp_walk.specs.Read.{IsRead, IsReadAs}
+use Rattle.snmp_walk.proofs.ReadyLemmas.{by_equal, one_more, never_err}
+use Rattle.snmp_walk.specs.Link.{Agents, IsReplyFrom, ComesOver}
 use Rattle.snmp_walk.specs.Traffic.{Traffic, latest}
 use Rattle.snmp_walk.specs.Heard.{IsAsked, Hears}
-use Rattle.snmp_walk.proofs.HearLemmas.{Missing, missing_more, missing_all, missing_used, heard_more, last_now, asked_now, try_sent}
-use Rattle.snmp_walk.proofs.TurnLemmas.{if_some}
+use Rattle.snmp_walk.proofs.HearLemmas.{Missing, missing_first, missing_more, missing_all, missing_used, heard_more, last_now, asked_now, try_sent}
+use Rattle.snmp_walk.proofs.TurnLemmas.{if_some, if_silent}
 use Rattle.snmp_walk.proofs.tries.exchange.Goals as goal
 
-never_ok : {E : Type 0} (r : Result (Option ℕ) E) → IsErr r → r ≡ Ok None → ⊥
+never_ok : {M E : Type 0} (r : Result (Option M) E) → IsErr r → r ≡ Ok None → ⊥
 never_ok (Ok x) is other = let no : ⊥ = cc in no
 never_ok (Err e) is other = let no : ⊥ = cc in no
+
+-- the waiter and the sink are as they were, and the deliveries' fact is that of the request
+read_now : {W S : Type 0} (Comes Of Reply : List ℕ → Type 0) (community : W → List ℕ) (id : W → ℕ) (reads : W → Message → Step → W → Type 0)
+    (takes : S → VarBind → Result (Unit {0}) SinkFault → S → Type 0) (v w : W) (s t : S) (new : W) (after : S) (o : Option Heard) (h : Heard)
+    → v ≡ w → s ≡ t → o ≡ Some h
+    → IfSome o (λ x. IsRead Comes Of (community v) (id v) (reads v) takes s x new after) → ((octets : List ℕ) → Of octets → Reply octets)
+    → IsRead Comes Reply (community w) (id w) (reads w) takes t h new after
+read_now Comes Of Reply community id reads takes v w s t new after o h e f is read by =
+    let here = if_some o (λ x. IsRead Comes Of (community v) (id v) (reads v) takes s x new after) h is read in
+    record {
+      datagram = here.datagram;
+      comes = here.comes;
+      reply = by here.datagram here.reply;
+      is_read = subst (λ x. IsReadAs here.datagram (community w) (id w) (reads w) takes x new after h) f
+          (subst (λ x. IsReadAs here.datagram (community x) (id x) (reads x) takes s new after h) e here.is_read);
+    }
+
+asked_for : {W : Type 0} (agents : Agents) (community : W → List ℕ) (id : W → ℕ) (v w : W) (q : List ℕ) (sent : List (List ℕ)) → v ≡ w
+    → IsAsked agents (community w) (id w) q sent → IsAsked agents (community v) (id v) q sent
+asked_for agents community id v w q sent e h = subst (λ x. IsAsked agents (community x) (id x) q sent) (sym e) h
 
 -- what was sent once more
 sent_again : (old before between now : Traffic) (q : List ℕ) (count : ℕ) → before.sent ≡ old.sent ++ replicate count q → between.sent ≡ before.sent ++ q ∷ []
@@ -21,6 +46,19 @@ sent_again : (old before between now : Traffic) (q : List ℕ) (count : ℕ) →
 sent_again old before between now q count e f g =
     g ∙ f ∙ ap (λ (s : List (List ℕ)). s ++ q ∷ []) e ∙ append_assoc old.sent (replicate count q) (q ∷ [])
     ∙ ap (λ (s : List (List ℕ)). old.sent ++ s) (sym (replicate_next count q))
+
+pub tries-init : goal.tries-init
+tries-init g c = (
+  λ h. h,
+  λ h. h,
+  refl,
+  refl,
+  λ h. sym (append-nil (g.L.Link.traffic c.args.link.now).sent),
+  λ h asked. missing_first (g.L.Link.agents c.args.link.now) c.args.request.now (g.L.Link.traffic c.args.link.now) (c.args.retries + 1),
+  λ sends octets h. by_equal (g.L.Link.ready c.args.link.now) (sends + 0) sends (octets + 0 * length c.args.request.now) octets (omega arith) (omega arith) h,
+  refl,
+  refl,
+)
 
 pub tries-preserved : goal.tries-preserved
 tries-preserved g c =
@@ -35,7 +73,7 @@ tries-preserved g c =
       λ h. c.hear.ensures.honest (c.send.ensures.honest (inv.0 h)),
       λ h. c.hear.ensures.keeps (c.send.ensures.keeps (inv.1 h)),
       c.hear.ensures.agents ∙ same,
-      c.in_ok-length.ensures.count ∙ c.in_ok-send.ensures.count ∙ inv.3,
+      c.in_ok-heard.ensures.count ∙ c.in_ok-send.ensures.count ∙ inv.3,
       λ h. sent_again old before between now q c.tries.counter (inv.4 h) (c.in_ok-send.ensures.sent (inv.1 h)) (c.hear.ensures.sent (c.send.ensures.keeps
           (inv.1 h))),
       λ h asked.
@@ -43,14 +81,17 @@ tries-preserved g c =
           let sent = inv.4 keeps in
           let more = c.in_ok-send.ensures.sent (inv.1 keeps) in
           let heard = c.hear.ensures.heard q (c.send.ensures.honest (inv.0 h)) (last_now agents
-          (g.L.Link.agents c.send.new.self) same c.args.community.now c.args.id q old before between c.tries.counter sent more asked)
-          (asked_now agents (g.L.Link.agents c.send.new.self) same c.args.community.now c.args.id q old before between c.tries.counter sent more asked) in
-          missing_more agents q old between now c.tries.counter (c.args.retries + 1) (c.hear.result ≡ Ok None) (c.in_ok-length.was ∙ ap Ok c.in_default.is)
-          (try_sent agents (g.L.Link.agents c.send.new.self) same c.args.community.now c.args.id q old before between c.tries.counter sent more asked) before
+          (g.L.Link.agents c.send.new.self) same (g.W.Waiter.community c.args.waiter.now) (g.W.Waiter.id c.args.waiter.now) q old before between c.tries.counter sent more asked)
+          (asked_for (g.L.Link.agents c.send.new.self) g.W.Waiter.community g.W.Waiter.id c.tries.waiter c.args.waiter.now q between.sent inv.7
+          (asked_now agents (g.L.Link.agents c.send.new.self) same (g.W.Waiter.community c.args.waiter.now) (g.W.Waiter.id c.args.waiter.now) q old before between c.tries.counter sent more asked)) in
+          missing_more agents q old between now c.tries.counter (c.args.retries + 1) (c.hear.result ≡ Ok None) (c.in_ok-heard.was ∙ ap Ok c.in_default.is)
+          (try_sent agents (g.L.Link.agents c.send.new.self) same (g.W.Waiter.community c.args.waiter.now) (g.W.Waiter.id c.args.waiter.now) q old before between c.tries.counter sent more asked) before
           (c.in_ok-send.ensures.ahead (inv.0 h))
           (subst (λ (a : Agents). Hears a q between (c.hear.result ≡ Ok None) now) same heard) (inv.5 h asked),
       λ sends octets h. (c.hear.ensures.ready sends octets (c.send.ensures.ready sends octets (inv.6 (sends + 1) (octets + length q)
           (one_more (g.L.Link.ready c.args.link.now) sends octets c.tries.counter (length q) h))).1).1,
+      (if_silent c.hear.result _ _ c.in_ok-heard.was c.in_default.is c.hear.ensures.silent).0 ∙ inv.7,
+      (if_silent c.hear.result _ _ c.in_ok-heard.was c.in_default.is c.hear.ensures.silent).1 ∙ inv.8,
     )
 
 pub returns-in_err-send-clause-ready : goal.returns-in_err-send-clause-ready
@@ -64,15 +105,15 @@ returns-in_err-send-clause-ready g c = (
       absurd (never_err _ _ c.in_err-send.was sent.0),
 )
 
-pub returns-in_err-length-clause-ready : goal.returns-in_err-length-clause-ready
-returns-in_err-length-clause-ready g c = (
+pub returns-in_err-heard-clause-ready : goal.returns-in_err-heard-clause-ready
+returns-in_err-heard-clause-ready g c = (
   c.tries.counter + 1,
   omega arith,
   λ sends octets h.
       let q : List ℕ = c.args.request.now in
       let sent = c.send.ensures.ready sends octets (c.tries.invariant.6 (sends + 1) (octets + length q)
       (one_more (g.L.Link.ready c.args.link.now) sends octets c.tries.counter (length q) h)) in
-      absurd (never_err _ _ c.in_err-length.was (c.hear.ensures.ready sends octets sent.1).0),
+      absurd (never_err _ _ c.in_err-heard.was (c.hear.ensures.ready sends octets sent.1).0),
 )
 
 pub returns-in-Some-clause-ready : goal.returns-in-Some-clause-ready
@@ -86,8 +127,8 @@ returns-in-Some-clause-ready g c = (
       (refl, (c.hear.ensures.ready sends octets sent.1).1),
 )
 
-pub returns-in_err-length-clause-exchanged : goal.returns-in_err-length-clause-exchanged
-returns-in_err-length-clause-exchanged g c = λ keeps.
+pub returns-in_err-heard-clause-exchanged : goal.returns-in_err-heard-clause-exchanged
+returns-in_err-heard-clause-exchanged g c = λ keeps.
     let inv = c.tries.invariant in
     let q : List ℕ = c.args.request.now in
     let agents : Agents = g.L.Link.agents c.args.link.now in
@@ -102,19 +143,24 @@ returns-in_err-length-clause-exchanged g c = λ keeps.
       times = c.tries.counter + 1;
       few = omega arith;
       sent = sent_again old before between now q c.tries.counter sent more (c.hear.ensures.sent (c.send.ensures.keeps (inv.1 keeps)));
-      all = λ s. absurd (never_ok _ c.from_residual-in_err-length.ensures.0 s);
+      all = λ s. absurd (never_ok _ c.from_residual-in_err-heard.ensures.0 s);
       honestly = λ h.
           let heard = c.hear.ensures.heard q (c.send.ensures.honest (inv.0 h.0)) (last_now agents
-          (g.L.Link.agents c.send.new.self) same c.args.community.now c.args.id q old before between c.tries.counter sent more h.1)
-          (asked_now agents (g.L.Link.agents c.send.new.self) same c.args.community.now c.args.id q old before between c.tries.counter sent more h.1) in
+          (g.L.Link.agents c.send.new.self) same (g.W.Waiter.community c.args.waiter.now) (g.W.Waiter.id c.args.waiter.now) q old before between c.tries.counter sent more h.1)
+          (asked_for (g.L.Link.agents c.send.new.self) g.W.Waiter.community g.W.Waiter.id c.tries.waiter c.args.waiter.now q between.sent inv.7
+          (asked_now agents (g.L.Link.agents c.send.new.self) same (g.W.Waiter.community c.args.waiter.now) (g.W.Waiter.id c.args.waiter.now) q old before between c.tries.counter sent more h.1)) in
           heard_more agents q old before between now c.tries.counter (c.args.retries + 1) (c.hear.result ≡ Ok None) _ (c.in_ok-send.ensures.ahead (inv.0 h.0))
           (subst (λ (a : Agents). Hears a q between (c.hear.result ≡ Ok None) now) same heard) (inv.5 h.0 h.1)
-          (λ s. never_ok _ c.from_residual-in_err-length.ensures.0 s);
+          (λ s. never_ok _ c.from_residual-in_err-heard.ensures.0 s);
     }
 
-pub returns-in-Some-clause-reply : goal.returns-in-Some-clause-reply
-returns-in-Some-clause-reply g c = λ h asked.
+pub returns-in-Some-clause-read : goal.returns-in-Some-clause-read
+returns-in-Some-clause-read g c =
     let inv = c.tries.invariant in
+    read_now (ComesOver g.L.Link.brings) _ _ g.W.Waiter.community g.W.Waiter.id g.W.Waiter.reads g.S.Sink.takes c.tries.waiter c.args.waiter.now c.tries.sink
+    c.args.sink.now _ _
+    c.in_ok-heard.field-0 c.in-Some.heard inv.7 inv.8 c.in-Some.is c.in_ok-heard.ensures.read
+    (λ octets reply h asked.
     let q : List ℕ = c.args.request.now in
     let agents : Agents = g.L.Link.agents c.args.link.now in
     let old : Traffic = g.L.Link.traffic c.args.link.now in
@@ -124,11 +170,11 @@ returns-in-Some-clause-reply g c = λ h asked.
     let keeps = g.met.L.Link.keeping c.args.link.now h in
     let sent = inv.4 keeps in
     let more = c.in_ok-send.ensures.sent (inv.1 keeps) in
-    let reply = c.in_ok-length.ensures.reply q (c.send.ensures.honest (inv.0 h)) (last_now agents
-    (g.L.Link.agents c.send.new.self) same c.args.community.now c.args.id q old before between c.tries.counter sent more asked)
-    (asked_now agents (g.L.Link.agents c.send.new.self) same c.args.community.now c.args.id q old before between c.tries.counter sent more asked) in
-    subst (λ (a : Agents). IsReplyFrom a q (take c.in-Some.length c.hear.new.buffer)) same
-    (if_some c.in_ok-length.field-0 (λ n. IsReplyFrom (g.L.Link.agents c.send.new.self) q (take n c.hear.new.buffer)) c.in-Some.length c.in-Some.is reply)
+    subst (λ (a : Agents). IsReplyFrom a q octets) same
+    (reply q (c.send.ensures.honest (inv.0 h)) (last_now agents
+    (g.L.Link.agents c.send.new.self) same (g.W.Waiter.community c.args.waiter.now) (g.W.Waiter.id c.args.waiter.now) q old before between c.tries.counter sent more asked)
+    (asked_for (g.L.Link.agents c.send.new.self) g.W.Waiter.community g.W.Waiter.id c.tries.waiter c.args.waiter.now q between.sent inv.7
+    (asked_now agents (g.L.Link.agents c.send.new.self) same (g.W.Waiter.community c.args.waiter.now) (g.W.Waiter.id c.args.waiter.now) q old before between c.tries.counter sent more asked))))
 
 pub returns-in-Some-clause-exchanged : goal.returns-in-Some-clause-exchanged
 returns-in-Some-clause-exchanged g c = λ keeps.
@@ -149,8 +195,9 @@ returns-in-Some-clause-exchanged g c = λ keeps.
       all = λ s. let no : ⊥ = cc in absurd no;
       honestly = λ h.
           let heard = c.hear.ensures.heard q (c.send.ensures.honest (inv.0 h.0)) (last_now agents
-          (g.L.Link.agents c.send.new.self) same c.args.community.now c.args.id q old before between c.tries.counter sent more h.1)
-          (asked_now agents (g.L.Link.agents c.send.new.self) same c.args.community.now c.args.id q old before between c.tries.counter sent more h.1) in
+          (g.L.Link.agents c.send.new.self) same (g.W.Waiter.community c.args.waiter.now) (g.W.Waiter.id c.args.waiter.now) q old before between c.tries.counter sent more h.1)
+          (asked_for (g.L.Link.agents c.send.new.self) g.W.Waiter.community g.W.Waiter.id c.tries.waiter c.args.waiter.now q between.sent inv.7
+          (asked_now agents (g.L.Link.agents c.send.new.self) same (g.W.Waiter.community c.args.waiter.now) (g.W.Waiter.id c.args.waiter.now) q old before between c.tries.counter sent more h.1)) in
           heard_more agents q old before between now c.tries.counter (c.args.retries + 1) (c.hear.result ≡ Ok None) _ (c.in_ok-send.ensures.ahead (inv.0 h.0))
           (subst (λ (a : Agents). Hears a q between (c.hear.result ≡ Ok None) now) same heard) (inv.5 h.0 h.1) (λ s. let no : ⊥ = cc in no);
     }

@@ -1,6 +1,13 @@
 use Rattle.std.proofs.Common.{◌≡◌, ◌<◌, ◌≤◌, ◌∙◌, sym, ap, subst, refl, take, arith, length, ℕ, List, Option, Some, None, false, Ok}
 use Rattle.std.proofs.lemmas.Grind.{common_steps}
-use Rattle.snmp_walk.specs.Link.{Agents}
+use Rattle.std.specs.Prelude.{true, Result, IfSome, IfNone}
+use Rattle.snmp_wire.specs.Message.{VarBind, Message}
+use Rattle.snmp_walk.specs.declared.end.SinkFault.{SinkFault}
+use Rattle.snmp_walk.specs.declared.rows.Step.{Step}
+use Rattle.snmp_walk.specs.declared.tries.Heard.{Heard}
+use Rattle.snmp_walk.specs.Taken.{awaits}
+use Rattle.snmp_walk.specs.Read.{IsRead, IsReadAs}
+use Rattle.snmp_walk.specs.Link.{Agents, ComesOver}
 use Rattle.snmp_walk.specs.Traffic.{Traffic, received, Receives}
 use Rattle.snmp_walk.proofs.HearLemmas.{Waits, stray_heard, none_heard, reply_heard, heard_used, received_by}
 use Rattle.snmp_walk.proofs.TurnLemmas.{if_some}
@@ -17,21 +24,52 @@ returns-in_default-clause-heard g c = λ q h last asked.
     let r = received_by (g.L.Link.agents c.receives.link)
     (g.L.Link.agents c.args.link.now) inv.2 now.sent now.ahead left.ahead c.in_ok-length.field-0 None c.receive.new.buffer c.in_default.is
     (c.in_ok-length.ensures.reply (inv.0 h) long) in
-    none_heard (g.L.Link.agents c.args.link.now) c.args.community.now c.args.id q old asked last c.receives.counter now left (inv.4
+    none_heard (g.L.Link.agents c.args.link.now) (g.W.Waiter.community c.args.waiter.now) (g.W.Waiter.id c.args.waiter.now) q old asked last c.receives.counter now left (inv.4
     (g.met.L.Link.keeping c.args.link.now h)) less now.ahead refl r
     (inv.5 q h last asked) _
 
-pub returns-then-is_reply-clause-brought : goal.returns-then-is_reply-clause-brought
-returns-then-is_reply-clause-brought g c = (
-  c.receives.link,
-  c.receive.new.self,
-  if_some c.in_ok-length.field-0 (λ n. g.L.Link.brings c.receives.link (take n c.receive.new.buffer) c.receive.new.self) c.in-Some.length c.in-Some.is
-      c.in_ok-length.ensures.brings,
-)
+-- the waiter and the sink are as they were
+read_now : {W S : Type 0} (Comes Reply : List ℕ → Type 0) (community : W → List ℕ) (id : W → ℕ) (reads : W → Message → Step → W → Type 0)
+    (takes : S → VarBind → Result (Unit {0}) SinkFault → S → Type 0) (v w : W) (s t : S) (datagram : List ℕ) (new : W) (after : S) (o : Option Heard) (h : Heard)
+    → v ≡ w → s ≡ t → o ≡ Some h → IfSome o (IsReadAs datagram (community v) (id v) (reads v) takes s new after) → Comes datagram → Reply datagram
+    → IsRead Comes Reply (community w) (id w) (reads w) takes t h new after
+read_now Comes Reply community id reads takes v w s t datagram new after o h e f is read comes reply = record {
+  datagram = datagram;
+  comes = comes;
+  reply = reply;
+  is_read = subst (λ x. IsReadAs datagram (community w) (id w) (reads w) takes x new after h) f
+      (subst (λ x. IsReadAs datagram (community x) (id x) (reads x) takes s new after h) e
+      (if_some o (IsReadAs datagram (community v) (id v) (reads v) takes s new after) h is read));
+}
 
-pub returns-then-is_reply-clause-reply : goal.returns-then-is_reply-clause-reply
-returns-then-is_reply-clause-reply g c = λ q h last asked.
+-- and where it isn't the reply, it is not
+read_other : {W : Type 0} (community : W → List ℕ) (id : W → ℕ) (v w : W) (m : Message) → v ≡ w → awaits (community v) (id v) m ≡ false
+    → awaits (community w) (id w) m ≡ false
+read_other community id v w m e h = subst (λ x. awaits (community x) (id x) m ≡ false) e h
+
+if_none : {X : Type 0} (o : Option X) (P : Type 0) → o ≡ None → IfNone o P → P
+if_none None P e h = h
+if_none (Some x) P e h = let no : ⊥ = cc in absurd no
+
+-- where the reply was read, it is awaited
+read_awaited : {W : Type 0} (community : W → List ℕ) (id : W → ℕ) (v w : W) (m : Message) → v ≡ w → awaits (community v) (id v) m ≡ true
+    → awaits (community w) (id w) m ≡ true
+read_awaited community id v w m e h = subst (λ x. awaits (community x) (id x) m ≡ true) e h
+
+pub returns-in-Some-read_reply-clause-read : goal.returns-in-Some-read_reply-clause-read
+returns-in-Some-read_reply-clause-read g c =
     let inv = c.receives.invariant in
+    let is = if_some c.read_reply.result _ c.in-Some-read_reply.heard c.in-Some-read_reply.is c.read_reply.ensures.some in
+    read_now (ComesOver g.L.Link.brings) _ g.W.Waiter.community g.W.Waiter.id g.W.Waiter.reads g.S.Sink.takes c.receives.waiter c.args.waiter.now c.receives.sink
+    c.args.sink.now
+    (take c.in-Some.length c.receive.new.buffer) _ _ c.read_reply.result c.in-Some-read_reply.heard inv.7 inv.8 c.in-Some-read_reply.is
+    c.read_reply.ensures.some (
+      c.receives.link,
+      c.receive.new.self,
+      if_some c.in_ok-length.field-0 (λ n. g.L.Link.brings c.receives.link (take n c.receive.new.buffer) c.receive.new.self) c.in-Some.length c.in-Some.is
+          c.in_ok-length.ensures.brings,
+    )
+    (λ q h last asked.
     let old : Traffic = g.L.Link.traffic c.args.link.now in
     let now : Traffic = g.L.Link.traffic c.receives.link in
     let left : Traffic = g.L.Link.traffic c.receive.new.self in
@@ -39,13 +77,13 @@ returns-then-is_reply-clause-reply g c = λ q h last asked.
     let r = received_by (g.L.Link.agents c.receives.link) (g.L.Link.agents c.args.link.now) inv.2 now.sent now.ahead left.ahead c.in_ok-length.field-0
     (Some c.in-Some.length) c.receive.new.buffer c.in-Some.is
     (c.in_ok-length.ensures.reply (inv.0 h) long) in
-    let is = c.is_reply.ensures.awaited c.if-is_reply.true in
-    reply_heard (g.L.Link.agents c.args.link.now) c.args.community.now c.args.id q old asked last now left (take c.in-Some.length c.receive.new.buffer) (inv.4
-    (g.met.L.Link.keeping c.args.link.now h)) now.ahead refl r
-    is.message is.spelt is.awaited
+    reply_heard (g.L.Link.agents c.args.link.now) (g.W.Waiter.community c.args.waiter.now) (g.W.Waiter.id c.args.waiter.now) q old asked last now left
+    (take c.in-Some.length c.receive.new.buffer)
+    (inv.4 (g.met.L.Link.keeping c.args.link.now h)) now.ahead refl r
+    is.message is.spelt (read_awaited g.W.Waiter.community g.W.Waiter.id c.receives.waiter c.args.waiter.now is.message inv.7 is.awaited))
 
-pub returns-then-is_reply-clause-heard : goal.returns-then-is_reply-clause-heard
-returns-then-is_reply-clause-heard g c = λ q h last asked.
+pub returns-in-Some-read_reply-clause-heard : goal.returns-in-Some-read_reply-clause-heard
+returns-in-Some-read_reply-clause-heard g c = λ q h last asked.
     let inv = c.receives.invariant in
     let old : Traffic = g.L.Link.traffic c.args.link.now in
     let now : Traffic = g.L.Link.traffic c.receives.link in
@@ -75,9 +113,12 @@ receives-preserved g c =
           let r = received_by (g.L.Link.agents c.receives.link) (g.L.Link.agents c.args.link.now) inv.2 now.sent now.ahead left.ahead c.in_ok-length.field-0
           (Some c.in-Some.length) c.receive.new.buffer c.in-Some.is
           (c.in_ok-length.ensures.reply (inv.0 h) long) in
-          stray_heard (g.L.Link.agents c.args.link.now) c.args.community.now c.args.id q old asked last c.receives.counter now left
+          stray_heard (g.L.Link.agents c.args.link.now) (g.W.Waiter.community c.args.waiter.now) (g.W.Waiter.id c.args.waiter.now) q old asked last c.receives.counter now left
           (take c.in-Some.length c.receive.new.buffer)
           (inv.4 (g.met.L.Link.keeping c.args.link.now h)) less now.ahead refl r
-          (λ m spelt. sym c.if-is_reply.false ∙ c.is_reply.ensures.value m spelt) (inv.5 q h last asked),
+          (λ m spelt. sym (read_other g.W.Waiter.community g.W.Waiter.id c.receives.waiter c.args.waiter.now m inv.7
+          (if_none c.read_reply.result _ c.in_default-read_reply.is c.read_reply.ensures.none m spelt))) (inv.5 q h last asked),
       λ sends octets h. (c.receive.ensures.ready sends octets (inv.6 sends octets h) long).1,
+      (if_none c.read_reply.result _ c.in_default-read_reply.is c.read_reply.ensures.unchanged).0 ∙ inv.7,
+      (if_none c.read_reply.result _ c.in_default-read_reply.is c.read_reply.ensures.unchanged).1 ∙ inv.8,
     )

@@ -12,6 +12,7 @@ invariant-receives g l =
     × (g.L.Link.fault_count l.link ≡ g.L.Link.fault_count l.fn.link)
     × (g.L.Link.keeps l.fn.link → (g.L.Link.traffic l.link).sent ≡ (g.L.Link.traffic l.fn.link).sent)
     × ((q : List ℕ) → g.L.Link.honest l.fn.link → latest (g.L.Link.traffic l.fn.link).sent ≡ Some q
-    → IsAsked (g.L.Link.agents l.fn.link) l.community l.id q (g.L.Link.traffic l.fn.link).sent
+    → IsAsked (g.L.Link.agents l.fn.link) (g.W.Waiter.community l.fn.waiter) (g.W.Waiter.id l.fn.waiter) q (g.L.Link.traffic l.fn.link).sent
     → Waits (g.L.Link.agents l.fn.link) q (g.L.Link.traffic l.fn.link) l.counter (g.L.Link.traffic l.link))
     × ((sends octets : ℕ) → g.L.Link.ready l.fn.link sends octets → g.L.Link.ready l.link sends octets)
+    × (l.waiter ≡ l.fn.waiter) × (l.sink ≡ l.fn.sink)

@@ -1,0 +1,26 @@
+use Rattle.std.proofs.Common.{◌≡◌, ◌∙◌, sym, ap}
+use Rattle.snmp_walk.specs.Taken.{awaits}
+use Rattle.snmp_walk.proofs.SpelledLemmas.{sendable}
+use Rattle.snmp_walk.proofs.tries.read_reply.Goals as goal
+
+pub returns-in_default-clause-none : goal.returns-in_default-clause-none
+returns-in_default-clause-none g c = λ m h. let same = c.in_default.ensures.only m h in let no : ⊥ = cc in absurd no
+
+pub returns-then-not-awaits-clause-none : goal.returns-then-not-awaits-clause-none
+returns-then-not-awaits-clause-none g c = λ m h.
+    let same = c.in-Ok.ensures.only m h in
+    let one : m ≡ c.in-Ok.message = cc in
+    ap (awaits (g.W.Waiter.community c.args.waiter.now) (g.W.Waiter.id c.args.waiter.now)) one ∙ sym c.awaits.ensures ∙ c.if-not-awaits.true
+
+pub read-step-requires : goal.read-step-requires
+read-step-requires g c = sendable _ _ c.in-Ok.ensures.found
+
+pub returns-clause-some : goal.returns-clause-some
+returns-clause-some g c = record {
+  message = c.in-Ok.message;
+  spelt = c.in-Ok.ensures.found;
+  awaited = sym c.awaits.ensures ∙ c.if-not-awaits.false;
+  given = c.read-step.result;
+  read = c.read-step.ensures;
+  delivered = c.deliver.ensures;
+}

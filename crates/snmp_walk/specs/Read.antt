@@ -1,0 +1,56 @@
+-- What comes of a reply that was waited for: it is read, and its bindings are given to a sink.
+use Rattle.std.specs.Prelude.{◌≡◌, ℕ, true, List, [], ◌∷◌, ◌++◌, Result, Err}
+use Rattle.snmp_wire.specs.Message.{VarBind, Message}
+use Rattle.snmp_wire.specs.Spelling.{Spells}
+use Rattle.snmp_walk.specs.declared.end.SinkFault.{SinkFault}
+use Rattle.snmp_walk.specs.declared.end.WalkEnd.{WalkEnd}
+use Rattle.snmp_walk.specs.declared.end.WalkEnd.TheVariants as ending
+use Rattle.snmp_walk.specs.declared.rows.Step.{Step}
+use Rattle.snmp_walk.specs.declared.rows.Step.TheVariants as step
+use Rattle.snmp_walk.specs.declared.tries.Heard.{Heard}
+use Rattle.snmp_walk.specs.declared.tries.Heard.TheVariants as heard
+use Rattle.snmp_walk.specs.Taken.{awaits}
+use Rattle.snmp_walk.specs.Sink.{Given}
+
+-- the bindings that a step gives
+abbrev pub rows_in : Step → List VarBind
+rows_in step.Stray = []
+rows_in (step.Rows rows) = rows
+rows_in (step.Last rows why) = rows
+
+-- what came of a step whose bindings were given to the sink, until it refused one
+pub data Delivers {S : Type 0} (takes : S → VarBind → Result (Unit {0}) SinkFault → S → Type 0)
+    (given : Step) (before : S) (what : Heard) (after : S) : Type 0 where
+  is_stray : given ≡ step.Stray → what ≡ heard.GoesOn → after ≡ before
+      → Delivers takes given before what after
+  goes_on : (rows : List VarBind) → given ≡ step.Rows rows → what ≡ heard.GoesOn
+      → Given takes before rows after → Delivers takes given before what after
+  ends : (rows : List VarBind) (why : WalkEnd) → given ≡ step.Last rows why
+      → what ≡ heard.Ends why → Given takes before rows after
+      → Delivers takes given before what after
+  is_refused : (fault : SinkFault) (rows : List VarBind) (p : VarBind) (left : List VarBind)
+      (between : S) → rows_in given ≡ rows ++ p ∷ left → what ≡ heard.Ends (ending.Sink fault)
+      → Given takes before rows between → takes between p (Err fault) after
+      → Delivers takes given before what after
+
+-- the datagram encodes the reply of this community and request-id, which was read as one step
+pub record IsReadAs {W S : Type 0} (datagram : List ℕ) (community : List ℕ) (id : ℕ)
+    (reads : Message → Step → W → Type 0)
+    (takes : S → VarBind → Result (Unit {0}) SinkFault → S → Type 0) (before : S) (new : W)
+    (after : S) (what : Heard) : Type 0 where
+  pub message : Message
+  pub spelt : Spells message datagram
+  pub awaited : awaits community id message ≡ true
+  pub given : Step
+  pub read : reads message given new
+  pub delivered : Delivers takes given before what after
+
+-- such a datagram came over the link, and `Reply` holds of it
+pub record IsRead {W S : Type 0} (Comes Reply : List ℕ → Type 0) (community : List ℕ) (id : ℕ)
+    (reads : Message → Step → W → Type 0)
+    (takes : S → VarBind → Result (Unit {0}) SinkFault → S → Type 0) (before : S)
+    (what : Heard) (new : W) (after : S) : Type 0 where
+  pub datagram : List ℕ
+  pub comes : Comes datagram
+  pub reply : Reply datagram
+  pub is_read : IsReadAs datagram community id reads takes before new after what
