@@ -1,5 +1,6 @@
 -- What the words of snmpd ask for, and why it may be refused.
-use Rattle.std.specs.Prelude.{◌≡◌, ◌<◌, ◌≤◌, ◌⊎◌, ◌++◌, ℕ, List, [], ◌∷◌, Option, Some, None, length}
+use Rattle.std.specs.Prelude.{◌≡◌, ◌<◌, ◌≤◌, ◌⊎◌, ◌++◌, ℕ, List, [], ◌∷◌, Option, Some, None}
+use Rattle.std.specs.Prelude.{length}
 use Rattle.std.specs.Str.Lines.{lines}
 use Rattle.snmp_agent.specs.Reply.{Agent}
 use Rattle.snmp_io.specs.Files.{HoldsIfKnown}
@@ -8,7 +9,8 @@ use Rattle.snmp_table.specs.Stated.{IsFirstFault, IsTableOf}
 use Rattle.snmp_table.specs.Table.{MibView}
 use Rattle.snmp_table.specs.declared.error.TableError.{TableError}
 use Rattle.snmp_words.specs.Words.{ServeWords}
-use Rattle.snmp_serve.specs.Fault.{Fault, bad_place, bad_table, long_community, no_memory, unreadable}
+use Rattle.snmp_serve.specs.Fault.{Fault, bad_place, bad_table, long_community, no_memory}
+use Rattle.snmp_serve.specs.Fault.{unreadable}
 
 -- what is known of files: by its path, the text of each, or that it has none
 abbrev pub Holdings : Type 0
@@ -46,7 +48,8 @@ serve_steps = community_step ∷ place_step ∷ table_step ∷ []
 -- the step is done: what it looks for is there
 abbrev pub IsDoneBy : ServeWords → Holdings → Step → Type 0
 IsDoneBy words files community_step = length words.community ≤ 255
-IsDoneBy words files place_step = (host : List ℕ) × (port : ℕ) × IsHostAndPort words.listen host port
+IsDoneBy words files place_step =
+    (host : List ℕ) × (port : ℕ) × IsHostAndPort words.listen host port
 IsDoneBy words files table_step = (view : MibView) × HasTable files words.table view
 
 -- the file at a path can't be read, or its text states no table

@@ -5,8 +5,10 @@ ghost use Rattle.snmp_io.specs.Output.{extended};
 ghost use Rattle.snmp_net.specs.Address.{IsHostAndPort};
 ghost use Rattle.snmp_words.specs.Words.{serve_words};
 ghost use Rattle.snmp_serve.specs.Fault.{fault_of, no_memory};
-ghost use Rattle.snmp_serve.specs.Outcome.{AtDoor, IsOutcome, IsRun, StopsAt, counts_line, listening_line};
-ghost use Rattle.snmp_serve.specs.Service.{HasTable, Holdings, IsFirstToFail, IsRefusal, TableFails};
+ghost use Rattle.snmp_serve.specs.Outcome.{AtDoor, IsOutcome, IsRun, StopsAt, counts_line};
+ghost use Rattle.snmp_serve.specs.Outcome.{listening_line};
+ghost use Rattle.snmp_serve.specs.Service.{HasTable, Holdings, IsFirstToFail, IsRefusal};
+ghost use Rattle.snmp_serve.specs.Service.{TableFails};
 
 use crate::error::ServeError;
 use snmp_agent::{Config, Served};

@@ -1,5 +1,6 @@
 //! The indexes of columns: by INDEX and AUGMENTS of their rows, over each base type.
 
+use crate::reading::TINY;
 use smi_branches::Identifiers;
 use smi_columns::Indexes;
 use smi_index::{Extent, IndexPart};
@@ -77,36 +78,6 @@ fn wrong_row(alloc: Global, text: &[u8], rows: &[Row<'_>]) -> Result<Option<usiz
     }
     Ok(None)
 }
-
-const TINY: &[u8] = b"TINY-SMI DEFINITIONS ::= BEGIN
-enterprises OBJECT IDENTIFIER ::= { private 1 }
-private     OBJECT IDENTIFIER ::= { internet 4 }
-internet    OBJECT IDENTIFIER ::= { iso org(3) dod(6) 1 }
-END
-TINY-MIB DEFINITIONS ::= BEGIN
-IMPORTS enterprises FROM TINY-SMI;
-tiny OBJECT IDENTIFIER ::= { enterprises 32473 }
-Mac ::= TEXTUAL-CONVENTION DISPLAY-HINT \"1x:\" STATUS current
-  DESCRIPTION \"An address.\" SYNTAX OCTET STRING (SIZE (6))
-tinyState OBJECT-TYPE SYNTAX INTEGER { up(1), down(2) } MAX-ACCESS read-only
-  STATUS current DESCRIPTION \"State.\" ::= { tiny 1 }
-tinyTable OBJECT-TYPE SYNTAX SEQUENCE OF TinyEntry MAX-ACCESS not-accessible
-  STATUS current DESCRIPTION \"Table.\" ::= { tiny 2 }
-tinyEntry OBJECT-TYPE SYNTAX TinyEntry MAX-ACCESS not-accessible
-  STATUS current DESCRIPTION \"Row.\" INDEX { tinyName } ::= { tinyTable 1 }
-TinyEntry ::= SEQUENCE { tinyName OCTET STRING, tinyMac Mac }
-tinyName OBJECT-TYPE SYNTAX OCTET STRING (SIZE (0..32)) MAX-ACCESS not-accessible
-  STATUS current DESCRIPTION \"Name.\" ::= { tinyEntry 1 }
-tinyMac OBJECT-TYPE SYNTAX Mac MAX-ACCESS read-only
-  STATUS current DESCRIPTION \"Address.\" ::= { tinyEntry 2 }
-tinyKeyTable OBJECT IDENTIFIER ::= { tiny 3 }
-tinyKeyEntry OBJECT-TYPE SYNTAX TinyKeyEntry MAX-ACCESS not-accessible
-  STATUS current DESCRIPTION \"Key row.\" INDEX { IMPLIED tinyName } ::= { tinyKeyTable 1 }
-TinyKeyEntry ::= SEQUENCE { tinyKeyUse Gauge32 }
-tinyKeyUse OBJECT-TYPE SYNTAX Gauge32 UNITS \"jobs\" MAX-ACCESS read-only
-  STATUS current DESCRIPTION \"Use.\" ::= { tinyKeyEntry 1 }
-END
-";
 
 #[test]
 fn columns_of_a_table(rt: HostRuntime) -> Result<(), Fail> {
@@ -237,11 +208,13 @@ first OBJECT-TYPE SYNTAX R MAX-ACCESS not-accessible STATUS current DESCRIPTION 
   INDEX { local } ::= { iso 9 }
 second OBJECT-TYPE SYNTAX R MAX-ACCESS not-accessible STATUS current DESCRIPTION \"\"
   INDEX { nameA } ::= { iso 9 }
-col9 OBJECT-TYPE SYNTAX INTEGER MAX-ACCESS read-only STATUS current DESCRIPTION \"\" ::= { second 1 }
+col9 OBJECT-TYPE SYNTAX INTEGER MAX-ACCESS read-only STATUS current DESCRIPTION \"\" \
+::= { second 1 }
 plain OBJECT-TYPE SYNTAX R MAX-ACCESS not-accessible STATUS current DESCRIPTION \"\" ::= { iso 10 }
 later OBJECT-TYPE SYNTAX R MAX-ACCESS not-accessible STATUS current DESCRIPTION \"\"
   INDEX { nameA } ::= { iso 10 }
-col10 OBJECT-TYPE SYNTAX INTEGER MAX-ACCESS read-only STATUS current DESCRIPTION \"\" ::= { later 1 }
+col10 OBJECT-TYPE SYNTAX INTEGER MAX-ACCESS read-only STATUS current DESCRIPTION \"\" \
+::= { later 1 }
 self OBJECT-TYPE SYNTAX R MAX-ACCESS not-accessible STATUS current DESCRIPTION \"\"
   AUGMENTS { self } ::= { iso 11 }
 col11 OBJECT-TYPE SYNTAX INTEGER MAX-ACCESS read-only STATUS current DESCRIPTION \"\" ::= { self 1 }

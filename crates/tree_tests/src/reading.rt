@@ -1,8 +1,43 @@
-//! Helpers of the tests: identifiers from texts, and what names resolve to.
+//! Helpers of the tests: two modules, identifiers from texts, and what names resolve to.
 
 use smi_links::Resolution;
 use snmp_oid::{Oid, parse_numeric};
 use std::test::Fail;
+
+/// Two modules with an object, two tables, and names that are missing or lead back to themselves.
+pub(crate) const TINY: &[u8] = b"TINY-SMI DEFINITIONS ::= BEGIN
+enterprises OBJECT IDENTIFIER ::= { private 1 }
+private     OBJECT IDENTIFIER ::= { internet 4 }
+internet    OBJECT IDENTIFIER ::= { iso org(3) dod(6) 1 }
+END
+TINY-MIB DEFINITIONS ::= BEGIN
+IMPORTS enterprises, absent FROM TINY-SMI
+        other FROM GONE-MIB;
+-----------------------------------------
+tiny OBJECT IDENTIFIER ::= { enterprises 32473 }
+Mac ::= TEXTUAL-CONVENTION DISPLAY-HINT \"1x:\" STATUS current
+  DESCRIPTION \"An address.\" SYNTAX OCTET STRING (SIZE (6))
+tinyState OBJECT-TYPE SYNTAX INTEGER { up(1), down(2) } MAX-ACCESS read-only
+  STATUS current DESCRIPTION \"State.\" ::= { tiny 1 }
+tinyTable OBJECT-TYPE SYNTAX SEQUENCE OF TinyEntry MAX-ACCESS not-accessible
+  STATUS current DESCRIPTION \"Table.\" ::= { tiny 2 }
+tinyEntry OBJECT-TYPE SYNTAX TinyEntry MAX-ACCESS not-accessible
+  STATUS current DESCRIPTION \"Row.\" INDEX { tinyName } ::= { tinyTable 1 }
+TinyEntry ::= SEQUENCE { tinyName OCTET STRING, tinyMac Mac }
+tinyName OBJECT-TYPE SYNTAX OCTET STRING (SIZE (0..32)) MAX-ACCESS not-accessible
+  STATUS current DESCRIPTION \"Name.\" ::= { tinyEntry 1 }
+tinyMac OBJECT-TYPE SYNTAX Mac MAX-ACCESS read-only
+  STATUS current DESCRIPTION \"Address.\" ::= { tinyEntry 2 }
+tinyKeyTable OBJECT IDENTIFIER ::= { tiny 3 }
+tinyKeyEntry OBJECT-TYPE SYNTAX TinyKeyEntry MAX-ACCESS not-accessible
+  STATUS current DESCRIPTION \"Key row.\" INDEX { IMPLIED tinyName } ::= { tinyKeyTable 1 }
+TinyKeyEntry ::= SEQUENCE { tinyKeyUse Gauge32 }
+tinyKeyUse OBJECT-TYPE SYNTAX Gauge32 UNITS \"jobs\" MAX-ACCESS read-only
+  STATUS current DESCRIPTION \"Use.\" ::= { tinyKeyEntry 1 }
+loopA OBJECT IDENTIFIER ::= { loopB 1 }
+loopB OBJECT IDENTIFIER ::= { loopA 1 }
+END
+";
 
 /// The identifier of a text such as `1.3.6`.
 pub(crate) fn oid(text: &str) -> Result<Oid, Fail> {

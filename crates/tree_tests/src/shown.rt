@@ -1,46 +1,13 @@
 //! Names, lines and details by the tree of the tiny modules.
 
-use crate::reading::oid;
+use crate::reading::{TINY, oid};
+use name_tests::random_oid;
 use smi_show::{Letters, detail, line, name_text, resolve};
 use smi_text::parse_modules;
 use smi_tree::Tree;
 use snmp_ber::ValueRef;
 use std::alloc::Global;
 use std::test::Fail;
-
-const TINY: &[u8] = b"TINY-SMI DEFINITIONS ::= BEGIN
-enterprises OBJECT IDENTIFIER ::= { private 1 }
-private     OBJECT IDENTIFIER ::= { internet 4 }
-internet    OBJECT IDENTIFIER ::= { iso org(3) dod(6) 1 }
-END
-TINY-MIB DEFINITIONS ::= BEGIN
-IMPORTS enterprises, absent FROM TINY-SMI
-        other FROM GONE-MIB;
------------------------------------------
-tiny OBJECT IDENTIFIER ::= { enterprises 32473 }
-Mac ::= TEXTUAL-CONVENTION DISPLAY-HINT \"1x:\" STATUS current
-  DESCRIPTION \"An address.\" SYNTAX OCTET STRING (SIZE (6))
-tinyState OBJECT-TYPE SYNTAX INTEGER { up(1), down(2) } MAX-ACCESS read-only
-  STATUS current DESCRIPTION \"State.\" ::= { tiny 1 }
-tinyTable OBJECT-TYPE SYNTAX SEQUENCE OF TinyEntry MAX-ACCESS not-accessible
-  STATUS current DESCRIPTION \"Table.\" ::= { tiny 2 }
-tinyEntry OBJECT-TYPE SYNTAX TinyEntry MAX-ACCESS not-accessible
-  STATUS current DESCRIPTION \"Row.\" INDEX { tinyName } ::= { tinyTable 1 }
-TinyEntry ::= SEQUENCE { tinyName OCTET STRING, tinyMac Mac }
-tinyName OBJECT-TYPE SYNTAX OCTET STRING (SIZE (0..32)) MAX-ACCESS not-accessible
-  STATUS current DESCRIPTION \"Name.\" ::= { tinyEntry 1 }
-tinyMac OBJECT-TYPE SYNTAX Mac MAX-ACCESS read-only
-  STATUS current DESCRIPTION \"Address.\" ::= { tinyEntry 2 }
-tinyKeyTable OBJECT IDENTIFIER ::= { tiny 3 }
-tinyKeyEntry OBJECT-TYPE SYNTAX TinyKeyEntry MAX-ACCESS not-accessible
-  STATUS current DESCRIPTION \"Key row.\" INDEX { IMPLIED tinyName } ::= { tinyKeyTable 1 }
-TinyKeyEntry ::= SEQUENCE { tinyKeyUse Gauge32 }
-tinyKeyUse OBJECT-TYPE SYNTAX Gauge32 UNITS \"jobs\" MAX-ACCESS read-only
-  STATUS current DESCRIPTION \"Use.\" ::= { tinyKeyEntry 1 }
-loopA OBJECT IDENTIFIER ::= { loopB 1 }
-loopB OBJECT IDENTIFIER ::= { loopA 1 }
-END
-";
 
 const STATE: &str = "1.3.6.1.4.1.32473.1.0";
 
@@ -175,5 +142,28 @@ tinyState OBJECT-TYPE
 ::= { iso(1) 3 6 internet(1) private(4) enterprises(1) tiny(32473) 1 }
 ";
     assert!(rt; text.as_slice() == expected.as_bytes());
+    Ok(())
+}
+
+#[test]
+fn what_is_shown_is_read_back(rt: HostRuntime) -> Result<(), Fail> {
+    let tree = tiny(rt.alloc())?;
+    let mut text = Vec::new(rt.alloc());
+    for front in [
+        "1.3.6.1.4.1.32473",
+        "1.3.6.1.4.1.32473.2.1.2",
+        "1.3.6.1.4.1.32473.3.1.1",
+    ] {
+        let front = oid(front)?;
+        for seed in 0..1000 {
+            let name = random_oid(front.as_slice(), seed);
+            for letters in [b"S".as_slice(), b"Sb", b"n"] {
+                let letters = Letters::parse(letters).ok().ok_or("letters")?;
+                text.clear();
+                name_text(&tree, &letters, &name, &mut text)?;
+                assert!(rt; resolve(&tree, &text).is_ok_and(|found| found == name));
+            }
+        }
+    }
     Ok(())
 }

@@ -17,7 +17,8 @@ Near ::= TEXTUAL-CONVENTION DISPLAY-HINT \"1x:\" STATUS current DESCRIPTION \"\"
 NearSize ::= TEXTUAL-CONVENTION STATUS current DESCRIPTION \"\" SYNTAX Far (SIZE (4))
 On ::= Near
 Up ::= INTEGER { up(1), down(2) }
-Other ::= TEXTUAL-CONVENTION DISPLAY-HINT \"d-2\" STATUS current DESCRIPTION \"\" SYNTAX Up { left(1) }
+Other ::= TEXTUAL-CONVENTION DISPLAY-HINT \"d-2\" STATUS current DESCRIPTION \"\" \
+SYNTAX Up { left(1) }
 Ranged ::= Far (SIZE (0..32))
 Bound ::= Integer32 (5..9)
 Flags ::= BITS { a(0), b(1) }
@@ -26,7 +27,8 @@ B ::= A
 Self ::= Self
 Row ::= SEQUENCE { x INTEGER, y INTEGER }
 Choice ::= CHOICE { a b }
-Rows ::= TEXTUAL-CONVENTION DISPLAY-HINT \"d\" STATUS current DESCRIPTION \"\" SYNTAX SEQUENCE OF Row
+Rows ::= TEXTUAL-CONVENTION DISPLAY-HINT \"d\" STATUS current DESCRIPTION \"\" \
+SYNTAX SEQUENCE OF Row
 OnRow ::= Row
 Lost ::= Missing
 ";
@@ -38,7 +40,8 @@ Integer32 ::= BITS { no(0) }
 Plain ::= OCTET STRING
 END
 P DEFINITIONS ::= BEGIN IMPORTS Ring FROM N;
-Far ::= TEXTUAL-CONVENTION DISPLAY-HINT \"255a\" STATUS current DESCRIPTION \"\" SYNTAX Deep (SIZE (6))
+Far ::= TEXTUAL-CONVENTION DISPLAY-HINT \"255a\" STATUS current DESCRIPTION \"\" \
+SYNTAX Deep (SIZE (6))
 Deep ::= OCTET STRING (SIZE (0..255))
 END
 ";
