@@ -60,6 +60,11 @@ expect 0 '.1.0 = No Such Object available on this agent at this OID
 expect 0 'iso.3.6.1.4.1.32473.1.10.0 3
 ' '' snmpwalk -Oqs table:three.tab iso.3.6.1.4.1.32473.1.10
 expect 0 "$tiny" "$warnings" snmpwalk --mib tiny.txt table:tiny.tab tiny
+expect 0 'TINY-MIB::tinyState.0 = INTEGER: up(1)
+' "$warnings" snmpget --mib tiny.txt table:tiny.tab tinyState.0
+expect 0 "$e.1.10.0 = INTEGER: 3
+$e.1.3.0 = No Such Object available on this agent at this OID
+" '' snmpget -On table:three.tab $e.1.10.0 $e.1.3.0
 expect 0 "$three" '' snmpbulkwalk -On -Cr1 table:three.tab $e.1
 expect 0 "$three" '' snmpbulkwalk -On -Cr2147483647 --max-size 134 table:three.tab $e.1
 expect 0 "${three}Variables found: 3
@@ -99,6 +104,8 @@ expect 1 '' 'Bad agent address: table:
 ' snmpwalk -On table: .1
 expect 1 '' 'Name cannot be sent: .3
 ' snmpwalk -On table:three.tab .3
+expect 1 '' 'Name cannot be sent: .3
+' snmpget -On table:three.tab $e.1.1.0 .3
 target=/dev/full expect 1 '' 'The output failed.
 ' snmpwalk -On table:three.tab $e.1
 expect 1 '' 'No progress after .1.3.6.1.4.1.32473.1

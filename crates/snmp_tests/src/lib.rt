@@ -4,6 +4,8 @@
 #[cfg(test)]
 mod faults;
 #[cfg(test)]
+mod gets;
+#[cfg(test)]
 mod letters;
 #[cfg(test)]
 mod mibs;

@@ -250,3 +250,43 @@ fn an_error_output_that_fails_changes_nothing_else(rt: HostRuntime) -> Result<()
     }
     Ok(())
 }
+
+#[test]
+fn gets_by_module_files(rt: HostRuntime) -> Result<(), Fail> {
+    let (state, mac) = ("tinyState.0", "TINY-MIB::tinyMac.\"wes\"");
+    let words = [
+        "snmp",
+        "snmpget",
+        "--mib=tiny.txt",
+        "table:tiny.tab",
+        mac,
+        state,
+        "tinyState.1",
+    ];
+    let lines = b"TINY-MIB::tinyMac.\"wes\" = STRING: 0:16:3e:5a:78:8e\n\
+TINY-MIB::tinyState.0 = INTEGER: up(1)\n\
+TINY-MIB::tinyState.1 = No Such Instance currently exists at this OID\n";
+    assert!(rt; shows(&rt, &words, lines));
+    let (snmp, snmpget, mib, values) = ("snmp", "snmpget", "--mib=tiny.txt", "-Oqv");
+    let words = [snmp, snmpget, mib, values, "table:tiny.tab", state, mac];
+    assert!(rt; shows(&rt, &words, b"up\n0:16:3e:5a:78:8e\n"));
+    let words = [snmp, snmpget, mib, values, "table:no.tab", state, "loopA"];
+    assert!(rt; refuses(&rt, &words, &warned(&rt, b"Unknown name: loopA\n")?));
+    let words = [snmp, snmpget, mib, values, "table:no.tab", state, ".3"];
+    assert!(rt; refuses(&rt, &words, &warned(&rt, b"no.tab: cannot be read\n")?));
+    let words = [snmp, snmpget, mib, values, "table:tiny.tab", state, ".3"];
+    assert!(rt; refuses(&rt, &words, &warned(&rt, b"Name cannot be sent: .3\n")?));
+    let words = [
+        snmp,
+        snmpget,
+        "--mib=bad.txt",
+        values,
+        "table:no.tab",
+        "loopA",
+        ".3",
+    ];
+    assert!(rt; refuses(&rt, &words, b"bad.txt:3: syntax\n"));
+    let words = [snmp, snmpget, mib, "-Oz", "table:no.tab", "loopA", ".3"];
+    assert!(rt; refuses(&rt, &words, b"Unknown letter: z\n"));
+    Ok(())
+}

@@ -36,10 +36,10 @@ pub refused_all : (bulk : Bool) (words : WalkWords) (files : Holdings) (before a
 refused_all bulk words files before after rows walk e = let no : ⊥ = cc in absurd no
 
 -- the status is 1, and the output failed, or that memory ran out was reported after the warnings
-abbrev Stops : (before after warned err_after : Stream) → ℕ → Type 0
+abbrev pub Stops : (before after warned err_after : Stream) → ℕ → Type 0
 Stops before after warned err_after status = (status ≡ 1) × (HasRisen before.faults after.faults ⊎ IsWritten warned (codes "Out of memory.\n") err_after)
 
-mishap : (warnings : List Warning) (before after err_before warned err_after : Stream) (status : ℕ)
+pub mishap : (warnings : List Warning) (before after err_before warned err_after : Stream) (status : ℕ)
     → (warned ≡ err_before) ⊎ IsWritten err_before (warning_lines warnings) warned
     → (status ≡ 0) ⊎ Stops before after warned err_after status → (status ≡ 0) ⊎ IsMishap warnings before after err_before err_after status
 mishap warnings before after err_before warned err_after status lines (inl zero_status) = inl zero_status
@@ -50,13 +50,13 @@ pub refused_end : (bulk : Bool) (words : WalkWords) (files : Holdings) (before a
     → IsWritten err_before (codes "Out of memory.\n") err_after → EndsAtStatus0 bulk words files before after err_before err_after 1
 refused_end bulk words files before after err_before err_after told rows walk can = inr (refl, inr (err_before, told, inl refl))
 
-line_told : (why : Fault) (before after err_before err_after : Stream) (status : ℕ) → status_of why ≡ 1 → message_of why ≡ codes "Out of memory."
+pub line_told : (why : Fault) (before after err_before err_after : Stream) (status : ℕ) → status_of why ≡ 1 → message_of why ≡ codes "Out of memory."
     → IsReported (Some why) err_before err_after status → Stops before after err_before err_after status
 line_told why before after err_before err_after status one text (s, inl h) =
     (s ∙ one, inr (subst (λ (t : List ℕ). IsWritten err_before t err_after) (ap (λ (t : List ℕ). t ++ codes "\n") text) h))
 line_told why before after err_before err_after status one text (s, inr h) = (s ∙ one, inr h)
 
-want_told : (why : Fault) (before after err_before err_after : Stream) (status : ℕ) → IsWant why → IsReported (Some why) err_before err_after status
+pub want_told : (why : Fault) (before after err_before err_after : Stream) (status : ℕ) → IsWant why → IsReported (Some why) err_before err_after status
     → Stops before after err_before err_after status
 want_told why before after err_before err_after status (plain_want e) told =
     line_told out_of_memory before after err_before err_after status refl refl (subst (λ (w : Fault). IsReported (Some w) err_before err_after status) e told)

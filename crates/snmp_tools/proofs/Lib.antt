@@ -1,3 +1,9 @@
+pub mod GetFacts
+pub mod GetHeadlines
+pub mod GetNames
+pub mod GetSteps
+pub mod GetWants
+pub mod GetWholes
 pub mod Headlines
 pub mod LetterLemmas
 pub mod Outcomes

@@ -41,7 +41,7 @@ all_front : (mib : Mib) (letters : Letters) (before after : Stream) (rows turned
 all_front mib letters before after rows turned h = (rows, turned, h.0, refl, h.1, whole_taken before after h.0 h.2)
 
 -- the lines of what was given, and a front of the next
-printed_front : (mib : Mib) (letters : Letters) (before after : Stream) (rows turned : List VarBind) (end : WalkEnd)
+pub printed_front : (mib : Mib) (letters : Letters) (before after : Stream) (rows turned : List VarBind) (end : WalkEnd)
     → IsPrintedUpTo mib letters before rows turned end after → IsFront mib letters (rows ++ turned) before after
 printed_front mib letters before after rows turned (ending.Sink sink.Output) h = (
   rows ++ turned,

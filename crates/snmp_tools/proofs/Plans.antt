@@ -95,10 +95,10 @@ one_choice read a b e f = cc
 no_choice : (read : Result Choices ℕ) (a : Choices) (octet : ℕ) → read ≡ Ok a → read ≡ Err octet → ⊥
 no_choice read a octet e f = cc
 
-one_name : (read : Result (List ℕ) NameError) (a b : List ℕ) → read ≡ Ok a → read ≡ Ok b → a ≡ b
+pub one_name : (read : Result (List ℕ) NameError) (a b : List ℕ) → read ≡ Ok a → read ≡ Ok b → a ≡ b
 one_name read a b e f = cc
 
-no_name : (read : Result (List ℕ) NameError) (a : List ℕ) (error : NameError) → read ≡ Ok a → read ≡ Err error → ⊥
+pub no_name : (read : Result (List ℕ) NameError) (a : List ℕ) (error : NameError) → read ≡ Ok a → read ≡ Err error → ⊥
 no_name read a error e f = cc
 
 one_after : (mib : Mib) (text a b : Option (List ℕ)) → IsNameIfGiven mib text a → IsNameIfGiven mib text b → a ≡ b
@@ -120,7 +120,7 @@ pub data IsWant (why : Fault) : Type 0 where
   plain_want : why ≡ out_of_memory → IsWant why
   table_want : (path : List ℕ) → why ≡ bad_table path table_error.Memory → IsWant why
 
-other_way : (n m : ℕ) → n < m → m ≤ n → ⊥
+pub other_way : (n m : ℕ) → n < m → m ≤ n → ⊥
 other_way n m low high = omega (arith, low, high)
 
 name_stands : (mib : Mib) (text o : List ℕ) (why : Fault) → meaning mib.naming text ≡ Ok o → NameFails mib text why → ⊥

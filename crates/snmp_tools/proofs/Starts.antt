@@ -1,17 +1,25 @@
 -- What a walk that was refused after its plan was made tells of its words.
 use Rattle.std.proofs.Common.{◌≡◌, inl, inr, ℕ, Bool, List, [], Option, Some, None, Ok, unwrap_or, refl, ◌∙◌, ap}
+use Rattle.smi_files.specs.Loaded.{IsLoaded}
 use Rattle.smi_name.specs.Meaning.{meaning}
+use Rattle.smi_tree.specs.Tree.{Contents}
+use Rattle.snmp_io.specs.Output.{Stream}
 use Rattle.snmp_words.specs.Words.{WalkWords}
 use Rattle.snmp_net.specs.Address.{address_of}
 use Rattle.snmp_tools.specs.Asking.{HasAgent, IsNameIfGiven, IsReached, ReachFails}
 use Rattle.snmp_tools.specs.Message.{Fault}
-use Rattle.snmp_tools.specs.Mib.{Holdings, IsMibOf, MayHold, Mib}
+use Rattle.snmp_tools.specs.Mib.{AreLoaded, Holdings, IsMibOf, MayHold, Mib, mib_of}
 use Rattle.snmp_tools.specs.Plan.{AskFor, IsAfterOf, IsLateRefusal, IsRootOf, Plan, root_text}
 use Rattle.snmp_tools.specs.Chosen.{chosen}
 use Rattle.snmp_tools.specs.Planned.{AreOrdersOf, NamesFail}
 use Rattle.snmp_tools.specs.declared.plan.Orders.{Orders}
 use Rattle.snmp_tools.specs.Start.{ResumeFails, StartFails}
 use Rattle.snmp_tools.proofs.Steps.{at_after, at_after_below, at_after_sent, at_reach, at_root, at_root_sent}
+
+-- what a load tells of the tree
+pub are_loaded : (files : Holdings) (paths : List (List ℕ)) (tree : Contents) (before after : Stream) (is : IsLoaded (MayHold files) paths tree before after)
+    → AreLoaded (MayHold files) paths (mib_of tree) is.warnings
+are_loaded files paths tree before after is = record { modules = is.modules; read = is.read; tree = tree; loads = is.loads; is = refl }
 
 -- the name to go on after, where a plan has one
 given_after : (mib : Mib) (given : Option (List ℕ)) (planned : Option (List ℕ)) (after : List ℕ) → IsNameIfGiven mib given planned → planned ≡ Some after

@@ -18,7 +18,7 @@ use Rattle.snmp_tools.specs.Mib.{Mib}
 use Rattle.snmp_tools.specs.Plan.{Plan}
 use Rattle.snmp_tools.specs.Start.{IsStartOf, rows_after}
 
-own_end : (end : WalkEnd) → IsDoneOrStopped end → IsOwnEnd (end_in_memory end)
+pub own_end : (end : WalkEnd) → IsDoneOrStopped end → IsOwnEnd (end_in_memory end)
 own_end (ending.Done n) s = tt
 own_end (ending.Sink fault) s = tt
 own_end ending.Link s = tt
@@ -58,7 +58,7 @@ printed_in mib letters before after rows refused ending.TooManyRequests h = h
 printed_in mib letters before after rows refused ending.RequestTooLong h = h
 printed_in mib letters before after rows refused ending.NoResponse h = h
 
-done_in : (end : WalkEnd) → IsDone (end_in_memory end) → IsDone end
+pub done_in : (end : WalkEnd) → IsDone (end_in_memory end) → IsDone end
 done_in (ending.Done n) h = h
 done_in (ending.Sink fault) h = h
 done_in ending.Link h = h
@@ -70,7 +70,7 @@ done_in ending.TooManyRequests h = h
 done_in ending.RequestTooLong h = h
 done_in ending.NoResponse h = h
 
-no_link : (end : WalkEnd) → end_in_memory end ≡ ending.Link → ⊥
+pub no_link : (end : WalkEnd) → end_in_memory end ≡ ending.Link → ⊥
 no_link (ending.Done n) h = cc
 no_link (ending.Sink fault) h = cc
 no_link ending.Link h = cc

@@ -1,5 +1,9 @@
 pub mod Asking
 pub mod Chosen
+pub mod Get
+pub mod GetHeadline
+pub mod GetPlanned
+pub mod Got
 pub mod Headline
 pub mod Letters
 pub mod Lines

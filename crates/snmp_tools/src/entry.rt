@@ -2,8 +2,12 @@
 ghost use Rattle.std.specs.Prelude.{◌≡◌, Bool, Some, true};
 ghost use Rattle.snmp_words.specs.Command.{is_taken};
 ghost use Rattle.snmp_serve.specs.Outcome.{AtDoor};
-ghost use Rattle.snmp_words.specs.Words.{AreFaulty, ServeWords, WalkWords, snmpd, stated_job};
+ghost use Rattle.snmp_words.specs.Words.{AreFaulty, GetWords, ServeWords, WalkWords, snmpd};
+ghost use Rattle.snmp_words.specs.Words.{snmpget, stated_job};
 ghost use Rattle.snmp_tools.specs.Serving.{IsServeRun, risen};
+ghost use Rattle.snmp_tools.specs.GetHeadline.{GetEndsAtStatus0, GetWritesAllAtStatus0};
+ghost use Rattle.snmp_tools.specs.GetHeadline.{GetWritesFront};
+ghost use Rattle.snmp_tools.specs.Got.{HasGetFacts, IsGetRun};
 ghost use Rattle.snmp_tools.specs.Headline.{EndsAtStatus0, WritesAllAtStatus0, WritesFront};
 ghost use Rattle.snmp_tools.specs.Outcome.{HasLinkFacts, IsRun};
 ghost use Rattle.snmp_tools.specs.Planned.{walk_stated};
@@ -45,6 +49,22 @@ pub fn tool<F: Files, L: Links, O: Output, E: Output>(
     ensures ends_at_status_0 { (bulk : Bool) (w : WalkWords) → is_taken (texts words.now) ≡ true
         → stated_job (texts words.now) ≡ Some (walk_stated bulk w)
         → EndsAtStatus0 bulk w (F.text_at files.now)
+        (O.stream out.old) (O.stream out.new) (E.stream err.old) (E.stream err.new) result }
+    ensures get_reported { (w : GetWords) → is_taken (texts words.now) ≡ true
+        → stated_job (texts words.now) ≡ Some (snmpget w)
+        → IsGetRun (HasGetFacts (L.opens links.old) L.Wire.honest L.Wire.agents L.Wire.traffic)
+        w (F.text_at files.now) (O.stream out.old) (O.stream out.new)
+        (E.stream err.old) (E.stream err.new) result }
+    ensures get_front_written { (w : GetWords) → is_taken (texts words.now) ≡ true
+        → stated_job (texts words.now) ≡ Some (snmpget w)
+        → GetWritesFront w (F.text_at files.now) (O.stream out.old) (O.stream out.new) }
+    ensures get_all_written_at_status_0 { (w : GetWords) → is_taken (texts words.now) ≡ true
+        → stated_job (texts words.now) ≡ Some (snmpget w)
+        → GetWritesAllAtStatus0 w (F.text_at files.now)
+        (O.stream out.old) (O.stream out.new) result }
+    ensures get_ends_at_status_0 { (w : GetWords) → is_taken (texts words.now) ≡ true
+        → stated_job (texts words.now) ≡ Some (snmpget w)
+        → GetEndsAtStatus0 w (F.text_at files.now)
         (O.stream out.old) (O.stream out.new) (E.stream err.old) (E.stream err.new) result }
     ensures served { (w : ServeWords) → is_taken (texts words.now) ≡ true
         → stated_job (texts words.now) ≡ Some (snmpd w)

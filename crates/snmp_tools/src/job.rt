@@ -2,7 +2,11 @@
 ghost use Rattle.std.specs.Prelude.{◌≡◌, ◌++◌, Bool, codes, IfOk, Some};
 ghost use Rattle.snmp_io.specs.Output.{IsWritten};
 ghost use Rattle.snmp_serve.specs.Outcome.{AtDoor};
-ghost use Rattle.snmp_words.specs.Words.{ServeWords, WalkWords, job_words, snmpd, walk_words};
+ghost use Rattle.snmp_words.specs.Words.{GetWords, ServeWords, WalkWords, job_words, snmpd};
+ghost use Rattle.snmp_words.specs.Words.{snmpget, walk_words};
+ghost use Rattle.snmp_tools.specs.GetHeadline.{GetEndsAtStatus0, GetWritesAllAtStatus0};
+ghost use Rattle.snmp_tools.specs.GetHeadline.{GetWritesFront};
+ghost use Rattle.snmp_tools.specs.Got.{HasGetFacts, IsGetRun};
 ghost use Rattle.snmp_tools.specs.Headline.{EndsAtStatus0, WritesAllAtStatus0, WritesFront};
 ghost use Rattle.snmp_tools.specs.Message.{fault_of, message_of};
 ghost use Rattle.snmp_tools.specs.Outcome.{HasLinkFacts, IsReported, IsRun};
@@ -10,6 +14,7 @@ ghost use Rattle.snmp_tools.specs.Planned.{IsWalkJob};
 ghost use Rattle.snmp_tools.specs.Serving.{IsServeRun, risen};
 
 use crate::failure::Failure;
+use crate::get::do_get;
 use crate::serve::do_serve;
 use crate::walk::walk_lines;
 use smi_files::one_list_of_modules;
@@ -47,6 +52,19 @@ pub fn run_job<F: Files, L: Links, O: Output, E: Output>(
     ensures ends_at_status_0 { (bulk : Bool) (words : WalkWords) → IsWalkJob job.now bulk words
         → EndsAtStatus0 bulk words (F.text_at files.now)
         (O.stream out.old) (O.stream out.new) (E.stream err.old) (E.stream err.new) result }
+    ensures get_reported { (words : GetWords) → job_words job.now ≡ snmpget words
+        → IsGetRun (HasGetFacts (L.opens links.old) L.Wire.honest L.Wire.agents L.Wire.traffic)
+        words (F.text_at files.now) (O.stream out.old) (O.stream out.new)
+        (E.stream err.old) (E.stream err.new) result }
+    ensures get_front_written { (words : GetWords) → job_words job.now ≡ snmpget words
+        → GetWritesFront words (F.text_at files.now) (O.stream out.old) (O.stream out.new) }
+    ensures get_all_written_at_status_0 { (words : GetWords)
+        → job_words job.now ≡ snmpget words
+        → GetWritesAllAtStatus0 words (F.text_at files.now)
+        (O.stream out.old) (O.stream out.new) result }
+    ensures get_ends_at_status_0 { (words : GetWords) → job_words job.now ≡ snmpget words
+        → GetEndsAtStatus0 words (F.text_at files.now)
+        (O.stream out.old) (O.stream out.new) (E.stream err.old) (E.stream err.new) result }
     ensures served { (words : ServeWords) → job_words job.now ≡ snmpd words
         → IsServeRun (AtDoor L.serves) (risen (L.fault_count links.old) (L.fault_count links.new))
         words (F.text_at files.now) (O.stream out.old) (O.stream out.new)
@@ -57,7 +75,8 @@ pub fn run_job<F: Files, L: Links, O: Output, E: Output>(
     one_list_of_modules();
     one_tree();
     match job {
-        Job::Translate(_) | Job::Get(_) => 1,
+        Job::Translate(_) => 1,
+        Job::Get(get) => do_get(alloc, get, files, links, out, err),
         Job::Walk(walk) => do_walk(alloc, walk, false, files, links, out, err),
         Job::BulkWalk(walk) => do_walk(alloc, walk, true, files, links, out, err),
         Job::Serve(serve) => do_serve(alloc, serve, files, links, out, err),

@@ -109,8 +109,8 @@ impl<'a> Plan<'a> {
 /// The root of a walk where no name is given: `mib-2` (RFC 1213).
 pub(crate) const MIB_2: &str = "1.3.6.1.2.1";
 
-// What the version and the letters of `-O` say: how lines are shown.
-fn read_shown<'a>(asking: &Asking<'a>) -> Result<Letters, Failure<'a>>
+/// What the version and the letters of `-O` say: how lines are shown.
+pub(crate) fn read_shown<'a>(asking: &Asking<'a>) -> Result<Letters, Failure<'a>>
     ensures version { IfOk result (λ _. asking.now.protocol.now ≡ codes "2c") }
     ensures letters { IfOk result (AreShown (string_bytes asking.now.letters)) }
     ensures err { IfErr result (λ e. ShowingFails (asking_words asking.now) (fault_of e)) }
@@ -124,8 +124,8 @@ fn read_shown<'a>(asking: &Asking<'a>) -> Result<Letters, Failure<'a>>
     }
 }
 
-// What the community and the agent's word say: where the agent is.
-fn read_agent<'a>(asking: &Asking<'a>) -> Result<AgentAddress<'a>, Failure<'a>>
+/// What the community and the agent's word say: where the agent is.
+pub(crate) fn read_agent<'a>(asking: &Asking<'a>) -> Result<AgentAddress<'a>, Failure<'a>>
     ensures community { IfOk result (λ _. length asking.now.community.now ≤ 255) }
     ensures agent { IfOk result (λ agent. HasAgent asking.now.agent.now (address_of agent)) }
     ensures err { IfErr result (λ e. AgentFails (asking_words asking.now) (fault_of e)) }
@@ -146,8 +146,8 @@ fn is_2c(word: &str) -> bool
     word == "2c"
 }
 
-// The name that a text states.
-fn name<'a, T: NameTree>(tree: &T, text: &'a str) -> Result<Oid, Failure<'a>>
+/// The name that a text states.
+pub(crate) fn name<'a, T: NameTree>(tree: &T, text: &'a str) -> Result<Oid, Failure<'a>>
     ensures ok { IfOk result (λ o. meaning (T.naming tree.now) text.entry.now ≡ Ok o) }
     ensures err { (mib : Mib) → mib.naming ≡ T.naming tree.now
         → IfErr result (λ e. NameFails mib text.entry.now (fault_of e)) }

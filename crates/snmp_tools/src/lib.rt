@@ -7,10 +7,12 @@
 mod choices;
 mod entry;
 mod failure;
+mod get;
 mod job;
 mod judge;
 mod letters;
 mod lines;
+mod names;
 mod plan;
 mod serve;
 mod start;
@@ -21,4 +23,4 @@ pub use failure::Failure;
 pub use job::run_job;
 pub use snmp_io::{FileFault, Files, Output, OutputFault};
 pub use snmp_net::Links;
-pub use snmp_words::{Asking, Job, ServeJob, UsageError, WalkJob, read_words};
+pub use snmp_words::{Asking, GetJob, Job, ServeJob, UsageError, WalkJob, read_words};

@@ -1,17 +1,23 @@
-//! Lines on an output: one for each binding of a walk, as it comes, and the count after them.
-ghost use Rattle.std.specs.Prelude.{◌≡◌, ◌+◌, ◌++◌, ◌∷◌, List, OnOk, [], length};
+//! Lines on an output: one for each binding of a walk or a Get, as it comes, and the count after
+//! them.
+ghost use Rattle.std.specs.Prelude.{◌≡◌, ◌≤◌, ◌+◌, ◌++◌, ◌∷◌, All, List, OnOk, [], length};
+ghost use Rattle.snmp_oid.specs.Identifier.{IsWire, wire};
 ghost use Rattle.text_draft.specs.Draft.{Adds};
 ghost use Rattle.snmp_wire.specs.Message.{VarBind};
 ghost use Rattle.snmp_walk.specs.Facts.{IsFresh, WalkFacts};
+ghost use Rattle.snmp_walk.specs.Get.{get_request};
 ghost use Rattle.snmp_walk.specs.Standing.{CountsAll, IsPartOfWalk, Named, Rises};
 ghost use Rattle.snmp_walk.specs.Walk.{AreRising};
 ghost use Rattle.snmp_io.specs.Count.{HasRisen};
+ghost use Rattle.snmp_tools.specs.Got.{AreForNames, AreFromAgents};
 ghost use Rattle.snmp_tools.specs.Lines.{ArePrinted, TakesText, count_line};
 ghost use Rattle.snmp_tools.specs.Planned.{mib_in};
 
+use crate::start::FIRST_ID;
 use smi_show::{Letters, ShowTree, line};
 use snmp_io::{Output, OutputFault, write_all};
-use snmp_walk::{Link, Sink, SinkFault, WalkCore, WalkEnd, run_walk};
+use snmp_oid::Oid;
+use snmp_walk::{Link, Sink, SinkFault, WalkCore, WalkEnd, run_get, run_walk};
 use snmp_wire::Binding;
 use std::alloc::AllocError;
 use text_draft::Draft;
@@ -50,12 +56,15 @@ impl<T: ShowTree, O: Output> Sink for Printer<'_, T, O> {
 }
 
 impl<T: ShowTree, O: Output> Printer<'_, T, O> {
-    ghost use Rattle.std.specs.Prelude.{◌≡◌, ◌+◌, ◌++◌, [], List};
+    ghost use Rattle.std.specs.Prelude.{◌≡◌, ◌≤◌, ◌+◌, ◌++◌, [], All, List, length};
+    ghost use Rattle.snmp_oid.specs.Identifier.{IsWire, wire};
     ghost use Rattle.snmp_wire.specs.Message.{VarBind};
     ghost use Rattle.snmp_walk.specs.Facts.{IsFresh, WalkFacts};
+    ghost use Rattle.snmp_walk.specs.Get.{get_request};
     ghost use Rattle.snmp_walk.specs.Standing.{CountsAll, IsPartOfWalk, Named, Rises};
     ghost use Rattle.snmp_walk.specs.Walk.{AreRising};
     ghost use Rattle.snmp_io.specs.Count.{HasRisen};
+    ghost use Rattle.snmp_tools.specs.Got.{AreForNames, AreFromAgents};
     ghost use Rattle.snmp_tools.specs.Lines.{ArePrinted};
     ghost use Rattle.snmp_tools.specs.Planned.{mib_in};
 
@@ -75,6 +84,35 @@ impl<T: ShowTree, O: Output> Printer<'_, T, O> {
             → HasRisen (L.fault_count link.old) (L.fault_count link.new) }
     {
         run_walk(link, core, retries, self)
+    }
+
+    // Runs a Get of names whose bindings become lines. Where there are no names, nothing is asked.
+    fn print_got<L: Link>(
+        &mut self,
+        link: &mut L,
+        names: &[Oid],
+        community: &[u8],
+        retries: u32,
+    ) -> WalkEnd
+        requires wire { All (λ o. IsWire (wire o)) names.now }
+        requires community { length community.now ≤ 255 }
+        ensures same_output { self.new.out.ghost_name ≡ self.old.out.ghost_name }
+        ensures printed { ArePrinted
+            (mib_in (T.naming self.old.tree.now) (T.syntax_at self.old.tree.now)) self.old.letters
+            (O.stream self.old.out.now) (O.stream self.new.out.now) result
+            (λ given refused.
+            AreForNames (get_request community.now 1 names.now) names.now given refused result
+            × (L.honest link.old → (L.traffic link.old).sent ≡ []
+            → AreFromAgents (L.agents link.old) (retries + 1) (L.traffic link.old)
+            (get_request community.now 1 names.now) names.now given refused result
+            (L.traffic link.new))) }
+        ensures fault { result ≡ WalkEnd.Link
+            → HasRisen (L.fault_count link.old) (L.fault_count link.new) }
+    {
+        if names.is_empty() {
+            return WalkEnd::Done(0);
+        }
+        run_get(link, names, community, FIRST_ID, retries, self)
     }
 }
 
@@ -106,6 +144,40 @@ pub(crate) fn print_walk<T: ShowTree, L: Link, O: Output>(
         out,
     };
     printer.print(link, core, retries)
+}
+
+/// Runs a Get of names whose bindings become lines on the output. `text` is the memory for a line.
+/// Where there are no names, nothing is asked.
+pub(crate) fn print_get<T: ShowTree, L: Link, O: Output>(
+    link: &mut L,
+    names: &[Oid],
+    community: &[u8],
+    retries: u32,
+    tree: &T,
+    letters: Letters,
+    text: &mut Vec<u8>,
+    out: &mut O,
+) -> WalkEnd
+    requires wire { All (λ o. IsWire (wire o)) names.now }
+    requires community { length community.now ≤ 255 }
+    ensures printed { ArePrinted (mib_in (T.naming tree.now) (T.syntax_at tree.now)) letters
+        (O.stream out.old) (O.stream out.new) result
+        (λ given refused.
+        AreForNames (get_request community.now 1 names.now) names.now given refused result
+        × (L.honest link.old → (L.traffic link.old).sent ≡ []
+        → AreFromAgents (L.agents link.old) (retries + 1) (L.traffic link.old)
+        (get_request community.now 1 names.now) names.now given refused result
+        (L.traffic link.new))) }
+    ensures fault { result ≡ WalkEnd.Link
+        → HasRisen (L.fault_count link.old) (L.fault_count link.new) }
+{
+    let mut printer = Printer {
+        tree,
+        letters,
+        text,
+        out,
+    };
+    printer.print_got(link, names, community, retries)
 }
 
 /// Prints the number of bindings that were found. `text` is the memory for the line.

@@ -1,4 +1,4 @@
-//! The plan of a walk: what its words ask for.
+//! The plan of a walk, or of a Get: what its words ask for.
 ghost use Rattle.std.specs.Prelude.{◌≤◌, length};
 
 use crate::choices::Choices;
@@ -46,6 +46,24 @@ pub(crate) struct Plan<'a> {
     pub(crate) method: Method,
     /// Whether the number of bindings is printed after them.
     pub(crate) counts: bool,
+    ghost short_community: { length community.now ≤ 255 },
+    ghost some_size: { 1 ≤ max_size },
+    ghost datagram_size: { max_size ≤ 65507 },
+}
+
+/// A Get.
+#[derive(Debug, Drop)]
+pub(crate) struct GetPlan<'a> {
+    /// Where the agent is.
+    pub(crate) agent: AgentAddress<'a>,
+    /// The community of the request and of the agent.
+    pub(crate) community: &'a [u8],
+    /// The greatest size of the agent's messages, in octets.
+    pub(crate) max_size: usize,
+    /// How its lines are shown.
+    pub(crate) letters: Letters,
+    /// The names, in order.
+    pub(crate) names: Vec<Oid>,
     ghost short_community: { length community.now ≤ 255 },
     ghost some_size: { 1 ≤ max_size },
     ghost datagram_size: { max_size ≤ 65507 },

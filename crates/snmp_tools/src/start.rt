@@ -19,7 +19,7 @@ use snmp_oid::Oid;
 use snmp_walk::WalkCore;
 
 /// The id of the first request.
-const FIRST_ID: u32 = 1;
+pub(crate) const FIRST_ID: u32 = 1;
 
 /// The walk of a plan before its first request. The texts are those of its root and of the name to
 /// go on after.

@@ -272,8 +272,8 @@ fn print_plan<'a, T: ShowTree, O: Output>(
     )
 }
 
-// How a walk over a link in memory ended: such a link fails only where memory runs out.
-fn end_in_memory(end: WalkEnd) -> WalkEnd
+/// How a walk over a link in memory ended: such a link fails only where memory runs out.
+pub(crate) fn end_in_memory(end: WalkEnd) -> WalkEnd
     ensures { result ≡ end_in_memory end }
 {
     match end {
@@ -306,8 +306,12 @@ fn finish<'a, O: Output>(
     }
 }
 
-// The table that the file at this path states.
-fn table_at<'a, F: Files>(alloc: Global, files: &F, path: &'a str) -> Result<Table, Failure<'a>>
+/// The table that the file at this path states.
+pub(crate) fn table_at<'a, F: Files>(
+    alloc: Global,
+    files: &F,
+    path: &'a str,
+) -> Result<Table, Failure<'a>>
     ensures table { IfOk result (HasTable (F.text_at files.now) path.now) }
     ensures err { IfErr result (λ e. (fault_of e ≡ out_of_memory)
         ⊎ TableFails (F.text_at files.now path.now) path.now (fault_of e)) }

@@ -2,8 +2,10 @@ use Rattle.std.proofs.Common.{◌≡◌, refl, inl, inr, Option, Some}
 use Rattle.snmp_serve.specs.Fault.{no_memory}
 use Rattle.snmp_serve.specs.Outcome as serve
 use Rattle.snmp_words.specs.Words.{Stated}
+use Rattle.snmp_tools.specs.Got as got
 use Rattle.snmp_tools.specs.Message.{out_of_memory}
 use Rattle.snmp_tools.specs.Outcome.{not_loaded}
+use Rattle.snmp_tools.proofs.GetHeadlines.{get_refused_end, get_refused_front}
 use Rattle.snmp_tools.proofs.Headlines.{refused_end, refused_front}
 use Rattle.snmp_tools.proofs.entry.tool.Goals as goal
 
@@ -28,6 +30,29 @@ returns-in-Err-Memory-clause-outcome_reported g c = λ bulk w taken stated. reco
 pub returns-in-Err-Memory-clause-front_written : goal.returns-in-Err-Memory-clause-front_written
 returns-in-Err-Memory-clause-front_written g c = λ bulk w taken stated. refused_front bulk w (g.F.Files.text_at c.args.files.now)
     (g.O.Output.stream c.args.out.now)
+
+pub returns-in-Ok-clause-get_ends_at_status_0 : goal.returns-in-Ok-clause-get_ends_at_status_0
+returns-in-Ok-clause-get_ends_at_status_0 g c = λ w taken stated. c.run_job.ensures.get_ends_at_status_0 w (one_job _ _ _ c.in-Ok.ensures.job stated)
+
+pub returns-in-Ok-clause-get_all_written_at_status_0 : goal.returns-in-Ok-clause-get_all_written_at_status_0
+returns-in-Ok-clause-get_all_written_at_status_0 g c = λ w taken stated.
+    c.run_job.ensures.get_all_written_at_status_0 w (one_job _ _ _ c.in-Ok.ensures.job stated)
+
+pub returns-in-Err-Memory-clause-get_reported : goal.returns-in-Err-Memory-clause-get_reported
+returns-in-Err-Memory-clause-get_reported g c = λ w taken stated. record {
+  fault = Some out_of_memory;
+  warned = g.E.Output.stream c.args.err.now;
+  outcome = got.not_loaded out_of_memory (inl refl) refl refl refl;
+  reported = (refl, inr c.tell-in-Err-Memory.ensures);
+}
+
+pub returns-in-Err-Memory-clause-get_front_written : goal.returns-in-Err-Memory-clause-get_front_written
+returns-in-Err-Memory-clause-get_front_written g c = λ w taken stated.
+    get_refused_front w (g.F.Files.text_at c.args.files.now) (g.O.Output.stream c.args.out.now)
+
+pub returns-in-Err-Memory-clause-get_ends_at_status_0 : goal.returns-in-Err-Memory-clause-get_ends_at_status_0
+returns-in-Err-Memory-clause-get_ends_at_status_0 g c = λ w taken stated.
+    get_refused_end w (g.F.Files.text_at c.args.files.now) _ _ _ _ c.tell-in-Err-Memory.ensures
 
 pub returns-in-Err-Memory-clause-ends_at_status_0 : goal.returns-in-Err-Memory-clause-ends_at_status_0
 returns-in-Err-Memory-clause-ends_at_status_0 g c = λ bulk w taken stated. refused_end bulk w (g.F.Files.text_at c.args.files.now)

@@ -1,24 +1,18 @@
 use Rattle.std.proofs.Common.{◌≡◌, ◌⊎◌, inl, inr, refl, ℕ, List, Bool, Some, None}
 use Rattle.std.proofs.lemmas.Result.{IfErr-weaker, on_ok_weaker}
-use Rattle.smi_files.specs.Loaded.{IsLoaded}
-use Rattle.smi_tree.specs.Tree.{Contents}
-use Rattle.snmp_io.specs.Output.{Stream}
 use Rattle.snmp_net.specs.Address.{address_of}
 use Rattle.snmp_words.specs.Words.{WalkWords, walk_words}
 use Rattle.snmp_tools.specs.Asking.{MibsFail}
 use Rattle.snmp_tools.specs.Chosen.{chosen}
 use Rattle.snmp_tools.specs.Message.{Fault, fault_of, out_of_memory}
-use Rattle.snmp_tools.specs.Mib.{AreLoaded, Holdings, MayHold, mib_of}
+use Rattle.snmp_tools.specs.Mib.{Holdings}
 use Rattle.snmp_tools.specs.Outcome.{loaded, not_loaded}
 use Rattle.snmp_tools.specs.Plan.{IsEarlyRefusal}
 use Rattle.snmp_tools.specs.Planned.{AreOrdersOf}
 use Rattle.snmp_tools.specs.declared.plan.Orders.{Orders}
+use Rattle.snmp_tools.proofs.Starts.{are_loaded}
 use Rattle.snmp_tools.proofs.Steps.{at_mibs}
 use Rattle.snmp_tools.proofs.walk.walk_lines.Goals as goal
-
-are_loaded : (files : Holdings) (paths : List (List ℕ)) (tree : Contents) (before after : Stream) (is : IsLoaded (MayHold files) paths tree before after)
-    → AreLoaded (MayHold files) paths (mib_of tree) is.warnings
-are_loaded files paths tree before after is = record { modules = is.modules; read = is.read; tree = tree; loads = is.loads; is = refl }
 
 early : (bulk : Bool) (words : WalkWords) (files : Holdings) (orders : Orders) (why : Fault) → AreOrdersOf bulk words orders
     → (why ≡ out_of_memory) ⊎ MibsFail files words.asking.mibs why → IsEarlyRefusal bulk words files why

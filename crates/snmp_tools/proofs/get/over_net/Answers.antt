@@ -1,0 +1,67 @@
+use Rattle.std.proofs.Common.{ℕ, Bor, List, inr, refl, sym, subst}
+use Rattle.std.proofs.lemmas.Result.{IfErr-weaker, on_ok_weaker}
+use Rattle.snmp_net.specs.Address.{Address}
+use Rattle.snmp_words.specs.Words.{get_words, texts_at}
+use Rattle.snmp_walk.specs.declared.end.WalkEnd.TheVariants as ending
+use Rattle.snmp_tools.specs.Asking.{IsReached, ReachFails}
+use Rattle.snmp_tools.specs.Get.{HasSendable, HasUnsendable}
+use Rattle.snmp_tools.specs.GetPlanned.{get_plan_of}
+use Rattle.snmp_tools.specs.Got.{got_over, not_asked}
+use Rattle.snmp_tools.specs.Message.{Fault, ended, fault_of}
+use Rattle.snmp_tools.specs.Planned.{mib_in}
+use Rattle.snmp_tools.specs.Steps.{IsFirstToFail}
+use Rattle.snmp_tools.proofs.GetNames.{same_texts}
+use Rattle.snmp_tools.proofs.GetSteps.{unreached, unsent}
+use Rattle.snmp_tools.proofs.GetWholes.{with_get_facts}
+use Rattle.snmp_tools.proofs.get.over_net.Goals as goal
+
+pub returns-in-Err-clause-failed : goal.returns-in-Err-clause-failed
+returns-in-Err-clause-failed g c =
+    let why : Fault = ended c.args.get.now.asking.agent.now ending.Link in
+    let P : Address → Type 0 = λ a. ReachFails (g.F.Files.text_at c.args.files.now) a (get_words c.args.get.now).asking.agent why in
+    not_asked why
+    (unreached (get_words c.args.get.now) (g.F.Files.text_at c.args.files.now) _ c.requires.known (get_plan_of c.args.plan.now) c.requires.plan why
+    (inr (subst P (sym c.requires.at) refl)))
+    refl refl
+
+pub check_names-requires : goal.check_names-requires
+check_names-requires g c =
+    let mib = mib_in (g.T.NameTree.naming c.args.tree.now) (g.T.ShowTree.syntax_at c.args.tree.now) in
+    (mib, same_texts mib _ _ _ _ c.deref.ensures.value c.deref-2.ensures.value c.requires.plan.asked.names)
+
+pub returns-clause-failed : goal.returns-clause-failed
+returns-clause-failed g c =
+    let mib = mib_in (g.T.NameTree.naming c.args.tree.now) (g.T.ShowTree.syntax_at c.args.tree.now) in
+    let why = fault_of c.in-Err-check_names.failure in
+    let P : Address → Type 0 = λ a. IsReached (g.F.Files.text_at c.args.files.now) a in
+    let first = c.in-Err-check_names.ensures.err mib
+    (same_texts mib _ _ _ _ c.deref.ensures.value c.deref-2.ensures.value c.requires.plan.asked.names) in
+    not_asked why
+    (unsent (get_words c.args.get.now) (g.F.Files.text_at c.args.files.now) mib c.requires.known (get_plan_of c.args.plan.now) c.requires.plan why
+    (subst P (sym c.requires.at) tt)
+    (subst (λ (t : List (Bor (List ℕ))). IsFirstToFail (texts_at t) (HasSendable mib) (HasUnsendable mib) why) c.deref.ensures.value first))
+    refl refl
+
+pub returns-in-Ok-check_names-clause-done : goal.returns-in-Ok-check_names-clause-done
+returns-in-Ok-check_names-clause-done g c =
+    on_ok_weaker c.print_over.result (λ p. got_over (get_plan_of c.args.plan.now) c.args.at.host.now c.args.at.port c.requires.plan c.requires.at
+    (with_get_facts _ _ (mib_in (g.T.NameTree.naming c.args.tree.now) (g.T.ShowTree.syntax_at c.args.tree.now)) (get_plan_of c.args.plan.now) _ _ _ _
+    (λ given refused end h. record {
+      link = c.in-Ok.link;
+      after = c.print_over.new.link;
+      opened = c.in-Ok.ensures.opened;
+      named = h.0;
+      judged = h.1;
+    }) p)) c.print_over.ensures.done
+
+pub returns-in-Ok-check_names-clause-failed : goal.returns-in-Ok-check_names-clause-failed
+returns-in-Ok-check_names-clause-failed g c =
+    IfErr-weaker c.print_over.result _ _ (λ e p. got_over (get_plan_of c.args.plan.now) c.args.at.host.now c.args.at.port c.requires.plan c.requires.at
+    (with_get_facts _ _ (mib_in (g.T.NameTree.naming c.args.tree.now) (g.T.ShowTree.syntax_at c.args.tree.now)) (get_plan_of c.args.plan.now) _ _ _ _
+    (λ given refused end h. record {
+      link = c.in-Ok.link;
+      after = c.print_over.new.link;
+      opened = c.in-Ok.ensures.opened;
+      named = h.0;
+      judged = h.1;
+    }) p)) c.print_over.ensures.failed

@@ -1,0 +1,184 @@
+-- What a Get writes, and what it reports.
+use Rattle.std.specs.Prelude.{◌≡◌, ◌≢◌, ◌⊎◌, ◌<◌, ◌+◌, ◌++◌, ℕ, ℤ, pos, List, [], ◌∷◌, length, map}
+use Rattle.std.specs.Prelude.{Option, Some, None}
+use Rattle.snmp_oid.specs.Identifier.{wire}
+use Rattle.snmp_table.specs.Table.{MibView}
+use Rattle.snmp_wire.specs.Canon.{canon}
+use Rattle.snmp_wire.specs.Message.{Message, VarBind}
+use Rattle.snmp_agent.specs.Reply.{Fits, response}
+use Rattle.snmp_walk.specs.Facts.{IsDone}
+use Rattle.snmp_walk.specs.Get.{AreGot, GetFacts, HasRoomForGet, get_request}
+use Rattle.snmp_walk.specs.Link.{Agents, IsUnanswered, OneOf}
+use Rattle.snmp_walk.specs.Traffic.{Traffic}
+use Rattle.snmp_walk.specs.declared.end.WalkEnd.{WalkEnd}
+use Rattle.snmp_walk.specs.declared.end.WalkEnd.TheVariants as ending
+use Rattle.smi_files.specs.Warned.{warning_lines}
+use Rattle.smi_nodes.specs.declared.warning.Warning.{Warning}
+use Rattle.snmp_io.specs.Output.{IsWritten, Stream}
+use Rattle.snmp_words.specs.Words.{GetWords}
+use Rattle.snmp_net.specs.Address.{table, udp}
+use Rattle.snmp_tools.specs.Asking.{HasAgent, HasTable}
+use Rattle.snmp_tools.specs.Get.{AskForGet, GetPlan, IsEarlyGetRefusal, IsLateGetRefusal}
+use Rattle.snmp_tools.specs.Lines.{IsPrintedUpTo}
+use Rattle.snmp_tools.specs.Message.{Fault, ended}
+use Rattle.snmp_tools.specs.Mib.{AreLoaded, Holdings, MayHold, Mib}
+use Rattle.snmp_tools.specs.Outcome.{IsOwnEnd, IsReported}
+
+-- ---- the Get
+
+-- the words ask for this Get, by these names
+pub record IsGetFor (words : GetWords) (mib : Mib) (plan : GetPlan) : Type 0 where
+  pub asked : AskForGet words mib plan
+  pub only : HasAgent words.asking.agent plan.agent
+
+-- its request, whose id is 1
+abbrev pub request_for : GetPlan → Message
+request_for plan = get_request plan.community 1 plan.names
+
+-- the agent in memory that serves a table
+abbrev pub agent_for : GetPlan → MibView → Agents
+agent_for plan view =
+    record { tables = view ∷ []; community = plan.community; max_size = plan.max_size }
+
+-- ---- how it ends
+
+-- The Response with what Gets of the names give is longer than an agent's messages may be, and the
+-- error status is tooBig.
+pub record IsTooBig (agents : Agents) (request : Message) (names : List (List ℕ))
+    (status index : ℤ) : Type 0 where
+  pub too_big : status ≡ pos 1
+  pub no_index : index ≡ pos 0
+  pub view : MibView
+  pub one : OneOf agents.tables view
+  pub all : List VarBind
+  pub got : AreGot view names all
+  pub no_room : Fits agents.max_size (response request (pos 0) (pos 0) all) → ⊥
+
+-- How a Get may end: `Fails` says which error statuses a reply may have, `Bad` that it may have
+-- other names than those asked for, and `Silent` that none may come.
+abbrev pub IsEndOfGet : (Fails : ℤ → ℤ → Type 0) → (Bad Silent : Type 0) → Message
+    → List (List ℕ) → WalkEnd → Type 0
+IsEndOfGet Fails Bad Silent request names (ending.Done count) = count ≡ length names
+IsEndOfGet Fails Bad Silent request names (ending.Fault status index) = Fails status index
+IsEndOfGet Fails Bad Silent request names ending.BadReply = Bad
+IsEndOfGet Fails Bad Silent request names ending.NoResponse = Silent
+IsEndOfGet Fails Bad Silent request names ending.RequestTooLong =
+    65507 < length (canon request)
+IsEndOfGet Fails Bad Silent request names ending.Link = Unit {0}
+IsEndOfGet Fails Bad Silent request names (ending.Sink fault) = Unit {0}
+IsEndOfGet Fails Bad Silent request names _ = ⊥
+
+-- Over any link: the bindings given, with the one that was refused, have the names asked for, as
+-- they are sent, from the first on, and all of them where the Get is done.
+pub record AreForNames (request : Message) (names : List (List ℕ)) (given refused : List VarBind)
+    (end : WalkEnd) : Type 0 where
+  pub left : List (List ℕ)
+  pub named : map wire names ≡ map (λ p. p.name) (given ++ refused) ++ left
+  pub whole : IsDone end → (left ≡ []) × (refused ≡ [])
+  pub ends : IsEndOfGet (λ _ _. Unit {0}) (Unit {0}) (Unit {0}) request names end
+  -- without names nothing is asked, and a request that fits no datagram isn't sent
+  pub no_names : names ≡ [] → IsDone end
+  pub too_long : names ≢ [] → 65507 < length (canon request) → end ≡ ending.RequestTooLong
+
+-- Over an honest link over which nothing was sent before it ends with an error status only where
+-- the agents' messages have no room.
+pub record AreFromAgents (agents : Agents) (tries : ℕ) (old : Traffic) (request : Message)
+    (names : List (List ℕ)) (given refused : List VarBind) (end : WalkEnd) (new : Traffic) :
+    Type 0 where
+  pub facts : GetFacts agents tries old request names given refused end new
+  pub ends : IsEndOfGet (IsTooBig agents request names) ⊥ (Unit {0}) request names end
+
+-- Over the agent in memory: what Gets of the names give was given, from the first on, and all of it
+-- where the Get is done.
+pub record IsGot (plan : GetPlan) (view : MibView) (given refused : List VarBind)
+    (end : WalkEnd) : Type 0 where
+  pub front : (all : List VarBind) → AreGot view plan.names all
+      → (more : List VarBind) × (all ≡ (given ++ refused) ++ more)
+  pub whole : (all : List VarBind) → AreGot view plan.names all → IsDone end → given ≡ all
+  -- with an error only where there is no room, or the agent has no reply
+  pub ends : IsEndOfGet (IsTooBig (agent_for plan view) (request_for plan) plan.names) ⊥
+      (IsUnanswered (agent_for plan view) (canon (request_for plan))) (request_for plan)
+      plan.names end
+  pub linked : end ≢ ending.Link
+  -- where there is room, it ends early only where the output fails or memory runs out
+  pub complete : HasRoomForGet (agent_for plan view) (request_for plan) plan.names
+      → IsOwnEnd end
+
+-- ---- what is written
+
+-- the fault that is reported of a Get that ended in this way
+abbrev pub fault_at : (agent : List ℕ) → WalkEnd → Option Fault
+fault_at agent (ending.Done count) = None
+fault_at agent end = Some (ended agent end)
+
+-- what a Get gave was printed, whose bindings and end are such
+pub record IsGetPrinted (Facts : (given refused : List VarBind) → WalkEnd → Type 0) (mib : Mib)
+    (plan : GetPlan) (agent : List ℕ) (before after : Stream) (fault : Option Fault) : Type 0 where
+  pub given : List VarBind
+  pub refused : List VarBind
+  pub end : WalkEnd
+  pub facts : Facts given refused end
+  pub lines : IsPrintedUpTo mib plan.letters before given refused end after
+  pub reported : fault ≡ fault_at agent end
+
+-- what was written of a Get over a table file, whose words ask for this, or why nothing was
+abbrev pub IsGetTableOutcome : GetWords → Holdings → Mib → GetPlan → (path : List ℕ)
+    → (before after : Stream) → Option Fault → Type 0
+IsGetTableOutcome words files mib plan path before after fault =
+    ((why : Fault) × IsLateGetRefusal words files why × (after ≡ before) × (fault ≡ Some why))
+    ⊎ ((view : MibView) × HasTable files path view
+    × IsGetPrinted (IsGot plan view) mib plan words.asking.agent before after fault)
+
+-- What is known of the link that was opened: its facts, by which the Get over it is judged.
+pub record HasGetFacts {W : Type 0} (Opens : (host : List ℕ) → (port : ℕ) → W → Type 0)
+    (Honest : W → Type 0) (agents : W → Agents) (traffic : W → Traffic) (host : List ℕ) (port : ℕ)
+    (tries : ℕ) (plan : GetPlan) (given refused : List VarBind) (end : WalkEnd) : Type 0 where
+  pub link : W
+  pub after : W
+  pub opened : Opens host port link
+  pub named : AreForNames (request_for plan) plan.names given refused end
+  pub judged : Honest link → AreFromAgents (agents link) tries (traffic link) (request_for plan)
+      plan.names given refused end (traffic after)
+
+-- What a job wrote by the names and types of its modules, and why it wasn't done, if it wasn't:
+-- nothing where its words are refused, or the lines of what it got over a table, which its file
+-- states, or over the network. `Facts` are what is known of a Get over a link to a port of a host,
+-- with so many tries.
+pub data IsGetOutcomeBy (Facts : (host : List ℕ) → (port tries : ℕ) → GetPlan
+    → (given refused : List VarBind) → WalkEnd → Type 0) (words : GetWords) (files : Holdings)
+    (mib : Mib) (before after : Stream) (fault : Option Fault) : Type 0 where
+  not_asked : (why : Fault) → IsLateGetRefusal words files why → after ≡ before → fault ≡ Some why
+      → IsGetOutcomeBy Facts words files mib before after fault
+  got : (plan : GetPlan) (view : MibView) (path : List ℕ) → IsGetFor words mib plan
+      → plan.agent ≡ table path → HasTable files path view
+      → IsGetPrinted (IsGot plan view) mib plan words.asking.agent before after fault
+      → IsGetOutcomeBy Facts words files mib before after fault
+  got_over : (plan : GetPlan) (host : List ℕ) (port : ℕ) → IsGetFor words mib plan
+      → plan.agent ≡ udp host port
+      → IsGetPrinted (Facts host port (words.asking.retries + 1) plan) mib plan
+      words.asking.agent before after fault
+      → IsGetOutcomeBy Facts words files mib before after fault
+
+-- What a job wrote on its output and, of the warnings of its modules, on standard error: nothing
+-- where it was refused before these were loaded; else their lines, before anything else.
+pub data IsGetOutcome (Facts : (host : List ℕ) → (port tries : ℕ) → GetPlan
+    → (given refused : List VarBind) → WalkEnd → Type 0) (words : GetWords) (files : Holdings)
+    (before after err_before warned : Stream) (fault : Option Fault) : Type 0 where
+  not_loaded : (why : Fault) → IsEarlyGetRefusal words files why → after ≡ before
+      → warned ≡ err_before → fault ≡ Some why
+      → IsGetOutcome Facts words files before after err_before warned fault
+  loaded : (mib : Mib) (warnings : List Warning)
+      → AreLoaded (MayHold files) words.asking.mibs mib warnings
+      → IsWritten err_before (warning_lines warnings) warned
+      → IsGetOutcomeBy Facts words files mib before after fault
+      → IsGetOutcome Facts words files before after err_before warned fault
+
+-- the outcome of the words of snmpget, which is reported
+pub record IsGetRun (Facts : (host : List ℕ) → (port tries : ℕ) → GetPlan
+    → (given refused : List VarBind) → WalkEnd → Type 0) (words : GetWords) (files : Holdings)
+    (out_before out_after err_before err_after : Stream) (status : ℕ) : Type 0 where
+  pub fault : Option Fault
+  -- what was written of warnings comes before what is reported
+  pub warned : Stream
+  pub outcome : IsGetOutcome Facts words files out_before out_after err_before warned fault
+  pub reported : IsReported fault warned err_after status
