@@ -1,0 +1,4 @@
+mod Headlines
+mod Printing
+mod Refusals
+mod Streams

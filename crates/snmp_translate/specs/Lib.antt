@@ -1,0 +1,6 @@
+pub mod Fault
+pub mod Headline
+pub mod Outcome
+pub mod Refusal
+pub mod Style
+pub mod Text
