@@ -15,4 +15,5 @@ pub mod Planned
 pub mod Serving
 pub mod Start
 pub mod Steps
+pub mod Translating
 pub mod Usage

@@ -3,7 +3,7 @@ ghost use Rattle.std.specs.Prelude.{◌≡◌, Bool, Some, true};
 ghost use Rattle.snmp_words.specs.Command.{is_taken};
 ghost use Rattle.snmp_serve.specs.Outcome.{AtDoor};
 ghost use Rattle.snmp_words.specs.Words.{AreFaulty, GetWords, ServeWords, WalkWords, snmpd};
-ghost use Rattle.snmp_words.specs.Words.{snmpget, stated_job};
+ghost use Rattle.snmp_words.specs.Words.{TranslateWords, snmpget, snmptranslate, stated_job};
 ghost use Rattle.snmp_tools.specs.Serving.{IsServeRun, risen};
 ghost use Rattle.snmp_tools.specs.GetHeadline.{GetEndsAtStatus0, GetWritesAllAtStatus0};
 ghost use Rattle.snmp_tools.specs.GetHeadline.{GetWritesFront};
@@ -11,6 +11,7 @@ ghost use Rattle.snmp_tools.specs.Got.{HasGetFacts, IsGetRun};
 ghost use Rattle.snmp_tools.specs.Headline.{EndsAtStatus0, WritesAllAtStatus0, WritesFront};
 ghost use Rattle.snmp_tools.specs.Outcome.{HasLinkFacts, IsRun};
 ghost use Rattle.snmp_tools.specs.Planned.{walk_stated};
+ghost use Rattle.snmp_tools.specs.Translating.{IsTranslated};
 ghost use Rattle.snmp_tools.specs.Usage.{IsHelpOrMistake, PrintsHelp, texts};
 
 use crate::job::{run_job, tell};
@@ -33,6 +34,10 @@ pub fn tool<F: Files, L: Links, O: Output, E: Output>(
     out: &mut O,
     err: &mut E,
 ) -> u8
+    ensures translated { (w : TranslateWords) → is_taken (texts words.now) ≡ true
+        → stated_job (texts words.now) ≡ Some (snmptranslate w)
+        → IsTranslated w (F.text_at files.now) (O.stream out.old) (O.stream out.new)
+        (E.stream err.old) (E.stream err.new) result }
     ensures outcome_reported { (bulk : Bool) (w : WalkWords) → is_taken (texts words.now) ≡ true
         → stated_job (texts words.now) ≡ Some (walk_stated bulk w)
         → IsRun (HasLinkFacts (L.opens links.old) L.Wire.honest L.Wire.agents L.Wire.traffic)

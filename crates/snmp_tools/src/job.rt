@@ -3,7 +3,7 @@ ghost use Rattle.std.specs.Prelude.{◌≡◌, ◌++◌, Bool, codes, IfOk, Some
 ghost use Rattle.snmp_io.specs.Output.{IsWritten};
 ghost use Rattle.snmp_serve.specs.Outcome.{AtDoor};
 ghost use Rattle.snmp_words.specs.Words.{GetWords, ServeWords, WalkWords, job_words, snmpd};
-ghost use Rattle.snmp_words.specs.Words.{snmpget, walk_words};
+ghost use Rattle.snmp_words.specs.Words.{TranslateWords, snmpget, snmptranslate, walk_words};
 ghost use Rattle.snmp_tools.specs.GetHeadline.{GetEndsAtStatus0, GetWritesAllAtStatus0};
 ghost use Rattle.snmp_tools.specs.GetHeadline.{GetWritesFront};
 ghost use Rattle.snmp_tools.specs.Got.{HasGetFacts, IsGetRun};
@@ -12,10 +12,12 @@ ghost use Rattle.snmp_tools.specs.Message.{fault_of, message_of};
 ghost use Rattle.snmp_tools.specs.Outcome.{HasLinkFacts, IsReported, IsRun};
 ghost use Rattle.snmp_tools.specs.Planned.{IsWalkJob};
 ghost use Rattle.snmp_tools.specs.Serving.{IsServeRun, risen};
+ghost use Rattle.snmp_tools.specs.Translating.{IsTranslated};
 
 use crate::failure::Failure;
 use crate::get::do_get;
 use crate::serve::do_serve;
+use crate::translate::do_translate;
 use crate::walk::walk_lines;
 use smi_files::one_list_of_modules;
 use smi_tree::one_tree;
@@ -38,6 +40,9 @@ pub fn run_job<F: Files, L: Links, O: Output, E: Output>(
     out: &mut O,
     err: &mut E,
 ) -> u8
+    ensures translated { (words : TranslateWords) → job_words job.now ≡ snmptranslate words
+        → IsTranslated words (F.text_at files.now) (O.stream out.old) (O.stream out.new)
+        (E.stream err.old) (E.stream err.new) result }
     ensures outcome_reported { (bulk : Bool) (words : WalkWords) → IsWalkJob job.now bulk words
         → IsRun (HasLinkFacts (L.opens links.old) L.Wire.honest L.Wire.agents L.Wire.traffic)
         bulk words (F.text_at files.now) (O.stream out.old) (O.stream out.new)
@@ -75,7 +80,7 @@ pub fn run_job<F: Files, L: Links, O: Output, E: Output>(
     one_list_of_modules();
     one_tree();
     match job {
-        Job::Translate(_) => 1,
+        Job::Translate(translate) => do_translate(alloc, translate, files, out, err),
         Job::Get(get) => do_get(alloc, get, files, links, out, err),
         Job::Walk(walk) => do_walk(alloc, walk, false, files, links, out, err),
         Job::BulkWalk(walk) => do_walk(alloc, walk, true, files, links, out, err),

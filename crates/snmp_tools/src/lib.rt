@@ -16,6 +16,7 @@ mod names;
 mod plan;
 mod serve;
 mod start;
+mod translate;
 mod walk;
 
 pub use entry::tool;

@@ -1,6 +1,8 @@
 use Rattle.std.proofs.Common.{◌≡◌, refl, inl, inr, Option, Some}
 use Rattle.snmp_serve.specs.Fault.{no_memory}
 use Rattle.snmp_serve.specs.Outcome as serve
+use Rattle.snmp_translate.specs.Fault as translate
+use Rattle.snmp_translate.specs.Outcome as translated
 use Rattle.snmp_words.specs.Words.{Stated}
 use Rattle.snmp_tools.specs.Got as got
 use Rattle.snmp_tools.specs.Message.{out_of_memory}
@@ -63,4 +65,14 @@ returns-in-Err-Memory-clause-served g c = λ w taken stated. record {
   fault = Some no_memory;
   outcome = serve.refused no_memory (inl refl) refl refl;
   reported = (refl, inr c.tell-in-Err-Memory.ensures);
+}
+
+pub returns-in-Err-Memory-clause-translated : goal.returns-in-Err-Memory-clause-translated
+returns-in-Err-Memory-clause-translated g c = λ w taken stated. record {
+  fault = Some translate.no_memory;
+  warned = g.E.Output.stream c.args.err.now;
+  outcome = translated.refused translate.no_memory (inl refl) refl refl refl;
+  is_reported = (refl, inr c.tell-in-Err-Memory.ensures);
+  all_at_status_0 = λ zero. let no : ⊥ = cc in absurd no;
+  front = λ style modules asked. inl refl;
 }
