@@ -54,7 +54,8 @@ returns-in-Err-Memory-clause-get_front_written g c = λ w taken stated.
 
 pub returns-in-Err-Memory-clause-get_ends_at_status_0 : goal.returns-in-Err-Memory-clause-get_ends_at_status_0
 returns-in-Err-Memory-clause-get_ends_at_status_0 g c = λ w taken stated.
-    get_refused_end w (g.F.Files.text_at c.args.files.now) _ _ _ _ c.tell-in-Err-Memory.ensures
+    get_refused_end w (g.F.Files.text_at c.args.files.now) (g.O.Output.stream c.args.out.now) (g.O.Output.stream c.args.out.now)
+    (g.E.Output.stream c.args.err.now) _ c.tell-in-Err-Memory.ensures
 
 pub returns-in-Err-Memory-clause-ends_at_status_0 : goal.returns-in-Err-Memory-clause-ends_at_status_0
 returns-in-Err-Memory-clause-ends_at_status_0 g c = λ bulk w taken stated. refused_end bulk w (g.F.Files.text_at c.args.files.now)
