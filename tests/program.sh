@@ -77,7 +77,7 @@ expect 0 'listening on 127.0.0.1:16161
 ' '' snmpd --table three.tab --listen 127.0.0.1:16161 --turns 0
 expect 0 '' '' snmpwalk -On --after $e.1.10.0 table:three.tab $e.1
 expect 0 '' '' snmpwalk -On -CI table:/dev/null .1
-expect 0 'Reads the managed objects of SNMP agents...' '' --help
+expect 0 'Translates names of managed objects, reads them from SNMP agents...' '' --help
 
 # status 1
 expect 1 '' 'no.tab: cannot be read
