@@ -1,10 +1,8 @@
-//! Gets of names, over table files and over the network.
+//! Gets of names, over table files.
 
 use crate::run::{THREE, prints};
-use snmp_agent::Config;
 use snmp_io::memory::{MemoryFiles, MemoryOutput};
-use snmp_net::memory::{MemoryAgent, MemoryLinks};
-use snmp_table::Table;
+use snmp_net::memory::MemoryLinks;
 use snmp_tools::tool;
 use std::test::Fail;
 
@@ -151,20 +149,6 @@ fn replies_that_have_no_room(rt: HostRuntime) -> Result<(), Fail> {
 }
 
 #[test]
-fn a_request_of_more_octets_than_a_datagram(rt: HostRuntime) -> Result<(), Fail> {
-    let mut name = String::from_str(rt.alloc(), "1.3.6")?;
-    for _ in 0..125 {
-        name.push_str(".4294967295")?;
-    }
-    let mut words = Vec::from_slice(rt.alloc(), &["snmp", "snmpget", "-On", "table:t.tab"])?;
-    for _ in 0..105 {
-        words.push(name.as_str())?;
-    }
-    assert!(rt; prints(&rt, THREE, &words, b"", b"Request too long.\n", 1));
-    Ok(())
-}
-
-#[test]
 fn an_output_that_fails_in_the_second_line(rt: HostRuntime) -> Result<(), Fail> {
     let held = [("t.tab", THREE)];
     let files = MemoryFiles { files: &held };
@@ -176,60 +160,5 @@ fn an_output_that_fails_in_the_second_line(rt: HostRuntime) -> Result<(), Fail> 
     assert!(rt; status == 1);
     assert!(rt; out.octets() == b".1.3.6.1.4.1.32473.1.1.0 = INTEGER: 1\n.1".as_slice());
     assert!(rt; err.octets() == b"The output failed.\n".as_slice());
-    Ok(())
-}
-
-/// Whether a Get of the first name, from an agent at port 1161 of `device` that serves the three
-/// rows and brings these deliveries, prints these texts and has this status.
-fn asks(
-    rt: &HostRuntime,
-    deliveries: &[Option<usize>],
-    words: (&str, &str, &str),
-    lines: &[u8],
-    messages: &[u8],
-    status: u8,
-) -> Result<bool, Fail> {
-    let table = Table::read(rt.alloc(), THREE)?;
-    let agents = [MemoryAgent {
-        host: "device",
-        port: 1161,
-        table: &table,
-        config: Config {
-            community: b"secret",
-            max_size: 1472,
-        },
-        deliveries,
-    }];
-    let (community, agent, name) = words;
-    let words = ["snmp", "snmpget", "-On", "-r3", community, agent, name];
-    let mut links = MemoryLinks::new(rt.alloc(), &agents, &[]);
-    let files = MemoryFiles { files: &[] };
-    let mut out = MemoryOutput::new(rt.alloc());
-    let mut err = MemoryOutput::new(rt.alloc());
-    let answered = tool(rt.alloc(), &words, &files, &mut links, &mut out, &mut err);
-    Ok(answered == status && out.octets() == lines && err.octets() == messages)
-}
-
-#[test]
-fn a_device_is_asked(rt: HostRuntime) -> Result<(), Fail> {
-    let device = ("-csecret", "udp:device:1161", FIRST);
-    assert!(rt; asks(&rt, &[], device, FIRST_LINE, b"", 0)?);
-    let late = [None, None, None, Some(1)];
-    assert!(rt; asks(&rt, &late, device, FIRST_LINE, b"", 0)?);
-    Ok(())
-}
-
-#[test]
-fn devices_that_do_not_answer(rt: HostRuntime) -> Result<(), Fail> {
-    let lost = [None, None, None, None];
-    let silent = b"Timeout: No Response from device:1161.\n";
-    let device = ("-csecret", "device:1161", FIRST);
-    assert!(rt; asks(&rt, &lost, device, b"", silent, 1)?);
-    let public = ("-cpublic", "device:1161", FIRST);
-    assert!(rt; asks(&rt, &[], public, b"", silent, 1)?);
-    let elsewhere = ("-csecret", "device", ".3");
-    assert!(rt; asks(&rt, &[], elsewhere, b"", b"The link failed.\n", 1)?);
-    let unsendable = ("-csecret", "device:1161", ".3");
-    assert!(rt; asks(&rt, &[], unsendable, b"", b"Name cannot be sent: .3\n", 1)?);
     Ok(())
 }

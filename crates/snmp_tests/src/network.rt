@@ -1,4 +1,4 @@
-//! Walks over the network, by links in memory.
+//! Walks and Gets over the network, by links in memory.
 
 use crate::run::{THREE, THREE_LINES};
 use snmp_agent::Config;
@@ -122,5 +122,46 @@ fn agents_that_are_not_reached(rt: HostRuntime) -> Result<(), Fail> {
     let words = ["snmp", "snmpwalk", "-On", "device:1161", E];
     let silent = b"Timeout: No Response from device:1161.\n";
     assert!(rt; prints(&rt, &mut links, &words, b"", silent, 1));
+    Ok(())
+}
+
+const FIRST: &str = ".1.3.6.1.4.1.32473.1.1.0";
+
+const FIRST_LINE: &[u8] = b".1.3.6.1.4.1.32473.1.1.0 = INTEGER: 1\n";
+
+#[test]
+fn a_device_is_asked_for_a_name(rt: HostRuntime) -> Result<(), Fail> {
+    let table = Table::read(rt.alloc(), THREE)?;
+    let late = [None, None, None, Some(1)];
+    let agents = [device(&table, &late)];
+    let mut links = MemoryLinks::new(rt.alloc(), &agents, &[]);
+    for agent in ["device:1161", "udp:device:1161"] {
+        let words = ["snmp", "snmpget", "-On", "-r3", "-csecret", agent, FIRST];
+        assert!(rt; prints(&rt, &mut links, &words, FIRST_LINE, b"", 0));
+    }
+    Ok(())
+}
+
+#[test]
+fn a_get_ends_where_no_reply_comes(rt: HostRuntime) -> Result<(), Fail> {
+    let table = Table::read(rt.alloc(), THREE)?;
+    let agents = [device(&table, &[])];
+    let mut links = MemoryLinks::new(rt.alloc(), &agents, &[]);
+    let silent = b"Timeout: No Response from device:1161.\n";
+    let public = ["snmp", "snmpget", "-On", "-cpublic", "device:1161", FIRST];
+    assert!(rt; prints(&rt, &mut links, &public, b"", silent, 1));
+    let unsendable = ["snmp", "snmpget", "-csecret", "device:1161", ".3"];
+    assert!(rt;
+        prints(
+            &rt,
+            &mut links,
+            &unsendable,
+            b"",
+            b"Name cannot be sent: .3\n",
+            1
+        )
+    );
+    let elsewhere = ["snmp", "snmpget", "-csecret", "device", ".3"];
+    assert!(rt; prints(&rt, &mut links, &elsewhere, b"", b"The link failed.\n", 1));
     Ok(())
 }
