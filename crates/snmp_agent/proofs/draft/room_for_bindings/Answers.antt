@@ -1,4 +1,4 @@
-use Rattle.std.proofs.Common.{◌+◌, ◌-◌, ◌≤◌, length, arith}
+use Rattle.std.proofs.Common.{◌-◌, ◌≤◌, length, arith}
 use Rattle.snmp_wire.specs.Canon.{canon_head}
 use Rattle.snmp_wire.specs.Parts.{parts_message}
 use Rattle.snmp_agent.proofs.draft.room_for_bindings.Goals as goal
@@ -6,6 +6,17 @@ use Rattle.snmp_agent.proofs.draft.room_for_bindings.Goals as goal
 pub octets-init : goal.octets-init
 octets-init c =
     let m = parts_message c.args.parts.now in
-    let room = c.args.max_size - c.head_size-head.result in
-    let head : length (canon_head m 0) ≤ length (canon_head m (room + 1)) = c.message_sizes.ensures.heads_rise m 0 (room + 1) (omega arith) in
-    (omega arith, omega (arith, head, c.head_size-head.ensures.value, c.if-head-max_size.false))
+    let rise = c.message_sizes.ensures.heads_rise in
+    let most = c.args.max_size - c.head_size-head.result in
+    let room = c.saturating_sub-room.result in
+    let least : length (canon_head m 0) ≤ length (canon_head m most) = rise m 0 most (omega arith) in
+    grind (
+      arith,
+      least,
+      rise m room most,
+      rise m room 0,
+      c.saturating_sub-room.ensures,
+      c.head_size-head.ensures.value,
+      c.head_size-longest.ensures.value,
+      c.if-head-max_size.false,
+    )
