@@ -4,3 +4,4 @@ pub mod Numeral
 pub mod Written
 pub mod Parsing
 pub mod Rank
+pub mod Comparing

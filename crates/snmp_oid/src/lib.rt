@@ -7,4 +7,4 @@ mod numeric;
 mod oid;
 
 pub use numeric::{LONGEST_TEXT, OidTextError, names, parse_numeric, write_numeric};
-pub use oid::{MAX_LEN, Oid, OidError, order, ranks};
+pub use oid::{MAX_LEN, Oid, OidError, compare_numbers, order, ranks};

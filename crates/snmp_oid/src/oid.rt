@@ -1,6 +1,7 @@
 //! An object identifier of up to 128 numbers, which lie in the value itself.
 ghost use Rattle.std.specs.Prelude.{◌≡◌, ℕ, ◌+◌, ◌<◌, ◌≤◌, ◌↔◌, List, [], ◌∷◌, ◌++◌, length};
-ghost use Rattle.std.specs.Prelude.{IsTrue, IsOk, IfOk, IfErr, OnOk, OnErr, Some, ⊤, refl};
+ghost use Rattle.std.specs.Prelude.{IsTrue, IsOk, IfOk, IfErr, OnOk, OnErr, Some, ⊤, refl, take};
+ghost use Rattle.std.specs.Prelude.{true};
 ghost use Rattle.std.proofs.Common.{rules};
 ghost use Rattle.std.specs.Ordering.{nat_cmp};
 ghost use Rattle.std.specs.Hash as fed;
@@ -79,10 +80,9 @@ impl Oid {
     pub fn copy(&self) -> Oid
         ensures { result ≡ self.now }
     {
-        match Oid::from_slice(self.as_slice()) {
-            Ok(copy) => copy,
-            Err(_) => unreachable!(),
-        }
+        let mut copy = Oid::new();
+        copy.set_to(self);
+        copy
     }
 
     /// Sets the identifier to the numbers of another one, in place.
@@ -233,6 +233,33 @@ pub fn order()
     ensures equality { (o p : List ℕ) → IsTrue (⟦<Oid as PartialEq>⟧.eq o p) ↔ (o ≡ p) }
 {}
 
+/// How identifiers of these numbers compare ([`order`]). It takes least where both begin with the
+/// same eight numbers, as most names of one table do.
+#[inline]
+pub fn compare_numbers(o: &[u32], p: &[u32]) -> Ordering
+    ensures { result ≡ slice_cmp nat_cmp o.now p.now }
+{
+    let both = o.len().min(p.len());
+    let start = if begin_alike(o, p) { 8 } else { 0 };
+    'numbers: for i in start..both {
+        if o[i] != p[i] {
+            return o[i].cmp(&p[i]);
+        }
+    }
+    let (_, o_rest) = o.split_at(both);
+    let (_, p_rest) = p.split_at(both);
+    o_rest.cmp(p_rest)
+}
+
+/// Whether both begin with the same eight numbers.
+#[inline(always)]
+fn begin_alike(o: &[u32], p: &[u32]) -> bool
+    ensures { result ≡ true → (8 ≤ length o.now) × (8 ≤ length p.now)
+        × (take 8 o.now ≡ take 8 p.now) }
+{
+    o.len() >= 8 && p.len() >= 8 && &o[..8] == &p[..8]
+}
+
 /// The order of identifiers is that of their ranks, numbers of 128 digits to the base 2^32 + 1.
 ///
 /// A law: the call does nothing, and its caller knows what it states.
@@ -294,7 +321,7 @@ impl Ord for Oid {
     ghost matches_eq = { texts_ties };
 
     fn cmp(&self, other: &Oid) -> Ordering {
-        self.as_slice().cmp(other.as_slice())
+        compare_numbers(self.as_slice(), other.as_slice())
     }
 }
 
