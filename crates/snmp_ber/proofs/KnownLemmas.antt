@@ -44,6 +44,23 @@ subidentifier_of_two [] h large small = absurd cc
 subidentifier_of_two (octet ∷ []) h large small = absurd (grind (arith, common_steps))
 subidentifier_of_two (octet ∷ low ∷ rest) h large small = grind (arith, common_steps)
 
+pub subidentifier_longest : (octets : List ℕ) → IsOk (subidentifier_at octets) → 128 ≤ get_or octets 0 0 → 128 ≤ get_or octets 1 0
+    → 2 < length octets
+unfolding subidentifier_at subidentifier_from
+subidentifier_longest [] h large more = absurd cc
+subidentifier_longest (octet ∷ []) h large more = absurd (grind (arith, common_steps))
+subidentifier_longest (octet ∷ low ∷ []) h large more = absurd (grind (arith, common_steps))
+subidentifier_longest (octet ∷ low ∷ last ∷ rest) h large more = omega arith
+
+pub subidentifier_of_three : (octets : List ℕ) → IsOk (subidentifier_at octets) → 128 ≤ get_or octets 0 0 → 128 ≤ get_or octets 1 0
+    → get_or octets 2 0 < 128
+    → subidentifier_at octets ≡ Ok ((get_or octets 0 0 % 128 * 128 + get_or octets 1 0 % 128) * 128 + get_or octets 2 0, drop 3 octets)
+unfolding subidentifier_at subidentifier_from
+subidentifier_of_three [] h large more small = absurd cc
+subidentifier_of_three (octet ∷ []) h large more small = absurd (grind (arith, common_steps))
+subidentifier_of_three (octet ∷ low ∷ []) h large more small = absurd (grind (arith, common_steps))
+subidentifier_of_three (octet ∷ low ∷ last ∷ rest) h large more small = grind (arith, common_steps)
+
 pub digits_ok : (octets : List ℕ) → IsOk (subidentifier_at octets) → subidentifier_at octets ≡ subidentifier_from 0 octets
 unfolding subidentifier_at
 digits_ok [] h = absurd cc

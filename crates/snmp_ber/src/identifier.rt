@@ -1,7 +1,7 @@
 //! The content of an OBJECT IDENTIFIER (X.690, section 8.19).
 ghost use Rattle.std.specs.Prelude.{◌≡◌, true, ℕ, ◌+◌, ◌-◌, ◌<◌, ◌≤◌, ◌↔◌, List, [], ◌∷◌, ◌++◌};
 ghost use Rattle.std.specs.Prelude.{length, drop, IsOk, IsTrue, IfOk, IfErr, IfSome, Ok, Err, ◌*◌};
-ghost use Rattle.std.specs.Prelude.{◌^◌};
+ghost use Rattle.std.specs.Prelude.{◌^◌, ◌%◌};
 ghost use Rattle.snmp_ber.specs.Reading as reading;
 ghost use Rattle.snmp_ber.specs.Reading.{AgreesBy, checked};
 ghost use Rattle.std.specs.List.{flat_map};
@@ -34,8 +34,20 @@ fn subidentifier_at(octets: &[u8]) -> Result<(u64, &[u8]), BerError>
         [high, low, rest @ ..] if *low < 0x80 => {
             Ok((u64::from(*high % 128) * 128 + u64::from(*low), rest))
         }
+        // An enterprise's number often has three.
+        [high, mid, low, rest @ ..] if *low < 0x80 => Ok((three_digits(*high, *mid, *low), rest)),
         _ => digits_at(octets),
     }
+}
+
+/// The number of three digits to the base 128, the last of which has a clear high bit.
+#[inline(always)]
+fn three_digits(high: u8, mid: u8, low: u8) -> u64
+    requires { low < 128 }
+    ensures value { result ≡ (high % 128 * 128 + mid % 128) * 128 + low }
+    ensures at_most_21_bits { result < 2097152 }
+{
+    (u64::from(high % 128) * 128 + u64::from(mid % 128)) * 128 + u64::from(low)
 }
 
 /// The digits to the base 128 at the front, the last of which has a clear high bit, and what
@@ -86,10 +98,15 @@ fn subidentifier_in(octets: &[u8]) -> (u64, &[u8])
         let (_, rest) = octets.split_at(2);
         return (u64::from(high % 128) * 128 + u64::from(low), rest);
     }
+    let last = octets[2];
+    if last < 0x80 {
+        let (_, rest) = octets.split_at(3);
+        return (three_digits(high, low, last), rest);
+    }
     digits_in(octets)
 }
 
-/// The subidentifier of three octets or more at the front, and what follows, of octets that are
+/// The subidentifier of four octets or more at the front, and what follows, of octets that are
 /// known to begin with one.
 fn digits_in(octets: &[u8]) -> (u64, &[u8])
     requires { IsOk (reading.subidentifier_at octets.now) }

@@ -98,7 +98,7 @@ fn replace_value<'a>(tag: u8, content: &'a [u8], into: &mut ValueRef<'a>)
         },
         tag::OCTET_STRING => *into = ValueRef::Octets(content),
         tag::NULL => *into = ValueRef::Null,
-        tag::OBJECT_IDENTIFIER => *into = ValueRef::ObjectId(identifier_of(content)),
+        tag::OBJECT_IDENTIFIER => set_object_id(content, into),
         tag::IP_ADDRESS => match content {
             [a, b, c, d] => *into = ValueRef::IpAddress([*a, *b, *c, *d]),
             _ => unreachable!(),
@@ -113,6 +113,17 @@ fn replace_value<'a>(tag: u8, content: &'a [u8], into: &mut ValueRef<'a>)
         tag::END_OF_MIB_VIEW => *into = ValueRef::EndOfMibView,
         _ => unreachable!(),
     }
+}
+
+/// Changes a value to the identifier of this content. It is a function of its own since all octets
+/// of its identifier are set at its beginning.
+#[tactic(auto, unfolding(crate::specs::Reading::typed_value))]
+#[inline(never)]
+fn set_object_id<'a>(content: &'a [u8], into: &mut ValueRef<'a>)
+    requires { IsOk (reading.typed_value 6 content.now) }
+    ensures { reading.typed_value 6 content.now ≡ Ok (datum into.new) }
+{
+    *into = ValueRef::ObjectId(identifier_of(content));
 }
 
 /// Changes a value of this type, as the values of a column are, to the one of this content, and
