@@ -1,5 +1,5 @@
 -- Comparisons of numbers: a common front changes nothing, and the first pair that differs decides.
-use Rattle.std.proofs.Common.{◌≡◌, ℕ, suc, ◌+◌, ◌<◌, List, [], ◌∷◌, ◌++◌, length, take, drop, get_or, refl, sym, ◌∙◌, ap, subst, arith}
+use Rattle.std.proofs.Common.{◌≡◌, ℕ, suc, ◌+◌, ◌<◌, ◌≤◌, List, [], ◌∷◌, ◌++◌, length, take, drop, get_or, refl, sym, ◌∙◌, ap, subst, arith, length-drop}
 use Rattle.std.proofs.lemmas.List.{take-append-drop}
 use Rattle.std.proofs.Math.Seq.{drop-cons, take-suc}
 use Rattle.std.specs.Ordering.{nat_cmp, ordering_then}
@@ -52,5 +52,15 @@ one_more_alike i o p h k same equal =
     let e : suc i ≡ i + 1 = omega arith in
     subst P e next
 
-pub same_backs : (o p s t : List ℕ) → o ≡ s → p ≡ t → slice_cmp nat_cmp o p ≡ slice_cmp nat_cmp s t
-same_backs o p s t e d = cc
+-- where one ends and all is alike, the longer comes after
+ends : (n m both : ℕ) (s t : List ℕ) → length s + both ≡ n → length t + both ≡ m → (both < n → both < m → ⊥) → nat_cmp n m ≡ slice_cmp nat_cmp s t
+ends n m both [] [] e d h = sym (nat_cmp_is n m Equal (omega arith))
+ends n m both [] (y ∷ t) e d h = sym (nat_cmp_is n m Less (omega arith))
+ends n m both (x ∷ s) [] e d h = sym (nat_cmp_is n m Greater (omega arith))
+ends n m both (x ∷ s) (y ∷ t) e d h = absurd (h (omega arith) (omega arith))
+
+pub longer_after : (both : ℕ) (o p : List ℕ) → both ≤ length o → both ≤ length p → (both < length o → both < length p → ⊥) → take both o ≡ take both p
+    → nat_cmp (length o) (length p) ≡ slice_cmp nat_cmp o p
+longer_after both o p h k end same =
+    ends (length o) (length p) both (drop both o) (drop both p) (omega (arith, length-drop both o)) (omega (arith, length-drop both p)) end
+    ∙ behind_alike both o p same

@@ -90,8 +90,22 @@ impl Oid {
     pub fn set_to(&mut self, other: &Oid)
         ensures { self.new ≡ other.now }
     {
+        self.set_to_numbers(other.as_slice());
+    }
+
+    /// Sets the identifier to these numbers, in place.
+    #[inline]
+    pub fn set_to_numbers(&mut self, numbers: &[u32])
+        requires { length numbers.now ≤ 128 }
+        ensures { self.new ≡ numbers.now }
+    {
+        // As many take no clearing.
+        if self.len() == numbers.len() {
+            self.numbers.as_mut_slice().copy_from_slice(numbers);
+            return;
+        }
         self.clear();
-        if self.extend_from_slice(other.as_slice()).is_err() {
+        if self.extend_from_slice(numbers).is_err() {
             unreachable!()
         }
     }
@@ -176,7 +190,8 @@ impl Oid {
         ensures { IsTrue result ↔ IsBelow self.now root.now }
     {
         let front = root.as_slice();
-        self.len() > front.len() && &self.as_slice()[..front.len()] == front
+        self.len() > front.len()
+            && compare_numbers(&self.as_slice()[..front.len()], front).is_eq()
     }
 
     /// Whether the identifier has an encoding (X.690, 8.19.4): two numbers at least, the first from
@@ -246,9 +261,7 @@ pub fn compare_numbers(o: &[u32], p: &[u32]) -> Ordering
             return o[i].cmp(&p[i]);
         }
     }
-    let (_, o_rest) = o.split_at(both);
-    let (_, p_rest) = p.split_at(both);
-    o_rest.cmp(p_rest)
+    o.len().cmp(&p.len())
 }
 
 /// Whether both begin with the same eight numbers.

@@ -1,5 +1,6 @@
 //! One row of a table.
 ghost use Rattle.std.specs.Prelude.{◌≡◌, ◌≤◌, length};
+ghost use Rattle.snmp_wire.specs.Message.{datum, object_id};
 
 use snmp_wire::{Binding, Oid, ValueRef};
 
@@ -64,7 +65,25 @@ impl RowValue {
         ensures { datum into.new ≡ datum_of self.now }
     {
         if !self.is_read_into(into) {
-            *into = self.as_ref();
+            self.replace(into);
+        }
+    }
+
+    /// Changes a value of whatever type to this one. Each is made where it stays.
+    fn replace<'a>(&'a self, into: &mut ValueRef<'a>)
+        requires { IsShort self.now }
+        ensures { datum into.new ≡ datum_of self.now }
+    {
+        match self {
+            RowValue::Integer(number) => *into = ValueRef::Integer(*number),
+            RowValue::Octets(octets) => *into = ValueRef::Octets(octets.as_slice()),
+            RowValue::ObjectId(numbers) => set_object_id(into, numbers.as_slice()),
+            RowValue::IpAddress(octets) => *into = ValueRef::IpAddress(*octets),
+            RowValue::Counter32(number) => *into = ValueRef::Counter32(*number),
+            RowValue::Gauge32(number) => *into = ValueRef::Gauge32(*number),
+            RowValue::TimeTicks(number) => *into = ValueRef::TimeTicks(*number),
+            RowValue::Opaque(octets) => *into = ValueRef::Opaque(octets.as_slice()),
+            RowValue::Counter64(number) => *into = ValueRef::Counter64(*number),
         }
     }
 
@@ -116,15 +135,21 @@ fn identifier(numbers: &[u32]) -> Oid
     }
 }
 
+/// Changes a value to the identifier of these numbers. It is a function of its own since all octets
+/// of its identifier are set at its beginning.
+#[inline(never)]
+fn set_object_id(value: &mut ValueRef<'_>, numbers: &[u32])
+    requires { length numbers.now ≤ 128 }
+    ensures { datum value.new ≡ object_id numbers.now }
+{
+    *value = ValueRef::ObjectId(identifier(numbers));
+}
+
 /// Changes an identifier to the one of these numbers.
 #[inline]
 pub fn set_name(name: &mut Oid, numbers: &[u32])
     requires { length numbers.now ≤ 128 }
     ensures { name.new ≡ numbers.now }
 {
-    name.clear();
-    match name.extend_from_slice(numbers) {
-        Ok(()) => {}
-        Err(_) => unreachable!(),
-    }
+    name.set_to_numbers(numbers);
 }

@@ -20,7 +20,7 @@ use crate::draft::Draft;
 use crate::error::{PutError, TableError};
 use crate::row::{Row, set_name};
 use crate::split::split_line;
-use snmp_oid::order;
+use snmp_oid::{compare_numbers, order};
 use snmp_wire::{Binding, Oid, ValueRef};
 use std::alloc::Global;
 use std::collections::BTreeSet;
@@ -225,7 +225,7 @@ pub fn place_after(rows: &[Row], name: &[u32]) -> usize
     rows.partition_point(
         |row: &Row| -> bool
             ensures { result ≡ is_up_to name.entry.now row.now }
-        { row.name.as_slice().cmp(name).is_le() },
+        { compare_numbers(row.name.as_slice(), name).is_le() },
     )
 }
 

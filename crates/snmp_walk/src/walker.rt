@@ -179,10 +179,11 @@ impl WalkCore {
         if let Phase::Over = self.phase {
             return 0;
         }
-        let bindings = [Binding {
-            name: copy_of(&self.asked),
+        let mut binding = Binding {
+            name: Oid::new(),
             value: ValueRef::Null,
-        }];
+        };
+        binding.name.set_to(&self.asked);
         let parts = Parts {
             version: 1,
             community: self.community.as_slice(),
@@ -190,7 +191,7 @@ impl WalkCore {
             id: self.id as i32,
             a: 0,
             b: self.repetitions(),
-            bindings: &bindings,
+            bindings: std::slice::from_ref(&binding),
         };
         match encode(&parts, out) {
             Some(length) => length,
@@ -405,7 +406,8 @@ impl WalkCore {
         requires { AreSendable message.now.bindings }
         ensures { (result, self.new) ≡ reads_next self.old message.now.bindings }
     {
-        let mut last = copy_of(&self.asked);
+        let mut last = Oid::new();
+        last.set_to(&self.asked);
         let mut binding = Binding::empty();
         let Some(Front { rows, ending }) = self.front(message.bindings(), &mut last, &mut binding)
         else {

@@ -1,5 +1,5 @@
 use Rattle.std.proofs.Common.{◌≡◌, take, refl, ◌∙◌, subst, arith, ℕ}
-use Rattle.snmp_oid.proofs.Comparing.{behind_alike, first_decides, one_more_alike, same_backs}
+use Rattle.snmp_oid.proofs.Comparing.{first_decides, longer_after, one_more_alike}
 use Rattle.snmp_oid.proofs.oid.compare_numbers.Goals as goal
 use Rattle.snmp_oid.proofs.oid.compare_numbers.Goals.{then-begin_alike, else-begin_alike}
 
@@ -28,5 +28,4 @@ returns c =
     let last : c.numbers.i ≡ c.min-both.result = omega (arith, c.numbers.invariant.0) in
     let P : ℕ → Type 0 = λ n. take n c.args.o.now ≡ take n c.args.p.now in
     c.cmp-2.ensures
-    ∙ same_backs _ _ _ _ c.split_at.ensures.back c.split_at-2.ensures.back
-    ∙ behind_alike c.min-both.result c.args.o.now c.args.p.now (subst P last c.numbers.invariant.1)
+    ∙ longer_after c.min-both.result c.args.o.now c.args.p.now (omega arith) (omega arith) (omega arith) (subst P last c.numbers.invariant.1)
