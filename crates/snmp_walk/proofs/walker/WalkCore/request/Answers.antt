@@ -21,16 +21,16 @@ unreachable-requires c =
       count = c.self.inside.count;
     } in
     false≢true (c.in-None.ensures.variant.1 (rw
-    (c.as_slice.ensures.value, c.kind.ensures, c.copy_of.ensures.value, id, same, c.repetitions.ensures, ← c.self.view_is, c.told-out)
-    (request_fits inside c.self.invariant.community c.copy_of.ensures.identifier.short)))
+    (c.as_slice.ensures.value, c.kind.ensures, c.from_ref.ensures.value, c.set_to.ensures, id, same, c.repetitions.ensures, ← c.self.view_is, c.told-out)
+    (request_fits inside c.self.invariant.community c.self.invariant.identifier.short)))
 
 pub encode-requires : goal.encode-requires
 encode-requires c =
     record {
       community = rw c.as_slice.ensures.value (omega (arith, c.self.invariant.community));
-      bindings = encodable c.copy_of.result (rw c.copy_of.ensures.value c.self.invariant.asked);
-      total = (let short : length c.copy_of.result ≤ 128 = rw c.copy_of.ensures.value c.copy_of.ensures.identifier.short in omega
-          (arith, name_short c.copy_of.result short));
+      bindings = rw c.from_ref.ensures.value (encodable c.set_to.new.self (rw c.set_to.ensures c.self.invariant.asked));
+      total = (let short : length c.set_to.new.self ≤ 128 = rw c.set_to.ensures c.self.invariant.identifier.short in
+      rw c.from_ref.ensures.value (omega (arith, name_short c.set_to.new.self short)));
     }
 
 pub returns : goal.returns
