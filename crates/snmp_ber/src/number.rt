@@ -26,7 +26,7 @@ pub(crate) fn unsigned(octets: &[u8]) -> u64
 
 /// The content of an INTEGER of 32 bits, in two's complement.
 #[tactic(auto, unfolding(crate::specs::Reading::integer_of))]
-#[inline]
+#[inline(always)]
 pub(crate) fn integer_of(content: &[u8]) -> Result<i32, BerError>
     ensures { AgreesBy (λ z. z) result (reading.integer_of content.now) }
 {

@@ -37,7 +37,7 @@ first_decides i o p h k same differ =
     let P : List ℕ → Type 0 = λ s. nat_cmp n m ≡ slice_cmp nat_cmp s (drop i p) in
     let Q : List ℕ → Type 0 = λ s. nat_cmp n m ≡ slice_cmp nat_cmp (n ∷ drop (suc i) o) s in
     let here : nat_cmp n m ≡ slice_cmp nat_cmp (n ∷ drop (suc i) o) (m ∷ drop (suc i) p) =
-        decides_by n m (slice_cmp nat_cmp (drop (suc i) o) (drop (suc i) p)) (nat_cmp n m) refl differ in
+    decides_by n m (slice_cmp nat_cmp (drop (suc i) o) (drop (suc i) p)) (nat_cmp n m) refl differ in
     subst P (sym (drop-cons o i 0 h)) (subst Q (sym (drop-cons p i 0 k)) here) ∙ behind_alike i o p same
 
 -- one more equal pair
@@ -46,9 +46,9 @@ pub one_more_alike : (i : ℕ) (o p : List ℕ) → i < length o → i < length 
 one_more_alike i o p h k same equal =
     let P : ℕ → Type 0 = λ j. take j o ≡ take j p in
     let next : take (suc i) o ≡ take (suc i) p = take-suc o i 0 h
-        ∙ ap (λ (s : List ℕ). s ++ get_or o i 0 ∷ []) same
-        ∙ ap (λ n. take i p ++ n ∷ []) equal
-        ∙ sym (take-suc p i 0 k) in
+    ∙ ap (λ (s : List ℕ). s ++ get_or o i 0 ∷ []) same
+    ∙ ap (λ n. take i p ++ n ∷ []) equal
+    ∙ sym (take-suc p i 0 k) in
     let e : suc i ≡ i + 1 = omega arith in
     subst P e next
 
@@ -64,3 +64,18 @@ pub longer_after : (both : ℕ) (o p : List ℕ) → both ≤ length o → both 
 longer_after both o p h k end same =
     ends (length o) (length p) both (drop both o) (drop both p) (omega (arith, length-drop both o)) (omega (arith, length-drop both p)) end
     ∙ behind_alike both o p same
+
+-- eight equal pairs
+pub eight_alike : (o p : List ℕ) → 8 ≤ length o → 8 ≤ length p
+    → (get_or o 0 0 ≡ get_or p 0 0) × (get_or o 1 0 ≡ get_or p 1 0) × (get_or o 2 0 ≡ get_or p 2 0) × (get_or o 3 0 ≡ get_or p 3 0)
+    → (get_or o 4 0 ≡ get_or p 4 0) × (get_or o 5 0 ≡ get_or p 5 0) × (get_or o 6 0 ≡ get_or p 6 0) × (get_or o 7 0 ≡ get_or p 7 0)
+    → take 8 o ≡ take 8 p
+eight_alike o p h k front back =
+    let one : take 1 o ≡ take 1 p = one_more_alike 0 o p (omega arith) (omega arith) refl front.0 in
+    let two : take 2 o ≡ take 2 p = one_more_alike 1 o p (omega arith) (omega arith) one front.1 in
+    let three : take 3 o ≡ take 3 p = one_more_alike 2 o p (omega arith) (omega arith) two front.2 in
+    let four : take 4 o ≡ take 4 p = one_more_alike 3 o p (omega arith) (omega arith) three front.3 in
+    let five : take 5 o ≡ take 5 p = one_more_alike 4 o p (omega arith) (omega arith) four back.0 in
+    let six : take 6 o ≡ take 6 p = one_more_alike 5 o p (omega arith) (omega arith) five back.1 in
+    let seven : take 7 o ≡ take 7 p = one_more_alike 6 o p (omega arith) (omega arith) six back.2 in
+    one_more_alike 7 o p (omega arith) (omega arith) seven back.3

@@ -1,7 +1,7 @@
 //! An object identifier of up to 128 numbers, which lie in the value itself.
 ghost use Rattle.std.specs.Prelude.{◌≡◌, ℕ, ◌+◌, ◌<◌, ◌≤◌, ◌↔◌, List, [], ◌∷◌, ◌++◌, length};
 ghost use Rattle.std.specs.Prelude.{IsTrue, IsOk, IfOk, IfErr, OnOk, OnErr, Some, ⊤, refl, take};
-ghost use Rattle.std.specs.Prelude.{true};
+ghost use Rattle.std.specs.Prelude.{true, get_or};
 ghost use Rattle.std.proofs.Common.{rules};
 ghost use Rattle.std.specs.Ordering.{nat_cmp};
 ghost use Rattle.std.specs.Hash as fed;
@@ -190,8 +190,7 @@ impl Oid {
         ensures { IsTrue result ↔ IsBelow self.now root.now }
     {
         let front = root.as_slice();
-        self.len() > front.len()
-            && compare_numbers(&self.as_slice()[..front.len()], front).is_eq()
+        self.len() > front.len() && compare_numbers(&self.as_slice()[..front.len()], front).is_eq()
     }
 
     /// Whether the identifier has an encoding (X.690, 8.19.4): two numbers at least, the first from
@@ -270,7 +269,29 @@ fn begin_alike(o: &[u32], p: &[u32]) -> bool
     ensures { result ≡ true → (8 ≤ length o.now) × (8 ≤ length p.now)
         × (take 8 o.now ≡ take 8 p.now) }
 {
-    o.len() >= 8 && p.len() >= 8 && &o[..8] == &p[..8]
+    if o.len() < 8 || p.len() < 8 {
+        return false;
+    }
+    if are_same_four(o, p, 0) {
+        return are_same_four(o, p, 4);
+    }
+    false
+}
+
+/// Whether the four numbers from a place on are the same.
+#[inline(always)]
+fn are_same_four(o: &[u32], p: &[u32], from: usize) -> bool
+    requires { (from + 4 ≤ length o.now) × (from + 4 ≤ length p.now) }
+    ensures { result ≡ true
+        → (get_or o.now from 0 ≡ get_or p.now from 0)
+        × (get_or o.now (from + 1) 0 ≡ get_or p.now (from + 1) 0)
+        × (get_or o.now (from + 2) 0 ≡ get_or p.now (from + 2) 0)
+        × (get_or o.now (from + 3) 0 ≡ get_or p.now (from + 3) 0) }
+{
+    o[from] == p[from]
+        && o[from + 1] == p[from + 1]
+        && o[from + 2] == p[from + 2]
+        && o[from + 3] == p[from + 3]
 }
 
 /// The order of identifiers is that of their ranks, numbers of 128 digits to the base 2^32 + 1.

@@ -269,6 +269,7 @@ pub fn encode(parts: &Parts<'_>, out: &mut [u8]) -> Option<usize>
 /// these take `total` octets together. The bindings of `parts` aren't looked at.
 ///
 /// It requires a community of at most 65535 octets and a total of at most 4,000,000,000.
+#[inline(always)]
 pub fn head_size(parts: &Parts<'_>, total: u64) -> u64
     requires community { length parts.now.community.now ≤ 65535 }
     requires total { total ≤ 4000000000 }

@@ -6,13 +6,13 @@ use Rattle.snmp_oid.proofs.oid.compare_numbers.Goals.{then-begin_alike, else-beg
 pub numbers-init : goal.numbers-init
 numbers-init c =
     elim c.if-begin_alike.branch [
-      then-begin_alike w ↦ (let alike = c.begin_alike.ensures w.if-begin_alike.true in
-      let P : ℕ → Type 0 = λ n. take n c.args.o.now ≡ take n c.args.p.now in
-      let eight : 8 ≡ c.if-begin_alike.start = omega arith in
-      (omega (arith, alike.0, alike.1), subst P eight alike.2))
-    | else-begin_alike w ↦ (let P : ℕ → Type 0 = λ n. take n c.args.o.now ≡ take n c.args.p.now in
-      let none : 0 ≡ c.if-begin_alike.start = omega arith in
-      (omega arith, subst P none refl))
+      | then-begin_alike w ↦ (let alike = c.begin_alike.ensures w.if-begin_alike.true in
+          let P : ℕ → Type 0 = λ n. take n c.args.o.now ≡ take n c.args.p.now in
+          let eight : 8 ≡ c.if-begin_alike.start = omega arith in
+          (omega (arith, alike.0, alike.1), subst P eight alike.2))
+      | else-begin_alike w ↦ (let P : ℕ → Type 0 = λ n. take n c.args.o.now ≡ take n c.args.p.now in
+          let none : 0 ≡ c.if-begin_alike.start = omega arith in
+          (omega arith, subst P none refl))
     ]
 
 pub returns-then-o-i : goal.returns-then-o-i

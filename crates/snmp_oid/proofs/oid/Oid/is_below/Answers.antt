@@ -14,8 +14,8 @@ returns-then-len-front c =
     let root = c.args.root.now in
     let longer : length root < length o = rw (← front) (omega arith) in
     let compared : c.compare_numbers.result ≡ slice_cmp nat_cmp (take (length root) o) root =
-        rw (← c.as_slice.ensures.value, ← front) c.compare_numbers.ensures in
+    rw (← c.as_slice.ensures.value, ← front) c.compare_numbers.ensures in
     let P : Bool → Type 0 = λ b. Decides b (take (length root) o ≡ root) in
     let same : Decides c.is_eq.result (take (length root) o ≡ root) =
-        subst P (sym (c.is_eq.ensures ∙ ap is_eq compared ∙ is_eq-slice_cmp (take (length root) o) root)) (bytes_eq-Decides (take (length root) o) root) in
+    subst P (sym (c.is_eq.ensures ∙ ap is_eq compared ∙ is_eq-slice_cmp (take (length root) o) root)) (bytes_eq-Decides (take (length root) o) root) in
     (λ yes_same. below_from_front o root longer (same.0 yes_same), λ below. same.1 (front_from_below o root below))
