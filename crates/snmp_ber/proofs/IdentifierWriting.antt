@@ -91,6 +91,22 @@ pub one_septet : (n : ℕ) → n < 128 → (128 + n) ∷ [] ≡ septets 1 n
 unfolding septets
 one_septet n below = let same : n / 1 % 128 ≡ n = omega (arith, below) in sym (ap (λ m. (128 + m) ∷ []) same)
 
+-- a subidentifier of three octets
+pub subidentifier_three : (n : ℕ) → 16384 ≤ n → n < 2097152 → 3 ≡ subidentifier_size n
+unfolding subidentifier_size
+subidentifier_three n more below =
+    let first = count_left 128 128 3 n (omega (arith, more)) in
+    let second = count_left 128 (128 * 128) 2 n more in
+    let third : digit_count 128 (128 * 128 * 128) 2 n ≡ 1 = count_taken 128 (128 * 128 * 128) 1 n below in
+    sym (first ∙ ap (λ k. 1 + k) (second ∙ ap (λ k. 1 + k) third))
+
+pub two_septets : (m : ℕ) → m < 16384 → (128 + m / 128) ∷ (128 + m % 128) ∷ [] ≡ septets 2 m
+unfolding septets
+two_septets m below =
+    let high : m / 128 % 128 ≡ m / 128 = omega (arith, below) in
+    let low : m / 1 % 128 ≡ m % 128 = omega arith in
+    sym (ap (λ k. (128 + k) ∷ (128 + m / 1 % 128) ∷ []) high ∙ ap (λ k. (128 + m / 128) ∷ (128 + k) ∷ []) low)
+
 -- what an identifier's content is, by its first two numbers and the others
 pub content_parts : (name : List ℕ) → IsWire name → canon_content (object_id name) ≡ canon_subidentifier (40 * get_or name 0 0 + get_or name 1 0)
     ++ flat_map canon_subidentifier (take (length name - 2) (drop 2 name))

@@ -577,6 +577,11 @@ fn put_subidentifier(out: &mut [u8], end: usize, number: u64) -> usize
     if number < 16384 {
         return put_octet(out, last, 128 + (number / 128) as u8);
     }
+    if number < 2097152 {
+        let rest = number / 128;
+        let mid = put_octet(out, last, 128 + (rest % 128) as u8);
+        return put_octet(out, mid, 128 + (rest / 128) as u8);
+    }
     put_septets(out, last, septets_size(number) - 1, number / 128)
 }
 

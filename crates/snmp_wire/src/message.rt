@@ -294,6 +294,7 @@ pub fn head_size(parts: &Parts<'_>, total: u64) -> u64
 /// aren't looked at. It requires what [`head_size`] requires.
 ///
 /// None only where `out` is shorter, and then it is unchanged.
+#[inline(always)]
 pub fn encode_head(parts: &Parts<'_>, total: u64, out: &mut [u8]) -> Option<usize>
     requires community { length parts.now.community.now ≤ 65535 }
     requires total { total ≤ 4000000000 }

@@ -1,4 +1,5 @@
-use Rattle.snmp_ber.proofs.KnownLemmas.{subidentifier_some, subidentifier_plain, subidentifier_longer, subidentifier_of_two, subidentifier_longest, subidentifier_of_three}
+use Rattle.snmp_ber.proofs.KnownLemmas.{subidentifier_some, subidentifier_plain, subidentifier_longer, subidentifier_of_two}
+use Rattle.snmp_ber.proofs.KnownLemmas.{subidentifier_longest, subidentifier_of_three}
 use Rattle.snmp_ber.proofs.identifier.subidentifier_in.Goals as goal
 
 pub bounds-octets-0 : goal.bounds-octets-0

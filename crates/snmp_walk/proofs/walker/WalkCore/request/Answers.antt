@@ -30,7 +30,7 @@ encode-requires c =
       community = rw c.as_slice.ensures.value (omega (arith, c.self.invariant.community));
       bindings = rw c.from_ref.ensures.value (encodable c.set_to.new.self (rw c.set_to.ensures c.self.invariant.asked));
       total = (let short : length c.set_to.new.self ≤ 128 = rw c.set_to.ensures c.self.invariant.identifier.short in
-      rw c.from_ref.ensures.value (omega (arith, name_short c.set_to.new.self short)));
+          rw c.from_ref.ensures.value (omega (arith, name_short c.set_to.new.self short)));
     }
 
 pub returns : goal.returns
