@@ -1,6 +1,6 @@
 //! Links, over which a walk sends its requests and receives replies.
 ghost use Rattle.std.specs.Prelude.{◌≡◌, ◌≤◌, ◌+◌, ◌++◌, [], ◌∷◌, ◌⊎◌, ℕ, List, length, Option};
-ghost use Rattle.std.specs.Prelude.{Some, None, IsOk, OnOk, IfOk, OnErr, IfSome, take};
+ghost use Rattle.std.specs.Prelude.{Some, None, IsOk, IsErr, OnOk, IfOk, OnErr, IfSome, take, ◌<◌};
 
 use crate::LinkFault;
 
@@ -54,7 +54,8 @@ pub trait Link {
             × ready self.new sends octets };
 
     /// Receives a datagram into the front of the buffer and returns its length, or None where none
-    /// comes in time. A fault changes the count of faults alone.
+    /// comes in time. A fault changes the count of faults alone. An honest link refuses a buffer of
+    /// fewer than 65507 octets.
     fn receive(&mut self, buffer: &mut [u8]) -> Result<Option<usize>, LinkFault>
         ensures length { IfOk result (λ got. IfSome got (λ n. n ≤ length buffer.old)) }
         ensures brings { IfOk result (λ got. IfSome got
@@ -62,6 +63,7 @@ pub trait Link {
         ensures reply { honest self.old → 65507 ≤ length buffer.old
             → IfOk result (λ got. Receives (agents self.old) (traffic self.old).sent
             (traffic self.old).ahead (received got buffer.new) (traffic self.new).ahead) }
+        ensures short { honest self.old → length buffer.old < 65507 → IsErr result }
         ensures sent { keeps self.old → (traffic self.new).sent ≡ (traffic self.old).sent }
         ensures unchanged { OnErr result (traffic self.new ≡ traffic self.old) }
         ensures keeps { keeps self.old → keeps self.new }
