@@ -58,7 +58,10 @@ pub fn run_get<L: Link, S: Sink>(
         ↔ (65507 < length (canon (get_request community.now id names.now))) }
     ensures sent { L.keeps link.old → (times : ℕ) × (times ≤ retries + 1)
         × ((L.traffic link.new).sent ≡ (L.traffic link.old).sent
-        ++ replicate times (canon (get_request community.now id names.now))) }
+        ++ replicate times (canon (get_request community.now id names.now)))
+        × (result ≡ WalkEnd.NoResponse → times ≡ retries + 1) }
+    ensures count { result ≢ WalkEnd.Link
+        → L.fault_count link.new ≡ L.fault_count link.old }
     ensures fault { result ≡ WalkEnd.Link
         → HasRisen (L.fault_count link.old) (L.fault_count link.new) }
 {

@@ -47,6 +47,8 @@ pub fn run_walk<L: Link, S: Sink>(
         (L.honest link.old × ((L.traffic link.old).sent ≡ []))
         (retries + 1) (L.traffic link.old) core rows result (L.traffic link.new))
         × EndFacts (ComesOver L.brings) core rows refused result }
+    ensures count { result ≢ WalkEnd.Link
+        → L.fault_count link.new ≡ L.fault_count link.old }
     ensures fault { result ≡ WalkEnd.Link
         → HasRisen (L.fault_count link.old) (L.fault_count link.new) }
     ensures ready { ReadyFacts (L.agents link.old)
