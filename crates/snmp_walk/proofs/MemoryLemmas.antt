@@ -15,6 +15,7 @@ use Rattle.std.proofs.Common.{
   ◌++◌,
   length,
   get_or,
+  take,
   drop,
   refl,
   sym,
@@ -30,12 +31,12 @@ use Rattle.std.proofs.Common.{
 }
 use Rattle.std.specs.Prelude.{All, unwrap_or, IfSome}
 use Rattle.std.specs.List.{slice_get}
-use Rattle.std.proofs.lemmas.List.{drop_all, take-append-le}
-use Rattle.snmp_table.specs.Table.{MibView}
+use Rattle.std.proofs.lemmas.List.{drop_all, take_all, take_more, take-append-le}
+use Rattle.snmp_table.specs.Table.{MibView, IsMibView}
 use Rattle.snmp_agent.specs.Reply.{agent_of, IsReply, IsDropped}
 use Rattle.snmp_agent.specs.declared.config.Config.{Config}
 use Rattle.snmp_agent.specs.declared.config.Why.{Why}
-use Rattle.snmp_walk.specs.Link.{Agents, OneOf, IsReplyFrom, IsUnanswered}
+use Rattle.snmp_walk.specs.Link.{Agents, OneOf, IsReplyFrom, IsUnanswered, AreViews}
 use Rattle.snmp_walk.specs.Traffic.{datagram_at, latest, received, Gives, Receives}
 use Rattle.snmp_walk.specs.Memory.{agents_over, IsNextNumber}
 
@@ -43,6 +44,19 @@ pub one_got : (views : List MibView) (place : ℕ) (d : MibView) → place < len
 one_got [] place d h = absurd (omega (arith, h))
 one_got (view ∷ views) zero d h = inl refl
 one_got (view ∷ views) (suc place) d h = inr (one_got views place d (omega (arith, h)))
+
+views_push : (views : List MibView) (v : MibView) → AreViews views → IsMibView v → AreViews (views ++ v ∷ [])
+views_push [] v h good = (good, tt)
+views_push (u ∷ views) v h good = (h.0, views_push views v h.1 good)
+
+-- the tables up to one more are views, and where none is left all are
+pub views_more : (views : List MibView) (i : ℕ) (v : MibView) → i < length views → v ≡ get_or views i v → IsMibView v → AreViews (take i views)
+    → AreViews (take (i + 1) views)
+views_more views i v less is good h =
+    subst AreViews (sym (take_more views i v less ∙ ap (λ (x : MibView). take i views ++ x ∷ []) (sym is))) (views_push (take i views) v h good)
+
+pub views_all : (views : List MibView) (i : ℕ) → length views ≤ i → AreViews (take i views) → AreViews views
+views_all views i all h = subst AreViews (take_all i views all) h
 
 latest_found : (sent : List (List ℕ)) → datagram_at sent (length sent) ≡ latest sent
 latest_found [] = refl

@@ -46,7 +46,7 @@ impl<'a> MemoryLink<'a> {
         ensures agents { agents_of result ≡ agents_over (table.now ∷ []) config.entry }
         ensures traffic { traffic_of result ≡ record { sent = []; ahead = deliveries.now } }
         ensures no_fault { result.fault_count ≡ 0 }
-        ensures honest { IsMibView table.now → IsHonest result }
+        ensures honest { IsHonest result }
     {
         MemoryLink::changing(alloc, std::slice::from_ref(table), config, &[], deliveries)
     }
@@ -68,8 +68,11 @@ impl<'a> MemoryLink<'a> {
         ensures agents { agents_of result ≡ agents_over tables.now config.entry }
         ensures traffic { traffic_of result ≡ record { sent = []; ahead = deliveries.now } }
         ensures no_fault { result.fault_count ≡ 0 }
-        ensures honest { AreViews tables.now → IsHonest result }
+        ensures honest { IsHonest result }
     {
+        'tables: for table in tables {
+            table.is_mib_view();
+        }
         MemoryLink {
             tables,
             config,
