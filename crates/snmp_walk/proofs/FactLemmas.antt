@@ -8,7 +8,7 @@ use Rattle.snmp_walk.specs.declared.end.WalkEnd.TheVariants as ending
 use Rattle.snmp_walk.specs.Walker.{Walker, IsWalker}
 use Rattle.snmp_walk.specs.Standing.{Reaches, IsPartOfWalk, IsWholeWalk, IsOneTable}
 use Rattle.snmp_walk.specs.Link.{Agents, OneOf, IsNextFrom, IsGotFrom, AreViews, IsUnanswered}
-use Rattle.snmp_walk.specs.Facts.{IsFresh, IsLawfulEnd, HasNoReply, HasNone, IsDone, TableFacts, WalkFacts, SendFacts}
+use Rattle.snmp_walk.specs.Facts.{IsFresh, IsLastSent, IsEndedBy, IsLawfulEnd, HasNoReply, HasNone, IsDone, TableFacts, WalkFacts, SendFacts}
 use Rattle.snmp_walk.specs.Codec.{Codec}
 use Rattle.snmp_walk.proofs.JoinLemmas.{variables_rise, variables_are, next_first, get_one, get_row}
 use Rattle.snmp_walk.proofs.TableLemmas.{part_is, whole_is}
@@ -120,10 +120,11 @@ table_facts codec agents tries old new first rows refused end some fresh views p
 pub facts : Codec → (agents : Agents) (tries : ℕ) (old new : Traffic) (first : Walker) (rows refused : List VarBind) (end : WalkEnd) → 0 < tries → IsFresh first
     → AreViews agents.tables
     → IsPartOfWalk (IsNextFrom agents) (IsGotFrom agents) first (rows ++ refused) → IsLawfulEnd agents (HasNoReply agents tries old new) first rows end
-    → WalkFacts agents tries old first rows refused end new
-facts codec agents tries old new first rows refused end some fresh views part lawful = record {
+    → IsEndedBy agents (IsLastSent tries end new) first rows end → WalkFacts agents tries old first rows refused end new
+facts codec agents tries old new first rows refused end some fresh views part lawful last = record {
   part = part;
   lawful = lawful;
+  last_request = last;
   replied = λ none. lawful_by agents (HasNoReply agents tries old new) (HasNone agents) first rows end
       (λ w h. none_lost agents tries old new w some none h) lawful;
   beginning = λ view got e answer.

@@ -407,9 +407,9 @@ module _ (codec : Codec) (agents : Agents) (lawful : AreLawful agents) (tries : 
     }
 
 -- a request that no try had a reply to
-pub lost_get : (agents : Agents) (honest : Type 0) (tries : ℕ) (q text : List ℕ) → q ≡ text → (old new : Traffic) (silent : Type 0) → silent → honest
-    → Exchanges agents honest tries q old silent new → IsLostGet agents tries old text new
-lost_get agents honest tries q text is old new silent s h x =
+pub lost_get : (agents : Agents) (honest : Type 0) (tries : ℕ) (q text : List ℕ) → q ≡ text → (old new : Traffic) (silent failed : Type 0) → silent → honest
+    → Exchanges agents honest tries q old silent failed new → IsLostGet agents tries old text new
+lost_get agents honest tries q text is old new silent failed s h x =
     let u = x.honestly h in
     let times : x.times ≡ tries = x.all s in
     subst (λ (t : List ℕ). IsLostGet agents tries old t new) is (record {
@@ -427,13 +427,13 @@ lost_get agents honest tries q text is old new silent s h x =
 -- a Get that no try had a reply to, by its exchange
 pub lost_exchange : Codec → (agents : Agents) (honest : Type 0) (lawful : honest
     → AreLawful agents) (tries : ℕ) (community : List ℕ) (id : ℕ) (names : List (List ℕ))
-    → IsMessageInRange (get_request community id names) → (q : List ℕ) → q ≡ canon (get_request community id names) → (old new : Traffic) (silent : Type 0)
-    → silent → Exchanges agents (honest × IsAsked agents community id q old.sent) tries q old silent new → honest → old.sent ≡ []
+    → IsMessageInRange (get_request community id names) → (q : List ℕ) → q ≡ canon (get_request community id names) → (old new : Traffic) (silent failed : Type 0)
+    → silent → Exchanges agents (honest × IsAsked agents community id q old.sent) tries q old silent failed new → honest → old.sent ≡ []
     → IsLostGet agents tries old (canon (get_request community id names)) new
-lost_exchange codec agents honest lawful tries community id names ranged q is old new silent s x h none =
+lost_exchange codec agents honest lawful tries community id names ranged q is old new silent failed s x h none =
     let asked = subst (λ (t : List ℕ). IsAsked agents community id t old.sent) (sym is)
     (asked_alone codec community id names ranged agents (lawful h) old.sent none) in
-    lost_get agents (honest × IsAsked agents community id q old.sent) tries q (canon (get_request community id names)) is old new silent s (h, asked) x
+    lost_get agents (honest × IsAsked agents community id q old.sent) tries q (canon (get_request community id names)) is old new silent failed s (h, asked) x
 
 -- how a Get ended, with the facts
 pub facts_by : Codec → (Comes : List ℕ → Type 0) (agents : Agents) (honest : Type 0) (lawful : honest

@@ -1,6 +1,6 @@
 -- What a link stays ready for, try by try and request by request.
 use Rattle.std.proofs.Common.{◌≡◌, ◌≢◌, ℕ, ◌+◌, ◌*◌, ◌-◌, ◌≤◌, ◌<◌, List, [], ◌∷◌, length, refl, sym, ◌∙◌, ap, subst, arith, add-one, Option, Some}
-use Rattle.std.specs.Prelude.{Result, Ok, Err, IsOk}
+use Rattle.std.specs.Prelude.{Result, Ok, Err, IsOk, IsErr}
 use Rattle.snmp_walk.specs.declared.end.SinkFault.{SinkFault}
 use Rattle.snmp_walk.specs.declared.end.WalkEnd.TheVariants as ending
 use Rattle.std.proofs.Math.Nat.{suc-mul, add-mul, mul-le-mul_left, mul-le-mul_right}
@@ -87,6 +87,10 @@ leaves_by Ready Later tries size Fine Other by h = (h.0, h.1, λ sends octets r.
 pub never_err : {T E : Type 0} (r : Result T E) (e : E) → r ≡ Err e → IsOk r → ⊥
 never_err (Ok x) e is h = let no : ⊥ = cc in no
 never_err (Err f) e is h = let no : ⊥ = cc in no
+
+pub never_bad : {T E : Type 0} (r : Result T E) (x : T) → r ≡ Ok x → IsErr r → ⊥
+never_bad (Ok y) x is h = let no : ⊥ = cc in no
+never_bad (Err f) x is h = let no : ⊥ = cc in no
 
 pub silent_no_link : Some ending.NoResponse ≡ Some ending.Link → ⊥
 silent_no_link e = cc

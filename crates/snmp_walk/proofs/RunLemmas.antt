@@ -65,7 +65,21 @@ use Rattle.snmp_walk.specs.Link.{Agents, IsNextFrom, IsGotFrom, IsTooLarge, IsUn
 use Rattle.snmp_walk.specs.Sink.{Given, Took}
 use Rattle.snmp_walk.specs.Run.{IsFrom, Turns, goes_on, ends, is_refused, is_silent, fails}
 use Rattle.snmp_walk.specs.Read.{rows_in}
-use Rattle.snmp_walk.specs.Facts.{IsFresh, IsLawfulEnd, HasNoReply, HasNone, WalkFacts, SendFacts, EndFacts, IsEndOfRun, IsReadyForAll, ReadyFacts}
+use Rattle.snmp_walk.specs.Facts.{
+  IsFresh,
+  IsLastSent,
+  IsWaiting,
+  IsEndedBy,
+  IsLawfulEnd,
+  HasNoReply,
+  HasNone,
+  WalkFacts,
+  SendFacts,
+  EndFacts,
+  IsEndOfRun,
+  IsReadyForAll,
+  ReadyFacts,
+}
 use Rattle.snmp_walk.specs.Traffic.{Traffic, Lost}
 use Rattle.snmp_walk.specs.Heard.{Exchanges, IsEarlier}
 use Rattle.snmp_walk.specs.Request.{request_of}
@@ -197,13 +211,14 @@ module _ (agents : Agents) (laws : AreLawfulReplies (IsNextFrom agents) (IsGotFr
   advances_part w v given (step.Last rows why) k = k.0
 
 -- what the turns of a run show of it
-pub record RunFacts (agents : Agents) (Silent : Walker → Type 0) (first : Walker) (rows refused : List VarBind) (end : WalkEnd) : Type 0 where
+pub record RunFacts (agents : Agents) (Silent Sent : Walker → Type 0) (first : Walker) (rows refused : List VarBind) (end : WalkEnd) : Type 0 where
   pub part : IsPartOfWalk (IsNextFrom agents) (IsGotFrom agents) first (rows ++ refused)
   pub lawful : IsLawfulEnd agents Silent first rows end
+  pub last_request : IsEndedBy agents Sent first rows end
 
 module _ {S : Type 0} (takes : S → VarBind → Result (Unit {0}) SinkFault → S → Type 0) (Comes : List ℕ → Type 0) (agents : Agents) (Silent : Walker
-    → Type 0) (honest : Type 0) (first w : Walker) (before s t : S)
-    (given : List VarBind) (sunk : Given takes before given s) (stands : Reaches Rises Named first w given) where
+    → Type 0) (Sent : WalkEnd → Walker → Type 0) (honest : Type 0) (first w : Walker) (before s t : S)
+    (given : List VarBind) (sunk : Given takes before given s) (stands : Reaches Rises Named first w given) (good : IsWalker w) (later : first.id ≤ w.id) where
   -- the walk after one more turn
   pub record GoesOn (rows : List VarBind) (new : Walker) : Type 0 where
     pub sink : Given takes before (given ++ rows) t
@@ -237,26 +252,44 @@ module _ {S : Type 0} (takes : S → VarBind → Result (Unit {0}) SinkFault →
     pub refused : List VarBind
     pub sink : Took takes before (given ++ rows) refused end t
     pub part : IsPartOfWalk Rises Named first ((given ++ rows) ++ refused)
-    pub ending : EndFacts Comes first (given ++ rows) refused end
+    pub ending : EndFacts Comes (Sent end) first (given ++ rows) refused end
     pub facts : honest → AreLawfulReplies (IsNextFrom agents) (IsGotFrom agents) → Reaches (IsNextFrom agents) (IsGotFrom agents) first w given
-        → RunFacts agents Silent first (given ++ rows) refused end
+        → RunFacts agents Silent (Sent end) first (given ++ rows) refused end
 
-  over_reply : (rows : List VarBind) (m : Message) (datagram : List ℕ) (why : WalkEnd) → IsFrom agents honest w m → Comes datagram → Spells m datagram
-      → (take_of w m).0 ≡ step.Last rows why → Given takes s rows t
+  waiting : (why : WalkEnd) → Sent why w → IsWaiting (Sent why) first w given
+  waiting why sent = record { walker = good; id = later; reaches = stands; sent = sent }
+
+  ended_by : (rows : List VarBind) (why : WalkEnd) → Sent why w → Reaches (IsNextFrom agents) (IsGotFrom agents) first w given
+      → (IsReplyEnd why → Ends (IsNextFrom agents) (IsGotFrom agents) (IsTooLarge agents) first w (given ++ rows) why)
+      → IsEndedBy agents (Sent why) first (given ++ rows) why
+  ended_by rows why sent k last = record {
+    w = w;
+    given = given;
+    more = rows;
+    parts = refl;
+    walker = good;
+    id = later;
+    reaches = k;
+    ends = last;
+    sent = sent;
+  }
+
+  over_reply : (rows : List VarBind) (m : Message) (datagram : List ℕ) (why : WalkEnd) → Sent why w → IsFrom agents honest w m → Comes datagram
+      → Spells m datagram → (take_of w m).0 ≡ step.Last rows why → Given takes s rows t
       → IsOver rows why
-  over_reply rows m datagram why from comes spelt e sink =
+  over_reply rows m datagram why sent from comes spelt e sink =
       let any = subst (λ (st : Step). AdvancesAnyhow first w given st (take_of w m).1) e (taken_any first w given m stands) in
       record {
         refused = [];
         sink = took_reply takes before t (given ++ rows) why any.0 (given-append S takes given rows before s t sunk sink);
         part = subst (IsPartOfWalk Rises Named first) (sym (append-nil (given ++ rows))) any.1;
-        ending = end_facts Comes first (given ++ rows) [] why (subst (IsPartOfWalk Rises Named first) (sym (append-nil (given ++ rows))) any.1) any.2
-            (read_end Comes first (given ++ rows) why any.0 (record {
+        ending = end_facts Comes (Sent why) first (given ++ rows) [] why (subst (IsPartOfWalk Rises Named first) (sym (append-nil (given ++ rows))) any.1) any.2
+            (read_end Comes (Sent why) first (given ++ rows) why any.0 (record {
               w = w;
               given = given;
               more = rows;
               parts = refl;
-              waits = stands;
+              waits = waiting why sent;
               datagram = datagram;
               comes = comes;
               over = (take_of w m).1;
@@ -270,13 +303,14 @@ module _ {S : Type 0} (takes : S → VarBind → Result (Unit {0}) SinkFault →
                   (given ++ rows))) step_of.0;
               lawful = lawful_reply agents Silent first w given rows why any.0 (subst EndsEmpty e
                   (ends_empty w m)) k step_of.1;
+              last_request = ended_by rows why sent k (λ own. step_of.1);
             };
       }
 
-  over_refused : (rows : List VarBind) (m : Message) (fault : SinkFault) (p : VarBind) (left : List VarBind) (between : S) → IsFrom agents honest w m
-      → rows_in (take_of w m).0 ≡ rows ++ p ∷ left
+  over_refused : (rows : List VarBind) (m : Message) (fault : SinkFault) (p : VarBind) (left : List VarBind) (between : S) → Sent (ending.Sink fault) w
+      → IsFrom agents honest w m → rows_in (take_of w m).0 ≡ rows ++ p ∷ left
       → Given takes s rows between → takes between p (Err fault) t → IsOver rows (ending.Sink fault)
-  over_refused rows m fault p left between from e sink refused =
+  over_refused rows m fault p left between sent from e sink refused =
       let cut : given ++ rows_in (take_of w m).0 ≡ ((given ++ rows) ++ p ∷ []) ++ left =
       ap (λ (r : List VarBind). given ++ r) e ∙ sym (append_assoc given rows (p ∷ left)) ∙ sym (append_assoc (given ++ rows) (p ∷ []) left) in
       let any = subst (IsPartOfWalk Rises Named first) cut (keeps_part first w (take_of w m).1 given (take_of w m).0 stands
@@ -285,57 +319,69 @@ module _ {S : Type 0} (takes : S → VarBind → Result (Unit {0}) SinkFault →
         refused = p ∷ [];
         sink = (between, given-append S takes given rows before s between sunk sink, (p, refl, refused));
         part = part_front Rises Named first ((given ++ rows) ++ p ∷ []) left any;
-        ending = end_facts Comes first (given ++ rows) (p ∷ []) (ending.Sink fault) (part_front Rises Named first ((given ++ rows) ++ p ∷ []) left any) tt tt;
+        ending = end_facts Comes (Sent (ending.Sink fault)) first (given ++ rows) (p ∷ []) (ending.Sink fault)
+            (part_front Rises Named first ((given ++ rows) ++ p ∷ []) left any) tt (w, given, rows, refl, waiting (ending.Sink fault) sent);
         facts = λ h laws k.
             let whole = subst (IsPartOfWalk (IsNextFrom agents) (IsGotFrom agents) first) cut (advances_part agents laws first w (take_of w m).1 given
             (take_of w m).0
             (taken (IsNextFrom agents) (IsGotFrom agents) (IsTooLarge agents) laws first given w m k (from h).0)) in
-            record { part = part_front (IsNextFrom agents) (IsGotFrom agents) first ((given ++ rows) ++ p ∷ []) left whole; lawful = tt };
+            record {
+              part = part_front (IsNextFrom agents) (IsGotFrom agents) first ((given ++ rows) ++ p ∷ []) left whole;
+              lawful = tt;
+              last_request = ended_by rows (ending.Sink fault) sent k (λ own. absurd own);
+            };
       }
 
-  over_none : (why : WalkEnd) → CountsAll why given → IsEndOfRun Comes first given why → Took takes before given [] why t → (honest
+  over_none : (why : WalkEnd) → Sent why w → (IsReplyEnd why → ⊥) → CountsAll why given → IsEndOfRun Comes (Sent why) first given why
+      → Took takes before given [] why t → (honest
       → AreLawfulReplies (IsNextFrom agents) (IsGotFrom agents)
       → Reaches (IsNextFrom agents) (IsGotFrom agents) first w given → IsLawfulEnd agents Silent first given why)
       → IsOver [] why
-  over_none why counts reason sink lawful = record {
+  over_none why sent none counts reason sink lawful = record {
     refused = [];
-    ending = subst (λ (r : List VarBind). EndFacts Comes first r [] why) (sym (append-nil given))
-        (end_facts Comes first given [] why (subst (IsPartOfWalk Rises Named first) (sym (append-nil given))
+    ending = subst (λ (r : List VarBind). EndFacts Comes (Sent why) first r [] why) (sym (append-nil given))
+        (end_facts Comes (Sent why) first given [] why (subst (IsPartOfWalk Rises Named first) (sym (append-nil given))
         (part_of_stage Rises Named AllSmall rising_answers first given w.asked w.phase stands.stage)) counts reason);
     sink = subst (λ (r : List VarBind). Took takes before r [] why t) (sym (append-nil given)) sink;
     part = subst (λ (r : List VarBind). IsPartOfWalk Rises Named first (r ++ [])) (sym (append-nil given))
         (subst (IsPartOfWalk Rises Named first) (sym (append-nil given))
         (part_of_stage Rises Named AllSmall rising_answers first given w.asked w.phase stands.stage));
-    facts = λ h laws k. subst (λ (r : List VarBind). RunFacts agents Silent first r [] why) (sym (append-nil given)) (record {
+    facts = λ h laws k. subst (λ (r : List VarBind). RunFacts agents Silent (Sent why) first r [] why) (sym (append-nil given)) (record {
       part = subst (IsPartOfWalk (IsNextFrom agents) (IsGotFrom agents) first) (sym (append-nil given)) (part_of_stage (IsNextFrom agents) (IsGotFrom agents)
           (IsTooLarge agents) laws first given w.asked w.phase k.stage);
       lawful = lawful h laws k;
+      last_request = subst (λ (r : List VarBind). IsEndedBy agents (Sent why) first r why) (append-nil given)
+          (ended_by [] why sent k (λ own. absurd (none own)));
     });
   }
 
-  pub over : IsWalker w → (rows : List VarBind) (new : Walker) (end : WalkEnd) → (end ≡ ending.NoResponse → honest → Silent w)
+  pub over : (rows : List VarBind) (new : Walker) (end : WalkEnd) → Sent end w → (end ≡ ending.NoResponse → honest → Silent w)
       → Turns takes Comes agents honest w s rows (Some end) new t → IsOver rows end
-  over good rows new end quiet (goes_on m from e f sink en) = let no : ⊥ = cc in absurd no
-  over good rows new end quiet (ends m datagram why from comes spelt e sink en) =
+  over rows new end sent quiet (goes_on m from e f sink en) = let no : ⊥ = cc in absurd no
+  over rows new end sent quiet (ends m datagram why from comes spelt e sink en) =
       let same : why ≡ end = cc in
-      subst (IsOver rows) same (over_reply rows m datagram why from comes spelt e sink)
-  over good rows new end quiet (is_refused m fault p left between from e sink refused en) =
+      subst (IsOver rows) same (over_reply rows m datagram why (subst (λ (x : WalkEnd). Sent x w) (sym same) sent) from comes spelt e sink)
+  over rows new end sent quiet (is_refused m fault p left between from e sink refused en) =
       let same : ending.Sink fault ≡ end = cc in
-      subst (IsOver rows) same (over_refused rows m fault p left between from e sink refused)
-  over good rows new end quiet (is_silent r a en) =
+      subst (IsOver rows) same (over_refused rows m fault p left between (subst (λ (x : WalkEnd). Sent x w) (sym same) sent) from e sink refused)
+  over rows new end sent quiet (is_silent r a en) =
       let same : ending.NoResponse ≡ end = cc in
       let sink : Given takes before given t = subst (Given takes before given) (sym a) sunk in
-      subst (λ (x : List VarBind). IsOver x end) (sym r) (subst (IsOver []) same (over_none ending.NoResponse tt tt (sink, refl) (λ h laws k. (
+      let now : Sent ending.NoResponse w = subst (λ (x : WalkEnd). Sent x w) (sym same) sent in
+      subst (λ (x : List VarBind). IsOver x end) (sym r) (subst (IsOver []) same (over_none ending.NoResponse now (λ own. own) tt
+      (w, waiting ending.NoResponse now) (sink, refl) (λ h laws k. (
         w,
         good,
         k,
         quiet
             (sym same) h,
       ))))
-  over good rows new end quiet (fails r a en) =
+  over rows new end sent quiet (fails r a en) =
       let same : ending.Link ≡ end = cc in
       let sink : Given takes before given t = subst (Given takes before given) (sym a) sunk in
-      subst (λ (x : List VarBind). IsOver x end) (sym r) (subst (IsOver []) same (over_none ending.Link tt tt (sink, refl) (λ h laws k. tt)))
+      let now : Sent ending.Link w = subst (λ (x : WalkEnd). Sent x w) (sym same) sent in
+      subst (λ (x : List VarBind). IsOver x end) (sym r) (subst (IsOver []) same (over_none ending.Link now (λ own. own) tt
+      (w, waiting ending.Link now) (sink, refl) (λ h laws k. tt)))
 
 -- one turn more, where there is room for all that is asked for
 fast_turn : {S : Type 0} (takes : S → VarBind → Result (Unit {0}) SinkFault → S → Type 0) (Comes : List ℕ
@@ -359,6 +405,9 @@ fast_turn takes Comes agents honest first w s t given laws Roomy More less room 
     (is_silent r a en) fast = let no : ⊥ = cc in absurd no
 fast_turn takes Comes agents honest first w s t given laws Roomy More less room before rows v after next h (fails r a en) fast = let no : ⊥ = cc in absurd no
 
+same_some : (x y : WalkEnd) → Some x ≡ Some y → x ≡ y
+same_some x y e = cc
+
 -- ---- runs
 
 -- where a run stands between two turns
@@ -368,6 +417,7 @@ pub record Runs {S : Type 0} (takes : S → VarBind → Result (Unit {0}) SinkFa
   pub given : List VarBind
   pub sunk : Given takes before given s
   pub stands : Reaches Rises Named first w given
+  pub later : first.id ≤ w.id
   pub honestly : honest → AreViews agents.tables → old.sent ≡ [] → Reaches (IsNextFrom agents) (IsGotFrom agents) first w given
   pub earlier : keeps → old.sent ≡ [] → IsEarlier now.sent w
   pub sends : keeps → Sends tries first given old w.id now
@@ -382,6 +432,7 @@ runs_first takes agents keeps honest tries first before old fresh = record {
   given = [];
   sunk = refl;
   stands = fresh_stands Rises Named first fresh;
+  later = omega arith;
   honestly = λ h views none. fresh_stands (IsNextFrom agents) (IsGotFrom agents) first fresh;
   earlier = λ k none. earlier_first old.sent first none;
   sends = λ k. sends_first tries first old;
@@ -403,20 +454,22 @@ module _ {S : Type 0} (takes : S → VarBind → Result (Unit {0}) SinkFault →
   waits : is_over w.phase ≡ false
   waits = stands_waits Rises Named first w r.given r.stands
 
-  pub runs_on : (rows : List VarBind) (v : Walker) (t : S) (later : Traffic) (silent : Type 0)
+  pub runs_on : (rows : List VarBind) (v : Walker) (t : S) (later : Traffic) (silent failed : Type 0)
       → Turns takes Comes agents (here × IsEarlier now.sent w) w s rows None v t
-      → (keeps → Exchanges agents (here × IsEarlier now.sent w) tries (canon (request_of w)) now silent later) → RunsOn v t later
-  runs_on rows v t later silent turn x =
-      let gone = turned takes Comes agents (HasNone agents) (here × IsEarlier now.sent w) first w before s t r.given r.sunk r.stands rows v turn in
+      → (keeps → Exchanges agents (here × IsEarlier now.sent w) tries (canon (request_of w)) now silent failed later) → RunsOn v t later
+  runs_on rows v t later silent failed turn x =
+      let gone = turned takes Comes agents (HasNone agents) (λ end u. Unit {0}) (here × IsEarlier now.sent w) first w before s t r.given r.sunk r.stands good
+      r.later rows v turn in
       record {
         runs = record {
           given = r.given ++ rows;
           sunk = gone.sink;
           stands = gone.stands_on;
+          later = omega (arith, gone.id, r.later);
           honestly = λ h views none. gone.honestly (here_honest h, r.earlier (keeping h) none) (views_answer agents views) (r.honestly h views none);
           earlier = λ k none. earlier_more w v now.sent later.sent (x k).times good waits (omega (arith, gone.id)) (x k).sent (r.earlier k none);
           sends = λ k. sends_at tries first (r.given ++ rows) old (w.id + 1) v.id later (sym gone.id)
-              (sends_more agents (here × IsEarlier now.sent w) silent tries first w r.given rows old now later good r.stands (r.sends k) (x k));
+              (sends_more agents (here × IsEarlier now.sent w) silent failed tries first w r.given rows old now later good r.stands (r.sends k) (x k));
           fast = λ k h views none.
               let last : Try = record { by = w; times = (x k).times } in
               let before = r.honestly h views none in
@@ -426,7 +479,7 @@ module _ {S : Type 0} (takes : S → VarBind → Result (Unit {0}) SinkFault →
               (λ all waits. all last (one_right (r.sends k).requests (last ∷ []) last (inl refl)) waits) before rows v
               (gone.honestly (here_honest h, r.earlier k none) laws before) gone.id (here_honest h, r.earlier k none) turn (r.fast k h views none);
           used = λ h none. used_more agents (here
-              × IsEarlier now.sent w) silent tries (canon (request_of w)) old now later (here_honest h, r.earlier (keeping h) none) (r.used h none) (x
+              × IsEarlier now.sent w) silent failed tries (canon (request_of w)) old now later (here_honest h, r.earlier (keeping h) none) (r.used h none) (x
               (keeping h));
         };
         id = gone.id;
@@ -434,10 +487,10 @@ module _ {S : Type 0} (takes : S → VarBind → Result (Unit {0}) SinkFault →
       }
 
   -- what is known where no reply came
-  no_reply : (silent : Type 0) (later : Traffic) → silent → honest → old.sent ≡ []
-      → Exchanges agents (here × IsEarlier now.sent w) tries (canon (request_of w)) now silent later
+  no_reply : (silent failed : Type 0) (later : Traffic) → silent → honest → old.sent ≡ []
+      → Exchanges agents (here × IsEarlier now.sent w) tries (canon (request_of w)) now silent failed later
       → HasNoReply agents tries old later w
-  no_reply silent later quiet h none x =
+  no_reply silent failed later quiet h none x =
       let more = x.honestly (here_honest h, r.earlier (keeping h) none) in
       let u = r.used h none in
       record {
@@ -458,17 +511,42 @@ module _ {S : Type 0} (takes : S → VarBind → Result (Unit {0}) SinkFault →
   abbrev IsQuiet : Traffic → Walker → Type 0
   IsQuiet later v = honest → old.sent ≡ [] → HasNoReply agents tries old later v
 
+  -- the last request, over a link that keeps what was sent
+  last_sent : {rows : List VarBind} {end : WalkEnd} {later : Traffic} → IsEndedBy agents (λ u. keeps → IsLastSent tries end later u) first rows end → keeps
+      → IsEndedBy agents (IsLastSent tries end later) first rows end
+  last_sent h k = record {
+    w = h.w;
+    given = h.given;
+    more = h.more;
+    parts = h.parts;
+    walker = h.walker;
+    id = h.id;
+    reaches = h.reaches;
+    ends = h.ends;
+    sent = h.sent k;
+  }
+
   -- the last turn
   pub ran : Codec → (rows : List VarBind) (v : Walker) (t : S) (later : Traffic) (end : WalkEnd) → IsFresh first → 0 < tries → (honest → AreViews agents.tables)
       → Turns takes Comes agents (here × IsEarlier now.sent w) w s rows (Some end) v t
-      → (keeps → Exchanges agents (here × IsEarlier now.sent w) tries (canon (request_of w)) now (Some end ≡ Some ending.NoResponse) later)
+      → (keeps → Exchanges agents (here × IsEarlier now.sent w) tries (canon (request_of w)) now (Some end ≡ Some ending.NoResponse)
+      (Some end ≡ Some ending.Link) later)
       → (all : List VarBind) × (refused : List VarBind) × Took takes before all refused end t × IsPartOfWalk Rises Named first (all ++ refused)
       × (honest → old.sent ≡ [] → WalkFacts agents tries old first all refused end later)
       × (keeps → SendFacts agents (honest × (old.sent ≡ [])) tries old first all end later)
-      × EndFacts Comes first all refused end
+      × EndFacts Comes (λ u. keeps → IsLastSent tries end later u) first all refused end
   ran codec rows v t later end fresh some views turn x =
-      let done = over takes Comes agents (IsQuiet later) (here × IsEarlier now.sent w) first w before s t r.given r.sunk r.stands good rows v end
-      (λ silent k. λ h none. no_reply (Some end ≡ Some ending.NoResponse) later (ap Some silent) h none (x (keeping h))) turn in (
+      let sent : keeps → IsLastSent tries end later w = λ k. record {
+        earlier = now.sent;
+        times = (x k).times;
+        sent = (x k).sent;
+        some = λ other. (x k).some (λ e. other (same_some end ending.Link e));
+        few = (x k).few;
+        all = λ silent. (x k).all (ap Some silent);
+      } in
+      let done = over takes Comes agents (IsQuiet later) (λ why u. keeps → IsLastSent tries why later u) (here × IsEarlier now.sent w) first w before s t r.given r.sunk
+      r.stands good r.later rows v end sent
+      (λ silent k. λ h none. no_reply (Some end ≡ Some ending.NoResponse) (Some end ≡ Some ending.Link) later (ap Some silent) h none (x (keeping h))) turn in (
         r.given ++ rows,
         done.refused,
         done.sink,
@@ -476,14 +554,14 @@ module _ {S : Type 0} (takes : S → VarBind → Result (Unit {0}) SinkFault →
         λ h none.
             let shown = done.facts (here_honest h, r.earlier (keeping h) none) (views_answer agents (views h)) (r.honestly h (views h) none) in
             facts codec agents tries old later first (r.given ++ rows) done.refused end some fresh (views h) shown.part
-            (lawful_by agents (IsQuiet later) (HasNoReply agents tries old later) first (r.given ++ rows) end (λ u f. f h none) shown.lawful),
+            (lawful_by agents (IsQuiet later) (HasNoReply agents tries old later) first (r.given ++ rows) end (λ u f. f h none) shown.lawful) (last_sent shown.last_request (keeping h)),
         λ k. send_facts codec agents (honest × (old.sent ≡ [])) (AreRoomy agents (r.sends k).requests) tries old later first w
             (r.given ++ rows) r.given end fresh good
             (sends_more agents (here
-            × IsEarlier now.sent w) (Some end ≡ Some ending.NoResponse) tries first w r.given rows old now later good r.stands (r.sends k) (x k))
+            × IsEarlier now.sent w) (Some end ≡ Some ending.NoResponse) (Some end ≡ Some ending.Link) tries first w r.given rows old now later good r.stands (r.sends k) (x k))
             (λ h. (
               used_more agents (here
-                  × IsEarlier now.sent w) (Some end ≡ Some ending.NoResponse) tries (canon (request_of w)) old now later (here_honest h.0, r.earlier k h.1)
+                  × IsEarlier now.sent w) (Some end ≡ Some ending.NoResponse) (Some end ≡ Some ending.Link) tries (canon (request_of w)) old now later (here_honest h.0, r.earlier k h.1)
                   (r.used h.0 h.1) (x k),
               views h.0,
               r.honestly h.0 (views h.0) h.1,

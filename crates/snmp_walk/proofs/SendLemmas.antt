@@ -39,7 +39,7 @@ use Rattle.snmp_walk.specs.Trail.{last_name}
 use Rattle.snmp_walk.specs.Walker.{Walker, IsWalker}
 use Rattle.snmp_walk.specs.Request.{request_of}
 use Rattle.snmp_walk.specs.Taken.{is_over}
-use Rattle.snmp_walk.specs.Standing.{IsStage, Reaches, Rises, Named}
+use Rattle.snmp_walk.specs.Standing.{IsStage, IsPaced, Reaches, Rises, Named}
 use Rattle.snmp_walk.specs.Link.{Agents, OneOf}
 use Rattle.snmp_walk.specs.Traffic.{Traffic}
 use Rattle.snmp_walk.specs.Heard.{Exchanges, IsSentBefore, IsEarlier}
@@ -67,19 +67,23 @@ last_named o (p ∷ rows) = by_rest (last_named p.name rows)
     by_rest (inl e) = inr (inl e)
     by_rest (inr h) = inr (inr h)
 
-asks_more : (first : Walker) (rows more : List VarBind) (p : Phase) (name : List ℕ) → AsksFor first rows p name → AsksFor first (rows ++ more) p name
-asks_more first rows more phase.First name h = h
-asks_more first rows more phase.Rows name (inl e) = inl e
-asks_more first rows more phase.Rows name (inr h) = inr (named_more rows more name h)
-asks_more first rows more phase.Last name h = h
-asks_more first rows more phase.Over name h = h
+asks_more : (first : Walker) (rows more : List VarBind) (p : Phase) (by : Walker) → AsksFor first rows p by → AsksFor first (rows ++ more) p by
+asks_more first rows more phase.First by h = h
+asks_more first rows more phase.Rows by (inl e) = inl e
+asks_more first rows more phase.Rows by (inr h) = inr (named_more rows more by.asked h)
+asks_more first rows more phase.Last by h = h
+asks_more first rows more phase.Over by h = h
 
-asks_stage : (first : Walker) (given : List VarBind) (p : Phase) (name : List ℕ) → IsStage Rises Named first given name p → AsksFor first given p name
-asks_stage first given phase.First name h = h.1
-asks_stage first given phase.Last name h = h.1
-asks_stage first given phase.Over name h = absurd h
-asks_stage first given phase.Rows name h = by_last (last_named first.asked h.trail)
+asks_stage : (first : Walker) (given : List VarBind) (p : Phase) (by : Walker) → IsStage Rises Named first given by.asked p
+    → IsPaced Rises Named first given by.id p → AsksFor first given p by
+asks_stage first given phase.First by h paced = (h.1, h.2, paced)
+asks_stage first given phase.Last by h paced = (h.1, h.2)
+asks_stage first given phase.Over by h paced = absurd h
+asks_stage first given phase.Rows by h paced = by_last (last_named first.asked h.trail)
   where
+    name : List ℕ
+    name = by.asked
+
     by_last : (last_name first.asked h.trail ≡ first.asked) ⊎ IsNameIn h.trail (last_name first.asked h.trail) → (name ≡ first.asked) ⊎ IsNameIn given name
     by_last (inl e) = inl (h.last ∙ e)
     by_last (inr n) =
@@ -88,7 +92,7 @@ asks_stage first given phase.Rows name h = by_last (last_named first.asked h.tra
 
 -- what the waiting walk asks
 pub asks_now : (first w : Walker) (given rows : List VarBind) → Reaches Rises Named first w given → Asks first (given ++ rows) w
-asks_now first w given rows h = record { same = h.same; name = asks_more first given rows w.phase w.asked (asks_stage first given w.phase w.asked h.stage) }
+asks_now first w given rows h = record { same = h.same; name = asks_more first given rows w.phase w (asks_stage first given w.phase w h.stage h.paced) }
 
 -- ---- requests
 
@@ -108,7 +112,7 @@ tries_more tries first rows more id (t ∷ requests) h = (
   h.0,
   h.1,
   h.2,
-  record { same = h.3.same; name = asks_more first rows more t.by.phase t.by.asked h.3.name },
+  record { same = h.3.same; name = asks_more first rows more t.by.phase t.by h.3.name },
   tries_more tries first rows more
       (id + 1) requests h.4,
 )
@@ -141,11 +145,11 @@ abbrev pub sends_at : (tries : ℕ) (first : Walker) (given : List VarBind) (old
     → Sends tries first given old next now → Sends tries first given old other now
 sends_at tries first given old next other now e h = record { requests = h.requests; sent = h.sent; are_tries = h.are_tries; ids = sym e ∙ h.ids }
 
-abbrev pub sends_more : (agents : Agents) (honest silent : Type 0) (tries : ℕ) (first w : Walker) (given rows : List VarBind) (old now later : Traffic)
+abbrev pub sends_more : (agents : Agents) (honest silent failed : Type 0) (tries : ℕ) (first w : Walker) (given rows : List VarBind) (old now later : Traffic)
     → IsWalker w
-    → Reaches Rises Named first w given → Sends tries first given old w.id now → Exchanges agents honest tries (canon (request_of w)) now silent later
+    → Reaches Rises Named first w given → Sends tries first given old w.id now → Exchanges agents honest tries (canon (request_of w)) now silent failed later
     → Sends tries first (given ++ rows) old (w.id + 1) later
-sends_more agents honest silent tries first w given rows old now later good stands h x =
+sends_more agents honest silent failed tries first w given rows old now later good stands h x =
     let t : Try = record { by = w; times = x.times } in
     record {
       requests = h.requests ++ t ∷ [];
@@ -186,9 +190,9 @@ pub record AreUsed (old now : Traffic) : Type 0 where
 pub used_first : (old : Traffic) → AreUsed old old
 used_first old = record { used = []; parts = refl; few = omega arith }
 
-pub used_more : (agents : Agents) (honest silent : Type 0) (tries : ℕ) (q : List ℕ) (old now later : Traffic) → honest → AreUsed old now
-    → Exchanges agents honest tries q now silent later → AreUsed old later
-used_more agents honest silent tries q old now later h u x =
+pub used_more : (agents : Agents) (honest silent failed : Type 0) (tries : ℕ) (q : List ℕ) (old now later : Traffic) → honest → AreUsed old now
+    → Exchanges agents honest tries q now silent failed later → AreUsed old later
+used_more agents honest silent failed tries q old now later h u x =
     let more = x.honestly h in
     record {
       used = u.used ++ more.0;

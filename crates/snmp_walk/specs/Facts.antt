@@ -5,6 +5,7 @@ use Rattle.std.specs.Prelude.{
   ◌+◌,
   ◌*◌,
   ◌≤◌,
+  ◌<◌,
   ◌≢◌,
   false,
   ◌⊎◌,
@@ -32,7 +33,15 @@ use Rattle.snmp_walk.specs.Taken.{Takes, asked_for}
 use Rattle.snmp_walk.specs.declared.phase.Phase.TheVariants as phase
 use Rattle.snmp_walk.specs.Walker.{Walker, IsWalker}
 use Rattle.snmp_walk.specs.Request.{request_of, first_phase}
-use Rattle.snmp_walk.specs.Standing.{Reaches, IsPartOfWalk, Ends, Rises, Named, CountsAll}
+use Rattle.snmp_walk.specs.Standing.{
+  Reaches,
+  IsPartOfWalk,
+  Ends,
+  Rises,
+  Named,
+  CountsAll,
+  IsReplyEnd,
+}
 use Rattle.snmp_walk.specs.Link.{Agents, OneOf, IsNextFrom, IsGotFrom, IsTooLarge, IsUnanswered}
 use Rattle.snmp_walk.specs.Room.{HasRoomForEach, HasRoomForAll, HasIds}
 use Rattle.snmp_walk.specs.Names.{comes_after}
@@ -52,37 +61,60 @@ pub record IsFresh (w : Walker) : Type 0 where
   pub count : w.count ≡ 0
   pub begins : (s : List ℕ) × (w.asked ≡ w.root ++ s)
 
+-- The last datagrams sent are the request of w, at most `tries` times: once at least unless the link
+-- failed, and just so many times where no reply came.
+pub record IsLastSent (tries : ℕ) (end : WalkEnd) (new : Traffic) (w : Walker) : Type 0 where
+  pub earlier : List (List ℕ)
+  pub times : ℕ
+  pub sent : new.sent ≡ earlier ++ replicate times (canon (request_of w))
+  pub some : end ≢ ending.Link → 0 < times
+  pub few : times ≤ tries
+  pub all : end ≡ ending.NoResponse → times ≡ tries
+
+-- The walk that began as `first` had given these rows and was waiting, as w, for the reply to its
+-- request, whose sending is as `Sent` says.
+pub record IsWaiting (Sent : Walker → Type 0) (first w : Walker) (given : List VarBind)
+    : Type 0 where
+  pub walker : IsWalker w
+  pub id : first.id ≤ w.id
+  pub reaches : Reaches Rises Named first w given
+  pub sent : Sent w
+
 -- The walk that began as `first` gave these rows and ended in this way by a datagram that came over
 -- the link: w had given the first of them and was waiting for a reply, and reads the datagram as
 -- the other rows and this end.
-pub record IsReadSo (Comes : List ℕ → Type 0) (first : Walker) (rows : List VarBind)
-    (end : WalkEnd) : Type 0 where
+pub record IsReadSo (Comes : List ℕ → Type 0) (Sent : Walker → Type 0) (first : Walker)
+    (rows : List VarBind) (end : WalkEnd) : Type 0 where
   pub w : Walker
   pub given : List VarBind
   pub more : List VarBind
   pub parts : rows ≡ given ++ more
-  pub waits : Reaches Rises Named first w given
+  pub waits : IsWaiting Sent first w given
   pub datagram : List ℕ
   pub comes : Comes datagram
   pub over : Walker
   pub taken : Takes w datagram (step.Last more end) over
 
--- Why a run ends, whatever the link brings: by a reply that is read so, or by none, by the link or
--- by the sink. A request of a walk is never too long.
-abbrev pub IsEndOfRun : (List ℕ → Type 0) → Walker → List VarBind → WalkEnd → Type 0
-IsEndOfRun Comes first rows ending.RequestTooLong = ⊥
-IsEndOfRun Comes first rows ending.NoResponse = Unit {0}
-IsEndOfRun Comes first rows ending.Link = Unit {0}
-IsEndOfRun Comes first rows (ending.Sink fault) = Unit {0}
-IsEndOfRun Comes first rows why = IsReadSo Comes first rows why
+-- Why a run ends, whatever the link brings: by a reply that is read so, or while w was waiting for
+-- one, or by the sink, that refused a row of the reply. A request of a walk is never too long.
+abbrev pub IsEndOfRun : (List ℕ → Type 0) → (Walker → Type 0) → Walker → List VarBind → WalkEnd
+    → Type 0
+IsEndOfRun Comes Sent first rows ending.RequestTooLong = ⊥
+IsEndOfRun Comes Sent first rows ending.NoResponse = (w : Walker) × IsWaiting Sent first w rows
+IsEndOfRun Comes Sent first rows ending.Link = (w : Walker) × IsWaiting Sent first w rows
+IsEndOfRun Comes Sent first rows (ending.Sink fault) =
+    (w : Walker) × (given : List VarBind) × (more : List VarBind) × (rows ≡ given ++ more)
+    × IsWaiting Sent first w given
+IsEndOfRun Comes Sent first rows why = IsReadSo Comes Sent first rows why
 
 -- What is promised of a run over any link: the names given, with the one that was refused, rise; a
--- walk that is done has counted the bindings; and each end comes for its own reason.
-pub record EndFacts (Comes : List ℕ → Type 0) (first : Walker) (rows refused : List VarBind)
-    (end : WalkEnd) : Type 0 where
+-- walk that is done has counted the bindings; and each end comes for its own reason. `Sent` says of
+-- the walk that waited last that its request was sent last.
+pub record EndFacts (Comes : List ℕ → Type 0) (Sent : Walker → Type 0) (first : Walker)
+    (rows refused : List VarBind) (end : WalkEnd) : Type 0 where
   pub rising : AreRising (rows ++ refused)
   pub counted : CountsAll end rows
-  pub reason : IsEndOfRun Comes first rows end
+  pub reason : IsEndOfRun Comes Sent first rows end
 
 -- How a run may end over an honest link, after these bindings: w was waiting for the reply that
 -- ended it, which gave none of them where it was an error or had no binding, and else the last.
@@ -105,6 +137,21 @@ IsLawfulEnd agents Silent first rows why =
     (w : Walker) × (given : List VarBind) × (more : List VarBind) × (rows ≡ given ++ more)
     × Reaches (IsNextFrom agents) (IsGotFrom agents) first w given
     × Ends (IsNextFrom agents) (IsGotFrom agents) (IsTooLarge agents) first w rows why
+
+-- How a run ended over an honest link, by its last request: w had given the first of these rows and
+-- was waiting for the reply to it.
+pub record IsEndedBy (agents : Agents) (Sent : Walker → Type 0) (first : Walker)
+    (rows : List VarBind) (end : WalkEnd) : Type 0 where
+  pub w : Walker
+  pub given : List VarBind
+  pub more : List VarBind
+  pub parts : rows ≡ given ++ more
+  pub walker : IsWalker w
+  pub id : first.id ≤ w.id
+  pub reaches : Reaches (IsNextFrom agents) (IsGotFrom agents) first w given
+  pub ends : IsReplyEnd end
+      → Ends (IsNextFrom agents) (IsGotFrom agents) (IsTooLarge agents) first w rows end
+  pub sent : Sent w
 
 -- The last datagrams sent are the request of w, once for each try, and the agents have no reply to
 -- it or the last deliveries used lost it.
@@ -172,6 +219,8 @@ pub record WalkFacts (agents : Agents) (tries : ℕ) (old : Traffic) (first : Wa
     (rows refused : List VarBind) (end : WalkEnd) (new : Traffic) : Type 0 where
   pub part : IsPartOfWalk (IsNextFrom agents) (IsGotFrom agents) first (rows ++ refused)
   pub lawful : IsLawfulEnd agents (HasNoReply agents tries old new) first rows end
+  -- the end is that of the request sent last
+  pub last_request : IsEndedBy agents (IsLastSent tries end new) first rows end
   -- where each receive gives the reply to the latest datagram, none comes only where there is none
   pub replied : old.ahead ≡ [] → IsLawfulEnd agents (HasNone agents) first rows end
   -- over one table what was given, with what was refused, is a beginning of the walk,

@@ -47,11 +47,13 @@ pub record Hears (agents : Agents) (q : List ℕ) (old : Traffic) (silent : Type
       ⊎ ((t : ℕ) (rest : List (Option ℕ)) → Lost agents (resent old.sent q t) q rest t 0
       → Lost agents old.sent q (used ++ rest) (t + 1) 0)
 
--- how often the request was sent, at most `tries` times, and which deliveries were used; where no
--- reply came, the agents have none or the deliveries lost it
+-- How often the request was sent, once at least unless the link failed, and at most `tries` times,
+-- and which deliveries were used. Where no reply came, the agents have none or the deliveries lost
+-- it.
 pub record Exchanges (agents : Agents) (honest : Type 0) (tries : ℕ) (q : List ℕ) (old : Traffic)
-    (silent : Type 0) (new : Traffic) : Type 0 where
+    (silent failed : Type 0) (new : Traffic) : Type 0 where
   pub times : ℕ
+  pub some : (failed → ⊥) → 0 < times
   pub few : times ≤ tries
   pub sent : new.sent ≡ old.sent ++ replicate times q
   pub all : silent → times ≡ tries

@@ -24,6 +24,7 @@ use Rattle.std.specs.Prelude.{
 use Rattle.snmp_wire.specs.Message.{VarBind, Message}
 use Rattle.snmp_wire.specs.Spelling.{Spells}
 use Rattle.snmp_wire.specs.Canon.{canon}
+use Rattle.snmp_walk.specs.declared.mode.Mode.TheVariants as mode
 use Rattle.snmp_walk.specs.declared.phase.Phase.{Phase}
 use Rattle.snmp_walk.specs.declared.phase.Phase.TheVariants as phase
 use Rattle.snmp_walk.specs.declared.end.SinkFault.{SinkFault}
@@ -108,15 +109,19 @@ abbrev pub IsNameIn : List VarBind → List ℕ → Type 0
 IsNameIn [] name = ⊥
 IsNameIn (p ∷ rows) name = (name ≡ p.name) ⊎ IsNameIn rows name
 
--- a Get asks for the name that the walk begins from; others ask from it, or from a name given
-abbrev pub AsksFor : Walker → List VarBind → Phase → List ℕ → Type 0
-AsksFor first rows phase.Rows name = (name ≡ first.asked) ⊎ IsNameIn rows name
-AsksFor first rows _ name = name ≡ first.asked
+-- A Get asks for the name that the walk begins from: the first request of a walk that includes its
+-- root, and a later one of a plain walk. Others ask from that name, or from a name given.
+abbrev pub AsksFor : Walker → List VarBind → Phase → Walker → Type 0
+AsksFor first rows phase.First by = (by.asked ≡ first.asked) × (first.mode ≡ mode.Include)
+    × (by.id ≡ first.id)
+AsksFor first rows phase.Rows by = (by.asked ≡ first.asked) ⊎ IsNameIn rows by.asked
+AsksFor first rows phase.Last by = (by.asked ≡ first.asked) × (first.mode ≡ mode.Plain)
+AsksFor first rows phase.Over by = ⊥
 
 -- the walk that began as `first`, and gave these rows, asked by this request
 pub record Asks (first : Walker) (rows : List VarBind) (by : Walker) : Type 0 where
   pub same : by ≡ record first { phase = by.phase; asked = by.asked; id = by.id; count = by.count }
-  pub name : AsksFor first rows by.phase by.asked
+  pub name : AsksFor first rows by.phase by
 
 -- requests in turn, of ids that rise by one from this one on, each sent at most `tries` times
 abbrev pub AreTries : ℕ → Walker → List VarBind → ℕ → List Try → Type 0

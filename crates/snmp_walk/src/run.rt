@@ -15,7 +15,7 @@ ghost use Rattle.snmp_walk.specs.Sink.{Took};
 ghost use Rattle.snmp_walk.specs.Standing.{IsPartOfWalk, Rises, Named};
 ghost use Rattle.snmp_walk.specs.Link.{ComesOver};
 ghost use Rattle.snmp_walk.specs.Facts.{ReadyFacts};
-ghost use Rattle.snmp_walk.specs.Facts.{IsFresh, WalkFacts, SendFacts, EndFacts};
+ghost use Rattle.snmp_walk.specs.Facts.{IsFresh, IsLastSent, WalkFacts, SendFacts, EndFacts};
 
 use crate::laws::codec;
 use crate::tries::{Heard, exchange};
@@ -46,7 +46,8 @@ pub fn run_walk<L: Link, S: Sink>(
         × (L.keeps link.old → SendFacts (L.agents link.old)
         (L.honest link.old × ((L.traffic link.old).sent ≡ []))
         (retries + 1) (L.traffic link.old) core rows result (L.traffic link.new))
-        × EndFacts (ComesOver L.brings) core rows refused result }
+        × EndFacts (ComesOver L.brings) (λ w. L.keeps link.old
+        → IsLastSent (retries + 1) result (L.traffic link.new) w) core rows refused result }
     ensures count { result ≢ WalkEnd.Link
         → L.fault_count link.new ≡ L.fault_count link.old }
     ensures fault { result ≡ WalkEnd.Link
@@ -83,7 +84,8 @@ fn turn<L: Link, S: Sink>(
         sink.new }
     ensures exchanged { L.keeps link.old → Exchanges (L.agents link.old) (L.honest link.old
         × IsEarlier (L.traffic link.old).sent core.old) (retries + 1) (canon (request_of core.old))
-        (L.traffic link.old) (result ≡ Some WalkEnd.NoResponse) (L.traffic link.new) }
+        (L.traffic link.old) (result ≡ Some WalkEnd.NoResponse) (result ≡ Some WalkEnd.Link)
+        (L.traffic link.new) }
     ensures walker { IsWalker core.old }
     ensures keeps { L.keeps link.old → L.keeps link.new }
     ensures honest { L.honest link.old → L.honest link.new }

@@ -1,6 +1,6 @@
 //! One request over a link: it is sent until its reply comes or no try is left.
 ghost use Rattle.std.specs.Prelude.{◌≡◌, ◌≤◌, ◌<◌, ◌+◌, ◌^◌, ℕ, List, length, Some, None, Ok};
-ghost use Rattle.std.specs.Prelude.{IfOk, IfSome, IfNone, OnErr, IsOk, true, false, OnOk, ◌*◌};
+ghost use Rattle.std.specs.Prelude.{IfOk, IfSome, IfNone, OnErr, IsOk, IsErr, true, false, OnOk, ◌*◌};
 ghost use Rattle.snmp_io.specs.Count.{HasRisen};
 ghost use Rattle.snmp_wire.specs.Message.{Message};
 ghost use Rattle.snmp_wire.specs.Spelling.{Spells};
@@ -75,7 +75,8 @@ pub(crate) fn exchange<L: Link, W: Waiter, S: Sink>(
     ensures exchanged { L.keeps link.old → Exchanges (L.agents link.old) (L.honest link.old
         × IsAsked (L.agents link.old) (W.community waiter.old) (W.id waiter.old) request.now
         (L.traffic link.old).sent)
-        (retries + 1) request.now (L.traffic link.old) (result ≡ Ok None) (L.traffic link.new) }
+        (retries + 1) request.now (L.traffic link.old) (result ≡ Ok None) (IsErr result)
+        (L.traffic link.new) }
     ensures keeps { L.keeps link.old → L.keeps link.new }
     ensures honest { L.honest link.old → L.honest link.new }
     ensures agents { L.agents link.new ≡ L.agents link.old }

@@ -26,7 +26,7 @@ returns-in-Ok-None-clause-given g c =
     (λ silent honest none.
     lost_exchange c.codec.ensures (g.L.Link.agents c.args.link.now) (g.L.Link.honest c.args.link.now) (g.met.L.Link.lawful c.args.link.now) (c.args.retries + 1)
     c.args.community.now c.args.id c.args.names.now c.in-Some.ensures.range _ c.in-Some.ensures.some.1 (g.L.Link.traffic c.args.link.now)
-    (g.L.Link.traffic c.exchange.new.link) _ (ap Ok c.in-Ok-None.field-0-is)
+    (g.L.Link.traffic c.exchange.new.link) _ _ (ap Ok c.in-Ok-None.field-0-is)
     (c.in-Ok-None.ensures.exchanged (g.met.L.Link.keeping c.args.link.now honest)) honest none)
     (is_silent refl refl refl (if_silent c.exchange.result c.in-Ok-None.field-0 _ c.in-Ok-None.is c.in-Ok-None.field-0-is c.exchange.ensures.silent).1)
 

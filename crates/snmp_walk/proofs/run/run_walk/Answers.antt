@@ -38,7 +38,7 @@ returns-in-Some-clause-given g c =
     (g.L.Link.traffic c.turn.new.link) c.in-Some.end c.requires (omega arith) (λ h. (g.met.L.Link.lawful c.args.link.now h).views) same
     (λ k. subst (λ (a : Agents). Exchanges a (g.L.Link.honest c.turns.link
     × IsEarlier (g.L.Link.traffic c.turns.link).sent c.turns.core) (c.args.retries + 1) (canon (request_of c.turns.core)) (g.L.Link.traffic c.turns.link)
-    (Some c.in-Some.end ≡ Some ending.NoResponse) (g.L.Link.traffic c.turn.new.link)) inv.3
+    (Some c.in-Some.end ≡ Some ending.NoResponse) (Some c.in-Some.end ≡ Some ending.Link) (g.L.Link.traffic c.turn.new.link)) inv.3
     (c.in-Some.ensures.exchanged (inv.2 k)))
 
 pub returns-in-Some-clause-fault : goal.returns-in-Some-clause-fault
@@ -70,10 +70,10 @@ turns-smaller g c =
     (c.args.retries + 1) c.args.core c.args.sink.now
     (g.L.Link.traffic c.args.link.now) c.turns.core c.turns.sink (g.L.Link.traffic c.turns.link) inv.0 c.turn.ensures.walker
     (g.L.Link.honest c.turns.link) inv.1 t.0 c.turn.new.core c.turn.new.sink
-    (g.L.Link.traffic c.turn.new.link) (None ≡ Some ending.NoResponse) same
+    (g.L.Link.traffic c.turn.new.link) (None ≡ Some ending.NoResponse) (None ≡ Some ending.Link) same
     (λ k. subst (λ (a : Agents). Exchanges a (g.L.Link.honest c.turns.link
     × IsEarlier (g.L.Link.traffic c.turns.link).sent c.turns.core) (c.args.retries + 1) (canon (request_of c.turns.core)) (g.L.Link.traffic c.turns.link)
-    (None ≡ Some ending.NoResponse) (g.L.Link.traffic c.turn.new.link)) inv.3
+    (None ≡ Some ending.NoResponse) (None ≡ Some ending.Link) (g.L.Link.traffic c.turn.new.link)) inv.3
     (c.in_default.ensures.exchanged (inv.2 k))) in
     let id = on.id in
     let low = on.low in
@@ -91,10 +91,10 @@ turns-preserved g c =
     (c.args.retries + 1) c.args.core c.args.sink.now
     (g.L.Link.traffic c.args.link.now) c.turns.core c.turns.sink (g.L.Link.traffic c.turns.link) inv.0 c.turn.ensures.walker
     (g.L.Link.honest c.turns.link) inv.1 t.0 c.turn.new.core c.turn.new.sink
-    (g.L.Link.traffic c.turn.new.link) (None ≡ Some ending.NoResponse) same
+    (g.L.Link.traffic c.turn.new.link) (None ≡ Some ending.NoResponse) (None ≡ Some ending.Link) same
     (λ k. subst (λ (a : Agents). Exchanges a (g.L.Link.honest c.turns.link
     × IsEarlier (g.L.Link.traffic c.turns.link).sent c.turns.core) (c.args.retries + 1) (canon (request_of c.turns.core)) (g.L.Link.traffic c.turns.link)
-    (None ≡ Some ending.NoResponse) (g.L.Link.traffic c.turn.new.link)) inv.3
+    (None ≡ Some ending.NoResponse) (None ≡ Some ending.Link) (g.L.Link.traffic c.turn.new.link)) inv.3
     (c.in_default.ensures.exchanged (inv.2 k))) in (
       on.runs,
       (λ h. c.turn.ensures.honest (inv.1 h)),

@@ -7,7 +7,7 @@ use Rattle.snmp_walk.specs.Link.{ComesOver}
 use Rattle.snmp_walk.specs.Run.{is_silent, fails}
 use Rattle.snmp_walk.specs.declared.end.WalkEnd.TheVariants as ending
 use Rattle.snmp_walk.specs.declared.tries.Heard.TheVariants as heard
-use Rattle.snmp_walk.proofs.ReadyLemmas.{Leaves, leaves_by, never_err, silent_no_link}
+use Rattle.snmp_walk.proofs.ReadyLemmas.{Leaves, leaves_by, never_err, never_bad, silent_no_link}
 use Rattle.snmp_walk.proofs.ReplyLemmas.{heard_by, exchanged_by}
 use Rattle.snmp_walk.proofs.TurnLemmas.{if_some, if_silent, if_cut, turns_of, same_end, no_end, link_end, no_link_end}
 use Rattle.snmp_walk.proofs.run.turn.Goals as goal
@@ -50,22 +50,22 @@ pub returns-in-Ok-None-clause-exchanged : goal.returns-in-Ok-None-clause-exchang
 returns-in-Ok-None-clause-exchanged g c = λ keeps.
     exchanged_by c.codec.ensures (g.L.Link.agents c.args.link.now) (g.L.Link.honest c.args.link.now) c.args.core.now _
     (c.request-length.ensures.waiting c.requires).1 c.requires c.request-length.ensures.walker (g.met.L.Link.lawful c.args.link.now) (c.args.retries + 1)
-    (g.L.Link.traffic c.args.link.now) _ _ _
-    (λ s. c.in-Ok-None.is ∙ ap Ok c.in-Ok-None.field-0-is) (c.exchange.ensures.exchanged keeps)
+    (g.L.Link.traffic c.args.link.now) _ _ _ _ _
+    (λ s. c.in-Ok-None.is ∙ ap Ok c.in-Ok-None.field-0-is) (λ f. absurd (never_bad _ _ c.in-Ok-None.is f)) (c.exchange.ensures.exchanged keeps)
 
 pub returns-in-Err-clause-exchanged : goal.returns-in-Err-clause-exchanged
 returns-in-Err-clause-exchanged g c = λ keeps.
     exchanged_by c.codec.ensures (g.L.Link.agents c.args.link.now) (g.L.Link.honest c.args.link.now) c.args.core.now _
     (c.request-length.ensures.waiting c.requires).1 c.requires c.request-length.ensures.walker (g.met.L.Link.lawful c.args.link.now) (c.args.retries + 1)
-    (g.L.Link.traffic c.args.link.now) _ _ _
-    (λ s. absurd (link_end s)) (c.exchange.ensures.exchanged keeps)
+    (g.L.Link.traffic c.args.link.now) _ _ _ _ _
+    (λ s. absurd (link_end s)) (λ f. refl) (c.exchange.ensures.exchanged keeps)
 
 pub returns-in-GoesOn-clause-exchanged : goal.returns-in-GoesOn-clause-exchanged
 returns-in-GoesOn-clause-exchanged g c = λ keeps.
     exchanged_by c.codec.ensures (g.L.Link.agents c.args.link.now) (g.L.Link.honest c.args.link.now) c.args.core.now _
     (c.request-length.ensures.waiting c.requires).1 c.requires c.request-length.ensures.walker (g.met.L.Link.lawful c.args.link.now) (c.args.retries + 1)
-    (g.L.Link.traffic c.args.link.now) _ _ _
-    (λ s. absurd (no_end s)) (c.exchange.ensures.exchanged keeps)
+    (g.L.Link.traffic c.args.link.now) _ _ _ _ _
+    (λ s. absurd (no_end s)) (λ f. absurd (never_bad _ _ c.in-Ok-Some.is f)) (c.exchange.ensures.exchanged keeps)
 
 pub returns-in-Ends-clause-exchanged : goal.returns-in-Ends-clause-exchanged
 returns-in-Ends-clause-exchanged g c = λ keeps.
@@ -79,8 +79,8 @@ returns-in-Ends-clause-exchanged g c = λ keeps.
     c.exchange.new.waiter c.in-Ok-Some.heard (heard.Ends c.in-Ends.end) c.in-Ends.is c.requires is_heard r.is_read.read r.is_read.delivered in
     exchanged_by c.codec.ensures (g.L.Link.agents c.args.link.now) (g.L.Link.honest c.args.link.now) c.args.core.now _
     (c.request-length.ensures.waiting c.requires).1 c.requires c.request-length.ensures.walker (g.met.L.Link.lawful c.args.link.now) (c.args.retries + 1)
-    (g.L.Link.traffic c.args.link.now) _ _ _
-    (λ s. absurd (t.1.1 (same_end c.in-Ends.end ending.NoResponse s))) (c.exchange.ensures.exchanged keeps)
+    (g.L.Link.traffic c.args.link.now) _ _ _ _ _
+    (λ s. absurd (t.1.1 (same_end c.in-Ends.end ending.NoResponse s))) (λ f. absurd (never_bad _ _ c.in-Ok-Some.is f)) (c.exchange.ensures.exchanged keeps)
 
 pub returns-in-Ends-clause-fault : goal.returns-in-Ends-clause-fault
 returns-in-Ends-clause-fault g c = λ link.

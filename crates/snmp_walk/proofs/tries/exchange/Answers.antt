@@ -141,6 +141,7 @@ returns-in_err-heard-clause-exchanged g c = λ keeps.
     let more = c.in_ok-send.ensures.sent (inv.1 keeps) in
     record {
       times = c.tries.counter + 1;
+      some = λ fine. omega arith;
       few = omega arith;
       sent = sent_again old before between now q c.tries.counter sent more (c.hear.ensures.sent (c.send.ensures.keeps (inv.1 keeps)));
       all = λ s. absurd (never_ok _ c.from_residual-in_err-heard.ensures.0 s);
@@ -190,6 +191,7 @@ returns-in-Some-clause-exchanged g c = λ keeps.
     let more = c.in_ok-send.ensures.sent (inv.1 keeps) in
     record {
       times = c.tries.counter + 1;
+      some = λ fine. omega arith;
       few = omega arith;
       sent = sent_again old before between now q c.tries.counter sent more (c.hear.ensures.sent (c.send.ensures.keeps (inv.1 keeps)));
       all = λ s. let no : ⊥ = cc in absurd no;
@@ -212,6 +214,7 @@ returns-clause-exchanged g c = λ keeps.
     let all : c.tries.counter ≡ c.args.retries + 1 = omega arith in
     record {
       times = c.tries.counter;
+      some = λ fine. omega arith;
       few = omega arith;
       sent = inv.4 keeps;
       all = λ s. all;
