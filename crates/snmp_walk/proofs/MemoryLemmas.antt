@@ -7,6 +7,7 @@ use Rattle.std.proofs.Common.{
   zero,
   suc,
   ◌+◌,
+  ◌-◌,
   ◌<◌,
   ◌≤◌,
   List,
@@ -31,14 +32,17 @@ use Rattle.std.proofs.Common.{
 }
 use Rattle.std.specs.Prelude.{All, unwrap_or, IfSome}
 use Rattle.std.specs.List.{slice_get}
-use Rattle.std.proofs.lemmas.List.{drop_all, take_all, take_more, take-append-le}
+use Rattle.std.proofs.lemmas.List.{get_or_default, drop_all, take_all, take_more, take-append-le}
 use Rattle.snmp_table.specs.Table.{MibView, IsMibView}
 use Rattle.snmp_agent.specs.Reply.{agent_of, IsReply, IsDropped}
 use Rattle.snmp_agent.specs.declared.config.Config.{Config}
 use Rattle.snmp_agent.specs.declared.config.Why.{Why}
 use Rattle.snmp_walk.specs.Link.{Agents, OneOf, IsReplyFrom, IsUnanswered, AreViews}
 use Rattle.snmp_walk.specs.Traffic.{datagram_at, latest, received, Gives, Receives}
-use Rattle.snmp_walk.specs.Memory.{agents_over, IsNextNumber}
+use Rattle.snmp_walk.specs.Memory.{agents_over, IsNextNumber, IsReplyOf}
+use Rattle.snmp_walk.specs.Arena.{Store}
+use Rattle.std.proofs.lemmas.Option.{slice_get-get_or}
+use Rattle.std.proofs.Math.ListN.{get_or-eq_default}
 
 pub one_got : (views : List MibView) (place : ℕ) (d : MibView) → place < length views → OneOf views (get_or views place d)
 one_got [] place d h = absurd (omega (arith, h))
@@ -107,7 +111,30 @@ pub within_more : (r : Option ℕ) (m : ℕ) → IfSome r (λ n. n ≤ 65507) �
 within_more None m h k = tt
 within_more (Some n) m h k = omega (arith, h, k)
 
--- a receive may bring anything
-pub brought_any : (o : Option ℕ) → IfSome o (λ n. Unit {0})
-brought_any None = tt
-brought_any (Some n) = tt
+-- what was received is brought by the next delivery
+pub brought_by : (r : Option ℕ) (out rest : List ℕ) (number : ℕ) (Next : ℕ → Type 0) (Reply : ℕ → List ℕ → Type 0) → IfSome r (λ n. n ≤ 65507)
+    → length out ≡ 65507 → Next number → IfSome r (λ n. Reply number (take n out)) → IfSome r (λ n. (k : ℕ) × Next k × Reply k (take n (out ++ rest)))
+brought_by None out rest number Next Reply h e next reply = tt
+brought_by (Some n) out rest number Next Reply h e next reply =
+    (number, next, subst (Reply number) (sym (take-append-le n out rest (omega (arith, h, e)))) reply)
+
+-- the link's tables, uses and datagrams are what they were
+pub reply_before : (agents a : Agents) (uses u : List ℕ) (store s : Store) → a ≡ agents → u ≡ uses → s ≡ store → (r : Option ℕ) (number : ℕ)
+    (out : List ℕ) → IfSome r (λ n. IsReplyOf a u s.datagrams number (take n out))
+    → IfSome r (λ n. IsReplyOf agents uses store.datagrams number (take n out))
+reply_before agents a uses u store s e f g r number out h =
+    subst (λ (x : Agents). IfSome r (λ n. IsReplyOf x uses store.datagrams number (take n out))) e
+    (subst (λ (x : List ℕ). IfSome r (λ n. IsReplyOf a x store.datagrams number (take n out))) f
+    (subst (λ (x : Store). IfSome r (λ n. IsReplyOf a u x.datagrams number (take n out))) g h))
+
+-- the table at a place of `uses`, and the last one past them
+pub table_found : (tables : List MibView) (uses : List ℕ) (i place : ℕ) (d : MibView) → i < length uses → place ≡ get_or uses i place
+    → place < length tables → slice_get tables (get_or uses i (length tables - 1)) ≡ Some (get_or tables place d)
+table_found tables uses i place d within is low =
+    let e : get_or uses i (length tables - 1) ≡ place = get_or_default uses i (length tables - 1) place within ∙ sym is in
+    ap (slice_get tables) e ∙ slice_get-get_or tables place d low
+
+pub table_last : (tables : List MibView) (uses : List ℕ) (i : ℕ) (d : MibView) → length uses ≤ i → 0 < length tables
+    → slice_get tables (get_or uses i (length tables - 1)) ≡ Some (get_or tables (length tables - 1) d)
+table_last tables uses i d past some =
+    ap (slice_get tables) (get_or-eq_default uses (length tables - 1) past) ∙ slice_get-get_or tables (length tables - 1) d (omega (arith, some))

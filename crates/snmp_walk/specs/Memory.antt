@@ -1,10 +1,13 @@
 -- What is kept of a link to an agent in memory.
-use Rattle.std.specs.Prelude.{◌≡◌, ℕ, ◌≤◌, List, [], ◌∷◌, length, drop, Option, unwrap_or}
+use Rattle.std.specs.Prelude.{◌≡◌, ℕ, ◌≤◌, ◌-◌, List, [], ◌∷◌, length, drop, get_or}
+use Rattle.std.specs.Prelude.{Option, Some, unwrap_or}
+use Rattle.std.specs.List.{slice_get}
 use Rattle.snmp_table.specs.Table.{MibView}
 use Rattle.snmp_agent.specs.declared.config.Config.{Config}
 use Rattle.snmp_walk.specs.declared.memory.MemoryLink.{MemoryLink}
-use Rattle.snmp_walk.specs.Link.{Agents, AreLawful}
-use Rattle.snmp_walk.specs.Traffic.{Traffic}
+use Rattle.snmp_agent.specs.Reply.{IsReply}
+use Rattle.snmp_walk.specs.Link.{Agents, AreLawful, agent_in}
+use Rattle.snmp_walk.specs.Traffic.{Traffic, datagram_at}
 
 -- the agents of these tables
 abbrev pub agents_over : List MibView → Config → Agents
@@ -39,3 +42,25 @@ abbrev pub IsNextNumber : List (List ℕ) → (ahead : List (Option ℕ)) → �
     → (left : List (Option ℕ)) → Type 0
 IsNextNumber sent [] number left = (left ≡ []) × (number ≡ length sent)
 IsNextNumber sent (e ∷ next) number left = (left ≡ next) × (number ≡ unwrap_or e 0)
+
+-- The table whose agent replies to the i-th datagram sent is at the i-th place of `uses`, and past
+-- these it is the last. Places count from 0.
+abbrev pub IsTableFor : List MibView → (uses : List ℕ) → (number : ℕ) → MibView → Type 0
+IsTableFor tables uses number view =
+    slice_get tables (get_or uses (number - 1) (length tables - 1)) ≡ Some view
+
+-- the octets are the reply to the datagram of this number, by the agent of the table for it
+pub record IsReplyOf (agents : Agents) (uses : List ℕ) (sent : List (List ℕ)) (number : ℕ)
+    (octets : List ℕ) : Type 0 where
+  pub datagram : List ℕ
+  pub found : datagram_at sent number ≡ Some datagram
+  pub view : MibView
+  pub serves : IsTableFor agents.tables uses number view
+  pub reply : IsReply (agent_in agents view) datagram octets
+
+-- a receive brings the reply to the datagram whose number the next delivery gives
+abbrev pub IsBroughtBy : MemoryLink → List ℕ → MemoryLink → Type 0
+IsBroughtBy old octets new =
+    (number : ℕ)
+    × IsNextNumber old.arena.datagrams (traffic_of old).ahead number (traffic_of new).ahead
+    × IsReplyOf (agents_of old) old.uses.now old.arena.datagrams number octets

@@ -34,7 +34,8 @@ impl<'a> MemoryLink<'a> {
     ghost use Rattle.snmp_walk.specs.Link.{AreViews, OneOf};
     ghost use Rattle.snmp_walk.specs.Traffic.{Gives, datagram_at, received};
     ghost use Rattle.snmp_walk.specs.Memory.{IsHonest, IsReadyFor, IsNextNumber, agents_of};
-    ghost use Rattle.snmp_walk.specs.Memory.{agents_over, traffic_of};
+    ghost use Rattle.snmp_walk.specs.Memory.{agents_over, traffic_of, IsTableFor, IsReplyOf};
+    ghost use Rattle.std.specs.Prelude.{take};
 
     /// A link to the agent of one table, over which nothing has been sent.
     pub fn new(
@@ -44,6 +45,7 @@ impl<'a> MemoryLink<'a> {
         deliveries: &'a [Option<usize>],
     ) -> MemoryLink<'a>
         ensures agents { agents_of result ≡ agents_over (table.now ∷ []) config.entry }
+        ensures uses { result.uses.now ≡ [] }
         ensures traffic { traffic_of result ≡ record { sent = []; ahead = deliveries.now } }
         ensures no_fault { result.fault_count ≡ 0 }
         ensures honest { IsHonest result }
@@ -66,6 +68,7 @@ impl<'a> MemoryLink<'a> {
         requires served { 0 < length tables.now }
         requires places { All (λ place. place < length tables.now) uses.now }
         ensures agents { agents_of result ≡ agents_over tables.now config.entry }
+        ensures uses { result.uses.now ≡ uses.now }
         ensures traffic { traffic_of result ≡ record { sent = []; ahead = deliveries.now } }
         ensures no_fault { result.fault_count ≡ 0 }
         ensures honest { IsHonest result }
@@ -101,6 +104,7 @@ impl<'a> MemoryLink<'a> {
             (traffic_of self.new).ahead }
         ensures arena { self.new.arena ≡ self.old.arena }
         ensures agents { agents_of self.new ≡ agents_of self.old }
+        ensures uses { self.new.uses ≡ self.old.uses }
         ensures count { self.new.fault_count ≡ self.old.fault_count }
     {
         match self.deliveries.get(self.used) {
@@ -114,7 +118,8 @@ impl<'a> MemoryLink<'a> {
 
     /// The table that the agent serves where it replies to the datagram of this number.
     fn table_for(&self, number: usize) -> &'a Table
-        ensures { OneOf self.now.tables.now result.now }
+        ensures one { OneOf self.now.tables.now result.now }
+        ensures place { IsTableFor self.now.tables.now self.now.uses.now number result.now }
     {
         match self.uses.get(number.saturating_sub(1)) {
             Some(place) => &self.tables[*place],
@@ -129,6 +134,8 @@ impl<'a> MemoryLink<'a> {
         ensures room { length out.new ≡ 65507 }
         ensures reply { Gives (agents_of self.now) (datagram_at self.now.arena.datagrams number)
             (received result out.new) }
+        ensures table { IfSome result (λ n. IsReplyOf (agents_of self.now) self.now.uses.now
+            self.now.arena.datagrams number (take n out.new)) }
     {
         let datagram = self.arena.datagram(number)?;
         match answer(self.table_for(number), &self.config, datagram, out) {
@@ -139,7 +146,8 @@ impl<'a> MemoryLink<'a> {
 }
 
 impl<'a> Link for MemoryLink<'a> {
-    ghost use Rattle.snmp_walk.specs.Memory.{IsHonest, IsReadyFor, agents_of, traffic_of};
+    ghost use Rattle.snmp_walk.specs.Memory.{IsHonest, IsReadyFor, IsBroughtBy, agents_of};
+    ghost use Rattle.snmp_walk.specs.Memory.{traffic_of};
 
     ghost keeps = { λ _. Unit {0} };
 
@@ -153,7 +161,7 @@ impl<'a> Link for MemoryLink<'a> {
 
     ghost ready = { IsReadyFor };
 
-    ghost brings = { λ _ _ _. Unit {0} };
+    ghost brings = { IsBroughtBy };
 
     ghost keeping = { λ _ _. tt };
 

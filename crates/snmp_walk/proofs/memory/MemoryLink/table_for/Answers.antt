@@ -1,14 +1,28 @@
-use Rattle.std.proofs.Common.{◌≡◌, ◌<◌, length, ℕ, sym, subst, arith}
+use Rattle.std.proofs.Common.{◌≡◌, ◌<◌, ◌-◌, length, get_or, List, ℕ, Some, sym, subst, arith}
+use Rattle.std.specs.List.{slice_get}
+use Rattle.snmp_table.specs.Table.{MibView}
 use Rattle.std.proofs.lemmas.Bool.{ltb-true}
-use Rattle.snmp_walk.proofs.MemoryLemmas.{one_got}
+use Rattle.snmp_walk.proofs.MemoryLemmas.{one_got, table_found, table_last}
 use Rattle.snmp_walk.proofs.memory.MemoryLink.table_for.Goals as goal
 
-pub returns-in-Some : goal.returns-in-Some
-returns-in-Some c =
+pub returns-in-Some-clause-one : goal.returns-in-Some-clause-one
+returns-in-Some-clause-one c =
     let self = c.args.self.now in
     let within : c.saturating_sub.result < length self.uses.now = ltb-true _ _ (sym c.in-Some.ensures.lookup.0) in
     let place = self.are_tables c.saturating_sub.result c.in-Some.place.now within in
     one_got self.tables.now c.in-Some.place.now _ (subst (λ (n : ℕ). n < length self.tables.now) (sym c.in-Some.ensures.lookup.1) place)
 
-pub returns-in-None : goal.returns-in-None
-returns-in-None c = one_got c.args.self.now.tables.now _ _ (omega arith)
+pub returns-in-None-clause-one : goal.returns-in-None-clause-one
+returns-in-None-clause-one c = one_got c.args.self.now.tables.now _ _ (omega arith)
+
+pub returns-in-Some-clause-place : goal.returns-in-Some-clause-place
+returns-in-Some-clause-place c =
+    let self = c.args.self.now in
+    let tables : List MibView = self.tables.now in
+    let uses : List ℕ = self.uses.now in
+    let at : c.saturating_sub.result ≡ c.args.number - 1 = omega arith in
+    let within : c.saturating_sub.result < length uses = ltb-true _ _ (sym c.in-Some.ensures.lookup.0) in
+    let place = self.are_tables c.saturating_sub.result c.in-Some.place.now within in
+    subst (λ (i : ℕ). slice_get tables (get_or uses i (length tables - 1)) ≡ Some (get_or tables c.in-Some.place.now c.index-self-place.result)) at
+    (table_found tables uses c.saturating_sub.result c.in-Some.place.now c.index-self-place.result within c.in-Some.ensures.lookup.1
+    (subst (λ (n : ℕ). n < length tables) (sym c.in-Some.ensures.lookup.1) place))

@@ -1,9 +1,9 @@
 use Rattle.std.proofs.Common.{◌≡◌, ◌≤◌, length, drop, refl, sym, ap, subst, ℕ, List, Option}
 use Rattle.snmp_walk.specs.Link.{Agents}
-use Rattle.snmp_walk.specs.Memory.{agents_of}
+use Rattle.snmp_walk.specs.Memory.{agents_of, IsNextNumber, IsReplyOf}
 use Rattle.snmp_walk.specs.Traffic.{received, datagram_at, Gives, Receives}
 use Rattle.snmp_walk.specs.Arena.{Store}
-use Rattle.snmp_walk.proofs.MemoryLemmas.{brought_any, received_front, received_at, within_more}
+use Rattle.snmp_walk.proofs.MemoryLemmas.{brought_by, reply_before, received_front, received_at, within_more}
 use Rattle.snmp_walk.proofs.memory.MemoryLinkLink.receive.Goals as goal
 
 pub returns-clause-length : goal.returns-clause-length
@@ -35,4 +35,12 @@ returns-clause-ready c = λ s o h long.
     )
 
 pub returns-clause-brings : goal.returns-clause-brings
-returns-clause-brings c = brought_any c.reply_to.result
+returns-clause-brings c =
+    let self = c.args.self.now in
+    let later = c.next_number-number.new.self in
+    brought_by c.reply_to.result c.reply_to.new.out _ c.next_number-number.result
+    (λ k. IsNextNumber self.arena.datagrams (drop self.used self.deliveries.now) k (drop later.used later.deliveries.now))
+    (IsReplyOf (agents_of self) self.uses.now self.arena.datagrams) c.reply_to.ensures.length c.reply_to.ensures.room c.next_number-number.ensures.number
+    (reply_before (agents_of self) (agents_of later) self.uses.now later.uses.now self.arena later.arena c.next_number-number.ensures.agents
+    (ap (λ u. u.now) c.next_number-number.ensures.uses) c.next_number-number.ensures.arena c.reply_to.result c.next_number-number.result
+    c.reply_to.new.out c.reply_to.ensures.table)
