@@ -28,6 +28,7 @@ pub mod FullLemmas
 pub mod ArenaLemmas
 pub mod MemoryLemmas
 pub mod HearLemmas
+mod MissedLemmas
 pub mod GetLemmas
 pub mod GotLemmas
 pub mod LawLemmas

@@ -30,7 +30,7 @@ use Rattle.std.proofs.Common.{
   Some,
   None,
 }
-use Rattle.std.specs.Prelude.{All, unwrap_or, IfSome}
+use Rattle.std.specs.Prelude.{All, unwrap_or, IfSome, IfNone}
 use Rattle.std.specs.List.{slice_get}
 use Rattle.std.proofs.lemmas.List.{get_or_default, drop_all, take_all, take_more, take-append-le}
 use Rattle.snmp_table.specs.Table.{MibView, IsMibView}
@@ -117,6 +117,11 @@ pub brought_by : (r : Option ℕ) (out rest : List ℕ) (number : ℕ) (Next : �
 brought_by None out rest number Next Reply h e next reply = tt
 brought_by (Some n) out rest number Next Reply h e next reply =
     (number, next, subst (Reply number) (sym (take-append-le n out rest (omega (arith, h, e)))) reply)
+
+-- a receive may bring nothing at any time
+pub silent_any : (o : Option ℕ) → IfNone o (Unit {0})
+silent_any None = tt
+silent_any (Some n) = tt
 
 -- the link's tables, uses and datagrams are what they were
 pub reply_before : (agents a : Agents) (uses u : List ℕ) (store s : Store) → a ≡ agents → u ≡ uses → s ≡ store → (r : Option ℕ) (number : ℕ)

@@ -512,7 +512,8 @@ module _ {S : Type 0} (takes : S → VarBind → Result (Unit {0}) SinkFault →
   IsQuiet later v = honest → old.sent ≡ [] → HasNoReply agents tries old later v
 
   -- the last request, over a link that keeps what was sent
-  last_sent : {rows : List VarBind} {end : WalkEnd} {later : Traffic} → IsEndedBy agents (λ u. keeps → IsLastSent tries end later u) first rows end → keeps
+  last_sent : {rows : List VarBind} {end : WalkEnd} {later : Traffic} {Other : Walker → Type 0}
+      → IsEndedBy agents (λ u. (keeps → IsLastSent tries end later u) × Other u) first rows end → keeps
       → IsEndedBy agents (IsLastSent tries end later) first rows end
   last_sent h k = record {
     w = h.w;
@@ -523,7 +524,7 @@ module _ {S : Type 0} (takes : S → VarBind → Result (Unit {0}) SinkFault →
     id = h.id;
     reaches = h.reaches;
     ends = h.ends;
-    sent = h.sent k;
+    sent = h.sent.0 k;
   }
 
   -- the last turn
@@ -531,11 +532,12 @@ module _ {S : Type 0} (takes : S → VarBind → Result (Unit {0}) SinkFault →
       → Turns takes Comes agents (here × IsEarlier now.sent w) w s rows (Some end) v t
       → (keeps → Exchanges agents (here × IsEarlier now.sent w) tries (canon (request_of w)) now (Some end ≡ Some ending.NoResponse)
       (Some end ≡ Some ending.Link) later)
+      → (Unheard : Walker → Type 0) → (end ≡ ending.NoResponse → Unheard w)
       → (all : List VarBind) × (refused : List VarBind) × Took takes before all refused end t × IsPartOfWalk Rises Named first (all ++ refused)
       × (honest → old.sent ≡ [] → WalkFacts agents tries old first all refused end later)
       × (keeps → SendFacts agents (honest × (old.sent ≡ [])) tries old first all end later)
-      × EndFacts Comes (λ u. keeps → IsLastSent tries end later u) first all refused end
-  ran codec rows v t later end fresh some views turn x =
+      × EndFacts Comes (λ u. (keeps → IsLastSent tries end later u) × (end ≡ ending.NoResponse → Unheard u)) first all refused end
+  ran codec rows v t later end fresh some views turn x Unheard unheard =
       let sent : keeps → IsLastSent tries end later w = λ k. record {
         earlier = now.sent;
         times = (x k).times;
@@ -544,8 +546,8 @@ module _ {S : Type 0} (takes : S → VarBind → Result (Unit {0}) SinkFault →
         few = (x k).few;
         all = λ silent. (x k).all (ap Some silent);
       } in
-      let done = over takes Comes agents (IsQuiet later) (λ why u. keeps → IsLastSent tries why later u) (here × IsEarlier now.sent w) first w before s t r.given r.sunk
-      r.stands good r.later rows v end sent
+      let done = over takes Comes agents (IsQuiet later) (λ why u. (keeps → IsLastSent tries why later u) × (why ≡ ending.NoResponse → Unheard u)) (here × IsEarlier now.sent w) first w before s t r.given r.sunk
+      r.stands good r.later rows v end (sent, unheard)
       (λ silent k. λ h none. no_reply (Some end ≡ Some ending.NoResponse) (Some end ≡ Some ending.Link) later (ap Some silent) h none (x (keeping h))) turn in (
         r.given ++ rows,
         done.refused,

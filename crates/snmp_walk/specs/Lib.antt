@@ -11,6 +11,7 @@ pub mod Standing
 pub mod Link
 pub mod Traffic
 pub mod Heard
+pub mod Missed
 pub mod Room
 pub mod Sink
 pub mod Read

@@ -12,6 +12,7 @@ ghost use Rattle.snmp_wire.specs.Message.{Message, VarBind, var_bind};
 ghost use Rattle.snmp_walk.specs.Names.{is_end};
 ghost use Rattle.snmp_walk.specs.Taken.{awaits};
 ghost use Rattle.snmp_walk.specs.Link.{ComesOver};
+ghost use Rattle.snmp_walk.specs.Missed.{IsNotAwaited, AreMissed};
 ghost use Rattle.snmp_io.specs.Count.{HasRisen};
 ghost use Rattle.std.specs.List.{AllByRecursion};
 ghost use Rattle.snmp_wire.specs.Range.{IsBindingInRange, IsMessageInRange};
@@ -60,6 +61,9 @@ pub fn run_get<L: Link, S: Sink>(
         × ((L.traffic link.new).sent ≡ (L.traffic link.old).sent
         ++ replicate times (canon (get_request community.now id names.now)))
         × (result ≡ WalkEnd.NoResponse → times ≡ retries + 1) }
+    ensures unanswered { result ≡ WalkEnd.NoResponse → AreMissed L.sends L.brings L.is_silent
+        (IsNotAwaited community.now id) (canon (get_request community.now id names.now))
+        (retries + 1) link.old link.new }
     ensures count { result ≢ WalkEnd.Link
         → L.fault_count link.new ≡ L.fault_count link.old }
     ensures fault { result ≡ WalkEnd.Link

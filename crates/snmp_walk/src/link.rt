@@ -1,6 +1,7 @@
 //! Links, over which a walk sends its requests and receives replies.
 ghost use Rattle.std.specs.Prelude.{◌≡◌, ◌≤◌, ◌+◌, ◌++◌, [], ◌∷◌, ◌⊎◌, ℕ, List, length, Option};
-ghost use Rattle.std.specs.Prelude.{Some, None, IsOk, IsErr, OnOk, IfOk, OnErr, IfSome, take, ◌<◌};
+ghost use Rattle.std.specs.Prelude.{Some, None, IsOk, IsErr, OnOk, IfOk, OnErr, IfSome, IfNone, take};
+ghost use Rattle.std.specs.Prelude.{◌<◌};
 
 use crate::LinkFault;
 
@@ -37,10 +38,18 @@ pub trait Link {
     /// state.
     ghost brings: { Self → List ℕ → Self → Type 0 };
 
+    /// Whether a send of these octets in the first state may succeed, and leave the link in the last
+    /// state.
+    ghost sends: { Self → List ℕ → Self → Type 0 } = { λ _ _ _. Unit {0} };
+
+    /// Whether a receive in the first state may bring nothing, and leave the link in the last state.
+    ghost is_silent: { Self → Self → Type 0 } = { λ _ _. Unit {0} };
+
     /// Sends a datagram. A fault changes the count of faults alone.
     fn send(&mut self, datagram: &[u8]) -> Result<(), LinkFault>
         ensures sent { keeps self.old
             → OnOk result ((traffic self.new).sent ≡ (traffic self.old).sent ++ datagram.now ∷ []) }
+        ensures sends { OnOk result (sends self.old datagram.now self.new) }
         ensures ahead { honest self.old
             → OnOk result ((traffic self.new).ahead ≡ (traffic self.old).ahead) }
         ensures unchanged { OnErr result (traffic self.new ≡ traffic self.old) }
@@ -60,6 +69,7 @@ pub trait Link {
         ensures length { IfOk result (λ got. IfSome got (λ n. n ≤ length buffer.old)) }
         ensures brings { IfOk result (λ got. IfSome got
             (λ n. brings self.old (take n buffer.new) self.new)) }
+        ensures silent { IfOk result (λ got. IfNone got (is_silent self.old self.new)) }
         ensures reply { honest self.old → 65507 ≤ length buffer.old
             → IfOk result (λ got. Receives (agents self.old) (traffic self.old).sent
             (traffic self.old).ahead (received got buffer.new) (traffic self.new).ahead) }

@@ -11,6 +11,7 @@ ghost use Rattle.snmp_walk.specs.Taken.{is_over};
 ghost use Rattle.snmp_walk.specs.Walker.{IsWalker};
 ghost use Rattle.snmp_walk.specs.Run.{Turns};
 ghost use Rattle.snmp_walk.specs.Heard.{Exchanges, IsEarlier};
+ghost use Rattle.snmp_walk.specs.Missed.{IsNotAwaited, AreMissed, MissesReply};
 ghost use Rattle.snmp_walk.specs.Sink.{Took};
 ghost use Rattle.snmp_walk.specs.Standing.{IsPartOfWalk, Rises, Named};
 ghost use Rattle.snmp_walk.specs.Link.{ComesOver};
@@ -46,8 +47,11 @@ pub fn run_walk<L: Link, S: Sink>(
         × (L.keeps link.old → SendFacts (L.agents link.old)
         (L.honest link.old × ((L.traffic link.old).sent ≡ []))
         (retries + 1) (L.traffic link.old) core rows result (L.traffic link.new))
-        × EndFacts (ComesOver L.brings) (λ w. L.keeps link.old
-        → IsLastSent (retries + 1) result (L.traffic link.new) w) core rows refused result }
+        × EndFacts (ComesOver L.brings) (λ w. (L.keeps link.old
+        → IsLastSent (retries + 1) result (L.traffic link.new) w)
+        × (result ≡ WalkEnd.NoResponse
+        → MissesReply L.sends L.brings L.is_silent (retries + 1) link.new w)) core rows refused
+        result }
     ensures count { result ≢ WalkEnd.Link
         → L.fault_count link.new ≡ L.fault_count link.old }
     ensures fault { result ≡ WalkEnd.Link
@@ -82,6 +86,9 @@ fn turn<L: Link, S: Sink>(
         (L.agents link.old) (L.honest link.old
         × IsEarlier (L.traffic link.old).sent core.old) core.old sink.old rows result core.new
         sink.new }
+    ensures unanswered { result ≡ Some WalkEnd.NoResponse → AreMissed L.sends L.brings L.is_silent
+        (IsNotAwaited core.old.community core.old.id) (canon (request_of core.old)) (retries + 1)
+        link.old link.new }
     ensures exchanged { L.keeps link.old → Exchanges (L.agents link.old) (L.honest link.old
         × IsEarlier (L.traffic link.old).sent core.old) (retries + 1) (canon (request_of core.old))
         (L.traffic link.old) (result ≡ Some WalkEnd.NoResponse) (result ≡ Some WalkEnd.Link)

@@ -8,6 +8,7 @@ ghost use Rattle.snmp_walk.specs.Taken.{awaits};
 ghost use Rattle.snmp_walk.specs.Link.{IsReplyFrom, ComesOver};
 ghost use Rattle.snmp_walk.specs.Traffic.{latest};
 ghost use Rattle.snmp_walk.specs.Heard.{IsAsked, Hears, Exchanges};
+ghost use Rattle.snmp_walk.specs.Missed.{IsNotAwaited, IsMissed, AreMissed};
 ghost use Rattle.snmp_walk.specs.Read.{IsRead, IsReadAs, Delivers};
 
 use crate::sink::give;
@@ -71,6 +72,9 @@ pub(crate) fn exchange<L: Link, W: Waiter, S: Sink>(
         waiter.new sink.new)) }
     ensures silent { IfOk result (λ heard. IfNone heard
         ((waiter.new ≡ waiter.old) × (sink.new ≡ sink.old))) }
+    ensures unanswered { IfOk result (λ heard. IfNone heard
+        (AreMissed L.sends L.brings L.is_silent (IsNotAwaited (W.community waiter.old)
+        (W.id waiter.old)) request.now (retries + 1) link.old link.new)) }
     ensures cut_off { OnErr result ((waiter.new ≡ waiter.old) × (sink.new ≡ sink.old)) }
     ensures exchanged { L.keeps link.old → Exchanges (L.agents link.old) (L.honest link.old
         × IsAsked (L.agents link.old) (W.community waiter.old) (W.id waiter.old) request.now
@@ -114,6 +118,8 @@ fn hear<L: Link, W: Waiter, S: Sink>(
         waiter.new sink.new)) }
     ensures silent { IfOk result (λ heard. IfNone heard
         ((waiter.new ≡ waiter.old) × (sink.new ≡ sink.old))) }
+    ensures unanswered { IfOk result (λ heard. IfNone heard (IsMissed L.brings L.is_silent
+        (IsNotAwaited (W.community waiter.old) (W.id waiter.old)) 64 link.old link.new)) }
     ensures cut_off { OnErr result ((waiter.new ≡ waiter.old) × (sink.new ≡ sink.old)) }
     ensures heard { (q : List ℕ) → L.honest link.old → latest (L.traffic link.old).sent ≡ Some q
         → IsAsked (L.agents link.old) (W.community waiter.old) (W.id waiter.old) q

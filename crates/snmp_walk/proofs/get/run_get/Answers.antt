@@ -1,9 +1,10 @@
-use Rattle.std.proofs.Common.{◌≡◌, refl, [], ap, arith, ◌+◌, Ok}
+use Rattle.std.proofs.Common.{◌≡◌, refl, [], ℕ, List, subst, ap, arith, ◌+◌, Ok}
 use Rattle.snmp_walk.specs.Get.{get_request, IsBrought, is_too_long, is_silent, is_cut}
 use Rattle.snmp_walk.specs.Link.{ComesOver}
 use Rattle.snmp_walk.proofs.GotLemmas.{brought, own}
 use Rattle.snmp_walk.proofs.TurnLemmas.{if_some, if_silent, if_cut}
 use Rattle.snmp_walk.proofs.GetFactLemmas.{facts_by, lost_exchange, short_enough, got_ends, got_ends_always}
+use Rattle.snmp_walk.specs.Missed.{IsNotAwaited, AreMissed}
 use Rattle.snmp_walk.proofs.get.run_get.Goals as goal
 
 pub returns-in_default-clause-given : goal.returns-in_default-clause-given
@@ -96,3 +97,22 @@ returns-clause-fault g c = λ link.
     c.args.community.now c.args.id c.args.names.now)
     c.args.sink.now c.exchange.new.sink r.is_read.message b r.is_read.given c.in-Ok-Some.heard r.is_read.read c.in-Ends.end c.in-Ends.is r.is_read.delivered in
     absurd (e.no_link link)
+
+pub returns-in-Ok-None-clause-unanswered : goal.returns-in-Ok-None-clause-unanswered
+returns-in-Ok-None-clause-unanswered g c = λ _.
+    subst (λ (q : List ℕ). AreMissed g.L.Link.sends g.L.Link.brings g.L.Link.is_silent (IsNotAwaited c.args.community.now c.args.id) q
+    (c.args.retries + 1) c.args.link.now c.exchange.new.link) c.in-Some.ensures.some.1
+    (if_silent c.exchange.result c.in-Ok-None.field-0 _ c.in-Ok-None.is c.in-Ok-None.field-0-is c.exchange.ensures.unanswered)
+
+pub returns-clause-unanswered : goal.returns-clause-unanswered
+returns-clause-unanswered g c = λ silent.
+    let r = if_some c.in-Ok-Some.field-0 _ c.in-Ok-Some.heard c.in-Ok-Some.field-0-is c.in-Ok-Some.ensures.read in
+    let b = brought c.codec.ensures c.args.community.now c.args.id c.args.names.now c.in-Some.ensures.range (ComesOver g.L.Link.brings)
+    (g.L.Link.agents c.args.link.now)
+    (g.L.Link.honest c.args.link.now) (g.met.L.Link.lawful c.args.link.now) _ c.in-Some.ensures.some.1
+    (g.L.Link.traffic c.args.link.now).sent _ g.S.Sink.takes c.args.sink.now c.in-Ok-Some.heard c.exchange.new.waiter c.exchange.new.sink r in
+    let e = got_ends g.S.Sink.takes (get_request c.args.community.now c.args.id c.args.names.now) c.args.names.now
+    (IsBrought (ComesOver g.L.Link.brings) (g.L.Link.agents c.args.link.now) (g.L.Link.honest c.args.link.now × ((g.L.Link.traffic c.args.link.now).sent ≡ []))
+    c.args.community.now c.args.id c.args.names.now)
+    c.args.sink.now c.exchange.new.sink r.is_read.message b r.is_read.given c.in-Ok-Some.heard r.is_read.read c.in-Ends.end c.in-Ends.is r.is_read.delivered in
+    absurd (e.no_silence silent)

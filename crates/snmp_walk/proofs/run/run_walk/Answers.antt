@@ -5,6 +5,7 @@ use Rattle.snmp_walk.specs.Request.{request_of}
 use Rattle.snmp_walk.specs.Link.{Agents, ComesOver}
 use Rattle.snmp_walk.specs.Heard.{Exchanges, IsEarlier}
 use Rattle.snmp_walk.specs.Run.{Turns}
+use Rattle.snmp_walk.specs.Missed.{MissesReply}
 use Rattle.snmp_walk.specs.declared.end.WalkEnd.TheVariants as ending
 use Rattle.snmp_walk.proofs.RunLemmas.{runs_first, runs_on, ran, ready_facts}
 use Rattle.snmp_walk.proofs.ReadyLemmas.{left_first, left_more, left_fine}
@@ -40,6 +41,8 @@ returns-in-Some-clause-given g c =
     × IsEarlier (g.L.Link.traffic c.turns.link).sent c.turns.core) (c.args.retries + 1) (canon (request_of c.turns.core)) (g.L.Link.traffic c.turns.link)
     (Some c.in-Some.end ≡ Some ending.NoResponse) (Some c.in-Some.end ≡ Some ending.Link) (g.L.Link.traffic c.turn.new.link)) inv.3
     (c.in-Some.ensures.exchanged (inv.2 k)))
+    (MissesReply g.L.Link.sends g.L.Link.brings g.L.Link.is_silent (c.args.retries + 1) c.turn.new.link)
+    (λ silent. (c.turns.link, c.in-Some.ensures.unanswered (ap Some silent)))
 
 pub returns-in-Some-clause-fault : goal.returns-in-Some-clause-fault
 returns-in-Some-clause-fault g c = λ link.

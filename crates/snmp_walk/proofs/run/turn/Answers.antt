@@ -10,6 +10,7 @@ use Rattle.snmp_walk.specs.declared.tries.Heard.TheVariants as heard
 use Rattle.snmp_walk.proofs.ReadyLemmas.{Leaves, leaves_by, never_err, never_bad, silent_no_link}
 use Rattle.snmp_walk.proofs.ReplyLemmas.{heard_by, exchanged_by}
 use Rattle.snmp_walk.proofs.TurnLemmas.{if_some, if_silent, if_cut, turns_of, same_end, no_end, link_end, no_link_end}
+use Rattle.snmp_walk.specs.Missed.{IsNotAwaited, AreMissed}
 use Rattle.snmp_walk.proofs.run.turn.Goals as goal
 
 pub returns-in-Ok-None-clause-turns : goal.returns-in-Ok-None-clause-turns
@@ -133,3 +134,21 @@ returns-in-Ends-clause-ready g c =
     leaves_by (g.L.Link.ready c.args.link.now) (g.L.Link.ready c.exchange.new.link) (c.args.retries + 1) (length (canon (request_of c.args.core.now)))
     (IsOk c.exchange.result) _ (λ ok link. t.1.0 (same_end c.in-Ends.end ending.Link link))
     (subst Of (c.request-length.ensures.waiting c.requires).1 c.exchange.ensures.ready)
+
+pub returns-in-Ok-None-clause-unanswered : goal.returns-in-Ok-None-clause-unanswered
+returns-in-Ok-None-clause-unanswered g c = λ _.
+    subst (λ (q : List ℕ). AreMissed g.L.Link.sends g.L.Link.brings g.L.Link.is_silent (IsNotAwaited c.args.core.now.community c.args.core.now.id) q
+    (c.args.retries + 1) c.args.link.now c.exchange.new.link) (c.request-length.ensures.waiting c.requires).1
+    (if_silent c.exchange.result c.in-Ok-None.field-0 _ c.in-Ok-None.is c.in-Ok-None.field-0-is c.exchange.ensures.unanswered)
+
+pub returns-in-Ends-clause-unanswered : goal.returns-in-Ends-clause-unanswered
+returns-in-Ends-clause-unanswered g c = λ silent.
+    let agents = g.L.Link.agents c.args.link.now in
+    let w : Walker = c.args.core.now in
+    let r = if_some c.in-Ok-Some.field-0 _ c.in-Ok-Some.heard c.in-Ok-Some.field-0-is c.in-Ok-Some.ensures.read in
+    let is_heard = heard_by c.codec.ensures agents (g.L.Link.honest c.args.link.now) w _ (c.request-length.ensures.waiting c.requires).1 c.requires
+    c.request-length.ensures.walker (g.met.L.Link.lawful c.args.link.now) (ComesOver g.L.Link.brings) (g.L.Link.traffic c.args.link.now).sent _
+    g.S.Sink.takes c.args.sink.now c.in-Ok-Some.heard c.exchange.new.waiter c.exchange.new.sink r in
+    let t = turns_of g.S.Sink.takes c.args.sink.now c.exchange.new.sink (ComesOver g.L.Link.brings) agents _ w r.is_read.message r.is_read.given
+    c.exchange.new.waiter c.in-Ok-Some.heard (heard.Ends c.in-Ends.end) c.in-Ends.is c.requires is_heard r.is_read.read r.is_read.delivered in
+    absurd (t.1.1 (same_end c.in-Ends.end ending.NoResponse silent))

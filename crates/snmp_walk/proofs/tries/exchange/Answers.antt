@@ -12,6 +12,8 @@ use Rattle.snmp_walk.specs.Link.{Agents, IsReplyFrom, ComesOver}
 use Rattle.snmp_walk.specs.Traffic.{Traffic, latest}
 use Rattle.snmp_walk.specs.Heard.{IsAsked, Hears}
 use Rattle.snmp_walk.proofs.HearLemmas.{Missing, missing_first, missing_more, missing_all, missing_used, heard_more, last_now, asked_now, try_sent}
+use Rattle.snmp_walk.specs.Missed.{IsNotAwaited, IsMissed}
+use Rattle.snmp_walk.proofs.MissedLemmas.{tries_first, tries_more, tries_all}
 use Rattle.snmp_walk.proofs.TurnLemmas.{if_some, if_silent}
 use Rattle.snmp_walk.proofs.tries.exchange.Goals as goal
 
@@ -39,6 +41,12 @@ asked_for : {W : Type 0} (agents : Agents) (community : W → List ℕ) (id : W 
     → IsAsked agents (community w) (id w) q sent → IsAsked agents (community v) (id v) q sent
 asked_for agents community id v w q sent e h = subst (λ x. IsAsked agents (community x) (id x) q sent) (sym e) h
 
+not_awaited : {L W : Type 0} (brings : L → List ℕ → L → Type 0) (is_silent : L → L → Type 0) (community : W → List ℕ) (id : W → ℕ) (v w : W) (sent heard : L)
+    → v ≡ w → IsMissed brings is_silent (IsNotAwaited (community v) (id v)) 64 sent heard
+    → IsMissed brings is_silent (IsNotAwaited (community w) (id w)) 64 sent heard
+not_awaited brings is_silent community id v w sent heard e h =
+    subst (λ x. IsMissed brings is_silent (IsNotAwaited (community x) (id x)) 64 sent heard) e h
+
 -- what was sent once more
 sent_again : (old before between now : Traffic) (q : List ℕ) (count : ℕ) → before.sent ≡ old.sent ++ replicate count q → between.sent ≡ before.sent ++ q ∷ []
     → now.sent ≡ between.sent
@@ -58,6 +66,8 @@ tries-init g c = (
   λ sends octets h. by_equal (g.L.Link.ready c.args.link.now) (sends + 0) sends (octets + 0 * length c.args.request.now) octets (omega arith) (omega arith) h,
   refl,
   refl,
+  tries_first g.L.Link.sends g.L.Link.brings g.L.Link.is_silent (IsNotAwaited (g.W.Waiter.community c.args.waiter.now) (g.W.Waiter.id c.args.waiter.now))
+      c.args.request.now c.args.link.now,
 )
 
 pub tries-preserved : goal.tries-preserved
@@ -92,7 +102,17 @@ tries-preserved g c =
           (one_more (g.L.Link.ready c.args.link.now) sends octets c.tries.counter (length q) h))).1).1,
       (if_silent c.hear.result _ _ c.in_ok-heard.was c.in_default.is c.hear.ensures.silent).0 ∙ inv.7,
       (if_silent c.hear.result _ _ c.in_ok-heard.was c.in_default.is c.hear.ensures.silent).1 ∙ inv.8,
+      tries_more g.L.Link.sends g.L.Link.brings g.L.Link.is_silent (IsNotAwaited (g.W.Waiter.community c.args.waiter.now) (g.W.Waiter.id c.args.waiter.now)) q
+          c.tries.counter c.args.link.now c.tries.link c.send.new.self c.hear.new.link inv.9 c.in_ok-send.ensures.sends
+          (not_awaited g.L.Link.brings g.L.Link.is_silent g.W.Waiter.community g.W.Waiter.id c.tries.waiter c.args.waiter.now c.send.new.self c.hear.new.link inv.7
+          (if_silent c.hear.result _ _ c.in_ok-heard.was c.in_default.is c.hear.ensures.unanswered)),
     )
+
+pub returns-clause-unanswered : goal.returns-clause-unanswered
+returns-clause-unanswered g c =
+    let all : c.tries.counter ≡ c.args.retries + 1 = omega arith in
+    tries_all g.L.Link.sends g.L.Link.brings g.L.Link.is_silent (IsNotAwaited (g.W.Waiter.community c.args.waiter.now) (g.W.Waiter.id c.args.waiter.now))
+    c.args.request.now c.tries.counter (c.args.retries + 1) c.args.link.now c.tries.link all c.tries.invariant.9
 
 pub returns-in_err-send-clause-ready : goal.returns-in_err-send-clause-ready
 returns-in_err-send-clause-ready g c = (

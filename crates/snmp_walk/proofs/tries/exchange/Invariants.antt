@@ -1,6 +1,8 @@
 use Rattle.std.proofs.Common.{◌≡◌, ◌+◌, ◌*◌, ℕ, List, ◌++◌, replicate, length}
 use Rattle.snmp_walk.specs.Heard.{IsAsked}
 use Rattle.snmp_walk.proofs.HearLemmas.{Missing}
+use Rattle.snmp_walk.specs.Missed.{IsNotAwaited}
+use Rattle.snmp_walk.proofs.MissedLemmas.{AreMissing}
 use Rattle.snmp_walk.proofs.tries.exchange.Given as goal
 
 abbrev pub invariant-tries : goal.invariant-tries
@@ -14,3 +16,5 @@ invariant-tries g l =
     → Missing (g.L.Link.agents l.fn.link) l.request (g.L.Link.traffic l.fn.link) l.counter (l.fn.retries + 1) (g.L.Link.traffic l.link))
     × ((sends octets : ℕ) → g.L.Link.ready l.fn.link (sends + l.counter) (octets + l.counter * length l.request) → g.L.Link.ready l.link sends octets)
     × (l.waiter ≡ l.fn.waiter) × (l.sink ≡ l.fn.sink)
+    × AreMissing g.L.Link.sends g.L.Link.brings g.L.Link.is_silent (IsNotAwaited (g.W.Waiter.community l.fn.waiter) (g.W.Waiter.id l.fn.waiter)) l.request
+    l.counter l.fn.link l.link

@@ -9,7 +9,9 @@ use Rattle.snmp_walk.specs.Taken.{awaits}
 use Rattle.snmp_walk.specs.Read.{IsRead, IsReadAs}
 use Rattle.snmp_walk.specs.Link.{Agents, ComesOver}
 use Rattle.snmp_walk.specs.Traffic.{Traffic, received, Receives}
-use Rattle.snmp_walk.proofs.HearLemmas.{Waits, stray_heard, none_heard, reply_heard, heard_used, received_by}
+use Rattle.snmp_walk.proofs.HearLemmas.{Waits, waits_first, stray_heard, none_heard, reply_heard, heard_used, received_by}
+use Rattle.snmp_walk.specs.Missed.{IsNotAwaited}
+use Rattle.snmp_walk.proofs.MissedLemmas.{IsMissing, missing_first, missing_more, missed_all, missed_silent}
 use Rattle.snmp_walk.proofs.TurnLemmas.{if_some}
 use Rattle.snmp_walk.proofs.tries.hear.Goals as goal
 
@@ -96,6 +98,20 @@ returns-in-Some-read_reply-clause-heard g c = λ q h last asked.
     heard_used (g.L.Link.agents c.args.link.now) q old now left c.receives.counter (Some (take c.in-Some.length c.receive.new.buffer)) less now.ahead refl r
     (inv.5 q h last asked) _ (λ e. cc)
 
+pub receives-init : goal.receives-init
+receives-init g c = (
+  λ h. h,
+  λ h. h,
+  refl,
+  refl,
+  λ h. refl,
+  λ q h last asked. waits_first (g.L.Link.agents c.args.link.now) q (g.L.Link.traffic c.args.link.now),
+  λ sends octets h. h,
+  refl,
+  refl,
+  missing_first g.L.Link.brings g.L.Link.is_silent (IsNotAwaited (g.W.Waiter.community c.args.waiter.now) (g.W.Waiter.id c.args.waiter.now)) c.args.link.now,
+)
+
 pub receives-preserved : goal.receives-preserved
 receives-preserved g c =
     let inv = c.receives.invariant in
@@ -121,4 +137,25 @@ receives-preserved g c =
       λ sends octets h. (c.receive.ensures.ready sends octets (inv.6 sends octets h) long).1,
       (if_none c.read_reply.result _ c.in_default-read_reply.is c.read_reply.ensures.unchanged).0 ∙ inv.7,
       (if_none c.read_reply.result _ c.in_default-read_reply.is c.read_reply.ensures.unchanged).1 ∙ inv.8,
+      missing_more g.L.Link.brings g.L.Link.is_silent (IsNotAwaited (g.W.Waiter.community c.args.waiter.now) (g.W.Waiter.id c.args.waiter.now))
+          c.receives.counter c.args.link.now c.receives.link c.receive.new.self (take c.in-Some.length c.receive.new.buffer) inv.9
+          (if_some c.in_ok-length.field-0 (λ n. g.L.Link.brings c.receives.link (take n c.receive.new.buffer) c.receive.new.self) c.in-Some.length c.in-Some.is
+          c.in_ok-length.ensures.brings)
+          (λ m spelt. read_other g.W.Waiter.community g.W.Waiter.id c.receives.waiter c.args.waiter.now m inv.7
+          (if_none c.read_reply.result _ c.in_default-read_reply.is c.read_reply.ensures.none m spelt)),
     )
+
+pub returns-in_default-clause-unanswered : goal.returns-in_default-clause-unanswered
+returns-in_default-clause-unanswered g c =
+    let less : c.receives.counter < 64 = omega arith in
+    missed_silent g.L.Link.brings g.L.Link.is_silent (IsNotAwaited (g.W.Waiter.community c.args.waiter.now) (g.W.Waiter.id c.args.waiter.now))
+    c.receives.counter c.args.link.now c.receives.link c.receive.new.self less c.receives.invariant.9
+    (if_none c.in_ok-length.field-0 _ c.in_default.is c.in_ok-length.ensures.silent)
+
+pub returns-clause-unanswered : goal.returns-clause-unanswered
+returns-clause-unanswered g c =
+    let all : c.receives.counter ≡ 64 = omega arith in
+    missed_all g.L.Link.brings g.L.Link.is_silent (IsNotAwaited (g.W.Waiter.community c.args.waiter.now) (g.W.Waiter.id c.args.waiter.now))
+    c.args.link.now c.receives.link
+    (subst (λ (n : ℕ). IsMissing g.L.Link.brings g.L.Link.is_silent (IsNotAwaited (g.W.Waiter.community c.args.waiter.now) (g.W.Waiter.id c.args.waiter.now)) n
+    c.args.link.now c.receives.link) all c.receives.invariant.9)

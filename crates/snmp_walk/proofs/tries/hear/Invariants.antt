@@ -2,6 +2,8 @@ use Rattle.std.proofs.Common.{◌≡◌, ℕ, List, Some}
 use Rattle.snmp_walk.specs.Traffic.{latest}
 use Rattle.snmp_walk.specs.Heard.{IsAsked}
 use Rattle.snmp_walk.proofs.HearLemmas.{Waits}
+use Rattle.snmp_walk.specs.Missed.{IsNotAwaited}
+use Rattle.snmp_walk.proofs.MissedLemmas.{IsMissing}
 use Rattle.snmp_walk.proofs.tries.hear.Given as goal
 
 abbrev pub invariant-receives : goal.invariant-receives
@@ -16,3 +18,4 @@ invariant-receives g l =
     → Waits (g.L.Link.agents l.fn.link) q (g.L.Link.traffic l.fn.link) l.counter (g.L.Link.traffic l.link))
     × ((sends octets : ℕ) → g.L.Link.ready l.fn.link sends octets → g.L.Link.ready l.link sends octets)
     × (l.waiter ≡ l.fn.waiter) × (l.sink ≡ l.fn.sink)
+    × IsMissing g.L.Link.brings g.L.Link.is_silent (IsNotAwaited (g.W.Waiter.community l.fn.waiter) (g.W.Waiter.id l.fn.waiter)) l.counter l.fn.link l.link

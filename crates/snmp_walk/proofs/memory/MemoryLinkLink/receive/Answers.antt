@@ -3,7 +3,7 @@ use Rattle.snmp_walk.specs.Link.{Agents}
 use Rattle.snmp_walk.specs.Memory.{agents_of, IsNextNumber, IsReplyOf}
 use Rattle.snmp_walk.specs.Traffic.{received, datagram_at, Gives, Receives}
 use Rattle.snmp_walk.specs.Arena.{Store}
-use Rattle.snmp_walk.proofs.MemoryLemmas.{brought_by, reply_before, received_front, received_at, within_more}
+use Rattle.snmp_walk.proofs.MemoryLemmas.{brought_by, silent_any, reply_before, received_front, received_at, within_more}
 use Rattle.snmp_walk.proofs.memory.MemoryLinkLink.receive.Goals as goal
 
 pub returns-clause-length : goal.returns-clause-length
@@ -44,3 +44,6 @@ returns-clause-brings c =
     (reply_before (agents_of self) (agents_of later) self.uses.now later.uses.now self.arena later.arena c.next_number-number.ensures.agents
     (ap (λ u. u.now) c.next_number-number.ensures.uses) c.next_number-number.ensures.arena c.reply_to.result c.next_number-number.result
     c.reply_to.new.out c.reply_to.ensures.table)
+
+pub returns-clause-silent : goal.returns-clause-silent
+returns-clause-silent c = silent_any c.reply_to.result
