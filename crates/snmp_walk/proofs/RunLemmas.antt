@@ -44,7 +44,7 @@ use Rattle.snmp_walk.specs.Names.{is_missing}
 use Rattle.snmp_walk.specs.Trail.{last_name, IsTrail, AreLawfulReplies}
 use Rattle.snmp_walk.specs.Walker.{Walker, IsWalker}
 use Rattle.snmp_walk.specs.Request.{first_phase}
-use Rattle.snmp_walk.specs.Taken.{is_over, take_of}
+use Rattle.snmp_walk.specs.Taken.{is_over, take_of, Takes}
 use Rattle.snmp_walk.specs.Standing.{
   IsOpening,
   IsGiven,
@@ -69,6 +69,10 @@ use Rattle.snmp_walk.specs.Facts.{
   IsFresh,
   IsLastSent,
   IsWaiting,
+  Reading,
+  rows_read,
+  AreRead,
+  HasRead,
   IsEndedBy,
   IsLawfulEnd,
   HasNoReply,
@@ -216,20 +220,43 @@ pub record RunFacts (agents : Agents) (Silent Sent : Walker → Type 0) (first :
   pub lawful : IsLawfulEnd agents Silent first rows end
   pub last_request : IsEndedBy agents Sent first rows end
 
+-- one datagram more was read
+are_more : (Comes : List ℕ → Type 0) (v w x : Walker) (readings : List Reading) (r : Reading) → AreRead Comes v readings w → Comes r.datagram
+    → Takes w r.datagram (step.Rows r.rows) x → AreRead Comes v (readings ++ r ∷ []) x
+are_more Comes v w x [] r e comes taken = (x, comes, subst (λ (y : Walker). Takes y r.datagram (step.Rows r.rows) x) e taken, refl)
+are_more Comes v w x (s ∷ readings) r h comes taken = (h.0, h.1, h.2, are_more Comes h.0 w x readings r h.3 comes taken)
+
+rows_more : (readings : List Reading) (r : Reading) → rows_read (readings ++ r ∷ []) ≡ rows_read readings ++ r.rows
+rows_more [] r = append-nil r.rows
+rows_more (s ∷ readings) r =
+    ap (λ (rows : List VarBind). s.rows ++ rows) (rows_more readings r) ∙ sym (append_assoc s.rows (rows_read readings) r.rows)
+
+read_more : (Comes : List ℕ → Type 0) (first w x : Walker) (given rows : List VarBind) (datagram : List ℕ) → HasRead Comes first w given → Comes datagram
+    → Takes w datagram (step.Rows rows) x → HasRead Comes first x (given ++ rows)
+read_more Comes first w x given rows datagram h comes taken =
+    let r : Reading = record { datagram = datagram; rows = rows } in
+    record {
+      readings = h.readings ++ r ∷ [];
+      rows = ap (λ (g : List VarBind). g ++ rows) h.rows ∙ sym (rows_more h.readings r);
+      are_read = are_more Comes first w x h.readings r h.are_read comes taken;
+    }
+
 module _ {S : Type 0} (takes : S → VarBind → Result (Unit {0}) SinkFault → S → Type 0) (Comes : List ℕ → Type 0) (agents : Agents) (Silent : Walker
     → Type 0) (Sent : WalkEnd → Walker → Type 0) (honest : Type 0) (first w : Walker) (before s t : S)
-    (given : List VarBind) (sunk : Given takes before given s) (stands : Reaches Rises Named first w given) (good : IsWalker w) (later : first.id ≤ w.id) where
+    (given : List VarBind) (sunk : Given takes before given s) (stands : Reaches Rises Named first w given) (good : IsWalker w) (later : first.id ≤ w.id)
+    (read : HasRead Comes first w given) where
   -- the walk after one more turn
   pub record GoesOn (rows : List VarBind) (new : Walker) : Type 0 where
     pub sink : Given takes before (given ++ rows) t
     pub id : new.id ≡ w.id + 1
     pub low : new.id < 2 ^ 31
     pub stands_on : Reaches Rises Named first new (given ++ rows)
+    pub read_on : HasRead Comes first new (given ++ rows)
     pub honestly : honest → AreLawfulReplies (IsNextFrom agents) (IsGotFrom agents) → Reaches (IsNextFrom agents) (IsGotFrom agents) first w given
         → Reaches (IsNextFrom agents) (IsGotFrom agents) first new (given ++ rows)
 
   pub turned : (rows : List VarBind) (new : Walker) → Turns takes Comes agents honest w s rows None new t → GoesOn rows new
-  turned rows new (goes_on m from e f sink en) =
+  turned rows new (goes_on m datagram from comes spelt e f sink en) =
       let any = subst (λ (st : Step). AdvancesAnyhow first w given st (take_of w m).1) e (taken_any first w given m stands) in
       let here = subst (λ (v : Walker). AdvancesAnyhow first w given (step.Rows rows) v) (sym f) any in
       record {
@@ -237,13 +264,14 @@ module _ {S : Type 0} (takes : S → VarBind → Result (Unit {0}) SinkFault →
         id = here.0;
         low = here.1;
         stands_on = here.2;
+        read_on = read_more Comes first w new given rows datagram read comes (inl (m, spelt, sym e, f));
         honestly = λ h laws k.
             let step_of = subst (λ (st : Step). Advances (IsNextFrom agents) (IsGotFrom agents) (IsTooLarge agents) first w given st (take_of w m).1) e
             (taken (IsNextFrom agents) (IsGotFrom agents) (IsTooLarge agents) laws first given w m k (from h).0) in
             subst (λ (v : Walker). Reaches (IsNextFrom agents) (IsGotFrom agents) first v (given ++ rows)) (sym f) step_of;
       }
   turned rows new (ends m datagram why from comes spelt e sink en) = let no : ⊥ = cc in absurd no
-  turned rows new (is_refused m fault p left between from e sink refused en) = let no : ⊥ = cc in absurd no
+  turned rows new (is_refused m datagram fault p left between from comes spelt e sink refused en) = let no : ⊥ = cc in absurd no
   turned rows new (is_silent r a en) = let no : ⊥ = cc in absurd no
   turned rows new (fails r a en) = let no : ⊥ = cc in absurd no
 
@@ -256,8 +284,8 @@ module _ {S : Type 0} (takes : S → VarBind → Result (Unit {0}) SinkFault →
     pub facts : honest → AreLawfulReplies (IsNextFrom agents) (IsGotFrom agents) → Reaches (IsNextFrom agents) (IsGotFrom agents) first w given
         → RunFacts agents Silent (Sent end) first (given ++ rows) refused end
 
-  waiting : (why : WalkEnd) → Sent why w → IsWaiting (Sent why) first w given
-  waiting why sent = record { walker = good; id = later; reaches = stands; sent = sent }
+  waiting : (why : WalkEnd) → Sent why w → IsWaiting Comes (Sent why) first w given
+  waiting why sent = record { walker = good; id = later; read = read; reaches = stands; sent = sent }
 
   ended_by : (rows : List VarBind) (why : WalkEnd) → Sent why w → Reaches (IsNextFrom agents) (IsGotFrom agents) first w given
       → (IsReplyEnd why → Ends (IsNextFrom agents) (IsGotFrom agents) (IsTooLarge agents) first w (given ++ rows) why)
@@ -284,7 +312,7 @@ module _ {S : Type 0} (takes : S → VarBind → Result (Unit {0}) SinkFault →
         sink = took_reply takes before t (given ++ rows) why any.0 (given-append S takes given rows before s t sunk sink);
         part = subst (IsPartOfWalk Rises Named first) (sym (append-nil (given ++ rows))) any.1;
         ending = end_facts Comes (Sent why) first (given ++ rows) [] why (subst (IsPartOfWalk Rises Named first) (sym (append-nil (given ++ rows))) any.1) any.2
-            (read_end Comes (Sent why) first (given ++ rows) why any.0 (record {
+            (read_end Comes (Sent why) first (given ++ rows) [] why any.0 (record {
               w = w;
               given = given;
               more = rows;
@@ -308,9 +336,9 @@ module _ {S : Type 0} (takes : S → VarBind → Result (Unit {0}) SinkFault →
       }
 
   over_refused : (rows : List VarBind) (m : Message) (fault : SinkFault) (p : VarBind) (left : List VarBind) (between : S) → Sent (ending.Sink fault) w
-      → IsFrom agents honest w m → rows_in (take_of w m).0 ≡ rows ++ p ∷ left
+      → (datagram : List ℕ) → Comes datagram → Spells m datagram → IsFrom agents honest w m → rows_in (take_of w m).0 ≡ rows ++ p ∷ left
       → Given takes s rows between → takes between p (Err fault) t → IsOver rows (ending.Sink fault)
-  over_refused rows m fault p left between sent from e sink refused =
+  over_refused rows m fault p left between sent datagram comes spelt from e sink refused =
       let cut : given ++ rows_in (take_of w m).0 ≡ ((given ++ rows) ++ p ∷ []) ++ left =
       ap (λ (r : List VarBind). given ++ r) e ∙ sym (append_assoc given rows (p ∷ left)) ∙ sym (append_assoc (given ++ rows) (p ∷ []) left) in
       let any = subst (IsPartOfWalk Rises Named first) cut (keeps_part first w (take_of w m).1 given (take_of w m).0 stands
@@ -320,7 +348,20 @@ module _ {S : Type 0} (takes : S → VarBind → Result (Unit {0}) SinkFault →
         sink = (between, given-append S takes given rows before s between sunk sink, (p, refl, refused));
         part = part_front Rises Named first ((given ++ rows) ++ p ∷ []) left any;
         ending = end_facts Comes (Sent (ending.Sink fault)) first (given ++ rows) (p ∷ []) (ending.Sink fault)
-            (part_front Rises Named first ((given ++ rows) ++ p ∷ []) left any) tt (w, given, rows, refl, waiting (ending.Sink fault) sent);
+            (part_front Rises Named first ((given ++ rows) ++ p ∷ []) left any) tt (record {
+              w = w;
+              given = given;
+              more = rows;
+              parts = refl;
+              waits = waiting (ending.Sink fault) sent;
+              datagram = datagram;
+              comes = comes;
+              left = left;
+              given_step = (take_of w m).0;
+              over = (take_of w m).1;
+              taken = inl (m, spelt, refl, refl);
+              step_rows = e;
+            });
         facts = λ h laws k.
             let whole = subst (IsPartOfWalk (IsNextFrom agents) (IsGotFrom agents) first) cut (advances_part agents laws first w (take_of w m).1 given
             (take_of w m).0
@@ -332,7 +373,7 @@ module _ {S : Type 0} (takes : S → VarBind → Result (Unit {0}) SinkFault →
             };
       }
 
-  over_none : (why : WalkEnd) → Sent why w → (IsReplyEnd why → ⊥) → CountsAll why given → IsEndOfRun Comes (Sent why) first given why
+  over_none : (why : WalkEnd) → Sent why w → (IsReplyEnd why → ⊥) → CountsAll why given → IsEndOfRun Comes (Sent why) first given [] why
       → Took takes before given [] why t → (honest
       → AreLawfulReplies (IsNextFrom agents) (IsGotFrom agents)
       → Reaches (IsNextFrom agents) (IsGotFrom agents) first w given → IsLawfulEnd agents Silent first given why)
@@ -357,13 +398,13 @@ module _ {S : Type 0} (takes : S → VarBind → Result (Unit {0}) SinkFault →
 
   pub over : (rows : List VarBind) (new : Walker) (end : WalkEnd) → Sent end w → (end ≡ ending.NoResponse → honest → Silent w)
       → Turns takes Comes agents honest w s rows (Some end) new t → IsOver rows end
-  over rows new end sent quiet (goes_on m from e f sink en) = let no : ⊥ = cc in absurd no
+  over rows new end sent quiet (goes_on m datagram from comes spelt e f sink en) = let no : ⊥ = cc in absurd no
   over rows new end sent quiet (ends m datagram why from comes spelt e sink en) =
       let same : why ≡ end = cc in
       subst (IsOver rows) same (over_reply rows m datagram why (subst (λ (x : WalkEnd). Sent x w) (sym same) sent) from comes spelt e sink)
-  over rows new end sent quiet (is_refused m fault p left between from e sink refused en) =
+  over rows new end sent quiet (is_refused m datagram fault p left between from comes spelt e sink refused en) =
       let same : ending.Sink fault ≡ end = cc in
-      subst (IsOver rows) same (over_refused rows m fault p left between (subst (λ (x : WalkEnd). Sent x w) (sym same) sent) from e sink refused)
+      subst (IsOver rows) same (over_refused rows m fault p left between (subst (λ (x : WalkEnd). Sent x w) (sym same) sent) datagram comes spelt from e sink refused)
   over rows new end sent quiet (is_silent r a en) =
       let same : ending.NoResponse ≡ end = cc in
       let sink : Given takes before given t = subst (Given takes before given) (sym a) sunk in
@@ -392,14 +433,14 @@ fast_turn : {S : Type 0} (takes : S → VarBind → Result (Unit {0}) SinkFault 
     → (rows : List VarBind) (v : Walker) → Reaches (IsNextFrom agents) (IsGotFrom agents) first v (given ++ rows) → v.id ≡ w.id + 1 → honest
     → Turns takes Comes agents honest w s rows None v t → IsFast (IsNextFrom agents) (IsGotFrom agents) Roomy first given w.id w.phase
     → IsFast (IsNextFrom agents) (IsGotFrom agents) More first (given ++ rows) v.id v.phase
-fast_turn takes Comes agents honest first w s t given laws Roomy More less room before rows v after next h (goes_on m from e f sink en) fast =
+fast_turn takes Comes agents honest first w s t given laws Roomy More less room before rows v after next h (goes_on m datagram from comes spelt e f sink en) fast =
     let r = from h in
     fast_on agents laws first w v given rows Roomy More less room before after next m r.0 r.1 e f w.phase v.phase refl refl fast
 fast_turn takes Comes agents honest first w s t given laws Roomy More less room before rows v after next h
     (ends m datagram why from comes spelt e sink en) fast =
     let no : ⊥ = cc in absurd no
 fast_turn takes Comes agents honest first w s t given laws Roomy More less room before rows v after next h
-    (is_refused m fault p left between from e sink refused en) fast =
+    (is_refused m datagram fault p left between from comes spelt e sink refused en) fast =
     let no : ⊥ = cc in absurd no
 fast_turn takes Comes agents honest first w s t given laws Roomy More less room before rows v after next h
     (is_silent r a en) fast = let no : ⊥ = cc in absurd no
@@ -412,12 +453,13 @@ same_some x y e = cc
 
 -- where a run stands between two turns
 pub record Runs {S : Type 0} (takes : S → VarBind → Result (Unit {0}) SinkFault → S
-    → Type 0) (agents : Agents) (keeps honest : Type 0) (tries : ℕ) (first : Walker) (before : S) (old : Traffic)
+    → Type 0) (Comes : List ℕ → Type 0) (agents : Agents) (keeps honest : Type 0) (tries : ℕ) (first : Walker) (before : S) (old : Traffic)
     (w : Walker) (s : S) (now : Traffic) : Type 0 where
   pub given : List VarBind
   pub sunk : Given takes before given s
   pub stands : Reaches Rises Named first w given
   pub later : first.id ≤ w.id
+  pub read : HasRead Comes first w given
   pub honestly : honest → AreViews agents.tables → old.sent ≡ [] → Reaches (IsNextFrom agents) (IsGotFrom agents) first w given
   pub earlier : keeps → old.sent ≡ [] → IsEarlier now.sent w
   pub sends : keeps → Sends tries first given old w.id now
@@ -426,13 +468,14 @@ pub record Runs {S : Type 0} (takes : S → VarBind → Result (Unit {0}) SinkFa
       → IsFast (IsNextFrom agents) (IsGotFrom agents) (AreRoomy agents (sends k).requests) first given w.id w.phase
 
 pub runs_first : {S : Type 0} (takes : S → VarBind → Result (Unit {0}) SinkFault → S
-    → Type 0) (agents : Agents) (keeps honest : Type 0) (tries : ℕ) (first : Walker) (before : S) (old : Traffic)
-    → IsFresh first → Runs takes agents keeps honest tries first before old first before old
-runs_first takes agents keeps honest tries first before old fresh = record {
+    → Type 0) (Comes : List ℕ → Type 0) (agents : Agents) (keeps honest : Type 0) (tries : ℕ) (first : Walker) (before : S) (old : Traffic)
+    → IsFresh first → Runs takes Comes agents keeps honest tries first before old first before old
+runs_first takes Comes agents keeps honest tries first before old fresh = record {
   given = [];
   sunk = refl;
   stands = fresh_stands Rises Named first fresh;
   later = omega arith;
+  read = record { readings = []; rows = refl; are_read = refl };
   honestly = λ h views none. fresh_stands (IsNextFrom agents) (IsGotFrom agents) first fresh;
   earlier = λ k none. earlier_first old.sent first none;
   sends = λ k. sends_first tries first old;
@@ -443,11 +486,11 @@ runs_first takes agents keeps honest tries first before old fresh = record {
 module _ {S : Type 0} (takes : S → VarBind → Result (Unit {0}) SinkFault → S → Type 0) (Comes : List ℕ
     → Type 0) (agents : Agents) (keeps honest : Type 0) (keeping : honest
     → keeps) (tries : ℕ) (first : Walker) (before : S) (old : Traffic)
-    (w : Walker) (s : S) (now : Traffic) (r : Runs takes agents keeps honest tries first before old w s now) (good : IsWalker w) (here : Type 0)
+    (w : Walker) (s : S) (now : Traffic) (r : Runs takes Comes agents keeps honest tries first before old w s now) (good : IsWalker w) (here : Type 0)
     (here_honest : honest → here) where
   -- one more turn
   pub record RunsOn (v : Walker) (t : S) (later : Traffic) : Type 0 where
-    pub runs : Runs takes agents keeps honest tries first before old v t later
+    pub runs : Runs takes Comes agents keeps honest tries first before old v t later
     pub id : v.id ≡ w.id + 1
     pub low : v.id < 2 ^ 31
 
@@ -459,13 +502,14 @@ module _ {S : Type 0} (takes : S → VarBind → Result (Unit {0}) SinkFault →
       → (keeps → Exchanges agents (here × IsEarlier now.sent w) tries (canon (request_of w)) now silent failed later) → RunsOn v t later
   runs_on rows v t later silent failed turn x =
       let gone = turned takes Comes agents (HasNone agents) (λ end u. Unit {0}) (here × IsEarlier now.sent w) first w before s t r.given r.sunk r.stands good
-      r.later rows v turn in
+      r.later r.read rows v turn in
       record {
         runs = record {
           given = r.given ++ rows;
           sunk = gone.sink;
           stands = gone.stands_on;
           later = omega (arith, gone.id, r.later);
+          read = gone.read_on;
           honestly = λ h views none. gone.honestly (here_honest h, r.earlier (keeping h) none) (views_answer agents views) (r.honestly h views none);
           earlier = λ k none. earlier_more w v now.sent later.sent (x k).times good waits (omega (arith, gone.id)) (x k).sent (r.earlier k none);
           sends = λ k. sends_at tries first (r.given ++ rows) old (w.id + 1) v.id later (sym gone.id)
@@ -547,7 +591,7 @@ module _ {S : Type 0} (takes : S → VarBind → Result (Unit {0}) SinkFault →
         all = λ silent. (x k).all (ap Some silent);
       } in
       let done = over takes Comes agents (IsQuiet later) (λ why u. (keeps → IsLastSent tries why later u) × (why ≡ ending.NoResponse → Unheard u)) (here × IsEarlier now.sent w) first w before s t r.given r.sunk
-      r.stands good r.later rows v end (sent, unheard)
+      r.stands good r.later r.read rows v end (sent, unheard)
       (λ silent k. λ h none. no_reply (Some end ≡ Some ending.NoResponse) (Some end ≡ Some ending.Link) later (ap Some silent) h none (x (keeping h))) turn in (
         r.given ++ rows,
         done.refused,
@@ -574,12 +618,12 @@ module _ {S : Type 0} (takes : S → VarBind → Result (Unit {0}) SinkFault →
       )
 
 -- a run over a link that is ready for all its requests has no fault of the link
-pub ready_facts : {S : Type 0} → Codec → (takes : S → VarBind → Result (Unit {0}) SinkFault → S → Type 0) (agents : Agents) (keeps honest : Type 0) (tries : ℕ)
+pub ready_facts : {S : Type 0} → Codec → (takes : S → VarBind → Result (Unit {0}) SinkFault → S → Type 0) (Comes : List ℕ → Type 0) (agents : Agents) (keeps honest : Type 0) (tries : ℕ)
     (first : Walker) (before : S) (old : Traffic) (w : Walker) (s : S) (now : Traffic)
-    → Runs takes agents keeps honest tries first before old w s now → IsFresh first → (honest → AreViews agents.tables) → (Ready : ℕ → ℕ → Type 0)
+    → Runs takes Comes agents keeps honest tries first before old w s now → IsFresh first → (honest → AreViews agents.tables) → (Ready : ℕ → ℕ → Type 0)
     (end : WalkEnd) → ((k : ℕ) → w.id ≤ first.id + k + 1 → IsReadyForAll Ready tries k → end ≢ ending.Link)
     → ReadyFacts agents (honest × (old.sent ≡ [])) Ready tries first end
-ready_facts codec takes agents keeps honest tries first before old w s now r fresh views Ready end fine = record {
+ready_facts codec takes Comes agents keeps honest tries first before old w s now r fresh views Ready end fine = record {
   over_table = λ h view got one answer ready.
       let good = views h.0 in
       let f = r.honestly h.0 good h.1 in

@@ -27,7 +27,9 @@ use Rattle.snmp_walk.specs.declared.end.WalkEnd.{WalkEnd}
 use Rattle.snmp_walk.specs.declared.end.WalkEnd.TheVariants as ending
 use Rattle.snmp_table.specs.Table.{MibView, IsGet}
 use Rattle.snmp_table.specs.Listing.{variables}
+use Rattle.snmp_walk.specs.declared.rows.Step.{Step}
 use Rattle.snmp_walk.specs.declared.rows.Step.TheVariants as step
+use Rattle.snmp_walk.specs.Read.{rows_in}
 use Rattle.snmp_walk.specs.Walk.{walk_from, rest_of, AreRising}
 use Rattle.snmp_walk.specs.Taken.{Takes, asked_for}
 use Rattle.snmp_walk.specs.declared.phase.Phase.TheVariants as phase
@@ -71,12 +73,39 @@ pub record IsLastSent (tries : ℕ) (end : WalkEnd) (new : Traffic) (w : Walker)
   pub few : times ≤ tries
   pub all : end ≡ ending.NoResponse → times ≡ tries
 
+-- a datagram, and the rows that a walk read in it
+pub record Reading : Type 0 where
+  pub datagram : List ℕ
+  pub rows : List VarBind
+
+-- the rows of these readings, in turn
+abbrev pub rows_read : List Reading → List VarBind
+rows_read [] = []
+rows_read (r ∷ more) = r.rows ++ rows_read more
+
+-- each of these datagrams came over the link, and the walk v read them, in turn, as these rows, and
+-- is w then
+abbrev pub AreRead : (List ℕ → Type 0) → Walker → List Reading → Walker → Type 0
+AreRead Comes v [] w = w ≡ v
+AreRead Comes v (r ∷ more) w =
+    (u : Walker) × Comes r.datagram × Takes v r.datagram (step.Rows r.rows) u
+    × AreRead Comes u more w
+
+-- the walk that began as `first` gave just the rows that it read in datagrams that came over the
+-- link, and is w then
+pub record HasRead (Comes : List ℕ → Type 0) (first w : Walker) (given : List VarBind) : Type 0
+    where
+  pub readings : List Reading
+  pub rows : given ≡ rows_read readings
+  pub are_read : AreRead Comes first readings w
+
 -- The walk that began as `first` had given these rows and was waiting, as w, for the reply to its
 -- request, whose sending is as `Sent` says.
-pub record IsWaiting (Sent : Walker → Type 0) (first w : Walker) (given : List VarBind)
-    : Type 0 where
+pub record IsWaiting (Comes : List ℕ → Type 0) (Sent : Walker → Type 0) (first w : Walker)
+    (given : List VarBind) : Type 0 where
   pub walker : IsWalker w
   pub id : first.id ≤ w.id
+  pub read : HasRead Comes first w given
   pub reaches : Reaches Rises Named first w given
   pub sent : Sent w
 
@@ -89,23 +118,42 @@ pub record IsReadSo (Comes : List ℕ → Type 0) (Sent : Walker → Type 0) (fi
   pub given : List VarBind
   pub more : List VarBind
   pub parts : rows ≡ given ++ more
-  pub waits : IsWaiting Sent first w given
+  pub waits : IsWaiting Comes Sent first w given
   pub datagram : List ℕ
   pub comes : Comes datagram
   pub over : Walker
   pub taken : Takes w datagram (step.Last more end) over
 
+-- The walk that began as `first` gave these rows, and the sink refused the next: w had given the
+-- first of them and was waiting for a reply, and reads a datagram that came over the link as the
+-- other rows, those refused, and perhaps more.
+pub record IsRefusedSo (Comes : List ℕ → Type 0) (Sent : Walker → Type 0) (first : Walker)
+    (rows refused : List VarBind) : Type 0 where
+  pub w : Walker
+  pub given : List VarBind
+  pub more : List VarBind
+  pub parts : rows ≡ given ++ more
+  pub waits : IsWaiting Comes Sent first w given
+  pub datagram : List ℕ
+  pub comes : Comes datagram
+  pub left : List VarBind
+  pub given_step : Step
+  pub over : Walker
+  pub taken : Takes w datagram given_step over
+  pub step_rows : rows_in given_step ≡ more ++ (refused ++ left)
+
 -- Why a run ends, whatever the link brings: by a reply that is read so, or while w was waiting for
 -- one, or by the sink, that refused a row of the reply. A request of a walk is never too long.
-abbrev pub IsEndOfRun : (List ℕ → Type 0) → (Walker → Type 0) → Walker → List VarBind → WalkEnd
-    → Type 0
-IsEndOfRun Comes Sent first rows ending.RequestTooLong = ⊥
-IsEndOfRun Comes Sent first rows ending.NoResponse = (w : Walker) × IsWaiting Sent first w rows
-IsEndOfRun Comes Sent first rows ending.Link = (w : Walker) × IsWaiting Sent first w rows
-IsEndOfRun Comes Sent first rows (ending.Sink fault) =
-    (w : Walker) × (given : List VarBind) × (more : List VarBind) × (rows ≡ given ++ more)
-    × IsWaiting Sent first w given
-IsEndOfRun Comes Sent first rows why = IsReadSo Comes Sent first rows why
+abbrev pub IsEndOfRun : (List ℕ → Type 0) → (Walker → Type 0) → Walker → (rows refused : List
+    VarBind) → WalkEnd → Type 0
+IsEndOfRun Comes Sent first rows refused ending.RequestTooLong = ⊥
+IsEndOfRun Comes Sent first rows refused ending.NoResponse =
+    (w : Walker) × IsWaiting Comes Sent first w rows
+IsEndOfRun Comes Sent first rows refused ending.Link =
+    (w : Walker) × IsWaiting Comes Sent first w rows
+IsEndOfRun Comes Sent first rows refused (ending.Sink fault) =
+    IsRefusedSo Comes Sent first rows refused
+IsEndOfRun Comes Sent first rows refused why = IsReadSo Comes Sent first rows why
 
 -- What is promised of a run over any link: the names given, with the one that was refused, rise; a
 -- walk that is done has counted the bindings; and each end comes for its own reason. `Sent` says of
@@ -114,7 +162,7 @@ pub record EndFacts (Comes : List ℕ → Type 0) (Sent : Walker → Type 0) (fi
     (rows refused : List VarBind) (end : WalkEnd) : Type 0 where
   pub rising : AreRising (rows ++ refused)
   pub counted : CountsAll end rows
-  pub reason : IsEndOfRun Comes Sent first rows end
+  pub reason : IsEndOfRun Comes Sent first rows refused end
 
 -- How a run may end over an honest link, after these bindings: w was waiting for the reply that
 -- ended it, which gave none of them where it was an error or had no binding, and else the last.

@@ -77,15 +77,17 @@ pub data Turns {S : Type 0} (takes : S → VarBind → Result (Unit {0}) SinkFau
     → Type 0) (Comes : List ℕ → Type 0) (agents : Agents) (honest : Type 0) (old : Walker)
     (before : S)
     (rows : List VarBind) (end : Option WalkEnd) (new : Walker) (after : S) : Type 0 where
-  goes_on : (m : Message) → IsFrom agents honest old m → (take_of old m).0 ≡ step.Rows rows
+  goes_on : (m : Message) (datagram : List ℕ) → IsFrom agents honest old m → Comes datagram
+      → Spells m datagram → (take_of old m).0 ≡ step.Rows rows
       → new ≡ (take_of old m).1 → Given takes before rows after
       → end ≡ None → Turns takes Comes agents honest old before rows end new after
   ends : (m : Message) (datagram : List ℕ) (why : WalkEnd) → IsFrom agents honest old m
       → Comes datagram → Spells m datagram
       → (take_of old m).0 ≡ step.Last rows why → Given takes before rows after
       → end ≡ Some why → Turns takes Comes agents honest old before rows end new after
-  is_refused : (m : Message) (fault : SinkFault) (p : VarBind) (left : List VarBind)
-      (between : S) → IsFrom agents honest old m → rows_in (take_of old m).0 ≡ rows ++ p ∷ left
+  is_refused : (m : Message) (datagram : List ℕ) (fault : SinkFault) (p : VarBind)
+      (left : List VarBind) (between : S) → IsFrom agents honest old m → Comes datagram
+      → Spells m datagram → rows_in (take_of old m).0 ≡ rows ++ p ∷ left
       → Given takes before rows between → takes between p (Err fault) after
       → end ≡ Some (ending.Sink fault)
       → Turns takes Comes agents honest old before rows end new after

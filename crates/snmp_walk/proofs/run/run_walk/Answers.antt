@@ -15,7 +15,7 @@ use Rattle.snmp_walk.proofs.run.run_walk.Goals as goal
 
 pub turns-init : goal.turns-init
 turns-init g c = (
-  runs_first g.S.Sink.takes _ _ _ (c.args.retries + 1) c.args.core c.args.sink.now (g.L.Link.traffic c.args.link.now) c.requires,
+  runs_first g.S.Sink.takes (ComesOver g.L.Link.brings) _ _ _ (c.args.retries + 1) c.args.core c.args.sink.now (g.L.Link.traffic c.args.link.now) c.requires,
   (λ h. h),
   (λ h. h),
   refl,
@@ -52,7 +52,7 @@ pub returns-in-Some-clause-ready : goal.returns-in-Some-clause-ready
 returns-in-Some-clause-ready g c =
     let inv = c.turns.invariant in
     let agents : Agents = g.L.Link.agents c.args.link.now in
-    ready_facts c.codec.ensures g.S.Sink.takes agents (g.L.Link.keeps c.args.link.now) (g.L.Link.honest c.args.link.now)
+    ready_facts c.codec.ensures g.S.Sink.takes (ComesOver g.L.Link.brings) agents (g.L.Link.keeps c.args.link.now) (g.L.Link.honest c.args.link.now)
     (c.args.retries + 1) c.args.core c.args.sink.now
     (g.L.Link.traffic c.args.link.now) c.turns.core c.turns.sink (g.L.Link.traffic c.turns.link) inv.0 c.requires
     (λ h. (g.met.L.Link.lawful c.args.link.now h).views) (g.L.Link.ready c.args.link.now) c.in-Some.end
