@@ -1,5 +1,5 @@
 -- Over one table the facts of a run are about its rows.
-use Rattle.std.proofs.Common.{◌≡◌, ◌⊎◌, inl, inr, ℕ, ◌+◌, ◌<◌, ◌≤◌, List, [], ◌∷◌, ◌++◌, length, refl, sym, ◌∙◌, ap, subst, arith, length-append, Option}
+use Rattle.std.proofs.Common.{◌≡◌, ◌⊎◌, inl, inr, ℕ, ◌+◌, ◌<◌, List, [], ◌∷◌, ◌++◌, length, refl, sym, ◌∙◌, ap, subst, arith, length-append, Option}
 use Rattle.snmp_wire.specs.Message.{VarBind}
 use Rattle.snmp_table.specs.Table.{MibView, IsMibView, IsGet, IsNext}
 use Rattle.snmp_table.specs.Listing.{variables}

@@ -1,41 +1,9 @@
 -- What a Get asks, name by name, and what its reply is for.
-use Rattle.std.proofs.Common.{
-  ◌≡◌,
-  cond,
-  ℕ,
-  zero,
-  suc,
-  ◌+◌,
-  ◌<◌,
-  ◌≤◌,
-  Bool,
-  true,
-  false,
-  List,
-  [],
-  ◌∷◌,
-  ◌++◌,
-  length,
-  take,
-  drop,
-  get_or,
-  map,
-  refl,
-  sym,
-  ◌∙◌,
-  ap,
-  subst,
-  arith,
-  length-append,
-  append-nil,
-  append_assoc,
-  add-one,
-  drop-cons,
-}
+use Rattle.std.proofs.Common.{◌≡◌, cond, ℕ, suc, ◌+◌, ◌<◌, ◌≤◌, Bool, true, false, List, [], ◌∷◌, ◌++◌, length, take, drop, get_or, refl, sym, ◌∙◌, ap, subst, arith, length-append, append-nil, add-one, drop-cons}
 use Rattle.std.proofs.lemmas.Bool.{and_parts}
 use Rattle.std.proofs.lemmas.Grind.{flat_map-append}
-use Rattle.std.proofs.lemmas.List.{drop_all, take_all, take-append-drop, take_more}
-use Rattle.std.specs.Prelude.{◌&&◌, not, pos, Result, Ok, Err}
+use Rattle.std.proofs.lemmas.List.{take_all, take-append-drop, take_more}
+use Rattle.std.specs.Prelude.{◌&&◌, not, pos, Ok, Err}
 use Rattle.std.specs.Bool.{nat_eq}
 use Rattle.std.specs.Cmp.Lexicographic.{pointwise}
 use Rattle.snmp_oid.specs.Identifier.{wire}
@@ -46,9 +14,7 @@ use Rattle.snmp_wire.specs.Range.{IsBindingInRange}
 use Rattle.std.specs.List.{AllByRecursion}
 use Rattle.snmp_wire.specs.Canon.{canon, canon_binding, canon_bindings, canon_fields, canon_front, canon_head, canon_opening}
 use Rattle.snmp_walk.specs.Names.{is_end}
-use Rattle.snmp_walk.specs.Get.{asked_names, get_request, are_for, answers_of, GetEnds, is_refused}
-use Rattle.snmp_walk.specs.Sink.{Given}
-use Rattle.snmp_walk.specs.declared.end.SinkFault.{SinkFault}
+use Rattle.snmp_walk.specs.Get.{asked_names, are_for, answers_of}
 use Rattle.snmp_walk.specs.declared.end.WalkEnd.{WalkEnd}
 use Rattle.snmp_walk.specs.declared.end.WalkEnd.TheVariants as ending
 use Rattle.std.specs.Ordering.{int_eq}

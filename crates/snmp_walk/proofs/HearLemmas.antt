@@ -1,40 +1,5 @@
 -- What a try hears, receive by receive, and what tries hear together.
-use Rattle.std.proofs.Common.{
-  ◌≡◌,
-  ◌≢◌,
-  ◌⊎◌,
-  inl,
-  inr,
-  ℕ,
-  zero,
-  suc,
-  ◌+◌,
-  ◌*◌,
-  ◌<◌,
-  ◌≤◌,
-  Bool,
-  true,
-  false,
-  List,
-  [],
-  ◌∷◌,
-  ◌++◌,
-  length,
-  take,
-  replicate,
-  refl,
-  sym,
-  ◌∙◌,
-  ap,
-  subst,
-  arith,
-  append-nil,
-  append_assoc,
-  length-append,
-  Option,
-  Some,
-  None,
-}
+use Rattle.std.proofs.Common.{◌≡◌, ◌≢◌, ◌⊎◌, inl, inr, ℕ, zero, suc, ◌+◌, ◌*◌, ◌<◌, ◌≤◌, true, false, List, [], ◌∷◌, ◌++◌, length, replicate, refl, sym, ◌∙◌, ap, subst, arith, append-nil, append_assoc, length-append, Option, Some, None}
 use Rattle.std.proofs.lemmas.Bool.{false≢true}
 use Rattle.std.proofs.lemmas.Grind.{replicate_next}
 use Rattle.std.specs.List.{slice_get}
@@ -43,7 +8,7 @@ use Rattle.snmp_wire.specs.Spelling.{Spells}
 use Rattle.snmp_walk.specs.Taken.{awaits}
 use Rattle.snmp_walk.specs.Link.{Agents, OneOf, IsReplyFrom, IsUnanswered}
 use Rattle.snmp_walk.specs.Traffic.{Traffic, latest, datagram_at, received, Gives, Receives, IsNothing, IsOther, resent, Lost}
-use Rattle.snmp_walk.specs.Heard.{IsAsked, Hears, Exchanges}
+use Rattle.snmp_walk.specs.Heard.{IsAsked, Hears}
 
 -- a datagram found is one of those sent
 one_of : (sent : List (List ℕ)) (k : ℕ) (d : List ℕ) → slice_get sent k ≡ Some d → OneOf sent d

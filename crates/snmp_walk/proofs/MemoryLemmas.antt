@@ -30,14 +30,14 @@ use Rattle.std.proofs.Common.{
   Some,
   None,
 }
-use Rattle.std.specs.Prelude.{All, unwrap_or, IfSome, IfNone}
+use Rattle.std.specs.Prelude.{unwrap_or, IfSome, IfNone}
 use Rattle.std.specs.List.{slice_get}
 use Rattle.std.proofs.lemmas.List.{get_or_default, drop_all, take_all, take_more, take-append-le}
 use Rattle.snmp_table.specs.Table.{MibView, IsMibView}
 use Rattle.snmp_agent.specs.Reply.{agent_of, IsReply, IsDropped}
 use Rattle.snmp_agent.specs.declared.config.Config.{Config}
 use Rattle.snmp_agent.specs.declared.config.Why.{Why}
-use Rattle.snmp_walk.specs.Link.{Agents, OneOf, IsReplyFrom, IsUnanswered, AreViews}
+use Rattle.snmp_walk.specs.Link.{Agents, OneOf, AreViews}
 use Rattle.snmp_walk.specs.Traffic.{datagram_at, latest, received, Gives, Receives}
 use Rattle.snmp_walk.specs.Memory.{agents_over, IsNextNumber, IsReplyOf}
 use Rattle.snmp_walk.specs.Arena.{Store}

@@ -1,6 +1,5 @@
 -- What follows the receives and tries so far may miss the reply.
-use Rattle.std.proofs.Common.{◌≡◌, inl, inr, ℕ, zero, suc, ◌+◌, ◌-◌, ◌<◌, List, refl, sym, subst, arith, Option, Some, None}
-use Rattle.std.specs.Prelude.{Result, Ok, Err, IfOk, OnOk, IfSome, IfNone}
+use Rattle.std.proofs.Common.{◌≡◌, inl, inr, ℕ, suc, ◌+◌, ◌-◌, ◌<◌, List, refl, subst, arith}
 use Rattle.snmp_walk.specs.Missed.{IsMissed, AreMissed}
 
 module _ {L : Type 0} (brings : L → List ℕ → L → Type 0) (is_silent : L → L → Type 0) (Other : List ℕ → Type 0) where

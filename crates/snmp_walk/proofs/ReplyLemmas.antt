@@ -1,5 +1,5 @@
 -- What an honest reply is to the walk that waits for it.
-use Rattle.std.proofs.Common.{◌≡◌, ◌⊎◌, inl, inr, ℕ, ◌<◌, true, false, List, sym, ◌∙◌, ap, subst, refl, arith, pos, ℤ, [], take, Option, Some, None}
+use Rattle.std.proofs.Common.{◌≡◌, ◌⊎◌, inl, inr, ℕ, ◌<◌, true, false, List, sym, ◌∙◌, ap, subst, refl, arith, pos, ℤ, []}
 use Rattle.std.proofs.lemmas.Bool.{and_from, and_parts, false_from_ne_true}
 use Rattle.std.proofs.lemmas.Cmp.{int_eq_equiv}
 use Rattle.std.proofs.lemmas.Bool.Decides.{Decides-int_eq}

@@ -1,34 +1,5 @@
 -- A run, turn by turn.
-use Rattle.std.proofs.Common.{
-  ◌≡◌,
-  ◌⊎◌,
-  inl,
-  inr,
-  ℕ,
-  ◌+◌,
-  ◌^◌,
-  ◌<◌,
-  Bool,
-  true,
-  false,
-  cond,
-  List,
-  [],
-  ◌∷◌,
-  ◌++◌,
-  refl,
-  sym,
-  ◌∙◌,
-  ap,
-  subst,
-  arith,
-  append-nil,
-  append_assoc,
-  Option,
-  Some,
-  None,
-  replicate,
-}
+use Rattle.std.proofs.Common.{◌≡◌, ◌⊎◌, inl, inr, ℕ, ◌+◌, ◌^◌, ◌<◌, false, List, [], ◌∷◌, ◌++◌, refl, sym, ◌∙◌, ap, subst, arith, append-nil, append_assoc, Option, Some, None, replicate}
 use Rattle.std.specs.Prelude.{Result, Err}
 use Rattle.snmp_wire.specs.Message.{VarBind, Message}
 use Rattle.snmp_walk.specs.declared.mode.Mode.{Mode}
@@ -40,27 +11,11 @@ use Rattle.snmp_walk.specs.declared.end.WalkEnd.TheVariants as ending
 use Rattle.snmp_walk.specs.declared.end.SinkFault.{SinkFault}
 use Rattle.snmp_walk.specs.declared.rows.Step.{Step}
 use Rattle.snmp_walk.specs.declared.rows.Step.TheVariants as step
-use Rattle.snmp_walk.specs.Names.{is_missing}
-use Rattle.snmp_walk.specs.Trail.{last_name, IsTrail, AreLawfulReplies}
+use Rattle.snmp_walk.specs.Trail.{AreLawfulReplies}
 use Rattle.snmp_walk.specs.Walker.{Walker, IsWalker}
 use Rattle.snmp_walk.specs.Request.{first_phase}
 use Rattle.snmp_walk.specs.Taken.{is_over, take_of, Takes}
-use Rattle.snmp_walk.specs.Standing.{
-  IsOpening,
-  IsGiven,
-  IsAlone,
-  IsPartOfWalk,
-  IsStage,
-  IsPaced,
-  Reaches,
-  Ends,
-  Advances,
-  Rises,
-  Named,
-  IsReplyEnd,
-  CountsAll,
-  AdvancesAnyhow,
-}
+use Rattle.snmp_walk.specs.Standing.{IsOpening, IsPartOfWalk, IsStage, IsPaced, Reaches, Ends, Advances, Rises, Named, IsReplyEnd, CountsAll, AdvancesAnyhow}
 use Rattle.snmp_walk.specs.Link.{Agents, IsNextFrom, IsGotFrom, IsTooLarge, IsUnanswered, AreViews}
 use Rattle.snmp_walk.specs.Sink.{Given, Took}
 use Rattle.snmp_walk.specs.Run.{IsFrom, Turns, goes_on, ends, is_refused, is_silent, fails}
@@ -357,10 +312,10 @@ module _ {S : Type 0} (takes : S → VarBind → Result (Unit {0}) SinkFault →
               datagram = datagram;
               comes = comes;
               left = left;
-              given_step = (take_of w m).0;
+              step_taken = (take_of w m).0;
               over = (take_of w m).1;
               taken = inl (m, spelt, refl, refl);
-              step_rows = e;
+              read = e;
             });
         facts = λ h laws k.
             let whole = subst (IsPartOfWalk (IsNextFrom agents) (IsGotFrom agents) first) cut (advances_part agents laws first w (take_of w m).1 given

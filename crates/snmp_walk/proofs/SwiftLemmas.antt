@@ -66,8 +66,8 @@ use Rattle.snmp_walk.specs.Trail.{last_name, IsTrail}
 use Rattle.snmp_walk.specs.Walker.{Walker, IsMethod, IsWalker}
 use Rattle.snmp_walk.specs.Walk.{rest_of}
 use Rattle.snmp_walk.specs.Request.{request_of, request_kind, request_repetitions}
-use Rattle.snmp_walk.specs.Taken.{is_over, if_present}
-use Rattle.snmp_walk.specs.Standing.{IsChain, IsLarge, IsOpening, IsStage, IsReplyTooLarge, IsPaced, opening_gets, Reaches, IsOneTable}
+use Rattle.snmp_walk.specs.Taken.{is_over}
+use Rattle.snmp_walk.specs.Standing.{IsChain, IsLarge, IsStage, IsReplyTooLarge, IsPaced, opening_gets, Reaches, IsOneTable}
 use Rattle.snmp_walk.specs.Link.{Agents, OneOf, agent_in, IsNextFrom, IsGotFrom, IsTooLarge, IsUnanswered, AreViews}
 use Rattle.snmp_walk.specs.Room.{HasRoom, HasRoomForEach}
 use Rattle.snmp_walk.specs.Facts.{IsLawfulEnd, HasNone, IsDoneOrStopped, IsDoneOrCutOff, gets}

@@ -1,31 +1,5 @@
 -- Where each reply is that of one of several tables: what is given is theirs, and no name that all of them have is passed over.
-use Rattle.std.proofs.Common.{
-  ◌≡◌,
-  ◌⊎◌,
-  inl,
-  inr,
-  ℕ,
-  ◌+◌,
-  ◌≤◌,
-  Bool,
-  true,
-  false,
-  cond,
-  List,
-  [],
-  ◌∷◌,
-  ◌++◌,
-  length,
-  refl,
-  sym,
-  ◌∙◌,
-  ap,
-  subst,
-  arith,
-  length-append,
-  Some,
-  None,
-}
+use Rattle.std.proofs.Common.{◌≡◌, ◌⊎◌, inl, inr, ℕ, ◌≤◌, Bool, true, false, cond, List, [], ◌∷◌, ◌++◌, length, refl, sym, ◌∙◌, ap, subst, arith, length-append, Some, None}
 use Rattle.std.proofs.lemmas.Bool.{and_parts, not-true, false≢true, false_from_ne_true}
 use Rattle.std.specs.Prelude.{not, ◌&&◌, ◌≢◌}
 use Rattle.std.specs.Ordering.{nat_cmp, is_lt, is_eq, ordering_reverse}
@@ -53,13 +27,12 @@ use Rattle.snmp_walk.specs.declared.mode.Mode.TheVariants as mode
 use Rattle.snmp_walk.specs.Names.{is_below, is_inside, is_end, is_missing, comes_after}
 use Rattle.snmp_walk.specs.Walk.{AreAfter, AreRising}
 use Rattle.snmp_walk.specs.Trail.{last_name, IsTrail, IsAtEnd, AreLawfulReplies}
-use Rattle.snmp_walk.specs.Taken.{if_present}
 use Rattle.snmp_walk.specs.Walker.{Walker}
 use Rattle.snmp_walk.specs.Run.{IsNameIn}
-use Rattle.snmp_walk.specs.Standing.{IsOpening, IsGiven, IsAlone, IsPartOfWalk, IsWholeWalk}
+use Rattle.snmp_walk.specs.Standing.{IsOpening, IsGiven, IsPartOfWalk, IsWholeWalk}
 use Rattle.snmp_walk.specs.Link.{Agents, OneOf, IsNextFrom, IsGotFrom, IsTooLarge, AreViews}
 use Rattle.snmp_walk.specs.Tables.{IsBelowRoot, IsOfWalk, IsFromTable, AreFromTables, HasName, IsInEach, IsGivenOnce, HoldsNames}
-use Rattle.snmp_walk.proofs.OrderLemmas.{less_from_after, after-irrefl, outside_after}
+use Rattle.snmp_walk.proofs.OrderLemmas.{after-irrefl, outside_after}
 use Rattle.snmp_walk.proofs.NameLemmas.{below_from_test}
 use Rattle.snmp_walk.proofs.ViewLemmas.{views_answer, view_of, value_no_end, value_no_miss}
 use Rattle.snmp_walk.specs.Codec.{Codec}

@@ -93,8 +93,8 @@ AreRead Comes v (r ∷ more) w =
 
 -- the walk that began as `first` gave just the rows that it read in datagrams that came over the
 -- link, and is w then
-pub record HasRead (Comes : List ℕ → Type 0) (first w : Walker) (given : List VarBind) : Type 0
-    where
+pub record HasRead (Comes : List ℕ → Type 0) (first w : Walker)
+    (given : List VarBind) : Type 0 where
   pub readings : List Reading
   pub rows : given ≡ rows_read readings
   pub are_read : AreRead Comes first readings w
@@ -137,10 +137,10 @@ pub record IsRefusedSo (Comes : List ℕ → Type 0) (Sent : Walker → Type 0) 
   pub datagram : List ℕ
   pub comes : Comes datagram
   pub left : List VarBind
-  pub given_step : Step
+  pub step_taken : Step
   pub over : Walker
-  pub taken : Takes w datagram given_step over
-  pub step_rows : rows_in given_step ≡ more ++ (refused ++ left)
+  pub taken : Takes w datagram step_taken over
+  pub read : rows_in step_taken ≡ more ++ (refused ++ left)
 
 -- Why a run ends, whatever the link brings: by a reply that is read so, or while w was waiting for
 -- one, or by the sink, that refused a row of the reply. A request of a walk is never too long.

@@ -1,23 +1,6 @@
 -- What is received after a request was sent.
-use Rattle.std.specs.Prelude.{
-  ◌≡◌,
-  ℕ,
-  ◌+◌,
-  ◌*◌,
-  ◌≤◌,
-  ◌<◌,
-  ◌⊎◌,
-  Bool,
-  true,
-  false,
-  List,
-  [],
-  ◌∷◌,
-  ◌++◌,
-  length,
-  replicate,
-}
-use Rattle.std.specs.Prelude.{Option}
+use Rattle.std.specs.Prelude.{◌≡◌, ℕ, ◌+◌, ◌*◌, ◌≤◌, ◌<◌, ◌⊎◌, true, false}
+use Rattle.std.specs.Prelude.{List, [], ◌∷◌, ◌++◌, length, replicate, Option}
 use Rattle.snmp_wire.specs.Message.{Message}
 use Rattle.snmp_wire.specs.Spelling.{Spells}
 use Rattle.snmp_wire.specs.Canon.{canon}

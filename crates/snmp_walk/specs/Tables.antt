@@ -1,5 +1,5 @@
 -- What a walk gives where the agent's table changes: each reply is that of one of several tables.
-use Rattle.std.specs.Prelude.{◌≡◌, ◌≢◌, ℕ, ◌+◌, ◌≤◌, ◌⊎◌, true, false, List, [], ◌∷◌, ◌++◌, length}
+use Rattle.std.specs.Prelude.{◌≡◌, ℕ, ◌+◌, ◌≤◌, ◌⊎◌, true, List, [], ◌∷◌, ◌++◌, length}
 use Rattle.snmp_wire.specs.Message.{VarBind}
 use Rattle.snmp_table.specs.Table.{MibView, IsRow}
 use Rattle.snmp_walk.specs.declared.mode.Mode.TheVariants as mode

@@ -1,15 +1,10 @@
-use Rattle.std.proofs.Common.{◌≡◌, ◌≤◌, ◌∙◌, ap, sym, refl, true, cond, length, take, arith, List, ℕ, pos, Bool}
+use Rattle.std.proofs.Common.{◌≡◌, true, length, take, arith, pos}
 use Rattle.std.proofs.Common.{rules}
 use Rattle.std.proofs.lemmas.Grind.{common_steps}
 use Rattle.std.proofs.lemmas.Int.{ints}
-use Rattle.std.proofs.lemmas.Bool.Decides.{Decides-int_eq}
-use Rattle.std.specs.Prelude.{Ok, Err, Result}
 use Rattle.std.specs.Ordering.{int_eq}
-use Rattle.snmp_wire.specs.Message.{VarBind, Message}
-use Rattle.snmp_walk.specs.declared.end.WalkEnd.{WalkEnd}
-use Rattle.snmp_walk.specs.declared.end.WalkEnd.TheVariants as ending
-use Rattle.snmp_walk.specs.Get.{are_for, answers_of}
-use Rattle.snmp_walk.proofs.GetLemmas.{for_length, taken_whole, answered_all}
+use Rattle.snmp_walk.specs.Get.{are_for}
+use Rattle.snmp_walk.proofs.GetLemmas.{for_length, answered_all}
 use Rattle.snmp_walk.proofs.get.read_message.Goals as goal
 
 pub front-requires : goal.front-requires

@@ -1,6 +1,5 @@
-use Rattle.std.proofs.Common.{◌≡◌, ◌<◌, ◌≤◌, ◌+◌, ◌∙◌, ◌++◌, length, take, refl, sym, ap, arith, ℕ, ℤ, pos, List, [], w32, to_z}
+use Rattle.std.proofs.Common.{◌≡◌, ◌∙◌, ap, arith, ℤ, pos, [], w32, to_z}
 use Rattle.std.proofs.lemmas.Int.{to_z_pos}
-use Rattle.snmp_wire.specs.Canon.{canon, canon_head}
 use Rattle.snmp_wire.specs.Message.{Message}
 use Rattle.snmp_wire.specs.declared.kind.Kind.TheVariants as kind
 use Rattle.snmp_walk.specs.Get.{get_request}

@@ -1,4 +1,4 @@
-use Rattle.std.proofs.Common.{◌≡◌, ◌∙◌, ◌+◌, ℕ, List, ap, refl, subst, length, [], Some, Ok}
+use Rattle.std.proofs.Common.{◌∙◌, ◌+◌, ℕ, List, ap, refl, subst, length, [], Ok}
 use Rattle.std.specs.Prelude.{IsOk}
 use Rattle.snmp_wire.specs.Canon.{canon}
 use Rattle.snmp_walk.specs.Walker.{Walker}

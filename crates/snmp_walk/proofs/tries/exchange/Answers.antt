@@ -1,4 +1,4 @@
-use Rattle.std.proofs.Common.{◌≡◌, ◌<◌, ◌≤◌, ◌+◌, ◌*◌, ◌∙◌, sym, ap, subst, refl, arith, length, take, replicate, ℕ, List, [], ◌∷◌, ◌++◌, Option, Some, None, Ok}
+use Rattle.std.proofs.Common.{◌≡◌, ◌+◌, ◌*◌, ◌∙◌, sym, ap, subst, refl, arith, length, replicate, ℕ, List, [], ◌∷◌, ◌++◌, Option, Some, None, Ok}
 use Rattle.std.proofs.lemmas.Grind.{replicate_next}
 use Rattle.std.proofs.Common.{append_assoc, append-nil}
 use Rattle.std.specs.Prelude.{Result, Err, IsErr, IfSome}
@@ -9,9 +9,9 @@ use Rattle.snmp_walk.specs.declared.tries.Heard.{Heard}
 use Rattle.snmp_walk.specs.Read.{IsRead, IsReadAs}
 use Rattle.snmp_walk.proofs.ReadyLemmas.{by_equal, one_more, never_err}
 use Rattle.snmp_walk.specs.Link.{Agents, IsReplyFrom, ComesOver}
-use Rattle.snmp_walk.specs.Traffic.{Traffic, latest}
+use Rattle.snmp_walk.specs.Traffic.{Traffic}
 use Rattle.snmp_walk.specs.Heard.{IsAsked, Hears}
-use Rattle.snmp_walk.proofs.HearLemmas.{Missing, missing_first, missing_more, missing_all, missing_used, heard_more, last_now, asked_now, try_sent}
+use Rattle.snmp_walk.proofs.HearLemmas.{missing_first, missing_more, missing_all, heard_more, last_now, asked_now, try_sent}
 use Rattle.snmp_walk.specs.Missed.{IsNotAwaited, IsMissed}
 use Rattle.snmp_walk.proofs.MissedLemmas.{tries_first, tries_more, tries_all}
 use Rattle.snmp_walk.proofs.TurnLemmas.{if_some, if_silent}

@@ -1,4 +1,4 @@
-use Rattle.std.proofs.Common.{◌≡◌, ◌+◌, ◌*◌, ℕ, List, ◌++◌, replicate, length}
+use Rattle.std.proofs.Common.{◌≡◌, ◌+◌, ◌*◌, ℕ, ◌++◌, replicate, length}
 use Rattle.snmp_walk.specs.Heard.{IsAsked}
 use Rattle.snmp_walk.proofs.HearLemmas.{Missing}
 use Rattle.snmp_walk.specs.Missed.{IsNotAwaited}

@@ -1,4 +1,4 @@
-use Rattle.std.proofs.Common.{◌≡◌, ◌<◌, ◌≤◌, ◌∙◌, sym, ap, subst, refl, take, arith, length, ℕ, List, Option, Some, None, false, Ok}
+use Rattle.std.proofs.Common.{◌≡◌, ◌<◌, ◌≤◌, ◌∙◌, sym, subst, refl, take, arith, length, ℕ, List, Option, Some, None, false}
 use Rattle.std.proofs.lemmas.Grind.{common_steps}
 use Rattle.std.specs.Prelude.{true, Result, IfSome, IfNone}
 use Rattle.snmp_wire.specs.Message.{VarBind, Message}
@@ -7,9 +7,9 @@ use Rattle.snmp_walk.specs.declared.rows.Step.{Step}
 use Rattle.snmp_walk.specs.declared.tries.Heard.{Heard}
 use Rattle.snmp_walk.specs.Taken.{awaits}
 use Rattle.snmp_walk.specs.Read.{IsRead, IsReadAs}
-use Rattle.snmp_walk.specs.Link.{Agents, ComesOver}
-use Rattle.snmp_walk.specs.Traffic.{Traffic, received, Receives}
-use Rattle.snmp_walk.proofs.HearLemmas.{Waits, waits_first, stray_heard, none_heard, reply_heard, heard_used, received_by}
+use Rattle.snmp_walk.specs.Link.{ComesOver}
+use Rattle.snmp_walk.specs.Traffic.{Traffic}
+use Rattle.snmp_walk.proofs.HearLemmas.{waits_first, stray_heard, none_heard, reply_heard, heard_used, received_by}
 use Rattle.snmp_walk.specs.Missed.{IsNotAwaited}
 use Rattle.snmp_walk.proofs.MissedLemmas.{IsMissing, missing_first, missing_more, missed_all, missed_silent}
 use Rattle.snmp_walk.proofs.TurnLemmas.{if_some}

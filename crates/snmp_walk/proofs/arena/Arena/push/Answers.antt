@@ -1,4 +1,4 @@
-use Rattle.std.proofs.Common.{◌≡◌, List, ◌∷◌, [], ◌++◌, length, refl, sym, ◌∙◌, ap, ℕ}
+use Rattle.std.proofs.Common.{◌≡◌, List, ◌∷◌, [], ◌++◌, length, refl, ◌∙◌, ap, ℕ}
 use Rattle.snmp_walk.specs.declared.arena.Span.{Span}
 use Rattle.snmp_walk.specs.Arena.{Store, cut}
 use Rattle.snmp_walk.proofs.ArenaLemmas.{cut-push}

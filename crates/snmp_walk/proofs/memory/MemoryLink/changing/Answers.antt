@@ -1,4 +1,4 @@
-use Rattle.snmp_walk.proofs.MemoryLemmas.{views_more, views_all}
+use Rattle.snmp_walk.proofs.MemoryLemmas.{views_more}
 use Rattle.snmp_walk.proofs.memory.MemoryLink.changing.Goals as goal
 
 pub tables-preserved : goal.tables-preserved

@@ -2,7 +2,7 @@ use Rattle.std.proofs.Common.{◌≡◌, ◌<◌, ◌-◌, length, get_or, List,
 use Rattle.std.specs.List.{slice_get}
 use Rattle.snmp_table.specs.Table.{MibView}
 use Rattle.std.proofs.lemmas.Bool.{ltb-true}
-use Rattle.snmp_walk.proofs.MemoryLemmas.{one_got, table_found, table_last}
+use Rattle.snmp_walk.proofs.MemoryLemmas.{one_got, table_found}
 use Rattle.snmp_walk.proofs.memory.MemoryLink.table_for.Goals as goal
 
 pub returns-in-Some-clause-one : goal.returns-in-Some-clause-one

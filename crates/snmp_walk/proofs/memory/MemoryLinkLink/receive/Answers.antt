@@ -1,4 +1,4 @@
-use Rattle.std.proofs.Common.{◌≡◌, ◌≤◌, length, drop, refl, sym, ap, subst, ℕ, List, Option}
+use Rattle.std.proofs.Common.{◌≤◌, length, drop, refl, sym, ap, subst, ℕ, List, Option}
 use Rattle.snmp_walk.specs.Link.{Agents}
 use Rattle.snmp_walk.specs.Memory.{agents_of, IsNextNumber, IsReplyOf}
 use Rattle.snmp_walk.specs.Traffic.{received, datagram_at, Gives, Receives}

@@ -1,8 +1,7 @@
-use Rattle.std.proofs.Common.{◌≡◌, ◌+◌, ◌-◌, ◌<◌, ◌^◌, ℕ, false, List, refl, sym, ◌∙◌, ap, subst, arith, [], ◌∷◌}
+use Rattle.std.proofs.Common.{◌≡◌, ◌+◌, ◌-◌, ◌<◌, ◌^◌, false, refl, sym, ◌∙◌, ap, subst, arith, [], ◌∷◌}
 use Rattle.std.proofs.lemmas.Grind.{common_steps}
-use Rattle.snmp_wire.specs.Message.{VarBind, var_bind}
+use Rattle.snmp_wire.specs.Message.{var_bind}
 use Rattle.snmp_oid.specs.Identifier.{IsIdentifier, IsWire}
-use Rattle.snmp_walk.specs.declared.walker.Ending.{Ending}
 use Rattle.snmp_walk.specs.declared.walker.Ending.TheVariants.{GoesOn}
 use Rattle.snmp_walk.specs.Taken.{asked_for}
 use Rattle.snmp_walk.specs.Reading.{is_misplaced, AreSendable}
