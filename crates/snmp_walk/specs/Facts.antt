@@ -63,8 +63,8 @@ pub record IsFresh (w : Walker) : Type 0 where
   pub count : w.count ≡ 0
   pub begins : (s : List ℕ) × (w.asked ≡ w.root ++ s)
 
--- The last datagrams sent are the request of w, at most `tries` times: once at least unless the link
--- failed, and just so many times where no reply came.
+-- The last datagrams sent are the request of w, at most `tries` times: once at least unless the
+-- link failed, and just so many times where no reply came.
 pub record IsLastSent (tries : ℕ) (end : WalkEnd) (new : Traffic) (w : Walker) : Type 0 where
   pub earlier : List (List ℕ)
   pub times : ℕ

@@ -1,6 +1,7 @@
 //! Links, over which a walk sends its requests and receives replies.
 ghost use Rattle.std.specs.Prelude.{◌≡◌, ◌≤◌, ◌+◌, ◌++◌, [], ◌∷◌, ◌⊎◌, ℕ, List, length, Option};
-ghost use Rattle.std.specs.Prelude.{Some, None, IsOk, IsErr, OnOk, IfOk, OnErr, IfSome, IfNone, take};
+ghost use Rattle.std.specs.Prelude.{Some, None, IsOk, IsErr, OnOk, IfOk, OnErr, IfSome, IfNone};
+ghost use Rattle.std.specs.Prelude.{take};
 ghost use Rattle.std.specs.Prelude.{◌<◌};
 
 use crate::LinkFault;
@@ -38,11 +39,12 @@ pub trait Link {
     /// state.
     ghost brings: { Self → List ℕ → Self → Type 0 };
 
-    /// Whether a send of these octets in the first state may succeed, and leave the link in the last
-    /// state.
+    /// Whether a send of these octets in the first state may succeed, and leave the link in the
+    /// last state.
     ghost sends: { Self → List ℕ → Self → Type 0 } = { λ _ _ _. Unit {0} };
 
-    /// Whether a receive in the first state may bring nothing, and leave the link in the last state.
+    /// Whether a receive in the first state may bring nothing, and leave the link in the last
+    /// state.
     ghost is_silent: { Self → Self → Type 0 } = { λ _ _. Unit {0} };
 
     /// Sends a datagram. A fault changes the count of faults alone.

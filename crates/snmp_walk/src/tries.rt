@@ -1,6 +1,7 @@
 //! One request over a link: it is sent until its reply comes or no try is left.
 ghost use Rattle.std.specs.Prelude.{◌≡◌, ◌≤◌, ◌<◌, ◌+◌, ◌^◌, ℕ, List, length, Some, None, Ok};
-ghost use Rattle.std.specs.Prelude.{IfOk, IfSome, IfNone, OnErr, IsOk, IsErr, true, false, OnOk, ◌*◌};
+ghost use Rattle.std.specs.Prelude.{IfOk, IfSome, IfNone, OnErr, IsOk, IsErr, true, false, OnOk};
+ghost use Rattle.std.specs.Prelude.{◌*◌};
 ghost use Rattle.snmp_io.specs.Count.{HasRisen};
 ghost use Rattle.snmp_wire.specs.Message.{Message};
 ghost use Rattle.snmp_wire.specs.Spelling.{Spells};
