@@ -45,6 +45,9 @@ pub fn serve(socket: &UdpSocket, table: &Table, config: &Config<'_>, turns: u64)
 }
 
 /// [`serve`] at any endpoint, which receives the datagrams and sends the replies.
+// Not inlined: its two buffers are on the stack, and a caller with several such calls would have
+// room for each of them.
+#[inline(never)]
 pub fn serve_at<E: Endpoint>(
     endpoint: &mut E,
     table: &Table,

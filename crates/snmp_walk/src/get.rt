@@ -34,6 +34,9 @@ use std::marker::Model;
 ///
 /// There is at least one name, and each has a wire form; the community has at most 255 octets, and
 /// the id is at most 2147483647. `RequestTooLong` where the request has more than 65507 octets.
+// Not inlined: its two buffers are on the stack, and a caller with several such calls would have
+// room for each of them.
+#[inline(never)]
 pub fn run_get<L: Link, S: Sink>(
     link: &mut L,
     names: &[Oid],

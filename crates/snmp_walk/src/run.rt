@@ -31,6 +31,9 @@ use crate::{Link, Sink, WalkCore, WalkEnd};
 /// the link or the sink stops it or messages are lost. Where the table changes under the walk, each
 /// name that all the tables have is given once. A link that is ready for the tries of a request for
 /// each row and three more, of 1,000 octets each, doesn't stop it.
+// Not inlined: its two buffers are on the stack, and a caller with several such calls would have
+// room for each of them.
+#[inline(never)]
 pub fn run_walk<L: Link, S: Sink>(
     link: &mut L,
     core: WalkCore,
