@@ -32,8 +32,8 @@ use Rattle.std.proofs.Common.{
 use Rattle.std.proofs.lemmas.List.{length_push, get_or_append_left, get_or_push, take-append-drop, take_more, take-take}
 use Rattle.std.proofs.lemmas.Bool.{cases_eq, cases_lt}
 use Rattle.std.specs.Option.{option_and_then}
-use Rattle.smi_branches.specs.Standing.{place_of, oid_at, HasNone, IsDeepestAt}
-use Rattle.smi_branches.specs.Branches.{follower, standing_at, walk, branch_of, IsBeginning, AreBranches, AreBranchesOf, deeper_of, Grows, there, made}
+use Rattle.smi_branches.specs.Standing.{place_of, oid_at, HasNoBeginning, IsDeepestAt}
+use Rattle.smi_branches.specs.Branches.{follower, standing_at, walk, branch_of, IsBeginning, AreBranches, AreBranchesOf, deeper_of, GrowsBranch, there, made}
 use Rattle.smi_branches.specs.declared.branch.Branch.{Branch}
 use Rattle.smi_branches.specs.declared.identifiers.Deepest.{Deepest}
 use Rattle.smi_branches.proofs.Growing.{get_past, follower_past}
@@ -111,7 +111,7 @@ module _ (known oids : List (List ℕ)) (bs new : List Branch) (q : List ℕ) (a
       )
 
 pub Branches-grown : (known oids : List (List ℕ)) (bs new : List Branch) (q : List ℕ) (at n b : ℕ) → AreBranches known oids bs
-    → branch_of bs q ≡ Some at → IsBeginning known (q ++ n ∷ []) → Grows bs new at n b
+    → branch_of bs q ≡ Some at → IsBeginning known (q ++ n ∷ []) → GrowsBranch bs new at n b
     → AreBranches known oids new × (branch_of new (q ++ n ∷ []) ≡ Some b)
 Branches-grown known oids bs new q at n b are here begins (there e f) = grown_there known oids bs new q at n are here begins b e f
 Branches-grown known oids bs new q at n b are here begins (made is long none leads others stands) =
@@ -251,7 +251,7 @@ SoFar-off oids o i n (Some d) f g = elim (cases_lt n i) [
 ]
 
 pub SoFar-whole : (oids : List (List ℕ)) (o : List ℕ) (r : Option Deepest) → SoFar oids o (length o) r
-    → MatchOption r (HasNone oids o) (λ d. IsDeepestAt oids o d.place d.depth)
+    → MatchOption r (HasNoBeginning oids o) (λ d. IsDeepestAt oids o d.place d.depth)
 SoFar-whole oids o None f = f
 SoFar-whole oids o (Some d) f = record { within = f.0; here = f.1; none_longer = f.2 }
 

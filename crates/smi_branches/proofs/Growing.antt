@@ -5,7 +5,7 @@ use Rattle.std.proofs.lemmas.Bool.{cases_eq}
 use Rattle.std.specs.List.{slice_get}
 use Rattle.std.specs.Ordering.{nat_cmp}
 use Rattle.std.specs.BTreeMap.{get}
-use Rattle.smi_branches.specs.Branches.{follower, standing_at, Grows, made}
+use Rattle.smi_branches.specs.Branches.{follower, standing_at, GrowsBranch, made}
 use Rattle.smi_branches.specs.declared.branch.Branch.{Branch}
 
 get-set_same : {X : Type 0} (xs : List X) (i : ℕ) (y : X) → i < length xs → slice_get (set xs i y) i ≡ Some y
@@ -43,12 +43,12 @@ get_read (y ∷ ys) (suc i) x l e = get_read ys i x (omega arith) e
 pub follower_past : (bs : List Branch) (c m : ℕ) → length bs ≤ c → follower bs c m ≡ None
 follower_past bs c m l = rw (get_past bs c l)
 
-pub Grows-made : (old : List Branch) (e a b : Branch) (at n : ℕ) → at < length old → a ≡ get_or (old ++ e ∷ []) at a
+pub GrowsBranch-made : (old : List Branch) (e a b : Branch) (at n : ℕ) → at < length old → a ≡ get_or (old ++ e ∷ []) at a
     → e.standing ≡ None → ((q : ℕ) → get nat_cmp e.after q ≡ None) → b.standing ≡ a.standing
     → get nat_cmp b.after n ≡ Some (length old) → ((q : ℕ) → q ≢ n → get nat_cmp b.after q ≡ get nat_cmp a.after q)
     → follower old at n ≡ None
-    → Grows old (set (old ++ e ∷ []) at b) at n (length old)
-Grows-made old e a b at n inside read stands empty standing found others none =
+    → GrowsBranch old (set (old ++ e ∷ []) at b) at n (length old)
+GrowsBranch-made old e a b at n inside read stands empty standing found others none =
     let long = length_push old e in
     let is_a = get_read old at a inside (read ∙ get_or_append_left old (e ∷ []) a at inside) in
     let here : slice_get (set (old ++ e ∷ []) at b) at ≡ Some b = get-set_same (old ++ e ∷ []) at b (omega arith) in

@@ -59,13 +59,13 @@ AreBranchesOf oids bs = AreBranches oids oids bs
 
 -- branch `at` leads by the number n to a branch that was there or is added, and nothing else is
 -- changed
-pub data Grows (old new : List Branch) (at n : ℕ) : ℕ → Type 0 where
-  there : {b : ℕ} → new ≡ old → follower old at n ≡ Some b → Grows old new at n b
+pub data GrowsBranch (old new : List Branch) (at n : ℕ) : ℕ → Type 0 where
+  there : {b : ℕ} → new ≡ old → follower old at n ≡ Some b → GrowsBranch old new at n b
   made : {b : ℕ} → b ≡ length old → length new ≡ length old + 1 → follower old at n ≡ None
       → follower new at n ≡ Some b
       → ((c m : ℕ) → (c ≡ at → m ≡ n → ⊥) → follower new c m ≡ follower old c m)
       → ((c : ℕ) → standing_at new c ≡ standing_at old c)
-      → Grows old new at n b
+      → GrowsBranch old new at n b
 
 -- what stands at a branch, as the deepest place, or the deepest place before it
 abbrev pub deeper_of : Option ℕ → ℕ → Option Deepest → Option Deepest

@@ -38,8 +38,8 @@ pub record IsDeepestAt (oids : List (List ℕ)) (o : List ℕ) (place depth : �
   pub none_longer : (j : ℕ) → depth < j → j ≤ length o → place_of oids (take j o) ≡ None
 
 -- no beginning of the identifier is in the list
-abbrev pub HasNone : List (List ℕ) → List ℕ → Type 0
-HasNone oids o = (j : ℕ) → j ≤ length o → place_of oids (take j o) ≡ None
+abbrev pub HasNoBeginning : List (List ℕ) → List ℕ → Type 0
+HasNoBeginning oids o = (j : ℕ) → j ≤ length o → place_of oids (take j o) ≡ None
 
 -- the places of the identifiers that are one number longer than o, in the order of that number:
 -- those that stand for their identifiers

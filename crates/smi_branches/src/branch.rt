@@ -2,7 +2,7 @@
 //! what stands there.
 ghost use Rattle.std.specs.Prelude.{◌≡◌, ◌<◌, ◌+◌, ℕ, List, [], ◌∷◌, ◌++◌, length, take, IfOk};
 ghost use Rattle.std.specs.Prelude.{Some, None, option_copied};
-ghost use Rattle.smi_branches.specs.Branches.{follower, Grows, AreBranchesOf};
+ghost use Rattle.smi_branches.specs.Branches.{follower, GrowsBranch, AreBranchesOf};
 
 use snmp_oid::Oid;
 use std::alloc::{AllocError, Global};
@@ -33,7 +33,7 @@ fn grow(
     number: u32,
 ) -> Result<usize, AllocError>
     requires { at < length branches.old.items }
-    ensures grows { IfOk result (Grows branches.old.items branches.new.items at number) }
+    ensures grows { IfOk result (GrowsBranch branches.old.items branches.new.items at number) }
 {
     if let Some(place) = next(branches, at, number) {
         return Ok(place);

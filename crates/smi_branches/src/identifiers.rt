@@ -4,7 +4,8 @@ ghost use Rattle.std.specs.Prelude.{MatchOption};
 ghost use Rattle.std.specs.Ordering.{nat_cmp};
 ghost use Rattle.std.specs.BTreeMap.{get};
 ghost use Rattle.std.specs.Iterator.{YieldsFirst, item_count};
-ghost use Rattle.smi_branches.specs.Standing.{place_of, oid_at, IsDeepestAt, HasNone, AreChildren};
+ghost use Rattle.smi_branches.specs.Standing.{place_of, oid_at, IsDeepestAt, HasNoBeginning};
+ghost use Rattle.smi_branches.specs.Standing.{AreChildren};
 ghost use Rattle.smi_branches.specs.Branches.{branch_of, standing_at, deeper_of};
 ghost use Rattle.smi_branches.specs.Children.{places_left};
 
@@ -91,7 +92,7 @@ impl Identifiers {
     /// identifier counts as a beginning.
     pub fn deepest(&self, oid: &Oid) -> Option<Deepest>
         ensures { MatchOption result
-            (HasNone self.now oid.now)
+            (HasNoBeginning self.now oid.now)
             (λ deepest. IsDeepestAt self.now oid.now deepest.place deepest.depth) }
     {
         let numbers = oid.as_slice();

@@ -10,7 +10,7 @@ use Rattle.smi_module.specs.declared.tree.Index.{Index}
 use Rattle.smi_module.specs.declared.tree.Index.TheVariants.{Own, Augments}
 use Rattle.smi_nodes.specs.Nodes.{Node}
 use Rattle.smi_columns.specs.Index.{IsColumnOf, StandsAt, IsIndexOf, IsIndex, AreIndexesOf, IsIndexed, UsesIndexOf, clause_of, index_at}
-use Rattle.smi_columns.specs.Kept.{KeptOfModule, IsOwn, AreOwnOfAll, AreRows, HasRowAt, IsRow, indexes_of, parts_at, items_of}
+use Rattle.smi_columns.specs.Kept.{KeptOfModule, IsOwn, AreOwnOfAll, AreRows, HasRowAt, HasRowOrNone, indexes_of, parts_at, items_of}
 use Rattle.smi_columns.proofs.Parting.{Same, same_own, defined_once}
 
 -- ---- a column has one row, and a row uses one clause
@@ -88,7 +88,7 @@ module _ (ms : List Module) (nodes : List Node) (kept : List KeptOfModule) (own 
     indexed = is;
   }
 
-  is_index : (node : Node) (at : Option (ℕ × ℕ)) → IsRow ms nodes node at → IsIndex ms nodes node (option_and_then (λ p. parts_at kept p.0 p.1) at)
+  is_index : (node : Node) (at : Option (ℕ × ℕ)) → HasRowOrNone ms nodes node at → IsIndex ms nodes node (option_and_then (λ p. parts_at kept p.0 p.1) at)
   is_index node None none = λ parts is.
       none is.row is.of_row is.row_module is.row_definition is.index_module is.index_definition is.home is.defined is.uses
   is_index node (Some p) h =

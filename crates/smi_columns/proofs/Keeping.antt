@@ -2,10 +2,10 @@
 use Rattle.std.proofs.Common.{◌≡◌, List, [], ◌∷◌, ◌++◌, length, sym, ◌∙◌, inl, inr}
 use Rattle.smi_module.specs.declared.tree.Module.{Module}
 use Rattle.smi_module.specs.declared.tree.Def.{Def}
-use Rattle.smi_columns.specs.Kept.{Kept, KeptOfModule, IsOwn, AreOwn, AreOwnOfAll, items_of}
+use Rattle.smi_columns.specs.Kept.{KeptParts, KeptOfModule, IsOwn, AreOwn, AreOwnOfAll, items_of}
 use Rattle.smi_columns.proofs.Lists.{get_push, get_before_push, get_at_push}
 
-pub AreOwn-more : (ms : List Module) (m : Module) (ds : List Def) (kept : List Kept) (d : Def) (own : Kept) → length kept ≡ length ds
+pub AreOwn-more : (ms : List Module) (m : Module) (ds : List Def) (kept : List KeptParts) (d : Def) (own : KeptParts) → length kept ≡ length ds
     → AreOwn ms m ds kept → IsOwn ms m d (items_of own) → AreOwn ms m (ds ++ d ∷ []) (kept ++ own ∷ [])
 AreOwn-more ms m ds kept d own long are is = λ k e at. elim (get_push ds d k e at) [
   | inl h ↦ let there = are k e h.1 in (there.0, get_before_push kept own k there.0 there.1, there.2)

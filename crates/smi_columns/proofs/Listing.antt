@@ -6,7 +6,7 @@ use Rattle.smi_index.specs.declared.part.IndexPart.{IndexPart}
 use Rattle.smi_module.specs.declared.tree.Module.{Module}
 use Rattle.smi_module.specs.declared.tree.IndexParts.{IndexParts}
 use Rattle.smi_module.specs.declared.names.Name.{Name}
-use Rattle.smi_columns.specs.Index.{IsPart, AreParts, is_implied}
+use Rattle.smi_columns.specs.Index.{IsIndexPart, AreParts, is_implied}
 use Rattle.smi_columns.specs.Kept.{HasNoPart}
 use Rattle.smi_columns.proofs.Lists.{get_within, get_push}
 
@@ -15,10 +15,10 @@ abbrev pub AreFirst : List Module → Module → IndexParts → List IndexPart �
 AreFirst ms m clause parts i =
     (length parts ≡ i)
     × ((j : ℕ) (name : Name) (part : IndexPart) → slice_get clause.names j ≡ Some name → slice_get parts j ≡ Some part
-    → IsPart ms m name.octets (is_implied clause j) part)
+    → IsIndexPart ms m name.octets (is_implied clause j) part)
 
 pub AreFirst-more : (ms : List Module) (m : Module) (clause : IndexParts) (parts : List IndexPart) (i : ℕ) (name : Name) (part : IndexPart)
-    → AreFirst ms m clause parts i → slice_get clause.names i ≡ Some name → IsPart ms m name.octets (is_implied clause i) part
+    → AreFirst ms m clause parts i → slice_get clause.names i ≡ Some name → IsIndexPart ms m name.octets (is_implied clause i) part
     → AreFirst ms m clause (parts ++ part ∷ []) (i + 1)
 AreFirst-more ms m clause parts i name part first at is = (
   length_push parts part ∙ rw first.0 refl,

@@ -5,45 +5,45 @@ use Rattle.std.specs.List.{slice_get}
 use Rattle.std.specs.Option.{option_and_then}
 use Rattle.smi_links.specs.Chain.{HasEnd, ends, leads_on}
 use Rattle.smi_links.specs.Order.{next_at}
-use Rattle.smi_links.specs.Ends.{EndsAt, here, further, Ends}
+use Rattle.smi_links.specs.Ends.{EndsAt, here, further, ChainEnds}
 use Rattle.smi_module.specs.declared.tree.Module.{Module}
 use Rattle.smi_module.specs.declared.tree.Def.{Def}
 use Rattle.smi_module.specs.declared.tree.Import.{Import}
-use Rattle.smi_meaning.specs.Meaning.{Place, Decision, defined, imported, root, decision, module_named}
+use Rattle.smi_meaning.specs.Meaning.{QualifiedName, Decision, defined, imported, root, decision, module_named}
 use Rattle.smi_meaning.specs.Scopes.{Content, decided_as}
-use Rattle.smi_meaning.specs.Known.{content_at}
+use Rattle.smi_meaning.specs.Known.{content_named}
 use Rattle.smi_columns.specs.Definitions.{IsDefinedBy, own, through}
-use Rattle.smi_columns.specs.Named.{IsNextOf, AreNexts, AreEnds, IsUndefined}
+use Rattle.smi_columns.specs.Named.{IsNextOf, AreNexts, AreEndsOfImports, IsUndefined}
 use Rattle.smi_columns.proofs.Lists.{get_within, within_some}
 
 abbrev content : Module → List ℕ → Decision → Content
 content m x d = record { home = m; name = x; decided = d }
 
 -- what a name means in a module
-record IsDecided (ms : List Module) (p : Place) (c : Content) : Type 0 where
+record IsDecided (ms : List Module) (p : QualifiedName) (c : Content) : Type 0 where
   home : module_named ms p.home ≡ Some c.home
   by : decision c.home p.name ≡ Some c.decided
   name : c.name ≡ p.name
 
-content_of-decided : (ms : List Module) (p : Place) (m : Module) (d : Decision) → module_named ms p.home ≡ Some m → decision m p.name ≡ Some d
-    → content_at ms p ≡ Some (content m p.name d)
+content_of-decided : (ms : List Module) (p : QualifiedName) (m : Module) (d : Decision) → module_named ms p.home ≡ Some m → decision m p.name ≡ Some d
+    → content_named ms p ≡ Some (content m p.name d)
 content_of-decided ms p m d e f = rw (e, f) refl
 
-decided-content : (p : Place) (c : Content) (m : Module) (d : Option Decision) → decision m p.name ≡ d → decided_as m p.name d ≡ Some c
+decided-content : (p : QualifiedName) (c : Content) (m : Module) (d : Option Decision) → decision m p.name ≡ d → decided_as m p.name d ≡ Some c
     → (m ≡ c.home) × (decision m p.name ≡ Some c.decided) × (c.name ≡ p.name)
 decided-content p c m None e f = absurd (cc)
 decided-content p c m (Some d) e f =
     let same : content m p.name d ≡ c = cc in
     (ap (λ (k : Content). k.home) same, e ∙ ap (λ (k : Content). Some k.decided) same, sym (ap (λ (k : Content). k.name) same))
 
-decided_by : (ms : List Module) (p : Place) (c : Content) (m : Option Module) → module_named ms p.home ≡ m
+decided_by : (ms : List Module) (p : QualifiedName) (c : Content) (m : Option Module) → module_named ms p.home ≡ m
     → option_and_then (λ m. decided_as m p.name (decision m p.name)) m ≡ Some c → IsDecided ms p c
 decided_by ms p c None e f = absurd (cc)
 decided_by ms p c (Some m) e f =
     let h = decided-content p c m (decision m p.name) refl f in
     record { home = e ∙ ap (λ k. Some k) h.0; by = rw (← h.0) h.1; name = h.2 }
 
-is_decided : (ms : List Module) (p : Place) (c : Content) → content_at ms p ≡ Some c → IsDecided ms p c
+is_decided : (ms : List Module) (p : QualifiedName) (c : Content) → content_named ms p ≡ Some c → IsDecided ms p c
 is_decided ms p c e = decided_by ms p c (module_named ms p.home) refl e
 
 -- ---- ends of chains
@@ -63,7 +63,7 @@ ends_once next a e f (further {b = b} some rest) (further {b = c} other more) =
 
 module _ (ms : List Module) (names : List Content) (next : List (Option ℕ)) (nexts : AreNexts ms names next) where
   -- where a name leads to a definition, its imports end at the name that is defined
-  pub ends_at_definition : {p : Place} {m : Module} {d : Def} → IsDefinedBy ms p m d → (j : ℕ) → slice_get names j ≡ content_at ms p
+  pub ends_at_definition : {p : QualifiedName} {m : Module} {d : Def} → IsDefinedBy ms p m d → (j : ℕ) → slice_get names j ≡ content_named ms p
       → (e : ℕ) × (x : List ℕ) × EndsAt (next_at next) j e × (slice_get names e ≡ Some (content m x (defined d)))
   ends_at_definition (own {p = p} {m = m} {d = d} home by) j at =
       let there = at ∙ content_of-decided ms p m (defined d) home by in
@@ -74,9 +74,9 @@ module _ (ms : List Module) (names : List Content) (next : List (Option ℕ)) (n
       let found = ends_at_definition rest led.0 led.2 in
       (found.0, found.1, further led.1 found.2, found.3)
 
-  led_by : (j b : ℕ) (p : Place) (c : Content) → content_at ms p ≡ Some c → slice_get names j ≡ Some c → next_at next j ≡ Some b
+  led_by : (j b : ℕ) (p : QualifiedName) (c : Content) → content_named ms p ≡ Some c → slice_get names j ≡ Some c → next_at next j ≡ Some b
       → (d : Decision) → c.decided ≡ d → (i : Import) × (d ≡ imported i)
-      × (slice_get names b ≡ content_at ms (record { home = i.source.octets; name = p.name }))
+      × (slice_get names b ≡ content_named ms (record { home = i.source.octets; name = p.name }))
   led_by j b p c is there leads (defined x) e =
       let none : IsNextOf ms names c.name (defined x) (next_at next j) = rw e at (nexts.each j c there) in absurd (cc)
   led_by j b p c is there leads (imported i) e =
@@ -87,7 +87,7 @@ module _ (ms : List Module) (names : List Content) (next : List (Option ℕ)) (n
       let none : IsNextOf ms names c.name (root n) (next_at next j) = rw e at (nexts.each j c there) in absurd (cc)
 
   -- a name whose imports end at a definition leads to it
-  pub definition_at_end : {j e : ℕ} → EndsAt (next_at next) j e → (p : Place) (c : Content) (d : Def) → slice_get names j ≡ content_at ms p
+  pub definition_at_end : {j e : ℕ} → EndsAt (next_at next) j e → (p : QualifiedName) (c : Content) (d : Def) → slice_get names j ≡ content_named ms p
       → slice_get names e ≡ Some c → c.decided ≡ defined d → IsDefinedBy ms p c.home d
   definition_at_end (here none) p c d at there by =
       let is = is_decided ms p c (sym at ∙ there) in own is.home (is.by ∙ ap (λ x. Some x) by)
@@ -100,9 +100,9 @@ module _ (ms : List Module) (names : List Content) (next : List (Option ℕ)) (n
       through decided.home (decided.by ∙ ap (λ x. Some x) led.1) (definition_at_end rest
       (record { home = led.0.source.octets; name = p.name }) c d led.2 there by)
 
-module _ (ms : List Module) (names : List Content) (ends : List (Option ℕ)) (kept : AreEnds ms names ends) where
+module _ (ms : List Module) (names : List Content) (ends : List (Option ℕ)) (kept : AreEndsOfImports ms names ends) where
   -- where a name leads to a definition, the end that is kept is the name that is defined
-  pub end_of_definition : (p : Place) (m : Module) (d : Def) (j : ℕ) → slice_get names j ≡ content_at ms p → IsDefinedBy ms p m d
+  pub end_of_definition : (p : QualifiedName) (m : Module) (d : Def) (j : ℕ) → slice_get names j ≡ content_named ms p → IsDefinedBy ms p m d
       → (e : ℕ) × (x : List ℕ) × (slice_get ends j ≡ Some (Some e)) × (slice_get names e ≡ Some (content m x (defined d)))
   end_of_definition p m d j at by =
       let found = ends_at_definition ms names kept.next kept.nexts by j at in
@@ -116,7 +116,7 @@ module _ (ms : List Module) (names : List Content) (ends : List (Option ℕ)) (k
       place_within (through {m = n} {i = i} home by rest) =
           slice_get_within names j (content n p.name (imported i)) (at ∙ content_of-decided ms p n (imported i) home by)
 
-      ended : (end : Option ℕ) → slice_get ends j ≡ Some end → Ends (next_at kept.next) j end
+      ended : (end : Option ℕ) → slice_get ends j ≡ Some end → ChainEnds (next_at kept.next) j end
           → ((e : ℕ) × (x : List ℕ) × EndsAt (next_at kept.next) j e × (slice_get names e ≡ Some (content m x (defined d))))
           → (e : ℕ) × (x : List ℕ) × (slice_get ends j ≡ Some (Some e)) × (slice_get names e ≡ Some (content m x (defined d)))
       ended None at none found = absurd (none (has_end found.2))
@@ -125,7 +125,7 @@ module _ (ms : List Module) (names : List Content) (ends : List (Option ℕ)) (k
           (e, found.1, at, rw (← same) found.3)
 
   -- where the end that is kept is defined, the name leads to that definition
-  pub definition_of_end : (p : Place) (j e : ℕ) (c : Content) (d : Def) → slice_get names j ≡ content_at ms p → slice_get ends j ≡ Some (Some e)
+  pub definition_of_end : (p : QualifiedName) (j e : ℕ) (c : Content) (d : Def) → slice_get names j ≡ content_named ms p → slice_get ends j ≡ Some (Some e)
       → slice_get names e ≡ Some c → c.decided ≡ defined d → IsDefinedBy ms p c.home d
   definition_of_end p j e c d at end there by =
       let is = get_or_from_slice_get ends j (Some e) (Some j) end in
@@ -134,19 +134,19 @@ module _ (ms : List Module) (names : List Content) (ends : List (Option ℕ)) (k
 
   -- ---- names that lead to no definition
 
-  pub undefined_past : (p : Place) (j : ℕ) → slice_get names j ≡ content_at ms p → length ends ≤ j → IsUndefined ms p
+  pub undefined_past : (p : QualifiedName) (j : ℕ) → slice_get names j ≡ content_named ms p → length ends ≤ j → IsUndefined ms p
   undefined_past p j at past = λ m d by.
       let found = end_of_definition p m d j at by in
       let inside = slice_get_within ends j (Some found.0) found.2 in
       absurd (omega arith)
 
-  pub undefined_ring : (p : Place) (j : ℕ) → slice_get names j ≡ content_at ms p → slice_get ends j ≡ Some None → IsUndefined ms p
+  pub undefined_ring : (p : QualifiedName) (j : ℕ) → slice_get names j ≡ content_named ms p → slice_get ends j ≡ Some None → IsUndefined ms p
   undefined_ring p j at none = λ m d by.
       let found = end_of_definition p m d j at by in
       let some = found.2 in
       absurd (cc)
 
-  pub undefined_end : (p : Place) (j e : ℕ) → slice_get names j ≡ content_at ms p → slice_get ends j ≡ Some (Some e) → slice_get names e ≡ None
+  pub undefined_end : (p : QualifiedName) (j e : ℕ) → slice_get names j ≡ content_named ms p → slice_get ends j ≡ Some (Some e) → slice_get names e ≡ None
       → IsUndefined ms p
   undefined_end p j e at end none = λ m d by.
       let found = end_of_definition p m d j at by in
@@ -155,7 +155,7 @@ module _ (ms : List Module) (names : List Content) (ends : List (Option ℕ)) (k
       let other = rw (← same) at none in
       absurd (cc)
 
-  pub undefined_other : (p : Place) (j e : ℕ) (c : Content) → slice_get names j ≡ content_at ms p → slice_get ends j ≡ Some (Some e)
+  pub undefined_other : (p : QualifiedName) (j e : ℕ) (c : Content) → slice_get names j ≡ content_named ms p → slice_get ends j ≡ Some (Some e)
       → slice_get names e ≡ Some c → ((d : Def) → c.decided ≡ defined d → ⊥) → IsUndefined ms p
   undefined_other p j e c at end there other = λ m d by.
       let found = end_of_definition p m d j at by in

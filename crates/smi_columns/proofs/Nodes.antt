@@ -4,7 +4,7 @@ use Rattle.std.specs.List.{slice_get}
 use Rattle.smi_module.specs.declared.tree.Module.{Module}
 use Rattle.smi_module.specs.declared.tree.Def.{Def}
 use Rattle.smi_nodes.specs.Nodes.{Node}
-use Rattle.smi_nodes.specs.Gathered.{node_from, node_from_def, def_at, nodes_of}
+use Rattle.smi_nodes.specs.Gathered.{node_from, node_from_def, def_of_module, nodes_of}
 use Rattle.smi_nodes.specs.declared.source.Source.{Source}
 use Rattle.smi_nodes.specs.declared.source.Source.TheVariants as S
 
@@ -15,7 +15,7 @@ oid_from_def (Some m) (Some d) o = refl
 
 pub oid_from : (ms : List Module) (s : Source) (o : List ℕ) → (node_from ms s o).oid ≡ o
 oid_from ms (S.Root n) o = refl
-oid_from ms (S.Definition i k) o = oid_from_def (slice_get ms i) (def_at (slice_get ms i) k) o
+oid_from ms (S.Definition i k) o = oid_from_def (slice_get ms i) (def_of_module (slice_get ms i) k) o
 
 module _ (ms : List Module) where
   pub nodes-length : (ss : List Source) (os : List (List ℕ)) → length ss ≡ length os → length (nodes_of ms ss os) ≡ length ss

@@ -5,12 +5,12 @@ use Rattle.smi_links.specs.declared.basis.Resolution.TheVariants as R
 use Rattle.smi_index.specs.declared.part.IndexPart.{IndexPart}
 use Rattle.smi_module.specs.declared.tree.Module.{Module}
 use Rattle.smi_module.specs.declared.tree.Def.{Def}
-use Rattle.smi_meaning.specs.Meaning.{Place, origin}
+use Rattle.smi_meaning.specs.Meaning.{QualifiedName, origin}
 use Rattle.smi_types.specs.Chain.{TypeOrigin}
 use Rattle.smi_types.specs.Types.{Facts, HasSyntax, HasNoSyntax, object_origin, origin_of_object}
-use Rattle.smi_columns.specs.Definitions.{place_in, IsDefinedBy, own, through}
+use Rattle.smi_columns.specs.Definitions.{qualified_name, IsDefinedBy, own, through}
 use Rattle.smi_columns.specs.Parts.{IsPartOf}
-use Rattle.smi_columns.specs.Index.{IsPart}
+use Rattle.smi_columns.specs.Index.{IsIndexPart}
 use Rattle.smi_columns.specs.Named.{IsFoundAt}
 use Rattle.smi_columns.specs.Kept.{HasNoPart}
 
@@ -23,7 +23,7 @@ pub record Same (m n : Module) (d e : Def) : Type 0 where
 pub same_own : (m n : Module) (d e : Def) → m ≡ n → d ≡ e → Same m n d e
 same_own m n d e f g = record { home = f; definition = g }
 
-pub defined_once : {ms : List Module} {p : Place} {m n : Module} {d e : Def} → IsDefinedBy ms p m d → IsDefinedBy ms p n e → Same m n d e
+pub defined_once : {ms : List Module} {p : QualifiedName} {m n : Module} {d e : Def} → IsDefinedBy ms p m d → IsDefinedBy ms p n e → Same m n d e
 defined_once (own {m = m} {d = d} home by) (own {m = n} {d = e} other also) =
     let same : m ≡ n = cc in
     let is = rw same at by in
@@ -44,12 +44,12 @@ defined_once (through {p = p} {m = m} {i = i} home by rest) (through {m = n} {i 
 
 -- ---- parts
 
-module _ (ms : List Module) (m : Module) (x : List ℕ) (i k : ℕ) (found : IsFoundAt ms (place_in m x) i k) where
+module _ (ms : List Module) (m : Module) (x : List ℕ) (i k : ℕ) (found : IsFoundAt ms (qualified_name m x) i k) where
   at_object : object_origin ms i k ≡ origin_of_object found.home.name.octets found.definition
   at_object = rw (found.at_module, found.there) refl
 
   -- the syntax of the object that the name leads to
-  syntax_here : (implied : Bool) (part : IndexPart) (p : IsPart ms m x implied part) → HasSyntax ms (object_origin ms i k) p.facts
+  syntax_here : (implied : Bool) (part : IndexPart) (p : IsIndexPart ms m x implied part) → HasSyntax ms (object_origin ms i k) p.facts
   syntax_here implied part p =
       let same = defined_once found.named p.named in
       rw (at_object, same.home, same.definition) p.syntax
@@ -58,10 +58,10 @@ module _ (ms : List Module) (m : Module) (x : List ℕ) (i k : ℕ) (found : IsF
   part_untyped implied none = λ part p. none p.facts (syntax_here implied part p)
 
   pub part_read : (implied : Bool) (facts : Facts) (read : Option IndexPart) → HasSyntax ms (object_origin ms i k) facts
-      → ((o : TypeOrigin Place) (f g : Facts) → HasSyntax ms o f → HasSyntax ms o g → f ≡ g)
-      → (oid : List ℕ) → ComesTo (origin ms) (place_in m x) (R.Numbers oid)
+      → ((o : TypeOrigin QualifiedName) (f g : Facts) → HasSyntax ms o f → HasSyntax ms o g → f ≡ g)
+      → (oid : List ℕ) → ComesTo (origin ms) (qualified_name m x) (R.Numbers oid)
       → MatchOption read ((part : IndexPart) → IsPartOf facts.base facts.sizes implied part → ⊥) (λ part. IsPartOf facts.base facts.sizes implied part)
-      → MatchOption read (HasNoPart ms m x implied) (λ part. IsPart ms m x implied part)
+      → MatchOption read (HasNoPart ms m x implied) (λ part. IsIndexPart ms m x implied part)
   part_read implied facts None has one oid comes none = λ part p.
       let same = one (object_origin ms i k) p.facts facts (syntax_here implied part p) has in
       none part (rw same at p.reads)

@@ -1,23 +1,23 @@
 -- A name that has an identifier resolves to nothing else.
 use Rattle.std.proofs.Common.{◌≡◌, ℕ, List, length, refl, ap, arith}
-use Rattle.smi_links.specs.Chain.{Origin, nowhere, next_of, HasEnd, ends, leads_on, Means, by_itself, after_another, EndsNowhere, here, further}
+use Rattle.smi_links.specs.Chain.{Origin, nowhere, next_of, HasEnd, ends, leads_on, HasIdentifier, by_itself, after_another, EndsNowhere, here, further}
 use Rattle.smi_links.specs.Basis.{ComesTo}
 use Rattle.smi_links.specs.declared.basis.Resolution.{Resolution}
 use Rattle.smi_links.specs.declared.basis.Resolution.TheVariants as R
 
 module _ {A : Type 0} (origin : A → Origin A) where
-  means_ends : {a : A} {o : List ℕ} → Means origin a o → HasEnd (λ b. next_of (origin b)) a
+  means_ends : {a : A} {o : List ℕ} → HasIdentifier origin a o → HasEnd (λ b. next_of (origin b)) a
   means_ends (by_itself e) = ends (rw e refl)
   means_ends (after_another e m) = leads_on (rw e refl) (means_ends m)
 
-  means_somewhere : {a : A} {o : List ℕ} → Means origin a o → EndsNowhere origin a → ⊥
+  means_somewhere : {a : A} {o : List ℕ} → HasIdentifier origin a o → EndsNowhere origin a → ⊥
   means_somewhere (by_itself e) (here f) = absurd (cc)
   means_somewhere (by_itself e) (further {b = b} {ns = ns} f rest) = absurd (cc)
   means_somewhere (after_another {b = b} {ns = ns} e m) (here f) = absurd (cc)
   means_somewhere (after_another {b = b} {ns = ns} e m) (further {b = d} {ns = ks} f rest) =
       let same : b ≡ d = cc in means_somewhere m (rw (← same) at rest)
 
-  means_once : {a : A} {o p : List ℕ} → Means origin a o → Means origin a p → o ≡ p
+  means_once : {a : A} {o p : List ℕ} → HasIdentifier origin a o → HasIdentifier origin a p → o ≡ p
   means_once (by_itself {ns = ns} e) (by_itself {ns = ks} f) = cc
   means_once (by_itself {ns = ns} e) (after_another {b = b} {ns = ks} f m) = absurd (cc)
   means_once (after_another {b = b} {ns = ns} e m) (by_itself {ns = ks} f) = absurd (cc)

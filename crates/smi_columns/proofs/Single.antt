@@ -10,14 +10,14 @@ use Rattle.smi_module.specs.declared.tree.Module.{Module}
 use Rattle.smi_module.specs.declared.tree.Def.{Def}
 use Rattle.smi_module.specs.declared.tree.Range.{Range}
 use Rattle.smi_module.specs.declared.tree.IndexParts.{IndexParts}
-use Rattle.smi_meaning.specs.Meaning.{Place}
+use Rattle.smi_meaning.specs.Meaning.{QualifiedName}
 use Rattle.smi_types.specs.Chain.{TypeOrigin}
 use Rattle.smi_types.specs.Types.{Facts, HasSyntax, origin_of_object}
 use Rattle.smi_types.specs.declared.base.TypeBase.{TypeBase}
 use Rattle.smi_types.specs.declared.base.TypeBase.TheVariants as T
 use Rattle.smi_nodes.specs.Nodes.{Node}
 use Rattle.smi_columns.specs.Parts.{IsFixedSize, HasExtent, IsPartOf}
-use Rattle.smi_columns.specs.Index.{IsPart, AreParts, IsIndexed, IsIndexOf, IsIndex, AreIndexesOf, index_at, is_implied}
+use Rattle.smi_columns.specs.Index.{IsIndexPart, AreParts, IsIndexed, IsIndexOf, IsIndex, AreIndexesOf, index_at, is_implied}
 use Rattle.smi_columns.proofs.Lists.{get_within, same_items}
 use Rattle.smi_columns.proofs.Parting.{defined_once}
 use Rattle.smi_columns.proofs.Indexing.{index_once}
@@ -56,8 +56,8 @@ part_once T.Opaque sizes implied p q a b = a.2 ∙ ap (λ e. P.Octets e) (extent
 part_once T.ObjectIdentifier sizes implied p q a b = a ∙ sym b
 part_once T.Counter64 sizes implied p q a b = absurd a
 
-module _ (ms : List Module) (one : (o : TypeOrigin Place) (f g : Facts) → HasSyntax ms o f → HasSyntax ms o g → f ≡ g) where
-  same_part : (m : Module) (x : List ℕ) (implied : Bool) (p q : IndexPart) → IsPart ms m x implied p → IsPart ms m x implied q → p ≡ q
+module _ (ms : List Module) (one : (o : TypeOrigin QualifiedName) (f g : Facts) → HasSyntax ms o f → HasSyntax ms o g → f ≡ g) where
+  same_part : (m : Module) (x : List ℕ) (implied : Bool) (p q : IndexPart) → IsIndexPart ms m x implied p → IsIndexPart ms m x implied q → p ≡ q
   same_part m x implied p q a b =
       let same = defined_once a.named b.named in
       let syntax : HasSyntax ms (origin_of_object b.home.name.octets b.object) a.facts = rw (same.home, same.definition) at a.syntax in

@@ -14,10 +14,10 @@ use Rattle.smi_nodes.specs.Nodes.{Node, node_of}
 use Rattle.smi_nodes.specs.Gathered.{node_from, nodes_of}
 use Rattle.smi_nodes.specs.declared.source.Source.{Source}
 use Rattle.smi_nodes.specs.declared.source.Source.TheVariants as S
-use Rattle.smi_columns.specs.Definitions.{place_in}
+use Rattle.smi_columns.specs.Definitions.{qualified_name}
 use Rattle.smi_columns.specs.Index.{IsObjectType, IsColumnOf, StandsAt, clause_of}
 use Rattle.smi_columns.specs.Named.{IsFoundAt, IsUndefined}
-use Rattle.smi_columns.specs.Kept.{UsesAt, UsesNone, HasNoRow, IsRow, AreRows}
+use Rattle.smi_columns.specs.Kept.{UsesAt, UsesNone, HasNoRow, HasRowOrNone, AreRows}
 use Rattle.smi_columns.proofs.Lists.{get_within, get_before_push, get_at_push}
 use Rattle.smi_columns.proofs.Nodes.{oid_from, nodes-length, nodes-oids, nodes-get, nodes-at}
 
@@ -41,7 +41,7 @@ module _ (ms : List Module) (i k : ℕ) (m : Module) (d : Def) (at : slice_get m
   })
 
   pub uses_named : (name : Name) (r : Option (ℕ × ℕ)) → clause_of d.kind ≡ Some (Augments name)
-      → MatchOption r (IsUndefined ms (place_in m name.octets)) (λ p. IsFoundAt ms (place_in m name.octets) p.0 p.1)
+      → MatchOption r (IsUndefined ms (qualified_name m name.octets)) (λ p. IsFoundAt ms (qualified_name m name.octets) p.0 p.1)
       → MatchOption r ((o : List ℕ) → UsesNone ms (node_from ms (S.Definition i k) o))
       (λ p. (o : List ℕ) → UsesAt ms (node_from ms (S.Definition i k) o) p.0 p.1)
   uses_named name None is none = λ o. rw (node_here o) (λ m' d' n e home defined uses.
@@ -132,7 +132,7 @@ module _ (ms : List Module) (ss : List Source) (os : List (List ℕ)) (long : le
       pub row_is : (d : Def) (rs : Source) (at : Option (ℕ × ℕ)) → ((o : List ℕ) → Some d ≡ (node_from ms s o).definition) → IsObjectType (Some d)
           → slice_get ss r ≡ Some rs
           → MatchOption at ((o : List ℕ) → UsesNone ms (node_from ms rs o)) (λ p. (o : List ℕ) → UsesAt ms (node_from ms rs o) p.0 p.1)
-          → IsRow ms (nodes_of ms ss os) node at
+          → HasRowOrNone ms (nodes_of ms ss os) node at
       row_is d rs None is object read none = λ row column m x n e home defined uses.
           let stands = rw (front_is row column) at column.stands in
           let here = place_is front row r rs first read stands in
@@ -159,10 +159,10 @@ abbrev pub AreFirstRows : List Module → List Node → List (Option (ℕ × ℕ
 AreFirstRows ms nodes rows k =
     (length rows ≡ k)
     × ((j : ℕ) (node : Node) → j < k → slice_get nodes j ≡ Some node
-    → (at : Option (ℕ × ℕ)) × (slice_get rows j ≡ Some at) × IsRow ms nodes node at)
+    → (at : Option (ℕ × ℕ)) × (slice_get rows j ≡ Some at) × HasRowOrNone ms nodes node at)
 
 pub AreFirstRows-more : (ms : List Module) (nodes : List Node) (rows : List (Option (ℕ × ℕ))) (k : ℕ) (at : Option (ℕ × ℕ))
-    → AreFirstRows ms nodes rows k → ((node : Node) → slice_get nodes k ≡ Some node → IsRow ms nodes node at)
+    → AreFirstRows ms nodes rows k → ((node : Node) → slice_get nodes k ≡ Some node → HasRowOrNone ms nodes node at)
     → AreFirstRows ms nodes (rows ++ at ∷ []) (k + 1)
 AreFirstRows-more ms nodes rows k at first is = (
   length_push rows at ∙ rw first.0 refl,

@@ -3,17 +3,18 @@ use Rattle.std.specs.Prelude.{◌≡◌, ℕ, List, Some}
 use Rattle.smi_module.specs.declared.tree.Module.{Module}
 use Rattle.smi_module.specs.declared.tree.Import.{Import}
 use Rattle.smi_module.specs.declared.tree.Def.{Def}
-use Rattle.smi_meaning.specs.Meaning.{Place, defined, imported, decision, module_named}
+use Rattle.smi_meaning.specs.Meaning.{QualifiedName, defined, imported, decision, module_named}
 
 -- a name of this module
-abbrev pub place_in : Module → List ℕ → Place
-place_in m x = record { home = m.name.octets; name = x }
+abbrev pub qualified_name : Module → List ℕ → QualifiedName
+qualified_name m x = record { home = m.name.octets; name = x }
 
 -- the name leads to this definition of this module: the least relation of which these two hold
-pub data IsDefinedBy (ms : List Module) : Place → Module → Def → Type 0 where
-  own : {p : Place} {m : Module} {d : Def} → module_named ms p.home ≡ Some m
+pub data IsDefinedBy (ms : List Module) : QualifiedName → Module → Def → Type 0 where
+  own : {p : QualifiedName} {m : Module} {d : Def} → module_named ms p.home ≡ Some m
       → decision m p.name ≡ Some (defined d) → IsDefinedBy ms p m d
-  through : {p : Place} {m n : Module} {i : Import} {d : Def} → module_named ms p.home ≡ Some m
+  through : {p : QualifiedName} {m n : Module} {i : Import} {d : Def}
+      → module_named ms p.home ≡ Some m
       → decision m p.name ≡ Some (imported i)
       → IsDefinedBy ms (record { home = i.source.octets; name = p.name }) n d
       → IsDefinedBy ms p n d

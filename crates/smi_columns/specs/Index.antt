@@ -34,20 +34,20 @@ use Rattle.smi_module.specs.declared.names.Name.{Name}
 use Rattle.smi_meaning.specs.Meaning.{origin}
 use Rattle.smi_types.specs.Types.{Facts, HasSyntax, origin_of_object}
 use Rattle.smi_nodes.specs.Nodes.{Node}
-use Rattle.smi_columns.specs.Definitions.{place_in, IsDefinedBy}
+use Rattle.smi_columns.specs.Definitions.{qualified_name, IsDefinedBy}
 use Rattle.smi_columns.specs.Parts.{IsPartOf}
 
 -- ---- the objects of an INDEX clause
 
 -- the part for a name in an INDEX clause of this module: the name leads to an object that has an
 -- identifier and a syntax, whose base is one that an index may have
-pub record IsPart (ms : List Module) (m : Module) (name : List ℕ) (implied : Bool)
+pub record IsIndexPart (ms : List Module) (m : Module) (name : List ℕ) (implied : Bool)
     (part : IndexPart) : Type 0 where
   pub home : Module
   pub object : Def
-  pub named : IsDefinedBy ms (place_in m name) home object
+  pub named : IsDefinedBy ms (qualified_name m name) home object
   pub oid : List ℕ
-  pub identified : ComesTo (origin ms) (place_in m name) (R.Numbers oid)
+  pub identified : ComesTo (origin ms) (qualified_name m name) (R.Numbers oid)
   pub facts : Facts
   pub syntax : HasSyntax ms (origin_of_object home.name.octets object) facts
   pub reads : IsPartOf facts.base facts.sizes implied part
@@ -61,7 +61,7 @@ pub record AreParts (ms : List Module) (m : Module) (clause : IndexParts)
     (parts : List IndexPart) : Type 0 where
   pub long : length parts ≡ length clause.names
   pub each : (i : ℕ) (name : Name) (part : IndexPart) → slice_get clause.names i ≡ Some name
-      → slice_get parts i ≡ Some part → IsPart ms m name.octets (is_implied clause i) part
+      → slice_get parts i ≡ Some part → IsIndexPart ms m name.octets (is_implied clause i) part
 
 -- ---- INDEX and AUGMENTS
 
@@ -75,7 +75,7 @@ clause_of _ = None
 abbrev pub UsesIndexOf : List Module → Module → Def → Option Index → Module → Def → Type 0
 UsesIndexOf ms m d None n e = ⊥
 UsesIndexOf ms m d (Some (Own clause)) n e = (n ≡ m) × (e ≡ d)
-UsesIndexOf ms m d (Some (Augments name)) n e = IsDefinedBy ms (place_in m name.octets) n e
+UsesIndexOf ms m d (Some (Augments name)) n e = IsDefinedBy ms (qualified_name m name.octets) n e
 
 -- the parts of the definition's own INDEX clause
 pub record IsIndexed (ms : List Module) (m : Module) (d : Def) (parts : List IndexPart)

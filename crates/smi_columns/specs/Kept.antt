@@ -8,11 +8,18 @@ use Rattle.smi_module.specs.declared.tree.Module.{Module}
 use Rattle.smi_module.specs.declared.tree.Def.{Def}
 use Rattle.smi_module.specs.declared.tree.IndexParts.{IndexParts}
 use Rattle.smi_nodes.specs.Nodes.{Node}
-use Rattle.smi_columns.specs.Index.{IsPart, AreParts, IsIndexed, IsColumnOf, UsesIndexOf, clause_of}
+use Rattle.smi_columns.specs.Index.{
+  IsIndexPart,
+  AreParts,
+  IsIndexed,
+  IsColumnOf,
+  UsesIndexOf,
+  clause_of,
+}
 
 -- the object has no part
 abbrev pub HasNoPart : List Module → Module → List ℕ → Bool → Type 0
-HasNoPart ms m name implied = (part : IndexPart) → IsPart ms m name implied part → ⊥
+HasNoPart ms m name implied = (part : IndexPart) → IsIndexPart ms m name implied part → ⊥
 
 -- the parts of an INDEX clause, or none if one of its objects has none
 abbrev pub IsReading : List Module → Module → IndexParts → Option (List IndexPart) → Type 0
@@ -25,20 +32,20 @@ IsOwn ms m d None = (parts : List IndexPart) → IsIndexed ms m d parts → ⊥
 IsOwn ms m d (Some parts) = IsIndexed ms m d parts
 
 -- the parts that are kept for a definition
-abbrev pub Kept : Type 0
-Kept = Option (Vec IndexPart Global)
+abbrev pub KeptParts : Type 0
+KeptParts = Option (Vec IndexPart Global)
 
 abbrev pub KeptOfModule : Type 0
-KeptOfModule = Vec Kept Global
+KeptOfModule = Vec KeptParts Global
 
-abbrev pub items_of : Kept → Option (List IndexPart)
+abbrev pub items_of : KeptParts → Option (List IndexPart)
 items_of kept = option_map (λ v. v.items) kept
 
 -- the parts of each definition's own INDEX clause
-abbrev pub AreOwn : List Module → Module → List Def → List (Kept) → Type 0
+abbrev pub AreOwn : List Module → Module → List Def → List (KeptParts) → Type 0
 AreOwn ms m ds kept =
     (k : ℕ) (d : Def) → slice_get ds k ≡ Some d
-    → (own : Kept) × (slice_get kept k ≡ Some own) × IsOwn ms m d (items_of own)
+    → (own : KeptParts) × (slice_get kept k ≡ Some own) × IsOwn ms m d (items_of own)
 
 -- and those of each module
 abbrev pub AreOwnOfAll : List Module → List Module → List KeptOfModule → Type 0
@@ -81,16 +88,17 @@ pub record HasRowAt (ms : List Module) (nodes : List Node) (column : Node) (i k 
 abbrev pub HasNoRow : List Module → List Node → Node → Type 0
 HasNoRow ms nodes node = (row : Node) → IsColumnOf nodes node row → UsesNone ms row
 
-abbrev pub IsRow : List Module → List Node → Node → Option (ℕ × ℕ) → Type 0
-IsRow ms nodes node None = HasNoRow ms nodes node
-IsRow ms nodes node (Some at) = HasRowAt ms nodes node at.0 at.1
+-- the INDEX clause by which the rows of a node are identified, or that there is none
+abbrev pub HasRowOrNone : List Module → List Node → Node → Option (ℕ × ℕ) → Type 0
+HasRowOrNone ms nodes node None = HasNoRow ms nodes node
+HasRowOrNone ms nodes node (Some at) = HasRowAt ms nodes node at.0 at.1
 
 -- for each node the definition whose INDEX clause its row uses
 pub record AreRows (ms : List Module) (nodes : List Node) (rows : List (Option (ℕ × ℕ)))
     : Type 0 where
   pub long : length rows ≡ length nodes
   pub each : (k : ℕ) (node : Node) → slice_get nodes k ≡ Some node
-      → (at : Option (ℕ × ℕ)) × (slice_get rows k ≡ Some at) × IsRow ms nodes node at
+      → (at : Option (ℕ × ℕ)) × (slice_get rows k ≡ Some at) × HasRowOrNone ms nodes node at
 
 -- the index of each node, by what is kept
 abbrev pub indexes_of : List KeptOfModule → List (Option (ℕ × ℕ))

@@ -2,12 +2,12 @@
 use Rattle.std.specs.Prelude.{◌≡◌, ℕ, ◌<◌, List, length, Option, Some, None}
 use Rattle.std.specs.List.{slice_get}
 use Rattle.smi_links.specs.Order.{next_at}
-use Rattle.smi_links.specs.Ends.{Ends, end_at}
+use Rattle.smi_links.specs.Ends.{ChainEnds, end_at}
 use Rattle.smi_module.specs.declared.tree.Module.{Module}
 use Rattle.smi_module.specs.declared.tree.Def.{Def}
-use Rattle.smi_meaning.specs.Meaning.{Place, Decision, defined, imported, root}
+use Rattle.smi_meaning.specs.Meaning.{QualifiedName, Decision, defined, imported, root}
 use Rattle.smi_meaning.specs.Scopes.{Content}
-use Rattle.smi_meaning.specs.Known.{content_at}
+use Rattle.smi_meaning.specs.Known.{content_named}
 use Rattle.smi_columns.specs.Definitions.{IsDefinedBy}
 
 -- an import leads to the same name in the module after FROM, by its place; any other name leads to
@@ -16,7 +16,7 @@ abbrev pub IsNextOf : List Module → List Content → List ℕ → Decision →
 IsNextOf ms names x (defined d) next = next ≡ None
 IsNextOf ms names x (imported i) next =
     (q : ℕ) × (next ≡ Some q)
-    × (slice_get names q ≡ content_at ms (record { home = i.source.octets; name = x }))
+    × (slice_get names q ≡ content_named ms (record { home = i.source.octets; name = x }))
 IsNextOf ms names x (root n) next = next ≡ None
 
 -- each name leads to its next
@@ -27,15 +27,15 @@ pub record AreNexts (ms : List Module) (names : List Content) (next : List (Opti
       → IsNextOf ms names c.name c.decided (next_at next p)
 
 -- for each name, the place of the name at which its imports end
-pub record AreEnds (ms : List Module) (names : List Content) (ends : List (Option ℕ))
+pub record AreEndsOfImports (ms : List Module) (names : List Content) (ends : List (Option ℕ))
     : Type 0 where
   pub next : List (Option ℕ)
   pub nexts : AreNexts ms names next
   pub long : length ends ≡ length next
-  pub each : (p : ℕ) → p < length next → Ends (next_at next) p (end_at ends p)
+  pub each : (p : ℕ) → p < length next → ChainEnds (next_at next) p (end_at ends p)
 
 -- the name leads to a definition, by the places of its module and of itself in it
-pub record IsFoundAt (ms : List Module) (p : Place) (i k : ℕ) : Type 0 where
+pub record IsFoundAt (ms : List Module) (p : QualifiedName) (i k : ℕ) : Type 0 where
   pub home : Module
   pub at_module : slice_get ms i ≡ Some home
   pub definition : Def
@@ -43,5 +43,5 @@ pub record IsFoundAt (ms : List Module) (p : Place) (i k : ℕ) : Type 0 where
   pub named : IsDefinedBy ms p home definition
 
 -- the name leads to no definition
-abbrev pub IsUndefined : List Module → Place → Type 0
+abbrev pub IsUndefined : List Module → QualifiedName → Type 0
 IsUndefined ms p = (m : Module) (d : Def) → IsDefinedBy ms p m d → ⊥

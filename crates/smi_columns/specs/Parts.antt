@@ -24,13 +24,13 @@ use Rattle.smi_types.specs.declared.base.TypeBase.{TypeBase}
 use Rattle.smi_types.specs.declared.base.TypeBase.TheVariants as T
 
 -- the token stands for this number
-abbrev pub StandsFor : TokenText → ℕ → Type 0
-StandsFor t n = bound_in t.kind t.text ≡ Some (pos n)
+abbrev pub StatesBound : TokenText → ℕ → Type 0
+StatesBound t n = bound_in t.kind t.text ≡ Some (pos n)
 
 -- the range goes from n to n
 pub record IsSingle (range : Range) (n : ℕ) : Type 0 where
-  pub from : StandsFor range.low n
-  pub to : (high : TokenText) → range.high ≡ Some high → StandsFor high n
+  pub from : StatesBound range.low n
+  pub to : (high : TokenText) → range.high ≡ Some high → StatesBound high n
 
 -- a SIZE that only n meets: one range, from n to n
 pub record IsFixedSize (sizes : Option (List Range)) (n : ℕ) : Type 0 where

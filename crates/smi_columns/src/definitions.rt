@@ -2,7 +2,7 @@
 ghost use Rattle.std.specs.Prelude.{◌≡◌, IfOk, MatchOption, Some};
 ghost use Rattle.std.specs.List.{slice_get};
 ghost use Rattle.smi_meaning.specs.Scopes.{Content};
-ghost use Rattle.smi_meaning.specs.Meaning.{Place};
+ghost use Rattle.smi_meaning.specs.Meaning.{QualifiedName};
 ghost use Rattle.smi_columns.specs.Named.{IsNextOf, AreNexts, IsFoundAt, IsUndefined};
 
 use smi_links::ends;
@@ -21,13 +21,13 @@ pub(crate) struct Definitions<'n, 'a> {
 impl<'n, 'a> Model for Definitions<'n, 'a> {
     ghost use Rattle.std.specs.Prelude.{List};
     ghost use Rattle.smi_module.specs.declared.tree.Module.{Module};
-    ghost use Rattle.smi_columns.specs.Named.{AreEnds};
+    ghost use Rattle.smi_columns.specs.Named.{AreEndsOfImports};
 
     ghost Value = { List Module };
 
     ghost view = { λ s. s.entries.modules };
 
-    ghost invariant = { λ s. AreEnds s.entries.modules s.entries.names s.ends.items };
+    ghost invariant = { λ s. AreEndsOfImports s.entries.modules s.entries.names s.ends.items };
 }
 
 impl<'n, 'a> Definitions<'n, 'a> {
@@ -47,9 +47,9 @@ impl<'n, 'a> Definitions<'n, 'a> {
     /// The definition to which a name leads in the module of a name, by the place of its module and
     /// its own place in that.
     pub(crate) fn find(&self, home: &'a [u8], name: &'a [u8]) -> Option<(usize, usize)>
-        ensures { let place : Place = record { home = home.now; name = name.now } in
-            MatchOption result (IsUndefined self.now place)
-            (λ at. IsFoundAt self.now place at.0 at.1) }
+        ensures { let qualified : QualifiedName = record { home = home.now; name = name.now } in
+            MatchOption result (IsUndefined self.now qualified)
+            (λ at. IsFoundAt self.now qualified at.0 at.1) }
     {
         let place = self.entries.place(home, name);
         let end = (*self.ends.get(place)?)?;

@@ -2,9 +2,9 @@
 ghost use Rattle.std.specs.Prelude.{◌≡◌, ◌<◌, ◌↔◌, ℕ, List, length, IsTrue, IfOk, MatchOption};
 ghost use Rattle.std.specs.Option.{option_copied};
 ghost use Rattle.smi_links.specs.Basis.{ComesTo};
-ghost use Rattle.smi_meaning.specs.Meaning.{origin, Place};
+ghost use Rattle.smi_meaning.specs.Meaning.{origin, QualifiedName};
 ghost use Rattle.smi_types.specs.Kept.{AreTypesOf};
-ghost use Rattle.smi_columns.specs.Index.{IsPart, clause_of, is_implied};
+ghost use Rattle.smi_columns.specs.Index.{IsIndexPart, clause_of, is_implied};
 ghost use Rattle.smi_columns.specs.Kept.{HasNoPart, IsReading, items_of};
 ghost use Rattle.smi_columns.specs.Kept.{IsOwn, AreOwn, AreOwnOfAll};
 
@@ -89,9 +89,9 @@ impl<'n, 'a> Objects<'n, 'a> {
 
     /// Whether a name resolves to an identifier in the module of a name.
     fn has_identifier(&self, home: &'a [u8], name: &'a [u8]) -> bool
-        ensures { let place : Place = record { home = home.now; name = name.now } in
+        ensures { let qualified : QualifiedName = record { home = home.now; name = name.now } in
             IsTrue result ↔ ((oid : List ℕ)
-            × ComesTo (origin self.now) place (Resolution.Numbers oid)) }
+            × ComesTo (origin self.now) qualified (Resolution.Numbers oid)) }
     {
         match self.names.resolution(home, name) {
             Some(resolution) => is_identifier(resolution),
@@ -103,7 +103,7 @@ impl<'n, 'a> Objects<'n, 'a> {
     fn part(&self, home: &'a Module, name: &'a Name, implied: bool) -> Option<IndexPart>
         ensures { let ms = self.now in
             MatchOption result (HasNoPart ms home.now name.now.octets implied)
-            (λ part. IsPart ms home.now name.now.octets implied part) }
+            (λ part. IsIndexPart ms home.now name.now.octets implied part) }
     {
         let home = home.name.as_bytes();
         let name = name.as_bytes();

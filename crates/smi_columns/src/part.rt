@@ -2,7 +2,7 @@
 ghost use Rattle.std.specs.Prelude.{ℕ, MatchOption};
 ghost use Rattle.std.specs.Option.{option_copied};
 ghost use Rattle.smi_index.specs.declared.part.IndexPart.{IndexPart};
-ghost use Rattle.smi_columns.specs.Parts.{StandsFor, IsSingle, IsFixedSize, HasExtent};
+ghost use Rattle.smi_columns.specs.Parts.{StatesBound, IsSingle, IsFixedSize, HasExtent};
 ghost use Rattle.smi_columns.specs.Parts.{HasNoFixedSize, IsPartOf};
 
 use smi_index::{Extent, IndexPart};
@@ -11,7 +11,8 @@ use smi_types::TypeBase;
 
 /// The number that an end of a range stands for, if it isn't below zero.
 fn number(end: &TokenText) -> Option<u64>
-    ensures { MatchOption result ((n : ℕ) → StandsFor end.now n → ⊥) (λ n. StandsFor end.now n) }
+    ensures { MatchOption result ((n : ℕ) → StatesBound end.now n → ⊥)
+        (λ n. StatesBound end.now n) }
 {
     let value = bound(end.kind, end.text.as_bytes())?;
     if value < 0 { None } else { Some(value as u64) }

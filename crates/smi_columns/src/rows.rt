@@ -6,7 +6,7 @@ ghost use Rattle.smi_branches.specs.Standing.{oid_at, place_of};
 ghost use Rattle.smi_nodes.specs.Nodes.{Node};
 ghost use Rattle.smi_nodes.specs.Gathered.{node_from, nodes_of};
 ghost use Rattle.smi_columns.specs.Index.{IsObjectType};
-ghost use Rattle.smi_columns.specs.Kept.{UsesAt, UsesNone, AreRows, IsRow};
+ghost use Rattle.smi_columns.specs.Kept.{UsesAt, UsesNone, AreRows, HasRowOrNone};
 
 use crate::objects::{Objects, clause};
 use smi_branches::Identifiers;
@@ -83,7 +83,7 @@ impl<'n, 'a> Objects<'n, 'a> {
         requires within { place < length sources.now }
         ensures { let ms = self.now in
             let nodes = nodes_of ms sources.now identifiers.now in
-            (node : Node) → slice_get nodes place ≡ Some node → IsRow ms nodes node result }
+            (node : Node) → slice_get nodes place ≡ Some node → HasRowOrNone ms nodes node result }
     {
         let def = self.definition(sources[place])?;
         if !is_object_type(def) {

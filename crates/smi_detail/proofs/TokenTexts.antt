@@ -4,7 +4,7 @@ use Rattle.std.specs.List.{flat_map}
 use Rattle.std.proofs.lemmas.Grind.{flat_map-append}
 use Rattle.smi_lexer.specs.Token.{Lexeme}
 use Rattle.smi_lexer.specs.declared.token.TokenKind.TheVariants as K
-use Rattle.smi_module.specs.Mark.{Mark, spelled, on_line, sign, Fits, Stands}
+use Rattle.smi_module.specs.Mark.{Mark, spelled, on_line, sign, MarksToken, Stands}
 use Rattle.smi_module.specs.Spelling.{bound, of_list, of_named_number, of_range, of_ranges, of_refinement, of_option, of_base, of_syntax}
 use Rattle.smi_module.specs.declared.tree.NamedNumber.{NamedNumber}
 use Rattle.smi_module.specs.declared.tree.Range.{Range}
@@ -33,7 +33,7 @@ abbrev joined : List Mark → List ℕ
 joined [] = []
 joined (m ∷ ms) = text_of m ++ spaced ms
 
-token_text : (m : Mark) (t : Lexeme) → Fits m t → t.text ≡ text_of m
+token_text : (m : Mark) (t : Lexeme) → MarksToken m t → t.text ≡ text_of m
 token_text (spelled k x ok) t h = h.1
 token_text (on_line n m) t h = token_text m t h.0
 

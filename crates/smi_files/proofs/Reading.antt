@@ -8,7 +8,7 @@ use Rattle.smi_lexer.specs.Token.{Item, Lexeme, tokens_of}
 use Rattle.smi_module.specs.Mark.{Stands}
 use Rattle.smi_module.specs.Spelling.{spelling}
 use Rattle.smi_module.specs.declared.tree.Module.{Module}
-use Rattle.smi_text.specs.Text.{Spells}
+use Rattle.smi_text.specs.Text.{AreSpelledBy}
 use Rattle.snmp_io.specs.Files.{HoldsIfKnown}
 use Rattle.smi_files.specs.Files.{AreModulesIn, AreModulesOf, FileFails, Holdings, Holds, IsRefused, MayHold, Refusal, no_memory, texts}
 
@@ -24,7 +24,7 @@ OneLexing = (before text : List ℕ) (xs ys : List Item) → Lexes before text x
 abbrev OneReading : Type 0
 OneReading = (ms ns : List Module) (tokens : List Lexeme) → Stands (spelling ms) tokens [] → Stands (spelling ns) tokens [] → ms ≡ ns
 
-one_spelled : OneLexing → OneReading → (ms ns : List Module) (text : List ℕ) → Spells ms text → Spells ns text → ms ≡ ns
+one_spelled : OneLexing → OneReading → (ms ns : List Module) (text : List ℕ) → AreSpelledBy ms text → AreSpelledBy ns text → ms ≡ ns
 one_spelled lexing reading ms ns text a b =
     let items : b.items ≡ a.items = lexing [] text b.items a.items b.lexed a.lexed in
     reading ms ns (tokens_of a.items) a.spelled (subst (λ (xs : List Item). Stands (spelling ns) (tokens_of xs) []) items b.spelled)
@@ -40,7 +40,7 @@ one_text files path text other held may =
 one_in : OneLexing → OneReading → (files : Holdings) (path : List ℕ) (ms ns : List Module)
     → AreModulesIn (Holds files) path ms → AreModulesIn (MayHold files) path ns → ms ≡ ns
 one_in lexing reading files path ms ns (text, held, spells, once) (other, may, spells_too, once_too) =
-    one_spelled lexing reading ms ns text spells (subst (λ (t : List ℕ). Spells ns t) (one_text files path text other held may) spells_too)
+    one_spelled lexing reading ms ns text spells (subst (λ (t : List ℕ). AreSpelledBy ns t) (one_text files path text other held may) spells_too)
 
 pub one_list : OneLexing → OneReading → (files : Holdings) (paths : List (List ℕ)) (ms ns : List Module)
     → AreModulesOf (Holds files) paths ms → AreModulesOf (MayHold files) paths ns → ms ≡ ns

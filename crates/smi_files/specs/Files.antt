@@ -3,7 +3,7 @@ use Rattle.std.specs.Prelude.{◌≡◌, ◌⊎◌, ◌++◌, ℕ, List, [], ◌
 use Rattle.std.specs.Borrow.{Bor}
 use Rattle.snmp_io.specs.Files.{HoldsIfKnown}
 use Rattle.smi_module.specs.declared.tree.Module.{Module}
-use Rattle.smi_text.specs.Text.{HasNoDoubles, IsCause, Spells}
+use Rattle.smi_text.specs.Text.{HasNoDoubles, IsCause, AreSpelledBy}
 use Rattle.smi_text.specs.declared.error.ParseError.{ParseError}
 
 -- what is known of files: by its path, the text of each, or that it has none
@@ -25,7 +25,8 @@ MayHold files path text = HoldsIfKnown (files path) (Some text)
 -- The text of a file spells these modules. `Held path text` says that the file holds it.
 abbrev pub AreModulesIn : (Held : (path text : List ℕ) → Type 0) → (path : List ℕ) → List Module
     → Type 0
-AreModulesIn Held path ms = (text : List ℕ) × Held path text × Spells ms text × HasNoDoubles ms
+AreModulesIn Held path ms = (text : List ℕ) × Held path text × AreSpelledBy ms text
+    × HasNoDoubles ms
 
 -- these are the modules of the files, one file after the other
 abbrev pub AreModulesOf : (Held : (path text : List ℕ) → Type 0) → (paths : List (List ℕ))

@@ -43,7 +43,7 @@ use Rattle.std.proofs.lemmas.Str.{digit_value_digit}
 use Rattle.std.proofs.lemmas.Str.Parse.{digits_value-take-le}
 use Rattle.std.proofs.Math.Pow.{pow_mono}
 use Rattle.smi_hint.specs.Number.{front_digits, StartsWithNumber}
-use Rattle.smi_hint.specs.Pieces.{number_of}
+use Rattle.smi_hint.specs.Pieces.{number_of_octets}
 use Rattle.std.proofs.lemmas.Nat.{pow-add}
 use Rattle.std.proofs.Common.{inl, inr}
 use Rattle.smi_hint.specs.Number.{IsNumberHint}
@@ -120,9 +120,10 @@ value_above text i n most e above number rest h =
     omega (arith, le, h.value)
 
 -- one octet more of a number
-pub number_more : (octets : List ℕ) (i : ℕ) → i < length octets → number_of (take (i + 1) octets) ≡ number_of (take i octets) * 256 + get_or octets i 0
+pub number_more : (octets : List ℕ) (i : ℕ) → i < length octets → number_of_octets (take (i + 1) octets)
+    ≡ number_of_octets (take i octets) * 256 + get_or octets i 0
 number_more octets i low =
-    ap number_of (take_more octets i 0 low) ∙ number_after_append 256 0 (take i octets) (get_or octets i 0 ∷ [])
+    ap number_of_octets (take_more octets i 0 low) ∙ number_after_append 256 0 (take i octets) (get_or octets i 0 ∷ [])
 
 pub below_more : (n o i : ℕ) → n < 2 ^ (8 * i) → o < 256 → n * 256 + o < 2 ^ (8 * (i + 1))
 below_more n o i low small =

@@ -42,7 +42,7 @@ use Rattle.std.specs.Bool.{◌==◌, nat_lt}
 use Rattle.std.proofs.lemmas.List.{length-replicate}
 use Rattle.text_draft.specs.Draft.{Written, Grows, Adds}
 use Rattle.smi_hint.specs.declared.spec.Spec.{Spec}
-use Rattle.smi_hint.specs.Spec.{IsFirstSpec, AreSpecs, IsOctetHint, LastTakesOctets, takes_octets, longest}
+use Rattle.smi_hint.specs.Spec.{IsFirstSpec, AreSpecs, IsOctetHint, LastTakesOctets, takes_octets, most_octets}
 use Rattle.smi_hint.specs.Pieces.{ArePieces, IsCut, IsGroup, AreGroups, ShowsOctets, piece_text, pieces_text, mark_before, last_mark, body_of, specs_after}
 use Rattle.smi_hint.proofs.Growing.{grows_none, grows_both, adds_from}
 use Rattle.smi_hint.proofs.Specs.{same_spec, same_rest, Begins, begins}
@@ -174,7 +174,7 @@ pub record GroupsAhead (hint octets : List ℕ) (old : Written) (spec : Spec) (a
   pub specs : List Spec
   pub are_specs : AreSpecs ahead specs
   pub ends : LastTakesOctets (spec ∷ specs)
-  pub fits : spec.length ≤ longest spec.format
+  pub fits : spec.length ≤ most_octets spec.format
   pub whole : (new : Written) → AppendsGroups (spec ∷ specs) left now new → AppendsShown hint octets old new
 
 pieces_no_longer : (width : ℕ) (pieces : List (List ℕ)) (octets rest : List ℕ) → ArePieces width pieces octets rest → length rest ≤ length octets

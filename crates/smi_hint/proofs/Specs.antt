@@ -7,7 +7,7 @@ use Rattle.smi_hint.specs.declared.number.NumberForm.{NumberForm}
 use Rattle.smi_hint.specs.declared.number.NumberForm.TheVariants as form
 use Rattle.smi_hint.specs.declared.spec.OctetFormat.{OctetFormat}
 use Rattle.smi_hint.specs.declared.spec.OctetFormat.TheVariants as octet_format
-use Rattle.smi_hint.specs.Spec.{longest, after_star, at_letter, IsFirstSpec, AreSpecs, IsOctetHint, LastTakesOctets, takes_octets, may_end}
+use Rattle.smi_hint.specs.Spec.{most_octets, after_star, at_letter, IsFirstSpec, AreSpecs, IsOctetHint, LastTakesOctets, takes_octets, may_end}
 use Rattle.smi_hint.specs.declared.spec.Spec.{Spec}
 
 same_fields : (a b : Spec) → a.is_counted ≡ b.is_counted → a.length ≡ b.length → a.format ≡ b.format → a.separator ≡ b.separator
@@ -95,11 +95,11 @@ at_end text before h all hint = go (h.part all hint).0 (h.part all hint).1 (h.pa
     go [] are ends = ends
     go (spec ∷ more) are ends = absurd (are.1.digits refl)
 
-longest-le : (format : OctetFormat) → longest format ≤ 65535
-longest-le octet_format.Hexadecimal = omega arith
-longest-le octet_format.Decimal = omega arith
-longest-le octet_format.Octal = omega arith
-longest-le octet_format.Text = omega arith
+most_octets-le : (format : OctetFormat) → most_octets format ≤ 65535
+most_octets-le octet_format.Hexadecimal = omega arith
+most_octets-le octet_format.Decimal = omega arith
+most_octets-le octet_format.Octal = omega arith
+most_octets-le octet_format.Text = omega arith
 
 -- no number of a length that a spec may have
 pub no_length : (text after : List ℕ) → after ≡ after_star text → ((number : ℕ) (rest : List ℕ) → StartsWithNumber after number rest → 65535 < number)
@@ -107,7 +107,7 @@ pub no_length : (text after : List ℕ) → after ≡ after_star text → ((numb
 no_length text after e none spec rest h =
     let P : List ℕ → Type 0 = λ s. (number : ℕ) (rest : List ℕ) → StartsWithNumber s number rest → 65535 < number in
     let above = subst P e none spec.length (at_letter text) (record { some = h.digits; value = h.length_is; after = refl }) in
-    let le = longest-le spec.format in
+    let le = most_octets-le spec.format in
     absurd (omega (arith, above, le, h.fits))
 
 -- no text is a hint of integers and one of octets

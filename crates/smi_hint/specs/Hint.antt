@@ -28,6 +28,6 @@ Shows hint (value.Number n) text = ShowsNumber hint n text
 Shows hint (value.Octets octets) text = ShowsOctets hint octets.now text
 
 -- the hint is one for values like this one
-abbrev pub IsOf : List ℕ → HintValue → Type 0
-IsOf hint (value.Number _) = IsOfNumbers hint
-IsOf hint (value.Octets _) = IsOfOctets hint
+abbrev pub IsHintFor : List ℕ → HintValue → Type 0
+IsHintFor hint (value.Number _) = IsOfNumbers hint
+IsHintFor hint (value.Octets _) = IsOfOctets hint

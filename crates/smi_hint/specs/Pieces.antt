@@ -11,16 +11,17 @@ use Rattle.smi_hint.specs.declared.spec.OctetFormat.TheVariants as octet_format
 use Rattle.smi_hint.specs.declared.spec.Spec.{Spec}
 
 -- octets as one number, the most significant first
-abbrev pub number_of : List ℕ → ℕ
-number_of octets = number_from_digits 256 octets
+abbrev pub number_of_octets : List ℕ → ℕ
+number_of_octets octets = number_from_digits 256 octets
 
 -- one application: text unchanged, or one number; no octets give no text
 abbrev pub piece_text : OctetFormat → List ℕ → List ℕ
 piece_text format [] = []
 piece_text octet_format.Text (octet ∷ more) = octet ∷ more
-piece_text octet_format.Hexadecimal (octet ∷ more) = digits 16 false (number_of (octet ∷ more))
-piece_text octet_format.Decimal (octet ∷ more) = decimal (number_of (octet ∷ more))
-piece_text octet_format.Octal (octet ∷ more) = digits 8 false (number_of (octet ∷ more))
+piece_text octet_format.Hexadecimal (octet ∷ more) = digits 16 false
+    (number_of_octets (octet ∷ more))
+piece_text octet_format.Decimal (octet ∷ more) = decimal (number_of_octets (octet ∷ more))
+piece_text octet_format.Octal (octet ∷ more) = digits 8 false (number_of_octets (octet ∷ more))
 
 -- pieces of a width, or all that remains if fewer, are cut from the front while octets remain
 abbrev pub ArePieces : ℕ → List (List ℕ) → List ℕ → List ℕ → Type 0

@@ -18,9 +18,9 @@ format_of letter =
     (if (letter == 97) || (letter == 116) then Some octet_format.Text else None)))
 
 -- how many octets one application takes at most: of a number those of 64 bits
-abbrev pub longest : OctetFormat → ℕ
-longest octet_format.Text = 65535
-longest _ = 8
+abbrev pub most_octets : OctetFormat → ℕ
+most_octets octet_format.Text = 65535
+most_octets _ = 8
 
 -- a star at the front
 abbrev pub has_star : List ℕ → Bool
@@ -46,8 +46,8 @@ after_mark text = drop (length (option_to_list (mark_of text))) text
 abbrev pub at_letter : List ℕ → List ℕ
 at_letter text = after_digits (after_star text)
 
-abbrev pub after_letter : List ℕ → List ℕ
-after_letter text = drop 1 (at_letter text)
+abbrev pub after_format_letter : List ℕ → List ℕ
+after_format_letter text = drop 1 (at_letter text)
 
 -- a spec may have a terminator only if it has a star and a separator
 abbrev pub may_end : Spec → Bool
@@ -59,13 +59,13 @@ pub record IsFirstSpec (text : List ℕ) (spec : Spec) (rest : List ℕ) : Type 
   pub digits : front_digits (after_star text) ≢ []
   pub length_is : spec.length ≡ digits_value 10 (front_digits (after_star text))
   pub format : option_and_then format_of (slice_get (at_letter text) 0) ≡ Some spec.format
-  pub fits : spec.length ≤ longest spec.format
-  pub separator : spec.separator ≡ mark_of (after_letter text)
+  pub fits : spec.length ≤ most_octets spec.format
+  pub separator : spec.separator ≡ mark_of (after_format_letter text)
   pub terminator : spec.terminator
-      ≡ (if may_end spec then mark_of (after_mark (after_letter text)) else None)
+      ≡ (if may_end spec then mark_of (after_mark (after_format_letter text)) else None)
   pub after : rest
-      ≡ (if may_end spec then after_mark (after_mark (after_letter text))
-      else after_mark (after_letter text))
+      ≡ (if may_end spec then after_mark (after_mark (after_format_letter text))
+      else after_mark (after_format_letter text))
 
 -- the specs of a text, one after the other
 abbrev pub AreSpecs : List ℕ → List Spec → Type 0

@@ -43,7 +43,7 @@ impl<'a> Model for Hint<'a> {
 }
 
 impl<'a> Hint<'a> {
-    ghost use Rattle.smi_hint.specs.Hint.{IsOfNumbers, IsOfOctets, IsOf, Shows};
+    ghost use Rattle.smi_hint.specs.Hint.{IsOfNumbers, IsOfOctets, IsHintFor, Shows};
 
     /// Reads a hint, or returns None if the text isn't one.
     pub fn parse(text: &'a [u8]) -> Option<Hint<'a>>
@@ -73,7 +73,7 @@ impl<'a> Hint<'a> {
     /// Appends a value as the hint shows it. The value must be a number for a hint of integers, and
     /// octets for a hint of octets.
     pub fn append(&self, value: HintValue<'_>, draft: &mut Draft)
-        requires { IsOf self.now value }
+        requires { IsHintFor self.now value }
         ensures { (text : List ℕ) × Shows self.now value.entry text
             × Adds draft.old text draft.new }
     {

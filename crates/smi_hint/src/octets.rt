@@ -3,9 +3,10 @@
 ghost use Rattle.std.specs.Prelude.{◌≡◌, ◌≢◌, ◌<◌, ◌≤◌, List, ℕ, [], ◌++◌, length, drop, take};
 ghost use Rattle.std.specs.Prelude.{if◌then◌else◌, true};
 ghost use Rattle.text_draft.specs.Draft.{Adds};
-ghost use Rattle.smi_hint.specs.Spec.{IsFirstSpec, IsOctetHint, AreSpecs, longest, takes_octets};
+ghost use Rattle.smi_hint.specs.Spec.{IsFirstSpec, IsOctetHint, AreSpecs, most_octets};
+ghost use Rattle.smi_hint.specs.Spec.{takes_octets};
 ghost use Rattle.smi_hint.specs.Pieces.{IsCut, IsGroup, ShowsOctets, last_mark, mark_before};
-ghost use Rattle.smi_hint.specs.Pieces.{number_of, piece_text, pieces_text};
+ghost use Rattle.smi_hint.specs.Pieces.{number_of_octets, piece_text, pieces_text};
 ghost use Rattle.smi_hint.specs.declared.spec.Spec.{Spec};
 
 use crate::number::append_digits;
@@ -43,7 +44,7 @@ fn next_spec(text: &[u8]) -> (Spec, &[u8])
 /// Appends what one spec shows of the first octets, and returns the octets after them.
 fn append_group<'a>(draft: &mut Draft, spec: &Spec, octets: &'a [u8]) -> &'a [u8]
     requires some { octets.now ≢ [] }
-    requires fits { spec.now.length ≤ longest spec.now.format }
+    requires fits { spec.now.length ≤ most_octets spec.now.format }
     ensures { (pieces : List (List ℕ)) × IsGroup spec.now pieces octets.now result.now
         × Adds draft.old (pieces_text spec.now pieces result.now) draft.new }
 {
@@ -58,7 +59,7 @@ fn append_group<'a>(draft: &mut Draft, spec: &Spec, octets: &'a [u8]) -> &'a [u8
 /// Appends what a spec shows when it is applied a number of times, and returns the octets after
 /// that.
 fn append_pieces<'a>(draft: &mut Draft, spec: &Spec, times: usize, octets: &'a [u8]) -> &'a [u8]
-    requires { spec.now.length ≤ longest spec.now.format }
+    requires { spec.now.length ≤ most_octets spec.now.format }
     ensures { (pieces : List (List ℕ))
         × IsCut spec.now.length times pieces octets.now result.now
         × Adds draft.old (pieces_text spec.now pieces result.now) draft.new }
@@ -73,7 +74,7 @@ fn append_pieces<'a>(draft: &mut Draft, spec: &Spec, times: usize, octets: &'a [
 
 /// Appends the pieces of [`append_pieces`] one after the other.
 fn append_cut<'a>(draft: &mut Draft, spec: &Spec, times: usize, octets: &'a [u8]) -> &'a [u8]
-    requires { spec.now.length ≤ longest spec.now.format }
+    requires { spec.now.length ≤ most_octets spec.now.format }
     ensures { (pieces : List (List ℕ))
         × IsCut spec.now.length times pieces octets.now result.now
         × Adds draft.old (pieces_text spec.now pieces result.now) draft.new }
@@ -89,7 +90,7 @@ fn append_cut<'a>(draft: &mut Draft, spec: &Spec, times: usize, octets: &'a [u8]
 
 /// Appends one application of a spec with the mark after it, and returns the octets that remain.
 fn append_piece<'a>(draft: &mut Draft, spec: &Spec, is_last: bool, octets: &'a [u8]) -> &'a [u8]
-    requires { spec.now.length ≤ longest spec.now.format }
+    requires { spec.now.length ≤ most_octets spec.now.format }
     ensures rest { result.now ≡ drop spec.now.length octets.now }
     ensures adds { let mark = if is_last then last_mark spec.now else spec.now.separator in
         let piece = take spec.now.length octets.now in
@@ -118,7 +119,7 @@ fn append_mark(draft: &mut Draft, mark: Option<u8>, rest: &[u8])
 
 /// Appends the octets of one application.
 fn append_formatted(draft: &mut Draft, format: OctetFormat, piece: &[u8])
-    requires { length piece.now ≤ longest format }
+    requires { length piece.now ≤ most_octets format }
     ensures { Adds draft.old (piece_text format piece.now) draft.new }
 {
     if piece.is_empty() {
@@ -135,7 +136,7 @@ fn append_formatted(draft: &mut Draft, format: OctetFormat, piece: &[u8])
 /// Octets as one number, the most significant first.
 fn number_of(octets: &[u8]) -> u64
     requires { length octets.now ≤ 8 }
-    ensures { result ≡ number_of octets.now }
+    ensures { result ≡ number_of_octets octets.now }
 {
     let mut number: u64 = 0;
     'octets: for octet in octets {

@@ -2,7 +2,7 @@
 ghost use Rattle.std.specs.Prelude.{◌≡◌, ◌<◌, ◌≤◌, ◌+◌, ◌↔◌, List, ℕ, length, IfSome, IfNone};
 ghost use Rattle.std.specs.Prelude.{IsTrue, slice_get, option_and_then, option_to_list, drop};
 ghost use Rattle.smi_hint.specs.Spec.{IsFirstSpec, IsOctetHint, format_of, has_star, after_star};
-ghost use Rattle.smi_hint.specs.Spec.{mark_of, after_mark, longest, takes_octets};
+ghost use Rattle.smi_hint.specs.Spec.{mark_of, after_mark, most_octets, takes_octets};
 ghost use Rattle.smi_hint.specs.declared.spec.Spec.{Spec};
 
 use crate::number::front_number;
@@ -98,7 +98,7 @@ fn split_format(text: &[u8]) -> Option<(OctetFormat, &[u8])>
 
 /// How many octets one application takes at most.
 fn longest(format: OctetFormat) -> u32
-    ensures { result ≡ longest format }
+    ensures { result ≡ most_octets format }
 {
     match format {
         OctetFormat::Text => 65535,

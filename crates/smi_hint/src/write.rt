@@ -1,6 +1,6 @@
 //! Appending a value as a hint shows it.
 ghost use Rattle.std.specs.Prelude.{◌≡◌, List, ℕ, ◌++◌, OnOk, OnErr};
-ghost use Rattle.smi_hint.specs.Hint.{IsOf, Shows};
+ghost use Rattle.smi_hint.specs.Hint.{IsHintFor, Shows};
 ghost use Rattle.smi_hint.specs.Pieces.{ShowsOctets};
 
 use crate::hint::{Hint, HintValue};
@@ -15,7 +15,7 @@ pub fn write_hint(
     value: HintValue<'_>,
     out: &mut Vec<u8>,
 ) -> Result<(), AllocError>
-    requires { IsOf hint.now value }
+    requires { IsHintFor hint.now value }
     ensures ok { OnOk result ((text : List ℕ) × Shows hint.now value.entry text
         × (out.new.items ≡ out.old.items ++ text)) }
     ensures unchanged_on_error { OnErr result (out.new.items ≡ out.old.items) }

@@ -12,7 +12,7 @@ use Rattle.smi_index.specs.declared.part.Extent.TheVariants.{Fixed, Counted, Imp
 use Rattle.smi_index.specs.declared.part.IndexPart.{IndexPart}
 use Rattle.smi_index.specs.declared.part.IndexPart.TheVariants.{Number, Address, Text, Octets}
 use Rattle.smi_index.specs.declared.part.IndexPart.TheVariants.{Identifier, ImpliedIdentifier}
-use Rattle.smi_index.specs.Index.{IsInExtent, IsEncoding, IsRead, AreRead}
+use Rattle.smi_index.specs.Index.{IsInExtent, IsEncoding, ReadsValue, AreRead}
 use Rattle.smi_index.specs.Reading.{front_of, values_of}
 use Rattle.smi_index.specs.Pieces.{plain_number, is_quotable, is_shown_text, piece_numbers, IsPiece}
 use Rattle.smi_index.specs.Pieces.{dotted_text, shown_pieces, as_numbers, as_text, extent_numbers}
@@ -81,7 +81,7 @@ encoding_is (Octets extent) value here h = extent_here extent value here h.1
 encoding_is Identifier value here h = h
 encoding_is ImpliedIdentifier value here h = h.1
 
-read_whole : (part : IndexPart) (numbers value rest : List ℕ) → IsRead part numbers value rest → numbers ≡ value_numbers part value ++ rest
+read_whole : (part : IndexPart) (numbers value rest : List ℕ) → ReadsValue part numbers value rest → numbers ≡ value_numbers part value ++ rest
 read_whole part numbers value rest h = h.whole ∙ ap (λ (t : List ℕ). t ++ rest) (encoding_is part value h.here h.encoding)
 
 index_is : (parts : List IndexPart) (numbers : List ℕ) (values : List (List ℕ)) → AreRead parts numbers values

@@ -12,7 +12,7 @@ use Rattle.smi_index.specs.declared.part.IndexPart.{IndexPart}
 use Rattle.smi_index.specs.declared.part.IndexPart.TheVariants.{Number, Address, Text, Octets}
 use Rattle.smi_index.specs.declared.part.IndexPart.TheVariants.{Identifier, ImpliedIdentifier}
 use Rattle.smi_index.specs.Index.{is_octet, AreOctetNumbers, IsInExtent, IsEncoding, LeavesIn, LeavesAfter}
-use Rattle.smi_index.specs.Index.{IsRead, AreRead}
+use Rattle.smi_index.specs.Index.{ReadsValue, AreRead}
 use Rattle.smi_index.specs.Reading.{front_and_rest, counted, remaining, of_octets, in_extent, front_of}
 use Rattle.smi_index.specs.Reading.{values_of}
 
@@ -116,7 +116,7 @@ extent_only Implied value here rest h after =
     subst Q (sym h.1) (subst P (sym after) (remaining_only value h.0))
 
 -- a part
-pub part_found : (part : IndexPart) (numbers value rest : List ℕ) → front_of part numbers ≡ Some (value, rest) → IsRead part numbers value rest
+pub part_found : (part : IndexPart) (numbers value rest : List ℕ) → front_of part numbers ≡ Some (value, rest) → ReadsValue part numbers value rest
 part_found Number numbers value rest h =
     let e = cut_found 1 numbers value rest h in record { here = value; whole = e.0; encoding = (e.1, refl); after = tt }
 part_found Address numbers value rest h =
@@ -156,10 +156,10 @@ encoded_only ImpliedIdentifier value here rest h after =
     let Q : List ℕ → Type 0 = λ t. remaining (t ++ rest) ≡ Some (value, rest) in
     subst Q (sym h.1) (subst P (sym after) (remaining_only value h.0))
 
-pub part_only : (part : IndexPart) (numbers value rest : List ℕ) → IsRead part numbers value rest → front_of part numbers ≡ Some (value, rest)
+pub part_only : (part : IndexPart) (numbers value rest : List ℕ) → ReadsValue part numbers value rest → front_of part numbers ≡ Some (value, rest)
 part_only part numbers value rest h = ap (front_of part) h.whole ∙ encoded_only part value h.here rest h.encoding h.after
 
-pub one_front : (part : IndexPart) (numbers value rest other left : List ℕ) → IsRead part numbers value rest → IsRead part numbers other left
+pub one_front : (part : IndexPart) (numbers value rest other left : List ℕ) → ReadsValue part numbers value rest → ReadsValue part numbers other left
     → (value ≡ other) × (rest ≡ left)
 one_front part numbers value rest other left h g =
     let e : Some (value, rest) ≡ Some (other, left) = sym (part_only part numbers value rest h) ∙ part_only part numbers other left g in

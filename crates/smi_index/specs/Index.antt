@@ -47,7 +47,7 @@ LeavesAfter Identifier rest = Unit {0}
 LeavesAfter ImpliedIdentifier rest = rest ≡ []
 
 -- the numbers are the encoding of a value, and then the rest
-pub record IsRead (part : IndexPart) (numbers value rest : List ℕ) : Type 0 where
+pub record ReadsValue (part : IndexPart) (numbers value rest : List ℕ) : Type 0 where
   pub here : List ℕ
   pub whole : numbers ≡ here ++ rest
   pub encoding : IsEncoding part value here
@@ -59,4 +59,4 @@ AreRead [] numbers [] = numbers ≡ []
 AreRead [] numbers (value ∷ values) = ⊥
 AreRead (part ∷ parts) numbers [] = ⊥
 AreRead (part ∷ parts) numbers (value ∷ values) =
-    (rest : List ℕ) × IsRead part numbers value rest × AreRead parts rest values
+    (rest : List ℕ) × ReadsValue part numbers value rest × AreRead parts rest values

@@ -2,7 +2,7 @@
 ghost use Rattle.std.specs.Prelude.{◌≡◌, ℕ, ◌≤◌, ◌<◌, ◌↔◌, List, ◌++◌, length, Some, None};
 ghost use Rattle.std.specs.Prelude.{option_map, IfSome, IfNone, IsTrue};
 ghost use Rattle.std.specs.List.{list_all};
-ghost use Rattle.smi_index.specs.Index.{IsRead, is_octet};
+ghost use Rattle.smi_index.specs.Index.{ReadsValue, is_octet};
 ghost use Rattle.smi_index.specs.Reading.{front_and_rest, counted, remaining, of_octets, in_extent};
 ghost use Rattle.smi_index.specs.Reading.{front_of};
 
@@ -38,8 +38,9 @@ pub enum IndexPart {
 /// None if no encoding of a value stands there (RFC 2578, section 7.7).
 pub fn read_part<'a>(part: IndexPart, numbers: &'a [u32]) -> Option<(&'a [u32], &'a [u32])>
     ensures reads { option_map (λ r. (r.0.now, r.1.now)) result ≡ front_of part numbers.now }
-    ensures found { IfSome result (λ r. IsRead part numbers.now r.0.now r.1.now) }
-    ensures none { IfNone result ((value rest : List ℕ) → ¬ IsRead part numbers.now value rest) }
+    ensures found { IfSome result (λ r. ReadsValue part numbers.now r.0.now r.1.now) }
+    ensures none { IfNone result ((value rest : List ℕ)
+        → ¬ ReadsValue part numbers.now value rest) }
 {
     let read = front(part, numbers);
     read
@@ -66,7 +67,7 @@ fn front<'a>(part: IndexPart, numbers: &'a [u32]) -> Option<(&'a [u32], &'a [u32
 #[inline]
 pub fn one_reading()
     ensures { (part : IndexPart) (numbers value rest other left : List ℕ)
-        → IsRead part numbers value rest → IsRead part numbers other left
+        → ReadsValue part numbers value rest → ReadsValue part numbers other left
         → (value ≡ other) × (rest ≡ left) }
 {}
 

@@ -33,7 +33,7 @@ use Rattle.std.proofs.Common.{
 }
 use Rattle.std.proofs.lemmas.Bool.{false≢true}
 use Rattle.std.specs.List.{list_all}
-use Rattle.smi_lexer.specs.Reading.{GoesOn, IsLongestFront}
+use Rattle.smi_lexer.specs.Reading.{GoesOn, IsLongestPassing}
 
 pub and_true : (a b : Bool) → (a && b) ≡ true → (a ≡ true) × (b ≡ true)
 and_true true b h = (refl, h)
@@ -74,7 +74,7 @@ module _ (test : List ℕ → Bool) (text : List ℕ) where
   }
 
   pub scan_end : (n : ℕ) → test [] ≡ true → ((k : ℕ) → k < length text - n → test (take (suc k) (drop n text)) ≡ false)
-      → GoesOn test text n → IsLongestFront test text n
+      → GoesOn test text n → IsLongestPassing test text n
   scan_end n empty stop before = record {
     within = before.within;
     passes = ap (λ m. test (take m text)) (sym (add-zero n)) ∙ before.same 0 ∙ empty;
@@ -84,19 +84,19 @@ module _ (test : List ℕ → Bool) (text : List ℕ) where
   }
 
   -- the text ends
-  pub scan_all : (n : ℕ) → test [] ≡ true → length text ≤ n → GoesOn test text n → IsLongestFront test text n
+  pub scan_all : (n : ℕ) → test [] ≡ true → length text ≤ n → GoesOn test text n → IsLongestPassing test text n
   scan_all n empty all before = scan_end n empty (λ k h. absurd (omega arith)) before
 
   -- an octet with which nothing passes
   pub scan_stop : (n : ℕ) → n < length text → test [] ≡ true → ((k : ℕ) → test (get_or text n 0 ∷ take k (drop (n + 1) text)) ≡ false)
-      → GoesOn test text n → IsLongestFront test text n
+      → GoesOn test text n → IsLongestPassing test text n
   scan_stop n here empty stop before =
       scan_end n empty (λ k h. ap (λ s. test (take (suc k) s)) (rest_at text n here) ∙ stop k) before
 
 -- behind a front that makes no difference, the longest front of the rest by another test
 pub longest_behind : (test inner : List ℕ → Bool) (text : List ℕ) (n k : ℕ) → n ≤ length text
     → ((j : ℕ) → test (take (n + j) text) ≡ inner (take j (drop n text)))
-    → IsLongestFront inner (drop n text) k → IsLongestFront test text (n + k)
+    → IsLongestPassing inner (drop n text) k → IsLongestPassing test text (n + k)
 longest_behind test inner text n k within same front = record {
   within = omega (arith, length-drop n text, front.within);
   passes = same k ∙ front.passes;

@@ -44,7 +44,7 @@ use Rattle.smi_lexer.specs.declared.token.TokenKind.TheVariants.{Lower, Upper, N
 use Rattle.smi_lexer.specs.Lexeme.{gap, lexeme, begins, is_blank, is_hyphen, is_newline, is_binary_digit, is_word_rest}
 use Rattle.smi_lexer.specs.Reading.{
   HasNoGap,
-  IsLongestFront,
+  IsLongestPassing,
   IsPartFront,
   Skips,
   class_of,
@@ -80,7 +80,7 @@ newlines-newline c is = ap (λ d. newlines (d ∷ [])) is
 pub newlines-other : (c : ℕ) → (c ≡ 10 → ⊥) → newlines (c ∷ []) ≡ 0
 newlines-other c other = newlines-one c ∙ ap (λ b. cond b 1 0) (ne_eqb c 10 other)
 
-nothing_front : (cs : List ℕ) → IsLongestFront is_nothing cs 0
+nothing_front : (cs : List ℕ) → IsLongestPassing is_nothing cs 0
 nothing_front cs = record { within = omega arith; passes = refl; longest = more cs }
   where
     more : (cs : List ℕ) (m : ℕ) → 0 < m → m ≤ length cs → is_nothing (take m cs) ≡ false
@@ -136,14 +136,14 @@ comment_one_line : (s : List ℕ) → is_comment_rest s ≡ true → newlines s 
 comment_one_line [] h = refl
 comment_one_line (c ∷ cs) h = comment_octet c cs (is_hyphen c) refl (comment_one_line cs) h
 
-pub comment_part : (s : List ℕ) (n : ℕ) → IsLongestFront is_comment_rest s n → IsPartFront part_of (45 ∷ 45 ∷ s) gap (2 + n)
+pub comment_part : (s : List ℕ) (n : ℕ) → IsLongestPassing is_comment_rest s n → IsPartFront part_of (45 ∷ 45 ∷ s) gap (2 + n)
 comment_part s n front =
     let place : (n + 1) + 1 ≡ 2 + n = omega arith in
     subst (IsPartFront part_of (45 ∷ 45 ∷ s) gap) place
     (front_behind_first 45 (45 ∷ s) gap (n + 1) (front_cons hyphen_part is_comment_rest gap 45 s n (λ s. refl) front))
 
 pub skips_comment : (text : List ℕ) (n lines k : ℕ) → n + 1 < length text → get_or text n 0 ≡ 45 → get_or text (n + 1) 0 ≡ 45
-    → IsLongestFront is_comment_rest (drop (n + 2) text) k → Skips text n lines → Skips text (n + (2 + k)) (lines + 0)
+    → IsLongestPassing is_comment_rest (drop (n + 2) text) k → Skips text n lines → Skips text (n + (2 + k)) (lines + 0)
 skips_comment text n lines k here first second front skips =
     let rest : drop n text ≡ 45 ∷ 45 ∷ drop (n + 2) text = rest_of_two text n here ∙ ap (λ c. c ∷ get_or text (n + 1) 0 ∷ drop (n + 2) text) first
     ∙ ap (λ c. 45 ∷ c ∷ drop (n + 2) text) second in

@@ -72,7 +72,7 @@ use Rattle.smi_lexer.specs.Lexeme.{
   IsLiteral,
   IsNumber,
   IsPart,
-  IsRun,
+  IsRunOfHyphens,
   IsString,
   IsWord,
   Part,
@@ -193,19 +193,20 @@ begins_front b [] rest h = and-false b
 begins_front b (c ∷ cs) rest h = h
 
 -- a closing run begins with two hyphens
-run_is : (c : ℕ) (cs : List ℕ) → (is_hyphen c && begins is_hyphen cs) ≡ true → list_all is_hyphen cs ≡ true → IsRun (c ∷ cs)
+run_is : (c : ℕ) (cs : List ℕ) → (is_hyphen c && begins is_hyphen cs) ≡ true → list_all is_hyphen cs ≡ true → IsRunOfHyphens (c ∷ cs)
 run_is c [] two all = absurd (false≢true (sym (and-false (is_hyphen c)) ∙ two))
 run_is c (d ∷ ds) two all = (omega arith, ap (λ b. b && list_all is_hyphen (d ∷ ds)) (and_true (is_hyphen c) (is_hyphen d) two).0 ∙ all)
 
 remark_body : (s : List ℕ) → is_remark_rest s ≡ true
-    → (remark closing : List ℕ) × (s ≡ remark ++ closing) × (is_remark remark ≡ true) × ((closing ≡ []) ⊎ IsRun closing)
+    → (remark closing : List ℕ) × (s ≡ remark ++ closing) × (is_remark remark ≡ true) × ((closing ≡ []) ⊎ IsRunOfHyphens closing)
 remark_body [] h = ([], [], refl, refl, inl refl)
 remark_body (c ∷ cs) h = by_octet (is_newline c) refl (is_hyphen c && begins is_hyphen cs) refl h (remark_body cs)
   where
     by_octet : (a : Bool) → is_newline c ≡ a → (b : Bool) → (is_hyphen c && begins is_hyphen cs) ≡ b
         → cond a false (cond b (list_all is_hyphen cs) (is_remark_rest cs)) ≡ true
-        → (is_remark_rest cs ≡ true → (remark closing : List ℕ) × (cs ≡ remark ++ closing) × (is_remark remark ≡ true) × ((closing ≡ []) ⊎ IsRun closing))
-        → (remark closing : List ℕ) × (c ∷ cs ≡ remark ++ closing) × (is_remark remark ≡ true) × ((closing ≡ []) ⊎ IsRun closing)
+        → (is_remark_rest cs ≡ true → (remark closing : List ℕ) × (cs ≡ remark ++ closing) × (is_remark remark ≡ true)
+        × ((closing ≡ []) ⊎ IsRunOfHyphens closing))
+        → (remark closing : List ℕ) × (c ∷ cs ≡ remark ++ closing) × (is_remark remark ≡ true) × ((closing ≡ []) ⊎ IsRunOfHyphens closing)
     by_octet true newline b run h rest = absurd (false≢true h)
     by_octet false newline true run h rest = ([], c ∷ cs, refl, refl, inr (run_is c cs run h))
     by_octet false newline false run h rest =
@@ -431,7 +432,7 @@ lexeme_of_kind Dot s h = ap part_of h
 lexeme_of_kind Equals s h = ap part_of h
 
 -- comments: hyphens and nothing else may close a remark
-all_hyphens : (closing : List ℕ) → (closing ≡ []) ⊎ IsRun closing → list_all is_hyphen closing ≡ true
+all_hyphens : (closing : List ℕ) → (closing ≡ []) ⊎ IsRunOfHyphens closing → list_all is_hyphen closing ≡ true
 all_hyphens closing (inl none) = ap (list_all is_hyphen) none
 all_hyphens closing (inr run) = run.1
 

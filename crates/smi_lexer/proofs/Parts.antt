@@ -55,7 +55,7 @@ use Rattle.smi_lexer.specs.Reading.{
   HasNoLexeme,
   IsFirstPlace,
   IsLexemeFront,
-  IsLongestFront,
+  IsLongestPassing,
   IsPartFront,
   is_other,
   is_nothing,
@@ -75,7 +75,7 @@ use Rattle.smi_lexer.proofs.Fronts.{rest_at, and_true, longest_behind, goes_on_p
 
 -- a front that a test decides
 pub part_front : (test : List ℕ → Bool) (reading : List ℕ → Option Part) (part : Part) (text : List ℕ) (n : ℕ)
-    → ((s : List ℕ) → reading s ≡ then_some (test s) part) → IsLongestFront test text n → IsPartFront reading text part n
+    → ((s : List ℕ) → reading s ≡ then_some (test s) part) → IsLongestPassing test text n → IsPartFront reading text part n
 part_front test reading part text n read front = record {
   within = front.within;
   reads = read (take n text) ∙ ap (λ b. then_some b part) front.passes;
@@ -120,7 +120,7 @@ string_open (c ∷ cs) h =
 pub string_none : (text : List ℕ) → IsFirstPlace 34 text None → IsLexemeFront string_part text None
 string_none text h = no_front is_string_rest string_part (lexeme Text) text (λ s. refl) (λ m. string_open (take m text) (list_all-take (is_other 34) m text h))
 
-pub quote_alone : (s : List ℕ) → IsLongestFront is_string_rest (34 ∷ s) 1
+pub quote_alone : (s : List ℕ) → IsLongestPassing is_string_rest (34 ∷ s) 1
 quote_alone s = record { within = omega arith; passes = refl; longest = more s }
   where
     more : (s : List ℕ) (m : ℕ) → 1 < m → m ≤ length (34 ∷ s) → is_string_rest (take m (34 ∷ s)) ≡ false
@@ -134,7 +134,7 @@ string_some text i h =
     part_front is_string_rest string_part (lexeme Text) text (i + 1) (λ s. refl)
     (longest_behind is_string_rest is_string_rest text i 1 (omega (arith, h.0))
     (goes_on_past is_string_rest (is_other 34) string_step i text (omega (arith, h.0)) h.2)
-    (subst (λ s. IsLongestFront is_string_rest s 1) (sym (rest_at text i h.0 ∙ ap (λ c. c ∷ drop (i + 1) text) h.1)) (quote_alone (drop (i + 1) text))))
+    (subst (λ s. IsLongestPassing is_string_rest s 1) (sym (rest_at text i h.0 ∙ ap (λ c. c ∷ drop (i + 1) text) h.1)) (quote_alone (drop (i + 1) text))))
 
 -- ---- literals
 
@@ -287,7 +287,7 @@ literal_front text i h next found kind_is = by_kind found kind_is
 
 -- an octet before a front of octets that a test decides
 pub front_cons : (reading : List ℕ → Option Part) (test : List ℕ → Bool) (part : Part) (c : ℕ) (cs : List ℕ) (n : ℕ)
-    → ((s : List ℕ) → reading (c ∷ s) ≡ then_some (test s) part) → IsLongestFront test cs n → IsPartFront reading (c ∷ cs) part (n + 1)
+    → ((s : List ℕ) → reading (c ∷ s) ≡ then_some (test s) part) → IsLongestPassing test cs n → IsPartFront reading (c ∷ cs) part (n + 1)
 front_cons reading test part c cs n read front = rw (add-one n) (record {
   within = omega (arith, front.within);
   reads = read (take n cs) ∙ ap (λ b. then_some b part) front.passes;

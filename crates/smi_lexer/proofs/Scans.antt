@@ -37,7 +37,7 @@ use Rattle.std.proofs.lemmas.Bool.{eqb-true, ne_eqb, cases_lt, false≢true}
 use Rattle.std.proofs.lemmas.List.Folds.{list_all_more}
 use Rattle.std.proofs.lemmas.List.{drop_all}
 use Rattle.smi_lexer.specs.Lexeme.{begins, is_hyphen, is_word_octet, is_word_rest}
-use Rattle.smi_lexer.specs.Reading.{GoesOn, IsLongestFront, IsRemarkEnd, is_comment_rest, is_remark_rest}
+use Rattle.smi_lexer.specs.Reading.{GoesOn, IsLongestPassing, IsRemarkEnd, is_comment_rest, is_remark_rest}
 use Rattle.smi_lexer.proofs.Fronts.{rest_at, rest_of_two, scan_step, scan_two, scan_stop, longest_behind, goes_on_past}
 
 -- ---- small facts
@@ -65,7 +65,7 @@ pub passing_step : (p : ℕ → Bool) (text : List ℕ) (n : ℕ) → n < length
 passing_step p text n here pass = scan_step (list_all p) text n here (λ k. ap (λ b. b && list_all p (take k (drop (n + 1) text))) pass)
 
 pub passing_stop : (p : ℕ → Bool) (text : List ℕ) (n : ℕ) → n < length text → p (get_or text n 0) ≡ false
-    → GoesOn (list_all p) text n → IsLongestFront (list_all p) text n
+    → GoesOn (list_all p) text n → IsLongestPassing (list_all p) text n
 passing_stop p text n here fail = scan_stop (list_all p) text n here refl (λ k. ap (λ b. b && list_all p (take k (drop (n + 1) text))) fail)
 
 -- ---- a hyphen that nothing of this kind follows
@@ -100,7 +100,7 @@ hyphen_step text n here hyphen pass = scan_two is_word_rest text n here (λ k. b
 
 pub word_stop : (text : List ℕ) (n : ℕ) → n < length text → is_word_octet (get_or text n 0) ≡ false
     → (get_or text n 0 ≡ 45 → begins is_word_octet (drop (n + 1) text) ≡ false)
-    → GoesOn is_word_rest text n → IsLongestFront is_word_rest text n
+    → GoesOn is_word_rest text n → IsLongestPassing is_word_rest text n
 word_stop text n here fail next = scan_stop is_word_rest text n here refl (λ k. stops (get_or text n 0) k (drop (n + 1) text) fail next)
   where
     stops : (c : ℕ) (k : ℕ) (s : List ℕ) → is_word_octet c ≡ false → (c ≡ 45 → begins is_word_octet s ≡ false) → is_word_rest (c ∷ take k s) ≡ false
@@ -156,7 +156,7 @@ remark_begins (suc k) [] h = refl
 remark_begins (suc k) (c ∷ cs) h = ap (λ b. cond b (is_comment_rest (take k cs)) (is_remark_rest (c ∷ take k cs))) h
 
 -- no hyphen stands behind the longest run
-pub run_closed : (text : List ℕ) (n : ℕ) → IsLongestFront (list_all is_hyphen) text n → begins is_hyphen (drop n text) ≡ false
+pub run_closed : (text : List ℕ) (n : ℕ) → IsLongestPassing (list_all is_hyphen) text n → begins is_hyphen (drop n text) ≡ false
 run_closed text n front = closed (cases_lt n (length text))
   where
     closed : (n < length text) ⊎ (length text ≤ n) → begins is_hyphen (drop n text) ≡ false
@@ -169,14 +169,15 @@ run_closed text n front = closed (cases_lt n (length text))
             ∙ ap (λ b. b && is_hyphen (get_or text n 0)) front.passes ∙ h))
 
 -- a comment behind its first two hyphens: the opening run, the remark, the closing run
-pub comment_front : (text remark closing : List ℕ) (o n r : ℕ) → IsLongestFront (list_all is_hyphen) text o → remark ≡ drop o text
-    → n ≤ length remark → GoesOn is_remark_rest remark n → IsRemarkEnd (drop n remark) → closing ≡ drop n remark → IsLongestFront (list_all is_hyphen) closing r
-    → IsLongestFront is_comment_rest text (o + (n + r))
+pub comment_front : (text remark closing : List ℕ) (o n r : ℕ) → IsLongestPassing (list_all is_hyphen) text o → remark ≡ drop o text
+    → n ≤ length remark → GoesOn is_remark_rest remark n → IsRemarkEnd (drop n remark) → closing ≡ drop n remark
+    → IsLongestPassing (list_all is_hyphen) closing r
+    → IsLongestPassing is_comment_rest text (o + (n + r))
 comment_front text remark closing o n r opening remark_is within goes ends closing_is run =
     longest_behind is_comment_rest is_remark_rest text o (n + r) opening.within
     (λ k. goes_on_past is_comment_rest is_hyphen (λ c s h. ap (λ b. cond b (is_comment_rest s) (is_remark_rest
     (c ∷ s))) h) o text opening.within opening.passes k
     ∙ remark_begins k (drop o text) (run_closed text o opening))
-    (subst (λ s. IsLongestFront is_remark_rest s (n + r)) remark_is
+    (subst (λ s. IsLongestPassing is_remark_rest s (n + r)) remark_is
     (longest_behind is_remark_rest (list_all is_hyphen) remark n r within (λ k. goes.same k ∙ closing_run k (drop n remark) ends)
-    (subst (λ s. IsLongestFront (list_all is_hyphen) s r) closing_is run)))
+    (subst (λ s. IsLongestPassing (list_all is_hyphen) s r) closing_is run)))

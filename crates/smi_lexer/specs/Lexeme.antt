@@ -137,8 +137,8 @@ IsLexeme Equals text = text ≡ codes "="
 -- ---- gaps
 
 -- two or more hyphens
-abbrev pub IsRun : List ℕ → Type 0
-IsRun octets = (2 ≤ length octets) × IsTrue (list_all is_hyphen octets)
+abbrev pub IsRunOfHyphens : List ℕ → Type 0
+IsRunOfHyphens octets = (2 ≤ length octets) × IsTrue (list_all is_hyphen octets)
 
 -- octets of one line, no two hyphens in a row among them
 abbrev pub is_remark : List ℕ → Bool
@@ -149,7 +149,7 @@ is_remark (c ∷ cs) = not (is_newline c) && not (is_hyphen c && begins is_hyphe
 -- the longest comment ends before the line does.
 abbrev pub IsComment : List ℕ → Type 0
 IsComment text = (opening remark closing : List ℕ) × (text ≡ opening ++ remark ++ closing)
-    × IsRun opening × IsTrue (is_remark remark) × ((closing ≡ []) ⊎ IsRun closing)
+    × IsRunOfHyphens opening × IsTrue (is_remark remark) × ((closing ≡ []) ⊎ IsRunOfHyphens closing)
 
 -- a blank octet, or a comment
 abbrev pub IsGap : List ℕ → Type 0

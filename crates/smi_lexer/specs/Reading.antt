@@ -211,7 +211,7 @@ longest_front (suc n) text = part_or_shorter (suc n) (part_of (take (suc n) text
     (longest_front n text)
 
 -- the same for a test: the front of n octets passes it, and no longer one does
-pub record IsLongestFront (test : List ℕ → Bool) (text : List ℕ) (n : ℕ) : Type 0 where
+pub record IsLongestPassing (test : List ℕ → Bool) (text : List ℕ) (n : ℕ) : Type 0 where
   pub within : n ≤ length text
   pub passes : test (take n text) ≡ true
   pub longest : (m : ℕ) → n < m → m ≤ length text → test (take m text) ≡ false

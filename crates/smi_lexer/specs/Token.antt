@@ -31,7 +31,7 @@ tokens_of (Ok token ∷ items) = token ∷ tokens_of items
 tokens_of (Err fault ∷ items) = []
 
 -- the first fault, if there is one
-abbrev pub fault_of : List Item → Option LexError
-fault_of [] = None
-fault_of (Ok token ∷ items) = fault_of items
-fault_of (Err fault ∷ items) = Some fault
+abbrev pub first_fault : List Item → Option LexError
+first_fault [] = None
+first_fault (Ok token ∷ items) = first_fault items
+first_fault (Err fault ∷ items) = Some fault

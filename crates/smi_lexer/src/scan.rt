@@ -6,7 +6,7 @@ ghost use Rattle.std.specs.Char.{is_ascii_digit, is_ascii_hexdigit};
 ghost use Rattle.smi_lexer.specs.Lexeme.{IsLexeme, lexeme, is_binary_digit, is_blank, is_hyphen};
 ghost use Rattle.smi_lexer.specs.Lexeme.{is_open_string, is_word_octet, is_word_rest};
 ghost use Rattle.smi_lexer.specs.Reading.{GoesOn, HasNoGap, IsFirstPlace, IsLexemeFront};
-ghost use Rattle.smi_lexer.specs.Reading.{IsLongestFront, IsPartFront, IsRemarkEnd, Skips};
+ghost use Rattle.smi_lexer.specs.Reading.{IsLongestPassing, IsPartFront, IsRemarkEnd, Skips};
 ghost use Rattle.smi_lexer.specs.Reading.{is_comment_rest, is_remark_rest, hyphen_part, literal_of};
 ghost use Rattle.smi_lexer.specs.Reading.{literal_part, newlines, part_in, part_of, string_part};
 ghost use Rattle.smi_lexer.specs.Reading.{symbol_part};
@@ -28,7 +28,7 @@ fn is_word_octet(octet: u8) -> bool
 
 /// How many of the octets after a word's first letter belong to the word.
 fn word_rest_len(text: &[u8]) -> usize
-    ensures { IsLongestFront is_word_rest text.now result }
+    ensures { IsLongestPassing is_word_rest text.now result }
 {
     let mut n = 0;
     'octets: while n < text.len() {
@@ -45,7 +45,7 @@ fn word_rest_len(text: &[u8]) -> usize
 
 /// How many digits stand at the front.
 fn digits_len(text: &[u8]) -> usize
-    ensures { IsLongestFront (list_all is_ascii_digit) text.now result }
+    ensures { IsLongestPassing (list_all is_ascii_digit) text.now result }
 {
     let mut n = 0;
     'octets: while n < text.len() && text[n].is_ascii_digit() {
@@ -56,7 +56,7 @@ fn digits_len(text: &[u8]) -> usize
 
 /// How many hyphens stand at the front.
 fn hyphens_len(text: &[u8]) -> usize
-    ensures { IsLongestFront (list_all is_hyphen) text.now result }
+    ensures { IsLongestPassing (list_all is_hyphen) text.now result }
 {
     let mut n = 0;
     'octets: while n < text.len() && text[n] == b'-' {
@@ -84,7 +84,7 @@ fn remark_len(text: &[u8]) -> usize
 
 /// How many of the octets after the first two hyphens of a comment belong to it.
 fn comment_rest_len(text: &[u8]) -> usize
-    ensures { IsLongestFront is_comment_rest text.now result }
+    ensures { IsLongestPassing is_comment_rest text.now result }
 {
     let opening = hyphens_len(text);
     let (_, remark) = text.split_at(opening);

@@ -40,7 +40,7 @@ use Rattle.std.proofs.lemmas.List.{get_or-set_same, get_or-set_other, length-set
 use Rattle.std.proofs.lemmas.List.Elements.{Contains-push_cases}
 use Rattle.std.proofs.lemmas.Bool.{cases_lt, cases_eq}
 use borrow.Author.Tests.{leb-true, leb-false}
-use Rattle.smi_links.specs.Chain.{Origin, after, nowhere, next_of, HasEnd, ends, leads_on, Means, by_itself, after_another, here, further}
+use Rattle.smi_links.specs.Chain.{Origin, after, nowhere, next_of, HasEnd, ends, leads_on, HasIdentifier, by_itself, after_another, here, further}
 use Rattle.smi_links.specs.Basis.{origin_of, origin_at, ComesTo, EachComesTo}
 use Rattle.smi_links.specs.Resolving.{lengthened, followed_by, resolution_at, resolution_of}
 use Rattle.smi_links.specs.Order.{next_at, ComeAfterNext}
@@ -66,7 +66,7 @@ module _ (origin : ℕ → Origin ℕ) where
   below (ends e) h = cc
   below {p} {q} (leads_on {a} {b} e r) h = let same : b ≡ q = cc in subst (λ x. HasEnd (λ y. next_of (origin y)) x) same r
 
-  lengthened_comes : (p : ℕ) (o ns : List ℕ) → Means origin p (o ++ ns) → ComesTo origin p (lengthened o ns)
+  lengthened_comes : (p : ℕ) (o ns : List ℕ) → HasIdentifier origin p (o ++ ns) → ComesTo origin p (lengthened o ns)
   lengthened_comes p o ns m = by (nat_le (length o + length ns) 128) refl
     where
       by : (b : Bool) → nat_le (length o + length ns) 128 ≡ b → ComesTo origin p (cond b (R.Numbers (o ++ ns)) R.TooLong)

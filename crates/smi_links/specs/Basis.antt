@@ -7,7 +7,7 @@ use Rattle.smi_links.specs.Chain.{
   nowhere,
   next_of,
   HasEnd,
-  Means,
+  HasIdentifier,
   EndsNowhere,
 }
 use Rattle.smi_links.specs.declared.basis.Basis.{Basis}
@@ -27,10 +27,10 @@ origin_at bases p = slice_index_or (map origin_of bases) p nowhere
 -- a resolves to this: to its identifier, of at most 128 numbers (RFC 2578, section 3.5), or to
 -- none, for one of three reasons
 abbrev pub ComesTo : {A : Type 0} → (A → Origin A) → A → Resolution → Type 0
-ComesTo origin a (R.Numbers o) = Means origin a o × (length o ≤ 128)
+ComesTo origin a (R.Numbers o) = HasIdentifier origin a o × (length o ≤ 128)
 ComesTo origin a R.Cycle = HasEnd (λ b. next_of (origin b)) a → ⊥
 ComesTo origin a R.Unresolved = EndsNowhere origin a
-ComesTo origin a R.TooLong = (o : List ℕ) × Means origin a o × (128 < length o)
+ComesTo origin a R.TooLong = (o : List ℕ) × HasIdentifier origin a o × (128 < length o)
 
 -- what each place resolves to is right
 abbrev pub EachComesTo : (ℕ → Origin ℕ) → List Resolution → Type 0

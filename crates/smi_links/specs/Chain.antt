@@ -21,10 +21,10 @@ pub data HasEnd {A : Type 0} (next : A → Option A) : A → Type 0 where
   leads_on : {a b : A} → next a ≡ Some b → HasEnd next b → HasEnd next a
 
 -- a has the identifier o: the least relation of which these two hold
-pub data Means {A : Type 0} (origin : A → Origin A) : A → List ℕ → Type 0 where
-  by_itself : {a : A} {ns : List ℕ} → origin a ≡ numbers ns → Means origin a ns
+pub data HasIdentifier {A : Type 0} (origin : A → Origin A) : A → List ℕ → Type 0 where
+  by_itself : {a : A} {ns : List ℕ} → origin a ≡ numbers ns → HasIdentifier origin a ns
   after_another : {a b : A} {ns o : List ℕ}
-      → origin a ≡ after b ns → Means origin b o → Means origin a (o ++ ns)
+      → origin a ≡ after b ns → HasIdentifier origin b o → HasIdentifier origin a (o ++ ns)
 
 -- the chain from a ends at a thing that leads nowhere
 pub data EndsNowhere {A : Type 0} (origin : A → Origin A) : A → Type 0 where

@@ -8,9 +8,9 @@ pub data EndsAt {A : Type 0} (next : A → Option A) : A → A → Type 0 where
   further : {a b c : A} → next a ≡ Some b → EndsAt next b c → EndsAt next a c
 
 -- the chain from a ends at this thing, or it has no end
-abbrev pub Ends : {A : Type 0} → (A → Option A) → A → Option A → Type 0
-Ends next a (Some b) = EndsAt next a b
-Ends next a None = HasEnd next a → ⊥
+abbrev pub ChainEnds : {A : Type 0} → (A → Option A) → A → Option A → Type 0
+ChainEnds next a (Some b) = EndsAt next a b
+ChainEnds next a None = HasEnd next a → ⊥
 
 -- the end of the chain of a place; a chain ends where it leads beyond the last place
 abbrev pub end_at : List (Option ℕ) → ℕ → Option ℕ

@@ -1,7 +1,7 @@
 //! The places at which chains end.
 ghost use Rattle.std.specs.Prelude.{◌≡◌, ℕ, ◌<◌, length, replicate, IfOk, None};
 ghost use Rattle.smi_links.specs.Order.{next_at};
-ghost use Rattle.smi_links.specs.Ends.{Ends, end_at, end_of};
+ghost use Rattle.smi_links.specs.Ends.{ChainEnds, end_at, end_of};
 
 use crate::order::ordered;
 use std::alloc::{AllocError, Global};
@@ -14,7 +14,7 @@ use std::alloc::{AllocError, Global};
 pub fn ends(alloc: Global, next: &[Option<usize>]) -> Result<Vec<Option<usize>>, AllocError>
     ensures length { IfOk result (λ ends. length ends.items ≡ length next.now) }
     ensures each { IfOk result (λ ends. (p : ℕ) → p < length next.now
-        → Ends (next_at next.now) p (end_at ends.items p)) }
+        → ChainEnds (next_at next.now) p (end_at ends.items p)) }
 {
     let order = ordered(alloc, next)?;
     let mut ends = unknown(alloc, next.len())?;

@@ -1,6 +1,21 @@
 -- From places back to names: a chain of places is that of the names that have them.
 use Rattle.std.proofs.Common.{◌≡◌, ℕ, List, Some, None, refl, sym, ap, ◌∙◌, subst}
-use Rattle.smi_links.specs.Chain.{Origin, numbers, after, nowhere, next_of, HasEnd, ends, leads_on, Means, by_itself, after_another, EndsNowhere, here, further}
+use Rattle.smi_links.specs.Chain.{
+  Origin,
+  numbers,
+  after,
+  nowhere,
+  next_of,
+  HasEnd,
+  ends,
+  leads_on,
+  HasIdentifier,
+  by_itself,
+  after_another,
+  EndsNowhere,
+  here,
+  further,
+}
 use Rattle.smi_links.specs.Basis.{ComesTo}
 use Rattle.smi_links.specs.declared.basis.Resolution.{Resolution}
 use Rattle.smi_links.specs.declared.basis.Resolution.TheVariants as R
@@ -33,7 +48,7 @@ module _ {A : Type 0} (f : A → ℕ) where
   next_some nowhere b e = absurd (cc)
 
   module _ (origin : A → Origin A) (small : ℕ → Origin ℕ) (same : (a : A) → small (f a) ≡ map_origin f (origin a)) where
-    Means-back : {p : ℕ} {o : List ℕ} → Means small p o → (a : A) → p ≡ f a → Means origin a o
+    Means-back : {p : ℕ} {o : List ℕ} → HasIdentifier small p o → (a : A) → p ≡ f a → HasIdentifier origin a o
     Means-back {p} {o} (by_itself e) a is =
         by_itself (from_numbers (origin a) o (sym (same a) ∙ ap small (sym is) ∙ e))
     Means-back {p} {o} (after_another {b = b} {ns = ns} e m) a is =
@@ -57,12 +72,12 @@ module _ {A : Type 0} (f : A → ℕ) where
     ComesTo-back a R.TooLong c = (c.0, Means-back c.1 a refl, c.2)
 
 -- a thing has one identifier at most
-pub Means-one : {A : Type 0} (origin : A → Origin A) {a : A} {o : List ℕ} → Means origin a o → (p : List ℕ) → Means origin a p → o ≡ p
+pub Means-one : {A : Type 0} (origin : A → Origin A) {a : A} {o : List ℕ} → HasIdentifier origin a o → (p : List ℕ) → HasIdentifier origin a p → o ≡ p
 Means-one origin {a} {o} (by_itself e) p (by_itself f) = cc
 Means-one origin {a} {o} (by_itself e) p (after_another f n) = absurd (cc)
 Means-one origin {a} {o} (after_another e m) p (by_itself f) = absurd (cc)
 Means-one origin {a} {o} (after_another {b = b} {ns = ns} {o = o'} e m) p (after_another {b = c} {ns = ms} {o = p'} f n) =
     let is : b ≡ c = cc in
     let same : ns ≡ ms = cc in
-    let front = Means-one origin m p' (subst (λ x. Means origin x p') (sym is) n) in
+    let front = Means-one origin m p' (subst (λ x. HasIdentifier origin x p') (sym is) n) in
     rw (front, same) refl

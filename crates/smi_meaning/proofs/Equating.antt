@@ -45,11 +45,11 @@ use Rattle.smi_links.specs.declared.basis.Basis.{Basis}
 use Rattle.smi_links.specs.declared.basis.Resolution.{Resolution}
 use Rattle.smi_module.specs.Mark.{same_text}
 use Rattle.smi_module.specs.declared.tree.Module.{Module}
-use Rattle.smi_meaning.specs.Meaning.{Place, Decision, decision, origin, origin_by, origin_in, module_named}
+use Rattle.smi_meaning.specs.Meaning.{QualifiedName, Decision, decision, origin, origin_by, origin_in, module_named}
 use Rattle.smi_meaning.specs.Scopes.{content_of, decision_of, place_in, known, decided_as}
-use Rattle.smi_meaning.specs.Names.{Scope, map_origin}
+use Rattle.smi_meaning.specs.Names.{NamePlaces, map_origin}
 use Rattle.smi_meaning.specs.Directory.{place_by, place_of_entry, AreBases}
-use Rattle.smi_meaning.specs.Resolved.{IsDirectory, IsResolved}
+use Rattle.smi_meaning.specs.Resolved.{IsDirectory, AreResolutions}
 use Rattle.smi_meaning.specs.declared.entry.Entry.{Entry}
 use Rattle.smi_meaning.specs.declared.directory.Directory.{Directory}
 use Rattle.smi_meaning.proofs.Bridging.{ComesTo-back, from_nowhere}
@@ -110,7 +110,7 @@ find_true t (x ∷ ms) m e = by (t x) refl e (λ h. find_true t ms m h)
     by false h e ih = ih e
 
 -- what the place of a name has
-pub entry_at : (ms : List Module) (d : Directory) → IsDirectory ms d → (a : Place)
+pub entry_at : (ms : List Module) (d : Directory) → IsDirectory ms d → (a : QualifiedName)
     → option_map content_of (slice_get d.entries.items (place_by d a))
     ≡ option_and_then (λ m. decided_as m a.name (decision m a.name)) (module_named ms a.home)
 entry_at ms d dir a = by (place_in d.homes a.home) refl
@@ -121,7 +121,7 @@ entry_at ms d dir a = by (place_in d.homes a.home) refl
     t : Module → Bool
     t = λ m. same_text m.name.octets a.home
 
-    inner : (m : Module) (scope : Scope) → known d.entries.items scope a.name ≡ decided_as m a.name (decision m a.name)
+    inner : (m : Module) (scope : NamePlaces) → known d.entries.items scope a.name ≡ decided_as m a.name (decision m a.name)
         → (r : Option ℕ) → place_in scope a.name ≡ r
         → option_map content_of (slice_get d.entries.items (unwrap_or r (length d.entries.items))) ≡ decided_as m a.name (decision m a.name)
     inner m scope k None e = rw (get_past d.entries.items (length d.entries.items) (omega arith)) (rw e at k)
@@ -143,7 +143,7 @@ entry_at ms d dir a = by (place_in d.homes a.home) refl
         rw (s.1, found.2) (inner m s.0 (dir.named.each i m s.0 at s.1 a.name) (place_in s.0 a.name) refl)
 
 -- the origin of a place is that of its name
-pub origins : (ms : List Module) (d : Directory) → IsDirectory ms d → (bs : List Basis) → AreBases d d.entries.items bs → (a : Place)
+pub origins : (ms : List Module) (d : Directory) → IsDirectory ms d → (bs : List Basis) → AreBases d d.entries.items bs → (a : QualifiedName)
     → origin_at bs (place_by d a) ≡ map_origin (place_by d) (origin ms a)
 origins ms d dir bs are a = by (slice_get d.entries.items (place_by d a)) refl
   where
@@ -188,9 +188,9 @@ origins ms d dir bs are a = by (slice_get d.entries.items (place_by d a)) refl
         (rw e at (entry_at ms d dir a)) in
         origin_there bs (place_by d a) b.0 b.1 ∙ are.each (place_by d a) x b.0 e b.1 ∙ ap (map_origin (place_by d)) says
 
-pub IsResolved-all : (ms : List Module) (d : Directory) → IsDirectory ms d → (bs : List Basis) → AreBases d d.entries.items bs → (rs : List Resolution)
-    → length rs ≡ length bs → EachComesTo (origin_at bs) rs → IsResolved ms d rs
-IsResolved-all ms d dir bs are rs long each = record {
+pub AreResolutions-all : (ms : List Module) (d : Directory) → IsDirectory ms d → (bs : List Basis) → AreBases d d.entries.items bs → (rs : List Resolution)
+    → length rs ≡ length bs → EachComesTo (origin_at bs) rs → AreResolutions ms d rs
+AreResolutions-all ms d dir bs are rs long each = record {
   directory = dir;
   comes = λ a r e. ComesTo-back (place_by d) (origin ms) (origin_at bs) (origins ms d dir bs are) a r
       (rw (read rs (place_by d a) r e) at (each (place_by d a) r (within_get rs (place_by d a) r e)));
@@ -215,12 +215,12 @@ looked_up xs i (Some x) h = read xs i x.now h.0 (h.1 x.now)
     read (y ∷ ys) zero x l e = ap (λ z. Some z) (sym e)
     read (y ∷ ys) (suc i) x l e = read ys i x (omega arith) e
 
-pub resolved : (ms : List Module) (d : Directory) (rs : List Resolution) → IsResolved ms d rs → (a : Place) (r : Option (Bor Resolution))
+pub resolved : (ms : List Module) (d : Directory) (rs : List Resolution) → AreResolutions ms d rs → (a : QualifiedName) (r : Option (Bor Resolution))
     → slice_get rs (place_by d a) ≡ option_map (λ x. x.now) r → MatchOption r (origin ms a ≡ nowhere) (λ x. ComesTo (origin ms) a x.now)
 resolved ms d rs is a None e = is.leads_nowhere a e
 resolved ms d rs is a (Some x) e = is.comes a x.now e
 
-pub decided_at : (a : Place) (s : Option Entry) (r : Option Module)
+pub decided_at : (a : QualifiedName) (s : Option Entry) (r : Option Module)
     → option_map content_of s ≡ option_and_then (λ m. decided_as m a.name (decision m a.name)) r
     → option_map (λ e. decision_of e.decider) s ≡ option_and_then (λ m. decision m a.name) r
 decided_at a None None e = refl

@@ -35,7 +35,7 @@ use Rattle.std.specs.BTreeMap.{BTreeMap}
 use Rattle.smi_module.specs.Mark.{same_text}
 use Rattle.smi_module.specs.declared.tree.Module.{Module}
 use Rattle.smi_meaning.specs.Meaning.{Decision, or_else}
-use Rattle.smi_meaning.specs.Scopes.{Content, content_of, place_in, known, decided_as, IsWithin, IsOf, KnowsMore}
+use Rattle.smi_meaning.specs.Scopes.{Content, content_of, place_in, known, decided_as, IsWithin, IsEntryOf, KnowsMore}
 use Rattle.smi_meaning.specs.declared.entry.Entry.{Entry}
 
 pub same : (xs ys : List ℕ) → same_text xs ys ≡ true → xs ≡ ys
@@ -79,10 +79,10 @@ get_within [] i l = absurd (omega arith)
 get_within (x ∷ xs) zero l = (x, refl)
 get_within (x ∷ xs) (suc i) l = get_within xs i (omega arith)
 
-abbrev pub Scope : Type 0
-Scope = BTreeMap (Bor (List ℕ)) ℕ
+abbrev pub NamePlaces : Type 0
+NamePlaces = BTreeMap (Bor (List ℕ)) ℕ
 
-pub known-append : (old added : List Entry) (scope : Scope) (x : List ℕ) → IsWithin old scope → known (old ++ added) scope x ≡ known old scope x
+pub known-append : (old added : List Entry) (scope : NamePlaces) (x : List ℕ) → IsWithin old scope → known (old ++ added) scope x ≡ known old scope x
 known-append old added scope x within = by (place_in scope x) refl
   where
     by : (r : Option ℕ) → place_in scope x ≡ r
@@ -94,7 +94,7 @@ or_else_none : {A : Type 0} (o : Option A) → or_else o None ≡ o
 or_else_none None = refl
 or_else_none (Some x) = refl
 
-module _ (old : List Entry) (scope : Scope) (m : Module) (i : ℕ) (within : IsWithin old scope) where
+module _ (old : List Entry) (scope : NamePlaces) (m : Module) (i : ℕ) (within : IsWithin old scope) where
   -- the name is there
   pub KnowsMore-there : (name : List ℕ) (d : Decision) (p : ℕ) → place_in scope name ≡ Some p
       → KnowsMore old scope old scope m i (λ x. cond (same_text name x) (Some d) None)
@@ -102,7 +102,7 @@ module _ (old : List Entry) (scope : Scope) (m : Module) (i : ℕ) (within : IsW
     knows = λ x. by x (same_text name x) refl;
     added = [];
     grown = sym (append-nil old);
-    of = All-nil (IsOf m i);
+    of = All-nil (IsEntryOf m i);
     within = within;
   }
     where
@@ -115,14 +115,14 @@ module _ (old : List Entry) (scope : Scope) (m : Module) (i : ℕ) (within : IsW
           rw (at, found.1) refl
 
   -- the name is new
-  pub KnowsMore-entered : (new : Scope) (name : List ℕ) (e : Entry) → place_in scope name ≡ None
+  pub KnowsMore-entered : (new : NamePlaces) (name : List ℕ) (e : Entry) → place_in scope name ≡ None
       → ((x : List ℕ) → place_in new x ≡ cond (same_text name x) (Some (length old)) (place_in scope x)) → e.module.now ≡ m → e.name.now ≡ name
-      → IsOf m i e → KnowsMore old scope (old ++ e ∷ []) new m i (λ x. cond (same_text name x) (Some (content_of e).decided) None)
+      → IsEntryOf m i e → KnowsMore old scope (old ++ e ∷ []) new m i (λ x. cond (same_text name x) (Some (content_of e).decided) None)
   KnowsMore-entered new name e none places home named is_of = record {
     knows = λ x. by x (same_text name x) refl;
     added = e ∷ [];
     grown = refl;
-    of = All-push (IsOf m i) [] e (All-nil (IsOf m i)) is_of;
+    of = All-push (IsEntryOf m i) [] e (All-nil (IsEntryOf m i)) is_of;
     within = λ x p at. inside x p (same_text name x) (sym (places x) ∙ at);
   }
     where
@@ -147,17 +147,17 @@ module _ (old : List Entry) (scope : Scope) (m : Module) (i : ℕ) (within : IsW
     knows = λ x. sym (or_else_none (known old scope x));
     added = [];
     grown = sym (append-nil old);
-    of = All-nil (IsOf m i);
+    of = All-nil (IsEntryOf m i);
     within = within;
   }
 
-pub KnowsMore-then : (e0 e1 e2 : List Entry) (s0 s1 s2 : Scope) (m : Module) (i : ℕ) (f g : List ℕ → Option Decision)
+pub KnowsMore-then : (e0 e1 e2 : List Entry) (s0 s1 s2 : NamePlaces) (m : Module) (i : ℕ) (f g : List ℕ → Option Decision)
     → KnowsMore e0 s0 e1 s1 m i f → KnowsMore e1 s1 e2 s2 m i g → KnowsMore e0 s0 e2 s2 m i (λ x. or_else (f x) (g x))
 KnowsMore-then e0 e1 e2 s0 s1 s2 m i f g a b = record {
   knows = λ x. b.knows x ∙ rw (a.knows x) (both x (known e0 s0 x) (f x));
   added = a.added ++ b.added;
   grown = b.grown ∙ rw a.grown append_assoc_of;
-  of = All-append (IsOf m i) a.added b.added a.of b.of;
+  of = All-append (IsEntryOf m i) a.added b.added a.of b.of;
   within = b.within;
 }
   where
@@ -170,7 +170,7 @@ KnowsMore-then e0 e1 e2 s0 s1 s2 m i f g a b = record {
     append_assoc_of : (e0 ++ a.added) ++ b.added ≡ e0 ++ (a.added ++ b.added)
     append_assoc_of = append_assoc e0 a.added b.added
 
-pub KnowsMore-same : (e0 e1 : List Entry) (s0 s1 : Scope) (m : Module) (i : ℕ) (f g : List ℕ → Option Decision)
+pub KnowsMore-same : (e0 e1 : List Entry) (s0 s1 : NamePlaces) (m : Module) (i : ℕ) (f g : List ℕ → Option Decision)
     → KnowsMore e0 s0 e1 s1 m i f → ((x : List ℕ) → f x ≡ g x) → KnowsMore e0 s0 e1 s1 m i g
 KnowsMore-same e0 e1 s0 s1 m i f g a h = record {
   knows = λ x. a.knows x ∙ rw (h x) refl;

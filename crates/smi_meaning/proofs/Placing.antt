@@ -42,8 +42,8 @@ use Rattle.smi_module.specs.Lookup.{part_number}
 use Rattle.smi_module.specs.declared.tree.Module.{Module}
 use Rattle.smi_module.specs.declared.tree.Part.{Part}
 use Rattle.smi_meaning.specs.Meaning.{or_else, both, arcs, decision}
-use Rattle.smi_meaning.specs.Scopes.{place_in, known, decided_as, IsWithin, IsOf}
-use Rattle.smi_meaning.specs.Names.{Scope, module_place, IsSourced, AreEach}
+use Rattle.smi_meaning.specs.Scopes.{place_in, known, decided_as, IsWithin, IsEntryOf}
+use Rattle.smi_meaning.specs.Names.{NamePlaces, module_place, IsSourced, AreEach}
 use Rattle.smi_meaning.specs.declared.entry.Entry.{Entry}
 use Rattle.smi_meaning.proofs.Knowing.{same, known-append}
 
@@ -52,7 +52,7 @@ or_else_none None = refl
 or_else_none (Some x) = refl
 
 -- the name has a place already
-pub put_there : (scope : Scope) (name : List ℕ) (p place : ℕ) → place_in scope name ≡ Some p → (x : List ℕ)
+pub put_there : (scope : NamePlaces) (name : List ℕ) (p place : ℕ) → place_in scope name ≡ Some p → (x : List ℕ)
     → place_in scope x ≡ or_else (place_in scope x) (cond (same_text name x) (Some place) None)
 put_there scope name p place there x = by (same_text name x) refl
   where
@@ -61,7 +61,7 @@ put_there scope name p place there x = by (same_text name x) refl
     by true e = let at : place_in scope x ≡ Some p = rw (same name x e) at there in rw at refl
 
 -- the name gets a place
-pub put_new : (scope new : Scope) (name : List ℕ) (place : ℕ) → place_in scope name ≡ None
+pub put_new : (scope new : NamePlaces) (name : List ℕ) (place : ℕ) → place_in scope name ≡ None
     → ((x : List ℕ) → place_in new x ≡ cond (same_text name x) (Some place) (place_in scope x)) → (x : List ℕ)
     → place_in new x ≡ or_else (place_in scope x) (cond (same_text name x) (Some place) None)
 put_new scope new name place none places x = places x ∙ by (same_text name x) refl
@@ -131,7 +131,7 @@ get-more (z ∷ xs) zero x y e = e
 get-more (z ∷ xs) (suc j) x y e = get-more xs j x y e
 
 -- entries stay where they are, and those of the module more are of the last one
-AreSourced-more : (ms : List Module) (old added : List Entry) (m : Module) (i : ℕ) → i ≡ length ms → All (IsSourced ms) old → All (IsOf m i) added
+AreSourced-more : (ms : List Module) (old added : List Entry) (m : Module) (i : ℕ) → i ≡ length ms → All (IsSourced ms) old → All (IsEntryOf m i) added
     → All (IsSourced (ms ++ m ∷ [])) (old ++ added)
 AreSourced-more ms old added m i last sourced of =
     All-append (IsSourced (ms ++ m ∷ [])) old added (λ k d l. let h = sourced k d l in (
@@ -140,9 +140,9 @@ AreSourced-more ms old added m i last sourced of =
     )) (λ k d l. let h = of k d l in (rw (h.0, h.1, last) (get-push_at ms m), h.2))
 
 -- one module more
-pub AreEach-more : (ms : List Module) (scopes : List Scope) (old added : List Entry) (m : Module) (i : ℕ) (scope : Scope) → AreEach ms scopes old
+pub AreEach-more : (ms : List Module) (scopes : List NamePlaces) (old added : List Entry) (m : Module) (i : ℕ) (scope : NamePlaces) → AreEach ms scopes old
     → ((x : List ℕ) → known (old ++ added) scope x ≡ decided_as m x (decision m x)) → IsWithin (old ++ added) scope
-    → i ≡ length ms → All (IsOf m i) added → AreEach (ms ++ m ∷ []) (scopes ++ scope ∷ []) (old ++ added)
+    → i ≡ length ms → All (IsEntryOf m i) added → AreEach (ms ++ m ∷ []) (scopes ++ scope ∷ []) (old ++ added)
 AreEach-more ms scopes old added m at_end scope are knows within last of = record {
   long = length_push scopes scope ∙ rw are.long (sym (length_push ms m));
   each = λ i n s em es x. elim (cases_eq i (length ms)) [

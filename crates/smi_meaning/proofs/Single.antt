@@ -1,13 +1,13 @@
 -- A thing resolves in one way: its chain has no end, or ends at numbers or nowhere, and never two of these.
 use Rattle.std.proofs.Common.{◌≡◌, ℕ, ◌<◌, ◌≤◌, List, length, refl, sym, ap, subst, arith}
-use Rattle.smi_links.specs.Chain.{Origin, next_of, HasEnd, ends, leads_on, Means, by_itself, after_another, EndsNowhere, here, further}
+use Rattle.smi_links.specs.Chain.{Origin, next_of, HasEnd, ends, leads_on, HasIdentifier, by_itself, after_another, EndsNowhere, here, further}
 use Rattle.smi_links.specs.Basis.{ComesTo}
 use Rattle.smi_links.specs.declared.basis.Resolution.{Resolution}
 use Rattle.smi_links.specs.declared.basis.Resolution.TheVariants as R
 use Rattle.smi_meaning.proofs.Bridging.{Means-one}
 
 module _ {A : Type 0} (origin : A → Origin A) where
-  has_end : {a : A} {o : List ℕ} → Means origin a o → HasEnd (λ b. next_of (origin b)) a
+  has_end : {a : A} {o : List ℕ} → HasIdentifier origin a o → HasEnd (λ b. next_of (origin b)) a
   has_end (by_itself e) = ends (ap next_of e)
   has_end (after_another e m) = leads_on (ap next_of e) (has_end m)
 
@@ -15,14 +15,14 @@ module _ {A : Type 0} (origin : A → Origin A) where
   ends_there (here e) = ends (ap next_of e)
   ends_there (further e h) = leads_on (ap next_of e) (ends_there h)
 
-  not_both : {a : A} {o : List ℕ} → Means origin a o → EndsNowhere origin a → ⊥
+  not_both : {a : A} {o : List ℕ} → HasIdentifier origin a o → EndsNowhere origin a → ⊥
   not_both (by_itself e) (here f) = cc
   not_both (by_itself e) (further f h) = cc
   not_both (after_another e m) (here f) = cc
   not_both (after_another {b = b} e m) (further {b = c} f h) =
       let is : b ≡ c = cc in not_both m (subst (λ x. EndsNowhere origin x) (sym is) h)
 
-  not_longer : {a : A} {o p : List ℕ} → Means origin a o → length o ≤ 128 → Means origin a p → 128 < length p → ⊥
+  not_longer : {a : A} {o p : List ℕ} → HasIdentifier origin a o → length o ≤ 128 → HasIdentifier origin a p → 128 < length p → ⊥
   not_longer {a} {o} {p} m short n long = let same = ap (λ x. length x) (Means-one origin m p n) in omega arith
 
   pub one_resolution : (a : A) (r s : Resolution) → ComesTo origin a r → ComesTo origin a s → r ≡ s

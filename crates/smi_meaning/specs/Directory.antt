@@ -3,17 +3,17 @@ use Rattle.std.specs.Prelude.{◌≡◌, ℕ, List, length, Some}
 use Rattle.std.specs.List.{slice_get}
 use Rattle.smi_links.specs.Basis.{origin_of}
 use Rattle.smi_links.specs.declared.basis.Basis.{Basis}
-use Rattle.smi_meaning.specs.Meaning.{Place, origin_by}
+use Rattle.smi_meaning.specs.Meaning.{QualifiedName, origin_by}
 use Rattle.smi_meaning.specs.Scopes.{content_of}
-use Rattle.smi_meaning.specs.Names.{place_of, map_origin}
+use Rattle.smi_meaning.specs.Names.{place_of_name, map_origin}
 use Rattle.smi_meaning.specs.declared.entry.Entry.{Entry}
 use Rattle.smi_meaning.specs.declared.directory.Directory.{Directory}
 
-abbrev pub place_by : Directory → Place → ℕ
-place_by d p = place_of d.homes d.scopes.items (length d.entries.items) p
+abbrev pub place_by : Directory → QualifiedName → ℕ
+place_by d p = place_of_name d.homes d.scopes.items (length d.entries.items) p
 
 -- the name of an entry, in its module
-abbrev pub place_of_entry : Entry → Place
+abbrev pub place_of_entry : Entry → QualifiedName
 place_of_entry e = record { home = e.«module».now.name.octets; name = e.name.now }
 
 -- each entry's basis says what decides it, by places

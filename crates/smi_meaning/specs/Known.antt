@@ -2,7 +2,7 @@
 use Rattle.std.specs.Prelude.{List, Option}
 use Rattle.std.specs.Option.{option_and_then}
 use Rattle.smi_module.specs.declared.tree.Module.{Module}
-use Rattle.smi_meaning.specs.Meaning.{Place, decision, module_named}
+use Rattle.smi_meaning.specs.Meaning.{QualifiedName, decision, module_named}
 use Rattle.smi_meaning.specs.Scopes.{Content, decided_as}
 
 -- names by their places, with the modules that they are of
@@ -11,6 +11,6 @@ pub record KnownNames : Type 0 where
   pub names : List Content
 
 -- what decides what a name means, if it has a meaning
-abbrev pub content_at : List Module → Place → Option Content
-content_at ms a =
+abbrev pub content_named : List Module → QualifiedName → Option Content
+content_named ms a =
     option_and_then (λ m. decided_as m a.name (decision m a.name)) (module_named ms a.home)

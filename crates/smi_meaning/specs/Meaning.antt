@@ -19,11 +19,11 @@ use Rattle.smi_module.specs.declared.tree.Def.{Def}
 use Rattle.smi_module.specs.declared.tree.Import.{Import}
 use Rattle.smi_module.specs.declared.tree.Part.{Part}
 use Rattle.smi_module.specs.declared.tree.Part.TheVariants as P
-use Rattle.smi_module.specs.Lookup.{definition_of, import_of, identifier_of, part_number}
+use Rattle.smi_module.specs.Lookup.{definition_of, import_of, identifier_value_of, part_number}
 use Rattle.smi_module.specs.Mark.{same_text}
 
 -- a name in a module
-pub record Place : Type 0 where
+pub record QualifiedName : Type 0 where
   pub home : List ℕ
   pub name : List ℕ
 
@@ -60,47 +60,47 @@ abbrev pub arcs : List Part → Option (List ℕ)
 arcs [] = Some []
 arcs (p ∷ ps) = both (part_number p) (arcs ps)
 
-abbrev pub by_itself : Option (List ℕ) → Origin Place
+abbrev pub by_itself : Option (List ℕ) → Origin QualifiedName
 by_itself None = nowhere
 by_itself (Some ns) = numbers ns
 
-abbrev pub after_name : Place → Option (List ℕ) → Origin Place
-after_name place None = nowhere
-after_name place (Some ns) = after place ns
+abbrev pub after_name : QualifiedName → Option (List ℕ) → Origin QualifiedName
+after_name a None = nowhere
+after_name a (Some ns) = after a ns
 
 -- an identifier value: a name in the first place has its meaning, a number or a name with a number
 -- stands for the number, and a name alone in a later place has none
-abbrev pub origin_of_parts : List ℕ → List Part → Origin Place
+abbrev pub origin_of_parts : List ℕ → List Part → Origin QualifiedName
 origin_of_parts home [] = nowhere
 origin_of_parts home (P.Name x ∷ rest) = after_name (record { home = home; name = x.octets })
     (arcs rest)
 origin_of_parts home (P.Number n ∷ rest) = by_itself (arcs (P.Number n ∷ rest))
 origin_of_parts home (P.NamedNumber n ∷ rest) = by_itself (arcs (P.NamedNumber n ∷ rest))
 
-abbrev pub origin_of_value : List ℕ → Option (List Part) → Origin Place
+abbrev pub origin_of_value : List ℕ → Option (List Part) → Origin QualifiedName
 origin_of_value home None = nowhere
 origin_of_value home (Some parts) = origin_of_parts home parts
 
 -- a definition gives its value; an imported name means what it means in the module after FROM
-abbrev pub origin_by : Place → Option Decision → Origin Place
-origin_by place None = nowhere
-origin_by place (Some (defined d)) = origin_of_value place.home (identifier_of d.kind)
-origin_by place (Some (imported i)) = after
-    (record { home = i.source.octets; name = place.name }) []
-origin_by place (Some (root n)) = numbers (n ∷ [])
+abbrev pub origin_by : QualifiedName → Option Decision → Origin QualifiedName
+origin_by a None = nowhere
+origin_by a (Some (defined d)) = origin_of_value a.home (identifier_value_of d.kind)
+origin_by a (Some (imported i)) = after
+    (record { home = i.source.octets; name = a.name }) []
+origin_by a (Some (root n)) = numbers (n ∷ [])
 
 -- the first loaded module of a name
 abbrev pub module_named : List Module → List ℕ → Option Module
 module_named ms x = find (λ m. same_text m.name.octets x) ms
 
 -- one step: in a module that isn't loaded no name has a meaning
-abbrev pub origin_in : Place → Option Module → Origin Place
-origin_in place None = nowhere
-origin_in place (Some m) = origin_by place (decision m place.name)
+abbrev pub origin_in : QualifiedName → Option Module → Origin QualifiedName
+origin_in a None = nowhere
+origin_in a (Some m) = origin_by a (decision m a.name)
 
-abbrev pub origin : List Module → Place → Origin Place
-origin ms place = origin_in place (module_named ms place.home)
+abbrev pub origin : List Module → QualifiedName → Origin QualifiedName
+origin ms a = origin_in a (module_named ms a.home)
 
--- the name at the place has the identifier
-abbrev pub Means : List Module → Place → List ℕ → Type 0
-Means ms place o = chain.Means (origin ms) place o
+-- the name has the identifier
+abbrev pub Means : List Module → QualifiedName → List ℕ → Type 0
+Means ms a o = chain.HasIdentifier (origin ms) a o

@@ -7,16 +7,17 @@ use Rattle.std.specs.BTreeMap.{BTreeMap}
 use Rattle.smi_links.specs.Chain.{Origin, numbers, after, nowhere}
 use Rattle.smi_module.specs.Mark.{same_text}
 use Rattle.smi_module.specs.declared.tree.Module.{Module}
-use Rattle.smi_meaning.specs.Meaning.{Place, decision}
+use Rattle.smi_meaning.specs.Meaning.{QualifiedName, decision}
 use Rattle.smi_meaning.specs.Scopes.{place_in, known, decided_as, IsWithin, IsDefinedAt}
 use Rattle.smi_meaning.specs.declared.entry.Entry.{Entry}
 
-abbrev pub Scope : Type 0
-Scope = BTreeMap (Bor (List ℕ)) ℕ
+-- names with their places
+abbrev pub NamePlaces : Type 0
+NamePlaces = BTreeMap (Bor (List ℕ)) ℕ
 
 -- the place of a name of a module; a name without a meaning has the place past the last
-abbrev pub place_of : Scope → List Scope → ℕ → Place → ℕ
-place_of homes scopes beyond p =
+abbrev pub place_of_name : NamePlaces → List NamePlaces → ℕ → QualifiedName → ℕ
+place_of_name homes scopes beyond p =
     unwrap_or (option_and_then (λ i. option_and_then (λ scope. place_in scope p.name)
     (slice_get scopes i))
     (place_in homes p.home)) beyond
@@ -35,10 +36,12 @@ abbrev pub IsSourced : List Module → Entry → Type 0
 IsSourced ms e = (slice_get ms e.source.0 ≡ Some e.«module».now) × IsDefinedAt e
 
 -- each name with a meaning in a module has an entry
-pub record AreEach (ms : List Module) (scopes : List Scope) (entries : List Entry) : Type 0 where
+pub record AreEach (ms : List Module) (scopes : List NamePlaces) (entries : List Entry)
+    : Type 0 where
   pub long : length scopes ≡ length ms
-  pub each : (i : ℕ) (m : Module) (scope : Scope) → slice_get ms i ≡ Some m
+  pub each : (i : ℕ) (m : Module) (scope : NamePlaces) → slice_get ms i ≡ Some m
       → slice_get scopes i ≡ Some scope
       → (x : List ℕ) → known entries scope x ≡ decided_as m x (decision m x)
-  pub within : (i : ℕ) (scope : Scope) → slice_get scopes i ≡ Some scope → IsWithin entries scope
+  pub within : (i : ℕ) (scope : NamePlaces) → slice_get scopes i ≡ Some scope
+      → IsWithin entries scope
   pub sourced : All (IsSourced ms) entries

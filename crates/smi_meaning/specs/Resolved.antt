@@ -5,7 +5,7 @@ use Rattle.smi_links.specs.Chain.{nowhere}
 use Rattle.smi_links.specs.Basis.{ComesTo}
 use Rattle.smi_links.specs.declared.basis.Resolution.{Resolution}
 use Rattle.smi_module.specs.declared.tree.Module.{Module}
-use Rattle.smi_meaning.specs.Meaning.{Place, origin}
+use Rattle.smi_meaning.specs.Meaning.{QualifiedName, origin}
 use Rattle.smi_meaning.specs.Scopes.{place_in}
 use Rattle.smi_meaning.specs.Names.{AreEach, module_place}
 use Rattle.smi_meaning.specs.Directory.{place_by}
@@ -17,8 +17,9 @@ pub record IsDirectory (ms : List Module) (d : Directory) : Type 0 where
   pub named : AreEach ms d.scopes.items d.entries.items
 
 -- and each name resolves to what its place has
-pub record IsResolved (ms : List Module) (d : Directory) (rs : List Resolution) : Type 0 where
+pub record AreResolutions (ms : List Module) (d : Directory) (rs : List Resolution) : Type 0 where
   pub directory : IsDirectory ms d
-  pub comes : (a : Place) (r : Resolution) → slice_get rs (place_by d a) ≡ Some r
+  pub comes : (a : QualifiedName) (r : Resolution) → slice_get rs (place_by d a) ≡ Some r
       → ComesTo (origin ms) a r
-  pub leads_nowhere : (a : Place) → slice_get rs (place_by d a) ≡ None → origin ms a ≡ nowhere
+  pub leads_nowhere : (a : QualifiedName) → slice_get rs (place_by d a) ≡ None
+      → origin ms a ≡ nowhere

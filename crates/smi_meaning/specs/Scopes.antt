@@ -48,8 +48,8 @@ IsDefinedAt e = (d : Def) → decision_of e.decider ≡ defined d
     → slice_get e.«module».now.defs e.source.1 ≡ Some d
 
 -- an entry is one of the module at a place
-abbrev pub IsOf : Module → ℕ → Entry → Type 0
-IsOf m i e = (e.«module».now ≡ m) × (e.source.0 ≡ i) × IsDefinedAt e
+abbrev pub IsEntryOf : Module → ℕ → Entry → Type 0
+IsEntryOf m i e = (e.«module».now ≡ m) × (e.source.0 ≡ i) × IsDefinedAt e
 
 -- the scope knows more: where it knew nothing, it has what `more` decides
 pub record KnowsMore (old : List Entry) (before : BTreeMap (Bor (List ℕ)) ℕ) (new : List Entry)
@@ -59,5 +59,5 @@ pub record KnowsMore (old : List Entry) (before : BTreeMap (Bor (List ℕ)) ℕ)
       → known new scope x ≡ or_else (known old before x) (decided_as m x (more x))
   pub added : List Entry
   pub grown : new ≡ old ++ added
-  pub of : All (IsOf m i) added
+  pub of : All (IsEntryOf m i) added
   pub within : IsWithin new scope

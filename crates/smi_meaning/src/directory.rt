@@ -9,7 +9,7 @@ ghost use Rattle.smi_meaning.specs.Names.{AreEach, module_place, map_origin};
 ghost use Rattle.smi_meaning.specs.Directory.{place_by, place_of_entry, AreBases};
 
 use crate::entry::{Decider, Entry};
-use crate::scope::{Scope, scope};
+use crate::scope::{NamePlaces, scope};
 use smi_links::Basis;
 use smi_module::{Module, Part};
 use std::alloc::{AllocError, Global};
@@ -18,13 +18,13 @@ use std::collections::BTreeMap;
 /// The modules and their names, each with its place.
 #[derive(Drop)]
 pub(crate) struct Directory<'a> {
-    pub(crate) homes: Scope<'a>,
-    pub(crate) scopes: Vec<Scope<'a>>,
+    pub(crate) homes: NamePlaces<'a>,
+    pub(crate) scopes: Vec<NamePlaces<'a>>,
     pub(crate) entries: Vec<Entry<'a>>,
 }
 
 /// Gives a name a place, unless it has one.
-fn put_first<'a>(scope: &mut Scope<'a>, name: &'a [u8], place: usize) -> Result<(), AllocError>
+fn put_first<'a>(scope: &mut NamePlaces<'a>, name: &'a [u8], place: usize) -> Result<(), AllocError>
     ensures put { OnOk result ((x : List ℕ) → place_in scope.new x
         ≡ or_else (place_in scope.old x) (if same_text name.now x then Some place else None)) }
 {
@@ -36,14 +36,14 @@ fn put_first<'a>(scope: &mut Scope<'a>, name: &'a [u8], place: usize) -> Result<
 }
 
 /// The place of a name.
-pub(crate) fn find<'b>(scope: &Scope<'b>, name: &'b [u8]) -> Option<usize>
+pub(crate) fn find<'b>(scope: &NamePlaces<'b>, name: &'b [u8]) -> Option<usize>
     ensures { result ≡ place_in scope.now name.now }
 {
     scope.get(&name).copied()
 }
 
 /// The place of each module, by its name: the first of those that have it.
-pub(crate) fn homes<'a>(alloc: Global, modules: &'a [Module]) -> Result<Scope<'a>, AllocError>
+pub(crate) fn homes<'a>(alloc: Global, modules: &'a [Module]) -> Result<NamePlaces<'a>, AllocError>
     ensures { IfOk result (λ homes. (x : List ℕ) → place_in homes x ≡ module_place modules.now x) }
 {
     let mut homes = BTreeMap::new(alloc);
@@ -58,7 +58,7 @@ pub(crate) fn scopes<'a>(
     alloc: Global,
     entries: &mut Vec<Entry<'a>>,
     modules: &'a [Module],
-) -> Result<Vec<Scope<'a>>, AllocError>
+) -> Result<Vec<NamePlaces<'a>>, AllocError>
     requires { entries.old.items ≡ [] }
     ensures { IfOk result (λ scopes. AreEach modules.now scopes.items entries.new.items) }
 {

@@ -3,7 +3,7 @@ ghost use Rattle.std.specs.Prelude.{◌≡◌, Some, length, option_map};
 ghost use Rattle.std.specs.List.{slice_get};
 ghost use Rattle.smi_meaning.specs.Scopes.{content_of};
 ghost use Rattle.smi_meaning.specs.Names.{IsSourced};
-ghost use Rattle.smi_meaning.specs.Known.{content_at};
+ghost use Rattle.smi_meaning.specs.Known.{content_named};
 ghost use Rattle.smi_meaning.specs.declared.entry.Entry.{Entry};
 
 use crate::directory::Directory;
@@ -48,7 +48,7 @@ impl<'s, 'a> Entries<'s, 'a> {
     /// there.
     pub fn place(&self, home: &'a [u8], name: &'a [u8]) -> usize
         ensures { slice_get self.now.names result
-            ≡ content_at self.now.modules (record { home = home.now; name = name.now }) }
+            ≡ content_named self.now.modules (record { home = home.now; name = name.now }) }
     {
         self.directory.place(home, name)
     }

@@ -3,17 +3,17 @@ ghost use Rattle.std.specs.Prelude.{◌≡◌, ℕ, List};
 ghost use Rattle.smi_links.specs.Basis.{ComesTo};
 ghost use Rattle.smi_links.specs.declared.basis.Resolution.{Resolution};
 ghost use Rattle.smi_module.specs.declared.tree.Module.{Module};
-ghost use Rattle.smi_meaning.specs.Meaning.{Means, Place, origin};
+ghost use Rattle.smi_meaning.specs.Meaning.{Means, QualifiedName, origin};
 
 /// A name has at most one identifier, whatever the order of modules and definitions.
 pub fn one_meaning()
-    ensures { (modules : List Module) (place : Place) (o p : List ℕ)
-        → Means modules place o → Means modules place p → o ≡ p }
+    ensures { (modules : List Module) (a : QualifiedName) (o p : List ℕ)
+        → Means modules a o → Means modules a p → o ≡ p }
 {}
 
 /// A name resolves to one identifier, or to none for one reason.
 pub fn one_resolution()
-    ensures { (modules : List Module) (place : Place) (one other : Resolution)
-        → ComesTo (origin modules) place one → ComesTo (origin modules) place other
+    ensures { (modules : List Module) (a : QualifiedName) (one other : Resolution)
+        → ComesTo (origin modules) a one → ComesTo (origin modules) a other
         → one ≡ other }
 {}

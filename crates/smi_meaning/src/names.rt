@@ -3,7 +3,7 @@ ghost use Rattle.std.specs.Prelude.{◌≡◌, IfOk, MatchOption, is_some, optio
 ghost use Rattle.std.specs.Option.{option_and_then};
 ghost use Rattle.smi_links.specs.Chain.{nowhere};
 ghost use Rattle.smi_links.specs.Basis.{ComesTo};
-ghost use Rattle.smi_meaning.specs.Meaning.{origin, module_named, decision, Place};
+ghost use Rattle.smi_meaning.specs.Meaning.{origin, module_named, decision, QualifiedName};
 ghost use Rattle.smi_meaning.specs.Scopes.{decision_of};
 ghost use Rattle.smi_meaning.specs.Names.{module_place};
 
@@ -28,13 +28,13 @@ pub struct Names<'a> {
 impl<'a> Model for Names<'a> {
     ghost use Rattle.std.specs.Prelude.{List};
     ghost use Rattle.smi_module.specs.declared.tree.Module.{Module};
-    ghost use Rattle.smi_meaning.specs.Resolved.{IsResolved};
+    ghost use Rattle.smi_meaning.specs.Resolved.{AreResolutions};
 
     ghost Value = { List Module };
 
     ghost view = { λ s. s.modules.now };
 
-    ghost invariant = { λ s. IsResolved s.modules.now s.directory s.resolutions.items };
+    ghost invariant = { λ s. AreResolutions s.modules.now s.directory s.resolutions.items };
 }
 
 impl<'a> Names<'a> {
@@ -60,9 +60,9 @@ impl<'a> Names<'a> {
 
     /// What a name resolves to in the module of a name; None if it has no meaning there.
     pub fn resolution(&self, home: &'a [u8], name: &'a [u8]) -> Option<&Resolution>
-        ensures { let place : Place = record { home = home.now; name = name.now } in
-            MatchOption result (origin self.now place ≡ nowhere)
-            (λ resolution. ComesTo (origin self.now) place resolution.now) }
+        ensures { let qualified : QualifiedName = record { home = home.now; name = name.now } in
+            MatchOption result (origin self.now qualified ≡ nowhere)
+            (λ resolution. ComesTo (origin self.now) qualified resolution.now) }
     {
         let place = self.directory.place(home, name);
         self.resolutions.get(place)

@@ -7,7 +7,7 @@ ghost use Rattle.smi_module.specs.Mark.{same_text};
 ghost use Rattle.smi_meaning.specs.Meaning.{defined, imported, root, root_arc, decision};
 ghost use Rattle.smi_meaning.specs.declared.entry.Entry.{Entry};
 ghost use Rattle.smi_meaning.specs.Scopes.{decision_of, decided_as, known, IsWithin, IsDefinedAt};
-ghost use Rattle.smi_meaning.specs.Scopes.{IsOf, KnowsMore};
+ghost use Rattle.smi_meaning.specs.Scopes.{IsEntryOf, KnowsMore};
 
 use crate::entry::{Decider, Entry};
 use smi_module::{Import, Module};
@@ -15,12 +15,12 @@ use std::alloc::{AllocError, Global};
 use std::collections::BTreeMap;
 
 /// The names of a module, each with its place among the entries.
-pub(crate) type Scope<'a> = BTreeMap<&'a [u8], usize>;
+pub(crate) type NamePlaces<'a> = BTreeMap<&'a [u8], usize>;
 
 /// Enters a name, unless it is there.
 fn enter<'a>(
     entries: &mut Vec<Entry<'a>>,
-    scope: &mut Scope<'a>,
+    scope: &mut NamePlaces<'a>,
     entry: Entry<'a>,
 ) -> Result<(), AllocError>
     requires within { IsWithin entries.old.items scope.old }
@@ -42,7 +42,7 @@ fn enter<'a>(
 /// Enters the names that definitions define.
 fn enter_definitions<'a>(
     entries: &mut Vec<Entry<'a>>,
-    scope: &mut Scope<'a>,
+    scope: &mut NamePlaces<'a>,
     module: &'a Module,
     place: usize,
 ) -> Result<(), AllocError>
@@ -67,7 +67,7 @@ fn enter_definitions<'a>(
 /// Enters the symbols of a FROM clause.
 fn enter_symbols<'a>(
     entries: &mut Vec<Entry<'a>>,
-    scope: &mut Scope<'a>,
+    scope: &mut NamePlaces<'a>,
     module: &'a Module,
     place: usize,
     import: &'a Import,
@@ -93,7 +93,7 @@ fn enter_symbols<'a>(
 /// Enters the symbols of FROM clauses.
 fn enter_imports<'a>(
     entries: &mut Vec<Entry<'a>>,
-    scope: &mut Scope<'a>,
+    scope: &mut NamePlaces<'a>,
     module: &'a Module,
     place: usize,
     imports: &'a [Import],
@@ -126,7 +126,7 @@ fn root_entry<'a>(module: &'a Module, place: usize, name: &'a [u8], number: u32)
 /// Enters the roots (RFC 2578, section 2).
 fn enter_roots<'a>(
     entries: &mut Vec<Entry<'a>>,
-    scope: &mut Scope<'a>,
+    scope: &mut NamePlaces<'a>,
     module: &'a Module,
     place: usize,
 ) -> Result<(), AllocError>
@@ -161,12 +161,13 @@ pub(crate) fn scope<'a>(
     entries: &mut Vec<Entry<'a>>,
     module: &'a Module,
     place: usize,
-) -> Result<Scope<'a>, AllocError>
+) -> Result<NamePlaces<'a>, AllocError>
     ensures decided { IfOk result (λ scope. (x : List ℕ)
         → known entries.new.items scope x ≡ decided_as module.now x (decision module.now x)) }
     ensures within { IfOk result (λ scope. IsWithin entries.new.items scope) }
     ensures grown { IfOk result (λ _. (added : List Entry)
-        × (entries.new.items ≡ entries.old.items ++ added) × All (IsOf module.now place) added) }
+        × (entries.new.items ≡ entries.old.items ++ added)
+        × All (IsEntryOf module.now place) added) }
 {
     let mut scope = BTreeMap::new(alloc);
     enter_definitions(entries, &mut scope, module, place)?;

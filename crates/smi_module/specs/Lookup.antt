@@ -31,8 +31,8 @@ abbrev pub defines : List ℕ → Def → Bool
 defines name d = same_text d.label.octets name
 
 -- this name is one of the symbols of the clause
-abbrev pub imports : List ℕ → Import → Bool
-imports name i = list_any (λ s. same_text s.text name) i.symbols
+abbrev pub is_imported_by : List ℕ → Import → Bool
+is_imported_by name i = list_any (λ s. same_text s.text name) i.symbols
 
 -- the FROM clauses of a module, none if it has no IMPORTS
 abbrev pub import_clauses : Module → List Import
@@ -43,7 +43,7 @@ abbrev pub first_definition : List ℕ → List Def → Option Def
 first_definition name ds = find (defines name) ds
 
 abbrev pub first_import : List ℕ → List Import → Option Import
-first_import name is = find (imports name) is
+first_import name is = find (is_imported_by name) is
 
 -- the definition of a name in a module: the first in the text
 abbrev pub definition_of : Module → List ℕ → Option Def
@@ -64,17 +64,17 @@ are_distinct (x ∷ xs) = not (list_any (same_text x) xs) && are_distinct xs
 
 -- the identifier that a definition gives its name (RFC 2578, section 3.6); types and macros give
 -- none
-abbrev pub identifier_of : DefKind → Option (List Part)
-identifier_of (D.ObjectIdentifier v) = Some v
-identifier_of (D.ModuleIdentity d) = Some d.value
-identifier_of (D.ObjectIdentity d) = Some d.value
-identifier_of (D.ObjectType d) = Some d.value
-identifier_of (D.NotificationType d) = Some d.value
-identifier_of (D.ObjectGroup d) = Some d.value
-identifier_of (D.NotificationGroup d) = Some d.value
-identifier_of (D.ModuleCompliance d) = Some d.value
-identifier_of (D.AgentCapabilities d) = Some d.value
-identifier_of _ = None
+abbrev pub identifier_value_of : DefKind → Option (List Part)
+identifier_value_of (D.ObjectIdentifier v) = Some v
+identifier_value_of (D.ModuleIdentity d) = Some d.value
+identifier_value_of (D.ObjectIdentity d) = Some d.value
+identifier_value_of (D.ObjectType d) = Some d.value
+identifier_value_of (D.NotificationType d) = Some d.value
+identifier_value_of (D.ObjectGroup d) = Some d.value
+identifier_value_of (D.NotificationGroup d) = Some d.value
+identifier_value_of (D.ModuleCompliance d) = Some d.value
+identifier_value_of (D.AgentCapabilities d) = Some d.value
+identifier_value_of _ = None
 
 -- the words that say what is defined; the assignment of a type has none
 abbrev pub kind_words : DefKind → List ℕ

@@ -93,12 +93,12 @@ abbrev pub sign : TokenKind → Mark
 sign k = spelled k (sign_text k) true
 
 -- the token is what the mark says
-abbrev pub Fits : Mark → Lexeme → Type 0
-Fits (spelled k x ok) t = (t.kind ≡ k) × (t.text ≡ x) × (ok ≡ true)
-Fits (on_line n m) t = Fits m t × (t.line ≡ n)
+abbrev pub MarksToken : Mark → Lexeme → Type 0
+MarksToken (spelled k x ok) t = (t.kind ≡ k) × (t.text ≡ x) × (ok ≡ true)
+MarksToken (on_line n m) t = MarksToken m t × (t.line ≡ n)
 
 -- the tokens are those that the marks say, and then the rest
 abbrev pub Stands : List Mark → List Lexeme → List Lexeme → Type 0
 Stands [] ts rest = ts ≡ rest
 Stands (m ∷ ms) [] rest = ⊥
-Stands (m ∷ ms) (t ∷ ts) rest = Fits m t × Stands ms ts rest
+Stands (m ∷ ms) (t ∷ ts) rest = MarksToken m t × Stands ms ts rest

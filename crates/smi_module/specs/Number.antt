@@ -93,8 +93,8 @@ up_to most n = then_some (nat_le n most) n
 abbrev pub arc_in : List ℕ → Option ℕ
 arc_in x = then_some (is_arc x) (magnitude x)
 
-abbrev pub number_in : List ℕ → Option ℤ
-number_in x = then_some (is_number x) (signed_value x)
+abbrev pub stated_number : List ℕ → Option ℤ
+stated_number x = then_some (is_number x) (signed_value x)
 
 abbrev pub bound_in : TokenKind → List ℕ → Option ℤ
 bound_in k x = then_some (is_bound k x) (bound_value k x)

@@ -298,8 +298,8 @@ of_def d = of_def_kind d.line d.label d.kind
 -- modules
 
 -- LOWER | UPPER | macro
-abbrev pub symbol : TokenText → Mark
-symbol x = spelled x.kind x.text (is_symbol x.kind x.text)
+abbrev pub imported_symbol : TokenText → Mark
+imported_symbol x = spelled x.kind x.text (is_symbol x.kind x.text)
 
 -- the marks, the first of them on this line
 abbrev pub put_line : ℕ → List Mark → List Mark
@@ -309,7 +309,7 @@ put_line n (m ∷ ms) = on_line n m ∷ ms
 -- symbol { "," symbol } "FROM" UPPER, the first token on its line
 abbrev pub of_import : Import → List Mark
 of_import i =
-    put_line i.line (of_list (sign K.Comma) (λ x. symbol x ∷ []) i.symbols ++ (word
+    put_line i.line (of_list (sign K.Comma) (λ x. imported_symbol x ∷ []) i.symbols ++ (word
     (codes "FROM") ∷ upper i.source ∷ []))
 
 -- UPPER [ "{" { part } "}" ] "DEFINITIONS" "::=" "BEGIN" [ "IMPORTS" .. ";" ]

@@ -9,7 +9,7 @@ use crate::tree::{Def, DefKind, Import, Module, Part};
 
 /// Whether one of the symbols of a FROM clause is this name.
 fn imports(import: &Import, name: &[u8]) -> bool
-    ensures { result ≡ lookup.imports name.now import.now }
+    ensures { result ≡ lookup.is_imported_by name.now import.now }
 {
     for symbol in import.symbols.as_slice() {
         if symbol.text.as_bytes() == name {
@@ -65,7 +65,7 @@ impl Module {
 impl Def {
     /// The identifier value of the definition (RFC 2578, section 7.10). Types and macros have none.
     pub fn identifier(&self) -> Option<&Items<Part>>
-        ensures { option_copied result ≡ lookup.identifier_of self.now.kind }
+        ensures { option_copied result ≡ lookup.identifier_value_of self.now.kind }
     {
         match &self.kind {
             DefKind::ObjectIdentifier(value) => Some(value),

@@ -76,7 +76,7 @@ pub fn is_arc(text: &[u8]) -> bool
 /// The number that a NUM stands for elsewhere, -9223372036854775808 to 18446744073709551615 (RFC
 /// 2578, section 7.1.1).
 pub fn number(text: &[u8]) -> Option<i128>
-    ensures { result ≡ number.number_in text.now }
+    ensures { result ≡ number.stated_number text.now }
 {
     let negative = is_negative(text);
     let most = if negative {

@@ -4,9 +4,9 @@ use Rattle.std.proofs.Common.{Option, Some, None, Result, Ok, Err, refl, sym, �
 use Rattle.std.proofs.lemmas.Bool.{eqb-true, eqb-false, eq-eqb, leb-true, leb-false, le-leb, lt-leb}
 use Rattle.smi_index.specs.Pieces.{Piece, piece_numbers}
 use Rattle.smi_name.specs.Cut.{module_after, name_parts, parts_after, with_prefix}
-use Rattle.smi_name.specs.Meaning.{Scope, among_roots, anywhere, in_module, and_then, first_word_meaning, fitting, found_in, further_meaning, known}
+use Rattle.smi_name.specs.Meaning.{Scope, among_roots, anywhere, in_module, and_then, first_word_meaning, fitting, found_in, further_meaning, or_unknown}
 use Rattle.smi_name.specs.Meaning.{later_word_meaning, meaning, part_meaning, parts_meaning, plain_meaning, scoped_meaning}
-use Rattle.smi_name.specs.Meant.{IsFound, IsLabel, IsLoaded, IsMissing, IsRoomFor, IsScoped, Means, PartMeans, PartsMean, ScopeMeans, States}
+use Rattle.smi_name.specs.Meant.{IsFound, IsLabel, ScopeIsLoaded, ScopeIsMissing, IsRoomFor, IsScoped, TextMeans, PartMeans, PartsMean, ScopeMeans, StatesPiece}
 use Rattle.smi_name.specs.Naming.{Naming}
 use Rattle.smi_name.specs.Word.{Word, a_piece, a_label, word_of}
 use Rattle.smi_name.specs.declared.error.NameError.{NameError}
@@ -26,7 +26,7 @@ LookUp = List ℕ → Option (List ℕ)
 -- a word after the identifier so far
 word_with : LookUp → List ℕ → Word → Outcome
 word_with look_up so_far (a_piece piece) = fitting (so_far ++ piece_numbers piece)
-word_with look_up so_far (a_label label) = known (look_up label)
+word_with look_up so_far (a_label label) = or_unknown (look_up label)
 
 part_with : LookUp → List ℕ → List ℕ → Outcome
 part_with look_up so_far part = and_then (word_of part) (word_with look_up so_far)
@@ -44,11 +44,11 @@ room_only o result h = elim h [
   | inr long ↦ rw (lt-leb (length o) 128 long.0) long.1
 ]
 
-found : (read : Option (List ℕ)) → IsFound read (known read)
+found : (read : Option (List ℕ)) → IsFound read (or_unknown read)
 found None = refl
 found (Some o) = refl
 
-found_only : (read : Option (List ℕ)) (result : Outcome) → IsFound read result → result ≡ known read
+found_only : (read : Option (List ℕ)) (result : Outcome) → IsFound read result → result ≡ or_unknown read
 found_only None result h = h
 found_only (Some o) result h = h
 
@@ -57,7 +57,7 @@ part_at : (look_up : LookUp) (so_far part : List ℕ) (word : Result Word NameEr
 unfolding word_with
 part_at look_up so_far part (Ok (a_piece piece)) h = inl (piece, h, room (so_far ++ piece_numbers piece))
 part_at look_up so_far part (Ok (a_label label)) h =
-    inr (inl (h.1, subst (λ (l : List ℕ). IsFound (look_up part) (known (look_up l))) (sym h.0) (found (look_up part))))
+    inr (inl (h.1, subst (λ (l : List ℕ). IsFound (look_up part) (or_unknown (look_up l))) (sym h.0) (found (look_up part))))
 part_at look_up so_far part (Err BadNumber) h = inr (inr (inl (h, refl)))
 part_at look_up so_far part (Err BadIndex) h = inr (inr (inr (h, refl)))
 part_at look_up so_far part (Err Unknown) h = absurd h
@@ -238,22 +238,22 @@ module _ (naming : Naming) where
       at true same = absurd (is.2 more (ap (λ (o : ℕ). o ∷ more) (eqb-true octet 46 same)))
       at false same = refl
 
-  long_means : (text : List ℕ) → text ≢ [] → text ≢ 46 ∷ [] → Means naming text (meaning naming text)
+  long_means : (text : List ℕ) → text ≢ [] → text ≢ 46 ∷ [] → TextMeans naming text (meaning naming text)
   long_means text some long =
       let s = scope_at text (module_after None text) some refl in
       let same : in_scope naming s.0 s.1 ≡ meaning naming text = s.3 ∙ sym (scoped naming text some long) in
       inr (inr (some, long, (s.0, s.1, s.2, subst (ScopeMeans naming s.0 s.1) same (scope_means naming s.0 s.1))))
 
-  pub means : (text : List ℕ) → Means naming text (meaning naming text)
+  pub means : (text : List ℕ) → TextMeans naming text (meaning naming text)
   means [] = inl (refl, refl)
   means (octet ∷ []) = at (eqb octet 46) refl
     where
-      at : (b : Bool) → eqb octet 46 ≡ b → Means naming (octet ∷ []) (meaning naming (octet ∷ []))
+      at : (b : Bool) → eqb octet 46 ≡ b → TextMeans naming (octet ∷ []) (meaning naming (octet ∷ []))
       at true same = let is : octet ≡ 46 = eqb-true octet 46 same in inr (inl (ap (λ (o : ℕ). o ∷ []) is, rw same refl))
       at false same = long_means (octet ∷ []) (λ e. (let w : ⊥ = cc in w)) (λ e. eqb-false octet 46 same (let is : octet ≡ 46 = cc in is))
   means (octet ∷ next ∷ more) = long_means (octet ∷ next ∷ more) (λ e. (let w : ⊥ = cc in w)) (λ e. (let w : ⊥ = cc in w))
 
-  pub means_only : (text : List ℕ) (result : Outcome) → Means naming text result → result ≡ meaning naming text
+  pub means_only : (text : List ℕ) (result : Outcome) → TextMeans naming text result → result ≡ meaning naming text
   means_only text result h = elim h [
     | inl none ↦ none.1 ∙ sym (ap (meaning naming) none.0)
     | inr (inl dot) ↦ dot.1 ∙ sym (ap (meaning naming) dot.0)

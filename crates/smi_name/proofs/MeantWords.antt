@@ -10,7 +10,7 @@ use Rattle.std.proofs.lemmas.List.{take_more}
 use Rattle.std.proofs.Math.Seq.{take-length}
 use Rattle.snmp_oid.specs.Numeric.{IsNumeral, decimal_value}
 use Rattle.smi_index.specs.Pieces.{Piece, plain_number, counted_text, plain_text, is_quotable}
-use Rattle.smi_name.specs.Meant.{IsBadIndex, IsBadNumber, IsLabel, States}
+use Rattle.smi_name.specs.Meant.{IsBadIndex, IsBadNumber, IsLabel, StatesPiece}
 use Rattle.smi_name.specs.Word.{Word, a_piece, a_label, numeral_of, quoted_in, number_word, counted_word, plain_word, word_of}
 use Rattle.smi_name.specs.declared.error.NameError.{NameError}
 use Rattle.smi_name.specs.declared.error.NameError.TheVariants.{BadIndex, BadNumber, TooLong, Unknown}
@@ -19,7 +19,7 @@ use Rattle.smi_name.proofs.WordLemmas.{digit_first, digits_word, quoted_back, so
 
 -- ---- what is read of a part
 
-pub states_word : (part : List ℕ) (piece : Piece) → States part piece → word_of part ≡ Ok (a_piece piece)
+pub states_word : (part : List ℕ) (piece : Piece) → StatesPiece part piece → word_of part ≡ Ok (a_piece piece)
 states_word part (plain_number n) h = digits_word part n h
 states_word part (counted_text octets) h = ap word_of h.0 ∙ ap counted_word (quoted_back 34 octets h.1)
 states_word part (plain_text octets) h = ap word_of h.0 ∙ ap plain_word (quoted_back 39 octets h.1.1) ∙ some_text octets h.1.0
@@ -63,13 +63,13 @@ quoted_of quote rest octets h =
       ap (list_all is_quotable) (sym same) ∙ all,
     )
 
-counted_fails : (more : List ℕ) (read : Option (List ℕ)) → quoted_in 34 more ≡ read → ((piece : Piece) → States (34 ∷ more) piece → ⊥)
+counted_fails : (more : List ℕ) (read : Option (List ℕ)) → quoted_in 34 more ≡ read → ((piece : Piece) → StatesPiece (34 ∷ more) piece → ⊥)
     → counted_word read ≡ Err BadIndex
 counted_fails more None is fails = refl
 counted_fails more (Some octets) is fails =
     let q = quoted_of 34 more octets is in absurd (fails (counted_text octets) (ap (λ (r : List ℕ). 34 ∷ r) q.0, q.1))
 
-plain_fails : (more : List ℕ) (read : Option (List ℕ)) → quoted_in 39 more ≡ read → ((piece : Piece) → States (39 ∷ more) piece → ⊥)
+plain_fails : (more : List ℕ) (read : Option (List ℕ)) → quoted_in 39 more ≡ read → ((piece : Piece) → StatesPiece (39 ∷ more) piece → ⊥)
     → plain_word read ≡ Err BadIndex
 plain_fails more None is fails = refl
 plain_fails more (Some []) is fails = refl
@@ -82,15 +82,15 @@ pub index_fails : (part : List ℕ) → IsBadIndex part → word_of part ≡ Err
 index_fails [] h = absurd h
 index_fails (octet ∷ more) h = elim h.0 [
   | inl double ↦ ap (λ (o : ℕ). word_of (o ∷ more)) double
-      ∙ counted_fails more (quoted_in 34 more) refl (λ piece s. h.1 piece (subst (λ (o : ℕ). States (o ∷ more) piece) (sym double) s))
+      ∙ counted_fails more (quoted_in 34 more) refl (λ piece s. h.1 piece (subst (λ (o : ℕ). StatesPiece (o ∷ more) piece) (sym double) s))
   | inr single ↦ ap (λ (o : ℕ). word_of (o ∷ more)) single
-      ∙ plain_fails more (quoted_in 39 more) refl (λ piece s. h.1 piece (subst (λ (o : ℕ). States (o ∷ more) piece) (sym single) s))
+      ∙ plain_fails more (quoted_in 39 more) refl (λ piece s. h.1 piece (subst (λ (o : ℕ). StatesPiece (o ∷ more) piece) (sym single) s))
 ]
 
 -- ---- each part is one of these
 
 abbrev pub WordIs : List ℕ → Result Word NameError → Type 0
-WordIs part (Ok (a_piece piece)) = States part piece
+WordIs part (Ok (a_piece piece)) = StatesPiece part piece
 WordIs part (Ok (a_label label)) = (label ≡ part) × IsLabel part
 WordIs part (Err BadNumber) = IsBadNumber part
 WordIs part (Err BadIndex) = IsBadIndex part
@@ -114,24 +114,24 @@ number_is octet more None digit is = (digit, λ n h. let e = sym (numeral_is (oc
 number_is octet more (Some n) digit is = numeral_states (octet ∷ more) n (λ e. (let w : ⊥ = cc in w)) is
 
 -- the only texts that begin with a quote
-double_only : (more : List ℕ) (piece : Piece) → quoted_in 34 more ≡ None → States (34 ∷ more) piece → ⊥
+double_only : (more : List ℕ) (piece : Piece) → quoted_in 34 more ≡ None → StatesPiece (34 ∷ more) piece → ⊥
 double_only more piece none s =
     let e : counted_word None ≡ Ok (a_piece piece) = sym (ap counted_word none) ∙ states_word (34 ∷ more) piece s in let w : ⊥ = cc in w
 
 counted_is : (octet : ℕ) (more : List ℕ) (read : Option (List ℕ)) → octet ≡ 34 → quoted_in 34 more ≡ read → WordIs (octet ∷ more) (counted_word read)
-counted_is octet more None same is = (inl same, λ piece s. double_only more piece is (subst (λ (o : ℕ). States (o ∷ more) piece) same s))
+counted_is octet more None same is = (inl same, λ piece s. double_only more piece is (subst (λ (o : ℕ). StatesPiece (o ∷ more) piece) same s))
 counted_is octet more (Some octets) same is =
     let q = quoted_of 34 more octets is in (ap (λ (o : ℕ). o ∷ more) same ∙ ap (λ (r : List ℕ). 34 ∷ r) q.0, q.1)
 
-single_only : (more : List ℕ) (piece : Piece) → plain_word (quoted_in 39 more) ≡ Err BadIndex → States (39 ∷ more) piece → ⊥
+single_only : (more : List ℕ) (piece : Piece) → plain_word (quoted_in 39 more) ≡ Err BadIndex → StatesPiece (39 ∷ more) piece → ⊥
 single_only more piece fails s =
     let e : Err BadIndex ≡ Ok (a_piece piece) = sym fails ∙ states_word (39 ∷ more) piece s in let w : ⊥ = cc in w
 
 plain_is : (octet : ℕ) (more : List ℕ) (read : Option (List ℕ)) → octet ≡ 39 → quoted_in 39 more ≡ read → WordIs (octet ∷ more) (plain_word read)
 plain_is octet more None same is =
-    (inr same, λ piece s. single_only more piece (ap plain_word is) (subst (λ (o : ℕ). States (o ∷ more) piece) same s))
+    (inr same, λ piece s. single_only more piece (ap plain_word is) (subst (λ (o : ℕ). StatesPiece (o ∷ more) piece) same s))
 plain_is octet more (Some []) same is =
-    (inr same, λ piece s. single_only more piece (ap plain_word is) (subst (λ (o : ℕ). States (o ∷ more) piece) same s))
+    (inr same, λ piece s. single_only more piece (ap plain_word is) (subst (λ (o : ℕ). StatesPiece (o ∷ more) piece) same s))
 plain_is octet more (Some (first ∷ octets)) same is =
     let q = quoted_of 39 more (first ∷ octets) is in
     (ap (λ (o : ℕ). o ∷ more) same ∙ ap (λ (r : List ℕ). 39 ∷ r) q.0, ((λ e. (let w : ⊥ = cc in w)), q.1))

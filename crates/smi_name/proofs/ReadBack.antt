@@ -50,7 +50,7 @@ use Rattle.smi_name.specs.declared.error.NameError.{NameError}
 use Rattle.smi_letters.specs.declared.letters.NameForm.{NameForm}
 use Rattle.smi_letters.specs.declared.letters.NameForm.TheVariants.{Numeric, Full, Label, ModuleLabel}
 use Rattle.smi_name.specs.Cut.{name_parts, module_after}
-use Rattle.smi_name.specs.Naming.{Naming, Standing, IsSound, LeadsTo}
+use Rattle.smi_name.specs.Naming.{Naming, Standing, IsSound, LabelLeadsTo}
 use Rattle.smi_name.specs.Word.{Word}
 use Rattle.smi_name.specs.Meaning.{
   Scope,
@@ -59,7 +59,6 @@ use Rattle.smi_name.specs.Meaning.{
   among_roots,
   and_then,
   fitting,
-  known,
   found_in,
   first_word_meaning,
   later_word_meaning,
@@ -228,18 +227,18 @@ numeric_back known naming (n ∷ more) h =
 
 -- by module and label
 standing_back : (known : Known) (naming : Naming) (o : List ℕ) (node : Standing) (pieces : List Piece) → IsIdentifier o → is_word node.label ≡ true
-    → LeadsTo naming node.home node.label (take node.depth o) → All IsPiece pieces → flat_map piece_numbers pieces ≡ drop node.depth o
+    → LabelLeadsTo naming node.home node.label (take node.depth o) → All IsPiece pieces → flat_map piece_numbers pieces ≡ drop node.depth o
     → (home : Option (List ℕ)) → node.home ≡ home → meaning naming (qualified home node.label ++ shown_pieces pieces) ≡ Ok o
 standing_back known naming o node pieces h word leads all rest None is =
     let same : take node.depth o ++ flat_map piece_numbers pieces ≡ o = ap (λ (t : List ℕ). take node.depth o ++ t) rest ∙ take-append-drop node.depth o in
     let P : List ℕ → Type 0 = λ t. length t ≤ 128 in
-    let Q : Option (List ℕ) → Type 0 = λ v. LeadsTo naming v node.label (take node.depth o) in
+    let Q : Option (List ℕ) → Type 0 = λ v. LabelLeadsTo naming v node.label (take node.depth o) in
     root_back known naming node.label (take node.depth o) pieces word (subst Q is leads) all (subst P (sym same) h.short)
     ∙ ap (λ (t : List ℕ). Ok t) same
 standing_back known naming o node pieces h word leads all rest (Some home) is =
     let same : take node.depth o ++ flat_map piece_numbers pieces ≡ o = ap (λ (t : List ℕ). take node.depth o ++ t) rest ∙ take-append-drop node.depth o in
     let P : List ℕ → Type 0 = λ t. length t ≤ 128 in
-    let Q : Option (List ℕ) → Type 0 = λ v. LeadsTo naming v node.label (take node.depth o) in
+    let Q : Option (List ℕ) → Type 0 = λ v. LabelLeadsTo naming v node.label (take node.depth o) in
     let here = subst Q is leads in
     let grouped : ((home ++ 58 ∷ 58 ∷ []) ++ node.label) ++ shown_pieces pieces ≡ home ++ 58 ∷ 58 ∷ (node.label ++ shown_pieces pieces)
     = append_assoc (home ++ 58 ∷ 58 ∷ []) node.label (shown_pieces pieces) ∙ append_assoc home (58 ∷ 58 ∷ []) (node.label ++ shown_pieces pieces) in

@@ -23,9 +23,9 @@ and_then (Err fault) f = Err fault
 abbrev pub fitting : List ℕ → Result (List ℕ) NameError
 fitting o = if nat_le (length o) 128 then Ok o else Err TooLong
 
-abbrev pub known : Option (List ℕ) → Result (List ℕ) NameError
-known None = Err Unknown
-known (Some o) = Ok o
+abbrev pub or_unknown : Option (List ℕ) → Result (List ℕ) NameError
+or_unknown None = Err Unknown
+or_unknown (Some o) = Ok o
 
 abbrev pub found_in : Naming → Scope → List ℕ → Option (List ℕ)
 found_in naming (in_module home) label = naming.in_module home label
@@ -35,12 +35,12 @@ found_in naming among_roots label = naming.among_roots label
 -- the first part: its own numbers, or the node of the label
 abbrev pub first_word_meaning : Naming → Scope → Word → Result (List ℕ) NameError
 first_word_meaning naming scope (a_piece piece) = fitting (piece_numbers piece)
-first_word_meaning naming scope (a_label label) = known (found_in naming scope label)
+first_word_meaning naming scope (a_label label) = or_unknown (found_in naming scope label)
 
 -- a further part: its numbers after those so far, or the child of that label
 abbrev pub later_word_meaning : Naming → List ℕ → Word → Result (List ℕ) NameError
 later_word_meaning naming so_far (a_piece piece) = fitting (so_far ++ piece_numbers piece)
-later_word_meaning naming so_far (a_label label) = known (naming.child so_far label)
+later_word_meaning naming so_far (a_label label) = or_unknown (naming.child so_far label)
 
 abbrev pub part_meaning : Naming → List ℕ → List ℕ → Result (List ℕ) NameError
 part_meaning naming so_far part = and_then (word_of part) (later_word_meaning naming so_far)

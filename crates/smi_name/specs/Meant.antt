@@ -16,11 +16,11 @@ use Rattle.smi_name.specs.declared.error.NameError.TheVariants.{Unknown}
 -- ---- a part on its own
 
 -- the part states a number, in decimal digits with leading zeros or not, or a text in quotes
-abbrev pub States : (part : List ℕ) → Piece → Type 0
-States part (plain_number n) = IsNumeral part n
-States part (counted_text octets) =
+abbrev pub StatesPiece : (part : List ℕ) → Piece → Type 0
+StatesPiece part (plain_number n) = IsNumeral part n
+StatesPiece part (counted_text octets) =
     (part ≡ shown_piece (counted_text octets)) × IsPiece (counted_text octets)
-States part (plain_text octets) =
+StatesPiece part (plain_text octets) =
     (part ≡ shown_piece (plain_text octets)) × IsPiece (plain_text octets)
 
 -- a part that begins neither with a digit nor with a quote is a label
@@ -38,7 +38,7 @@ IsBadNumber (octet ∷ more) =
 abbrev pub IsBadIndex : List ℕ → Type 0
 IsBadIndex [] = ⊥
 IsBadIndex (octet ∷ more) =
-    ((octet ≡ 34) ⊎ (octet ≡ 39)) × ((piece : Piece) → States (octet ∷ more) piece → ⊥)
+    ((octet ≡ 34) ⊎ (octet ≡ 39)) × ((piece : Piece) → StatesPiece (octet ∷ more) piece → ⊥)
 
 -- ---- a part after others
 
@@ -57,7 +57,7 @@ IsFound (Some o) result = result ≡ Ok o
 abbrev pub PartMeans : (look_up : List ℕ → Option (List ℕ)) → (so_far part : List ℕ)
     → Result (List ℕ) NameError → Type 0
 PartMeans look_up so_far part result =
-    ((piece : Piece) × States part piece × IsRoomFor (so_far ++ piece_numbers piece) result)
+    ((piece : Piece) × StatesPiece part piece × IsRoomFor (so_far ++ piece_numbers piece) result)
     ⊎ ((IsLabel part × IsFound (look_up part) result)
     ⊎ ((IsBadNumber part × (result ≡ Err BadNumber))
     ⊎ (IsBadIndex part × (result ≡ Err BadIndex))))
@@ -84,25 +84,25 @@ IsScoped text anywhere rest =
     (module_after None text ≡ None) × (rest ≡ text) × ((more : List ℕ) → text ≢ 46 ∷ more)
 
 -- whether a module that the scope names is loaded
-abbrev pub IsLoaded : Naming → Scope → Type 0
-IsLoaded naming (in_module home) = naming.is_loaded home ≡ true
-IsLoaded naming _ = Unit {0}
+abbrev pub ScopeIsLoaded : Naming → Scope → Type 0
+ScopeIsLoaded naming (in_module home) = naming.is_loaded home ≡ true
+ScopeIsLoaded naming _ = Unit {0}
 
-abbrev pub IsMissing : Naming → Scope → Type 0
-IsMissing naming (in_module home) = naming.is_loaded home ≡ false
-IsMissing naming _ = ⊥
+abbrev pub ScopeIsMissing : Naming → Scope → Type 0
+ScopeIsMissing naming (in_module home) = naming.is_loaded home ≡ false
+ScopeIsMissing naming _ = ⊥
 
 -- parts in a scope: the fault of a module that isn't loaded comes first
 abbrev pub ScopeMeans : Naming → Scope → (rest : List ℕ) → Result (List ℕ) NameError → Type 0
 ScopeMeans naming scope rest result =
-    (IsMissing naming scope × (result ≡ Err Unknown))
-    ⊎ (IsLoaded naming scope
+    (ScopeIsMissing naming scope × (result ≡ Err Unknown))
+    ⊎ (ScopeIsLoaded naming scope
     × PartsMean naming (found_in naming scope) [] (name_parts rest) result)
 
 -- The empty text is unknown, a dot alone is the empty identifier, and any other text is its parts
 -- in a scope.
-abbrev pub Means : Naming → (text : List ℕ) → Result (List ℕ) NameError → Type 0
-Means naming text result =
+abbrev pub TextMeans : Naming → (text : List ℕ) → Result (List ℕ) NameError → Type 0
+TextMeans naming text result =
     ((text ≡ []) × (result ≡ Err Unknown))
     ⊎ (((text ≡ 46 ∷ []) × (result ≡ Ok []))
     ⊎ ((text ≢ []) × (text ≢ 46 ∷ []) × ((scope : Scope) × (rest : List ℕ)

@@ -22,9 +22,9 @@ pub record Naming : Type 0 where
 
 -- a node's label leads to its identifier: in its module, which is loaded, or, for a root, by the
 -- label alone
-abbrev pub LeadsTo : Naming → Option (List ℕ) → List ℕ → List ℕ → Type 0
-LeadsTo naming None label o = naming.anywhere label ≡ Some o
-LeadsTo naming (Some home) label o =
+abbrev pub LabelLeadsTo : Naming → Option (List ℕ) → List ℕ → List ℕ → Type 0
+LabelLeadsTo naming None label o = naming.anywhere label ≡ Some o
+LabelLeadsTo naming (Some home) label o =
     (is_word home ≡ true) × (naming.is_loaded home ≡ true) × (naming.in_module home label ≡ Some o)
 
 -- labels are words, and lead to the nodes that they are shown for
@@ -33,4 +33,4 @@ pub record IsSound (naming : Naming) : Type 0 where
   pub words : (o : List ℕ) (node : Standing) → naming.deepest o ≡ Some node
       → is_word node.label ≡ true
   pub leads : (o : List ℕ) (node : Standing) → naming.deepest o ≡ Some node
-      → LeadsTo naming node.home node.label (take node.depth o)
+      → LabelLeadsTo naming node.home node.label (take node.depth o)

@@ -6,9 +6,9 @@ ghost use Rattle.smi_letters.specs.declared.letters.NameForm.{NameForm};
 ghost use Rattle.smi_name.specs.Cut.{name_parts, module_after};
 ghost use Rattle.smi_name.specs.Left.{parts_left};
 ghost use Rattle.smi_name.specs.Meaning.{further_meaning, head_meaning, meaning, part_meaning};
-ghost use Rattle.smi_name.specs.Meaning.{found_in, known, parts_meaning, plain_meaning};
+ghost use Rattle.smi_name.specs.Meaning.{found_in, or_unknown, parts_meaning, plain_meaning};
 ghost use Rattle.smi_name.specs.Meaning.{scoped_meaning};
-ghost use Rattle.smi_name.specs.Meant.{Means};
+ghost use Rattle.smi_name.specs.Meant.{TextMeans};
 ghost use Rattle.smi_name.specs.Name.{ReadsBack, name_text};
 ghost use Rattle.smi_name.specs.Part.{scope_in};
 
@@ -29,7 +29,7 @@ use snmp_oid::{Oid, names};
 /// later part is that of a child. What [`crate::name_text`] shows by module and label, or in
 /// numbers, is read back.
 pub fn resolve<T: NameTree>(tree: &T, text: &[u8]) -> Result<Oid, NameError>
-    ensures stated { Means (T.naming tree.now) text.now result }
+    ensures stated { TextMeans (T.naming tree.now) text.now result }
     ensures meant { result ≡ meaning (T.naming tree.now) text.now }
     ensures reads_back { (form : NameForm) (numeric_index : Bool) (o : List ℕ)
         → ReadsBack form → IsIdentifier o
@@ -125,7 +125,7 @@ fn head_meaning<T: NameTree>(tree: &T, scope: Scope<'_>, part: &[u8]) -> Result<
 
 /// The node of a label in a scope.
 fn labelled<T: NameTree>(tree: &T, scope: Scope<'_>, label: &[u8]) -> Result<Oid, NameError>
-    ensures { result ≡ known (found_in (T.naming tree.now) (scope_in scope.entry) label.now) }
+    ensures { result ≡ or_unknown (found_in (T.naming tree.now) (scope_in scope.entry) label.now) }
 {
     match scope {
         Scope::Module(home) => known(tree.in_module(home, label)),
@@ -147,7 +147,7 @@ fn part_meaning<T: NameTree>(tree: &T, so_far: Oid, part: &[u8]) -> Result<Oid, 
 
 /// A copy of the identifier that was found.
 fn known(found: Option<&Oid>) -> Result<Oid, NameError>
-    ensures { result ≡ known (option_copied found.entry) }
+    ensures { result ≡ or_unknown (option_copied found.entry) }
 {
     match found {
         None => Err(NameError::Unknown),

@@ -8,12 +8,12 @@ use Rattle.smi_links.specs.declared.basis.Resolution.TheVariants as R
 use Rattle.smi_module.specs.declared.tree.Module.{Module}
 use Rattle.smi_module.specs.declared.tree.Def.{Def}
 use Rattle.smi_module.specs.declared.tree.Part.{Part}
-use Rattle.smi_module.specs.Lookup.{identifier_of}
+use Rattle.smi_module.specs.Lookup.{identifier_value_of}
 use Rattle.smi_meaning.specs.Meaning.{origin}
 use Rattle.smi_nodes.specs.Imports.{import_warnings}
 use Rattle.smi_nodes.specs.Nodes.{Node, nodes_by, warnings_by, roots, none, more, is_loaded, left_out, loaded, none_yet, then_module}
 use Rattle.smi_nodes.specs.Gathered.{node_from, nodes_of, sources_by, oids_by, IsSourceOf}
-use Rattle.smi_nodes.specs.Gathered.{Extends, Adds, AddsDefinition, AddsDefinitions, AddsModule, AreGathered}
+use Rattle.smi_nodes.specs.Gathered.{GrowsByDefinition, AddsNodes, AddsDefinition, AddsDefinitions, AddsModule, AreGathered}
 use Rattle.smi_nodes.specs.declared.source.Source.{Source}
 use Rattle.smi_nodes.specs.declared.source.Source.TheVariants as S
 use Rattle.smi_nodes.specs.declared.gather.Gathered.{Gathered}
@@ -27,10 +27,10 @@ nodes_of-push ms [] (x ∷ os) s o e = absurd (omega arith)
 nodes_of-push ms (x ∷ ss) [] s o e = absurd (omega arith)
 nodes_of-push ms (x ∷ ss) (y ∷ os) s o e = ap (λ ns. node_from ms x y ∷ ns) (nodes_of-push ms ss os s o (omega arith))
 
-pub Adds-extended : (ms : List Module) (old new : Gathered) (s : Source) (m : Module) (d : Def) (r : Resolution)
+pub AddsNodes-extended : (ms : List Module) (old new : Gathered) (s : Source) (m : Module) (d : Def) (r : Resolution)
     → length old.sources.items ≡ length old.oids.items
-    → IsSourceOf ms s m d → Extends old new s m d r → Adds ms old new (nodes_by m d r) (warnings_by m d r)
-Adds-extended ms old new s m d r long is e = record {
+    → IsSourceOf ms s m d → GrowsByDefinition old new s m d r → AddsNodes ms old new (nodes_by m d r) (warnings_by m d r)
+AddsNodes-extended ms old new s m d r long is e = record {
   long = rw (e.sources, e.oids) (long_by r);
   nodes = rw (e.sources, e.oids) (nodes r);
   warnings = e.warnings;
@@ -53,17 +53,17 @@ Adds-extended ms old new s m d r long is e = record {
     nodes R.TooLong = same
 
 pub AddsDefinition-by : (ms : List Module) (old new : Gathered) (s : Source) (m : Module) (d : Def) (r : Resolution) (v : List Part)
-    → length old.sources.items ≡ length old.oids.items → IsSourceOf ms s m d → identifier_of d.kind ≡ Some v
-    → ComesTo (origin ms) (record { home = m.name.octets; name = d.label.octets }) r → Extends old new s m d r → AddsDefinition ms old new m d
+    → length old.sources.items ≡ length old.oids.items → IsSourceOf ms s m d → identifier_value_of d.kind ≡ Some v
+    → ComesTo (origin ms) (record { home = m.name.octets; name = d.label.octets }) r → GrowsByDefinition old new s m d r → AddsDefinition ms old new m d
 AddsDefinition-by ms old new s m d r v long is value comes e = record {
   ns = nodes_by m d r;
   ws = warnings_by m d r;
   gives = rw value (r, comes, refl, refl);
-  adds = Adds-extended ms old new s m d r long is e;
+  adds = AddsNodes-extended ms old new s m d r long is e;
 }
 
 pub AddsDefinition-none : (ms : List Module) (g : Gathered) (m : Module) (d : Def) → length g.sources.items ≡ length g.oids.items
-    → identifier_of d.kind ≡ None → AddsDefinition ms g g m d
+    → identifier_value_of d.kind ≡ None → AddsDefinition ms g g m d
 AddsDefinition-none ms g m d long value = record {
   ns = [];
   ws = [];
@@ -71,9 +71,9 @@ AddsDefinition-none ms g m d long value = record {
   adds = record { long = long; nodes = sym (append-nil (nodes_of ms g.sources.items g.oids.items)); warnings = sym (append-nil g.warnings.items) };
 }
 
-pub Adds-then : (ms : List Module) (a b c : Gathered) (ns ms' : List Node) (ws vs : List Warning) → Adds ms a b ns ws → Adds ms b c ms' vs
-    → Adds ms a c (ns ++ ms') (ws ++ vs)
-Adds-then ms a b c ns ms' ws vs f g = record {
+pub AddsNodes-then : (ms : List Module) (a b c : Gathered) (ns ms' : List Node) (ws vs : List Warning) → AddsNodes ms a b ns ws → AddsNodes ms b c ms' vs
+    → AddsNodes ms a c (ns ++ ms') (ws ++ vs)
+AddsNodes-then ms a b c ns ms' ws vs f g = record {
   long = g.long;
   nodes = g.nodes ∙ rw f.nodes (append_assoc (nodes_of ms a.sources.items a.oids.items) ns ms');
   warnings = g.warnings ∙ rw f.warnings (append_assoc a.warnings.items ws vs);
@@ -94,7 +94,7 @@ AddsDefinitions-more ms a b c m ds d f g = record {
   ns = f.ns ++ g.ns;
   ws = f.ws ++ g.ws;
   gathers = more ds d f.ns g.ns f.ws g.ws f.gathers g.gives;
-  adds = Adds-then ms a b c f.ns g.ns f.ws g.ws f.adds g.adds;
+  adds = AddsNodes-then ms a b c f.ns g.ns f.ws g.ws f.adds g.adds;
 }
 
 pub AreGathered-more : (ms : List Module) (a b : Gathered) (before : List Module) (m : Module) → AreGathered ms a before → AddsModule ms a b before m
@@ -107,10 +107,10 @@ AreGathered-more ms a b before m f g = record {
 }
 
 -- only warnings are added
-pub Adds-warnings : (ms : List Module) (old new : Gathered) (ws : List Warning) → length old.sources.items ≡ length old.oids.items
+pub AddsNodes-warnings : (ms : List Module) (old new : Gathered) (ws : List Warning) → length old.sources.items ≡ length old.oids.items
     → new.sources.items ≡ old.sources.items → new.oids.items ≡ old.oids.items → new.warnings.items ≡ old.warnings.items ++ ws
-    → Adds ms old new [] ws
-Adds-warnings ms old new ws long s o w = record {
+    → AddsNodes ms old new [] ws
+AddsNodes-warnings ms old new ws long s o w = record {
   long = rw (s, o) long;
   nodes = rw (s, o) (sym (append-nil (nodes_of ms old.sources.items old.oids.items)));
   warnings = w;
@@ -125,7 +125,7 @@ AddsModule-left_out ms old new before m long double s o w = record {
   ns = [];
   ws = W.DoubleModule m.name.octets ∷ [];
   brings = left_out double;
-  adds = Adds-warnings ms old new (W.DoubleModule m.name.octets ∷ []) long s o w;
+  adds = AddsNodes-warnings ms old new (W.DoubleModule m.name.octets ∷ []) long s o w;
 }
 
 pub AddsModule-loaded : (ms : List Module) (a b c : Gathered) (before : List Module) (m : Module) → length a.sources.items ≡ length a.oids.items
@@ -136,7 +136,7 @@ AddsModule-loaded ms a b c before m long first s o w f = record {
   ns = f.ns;
   ws = import_warnings ms m ++ f.ws;
   brings = loaded f.ns f.ws first f.gathers;
-  adds = Adds-then ms a b c [] f.ns (import_warnings ms m) f.ws (Adds-warnings ms a b (import_warnings ms m) long s o w) f.adds;
+  adds = AddsNodes-then ms a b c [] f.ns (import_warnings ms m) f.ws (AddsNodes-warnings ms a b (import_warnings ms m) long s o w) f.adds;
 }
 
 -- an element of a list by its place

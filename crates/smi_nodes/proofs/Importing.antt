@@ -14,7 +14,7 @@ use Rattle.smi_module.specs.declared.tree.Def.{Def}
 use Rattle.smi_module.specs.declared.tree.Import.{Import}
 use Rattle.smi_meaning.specs.Meaning.{Decision, defined, imported, root, root_arc, or_else, decision}
 use Rattle.smi_meaning.specs.Names.{module_place}
-use Rattle.smi_nodes.specs.Imports.{is_stated, has_name}
+use Rattle.smi_nodes.specs.Imports.{is_stated, defines_or_imports}
 use Rattle.smi_nodes.specs.Nodes.{is_loaded}
 
 abbrev pub is_stated_some : Option Decision → Bool
@@ -29,9 +29,10 @@ stated None None (Some n) = refl
 stated None None None = refl
 
 -- what decides says whether the module has the name
-pub has_name-by : (o : Option Module) (x : List ℕ) (r : Option Decision) → r ≡ option_and_then (λ m. decision m x) o → is_stated_some r ≡ has_name o x
-has_name-by None x r e = rw e refl
-has_name-by (Some m) x r e = rw e (stated (definition_of m x) (import_of m x) (root_arc x))
+pub defines_or_imports-by : (o : Option Module) (x : List ℕ) (r : Option Decision) → r ≡ option_and_then (λ m. decision m x) o
+    → is_stated_some r ≡ defines_or_imports o x
+defines_or_imports-by None x r e = rw e refl
+defines_or_imports-by (Some m) x r e = rw e (stated (definition_of m x) (import_of m x) (root_arc x))
 
 abbrev pub is_one_of : List ℕ → List (Bor (List ℕ)) → Bool
 is_one_of x ws = list_any (same_text x) (map (λ w. w.now) ws)

@@ -6,19 +6,19 @@ use Rattle.smi_links.specs.declared.basis.Resolution.{Resolution}
 use Rattle.smi_module.specs.declared.tree.Module.{Module}
 use Rattle.smi_module.specs.declared.tree.Def.{Def}
 use Rattle.smi_module.specs.declared.tree.Part.{Part}
-use Rattle.smi_module.specs.Lookup.{identifier_of}
-use Rattle.smi_meaning.specs.Meaning.{Place, origin}
+use Rattle.smi_module.specs.Lookup.{identifier_value_of}
+use Rattle.smi_meaning.specs.Meaning.{QualifiedName, origin}
 use Rattle.smi_nodes.specs.Imports.{import_warnings}
-use Rattle.smi_nodes.specs.Nodes.{Node, nodes_by, warnings_by, GivesBy, Gathers, none, more, Brings, left_out, loaded, Loads, none_yet, then_module}
+use Rattle.smi_nodes.specs.Nodes.{Node, nodes_by, warnings_by, GivesNodesBy, Gathers, none, more, Brings, left_out, loaded, Loads, none_yet, then_module}
 use Rattle.smi_nodes.specs.declared.warning.Warning.{Warning}
 
 none_pushed : {X : Type 0} (xs : List X) (x : X) → [] ≡ xs ++ x ∷ [] → ⊥
 none_pushed [] x e = cc
 none_pushed (y ∷ xs) x e = cc
 
-module _ (ms : List Module) (one : (a : Place) (r s : Resolution) → ComesTo (origin ms) a r → ComesTo (origin ms) a s → r ≡ s) where
-  given_by : (m : Module) (d : Def) (value : Option (List Part)) (ns es : List Node) (ws vs : List Warning) → GivesBy ms m d value ns ws
-      → GivesBy ms m d value es vs → (ns ≡ es) × (ws ≡ vs)
+module _ (ms : List Module) (one : (a : QualifiedName) (r s : Resolution) → ComesTo (origin ms) a r → ComesTo (origin ms) a s → r ≡ s) where
+  given_by : (m : Module) (d : Def) (value : Option (List Part)) (ns es : List Node) (ws vs : List Warning) → GivesNodesBy ms m d value ns ws
+      → GivesNodesBy ms m d value es vs → (ns ≡ es) × (ws ≡ vs)
   given_by m d None ns es ws vs a b = (a.0 ∙ sym b.0, a.1 ∙ sym b.1)
   given_by m d (Some value) ns es ws vs a b =
       let same : a.0 ≡ b.0 = one (record { home = m.name.octets; name = d.label.octets }) a.0 b.0 a.1 b.1 in
@@ -32,7 +32,7 @@ module _ (ms : List Module) (one : (a : Place) (r s : Resolution) → ComesTo (o
   gathered {m} (more ds d ns more_ns ws more_ws h g) (more es e ks more_ks vs more_vs k f) same =
       let both = same_from_push ds es d e same in
       let front = gathered h k both.0 in
-      let last = given_by m e (identifier_of e.kind) more_ns more_ks more_ws more_vs (rw both.1 at g) f in
+      let last = given_by m e (identifier_value_of e.kind) more_ns more_ks more_ws more_vs (rw both.1 at g) f in
       (rw (front.0, last.0) refl, rw (front.1, last.1) refl)
 
   brought : {before : List Module} {m : Module} {ns : List Node} {ws : List Warning} → Brings ms before m ns ws

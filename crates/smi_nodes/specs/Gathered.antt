@@ -19,7 +19,7 @@ use Rattle.smi_links.specs.declared.basis.Resolution.{Resolution}
 use Rattle.smi_links.specs.declared.basis.Resolution.TheVariants as R
 use Rattle.smi_module.specs.declared.tree.Module.{Module}
 use Rattle.smi_module.specs.declared.tree.Def.{Def}
-use Rattle.smi_nodes.specs.Nodes.{Node, node_of, warnings_by, roots, Gives, Gathers}
+use Rattle.smi_nodes.specs.Nodes.{Node, node_of, warnings_by, roots, GivesNodes, Gathers}
 use Rattle.smi_nodes.specs.Nodes.{Brings, Loads}
 use Rattle.smi_nodes.specs.declared.warning.Warning.{Warning}
 use Rattle.smi_nodes.specs.declared.source.Source.{Source}
@@ -35,14 +35,15 @@ node_from_def (Some m) (Some d) o = node_of m d o
 node_from_def (Some m) None o = record { home = Some m; label = []; oid = o; definition = None }
 node_from_def None d o = record { home = None; label = []; oid = o; definition = d }
 
-abbrev pub def_at : Option Module → ℕ → Option Def
-def_at None k = None
-def_at (Some m) k = slice_get m.defs k
+abbrev pub def_of_module : Option Module → ℕ → Option Def
+def_of_module None k = None
+def_of_module (Some m) k = slice_get m.defs k
 
 -- the node of a source
 abbrev pub node_from : List Module → Source → List ℕ → Node
 node_from ms (S.Root n) o = record { home = None; label = root_label n; oid = o; definition = None }
-node_from ms (S.Definition i k) o = node_from_def (slice_get ms i) (def_at (slice_get ms i) k) o
+node_from ms (S.Definition i k) o = node_from_def (slice_get ms i)
+    (def_of_module (slice_get ms i) k) o
 
 -- the nodes of sources, each with its identifier
 abbrev pub nodes_of : List Module → List Source → List (List ℕ) → List Node
@@ -63,7 +64,7 @@ oids_by R.Unresolved = []
 oids_by R.TooLong = []
 
 -- what is gathered grows by what a definition gives whose name resolves to r
-pub record Extends (old new : Gathered) (s : Source) (m : Module) (d : Def)
+pub record GrowsByDefinition (old new : Gathered) (s : Source) (m : Module) (d : Def)
     (r : Resolution) : Type 0 where
   pub sources : new.sources.items ≡ old.sources.items ++ sources_by s r
   pub oids : new.oids.items ≡ old.oids.items ++ oids_by r
@@ -74,7 +75,7 @@ abbrev pub IsSourceOf : List Module → Source → Module → Def → Type 0
 IsSourceOf ms s m d = (o : List ℕ) → node_from ms s o ≡ node_of m d o
 
 -- these nodes and warnings are added
-pub record Adds (ms : List Module) (old new : Gathered) (ns : List Node)
+pub record AddsNodes (ms : List Module) (old new : Gathered) (ns : List Node)
     (ws : List Warning) : Type 0 where
   pub long : length new.sources.items ≡ length new.oids.items
   pub nodes : nodes_of ms new.sources.items new.oids.items ≡ nodes_of ms old.sources.items
@@ -86,8 +87,8 @@ pub record AddsDefinition (ms : List Module) (old new : Gathered) (m : Module)
     (d : Def) : Type 0 where
   pub ns : List Node
   pub ws : List Warning
-  pub gives : Gives ms m d ns ws
-  pub adds : Adds ms old new ns ws
+  pub gives : GivesNodes ms m d ns ws
+  pub adds : AddsNodes ms old new ns ws
 
 -- what definitions of a module give is added
 pub record AddsDefinitions (ms : List Module) (old new : Gathered) (m : Module)
@@ -95,7 +96,7 @@ pub record AddsDefinitions (ms : List Module) (old new : Gathered) (m : Module)
   pub ns : List Node
   pub ws : List Warning
   pub gathers : Gathers ms m ds ns ws
-  pub adds : Adds ms old new ns ws
+  pub adds : AddsNodes ms old new ns ws
 
 -- what a module brings after those before it is added
 pub record AddsModule (ms : List Module) (old new : Gathered) (before : List Module)
@@ -103,7 +104,7 @@ pub record AddsModule (ms : List Module) (old new : Gathered) (before : List Mod
   pub ns : List Node
   pub ws : List Warning
   pub brings : Brings ms before m ns ws
-  pub adds : Adds ms old new ns ws
+  pub adds : AddsNodes ms old new ns ws
 
 -- what is gathered is what modules bring, after the roots
 pub record AreGathered (ms : List Module) (g : Gathered) (before : List Module) : Type 0 where

@@ -46,15 +46,15 @@ is_stated (imported i) = true
 is_stated (root n) = false
 
 -- the module, if it is loaded, defines or imports the name
-abbrev pub has_name : Option Module → List ℕ → Bool
-has_name None x = false
-has_name (Some m) x = is_some (definition_of m x) || is_some (import_of m x)
+abbrev pub defines_or_imports : Option Module → List ℕ → Bool
+defines_or_imports None x = false
+defines_or_imports (Some m) x = is_some (definition_of m x) || is_some (import_of m x)
 
 -- the warning that a symbol gives: the module after FROM, which is loaded, neither defines nor
 -- imports it
 abbrev pub symbol_warnings : Option Module → List ℕ → List ℕ → TokenText → List Warning
 symbol_warnings source home from s =
-    if needs_no_definition s.text || has_name source s.text then []
+    if needs_no_definition s.text || defines_or_imports source s.text then []
     else W.MissingImport home s.text from ∷ []
 
 -- the warnings that a FROM clause gives: one if its module isn't loaded, otherwise those of its

@@ -21,7 +21,7 @@ use Rattle.smi_links.specs.declared.basis.Resolution.TheVariants as R
 use Rattle.smi_module.specs.declared.tree.Module.{Module}
 use Rattle.smi_module.specs.declared.tree.Def.{Def}
 use Rattle.smi_module.specs.declared.tree.Part.{Part}
-use Rattle.smi_module.specs.Lookup.{identifier_of}
+use Rattle.smi_module.specs.Lookup.{identifier_value_of}
 use Rattle.smi_meaning.specs.Meaning.{origin, module_named}
 use Rattle.smi_nodes.specs.Imports.{import_warnings}
 use Rattle.smi_nodes.specs.declared.warning.Warning.{Warning}
@@ -35,13 +35,13 @@ pub record Node : Type 0 where
   pub oid : List ℕ
   pub definition : Option Def
 
-abbrev pub root_node : List ℕ → ℕ → Node
-root_node label n = record { home = None; label = label; oid = n ∷ []; definition = None }
+abbrev pub node_of_root : List ℕ → ℕ → Node
+node_of_root label n = record { home = None; label = label; oid = n ∷ []; definition = None }
 
 -- the roots count as loaded before every module
 abbrev pub roots : List Node
 roots =
-    root_node (codes "ccitt") 0 ∷ (root_node (codes "iso") 1 ∷ (root_node
+    node_of_root (codes "ccitt") 0 ∷ (node_of_root (codes "iso") 1 ∷ (node_of_root
     (codes "joint-iso-ccitt") 2 ∷ []))
 
 abbrev pub node_of : Module → Def → List ℕ → Node
@@ -63,23 +63,23 @@ warnings_by m d R.TooLong = W.TooLong m.name.octets d.label.octets ∷ []
 
 -- a definition gives these nodes and warnings: a type or a macro none, any other by what its name
 -- resolves to
-abbrev pub GivesBy : List Module → Module → Def → Option (List Part) → List Node → List Warning
+abbrev pub GivesNodesBy : List Module → Module → Def → Option (List Part) → List Node → List Warning
     → Type 0
-GivesBy ms m d None ns ws = (ns ≡ []) × (ws ≡ [])
-GivesBy ms m d (Some value) ns ws =
+GivesNodesBy ms m d None ns ws = (ns ≡ []) × (ws ≡ [])
+GivesNodesBy ms m d (Some value) ns ws =
     (r : Resolution) × ComesTo (origin ms)
     (record { home = m.name.octets; name = d.label.octets }) r
     × (ns ≡ nodes_by m d r) × (ws ≡ warnings_by m d r)
 
-abbrev pub Gives : List Module → Module → Def → List Node → List Warning → Type 0
-Gives ms m d ns ws = GivesBy ms m d (identifier_of d.kind) ns ws
+abbrev pub GivesNodes : List Module → Module → Def → List Node → List Warning → Type 0
+GivesNodes ms m d ns ws = GivesNodesBy ms m d (identifier_value_of d.kind) ns ws
 
 -- definitions of a module give nodes and warnings, one after the other
 pub data Gathers (ms : List Module) (m : Module) : List Def → List Node → List Warning
     → Type 0 where
   none : Gathers ms m [] [] []
   more : (ds : List Def) (d : Def) (ns more_nodes : List Node) (ws more_warnings : List Warning)
-      → Gathers ms m ds ns ws → Gives ms m d more_nodes more_warnings
+      → Gathers ms m ds ns ws → GivesNodes ms m d more_nodes more_warnings
       → Gathers ms m (ds ++ d ∷ []) (ns ++ more_nodes) (ws ++ more_warnings)
 
 -- a module of this name is among these

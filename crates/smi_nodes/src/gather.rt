@@ -2,7 +2,8 @@
 ghost use Rattle.std.specs.Prelude.{◌≡◌, List, [], ◌∷◌, length, take, Some, OnOk, IfOk, slice_get};
 ghost use Rattle.std.specs.Prelude.{false};
 ghost use Rattle.smi_nodes.specs.Nodes.{is_loaded};
-ghost use Rattle.smi_nodes.specs.Gathered.{Extends, AddsDefinition, AddsDefinitions, AreGathered};
+ghost use Rattle.smi_nodes.specs.Gathered.{GrowsByDefinition, AddsDefinition, AddsDefinitions};
+ghost use Rattle.smi_nodes.specs.Gathered.{AreGathered};
 ghost use Rattle.smi_nodes.specs.Gathered.{AddsModule, IsSourceOf};
 ghost use Rattle.smi_module.specs.declared.tree.Module.{Module};
 
@@ -71,7 +72,7 @@ impl Gathered {
         source: Source,
         resolution: &Resolution,
     ) -> Result<(), AllocError>
-        ensures added { OnOk result (Extends self.old self.new source module.now def.now
+        ensures added { OnOk result (GrowsByDefinition self.old self.new source module.now def.now
             resolution.now) }
     {
         let warning = match resolution {

@@ -56,7 +56,7 @@ fn is_stated(decider: Decider<'_>) -> bool
 
 /// Whether the module of a name, if it is loaded, defines or imports another name.
 fn has_name<'a>(names: &Names<'a>, home: &'a [u8], name: &'a [u8]) -> bool
-    ensures { result ≡ imports.has_name (module_named names.now home.now) name.now }
+    ensures { result ≡ imports.defines_or_imports (module_named names.now home.now) name.now }
 {
     match names.decider(home, name) {
         Some(decider) => is_stated(decider),

@@ -7,7 +7,7 @@ use Rattle.snmp_ber.specs.Value.{Datum}
 use Rattle.smi_name.specs.Naming.{Naming}
 use Rattle.smi_name.specs.Name.{name_text}
 use Rattle.smi_value.specs.Syntax.{ObjectSyntax}
-use Rattle.smi_value.specs.Value.{IsValueText}
+use Rattle.smi_value.specs.Value.{ShowsValue}
 
 -- the names of identifiers by the letters
 abbrev pub names_by : Naming → Letters → List ℕ → List ℕ
@@ -26,5 +26,5 @@ front_text letters name = if letters.value_alone then codes "" else name ++ sepa
 pub record IsLine (naming : Naming) (letters : Letters) (syntax : Option ObjectSyntax)
     (name : List ℕ) (value : Datum) (text : List ℕ) : Type 0 where
   pub shown : List ℕ
-  pub is_value : IsValueText (names_by naming letters) letters syntax value shown
+  pub is_value : ShowsValue (names_by naming letters) letters syntax value shown
   pub whole : text ≡ front_text letters (names_by naming letters name) ++ shown ++ codes "\n"

@@ -2,7 +2,7 @@
 ghost use Rattle.std.specs.Prelude.{◌≡◌, ℕ, List, ◌++◌, codes, OnOk, OnErr};
 ghost use Rattle.text_draft.specs.Draft.{Adds};
 ghost use Rattle.snmp_ber.specs.Value.{datum};
-ghost use Rattle.smi_value.specs.Value.{IsValueText};
+ghost use Rattle.smi_value.specs.Value.{ShowsValue};
 ghost use Rattle.smi_show.specs.Line.{IsLine, front_text, names_by, separator};
 
 use crate::ShowTree;
@@ -25,7 +25,7 @@ pub fn value_text<T: ShowTree>(
 ) -> Result<(), AllocError>
     ensures ok { let names = names_by (T.naming tree.now) letters.now in
         OnOk result ((text : List ℕ)
-        × IsValueText names letters.now (T.syntax_at tree.now name.now) (datum value.now) text
+        × ShowsValue names letters.now (T.syntax_at tree.now name.now) (datum value.now) text
         × (out.new.items ≡ out.old.items ++ text)) }
     ensures unchanged_on_error { OnErr result (out.new.items ≡ out.old.items) }
 {
@@ -103,7 +103,7 @@ fn append_shown<T: ShowTree>(
     draft: &mut Draft,
 )
     ensures { let names = names_by (T.naming tree.now) letters.now in (text : List ℕ)
-        × IsValueText names letters.now (T.syntax_at tree.now name.now) (datum value.now) text
+        × ShowsValue names letters.now (T.syntax_at tree.now name.now) (datum value.now) text
         × Adds draft.old text draft.new }
 {
     match value {

@@ -4,7 +4,7 @@ use Rattle.smi_lexer.specs.declared.token.TokenKind.{TokenKind}
 use Rattle.smi_lexer.specs.declared.token.TokenKind.TheVariants as K
 use Rattle.smi_lexer.specs.Token.{Item}
 use Rattle.smi_module.specs.Mark.{spelled, on_line}
-use Rattle.smi_text.specs.Format.{Takes}
+use Rattle.smi_text.specs.Format.{StandsAhead}
 use Rattle.smi_module.specs.Reserved.{is_reserved}
 use Rattle.smi_module.specs.Number.{is_macro}
 use Rattle.smi_text.specs.Format.{Format, before, behind, either, lined, many, maybe, name, pair, separated, shaped, some_of, text, text_where, token, word}
@@ -16,7 +16,7 @@ use Rattle.smi_text.specs.Grammar.{notification_type, object_identifier, object_
 use Rattle.smi_text.specs.Grammar.{of_row, parenthesized, part, range, ranges, raw_definition, refinement, revision, sequence, simple_type, size, status}
 use Rattle.smi_text.specs.Grammar.{syntax_clause, syntax_type, tag, tagged, textual_convention, upper_definition, value}
 use Rattle.smi_text.proofs.Lawful.{Lawful}
-use Rattle.smi_text.proofs.Marks.{false-from, Takes-split}
+use Rattle.smi_text.proofs.Marks.{false-from, StandsAhead-split}
 use Rattle.smi_text.proofs.Laws.{some-inj, never-stands, lower-law, name-law, pair-law, either-law, shaped-law, lined-law}
 use Rattle.smi_module.specs.declared.tree.Def.{Def}
 use Rattle.smi_module.specs.declared.tree.DefKind.{DefKind}
@@ -29,7 +29,7 @@ use Rattle.smi_text.proofs.UpperLaws.{assignment, macro_definition-law, no-piece
 
 -- definitions
 
-lower-only : (k : DefKind) (ts rest : List Item) → Takes (lower_definition.spell k) ts rest → (p : Labelled) → def_pieces p k ≡ inl p
+lower-only : (k : DefKind) (ts rest : List Item) → StandsAhead (lower_definition.spell k) ts rest → (p : Labelled) → def_pieces p k ≡ inl p
 unfolding lower_definition shaped
 lower-only (D.ObjectType d) ts rest h p = refl
 lower-only (D.ObjectIdentifier d) ts rest h p = refl
@@ -47,14 +47,14 @@ lower-only (D.Choice d) ts rest h p = absurd (never-stands ts rest h)
 lower-only (D.Macro d) ts rest h p = absurd (never-stands ts rest h)
 
 -- what stands behind a name in upper case defines no name in lower case
-no-assigned : (k : DefKind) (ts rest : List Item) → from_assigned k ≡ None → Takes (assignment.spell k) ts rest → ⊥
+no-assigned : (k : DefKind) (ts rest : List Item) → from_assigned k ≡ None → StandsAhead (assignment.spell k) ts rest → ⊥
 unfolding behind assigned token lower
 no-assigned k [] rest e h = h
 no-assigned k (Err f ∷ ts) rest e h = h
 no-assigned k (Ok t ∷ ts) rest e h = no-pieces to_assigned from_assigned (either textual_convention (either choice (either tagged
     (either sequence simple_type)))) k ts rest e h.1
 
-upper-only : (k : DefKind) (ts rest : List Item) → Takes (upper_definition.spell k) ts rest → (p : Labelled) → is_macro p.0.1.octets ≡ false
+upper-only : (k : DefKind) (ts rest : List Item) → StandsAhead (upper_definition.spell k) ts rest → (p : Labelled) → is_macro p.0.1.octets ≡ false
     → def_pieces p k ≡ inr (inl p)
 unfolding upper_definition shaped either
 upper-only (D.ObjectType d) ts rest h p m = absurd (no-assigned (D.ObjectType d) ts rest refl h)
@@ -72,7 +72,7 @@ upper-only (D.Sequence d) ts rest h p m = refl
 upper-only (D.Choice d) ts rest h p m = refl
 upper-only (D.Macro d) ts rest h p m = rw m refl
 
-macro-only : (k : DefKind) (ts rest : List Item) → Takes (macro_definition.spell k) ts rest → (p : Labelled) → is_macro p.0.1.octets ≡ true
+macro-only : (k : DefKind) (ts rest : List Item) → StandsAhead (macro_definition.spell k) ts rest → (p : Labelled) → is_macro p.0.1.octets ≡ true
     → def_pieces p k ≡ inr (inr p)
 macro-only k ts rest h p m =
     let q = macro-pieces k ts rest h in
@@ -89,7 +89,7 @@ abbrev by_macro : Format Labelled
 by_macro = pair (lined macro_name) macro_definition
 
 -- the mark of a label, with its line
-label-mark : (n : ℕ) (x : List ℕ) (ok : Bool) (k : TokenKind) (ts mid : List Item) → Takes (on_line n (spelled k x ok) ∷ []) ts mid → ok ≡ true
+label-mark : (n : ℕ) (x : List ℕ) (ok : Bool) (k : TokenKind) (ts mid : List Item) → StandsAhead (on_line n (spelled k x ok) ∷ []) ts mid → ok ≡ true
 label-mark n x ok k [] mid h = absurd h
 label-mark n x ok k (Err f ∷ ts) mid h = absurd h
 label-mark n x ok k (Ok t ∷ ts) mid h = h.0.0.2
@@ -97,18 +97,18 @@ label-mark n x ok k (Ok t ∷ ts) mid h = h.0.0.2
 name-not-macro : (x : List ℕ) → not (is_reserved x) ≡ true → is_macro x ≡ false
 name-not-macro x h = false-from (is_macro x) (λ m. cc (not-true (is_reserved x) h, macro-reserved x m))
 
-def-back : (x : Labelled ⊎ (Labelled ⊎ Labelled)) (ts rest : List Item) → Takes ((either by_lower (either by_upper by_macro)).spell x) ts rest
+def-back : (x : Labelled ⊎ (Labelled ⊎ Labelled)) (ts rest : List Item) → StandsAhead ((either by_lower (either by_upper by_macro)).spell x) ts rest
     → from_def (to_def x) ≡ Some x
 unfolding either pair lined text name lower macro_name
 def-back (inl p) ts rest h =
-    let r = Takes-split ((lined lower).spell p.0) (lower_definition.spell p.1) ts rest h in
+    let r = StandsAhead-split ((lined lower).spell p.0) (lower_definition.spell p.1) ts rest h in
     ap (λ (y : Labelled ⊎ (Labelled ⊎ Labelled)). Some y) (lower-only p.1 r.0 rest r.2 p)
 def-back (inr (inl p)) ts rest h =
-    let r = Takes-split ((lined name).spell p.0) (upper_definition.spell p.1) ts rest h in
+    let r = StandsAhead-split ((lined name).spell p.0) (upper_definition.spell p.1) ts rest h in
     let plain = label-mark p.0.0 p.0.1.octets (not (is_reserved p.0.1.octets)) K.Upper ts r.0 r.1 in
     ap (λ (y : Labelled ⊎ (Labelled ⊎ Labelled)). Some y) (upper-only p.1 r.0 rest r.2 p (name-not-macro p.0.1.octets plain))
 def-back (inr (inr p)) ts rest h =
-    let r = Takes-split ((lined macro_name).spell p.0) (macro_definition.spell p.1) ts rest h in
+    let r = StandsAhead-split ((lined macro_name).spell p.0) (macro_definition.spell p.1) ts rest h in
     let word = label-mark p.0.0 p.0.1.octets (is_macro p.0.1.octets) K.Upper ts r.0 r.1 in
     ap (λ (y : Labelled ⊎ (Labelled ⊎ Labelled)). Some y) (macro-only p.1 r.0 rest r.2 p word)
 

@@ -26,20 +26,20 @@ use Rattle.std.proofs.Common.{
 }
 use Rattle.std.specs.List.{flat_map, list_any, list_all}
 use Rattle.smi_lexer.specs.Token.{Lexeme, Item}
-use Rattle.smi_module.specs.Mark.{Mark, Fits, spelled, on_line, same_text}
-use Rattle.smi_text.specs.Format.{Takes}
+use Rattle.smi_module.specs.Mark.{Mark, MarksToken, spelled, on_line, same_text}
+use Rattle.smi_text.specs.Format.{StandsAhead}
 use Rattle.smi_text.specs.Format.{Ahead, begins}
 use Rattle.smi_text.specs.Grammar.{definition, module_text, file}
 use Rattle.smi_module.specs.Spelling.{of_def, of_def_kind, of_module, spelling}
 use Rattle.smi_text.specs.Text.{HasNoDoubles}
 use Rattle.smi_module.specs.Lookup.{labels, are_distinct}
-use Rattle.smi_text.specs.Gives.{text_ahead}
+use Rattle.smi_text.specs.Returned.{text_ahead}
 use Rattle.smi_module.specs.declared.tree.Def.{Def}
 use Rattle.smi_module.specs.declared.names.Name.{Name}
 use Rattle.smi_module.specs.declared.tree.DefKind.{DefKind}
 use Rattle.smi_module.specs.declared.tree.DefKind.TheVariants as D
 use Rattle.smi_module.specs.declared.tree.Module.{Module}
-use Rattle.smi_text.proofs.Marks.{and-left, and-right, and-both, or-false, false-from, same_text-eq, same_text-same, Takes-append}
+use Rattle.smi_text.proofs.Marks.{and-left, and-right, and-both, or-false, false-from, same_text-eq, same_text-same, StandsAhead-append}
 use Rattle.smi_text.proofs.Laws.{some-inj}
 use Rattle.smi_text.proofs.DefinitionLaws.{definition-law}
 use Rattle.smi_text.proofs.ModuleLaws.{module_text-law, file-law}
@@ -51,7 +51,7 @@ mark_text : Mark → List ℕ
 mark_text (spelled k x ok) = x
 mark_text (on_line n m) = mark_text m
 
-fits-text : (m : Mark) (t : Lexeme) → Fits m t → mark_text m ≡ t.text
+fits-text : (m : Mark) (t : Lexeme) → MarksToken m t → mark_text m ≡ t.text
 unfolding mark_text
 fits-text (spelled k x ok) t h = sym h.1
 fits-text (on_line n m) t h = fits-text m t h.0
@@ -61,14 +61,14 @@ first_text : List Mark → Option (List ℕ)
 first_text [] = None
 first_text (m ∷ ms) = Some (mark_text m)
 
-first-label : (ms : List Mark) (x : List ℕ) (ts rest : List Item) → first_text ms ≡ Some x → Takes ms ts rest → x ≡ text_ahead ts
+first-label : (ms : List Mark) (x : List ℕ) (ts rest : List Item) → first_text ms ≡ Some x → StandsAhead ms ts rest → x ≡ text_ahead ts
 unfolding first_text
 first-label [] x ts rest e h = absurd (cc)
 first-label (m ∷ ms) x [] rest e h = absurd h
 first-label (m ∷ ms) x (Err f ∷ ts) rest e h = absurd h
 first-label (m ∷ ms) x (Ok t ∷ ts) rest e h = some-inj x (mark_text m) (sym e) ∙ fits-text m t h.0
 
-kind-label : (n : ℕ) (x : Name) (k : DefKind) (ts rest : List Item) → Takes (of_def_kind n x k) ts rest → x.octets ≡ text_ahead ts
+kind-label : (n : ℕ) (x : Name) (k : DefKind) (ts rest : List Item) → StandsAhead (of_def_kind n x k) ts rest → x.octets ≡ text_ahead ts
 unfolding first_text mark_text
 kind-label n x (D.ObjectIdentifier d) ts rest h = first-label (of_def_kind n x (D.ObjectIdentifier d)) x.octets ts rest refl h
 kind-label n x (D.ModuleIdentity d) ts rest h = first-label (of_def_kind n x (D.ModuleIdentity d)) x.octets ts rest refl h
@@ -85,11 +85,11 @@ kind-label n x (D.Sequence d) ts rest h = first-label (of_def_kind n x (D.Sequen
 kind-label n x (D.Choice d) ts rest h = first-label (of_def_kind n x (D.Choice d)) x.octets ts rest refl h
 kind-label n x (D.Macro d) ts rest h = first-label (of_def_kind n x (D.Macro d)) x.octets ts rest refl h
 
-pub spelled-label : (d : Def) (ts rest : List Item) → Takes (of_def d) ts rest → d.label.octets ≡ text_ahead ts
+pub spelled-label : (d : Def) (ts rest : List Item) → StandsAhead (of_def d) ts rest → d.label.octets ≡ text_ahead ts
 spelled-label d ts rest h = kind-label d.line d.label d.kind ts rest h
 
-pub read-stands : (d : Def) (ts rest : List Item) → definition.read ts ≡ Some (d, rest) → Takes (of_def d) ts rest
-read-stands d ts rest h = let P : List Mark → Type 0 = λ ms. Takes ms ts rest in subst P (def-spells d) (definition-law.takes ts rest d h)
+pub read-stands : (d : Def) (ts rest : List Item) → definition.read ts ≡ Some (d, rest) → StandsAhead (of_def d) ts rest
+read-stands d ts rest h = let P : List Mark → Type 0 = λ ms. StandsAhead ms ts rest in subst P (def-spells d) (definition-law.takes ts rest d h)
 
 pub read-label : (d : Def) (ts rest : List Item) → definition.read ts ≡ Some (d, rest) → d.label.octets ≡ text_ahead ts
 read-label d ts rest h = kind-label d.line d.label d.kind ts rest (read-stands d ts rest h)
@@ -100,11 +100,12 @@ flat-more : {A : Type 0} (f : A → List Mark) (xs : List A) (x : A) → flat_ma
 flat-more f [] x = append-nil (f x)
 flat-more f (y ∷ ys) x = ap (λ (ms : List Mark). f y ++ ms) (flat-more f ys x) ∙ sym (append_assoc (f y) (flat_map f ys) (f x))
 
-pub stands-more : {A : Type 0} (f : A → List Mark) (xs : List A) (x : A) (ts mid rest : List Item) → Takes (flat_map f xs) ts mid → Takes (f x) mid rest
-    → Takes (flat_map f (xs ++ x ∷ [])) ts rest
+pub stands-more : {A : Type 0} (f : A → List Mark) (xs : List A) (x : A) (ts mid rest : List Item) → StandsAhead (flat_map f xs) ts mid
+    → StandsAhead (f x) mid rest
+    → StandsAhead (flat_map f (xs ++ x ∷ [])) ts rest
 stands-more f xs x ts mid rest h k =
-    let P : List Mark → Type 0 = λ ms. Takes ms ts rest in
-    subst P (sym (flat-more f xs x)) (Takes-append (flat_map f xs) (f x) ts mid rest h k)
+    let P : List Mark → Type 0 = λ ms. StandsAhead ms ts rest in
+    subst P (sym (flat-more f xs x)) (StandsAhead-append (flat_map f xs) (f x) ts mid rest h k)
 
 pub any-more : (x : List ℕ) (ys : List (List ℕ)) (y : List ℕ) → list_any (same_text x) (ys ++ y ∷ []) ≡ (same_text x y || list_any (same_text x) ys)
 any-more x [] y = refl
@@ -157,18 +158,18 @@ all-more p (y ∷ ys) x h k = and-both (p y) (list_all p (ys ++ x ∷ [])) (and-
 pub no-doubles-more : (ms : List Module) (m : Module) → HasNoDoubles ms → are_distinct (labels m.defs) ≡ true → HasNoDoubles (ms ++ m ∷ [])
 no-doubles-more ms m h k = all-more (λ (n : Module). are_distinct (labels n.defs)) ms m h k
 
-pub module-stands : (m : Module) (ts rest : List Item) → module_text.read ts ≡ Some (m, rest) → Takes (of_module m) ts rest
-module-stands m ts rest h = let P : List Mark → Type 0 = λ ms. Takes ms ts rest in subst P (module-spells m) (module_text-law.takes ts rest m h)
+pub module-stands : (m : Module) (ts rest : List Item) → module_text.read ts ≡ Some (m, rest) → StandsAhead (of_module m) ts rest
+module-stands m ts rest h = let P : List Mark → Type 0 = λ ms. StandsAhead ms ts rest in subst P (module-spells m) (module_text-law.takes ts rest m h)
 
 nothing-begins : (cs : List Ahead) → begins cs [] ≡ false
 unfolding begins
 nothing-begins cs = refl
 
 -- the whole
-pub file-stands : (ms : List Module) (ts rest : List Item) → file.read ts ≡ Some (ms, rest) → Takes (spelling ms) ts rest
-file-stands ms ts rest h = let P : List Mark → Type 0 = λ us. Takes us ts rest in subst P (file-spells ms) (file-law.takes ts rest ms h)
+pub file-stands : (ms : List Module) (ts rest : List Item) → file.read ts ≡ Some (ms, rest) → StandsAhead (spelling ms) ts rest
+file-stands ms ts rest h = let P : List Mark → Type 0 = λ us. StandsAhead us ts rest in subst P (file-spells ms) (file-law.takes ts rest ms h)
 
-pub file-reads : (ms : List Module) (ts : List Item) → Takes (spelling ms) ts [] → file.read ts ≡ Some (ms, [])
+pub file-reads : (ms : List Module) (ts : List Item) → StandsAhead (spelling ms) ts [] → file.read ts ≡ Some (ms, [])
 file-reads ms ts h =
-    let P : List Mark → Type 0 = λ us. Takes us ts [] in
+    let P : List Mark → Type 0 = λ us. StandsAhead us ts [] in
     file-law.again ms ts [] (subst P (sym (file-spells ms)) h) (nothing-begins file.stop)

@@ -4,7 +4,7 @@ use Rattle.std.specs.Prelude.{codes}
 use Rattle.std.specs.List.{flat_map, list_any, list_all}
 use Rattle.smi_lexer.specs.Token.{Item}
 use Rattle.smi_module.specs.Mark.{Mark, same_text}
-use Rattle.smi_text.specs.Format.{Takes}
+use Rattle.smi_text.specs.Format.{StandsAhead}
 use Rattle.smi_module.specs.Reserved.{is_reserved}
 use Rattle.smi_text.specs.Format.{
   Format,
@@ -84,7 +84,7 @@ use Rattle.smi_text.specs.Grammar.{
   simple_type,
   size,
   status,
-  symbol,
+  imported_symbol,
   syntax_clause,
   syntax_type,
   tag,
@@ -95,13 +95,13 @@ use Rattle.smi_text.specs.Grammar.{
 }
 use Rattle.smi_module.specs.Spelling.{of_def, of_head, of_module, spelling}
 use Rattle.smi_text.specs.Text.{HasNoDoubles}
-use Rattle.smi_text.specs.Gives.{RepeatsIn, RepeatsAgain}
+use Rattle.smi_text.specs.Returned.{RepeatsIn, RepeatsAgain}
 use Rattle.smi_module.specs.Lookup.{labels, are_distinct}
 use Rattle.smi_text.specs.declared.modules.Head.{Head}
 use Rattle.smi_module.specs.declared.tree.Def.{Def}
 use Rattle.smi_module.specs.declared.tree.Module.{Module}
 use Rattle.smi_text.proofs.Lawful.{Lawful}
-use Rattle.smi_text.proofs.Marks.{and-left, and-right, or-cases, or-left, or-right, same_text-eq, same_text-same, Takes-split, apart-false}
+use Rattle.smi_text.proofs.Marks.{and-left, and-right, or-cases, or-left, or-right, same_text-eq, same_text-same, StandsAhead-split, apart-false}
 use Rattle.smi_text.proofs.Many.{many-fails, many-goes_on, with_front-append, with_front-nil}
 use Rattle.smi_text.proofs.Laws.{starts-with, some-inj}
 use Rattle.smi_text.proofs.DefinitionLaws.{definition-law}
@@ -126,17 +126,17 @@ fronts-inv {A} xs (Some p) ys rest h =
 
 -- parts that are spelled before one that begins again are read first
 module _ {A : Type 0} (f : Format A) (law : Lawful f) (solid : f.empty ≡ false) (far : apart f.stop f.first ≡ true) where
-  begin-again : (xs : List A) (ts mid : List Item) → Takes (flat_map f.spell xs) ts mid → begins f.first mid ≡ true → begins f.first ts ≡ true
+  begin-again : (xs : List A) (ts mid : List Item) → StandsAhead (flat_map f.spell xs) ts mid → begins f.first mid ≡ true → begins f.first ts ≡ true
   begin-again [] ts mid h b = ap (begins f.first) h ∙ b
   begin-again (x ∷ xs) ts mid h b =
-      let r = Takes-split (f.spell x) (flat_map f.spell xs) ts mid h in
+      let r = StandsAhead-split (f.spell x) (flat_map f.spell xs) ts mid h in
       starts-with f law solid x ts r.0 r.1
 
-  pub many-before : (xs : List A) (ts mid : List Item) → Takes (flat_map f.spell xs) ts mid → begins f.first mid ≡ true
+  pub many-before : (xs : List A) (ts mid : List Item) → StandsAhead (flat_map f.spell xs) ts mid → begins f.first mid ≡ true
       → (many f).read ts ≡ with_front xs ((many f).read mid)
   many-before [] ts mid h b = ap (λ (us : List Item). (many f).read us) h ∙ sym (with_front-nil _)
   many-before (x ∷ xs) ts mid h b =
-      let r = Takes-split (f.spell x) (flat_map f.spell xs) ts mid h in
+      let r = StandsAhead-split (f.spell x) (flat_map f.spell xs) ts mid h in
       let on = apart-false f.stop f.first r.0 far (begin-again xs r.0 mid r.2 b) in
       many-goes_on f law solid x ts r.0 (starts-with f law solid x ts r.0 r.1) (law.again x ts r.0 r.1 on)
       ∙ ap (with_front (x ∷ [])) (many-before xs r.0 mid r.2 b)
@@ -185,15 +185,15 @@ unfolding arc assigned balanced base before before_assign before_end behind boun
 definition-apart = refl
 
 module _ (line : ℕ) (body : List Item) (s : RepeatsIn line body) where
-  halves : (mid : List Item) × Takes (flat_map of_def s.before) body mid × Takes (of_def s.second) mid s.rest
-  halves = Takes-split (flat_map of_def s.before) (of_def s.second) body s.rest s.stands
+  halves : (mid : List Item) × StandsAhead (flat_map of_def s.before) body mid × StandsAhead (of_def s.second) mid s.rest
+  halves = StandsAhead-split (flat_map of_def s.before) (of_def s.second) body s.rest s.stands
 
-  first-half : Takes (flat_map definition.spell s.before) body halves.0
-  first-half = let P : List Mark → Type 0 = λ ms. Takes ms body halves.0 in subst P (sym (lists definition.spell of_def def-spells s.before)) halves.1
+  first-half : StandsAhead (flat_map definition.spell s.before) body halves.0
+  first-half = let P : List Mark → Type 0 = λ ms. StandsAhead ms body halves.0 in subst P (sym (lists definition.spell of_def def-spells s.before)) halves.1
 
   second-ahead : begins definition.first halves.0 ≡ true
   second-ahead =
-      let P : List Mark → Type 0 = λ ms. Takes ms halves.0 s.rest in
+      let P : List Mark → Type 0 = λ ms. StandsAhead ms halves.0 s.rest in
       starts-with definition definition-law definition-solid s.second halves.0 s.rest (subst P (sym (def-spells s.second)) halves.2)
 
   body-ahead : begins definition.first body ≡ true
@@ -222,7 +222,7 @@ unfolding arc assigned balanced base before before_assign before_end behind boun
     identifier import_clause imports index index_names is_reserved later_part lined lower_definition macro_body macro_definition macro_name many maybe
     module_identity name lower named_number names notification_type object_identifier object_identifier_words object_identity object_type objects
     octet_string_words of_row opening pair parenthesized part range ranges raw_definition refinement revision separated sequence shaped simple_type size
-    some_of status symbol syntax_clause syntax_type tag tagged text text_where textual_convention token upper_definition value word
+    some_of status imported_symbol syntax_clause syntax_type tag tagged text text_where textual_convention token upper_definition value word
 head-apart = refl
 
 module-first : (ts : List Item) → begins module_text.first ts ≡ begins head.first ts
@@ -230,7 +230,7 @@ unfolding arc assigned balanced base before before_assign before_end behind boun
     identifier import_clause imports index index_names later_part lined lower_definition macro_body macro_definition macro_name many maybe module_identity
     module_text name lower named_number names notification_type object_identifier object_identifier_words object_identity object_type objects
     octet_string_words of_row opening pair parenthesized part range ranges raw_definition refinement revision separated sequence shaped simple_type size
-    some_of status symbol syntax_clause syntax_type tag tagged text text_where textual_convention token upper_definition value word
+    some_of status imported_symbol syntax_clause syntax_type tag tagged text text_where textual_convention token upper_definition value word
 module-first ts = refl
 
 module-apart : apart module_text.stop module_text.first ≡ true
@@ -238,12 +238,12 @@ unfolding arc assigned balanced base before before_assign before_end behind boun
     identifier import_clause imports index index_names is_reserved later_part lined lower_definition macro_body macro_definition macro_name many maybe
     module_identity module_text name lower named_number names notification_type object_identifier object_identifier_words object_identity object_type objects
     octet_string_words of_row opening pair parenthesized part range ranges raw_definition refinement revision separated sequence shaped simple_type size
-    some_of status symbol syntax_clause syntax_type tag tagged text text_where textual_convention token upper_definition value word
+    some_of status imported_symbol syntax_clause syntax_type tag tagged text text_where textual_convention token upper_definition value word
 module-apart = refl
 
 head-solid : head.empty ≡ false
 unfolding arc before behind braced either head heading import_clause imports lined many maybe name lower opening pair parenthesized part separated shaped
-    some_of symbol text text_where token word
+    some_of imported_symbol text text_where token word
 head-solid = refl
 
 module-inv : (ts body : List Item) (h : Head) (m : Module) (rest : List Item) → head.read ts ≡ Some (h, body) → module_text.read ts ≡ Some (m, rest)
@@ -264,11 +264,11 @@ module-inv ts body h m rest e r =
     ] refl
 
 module _ (line : ℕ) (tokens : List Item) (d : RepeatsAgain line tokens) where
-  opened : (mid : List Item) × Takes (spelling d.modules) tokens mid × Takes (of_head d.name d.heading d.imports) mid d.body
-  opened = Takes-split (spelling d.modules) (of_head d.name d.heading d.imports) tokens d.body d.stands
+  opened : (mid : List Item) × StandsAhead (spelling d.modules) tokens mid × StandsAhead (of_head d.name d.heading d.imports) mid d.body
+  opened = StandsAhead-split (spelling d.modules) (of_head d.name d.heading d.imports) tokens d.body d.stands
 
-  head-stands : Takes (head.spell (record { name = d.name; heading = d.heading; imports = d.imports })) opened.0 d.body
-  head-stands = let P : List Mark → Type 0 = λ ms. Takes ms opened.0 d.body in subst P (sym (head-spells d.name d.heading d.imports)) opened.2
+  head-stands : StandsAhead (head.spell (record { name = d.name; heading = d.heading; imports = d.imports })) opened.0 d.body
+  head-stands = let P : List Mark → Type 0 = λ ms. StandsAhead ms opened.0 d.body in subst P (sym (head-spells d.name d.heading d.imports)) opened.2
 
   head-read : head.read opened.0 ≡ Some (record { name = d.name; heading = d.heading; imports = d.imports }, d.body)
   head-read = head-law.again (record { name = d.name; heading = d.heading; imports = d.imports }) opened.0 d.body head-stands
@@ -278,9 +278,9 @@ module _ (line : ℕ) (tokens : List Item) (d : RepeatsAgain line tokens) where
   module-ahead = module-first opened.0
       ∙ starts-with head head-law head-solid (record { name = d.name; heading = d.heading; imports = d.imports }) opened.0 d.body head-stands
 
-  before-stands : Takes (flat_map module_text.spell d.modules) tokens opened.0
+  before-stands : StandsAhead (flat_map module_text.spell d.modules) tokens opened.0
   before-stands = let P : List Mark
-      → Type 0 = λ ms. Takes ms tokens opened.0 in subst P (sym (lists module_text.spell of_module module-spells d.modules)) opened.1
+      → Type 0 = λ ms. StandsAhead ms tokens opened.0 in subst P (sym (lists module_text.spell of_module module-spells d.modules)) opened.1
 
   pub file-twice : (ns : List Module) → file.read tokens ≡ Some (ns, []) → HasNoDoubles ns → ⊥
   unfolding file

@@ -5,14 +5,14 @@ use Rattle.std.specs.List.{flat_map, list_any}
 use Rattle.std.specs.BTreeSet.{BTreeSet}
 use Rattle.smi_lexer.specs.Token.{Item}
 use Rattle.smi_module.specs.Mark.{Mark, same_text}
-use Rattle.smi_text.specs.Format.{Takes}
+use Rattle.smi_text.specs.Format.{StandsAhead}
 use Rattle.smi_text.specs.Names.{has}
 use Rattle.smi_text.specs.Format.{Ahead, begins, read_many, many, with_front, shaped, pair, before, word, lower}
 use Rattle.smi_text.specs.Grammar.{definition, head, module_text, file}
 use Rattle.smi_module.specs.Spelling.{of_def, of_head, of_module, spelling}
 use Rattle.smi_text.specs.Text.{HasNoDoubles}
 use Rattle.smi_module.specs.Lookup.{labels, are_distinct}
-use Rattle.smi_text.specs.Gives.{
+use Rattle.smi_text.specs.Returned.{
   RepeatsIn,
   is_memory,
   error_of,
@@ -31,7 +31,7 @@ use Rattle.smi_text.specs.declared.error.ParseError.TheVariants as E
 use Rattle.smi_text.specs.declared.modules.Head.{Head}
 use Rattle.smi_module.specs.declared.tree.Def.{Def}
 use Rattle.smi_module.specs.declared.tree.Module.{Module}
-use Rattle.smi_text.proofs.Marks.{Takes-append}
+use Rattle.smi_text.proofs.Marks.{StandsAhead-append}
 use Rattle.smi_text.proofs.Many.{
   reading-shorter,
   next-many,
@@ -56,7 +56,7 @@ pub record HasRead (names : BTreeSet (Bor (List ℕ))) (defs : List Def) (from n
   pub bound : ℕ
   pub enough : length now ≤ bound
   pub left : with_front defs (read_many definition bound now) ≡ (many definition).read from
-  pub stands : Takes (flat_map of_def defs) from now
+  pub stands : StandsAhead (flat_map of_def defs) from now
   pub named : (x : List ℕ) → has names x ≡ list_any (same_text x) (labels defs)
   pub distinct : are_distinct (labels defs) ≡ true
 
@@ -110,7 +110,7 @@ module _ (names : BTreeSet (Bor (List ℕ))) (defs : List Def) (from now : List 
       once = have.distinct;
       second = d;
       rest = rest;
-      stands = Takes-append (flat_map of_def defs) (of_def d) from now rest have.stands (read-stands d now rest read);
+      stands = StandsAhead-append (flat_map of_def defs) (of_def d) from now rest have.stands (read-stands d now rest read);
       defined = ap (λ (z : List ℕ). list_any (same_text z) (labels defs)) same-label ∙ sym (have.named x) ∙ again;
       on_line = refl;
     }
@@ -142,7 +142,7 @@ module _ (ts mid : List Item) (h : Head) (read : head.read ts ≡ Some (h, mid))
     heading = h.heading;
     imports = h.imports;
     body = mid;
-    stands = let P : List Mark → Type 0 = λ ms. Takes ms ts mid in subst P (head-spells h.name h.heading h.imports) (head-law.takes ts mid h read);
+    stands = let P : List Mark → Type 0 = λ ms. StandsAhead ms ts mid in subst P (head-spells h.name h.heading h.imports) (head-law.takes ts mid h read);
     twice = f;
   }
   module-defs E.Memory f = tt
@@ -171,7 +171,7 @@ pub record HasModules (ms : List Module) (from now : List Item) : Type 0 where
   pub bound : ℕ
   pub enough : length now ≤ bound
   pub left : with_front ms (read_many module_text bound now) ≡ file.read from
-  pub stands : Takes (spelling ms) from now
+  pub stands : StandsAhead (spelling ms) from now
   pub distinct : HasNoDoubles ms
 
 pub has_modules-start : (ms : List Module) (ts : List Item) → ms ≡ [] → HasModules ms ts ts
@@ -228,7 +228,7 @@ module _ (ms : List Module) (from now : List Item) (have : HasModules ms from no
     heading = f.heading;
     imports = f.imports;
     body = f.body;
-    stands = Takes-append (spelling ms) (of_head f.name f.heading f.imports) from now f.body have.stands f.stands;
+    stands = StandsAhead-append (spelling ms) (of_head f.name f.heading f.imports) from now f.body have.stands f.stands;
     twice = f.twice;
   }
   has_modules-fault E.Memory some f = tt

@@ -5,13 +5,13 @@ use Rattle.std.specs.Prelude.{codes, option_map, option_and_then}
 use Rattle.smi_lexer.specs.declared.token.TokenKind.TheVariants as K
 use Rattle.smi_lexer.specs.Token.{Item}
 use Rattle.smi_module.specs.Mark.{Mark, sign, spelled}
-use Rattle.smi_text.specs.Format.{Takes}
+use Rattle.smi_text.specs.Format.{StandsAhead}
 use Rattle.smi_text.specs.Format.{Reading, a_word, a_kind, meets, begins, before, behind, either, many, separated, shaped, some_of, text, token, word, lower}
-use Rattle.smi_text.specs.Grammar.{index_marks, parts_of, implied_name, to_index, from_index, Lower, braced, index, index_names, names, read_index}
+use Rattle.smi_text.specs.Grammar.{index_marks, index_parts, implied_name, to_index, from_index, Lower, braced, index, index_names, names, read_index}
 use Rattle.smi_text.specs.Grammar.{with_names}
 use Rattle.smi_text.proofs.Lawful.{Lawful}
-use Rattle.smi_text.proofs.Marks.{or-left, or-right, Takes-append, Takes-split, begins-none, begins-append, map-inv, then-inv}
-use Rattle.smi_text.proofs.Many.{Takes-length}
+use Rattle.smi_text.proofs.Marks.{or-left, or-right, StandsAhead-append, StandsAhead-split, begins-none, begins-append, map-inv, then-inv}
+use Rattle.smi_text.proofs.Many.{StandsAhead-length}
 use Rattle.smi_text.proofs.Laws.{some-inj, any-one, never-stands, word-law, token-law, lower-law, behind-law, either-law, shaped-law, starts-with}
 use Rattle.smi_module.specs.declared.names.Name.{Name}
 use Rattle.smi_module.specs.declared.tree.IndexParts.{IndexParts}
@@ -26,34 +26,34 @@ implied_name-law : Lawful implied_name
 unfolding behind word text lower
 implied_name-law = behind-law (word (codes "IMPLIED")) lower (word-law (codes "IMPLIED")) lower-law refl refl
 
-stands-lower : (ts rest : List Item) (x : Name) → lower.read ts ≡ Some (x, rest) → Takes (spelled K.Lower x.octets true ∷ []) ts rest
+stands-lower : (ts rest : List Item) (x : Name) → lower.read ts ≡ Some (x, rest) → StandsAhead (spelled K.Lower x.octets true ∷ []) ts rest
 unfolding lower
 stands-lower ts rest x h = lower-law.takes ts rest x h
 
-read-lower : (ts rest : List Item) (x : Name) → Takes (spelled K.Lower x.octets true ∷ []) ts rest → lower.read ts ≡ Some (x, rest)
+read-lower : (ts rest : List Item) (x : Name) → StandsAhead (spelled K.Lower x.octets true ∷ []) ts rest → lower.read ts ≡ Some (x, rest)
 unfolding lower
 read-lower ts rest x h = lower-law.again x ts rest h (begins-none rest)
 
 -- a comma is read and taken
-stands-comma : (ts rest : List Item) (u : Unit {0}) → (token K.Comma).read ts ≡ Some (u, rest) → Takes (sign K.Comma ∷ []) ts rest
+stands-comma : (ts rest : List Item) (u : Unit {0}) → (token K.Comma).read ts ≡ Some (u, rest) → StandsAhead (sign K.Comma ∷ []) ts rest
 unfolding token
 stands-comma ts rest u h = (token-law K.Comma).takes ts rest u h
 
-read-comma : (ts rest : List Item) → Takes (sign K.Comma ∷ []) ts rest → (token K.Comma).read ts ≡ Some (tt, rest)
+read-comma : (ts rest : List Item) → StandsAhead (sign K.Comma ∷ []) ts rest → (token K.Comma).read ts ≡ Some (tt, rest)
 unfolding token
 read-comma ts rest h = (token-law K.Comma).again tt ts rest h (begins-none rest)
 
-comma-begins : (ts rest : List Item) → Takes (sign K.Comma ∷ []) ts rest → begins (a_kind K.Comma ∷ []) ts ≡ true
+comma-begins : (ts rest : List Item) → StandsAhead (sign K.Comma ∷ []) ts rest → begins (a_kind K.Comma ∷ []) ts ≡ true
 unfolding begins
 comma-begins [] rest h = absurd h
 comma-begins (Err f ∷ ts) rest h = absurd h
 comma-begins (Ok t ∷ ts) rest h = any-one t (a_kind K.Comma) (rw h.0.0 refl)
 
 abbrev put_implied : Name × List Item → IndexParts × List Item
-put_implied p = (parts_of (p.0 ∷ []) true, p.1)
+put_implied p = (index_parts (p.0 ∷ []) true, p.1)
 
 abbrev put_name : Name → IndexParts × List Item → IndexParts × List Item
-put_name x p = (parts_of (x ∷ p.0.names) p.0.implied, p.1)
+put_name x p = (index_parts (x ∷ p.0.names) p.0.implied, p.1)
 
 -- the names after a comma
 abbrev read_after : ℕ → (Unit {0}) × List Item → Reading IndexParts
@@ -63,7 +63,7 @@ read_after n q = read_index n q.1
 abbrev read_next : ℕ → Name × List Item → Reading IndexParts
 read_next n p =
     if begins (a_kind K.Comma ∷ []) p.1 then with_names (p.0 ∷ []) (option_and_then (read_after n) ((token K.Comma).read p.1))
-    else Some (parts_of (p.0 ∷ []) false, p.1)
+    else Some (index_parts (p.0 ∷ []) false, p.1)
 
 with_names-one : (x : Name) (r : Reading IndexParts) → with_names (x ∷ []) r ≡ option_map (put_name x) r
 unfolding with_names
@@ -71,20 +71,20 @@ with_names-one x None = refl
 with_names-one x (Some p) = refl
 
 -- a name and a comma before the names of an index
-joined : (x : Name) (ys : List Name) (implied : Bool) (ts mid after rest : List Item) → Takes (spelled K.Lower x.octets true ∷ []) ts mid
-    → Takes (sign K.Comma ∷ []) mid after → Takes (index_marks ys implied) after rest → Takes (index_marks (x ∷ ys) implied) ts rest
+joined : (x : Name) (ys : List Name) (implied : Bool) (ts mid after rest : List Item) → StandsAhead (spelled K.Lower x.octets true ∷ []) ts mid
+    → StandsAhead (sign K.Comma ∷ []) mid after → StandsAhead (index_marks ys implied) after rest → StandsAhead (index_marks (x ∷ ys) implied) ts rest
 joined x [] implied ts mid after rest h c k = absurd (never-stands after rest k)
 joined x (y ∷ ys) implied ts mid after rest h c k =
-    Takes-append (spelled K.Lower x.octets true ∷ []) (sign K.Comma ∷ index_marks (y ∷ ys) implied) ts mid rest h
-    (Takes-append (sign K.Comma ∷ []) (index_marks (y ∷ ys) implied) mid after rest c k)
+    StandsAhead-append (spelled K.Lower x.octets true ∷ []) (sign K.Comma ∷ index_marks (y ∷ ys) implied) ts mid rest h
+    (StandsAhead-append (sign K.Comma ∷ []) (index_marks (y ∷ ys) implied) mid after rest c k)
 
-index-takes : (n : ℕ) (ts rest : List Item) (x : IndexParts) → read_index n ts ≡ Some (x, rest) → Takes (index_marks x.names x.implied) ts rest
+index-takes : (n : ℕ) (ts rest : List Item) (x : IndexParts) → read_index n ts ≡ Some (x, rest) → StandsAhead (index_marks x.names x.implied) ts rest
 unfolding read_index behind word text lower
 index-takes zero ts rest x h = absurd (cc)
 index-takes (suc n) ts rest x h =
-    let P : IndexParts × List Item → Type 0 = λ w. Takes (index_marks w.0.names w.0.implied) ts w.1 in
+    let P : IndexParts × List Item → Type 0 = λ w. StandsAhead (index_marks w.0.names w.0.implied) ts w.1 in
     elim (begins (a_word (codes "IMPLIED") ∷ []) ts) as (λ b. (if b then option_map put_implied (implied_name.read ts) else option_and_then (read_next n)
-    (lower.read ts)) ≡ Some (x, rest) → Takes (index_marks x.names x.implied) ts rest) [
+    (lower.read ts)) ≡ Some (x, rest) → StandsAhead (index_marks x.names x.implied) ts rest) [
       | true ↦ λ k.
           let r = map-inv put_implied (implied_name.read ts) (x, rest) k in
           subst P r.2 (implied_name-law.takes ts r.0.1 r.0.0 r.1)
@@ -94,34 +94,34 @@ index-takes (suc n) ts rest x h =
           let mid = r.0.1 in
           let first = stands-lower ts mid y r.1 in
           let after = option_and_then (read_after n) ((token K.Comma).read mid) in
-          elim (begins (a_kind K.Comma ∷ []) mid) as (λ b. (if b then with_names (y ∷ []) after else Some (parts_of (y ∷ []) false, mid)) ≡ Some (x, rest)
-          → Takes (index_marks x.names x.implied) ts rest) [
+          elim (begins (a_kind K.Comma ∷ []) mid) as (λ b. (if b then with_names (y ∷ []) after else Some (index_parts (y ∷ []) false, mid)) ≡ Some (x, rest)
+          → StandsAhead (index_marks x.names x.implied) ts rest) [
             | true ↦ λ e.
                 let s = map-inv (put_name y) after (x, rest) (sym (with_names-one y after) ∙ e) in
                 let q = then-inv (read_after n) ((token K.Comma).read mid) s.0 s.1 in
                 subst P s.2 (joined y s.0.0.names s.0.0.implied ts mid q.0.1 s.0.1 first (stands-comma mid q.0.1 q.0.0 q.1)
                 (index-takes n q.0.1 s.0.1 s.0.0 q.2))
-            | false ↦ λ e. subst P (some-inj {A = IndexParts × List Item} (parts_of (y ∷ []) false, mid) (x, rest) e) first
+            | false ↦ λ e. subst P (some-inj {A = IndexParts × List Item} (index_parts (y ∷ []) false, mid) (x, rest) e) first
           ] r.2
     ] h
 
 -- a name in lower case is no IMPLIED
-lower-no-word : (x : Name) (w : List ℕ) (ts rest : List Item) (ms : List Mark) → Takes (spelled K.Lower x.octets true ∷ ms) ts rest
+lower-no-word : (x : Name) (w : List ℕ) (ts rest : List Item) (ms : List Mark) → StandsAhead (spelled K.Lower x.octets true ∷ ms) ts rest
     → begins (a_word w ∷ []) ts ≡ false
 unfolding begins
 lower-no-word x w [] rest ms h = refl
 lower-no-word x w (Err f ∷ ts) rest ms h = refl
 lower-no-word x w (Ok t ∷ ts) rest ms h = rw (h.0.0) refl
 
-implied-begins : (ts rest : List Item) (x : Name) → Takes (index_marks (x ∷ []) true) ts rest → begins (a_word (codes "IMPLIED") ∷ []) ts ≡ true
+implied-begins : (ts rest : List Item) (x : Name) → StandsAhead (index_marks (x ∷ []) true) ts rest → begins (a_word (codes "IMPLIED") ∷ []) ts ≡ true
 unfolding behind word text lower
 implied-begins ts rest x h = starts-with implied_name implied_name-law refl x ts rest h
 
-index-again : (xs : List Name) (implied : Bool) (n : ℕ) (ts rest : List Item) → length ts ≤ n → Takes (index_marks xs implied) ts rest
-    → begins (a_kind K.Comma ∷ []) rest ≡ false → read_index n ts ≡ Some (parts_of xs implied, rest)
+index-again : (xs : List Name) (implied : Bool) (n : ℕ) (ts rest : List Item) → length ts ≤ n → StandsAhead (index_marks xs implied) ts rest
+    → begins (a_kind K.Comma ∷ []) rest ≡ false → read_index n ts ≡ Some (index_parts xs implied, rest)
 unfolding read_index behind word text lower
 index-again [] implied n ts rest k h s = absurd (never-stands ts rest h)
-index-again (x ∷ []) implied zero [] rest k h s = absurd (elim implied as (λ b. Takes (index_marks (x ∷ []) b) [] rest
+index-again (x ∷ []) implied zero [] rest k h s = absurd (elim implied as (λ b. StandsAhead (index_marks (x ∷ []) b) [] rest
     → ⊥) [ true ↦ λ u. u | false ↦ λ u. u ] h)
 index-again (x ∷ []) implied zero (t ∷ ts) rest k h s = absurd (omega arith)
 index-again (x ∷ []) true (suc n) ts rest k h s =
@@ -133,9 +133,9 @@ index-again (x ∷ (y ∷ ys)) implied zero (t ∷ ts) rest k h s = absurd (omeg
 index-again (x ∷ (y ∷ ys)) implied (suc n) [] rest k h s = absurd h
 index-again (x ∷ (y ∷ ys)) implied (suc n) (Err f ∷ ts) rest k h s = absurd h
 index-again (x ∷ (y ∷ ys)) implied (suc n) (Ok t ∷ ts) rest k h s =
-    let others = Takes-split (sign K.Comma ∷ []) (index_marks (y ∷ ys) implied) ts rest h.1 in
+    let others = StandsAhead-split (sign K.Comma ∷ []) (index_marks (y ∷ ys) implied) ts rest h.1 in
     let first : lower.read (Ok t ∷ ts) ≡ Some (x, ts) = read-lower (Ok t ∷ ts) ts x (h.0, refl) in
-    let less : length others.0 ≤ n = omega (arith, Takes-length (sign K.Comma ∷ []) ts others.0 others.1) in
+    let less : length others.0 ≤ n = omega (arith, StandsAhead-length (sign K.Comma ∷ []) ts others.0 others.1) in
     let next = index-again (y ∷ ys) implied n others.0 rest less others.2 s in
     rw (
       lower-no-word x (codes "IMPLIED") (Ok t ∷ ts) rest (sign K.Comma ∷ index_marks
@@ -147,14 +147,14 @@ index-again (x ∷ (y ∷ ys)) implied (suc n) (Ok t ∷ ts) rest k h s =
       with_names-one,
     ) refl
 
-lower-begins : (x : Name) (ms : List Mark) (ts rest : List Item) → Takes (spelled K.Lower x.octets true ∷ ms) ts rest
+lower-begins : (x : Name) (ms : List Mark) (ts rest : List Item) → StandsAhead (spelled K.Lower x.octets true ∷ ms) ts rest
     → begins (a_word (codes "IMPLIED") ∷ a_kind K.Lower ∷ []) ts ≡ true
 unfolding begins
 lower-begins x ms [] rest h = absurd h
 lower-begins x ms (Err f ∷ ts) rest h = absurd h
 lower-begins x ms (Ok t ∷ ts) rest h = or-right (meets t (a_word (codes "IMPLIED"))) _ (rw h.0.0 refl)
 
-index-starts : (xs : List Name) (implied : Bool) (ts rest : List Item) → Takes (index_marks xs implied) ts rest
+index-starts : (xs : List Name) (implied : Bool) (ts rest : List Item) → StandsAhead (index_marks xs implied) ts rest
     → begins (a_word (codes "IMPLIED") ∷ a_kind K.Lower ∷ []) ts ≡ true
 index-starts [] implied ts rest h = absurd (never-stands ts rest h)
 index-starts (x ∷ []) true ts rest h =

@@ -36,8 +36,8 @@ use Rattle.std.specs.List.{list_any, flat_map}
 use Rattle.smi_lexer.specs.declared.token.TokenKind.{TokenKind}
 use Rattle.smi_lexer.specs.declared.token.TokenKind.TheVariants.{Lower, Upper}
 use Rattle.smi_lexer.specs.Token.{Lexeme, Item}
-use Rattle.smi_module.specs.Mark.{Mark, sign, sign_text, spelled, same_kind, same_text, Fits}
-use Rattle.smi_text.specs.Format.{Takes}
+use Rattle.smi_module.specs.Mark.{Mark, sign, sign_text, spelled, same_kind, same_text, MarksToken}
+use Rattle.smi_text.specs.Format.{StandsAhead}
 use Rattle.smi_module.specs.Reserved.{is_reserved}
 use Rattle.smi_text.specs.Format.{
   Format,
@@ -92,8 +92,8 @@ use Rattle.smi_text.proofs.Marks.{
   same_kind-same,
   same_text-eq,
   same_text-same,
-  Takes-append,
-  Takes-split,
+  StandsAhead-append,
+  StandsAhead-split,
   map-inv,
   then-inv,
   begins-append,
@@ -121,13 +121,13 @@ abbrev then_many : {A : Type 0} → Format A → ℕ → A × List Item → Read
 then_many f n p = option_map (put_first p.0) (read_many f n p.1)
 
 -- no token is spelled by `never`
-pub never-stands : (ts rest : List Item) → Takes never ts rest → ⊥
+pub never-stands : (ts rest : List Item) → StandsAhead never ts rest → ⊥
 never-stands [] rest h = h
 never-stands (Err f ∷ ts) rest h = h
 never-stands (Ok t ∷ ts) rest h = cc (h.0.2)
 
 -- what is spelled by a format that is not empty begins as it says
-pub starts-with : {A : Type 0} (f : Format A) → Lawful f → f.empty ≡ false → (x : A) (ts rest : List Item) → Takes (f.spell x) ts rest
+pub starts-with : {A : Type 0} (f : Format A) → Lawful f → f.empty ≡ false → (x : A) (ts rest : List Item) → StandsAhead (f.spell x) ts rest
     → begins f.first ts ≡ true
 starts-with f law solid x ts rest h =
     elim (law.starts x ts rest h) [ inl b ↦ b | inr p ↦ absurd (let e = p.0 in cc) ]
@@ -145,27 +145,27 @@ neither cs ds ts h = or-false (begins cs ts) (begins ds ts) (sym (begins-append 
 
 -- what a format of one token owes
 pub record IsOne {A : Type 0} (cs : List Ahead) (mark : A → Mark) (pick : Lexeme → Option A) : Type 0 where
-  pub fits : (t : Lexeme) (x : A) → pick t ≡ Some x → Fits (mark x) t
-  pub picks : (t : Lexeme) (x : A) → Fits (mark x) t → pick t ≡ Some x
-  pub ahead : (t : Lexeme) (x : A) → Fits (mark x) t → list_any (meets t) cs ≡ true
+  pub fits : (t : Lexeme) (x : A) → pick t ≡ Some x → MarksToken (mark x) t
+  pub picks : (t : Lexeme) (x : A) → MarksToken (mark x) t → pick t ≡ Some x
+  pub ahead : (t : Lexeme) (x : A) → MarksToken (mark x) t → list_any (meets t) cs ≡ true
 
 one-takes : {A : Type 0} (cs : List Ahead) (mark : A → Mark) (pick : Lexeme → Option A) → IsOne cs mark pick → (ts rest : List Item) (x : A)
-    → (one cs mark pick).read ts ≡ Some (x, rest) → Takes ((one cs mark pick).spell x) ts rest
+    → (one cs mark pick).read ts ≡ Some (x, rest) → StandsAhead ((one cs mark pick).spell x) ts rest
 one-takes cs mark pick is [] rest x h = absurd (cc)
 one-takes cs mark pick is (Err f ∷ ts) rest x h = absurd (cc)
 one-takes {A} cs mark pick is (Ok t ∷ ts) rest x h =
     let r = map-inv (λ (y : A). (y, ts)) (pick t) (x, rest) h in
-    let P : A × List Item → Type 0 = λ w. Fits (mark w.0) t × (ts ≡ w.1) in
+    let P : A × List Item → Type 0 = λ w. MarksToken (mark w.0) t × (ts ≡ w.1) in
     subst P r.2 (is.fits t r.0 r.1, refl)
 
 one-again : {A : Type 0} (cs : List Ahead) (mark : A → Mark) (pick : Lexeme → Option A) → IsOne cs mark pick → (x : A) (ts rest : List Item)
-    → Takes (mark x ∷ []) ts rest → read_one pick ts ≡ Some (x, rest)
+    → StandsAhead (mark x ∷ []) ts rest → read_one pick ts ≡ Some (x, rest)
 one-again cs mark pick is x [] rest h = absurd h
 one-again cs mark pick is x (Err f ∷ ts) rest h = absurd h
 one-again {A} cs mark pick is x (Ok t ∷ ts) rest h = rw (is.picks t x h.0) (ap (λ (us : List Item). Some (x, us)) h.1)
 
 one-starts : {A : Type 0} (cs : List Ahead) (mark : A → Mark) (pick : Lexeme → Option A) → IsOne cs mark pick → (x : A) (ts rest : List Item)
-    → Takes (mark x ∷ []) ts rest → begins cs ts ≡ true
+    → StandsAhead (mark x ∷ []) ts rest → begins cs ts ≡ true
 unfolding begins
 one-starts cs mark pick is x [] rest h = absurd h
 one-starts cs mark pick is x (Err f ∷ ts) rest h = absurd h
@@ -273,7 +273,7 @@ name-law =
 
 module _ {A B : Type 0} (f : Format A) (g : Format B) (f-law : Lawful f) (g-law : Lawful g) (far : apart f.stop g.first ≡ true) where
   -- what stands behind the first part does not stop it
-  goes-on : (y : B) (mid rest : List Item) → Takes (g.spell y) mid rest → (g.empty ≡ true → begins f.stop rest ≡ false) → begins f.stop mid ≡ false
+  goes-on : (y : B) (mid rest : List Item) → StandsAhead (g.spell y) mid rest → (g.empty ≡ true → begins f.stop rest ≡ false) → begins f.stop mid ≡ false
   goes-on y mid rest h e =
       elim (g-law.starts y mid rest h) [
         | inl b ↦ apart-false f.stop g.first mid far b
@@ -289,19 +289,19 @@ module _ {A B : Type 0} (f : Format A) (g : Format B) (f-law : Lawful f) (g-law 
         | false ↦ λ k. (k, λ e. absurd (cc))
       ] h
 
-  pair-takes : (ts rest : List Item) (x : A × B) → (pair f g).read ts ≡ Some (x, rest) → Takes ((pair f g).spell x) ts rest
+  pair-takes : (ts rest : List Item) (x : A × B) → (pair f g).read ts ≡ Some (x, rest) → StandsAhead ((pair f g).spell x) ts rest
   unfolding pair
   pair-takes ts rest x h =
       let r = then-inv (λ (p : A × List Item). option_map (λ (q : B × List Item). ((p.0, q.0), q.1)) (g.read p.1)) (f.read ts) (x, rest) h in
       let s = map-inv (λ (q : B × List Item). ((r.0.0, q.0), q.1)) (g.read r.0.1) (x, rest) r.2 in
-      let P : (A × B) × List Item → Type 0 = λ w. Takes (f.spell w.0.0 ++ g.spell w.0.1) ts w.1 in
-      subst P s.2 (Takes-append (f.spell r.0.0) (g.spell s.0.0) ts r.0.1 s.0.1 (f-law.takes ts r.0.1 r.0.0 r.1) (g-law.takes r.0.1 s.0.1 s.0.0 s.1))
+      let P : (A × B) × List Item → Type 0 = λ w. StandsAhead (f.spell w.0.0 ++ g.spell w.0.1) ts w.1 in
+      subst P s.2 (StandsAhead-append (f.spell r.0.0) (g.spell s.0.0) ts r.0.1 s.0.1 (f-law.takes ts r.0.1 r.0.0 r.1) (g-law.takes r.0.1 s.0.1 s.0.0 s.1))
 
-  pair-again : (x : A × B) (ts rest : List Item) → Takes ((pair f g).spell x) ts rest → begins (pair f g).stop rest ≡ false
+  pair-again : (x : A × B) (ts rest : List Item) → StandsAhead ((pair f g).spell x) ts rest → begins (pair f g).stop rest ≡ false
       → (pair f g).read ts ≡ Some (x, rest)
   unfolding pair
   pair-again x ts rest h s =
-      let r = Takes-split (f.spell x.0) (g.spell x.1) ts rest h in
+      let r = StandsAhead-split (f.spell x.0) (g.spell x.1) ts rest h in
       let stops = pair-stops rest s in
       let first : f.read ts ≡ Some (x.0, r.0) = f-law.again x.0 ts r.0 r.1 (goes-on x.1 r.0 rest r.2 stops.1) in
       let second : g.read r.0 ≡ Some (x.1, rest) = g-law.again x.1 r.0 rest r.2 stops.0 in
@@ -314,11 +314,11 @@ module _ {A B : Type 0} (f : Format A) (g : Format B) (f-law : Lawful f) (g-law 
   second-of-two : (ts : List Item) → f.empty ≡ true → begins g.first ts ≡ true → begins (if f.empty then f.first ++ g.first else f.first) ts ≡ true
   second-of-two ts e h = rw e (begins-right f.first g.first ts h)
 
-  pair-starts : (x : A × B) (ts rest : List Item) → Takes ((pair f g).spell x) ts rest
+  pair-starts : (x : A × B) (ts rest : List Item) → StandsAhead ((pair f g).spell x) ts rest
       → (begins (pair f g).first ts ≡ true) ⊎ (((pair f g).empty ≡ true) × (ts ≡ rest))
   unfolding pair
   pair-starts x ts rest h =
-      let r = Takes-split (f.spell x.0) (g.spell x.1) ts rest h in
+      let r = StandsAhead-split (f.spell x.0) (g.spell x.1) ts rest h in
       elim (f-law.starts x.0 ts r.0 r.1) [
         | inl b ↦ inl (first-of-two ts b)
         | inr p ↦ elim (g-law.starts x.1 r.0 rest r.2) [
@@ -331,24 +331,24 @@ module _ {A B : Type 0} (f : Format A) (g : Format B) (f-law : Lawful f) (g-law 
   pair-law = record { takes = pair-takes; again = pair-again; starts = pair-starts }
 
 module _ {A : Type 0} (w : Format (Unit {0})) (f : Format A) (w-law : Lawful w) (f-law : Lawful f) (solid : w.empty ≡ false) (unstopped : w.stop ≡ []) where
-  behind-takes : (ts rest : List Item) (x : A) → (behind w f).read ts ≡ Some (x, rest) → Takes ((behind w f).spell x) ts rest
+  behind-takes : (ts rest : List Item) (x : A) → (behind w f).read ts ≡ Some (x, rest) → StandsAhead ((behind w f).spell x) ts rest
   unfolding behind
   behind-takes ts rest x h =
       let r = then-inv (λ (p : (Unit {0}) × List Item). f.read p.1) (w.read ts) (x, rest) h in
-      Takes-append (w.spell tt) (f.spell x) ts r.0.1 rest (w-law.takes ts r.0.1 r.0.0 r.1) (f-law.takes r.0.1 rest x r.2)
+      StandsAhead-append (w.spell tt) (f.spell x) ts r.0.1 rest (w-law.takes ts r.0.1 r.0.0 r.1) (f-law.takes r.0.1 rest x r.2)
 
-  behind-again : (x : A) (ts rest : List Item) → Takes ((behind w f).spell x) ts rest → begins (behind w f).stop rest ≡ false
+  behind-again : (x : A) (ts rest : List Item) → StandsAhead ((behind w f).spell x) ts rest → begins (behind w f).stop rest ≡ false
       → (behind w f).read ts ≡ Some (x, rest)
   unfolding behind
   behind-again x ts rest h s =
-      let r = Takes-split (w.spell tt) (f.spell x) ts rest h in
+      let r = StandsAhead-split (w.spell tt) (f.spell x) ts rest h in
       let first : w.read ts ≡ Some (tt, r.0) = w-law.again tt ts r.0 r.1 (rw unstopped (begins-none r.0)) in
       rw first (f-law.again x r.0 rest r.2 s)
 
-  behind-starts : (x : A) (ts rest : List Item) → Takes ((behind w f).spell x) ts rest → begins (behind w f).first ts ≡ true
+  behind-starts : (x : A) (ts rest : List Item) → StandsAhead ((behind w f).spell x) ts rest → begins (behind w f).first ts ≡ true
   unfolding behind
   behind-starts x ts rest h =
-      let r = Takes-split (w.spell tt) (f.spell x) ts rest h in
+      let r = StandsAhead-split (w.spell tt) (f.spell x) ts rest h in
       starts-with w w-law solid tt ts r.0 r.1
 
   pub behind-law : Lawful (behind w f)
@@ -357,27 +357,27 @@ module _ {A : Type 0} (w : Format (Unit {0})) (f : Format A) (w-law : Lawful w) 
 
 module _ {A : Type 0} (f : Format A) (w : Format (Unit {0})) (f-law : Lawful f) (w-law : Lawful w) (solid : w.empty ≡ false)
     (far : apart f.stop w.first ≡ true) where
-  before-takes : (ts rest : List Item) (x : A) → (before f w).read ts ≡ Some (x, rest) → Takes ((before f w).spell x) ts rest
+  before-takes : (ts rest : List Item) (x : A) → (before f w).read ts ≡ Some (x, rest) → StandsAhead ((before f w).spell x) ts rest
   unfolding before
   before-takes ts rest x h =
       let r = then-inv (λ (p : A × List Item). option_map (λ (q : (Unit {0}) × List Item). (p.0, q.1)) (w.read p.1)) (f.read ts) (x, rest) h in
       let s = map-inv (λ (q : (Unit {0}) × List Item). (r.0.0, q.1)) (w.read r.0.1) (x, rest) r.2 in
-      let P : A × List Item → Type 0 = λ p. Takes (f.spell p.0 ++ w.spell tt) ts p.1 in
-      subst P s.2 (Takes-append (f.spell r.0.0) (w.spell tt) ts r.0.1 s.0.1 (f-law.takes ts r.0.1 r.0.0 r.1) (w-law.takes r.0.1 s.0.1 s.0.0 s.1))
+      let P : A × List Item → Type 0 = λ p. StandsAhead (f.spell p.0 ++ w.spell tt) ts p.1 in
+      subst P s.2 (StandsAhead-append (f.spell r.0.0) (w.spell tt) ts r.0.1 s.0.1 (f-law.takes ts r.0.1 r.0.0 r.1) (w-law.takes r.0.1 s.0.1 s.0.0 s.1))
 
-  before-again : (x : A) (ts rest : List Item) → Takes ((before f w).spell x) ts rest → begins (before f w).stop rest ≡ false
+  before-again : (x : A) (ts rest : List Item) → StandsAhead ((before f w).spell x) ts rest → begins (before f w).stop rest ≡ false
       → (before f w).read ts ≡ Some (x, rest)
   unfolding before
   before-again x ts rest h s =
-      let r = Takes-split (f.spell x) (w.spell tt) ts rest h in
+      let r = StandsAhead-split (f.spell x) (w.spell tt) ts rest h in
       let first : f.read ts ≡ Some (x, r.0) = f-law.again x ts r.0 r.1 (apart-false f.stop w.first r.0 far (starts-with w w-law solid tt r.0 rest r.2)) in
       let second : w.read r.0 ≡ Some (tt, rest) = w-law.again tt r.0 rest r.2 s in
       rw (first, second) refl
 
-  before-starts : (x : A) (ts rest : List Item) → Takes ((before f w).spell x) ts rest → begins (before f w).first ts ≡ true
+  before-starts : (x : A) (ts rest : List Item) → StandsAhead ((before f w).spell x) ts rest → begins (before f w).first ts ≡ true
   unfolding before
   before-starts x ts rest h =
-      let r = Takes-split (f.spell x) (w.spell tt) ts rest h in
+      let r = StandsAhead-split (f.spell x) (w.spell tt) ts rest h in
       elim (f-law.starts x ts r.0 r.1) [
         | inl b ↦ elim (f.empty) as (λ e. begins (if e then f.first ++ w.first else f.first) ts ≡ true) [ true ↦ begins-left f.first w.first ts b | false ↦ b ]
         | inr p ↦ rw (p.0) (begins-right f.first w.first ts (ap (begins w.first) p.1 ∙ starts-with w w-law solid tt r.0 rest r.2))
@@ -388,29 +388,29 @@ module _ {A : Type 0} (f : Format A) (w : Format (Unit {0})) (f-law : Lawful f) 
   before-law = record { takes = before-takes; again = before-again; starts = λ x ts rest h. inl (before-starts x ts rest h) }
 
 module _ {A : Type 0} (f : Format A) (law : Lawful f) (solid : f.empty ≡ false) where
-  maybe-takes : (ts rest : List Item) (x : Option A) → (maybe f).read ts ≡ Some (x, rest) → Takes ((maybe f).spell x) ts rest
+  maybe-takes : (ts rest : List Item) (x : Option A) → (maybe f).read ts ≡ Some (x, rest) → StandsAhead ((maybe f).spell x) ts rest
   unfolding maybe
   maybe-takes ts rest x =
       elim (begins f.first ts) as (λ b. (if b then option_map put_some (f.read ts) else Some (None, ts)) ≡ Some (x, rest)
-      → Takes (spell_option f.spell x) ts rest) [
+      → StandsAhead (spell_option f.spell x) ts rest) [
         | true ↦ λ h.
             let r = map-inv put_some (f.read ts) (x, rest) h in
-            let P : Option A × List Item → Type 0 = λ w. Takes (spell_option f.spell w.0) ts w.1 in
+            let P : Option A × List Item → Type 0 = λ w. StandsAhead (spell_option f.spell w.0) ts w.1 in
             subst P r.2 (law.takes ts r.0.1 r.0.0 r.1)
         | false ↦ λ h.
             let e = some-inj {A = Option A × List Item} (None, ts) (x, rest) h in
-            let P : Option A × List Item → Type 0 = λ w. Takes (spell_option f.spell w.0) ts w.1 in
+            let P : Option A × List Item → Type 0 = λ w. StandsAhead (spell_option f.spell w.0) ts w.1 in
             subst P e refl
       ]
 
-  maybe-again : (x : Option A) (ts rest : List Item) → Takes ((maybe f).spell x) ts rest → begins (maybe f).stop rest ≡ false
+  maybe-again : (x : Option A) (ts rest : List Item) → StandsAhead ((maybe f).spell x) ts rest → begins (maybe f).stop rest ≡ false
       → (maybe f).read ts ≡ Some (x, rest)
   unfolding maybe
   maybe-again None ts rest h s = rw (ap (begins f.first) h ∙ (neither f.first f.stop rest s).0) (ap (λ (us : List Item). Some (None, us)) h)
   maybe-again (Some x) ts rest h s =
       rw (starts-with f law solid x ts rest h, law.again x ts rest h (neither f.first f.stop rest s).1) refl
 
-  maybe-starts : (x : Option A) (ts rest : List Item) → Takes ((maybe f).spell x) ts rest
+  maybe-starts : (x : Option A) (ts rest : List Item) → StandsAhead ((maybe f).spell x) ts rest
       → (begins (maybe f).first ts ≡ true) ⊎ (((maybe f).empty ≡ true) × (ts ≡ rest))
   unfolding maybe
   maybe-starts None ts rest h = inr (refl, h)
@@ -421,12 +421,12 @@ module _ {A : Type 0} (f : Format A) (law : Lawful f) (solid : f.empty ≡ false
 
 module _ {A B : Type 0} (f : Format A) (g : Format B) (f-law : Lawful f) (g-law : Lawful g) (f-solid : f.empty ≡ false) (g-solid : g.empty ≡ false)
     (far : apart f.first g.first ≡ true) where
-  either-takes : (ts rest : List Item) (x : A ⊎ B) → (either f g).read ts ≡ Some (x, rest) → Takes ((either f g).spell x) ts rest
+  either-takes : (ts rest : List Item) (x : A ⊎ B) → (either f g).read ts ≡ Some (x, rest) → StandsAhead ((either f g).spell x) ts rest
   unfolding either
   either-takes ts rest x =
-      let P : (A ⊎ B) × List Item → Type 0 = λ w. Takes (spell_either f.spell g.spell w.0) ts w.1 in
+      let P : (A ⊎ B) × List Item → Type 0 = λ w. StandsAhead (spell_either f.spell g.spell w.0) ts w.1 in
       elim (begins f.first ts) as (λ b. (if b then option_map (put_left {B = B}) (f.read ts) else option_map (put_right {A = A}) (g.read ts)) ≡ Some
-      (x, rest) → Takes (spell_either f.spell g.spell x) ts rest) [
+      (x, rest) → StandsAhead (spell_either f.spell g.spell x) ts rest) [
         | true ↦ λ h.
             let r = map-inv (put_left {B = B}) (f.read ts) (x, rest) h in
             subst P r.2 (f-law.takes ts r.0.1 r.0.0 r.1)
@@ -435,7 +435,7 @@ module _ {A B : Type 0} (f : Format A) (g : Format B) (f-law : Lawful f) (g-law 
             subst P r.2 (g-law.takes ts r.0.1 r.0.0 r.1)
       ]
 
-  either-again : (x : A ⊎ B) (ts rest : List Item) → Takes ((either f g).spell x) ts rest → begins (either f g).stop rest ≡ false
+  either-again : (x : A ⊎ B) (ts rest : List Item) → StandsAhead ((either f g).spell x) ts rest → begins (either f g).stop rest ≡ false
       → (either f g).read ts ≡ Some (x, rest)
   unfolding either
   either-again (inl x) ts rest h s =
@@ -443,7 +443,7 @@ module _ {A B : Type 0} (f : Format A) (g : Format B) (f-law : Lawful f) (g-law 
   either-again (inr y) ts rest h s =
       rw (apart-false f.first g.first ts far (starts-with g g-law g-solid y ts rest h), g-law.again y ts rest h (neither f.stop g.stop rest s).1) refl
 
-  either-starts : (x : A ⊎ B) (ts rest : List Item) → Takes ((either f g).spell x) ts rest → begins (either f g).first ts ≡ true
+  either-starts : (x : A ⊎ B) (ts rest : List Item) → StandsAhead ((either f g).spell x) ts rest → begins (either f g).first ts ≡ true
   unfolding either
   either-starts (inl x) ts rest h = begins-left f.first g.first ts (starts-with f f-law f-solid x ts rest h)
   either-starts (inr y) ts rest h = begins-right f.first g.first ts (starts-with g g-law g-solid y ts rest h)
@@ -457,37 +457,37 @@ unfolding with_front
 front-of-one y ys us = refl
 
 module _ {A : Type 0} (f : Format A) (law : Lawful f) (solid : f.empty ≡ false) (far : apart f.stop f.first ≡ true) where
-  many-takes-from : (n : ℕ) (ts rest : List Item) (xs : List A) → read_many f n ts ≡ Some (xs, rest) → Takes (flat_map f.spell xs) ts rest
+  many-takes-from : (n : ℕ) (ts rest : List Item) (xs : List A) → read_many f n ts ≡ Some (xs, rest) → StandsAhead (flat_map f.spell xs) ts rest
   unfolding read_many
   many-takes-from zero ts rest xs = λ h.
       let e = some-inj {A = List A × List Item} ([], ts) (xs, rest) h in
-      let P : List A × List Item → Type 0 = λ w. Takes (flat_map f.spell w.0) ts w.1 in
+      let P : List A × List Item → Type 0 = λ w. StandsAhead (flat_map f.spell w.0) ts w.1 in
       subst P e refl
   many-takes-from (suc n) ts rest xs =
-      let P : List A × List Item → Type 0 = λ w. Takes (flat_map f.spell w.0) ts w.1 in
+      let P : List A × List Item → Type 0 = λ w. StandsAhead (flat_map f.spell w.0) ts w.1 in
       elim (begins f.first ts) as (λ b. (if b then option_and_then (then_many f n) (f.read ts) else Some ([], ts)) ≡ Some (xs, rest)
-      → Takes (flat_map f.spell xs) ts rest) [
+      → StandsAhead (flat_map f.spell xs) ts rest) [
         | true ↦ λ h.
             let r = then-inv (then_many f n) (f.read ts) (xs, rest) h in
             let s = map-inv (put_first r.0.0) (read_many f n r.0.1) (xs, rest) r.2 in
-            subst P s.2 (Takes-append (f.spell r.0.0) (flat_map f.spell s.0.0) ts r.0.1 s.0.1 (law.takes ts r.0.1 r.0.0 r.1)
+            subst P s.2 (StandsAhead-append (f.spell r.0.0) (flat_map f.spell s.0.0) ts r.0.1 s.0.1 (law.takes ts r.0.1 r.0.0 r.1)
             (many-takes-from n r.0.1 s.0.1 s.0.0 s.1))
         | false ↦ λ h.
             let e = some-inj {A = List A × List Item} ([], ts) (xs, rest) h in
             subst P e refl
       ]
 
-  many-starts : (xs : List A) (ts rest : List Item) → Takes (flat_map f.spell xs) ts rest → (begins f.first ts ≡ true) ⊎ (ts ≡ rest)
+  many-starts : (xs : List A) (ts rest : List Item) → StandsAhead (flat_map f.spell xs) ts rest → (begins f.first ts ≡ true) ⊎ (ts ≡ rest)
   many-starts [] ts rest h = inr h
   many-starts (x ∷ xs) ts rest h =
-      let r = Takes-split (f.spell x) (flat_map f.spell xs) ts rest h in
+      let r = StandsAhead-split (f.spell x) (flat_map f.spell xs) ts rest h in
       inl (starts-with f law solid x ts r.0 r.1)
 
-  many-again : (xs : List A) (ts rest : List Item) → Takes (flat_map f.spell xs) ts rest → (begins f.first rest ≡ false) × (begins f.stop rest ≡ false)
+  many-again : (xs : List A) (ts rest : List Item) → StandsAhead (flat_map f.spell xs) ts rest → (begins f.first rest ≡ false) × (begins f.stop rest ≡ false)
       → (many f).read ts ≡ Some (xs, rest)
   many-again [] ts rest h s = rw h (many-done f rest s.0)
   many-again (x ∷ xs) ts rest h s =
-      let r = Takes-split (f.spell x) (flat_map f.spell xs) ts rest h in
+      let r = StandsAhead-split (f.spell x) (flat_map f.spell xs) ts rest h in
       let on : begins f.stop r.0 ≡ false = elim (many-starts xs r.0 rest r.2) [
         | inl b ↦ apart-false f.stop f.first r.0 far b
         | inr e ↦ ap (begins f.stop) e
@@ -505,32 +505,32 @@ module _ {A : Type 0} (f : Format A) (law : Lawful f) (solid : f.empty ≡ false
   }
 
 module _ {A B : Type 0} (to : A → B) (from : B → Option A) (f : Format A) (law : Lawful f)
-    (back : (x : A) (ts rest : List Item) → Takes (f.spell x) ts rest → from (to x) ≡ Some x)
+    (back : (x : A) (ts rest : List Item) → StandsAhead (f.spell x) ts rest → from (to x) ≡ Some x)
     (forth : (y : B) (x : A) → from y ≡ Some x → to x ≡ y) where
-  shaped-takes : (ts rest : List Item) (y : B) → (shaped to from f).read ts ≡ Some (y, rest) → Takes ((shaped to from f).spell y) ts rest
+  shaped-takes : (ts rest : List Item) (y : B) → (shaped to from f).read ts ≡ Some (y, rest) → StandsAhead ((shaped to from f).spell y) ts rest
   unfolding shaped
   shaped-takes ts rest y h =
       let r = map-inv (λ (p : A × List Item). (to p.0, p.1)) (f.read ts) (y, rest) h in
       let stands = law.takes ts r.0.1 r.0.0 r.1 in
-      let P : B × List Item → Type 0 = λ w. Takes (spell_pieces f.spell (from w.0)) ts w.1 in
+      let P : B × List Item → Type 0 = λ w. StandsAhead (spell_pieces f.spell (from w.0)) ts w.1 in
       subst P r.2 (rw (back r.0.0 ts r.0.1 stands) stands)
 
   -- what is spelled has pieces, and they are spelled
-  pieces : (y : B) (ts rest : List Item) → Takes (spell_pieces f.spell (from y)) ts rest → (x : A) × (from y ≡ Some x) × Takes (f.spell x) ts rest
+  pieces : (y : B) (ts rest : List Item) → StandsAhead (spell_pieces f.spell (from y)) ts rest → (x : A) × (from y ≡ Some x) × StandsAhead (f.spell x) ts rest
   pieces y ts rest h =
-      elim (from y) as (λ o. from y ≡ o → Takes (spell_pieces f.spell o) ts rest → (x : A) × (from y ≡ Some x) × Takes (f.spell x) ts rest) [
+      elim (from y) as (λ o. from y ≡ o → StandsAhead (spell_pieces f.spell o) ts rest → (x : A) × (from y ≡ Some x) × StandsAhead (f.spell x) ts rest) [
         | None ↦ λ e k. absurd (never-stands ts rest k)
         | Some x ↦ λ e k. (x, e, k)
       ] refl h
 
-  shaped-again : (y : B) (ts rest : List Item) → Takes ((shaped to from f).spell y) ts rest → begins (shaped to from f).stop rest ≡ false
+  shaped-again : (y : B) (ts rest : List Item) → StandsAhead ((shaped to from f).spell y) ts rest → begins (shaped to from f).stop rest ≡ false
       → (shaped to from f).read ts ≡ Some (y, rest)
   unfolding shaped
   shaped-again y ts rest h s =
       let p = pieces y ts rest h in
       rw (law.again p.0 ts rest p.2 s) (ap (λ (z : B). Some (z, rest)) (forth y p.0 p.1))
 
-  shaped-starts : (y : B) (ts rest : List Item) → Takes ((shaped to from f).spell y) ts rest
+  shaped-starts : (y : B) (ts rest : List Item) → StandsAhead ((shaped to from f).spell y) ts rest
       → (begins (shaped to from f).first ts ≡ true) ⊎ (((shaped to from f).empty ≡ true) × (ts ≡ rest))
   unfolding shaped
   shaped-starts y ts rest h =
@@ -541,13 +541,13 @@ module _ {A B : Type 0} (to : A → B) (from : B → Option A) (f : Format A) (l
   shaped-law = record { takes = shaped-takes; again = shaped-again; starts = shaped-starts }
 
 module _ {A : Type 0} (f : Format A) (law : Lawful f) (solid : f.empty ≡ false) where
-  put-line : (ms : List Mark) (ts rest : List Item) → (ms ≡ [] → ⊥) → Takes ms ts rest → Takes (put_line (line_ahead ts) ms) ts rest
+  put-line : (ms : List Mark) (ts rest : List Item) → (ms ≡ [] → ⊥) → StandsAhead ms ts rest → StandsAhead (put_line (line_ahead ts) ms) ts rest
   put-line [] ts rest some h = absurd (some refl)
   put-line (m ∷ ms) [] rest some h = h
   put-line (m ∷ ms) (Err f ∷ ts) rest some h = absurd h
   put-line (m ∷ ms) (Ok t ∷ ts) rest some h = ((h.0, refl), h.1)
 
-  drop-line : (n : ℕ) (ms : List Mark) (ts rest : List Item) → Takes (put_line n ms) ts rest → Takes ms ts rest × (line_ahead ts ≡ n)
+  drop-line : (n : ℕ) (ms : List Mark) (ts rest : List Item) → StandsAhead (put_line n ms) ts rest → StandsAhead ms ts rest × (line_ahead ts ≡ n)
   drop-line n [] ts rest h = absurd (never-stands ts rest h)
   drop-line n (m ∷ ms) [] rest h = absurd h
   drop-line n (m ∷ ms) (Err f ∷ ts) rest h = absurd h
@@ -555,24 +555,25 @@ module _ {A : Type 0} (f : Format A) (law : Lawful f) (solid : f.empty ≡ false
 
   some-mark : (x : A) → f.spell x ≡ [] → ⊥
   some-mark x e =
-      let none : Takes (f.spell x) [] [] = let P : List Mark → Type 0 = λ ms. Takes ms [] [] in subst P (sym e) refl in
+      let none : StandsAhead (f.spell x) [] [] = let P : List Mark → Type 0 = λ ms. StandsAhead ms [] [] in subst P (sym e) refl in
       let short : length {A = Lexeme} [] < length {A = Lexeme} [] = shorter f law solid x [] [] none in
       omega arith
 
-  lined-takes : (ts rest : List Item) (x : ℕ × A) → (lined f).read ts ≡ Some (x, rest) → Takes ((lined f).spell x) ts rest
+  lined-takes : (ts rest : List Item) (x : ℕ × A) → (lined f).read ts ≡ Some (x, rest) → StandsAhead ((lined f).spell x) ts rest
   unfolding lined
   lined-takes ts rest x h =
       let r = map-inv (λ (p : A × List Item). ((line_ahead ts, p.0), p.1)) (f.read ts) (x, rest) h in
-      let P : (ℕ × A) × List Item → Type 0 = λ w. Takes (put_line w.0.0 (f.spell w.0.1)) ts w.1 in
+      let P : (ℕ × A) × List Item → Type 0 = λ w. StandsAhead (put_line w.0.0 (f.spell w.0.1)) ts w.1 in
       subst P r.2 (put-line (f.spell r.0.0) ts r.0.1 (some-mark r.0.0) (law.takes ts r.0.1 r.0.0 r.1))
 
-  lined-again : (x : ℕ × A) (ts rest : List Item) → Takes ((lined f).spell x) ts rest → begins (lined f).stop rest ≡ false → (lined f).read ts ≡ Some (x, rest)
+  lined-again : (x : ℕ × A) (ts rest : List Item) → StandsAhead ((lined f).spell x) ts rest → begins (lined f).stop rest ≡ false
+      → (lined f).read ts ≡ Some (x, rest)
   unfolding lined
   lined-again x ts rest h s =
       let r = drop-line x.0 (f.spell x.1) ts rest h in
       rw (law.again x.1 ts rest r.0 s) (ap (λ (n : ℕ). Some ((n, x.1), rest)) r.1)
 
-  lined-starts : (x : ℕ × A) (ts rest : List Item) → Takes ((lined f).spell x) ts rest → begins (lined f).first ts ≡ true
+  lined-starts : (x : ℕ × A) (ts rest : List Item) → StandsAhead ((lined f).spell x) ts rest → begins (lined f).first ts ≡ true
   unfolding lined
   lined-starts x ts rest h = starts-with f law solid x.1 ts rest (drop-line x.0 (f.spell x.1) ts rest h).0
 

@@ -36,7 +36,7 @@ use Rattle.smi_module.specs.declared.names.Name.{Name}
 use Rattle.smi_text.specs.Kinds.{is_sign_kind}
 use Rattle.smi_text.specs.declared.stop.Stop.{Stop}
 use Rattle.smi_text.specs.declared.stop.Stop.TheVariants.{Memory}
-use Rattle.smi_text.specs.Gives.{Gives, is_memory}
+use Rattle.smi_text.specs.Returned.{ReturnsReading, is_memory}
 use Rattle.smi_text.specs.Format.{Ahead, name_of, name_where, token, is_sign}
 use Rattle.smi_text.proofs.Marks.{and-both, same_kind-same, same_text-same}
 use Rattle.smi_text.proofs.NameLaws.{name_of-octets}
@@ -84,7 +84,7 @@ name_at x n e = ap name_of (sym e) ∙ name_of-octets n
 -- what a step that keeps a name gives, where the token ahead passes the test
 pub gives-name : (cs : List Ahead) (k : TokenKind) (ok : List ℕ → Bool) (t : Lexeme) (ts now rest : List Item) (r : Result Name Stop) → now ≡ Ok t ∷ ts
     → ts ≡ drop 1 now → t.kind ≡ k → ok t.text ≡ true
-    → IfOk r (λ x. (name_of t.text ≡ Some x) × (rest ≡ drop 1 now)) → IfErr r (λ e. e ≡ Memory) → Gives r rest ((name_where cs k ok).read now)
+    → IfOk r (λ x. (name_of t.text ≡ Some x) × (rest ≡ drop 1 now)) → IfErr r (λ e. e ≡ Memory) → ReturnsReading r rest ((name_where cs k ok).read now)
 gives-name cs k ok t ts now rest (Ok x) is tail e o h m =
     let both : (same_kind t.kind k && ok t.text) ≡ true = and-both (same_kind t.kind k) (ok t.text) (rw e (same_kind-same k)) o in
     ap (name_where cs k ok).read is ∙ rw (both, h.0, tail, ← h.1) refl

@@ -5,7 +5,7 @@ use Rattle.std.specs.List.{flat_map}
 use Rattle.smi_lexer.specs.Token.{Lexeme, Item}
 use Rattle.smi_lexer.specs.declared.token.TokenKind.{TokenKind}
 use Rattle.smi_lexer.specs.declared.token.TokenKind.TheVariants as K
-use Rattle.smi_module.specs.Mark.{Mark, sign, spelled, on_line, Fits, Stands}
+use Rattle.smi_module.specs.Mark.{Mark, sign, spelled, on_line, MarksToken, Stands}
 use Rattle.smi_module.specs.Reserved.{is_reserved}
 use Rattle.smi_module.specs.Number.{is_macro}
 use Rattle.smi_module.specs.Spelling.{put_line}
@@ -263,12 +263,13 @@ put_line-zeroed line [] h = refl
 put_line-zeroed line (m ∷ ms) h = ap (put_line 0) h
 
 abbrev symbols : List TokenText → List Mark
-symbols xs = say.of_list (sign K.Comma) (λ x. say.symbol x ∷ []) xs
+symbols xs = say.of_list (sign K.Comma) (λ x. say.imported_symbol x ∷ []) xs
 
 import_clause : (x : Import) → map zeroed (say.of_import x) ≡ say.of_import (unlined_import x)
 import_clause x =
     put_line-zeroed x.line (symbols x.symbols ++ (say.word (codes "FROM") ∷ say.upper x.source ∷ []))
-    (both (symbols x.symbols) (say.word (codes "FROM") ∷ say.upper x.source ∷ []) (between K.Comma (λ y. say.symbol y ∷ []) (λ y. refl) x.symbols) refl)
+    (both (symbols x.symbols) (say.word (codes "FROM") ∷ say.upper x.source ∷ [])
+    (between K.Comma (λ y. say.imported_symbol y ∷ []) (λ y. refl) x.symbols) refl)
 
 abbrev import_marks : List Import → List Mark
 import_marks is = say.word (codes "IMPORTS") ∷ (flat_map say.of_import is ++ sign K.Semicolon ∷ [])
@@ -309,7 +310,7 @@ spelling-zeroed ms = lined_lists say.of_module unlined module_text ms
 abbrev first_line : Lexeme → Lexeme
 first_line t = record { kind = t.kind; span = t.span; text = t.text; line = 0 }
 
-fits-zeroed : (m : Mark) (t : Lexeme) → Fits (plain m) t → Fits (zeroed m) (first_line t)
+fits-zeroed : (m : Mark) (t : Lexeme) → MarksToken (plain m) t → MarksToken (zeroed m) (first_line t)
 fits-zeroed (spelled k x ok) t h = h
 fits-zeroed (on_line n m) t h = (fits-zeroed m t h, refl)
 

@@ -34,7 +34,7 @@ use Rattle.smi_module.specs.declared.tree.TokenText.{TokenText}
 use Rattle.smi_module.specs.declared.tree.IndexParts.{IndexParts}
 use Rattle.smi_module.specs.Mark.{same_kind}
 use Rattle.smi_text.specs.Format.{Reading, a_word, a_kind, begins, word, behind, with_front, lower, token, token_ahead}
-use Rattle.smi_text.specs.Grammar.{index_names, read_index, with_names, parts_of, depth_after, is_outside, kept_text, read_balanced, balanced}
+use Rattle.smi_text.specs.Grammar.{index_names, read_index, with_names, index_parts, depth_after, is_outside, kept_text, read_balanced, balanced}
 use Rattle.smi_module.specs.declared.names.Name.{Name}
 use Rattle.smi_text.proofs.Laws.{lower-law, token-law}
 use Rattle.smi_text.proofs.Many.{reading-shorter, with_front-append, with_front-end}
@@ -53,7 +53,7 @@ with_names-nil (Some p) = refl
 with_names-append : (xs ys : List Name) (r : Reading IndexParts) → with_names (xs ++ ys) r ≡ with_names xs (with_names ys r)
 unfolding with_names
 with_names-append xs ys None = refl
-with_names-append xs ys (Some p) = ap (λ (zs : List Name). Some (parts_of zs p.0.implied, p.1)) (append_assoc xs ys p.0.names)
+with_names-append xs ys (Some p) = ap (λ (zs : List Name). Some (index_parts zs p.0.implied, p.1)) (append_assoc xs ys p.0.names)
 
 name-shorter : (x : Name) (ts rest : List Item) → lower.read ts ≡ Some (x, rest) → length rest < length ts
 unfolding lower
@@ -71,11 +71,11 @@ some-token w (t ∷ ts) b = omega arith
 module _ (names : List Name) (n : ℕ) (ts : List Item) (enough : length ts ≤ n) where
   pub index-implied : (x : Name) (mid rest : List Item) → begins (a_word (codes "IMPLIED") ∷ []) ts ≡ true
       → (word (codes "IMPLIED")).read ts ≡ Some (tt, mid) → lower.read mid ≡ Some (x, rest)
-      → with_names names (read_index n ts) ≡ Some (parts_of (names ++ x ∷ []) true, rest)
+      → with_names names (read_index n ts) ≡ Some (index_parts (names ++ x ∷ []) true, rest)
   unfolding read_index behind with_names
   index-implied x mid rest b w e = by-bound n enough
     where
-      by-bound : (m : ℕ) → length ts ≤ m → with_names names (read_index m ts) ≡ Some (parts_of (names ++ x ∷ []) true, rest)
+      by-bound : (m : ℕ) → length ts ≤ m → with_names names (read_index m ts) ≡ Some (index_parts (names ++ x ∷ []) true, rest)
       by-bound zero k = absurd (omega (arith, some-token (codes "IMPLIED") ts b))
       by-bound (suc m) k = rw (b, w, e) refl
 
@@ -97,11 +97,11 @@ module _ (names : List Name) (n : ℕ) (ts : List Item) (enough : length ts ≤ 
       by-bound (suc m) = rw (b, e) refl
 
   pub index-last : (x : Name) (rest : List Item) → begins (a_word (codes "IMPLIED") ∷ []) ts ≡ false → lower.read ts ≡ Some (x, rest)
-      → begins (a_kind K.Comma ∷ []) rest ≡ false → with_names names (read_index n ts) ≡ Some (parts_of (names ++ x ∷ []) false, rest)
+      → begins (a_kind K.Comma ∷ []) rest ≡ false → with_names names (read_index n ts) ≡ Some (index_parts (names ++ x ∷ []) false, rest)
   unfolding read_index with_names
   index-last x rest b e c = by-bound n enough
     where
-      by-bound : (m : ℕ) → length ts ≤ m → with_names names (read_index m ts) ≡ Some (parts_of (names ++ x ∷ []) false, rest)
+      by-bound : (m : ℕ) → length ts ≤ m → with_names names (read_index m ts) ≡ Some (index_parts (names ++ x ∷ []) false, rest)
       by-bound zero k = absurd (omega (arith, name-shorter x ts rest e))
       by-bound (suc m) k = rw (b, e, c) refl
 

@@ -34,29 +34,30 @@ use Rattle.std.proofs.Common.{
 }
 use Rattle.smi_lexer.specs.Token.{Item}
 use Rattle.smi_module.specs.Mark.{Mark}
-use Rattle.smi_text.specs.Format.{Takes}
+use Rattle.smi_text.specs.Format.{StandsAhead}
 use Rattle.smi_text.specs.Format.{Format, Reading, begins, read_many, many, with_front}
 use Rattle.smi_text.proofs.Lawful.{Lawful}
 
 -- tokens that are spelled by no mark are the rest; else the rest is shorter
-pub Takes-length : (ms : List Mark) (ts rest : List Item) → Takes ms ts rest → length ts ≡ length ms + length rest
-Takes-length [] ts rest h = ap length h ∙ omega arith
-Takes-length (m ∷ ms) [] rest h = absurd h
-Takes-length (m ∷ ms) (Err f ∷ ts) rest h = absurd h
-Takes-length (m ∷ ms) (Ok t ∷ ts) rest h = omega (arith, Takes-length ms ts rest h.1)
+pub StandsAhead-length : (ms : List Mark) (ts rest : List Item) → StandsAhead ms ts rest → length ts ≡ length ms + length rest
+StandsAhead-length [] ts rest h = ap length h ∙ omega arith
+StandsAhead-length (m ∷ ms) [] rest h = absurd h
+StandsAhead-length (m ∷ ms) (Err f ∷ ts) rest h = absurd h
+StandsAhead-length (m ∷ ms) (Ok t ∷ ts) rest h = omega (arith, StandsAhead-length ms ts rest h.1)
 
 begins-nil : {A : Type 0} (f : Format A) → begins f.first [] ≡ false
 unfolding begins
 begins-nil f = refl
 
-pub shorter : {A : Type 0} (f : Format A) → Lawful f → f.empty ≡ false → (x : A) (ts rest : List Item) → Takes (f.spell x) ts rest → length rest < length ts
+pub shorter : {A : Type 0} (f : Format A) → Lawful f → f.empty ≡ false → (x : A) (ts rest : List Item) → StandsAhead (f.spell x) ts rest
+    → length rest < length ts
 shorter f law solid x ts rest h =
     elim (f.spell x) as (λ ms. f.spell x ≡ ms → length rest < length ts) [
-      | [] ↦ λ e. elim (law.starts x [] [] (let P : List Mark → Type 0 = λ ms. Takes ms [] [] in subst P (sym e) refl)) [
+      | [] ↦ λ e. elim (law.starts x [] [] (let P : List Mark → Type 0 = λ ms. StandsAhead ms [] [] in subst P (sym e) refl)) [
         | inl b ↦ absurd (cc (begins-nil f))
         | inr b ↦ absurd (cc (b.0))
       ]
-      | (m ∷ ms) ↦ λ e. omega (arith, Takes-length (f.spell x) ts rest h, ap length e)
+      | (m ∷ ms) ↦ λ e. omega (arith, StandsAhead-length (f.spell x) ts rest h, ap length e)
     ] refl
 
 pub reading-shorter : {A : Type 0} (f : Format A) → Lawful f → f.empty ≡ false → (x : A) (ts rest : List Item) → f.read ts ≡ Some (x, rest)

@@ -58,7 +58,7 @@ use Rattle.smi_lexer.specs.declared.token.TokenKind.TheVariants.{
 }
 use Rattle.smi_lexer.specs.Token.{Lexeme, Item}
 use Rattle.smi_module.specs.Mark.{Mark, kind_number, same_kind, same_text}
-use Rattle.smi_text.specs.Format.{Takes}
+use Rattle.smi_text.specs.Format.{StandsAhead}
 use Rattle.smi_module.specs.Reserved.{is_reserved}
 use Rattle.smi_text.specs.Format.{Ahead, a_word, a_name, a_kind, no_word, no_kind, is_this_word, meets, begins, half_apart, apart}
 
@@ -153,18 +153,19 @@ same_text-same (a ∷ x) = and-both (a == a) (same_text x x) (eqb-same a) (same_
 
 -- marks one after the other
 
-pub Takes-append : (xs ys : List Mark) (ts mid rest : List Item) → Takes xs ts mid → Takes ys mid rest → Takes (xs ++ ys) ts rest
-Takes-append [] ys ts mid rest h k = let P : List Item → Type 0 = λ us. Takes ys us rest in subst P (sym h) k
-Takes-append (x ∷ xs) ys [] mid rest h k = absurd h
-Takes-append (x ∷ xs) ys (Err f ∷ ts) mid rest h k = absurd h
-Takes-append (x ∷ xs) ys (Ok t ∷ ts) mid rest h k = (h.0, Takes-append xs ys ts mid rest h.1 k)
+pub StandsAhead-append : (xs ys : List Mark) (ts mid rest : List Item) → StandsAhead xs ts mid → StandsAhead ys mid rest → StandsAhead (xs ++ ys) ts rest
+StandsAhead-append [] ys ts mid rest h k = let P : List Item → Type 0 = λ us. StandsAhead ys us rest in subst P (sym h) k
+StandsAhead-append (x ∷ xs) ys [] mid rest h k = absurd h
+StandsAhead-append (x ∷ xs) ys (Err f ∷ ts) mid rest h k = absurd h
+StandsAhead-append (x ∷ xs) ys (Ok t ∷ ts) mid rest h k = (h.0, StandsAhead-append xs ys ts mid rest h.1 k)
 
-pub Takes-split : (xs ys : List Mark) (ts rest : List Item) → Takes (xs ++ ys) ts rest → (mid : List Item) × Takes xs ts mid × Takes ys mid rest
-Takes-split [] ys ts rest h = (ts, refl, h)
-Takes-split (x ∷ xs) ys [] rest h = absurd h
-Takes-split (x ∷ xs) ys (Err f ∷ ts) rest h = absurd h
-Takes-split (x ∷ xs) ys (Ok t ∷ ts) rest h =
-    let r = Takes-split xs ys ts rest h.1 in
+pub StandsAhead-split : (xs ys : List Mark) (ts rest : List Item) → StandsAhead (xs ++ ys) ts rest
+    → (mid : List Item) × StandsAhead xs ts mid × StandsAhead ys mid rest
+StandsAhead-split [] ys ts rest h = (ts, refl, h)
+StandsAhead-split (x ∷ xs) ys [] rest h = absurd h
+StandsAhead-split (x ∷ xs) ys (Err f ∷ ts) rest h = absurd h
+StandsAhead-split (x ∷ xs) ys (Ok t ∷ ts) rest h =
+    let r = StandsAhead-split xs ys ts rest h.1 in
     (r.0, (h.0, r.1), r.2)
 
 -- readings

@@ -14,7 +14,7 @@ use Rattle.smi_text.specs.Grammar.{base, before_assign, before_end, bound, brace
 use Rattle.smi_text.specs.Grammar.{heading, identifier, import_clause, imports, index, index_names, later_part, lower_definition, macro_body}
 use Rattle.smi_text.specs.Grammar.{macro_definition, macro_name, module_identity, module_text, named_number, names, notification_type, object_identifier}
 use Rattle.smi_text.specs.Grammar.{object_identifier_words, object_identity, object_type, objects, octet_string_words, of_row, opening, parenthesized, part}
-use Rattle.smi_text.specs.Grammar.{range, ranges, raw_definition, refinement, revision, sequence, simple_type, size, status, symbol, syntax_clause}
+use Rattle.smi_text.specs.Grammar.{range, ranges, raw_definition, refinement, revision, sequence, simple_type, size, status, imported_symbol, syntax_clause}
 use Rattle.smi_text.specs.Grammar.{syntax_type, tag, tagged, textual_convention, upper_definition, value}
 use Rattle.smi_text.proofs.Lawful.{Lawful}
 use Rattle.smi_text.proofs.Marks.{and-left, and-right, and-both, or-cases, or-left, or-right}
@@ -42,27 +42,27 @@ symbol-ahead t h =
           ])
     ]
 
-pub symbol-law : Lawful symbol
-unfolding symbol
-symbol-law = kept-law (a_kind K.Lower ∷ a_name ∷ macro_words) is_symbol symbol-ahead
+pub imported_symbol-law : Lawful imported_symbol
+unfolding imported_symbol
+imported_symbol-law = kept-law (a_kind K.Lower ∷ a_name ∷ macro_words) is_symbol symbol-ahead
 
 abbrev from_clause : Format Name
 from_clause = behind (word (codes "FROM")) name
 
 abbrev import_parts : Format (List TokenText × Name)
-import_parts = pair (separated K.Comma symbol) from_clause
+import_parts = pair (separated K.Comma imported_symbol) from_clause
 
 pub import_clause-law : Lawful import_clause
-unfolding behind import_clause is_reserved lined many name lower pair separated shaped some_of symbol text token word
+unfolding behind import_clause is_reserved lined many name lower pair separated shaped some_of imported_symbol text token word
 import_clause-law =
     shaped-law to_import from_import (lined import_parts)
     (lined-law import_parts
-    (pair-law (separated K.Comma symbol) from_clause (separated-law K.Comma symbol symbol-law refl refl)
+    (pair-law (separated K.Comma imported_symbol) from_clause (separated-law K.Comma imported_symbol imported_symbol-law refl refl)
     (behind-law (word (codes "FROM")) name (word-law (codes "FROM")) name-law refl refl) refl) refl)
     (λ x ts rest h. refl) (λ y x e. ap to_import (sym (some-inj (y.line, (y.symbols, y.source)) x e)))
 
 pub imports-law : Lawful imports
-unfolding before behind import_clause imports is_reserved lined many name lower pair separated shaped some_of symbol text token word
+unfolding before behind import_clause imports is_reserved lined many name lower pair separated shaped some_of imported_symbol text token word
 imports-law =
     behind-law (word (codes "IMPORTS")) (before (many import_clause) (token K.Semicolon)) (word-law (codes "IMPORTS"))
     (before-law (many import_clause) (token K.Semicolon) (many-law import_clause import_clause-law refl refl) (token-law K.Semicolon) refl refl) refl refl
@@ -79,7 +79,7 @@ opening-law =
 
 pub head-law : Lawful head
 unfolding arc before behind braced either head heading import_clause imports is_reserved lined many maybe name lower opening pair parenthesized part separated
-    shaped some_of symbol text text_where token word
+    shaped some_of imported_symbol text text_where token word
 head-law =
     shaped-law to_head from_head (pair name (pair (maybe heading) (behind opening (maybe imports))))
     (pair-law name (pair (maybe heading) (behind opening (maybe imports))) name-law
@@ -100,7 +100,7 @@ unfolding arc assigned balanced base before before_assign before_end behind boun
     identifier import_clause imports index index_names is_reserved later_part lined lower_definition macro_body macro_definition macro_name many maybe
     module_identity module_text name lower named_number names notification_type object_identifier object_identifier_words object_identity object_type objects
     octet_string_words of_row opening pair parenthesized part range ranges raw_definition refinement revision separated sequence shaped simple_type size
-    some_of status symbol syntax_clause syntax_type tag tagged text text_where textual_convention token upper_definition value word
+    some_of status imported_symbol syntax_clause syntax_type tag tagged text text_where textual_convention token upper_definition value word
 module_text-law =
     shaped-law to_module from_module (pair head (before (many definition) (word (codes "END"))))
     (pair-law head (before (many definition) (word (codes "END"))) head-law
@@ -112,5 +112,5 @@ unfolding arc assigned balanced base before before_assign before_end behind boun
     heading identifier import_clause imports index index_names is_reserved later_part lined lower_definition macro_body macro_definition macro_name many maybe
     module_identity module_text name lower named_number names notification_type object_identifier object_identifier_words object_identity object_type objects
     octet_string_words of_row opening pair parenthesized part range ranges raw_definition refinement revision separated sequence shaped simple_type size
-    some_of status symbol syntax_clause syntax_type tag tagged text text_where textual_convention token upper_definition value word
+    some_of status imported_symbol syntax_clause syntax_type tag tagged text text_where textual_convention token upper_definition value word
 file-law = many-law module_text module_text-law refl refl

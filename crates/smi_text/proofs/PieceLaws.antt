@@ -6,7 +6,7 @@ use Rattle.smi_lexer.specs.declared.token.TokenKind.{TokenKind}
 use Rattle.smi_lexer.specs.declared.token.TokenKind.TheVariants as K
 use Rattle.smi_lexer.specs.Token.{Lexeme, Item}
 use Rattle.smi_module.specs.Mark.{Mark, spelled}
-use Rattle.smi_text.specs.Format.{Takes}
+use Rattle.smi_text.specs.Format.{StandsAhead}
 use Rattle.smi_text.specs.Format.{Format, Ahead, a_kind, meets, apart, begins, before, behind, many, pair, separated, shaped, some_of, text, token}
 use Rattle.smi_text.specs.Format.{with_front, word, lower}
 use Rattle.smi_text.specs.Grammar.{kept, kept_text, braced, clause, parenthesized}
@@ -84,11 +84,11 @@ module _ {A : Type 0} (f g : Format A) (f-law : Lawful f) (g-law : Lawful g) (f-
   pub some_of-law : Lawful (some_of f g)
   some_of-law = record {
     takes = λ ts rest xs h. let P : List Mark
-        → Type 0 = λ ms. Takes ms ts rest in subst P (sym (as_pair-spell xs)) (as_pair-law.takes ts rest xs (sym (as_pair-read ts) ∙ h));
+        → Type 0 = λ ms. StandsAhead ms ts rest in subst P (sym (as_pair-spell xs)) (as_pair-law.takes ts rest xs (sym (as_pair-read ts) ∙ h));
     again = λ xs ts rest h s. let P : List Mark
-        → Type 0 = λ ms. Takes ms ts rest in as_pair-read ts ∙ as_pair-law.again xs ts rest (subst P (as_pair-spell xs) h) (sym (as_pair-stop rest) ∙ s);
+        → Type 0 = λ ms. StandsAhead ms ts rest in as_pair-read ts ∙ as_pair-law.again xs ts rest (subst P (as_pair-spell xs) h) (sym (as_pair-stop rest) ∙ s);
     starts = λ xs ts rest h. let P : List Mark
-        → Type 0 = λ ms. Takes ms ts rest in inl (as_pair-starts ts rest (as_pair-law.starts xs ts rest (subst P (as_pair-spell xs) h)));
+        → Type 0 = λ ms. StandsAhead ms ts rest in inl (as_pair-starts ts rest (as_pair-law.starts xs ts rest (subst P (as_pair-spell xs) h)));
   }
 
 pub separated-law : {A : Type 0} (k : TokenKind) (f : Format A) → Lawful f → f.empty ≡ false → apart f.stop (a_kind k ∷ []) ≡ true → Lawful (separated k f)

@@ -4,7 +4,7 @@ use Rattle.std.specs.Prelude.{◌==◌, codes}
 use Rattle.smi_lexer.specs.declared.token.TokenKind.TheVariants as K
 use Rattle.smi_lexer.specs.Token.{Lexeme, Item}
 use Rattle.smi_module.specs.Mark.{same_kind, same_text}
-use Rattle.smi_text.specs.Format.{Takes}
+use Rattle.smi_text.specs.Format.{StandsAhead}
 use Rattle.smi_text.specs.Format.{Reading, no_word, no_kind, never, begins, before, behind, token, with_front, word, lower}
 use Rattle.smi_text.specs.Grammar.{kept_text, depth_after, is_outside, raw_marks, balanced, before_assign, before_end, braced, default_value, is_balanced}
 use Rattle.smi_text.specs.Grammar.{read_balanced}
@@ -36,25 +36,25 @@ abbrev read_inside : ℕ → Lexeme → List Item → Bool → Reading (List Tok
 read_inside depth t ts b = if b then Some ([], Ok t ∷ ts) else with_front (kept_text t ∷ []) (read_balanced (depth_after t.kind depth) ts)
 
 ended-takes : (depth : ℕ) (items rest : List Item) (xs : List TokenText) → read_end items (depth == 0) ≡ Some (xs, rest)
-    → (is_balanced depth xs ≡ true) × Takes (raw_marks xs) items rest
+    → (is_balanced depth xs ≡ true) × StandsAhead (raw_marks xs) items rest
 unfolding is_balanced
 ended-takes depth items rest xs h =
-    elim (depth == 0) as (λ b. depth == 0 ≡ b → read_end items b ≡ Some (xs, rest) → (is_balanced depth xs ≡ true) × Takes (raw_marks xs) items rest) [
+    elim (depth == 0) as (λ b. depth == 0 ≡ b → read_end items b ≡ Some (xs, rest) → (is_balanced depth xs ≡ true) × StandsAhead (raw_marks xs) items rest) [
       | true ↦ λ b k.
-          let P : List TokenText × List Item → Type 0 = λ w. (is_balanced depth w.0 ≡ true) × Takes (raw_marks w.0) items w.1 in
+          let P : List TokenText × List Item → Type 0 = λ w. (is_balanced depth w.0 ≡ true) × StandsAhead (raw_marks w.0) items w.1 in
           subst P (some-inj {A = List TokenText × List Item} ([], items) (xs, rest) k) (b, refl)
       | false ↦ λ b k. absurd (cc)
     ] refl h
 
 balanced-takes : (depth : ℕ) (ts rest : List Item) (xs : List TokenText) → read_balanced depth ts ≡ Some (xs, rest)
-    → (is_balanced depth xs ≡ true) × Takes (raw_marks xs) ts rest
+    → (is_balanced depth xs ≡ true) × StandsAhead (raw_marks xs) ts rest
 unfolding read_balanced is_balanced with_front
 balanced-takes depth [] rest xs h = ended-takes depth [] rest xs h
 balanced-takes depth (Err f ∷ ts) rest xs h = ended-takes depth (Err f ∷ ts) rest xs h
 balanced-takes depth (Ok t ∷ ts) rest xs h =
-    let P : List TokenText × List Item → Type 0 = λ w. (is_balanced depth w.0 ≡ true) × Takes (raw_marks w.0) (Ok t ∷ ts) w.1 in
+    let P : List TokenText × List Item → Type 0 = λ w. (is_balanced depth w.0 ≡ true) × StandsAhead (raw_marks w.0) (Ok t ∷ ts) w.1 in
     elim (is_outside t.kind depth) as (λ b. is_outside t.kind depth ≡ b → read_inside depth t ts b ≡ Some (xs, rest)
-    → (is_balanced depth xs ≡ true) × Takes (raw_marks xs) (Ok t ∷ ts) rest) [
+    → (is_balanced depth xs ≡ true) × StandsAhead (raw_marks xs) (Ok t ∷ ts) rest) [
       | true ↦ λ b k.
           subst P (some-inj {A = List TokenText × List Item} ([], Ok t ∷ ts) (xs, rest) k) (and-right (same_kind t.kind K.CloseBrace) (depth == 0) b, refl)
       | false ↦ λ b k.
@@ -83,7 +83,7 @@ balanced-end depth (Ok t ∷ ts) d s =
     rw (and-both (same_kind t.kind K.CloseBrace) (depth == 0) (not-false (same_kind t.kind K.CloseBrace) (or-false (not
     (same_kind t.kind K.CloseBrace)) false s).0) d) refl
 
-balanced-again : (depth : ℕ) (xs : List TokenText) (ts rest : List Item) → is_balanced depth xs ≡ true → Takes (raw_marks xs) ts rest
+balanced-again : (depth : ℕ) (xs : List TokenText) (ts rest : List Item) → is_balanced depth xs ≡ true → StandsAhead (raw_marks xs) ts rest
     → begins (no_kind K.CloseBrace ∷ []) rest ≡ false → read_balanced depth ts ≡ Some (xs, rest)
 unfolding is_balanced read_balanced with_front
 balanced-again depth [] ts rest b h s = rw h (balanced-end depth rest b s)
@@ -96,7 +96,7 @@ balanced-again depth (x ∷ xs) (Ok t ∷ ts) rest b h s =
     let e = same-token t x h.0.0 h.0.1 in
     rw (e, h.0.0, inside, next) refl
 
-balanced-starts : (xs : List TokenText) (ts rest : List Item) → is_balanced 0 xs ≡ true → Takes (raw_marks xs) ts rest
+balanced-starts : (xs : List TokenText) (ts rest : List Item) → is_balanced 0 xs ≡ true → StandsAhead (raw_marks xs) ts rest
     → (begins (no_kind K.CloseBrace ∷ []) ts ≡ true) ⊎ (ts ≡ rest)
 unfolding begins is_balanced
 balanced-starts [] ts rest b h = inr h
@@ -106,10 +106,10 @@ balanced-starts (x ∷ xs) (Ok t ∷ ts) rest b h =
     inl (any-one t (no_kind K.CloseBrace) (rw h.0.0 (not-close (same_kind x.kind K.CloseBrace) (and-left (not (same_kind x.kind K.CloseBrace && true))
     (is_balanced (depth_after x.kind 0) xs) b))))
 
-balanced-pieces : (xs : List TokenText) (ts rest : List Item) → Takes (if is_balanced 0 xs then raw_marks xs else never) ts rest
-    → (is_balanced 0 xs ≡ true) × Takes (raw_marks xs) ts rest
+balanced-pieces : (xs : List TokenText) (ts rest : List Item) → StandsAhead (if is_balanced 0 xs then raw_marks xs else never) ts rest
+    → (is_balanced 0 xs ≡ true) × StandsAhead (raw_marks xs) ts rest
 balanced-pieces xs ts rest =
-    elim (is_balanced 0 xs) as (λ b. Takes (if b then raw_marks xs else never) ts rest → (b ≡ true) × Takes (raw_marks xs) ts rest) [
+    elim (is_balanced 0 xs) as (λ b. StandsAhead (if b then raw_marks xs else never) ts rest → (b ≡ true) × StandsAhead (raw_marks xs) ts rest) [
       | true ↦ λ h. (refl, h)
       | false ↦ λ h. absurd (never-stands ts rest h)
     ]

@@ -7,7 +7,7 @@ use Rattle.smi_module.specs.declared.tree.Part.{Part}
 use Rattle.smi_module.specs.declared.tree.NamedNumber.{NamedNumber}
 use Rattle.smi_module.specs.declared.tree.Range.{Range}
 use Rattle.smi_module.specs.declared.tree.Field.{Field}
-use Rattle.smi_text.specs.Gives.{Gives}
+use Rattle.smi_text.specs.Returned.{ReturnsReading}
 use Rattle.smi_text.specs.Format.{
   Format,
   before,
@@ -78,7 +78,7 @@ use Rattle.smi_text.specs.Grammar.{
   simple_type,
   size,
   status,
-  symbol,
+  imported_symbol,
   syntax_clause,
   syntax_type,
   tag,
@@ -93,61 +93,61 @@ use Rattle.smi_text.proofs.IdentifierLaws.{part-law, later_part-law}
 use Rattle.smi_text.proofs.TypeLaws.{named_number-law, range-law, field-law}
 use Rattle.smi_text.proofs.ClauseLaws.{revision-law}
 use Rattle.smi_text.proofs.RawLaws.{before_assign-law, before_end-law}
-use Rattle.smi_text.proofs.ModuleLaws.{symbol-law, import_clause-law}
+use Rattle.smi_text.proofs.ModuleLaws.{imported_symbol-law, import_clause-law}
 use Rattle.smi_text.proofs.Laws.{lower-law}
 use Rattle.smi_module.specs.declared.names.Name.{Name}
 use Rattle.smi_module.specs.declared.tree.Revision.{Revision}
 use Rattle.smi_module.specs.declared.tree.TokenText.{TokenText}
 use Rattle.smi_module.specs.declared.tree.Import.{Import}
 
-gives-shorter : {A : Type 0} (f : Format A) → Lawful f → f.empty ≡ false → (r : Result A Stop) (ts rest : List Item) → Gives r rest (f.read ts)
+gives-shorter : {A : Type 0} (f : Format A) → Lawful f → f.empty ≡ false → (r : Result A Stop) (ts rest : List Item) → ReturnsReading r rest (f.read ts)
     → OnOk r (length rest < length ts)
 gives-shorter f law solid (Ok x) ts rest h = reading-shorter f law solid x ts rest h
 gives-shorter f law solid (Err e) ts rest h = tt
 
-pub part_shorter : (r : Result Part Stop) (ts rest : List Item) → Gives r rest (part.read ts) → OnOk r (length rest < length ts)
+pub part_shorter : (r : Result Part Stop) (ts rest : List Item) → ReturnsReading r rest (part.read ts) → OnOk r (length rest < length ts)
 unfolding arc before behind either maybe pair parenthesized part shaped text text_where token lower
 part_shorter r ts rest h = gives-shorter part part-law refl r ts rest h
 
-pub later_part_shorter : (r : Result Part Stop) (ts rest : List Item) → Gives r rest (later_part.read ts) → OnOk r (length rest < length ts)
+pub later_part_shorter : (r : Result Part Stop) (ts rest : List Item) → ReturnsReading r rest (later_part.read ts) → OnOk r (length rest < length ts)
 unfolding arc before behind either later_part pair parenthesized shaped text text_where token lower
 later_part_shorter r ts rest h = gives-shorter later_part later_part-law refl r ts rest h
 
-pub named_number_shorter : (r : Result NamedNumber Stop) (ts rest : List Item) → Gives r rest (named_number.read ts) → OnOk r (length rest < length ts)
+pub named_number_shorter : (r : Result NamedNumber Stop) (ts rest : List Item) → ReturnsReading r rest (named_number.read ts) → OnOk r (length rest < length ts)
 unfolding before behind named_number pair parenthesized shaped text text_where token lower
 named_number_shorter r ts rest h = gives-shorter named_number named_number-law refl r ts rest h
 
-pub range_shorter : (r : Result Range Stop) (ts rest : List Item) → Gives r rest (range.read ts) → OnOk r (length rest < length ts)
+pub range_shorter : (r : Result Range Stop) (ts rest : List Item) → ReturnsReading r rest (range.read ts) → OnOk r (length rest < length ts)
 unfolding behind bound maybe pair range shaped token lower
 range_shorter r ts rest h = gives-shorter range range-law refl r ts rest h
 
-pub field_shorter : (r : Result Field Stop) (ts rest : List Item) → Gives r rest (field.read ts) → OnOk r (length rest < length ts)
+pub field_shorter : (r : Result Field Stop) (ts rest : List Item) → ReturnsReading r rest (field.read ts) → OnOk r (length rest < length ts)
 unfolding base before behind bound braced either field many maybe name lower named_number object_identifier_words octet_string_words of_row pair parenthesized
     range ranges refinement separated shaped simple_type size some_of syntax_type text text_where token word
 field_shorter r ts rest h = gives-shorter field field-law refl r ts rest h
 
-pub name_shorter : (r : Result Name Stop) (ts rest : List Item) → Gives r rest (lower.read ts) → OnOk r (length rest < length ts)
+pub name_shorter : (r : Result Name Stop) (ts rest : List Item) → ReturnsReading r rest (lower.read ts) → OnOk r (length rest < length ts)
 unfolding lower
 name_shorter r ts rest h = gives-shorter lower lower-law refl r ts rest h
 
-pub revision_shorter : (r : Result Revision Stop) (ts rest : List Item) → Gives r rest (revision.read ts) → OnOk r (length rest < length ts)
+pub revision_shorter : (r : Result Revision Stop) (ts rest : List Item) → ReturnsReading r rest (revision.read ts) → OnOk r (length rest < length ts)
 unfolding behind clause pair revision shaped text word lower
 revision_shorter r ts rest h = gives-shorter revision revision-law refl r ts rest h
 
-pub before_assign_shorter : (r : Result TokenText Stop) (ts rest : List Item) → Gives r rest (before_assign.read ts) → OnOk r (length rest < length ts)
+pub before_assign_shorter : (r : Result TokenText Stop) (ts rest : List Item) → ReturnsReading r rest (before_assign.read ts) → OnOk r (length rest < length ts)
 unfolding before_assign
 before_assign_shorter r ts rest h = gives-shorter before_assign before_assign-law refl r ts rest h
 
-pub before_end_shorter : (r : Result TokenText Stop) (ts rest : List Item) → Gives r rest (before_end.read ts) → OnOk r (length rest < length ts)
+pub before_end_shorter : (r : Result TokenText Stop) (ts rest : List Item) → ReturnsReading r rest (before_end.read ts) → OnOk r (length rest < length ts)
 unfolding before_end
 before_end_shorter r ts rest h = gives-shorter before_end before_end-law refl r ts rest h
 
-pub symbol_shorter : (r : Result TokenText Stop) (ts rest : List Item) → Gives r rest (symbol.read ts) → OnOk r (length rest < length ts)
-unfolding symbol
-symbol_shorter r ts rest h = gives-shorter symbol symbol-law refl r ts rest h
+pub symbol_shorter : (r : Result TokenText Stop) (ts rest : List Item) → ReturnsReading r rest (imported_symbol.read ts) → OnOk r (length rest < length ts)
+unfolding imported_symbol
+symbol_shorter r ts rest h = gives-shorter imported_symbol imported_symbol-law refl r ts rest h
 
-pub import_clause_shorter : (r : Result Import Stop) (ts rest : List Item) → Gives r rest (import_clause.read ts) → OnOk r (length rest < length ts)
-unfolding behind import_clause lined many name lower pair separated shaped some_of symbol text token word
+pub import_clause_shorter : (r : Result Import Stop) (ts rest : List Item) → ReturnsReading r rest (import_clause.read ts) → OnOk r (length rest < length ts)
+unfolding behind import_clause lined many name lower pair separated shaped some_of imported_symbol text token word
 import_clause_shorter r ts rest h = gives-shorter import_clause import_clause-law refl r ts rest h
 
 pub definition-solid : definition.empty ≡ false
@@ -163,5 +163,5 @@ unfolding arc assigned balanced base before before_assign before_end behind boun
     identifier import_clause imports index index_names later_part lined lower_definition macro_body macro_definition macro_name many maybe module_identity
     module_text name lower named_number names notification_type object_identifier object_identifier_words object_identity object_type objects
     octet_string_words of_row opening pair parenthesized part range ranges raw_definition refinement revision separated sequence shaped simple_type size
-    some_of status symbol syntax_clause syntax_type tag tagged text text_where textual_convention token upper_definition value word
+    some_of status imported_symbol syntax_clause syntax_type tag tagged text text_where textual_convention token upper_definition value word
 module_text-solid = refl

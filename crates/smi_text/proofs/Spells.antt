@@ -83,7 +83,7 @@ use Rattle.smi_text.specs.Grammar.{
   simple_type,
   size,
   status,
-  symbol,
+  imported_symbol,
   syntax_clause,
   syntax_type,
   tag,
@@ -336,9 +336,9 @@ def-spells d = kind-spells d.line d.label d.kind
 -- modules
 
 import-spells : (x : Import) → import_clause.spell x ≡ say.of_import x
-unfolding import_clause shaped lined pair separated some_of symbol behind word name lower token
+unfolding import_clause shaped lined pair separated some_of imported_symbol behind word name lower token
 import-spells x = λ i.
-    put_line x.line (lists_between (sign K.Comma) (λ y. say.symbol y ∷ []) (λ y. say.symbol y ∷ []) (λ y. refl) x.symbols i ++ (say.word
+    put_line x.line (lists_between (sign K.Comma) (λ y. say.imported_symbol y ∷ []) (λ y. say.imported_symbol y ∷ []) (λ y. refl) x.symbols i ++ (say.word
     (codes "FROM") ∷ say.upper x.source ∷ []))
 
 heading-spells : (ps : List Part) → heading.spell ps ≡ say.braces (flat_map say.of_part ps)

@@ -1,13 +1,13 @@
 -- What marks take of the items of a text, and what they say of its tokens.
 use Rattle.std.proofs.Common.{◌≡◌, ℕ, List, [], ◌∷◌, Some, None, Ok, Err, refl, ap}
 use Rattle.std.specs.Prelude.{map}
-use Rattle.smi_lexer.specs.Token.{Lexeme, Item, tokens_of, fault_of}
+use Rattle.smi_lexer.specs.Token.{Lexeme, Item, tokens_of, first_fault}
 use Rattle.smi_module.specs.Mark.{Mark, Stands}
 use Rattle.smi_module.specs.Spelling.{spelling}
 use Rattle.smi_module.specs.declared.tree.Module.{Module}
-use Rattle.smi_text.specs.Format.{Takes}
+use Rattle.smi_text.specs.Format.{StandsAhead}
 use Rattle.smi_text.specs.Grammar.{file}
-use Rattle.smi_text.specs.Gives.{RepeatsIn, RepeatsAgain}
+use Rattle.smi_text.specs.Returned.{RepeatsIn, RepeatsAgain}
 use Rattle.smi_text.specs.Text.{HasSecond, DefinesAgain}
 use Rattle.smi_text.proofs.DefinitionLists.{file-reads}
 
@@ -15,7 +15,7 @@ use Rattle.smi_text.proofs.DefinitionLists.{file-reads}
 abbrev all_tokens : List Lexeme → List Item
 all_tokens ts = map (λ t. Ok t) ts
 
-taken-tokens : (ms : List Mark) (ts rest : List Lexeme) → Stands ms ts rest → Takes ms (all_tokens ts) (all_tokens rest)
+taken-tokens : (ms : List Mark) (ts rest : List Lexeme) → Stands ms ts rest → StandsAhead ms (all_tokens ts) (all_tokens rest)
 taken-tokens [] ts rest h = ap all_tokens h
 taken-tokens (m ∷ ms) [] rest h = h
 taken-tokens (m ∷ ms) (t ∷ ts) rest h = (h.0, taken-tokens ms ts rest h.1)
@@ -24,7 +24,7 @@ pub tokens-read : (ms : List Module) (ts : List Lexeme) → Stands (spelling ms)
 tokens-read ms ts h = file-reads ms (all_tokens ts) (taken-tokens (spelling ms) ts [] h)
 
 -- a text that lexes to its end
-pub taken-whole : (ms : List Mark) (items : List Item) → fault_of items ≡ None → Stands ms (tokens_of items) [] → Takes ms items []
+pub taken-whole : (ms : List Mark) (items : List Item) → first_fault items ≡ None → Stands ms (tokens_of items) [] → StandsAhead ms items []
 taken-whole [] [] w h = refl
 taken-whole [] (Ok t ∷ items) w h = absurd (cc)
 taken-whole [] (Err f ∷ items) w h = absurd (cc)
@@ -32,14 +32,14 @@ taken-whole (m ∷ ms) [] w h = h
 taken-whole (m ∷ ms) (Err f ∷ items) w h = h
 taken-whole (m ∷ ms) (Ok t ∷ items) w h = (h.0, taken-whole ms items w h.1)
 
-pub taken-stands : (ms : List Mark) (items rest : List Item) → Takes ms items rest → Stands ms (tokens_of items) (tokens_of rest)
+pub taken-stands : (ms : List Mark) (items rest : List Item) → StandsAhead ms items rest → Stands ms (tokens_of items) (tokens_of rest)
 taken-stands [] items rest h = ap tokens_of h
 taken-stands (m ∷ ms) [] rest h = h
 taken-stands (m ∷ ms) (Err f ∷ items) rest h = h
 taken-stands (m ∷ ms) (Ok t ∷ items) rest h = (h.0, taken-stands ms items rest h.1)
 
-pub taken-no_fault : (ms : List Mark) (items : List Item) → Takes ms items [] → fault_of items ≡ None
-taken-no_fault [] items h = ap fault_of h
+pub taken-no_fault : (ms : List Mark) (items : List Item) → StandsAhead ms items [] → first_fault items ≡ None
+taken-no_fault [] items h = ap first_fault h
 taken-no_fault (m ∷ ms) [] h = refl
 taken-no_fault (m ∷ ms) (Err f ∷ items) h = absurd h
 taken-no_fault (m ∷ ms) (Ok t ∷ items) h = taken-no_fault ms items h.1

@@ -5,7 +5,7 @@ use Rattle.std.specs.List.{list_any, list_all}
 use Rattle.smi_lexer.specs.declared.token.TokenKind.TheVariants as K
 use Rattle.smi_lexer.specs.Token.{Lexeme, Item}
 use Rattle.smi_module.specs.Mark.{same_kind, same_text}
-use Rattle.smi_text.specs.Format.{Takes}
+use Rattle.smi_text.specs.Format.{StandsAhead}
 use Rattle.smi_module.specs.Reserved.{is_reserved, macros, reserved_words}
 use Rattle.smi_module.specs.Number.{is_number, is_macro}
 use Rattle.smi_text.specs.Format.{Format, a_word, meets, begins, spell_pieces, before, behind, either, many, maybe, name, pair, separated, shaped, some_of}
@@ -138,17 +138,17 @@ macro_definition-law = shaped-law to_macro from_macro macro_body macro_body-law 
 
 -- what has no pieces isn't spelled
 pub no-pieces : {A B : Type 0} (to : A → B) (from : B → Option A) (f : Format A) (y : B) (ts rest : List Item) → from y ≡ None
-    → Takes ((shaped to from f).spell y) ts rest → ⊥
+    → StandsAhead ((shaped to from f).spell y) ts rest → ⊥
 unfolding shaped
-no-pieces to from f y ts rest e h = never-stands ts rest (let P : Option _ → Type 0 = λ o. Takes (spell_pieces f.spell o) ts rest in subst P e h)
+no-pieces to from f y ts rest e h = never-stands ts rest (let P : Option _ → Type 0 = λ o. StandsAhead (spell_pieces f.spell o) ts rest in subst P e h)
 
 -- a macro isn't assigned, and what isn't a macro has no macro's body
-assigned-no-macro : (xs : List TokenText) (ts rest : List Item) → Takes (assigned.spell (D.Macro xs)) ts rest → ⊥
+assigned-no-macro : (xs : List TokenText) (ts rest : List Item) → StandsAhead (assigned.spell (D.Macro xs)) ts rest → ⊥
 unfolding assigned
 assigned-no-macro xs ts rest h = no-pieces to_assigned from_assigned (either textual_convention (either choice (either tagged (either sequence simple_type))))
     (D.Macro xs) ts rest refl h
 
-pub macro-pieces : (k : DefKind) (ts rest : List Item) → Takes (macro_definition.spell k) ts rest → (xs : List TokenText) × (k ≡ D.Macro xs)
+pub macro-pieces : (k : DefKind) (ts rest : List Item) → StandsAhead (macro_definition.spell k) ts rest → (xs : List TokenText) × (k ≡ D.Macro xs)
 unfolding macro_definition shaped
 macro-pieces (D.Macro xs) ts rest h = (xs, refl)
 macro-pieces (D.TextualConvention d) ts rest h = absurd (never-stands ts rest h)
@@ -168,7 +168,8 @@ macro-pieces (D.AgentCapabilities d) ts rest h = absurd (never-stands ts rest h)
 abbrev pub assignment : Format DefKind
 assignment = behind (token K.Assign) assigned
 
-upper-back : (x : DefKind ⊎ DefKind) (ts rest : List Item) → Takes ((either assignment macro_definition).spell x) ts rest → from_upper (to_upper x) ≡ Some x
+upper-back : (x : DefKind ⊎ DefKind) (ts rest : List Item) → StandsAhead ((either assignment macro_definition).spell x) ts rest
+    → from_upper (to_upper x) ≡ Some x
 unfolding either behind token lower
 upper-back (inl (D.Macro xs)) [] rest h = absurd h
 upper-back (inl (D.Macro xs)) (Err f ∷ ts) rest h = absurd h

@@ -30,7 +30,7 @@ use Rattle.std.proofs.Common.{◌⊎◌, inl, inr, zero, suc}
 use Rattle.smi_lexer.specs.declared.token.TokenKind.{TokenKind}
 use Rattle.smi_lexer.specs.declared.token.TokenKind.TheVariants.{Lower, Upper}
 use Rattle.smi_lexer.specs.Token.{Lexeme, Item}
-use Rattle.smi_module.specs.Mark.{Mark, sign, sign_text, spelled, same_kind, same_text, Fits}
+use Rattle.smi_module.specs.Mark.{Mark, sign, sign_text, spelled, same_kind, same_text, MarksToken}
 use Rattle.smi_module.specs.Word.{is_word}
 use Rattle.smi_module.specs.Reserved.{is_reserved}
 use Rattle.smi_module.specs.Spelling.{put_line}
@@ -70,11 +70,11 @@ unfoldable pub begins : List Ahead → List Item → Bool
 begins cs items = meets_any cs (token_ahead items)
 
 -- the items are the tokens that the marks say, and then the rest
-abbrev pub Takes : List Mark → List Item → List Item → Type 0
-Takes [] items rest = items ≡ rest
-Takes (m ∷ ms) [] rest = ⊥
-Takes (m ∷ ms) (Ok t ∷ items) rest = Fits m t × Takes ms items rest
-Takes (m ∷ ms) (Err fault ∷ items) rest = ⊥
+abbrev pub StandsAhead : List Mark → List Item → List Item → Type 0
+StandsAhead [] items rest = items ≡ rest
+StandsAhead (m ∷ ms) [] rest = ⊥
+StandsAhead (m ∷ ms) (Ok t ∷ items) rest = MarksToken m t × StandsAhead ms items rest
+StandsAhead (m ∷ ms) (Err fault ∷ items) rest = ⊥
 
 -- no token is both: in one order
 abbrev pub half_apart : Ahead → Ahead → Bool

@@ -291,26 +291,26 @@ index_marks (x ∷ (y ∷ ys)) implied = spelled K.Lower x.octets true ∷ sign 
 abbrev pub implied_name : Format Name
 implied_name = behind (word (codes "IMPLIED")) lower
 
-abbrev pub parts_of : List Name → Bool → IndexParts
-parts_of xs implied = record { names = xs; implied = implied }
+abbrev pub index_parts : List Name → Bool → IndexParts
+index_parts xs implied = record { names = xs; implied = implied }
 
 -- these names, and then those that were read
 unfoldable pub with_names : List Name → Reading IndexParts → Reading IndexParts
-with_names xs r = option_map (λ p. (parts_of (xs ++ p.0.names) p.0.implied, p.1)) r
+with_names xs r = option_map (λ p. (index_parts (xs ++ p.0.names) p.0.implied, p.1)) r
 
 -- the names one after the other; the number bounds the recursion
 unfoldable pub read_index : ℕ → List Item → Reading IndexParts
 read_index zero ts = None
 read_index (suc n) ts =
     if begins (a_word (codes "IMPLIED") ∷ []) ts then option_map (λ p. (
-      parts_of
+      index_parts
           (p.0 ∷ []) true,
       p.1,
     )) (implied_name.read ts)
     else option_and_then (λ p.
     if begins (a_kind K.Comma ∷ []) p.1 then with_names (p.0 ∷ []) (option_and_then
     (λ q. read_index n q.1) ((token K.Comma).read p.1))
-    else Some (parts_of (p.0 ∷ []) false, p.1)) (lower.read ts)
+    else Some (index_parts (p.0 ∷ []) false, p.1)) (lower.read ts)
 
 unfoldable pub index_names : Format IndexParts
 index_names = record {
@@ -708,8 +708,8 @@ definition =
 
 -- modules
 
-unfoldable pub symbol : Format TokenText
-symbol = kept (a_kind K.Lower ∷ a_name ∷ macro_words) is_symbol
+unfoldable pub imported_symbol : Format TokenText
+imported_symbol = kept (a_kind K.Lower ∷ a_name ∷ macro_words) is_symbol
 
 abbrev pub to_import : ℕ × (List TokenText × Name) → Import
 to_import p = record { symbols = p.1.0; source = p.1.1; line = p.0 }
@@ -719,7 +719,7 @@ from_import i = Some (i.line, (i.symbols, i.source))
 
 unfoldable pub import_clause : Format Import
 import_clause =
-    shaped to_import from_import (lined (pair (separated K.Comma symbol) (behind (word
+    shaped to_import from_import (lined (pair (separated K.Comma imported_symbol) (behind (word
     (codes "FROM")) name)))
 
 unfoldable pub imports : Format (List Import)

@@ -1,7 +1,7 @@
 pub mod Ahead
 pub mod Format
 pub mod Grammar
-pub mod Gives
+pub mod Returned
 pub mod Names
 pub mod Text
 pub mod Kinds

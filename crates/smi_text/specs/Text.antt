@@ -1,7 +1,7 @@
 -- What a text says of modules, and its faults.
 use Rattle.std.specs.Prelude.{◌≡◌, ℕ, true, List, [], ◌++◌, Option, Some, None}
 use Rattle.std.specs.List.{flat_map, list_any, list_all}
-use Rattle.smi_lexer.specs.Token.{Lexeme, Item, tokens_of, fault_of}
+use Rattle.smi_lexer.specs.Token.{Lexeme, Item, tokens_of, first_fault}
 use Rattle.smi_lexer.specs.Lexes.{Lexes}
 use Rattle.smi_lexer.specs.declared.error.LexError.{LexError}
 use Rattle.smi_text.specs.declared.error.ParseError.{ParseError}
@@ -16,10 +16,10 @@ use Rattle.smi_module.specs.Lookup.{labels, are_distinct}
 use Rattle.smi_module.specs.declared.names.Name.{Name}
 
 -- the text lexes to its end, and its tokens are the spelling of the modules
-pub record Spells (ms : List Module) (text : List ℕ) : Type 0 where
+pub record AreSpelledBy (ms : List Module) (text : List ℕ) : Type 0 where
   pub items : List Item
   pub lexed : Lexes [] text items
-  pub whole : fault_of items ≡ None
+  pub whole : first_fault items ≡ None
   pub spelled : Stands (spelling ms) (tokens_of items) []
 
 -- no module defines a name twice
@@ -30,7 +30,7 @@ HasNoDoubles ms = list_all (λ m. are_distinct (labels m.defs)) ms ≡ true
 pub record BreaksOff (fault : LexError) (text : List ℕ) : Type 0 where
   pub items : List Item
   pub lexed : Lexes [] text items
-  pub at : fault_of items ≡ Some fault
+  pub at : first_fault items ≡ Some fault
 
 -- the tokens begin with definitions; the last of them stands on this line, and is the first to
 -- define a name a second time
@@ -62,6 +62,6 @@ pub record HasDouble (line : ℕ) (text : List ℕ) : Type 0 where
 -- when each error is returned; the text is not the cause where memory runs out
 abbrev pub IsCause : ParseError → List ℕ → Type 0
 IsCause (E.Lex fault) text = BreaksOff fault text
-IsCause (E.Syntax line) text = (ms : List Module) → Spells ms text → ⊥
+IsCause (E.Syntax line) text = (ms : List Module) → AreSpelledBy ms text → ⊥
 IsCause (E.DoubleName line) text = HasDouble line text
 IsCause E.Memory text = Unit {0}

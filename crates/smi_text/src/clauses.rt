@@ -6,7 +6,7 @@ ghost use Rattle.smi_text.specs.Format.{begins, a_word, a_kind, no_word, no_kind
 ghost use Rattle.smi_text.specs.Format as format;
 ghost use Rattle.smi_text.specs.Grammar as grammar;
 ghost use Rattle.smi_lexer.specs.declared.token.TokenKind.TheVariants as kinds;
-ghost use Rattle.smi_text.specs.Gives.{Gives};
+ghost use Rattle.smi_text.specs.Returned.{ReturnsReading};
 
 use crate::parser::{AfterComma, Parser, Production, keep};
 use crate::stop::Stop;
@@ -107,7 +107,7 @@ fn is_outside(kind: TokenKind, depth: usize) -> bool
 impl<'a> Parser<'a> {
     /// Reads STATUS, DESCRIPTION and REFERENCE.
     pub(crate) fn status(&mut self) -> Result<Status, Stop>
-        ensures { Gives result self.new (grammar.status.read self.old) }
+        ensures { ReturnsReading result self.new (grammar.status.read self.old) }
     {
         self.word(b"STATUS")?;
         let status = self.text(TokenKind::Lower)?;
@@ -122,7 +122,7 @@ impl<'a> Parser<'a> {
 
     /// Reads a REVISION with its DESCRIPTION.
     fn revision(&mut self) -> Result<Revision, Stop>
-        ensures { Gives result self.new (grammar.revision.read self.old) }
+        ensures { ReturnsReading result self.new (grammar.revision.read self.old) }
     {
         let date = self.clause(b"REVISION")?;
         let description = self.clause(b"DESCRIPTION")?;
@@ -131,7 +131,7 @@ impl<'a> Parser<'a> {
 
     /// Reads names in braces.
     pub(crate) fn names(&mut self) -> Result<Items<Name>, Stop>
-        ensures { Gives result self.new (grammar.names.read self.old) }
+        ensures { ReturnsReading result self.new (grammar.names.read self.old) }
     {
         self.sign(TokenKind::OpenBrace)?;
         let first = self.lower()?;
@@ -142,7 +142,7 @@ impl<'a> Parser<'a> {
 
     /// Reads the objects of a notification, if OBJECTS is ahead.
     pub(crate) fn objects_if_any(&mut self) -> Result<Option<Items<Name>>, Stop>
-        ensures { Gives result self.new ((format.maybe grammar.objects).read self.old) }
+        ensures { ReturnsReading result self.new ((format.maybe grammar.objects).read self.old) }
     {
         if self.at_word(b"OBJECTS") {
             self.word(b"OBJECTS")?;
@@ -154,7 +154,7 @@ impl<'a> Parser<'a> {
 
     /// Reads the names of an INDEX: IMPLIED may stand before the last one.
     fn index_names(&mut self) -> Result<IndexParts, Stop>
-        ensures { Gives result self.new (grammar.index_names.read self.old) }
+        ensures { ReturnsReading result self.new (grammar.index_names.read self.old) }
     {
         let mut names = self.list();
         'each: loop {
@@ -181,7 +181,7 @@ impl<'a> Parser<'a> {
 
     /// Reads how the rows of a table are identified, by INDEX or by AUGMENTS.
     fn index(&mut self) -> Result<Index, Stop>
-        ensures { Gives result self.new (grammar.index.read self.old) }
+        ensures { ReturnsReading result self.new (grammar.index.read self.old) }
     {
         if self.at_word(b"INDEX") {
             self.word(b"INDEX")?;
@@ -200,7 +200,7 @@ impl<'a> Parser<'a> {
 
     /// Reads how the rows of a table are identified, if INDEX or AUGMENTS is ahead.
     pub(crate) fn index_if_any(&mut self) -> Result<Option<Index>, Stop>
-        ensures { Gives result self.new ((format.maybe grammar.index).read self.old) }
+        ensures { ReturnsReading result self.new ((format.maybe grammar.index).read self.old) }
     {
         if self.at_word(b"INDEX") || self.at_word(b"AUGMENTS") {
             Ok(Some(self.index()?))
@@ -221,7 +221,7 @@ impl<'a> Parser<'a> {
 
     /// Reads a token that isn't `::=`.
     fn before_assign(&mut self) -> Result<TokenText, Stop>
-        ensures { Gives result self.new (grammar.before_assign.read self.old) }
+        ensures { ReturnsReading result self.new (grammar.before_assign.read self.old) }
     {
         match self.peek() {
             Some(token) if token.kind != TokenKind::Assign => self.take_token(
@@ -243,7 +243,7 @@ impl<'a> Parser<'a> {
 
     /// Reads a token that isn't END.
     fn before_end(&mut self) -> Result<TokenText, Stop>
-        ensures { Gives result self.new (grammar.before_end.read self.old) }
+        ensures { ReturnsReading result self.new (grammar.before_end.read self.old) }
     {
         match self.peek() {
             Some(token) if !self.at_word(b"END") => { self.take_token(token.kind, token.text) }
@@ -254,7 +254,7 @@ impl<'a> Parser<'a> {
     /// Reads tokens up to the brace that closes the one before them. Each brace that opens among
     /// them is closed among them.
     fn balanced(&mut self) -> Result<Items<TokenText>, Stop>
-        ensures { Gives result self.new (grammar.balanced.read self.old) }
+        ensures { ReturnsReading result self.new (grammar.balanced.read self.old) }
     {
         let mut tokens = self.list();
         let mut depth: usize = 0;
@@ -273,7 +273,7 @@ impl<'a> Parser<'a> {
 
     /// Reads such tokens with the braces around them.
     pub(crate) fn braced_tokens(&mut self) -> Result<Items<TokenText>, Stop>
-        ensures { Gives result self.new ((grammar.braced grammar.balanced).read self.old) }
+        ensures { ReturnsReading result self.new ((grammar.braced grammar.balanced).read self.old) }
     {
         self.sign(TokenKind::OpenBrace)?;
         let tokens = self.balanced()?;
@@ -283,7 +283,8 @@ impl<'a> Parser<'a> {
 
     /// Reads the tokens of a DEFVAL, if it is ahead.
     pub(crate) fn default_if_any(&mut self) -> Result<Option<Items<TokenText>>, Stop>
-        ensures { Gives result self.new ((format.maybe grammar.default_value).read self.old) }
+        ensures { ReturnsReading result self.new
+            ((format.maybe grammar.default_value).read self.old) }
     {
         if self.at_word(b"DEFVAL") {
             self.word(b"DEFVAL")?;

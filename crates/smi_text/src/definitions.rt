@@ -5,7 +5,7 @@ ghost use Rattle.std.specs.Prelude.{◌≡◌, List, [], ◌∷◌, codes};
 ghost use Rattle.smi_text.specs.Format.{begins, a_word, a_kind, a_name};
 ghost use Rattle.smi_text.specs.Format as format;
 ghost use Rattle.smi_text.specs.Grammar as grammar;
-ghost use Rattle.smi_text.specs.Gives.{Gives};
+ghost use Rattle.smi_text.specs.Returned.{ReturnsReading};
 
 use crate::clauses::{BeforeAssign, BeforeEnd, OneRevision};
 use crate::parser::{AfterComma, Parser};
@@ -21,7 +21,7 @@ use smi_module::{
 impl<'a> Parser<'a> {
     /// Reads SYNTAX and its type.
     fn syntax_clause(&mut self) -> Result<Syntax, Stop>
-        ensures { Gives result self.new (grammar.syntax_clause.read self.old) }
+        ensures { ReturnsReading result self.new (grammar.syntax_clause.read self.old) }
     {
         self.word(b"SYNTAX")?;
         self.syntax_type()
@@ -29,7 +29,7 @@ impl<'a> Parser<'a> {
 
     /// Reads OBJECT-TYPE and its clauses.
     fn object_type(&mut self) -> Result<ObjectType, Stop>
-        ensures { Gives result self.new (grammar.object_type.read self.old) }
+        ensures { ReturnsReading result self.new (grammar.object_type.read self.old) }
     {
         self.word(b"OBJECT-TYPE")?;
         let syntax = self.syntax_clause()?;
@@ -53,7 +53,7 @@ impl<'a> Parser<'a> {
 
     /// Reads OBJECT IDENTIFIER and its value.
     fn object_identifier(&mut self) -> Result<Items<Part>, Stop>
-        ensures { Gives result self.new (grammar.object_identifier.read self.old) }
+        ensures { ReturnsReading result self.new (grammar.object_identifier.read self.old) }
     {
         self.object_identifier_words()?;
         self.value()
@@ -61,7 +61,7 @@ impl<'a> Parser<'a> {
 
     /// Reads OBJECT-IDENTITY and its clauses.
     fn object_identity(&mut self) -> Result<ObjectIdentity, Stop>
-        ensures { Gives result self.new (grammar.object_identity.read self.old) }
+        ensures { ReturnsReading result self.new (grammar.object_identity.read self.old) }
     {
         self.word(b"OBJECT-IDENTITY")?;
         let status = self.status()?;
@@ -71,7 +71,7 @@ impl<'a> Parser<'a> {
 
     /// Reads MODULE-IDENTITY and its clauses.
     fn module_identity(&mut self) -> Result<ModuleIdentity, Stop>
-        ensures { Gives result self.new (grammar.module_identity.read self.old) }
+        ensures { ReturnsReading result self.new (grammar.module_identity.read self.old) }
     {
         self.word(b"MODULE-IDENTITY")?;
         let last_updated = self.clause(b"LAST-UPDATED")?;
@@ -92,7 +92,7 @@ impl<'a> Parser<'a> {
 
     /// Reads NOTIFICATION-TYPE and its clauses.
     fn notification_type(&mut self) -> Result<NotificationType, Stop>
-        ensures { Gives result self.new (grammar.notification_type.read self.old) }
+        ensures { ReturnsReading result self.new (grammar.notification_type.read self.old) }
     {
         self.word(b"NOTIFICATION-TYPE")?;
         let objects = self.objects_if_any()?;
@@ -107,7 +107,8 @@ impl<'a> Parser<'a> {
 
     /// Reads a group: `word`, and then its clauses, with its members after the word `members`.
     fn group(&mut self, word: &[u8], members: &[u8]) -> Result<Group, Stop>
-        ensures { Gives result self.new ((grammar.group word.now members.now).read self.old) }
+        ensures { ReturnsReading result self.new
+            ((grammar.group word.now members.now).read self.old) }
     {
         self.word(word)?;
         self.word(members)?;
@@ -123,7 +124,7 @@ impl<'a> Parser<'a> {
 
     /// Reads a definition that begins with `word`, and whose clauses are kept as tokens.
     fn raw_definition(&mut self, word: &[u8]) -> Result<RawDefinition, Stop>
-        ensures { Gives result self.new ((grammar.raw_definition word.now).read self.old) }
+        ensures { ReturnsReading result self.new ((grammar.raw_definition word.now).read self.old) }
     {
         self.word(word)?;
         let clauses = self.many::<BeforeAssign>()?;
@@ -133,7 +134,7 @@ impl<'a> Parser<'a> {
 
     /// Reads what follows a name in lower case.
     fn lower_definition(&mut self) -> Result<DefKind, Stop>
-        ensures { Gives result self.new (grammar.lower_definition.read self.old) }
+        ensures { ReturnsReading result self.new (grammar.lower_definition.read self.old) }
     {
         if self.at_word(b"OBJECT-TYPE") {
             Ok(DefKind::ObjectType(self.object_type()?))
@@ -158,7 +159,7 @@ impl<'a> Parser<'a> {
 
     /// Reads TEXTUAL-CONVENTION and its clauses.
     fn textual_convention(&mut self) -> Result<TextualConvention, Stop>
-        ensures { Gives result self.new (grammar.textual_convention.read self.old) }
+        ensures { ReturnsReading result self.new (grammar.textual_convention.read self.old) }
     {
         self.word(b"TEXTUAL-CONVENTION")?;
         let display_hint = self.clause_if_any(b"DISPLAY-HINT")?;
@@ -173,7 +174,7 @@ impl<'a> Parser<'a> {
 
     /// Reads CHOICE and its tokens.
     fn choice(&mut self) -> Result<Items<TokenText>, Stop>
-        ensures { Gives result self.new (grammar.choice.read self.old) }
+        ensures { ReturnsReading result self.new (grammar.choice.read self.old) }
     {
         self.word(b"CHOICE")?;
         self.braced_tokens()
@@ -181,7 +182,7 @@ impl<'a> Parser<'a> {
 
     /// Reads `[APPLICATION n] IMPLICIT`.
     fn tag(&mut self) -> Result<Text, Stop>
-        ensures { Gives result self.new (grammar.tag.read self.old) }
+        ensures { ReturnsReading result self.new (grammar.tag.read self.old) }
     {
         self.sign(TokenKind::OpenBracket)?;
         self.word(b"APPLICATION")?;
@@ -193,7 +194,7 @@ impl<'a> Parser<'a> {
 
     /// Reads the columns of a row with their braces.
     fn fields(&mut self) -> Result<Items<Field>, Stop>
-        ensures { Gives result self.new ((grammar.braced (format.separated TokenKind.Comma
+        ensures { ReturnsReading result self.new ((grammar.braced (format.separated TokenKind.Comma
             grammar.field)).read self.old) }
     {
         self.sign(TokenKind::OpenBrace)?;
@@ -205,7 +206,7 @@ impl<'a> Parser<'a> {
 
     /// Reads what follows a name and `::=`.
     fn assigned(&mut self) -> Result<DefKind, Stop>
-        ensures { Gives result self.new (grammar.assigned.read self.old) }
+        ensures { ReturnsReading result self.new (grammar.assigned.read self.old) }
     {
         if self.at_word(b"TEXTUAL-CONVENTION") {
             return Ok(DefKind::TextualConvention(self.textual_convention()?));
@@ -232,7 +233,7 @@ impl<'a> Parser<'a> {
 
     /// Reads MACRO and its tokens.
     fn macro_definition(&mut self) -> Result<DefKind, Stop>
-        ensures { Gives result self.new (grammar.macro_definition.read self.old) }
+        ensures { ReturnsReading result self.new (grammar.macro_definition.read self.old) }
     {
         self.word(b"MACRO")?;
         self.sign(TokenKind::Assign)?;
@@ -244,7 +245,7 @@ impl<'a> Parser<'a> {
 
     /// Reads what follows a name in upper case.
     fn upper_definition(&mut self) -> Result<DefKind, Stop>
-        ensures { Gives result self.new (grammar.upper_definition.read self.old) }
+        ensures { ReturnsReading result self.new (grammar.upper_definition.read self.old) }
     {
         if self.at_kind(TokenKind::Assign) {
             self.sign(TokenKind::Assign)?;
@@ -276,7 +277,7 @@ impl<'a> Parser<'a> {
 
     /// Reads the word of a macro.
     fn macro_name(&mut self) -> Result<Name, Stop>
-        ensures { Gives result self.new (grammar.macro_name.read self.old) }
+        ensures { ReturnsReading result self.new (grammar.macro_name.read self.old) }
     {
         match self.peek() {
             Some(token) if token.kind == TokenKind::Upper && is_macro(token.text) => {
@@ -295,7 +296,7 @@ impl<'a> Parser<'a> {
 
     /// Reads a definition.
     pub(crate) fn definition(&mut self) -> Result<Def, Stop>
-        ensures { Gives result self.new (grammar.definition.read self.old) }
+        ensures { ReturnsReading result self.new (grammar.definition.read self.old) }
     {
         let line = self.line();
         if self.at_kind(TokenKind::Lower) {

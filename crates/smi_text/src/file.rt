@@ -7,10 +7,11 @@ ghost use Rattle.smi_lexer.specs.Token.{Lexeme};
 ghost use Rattle.smi_module.specs.Mark.{Stands};
 ghost use Rattle.smi_module.specs.Spelling.{spelling};
 ghost use Rattle.smi_module.specs.Lines.{plain, unlined};
-ghost use Rattle.smi_text.specs.Gives.{ReadsDefinitions, ReadsModule, ReadsModules};
-ghost use Rattle.smi_text.specs.Gives.{DefinitionsFault, ModuleFault, ModulesFault, IsLabelAhead};
-ghost use Rattle.smi_text.specs.Gives.{IsCauseOf};
-ghost use Rattle.smi_text.specs.Text.{Spells, HasNoDoubles, IsCause, BreaksOff};
+ghost use Rattle.smi_text.specs.Returned.{ReadsDefinitions, ReadsModule, ReadsModules};
+ghost use Rattle.smi_text.specs.Returned.{DefinitionsFault, ModuleFault, ModulesFault};
+ghost use Rattle.smi_text.specs.Returned.{IsLabelAhead};
+ghost use Rattle.smi_text.specs.Returned.{IsCauseOf};
+ghost use Rattle.smi_text.specs.Text.{AreSpelledBy, HasNoDoubles, IsCause, BreaksOff};
 ghost use Rattle.smi_module.specs.Braces.{IsBalanced};
 ghost use Rattle.smi_text.specs.Grammar.{is_balanced};
 ghost use Rattle.smi_module.specs.declared.tree.Module.{Module as Tree};
@@ -119,9 +120,9 @@ fn cause_of(stop: ParseError, text: &[u8]) -> ParseError
 /// A fault anywhere refuses the whole text. The first fault in the text is reported.
 pub fn parse_modules(alloc: Global, text: &[u8]) -> Result<Vec<Module>, ParseError>
     // The text is a spelling of the modules returned, none of which defines a name twice.
-    ensures found { IfOk result (λ ms. Spells ms.items text.now × HasNoDoubles ms.items) }
+    ensures found { IfOk result (λ ms. AreSpelledBy ms.items text.now × HasNoDoubles ms.items) }
     // A text of such modules is read, unless memory runs out.
-    ensures only { (ms : List Tree) → Spells ms text.now → HasNoDoubles ms
+    ensures only { (ms : List Tree) → AreSpelledBy ms text.now → HasNoDoubles ms
         → MatchResult result (λ found. found.items ≡ ms) (λ error. error ≡ ParseError.Memory) }
 
     // Each error is returned only with its cause.

@@ -1,5 +1,5 @@
 //! Modules, with what they import (RFC 2578, section 3).
-#![tactic(auto, unfolding(crate::specs::Format::begins, crate::specs::Format::pair, crate::specs::Format::behind, crate::specs::Format::before, crate::specs::Format::maybe, crate::specs::Format::either, crate::specs::Format::shaped, crate::specs::Format::some_of, crate::specs::Format::separated, crate::specs::Format::lined, crate::specs::Format::lower, crate::specs::Format::word, crate::specs::Format::token, crate::specs::Format::text, crate::specs::Format::text_where, crate::specs::Format::name, crate::specs::Grammar::braced, crate::specs::Grammar::symbol, crate::specs::Grammar::import_clause, crate::specs::Grammar::imports, crate::specs::Grammar::heading, crate::specs::Grammar::opening, crate::specs::Grammar::head, crate::specs::Grammar::module_text, smi_module::specs::Number::is_symbol))]
+#![tactic(auto, unfolding(crate::specs::Format::begins, crate::specs::Format::pair, crate::specs::Format::behind, crate::specs::Format::before, crate::specs::Format::maybe, crate::specs::Format::either, crate::specs::Format::shaped, crate::specs::Format::some_of, crate::specs::Format::separated, crate::specs::Format::lined, crate::specs::Format::lower, crate::specs::Format::word, crate::specs::Format::token, crate::specs::Format::text, crate::specs::Format::text_where, crate::specs::Format::name, crate::specs::Grammar::braced, crate::specs::Grammar::imported_symbol, crate::specs::Grammar::import_clause, crate::specs::Grammar::imports, crate::specs::Grammar::heading, crate::specs::Grammar::opening, crate::specs::Grammar::head, crate::specs::Grammar::module_text, smi_module::specs::Number::is_symbol))]
 
 ghost use Rattle.std.specs.Prelude.{◌≡◌, List, [], ◌∷◌, codes};
 ghost use Rattle.smi_text.specs.Format.{begins, a_word, a_kind, a_name};
@@ -7,7 +7,7 @@ ghost use Rattle.smi_text.specs.Format as format;
 ghost use Rattle.smi_text.specs.Grammar as grammar;
 ghost use Rattle.smi_lexer.specs.declared.token.TokenKind.TheVariants as kinds;
 ghost use Rattle.smi_module.specs.Number as number;
-ghost use Rattle.smi_text.specs.Gives.{Gives};
+ghost use Rattle.smi_text.specs.Returned.{ReturnsReading};
 
 use crate::parser::{AfterComma, Parser, Production};
 use crate::stop::Stop;
@@ -29,7 +29,7 @@ pub(crate) struct Symbol;
 impl Production for Symbol {
     type Output = TokenText;
 
-    ghost format = { grammar.symbol };
+    ghost format = { grammar.imported_symbol };
 
     fn is_ahead(parser: &Parser<'_>) -> bool {
         parser.at_symbol()
@@ -62,14 +62,14 @@ impl Production for OneImport {
 impl<'a> Parser<'a> {
     /// Whether a symbol is ahead.
     fn at_symbol(&self) -> bool
-        ensures { result ≡ begins grammar.symbol.first self.now }
+        ensures { result ≡ begins grammar.imported_symbol.first self.now }
     {
         self.at_definition()
     }
 
     /// Reads a symbol that is imported: a name, or the word of a macro.
     fn symbol(&mut self) -> Result<TokenText, Stop>
-        ensures { Gives result self.new (grammar.symbol.read self.old) }
+        ensures { ReturnsReading result self.new (grammar.imported_symbol.read self.old) }
     {
         match self.peek() {
             Some(token) if is_symbol(token.kind, token.text) => {
@@ -81,7 +81,7 @@ impl<'a> Parser<'a> {
 
     /// Reads the symbols of one FROM clause.
     fn import_clause(&mut self) -> Result<Import, Stop>
-        ensures { Gives result self.new (grammar.import_clause.read self.old) }
+        ensures { ReturnsReading result self.new (grammar.import_clause.read self.old) }
     {
         let line = self.line();
         let first = self.symbol()?;
@@ -97,7 +97,7 @@ impl<'a> Parser<'a> {
 
     /// Reads what is imported.
     fn imports(&mut self) -> Result<Items<Import>, Stop>
-        ensures { Gives result self.new (grammar.imports.read self.old) }
+        ensures { ReturnsReading result self.new (grammar.imports.read self.old) }
     {
         self.word(b"IMPORTS")?;
         let imports = self.many::<OneImport>()?;
@@ -107,7 +107,7 @@ impl<'a> Parser<'a> {
 
     /// Reads what is imported, if IMPORTS is ahead.
     fn imports_if_any(&mut self) -> Result<Option<Items<Import>>, Stop>
-        ensures { Gives result self.new ((format.maybe grammar.imports).read self.old) }
+        ensures { ReturnsReading result self.new ((format.maybe grammar.imports).read self.old) }
     {
         if self.at_word(b"IMPORTS") {
             Ok(Some(self.imports()?))
@@ -118,7 +118,7 @@ impl<'a> Parser<'a> {
 
     /// Reads the identifier after a module's name.
     fn heading(&mut self) -> Result<Items<Part>, Stop>
-        ensures { Gives result self.new (grammar.heading.read self.old) }
+        ensures { ReturnsReading result self.new (grammar.heading.read self.old) }
     {
         self.sign(TokenKind::OpenBrace)?;
         let parts = self.many::<HeadingPart>()?;
@@ -128,7 +128,7 @@ impl<'a> Parser<'a> {
 
     /// Reads the identifier after a module's name, if a brace is ahead.
     fn heading_if_any(&mut self) -> Result<Option<Items<Part>>, Stop>
-        ensures { Gives result self.new ((format.maybe grammar.heading).read self.old) }
+        ensures { ReturnsReading result self.new ((format.maybe grammar.heading).read self.old) }
     {
         if self.at_kind(TokenKind::OpenBrace) {
             Ok(Some(self.heading()?))
@@ -139,7 +139,7 @@ impl<'a> Parser<'a> {
 
     /// Reads what opens the body of a module.
     fn opening(&mut self) -> Result<(), Stop>
-        ensures { Gives result self.new (grammar.opening.read self.old) }
+        ensures { ReturnsReading result self.new (grammar.opening.read self.old) }
     {
         self.word(b"DEFINITIONS")?;
         self.sign(TokenKind::Assign)?;
@@ -148,7 +148,7 @@ impl<'a> Parser<'a> {
 
     /// Reads a module up to its definitions.
     pub(crate) fn head(&mut self) -> Result<Head, Stop>
-        ensures { Gives result self.new (grammar.head.read self.old) }
+        ensures { ReturnsReading result self.new (grammar.head.read self.old) }
     {
         let name = self.name()?;
         let heading = self.heading_if_any()?;

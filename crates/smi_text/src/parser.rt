@@ -9,7 +9,7 @@ ghost use Rattle.smi_text.specs.Format.{line_ahead, name_of, with_front};
 ghost use Rattle.smi_text.specs.Kinds.{is_sign_kind, is_word_kind};
 ghost use Rattle.smi_text.specs.Format as format;
 ghost use Rattle.smi_lexer.specs.Lexes.{Lexes};
-ghost use Rattle.smi_text.specs.Gives.{Gives, is_memory};
+ghost use Rattle.smi_text.specs.Returned.{ReturnsReading, is_memory};
 ghost use Rattle.smi_text.specs.Grammar as grammar;
 ghost use Rattle.smi_lexer.specs.declared.token.TokenKind.TheVariants as kinds;
 
@@ -55,7 +55,7 @@ pub(crate) trait Production {
 
     /// Reads one, which has at least one token.
     fn read(parser: &mut Parser<'_>) -> Result<Self::Output, Stop>
-        ensures gives { Gives result parser.new (format.read parser.old) }
+        ensures gives { ReturnsReading result parser.new (format.read parser.old) }
         ensures shorter { OnOk result (length parser.new < length parser.old) };
 }
 
@@ -209,7 +209,7 @@ impl<'a> Parser<'a> {
 
     /// Reads this word of the grammar.
     pub(crate) fn word(&mut self, word: &[u8]) -> Result<(), Stop>
-        ensures { Gives result self.new ((format.word word.now).read self.old) }
+        ensures { ReturnsReading result self.new ((format.word word.now).read self.old) }
     {
         if !self.at_word(word) {
             return Err(self.syntax());
@@ -221,7 +221,7 @@ impl<'a> Parser<'a> {
     /// Reads a sign of the grammar.
     pub(crate) fn sign(&mut self, kind: TokenKind) -> Result<(), Stop>
         requires { is_sign_kind kind ≡ true }
-        ensures gives { Gives result self.new ((format.token kind).read self.old) }
+        ensures gives { ReturnsReading result self.new ((format.token kind).read self.old) }
         ensures shorter { OnOk result (length self.new < length self.old) }
     {
         match self.peek() {
@@ -245,7 +245,7 @@ impl<'a> Parser<'a> {
 
     /// Reads a token of this kind, and keeps its text.
     pub(crate) fn text(&mut self, kind: TokenKind) -> Result<Text, Stop>
-        ensures { Gives result self.new ((format.text kind).read self.old) }
+        ensures { ReturnsReading result self.new ((format.text kind).read self.old) }
     {
         match self.peek() {
             Some(token) if token.kind == kind => self.take_text(token.text),
@@ -266,7 +266,7 @@ impl<'a> Parser<'a> {
 
     /// Reads a name in lower case.
     pub(crate) fn lower(&mut self) -> Result<Name, Stop>
-        ensures { Gives result self.new (format.lower.read self.old) }
+        ensures { ReturnsReading result self.new (format.lower.read self.old) }
     {
         match self.peek() {
             Some(token) if token.kind == TokenKind::Lower => self.take_name(token),
@@ -276,7 +276,7 @@ impl<'a> Parser<'a> {
 
     /// Reads a name in upper case, which is not a reserved word.
     pub(crate) fn name(&mut self) -> Result<Name, Stop>
-        ensures { Gives result self.new (format.name.read self.old) }
+        ensures { ReturnsReading result self.new (format.name.read self.old) }
     {
         match self.peek() {
             Some(token) if token.kind == TokenKind::Upper && !is_reserved(token.text) => {
@@ -288,7 +288,7 @@ impl<'a> Parser<'a> {
 
     /// Reads a word and the string after it.
     pub(crate) fn clause(&mut self, word: &[u8]) -> Result<Text, Stop>
-        ensures { Gives result self.new ((grammar.clause word.now).read self.old) }
+        ensures { ReturnsReading result self.new ((grammar.clause word.now).read self.old) }
     {
         self.word(word)?;
         self.text(TokenKind::Text)
@@ -296,7 +296,8 @@ impl<'a> Parser<'a> {
 
     /// Reads a word and the string after it, if the word is ahead.
     pub(crate) fn clause_if_any(&mut self, word: &[u8]) -> Result<Option<Text>, Stop>
-        ensures { Gives result self.new ((format.maybe (grammar.clause word.now)).read self.old) }
+        ensures { ReturnsReading result self.new
+            ((format.maybe (grammar.clause word.now)).read self.old) }
     {
         if self.at_word(word) {
             Ok(Some(self.clause(word)?))
@@ -322,7 +323,8 @@ impl<'a> Parser<'a> {
     ) -> Result<Items<P::Output>, Stop>
     where
         P::Output: Drop,
-        ensures { Gives result self.new (with_front items.items ((format.many P.format).read
+        ensures { ReturnsReading result self.new
+            (with_front items.items ((format.many P.format).read
             self.old)) }
     {
         let mut items = items;
@@ -337,7 +339,7 @@ impl<'a> Parser<'a> {
     pub(crate) fn many<P: Production>(&mut self) -> Result<Items<P::Output>, Stop>
     where
         P::Output: Drop,
-        ensures { Gives result self.new ((format.many P.format).read self.old) }
+        ensures { ReturnsReading result self.new ((format.many P.format).read self.old) }
     {
         let items = self.list();
         self.many_after::<P>(items)
@@ -350,7 +352,8 @@ impl<'a> Parser<'a> {
     ) -> Result<Items<P::Output>, Stop>
     where
         P::Output: Drop,
-        ensures { Gives result self.new (with_front (first ∷ []) ((format.many P.format).read
+        ensures { ReturnsReading result self.new
+            (with_front (first ∷ []) ((format.many P.format).read
             self.old)) }
     {
         let mut items = self.list();

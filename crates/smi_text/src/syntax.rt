@@ -6,7 +6,7 @@ ghost use Rattle.smi_text.specs.Format.{begins, a_word, a_kind, a_name};
 ghost use Rattle.smi_text.specs.Format as format;
 ghost use Rattle.smi_text.specs.Grammar as grammar;
 ghost use Rattle.smi_module.specs.Number.{is_number};
-ghost use Rattle.smi_text.specs.Gives.{Gives};
+ghost use Rattle.smi_text.specs.Returned.{ReturnsReading};
 
 use crate::parser::{AfterBar, AfterComma, Parser, Production};
 use crate::stop::Stop;
@@ -109,7 +109,7 @@ impl Production for OneField {
 impl<'a> Parser<'a> {
     /// Reads a number of an identifier, 0 to 4294967295.
     fn arc(&mut self) -> Result<Text, Stop>
-        ensures { Gives result self.new (grammar.arc.read self.old) }
+        ensures { ReturnsReading result self.new (grammar.arc.read self.old) }
     {
         match self.peek() {
             Some(token) if token.kind == TokenKind::Number && is_arc(token.text) => {
@@ -121,7 +121,8 @@ impl<'a> Parser<'a> {
 
     /// Reads such a number in parentheses.
     fn arc_in_parentheses(&mut self) -> Result<Text, Stop>
-        ensures { Gives result self.new ((grammar.parenthesized grammar.arc).read self.old) }
+        ensures { ReturnsReading result self.new
+            ((grammar.parenthesized grammar.arc).read self.old) }
     {
         self.sign(TokenKind::OpenParen)?;
         let number = self.arc()?;
@@ -131,7 +132,8 @@ impl<'a> Parser<'a> {
 
     /// Reads such a number in parentheses, if they are ahead.
     fn arc_if_any(&mut self) -> Result<Option<Text>, Stop>
-        ensures { Gives result self.new ((format.maybe (grammar.parenthesized grammar.arc)).read
+        ensures { ReturnsReading result self.new
+            ((format.maybe (grammar.parenthesized grammar.arc)).read
             self.old) }
     {
         if self.at_kind(TokenKind::OpenParen) {
@@ -143,7 +145,7 @@ impl<'a> Parser<'a> {
 
     /// Reads a part of an identifier value in the first place.
     fn part(&mut self) -> Result<Part, Stop>
-        ensures { Gives result self.new (grammar.part.read self.old) }
+        ensures { ReturnsReading result self.new (grammar.part.read self.old) }
     {
         if self.at_kind(TokenKind::Number) {
             return Ok(Part::Number(self.arc()?));
@@ -157,7 +159,7 @@ impl<'a> Parser<'a> {
 
     /// Reads a part of an identifier value in a later place.
     fn later_part(&mut self) -> Result<Part, Stop>
-        ensures { Gives result self.new (grammar.later_part.read self.old) }
+        ensures { ReturnsReading result self.new (grammar.later_part.read self.old) }
     {
         if self.at_kind(TokenKind::Number) {
             return Ok(Part::Number(self.arc()?));
@@ -169,7 +171,7 @@ impl<'a> Parser<'a> {
 
     /// Reads an identifier value with its braces.
     fn identifier(&mut self) -> Result<Items<Part>, Stop>
-        ensures { Gives result self.new (grammar.identifier.read self.old) }
+        ensures { ReturnsReading result self.new (grammar.identifier.read self.old) }
     {
         self.sign(TokenKind::OpenBrace)?;
         let first = self.part()?;
@@ -180,7 +182,7 @@ impl<'a> Parser<'a> {
 
     /// Reads what a definition ends with: `::=` and its identifier value.
     pub(crate) fn value(&mut self) -> Result<Items<Part>, Stop>
-        ensures { Gives result self.new (grammar.value.read self.old) }
+        ensures { ReturnsReading result self.new (grammar.value.read self.old) }
     {
         self.sign(TokenKind::Assign)?;
         self.identifier()
@@ -188,7 +190,8 @@ impl<'a> Parser<'a> {
 
     /// Reads a number of any sign, -9223372036854775808 to 18446744073709551615.
     pub(crate) fn number(&mut self) -> Result<Text, Stop>
-        ensures { Gives result self.new ((format.text_where TokenKind.Number is_number).read
+        ensures { ReturnsReading result self.new
+            ((format.text_where TokenKind.Number is_number).read
             self.old) }
     {
         match self.peek() {
@@ -201,7 +204,7 @@ impl<'a> Parser<'a> {
 
     /// Reads a name with a number of any sign in parentheses.
     fn named_number(&mut self) -> Result<NamedNumber, Stop>
-        ensures { Gives result self.new (grammar.named_number.read self.old) }
+        ensures { ReturnsReading result self.new (grammar.named_number.read self.old) }
     {
         let name = self.lower()?;
         self.sign(TokenKind::OpenParen)?;
@@ -228,7 +231,7 @@ impl<'a> Parser<'a> {
 
     /// Reads an end of a range.
     fn bound(&mut self) -> Result<TokenText, Stop>
-        ensures { Gives result self.new (grammar.bound.read self.old) }
+        ensures { ReturnsReading result self.new (grammar.bound.read self.old) }
     {
         match self.peek() {
             Some(token) if is_bound(token.kind, token.text) => {
@@ -240,7 +243,7 @@ impl<'a> Parser<'a> {
 
     /// Reads the upper end of a range, if `..` is ahead.
     fn upper_bound_if_any(&mut self) -> Result<Option<TokenText>, Stop>
-        ensures { Gives result self.new ((format.maybe (format.behind (format.token
+        ensures { ReturnsReading result self.new ((format.maybe (format.behind (format.token
             TokenKind.Range) grammar.bound)).read self.old) }
     {
         if self.at_kind(TokenKind::Range) {
@@ -253,7 +256,7 @@ impl<'a> Parser<'a> {
 
     /// Reads a range.
     fn range(&mut self) -> Result<Range, Stop>
-        ensures { Gives result self.new (grammar.range.read self.old) }
+        ensures { ReturnsReading result self.new (grammar.range.read self.old) }
     {
         let low = self.bound()?;
         let high = self.upper_bound_if_any()?;
@@ -262,7 +265,7 @@ impl<'a> Parser<'a> {
 
     /// Reads ranges with bars between them.
     fn ranges(&mut self) -> Result<Items<Range>, Stop>
-        ensures { Gives result self.new (grammar.ranges.read self.old) }
+        ensures { ReturnsReading result self.new (grammar.ranges.read self.old) }
     {
         let first = self.range()?;
         self.and_more::<AfterBar<OneRange>>(first)
@@ -270,7 +273,7 @@ impl<'a> Parser<'a> {
 
     /// Reads ranges of lengths after SIZE.
     fn size(&mut self) -> Result<Items<Range>, Stop>
-        ensures { Gives result self.new (grammar.size.read self.old) }
+        ensures { ReturnsReading result self.new (grammar.size.read self.old) }
     {
         self.word(b"SIZE")?;
         self.sign(TokenKind::OpenParen)?;
@@ -281,7 +284,7 @@ impl<'a> Parser<'a> {
 
     /// Reads named numbers in braces.
     fn numbers(&mut self) -> Result<Items<NamedNumber>, Stop>
-        ensures { Gives result self.new ((grammar.braced (format.separated TokenKind.Comma
+        ensures { ReturnsReading result self.new ((grammar.braced (format.separated TokenKind.Comma
             grammar.named_number)).read self.old) }
     {
         self.sign(TokenKind::OpenBrace)?;
@@ -293,7 +296,7 @@ impl<'a> Parser<'a> {
 
     /// Reads what narrows a type.
     fn refinement(&mut self) -> Result<Refinement, Stop>
-        ensures { Gives result self.new (grammar.refinement.read self.old) }
+        ensures { ReturnsReading result self.new (grammar.refinement.read self.old) }
     {
         if self.at_kind(TokenKind::OpenBrace) {
             return Ok(Refinement::Numbers(self.numbers()?));
@@ -310,7 +313,7 @@ impl<'a> Parser<'a> {
 
     /// Reads what narrows a type, if a brace or a parenthesis is ahead.
     fn refinement_if_any(&mut self) -> Result<Option<Refinement>, Stop>
-        ensures { Gives result self.new ((format.maybe grammar.refinement).read self.old) }
+        ensures { ReturnsReading result self.new ((format.maybe grammar.refinement).read self.old) }
     {
         if self.at_either(TokenKind::OpenBrace, TokenKind::OpenParen) {
             Ok(Some(self.refinement()?))
@@ -321,7 +324,7 @@ impl<'a> Parser<'a> {
 
     /// Reads OBJECT IDENTIFIER.
     pub(crate) fn object_identifier_words(&mut self) -> Result<(), Stop>
-        ensures { Gives result self.new (grammar.object_identifier_words.read self.old) }
+        ensures { ReturnsReading result self.new (grammar.object_identifier_words.read self.old) }
     {
         self.word(b"OBJECT")?;
         self.word(b"IDENTIFIER")
@@ -329,7 +332,7 @@ impl<'a> Parser<'a> {
 
     /// Reads OCTET STRING.
     fn octet_string_words(&mut self) -> Result<(), Stop>
-        ensures { Gives result self.new (grammar.octet_string_words.read self.old) }
+        ensures { ReturnsReading result self.new (grammar.octet_string_words.read self.old) }
     {
         self.word(b"OCTET")?;
         self.word(b"STRING")
@@ -337,7 +340,7 @@ impl<'a> Parser<'a> {
 
     /// Reads a base type or the name of a type.
     fn base(&mut self) -> Result<Base, Stop>
-        ensures { Gives result self.new (grammar.base.read self.old) }
+        ensures { ReturnsReading result self.new (grammar.base.read self.old) }
     {
         if self.at_word(b"INTEGER") {
             self.word(b"INTEGER")?;
@@ -358,7 +361,7 @@ impl<'a> Parser<'a> {
 
     /// Reads a type other than `SEQUENCE OF`.
     pub(crate) fn simple_type(&mut self) -> Result<SimpleType, Stop>
-        ensures { Gives result self.new (grammar.simple_type.read self.old) }
+        ensures { ReturnsReading result self.new (grammar.simple_type.read self.old) }
     {
         let base = self.base()?;
         let refinement = self.refinement_if_any()?;
@@ -367,7 +370,7 @@ impl<'a> Parser<'a> {
 
     /// Reads what follows SEQUENCE in the type of a table: OF and its row's type.
     pub(crate) fn of_row(&mut self) -> Result<Name, Stop>
-        ensures { Gives result self.new (grammar.of_row.read self.old) }
+        ensures { ReturnsReading result self.new (grammar.of_row.read self.old) }
     {
         self.word(b"OF")?;
         self.name()
@@ -375,7 +378,7 @@ impl<'a> Parser<'a> {
 
     /// Reads a type.
     pub(crate) fn syntax_type(&mut self) -> Result<Syntax, Stop>
-        ensures { Gives result self.new (grammar.syntax_type.read self.old) }
+        ensures { ReturnsReading result self.new (grammar.syntax_type.read self.old) }
     {
         if self.at_word(b"SEQUENCE") {
             self.word(b"SEQUENCE")?;
@@ -387,7 +390,7 @@ impl<'a> Parser<'a> {
 
     /// Reads a column of a row.
     pub(crate) fn field(&mut self) -> Result<Field, Stop>
-        ensures { Gives result self.new (grammar.field.read self.old) }
+        ensures { ReturnsReading result self.new (grammar.field.read self.old) }
     {
         let label = self.lower()?;
         let syntax = self.syntax_type()?;

@@ -10,11 +10,11 @@ use Rattle.smi_module.specs.declared.tree.Module.{Module}
 use Rattle.smi_module.specs.declared.tree.Def.{Def}
 use Rattle.smi_meaning.specs.Names.{module_place}
 use Rattle.smi_nodes.specs.Nodes.{Node}
-use Rattle.smi_nodes.specs.Gathered.{node_from, node_from_def, def_at, nodes_of}
+use Rattle.smi_nodes.specs.Gathered.{node_from, node_from_def, def_of_module, nodes_of}
 use Rattle.smi_nodes.specs.declared.source.Source.{Source}
 use Rattle.smi_nodes.specs.declared.source.Source.TheVariants as S
 use Rattle.smi_tree.specs.Nodes.{has_label, is_named, is_of, is_labelled, place_in_module, place_anywhere, oids_of}
-use Rattle.smi_tree.specs.Places.{Places, place_in, place_at, home_from, label_from, definition_from, label_in, is_this, place_of_home, is_in, AreScopes}
+use Rattle.smi_tree.specs.Places.{Places, kept_place, place_at, home_from, label_from, definition_from, label_in, is_this, place_of_home, is_in, AreScopes}
 use Rattle.smi_tree.specs.Places as places
 use Rattle.smi_tree.proofs.Listing.{same, same_itself}
 use Rattle.smi_tree.proofs.Scoping.{position_within}
@@ -30,7 +30,8 @@ parts ms (S.Definition i k) o = by (slice_get ms i)
     of_definition m (Some d) = refl
     of_definition m None = refl
 
-    by : (m : Option Module) → node_from_def m (def_at m k) o ≡ record { home = m; label = label_in (def_at m k); oid = o; definition = def_at m k }
+    by : (m : Option Module) → node_from_def m (def_of_module m k) o
+        ≡ record { home = m; label = label_in (def_of_module m k); oid = o; definition = def_of_module m k }
     by (Some m) = of_definition m (slice_get m.defs k)
     by None = refl
 

@@ -6,7 +6,7 @@ use Rattle.std.proofs.lemmas.List.{take_more, length-take-le}
 use Rattle.std.specs.List.{position_from}
 use Rattle.smi_module.specs.Mark.{same_text}
 use Rattle.smi_meaning.specs.Meaning.{or_else}
-use Rattle.smi_tree.specs.Places.{Places, place_in}
+use Rattle.smi_tree.specs.Places.{Places, kept_place}
 
 pub none_of : {A : Type 0} (r : Option A) → is_some r ≡ false → r ≡ None
 none_of None e = refl
@@ -55,19 +55,19 @@ pub same_itself : (xs : List ℕ) → same_text xs xs ≡ true
 same_itself xs = (bytes_eq-Decides xs xs).1 refl
 
 -- a name that has a place keeps it
-pub put_there : (places : Places) (name : List ℕ) (p place : ℕ) → place_in places name ≡ Some p → (x : List ℕ)
-    → place_in places x ≡ or_else (place_in places x) (cond (same_text name x) (Some place) None)
+pub put_there : (places : Places) (name : List ℕ) (p place : ℕ) → kept_place places name ≡ Some p → (x : List ℕ)
+    → kept_place places x ≡ or_else (kept_place places x) (cond (same_text name x) (Some place) None)
 put_there places name p place there x = by (same_text name x) refl
   where
-    by : (b : Bool) → same_text name x ≡ b → place_in places x ≡ or_else (place_in places x) (cond b (Some place) None)
-    by false e = sym (or_else_none (place_in places x))
-    by true e = let at : place_in places x ≡ Some p = rw (same name x e) at there in rw at refl
+    by : (b : Bool) → same_text name x ≡ b → kept_place places x ≡ or_else (kept_place places x) (cond b (Some place) None)
+    by false e = sym (or_else_none (kept_place places x))
+    by true e = let at : kept_place places x ≡ Some p = rw (same name x e) at there in rw at refl
 
-pub put_new : (old new : Places) (name : List ℕ) (place : ℕ) → place_in old name ≡ None
-    → ((x : List ℕ) → place_in new x ≡ cond (same_text name x) (Some place) (place_in old x)) → (x : List ℕ)
-    → place_in new x ≡ or_else (place_in old x) (cond (same_text name x) (Some place) None)
+pub put_new : (old new : Places) (name : List ℕ) (place : ℕ) → kept_place old name ≡ None
+    → ((x : List ℕ) → kept_place new x ≡ cond (same_text name x) (Some place) (kept_place old x)) → (x : List ℕ)
+    → kept_place new x ≡ or_else (kept_place old x) (cond (same_text name x) (Some place) None)
 put_new old new name place none places x = places x ∙ by (same_text name x) refl
   where
-    by : (b : Bool) → same_text name x ≡ b → cond b (Some place) (place_in old x) ≡ or_else (place_in old x) (cond b (Some place) None)
-    by false e = sym (or_else_none (place_in old x))
-    by true e = let at : place_in old x ≡ None = rw (same name x e) at none in rw at refl
+    by : (b : Bool) → same_text name x ≡ b → cond b (Some place) (kept_place old x) ≡ or_else (kept_place old x) (cond b (Some place) None)
+    by false e = sym (or_else_none (kept_place old x))
+    by true e = let at : kept_place old x ≡ None = rw (same name x e) at none in rw at refl

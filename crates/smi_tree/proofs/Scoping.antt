@@ -10,7 +10,7 @@ use Rattle.smi_module.specs.declared.tree.Module.{Module}
 use Rattle.smi_meaning.specs.Meaning.{or_else}
 use Rattle.smi_meaning.specs.Names.{module_place}
 use Rattle.smi_nodes.specs.declared.source.Source.{Source}
-use Rattle.smi_tree.specs.Places.{Places, place_in, place_at, home_from, label_from, is_in, Puts, AreScopes}
+use Rattle.smi_tree.specs.Places.{Places, kept_place, place_at, home_from, label_from, is_in, Puts, AreScopes}
 use Rattle.smi_tree.proofs.Listing.{or_else_none, position-at}
 
 slice_get-set_same : {A : Type 0} (xs : List A) (i : ℕ) (y : A) → i < length xs → slice_get (set xs i y) i ≡ Some y
@@ -37,7 +37,7 @@ position_within t b (x ∷ xs) j e = by (t x) e (λ h. position_within t (b + 1)
 
 pub Puts-set : (ms : List Module) (s : Source) (k at : ℕ) (m : Module) (old : List Places) (here new : Places) → home_from ms s ≡ Some m
     → module_place ms m.name.octets ≡ Some at → at < length old → here ≡ get_or old at here
-    → ((x : List ℕ) → place_in new x ≡ or_else (place_in here x) (cond (same_text (label_from ms s) x) (Some k) None))
+    → ((x : List ℕ) → kept_place new x ≡ or_else (kept_place here x) (cond (same_text (label_from ms s) x) (Some k) None))
     → Puts ms s k old (set old at new)
 Puts-set ms s k at m old here new home place inside is put = record {
   long = length-set old at new;

@@ -3,7 +3,7 @@ use Rattle.std.proofs.Common.{◌≡◌, ℕ, zero, suc, ◌<◌, List, [], ◌�
 use Rattle.std.proofs.lemmas.List.{ext_get_or}
 use Rattle.std.specs.List.{slice_get}
 use Rattle.smi_module.specs.declared.tree.Module.{Module}
-use Rattle.smi_meaning.specs.Meaning.{Place}
+use Rattle.smi_meaning.specs.Meaning.{QualifiedName}
 use Rattle.smi_nodes.specs.Nodes.{Node, roots, Loads}
 use Rattle.smi_nodes.specs.declared.warning.Warning.{Warning}
 use Rattle.smi_types.specs.Chain.{TypeOrigin}
@@ -20,7 +20,7 @@ there (x ∷ xs) (suc k) l = there xs k (omega arith)
 
 module _ (ms : List Module)
     (loading : (before : List Module) (ns es : List Node) (ws vs : List Warning) → Loads ms before ns ws → Loads ms before es vs → (ns ≡ es) × (ws ≡ vs))
-    (syntax : (o : TypeOrigin Place) (f g : Facts) → HasSyntax ms o f → HasSyntax ms o g → f ≡ g)
+    (syntax : (o : TypeOrigin QualifiedName) (f g : Facts) → HasSyntax ms o f → HasSyntax ms o g → f ≡ g)
     (indexes : (nodes : List Node) (is js : List (Option (List IndexPart))) → AreIndexesOf ms nodes is → AreIndexesOf ms nodes js → is ≡ js) where
   syntax_or_none : (n : Node) (r s : Option Facts) → IsSyntaxOf ms n r → IsSyntaxOf ms n s → r ≡ s
   syntax_or_none n None None a b = refl

@@ -9,15 +9,15 @@ use Rattle.std.proofs.lemmas.Slice.Eq.{bytes_eq-Decides}
 use Rattle.smi_module.specs.Mark.{same_text}
 use Rattle.smi_module.specs.Word.{is_word}
 use Rattle.smi_module.specs.declared.tree.Module.{Module}
-use Rattle.smi_meaning.specs.Meaning.{Means, Place, or_else}
+use Rattle.smi_meaning.specs.Meaning.{Means, QualifiedName, or_else}
 use Rattle.smi_branches.specs.Standing.{place_of}
-use Rattle.smi_name.specs.Naming.{Naming, Standing, LeadsTo, IsSound}
-use Rattle.smi_nodes.specs.Nodes.{Node, root_node, roots, Loads}
+use Rattle.smi_name.specs.Naming.{Naming, Standing, LabelLeadsTo, IsSound}
+use Rattle.smi_nodes.specs.Nodes.{Node, node_of_root, roots, Loads}
 use Rattle.smi_nodes.specs.declared.warning.Warning.{Warning}
 use Rattle.smi_tree.specs.Nodes.{oids_of, is_of, place_in_module, place_anywhere}
 use Rattle.smi_tree.specs.Standing.{Longest, at_depth, longest_up_to, longest}
 use Rattle.smi_tree.specs.Tree.{Contents}
-use Rattle.smi_tree.specs.Naming.{home_name, standing_of, standing_at, oid_of, naming_of}
+use Rattle.smi_tree.specs.Naming.{home_name, standing_from, standing_of_longest, oid_of, naming_of}
 use Rattle.smi_tree.proofs.Listing.{same, same_itself}
 use Rattle.smi_tree.proofs.Soundness.{IsOfModule, root-or-module}
 
@@ -79,10 +79,10 @@ record StandsFor (t : Contents) (o : List ℕ) (node : Standing) : Type 0 where
   depth : node.depth ≤ length o
   oid : n.oid ≡ take node.depth o
 
-stands : (t : Contents) (o : List ℕ) (node : Standing) → option_and_then (standing_at t) (longest t.nodes o) ≡ Some node → StandsFor t o node
+stands : (t : Contents) (o : List ℕ) (node : Standing) → option_and_then (standing_of_longest t) (longest t.nodes o) ≡ Some node → StandsFor t o node
 stands t o node e = by (longest t.nodes o) refl e
   where
-    by : (r : Option Longest) → longest t.nodes o ≡ r → option_and_then (standing_at t) r ≡ Some node → StandsFor t o node
+    by : (r : Option Longest) → longest t.nodes o ≡ r → option_and_then (standing_of_longest t) r ≡ Some node → StandsFor t o node
     by None f e = cc
     by (Some l) f e =
         let r = reached (oids_of t.nodes) o (length o) l f in
@@ -90,8 +90,8 @@ stands t o node e = by (longest t.nodes o) refl e
         let n = node-of t.nodes at.0 (take l.depth o) at.2 in
         let place : l.place ≡ at.0 = omega (arith, at.1) in
         let there : slice_get t.nodes l.place ≡ Some n.0 = subst (λ k. slice_get t.nodes k ≡ Some n.0) (sym place) n.1 in
-        let seen : Some (standing_of l.depth (slice_index_or t.indexes l.place None) n.0) ≡ Some node = rw there at e in
-        let is : standing_of l.depth (slice_index_or t.indexes l.place None) n.0 ≡ node = cc in
+        let seen : Some (standing_from l.depth (slice_index_or t.indexes l.place None) n.0) ≡ Some node = rw there at e in
+        let is : standing_from l.depth (slice_index_or t.indexes l.place None) n.0 ≡ node = cc in
         subst (λ node. StandsFor t o node) is
         (record { place = l.place; n = n.0; there = there; home = refl; label = refl; depth = r.0; oid = n.2 })
 
@@ -112,11 +112,11 @@ first-passing t b (suc i) (y ∷ xs) x e p = by (t y) refl (first-passing t (b +
     by false f r = let more : b + 1 + r.0 ≡ b + suc r.0 = omega arith in (suc r.0, r.1, rw f (r.2 ∙ ap (λ k. Some k) more), r.3, r.4)
 
 -- the roots
-root-case : (P : Node → Type 0) → P (root_node (codes "ccitt") 0) → P (root_node (codes "iso") 1) → P (root_node (codes "joint-iso-ccitt") 2)
+root-case : (P : Node → Type 0) → P (node_of_root (codes "ccitt") 0) → P (node_of_root (codes "iso") 1) → P (node_of_root (codes "joint-iso-ccitt") 2)
     → (k : ℕ) (n : Node) → slice_get roots k ≡ Some n → P n
-root-case P c i j zero n e = let is : root_node (codes "ccitt") 0 ≡ n = cc in subst P is c
-root-case P c i j (suc zero) n e = let is : root_node (codes "iso") 1 ≡ n = cc in subst P is i
-root-case P c i j (suc (suc zero)) n e = let is : root_node (codes "joint-iso-ccitt") 2 ≡ n = cc in subst P is j
+root-case P c i j zero n e = let is : node_of_root (codes "ccitt") 0 ≡ n = cc in subst P is c
+root-case P c i j (suc zero) n e = let is : node_of_root (codes "iso") 1 ≡ n = cc in subst P is i
+root-case P c i j (suc (suc zero)) n e = let is : node_of_root (codes "joint-iso-ccitt") 2 ≡ n = cc in subst P is j
 root-case P c i j (suc (suc (suc k))) n e = cc
 
 root-leads : (ns : List Node) (k : ℕ) (n : Node) → slice_get roots k ≡ Some n
@@ -142,7 +142,7 @@ among-roots ns x k e = rw (sym e) (by (same_text (codes "ccitt") x) (same_text (
 
 -- a node's module and label lead to its identifier
 abbrev pub OneMeaning : Type 0
-OneMeaning = (modules : List Module) (place : Place) (o p : List ℕ) → Means modules place o → Means modules place p → o ≡ p
+OneMeaning = (modules : List Module) (a : QualifiedName) (o p : List ℕ) → Means modules a o → Means modules a p → o ≡ p
 
 both-true : (a b : Bool) → (a && b) ≡ true → (a ≡ true) × (b ≡ true)
 both-true true b e = (refl, e)
@@ -173,7 +173,7 @@ in-its-module ms ns ws law l k n there f =
 
 leads-by : (t : Contents) (ns : List Node) (ws : List Warning) → OneMeaning → t.nodes ≡ roots ++ ns → Loads t.modules t.modules ns ws → (k : ℕ) (n : Node)
     → slice_get (roots ++ ns) k ≡ Some n → ((j : ℕ) × (slice_get roots j ≡ Some n)) ⊎ IsOfModule t.modules n
-    → LeadsTo (naming_of t) (home_name n.home) n.label n.oid
+    → LabelLeadsTo (naming_of t) (home_name n.home) n.label n.oid
 leads-by t ns ws law nodes l k n there (inl r) = rw (root-home r.0 n r.1, nodes) (root-leads ns r.0 n r.1)
 leads-by t ns ws law nodes l k n there (inr f) =
     let home : home_name n.home ≡ Some f.home.name.octets = rw f.is refl in
@@ -181,7 +181,7 @@ leads-by t ns ws law nodes l k n there (inr f) =
     let found = in-its-module t.modules ns ws law l k n there f in
     rw (home, label, nodes) (f.home.name.lexical, f.loaded, found)
 
-leads-alike : (naming : Naming) (h i : Option (List ℕ)) (x y o p : List ℕ) → h ≡ i → x ≡ y → o ≡ p → LeadsTo naming h x o → LeadsTo naming i y p
+leads-alike : (naming : Naming) (h i : Option (List ℕ)) (x y o p : List ℕ) → h ≡ i → x ≡ y → o ≡ p → LabelLeadsTo naming h x o → LabelLeadsTo naming i y p
 leads-alike naming h i x y o p e f g leads = rw (sym e, sym f, sym g) leads
 
 word-by : (t : Contents) (n : Node) → ((j : ℕ) × (slice_get roots j ≡ Some n)) ⊎ IsOfModule t.modules n → is_word n.label ≡ true

@@ -4,12 +4,12 @@ use Rattle.std.proofs.Common.{Option, Some, None, is_some, refl, subst}
 use Rattle.std.specs.List.{slice_get}
 use Rattle.smi_links.specs.declared.basis.Resolution.TheVariants as R
 use Rattle.smi_module.specs.Mark.{same_text}
-use Rattle.smi_module.specs.Lookup.{identifier_of}
+use Rattle.smi_module.specs.Lookup.{identifier_value_of}
 use Rattle.smi_module.specs.declared.tree.Module.{Module}
 use Rattle.smi_module.specs.declared.tree.Def.{Def}
 use Rattle.smi_module.specs.declared.tree.Part.{Part}
 use Rattle.smi_meaning.specs.Meaning.{Means, module_named}
-use Rattle.smi_nodes.specs.Nodes.{Node, node_of, roots, GivesBy, Gathers, none, more, is_loaded, Brings, left_out, loaded, Loads, none_yet, then_module}
+use Rattle.smi_nodes.specs.Nodes.{Node, node_of, roots, GivesNodesBy, Gathers, none, more, is_loaded, Brings, left_out, loaded, Loads, none_yet, then_module}
 use Rattle.smi_nodes.specs.declared.warning.Warning.{Warning}
 use Rattle.smi_tree.proofs.Listing.{same_itself}
 
@@ -27,7 +27,7 @@ in-either (y ∷ xs) ys zero x e = inl e
 in-either (y ∷ xs) ys (suc k) x e = in-either xs ys k x e
 
 given : (ms : List Module) (m : Module) (d : Def) (v : Option (List Part)) (ns : List Node) (ws : List Warning) (k : ℕ) (n : Node)
-    → is_loaded ms m.name.octets ≡ true → GivesBy ms m d v ns ws → slice_get ns k ≡ Some n → IsOfModule ms n
+    → is_loaded ms m.name.octets ≡ true → GivesNodesBy ms m d v ns ws → slice_get ns k ≡ Some n → IsOfModule ms n
 given ms m d None ns ws k n l g e = let at : slice_get [] k ≡ Some n = rw g.0 at e in cc
 given ms m d (Some v) ns ws k n l (R.Numbers o, comes, is, w) e = one k (rw is at e)
   where
@@ -49,7 +49,7 @@ gathered ms m _ _ _ k n l (more ds d ns more_nodes ws more_warnings g gives) e =
   where
     by : (slice_get ns k ≡ Some n) ⊎ ((j : ℕ) × (slice_get more_nodes j ≡ Some n)) → (slice_get ns k ≡ Some n → IsOfModule ms n) → IsOfModule ms n
     by (inl f) rest = rest f
-    by (inr f) rest = given ms m d (identifier_of d.kind) more_nodes more_warnings f.0 n l gives f.1
+    by (inr f) rest = given ms m d (identifier_value_of d.kind) more_nodes more_warnings f.0 n l gives f.1
 
 -- a module more
 loaded-more : (ms : List Module) (m : Module) (x : List ℕ) → is_loaded ms x ≡ true → is_loaded (ms ++ m ∷ []) x ≡ true

@@ -3,7 +3,7 @@ use Rattle.std.proofs.Common.{◌≡◌, ℕ, zero, suc, List, [], ◌∷◌, Ma
 use Rattle.std.specs.List.{slice_get}
 use Rattle.std.specs.Option.{option_and_then}
 use Rattle.smi_module.specs.declared.tree.Module.{Module}
-use Rattle.smi_meaning.specs.Meaning.{Place}
+use Rattle.smi_meaning.specs.Meaning.{QualifiedName}
 use Rattle.smi_nodes.specs.Nodes.{Node}
 use Rattle.smi_nodes.specs.Gathered.{node_from, nodes_of, AreGathered}
 use Rattle.smi_nodes.specs.declared.gather.Gathered.{Gathered}
@@ -25,16 +25,16 @@ use Rattle.smi_tree.proofs.Bridging.{parts, node-none}
 no_syntax : (ms : List Module) → HasNoSyntax ms no_type
 no_syntax ms f h = elim h.chain [ ]
 
-same_object : (ms : List Module) (i k : ℕ) → object_in (slice_get ms i) (gathered.def_at (slice_get ms i) k) ≡ object_origin ms i k
+same_object : (ms : List Module) (i k : ℕ) → object_in (slice_get ms i) (gathered.def_of_module (slice_get ms i) k) ≡ object_origin ms i k
 same_object ms i k = by (slice_get ms i)
   where
-    by : (m : Option Module) → object_in m (gathered.def_at m k) ≡ object_in m (option_and_then (λ n. slice_get n.defs k) m)
+    by : (m : Option Module) → object_in m (gathered.def_of_module m k) ≡ object_in m (option_and_then (λ n. slice_get n.defs k) m)
     by None = refl
     by (Some m) = refl
 
 module _ (ms : List Module) (t : Types)
     (right : (i k : ℕ) → MatchOption (kept_syntax ms t i k) (HasNoSyntax ms (object_origin ms i k)) (λ f. HasSyntax ms (object_origin ms i k) f)) where
-  of_origin : (n : Node) (o : TypeOrigin Place) → object_in n.home n.definition ≡ o → (r : Option Facts)
+  of_origin : (n : Node) (o : TypeOrigin QualifiedName) → object_in n.home n.definition ≡ o → (r : Option Facts)
       → MatchOption r (HasNoSyntax ms o) (λ f. HasSyntax ms o f) → IsSyntaxOf ms n r
   of_origin n o same None h = rw same h
   of_origin n o same (Some f) h = rw same h

@@ -8,7 +8,7 @@ use Rattle.std.specs.Str.{bytes_eq}
 use Rattle.std.specs.BTreeMap as tree
 use Rattle.std.specs.Map.{lookup, IsKeyTest, AreApart, KeepsOthers}
 use Rattle.std.proofs.lemmas.Map.Text.{is_eq-slice_cmp}
-use Rattle.smi_tree.specs.Places.{Places, place_in}
+use Rattle.smi_tree.specs.Places.{Places, kept_place}
 
 apart : (bs cs ks : List ℕ) → bytes_eq bs cs ≡ false → bytes_eq bs ks ≡ true → bytes_eq cs ks ≡ false
 apart bs cs ks n y = nat_list_eq_equiv.symm cs ks ∙ sym (nat_list_eq_equiv.congr bs ks cs y) ∙ n
@@ -22,12 +22,12 @@ unfolding KeepsOthers
 other_entries eq test old new h = h
 
 -- a name that gets a place has it, and each other one has what it had
-pub place_in-put : (old new : Places) (k : Vec ℕ) (w : Option ℕ) → tree.Updates (λ x y. slice_cmp nat_cmp x.items y.items) old new k w → (cs : List ℕ)
-    → place_in new cs ≡ cond (bytes_eq k.items cs) w (place_in old cs)
-place_in-put old new k w h cs = by (bytes_eq k.items cs) refl
+pub kept_place-put : (old new : Places) (k : Vec ℕ) (w : Option ℕ) → tree.Updates (λ x y. slice_cmp nat_cmp x.items y.items) old new k w → (cs : List ℕ)
+    → kept_place new cs ≡ cond (bytes_eq k.items cs) w (kept_place old cs)
+kept_place-put old new k w h cs = by (bytes_eq k.items cs) refl
   where
-    by : (b : Bool) → bytes_eq k.items cs ≡ b → place_in new cs ≡ cond b w (place_in old cs)
-    by true e = let same : k.items ≡ cs = (bytes_decides k.items cs).0 e in subst (λ l. place_in new l ≡ w) same h.1
+    by : (b : Bool) → bytes_eq k.items cs ≡ b → kept_place new cs ≡ cond b w (kept_place old cs)
+    by true e = let same : k.items ≡ cs = (bytes_decides k.items cs).0 e in subst (λ l. kept_place new l ≡ w) same h.1
     by false e =
         other_entries (eq_by_cmp (λ x y. slice_cmp nat_cmp x.items y.items)) (tree.is_at (λ y. slice_cmp nat_cmp k.items y.items)) old.entries new.entries h.3
         (tree.is_at (λ y. slice_cmp nat_cmp cs y.items)) (λ x y. (eq_by_cmp_equiv nat_list_cmp_total).congr cs x.items y.items)

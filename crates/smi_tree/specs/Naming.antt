@@ -18,13 +18,13 @@ abbrev pub home_name : Option Module → Option (List ℕ)
 home_name m = option_map (λ m. m.name.octets) m
 
 -- a node, the length of its identifier and its index
-abbrev pub standing_of : ℕ → Option (List IndexPart) → Node → Standing
-standing_of depth index n =
+abbrev pub standing_from : ℕ → Option (List IndexPart) → Node → Standing
+standing_from depth index n =
     record { home = home_name n.home; label = n.label; depth = depth; index = index }
 
-abbrev pub standing_at : Contents → Longest → Option Standing
-standing_at t l =
-    option_map (standing_of l.depth (slice_index_or t.indexes l.place None))
+abbrev pub standing_of_longest : Contents → Longest → Option Standing
+standing_of_longest t l =
+    option_map (standing_from l.depth (slice_index_or t.indexes l.place None))
     (slice_get t.nodes l.place)
 
 -- the identifier of the node at a place
@@ -32,12 +32,12 @@ abbrev pub oid_of : List Node → Option ℕ → Option (List ℕ)
 oid_of nodes place = option_and_then (slice_get (oids_of nodes)) place
 
 -- the definition of the node that stands for the longest beginning
-abbrev pub definition_of : Contents → List ℕ → Option Def
-definition_of t o = definition_at t.nodes o
+abbrev pub nearest_definition : Contents → List ℕ → Option Def
+nearest_definition t o = definition_at t.nodes o
 
 -- the syntax by which values are shown of the node that stands for the longest beginning
-abbrev pub syntax_at : Contents → List ℕ → Option ObjectSyntax
-syntax_at t o =
+abbrev pub nearest_syntax : Contents → List ℕ → Option ObjectSyntax
+nearest_syntax t o =
     option_and_then (λ l. shown_at t.nodes t.syntaxes l.place) (longest t.nodes o)
 
 -- what names, words and details are read and shown by
@@ -48,5 +48,5 @@ naming_of t = record {
   anywhere = λ label. oid_of t.nodes (place_anywhere t.nodes label);
   among_roots = λ label. oid_of roots (place_anywhere roots label);
   child = λ o label. oid_of t.nodes (child_of t.nodes o label);
-  deepest = λ o. option_and_then (standing_at t) (longest t.nodes o);
+  deepest = λ o. option_and_then (standing_of_longest t) (longest t.nodes o);
 }

@@ -12,7 +12,7 @@ use Rattle.smi_module.specs.declared.tree.Module.{Module}
 use Rattle.smi_module.specs.declared.tree.Def.{Def}
 use Rattle.smi_meaning.specs.Meaning.{or_else}
 use Rattle.smi_meaning.specs.Names.{module_place}
-use Rattle.smi_nodes.specs.Gathered.{root_label, def_at}
+use Rattle.smi_nodes.specs.Gathered.{root_label, def_of_module}
 use Rattle.smi_nodes.specs.declared.source.Source.{Source}
 use Rattle.smi_nodes.specs.declared.source.Source.TheVariants as S
 
@@ -22,7 +22,7 @@ home_from ms (S.Definition i k) = slice_get ms i
 
 abbrev pub definition_from : List Module → Source → Option Def
 definition_from ms (S.Root n) = None
-definition_from ms (S.Definition i k) = def_at (slice_get ms i) k
+definition_from ms (S.Definition i k) = def_of_module (slice_get ms i) k
 
 abbrev pub label_in : Option Def → List ℕ
 label_in None = []
@@ -30,7 +30,7 @@ label_in (Some d) = d.label.octets
 
 abbrev pub label_from : List Module → Source → List ℕ
 label_from ms (S.Root n) = root_label n
-label_from ms (S.Definition i k) = label_in (def_at (slice_get ms i) k)
+label_from ms (S.Definition i k) = label_in (def_of_module (slice_get ms i) k)
 
 -- the source is of this label
 abbrev pub has_label : List Module → List ℕ → Source → Bool
@@ -41,8 +41,8 @@ abbrev pub Places : Type 0
 Places = BTreeMap (Vec ℕ) ℕ
 
 -- the place of a name in a map
-abbrev pub place_in : Places → List ℕ → Option ℕ
-place_in places x = get_by (λ k. slice_cmp nat_cmp x k.items) places
+abbrev pub kept_place : Places → List ℕ → Option ℕ
+kept_place places x = get_by (λ k. slice_cmp nat_cmp x k.items) places
 
 abbrev pub is_this : ℕ → Option ℕ → Bool
 is_this p None = false
@@ -59,7 +59,7 @@ is_in ms p x s = is_this p (place_of_home ms (home_from ms s)) && has_label ms x
 
 -- the place of a label in the map at a place
 abbrev pub place_at : List Places → ℕ → List ℕ → Option ℕ
-place_at scopes p x = option_and_then (λ scope. place_in scope x) (slice_get scopes p)
+place_at scopes p x = option_and_then (λ scope. kept_place scope x) (slice_get scopes p)
 
 pub record AreEmpty (scopes : List Places) (count : ℕ) : Type 0 where
   pub long : length scopes ≡ count

@@ -83,8 +83,8 @@ units_at nodes k =
     option_and_then (λ n. option_and_then (λ d. units_of d.kind) n.definition) (slice_get nodes k)
 
 -- a syntax with UNITS, as values are shown by it
-abbrev pub object_syntax : Facts → Option (List ℕ) → ObjectSyntax
-object_syntax f units = record {
+abbrev pub shown_syntax : Facts → Option (List ℕ) → ObjectSyntax
+shown_syntax f units = record {
   base = value_base f.base;
   names = unwrap_or f.names [];
   hint = option_map between_quotes f.hint;
@@ -94,4 +94,4 @@ object_syntax f units = record {
 -- the syntax by which values of the node at a place are shown
 abbrev pub shown_at : List Node → List (Option Facts) → ℕ → Option ObjectSyntax
 shown_at nodes syntaxes k =
-    option_map (λ f. object_syntax f (units_at nodes k)) (slice_index_or syntaxes k None)
+    option_map (λ f. shown_syntax f (units_at nodes k)) (slice_index_or syntaxes k None)

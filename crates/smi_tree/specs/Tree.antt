@@ -30,8 +30,8 @@ pub record IsTree (modules : List Module) (tree : Contents) (warnings : List War
   pub indexes : AreIndexesOf modules tree.nodes tree.indexes
 
 -- a node as it is shown
-abbrev pub node_of : Seen → Node
-node_of n = record {
+abbrev pub seen_node : Seen → Node
+seen_node n = record {
   home = option_copied n.home;
   label = n.label.now;
   oid = n.oid.now;

@@ -7,9 +7,9 @@ use smi_module::Def;
 use snmp_oid::Oid;
 
 impl DetailTree for Tree {
-    ghost use Rattle.smi_tree.specs.Naming.{definition_of};
+    ghost use Rattle.smi_tree.specs.Naming.{nearest_definition};
 
-    ghost definition_at = { definition_of };
+    ghost definition_at = { nearest_definition };
 
     fn definition(&self, oid: &Oid) -> Option<&Def> {
         match self.deepest(oid) {

@@ -4,7 +4,7 @@ ghost use Rattle.std.specs.Option.{option_copied};
 ghost use Rattle.smi_name.specs.Standing.{standing_of as seen_as};
 ghost use Rattle.smi_nodes.specs.Nodes.{roots};
 ghost use Rattle.smi_tree.specs.Nodes.{place_anywhere};
-ghost use Rattle.smi_tree.specs.Naming.{home_name, standing_at};
+ghost use Rattle.smi_tree.specs.Naming.{home_name, standing_of_longest};
 ghost use Rattle.smi_tree.specs.Standing.{longest_of};
 
 use crate::tree::Tree;
@@ -18,7 +18,7 @@ impl Tree {
     /// The node at a place, as names see it, with the length of its identifier.
     fn seen(&self, deepest: Deepest) -> Node<'_>
         requires { deepest.place < length self.now.nodes }
-        ensures { Some (seen_as result) ≡ standing_at self.now (longest_of deepest) }
+        ensures { Some (seen_as result) ≡ standing_of_longest self.now (longest_of deepest) }
     {
         let node = self.node(deepest.place);
         Node {

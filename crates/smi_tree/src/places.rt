@@ -9,7 +9,7 @@ ghost use Rattle.smi_module.specs.Mark.{same_text};
 ghost use Rattle.smi_meaning.specs.Meaning.{or_else};
 ghost use Rattle.smi_meaning.specs.Names.{module_place};
 ghost use Rattle.smi_tree.specs.Places as places;
-ghost use Rattle.smi_tree.specs.Places.{place_in, AreEmpty, Puts, AreScopes};
+ghost use Rattle.smi_tree.specs.Places.{kept_place, AreEmpty, Puts, AreScopes};
 
 use crate::node::{home, label};
 use smi_module::Module;
@@ -27,8 +27,8 @@ fn put_first(
     name: &[u8],
     place: usize,
 ) -> Result<(), AllocError>
-    ensures put { OnOk result ((x : List ℕ) → place_in places.new x
-        ≡ or_else (place_in places.old x) (if same_text name.now x then Some place else None)) }
+    ensures put { OnOk result ((x : List ℕ) → kept_place places.new x
+        ≡ or_else (kept_place places.old x) (if same_text name.now x then Some place else None)) }
 {
     if places.contains_key(name) {
         return Ok(());
@@ -39,14 +39,15 @@ fn put_first(
 
 /// The place of a name.
 pub(crate) fn find(places: &Places, name: &[u8]) -> Option<usize>
-    ensures { result ≡ place_in places.now name.now }
+    ensures { result ≡ kept_place places.now name.now }
 {
     places.get(name).copied()
 }
 
 /// The place of each module, by its name: the first of those that have it.
 pub(crate) fn homes(alloc: Global, modules: &[Module]) -> Result<Places, AllocError>
-    ensures { IfOk result (λ homes. (x : List ℕ) → place_in homes x ≡ module_place modules.now x) }
+    ensures { IfOk result (λ homes. (x : List ℕ)
+        → kept_place homes x ≡ module_place modules.now x) }
 {
     let mut homes = BTreeMap::new(alloc);
     'modules: for (i, module) in modules.iter().enumerate() {
@@ -61,7 +62,7 @@ pub(crate) fn labels(
     modules: &[Module],
     sources: &[Source],
 ) -> Result<Places, AllocError>
-    ensures { IfOk result (λ labels. (x : List ℕ) → place_in labels x
+    ensures { IfOk result (λ labels. (x : List ℕ) → kept_place labels x
         ≡ position_from (places.has_label modules.now x) 0 sources.now) }
 {
     let mut labels = BTreeMap::new(alloc);
@@ -92,7 +93,7 @@ fn put_in_module(
     place: usize,
 ) -> Result<(), AllocError>
     requires long { length scopes.old.items ≡ length modules.now }
-    requires placed { (x : List ℕ) → place_in homes.now x ≡ module_place modules.now x }
+    requires placed { (x : List ℕ) → kept_place homes.now x ≡ module_place modules.now x }
     ensures put { OnOk result (Puts modules.now source place scopes.old.items scopes.new.items) }
 {
     let Some(module) = home(modules, source) else {
@@ -112,7 +113,7 @@ pub(crate) fn scopes(
     homes: &Places,
     sources: &[Source],
 ) -> Result<Vec<Places>, AllocError>
-    requires { (x : List ℕ) → place_in homes.now x ≡ module_place modules.now x }
+    requires { (x : List ℕ) → kept_place homes.now x ≡ module_place modules.now x }
     ensures { IfOk result (λ scopes. AreScopes modules.now sources.now scopes.items) }
 {
     let mut scopes = empty(alloc, modules.len())?;

@@ -5,9 +5,9 @@ use smi_value::ValueSyntax;
 use snmp_oid::Oid;
 
 impl ShowTree for Tree {
-    ghost use Rattle.smi_tree.specs.Naming.{syntax_at};
+    ghost use Rattle.smi_tree.specs.Naming.{nearest_syntax};
 
-    ghost syntax_at = { syntax_at };
+    ghost syntax_at = { nearest_syntax };
 
     fn syntax(&self, oid: &Oid) -> Option<ValueSyntax<'_>> {
         match self.deepest(oid) {

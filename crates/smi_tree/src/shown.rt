@@ -8,7 +8,7 @@ ghost use Rattle.smi_types.specs.Kept.{facts_of, AreTypesOf};
 ghost use Rattle.smi_types.specs.declared.types.Types.{Types};
 ghost use Rattle.smi_tree.specs.Places.{definition_from};
 ghost use Rattle.smi_tree.specs.Shown.{AreSyntaxesOf, syntax_from, syntaxes_from};
-ghost use Rattle.smi_tree.specs.Shown.{value_base, between_quotes, units_of, object_syntax};
+ghost use Rattle.smi_tree.specs.Shown.{value_base, between_quotes, units_of, shown_syntax};
 
 use crate::node::definition;
 use smi_module::{DefKind, Module, Text};
@@ -58,7 +58,7 @@ fn units_of(kind: &DefKind) -> Option<&Text>
 
 /// A syntax with UNITS, as values are shown by it.
 pub(crate) fn value_syntax<'a>(syntax: TypeSyntax<'a>, units: Option<&'a Text>) -> ValueSyntax<'a>
-    ensures { result ≡ object_syntax (facts_of syntax.entry) (option_copied units.entry) }
+    ensures { result ≡ shown_syntax (facts_of syntax.entry) (option_copied units.entry) }
 {
     ValueSyntax::new(
         value_base(syntax.base),

@@ -4,7 +4,7 @@ ghost use Rattle.std.specs.Prelude.{is_some, option_map, slice_index_or};
 ghost use Rattle.std.specs.Option.{option_and_then, option_copied};
 ghost use Rattle.std.specs.List.{slice_get};
 ghost use Rattle.smi_branches.specs.Children.{places_left};
-ghost use Rattle.smi_branches.specs.Standing.{AreChildren, HasNone, IsDeepestAt, oid_at};
+ghost use Rattle.smi_branches.specs.Standing.{AreChildren, HasNoBeginning, IsDeepestAt, oid_at};
 ghost use Rattle.smi_meaning.specs.Meaning.{module_named};
 ghost use Rattle.smi_tree.specs.Nodes.{child_of, is_labelled, oids_of, place_anywhere};
 ghost use Rattle.smi_tree.specs.Nodes.{place_in_module};
@@ -12,7 +12,7 @@ ghost use Rattle.smi_types.specs.Kept.{facts_of};
 ghost use Rattle.smi_tree.specs.Resolved.{IsResolved};
 ghost use Rattle.smi_tree.specs.Shown.{shown_at, units_at};
 ghost use Rattle.smi_tree.specs.Naming.{oid_of};
-ghost use Rattle.smi_tree.specs.Tree.{IsTree, node_of};
+ghost use Rattle.smi_tree.specs.Tree.{IsTree, seen_node};
 ghost use Rattle.smi_nodes.specs.declared.warning.Warning.{Warning};
 
 use crate::node::{Node, at, definition, home, label};
@@ -59,7 +59,7 @@ pub struct Tree {
 
 impl Model for Tree {
     ghost use Rattle.smi_tree.specs.Tree.{Contents};
-    ghost use Rattle.smi_tree.specs.Kept.{contents, IsKept};
+    ghost use Rattle.smi_tree.specs.Kept.{contents, IsTreeKept};
 
     ghost Value = { Contents };
 
@@ -67,7 +67,7 @@ impl Model for Tree {
         contents s.modules.items s.sources.items s.identifiers s.types s.indexes };
 
     ghost invariant = { λ s.
-        IsKept s.modules.items s.sources.items s.identifiers s.types s.indexes s.homes s.labels
+        IsTreeKept s.modules.items s.sources.items s.identifiers s.types s.indexes s.homes s.labels
         s.scopes.items };
 }
 
@@ -141,7 +141,7 @@ impl Tree {
     /// A node.
     pub fn node(&self, id: NodeId) -> Node<'_>
         requires { id < length self.now.nodes }
-        ensures { slice_get self.now.nodes id ≡ Some (node_of result) }
+        ensures { slice_get self.now.nodes id ≡ Some (seen_node result) }
     {
         let source = self.sources[id];
         Node {
@@ -251,7 +251,7 @@ impl Tree {
     /// The node that stands for the longest beginning of an identifier, with the length of that
     /// beginning. What follows it is the rest.
     pub fn deepest(&self, oid: &Oid) -> Option<Deepest>
-        ensures { MatchOption result (HasNone (oids_of self.now.nodes) oid.now)
+        ensures { MatchOption result (HasNoBeginning (oids_of self.now.nodes) oid.now)
             (λ deepest. IsDeepestAt (oids_of self.now.nodes) oid.now deepest.place
             deepest.depth) }
     {

@@ -1,7 +1,7 @@
 -- A type has one chain, and so one syntax.
 use Rattle.std.proofs.Common.{◌≡◌, List, ◌∷◌, refl, sym, ap, ◌∙◌}
 use Rattle.smi_module.specs.declared.tree.Module.{Module}
-use Rattle.smi_meaning.specs.Meaning.{Place}
+use Rattle.smi_meaning.specs.Meaning.{QualifiedName}
 use Rattle.smi_types.specs.Chain.{Layer, TypeOrigin, TypeChain, at_end, on_type}
 use Rattle.smi_types.specs.Types.{Facts, HasSyntax, type_origin}
 use Rattle.smi_types.specs.declared.base.TypeBase.{TypeBase}
@@ -12,7 +12,7 @@ module _ {A : Type 0} (origin : A → TypeOrigin A) where
   one_chain at_end at_end = (refl, refl)
   one_chain (on_type {l = l} h) (on_type k) = let r = one_chain h k in (ap (λ x. l ∷ x) r.0, r.1)
 
-pub one_syntax : (ms : List Module) (o : TypeOrigin Place) (f g : Facts) → HasSyntax ms o f → HasSyntax ms o g → f ≡ g
+pub one_syntax : (ms : List Module) (o : TypeOrigin QualifiedName) (f g : Facts) → HasSyntax ms o f → HasSyntax ms o g → f ≡ g
 one_syntax ms o f g a b =
     let r = one_chain (type_origin ms) a.chain b.chain in
     let hint : f.hint ≡ g.hint = a.hint ∙ rw r.0 (sym b.hint) in

@@ -29,25 +29,25 @@ use Rattle.std.proofs.lemmas.Slice.Eq.{bytes_eq-Decides}
 use Rattle.std.specs.List.{slice_get, find}
 use Rattle.std.specs.Option.{option_and_then}
 use Rattle.smi_links.specs.Chain.{HasEnd, ends, leads_on}
-use Rattle.smi_links.specs.Ends.{EndsAt, here, further, Ends}
+use Rattle.smi_links.specs.Ends.{EndsAt, here, further, ChainEnds}
 use Rattle.smi_links.specs.Order.{next_at}
 use Rattle.smi_module.specs.Mark.{same_text}
 use Rattle.smi_module.specs.declared.tree.Module.{Module}
-use Rattle.smi_meaning.specs.Meaning.{Place, Decision, decision, module_named}
+use Rattle.smi_meaning.specs.Meaning.{QualifiedName, Decision, decision, module_named, or_else}
 use Rattle.smi_meaning.specs.Scopes.{Content, decided_as}
-use Rattle.smi_meaning.specs.Known.{KnownNames, content_at}
-use Rattle.smi_types.specs.Chain.{Layer, TypeOrigin, at_base, on_name, no_type, TypeChain, at_end, on_type, or_else, nearest}
-use Rattle.smi_types.specs.Types.{type_origin, origin_in, origin_by}
+use Rattle.smi_meaning.specs.Known.{KnownNames, content_named}
+use Rattle.smi_types.specs.Chain.{Layer, TypeOrigin, at_base, on_name, no_type, TypeChain, at_end, on_type, nearest}
+use Rattle.smi_types.specs.Types.{type_origin, type_origin_in, type_origin_by}
 use Rattle.smi_types.specs.Leads.{content_origin, LeadsTo, AreLeads, at_place, states, AreNextUntil}
 use Rattle.smi_types.specs.declared.base.TypeBase.{TypeBase}
 use Rattle.smi_types.specs.declared.leads.Field.{Field}
 
-abbrev pub slot_origin : Option Content → TypeOrigin Place
+abbrev pub slot_origin : Option Content → TypeOrigin QualifiedName
 slot_origin None = no_type
 slot_origin (Some c) = content_origin c
 
 -- where the type comes from that the name at a place means
-abbrev pub origin_at : KnownNames → ℕ → TypeOrigin Place
+abbrev pub origin_at : KnownNames → ℕ → TypeOrigin QualifiedName
 origin_at k p = slot_origin (slice_get k.names p)
 
 find_true : (t : Module → Bool) (ms : List Module) (m : Module) → find t ms ≡ Some m → t m ≡ true
@@ -70,18 +70,18 @@ within_get (y ∷ xs) (suc i) x e = omega (arith, within_get xs i x e)
 
 module _ (k : KnownNames) where
   -- the place of a name has the origin of the type that the name means
-  pub placed : (p : ℕ) (a : Place) → slice_get k.names p ≡ content_at k.modules a → origin_at k p ≡ type_origin k.modules a
+  pub placed : (p : ℕ) (a : QualifiedName) → slice_get k.names p ≡ content_named k.modules a → origin_at k p ≡ type_origin k.modules a
   placed p a e = ap (λ s. slot_origin s) e ∙ by (module_named k.modules a.home) (λ m h.
       (bytes_eq-Decides m.name.octets a.home).0 (find_true (λ n. same_text n.name.octets a.home) k.modules m h))
     where
       by : (r : Option Module) → ((m : Module) → r ≡ Some m → m.name.octets ≡ a.home)
-          → slot_origin (option_and_then (λ m. decided_as m a.name (decision m a.name)) r) ≡ origin_in a r
+          → slot_origin (option_and_then (λ m. decided_as m a.name (decision m a.name)) r) ≡ type_origin_in a r
       by None named = refl
       by (Some m) named = step (decision m a.name)
         where
-          step : (v : Option Decision) → slot_origin (decided_as m a.name v) ≡ origin_by a v
+          step : (v : Option Decision) → slot_origin (decided_as m a.name v) ≡ type_origin_by a v
           step None = refl
-          step (Some v) = ap (λ h. origin_by (record { home = h; name = a.name }) (Some v)) (named m refl)
+          step (Some v) = ap (λ h. type_origin_by (record { home = h; name = a.name }) (Some v)) (named m refl)
 
   module _ (leads : List (Option ℕ)) (are : AreLeads k leads) where
     -- each place leads on as its type does
@@ -95,17 +95,17 @@ module _ (k : KnownNames) where
     lead_at_base : (p : ℕ) (l : Layer) (b : TypeBase) → origin_at k p ≡ at_base l b → at_place leads p ≡ None
     lead_at_base p l b e = let h = rw e at (lead_of p) in h
 
-    lead_on_name : (p : ℕ) (l : Layer) (a : Place) → origin_at k p ≡ on_name l a
+    lead_on_name : (p : ℕ) (l : Layer) (a : QualifiedName) → origin_at k p ≡ on_name l a
         → (q : ℕ) × (at_place leads p ≡ Some q) × (origin_at k q ≡ type_origin k.modules a)
     lead_on_name p l a e = let h = rw e at (lead_of p) in (h.0, h.1, placed h.0 a h.2)
 
     -- the chain of places is that of types
-    pub has_end : {o : TypeOrigin Place} {layers : List Layer} {b : TypeBase} → TypeChain (type_origin k.modules) o layers b
+    pub has_end : {o : TypeOrigin QualifiedName} {layers : List Layer} {b : TypeBase} → TypeChain (type_origin k.modules) o layers b
         → (p : ℕ) → origin_at k p ≡ o → HasEnd (next_at leads) p
     has_end (at_end {l = l} {b = b}) p e = ends (lead_at_base p l b e)
     has_end (on_type {l = l} {a = a} c) p e = let r = lead_on_name p l a e in leads_on r.1 (has_end c r.0 r.2)
 
-    pub base_at_end : {o : TypeOrigin Place} {layers : List Layer} {b : TypeBase} → TypeChain (type_origin k.modules) o layers b
+    pub base_at_end : {o : TypeOrigin QualifiedName} {layers : List Layer} {b : TypeBase} → TypeChain (type_origin k.modules) o layers b
         → (p e : ℕ) → origin_at k p ≡ o → EndsAt (next_at leads) p e → (l : Layer) × (origin_at k e ≡ at_base l b)
     base_at_end (at_end {l = l} {b = b}) p e is (here h) = (l, is)
     base_at_end (at_end {l = l} {b = b}) p e is (further h r) = let none = lead_at_base p l b is in absurd (cc)
@@ -121,7 +121,7 @@ module _ (k : KnownNames) where
     chain_to (here h) l b is = (l ∷ [], rw is at_end)
     chain_to {p} {e} (further {b = q} h r) l b is = let c = chain_to r l b is in step (origin_at k p) (rw h at (lead_of p)) c.0 c.1
       where
-        step : (o : TypeOrigin Place) → LeadsTo k o (Some q) → (layers : List Layer) → TypeChain (type_origin k.modules) (origin_at k q) layers b
+        step : (o : TypeOrigin QualifiedName) → LeadsTo k o (Some q) → (layers : List Layer) → TypeChain (type_origin k.modules) (origin_at k q) layers b
             → (more : List Layer) × TypeChain (type_origin k.modules) o more b
         step (at_base m t) f layers c = absurd (cc)
         step no_type f layers c = absurd (cc)
@@ -135,7 +135,7 @@ module _ (k : KnownNames) where
     module _ {X : Type 0} (field : Field) (value : Layer → Option X) (says : (l : Layer) → states field l ≡ is_some (value l))
         (next : List (Option ℕ)) (until : AreNextUntil k field leads next) (read : ℕ → Option X)
         (reads_base : (e : ℕ) (l : Layer) (b : TypeBase) → origin_at k e ≡ at_base l b → read e ≡ value l)
-        (reads_name : (e : ℕ) (l : Layer) (a : Place) → origin_at k e ≡ on_name l a → read e ≡ value l) where
+        (reads_name : (e : ℕ) (l : Layer) (a : QualifiedName) → origin_at k e ≡ on_name l a → read e ≡ value l) where
       next_base : (p : ℕ) (l : Layer) (b : TypeBase) → origin_at k p ≡ at_base l b → at_place next p ≡ None
       next_base p l b e = by (slice_get k.names p) refl e
         where
@@ -147,7 +147,7 @@ module _ (k : KnownNames) where
           by None h is = absurd (cc)
           by (Some c) h is = let u = rw is at (until.each p c h) in u ∙ none (states field l)
 
-      next_name : (p : ℕ) (l : Layer) (a : Place) → origin_at k p ≡ on_name l a → at_place next p ≡ cond (is_some (value l)) None (at_place leads p)
+      next_name : (p : ℕ) (l : Layer) (a : QualifiedName) → origin_at k p ≡ on_name l a → at_place next p ≡ cond (is_some (value l)) None (at_place leads p)
       next_name p l a e = by (slice_get k.names p) refl e
         where
           by : (s : Option Content) → slice_get k.names p ≡ s → slot_origin s ≡ on_name l a
@@ -155,12 +155,12 @@ module _ (k : KnownNames) where
           by None h is = absurd (cc)
           by (Some c) h is = let u = rw is at (until.each p c h) in rw (says l) at u
 
-      ends_here : (p : ℕ) (r : Option ℕ) → next_at next p ≡ None → Ends (next_at next) p r → r ≡ Some p
+      ends_here : (p : ℕ) (r : Option ℕ) → next_at next p ≡ None → ChainEnds (next_at next) p r → r ≡ Some p
       ends_here p None h none = absurd (none (ends h))
       ends_here p (Some e) h (here f) = refl
       ends_here p (Some e) h (further f r) = absurd (cc)
 
-      ends_further : (p q : ℕ) (r : Option ℕ) → next_at next p ≡ Some q → Ends (next_at next) p r → Ends (next_at next) q r
+      ends_further : (p q : ℕ) (r : Option ℕ) → next_at next p ≡ Some q → ChainEnds (next_at next) p r → ChainEnds (next_at next) q r
       ends_further p q None h none = λ f. none (leads_on h f)
       ends_further p q (Some e) h (here f) = absurd (cc)
       ends_further p q (Some e) h (further {b = s} f r) = let same : s ≡ q = cc in rw same at r
@@ -169,15 +169,15 @@ module _ (k : KnownNames) where
       or_else_none None = refl
       or_else_none (Some x) = refl
 
-      pub nearest_is : {o : TypeOrigin Place} {layers : List Layer} {b : TypeBase} → TypeChain (type_origin k.modules) o layers b
-          → (p : ℕ) → origin_at k p ≡ o → (r : Option ℕ) → Ends (next_at next) p r
+      pub nearest_is : {o : TypeOrigin QualifiedName} {layers : List Layer} {b : TypeBase} → TypeChain (type_origin k.modules) o layers b
+          → (p : ℕ) → origin_at k p ≡ o → (r : Option ℕ) → ChainEnds (next_at next) p r
           → (e : ℕ) × (r ≡ Some e) × (read e ≡ nearest value layers)
       nearest_is (at_end {l = l} {b = b}) p is r at =
           (p, ends_here p r (next_base p l b is) at, reads_base p l b is ∙ or_else_none (value l))
       nearest_is (on_type {l = l} {a = a} {layers = layers} c) p is r at = by (value l) refl (λ q from s to. nearest_is c q from s to)
         where
           by : (v : Option X) → value l ≡ v
-              → ((q : ℕ) → origin_at k q ≡ type_origin k.modules a → (s : Option ℕ) → Ends (next_at next) q s
+              → ((q : ℕ) → origin_at k q ≡ type_origin k.modules a → (s : Option ℕ) → ChainEnds (next_at next) q s
               → (e : ℕ) × (s ≡ Some e) × (read e ≡ nearest value layers))
               → (e : ℕ) × (r ≡ Some e) × (read e ≡ or_else v (nearest value layers))
           by (Some x) h ih =

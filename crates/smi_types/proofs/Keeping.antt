@@ -5,18 +5,18 @@ use Rattle.std.specs.List.{slice_get}
 use Rattle.std.specs.Global.{Global}
 use Rattle.std.specs.Option.{option_and_then}
 use Rattle.smi_links.specs.Order.{next_at}
-use Rattle.smi_links.specs.Ends.{EndsAt, Ends}
+use Rattle.smi_links.specs.Ends.{EndsAt, ChainEnds}
 use Rattle.smi_module.specs.declared.tree.Module.{Module}
 use Rattle.smi_module.specs.declared.tree.Def.{Def}
 use Rattle.smi_module.specs.declared.tree.SimpleType.{SimpleType}
-use Rattle.smi_meaning.specs.Meaning.{Place}
+use Rattle.smi_meaning.specs.Meaning.{QualifiedName}
 use Rattle.smi_meaning.specs.Scopes.{Content}
-use Rattle.smi_meaning.specs.Known.{KnownNames, content_at}
+use Rattle.smi_meaning.specs.Known.{KnownNames, content_named}
 use Rattle.smi_types.specs.Chain.{Layer, TypeOrigin, at_base, on_name, no_type, TypeChain, nearest}
 use Rattle.smi_types.specs.Types.{type_origin, object_origin, object_in, type_hint, def_at, no_layer, layer, HasSyntax, HasNoSyntax}
 use Rattle.smi_types.specs.Leads.{LeadsTo, AreLeads, AreSources, at_place, states}
-use Rattle.smi_types.specs.Nearest.{AreEnds, AreNearest, AreLeadsOf, AreObjectLeads}
-use Rattle.smi_types.specs.Kept.{type_in, type_base, type_names, type_sizes, found, kept_base, kept_facts, AreTypesOf}
+use Rattle.smi_types.specs.Nearest.{AreEndsOfChains, AreNearest, AreLeadsOf, AreObjectLeads}
+use Rattle.smi_types.specs.Kept.{type_in, type_base, type_names, type_sizes, found_by, kept_base, kept_facts, AreTypesOf}
 use Rattle.smi_types.specs.declared.base.TypeBase.{TypeBase}
 use Rattle.smi_types.specs.declared.leads.Field.{Field}
 use Rattle.smi_types.specs.declared.leads.Field.TheVariants as F
@@ -25,7 +25,7 @@ use Rattle.smi_types.proofs.Following.{origin_at, slot_origin, placed, past_get,
 use Rattle.smi_types.proofs.Reading.{read_at, base_of_origin, reads_type_base, reads_field}
 
 -- what no chain begins with has no syntax
-no_syntax_of : (ms : List Module) (o : TypeOrigin Place) → o ≡ no_type → HasNoSyntax ms o
+no_syntax_of : (ms : List Module) (o : TypeOrigin QualifiedName) → o ≡ no_type → HasNoSyntax ms o
 no_syntax_of ms o e f h = none (rw e at h.chain)
   where
     none : {layers : List Layer} {b : TypeBase} → TypeChain (type_origin ms) no_type layers b → ⊥
@@ -49,9 +49,9 @@ objects_right k ms os are i j = by (slice_get ms i) (slice_get os i) refl refl
     by (Some m) (Some v) e f = of m v.items (are.each i m v e f) (slice_get m.defs j) refl
 
 module _ (k : KnownNames) (t : Types) (leads : List (Option ℕ)) (are : AreLeads k leads) (sourced : AreSources k t.sources.items)
-    (ended : AreEnds leads t.ends.items) where
+    (ended : AreEndsOfChains leads t.ends.items) where
   -- the end that is kept for a place
-  end_is : (p : ℕ) → p < length k.names → Ends (next_at leads) p (at_place t.ends.items p)
+  end_is : (p : ℕ) → p < length k.names → ChainEnds (next_at leads) p (at_place t.ends.items p)
   end_is p l =
       rw (sym (get_or_default t.ends.items p (Some p) None (omega (arith, l, ended.long, are.long)))) (ended.each p (omega (arith, l, are.long)))
 
@@ -60,9 +60,9 @@ module _ (k : KnownNames) (t : Types) (leads : List (Option ℕ)) (are : AreLead
       (states_it : (d : Def) (s : SimpleType) → type_in d.kind ≡ Some s → read d ≡ value (layer (type_hint d.kind) s.refinement))
       (places : List (Option ℕ)) (near : AreNearest k field leads places) where
     nearest_kept : value no_layer ≡ None → (p : ℕ) → p < length k.names → {layers : List Layer} {b : TypeBase}
-        → TypeChain (type_origin k.modules) (origin_at k p) layers b → found read k.modules t places p ≡ nearest value layers
+        → TypeChain (type_origin k.modules) (origin_at k p) layers b → found_by read k.modules t places p ≡ nearest value layers
     nearest_kept states_none p l {layers} {b} c =
-        let at : Ends (next_at near.next) p (at_place places p) =
+        let at : ChainEnds (next_at near.next) p (at_place places p) =
         rw (sym (get_or_default places p (Some p) None (omega (arith, l, near.are_ends.long, near.until.long))))
         (near.are_ends.each p (omega (arith, l, near.until.long))) in
         let r = nearest_is k leads are field value says near.next near.until (read_at read k t.sources.items)
@@ -86,13 +86,13 @@ module _ (k : KnownNames) (t : Types) (leads : List (Option ℕ)) (are : AreLead
       sizes = nearest_kept F.Sizes (λ m. m.sizes) (λ m. refl) type_sizes (λ d s h. rw h refl) t.sizes.items sizes refl p l c;
     }
 
-    by_origin : (p e : ℕ) → p < length k.names → EndsAt (next_at leads) p e → (o : TypeOrigin Place) → origin_at k e ≡ o
+    by_origin : (p e : ℕ) → p < length k.names → EndsAt (next_at leads) p e → (o : TypeOrigin QualifiedName) → origin_at k e ≡ o
         → MatchOption (base_of_origin o) (HasNoSyntax k.modules (origin_at k p)) (Right p)
     by_origin p e l at (at_base m b) is = let c = chain_to k leads are at m b is in facts_right p l b c.0 c.1
     by_origin p e l at (on_name m a) is = λ f h. let r = base_at_end k leads are h.chain p e refl at in let r' = r.1 in absurd (cc)
     by_origin p e l at no_type is = λ f h. let r = base_at_end k leads are h.chain p e refl at in let r' = r.1 in absurd (cc)
 
-    by_end : (p : ℕ) → p < length k.names → (r : Option ℕ) → Ends (next_at leads) p r
+    by_end : (p : ℕ) → p < length k.names → (r : Option ℕ) → ChainEnds (next_at leads) p r
         → MatchOption (option_and_then type_base (option_and_then (λ e. option_and_then (λ s. def_at k.modules s.0 s.1) (at_place t.sources.items e)) r))
         (HasNoSyntax k.modules (origin_at k p)) (Right p)
     by_end p l None none = λ f h. absurd (none (has_end k leads are h.chain p refl))
@@ -109,7 +109,7 @@ module _ (k : KnownNames) (t : Types) (leads : List (Option ℕ)) (are : AreLead
         by (Some c) h = let l = within_get k.names p c h in by_end p l (at_place t.ends.items p) (end_is p l)
 
     -- what is kept for a place of a name is right
-    pub kept_right : (a : Place) (p : ℕ) → slice_get k.names p ≡ content_at k.modules a
+    pub kept_right : (a : QualifiedName) (p : ℕ) → slice_get k.names p ≡ content_named k.modules a
         → MatchOption (kept_base k.modules t p) (HasNoSyntax k.modules (type_origin k.modules a))
         (λ b. HasSyntax k.modules (type_origin k.modules a) (kept_facts k.modules t p b))
     kept_right a p e =

@@ -8,7 +8,7 @@ use Rattle.smi_module.specs.declared.tree.Def.{Def}
 use Rattle.smi_module.specs.declared.tree.SimpleType.{SimpleType}
 use Rattle.smi_module.specs.declared.tree.Base.{Base}
 use Rattle.smi_module.specs.declared.tree.Base.TheVariants as B
-use Rattle.smi_meaning.specs.Meaning.{Place, Decision, defined, imported, root}
+use Rattle.smi_meaning.specs.Meaning.{QualifiedName, Decision, defined, imported, root}
 use Rattle.smi_meaning.specs.Scopes.{Content}
 use Rattle.smi_meaning.specs.Known.{KnownNames}
 use Rattle.smi_types.specs.Chain.{Layer, TypeOrigin, at_base, on_name, no_type}
@@ -23,13 +23,13 @@ abbrev pub read_at : {X : Type 0} → (Def → Option X) → KnownNames → List
 read_at field k sources e = option_and_then field (option_and_then (λ s. def_at k.modules s.0 s.1) (at_place sources e))
 
 -- the base of an origin, if it is one
-abbrev pub base_of_origin : TypeOrigin Place → Option TypeBase
+abbrev pub base_of_origin : TypeOrigin QualifiedName → Option TypeBase
 base_of_origin (at_base l b) = Some b
 base_of_origin (on_name l a) = None
 base_of_origin no_type = None
 
 -- this is what the type of an origin states
-abbrev pub Says : {X : Type 0} → (Layer → Option X) → TypeOrigin Place → Option X → Type 0
+abbrev pub Says : {X : Type 0} → (Layer → Option X) → TypeOrigin QualifiedName → Option X → Type 0
 Says value (at_base l b) x = x ≡ value l
 Says value (on_name l a) x = x ≡ value l
 Says value no_type x = Unit {0}

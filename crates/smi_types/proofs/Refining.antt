@@ -8,9 +8,9 @@ use Rattle.smi_module.specs.declared.tree.SimpleType.{SimpleType}
 use Rattle.smi_module.specs.declared.tree.Base.{Base}
 use Rattle.smi_module.specs.declared.tree.Base.TheVariants as B
 use Rattle.smi_module.specs.declared.tree.Refinement.{Refinement}
-use Rattle.smi_meaning.specs.Meaning.{Place}
-use Rattle.smi_meaning.specs.Known.{KnownNames, content_at}
-use Rattle.smi_types.specs.Chain.{Layer, at_base, on_name, no_type, TypeChain, at_end, on_type, or_else, nearest}
+use Rattle.smi_meaning.specs.Meaning.{QualifiedName, or_else}
+use Rattle.smi_meaning.specs.Known.{KnownNames, content_named}
+use Rattle.smi_types.specs.Chain.{Layer, at_base, on_name, no_type, TypeChain, at_end, on_type, nearest}
 use Rattle.smi_types.specs.Types.{
   type_origin,
   base_in,
@@ -100,7 +100,7 @@ module _ (ms : List Module) where
   object_of_base i k d s b e f g = let o = object_is ms i k d e in rw (o.1, f) (base_syntax o.0 s b (base_in s.base) g)
 
   -- an object of a type with a name
-  refined_syntax : (l : Layer) (a : Place) (f : Facts) → l.hint ≡ None → HasSyntax ms (type_origin ms a) f
+  refined_syntax : (l : Layer) (a : QualifiedName) (f : Facts) → l.hint ≡ None → HasSyntax ms (type_origin ms a) f
       → HasSyntax ms (on_name l a) (record { base = f.base; hint = f.hint; names = or_else l.names f.names; sizes = or_else l.sizes f.sizes })
   refined_syntax l a f none h = record {
     layers = l ∷ h.layers;
@@ -110,7 +110,7 @@ module _ (ms : List Module) where
     sizes = ap (λ n. or_else l.sizes n) h.sizes;
   }
 
-  no_refined_syntax : (l : Layer) (a : Place) → HasNoSyntax ms (type_origin ms a) → HasNoSyntax ms (on_name l a)
+  no_refined_syntax : (l : Layer) (a : QualifiedName) → HasNoSyntax ms (type_origin ms a) → HasNoSyntax ms (on_name l a)
   no_refined_syntax l a none f h = by h.chain
     where
       by : {layers : List Layer} → TypeChain (type_origin ms) (on_name l a) layers f.base → ⊥
@@ -119,9 +119,9 @@ module _ (ms : List Module) where
           (record { layers = layers; chain = c; hint = refl; names = refl; sizes = refl })
 
   module _ (k : KnownNames) (base : ℕ → Option TypeBase) (facts : ℕ → TypeBase → Facts)
-      (right : (a : Place) (p : ℕ) → slice_get k.names p ≡ content_at k.modules a
+      (right : (a : QualifiedName) (p : ℕ) → slice_get k.names p ≡ content_named k.modules a
       → MatchOption (base p) (HasNoSyntax ms (type_origin ms a)) (λ b. HasSyntax ms (type_origin ms a) (facts p b))) where
-    refined_of : (l : Layer) (a : Place) (r : Option Refinement) → l ≡ layer None r → (v : Option TypeBase) (f : TypeBase → Facts)
+    refined_of : (l : Layer) (a : QualifiedName) (r : Option Refinement) → l ≡ layer None r → (v : Option TypeBase) (f : TypeBase → Facts)
         → MatchOption v (HasNoSyntax ms (type_origin ms a)) (λ b. HasSyntax ms (type_origin ms a) (f b))
         → MatchOption (option_map (λ b. refined_facts r (f b)) v) (HasNoSyntax ms (on_name l a)) (λ g. HasSyntax ms (on_name l a) g)
     refined_of l a r e None f h = no_refined_syntax l a h

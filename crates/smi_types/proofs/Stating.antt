@@ -9,7 +9,7 @@ use Rattle.smi_module.specs.declared.tree.Base.{Base}
 use Rattle.smi_module.specs.declared.tree.Base.TheVariants as B
 use Rattle.smi_module.specs.declared.names.Name.{Name}
 use Rattle.smi_meaning.specs.Scopes.{content_of}
-use Rattle.smi_meaning.specs.Known.{KnownNames, content_at}
+use Rattle.smi_meaning.specs.Known.{KnownNames, content_named}
 use Rattle.smi_meaning.specs.declared.entry.Entry.{Entry}
 use Rattle.smi_meaning.specs.declared.entry.Decider.TheVariants as D
 use Rattle.smi_types.specs.Chain.{Layer}
@@ -27,7 +27,7 @@ named b x e h = rw e (by (base_in (B.Named x)) (rw e at h))
 
 module _ (k : KnownNames) (home : List ℕ) (l : Layer) where
   leads_by_name : (b : Base) (t : Option TypeBase) (x : List ℕ) (q : ℕ) → name_in_base b t ≡ Some x
-      → slice_get k.names q ≡ content_at k.modules (record { home = home; name = x }) → LeadsTo k (origin_of_base home l b t) (Some q)
+      → slice_get k.names q ≡ content_named k.modules (record { home = home; name = x }) → LeadsTo k (origin_of_base home l b t) (Some q)
   leads_by_name B.Integer t x q e at = absurd (cc)
   leads_by_name B.OctetString t x q e at = absurd (cc)
   leads_by_name B.ObjectIdentifier t x q e at = absurd (cc)
@@ -48,7 +48,7 @@ module _ (k : KnownNames) (home : List ℕ) (l : Layer) where
   leads_nowhere (B.Named y) None e = absurd (cc)
 
 pub leads_to_name : (k : KnownNames) (home : List ℕ) (hint : Option (List ℕ)) (s : SimpleType) (x : List ℕ) (q : ℕ) → name_in s.base ≡ Some x
-    → slice_get k.names q ≡ content_at k.modules (record { home = home; name = x }) → LeadsTo k (origin_of_simple home hint (Some s)) (Some q)
+    → slice_get k.names q ≡ content_named k.modules (record { home = home; name = x }) → LeadsTo k (origin_of_simple home hint (Some s)) (Some q)
 leads_to_name k home hint s x q e at = leads_by_name k home (layer hint s.refinement) s.base (base_in s.base) x q e at
 
 pub leads_to_none : (k : KnownNames) (home : List ℕ) (hint : Option (List ℕ)) (s : SimpleType) → name_in s.base ≡ None

@@ -1,8 +1,9 @@
 -- Chains of types: a type refines a base type or a type with a name, which is refined itself (RFC
 -- 2578, section 9; RFC 2579).
-use Rattle.std.specs.Prelude.{ℕ, List, [], ◌∷◌, Option, Some, None}
+use Rattle.std.specs.Prelude.{ℕ, List, [], ◌∷◌, Option, None}
 use Rattle.smi_module.specs.declared.tree.NamedNumber.{NamedNumber}
 use Rattle.smi_module.specs.declared.tree.Range.{Range}
+use Rattle.smi_meaning.specs.Meaning.{or_else}
 use Rattle.smi_types.specs.declared.base.TypeBase.{TypeBase}
 
 -- what one type of a chain states: a display hint, as the string in quotes, the names of numbers or
@@ -25,10 +26,6 @@ pub data TypeChain {A : Type 0} (origin : A → TypeOrigin A) : TypeOrigin A →
   at_end : {l : Layer} {b : TypeBase} → TypeChain origin (at_base l b) (l ∷ []) b
   on_type : {l : Layer} {a : A} {layers : List Layer} {b : TypeBase}
       → TypeChain origin (origin a) layers b → TypeChain origin (on_name l a) (l ∷ layers) b
-
-abbrev pub or_else : {X : Type 0} → Option X → Option X → Option X
-or_else None y = y
-or_else (Some x) y = Some x
 
 -- the first on the chain
 abbrev pub nearest : {X : Type 0} → (Layer → Option X) → List Layer → Option X

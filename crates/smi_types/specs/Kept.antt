@@ -8,9 +8,9 @@ use Rattle.smi_module.specs.declared.tree.DefKind.{DefKind}
 use Rattle.smi_module.specs.declared.tree.SimpleType.{SimpleType}
 use Rattle.smi_module.specs.declared.tree.NamedNumber.{NamedNumber}
 use Rattle.smi_module.specs.declared.tree.Range.{Range}
-use Rattle.smi_meaning.specs.Meaning.{Place}
+use Rattle.smi_meaning.specs.Meaning.{QualifiedName}
 use Rattle.smi_meaning.specs.Scopes.{Content}
-use Rattle.smi_meaning.specs.Known.{content_at}
+use Rattle.smi_meaning.specs.Known.{content_named}
 use Rattle.smi_types.specs.Types.{
   base_in,
   names_in,
@@ -60,20 +60,20 @@ def_by ms sources ends p =
     option_and_then (λ e. option_and_then (λ s. def_at ms s.0 s.1) (at_place sources e))
     (at_place ends p)
 
-abbrev pub found : {X : Type 0} → (Def → Option X) → List Module → Types → List (Option ℕ) → ℕ
+abbrev pub found_by : {X : Type 0} → (Def → Option X) → List Module → Types → List (Option ℕ) → ℕ
     → Option X
-found field ms t ends p = option_and_then field (def_by ms t.sources.items ends p)
+found_by field ms t ends p = option_and_then field (def_by ms t.sources.items ends p)
 
 -- the base type that is kept for a place, and the facts with it
 abbrev pub kept_base : List Module → Types → ℕ → Option TypeBase
-kept_base ms t p = found type_base ms t t.ends.items p
+kept_base ms t p = found_by type_base ms t t.ends.items p
 
 abbrev pub kept_facts : List Module → Types → ℕ → TypeBase → Facts
 kept_facts ms t p b = record {
   base = b;
-  hint = found (λ d. type_hint d.kind) ms t t.hints.items p;
-  names = found type_names ms t t.names.items p;
-  sizes = found type_sizes ms t t.sizes.items p;
+  hint = found_by (λ d. type_hint d.kind) ms t t.hints.items p;
+  names = found_by type_names ms t t.names.items p;
+  sizes = found_by type_sizes ms t t.sizes.items p;
 }
 
 -- the place to which an object's type leads
@@ -104,6 +104,6 @@ pub record AreTypesOf (ms : List Module) (t : Types) : Type 0 where
   pub names : List Content
   pub objects : (i k : ℕ)
       → LeadsTo (record { modules = ms; names = names }) (object_origin ms i k) (object_lead t i k)
-  pub types : (a : Place) (p : ℕ) → slice_get names p ≡ content_at ms a
+  pub types : (a : QualifiedName) (p : ℕ) → slice_get names p ≡ content_named ms a
       → MatchOption (kept_base ms t p) (HasNoSyntax ms (type_origin ms a))
       (λ b. HasSyntax ms (type_origin ms a) (kept_facts ms t p b))

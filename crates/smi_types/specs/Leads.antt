@@ -15,23 +15,24 @@ use Rattle.std.specs.Prelude.{
 }
 use Rattle.std.specs.List.{slice_get}
 use Rattle.smi_module.specs.declared.tree.Module.{Module}
-use Rattle.smi_meaning.specs.Meaning.{Place, Decision, defined, imported, root}
+use Rattle.smi_meaning.specs.Meaning.{QualifiedName, Decision, defined, imported, root}
 use Rattle.smi_meaning.specs.Scopes.{Content}
-use Rattle.smi_meaning.specs.Known.{KnownNames, content_at}
+use Rattle.smi_meaning.specs.Known.{KnownNames, content_named}
 use Rattle.smi_types.specs.Chain.{Layer, TypeOrigin, at_base, on_name, no_type}
-use Rattle.smi_types.specs.Types.{origin_by, def_at}
+use Rattle.smi_types.specs.Types.{type_origin_by, def_at}
 use Rattle.smi_types.specs.declared.leads.Field.{Field}
 use Rattle.smi_types.specs.declared.leads.Field.TheVariants as F
 
 -- where the type comes from that a name means, by what decides the name
-abbrev pub content_origin : Content → TypeOrigin Place
-content_origin c = origin_by (record { home = c.home.name.octets; name = c.name }) (Some c.decided)
+abbrev pub content_origin : Content → TypeOrigin QualifiedName
+content_origin c = type_origin_by (record { home = c.home.name.octets; name = c.name })
+    (Some c.decided)
 
 -- the place to which a type leads: that of the name that it is refined from
-abbrev pub LeadsTo : KnownNames → TypeOrigin Place → Option ℕ → Type 0
+abbrev pub LeadsTo : KnownNames → TypeOrigin QualifiedName → Option ℕ → Type 0
 LeadsTo k (at_base l b) to = to ≡ None
 LeadsTo k (on_name l a) to =
-    (q : ℕ) × (to ≡ Some q) × (slice_get k.names q ≡ content_at k.modules a)
+    (q : ℕ) × (to ≡ Some q) × (slice_get k.names q ≡ content_named k.modules a)
 LeadsTo k no_type to = to ≡ None
 
 abbrev pub at_place : {X : Type 0} → List (Option X) → ℕ → Option X
@@ -49,13 +50,13 @@ states F.Hint l = is_some l.hint
 states F.Names l = is_some l.names
 states F.Sizes l = is_some l.sizes
 
-abbrev pub StatesIf : Field → TypeOrigin Place → Bool → Type 0
+abbrev pub StatesIf : Field → TypeOrigin QualifiedName → Bool → Type 0
 StatesIf field (at_base l b) result = result ≡ states field l
 StatesIf field (on_name l a) result = result ≡ states field l
 StatesIf field no_type result = ⊤
 
 -- where a place leads until a type states it
-abbrev pub IsNextUntil : Field → TypeOrigin Place → Option ℕ → Option ℕ → Type 0
+abbrev pub IsNextUntil : Field → TypeOrigin QualifiedName → Option ℕ → Option ℕ → Type 0
 IsNextUntil field (at_base l b) lead to = to ≡ (if states field l then None else lead)
 IsNextUntil field (on_name l a) lead to = to ≡ (if states field l then None else lead)
 IsNextUntil field no_type lead to = ⊤

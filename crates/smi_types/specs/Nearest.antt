@@ -3,26 +3,26 @@ use Rattle.std.specs.Prelude.{◌≡◌, ℕ, ◌<◌, List, length, Option, Som
 use Rattle.std.specs.Global.{Global}
 use Rattle.std.specs.List.{slice_get}
 use Rattle.smi_links.specs.Order.{next_at}
-use Rattle.smi_links.specs.Ends.{Ends, end_at}
+use Rattle.smi_links.specs.Ends.{ChainEnds, end_at}
 use Rattle.smi_module.specs.declared.tree.Module.{Module}
 use Rattle.smi_module.specs.declared.tree.Def.{Def}
 use Rattle.smi_module.specs.declared.tree.Refinement.{Refinement}
+use Rattle.smi_meaning.specs.Meaning.{or_else}
 use Rattle.smi_meaning.specs.Known.{KnownNames}
-use Rattle.smi_types.specs.Chain.{or_else}
 use Rattle.smi_types.specs.Types.{origin_of_object, names_in, sizes_in, Facts}
 use Rattle.smi_types.specs.Leads.{LeadsTo, AreNextUntil, at_place}
 use Rattle.smi_types.specs.declared.leads.Field.{Field}
 
 -- the end of the chain of each place
-pub record AreEnds (next ends : List (Option ℕ)) : Type 0 where
+pub record AreEndsOfChains (next ends : List (Option ℕ)) : Type 0 where
   pub long : length ends ≡ length next
-  pub each : (p : ℕ) → p < length next → Ends (next_at next) p (end_at ends p)
+  pub each : (p : ℕ) → p < length next → ChainEnds (next_at next) p (end_at ends p)
 
 -- the nearest place that states a field, or the last of the chain
 pub record AreNearest (k : KnownNames) (field : Field) (leads ends : List (Option ℕ)) : Type 0 where
   pub next : List (Option ℕ)
   pub until : AreNextUntil k field leads next
-  pub are_ends : AreEnds next ends
+  pub are_ends : AreEndsOfChains next ends
 
 -- the types of the objects of a module lead to the places of their names
 pub record AreLeadsOf (k : KnownNames) (m : Module) (leads : List (Option ℕ)) : Type 0 where

@@ -18,7 +18,7 @@ use Rattle.smi_module.specs.declared.tree.Refinement.TheVariants as R
 use Rattle.smi_module.specs.declared.tree.NamedNumber.{NamedNumber}
 use Rattle.smi_module.specs.declared.tree.Range.{Range}
 use Rattle.smi_meaning.specs.Meaning.{
-  Place,
+  QualifiedName,
   Decision,
   defined,
   imported,
@@ -84,7 +84,7 @@ abbrev pub name_in : Base → Option (List ℕ)
 name_in base = name_in_base base (base_in base)
 
 -- a base type, or another type by its name in a module
-abbrev pub origin_of_base : List ℕ → Layer → Base → Option TypeBase → TypeOrigin Place
+abbrev pub origin_of_base : List ℕ → Layer → Base → Option TypeBase → TypeOrigin QualifiedName
 origin_of_base home l base (Some b) = at_base l b
 origin_of_base home l (B.Named x) None = on_name l (record { home = home; name = x.octets })
 origin_of_base home l _ None = no_type
@@ -94,13 +94,14 @@ abbrev pub simple_in : Syntax → Option SimpleType
 simple_in (S.SequenceOf x) = None
 simple_in (S.Simple s) = Some s
 
-abbrev pub origin_of_simple : List ℕ → Option (List ℕ) → Option SimpleType → TypeOrigin Place
+abbrev pub origin_of_simple : List ℕ → Option (List ℕ) → Option SimpleType
+    → TypeOrigin QualifiedName
 origin_of_simple home hint None = no_type
 origin_of_simple home hint (Some s) =
     origin_of_base home (layer hint s.refinement) s.base (base_in s.base)
 
 -- a syntax in a module, with the display hint of its textual convention
-abbrev pub origin_of_syntax : List ℕ → Option (List ℕ) → Option Syntax → TypeOrigin Place
+abbrev pub origin_of_syntax : List ℕ → Option (List ℕ) → Option Syntax → TypeOrigin QualifiedName
 origin_of_syntax home hint syntax =
     origin_of_simple home hint (option_and_then simple_in syntax)
 
@@ -116,7 +117,7 @@ abbrev pub type_hint : DefKind → Option (List ℕ)
 type_hint (D.TextualConvention d) = d.display_hint
 type_hint _ = None
 
-abbrev pub origin_of_type : List ℕ → DefKind → TypeOrigin Place
+abbrev pub origin_of_type : List ℕ → DefKind → TypeOrigin QualifiedName
 origin_of_type home kind = origin_of_syntax home (type_hint kind) (type_syntax kind)
 
 -- an import states nothing by itself
@@ -124,20 +125,20 @@ abbrev pub no_layer : Layer
 no_layer = record { hint = None; names = None; sizes = None }
 
 -- a name means the module's own definition, otherwise what it means in the module after FROM
-abbrev pub origin_by : Place → Option Decision → TypeOrigin Place
-origin_by place None = no_type
-origin_by place (Some (defined d)) = origin_of_type place.home d.kind
-origin_by place (Some (imported i)) = on_name no_layer
-    (record { home = i.source.octets; name = place.name })
-origin_by place (Some (root n)) = no_type
+abbrev pub type_origin_by : QualifiedName → Option Decision → TypeOrigin QualifiedName
+type_origin_by a None = no_type
+type_origin_by a (Some (defined d)) = origin_of_type a.home d.kind
+type_origin_by a (Some (imported i)) = on_name no_layer
+    (record { home = i.source.octets; name = a.name })
+type_origin_by a (Some (root n)) = no_type
 
 -- one step: in a module that isn't loaded no name is a type
-abbrev pub origin_in : Place → Option Module → TypeOrigin Place
-origin_in place None = no_type
-origin_in place (Some m) = origin_by place (decision m place.name)
+abbrev pub type_origin_in : QualifiedName → Option Module → TypeOrigin QualifiedName
+type_origin_in a None = no_type
+type_origin_in a (Some m) = type_origin_by a (decision m a.name)
 
-abbrev pub type_origin : List Module → Place → TypeOrigin Place
-type_origin ms place = origin_in place (module_named ms place.home)
+abbrev pub type_origin : List Module → QualifiedName → TypeOrigin QualifiedName
+type_origin ms a = type_origin_in a (module_named ms a.home)
 
 -- the SYNTAX of an OBJECT-TYPE; any other definition has none
 abbrev pub object_syntax : DefKind → Option Syntax
@@ -145,10 +146,10 @@ object_syntax (D.ObjectType d) = Some d.syntax
 object_syntax _ = None
 
 -- the type of the values of an object
-abbrev pub origin_of_object : List ℕ → Def → TypeOrigin Place
+abbrev pub origin_of_object : List ℕ → Def → TypeOrigin QualifiedName
 origin_of_object home d = origin_of_syntax home None (object_syntax d.kind)
 
-abbrev pub object_in : Option Module → Option Def → TypeOrigin Place
+abbrev pub object_in : Option Module → Option Def → TypeOrigin QualifiedName
 object_in None d = no_type
 object_in (Some m) None = no_type
 object_in (Some m) (Some d) = origin_of_object m.name.octets d
@@ -157,7 +158,7 @@ object_in (Some m) (Some d) = origin_of_object m.name.octets d
 abbrev pub def_at : List Module → ℕ → ℕ → Option Def
 def_at ms i k = option_and_then (λ m. slice_get m.defs k) (slice_get ms i)
 
-abbrev pub object_origin : List Module → ℕ → ℕ → TypeOrigin Place
+abbrev pub object_origin : List Module → ℕ → ℕ → TypeOrigin QualifiedName
 object_origin ms i k = object_in (slice_get ms i) (def_at ms i k)
 
 -- a syntax: the base at the end of the chain of types, and the nearest hint, names and SIZE
@@ -167,12 +168,13 @@ pub record Facts : Type 0 where
   pub names : Option (List NamedNumber)
   pub sizes : Option (List Range)
 
-pub record HasSyntax (ms : List Module) (origin : TypeOrigin Place) (facts : Facts) : Type 0 where
+pub record HasSyntax (ms : List Module) (origin : TypeOrigin QualifiedName) (facts : Facts)
+    : Type 0 where
   pub layers : List Layer
   pub chain : TypeChain (type_origin ms) origin layers facts.base
   pub hint : facts.hint ≡ nearest (λ l. l.hint) layers
   pub names : facts.names ≡ nearest (λ l. l.names) layers
   pub sizes : facts.sizes ≡ nearest (λ l. l.sizes) layers
 
-abbrev pub HasNoSyntax : List Module → TypeOrigin Place → Type 0
+abbrev pub HasNoSyntax : List Module → TypeOrigin QualifiedName → Type 0
 HasNoSyntax ms origin = (facts : Facts) → HasSyntax ms origin facts → ⊥

@@ -1,7 +1,7 @@
 //! Laws of types, for any modules.
 ghost use Rattle.std.specs.Prelude.{◌≡◌, ℕ, List, MatchOption};
 ghost use Rattle.smi_module.specs.declared.tree.Module.{Module};
-ghost use Rattle.smi_meaning.specs.Meaning.{Place};
+ghost use Rattle.smi_meaning.specs.Meaning.{QualifiedName};
 ghost use Rattle.smi_types.specs.Chain.{TypeOrigin};
 ghost use Rattle.smi_types.specs.Types.{Facts, HasSyntax, HasNoSyntax, object_origin};
 ghost use Rattle.smi_types.specs.Kept.{AreTypesOf, kept_syntax};
@@ -9,7 +9,7 @@ ghost use Rattle.smi_types.specs.declared.types.Types.{Types};
 
 /// A type has at most one syntax, whatever the order of modules and definitions.
 pub fn one_syntax()
-    ensures { (modules : List Module) (origin : TypeOrigin Place) (one other : Facts)
+    ensures { (modules : List Module) (origin : TypeOrigin QualifiedName) (one other : Facts)
         → HasSyntax modules origin one → HasSyntax modules origin other → one ≡ other }
 {}
 

@@ -5,7 +5,8 @@ ghost use Rattle.std.specs.List.{slice_get};
 ghost use Rattle.smi_types.specs.Types.{object_origin, type_hint, def_at, HasSyntax, HasNoSyntax};
 ghost use Rattle.smi_types.specs.Leads.{at_place, AreLeads};
 ghost use Rattle.smi_types.specs.Nearest.{AreNearest, AreLeadsOf, AreObjectLeads, refined_facts};
-ghost use Rattle.smi_types.specs.Kept.{AreTypesOf, facts_of, def_by, found, kept_base, kept_facts};
+ghost use Rattle.smi_types.specs.Kept.{AreTypesOf, facts_of, def_by, found_by, kept_base};
+ghost use Rattle.smi_types.specs.Kept.{kept_facts};
 ghost use Rattle.smi_types.specs.Kept.{object_lead, kept_syntax, type_names, type_sizes};
 
 use crate::base::TypeBase;
@@ -178,7 +179,7 @@ impl Types {
     /// The nearest hint of the type that the name at a place means.
     fn hint_at<'m>(&self, modules: &'m [Module], place: usize) -> Option<&'m Text>
         ensures { option_copied result
-            ≡ found (λ d. type_hint d.kind) modules.now self.now self.now.hints.items place }
+            ≡ found_by (λ d. type_hint d.kind) modules.now self.now self.now.hints.items place }
     {
         match self.definition(modules, &self.hints, place) {
             Some(def) => hint_of(&def.kind),
@@ -189,7 +190,7 @@ impl Types {
     /// The nearest names of the type that the name at a place means.
     fn names_at<'m>(&self, modules: &'m [Module], place: usize) -> Option<&'m [NamedNumber]>
         ensures { option_copied result
-            ≡ found type_names modules.now self.now self.now.names.items place }
+            ≡ found_by type_names modules.now self.now self.now.names.items place }
     {
         match self.definition(modules, &self.names, place) {
             Some(def) => names_in_definition(def),
@@ -200,7 +201,7 @@ impl Types {
     /// The nearest SIZE of the type that the name at a place means.
     fn sizes_at<'m>(&self, modules: &'m [Module], place: usize) -> Option<&'m [Range]>
         ensures { option_copied result
-            ≡ found type_sizes modules.now self.now self.now.sizes.items place }
+            ≡ found_by type_sizes modules.now self.now self.now.sizes.items place }
     {
         match self.definition(modules, &self.sizes, place) {
             Some(def) => sizes_in_definition(def),

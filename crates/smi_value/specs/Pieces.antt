@@ -35,7 +35,7 @@ use Rattle.smi_letters.specs.declared.letters.TypeForm.TheVariants as types
 use Rattle.smi_letters.specs.declared.letters.StringForm.{StringForm}
 use Rattle.smi_letters.specs.declared.letters.StringForm.TheVariants as strings
 use Rattle.smi_module.specs.declared.tree.NamedNumber.{NamedNumber}
-use Rattle.smi_value.specs.Syntax.{name_of}
+use Rattle.smi_value.specs.Syntax.{name_of_number}
 
 -- values have the words of their types: neither q nor Q is given
 abbrev pub is_typed : TypeForm → Bool
@@ -137,7 +137,7 @@ bit_name letters (Some name) number =
 -- nothing for a bit that isn't set
 abbrev pub bit_text : Letters → List NamedNumber → ℕ → ℕ → List ℕ
 bit_text letters names bit set =
-    if set == 1 then bit_name letters (name_of names (pos bit)) (decimal bit) else []
+    if set == 1 then bit_name letters (name_of_number names (pos bit)) (decimal bit) else []
 
 -- the bits of an octet, that of the highest weight first
 abbrev pub octet_bits : Letters → List NamedNumber → ℕ × ℕ → List ℕ

@@ -4,7 +4,7 @@ use Rattle.std.specs.Option.{option_map}
 use Rattle.std.specs.List.{find}
 use Rattle.std.specs.Ordering.{int_eq}
 use Rattle.smi_module.specs.declared.tree.NamedNumber.{NamedNumber}
-use Rattle.smi_module.specs.Number.{number_in}
+use Rattle.smi_module.specs.Number.{stated_number}
 use Rattle.smi_value.specs.declared.base.ValueBase.{ValueBase}
 use Rattle.smi_value.specs.declared.base.ValueBase.TheVariants as base
 
@@ -41,12 +41,12 @@ is_of_bits (Some syntax) = same_base syntax.base base.Bits
 
 -- the number of a name
 abbrev pub is_number_of : ℤ → NamedNumber → Bool
-is_number_of n named = is_same (number_in named.number)
+is_number_of n named = is_same (stated_number named.number)
   where
     is_same : Option ℤ → Bool
     is_same None = false
     is_same (Some m) = int_eq m n
 
 -- the name of a number: of two names, the first in the text
-abbrev pub name_of : List NamedNumber → ℤ → Option (List ℕ)
-name_of names n = option_map (λ named. named.name.octets) (find (is_number_of n) names)
+abbrev pub name_of_number : List NamedNumber → ℤ → Option (List ℕ)
+name_of_number names n = option_map (λ named. named.name.octets) (find (is_number_of n) names)

@@ -16,7 +16,7 @@ use Rattle.snmp_ber.specs.Value.{
 use Rattle.snmp_ber.specs.Value.{counter32, gauge32, time_ticks, opaque_octets, counter64}
 use Rattle.snmp_ber.specs.Value.{no_such_object, no_such_instance, end_of_mib_view}
 use Rattle.smi_value.specs.declared.base.ValueBase.TheVariants as base
-use Rattle.smi_value.specs.Syntax.{ObjectSyntax, syntax_at, is_of_bits, name_of}
+use Rattle.smi_value.specs.Syntax.{ObjectSyntax, syntax_at, is_of_bits, name_of_number}
 use Rattle.smi_value.specs.Pieces.{
   type_word,
   units_text,
@@ -77,31 +77,31 @@ abbrev pub counter_text : Letters → List ℕ → Option (List ℕ) → ℕ →
 counter_text letters word units n = type_word letters word ++ decimal n ++ units_text letters units
 
 -- the text of a value of an object of this syntax, if there is one, where names have these texts
-abbrev pub IsValueText : (List ℕ → List ℕ) → Letters → Option ObjectSyntax → Datum → List ℕ → Type 0
-IsValueText names letters syntax (integer_value n) text =
+abbrev pub ShowsValue : (List ℕ → List ℕ) → Letters → Option ObjectSyntax → Datum → List ℕ → Type 0
+ShowsValue names letters syntax (integer_value n) text =
     let at = syntax_at base.Integer syntax in
-    IsIntegerText letters at n (name_of at.names n) text
-IsValueText names letters syntax (octet_string octets) text =
+    IsIntegerText letters at n (name_of_number at.names n) text
+ShowsValue names letters syntax (octet_string octets) text =
     IsOctetsText letters syntax octets text
-IsValueText names letters syntax null_value text = text ≡ codes "NULL"
-IsValueText names letters syntax (object_id name) text =
+ShowsValue names letters syntax null_value text = text ≡ codes "NULL"
+ShowsValue names letters syntax (object_id name) text =
     text ≡ type_word letters (codes "OID: ") ++ names name
-IsValueText names letters syntax (ip_address octets) text =
+ShowsValue names letters syntax (ip_address octets) text =
     text ≡ type_word letters (codes "IpAddress: ") ++ address_text octets
-IsValueText names letters syntax (counter32 n) text =
+ShowsValue names letters syntax (counter32 n) text =
     text ≡ counter_text letters (codes "Counter32: ") (syntax_at base.Counter32 syntax).units n
-IsValueText names letters syntax (gauge32 n) text =
+ShowsValue names letters syntax (gauge32 n) text =
     let at = syntax_at base.Gauge32 syntax in
     IsTypedNumber letters (codes "Gauge32: ") at.hint at.units (pos n) text
-IsValueText names letters syntax (time_ticks n) text =
+ShowsValue names letters syntax (time_ticks n) text =
     text ≡ ticks_text letters n ++ units_text letters (syntax_at base.TimeTicks syntax).units
-IsValueText names letters syntax (opaque_octets octets) text =
+ShowsValue names letters syntax (opaque_octets octets) text =
     text ≡ type_word letters (codes "OPAQUE: ") ++ hexadecimal_text octets
-IsValueText names letters syntax (counter64 n) text =
+ShowsValue names letters syntax (counter64 n) text =
     text ≡ counter_text letters (codes "Counter64: ") (syntax_at base.Counter64 syntax).units n
-IsValueText names letters syntax no_such_object text =
+ShowsValue names letters syntax no_such_object text =
     text ≡ codes "No Such Object available on this agent at this OID"
-IsValueText names letters syntax no_such_instance text =
+ShowsValue names letters syntax no_such_instance text =
     text ≡ codes "No Such Instance currently exists at this OID"
-IsValueText names letters syntax end_of_mib_view text =
+ShowsValue names letters syntax end_of_mib_view text =
     text ≡ codes "No more variables left in this MIB View (It is past the end of the MIB tree)"

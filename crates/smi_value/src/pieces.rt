@@ -10,7 +10,7 @@ ghost use Rattle.smi_value.specs.Pieces.{dotted, quoted, dumped, hexadecimal_tex
 ghost use Rattle.smi_value.specs.Pieces.{string_text, address_text, two_digits, days_text};
 ghost use Rattle.smi_value.specs.Pieces.{clock_text, ticks_text, named_text, bit_name, octet_bits};
 ghost use Rattle.smi_value.specs.Pieces.{bits_text, bit_text};
-ghost use Rattle.smi_value.specs.Syntax.{name_of};
+ghost use Rattle.smi_value.specs.Syntax.{name_of_number};
 
 use crate::syntax::name_of;
 use itoa::Buffer;
@@ -300,7 +300,8 @@ fn append_if_set(draft: &mut Draft, letters: &Letters, names: &[NamedNumber], bi
 /// Appends a bit that is set: its name and number, or its number.
 fn append_bit(draft: &mut Draft, letters: &Letters, names: &[NamedNumber], bit: u128)
     requires { bit < 2 ^ 68 }
-    ensures { Adds draft.old (bit_name letters.now (name_of names.now (pos bit)) (decimal bit))
+    ensures { Adds draft.old (bit_name letters.now (name_of_number names.now (pos bit))
+        (decimal bit))
         draft.new }
 {
     let mut buffer = Buffer::new();

@@ -1,7 +1,7 @@
 //! What is known of the object of a value.
 ghost use Rattle.std.specs.Prelude.{◌≡◌, None, Some, IsTrue, ◌↔◌};
 ghost use Rattle.std.specs.Option.{option_map, option_copied};
-ghost use Rattle.smi_value.specs.Syntax.{ObjectSyntax, syntax_at, name_of, is_number_of};
+ghost use Rattle.smi_value.specs.Syntax.{ObjectSyntax, syntax_at, name_of_number, is_number_of};
 ghost use Rattle.smi_value.specs.Syntax.{is_of_bits};
 
 use crate::base::ValueBase;
@@ -99,7 +99,7 @@ impl<'a> ValueSyntax<'a> {
 
 /// The name of a number: of two names, the first in the text.
 pub(crate) fn name_of(names: &[NamedNumber], n: i128) -> Option<&[u8]>
-    ensures { option_copied result ≡ name_of names.now n }
+    ensures { option_copied result ≡ name_of_number names.now n }
 {
     match names.iter().find(|named| is_number_of(named, n)) {
         Some(named) => Some(named.name.as_bytes()),

@@ -3,10 +3,10 @@ ghost use Rattle.std.specs.Prelude.{◌≡◌, ◌++◌, List, ℕ, Some, None, 
 ghost use Rattle.std.specs.Option.{option_copied};
 ghost use Rattle.text_draft.specs.Draft.{Adds};
 ghost use Rattle.snmp_ber.specs.Value.{datum, integer_value, octet_string};
-ghost use Rattle.smi_value.specs.Syntax.{syntax_at, name_of};
+ghost use Rattle.smi_value.specs.Syntax.{syntax_at, name_of_number};
 ghost use Rattle.smi_value.specs.Pieces.{type_word};
 ghost use Rattle.smi_value.specs.Value.{IsNumberText, IsTypedNumber, IsIntegerText, IsStringText};
-ghost use Rattle.smi_value.specs.Value.{IsOctetsText, IsValueText, IsNoIdentifier, counter_text};
+ghost use Rattle.smi_value.specs.Value.{IsOctetsText, ShowsValue, IsNoIdentifier, counter_text};
 ghost use Rattle.smi_value.specs.declared.base.ValueBase.TheVariants as base;
 
 use crate::base::ValueBase;
@@ -35,7 +35,7 @@ pub fn append_value(
     requires { IsNoIdentifier (datum value.now) }
     ensures { let syntax = option_copied syntax.entry in (text : List ℕ)
         × ((names : List ℕ → List ℕ)
-        → IsValueText names letters.now syntax (datum value.now) text)
+        → ShowsValue names letters.now syntax (datum value.now) text)
         × Adds draft.old text draft.new }
 {
     match value {
@@ -105,7 +105,7 @@ fn append_counter(draft: &mut Draft, letters: &Letters, word: &[u8], units: Opti
 /// Appends an INTEGER.
 fn append_integer(draft: &mut Draft, letters: &Letters, syntax: Option<&ValueSyntax<'_>>, n: i64)
     ensures { let at = syntax_at base.Integer (option_copied syntax.entry) in (text : List ℕ)
-        × IsIntegerText letters.now at n (name_of at.names n) text
+        × IsIntegerText letters.now at n (name_of_number at.names n) text
         × Adds draft.old text draft.new }
 {
     let names = ValueSyntax::names_at(syntax, ValueBase::Integer);

@@ -4,7 +4,7 @@ use Rattle.smi_files.specs.Files.{AreModulesOf}
 use Rattle.smi_module.specs.declared.tree.Module.{Module}
 use Rattle.smi_name.specs.Naming.{Naming}
 use Rattle.smi_nodes.specs.declared.warning.Warning.{Warning}
-use Rattle.smi_tree.specs.Naming.{naming_of, syntax_at}
+use Rattle.smi_tree.specs.Naming.{naming_of, nearest_syntax}
 use Rattle.smi_tree.specs.Tree.{Contents, IsTree}
 use Rattle.smi_value.specs.Syntax.{ObjectSyntax}
 use Rattle.snmp_io.specs.Files.{HoldsIfKnown}
@@ -29,7 +29,7 @@ pub record Mib : Type 0 where
 
 -- the names and types of a tree
 abbrev pub mib_of : Contents → Mib
-mib_of tree = record { naming = naming_of tree; syntax_at = syntax_at tree }
+mib_of tree = record { naming = naming_of tree; syntax_at = nearest_syntax tree }
 
 -- the modules of the files give these names and types, with these warnings
 pub record AreLoaded (Held : (path text : List ℕ) → Type 0) (paths : List (List ℕ)) (mib : Mib)

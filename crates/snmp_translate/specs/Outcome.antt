@@ -2,7 +2,7 @@
 use Rattle.std.specs.Prelude.{◌≡◌, ◌⊎◌, ◌++◌, ℕ, List, ◌∷◌, Option, Some, None, Err}
 use Rattle.smi_files.specs.Files.{Holdings, MayHold}
 use Rattle.smi_files.specs.Loaded.{IsLoaded}
-use Rattle.smi_name.specs.Meant.{Means}
+use Rattle.smi_name.specs.Meant.{TextMeans}
 use Rattle.smi_name.specs.declared.error.NameError.{NameError}
 use Rattle.smi_tree.specs.Tree.{Contents}
 use Rattle.snmp_io.specs.Output.{FailsWithin, Stream, extended}
@@ -16,7 +16,7 @@ use Rattle.snmp_translate.specs.declared.style.Style.{Style}
 -- the name has no meaning, for this reason
 abbrev pub HasNoMeaning : Mib → (name : List ℕ) → Fault → Type 0
 HasNoMeaning mib name why =
-    (error : NameError) × Means mib.naming name (Err error) × (why ≡ bad_name name error)
+    (error : NameError) × TextMeans mib.naming name (Err error) × (why ≡ bad_name name error)
 
 -- A name isn't printed: it has no meaning, or memory for its text ran out. Or only a front of its
 -- text is: the output failed.

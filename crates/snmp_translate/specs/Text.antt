@@ -2,10 +2,10 @@
 use Rattle.std.specs.Prelude.{◌≡◌, ◌++◌, ℕ, List, [], ◌∷◌, Option, Ok, codes, if◌then◌else◌}
 use Rattle.smi_detail.specs.Detail.{detail_text}
 use Rattle.smi_module.specs.declared.tree.Def.{Def}
-use Rattle.smi_name.specs.Meant.{Means}
+use Rattle.smi_name.specs.Meant.{TextMeans}
 use Rattle.smi_name.specs.Naming.{Naming}
 use Rattle.smi_show.specs.Line.{names_by}
-use Rattle.smi_tree.specs.Naming.{definition_of, naming_of}
+use Rattle.smi_tree.specs.Naming.{nearest_definition, naming_of}
 use Rattle.smi_tree.specs.Tree.{Contents}
 use Rattle.snmp_translate.specs.declared.style.Style.{Style}
 
@@ -16,7 +16,7 @@ pub record Mib : Type 0 where
 
 -- those of a tree
 abbrev pub mib_of : Contents → Mib
-mib_of tree = record { naming = naming_of tree; definition_at = definition_of tree }
+mib_of tree = record { naming = naming_of tree; definition_at = nearest_definition tree }
 
 -- what is printed of an identifier: its name and a newline, or its details
 abbrev pub shown_text : Mib → Style → (o : List ℕ) → List ℕ
@@ -28,7 +28,7 @@ shown_text mib style o =
 -- what is printed of a name that means an identifier
 abbrev pub IsTextOf : Mib → Style → (name text : List ℕ) → Type 0
 IsTextOf mib style name text =
-    (o : List ℕ) × Means mib.naming name (Ok o) × (text ≡ shown_text mib style o)
+    (o : List ℕ) × TextMeans mib.naming name (Ok o) × (text ≡ shown_text mib style o)
 
 -- what is printed of names, one after the other
 abbrev pub AreTextsOf : Mib → Style → (names : List (List ℕ)) → (text : List ℕ) → Type 0

@@ -2,7 +2,7 @@
 use Rattle.std.proofs.Common.{rules, ◌≡◌, ◌≢◌, ℕ, ◌==◌, true, false, [], ◌∷◌, ◌++◌, get_or, Some, None, refl, sym, ap, ◌∙◌, length, eqb-true}
 use Rattle.std.specs.Cmp.{unsigned_ties}
 use Rattle.smi_branches.specs.Branches.{follower, there}
-use Rattle.smi_branches.proofs.Growing.{Grows-made}
+use Rattle.smi_branches.proofs.Growing.{GrowsBranch-made}
 use Rattle.smi_branches.proofs.branch.grow.Goals as goal
 
 not_equal : (n q : ℕ) → q ≢ n → (n == q) ≡ false
@@ -19,7 +19,7 @@ returns c =
     let none : follower c.args.branches.now.items c.args.at c.args.number ≡ None = search rules in
     let place : c.len-place.result ≡ length c.args.branches.now.items = search rules in
     rw (place, pushed) (record {
-      grows = Grows-made c.args.branches.now.items (record { after = c.new.result; standing = None }) c.index_mut-branch.result.now
+      grows = GrowsBranch-made c.args.branches.now.items (record { after = c.new.result; standing = None }) c.index_mut-branch.result.now
           (record { after = c.insert.new.self; standing = c.index_mut-branch.result.now.standing }) c.args.at c.args.number
           c.requires (rw pushed at read) refl (λ q. rw c.new.ensures.empty refl) refl (updates.1 ∙ ap (λ z. Some z) place)
           (λ q f. updates.2 q (sym (unsigned_ties c.args.number q) ∙ not_equal c.args.number q f)) none;

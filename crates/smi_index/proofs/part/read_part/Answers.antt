@@ -1,7 +1,7 @@
 use Rattle.std.proofs.Common.{◌≡◌, ℕ, List, Bor, Option, Some, None, IfSome, IfNone, option_map}
 use Rattle.std.proofs.Common.{◌∙◌, sym}
 use Rattle.smi_index.specs.declared.part.IndexPart.{IndexPart}
-use Rattle.smi_index.specs.Index.{IsRead}
+use Rattle.smi_index.specs.Index.{ReadsValue}
 use Rattle.smi_index.specs.Reading.{front_of}
 use Rattle.smi_index.proofs.ReadingLemmas.{part_found, part_only}
 use Rattle.smi_index.proofs.part.read_part.Goals as goal
@@ -10,12 +10,12 @@ abbrev Read : Type 0
 Read = Option (Bor (List ℕ) × Bor (List ℕ))
 
 found : (part : IndexPart) (numbers : List ℕ) (read : Read) → option_map (λ r. (r.0.now, r.1.now)) read ≡ front_of part numbers
-    → IfSome read (λ r. IsRead part numbers r.0.now r.1.now)
+    → IfSome read (λ r. ReadsValue part numbers r.0.now r.1.now)
 found part numbers None h = tt
 found part numbers (Some r) h = part_found part numbers r.0.now r.1.now (sym h)
 
 none : (part : IndexPart) (numbers : List ℕ) (read : Read) → option_map (λ r. (r.0.now, r.1.now)) read ≡ front_of part numbers
-    → IfNone read ((value rest : List ℕ) → IsRead part numbers value rest → ⊥)
+    → IfNone read ((value rest : List ℕ) → ReadsValue part numbers value rest → ⊥)
 none part numbers None h = λ value rest is. (let e = h ∙ part_only part numbers value rest is in cc)
 none part numbers (Some r) h = tt
 

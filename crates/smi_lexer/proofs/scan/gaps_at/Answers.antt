@@ -2,7 +2,7 @@ use Rattle.std.proofs.Common.{sym, ◌∙◌, ◌+◌, ap, subst, drop, arith, g
 use Rattle.std.proofs.lemmas.Bool.{ne_eqb}
 use Rattle.std.proofs.lemmas.List.{take_rest}
 use Rattle.smi_lexer.specs.Lexeme.{is_blank, is_hyphen}
-use Rattle.smi_lexer.specs.Reading.{IsLongestFront, Skips, is_comment_rest}
+use Rattle.smi_lexer.specs.Reading.{IsLongestPassing, Skips, is_comment_rest}
 use Rattle.smi_lexer.proofs.Gaps.{newlines-newline, newlines-other, skips_blank, skips_comment, gaps_end, gaps_stop}
 use Rattle.smi_lexer.proofs.Scans.{begins_at, begins_past}
 use Rattle.smi_lexer.proofs.scan.gaps_at.Goals as goal
@@ -43,7 +43,7 @@ gaps-preserved c =
     let text = c.args.text.now in
     let n = c.gaps.n in
     let k = c.comment_rest_len.result in
-    let front : IsLongestFront is_comment_rest (drop (n + 2) text) k = subst (λ s. IsLongestFront is_comment_rest s k) (take_rest text
+    let front : IsLongestPassing is_comment_rest (drop (n + 2) text) k = subst (λ s. IsLongestPassing is_comment_rest s k) (take_rest text
     (n + 2)) c.comment_rest_len.ensures in
     record {
       within = omega (arith, front.within, length-drop (n + 2) text);

@@ -2,7 +2,7 @@
 use Rattle.std.proofs.Common.{◌≡◌, ℕ, ◌+◌, ◌<◌, length, List, [], ◌∷◌, Option, Some, None, get_or, take, refl, sym, ap, ◌∙◌}
 use Rattle.std.proofs.lemmas.List.{take_more}
 use Rattle.std.specs.Option.{option_map}
-use Rattle.smi_module.specs.Lookup.{first_import, imports}
+use Rattle.smi_module.specs.Lookup.{first_import, is_imported_by}
 use Rattle.smi_module.specs.declared.tree.Import.{Import}
 use Rattle.smi_meaning.specs.Meaning.{imported, or_else}
 use Rattle.smi_meaning.proofs.Knowing.{KnowsMore-then, KnowsMore-same, find-append}
@@ -17,7 +17,7 @@ more : (is : List Import) (k : ℕ) (i : Import) (x : List ℕ) → k < length i
     ≡ option_map imported (first_import x (take (k + 1) is))
 more is k i x l e =
     merged (first_import x (take k is)) (first_import x (i ∷ []))
-    ∙ ap (λ o. option_map imported o) (sym (find-append (imports x) (take k is) (i ∷ [])) ∙ rw (take_more is k i l, sym e) refl)
+    ∙ ap (λ o. option_map imported o) (sym (find-append (is_imported_by x) (take k is) (i ∷ [])) ∙ rw (take_more is k i l, sym e) refl)
 
 pub imports-preserved : goal.imports-preserved
 imports-preserved c =

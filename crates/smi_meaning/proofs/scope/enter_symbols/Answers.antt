@@ -4,7 +4,7 @@ use Rattle.std.proofs.lemmas.List.{take_more, take_all}
 use Rattle.std.specs.List.{list_any}
 use Rattle.std.specs.Option.{option_map}
 use Rattle.smi_module.specs.Mark.{same_text}
-use Rattle.smi_module.specs.Lookup.{first_import, imports}
+use Rattle.smi_module.specs.Lookup.{first_import, is_imported_by}
 use Rattle.smi_module.specs.declared.tree.Import.{Import}
 use Rattle.smi_module.specs.declared.tree.TokenText.{TokenText}
 use Rattle.smi_meaning.specs.Meaning.{Decision, imported, or_else}
@@ -22,8 +22,8 @@ more ts k t x d l e =
     merged (list_any (λ s. same_text s.text x) (take k ts)) (same_text t.text x) d
     ∙ ap (λ b. cond b (Some d) None) (sym (list_any-push (λ s. same_text s.text x) (take k ts) t) ∙ rw (take_more ts k t l, sym e) refl)
 
-whole : (i : Import) (x : List ℕ) → cond (imports x i) (Some (imported i)) None ≡ option_map imported (first_import x (i ∷ []))
-whole i x = by (imports x i)
+whole : (i : Import) (x : List ℕ) → cond (is_imported_by x i) (Some (imported i)) None ≡ option_map imported (first_import x (i ∷ []))
+whole i x = by (is_imported_by x i)
   where
     by : (b : Bool) → cond b (Some (imported i)) None ≡ option_map imported (cond b (Some i) None)
     by true = refl

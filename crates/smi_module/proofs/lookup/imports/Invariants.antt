@@ -5,4 +5,4 @@ use Rattle.smi_module.specs.Lookup as lookup
 use Rattle.smi_module.proofs.lookup.imports.Given as goal
 
 abbrev pub invariant-loop-symbol : goal.invariant-loop-symbol
-invariant-loop-symbol l = list_any (λ s. same_text s.text l.name) (drop l.symbol-index l.symbol-items) ≡ lookup.imports l.name l.fn.import
+invariant-loop-symbol l = list_any (λ s. same_text s.text l.name) (drop l.symbol-index l.symbol-items) ≡ lookup.is_imported_by l.name l.fn.import

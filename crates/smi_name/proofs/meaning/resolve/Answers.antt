@@ -1,6 +1,6 @@
 use Rattle.std.proofs.Common.{◌∙◌, ap, sym, subst}
 use Rattle.smi_name.specs.Meaning.{meaning}
-use Rattle.smi_name.specs.Meant.{Means}
+use Rattle.smi_name.specs.Meant.{TextMeans}
 use Rattle.smi_name.proofs.MeantTexts.{means}
 use Rattle.smi_name.proofs.ReadBack.{Known, name_back, written_numeral}
 use Rattle.smi_name.proofs.meaning.resolve.Goals as goal
@@ -19,4 +19,4 @@ returns-clause-reads_back g c = λ form numeric_index o reads is shown. (
 pub returns-clause-stated : goal.returns-clause-stated
 returns-clause-stated g c =
     let naming = g.T.NameTree.naming c.args.tree.now in
-    subst (Means naming c.args.text.now) (sym c.meaning_of.ensures) (means naming c.args.text.now)
+    subst (TextMeans naming c.args.text.now) (sym c.meaning_of.ensures) (means naming c.args.text.now)

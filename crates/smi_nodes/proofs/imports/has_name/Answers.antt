@@ -2,9 +2,10 @@
 use Rattle.std.proofs.Common.{Some, ◌∙◌}
 use Rattle.smi_meaning.specs.Meaning.{module_named}
 use Rattle.smi_meaning.specs.Scopes.{decision_of}
-use Rattle.smi_nodes.proofs.Importing.{has_name-by}
+use Rattle.smi_nodes.proofs.Importing.{defines_or_imports-by}
 use Rattle.smi_nodes.proofs.imports.has_name.Goals as goal
 
 pub returns-in-Some : goal.returns-in-Some
 returns-in-Some c =
-    c.is_stated.ensures ∙ has_name-by (module_named c.args.names.now c.args.home.now) c.args.name.now (Some (decision_of c.in-Some.decider)) c.in-Some.ensures
+    c.is_stated.ensures ∙ defines_or_imports-by (module_named c.args.names.now c.args.home.now) c.args.name.now (Some (decision_of c.in-Some.decider))
+    c.in-Some.ensures

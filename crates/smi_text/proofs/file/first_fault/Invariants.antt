@@ -1,7 +1,7 @@
 use Rattle.std.proofs.Common.{◌≡◌, List, []}
-use Rattle.smi_lexer.specs.Token.{Item, fault_of}
+use Rattle.smi_lexer.specs.Token.{Item, first_fault}
 use Rattle.smi_lexer.specs.Lexes.{Lexes}
 use Rattle.smi_text.proofs.file.first_fault.Given as goal
 
 abbrev pub invariant-each : goal.invariant-each
-invariant-each l = (all : List Item) × Lexes [] l.text all × (fault_of l.item-iterator ≡ fault_of all)
+invariant-each l = (all : List Item) × Lexes [] l.text all × (first_fault l.item-iterator ≡ first_fault all)

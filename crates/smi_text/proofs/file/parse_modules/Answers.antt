@@ -1,13 +1,13 @@
 use Rattle.std.proofs.Common.{◌≡◌, ℕ, List, [], Some, ◌∙◌, sym, ap, subst}
-use Rattle.smi_lexer.specs.Token.{Item, tokens_of, fault_of}
+use Rattle.smi_lexer.specs.Token.{Item, tokens_of, first_fault}
 use Rattle.smi_lexer.specs.Lexes.{Lexes}
 use Rattle.smi_text.specs.declared.error.ParseError.{ParseError}
 use Rattle.smi_text.specs.declared.error.ParseError.TheVariants as E
 use Rattle.smi_module.specs.declared.tree.Module.{Module}
 use Rattle.smi_module.specs.Mark.{Stands}
 use Rattle.smi_module.specs.Spelling.{spelling}
-use Rattle.smi_text.specs.Text.{Spells, HasNoDoubles, IsCause}
-use Rattle.smi_text.specs.Gives.{ReadsModules, ModulesFault, IsLexFault, IsCauseOf}
+use Rattle.smi_text.specs.Text.{AreSpelledBy, HasNoDoubles, IsCause}
+use Rattle.smi_text.specs.Returned.{ReadsModules, ModulesFault, IsLexFault, IsCauseOf}
 use Rattle.smi_text.specs.Grammar.{file}
 use Rattle.smi_text.proofs.Laws.{some-inj}
 use Rattle.smi_text.proofs.DefinitionLists.{file-stands, file-reads}
@@ -16,13 +16,13 @@ use Rattle.smi_text.proofs.Tokens.{taken-whole, taken-stands, taken-no_fault, do
 use Rattle.smi_text.proofs.file.parse_modules.Goals as goal
 
 module _ (text : List ℕ) (items : List Item) (lexed : Lexes [] text items) (sole : (others : List Item) → Lexes [] text others → others ≡ items) where
-  reads : (ms : List Module) → Spells ms text → file.read items ≡ Some (ms, [])
+  reads : (ms : List Module) → AreSpelledBy ms text → file.read items ≡ Some (ms, [])
   reads ms s =
       let same : s.items ≡ items = sole s.items s.lexed in
       let P : List Item → Type 0 = λ ts. Stands (spelling ms) (tokens_of ts) [] in
-      file-reads ms items (taken-whole (spelling ms) items (ap fault_of (sym same) ∙ s.whole) (subst P same s.spelled))
+      file-reads ms items (taken-whole (spelling ms) items (ap first_fault (sym same) ∙ s.whole) (subst P same s.spelled))
 
-  found : (ms : List Module) → ReadsModules ms items → Spells ms text × HasNoDoubles ms
+  found : (ms : List Module) → ReadsModules ms items → AreSpelledBy ms text × HasNoDoubles ms
   found ms r =
       let taken = file-stands ms items [] r.read in (
         record {
@@ -35,7 +35,7 @@ module _ (text : List ℕ) (items : List Item) (lexed : Lexes [] text items) (so
         r.distinct,
       )
 
-  only : (ms found : List Module) → ReadsModules found items → Spells ms text → found ≡ ms
+  only : (ms found : List Module) → ReadsModules found items → AreSpelledBy ms text → found ≡ ms
   only ms found r s = ap (λ (p : List Module × List Item). p.0) (some-inj {A = List Module × List Item} (found, []) (ms, []) (sym r.read ∙ reads ms s))
 
   lex-cause : (error : ParseError) → ((ms : List Module) → file.read items ≡ Some (ms, []) → ⊥) → IsLexFault error text → IsCause error text
@@ -52,7 +52,7 @@ module _ (text : List ℕ) (items : List Item) (lexed : Lexes [] text items) (so
       subst P (sym e) (record { items = items; lexed = lexed; again = double-token line items f })
   cause E.Memory error f e = let P : ParseError → Type 0 = λ r. IsCause r text in subst P (sym e) tt
 
-  refused : (stop error : ParseError) → ModulesFault stop items → IsCauseOf stop error text → (ms : List Module) → Spells ms text → HasNoDoubles ms
+  refused : (stop error : ParseError) → ModulesFault stop items → IsCauseOf stop error text → (ms : List Module) → AreSpelledBy ms text → HasNoDoubles ms
       → error ≡ E.Memory
   refused (E.Lex fault) error f e ms s n = absurd (f ms (reads ms s))
   refused (E.Syntax line) error f e ms s n = absurd (f ms (reads ms s))

@@ -5,7 +5,7 @@ use Rattle.std.specs.Fmt.{signed_decimal}
 use Rattle.std.specs.Option.{option_copied}
 use Rattle.std.proofs.lemmas.Int.{to_z-of_z}
 use Rattle.smi_value.specs.declared.base.ValueBase.TheVariants as base
-use Rattle.smi_value.specs.Syntax.{syntax_at, name_of}
+use Rattle.smi_value.specs.Syntax.{syntax_at, name_of_number}
 use Rattle.smi_value.specs.Pieces.{type_word, named_text}
 use Rattle.smi_value.specs.Value.{IsIntegerText}
 use Rattle.smi_value.proofs.Lists.{adds_from}
@@ -21,7 +21,7 @@ returns-in-Some c =
     let from : c.from.result ≡ c.args.n = c.from.ensures ∙ same in
     let fits : SFits w128 c.from.result = assumption in
     let wide : to_z w128 (of_z w128 c.from.result) ≡ c.args.n = to_z-of_z w128 c.from.result fits ∙ from in
-    let named : Some c.in-Some.name.now ≡ name_of at.names c.args.n = rw (wide, k) at h in
+    let named : Some c.in-Some.name.now ≡ name_of_number at.names c.args.n = rw (wide, k) at h in
     let P : Option (List ℕ) → Type 0 = λ name. IsIntegerText c.args.letters.now at c.args.n name text in
     let adds = adds_from _ _ _ (c.append_named.ensures.goes_on _ _ c.append_word.ensures.grows) in
     (text, subst P named refl, rw same at adds)

@@ -3,7 +3,7 @@ use Rattle.std.proofs.lemmas.List.{length-take}
 use Rattle.std.proofs.lemmas.Slice.Eq.{bytes_eq-Decides}
 use Rattle.smi_index.specs.declared.part.IndexPart.{IndexPart}
 use Rattle.smi_module.specs.Word.{is_word}
-use Rattle.smi_name.specs.Naming.{Naming, Standing, IsSound, LeadsTo}
+use Rattle.smi_name.specs.Naming.{Naming, Standing, IsSound, LabelLeadsTo}
 use Rattle.name_tests.specs.Sample.{begins_with, root_node, column_node, deepest_in, sample}
 use Rattle.name_tests.proofs.sample.SampleNameTree.sound.Goals as goal
 
@@ -32,7 +32,7 @@ node_cases root column index o node h = at_tests root column index o node (begin
 -- what is said of a node, at both nodes
 abbrev Says : Naming → List ℕ → Standing → Type 0
 Says naming o node =
-    (node.depth ≤ length o) × (is_word node.label ≡ true) × LeadsTo naming node.home node.label (take node.depth o)
+    (node.depth ≤ length o) × (is_word node.label ≡ true) × LabelLeadsTo naming node.home node.label (take node.depth o)
 
 at_column : (root parent column : List ℕ) (index : List IndexPart) (o : List ℕ) → take (length column) o ≡ column
     → Says (sample root parent column index) o (column_node column index)

@@ -3,7 +3,7 @@ use Rattle.std.proofs.Common.{◌≡◌, length, Some, None, refl, sym, inl, inr
 use Rattle.std.proofs.lemmas.Option.{slice_get_read}
 use Rattle.std.specs.List.{slice_get}
 use Rattle.smi_module.specs.declared.tree.Def.{Def}
-use Rattle.smi_meaning.specs.Meaning.{Place, defined}
+use Rattle.smi_meaning.specs.Meaning.{QualifiedName, defined}
 use Rattle.smi_meaning.specs.Scopes.{content_of, decision_of}
 use Rattle.smi_columns.proofs.Naming.{definition_of_end, undefined_past, undefined_ring, undefined_end, undefined_other}
 use Rattle.smi_columns.proofs.definitions.Definitions.find.Goals as goal
@@ -12,7 +12,7 @@ pub returns-in_err-get : goal.returns-in_err-get
 returns-in_err-get c =
     let s = c.self.inside in
     let modules : c.self.inside.entries.modules ≡ c.args.self.now = c.self.view_is in
-    let p : Place = record { home = c.args.home.now; name = c.args.name.now } in
+    let p : QualifiedName = record { home = c.args.home.now; name = c.args.name.now } in
     rw (c.from_residual.ensures, ← modules) (undefined_past s.entries.modules s.entries.names s.ends.items c.self.invariant p c.place-place.result
     c.place-place.ensures (rw c.deref.ensures.value at c.in_err-get.ensures.lookup.3))
 
@@ -20,7 +20,7 @@ pub returns-in_err-end : goal.returns-in_err-end
 returns-in_err-end c =
     let s = c.self.inside in
     let modules : c.self.inside.entries.modules ≡ c.args.self.now = c.self.view_is in
-    let p : Place = record { home = c.args.home.now; name = c.args.name.now } in
+    let p : QualifiedName = record { home = c.args.home.now; name = c.args.name.now } in
     let read = slice_get_read c.deref.result.now (length c.deref.result.now) c.place-place.result c.in_ok-get.field-0.now refl c.in_ok-get.ensures.lookup.3.0
     c.in_ok-get.ensures.lookup.1 in
     let none : slice_get c.self.inside.ends.items c.place-place.result ≡ Some None = rw (c.deref.ensures.value, c.in_err-end.was) at read in
@@ -31,7 +31,7 @@ pub returns-in_err-entry : goal.returns-in_err-entry
 returns-in_err-entry c =
     let s = c.self.inside in
     let modules : c.self.inside.entries.modules ≡ c.args.self.now = c.self.view_is in
-    let p : Place = record { home = c.args.home.now; name = c.args.name.now } in
+    let p : QualifiedName = record { home = c.args.home.now; name = c.args.name.now } in
     let read = slice_get_read c.deref.result.now (length c.deref.result.now) c.place-place.result c.in_ok-get.field-0.now refl c.in_ok-get.ensures.lookup.3.0
     c.in_ok-get.ensures.lookup.1 in
     let end : slice_get c.self.inside.ends.items c.place-place.result ≡ Some (Some c.in_ok-end.end) = rw (c.deref.ensures.value, c.in_ok-end.was) at read in
@@ -43,7 +43,7 @@ returns-in-Definition c =
     let s = c.self.inside in
     let entry = c.in_ok-entry.entry in
     let modules : c.self.inside.entries.modules ≡ c.args.self.now = c.self.view_is in
-    let p : Place = record { home = c.args.home.now; name = c.args.name.now } in
+    let p : QualifiedName = record { home = c.args.home.now; name = c.args.name.now } in
     let read = slice_get_read c.deref.result.now (length c.deref.result.now) c.place-place.result c.in_ok-get.field-0.now refl c.in_ok-get.ensures.lookup.3.0
     c.in_ok-get.ensures.lookup.1 in
     let end : slice_get c.self.inside.ends.items c.place-place.result ≡ Some (Some c.in_ok-end.end) = rw (c.deref.ensures.value, c.in_ok-end.was) at read in
@@ -65,7 +65,7 @@ returns-in-Import c =
     let s = c.self.inside in
     let entry = c.in_ok-entry.entry in
     let modules : c.self.inside.entries.modules ≡ c.args.self.now = c.self.view_is in
-    let p : Place = record { home = c.args.home.now; name = c.args.name.now } in
+    let p : QualifiedName = record { home = c.args.home.now; name = c.args.name.now } in
     let read = slice_get_read c.deref.result.now (length c.deref.result.now) c.place-place.result c.in_ok-get.field-0.now refl c.in_ok-get.ensures.lookup.3.0
     c.in_ok-get.ensures.lookup.1 in
     let end : slice_get c.self.inside.ends.items c.place-place.result ≡ Some (Some c.in_ok-end.end) = rw (c.deref.ensures.value, c.in_ok-end.was) at read in

@@ -1,7 +1,7 @@
 -- By the syntax of the object.
 use Rattle.std.proofs.Common.{rules, ◌≡◌, IsTrue}
 use Rattle.smi_types.specs.Kept.{facts_of}
-use Rattle.smi_columns.specs.Definitions.{place_in}
+use Rattle.smi_columns.specs.Definitions.{qualified_name}
 use Rattle.smi_columns.specs.Named.{IsFoundAt}
 use Rattle.smi_columns.proofs.Parting.{part_untyped, part_read}
 use Rattle.smi_columns.proofs.objects.Objects.part.Goals as goal
@@ -9,7 +9,7 @@ use Rattle.smi_columns.proofs.objects.Objects.part.Goals as goal
 pub returns-in_err-syntax : goal.returns-in_err-syntax
 returns-in_err-syntax c =
     let ms : c.self.inside.modules.now ≡ c.args.self.now = c.self.view_is in
-    let found : IsFoundAt c.args.self.now (place_in c.args.home.now c.args.name.now.octets) c.in_ok-module.module c.in_ok-module.def =
+    let found : IsFoundAt c.args.self.now (qualified_name c.args.home.now c.args.name.now.octets) c.in_ok-module.module c.in_ok-module.def =
     rw (c.self.invariant.0, ms, c.as_bytes-home.ensures.octets, c.as_bytes-name.ensures.octets) at c.in_ok-module.ensures in
     rw c.from_residual-in_err-syntax.ensures (part_untyped c.args.self.now c.args.home.now c.args.name.now.octets c.in_ok-module.module c.in_ok-module.def
     found c.args.implied (rw ms at c.in_err-syntax.ensures))
@@ -17,7 +17,7 @@ returns-in_err-syntax c =
 pub returns : goal.returns
 returns c =
     let ms : c.self.inside.modules.now ≡ c.args.self.now = c.self.view_is in
-    let found : IsFoundAt c.args.self.now (place_in c.args.home.now c.args.name.now.octets) c.in_ok-module.module c.in_ok-module.def =
+    let found : IsFoundAt c.args.self.now (qualified_name c.args.home.now c.args.name.now.octets) c.in_ok-module.module c.in_ok-module.def =
     rw (c.self.invariant.0, ms, c.as_bytes-home.ensures.octets, c.as_bytes-name.ensures.octets) at c.in_ok-module.ensures in
     let holds : IsTrue c.has_identifier.result = search rules in
     let identifier = rw (c.as_bytes-home.ensures.octets, c.as_bytes-name.ensures.octets) at (c.has_identifier.ensures.0 holds) in

@@ -2,7 +2,7 @@
 use Rattle.std.proofs.Common.{rules, ◌≡◌, ◌<◌, [], ◌∷◌, ◌++◌, length, Some, refl}
 use Rattle.std.proofs.lemmas.Option.{slice_get_read}
 use Rattle.std.specs.List.{slice_get}
-use Rattle.smi_columns.specs.Index.{IsPart, is_implied}
+use Rattle.smi_columns.specs.Index.{IsIndexPart, is_implied}
 use Rattle.smi_columns.proofs.Listing.{AreFirst-more, AreParts-none}
 use Rattle.smi_columns.proofs.objects.Objects.parts.Goals as goal
 
@@ -12,7 +12,7 @@ names-preserved c =
     let inside : c.names.i < length c.as_slice-names.result.now = search rules in
     let read = slice_get_read c.as_slice-names.result.now (length c.as_slice-names.result.now) i c.index-names-i.result refl inside c.index-names-i.is in
     let at : slice_get c.args.clause.now.names c.names.i ≡ Some c.index-names-i.result = rw c.as_slice-names.ensures at read in
-    let is : IsPart c.args.self.now c.args.home.now c.index-names-i.result.octets (is_implied c.args.clause.now c.names.i) c.in-Some.part =
+    let is : IsIndexPart c.args.self.now c.args.home.now c.index-names-i.result.octets (is_implied c.args.clause.now c.names.i) c.in-Some.part =
     rw c.is_implied.ensures at c.in-Some.ensures in
     let pushed : c.push.new.self.items ≡ c.names.parts.items ++ c.in-Some.part ∷ [] = search rules in
     rw pushed (AreFirst-more c.args.self.now c.args.home.now c.args.clause.now c.names.parts.items i c.index-names-i.result c.in-Some.part

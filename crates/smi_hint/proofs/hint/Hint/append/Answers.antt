@@ -1,7 +1,7 @@
 use Rattle.std.proofs.Common.{◌≡◌, ℕ, List, Option, None, MatchOption, is_some, true, sym, subst}
 use Rattle.smi_hint.specs.Number.{IsNumberHint}
 use Rattle.smi_hint.specs.Spec.{IsOctetHint}
-use Rattle.smi_hint.specs.Hint.{IsOf, IsOfNumbers, IsOfOctets}
+use Rattle.smi_hint.specs.Hint.{IsHintFor, IsOfNumbers, IsOfOctets}
 use Rattle.smi_hint.specs.declared.hint.HintValue.{HintValue}
 use Rattle.smi_hint.specs.declared.number.NumberForm.{NumberForm}
 use Rattle.smi_hint.specs.declared.spec.Spec.{Spec}
@@ -10,7 +10,7 @@ use Rattle.smi_hint.proofs.hint.Hint.append.Goals as goal
 
 pub unreachable-requires : goal.unreachable-requires
 unreachable-requires c =
-    let P : HintValue → Type 0 = λ v. IsOf c.args.self.now v in
+    let P : HintValue → Type 0 = λ v. IsHintFor c.args.self.now v in
     let h : IsOfNumbers c.args.self.now = subst P c.in-Number.is c.requires in
     let Q : List ℕ → Type 0 = λ t. IsOfNumbers t in
     let some = (number_is c.self.inside.number c.self.inside.text.now c.self.invariant).1 (subst Q (sym c.self.view_is) h) in
@@ -20,7 +20,7 @@ unreachable-requires c =
 
 pub unreachable-requires-in-Some-number : goal.unreachable-requires-in-Some-number
 unreachable-requires-in-Some-number c =
-    let P : HintValue → Type 0 = λ v. IsOf c.args.self.now v in
+    let P : HintValue → Type 0 = λ v. IsHintFor c.args.self.now v in
     let h : IsOfOctets c.args.self.now = subst P c.in-Octets.is c.requires in
     let Q : List ℕ → Type 0 = λ t. IsOfOctets t in
     let octets = subst Q (sym c.self.view_is) h in

@@ -2,7 +2,7 @@
 use Rattle.std.proofs.Common.{◌≡◌, ℕ, zero, suc, List, [], ◌∷◌, map, refl, sym, ◌∙◌}
 use Rattle.std.specs.List.{slice_get}
 use Rattle.std.specs.Option.{option_map}
-use Rattle.smi_meaning.specs.Meaning.{Place}
+use Rattle.smi_meaning.specs.Meaning.{QualifiedName}
 use Rattle.smi_meaning.specs.Directory.{place_by}
 use Rattle.smi_meaning.specs.Scopes.{content_of}
 use Rattle.smi_meaning.proofs.Equating.{entry_at}
@@ -15,7 +15,7 @@ get-map f (x ∷ xs) (suc p) = get-map f xs p
 
 pub returns : goal.returns
 returns c =
-    let a : Place = record { home = c.args.home.now; name = c.args.name.now } in
+    let a : QualifiedName = record { home = c.args.home.now; name = c.args.name.now } in
     let d = c.self.inside.directory.now in
     let at : c.place.result ≡ place_by d a = c.place.ensures in
     rw (sym c.self.view_is, at) (get-map content_of d.entries.items (place_by d a) ∙ entry_at c.self.inside.modules.now d c.self.invariant a)

@@ -1,14 +1,14 @@
 -- The name is decided as its place says.
 use Rattle.std.proofs.Common.{rules, ◌≡◌, Some, None, refl, sym, ◌∙◌}
 use Rattle.std.specs.List.{slice_get}
-use Rattle.smi_meaning.specs.Meaning.{Place, module_named}
+use Rattle.smi_meaning.specs.Meaning.{QualifiedName, module_named}
 use Rattle.smi_meaning.specs.Directory.{place_by}
 use Rattle.smi_meaning.proofs.Equating.{looked_up, entry_at, decided_at}
 use Rattle.smi_meaning.proofs.names.Names.decider.Goals as goal
 
 pub returns-in_err-entry : goal.returns-in_err-entry
 returns-in_err-entry c =
-    let a : Place = record { home = c.args.home.now; name = c.args.name.now } in
+    let a : QualifiedName = record { home = c.args.home.now; name = c.args.name.now } in
     let d = c.self.inside.directory in
     let es = c.self.inside.directory.entries.items in
     let out : c.from_residual.result ≡ None = search rules in
@@ -24,7 +24,7 @@ returns-in_err-entry c =
 
 pub returns : goal.returns
 returns c =
-    let a : Place = record { home = c.args.home.now; name = c.args.name.now } in
+    let a : QualifiedName = record { home = c.args.home.now; name = c.args.name.now } in
     let d = c.self.inside.directory in
     let es = c.self.inside.directory.entries.items in
     let at : c.place-place.result ≡ place_by d a = c.place-place.ensures in

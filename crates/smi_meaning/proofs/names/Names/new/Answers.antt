@@ -2,7 +2,7 @@
 use Rattle.std.proofs.Common.{◌≡◌}
 use Rattle.smi_meaning.specs.Resolved.{IsDirectory}
 use Rattle.smi_meaning.specs.declared.directory.Directory.{Directory}
-use Rattle.smi_meaning.proofs.Equating.{IsResolved-all}
+use Rattle.smi_meaning.proofs.Equating.{AreResolutions-all}
 use Rattle.smi_meaning.proofs.names.Names.new.Goals as goal
 
 pub invariant_of-result : goal.invariant_of-result
@@ -12,4 +12,4 @@ invariant_of-result c =
     let list : c.deref.result.now ≡ c.in_ok-bases.bases.items = c.deref.ensures.value in
     let long = rw list at c.in_ok-resolutions.ensures.length in
     let each = rw list at c.in_ok-resolutions.ensures.each in
-    IsResolved-all c.args.modules.now d dir c.in_ok-bases.bases.items c.in_ok-bases.ensures c.in_ok-resolutions.resolutions.items long each
+    AreResolutions-all c.args.modules.now d dir c.in_ok-bases.bases.items c.in_ok-bases.ensures c.in_ok-resolutions.resolutions.items long each

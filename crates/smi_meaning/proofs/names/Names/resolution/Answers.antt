@@ -1,13 +1,13 @@
 -- The name comes to what its place has.
 use Rattle.std.proofs.Common.{◌≡◌, sym}
-use Rattle.smi_meaning.specs.Meaning.{Place}
+use Rattle.smi_meaning.specs.Meaning.{QualifiedName}
 use Rattle.smi_meaning.specs.Directory.{place_by}
 use Rattle.smi_meaning.proofs.Equating.{looked_up, resolved}
 use Rattle.smi_meaning.proofs.names.Names.resolution.Goals as goal
 
 pub returns : goal.returns
 returns c =
-    let a : Place = record { home = c.args.home.now; name = c.args.name.now } in
+    let a : QualifiedName = record { home = c.args.home.now; name = c.args.name.now } in
     let d = c.self.inside.directory in
     let rs = c.self.inside.resolutions.items in
     let at : c.place-place.result ≡ place_by d a = c.place-place.ensures in

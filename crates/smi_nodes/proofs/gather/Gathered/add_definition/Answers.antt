@@ -8,9 +8,9 @@ use Rattle.smi_links.specs.declared.basis.Resolution.TheVariants as R
 use Rattle.smi_module.specs.declared.tree.Module.{Module}
 use Rattle.smi_module.specs.declared.tree.Def.{Def}
 use Rattle.smi_module.specs.declared.tree.Part.{Part}
-use Rattle.smi_module.specs.Lookup.{identifier_of}
+use Rattle.smi_module.specs.Lookup.{identifier_value_of}
 use Rattle.smi_meaning.specs.Meaning.{origin}
-use Rattle.smi_nodes.specs.Gathered.{Extends, AddsDefinition, IsSourceOf}
+use Rattle.smi_nodes.specs.Gathered.{GrowsByDefinition, AddsDefinition, IsSourceOf}
 use Rattle.smi_nodes.specs.declared.source.Source.{Source}
 use Rattle.smi_nodes.specs.declared.gather.Gathered.{Gathered}
 use Rattle.smi_nodes.proofs.Gathering.{AddsDefinition-by, AddsDefinition-none}
@@ -25,24 +25,24 @@ some_of None e = cc
 some_of (Some v) e = (v, refl)
 
 added : (ms : List Module) (old new : Gathered) (s : Source) (m : Module) (d : Def) (r : Resolution) (v : List Part) (out : Result (Unit {0}) AllocError)
-    → length old.sources.items ≡ length old.oids.items → IsSourceOf ms s m d → identifier_of d.kind ≡ Some v
+    → length old.sources.items ≡ length old.oids.items → IsSourceOf ms s m d → identifier_value_of d.kind ≡ Some v
     → ComesTo (origin ms) (record { home = m.name.octets; name = d.label.octets }) r
-    → OnOk out (Extends old new s m d r) → OnOk out (AddsDefinition ms old new m d)
+    → OnOk out (GrowsByDefinition old new s m d r) → OnOk out (AddsDefinition ms old new m d)
 added ms old new s m d r v (Ok u) long is value comes e = AddsDefinition-by ms old new s m d r v long is value comes e
 added ms old new s m d r v (Err x) long is value comes e = tt
 
 pub returns-then-is_none : goal.returns-then-is_none
 returns-then-is_none c =
-    let none : is_some (identifier_of c.args.def.now.kind) ≡ false = search rules in
+    let none : is_some (identifier_value_of c.args.def.now.kind) ≡ false = search rules in
     record {
       added = AddsDefinition-none c.args.names.now c.args.self.now c.args.module.now c.args.def.now c.requires.long
-          (none_of (identifier_of c.args.def.now.kind) none);
+          (none_of (identifier_value_of c.args.def.now.kind) none);
     }
 
 pub returns-in-Some : goal.returns-in-Some
 returns-in-Some c =
-    let some : is_some (identifier_of c.args.def.now.kind) ≡ true = search rules in
-    let v = some_of (identifier_of c.args.def.now.kind) some in
+    let some : is_some (identifier_value_of c.args.def.now.kind) ≡ true = search rules in
+    let v = some_of (identifier_value_of c.args.def.now.kind) some in
     let comes : ComesTo (origin c.args.names.now)
     (record { home = c.args.module.now.name.octets; name = c.args.def.now.label.octets }) c.in-Some.resolution.now =
     rw (sym c.as_bytes.ensures.octets, sym c.as_bytes-2.ensures.octets) c.in-Some.ensures in
@@ -53,8 +53,8 @@ returns-in-Some c =
 
 pub returns-in-None : goal.returns-in-None
 returns-in-None c =
-    let some : is_some (identifier_of c.args.def.now.kind) ≡ true = search rules in
-    let v = some_of (identifier_of c.args.def.now.kind) some in
+    let some : is_some (identifier_value_of c.args.def.now.kind) ≡ true = search rules in
+    let v = some_of (identifier_value_of c.args.def.now.kind) some in
     let comes : ComesTo (origin c.args.names.now) (record { home = c.args.module.now.name.octets; name = c.args.def.now.label.octets }) R.Unresolved =
     rw (sym c.as_bytes.ensures.octets, sym c.as_bytes-2.ensures.octets) (here c.in-None.ensures) in
     record {

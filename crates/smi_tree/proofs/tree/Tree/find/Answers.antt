@@ -2,7 +2,7 @@
 use Rattle.std.proofs.Common.{rules, ◌≡◌, Some, None, refl, sym, ◌∙◌}
 use Rattle.std.specs.List.{slice_get}
 use Rattle.smi_meaning.specs.Names.{module_place}
-use Rattle.smi_tree.specs.Places.{place_in, place_at}
+use Rattle.smi_tree.specs.Places.{kept_place, place_at}
 use Rattle.smi_tree.proofs.Bridging.{in_module-some, in_module-none}
 use Rattle.smi_tree.proofs.tree.Tree.find.Goals as goal
 use Rattle.smi_tree.proofs.tree.Tree.find.Goals.{In-Some}
@@ -13,7 +13,7 @@ placed c = sym (c.self.invariant.homes c.args.home.now) ∙ sym c.in-Some.ensure
 pub returns-in_default : goal.returns-in_default
 returns-in_default c =
     let i = c.self.inside in
-    let none : place_in i.homes c.args.home.now ≡ None = search rules in
+    let none : kept_place i.homes c.args.home.now ≡ None = search rules in
     let place = sym (c.self.invariant.homes c.args.home.now) ∙ none in
     rw (sym c.self.view_is) (sym (in_module-none i.modules.items i.sources.items i.identifiers c.args.home.now c.args.label.now c.self.invariant.long place))
 

@@ -23,7 +23,7 @@ use Rattle.smi_text.specs.declared.stop.Stop.TheVariants.{Syntax, Lex, Memory}
 use Rattle.smi_text.specs.declared.error.ParseError.{ParseError}
 use Rattle.smi_text.specs.declared.error.ParseError.TheVariants as E
 use Rattle.smi_module.specs.Mark.{same_text}
-use Rattle.smi_text.specs.Format.{Reading, Takes, token_ahead, begins, many}
+use Rattle.smi_text.specs.Format.{Reading, StandsAhead, token_ahead, begins, many}
 use Rattle.smi_text.specs.Grammar.{definition, module_text, file}
 use Rattle.smi_module.specs.Spelling.{of_def, of_head, spelling}
 use Rattle.smi_module.specs.Lookup.{labels, are_distinct}
@@ -42,9 +42,9 @@ is_memory (Lex fault) = false
 
 -- the part and the tokens after it, as they are read; or a stop, where no part stands or memory ran
 -- out
-abbrev pub Gives : {A : Type 0} → Result A Stop → List Item → Reading A → Type 0
-Gives (Ok x) rest r = r ≡ Some (x, rest)
-Gives (Err e) rest r = is_memory e ≡ false → r ≡ None
+abbrev pub ReturnsReading : {A : Type 0} → Result A Stop → List Item → Reading A → Type 0
+ReturnsReading (Ok x) rest r = r ≡ Some (x, rest)
+ReturnsReading (Err e) rest r = is_memory e ≡ false → r ≡ None
 
 -- the error that reports a stop
 abbrev pub error_of : Stop → ParseError
@@ -74,7 +74,7 @@ pub record RepeatsIn (line : ℕ) (items : List Item) : Type 0 where
   pub once : are_distinct (labels before) ≡ true
   pub second : Def
   pub rest : List Item
-  pub stands : Takes (flat_map of_def before ++ of_def second) items rest
+  pub stands : StandsAhead (flat_map of_def before ++ of_def second) items rest
   pub defined : list_any (same_text second.label.octets) (labels before) ≡ true
   pub on_line : second.line ≡ line
 
@@ -98,7 +98,7 @@ pub record OpensTwice (line : ℕ) (tokens : List Item) : Type 0 where
   pub heading : Option (List Part)
   pub imports : Option (List Import)
   pub body : List Item
-  pub stands : Takes (of_head name heading imports) tokens body
+  pub stands : StandsAhead (of_head name heading imports) tokens body
   pub twice : RepeatsIn line body
 
 abbrev pub ModuleFault : ParseError → List Item → Type 0
@@ -119,7 +119,7 @@ pub record RepeatsAgain (line : ℕ) (items : List Item) : Type 0 where
   pub heading : Option (List Part)
   pub imports : Option (List Import)
   pub body : List Item
-  pub stands : Takes (spelling modules ++ of_head name heading imports) items body
+  pub stands : StandsAhead (spelling modules ++ of_head name heading imports) items body
   pub twice : RepeatsIn line body
 
 abbrev pub ModulesFault : ParseError → List Item → Type 0
