@@ -1,31 +1,10 @@
 -- What is taken piece by piece.
-use Rattle.std.proofs.Common.{◌≡◌, ◌∙◌, ◌+◌, ◌-◌, ◌++◌, ℕ, List, [], Option, Some, None, take, drop}
-use Rattle.std.proofs.Common.{length, ap, refl, sym, subst, append_assoc, length-drop, append-nil}
+use Rattle.std.proofs.Common.{◌≡◌, ◌∙◌, ◌+◌, ◌-◌, ◌++◌, ℕ, List, take, drop, length, ap, sym, subst, length-drop}
 use Rattle.std.proofs.Math.Seq.{take-add, take-length}
 use Rattle.std.proofs.lemmas.List.{take-append-drop}
 use Rattle.snmp_io.specs.Count.{HasRisen}
-use Rattle.snmp_io.specs.Output.{FailsWithin, Stream, appended, extended}
-
--- one text after the other
-appended-twice : (before : Option (List ℕ)) (a b : List ℕ) → appended (appended before a) b ≡ appended before (a ++ b)
-appended-twice None a b = refl
-appended-twice (Some taken) a b = ap Some (append_assoc taken a b)
-
-appended-nil : (before : Option (List ℕ)) → appended before [] ≡ before
-appended-nil None = refl
-appended-nil (Some taken) = ap Some (append-nil taken)
-
--- the stream with other octets
-over : Stream → Option (List ℕ) → Stream
-over s o = record { taken = o; faults = s.faults }
-
-extended-twice : (before : Stream) (a b : List ℕ) → extended (extended before a) b ≡ extended before (a ++ b)
-unfolding over
-extended-twice before a b = ap (over before) (appended-twice before.taken a b)
-
-extended-nil : (before : Stream) → extended before [] ≡ before
-unfolding over
-extended-nil before = ap (over before) (appended-nil before.taken)
+use Rattle.snmp_io.specs.Output.{FailsWithin, Stream, extended}
+use Rattle.snmp_io.specs.Streams.{extended-twice}
 
 rest_whole : (w : ℕ) (text : List ℕ) → take (length text - w) (drop w text) ≡ drop w text
 rest_whole w text = ap (λ n. take n (drop w text)) (sym (length-drop w text)) ∙ take-length (drop w text)

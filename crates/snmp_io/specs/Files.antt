@@ -1,7 +1,23 @@
 -- What is known of files.
 use Rattle.std.specs.Prelude.{◌≡◌, ⊤, ℕ, List, Option, Some, None}
 
+-- what is known of files: by its path, the text of each, or that it has none
+abbrev pub Holdings : Type 0
+Holdings = List ℕ → Option (Option (List ℕ))
+
 -- where it is known what the path holds, it is this
 abbrev pub HoldsIfKnown : Option (Option (List ℕ)) → Option (List ℕ) → Type 0
 HoldsIfKnown None text = ⊤
 HoldsIfKnown (Some held) text = held ≡ text
+
+-- the file at a path is known to hold this text
+abbrev pub Holds : Holdings → (path text : List ℕ) → Type 0
+Holds files path text = files path ≡ Some (Some text)
+
+-- it holds this text, as far as that is known
+abbrev pub MayHold : Holdings → (path text : List ℕ) → Type 0
+MayHold files path text = HoldsIfKnown (files path) (Some text)
+
+-- it has no text, as far as that is known
+abbrev pub MayHoldNone : Holdings → (path : List ℕ) → Type 0
+MayHoldNone files path = HoldsIfKnown (files path) None

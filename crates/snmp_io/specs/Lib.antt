@@ -3,3 +3,5 @@ pub mod Files
 pub mod Machine
 pub mod Memory
 pub mod Output
+pub mod Steps
+pub mod Streams

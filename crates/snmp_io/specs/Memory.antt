@@ -4,7 +4,7 @@ use Rattle.std.specs.Borrow.{Bor}
 use Rattle.std.specs.Str.{bytes_eq}
 
 -- an output: what it took, the number of octets after which it fails, and how many writes failed
-pub record Kept : Type 0 where
+pub record KeptOutput : Type 0 where
   pub octets : List ℕ
   pub limit : ℕ
   pub faults : ℕ

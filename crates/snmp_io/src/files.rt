@@ -1,6 +1,6 @@
 //! Files, each of which holds a text at its path.
-ghost use Rattle.std.specs.Prelude.{◌≡◌, ℕ, List, Option, Some, None, IfOk, IsErrOf};
-ghost use Rattle.snmp_io.specs.Files.{HoldsIfKnown};
+ghost use Rattle.std.specs.Prelude.{IfOk, IsErrOf};
+ghost use Rattle.snmp_io.specs.Files.{Holdings, MayHold, MayHoldNone};
 
 use std::alloc::Global;
 use thiserror::Error;
@@ -19,12 +19,12 @@ pub enum FileFault {
 /// What holds texts by their paths.
 pub trait Files {
     /// Where it is known what a path holds: its text, which may be empty, or none.
-    ghost text_at: { Self → List ℕ → Option (Option (List ℕ)) };
+    ghost text_at: { Self → Holdings };
 
     /// The text that the path holds.
     fn read(&self, alloc: Global, path: &str) -> Result<Vec<u8>, FileFault>
         ensures text_held { IfOk result (λ text.
-            HoldsIfKnown (text_at self.now path.now) (Some text.items)) }
+            MayHold (text_at self.now) path.now text.items) }
         ensures none_held { IsErrOf result FileFault.Unreadable
-            → HoldsIfKnown (text_at self.now path.now) None };
+            → MayHoldNone (text_at self.now) path.now };
 }

@@ -1,6 +1,6 @@
 //! An output and files in memory, which keep every fact, for tests of what is written and read.
 ghost use Rattle.std.specs.Prelude.{◌≡◌, [], ◌∷◌, Some, option_map};
-ghost use Rattle.snmp_io.specs.Memory.{Kept, held_at};
+ghost use Rattle.snmp_io.specs.Memory.{KeptOutput, held_at};
 
 use crate::files::{FileFault, Files};
 use crate::output::{Output, OutputFault};
@@ -16,7 +16,7 @@ pub struct MemoryOutput {
 }
 
 impl Model for MemoryOutput {
-    ghost Value = { Kept };
+    ghost Value = { KeptOutput };
 
     ghost view = { λ o. record { octets = o.octets.items; limit = o.limit; faults = o.faults } };
 }
