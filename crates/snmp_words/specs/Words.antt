@@ -103,8 +103,8 @@ number_in low high text =
     (without_leading_plus text)) else None
 
 -- the number given for an id, or this one where none was
-abbrev pub number_of : Text → (default low high : ℕ) → List Row → ℕ
-number_of id default low high rows =
+abbrev pub number_or : Text → (default low high : ℕ) → List Row → ℕ
+number_or id default low high rows =
     unwrap_or (option_and_then (number_in low high) (first_of id rows)) default
 
 -- the greatest number of 64 bits
@@ -125,9 +125,9 @@ asking_of_rows rows = record {
   letters = joined_of (codes "letters") rows;
   protocol = text_or (codes "protocol") (codes "2c") rows;
   community = text_or (codes "community") (codes "public") rows;
-  retries = number_of (codes "retries") 5 0 1000 rows;
-  seconds = number_of (codes "seconds") 1 1 3600 rows;
-  max_size = number_of (codes "size") 1472 1 65507 rows;
+  retries = number_or (codes "retries") 5 0 1000 rows;
+  seconds = number_or (codes "seconds") 1 1 3600 rows;
+  max_size = number_or (codes "size") 1472 1 65507 rows;
   agent = text_or (codes "agent") [] rows;
 }
 
@@ -150,8 +150,8 @@ serve_of_rows rows = record {
   table = text_or (codes "table") [] rows;
   community = text_or (codes "community") (codes "public") rows;
   listen = text_or (codes "listen") (codes "127.0.0.1:161") rows;
-  max_size = number_of (codes "size") 1472 1 65507 rows;
-  turns = number_of (codes "turns") most_turns 0 most_turns rows;
+  max_size = number_or (codes "size") 1472 1 65507 rows;
+  turns = number_or (codes "turns") most_turns 0 most_turns rows;
 }
 
 -- the words of each command

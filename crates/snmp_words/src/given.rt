@@ -4,7 +4,7 @@ ghost use Rattle.std.specs.Prelude.{string_bytes};
 ghost use Rattle.clap.specs.Walk.{first_of, rows_of};
 ghost use Rattle.clap.specs.Words.{found_of, subcommand_rows_of};
 ghost use Rattle.snmp_words.specs.Words.{asking_of_rows, asking_words, get_of_rows, get_words};
-ghost use Rattle.snmp_words.specs.Words.{job_words, joined_of, number_in, number_of};
+ghost use Rattle.snmp_words.specs.Words.{job_words, joined_of, number_in, number_or};
 ghost use Rattle.snmp_words.specs.Words.{serve_of_rows, serve_words, stated_in, texts_at};
 ghost use Rattle.snmp_words.specs.Words.{texts_of, translate_of_rows, translate_words};
 ghost use Rattle.snmp_words.specs.Words.{walk_of_rows, walk_words};
@@ -136,7 +136,7 @@ fn joined(alloc: Global, given: &ArgMatches<'_>, id: &str) -> Result<String, All
 fn number(given: &ArgMatches<'_>, id: &str, default: u64, low: u64, high: u64) -> u64
     requires from { low ≤ default }
     requires to { default ≤ high }
-    ensures value { result ≡ number_of id.now default low high (rows_of (found_of given.now)) }
+    ensures value { result ≡ number_or id.now default low high (rows_of (found_of given.now)) }
     ensures from { low ≤ result }
     ensures to { result ≤ high }
 {
