@@ -1,6 +1,6 @@
 -- The modules of one file more, and that there is one list of them.
-use Rattle.std.proofs.Common.{◌≡◌, ◌∙◌, ◌⊎◌, inl, inr, ◌++◌, ◌+◌, ◌<◌, ap, ap₂, refl, sym, subst, ℕ, List, [], ◌∷◌, Bor, Option, Some, None, take, drop, length, get_or, unwrap_or}
-use Rattle.std.proofs.Common.{append_assoc, append-nil}
+use Rattle.std.proofs.Common.{◌≡◌, ◌∙◌, ◌⊎◌, inl, inr, ◌++◌, ◌+◌, ◌<◌, ap, ap₂, refl, sym, subst, ℕ, List, [], ◌∷◌, Bor, Option, Some}
+use Rattle.std.proofs.Common.{take, drop, length, get_or, unwrap_or, append_assoc, append-nil}
 use Rattle.std.proofs.lemmas.List.{drop_more, map-append, take-append-drop, take_more}
 use Rattle.text_draft.specs.Draft.{Adds, Grows, Written}
 use Rattle.smi_lexer.specs.Lexes.{Lexes}
@@ -9,8 +9,9 @@ use Rattle.smi_module.specs.Mark.{Stands}
 use Rattle.smi_module.specs.Spelling.{spelling}
 use Rattle.smi_module.specs.declared.tree.Module.{Module}
 use Rattle.smi_text.specs.Text.{AreSpelledBy}
-use Rattle.snmp_io.specs.Files.{HoldsIfKnown}
-use Rattle.smi_files.specs.Files.{AreModulesIn, AreModulesOf, FileFails, Holdings, Holds, IsRefused, MayHold, Refusal, no_memory, texts}
+use Rattle.snmp_io.specs.Files.{Holdings, Holds, HoldsIfKnown, MayHold}
+use Rattle.snmp_io.specs.Steps.{AreDone}
+use Rattle.smi_files.specs.Files.{AreModulesIn, AreModulesOf, FileFails, IsFilesRefusal, MayHoldModules, Refusal, no_memory, texts}
 
 pub AreModulesOf-more : (Held : (path text : List ℕ) → Type 0) (paths : List (List ℕ)) (path : List ℕ) (ms first : List Module)
     → AreModulesOf Held paths ms → AreModulesIn Held path first → AreModulesOf Held (paths ++ path ∷ []) (ms ++ first)
@@ -69,25 +70,24 @@ texts-parts paths i d inside =
     ∙ map-append (λ (p : Bor (List ℕ)). p.now) (take i paths) (drop i paths)
     ∙ ap (λ (rest : List (Bor (List ℕ))). texts (take i paths) ++ texts rest) (drop_more paths i d inside)
 
+-- each of the files whose modules were read holds modules
+are_read : (files : Holdings) (paths : List (List ℕ)) (ms : List Module) → AreModulesOf (MayHold files) paths ms → AreDone (MayHoldModules files) paths
+are_read files [] ms none = tt
+are_read files (path ∷ paths) ms (first, rest, is, more, whole) = ((first, is), are_read files paths rest more)
+
 -- the file that fails is the first
 pub refused_at : (files : Holdings) (paths : List (Bor (List ℕ))) (i : ℕ) (d : Bor (List ℕ)) (ms : List Module) (why : Refusal) → i < length paths
     → AreModulesOf (MayHold files) (texts (take i paths)) ms → (why ≡ no_memory) ⊎ FileFails files (get_or paths i d).now why
-    → IsRefused files (texts paths) why
+    → IsFilesRefusal files (texts paths) why
 refused_at files paths i d ms why inside read (inl none) = inl none
 refused_at files paths i d ms why inside read (inr fails) = inr (record {
-  before = texts (take i paths);
-  path = (get_or paths i d).now;
+  done = texts (take i paths);
+  failed = (get_or paths i d).now;
   left = texts (drop (i + 1) paths);
   order = texts-parts paths i d inside;
-  modules = ms;
-  are_read = read;
+  are_done = are_read files (texts (take i paths)) ms read;
   fails = fails;
 })
-
--- a file that is known to hold a text isn't without one
-pub held_text : (held : Option (Option (List ℕ))) (text : List ℕ) → held ≡ Some (Some text) → HoldsIfKnown held None → ⊥
-held_text None text e k = let no : ⊥ = cc in no
-held_text (Some x) text e k = let no : ⊥ = cc in no
 
 -- each of the files is known to hold modules where all are
 pub held_at : (files : Holdings) (before : List (List ℕ)) (path : List ℕ) (left : List (List ℕ)) (ms : List Module)

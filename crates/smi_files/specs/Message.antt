@@ -1,5 +1,5 @@
 -- What is reported of module files that can't be had.
-use Rattle.std.specs.Prelude.{◌≡◌, ℕ, List, ◌++◌, codes, decimal}
+use Rattle.std.specs.Prelude.{ℕ, List, ◌++◌, codes, decimal}
 use Rattle.smi_lexer.specs.declared.error.LexError.TheVariants as lex
 use Rattle.smi_text.specs.declared.error.ParseError.{ParseError}
 use Rattle.smi_text.specs.declared.error.ParseError.TheVariants as parse
@@ -11,9 +11,6 @@ abbrev pub refusal_of : FilesError → Refusal
 refusal_of (error.Unreadable path) = unreadable path.now
 refusal_of (error.Text path fault) = faulty path.now fault
 refusal_of error.Memory = no_memory
-
-abbrev pub IsMemory : FilesError → Type 0
-IsMemory e = e ≡ error.Memory
 
 -- what is wrong in a line of the file at a path
 abbrev pub at_line : (path : List ℕ) → (line : ℕ) → List ℕ → List ℕ

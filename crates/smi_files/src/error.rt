@@ -23,9 +23,10 @@ pub enum FilesError<'a> {
 }
 
 impl From<AllocError> for FilesError<'_> {
-    ghost use Rattle.smi_files.specs.Message.{IsMemory};
+    ghost use Rattle.std.specs.Prelude.{◌≡◌};
+    ghost use Rattle.smi_files.specs.declared.error.FilesError.TheVariants.{Memory};
 
-    ghost from_gives = { λ _ e. IsMemory e };
+    ghost from_gives = { λ _ e. e ≡ Memory };
 
     fn from(_error: AllocError) -> Self {
         FilesError::Memory

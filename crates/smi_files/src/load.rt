@@ -2,7 +2,8 @@
 ghost use Rattle.std.specs.Prelude.{◌≡◌, IfErr, IfOk, List, OnErr};
 ghost use Rattle.smi_module.specs.declared.tree.Module.{Module};
 ghost use Rattle.snmp_io.specs.Output.{IsWritten};
-ghost use Rattle.smi_files.specs.Files.{AreModulesOf, Holds, IsRefused, MayHold, no_memory, texts};
+ghost use Rattle.snmp_io.specs.Files.{Holds, MayHold};
+ghost use Rattle.smi_files.specs.Files.{AreModulesOf, IsFilesRefusal, no_memory, texts};
 ghost use Rattle.smi_files.specs.Loaded.{IsLoaded};
 ghost use Rattle.smi_files.specs.Message.{refusal_of};
 
@@ -27,7 +28,7 @@ pub fn load_tree<'a, F: Files, E: Output>(
     ensures loaded { IfOk result (λ tree. IsLoaded (MayHold (F.text_at files.now))
         (texts paths.now) tree (E.stream err.old) (E.stream err.new)) }
     ensures refused { IfErr result (λ e.
-        IsRefused (F.text_at files.now) (texts paths.now) (refusal_of e)) }
+        IsFilesRefusal (F.text_at files.now) (texts paths.now) (refusal_of e)) }
     // Files that are known to hold modules are loaded, unless memory runs out.
     ensures only { (ms : List Module)
         → AreModulesOf (Holds (F.text_at files.now)) (texts paths.now) ms

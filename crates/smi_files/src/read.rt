@@ -2,8 +2,9 @@
 ghost use Rattle.std.specs.Prelude.{◌≡◌, ◌⊎◌, ℕ, List, IfErr, IfOk};
 ghost use Rattle.smi_files.specs.Files.{texts};
 ghost use Rattle.smi_module.specs.declared.tree.Module.{Module as Tree};
-ghost use Rattle.smi_files.specs.Files.{AreModulesIn, AreModulesOf, FileFails, Holdings, Holds};
-ghost use Rattle.smi_files.specs.Files.{IsRefused, MayHold, no_memory};
+ghost use Rattle.snmp_io.specs.Files.{Holdings, Holds, MayHold};
+ghost use Rattle.smi_files.specs.Files.{AreModulesIn, AreModulesOf, FileFails, IsFilesRefusal};
+ghost use Rattle.smi_files.specs.Files.{no_memory};
 ghost use Rattle.smi_files.specs.Message.{refusal_of};
 
 use crate::error::FilesError;
@@ -22,7 +23,7 @@ pub fn read_modules<'a, F: Files>(
     ensures read { IfOk result (λ ms.
         AreModulesOf (MayHold (F.text_at files.now)) (texts paths.now) ms.items) }
     ensures refused { IfErr result (λ e.
-        IsRefused (F.text_at files.now) (texts paths.now) (refusal_of e)) }
+        IsFilesRefusal (F.text_at files.now) (texts paths.now) (refusal_of e)) }
     // Files that are known to hold modules are read, unless memory runs out.
     ensures only { (ms : List Tree) → AreModulesOf (Holds (F.text_at files.now)) (texts paths.now) ms
         → IfErr result (λ e. refusal_of e ≡ no_memory) }

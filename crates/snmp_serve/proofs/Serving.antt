@@ -2,15 +2,17 @@
 use Rattle.std.proofs.Common.{◌≡◌, ◌<◌, ◌≤◌, ◌⊎◌, inl, inr, refl, subst, ℕ, List, [], ◌∷◌, Option, length}
 use Rattle.snmp_agent.specs.Reply.{Agent}
 use Rattle.snmp_agent.specs.declared.server.Served.{Served}
+use Rattle.snmp_io.specs.Files.{Holdings}
 use Rattle.snmp_io.specs.Output.{Stream, extended}
 use Rattle.snmp_net.specs.Address.{IsHostAndPort}
 use Rattle.snmp_table.specs.Table.{MibView}
 use Rattle.snmp_words.specs.Words.{ServeWords}
-use Rattle.snmp_serve.specs.Fault.{Fault, bad_place, long_community, no_memory}
-use Rattle.snmp_serve.specs.Outcome.{IsServed, StopsAt, counts_line, listening_line}
-use Rattle.snmp_serve.specs.Service.{Holdings, IsFirstToFail, IsRefusal, TableFails, agent_over, community_step, place_step, table_step}
+use Rattle.snmp_serve.specs.Fault.{ServeFault, bad_place, bad_table, long_community, no_memory, unreadable}
+use Rattle.snmp_serve.specs.Outcome.{IsServedAndCounted, StopsAtLine, counts_line, listening_line}
+use Rattle.snmp_serve.specs.Service.{IsServeRefusal, ServiceFails, served_agent, community_step, place_step, table_step}
+use Rattle.snmp_serve.specs.TableFile.{TableFails}
 
-pub community_fails : (words : ServeWords) (files : Holdings) → 255 < length words.community → IsFirstToFail words files long_community
+pub community_fails : (words : ServeWords) (files : Holdings) → 255 < length words.community → ServiceFails words files long_community
 community_fails words files long = record {
   done = [];
   failed = community_step;
@@ -21,7 +23,7 @@ community_fails words files long = record {
 }
 
 pub place_fails : (words : ServeWords) (files : Holdings) → length words.community ≤ 255
-    → ((host : List ℕ) (port : ℕ) → IsHostAndPort words.listen host port → ⊥) → IsFirstToFail words files (bad_place words.listen)
+    → ((host : List ℕ) (port : ℕ) → IsHostAndPort words.listen host port → ⊥) → ServiceFails words files (bad_place words.listen)
 place_fails words files short none = record {
   done = community_step ∷ [];
   failed = place_step;
@@ -31,8 +33,8 @@ place_fails words files short none = record {
   fails = (none, refl);
 }
 
-pub table_fails : (words : ServeWords) (files : Holdings) (host : List ℕ) (port : ℕ) (why : Fault) → length words.community ≤ 255
-    → IsHostAndPort words.listen host port → (why ≡ no_memory) ⊎ TableFails files words.table why → IsRefusal words files why
+pub table_fails : (words : ServeWords) (files : Holdings) (host : List ℕ) (port : ℕ) (why : ServeFault) → length words.community ≤ 255
+    → IsHostAndPort words.listen host port → (why ≡ no_memory) ⊎ TableFails unreadable bad_table files words.table why → IsServeRefusal words files why
 table_fails words files host port why short place (inl none) = inl none
 table_fails words files host port why short place (inr fails) = inr (record {
   done = community_step ∷ place_step ∷ [];
@@ -45,8 +47,8 @@ table_fails words files host port why short place (inr fails) = inr (record {
 
 -- the counts weren't printed, or only a front of them
 pub counts_stop : (Serves : Agent → ℕ → Served → Type 0) (words : ServeWords) (view : MibView) (before middle after : Stream)
-    (served : Served) (fault : Option Fault) → Serves (agent_over words view) words.turns served
-    → middle ≡ extended before (listening_line words.listen) → StopsAt middle (counts_line served) after fault
-    → IsServed Serves words view (extended before (listening_line words.listen)) after fault
+    (served : Served) (fault : Option ServeFault) → Serves (served_agent words view) words.turns served
+    → middle ≡ extended before (listening_line words.listen) → StopsAtLine middle (counts_line served) after fault
+    → IsServedAndCounted Serves words view (extended before (listening_line words.listen)) after fault
 counts_stop Serves words view before middle after served fault serves is stops =
-    (served, serves, inr (subst (λ (s : Stream). StopsAt s (counts_line served) after fault) is stops))
+    (served, serves, inr (subst (λ (s : Stream). StopsAtLine s (counts_line served) after fault) is stops))

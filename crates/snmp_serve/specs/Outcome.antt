@@ -3,11 +3,12 @@ use Rattle.std.specs.Prelude.{◌≡◌, ◌⊎◌, ◌++◌, ℕ, List, Option,
 use Rattle.snmp_agent.specs.Reply.{Agent}
 use Rattle.snmp_agent.specs.declared.server.Served.{Served}
 use Rattle.snmp_io.specs.Count.{HasRisen}
+use Rattle.snmp_io.specs.Files.{Holdings}
 use Rattle.snmp_io.specs.Output.{FailsWithin, Stream, extended}
 use Rattle.snmp_table.specs.Table.{MibView}
 use Rattle.snmp_words.specs.Words.{ServeWords}
-use Rattle.snmp_serve.specs.Fault.{Fault, no_door, no_memory, no_output}
-use Rattle.snmp_serve.specs.Service.{Holdings, IsAsked, IsRefusal, agent_over}
+use Rattle.snmp_serve.specs.Fault.{ServeFault, no_door, no_memory, no_output}
+use Rattle.snmp_serve.specs.Service.{AskForService, IsServeRefusal, served_agent}
 
 -- where requests are received, in the word's own octets
 abbrev pub listening_line : (word : List ℕ) → List ℕ
@@ -29,35 +30,37 @@ abbrev pub AtDoor : {Door : Type 0} → (Door → Agent → ℕ → Served → T
 AtDoor {Door} Serves agent turns served = (door : Door) × Serves door agent turns served
 
 -- a line isn't printed, or only a front of it: memory for it ran out, or the output failed
-abbrev pub StopsAt : (before : Stream) → List ℕ → (after : Stream) → Option Fault → Type 0
-StopsAt before line after fault =
+abbrev pub StopsAtLine : (before : Stream) → List ℕ → (after : Stream) → Option ServeFault → Type 0
+StopsAtLine before line after fault =
     ((after ≡ before) × (fault ≡ Some no_memory))
     ⊎ (FailsWithin before line after × (fault ≡ Some no_output))
 
 -- The line of the counts follows that of the place. `Serves agent turns served` says what may have
 -- been served.
-abbrev pub IsServed : (Serves : Agent → ℕ → Served → Type 0) → ServeWords → MibView
-    → (before after : Stream) → Option Fault → Type 0
-IsServed Serves words view before after fault =
-    (served : Served) × Serves (agent_over words view) words.turns served
+abbrev pub IsServedAndCounted : (Serves : Agent → ℕ → Served → Type 0) → ServeWords → MibView
+    → (before after : Stream) → Option ServeFault → Type 0
+IsServedAndCounted Serves words view before after fault =
+    (served : Served) × Serves (served_agent words view) words.turns served
     × (((after ≡ extended before (counts_line served)) × (fault ≡ None))
-    ⊎ StopsAt before (counts_line served) after fault)
+    ⊎ StopsAtLine before (counts_line served) after fault)
 
 -- no door was opened, and the network counted why; or the place wasn't printed; or it was, and the
 -- table was served
-abbrev pub IsRun : (Serves : Agent → ℕ → Served → Type 0) → Faults → ServeWords → MibView
-    → (before after : Stream) → Option Fault → Type 0
-IsRun Serves faults words view before after fault =
+abbrev pub IsServing : (Serves : Agent → ℕ → Served → Type 0) → Faults → ServeWords → MibView
+    → (before after : Stream) → Option ServeFault → Type 0
+IsServing Serves faults words view before after fault =
     (HasRisen faults.before faults.after × (after ≡ before)
     × (fault ≡ Some no_door))
-    ⊎ (StopsAt before (listening_line words.listen) after fault
-    ⊎ IsServed Serves words view (extended before (listening_line words.listen)) after fault)
+    ⊎ (StopsAtLine before (listening_line words.listen) after fault
+    ⊎ IsServedAndCounted Serves words view (extended before (listening_line words.listen)) after
+    fault)
 
 -- what snmpd printed, and why it stopped, if it stopped before its turns were done
-pub data IsOutcome (Serves : Agent → ℕ → Served → Type 0) (faults : Faults) (words : ServeWords)
-    (files : Holdings) (before after : Stream) (fault : Option Fault) : Type 0 where
-  refused : (why : Fault) → IsRefusal words files why → after ≡ before → fault ≡ Some why
-      → IsOutcome Serves faults words files before after fault
-  ran : (view : MibView) → IsAsked words files view
-      → IsRun Serves faults words view before after fault
-      → IsOutcome Serves faults words files before after fault
+pub data IsServeOutcome (Serves : Agent → ℕ → Served → Type 0) (faults : Faults)
+    (words : ServeWords) (files : Holdings) (before after : Stream) (fault : Option ServeFault) :
+    Type 0 where
+  refused : (why : ServeFault) → IsServeRefusal words files why → after ≡ before → fault ≡ Some why
+      → IsServeOutcome Serves faults words files before after fault
+  ran : (view : MibView) → AskForService words files view
+      → IsServing Serves faults words view before after fault
+      → IsServeOutcome Serves faults words files before after fault

@@ -1,14 +1,15 @@
 //! A table is read, and served at a UDP port.
 ghost use Rattle.std.specs.Prelude.{◌≡◌, ◌⊎◌, ◌≤◌, IfErr, IfOk, None, OnErr, OnOk, Some, length};
 ghost use Rattle.std.specs.Prelude.{IsErr};
+ghost use Rattle.snmp_io.specs.Files.{Holdings};
 ghost use Rattle.snmp_io.specs.Output.{extended};
 ghost use Rattle.snmp_net.specs.Address.{IsHostAndPort};
 ghost use Rattle.snmp_words.specs.Words.{serve_words};
-ghost use Rattle.snmp_serve.specs.Fault.{fault_of, no_memory};
-ghost use Rattle.snmp_serve.specs.Outcome.{AtDoor, IsOutcome, IsRun, StopsAt, counts_line};
-ghost use Rattle.snmp_serve.specs.Outcome.{listening_line};
-ghost use Rattle.snmp_serve.specs.Service.{HasTable, Holdings, IsFirstToFail, IsRefusal};
-ghost use Rattle.snmp_serve.specs.Service.{TableFails};
+ghost use Rattle.snmp_serve.specs.Fault.{bad_table, no_memory, serve_fault_of, unreadable};
+ghost use Rattle.snmp_serve.specs.Outcome.{AtDoor, IsServeOutcome, IsServing, StopsAtLine};
+ghost use Rattle.snmp_serve.specs.Outcome.{counts_line, listening_line};
+ghost use Rattle.snmp_serve.specs.Service.{ServiceFails};
+ghost use Rattle.snmp_serve.specs.TableFile.{HasTable, TableFails};
 
 use crate::error::ServeError;
 use snmp_agent::{Config, Served};
@@ -28,13 +29,13 @@ pub fn serve_table<'a, F: Files, L: Links, O: Output>(
     links: &mut L,
     out: &mut O,
 ) -> Result<(), ServeError<'a>>
-    ensures done { OnOk result (IsOutcome (AtDoor L.serves)
+    ensures done { OnOk result (IsServeOutcome (AtDoor L.serves)
         (record { before = L.fault_count links.old; after = L.fault_count links.new })
         (serve_words job.now) (F.text_at files.now) (O.stream out.old) (O.stream out.new) None) }
-    ensures failed { IfErr result (λ e. IsOutcome (AtDoor L.serves)
+    ensures failed { IfErr result (λ e. IsServeOutcome (AtDoor L.serves)
         (record { before = L.fault_count links.old; after = L.fault_count links.new })
         (serve_words job.now) (F.text_at files.now) (O.stream out.old) (O.stream out.new)
-        (Some (fault_of e))) }
+        (Some (serve_fault_of e))) }
 {
     let place = match place_of(job) {
         Ok(place) => place,
@@ -53,7 +54,7 @@ fn place_of<'a>(job: &ServeJob<'a>) -> Result<UdpAddress<'a>, ServeError<'a>>
     ensures place { IfOk result (λ place.
         IsHostAndPort job.now.listen.now place.host.now place.port) }
     ensures refused { (files : Holdings) → IfErr result (λ e.
-        IsFirstToFail (serve_words job.now) files (fault_of e)) }
+        ServiceFails (serve_words job.now) files (serve_fault_of e)) }
 {
     if job.community.len() > 255 {
         return Err(ServeError::Community);
@@ -67,8 +68,8 @@ fn place_of<'a>(job: &ServeJob<'a>) -> Result<UdpAddress<'a>, ServeError<'a>>
 // The table that the file at a path states.
 fn table_at<'a, F: Files>(alloc: Global, files: &F, path: &'a str) -> Result<Table, ServeError<'a>>
     ensures table { IfOk result (HasTable (F.text_at files.now) path.now) }
-    ensures err { IfErr result (λ e. (fault_of e ≡ no_memory)
-        ⊎ TableFails (F.text_at files.now) path.now (fault_of e)) }
+    ensures err { IfErr result (λ e. (serve_fault_of e ≡ no_memory)
+        ⊎ TableFails unreadable bad_table (F.text_at files.now) path.now (serve_fault_of e)) }
 {
     let text = match files.read(alloc, path) {
         Ok(text) => text,
@@ -91,13 +92,13 @@ fn serve_at<'a, L: Links, O: Output>(
     out: &mut O,
 ) -> Result<(), ServeError<'a>>
     requires { length job.now.community.now ≤ 255 }
-    ensures done { OnOk result (IsRun (AtDoor L.serves)
+    ensures done { OnOk result (IsServing (AtDoor L.serves)
         (record { before = L.fault_count links.old; after = L.fault_count links.new })
         (serve_words job.now) table.now (O.stream out.old) (O.stream out.new) None) }
-    ensures failed { IfErr result (λ e. IsRun (AtDoor L.serves)
+    ensures failed { IfErr result (λ e. IsServing (AtDoor L.serves)
         (record { before = L.fault_count links.old; after = L.fault_count links.new })
         (serve_words job.now) table.now (O.stream out.old) (O.stream out.new)
-        (Some (fault_of e))) }
+        (Some (serve_fault_of e))) }
 {
     let config = Config {
         community: job.community.as_bytes(),
@@ -119,8 +120,8 @@ fn serve_at<'a, L: Links, O: Output>(
 fn print_place<'a, O: Output>(alloc: Global, word: &str, out: &mut O) -> Result<(), ServeError<'a>>
     ensures done { OnOk result (
         O.stream out.new ≡ extended (O.stream out.old) (listening_line word.now)) }
-    ensures stopped { IfErr result (λ e. StopsAt (O.stream out.old) (listening_line word.now)
-        (O.stream out.new) (Some (fault_of e))) }
+    ensures stopped { IfErr result (λ e. StopsAtLine (O.stream out.old) (listening_line word.now)
+        (O.stream out.new) (Some (serve_fault_of e))) }
 {
     match listening_line(alloc, word) {
         Ok(line) => print(&line, out),
@@ -136,8 +137,8 @@ fn print_counts<'a, O: Output>(
 ) -> Result<(), ServeError<'a>>
     ensures done { OnOk result (
         O.stream out.new ≡ extended (O.stream out.old) (counts_line served.now)) }
-    ensures stopped { IfErr result (λ e. StopsAt (O.stream out.old) (counts_line served.now)
-        (O.stream out.new) (Some (fault_of e))) }
+    ensures stopped { IfErr result (λ e. StopsAtLine (O.stream out.old) (counts_line served.now)
+        (O.stream out.new) (Some (serve_fault_of e))) }
 {
     match counts_line(alloc, served) {
         Ok(line) => print(&line, out),
@@ -149,7 +150,7 @@ fn print_counts<'a, O: Output>(
 fn print<'a, O: Output>(line: &[u8], out: &mut O) -> Result<(), ServeError<'a>>
     ensures done { OnOk result (O.stream out.new ≡ extended (O.stream out.old) line.now) }
     ensures stopped { IfErr result (λ e.
-        StopsAt (O.stream out.old) line.now (O.stream out.new) (Some (fault_of e))) }
+        StopsAtLine (O.stream out.old) line.now (O.stream out.new) (Some (serve_fault_of e))) }
 {
     match write_all(out, line) {
         Ok(()) => Ok(()),

@@ -18,20 +18,21 @@ use Rattle.smi_nodes.specs.declared.warning.Warning.{Warning}
 use Rattle.snmp_io.specs.Output.{IsWritten, Stream, extended}
 use Rattle.snmp_net.specs.Address.{table, udp}
 use Rattle.snmp_words.specs.Words.{GetWords}
-use Rattle.snmp_tools.specs.Asking.{HasTable}
+use Rattle.snmp_serve.specs.TableFile.{HasTable}
 use Rattle.snmp_tools.specs.Get.{AskForGet, GetPlan}
 use Rattle.snmp_tools.specs.GetHeadline.{GetEndsAtStatus0, GetWritesAllAtStatus0, GetWritesFront, IsGetOf}
 use Rattle.snmp_tools.specs.Got.{IsGetFor, IsGetOutcome, IsGetOutcomeBy, IsGetRun, agent_for, fault_at, got, got_over, loaded, not_asked, not_loaded, request_for}
 use Rattle.snmp_tools.specs.Headline.{IsMishap}
 use Rattle.snmp_tools.specs.Lines.{AreLines, IsPrintedUpTo}
 use Rattle.snmp_tools.specs.Message.{Fault, ended}
-use Rattle.snmp_tools.specs.Mib.{AreLoaded, Holdings, MayHold, Mib}
+use Rattle.snmp_io.specs.Files.{Holdings, MayHold}
+use Rattle.snmp_tools.specs.Mib.{AreLoaded, Mib}
 use Rattle.snmp_tools.specs.Outcome.{IsOwnEnd, IsReported}
 use Rattle.snmp_tools.proofs.GetWants.{get_wants_early, get_wants_late, one_get}
 use Rattle.snmp_tools.proofs.Headlines.{Stops, line_told, mishap, want_told}
 use Rattle.snmp_tools.proofs.Outcomes.{IsFront, no_fault_at_0, printed_front}
 use Rattle.snmp_tools.proofs.Plans.{OneList, OneTree, held_is, one_load, one_path}
-use Rattle.snmp_tools.proofs.Streams.{nothing_taken}
+use Rattle.snmp_io.specs.Streams.{nothing_taken}
 
 -- memory ran out before anything was written
 pub get_refused_front : (words : GetWords) (files : Holdings) (before : Stream) → GetWritesFront words files before before

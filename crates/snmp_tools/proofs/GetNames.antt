@@ -7,10 +7,10 @@ use Rattle.smi_name.specs.Meaning.{meaning}
 use Rattle.snmp_oid.specs.Identifier.{IsWire, wire}
 use Rattle.snmp_words.specs.Words.{texts_at}
 use Rattle.snmp_tools.specs.Asking.{NameFails}
-use Rattle.snmp_tools.specs.Get.{AreNames, HasName, HasSendable, HasUnsendable}
+use Rattle.snmp_tools.specs.Get.{AreNames, HasMeaning, HasSendable, HasUnsendable}
 use Rattle.snmp_tools.specs.Message.{Fault, unsendable}
 use Rattle.snmp_tools.specs.Mib.{Mib}
-use Rattle.snmp_tools.specs.Steps.{IsFirstToFail}
+use Rattle.snmp_io.specs.Steps.{IsFirstToFail}
 use Rattle.snmp_tools.proofs.GetSteps.{are_named}
 use Rattle.snmp_tools.proofs.Steps.{first, later}
 
@@ -27,7 +27,7 @@ same_texts mib a b m n e f h = subst (λ (t : List (Bor (List ℕ))). AreNames m
 
 module _ (mib : Mib) (texts : List (Bor (List ℕ))) (i : ℕ) (text d : Bor (List ℕ)) (inside : i < length texts) (is : text ≡ get_or texts i d)
     (names : List (List ℕ)) (are : AreNames mib (texts_at (take i texts)) names) where
-  pub first_unnamed : (why : Fault) → NameFails mib text.now why → IsFirstToFail (texts_at texts) (HasName mib) (NameFails mib) why
+  pub first_unnamed : (why : Fault) → NameFails mib text.now why → IsFirstToFail (texts_at texts) (HasMeaning mib) (NameFails mib) why
   first_unnamed why fails =
       let parts : texts ≡ take i texts ++ text ∷ drop (suc i) texts =
       sym (take-append-drop i texts) ∙ ap (λ (s : List (Bor (List ℕ))). take i texts ++ s) (drop-cons texts i d inside

@@ -6,13 +6,15 @@ use Rattle.smi_name.specs.declared.error.NameError.{NameError}
 use Rattle.snmp_net.specs.Address.{Address}
 use Rattle.snmp_words.specs.Words.{GetWords}
 use Rattle.snmp_tools.specs.Asking.{IsReached, MibsFail, NameFails, ReachFails, agent_step, community_step, letters_step, version_step}
-use Rattle.snmp_tools.specs.Get.{AreNames, FailsForGet, GetPlan, GetStep, HasName, HasSendable, HasUnsendable, IsAskingFor, IsDoneForGet, IsEarlyGetRefusal, IsLateGetRefusal}
+use Rattle.snmp_tools.specs.Get.{AreNames, FailsForGet, GetPlan, GetStep, HasMeaning, HasSendable, HasUnsendable, IsAskingFor, IsDoneForGet}
+use Rattle.snmp_tools.specs.Get.{IsEarlyGetRefusal, IsLateGetRefusal}
 use Rattle.snmp_tools.specs.Get.{asking, get_loading_steps, get_naming_steps, mibs_step, name_step, reach_step, sent_step}
 use Rattle.snmp_tools.specs.Got.{IsGetFor}
 use Rattle.snmp_tools.specs.Message.{Fault, out_of_memory}
-use Rattle.snmp_tools.specs.Mib.{Holdings, IsMibOf, MayHold, Mib}
+use Rattle.snmp_io.specs.Files.{Holdings, MayHold}
+use Rattle.snmp_tools.specs.Mib.{IsMibOf, Mib}
 use Rattle.snmp_tools.specs.Planned.{AgentFails, ShowingFails}
-use Rattle.snmp_tools.specs.Steps.{AreDone, IsFirstToFail}
+use Rattle.snmp_io.specs.Steps.{AreDone, IsFirstToFail}
 use Rattle.snmp_tools.proofs.Steps.{first, later}
 
 -- steps that are all done, before others
@@ -56,7 +58,7 @@ module _ {S T : Type 0} (f : S → T) where
     }
 
 -- texts that state names are done
-pub are_named : (mib : Mib) (texts names : List (List ℕ)) → AreNames mib texts names → AreDone (HasName mib) texts
+pub are_named : (mib : Mib) (texts names : List (List ℕ)) → AreNames mib texts names → AreDone (HasMeaning mib) texts
 are_named mib [] names e = tt
 are_named mib (text ∷ texts) [] e = let no : ⊥ = cc in absurd no
 are_named mib (text ∷ texts) (name ∷ names) e =
@@ -102,12 +104,12 @@ module _ (words : GetWords) (files : Holdings) (why : Fault) where
     shown h =
         inr ((asked.version, ((letters, asked.shown), (asked.short_community, ((agent, asked.reached), ((mib, known), tt))))), h)
 
-    at_names : IsFirstToFail words.names (HasName mib) (NameFails mib) why → IsLateGetRefusal words files why
+    at_names : IsFirstToFail words.names (HasMeaning mib) (NameFails mib) why → IsLateGetRefusal words files why
     at_names h =
         shown (before_more Done Fails why (map name_step words.names) (reach_step ∷ map sent_step words.names)
-        (mapped name_step (HasName mib) Done (λ text d. (mib, known, d)) (NameFails mib) Fails why (λ text f. (mib, known, f)) words.names h))
+        (mapped name_step (HasMeaning mib) Done (λ text d. (mib, known, d)) (NameFails mib) Fails why (λ text f. (mib, known, f)) words.names h))
 
-    pub names_refused : (why ≡ out_of_memory) ⊎ IsFirstToFail words.names (HasName mib) (NameFails mib) why → IsLateGetRefusal words files why
+    pub names_refused : (why ≡ out_of_memory) ⊎ IsFirstToFail words.names (HasMeaning mib) (NameFails mib) why → IsLateGetRefusal words files why
     names_refused (inl e) = inl e
     names_refused (inr h) = at_names h
 
@@ -115,7 +117,7 @@ module _ (words : GetWords) (files : Holdings) (why : Fault) where
       named : Refused (reach_step ∷ map sent_step words.names) → IsLateGetRefusal words files why
       named h =
           shown (after_all Done Fails why (map name_step words.names) (reach_step ∷ map sent_step words.names)
-          (map_done name_step (HasName mib) Done (λ text d. (mib, known, d)) words.names (are_named mib words.names names are)) h)
+          (map_done name_step (HasMeaning mib) Done (λ text d. (mib, known, d)) words.names (are_named mib words.names names are)) h)
 
       at_reach : ReachFails files agent words.asking.agent why → IsLateGetRefusal words files why
       at_reach f = named (first Done Fails why reach_step (map sent_step words.names) (agent, asked.reached, f))

@@ -1,5 +1,5 @@
 -- The words of snmpget ask for one Get, and the steps before it fail for want of memory alone.
-use Rattle.std.proofs.Common.{◌≡◌, ◌⊎◌, inl, inr, ℕ, ◌<◌, ◌≤◌, length, arith, List, [], ◌∷◌, ◌++◌, All, map, Option, Some, None, Result, Ok, Err}
+use Rattle.std.proofs.Common.{◌≡◌, inl, inr, ℕ, length, List, [], ◌∷◌, ◌++◌, All, map, Ok}
 use Rattle.std.proofs.Common.{refl, sym, ◌∙◌, ap, subst}
 use Rattle.std.proofs.lemmas.List.Elements.{All-head, All-tail}
 use Rattle.std.specs.Str.Lines.{lines}
@@ -12,18 +12,19 @@ use Rattle.snmp_table.specs.Table.{MibView}
 use Rattle.snmp_table.specs.declared.error.TableError.{TableError}
 use Rattle.snmp_table.specs.declared.error.TableError.TheVariants as table_error
 use Rattle.snmp_table.specs.Stated.{IsTableOf, IsFirstFault}
-use Rattle.snmp_io.specs.Files.{HoldsIfKnown}
+use Rattle.snmp_io.specs.Files.{Holdings, MayHold}
 use Rattle.snmp_words.specs.Words.{AskingWords, GetWords}
 use Rattle.snmp_net.specs.Address.{Address, table}
-use Rattle.snmp_tools.specs.Asking.{AskingFails, AskingStep, HasAgent, NameFails, ReachFails, TableFails}
+use Rattle.snmp_serve.specs.TableFile.{TableFails}
+use Rattle.snmp_tools.specs.Asking.{AskingFails, AskingStep, HasAgent, NameFails, ReachFails}
 use Rattle.snmp_tools.specs.Asking.{agent_step, community_step, letters_step, version_step}
 use Rattle.snmp_tools.specs.Get.{AreNames, AskForGet, FailsForGet, GetPlan, GetStep, HasUnsendable, IsEarlyGetRefusal, IsLateGetRefusal, asking, get_loading_steps, mibs_step}
 use Rattle.snmp_tools.specs.Get.{get_naming_steps, name_step, reach_step, sent_step}
 use Rattle.snmp_tools.specs.GetHeadline.{IsGetOf}
-use Rattle.snmp_tools.specs.Message.{Fault, bad_table, out_of_memory}
-use Rattle.snmp_tools.specs.Mib.{Holdings, Holds, IsMibOf, MayHold, Mib}
-use Rattle.snmp_tools.specs.Steps.{AreDone, IsFirstToFail}
-use Rattle.snmp_tools.proofs.Plans.{IsWant, OneList, OneTree, held_is, no_name, one_load, one_name, one_reading, other_way, plain_want, table_want}
+use Rattle.snmp_tools.specs.Message.{Fault, bad_table, out_of_memory, unreadable}
+use Rattle.snmp_tools.specs.Mib.{IsMibOf, Mib}
+use Rattle.snmp_io.specs.Steps.{AreDone, IsFirstToFail}
+use Rattle.snmp_tools.proofs.Plans.{IsWant, OneList, OneTree, held_is, is_readable, no_name, one_load, one_name, one_reading, other_way, plain_want, table_want}
 
 -- texts state just one list of names
 pub one_names : (mib : Mib) (texts a b : List (List ℕ)) → AreNames mib texts a → AreNames mib texts b → a ≡ b
@@ -62,16 +63,12 @@ both : {S : Type 0} (P : S → Type 0) (a b : List S) → AreDone P a → AreDon
 both P [] b h k = k
 both P (s ∷ a) b h k = (h.0, both P a b h.1 k)
 
-is_readable : (text : List ℕ) (held : Option (Option (List ℕ))) → held ≡ Some (Some text) → HoldsIfKnown held None → ⊥
-is_readable text None e k = let no : ⊥ = cc in no
-is_readable text (Some x) e k = let no : ⊥ = cc in no
-
 module _ (one_list : OneList) (one_tree : OneTree) (no_fault : (ls : List (List ℕ)) (view : MibView) (fault : TableError) → IsTableOf ls view → IsFirstFault ls fault → fault ≡ table_error.Memory)
     (words : GetWords) (files : Holdings) (rows : List VarBind) (get : IsGetOf words files rows) (why : Fault) where
   agent_is : (agent : Address) → HasAgent words.asking.agent agent → agent ≡ table get.path
   agent_is agent has = sym (has.1 get.plan.agent get.asked.agent) ∙ get.over
 
-  table_want_only : TableFails (files get.path) get.path why → IsWant why
+  table_want_only : TableFails unreadable bad_table files get.path why → IsWant why
   table_want_only (inl f) = absurd (is_readable get.text (files get.path) get.held f.0)
   table_want_only (inr f) =
       let same : f.0 ≡ get.text = held_is (files get.path) f.0 get.text f.2 get.held in

@@ -8,7 +8,8 @@ use Rattle.snmp_words.specs.Words.{GetWords}
 use Rattle.snmp_tools.specs.Get.{GetPlan}
 use Rattle.snmp_tools.specs.Got.{IsGetFor, IsGetOutcomeBy, IsGetPrinted, IsGetTableOutcome, got, not_asked}
 use Rattle.snmp_tools.specs.Message.{Fault}
-use Rattle.snmp_tools.specs.Mib.{Holdings, Mib}
+use Rattle.snmp_io.specs.Files.{Holdings}
+use Rattle.snmp_tools.specs.Mib.{Mib}
 
 pub of_get_table : (Facts : List ℕ → ℕ → ℕ → GetPlan → List VarBind → List VarBind → WalkEnd → Type 0) (words : GetWords) (files : Holdings) (mib : Mib)
     (plan : GetPlan) (path : List ℕ) (before after : Stream) (fault : Option Fault) → IsGetFor words mib plan → plan.agent ≡ table path

@@ -11,7 +11,7 @@ use Rattle.std.specs.Prelude.{◌&&◌, ◌==◌, nat_le, if◌then◌else◌}
 use Rattle.std.specs.Char.{digit_value}
 use Rattle.std.specs.List.{list_all}
 use Rattle.std.specs.Str.Parse.{digits_value, digits_value_after}
-use Rattle.snmp_tools.specs.Letters.{Choices, after_part, after_parts, after_whole, is_digit, parts_of, put, repetitions_in}
+use Rattle.snmp_tools.specs.Letters.{Choices, after_part, after_parts, after_whole, is_digit, letter_parts, put, repetitions_in}
 
 pub at_place : (letters : List ℕ) (place : ℕ) → place < length letters → drop place letters ≡ slice_index_or letters place 0 ∷ drop (place + 1) letters
 at_place letters place low = rw (add-one, drop-cons letters place 0) refl
@@ -25,7 +25,7 @@ abbrev pub before_rest : Bool → Result Choices ℕ → List ℕ × List (ℕ �
 before_rest bulk (Err octet) parts = Err octet
 before_rest bulk (Ok choices) parts = after_whole bulk choices parts
 
-rest_parts : (more : List ℕ) → NoDigitFirst more → parts_of more ≡ ([], (parts_of more).1)
+rest_parts : (more : List ℕ) → NoDigitFirst more → letter_parts more ≡ ([], (letter_parts more).1)
 rest_parts [] none = refl
 rest_parts (octet ∷ more) none = rw none refl
 
@@ -33,7 +33,7 @@ two : (a b : Bool) → (a && b) ≡ true → (a ≡ true) × (b ≡ true)
 two true b e = (refl, e)
 two false b e = absurd (false≢true e)
 
-digits_parts : (digits more : List ℕ) → list_all is_digit digits ≡ true → NoDigitFirst more → parts_of (digits ++ more) ≡ (digits, (parts_of more).1)
+digits_parts : (digits more : List ℕ) → list_all is_digit digits ≡ true → NoDigitFirst more → letter_parts (digits ++ more) ≡ (digits, (letter_parts more).1)
 digits_parts [] more all none = rest_parts more none
 digits_parts (digit ∷ digits) more all none =
     let here = two (is_digit digit) (list_all is_digit digits) all in
@@ -62,18 +62,19 @@ error_stays bulk [] octet = refl
 error_stays bulk (part ∷ more) octet = refl
 
 go_on : (bulk : Bool) (read : Result Choices ℕ) (more : List ℕ) → NoDigitFirst more
-    → after_parts bulk (parts_of more).1 read ≡ before_rest bulk read (parts_of more)
-go_on bulk (Err octet) more none = error_stays bulk (parts_of more).1 octet
+    → after_parts bulk (letter_parts more).1 read ≡ before_rest bulk read (letter_parts more)
+go_on bulk (Err octet) more none = error_stays bulk (letter_parts more).1 octet
 go_on bulk (Ok choices) more none = ap (after_whole bulk choices) (sym (rest_parts more none))
 
 -- one letter with its digits is read, and then the rest
 pub part_read : (bulk : Bool) (choices : Choices) (letter : ℕ) (digits more : List ℕ) → list_all is_digit digits ≡ true → NoDigitFirst more
-    → after_whole bulk choices (parts_of (letter ∷ (digits ++ more))) ≡ before_rest bulk (after_part bulk (letter, digits) choices) (parts_of more)
+    → after_whole bulk choices (letter_parts (letter ∷ (digits ++ more))) ≡ before_rest bulk (after_part bulk (letter, digits) choices) (letter_parts more)
 part_read bulk choices letter digits more all none =
     ap (λ p. after_whole bulk choices (put letter p)) (digits_parts digits more all none) ∙ by_digit (is_digit letter) refl
   where
     by_digit : (b : Bool) → is_digit letter ≡ b
-        → after_whole bulk choices (put letter (digits, (parts_of more).1)) ≡ before_rest bulk (after_part bulk (letter, digits) choices) (parts_of more)
+        → after_whole bulk choices (put letter (digits, (letter_parts more).1))
+        ≡ before_rest bulk (after_part bulk (letter, digits) choices) (letter_parts more)
     by_digit true e = rw (e, no_meaning bulk letter digits choices e) refl
     by_digit false e = rw e (go_on bulk (after_part bulk (letter, digits) choices) more none)
 
@@ -97,25 +98,25 @@ text_at text at n low =
 pub next_part : (bulk : Bool) (choices : Choices) (text : List ℕ) (at n : ℕ) (whole : Result Choices ℕ) → at < length text
     → list_all is_digit (take n (drop (at + 1) text)) ≡ true
     → (n < length (drop (at + 1) text) → is_digit (slice_index_or (drop (at + 1) text) n 0) ≡ false)
-    → after_whole bulk choices (parts_of (drop at text)) ≡ whole
-    → before_rest bulk (after_part bulk (slice_index_or text at 0, take n (drop (at + 1) text)) choices) (parts_of (drop (at + (1 + n)) text)) ≡ whole
+    → after_whole bulk choices (letter_parts (drop at text)) ≡ whole
+    → before_rest bulk (after_part bulk (slice_index_or text at 0, take n (drop (at + 1) text)) choices) (letter_parts (drop (at + (1 + n)) text)) ≡ whole
 next_part bulk choices text at n whole low all maximal same =
     let ends : drop n (drop (at + 1) text) ≡ drop (at + (1 + n)) text = drop-drop n (at + 1) text ∙ ap (λ m. drop m text) (omega arith) in
     let none : NoDigitFirst (drop (at + (1 + n)) text) = let P : List ℕ
     → Type 0 = λ t. NoDigitFirst t in subst P ends (no_digit_at (drop (at + 1) text) n maximal) in
     sym (part_read bulk choices (slice_index_or text at 0) (take n (drop (at + 1) text)) (drop (at + (1 + n)) text) all none)
-    ∙ ap (λ t. after_whole bulk choices (parts_of t)) (sym (text_at text at n low)) ∙ same
+    ∙ ap (λ t. after_whole bulk choices (letter_parts t)) (sym (text_at text at n low)) ∙ same
 
 -- the same where the text after the letter is written in another way
 pub next_part_in : (bulk : Bool) (choices : Choices) (text rest : List ℕ) (at n : ℕ) (whole : Result Choices ℕ) → at < length text
     → rest ≡ take (length text - (at + 1)) (drop (at + 1) text) → list_all is_digit (take n rest) ≡ true
-    → (n < length rest → is_digit (slice_index_or rest n 0) ≡ false) → after_whole bulk choices (parts_of (drop at text)) ≡ whole
-    → before_rest bulk (after_part bulk (slice_index_or text at 0, take n rest) choices) (parts_of (drop (at + (1 + n)) text)) ≡ whole
+    → (n < length rest → is_digit (slice_index_or rest n 0) ≡ false) → after_whole bulk choices (letter_parts (drop at text)) ≡ whole
+    → before_rest bulk (after_part bulk (slice_index_or text at 0, take n rest) choices) (letter_parts (drop (at + (1 + n)) text)) ≡ whole
 next_part_in bulk choices text rest at n whole low is all maximal same =
     let e : rest ≡ drop (at + 1) text = is ∙ ap (λ m. take m (drop (at + 1) text)) (sym (length-drop (at + 1) text)) ∙ take-length (drop (at + 1) text) in
     let P : List ℕ → Type 0 = λ r. list_all is_digit (take n r) ≡ true in
     let Q : List ℕ → Type 0 = λ r. n < length r → is_digit (slice_index_or r n 0) ≡ false in
-    ap (λ r. before_rest bulk (after_part bulk (slice_index_or text at 0, take n r) choices) (parts_of (drop (at + (1 + n)) text))) e
+    ap (λ r. before_rest bulk (after_part bulk (slice_index_or text at 0, take n r) choices) (letter_parts (drop (at + (1 + n)) text))) e
     ∙ next_part bulk choices text at n whole low (subst P e all) (subst Q e maximal) same
 
 pub read_on : (bulk : Bool) (read : Result Choices ℕ) (choices : Choices) (parts : List ℕ × List (ℕ × List ℕ)) (whole : Result Choices ℕ)

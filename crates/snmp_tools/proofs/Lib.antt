@@ -12,7 +12,6 @@ pub mod Printed
 pub mod Starts
 pub mod Stated
 pub mod Steps
-pub mod Streams
 pub mod Texts
 pub mod Walked
 pub mod Wholes

@@ -8,28 +8,19 @@ use Rattle.snmp_walk.specs.declared.end.SinkFault.TheVariants as sink
 use Rattle.snmp_walk.specs.declared.end.WalkEnd.{WalkEnd}
 use Rattle.snmp_walk.specs.declared.end.WalkEnd.TheVariants as ending
 use Rattle.snmp_io.specs.Output.{Stream, TakesFront, extended}
-use Rattle.snmp_tools.specs.Headline.{IsWhole}
+use Rattle.snmp_tools.specs.Headline.{IsWholeText}
 use Rattle.snmp_tools.specs.Lines.{AreLines, IsPrintedUpTo, count_text}
 use Rattle.snmp_tools.specs.Message.{Fault, ended, status_of}
 use Rattle.snmp_tools.specs.Mib.{Mib}
 use Rattle.snmp_tools.specs.Outcome.{Counts, IsFinished, IsReported}
 use Rattle.snmp_tools.specs.Plan.{Plan}
-use Rattle.snmp_tools.proofs.Streams.{extended-twice, front_after}
+use Rattle.snmp_io.specs.Streams.{extended-twice, front_after, whole_taken}
 
 lines_of_both : (mib : Mib) (letters : Letters) (rows more : List VarBind) (a b : List ℕ) → AreLines mib letters rows a → AreLines mib letters more b
     → AreLines mib letters (rows ++ more) (a ++ b)
 lines_of_both mib letters [] more a b h k = subst (λ (t : List ℕ). AreLines mib letters more (t ++ b)) (sym h) k
 lines_of_both mib letters (row ∷ rows) more a b h k =
     (h.0, h.1 ++ b, h.2, lines_of_both mib letters rows more h.1 b h.3 k, ap (λ (t : List ℕ). t ++ b) h.4 ∙ append_assoc h.0 h.1 b)
-
--- the whole of a text was taken
-whole_taken : (before after : Stream) (text : List ℕ) → after ≡ extended before text → TakesFront before text after
-whole_taken before after text is = record {
-  front = text;
-  rest = [];
-  parts = sym (append-nil text);
-  taken = ap (λ (s : Stream). s.taken) is;
-}
 
 -- a front of the lines of some first rows
 abbrev pub IsFront : Mib → Letters → List VarBind → (before after : Stream) → Type 0
@@ -66,14 +57,14 @@ printed_front mib letters before after rows turned ending.Link h = all_front mib
 abbrev pub IsFrontOf : Mib → Plan → List VarBind → (before after : Stream) → Type 0
 IsFrontOf mib plan rows before after =
     (first : List VarBind) × (rest : List VarBind) × (text : List ℕ) × (rows ≡ first ++ rest)
-    × (AreLines mib plan.letters first text ⊎ IsWhole mib plan rows text) × TakesFront before text after
+    × (AreLines mib plan.letters first text ⊎ IsWholeText mib plan rows text) × TakesFront before text after
 
 module _ (mib : Mib) (plan : Plan) (agent : List ℕ) (before : Stream) (rows : List VarBind) where
   abbrev Lines : List VarBind → Stream → Type 0
   Lines given between = (text : List ℕ) × AreLines mib plan.letters given text × (between ≡ extended before text)
 
   whole_of : (given : List VarBind) (count : ℕ) (text : List ℕ) → given ≡ rows → count ≡ length given → AreLines mib plan.letters given text
-      → IsWhole mib plan rows (text ++ count_text plan.counts count)
+      → IsWholeText mib plan rows (text ++ count_text plan.counts count)
   whole_of given count text whole counted lines = (
     text,
     subst (λ (ps : List VarBind). AreLines mib plan.letters ps text) whole lines,
@@ -154,7 +145,7 @@ module _ (mib : Mib) (plan : Plan) (agent : List ℕ) (before : Stream) (rows : 
   -- no fault is reported of a walk alone that was done and printed whole
   pub finished_all : (given turned : List VarBind) (end : WalkEnd) (between after : Stream) → IsPrintedUpTo mib plan.letters before given turned end between
       → IsFinished plan.counts agent end between after None → Counts end (length given) → (IsDone end → given ≡ rows)
-      → (text : List ℕ) × IsWhole mib plan rows text × (after ≡ extended before text)
+      → (text : List ℕ) × IsWholeText mib plan rows text × (after ≡ extended before text)
   finished_all given turned (ending.Done count) between after printed (inl finish) counted whole = (
     printed.0 ++ count_text plan.counts count,
     whole_of given count printed.0 (whole tt) counted printed.1,

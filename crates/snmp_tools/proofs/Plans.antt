@@ -16,26 +16,32 @@ use Rattle.snmp_table.specs.declared.error.TableError.TheVariants as table_error
 use Rattle.snmp_table.specs.Stated.{IsTableOf, IsFirstFault}
 use Rattle.snmp_walk.specs.declared.mode.Method.{Method}
 use Rattle.snmp_walk.specs.declared.mode.Mode.{Mode}
-use Rattle.snmp_io.specs.Files.{HoldsIfKnown}
+use Rattle.snmp_io.specs.Files.{Holdings, Holds, HoldsIfKnown, MayHold}
 use Rattle.snmp_words.specs.Words.{AskingWords, WalkWords}
 use Rattle.snmp_net.specs.Address.{Address, table}
-use Rattle.snmp_tools.specs.Asking.{AreShown, AskingFails, AskingStep, HasAgent, IsNameIfGiven, NameFails, ReachFails, TableFails}
+use Rattle.snmp_serve.specs.TableFile.{TableFails}
+use Rattle.snmp_tools.specs.Asking.{AreShown, AskingFails, AskingStep, HasAgent, IsNameIfGiven, NameFails, ReachFails}
 use Rattle.snmp_tools.specs.Asking.{agent_step, community_step, letters_step, version_step}
 use Rattle.snmp_tools.specs.Headline.{CanGoOn, IsFeasible, IsWalk}
 use Rattle.snmp_tools.specs.Letters.{Choices, choices_of, method_of, mode_of}
-use Rattle.snmp_tools.specs.Message.{Fault, bad_table, out_of_memory}
+use Rattle.snmp_tools.specs.Message.{Fault, bad_table, out_of_memory, unreadable}
 use Rattle.smi_files.specs.Files.{AreModulesOf}
 use Rattle.smi_module.specs.declared.tree.Module.{Module}
 use Rattle.smi_nodes.specs.declared.warning.Warning.{Warning}
 use Rattle.smi_tree.specs.Tree.{Contents, IsTree}
-use Rattle.snmp_tools.specs.Mib.{AreLoaded, Holdings, Holds, IsMibOf, MayHold, Mib, mib_of}
-use Rattle.snmp_tools.specs.Plan.{AskFor, FailsBy, IsAfterOf, IsEarlyRefusal, IsLateRefusal, IsRootOf, Plan, Step, root_text}
+use Rattle.snmp_tools.specs.Mib.{AreLoaded, IsMibOf, Mib, mib_of}
+use Rattle.snmp_tools.specs.Plan.{AskFor, FailsForWalk, IsAfterOf, IsEarlyRefusal, IsLateRefusal, IsRootOf, Plan, WalkStep, root_text}
 use Rattle.snmp_tools.specs.Plan.{asking, choices_step, mibs_step, root_step, after_step, reach_step, root_sent_step}
 use Rattle.snmp_tools.specs.Plan.{after_below_step, after_sent_step}
 
 pub held_is : (held : Option (Option (List ℕ))) (text other : List ℕ) → HoldsIfKnown held (Some text) → held ≡ Some (Some other) → text ≡ other
 held_is None text other h e = let no : ⊥ = cc in absurd no
 held_is (Some x) text other h e = cc
+
+-- a file that is known to hold a text isn't without one
+pub is_readable : (text : List ℕ) (held : Option (Option (List ℕ))) → held ≡ Some (Some text) → HoldsIfKnown held None → ⊥
+is_readable text None e k = let no : ⊥ = cc in no
+is_readable text (Some x) e k = let no : ⊥ = cc in no
 
 pub one_path : (a b : List ℕ) → table a ≡ table b → a ≡ b
 one_path a b e = cc
@@ -145,15 +151,11 @@ goes_after mib (Some other) after text root o h e means can =
 module _ (one_list : OneList) (one_tree : OneTree) (no_fault : (ls : List (List ℕ)) (view : MibView) (fault : TableError) → IsTableOf ls view → IsFirstFault ls fault → fault ≡ table_error.Memory)
     (bulk : Bool) (words : WalkWords) (files : Holdings) (rows : List VarBind) (walk : IsWalk bulk words files rows)
     (can : IsFeasible walk.plan walk.view) where
-  unreadable_not : (held : Option (Option (List ℕ))) → held ≡ Some (Some walk.text) → HoldsIfKnown held None → ⊥
-  unreadable_not None e k = let no : ⊥ = cc in no
-  unreadable_not (Some x) e k = let no : ⊥ = cc in no
-
   agent_is : (agent : Address) → HasAgent words.asking.agent agent → agent ≡ table walk.path
   agent_is agent has = sym (has.1 walk.plan.agent walk.asked.agent) ∙ walk.over
 
-  table_want_only : (why : Fault) → TableFails (files walk.path) walk.path why → IsWant why
-  table_want_only why (inl f) = absurd (unreadable_not (files walk.path) walk.held f.0)
+  table_want_only : (why : Fault) → TableFails unreadable bad_table files walk.path why → IsWant why
+  table_want_only why (inl f) = absurd (is_readable walk.text (files walk.path) walk.held f.0)
   table_want_only why (inr f) =
       let same : f.0 ≡ walk.text = held_is (files walk.path) f.0 walk.text f.2 walk.held in
       let memory : f.1 ≡ table_error.Memory =
@@ -189,7 +191,7 @@ module _ (one_list : OneList) (one_tree : OneTree) (no_fault : (ls : List (List 
   asking_want community_step why f = other_way 255 (length words.asking.community) f.0 walk.asked.short_community
   asking_want agent_step why f = f.0 walk.plan.agent walk.asked.agent
 
-  step_want : (step : Step) (why : Fault) → FailsBy bulk words files step why → IsWant why
+  step_want : (step : WalkStep) (why : Fault) → FailsForWalk bulk words files step why → IsWant why
   step_want (asking step) why f = absurd (asking_want step why f)
   step_want choices_step why f = absurd (no_choice (choices_of bulk words.letters) walk.asked.choices f.0 walk.asked.chosen f.1)
   step_want mibs_step why f = absurd (f.3 walk.known.modules walk.known.read)

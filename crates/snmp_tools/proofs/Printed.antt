@@ -8,7 +8,7 @@ use Rattle.snmp_walk.specs.declared.end.WalkEnd.{WalkEnd}
 use Rattle.snmp_walk.specs.declared.end.WalkEnd.TheVariants as ending
 use Rattle.snmp_walk.specs.Sink.{Given, Refused, Took}
 use Rattle.snmp_io.specs.Output.{FailsWithin, Stream, extended}
-use Rattle.snmp_tools.proofs.Streams.{extended-nil, extended-twice}
+use Rattle.snmp_io.specs.Streams.{extended-nil, extended-twice}
 use Rattle.snmp_tools.specs.Lines.{AreLines, TakesLine, IsPrintedUpTo}
 use Rattle.snmp_tools.specs.Mib.{Mib}
 

@@ -8,7 +8,8 @@ use Rattle.snmp_words.specs.Words.{WalkWords}
 use Rattle.snmp_net.specs.Address.{address_of}
 use Rattle.snmp_tools.specs.Asking.{HasAgent, IsNameIfGiven, IsReached, ReachFails}
 use Rattle.snmp_tools.specs.Message.{Fault}
-use Rattle.snmp_tools.specs.Mib.{AreLoaded, Holdings, IsMibOf, MayHold, Mib, mib_of}
+use Rattle.snmp_io.specs.Files.{Holdings, MayHold}
+use Rattle.snmp_tools.specs.Mib.{AreLoaded, IsMibOf, Mib, mib_of}
 use Rattle.snmp_tools.specs.Plan.{AskFor, IsAfterOf, IsLateRefusal, IsRootOf, Plan, root_text}
 use Rattle.snmp_tools.specs.Chosen.{chosen}
 use Rattle.snmp_tools.specs.Planned.{AreOrdersOf, NamesFail}

@@ -3,11 +3,11 @@ use Rattle.std.proofs.Common.{◌≡◌, inl, inr, ℕ, Bool, List, [], ◌∷�
 use Rattle.snmp_words.specs.Words.{WalkWords}
 use Rattle.snmp_tools.specs.Asking.{agent_step, community_step, letters_step, version_step}
 use Rattle.snmp_tools.specs.Message.{Fault}
-use Rattle.snmp_tools.specs.Mib.{Holdings}
-use Rattle.snmp_tools.specs.Plan.{FailsBy, IsDoneBy, IsEarlyRefusal, IsLateRefusal, Step, asking, choices_step, mibs_step, root_step, after_step, reach_step}
-use Rattle.snmp_tools.specs.Plan.{after_below_step, after_sent_step, root_sent_step}
+use Rattle.snmp_io.specs.Files.{Holdings}
+use Rattle.snmp_tools.specs.Plan.{FailsForWalk, IsDoneForWalk, IsEarlyRefusal, IsLateRefusal, WalkStep, asking, choices_step, mibs_step}
+use Rattle.snmp_tools.specs.Plan.{root_step, after_step, reach_step, after_below_step, after_sent_step, root_sent_step}
 use Rattle.snmp_tools.specs.Planned.{AgentFails, ShowingFails}
-use Rattle.snmp_tools.specs.Steps.{IsFirstToFail}
+use Rattle.snmp_io.specs.Steps.{IsFirstToFail}
 
 -- the text of a reference that may be there, or another's
 pub text_or : (o : Option (Bor (List ℕ))) (d : Bor (List ℕ)) → (unwrap_or o d).now ≡ unwrap_or (option_map (λ s. s.now) o) d.now
@@ -29,25 +29,25 @@ module _ {S : Type 0} (IsDone : S → Type 0) (Fails : S → Fault → Type 0) (
   }
 
 module _ (bulk : Bool) (words : WalkWords) (files : Holdings) (why : Fault) where
-  abbrev Done : Step → Type 0
-  Done step = IsDoneBy bulk words files step
+  abbrev Done : WalkStep → Type 0
+  Done step = IsDoneForWalk bulk words files step
 
-  abbrev Fails : Step → Type 0
-  Fails step = FailsBy bulk words files step why
+  abbrev Fails : WalkStep → Type 0
+  Fails step = FailsForWalk bulk words files step why
 
-  abbrev Refused : List Step → Type 0
-  Refused steps = IsFirstToFail steps (IsDoneBy bulk words files) (FailsBy bulk words files) why
+  abbrev Refused : List WalkStep → Type 0
+  Refused steps = IsFirstToFail steps (IsDoneForWalk bulk words files) (FailsForWalk bulk words files) why
 
-  fails : (step : Step) (left : List Step) → Fails step → Refused (step ∷ left)
-  fails step left f = first (IsDoneBy bulk words files) (FailsBy bulk words files) why step left f
+  fails : (step : WalkStep) (left : List WalkStep) → Fails step → Refused (step ∷ left)
+  fails step left f = first (IsDoneForWalk bulk words files) (FailsForWalk bulk words files) why step left f
 
-  goes_on : (step : Step) (steps : List Step) → Done step → Refused steps → Refused (step ∷ steps)
-  goes_on step steps d h = later (IsDoneBy bulk words files) (FailsBy bulk words files) why step steps d h
+  goes_on : (step : WalkStep) (steps : List WalkStep) → Done step → Refused steps → Refused (step ∷ steps)
+  goes_on step steps d h = later (IsDoneForWalk bulk words files) (FailsForWalk bulk words files) why step steps d h
 
-  abbrev sent_steps : List Step
+  abbrev sent_steps : List WalkStep
   sent_steps = root_sent_step ∷ after_below_step ∷ after_sent_step ∷ []
 
-  abbrev name_steps : List Step
+  abbrev name_steps : List WalkStep
   name_steps = root_step ∷ after_step ∷ reach_step ∷ sent_steps
 
   -- before any module file is read
@@ -56,14 +56,14 @@ module _ (bulk : Bool) (words : WalkWords) (files : Holdings) (why : Fault) wher
   at_showing (inr f) = inr (goes_on (asking version_step) _ f.0 (fails (asking letters_step) _ f.1))
 
   module _ (v : Done (asking version_step)) (l : Done (asking letters_step)) where
-    shown : (steps : List Step) → Refused steps → Refused (asking version_step ∷ asking letters_step ∷ steps)
+    shown : (steps : List WalkStep) → Refused steps → Refused (asking version_step ∷ asking letters_step ∷ steps)
     shown steps h = goes_on (asking version_step) _ v (goes_on (asking letters_step) _ l h)
 
     pub at_choices : Fails choices_step → IsEarlyRefusal bulk words files why
     at_choices f = inr (shown _ (fails choices_step _ f))
 
     module _ (c : Done choices_step) where
-      chosen : (steps : List Step) → Refused steps → Refused (asking version_step ∷ asking letters_step ∷ choices_step ∷ steps)
+      chosen : (steps : List WalkStep) → Refused steps → Refused (asking version_step ∷ asking letters_step ∷ choices_step ∷ steps)
       chosen steps h = shown _ (goes_on choices_step _ c h)
 
       pub at_agent : AgentFails words.asking why → IsEarlyRefusal bulk words files why

@@ -16,7 +16,7 @@ use Rattle.snmp_io.specs.Output.{Stream}
 use Rattle.snmp_tools.specs.Outcome.{AreRowsAfter, AreRowsOf, Counts, IsOwnEnd, IsWalked, agent_over, end_in_memory, first_after, first_of}
 use Rattle.snmp_tools.specs.Mib.{Mib}
 use Rattle.snmp_tools.specs.Plan.{Plan}
-use Rattle.snmp_tools.specs.Start.{IsStartOf, rows_after}
+use Rattle.snmp_tools.specs.Start.{IsStartOf, rows_given}
 
 pub own_end : (end : WalkEnd) → IsDoneOrStopped end → IsOwnEnd (end_in_memory end)
 own_end (ending.Done n) s = tt
@@ -99,7 +99,7 @@ counts plan view first rows ending.NoResponse h = tt
 -- the rows of a walk, with the answer to a Get of the name that it begins from
 begun_rows : (after : Option (List ℕ)) (plan : Plan) (view : MibView) (rows : List VarBind) (asked : List ℕ) → AreRowsAfter after plan view rows
     → asked ≡ (first_after after plan).asked → HasOne (IsGet view asked)
-    → (got : VarBind) × IsGet view asked got × (rows ≡ rows_after after plan got (variables view))
+    → (got : VarBind) × IsGet view asked got × (rows ≡ rows_given after plan got (variables view))
 begun_rows None plan view rows asked w e one = (w.0, subst (λ (o : List ℕ). IsGet view o w.0) (sym e) w.1, w.2)
 begun_rows (Some after) plan view rows asked w e one = (one.0, one.1, w)
 
@@ -111,7 +111,7 @@ module _ (plan : Plan) (view : MibView) (core : Walker) (good : IsMibView view) 
       (lawful_in plan view core rows end (facts.replied none))
 
   begun : (whole : List VarBind) → AreRowsOf plan view whole
-      → (got : VarBind) × IsGet view core.asked got × (whole ≡ rows_after plan.after plan got (variables view))
+      → (got : VarBind) × IsGet view core.asked got × (whole ≡ rows_given plan.after plan got (variables view))
   begun whole w = begun_rows plan.after plan view whole core.asked w (ap (λ (c : Walker). c.asked) from.is) (one core.asked)
 
   pub is_walked : IsWalked plan view rows turned (end_in_memory end)

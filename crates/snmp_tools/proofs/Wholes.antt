@@ -6,14 +6,15 @@ use Rattle.snmp_walk.specs.Walker.{Walker}
 use Rattle.snmp_walk.specs.declared.end.WalkEnd.{WalkEnd}
 use Rattle.snmp_words.specs.Words.{WalkWords}
 use Rattle.snmp_tools.specs.Message.{Fault}
-use Rattle.snmp_tools.specs.Mib.{Holdings, Mib}
-use Rattle.snmp_tools.specs.Outcome.{IsOutcomeBy, IsPrintedOver, IsTableOutcome, refused, walked}
+use Rattle.snmp_io.specs.Files.{Holdings}
+use Rattle.snmp_tools.specs.Mib.{Mib}
+use Rattle.snmp_tools.specs.Outcome.{IsWalkOutcomeBy, IsPrintedOver, IsTableOutcome, refused, walked}
 use Rattle.snmp_tools.specs.Plan.{Plan}
 
 pub of_table : (Facts : List ℕ → ℕ → ℕ → Walker → List VarBind → List VarBind → WalkEnd → Type 0) (bulk : Bool) (words : WalkWords) (files : Holdings) (mib :
     Mib)
     (plan : Plan) (before after : Stream) (fault : Option Fault) → IsTableOutcome bulk words files mib plan before after fault
-    → IsOutcomeBy Facts bulk words files mib before after fault
+    → IsWalkOutcomeBy Facts bulk words files mib before after fault
 of_table Facts bulk words files mib plan before after fault (inl r) = refused r.0 r.1 r.2 r.3
 of_table Facts bulk words files mib plan before after fault (inr w) = walked plan w.0 w.1 w.2
 

@@ -1,24 +1,22 @@
 -- The steps that jobs over an agent have in common: the words that say how lines are shown, the
 -- community, and the agent.
-use Rattle.std.specs.Prelude.{◌≡◌, ◌≢◌, ◌<◌, ◌≤◌, ◌⊎◌, ℕ, List, length, Some, None}
+use Rattle.std.specs.Prelude.{◌≡◌, ◌≢◌, ◌<◌, ◌≤◌, ℕ, List, length, Some, None}
 use Rattle.std.specs.Prelude.{Option, Ok, Err, codes}
-use Rattle.std.specs.Str.Lines.{lines}
-use Rattle.smi_files.specs.Files.{AreModulesOf, IsFirstToFail, Refusal}
+use Rattle.smi_files.specs.Files.{AreModulesOf, FilesFail, Refusal}
 use Rattle.smi_module.specs.declared.tree.Module.{Module}
 use Rattle.smi_letters.specs.declared.letters.Letters.{Letters}
 use Rattle.smi_letters.specs.Letters.{AreLetters, first_other}
 use Rattle.smi_name.specs.Meaning.{meaning}
 use Rattle.smi_name.specs.declared.error.NameError.{NameError}
-use Rattle.snmp_io.specs.Files.{HoldsIfKnown}
-use Rattle.snmp_table.specs.Stated.{IsFirstFault, IsTableOf}
+use Rattle.snmp_io.specs.Files.{Holdings, Holds}
+use Rattle.snmp_serve.specs.TableFile.{HasTable, TableFails}
 use Rattle.snmp_table.specs.Table.{MibView}
-use Rattle.snmp_table.specs.declared.error.TableError.{TableError}
 use Rattle.snmp_net.specs.Address.{Address, IsAgent, table, udp}
 use Rattle.snmp_walk.specs.declared.end.WalkEnd.TheVariants as ending
 use Rattle.snmp_words.specs.Words.{AskingWords}
 use Rattle.snmp_tools.specs.Message.{Fault, bad_agent, bad_letter, bad_modules, bad_name, bad_table}
 use Rattle.snmp_tools.specs.Message.{bad_version, ended, long_community, unreadable}
-use Rattle.snmp_tools.specs.Mib.{Holdings, Holds, MayHold, Mib}
+use Rattle.snmp_tools.specs.Mib.{Mib}
 
 -- ---- words before any file is read
 
@@ -60,7 +58,7 @@ AskingFails words agent_step why =
 -- the first module file that can't be read, or whose text has a fault
 abbrev pub MibsFail : Holdings → (paths : List (List ℕ)) → Fault → Type 0
 MibsFail files paths why =
-    (refusal : Refusal) × IsFirstToFail files paths refusal × (why ≡ bad_modules refusal)
+    (refusal : Refusal) × FilesFail files paths refusal × (why ≡ bad_modules refusal)
     × ((modules : List Module) → AreModulesOf (Holds files) paths modules → ⊥)
 
 -- a text that isn't the name of an identifier
@@ -74,17 +72,6 @@ IsNameIfGiven mib None name = name ≡ None
 IsNameIfGiven mib (Some text) name =
     (o : List ℕ) × (meaning mib.naming text ≡ Ok o) × (name ≡ Some o)
 
--- the file at a path states this table
-abbrev pub HasTable : Holdings → List ℕ → MibView → Type 0
-HasTable files path view = (text : List ℕ) × MayHold files path text × IsTableOf (lines text) view
-
--- the file at a path can't be read, or its text states no table
-abbrev pub TableFails : Option (Option (List ℕ)) → List ℕ → Fault → Type 0
-TableFails held path why =
-    (HoldsIfKnown held None × (why ≡ unreadable path))
-    ⊎ ((text : List ℕ) × (error : TableError) × HoldsIfKnown held (Some text)
-    × IsFirstFault (lines text) error × (why ≡ bad_table path error))
-
 -- the agent is over a table that its file states, or there is a link to it
 abbrev pub IsReached : Holdings → Address → Type 0
 IsReached files (table path) = (view : MibView) × HasTable files path view
@@ -92,5 +79,5 @@ IsReached files (udp host port) = Unit {0}
 
 -- its file can't be read or states no table, or no link can be opened
 abbrev pub ReachFails : Holdings → Address → (word : List ℕ) → Fault → Type 0
-ReachFails files (table path) word why = TableFails (files path) path why
+ReachFails files (table path) word why = TableFails unreadable bad_table files path why
 ReachFails files (udp host port) word why = why ≡ ended word ending.Link

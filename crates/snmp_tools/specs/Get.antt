@@ -9,8 +9,9 @@ use Rattle.snmp_tools.specs.Asking.{AreShown, AskingFails, AskingStep, HasAgent,
 use Rattle.snmp_tools.specs.Asking.{IsReached, MibsFail, NameFails, ReachFails, agent_step}
 use Rattle.snmp_tools.specs.Asking.{community_step, letters_step, version_step}
 use Rattle.snmp_tools.specs.Message.{Fault, out_of_memory, unsendable}
-use Rattle.snmp_tools.specs.Mib.{Holdings, IsMibOf, MayHold, Mib}
-use Rattle.snmp_tools.specs.Steps.{AreDone, IsFirstToFail}
+use Rattle.snmp_io.specs.Files.{Holdings, MayHold}
+use Rattle.snmp_tools.specs.Mib.{IsMibOf, Mib}
+use Rattle.snmp_io.specs.Steps.{AreDone, IsFirstToFail}
 
 -- ---- what is asked for
 
@@ -65,8 +66,8 @@ abbrev pub get_naming_steps : GetWords → List GetStep
 get_naming_steps words = map name_step words.names ++ (reach_step ∷ map sent_step words.names)
 
 -- the text states a name
-abbrev pub HasName : Mib → (text : List ℕ) → Type 0
-HasName mib text = (name : List ℕ) × (meaning mib.naming text ≡ Ok name)
+abbrev pub HasMeaning : Mib → (text : List ℕ) → Type 0
+HasMeaning mib text = (name : List ℕ) × (meaning mib.naming text ≡ Ok name)
 
 -- the text states a name that can be sent
 abbrev pub HasSendable : Mib → (text : List ℕ) → Type 0
@@ -83,7 +84,7 @@ abbrev pub IsDoneForGet : GetWords → Holdings → GetStep → Type 0
 IsDoneForGet words files (asking step) = IsAskingDone words.asking step
 IsDoneForGet words files mibs_step = (mib : Mib) × IsMibOf (MayHold files) words.asking mib
 IsDoneForGet words files (name_step text) =
-    (mib : Mib) × IsMibOf (MayHold files) words.asking mib × HasName mib text
+    (mib : Mib) × IsMibOf (MayHold files) words.asking mib × HasMeaning mib text
 IsDoneForGet words files reach_step =
     (agent : Address) × HasAgent words.asking.agent agent × IsReached files agent
 IsDoneForGet words files (sent_step text) =

@@ -19,7 +19,8 @@ use Rattle.snmp_tools.specs.Get.{AskForGet, GetPlan}
 use Rattle.snmp_tools.specs.Got.{agent_for, request_for}
 use Rattle.snmp_tools.specs.Headline.{IsMishap}
 use Rattle.snmp_tools.specs.Lines.{AreLines}
-use Rattle.snmp_tools.specs.Mib.{AreLoaded, Holdings, Holds, Mib}
+use Rattle.snmp_io.specs.Files.{Holdings, Holds}
+use Rattle.snmp_tools.specs.Mib.{AreLoaded, Mib}
 
 -- the words of snmpget ask for names over the table of a file, and these are what Gets of the names
 -- give, each at its name's place

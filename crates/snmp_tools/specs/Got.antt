@@ -17,11 +17,13 @@ use Rattle.smi_nodes.specs.declared.warning.Warning.{Warning}
 use Rattle.snmp_io.specs.Output.{IsWritten, Stream}
 use Rattle.snmp_words.specs.Words.{GetWords}
 use Rattle.snmp_net.specs.Address.{table, udp}
-use Rattle.snmp_tools.specs.Asking.{HasAgent, HasTable}
+use Rattle.snmp_serve.specs.TableFile.{HasTable}
+use Rattle.snmp_tools.specs.Asking.{HasAgent}
 use Rattle.snmp_tools.specs.Get.{AskForGet, GetPlan, IsEarlyGetRefusal, IsLateGetRefusal}
 use Rattle.snmp_tools.specs.Lines.{IsPrintedUpTo}
 use Rattle.snmp_tools.specs.Message.{Fault, ended}
-use Rattle.snmp_tools.specs.Mib.{AreLoaded, Holdings, MayHold, Mib}
+use Rattle.snmp_io.specs.Files.{Holdings, MayHold}
+use Rattle.snmp_tools.specs.Mib.{AreLoaded, Mib}
 use Rattle.snmp_tools.specs.Outcome.{IsOwnEnd, IsReported}
 
 -- ---- the Get

@@ -18,7 +18,8 @@ use Rattle.snmp_io.specs.Output.{IsWritten, Stream, TakesFront, extended}
 use Rattle.snmp_net.specs.Address.{table}
 use Rattle.snmp_words.specs.Words.{WalkWords}
 use Rattle.snmp_tools.specs.Lines.{AreLines, count_text}
-use Rattle.snmp_tools.specs.Mib.{AreLoaded, Holdings, Holds, Mib}
+use Rattle.snmp_io.specs.Files.{Holdings, Holds}
+use Rattle.snmp_tools.specs.Mib.{AreLoaded, Mib}
 use Rattle.snmp_tools.specs.Outcome.{AreRowsOf, agent_over, first_of}
 use Rattle.snmp_tools.specs.Plan.{AskFor, Plan}
 
@@ -40,8 +41,8 @@ pub record IsWalk (bulk : Bool) (words : WalkWords) (files : Holdings) (rows : L
   pub are_rows : AreRowsOf plan view rows
 
 -- the lines of the rows, and with -Cp their number
-abbrev pub IsWhole : Mib → Plan → (rows : List VarBind) → List ℕ → Type 0
-IsWhole mib plan rows text = (shown : List ℕ) × AreLines mib plan.letters rows shown
+abbrev pub IsWholeText : Mib → Plan → (rows : List VarBind) → List ℕ → Type 0
+IsWholeText mib plan rows text = (shown : List ℕ) × AreLines mib plan.letters rows shown
     × (text ≡ shown ++ count_text plan.counts (length rows))
 
 -- Whatever fails, a front of the lines of the first rows is written, or of the whole text, and
@@ -50,14 +51,14 @@ abbrev pub WritesFront : Bool → WalkWords → Holdings → (before after : Str
 WritesFront bulk words files before after =
     (rows : List VarBind) (walk : IsWalk bulk words files rows)
     → (first : List VarBind) × (rest : List VarBind) × (text : List ℕ) × (rows ≡ first ++ rest)
-    × (AreLines walk.mib walk.plan.letters first text ⊎ IsWhole walk.mib walk.plan rows text)
+    × (AreLines walk.mib walk.plan.letters first text ⊎ IsWholeText walk.mib walk.plan rows text)
     × TakesFront before text after
 
 -- At status 0 the whole text is.
 abbrev pub WritesAllAtStatus0 : Bool → WalkWords → Holdings → (before after : Stream) → ℕ → Type 0
 WritesAllAtStatus0 bulk words files before after status =
     (rows : List VarBind) (walk : IsWalk bulk words files rows) → status ≡ 0
-    → (text : List ℕ) × IsWhole walk.mib walk.plan rows text × (after ≡ extended before text)
+    → (text : List ℕ) × IsWholeText walk.mib walk.plan rows text × (after ≡ extended before text)
 
 -- the name to go on after is the root or below it, and can be sent
 abbrev pub CanGoOn : List ℕ → Option (List ℕ) → Type 0

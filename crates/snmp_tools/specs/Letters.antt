@@ -16,9 +16,9 @@ put octet parts = if is_digit octet then (octet ∷ parts.0, parts.1)
     else ([], (octet, parts.0) ∷ parts.1)
 
 -- the digits at the front of a text, and then its letters, each with the digits after it
-abbrev pub parts_of : List ℕ → List ℕ × List (ℕ × List ℕ)
-parts_of [] = ([], [])
-parts_of (octet ∷ text) = put octet (parts_of text)
+abbrev pub letter_parts : List ℕ → List ℕ × List (ℕ × List ℕ)
+letter_parts [] = ([], [])
+letter_parts (octet ∷ text) = put octet (letter_parts text)
 
 -- what the letters of -C choose: `i` includes the root, `p` counts what is printed, snmpwalk's `I`
 -- leaves out the last Get, and snmpbulkwalk's `r` has the number of repetitions after it
@@ -43,8 +43,8 @@ repetitions_in digits =
     then Some (digits_value 10 digits) else None
 
 -- the choices after a letter that has no number
-abbrev pub after_letter : Bool → ℕ → Choices → Option Choices
-after_letter bulk letter choices =
+abbrev pub with_letter : Bool → ℕ → Choices → Option Choices
+with_letter bulk letter choices =
     if letter == 105 then Some (record choices { includes_root = true })
     else (if letter == 112 then Some (record choices { counts = true })
     else (if not bulk && (letter == 73) then Some (record choices { leaves_last_get = true })
@@ -64,7 +64,7 @@ with_number letter choices (Some n) = Ok (record choices { repetitions = n })
 abbrev pub after_part : Bool → ℕ × List ℕ → Choices → Result Choices ℕ
 after_part bulk (letter, digits) choices =
     if bulk && (letter == 114) then with_number letter choices (repetitions_in digits)
-    else without_digits letter digits (after_letter bulk letter choices)
+    else without_digits letter digits (with_letter bulk letter choices)
 
 abbrev pub after_parts : Bool → List (ℕ × List ℕ) → Result Choices ℕ → Result Choices ℕ
 after_parts bulk [] choices = choices
@@ -78,7 +78,7 @@ after_whole bulk choices (digit ∷ digits, letters) = Err digit
 
 -- what the letters of -C choose, or the first octet of them that has no meaning
 abbrev pub choices_of : Bool → List ℕ → Result Choices ℕ
-choices_of bulk text = after_whole bulk no_choices (parts_of text)
+choices_of bulk text = after_whole bulk no_choices (letter_parts text)
 
 -- ---- what a walk gives, and by which requests it asks
 

@@ -14,6 +14,5 @@ pub mod Plan
 pub mod Planned
 pub mod Serving
 pub mod Start
-pub mod Steps
 pub mod Translating
 pub mod Usage

@@ -84,14 +84,14 @@ sink_message sink.Output = codes "The output failed."
 sink_message sink.Memory = codes "Out of memory."
 
 -- an error status and error index
-abbrev pub fault_text : ℤ → ℤ → List ℕ
-fault_text status index = codes "Error in packet: " ++ status_name status ++ codes " ("
+abbrev pub error_status_text : ℤ → ℤ → List ℕ
+error_status_text status index = codes "Error in packet: " ++ status_name status ++ codes " ("
     ++ signed_decimal status ++ codes "), index " ++ signed_decimal index
 
 -- how a walk ended before all of it was given
 abbrev pub end_message : List ℕ → WalkEnd → List ℕ
 end_message agent (walk_end.Done count) = []
-end_message agent (walk_end.Fault status index) = fault_text status index
+end_message agent (walk_end.Fault status index) = error_status_text status index
 end_message agent (walk_end.NoProgress asked) = codes "No progress after " ++ numeric_text asked
 end_message agent walk_end.BadReply = codes "Bad reply from " ++ agent ++ codes "."
 end_message agent (walk_end.NotIncreasing last got) =

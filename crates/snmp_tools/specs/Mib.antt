@@ -1,5 +1,5 @@
 -- By which names and types of objects a job reads names and shows lines.
-use Rattle.std.specs.Prelude.{◌≡◌, ℕ, List, Option, Some}
+use Rattle.std.specs.Prelude.{◌≡◌, ℕ, List, Option}
 use Rattle.smi_files.specs.Files.{AreModulesOf}
 use Rattle.smi_module.specs.declared.tree.Module.{Module}
 use Rattle.smi_name.specs.Naming.{Naming}
@@ -7,20 +7,7 @@ use Rattle.smi_nodes.specs.declared.warning.Warning.{Warning}
 use Rattle.smi_tree.specs.Naming.{naming_of, nearest_syntax}
 use Rattle.smi_tree.specs.Tree.{Contents, IsTree}
 use Rattle.smi_value.specs.Syntax.{ObjectSyntax}
-use Rattle.snmp_io.specs.Files.{HoldsIfKnown}
 use Rattle.snmp_words.specs.Words.{AskingWords}
-
--- what is known of files: by its path, the text of each, or that it has none
-abbrev pub Holdings : Type 0
-Holdings = List ℕ → Option (Option (List ℕ))
-
--- the file at a path is known to hold this text
-abbrev pub Holds : Holdings → (path text : List ℕ) → Type 0
-Holds files path text = files path ≡ Some (Some text)
-
--- it holds this text, as far as that is known
-abbrev pub MayHold : Holdings → (path text : List ℕ) → Type 0
-MayHold files path text = HoldsIfKnown (files path) (Some text)
 
 -- the names of nodes, and the syntax of the object whose instance a name is
 pub record Mib : Type 0 where

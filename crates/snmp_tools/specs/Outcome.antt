@@ -23,8 +23,10 @@ use Rattle.snmp_words.specs.Words.{WalkWords}
 use Rattle.snmp_tools.specs.Lines.{IsPrintedUpTo, count_text}
 use Rattle.snmp_tools.specs.Message.{Fault, ended, message_of, out_of_memory, status_of}
 use Rattle.snmp_net.specs.Address.{table, udp}
-use Rattle.snmp_tools.specs.Asking.{HasAgent, HasTable}
-use Rattle.snmp_tools.specs.Mib.{AreLoaded, Holdings, IsMibOf, MayHold, Mib}
+use Rattle.snmp_serve.specs.TableFile.{HasTable}
+use Rattle.snmp_tools.specs.Asking.{HasAgent}
+use Rattle.snmp_io.specs.Files.{Holdings, MayHold}
+use Rattle.snmp_tools.specs.Mib.{AreLoaded, IsMibOf, Mib}
 use Rattle.snmp_tools.specs.Plan.{AskFor, IsEarlyRefusal, IsLateRefusal, Plan}
 
 -- ---- the walk
@@ -119,7 +121,7 @@ IsFinished counts agent (ending.Done count) before after fault =
 IsFinished counts agent end before after fault = (after ≡ before) × (fault ≡ Some (ended agent end))
 
 -- the walk of a plan over a table was printed, and why not all of it, if not all was
-pub record IsPrinted (mib : Mib) (plan : Plan) (view : MibView) (agent : List ℕ)
+pub record IsWalkPrinted (mib : Mib) (plan : Plan) (view : MibView) (agent : List ℕ)
     (before after : Stream) (fault : Option Fault) : Type 0 where
   pub given : List VarBind
   pub turned : List VarBind
@@ -160,37 +162,37 @@ abbrev pub IsTableOutcome : Bool → WalkWords → Holdings → Mib → Plan →
 IsTableOutcome bulk words files mib plan before after fault =
     ((why : Fault) × IsLateRefusal bulk words files why × (after ≡ before) × (fault ≡ Some why))
     ⊎ ((view : MibView) × IsWalkOver bulk words files mib plan view
-    × IsPrinted mib plan view words.asking.agent before after fault)
+    × IsWalkPrinted mib plan view words.asking.agent before after fault)
 
 -- What a job wrote by the names and types of its modules, and why it wasn't done, if it wasn't.
 -- `Facts` are what is known of a walk over a link to a port of a host, with so many tries.
-pub data IsOutcomeBy (Facts : (host : List ℕ) → (port tries : ℕ) → Walker
+pub data IsWalkOutcomeBy (Facts : (host : List ℕ) → (port tries : ℕ) → Walker
     → (given refused : List VarBind) → WalkEnd → Type 0) (bulk : Bool) (words : WalkWords)
     (files : Holdings) (mib : Mib) (before after : Stream) (fault : Option Fault) : Type 0 where
   refused : (why : Fault) → IsLateRefusal bulk words files why → after ≡ before → fault ≡ Some why
-      → IsOutcomeBy Facts bulk words files mib before after fault
+      → IsWalkOutcomeBy Facts bulk words files mib before after fault
   walked : (plan : Plan) (view : MibView) → IsWalkOver bulk words files mib plan view
-      → IsPrinted mib plan view words.asking.agent before after fault
-      → IsOutcomeBy Facts bulk words files mib before after fault
+      → IsWalkPrinted mib plan view words.asking.agent before after fault
+      → IsWalkOutcomeBy Facts bulk words files mib before after fault
   walked_over : (plan : Plan) (net : IsNetWalk bulk words files mib plan)
       → IsPrintedOver (Facts net.host net.port (words.asking.retries + 1) (first_of plan))
       mib plan words.asking.agent before after fault
-      → IsOutcomeBy Facts bulk words files mib before after fault
+      → IsWalkOutcomeBy Facts bulk words files mib before after fault
 
 -- What a job wrote on its output and, of the warnings of its modules, on standard error: nothing
 -- where it was refused before these were loaded; else their lines, before anything else.
-pub data IsOutcome (Facts : (host : List ℕ) → (port tries : ℕ) → Walker
+pub data IsWalkOutcome (Facts : (host : List ℕ) → (port tries : ℕ) → Walker
     → (given refused : List VarBind) → WalkEnd → Type 0) (bulk : Bool) (words : WalkWords)
     (files : Holdings) (before after err_before warned : Stream) (fault : Option Fault) : Type 0
   where
     not_loaded : (why : Fault) → IsEarlyRefusal bulk words files why → after ≡ before
         → warned ≡ err_before → fault ≡ Some why
-        → IsOutcome Facts bulk words files before after err_before warned fault
+        → IsWalkOutcome Facts bulk words files before after err_before warned fault
     loaded : (mib : Mib) (warnings : List Warning)
         → AreLoaded (MayHold files) words.asking.mibs mib warnings
         → IsWritten err_before (warning_lines warnings) warned
-        → IsOutcomeBy Facts bulk words files mib before after fault
-        → IsOutcome Facts bulk words files before after err_before warned fault
+        → IsWalkOutcomeBy Facts bulk words files mib before after fault
+        → IsWalkOutcome Facts bulk words files before after err_before warned fault
 
 -- ---- what is reported
 
@@ -204,12 +206,12 @@ IsReported (Some why) before after status =
     ⊎ IsWritten before (codes "Out of memory.\n") after)
 
 -- the outcome of a job, which is reported
-pub record IsRun (Facts : (host : List ℕ) → (port tries : ℕ) → Walker
+pub record IsWalkRun (Facts : (host : List ℕ) → (port tries : ℕ) → Walker
     → (given refused : List VarBind) → WalkEnd → Type 0)
     (bulk : Bool) (words : WalkWords) (files : Holdings)
     (out_before out_after err_before err_after : Stream) (status : ℕ) : Type 0 where
   pub fault : Option Fault
   -- what was written of warnings comes before what is reported
   pub warned : Stream
-  pub outcome : IsOutcome Facts bulk words files out_before out_after err_before warned fault
+  pub outcome : IsWalkOutcome Facts bulk words files out_before out_after err_before warned fault
   pub reported : IsReported fault warned err_after status

@@ -13,8 +13,9 @@ use Rattle.snmp_tools.specs.Asking.{IsNameIfGiven, IsReached, MibsFail, NameFail
 use Rattle.snmp_tools.specs.Asking.{agent_step, community_step, letters_step, version_step}
 use Rattle.snmp_tools.specs.Letters.{Choices, choices_of, method_of, mode_of}
 use Rattle.snmp_tools.specs.Message.{Fault, bad_letter, out_of_memory, outside_root, unsendable}
-use Rattle.snmp_tools.specs.Mib.{Holdings, IsMibOf, MayHold, Mib}
-use Rattle.snmp_tools.specs.Steps.{AreDone, IsFirstToFail}
+use Rattle.snmp_io.specs.Files.{Holdings, MayHold}
+use Rattle.snmp_tools.specs.Mib.{IsMibOf, Mib}
+use Rattle.snmp_io.specs.Steps.{AreDone, IsFirstToFail}
 
 -- ---- what is asked for
 
@@ -56,24 +57,24 @@ pub record AskFor (bulk : Bool) (words : WalkWords) (mib : Mib) (plan : Plan) : 
 -- ---- why not
 
 -- the work of a walk before its first request, in its order
-pub data Step : Type 0 where
-  asking : AskingStep → Step
-  choices_step : Step
-  mibs_step : Step
-  root_step : Step
-  after_step : Step
-  reach_step : Step
-  root_sent_step : Step
-  after_below_step : Step
-  after_sent_step : Step
+pub data WalkStep : Type 0 where
+  asking : AskingStep → WalkStep
+  choices_step : WalkStep
+  mibs_step : WalkStep
+  root_step : WalkStep
+  after_step : WalkStep
+  reach_step : WalkStep
+  root_sent_step : WalkStep
+  after_below_step : WalkStep
+  after_sent_step : WalkStep
 
 -- up to the modules
-abbrev pub loading_steps : List Step
+abbrev pub loading_steps : List WalkStep
 loading_steps = asking version_step ∷ asking letters_step ∷ choices_step ∷ asking community_step
     ∷ asking agent_step ∷ mibs_step ∷ []
 
 -- by the names of the modules
-abbrev pub naming_steps : List Step
+abbrev pub naming_steps : List WalkStep
 naming_steps = root_step ∷ after_step ∷ reach_step ∷ root_sent_step ∷ after_below_step
     ∷ after_sent_step ∷ []
 
@@ -91,46 +92,46 @@ pub record IsAfterOf (words : WalkWords) (files : Holdings) (text after : List �
   pub means : meaning mib.naming text ≡ Ok after
 
 -- the step is done: what it looks for is there
-abbrev pub IsDoneBy : Bool → WalkWords → Holdings → Step → Type 0
-IsDoneBy bulk words files (asking step) = IsAskingDone words.asking step
-IsDoneBy bulk words files choices_step =
+abbrev pub IsDoneForWalk : Bool → WalkWords → Holdings → WalkStep → Type 0
+IsDoneForWalk bulk words files (asking step) = IsAskingDone words.asking step
+IsDoneForWalk bulk words files choices_step =
     (choices : Choices) × (choices_of bulk words.letters ≡ Ok choices)
-IsDoneBy bulk words files mibs_step = (mib : Mib) × IsMibOf (MayHold files) words.asking mib
-IsDoneBy bulk words files root_step = (root : List ℕ) × IsRootOf words files root
-IsDoneBy bulk words files after_step =
+IsDoneForWalk bulk words files mibs_step = (mib : Mib) × IsMibOf (MayHold files) words.asking mib
+IsDoneForWalk bulk words files root_step = (root : List ℕ) × IsRootOf words files root
+IsDoneForWalk bulk words files after_step =
     (mib : Mib) × (after : Option (List ℕ)) × IsMibOf (MayHold files) words.asking mib
     × IsNameIfGiven mib words.after after
-IsDoneBy bulk words files reach_step =
+IsDoneForWalk bulk words files reach_step =
     (agent : Address) × HasAgent words.asking.agent agent × IsReached files agent
-IsDoneBy bulk words files root_sent_step =
+IsDoneForWalk bulk words files root_sent_step =
     (root : List ℕ) × IsRootOf words files root × IsWire (wire root)
-IsDoneBy bulk words files after_below_step =
+IsDoneForWalk bulk words files after_below_step =
     (root : List ℕ) × (text : List ℕ) × (after : List ℕ) × IsRootOf words files root
     × IsAfterOf words files text after × ((after ≡ root) ⊎ IsBelow after root)
-IsDoneBy bulk words files after_sent_step = Unit {0}
+IsDoneForWalk bulk words files after_sent_step = Unit {0}
 
 -- the step fails for this reason
-abbrev pub FailsBy : Bool → WalkWords → Holdings → Step → Fault → Type 0
-FailsBy bulk words files (asking step) why = AskingFails words.asking step why
-FailsBy bulk words files choices_step why =
+abbrev pub FailsForWalk : Bool → WalkWords → Holdings → WalkStep → Fault → Type 0
+FailsForWalk bulk words files (asking step) why = AskingFails words.asking step why
+FailsForWalk bulk words files choices_step why =
     (letter : ℕ) × (choices_of bulk words.letters ≡ Err letter) × (why ≡ bad_letter letter)
-FailsBy bulk words files mibs_step why = MibsFail files words.asking.mibs why
-FailsBy bulk words files root_step why =
+FailsForWalk bulk words files mibs_step why = MibsFail files words.asking.mibs why
+FailsForWalk bulk words files root_step why =
     (mib : Mib) × IsMibOf (MayHold files) words.asking mib × NameFails mib (root_text words) why
-FailsBy bulk words files after_step why =
+FailsForWalk bulk words files after_step why =
     (mib : Mib) × (text : List ℕ) × IsMibOf (MayHold files) words.asking mib
     × (words.after ≡ Some text) × NameFails mib text why
-FailsBy bulk words files reach_step why =
+FailsForWalk bulk words files reach_step why =
     (agent : Address) × HasAgent words.asking.agent agent
     × ReachFails files agent words.asking.agent why
-FailsBy bulk words files root_sent_step why =
+FailsForWalk bulk words files root_sent_step why =
     (root : List ℕ) × IsRootOf words files root × (IsWire (wire root) → ⊥)
     × (why ≡ unsendable (root_text words))
-FailsBy bulk words files after_below_step why =
+FailsForWalk bulk words files after_below_step why =
     (root : List ℕ) × (text : List ℕ) × (after : List ℕ) × IsRootOf words files root
     × IsAfterOf words files text after × ((after ≡ root) ⊎ IsBelow after root → ⊥)
     × (why ≡ outside_root text)
-FailsBy bulk words files after_sent_step why =
+FailsForWalk bulk words files after_sent_step why =
     (text : List ℕ) × (after : List ℕ) × IsAfterOf words files text after
     × (IsWire (wire after) → ⊥) × (why ≡ unsendable text)
 
@@ -138,11 +139,13 @@ FailsBy bulk words files after_sent_step why =
 abbrev pub IsEarlyRefusal : Bool → WalkWords → Holdings → Fault → Type 0
 IsEarlyRefusal bulk words files why =
     (why ≡ out_of_memory)
-    ⊎ IsFirstToFail loading_steps (IsDoneBy bulk words files) (FailsBy bulk words files) why
+    ⊎ IsFirstToFail loading_steps (IsDoneForWalk bulk words files)
+    (FailsForWalk bulk words files) why
 
 -- why there is no walk by the modules that were loaded: memory ran out, or a later step failed
 abbrev pub IsLateRefusal : Bool → WalkWords → Holdings → Fault → Type 0
 IsLateRefusal bulk words files why =
     (why ≡ out_of_memory)
-    ⊎ (AreDone (IsDoneBy bulk words files) loading_steps
-    × IsFirstToFail naming_steps (IsDoneBy bulk words files) (FailsBy bulk words files) why)
+    ⊎ (AreDone (IsDoneForWalk bulk words files) loading_steps
+    × IsFirstToFail naming_steps (IsDoneForWalk bulk words files)
+    (FailsForWalk bulk words files) why)

@@ -13,7 +13,8 @@ use Rattle.snmp_tools.specs.Asking.{agent_step, community_step, letters_step, ve
 use Rattle.snmp_tools.specs.Chosen.{chosen}
 use Rattle.snmp_tools.specs.Letters.{choices_of}
 use Rattle.snmp_tools.specs.Message.{Fault}
-use Rattle.snmp_tools.specs.Mib.{Holdings, IsMibOf, MayHold, Mib}
+use Rattle.snmp_io.specs.Files.{Holdings, MayHold}
+use Rattle.snmp_tools.specs.Mib.{IsMibOf, Mib}
 use Rattle.snmp_tools.specs.Plan as plan
 use Rattle.snmp_tools.specs.Plan.{AskFor, root_text}
 use Rattle.snmp_tools.specs.declared.plan.Orders.{Orders}

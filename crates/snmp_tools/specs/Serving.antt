@@ -4,8 +4,9 @@ use Rattle.snmp_agent.specs.Reply.{Agent}
 use Rattle.snmp_agent.specs.declared.server.Served.{Served}
 use Rattle.snmp_io.specs.Output.{Stream}
 use Rattle.snmp_serve.specs.Fault as serve
-use Rattle.snmp_serve.specs.Outcome.{Faults, IsOutcome}
-use Rattle.snmp_serve.specs.Service.{Holdings}
+use Rattle.snmp_serve.specs.Fault.{ServeFault}
+use Rattle.snmp_serve.specs.Outcome.{Faults, IsServeOutcome}
+use Rattle.snmp_io.specs.Files.{Holdings}
 use Rattle.snmp_walk.specs.declared.end.SinkFault.TheVariants as sink
 use Rattle.snmp_walk.specs.declared.end.WalkEnd.TheVariants as ending
 use Rattle.snmp_words.specs.Words.{ServeWords}
@@ -18,7 +19,7 @@ abbrev pub risen : (before after : ℕ) → Faults
 risen before after = record { before = before; after = after }
 
 -- why a table isn't served at the place of a word, as the tools report it
-abbrev pub reported_as : (word : List ℕ) → serve.Fault → Fault
+abbrev pub reported_as : (word : List ℕ) → ServeFault → Fault
 reported_as word serve.long_community = long_community
 reported_as word (serve.bad_place place) = bad_agent place
 reported_as word (serve.unreadable path) = unreadable path
@@ -31,7 +32,7 @@ reported_as word serve.no_memory = out_of_memory
 pub record IsServeRun (Serves : Agent → ℕ → Served → Type 0) (faults : Faults) (words : ServeWords)
     (files : Holdings) (out_before out_after err_before err_after : Stream) (status : ℕ) : Type 0
   where
-    pub fault : Option serve.Fault
-    pub outcome : IsOutcome Serves faults words files out_before out_after fault
+    pub fault : Option ServeFault
+    pub outcome : IsServeOutcome Serves faults words files out_before out_after fault
     pub reported : IsReported (option_map (reported_as words.listen) fault) err_before err_after
         status

@@ -12,16 +12,16 @@ use Rattle.snmp_tools.specs.Outcome.{first_of}
 use Rattle.snmp_tools.specs.Plan.{Plan}
 
 -- the rows that the walk gives, `got` being what a Get of the root gives
-abbrev pub rows_after : Option (List ℕ) → Plan → VarBind → List VarBind → List VarBind
-rows_after None plan got rows = walk_of plan.mode plan.root got rows
-rows_after (Some after) plan got rows = rest_of plan.root (wire after) rows
+abbrev pub rows_given : Option (List ℕ) → Plan → VarBind → List VarBind → List VarBind
+rows_given None plan got rows = walk_of plan.mode plan.root got rows
+rows_given (Some after) plan got rows = rest_of plan.root (wire after) rows
 
 -- the core is that of the plan's walk, before its first request
 pub record IsStartOf (core : Walker) (plan : Plan) : Type 0 where
   pub is : core ≡ first_of plan
   pub fresh : IsFresh core
   pub gives : (view : MibView) (got : VarBind) → IsMibView view
-      → walk_at core view got ≡ rows_after plan.after plan got (variables view)
+      → walk_at core view got ≡ rows_given plan.after plan got (variables view)
 
 -- a walk can't go on after the name: it isn't below the root, or can't be sent
 abbrev pub ResumeFails : (root after text : List ℕ) → Fault → Type 0

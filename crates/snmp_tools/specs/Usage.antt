@@ -1,12 +1,7 @@
 -- What is done with words that the command doesn't take.
-use Rattle.std.specs.Prelude.{◌≡◌, ◌⊎◌, ℕ, List, map}
-use Rattle.std.specs.Borrow.{Bor}
+use Rattle.std.specs.Prelude.{◌≡◌, ◌⊎◌, ℕ, List}
 use Rattle.snmp_io.specs.Output.{FailsWithin, Stream, extended}
 use Rattle.snmp_words.specs.Words.{AskForHelp}
-
--- the texts of borrowed words
-abbrev pub texts : List (Bor (List ℕ)) → List (List ℕ)
-texts words = map (λ word. word.now) words
 
 -- help was printed at status 0, or the output failed at status 1
 abbrev pub PrintsHelp : Stream → List ℕ → Stream → ℕ → Type 0

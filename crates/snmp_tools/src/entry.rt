@@ -4,15 +4,16 @@ ghost use Rattle.snmp_words.specs.Command.{is_taken};
 ghost use Rattle.snmp_serve.specs.Outcome.{AtDoor};
 ghost use Rattle.snmp_words.specs.Words.{AreFaulty, GetWords, ServeWords, WalkWords, snmpd};
 ghost use Rattle.snmp_words.specs.Words.{TranslateWords, snmpget, snmptranslate, stated_job};
+ghost use Rattle.snmp_words.specs.Words.{texts_at};
 ghost use Rattle.snmp_tools.specs.Serving.{IsServeRun, risen};
 ghost use Rattle.snmp_tools.specs.GetHeadline.{GetEndsAtStatus0, GetWritesAllAtStatus0};
 ghost use Rattle.snmp_tools.specs.GetHeadline.{GetWritesFront};
 ghost use Rattle.snmp_tools.specs.Got.{HasGetFacts, IsGetRun};
 ghost use Rattle.snmp_tools.specs.Headline.{EndsAtStatus0, WritesAllAtStatus0, WritesFront};
-ghost use Rattle.snmp_tools.specs.Outcome.{HasLinkFacts, IsRun};
+ghost use Rattle.snmp_tools.specs.Outcome.{HasLinkFacts, IsWalkRun};
 ghost use Rattle.snmp_tools.specs.Planned.{walk_stated};
 ghost use Rattle.snmp_tools.specs.Translating.{IsTranslated};
-ghost use Rattle.snmp_tools.specs.Usage.{IsHelpOrMistake, PrintsHelp, texts};
+ghost use Rattle.snmp_tools.specs.Usage.{IsHelpOrMistake, PrintsHelp};
 
 use crate::job::{run_job, tell};
 use snmp_io::{Files, Output, write_all};
@@ -34,50 +35,50 @@ pub fn tool<F: Files, L: Links, O: Output, E: Output>(
     out: &mut O,
     err: &mut E,
 ) -> u8
-    ensures translated { (w : TranslateWords) → is_taken (texts words.now) ≡ true
-        → stated_job (texts words.now) ≡ Some (snmptranslate w)
+    ensures translated { (w : TranslateWords) → is_taken (texts_at words.now) ≡ true
+        → stated_job (texts_at words.now) ≡ Some (snmptranslate w)
         → IsTranslated w (F.text_at files.now) (O.stream out.old) (O.stream out.new)
         (E.stream err.old) (E.stream err.new) result }
-    ensures outcome_reported { (bulk : Bool) (w : WalkWords) → is_taken (texts words.now) ≡ true
-        → stated_job (texts words.now) ≡ Some (walk_stated bulk w)
-        → IsRun (HasLinkFacts (L.opens links.old) L.Wire.honest L.Wire.agents L.Wire.traffic)
+    ensures outcome_reported { (bulk : Bool) (w : WalkWords) → is_taken (texts_at words.now) ≡ true
+        → stated_job (texts_at words.now) ≡ Some (walk_stated bulk w)
+        → IsWalkRun (HasLinkFacts (L.opens links.old) L.Wire.honest L.Wire.agents L.Wire.traffic)
         bulk w (F.text_at files.now) (O.stream out.old) (O.stream out.new)
         (E.stream err.old) (E.stream err.new) result }
-    ensures front_written { (bulk : Bool) (w : WalkWords) → is_taken (texts words.now) ≡ true
-        → stated_job (texts words.now) ≡ Some (walk_stated bulk w)
+    ensures front_written { (bulk : Bool) (w : WalkWords) → is_taken (texts_at words.now) ≡ true
+        → stated_job (texts_at words.now) ≡ Some (walk_stated bulk w)
         → WritesFront bulk w (F.text_at files.now) (O.stream out.old) (O.stream out.new) }
     ensures all_written_at_status_0 { (bulk : Bool) (w : WalkWords)
-        → is_taken (texts words.now) ≡ true
-        → stated_job (texts words.now) ≡ Some (walk_stated bulk w)
+        → is_taken (texts_at words.now) ≡ true
+        → stated_job (texts_at words.now) ≡ Some (walk_stated bulk w)
         → WritesAllAtStatus0 bulk w (F.text_at files.now)
         (O.stream out.old) (O.stream out.new) result }
-    ensures ends_at_status_0 { (bulk : Bool) (w : WalkWords) → is_taken (texts words.now) ≡ true
-        → stated_job (texts words.now) ≡ Some (walk_stated bulk w)
+    ensures ends_at_status_0 { (bulk : Bool) (w : WalkWords) → is_taken (texts_at words.now) ≡ true
+        → stated_job (texts_at words.now) ≡ Some (walk_stated bulk w)
         → EndsAtStatus0 bulk w (F.text_at files.now)
         (O.stream out.old) (O.stream out.new) (E.stream err.old) (E.stream err.new) result }
-    ensures get_reported { (w : GetWords) → is_taken (texts words.now) ≡ true
-        → stated_job (texts words.now) ≡ Some (snmpget w)
+    ensures get_reported { (w : GetWords) → is_taken (texts_at words.now) ≡ true
+        → stated_job (texts_at words.now) ≡ Some (snmpget w)
         → IsGetRun (HasGetFacts (L.opens links.old) L.Wire.honest L.Wire.agents L.Wire.traffic)
         w (F.text_at files.now) (O.stream out.old) (O.stream out.new)
         (E.stream err.old) (E.stream err.new) result }
-    ensures get_front_written { (w : GetWords) → is_taken (texts words.now) ≡ true
-        → stated_job (texts words.now) ≡ Some (snmpget w)
+    ensures get_front_written { (w : GetWords) → is_taken (texts_at words.now) ≡ true
+        → stated_job (texts_at words.now) ≡ Some (snmpget w)
         → GetWritesFront w (F.text_at files.now) (O.stream out.old) (O.stream out.new) }
-    ensures get_all_written_at_status_0 { (w : GetWords) → is_taken (texts words.now) ≡ true
-        → stated_job (texts words.now) ≡ Some (snmpget w)
+    ensures get_all_written_at_status_0 { (w : GetWords) → is_taken (texts_at words.now) ≡ true
+        → stated_job (texts_at words.now) ≡ Some (snmpget w)
         → GetWritesAllAtStatus0 w (F.text_at files.now)
         (O.stream out.old) (O.stream out.new) result }
-    ensures get_ends_at_status_0 { (w : GetWords) → is_taken (texts words.now) ≡ true
-        → stated_job (texts words.now) ≡ Some (snmpget w)
+    ensures get_ends_at_status_0 { (w : GetWords) → is_taken (texts_at words.now) ≡ true
+        → stated_job (texts_at words.now) ≡ Some (snmpget w)
         → GetEndsAtStatus0 w (F.text_at files.now)
         (O.stream out.old) (O.stream out.new) (E.stream err.old) (E.stream err.new) result }
-    ensures served { (w : ServeWords) → is_taken (texts words.now) ≡ true
-        → stated_job (texts words.now) ≡ Some (snmpd w)
+    ensures served { (w : ServeWords) → is_taken (texts_at words.now) ≡ true
+        → stated_job (texts_at words.now) ≡ Some (snmpd w)
         → IsServeRun (AtDoor L.serves) (risen (L.fault_count links.old) (L.fault_count links.new))
         w (F.text_at files.now) (O.stream out.old) (O.stream out.new)
         (E.stream err.old) (E.stream err.new) result }
-    ensures help_or_mistake { AreFaulty (texts words.now)
-        → IsHelpOrMistake (texts words.now)
+    ensures help_or_mistake { AreFaulty (texts_at words.now)
+        → IsHelpOrMistake (texts_at words.now)
         (O.stream out.old) (O.stream out.new) result }
 {
     match read_words(alloc, words) {

@@ -3,7 +3,7 @@ ghost use Rattle.std.specs.Prelude.{◌≡◌, ◌++◌, ◌∷◌, codes, decim
 ghost use Rattle.std.specs.Fmt.{signed_decimal};
 ghost use Rattle.snmp_oid.specs.Numeric.{numeric_text};
 ghost use Rattle.text_draft.specs.Draft.{Adds};
-ghost use Rattle.snmp_tools.specs.Message.{end_message, fault_text, name_fault, status_name};
+ghost use Rattle.snmp_tools.specs.Message.{end_message, error_status_text, name_fault, status_name};
 ghost use Rattle.snmp_tools.specs.Message.{table_message};
 
 use smi_files::FilesError;
@@ -176,7 +176,7 @@ fn falling_message(out: &mut Draft, last: &Oid, got: &Oid)
 
 // An error status and error index.
 fn fault_message(out: &mut Draft, status: &i32, index: &i32)
-    ensures { Adds out.old (fault_text status.now index.now) out.new }
+    ensures { Adds out.old (error_status_text status.now index.now) out.new }
 {
     two_texts(out, b"Error in packet: ", status_name(*status));
     text_and_integer(out, b" (", status);

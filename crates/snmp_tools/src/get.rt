@@ -11,7 +11,8 @@ ghost use Rattle.snmp_tools.specs.Got.{AreForNames, AreFromAgents, HasGetFacts, 
 ghost use Rattle.snmp_tools.specs.Got.{IsGetOutcome, IsGetOutcomeBy, IsGetPrinted, IsGetRun};
 ghost use Rattle.snmp_tools.specs.Got.{IsGetTableOutcome, IsGot, fault_at, request_for};
 ghost use Rattle.snmp_tools.specs.Message.{fault_of};
-ghost use Rattle.snmp_tools.specs.Mib.{Holdings, IsMibOf, MayHold};
+ghost use Rattle.snmp_io.specs.Files.{Holdings, MayHold};
+ghost use Rattle.snmp_tools.specs.Mib.{IsMibOf};
 ghost use Rattle.snmp_tools.specs.Planned.{mib_in};
 
 use crate::failure::Failure;

@@ -9,7 +9,7 @@ ghost use Rattle.snmp_tools.specs.GetHeadline.{GetWritesFront};
 ghost use Rattle.snmp_tools.specs.Got.{HasGetFacts, IsGetRun};
 ghost use Rattle.snmp_tools.specs.Headline.{EndsAtStatus0, WritesAllAtStatus0, WritesFront};
 ghost use Rattle.snmp_tools.specs.Message.{fault_of, message_of};
-ghost use Rattle.snmp_tools.specs.Outcome.{HasLinkFacts, IsReported, IsRun};
+ghost use Rattle.snmp_tools.specs.Outcome.{HasLinkFacts, IsReported, IsWalkRun};
 ghost use Rattle.snmp_tools.specs.Planned.{IsWalkJob};
 ghost use Rattle.snmp_tools.specs.Serving.{IsServeRun, risen};
 ghost use Rattle.snmp_tools.specs.Translating.{IsTranslated};
@@ -44,7 +44,7 @@ pub fn run_job<F: Files, L: Links, O: Output, E: Output>(
         → IsTranslated words (F.text_at files.now) (O.stream out.old) (O.stream out.new)
         (E.stream err.old) (E.stream err.new) result }
     ensures outcome_reported { (bulk : Bool) (words : WalkWords) → IsWalkJob job.now bulk words
-        → IsRun (HasLinkFacts (L.opens links.old) L.Wire.honest L.Wire.agents L.Wire.traffic)
+        → IsWalkRun (HasLinkFacts (L.opens links.old) L.Wire.honest L.Wire.agents L.Wire.traffic)
         bulk words (F.text_at files.now) (O.stream out.old) (O.stream out.new)
         (E.stream err.old) (E.stream err.new) result }
     ensures front_written { (bulk : Bool) (words : WalkWords) → IsWalkJob job.now bulk words
@@ -98,7 +98,8 @@ fn do_walk<F: Files, L: Links, O: Output, E: Output>(
     out: &mut O,
     err: &mut E,
 ) -> u8
-    ensures { IsRun (HasLinkFacts (L.opens links.old) L.Wire.honest L.Wire.agents L.Wire.traffic)
+    ensures { IsWalkRun
+        (HasLinkFacts (L.opens links.old) L.Wire.honest L.Wire.agents L.Wire.traffic)
         bulk (walk_words walk.now) (F.text_at files.now)
         (O.stream out.old) (O.stream out.new) (E.stream err.old) (E.stream err.new) result }
 {

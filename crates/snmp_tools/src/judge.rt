@@ -9,7 +9,8 @@ ghost use Rattle.snmp_words.specs.Words.{asking_words, walk_words};
 ghost use Rattle.snmp_net.specs.Address.{address_of};
 ghost use Rattle.snmp_tools.specs.Asking.{AreShown, HasAgent, IsNameIfGiven, NameFails};
 ghost use Rattle.snmp_tools.specs.Message.{fault_of};
-ghost use Rattle.snmp_tools.specs.Mib.{Holdings, Mib};
+ghost use Rattle.snmp_io.specs.Files.{Holdings};
+ghost use Rattle.snmp_tools.specs.Mib.{Mib};
 ghost use Rattle.snmp_tools.specs.Plan.{AskFor, IsEarlyRefusal, root_text};
 ghost use Rattle.snmp_tools.specs.Planned.{AgentFails, AreOrdersOf, NamesFail, ShowingFails};
 ghost use Rattle.snmp_tools.specs.Planned.{plan_of};
@@ -26,7 +27,7 @@ impl<'a> Orders<'a> {
     ghost use Rattle.std.specs.Prelude.{IfErr, IfOk};
     ghost use Rattle.snmp_words.specs.Words.{walk_words};
     ghost use Rattle.snmp_tools.specs.Message.{fault_of};
-    ghost use Rattle.snmp_tools.specs.Mib.{Holdings};
+    ghost use Rattle.snmp_io.specs.Files.{Holdings};
     ghost use Rattle.snmp_tools.specs.Plan.{IsEarlyRefusal};
     ghost use Rattle.snmp_tools.specs.Planned.{AreOrdersOf};
 

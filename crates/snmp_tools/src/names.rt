@@ -3,11 +3,11 @@ ghost use Rattle.std.specs.Prelude.{◌≡◌, ◌⊎◌, List, ℕ, All, IfErr,
 ghost use Rattle.snmp_oid.specs.Identifier.{IsWire, wire};
 ghost use Rattle.snmp_words.specs.Words.{texts_at};
 ghost use Rattle.snmp_tools.specs.Asking.{NameFails};
-ghost use Rattle.snmp_tools.specs.Get.{AreNames, HasName, HasSendable, HasUnsendable};
+ghost use Rattle.snmp_tools.specs.Get.{AreNames, HasMeaning, HasSendable, HasUnsendable};
 ghost use Rattle.snmp_tools.specs.Message.{fault_of, out_of_memory};
 ghost use Rattle.snmp_tools.specs.Mib.{Mib};
 ghost use Rattle.snmp_tools.specs.Planned.{mib_in};
-ghost use Rattle.snmp_tools.specs.Steps.{IsFirstToFail};
+ghost use Rattle.snmp_io.specs.Steps.{IsFirstToFail};
 
 use crate::failure::Failure;
 use crate::judge::name;
@@ -25,7 +25,7 @@ pub(crate) fn read_names<'a, T: ShowTree>(
         (mib_in (T.naming tree.now) (T.syntax_at tree.now)) (texts_at texts.now) names.items) }
     ensures err { IfErr result (λ e. (fault_of e ≡ out_of_memory)
         ⊎ IsFirstToFail (texts_at texts.now)
-        (HasName (mib_in (T.naming tree.now) (T.syntax_at tree.now)))
+        (HasMeaning (mib_in (T.naming tree.now) (T.syntax_at tree.now)))
         (NameFails (mib_in (T.naming tree.now) (T.syntax_at tree.now))) (fault_of e)) }
 {
     let mut names = Vec::new(alloc);

@@ -1,6 +1,6 @@
 //! The job of snmpd, and what of it is reported.
 ghost use Rattle.std.specs.Prelude.{◌≡◌};
-ghost use Rattle.snmp_serve.specs.Fault.{fault_of as serve_fault_of};
+ghost use Rattle.snmp_serve.specs.Fault.{serve_fault_of};
 ghost use Rattle.snmp_serve.specs.Outcome.{AtDoor};
 ghost use Rattle.snmp_words.specs.Words.{serve_words};
 ghost use Rattle.snmp_tools.specs.Message.{fault_of};

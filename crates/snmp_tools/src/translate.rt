@@ -1,6 +1,6 @@
 //! The job of snmptranslate, and what of it is reported.
 ghost use Rattle.std.specs.Prelude.{◌≡◌};
-ghost use Rattle.snmp_translate.specs.Fault.{fault_of as translate_fault_of};
+ghost use Rattle.snmp_translate.specs.Fault.{translate_fault_of};
 ghost use Rattle.snmp_words.specs.Words.{translate_words};
 ghost use Rattle.snmp_tools.specs.Message.{fault_of};
 ghost use Rattle.snmp_tools.specs.Translating.{IsTranslated, reported};

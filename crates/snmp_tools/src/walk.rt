@@ -4,12 +4,14 @@ ghost use Rattle.std.specs.Prelude.{unwrap_or};
 ghost use Rattle.smi_files.specs.Loaded.{IsLoaded};
 ghost use Rattle.snmp_net.specs.Address.{address_of, table, udp};
 ghost use Rattle.snmp_words.specs.Words.{asking_words, walk_words};
-ghost use Rattle.snmp_tools.specs.Asking.{HasTable, MibsFail, TableFails};
-ghost use Rattle.snmp_tools.specs.Message.{fault_of, out_of_memory};
-ghost use Rattle.snmp_tools.specs.Mib.{IsMibOf, MayHold};
-ghost use Rattle.snmp_tools.specs.Outcome.{HasLinkFacts, IsFinished, IsOutcome, IsOutcomeBy};
-ghost use Rattle.snmp_tools.specs.Outcome.{IsPrinted};
-ghost use Rattle.snmp_tools.specs.Outcome.{IsPrintedOver, IsTableOutcome, end_in_memory, first_of};
+ghost use Rattle.snmp_serve.specs.TableFile.{HasTable, TableFails};
+ghost use Rattle.snmp_tools.specs.Asking.{MibsFail};
+ghost use Rattle.snmp_tools.specs.Message.{bad_table, fault_of, out_of_memory, unreadable};
+ghost use Rattle.snmp_io.specs.Files.{MayHold};
+ghost use Rattle.snmp_tools.specs.Mib.{IsMibOf};
+ghost use Rattle.snmp_tools.specs.Outcome.{HasLinkFacts, IsFinished, IsPrintedOver};
+ghost use Rattle.snmp_tools.specs.Outcome.{IsTableOutcome, IsWalkOutcome, IsWalkOutcomeBy};
+ghost use Rattle.snmp_tools.specs.Outcome.{IsWalkPrinted, end_in_memory, first_of};
 ghost use Rattle.snmp_tools.specs.Planned.{AreOrdersOf, IsPlanFor, mib_in, plan_of};
 ghost use Rattle.snmp_tools.specs.Plan.{root_text};
 ghost use Rattle.snmp_tools.specs.Start.{IsStartOf, StartFails};
@@ -42,11 +44,11 @@ pub(crate) fn walk_lines<'a, F: Files, L: Links, O: Output, E: Output>(
     out: &mut O,
     err: &mut E,
 ) -> Result<(), Failure<'a>>
-    ensures done { OnOk result (IsOutcome
+    ensures done { OnOk result (IsWalkOutcome
         (HasLinkFacts (L.opens links.old) L.Wire.honest L.Wire.agents L.Wire.traffic)
         bulk (walk_words walk.now) (F.text_at files.now) (O.stream out.old) (O.stream out.new)
         (E.stream err.old) (E.stream err.new) None) }
-    ensures failed { IfErr result (λ failure. IsOutcome
+    ensures failed { IfErr result (λ failure. IsWalkOutcome
         (HasLinkFacts (L.opens links.old) L.Wire.honest L.Wire.agents L.Wire.traffic)
         bulk (walk_words walk.now) (F.text_at files.now) (O.stream out.old) (O.stream out.new)
         (E.stream err.old) (E.stream err.new) (Some (fault_of failure))) }
@@ -98,12 +100,12 @@ fn walk_by<'a, T: ShowTree, F: Files, L: Links, O: Output>(
     requires orders { AreOrdersOf bulk (walk_words walk.now) orders }
     requires known { IsMibOf (MayHold (F.text_at files.now)) (walk_words walk.now).asking
         (mib_in (T.naming tree.now) (T.syntax_at tree.now)) }
-    ensures done { OnOk result (IsOutcomeBy
+    ensures done { OnOk result (IsWalkOutcomeBy
         (HasLinkFacts (L.opens links.old) L.Wire.honest L.Wire.agents L.Wire.traffic)
         bulk (walk_words walk.now) (F.text_at files.now)
         (mib_in (T.naming tree.now) (T.syntax_at tree.now))
         (O.stream out.old) (O.stream out.new) None) }
-    ensures failed { IfErr result (λ failure. IsOutcomeBy
+    ensures failed { IfErr result (λ failure. IsWalkOutcomeBy
         (HasLinkFacts (L.opens links.old) L.Wire.honest L.Wire.agents L.Wire.traffic)
         bulk (walk_words walk.now) (F.text_at files.now)
         (mib_in (T.naming tree.now) (T.syntax_at tree.now))
@@ -179,12 +181,12 @@ fn over_net<'a, T: ShowTree, F: Files, L: Links, O: Output>(
         (mib_in (T.naming tree.now) (T.syntax_at tree.now)) (plan_of plan.now) }
     requires method { IsMethod plan.now.method }
     requires at { address_of plan.now.agent ≡ udp at.host.now at.port }
-    ensures done { OnOk result (IsOutcomeBy
+    ensures done { OnOk result (IsWalkOutcomeBy
         (HasLinkFacts (L.opens links.old) L.Wire.honest L.Wire.agents L.Wire.traffic)
         bulk (walk_words walk.now) (F.text_at files.now)
         (mib_in (T.naming tree.now) (T.syntax_at tree.now))
         (O.stream out.old) (O.stream out.new) None) }
-    ensures failed { IfErr result (λ failure. IsOutcomeBy
+    ensures failed { IfErr result (λ failure. IsWalkOutcomeBy
         (HasLinkFacts (L.opens links.old) L.Wire.honest L.Wire.agents L.Wire.traffic)
         bulk (walk_words walk.now) (F.text_at files.now)
         (mib_in (T.naming tree.now) (T.syntax_at tree.now))
@@ -245,11 +247,11 @@ fn print_plan<'a, T: ShowTree, O: Output>(
     out: &mut O,
 ) -> Result<(), Failure<'a>>
     requires { IsStartOf core (plan_of plan.now) }
-    ensures done { OnOk result (IsPrinted (mib_in (T.naming tree.now) (T.syntax_at tree.now))
+    ensures done { OnOk result (IsWalkPrinted (mib_in (T.naming tree.now) (T.syntax_at tree.now))
         (plan_of plan.now) table.now asking.now.agent.now
         (O.stream out.old) (O.stream out.new) None) }
     ensures failed { IfErr result (λ failure.
-        IsPrinted (mib_in (T.naming tree.now) (T.syntax_at tree.now))
+        IsWalkPrinted (mib_in (T.naming tree.now) (T.syntax_at tree.now))
         (plan_of plan.now) table.now asking.now.agent.now
         (O.stream out.old) (O.stream out.new) (Some (fault_of failure))) }
 {
@@ -314,7 +316,7 @@ pub(crate) fn table_at<'a, F: Files>(
 ) -> Result<Table, Failure<'a>>
     ensures table { IfOk result (HasTable (F.text_at files.now) path.now) }
     ensures err { IfErr result (λ e. (fault_of e ≡ out_of_memory)
-        ⊎ TableFails (F.text_at files.now path.now) path.now (fault_of e)) }
+        ⊎ TableFails unreadable bad_table (F.text_at files.now) path.now (fault_of e)) }
 {
     let text = match files.read(alloc, path) {
         Ok(text) => text,

@@ -1,8 +1,8 @@
 -- What the outcome says of the texts of all names.
-use Rattle.std.proofs.Common.{◌≡◌, ◌∙◌, ◌++◌, ap, inl, inr, sym, subst, ℕ, Bool, List, [], ◌∷◌, Option, Some, None, Result, Ok, Err}
+use Rattle.std.proofs.Common.{◌≡◌, ◌∙◌, ◌++◌, ap, inl, inr, refl, sym, subst, ℕ, Bool, List, [], ◌∷◌, Option, Some, None, Result, Ok, Err}
 use Rattle.std.specs.Prelude.{IfErr, OnOk}
 use Rattle.std.proofs.Common.{append_assoc, append-nil}
-use Rattle.smi_files.specs.Files.{AreModulesOf, Holdings, Holds, MayHold}
+use Rattle.smi_files.specs.Files.{AreModulesOf}
 use Rattle.smi_files.specs.Loaded.{IsLoaded}
 use Rattle.smi_letters.specs.Letters.{AreLetters}
 use Rattle.smi_letters.specs.declared.letters.Letters.{Letters}
@@ -11,17 +11,18 @@ use Rattle.smi_letters.specs.declared.letters.StringForm.{StringForm}
 use Rattle.smi_letters.specs.declared.letters.TypeForm.{TypeForm}
 use Rattle.smi_module.specs.declared.tree.Module.{Module}
 use Rattle.smi_tree.specs.Tree.{Contents, IsTree}
+use Rattle.snmp_io.specs.Files.{Holdings, Holds, MayHold}
 use Rattle.snmp_io.specs.Output.{Stream, extended}
+use Rattle.snmp_io.specs.Streams.{front_after, whole_taken}
 use Rattle.snmp_words.specs.Words.{TranslateWords}
-use Rattle.snmp_translate.specs.Fault.{Fault, fault_of}
-use Rattle.snmp_translate.specs.Headline.{IsAsked, IsByTree, IsFront, PrintsAll, PrintsFront}
-use Rattle.snmp_translate.specs.Outcome.{ArePrinted, IsOutcome, IsPrinting, StopsAt, StopsWithin, ran, refused}
+use Rattle.snmp_translate.specs.Fault.{TranslateFault, translate_fault_of}
+use Rattle.snmp_translate.specs.Headline.{AskForTranslation, IsByTree, IsFront, PrintsAll, PrintsFront}
+use Rattle.snmp_translate.specs.Outcome.{AreNamesPrinted, IsPrinting, IsTranslateOutcome, StopsAtName, StopsWithin, ran, refused}
 use Rattle.snmp_translate.specs.Style.{IsStyleOf}
-use Rattle.snmp_translate.specs.Text.{AreTextsOf, Mib, mib_of}
+use Rattle.snmp_translate.specs.Text.{DetailMib, detail_mib_of}
 use Rattle.snmp_translate.specs.declared.error.TranslateError.{TranslateError}
 use Rattle.snmp_translate.specs.declared.style.Style.{Style}
 use Rattle.snmp_translate.proofs.Printing.{AreTextsOf-more}
-use Rattle.snmp_translate.proofs.Streams.{front_after, whole_taken}
 
 -- letters of the same forms are the same
 same_letters : (a b : Letters) → a.names ≡ b.names → a.types ≡ b.types → a.strings ≡ b.strings → a.value_alone ≡ b.value_alone
@@ -56,8 +57,8 @@ OneList = (files : Holdings) (paths : List (List ℕ)) (ms ns : List Module) →
 
 -- by the tree that was loaded
 by_tree : OneList → (words : TranslateWords) (files : Holdings) (style : Style) (modules : List Module) (tree : Contents) (err_before err_after : Stream)
-    (Printed : Mib → Type 0) → IsAsked words files style modules → IsLoaded (MayHold files) words.mibs tree err_before err_after
-    → Printed (mib_of tree) → IsByTree modules Printed
+    (Printed : DetailMib → Type 0) → AskForTranslation words files style modules → IsLoaded (MayHold files) words.mibs tree err_before err_after
+    → Printed (detail_mib_of tree) → IsByTree modules Printed
 by_tree one words files style modules tree err_before err_after Printed asked loaded printed = record {
   tree = tree;
   warnings = loaded.warnings;
@@ -66,16 +67,16 @@ by_tree one words files style modules tree err_before err_after Printed asked lo
 }
 
 pub all_printed : OneList → (words : TranslateWords) (files : Holdings) (before after err_before err_after : Stream)
-    → IsOutcome words files before after err_before err_after None → PrintsAll words files before after
+    → IsTranslateOutcome words files before after err_before err_after None → PrintsAll words files before after
 all_printed one words files before after err_before err_after (refused why refusal same same_too is) style modules asked =
     let no : ⊥ = cc in absurd no
 all_printed one words files before after err_before err_after (ran own tree styled loaded printed) style modules asked =
-    by_tree one words files style modules tree err_before err_after (λ (mib : Mib). ArePrinted mib style words.names before after) asked loaded
-    (subst (λ (s : Style). ArePrinted (mib_of tree) s words.names before after) (one_style words own style styled asked.styled) printed)
+    by_tree one words files style modules tree err_before err_after (λ (mib : DetailMib). AreNamesPrinted mib style words.names before after) asked loaded
+    (subst (λ (s : Style). AreNamesPrinted (detail_mib_of tree) s words.names before after) (one_style words own style styled asked.styled) printed)
 
 -- a front of the texts of the names up to the one at which it stopped
-front_stopped : (mib : Mib) (style : Style) (names : List (List ℕ)) (before after : Stream) (why : Fault)
-    → (stopped : StopsWithin mib style names before after why) → StopsAt mib style (extended before stopped.text) stopped.name after why
+front_stopped : (mib : DetailMib) (style : Style) (names : List (List ℕ)) (before after : Stream) (why : TranslateFault)
+    → (stopped : StopsWithin mib style names before after why) → StopsAtName mib style (extended before stopped.text) stopped.name after why
     → IsFront style names before after mib
 front_stopped mib style names before after why stopped (inl (nothing, same)) =
     (stopped.printed, stopped.name ∷ stopped.left, stopped.text, stopped.order, stopped.shown, whole_taken before after stopped.text same)
@@ -87,32 +88,32 @@ front_stopped mib style names before after why stopped (inr (inr (output, (text,
   stopped.text ++ text,
   stopped.order ∙ sym (append_assoc stopped.printed (stopped.name ∷ []) stopped.left),
   AreTextsOf-more mib style stopped.printed stopped.name stopped.text text stopped.shown is_text,
-  front_after before after stopped.text text fails.begun,
+  front_after before (extended before stopped.text) after stopped.text text refl fails.begun,
 )
 
 -- all were printed
-front_whole : (mib : Mib) (style : Style) (names : List (List ℕ)) (before after : Stream) → ArePrinted mib style names before after
+front_whole : (mib : DetailMib) (style : Style) (names : List (List ℕ)) (before after : Stream) → AreNamesPrinted mib style names before after
     → IsFront style names before after mib
 front_whole mib style names before after (text, texts, is) = (names, [], text, sym (append-nil names), texts, whole_taken before after text is)
 
-front_printing : (mib : Mib) (style : Style) (names : List (List ℕ)) (before after : Stream) (fault : Option Fault)
+front_printing : (mib : DetailMib) (style : Style) (names : List (List ℕ)) (before after : Stream) (fault : Option TranslateFault)
     → IsPrinting mib style names before after fault → IsFront style names before after mib
 front_printing mib style names before after None printed = front_whole mib style names before after printed
 front_printing mib style names before after (Some why) stopped = front_stopped mib style names before after why stopped stopped.stops
 
-front_printed : OneList → (words : TranslateWords) (files : Holdings) (before after err_before err_after : Stream) (fault : Option Fault)
-    → IsOutcome words files before after err_before err_after fault → PrintsFront words files before after
+front_printed : OneList → (words : TranslateWords) (files : Holdings) (before after err_before err_after : Stream) (fault : Option TranslateFault)
+    → IsTranslateOutcome words files before after err_before err_after fault → PrintsFront words files before after
 front_printed one words files before after err_before err_after fault (refused why refusal same same_too is) style modules asked = inl same
 front_printed one words files before after err_before err_after fault (ran own tree styled loaded printing) style modules asked =
     inr (by_tree one words files style modules tree err_before err_after (IsFront style words.names before after) asked loaded
-    (subst (λ (s : Style). IsFront s words.names before after (mib_of tree)) (one_style words own style styled asked.styled)
-    (front_printing (mib_of tree) own words.names before after fault printing)))
+    (subst (λ (s : Style). IsFront s words.names before after (detail_mib_of tree)) (one_style words own style styled asked.styled)
+    (front_printing (detail_mib_of tree) own words.names before after fault printing)))
 
 -- however it ended
 pub front_at_any_end : OneList → (words : TranslateWords) (files : Holdings) (before after err_before err_after : Stream)
-    (result : Result (Unit {0}) TranslateError) → OnOk result (IsOutcome words files before after err_before err_after None)
-    → IfErr result (λ e. IsOutcome words files before after err_before err_after (Some (fault_of e))) → PrintsFront words files before after
+    (result : Result (Unit {0}) TranslateError) → OnOk result (IsTranslateOutcome words files before after err_before err_after None)
+    → IfErr result (λ e. IsTranslateOutcome words files before after err_before err_after (Some (translate_fault_of e))) → PrintsFront words files before after
 front_at_any_end one words files before after err_before err_after (Ok _) done failed =
     front_printed one words files before after err_before err_after None done
 front_at_any_end one words files before after err_before err_after (Err e) done failed =
-    front_printed one words files before after err_before err_after (Some (fault_of e)) failed
+    front_printed one words files before after err_before err_after (Some (translate_fault_of e)) failed

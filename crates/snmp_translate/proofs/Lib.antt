@@ -1,4 +1,3 @@
 mod Headlines
 mod Printing
 mod Refusals
-mod Streams

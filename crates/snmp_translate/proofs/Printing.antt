@@ -3,15 +3,15 @@ use Rattle.std.proofs.Common.{◌≡◌, ◌∙◌, ◌++◌, ◌+◌, ◌<◌, 
 use Rattle.std.proofs.Common.{append_assoc, append-nil}
 use Rattle.std.proofs.lemmas.List.{drop_more, map-append, take-append-drop, take_more}
 use Rattle.snmp_io.specs.Output.{Stream, extended}
+use Rattle.snmp_io.specs.Streams.{extended-twice}
 use Rattle.snmp_words.specs.Words.{texts_at}
-use Rattle.snmp_translate.specs.Fault.{Fault}
-use Rattle.snmp_translate.specs.Outcome.{ArePrinted, IsPrinted, StopsAt, StopsWithin}
-use Rattle.snmp_translate.specs.Text.{AreTextsOf, IsTextOf, Mib}
+use Rattle.snmp_translate.specs.Fault.{TranslateFault}
+use Rattle.snmp_translate.specs.Outcome.{AreNamesPrinted, IsNamePrinted, StopsAtName, StopsWithin}
+use Rattle.snmp_translate.specs.Text.{AreTextsOf, DetailMib, IsTextOf}
 use Rattle.snmp_translate.specs.declared.style.Style.{Style}
-use Rattle.snmp_translate.proofs.Streams.{extended-twice}
 
 -- the text of one name more
-pub AreTextsOf-more : (mib : Mib) (style : Style) (names : List (List ℕ)) (name text one : List ℕ)
+pub AreTextsOf-more : (mib : DetailMib) (style : Style) (names : List (List ℕ)) (name text one : List ℕ)
     → AreTextsOf mib style names text → IsTextOf mib style name one → AreTextsOf mib style (names ++ name ∷ []) (text ++ one)
 AreTextsOf-more mib style [] name text one none is = (one, [], is, refl, ap (λ (t : List ℕ). t ++ one) none ∙ sym (append-nil one))
 AreTextsOf-more mib style (n ∷ names) name text one (first, rest, here, more, whole) is = (
@@ -23,8 +23,8 @@ AreTextsOf-more mib style (n ∷ names) name text one (first, rest, here, more, 
 )
 
 -- one name more is printed
-pub more_printed : (mib : Mib) (style : Style) (names : List (List ℕ)) (name : List ℕ) (before middle after : Stream)
-    → ArePrinted mib style names before middle → IsPrinted mib style middle name after → ArePrinted mib style (names ++ name ∷ []) before after
+pub more_printed : (mib : DetailMib) (style : Style) (names : List (List ℕ)) (name : List ℕ) (before middle after : Stream)
+    → AreNamesPrinted mib style names before middle → IsNamePrinted mib style middle name after → AreNamesPrinted mib style (names ++ name ∷ []) before after
 more_printed mib style names name before middle after (text, texts, is) (one, is_text, is_too) = (
   text ++ one,
   AreTextsOf-more mib style names name text one texts is_text,
@@ -44,8 +44,9 @@ texts-parts names i d inside =
     ∙ ap (λ (rest : List (Bor (List ℕ))). texts_at (take i names) ++ texts_at rest) (drop_more names i d inside)
 
 -- it stops at the first name that isn't printed
-pub stopped_at : (mib : Mib) (style : Style) (names : List (Bor (List ℕ))) (i : ℕ) (d : Bor (List ℕ)) (before middle after : Stream) (why : Fault)
-    → i < length names → ArePrinted mib style (texts_at (take i names)) before middle → StopsAt mib style middle (get_or names i d).now after why
+pub stopped_at : (mib : DetailMib) (style : Style) (names : List (Bor (List ℕ))) (i : ℕ) (d : Bor (List ℕ)) (before middle after : Stream)
+    (why : TranslateFault)
+    → i < length names → AreNamesPrinted mib style (texts_at (take i names)) before middle → StopsAtName mib style middle (get_or names i d).now after why
     → StopsWithin mib style (texts_at names) before after why
 stopped_at mib style names i d before middle after why inside (text, texts, is) stops = record {
   printed = texts_at (take i names);
@@ -54,5 +55,5 @@ stopped_at mib style names i d before middle after why inside (text, texts, is) 
   order = texts-parts names i d inside;
   text = text;
   shown = texts;
-  stops = subst (λ (s : Stream). StopsAt mib style s (get_or names i d).now after why) is stops;
+  stops = subst (λ (s : Stream). StopsAtName mib style s (get_or names i d).now after why) is stops;
 }

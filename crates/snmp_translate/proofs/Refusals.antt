@@ -1,15 +1,16 @@
 -- Why nothing is printed.
 use Rattle.std.proofs.Common.{◌≡◌, ap, inl, inr, refl, ℕ, [], ◌∷◌, Some, None}
-use Rattle.smi_files.specs.Files.{Holdings, IsRefused, Refusal}
+use Rattle.smi_files.specs.Files.{IsFilesRefusal, Refusal}
 use Rattle.smi_letters.specs.Letters.{first_other}
+use Rattle.snmp_io.specs.Files.{Holdings}
 use Rattle.snmp_words.specs.Words.{TranslateWords}
 use Rattle.snmp_translate.specs.Fault.{bad_letter, modules_fault}
-use Rattle.snmp_translate.specs.Refusal.{IsFirstToFail, IsRefusal, details_step, letters_step, modules_step}
+use Rattle.snmp_translate.specs.Refusal.{IsTranslateRefusal, TranslationFails, details_step, letters_step, modules_step}
 use Rattle.snmp_translate.specs.Style.{IsStyleOf, first_other_of_t}
 use Rattle.snmp_translate.specs.declared.style.Style.{Style}
 
 pub letters_fail : (words : TranslateWords) (files : Holdings) (octet : ℕ) → first_other words.letters ≡ Some octet
-    → IsFirstToFail words files (bad_letter octet)
+    → TranslationFails words files (bad_letter octet)
 letters_fail words files octet other = record {
   done = [];
   failed = letters_step;
@@ -20,7 +21,7 @@ letters_fail words files octet other = record {
 }
 
 pub details_fail : (words : TranslateWords) (files : Holdings) (octet : ℕ) → first_other words.letters ≡ None
-    → first_other_of_t words.details ≡ Some octet → IsFirstToFail words files (bad_letter octet)
+    → first_other_of_t words.details ≡ Some octet → TranslationFails words files (bad_letter octet)
 details_fail words files octet known other = record {
   done = letters_step ∷ [];
   failed = details_step;
@@ -31,7 +32,7 @@ details_fail words files octet known other = record {
 }
 
 pub modules_fail : (words : TranslateWords) (files : Holdings) (style : Style) (why : Refusal) → IsStyleOf words style
-    → IsRefused files words.mibs why → IsRefusal words files (modules_fault why)
+    → IsFilesRefusal files words.mibs why → IsTranslateRefusal words files (modules_fault why)
 modules_fail words files style why styled (inl none) = inl (ap modules_fault none)
 modules_fail words files style why styled (inr fails) = inr (record {
   done = letters_step ∷ details_step ∷ [];

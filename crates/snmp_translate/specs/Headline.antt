@@ -1,31 +1,32 @@
 -- What snmptranslate promises, in short.
 use Rattle.std.specs.Prelude.{◌≡◌, ◌⊎◌, ◌++◌, ℕ, List}
-use Rattle.smi_files.specs.Files.{AreModulesOf, Holdings, Holds}
+use Rattle.smi_files.specs.Files.{AreModulesOf}
 use Rattle.smi_module.specs.declared.tree.Module.{Module}
 use Rattle.smi_nodes.specs.declared.warning.Warning.{Warning}
 use Rattle.smi_tree.specs.Tree.{Contents, IsTree}
+use Rattle.snmp_io.specs.Files.{Holdings, Holds}
 use Rattle.snmp_io.specs.Output.{Stream, TakesFront}
 use Rattle.snmp_words.specs.Words.{TranslateWords}
-use Rattle.snmp_translate.specs.Outcome.{ArePrinted}
+use Rattle.snmp_translate.specs.Outcome.{AreNamesPrinted}
 use Rattle.snmp_translate.specs.Style.{IsStyleOf}
-use Rattle.snmp_translate.specs.Text.{AreTextsOf, Mib, mib_of}
+use Rattle.snmp_translate.specs.Text.{AreTextsOf, DetailMib, detail_mib_of}
 use Rattle.snmp_translate.specs.declared.style.Style.{Style}
 
 -- the words ask for names in this style, by the modules of files whose texts are known
-pub record IsAsked (words : TranslateWords) (files : Holdings) (style : Style)
+pub record AskForTranslation (words : TranslateWords) (files : Holdings) (style : Style)
     (modules : List Module) : Type 0 where
   pub styled : IsStyleOf words style
   pub read : AreModulesOf (Holds files) words.mibs modules
 
 -- by the tree of the modules, this was printed
-pub record IsByTree (modules : List Module) (Printed : Mib → Type 0) : Type 0 where
+pub record IsByTree (modules : List Module) (Printed : DetailMib → Type 0) : Type 0 where
   pub tree : Contents
   pub warnings : List Warning
   pub loads : IsTree modules tree warnings
-  pub printed : Printed (mib_of tree)
+  pub printed : Printed (detail_mib_of tree)
 
 -- a front of the texts of the first names
-abbrev pub IsFront : Style → (names : List (List ℕ)) → (before after : Stream) → Mib → Type 0
+abbrev pub IsFront : Style → (names : List (List ℕ)) → (before after : Stream) → DetailMib → Type 0
 IsFront style names before after mib =
     (first : List (List ℕ)) × (rest : List (List ℕ)) × (text : List ℕ) × (names ≡ first ++ rest)
     × AreTextsOf mib style first text × TakesFront before text after
@@ -33,11 +34,11 @@ IsFront style names before after mib =
 -- Where the job ends well, the texts of all names are printed, and nothing else.
 abbrev pub PrintsAll : TranslateWords → Holdings → (before after : Stream) → Type 0
 PrintsAll words files before after =
-    (style : Style) (modules : List Module) → IsAsked words files style modules
-    → IsByTree modules (λ mib. ArePrinted mib style words.names before after)
+    (style : Style) (modules : List Module) → AskForTranslation words files style modules
+    → IsByTree modules (λ mib. AreNamesPrinted mib style words.names before after)
 
 -- Whatever fails, nothing is printed, or a front of the texts of the first names.
 abbrev pub PrintsFront : TranslateWords → Holdings → (before after : Stream) → Type 0
 PrintsFront words files before after =
-    (style : Style) (modules : List Module) → IsAsked words files style modules
+    (style : Style) (modules : List Module) → AskForTranslation words files style modules
     → (after ≡ before) ⊎ IsByTree modules (IsFront style words.names before after)

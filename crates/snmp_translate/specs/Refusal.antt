@@ -1,52 +1,45 @@
 -- Why nothing is printed: the words or their module files are refused.
-use Rattle.std.specs.Prelude.{◌≡◌, ◌⊎◌, ◌++◌, ℕ, List, [], ◌∷◌, Some, None}
-use Rattle.smi_files.specs.Files.{AreModulesOf, Holdings, MayHold, Refusal}
-use Rattle.smi_files.specs.Files.{IsFirstToFail as IsFirstFileToFail}
+use Rattle.std.specs.Prelude.{◌≡◌, ◌⊎◌, ℕ, List, [], ◌∷◌, Some, None}
+use Rattle.smi_files.specs.Files.{AreModulesOf, FilesFail, Refusal}
 use Rattle.smi_letters.specs.Letters.{first_other}
 use Rattle.smi_module.specs.declared.tree.Module.{Module}
+use Rattle.snmp_io.specs.Files.{Holdings, MayHold}
+use Rattle.snmp_io.specs.Steps.{IsFirstToFail}
 use Rattle.snmp_words.specs.Words.{TranslateWords}
-use Rattle.snmp_translate.specs.Fault.{Fault, bad_letter, modules_fault, no_memory}
+use Rattle.snmp_translate.specs.Fault.{TranslateFault, bad_letter, modules_fault, no_memory}
 use Rattle.snmp_translate.specs.Style.{first_other_of_t}
 
 -- the work before anything is printed, in its order
-pub data Step : Type 0 where
-  letters_step : Step
-  details_step : Step
-  modules_step : Step
+pub data TranslateStep : Type 0 where
+  letters_step : TranslateStep
+  details_step : TranslateStep
+  modules_step : TranslateStep
 
-abbrev pub translate_steps : List Step
+abbrev pub translate_steps : List TranslateStep
 translate_steps = letters_step ∷ details_step ∷ modules_step ∷ []
 
 -- the step is done: what it looks for is there
-abbrev pub IsDoneBy : TranslateWords → Holdings → Step → Type 0
-IsDoneBy words files letters_step = first_other words.letters ≡ None
-IsDoneBy words files details_step = first_other_of_t words.details ≡ None
-IsDoneBy words files modules_step =
+abbrev pub IsDoneForTranslation : TranslateWords → Holdings → TranslateStep → Type 0
+IsDoneForTranslation words files letters_step = first_other words.letters ≡ None
+IsDoneForTranslation words files details_step = first_other_of_t words.details ≡ None
+IsDoneForTranslation words files modules_step =
     (modules : List Module) × AreModulesOf (MayHold files) words.mibs modules
 
 -- the step fails for this reason
-abbrev pub FailsBy : TranslateWords → Holdings → Step → Fault → Type 0
-FailsBy words files letters_step why =
+abbrev pub FailsForTranslation : TranslateWords → Holdings → TranslateStep → TranslateFault → Type 0
+FailsForTranslation words files letters_step why =
     (octet : ℕ) × (first_other words.letters ≡ Some octet) × (why ≡ bad_letter octet)
-FailsBy words files details_step why =
+FailsForTranslation words files details_step why =
     (octet : ℕ) × (first_other_of_t words.details ≡ Some octet) × (why ≡ bad_letter octet)
-FailsBy words files modules_step why =
-    (refusal : Refusal) × IsFirstFileToFail files words.mibs refusal
-    × (why ≡ modules_fault refusal)
-
-abbrev pub AreDoneBy : TranslateWords → Holdings → List Step → Type 0
-AreDoneBy words files [] = Unit {0}
-AreDoneBy words files (step ∷ more) = IsDoneBy words files step × AreDoneBy words files more
+FailsForTranslation words files modules_step why =
+    (refusal : Refusal) × FilesFail files words.mibs refusal × (why ≡ modules_fault refusal)
 
 -- the first step that fails, after those that are done
-pub record IsFirstToFail (words : TranslateWords) (files : Holdings) (why : Fault) : Type 0 where
-  pub done : List Step
-  pub failed : Step
-  pub left : List Step
-  pub order : translate_steps ≡ done ++ failed ∷ left
-  pub are_done : AreDoneBy words files done
-  pub fails : FailsBy words files failed why
+abbrev pub TranslationFails : TranslateWords → Holdings → TranslateFault → Type 0
+TranslationFails words files why =
+    IsFirstToFail translate_steps (IsDoneForTranslation words files)
+    (FailsForTranslation words files) why
 
 -- why nothing is printed: memory ran out, or a step failed
-abbrev pub IsRefusal : TranslateWords → Holdings → Fault → Type 0
-IsRefusal words files why = (why ≡ no_memory) ⊎ IsFirstToFail words files why
+abbrev pub IsTranslateRefusal : TranslateWords → Holdings → TranslateFault → Type 0
+IsTranslateRefusal words files why = (why ≡ no_memory) ⊎ TranslationFails words files why

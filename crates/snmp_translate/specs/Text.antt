@@ -10,28 +10,28 @@ use Rattle.smi_tree.specs.Tree.{Contents}
 use Rattle.snmp_translate.specs.declared.style.Style.{Style}
 
 -- the names of nodes, and the definition of the deepest node of an identifier
-pub record Mib : Type 0 where
+pub record DetailMib : Type 0 where
   pub naming : Naming
   pub definition_at : List ℕ → Option Def
 
 -- those of a tree
-abbrev pub mib_of : Contents → Mib
-mib_of tree = record { naming = naming_of tree; definition_at = nearest_definition tree }
+abbrev pub detail_mib_of : Contents → DetailMib
+detail_mib_of tree = record { naming = naming_of tree; definition_at = nearest_definition tree }
 
 -- what is printed of an identifier: its name and a newline, or its details
-abbrev pub shown_text : Mib → Style → (o : List ℕ) → List ℕ
+abbrev pub shown_text : DetailMib → Style → (o : List ℕ) → List ℕ
 shown_text mib style o =
     if style.details then detail_text mib.naming (mib.definition_at o) style.letters.names
     style.letters.numeric_index o
     else names_by mib.naming style.letters o ++ codes "\n"
 
 -- what is printed of a name that means an identifier
-abbrev pub IsTextOf : Mib → Style → (name text : List ℕ) → Type 0
+abbrev pub IsTextOf : DetailMib → Style → (name text : List ℕ) → Type 0
 IsTextOf mib style name text =
     (o : List ℕ) × TextMeans mib.naming name (Ok o) × (text ≡ shown_text mib style o)
 
 -- what is printed of names, one after the other
-abbrev pub AreTextsOf : Mib → Style → (names : List (List ℕ)) → (text : List ℕ) → Type 0
+abbrev pub AreTextsOf : DetailMib → Style → (names : List (List ℕ)) → (text : List ℕ) → Type 0
 AreTextsOf mib style [] text = text ≡ []
 AreTextsOf mib style (name ∷ more) text =
     (first : List ℕ) × (rest : List ℕ) × IsTextOf mib style name first

@@ -1,7 +1,7 @@
 //! Why not all names are printed.
 ghost use Rattle.std.specs.Prelude.{◌≡◌};
 ghost use Rattle.smi_files.specs.Message.{refusal_of};
-ghost use Rattle.snmp_translate.specs.Fault.{fault_of, modules_fault};
+ghost use Rattle.snmp_translate.specs.Fault.{modules_fault, translate_fault_of};
 
 use smi_files::FilesError;
 use smi_name::NameError;
@@ -29,7 +29,7 @@ pub enum TranslateError<'a> {
 
 /// Why module files can't be loaded, as the end of the job.
 pub(crate) fn modules_error<'a>(error: FilesError<'a>) -> TranslateError<'a>
-    ensures { fault_of result ≡ modules_fault (refusal_of error.entry) }
+    ensures { translate_fault_of result ≡ modules_fault (refusal_of error.entry) }
 {
     match error {
         FilesError::Unreadable(_) | FilesError::Text(_, _) => TranslateError::Modules(error),

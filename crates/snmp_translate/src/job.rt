@@ -1,9 +1,9 @@
 //! The job of snmptranslate: names are printed by the names of module files.
 ghost use Rattle.std.specs.Prelude.{IfErr, None, OnOk, Some};
 ghost use Rattle.snmp_words.specs.Words.{translate_words};
-ghost use Rattle.snmp_translate.specs.Fault.{fault_of};
+ghost use Rattle.snmp_translate.specs.Fault.{translate_fault_of};
 ghost use Rattle.snmp_translate.specs.Headline.{PrintsAll, PrintsFront};
-ghost use Rattle.snmp_translate.specs.Outcome.{IsOutcome};
+ghost use Rattle.snmp_translate.specs.Outcome.{IsTranslateOutcome};
 
 use crate::error::{TranslateError, modules_error};
 use crate::names::print_names;
@@ -26,11 +26,12 @@ pub fn translate<'a, F: Files, O: Output, E: Output>(
     out: &mut O,
     err: &mut E,
 ) -> Result<(), TranslateError<'a>>
-    ensures done { OnOk result (IsOutcome (translate_words job.now) (F.text_at files.now)
-        (O.stream out.old) (O.stream out.new) (E.stream err.old) (E.stream err.new) None) }
-    ensures failed { IfErr result (λ e. IsOutcome (translate_words job.now) (F.text_at files.now)
-        (O.stream out.old) (O.stream out.new) (E.stream err.old) (E.stream err.new)
-        (Some (fault_of e))) }
+    ensures done { OnOk result (IsTranslateOutcome (translate_words job.now)
+        (F.text_at files.now) (O.stream out.old) (O.stream out.new) (E.stream err.old)
+        (E.stream err.new) None) }
+    ensures failed { IfErr result (λ e. IsTranslateOutcome (translate_words job.now)
+        (F.text_at files.now) (O.stream out.old) (O.stream out.new) (E.stream err.old)
+        (E.stream err.new) (Some (translate_fault_of e))) }
     ensures all_printed { OnOk result (PrintsAll (translate_words job.now)
         (F.text_at files.now) (O.stream out.old) (O.stream out.new)) }
     ensures front_printed { PrintsFront (translate_words job.now)
@@ -48,11 +49,12 @@ fn translate_names<'a, F: Files, O: Output, E: Output>(
     out: &mut O,
     err: &mut E,
 ) -> Result<(), TranslateError<'a>>
-    ensures done { OnOk result (IsOutcome (translate_words job.now) (F.text_at files.now)
-        (O.stream out.old) (O.stream out.new) (E.stream err.old) (E.stream err.new) None) }
-    ensures failed { IfErr result (λ e. IsOutcome (translate_words job.now) (F.text_at files.now)
-        (O.stream out.old) (O.stream out.new) (E.stream err.old) (E.stream err.new)
-        (Some (fault_of e))) }
+    ensures done { OnOk result (IsTranslateOutcome (translate_words job.now)
+        (F.text_at files.now) (O.stream out.old) (O.stream out.new) (E.stream err.old)
+        (E.stream err.new) None) }
+    ensures failed { IfErr result (λ e. IsTranslateOutcome (translate_words job.now)
+        (F.text_at files.now) (O.stream out.old) (O.stream out.new) (E.stream err.old)
+        (E.stream err.new) (Some (translate_fault_of e))) }
 {
     let style = match Style::read(job) {
         Ok(style) => style,

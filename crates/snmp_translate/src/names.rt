@@ -1,8 +1,8 @@
 //! Names are printed one after the other, by the names of a tree.
 ghost use Rattle.std.specs.Prelude.{◌≡◌, IfErr, IfOk, None, OnOk, Some};
 ghost use Rattle.snmp_words.specs.Words.{texts_at};
-ghost use Rattle.snmp_translate.specs.Fault.{fault_of};
-ghost use Rattle.snmp_translate.specs.Outcome.{IsPrinted, IsPrinting, StopsAt};
+ghost use Rattle.snmp_translate.specs.Fault.{translate_fault_of};
+ghost use Rattle.snmp_translate.specs.Outcome.{IsNamePrinted, IsPrinting, StopsAtName};
 ghost use Rattle.snmp_translate.specs.Text.{shown_text};
 
 use crate::error::TranslateError;
@@ -27,7 +27,8 @@ pub(crate) fn print_names<'a, T: DetailTree, O: Output>(
         style (texts_at names.now) (O.stream out.old) (O.stream out.new) None) }
     ensures failed { IfErr result (λ e. IsPrinting
         (record { naming = T.naming tree.now; definition_at = T.definition_at tree.now })
-        style (texts_at names.now) (O.stream out.old) (O.stream out.new) (Some (fault_of e))) }
+        style (texts_at names.now) (O.stream out.old) (O.stream out.new)
+        (Some (translate_fault_of e))) }
 {
     'names: for name in names {
         match print_name(alloc, tree, style, name, out) {
@@ -46,12 +47,12 @@ fn print_name<'a, T: DetailTree, O: Output>(
     name: &'a str,
     out: &mut O,
 ) -> Result<(), TranslateError<'a>>
-    ensures done { OnOk result (IsPrinted
+    ensures done { OnOk result (IsNamePrinted
         (record { naming = T.naming tree.now; definition_at = T.definition_at tree.now })
         style (O.stream out.old) name.entry.now (O.stream out.new)) }
-    ensures failed { IfErr result (λ e. StopsAt
+    ensures failed { IfErr result (λ e. StopsAtName
         (record { naming = T.naming tree.now; definition_at = T.definition_at tree.now })
-        style (O.stream out.old) name.entry.now (O.stream out.new) (fault_of e)) }
+        style (O.stream out.old) name.entry.now (O.stream out.new) (translate_fault_of e)) }
 {
     let oid = match resolve(tree, name.as_bytes()) {
         Ok(oid) => oid,

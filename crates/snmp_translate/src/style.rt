@@ -1,10 +1,10 @@
 //! How each name is printed, by the letters of `-O` and of `-T`.
 ghost use Rattle.std.specs.Prelude.{◌≡◌, None, Some, IfErr, IfOk, OnOk};
-ghost use Rattle.smi_files.specs.Files.{Holdings};
+ghost use Rattle.snmp_io.specs.Files.{Holdings};
 ghost use Rattle.smi_letters.specs.Letters.{has_letter};
 ghost use Rattle.snmp_words.specs.Words.{translate_words};
-ghost use Rattle.snmp_translate.specs.Fault.{fault_of};
-ghost use Rattle.snmp_translate.specs.Refusal.{IsFirstToFail};
+ghost use Rattle.snmp_translate.specs.Fault.{translate_fault_of};
+ghost use Rattle.snmp_translate.specs.Refusal.{TranslationFails};
 ghost use Rattle.snmp_translate.specs.Style.{IsStyleOf, first_other_of_t};
 
 use crate::error::TranslateError;
@@ -25,7 +25,7 @@ impl Style {
     pub(crate) fn read<'a>(job: &TranslateJob<'a>) -> Result<Style, TranslateError<'a>>
         ensures style { IfOk result (IsStyleOf (translate_words job.now)) }
         ensures refused { (files : Holdings) → IfErr result (λ e.
-            IsFirstToFail (translate_words job.now) files (fault_of e)) }
+            TranslationFails (translate_words job.now) files (translate_fault_of e)) }
     {
         let letters = match Letters::parse(job.letters.as_bytes()) {
             Ok(letters) => letters,

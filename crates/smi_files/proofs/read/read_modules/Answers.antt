@@ -1,6 +1,7 @@
 use Rattle.std.proofs.Common.{◌++◌, subst, sym, ℕ, List}
 use Rattle.std.proofs.lemmas.Result.{err_from_is_err_and}
-use Rattle.smi_files.specs.Files.{AreModulesOf, MayHold}
+use Rattle.snmp_io.specs.Files.{MayHold}
+use Rattle.smi_files.specs.Files.{AreModulesOf}
 use Rattle.smi_files.proofs.Reading.{AreModulesOf-more, held_among, refused_at, texts-more}
 use Rattle.smi_files.proofs.read.read_modules.Goals as goal
 

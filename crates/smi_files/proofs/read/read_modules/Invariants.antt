@@ -1,5 +1,6 @@
 use Rattle.std.proofs.Common.{take}
-use Rattle.smi_files.specs.Files.{AreModulesOf, MayHold, texts}
+use Rattle.snmp_io.specs.Files.{MayHold}
+use Rattle.smi_files.specs.Files.{AreModulesOf, texts}
 use Rattle.smi_files.proofs.read.read_modules.Given as goal
 
 abbrev pub invariant-paths : goal.invariant-paths

@@ -2,7 +2,7 @@ use Rattle.std.proofs.Common.{◌≡◌, inr, subst, List, ℕ}
 use Rattle.std.proofs.lemmas.Result.{IfErr-weaker}
 use Rattle.snmp_words.specs.Words.{serve_words}
 use Rattle.snmp_serve.specs.Outcome.{AtDoor}
-use Rattle.snmp_serve.specs.Service.{agent_over}
+use Rattle.snmp_serve.specs.Service.{served_agent}
 use Rattle.snmp_serve.proofs.Serving.{counts_stop}
 use Rattle.snmp_serve.proofs.service.serve_at.Goals as goal
 
@@ -10,7 +10,7 @@ pub returns-clause-failed : goal.returns-clause-failed
 returns-clause-failed g c =
     let words = serve_words c.args.job.now in
     let community : c.as_bytes.result.now ≡ words.community = c.as_bytes.ensures.value in
-    let serves : AtDoor g.L.Links.serves (agent_over words c.args.table.now) words.turns c.serve-served.result = (
+    let serves : AtDoor g.L.Links.serves (served_agent words c.args.table.now) words.turns c.serve-served.result = (
       c.in-Ok.door,
       subst (λ (t : List ℕ). g.L.Links.serves c.in-Ok.door (record {
         view = c.args.table.now;

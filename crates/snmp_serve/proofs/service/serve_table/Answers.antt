@@ -1,5 +1,6 @@
 use Rattle.std.proofs.Common.{refl, inr}
 use Rattle.std.proofs.lemmas.Result.{IfErr-weaker, on_ok_weaker}
+use Rattle.snmp_words.specs.Words.{serve_words}
 use Rattle.snmp_serve.specs.Outcome.{ran, refused}
 use Rattle.snmp_serve.proofs.Serving.{table_fails}
 use Rattle.snmp_serve.proofs.service.serve_table.Goals as goal
@@ -10,7 +11,8 @@ returns-in-Err-clause-failed g c =
 
 pub returns-in-Err-table_at-clause-failed : goal.returns-in-Err-table_at-clause-failed
 returns-in-Err-table_at-clause-failed g c =
-    refused _ (table_fails _ _ _ _ _ c.in-Ok.ensures.short_community c.in-Ok.ensures.place c.in-Err-table_at.ensures.err) refl refl
+    refused _ (table_fails (serve_words c.args.job.now) (g.F.Files.text_at c.args.files.now) _ _ _ c.in-Ok.ensures.short_community c.in-Ok.ensures.place
+    c.in-Err-table_at.ensures.err) refl refl
 
 pub returns-clause-done : goal.returns-clause-done
 returns-clause-done g c = on_ok_weaker c.serve_at.result (λ h. ran _ (record {

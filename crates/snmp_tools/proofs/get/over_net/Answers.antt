@@ -9,7 +9,7 @@ use Rattle.snmp_tools.specs.GetPlanned.{get_plan_of}
 use Rattle.snmp_tools.specs.Got.{got_over, not_asked}
 use Rattle.snmp_tools.specs.Message.{Fault, ended, fault_of}
 use Rattle.snmp_tools.specs.Planned.{mib_in}
-use Rattle.snmp_tools.specs.Steps.{IsFirstToFail}
+use Rattle.snmp_io.specs.Steps.{IsFirstToFail}
 use Rattle.snmp_tools.proofs.GetNames.{same_texts}
 use Rattle.snmp_tools.proofs.GetSteps.{unreached, unsent}
 use Rattle.snmp_tools.proofs.GetWholes.{with_get_facts}

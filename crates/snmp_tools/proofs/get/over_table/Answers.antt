@@ -2,19 +2,20 @@ use Rattle.std.proofs.Common.{◌≡◌, ◌⊎◌, refl, sym, subst, ℕ, Bor, 
 use Rattle.std.proofs.lemmas.Result.{IfErr-weaker, on_ok_weaker}
 use Rattle.snmp_net.specs.Address.{Address, table}
 use Rattle.snmp_words.specs.Words.{get_words, texts_at}
-use Rattle.snmp_tools.specs.Asking.{IsReached, ReachFails, TableFails}
+use Rattle.snmp_serve.specs.TableFile.{TableFails}
+use Rattle.snmp_tools.specs.Asking.{IsReached, ReachFails}
 use Rattle.snmp_tools.specs.Get.{HasSendable, HasUnsendable}
 use Rattle.snmp_tools.specs.GetPlanned.{get_plan_of}
-use Rattle.snmp_tools.specs.Message.{Fault, fault_of, out_of_memory}
-use Rattle.snmp_tools.specs.Mib.{Holdings}
+use Rattle.snmp_tools.specs.Message.{Fault, bad_table, fault_of, out_of_memory, unreadable}
+use Rattle.snmp_io.specs.Files.{Holdings}
 use Rattle.snmp_tools.specs.Planned.{mib_in}
-use Rattle.snmp_tools.specs.Steps.{IsFirstToFail}
+use Rattle.snmp_io.specs.Steps.{IsFirstToFail}
 use Rattle.snmp_tools.proofs.GetNames.{same_texts}
 use Rattle.snmp_tools.proofs.GetSteps.{unreached, unsent}
 use Rattle.snmp_tools.proofs.get.over_table.Goals as goal
 
 of_reach : (files : Holdings) (agent : Address) (path word : List ℕ) → agent ≡ table path → (why : Fault) → (why ≡ out_of_memory)
-    ⊎ TableFails (files path) path why → (why ≡ out_of_memory) ⊎ ReachFails files agent word why
+    ⊎ TableFails unreadable bad_table files path why → (why ≡ out_of_memory) ⊎ ReachFails files agent word why
 of_reach files agent path word at why (inl e) = inl e
 of_reach files agent path word at why (inr f) = let P : Address → Type 0 = λ a. ReachFails files a word why in inr (subst P (sym at) f)
 

@@ -2,7 +2,7 @@ use Rattle.std.proofs.Common.{◌≡◌, subst}
 use Rattle.snmp_words.specs.Words.{get_words, job_words, snmpget, walk_words}
 use Rattle.snmp_words.specs.declared.job.Job.{Job}
 use Rattle.snmp_tools.specs.GetHeadline.{GetEndsAtStatus0, GetWritesAllAtStatus0, GetWritesFront}
-use Rattle.snmp_tools.specs.Outcome.{HasLinkFacts, IsRun}
+use Rattle.snmp_tools.specs.Outcome.{HasLinkFacts, IsWalkRun}
 use Rattle.snmp_tools.specs.Planned.{IsWalkJob}
 use Rattle.snmp_tools.proofs.Headlines.{ends_at_0, writes_all, writes_front}
 use Rattle.snmp_tools.proofs.Stated.{many_at_a_time, of_names, one_by_one}
@@ -30,7 +30,7 @@ pub returns-in-Walk-clause-front_written : goal.returns-in-Walk-clause-front_wri
 returns-in-Walk-clause-front_written g c = λ bulk words is.
     let stated = subst (λ (j : Job). IsWalkJob j bulk words) c.in-Walk.is is in
     let run = one_by_one (walk_words c.in-Walk.walk) bulk words
-    (λ b w. IsRun (HasLinkFacts (g.L.Links.opens c.args.links.now) g.L.Wire.Link.honest g.L.Wire.Link.agents g.L.Wire.Link.traffic) b w (g.F.Files.text_at
+    (λ b w. IsWalkRun (HasLinkFacts (g.L.Links.opens c.args.links.now) g.L.Wire.Link.honest g.L.Wire.Link.agents g.L.Wire.Link.traffic) b w (g.F.Files.text_at
     c.args.files.now) (g.O.Output.stream c.args.out.now) (g.O.Output.stream c.do_walk.new.out)
     (g.E.Output.stream c.args.err.now) (g.E.Output.stream c.do_walk.new.err) c.do_walk.result)
     stated c.do_walk.ensures in
@@ -40,7 +40,7 @@ pub returns-in-Walk-clause-all_written_at_status_0 : goal.returns-in-Walk-clause
 returns-in-Walk-clause-all_written_at_status_0 g c = λ bulk words is.
     let stated = subst (λ (j : Job). IsWalkJob j bulk words) c.in-Walk.is is in
     let run = one_by_one (walk_words c.in-Walk.walk) bulk words
-    (λ b w. IsRun (HasLinkFacts (g.L.Links.opens c.args.links.now) g.L.Wire.Link.honest g.L.Wire.Link.agents g.L.Wire.Link.traffic) b w (g.F.Files.text_at
+    (λ b w. IsWalkRun (HasLinkFacts (g.L.Links.opens c.args.links.now) g.L.Wire.Link.honest g.L.Wire.Link.agents g.L.Wire.Link.traffic) b w (g.F.Files.text_at
     c.args.files.now) (g.O.Output.stream c.args.out.now) (g.O.Output.stream c.do_walk.new.out)
     (g.E.Output.stream c.args.err.now) (g.E.Output.stream c.do_walk.new.err) c.do_walk.result)
     stated c.do_walk.ensures in
@@ -50,7 +50,7 @@ pub returns-in-Walk-clause-ends_at_status_0 : goal.returns-in-Walk-clause-ends_a
 returns-in-Walk-clause-ends_at_status_0 g c = λ bulk words is.
     let stated = subst (λ (j : Job). IsWalkJob j bulk words) c.in-Walk.is is in
     let run = one_by_one (walk_words c.in-Walk.walk) bulk words
-    (λ b w. IsRun (HasLinkFacts (g.L.Links.opens c.args.links.now) g.L.Wire.Link.honest g.L.Wire.Link.agents g.L.Wire.Link.traffic) b w (g.F.Files.text_at
+    (λ b w. IsWalkRun (HasLinkFacts (g.L.Links.opens c.args.links.now) g.L.Wire.Link.honest g.L.Wire.Link.agents g.L.Wire.Link.traffic) b w (g.F.Files.text_at
     c.args.files.now) (g.O.Output.stream c.args.out.now) (g.O.Output.stream c.do_walk.new.out)
     (g.E.Output.stream c.args.err.now) (g.E.Output.stream c.do_walk.new.err) c.do_walk.result)
     stated c.do_walk.ensures in
@@ -60,7 +60,7 @@ pub returns-in-BulkWalk-clause-front_written : goal.returns-in-BulkWalk-clause-f
 returns-in-BulkWalk-clause-front_written g c = λ bulk words is.
     let stated = subst (λ (j : Job). IsWalkJob j bulk words) c.in-BulkWalk.is is in
     let run = many_at_a_time (walk_words c.in-BulkWalk.walk) bulk words
-    (λ b w. IsRun (HasLinkFacts (g.L.Links.opens c.args.links.now) g.L.Wire.Link.honest g.L.Wire.Link.agents g.L.Wire.Link.traffic) b w (g.F.Files.text_at
+    (λ b w. IsWalkRun (HasLinkFacts (g.L.Links.opens c.args.links.now) g.L.Wire.Link.honest g.L.Wire.Link.agents g.L.Wire.Link.traffic) b w (g.F.Files.text_at
     c.args.files.now) (g.O.Output.stream c.args.out.now) (g.O.Output.stream c.do_walk-in-BulkWalk.new.out)
     (g.E.Output.stream c.args.err.now) (g.E.Output.stream c.do_walk-in-BulkWalk.new.err) c.do_walk-in-BulkWalk.result)
     stated c.do_walk-in-BulkWalk.ensures in
@@ -71,7 +71,7 @@ pub returns-in-BulkWalk-clause-all_written_at_status_0 : goal.returns-in-BulkWal
 returns-in-BulkWalk-clause-all_written_at_status_0 g c = λ bulk words is.
     let stated = subst (λ (j : Job). IsWalkJob j bulk words) c.in-BulkWalk.is is in
     let run = many_at_a_time (walk_words c.in-BulkWalk.walk) bulk words
-    (λ b w. IsRun (HasLinkFacts (g.L.Links.opens c.args.links.now) g.L.Wire.Link.honest g.L.Wire.Link.agents g.L.Wire.Link.traffic) b w (g.F.Files.text_at
+    (λ b w. IsWalkRun (HasLinkFacts (g.L.Links.opens c.args.links.now) g.L.Wire.Link.honest g.L.Wire.Link.agents g.L.Wire.Link.traffic) b w (g.F.Files.text_at
     c.args.files.now) (g.O.Output.stream c.args.out.now) (g.O.Output.stream c.do_walk-in-BulkWalk.new.out)
     (g.E.Output.stream c.args.err.now) (g.E.Output.stream c.do_walk-in-BulkWalk.new.err) c.do_walk-in-BulkWalk.result)
     stated c.do_walk-in-BulkWalk.ensures in
@@ -82,7 +82,7 @@ pub returns-in-BulkWalk-clause-ends_at_status_0 : goal.returns-in-BulkWalk-claus
 returns-in-BulkWalk-clause-ends_at_status_0 g c = λ bulk words is.
     let stated = subst (λ (j : Job). IsWalkJob j bulk words) c.in-BulkWalk.is is in
     let run = many_at_a_time (walk_words c.in-BulkWalk.walk) bulk words
-    (λ b w. IsRun (HasLinkFacts (g.L.Links.opens c.args.links.now) g.L.Wire.Link.honest g.L.Wire.Link.agents g.L.Wire.Link.traffic) b w (g.F.Files.text_at
+    (λ b w. IsWalkRun (HasLinkFacts (g.L.Links.opens c.args.links.now) g.L.Wire.Link.honest g.L.Wire.Link.agents g.L.Wire.Link.traffic) b w (g.F.Files.text_at
     c.args.files.now) (g.O.Output.stream c.args.out.now) (g.O.Output.stream c.do_walk-in-BulkWalk.new.out)
     (g.E.Output.stream c.args.err.now) (g.E.Output.stream c.do_walk-in-BulkWalk.new.err) c.do_walk-in-BulkWalk.result)
     stated c.do_walk-in-BulkWalk.ensures in

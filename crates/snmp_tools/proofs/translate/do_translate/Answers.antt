@@ -1,12 +1,12 @@
 use Rattle.std.proofs.Common.{◌≡◌, ◌∙◌, refl, sym, ap, subst, ℕ, Some, None}
 use Rattle.snmp_translate.specs.Fault as translate
-use Rattle.snmp_translate.specs.Fault.{fault_of as translate_fault_of}
+use Rattle.snmp_translate.specs.Fault.{TranslateFault, translate_fault_of}
 use Rattle.snmp_tools.specs.Message.{Fault, status_of}
 use Rattle.snmp_tools.specs.Outcome.{IsReported}
 use Rattle.snmp_tools.specs.Translating.{reported}
 use Rattle.snmp_tools.proofs.translate.do_translate.Goals as goal
 
-status_is_1 : (fault : translate.Fault) → status_of (reported fault) ≡ 1
+status_is_1 : (fault : TranslateFault) → status_of (reported fault) ≡ 1
 status_is_1 (translate.bad_letter octet) = refl
 status_is_1 (translate.bad_modules why) = refl
 status_is_1 (translate.bad_name name error) = refl

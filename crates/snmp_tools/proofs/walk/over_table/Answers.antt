@@ -2,9 +2,11 @@ use Rattle.std.proofs.Common.{◌≡◌, ◌⊎◌, refl, sym, subst, ℕ, Bool,
 use Rattle.std.proofs.lemmas.Result.{IfErr-weaker, on_ok_weaker}
 use Rattle.snmp_net.specs.Address.{Address, table}
 use Rattle.snmp_words.specs.Words.{WalkWords, walk_words}
-use Rattle.snmp_tools.specs.Asking.{IsReached, ReachFails, TableFails}
-use Rattle.snmp_tools.specs.Message.{Fault, fault_of, out_of_memory}
-use Rattle.snmp_tools.specs.Mib.{Holdings, Mib}
+use Rattle.snmp_serve.specs.TableFile.{TableFails}
+use Rattle.snmp_tools.specs.Asking.{IsReached, ReachFails}
+use Rattle.snmp_tools.specs.Message.{Fault, bad_table, fault_of, out_of_memory, unreadable}
+use Rattle.snmp_io.specs.Files.{Holdings}
+use Rattle.snmp_tools.specs.Mib.{Mib}
 use Rattle.snmp_tools.specs.Outcome.{IsWalkOver}
 use Rattle.snmp_tools.specs.Plan.{IsLateRefusal, Plan}
 use Rattle.snmp_tools.specs.Planned.{IsPlanFor, mib_in, plan_of}
@@ -12,7 +14,7 @@ use Rattle.snmp_tools.proofs.Starts.{reach_refused, start_refused}
 use Rattle.snmp_tools.proofs.walk.over_table.Goals as goal
 
 table_or_want : (bulk : Bool) (words : WalkWords) (files : Holdings) (mib : Mib) (plan : Plan) (path : List ℕ) → IsPlanFor bulk words files mib plan
-    → plan.agent ≡ table path → (why : Fault) → (why ≡ out_of_memory) ⊎ TableFails (files path) path why → IsLateRefusal bulk words files why
+    → plan.agent ≡ table path → (why : Fault) → (why ≡ out_of_memory) ⊎ TableFails unreadable bad_table files path why → IsLateRefusal bulk words files why
 table_or_want bulk words files mib plan path for at why (inl e) = inl e
 table_or_want bulk words files mib plan path for at why (inr f) =
     let P : Address → Type 0 = λ a. ReachFails files a words.asking.agent why in

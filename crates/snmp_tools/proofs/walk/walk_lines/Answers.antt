@@ -5,7 +5,7 @@ use Rattle.snmp_words.specs.Words.{WalkWords, walk_words}
 use Rattle.snmp_tools.specs.Asking.{MibsFail}
 use Rattle.snmp_tools.specs.Chosen.{chosen}
 use Rattle.snmp_tools.specs.Message.{Fault, fault_of, out_of_memory}
-use Rattle.snmp_tools.specs.Mib.{Holdings}
+use Rattle.snmp_io.specs.Files.{Holdings}
 use Rattle.snmp_tools.specs.Outcome.{loaded, not_loaded}
 use Rattle.snmp_tools.specs.Plan.{IsEarlyRefusal}
 use Rattle.snmp_tools.specs.Planned.{AreOrdersOf}

@@ -1,7 +1,7 @@
 use Rattle.std.proofs.Common.{◌+◌, ◌-◌, arith, refl, drop, take, length}
 use Rattle.std.proofs.lemmas.Grind.{common_steps}
 use Rattle.snmp_tools.specs.Chosen.{chosen}
-use Rattle.snmp_tools.specs.Letters.{choices_of, parts_of}
+use Rattle.snmp_tools.specs.Letters.{choices_of, letter_parts}
 use Rattle.snmp_tools.proofs.LetterLemmas.{next_part_in, read_no_more, read_on}
 use Rattle.snmp_tools.proofs.choices.Choices.read.Goals as goal
 
@@ -15,7 +15,7 @@ parts-preserved c =
     c.parts-test.true refl c.front_digits-digits.ensures.digits c.front_digits-digits.ensures.maximal c.parts.invariant.same in
     record {
       within = grind (arith, common_steps, c.front_digits-digits.ensures.within);
-      same = read_on c.args.bulk _ (chosen c.in-Ok.choices) (parts_of (drop (at + (1 + n)) text)) _ read c.in-Ok.ensures;
+      same = read_on c.args.bulk _ (chosen c.in-Ok.choices) (letter_parts (drop (at + (1 + n)) text)) _ read c.in-Ok.ensures;
     }
 
 pub returns-in-Err : goal.returns-in-Err
@@ -26,4 +26,4 @@ returns-in-Err c =
     let read = next_part_in c.args.bulk (chosen c.parts.choices) text (take (length text - (at + 1)) (drop (at + 1) text)) at n
     (choices_of c.args.bulk c.args.letters.now)
     c.parts-test.true refl c.front_digits-digits.ensures.digits c.front_digits-digits.ensures.maximal c.parts.invariant.same in
-    read_no_more c.args.bulk _ c.in-Err.octet (parts_of (drop (at + (1 + n)) text)) (choices_of c.args.bulk c.args.letters.now) read c.in-Err.ensures
+    read_no_more c.args.bulk _ c.in-Err.octet (letter_parts (drop (at + (1 + n)) text)) (choices_of c.args.bulk c.args.letters.now) read c.in-Err.ensures

@@ -4,7 +4,7 @@ use Rattle.snmp_walk.specs.Link.{ComesOver}
 use Rattle.snmp_tools.specs.Planned.{mib_in}
 use Rattle.snmp_tools.proofs.GetFacts.{for_names, for_none, from_none, honest_ends, no_names, some_names, took}
 use Rattle.snmp_tools.proofs.Printed.{lines_printed, same_name}
-use Rattle.snmp_tools.proofs.Streams.{extended-nil}
+use Rattle.snmp_io.specs.Streams.{extended-nil}
 use Rattle.snmp_tools.proofs.lines.Printer.print_got.Goals as goal
 
 pub returns-then-is_empty-clause-printed : goal.returns-then-is_empty-clause-printed
