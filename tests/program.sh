@@ -50,6 +50,9 @@ snmp: TINY-MIB::loopA stands on a cycle
 snmp: TINY-MIB::loopB stands on a cycle
 '
 printf '%s|4|%01500d\n' 1.3.6.1.4.1.32473.1.1 0 >"$got/large.tab"
+# A name of 128 numbers of five octets each: 105 such names are longer than the greatest datagram.
+long=.1.3$(printf '.4294967295%.0s' {1..126})
+mapfile -t many < <(yes -- "$long" | head -n 105)
 
 # status 0
 expect 0 "$three" '' snmpwalk -On table:three.tab $e.1
@@ -78,6 +81,33 @@ expect 0 'listening on 127.0.0.1:16161
 expect 0 '' '' snmpwalk -On --after $e.1.10.0 table:three.tab $e.1
 expect 0 '' '' snmpwalk -On -CI table:/dev/null .1
 expect 0 'Translates names of managed objects, reads them from SNMP agents...' '' --help
+expect 0 "$e.2.1.2.3.119.101.115
+TINY-MIB::tinyState.0
+" "$warnings" snmptranslate --mib tiny.txt -OnS 'TINY-MIB::tinyMac."wes"' tinyState.0
+expect 0 'TINY-MIB::tinyState.0
+tinyState OBJECT-TYPE
+...' "$warnings" snmptranslate --mib tiny.txt -Td tinyState.0
+
+# over UDP, two walks at once
+port=$((20000 + RANDOM % 20000))
+agent=127.0.0.1:$port
+"$program" snmpd --table three.tab --listen "$agent" >"$got/server" &
+server=$!
+trap 'kill $server 2>/dev/null; rm -rf "$got"' EXIT
+for _ in {1..100}; do [ -s "$got/server" ] && break; sleep 0.1; done
+"$program" snmpwalk -On "$agent" $e.1 >"$got/other" 2>&1 &
+other=$!
+expect 0 "$three" '' snmpwalk -On "$agent" $e.1
+wait $other
+[ "$(cat "$got/other"; echo .)" = "$three." ] && passed=$((passed + 1)) ||
+    { failed=$((failed + 1)); echo 'FAILED: a walk beside another'; }
+expect 0 "${three}Variables found: 3
+" '' snmpbulkwalk -On -Cp -Cr2 "$agent" $e.1
+expect 0 "$e.1.10.0 = INTEGER: 3
+$e.1.3.0 = No Such Object available on this agent at this OID
+" '' snmpget -On "$agent" $e.1.10.0 $e.1.3.0
+expect 1 '' "Timeout: No Response from $agent.
+" snmpget -r 0 -c other "$agent" $e.1.10.0
 
 # status 1
 expect 1 '' 'no.tab: cannot be read
@@ -106,8 +136,20 @@ expect 1 '' 'Name cannot be sent: .3
 ' snmpwalk -On table:three.tab .3
 expect 1 '' 'Name cannot be sent: .3
 ' snmpget -On table:three.tab $e.1.1.0 .3
-target=/dev/full expect 1 '' 'The output failed.
-' snmpwalk -On table:three.tab $e.1
+for words in "snmpwalk -On table:three.tab $e.1" "snmpbulkwalk -On table:three.tab $e.1" \
+    "snmpget -On table:three.tab $e.1.1.0" "snmptranslate -On iso" \
+    "snmpwalk -Cp -CI table:/dev/null $e.1" "snmpd --table three.tab --listen 127.0.0.1:0 --turns 0" --help; do
+    # shellcheck disable=SC2086
+    target=/dev/full expect 1 '' 'The output failed.
+' $words
+done
+expect 1 '' 'Request too long.
+' snmpget -On table:three.tab "${many[@]}"
+expect 1 'iso.3
+' 'Unknown name: x
+' snmptranslate .1.3 x .1.3.6
+expect 1 '' "${warnings}Unknown name: tinyer
+" snmptranslate --mib tiny.txt -Td tinyer
 expect 1 '' 'No progress after .1.3.6.1.4.1.32473.1
 ' snmpbulkwalk -On "table:$got/large.tab" $e.1
 expect 1 '' 'error: ...' walk
