@@ -1,7 +1,9 @@
 #!/usr/bin/env bash
 # Runs the built program on a table of words, and compares what it wrote to its output and to its error
 # output, and its status, with what must come. Its last line is 'N passed, M failed'.
+# shellcheck disable=SC2086  # words are split on purpose
 set -uo pipefail
+export LC_ALL=C
 cd "$(dirname "${BASH_SOURCE[0]}")/data" || exit 1
 program=$PWD/../../crates/snmp/out/snmp
 [ -x "$program" ] || { echo "tests/program.sh: the program isn't built: ./snmp --build" >&2; exit 1; }
@@ -10,153 +12,439 @@ failed=0
 got=$(mktemp -d)
 trap 'rm -rf "$got"' EXIT
 
-# expect STATUS OUTPUT MESSAGES WORD..: OUTPUT and MESSAGES are the whole texts, newlines included.
-# Where a text ends in ..., it need only begin as it does before that.
-matches() {
-    case $1 in
-        *...) [ "${2:0:$((${#1} - 3))}" = "${1%...}" ] && [ ${#2} -ge $((${#1} - 3)) ] ;;
-        *) [ "$1" = "$2" ] ;;
-    esac
-}
-expect() {
-    local status=$1 output=$2 messages=$3
-    shift 3
-    timeout 60 "$program" "$@" >"${target:-$got/out}" 2>"$got/err" </dev/null
-    local ended=$?
-    local wrote='' said
-    [ -n "${target:-}" ] || { wrote=$(cat "$got/out"; echo .); wrote=${wrote%.}; }
-    said=$(cat "$got/err"; echo .)
-    said=${said%.}
-    if [ $ended = "$status" ] && matches "$output" "$wrote" && matches "$messages" "$said"; then
+# Counts a test, which failed where there is a text that says why.
+count() {
+    if [ -z "$1" ]; then
         passed=$((passed + 1))
     else
         failed=$((failed + 1))
-        printf 'FAILED: snmp %s\n  status %s, not %s\n  output: %q\n  messages: %q\n' "$*" "$ended" "$status" "$wrote" "$said"
+        printf 'FAILED: %s\n' "$1"
     fi
 }
 
+# Texts are whole but for their last newline, which must come where the text isn't empty. Where a text
+# ends in ..., it need only begin as it does before that.
+matches() {
+    case $1 in
+        *...) [ "${2:0:$((${#1} - 3))}" = "${1%...}" ] && [ ${#2} -ge $((${#1} - 3)) ] ;;
+        '') [ -z "$2" ] ;;
+        *) [ "$1"$'\n' = "$2" ] ;;
+    esac
+}
+
+# same TITLE TEXT FILE: the file has this text.
+same() {
+    local has
+    has=$(cat "$3"; echo .)
+    if matches "$2" "${has%.}"; then count ''; else count "$(printf '%s: %q' "$1" "${has%.}")"; fi
+}
+
+# expect STATUS OUTPUT MESSAGES WORD..; with `target` or `errors` before it, output or messages go there.
+expect() {
+    local status=$1 output=$2 messages=$3 ended wrote said
+    shift 3
+    : >"$got/out"
+    : >"$got/err"
+    timeout 60 "$program" "$@" >"${target:-$got/out}" 2>"${errors:-$got/err}" </dev/null
+    ended=$?
+    wrote=$(cat "$got/out"; echo .)
+    said=$(cat "$got/err"; echo .)
+    if [ $ended = "$status" ] && matches "$output" "${wrote%.}" && matches "$messages" "${said%.}"; then
+        count ''
+    else
+        count "$(printf 'snmp %s\n  status %s, not %s\n  output: %q\n  messages: %q' \
+            "$*" $ended "$status" "${wrote%.}" "${said%.}")"
+    fi
+}
+prints() { expect 0 "$1" '' "${@:2}"; }
+refuses() { expect 1 '' "$1" "${@:2}"; }
+
+# helps 'WORD..' TEXT..: the help that the words ask for has a line that begins with each text.
+helps() {
+    local words=$1 text missing=
+    shift
+    "$program" $words >"$got/out" 2>"$got/err" </dev/null && [ ! -s "$got/err" ] || missing=' status 0'
+    for text; do grep -qF -e "  $text " "$got/out" || missing+=" $text"; done
+    count "${missing:+the help of snmp $words lacks$missing}"
+}
+
+# table LINE..: the file t.tab has these lines.
+table() { printf '%s\n' "$@" >"$got/t.tab"; }
+
+# module FILE TEXT: the file has a module M of this text.
+module() { printf 'M DEFINITIONS ::= BEGIN\n%s\nEND\n' "$2" >"$got/$1"; }
+
 e=.1.3.6.1.4.1.32473
-three="$e.1.1.0 = INTEGER: 1
-$e.1.2.0 = STRING: \"wes\"
-$e.1.10.0 = INTEGER: 3
-"
-tiny="TINY-MIB::tinyState.0 = INTEGER: up(1)
-TINY-MIB::tinyMac.\"wes\" = STRING: 0:16:3e:5a:78:8e
-TINY-MIB::tinyKeyUse.'wes' = Gauge32: 5 jobs
-"
+first="$e.1.1.0 = INTEGER: 1"
+second="$e.1.2.0 = STRING: \"wes\""
+third="$e.1.10.0 = INTEGER: 3"
+three="$first
+$second
+$third"
+six=$(printf "$e.1.%s.0 = INTEGER: %s\n" 1 1 2 2 3 3 4 4 5 5 6 6)
+missing='No Such Object available on this agent at this OID'
 warnings='snmp: TINY-MIB imports absent from TINY-SMI, which has no absent
 snmp: TINY-MIB imports from GONE-MIB, which is not loaded
 snmp: TINY-MIB::loopA stands on a cycle
-snmp: TINY-MIB::loopB stands on a cycle
-'
-printf '%s|4|%01500d\n' 1.3.6.1.4.1.32473.1.1 0 >"$got/large.tab"
-# A name of 128 numbers of five octets each: 105 such names are longer than the greatest datagram.
-long=.1.3$(printf '.4294967295%.0s' {1..126})
-mapfile -t many < <(yes -- "$long" | head -n 105)
+snmp: TINY-MIB::loopB stands on a cycle'
+tiny="TINY-MIB::tinyState.0 = INTEGER: up(1)
+TINY-MIB::tinyMac.\"wes\" = STRING: 0:16:3e:5a:78:8e
+TINY-MIB::tinyKeyUse.'wes' = Gauge32: 5 jobs"
+examples=../../examples
+walkers='snmpwalk snmpbulkwalk'
 
-# status 0
-expect 0 "$three" '' snmpwalk -On table:three.tab $e.1
-expect 0 "$e.1.1.0 = INTEGER: 1
-" '' snmpwalk -On table:three.tab $e.1.1.0
-expect 0 '.1.0 = No Such Object available on this agent at this OID
-' '' snmpwalk -On table:/dev/null .1
-expect 0 'iso.3.6.1.4.1.32473.1.10.0 3
-' '' snmpwalk -Oqs table:three.tab iso.3.6.1.4.1.32473.1.10
+# walks of a table
+for walker in $walkers; do
+    prints "$three" $walker -On table:three.tab $e.1
+    prints "$second
+$third" $walker -On --after $e.1.1.0 table:three.tab $e.1
+    prints "$three" $walker -On --after $e.1 table:three.tab $e.1
+    prints '' $walker -On --after $e.1.10.0 table:three.tab $e.1
+    prints "$three
+Variables found: 3" $walker -On -Cp table:three.tab $e.1
+    prints "$third
+Variables found: 1" $walker -On -Cp --after $e.1.2.0 table:three.tab $e.1
+    prints 'iso.3.6.1.4.1.32473.1.10.0 3' $walker -Oqs table:three.tab iso.3.6.1.4.1.32473.1.10
+    prints 'iso.3.6.1.4.1.32473.1.10.0 3' $walker -O q -O s table:three.tab iso.3.6.1.4.1.32473.1.10
+done
+
+# the modes of a walk: nothing below the root; the root alone; the root and what is below it
+for walker in $walkers; do
+    prints "iso.0 = $missing" $walker table:$examples/empty.tab .1
+    prints ".1.0 = $missing" $walker -On table:/dev/null .1
+    prints ".0.0 = $missing
+Variables found: 1" $walker -On -Cp table:/dev/null .
+    prints '' $walker -Ci table:/dev/null .1
+    prints "$first" $walker -On table:three.tab $e.1.1.0
+    prints "$first" $walker -On -Ci table:three.tab $e.1.1.0
+    prints "$e.9.1 = INTEGER: 8" $walker -On table:$examples/nested.tab $e.9
+    prints "$e.9 = INTEGER: 7
+$e.9.1 = INTEGER: 8" $walker -On -Ci table:$examples/nested.tab $e.9
+    prints "$e.9 = INTEGER: 7
+$e.9.1 = INTEGER: 8
+Variables found: 2" $walker -On -Ci -Cp table:$examples/nested.tab $e.9
+    prints "$e.9.1 = INTEGER: 8" $walker -On -Ci --after $e.9 table:$examples/nested.tab $e.9
+done
+prints '' snmpwalk -CI table:/dev/null .1
+prints 'Variables found: 0' snmpwalk -CIp table:/dev/null .1
+prints '' snmpwalk -On -CI table:three.tab $e.1.1.0
+prints "$first" snmpwalk -On -CiI table:three.tab $e.1.1.0
+prints "$e.9.1 = INTEGER: 8" snmpwalk -On -CI table:$examples/nested.tab $e.9
+prints "$e.1.7.0 = No Such Instance currently exists at this OID" snmpwalk -On table:$examples/six.tab $e.1.7.0
+
+# sizes and repetitions
+for repetitions in 1 2 6 7 10 2147483647; do
+    prints "$six" snmpbulkwalk -On -Cr$repetitions --max-size 134 table:$examples/six.tab $e.1
+done
+prints "$six" snmpbulkwalk -On -Cr2 -Cr9 --max-size 65507 table:$examples/six.tab $e.1
+table "$e.1.0|2|1" "$e.1.1|4|$(printf '%0200d' 0)"
+expect 2 "$e.1.0 = INTEGER: 1" 'Error in packet: tooBig (1), index 0' \
+    snmpwalk -On --max-size 134 "table:$got/t.tab" $e.1
+expect 1 "$e.1.0 = INTEGER: 1" "No progress after $e.1.0" \
+    snmpbulkwalk -On -Cp --max-size 134 "table:$got/t.tab" $e.1
+table "$e.1.1|4|$(printf '%01500d' 0)"
+expect 2 '' 'Error in packet: tooBig (1), index 0' snmpwalk -On "table:$got/t.tab" $e.1
+expect 2 '' 'Error in packet: tooBig (1), index 0' snmpget -On "table:$got/t.tab" $e.1.1
+refuses "No progress after $e.1" snmpbulkwalk -On "table:$got/t.tab" $e.1
+refuses 'Timeout: No Response from table:three.tab.' snmpwalk --max-size 1 table:three.tab .1
+
+# gets
+prints "$third
+$e.1.3.0 = $missing
+$first" snmpget -On table:three.tab $e.1.10.0 $e.1.3.0 $e.1.1.0
+prints ".1.0 = $missing" snmpget -On table:three.tab .1
+prints "$e.1.0.5 = No Such Instance currently exists at this OID
+$e.2 = $missing" snmpget -On table:tiny.tab $e.1.0.5 $e.2
+expect 0 'TINY-MIB::tinyState.0 = INTEGER: up(1)' "$warnings" snmpget --mib tiny.txt table:tiny.tab tinyState.0
+
+# module files: names, and how values are shown
 expect 0 "$tiny" "$warnings" snmpwalk --mib tiny.txt table:tiny.tab tiny
-expect 0 'TINY-MIB::tinyState.0 = INTEGER: up(1)
-' "$warnings" snmpget --mib tiny.txt table:tiny.tab tinyState.0
-expect 0 "$e.1.10.0 = INTEGER: 3
-$e.1.3.0 = No Such Object available on this agent at this OID
-" '' snmpget -On table:three.tab $e.1.10.0 $e.1.3.0
-expect 0 "$three" '' snmpbulkwalk -On -Cr1 table:three.tab $e.1
-expect 0 "$three" '' snmpbulkwalk -On -Cr2147483647 --max-size 134 table:three.tab $e.1
-expect 0 "${three}Variables found: 3
-" '' snmpwalk -On -Cp table:three.tab $e.1
-expect 0 "$e.1.2.0 = STRING: \"wes\"
-$e.1.10.0 = INTEGER: 3
-" '' snmpwalk -On --after $e.1.1.0 table:three.tab $e.1
-expect 0 'listening on 127.0.0.1:16161
-0 replies, 0 dropped
-' '' snmpd --table three.tab --listen 127.0.0.1:16161 --turns 0
-expect 0 '' '' snmpwalk -On --after $e.1.10.0 table:three.tab $e.1
-expect 0 '' '' snmpwalk -On -CI table:/dev/null .1
-expect 0 'Translates names of managed objects, reads them from SNMP agents...' '' --help
+expect 0 "$tiny" "$warnings" snmpbulkwalk --mib=tiny.txt table:tiny.tab TINY-MIB::tiny
+expect 0 'tinyState.0 up...' "$warnings" snmpwalk --mib tiny.txt -Oqs table:tiny.tab tiny
+expect 0 'up...' "$warnings" snmpwalk --mib tiny.txt -Oqv table:tiny.tab tiny
+shows() { expect 0 "$2" "$warnings" snmpget --mib tiny.txt "-O$1" table:tiny.tab "${@:3}"; }
+shows Q 'TINY-MIB::tinyState.0 = up' tinyState.0
+shows qQ 'TINY-MIB::tinyState.0 = up' tinyState.0
+shows Qq 'TINY-MIB::tinyState.0 up' tinyState.0
+shows e 'TINY-MIB::tinyState.0 = INTEGER: 1' tinyState.0
+shows eq 'TINY-MIB::tinyState.0 1' tinyState.0
+shows b 'TINY-MIB::tinyMac.3.119.101.115 = STRING: 0:16:3e:5a:78:8e' 'tinyMac."wes"'
+shows U "TINY-MIB::tinyKeyUse.'wes' = Gauge32: 5" "tinyKeyUse.'wes'"
+shows qv '5 jobs' "tinyKeyUse.'wes'"
+shows f '.iso.3.6.internet.private.enterprises.tiny.tinyState.0 = INTEGER: up(1)' tinyState.0
+shows nSs 'tinyState.0 = INTEGER: up(1)' tinyState.0
+shows sn "$e.1.0 = INTEGER: up(1)" tinyState.0
+table "$e.1.0|4|up"
+expect 0 'TINY-MIB::tinyState.0 = STRING: "up"' "$warnings" snmpwalk --mib tiny.txt "table:$got/t.tab" tiny
+cat >"$got/hints.txt" <<'MODULE'
+HINT-MIB DEFINITIONS ::= BEGIN
+Date ::= TEXTUAL-CONVENTION DISPLAY-HINT "2d-1d-1d,1d:1d:1d.1d,1a1d:1d" STATUS current
+  DESCRIPTION "" SYNTAX OCTET STRING
+Place ::= TEXTUAL-CONVENTION DISPLAY-HINT "1d.1d.1d.1d/2d" STATUS current DESCRIPTION "" SYNTAX OCTET STRING
+Part ::= TEXTUAL-CONVENTION DISPLAY-HINT "d-2" STATUS current DESCRIPTION "" SYNTAX INTEGER
+None ::= TEXTUAL-CONVENTION DISPLAY-HINT "0a" STATUS current DESCRIPTION "" SYNTAX OCTET STRING
+date OBJECT-TYPE SYNTAX Date MAX-ACCESS read-only STATUS current DESCRIPTION "" ::= { iso 3 6 1 4 1 32473 1 }
+place OBJECT-TYPE SYNTAX Place MAX-ACCESS read-only STATUS current DESCRIPTION "" ::= { iso 3 6 1 4 1 32473 2 }
+part OBJECT-TYPE SYNTAX Part MAX-ACCESS read-only STATUS current DESCRIPTION "" ::= { iso 3 6 1 4 1 32473 3 }
+none OBJECT-TYPE SYNTAX None MAX-ACCESS read-only STATUS current DESCRIPTION "" ::= { iso 3 6 1 4 1 32473 4 }
+END
+MODULE
+table "$e.1.0|4x|07C8051A0D1E0F002D0400" "$e.2.0|4x|7F00000100A1" "$e.3.0|2|5" "$e.3.1|2|-5" "$e.4.0|4|a"
+prints 'date.0 = STRING: 1992-5-26,13:30:15.0,-4:0
+place.0 = STRING: 127.0.0.1/161
+part.0 = INTEGER: 0.05
+part.1 = INTEGER: -0.05
+none.0 = STRING: "a"' snmpwalk --mib "$got/hints.txt" -Os "table:$got/t.tab" $e
+
+# values without an object
+table "$e.1.0|67|14096763" "$e.2.0|4x|41FF" "$e.3.0|70|18446744073709551615" "$e.4.0|64|192.0.2.1"
+shows_bare() { prints "$2" snmpget "-Onv$1" "table:$got/t.tab" "$3"; }
+shows_bare '' 'Timeticks: (14096763) 1 day, 15:09:27.63' $e.1.0
+shows_bare q '1:15:09:27.63' $e.1.0
+shows_bare t '14096763' $e.1.0
+shows_bare '' 'Hex-STRING: 41 FF ' $e.2.0
+shows_bare xa 'STRING: "A."' $e.2.0
+shows_bare ax 'Hex-STRING: 41 FF ' $e.2.0
+shows_bare '' 'Counter64: 18446744073709551615' $e.3.0
+shows_bare '' 'IpAddress: 192.0.2.1' $e.4.0
+shows_bare q '192.0.2.1' $e.4.0
+
+# translations
+prints '.1.3.6
+.1' snmptranslate -On .1.3.6 iso
+prints '.iso.3.6' snmptranslate -Of .1.3.6
+prints 'iso.3.6.1' snmptranslate 1.3.6.1
+prints '.' snmptranslate .
 expect 0 "$e.2.1.2.3.119.101.115
-TINY-MIB::tinyState.0
-" "$warnings" snmptranslate --mib tiny.txt -OnS 'TINY-MIB::tinyMac."wes"' tinyState.0
-expect 0 'TINY-MIB::tinyState.0
+$e.1.0" "$warnings" snmptranslate --mib tiny.txt -OSn 'TINY-MIB::tinyMac."wes"' tinyState.0
+expect 0 'TINY-MIB::tinyMac."wes"
+TINY-MIB::tinyState.0' "$warnings" snmptranslate --mib tiny.txt -OnS $e.2.1.2.3.119.101.115 tinyState.0
+expect 0 "TINY-MIB::tinyKeyUse.'wes'" "$warnings" snmptranslate --mib tiny.txt $e.3.1.1.119.101.115
+expect 0 'TINY-MIB::tinyMac.2.119.0' "$warnings" snmptranslate --mib tiny.txt $e.2.1.2.2.119.0
+expect 0 '.iso.3.6.internet.private.enterprises.tiny.tinyState.0' "$warnings" \
+    snmptranslate --mib tiny.txt -Of $e.1.0
+expect 0 'TINY-MIB::tinyState
 tinyState OBJECT-TYPE
-...' "$warnings" snmptranslate --mib tiny.txt -Td tinyState.0
+  -- FROM	TINY-MIB
+  SYNTAX	INTEGER { up ( 1 ) , down ( 2 ) }
+  MAX-ACCESS	read-only
+  STATUS	current
+  DESCRIPTION	"State."
+::= { iso(1) 3 6 internet(1) private(4) enterprises(1) tiny(32473) 1 }' "$warnings" \
+    snmptranslate --mib tiny.txt -Td TINY-MIB::tinyState
+
+# help
+prints 'snmp 0.6.0' --version
+prints 'Translates names of managed objects, reads them from SNMP agents...' -h
+showing=('--mib <FILE>' '-O <LETTERS>')
+asking=("${showing[@]}" '-v <VERSION>' '-c <COMMUNITY>' '-r <RETRIES>' '-t <SECONDS>' '--max-size <OCTETS>' '<AGENT>')
+helps --help snmptranslate snmpget snmpwalk snmpbulkwalk snmpd '-h, --help' '-V, --version'
+helps 'snmptranslate --help' "${showing[@]}" '-T <LETTERS>' '<NAME>...'
+helps 'snmpget --help' "${asking[@]}" '<NAME>...'
+for walker in $walkers; do
+    helps "$walker --help" "${asking[@]}" '-C <LETTERS>' '--after <NAME>' '[NAME]'
+done
+helps 'snmpd -h' '--table <FILE>' '-c <COMMUNITY>' '--listen <HOST:PORT>' '--max-size <OCTETS>' '--turns <N>'
+
+# words that make no command
+refuses "error: 'snmp' requires a subcommand but one was not provided..."
+refuses "error: unrecognized subcommand 'walk'..." walk
+refuses "error: unrecognized subcommand 'help'..." help
+refuses "error: unexpected argument '-x' found..." -x
+refuses "error: unexpected argument '--nix' found..." snmpwalk --nix table:three.tab
+refuses "error: unexpected argument '-T' found..." snmpwalk -T d table:three.tab
+refuses "error: unexpected argument '-r' found..." snmpd -r 1 --table three.tab
+refuses "error: unexpected argument 'b' found..." snmpwalk table:three.tab .1 b
+refuses "error: the argument '-c <COMMUNITY>' cannot be used multiple times..." snmpwalk -c a -c a table:three.tab
+refuses "error: the argument '--turns <N>' cannot be used multiple times..." snmpd --turns 1 --turns 1 --table three.tab
+refuses "error: a value is required for '-r <RETRIES>' but none was supplied..." snmpwalk table:three.tab -r
+refuses 'error: the following required arguments were not provided:
+  <AGENT>...' snmpwalk -On
+refuses 'error: the following required arguments were not provided:
+  <NAME>......' snmpget -On table:three.tab
+refuses 'error: the following required arguments were not provided:
+  <NAME>......' snmptranslate
+refuses 'error: the following required arguments were not provided:
+  --table <FILE>...' snmpd --turns 0
+refuses 'error: invalid UTF-8 was detected in one or more arguments' snmptranslate $'\xFF'
+
+# numbers at their ends and past them
+place=127.0.0.1:$((20000 + RANDOM % 10000))
+accepts() { prints "$first" snmpwalk "$@" -On table:three.tab $e.1.1.0; }
+for words in '-r 0' '-r 1000' '-t 1' '-t 3600' '--max-size 65507' '-v 2c' '-r 0001'; do
+    accepts $words
+done
+for words in '-r 1001' '-r 18446744073709551616' '-r x' '-t 0' '-t 3601' '-t 1.5' '--max-size 0' '--max-size 65508'; do
+    refuses "error: invalid value '${words#* }' for '${words% *} ..." snmpwalk $words table:three.tab
+done
+refuses "error: invalid value '0' for '--max-size <OCTETS>'..." snmpd --table three.tab --max-size 0
+refuses "error: invalid value '65508' for '--max-size <OCTETS>'..." snmpd --table three.tab --max-size 65508
+refuses "error: invalid value '18446744073709551616' for '--turns <N>'..." \
+    snmpd --table three.tab --turns 18446744073709551616
+prints "listening on $place
+0 replies, 0 dropped" snmpd --table three.tab --listen "$place" --turns 0 --max-size 65507
+for repetitions in 1 0001 2147483647; do
+    prints "$three" snmpbulkwalk -On -Cr$repetitions table:three.tab $e.1
+done
+for repetitions in 0 2147483648 '' x -1; do
+    refuses 'Unknown letter: r' snmpbulkwalk -On -Cr$repetitions table:three.tab $e.1
+done
+c255=$(printf '%0255d' 0)
+accepts -c "$c255"
+accepts -c ''
+refuses 'Community too long.' snmpwalk -c 0"$c255" table:three.tab
+refuses 'Community too long.' snmpwalk -c "é${c255#0}" table:three.tab
+refuses 'Community too long.' snmpget -c 0"$c255" table:three.tab .1.3
+refuses 'Community too long.' snmpd -c 0"$c255" --table three.tab --turns 0
+prints "listening on $place
+0 replies, 0 dropped" snmpd -c "$c255" --table three.tab --listen "$place" --turns 0
+
+# letters
+refuses 'Unknown letter: z' snmpwalk -Oz table:three.tab .1
+refuses 'Unknown letter: z' snmpwalk -O n -O nz table:three.tab .1
+refuses 'Unknown letter: z' snmptranslate -Oz .1
+refuses 'Unknown letter: x' snmptranslate -Tx .1
+refuses 'Unknown letter: x' snmptranslate -Tdx .1
+refuses 'Unknown letter: r' snmpwalk -Cr5 table:three.tab .1
+refuses 'Unknown letter: I' snmpbulkwalk -CI table:three.tab .1
+refuses 'Unknown letter: 5' snmpwalk -Ci5 table:three.tab .1
+refuses 'Unknown letter: '$'\xC3' snmpwalk -Cé table:three.tab .1
+
+# agents
+for word in '' : h: h:0 h:65536 h:1:2 h:+1 h:x :1 udp: udp::1 table:; do
+    refuses "Bad agent address: $word" snmpwalk -On "$word" .1
+done
+for word in '' 127.0.0.1 127.0.0.1:0 127.0.0.1:65536 :1; do
+    refuses "Bad agent address: $word" snmpd --table three.tab --listen "$word" --turns 0
+done
+refuses 'The link failed.' snmpwalk a..b .1.3
+refuses 'The link failed.' snmpd --table three.tab --listen a..b:1 --turns 0
+refuses 'The link failed.' snmpd --table three.tab --listen 192.0.2.1:16161 --turns 0
+
+# Where several words are refused, it is for the first of these: the version, -O, -C, the community, AGENT,
+# module files in order, NAME, --after, the table file or the link, a root that can't be sent, an --after that
+# isn't below it, an --after that can't be sent.
+for walker in $walkers; do
+    bad=(--mib no.txt --mib program.txt --after b udp: a)
+    refuses 'Unknown version: 1' $walker -v 1 -Oz -Cy -c 0"$c255" "${bad[@]}"
+    refuses 'Unknown letter: z' $walker -Oz -Cy -c 0"$c255" "${bad[@]}"
+    refuses 'Unknown letter: y' $walker -Cy -c 0"$c255" "${bad[@]}"
+    refuses 'Community too long.' $walker -c 0"$c255" "${bad[@]}"
+    refuses 'Bad agent address: udp:' $walker "${bad[@]}"
+    refuses 'no.txt: cannot be read' $walker --mib no.txt --mib program.txt --after b table:no.tab a
+    refuses 'program.txt:1: syntax' $walker --mib program.txt --mib no.txt --after b table:no.tab a
+    refuses 'Unknown name: a' $walker --after b table:no.tab a
+    refuses 'Unknown name: b' $walker --after b table:no.tab .3
+    refuses 'Unknown name: b' $walker --after b a..b:1 .3
+    refuses 'no.tab: cannot be read' $walker --after .2 table:no.tab .3
+    refuses 'The link failed.' $walker --after .2 a..b:1 .3
+    refuses 'Name cannot be sent: .3' $walker --after .2 table:three.tab .3
+    refuses 'Name cannot be sent: .3' $walker --after .3.1 table:three.tab .3
+    refuses 'Not below the root: .2' $walker --after .2 table:three.tab .1
+    refuses 'Not below the root: .3' $walker --after .3 table:three.tab .1
+    refuses 'Name cannot be sent: .1.40' $walker --after .1.40 table:three.tab .1
+done
+bad=(--mib no.txt udp: a b)
+refuses 'Unknown version: 1' snmpget -v 1 -Oz -c 0"$c255" "${bad[@]}"
+refuses 'Unknown letter: z' snmpget -Oz -c 0"$c255" "${bad[@]}"
+refuses 'Community too long.' snmpget -c 0"$c255" "${bad[@]}"
+refuses 'Bad agent address: udp:' snmpget "${bad[@]}"
+refuses 'no.txt: cannot be read' snmpget --mib no.txt table:no.tab .3 a b
+refuses 'Unknown name: a' snmpget table:no.tab .3 a b
+refuses 'no.tab: cannot be read' snmpget table:no.tab .3
+refuses 'The link failed.' snmpget a..b .3
+refuses 'Name cannot be sent: .3' snmpget -On table:three.tab $e.1.1.0 .3 .4
+refuses 'Unknown letter: z' snmptranslate -Oz -Ty --mib no.txt a
+refuses 'Unknown letter: y' snmptranslate -Ty --mib no.txt a
+refuses 'no.txt: cannot be read' snmptranslate --mib no.txt a
+refuses 'Community too long.' snmpd -c 0"$c255" --listen udp: --table no.tab
+refuses 'Bad agent address: udp:' snmpd --listen udp: --table no.tab
+refuses 'no.tab: cannot be read' snmpd --listen a..b:1 --table no.tab
+
+# names
+refuses 'Unknown name: mib-2' snmpwalk -On table:three.tab mib-2
+refuses 'Unknown name: ' snmpwalk -On table:three.tab ''
+refuses 'Bad number: .1.4294967296' snmpwalk table:three.tab .1.4294967296
+refuses 'Bad number: .1..3' snmpget table:three.tab .1..3
+refuses 'Bad index: iso."a' snmptranslate 'iso."a'
+refuses "Name too long: .1$(printf '.1%.0s' {1..128})" snmptranslate ".1$(printf '.1%.0s' {1..128})"
+refuses 'Unknown name: NO-MIB::iso' snmptranslate NO-MIB::iso
+expect 1 '' "$warnings
+Unknown name: tinyer" snmpwalk --mib tiny.txt table:tiny.tab tinyer
+expect 1 '' "$warnings
+Unknown name: tinyer" snmptranslate --mib tiny.txt -Td tinyer
+expect 1 'iso.3' 'Unknown name: x' snmptranslate .1.3 x .1.3.6
+# A name of 128 numbers, of five octets each, is read and walked.
+long=.1.3.6$(printf '.4294967295%.0s' {1..125})
+table "$long|2|1"
+prints "$long = INTEGER: 1" snmpwalk -On "table:$got/t.tab" .1
+# 105 such names are longer than the greatest datagram.
+mapfile -t many < <(yes -- "$long" | head -n 105)
+refuses 'Request too long.' snmpget -On table:three.tab "${many[@]}"
+
+# table files
+refuses 'no.tab: cannot be read' snmpwalk -On table:no.tab .1
+refuses 'three.tab/: cannot be read' snmpwalk -On table:three.tab/ .1
+refuses '.: cannot be read' snmpwalk -On table:. .1
+refuses 'program.txt:1: bad line' snmpwalk -On table:program.txt .1
+fault() {
+    table "$e.0.0|2|1" "${@:2}"
+    refuses "$got/t.tab:2: $1" snmpwalk -On "table:$got/t.tab" .1
+    refuses "$got/t.tab:2: $1" snmpd --table "$got/t.tab" --listen "$place" --turns 0
+}
+fault 'bad line' "$e.1.0|5|"
+fault 'bad line' 'objects'
+fault 'bad name' '1.3|2|1'
+fault 'bad name' "$long.1|2|1"
+fault 'bad value' "$e.1.0|4x|0"
+fault 'bad value' "$e.1.0|2|2147483648"
+fault 'double name' "${e#.}.0.0|2|1" "$e.1.0|5|"
+
+# module files
+refuses 'no.txt: cannot be read' snmpwalk --mib tiny.txt --mib no.txt table:tiny.tab tiny
+faulty() {
+    module m.txt "$2"
+    refuses "$got/m.txt:2: $1" snmptranslate --mib "$got/m.txt" iso
+}
+faulty 'bad character' 'a OBJECT IDENTIFIER ::= { iso 1 } ?'
+faulty 'open string' 'a OBJECT-TYPE SYNTAX INTEGER UNITS "b'
+faulty 'syntax' 'a OBJECT IDENTIFIER ::= { iso iso 1'
+faulty 'double name' 'a OBJECT IDENTIFIER ::= { iso 1 } a OBJECT IDENTIFIER ::= { iso 2 }'
+module m.txt "a OBJECT IDENTIFIER ::= { b 1 } c OBJECT IDENTIFIER ::= { iso$(printf ' 1%.0s' {1..128}) }"
+expect 0 'iso' "snmp: M::a is unresolved
+snmp: M::c is too long" snmptranslate --mib "$got/m.txt" iso
+expect 0 'iso' "$warnings
+snmp: TINY-SMI is loaded twice
+snmp: TINY-MIB is loaded twice" snmptranslate --mib tiny.txt --mib tiny.txt iso
+
+# outputs
+"$program" snmpwalk --mib tiny.txt table:tiny.tab tiny >"$got/both" 2>&1
+same 'warnings come before lines' "$warnings
+$tiny" "$got/both"
+errors=/dev/full prints "$tiny" snmpwalk --mib tiny.txt table:tiny.tab tiny
+errors=/dev/full expect 1 '' '' snmpwalk -On table:no.tab .1
+for words in "snmpwalk -On table:three.tab $e.1" "snmpbulkwalk -On table:three.tab $e.1" \
+    "snmpget -On table:three.tab $e.1.1.0" "snmptranslate -On iso" "snmptranslate -Td iso" \
+    "snmpwalk -Cp -CI table:/dev/null $e.1" "snmpd --table three.tab --listen $place --turns 0" --help --version; do
+    target=/dev/full refuses 'The output failed.' $words
+done
 
 # over UDP, two walks at once
-port=$((20000 + RANDOM % 20000))
-agent=127.0.0.1:$port
-"$program" snmpd --table three.tab --listen "$agent" >"$got/server" &
+"$program" snmpd --table three.tab --listen "$place" >"$got/server" &
 server=$!
 trap 'kill $server 2>/dev/null; rm -rf "$got"' EXIT
 for _ in {1..100}; do [ -s "$got/server" ] && break; sleep 0.1; done
-"$program" snmpwalk -On "$agent" $e.1 >"$got/other" 2>&1 &
+"$program" snmpwalk -On "$place" $e.1 >"$got/other" 2>&1 &
 other=$!
-expect 0 "$three" '' snmpwalk -On "$agent" $e.1
+prints "$three" snmpwalk -On "$place" $e.1
 wait $other
-[ "$(cat "$got/other"; echo .)" = "$three." ] && passed=$((passed + 1)) ||
-    { failed=$((failed + 1)); echo 'FAILED: a walk beside another'; }
-expect 0 "${three}Variables found: 3
-" '' snmpbulkwalk -On -Cp -Cr2 "$agent" $e.1
-expect 0 "$e.1.10.0 = INTEGER: 3
-$e.1.3.0 = No Such Object available on this agent at this OID
-" '' snmpget -On "$agent" $e.1.10.0 $e.1.3.0
-expect 1 '' "Timeout: No Response from $agent.
-" snmpget -r 0 -c other "$agent" $e.1.10.0
-
-# status 1
-expect 1 '' 'no.tab: cannot be read
-' snmpwalk -On table:no.tab .1
-expect 1 '' 'three.tab/: cannot be read
-' snmpwalk -On table:three.tab/ .1
-expect 1 '' 'program.txt:1: bad line
-' snmpwalk -On table:program.txt .1
-expect 1 '' 'Unknown letter: z
-' snmpwalk -Oz table:three.tab .1
-expect 1 '' 'Unknown name: mib-2
-' snmpwalk -On table:three.tab mib-2
-expect 1 '' 'no.txt: cannot be read
-' snmpwalk --mib tiny.txt --mib no.txt table:tiny.tab tiny
-expect 1 '' "${warnings}Unknown name: tinyer
-" snmpwalk --mib tiny.txt table:tiny.tab tinyer
-expect 1 '' 'Unknown version: 1
-' snmpwalk -On -v 1 table:no.tab .3
-expect 1 '' 'Unknown letter: r
-' snmpbulkwalk -On -Cr0 table:three.tab $e.1
-expect 1 '' 'Not below the root: .1.3.6.1.2.1
-' snmpwalk -On --after .1.3.6.1.2.1 table:three.tab $e.1
-expect 1 '' 'Bad agent address: table:
-' snmpwalk -On table: .1
-expect 1 '' 'Name cannot be sent: .3
-' snmpwalk -On table:three.tab .3
-expect 1 '' 'Name cannot be sent: .3
-' snmpget -On table:three.tab $e.1.1.0 .3
-for words in "snmpwalk -On table:three.tab $e.1" "snmpbulkwalk -On table:three.tab $e.1" \
-    "snmpget -On table:three.tab $e.1.1.0" "snmptranslate -On iso" \
-    "snmpwalk -Cp -CI table:/dev/null $e.1" "snmpd --table three.tab --listen 127.0.0.1:0 --turns 0" --help; do
-    # shellcheck disable=SC2086
-    target=/dev/full expect 1 '' 'The output failed.
-' $words
-done
-expect 1 '' 'Request too long.
-' snmpget -On table:three.tab "${many[@]}"
-expect 1 'iso.3
-' 'Unknown name: x
-' snmptranslate .1.3 x .1.3.6
-expect 1 '' "${warnings}Unknown name: tinyer
-" snmptranslate --mib tiny.txt -Td tinyer
-expect 1 '' 'No progress after .1.3.6.1.4.1.32473.1
-' snmpbulkwalk -On "table:$got/large.tab" $e.1
-expect 1 '' 'error: ...' walk
-
-# status 2
-expect 2 '' 'Error in packet: tooBig (1), index 0
-' snmpwalk -On "table:$got/large.tab" $e.1
+same 'a walk beside another' "$three" "$got/other"
+prints "$three
+Variables found: 3" snmpbulkwalk -On -Cp -Cr2 "$place" $e.1
+prints "$third
+$e.1.3.0 = $missing" snmpget -On "udp:$place" $e.1.10.0 $e.1.3.0
+refuses "Timeout: No Response from $place." snmpget -r 0 -c other "$place" $e.1.10.0
+refuses 'Request too long.' snmpget "$place" "${many[@]}"
 
 echo "$passed passed, $failed failed"
 [ $failed = 0 ]
