@@ -1,7 +1,7 @@
-//! A sink and a link that count.
+//! Sinks and a link that count.
 
 use snmp_walk::{Link, LinkFault, MemoryLink, Sink, SinkFault};
-use snmp_wire::{Binding, ValueRef};
+use snmp_wire::{Binding, ValueRef, parse_numeric};
 
 /// Writes the integers of its bindings one after the other, as the digits of a number, and counts
 /// the bindings.
@@ -34,6 +34,48 @@ impl Sink for Digits {
             _ => None,
         };
         self.add(digit);
+        Ok(())
+    }
+}
+
+/// Compares its bindings with those that are wanted, each the text of a name and a value, counts
+/// them, and counts those that differ.
+#[derive(Drop)]
+pub struct Listed<'a> {
+    pub wanted: &'a [(&'a [u8], ValueRef<'a>)],
+    pub rows: usize,
+    pub others: usize,
+}
+
+impl<'a> Listed<'a> {
+    pub fn new(wanted: &'a [(&'a [u8], ValueRef<'a>)]) -> Listed<'a> {
+        Listed {
+            wanted,
+            rows: 0,
+            others: 0,
+        }
+    }
+
+    /// Whether the binding is the next that is wanted.
+    fn is_next(&self, binding: &Binding<'_>) -> bool {
+        let Some((name, value)) = self.wanted.get(self.rows) else {
+            return false;
+        };
+        match parse_numeric(name) {
+            Ok(name) => name == binding.name && *value == binding.value,
+            Err(_) => false,
+        }
+    }
+}
+
+impl<'a> Sink for Listed<'a> {
+    ghost takes = { λ _ _ _ _. Unit {0} };
+
+    fn row(&mut self, binding: &Binding<'_>) -> Result<(), SinkFault> {
+        if !self.is_next(binding) {
+            self.others = self.others.saturating_add(1);
+        }
+        self.rows = self.rows.saturating_add(1);
         Ok(())
     }
 }
