@@ -34,7 +34,7 @@ struct Brought {
 }
 
 /// Whether each name can be sent.
-fn are_sendable(names: &[Oid]) -> bool
+pub(crate) fn are_sendable(names: &[Oid]) -> bool
     ensures { result ≡ true → All (λ o. IsWire (wire o)) names.now }
 {
     names.iter().all(|name| name.to_wire().is_ok())

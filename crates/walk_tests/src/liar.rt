@@ -1,13 +1,14 @@
-//! Walks over an agent that lies: its replies have the id that is waited for, and a fault.
+//! Walks and Gets over an agent that lies: its replies have the id that is waited for, and a fault.
 
+use crate::gets::are_sendable;
 use crate::sinks::Digits;
-use snmp_walk::{Link, LinkFault, Method, Mode, WalkCore, WalkEnd, run_walk};
-use snmp_wire::parse_numeric;
+use snmp_walk::{Link, LinkFault, Method, Mode, WalkCore, WalkEnd, run_get, run_walk};
+use snmp_wire::{Oid, parse_numeric};
 use std::process::Abort;
 use std::test::Fail;
 
 /// The reply with 1.3.6.1.4.1.32473.1.1.0, whose value is the integer 1.
-const ROW: &[u8] = &[
+pub(crate) const ROW: [u8; 44] = [
     0x30, 0x2A, 0x02, 0x01, 0x01, 0x04, 0x06, 0x70, 0x75, 0x62, 0x6C, 0x69, 0x63, 0xA2, 0x1D, 0x02,
     0x01, 0x01, 0x02, 0x01, 0x00, 0x02, 0x01, 0x00, 0x30, 0x12, 0x30, 0x10, 0x06, 0x0B, 0x2B, 0x06,
     0x01, 0x04, 0x01, 0x81, 0xFD, 0x59, 0x01, 0x01, 0x00, 0x02, 0x01, 0x01,
@@ -28,6 +29,13 @@ const MISSING: &[u8] = &[
     0x01, 0x04, 0x01, 0x81, 0xFD, 0x59, 0x01, 0x01, 0x00, 0x81, 0x00,
 ];
 
+/// The reply with 1.3.6.1.4.1.32473.1.1.0 and endOfMibView.
+const END: &[u8] = &[
+    0x30, 0x29, 0x02, 0x01, 0x01, 0x04, 0x06, 0x70, 0x75, 0x62, 0x6C, 0x69, 0x63, 0xA2, 0x1C, 0x02,
+    0x01, 0x01, 0x02, 0x01, 0x00, 0x02, 0x01, 0x00, 0x30, 0x11, 0x30, 0x0F, 0x06, 0x0B, 0x2B, 0x06,
+    0x01, 0x04, 0x01, 0x81, 0xFD, 0x59, 0x01, 0x01, 0x00, 0x82, 0x00,
+];
+
 /// The reply without bindings.
 const NONE: &[u8] = &[
     0x30, 0x18, 0x02, 0x01, 0x01, 0x04, 0x06, 0x70, 0x75, 0x62, 0x6C, 0x69, 0x63, 0xA2, 0x0B, 0x02,
@@ -35,7 +43,7 @@ const NONE: &[u8] = &[
 ];
 
 /// The reply with error status 5, genErr, and index 1.
-const GENERAL_ERROR: &[u8] = &[
+pub(crate) const GENERAL_ERROR: &[u8] = &[
     0x30, 0x18, 0x02, 0x01, 0x01, 0x04, 0x06, 0x70, 0x75, 0x62, 0x6C, 0x69, 0x63, 0xA2, 0x0B, 0x02,
     0x01, 0x01, 0x02, 0x01, 0x05, 0x02, 0x01, 0x01, 0x30, 0x00,
 ];
@@ -54,13 +62,15 @@ const LATE: &[u8] = &[
 ];
 
 /// A link to an agent that sends one reply again and again: each time with the last octet of the
-/// id, at `id_at`, one higher, and with the number at `name_at` too, where there is one.
+/// id, at `id_at`, one higher, and with the number at `name_at` too, where there is one. It counts
+/// what is sent to it.
 #[derive(Drop)]
 struct Liar<'a> {
     reply: &'a [u8],
     id_at: usize,
     name_at: Option<usize>,
     turn: u8,
+    sends: usize,
 }
 
 impl<'a> Link for Liar<'a> {
@@ -87,6 +97,7 @@ impl<'a> Link for Liar<'a> {
     ghost lawful = { λ _ h. absurd h };
 
     fn send(&mut self, _datagram: &[u8]) -> Result<(), LinkFault> {
+        self.sends = self.sends.saturating_add(1);
         Ok(())
     }
 
@@ -113,12 +124,14 @@ impl<'a> Link for Liar<'a> {
     }
 }
 
-/// The walk over this liar from this first id gives this many rows and ends in this way.
+/// The walk over this liar from this first id gives this many rows, and ends in this way after this
+/// many sends.
 fn assert_end(
     rt: &impl Abort,
     mut liar: Liar<'_>,
     first_id: u32,
     rows: usize,
+    sends: usize,
     end: &WalkEnd,
 ) -> Result<(), Fail> {
     let core = WalkCore::start(
@@ -129,10 +142,30 @@ fn assert_end(
         first_id & 0x7FFF_FFFF,
     )?;
     let mut digits = Digits::new();
-    let ended = run_walk(&mut liar, core, 0, &mut digits);
+    let ended = run_walk(&mut liar, core, 2, &mut digits);
     assert!(rt; ended == *end);
     assert_eq!(rt; digits.rows, rows);
+    assert_eq!(rt; liar.sends, sends);
     Ok(())
+}
+
+/// The Get of these names over this liar gives this many bindings, and ends in this way after this
+/// many sends.
+fn assert_get(
+    rt: &impl Abort,
+    mut liar: Liar<'_>,
+    names: &[Oid],
+    rows: usize,
+    sends: usize,
+    end: &WalkEnd,
+) {
+    assert!(rt; !names.is_empty());
+    assert!(rt; are_sendable(names));
+    let mut digits = Digits::new();
+    let ended = run_get(&mut liar, names, b"public", 1, 2, &mut digits);
+    assert!(rt; ended == *end);
+    assert_eq!(rt; digits.rows, rows);
+    assert_eq!(rt; liar.sends, sends);
 }
 
 /// A liar with this reply, whose first id is 1.
@@ -142,6 +175,18 @@ fn lying(reply: &[u8]) -> Liar<'_> {
         id_at: 17,
         name_at: None,
         turn: 0,
+        sends: 0,
+    }
+}
+
+/// A liar with the reply of id 2147483645, whose names rise.
+fn late() -> Liar<'static> {
+    Liar {
+        reply: LATE,
+        id_at: 20,
+        name_at: Some(42),
+        turn: 0,
+        sends: 0,
     }
 }
 
@@ -150,18 +195,51 @@ fn each_lie_has_its_end(rt: HostRuntime) -> Result<(), Fail> {
     let last = parse_numeric(b"1.3.6.1.4.1.32473.1.1.0")?;
     let got = parse_numeric(b"1.3.6.1.4.1.32473.1.1.0")?;
     let end = WalkEnd::NotIncreasing { last, got };
-    assert_end(&rt, lying(ROW), 1, 1, &end)?;
-    assert_end(&rt, lying(TWO), 1, 0, &WalkEnd::BadReply)?;
-    assert_end(&rt, lying(MISSING), 1, 0, &WalkEnd::BadReply)?;
+    assert_end(&rt, lying(&ROW), 1, 1, 2, &end)?;
+    assert_end(&rt, lying(TWO), 1, 0, 1, &WalkEnd::BadReply)?;
+    assert_end(&rt, lying(MISSING), 1, 0, 1, &WalkEnd::BadReply)?;
     let asked = parse_numeric(b"1.3.6.1.4.1.32473.1")?;
-    assert_end(&rt, lying(NONE), 1, 0, &WalkEnd::NoProgress { asked })?;
-    assert_end(&rt, lying(GENERAL_ERROR), 1, 0, &WalkEnd::Fault(5, 1))?;
-    assert_end(&rt, lying(UNKNOWN_ERROR), 1, 0, &WalkEnd::Fault(19, 0))?;
-    let rising = Liar {
-        reply: LATE,
-        id_at: 20,
-        name_at: Some(42),
-        turn: 0,
-    };
-    assert_end(&rt, rising, 2147483645, 3, &WalkEnd::TooManyRequests)
+    assert_end(&rt, lying(NONE), 1, 0, 1, &WalkEnd::NoProgress { asked })?;
+    assert_end(&rt, lying(GENERAL_ERROR), 1, 0, 1, &WalkEnd::Fault(5, 1))?;
+    assert_end(&rt, lying(UNKNOWN_ERROR), 1, 0, 1, &WalkEnd::Fault(19, 0))?;
+    assert_end(&rt, late(), 2147483645, 3, 3, &WalkEnd::TooManyRequests)
+}
+
+#[test]
+fn each_lie_to_a_get_has_its_end(rt: HostRuntime) -> Result<(), Fail> {
+    let one = [parse_numeric(b"1.3.6.1.4.1.32473.1.1.0")?];
+    assert_get(&rt, lying(&ROW), &one, 1, 1, &WalkEnd::Done(1));
+    assert_get(&rt, lying(MISSING), &one, 1, 1, &WalkEnd::Done(1));
+    assert_get(&rt, lying(TWO), &one, 0, 1, &WalkEnd::BadReply);
+    assert_get(&rt, lying(END), &one, 0, 1, &WalkEnd::BadReply);
+    assert_get(&rt, lying(NONE), &one, 0, 1, &WalkEnd::BadReply);
+    assert_get(&rt, lying(GENERAL_ERROR), &one, 0, 1, &WalkEnd::Fault(5, 1));
+    assert_get(
+        &rt,
+        lying(UNKNOWN_ERROR),
+        &one,
+        0,
+        1,
+        &WalkEnd::Fault(19, 0),
+    );
+    assert_get(&rt, late(), &one, 0, 3, &WalkEnd::NoResponse);
+    Ok(())
+}
+
+#[test]
+fn a_get_wants_just_its_names_in_their_order(rt: HostRuntime) -> Result<(), Fail> {
+    let both = [
+        parse_numeric(b"1.3.6.1.4.1.32473.1.1.0")?,
+        parse_numeric(b"1.3.6.1.4.1.32473.1.2.0")?,
+    ];
+    assert_get(&rt, lying(TWO), &both, 2, 1, &WalkEnd::Done(2));
+    assert_get(&rt, lying(&ROW), &both, 0, 1, &WalkEnd::BadReply);
+    let swapped = [
+        parse_numeric(b"1.3.6.1.4.1.32473.1.2.0")?,
+        parse_numeric(b"1.3.6.1.4.1.32473.1.1.0")?,
+    ];
+    assert_get(&rt, lying(TWO), &swapped, 0, 1, &WalkEnd::BadReply);
+    let other = [parse_numeric(b"1.3.6.1.4.1.32473.1.2.0")?];
+    assert_get(&rt, lying(&ROW), &other, 0, 1, &WalkEnd::BadReply);
+    Ok(())
 }
