@@ -1,15 +1,23 @@
-//! Tests of walks: over links in memory with any deliveries and tables, and over an agent that
-//! lies.
+//! Tests of walks: over links in memory with any deliveries and tables, over an agent that lies,
+//! and over links and into sinks that fail.
 #![tactic(auto)]
 
+#[cfg(test)]
+mod faults;
 #[cfg(test)]
 mod gets;
 #[cfg(test)]
 mod liar;
 #[cfg(test)]
+mod memory;
+#[cfg(test)]
+mod requests;
+#[cfg(test)]
 mod schedules;
 #[cfg(test)]
 mod sinks;
+#[cfg(test)]
+mod strays;
 #[cfg(test)]
 mod tables;
 #[cfg(test)]

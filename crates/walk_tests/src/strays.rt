@@ -1,0 +1,278 @@
+//! Walks and Gets over a link that brings strays before the replies.
+
+use crate::gets::are_sendable;
+use crate::liar::{GENERAL_ERROR, ROW};
+use crate::sinks::{Counted, Digits};
+use snmp_agent::Config;
+use snmp_table::Table;
+use snmp_walk::{Link, LinkFault, MemoryLink, Method, Mode, WalkCore, WalkEnd, run_get, run_walk};
+use snmp_wire::parse_numeric;
+use std::alloc::Global;
+use std::process::Abort;
+use std::test::Fail;
+
+/// Three integers.
+const THREE: &[u8] =
+    b"1.3.6.1.4.1.32473.1.1.0|2|1\n1.3.6.1.4.1.32473.1.2.0|2|2\n1.3.6.1.4.1.32473.1.10.0|2|3\n";
+
+/// A stray, how often it comes after each datagram sent, and the retries.
+#[derive(Clone, Copy)]
+struct Case<'a> {
+    stray: &'a [u8],
+    /// After later datagrams it never comes.
+    before: &'a [usize],
+    retries: u32,
+}
+
+/// A link in memory that brings the stray of a case before the replies.
+#[derive(Drop)]
+struct Crowded<'a, 'c> {
+    link: Counted<'a>,
+    case: Case<'c>,
+    /// How often the stray still comes.
+    left: usize,
+    receives: usize,
+}
+
+impl<'a, 'c> Crowded<'a, 'c> {
+    fn new(link: Counted<'a>, case: Case<'c>) -> Crowded<'a, 'c> {
+        Crowded {
+            link,
+            case,
+            left: 0,
+            receives: 0,
+        }
+    }
+}
+
+impl<'a, 'c> Link for Crowded<'a, 'c> {
+    ghost use Rattle.std.specs.Prelude.{[]};
+    ghost use Rattle.snmp_walk.specs.Link.{Agents};
+    ghost use Rattle.snmp_walk.specs.Traffic.{Traffic};
+
+    ghost keeps = { λ _. ⊥ };
+
+    ghost honest = { λ _. ⊥ };
+
+    ghost agents = { λ _. record { tables = []; community = []; max_size = 0 } };
+
+    ghost traffic = { λ _. record { sent = []; ahead = [] } };
+
+    ghost fault_count = { λ c. c.link.link.fault_count };
+
+    ghost ready = { λ _ _ _. ⊥ };
+
+    ghost brings = { λ _ _ _. Unit {0} };
+
+    ghost keeping = { λ _ h. h };
+
+    ghost lawful = { λ _ h. absurd h };
+
+    fn send(&mut self, datagram: &[u8]) -> Result<(), LinkFault> {
+        self.left = self.case.before.get(self.link.sends).copied().unwrap_or(0);
+        self.link.send(datagram)
+    }
+
+    fn receive(&mut self, buffer: &mut [u8]) -> Result<Option<usize>, LinkFault> {
+        self.receives = self.receives.saturating_add(1);
+        let stray = self.case.stray;
+        let length = stray.len();
+        if self.left == 0 || length > buffer.len() {
+            return self.link.receive(buffer);
+        }
+        self.left -= 1;
+        buffer[..length].copy_from_slice(stray);
+        Ok(Some(length))
+    }
+
+    fn faults(&self) -> u64 {
+        self.link.faults()
+    }
+}
+
+/// What a run brings: the integers as digits, and how many datagrams and requests it sends and how
+/// often it receives.
+#[derive(Clone, Copy)]
+struct Brought {
+    number: u64,
+    sends: usize,
+    requests: usize,
+    receives: usize,
+}
+
+/// The walk from id 2 over the strays of a case brings this, and ends in this way.
+fn assert_walk(
+    rt: &impl Abort,
+    alloc: Global,
+    case: Case<'_>,
+    brought: Brought,
+    end: &WalkEnd,
+) -> Result<(), Fail> {
+    let table = Table::read(alloc, THREE)?;
+    let root = parse_numeric(b"1.3.6.1.4.1.32473.1")?;
+    let core = WalkCore::start(root, Mode::Plain, Method::Next, b"public", 2)?;
+    let config = Config {
+        community: b"public",
+        max_size: 1472,
+    };
+    let link = Counted::new(MemoryLink::new(alloc, &table, config, &[]));
+    let mut link = Crowded::new(link, case);
+    let mut digits = Digits::new();
+    let ended = run_walk(&mut link, core, case.retries, &mut digits);
+    assert!(rt; ended == *end);
+    assert_eq!(rt; digits.number, brought.number);
+    assert_eq!(rt; link.link.sends, brought.sends);
+    assert_eq!(rt; link.link.requests, brought.requests);
+    assert_eq!(rt; link.receives, brought.receives);
+    Ok(())
+}
+
+/// The Get with id 2 over the strays of a case brings this, and ends in this way.
+fn assert_get(
+    rt: &impl Abort,
+    alloc: Global,
+    case: Case<'_>,
+    brought: Brought,
+    end: &WalkEnd,
+) -> Result<(), Fail> {
+    let table = Table::read(alloc, THREE)?;
+    let names = [parse_numeric(b"1.3.6.1.4.1.32473.1.1.0")?];
+    let config = Config {
+        community: b"public",
+        max_size: 1472,
+    };
+    let link = Counted::new(MemoryLink::new(alloc, &table, config, &[]));
+    let mut link = Crowded::new(link, case);
+    let mut digits = Digits::new();
+    assert!(rt; are_sendable(&names));
+    let ended = run_get(&mut link, &names, b"public", 2, case.retries, &mut digits);
+    assert!(rt; ended == *end);
+    assert_eq!(rt; digits.number, brought.number);
+    assert_eq!(rt; link.link.sends, brought.sends);
+    assert_eq!(rt; link.link.requests, brought.requests);
+    assert_eq!(rt; link.receives, brought.receives);
+    Ok(())
+}
+
+/// 63 of these datagrams before a reply change nothing, and 64 end the try, in a walk.
+fn assert_stray_to_walks(rt: &impl Abort, alloc: Global, stray: &[u8]) -> Result<(), Fail> {
+    // The strays, the retries, the integers, and how many sends, requests and receives there are.
+    let cases: [(&[usize], u32, u64, usize, usize, usize); 7] = [
+        (&[1], 0, 123, 4, 4, 5),
+        (&[63, 63, 63, 63], 0, 123, 4, 4, 256),
+        (&[64], 0, 0, 1, 1, 64),
+        (&[64], 1, 123, 5, 4, 68),
+        (&[64, 64], 1, 0, 2, 1, 128),
+        (&[64, 64, 63], 2, 123, 6, 4, 195),
+        (&[0, 64], 0, 1, 2, 2, 65),
+    ];
+    for (before, retries, number, sends, requests, receives) in cases {
+        let brought = Brought {
+            number,
+            sends,
+            requests,
+            receives,
+        };
+        let end = if number == 123 {
+            WalkEnd::Done(3)
+        } else {
+            WalkEnd::NoResponse
+        };
+        let case = Case {
+            stray,
+            before,
+            retries,
+        };
+        assert_walk(rt, alloc, case, brought, &end)?;
+    }
+    Ok(())
+}
+
+/// 63 of these datagrams before the reply change nothing, and 64 end the try, in a Get.
+fn assert_stray_to_gets(rt: &impl Abort, alloc: Global, stray: &[u8]) -> Result<(), Fail> {
+    // The strays, the retries, the integer, and how many sends and receives there are.
+    let cases: [(&[usize], u32, u64, usize, usize); 6] = [
+        (&[1], 0, 1, 1, 2),
+        (&[63], 0, 1, 1, 64),
+        (&[64], 0, 0, 1, 64),
+        (&[64], 1, 1, 2, 65),
+        (&[64, 63], 1, 1, 2, 128),
+        (&[64, 64], 1, 0, 2, 128),
+    ];
+    for (before, retries, number, sends, receives) in cases {
+        let brought = Brought {
+            number,
+            sends,
+            requests: 1,
+            receives,
+        };
+        let end = if number == 1 {
+            WalkEnd::Done(1)
+        } else {
+            WalkEnd::NoResponse
+        };
+        let case = Case {
+            stray,
+            before,
+            retries,
+        };
+        assert_get(rt, alloc, case, brought, &end)?;
+    }
+    Ok(())
+}
+
+/// The datagram is a stray to walks and to Gets.
+fn assert_stray(rt: &impl Abort, alloc: Global, stray: &[u8]) -> Result<(), Fail> {
+    assert_stray_to_walks(rt, alloc, stray)?;
+    assert_stray_to_gets(rt, alloc, stray)
+}
+
+#[test]
+fn octets_that_are_no_message_are_strays(rt: HostRuntime) -> Result<(), Fail> {
+    let mut longer = [0; 45];
+    longer[..44].copy_from_slice(&ROW);
+    let strays: [&[u8]; 5] = [b"", &[0x30], b"no message", &ROW[..43], &longer];
+    for stray in strays {
+        assert_stray(&rt, rt.alloc(), stray)?;
+    }
+    Ok(())
+}
+
+#[test]
+fn a_reply_with_one_wrong_part_is_a_stray(rt: HostRuntime) -> Result<(), Fail> {
+    // The place of the part, and an octet that makes it: no message, another version, another
+    // community, another kind, another id.
+    for (place, octet) in [
+        (1, 0x80),
+        (1, 0x29),
+        (13, 0xA4),
+        (4, 0x00),
+        (4, 0x03),
+        (7, 0x71),
+        (13, 0xA0),
+        (13, 0xA1),
+        (13, 0xA3),
+        (13, 0xA5),
+        (13, 0xA6),
+        (13, 0xA7),
+        (13, 0xA8),
+        (17, 0x01),
+        (17, 0x00),
+        (17, 0x09),
+        (17, 0x82),
+    ] {
+        let mut stray = ROW;
+        stray[17] = 2;
+        let place: usize = place;
+        if place < 44 {
+            stray[place] = octet;
+        }
+        assert_stray(&rt, rt.alloc(), &stray)?;
+    }
+    Ok(())
+}
+
+#[test]
+fn an_error_status_of_an_earlier_request_is_a_stray(rt: HostRuntime) -> Result<(), Fail> {
+    assert_stray(&rt, rt.alloc(), GENERAL_ERROR)
+}
