@@ -18,10 +18,12 @@ use Rattle.smi_nodes.specs.declared.warning.Warning.{Warning}
 use Rattle.snmp_io.specs.Output.{IsWritten, Stream, extended}
 use Rattle.snmp_net.specs.Address.{table, udp}
 use Rattle.snmp_words.specs.Words.{GetWords}
+use Rattle.snmp_serve.specs.Outcome.{Faults}
 use Rattle.snmp_serve.specs.TableFile.{HasTable}
 use Rattle.snmp_tools.specs.Get.{AskForGet, GetPlan}
 use Rattle.snmp_tools.specs.GetHeadline.{GetEndsAtStatus0, GetWritesAllAtStatus0, GetWritesFront, IsGetOf}
-use Rattle.snmp_tools.specs.Got.{IsGetFor, IsGetOutcome, IsGetOutcomeBy, IsGetRun, agent_for, fault_at, got, got_over, loaded, not_asked, not_loaded, request_for}
+use Rattle.snmp_tools.specs.Got.{IsGetFor, IsGetOutcome, IsGetOutcomeBy, IsGetRun, agent_for, fault_at, got, got_over, loaded, not_asked}
+use Rattle.snmp_tools.specs.Got.{not_linked, not_loaded, request_for}
 use Rattle.snmp_tools.specs.Headline.{IsMishap}
 use Rattle.snmp_tools.specs.Lines.{AreLines, IsPrintedUpTo}
 use Rattle.snmp_tools.specs.Message.{Fault, ended}
@@ -84,8 +86,8 @@ own_told mib letters agent given refused ending.Link before after err_before err
 module _ (one_table : (ls : List (List ℕ)) (v w : MibView) → IsTableOf ls v → IsTableOf ls w → v ≡ w)
     (no_fault : (ls : List (List ℕ)) (view : MibView) (fault : TableError) → IsTableOf ls view → IsFirstFault ls fault → fault ≡ table_error.Memory)
     (one_list : OneList) (one_tree : OneTree) (Facts : List ℕ → ℕ → ℕ → GetPlan → List VarBind → List VarBind → WalkEnd → Type 0)
-    (words : GetWords) (files : Holdings) (before after err_before err_after : Stream) (status : ℕ)
-    (run : IsGetRun Facts words files before after err_before err_after status) where
+    (faults : Faults) (words : GetWords) (files : Holdings) (before after err_before err_after : Stream) (status : ℕ)
+    (run : IsGetRun Facts faults words files before after err_before err_after status) where
   module _ (rows : List VarBind) (get : IsGetOf words files rows) where
     module _ (mib : Mib) (warnings : List Warning) (loading : AreLoaded (MayHold files) words.asking.mibs mib warnings) where
       both_are : (get.mib ≡ mib) × (get.warnings ≡ warnings)
@@ -119,28 +121,30 @@ module _ (one_table : (ls : List (List ℕ)) (v w : MibView) → IsTableOf ls v 
         no_net : (host : List ℕ) (port : ℕ) → plan.agent ≡ udp host port → ⊥
         no_net host port over = let agents : table get.path ≡ udp host port = sym agent_is ∙ over in cc
 
-      front_by : (fault : Option Fault) → IsGetOutcomeBy Facts words files mib before after fault → IsFront get.mib get.plan.letters rows before after
+      front_by : (fault : Option Fault) → IsGetOutcomeBy Facts faults words files mib before after fault → IsFront get.mib get.plan.letters rows before after
       front_by fault (not_asked why refusal same is) = ([], rows, [], refl, refl, nothing_taken before after [] same)
       front_by fault (got plan view path for over states printed) =
           let part = printed.facts.front rows (rows_over plan for path view over states) in
           over_same plan for (λ m p. IsFront m p.letters rows before after)
           (front_of_all mib plan.letters before after (printed.given ++ printed.refused) rows part.0 part.1
           (printed_front mib plan.letters before after printed.given printed.refused printed.end printed.lines))
+      front_by fault (not_linked plan host port for over risen same is) = absurd (no_net plan for host port over)
       front_by fault (got_over plan host port for over printed) = absurd (no_net plan for host port over)
 
-      all_by : (fault : Option Fault) → fault ≡ None → IsGetOutcomeBy Facts words files mib before after fault
+      all_by : (fault : Option Fault) → fault ≡ None → IsGetOutcomeBy Facts faults words files mib before after fault
           → (text : List ℕ) × AreLines get.mib get.plan.letters rows text × (after ≡ extended before text)
       all_by fault none (not_asked why refusal same is) = let no : ⊥ = cc in absurd no
       all_by fault none (got plan view path for over states printed) =
           over_same plan for (λ m p. (text : List ℕ) × AreLines m p.letters rows text × (after ≡ extended before text))
           (done_lines mib plan.letters words.asking.agent printed.given printed.refused rows printed.end before after
           (printed.facts.whole rows (rows_over plan for path view over states)) printed.lines (sym none ∙ printed.reported))
+      all_by fault none (not_linked plan host port for over risen same is) = absurd (no_net plan for host port over)
       all_by fault none (got_over plan host port for over printed) = absurd (no_net plan for host port over)
 
       module _ (sent : All (λ o. IsWire (wire o)) get.plan.names)
           (room : HasRoomForGet (agent_for get.plan get.view) (request_for get.plan) get.plan.names) where
-        ends_by : (warned : Stream) (fault : Option Fault) → IsGetOutcomeBy Facts words files mib before after fault → IsReported fault warned err_after status
-            → (status ≡ 0) ⊎ Stops before after warned err_after status
+        ends_by : (warned : Stream) (fault : Option Fault) → IsGetOutcomeBy Facts faults words files mib before after fault
+            → IsReported fault warned err_after status → (status ≡ 0) ⊎ Stops before after warned err_after status
         ends_by warned fault (not_asked why refusal same is) told =
             inr (want_told why before after warned err_after status (get_wants_late one_list one_tree no_fault words files rows get why sent refusal)
             (subst (λ (f : Option Fault). IsReported f warned err_after status) is told))
@@ -151,20 +155,21 @@ module _ (one_table : (ls : List (List ℕ)) (v w : MibView) → IsTableOf ls v 
             own_told mib plan.letters words.asking.agent printed.given printed.refused printed.end before after warned err_after status
             (printed.facts.complete enough) printed.lines
             (subst (λ (f : Option Fault). IsReported f warned err_after status) printed.reported told)
+        ends_by warned fault (not_linked plan host port for over risen same is) told = absurd (no_net plan for host port over)
         ends_by warned fault (got_over plan host port for over printed) told = absurd (no_net plan for host port over)
 
-    front : (warned : Stream) (fault : Option Fault) → IsGetOutcome Facts words files before after err_before warned fault
+    front : (warned : Stream) (fault : Option Fault) → IsGetOutcome Facts faults words files before after err_before warned fault
         → IsFront get.mib get.plan.letters rows before after
     front warned fault (not_loaded why early same untold is) = ([], rows, [], refl, refl, nothing_taken before after [] same)
     front warned fault (loaded mib warnings loading lines by) = front_by mib warnings loading fault by
 
-    all : (warned : Stream) (fault : Option Fault) → fault ≡ None → IsGetOutcome Facts words files before after err_before warned fault
+    all : (warned : Stream) (fault : Option Fault) → fault ≡ None → IsGetOutcome Facts faults words files before after err_before warned fault
         → (text : List ℕ) × AreLines get.mib get.plan.letters rows text × (after ≡ extended before text)
     all warned fault none (not_loaded why early same untold is) = let no : ⊥ = cc in absurd no
     all warned fault none (loaded mib warnings loading lines by) = all_by mib warnings loading fault none by
 
     ends : All (λ o. IsWire (wire o)) get.plan.names → HasRoomForGet (agent_for get.plan get.view) (request_for get.plan) get.plan.names
-        → (warned : Stream) (fault : Option Fault) → IsGetOutcome Facts words files before after err_before warned fault
+        → (warned : Stream) (fault : Option Fault) → IsGetOutcome Facts faults words files before after err_before warned fault
         → IsReported fault warned err_after status → (status ≡ 0) ⊎ IsMishap get.warnings before after err_before err_after status
     ends sent room warned fault (not_loaded why early same untold is) told =
         mishap get.warnings before after err_before warned err_after status (inl untold)

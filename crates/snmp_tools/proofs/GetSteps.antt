@@ -119,10 +119,10 @@ module _ (words : GetWords) (files : Holdings) (why : Fault) where
           shown (after_all Done Fails why (map name_step words.names) (reach_step ∷ map sent_step words.names)
           (map_done name_step (HasMeaning mib) Done (λ text d. (mib, known, d)) words.names (are_named mib words.names names are)) h)
 
-      at_reach : ReachFails files agent words.asking.agent why → IsLateGetRefusal words files why
+      at_reach : ReachFails files agent why → IsLateGetRefusal words files why
       at_reach f = named (first Done Fails why reach_step (map sent_step words.names) (agent, asked.reached, f))
 
-      pub reach_refused : (why ≡ out_of_memory) ⊎ ReachFails files agent words.asking.agent why → IsLateGetRefusal words files why
+      pub reach_refused : (why ≡ out_of_memory) ⊎ ReachFails files agent why → IsLateGetRefusal words files why
       reach_refused (inl e) = inl e
       reach_refused (inr f) = at_reach f
 
@@ -143,7 +143,7 @@ asked_by words mib plan for = record {
 module _ (words : GetWords) (files : Holdings) (mib : Mib) (known : IsMibOf (MayHold files) words.asking mib) (plan : GetPlan)
     (for : IsGetFor words mib plan) (why : Fault) where
   -- the agent isn't reached
-  pub unreached : (why ≡ out_of_memory) ⊎ ReachFails files plan.agent words.asking.agent why → IsLateGetRefusal words files why
+  pub unreached : (why ≡ out_of_memory) ⊎ ReachFails files plan.agent why → IsLateGetRefusal words files why
   unreached h = reach_refused words files why plan.letters plan.agent (asked_by words mib plan for) mib known plan.names for.asked.names h
 
   -- a name can't be sent

@@ -132,7 +132,7 @@ module _ (one_list : OneList) (one_tree : OneTree) (no_fault : (ls : List (List 
   named_want : All (λ o. IsWire (wire o)) get.plan.names → AreDone Wants (get_naming_steps words)
   named_want sent =
       both Wants (map name_step words.names) (reach_step ∷ map sent_step words.names) (names_want words.names get.plan.names get.asked.names) (
-        (λ f. table_want_only (subst (λ (a : Address). ReachFails files a words.asking.agent why) (agent_is f.0 f.1) f.2)),
+        (λ f. table_want_only (subst (λ (a : Address). ReachFails files a why) (agent_is f.0 f.1) f.2)),
         all_sent words.names get.plan.names get.asked.names sent,
       )
 

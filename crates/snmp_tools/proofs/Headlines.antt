@@ -13,6 +13,7 @@ use Rattle.snmp_walk.specs.declared.end.WalkEnd.TheVariants as ending
 use Rattle.snmp_io.specs.Count.{HasRisen}
 use Rattle.snmp_io.specs.Output.{IsWritten, Stream, extended}
 use Rattle.snmp_net.specs.Address.{table, udp}
+use Rattle.snmp_serve.specs.Outcome.{Faults}
 use Rattle.snmp_words.specs.Words.{WalkWords}
 use Rattle.snmp_tools.specs.Headline.{EndsAtStatus0, IsFeasible, IsMishap, IsWalk, IsWholeText, WritesAllAtStatus0, WritesFront}
 use Rattle.smi_letters.specs.declared.letters.Letters.{Letters}
@@ -23,7 +24,7 @@ use Rattle.snmp_io.specs.Files.{Holdings, MayHold}
 use Rattle.snmp_tools.specs.Mib.{AreLoaded, Mib}
 use Rattle.snmp_tools.specs.Message.{Fault, bad_table, ended, message_of, out_of_memory, status_of}
 use Rattle.snmp_tools.specs.Outcome.{AreRowsOf, IsFinished, IsNetWalk, IsWalkOutcome, IsWalkOutcomeBy, IsOwnEnd, IsReported, IsWalkRun, IsWalkOver}
-use Rattle.snmp_tools.specs.Outcome.{loaded, not_loaded, refused, walked, walked_over}
+use Rattle.snmp_tools.specs.Outcome.{loaded, not_linked, not_loaded, refused, walked, walked_over}
 use Rattle.snmp_tools.specs.Plan.{AskFor, Plan}
 use Rattle.snmp_tools.proofs.Outcomes.{IsFrontOf, finished_all, finished_front, no_fault_at_0}
 use Rattle.snmp_tools.proofs.Plans.{IsWant, OneList, OneTree, held_is, one_load, one_path, one_plan, plain_want, table_want, wants_early, wants_late}
@@ -104,8 +105,8 @@ own_told mib letters counts agent given turned ending.Link before between after 
 module _ (one_table : (ls : List (List ℕ)) (v w : MibView) → IsTableOf ls v → IsTableOf ls w → v ≡ w)
     (no_fault : (ls : List (List ℕ)) (view : MibView) (fault : TableError) → IsTableOf ls view → IsFirstFault ls fault → fault ≡ table_error.Memory)
     (one_list : OneList) (one_tree : OneTree) (Facts : List ℕ → ℕ → ℕ → Walker → List VarBind → List VarBind → WalkEnd → Type 0)
-    (bulk : Bool) (words : WalkWords) (files : Holdings) (before after err_before err_after : Stream) (status : ℕ)
-    (run : IsWalkRun Facts bulk words files before after err_before err_after status) where
+    (faults : Faults) (bulk : Bool) (words : WalkWords) (files : Holdings) (before after err_before err_after : Stream) (status : ℕ)
+    (run : IsWalkRun Facts faults bulk words files before after err_before err_after status) where
   module _ (rows : List VarBind) (walk : IsWalk bulk words files rows) where
     module _ (mib : Mib) (warnings : List Warning) (loading : AreLoaded (MayHold files) words.asking.mibs mib warnings) where
       both_are : (walk.mib ≡ mib) × (walk.warnings ≡ warnings)
@@ -138,7 +139,7 @@ module _ (one_table : (ls : List (List ℕ)) (v w : MibView) → IsTableOf ls v 
           let agents : table walk.path ≡ udp net.host net.port = sym walk.over ∙ ap (λ (p : Plan). p.agent) same ∙ net.over in
           cc
 
-      front : (fault : Option Fault) → IsWalkOutcomeBy Facts bulk words files mib before after fault → IsFrontOf walk.mib walk.plan rows before after
+      front : (fault : Option Fault) → IsWalkOutcomeBy Facts faults bulk words files mib before after fault → IsFrontOf walk.mib walk.plan rows before after
       front fault (refused why refusal same is) = ([], rows, [], refl, inl refl, nothing_taken before after [] same)
       front fault (walked plan view over printed) =
           let is_rows : AreRowsOf plan view rows = rows_over plan view over in
@@ -146,9 +147,10 @@ module _ (one_table : (ls : List (List ℕ)) (v w : MibView) → IsTableOf ls v 
           (subst (λ (p : Plan). IsFrontOf mib p rows before after) (sym (plan_is plan view over))
           (finished_front mib plan words.asking.agent before rows printed.given printed.turned printed.end printed.between after fault printed.lines
           printed.finish printed.is_walked.counted (printed.is_walked.whole rows is_rows) (printed.is_walked.front rows is_rows)))
+      front fault (not_linked plan net risen same is) = absurd (no_net plan net)
       front fault (walked_over plan net printed) = absurd (no_net plan net)
 
-      all : (fault : Option Fault) → fault ≡ None → IsWalkOutcomeBy Facts bulk words files mib before after fault
+      all : (fault : Option Fault) → fault ≡ None → IsWalkOutcomeBy Facts faults bulk words files mib before after fault
           → (text : List ℕ) × IsWholeText walk.mib walk.plan rows text × (after ≡ extended before text)
       all fault none (refused why refusal same is) = let no : ⊥ = cc in absurd no
       all fault none (walked plan view over printed) =
@@ -158,9 +160,10 @@ module _ (one_table : (ls : List (List ℕ)) (v w : MibView) → IsTableOf ls v 
           subst (λ (m : Mib). P m walk.plan) (sym mib_is) (subst (P mib) (sym (plan_is plan view over))
           (finished_all mib plan words.asking.agent before rows printed.given printed.turned printed.end printed.between after printed.lines finish
           printed.is_walked.counted (printed.is_walked.whole rows (rows_over plan view over))))
+      all fault none (not_linked plan net risen same is) = absurd (no_net plan net)
       all fault none (walked_over plan net printed) = absurd (no_net plan net)
 
-      ends : IsFeasible walk.plan walk.view → (warned : Stream) (fault : Option Fault) → IsWalkOutcomeBy Facts bulk words files mib before after fault
+      ends : IsFeasible walk.plan walk.view → (warned : Stream) (fault : Option Fault) → IsWalkOutcomeBy Facts faults bulk words files mib before after fault
           → IsReported fault warned err_after status → (status ≡ 0) ⊎ Stops before after warned err_after status
       ends can warned fault (refused why refusal same is) told =
           inr (want_told why before after warned err_after status (wants_late one_list one_tree no_fault bulk words files rows walk can why refusal)
@@ -171,20 +174,21 @@ module _ (one_table : (ls : List (List ℕ)) (v w : MibView) → IsTableOf ls v 
           (plan_is plan view over) can) in
           own_told mib plan.letters plan.counts words.asking.agent printed.given printed.turned printed.end before printed.between after warned err_after
           fault status (printed.is_walked.complete feasible.room feasible.ids) printed.lines printed.finish told
+      ends can warned fault (not_linked plan net risen same is) told = absurd (no_net plan net)
       ends can warned fault (walked_over plan net printed) told = absurd (no_net plan net)
 
-    outcome_front : (warned : Stream) (fault : Option Fault) → IsWalkOutcome Facts bulk words files before after err_before warned fault
+    outcome_front : (warned : Stream) (fault : Option Fault) → IsWalkOutcome Facts faults bulk words files before after err_before warned fault
         → IsFrontOf walk.mib walk.plan rows before after
     outcome_front warned fault (not_loaded why early same untold is) = ([], rows, [], refl, inl refl, nothing_taken before after [] same)
     outcome_front warned fault (loaded mib warnings loading lines by) = front mib warnings loading fault by
 
-    outcome_all : (warned : Stream) (fault : Option Fault) → fault ≡ None → IsWalkOutcome Facts bulk words files before after err_before warned fault
+    outcome_all : (warned : Stream) (fault : Option Fault) → fault ≡ None → IsWalkOutcome Facts faults bulk words files before after err_before warned fault
         → (text : List ℕ) × IsWholeText walk.mib walk.plan rows text × (after ≡ extended before text)
     outcome_all warned fault none (not_loaded why early same untold is) = let no : ⊥ = cc in absurd no
     outcome_all warned fault none (loaded mib warnings loading lines by) = all mib warnings loading fault none by
 
     outcome_ends : IsFeasible walk.plan walk.view → (warned : Stream) (fault : Option Fault)
-        → IsWalkOutcome Facts bulk words files before after err_before warned fault → IsReported fault warned err_after status
+        → IsWalkOutcome Facts faults bulk words files before after err_before warned fault → IsReported fault warned err_after status
         → (status ≡ 0) ⊎ IsMishap walk.warnings before after err_before err_after status
     outcome_ends can warned fault (not_loaded why early same untold is) told =
         mishap walk.warnings before after err_before warned err_after status (inl untold)

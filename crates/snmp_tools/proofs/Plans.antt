@@ -202,7 +202,7 @@ module _ (one_list : OneList) (one_tree : OneTree) (no_fault : (ls : List (List 
       absurd (after_stands walk.mib words.after walk.plan.after f.1 why walk.asked.after f.3
       (subst (λ (m : Mib). NameFails m f.1 why) (known_as f.0 f.2) f.4))
   step_want reach_step why f =
-      table_want_only why (subst (λ (a : Address). ReachFails files a words.asking.agent why) (agent_is f.0 f.1) f.2)
+      table_want_only why (subst (λ (a : Address). ReachFails files a why) (agent_is f.0 f.1) f.2)
   step_want root_sent_step why f = absurd (f.2 (subst (λ (r : List ℕ). IsWire (wire r)) (sym (root_is f.0 f.1)) can.root))
   step_want after_below_step why f = absurd (f.5 (after_goes f.0 f.1 f.2 f.3 f.4).0)
   step_want after_sent_step why f =

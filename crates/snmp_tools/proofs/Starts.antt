@@ -43,7 +43,7 @@ module _ (bulk : Bool) (words : WalkWords) (files : Holdings) (mib : Mib) (known
     is_root : IsRootOf words files plan.root
     is_root = record { mib = mib; known = known; means = asked.root }
 
-    pub reach_refused : (why : Fault) → ReachFails files plan.agent words.asking.agent why → IsLateRefusal bulk words files why
+    pub reach_refused : (why : Fault) → ReachFails files plan.agent why → IsLateRefusal bulk words files why
     reach_refused why f =
         at_reach bulk words files why asked.version (plan.letters, asked.letters) (asked.choices, asked.chosen) asked.short_community
         (plan.agent, only) (mib, known) (plan.root, is_root) (mib, plan.after, known, asked.after) (plan.agent, only, f)

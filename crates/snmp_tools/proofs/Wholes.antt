@@ -1,6 +1,7 @@
 -- What was written of a walk over a table file or over the network, as the outcome of its job.
 use Rattle.std.proofs.Common.{inl, inr, ℕ, Bool, List, Option}
 use Rattle.snmp_io.specs.Output.{Stream}
+use Rattle.snmp_serve.specs.Outcome.{Faults}
 use Rattle.snmp_wire.specs.Message.{VarBind}
 use Rattle.snmp_walk.specs.Walker.{Walker}
 use Rattle.snmp_walk.specs.declared.end.WalkEnd.{WalkEnd}
@@ -11,12 +12,11 @@ use Rattle.snmp_tools.specs.Mib.{Mib}
 use Rattle.snmp_tools.specs.Outcome.{IsWalkOutcomeBy, IsPrintedOver, IsTableOutcome, refused, walked}
 use Rattle.snmp_tools.specs.Plan.{Plan}
 
-pub of_table : (Facts : List ℕ → ℕ → ℕ → Walker → List VarBind → List VarBind → WalkEnd → Type 0) (bulk : Bool) (words : WalkWords) (files : Holdings) (mib :
-    Mib)
-    (plan : Plan) (before after : Stream) (fault : Option Fault) → IsTableOutcome bulk words files mib plan before after fault
-    → IsWalkOutcomeBy Facts bulk words files mib before after fault
-of_table Facts bulk words files mib plan before after fault (inl r) = refused r.0 r.1 r.2 r.3
-of_table Facts bulk words files mib plan before after fault (inr w) = walked plan w.0 w.1 w.2
+pub of_table : (Facts : List ℕ → ℕ → ℕ → Walker → List VarBind → List VarBind → WalkEnd → Type 0) (faults : Faults) (bulk : Bool) (words : WalkWords)
+    (files : Holdings) (mib : Mib) (plan : Plan) (before after : Stream) (fault : Option Fault) → IsTableOutcome bulk words files mib plan before after fault
+    → IsWalkOutcomeBy Facts faults bulk words files mib before after fault
+of_table Facts faults bulk words files mib plan before after fault (inl r) = refused r.0 r.1 r.2 r.3
+of_table Facts faults bulk words files mib plan before after fault (inr w) = walked plan w.0 w.1 w.2
 
 -- other facts that follow
 pub with_facts : (F G : List VarBind → List VarBind → WalkEnd → Type 0) (mib : Mib) (plan : Plan) (agent : List ℕ) (before after : Stream)

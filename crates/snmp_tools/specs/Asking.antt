@@ -12,10 +12,9 @@ use Rattle.snmp_io.specs.Files.{Holdings, Holds}
 use Rattle.snmp_serve.specs.TableFile.{HasTable, TableFails}
 use Rattle.snmp_table.specs.Table.{MibView}
 use Rattle.snmp_net.specs.Address.{Address, IsAgent, table, udp}
-use Rattle.snmp_walk.specs.declared.end.WalkEnd.TheVariants as ending
 use Rattle.snmp_words.specs.Words.{AskingWords}
 use Rattle.snmp_tools.specs.Message.{Fault, bad_agent, bad_letter, bad_modules, bad_name, bad_table}
-use Rattle.snmp_tools.specs.Message.{bad_version, ended, long_community, unreadable}
+use Rattle.snmp_tools.specs.Message.{bad_version, long_community, unreadable}
 use Rattle.snmp_tools.specs.Mib.{Mib}
 
 -- ---- words before any file is read
@@ -72,12 +71,12 @@ IsNameIfGiven mib None name = name ≡ None
 IsNameIfGiven mib (Some text) name =
     (o : List ℕ) × (meaning mib.naming text ≡ Ok o) × (name ≡ Some o)
 
--- the agent is over a table that its file states, or there is a link to it
+-- the agent is over a table that its file states, or over the network
 abbrev pub IsReached : Holdings → Address → Type 0
 IsReached files (table path) = (view : MibView) × HasTable files path view
 IsReached files (udp host port) = Unit {0}
 
--- its file can't be read or states no table, or no link can be opened
-abbrev pub ReachFails : Holdings → Address → (word : List ℕ) → Fault → Type 0
-ReachFails files (table path) word why = TableFails unreadable bad_table files path why
-ReachFails files (udp host port) word why = why ≡ ended word ending.Link
+-- its file can't be read or states no table
+abbrev pub ReachFails : Holdings → Address → Fault → Type 0
+ReachFails files (table path) why = TableFails unreadable bad_table files path why
+ReachFails files (udp host port) why = ⊥

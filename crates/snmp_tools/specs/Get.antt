@@ -97,8 +97,7 @@ FailsForGet words files mibs_step why = MibsFail files words.asking.mibs why
 FailsForGet words files (name_step text) why =
     (mib : Mib) × IsMibOf (MayHold files) words.asking mib × NameFails mib text why
 FailsForGet words files reach_step why =
-    (agent : Address) × HasAgent words.asking.agent agent
-    × ReachFails files agent words.asking.agent why
+    (agent : Address) × HasAgent words.asking.agent agent × ReachFails files agent why
 FailsForGet words files (sent_step text) why =
     (mib : Mib) × IsMibOf (MayHold files) words.asking mib × HasUnsendable mib text why
 

@@ -14,9 +14,11 @@ use Rattle.snmp_walk.specs.declared.end.WalkEnd.{WalkEnd}
 use Rattle.snmp_walk.specs.declared.end.WalkEnd.TheVariants as ending
 use Rattle.smi_files.specs.Warned.{warning_lines}
 use Rattle.smi_nodes.specs.declared.warning.Warning.{Warning}
+use Rattle.snmp_io.specs.Count.{HasRisen}
 use Rattle.snmp_io.specs.Output.{IsWritten, Stream}
 use Rattle.snmp_words.specs.Words.{GetWords}
 use Rattle.snmp_net.specs.Address.{table, udp}
+use Rattle.snmp_serve.specs.Outcome.{Faults}
 use Rattle.snmp_serve.specs.TableFile.{HasTable}
 use Rattle.snmp_tools.specs.Asking.{HasAgent}
 use Rattle.snmp_tools.specs.Get.{AskForGet, GetPlan, IsEarlyGetRefusal, IsLateGetRefusal}
@@ -131,56 +133,66 @@ IsGetTableOutcome words files mib plan path before after fault =
     ⊎ ((view : MibView) × HasTable files path view
     × IsGetPrinted (IsGot plan view) mib plan words.asking.agent before after fault)
 
--- What is known of the link that was opened: its facts, by which the Get over it is judged.
+-- What is known of the link that was opened: its facts, by which the Get over it is judged. Where
+-- the Get ends because the link failed, the link has counted that.
 pub record HasGetFacts {W : Type 0} (Opens : (host : List ℕ) → (port : ℕ) → W → Type 0)
-    (Honest : W → Type 0) (agents : W → Agents) (traffic : W → Traffic) (host : List ℕ) (port : ℕ)
-    (tries : ℕ) (plan : GetPlan) (given refused : List VarBind) (end : WalkEnd) : Type 0 where
+    (Honest : W → Type 0) (agents : W → Agents) (traffic : W → Traffic) (fault_count : W → ℕ)
+    (host : List ℕ) (port : ℕ) (tries : ℕ) (plan : GetPlan) (given refused : List VarBind)
+    (end : WalkEnd) : Type 0 where
   pub link : W
   pub after : W
   pub opened : Opens host port link
   pub named : AreForNames (request_for plan) plan.names given refused end
   pub judged : Honest link → AreFromAgents (agents link) tries (traffic link) (request_for plan)
       plan.names given refused end (traffic after)
+  pub fault : end ≡ ending.Link → HasRisen (fault_count link) (fault_count after)
 
 -- What a job wrote by the names and types of its modules, and why it wasn't done, if it wasn't:
 -- nothing where its words are refused, or the lines of what it got over a table, which its file
 -- states, or over the network. `Facts` are what is known of a Get over a link to a port of a host,
 -- with so many tries.
 pub data IsGetOutcomeBy (Facts : (host : List ℕ) → (port tries : ℕ) → GetPlan
-    → (given refused : List VarBind) → WalkEnd → Type 0) (words : GetWords) (files : Holdings)
-    (mib : Mib) (before after : Stream) (fault : Option Fault) : Type 0 where
+    → (given refused : List VarBind) → WalkEnd → Type 0) (faults : Faults) (words : GetWords)
+    (files : Holdings) (mib : Mib) (before after : Stream) (fault : Option Fault) : Type 0 where
   not_asked : (why : Fault) → IsLateGetRefusal words files why → after ≡ before → fault ≡ Some why
-      → IsGetOutcomeBy Facts words files mib before after fault
+      → IsGetOutcomeBy Facts faults words files mib before after fault
   got : (plan : GetPlan) (view : MibView) (path : List ℕ) → IsGetFor words mib plan
       → plan.agent ≡ table path → HasTable files path view
       → IsGetPrinted (IsGot plan view) mib plan words.asking.agent before after fault
-      → IsGetOutcomeBy Facts words files mib before after fault
+      → IsGetOutcomeBy Facts faults words files mib before after fault
+  -- no link was opened, and the network counted why
+  not_linked : (plan : GetPlan) (host : List ℕ) (port : ℕ) → IsGetFor words mib plan
+      → plan.agent ≡ udp host port → HasRisen faults.before faults.after → after ≡ before
+      → fault ≡ Some (ended words.asking.agent ending.Link)
+      → IsGetOutcomeBy Facts faults words files mib before after fault
   got_over : (plan : GetPlan) (host : List ℕ) (port : ℕ) → IsGetFor words mib plan
       → plan.agent ≡ udp host port
       → IsGetPrinted (Facts host port (words.asking.retries + 1) plan) mib plan
       words.asking.agent before after fault
-      → IsGetOutcomeBy Facts words files mib before after fault
+      → IsGetOutcomeBy Facts faults words files mib before after fault
 
 -- What a job wrote on its output and, of the warnings of its modules, on standard error: nothing
 -- where it was refused before these were loaded; else their lines, before anything else.
 pub data IsGetOutcome (Facts : (host : List ℕ) → (port tries : ℕ) → GetPlan
-    → (given refused : List VarBind) → WalkEnd → Type 0) (words : GetWords) (files : Holdings)
-    (before after err_before warned : Stream) (fault : Option Fault) : Type 0 where
-  not_loaded : (why : Fault) → IsEarlyGetRefusal words files why → after ≡ before
-      → warned ≡ err_before → fault ≡ Some why
-      → IsGetOutcome Facts words files before after err_before warned fault
-  loaded : (mib : Mib) (warnings : List Warning)
-      → AreLoaded (MayHold files) words.asking.mibs mib warnings
-      → IsWritten err_before (warning_lines warnings) warned
-      → IsGetOutcomeBy Facts words files mib before after fault
-      → IsGetOutcome Facts words files before after err_before warned fault
+    → (given refused : List VarBind) → WalkEnd → Type 0) (faults : Faults) (words : GetWords)
+    (files : Holdings) (before after err_before warned : Stream) (fault : Option Fault) : Type 0
+  where
+    not_loaded : (why : Fault) → IsEarlyGetRefusal words files why → after ≡ before
+        → warned ≡ err_before → fault ≡ Some why
+        → IsGetOutcome Facts faults words files before after err_before warned fault
+    loaded : (mib : Mib) (warnings : List Warning)
+        → AreLoaded (MayHold files) words.asking.mibs mib warnings
+        → IsWritten err_before (warning_lines warnings) warned
+        → IsGetOutcomeBy Facts faults words files mib before after fault
+        → IsGetOutcome Facts faults words files before after err_before warned fault
 
 -- the outcome of the words of snmpget, which is reported
 pub record IsGetRun (Facts : (host : List ℕ) → (port tries : ℕ) → GetPlan
-    → (given refused : List VarBind) → WalkEnd → Type 0) (words : GetWords) (files : Holdings)
-    (out_before out_after err_before err_after : Stream) (status : ℕ) : Type 0 where
+    → (given refused : List VarBind) → WalkEnd → Type 0) (faults : Faults) (words : GetWords)
+    (files : Holdings) (out_before out_after err_before err_after : Stream) (status : ℕ) :
+    Type 0 where
   pub fault : Option Fault
   -- what was written of warnings comes before what is reported
   pub warned : Stream
-  pub outcome : IsGetOutcome Facts words files out_before out_after err_before warned fault
+  pub outcome : IsGetOutcome Facts faults words files out_before out_after err_before warned fault
   pub reported : IsReported fault warned err_after status

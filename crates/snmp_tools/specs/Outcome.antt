@@ -18,11 +18,13 @@ use Rattle.snmp_walk.specs.Walker.{Walker}
 use Rattle.snmp_walk.specs.declared.end.SinkFault.TheVariants as sink
 use Rattle.snmp_walk.specs.declared.end.WalkEnd.{WalkEnd}
 use Rattle.snmp_walk.specs.declared.end.WalkEnd.TheVariants as ending
+use Rattle.snmp_io.specs.Count.{HasRisen}
 use Rattle.snmp_io.specs.Output.{FailsWithin, IsWritten, Stream, extended}
 use Rattle.snmp_words.specs.Words.{WalkWords}
 use Rattle.snmp_tools.specs.Lines.{IsPrintedUpTo, count_text}
 use Rattle.snmp_tools.specs.Message.{Fault, ended, message_of, out_of_memory, status_of}
 use Rattle.snmp_net.specs.Address.{table, udp}
+use Rattle.snmp_serve.specs.Outcome.{Faults}
 use Rattle.snmp_serve.specs.TableFile.{HasTable}
 use Rattle.snmp_tools.specs.Asking.{HasAgent}
 use Rattle.snmp_io.specs.Files.{Holdings, MayHold}
@@ -131,15 +133,18 @@ pub record IsWalkPrinted (mib : Mib) (plan : Plan) (view : MibView) (agent : Lis
   pub lines : IsPrintedUpTo mib plan.letters before given turned end between
   pub finish : IsFinished plan.counts agent end between after fault
 
--- What is known of the link that was opened: its facts, by which the walk over it is judged.
+-- What is known of the link that was opened: its facts, by which the walk over it is judged. Where
+-- the walk ends because the link failed, the link has counted that.
 pub record HasLinkFacts {W : Type 0} (Opens : (host : List ℕ) → (port : ℕ) → W → Type 0)
-    (Honest : W → Type 0) (agents : W → Agents) (traffic : W → Traffic) (host : List ℕ) (port : ℕ)
-    (tries : ℕ) (first : Walker) (given refused : List VarBind) (end : WalkEnd) : Type 0 where
+    (Honest : W → Type 0) (agents : W → Agents) (traffic : W → Traffic) (fault_count : W → ℕ)
+    (host : List ℕ) (port : ℕ) (tries : ℕ) (first : Walker) (given refused : List VarBind)
+    (end : WalkEnd) : Type 0 where
   pub link : W
   pub after : W
   pub opened : Opens host port link
   pub judged : Honest link
       → WalkFacts (agents link) tries (traffic link) first given refused end (traffic after)
+  pub fault : end ≡ ending.Link → HasRisen (fault_count link) (fault_count after)
 
 -- The walk of a plan over any link was printed: the names that it gave rise, those of instances are
 -- below the root, and where it is done its end counts them.
@@ -167,32 +172,38 @@ IsTableOutcome bulk words files mib plan before after fault =
 -- What a job wrote by the names and types of its modules, and why it wasn't done, if it wasn't.
 -- `Facts` are what is known of a walk over a link to a port of a host, with so many tries.
 pub data IsWalkOutcomeBy (Facts : (host : List ℕ) → (port tries : ℕ) → Walker
-    → (given refused : List VarBind) → WalkEnd → Type 0) (bulk : Bool) (words : WalkWords)
-    (files : Holdings) (mib : Mib) (before after : Stream) (fault : Option Fault) : Type 0 where
+    → (given refused : List VarBind) → WalkEnd → Type 0) (faults : Faults) (bulk : Bool)
+    (words : WalkWords) (files : Holdings) (mib : Mib) (before after : Stream)
+    (fault : Option Fault) : Type 0 where
   refused : (why : Fault) → IsLateRefusal bulk words files why → after ≡ before → fault ≡ Some why
-      → IsWalkOutcomeBy Facts bulk words files mib before after fault
+      → IsWalkOutcomeBy Facts faults bulk words files mib before after fault
   walked : (plan : Plan) (view : MibView) → IsWalkOver bulk words files mib plan view
       → IsWalkPrinted mib plan view words.asking.agent before after fault
-      → IsWalkOutcomeBy Facts bulk words files mib before after fault
+      → IsWalkOutcomeBy Facts faults bulk words files mib before after fault
+  -- no link was opened, and the network counted why
+  not_linked : (plan : Plan) → IsNetWalk bulk words files mib plan
+      → HasRisen faults.before faults.after → after ≡ before
+      → fault ≡ Some (ended words.asking.agent ending.Link)
+      → IsWalkOutcomeBy Facts faults bulk words files mib before after fault
   walked_over : (plan : Plan) (net : IsNetWalk bulk words files mib plan)
       → IsPrintedOver (Facts net.host net.port (words.asking.retries + 1) (first_of plan))
       mib plan words.asking.agent before after fault
-      → IsWalkOutcomeBy Facts bulk words files mib before after fault
+      → IsWalkOutcomeBy Facts faults bulk words files mib before after fault
 
 -- What a job wrote on its output and, of the warnings of its modules, on standard error: nothing
 -- where it was refused before these were loaded; else their lines, before anything else.
 pub data IsWalkOutcome (Facts : (host : List ℕ) → (port tries : ℕ) → Walker
-    → (given refused : List VarBind) → WalkEnd → Type 0) (bulk : Bool) (words : WalkWords)
-    (files : Holdings) (before after err_before warned : Stream) (fault : Option Fault) : Type 0
-  where
-    not_loaded : (why : Fault) → IsEarlyRefusal bulk words files why → after ≡ before
-        → warned ≡ err_before → fault ≡ Some why
-        → IsWalkOutcome Facts bulk words files before after err_before warned fault
-    loaded : (mib : Mib) (warnings : List Warning)
-        → AreLoaded (MayHold files) words.asking.mibs mib warnings
-        → IsWritten err_before (warning_lines warnings) warned
-        → IsWalkOutcomeBy Facts bulk words files mib before after fault
-        → IsWalkOutcome Facts bulk words files before after err_before warned fault
+    → (given refused : List VarBind) → WalkEnd → Type 0) (faults : Faults) (bulk : Bool)
+    (words : WalkWords) (files : Holdings) (before after err_before warned : Stream)
+    (fault : Option Fault) : Type 0 where
+  not_loaded : (why : Fault) → IsEarlyRefusal bulk words files why → after ≡ before
+      → warned ≡ err_before → fault ≡ Some why
+      → IsWalkOutcome Facts faults bulk words files before after err_before warned fault
+  loaded : (mib : Mib) (warnings : List Warning)
+      → AreLoaded (MayHold files) words.asking.mibs mib warnings
+      → IsWritten err_before (warning_lines warnings) warned
+      → IsWalkOutcomeBy Facts faults bulk words files mib before after fault
+      → IsWalkOutcome Facts faults bulk words files before after err_before warned fault
 
 -- ---- what is reported
 
@@ -208,10 +219,11 @@ IsReported (Some why) before after status =
 -- the outcome of a job, which is reported
 pub record IsWalkRun (Facts : (host : List ℕ) → (port tries : ℕ) → Walker
     → (given refused : List VarBind) → WalkEnd → Type 0)
-    (bulk : Bool) (words : WalkWords) (files : Holdings)
+    (faults : Faults) (bulk : Bool) (words : WalkWords) (files : Holdings)
     (out_before out_after err_before err_after : Stream) (status : ℕ) : Type 0 where
   pub fault : Option Fault
   -- what was written of warnings comes before what is reported
   pub warned : Stream
-  pub outcome : IsWalkOutcome Facts bulk words files out_before out_after err_before warned fault
+  pub outcome : IsWalkOutcome Facts faults bulk words files out_before out_after err_before warned
+      fault
   pub reported : IsReported fault warned err_after status

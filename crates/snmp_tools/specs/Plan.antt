@@ -122,8 +122,7 @@ FailsForWalk bulk words files after_step why =
     (mib : Mib) × (text : List ℕ) × IsMibOf (MayHold files) words.asking mib
     × (words.after ≡ Some text) × NameFails mib text why
 FailsForWalk bulk words files reach_step why =
-    (agent : Address) × HasAgent words.asking.agent agent
-    × ReachFails files agent words.asking.agent why
+    (agent : Address) × HasAgent words.asking.agent agent × ReachFails files agent why
 FailsForWalk bulk words files root_sent_step why =
     (root : List ℕ) × IsRootOf words files root × (IsWire (wire root) → ⊥)
     × (why ≡ unsendable (root_text words))

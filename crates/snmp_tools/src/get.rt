@@ -11,9 +11,11 @@ ghost use Rattle.snmp_tools.specs.Got.{AreForNames, AreFromAgents, HasGetFacts, 
 ghost use Rattle.snmp_tools.specs.Got.{IsGetOutcome, IsGetOutcomeBy, IsGetPrinted, IsGetRun};
 ghost use Rattle.snmp_tools.specs.Got.{IsGetTableOutcome, IsGot, fault_at, request_for};
 ghost use Rattle.snmp_tools.specs.Message.{fault_of};
+ghost use Rattle.snmp_io.specs.Count.{HasRisen};
 ghost use Rattle.snmp_io.specs.Files.{Holdings, MayHold};
 ghost use Rattle.snmp_tools.specs.Mib.{IsMibOf};
 ghost use Rattle.snmp_tools.specs.Planned.{mib_in};
+ghost use Rattle.snmp_tools.specs.Serving.{risen};
 
 use crate::failure::Failure;
 use crate::job::report;
@@ -43,7 +45,8 @@ pub(crate) fn do_get<F: Files, L: Links, O: Output, E: Output>(
     err: &mut E,
 ) -> u8
     ensures run { IsGetRun
-        (HasGetFacts (L.opens links.old) L.Wire.honest L.Wire.agents L.Wire.traffic)
+        (HasGetFacts (L.opens links.old) L.Wire.honest L.Wire.agents L.Wire.traffic
+        L.Wire.fault_count) (risen (L.fault_count links.old) (L.fault_count links.new))
         (get_words get.now) (F.text_at files.now) (O.stream out.old) (O.stream out.new)
         (E.stream err.old) (E.stream err.new) result }
     ensures front { GetWritesFront (get_words get.now) (F.text_at files.now)
@@ -70,7 +73,8 @@ fn get_and_report<F: Files, L: Links, O: Output, E: Output>(
     err: &mut E,
 ) -> u8
     ensures { IsGetRun
-        (HasGetFacts (L.opens links.old) L.Wire.honest L.Wire.agents L.Wire.traffic)
+        (HasGetFacts (L.opens links.old) L.Wire.honest L.Wire.agents L.Wire.traffic
+        L.Wire.fault_count) (risen (L.fault_count links.old) (L.fault_count links.new))
         (get_words get.now) (F.text_at files.now) (O.stream out.old) (O.stream out.new)
         (E.stream err.old) (E.stream err.new) result }
 {
@@ -90,11 +94,13 @@ fn get_lines<'a, F: Files, L: Links, O: Output, E: Output>(
     err: &mut E,
 ) -> Result<(), Failure<'a>>
     ensures done { OnOk result (IsGetOutcome
-        (HasGetFacts (L.opens links.old) L.Wire.honest L.Wire.agents L.Wire.traffic)
+        (HasGetFacts (L.opens links.old) L.Wire.honest L.Wire.agents L.Wire.traffic
+        L.Wire.fault_count) (risen (L.fault_count links.old) (L.fault_count links.new))
         (get_words get.now) (F.text_at files.now) (O.stream out.old) (O.stream out.new)
         (E.stream err.old) (E.stream err.new) None) }
     ensures failed { IfErr result (λ failure. IsGetOutcome
-        (HasGetFacts (L.opens links.old) L.Wire.honest L.Wire.agents L.Wire.traffic)
+        (HasGetFacts (L.opens links.old) L.Wire.honest L.Wire.agents L.Wire.traffic
+        L.Wire.fault_count) (risen (L.fault_count links.old) (L.fault_count links.new))
         (get_words get.now) (F.text_at files.now) (O.stream out.old) (O.stream out.new)
         (E.stream err.old) (E.stream err.new) (Some (fault_of failure))) }
 {
@@ -141,12 +147,14 @@ fn lines_by<'a, T: ShowTree, F: Files, L: Links, O: Output>(
         (mib_in (T.naming tree.now) (T.syntax_at tree.now)) }
     requires asked { IsAskingFor (asking_words get.now.asking) letters (address_of agent) }
     ensures done { OnOk result (IsGetOutcomeBy
-        (HasGetFacts (L.opens links.old) L.Wire.honest L.Wire.agents L.Wire.traffic)
+        (HasGetFacts (L.opens links.old) L.Wire.honest L.Wire.agents L.Wire.traffic
+        L.Wire.fault_count) (risen (L.fault_count links.old) (L.fault_count links.new))
         (get_words get.now) (F.text_at files.now)
         (mib_in (T.naming tree.now) (T.syntax_at tree.now))
         (O.stream out.old) (O.stream out.new) None) }
     ensures failed { IfErr result (λ failure. IsGetOutcomeBy
-        (HasGetFacts (L.opens links.old) L.Wire.honest L.Wire.agents L.Wire.traffic)
+        (HasGetFacts (L.opens links.old) L.Wire.honest L.Wire.agents L.Wire.traffic
+        L.Wire.fault_count) (risen (L.fault_count links.old) (L.fault_count links.new))
         (get_words get.now) (F.text_at files.now)
         (mib_in (T.naming tree.now) (T.syntax_at tree.now))
         (O.stream out.old) (O.stream out.new) (Some (fault_of failure))) }
@@ -180,12 +188,14 @@ fn by_plan<'a, T: ShowTree, F: Files, L: Links, O: Output>(
     requires plan { IsGetFor (get_words get.now)
         (mib_in (T.naming tree.now) (T.syntax_at tree.now)) (get_plan_of plan.now) }
     ensures done { OnOk result (IsGetOutcomeBy
-        (HasGetFacts (L.opens links.old) L.Wire.honest L.Wire.agents L.Wire.traffic)
+        (HasGetFacts (L.opens links.old) L.Wire.honest L.Wire.agents L.Wire.traffic
+        L.Wire.fault_count) (risen (L.fault_count links.old) (L.fault_count links.new))
         (get_words get.now) (F.text_at files.now)
         (mib_in (T.naming tree.now) (T.syntax_at tree.now))
         (O.stream out.old) (O.stream out.new) None) }
     ensures failed { IfErr result (λ failure. IsGetOutcomeBy
-        (HasGetFacts (L.opens links.old) L.Wire.honest L.Wire.agents L.Wire.traffic)
+        (HasGetFacts (L.opens links.old) L.Wire.honest L.Wire.agents L.Wire.traffic
+        L.Wire.fault_count) (risen (L.fault_count links.old) (L.fault_count links.new))
         (get_words get.now) (F.text_at files.now)
         (mib_in (T.naming tree.now) (T.syntax_at tree.now))
         (O.stream out.old) (O.stream out.new) (Some (fault_of failure))) }
@@ -246,12 +256,14 @@ fn over_net<'a, T: ShowTree, F: Files, L: Links, O: Output>(
         (mib_in (T.naming tree.now) (T.syntax_at tree.now)) (get_plan_of plan.now) }
     requires at { address_of plan.now.agent ≡ udp at.host.now at.port }
     ensures done { OnOk result (IsGetOutcomeBy
-        (HasGetFacts (L.opens links.old) L.Wire.honest L.Wire.agents L.Wire.traffic)
+        (HasGetFacts (L.opens links.old) L.Wire.honest L.Wire.agents L.Wire.traffic
+        L.Wire.fault_count) (risen (L.fault_count links.old) (L.fault_count links.new))
         (get_words get.now) (F.text_at files.now)
         (mib_in (T.naming tree.now) (T.syntax_at tree.now))
         (O.stream out.old) (O.stream out.new) None) }
     ensures failed { IfErr result (λ failure. IsGetOutcomeBy
-        (HasGetFacts (L.opens links.old) L.Wire.honest L.Wire.agents L.Wire.traffic)
+        (HasGetFacts (L.opens links.old) L.Wire.honest L.Wire.agents L.Wire.traffic
+        L.Wire.fault_count) (risen (L.fault_count links.old) (L.fault_count links.new))
         (get_words get.now) (F.text_at files.now)
         (mib_in (T.naming tree.now) (T.syntax_at tree.now))
         (O.stream out.old) (O.stream out.new) (Some (fault_of failure))) }
@@ -279,6 +291,7 @@ fn print_over<'a, T: ShowTree, L: Link, O: Output>(
     requires fresh { (L.traffic link.old).sent ≡ [] }
     ensures done { OnOk result (IsGetPrinted (λ given refused end.
         AreForNames (request_for (get_plan_of plan.now)) plan.now.names.items given refused end
+        × (end ≡ WalkEnd.Link → HasRisen (L.fault_count link.old) (L.fault_count link.new))
         × (L.honest link.old → AreFromAgents (L.agents link.old) (asking.now.retries + 1)
         (L.traffic link.old) (request_for (get_plan_of plan.now)) plan.now.names.items given
         refused end (L.traffic link.new)))
@@ -286,6 +299,7 @@ fn print_over<'a, T: ShowTree, L: Link, O: Output>(
         asking.now.agent.now (O.stream out.old) (O.stream out.new) None) }
     ensures failed { IfErr result (λ failure. IsGetPrinted (λ given refused end.
         AreForNames (request_for (get_plan_of plan.now)) plan.now.names.items given refused end
+        × (end ≡ WalkEnd.Link → HasRisen (L.fault_count link.old) (L.fault_count link.new))
         × (L.honest link.old → AreFromAgents (L.agents link.old) (asking.now.retries + 1)
         (L.traffic link.old) (request_for (get_plan_of plan.now)) plan.now.names.items given
         refused end (L.traffic link.new)))

@@ -1,28 +1,22 @@
-use Rattle.std.proofs.Common.{ℕ, Bor, List, inr, refl, sym, subst}
+use Rattle.std.proofs.Common.{ℕ, Bor, List, refl, sym, subst}
 use Rattle.std.proofs.lemmas.Result.{IfErr-weaker, on_ok_weaker}
 use Rattle.snmp_net.specs.Address.{Address}
 use Rattle.snmp_words.specs.Words.{get_words, texts_at}
-use Rattle.snmp_walk.specs.declared.end.WalkEnd.TheVariants as ending
-use Rattle.snmp_tools.specs.Asking.{IsReached, ReachFails}
+use Rattle.snmp_tools.specs.Asking.{IsReached}
 use Rattle.snmp_tools.specs.Get.{HasSendable, HasUnsendable}
 use Rattle.snmp_tools.specs.GetPlanned.{get_plan_of}
-use Rattle.snmp_tools.specs.Got.{got_over, not_asked}
-use Rattle.snmp_tools.specs.Message.{Fault, ended, fault_of}
+use Rattle.snmp_tools.specs.Got.{got_over, not_asked, not_linked}
+use Rattle.snmp_tools.specs.Message.{fault_of}
 use Rattle.snmp_tools.specs.Planned.{mib_in}
 use Rattle.snmp_io.specs.Steps.{IsFirstToFail}
 use Rattle.snmp_tools.proofs.GetNames.{same_texts}
-use Rattle.snmp_tools.proofs.GetSteps.{unreached, unsent}
+use Rattle.snmp_tools.proofs.GetSteps.{unsent}
 use Rattle.snmp_tools.proofs.GetWholes.{with_get_facts}
 use Rattle.snmp_tools.proofs.get.over_net.Goals as goal
 
 pub returns-in-Err-clause-failed : goal.returns-in-Err-clause-failed
 returns-in-Err-clause-failed g c =
-    let why : Fault = ended c.args.get.now.asking.agent.now ending.Link in
-    let P : Address → Type 0 = λ a. ReachFails (g.F.Files.text_at c.args.files.now) a (get_words c.args.get.now).asking.agent why in
-    not_asked why
-    (unreached (get_words c.args.get.now) (g.F.Files.text_at c.args.files.now) _ c.requires.known (get_plan_of c.args.plan.now) c.requires.plan why
-    (inr (subst P (sym c.requires.at) refl)))
-    refl refl
+    not_linked (get_plan_of c.args.plan.now) c.args.at.host.now c.args.at.port c.requires.plan c.requires.at c.in-Err.ensures.fault refl refl
 
 pub check_names-requires : goal.check_names-requires
 check_names-requires g c =
@@ -51,7 +45,8 @@ returns-in-Ok-check_names-clause-done g c =
       after = c.print_over.new.link;
       opened = c.in-Ok.ensures.opened;
       named = h.0;
-      judged = h.1;
+      judged = h.2;
+      fault = h.1;
     }) p)) c.print_over.ensures.done
 
 pub returns-in-Ok-check_names-clause-failed : goal.returns-in-Ok-check_names-clause-failed
@@ -63,5 +58,6 @@ returns-in-Ok-check_names-clause-failed g c =
       after = c.print_over.new.link;
       opened = c.in-Ok.ensures.opened;
       named = h.0;
-      judged = h.1;
+      judged = h.2;
+      fault = h.1;
     }) p)) c.print_over.ensures.failed

@@ -14,10 +14,10 @@ use Rattle.snmp_tools.proofs.GetNames.{same_texts}
 use Rattle.snmp_tools.proofs.GetSteps.{unreached, unsent}
 use Rattle.snmp_tools.proofs.get.over_table.Goals as goal
 
-of_reach : (files : Holdings) (agent : Address) (path word : List ℕ) → agent ≡ table path → (why : Fault) → (why ≡ out_of_memory)
-    ⊎ TableFails unreadable bad_table files path why → (why ≡ out_of_memory) ⊎ ReachFails files agent word why
-of_reach files agent path word at why (inl e) = inl e
-of_reach files agent path word at why (inr f) = let P : Address → Type 0 = λ a. ReachFails files a word why in inr (subst P (sym at) f)
+of_reach : (files : Holdings) (agent : Address) (path : List ℕ) → agent ≡ table path → (why : Fault) → (why ≡ out_of_memory)
+    ⊎ TableFails unreadable bad_table files path why → (why ≡ out_of_memory) ⊎ ReachFails files agent why
+of_reach files agent path at why (inl e) = inl e
+of_reach files agent path at why (inr f) = let P : Address → Type 0 = λ a. ReachFails files a why in inr (subst P (sym at) f)
 
 pub returns-in-Err-clause-failed : goal.returns-in-Err-clause-failed
 returns-in-Err-clause-failed g c =
@@ -25,7 +25,7 @@ returns-in-Err-clause-failed g c =
       fault_of c.in-Err.failure,
       unreached (get_words c.args.get.now) (g.F.Files.text_at c.args.files.now) _ c.requires.known (get_plan_of c.args.plan.now) c.requires.plan
           (fault_of c.in-Err.failure)
-          (of_reach (g.F.Files.text_at c.args.files.now) _ c.args.path.now _ c.requires.path (fault_of c.in-Err.failure) c.in-Err.ensures.err),
+          (of_reach (g.F.Files.text_at c.args.files.now) _ c.args.path.now c.requires.path (fault_of c.in-Err.failure) c.in-Err.ensures.err),
       refl,
       refl,
     )

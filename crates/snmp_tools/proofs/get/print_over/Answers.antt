@@ -15,7 +15,7 @@ returns-clause-done g c =
       given = printed.rows;
       refused = printed.refused;
       end = c.print_get-end.result;
-      facts = (named, λ honest. subst R c.deref.ensures.value (printed.facts.1 honest c.requires.fresh));
+      facts = (named, c.print_get-end.ensures.fault, λ honest. subst R c.deref.ensures.value (printed.facts.1 honest c.requires.fresh));
       lines = printed.lines;
       reported = sym f;
     }) c.finish.ensures.done
@@ -31,7 +31,7 @@ returns-clause-failed g c =
       given = printed.rows;
       refused = printed.refused;
       end = c.print_get-end.result;
-      facts = (named, λ honest. subst R c.deref.ensures.value (printed.facts.1 honest c.requires.fresh));
+      facts = (named, c.print_get-end.ensures.fault, λ honest. subst R c.deref.ensures.value (printed.facts.1 honest c.requires.fresh));
       lines = printed.lines;
       reported = sym f;
     }) c.finish.ensures.failed

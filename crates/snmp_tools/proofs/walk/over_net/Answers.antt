@@ -2,25 +2,28 @@ use Rattle.std.proofs.Common.{refl, sym, subst}
 use Rattle.std.proofs.lemmas.Result.{IfErr-weaker, on_ok_weaker}
 use Rattle.snmp_net.specs.Address.{Address}
 use Rattle.snmp_words.specs.Words.{walk_words}
-use Rattle.snmp_tools.specs.Asking.{IsReached, ReachFails}
-use Rattle.snmp_tools.specs.Message.{Fault, ended, fault_of}
+use Rattle.snmp_tools.specs.Asking.{IsReached}
+use Rattle.snmp_tools.specs.Message.{fault_of}
 use Rattle.snmp_tools.specs.Mib.{Mib}
-use Rattle.snmp_tools.specs.Outcome.{IsNetWalk, refused, walked_over}
+use Rattle.snmp_tools.specs.Outcome.{IsNetWalk, not_linked, refused, walked_over}
 use Rattle.snmp_tools.specs.Planned.{mib_in, plan_of}
-use Rattle.snmp_walk.specs.declared.end.WalkEnd.TheVariants as ending
 use Rattle.snmp_tools.proofs.Wholes.{with_facts}
-use Rattle.snmp_tools.proofs.Starts.{reach_refused, start_refused}
+use Rattle.snmp_tools.proofs.Starts.{start_refused}
 use Rattle.snmp_tools.proofs.walk.over_net.Goals as goal
 
 pub returns-in-Err-clause-failed : goal.returns-in-Err-clause-failed
 returns-in-Err-clause-failed g c =
     let for = c.requires.plan in
-    let why : Fault = ended c.args.walk.now.asking.agent.now ending.Link in
-    let P : Address → Type 0 = λ a. ReachFails (g.F.Files.text_at c.args.files.now) a (walk_words c.args.walk.now).asking.agent why in
-    refused why
-    (reach_refused c.args.bulk (walk_words c.args.walk.now) (g.F.Files.text_at c.args.files.now) _ for.known (plan_of c.args.plan.now) for.asked for.only why
-    (subst P (sym c.requires.at) refl))
-    refl refl
+    let mib : Mib = mib_in (g.T.NameTree.naming c.args.tree.now) (g.T.ShowTree.syntax_at c.args.tree.now) in
+    let over : IsNetWalk c.args.bulk (walk_words c.args.walk.now) (g.F.Files.text_at c.args.files.now) mib (plan_of c.args.plan.now) = record {
+      known = for.known;
+      asked = for.asked;
+      only = for.only;
+      host = c.args.at.host.now;
+      port = c.args.at.port;
+      over = c.requires.at;
+    } in
+    not_linked (plan_of c.args.plan.now) over c.in-Err.ensures.fault refl refl
 
 pub returns-in-Err-begin-clause-failed : goal.returns-in-Err-begin-clause-failed
 returns-in-Err-begin-clause-failed g c =
@@ -48,7 +51,8 @@ returns-clause-done g c =
       link = c.in-Ok.link;
       after = c.print_over.new.link;
       opened = c.in-Ok.ensures.opened;
-      judged = h;
+      judged = h.1;
+      fault = h.0;
     }) p)) c.print_over.ensures.done
 
 pub returns-clause-failed : goal.returns-clause-failed
@@ -68,5 +72,6 @@ returns-clause-failed g c =
       link = c.in-Ok.link;
       after = c.print_over.new.link;
       opened = c.in-Ok.ensures.opened;
-      judged = h;
+      judged = h.1;
+      fault = h.0;
     }) p)) c.print_over.ensures.failed

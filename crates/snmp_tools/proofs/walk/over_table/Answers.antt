@@ -17,7 +17,7 @@ table_or_want : (bulk : Bool) (words : WalkWords) (files : Holdings) (mib : Mib)
     → plan.agent ≡ table path → (why : Fault) → (why ≡ out_of_memory) ⊎ TableFails unreadable bad_table files path why → IsLateRefusal bulk words files why
 table_or_want bulk words files mib plan path for at why (inl e) = inl e
 table_or_want bulk words files mib plan path for at why (inr f) =
-    let P : Address → Type 0 = λ a. ReachFails files a words.asking.agent why in
+    let P : Address → Type 0 = λ a. ReachFails files a why in
     reach_refused bulk words files mib for.known plan for.asked for.only why (subst P (sym at) f)
 
 pub returns-in-Err-clause-failed : goal.returns-in-Err-clause-failed

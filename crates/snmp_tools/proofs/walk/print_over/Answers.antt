@@ -19,7 +19,7 @@ returns-clause-done g c =
       part = subst P c.requires.start.is printed.facts.0;
       rising = printed.facts.1;
       counted = printed.facts.2;
-      facts = λ honest. subst R c.requires.start.is (printed.facts.3 honest c.requires.fresh);
+      facts = (c.print_walk-end.ensures.fault, λ honest. subst R c.requires.start.is (printed.facts.3 honest c.requires.fresh));
       lines = printed.lines;
       finish = f;
     }) c.finish.ensures.done
@@ -38,7 +38,7 @@ returns-clause-failed g c =
       part = subst P c.requires.start.is printed.facts.0;
       rising = printed.facts.1;
       counted = printed.facts.2;
-      facts = λ honest. subst R c.requires.start.is (printed.facts.3 honest c.requires.fresh);
+      facts = (c.print_walk-end.ensures.fault, λ honest. subst R c.requires.start.is (printed.facts.3 honest c.requires.fresh));
       lines = printed.lines;
       finish = f;
     }) c.finish.ensures.failed

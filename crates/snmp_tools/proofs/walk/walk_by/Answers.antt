@@ -33,10 +33,10 @@ over_net-requires-clause-plan g c = record {
 
 pub returns-in-Table-clause-done : goal.returns-in-Table-clause-done
 returns-in-Table-clause-done g c =
-    on_ok_weaker c.over_table.result (of_table _ c.args.bulk (walk_words c.args.walk.now) (g.F.Files.text_at c.args.files.now) _ (plan_of c.in-Ok.plan)
+    on_ok_weaker c.over_table.result (of_table _ _ c.args.bulk (walk_words c.args.walk.now) (g.F.Files.text_at c.args.files.now) _ (plan_of c.in-Ok.plan)
     _ _ None) c.over_table.ensures.done
 
 pub returns-in-Table-clause-failed : goal.returns-in-Table-clause-failed
 returns-in-Table-clause-failed g c =
-    IfErr-weaker c.over_table.result _ _ (λ e h. of_table _ c.args.bulk (walk_words c.args.walk.now) (g.F.Files.text_at c.args.files.now) _
+    IfErr-weaker c.over_table.result _ _ (λ e h. of_table _ _ c.args.bulk (walk_words c.args.walk.now) (g.F.Files.text_at c.args.files.now) _
     (plan_of c.in-Ok.plan) _ _ (Some (fault_of e)) h) c.over_table.ensures.failed
