@@ -1,7 +1,6 @@
 -- Which links are opened to agents in memory.
 use Rattle.std.specs.Prelude.{◌≡◌, ℕ, ◌==◌, ◌&&◌, List, [], ◌∷◌, Option, Some, find, length}
 use Rattle.std.specs.Str.{bytes_eq}
-use Rattle.snmp_table.specs.Table.{IsMibView}
 use Rattle.snmp_agent.specs.declared.server.Served.{Served}
 use Rattle.snmp_agent.specs.declared.server.Turn.{Turn}
 use Rattle.snmp_agent.specs.Reply.{Agent}
@@ -19,7 +18,7 @@ pub record IsLinkTo (agent : MemoryAgent) (link : MemoryLink) : Type 0 where
   pub agents : agents_of link ≡ agents_over (agent.table.now ∷ []) agent.config
   pub traffic : traffic_of link ≡ record { sent = []; ahead = agent.deliveries.now }
   pub no_fault : link.fault_count ≡ 0
-  pub honest : IsMibView agent.table.now → IsHonest link
+  pub honest : IsHonest link
 
 -- a link to the agent that is reached there
 abbrev pub OpensTo : List MemoryAgent → (host : List ℕ) → (port : ℕ) → MemoryLink → Type 0
