@@ -103,6 +103,19 @@ def read(datagram):
     return Message(int.from_bytes(version, "big"), community, kind, id, a, b, bindings)
 
 
+# Messages as the standards have them, octet by octet.
+NAME = (1, 3, 6, 1, 2, 1, 1, 5, 0)
+ASKED = bytes.fromhex("3026020101 04067075626C6963 A019 020101 020100 020100 300E 300C 06082B06010201010500 0500")
+TOLD = bytes.fromhex("3029020101 04067075626C6963 A21C 020101 020100 020100 3011 300F 06082B06010201010500 0403776573")
+TOO_BIG = bytes.fromhex("3018020101 04067075626C6963 A20B 020101 020101 020100 3000")
+assert message(GET, 1, [(NAME, NULL)]) == ASKED and read(ASKED).bindings == [(NAME, NULL)]
+assert message(RESPONSE, 1, [(NAME, text(b"wes"))]) == TOLD and message(RESPONSE, 1, [], 1) == TOO_BIG
+assert message(BULK, 1, [((1, 3, 6, 1, 4, 1, 32473, 1), NULL)], 0, 10) == bytes.fromhex(
+    "3027020101 04067075626C6963 A51A 020101 020100 02010A 300F 300D 06092B0601040181FD5901 0500")
+assert identifier((2, 4294967295, 0)) == bytes.fromhex("06069080 80804F00") and integer(-129) == b"\2\2\xff\x7f"
+assert integer(200, 0x41) == b"\x41\2\0\xc8" and integer(4294967295, 0x42) == b"\x42\5\0" + b"\xff" * 4
+
+
 def dotted(name):
     return "".join(f".{n}" for n in name)
 
@@ -386,6 +399,19 @@ def tries_end():
 walks("with -t 3 a reply after a second is taken", f"snmpget -On -r 0 -t 3 AGENT {ROOT}.1.0",
       lambda seen: [1.3, served(ROWS, seen[-1])], FIRST, asked=get(NAMES[1]))
 
+walks("a datagram that is no reply begins the wait again", f"snmpget -On -r 0 -t 2 AGENT {ROOT}.1.0",
+      lambda seen: [1.3, b"\x30", 1.3, served(ROWS, seen[-1])], FIRST, asked=get(NAMES[1]))
+
+
+@test("a port where nobody listens brings no reply")
+def closed_port():
+    place = f"127.0.0.1:{free_port()}"
+    for words in ["snmpwalk"], ["snmpget"]:
+        ran = subprocess.run([PROGRAM, *words, "-r", "1", place, ROOT], capture_output=True, text=True, timeout=60)
+        if (ran.returncode, ran.stdout, ran.stderr) != (1, "", f"Timeout: No Response from {place}.\n"):
+            return f"{ran}"
+
+
 # Datagrams that come twice, late, from elsewhere or as no reply: only the reply to the waiting request counts.
 walks("replies come twice", f"snmpwalk -On -r 0 AGENT {ROOT}", lambda seen: [served(ROWS, seen[-1])] * 2, LINES,
       asked=nexts(*NAMES))
@@ -589,8 +615,8 @@ TABLE = f"""object {ROOT}.2
 """
 
 
-# Ports below those that sockets get which ask for none.
-ports = itertools.count(random.randrange(20000, 30000))
+# Ports below those that sockets get which ask for none (from 32768 on, where the machine doesn't say other).
+ports = itertools.count(random.randrange(10000, 30000))
 
 
 def free_port():
@@ -598,7 +624,7 @@ def free_port():
     for port in ports:
         with socket.socket(socket.AF_INET, socket.SOCK_DGRAM) as door:
             try:
-                door.bind(("127.0.0.1", port))
+                door.bind(("0.0.0.0", port))
                 return port
             except OSError:
                 pass
@@ -607,15 +633,15 @@ def free_port():
 class Server:
     """snmpd over a table, and a socket that asks it."""
 
-    def __init__(self, *words, table=TABLE):
-        self.words, self.table = words, table
+    def __init__(self, *words, table=TABLE, host="127.0.0.1"):
+        self.words, self.table, self.host = words, table, host
 
     def __enter__(self):
         self.file = tempfile.NamedTemporaryFile("w", suffix=".tab")
         self.file.write(self.table)
         self.file.flush()
         self.port = free_port()
-        self.place = f"127.0.0.1:{self.port}"
+        self.place = f"{self.host}:{self.port}"
         self.program = subprocess.Popen(
             [PROGRAM, "snmpd", "--table", self.file.name, "--listen", self.place, *self.words],
             stdin=subprocess.DEVNULL, stdout=subprocess.PIPE, stderr=subprocess.PIPE, text=True)
@@ -711,6 +737,35 @@ def snmpd_replies():
     return "\n  ".join(wrong)
 
 
+@test("snmpd replies to 500 random requests as the standard says")
+def snmpd_random():
+    rng = random.Random(1)
+
+    def some_name():
+        return (1, 3, *(rng.choice([0, 1, 2, 128, 4294967295]) for _ in range(rng.randint(1, 4))))
+
+    wrong = []
+    for size in 200, 1472:
+        rows = {some_name(): rng.randrange(-200, 200) for _ in range(40)}
+        with Server("--max-size", str(size), table="".join(f"{dotted(n)}|2|{v}\n" for n, v in rows.items())) as server:
+            rows = {name: integer(value) for name, value in rows.items()}
+            for _ in range(250):
+                names = [(some_name(), NULL) for _ in range(rng.randint(0, 5))]
+                kind, id = rng.choice([GET, NEXT, BULK]), rng.randrange(-2 ** 31, 2 ** 31)
+                a, b = rng.choice([-1, 0, 1, 3]), rng.choice([-1, 0, 1, 2, 20, 2147483647])
+                asked = message(kind, id, names, a, b)
+                bindings = answered(rows, read(asked))
+                whole = reply(read(asked), bindings)
+                while len(whole) > size and kind == BULK:
+                    bindings.pop()
+                    whole = reply(read(asked), bindings)
+                if len(whole) > size:
+                    whole = reply(read(asked), [], 1)
+                if (got := server.ask(asked)) != [whole]:
+                    wrong.append(f"{shown(got)}\n  not\n    {shown([whole])}")
+    return "\n  ".join(wrong)
+
+
 @test("snmpd still replies after 300 requests with random faults")
 def snmpd_faults():
     rng = random.Random(1)
@@ -742,19 +797,15 @@ def snmpd_sizes():
     table = "".join(f"{dotted(name)}|2|{name[-2]}\n" for name in six)
     bulk = message(BULK, 1, [(R, NULL)], 0, 10)
     wrong = []
-    for size, count, octets in (133, 5, 116), (134, 5, 116), (135, 6, 135), (152, 6, 135), (153, 7, 153), (1472, 7, 153):
+    for size, count, octets in (134, 5, 116), (135, 6, 135), (152, 6, 135), (153, 7, 153), (1472, 7, 153):
         with Server("--max-size", str(size), table=table) as server:
             whole = reply(read(bulk), answered(six, read(bulk))[:count])
             assert len(whole) == octets
             wrong.append(differs(server.ask(bulk), [whole]))
-    # The empty reply to a Get of nothing, by which an `ask` ends, has more octets than these sizes, so a Get
-    # that is dropped is shown by the counts.
-    name = (1, 3, 6, 1, 2, 1, 1, 5, 0)
-    asked = message(GET, 1, [(name, NULL)])
-    for size, replied in (43, reply(read(asked), [(name, text(b"wes"))])), (42, reply(read(asked), [], 1, 0)), \
-            (26, reply(read(asked), [], 1, 0)), (25, None):
-        with Server("--max-size", str(size), "--turns", "1", table=dotted(name) + "|4|wes\n") as server:
-            server.send(asked)
+    # The reply by which an `ask` ends is too long for these sizes, so the counts show what is dropped.
+    for size, replied in (43, TOLD), (42, TOO_BIG), (26, TOO_BIG), (25, None):
+        with Server("--max-size", str(size), "--turns", "1", table=dotted(NAME) + "|4|wes\n") as server:
+            server.send(ASKED)
             if replied is not None:
                 wrong.append(differs(server.receive(), replied))
             counts = "0 replies, 1 dropped\n" if replied is None else "1 replies, 0 dropped\n"
@@ -788,6 +839,16 @@ def snmpd_senders():
         server.send(message(GET, 3, []))
         ids = [read(server.receive()).id, read(server.receive()).id, read(other.recv(65535)).id]
         return differs(ids, [1, 3, 2])
+
+
+@test("snmpd listens at a host by name, and at all of the machine's addresses")
+def snmpd_hosts():
+    wrong = []
+    for host in "localhost", "0.0.0.0":
+        with Server(host=host) as server:
+            wrong.append(differs(server.listening, f"listening on {host}:{server.port}\n"))
+            wrong.append(differs(server.ask(ASKED), [message(RESPONSE, 1, [(NAME, OBJECT)])]))
+    return "\n  ".join(filter(None, wrong))
 
 
 @test("a snmpd that is stopped for a moment goes on")

@@ -39,13 +39,17 @@ same() {
     if matches "$2" "${has%.}"; then count ''; else count "$(printf '%s: %q' "$1" "${has%.}")"; fi
 }
 
-# expect STATUS OUTPUT MESSAGES WORD..; with `target` or `errors` before it, output or messages go there.
+# expect STATUS OUTPUT MESSAGES WORD..; with `target` or `errors` before it, output or messages go there, and
+# with `limit` the program may take so many kibibytes of memory.
 expect() {
     local status=$1 output=$2 messages=$3 ended wrote said
     shift 3
     : >"$got/out"
     : >"$got/err"
-    timeout 60 "$program" "$@" >"${target:-$got/out}" 2>"${errors:-$got/err}" </dev/null
+    (
+        [ -z "${limit:-}" ] || ulimit -v "$limit"
+        exec timeout 60 "$program" "$@" >"${target:-$got/out}" 2>"${errors:-$got/err}" </dev/null
+    )
     ended=$?
     wrote=$(cat "$got/out"; echo .)
     said=$(cat "$got/err"; echo .)
@@ -114,6 +118,9 @@ for walker in $walkers; do
     prints ".1.0 = $missing" $walker -On table:/dev/null .1
     prints ".0.0 = $missing
 Variables found: 1" $walker -On -Cp table:/dev/null .
+    prints "iso.0 $missing" $walker -Oq table:/dev/null .1
+    prints "$missing" $walker -Ov table:/dev/null .1
+    prints "iso.3.6.1.2.1 = $missing" $walker table:/dev/null
     prints '' $walker -Ci table:/dev/null .1
     prints "$first" $walker -On table:three.tab $e.1.1.0
     prints "$first" $walker -On -Ci table:three.tab $e.1.1.0
@@ -152,6 +159,8 @@ refuses 'Timeout: No Response from table:three.tab.' snmpwalk --max-size 1 table
 prints "$third
 $e.1.3.0 = $missing
 $first" snmpget -On table:three.tab $e.1.10.0 $e.1.3.0 $e.1.1.0
+prints "$first
+$first" snmpget -On table:three.tab $e.1.1.0 $e.1.1.0
 prints ".1.0 = $missing" snmpget -On table:three.tab .1
 prints "$e.1.0.5 = No Such Instance currently exists at this OID
 $e.2 = $missing" snmpget -On table:tiny.tab $e.1.0.5 $e.2
@@ -160,6 +169,7 @@ expect 0 'TINY-MIB::tinyState.0 = INTEGER: up(1)' "$warnings" snmpget --mib tiny
 # module files: names, and how values are shown
 expect 0 "$tiny" "$warnings" snmpwalk --mib tiny.txt table:tiny.tab tiny
 expect 0 "$tiny" "$warnings" snmpbulkwalk --mib=tiny.txt table:tiny.tab TINY-MIB::tiny
+expect 0 "${tiny#*$'\n'}" "$warnings" snmpwalk --mib tiny.txt --after tinyState.0 table:tiny.tab tiny
 expect 0 'tinyState.0 up...' "$warnings" snmpwalk --mib tiny.txt -Oqs table:tiny.tab tiny
 expect 0 'up...' "$warnings" snmpwalk --mib tiny.txt -Oqv table:tiny.tab tiny
 shows() { expect 0 "$2" "$warnings" snmpget --mib tiny.txt "-O$1" table:tiny.tab "${@:3}"; }
@@ -386,6 +396,7 @@ refuses 'Request too long.' snmpget -On table:three.tab "${many[@]}"
 refuses 'no.tab: cannot be read' snmpwalk -On table:no.tab .1
 refuses 'three.tab/: cannot be read' snmpwalk -On table:three.tab/ .1
 refuses '.: cannot be read' snmpwalk -On table:. .1
+refuses '/dev/zero: cannot be read' snmpwalk -On table:/dev/zero .1
 refuses 'program.txt:1: bad line' snmpwalk -On table:program.txt .1
 fault() {
     table "$e.0.0|2|1" "${@:2}"
@@ -417,6 +428,12 @@ expect 0 'iso' "$warnings
 snmp: TINY-SMI is loaded twice
 snmp: TINY-MIB is loaded twice" snmptranslate --mib tiny.txt --mib tiny.txt iso
 
+# memory that runs out while a file is read
+truncate -s 200M "$got/huge"
+limit=100000 refuses 'Out of memory.' snmpwalk "table:$got/huge" .1
+limit=100000 refuses 'Out of memory.' snmptranslate --mib "$got/huge" iso
+limit=100000 refuses 'Out of memory.' snmpd --table "$got/huge" --listen "$place" --turns 0
+
 # outputs
 "$program" snmpwalk --mib tiny.txt table:tiny.tab tiny >"$got/both" 2>&1
 same 'warnings come before lines' "$warnings
@@ -428,6 +445,12 @@ for words in "snmpwalk -On table:three.tab $e.1" "snmpbulkwalk -On table:three.t
     "snmpwalk -Cp -CI table:/dev/null $e.1" "snmpd --table three.tab --listen $place --turns 0" --help --version; do
     target=/dev/full refuses 'The output failed.' $words
 done
+
+seq -f "$e.1.%.0f|2|1" 20000 >"$got/t.tab"
+{ "$program" snmpwalk -On "table:$got/t.tab" $e 2>"$got/err"; echo $? >"$got/status"; } | head -n 1 >"$got/out"
+same 'the line that a closed pipe took' "$e.1.1 = INTEGER: 1" "$got/out"
+same 'the message about a closed pipe' 'The output failed.' "$got/err"
+same 'the status after a closed pipe' 1 "$got/status"
 
 # over UDP, two walks at once
 "$program" snmpd --table three.tab --listen "$place" >"$got/server" &
