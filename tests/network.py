@@ -405,7 +405,7 @@ walks("a datagram that is no reply begins the wait again", f"snmpget -On -r 0 -t
 
 @test("a port where nobody listens brings no reply")
 def closed_port():
-    place = f"127.0.0.1:{free_port()}"
+    place = f"127.0.0.1:{next(ports)}"
     for words in ["snmpwalk"], ["snmpget"]:
         ran = subprocess.run([PROGRAM, *words, "-r", "1", place, ROOT], capture_output=True, text=True, timeout=60)
         if (ran.returncode, ran.stdout, ran.stderr) != (1, "", f"Timeout: No Response from {place}.\n"):
@@ -619,17 +619,6 @@ TABLE = f"""object {ROOT}.2
 ports = itertools.count(random.randrange(10000, 30000))
 
 
-def free_port():
-    """A port of its own for each server."""
-    for port in ports:
-        with socket.socket(socket.AF_INET, socket.SOCK_DGRAM) as door:
-            try:
-                door.bind(("0.0.0.0", port))
-                return port
-            except OSError:
-                pass
-
-
 class Server:
     """snmpd over a table, and a socket that asks it."""
 
@@ -640,17 +629,21 @@ class Server:
         self.file = tempfile.NamedTemporaryFile("w", suffix=".tab")
         self.file.write(self.table)
         self.file.flush()
-        self.port = free_port()
-        self.place = f"{self.host}:{self.port}"
-        self.program = subprocess.Popen(
-            [PROGRAM, "snmpd", "--table", self.file.name, "--listen", self.place, *self.words],
-            stdin=subprocess.DEVNULL, stdout=subprocess.PIPE, stderr=subprocess.PIPE, text=True)
         self.socket = socket.socket(socket.AF_INET, socket.SOCK_DGRAM)
         self.socket.settimeout(20)
-        self.listening = self.program.stdout.readline()
-        if not self.listening:
-            raise RuntimeError(f"snmpd ended: {self.end()}")
-        return self
+        # Another program may have the port.
+        for self.port in itertools.islice(ports, 20):
+            self.place = f"{self.host}:{self.port}"
+            self.program = subprocess.Popen(
+                [PROGRAM, "snmpd", "--table", self.file.name, "--listen", self.place, *self.words],
+                stdin=subprocess.DEVNULL, stdout=subprocess.PIPE, stderr=subprocess.PIPE, text=True)
+            self.listening = self.program.stdout.readline()
+            if self.listening:
+                return self
+            ended = self.end()
+            if ended != (1, "", "The link failed.\n"):
+                break
+        raise RuntimeError(f"snmpd ended: {ended}")
 
     def __exit__(self, *_):
         self.program.kill()
