@@ -1,5 +1,6 @@
 -- Which links are opened to agents in memory.
-use Rattle.std.specs.Prelude.{◌≡◌, ℕ, ◌==◌, ◌&&◌, List, [], ◌∷◌, Option, Some, find, length}
+use Rattle.std.specs.Prelude.{◌≡◌, ℕ, ◌==◌, ◌&&◌, List, [], ◌∷◌, Option, Some, None, find, length}
+use Rattle.std.specs.Borrow.{Bor}
 use Rattle.std.specs.Str.{bytes_eq}
 use Rattle.snmp_agent.specs.declared.server.Served.{Served}
 use Rattle.snmp_agent.specs.declared.server.Turn.{Turn}
@@ -8,6 +9,7 @@ use Rattle.snmp_agent.specs.Serving.{AreTurns, Event, tally}
 use Rattle.snmp_walk.specs.Memory.{IsHonest, agents_of, agents_over, traffic_of}
 use Rattle.snmp_walk.specs.declared.memory.MemoryLink.{MemoryLink}
 use Rattle.snmp_net.specs.declared.memory.MemoryAgent.{MemoryAgent}
+use Rattle.snmp_net.specs.declared.memory.MemoryDoor.{MemoryDoor}
 
 -- the first of the agents that is reached at this port of this host
 abbrev pub agent_at : List MemoryAgent → (host : List ℕ) → (port : ℕ) → Option MemoryAgent
@@ -24,6 +26,12 @@ pub record IsLinkTo (agent : MemoryAgent) (link : MemoryLink) : Type 0 where
 abbrev pub OpensTo : List MemoryAgent → (host : List ℕ) → (port : ℕ) → MemoryLink → Type 0
 OpensTo agents host port link =
     (agent : MemoryAgent) × (agent_at agents host port ≡ Some agent) × IsLinkTo agent link
+
+-- a door where no agent is reached, at which all of these requests are still to come
+abbrev pub BindsAt : List MemoryAgent → (requests : List (Bor (List ℕ))) → (host : List ℕ)
+    → (port : ℕ) → MemoryDoor → Type 0
+BindsAt agents requests host port door =
+    (agent_at agents host port ≡ None) × (door.requests.now ≡ requests) × (door.used ≡ 0)
 
 -- what the agent did by turns, in this many turns
 abbrev pub AreServed : Agent → (turns : ℕ) → Served → Type 0

@@ -19,8 +19,12 @@ pub trait Links {
     /// Where an agent receives requests and sends its replies.
     type Door: Drop;
 
-    /// Whether a link that is opened to this port of this host may be this one.
-    ghost opens: { Self → (host : List ℕ) → (port : ℕ) → Self.Wire → Type 0 };
+    /// Whether a link that is opened to this port of this host, over which a receive waits this
+    /// many seconds, may be this one.
+    ghost opens: { Self → (host : List ℕ) → (port seconds : ℕ) → Self.Wire → Type 0 };
+
+    /// Whether a door that is opened at this port of this host may be this one.
+    ghost binds: { Self → (host : List ℕ) → (port : ℕ) → Self.Door → Type 0 };
 
     /// What may have been served at a door by this agent in so many turns.
     ghost serves: { Self.Door → Agent → (turns : ℕ) → Served → Type 0 };
@@ -32,13 +36,14 @@ pub trait Links {
     /// seconds. A fault changes the count of faults.
     fn open(&mut self, host: &str, port: u16, seconds: u64) -> Result<Self::Wire, LinkFault>
         requires { 0 < seconds }
-        ensures opened { IfOk result (λ wire. opens self.old host.now port wire) }
+        ensures opened { IfOk result (λ wire. opens self.old host.now port seconds wire) }
         ensures fresh { IfOk result (λ wire. (Self.Wire.traffic wire).sent ≡ []) }
         ensures count { OnOk result (fault_count self.new ≡ fault_count self.old) }
         ensures fault { OnErr result (HasRisen (fault_count self.old) (fault_count self.new)) };
 
     /// Opens a door at a UDP port of a host. A fault changes the count of faults.
     fn bind(&mut self, host: &str, port: u16) -> Result<Self::Door, LinkFault>
+        ensures bound { IfOk result (λ door. binds self.old host.now port door) }
         ensures count { OnOk result (fault_count self.new ≡ fault_count self.old) }
         ensures fault { OnErr result (HasRisen (fault_count self.old) (fault_count self.new)) };
 

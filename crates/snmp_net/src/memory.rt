@@ -1,7 +1,7 @@
 //! Links to agents in the same memory, which keep every fact, for tests of what is walked.
 ghost use Rattle.std.specs.Prelude.{◌≡◌, ◌<◌, ◌≤◌, ℕ, List, Option, IfOk, IfSome, IfNone, length};
 ghost use Rattle.snmp_io.specs.Count.{HasRisen};
-ghost use Rattle.snmp_net.specs.Memory.{AreServed, OpensTo, agent_at};
+ghost use Rattle.snmp_net.specs.Memory.{AreServed, BindsAt, OpensTo, agent_at};
 
 use crate::links::Links;
 use snmp_agent::{Config, Endpoint, EndpointFault, Served, serve_at};
@@ -65,7 +65,9 @@ impl<'a> Links for MemoryLinks<'a> {
 
     type Door = MemoryDoor<'a>;
 
-    ghost opens = { λ links. OpensTo links.agents.now };
+    ghost opens = { λ links host port _. OpensTo links.agents.now host port };
+
+    ghost binds = { λ links. BindsAt links.agents.now links.requests.now };
 
     ghost serves = { λ _. AreServed };
 

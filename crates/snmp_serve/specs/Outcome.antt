@@ -24,10 +24,12 @@ pub record Faults : Type 0 where
   pub before : ℕ
   pub after : ℕ
 
--- what may have been served at some door
-abbrev pub AtDoor : {Door : Type 0} → (Door → Agent → ℕ → Served → Type 0) → Agent → ℕ → Served
-    → Type 0
-AtDoor {Door} Serves agent turns served = (door : Door) × Serves door agent turns served
+-- what may have been served at a door that was opened at this port of this host
+abbrev pub AtDoor : {Door : Type 0} → (Binds : (host : List ℕ) → (port : ℕ) → Door → Type 0)
+    → (Serves : Door → Agent → ℕ → Served → Type 0) → (host : List ℕ) → (port : ℕ) → Agent → ℕ
+    → Served → Type 0
+AtDoor {Door} Binds Serves host port agent turns served =
+    (door : Door) × Binds host port door × Serves door agent turns served
 
 -- a line isn't printed, or only a front of it: memory for it ran out, or the output failed
 abbrev pub StopsAtLine : (before : Stream) → List ℕ → (after : Stream) → Option ServeFault → Type 0
@@ -55,12 +57,13 @@ IsServing Serves faults words view before after fault =
     ⊎ IsServedAndCounted Serves words view (extended before (listening_line words.listen)) after
     fault)
 
--- what snmpd printed, and why it stopped, if it stopped before its turns were done
-pub data IsServeOutcome (Serves : Agent → ℕ → Served → Type 0) (faults : Faults)
-    (words : ServeWords) (files : Holdings) (before after : Stream) (fault : Option ServeFault) :
-    Type 0 where
+-- What snmpd printed, and why it stopped, if it stopped before its turns were done. `Serves host
+-- port` says what may have been served at a port of a host.
+pub data IsServeOutcome (Serves : (host : List ℕ) → (port : ℕ) → Agent → ℕ → Served → Type 0)
+    (faults : Faults) (words : ServeWords) (files : Holdings) (before after : Stream)
+    (fault : Option ServeFault) : Type 0 where
   refused : (why : ServeFault) → IsServeRefusal words files why → after ≡ before → fault ≡ Some why
       → IsServeOutcome Serves faults words files before after fault
-  ran : (view : MibView) → AskForService words files view
-      → IsServing Serves faults words view before after fault
+  ran : (view : MibView) (asked : AskForService words files view)
+      → IsServing (Serves asked.host asked.port) faults words view before after fault
       → IsServeOutcome Serves faults words files before after fault

@@ -29,10 +29,10 @@ pub fn serve_table<'a, F: Files, L: Links, O: Output>(
     links: &mut L,
     out: &mut O,
 ) -> Result<(), ServeError<'a>>
-    ensures done { OnOk result (IsServeOutcome (AtDoor L.serves)
+    ensures done { OnOk result (IsServeOutcome (AtDoor (L.binds links.old) L.serves)
         (record { before = L.fault_count links.old; after = L.fault_count links.new })
         (serve_words job.now) (F.text_at files.now) (O.stream out.old) (O.stream out.new) None) }
-    ensures failed { IfErr result (λ e. IsServeOutcome (AtDoor L.serves)
+    ensures failed { IfErr result (λ e. IsServeOutcome (AtDoor (L.binds links.old) L.serves)
         (record { before = L.fault_count links.old; after = L.fault_count links.new })
         (serve_words job.now) (F.text_at files.now) (O.stream out.old) (O.stream out.new)
         (Some (serve_fault_of e))) }
@@ -92,10 +92,12 @@ fn serve_at<'a, L: Links, O: Output>(
     out: &mut O,
 ) -> Result<(), ServeError<'a>>
     requires { length job.now.community.now ≤ 255 }
-    ensures done { OnOk result (IsServing (AtDoor L.serves)
+    ensures done { OnOk result (IsServing
+        (AtDoor (L.binds links.old) L.serves place.entry.host.now place.entry.port)
         (record { before = L.fault_count links.old; after = L.fault_count links.new })
         (serve_words job.now) table.now (O.stream out.old) (O.stream out.new) None) }
-    ensures failed { IfErr result (λ e. IsServing (AtDoor L.serves)
+    ensures failed { IfErr result (λ e. IsServing
+        (AtDoor (L.binds links.old) L.serves place.entry.host.now place.entry.port)
         (record { before = L.fault_count links.old; after = L.fault_count links.new })
         (serve_words job.now) table.now (O.stream out.old) (O.stream out.new)
         (Some (serve_fault_of e))) }

@@ -85,7 +85,7 @@ own_told mib letters agent given refused ending.Link before after err_before err
 
 module _ (one_table : (ls : List (List ℕ)) (v w : MibView) → IsTableOf ls v → IsTableOf ls w → v ≡ w)
     (no_fault : (ls : List (List ℕ)) (view : MibView) (fault : TableError) → IsTableOf ls view → IsFirstFault ls fault → fault ≡ table_error.Memory)
-    (one_list : OneList) (one_tree : OneTree) (Facts : List ℕ → ℕ → ℕ → GetPlan → List VarBind → List VarBind → WalkEnd → Type 0)
+    (one_list : OneList) (one_tree : OneTree) (Facts : List ℕ → ℕ → ℕ → ℕ → GetPlan → List VarBind → List VarBind → WalkEnd → Type 0)
     (faults : Faults) (words : GetWords) (files : Holdings) (before after err_before err_after : Stream) (status : ℕ)
     (run : IsGetRun Facts faults words files before after err_before err_after status) where
   module _ (rows : List VarBind) (get : IsGetOf words files rows) where

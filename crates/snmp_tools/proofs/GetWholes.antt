@@ -12,7 +12,7 @@ use Rattle.snmp_tools.specs.Message.{Fault}
 use Rattle.snmp_io.specs.Files.{Holdings}
 use Rattle.snmp_tools.specs.Mib.{Mib}
 
-pub of_get_table : (Facts : List ℕ → ℕ → ℕ → GetPlan → List VarBind → List VarBind → WalkEnd → Type 0) (faults : Faults) (words : GetWords)
+pub of_get_table : (Facts : List ℕ → ℕ → ℕ → ℕ → GetPlan → List VarBind → List VarBind → WalkEnd → Type 0) (faults : Faults) (words : GetWords)
     (files : Holdings) (mib : Mib) (plan : GetPlan) (path : List ℕ) (before after : Stream) (fault : Option Fault)
     → IsGetFor words mib plan → plan.agent ≡ table path
     → IsGetTableOutcome words files mib plan path before after fault → IsGetOutcomeBy Facts faults words files mib before after fault

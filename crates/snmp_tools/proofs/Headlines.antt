@@ -104,7 +104,7 @@ own_told mib letters counts agent given turned ending.Link before between after 
 
 module _ (one_table : (ls : List (List ℕ)) (v w : MibView) → IsTableOf ls v → IsTableOf ls w → v ≡ w)
     (no_fault : (ls : List (List ℕ)) (view : MibView) (fault : TableError) → IsTableOf ls view → IsFirstFault ls fault → fault ≡ table_error.Memory)
-    (one_list : OneList) (one_tree : OneTree) (Facts : List ℕ → ℕ → ℕ → Walker → List VarBind → List VarBind → WalkEnd → Type 0)
+    (one_list : OneList) (one_tree : OneTree) (Facts : List ℕ → ℕ → ℕ → ℕ → Walker → List VarBind → List VarBind → WalkEnd → Type 0)
     (faults : Faults) (bulk : Bool) (words : WalkWords) (files : Holdings) (before after err_before err_after : Stream) (status : ℕ)
     (run : IsWalkRun Facts faults bulk words files before after err_before err_after status) where
   module _ (rows : List VarBind) (walk : IsWalk bulk words files rows) where

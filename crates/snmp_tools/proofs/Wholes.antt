@@ -12,7 +12,7 @@ use Rattle.snmp_tools.specs.Mib.{Mib}
 use Rattle.snmp_tools.specs.Outcome.{IsWalkOutcomeBy, IsPrintedOver, IsTableOutcome, refused, walked}
 use Rattle.snmp_tools.specs.Plan.{Plan}
 
-pub of_table : (Facts : List ℕ → ℕ → ℕ → Walker → List VarBind → List VarBind → WalkEnd → Type 0) (faults : Faults) (bulk : Bool) (words : WalkWords)
+pub of_table : (Facts : List ℕ → ℕ → ℕ → ℕ → Walker → List VarBind → List VarBind → WalkEnd → Type 0) (faults : Faults) (bulk : Bool) (words : WalkWords)
     (files : Holdings) (mib : Mib) (plan : Plan) (before after : Stream) (fault : Option Fault) → IsTableOutcome bulk words files mib plan before after fault
     → IsWalkOutcomeBy Facts faults bulk words files mib before after fault
 of_table Facts faults bulk words files mib plan before after fault (inl r) = refused r.0 r.1 r.2 r.3

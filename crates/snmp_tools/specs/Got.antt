@@ -135,13 +135,13 @@ IsGetTableOutcome words files mib plan path before after fault =
 
 -- What is known of the link that was opened: its facts, by which the Get over it is judged. Where
 -- the Get ends because the link failed, the link has counted that.
-pub record HasGetFacts {W : Type 0} (Opens : (host : List ℕ) → (port : ℕ) → W → Type 0)
+pub record HasGetFacts {W : Type 0} (Opens : (host : List ℕ) → (port seconds : ℕ) → W → Type 0)
     (Honest : W → Type 0) (agents : W → Agents) (traffic : W → Traffic) (fault_count : W → ℕ)
-    (host : List ℕ) (port : ℕ) (tries : ℕ) (plan : GetPlan) (given refused : List VarBind)
+    (host : List ℕ) (port seconds tries : ℕ) (plan : GetPlan) (given refused : List VarBind)
     (end : WalkEnd) : Type 0 where
   pub link : W
   pub after : W
-  pub opened : Opens host port link
+  pub opened : Opens host port seconds link
   pub named : AreForNames (request_for plan) plan.names given refused end
   pub judged : Honest link → AreFromAgents (agents link) tries (traffic link) (request_for plan)
       plan.names given refused end (traffic after)
@@ -150,8 +150,8 @@ pub record HasGetFacts {W : Type 0} (Opens : (host : List ℕ) → (port : ℕ) 
 -- What a job wrote by the names and types of its modules, and why it wasn't done, if it wasn't:
 -- nothing where its words are refused, or the lines of what it got over a table, which its file
 -- states, or over the network. `Facts` are what is known of a Get over a link to a port of a host,
--- with so many tries.
-pub data IsGetOutcomeBy (Facts : (host : List ℕ) → (port tries : ℕ) → GetPlan
+-- with so many seconds for a reply and so many tries.
+pub data IsGetOutcomeBy (Facts : (host : List ℕ) → (port seconds tries : ℕ) → GetPlan
     → (given refused : List VarBind) → WalkEnd → Type 0) (faults : Faults) (words : GetWords)
     (files : Holdings) (mib : Mib) (before after : Stream) (fault : Option Fault) : Type 0 where
   not_asked : (why : Fault) → IsLateGetRefusal words files why → after ≡ before → fault ≡ Some why
@@ -167,13 +167,14 @@ pub data IsGetOutcomeBy (Facts : (host : List ℕ) → (port tries : ℕ) → Ge
       → IsGetOutcomeBy Facts faults words files mib before after fault
   got_over : (plan : GetPlan) (host : List ℕ) (port : ℕ) → IsGetFor words mib plan
       → plan.agent ≡ udp host port
-      → IsGetPrinted (Facts host port (words.asking.retries + 1) plan) mib plan
+      → IsGetPrinted
+      (Facts host port words.asking.seconds (words.asking.retries + 1) plan) mib plan
       words.asking.agent before after fault
       → IsGetOutcomeBy Facts faults words files mib before after fault
 
 -- What a job wrote on its output and, of the warnings of its modules, on standard error: nothing
 -- where it was refused before these were loaded; else their lines, before anything else.
-pub data IsGetOutcome (Facts : (host : List ℕ) → (port tries : ℕ) → GetPlan
+pub data IsGetOutcome (Facts : (host : List ℕ) → (port seconds tries : ℕ) → GetPlan
     → (given refused : List VarBind) → WalkEnd → Type 0) (faults : Faults) (words : GetWords)
     (files : Holdings) (before after err_before warned : Stream) (fault : Option Fault) : Type 0
   where
@@ -187,7 +188,7 @@ pub data IsGetOutcome (Facts : (host : List ℕ) → (port tries : ℕ) → GetP
         → IsGetOutcome Facts faults words files before after err_before warned fault
 
 -- the outcome of the words of snmpget, which is reported
-pub record IsGetRun (Facts : (host : List ℕ) → (port tries : ℕ) → GetPlan
+pub record IsGetRun (Facts : (host : List ℕ) → (port seconds tries : ℕ) → GetPlan
     → (given refused : List VarBind) → WalkEnd → Type 0) (faults : Faults) (words : GetWords)
     (files : Holdings) (out_before out_after err_before err_after : Stream) (status : ℕ) :
     Type 0 where

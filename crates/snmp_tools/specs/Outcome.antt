@@ -135,13 +135,13 @@ pub record IsWalkPrinted (mib : Mib) (plan : Plan) (view : MibView) (agent : Lis
 
 -- What is known of the link that was opened: its facts, by which the walk over it is judged. Where
 -- the walk ends because the link failed, the link has counted that.
-pub record HasLinkFacts {W : Type 0} (Opens : (host : List ℕ) → (port : ℕ) → W → Type 0)
+pub record HasLinkFacts {W : Type 0} (Opens : (host : List ℕ) → (port seconds : ℕ) → W → Type 0)
     (Honest : W → Type 0) (agents : W → Agents) (traffic : W → Traffic) (fault_count : W → ℕ)
-    (host : List ℕ) (port : ℕ) (tries : ℕ) (first : Walker) (given refused : List VarBind)
+    (host : List ℕ) (port seconds tries : ℕ) (first : Walker) (given refused : List VarBind)
     (end : WalkEnd) : Type 0 where
   pub link : W
   pub after : W
-  pub opened : Opens host port link
+  pub opened : Opens host port seconds link
   pub judged : Honest link
       → WalkFacts (agents link) tries (traffic link) first given refused end (traffic after)
   pub fault : end ≡ ending.Link → HasRisen (fault_count link) (fault_count after)
@@ -170,8 +170,9 @@ IsTableOutcome bulk words files mib plan before after fault =
     × IsWalkPrinted mib plan view words.asking.agent before after fault)
 
 -- What a job wrote by the names and types of its modules, and why it wasn't done, if it wasn't.
--- `Facts` are what is known of a walk over a link to a port of a host, with so many tries.
-pub data IsWalkOutcomeBy (Facts : (host : List ℕ) → (port tries : ℕ) → Walker
+-- `Facts` are what is known of a walk over a link to a port of a host, with so many seconds for a
+-- reply and so many tries.
+pub data IsWalkOutcomeBy (Facts : (host : List ℕ) → (port seconds tries : ℕ) → Walker
     → (given refused : List VarBind) → WalkEnd → Type 0) (faults : Faults) (bulk : Bool)
     (words : WalkWords) (files : Holdings) (mib : Mib) (before after : Stream)
     (fault : Option Fault) : Type 0 where
@@ -186,13 +187,14 @@ pub data IsWalkOutcomeBy (Facts : (host : List ℕ) → (port tries : ℕ) → W
       → fault ≡ Some (ended words.asking.agent ending.Link)
       → IsWalkOutcomeBy Facts faults bulk words files mib before after fault
   walked_over : (plan : Plan) (net : IsNetWalk bulk words files mib plan)
-      → IsPrintedOver (Facts net.host net.port (words.asking.retries + 1) (first_of plan))
+      → IsPrintedOver
+      (Facts net.host net.port words.asking.seconds (words.asking.retries + 1) (first_of plan))
       mib plan words.asking.agent before after fault
       → IsWalkOutcomeBy Facts faults bulk words files mib before after fault
 
 -- What a job wrote on its output and, of the warnings of its modules, on standard error: nothing
 -- where it was refused before these were loaded; else their lines, before anything else.
-pub data IsWalkOutcome (Facts : (host : List ℕ) → (port tries : ℕ) → Walker
+pub data IsWalkOutcome (Facts : (host : List ℕ) → (port seconds tries : ℕ) → Walker
     → (given refused : List VarBind) → WalkEnd → Type 0) (faults : Faults) (bulk : Bool)
     (words : WalkWords) (files : Holdings) (before after err_before warned : Stream)
     (fault : Option Fault) : Type 0 where
@@ -217,7 +219,7 @@ IsReported (Some why) before after status =
     ⊎ IsWritten before (codes "Out of memory.\n") after)
 
 -- the outcome of a job, which is reported
-pub record IsWalkRun (Facts : (host : List ℕ) → (port tries : ℕ) → Walker
+pub record IsWalkRun (Facts : (host : List ℕ) → (port seconds tries : ℕ) → Walker
     → (given refused : List VarBind) → WalkEnd → Type 0)
     (faults : Faults) (bulk : Bool) (words : WalkWords) (files : Holdings)
     (out_before out_after err_before err_after : Stream) (status : ℕ) : Type 0 where

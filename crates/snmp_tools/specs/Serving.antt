@@ -29,8 +29,9 @@ reported_as word serve.no_output = ended word (ending.Sink sink.Output)
 reported_as word serve.no_memory = out_of_memory
 
 -- the outcome of the words of snmpd, which is reported
-pub record IsServeRun (Serves : Agent → ℕ → Served → Type 0) (faults : Faults) (words : ServeWords)
-    (files : Holdings) (out_before out_after err_before err_after : Stream) (status : ℕ) : Type 0
+pub record IsServeRun (Serves : (host : List ℕ) → (port : ℕ) → Agent → ℕ → Served → Type 0)
+    (faults : Faults) (words : ServeWords) (files : Holdings)
+    (out_before out_after err_before err_after : Stream) (status : ℕ) : Type 0
   where
     pub fault : Option ServeFault
     pub outcome : IsServeOutcome Serves faults words files out_before out_after fault

@@ -76,7 +76,8 @@ pub fn tool<F: Files, L: Links, O: Output, E: Output>(
         (O.stream out.old) (O.stream out.new) (E.stream err.old) (E.stream err.new) result }
     ensures served { (w : ServeWords) → is_taken (texts_at words.now) ≡ true
         → stated_job (texts_at words.now) ≡ Some (snmpd w)
-        → IsServeRun (AtDoor L.serves) (risen (L.fault_count links.old) (L.fault_count links.new))
+        → IsServeRun (AtDoor (L.binds links.old) L.serves)
+        (risen (L.fault_count links.old) (L.fault_count links.new))
         w (F.text_at files.now) (O.stream out.old) (O.stream out.new)
         (E.stream err.old) (E.stream err.new) result }
     ensures help_or_mistake { AreFaulty (texts_at words.now)

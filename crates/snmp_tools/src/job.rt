@@ -73,7 +73,8 @@ pub fn run_job<F: Files, L: Links, O: Output, E: Output>(
         → GetEndsAtStatus0 words (F.text_at files.now)
         (O.stream out.old) (O.stream out.new) (E.stream err.old) (E.stream err.new) result }
     ensures served { (words : ServeWords) → job_words job.now ≡ snmpd words
-        → IsServeRun (AtDoor L.serves) (risen (L.fault_count links.old) (L.fault_count links.new))
+        → IsServeRun (AtDoor (L.binds links.old) L.serves)
+        (risen (L.fault_count links.old) (L.fault_count links.new))
         words (F.text_at files.now) (O.stream out.old) (O.stream out.new)
         (E.stream err.old) (E.stream err.new) result }
 {

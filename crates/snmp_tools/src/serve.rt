@@ -24,7 +24,7 @@ pub(crate) fn do_serve<F: Files, L: Links, O: Output, E: Output>(
     out: &mut O,
     err: &mut E,
 ) -> u8
-    ensures { IsServeRun (AtDoor L.serves)
+    ensures { IsServeRun (AtDoor (L.binds links.old) L.serves)
         (risen (L.fault_count links.old) (L.fault_count links.new))
         (serve_words job.now) (F.text_at files.now) (O.stream out.old) (O.stream out.new)
         (E.stream err.old) (E.stream err.new) result }

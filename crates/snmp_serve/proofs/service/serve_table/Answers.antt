@@ -17,8 +17,8 @@ returns-in-Err-table_at-clause-failed g c =
 pub returns-clause-done : goal.returns-clause-done
 returns-clause-done g c = on_ok_weaker c.serve_at.result (λ h. ran _ (record {
   short_community = c.in-Ok.ensures.short_community;
-  host = _;
-  port = _;
+  host = c.in-Ok.place.host.now;
+  port = c.in-Ok.place.port;
   place = c.in-Ok.ensures.place;
   table = c.in-Ok-table_at.ensures.table;
 }) h) c.serve_at.ensures.done
@@ -26,8 +26,8 @@ returns-clause-done g c = on_ok_weaker c.serve_at.result (λ h. ran _ (record {
 pub returns-clause-failed : goal.returns-clause-failed
 returns-clause-failed g c = IfErr-weaker c.serve_at.result _ _ (λ e h. ran _ (record {
   short_community = c.in-Ok.ensures.short_community;
-  host = _;
-  port = _;
+  host = c.in-Ok.place.host.now;
+  port = c.in-Ok.place.port;
   place = c.in-Ok.ensures.place;
   table = c.in-Ok-table_at.ensures.table;
 }) h) c.serve_at.ensures.failed
