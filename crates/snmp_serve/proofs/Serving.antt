@@ -1,5 +1,5 @@
 -- Why nothing is served, and what is printed where something is.
-use Rattle.std.proofs.Common.{◌≡◌, ◌<◌, ◌≤◌, ◌⊎◌, inl, inr, refl, subst, ℕ, List, [], ◌∷◌, Option, None, length}
+use Rattle.std.proofs.Common.{◌≡◌, ◌<◌, ◌≤◌, ◌⊎◌, ◌+◌, inl, inr, refl, subst, ℕ, List, [], ◌∷◌, Option, None, length}
 use Rattle.snmp_agent.specs.Reply.{Agent}
 use Rattle.snmp_agent.specs.declared.server.Served.{Served}
 use Rattle.snmp_io.specs.Files.{Holdings}
@@ -48,15 +48,17 @@ table_fails words files host port why short place (inr fails) = inr (record {
 -- the counts weren't printed, or only a front of them
 pub counts_stop : (Serves : Agent → ℕ → Served → Type 0) (words : ServeWords) (view : MibView) (before middle after : Stream)
     (served : Served) (fault : Option ServeFault) → Serves (served_agent words view) words.turns served
+    → served.replies + served.dropped + served.idle + served.faults ≡ words.turns
     → middle ≡ extended before (listening_line words.listen) → StopsAtLine middle (counts_line served) after fault
     → IsServedAndCounted Serves words view (extended before (listening_line words.listen)) after fault
-counts_stop Serves words view before middle after served fault serves is stops =
-    (served, serves, inr (subst (λ (s : Stream). StopsAtLine s (counts_line served) after fault) is stops))
+counts_stop Serves words view before middle after served fault serves adds_up is stops =
+    (served, serves, adds_up, inr (subst (λ (s : Stream). StopsAtLine s (counts_line served) after fault) is stops))
 
 -- the counts were printed
 pub counts_told : (Serves : Agent → ℕ → Served → Type 0) (words : ServeWords) (view : MibView) (before middle after : Stream)
     (served : Served) → Serves (served_agent words view) words.turns served
+    → served.replies + served.dropped + served.idle + served.faults ≡ words.turns
     → middle ≡ extended before (listening_line words.listen) → after ≡ extended middle (counts_line served)
     → IsServedAndCounted Serves words view (extended before (listening_line words.listen)) after None
-counts_told Serves words view before middle after served serves is told =
-    (served, serves, inl (subst (λ (s : Stream). after ≡ extended s (counts_line served)) is told, refl))
+counts_told Serves words view before middle after served serves adds_up is told =
+    (served, serves, adds_up, inl (subst (λ (s : Stream). after ≡ extended s (counts_line served)) is told, refl))

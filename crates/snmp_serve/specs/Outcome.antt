@@ -1,5 +1,5 @@
 -- What snmpd prints, and why it ends.
-use Rattle.std.specs.Prelude.{◌≡◌, ◌⊎◌, ◌++◌, ℕ, List, Option, Some, None, codes, decimal}
+use Rattle.std.specs.Prelude.{◌≡◌, ◌⊎◌, ◌+◌, ◌++◌, ℕ, List, Option, Some, None, codes, decimal}
 use Rattle.snmp_agent.specs.Reply.{Agent}
 use Rattle.snmp_agent.specs.declared.server.Served.{Served}
 use Rattle.snmp_io.specs.Count.{HasRisen}
@@ -37,12 +37,13 @@ StopsAtLine before line after fault =
     ((after ≡ before) × (fault ≡ Some no_memory))
     ⊎ (FailsWithin before line after × (fault ≡ Some no_output))
 
--- The line of the counts follows that of the place. `Serves agent turns served` says what may have
--- been served.
+-- The line of the counts, which add up to the turns, follows that of the place. `Serves agent turns
+-- served` says what may have been served.
 abbrev pub IsServedAndCounted : (Serves : Agent → ℕ → Served → Type 0) → ServeWords → MibView
     → (before after : Stream) → Option ServeFault → Type 0
 IsServedAndCounted Serves words view before after fault =
     (served : Served) × Serves (served_agent words view) words.turns served
+    × (served.replies + served.dropped + served.idle + served.faults ≡ words.turns)
     × (((after ≡ extended before (counts_line served)) × (fault ≡ None))
     ⊎ StopsAtLine before (counts_line served) after fault)
 

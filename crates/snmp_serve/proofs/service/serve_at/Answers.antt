@@ -11,7 +11,7 @@ returns-clause-done g c =
     let words = serve_words c.args.job.now in
     let community : c.as_bytes.result.now ≡ words.community = c.as_bytes.ensures.value in
     let serves : AtDoor (g.L.Links.binds c.args.links.now) g.L.Links.serves c.args.place.host.now c.args.place.port
-        (served_agent words c.args.table.now) words.turns c.serve-served.result = (
+    (served_agent words c.args.table.now) words.turns c.serve-served.result = (
       c.in-Ok.door,
       c.in-Ok.ensures.bound,
       subst (λ (t : List ℕ). g.L.Links.serves c.in-Ok.door (record {
@@ -22,14 +22,14 @@ returns-clause-done g c =
     ) in
     on_ok_weaker c.print_counts.result (λ h. inr (inr (counts_told
     (AtDoor (g.L.Links.binds c.args.links.now) g.L.Links.serves c.args.place.host.now c.args.place.port) words c.args.table.now _ _ _ _
-    serves c.in-Ok-print_place.ensures.done h))) c.print_counts.ensures.done
+    serves c.serve-served.ensures.adds_up c.in-Ok-print_place.ensures.done h))) c.print_counts.ensures.done
 
 pub returns-clause-failed : goal.returns-clause-failed
 returns-clause-failed g c =
     let words = serve_words c.args.job.now in
     let community : c.as_bytes.result.now ≡ words.community = c.as_bytes.ensures.value in
     let serves : AtDoor (g.L.Links.binds c.args.links.now) g.L.Links.serves c.args.place.host.now c.args.place.port
-        (served_agent words c.args.table.now) words.turns c.serve-served.result = (
+    (served_agent words c.args.table.now) words.turns c.serve-served.result = (
       c.in-Ok.door,
       c.in-Ok.ensures.bound,
       subst (λ (t : List ℕ). g.L.Links.serves c.in-Ok.door (record {
@@ -40,4 +40,4 @@ returns-clause-failed g c =
     ) in
     IfErr-weaker c.print_counts.result _ _ (λ e h. inr (inr (counts_stop
     (AtDoor (g.L.Links.binds c.args.links.now) g.L.Links.serves c.args.place.host.now c.args.place.port) words c.args.table.now _ _ _ _ _
-    serves c.in-Ok-print_place.ensures.done h))) c.print_counts.ensures.stopped
+    serves c.serve-served.ensures.adds_up c.in-Ok-print_place.ensures.done h))) c.print_counts.ensures.stopped
