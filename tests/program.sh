@@ -40,7 +40,7 @@ same() {
 }
 
 # expect STATUS OUTPUT MESSAGES WORD..; with `target` or `errors` before it, output or messages go there, and
-# with `limit` the program may take so many kibibytes of memory.
+# with `limit` the program may take so many kibibytes of memory, and with `stack` of stack.
 expect() {
     local status=$1 output=$2 messages=$3 ended wrote said
     shift 3
@@ -48,6 +48,7 @@ expect() {
     : >"$got/err"
     (
         [ -z "${limit:-}" ] || ulimit -v "$limit"
+        [ -z "${stack:-}" ] || ulimit -s "$stack"
         exec timeout 60 "$program" "$@" >"${target:-$got/out}" 2>"${errors:-$got/err}" </dev/null
     )
     ended=$?
@@ -433,6 +434,13 @@ truncate -s 200M "$got/huge"
 limit=100000 refuses 'Out of memory.' snmpwalk "table:$got/huge" .1
 limit=100000 refuses 'Out of memory.' snmptranslate --mib "$got/huge" iso
 limit=100000 refuses 'Out of memory.' snmpd --table "$got/huge" --listen "$place" --turns 0
+
+# a stack of 256 KiB
+stack=256 expect 0 "$three" '' snmpwalk -On table:three.tab $e.1
+stack=256 expect 0 "$three" '' snmpbulkwalk -On -Cr50 table:three.tab $e.1
+stack=256 expect 0 "$tiny" "$warnings" snmpwalk --mib tiny.txt table:tiny.tab tiny
+stack=256 expect 0 "$e.1.10.0 = INTEGER: 3" '' snmpget -On table:three.tab $e.1.10.0
+stack=256 expect 0 '.1.3' '' snmptranslate -On .1.3
 
 # outputs
 "$program" snmpwalk --mib tiny.txt table:tiny.tab tiny >"$got/both" 2>&1
