@@ -34,7 +34,7 @@ fn subidentifier_at(octets: &[u8]) -> Result<(u64, &[u8]), BerError>
         [high, low, rest @ ..] if *low < 0x80 => {
             Ok((u64::from(*high % 128) * 128 + u64::from(*low), rest))
         }
-        // An enterprise's number often has three.
+        // An enterprise's number often has three octets.
         [high, mid, low, rest @ ..] if *low < 0x80 => Ok((three_digits(*high, *mid, *low), rest)),
         _ => digits_at(octets),
     }

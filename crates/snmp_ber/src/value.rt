@@ -115,8 +115,8 @@ fn replace_value<'a>(tag: u8, content: &'a [u8], into: &mut ValueRef<'a>)
     }
 }
 
-/// Changes a value to the identifier of this content. It is a function of its own since all octets
-/// of its identifier are set at its beginning.
+/// Changes a value to the identifier of this content. Not inlined: its identifier, of over 500
+/// octets, is set to zeros as the function begins, which the other types are spared.
 #[tactic(auto, unfolding(crate::specs::Reading::typed_value))]
 #[inline(never)]
 fn set_object_id<'a>(content: &'a [u8], into: &mut ValueRef<'a>)

@@ -93,13 +93,13 @@ impl Oid {
         self.set_to_numbers(other.as_slice());
     }
 
-    /// Sets the identifier to these numbers, in place.
+    /// Sets the identifier to these numbers, of which there are at most 128, in place.
     #[inline]
     pub fn set_to_numbers(&mut self, numbers: &[u32])
         requires { length numbers.now ≤ 128 }
         ensures { self.new ≡ numbers.now }
     {
-        // As many take no clearing.
+        // The same count: only the numbers change.
         if self.len() == numbers.len() {
             self.numbers.as_mut_slice().copy_from_slice(numbers);
             return;

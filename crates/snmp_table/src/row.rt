@@ -135,8 +135,8 @@ fn identifier(numbers: &[u32]) -> Oid
     }
 }
 
-/// Changes a value to the identifier of these numbers. It is a function of its own since all octets
-/// of its identifier are set at its beginning.
+/// Changes a value to the identifier of these numbers. Not inlined: its identifier, of over 500
+/// octets, is set to zeros as the function begins, which the other types are spared.
 #[inline(never)]
 fn set_object_id(value: &mut ValueRef<'_>, numbers: &[u32])
     requires { length numbers.now ≤ 128 }

@@ -63,8 +63,8 @@ pub record IsFresh (w : Walker) : Type 0 where
   pub count : w.count ≡ 0
   pub begins : (s : List ℕ) × (w.asked ≡ w.root ++ s)
 
--- The last datagrams sent are the request of w, at most `tries` times: once at least unless the
--- link failed, and just so many times where no reply came.
+-- The last datagrams sent are the request of w, so many times: once at least unless the link failed,
+-- and by each of the `tries` where no reply came.
 pub record IsLastSent (tries : ℕ) (end : WalkEnd) (new : Traffic) (w : Walker) : Type 0 where
   pub earlier : List (List ℕ)
   pub times : ℕ
@@ -83,16 +83,16 @@ abbrev pub rows_read : List Reading → List VarBind
 rows_read [] = []
 rows_read (r ∷ more) = r.rows ++ rows_read more
 
--- each of these datagrams came over the link, and the walk v read them, in turn, as these rows, and
--- is w then
+-- each of these is a datagram that a receive of such a link may bring, and the walk v read them, in
+-- turn, as these rows, and is w then
 abbrev pub AreRead : (List ℕ → Type 0) → Walker → List Reading → Walker → Type 0
 AreRead Comes v [] w = w ≡ v
 AreRead Comes v (r ∷ more) w =
     (u : Walker) × Comes r.datagram × Takes v r.datagram (step.Rows r.rows) u
     × AreRead Comes u more w
 
--- the walk that began as `first` gave just the rows that it read in datagrams that came over the
--- link, and is w then
+-- the walk that began as `first` gave just the rows that it read in datagrams that a receive of such
+-- a link may bring, and is w then
 pub record HasRead (Comes : List ℕ → Type 0) (first w : Walker)
     (given : List VarBind) : Type 0 where
   pub readings : List Reading
@@ -109,9 +109,9 @@ pub record IsWaiting (Comes : List ℕ → Type 0) (Sent : Walker → Type 0) (f
   pub reaches : Reaches Rises Named first w given
   pub sent : Sent w
 
--- The walk that began as `first` gave these rows and ended in this way by a datagram that came over
--- the link: w had given the first of them and was waiting for a reply, and reads the datagram as
--- the other rows and this end.
+-- The walk that began as `first` gave these rows and ended in this way by a datagram that a receive
+-- of such a link may bring: w had given the first of them and was waiting for a reply, and reads the
+-- datagram as the other rows and this end.
 pub record IsReadSo (Comes : List ℕ → Type 0) (Sent : Walker → Type 0) (first : Walker)
     (rows : List VarBind) (end : WalkEnd) : Type 0 where
   pub w : Walker
@@ -125,8 +125,8 @@ pub record IsReadSo (Comes : List ℕ → Type 0) (Sent : Walker → Type 0) (fi
   pub taken : Takes w datagram (step.Last more end) over
 
 -- The walk that began as `first` gave these rows, and the sink refused the next: w had given the
--- first of them and was waiting for a reply, and reads a datagram that came over the link as the
--- other rows, those refused, and perhaps more.
+-- first of them and was waiting for a reply, and reads a datagram that a receive of such a link may
+-- bring as the other rows, those refused, and perhaps more.
 pub record IsRefusedSo (Comes : List ℕ → Type 0) (Sent : Walker → Type 0) (first : Walker)
     (rows refused : List VarBind) : Type 0 where
   pub w : Walker

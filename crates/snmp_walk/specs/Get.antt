@@ -92,8 +92,8 @@ step_of count (Err end) = step.Last [] end
 abbrev pub got_step : List (List ℕ) → Message → Step
 got_step names m = step_of (length names) (answers_of names m)
 
--- The link brought this reply to the Get: a Response of its community and id, in a datagram that
--- came over the link, and over an honest link the Response of one of the agents to it.
+-- This is a reply to the Get: a Response of its community and id, in a datagram that a receive of
+-- such a link may bring, and over an honest link the Response of one of the agents to it.
 abbrev pub IsBrought : (Comes : List ℕ → Type 0) → Agents → (honest : Type 0) → List ℕ → ℕ
     → List (List ℕ) → Message → Type 0
 IsBrought Comes agents honest community id names m =

@@ -73,6 +73,7 @@ impl<'a> MemoryLink<'a> {
         ensures no_fault { result.fault_count ≡ 0 }
         ensures honest { IsHonest result }
     {
+        // Each table is a MIB view: what the link's honesty rests on.
         'tables: for table in tables {
             table.is_mib_view();
         }
