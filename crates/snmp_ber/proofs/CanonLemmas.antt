@@ -1,5 +1,5 @@
 -- Numbers as octets, and how long an encoding is.
-use Rattle.std.proofs.Common.{true, false, ◌≡◌, ℕ, ◌+◌, ◌-◌, ◌*◌, ◌/◌, ◌%◌, ◌^◌, ◌<◌, ◌≤◌, ℤ, pos, negsuc, lit<, suc, zero, List, [], ◌∷◌, length, set, refl}
+use Rattle.std.proofs.Common.{true, false, ◌≡◌, ℕ, ◌+◌, ◌-◌, ◌*◌, ◌/◌, ◌%◌, ◌^◌, ◌<◌, ◌≤◌, ℤ, pos, negsuc, lit<, suc, zero, List, ◌∷◌, length, set, refl}
 use Rattle.std.proofs.Common.{sym, ap, subst, ◌∙◌, sub-one, pow-add, ⊎_elim, nat_lt, if◌then◌else◌, arith}
 use Rattle.std.proofs.Math.Nat.{add-mul-div_left, add-mul-mod_self_left, div-div-eq-div-mul, div-one, mul_assoc, mul-suc, one-le-pow, pow-suc, pow-zero}
 use lib.Signed.{lt_z}
@@ -11,6 +11,7 @@ use Rattle.std.proofs.lemmas.Bool.Decides.{nat_tests}
 use Rattle.std.proofs.lemmas.Nat.{le_or_l, le_or_r}
 use Rattle.std.specs.Int.Bits.{bit_or}
 use Rattle.snmp_ber.specs.Canon.{canon_length, canon_number, digit_count, length_size, magnitude_of, number_size, octets, septets}
+use Rattle.snmp_ber.specs.ElementLaws.{canon_length_short, header_short}
 use Rattle.snmp_ber.specs.Writing.{Writes}
 use Rattle.snmp_ber.proofs.WritingLemmas.{writes_none, writes_octet}
 
@@ -188,17 +189,9 @@ pub octets_from_zero : (n : ℕ) → octets (number_size n) n ≡ canon_number (
 unfolding canon_number
 octets_from_zero n = refl
 
--- how long a length is
-pub canon_length_short : (n : ℕ) → n < 128 → canon_length n ≡ n ∷ []
-unfolding canon_length
-canon_length_short n h = grind (arith, nat_tests)
-
 pub canon_length_long : (n : ℕ) → 128 ≤ n → canon_length n ≡ (128 + length_size n) ∷ octets (length_size n) n
 unfolding canon_length
 canon_length_long n h = grind (arith, nat_tests)
-
-pub header_short : (n : ℕ) → n < 128 → 1 + length (canon_length n) ≡ 2
-header_short n h = ap (λ octets. 1 + length octets) (canon_length_short n h)
 
 pub header_long : (n : ℕ) → 128 ≤ n → 1 + length (canon_length n) ≡ 2 + length_size n
 header_long n h =

@@ -11,7 +11,7 @@ use Rattle.snmp_ber.specs.Number.{number_of}
 use Rattle.snmp_ber.specs.Identifier.{IsSubidentifier, AreSubidentifiers, IsObjectId}
 use Rattle.snmp_ber.specs.Reading.{◌>>=◌, largest_subidentifier, subidentifier_from, subidentifier_at, number_at, numbers_of, first_number, second_number}
 use Rattle.snmp_ber.specs.Reading.{identifier_of}
-use Rattle.snmp_ber.proofs.ReadingLemmas.{done, ok_is, bind_ok, chosen, passed, refused}
+use Rattle.snmp_ber.specs.ReadingLaws.{done, ok_is, bind_ok, chosen, passed, refused}
 use Rattle.snmp_ber.proofs.IdentifierLemmas.{numbers_step}
 
 -- ---- subidentifiers

@@ -10,7 +10,7 @@ use Rattle.snmp_ber.specs.declared.error.BerError.{BerError}
 use Rattle.snmp_ber.specs.declared.error.BerError.TheVariants as error
 use Rattle.snmp_ber.specs.Reading.{◌>>=◌, checked, largest_subidentifier, subidentifier_from, subidentifier_at, number_at, numbers_of, numbers_in, IsPlainFront}
 use Rattle.snmp_ber.proofs.KnownLemmas.{first_ok}
-use Rattle.snmp_ber.proofs.ReadingLemmas.{done, failed, ok_is, checked_err, is_ok_at}
+use Rattle.snmp_ber.specs.ReadingLaws.{done, failed, ok_is, checked_err, is_ok_at}
 
 -- ---- the loop over the octets of a subidentifier
 

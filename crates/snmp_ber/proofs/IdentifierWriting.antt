@@ -7,11 +7,10 @@ use Rattle.snmp_oid.specs.Identifier.{IsWire}
 use Rattle.snmp_ber.specs.Canon.{digit_count, canon_content, canon_subidentifier, septets, subidentifier_size}
 use Rattle.snmp_ber.specs.Value.{object_id}
 use Rattle.snmp_ber.specs.Writing.{Writes}
-use Rattle.snmp_ber.proofs.CanonLemmas.{count_left, count_taken, digit_most, digit_some, length-septets, septets-suc}
-use Rattle.snmp_ber.proofs.ListWriting.{flat_map-drop, flat_map_rest, length-flat_map_drop}
+use Rattle.snmp_ber.proofs.CanonLemmas.{count_left, count_taken, digit_most, digit_some, length-septets, septets-suc, below_128}
+use Rattle.snmp_ber.specs.WritingLaws.{flat_map-drop, flat_map_rest, length-flat_map_drop, writes_same, writes_then}
 use Rattle.std.specs.Int.Bits.{bit_or}
-use Rattle.snmp_ber.proofs.CanonLemmas.{below_128}
-use Rattle.snmp_ber.proofs.WritingLemmas.{writes_none, writes_octet, writes_same, writes_then}
+use Rattle.snmp_ber.proofs.WritingLemmas.{writes_none, writes_octet}
 
 -- one digit to the base 128 before those that are written
 pub writes_septet : (old out : List ℕ) (at end n rest : ℕ) → Writes old at end (septets (end - at) n) out → rest ≡ n / 128 ^ (end - at) → 0 < at → at ≤ end

@@ -6,16 +6,12 @@ use Rattle.std.proofs.lemmas.Grind.{common_steps}
 use Rattle.snmp_ber.specs.declared.error.BerError.{BerError}
 use Rattle.snmp_ber.specs.declared.error.BerError.TheVariants as error
 use Rattle.snmp_ber.specs.Reading.{◌>>=◌, subidentifier_from, subidentifier_at, number_at}
-use Rattle.snmp_ber.proofs.ReadingLemmas.{done, passed, refused, ok_value}
+use Rattle.snmp_ber.specs.ReadingLaws.{done, passed, refused, ok_value}
 
 -- the first step of what is right
 pub first_ok : {A B : Type 0} (r : Result A BerError) (f : A → Result B BerError) → IsOk (r >>= f) → IsOk r
 first_ok (Ok x) f h = refl
 first_ok (Err d) f h = absurd cc
-
-pub never_err : {A : Type 0} (r : Result A BerError) (e : BerError) → IsOk r → r ≡ Err e → ⊥
-never_err (Ok x) e h f = cc
-never_err (Err d) e h f = absurd cc
 
 -- ---- subidentifiers
 

@@ -5,12 +5,9 @@ pub mod IdentifierLaws
 pub mod IdentifierLemmas
 pub mod IdentifierWriting
 pub mod KnownLemmas
-pub mod LengthLemmas
 pub mod LenientValues
-pub mod ListWriting
 pub mod NumberLemmas
 pub mod NumberWriting
-pub mod ReadingLemmas
 pub mod ShortNumbers
 pub mod ShortestValues
 pub mod StrictIdentifiers

@@ -7,7 +7,7 @@ use mir.Syntax.{w32}
 use Rattle.snmp_ber.specs.Canon.{canon_number, digit_count, number_size, octets}
 use Rattle.snmp_ber.specs.Writing.{Writes}
 use Rattle.snmp_ber.proofs.CanonLemmas.{digit_some, digits_fit, number_small, octets_from_zero, octets-suc}
-use Rattle.snmp_ber.proofs.WritingLemmas.{writes_same, writes_then}
+use Rattle.snmp_ber.specs.WritingLaws.{writes_same, writes_then}
 
 -- the least number that wants one octet more, as a power of 2
 octet_limit : (m : ℕ) → 2 ^ (8 * m + 7) ≡ 128 * 256 ^ m

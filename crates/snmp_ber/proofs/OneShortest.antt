@@ -15,8 +15,8 @@ use Rattle.snmp_ber.specs.Range.{IsInRange}
 use Rattle.snmp_ber.specs.Spelling.{IsContent, SpellsValue, value_tag}
 use Rattle.snmp_ber.specs.Value.{Datum, integer_value, octet_string, null_value, object_id, ip_address, counter32, gauge32, time_ticks, opaque_octets}
 use Rattle.snmp_ber.specs.Value.{counter64, no_such_object, no_such_instance, end_of_mib_view}
-use Rattle.snmp_ber.proofs.CanonLemmas.{canon_length_long, canon_length_short, length-octets}
-use Rattle.snmp_ber.proofs.ElementLemmas.{length-canon_element}
+use Rattle.snmp_ber.proofs.CanonLemmas.{canon_length_long, length-octets}
+use Rattle.snmp_ber.specs.ElementLaws.{canon_length_short, length-canon_element}
 use Rattle.snmp_ber.proofs.ShortestValues.{Octets, back_octets, below_power, bits_below, content_octets, content_shortest, front_octets, length_rises}
 use Rattle.snmp_ber.proofs.ShortestValues.{length-low_bits, length_shortest, subidentifier_shortest, subidentifiers_shortest}
 use Rattle.snmp_ber.proofs.StrictIdentifiers.{content_is_subidentifiers, is_subidentifier, low_bits, small_subidentifiers, subidentifier_octets}

@@ -10,8 +10,8 @@ use Rattle.snmp_ber.specs.Canon.{AreShort, canon_subidentifier, eight_from, subi
 use Rattle.snmp_ber.specs.Writing.{Writes}
 use Rattle.snmp_ber.proofs.CanonLemmas.{below_128}
 use Rattle.snmp_ber.proofs.IdentifierWriting.{length-numbers_from, subidentifier_short}
-use Rattle.snmp_ber.proofs.ListWriting.{flat_map-drop, flat_map_rest, piece_fits, writes_no_piece, writes_piece}
-use Rattle.snmp_ber.proofs.WritingLemmas.{writes_same, writes_then}
+use Rattle.snmp_ber.specs.WritingLaws.{flat_map-drop, flat_map_rest, piece_fits, writes_piece, writes_same, writes_then}
+use Rattle.snmp_ber.proofs.WritingLemmas.{writes_no_piece}
 
 pub is_below : (n limit : ℕ) → nat_lt n limit ≡ true → n < limit
 is_below n limit e = grind (arith, nat_tests)

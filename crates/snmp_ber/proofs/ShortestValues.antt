@@ -13,9 +13,8 @@ use Rattle.snmp_ber.specs.Value.{Datum, integer_value, octet_string, null_value,
 use Rattle.snmp_ber.specs.Value.{counter64, no_such_object, no_such_instance, end_of_mib_view}
 use Rattle.snmp_ber.specs.Number.{number_of, strict, twos_complement, unsigned}
 use Rattle.snmp_ber.specs.Spelling.{IsContent, SpellsValue, value_tag}
-use Rattle.snmp_ber.proofs.CanonLemmas.{canon_length_long, canon_length_short, count_left, count_taken, digit_some, digits_small, length-canon_number}
-use Rattle.snmp_ber.proofs.CanonLemmas.{length-octets, number_small}
-use Rattle.snmp_ber.proofs.ElementLemmas.{length-canon_element}
+use Rattle.snmp_ber.proofs.CanonLemmas.{canon_length_long, count_left, count_taken, digit_some, digits_small, length-canon_number, length-octets, number_small}
+use Rattle.snmp_ber.specs.ElementLaws.{canon_length_short, length-canon_element}
 use Rattle.snmp_ber.proofs.IdentifierWriting.{length-canon_subidentifier}
 use Rattle.snmp_ber.proofs.StrictNumbers.{minus, negative, positive}
 
@@ -207,5 +206,3 @@ pub value_shortest : (value : Datum) (text : List ℕ) → Octets text → Spell
 unfolding canon_value
 value_shortest value text h is = element_shortest (value_tag value) is.content (canon_content value) text h is.element
     (content_shortest value is.content (content_octets (value_tag value) is.content text h is.element) is.is_content)
-
--- ---- messages

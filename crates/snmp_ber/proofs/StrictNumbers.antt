@@ -13,8 +13,9 @@ use mir.Syntax.{w32}
 use Rattle.snmp_ber.specs.Canon.{canon_length, canon_number, digit_count, length_size, number_size, octets}
 use Rattle.snmp_ber.specs.Length.{IsLength}
 use Rattle.snmp_ber.specs.Number.{AreOctets, IsInteger, IsUnsigned, strict, twos_complement, unsigned}
-use Rattle.snmp_ber.proofs.CanonLemmas.{canon_length_long, canon_length_short, digit_most, digit_some, digits_fit, length-canon_number, length-octets}
+use Rattle.snmp_ber.proofs.CanonLemmas.{canon_length_long, digit_most, digit_some, digits_fit, length-canon_number, length-octets}
 use Rattle.snmp_ber.proofs.CanonLemmas.{number_small, octets_from_zero, octets-suc}
+use Rattle.snmp_ber.specs.ElementLaws.{canon_length_short}
 
 -- ---- numbers
 

@@ -9,7 +9,7 @@ use Rattle.snmp_ber.specs.Number.{AreOctets, strict}
 use Rattle.snmp_ber.specs.Range.{IsInRange}
 use Rattle.snmp_ber.specs.Spelling.{IsContent, SpellsValue, value_tag}
 use Rattle.snmp_ber.proofs.CanonLemmas.{digit_most, length-canon_number}
-use Rattle.snmp_ber.proofs.ElementLemmas.{length-canon_element}
+use Rattle.snmp_ber.specs.ElementLaws.{length-canon_element}
 use Rattle.snmp_ber.proofs.StrictIdentifiers.{is_object_id, length-name, name_octets}
 use Rattle.snmp_ber.proofs.StrictNumbers.{is_integer, is_length, is_unsigned_of, length-canon_length, length_octets, number_octets}
 
@@ -91,7 +91,3 @@ value_octets value h = element_octets (value_tag value) (canon_content value) (t
 pub value_short : (value : Datum) → IsInRange value → length (canon_value value) ≤ 65541
 unfolding canon_value
 value_short value h = omega (arith, element_most (value_tag value) (canon_content value), (good value h).short)
-
--- ---- bindings
-
--- ---- messages

@@ -10,7 +10,7 @@ use Rattle.snmp_ber.specs.Value.{Datum, integer_value, octet_string, null_value,
 use Rattle.snmp_ber.specs.Value.{counter64, no_such_object, no_such_instance, end_of_mib_view}
 use Rattle.snmp_ber.specs.Spelling.{value_tag, IsContent}
 use Rattle.snmp_ber.specs.Reading.{◌>>=◌, integer_of, has_width, unsigned_of, identifier_of, empty_of, address_of, typed_value}
-use Rattle.snmp_ber.proofs.ReadingLemmas.{done, ok_is, bind_ok, chosen, passed}
+use Rattle.snmp_ber.specs.ReadingLaws.{done, ok_is, bind_ok, chosen, passed}
 use Rattle.snmp_ber.proofs.IdentifierLaws.{identifier_takes, identifier_again}
 
 -- ---- numbers

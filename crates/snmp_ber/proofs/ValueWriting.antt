@@ -4,7 +4,7 @@ use Rattle.std.proofs.lemmas.Int.{to_z-of_z}
 use Rattle.snmp_ber.specs.Canon.{canon_element, canon_header, canon_number, magnitude_of, number_size}
 use Rattle.snmp_ber.specs.Writing.{Writes}
 use Rattle.snmp_ber.proofs.CanonLemmas.{digit_most, length-canon_number}
-use Rattle.snmp_ber.proofs.WritingLemmas.{writes_same}
+use Rattle.snmp_ber.specs.WritingLaws.{writes_same}
 
 pub number_most : (n : ℕ) → number_size n ≤ 9
 unfolding number_size

@@ -1,12 +1,9 @@
--- What writers leave, one after the other from the back to the front.
-use Rattle.std.proofs.Common.{◌≡◌, ℕ, ◌+◌, ◌-◌, ◌<◌, ◌≤◌, List, [], ◌∷◌, ◌++◌, length, take, drop, set, refl, sym, ap, subst, ◌∙◌, arith, append_assoc}
-use Rattle.std.proofs.Common.{length-append}
-use Rattle.std.proofs.lemmas.List.{take-take, take-set, drop-set, length-take-le, drop_at, take_at}
+-- What writers leave: nothing, an octet more, a text.
+use Rattle.std.proofs.Common.{◌≡◌, ℕ, ◌+◌, ◌-◌, ◌<◌, ◌≤◌, List, [], ◌∷◌, ◌++◌, length, take, drop, set, refl, sym, ap, ◌∙◌, arith}
+use Rattle.std.proofs.lemmas.List.{take-set, drop-set, drop_all, length-take-le, drop_at, take_at}
+use Rattle.std.specs.List.{flat_map}
 use Rattle.snmp_ber.specs.Writing.{Writes}
-
--- the front stays as it was, and so does each front of it
-kept : (k start : ℕ) (old new : List ℕ) → k ≤ start → take start new ≡ take start old → take k new ≡ take k old
-kept k start old new h e = sym (take-take k start new h) ∙ ap (take k) e ∙ take-take k start old h
+use Rattle.snmp_ber.specs.WritingLaws.{kept, writes_same}
 
 -- nothing written
 pub writes_none : (old : List ℕ) (end : ℕ) → Writes old end end [] old
@@ -26,15 +23,6 @@ writes_octet {old} {at} {end} {text} {mid} w start octet e h = record {
 pub writes_one : (old : List ℕ) (end octet : ℕ) → 1 ≤ end → end ≤ length old → Writes old (end - 1) end (octet ∷ []) (set old (end - 1) octet)
 writes_one old end octet some within = writes_octet (writes_none old end) (end - 1) octet (omega arith) within
 
--- one text before another
-pub writes_then : {old : List ℕ} {start middle end : ℕ} {front back mid new : List ℕ} → Writes old middle end back mid → Writes mid start middle front new
-    → Writes old start end (front ++ back) new
-writes_then {old} {start} {middle} {end} {front} {back} {mid} {new} w v = record {
-  begins = omega (arith, length-append front back, w.begins, v.begins);
-  before = v.before ∙ kept start middle old mid (omega (arith, v.begins)) w.before;
-  after = v.after ∙ ap (λ rest. front ++ rest) w.after ∙ sym (append_assoc front back (drop end old));
-}
-
 -- a text copied into its place
 pub writes_copy : (old text : List ℕ) (start end : ℕ) → start + length text ≡ end → end ≤ length old
     → Writes old start end text (take start old ++ (text ++ drop end old))
@@ -44,6 +32,6 @@ writes_copy old text start end e h = record {
   after = drop_at (take start old) (text ++ drop end old) start (length-take-le start old (omega arith));
 }
 
--- the text under another name
-pub writes_same : {old : List ℕ} {start end : ℕ} {text new other : List ℕ} → Writes old start end text new → text ≡ other → Writes old start end other new
-writes_same {old} {start} {end} {text} {new} {other} w e = subst (λ (t : List ℕ). Writes old start end t new) e w
+-- of pieces, one for each element of a list, nothing is written where nothing is left
+pub writes_no_piece : {X : Type 0} (f : X → List ℕ) (xs : List X) (out : List ℕ) (end : ℕ) → Writes out end end (flat_map f (drop (length xs) xs)) out
+writes_no_piece f xs out end = writes_same (writes_none out end) (sym (ap (flat_map f) (drop_all (length xs) xs (omega arith))))

@@ -175,7 +175,3 @@ typed_value tag content =
     else (if tag == 0x81 then empty_of no_such_instance content
     else (if tag == 0x82 then empty_of end_of_mib_view content
     else Err error.Tag))))))))))))
-
--- ---- bindings
-
--- ---- messages

@@ -7,8 +7,8 @@ use Rattle.snmp_ber.specs.Value.{Datum}
 use Rattle.snmp_wire.specs.Message.{VarBind}
 use Rattle.snmp_ber.specs.Reading.{◌>>=◌, checked, inner_at, identifier_of, typed_value}
 use Rattle.snmp_wire.specs.Reading.{Fields, fields_of, fields_at, binding_of, binding_at, bindings_within, bindings_of, bindings_in}
-use Rattle.snmp_ber.proofs.ReadingLemmas.{ok_is, bind_ok, bind_same, ok_value, is_ok_at, checked_err, err_checked, ok_checked}
-use Rattle.snmp_ber.proofs.LengthLemmas.{inner_takes, element_shrinks}
+use Rattle.snmp_ber.specs.ReadingLaws.{ok_is, bind_ok, bind_same, ok_value, is_ok_at, checked_err, err_checked, ok_checked}
+use Rattle.snmp_ber.specs.LengthLaws.{inner_takes, element_shrinks}
 
 -- a binding has octets of its own
 pub fields_shrink : (octets : List ℕ) (x : Fields × List ℕ) → fields_at octets ≡ Ok x → length x.1 < length octets

@@ -8,9 +8,8 @@ use Rattle.snmp_wire.specs.Message.{VarBind, var_bind, var_binds}
 use Rattle.snmp_ber.specs.Value.{object_id}
 use Rattle.snmp_ber.specs.Spelling.{sequence_tag}
 use Rattle.snmp_ber.specs.Writing.{Writes}
-use Rattle.snmp_ber.proofs.CanonLemmas.{header_short}
-use Rattle.snmp_ber.proofs.ElementLemmas.{content_fits, element_size, header_fits, sizes_value, writes_element}
-use Rattle.snmp_ber.proofs.WritingLemmas.{writes_same, writes_then}
+use Rattle.snmp_ber.specs.ElementLaws.{header_short, content_fits, element_size, header_fits, sizes_value, writes_element}
+use Rattle.snmp_ber.specs.WritingLaws.{writes_same, writes_then}
 
 pub binding_is : (binding : VarBind) → canon_binding binding ≡ canon_element sequence_tag (canon_value (object_id binding.name) ++ canon_value binding.value)
 unfolding canon_binding

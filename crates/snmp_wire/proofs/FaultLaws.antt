@@ -21,9 +21,9 @@ use Rattle.snmp_wire.specs.Reading.{Fields, fields_of, fields_at, binding_of, bi
 use Rattle.snmp_wire.specs.Reading.{message_of}
 use Rattle.snmp_wire.specs.Fault.{BeginsWith, EndsEarly, HasForbiddenLength, Place, at_message, at_version, at_community, at_pdu, at_id, at_a, at_b, at_list}
 use Rattle.snmp_wire.specs.Fault.{at_binding, at_name, at_value, first_inside, next_behind, AllowsTag, Expects, starts, inside, behind, IsFault}
-use Rattle.snmp_ber.proofs.ReadingLemmas.{done, failed, ok_is, bind_ok, bind_err, chosen, passed}
-use Rattle.snmp_ber.proofs.LengthLemmas.{TakesElement, length_takes, content_takes, inner_takes, element_takes}
-use Rattle.snmp_ber.proofs.ValueLaws.{value_again, value_takes}
+use Rattle.snmp_ber.specs.ReadingLaws.{done, failed, ok_is, bind_ok, bind_err, chosen, passed}
+use Rattle.snmp_ber.specs.LengthLaws.{TakesElement, length_takes, content_takes, inner_takes, element_takes}
+use Rattle.snmp_ber.specs.Laws.{ContentReading}
 use Rattle.snmp_wire.proofs.BindingLemmas.{with_rest, binding_shrinks}
 use Rattle.snmp_wire.proofs.MessageLaws.{integer_at_takes, binding_takes, kind_takes, kind_again, outermost_takes}
 
@@ -373,10 +373,10 @@ value_fails tag content =
     λ e h. inr (err_is {A = Datum} error.Tag e h))))))))))))))
 
 -- what is an error isn't a value's content
-not_content : (tag : ℕ) (content : List ℕ) (e : BerError) → typed_value tag content ≡ Err e → (value : Datum) → tag ≡ value_tag value
+not_content : (reading : ContentReading) (tag : ℕ) (content : List ℕ) (e : BerError) → typed_value tag content ≡ Err e → (value : Datum) → tag ≡ value_tag value
     → IsContent lenient value content → ⊥
-not_content tag content e h value is is_content =
-    let both : done value ≡ failed e = sym (value_again value content is_content) ∙ ap (λ (t : ℕ). typed_value t content) (sym is) ∙ h in
+not_content reading tag content e h value is is_content =
+    let both : done value ≡ failed e = sym (reading.content_is_read value content is_content) ∙ ap (λ (t : ℕ). typed_value t content) (sym is) ∙ h in
     cc
 
 -- ---- values, bindings and their parts
@@ -385,11 +385,12 @@ element_tag : (tag : ℕ) (content here after : List ℕ) → BeginsWith tag con
 element_tag tag content here after begins =
     ((begins.is_element.length_octets ++ content) ++ after, begins.parts ∙ ap (λ (o : List ℕ). o ++ after) begins.is_element.parts)
 
-value_faults : (octets here : List ℕ) (tag : ℕ) (content after : List ℕ) (e : BerError) → Expects octets at_value here → BeginsWith tag content here after
+value_faults : (reading : ContentReading) (octets here : List ℕ) (tag : ℕ) (content after : List ℕ) (e : BerError) → Expects octets at_value here
+    → BeginsWith tag content here after
     → typed_value tag content ≡ Err e → IsFault e octets
-value_faults octets here tag content after e stands begins h =
+value_faults reading octets here tag content after e stands begins h =
     elim (value_fails tag content e h) [
-      | inl at_content ↦ bad_content octets at_value here tag content after e stands refl at_content.1 begins (not_content tag content e h) at_content.0
+      | inl at_content ↦ bad_content octets at_value here tag content after e stands refl at_content.1 begins (not_content reading tag content e h) at_content.0
       | inr at_tag ↦
           let t = element_tag tag content here after begins in
           let bad : AllowsTag at_value tag → ⊥ = λ allowed.
@@ -399,18 +400,19 @@ value_faults octets here tag content after e stands begins h =
           bad_tag octets at_value tag t.0 e (subst (λ (o : List ℕ). Expects octets at_value o) t.1 stands) bad at_tag
     ]
 
-name_faults : (octets here content after : List ℕ) (e : BerError) → Expects octets at_name here → BeginsWith 0x06 content here after
+name_faults : (reading : ContentReading) (octets here content after : List ℕ) (e : BerError) → Expects octets at_name here → BeginsWith 0x06 content here after
     → identifier_of content ≡ Err e → IsFault e octets
 unfolding typed_value
-name_faults octets here content after e stands begins h =
+name_faults reading octets here content after e stands begins h =
     let read : typed_value 0x06 content ≡ Err e = rw h refl in
-    bad_content octets at_name here 0x06 content after e stands refl refl begins (not_content 0x06 content e read) (identifier_fails content e h)
+    bad_content octets at_name here 0x06 content after e stands refl refl begins (not_content reading 0x06 content e read) (identifier_fails content e h)
 
 -- a place of an INTEGER
-integer_faults : (octets : List ℕ) (place : Place) (here : List ℕ) (e : BerError) → Expects octets place here → place ≢ at_message → first_inside place ≡ None
+integer_faults : (reading : ContentReading) (octets : List ℕ) (place : Place) (here : List ℕ) (e : BerError) → Expects octets place here
+    → place ≢ at_message → first_inside place ≡ None
     → ((found : ℕ) → AllowsTag place found → found ≡ 0x02) → AllowsTag place 0x02 → integer_at here ≡ Err e → IsFault e octets
 unfolding integer_at typed_value
-integer_faults octets place here e stands inner is_value only allowed h =
+integer_faults reading octets place here e stands inner is_value only allowed h =
     elim (bind_err (inner_at 0x02 here) (λ element. integer_of element.0 >>= λ z. Ok (z, element.1)) e h) [
       | inl first ↦ inner_faults octets place 0x02 here e stands inner only first
       | inr x ↦
@@ -418,13 +420,15 @@ integer_faults octets place here e stands inner is_value only allowed h =
           elim (bind_err (integer_of x.0.0) (λ z. Ok (z, x.0.1)) e x.2) [
             | inl content ↦
                 let read : typed_value 0x02 x.0.0 ≡ Err e = rw content refl in
-                bad_content octets place here 0x02 x.0.0 x.0.1 e stands is_value allowed begins (not_content 0x02 x.0.0 e read) (integer_fails x.0.0 e content)
+                bad_content octets place here 0x02 x.0.0 x.0.1 e stands is_value allowed begins (not_content reading 0x02 x.0.0 e read)
+                (integer_fails x.0.0 e content)
             | inr z ↦ absurd (let both : done (z.0, x.0.1) ≡ failed e = z.2 in cc)
           ]
     ]
 
-integer_begins : (here : List ℕ) (x : ℤ × List ℕ) → integer_at here ≡ Ok x → (content : List ℕ) × BeginsWith 0x02 content here x.1
-integer_begins here x h = let t = integer_at_takes here x h in (t.spells.content, record { element = t.text; is_element = t.spells.element; parts = t.parts })
+integer_begins : (reading : ContentReading) (here : List ℕ) (x : ℤ × List ℕ) → integer_at here ≡ Ok x → (content : List ℕ) × BeginsWith 0x02 content here x.1
+integer_begins reading here x h =
+    let t = integer_at_takes reading here x h in (t.spells.content, record { element = t.text; is_element = t.spells.element; parts = t.parts })
 
 -- where the parts of a binding stand
 record StandIn (octets : List ℕ) (fields : Fields) : Type 0 where
@@ -456,9 +460,10 @@ fields_stand octets content fields stands h =
       value_begins = begins_with b.0.0 a.0.1 b.0.1 b.0.2 (element_takes a.0.1 b.0 b.1);
     })
 
-fields_fault : (octets content : List ℕ) (e : BerError) → Expects octets at_name content → fields_of content ≡ Err e → IsFault e octets
+fields_fault : (reading : ContentReading) (octets content : List ℕ) (e : BerError) → Expects octets at_name content → fields_of content ≡ Err e
+    → IsFault e octets
 unfolding fields_of
-fields_fault octets content e stands h =
+fields_fault reading octets content e stands h =
     elim (bind_err (inner_at 0x06 content) (λ name. element_at name.1 >>= λ value. cond (eqb (length value.2) 0)
     (Ok (record { name = name.0; tag = value.0; content = value.1 })) (Err (fault_or (typed_value value.0 value.1) error.Content))) e h) [
       | inl name ↦ inner_faults octets at_name 0x06 content e stands (λ is. cc) (λ found allowed. allowed) name
@@ -474,16 +479,16 @@ fields_fault octets content e stands h =
                 let value_begins = begins_with y.0.0 x.0.1 y.0.1 y.0.2 (element_takes x.0.1 y.0 y.1) in
                 elim (fault_of (typed_value y.0.0 y.0.1) error.Content e p.1) [
                   | inl read ↦
-                      let allowed : AllowsTag at_value y.0.0 = (read.0, sym (value_takes y.0.0 y.0.1 read.0 read.1).is_tag) in
+                      let allowed : AllowsTag at_value y.0.0 = (read.0, sym (reading.is_content y.0.0 y.0.1 read.0 read.1).0) in
                       left_over octets at_value x.0.1 y.0.0 y.0.1 y.0.2 e value_stands (λ is. cc) refl allowed value_begins p.0 read.2
-                  | inr bad ↦ value_faults octets x.0.1 y.0.0 y.0.1 y.0.2 e value_stands value_begins bad
+                  | inr bad ↦ value_faults reading octets x.0.1 y.0.0 y.0.1 y.0.2 e value_stands value_begins bad
                 ]
           ]
     ]
 
-binding_faults : (octets here : List ℕ) (e : BerError) → Expects octets at_binding here → binding_at here ≡ Err e → IsFault e octets
+binding_faults : (reading : ContentReading) (octets here : List ℕ) (e : BerError) → Expects octets at_binding here → binding_at here ≡ Err e → IsFault e octets
 unfolding binding_at fields_at binding_of
-binding_faults octets here e stands h =
+binding_faults reading octets here e stands h =
     elim (bind_err (fields_at here) (λ fields. binding_of fields.0 >>= λ binding. Ok (binding, fields.1)) e h) [
       | inl at_fields ↦
           elim (bind_err (inner_at 0x30 here) (λ binding. fields_of binding.0 >>= λ fields. Ok (fields, binding.1)) e at_fields) [
@@ -492,7 +497,7 @@ binding_faults octets here e stands h =
                 let begins = begins_with 0x30 here x.0.0 x.0.1 (inner_takes 0x30 here x.0 x.1) in
                 let name_stands = inside at_binding at_name here 0x30 x.0.0 x.0.1 stands refl begins refl tt in
                 elim (bind_err (fields_of x.0.0) (λ fields. Ok (fields, x.0.1)) e x.2) [
-                  | inl in_content ↦ fields_fault octets x.0.0 e name_stands in_content
+                  | inl in_content ↦ fields_fault reading octets x.0.0 e name_stands in_content
                   | inr y ↦ absurd (let both : done (y.0, x.0.1) ≡ failed e = y.2 in cc)
                 ]
           ]
@@ -507,10 +512,10 @@ binding_faults octets here e stands h =
             | inl in_parts ↦
                 elim (bind_err (identifier_of f.0.0.name) (λ name. typed_value f.0.0.tag f.0.0.content >>= λ value. Ok
                 (record { name = name; value = value })) e in_parts) [
-                  | inl in_name ↦ name_faults octets s.name_here f.0.0.name s.value_here e s.name_stands s.name_begins in_name
+                  | inl in_name ↦ name_faults reading octets s.name_here f.0.0.name s.value_here e s.name_stands s.name_begins in_name
                   | inr n ↦
                       elim (bind_err (typed_value f.0.0.tag f.0.0.content) (λ value. Ok (record { name = n.0; value = value })) e n.2) [
-                        | inl in_value ↦ value_faults octets s.value_here f.0.0.tag f.0.0.content s.after e s.value_stands s.value_begins in_value
+                        | inl in_value ↦ value_faults reading octets s.value_here f.0.0.tag f.0.0.content s.after e s.value_stands s.value_begins in_value
                         | inr v ↦ absurd (let made : VarBind = record { name = n.0; value = v.0 } in let both : done made ≡ failed e = v.2 in cc)
                       ]
                 ]
@@ -518,26 +523,28 @@ binding_faults octets here e stands h =
           ]
     ]
 
-binding_begins : (here : List ℕ) (x : VarBind × List ℕ) → binding_at here ≡ Ok x → (content : List ℕ) × BeginsWith 0x30 content here x.1
-binding_begins here x h = let t = binding_takes here x h in (
+binding_begins : (reading : ContentReading) (here : List ℕ) (x : VarBind × List ℕ) → binding_at here ≡ Ok x
+    → (content : List ℕ) × BeginsWith 0x30 content here x.1
+binding_begins reading here x h = let t = binding_takes reading here x h in (
   t.spells.name ++ t.spells.value,
   record { element = t.text; is_element = t.spells.element; parts = t.parts },
 )
 
-bindings_fault : (octets : List ℕ) (fuel : ℕ) (here : List ℕ) (e : BerError) → length here ≤ fuel → (here ≢ [] → Expects octets at_binding here)
+bindings_fault : (reading : ContentReading) (octets : List ℕ) (fuel : ℕ) (here : List ℕ) (e : BerError) → length here ≤ fuel
+    → (here ≢ [] → Expects octets at_binding here)
     → bindings_within fuel here ≡ Err e → IsFault e octets
 unfolding bindings_within
-bindings_fault octets fuel [] e few stands h = absurd (let both : done {A = List VarBind} [] ≡ failed e = h in cc)
-bindings_fault octets zero (octet ∷ rest) e few stands h = absurd (omega arith)
-bindings_fault octets (suc fuel) (octet ∷ rest) e few stands h =
+bindings_fault reading octets fuel [] e few stands h = absurd (let both : done {A = List VarBind} [] ≡ failed e = h in cc)
+bindings_fault reading octets zero (octet ∷ rest) e few stands h = absurd (omega arith)
+bindings_fault reading octets (suc fuel) (octet ∷ rest) e few stands h =
     let here_stands = stands (some_octets (octet ∷ rest) (omega arith)) in
     elim (bind_err (binding_at (octet ∷ rest)) (with_rest (bindings_within fuel)) e h) [
-      | inl first ↦ binding_faults octets (octet ∷ rest) e here_stands first
+      | inl first ↦ binding_faults reading octets (octet ∷ rest) e here_stands first
       | inr x ↦
-          let b = binding_begins (octet ∷ rest) x.0 x.1 in
+          let b = binding_begins reading (octet ∷ rest) x.0 x.1 in
           let less = binding_shrinks (octet ∷ rest) x.0 x.1 in
           elim (bind_err (bindings_within fuel x.0.1) (λ more. Ok (x.0.0 ∷ more)) e x.2) [
-            | inl others ↦ bindings_fault octets fuel x.0.1 e (omega arith)
+            | inl others ↦ bindings_fault reading octets fuel x.0.1 e (omega arith)
                 (λ some. behind at_binding at_binding (octet ∷ rest) 0x30 b.0 x.0.1 here_stands refl b.1 refl some) others
             | inr y ↦ absurd (let both : done (x.0.0 ∷ y.0) ≡ failed e = y.2 in cc)
           ]
@@ -605,11 +612,12 @@ outermost_faults (tag ∷ rest) e h =
       | inr bad ↦ bad_tag octets at_message tag rest e starts (λ allowed. eqb-false tag 0x30 bad.0 allowed) (err_is {A = List ℕ} error.Tag e bad.1)
     ]
 
-list_faults : (octets : List ℕ) (version : ℤ) (community : List ℕ) (found : Kind) (id a b : ℤ) (here : List ℕ) (e : BerError) → Expects octets at_list here
+list_faults : (reading : ContentReading) (octets : List ℕ) (version : ℤ) (community : List ℕ) (found : Kind) (id a b : ℤ) (here : List ℕ) (e : BerError)
+    → Expects octets at_list here
     → (inner_at 0x30 here >>= λ list. cond (eqb (length list.1) 0) (bindings_of list.0) (Err error.Content) >>= λ bindings. done {A = Message}
     (record { version = version; community = community; kind = found; id = id; a = a; b = b; bindings = bindings })) ≡ Err e → IsFault e octets
 unfolding bindings_of
-list_faults octets version community found id a b here e stands h =
+list_faults reading octets version community found id a b here e stands h =
     elim (bind_err (inner_at 0x30 here) (λ list. cond (eqb (length list.1) 0) (bindings_of list.0) (Err error.Content) >>= λ bindings. done {A = Message}
     (record { version = version; community = community; kind = found; id = id; a = a; b = b; bindings = bindings })) e h) [
       | inl in_list ↦ inner_faults octets at_list 0x30 here e stands (λ is. cc) (λ t allowed. allowed) in_list
@@ -628,7 +636,7 @@ list_faults octets version community found id a b here e stands h =
           })) e list.2) [
             | inl bad ↦
                 elim (chosen (eqb (length list.0.1) 0) (bindings_of list.0.0) (Err error.Content) (Err e) bad) [
-                  | inl in_bindings ↦ bindings_fault octets (length list.0.0) list.0.0 e (omega arith)
+                  | inl in_bindings ↦ bindings_fault reading octets (length list.0.0) list.0.0 e (omega arith)
                       (λ some. inside at_list at_binding here 0x30 list.0.0 list.0.1 stands refl begins refl some) in_bindings.1
                   | inr over ↦ left_over octets at_list here 0x30 list.0.0 list.0.1 e stands (λ is. cc) refl refl begins over.0
                       (err_is {A = List VarBind} error.Content e over.1)
@@ -638,10 +646,11 @@ list_faults octets version community found id a b here e stands h =
           ]
     ]
 
-pdu_faults : (octets : List ℕ) (version : ℤ) (community : List ℕ) (found : Kind) (content : List ℕ) (e : BerError) → Expects octets at_id content
+pdu_faults : (reading : ContentReading) (octets : List ℕ) (version : ℤ) (community : List ℕ) (found : Kind) (content : List ℕ) (e : BerError)
+    → Expects octets at_id content
     → pdu_of version community found content ≡ Err e → IsFault e octets
 unfolding pdu_of bindings_of
-pdu_faults octets version community found content e id_stands h =
+pdu_faults reading octets version community found content e id_stands h =
     elim (bind_err (integer_at content) (λ id. integer_at id.1 >>= λ a. integer_at a.1 >>= λ b. inner_at 0x30 b.1 >>= λ list. cond (eqb (length list.1) 0)
     (bindings_of list.0) (Err error.Content) >>= λ bindings. Ok (record {
       version = version;
@@ -653,9 +662,9 @@ pdu_faults octets version community found content e id_stands h =
           b.0;
       bindings = bindings;
     })) e h) [
-      | inl in_id ↦ integer_faults octets at_id content e id_stands (λ is. cc) refl (λ t allowed. allowed) refl in_id
+      | inl in_id ↦ integer_faults reading octets at_id content e id_stands (λ is. cc) refl (λ t allowed. allowed) refl in_id
       | inr id ↦
-          let id_begins = integer_begins content id.0 id.1 in
+          let id_begins = integer_begins reading content id.0 id.1 in
           let a_stands = behind at_id at_a content 0x02 id_begins.0 id.0.1 id_stands refl id_begins.1 refl tt in
           elim (bind_err (integer_at id.0.1) (λ a. integer_at a.1 >>= λ b. inner_at 0x30 b.1 >>= λ list. cond (eqb (length list.1) 0) (bindings_of list.0)
           (Err error.Content) >>= λ bindings. Ok (record {
@@ -668,9 +677,9 @@ pdu_faults octets version community found content e id_stands h =
                 b.0;
             bindings = bindings;
           })) e id.2) [
-            | inl in_a ↦ integer_faults octets at_a id.0.1 e a_stands (λ is. cc) refl (λ t allowed. allowed) refl in_a
+            | inl in_a ↦ integer_faults reading octets at_a id.0.1 e a_stands (λ is. cc) refl (λ t allowed. allowed) refl in_a
             | inr a ↦
-                let a_begins = integer_begins id.0.1 a.0 a.1 in
+                let a_begins = integer_begins reading id.0.1 a.0 a.1 in
                 let b_stands = behind at_a at_b id.0.1 0x02 a_begins.0 a.0.1 a_stands refl a_begins.1 refl tt in
                 elim (bind_err (integer_at a.0.1) (λ b. inner_at 0x30 b.1 >>= λ list. cond (eqb (length list.1) 0) (bindings_of list.0)
                 (Err error.Content) >>= λ bindings. Ok (record {
@@ -683,10 +692,10 @@ pdu_faults octets version community found content e id_stands h =
                       b.0;
                   bindings = bindings;
                 })) e a.2) [
-                  | inl in_b ↦ integer_faults octets at_b a.0.1 e b_stands (λ is. cc) refl (λ t allowed. allowed) refl in_b
+                  | inl in_b ↦ integer_faults reading octets at_b a.0.1 e b_stands (λ is. cc) refl (λ t allowed. allowed) refl in_b
                   | inr b ↦
-                      let b_begins = integer_begins a.0.1 b.0 b.1 in
-                      list_faults octets version community found id.0.0 a.0.0 b.0.0 b.0.1 e
+                      let b_begins = integer_begins reading a.0.1 b.0 b.1 in
+                      list_faults reading octets version community found id.0.0 a.0.0 b.0.0 b.0.1 e
                       (behind at_b at_list a.0.1 0x02 b_begins.0 b.0.1 b_stands refl b_begins.1 refl tt) b.2
                 ]
           ]
@@ -695,10 +704,10 @@ pdu_faults octets version community found content e id_stands h =
 outermost_begins : (octets content : List ℕ) → outermost_of octets ≡ Ok content → BeginsWith 0x30 content octets []
 outermost_begins octets content h = record { element = octets; is_element = outermost_takes octets content h; parts = sym (append-nil octets) }
 
-whole_pdu_faults : (octets : List ℕ) (version : ℤ) (community here : List ℕ) (e : BerError) → Expects octets at_pdu here
+whole_pdu_faults : (reading : ContentReading) (octets : List ℕ) (version : ℤ) (community here : List ℕ) (e : BerError) → Expects octets at_pdu here
     → (element_at here >>= λ pdu. cond (eqb (length pdu.2) 0) (kind_of pdu.0)
     (Err (fault_or (kind_of pdu.0) error.Content)) >>= λ found. pdu_of version community found pdu.1) ≡ Err e → IsFault e octets
-whole_pdu_faults octets version community here e stands h =
+whole_pdu_faults reading octets version community here e stands h =
     elim (bind_err (element_at here) (λ pdu. cond (eqb (length pdu.2) 0) (kind_of pdu.0)
     (Err (fault_or (kind_of pdu.0) error.Content)) >>= λ found. pdu_of version community found pdu.1) e h) [
       | inl in_pdu ↦ element_faults octets at_pdu here e stands (λ is. cc) in_pdu
@@ -726,13 +735,14 @@ whole_pdu_faults octets version community here e stands h =
             | inr found ↦
                 let p = passed (eqb (length pdu.0.2) 0) (kind_of pdu.0.0) (fault_or (kind_of pdu.0.0) error.Content) found.0 found.1 in
                 let is_kind : AllowsTag at_pdu pdu.0.0 = (found.0, sym (kind_takes pdu.0.0 found.0 p.1)) in
-                pdu_faults octets version community found.0 pdu.0.1 e (inside at_pdu at_id here pdu.0.0 pdu.0.1 pdu.0.2 stands is_kind begins refl tt) found.2
+                pdu_faults reading octets version community found.0 pdu.0.1 e
+                (inside at_pdu at_id here pdu.0.0 pdu.0.1 pdu.0.2 stands is_kind begins refl tt) found.2
           ]
     ]
 
-pub message_faults : (octets : List ℕ) (e : BerError) → message_of octets ≡ Err e → IsFault e octets
+pub message_faults : (reading : ContentReading) (octets : List ℕ) (e : BerError) → message_of octets ≡ Err e → IsFault e octets
 unfolding message_of
-message_faults octets e h =
+message_faults reading octets e h =
     elim (bind_err (outermost_of octets) (λ content. integer_at content >>= λ version. inner_at 0x04 version.1 >>= λ community.
     element_at community.1 >>= λ pdu. cond (eqb (length pdu.2) 0) (kind_of pdu.0)
     (Err (fault_or (kind_of pdu.0) error.Content)) >>= λ found. pdu_of version.0 community.0 found pdu.1) e h) [
@@ -742,9 +752,9 @@ message_faults octets e h =
           elim (bind_err (integer_at content.0) (λ version. inner_at 0x04 version.1 >>= λ community. element_at community.1 >>= λ pdu. cond
           (eqb (length pdu.2) 0) (kind_of pdu.0) (Err (fault_or (kind_of pdu.0) error.Content)) >>= λ found.
           pdu_of version.0 community.0 found pdu.1) e content.2) [
-            | inl in_version ↦ integer_faults octets at_version content.0 e version_stands (λ is. cc) refl (λ t allowed. allowed) refl in_version
+            | inl in_version ↦ integer_faults reading octets at_version content.0 e version_stands (λ is. cc) refl (λ t allowed. allowed) refl in_version
             | inr version ↦
-                let version_begins = integer_begins content.0 version.0 version.1 in
+                let version_begins = integer_begins reading content.0 version.0 version.1 in
                 let community_stands = behind at_version at_community content.0 0x02 version_begins.0 version.0.1 version_stands refl version_begins.1 refl
                 tt in
                 elim (bind_err (inner_at 0x04 version.0.1) (λ community. element_at community.1 >>= λ pdu. cond (eqb (length pdu.2) 0) (kind_of pdu.0)
@@ -752,7 +762,7 @@ message_faults octets e h =
                   | inl in_community ↦ inner_faults octets at_community 0x04 version.0.1 e community_stands (λ is. cc) (λ t allowed. allowed) in_community
                   | inr community ↦
                       let begins = begins_with 0x04 version.0.1 community.0.0 community.0.1 (inner_takes 0x04 version.0.1 community.0 community.1) in
-                      whole_pdu_faults octets version.0.0 community.0.0 community.0.1 e
+                      whole_pdu_faults reading octets version.0.0 community.0.0 community.0.1 e
                       (behind at_community at_pdu version.0.1 0x04 community.0.0 community.0.1 community_stands refl begins refl tt) community.2
                 ]
           ]

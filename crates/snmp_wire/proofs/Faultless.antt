@@ -12,8 +12,8 @@ use Rattle.snmp_wire.specs.Spelling.{SpellsBindings, kind_tag, SpellsPdu, Spells
 use Rattle.snmp_ber.specs.Reading.{element_at}
 use Rattle.snmp_wire.specs.Fault.{BeginsWith, EndsEarly, HasForbiddenLength, Place, at_message, at_version, at_community, at_pdu, at_id, at_a, at_b, at_list}
 use Rattle.snmp_wire.specs.Fault.{at_binding, at_name, at_value, first_inside, next_behind, AllowsTag, Calls, Expects, starts, inside, behind, IsFault}
-use Rattle.snmp_ber.proofs.ReadingLemmas.{ok_is}
-use Rattle.snmp_ber.proofs.LengthLemmas.{element_again}
+use Rattle.snmp_ber.specs.ReadingLaws.{ok_is}
+use Rattle.snmp_ber.specs.LengthLaws.{element_again}
 
 -- an element stands here as the place wants it, and the elements inside it and behind it do
 data IsGood : Place → List ℕ → Type 0 where

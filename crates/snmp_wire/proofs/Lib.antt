@@ -4,10 +4,9 @@ pub mod FaultLaws
 pub mod Faultless
 pub mod Lenient
 pub mod MessageLaws
+pub mod Octets
 pub mod ShortBindings
 pub mod Shortest
 pub mod StrictMessages
 pub mod BindingWriting
 pub mod MessageWriting
-pub use Rattle.snmp_ber.proofs.CanonLemmas
-pub use Rattle.snmp_ber.proofs.ElementLemmas

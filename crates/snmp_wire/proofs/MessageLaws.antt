@@ -16,10 +16,9 @@ use Rattle.snmp_wire.specs.Spelling.{SpellsBinding, SpellsBindings, kind_tag, Sp
 use Rattle.snmp_ber.specs.Reading.{fault_or, ◌>>=◌, content_at, inner_at, element_at, integer_of, integer_at, identifier_of, typed_value}
 use Rattle.snmp_wire.specs.Reading.{Fields, fields_of, fields_at, binding_of, binding_at, bindings_within, bindings_of, kind_of, outermost_of, pdu_of}
 use Rattle.snmp_wire.specs.Reading.{message_of}
-use Rattle.snmp_ber.proofs.ReadingLemmas.{done, ok_is, bind_ok, chosen, passed}
-use Rattle.snmp_ber.proofs.LengthLemmas.{content_takes, content_again, inner_takes, inner_again, element_takes, element_again}
-use Rattle.snmp_ber.proofs.IdentifierLaws.{identifier_takes, identifier_again}
-use Rattle.snmp_ber.proofs.ValueLaws.{integer_takes, integer_again, value_takes, value_again}
+use Rattle.snmp_ber.specs.ReadingLaws.{done, ok_is, bind_ok, chosen, passed}
+use Rattle.snmp_ber.specs.LengthLaws.{content_takes, content_again, inner_takes, inner_again, element_takes, element_again}
+use Rattle.snmp_ber.specs.Laws.{ContentReading}
 use Rattle.snmp_wire.proofs.BindingLemmas.{with_rest, bindings_step}
 
 -- ---- integers
@@ -29,21 +28,22 @@ pub record TakesInteger (octets : List ℕ) (x : ℤ × List ℕ) : Type 0 where
   pub spells : SpellsValue lenient (integer_value x.0) text
   pub parts : octets ≡ text ++ x.1
 
-pub integer_at_takes : (octets : List ℕ) (x : ℤ × List ℕ) → integer_at octets ≡ Ok x → TakesInteger octets x
+pub integer_at_takes : (reading : ContentReading) (octets : List ℕ) (x : ℤ × List ℕ) → integer_at octets ≡ Ok x → TakesInteger octets x
 unfolding integer_at
-integer_at_takes octets x e =
+integer_at_takes reading octets x e =
     let a = bind_ok (inner_at 0x02 octets) (λ element. integer_of element.0 >>= λ z. Ok (z, element.1)) x e in
     let b = bind_ok (integer_of a.0.0) (λ z. Ok (z, a.0.1)) x a.2 in
     let t = inner_takes 0x02 octets a.0 a.1 in
     subst (TakesInteger octets) (ok_is (b.0, a.0.1) x b.2) (record {
       text = t.0;
-      spells = record { content = a.0.0; is_content = integer_takes a.0.0 b.0 b.1; element = t.1 };
+      spells = record { content = a.0.0; is_content = reading.is_integer a.0.0 b.0 b.1; element = t.1 };
       parts = t.2;
     })
 
-pub integer_at_again : (z : ℤ) (text rest : List ℕ) → SpellsValue lenient (integer_value z) text → integer_at (text ++ rest) ≡ Ok (z, rest)
+pub integer_at_again : (reading : ContentReading) (z : ℤ) (text rest : List ℕ) → SpellsValue lenient (integer_value z) text
+    → integer_at (text ++ rest) ≡ Ok (z, rest)
 unfolding integer_at
-integer_at_again z text rest h = rw (inner_again 0x02 h.content text rest h.element, integer_again h.content z h.is_content) refl
+integer_at_again reading z text rest h = rw (inner_again 0x02 h.content text rest h.element, reading.integer_is_read h.content z h.is_content) refl
 
 -- ---- bindings
 
@@ -89,9 +89,9 @@ fields_again name value fields is_name is_value =
     ∙ element_again fields.tag fields.content value [] is_value in
     rw (inner_again 0x06 fields.name name value is_name, whole) refl
 
-pub binding_takes : (octets : List ℕ) (x : VarBind × List ℕ) → binding_at octets ≡ Ok x → TakesBinding octets x
+pub binding_takes : (reading : ContentReading) (octets : List ℕ) (x : VarBind × List ℕ) → binding_at octets ≡ Ok x → TakesBinding octets x
 unfolding binding_at fields_at binding_of
-binding_takes octets x e =
+binding_takes reading octets x e =
     let a = bind_ok (fields_at octets) (λ fields. binding_of fields.0 >>= λ binding. Ok (binding, fields.1)) x e in
     let f = a.0.0 in
     let b = bind_ok (binding_of f) (λ binding. Ok (binding, a.0.1)) x a.2 in
@@ -104,42 +104,44 @@ binding_takes octets x e =
     let t = inner_takes 0x30 octets c.0 c.1 in
     let fields_are : TakesFields c.0.0 f = subst (TakesFields c.0.0) (ap (λ (y : Fields × List ℕ). y.0) same) (fields_take c.0.0 d.0 d.1) in
     let after_is : c.0.1 ≡ a.0.1 = ap (λ (y : Fields × List ℕ). y.1) same in
-    let r = value_takes f.tag f.content v.0 v.1 in
+    let r = reading.is_content f.tag f.content v.0 v.1 in
     let spells : SpellsBinding lenient made t.0 = record {
       name = fields_are.name;
       value = fields_are.value;
-      is_name = record { content = f.name; is_content = identifier_takes f.name n.0 n.1; element = fields_are.is_name };
+      is_name = record { content = f.name; is_content = reading.is_object_id f.name n.0 n.1; element = fields_are.is_name };
       is_value = record {
         content = f.content;
-        is_content = r.is_content;
+        is_content = r.1;
         element =
-            subst (λ (tag : ℕ). IsElement tag f.content fields_are.value) (sym r.is_tag) fields_are.is_value;
+            subst (λ (tag : ℕ). IsElement tag f.content fields_are.value) (sym r.0) fields_are.is_value;
       };
       element = subst (λ (o : List ℕ). IsElement 0x30 o t.0) fields_are.parts t.1;
     } in
     let at_made : TakesBinding octets (made, a.0.1) = record { text = t.0; spells = spells; parts = t.2 ∙ ap (λ (o : List ℕ). t.0 ++ o) after_is } in
     subst (TakesBinding octets) (ap (λ (m : VarBind). (m, a.0.1)) (ok_is made b.0 v.2) ∙ ok_is (b.0, a.0.1) x b.2) at_made
 
-binding_again : (binding : VarBind) (text rest : List ℕ) → SpellsBinding lenient binding text → binding_at (text ++ rest) ≡ Ok (binding, rest)
+binding_again : (reading : ContentReading) (binding : VarBind) (text rest : List ℕ) → SpellsBinding lenient binding text
+    → binding_at (text ++ rest) ≡ Ok (binding, rest)
 unfolding binding_at fields_at binding_of
-binding_again binding text rest h =
+binding_again reading binding text rest h =
     let fields : Fields = record { name = h.is_name.content; tag = value_tag binding.value; content = h.is_value.content } in
     rw (
       inner_again 0x30 (h.name ++ h.value) text rest h.element,
       fields_again h.name h.value fields h.is_name.element h.is_value.element,
-      identifier_again h.is_name.content binding.name h.is_name.is_content,
-      value_again binding.value h.is_value.content h.is_value.is_content,
+      reading.object_id_is_read h.is_name.content binding.name h.is_name.is_content,
+      reading.content_is_read binding.value h.is_value.content h.is_value.is_content,
     ) refl
 
-bindings_take : (fuel : ℕ) (octets : List ℕ) (bindings : List VarBind) → bindings_within fuel octets ≡ Ok bindings → SpellsBindings lenient bindings octets
+bindings_take : (reading : ContentReading) (fuel : ℕ) (octets : List ℕ) (bindings : List VarBind) → bindings_within fuel octets ≡ Ok bindings
+    → SpellsBindings lenient bindings octets
 unfolding bindings_within
-bindings_take fuel [] bindings e = subst (λ (b : List VarBind). SpellsBindings lenient b []) (ok_is [] bindings e) refl
-bindings_take zero (octet ∷ rest) bindings e = absurd cc
-bindings_take (suc fuel) (octet ∷ rest) bindings e =
+bindings_take reading fuel [] bindings e = subst (λ (b : List VarBind). SpellsBindings lenient b []) (ok_is [] bindings e) refl
+bindings_take reading zero (octet ∷ rest) bindings e = absurd cc
+bindings_take reading (suc fuel) (octet ∷ rest) bindings e =
     let a = bind_ok (binding_at (octet ∷ rest)) (with_rest (bindings_within fuel)) bindings e in
     let b = bind_ok (bindings_within fuel a.0.1) (λ more. Ok (a.0.0 ∷ more)) bindings a.2 in
-    let t = binding_takes (octet ∷ rest) a.0 a.1 in
-    let more = bindings_take fuel a.0.1 b.0 b.1 in
+    let t = binding_takes reading (octet ∷ rest) a.0 a.1 in
+    let more = bindings_take reading fuel a.0.1 b.0 b.1 in
     subst (λ (b : List VarBind). SpellsBindings lenient b (octet ∷ rest)) (ok_is (a.0.0 ∷ b.0) bindings b.2) (t.text, a.0.1, t.parts, t.spells, more)
 
 element_some : (tag : ℕ) (content element : List ℕ) → IsElement tag content element → 0 < length element
@@ -147,15 +149,16 @@ element_some tag content element h =
     let one : length element ≡ suc (length (h.length_octets ++ content)) = ap length h.parts in
     omega arith
 
-bindings_again : (bindings : List VarBind) (octets : List ℕ) → SpellsBindings lenient bindings octets → bindings_of octets ≡ Ok bindings
+bindings_again : (reading : ContentReading) (bindings : List VarBind) (octets : List ℕ) → SpellsBindings lenient bindings octets
+    → bindings_of octets ≡ Ok bindings
 unfolding bindings_of bindings_within
-bindings_again [] octets h = ap bindings_of h
-bindings_again (binding ∷ more) octets h =
+bindings_again reading [] octets h = ap bindings_of h
+bindings_again reading (binding ∷ more) octets h =
     let text = h.0 in
     let rest = h.1 in
     let some : 0 < length (text ++ rest) = omega (arith, element_some 0x30 (h.3.name ++ h.3.value) text h.3.element, length-append text rest) in
-    let others = bindings_again more rest h.4 in
-    ap bindings_of h.2 ∙ bindings_step (text ++ rest) some ∙ rw (binding_again binding text rest h.3, others) refl
+    let others = bindings_again reading more rest h.4 in
+    ap bindings_of h.2 ∙ bindings_step (text ++ rest) some ∙ rw (binding_again reading binding text rest h.3, others) refl
 
 -- ---- kinds
 
@@ -222,10 +225,11 @@ record TakesPdu (version : ℤ) (community : List ℕ) (found : Kind) (content :
   is_kind : message.kind ≡ found
   spells : (octets : List ℕ) → IsElement (kind_tag message.kind) content octets → SpellsPdu lenient message octets
 
-pdu_takes : (version : ℤ) (community : List ℕ) (found : Kind) (content : List ℕ) (message : Message) → pdu_of version community found content ≡ Ok message
+pdu_takes : (reading : ContentReading) (version : ℤ) (community : List ℕ) (found : Kind) (content : List ℕ) (message : Message)
+    → pdu_of version community found content ≡ Ok message
     → TakesPdu version community found content message
 unfolding pdu_of bindings_of
-pdu_takes version community found content message e =
+pdu_takes reading version community found content message e =
     let id = bind_ok (integer_at content) (λ id. integer_at id.1 >>= λ a. integer_at a.1 >>= λ b. inner_at 0x30 b.1 >>= λ list. cond (eqb (length list.1) 0)
     (bindings_of list.0) (Err error.Content) >>= λ bindings. Ok (record {
       version = version;
@@ -274,9 +278,9 @@ pdu_takes version community found content message e =
     })) message list.2 in
     let made : Message = record { version = version; community = community; kind = found; id = id.0.0; a = a.0.0; b = b.0.0; bindings = bindings.0 } in
     let p = passed (eqb (length list.0.1) 0) (bindings_of list.0.0) error.Content bindings.0 bindings.1 in
-    let t_id = integer_at_takes content id.0 id.1 in
-    let t_a = integer_at_takes id.0.1 a.0 a.1 in
-    let t_b = integer_at_takes a.0.1 b.0 b.1 in
+    let t_id = integer_at_takes reading content id.0 id.1 in
+    let t_a = integer_at_takes reading id.0.1 a.0 a.1 in
+    let t_b = integer_at_takes reading a.0.1 b.0 b.1 in
     let t_list = inner_takes 0x30 b.0.1 list.0 list.1 in
     let none : list.0.1 ≡ [] = nil_from_length list.0.1 (eqb-true (length list.0.1) 0 p.0) in
     let list_is : b.0.1 ≡ t_list.0 = t_list.2 ∙ ap (λ (o : List ℕ). t_list.0 ++ o) none ∙ append-nil t_list.0 in
@@ -297,31 +301,32 @@ pdu_takes version community found content message e =
         is_id = t_id.spells;
         is_a = t_a.spells;
         is_b = t_b.spells;
-        are_bindings = bindings_take (length list.0.0) list.0.0 bindings.0 p.1;
+        are_bindings = bindings_take reading (length list.0.0) list.0.0 bindings.0 p.1;
         is_list = t_list.1;
         element = subst (λ (o : List ℕ). IsElement (kind_tag found) o octets) four element;
       };
     } in
     subst (TakesPdu version community found content) (ok_is made message bindings.2) at_made
 
-pdu_again : (message : Message) (content octets : List ℕ) (h : SpellsPdu lenient message octets) → content ≡ h.id ++ h.a ++ h.b ++ h.list
+pdu_again : (reading : ContentReading) (message : Message) (content octets : List ℕ) (h : SpellsPdu lenient message octets)
+    → content ≡ h.id ++ h.a ++ h.b ++ h.list
     → pdu_of message.version message.community message.kind content ≡ Ok message
 unfolding pdu_of
-pdu_again message content octets h e =
+pdu_again reading message content octets h e =
     let regrouped : content ≡ h.id ++ (h.a ++ (h.b ++ h.list)) = e ∙ append_assoc (h.id ++ h.a) h.b h.list ∙ append_assoc h.id h.a (h.b ++ h.list) in
     let whole : inner_at 0x30 h.list ≡ Ok (h.bindings, []) = ap (inner_at 0x30) (sym (append-nil h.list)) ∙ inner_again 0x30 h.bindings h.list [] h.is_list in
     ap (pdu_of message.version message.community message.kind) regrouped
     ∙ rw (
-      integer_at_again message.id h.id (h.a ++ (h.b ++ h.list)) h.is_id,
-      integer_at_again message.a h.a (h.b ++ h.list) h.is_a,
-      integer_at_again message.b h.b h.list h.is_b,
+      integer_at_again reading message.id h.id (h.a ++ (h.b ++ h.list)) h.is_id,
+      integer_at_again reading message.a h.a (h.b ++ h.list) h.is_a,
+      integer_at_again reading message.b h.b h.list h.is_b,
       whole,
-      bindings_again message.bindings h.bindings h.are_bindings,
+      bindings_again reading message.bindings h.bindings h.are_bindings,
     ) refl
 
-pub message_takes : (octets : List ℕ) (message : Message) → AreOctets octets → message_of octets ≡ Ok message → Spells message octets
+pub message_takes : (reading : ContentReading) (octets : List ℕ) (message : Message) → AreOctets octets → message_of octets ≡ Ok message → Spells message octets
 unfolding message_of
-message_takes octets message are_octets e =
+message_takes reading octets message are_octets e =
     let outer = bind_ok (outermost_of octets) (λ content. integer_at content >>= λ version. inner_at 0x04 version.1 >>= λ community.
     element_at community.1 >>= λ pdu. cond (eqb (length pdu.2) 0) (kind_of pdu.0)
     (Err (fault_or (kind_of pdu.0) error.Content)) >>= λ found. pdu_of version.0 community.0 found pdu.1) message e in
@@ -336,7 +341,7 @@ message_takes octets message are_octets e =
     let found = bind_ok (cond (eqb (length pdu.0.2) 0) (kind_of pdu.0.0) (Err (fault_or (kind_of pdu.0.0) error.Content)))
     (λ found. pdu_of version.0.0 community.0.0 found pdu.0.1) message pdu.2 in
     let p = passed (eqb (length pdu.0.2) 0) (kind_of pdu.0.0) (fault_or (kind_of pdu.0.0) error.Content) found.0 found.1 in
-    let t_version = integer_at_takes content version.0 version.1 in
+    let t_version = integer_at_takes reading content version.0 version.1 in
     let t_community = inner_takes 0x04 version.0.1 community.0 community.1 in
     let t_pdu = element_takes community.0.1 pdu.0 pdu.1 in
     let none : pdu.0.2 ≡ [] = nil_from_length pdu.0.2 (eqb-true (length pdu.0.2) 0 p.0) in
@@ -344,7 +349,7 @@ message_takes octets message are_octets e =
     let two : version.0.1 ≡ t_community.0 ++ t_pdu.0 = t_community.2 ∙ ap (λ (o : List ℕ). t_community.0 ++ o) pdu_is in
     let three : content ≡ t_version.text ++ t_community.0 ++ t_pdu.0 = t_version.parts ∙ ap (λ (o : List ℕ). t_version.text ++ o) two
     ∙ sym (append_assoc t_version.text t_community.0 t_pdu.0) in
-    let inside = pdu_takes version.0.0 community.0.0 found.0 pdu.0.1 message found.2 in
+    let inside = pdu_takes reading version.0.0 community.0.0 found.0 pdu.0.1 message found.2 in
     let tag_is : pdu.0.0 ≡ kind_tag message.kind = sym (kind_takes pdu.0.0 found.0 p.1) ∙ ap kind_tag (sym inside.is_kind) in
     record {
       version = t_version.text;
@@ -357,29 +362,29 @@ message_takes octets message are_octets e =
       are_octets = are_octets;
     }
 
-pub message_again : (octets : List ℕ) (message : Message) → Spells message octets → message_of octets ≡ Ok message
+pub message_again : (reading : ContentReading) (octets : List ℕ) (message : Message) → Spells message octets → message_of octets ≡ Ok message
 unfolding message_of
-message_again octets message h =
+message_again reading octets message h =
     let content = h.version ++ h.community ++ h.pdu in
     let inside = h.is_pdu.id ++ h.is_pdu.a ++ h.is_pdu.b ++ h.is_pdu.list in
     let first : integer_at content ≡ Ok (message.version, h.community ++ h.pdu) = ap integer_at (append_assoc h.version h.community h.pdu)
-    ∙ integer_at_again message.version h.version (h.community ++ h.pdu) h.is_version in
+    ∙ integer_at_again reading message.version h.version (h.community ++ h.pdu) h.is_version in
     let second : inner_at 0x04 (h.community ++ h.pdu) ≡ Ok (message.community, h.pdu) =
     inner_again 0x04 h.is_community.content h.community h.pdu h.is_community.element ∙ ap (λ (o : List ℕ). done (o, h.pdu)) h.is_community.is_content in
     let third : element_at h.pdu ≡ Ok (kind_tag message.kind, inside, []) = ap element_at (sym (append-nil h.pdu))
     ∙ element_again (kind_tag message.kind) inside h.pdu [] h.is_pdu.element in
-    rw (outermost_again octets content h.element, first, second, third, kind_again message.kind) (pdu_again message inside h.pdu h.is_pdu refl)
+    rw (outermost_again octets content h.element, first, second, third, kind_again message.kind) (pdu_again reading message inside h.pdu h.is_pdu refl)
 
 -- ---- laws
 
 -- no spelling is the front of another
-pub one_message : (message other : Message) (octets spelling rest more : List ℕ) → Spells message octets → Spells other spelling
+pub one_message : (reading : ContentReading) (message other : Message) (octets spelling rest more : List ℕ) → Spells message octets → Spells other spelling
     → octets ++ rest ≡ spelling ++ more → (message ≡ other) × (octets ≡ spelling)
-one_message message other octets spelling rest more h k e =
+one_message reading message other octets spelling rest more h k e =
     let content = h.version ++ h.community ++ h.pdu in
     let others = k.version ++ k.community ++ k.pdu in
     let both : done (content, rest) ≡ done (others, more) = sym (inner_again 0x30 content octets rest h.element) ∙ ap (inner_at 0x30) e
     ∙ inner_again 0x30 others spelling more k.element in
     let rests : rest ≡ more = ap (λ (y : List ℕ × List ℕ). y.1) (ok_is (content, rest) (others, more) both) in
     let same : octets ≡ spelling = append_cancel_right octets spelling more (ap (λ (o : List ℕ). octets ++ o) (sym rests) ∙ e) in
-    (ok_is message other (sym (message_again octets message h) ∙ ap message_of same ∙ message_again spelling other k), same)
+    (ok_is message other (sym (message_again reading octets message h) ∙ ap message_of same ∙ message_again reading spelling other k), same)

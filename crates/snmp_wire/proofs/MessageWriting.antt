@@ -11,9 +11,9 @@ use Rattle.snmp_ber.specs.Value.{integer_value, octet_string}
 use Rattle.snmp_wire.specs.Spelling.{kind_tag}
 use Rattle.snmp_ber.specs.Spelling.{sequence_tag}
 use Rattle.snmp_ber.specs.Writing.{Writes}
-use Rattle.snmp_ber.proofs.ElementLemmas.{length-canon_header}
-use Rattle.snmp_ber.proofs.ShortestValues.{length_rises}
-use Rattle.snmp_ber.proofs.WritingLemmas.{writes_same, writes_then}
+use Rattle.snmp_ber.specs.ElementLaws.{length-canon_header}
+use Rattle.snmp_ber.specs.Sizes.{ElementSizes}
+use Rattle.snmp_ber.specs.WritingLaws.{writes_same, writes_then}
 
 pub length-canon_fields : (message : Message) → length (canon_fields message)
     ≡ length (canon_value (integer_value message.id)) + length (canon_value (integer_value message.a)) + length (canon_value (integer_value message.b))
@@ -212,16 +212,16 @@ pub writes_message : {old mid new : List ℕ} {start head size : ℕ} (message :
 writes_message message total e w v = writes_same (writes_then w v) (ap (λ n. canon_head message n ++ canon_bindings message.bindings) e
     ∙ sym (canon_parts message))
 
-longer_header : (tag n k : ℕ) → n ≤ k → length (canon_header tag n) ≤ length (canon_header tag k)
-longer_header tag n k h = omega (arith, length-canon_header tag n, length-canon_header tag k, length_rises n k h)
+longer_header : (sizes : ElementSizes) (tag n k : ℕ) → n ≤ k → length (canon_header tag n) ≤ length (canon_header tag k)
+longer_header sizes tag n k h = omega (arith, length-canon_header tag n, length-canon_header tag k, sizes.lengths_rise n k h)
 
 -- before more octets of bindings a head is no shorter
-pub longer_head : (m : Message) (n k : ℕ) → n ≤ k → length (canon_head m n) ≤ length (canon_head m k)
-longer_head m n k h =
-    let list : length (canon_header sequence_tag n) ≤ length (canon_header sequence_tag k) = longer_header sequence_tag n k h in
+pub longer_head : (sizes : ElementSizes) (m : Message) (n k : ℕ) → n ≤ k → length (canon_head m n) ≤ length (canon_head m k)
+longer_head sizes m n k h =
+    let list : length (canon_header sequence_tag n) ≤ length (canon_header sequence_tag k) = longer_header sizes sequence_tag n k h in
     let pdu : length (canon_header (kind_tag m.kind) (pdu_size m n)) ≤ length (canon_header (kind_tag m.kind) (pdu_size m k)) =
-    longer_header (kind_tag m.kind) (pdu_size m n) (pdu_size m k) (omega arith) in
+    longer_header sizes (kind_tag m.kind) (pdu_size m n) (pdu_size m k) (omega arith) in
     let front : length (canon_front m n) ≤ length (canon_front m k) = omega (arith, length-canon_front m n, length-canon_front m k) in
     let whole : length (canon_header sequence_tag (length (canon_front m n) + n)) ≤ length (canon_header sequence_tag (length (canon_front m k) + k)) =
-    longer_header sequence_tag (length (canon_front m n) + n) (length (canon_front m k) + k) (omega arith) in
+    longer_header sizes sequence_tag (length (canon_front m n) + n) (length (canon_front m k) + k) (omega arith) in
     omega (arith, length-canon_head m n, length-canon_head m k)

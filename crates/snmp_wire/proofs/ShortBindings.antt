@@ -5,7 +5,7 @@ use Rattle.std.proofs.lemmas.List.{length-append, length-drop, length-take-le, t
 use Rattle.snmp_ber.specs.Length.{IsElement}
 use Rattle.snmp_ber.specs.Reading.{inner_at}
 use Rattle.snmp_wire.specs.Reading.{Fields, fields_at}
-use Rattle.snmp_ber.proofs.LengthLemmas.{inner_again}
+use Rattle.snmp_ber.specs.LengthLaws.{inner_again}
 use Rattle.snmp_wire.proofs.MessageLaws.{fields_again}
 
 short_element : (tag : ℕ) (content : List ℕ) → length content < 128 → IsElement tag content (tag ∷ length content ∷ content)

@@ -1,6 +1,6 @@
 -- Messages as they are written are spelt by the standard.
 use Rattle.std.proofs.Common.{ℕ, ◌<◌, ◌≤◌, List, [], ◌∷◌, ◌++◌, length, refl, lit<, arith, length-append}
-use Rattle.std.proofs.lemmas.List.Elements.{All-append}
+use Rattle.std.proofs.lemmas.List.Elements.{All-append, All-nil}
 use Rattle.std.specs.List.{AllByRecursion}
 use Rattle.snmp_wire.specs.declared.kind.Kind.{Kind}
 use Rattle.snmp_wire.specs.declared.kind.Kind.TheVariants as kind
@@ -13,46 +13,43 @@ use Rattle.snmp_wire.specs.Range.{IsBindingInRange, IsMessageInRange}
 use Rattle.snmp_ber.specs.Spelling.{sequence_tag}
 use Rattle.snmp_wire.specs.Spelling.{SpellsBinding, SpellsBindings, SpellsPdu, Strict, kind_tag}
 use Rattle.snmp_wire.proofs.MessageWriting.{length-canon_fields, length-canon_opening}
-use Rattle.snmp_ber.proofs.StrictValues.{element_most, element_octets, is_element, none, spells_value, value_octets, value_short}
-
--- ---- elements
-
--- ---- values
+use Rattle.snmp_ber.specs.Laws.{ShortestEncodings}
 
 -- ---- bindings
 
-spells_binding : (binding : VarBind) → IsBindingInRange binding → SpellsBinding strict binding (canon_binding binding)
+spells_binding : (laws : ShortestEncodings) (binding : VarBind) → IsBindingInRange binding → SpellsBinding strict binding (canon_binding binding)
 unfolding canon_binding
-spells_binding binding h = record {
+spells_binding laws binding h = record {
   name = canon_value (object_id binding.name);
   value = canon_value binding.value;
-  is_name = spells_value (object_id binding.name) h.name;
-  is_value = spells_value binding.value h.value;
-  element = is_element sequence_tag (canon_value (object_id binding.name) ++ canon_value binding.value)
+  is_name = laws.value_is_strict (object_id binding.name) h.name;
+  is_value = laws.value_is_strict binding.value h.value;
+  element = laws.is_element sequence_tag (canon_value (object_id binding.name) ++ canon_value binding.value)
       (omega (
         arith,
         length-append (canon_value (object_id binding.name)) (canon_value binding.value),
-        value_short (object_id binding.name) h.name,
-        value_short binding.value h.value,
+        laws.value_short (object_id binding.name) h.name,
+        laws.value_short binding.value h.value,
       ));
 }
 
-binding_octets : (binding : VarBind) → IsBindingInRange binding → AreOctets (canon_binding binding)
+binding_octets : (laws : ShortestEncodings) (binding : VarBind) → IsBindingInRange binding → AreOctets (canon_binding binding)
 unfolding canon_binding
-binding_octets binding h = element_octets sequence_tag (canon_value (object_id binding.name) ++ canon_value binding.value) (lit< tt)
-    (All-append (λ octet. octet < 256) (canon_value (object_id binding.name)) (canon_value binding.value) (value_octets (object_id binding.name) h.name)
-    (value_octets binding.value h.value))
+binding_octets laws binding h = laws.element_octets sequence_tag (canon_value (object_id binding.name) ++ canon_value binding.value) (lit< tt)
+    (All-append (λ octet. octet < 256) (canon_value (object_id binding.name)) (canon_value binding.value) (laws.value_octets (object_id binding.name) h.name)
+    (laws.value_octets binding.value h.value))
 
-spells_bindings : (bindings : List VarBind) → AllByRecursion IsBindingInRange bindings → SpellsBindings strict bindings (canon_bindings bindings)
+spells_bindings : (laws : ShortestEncodings) (bindings : List VarBind) → AllByRecursion IsBindingInRange bindings
+    → SpellsBindings strict bindings (canon_bindings bindings)
 unfolding canon_bindings
-spells_bindings [] h = refl
-spells_bindings (binding ∷ more) h = (canon_binding binding, canon_bindings more, refl, spells_binding binding h.0, spells_bindings more h.1)
+spells_bindings laws [] h = refl
+spells_bindings laws (binding ∷ more) h = (canon_binding binding, canon_bindings more, refl, spells_binding laws binding h.0, spells_bindings laws more h.1)
 
-bindings_octets : (bindings : List VarBind) → AllByRecursion IsBindingInRange bindings → AreOctets (canon_bindings bindings)
+bindings_octets : (laws : ShortestEncodings) (bindings : List VarBind) → AllByRecursion IsBindingInRange bindings → AreOctets (canon_bindings bindings)
 unfolding canon_bindings
-bindings_octets [] h = none
-bindings_octets (binding ∷ more) h = All-append (λ octet. octet < 256) (canon_binding binding) (canon_bindings more) (binding_octets binding h.0)
-    (bindings_octets more h.1)
+bindings_octets laws [] h = All-nil (λ octet. octet < 256)
+bindings_octets laws (binding ∷ more) h = All-append (λ octet. octet < 256) (canon_binding binding) (canon_bindings more) (binding_octets laws binding h.0)
+    (bindings_octets laws more h.1)
 
 -- ---- messages
 
@@ -73,62 +70,62 @@ list_of message = canon_element sequence_tag (canon_bindings message.bindings)
 abbrev pub pdu_of : Message → List ℕ
 pdu_of message = canon_element (kind_tag message.kind) (canon_fields message ++ list_of message)
 
-pub length-fields : (message : Message) → IsMessageInRange message → length (canon_fields message ++ list_of message) ≤ 4000200000
-length-fields message h = omega (
+pub length-fields : (laws : ShortestEncodings) (message : Message) → IsMessageInRange message → length (canon_fields message ++ list_of message) ≤ 4000200000
+length-fields laws message h = omega (
   arith,
   length-append (canon_fields message) (list_of message),
   length-canon_fields message,
-  element_most sequence_tag (canon_bindings message.bindings),
+  laws.element_most sequence_tag (canon_bindings message.bindings),
   h.total,
-  value_short (integer_value message.id) h.id,
-  value_short (integer_value message.a) h.a,
-  value_short (integer_value message.b) h.b,
+  laws.value_short (integer_value message.id) h.id,
+  laws.value_short (integer_value message.a) h.a,
+  laws.value_short (integer_value message.b) h.b,
 )
 
-pub length-content : (message : Message) → IsMessageInRange message → length (canon_opening message ++ pdu_of message) ≤ 4000400000
-length-content message h = omega (
+pub length-content : (laws : ShortestEncodings) (message : Message) → IsMessageInRange message → length (canon_opening message ++ pdu_of message) ≤ 4000400000
+length-content laws message h = omega (
   arith,
   length-append (canon_opening message) (pdu_of message),
   length-canon_opening message,
-  element_most (kind_tag message.kind) (canon_fields message ++ list_of message),
-  length-fields message h,
-  value_short (integer_value message.version) h.version,
-  value_short (octet_string message.community) h.community,
+  laws.element_most (kind_tag message.kind) (canon_fields message ++ list_of message),
+  length-fields laws message h,
+  laws.value_short (integer_value message.version) h.version,
+  laws.value_short (octet_string message.community) h.community,
 )
 
-spells_pdu : (message : Message) → IsMessageInRange message → SpellsPdu strict message (pdu_of message)
+spells_pdu : (laws : ShortestEncodings) (message : Message) → IsMessageInRange message → SpellsPdu strict message (pdu_of message)
 unfolding canon_fields
-spells_pdu message h = record {
+spells_pdu laws message h = record {
   id = canon_value (integer_value message.id);
   a = canon_value (integer_value message.a);
   b = canon_value (integer_value message.b);
   bindings = canon_bindings message.bindings;
   list = list_of message;
-  is_id = spells_value (integer_value message.id) h.id;
-  is_a = spells_value (integer_value message.a) h.a;
-  is_b = spells_value (integer_value message.b) h.b;
-  are_bindings = spells_bindings message.bindings h.bindings;
-  is_list = is_element sequence_tag (canon_bindings message.bindings) (omega (arith, h.total));
-  element = is_element (kind_tag message.kind) (canon_fields message ++ list_of message) (omega (arith, length-fields message h));
+  is_id = laws.value_is_strict (integer_value message.id) h.id;
+  is_a = laws.value_is_strict (integer_value message.a) h.a;
+  is_b = laws.value_is_strict (integer_value message.b) h.b;
+  are_bindings = spells_bindings laws message.bindings h.bindings;
+  is_list = laws.is_element sequence_tag (canon_bindings message.bindings) (omega (arith, h.total));
+  element = laws.is_element (kind_tag message.kind) (canon_fields message ++ list_of message) (omega (arith, length-fields laws message h));
 }
 
-pdu_octets : (message : Message) → IsMessageInRange message → AreOctets (pdu_of message)
+pdu_octets : (laws : ShortestEncodings) (message : Message) → IsMessageInRange message → AreOctets (pdu_of message)
 unfolding canon_fields
-pdu_octets message h =
+pdu_octets laws message h =
     let P : ℕ → Type 0 = λ octet. octet < 256 in
     let id : List ℕ = canon_value (integer_value message.id) in
     let a : List ℕ = canon_value (integer_value message.a) in
     let b : List ℕ = canon_value (integer_value message.b) in
-    element_octets (kind_tag message.kind) (canon_fields message ++ list_of message) (kind_fits message.kind)
+    laws.element_octets (kind_tag message.kind) (canon_fields message ++ list_of message) (kind_fits message.kind)
     (All-append P (id ++ a ++ b) (list_of message)
-    (All-append P (id ++ a) b (All-append P id a (value_octets (integer_value message.id) h.id) (value_octets (integer_value message.a) h.a))
-    (value_octets (integer_value message.b) h.b))
-    (element_octets sequence_tag (canon_bindings message.bindings) (lit< tt) (bindings_octets message.bindings h.bindings)))
+    (All-append P (id ++ a) b (All-append P id a (laws.value_octets (integer_value message.id) h.id) (laws.value_octets (integer_value message.a) h.a))
+    (laws.value_octets (integer_value message.b) h.b))
+    (laws.element_octets sequence_tag (canon_bindings message.bindings) (lit< tt) (bindings_octets laws message.bindings h.bindings)))
 
 -- the encoding is a spelling by the standard
-pub strict_canon : (message : Message) → IsMessageInRange message → Strict message (canon message)
+pub strict_canon : (laws : ShortestEncodings) (message : Message) → IsMessageInRange message → Strict message (canon message)
 unfolding canon canon_opening
-strict_canon message h =
+strict_canon laws message h =
     let P : ℕ → Type 0 = λ octet. octet < 256 in
     let version : List ℕ = canon_value (integer_value message.version) in
     let community : List ℕ = canon_value (octet_string message.community) in
@@ -136,11 +133,11 @@ strict_canon message h =
       version = version;
       community = community;
       pdu = pdu_of message;
-      is_version = spells_value (integer_value message.version) h.version;
-      is_community = spells_value (octet_string message.community) h.community;
-      is_pdu = spells_pdu message h;
-      element = is_element sequence_tag (canon_opening message ++ pdu_of message) (omega (arith, length-content message h));
-      are_octets = element_octets sequence_tag (canon_opening message ++ pdu_of message) (lit< tt)
-          (All-append P (version ++ community) (pdu_of message) (All-append P version community (value_octets (integer_value message.version) h.version)
-          (value_octets (octet_string message.community) h.community)) (pdu_octets message h));
+      is_version = laws.value_is_strict (integer_value message.version) h.version;
+      is_community = laws.value_is_strict (octet_string message.community) h.community;
+      is_pdu = spells_pdu laws message h;
+      element = laws.is_element sequence_tag (canon_opening message ++ pdu_of message) (omega (arith, length-content laws message h));
+      are_octets = laws.element_octets sequence_tag (canon_opening message ++ pdu_of message) (lit< tt)
+          (All-append P (version ++ community) (pdu_of message) (All-append P version community (laws.value_octets (integer_value message.version) h.version)
+          (laws.value_octets (octet_string message.community) h.community)) (pdu_octets laws message h));
     }

@@ -13,14 +13,6 @@ use Rattle.snmp_wire.specs.Message.{VarBind, Message}
 use Rattle.snmp_ber.specs.Reading.{fault_or, content_at, element_at, identifier_of, inner_at}
 use Rattle.snmp_ber.specs.Reading.{integer_at, typed_value, ◌>>=◌}
 
--- ---- lengths and elements; `cut` is the fault where the octets end too early
-
--- ---- numbers
-
--- ---- identifiers
-
--- ---- values
-
 -- ---- bindings
 
 -- where a binding's name and value lie

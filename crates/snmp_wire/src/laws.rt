@@ -9,11 +9,15 @@ ghost use Rattle.snmp_wire.specs.Message.{Message};
 ghost use Rattle.snmp_wire.specs.Sizes.{MessageSizes};
 ghost use Rattle.snmp_wire.specs.Spelling.{Spells};
 
+use snmp_ber::{content_reading, element_sizes, shortest_encodings};
+
 /// Octets encode at most one message, and no encoding is the front of another.
 #[inline]
 pub fn one_spelling()
     ensures { OneMessage }
-{}
+{
+    content_reading();
+}
 
 /// Octets that encode a message have no fault: what each error says is false of them.
 #[inline]
@@ -26,26 +30,34 @@ pub fn no_fault()
 #[inline]
 pub fn strict_is_read()
     ensures { StrictIsRead }
-{}
+{
+    shortest_encodings();
+}
 
 /// What is written is an encoding by the standard; so [`decode`](crate::decode) returns the
 /// message.
 #[inline]
 pub fn encoding_is_strict()
     ensures { EncodingIsStrict }
-{}
+{
+    shortest_encodings();
+}
 
 /// No encoding by the standard is shorter than what is written.
 #[inline]
 pub fn encoding_is_shortest()
     ensures { EncodingIsShortest }
-{}
+{
+    shortest_encodings();
+}
 
 /// A message has one shortest encoding by the standard, which is the one that is written.
 #[inline]
 pub fn one_shortest_encoding()
     ensures { OneShortestEncoding }
-{}
+{
+    shortest_encodings();
+}
 
 /// A message's shortest encoding is its head, and then its bindings in turn.
 #[inline]
@@ -57,4 +69,6 @@ pub fn pieces()
 #[inline]
 pub fn message_sizes()
     ensures { MessageSizes }
-{}
+{
+    element_sizes();
+}

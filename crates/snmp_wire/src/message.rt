@@ -17,11 +17,12 @@ ghost use Rattle.snmp_ber.specs.Writing.{Writes};
 
 use crate::binding::{binding_size, check_bindings, put_binding};
 use crate::kind::{kind_of, tag_of_kind};
+use crate::laws::one_shortest_encoding;
 use crate::{Binding, Bindings, Kind};
 use snmp_ber::tag::{INTEGER, OCTET_STRING, SEQUENCE};
 use snmp_ber::{
-    BerError, content_at, element_at, header_size, inner_at, integer_at, integer_size, put_header,
-    put_integer, put_text,
+    BerError, content_at, content_reading, element_at, header_size, inner_at, integer_at,
+    integer_size, put_header, put_integer, put_text,
 };
 use std::marker::Model;
 
@@ -133,6 +134,7 @@ pub fn decode(datagram: &[u8]) -> Result<MessageRef<'_>, BerError>
     // Each error comes only where its sentence holds.
     ensures fault { IfErr result (λ e. IsFault e datagram.now) }
 {
+    content_reading();
     message_of(datagram)
 }
 
@@ -235,6 +237,7 @@ pub fn size(parts: &Parts<'_>) -> u64
     ensures shortest { (octets : List ℕ) → IsMessageInRange (parts_message parts.now)
         → IsShortestEncoding octets (parts_message parts.now) → result ≡ length octets }
 {
+    one_shortest_encoding();
     let total = bindings_size(parts.bindings);
     head_size(parts, total) + total
 }
@@ -255,6 +258,7 @@ pub fn encode(parts: &Parts<'_>, out: &mut [u8]) -> Option<usize>
     ensures variant { IsSome result ↔ (length (canon (parts_message parts.now)) ≤ length out.old) }
     ensures unchanged { IfNone result (out.new ≡ out.old) }
 {
+    one_shortest_encoding();
     let total = bindings_size(parts.bindings);
     let size = (head_size(parts, total) + total) as usize;
     if out.len() < size {

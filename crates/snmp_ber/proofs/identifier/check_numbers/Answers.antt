@@ -1,5 +1,5 @@
 use Rattle.std.proofs.Common.{◌∙◌}
-use Rattle.snmp_ber.proofs.ReadingLemmas.{some_left, none_left}
+use Rattle.snmp_ber.specs.ReadingLaws.{some_left, none_left}
 use Rattle.snmp_ber.proofs.IdentifierLemmas.{check_ends}
 use Rattle.snmp_ber.proofs.identifier.check_numbers.Goals as goal
 

@@ -1,5 +1,6 @@
 use Rattle.std.proofs.Common.{◌∙◌}
-use Rattle.snmp_ber.proofs.KnownLemmas.{digits_ok, never_err}
+use Rattle.snmp_ber.proofs.KnownLemmas.{digits_ok}
+use Rattle.snmp_ber.specs.ReadingLaws.{never_err}
 use Rattle.snmp_ber.proofs.identifier.digits_in.Goals as goal
 
 pub unreachable-requires : goal.unreachable-requires

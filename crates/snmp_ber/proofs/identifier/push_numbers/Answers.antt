@@ -1,6 +1,6 @@
 use Rattle.std.proofs.Common.{◌-◌, length, arith}
 use Rattle.std.proofs.lemmas.List.{length_push, length-append}
-use Rattle.snmp_ber.proofs.ReadingLemmas.{some_left, none_left}
+use Rattle.snmp_ber.specs.ReadingLaws.{some_left, none_left}
 use Rattle.snmp_ber.proofs.IdentifierLemmas.{start, push_has_room, push_goes_on, push_ends, plain_fits, push_plain, number_ok}
 use Rattle.snmp_ber.proofs.identifier.push_numbers.Goals as goal
 

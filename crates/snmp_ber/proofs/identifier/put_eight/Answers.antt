@@ -1,4 +1,4 @@
-use Rattle.snmp_ber.proofs.WritingLemmas.{writes_then}
+use Rattle.snmp_ber.specs.WritingLaws.{writes_then}
 use Rattle.snmp_ber.proofs.identifier.put_eight.Goals as goal
 
 pub returns : goal.returns

@@ -1,7 +1,7 @@
 use Rattle.std.proofs.Common.{ap, arith, sym, ◌∙◌}
 use Rattle.snmp_ber.specs.Canon.{subidentifier_size}
 use Rattle.snmp_ber.proofs.IdentifierWriting.{content_is, length-canon_subidentifier, length-content}
-use Rattle.snmp_ber.proofs.WritingLemmas.{writes_same, writes_then}
+use Rattle.snmp_ber.specs.WritingLaws.{writes_same, writes_then}
 use Rattle.snmp_ber.proofs.identifier.put_identifier.Goals as goal
 
 pub put_numbers-start-requires-clause-room : goal.put_numbers-start-requires-clause-room

@@ -1,6 +1,6 @@
 use Rattle.std.proofs.Common.{◌-◌, length, arith}
 use Rattle.snmp_ber.specs.Canon.{canon_subidentifier}
-use Rattle.snmp_ber.proofs.ListWriting.{writes_pieces}
+use Rattle.snmp_ber.specs.WritingLaws.{writes_pieces}
 use Rattle.snmp_ber.proofs.ShortNumbers.{eight_fit, last_fits, others_fit, writes_eight, writes_last, writes_others}
 use Rattle.snmp_ber.proofs.identifier.put_numbers.Goals as goal
 

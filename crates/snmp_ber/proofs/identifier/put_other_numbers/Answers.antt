@@ -1,7 +1,7 @@
 use Rattle.std.proofs.Common.{[], ◌∷◌, refl, arith}
 use Rattle.snmp_ber.specs.Canon.{canon_subidentifier}
 use Rattle.snmp_ber.proofs.IdentifierWriting.{four_fit, writes_four}
-use Rattle.snmp_ber.proofs.ListWriting.{piece_fits, writes_piece}
+use Rattle.snmp_ber.specs.WritingLaws.{piece_fits, writes_piece}
 use Rattle.snmp_ber.proofs.identifier.put_other_numbers.Goals as goal
 
 pub put_text-start-requires-clause-room : goal.put_text-start-requires-clause-room

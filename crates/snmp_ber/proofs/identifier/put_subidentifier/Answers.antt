@@ -1,7 +1,7 @@
 use Rattle.std.proofs.Common.{◌/◌, arith}
 use Rattle.snmp_ber.proofs.IdentifierWriting.{length-canon_subidentifier, short_itself, subidentifier_some, writes_subidentifier, subidentifier_two, one_septet}
 use Rattle.snmp_ber.proofs.IdentifierWriting.{subidentifier_three, two_septets}
-use Rattle.snmp_ber.proofs.WritingLemmas.{writes_same, writes_then}
+use Rattle.snmp_ber.specs.WritingLaws.{writes_same, writes_then}
 use Rattle.snmp_ber.proofs.identifier.put_subidentifier.Goals as goal
 
 pub put_octet-last-requires-clause-room : goal.put_octet-last-requires-clause-room

@@ -2,7 +2,7 @@ use Rattle.std.proofs.Common.{refl, arith}
 use Rattle.std.proofs.lemmas.Result.{err_from_is_err_and}
 use Rattle.snmp_ber.specs.declared.error.BerError.TheVariants as error
 use Rattle.snmp_ber.specs.Reading.{numbers_of}
-use Rattle.snmp_ber.proofs.ReadingLemmas.{checked_err}
+use Rattle.snmp_ber.specs.ReadingLaws.{checked_err}
 use Rattle.snmp_ber.proofs.IdentifierLemmas.{numbers_full, check_fails, check_goes_on, check_plain}
 use Rattle.snmp_ber.proofs.identifier.some_numbers_at.Goals as goal
 

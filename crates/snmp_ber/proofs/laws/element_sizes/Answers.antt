@@ -1,5 +1,5 @@
 use Rattle.snmp_ber.proofs.CanonLemmas.{digit_some, length-canon_length_long, length-canon_length_short, length-from_zero}
-use Rattle.snmp_ber.proofs.ElementLemmas.{length-canon_element, length-canon_header}
+use Rattle.snmp_ber.specs.ElementLaws.{length-canon_element, length-canon_header}
 use Rattle.snmp_ber.proofs.ShortestValues.{count_rises, length_rises}
 use Rattle.snmp_ber.proofs.laws.element_sizes.Goals as goal
 

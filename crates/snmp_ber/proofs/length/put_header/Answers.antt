@@ -1,5 +1,6 @@
 use Rattle.std.proofs.Common.{arith}
-use Rattle.snmp_ber.proofs.ElementLemmas.{length-canon_header, writes_tag}
+use Rattle.snmp_ber.specs.ElementLaws.{length-canon_header}
+use Rattle.snmp_ber.proofs.ElementLemmas.{writes_tag}
 use Rattle.snmp_ber.proofs.length.put_header.Goals as goal
 
 pub put_length-start-requires-clause-room : goal.put_length-start-requires-clause-room

@@ -1,7 +1,7 @@
 use Rattle.std.proofs.Common.{ap, sym, ◌∙◌, ◌∷◌, ◌+◌}
 use Rattle.snmp_ber.specs.Canon.{octets}
 use Rattle.snmp_ber.proofs.CanonLemmas.{canon_length_long}
-use Rattle.snmp_ber.proofs.WritingLemmas.{writes_same, writes_then}
+use Rattle.snmp_ber.specs.WritingLaws.{writes_same, writes_then}
 use Rattle.snmp_ber.proofs.length.put_length.Goals as goal
 
 pub returns-else-size-lt128 : goal.returns-else-size-lt128

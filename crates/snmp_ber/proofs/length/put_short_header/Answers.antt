@@ -1,7 +1,7 @@
 use Rattle.std.proofs.Common.{arith, sym}
-use Rattle.snmp_ber.proofs.CanonLemmas.{canon_length_short, header_short}
-use Rattle.snmp_ber.proofs.ElementLemmas.{length-canon_header, writes_tag}
-use Rattle.snmp_ber.proofs.WritingLemmas.{writes_same}
+use Rattle.snmp_ber.specs.ElementLaws.{canon_length_short, header_short, length-canon_header}
+use Rattle.snmp_ber.proofs.ElementLemmas.{writes_tag}
+use Rattle.snmp_ber.specs.WritingLaws.{writes_same}
 use Rattle.snmp_ber.proofs.length.put_short_header.Goals as goal
 
 pub put_octet-start-requires-clause-room : goal.put_octet-start-requires-clause-room

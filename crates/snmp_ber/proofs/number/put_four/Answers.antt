@@ -1,6 +1,6 @@
 use Rattle.std.proofs.Common.{◌∙◌}
 use Rattle.snmp_ber.proofs.NumberWriting.{four_octets}
-use Rattle.snmp_ber.proofs.WritingLemmas.{writes_same}
+use Rattle.snmp_ber.specs.WritingLaws.{writes_same}
 use Rattle.snmp_ber.proofs.number.put_four.Goals as goal
 
 pub returns : goal.returns

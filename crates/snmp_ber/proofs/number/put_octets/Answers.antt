@@ -1,7 +1,7 @@
 use Rattle.std.proofs.Common.{ap, sym, ◌∙◌}
 use Rattle.snmp_ber.specs.Canon.{octets}
 use Rattle.snmp_ber.proofs.NumberWriting.{one_octet, two_octets}
-use Rattle.snmp_ber.proofs.WritingLemmas.{writes_same, writes_then}
+use Rattle.snmp_ber.specs.WritingLaws.{writes_same, writes_then}
 use Rattle.snmp_ber.proofs.number.put_octets.Goals as goal
 
 pub returns-in-1 : goal.returns-in-1

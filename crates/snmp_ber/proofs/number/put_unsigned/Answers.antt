@@ -1,7 +1,7 @@
 use Rattle.std.proofs.Common.{ap, ◌∙◌}
 use Rattle.snmp_ber.specs.Canon.{octets}
 use Rattle.snmp_ber.proofs.CanonLemmas.{octets_from_zero}
-use Rattle.snmp_ber.proofs.WritingLemmas.{writes_same}
+use Rattle.snmp_ber.specs.WritingLaws.{writes_same}
 use Rattle.snmp_ber.proofs.number.put_unsigned.Goals as goal
 
 pub returns : goal.returns

@@ -1,7 +1,7 @@
 use Rattle.std.proofs.Common.{arith, pos}
 use Rattle.snmp_ber.specs.Canon.{canon_number}
 use Rattle.snmp_ber.proofs.CanonLemmas.{length-from_zero}
-use Rattle.snmp_ber.proofs.ElementLemmas.{content_fits, header_fits, writes_element}
+use Rattle.snmp_ber.specs.ElementLaws.{content_fits, header_fits, writes_element}
 use Rattle.snmp_ber.proofs.ValueWriting.{number_short}
 use Rattle.snmp_ber.proofs.value.put_long_number.Goals as goal
 

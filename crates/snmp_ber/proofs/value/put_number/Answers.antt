@@ -1,10 +1,11 @@
 use Rattle.std.proofs.Common.{length, pos, ap, arith, sym, ◌∙◌}
 use Rattle.snmp_ber.specs.Canon.{canon_number}
 use Rattle.snmp_ber.proofs.CanonLemmas.{length-from_zero, length-octets}
-use Rattle.snmp_ber.proofs.ElementLemmas.{content_fits, header_fits, sized_header_fits, writes_element, writes_sized}
+use Rattle.snmp_ber.specs.ElementLaws.{content_fits, header_fits, writes_element}
+use Rattle.snmp_ber.proofs.ElementLemmas.{sized_header_fits, writes_sized}
 use Rattle.snmp_ber.proofs.NumberWriting.{fifth_octet_fits, four_octets_fit, size_five, size_four, writes_five_octets, writes_four_octets}
 use Rattle.snmp_ber.proofs.ValueWriting.{number_short}
-use Rattle.snmp_ber.proofs.WritingLemmas.{writes_same}
+use Rattle.snmp_ber.specs.WritingLaws.{writes_same}
 use Rattle.snmp_ber.proofs.value.put_number.Goals as goal
 
 pub put_unsigned-start-requires-clause-room : goal.put_unsigned-start-requires-clause-room

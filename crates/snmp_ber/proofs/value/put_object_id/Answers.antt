@@ -1,6 +1,6 @@
 use Rattle.snmp_ber.specs.Canon.{canon_content}
 use Rattle.snmp_ber.specs.Value.{object_id}
-use Rattle.snmp_ber.proofs.ElementLemmas.{content_fits, header_fits, writes_element}
+use Rattle.snmp_ber.specs.ElementLaws.{content_fits, header_fits, writes_element}
 use Rattle.snmp_ber.proofs.value.put_object_id.Goals as goal
 
 pub put_identifier-start-requires-clause-room : goal.put_identifier-start-requires-clause-room

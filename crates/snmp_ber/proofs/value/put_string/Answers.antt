@@ -1,4 +1,4 @@
-use Rattle.snmp_ber.proofs.ElementLemmas.{content_fits, header_fits, writes_element}
+use Rattle.snmp_ber.specs.ElementLaws.{content_fits, header_fits, writes_element}
 use Rattle.snmp_ber.proofs.value.put_string.Goals as goal
 
 pub put_text-start-requires-clause-room : goal.put_text-start-requires-clause-room

@@ -8,5 +8,5 @@ returns c = record {
   front = length-canon_front;
   head = length-canon_head;
   whole = length-canon;
-  heads_rise = longer_head;
+  heads_rise = longer_head c.element_sizes.ensures;
 }

@@ -27,4 +27,4 @@ returns-clause-variant c =
     (λ yes. omega (arith, size), λ fits. refl)
 
 pub returns-clause-shortest : goal.returns-clause-shortest
-returns-clause-shortest c = let h = returns-clause-some c in front_is_shortest (parts_message c.args.parts.now) _ _ _ h.0 h.1
+returns-clause-shortest c = let h = returns-clause-some c in front_is_shortest c.one_shortest_encoding.ensures (parts_message c.args.parts.now) _ _ _ h.0 h.1
