@@ -41,6 +41,7 @@ fn subidentifier_at(octets: &[u8]) -> Result<(u64, &[u8]), BerError>
 }
 
 /// The number of three digits to the base 128, the last of which has a clear high bit.
+// Hot: a few instructions for each number of three digits, as most enterprises have.
 #[inline(always)]
 fn three_digits(high: u8, mid: u8, low: u8) -> u64
     requires { low < 128 }
@@ -131,6 +132,7 @@ fn number_in(octets: &[u8]) -> (u32, &[u8])
 
 /// Checks that the content is an identifier.
 #[tactic(auto, unfolding(crate::specs::Reading::identifier_of))]
+// Hot: each binding that is checked.
 #[inline(always)]
 pub fn check_identifier(content: &[u8]) -> Result<(), BerError>
     ensures { AgreesBy (λ u. u) result (checked (reading.identifier_of content.now)) }
@@ -154,6 +156,7 @@ fn check_numbers(octets: &[u8]) -> Result<(), BerError>
 }
 
 /// How many numbers are at the front, one, four or eight of at most `room`, and what follows them.
+// Hot, and called once: a turn of the loop that checks a name.
 #[inline(always)]
 fn some_numbers_at(room: usize, octets: &[u8]) -> Result<(usize, &[u8]), BerError>
     requires { 0 < length octets.now }
@@ -182,6 +185,7 @@ fn some_numbers_at(room: usize, octets: &[u8]) -> Result<(usize, &[u8]), BerErro
 
 /// The eight octets at the front, where each is a number of its own, as in most names, and what
 /// follows them.
+// Hot: a few instructions for eight numbers of a name.
 #[inline(always)]
 fn eight_at(octets: &[u8]) -> Option<(&[u8], &[u8])>
     ensures { IfSome result (λ x. reading.IsPlainFront 8 x.0.now x.1.now octets.now) }
@@ -199,6 +203,7 @@ fn eight_at(octets: &[u8]) -> Option<(&[u8], &[u8])>
 }
 
 /// The four octets at the front, where each is a number of its own, and what follows them.
+// Hot: a few instructions for four numbers of a name.
 #[inline(always)]
 fn four_at(octets: &[u8]) -> Option<(&[u8], &[u8])>
     ensures { IfSome result (λ x. reading.IsPlainFront 4 x.0.now x.1.now octets.now) }
@@ -216,6 +221,7 @@ fn four_at(octets: &[u8]) -> Option<(&[u8], &[u8])>
 }
 
 /// Whether no octet has its high bit set, tested in one word.
+// Hot: a few instructions for four numbers of a name.
 #[inline(always)]
 fn are_low(a: u8, b: u8, c: u8, d: u8) -> bool
     ensures { IsTrue result → (a < 128) × (b < 128) × (c < 128) × (d < 128) }
@@ -237,6 +243,7 @@ pub(crate) fn identifier_of(content: &[u8]) -> Oid
 /// Appends to the empty identifier the one that the content is. To fill it in place saves moving
 /// its 520 octets.
 #[tactic(auto, unfolding(crate::specs::Reading::identifier_of))]
+// Hot: each binding that is read.
 #[inline(always)]
 pub fn push_identifier(oid: &mut Oid, content: &[u8])
     requires is_identifier { IsOk (reading.identifier_of content.now) }
@@ -276,6 +283,7 @@ fn second_number(subidentifier: u64) -> u32
 }
 
 /// Appends the numbers that the octets are.
+// Hot, and called once: the loop that reads a name.
 #[inline(always)]
 fn push_numbers(oid: &mut Oid, octets: &[u8])
     requires numbers { IsOk (reading.numbers_of 126 octets.now) }
@@ -326,6 +334,7 @@ fn push_four(oid: &mut Oid, octets: &[u8])
 }
 
 /// Appends four numbers to an identifier that has room for them.
+// Hot: four stores for four numbers of a name.
 #[inline(always)]
 fn push_octets(oid: &mut Oid, a: u8, b: u8, c: u8, d: u8)
     requires { length oid.old + 4 ≤ 128 }
@@ -359,6 +368,7 @@ fn septets_size(number: u64) -> usize
 }
 
 /// How many octets the content of an identifier takes, at most 640.
+// Hot: each binding that is written.
 #[inline(always)]
 pub fn identifier_size(name: &Oid) -> u64
     requires { IsWire name.now }
@@ -389,6 +399,7 @@ fn first_size(first: u32, second: u32) -> u64
 /// How many octets numbers take, each as a subidentifier.
 ///
 /// In most names eight short numbers, the column among them, precede the last.
+// Hot, and called once: the loop that measures a name.
 #[inline(always)]
 fn numbers_size(numbers: &[u32]) -> u64
     requires { length numbers.now ≤ 128 }
@@ -431,6 +442,7 @@ fn other_numbers_size(numbers: &[u32]) -> u64
 }
 
 /// Whether the eight numbers from a place on have one octet each.
+// Hot: a few instructions for eight numbers of a name.
 #[inline(always)]
 fn are_short(numbers: &[u32], from: usize) -> bool
     requires { from + 8 ≤ length numbers.now }
@@ -443,6 +455,7 @@ fn are_short(numbers: &[u32], from: usize) -> bool
 
 /// The subidentifiers of the four numbers before the place `left`, where each has one octet, as in
 /// most names.
+// Hot: a few instructions for four numbers of a name.
 #[inline(always)]
 fn four_before(numbers: &[u32], left: usize) -> Option<(u8, u8, u8, u8)>
     requires { left ≤ length numbers.now }
@@ -475,6 +488,7 @@ fn first_subidentifier(first: u32, second: u32) -> u64
 }
 
 /// Writes the content of an identifier before `end`, and returns where it begins.
+// Hot: each binding that is written.
 #[inline(always)]
 pub fn put_identifier(out: &mut [u8], end: usize, name: &Oid) -> usize
     requires encodable { IsWire name.now }
@@ -491,6 +505,7 @@ pub fn put_identifier(out: &mut [u8], end: usize, name: &Oid) -> usize
 
 /// Writes numbers before `end`, each as a subidentifier, and returns where they begin.
 /// [`numbers_size`] says what most of them are.
+// Hot, and called once: the loop that writes a name.
 #[inline(always)]
 fn put_numbers(out: &mut [u8], end: usize, numbers: &[u32]) -> usize
     requires room { length (flat_map canon_subidentifier numbers.now) ≤ end }
@@ -536,6 +551,7 @@ fn put_other_numbers(out: &mut [u8], end: usize, numbers: &[u32]) -> usize
 
 /// Writes the eight numbers from a place on before `end`, an octet each, and returns where they
 /// begin.
+// Hot: a few instructions for eight numbers of a name.
 #[inline(always)]
 fn put_eight(out: &mut [u8], end: usize, numbers: &[u32], from: usize) -> usize
     requires one_octet_each { AreShort numbers.now from }

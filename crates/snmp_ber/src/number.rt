@@ -26,6 +26,7 @@ pub(crate) fn unsigned(octets: &[u8]) -> u64
 
 /// The content of an INTEGER of 32 bits, in two's complement.
 #[tactic(auto, unfolding(crate::specs::Reading::integer_of))]
+// Hot: each value of its type, and four numbers of each message.
 #[inline(always)]
 pub(crate) fn integer_of(content: &[u8]) -> Result<i32, BerError>
     ensures { AgreesBy (λ z. z) result (reading.integer_of content.now) }
@@ -78,6 +79,7 @@ pub(crate) fn has_width(width: usize, content: &[u8]) -> bool
 }
 
 /// The content of an unsigned number of 32 bits.
+// Hot: each value of its type, as those of most columns.
 #[inline(always)]
 pub(crate) fn unsigned32(content: &[u8]) -> u32
     requires { IsTrue (reading.has_width 4 content.now) }

@@ -73,6 +73,7 @@ pub fn check_value(tag: u8, content: &[u8]) -> Result<(), BerError>
 }
 
 /// Reads the value of this tag and content into an existing one.
+// Hot: each binding that is read. A value of the type before it is then a store or two.
 #[inline(always)]
 pub fn read_value<'a>(tag: u8, content: &'a [u8], into: &mut ValueRef<'a>)
     requires { IsOk (reading.typed_value tag content.now) }
@@ -129,6 +130,7 @@ fn set_object_id<'a>(content: &'a [u8], into: &mut ValueRef<'a>)
 /// Changes a value of this type, as the values of a column are, to the one of this content, and
 /// returns whether it did. This saves setting over 500 octets.
 #[tactic(auto, unfolding(crate::specs::Reading::typed_value, crate::specs::Reading::unsigned_of))]
+// Hot, and called once: each binding that is read.
 #[inline(always)]
 fn is_changed<'a>(tag: u8, content: &'a [u8], value: &mut ValueRef<'a>) -> bool
     requires { IsOk (reading.typed_value tag content.now) }

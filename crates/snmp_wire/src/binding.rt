@@ -156,6 +156,7 @@ pub(crate) fn check_bindings(octets: &[u8]) -> Result<(), BerError>
 }
 
 /// The fields of the binding at the front, and what follows.
+// Hot, and called once: each binding that is checked.
 #[inline(always)]
 fn fields_at<'a>(octets: &'a [u8]) -> Result<(Fields<'a>, &'a [u8]), BerError>
     ensures { AgreesBy (λ x. (reading.fields x.0, x.1.now)) result (reading.fields_at octets.now) }
@@ -168,6 +169,7 @@ fn fields_at<'a>(octets: &'a [u8]) -> Result<(Fields<'a>, &'a [u8]), BerError>
 
 /// The fields of the binding at the front, and what follows, where each of its three lengths has
 /// one octet, as most do. None says nothing of the octets.
+// Hot: each binding that is checked or read. Inlined, its result stays in registers.
 #[inline(always)]
 fn short_fields_at<'a>(octets: &'a [u8]) -> Option<(Fields<'a>, &'a [u8])>
     ensures { IfSome result (λ x. reading.fields_at octets.now ≡ Ok (reading.fields x.0, x.1.now)) }
@@ -199,6 +201,7 @@ fn short_fields_at<'a>(octets: &'a [u8]) -> Option<(Fields<'a>, &'a [u8])>
 
 /// The fields of the binding at the front, and what follows, whatever the form of its lengths.
 #[tactic(auto, unfolding(crate::specs::Reading::fields_at))]
+// Hot where lengths have a long form: each binding that is checked.
 #[inline(always)]
 fn any_fields_at<'a>(octets: &'a [u8]) -> Result<(Fields<'a>, &'a [u8]), BerError>
     ensures { AgreesBy (λ x. (reading.fields x.0, x.1.now)) result (reading.fields_at octets.now) }
@@ -209,6 +212,7 @@ fn any_fields_at<'a>(octets: &'a [u8]) -> Result<(Fields<'a>, &'a [u8]), BerErro
 
 /// The fields of a binding's content.
 #[tactic(auto, unfolding(crate::specs::Reading::fields_of))]
+// Called once, as hot as its caller.
 #[inline(always)]
 fn fields_of<'a>(content: &'a [u8]) -> Result<Fields<'a>, BerError>
     ensures { AgreesBy reading.fields result (reading.fields_of content.now) }
@@ -250,6 +254,7 @@ fn read_long<'a>(octets: &'a [u8], into: &mut Binding<'a>) -> &'a [u8]
 }
 
 /// Reads the binding of these fields into one that is there.
+// Hot: each binding that is read.
 #[inline(always)]
 fn read_binding<'a>(fields: Fields<'a>, into: &mut Binding<'a>)
     requires { IsOk (reading.binding_of (reading.fields fields)) }
@@ -275,6 +280,7 @@ fn check_binding(fields: Fields<'_>) -> Result<(), BerError>
 ///
 /// Its name, and its value if it is an identifier, must have an encoding ([`Oid::is_wire`]), and a
 /// string must have at most 65535 octets.
+// Hot: each binding that is written.
 #[inline(always)]
 pub fn binding_size(binding: &Binding<'_>) -> u64
     requires { IsEncodable (var_bind binding.now) }

@@ -273,6 +273,7 @@ pub fn encode(parts: &Parts<'_>, out: &mut [u8]) -> Option<usize>
 /// these take `total` octets together. The bindings of `parts` aren't looked at.
 ///
 /// It requires a community of at most 65535 octets and a total of at most 4,000,000,000.
+// Hot: of one reply several, with all but the total in common, which are then found once.
 #[inline(always)]
 pub fn head_size(parts: &Parts<'_>, total: u64) -> u64
     requires community { length parts.now.community.now ≤ 65535 }
@@ -298,6 +299,7 @@ pub fn head_size(parts: &Parts<'_>, total: u64) -> u64
 /// aren't looked at. It requires what [`head_size`] requires.
 ///
 /// None only where `out` is shorter, and then it is unchanged.
+// Hot: the head of each message that is written.
 #[inline(always)]
 pub fn encode_head(parts: &Parts<'_>, total: u64, out: &mut [u8]) -> Option<usize>
     requires community { length parts.now.community.now ≤ 65535 }
