@@ -5,7 +5,6 @@ use Rattle.std.proofs.Math.Nat.{add-mul-div_left, add-mul-mod_self_left, div-div
 use lib.Signed.{lt_z}
 use mir.Val.{SFits}
 use mir.Syntax.{w32}
-use Rattle.std.proofs.lemmas.Int.{to_z-of_z}
 use Rattle.std.proofs.lemmas.Bool.{cases_lt}
 use Rattle.std.proofs.lemmas.Bool.Decides.{nat_tests}
 use Rattle.std.proofs.lemmas.Nat.{le_or_l, le_or_r}
@@ -232,9 +231,6 @@ pub ruleset length_forms = (canon_length_short, canon_length_long, length-canon_
 
 pub length-from_zero : (n : ℕ) → length (canon_number (pos n)) ≡ number_size n
 length-from_zero n = length-canon_number (pos n)
-
--- for the content of a value
-pub ruleset contents = (length-canon_number, length-from_zero, to_z-of_z, writes_none)
 
 -- each of four numbers is below 128 where the four have no higher bit
 pub below_128 : (a b c d : ℕ) → bit_or (bit_or (bit_or a b) c) d < 128 → (a < 128) × (b < 128) × (c < 128) × (d < 128)

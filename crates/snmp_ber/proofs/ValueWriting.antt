@@ -1,6 +1,5 @@
 -- Values as they are written: an element each.
 use Rattle.std.proofs.Common.{ℕ, ℤ, ◌-◌, ◌<◌, ◌≤◌, List, [], length, sym, arith, append-nil, length-append}
-use Rattle.std.proofs.lemmas.Int.{to_z-of_z}
 use Rattle.snmp_ber.specs.Canon.{canon_element, canon_header, canon_number, magnitude_of, number_size}
 use Rattle.snmp_ber.specs.Writing.{Writes}
 use Rattle.snmp_ber.proofs.CanonLemmas.{digit_most, length-canon_number}
@@ -22,5 +21,3 @@ pub writes_empty : {old new : List ℕ} {start end : ℕ} (tag : ℕ) → Writes
     → Writes old start end (canon_element tag []) new
 unfolding canon_element
 writes_empty {old} {new} {start} {end} tag w = writes_same w (sym (append-nil (canon_header tag 0)))
-
-pub ruleset arms = (to_z-of_z)

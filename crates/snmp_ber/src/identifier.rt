@@ -22,7 +22,7 @@ const LARGEST_SUBIDENTIFIER: u64 = 4294967375;
 const MORE_NUMBERS: usize = 126;
 
 /// The subidentifier at the front, and what follows.
-#[tactic(auto, unfolding(crate::specs::Reading::subidentifier_at, crate::specs::Reading::subidentifier_from))]
+#[tactic(auto, unfolding(crate::specs::Reading::subidentifier_at))]
 #[inline]
 fn subidentifier_at(octets: &[u8]) -> Result<(u64, &[u8]), BerError>
     ensures { AgreesBy (λ x. (x.0, x.1.now)) result (reading.subidentifier_at octets.now) }

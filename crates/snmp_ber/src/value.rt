@@ -53,7 +53,7 @@ pub enum ValueRef<'a> {
 }
 
 /// Checks that a value of this tag has this content.
-#[tactic(auto, unfolding(crate::specs::Reading::typed_value, crate::specs::Reading::integer_of, crate::specs::Reading::unsigned_of))]
+#[tactic(auto, unfolding(crate::specs::Reading::typed_value, crate::specs::Reading::unsigned_of))]
 #[inline]
 pub fn check_value(tag: u8, content: &[u8]) -> Result<(), BerError>
     ensures { AgreesBy (λ u. u) result (checked (reading.typed_value tag content.now)) }
@@ -184,7 +184,7 @@ fn is_changed<'a>(tag: u8, content: &'a [u8], value: &mut ValueRef<'a>) -> bool
 
 /// How many octets the content of a value takes.
 #[inline]
-#[tactic(auto, using(crate::proofs::CanonLemmas::contents), unfolding(crate::specs::Canon::canon_content))]
+#[tactic(auto, unfolding(crate::specs::Canon::canon_content))]
 pub fn content_size(value: &ValueRef<'_>) -> u64
     requires { IsEncodableValue (datum value.now) }
     ensures value { result ≡ length (canon_content (datum value.now)) }
@@ -229,7 +229,7 @@ fn address_size(address: [u8; 4]) -> u64
 /// Writes a value before `end`, its tag (RFC 3416, section 3) with its content, and returns where
 /// it begins.
 #[inline]
-#[tactic(auto, using(crate::proofs::ValueWriting::arms), unfolding(crate::specs::Canon::canon_value, crate::specs::Canon::canon_content))]
+#[tactic(auto, unfolding(crate::specs::Canon::canon_value, crate::specs::Canon::canon_content))]
 pub fn put_value(out: &mut [u8], end: usize, value: &ValueRef<'_>) -> usize
     requires encodable { IsEncodableValue (datum value.now) }
     requires room { length (canon_value (datum value.now)) ≤ end }
