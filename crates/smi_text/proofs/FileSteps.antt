@@ -17,6 +17,7 @@ use Rattle.smi_text.specs.Returned.{
   is_memory,
   error_of,
   text_ahead,
+  NewDefinitionFault,
   ReadsDefinitions,
   DefinitionsFault,
   ReadsModule,
@@ -114,6 +115,26 @@ module _ (names : BTreeSet (Bor (List ℕ))) (defs : List Def) (from now : List 
       defined = ap (λ (z : List ℕ). list_any (same_text z) (labels defs)) same-label ∙ sym (have.named x) ∙ again;
       on_line = refl;
     }
+
+-- a fault of a new definition is one of the definitions
+
+pub definitions-fault : (names : BTreeSet (Bor (List ℕ))) (defs : List Def) (from now : List Item) → HasRead names defs from now
+    → (x : List ℕ) → begins definition.first now ≡ true → x ≡ text_ahead now
+    → (error : ParseError) → NewDefinitionFault error (has names x) now → DefinitionsFault error from
+definitions-fault names defs from now have x ahead label (E.Lex fault) f = has_read-stuck names defs from now have ahead f
+definitions-fault names defs from now have x ahead label (E.Syntax line) f = has_read-stuck names defs from now have ahead f
+definitions-fault names defs from now have x ahead label (E.DoubleName line) f =
+    let P : ℕ → Type 0 = λ n. RepeatsIn n from in
+    subst P f.1.on_line (has_read-second names defs from now have x f.1.def f.1.rest ahead label f.1.read f.0)
+definitions-fault names defs from now have x ahead label E.Memory f = tt
+
+-- a stop is a fault of a new definition
+
+pub new_definition-stop : (stop : Stop) (defined : Bool) (ts : List Item) → (is_memory stop ≡ false → definition.read ts ≡ None)
+    → NewDefinitionFault (error_of stop) defined ts
+new_definition-stop (S.Syntax line) defined ts h = h refl
+new_definition-stop (S.Lex fault) defined ts h = h refl
+new_definition-stop S.Memory defined ts h = tt
 
 -- a stop is a fault of the definitions
 

@@ -82,6 +82,21 @@ pub record ReadsDefinitions (defs : List Def) (tokens rest : List Item) : Type 0
   pub read : (many definition).read tokens ≡ Some (defs, rest)
   pub distinct : are_distinct (labels defs) ≡ true
 
+-- the definition ahead is on this line
+pub record IsDefinitionOn (line : ℕ) (tokens : List Item) : Type 0 where
+  pub def : Def
+  pub rest : List Item
+  pub read : definition.read tokens ≡ Some (def, rest)
+  pub on_line : def.line ≡ line
+
+-- why there is no new definition ahead; `defined` says that its name is defined already
+abbrev pub NewDefinitionFault : ParseError → (defined : Bool) → List Item → Type 0
+NewDefinitionFault (E.Lex fault) defined tokens = definition.read tokens ≡ None
+NewDefinitionFault (E.Syntax line) defined tokens = definition.read tokens ≡ None
+NewDefinitionFault (E.DoubleName line) defined tokens =
+    (defined ≡ true) × IsDefinitionOn line tokens
+NewDefinitionFault E.Memory defined tokens = Unit {0}
+
 abbrev pub DefinitionsFault : ParseError → List Item → Type 0
 DefinitionsFault (E.Lex fault) tokens = (many definition).read tokens ≡ None
 DefinitionsFault (E.Syntax line) tokens = (many definition).read tokens ≡ None

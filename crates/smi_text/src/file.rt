@@ -2,18 +2,20 @@
 #![tactic(auto, unfolding(crate::specs::Format::begins))]
 
 ghost use Rattle.std.specs.Prelude.{◌≡◌, List, [], IfOk, IfErr, IfSome, MatchResult, MatchBool};
-ghost use Rattle.std.specs.Prelude.{map, true, ◌↔◌};
+ghost use Rattle.std.specs.Prelude.{map, true, false, Some, ◌↔◌, ◌||◌, ℕ, OnOk};
 ghost use Rattle.smi_lexer.specs.Token.{Lexeme};
-ghost use Rattle.smi_module.specs.Mark.{Stands};
+ghost use Rattle.smi_module.specs.Mark.{Stands, same_text};
+ghost use Rattle.smi_text.specs.Names.{has};
 ghost use Rattle.smi_module.specs.Spelling.{spelling};
 ghost use Rattle.smi_module.specs.Lines.{plain, unlined};
 ghost use Rattle.smi_text.specs.Returned.{ReadsDefinitions, ReadsModule, ReadsModules};
-ghost use Rattle.smi_text.specs.Returned.{DefinitionsFault, ModuleFault, ModulesFault};
+ghost use Rattle.smi_text.specs.Returned.{NewDefinitionFault, DefinitionsFault};
+ghost use Rattle.smi_text.specs.Returned.{ModuleFault, ModulesFault};
 ghost use Rattle.smi_text.specs.Returned.{IsLabelAhead};
 ghost use Rattle.smi_text.specs.Returned.{IsCauseOf};
 ghost use Rattle.smi_text.specs.Text.{AreSpelledBy, HasNoDoubles, IsCause, BreaksOff};
 ghost use Rattle.smi_module.specs.Braces.{IsBalanced};
-ghost use Rattle.smi_text.specs.Grammar.{is_balanced};
+ghost use Rattle.smi_text.specs.Grammar.{definition, is_balanced};
 ghost use Rattle.smi_module.specs.declared.tree.Module.{Module as Tree};
 ghost use Rattle.smi_module.specs.declared.tree.TokenText.{TokenText};
 
@@ -44,14 +46,41 @@ impl<'a> Parser<'a> {
         let mut names = self.name_set();
         let mut defs = self.list();
         'each: while let Some(label) = self.label() {
-            let def = self.definition()?;
-            let is_new = names::add(&mut names, label)?;
-            if !is_new {
-                return Err(ParseError::DoubleName { line: def.line });
-            }
+            let def = self.new_definition(label, &mut names)?;
             keep(&mut defs, def)?;
         }
         Ok(Items::new(defs))
+    }
+
+    /// Reads the definition of a name, and adds the name to those defined so far. It is an error
+    /// where the name is among them.
+    fn new_definition(
+        &mut self,
+        label: &'a [u8],
+        names: &mut BTreeSet<&'a [u8]>,
+    ) -> Result<Def, ParseError>
+        ensures read { IfOk result (λ def. definition.read self.old ≡ Some (def, self.new)) }
+        ensures new { OnOk result (has names.old label.now ≡ false) }
+        ensures added { OnOk result ((x : List ℕ)
+            → has names.new x ≡ (same_text label.now x || has names.old x)) }
+        ensures fault { IfErr result (λ error.
+            NewDefinitionFault error (has names.old label.now) self.old) }
+    {
+        let def = self.definition()?;
+        let line = def.line;
+        // A definition is dropped by a call: at the end of a scope, what each of its forms drops
+        // would be written out.
+        match names::add(names, label) {
+            Ok(true) => Ok(def),
+            Ok(false) => {
+                drop(def);
+                Err(ParseError::DoubleName { line })
+            }
+            Err(stop) => {
+                drop(def);
+                Err(ParseError::from(stop))
+            }
+        }
     }
 
     /// Reads a module.

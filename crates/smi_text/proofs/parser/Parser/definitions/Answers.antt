@@ -1,28 +1,20 @@
-use Rattle.std.proofs.Common.{◌≡◌, ◌∙◌, sym, Bool, true, false, not, refl}
+use Rattle.std.proofs.Common.{◌≡◌}
 use Rattle.std.proofs.lemmas.Result.{err_from_is_err_and}
-use Rattle.smi_text.proofs.FileSteps.{has_read-start, has_read-done, has_read-stuck, has_read-shorter, has_read-next, has_read-second, definitions-stop}
+use Rattle.smi_text.proofs.FileSteps.{has_read-start, has_read-done, has_read-stuck, has_read-shorter, has_read-next, definitions-fault}
 use Rattle.smi_text.proofs.parser.Parser.definitions.Goals as goal
-
-was-false : (b : Bool) → not b ≡ true → b ≡ false
-was-false true h = absurd (cc)
-was-false false h = refl
-
-was-true : (b : Bool) → not b ≡ false → b ≡ true
-was-true true h = refl
-was-true false h = absurd (cc)
 
 pub each-init : goal.each-init
 each-init c = has_read-start _ _ _ c.name_set-names.ensures c.list-defs.ensures
 
 pub each-smaller : goal.each-smaller
 each-smaller c =
-    has_read-shorter _ _ _ c.each.self c.each.invariant _ _ _ c.in-Some.ensures.0 c.in-Some.ensures.1 c.in_ok-def.ensures
+    has_read-shorter _ _ _ c.each.self c.each.invariant _ _ _ c.in-Some.ensures.0 c.in-Some.ensures.1 c.in_ok-def.ensures.read
 
 pub each-preserved : goal.each-preserved
 each-preserved c =
     rw (c.in_ok-keep.ensures.ok)
-    (has_read-next _ _ _ c.each.self c.each.invariant c.in-Some.label.now _ _ c.in-Some.ensures.0 c.in-Some.ensures.1 c.in_ok-def.ensures c.add.new.names
-    (was-false _ (sym c.in_ok-is_new.ensures.new ∙ c.if-not-is_new.false)) c.in_ok-is_new.ensures.added)
+    (has_read-next _ _ _ c.each.self c.each.invariant c.in-Some.label.now _ _ c.in-Some.ensures.0 c.in-Some.ensures.1 c.in_ok-def.ensures.read _
+    c.in_ok-def.ensures.new c.in_ok-def.ensures.added)
 
 pub returns-clause-ok : goal.returns-clause-ok
 returns-clause-ok c = rw (c.new.ensures) (has_read-done _ _ _ c.each.self c.each.invariant c.in_default.ensures)
@@ -30,10 +22,5 @@ returns-clause-ok c = rw (c.new.ensures) (has_read-done _ _ _ c.each.self c.each
 pub returns-in_err-def-clause-fault : goal.returns-in_err-def-clause-fault
 returns-in_err-def-clause-fault c =
     let p = err_from_is_err_and c.from_residual.result c.from_residual.ensures.1 in
-    rw (p.1, p.2) (definitions-stop c.in_err-def.field-0.0 _ (λ h. has_read-stuck _ _ _ c.each.self c.each.invariant c.in-Some.ensures.0
-    (c.in_err-def.ensures h)))
-
-pub returns-then-not-is_new-clause-fault : goal.returns-then-not-is_new-clause-fault
-returns-then-not-is_new-clause-fault c =
-    has_read-second _ _ _ c.each.self c.each.invariant c.in-Some.label.now _ _ c.in-Some.ensures.0 c.in-Some.ensures.1 c.in_ok-def.ensures
-    (was-true _ (sym c.in_ok-is_new.ensures.new ∙ c.if-not-is_new.true))
+    rw (p.1, p.2) (definitions-fault _ _ _ c.each.self c.each.invariant c.in-Some.label.now c.in-Some.ensures.0 c.in-Some.ensures.1 _
+    c.in_err-def.ensures.fault)
