@@ -1,5 +1,5 @@
 -- What follows of a command that has a stated shape.
-use Rattle.std.proofs.Common.{◌≡◌, ◌⊎◌, ◌&&◌, ap, ap₂, refl, sym, inl, inr, true, false, not, true≢false, Bool, List, [], ◌∷◌, Option, Some, None, cond, option_map, IsSome, is_some, find, ◌∙◌}
+use Rattle.std.proofs.Common.{◌≡◌, subst, Result, Ok, IfOk, ◌⊎◌, ◌&&◌, ap, ap₂, refl, sym, inl, inr, true, false, not, true≢false, Bool, List, [], ◌∷◌, Option, Some, None, cond, option_map, IsSome, is_some, find, ◌∙◌}
 use Rattle.clap.specs.Built.{AddsSubcommand}
 use Rattle.clap.specs.Simple.{App, app_of, built, Shape, argument_words, entered, label_of, names_of, rows_at, with_subcommand}
 use Rattle.clap.specs.Walk.{Row, Text, answers_to, stop_after}
@@ -27,6 +27,14 @@ pub subcommand_added : (command sub result : Command) (a b : App) → AddsSubcom
 subcommand_added command sub result a b adds is sub_is plain =
     adds.shape (plain_is_local _ _ _ _ (ap (λ (x : App). x.top.is_plain) sub_is ∙ plain))
     ∙ ap₂ with_subcommand is (ap (λ (x : App). x.top) sub_is)
+
+-- and where it was made so
+pub subcommand_joined : {E : Type 0} (command result : Command) (made : Result Command E) (a b : App)
+    → (added : Command) × (made ≡ Ok added) × AddsSubcommand command added result → app_of command ≡ a
+    → IfOk made (λ sub. app_of sub ≡ b) → b.top.is_plain ≡ true → app_of result ≡ with_subcommand a b.top
+subcommand_joined command result made a b (added, is_added, adds) is sub_is plain =
+    subcommand_added command added result a b adds is
+    (let P : Result Command _ → Type 0 = λ r. IfOk r (λ sub. app_of sub ≡ b) in subst P is_added sub_is) plain
 
 is_some-map : {X Y : Type 0} (f : X → Y) (o : Option X) → is_some (option_map f o) ≡ is_some o
 is_some-map f None = refl

@@ -1,5 +1,7 @@
 //! The commands of the program, with the rules for their words and the help on them.
-ghost use Rattle.std.specs.Prelude.{◌≡◌, IfOk, codes};
+ghost use Rattle.std.specs.Prelude.{◌≡◌, IfOk, Ok, codes};
+ghost use Rattle.clap.specs.Built.{AddsSubcommand};
+ghost use Rattle.clap.specs.declared.builder.command.Command.{Command};
 ghost use Rattle.clap.specs.Words.{app_of};
 ghost use Rattle.snmp_words.specs.Command.{asking_rules, get_app, getting_rules, place_rules};
 ghost use Rattle.snmp_words.specs.Command.{sending_rules, serve_app, serving_rules, showing_rules};
@@ -26,11 +28,29 @@ const SERVE_EXAMPLE: &str = "Example: snmp snmpd --table three.tab --listen 127.
 pub(crate) fn snmp_command<'a>(alloc: Global) -> Result<Command<'a>, AllocError>
     ensures { IfOk result (λ c. app_of c ≡ snmp_app) }
 {
-    let with_translate = top_command(alloc).subcommand(translate_command(alloc)?)?;
-    let with_get = with_translate.subcommand(get_command(alloc)?)?;
-    let with_walk = with_get.subcommand(walk_command(alloc)?)?;
-    let with_bulk_walk = with_walk.subcommand(bulk_walk_command(alloc)?)?;
-    with_bulk_walk.subcommand(serve_command(alloc)?)
+    let with_translate = with_subcommand(top_command(alloc), translate_command(alloc))?;
+    let with_get = with_subcommand(with_translate, get_command(alloc))?;
+    let with_walk = with_subcommand(with_get, walk_command(alloc))?;
+    let with_bulk_walk = with_subcommand(with_walk, bulk_walk_command(alloc))?;
+    with_subcommand(with_bulk_walk, serve_command(alloc))
+}
+
+// The command with one more subcommand. It is dropped by a call where memory runs out: at the end
+// of a scope, all that a command drops would be written out.
+fn with_subcommand<'a>(
+    command: Command<'a>,
+    subcommand: Result<Command<'a>, AllocError>,
+) -> Result<Command<'a>, AllocError>
+    ensures { IfOk result (λ c. (added : Command) × (subcommand.entry ≡ Ok added)
+        × AddsSubcommand command.entry added c) }
+{
+    match subcommand {
+        Ok(subcommand) => command.subcommand(subcommand),
+        Err(error) => {
+            drop(command);
+            Err(error)
+        }
+    }
 }
 
 fn top_command<'a>(alloc: Global) -> Command<'a>
