@@ -12,7 +12,7 @@ use Rattle.smi_index.specs.declared.part.Extent.TheVariants.{Fixed, Counted, Imp
 use Rattle.smi_index.specs.declared.part.IndexPart.{IndexPart}
 use Rattle.smi_index.specs.declared.part.IndexPart.TheVariants.{Number, Address, Text, Octets}
 use Rattle.smi_index.specs.declared.part.IndexPart.TheVariants.{Identifier, ImpliedIdentifier}
-use Rattle.smi_index.specs.Index.{IsInExtent, IsEncoding, ReadsValue, AreRead}
+use Rattle.smi_index.specs.Index.{IsInExtent, IsEncoding, ReadsValue, ReadValues}
 use Rattle.smi_index.specs.Reading.{front_of, values_of}
 use Rattle.smi_index.specs.Pieces.{plain_number, is_quotable, is_shown_text, piece_numbers, IsPiece}
 use Rattle.smi_index.specs.Pieces.{dotted_text, shown_pieces, as_numbers, as_text, extent_numbers}
@@ -84,7 +84,7 @@ encoding_is ImpliedIdentifier value here h = h.1
 read_whole : (part : IndexPart) (numbers value rest : List ℕ) → ReadsValue part numbers value rest → numbers ≡ value_numbers part value ++ rest
 read_whole part numbers value rest h = h.whole ∙ ap (λ (t : List ℕ). t ++ rest) (encoding_is part value h.here h.encoding)
 
-index_is : (parts : List IndexPart) (numbers : List ℕ) (values : List (List ℕ)) → AreRead parts numbers values
+index_is : (parts : List IndexPart) (numbers : List ℕ) (values : List (List ℕ)) → ReadValues parts numbers values
     → flat_map piece_numbers (index_pieces parts values) ≡ numbers
 index_is [] numbers [] h = sym h
 index_is [] numbers (value ∷ values) h = absurd h
@@ -147,7 +147,7 @@ value_each (Octets extent) value h = are_numbers (extent_numbers extent value) h
 value_each Identifier value h = are_numbers (length value ∷ value) h
 value_each ImpliedIdentifier value h = are_numbers value h
 
-index_each : (parts : List IndexPart) (numbers : List ℕ) (values : List (List ℕ)) → AreRead parts numbers values → All IsNumber numbers
+index_each : (parts : List IndexPart) (numbers : List ℕ) (values : List (List ℕ)) → ReadValues parts numbers values → All IsNumber numbers
     → All IsPiece (index_pieces parts values)
 index_each [] numbers values h all = All-nil IsPiece
 index_each (part ∷ parts) numbers [] h all = absurd h

@@ -12,7 +12,7 @@ use Rattle.smi_index.specs.declared.part.IndexPart.{IndexPart}
 use Rattle.smi_index.specs.declared.part.IndexPart.TheVariants.{Number, Address, Text, Octets}
 use Rattle.smi_index.specs.declared.part.IndexPart.TheVariants.{Identifier, ImpliedIdentifier}
 use Rattle.smi_index.specs.Index.{is_octet, AreOctetNumbers, IsInExtent, IsEncoding, LeavesIn, LeavesAfter}
-use Rattle.smi_index.specs.Index.{ReadsValue, AreRead}
+use Rattle.smi_index.specs.Index.{ReadsValue, ReadValues}
 use Rattle.smi_index.specs.Reading.{front_and_rest, counted, remaining, of_octets, in_extent, front_of}
 use Rattle.smi_index.specs.Reading.{values_of}
 
@@ -172,21 +172,21 @@ first_value value None values h = let no : ⊥ = cc in absurd no
 first_value value (Some more) values h = (more, refl, cc)
 
 step_found : (part : IndexPart) (parts : List IndexPart) (numbers : List ℕ) (values : List (List ℕ)) (front : Option Pair) → front_of part numbers ≡ front
-    → ((rest : List ℕ) (more : List (List ℕ)) → values_of parts rest ≡ Some more → AreRead parts rest more)
-    → option_and_then (λ (value, rest). option_map (λ vs. value ∷ vs) (values_of parts rest)) front ≡ Some values → AreRead (part ∷ parts) numbers values
+    → ((rest : List ℕ) (more : List (List ℕ)) → values_of parts rest ≡ Some more → ReadValues parts rest more)
+    → option_and_then (λ (value, rest). option_map (λ vs. value ∷ vs) (values_of parts rest)) front ≡ Some values → ReadValues (part ∷ parts) numbers values
 step_found part parts numbers values None is again h = let no : ⊥ = cc in absurd no
 step_found part parts numbers values (Some (value, rest)) is again h =
     let e = first_value value (values_of parts rest) values h in
-    let P : List (List ℕ) → Type 0 = λ vs. AreRead (part ∷ parts) numbers vs in
+    let P : List (List ℕ) → Type 0 = λ vs. ReadValues (part ∷ parts) numbers vs in
     subst P (sym e.2) (rest, part_found part numbers value rest is, again rest e.0 e.1)
 
-pub all_found : (parts : List IndexPart) (numbers : List ℕ) (values : List (List ℕ)) → values_of parts numbers ≡ Some values → AreRead parts numbers values
+pub all_found : (parts : List IndexPart) (numbers : List ℕ) (values : List (List ℕ)) → values_of parts numbers ≡ Some values → ReadValues parts numbers values
 all_found [] [] [] h = refl
 all_found [] [] (value ∷ values) h = let no : ⊥ = cc in absurd no
 all_found [] (n ∷ more) values h = let no : ⊥ = cc in absurd no
 all_found (part ∷ parts) numbers values h = step_found part parts numbers values (front_of part numbers) refl (all_found parts) h
 
-pub all_only : (parts : List IndexPart) (numbers : List ℕ) (values : List (List ℕ)) → AreRead parts numbers values → values_of parts numbers ≡ Some values
+pub all_only : (parts : List IndexPart) (numbers : List ℕ) (values : List (List ℕ)) → ReadValues parts numbers values → values_of parts numbers ≡ Some values
 all_only [] numbers [] h = ap (values_of []) h
 all_only [] numbers (value ∷ values) h = absurd h
 all_only (part ∷ parts) numbers [] h = absurd h
@@ -195,20 +195,20 @@ all_only (part ∷ parts) numbers (value ∷ values) h =
     let more : values_of parts h.0 ≡ Some values = all_only parts h.0 values h.2 in
     rw front (rw more refl)
 
-pub one_reading_of_all : (parts : List IndexPart) (numbers : List ℕ) (values others : List (List ℕ)) → AreRead parts numbers values
-    → AreRead parts numbers others → values ≡ others
+pub one_reading_of_all : (parts : List IndexPart) (numbers : List ℕ) (values others : List (List ℕ)) → ReadValues parts numbers values
+    → ReadValues parts numbers others → values ≡ others
 one_reading_of_all parts numbers values others h g =
     let e : Some values ≡ Some others = sym (all_only parts numbers values h) ∙ all_only parts numbers others g in cc
 
 -- whether all parts are read
-pub read_if : (parts : List IndexPart) (numbers : List ℕ) → ((values : List (List ℕ)) × AreRead parts numbers values) → is_some (values_of parts numbers) ≡ true
+pub read_if : (parts : List IndexPart) (numbers : List ℕ) → ((values : List (List ℕ)) × ReadValues parts numbers values) → is_some (values_of parts numbers) ≡ true
 read_if parts numbers h = ap is_some (all_only parts numbers h.0 h.1)
 
 some_of : (o : Option (List (List ℕ))) → is_some o ≡ true → (values : List (List ℕ)) × (o ≡ Some values)
 some_of None h = let no : ⊥ = cc in absurd no
 some_of (Some values) h = (values, refl)
 
-pub if_read : (parts : List IndexPart) (numbers : List ℕ) → is_some (values_of parts numbers) ≡ true → (values : List (List ℕ)) × AreRead parts numbers values
+pub if_read : (parts : List IndexPart) (numbers : List ℕ) → is_some (values_of parts numbers) ≡ true → (values : List (List ℕ)) × ReadValues parts numbers values
 if_read parts numbers h = let e = some_of (values_of parts numbers) h in (e.0, all_found parts numbers e.0 e.1)
 
 pub none_read : (part : IndexPart) (parts : List IndexPart) (numbers : List ℕ) → front_of part numbers ≡ None

@@ -54,9 +54,9 @@ pub record ReadsValue (part : IndexPart) (numbers value rest : List ℕ) : Type 
   pub after : LeavesAfter part rest
 
 -- the whole list of numbers is the encodings of the values, one after the other
-abbrev pub AreRead : List IndexPart → List ℕ → List (List ℕ) → Type 0
-AreRead [] numbers [] = numbers ≡ []
-AreRead [] numbers (value ∷ values) = ⊥
-AreRead (part ∷ parts) numbers [] = ⊥
-AreRead (part ∷ parts) numbers (value ∷ values) =
-    (rest : List ℕ) × ReadsValue part numbers value rest × AreRead parts rest values
+abbrev pub ReadValues : List IndexPart → List ℕ → List (List ℕ) → Type 0
+ReadValues [] numbers [] = numbers ≡ []
+ReadValues [] numbers (value ∷ values) = ⊥
+ReadValues (part ∷ parts) numbers [] = ⊥
+ReadValues (part ∷ parts) numbers (value ∷ values) =
+    (rest : List ℕ) × ReadsValue part numbers value rest × ReadValues parts rest values

@@ -2,7 +2,7 @@
 ghost use Rattle.std.specs.Prelude.{◌≡◌, ℕ, ◌↔◌, List, IsTrue};
 ghost use Rattle.std.specs.Option.{is_some};
 ghost use Rattle.smi_index.specs.declared.part.IndexPart.{IndexPart};
-ghost use Rattle.smi_index.specs.Index.{AreRead};
+ghost use Rattle.smi_index.specs.Index.{ReadValues};
 ghost use Rattle.smi_index.specs.Reading.{values_of};
 
 use crate::{IndexPart, read_part};
@@ -11,7 +11,7 @@ use crate::{IndexPart, read_part};
 /// (RFC 2578, section 7.7).
 pub fn reads(parts: &[IndexPart], numbers: &[u32]) -> bool
     ensures reads { IsTrue result
-        ↔ ((values : List (List ℕ)) × AreRead parts.now numbers.now values) }
+        ↔ ((values : List (List ℕ)) × ReadValues parts.now numbers.now values) }
     ensures value { result ≡ is_some (values_of parts.now numbers.now) }
 {
     are_read(parts, numbers)
@@ -37,5 +37,5 @@ fn are_read(parts: &[IndexPart], numbers: &[u32]) -> bool
 #[inline]
 pub fn one_list()
     ensures { (parts : List IndexPart) (numbers : List ℕ) (values others : List (List ℕ))
-        → AreRead parts numbers values → AreRead parts numbers others → values ≡ others }
+        → ReadValues parts numbers values → ReadValues parts numbers others → values ≡ others }
 {}

@@ -1,12 +1,12 @@
 use Rattle.std.proofs.Common.{◌≡◌, ℕ, List, Bool, IsTrue, ◌↔◌, is_some, ◌∙◌, sym}
 use Rattle.smi_index.specs.declared.part.IndexPart.{IndexPart}
-use Rattle.smi_index.specs.Index.{AreRead}
+use Rattle.smi_index.specs.Index.{ReadValues}
 use Rattle.smi_index.specs.Reading.{values_of}
 use Rattle.smi_index.proofs.ReadingLemmas.{read_if, if_read}
 use Rattle.smi_index.proofs.index.reads.Goals as goal
 
 tells : (b : Bool) (parts : List IndexPart) (numbers : List ℕ) → b ≡ is_some (values_of parts numbers)
-    → IsTrue b ↔ ((values : List (List ℕ)) × AreRead parts numbers values)
+    → IsTrue b ↔ ((values : List (List ℕ)) × ReadValues parts numbers values)
 tells b parts numbers h = (λ t. if_read parts numbers (sym h ∙ t), λ read. h ∙ read_if parts numbers read)
 
 pub returns-clause-reads : goal.returns-clause-reads
