@@ -8,8 +8,8 @@ use std::test::Fail;
 const MODULES: &[u8] = b"A DEFINITIONS ::= BEGIN
 IMPORTS x, y FROM B
   x, y, z, iso FROM C
-  far FROM R1
-  round FROM R1
+  far FROM RING-A
+  round FROM RING-A
   own FROM A
   gone FROM GONE
   absent, OBJECT-TYPE FROM B;
@@ -35,9 +35,10 @@ y OBJECT IDENTIFIER ::= { iso 4 }
 iso OBJECT IDENTIFIER ::= { joint-iso-ccitt 9 }
 END
 D DEFINITIONS ::= BEGIN z OBJECT IDENTIFIER ::= { ccitt 7 } END
-R1 DEFINITIONS ::= BEGIN IMPORTS far, round FROM R2; back OBJECT IDENTIFIER ::= { iso 11 } END
-R2 DEFINITIONS ::= BEGIN IMPORTS far, round FROM R3; END
-R3 DEFINITIONS ::= BEGIN IMPORTS round, back FROM R1;
+RING-A DEFINITIONS ::= BEGIN IMPORTS far, round FROM RING-B;
+back OBJECT IDENTIFIER ::= { iso 11 } END
+RING-B DEFINITIONS ::= BEGIN IMPORTS far, round FROM RING-C; END
+RING-C DEFINITIONS ::= BEGIN IMPORTS round, back FROM RING-A;
 far OBJECT IDENTIFIER ::= { back 10 }
 END
 A DEFINITIONS ::= BEGIN hidden OBJECT IDENTIFIER ::= { iso 12 } END
@@ -110,7 +111,7 @@ fn names_resolve_in_their_modules(rt: HostRuntime) -> Result<(), Fail> {
         // Imports that go round a ring of modules, one to a definition and one to none.
         ("A", "far", "1.11.10"),
         ("A", "round", "cycle"),
-        ("R3", "round", "cycle"),
+        ("RING-C", "round", "cycle"),
         ("A", "own", "cycle"),
         ("A", "each", "cycle"),
         ("A", "on", "cycle"),
@@ -127,7 +128,7 @@ fn names_resolve_in_their_modules(rt: HostRuntime) -> Result<(), Fail> {
         ("", "", "no meaning"),
     ];
     assert_eq!(rt; unresolved_row(&names, &rows), None);
-    assert!(rt; names.is_loaded(b"R3") && names.is_loaded(b"A"));
+    assert!(rt; names.is_loaded(b"RING-C") && names.is_loaded(b"A"));
     assert!(rt; !names.is_loaded(b"GONE") && !names.is_loaded(b""));
     Ok(())
 }
@@ -144,7 +145,7 @@ fn names_are_decided(rt: HostRuntime) -> Result<(), Fail> {
         ("A", "gone", Some((7, "GONE", 0))),
         ("A", "OBJECT-TYPE", Some((8, "B", 0))),
         ("A", "joint-iso-ccitt", Some((0, "", 2))),
-        ("R2", "iso", Some((0, "", 1))),
+        ("RING-B", "iso", Some((0, "", 1))),
         ("A", "nothing", None),
         ("GONE", "iso", None),
     ];
