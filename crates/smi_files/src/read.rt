@@ -25,7 +25,8 @@ pub fn read_modules<'a, F: Files>(
     ensures refused { IfErr result (λ e.
         IsFilesRefusal (F.text_at files.now) (texts paths.now) (refusal_of e)) }
     // Files that are known to hold modules are read, unless memory runs out.
-    ensures only { (ms : List Tree) → AreModulesOf (Holds (F.text_at files.now)) (texts paths.now) ms
+    ensures only { (ms : List Tree)
+        → AreModulesOf (Holds (F.text_at files.now)) (texts paths.now) ms
         → IfErr result (λ e. refusal_of e ≡ no_memory) }
 {
     let mut modules = Vec::new(alloc);

@@ -1,5 +1,4 @@
 //! Numbers and literals: their values and ranges (RFC 2578, sections 3.5 and 7.1).
-#![tactic(auto, unfolding(crate::specs::Number::is_arc, crate::specs::Number::is_number, crate::specs::Number::is_literal, crate::specs::Number::is_bound))]
 
 ghost use Rattle.std.specs.Prelude.{◌≡◌, ◌<◌, ◌≤◌, nat_le, drop, if◌then◌else◌};
 ghost use Rattle.std.specs.Bool.{then_some};
@@ -56,6 +55,7 @@ fn digits(text: &[u8]) -> &[u8]
 
 /// The number of an identifier that a NUM stands for, 0 to 4294967295 (RFC 2578, section 3.5). `-0`
 /// is 0.
+#[tactic(auto, unfolding(crate::specs::Number::is_arc))]
 pub fn arc(text: &[u8]) -> Option<u32>
     ensures { result ≡ number.arc_in text.now }
 {
@@ -75,6 +75,7 @@ pub fn is_arc(text: &[u8]) -> bool
 
 /// The number that a NUM stands for elsewhere, -9223372036854775808 to 18446744073709551615 (RFC
 /// 2578, section 7.1.1).
+#[tactic(auto, unfolding(crate::specs::Number::is_number))]
 pub fn number(text: &[u8]) -> Option<i128>
     ensures { result ≡ number.stated_number text.now }
 {
@@ -101,6 +102,7 @@ pub fn is_number(text: &[u8]) -> bool
 }
 
 /// The value of a hexadecimal or binary literal, if it is at most 18446744073709551615.
+#[tactic(auto, unfolding(crate::specs::Number::is_literal))]
 fn literal(base: u64, text: &[u8]) -> Option<u64>
     requires { 0 < base }
     ensures { result ≡ then_some (number.is_literal base text.now) (number_value base
@@ -116,6 +118,7 @@ fn literal(base: u64, text: &[u8]) -> Option<u64>
 
 /// The value of an end of a range: a NUM, or a literal up to 18446744073709551615 (RFC 2578,
 /// section 7.1.1).
+#[tactic(auto, unfolding(crate::specs::Number::is_bound))]
 pub fn bound(kind: TokenKind, text: &[u8]) -> Option<i128>
     ensures { result ≡ number.bound_in kind text.now }
 {

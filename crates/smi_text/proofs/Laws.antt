@@ -254,7 +254,8 @@ name_where-law cs k ok ahead = one-law cs (λ (x : Name). spelled k x.octets (ok
           let e : x.octets ≡ t.text = name_of-is t.text x p.1 in
           (same_kind-eq t.kind k (and-left (same_kind t.kind k) (ok t.text) p.0), sym e, ap ok e ∙ and-right (same_kind t.kind k) (ok t.text) p.0);
       picks = λ t x h.
-          if-true (same_kind t.kind k && ok t.text) (name_of t.text) None (and-both (same_kind t.kind k) (ok t.text) (rw h.0 (same_kind-same k)) (ap ok h.1 ∙ h.2))
+          if-true (same_kind t.kind k && ok t.text) (name_of t.text) None
+          (and-both (same_kind t.kind k) (ok t.text) (rw h.0 (same_kind-same k)) (ap ok h.1 ∙ h.2))
           ∙ ap name_of h.1 ∙ name_of-octets x;
       ahead = λ t x h. ahead t (rw h.0 (same_kind-same k)) (ap ok h.1 ∙ h.2);
     })

@@ -132,7 +132,8 @@ pub fn room_for_bindings(parts: &Parts<'_>, max_size: usize) -> Option<usize>
     if head > max_size {
         return None;
     }
-    // This head is at least as long as the one that is sent, so the search begins at the room or below.
+    // This head is at least as long as the one that is sent, so the search begins at the room or
+    // below it.
     let longest = head_size(parts, (max_size - head) as u64) as usize;
     let mut room = max_size.saturating_sub(longest);
     'octets: while head_size(parts, room as u64 + 1) as usize + room < max_size {

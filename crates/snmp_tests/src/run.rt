@@ -9,8 +9,9 @@ pub const THREE: &[u8] =
     b"1.3.6.1.4.1.32473.1.10.0|2|3\n1.3.6.1.4.1.32473.1.2.0|4|wes\n1.3.6.1.4.1.32473.1.1.0|2|1\n";
 
 /// Its lines.
-pub const THREE_LINES: &[u8] =
-    b".1.3.6.1.4.1.32473.1.1.0 = INTEGER: 1\n.1.3.6.1.4.1.32473.1.2.0 = STRING: \"wes\"\n.1.3.6.1.4.1.32473.1.10.0 = INTEGER: 3\n";
+pub const THREE_LINES: &[u8] = b".1.3.6.1.4.1.32473.1.1.0 = INTEGER: 1\n\
+    .1.3.6.1.4.1.32473.1.2.0 = STRING: \"wes\"\n\
+    .1.3.6.1.4.1.32473.1.10.0 = INTEGER: 3\n";
 
 /// Whether the words, over a file `t.tab` of this text, print these texts on standard output and
 /// standard error, and have this status.

@@ -57,8 +57,11 @@ fn a_walk_ends_where_its_subtree_does(rt: HostRuntime) -> Result<(), Fail> {
     let table =
         b"1.3.6.1.9.1|2|1\n1.3.6.1.10.1|2|2\n1.3.6.1.10|2|3\n1.3.6.1.11.0|2|4\n1.3.6.1.100.0|2|5\n";
     assert!(rt; walks(&rt, table, ".1.3.6.1.10", b".1.3.6.1.10.1 = INTEGER: 2\n"));
-    let all =
-        b".1.3.6.1.9.1 = INTEGER: 1\n.1.3.6.1.10 = INTEGER: 3\n.1.3.6.1.10.1 = INTEGER: 2\n.1.3.6.1.11.0 = INTEGER: 4\n.1.3.6.1.100.0 = INTEGER: 5\n";
+    let all = b".1.3.6.1.9.1 = INTEGER: 1\n\
+        .1.3.6.1.10 = INTEGER: 3\n\
+        .1.3.6.1.10.1 = INTEGER: 2\n\
+        .1.3.6.1.11.0 = INTEGER: 4\n\
+        .1.3.6.1.100.0 = INTEGER: 5\n";
     assert!(rt; walks(&rt, table, ".", all));
     Ok(())
 }

@@ -1,5 +1,6 @@
 -- What follows of a command that has a stated shape.
-use Rattle.std.proofs.Common.{◌≡◌, subst, Result, Ok, IfOk, ◌⊎◌, ◌&&◌, ap, ap₂, refl, sym, inl, inr, true, false, not, true≢false, Bool, List, [], ◌∷◌, Option, Some, None, cond, option_map, IsSome, is_some, find, ◌∙◌}
+use Rattle.std.proofs.Common.{◌≡◌, ◌⊎◌, ◌&&◌, ap, ap₂, refl, sym, inl, inr, true, false, not, true≢false, Bool, List, [], ◌∷◌}
+use Rattle.std.proofs.Common.{Option, Some, None, Result, Ok, IfOk, subst, cond, option_map, IsSome, is_some, find, ◌∙◌}
 use Rattle.clap.specs.Built.{AddsSubcommand}
 use Rattle.clap.specs.Simple.{App, app_of, built, Shape, argument_words, entered, label_of, names_of, rows_at, with_subcommand}
 use Rattle.clap.specs.Walk.{Row, Text, answers_to, stop_after}

@@ -39,6 +39,12 @@ const MIB_HELP: &str = "A file of MIB modules, whose names can be given and are 
 const DETAILS_HELP: &str = "What is shown in place of names\n\
                             d: details";
 
+const SIZE_HELP: &str = "The greatest reply of an agent that serves a table, 1 to 65507 octets; \
+                         by default 1472";
+
+const TURNS_HELP: &str = "Ends after N turns: a request, or a second without one; by default \
+                          18446744073709551615";
+
 const AGENT_HELP: &str = "The agent\n\
                           host[:port] or udp:host[:port]: the agent at that UDP port; by \
                           default port 161\n\
@@ -133,9 +139,7 @@ pub(crate) fn size_option<'a>(alloc: Global) -> Arg<'a>
     Arg::new(alloc, "size")
         .long("max-size")
         .value_name("OCTETS")
-        .help(
-            "The greatest reply of an agent that serves a table, 1 to 65507 octets; by default 1472",
-        )
+        .help(SIZE_HELP)
         .value_parser(value_parser!(u64).range(1..=65507))
 }
 
@@ -193,9 +197,7 @@ pub(crate) fn turns_option<'a>(alloc: Global) -> Arg<'a>
     Arg::new(alloc, "turns")
         .long("turns")
         .value_name("N")
-        .help(
-            "Ends after N turns: a request, or a second without one; by default 18446744073709551615",
-        )
+        .help(TURNS_HELP)
         .value_parser(value_parser!(u64))
 }
 

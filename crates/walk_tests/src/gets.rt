@@ -13,8 +13,10 @@ use std::process::Abort;
 use std::test::Fail;
 
 /// Three integers and an object prefix.
-const THREE: &[u8] =
-    b"object 1.3.6.1.4.1.32473.1.4\n1.3.6.1.4.1.32473.1.10.0|2|3\n1.3.6.1.4.1.32473.1.2.0|2|2\n1.3.6.1.4.1.32473.1.1.0|2|1\n";
+const THREE: &[u8] = b"object 1.3.6.1.4.1.32473.1.4\n\
+    1.3.6.1.4.1.32473.1.10.0|2|3\n\
+    1.3.6.1.4.1.32473.1.2.0|2|2\n\
+    1.3.6.1.4.1.32473.1.1.0|2|1\n";
 
 /// A Get: its names, its agent's greatest size, its retries and deliveries.
 #[derive(Clone, Copy)]

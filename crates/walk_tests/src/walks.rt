@@ -10,16 +10,22 @@ use std::process::Abort;
 use std::test::Fail;
 
 /// Six integers, each its place: 18 octets a binding.
-const SIX: &[u8] =
-    b"1.3.6.1.4.1.32473.1.1.0|2|1\n1.3.6.1.4.1.32473.1.2.0|2|2\n1.3.6.1.4.1.32473.1.3.0|2|3\n1.3.6.1.4.1.32473.1.4.0|2|4\n1.3.6.1.4.1.32473.1.5.0|2|5\n1.3.6.1.4.1.32473.1.6.0|2|6";
+const SIX: &[u8] = b"1.3.6.1.4.1.32473.1.1.0|2|1\n\
+    1.3.6.1.4.1.32473.1.2.0|2|2\n\
+    1.3.6.1.4.1.32473.1.3.0|2|3\n\
+    1.3.6.1.4.1.32473.1.4.0|2|4\n\
+    1.3.6.1.4.1.32473.1.5.0|2|5\n\
+    1.3.6.1.4.1.32473.1.6.0|2|6";
 
 /// Three integers, in another order than that of their names.
 const THREE: &[u8] =
     b"1.3.6.1.4.1.32473.1.10.0|2|3\n1.3.6.1.4.1.32473.1.2.0|2|2\n1.3.6.1.4.1.32473.1.1.0|2|1\n";
 
 /// A row at the root, and one that is too large for a message of 134 octets.
-const TOO_LARGE: &[u8] =
-    b"1.3.6.1.4.1.32473.1.0|2|1\n1.3.6.1.4.1.32473.1.1|4|aaaaaaaaaaaaaaaaaaaaaaaaaaaaaaaaaaaaaaaaaaaaaaaaaaaaaaaaaaaaaaaaaaaaaaaaaaaaaaaaaaaaaaaaaaaaaaaaaaaaaaaaaaaaaaaaaaaaaaaaaaaaaaaaaaaaaaaaaaaaaaaaaaaaaaaaaaaaaaaaaaaaaaaaaaaaaaaaaaaaaaaaaaaaaaaaaaaaaaaaaaaaaaaa\n";
+const TOO_LARGE: &[u8] = b"1.3.6.1.4.1.32473.1.0|2|1\n\
+    1.3.6.1.4.1.32473.1.1|4|aaaaaaaaaaaaaaaaaaaaaaaaaaaaaaaaaaaaaaaaaaaaaaaaaaaaaaaaaaaa\
+    aaaaaaaaaaaaaaaaaaaaaaaaaaaaaaaaaaaaaaaaaaaaaaaaaaaaaaaaaaaaaaaaaaaaaaaaaaaaaaaaaaaaaaaaaa\
+    aaaaaaaaaaaaaaaaaaaaaaaaaaaaaaaaaaaaaaaaaaaaaaaaaaaaaaaaaa\n";
 
 /// A walk: its table, its root, its method, its agent's greatest size, its retries and deliveries.
 #[derive(Clone, Copy)]
