@@ -201,14 +201,16 @@ one_reading_of_all parts numbers values others h g =
     let e : Some values ≡ Some others = sym (all_only parts numbers values h) ∙ all_only parts numbers others g in cc
 
 -- whether all parts are read
-pub read_if : (parts : List IndexPart) (numbers : List ℕ) → ((values : List (List ℕ)) × ReadValues parts numbers values) → is_some (values_of parts numbers) ≡ true
+pub read_if : (parts : List IndexPart) (numbers : List ℕ) → ((values : List (List ℕ)) × ReadValues parts numbers values)
+    → is_some (values_of parts numbers) ≡ true
 read_if parts numbers h = ap is_some (all_only parts numbers h.0 h.1)
 
 some_of : (o : Option (List (List ℕ))) → is_some o ≡ true → (values : List (List ℕ)) × (o ≡ Some values)
 some_of None h = let no : ⊥ = cc in absurd no
 some_of (Some values) h = (values, refl)
 
-pub if_read : (parts : List IndexPart) (numbers : List ℕ) → is_some (values_of parts numbers) ≡ true → (values : List (List ℕ)) × ReadValues parts numbers values
+pub if_read : (parts : List IndexPart) (numbers : List ℕ) → is_some (values_of parts numbers) ≡ true
+    → (values : List (List ℕ)) × ReadValues parts numbers values
 if_read parts numbers h = let e = some_of (values_of parts numbers) h in (e.0, all_found parts numbers e.0 e.1)
 
 pub none_read : (part : IndexPart) (parts : List IndexPart) (numbers : List ℕ) → front_of part numbers ≡ None
