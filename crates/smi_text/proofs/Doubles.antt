@@ -8,7 +8,7 @@ use Rattle.smi_text.specs.Format.{StandsAhead}
 use Rattle.smi_module.specs.Reserved.{is_reserved}
 use Rattle.smi_text.specs.Format.{
   Format,
-  Reading,
+  Parsed,
   begins,
   apart,
   with_front,
@@ -110,13 +110,13 @@ use Rattle.smi_text.proofs.Shorter.{definition-solid, module_text-solid}
 use Rattle.smi_text.proofs.Spells.{def-spells, head-spells, module-spells, lists}
 use Rattle.smi_text.proofs.DefinitionLists.{read-label, spelled-label}
 
-front-inv : {A : Type 0} (x : A) (r : Reading (List A)) (xs : List A) (rest : List Item) → with_front (x ∷ []) r ≡ Some (xs, rest)
+front-inv : {A : Type 0} (x : A) (r : Parsed (List A)) (xs : List A) (rest : List Item) → with_front (x ∷ []) r ≡ Some (xs, rest)
     → (more : List A) × (xs ≡ x ∷ more)
 unfolding with_front
 front-inv x None xs rest h = absurd (cc)
 front-inv {A} x (Some p) xs rest h = (p.0, sym (ap (λ (q : List A × List Item). q.0) (some-inj {A = List A × List Item} (x ∷ p.0, p.1) (xs, rest) h)))
 
-fronts-inv : {A : Type 0} (xs : List A) (r : Reading (List A)) (ys : List A) (rest : List Item) → with_front xs r ≡ Some (ys, rest)
+fronts-inv : {A : Type 0} (xs : List A) (r : Parsed (List A)) (ys : List A) (rest : List Item) → with_front xs r ≡ Some (ys, rest)
     → (zs : List A) × (r ≡ Some (zs, rest)) × (ys ≡ xs ++ zs)
 unfolding with_front
 fronts-inv xs None ys rest h = absurd (cc)

@@ -6,7 +6,7 @@ use Rattle.smi_lexer.specs.declared.token.TokenKind.TheVariants as K
 use Rattle.smi_lexer.specs.Token.{Item}
 use Rattle.smi_module.specs.Mark.{Mark, sign, spelled}
 use Rattle.smi_text.specs.Format.{StandsAhead}
-use Rattle.smi_text.specs.Format.{Reading, a_word, a_kind, meets, begins, before, behind, either, many, separated, shaped, some_of, text, token, word, lower}
+use Rattle.smi_text.specs.Format.{Parsed, a_word, a_kind, meets, begins, before, behind, either, many, separated, shaped, some_of, text, token, word, lower}
 use Rattle.smi_text.specs.Grammar.{index_marks, index_parts, implied_name, to_index, from_index, Lower, braced, index, index_names, names, read_index}
 use Rattle.smi_text.specs.Grammar.{with_names}
 use Rattle.smi_text.proofs.Lawful.{Lawful}
@@ -56,16 +56,16 @@ abbrev put_name : Name → IndexParts × List Item → IndexParts × List Item
 put_name x p = (index_parts (x ∷ p.0.names) p.0.implied, p.1)
 
 -- the names after a comma
-abbrev read_after : ℕ → (Unit {0}) × List Item → Reading IndexParts
+abbrev read_after : ℕ → (Unit {0}) × List Item → Parsed IndexParts
 read_after n q = read_index n q.1
 
 -- what comes after a name
-abbrev read_next : ℕ → Name × List Item → Reading IndexParts
+abbrev read_next : ℕ → Name × List Item → Parsed IndexParts
 read_next n p =
     if begins (a_kind K.Comma ∷ []) p.1 then with_names (p.0 ∷ []) (option_and_then (read_after n) ((token K.Comma).read p.1))
     else Some (index_parts (p.0 ∷ []) false, p.1)
 
-with_names-one : (x : Name) (r : Reading IndexParts) → with_names (x ∷ []) r ≡ option_map (put_name x) r
+with_names-one : (x : Name) (r : Parsed IndexParts) → with_names (x ∷ []) r ≡ option_map (put_name x) r
 unfolding with_names
 with_names-one x None = refl
 with_names-one x (Some p) = refl

@@ -41,7 +41,7 @@ use Rattle.smi_text.specs.Format.{StandsAhead}
 use Rattle.smi_module.specs.Reserved.{is_reserved}
 use Rattle.smi_text.specs.Format.{
   Format,
-  Reading,
+  Parsed,
   Ahead,
   a_word,
   a_name,
@@ -117,7 +117,7 @@ put_some p = (Some p.0, p.1)
 abbrev put_first : {A : Type 0} → A → List A × List Item → List A × List Item
 put_first x q = (x ∷ q.0, q.1)
 
-abbrev then_many : {A : Type 0} → Format A → ℕ → A × List Item → Reading (List A)
+abbrev then_many : {A : Type 0} → Format A → ℕ → A × List Item → Parsed (List A)
 then_many f n p = option_map (put_first p.0) (read_many f n p.1)
 
 -- no token is spelled by `never`

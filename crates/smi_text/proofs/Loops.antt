@@ -33,7 +33,7 @@ use Rattle.smi_lexer.specs.Token.{Lexeme, Item}
 use Rattle.smi_module.specs.declared.tree.TokenText.{TokenText}
 use Rattle.smi_module.specs.declared.tree.IndexParts.{IndexParts}
 use Rattle.smi_module.specs.Mark.{same_kind}
-use Rattle.smi_text.specs.Format.{Reading, a_word, a_kind, begins, word, behind, with_front, lower, token, token_ahead}
+use Rattle.smi_text.specs.Format.{Parsed, a_word, a_kind, begins, word, behind, with_front, lower, token, token_ahead}
 use Rattle.smi_text.specs.Grammar.{index_names, read_index, with_names, index_parts, depth_after, is_outside, kept_text, read_balanced, balanced}
 use Rattle.smi_module.specs.declared.names.Name.{Name}
 use Rattle.smi_text.proofs.Laws.{lower-law, token-law}
@@ -41,16 +41,16 @@ use Rattle.smi_text.proofs.Many.{reading-shorter, with_front-append, with_front-
 
 -- the names of an index
 
-with_names-none : (xs : List Name) (r : Reading IndexParts) → r ≡ None → with_names xs r ≡ None
+with_names-none : (xs : List Name) (r : Parsed IndexParts) → r ≡ None → with_names xs r ≡ None
 unfolding with_names
 with_names-none xs r e = rw e refl
 
-pub with_names-nil : (r : Reading IndexParts) → with_names [] r ≡ r
+pub with_names-nil : (r : Parsed IndexParts) → with_names [] r ≡ r
 unfolding with_names
 with_names-nil None = refl
 with_names-nil (Some p) = refl
 
-with_names-append : (xs ys : List Name) (r : Reading IndexParts) → with_names (xs ++ ys) r ≡ with_names xs (with_names ys r)
+with_names-append : (xs ys : List Name) (r : Parsed IndexParts) → with_names (xs ++ ys) r ≡ with_names xs (with_names ys r)
 unfolding with_names
 with_names-append xs ys None = refl
 with_names-append xs ys (Some p) = ap (λ (zs : List Name). Some (index_parts zs p.0.implied, p.1)) (append_assoc xs ys p.0.names)

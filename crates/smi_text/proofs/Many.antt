@@ -35,7 +35,7 @@ use Rattle.std.proofs.Common.{
 use Rattle.smi_lexer.specs.Token.{Item}
 use Rattle.smi_module.specs.Mark.{Mark}
 use Rattle.smi_text.specs.Format.{StandsAhead}
-use Rattle.smi_text.specs.Format.{Format, Reading, begins, read_many, many, with_front}
+use Rattle.smi_text.specs.Format.{Format, Parsed, begins, read_many, many, with_front}
 use Rattle.smi_text.proofs.Lawful.{Lawful}
 
 -- tokens that are spelled by no mark are the rest; else the rest is shorter
@@ -64,7 +64,7 @@ pub reading-shorter : {A : Type 0} (f : Format A) → Lawful f → f.empty ≡ f
     → length rest < length ts
 reading-shorter f law solid x ts rest h = shorter f law solid x ts rest (law.takes ts rest x h)
 
-abbrev put_one : {A : Type 0} → Format A → ℕ → A × List Item → Reading (List A)
+abbrev put_one : {A : Type 0} → Format A → ℕ → A × List Item → Parsed (List A)
 put_one f n p = option_map (λ q. (p.0 ∷ q.0, q.1)) (read_many f n p.1)
 
 -- a longer bound reads the same
@@ -78,13 +78,13 @@ enough f law solid (suc n) (suc m) [] h k = refl
 enough f law solid zero (suc m) (t ∷ ts) h k = absurd (omega arith)
 enough f law solid (suc n) zero (t ∷ ts) h k = absurd (omega arith)
 enough {A} f law solid (suc n) (suc m) (t ∷ ts) h k =
-    ap (λ (r : Reading (List A)). if begins f.first (t ∷ ts) then r else Some ([], t ∷ ts))
+    ap (λ (r : Parsed (List A)). if begins f.first (t ∷ ts) then r else Some ([], t ∷ ts))
     (elim (f.read (t ∷ ts)) as (λ r. f.read (t ∷ ts) ≡ r →
     option_and_then (put_one f n) r ≡ option_and_then (put_one f m) r) [
       | None ↦ λ e. refl
       | Some p ↦ λ e.
           let s : length p.1 < length (t ∷ ts) = reading-shorter f law solid p.0 (t ∷ ts) p.1 e in
-          ap (λ (r : Reading (List A)). option_map (λ (q : List A × List Item). (p.0 ∷ q.0, q.1)) r) (enough f law solid n m p.1 (omega arith) (omega arith))
+          ap (λ (r : Parsed (List A)). option_map (λ (q : List A × List Item). (p.0 ∷ q.0, q.1)) r) (enough f law solid n m p.1 (omega arith) (omega arith))
     ] refl)
 
 -- where the part begins and is not read, nor are several
@@ -100,7 +100,7 @@ unfolding many read_many begins with_front
 many-goes_on f law solid x [] rest b e = absurd (cc)
 many-goes_on {A} f law solid x (t ∷ ts) rest b e =
     let s : length rest < length (t ∷ ts) = reading-shorter f law solid x (t ∷ ts) rest e in
-    rw (b, e) (ap (λ (r : Reading (List A)). option_map (λ (q : List A
+    rw (b, e) (ap (λ (r : Parsed (List A)). option_map (λ (q : List A
     × List Item). (x ∷ q.0, q.1)) r) (enough f law solid (length ts) (length rest) rest (omega arith) (omega arith)))
 
 -- where the part does not begin, there are none
@@ -109,12 +109,12 @@ unfolding many read_many begins
 many-done f [] b = refl
 many-done f (t ∷ ts) b = rw b refl
 
-pub with_front-append : {A : Type 0} (xs ys : List A) (r : Reading (List A)) → with_front (xs ++ ys) r ≡ with_front xs (with_front ys r)
+pub with_front-append : {A : Type 0} (xs ys : List A) (r : Parsed (List A)) → with_front (xs ++ ys) r ≡ with_front xs (with_front ys r)
 unfolding with_front
 with_front-append xs ys None = refl
 with_front-append {A} xs ys (Some p) = ap (λ (zs : List A). Some (zs, p.1)) (append_assoc xs ys p.0)
 
-pub with_front-none : {A : Type 0} (xs : List A) (r : Reading (List A)) → r ≡ None → with_front xs r ≡ None
+pub with_front-none : {A : Type 0} (xs : List A) (r : Parsed (List A)) → r ≡ None → with_front xs r ≡ None
 unfolding with_front
 with_front-none xs r e = rw e refl
 
@@ -122,7 +122,7 @@ pub with_front-end : {A : Type 0} (xs : List A) (ts : List Item) → with_front 
 unfolding with_front
 with_front-end {A} xs ts = ap (λ (zs : List A). Some (zs, ts)) (append-nil xs)
 
-pub with_front-nil : {A : Type 0} (r : Reading (List A)) → with_front [] r ≡ r
+pub with_front-nil : {A : Type 0} (r : Parsed (List A)) → with_front [] r ≡ r
 unfolding with_front
 with_front-nil None = refl
 with_front-nil (Some p) = refl

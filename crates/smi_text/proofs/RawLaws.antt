@@ -5,7 +5,7 @@ use Rattle.smi_lexer.specs.declared.token.TokenKind.TheVariants as K
 use Rattle.smi_lexer.specs.Token.{Lexeme, Item}
 use Rattle.smi_module.specs.Mark.{same_kind, same_text}
 use Rattle.smi_text.specs.Format.{StandsAhead}
-use Rattle.smi_text.specs.Format.{Reading, no_word, no_kind, never, begins, before, behind, token, with_front, word, lower}
+use Rattle.smi_text.specs.Format.{Parsed, no_word, no_kind, never, begins, before, behind, token, with_front, word, lower}
 use Rattle.smi_text.specs.Grammar.{kept_text, depth_after, is_outside, raw_marks, balanced, before_assign, before_end, braced, default_value, is_balanced}
 use Rattle.smi_text.specs.Grammar.{read_balanced}
 use Rattle.smi_text.proofs.Lawful.{Lawful}
@@ -29,10 +29,10 @@ before_end-law =
 abbrev put_kept : TokenText → List TokenText × List Item → List TokenText × List Item
 put_kept x p = ((x ∷ []) ++ p.0, p.1)
 
-abbrev read_end : List Item → Bool → Reading (List TokenText)
+abbrev read_end : List Item → Bool → Parsed (List TokenText)
 read_end items b = if b then Some ([], items) else None
 
-abbrev read_inside : ℕ → Lexeme → List Item → Bool → Reading (List TokenText)
+abbrev read_inside : ℕ → Lexeme → List Item → Bool → Parsed (List TokenText)
 read_inside depth t ts b = if b then Some ([], Ok t ∷ ts) else with_front (kept_text t ∷ []) (read_balanced (depth_after t.kind depth) ts)
 
 ended-takes : (depth : ℕ) (items rest : List Item) (xs : List TokenText) → read_end items (depth == 0) ≡ Some (xs, rest)

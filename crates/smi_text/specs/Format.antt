@@ -93,12 +93,12 @@ abbrev pub apart : List Ahead → List Ahead → Bool
 apart cs ds = list_all (λ c. list_all (λ d. half_apart c d || half_apart d c) ds) cs
 
 -- what is read, and the tokens after it
-abbrev pub Reading : Type 0 → Type 0
-Reading A = Option (A × List Item)
+abbrev pub Parsed : Type 0 → Type 0
+Parsed A = Option (A × List Item)
 
 pub record Format (A : Type 0) : Type 0 where
   pub spell : A → List Mark
-  pub read : List Item → Reading A
+  pub read : List Item → Parsed A
   -- what it begins with
   pub first : List Ahead
   -- what must not follow it
@@ -111,7 +111,7 @@ abbrev pub never : List Mark
 never = spelled Upper [] false ∷ []
 
 -- one token: what it begins with, how it is marked, and what is taken from it
-abbrev pub read_one : {A : Type 0} → (Lexeme → Option A) → List Item → Reading A
+abbrev pub read_one : {A : Type 0} → (Lexeme → Option A) → List Item → Parsed A
 read_one pick items = option_map (λ x. (x, drop 1 items)) (option_and_then pick (token_ahead items))
 
 abbrev pub one : {A : Type 0} → List Ahead → (A → Mark) → (Lexeme → Option A) → Format A
@@ -168,8 +168,8 @@ unfoldable pub name : Format Name
 name = name_where (a_name ∷ []) Upper (λ x. not (is_reserved x))
 
 -- one part, and then another
-abbrev pub read_pair : {A B : Type 0} → (List Item → Reading A) → (List Item → Reading B)
-    → List Item → Reading (A × B)
+abbrev pub read_pair : {A B : Type 0} → (List Item → Parsed A) → (List Item → Parsed B)
+    → List Item → Parsed (A × B)
 read_pair f g ts = option_and_then (λ p. option_map (λ q. ((p.0, q.0), q.1)) (g p.1)) (f ts)
 
 unfoldable pub pair : {A B : Type 0} → Format A → Format B → Format (A × B)
@@ -232,7 +232,7 @@ either f g = record {
 }
 
 -- any number of one part, read while one begins; the number bounds the recursion
-unfoldable pub read_many : {A : Type 0} → Format A → ℕ → List Item → Reading (List A)
+unfoldable pub read_many : {A : Type 0} → Format A → ℕ → List Item → Parsed (List A)
 read_many f zero ts = Some ([], ts)
 read_many f (suc n) ts =
     if begins f.first ts then option_and_then (λ p. option_map (λ q. (p.0 ∷ q.0, q.1))
@@ -262,7 +262,7 @@ shaped to from f = record {
 }
 
 -- these parts before those that were read
-unfoldable pub with_front : {A : Type 0} → List A → Reading (List A) → Reading (List A)
+unfoldable pub with_front : {A : Type 0} → List A → Parsed (List A) → Parsed (List A)
 with_front xs r = option_map (λ p. (xs ++ p.0, p.1)) r
 
 -- one part, and then any number of another, as one list

@@ -34,7 +34,7 @@ use Rattle.smi_module.specs.Reserved.{macros}
 use Rattle.smi_module.specs.Number.{is_arc, is_number, is_bound, is_symbol, is_macro}
 use Rattle.smi_text.specs.Format.{
   Format,
-  Reading,
+  Parsed,
   Ahead,
   a_word,
   a_name,
@@ -295,11 +295,11 @@ abbrev pub index_parts : List Name → Bool → IndexParts
 index_parts xs implied = record { names = xs; implied = implied }
 
 -- these names, and then those that were read
-unfoldable pub with_names : List Name → Reading IndexParts → Reading IndexParts
+unfoldable pub with_names : List Name → Parsed IndexParts → Parsed IndexParts
 with_names xs r = option_map (λ p. (index_parts (xs ++ p.0.names) p.0.implied, p.1)) r
 
 -- the names one after the other; the number bounds the recursion
-unfoldable pub read_index : ℕ → List Item → Reading IndexParts
+unfoldable pub read_index : ℕ → List Item → Parsed IndexParts
 read_index zero ts = None
 read_index (suc n) ts =
     if begins (a_word (codes "IMPLIED") ∷ []) ts then option_map (λ p. (
@@ -363,7 +363,7 @@ is_balanced depth (x ∷ xs) = not (is_outside x.kind depth) && is_balanced
 abbrev pub raw_marks : List TokenText → List Mark
 raw_marks xs = map (λ x. spelled x.kind x.text true) xs
 
-unfoldable pub read_balanced : ℕ → List Item → Reading (List TokenText)
+unfoldable pub read_balanced : ℕ → List Item → Parsed (List TokenText)
 read_balanced depth [] = if depth == 0 then Some ([], []) else None
 read_balanced depth (Err fault ∷ items) = if depth == 0 then Some ([], Err fault ∷ items) else None
 read_balanced depth (Ok t ∷ items) =

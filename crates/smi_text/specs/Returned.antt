@@ -23,7 +23,7 @@ use Rattle.smi_text.specs.declared.stop.Stop.TheVariants.{Syntax, Lex, Memory}
 use Rattle.smi_text.specs.declared.error.ParseError.{ParseError}
 use Rattle.smi_text.specs.declared.error.ParseError.TheVariants as E
 use Rattle.smi_module.specs.Mark.{same_text}
-use Rattle.smi_text.specs.Format.{Reading, StandsAhead, token_ahead, begins, many}
+use Rattle.smi_text.specs.Format.{Parsed, StandsAhead, token_ahead, begins, many}
 use Rattle.smi_text.specs.Grammar.{definition, module_text, file}
 use Rattle.smi_module.specs.Spelling.{of_def, of_head, spelling}
 use Rattle.smi_module.specs.Lookup.{labels, are_distinct}
@@ -42,7 +42,7 @@ is_memory (Lex fault) = false
 
 -- the part and the tokens after it, as they are read; or a stop, where no part stands or memory ran
 -- out
-abbrev pub ReturnsReading : {A : Type 0} → Result A Stop → List Item → Reading A → Type 0
+abbrev pub ReturnsReading : {A : Type 0} → Result A Stop → List Item → Parsed A → Type 0
 ReturnsReading (Ok x) rest r = r ≡ Some (x, rest)
 ReturnsReading (Err e) rest r = is_memory e ≡ false → r ≡ None
 
