@@ -3,20 +3,15 @@ use Rattle.std.proofs.Common.{◌≡◌, Bool, true, false, cond, List, [], ◌�
 use Rattle.snmp_wire.specs.Message.{VarBind, Message}
 use Rattle.snmp_walk.specs.declared.phase.Phase.{Phase}
 use Rattle.snmp_walk.specs.declared.phase.Phase.TheVariants as phase
-use Rattle.snmp_walk.specs.declared.end.WalkEnd.{WalkEnd}
 use Rattle.snmp_walk.specs.declared.end.WalkEnd.TheVariants as ending
 use Rattle.snmp_walk.specs.declared.rows.Step.{Step}
 use Rattle.snmp_walk.specs.declared.rows.Step.TheVariants as step
 use Rattle.snmp_walk.specs.Walker.{Walker}
+use Rattle.snmp_walk.specs.Facts.{BringsNone}
 use Rattle.snmp_walk.specs.Taken.{stops, goes_on, closes, reads, reads_next, got, reads_first, reads_last, reads_for, reads_reply, take_of}
 
-abbrev pub GivesNone : WalkEnd → List VarBind → Type 0
-GivesNone (ending.Fault status index) rows = rows ≡ []
-GivesNone (ending.NoProgress asked) rows = rows ≡ []
-GivesNone _ rows = Unit {0}
-
 abbrev pub EndsEmpty : Step → Type 0
-EndsEmpty (step.Last rows why) = GivesNone why rows
+EndsEmpty (step.Last rows why) = BringsNone why rows
 EndsEmpty _ = Unit {0}
 
 empty_cond : (b : Bool) (x y : Step × Walker) → EndsEmpty x.0 → EndsEmpty y.0 → EndsEmpty (cond b x y).0

@@ -120,7 +120,8 @@ table_facts codec agents tries old new first rows refused end some fresh views p
 pub facts : Codec → (agents : Agents) (tries : ℕ) (old new : Traffic) (first : Walker) (rows refused : List VarBind) (end : WalkEnd) → 0 < tries → IsFresh first
     → AreViews agents.tables
     → IsPartOfWalk (IsNextFrom agents) (IsGotFrom agents) first (rows ++ refused) → IsLawfulEnd agents (HasNoReply agents tries old new) first rows end
-    → IsEndedBy agents (IsLastSent tries end new) first rows end → WalkFacts agents tries old first rows refused end new
+    → IsEndedBy agents (HasNoReply agents tries old new) (IsLastSent tries end new) first rows end
+    → WalkFacts agents tries old first rows refused end new
 facts codec agents tries old new first rows refused end some fresh views part lawful last = record {
   part = part;
   lawful = lawful;

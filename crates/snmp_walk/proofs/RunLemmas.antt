@@ -29,6 +29,7 @@ use Rattle.snmp_walk.specs.Facts.{
   rows_read,
   AreRead,
   HasRead,
+  BringsNone,
   IsEndedBy,
   IsLawfulEnd,
   HasNoReply,
@@ -65,7 +66,7 @@ use Rattle.snmp_walk.proofs.SendLemmas.{
   earlier_first,
   earlier_more,
 }
-use Rattle.snmp_walk.proofs.EndLemmas.{GivesNone, EndsEmpty, ends_empty}
+use Rattle.snmp_walk.proofs.EndLemmas.{EndsEmpty, ends_empty}
 use Rattle.snmp_walk.proofs.RisingLemmas.{end_facts, read_end}
 use Rattle.snmp_walk.proofs.PartLemmas.{part_front}
 use Rattle.snmp_walk.proofs.FullLemmas.{AreRoomy, IsFast, fast_first, fast_on}
@@ -136,7 +137,7 @@ took_reply takes before after rows ending.NoResponse own h = (h, refl)
 took_reply takes before after rows ending.Link own h = (h, refl)
 took_reply takes before after rows (ending.Sink fault) own h = absurd own
 
-lawful_reply : (agents : Agents) (Silent : Walker → Type 0) (first w : Walker) (given more : List VarBind) (why : WalkEnd) → IsReplyEnd why → GivesNone why more
+lawful_reply : (agents : Agents) (Silent : Walker → Type 0) (first w : Walker) (given more : List VarBind) (why : WalkEnd) → IsReplyEnd why → BringsNone why more
     → Reaches (IsNextFrom agents) (IsGotFrom agents) first w given → Ends (IsNextFrom agents) (IsGotFrom agents) (IsTooLarge agents) first w (given ++ more) why
     → IsLawfulEnd agents Silent first (given ++ more) why
 lawful_reply agents Silent first w given more (ending.Done n) own none h e = (w, given, more, refl, h, e)
@@ -174,7 +175,7 @@ module _ (agents : Agents) (laws : AreLawfulReplies (IsNextFrom agents) (IsGotFr
 pub record RunFacts (agents : Agents) (Silent Sent : Walker → Type 0) (first : Walker) (rows refused : List VarBind) (end : WalkEnd) : Type 0 where
   pub part : IsPartOfWalk (IsNextFrom agents) (IsGotFrom agents) first (rows ++ refused)
   pub lawful : IsLawfulEnd agents Silent first rows end
-  pub last_request : IsEndedBy agents Sent first rows end
+  pub last_request : IsEndedBy agents Silent Sent first rows end
 
 -- one datagram more was read
 are_more : (Comes : List ℕ → Type 0) (v w x : Walker) (readings : List Reading) (r : Reading) → AreRead Comes v readings w → Comes r.datagram
@@ -245,12 +246,14 @@ module _ {S : Type 0} (takes : S → VarBind → Result (Unit {0}) SinkFault →
 
   ended_by : (rows : List VarBind) (why : WalkEnd) → Sent why w → Reaches (IsNextFrom agents) (IsGotFrom agents) first w given
       → (IsReplyEnd why → Ends (IsNextFrom agents) (IsGotFrom agents) (IsTooLarge agents) first w (given ++ rows) why)
-      → IsEndedBy agents (Sent why) first (given ++ rows) why
-  ended_by rows why sent k last = record {
+      → BringsNone why rows → (why ≡ ending.NoResponse → Silent w) → IsEndedBy agents Silent (Sent why) first (given ++ rows) why
+  ended_by rows why sent k last none silent = record {
     w = w;
     given = given;
     more = rows;
     parts = refl;
+    none = none;
+    silent = silent;
     walker = good;
     id = later;
     reaches = k;
@@ -287,7 +290,7 @@ module _ {S : Type 0} (takes : S → VarBind → Result (Unit {0}) SinkFault →
                   (given ++ rows))) step_of.0;
               lawful = lawful_reply agents Silent first w given rows why any.0 (subst EndsEmpty e
                   (ends_empty w m)) k step_of.1;
-              last_request = ended_by rows why sent k (λ own. step_of.1);
+              last_request = ended_by rows why sent k (λ own. step_of.1) (subst EndsEmpty e (ends_empty w m)) (λ is. absurd (subst IsReplyEnd is any.0));
             };
       }
 
@@ -325,16 +328,16 @@ module _ {S : Type 0} (takes : S → VarBind → Result (Unit {0}) SinkFault →
             record {
               part = part_front (IsNextFrom agents) (IsGotFrom agents) first ((given ++ rows) ++ p ∷ []) left whole;
               lawful = tt;
-              last_request = ended_by rows (ending.Sink fault) sent k (λ own. absurd own);
+              last_request = ended_by rows (ending.Sink fault) sent k (λ own. absurd own) tt (λ is. let no : ⊥ = cc in absurd no);
             };
       }
 
   over_none : (why : WalkEnd) → Sent why w → (IsReplyEnd why → ⊥) → CountsAll why given → IsEndOfRun Comes (Sent why) first given [] why
-      → Took takes before given [] why t → (honest
+      → Took takes before given [] why t → BringsNone why [] → (why ≡ ending.NoResponse → honest → Silent w) → (honest
       → AreLawfulReplies (IsNextFrom agents) (IsGotFrom agents)
       → Reaches (IsNextFrom agents) (IsGotFrom agents) first w given → IsLawfulEnd agents Silent first given why)
       → IsOver [] why
-  over_none why sent none counts reason sink lawful = record {
+  over_none why sent none counts reason sink no_rows silent lawful = record {
     refused = [];
     ending = subst (λ (r : List VarBind). EndFacts Comes (Sent why) first r [] why) (sym (append-nil given))
         (end_facts Comes (Sent why) first given [] why (subst (IsPartOfWalk Rises Named first) (sym (append-nil given))
@@ -347,8 +350,8 @@ module _ {S : Type 0} (takes : S → VarBind → Result (Unit {0}) SinkFault →
       part = subst (IsPartOfWalk (IsNextFrom agents) (IsGotFrom agents) first) (sym (append-nil given)) (part_of_stage (IsNextFrom agents) (IsGotFrom agents)
           (IsTooLarge agents) laws first given w.asked w.phase k.stage);
       lawful = lawful h laws k;
-      last_request = subst (λ (r : List VarBind). IsEndedBy agents (Sent why) first r why) (append-nil given)
-          (ended_by [] why sent k (λ own. absurd (none own)));
+      last_request = subst (λ (r : List VarBind). IsEndedBy agents Silent (Sent why) first r why) (append-nil given)
+          (ended_by [] why sent k (λ own. absurd (none own)) no_rows (λ is. silent is h));
     });
   }
 
@@ -366,7 +369,7 @@ module _ {S : Type 0} (takes : S → VarBind → Result (Unit {0}) SinkFault →
       let sink : Given takes before given t = subst (Given takes before given) (sym a) sunk in
       let now : Sent ending.NoResponse w = subst (λ (x : WalkEnd). Sent x w) (sym same) sent in
       subst (λ (x : List VarBind). IsOver x end) (sym r) (subst (IsOver []) same (over_none ending.NoResponse now (λ own. own) tt
-      (w, waiting ending.NoResponse now) (sink, refl) (λ h laws k. (
+      (w, waiting ending.NoResponse now) (sink, refl) refl (λ is h. quiet (sym same) h) (λ h laws k. (
         w,
         good,
         k,
@@ -378,7 +381,7 @@ module _ {S : Type 0} (takes : S → VarBind → Result (Unit {0}) SinkFault →
       let sink : Given takes before given t = subst (Given takes before given) (sym a) sunk in
       let now : Sent ending.Link w = subst (λ (x : WalkEnd). Sent x w) (sym same) sent in
       subst (λ (x : List VarBind). IsOver x end) (sym r) (subst (IsOver []) same (over_none ending.Link now (λ own. own) tt
-      (w, waiting ending.Link now) (sink, refl) (λ h laws k. tt)))
+      (w, waiting ending.Link now) (sink, refl) refl (λ is. let no : ⊥ = cc in absurd no) (λ h laws k. tt)))
 
 -- one turn more, where there is room for all that is asked for
 fast_turn : {S : Type 0} (takes : S → VarBind → Result (Unit {0}) SinkFault → S → Type 0) (Comes : List ℕ
@@ -513,9 +516,9 @@ module _ {S : Type 0} (takes : S → VarBind → Result (Unit {0}) SinkFault →
 
   -- the last request, over a link that keeps what was sent
   last_sent : {rows : List VarBind} {end : WalkEnd} {later : Traffic} {Other : Walker → Type 0}
-      → IsEndedBy agents (λ u. (keeps → IsLastSent tries end later u) × Other u) first rows end → keeps
-      → IsEndedBy agents (IsLastSent tries end later) first rows end
-  last_sent h k = record {
+      → IsEndedBy agents (IsQuiet later) (λ u. (keeps → IsLastSent tries end later u) × Other u) first rows end → honest → old.sent ≡ []
+      → IsEndedBy agents (HasNoReply agents tries old later) (IsLastSent tries end later) first rows end
+  last_sent h good none = record {
     w = h.w;
     given = h.given;
     more = h.more;
@@ -524,7 +527,9 @@ module _ {S : Type 0} (takes : S → VarBind → Result (Unit {0}) SinkFault →
     id = h.id;
     reaches = h.reaches;
     ends = h.ends;
-    sent = h.sent.0 k;
+    none = h.none;
+    silent = λ is. h.silent is good none;
+    sent = h.sent.0 (keeping good);
   }
 
   -- the last turn
@@ -543,7 +548,6 @@ module _ {S : Type 0} (takes : S → VarBind → Result (Unit {0}) SinkFault →
         times = (x k).times;
         sent = (x k).sent;
         some = λ other. (x k).some (λ e. other (same_some end ending.Link e));
-        few = (x k).few;
         all = λ silent. (x k).all (ap Some silent);
       } in
       let done = over takes Comes agents (IsQuiet later) (λ why u. (keeps → IsLastSent tries why later u) × (why ≡ ending.NoResponse → Unheard u)) (here × IsEarlier now.sent w) first w before s t r.given r.sunk
@@ -556,7 +560,7 @@ module _ {S : Type 0} (takes : S → VarBind → Result (Unit {0}) SinkFault →
         λ h none.
             let shown = done.facts (here_honest h, r.earlier (keeping h) none) (views_answer agents (views h)) (r.honestly h (views h) none) in
             facts codec agents tries old later first (r.given ++ rows) done.refused end some fresh (views h) shown.part
-            (lawful_by agents (IsQuiet later) (HasNoReply agents tries old later) first (r.given ++ rows) end (λ u f. f h none) shown.lawful) (last_sent shown.last_request (keeping h)),
+            (lawful_by agents (IsQuiet later) (HasNoReply agents tries old later) first (r.given ++ rows) end (λ u f. f h none) shown.lawful) (last_sent shown.last_request h none),
         λ k. send_facts codec agents (honest × (old.sent ≡ [])) (AreRoomy agents (r.sends k).requests) tries old later first w
             (r.given ++ rows) r.given end fresh good
             (sends_more agents (here

@@ -63,14 +63,13 @@ pub record IsFresh (w : Walker) : Type 0 where
   pub count : w.count ≡ 0
   pub begins : (s : List ℕ) × (w.asked ≡ w.root ++ s)
 
--- The last datagrams sent are the request of w, so many times: once at least unless the link failed,
--- and by each of the `tries` where no reply came.
+-- The last datagrams sent are the request of w: one at least unless the link failed, and as many as
+-- there are `tries` where no reply came.
 pub record IsLastSent (tries : ℕ) (end : WalkEnd) (new : Traffic) (w : Walker) : Type 0 where
   pub earlier : List (List ℕ)
   pub times : ℕ
   pub sent : new.sent ≡ earlier ++ replicate times (canon (request_of w))
   pub some : end ≢ ending.Link → 0 < times
-  pub few : times ≤ tries
   pub all : end ≡ ending.NoResponse → times ≡ tries
 
 -- a datagram, and the rows that a walk read in it
@@ -186,19 +185,30 @@ IsLawfulEnd agents Silent first rows why =
     × Reaches (IsNextFrom agents) (IsGotFrom agents) first w given
     × Ends (IsNextFrom agents) (IsGotFrom agents) (IsTooLarge agents) first w rows why
 
+-- an error, a reply without bindings and no reply at all bring no rows
+abbrev pub BringsNone : WalkEnd → List VarBind → Type 0
+BringsNone (ending.Fault status index) rows = rows ≡ []
+BringsNone (ending.NoProgress asked) rows = rows ≡ []
+BringsNone ending.NoResponse rows = rows ≡ []
+BringsNone ending.Link rows = rows ≡ []
+BringsNone _ rows = Unit {0}
+
 -- How a run ended over an honest link, by its last request: w had given the first of these rows and
--- was waiting for the reply to it.
-pub record IsEndedBy (agents : Agents) (Sent : Walker → Type 0) (first : Walker)
+-- was waiting for the reply to it, which brought the others. All that a lawful end says of a walker
+-- holds of this one.
+pub record IsEndedBy (agents : Agents) (Silent Sent : Walker → Type 0) (first : Walker)
     (rows : List VarBind) (end : WalkEnd) : Type 0 where
   pub w : Walker
   pub given : List VarBind
   pub more : List VarBind
   pub parts : rows ≡ given ++ more
+  pub none : BringsNone end more
   pub walker : IsWalker w
   pub id : first.id ≤ w.id
   pub reaches : Reaches (IsNextFrom agents) (IsGotFrom agents) first w given
   pub ends : IsReplyEnd end
       → Ends (IsNextFrom agents) (IsGotFrom agents) (IsTooLarge agents) first w rows end
+  pub silent : end ≡ ending.NoResponse → Silent w
   pub sent : Sent w
 
 -- The last datagrams sent are the request of w, once for each try, and the agents have no reply to
@@ -268,7 +278,8 @@ pub record WalkFacts (agents : Agents) (tries : ℕ) (old : Traffic) (first : Wa
   pub part : IsPartOfWalk (IsNextFrom agents) (IsGotFrom agents) first (rows ++ refused)
   pub lawful : IsLawfulEnd agents (HasNoReply agents tries old new) first rows end
   -- the end is that of the request sent last
-  pub last_request : IsEndedBy agents (IsLastSent tries end new) first rows end
+  pub last_request : IsEndedBy agents (HasNoReply agents tries old new) (IsLastSent tries end new)
+      first rows end
   -- where each receive gives the reply to the latest datagram, none comes only where there is none
   pub replied : old.ahead ≡ [] → IsLawfulEnd agents (HasNone agents) first rows end
   -- over one table what was given, with what was refused, is a beginning of the walk,
