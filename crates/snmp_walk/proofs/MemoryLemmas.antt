@@ -118,19 +118,17 @@ brought_by None out rest number Next Reply h e next reply = tt
 brought_by (Some n) out rest number Next Reply h e next reply =
     (number, next, subst (Reply number) (sym (take-append-le n out rest (omega (arith, h, e)))) reply)
 
--- a receive may bring nothing at any time
-pub silent_any : (o : Option ℕ) → IfNone o (Unit {0})
-silent_any None = tt
-silent_any (Some n) = tt
+-- nothing was received, by the next delivery
+pub silent_by : (r : Option ℕ) (number : ℕ) (Next NoReply : ℕ → Type 0) → Next number → IfNone r (NoReply number) → IfNone r ((k : ℕ) × Next k × NoReply k)
+silent_by None number Next NoReply next none = (number, next, none)
+silent_by (Some n) number Next NoReply next none = tt
 
 -- the link's tables, uses and datagrams are what they were
-pub reply_before : (agents a : Agents) (uses u : List ℕ) (store s : Store) → a ≡ agents → u ≡ uses → s ≡ store → (r : Option ℕ) (number : ℕ)
-    (out : List ℕ) → IfSome r (λ n. IsReplyOf a u s.datagrams number (take n out))
-    → IfSome r (λ n. IsReplyOf agents uses store.datagrams number (take n out))
-reply_before agents a uses u store s e f g r number out h =
-    subst (λ (x : Agents). IfSome r (λ n. IsReplyOf x uses store.datagrams number (take n out))) e
-    (subst (λ (x : List ℕ). IfSome r (λ n. IsReplyOf a x store.datagrams number (take n out))) f
-    (subst (λ (x : Store). IfSome r (λ n. IsReplyOf a u x.datagrams number (take n out))) g h))
+pub as_before : (P : Agents → List ℕ → List (List ℕ) → Type 0) (agents a : Agents) (uses u : List ℕ) (store s : Store) → a ≡ agents → u ≡ uses → s ≡ store
+    → P a u s.datagrams → P agents uses store.datagrams
+as_before P agents a uses u store s e f g h =
+    subst (λ (x : Agents). P x uses store.datagrams) e
+    (subst (λ (x : List ℕ). P a x store.datagrams) f (subst (λ (x : Store). P a u x.datagrams) g h))
 
 -- the table at a place of `uses`, and the last one past them
 pub table_found : (tables : List MibView) (uses : List ℕ) (i place : ℕ) (d : MibView) → i < length uses → place ≡ get_or uses i place

@@ -1,11 +1,12 @@
 -- What is kept of a link to an agent in memory.
-use Rattle.std.specs.Prelude.{◌≡◌, ℕ, ◌≤◌, ◌-◌, List, [], ◌∷◌, length, drop, get_or}
-use Rattle.std.specs.Prelude.{Option, Some, unwrap_or}
+use Rattle.std.specs.Prelude.{◌≡◌, ℕ, ◌≤◌, ◌-◌, ◌⊎◌, List, [], ◌∷◌, ◌++◌, length, drop, get_or}
+use Rattle.std.specs.Prelude.{Option, Some, None, unwrap_or}
 use Rattle.std.specs.List.{slice_get}
 use Rattle.snmp_table.specs.Table.{MibView}
 use Rattle.snmp_agent.specs.declared.config.Config.{Config}
 use Rattle.snmp_walk.specs.declared.memory.MemoryLink.{MemoryLink}
-use Rattle.snmp_agent.specs.Reply.{IsReply}
+use Rattle.snmp_agent.specs.declared.config.Why.{Why}
+use Rattle.snmp_agent.specs.Reply.{IsReply, IsDropped}
 use Rattle.snmp_walk.specs.Link.{Agents, AreLawful, agent_in}
 use Rattle.snmp_walk.specs.Traffic.{Traffic, datagram_at}
 
@@ -58,9 +59,36 @@ pub record IsReplyOf (agents : Agents) (uses : List ℕ) (sent : List (List ℕ)
   pub serves : IsTableFor agents.tables uses number view
   pub reply : IsReply (agent_in agents view) datagram octets
 
+-- there is no datagram of this number, or the agent of the table for it has no reply to it
+abbrev pub HasNoReplyOf : Agents → (uses : List ℕ) → (sent : List (List ℕ)) → (number : ℕ)
+    → Type 0
+HasNoReplyOf agents uses sent number =
+    (datagram_at sent number ≡ None)
+    ⊎ ((datagram : List ℕ) × (view : MibView) × (why : Why)
+    × (datagram_at sent number ≡ Some datagram) × IsTableFor agents.tables uses number view
+    × IsDropped (agent_in agents view) datagram why)
+
+-- a send adds the datagram to those sent; agents, uses and deliveries stay the same
+pub record IsSentOver (old : MemoryLink) (datagram : List ℕ) (new : MemoryLink) : Type 0 where
+  pub agents : agents_of new ≡ agents_of old
+  pub uses : new.uses.now ≡ old.uses.now
+  pub sent : (traffic_of new).sent ≡ (traffic_of old).sent ++ datagram ∷ []
+  pub ahead : (traffic_of new).ahead ≡ (traffic_of old).ahead
+
+-- a receive uses the next delivery, which is for the datagram of this number; agents, uses and
+-- datagrams sent stay the same
+pub record UsesDelivery (old : MemoryLink) (number : ℕ) (new : MemoryLink) : Type 0 where
+  pub agents : agents_of new ≡ agents_of old
+  pub uses : new.uses.now ≡ old.uses.now
+  pub sent : (traffic_of new).sent ≡ (traffic_of old).sent
+  pub next : IsNextNumber (traffic_of old).sent (traffic_of old).ahead number (traffic_of new).ahead
+
 -- a receive brings the reply to the datagram whose number the next delivery gives
 abbrev pub IsBroughtBy : MemoryLink → List ℕ → MemoryLink → Type 0
-IsBroughtBy old octets new =
-    (number : ℕ)
-    × IsNextNumber old.arena.datagrams (traffic_of old).ahead number (traffic_of new).ahead
-    × IsReplyOf (agents_of old) old.uses.now old.arena.datagrams number octets
+IsBroughtBy old octets new = (number : ℕ) × UsesDelivery old number new
+    × IsReplyOf (agents_of old) old.uses.now (traffic_of old).sent number octets
+
+-- a receive brings nothing, since there is no such reply
+abbrev pub IsSilentBy : MemoryLink → MemoryLink → Type 0
+IsSilentBy old new = (number : ℕ) × UsesDelivery old number new
+    × HasNoReplyOf (agents_of old) old.uses.now (traffic_of old).sent number

@@ -47,6 +47,9 @@ pub trait Link {
     /// state.
     ghost is_silent: { Self → Self → Type 0 } = { λ _ _. Unit {0} };
 
+    /// Whether a receive into fewer than 65507 octets is a fault.
+    ghost refuses_short: { Self → Type 0 } = { λ _. ⊥ };
+
     /// Sends a datagram. A fault changes the count of faults alone.
     fn send(&mut self, datagram: &[u8]) -> Result<(), LinkFault>
         ensures sent { keeps self.old
@@ -65,8 +68,7 @@ pub trait Link {
             × ready self.new sends octets };
 
     /// Receives a datagram into the front of the buffer and returns its length, or None where none
-    /// comes in time. A fault changes the count of faults alone. An honest link refuses a buffer of
-    /// fewer than 65507 octets.
+    /// comes in time. A fault changes the count of faults alone.
     fn receive(&mut self, buffer: &mut [u8]) -> Result<Option<usize>, LinkFault>
         ensures length { IfOk result (λ got. IfSome got (λ n. n ≤ length buffer.old)) }
         ensures brings { IfOk result (λ got. IfSome got
@@ -75,7 +77,7 @@ pub trait Link {
         ensures reply { honest self.old → 65507 ≤ length buffer.old
             → IfOk result (λ got. Receives (agents self.old) (traffic self.old).sent
             (traffic self.old).ahead (received got buffer.new) (traffic self.new).ahead) }
-        ensures short { honest self.old → length buffer.old < 65507 → IsErr result }
+        ensures short { refuses_short self.old → length buffer.old < 65507 → IsErr result }
         ensures sent { keeps self.old → (traffic self.new).sent ≡ (traffic self.old).sent }
         ensures unchanged { OnErr result (traffic self.new ≡ traffic self.old) }
         ensures keeps { keeps self.old → keeps self.new }

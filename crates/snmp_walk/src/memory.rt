@@ -35,7 +35,8 @@ impl<'a> MemoryLink<'a> {
     ghost use Rattle.snmp_walk.specs.Traffic.{Gives, datagram_at, received};
     ghost use Rattle.snmp_walk.specs.Memory.{IsHonest, IsReadyFor, IsNextNumber, agents_of};
     ghost use Rattle.snmp_walk.specs.Memory.{agents_over, traffic_of, IsTableFor, IsReplyOf};
-    ghost use Rattle.std.specs.Prelude.{take};
+    ghost use Rattle.snmp_walk.specs.Memory.{HasNoReplyOf};
+    ghost use Rattle.std.specs.Prelude.{take, IfNone};
 
     /// A link to the agent of one table, over which nothing has been sent.
     pub fn new(
@@ -137,6 +138,8 @@ impl<'a> MemoryLink<'a> {
             (received result out.new) }
         ensures table { IfSome result (λ n. IsReplyOf (agents_of self.now) self.now.uses.now
             self.now.arena.datagrams number (take n out.new)) }
+        ensures none { IfNone result (HasNoReplyOf (agents_of self.now) self.now.uses.now
+            self.now.arena.datagrams number) }
     {
         let datagram = self.arena.datagram(number)?;
         match answer(self.table_for(number), &self.config, datagram, out) {
@@ -147,8 +150,8 @@ impl<'a> MemoryLink<'a> {
 }
 
 impl<'a> Link for MemoryLink<'a> {
-    ghost use Rattle.snmp_walk.specs.Memory.{IsHonest, IsReadyFor, IsBroughtBy, agents_of};
-    ghost use Rattle.snmp_walk.specs.Memory.{traffic_of};
+    ghost use Rattle.snmp_walk.specs.Memory.{IsHonest, IsReadyFor, agents_of, traffic_of};
+    ghost use Rattle.snmp_walk.specs.Memory.{IsSentOver, IsBroughtBy, IsSilentBy};
 
     ghost keeps = { λ _. Unit {0} };
 
@@ -163,6 +166,12 @@ impl<'a> Link for MemoryLink<'a> {
     ghost ready = { IsReadyFor };
 
     ghost brings = { IsBroughtBy };
+
+    ghost sends = { IsSentOver };
+
+    ghost is_silent = { IsSilentBy };
+
+    ghost refuses_short = { λ _. Unit {0} };
 
     ghost keeping = { λ _ _. tt };
 

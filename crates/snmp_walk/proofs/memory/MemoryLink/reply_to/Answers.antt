@@ -1,3 +1,4 @@
+use Rattle.std.proofs.Common.{inr}
 use Rattle.snmp_walk.proofs.MemoryLemmas.{given_reply, given_none}
 use Rattle.snmp_walk.proofs.memory.MemoryLink.reply_to.Goals as goal
 
@@ -21,3 +22,13 @@ returns-in-Reply-clause-table c = record {
   serves = c.table_for.ensures.place;
   reply = c.answer.ensures.reply c.in-Reply.length c.in-Reply.is;
 }
+
+pub returns-in-Dropped-clause-none : goal.returns-in-Dropped-clause-none
+returns-in-Dropped-clause-none c = inr (
+  c.in_ok-datagram.datagram.now,
+  c.table_for.result.now,
+  _,
+  c.in_ok-datagram.ensures.some,
+  c.table_for.ensures.place,
+  c.answer.ensures.dropped _ c.in-Dropped.is,
+)

@@ -1,9 +1,10 @@
-use Rattle.std.proofs.Common.{◌≤◌, length, drop, refl, sym, ap, subst, ℕ, List, Option}
+use Rattle.std.proofs.Common.{◌≤◌, length, take, drop, refl, sym, ap, subst, ℕ, List, Option}
 use Rattle.snmp_walk.specs.Link.{Agents}
-use Rattle.snmp_walk.specs.Memory.{agents_of, IsNextNumber, IsReplyOf}
+use Rattle.std.specs.Prelude.{IfSome, IfNone}
+use Rattle.snmp_walk.specs.Memory.{agents_of, IsReplyOf, HasNoReplyOf, UsesDelivery}
 use Rattle.snmp_walk.specs.Traffic.{received, datagram_at, Gives, Receives}
 use Rattle.snmp_walk.specs.Arena.{Store}
-use Rattle.snmp_walk.proofs.MemoryLemmas.{brought_by, silent_any, reply_before, received_front, received_at, within_more}
+use Rattle.snmp_walk.proofs.MemoryLemmas.{brought_by, silent_by, as_before, received_front, received_at, within_more}
 use Rattle.snmp_walk.proofs.memory.MemoryLinkLink.receive.Goals as goal
 
 pub returns-clause-length : goal.returns-clause-length
@@ -38,12 +39,21 @@ pub returns-clause-brings : goal.returns-clause-brings
 returns-clause-brings c =
     let self = c.args.self.now in
     let later = c.next_number-number.new.self in
-    brought_by c.reply_to.result c.reply_to.new.out _ c.next_number-number.result
-    (λ k. IsNextNumber self.arena.datagrams (drop self.used self.deliveries.now) k (drop later.used later.deliveries.now))
-    (IsReplyOf (agents_of self) self.uses.now self.arena.datagrams) c.reply_to.ensures.length c.reply_to.ensures.room c.next_number-number.ensures.number
-    (reply_before (agents_of self) (agents_of later) self.uses.now later.uses.now self.arena later.arena c.next_number-number.ensures.agents
-    (ap (λ u. u.now) c.next_number-number.ensures.uses) c.next_number-number.ensures.arena c.reply_to.result c.next_number-number.result
-    c.reply_to.new.out c.reply_to.ensures.table)
+    let same = c.next_number-number.ensures in
+    brought_by c.reply_to.result c.reply_to.new.out _ c.next_number-number.result (λ k. UsesDelivery self k later)
+    (IsReplyOf (agents_of self) self.uses.now self.arena.datagrams) c.reply_to.ensures.length c.reply_to.ensures.room
+    (record { agents = same.agents; uses = ap (λ u. u.now) same.uses; sent = ap (λ (s : Store). s.datagrams) same.arena; next = same.number })
+    (as_before (λ a u sent. IfSome c.reply_to.result (λ n. IsReplyOf a u sent c.next_number-number.result (take n c.reply_to.new.out)))
+    (agents_of self) (agents_of later) self.uses.now later.uses.now self.arena later.arena same.agents (ap (λ u. u.now) same.uses) same.arena
+    c.reply_to.ensures.table)
 
 pub returns-clause-silent : goal.returns-clause-silent
-returns-clause-silent c = silent_any c.reply_to.result
+returns-clause-silent c =
+    let self = c.args.self.now in
+    let later = c.next_number-number.new.self in
+    let same = c.next_number-number.ensures in
+    silent_by c.reply_to.result c.next_number-number.result (λ k. UsesDelivery self k later)
+    (HasNoReplyOf (agents_of self) self.uses.now self.arena.datagrams)
+    (record { agents = same.agents; uses = ap (λ u. u.now) same.uses; sent = ap (λ (s : Store). s.datagrams) same.arena; next = same.number })
+    (as_before (λ a u sent. IfNone c.reply_to.result (HasNoReplyOf a u sent c.next_number-number.result)) (agents_of self) (agents_of later)
+    self.uses.now later.uses.now self.arena later.arena same.agents (ap (λ u. u.now) same.uses) same.arena c.reply_to.ensures.none)
