@@ -24,7 +24,7 @@ use Rattle.snmp_walk.specs.declared.end.SinkFault.{SinkFault}
 use Rattle.snmp_walk.specs.declared.end.WalkEnd.{WalkEnd}
 use Rattle.snmp_walk.specs.declared.end.WalkEnd.TheVariants as ending
 use Rattle.snmp_tools.specs.Get.{GetPlan}
-use Rattle.snmp_tools.specs.Got.{AreForNames, AreFromAgents, IsEndOfGet, IsGot, IsTooBig, agent_for, request_for}
+use Rattle.snmp_tools.specs.Got.{AreForNames, AreFromAgents, IsEndOfGet, IsGot, IsReasonOfGet, IsTooBig, agent_for, request_for}
 use Rattle.snmp_tools.specs.Outcome.{end_in_memory}
 use Rattle.snmp_tools.proofs.Walked.{done_in, no_link, own_end}
 
@@ -88,6 +88,28 @@ module _ {S : Type 0} (takes : S → VarBind → Result (Unit {0}) SinkFault →
 
   -- ---- over any link
 
+  abbrev Reason : WalkEnd → Type 0
+  Reason why = IsReasonOfGet From names rows refused why
+
+  none_at_all : rows ≡ [] → refused ≡ [] → rows ++ refused ≡ []
+  none_at_all none none_refused = ap (λ (r : List VarBind). r ++ refused) none ∙ none_refused
+
+  pub reason_of : GetEnds takes request names From before rows refused end after → Reason end
+  reason_of (gives m from is none given done) = subst Reason (sym done) (m, from, is, none)
+  reason_of (is_refused m p more fault between from is one given turned done) = subst Reason (sym done) (m, p, more, from, is, one)
+  reason_of (fails m from is none none_refused same) = by_end (read_end names m end is)
+    where
+      by_end : (end ≡ ending.BadReply) ⊎ ((int_eq m.a (pos 0) ≡ false) × (end ≡ ending.Fault m.a m.b)) → Reason end
+      by_end (inl bad) =
+          let read = is ∙ ap Err bad in
+          subst Reason (sym bad) (m, from, read, none_at_all none none_refused)
+      by_end (inr fault) =
+          let read = is ∙ ap Err fault.1 in
+          subst Reason (sym fault.1) (m, from, read, none_at_all none none_refused)
+  reason_of (is_too_long long is none none_refused same) = subst Reason (sym is) (none_at_all none none_refused)
+  reason_of (is_silent is none none_refused same) = subst Reason (sym is) (none_at_all none none_refused)
+  reason_of (is_cut is none none_refused same) = subst Reason (sym is) (none_at_all none none_refused)
+
   module _ (some : names ≢ []) (long : 65507 < length (canon request) → end ≡ ending.RequestTooLong) where
     abbrev Ends : WalkEnd → Type 0
     Ends why = IsEndOfGet (λ _ _. Unit {0}) (Unit {0}) (Unit {0}) request names why
@@ -96,7 +118,7 @@ module _ {S : Type 0} (takes : S → VarBind → Result (Unit {0}) SinkFault →
     none_given : rows ≡ [] → refused ≡ [] → Ends end → (IsDone end → ⊥) → AreForNames request names rows refused end
     none_given none none_refused ends not_done = record {
       left = map wire names;
-      named = ap (λ (s : List VarBind). map (λ p. p.name) s ++ map wire names) (sym (ap (λ (r : List VarBind). r ++ refused) none ∙ none_refused));
+      named = ap (λ (s : List VarBind). map (λ p. p.name) s ++ map wire names) (sym (none_at_all none none_refused));
       whole = λ done. absurd (not_done done);
       ends = ends;
       no_names = λ empty. absurd (some empty);
@@ -258,7 +280,8 @@ module _ (plan : GetPlan) (view : MibView) (tries : ℕ) (some : 0 < tries) (old
   MemoryEnds why = IsEndOfGet (IsTooBig (agent_for plan view) (request_for plan) plan.names) ⊥
       (IsUnanswered (agent_for plan view) (canon (request_for plan))) (request_for plan) plan.names why
 
-  ends_in : (why : WalkEnd) → end ≡ why → IsEndOfGet (IsTooBig (agent_for plan view) (request_for plan) plan.names) ⊥ (Unit {0}) (request_for plan) plan.names why
+  ends_in : (why : WalkEnd) → end ≡ why
+      → IsEndOfGet (IsTooBig (agent_for plan view) (request_for plan) plan.names) ⊥ (Unit {0}) (request_for plan) plan.names why
       → MemoryEnds (end_in_memory why)
   ends_in (ending.Done n) e h = h
   ends_in (ending.Fault status index) e h = h

@@ -18,8 +18,8 @@ use Rattle.snmp_net.specs.Address.{Address, table}
 use Rattle.snmp_serve.specs.TableFile.{TableFails}
 use Rattle.snmp_tools.specs.Asking.{AskingFails, AskingStep, HasAgent, NameFails, ReachFails}
 use Rattle.snmp_tools.specs.Asking.{agent_step, community_step, letters_step, version_step}
-use Rattle.snmp_tools.specs.Get.{AreNames, AskForGet, FailsForGet, GetPlan, GetStep, HasUnsendable, IsEarlyGetRefusal, IsLateGetRefusal, asking, get_loading_steps, mibs_step}
-use Rattle.snmp_tools.specs.Get.{get_naming_steps, name_step, reach_step, sent_step}
+use Rattle.snmp_tools.specs.Get.{AreNames, AskForGet, FailsForGet, GetPlan, GetStep, HasUnsendable, IsEarlyGetRefusal, IsLateGetRefusal}
+use Rattle.snmp_tools.specs.Get.{asking, get_loading_steps, get_naming_steps, mibs_step, name_step, reach_step, sent_step}
 use Rattle.snmp_tools.specs.GetHeadline.{IsGetOf}
 use Rattle.snmp_tools.specs.Message.{Fault, bad_table, out_of_memory, unreadable}
 use Rattle.snmp_tools.specs.Mib.{IsMibOf, Mib}
@@ -63,7 +63,8 @@ both : {S : Type 0} (P : S → Type 0) (a b : List S) → AreDone P a → AreDon
 both P [] b h k = k
 both P (s ∷ a) b h k = (h.0, both P a b h.1 k)
 
-module _ (one_list : OneList) (one_tree : OneTree) (no_fault : (ls : List (List ℕ)) (view : MibView) (fault : TableError) → IsTableOf ls view → IsFirstFault ls fault → fault ≡ table_error.Memory)
+module _ (one_list : OneList) (one_tree : OneTree)
+    (no_fault : (ls : List (List ℕ)) (view : MibView) (fault : TableError) → IsTableOf ls view → IsFirstFault ls fault → fault ≡ table_error.Memory)
     (words : GetWords) (files : Holdings) (rows : List VarBind) (get : IsGetOf words files rows) (why : Fault) where
   agent_is : (agent : Address) → HasAgent words.asking.agent agent → agent ≡ table get.path
   agent_is agent has = sym (has.1 get.plan.agent get.asked.agent) ∙ get.over

@@ -148,7 +148,8 @@ goes_after mib (Some other) after text root o h e means can =
     let is : h.0 ≡ o = one_name (meaning mib.naming text) h.0 o (subst (λ (t : List ℕ). meaning mib.naming t ≡ Ok h.0) same h.1) means in
     subst (CanGoOn root) (h.2 ∙ ap Some is) can
 
-module _ (one_list : OneList) (one_tree : OneTree) (no_fault : (ls : List (List ℕ)) (view : MibView) (fault : TableError) → IsTableOf ls view → IsFirstFault ls fault → fault ≡ table_error.Memory)
+module _ (one_list : OneList) (one_tree : OneTree)
+    (no_fault : (ls : List (List ℕ)) (view : MibView) (fault : TableError) → IsTableOf ls view → IsFirstFault ls fault → fault ≡ table_error.Memory)
     (bulk : Bool) (words : WalkWords) (files : Holdings) (rows : List VarBind) (walk : IsWalk bulk words files rows)
     (can : IsFeasible walk.plan walk.view) where
   agent_is : (agent : Address) → HasAgent words.asking.agent agent → agent ≡ table walk.path

@@ -1,14 +1,16 @@
 -- What a Get writes, and what it reports.
-use Rattle.std.specs.Prelude.{◌≡◌, ◌≢◌, ◌⊎◌, ◌<◌, ◌+◌, ◌++◌, ℕ, ℤ, pos, List, [], ◌∷◌, length, map}
-use Rattle.std.specs.Prelude.{Option, Some, None}
+use Rattle.std.specs.Prelude.{◌≡◌, ◌≢◌, ◌⊎◌, ◌<◌, ◌≤◌, ◌+◌, ◌++◌, ℕ, ℤ, pos, List, [], ◌∷◌, length}
+use Rattle.std.specs.Prelude.{Option, Some, None, Ok, Err, map, replicate}
 use Rattle.snmp_oid.specs.Identifier.{wire}
 use Rattle.snmp_table.specs.Table.{MibView}
 use Rattle.snmp_wire.specs.Canon.{canon}
 use Rattle.snmp_wire.specs.Message.{Message, VarBind}
 use Rattle.snmp_agent.specs.Reply.{Fits, response}
 use Rattle.snmp_walk.specs.Facts.{IsDone}
-use Rattle.snmp_walk.specs.Get.{AreGot, GetFacts, HasRoomForGet, get_request}
-use Rattle.snmp_walk.specs.Link.{Agents, IsUnanswered, OneOf}
+use Rattle.snmp_walk.specs.Get.{AreGot, GetFacts, HasRoomForGet, IsBrought, answers_of, get_request}
+use Rattle.snmp_walk.specs.Link.{Agents, ComesOver, IsUnanswered, OneOf}
+use Rattle.snmp_walk.specs.Missed.{AreMissed, IsNotAwaited}
+use Rattle.snmp_walk.specs.declared.link.Link.{Ghosts as LinkFacts}
 use Rattle.snmp_walk.specs.Traffic.{Traffic}
 use Rattle.snmp_walk.specs.declared.end.WalkEnd.{WalkEnd}
 use Rattle.snmp_walk.specs.declared.end.WalkEnd.TheVariants as ending
@@ -26,7 +28,7 @@ use Rattle.snmp_tools.specs.Lines.{IsPrintedUpTo}
 use Rattle.snmp_tools.specs.Message.{Fault, ended}
 use Rattle.snmp_io.specs.Files.{Holdings, MayHold}
 use Rattle.snmp_tools.specs.Mib.{AreLoaded, Mib}
-use Rattle.snmp_tools.specs.Outcome.{IsOwnEnd, IsReported}
+use Rattle.snmp_tools.specs.Outcome.{IsFreshAndHonest, IsOwnEnd, IsReported}
 
 -- ---- the Get
 
@@ -35,7 +37,7 @@ pub record IsGetFor (words : GetWords) (mib : Mib) (plan : GetPlan) : Type 0 whe
   pub asked : AskForGet words mib plan
   pub only : HasAgent words.asking.agent plan.agent
 
--- its request, whose id is 1
+-- its request, whose id is 1: its community and names are those that the words state (`AskForGet`)
 abbrev pub request_for : GetPlan → Message
 request_for plan = get_request plan.community 1 plan.names
 
@@ -133,19 +135,57 @@ IsGetTableOutcome words files mib plan path before after fault =
     ⊎ ((view : MibView) × HasTable files path view
     × IsGetPrinted (IsGot plan view) mib plan words.asking.agent before after fault)
 
--- What is known of the link that was opened: its facts, by which the Get over it is judged. Where
--- the Get ends because the link failed, the link has counted that.
+-- Why a Get of names ended, whatever the link brings, `From` saying of a message that it is a reply
+-- to the Get which came over the link: by what such a reply brings, or by the sink, that refused a
+-- binding of it.
+abbrev pub IsReasonOfGet : (From : Message → Type 0) → (names : List (List ℕ))
+    → (given refused : List VarBind) → WalkEnd → Type 0
+IsReasonOfGet From names given refused (ending.Done count) =
+    (m : Message) × From m × (answers_of names m ≡ Ok given) × (refused ≡ [])
+IsReasonOfGet From names given refused (ending.Sink fault) =
+    (m : Message) × (p : VarBind) × (left : List VarBind) × From m
+    × (answers_of names m ≡ Ok (given ++ p ∷ left)) × (refused ≡ p ∷ [])
+IsReasonOfGet From names given refused ending.NoResponse = given ++ refused ≡ []
+IsReasonOfGet From names given refused ending.RequestTooLong = given ++ refused ≡ []
+IsReasonOfGet From names given refused ending.Link = given ++ refused ≡ []
+IsReasonOfGet From names given refused end =
+    (m : Message) × From m × (answers_of names m ≡ Err end) × (given ++ refused ≡ [])
+
+-- What is known of a Get of names over a link, which was `link` before the Get and is `after` then.
+-- Its request has the id 1.
+pub record IsGotOver {W : Type 0} (facts : LinkFacts W) (link after : W) (tries : ℕ)
+    (community : List ℕ) (names : List (List ℕ)) (given refused : List VarBind) (end : WalkEnd) :
+    Type 0 where
+  pub named : AreForNames (get_request community 1 names) names given refused end
+  -- each end has its own reason in a datagram that came over the link; with NoResponse it ends
+  -- where each try of the request missed its reply
+  pub reason : names ≢ [] → IsReasonOfGet (IsBrought (ComesOver facts.brings) (facts.agents link)
+      (IsFreshAndHonest facts link) community 1 names) names given refused end
+  pub missed : end ≡ ending.NoResponse → AreMissed facts.sends facts.brings facts.is_silent
+      (IsNotAwaited community 1) (canon (get_request community 1 names)) tries link after
+  -- over a link that keeps what is sent: the request alone, at most once for each try
+  pub sent : facts.keeps link → (times : ℕ) × (times ≤ tries)
+      × ((facts.traffic after).sent ≡ (facts.traffic link).sent
+      ++ replicate times (canon (get_request community 1 names)))
+      × (end ≡ ending.NoResponse → times ≡ tries)
+  -- over an honest link over which nothing was sent before: what its agents gave
+  pub judged : IsFreshAndHonest facts link → AreFromAgents (facts.agents link) tries
+      (facts.traffic link) (get_request community 1 names) names given refused end
+      (facts.traffic after)
+  -- the link counts a failure where the Get ends because of it, and none in any other case
+  pub fault : end ≡ ending.Link → HasRisen (facts.fault_count link) (facts.fault_count after)
+  pub count : end ≢ ending.Link → facts.fault_count after ≡ facts.fault_count link
+
+-- What is known of the link that was opened, over which nothing was sent before, and of the Get
+-- over it.
 pub record HasGetFacts {W : Type 0} (Opens : (host : List ℕ) → (port seconds : ℕ) → W → Type 0)
-    (Honest : W → Type 0) (agents : W → Agents) (traffic : W → Traffic) (fault_count : W → ℕ)
-    (host : List ℕ) (port seconds tries : ℕ) (plan : GetPlan) (given refused : List VarBind)
-    (end : WalkEnd) : Type 0 where
+    (facts : LinkFacts W) (host : List ℕ) (port seconds tries : ℕ) (plan : GetPlan)
+    (given refused : List VarBind) (end : WalkEnd) : Type 0 where
   pub link : W
   pub after : W
   pub opened : Opens host port seconds link
-  pub named : AreForNames (request_for plan) plan.names given refused end
-  pub judged : Honest link → AreFromAgents (agents link) tries (traffic link) (request_for plan)
-      plan.names given refused end (traffic after)
-  pub fault : end ≡ ending.Link → HasRisen (fault_count link) (fault_count after)
+  pub fresh : (facts.traffic link).sent ≡ []
+  pub run : IsGotOver facts link after tries plan.community plan.names given refused end
 
 -- What a job wrote by the names and types of its modules, and why it wasn't done, if it wasn't:
 -- nothing where its words are refused, or the lines of what it got over a table, which its file

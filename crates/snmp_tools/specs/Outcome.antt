@@ -7,13 +7,15 @@ use Rattle.snmp_oid.specs.Identifier.{wire}
 use Rattle.snmp_table.specs.Listing.{variables}
 use Rattle.snmp_table.specs.Table.{IsGet, MibView}
 use Rattle.snmp_wire.specs.Message.{VarBind}
-use Rattle.snmp_walk.specs.Facts.{HasNone, IsDone, IsLawfulEnd, WalkFacts}
-use Rattle.snmp_walk.specs.Traffic.{Traffic}
-use Rattle.snmp_walk.specs.Standing.{CountsAll, IsPartOfWalk, Named, Rises}
-use Rattle.snmp_walk.specs.Link.{Agents}
+use Rattle.snmp_walk.specs.Facts.{EndFacts, HasNone, IsDone, IsLastSent, IsLawfulEnd, ReadyFacts}
+use Rattle.snmp_walk.specs.Facts.{SendFacts, WalkFacts}
+use Rattle.snmp_walk.specs.Standing.{IsPartOfWalk, Named, Rises}
+use Rattle.snmp_walk.specs.Link.{Agents, ComesOver}
+use Rattle.snmp_walk.specs.Missed.{MissesReply}
+use Rattle.snmp_walk.specs.declared.link.Link.{Ghosts as LinkFacts}
 use Rattle.snmp_walk.specs.Request.{resumed, started}
 use Rattle.snmp_walk.specs.Room.{HasIds, HasRoomForEach}
-use Rattle.snmp_walk.specs.Walk.{AreRising, rest_of, walk_of}
+use Rattle.snmp_walk.specs.Walk.{rest_of, walk_of}
 use Rattle.snmp_walk.specs.Walker.{Walker}
 use Rattle.snmp_walk.specs.declared.end.SinkFault.TheVariants as sink
 use Rattle.snmp_walk.specs.declared.end.WalkEnd.{WalkEnd}
@@ -42,7 +44,8 @@ abbrev pub first_after : Option (List ℕ) → Plan → Walker
 first_after None plan = started plan.root plan.mode plan.method plan.community 1
 first_after (Some after) plan = resumed plan.root after plan.method plan.community 1
 
--- the walk before its first request, whose id is 1
+-- the walk before its first request, whose id is 1: its root, mode, method and community are those
+-- that the words of the plan state (`AskFor`)
 abbrev pub first_of : Plan → Walker
 first_of plan = first_after plan.after plan
 
@@ -133,30 +136,54 @@ pub record IsWalkPrinted (mib : Mib) (plan : Plan) (view : MibView) (agent : Lis
   pub lines : IsPrintedUpTo mib plan.letters before given turned end between
   pub finish : IsFinished plan.counts agent end between after fault
 
--- What is known of the link that was opened: its facts, by which the walk over it is judged. Where
--- the walk ends because the link failed, the link has counted that.
+-- the link is honest, and nothing was sent over it before
+abbrev pub IsFreshAndHonest : {W : Type 0} → LinkFacts W → W → Type 0
+IsFreshAndHonest {W} facts link = facts.honest link × ((facts.traffic link).sent ≡ [])
+
+-- What is known of a walk over a link, which was `link` before the walk and is `after` then.
+pub record IsWalkedOver {W : Type 0} (facts : LinkFacts W) (link after : W) (tries : ℕ)
+    (first : Walker) (given refused : List VarBind) (end : WalkEnd) : Type 0 where
+  -- the names given are those of its root and of instances below that
+  pub part : IsPartOfWalk Rises Named first (given ++ refused)
+  -- they rise, where it is done its end counts them, and each end has its own reason in a datagram
+  -- that came over the link; with NoResponse it ends where each try of the request missed its reply
+  pub ends : EndFacts (ComesOver facts.brings) (λ w.
+      (facts.keeps link → IsLastSent tries end (facts.traffic after) w)
+      × (end ≡ ending.NoResponse
+      → MissesReply facts.sends facts.brings facts.is_silent tries after w)) first given refused
+      end
+  -- over a link that keeps what is sent: which requests were sent, and how many times
+  pub sent : facts.keeps link → SendFacts (facts.agents link) (IsFreshAndHonest facts link) tries
+      (facts.traffic link) first given end (facts.traffic after)
+  -- over an honest link over which nothing was sent before: what its agents gave,
+  pub judged : IsFreshAndHonest facts link
+      → WalkFacts (facts.agents link) tries (facts.traffic link) first given refused end
+      (facts.traffic after)
+  -- and that it doesn't fail where it is ready for all that is sent
+  pub ready : ReadyFacts (facts.agents link) (IsFreshAndHonest facts link) (facts.ready link) tries
+      first end
+  -- the link counts a failure where the walk ends because of it, and none in any other case
+  pub fault : end ≡ ending.Link → HasRisen (facts.fault_count link) (facts.fault_count after)
+  pub count : end ≢ ending.Link → facts.fault_count after ≡ facts.fault_count link
+
+-- What is known of the link that was opened, over which nothing was sent before, and of the walk
+-- over it.
 pub record HasLinkFacts {W : Type 0} (Opens : (host : List ℕ) → (port seconds : ℕ) → W → Type 0)
-    (Honest : W → Type 0) (agents : W → Agents) (traffic : W → Traffic) (fault_count : W → ℕ)
-    (host : List ℕ) (port seconds tries : ℕ) (first : Walker) (given refused : List VarBind)
-    (end : WalkEnd) : Type 0 where
+    (facts : LinkFacts W) (host : List ℕ) (port seconds tries : ℕ) (first : Walker)
+    (given refused : List VarBind) (end : WalkEnd) : Type 0 where
   pub link : W
   pub after : W
   pub opened : Opens host port seconds link
-  pub judged : Honest link
-      → WalkFacts (agents link) tries (traffic link) first given refused end (traffic after)
-  pub fault : end ≡ ending.Link → HasRisen (fault_count link) (fault_count after)
+  pub fresh : (facts.traffic link).sent ≡ []
+  pub run : IsWalkedOver facts link after tries first given refused end
 
--- The walk of a plan over any link was printed: the names that it gave rise, those of instances are
--- below the root, and where it is done its end counts them.
+-- The walk of a plan over any link was printed: what it gave, of which such facts hold.
 pub record IsPrintedOver (Facts : (given refused : List VarBind) → WalkEnd → Type 0) (mib : Mib)
     (plan : Plan) (agent : List ℕ) (before after : Stream) (fault : Option Fault) : Type 0 where
   pub given : List VarBind
   pub turned : List VarBind
   pub end : WalkEnd
   pub between : Stream
-  pub part : IsPartOfWalk Rises Named (first_of plan) (given ++ turned)
-  pub rising : AreRising (given ++ turned)
-  pub counted : CountsAll end given
   pub facts : Facts given turned end
   pub lines : IsPrintedUpTo mib plan.letters before given turned end between
   pub finish : IsFinished plan.counts agent end between after fault

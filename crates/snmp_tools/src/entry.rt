@@ -41,8 +41,8 @@ pub fn tool<F: Files, L: Links, O: Output, E: Output>(
         (E.stream err.old) (E.stream err.new) result }
     ensures outcome_reported { (bulk : Bool) (w : WalkWords) → is_taken (texts_at words.now) ≡ true
         → stated_job (texts_at words.now) ≡ Some (walk_stated bulk w)
-        → IsWalkRun (HasLinkFacts (L.opens links.old) L.Wire.honest L.Wire.agents L.Wire.traffic
-        L.Wire.fault_count) (risen (L.fault_count links.old) (L.fault_count links.new))
+        → IsWalkRun (HasLinkFacts (L.opens links.old) L.Wire.Link)
+        (risen (L.fault_count links.old) (L.fault_count links.new))
         bulk w (F.text_at files.now) (O.stream out.old) (O.stream out.new)
         (E.stream err.old) (E.stream err.new) result }
     ensures front_written { (bulk : Bool) (w : WalkWords) → is_taken (texts_at words.now) ≡ true
@@ -59,8 +59,8 @@ pub fn tool<F: Files, L: Links, O: Output, E: Output>(
         (O.stream out.old) (O.stream out.new) (E.stream err.old) (E.stream err.new) result }
     ensures get_reported { (w : GetWords) → is_taken (texts_at words.now) ≡ true
         → stated_job (texts_at words.now) ≡ Some (snmpget w)
-        → IsGetRun (HasGetFacts (L.opens links.old) L.Wire.honest L.Wire.agents L.Wire.traffic
-        L.Wire.fault_count) (risen (L.fault_count links.old) (L.fault_count links.new))
+        → IsGetRun (HasGetFacts (L.opens links.old) L.Wire.Link)
+        (risen (L.fault_count links.old) (L.fault_count links.new))
         w (F.text_at files.now) (O.stream out.old) (O.stream out.new)
         (E.stream err.old) (E.stream err.new) result }
     ensures get_front_written { (w : GetWords) → is_taken (texts_at words.now) ≡ true

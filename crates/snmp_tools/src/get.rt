@@ -1,5 +1,5 @@
 //! A Get: its words are judged, its names looked up, its agent reached, and its lines printed.
-ghost use Rattle.std.specs.Prelude.{◌≡◌, ◌+◌, [], All, IfErr, IfOk, None, OnOk, Some};
+ghost use Rattle.std.specs.Prelude.{◌≡◌, ◌+◌, All, IfErr, IfOk, None, OnOk, Some};
 ghost use Rattle.snmp_oid.specs.Identifier.{IsWire, wire};
 ghost use Rattle.snmp_net.specs.Address.{address_of, table, udp};
 ghost use Rattle.snmp_words.specs.Words.{asking_words, get_words};
@@ -7,11 +7,10 @@ ghost use Rattle.snmp_tools.specs.Get.{IsAskingFor, IsEarlyGetRefusal};
 ghost use Rattle.snmp_tools.specs.GetHeadline.{GetEndsAtStatus0, GetWritesAllAtStatus0};
 ghost use Rattle.snmp_tools.specs.GetHeadline.{GetWritesFront};
 ghost use Rattle.snmp_tools.specs.GetPlanned.{get_plan_of};
-ghost use Rattle.snmp_tools.specs.Got.{AreForNames, AreFromAgents, HasGetFacts, IsGetFor};
-ghost use Rattle.snmp_tools.specs.Got.{IsGetOutcome, IsGetOutcomeBy, IsGetPrinted, IsGetRun};
-ghost use Rattle.snmp_tools.specs.Got.{IsGetTableOutcome, IsGot, fault_at, request_for};
+ghost use Rattle.snmp_tools.specs.Got.{HasGetFacts, IsGetFor, IsGetOutcome, IsGetOutcomeBy};
+ghost use Rattle.snmp_tools.specs.Got.{IsGetPrinted, IsGetRun, IsGetTableOutcome, IsGot, IsGotOver};
+ghost use Rattle.snmp_tools.specs.Got.{fault_at};
 ghost use Rattle.snmp_tools.specs.Message.{fault_of};
-ghost use Rattle.snmp_io.specs.Count.{HasRisen};
 ghost use Rattle.snmp_io.specs.Files.{Holdings, MayHold};
 ghost use Rattle.snmp_tools.specs.Mib.{IsMibOf};
 ghost use Rattle.snmp_tools.specs.Planned.{mib_in};
@@ -45,8 +44,8 @@ pub(crate) fn do_get<F: Files, L: Links, O: Output, E: Output>(
     err: &mut E,
 ) -> u8
     ensures run { IsGetRun
-        (HasGetFacts (L.opens links.old) L.Wire.honest L.Wire.agents L.Wire.traffic
-        L.Wire.fault_count) (risen (L.fault_count links.old) (L.fault_count links.new))
+        (HasGetFacts (L.opens links.old) L.Wire.Link)
+        (risen (L.fault_count links.old) (L.fault_count links.new))
         (get_words get.now) (F.text_at files.now) (O.stream out.old) (O.stream out.new)
         (E.stream err.old) (E.stream err.new) result }
     ensures front { GetWritesFront (get_words get.now) (F.text_at files.now)
@@ -73,8 +72,8 @@ fn get_and_report<F: Files, L: Links, O: Output, E: Output>(
     err: &mut E,
 ) -> u8
     ensures { IsGetRun
-        (HasGetFacts (L.opens links.old) L.Wire.honest L.Wire.agents L.Wire.traffic
-        L.Wire.fault_count) (risen (L.fault_count links.old) (L.fault_count links.new))
+        (HasGetFacts (L.opens links.old) L.Wire.Link)
+        (risen (L.fault_count links.old) (L.fault_count links.new))
         (get_words get.now) (F.text_at files.now) (O.stream out.old) (O.stream out.new)
         (E.stream err.old) (E.stream err.new) result }
 {
@@ -94,13 +93,13 @@ fn get_lines<'a, F: Files, L: Links, O: Output, E: Output>(
     err: &mut E,
 ) -> Result<(), Failure<'a>>
     ensures done { OnOk result (IsGetOutcome
-        (HasGetFacts (L.opens links.old) L.Wire.honest L.Wire.agents L.Wire.traffic
-        L.Wire.fault_count) (risen (L.fault_count links.old) (L.fault_count links.new))
+        (HasGetFacts (L.opens links.old) L.Wire.Link)
+        (risen (L.fault_count links.old) (L.fault_count links.new))
         (get_words get.now) (F.text_at files.now) (O.stream out.old) (O.stream out.new)
         (E.stream err.old) (E.stream err.new) None) }
     ensures failed { IfErr result (λ failure. IsGetOutcome
-        (HasGetFacts (L.opens links.old) L.Wire.honest L.Wire.agents L.Wire.traffic
-        L.Wire.fault_count) (risen (L.fault_count links.old) (L.fault_count links.new))
+        (HasGetFacts (L.opens links.old) L.Wire.Link)
+        (risen (L.fault_count links.old) (L.fault_count links.new))
         (get_words get.now) (F.text_at files.now) (O.stream out.old) (O.stream out.new)
         (E.stream err.old) (E.stream err.new) (Some (fault_of failure))) }
 {
@@ -147,14 +146,14 @@ fn lines_by<'a, T: ShowTree, F: Files, L: Links, O: Output>(
         (mib_in (T.naming tree.now) (T.syntax_at tree.now)) }
     requires asked { IsAskingFor (asking_words get.now.asking) letters (address_of agent) }
     ensures done { OnOk result (IsGetOutcomeBy
-        (HasGetFacts (L.opens links.old) L.Wire.honest L.Wire.agents L.Wire.traffic
-        L.Wire.fault_count) (risen (L.fault_count links.old) (L.fault_count links.new))
+        (HasGetFacts (L.opens links.old) L.Wire.Link)
+        (risen (L.fault_count links.old) (L.fault_count links.new))
         (get_words get.now) (F.text_at files.now)
         (mib_in (T.naming tree.now) (T.syntax_at tree.now))
         (O.stream out.old) (O.stream out.new) None) }
     ensures failed { IfErr result (λ failure. IsGetOutcomeBy
-        (HasGetFacts (L.opens links.old) L.Wire.honest L.Wire.agents L.Wire.traffic
-        L.Wire.fault_count) (risen (L.fault_count links.old) (L.fault_count links.new))
+        (HasGetFacts (L.opens links.old) L.Wire.Link)
+        (risen (L.fault_count links.old) (L.fault_count links.new))
         (get_words get.now) (F.text_at files.now)
         (mib_in (T.naming tree.now) (T.syntax_at tree.now))
         (O.stream out.old) (O.stream out.new) (Some (fault_of failure))) }
@@ -188,14 +187,14 @@ fn by_plan<'a, T: ShowTree, F: Files, L: Links, O: Output>(
     requires plan { IsGetFor (get_words get.now)
         (mib_in (T.naming tree.now) (T.syntax_at tree.now)) (get_plan_of plan.now) }
     ensures done { OnOk result (IsGetOutcomeBy
-        (HasGetFacts (L.opens links.old) L.Wire.honest L.Wire.agents L.Wire.traffic
-        L.Wire.fault_count) (risen (L.fault_count links.old) (L.fault_count links.new))
+        (HasGetFacts (L.opens links.old) L.Wire.Link)
+        (risen (L.fault_count links.old) (L.fault_count links.new))
         (get_words get.now) (F.text_at files.now)
         (mib_in (T.naming tree.now) (T.syntax_at tree.now))
         (O.stream out.old) (O.stream out.new) None) }
     ensures failed { IfErr result (λ failure. IsGetOutcomeBy
-        (HasGetFacts (L.opens links.old) L.Wire.honest L.Wire.agents L.Wire.traffic
-        L.Wire.fault_count) (risen (L.fault_count links.old) (L.fault_count links.new))
+        (HasGetFacts (L.opens links.old) L.Wire.Link)
+        (risen (L.fault_count links.old) (L.fault_count links.new))
         (get_words get.now) (F.text_at files.now)
         (mib_in (T.naming tree.now) (T.syntax_at tree.now))
         (O.stream out.old) (O.stream out.new) (Some (fault_of failure))) }
@@ -256,14 +255,14 @@ fn over_net<'a, T: ShowTree, F: Files, L: Links, O: Output>(
         (mib_in (T.naming tree.now) (T.syntax_at tree.now)) (get_plan_of plan.now) }
     requires at { address_of plan.now.agent ≡ udp at.host.now at.port }
     ensures done { OnOk result (IsGetOutcomeBy
-        (HasGetFacts (L.opens links.old) L.Wire.honest L.Wire.agents L.Wire.traffic
-        L.Wire.fault_count) (risen (L.fault_count links.old) (L.fault_count links.new))
+        (HasGetFacts (L.opens links.old) L.Wire.Link)
+        (risen (L.fault_count links.old) (L.fault_count links.new))
         (get_words get.now) (F.text_at files.now)
         (mib_in (T.naming tree.now) (T.syntax_at tree.now))
         (O.stream out.old) (O.stream out.new) None) }
     ensures failed { IfErr result (λ failure. IsGetOutcomeBy
-        (HasGetFacts (L.opens links.old) L.Wire.honest L.Wire.agents L.Wire.traffic
-        L.Wire.fault_count) (risen (L.fault_count links.old) (L.fault_count links.new))
+        (HasGetFacts (L.opens links.old) L.Wire.Link)
+        (risen (L.fault_count links.old) (L.fault_count links.new))
         (get_words get.now) (F.text_at files.now)
         (mib_in (T.naming tree.now) (T.syntax_at tree.now))
         (O.stream out.old) (O.stream out.new) (Some (fault_of failure))) }
@@ -287,22 +286,15 @@ fn print_over<'a, T: ShowTree, L: Link, O: Output>(
     asking: &Asking<'a>,
     out: &mut O,
 ) -> Result<(), Failure<'a>>
-    requires wire { All (λ o. IsWire (wire o)) plan.now.names.items }
-    requires fresh { (L.traffic link.old).sent ≡ [] }
-    ensures done { OnOk result (IsGetPrinted (λ given refused end.
-        AreForNames (request_for (get_plan_of plan.now)) plan.now.names.items given refused end
-        × (end ≡ WalkEnd.Link → HasRisen (L.fault_count link.old) (L.fault_count link.new))
-        × (L.honest link.old → AreFromAgents (L.agents link.old) (asking.now.retries + 1)
-        (L.traffic link.old) (request_for (get_plan_of plan.now)) plan.now.names.items given
-        refused end (L.traffic link.new)))
+    requires { All (λ o. IsWire (wire o)) plan.now.names.items }
+    ensures done { OnOk result (IsGetPrinted
+        (IsGotOver L.Link link.old link.new (asking.now.retries + 1)
+        plan.now.community.now plan.now.names.items)
         (mib_in (T.naming tree.now) (T.syntax_at tree.now)) (get_plan_of plan.now)
         asking.now.agent.now (O.stream out.old) (O.stream out.new) None) }
-    ensures failed { IfErr result (λ failure. IsGetPrinted (λ given refused end.
-        AreForNames (request_for (get_plan_of plan.now)) plan.now.names.items given refused end
-        × (end ≡ WalkEnd.Link → HasRisen (L.fault_count link.old) (L.fault_count link.new))
-        × (L.honest link.old → AreFromAgents (L.agents link.old) (asking.now.retries + 1)
-        (L.traffic link.old) (request_for (get_plan_of plan.now)) plan.now.names.items given
-        refused end (L.traffic link.new)))
+    ensures failed { IfErr result (λ failure. IsGetPrinted
+        (IsGotOver L.Link link.old link.new (asking.now.retries + 1)
+        plan.now.community.now plan.now.names.items)
         (mib_in (T.naming tree.now) (T.syntax_at tree.now)) (get_plan_of plan.now)
         asking.now.agent.now (O.stream out.old) (O.stream out.new) (Some (fault_of failure))) }
 {

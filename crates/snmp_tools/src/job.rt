@@ -44,8 +44,8 @@ pub fn run_job<F: Files, L: Links, O: Output, E: Output>(
         → IsTranslated words (F.text_at files.now) (O.stream out.old) (O.stream out.new)
         (E.stream err.old) (E.stream err.new) result }
     ensures outcome_reported { (bulk : Bool) (words : WalkWords) → IsWalkJob job.now bulk words
-        → IsWalkRun (HasLinkFacts (L.opens links.old) L.Wire.honest L.Wire.agents L.Wire.traffic
-        L.Wire.fault_count) (risen (L.fault_count links.old) (L.fault_count links.new))
+        → IsWalkRun (HasLinkFacts (L.opens links.old) L.Wire.Link)
+        (risen (L.fault_count links.old) (L.fault_count links.new))
         bulk words (F.text_at files.now) (O.stream out.old) (O.stream out.new)
         (E.stream err.old) (E.stream err.new) result }
     ensures front_written { (bulk : Bool) (words : WalkWords) → IsWalkJob job.now bulk words
@@ -59,8 +59,8 @@ pub fn run_job<F: Files, L: Links, O: Output, E: Output>(
         → EndsAtStatus0 bulk words (F.text_at files.now)
         (O.stream out.old) (O.stream out.new) (E.stream err.old) (E.stream err.new) result }
     ensures get_reported { (words : GetWords) → job_words job.now ≡ snmpget words
-        → IsGetRun (HasGetFacts (L.opens links.old) L.Wire.honest L.Wire.agents L.Wire.traffic
-        L.Wire.fault_count) (risen (L.fault_count links.old) (L.fault_count links.new))
+        → IsGetRun (HasGetFacts (L.opens links.old) L.Wire.Link)
+        (risen (L.fault_count links.old) (L.fault_count links.new))
         words (F.text_at files.now) (O.stream out.old) (O.stream out.new)
         (E.stream err.old) (E.stream err.new) result }
     ensures get_front_written { (words : GetWords) → job_words job.now ≡ snmpget words
@@ -102,8 +102,8 @@ fn do_walk<F: Files, L: Links, O: Output, E: Output>(
     err: &mut E,
 ) -> u8
     ensures { IsWalkRun
-        (HasLinkFacts (L.opens links.old) L.Wire.honest L.Wire.agents L.Wire.traffic
-        L.Wire.fault_count) (risen (L.fault_count links.old) (L.fault_count links.new))
+        (HasLinkFacts (L.opens links.old) L.Wire.Link)
+        (risen (L.fault_count links.old) (L.fault_count links.new))
         bulk (walk_words walk.now) (F.text_at files.now)
         (O.stream out.old) (O.stream out.new) (E.stream err.old) (E.stream err.new) result }
 {

@@ -1,16 +1,11 @@
 //! Lines on an output: one for each binding of a walk or a Get, as it comes, and the count after
 //! them.
-ghost use Rattle.std.specs.Prelude.{◌≡◌, ◌≤◌, ◌+◌, ◌++◌, ◌∷◌, All, List, OnOk, [], length};
+ghost use Rattle.std.specs.Prelude.{◌≡◌, ◌≤◌, ◌+◌, ◌++◌, All, OnOk, length};
 ghost use Rattle.snmp_oid.specs.Identifier.{IsWire, wire};
-ghost use Rattle.text_draft.specs.Draft.{Adds};
-ghost use Rattle.snmp_wire.specs.Message.{VarBind};
-ghost use Rattle.snmp_walk.specs.Facts.{IsFresh, WalkFacts};
-ghost use Rattle.snmp_walk.specs.Get.{get_request};
-ghost use Rattle.snmp_walk.specs.Standing.{CountsAll, IsPartOfWalk, Named, Rises};
-ghost use Rattle.snmp_walk.specs.Walk.{AreRising};
-ghost use Rattle.snmp_io.specs.Count.{HasRisen};
-ghost use Rattle.snmp_tools.specs.Got.{AreForNames, AreFromAgents};
+ghost use Rattle.snmp_walk.specs.Facts.{IsFresh};
+ghost use Rattle.snmp_tools.specs.Got.{IsGotOver};
 ghost use Rattle.snmp_tools.specs.Lines.{ArePrinted, TakesText, count_line};
+ghost use Rattle.snmp_tools.specs.Outcome.{IsWalkedOver};
 ghost use Rattle.snmp_tools.specs.Planned.{mib_in};
 
 use crate::start::FIRST_ID;
@@ -56,16 +51,12 @@ impl<T: ShowTree, O: Output> Sink for Printer<'_, T, O> {
 }
 
 impl<T: ShowTree, O: Output> Printer<'_, T, O> {
-    ghost use Rattle.std.specs.Prelude.{◌≡◌, ◌≤◌, ◌+◌, ◌++◌, [], All, List, length};
+    ghost use Rattle.std.specs.Prelude.{◌≡◌, ◌≤◌, ◌+◌, All, length};
     ghost use Rattle.snmp_oid.specs.Identifier.{IsWire, wire};
-    ghost use Rattle.snmp_wire.specs.Message.{VarBind};
-    ghost use Rattle.snmp_walk.specs.Facts.{IsFresh, WalkFacts};
-    ghost use Rattle.snmp_walk.specs.Get.{get_request};
-    ghost use Rattle.snmp_walk.specs.Standing.{CountsAll, IsPartOfWalk, Named, Rises};
-    ghost use Rattle.snmp_walk.specs.Walk.{AreRising};
-    ghost use Rattle.snmp_io.specs.Count.{HasRisen};
-    ghost use Rattle.snmp_tools.specs.Got.{AreForNames, AreFromAgents};
+    ghost use Rattle.snmp_walk.specs.Facts.{IsFresh};
+    ghost use Rattle.snmp_tools.specs.Got.{IsGotOver};
     ghost use Rattle.snmp_tools.specs.Lines.{ArePrinted};
+    ghost use Rattle.snmp_tools.specs.Outcome.{IsWalkedOver};
     ghost use Rattle.snmp_tools.specs.Planned.{mib_in};
 
     // Runs a walk whose bindings become lines.
@@ -75,13 +66,8 @@ impl<T: ShowTree, O: Output> Printer<'_, T, O> {
         ensures printed { ArePrinted
             (mib_in (T.naming self.old.tree.now) (T.syntax_at self.old.tree.now)) self.old.letters
             (O.stream self.old.out.now) (O.stream self.new.out.now) result
-            (λ rows refused. IsPartOfWalk Rises Named core (rows ++ refused)
-            × AreRising (rows ++ refused) × CountsAll result rows
-            × (L.honest link.old → (L.traffic link.old).sent ≡ []
-            → WalkFacts (L.agents link.old) (retries + 1) (L.traffic link.old) core rows refused
-            result (L.traffic link.new))) }
-        ensures fault { result ≡ WalkEnd.Link
-            → HasRisen (L.fault_count link.old) (L.fault_count link.new) }
+            (λ rows refused.
+            IsWalkedOver L.Link link.old link.new (retries + 1) core rows refused result) }
     {
         run_walk(link, core, retries, self)
     }
@@ -100,14 +86,8 @@ impl<T: ShowTree, O: Output> Printer<'_, T, O> {
         ensures printed { ArePrinted
             (mib_in (T.naming self.old.tree.now) (T.syntax_at self.old.tree.now)) self.old.letters
             (O.stream self.old.out.now) (O.stream self.new.out.now) result
-            (λ given refused.
-            AreForNames (get_request community.now 1 names.now) names.now given refused result
-            × (L.honest link.old → (L.traffic link.old).sent ≡ []
-            → AreFromAgents (L.agents link.old) (retries + 1) (L.traffic link.old)
-            (get_request community.now 1 names.now) names.now given refused result
-            (L.traffic link.new))) }
-        ensures fault { result ≡ WalkEnd.Link
-            → HasRisen (L.fault_count link.old) (L.fault_count link.new) }
+            (λ given refused. IsGotOver L.Link link.old link.new (retries + 1)
+            community.now names.now given refused result) }
     {
         if names.is_empty() {
             return WalkEnd::Done(0);
@@ -129,13 +109,8 @@ pub(crate) fn print_walk<T: ShowTree, L: Link, O: Output>(
     requires { IsFresh core }
     ensures printed { ArePrinted (mib_in (T.naming tree.now) (T.syntax_at tree.now)) letters
         (O.stream out.old) (O.stream out.new) result
-        (λ rows refused. IsPartOfWalk Rises Named core (rows ++ refused)
-        × AreRising (rows ++ refused) × CountsAll result rows
-        × (L.honest link.old → (L.traffic link.old).sent ≡ []
-        → WalkFacts (L.agents link.old) (retries + 1) (L.traffic link.old) core rows refused
-        result (L.traffic link.new))) }
-    ensures fault { result ≡ WalkEnd.Link
-        → HasRisen (L.fault_count link.old) (L.fault_count link.new) }
+        (λ rows refused.
+        IsWalkedOver L.Link link.old link.new (retries + 1) core rows refused result) }
 {
     let mut printer = Printer {
         tree,
@@ -162,14 +137,8 @@ pub(crate) fn print_get<T: ShowTree, L: Link, O: Output>(
     requires community { length community.now ≤ 255 }
     ensures printed { ArePrinted (mib_in (T.naming tree.now) (T.syntax_at tree.now)) letters
         (O.stream out.old) (O.stream out.new) result
-        (λ given refused.
-        AreForNames (get_request community.now 1 names.now) names.now given refused result
-        × (L.honest link.old → (L.traffic link.old).sent ≡ []
-        → AreFromAgents (L.agents link.old) (retries + 1) (L.traffic link.old)
-        (get_request community.now 1 names.now) names.now given refused result
-        (L.traffic link.new))) }
-    ensures fault { result ≡ WalkEnd.Link
-        → HasRisen (L.fault_count link.old) (L.fault_count link.new) }
+        (λ given refused. IsGotOver L.Link link.old link.new (retries + 1)
+        community.now names.now given refused result) }
 {
     let mut printer = Printer {
         tree,

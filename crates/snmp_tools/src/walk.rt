@@ -7,17 +7,15 @@ ghost use Rattle.snmp_words.specs.Words.{asking_words, walk_words};
 ghost use Rattle.snmp_serve.specs.TableFile.{HasTable, TableFails};
 ghost use Rattle.snmp_tools.specs.Asking.{MibsFail};
 ghost use Rattle.snmp_tools.specs.Message.{bad_table, fault_of, out_of_memory, unreadable};
-ghost use Rattle.snmp_io.specs.Count.{HasRisen};
 ghost use Rattle.snmp_io.specs.Files.{MayHold};
 ghost use Rattle.snmp_tools.specs.Mib.{IsMibOf};
 ghost use Rattle.snmp_tools.specs.Outcome.{HasLinkFacts, IsFinished, IsPrintedOver};
 ghost use Rattle.snmp_tools.specs.Outcome.{IsTableOutcome, IsWalkOutcome, IsWalkOutcomeBy};
-ghost use Rattle.snmp_tools.specs.Outcome.{IsWalkPrinted, end_in_memory, first_of};
+ghost use Rattle.snmp_tools.specs.Outcome.{IsWalkPrinted, IsWalkedOver, end_in_memory, first_of};
 ghost use Rattle.snmp_tools.specs.Planned.{AreOrdersOf, IsPlanFor, mib_in, plan_of};
 ghost use Rattle.snmp_tools.specs.Plan.{root_text};
 ghost use Rattle.snmp_tools.specs.Serving.{risen};
 ghost use Rattle.snmp_tools.specs.Start.{IsStartOf, StartFails};
-ghost use Rattle.snmp_walk.specs.Facts.{WalkFacts};
 ghost use Rattle.snmp_walk.specs.Walker.{IsMethod};
 
 use crate::failure::Failure;
@@ -47,13 +45,13 @@ pub(crate) fn walk_lines<'a, F: Files, L: Links, O: Output, E: Output>(
     err: &mut E,
 ) -> Result<(), Failure<'a>>
     ensures done { OnOk result (IsWalkOutcome
-        (HasLinkFacts (L.opens links.old) L.Wire.honest L.Wire.agents L.Wire.traffic
-        L.Wire.fault_count) (risen (L.fault_count links.old) (L.fault_count links.new))
+        (HasLinkFacts (L.opens links.old) L.Wire.Link)
+        (risen (L.fault_count links.old) (L.fault_count links.new))
         bulk (walk_words walk.now) (F.text_at files.now) (O.stream out.old) (O.stream out.new)
         (E.stream err.old) (E.stream err.new) None) }
     ensures failed { IfErr result (λ failure. IsWalkOutcome
-        (HasLinkFacts (L.opens links.old) L.Wire.honest L.Wire.agents L.Wire.traffic
-        L.Wire.fault_count) (risen (L.fault_count links.old) (L.fault_count links.new))
+        (HasLinkFacts (L.opens links.old) L.Wire.Link)
+        (risen (L.fault_count links.old) (L.fault_count links.new))
         bulk (walk_words walk.now) (F.text_at files.now) (O.stream out.old) (O.stream out.new)
         (E.stream err.old) (E.stream err.new) (Some (fault_of failure))) }
 {
@@ -105,14 +103,14 @@ fn walk_by<'a, T: ShowTree, F: Files, L: Links, O: Output>(
     requires known { IsMibOf (MayHold (F.text_at files.now)) (walk_words walk.now).asking
         (mib_in (T.naming tree.now) (T.syntax_at tree.now)) }
     ensures done { OnOk result (IsWalkOutcomeBy
-        (HasLinkFacts (L.opens links.old) L.Wire.honest L.Wire.agents L.Wire.traffic
-        L.Wire.fault_count) (risen (L.fault_count links.old) (L.fault_count links.new))
+        (HasLinkFacts (L.opens links.old) L.Wire.Link)
+        (risen (L.fault_count links.old) (L.fault_count links.new))
         bulk (walk_words walk.now) (F.text_at files.now)
         (mib_in (T.naming tree.now) (T.syntax_at tree.now))
         (O.stream out.old) (O.stream out.new) None) }
     ensures failed { IfErr result (λ failure. IsWalkOutcomeBy
-        (HasLinkFacts (L.opens links.old) L.Wire.honest L.Wire.agents L.Wire.traffic
-        L.Wire.fault_count) (risen (L.fault_count links.old) (L.fault_count links.new))
+        (HasLinkFacts (L.opens links.old) L.Wire.Link)
+        (risen (L.fault_count links.old) (L.fault_count links.new))
         bulk (walk_words walk.now) (F.text_at files.now)
         (mib_in (T.naming tree.now) (T.syntax_at tree.now))
         (O.stream out.old) (O.stream out.new) (Some (fault_of failure))) }
@@ -188,14 +186,14 @@ fn over_net<'a, T: ShowTree, F: Files, L: Links, O: Output>(
     requires method { IsMethod plan.now.method }
     requires at { address_of plan.now.agent ≡ udp at.host.now at.port }
     ensures done { OnOk result (IsWalkOutcomeBy
-        (HasLinkFacts (L.opens links.old) L.Wire.honest L.Wire.agents L.Wire.traffic
-        L.Wire.fault_count) (risen (L.fault_count links.old) (L.fault_count links.new))
+        (HasLinkFacts (L.opens links.old) L.Wire.Link)
+        (risen (L.fault_count links.old) (L.fault_count links.new))
         bulk (walk_words walk.now) (F.text_at files.now)
         (mib_in (T.naming tree.now) (T.syntax_at tree.now))
         (O.stream out.old) (O.stream out.new) None) }
     ensures failed { IfErr result (λ failure. IsWalkOutcomeBy
-        (HasLinkFacts (L.opens links.old) L.Wire.honest L.Wire.agents L.Wire.traffic
-        L.Wire.fault_count) (risen (L.fault_count links.old) (L.fault_count links.new))
+        (HasLinkFacts (L.opens links.old) L.Wire.Link)
+        (risen (L.fault_count links.old) (L.fault_count links.new))
         bulk (walk_words walk.now) (F.text_at files.now)
         (mib_in (T.naming tree.now) (T.syntax_at tree.now))
         (O.stream out.old) (O.stream out.new) (Some (fault_of failure))) }
@@ -222,20 +220,15 @@ fn print_over<'a, T: ShowTree, L: Link, O: Output>(
     asking: &Asking<'a>,
     out: &mut O,
 ) -> Result<(), Failure<'a>>
-    requires start { IsStartOf core (plan_of plan.now) }
-    requires fresh { (L.traffic link.old).sent ≡ [] }
-    ensures done { OnOk result (IsPrintedOver (λ given refused end.
-        (end ≡ WalkEnd.Link → HasRisen (L.fault_count link.old) (L.fault_count link.new))
-        × (L.honest link.old
-        → WalkFacts (L.agents link.old) (asking.now.retries + 1) (L.traffic link.old)
-        (first_of (plan_of plan.now)) given refused end (L.traffic link.new)))
+    requires { IsStartOf core (plan_of plan.now) }
+    ensures done { OnOk result (IsPrintedOver
+        (IsWalkedOver L.Link link.old link.new (asking.now.retries + 1)
+        (first_of (plan_of plan.now)))
         (mib_in (T.naming tree.now) (T.syntax_at tree.now))
         (plan_of plan.now) asking.now.agent.now (O.stream out.old) (O.stream out.new) None) }
-    ensures failed { IfErr result (λ failure. IsPrintedOver (λ given refused end.
-        (end ≡ WalkEnd.Link → HasRisen (L.fault_count link.old) (L.fault_count link.new))
-        × (L.honest link.old
-        → WalkFacts (L.agents link.old) (asking.now.retries + 1) (L.traffic link.old)
-        (first_of (plan_of plan.now)) given refused end (L.traffic link.new)))
+    ensures failed { IfErr result (λ failure. IsPrintedOver
+        (IsWalkedOver L.Link link.old link.new (asking.now.retries + 1)
+        (first_of (plan_of plan.now)))
         (mib_in (T.naming tree.now) (T.syntax_at tree.now))
         (plan_of plan.now) asking.now.agent.now (O.stream out.old) (O.stream out.new)
         (Some (fault_of failure))) }

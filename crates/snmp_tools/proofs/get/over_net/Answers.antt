@@ -44,9 +44,8 @@ returns-in-Ok-check_names-clause-done g c =
       link = c.in-Ok.link;
       after = c.print_over.new.link;
       opened = c.in-Ok.ensures.opened;
-      named = h.0;
-      judged = h.2;
-      fault = h.1;
+      fresh = c.in-Ok.ensures.fresh;
+      run = h;
     }) p)) c.print_over.ensures.done
 
 pub returns-in-Ok-check_names-clause-failed : goal.returns-in-Ok-check_names-clause-failed
@@ -57,7 +56,6 @@ returns-in-Ok-check_names-clause-failed g c =
       link = c.in-Ok.link;
       after = c.print_over.new.link;
       opened = c.in-Ok.ensures.opened;
-      named = h.0;
-      judged = h.2;
-      fault = h.1;
+      fresh = c.in-Ok.ensures.fresh;
+      run = h;
     }) p)) c.print_over.ensures.failed

@@ -20,7 +20,7 @@ returns-clause-done g c =
     let R : Agents → List (List ℕ) → Type 0 = λ a ns. AreFromAgents a tries (traffic_of c.new-link.result) (get_request plan.community 1 ns) ns printed.rows
     printed.refused c.print_get-end.result (traffic_of c.print_get-end.new.link) in
     let from = subst (λ (a : Agents). R a plan.names) c.new-link.ensures.agents (subst (R (agents_of c.new-link.result)) c.deref.ensures.value
-    (printed.facts.1 c.new-link.ensures.honest (ap (λ (t : Traffic). t.sent) traffic))) in
+    (printed.facts.judged (c.new-link.ensures.honest, ap (λ (t : Traffic). t.sent) traffic))) in
     let got = is_got plan c.args.table.now tries (omega arith) (traffic_of c.new-link.result) (traffic_of c.print_get-end.new.link) printed.rows
     printed.refused c.print_get-end.result (ap (λ (t : Traffic). t.ahead) traffic) from in
     on_ok_weaker c.finish.result (λ f. record {
@@ -41,7 +41,7 @@ returns-clause-failed g c =
     let R : Agents → List (List ℕ) → Type 0 = λ a ns. AreFromAgents a tries (traffic_of c.new-link.result) (get_request plan.community 1 ns) ns printed.rows
     printed.refused c.print_get-end.result (traffic_of c.print_get-end.new.link) in
     let from = subst (λ (a : Agents). R a plan.names) c.new-link.ensures.agents (subst (R (agents_of c.new-link.result)) c.deref.ensures.value
-    (printed.facts.1 c.new-link.ensures.honest (ap (λ (t : Traffic). t.sent) traffic))) in
+    (printed.facts.judged (c.new-link.ensures.honest, ap (λ (t : Traffic). t.sent) traffic))) in
     let got = is_got plan c.args.table.now tries (omega arith) (traffic_of c.new-link.result) (traffic_of c.print_get-end.new.link) printed.rows
     printed.refused c.print_get-end.result (ap (λ (t : Traffic). t.ahead) traffic) from in
     IfErr-weaker c.finish.result _ _ (λ e f. record {

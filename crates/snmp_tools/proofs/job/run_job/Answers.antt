@@ -25,49 +25,53 @@ pub returns-in-Get-clause-get_ends_at_status_0 : goal.returns-in-Get-clause-get_
 returns-in-Get-clause-get_ends_at_status_0 g c = λ words is.
     let stated = subst (λ (j : Job). job_words j ≡ snmpget words) c.in-Get.is is in
     of_names (get_words c.in-Get.get) words (λ w. GetEndsAtStatus0 w (g.F.Files.text_at c.args.files.now) (g.O.Output.stream c.args.out.now)
-    (g.O.Output.stream c.do_get.new.out) (g.E.Output.stream c.args.err.now) (g.E.Output.stream c.do_get.new.err) c.do_get.result) stated c.do_get.ensures.ends
+    (g.O.Output.stream c.do_get.new.out) (g.E.Output.stream c.args.err.now) (g.E.Output.stream c.do_get.new.err) c.do_get.result) stated
+    c.do_get.ensures.ends
 
 pub returns-in-Walk-clause-front_written : goal.returns-in-Walk-clause-front_written
 returns-in-Walk-clause-front_written g c = λ bulk words is.
     let stated = subst (λ (j : Job). IsWalkJob j bulk words) c.in-Walk.is is in
     let run = one_by_one (walk_words c.in-Walk.walk) bulk words
-    (λ b w. IsWalkRun (HasLinkFacts (g.L.Links.opens c.args.links.now) g.L.Wire.Link.honest g.L.Wire.Link.agents g.L.Wire.Link.traffic
-    g.L.Wire.Link.fault_count) (risen (g.L.Links.fault_count c.args.links.now) (g.L.Links.fault_count c.do_walk.new.links)) b w (g.F.Files.text_at
-    c.args.files.now) (g.O.Output.stream c.args.out.now) (g.O.Output.stream c.do_walk.new.out)
-    (g.E.Output.stream c.args.err.now) (g.E.Output.stream c.do_walk.new.err) c.do_walk.result)
+    (λ b w. IsWalkRun (HasLinkFacts (g.L.Links.opens c.args.links.now) g.L.Wire.Link)
+    (risen (g.L.Links.fault_count c.args.links.now) (g.L.Links.fault_count c.do_walk.new.links)) b w (g.F.Files.text_at c.args.files.now)
+    (g.O.Output.stream c.args.out.now) (g.O.Output.stream c.do_walk.new.out) (g.E.Output.stream c.args.err.now) (g.E.Output.stream c.do_walk.new.err)
+    c.do_walk.result)
     stated c.do_walk.ensures in
-    writes_front c.one_table.ensures c.no_fault.ensures c.one_list_of_modules.ensures c.one_tree.ensures _ _ bulk words (g.F.Files.text_at c.args.files.now) _ _ _ _ c.do_walk.result run
+    writes_front c.one_table.ensures c.no_fault.ensures c.one_list_of_modules.ensures c.one_tree.ensures _ _ bulk words
+    (g.F.Files.text_at c.args.files.now) _ _ _ _ c.do_walk.result run
 
 pub returns-in-Walk-clause-all_written_at_status_0 : goal.returns-in-Walk-clause-all_written_at_status_0
 returns-in-Walk-clause-all_written_at_status_0 g c = λ bulk words is.
     let stated = subst (λ (j : Job). IsWalkJob j bulk words) c.in-Walk.is is in
     let run = one_by_one (walk_words c.in-Walk.walk) bulk words
-    (λ b w. IsWalkRun (HasLinkFacts (g.L.Links.opens c.args.links.now) g.L.Wire.Link.honest g.L.Wire.Link.agents g.L.Wire.Link.traffic
-    g.L.Wire.Link.fault_count) (risen (g.L.Links.fault_count c.args.links.now) (g.L.Links.fault_count c.do_walk.new.links)) b w (g.F.Files.text_at
-    c.args.files.now) (g.O.Output.stream c.args.out.now) (g.O.Output.stream c.do_walk.new.out)
-    (g.E.Output.stream c.args.err.now) (g.E.Output.stream c.do_walk.new.err) c.do_walk.result)
+    (λ b w. IsWalkRun (HasLinkFacts (g.L.Links.opens c.args.links.now) g.L.Wire.Link)
+    (risen (g.L.Links.fault_count c.args.links.now) (g.L.Links.fault_count c.do_walk.new.links)) b w (g.F.Files.text_at c.args.files.now)
+    (g.O.Output.stream c.args.out.now) (g.O.Output.stream c.do_walk.new.out) (g.E.Output.stream c.args.err.now) (g.E.Output.stream c.do_walk.new.err)
+    c.do_walk.result)
     stated c.do_walk.ensures in
-    writes_all c.one_table.ensures c.no_fault.ensures c.one_list_of_modules.ensures c.one_tree.ensures _ _ bulk words (g.F.Files.text_at c.args.files.now) _ _ _ _ c.do_walk.result run
+    writes_all c.one_table.ensures c.no_fault.ensures c.one_list_of_modules.ensures c.one_tree.ensures _ _ bulk words
+    (g.F.Files.text_at c.args.files.now) _ _ _ _ c.do_walk.result run
 
 pub returns-in-Walk-clause-ends_at_status_0 : goal.returns-in-Walk-clause-ends_at_status_0
 returns-in-Walk-clause-ends_at_status_0 g c = λ bulk words is.
     let stated = subst (λ (j : Job). IsWalkJob j bulk words) c.in-Walk.is is in
     let run = one_by_one (walk_words c.in-Walk.walk) bulk words
-    (λ b w. IsWalkRun (HasLinkFacts (g.L.Links.opens c.args.links.now) g.L.Wire.Link.honest g.L.Wire.Link.agents g.L.Wire.Link.traffic
-    g.L.Wire.Link.fault_count) (risen (g.L.Links.fault_count c.args.links.now) (g.L.Links.fault_count c.do_walk.new.links)) b w (g.F.Files.text_at
-    c.args.files.now) (g.O.Output.stream c.args.out.now) (g.O.Output.stream c.do_walk.new.out)
-    (g.E.Output.stream c.args.err.now) (g.E.Output.stream c.do_walk.new.err) c.do_walk.result)
+    (λ b w. IsWalkRun (HasLinkFacts (g.L.Links.opens c.args.links.now) g.L.Wire.Link)
+    (risen (g.L.Links.fault_count c.args.links.now) (g.L.Links.fault_count c.do_walk.new.links)) b w (g.F.Files.text_at c.args.files.now)
+    (g.O.Output.stream c.args.out.now) (g.O.Output.stream c.do_walk.new.out) (g.E.Output.stream c.args.err.now) (g.E.Output.stream c.do_walk.new.err)
+    c.do_walk.result)
     stated c.do_walk.ensures in
-    ends_at_0 c.one_table.ensures c.no_fault.ensures c.one_list_of_modules.ensures c.one_tree.ensures _ _ bulk words (g.F.Files.text_at c.args.files.now) _ _ _ _ c.do_walk.result run
+    ends_at_0 c.one_table.ensures c.no_fault.ensures c.one_list_of_modules.ensures c.one_tree.ensures _ _ bulk words
+    (g.F.Files.text_at c.args.files.now) _ _ _ _ c.do_walk.result run
 
 pub returns-in-BulkWalk-clause-front_written : goal.returns-in-BulkWalk-clause-front_written
 returns-in-BulkWalk-clause-front_written g c = λ bulk words is.
     let stated = subst (λ (j : Job). IsWalkJob j bulk words) c.in-BulkWalk.is is in
     let run = many_at_a_time (walk_words c.in-BulkWalk.walk) bulk words
-    (λ b w. IsWalkRun (HasLinkFacts (g.L.Links.opens c.args.links.now) g.L.Wire.Link.honest g.L.Wire.Link.agents g.L.Wire.Link.traffic
-    g.L.Wire.Link.fault_count) (risen (g.L.Links.fault_count c.args.links.now) (g.L.Links.fault_count c.do_walk-in-BulkWalk.new.links)) b w (g.F.Files.text_at
-    c.args.files.now) (g.O.Output.stream c.args.out.now) (g.O.Output.stream c.do_walk-in-BulkWalk.new.out)
-    (g.E.Output.stream c.args.err.now) (g.E.Output.stream c.do_walk-in-BulkWalk.new.err) c.do_walk-in-BulkWalk.result)
+    (λ b w. IsWalkRun (HasLinkFacts (g.L.Links.opens c.args.links.now) g.L.Wire.Link)
+    (risen (g.L.Links.fault_count c.args.links.now) (g.L.Links.fault_count c.do_walk-in-BulkWalk.new.links)) b w (g.F.Files.text_at c.args.files.now)
+    (g.O.Output.stream c.args.out.now) (g.O.Output.stream c.do_walk-in-BulkWalk.new.out) (g.E.Output.stream c.args.err.now)
+    (g.E.Output.stream c.do_walk-in-BulkWalk.new.err) c.do_walk-in-BulkWalk.result)
     stated c.do_walk-in-BulkWalk.ensures in
     writes_front c.one_table.ensures c.no_fault.ensures c.one_list_of_modules.ensures c.one_tree.ensures _ _ bulk words
     (g.F.Files.text_at c.args.files.now) _ _ _ _ c.do_walk-in-BulkWalk.result run
@@ -76,10 +80,10 @@ pub returns-in-BulkWalk-clause-all_written_at_status_0 : goal.returns-in-BulkWal
 returns-in-BulkWalk-clause-all_written_at_status_0 g c = λ bulk words is.
     let stated = subst (λ (j : Job). IsWalkJob j bulk words) c.in-BulkWalk.is is in
     let run = many_at_a_time (walk_words c.in-BulkWalk.walk) bulk words
-    (λ b w. IsWalkRun (HasLinkFacts (g.L.Links.opens c.args.links.now) g.L.Wire.Link.honest g.L.Wire.Link.agents g.L.Wire.Link.traffic
-    g.L.Wire.Link.fault_count) (risen (g.L.Links.fault_count c.args.links.now) (g.L.Links.fault_count c.do_walk-in-BulkWalk.new.links)) b w (g.F.Files.text_at
-    c.args.files.now) (g.O.Output.stream c.args.out.now) (g.O.Output.stream c.do_walk-in-BulkWalk.new.out)
-    (g.E.Output.stream c.args.err.now) (g.E.Output.stream c.do_walk-in-BulkWalk.new.err) c.do_walk-in-BulkWalk.result)
+    (λ b w. IsWalkRun (HasLinkFacts (g.L.Links.opens c.args.links.now) g.L.Wire.Link)
+    (risen (g.L.Links.fault_count c.args.links.now) (g.L.Links.fault_count c.do_walk-in-BulkWalk.new.links)) b w (g.F.Files.text_at c.args.files.now)
+    (g.O.Output.stream c.args.out.now) (g.O.Output.stream c.do_walk-in-BulkWalk.new.out) (g.E.Output.stream c.args.err.now)
+    (g.E.Output.stream c.do_walk-in-BulkWalk.new.err) c.do_walk-in-BulkWalk.result)
     stated c.do_walk-in-BulkWalk.ensures in
     writes_all c.one_table.ensures c.no_fault.ensures c.one_list_of_modules.ensures c.one_tree.ensures _ _ bulk words
     (g.F.Files.text_at c.args.files.now) _ _ _ _ c.do_walk-in-BulkWalk.result run
@@ -88,10 +92,10 @@ pub returns-in-BulkWalk-clause-ends_at_status_0 : goal.returns-in-BulkWalk-claus
 returns-in-BulkWalk-clause-ends_at_status_0 g c = λ bulk words is.
     let stated = subst (λ (j : Job). IsWalkJob j bulk words) c.in-BulkWalk.is is in
     let run = many_at_a_time (walk_words c.in-BulkWalk.walk) bulk words
-    (λ b w. IsWalkRun (HasLinkFacts (g.L.Links.opens c.args.links.now) g.L.Wire.Link.honest g.L.Wire.Link.agents g.L.Wire.Link.traffic
-    g.L.Wire.Link.fault_count) (risen (g.L.Links.fault_count c.args.links.now) (g.L.Links.fault_count c.do_walk-in-BulkWalk.new.links)) b w (g.F.Files.text_at
-    c.args.files.now) (g.O.Output.stream c.args.out.now) (g.O.Output.stream c.do_walk-in-BulkWalk.new.out)
-    (g.E.Output.stream c.args.err.now) (g.E.Output.stream c.do_walk-in-BulkWalk.new.err) c.do_walk-in-BulkWalk.result)
+    (λ b w. IsWalkRun (HasLinkFacts (g.L.Links.opens c.args.links.now) g.L.Wire.Link)
+    (risen (g.L.Links.fault_count c.args.links.now) (g.L.Links.fault_count c.do_walk-in-BulkWalk.new.links)) b w (g.F.Files.text_at c.args.files.now)
+    (g.O.Output.stream c.args.out.now) (g.O.Output.stream c.do_walk-in-BulkWalk.new.out) (g.E.Output.stream c.args.err.now)
+    (g.E.Output.stream c.do_walk-in-BulkWalk.new.err) c.do_walk-in-BulkWalk.result)
     stated c.do_walk-in-BulkWalk.ensures in
     ends_at_0 c.one_table.ensures c.no_fault.ensures c.one_list_of_modules.ensures c.one_tree.ensures _ _ bulk words
     (g.F.Files.text_at c.args.files.now) _ _ _ _ c.do_walk-in-BulkWalk.result run

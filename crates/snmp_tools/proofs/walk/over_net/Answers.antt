@@ -51,8 +51,8 @@ returns-clause-done g c =
       link = c.in-Ok.link;
       after = c.print_over.new.link;
       opened = c.in-Ok.ensures.opened;
-      judged = h.1;
-      fault = h.0;
+      fresh = c.in-Ok.ensures.fresh;
+      run = h;
     }) p)) c.print_over.ensures.done
 
 pub returns-clause-failed : goal.returns-clause-failed
@@ -72,6 +72,6 @@ returns-clause-failed g c =
       link = c.in-Ok.link;
       after = c.print_over.new.link;
       opened = c.in-Ok.ensures.opened;
-      judged = h.1;
-      fault = h.0;
+      fresh = c.in-Ok.ensures.fresh;
+      run = h;
     }) p)) c.print_over.ensures.failed

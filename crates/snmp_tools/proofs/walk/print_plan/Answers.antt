@@ -18,7 +18,7 @@ returns-clause-done g c =
     let tries = c.args.asking.now.retries + 1 in
     let facts = subst (λ (a : Agents). WalkFacts a tries (traffic_of c.new-link.result) c.args.core printed.rows printed.refused c.print_walk-end.result
     (traffic_of c.print_walk-end.new.link)) c.new-link.ensures.agents
-    (printed.facts.3 c.new-link.ensures.honest (ap (λ (t : Traffic). t.sent) traffic)) in
+    (printed.facts.judged (c.new-link.ensures.honest, ap (λ (t : Traffic). t.sent) traffic)) in
     let walked = is_walked (plan_of c.args.plan.now) c.args.table.now c.args.core c.is_mib_view.ensures
     (c.one_answer.ensures.get c.args.table.now) c.requires tries (traffic_of c.new-link.result)
     (traffic_of c.print_walk-end.new.link) printed.rows printed.refused c.print_walk-end.result facts (ap (λ (t : Traffic). t.ahead) traffic) in
@@ -40,7 +40,7 @@ returns-clause-failed g c =
     let tries = c.args.asking.now.retries + 1 in
     let facts = subst (λ (a : Agents). WalkFacts a tries (traffic_of c.new-link.result) c.args.core printed.rows printed.refused c.print_walk-end.result
     (traffic_of c.print_walk-end.new.link)) c.new-link.ensures.agents
-    (printed.facts.3 c.new-link.ensures.honest (ap (λ (t : Traffic). t.sent) traffic)) in
+    (printed.facts.judged (c.new-link.ensures.honest, ap (λ (t : Traffic). t.sent) traffic)) in
     let walked = is_walked (plan_of c.args.plan.now) c.args.table.now c.args.core c.is_mib_view.ensures
     (c.one_answer.ensures.get c.args.table.now) c.requires tries (traffic_of c.new-link.result)
     (traffic_of c.print_walk-end.new.link) printed.rows printed.refused c.print_walk-end.result facts (ap (λ (t : Traffic). t.ahead) traffic) in
