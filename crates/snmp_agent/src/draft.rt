@@ -124,7 +124,7 @@ pub fn room_for_bindings(parts: &Parts<'_>, max_size: usize) -> Option<usize>
     requires community { length parts.now.community.now ≤ 255 }
     requires datagram { max_size ≤ 65507 }
     ensures room { IfSome result (IsRoom (parts_message parts.now) max_size) }
-    ensures small { IfSome result (λ room. room ≤ max_size) }
+    ensures within_max_size { IfSome result (λ room. room ≤ max_size) }
     ensures none { IfNone result (max_size < whole_size (parts_message parts.now) 0) }
 {
     message_sizes();

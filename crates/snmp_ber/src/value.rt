@@ -79,7 +79,7 @@ pub fn read_value<'a>(tag: u8, content: &'a [u8], into: &mut ValueRef<'a>)
     requires { IsOk (reading.typed_value tag content.now) }
     ensures { reading.typed_value tag content.now ≡ Ok (datum into.new) }
 {
-    if !is_changed(tag, content, into) {
+    if !set_if_same_type(tag, content, into) {
         replace_value(tag, content, into);
     }
 }
@@ -132,7 +132,7 @@ fn set_object_id<'a>(content: &'a [u8], into: &mut ValueRef<'a>)
 #[tactic(auto, unfolding(crate::specs::Reading::typed_value, crate::specs::Reading::unsigned_of))]
 // Hot, and called once: each binding that is read.
 #[inline(always)]
-fn is_changed<'a>(tag: u8, content: &'a [u8], value: &mut ValueRef<'a>) -> bool
+fn set_if_same_type<'a>(tag: u8, content: &'a [u8], value: &mut ValueRef<'a>) -> bool
     requires { IsOk (reading.typed_value tag content.now) }
     ensures { result ≡ true → reading.typed_value tag content.now ≡ Ok (datum value.new) }
 {

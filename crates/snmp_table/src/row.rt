@@ -64,7 +64,7 @@ impl RowValue {
         requires { IsShort self.now }
         ensures { datum into.new ≡ datum_of self.now }
     {
-        if !self.is_read_into(into) {
+        if !self.set_if_same_type(into) {
             self.replace(into);
         }
     }
@@ -90,7 +90,7 @@ impl RowValue {
     /// Changes a value of this type, as the values of a column are, to this one, and returns
     /// whether it did. This saves setting over 500 octets.
     #[inline]
-    fn is_read_into<'a>(&'a self, into: &mut ValueRef<'a>) -> bool
+    fn set_if_same_type<'a>(&'a self, into: &mut ValueRef<'a>) -> bool
         ensures { result ≡ true → datum into.new ≡ datum_of self.now }
     {
         match (self, into) {

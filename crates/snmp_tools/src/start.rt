@@ -50,7 +50,7 @@ pub(crate) fn start<'a>(
 fn resume<'a>(plan: &Plan<'a>, after: &Oid, text: &'a str) -> Result<WalkCore, Failure<'a>>
     requires sendable { IsWire (wire plan.now.root) }
     requires method { IsMethod plan.now.method }
-    ensures is { IfOk result (λ core.
+    ensures resumed { IfOk result (λ core.
         core ≡ resumed plan.now.root after.now plan.now.method plan.now.community.now 1) }
     ensures fresh { IfOk result IsFresh }
     ensures gives { IfOk result (λ core. (view : MibView) (got : VarBind)

@@ -49,7 +49,7 @@ pub fn run_get<L: Link, S: Sink>(
     requires wire { All (λ o. IsWire (wire o)) names.now }
     requires community { length community.now ≤ 255 }
     requires id { id < 2 ^ 31 }
-    ensures given { (rows : List VarBind) × (refused : List VarBind)
+    ensures rows_given { (rows : List VarBind) × (refused : List VarBind)
         × GetEnds S.takes (get_request community.now id names.now) names.now
         (IsBrought (ComesOver L.brings) (L.agents link.old)
         (L.honest link.old × ((L.traffic link.old).sent ≡ []))

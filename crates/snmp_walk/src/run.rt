@@ -41,7 +41,7 @@ pub fn run_walk<L: Link, S: Sink>(
     sink: &mut S,
 ) -> WalkEnd
     requires { IsFresh core }
-    ensures given { (rows : List VarBind) × (refused : List VarBind)
+    ensures rows_given { (rows : List VarBind) × (refused : List VarBind)
         × Took S.takes sink.old rows refused result sink.new
         × IsPartOfWalk Rises Named core (rows ++ refused)
         × (L.honest link.old → (L.traffic link.old).sent ≡ []

@@ -7,8 +7,8 @@ use Rattle.snmp_walk.proofs.GetFactLemmas.{facts_by, lost_exchange, short_enough
 use Rattle.snmp_walk.specs.Missed.{IsNotAwaited, AreMissed}
 use Rattle.snmp_walk.proofs.get.run_get.Goals as goal
 
-pub returns-in_default-clause-given : goal.returns-in_default-clause-given
-returns-in_default-clause-given g c =
+pub returns-in_default-clause-rows_given : goal.returns-in_default-clause-rows_given
+returns-in_default-clause-rows_given g c =
     facts_by c.codec.ensures (ComesOver g.L.Link.brings) (g.L.Link.agents c.args.link.now) (g.L.Link.honest c.args.link.now)
     (g.met.L.Link.lawful c.args.link.now)
     (c.args.retries + 1) (omega arith)
@@ -16,8 +16,8 @@ returns-in_default-clause-given g c =
     (λ fits. absurd (omega (arith, fits, c.in_default.ensures.none)))
     g.S.Sink.takes c.args.sink.now c.args.sink.now [] [] _ (λ silent. let no : ⊥ = cc in absurd no) (is_too_long c.in_default.ensures.none refl refl refl refl)
 
-pub returns-in-Ok-None-clause-given : goal.returns-in-Ok-None-clause-given
-returns-in-Ok-None-clause-given g c =
+pub returns-in-Ok-None-clause-rows_given : goal.returns-in-Ok-None-clause-rows_given
+returns-in-Ok-None-clause-rows_given g c =
     facts_by c.codec.ensures (ComesOver g.L.Link.brings) (g.L.Link.agents c.args.link.now) (g.L.Link.honest c.args.link.now)
     (g.met.L.Link.lawful c.args.link.now)
     (c.args.retries + 1) (omega arith)
@@ -31,8 +31,8 @@ returns-in-Ok-None-clause-given g c =
     (c.in-Ok-None.ensures.exchanged (g.met.L.Link.keeping c.args.link.now honest)) honest none)
     (is_silent refl refl refl (if_silent c.exchange.result c.in-Ok-None.field-0 _ c.in-Ok-None.is c.in-Ok-None.field-0-is c.exchange.ensures.silent).1)
 
-pub returns-in-Err-clause-given : goal.returns-in-Err-clause-given
-returns-in-Err-clause-given g c =
+pub returns-in-Err-clause-rows_given : goal.returns-in-Err-clause-rows_given
+returns-in-Err-clause-rows_given g c =
     facts_by c.codec.ensures (ComesOver g.L.Link.brings) (g.L.Link.agents c.args.link.now) (g.L.Link.honest c.args.link.now)
     (g.met.L.Link.lawful c.args.link.now)
     (c.args.retries + 1) (omega arith)
@@ -52,8 +52,8 @@ unreachable-requires g c =
     c.args.community.now c.args.id c.args.names.now)
     c.args.sink.now c.exchange.new.sink r.is_read.message b r.is_read.given c.in-Ok-Some.heard r.is_read.read c.in-GoesOn.is r.is_read.delivered
 
-pub returns-clause-given : goal.returns-clause-given
-returns-clause-given g c =
+pub returns-clause-rows_given : goal.returns-clause-rows_given
+returns-clause-rows_given g c =
     let r = if_some c.in-Ok-Some.field-0 _ c.in-Ok-Some.heard c.in-Ok-Some.field-0-is c.in-Ok-Some.ensures.read in
     let b = brought c.codec.ensures c.args.community.now c.args.id c.args.names.now c.in-Some.ensures.range (ComesOver g.L.Link.brings)
     (g.L.Link.agents c.args.link.now)

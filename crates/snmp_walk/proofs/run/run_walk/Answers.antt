@@ -23,8 +23,8 @@ turns-init g c = (
   left_first (g.L.Link.ready c.args.link.now) (c.args.retries + 1) c.args.core.id,
 )
 
-pub returns-in-Some-clause-given : goal.returns-in-Some-clause-given
-returns-in-Some-clause-given g c =
+pub returns-in-Some-clause-rows_given : goal.returns-in-Some-clause-rows_given
+returns-in-Some-clause-rows_given g c =
     let inv = c.turns.invariant in
     let agents : Agents = g.L.Link.agents c.args.link.now in
     let t = c.in-Some.ensures.turns in

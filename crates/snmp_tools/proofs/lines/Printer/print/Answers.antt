@@ -4,7 +4,7 @@ use Rattle.snmp_tools.proofs.lines.Printer.print.Goals as goal
 
 pub returns : goal.returns
 returns g c =
-    let given = c.run_walk.ensures.given in
+    let given = c.run_walk.ensures.rows_given in
     record {
       same_output = same_name (λ s. s.tree) (λ s. s.letters) (λ s. s.out.ghost_name) (λ s. g.O.Output.stream s.out.now)
           (λ r. mib_in (g.T.NameTree.naming r.now) (g.T.ShowTree.syntax_at r.now)) c.args.self.now _ given.0 given.1 c.run_walk.result given.2;

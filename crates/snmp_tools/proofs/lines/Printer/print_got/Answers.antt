@@ -28,7 +28,7 @@ returns-then-is_empty-clause-printed g c =
 
 pub returns : goal.returns
 returns g c =
-    let given = c.run_get.ensures.given in
+    let given = c.run_get.ensures.rows_given in
     let request = get_request c.args.community.now 1 c.args.names.now in
     let done = took _ request c.args.names.now _ c.args.self.now _ given.0 given.1 c.run_get.result given.2 in
     record {
