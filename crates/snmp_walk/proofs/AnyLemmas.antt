@@ -185,7 +185,8 @@ module _ (first : Walker) where
       (closed Rises Named Small rising_answers first given rows old (last_name old.asked rows) _ refl waits h before after (anywhere first.root
       (last_name old.asked rows))))
       (λ all. let long : length bindings ≤ length rows = ltb-false _ _ all in
-      goes_any old given rows phase.Rows h after (more_pace Rises Named Small rising_answers first given rows old waits h before trail (omega (arith, some, long)))))
+      goes_any old given rows phase.Rows h after
+      (more_pace Rises Named Small rising_answers first given rows old waits h before trail (omega (arith, some, long)))))
 
   reads_next_any : (old : Walker) (given bindings : List VarBind) → old.phase ≡ phase.Rows → Reaches Rises Named first old given
       → IsGiven Rises Named first given old.asked

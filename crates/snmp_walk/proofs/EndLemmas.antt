@@ -1,5 +1,5 @@
 -- A reply with an error status, and one without bindings, gives nothing.
-use Rattle.std.proofs.Common.{◌≡◌, Bool, true, false, cond, List, [], ◌∷◌, refl, Option, Some, None}
+use Rattle.std.proofs.Common.{Bool, true, false, cond, List, [], ◌∷◌, refl, Option, Some, None}
 use Rattle.snmp_wire.specs.Message.{VarBind, Message}
 use Rattle.snmp_walk.specs.declared.phase.Phase.{Phase}
 use Rattle.snmp_walk.specs.declared.phase.Phase.TheVariants as phase

@@ -427,7 +427,8 @@ lost_get agents honest tries q text is old new silent failed s h x =
 -- a Get that no try had a reply to, by its exchange
 pub lost_exchange : Codec → (agents : Agents) (honest : Type 0) (lawful : honest
     → AreLawful agents) (tries : ℕ) (community : List ℕ) (id : ℕ) (names : List (List ℕ))
-    → IsMessageInRange (get_request community id names) → (q : List ℕ) → q ≡ canon (get_request community id names) → (old new : Traffic) (silent failed : Type 0)
+    → IsMessageInRange (get_request community id names) → (q : List ℕ) → q ≡ canon (get_request community id names)
+    → (old new : Traffic) (silent failed : Type 0)
     → silent → Exchanges agents (honest × IsAsked agents community id q old.sent) tries q old silent failed new → honest → old.sent ≡ []
     → IsLostGet agents tries old (canon (get_request community id names)) new
 lost_exchange codec agents honest lawful tries community id names ranged q is old new silent failed s x h none =

@@ -39,7 +39,7 @@ use Rattle.snmp_agent.specs.declared.config.Config.{Config}
 use Rattle.snmp_agent.specs.declared.config.Why.{Why}
 use Rattle.snmp_walk.specs.Link.{Agents, OneOf, AreViews}
 use Rattle.snmp_walk.specs.Traffic.{datagram_at, latest, received, Gives, Receives}
-use Rattle.snmp_walk.specs.Memory.{agents_over, IsNextNumber, IsReplyOf}
+use Rattle.snmp_walk.specs.Memory.{agents_over, IsNextNumber}
 use Rattle.snmp_walk.specs.Arena.{Store}
 use Rattle.std.proofs.lemmas.Option.{slice_get-get_or}
 use Rattle.std.proofs.Math.ListN.{get_or-eq_default}

@@ -83,7 +83,8 @@ asked_of codec agents sent w lawful good waits earlier = record {
         let given = honest_reply codec agents lawful v.0 v.1 v.2 octets (subst (λ (x : List ℕ). IsReplyFrom agents x octets) v.4 reply) in
         other_id w.community w.id m v.0.id v.3 (ap (λ (n : Message). n.id) (one_spelt codec m given.0 octets spelt given.1) ∙ given.2.id))
 
-pub exchanges_by : (agents : Agents) (honest same_honest : Type 0) (tries : ℕ) (q : List ℕ) (old : Traffic) (silent same_silent failed same_failed : Type 0) (new : Traffic)
+pub exchanges_by : (agents : Agents) (honest same_honest : Type 0) (tries : ℕ) (q : List ℕ) (old : Traffic)
+    (silent same_silent failed same_failed : Type 0) (new : Traffic)
     → (same_honest → honest) → (same_silent → silent) → (failed → same_failed) → Exchanges agents honest tries q old silent failed new
     → Exchanges agents same_honest tries q old same_silent same_failed new
 exchanges_by agents honest same_honest tries q old silent same_silent failed same_failed new f g k x = record {
@@ -110,10 +111,12 @@ module _ (codec : Codec) (agents : Agents) (honest : Type 0) (w : Walker) (q : L
       heard_of codec Comes agents (honest × IsEarlier sent w) w r.is_read.message r.datagram waits good r.comes r.is_read.spelt r.is_read.awaited
       (λ h. (lawful h.0, subst (λ (x : List ℕ). IsReplyFrom agents x r.datagram) is (r.reply h.0 (asked_by sent h.0 h.1))))
 
-  pub exchanged_by : (tries : ℕ) (old : Traffic) (silent same_silent failed same_failed : Type 0) (new : Traffic) → (same_silent → silent) → (failed → same_failed)
+  pub exchanged_by : (tries : ℕ) (old : Traffic) (silent same_silent failed same_failed : Type 0) (new : Traffic)
+      → (same_silent → silent) → (failed → same_failed)
       → Exchanges agents (honest × IsAsked agents w.community w.id q old.sent) tries q old silent failed new
       → Exchanges agents (honest × IsEarlier old.sent w) tries (canon (request_of w)) old same_silent same_failed new
   exchanged_by tries old silent same_silent failed same_failed new f k x =
       subst (λ (y : List ℕ). Exchanges agents (honest × IsEarlier old.sent w) tries y old same_silent same_failed new) is
-      (exchanges_by agents (honest × IsAsked agents w.community w.id q old.sent) (honest × IsEarlier old.sent w) tries q old silent same_silent failed same_failed new
+      (exchanges_by agents (honest × IsAsked agents w.community w.id q old.sent) (honest × IsEarlier old.sent w) tries q old
+      silent same_silent failed same_failed new
       (λ h. (h.0, asked_by old.sent h.0 h.1)) f k x)

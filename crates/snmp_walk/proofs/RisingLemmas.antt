@@ -48,8 +48,8 @@ part_rises Next Got laws first given (inr (inl h)) =
 part_rises Next Got laws first given (inr (inr h)) = subst AreRising (sym h.only) (tt, tt)
 
 -- an end that replies lead to is read so
-pub read_end : (Comes : List ℕ → Type 0) (Sent : Walker → Type 0) (first : Walker) (rows refused : List VarBind) (end : WalkEnd) → IsReplyEnd end → IsReadSo Comes Sent first rows end
-    → IsEndOfRun Comes Sent first rows refused end
+pub read_end : (Comes : List ℕ → Type 0) (Sent : Walker → Type 0) (first : Walker) (rows refused : List VarBind) (end : WalkEnd) → IsReplyEnd end
+    → IsReadSo Comes Sent first rows end → IsEndOfRun Comes Sent first rows refused end
 read_end Comes Sent first rows refused (ending.Done n) own h = h
 read_end Comes Sent first rows refused (ending.Fault a b) own h = h
 read_end Comes Sent first rows refused (ending.NoProgress o) own h = h
@@ -61,8 +61,9 @@ read_end Comes Sent first rows refused ending.NoResponse own h = absurd own
 read_end Comes Sent first rows refused ending.Link own h = absurd own
 read_end Comes Sent first rows refused (ending.Sink fault) own h = absurd own
 
-pub end_facts : (Comes : List ℕ → Type 0) (Sent : Walker → Type 0) (first : Walker) (rows refused : List VarBind) (end : WalkEnd) → IsPartOfWalk Rises Named first (rows ++ refused)
-    → CountsAll end rows → IsEndOfRun Comes Sent first rows refused end → EndFacts Comes Sent first rows refused end
+pub end_facts : (Comes : List ℕ → Type 0) (Sent : Walker → Type 0) (first : Walker) (rows refused : List VarBind) (end : WalkEnd)
+    → IsPartOfWalk Rises Named first (rows ++ refused) → CountsAll end rows
+    → IsEndOfRun Comes Sent first rows refused end → EndFacts Comes Sent first rows refused end
 end_facts Comes Sent first rows refused end part counts reason = record {
   rising = part_rises Rises Named rising_answers first (rows ++ refused) part;
   counted = counts;

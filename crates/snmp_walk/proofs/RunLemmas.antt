@@ -137,8 +137,9 @@ took_reply takes before after rows ending.NoResponse own h = (h, refl)
 took_reply takes before after rows ending.Link own h = (h, refl)
 took_reply takes before after rows (ending.Sink fault) own h = absurd own
 
-lawful_reply : (agents : Agents) (Silent : Walker → Type 0) (first w : Walker) (given more : List VarBind) (why : WalkEnd) → IsReplyEnd why → BringsNone why more
-    → Reaches (IsNextFrom agents) (IsGotFrom agents) first w given → Ends (IsNextFrom agents) (IsGotFrom agents) (IsTooLarge agents) first w (given ++ more) why
+lawful_reply : (agents : Agents) (Silent : Walker → Type 0) (first w : Walker) (given more : List VarBind) (why : WalkEnd) → IsReplyEnd why
+    → BringsNone why more → Reaches (IsNextFrom agents) (IsGotFrom agents) first w given
+    → Ends (IsNextFrom agents) (IsGotFrom agents) (IsTooLarge agents) first w (given ++ more) why
     → IsLawfulEnd agents Silent first (given ++ more) why
 lawful_reply agents Silent first w given more (ending.Done n) own none h e = (w, given, more, refl, h, e)
 lawful_reply agents Silent first w given more (ending.Fault a b) own none h e =
@@ -363,7 +364,8 @@ module _ {S : Type 0} (takes : S → VarBind → Result (Unit {0}) SinkFault →
       subst (IsOver rows) same (over_reply rows m datagram why (subst (λ (x : WalkEnd). Sent x w) (sym same) sent) from comes spelt e sink)
   over rows new end sent quiet (is_refused m datagram fault p left between from comes spelt e sink refused en) =
       let same : ending.Sink fault ≡ end = cc in
-      subst (IsOver rows) same (over_refused rows m fault p left between (subst (λ (x : WalkEnd). Sent x w) (sym same) sent) datagram comes spelt from e sink refused)
+      subst (IsOver rows) same (over_refused rows m fault p left between (subst (λ (x : WalkEnd). Sent x w) (sym same) sent)
+      datagram comes spelt from e sink refused)
   over rows new end sent quiet (is_silent r a en) =
       let same : ending.NoResponse ≡ end = cc in
       let sink : Given takes before given t = subst (Given takes before given) (sym a) sunk in
@@ -392,7 +394,8 @@ fast_turn : {S : Type 0} (takes : S → VarBind → Result (Unit {0}) SinkFault 
     → (rows : List VarBind) (v : Walker) → Reaches (IsNextFrom agents) (IsGotFrom agents) first v (given ++ rows) → v.id ≡ w.id + 1 → honest
     → Turns takes Comes agents honest w s rows None v t → IsFast (IsNextFrom agents) (IsGotFrom agents) Roomy first given w.id w.phase
     → IsFast (IsNextFrom agents) (IsGotFrom agents) More first (given ++ rows) v.id v.phase
-fast_turn takes Comes agents honest first w s t given laws Roomy More less room before rows v after next h (goes_on m datagram from comes spelt e f sink en) fast =
+fast_turn takes Comes agents honest first w s t given laws Roomy More less room before rows v after next h
+    (goes_on m datagram from comes spelt e f sink en) fast =
     let r = from h in
     fast_on agents laws first w v given rows Roomy More less room before after next m r.0 r.1 e f w.phase v.phase refl refl fast
 fast_turn takes Comes agents honest first w s t given laws Roomy More less room before rows v after next h
@@ -550,8 +553,9 @@ module _ {S : Type 0} (takes : S → VarBind → Result (Unit {0}) SinkFault →
         some = λ other. (x k).some (λ e. other (same_some end ending.Link e));
         all = λ silent. (x k).all (ap Some silent);
       } in
-      let done = over takes Comes agents (IsQuiet later) (λ why u. (keeps → IsLastSent tries why later u) × (why ≡ ending.NoResponse → Unheard u)) (here × IsEarlier now.sent w) first w before s t r.given r.sunk
-      r.stands good r.later r.read rows v end (sent, unheard)
+      let done = over takes Comes agents (IsQuiet later)
+      (λ why u. (keeps → IsLastSent tries why later u) × (why ≡ ending.NoResponse → Unheard u)) (here × IsEarlier now.sent w)
+      first w before s t r.given r.sunk r.stands good r.later r.read rows v end (sent, unheard)
       (λ silent k. λ h none. no_reply (Some end ≡ Some ending.NoResponse) (Some end ≡ Some ending.Link) later (ap Some silent) h none (x (keeping h))) turn in (
         r.given ++ rows,
         done.refused,
@@ -560,14 +564,15 @@ module _ {S : Type 0} (takes : S → VarBind → Result (Unit {0}) SinkFault →
         λ h none.
             let shown = done.facts (here_honest h, r.earlier (keeping h) none) (views_answer agents (views h)) (r.honestly h (views h) none) in
             facts codec agents tries old later first (r.given ++ rows) done.refused end some fresh (views h) shown.part
-            (lawful_by agents (IsQuiet later) (HasNoReply agents tries old later) first (r.given ++ rows) end (λ u f. f h none) shown.lawful) (last_sent shown.last_request h none),
+            (lawful_by agents (IsQuiet later) (HasNoReply agents tries old later) first (r.given ++ rows) end (λ u f. f h none) shown.lawful)
+            (last_sent shown.last_request h none),
         λ k. send_facts codec agents (honest × (old.sent ≡ [])) (AreRoomy agents (r.sends k).requests) tries old later first w
             (r.given ++ rows) r.given end fresh good
-            (sends_more agents (here
-            × IsEarlier now.sent w) (Some end ≡ Some ending.NoResponse) (Some end ≡ Some ending.Link) tries first w r.given rows old now later good r.stands (r.sends k) (x k))
+            (sends_more agents (here × IsEarlier now.sent w) (Some end ≡ Some ending.NoResponse) (Some end ≡ Some ending.Link)
+            tries first w r.given rows old now later good r.stands (r.sends k) (x k))
             (λ h. (
-              used_more agents (here
-                  × IsEarlier now.sent w) (Some end ≡ Some ending.NoResponse) (Some end ≡ Some ending.Link) tries (canon (request_of w)) old now later (here_honest h.0, r.earlier k h.1)
+              used_more agents (here × IsEarlier now.sent w) (Some end ≡ Some ending.NoResponse) (Some end ≡ Some ending.Link) tries
+                  (canon (request_of w)) old now later (here_honest h.0, r.earlier k h.1)
                   (r.used h.0 h.1) (x k),
               views h.0,
               r.honestly h.0 (views h.0) h.1,
@@ -578,7 +583,8 @@ module _ {S : Type 0} (takes : S → VarBind → Result (Unit {0}) SinkFault →
       )
 
 -- a run over a link that is ready for all its requests has no fault of the link
-pub ready_facts : {S : Type 0} → Codec → (takes : S → VarBind → Result (Unit {0}) SinkFault → S → Type 0) (Comes : List ℕ → Type 0) (agents : Agents) (keeps honest : Type 0) (tries : ℕ)
+pub ready_facts : {S : Type 0} → Codec → (takes : S → VarBind → Result (Unit {0}) SinkFault → S → Type 0) (Comes : List ℕ → Type 0)
+    (agents : Agents) (keeps honest : Type 0) (tries : ℕ)
     (first : Walker) (before : S) (old : Traffic) (w : Walker) (s : S) (now : Traffic)
     → Runs takes Comes agents keeps honest tries first before old w s now → IsFresh first → (honest → AreViews agents.tables) → (Ready : ℕ → ℕ → Type 0)
     (end : WalkEnd) → ((k : ℕ) → w.id ≤ first.id + k + 1 → IsReadyForAll Ready tries k → end ≢ ending.Link)

@@ -143,7 +143,8 @@ module _ {S : Type 0} (takes : S → VarBind → Result (Unit {0}) SinkFault →
   turned : (Comes : List ℕ → Type 0) (agents : Agents) (honest : Type 0) (w : Walker) (given : Step) (new : Walker) (what : Heard)
       → IsTaken Comes agents honest w given new → Delivers takes given s what t → (r : List VarBind) × Turns takes Comes agents honest w s r (end_of what) new t
   turned Comes agents honest w given new what h (is_stray e f g) = absurd (subst HasNews e h.news)
-  turned Comes agents honest w given new what h (delivered_on rows e f g) = (rows, turn_on h.message h.datagram h.from h.comes h.spelt (sym h.given_is ∙ e) h.new_is g (ap end_of f))
+  turned Comes agents honest w given new what h (delivered_on rows e f g) =
+      (rows, turn_on h.message h.datagram h.from h.comes h.spelt (sym h.given_is ∙ e) h.new_is g (ap end_of f))
   turned Comes agents honest w given new what h (delivered_last rows why e f g) =
       (rows, ends h.message h.datagram why h.from h.comes h.spelt (sym h.given_is ∙ e) g (ap end_of f))
   turned Comes agents honest w given new what h (delivered_part fault rows p left between e f g k) =

@@ -90,8 +90,8 @@ AreRead Comes v (r ∷ more) w =
     (u : Walker) × Comes r.datagram × Takes v r.datagram (step.Rows r.rows) u
     × AreRead Comes u more w
 
--- the walk that began as `first` gave just the rows that it read in datagrams that a receive of such
--- a link may bring, and is w then
+-- the walk that began as `first` gave just the rows that it read in datagrams that a receive of
+-- such a link may bring, and is w then
 pub record HasRead (Comes : List ℕ → Type 0) (first w : Walker)
     (given : List VarBind) : Type 0 where
   pub readings : List Reading
@@ -109,8 +109,8 @@ pub record IsWaiting (Comes : List ℕ → Type 0) (Sent : Walker → Type 0) (f
   pub sent : Sent w
 
 -- The walk that began as `first` gave these rows and ended in this way by a datagram that a receive
--- of such a link may bring: w had given the first of them and was waiting for a reply, and reads the
--- datagram as the other rows and this end.
+-- of such a link may bring: w had given the first of them and was waiting for a reply, and reads
+-- the datagram as the other rows and this end.
 pub record IsReadSo (Comes : List ℕ → Type 0) (Sent : Walker → Type 0) (first : Walker)
     (rows : List VarBind) (end : WalkEnd) : Type 0 where
   pub w : Walker

@@ -38,7 +38,8 @@ returns-in-Err-clause-rows_given g c =
     (c.args.retries + 1) (omega arith)
     (g.L.Link.traffic c.args.link.now) (g.L.Link.traffic c.exchange.new.link) c.args.community.now c.args.id c.args.names.now
     (λ fits. own c.codec.ensures c.args.community.now c.args.id c.args.names.now c.in-Some.ensures.range)
-    g.S.Sink.takes c.args.sink.now c.exchange.new.sink [] [] _ (λ silent. let no : ⊥ = cc in absurd no) (is_cut refl refl refl (if_cut c.exchange.result _ _ c.in-Err.is c.exchange.ensures.cut_off).1)
+    g.S.Sink.takes c.args.sink.now c.exchange.new.sink [] [] _ (λ silent. let no : ⊥ = cc in absurd no)
+    (is_cut refl refl refl (if_cut c.exchange.result _ _ c.in-Err.is c.exchange.ensures.cut_off).1)
 
 pub unreachable-requires : goal.unreachable-requires
 unreachable-requires g c =
@@ -80,7 +81,8 @@ returns-clause-too_long g c =
     let e = got_ends g.S.Sink.takes (get_request c.args.community.now c.args.id c.args.names.now) c.args.names.now
     (IsBrought (ComesOver g.L.Link.brings) (g.L.Link.agents c.args.link.now) (g.L.Link.honest c.args.link.now × ((g.L.Link.traffic c.args.link.now).sent ≡ []))
     c.args.community.now c.args.id c.args.names.now)
-    c.args.sink.now c.exchange.new.sink r.is_read.message b r.is_read.given c.in-Ok-Some.heard r.is_read.read c.in-Ends.end c.in-Ends.is r.is_read.delivered in (
+    c.args.sink.now c.exchange.new.sink r.is_read.message b r.is_read.given c.in-Ok-Some.heard r.is_read.read c.in-Ends.end c.in-Ends.is
+    r.is_read.delivered in (
       (λ long. absurd (e.no_length long)),
       (λ long. absurd (short_enough _ _ _ c.in-Some.ensures.some.0 c.in-Some.ensures.some.1 long)),
     )

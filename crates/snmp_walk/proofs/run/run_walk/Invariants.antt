@@ -6,7 +6,8 @@ use Rattle.snmp_walk.proofs.run.run_walk.Given as goal
 
 abbrev pub invariant-turns : goal.invariant-turns
 invariant-turns g l =
-    Runs g.S.Sink.takes (ComesOver g.L.Link.brings) (g.L.Link.agents l.fn.link) (g.L.Link.keeps l.fn.link) (g.L.Link.honest l.fn.link) (l.retries + 1) l.fn.core l.fn.sink
+    Runs g.S.Sink.takes (ComesOver g.L.Link.brings) (g.L.Link.agents l.fn.link) (g.L.Link.keeps l.fn.link) (g.L.Link.honest l.fn.link) (l.retries + 1)
+    l.fn.core l.fn.sink
     (g.L.Link.traffic l.fn.link) l.core l.sink (g.L.Link.traffic l.link)
     × (g.L.Link.honest l.fn.link → g.L.Link.honest l.link)
     × (g.L.Link.keeps l.fn.link → g.L.Link.keeps l.link)

@@ -74,6 +74,8 @@ pub tries-preserved : goal.tries-preserved
 tries-preserved g c =
     let inv = c.tries.invariant in
     let q : List ℕ = c.args.request.now in
+    let community = g.W.Waiter.community c.args.waiter.now in
+    let id = g.W.Waiter.id c.args.waiter.now in
     let agents : Agents = g.L.Link.agents c.args.link.now in
     let old : Traffic = g.L.Link.traffic c.args.link.now in
     let before : Traffic = g.L.Link.traffic c.tries.link in
@@ -91,11 +93,11 @@ tries-preserved g c =
           let sent = inv.4 keeps in
           let more = c.in_ok-send.ensures.sent (inv.1 keeps) in
           let heard = c.hear.ensures.heard q (c.send.ensures.honest (inv.0 h)) (last_now agents
-          (g.L.Link.agents c.send.new.self) same (g.W.Waiter.community c.args.waiter.now) (g.W.Waiter.id c.args.waiter.now) q old before between c.tries.counter sent more asked)
+          (g.L.Link.agents c.send.new.self) same community id q old before between c.tries.counter sent more asked)
           (asked_for (g.L.Link.agents c.send.new.self) g.W.Waiter.community g.W.Waiter.id c.tries.waiter c.args.waiter.now q between.sent inv.7
-          (asked_now agents (g.L.Link.agents c.send.new.self) same (g.W.Waiter.community c.args.waiter.now) (g.W.Waiter.id c.args.waiter.now) q old before between c.tries.counter sent more asked)) in
+          (asked_now agents (g.L.Link.agents c.send.new.self) same community id q old before between c.tries.counter sent more asked)) in
           missing_more agents q old between now c.tries.counter (c.args.retries + 1) (c.hear.result ≡ Ok None) (c.in_ok-heard.was ∙ ap Ok c.in_default.is)
-          (try_sent agents (g.L.Link.agents c.send.new.self) same (g.W.Waiter.community c.args.waiter.now) (g.W.Waiter.id c.args.waiter.now) q old before between c.tries.counter sent more asked) before
+          (try_sent agents (g.L.Link.agents c.send.new.self) same community id q old before between c.tries.counter sent more asked) before
           (c.in_ok-send.ensures.ahead (inv.0 h))
           (subst (λ (a : Agents). Hears a q between (c.hear.result ≡ Ok None) now) same heard) (inv.5 h asked),
       λ sends octets h. (c.hear.ensures.ready sends octets (c.send.ensures.ready sends octets (inv.6 (sends + 1) (octets + length q)
@@ -104,7 +106,8 @@ tries-preserved g c =
       (if_silent c.hear.result _ _ c.in_ok-heard.was c.in_default.is c.hear.ensures.silent).1 ∙ inv.8,
       tries_more g.L.Link.sends g.L.Link.brings g.L.Link.is_silent (IsNotAwaited (g.W.Waiter.community c.args.waiter.now) (g.W.Waiter.id c.args.waiter.now)) q
           c.tries.counter c.args.link.now c.tries.link c.send.new.self c.hear.new.link inv.9 c.in_ok-send.ensures.sends
-          (not_awaited g.L.Link.brings g.L.Link.is_silent g.W.Waiter.community g.W.Waiter.id c.tries.waiter c.args.waiter.now c.send.new.self c.hear.new.link inv.7
+          (not_awaited g.L.Link.brings g.L.Link.is_silent g.W.Waiter.community g.W.Waiter.id c.tries.waiter c.args.waiter.now
+          c.send.new.self c.hear.new.link inv.7
           (if_silent c.hear.result _ _ c.in_ok-heard.was c.in_default.is c.hear.ensures.unanswered)),
     )
 
@@ -151,6 +154,8 @@ pub returns-in_err-heard-clause-exchanged : goal.returns-in_err-heard-clause-exc
 returns-in_err-heard-clause-exchanged g c = λ keeps.
     let inv = c.tries.invariant in
     let q : List ℕ = c.args.request.now in
+    let community = g.W.Waiter.community c.args.waiter.now in
+    let id = g.W.Waiter.id c.args.waiter.now in
     let agents : Agents = g.L.Link.agents c.args.link.now in
     let old : Traffic = g.L.Link.traffic c.args.link.now in
     let before : Traffic = g.L.Link.traffic c.tries.link in
@@ -167,9 +172,9 @@ returns-in_err-heard-clause-exchanged g c = λ keeps.
       all = λ s. absurd (never_ok _ c.from_residual-in_err-heard.ensures.0 s);
       honestly = λ h.
           let heard = c.hear.ensures.heard q (c.send.ensures.honest (inv.0 h.0)) (last_now agents
-          (g.L.Link.agents c.send.new.self) same (g.W.Waiter.community c.args.waiter.now) (g.W.Waiter.id c.args.waiter.now) q old before between c.tries.counter sent more h.1)
+          (g.L.Link.agents c.send.new.self) same community id q old before between c.tries.counter sent more h.1)
           (asked_for (g.L.Link.agents c.send.new.self) g.W.Waiter.community g.W.Waiter.id c.tries.waiter c.args.waiter.now q between.sent inv.7
-          (asked_now agents (g.L.Link.agents c.send.new.self) same (g.W.Waiter.community c.args.waiter.now) (g.W.Waiter.id c.args.waiter.now) q old before between c.tries.counter sent more h.1)) in
+          (asked_now agents (g.L.Link.agents c.send.new.self) same community id q old before between c.tries.counter sent more h.1)) in
           heard_more agents q old before between now c.tries.counter (c.args.retries + 1) (c.hear.result ≡ Ok None) _ (c.in_ok-send.ensures.ahead (inv.0 h.0))
           (subst (λ (a : Agents). Hears a q between (c.hear.result ≡ Ok None) now) same heard) (inv.5 h.0 h.1)
           (λ s. never_ok _ c.from_residual-in_err-heard.ensures.0 s);
@@ -183,6 +188,8 @@ returns-in-Some-clause-read g c =
     c.in_ok-heard.field-0 c.in-Some.heard inv.7 inv.8 c.in-Some.is c.in_ok-heard.ensures.read
     (λ octets reply h asked.
     let q : List ℕ = c.args.request.now in
+    let community = g.W.Waiter.community c.args.waiter.now in
+    let id = g.W.Waiter.id c.args.waiter.now in
     let agents : Agents = g.L.Link.agents c.args.link.now in
     let old : Traffic = g.L.Link.traffic c.args.link.now in
     let before : Traffic = g.L.Link.traffic c.tries.link in
@@ -193,14 +200,16 @@ returns-in-Some-clause-read g c =
     let more = c.in_ok-send.ensures.sent (inv.1 keeps) in
     subst (λ (a : Agents). IsReplyFrom a q octets) same
     (reply q (c.send.ensures.honest (inv.0 h)) (last_now agents
-    (g.L.Link.agents c.send.new.self) same (g.W.Waiter.community c.args.waiter.now) (g.W.Waiter.id c.args.waiter.now) q old before between c.tries.counter sent more asked)
+    (g.L.Link.agents c.send.new.self) same community id q old before between c.tries.counter sent more asked)
     (asked_for (g.L.Link.agents c.send.new.self) g.W.Waiter.community g.W.Waiter.id c.tries.waiter c.args.waiter.now q between.sent inv.7
-    (asked_now agents (g.L.Link.agents c.send.new.self) same (g.W.Waiter.community c.args.waiter.now) (g.W.Waiter.id c.args.waiter.now) q old before between c.tries.counter sent more asked))))
+    (asked_now agents (g.L.Link.agents c.send.new.self) same community id q old before between c.tries.counter sent more asked))))
 
 pub returns-in-Some-clause-exchanged : goal.returns-in-Some-clause-exchanged
 returns-in-Some-clause-exchanged g c = λ keeps.
     let inv = c.tries.invariant in
     let q : List ℕ = c.args.request.now in
+    let community = g.W.Waiter.community c.args.waiter.now in
+    let id = g.W.Waiter.id c.args.waiter.now in
     let agents : Agents = g.L.Link.agents c.args.link.now in
     let old : Traffic = g.L.Link.traffic c.args.link.now in
     let before : Traffic = g.L.Link.traffic c.tries.link in
@@ -217,9 +226,9 @@ returns-in-Some-clause-exchanged g c = λ keeps.
       all = λ s. let no : ⊥ = cc in absurd no;
       honestly = λ h.
           let heard = c.hear.ensures.heard q (c.send.ensures.honest (inv.0 h.0)) (last_now agents
-          (g.L.Link.agents c.send.new.self) same (g.W.Waiter.community c.args.waiter.now) (g.W.Waiter.id c.args.waiter.now) q old before between c.tries.counter sent more h.1)
+          (g.L.Link.agents c.send.new.self) same community id q old before between c.tries.counter sent more h.1)
           (asked_for (g.L.Link.agents c.send.new.self) g.W.Waiter.community g.W.Waiter.id c.tries.waiter c.args.waiter.now q between.sent inv.7
-          (asked_now agents (g.L.Link.agents c.send.new.self) same (g.W.Waiter.community c.args.waiter.now) (g.W.Waiter.id c.args.waiter.now) q old before between c.tries.counter sent more h.1)) in
+          (asked_now agents (g.L.Link.agents c.send.new.self) same community id q old before between c.tries.counter sent more h.1)) in
           heard_more agents q old before between now c.tries.counter (c.args.retries + 1) (c.hear.result ≡ Ok None) _ (c.in_ok-send.ensures.ahead (inv.0 h.0))
           (subst (λ (a : Agents). Hears a q between (c.hear.result ≡ Ok None) now) same heard) (inv.5 h.0 h.1) (λ s. let no : ⊥ = cc in no);
     }

@@ -12,7 +12,8 @@ invariant-tries g l =
     × (g.L.Link.agents l.link ≡ g.L.Link.agents l.fn.link)
     × (g.L.Link.fault_count l.link ≡ g.L.Link.fault_count l.fn.link)
     × (g.L.Link.keeps l.fn.link → (g.L.Link.traffic l.link).sent ≡ (g.L.Link.traffic l.fn.link).sent ++ replicate l.counter l.request)
-    × (g.L.Link.honest l.fn.link → IsAsked (g.L.Link.agents l.fn.link) (g.W.Waiter.community l.fn.waiter) (g.W.Waiter.id l.fn.waiter) l.request (g.L.Link.traffic l.fn.link).sent
+    × (g.L.Link.honest l.fn.link → IsAsked (g.L.Link.agents l.fn.link) (g.W.Waiter.community l.fn.waiter) (g.W.Waiter.id l.fn.waiter) l.request
+    (g.L.Link.traffic l.fn.link).sent
     → Missing (g.L.Link.agents l.fn.link) l.request (g.L.Link.traffic l.fn.link) l.counter (l.fn.retries + 1) (g.L.Link.traffic l.link))
     × ((sends octets : ℕ) → g.L.Link.ready l.fn.link (sends + l.counter) (octets + l.counter * length l.request) → g.L.Link.ready l.link sends octets)
     × (l.waiter ≡ l.fn.waiter) × (l.sink ≡ l.fn.sink)

@@ -26,15 +26,15 @@ returns-in_default-clause-heard g c = λ q h last asked.
     let r = received_by (g.L.Link.agents c.receives.link)
     (g.L.Link.agents c.args.link.now) inv.2 now.sent now.ahead left.ahead c.in_ok-length.field-0 None c.receive.new.buffer c.in_default.is
     (c.in_ok-length.ensures.reply (inv.0 h) long) in
-    none_heard (g.L.Link.agents c.args.link.now) (g.W.Waiter.community c.args.waiter.now) (g.W.Waiter.id c.args.waiter.now) q old asked last c.receives.counter now left (inv.4
-    (g.met.L.Link.keeping c.args.link.now h)) less now.ahead refl r
+    none_heard (g.L.Link.agents c.args.link.now) (g.W.Waiter.community c.args.waiter.now) (g.W.Waiter.id c.args.waiter.now) q old asked last
+    c.receives.counter now left (inv.4 (g.met.L.Link.keeping c.args.link.now h)) less now.ahead refl r
     (inv.5 q h last asked) _
 
 -- the waiter and the sink are as they were
 read_now : {W S : Type 0} (Comes Reply : List ℕ → Type 0) (community : W → List ℕ) (id : W → ℕ) (reads : W → Message → Step → W → Type 0)
-    (takes : S → VarBind → Result (Unit {0}) SinkFault → S → Type 0) (v w : W) (s t : S) (datagram : List ℕ) (new : W) (after : S) (o : Option Heard) (h : Heard)
-    → v ≡ w → s ≡ t → o ≡ Some h → IfSome o (IsReadAs datagram (community v) (id v) (reads v) takes s new after) → Comes datagram → Reply datagram
-    → IsRead Comes Reply (community w) (id w) (reads w) takes t h new after
+    (takes : S → VarBind → Result (Unit {0}) SinkFault → S → Type 0) (v w : W) (s t : S) (datagram : List ℕ) (new : W) (after : S)
+    (o : Option Heard) (h : Heard) → v ≡ w → s ≡ t → o ≡ Some h → IfSome o (IsReadAs datagram (community v) (id v) (reads v) takes s new after)
+    → Comes datagram → Reply datagram → IsRead Comes Reply (community w) (id w) (reads w) takes t h new after
 read_now Comes Reply community id reads takes v w s t datagram new after o h e f is read comes reply = record {
   datagram = datagram;
   comes = comes;
@@ -62,10 +62,9 @@ pub returns-in-Some-read_reply-clause-read : goal.returns-in-Some-read_reply-cla
 returns-in-Some-read_reply-clause-read g c =
     let inv = c.receives.invariant in
     let is = if_some c.read_reply.result _ c.in-Some-read_reply.heard c.in-Some-read_reply.is c.read_reply.ensures.some in
-    read_now (ComesOver g.L.Link.brings) _ g.W.Waiter.community g.W.Waiter.id g.W.Waiter.reads g.S.Sink.takes c.receives.waiter c.args.waiter.now c.receives.sink
-    c.args.sink.now
-    (take c.in-Some.length c.receive.new.buffer) _ _ c.read_reply.result c.in-Some-read_reply.heard inv.7 inv.8 c.in-Some-read_reply.is
-    c.read_reply.ensures.some (
+    read_now (ComesOver g.L.Link.brings) _ g.W.Waiter.community g.W.Waiter.id g.W.Waiter.reads g.S.Sink.takes c.receives.waiter c.args.waiter.now
+    c.receives.sink c.args.sink.now (take c.in-Some.length c.receive.new.buffer) _ _ c.read_reply.result c.in-Some-read_reply.heard
+    inv.7 inv.8 c.in-Some-read_reply.is c.read_reply.ensures.some (
       c.receives.link,
       c.receive.new.self,
       if_some c.in_ok-length.field-0 (λ n. g.L.Link.brings c.receives.link (take n c.receive.new.buffer) c.receive.new.self) c.in-Some.length c.in-Some.is
@@ -129,8 +128,8 @@ receives-preserved g c =
           let r = received_by (g.L.Link.agents c.receives.link) (g.L.Link.agents c.args.link.now) inv.2 now.sent now.ahead left.ahead c.in_ok-length.field-0
           (Some c.in-Some.length) c.receive.new.buffer c.in-Some.is
           (c.in_ok-length.ensures.reply (inv.0 h) long) in
-          stray_heard (g.L.Link.agents c.args.link.now) (g.W.Waiter.community c.args.waiter.now) (g.W.Waiter.id c.args.waiter.now) q old asked last c.receives.counter now left
-          (take c.in-Some.length c.receive.new.buffer)
+          stray_heard (g.L.Link.agents c.args.link.now) (g.W.Waiter.community c.args.waiter.now) (g.W.Waiter.id c.args.waiter.now) q old asked last
+          c.receives.counter now left (take c.in-Some.length c.receive.new.buffer)
           (inv.4 (g.met.L.Link.keeping c.args.link.now h)) less now.ahead refl r
           (λ m spelt. sym (read_other g.W.Waiter.community g.W.Waiter.id c.receives.waiter c.args.waiter.now m inv.7
           (if_none c.read_reply.result _ c.in_default-read_reply.is c.read_reply.ensures.none m spelt))) (inv.5 q h last asked),

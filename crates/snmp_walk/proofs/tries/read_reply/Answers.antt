@@ -10,7 +10,8 @@ pub returns-then-not-awaits-clause-none : goal.returns-then-not-awaits-clause-no
 returns-then-not-awaits-clause-none g c = λ m h.
     let same = c.in-Ok.ensures.only m h in
     let one : m ≡ c.in-Ok.message = cc in
-    ap (awaits (g.W.Waiter.community c.args.waiter.now) (g.W.Waiter.id c.args.waiter.now)) one ∙ sym c.awaits.ensures ∙ c.if-not-awaits.true
+    ap (awaits (g.W.Waiter.community c.args.waiter.now) (g.W.Waiter.id c.args.waiter.now)) one
+    ∙ sym {b = awaits (g.W.Waiter.community c.args.waiter.now) (g.W.Waiter.id c.args.waiter.now) c.in-Ok.message} c.awaits.ensures ∙ c.if-not-awaits.true
 
 pub read-step-requires : goal.read-step-requires
 read-step-requires g c = sendable _ _ c.in-Ok.ensures.found
