@@ -3,7 +3,7 @@ use Rattle.std.proofs.Common.{refl, sym, ap}
 use Rattle.std.specs.Prelude.{codes}
 use Rattle.smi_lexer.specs.declared.token.TokenKind.TheVariants as K
 use Rattle.smi_text.specs.Format.{before, behind, many, maybe, pair, separated, shaped, some_of, text, token, word, lower}
-use Rattle.smi_text.specs.Grammar.{to_status, from_status, to_revision, from_revision, Lower, braced, clause, names, revision, status}
+use Rattle.smi_text.specs.Grammar.{to_status, from_status, to_revision, from_revision, braced, clause, names, revision, status}
 use Rattle.smi_text.proofs.Lawful.{Lawful}
 use Rattle.smi_text.proofs.Laws.{some-inj, word-law, text-law, lower-law, pair-law, behind-law, maybe-law, shaped-law}
 use Rattle.smi_text.proofs.PieceLaws.{clause-law, braced-law, separated-law}

@@ -21,8 +21,6 @@ use Rattle.smi_text.proofs.Laws.{some-inj, never-stands, lower-law, name-law, pa
 use Rattle.smi_module.specs.declared.tree.Def.{Def}
 use Rattle.smi_module.specs.declared.tree.DefKind.{DefKind}
 use Rattle.smi_module.specs.declared.tree.DefKind.TheVariants as D
-use Rattle.smi_module.specs.declared.tree.NotificationType.{NotificationType}
-use Rattle.smi_module.specs.declared.tree.Part.TheVariants as P
 use Rattle.smi_text.proofs.RawLaws.{not-true}
 use Rattle.smi_text.proofs.LowerLaws.{lower_definition-law}
 use Rattle.smi_text.proofs.UpperLaws.{assignment, macro_definition-law, no-pieces, macro-pieces, upper_definition-law, macro_name-law, macro-reserved}

@@ -7,7 +7,7 @@ use Rattle.smi_lexer.specs.Token.{Item}
 use Rattle.smi_module.specs.Mark.{Mark, sign, spelled}
 use Rattle.smi_text.specs.Format.{StandsAhead}
 use Rattle.smi_text.specs.Format.{Parsed, a_word, a_kind, meets, begins, before, behind, either, many, separated, shaped, some_of, text, token, word, lower}
-use Rattle.smi_text.specs.Grammar.{index_marks, index_parts, implied_name, to_index, from_index, Lower, braced, index, index_names, names, read_index}
+use Rattle.smi_text.specs.Grammar.{index_marks, index_parts, implied_name, to_index, from_index, braced, index, index_names, names, read_index}
 use Rattle.smi_text.specs.Grammar.{with_names}
 use Rattle.smi_text.proofs.Lawful.{Lawful}
 use Rattle.smi_text.proofs.Marks.{or-left, or-right, StandsAhead-append, StandsAhead-split, begins-none, begins-append, map-inv, then-inv}
@@ -17,7 +17,6 @@ use Rattle.smi_module.specs.declared.names.Name.{Name}
 use Rattle.smi_module.specs.declared.tree.IndexParts.{IndexParts}
 use Rattle.smi_module.specs.declared.tree.Index.TheVariants as I
 use Rattle.smi_module.specs.declared.tree.Index.{Index}
-use Rattle.smi_module.specs.declared.tree.Part.TheVariants as P
 use Rattle.smi_text.proofs.PieceLaws.{braced-law}
 
 -- indexes

@@ -6,7 +6,7 @@ use Rattle.smi_module.specs.Reserved.{is_reserved}
 use Rattle.smi_text.specs.Format.{Format, before, behind, either, many, maybe, name, pair, separated, shaped, some_of, text, text_where, token, word, lower}
 use Rattle.smi_text.specs.Grammar.{to_module_identity, from_module_identity, to_object_identity, from_object_identity, to_object_type, from_object_type}
 use Rattle.smi_text.specs.Grammar.{to_notification_type, from_notification_type, to_group, from_group, to_raw_definition, from_raw_definition}
-use Rattle.smi_text.specs.Grammar.{to_textual_convention, from_textual_convention, Lower, arc, balanced, base, before_assign, bound, braced, clause}
+use Rattle.smi_text.specs.Grammar.{to_textual_convention, from_textual_convention, arc, balanced, base, before_assign, bound, braced, clause}
 use Rattle.smi_text.specs.Grammar.{default_value, group, identifier, index, index_names, later_part, module_identity, named_number, names, notification_type}
 use Rattle.smi_text.specs.Grammar.{object_identifier, object_identifier_words, object_identity, object_type, objects, octet_string_words, of_row}
 use Rattle.smi_text.specs.Grammar.{parenthesized, part, range, ranges, raw_definition, refinement, revision, simple_type, size, status, syntax_clause}

@@ -9,7 +9,7 @@ use Rattle.smi_module.specs.Reserved.{is_reserved}
 use Rattle.smi_module.specs.Number.{is_symbol, is_macro}
 use Rattle.smi_text.specs.Format.{Format, a_name, a_kind, meets, before, behind, either, lined, many, maybe, name, pair, separated, shaped, some_of, text}
 use Rattle.smi_text.specs.Format.{text_where, token, word, lower}
-use Rattle.smi_text.specs.Grammar.{macro_words, Lower, to_import, from_import, to_head, from_head, to_module, from_module, head_of, arc, assigned, balanced}
+use Rattle.smi_text.specs.Grammar.{macro_words, to_import, from_import, to_head, from_head, to_module, from_module, head_of, arc, assigned, balanced}
 use Rattle.smi_text.specs.Grammar.{base, before_assign, before_end, bound, braced, choice, clause, default_value, definition, field, file, group, head}
 use Rattle.smi_text.specs.Grammar.{heading, identifier, import_clause, imports, index, index_names, later_part, lower_definition, macro_body}
 use Rattle.smi_text.specs.Grammar.{macro_definition, macro_name, module_identity, module_text, named_number, names, notification_type, object_identifier}

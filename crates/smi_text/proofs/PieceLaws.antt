@@ -14,7 +14,6 @@ use Rattle.smi_text.proofs.Lawful.{Lawful}
 use Rattle.smi_text.proofs.Laws.{IsOne, some-inj, if-some, if-true, one-law, word-law, token-law, text-law, pair-law, behind-law, before-law, many-law}
 use Rattle.smi_text.proofs.Laws.{shaped-law}
 use Rattle.smi_module.specs.declared.tree.TokenText.{TokenText}
-use Rattle.smi_module.specs.declared.tree.Part.TheVariants as P
 
 -- pieces and parts
 

@@ -12,7 +12,6 @@ use Rattle.smi_text.proofs.Lawful.{Lawful}
 use Rattle.smi_text.proofs.Marks.{and-left, and-right, and-both, or-false, map-inv}
 use Rattle.smi_text.proofs.Laws.{some-inj, any-one, never-stands, word-law, behind-law}
 use Rattle.smi_module.specs.declared.tree.TokenText.{TokenText}
-use Rattle.smi_module.specs.declared.tree.Part.TheVariants as P
 use Rattle.smi_text.proofs.PieceLaws.{braced-law, same-token, kept-law}
 
 -- raw runs

@@ -21,11 +21,8 @@ use Rattle.smi_text.proofs.Laws.{many-law, shaped-law}
 use Rattle.smi_module.specs.declared.tree.TokenText.{TokenText}
 use Rattle.smi_module.specs.declared.tree.DefKind.{DefKind}
 use Rattle.smi_module.specs.declared.tree.DefKind.TheVariants as D
-use Rattle.smi_module.specs.declared.tree.NotificationType.{NotificationType}
-use Rattle.smi_module.specs.declared.tree.Part.TheVariants as P
 use Rattle.smi_module.specs.declared.tree.Syntax.{Syntax}
 use Rattle.smi_module.specs.declared.tree.Syntax.TheVariants as T
-use Rattle.smi_module.specs.declared.tree.Base.TheVariants as B
 use Rattle.smi_text.proofs.PieceLaws.{braced-law, separated-law}
 use Rattle.smi_text.proofs.TypeLaws.{simple_type-law, of_row-law, syntax_type-law, field-law}
 use Rattle.smi_text.proofs.RawLaws.{before_end-law, balanced-law}
