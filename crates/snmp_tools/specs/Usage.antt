@@ -1,15 +1,35 @@
 -- What is done with words that the command doesn't take.
-use Rattle.std.specs.Prelude.{◌≡◌, ◌⊎◌, ℕ, List}
-use Rattle.snmp_io.specs.Output.{FailsWithin, Stream, extended}
-use Rattle.snmp_words.specs.Words.{AskForHelp}
+use Rattle.std.specs.Prelude.{◌≡◌, ◌⊎◌, ℕ, List, String, false, codes}
+use Rattle.std.specs.declared.alloc.Global.{Global}
+use Rattle.snmp_io.specs.Output.{FailsWithin, IsWritten, Stream, extended}
+use Rattle.snmp_words.specs.Command.{faults_of}
+use Rattle.snmp_words.specs.Words.{AskForHelp, HasFaultOf}
+use Rattle.snmp_words.specs.declared.UsageError.TheVariants.{Parse}
 
--- help was printed at status 0, or the output failed at status 1
-abbrev pub PrintsHelp : Stream → List ℕ → Stream → ℕ → Type 0
-PrintsHelp before text after status = ((after ≡ extended before text) × (status ≡ 0))
-    ⊎ (FailsWithin before text after × (status ≡ 1))
+-- help was printed at status 0 and nothing reported; or the output failed at status 1, as is
+-- reported
+abbrev pub PrintsHelp : List ℕ → (before after err_before err_after : Stream) → ℕ → Type 0
+PrintsHelp text before after err_before err_after status =
+    ((after ≡ extended before text) × (err_after ≡ err_before) × (status ≡ 0))
+    ⊎ (FailsWithin before text after × IsWritten err_before (codes "The output failed.\n") err_after
+    × (status ≡ 1))
 
--- the status is 1 and nothing is printed on the output; or the words ask for help or for the
--- version, which is printed
-abbrev pub IsHelpOrMistake : List (List ℕ) → Stream → Stream → ℕ → Type 0
-IsHelpOrMistake words before after status = ((after ≡ before) × (status ≡ 1))
-    ⊎ (AskForHelp words × ((text : List ℕ) × PrintsHelp before text after status))
+-- nothing is printed, and the text is reported at status 1
+abbrev pub IsRefused : List ℕ → (before after err_before err_after : Stream) → ℕ → Type 0
+IsRefused text before after err_before err_after status =
+    (after ≡ before) × IsWritten err_before text err_after × (status ≡ 1)
+
+-- one of the faults of the words is a mistake: an error that isn't help may stand for it
+abbrev pub HaveMistake : List (List ℕ) → Type 0
+HaveMistake words = (text : String Global) × HasFaultOf (Parse text false) (faults_of words)
+
+-- memory ran out, as is reported; or the words have a mistake, for which a text is reported; or
+-- they ask for help or for the version, which is printed
+abbrev pub IsHelpOrMistake : List (List ℕ) → (before after err_before err_after : Stream) → ℕ
+    → Type 0
+IsHelpOrMistake words before after err_before err_after status =
+    IsRefused (codes "Out of memory.\n") before after err_before err_after status
+    ⊎ ((HaveMistake words × ((text : List ℕ)
+    × IsRefused text before after err_before err_after status))
+    ⊎ (AskForHelp words × ((text : List ℕ)
+    × PrintsHelp text before after err_before err_after status)))

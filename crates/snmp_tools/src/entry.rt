@@ -81,8 +81,8 @@ pub fn tool<F: Files, L: Links, O: Output, E: Output>(
         w (F.text_at files.now) (O.stream out.old) (O.stream out.new)
         (E.stream err.old) (E.stream err.new) result }
     ensures help_or_mistake { AreFaulty (texts_at words.now)
-        → IsHelpOrMistake (texts_at words.now)
-        (O.stream out.old) (O.stream out.new) result }
+        → IsHelpOrMistake (texts_at words.now) (O.stream out.old) (O.stream out.new)
+        (E.stream err.old) (E.stream err.new) result }
 {
     match read_words(alloc, words) {
         Ok(job) => run_job(alloc, &job, files, links, out, err),
@@ -100,7 +100,8 @@ pub fn tool<F: Files, L: Links, O: Output, E: Output>(
 
 // Prints the help that was asked for, and returns the status.
 fn print_help<O: Output, E: Output>(text: &str, out: &mut O, err: &mut E) -> u8
-    ensures { PrintsHelp (O.stream out.old) text.now (O.stream out.new) result }
+    ensures { PrintsHelp text.now (O.stream out.old) (O.stream out.new)
+        (E.stream err.old) (E.stream err.new) result }
 {
     match write_all(out, text.as_bytes()) {
         Ok(()) => 0,

@@ -1,9 +1,12 @@
-use Rattle.std.proofs.Common.{◌≡◌, refl, inl, inr, Option, Some}
+use Rattle.std.proofs.Common.{◌≡◌, refl, inl, inr, false, Option, Some, subst}
 use Rattle.snmp_serve.specs.Fault.{no_memory}
 use Rattle.snmp_serve.specs.Outcome as serve
 use Rattle.snmp_translate.specs.Fault as translate
 use Rattle.snmp_translate.specs.Outcome as translated
-use Rattle.snmp_words.specs.Words.{Stated}
+use Rattle.snmp_words.specs.Command.{faults_of}
+use Rattle.snmp_words.specs.Words.{HasFaultOf, Stated, texts_at}
+use Rattle.snmp_words.specs.declared.UsageError.{UsageError}
+use Rattle.snmp_words.specs.declared.UsageError.TheVariants.{Parse}
 use Rattle.snmp_tools.specs.Got as got
 use Rattle.snmp_tools.specs.Message.{out_of_memory}
 use Rattle.snmp_tools.specs.Outcome.{not_loaded}
@@ -77,3 +80,14 @@ returns-in-Err-Memory-clause-translated g c = λ w taken stated. record {
   all_at_status_0 = λ zero. let no : ⊥ = cc in absurd no;
   front = λ style modules asked. inl refl;
 }
+
+pub returns-in-Err-Parse-default-false-clause-help_or_mistake : goal.returns-in-Err-Parse-default-false-clause-help_or_mistake
+returns-in-Err-Parse-default-false-clause-help_or_mistake g c = λ faulty.
+    let at = c.in-Err-Parse-default-false in
+    let fault = at.field-0-is in
+    let text = at.text-is in
+    let help = at.field-0-1-is in
+    let none = at.field-0-1-test in
+    let error : at.field-0 ≡ Parse at.text false = cc in
+    let mistake = subst (λ (e : UsageError). HasFaultOf e (faults_of (texts_at c.args.words.now))) error at.ensures.refused in
+    inr (inl ((at.text, mistake), (c.as_bytes.result.now, (refl, c.tell.ensures, refl))))
