@@ -895,6 +895,80 @@ def walks_of_snmpd():
     return "\n  ".join(filter(None, wrong))
 
 
+# -- walks of what snmpd serves, behind a network with faults
+
+def carry(door, back, rng, chance):
+    """Carries datagrams between a walker at one socket and an agent at the other, up to an empty one. By this
+    chance one is lost, or comes more than once, or late, after those that were sent behind it."""
+    walker, due = None, []
+    while True:
+        ready, _, _ = select.select([door, back], [], [], 0.02)
+        for end in ready:
+            datagram, sender = end.recvfrom(65535)
+            if not datagram:
+                return
+            walker = sender if end is door else walker
+            waits = rng.choice([[], [0.3], [1.5], [0, 0], [0, 0.01, 1.5]]) if rng.random() < chance else [0]
+            due += [(time.monotonic() + wait, end, datagram) for wait in waits]
+        now = time.monotonic()
+        for _, end, datagram in [it for it in due if it[0] <= now]:
+            if end is door:
+                back.send(datagram)
+            else:
+                door.sendto(datagram, walker)
+        due = [it for it in due if it[0] > now]
+
+
+def relayed(words, server, rng, chance):
+    """What the program prints and says, and its status, where such a network stands between it and snmpd."""
+    with (socket.socket(socket.AF_INET, socket.SOCK_DGRAM) as door,
+          socket.socket(socket.AF_INET, socket.SOCK_DGRAM) as back,
+          socket.socket(socket.AF_INET, socket.SOCK_DGRAM) as ender):
+        door.bind(("127.0.0.1", 0))
+        back.connect(("127.0.0.1", server.port))
+        place = "127.0.0.1:{1}".format(*door.getsockname())
+        carrier = threading.Thread(target=carry, args=(door, back, rng, chance))
+        carrier.start()
+        try:
+            ran = subprocess.run([PROGRAM, *words, place, ROOT], capture_output=True, text=True, timeout=60,
+                                 stdin=subprocess.DEVNULL)
+        finally:
+            ender.sendto(b"", door.getsockname())
+            carrier.join()
+    return ran.returncode, ran.stdout, ran.stderr.replace(place, "AGENT")
+
+
+def relayed_walk(seed, most):
+    """Walks a random table. It returns what is wrong, and whether all rows were printed."""
+    rng = random.Random(seed)
+    rows = {}
+    for _ in range(rng.randint(20, most)):
+        name = R + tuple(rng.choice([0, 1, 127, 128, 4294967295]) for _ in range(rng.randint(1, 4)))
+        rows[name] = rng.choice([0, -1, 200, 2147483647])
+    names = sorted(rows)
+    longest = max(len(message(RESPONSE, 2147483647, [(name, integer(rows[name]))])) for name in names)
+    size = longest + rng.choice([0, 1, 20, 100, 400])
+    walker = rng.choice([["snmpwalk"], ["snmpbulkwalk"], ["snmpbulkwalk", f"-Cr{rng.choice([1, 2, 7, 1000])}"]])
+    stated = [f"{dotted(name)}|2|{value}\n" for name, value in rows.items()]
+    rng.shuffle(stated)
+    with Server("--max-size", str(size), table="".join(stated)) as server:
+        words = [*walker, "-On", "-r", str(rng.choice([0, 5, 5]))]
+        status, output, messages = ran = relayed(words, server, rng, rng.choice([5, 10]) / len(rows))
+    lines = [f"{dotted(name)} = INTEGER: {rows[name]}\n" for name in names]
+    if ran == (0, "".join(lines), ""):
+        return "", True
+    broken = (status, messages) == (1, SILENT) and output.splitlines(True) == lines[:output.count("\n")]
+    return "" if broken else f"seed {seed}: {words}: {ran}", False
+
+
+@test("behind a network with faults a walk prints all rows, or the first of them and that the agent fell silent")
+def relayed_walks():
+    with concurrent.futures.ThreadPoolExecutor(8) as pool:
+        outcomes = list(pool.map(relayed_walk, range(8), [40] * 8))
+    wrong = [text for text, _ in outcomes if text]
+    return "\n  ".join(wrong) or differs(any(whole for _, whole in outcomes), True)
+
+
 def main():
     if not os.access(PROGRAM, os.X_OK):
         print("tests/network.py: the program isn't built: ./snmp --build", file=sys.stderr)
