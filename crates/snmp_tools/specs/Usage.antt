@@ -15,8 +15,8 @@ PrintsHelp text before after err_before err_after status =
     × (status ≡ 1))
 
 -- nothing is printed, and the text is reported at status 1
-abbrev pub IsRefused : List ℕ → (before after err_before err_after : Stream) → ℕ → Type 0
-IsRefused text before after err_before err_after status =
+abbrev pub ReportsOnly : List ℕ → (before after err_before err_after : Stream) → ℕ → Type 0
+ReportsOnly text before after err_before err_after status =
     (after ≡ before) × IsWritten err_before text err_after × (status ≡ 1)
 
 -- one of the faults of the words is a mistake: an error that isn't help may stand for it
@@ -28,8 +28,8 @@ HaveMistake words = (text : String Global) × HasFaultOf (Parse text false) (fau
 abbrev pub IsHelpOrMistake : List (List ℕ) → (before after err_before err_after : Stream) → ℕ
     → Type 0
 IsHelpOrMistake words before after err_before err_after status =
-    IsRefused (codes "Out of memory.\n") before after err_before err_after status
+    ReportsOnly (codes "Out of memory.\n") before after err_before err_after status
     ⊎ ((HaveMistake words × ((text : List ℕ)
-    × IsRefused text before after err_before err_after status))
+    × ReportsOnly text before after err_before err_after status))
     ⊎ (AskForHelp words × ((text : List ℕ)
     × PrintsHelp text before after err_before err_after status)))
