@@ -5,22 +5,22 @@ use Rattle.snmp_agent.specs.declared.server.Served.{Served}
 use Rattle.snmp_agent.specs.declared.server.Turn.{Turn}
 use Rattle.snmp_agent.specs.declared.server.Turn.TheVariants as turn
 use Rattle.snmp_agent.specs.Serving.{one_more}
-use Rattle.snmp_agent.specs.Event.{Event, came, extended, event_of_receive, event_of_reply}
+use Rattle.snmp_agent.specs.Event.{Event, came, logged, event_of_receive, event_of_reply}
 
-pub extended_twice : (log : Option (List Event)) (a b : List Event) → extended (extended log a) b ≡ extended log (a ++ b)
+pub extended_twice : (log : Option (List Event)) (a b : List Event) → logged (logged log a) b ≡ logged log (a ++ b)
 extended_twice None a b = refl
 extended_twice (Some before) a b = ap (λ events. Some events) (append_assoc before a b)
 
-pub extended_none : (log : Option (List Event)) → log ≡ extended log []
+pub extended_none : (log : Option (List Event)) → log ≡ logged log []
 extended_none None = refl
 extended_none (Some before) = ap (λ events. Some events) (sym (append-nil before))
 
 -- a datagram that came, and what became of the reply
 pub both_events : (old between new : Option (List Event)) (received : Result (Option ℕ) EndpointFault) (n : ℕ) (buffer datagram : List ℕ)
-    (sent_it : Result (Unit {0}) EndpointFault) → received ≡ Ok (Some n) → between ≡ extended old (event_of_receive received buffer)
-    → new ≡ extended between (event_of_reply sent_it datagram) → new ≡ extended old (came (take n buffer) ∷ event_of_reply sent_it datagram)
+    (sent_it : Result (Unit {0}) EndpointFault) → received ≡ Ok (Some n) → between ≡ logged old (event_of_receive received buffer)
+    → new ≡ logged between (event_of_reply sent_it datagram) → new ≡ logged old (came (take n buffer) ∷ event_of_reply sent_it datagram)
 both_events old between new received n buffer datagram sent_it is first second =
-    second ∙ ap (λ log. extended log (event_of_reply sent_it datagram)) (first ∙ ap (λ r. extended old (event_of_receive r buffer)) is)
+    second ∙ ap (λ log. logged log (event_of_reply sent_it datagram)) (first ∙ ap (λ r. logged old (event_of_receive r buffer)) is)
     ∙ extended_twice old (came (take n buffer) ∷ []) (event_of_reply sent_it datagram)
 
 abbrev sum : Served → ℕ

@@ -12,8 +12,8 @@ pub data Event : Type 0 where
   send_failed : List ℕ → Event
 
 -- the log followed by these events, if it is known
-abbrev pub extended : Option (List Event) → List Event → Option (List Event)
-extended log events = option_map (λ before. before ++ events) log
+abbrev pub logged : Option (List Event) → List Event → Option (List Event)
+logged log events = option_map (λ before. before ++ events) log
 
 abbrev pub event_of_receive : Result (Option ℕ) EndpointFault → List ℕ → List Event
 event_of_receive (Ok (Some n)) buffer = came (take n buffer) ∷ []

@@ -6,7 +6,7 @@ use Rattle.snmp_agent.specs.declared.server.Turn.{Turn}
 use Rattle.snmp_agent.specs.declared.server.Turn.TheVariants as turn
 use Rattle.snmp_agent.specs.Reply.{Agent, IsReply, IsDropped}
 use Rattle.snmp_agent.specs.Event.{Event, came, silence, receive_failed, sent, send_failed}
-pub use Rattle.snmp_agent.specs.Event.{Event, extended}
+pub use Rattle.snmp_agent.specs.Event.{Event, logged}
 
 -- A turn: the datagram that came has its reply, or is one that the agent drops; or no datagram came
 -- in time; or the receive failed, or the send of the reply.

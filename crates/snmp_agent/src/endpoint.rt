@@ -12,7 +12,7 @@ pub struct EndpointFault;
 /// Where an agent receives datagrams and sends its replies.
 pub trait Endpoint {
     ghost use Rattle.std.specs.Prelude.{List, Option};
-    ghost use Rattle.snmp_agent.specs.Event.{Event, extended, event_of_receive, event_of_reply};
+    ghost use Rattle.snmp_agent.specs.Event.{Event, logged, event_of_receive, event_of_reply};
 
     /// What happened there so far, if that is known. For a socket it isn't.
     ghost log: { Self → Option (List Event) };
@@ -21,11 +21,11 @@ pub trait Endpoint {
     /// comes in time.
     fn receive(&mut self, buffer: &mut [u8]) -> Result<Option<usize>, EndpointFault>
         ensures bound { IfOk result (λ received. IfSome received (λ n. n ≤ length buffer.new)) }
-        ensures log { log self.new ≡ extended (log self.old) (event_of_receive result buffer.new) };
+        ensures log { log self.new ≡ logged (log self.old) (event_of_receive result buffer.new) };
 
     /// Sends a reply to where the latest datagram came from.
     fn reply(&mut self, datagram: &[u8]) -> Result<(), EndpointFault>
-        ensures { log self.new ≡ extended (log self.old) (event_of_reply result datagram.now) };
+        ensures { log self.new ≡ logged (log self.old) (event_of_reply result datagram.now) };
 }
 
 /// A UDP socket as an endpoint.

@@ -1,7 +1,7 @@
 //! Serving a table: datagrams are received and replied to, one a turn.
 ghost use Rattle.std.specs.Prelude.{◌≡◌, ℕ, ◌+◌, List, length};
 ghost use Rattle.snmp_agent.specs.Reply.{agent_of};
-ghost use Rattle.snmp_agent.specs.Serving.{Event, extended, IsTurn, AreTurns, tally};
+ghost use Rattle.snmp_agent.specs.Serving.{Event, logged, IsTurn, AreTurns, tally};
 
 use crate::agent::answer;
 use crate::config::{Config, Outcome};
@@ -58,7 +58,7 @@ pub fn serve_at<E: Endpoint>(
     ensures turns { (done : List Turn) × (events : List Event)
         × AreTurns (agent_of table.now config.now) done events × (length done ≡ turns)
         × (result ≡ tally done)
-        × (E.log endpoint.new ≡ extended (E.log endpoint.old) events) }
+        × (E.log endpoint.new ≡ logged (E.log endpoint.old) events) }
 {
     let mut served = Served::default();
     let mut request = [0; MAX_DATAGRAM];
@@ -83,7 +83,7 @@ fn serve_once<E: Endpoint>(
     reply: &mut [u8; MAX_DATAGRAM],
 ) -> Turn
     ensures { (events : List Event) × IsTurn (agent_of table.now config.now) result events
-        × (E.log endpoint.new ≡ extended (E.log endpoint.old) events) }
+        × (E.log endpoint.new ≡ logged (E.log endpoint.old) events) }
 {
     let size = match endpoint.receive(&mut request[..]) {
         Ok(Some(size)) => size,

@@ -9,7 +9,7 @@ use Rattle.snmp_ber.specs.Number.{unsigned, twos_complement, IsInteger, IsUnsign
 use Rattle.snmp_ber.specs.Value.{Datum, integer_value, octet_string, null_value, object_id, ip_address, counter32, gauge32, time_ticks, opaque_octets}
 use Rattle.snmp_ber.specs.Value.{counter64, no_such_object, no_such_instance, end_of_mib_view}
 use Rattle.snmp_ber.specs.Spelling.{value_tag, IsContent}
-use Rattle.snmp_ber.specs.Reading.{◌>>=◌, integer_of, has_width, unsigned_of, identifier_of, empty_of, address_of, typed_value}
+use Rattle.snmp_ber.specs.Reading.{◌>>=◌, integer_of, has_width, unsigned_of, identifier_of, empty_of, ip_address_of, typed_value}
 use Rattle.snmp_ber.specs.ReadingLaws.{done, ok_is, bind_ok, chosen, passed}
 use Rattle.snmp_ber.proofs.IdentifierLaws.{identifier_takes, identifier_again}
 
@@ -70,7 +70,7 @@ empty_takes tag content made value made_is e =
 string_takes : (tag : ℕ) (content : List ℕ) (made value : Datum) → IsRead tag content made → done made ≡ Ok value → IsRead tag content value
 string_takes tag content made value made_is e = subst (IsRead tag content) (ok_is made value e) made_is
 
-address_takes : (content : List ℕ) (value : Datum) → address_of content ≡ Ok value → IsRead 0x40 content value
+address_takes : (content : List ℕ) (value : Datum) → ip_address_of content ≡ Ok value → IsRead 0x40 content value
 address_takes content value e =
     let p = passed (eqb (length content) 4) (Ok (ip_address content)) error.Content value e in
     subst (IsRead 0x40 content) (ok_is (ip_address content) value p.1) (record { is_tag = refl; is_content = (refl, eqb-true (length content) 4 p.0) })

@@ -156,8 +156,8 @@ identifier_of content = do
 abbrev pub empty_of : Datum → List ℕ → Result Datum BerError
 empty_of value content = if length content == 0 then Ok value else Err error.Content
 
-abbrev pub address_of : List ℕ → Result Datum BerError
-address_of content = if length content == 4 then Ok (ip_address content) else Err error.Content
+abbrev pub ip_address_of : List ℕ → Result Datum BerError
+ip_address_of content = if length content == 4 then Ok (ip_address content) else Err error.Content
 
 unfoldable pub typed_value : ℕ → List ℕ → Result Datum BerError
 typed_value tag content =
@@ -165,7 +165,7 @@ typed_value tag content =
     else (if tag == 0x04 then Ok (octet_string content)
     else (if tag == 0x05 then empty_of null_value content
     else (if tag == 0x06 then identifier_of content >>= (λ name. Ok (object_id name))
-    else (if tag == 0x40 then address_of content
+    else (if tag == 0x40 then ip_address_of content
     else (if tag == 0x41 then unsigned_of 4 content >>= (λ n. Ok (counter32 n))
     else (if tag == 0x42 then unsigned_of 4 content >>= (λ n. Ok (gauge32 n))
     else (if tag == 0x43 then unsigned_of 4 content >>= (λ n. Ok (time_ticks n))

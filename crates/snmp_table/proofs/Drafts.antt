@@ -20,7 +20,7 @@ use Rattle.snmp_table.specs.declared.row.RowValue.{RowValue}
 use Rattle.snmp_table.specs.Row.{entry_of, datum_of}
 use Rattle.snmp_table.specs.Text.{Statement, nothing, object_prefix, instance, States}
 use Rattle.snmp_table.specs.Stated.{IsStated, AllState, IsNewName, NamesDiffer, AreGood, IsDouble, IsBehindGood, IsFirstFault}
-use Rattle.snmp_table.specs.Draft.{entry_of_pair, row_of, Holds, IsDraft, IsFaultBehind}
+use Rattle.snmp_table.specs.Draft.{entry_of_pair, row_of, HoldsTable, IsDraft, IsFaultBehind}
 use Rattle.snmp_table.proofs.Rising.{same_name}
 
 -- ---- one more line
@@ -65,7 +65,7 @@ StatesOnly line s = States line s × ((t : Statement) → States line t → t �
 
 -- ---- what the draft holds behind one more line
 
-module _ (before : List (List ℕ)) (line : List ℕ) (es : List (List ℕ × Datum)) (os : List (List ℕ)) (h : Holds before es os) where
+module _ (before : List (List ℕ)) (line : List ℕ) (es : List (List ℕ × Datum)) (os : List (List ℕ)) (h : HoldsTable before es os) where
   same_rows : ((p : VarBind) → States line (instance p) → ⊥) → (p : VarBind)
       → (find (slice_cmp nat_cmp) p.name es ≡ Some p.value) ↔ IsStated (before ++ line ∷ []) (instance p)
   same_rows never p = (
@@ -80,7 +80,7 @@ module _ (before : List (List ℕ)) (line : List ℕ) (es : List (List ℕ × Da
     λ stated. elim (stated_either before line (object_prefix o) stated) [ inl old ↦ (h.prefixes o).1 old | inr now ↦ absurd (never o now) ],
   )
 
-  pub holds_nothing : StatesOnly line nothing → Holds (before ++ line ∷ []) es os
+  pub holds_nothing : StatesOnly line nothing → HoldsTable (before ++ line ∷ []) es os
   holds_nothing only = record {
     good = good_more before line nothing h.good only.0 (λ p states. let no_instance : instance p ≡ nothing = only.1 (instance p) states in absurd (cc));
     rising = h.rising;
@@ -90,7 +90,7 @@ module _ (before : List (List ℕ)) (line : List ℕ) (es : List (List ℕ × Da
 
   pub holds_object : (object : List ℕ) (more : List (List ℕ)) → StatesOnly line (object_prefix object)
       → ((o : List ℕ) → list_any (eq_by_cmp (slice_cmp nat_cmp) o) more ≡ (is_eq (slice_cmp nat_cmp o object) || list_any (eq_by_cmp (slice_cmp nat_cmp) o) os))
-      → Holds (before ++ line ∷ []) es more
+      → HoldsTable (before ++ line ∷ []) es more
   holds_object object more only has = record {
     good = good_more before line (object_prefix object) h.good only.0 (λ p states. let no_instance : instance p ≡ object_prefix object = only.1
         (instance p) states in absurd (cc));
@@ -120,7 +120,7 @@ module _ (before : List (List ℕ)) (line : List ℕ) (es : List (List ℕ × Da
     or_true false = refl
 
   pub holds_instance : (p : VarBind) → StatesOnly line (instance p) → find (slice_cmp nat_cmp) p.name es ≡ None
-      → Holds (before ++ line ∷ []) (put (slice_cmp nat_cmp) p.name p.value es) os
+      → HoldsTable (before ++ line ∷ []) (put (slice_cmp nat_cmp) p.name p.value es) os
   holds_instance p only absent = record {
     good = good_more before line (instance p) h.good only.0 (λ q states other old same.
         let is : instance q ≡ instance p = only.1 (instance q) states in

@@ -17,7 +17,7 @@ use Rattle.snmp_table.specs.Row.{entry_of, datum_of, view_of, IsShort, IsShortRo
 use Rattle.snmp_table.specs.Places.{var_of, IsRising, IsKept}
 use Rattle.snmp_table.specs.Text.{object_prefix, instance, IsValueText, IsName}
 use Rattle.snmp_table.specs.Stated.{IsStated, IsTableOf}
-use Rattle.snmp_table.specs.Draft.{Holds}
+use Rattle.snmp_table.specs.Draft.{HoldsTable}
 use Rattle.snmp_table.proofs.Rising.{Listed, find-listed}
 use Rattle.snmp_table.proofs.Finding.{listed_at}
 use Rattle.snmp_table.proofs.Statements.{name_numbers}
@@ -80,7 +80,7 @@ short_rows rows objects rising view = λ k d low. row_short (slice_index_or rows
           value = short_value row.value (view.values (var_of (entry_of row)) is_row);
         }
 
-module _ (lines : List (List ℕ)) (rows : List Row) (objects : List (List ℕ)) (h : Holds lines (map entry_of rows) objects) where
+module _ (lines : List (List ℕ)) (rows : List Row) (objects : List (List ℕ)) (h : HoldsTable lines (map entry_of rows) objects) where
   value_at : (o : List ℕ) → get (view_of rows objects).rows o ≡ find (slice_cmp nat_cmp) o (map entry_of rows)
   value_at o = get-from_sorted (slice_cmp nat_cmp) (map entry_of rows) o h.rising
 

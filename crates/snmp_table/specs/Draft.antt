@@ -29,7 +29,7 @@ abbrev pub draft_objects : Draft → List (List ℕ)
 draft_objects draft = map (λ object. object.items) draft.objects.keys
 
 -- the lines are good, and the entries and object prefixes are those that they state
-pub record Holds (lines : List (List ℕ)) (entries : List (List ℕ
+pub record HoldsTable (lines : List (List ℕ)) (entries : List (List ℕ
     × Datum)) (objects : List (List ℕ)) : Type 0 where
   pub good : AreGood lines
   pub rising : T (is_sorted (slice_cmp nat_cmp) entries)
@@ -41,7 +41,7 @@ pub record Holds (lines : List (List ℕ)) (entries : List (List ℕ
 
 -- the draft has what the lines state
 abbrev pub IsDraft : List (List ℕ) → Draft → Type 0
-IsDraft lines draft = Holds lines (draft_entries draft) (draft_objects draft)
+IsDraft lines draft = HoldsTable lines (draft_entries draft) (draft_objects draft)
 
 -- what is wrong with the line of this number, which comes after these
 abbrev pub IsFaultBehind : List (List ℕ) → List ℕ → ℕ → TableError → Type 0

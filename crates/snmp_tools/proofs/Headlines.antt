@@ -22,7 +22,7 @@ use Rattle.smi_files.specs.Warned.{warning_lines}
 use Rattle.smi_nodes.specs.declared.warning.Warning.{Warning}
 use Rattle.snmp_io.specs.Files.{Holdings, MayHold}
 use Rattle.snmp_tools.specs.Mib.{AreLoaded, Mib}
-use Rattle.snmp_tools.specs.Message.{Fault, bad_table, ended, message_of, out_of_memory, status_of}
+use Rattle.snmp_tools.specs.Message.{Fault, bad_table, ended, fault_message, out_of_memory, status_of}
 use Rattle.snmp_tools.specs.Outcome.{AreRowsOf, IsFinished, IsNetWalk, IsWalkOutcome, IsWalkOutcomeBy, IsOwnEnd, IsReported, IsWalkRun, IsWalkOver}
 use Rattle.snmp_tools.specs.Outcome.{loaded, not_linked, not_loaded, refused, walked, walked_over}
 use Rattle.snmp_tools.specs.Plan.{AskFor, Plan}
@@ -52,7 +52,7 @@ pub refused_end : (bulk : Bool) (words : WalkWords) (files : Holdings) (before a
     → IsWritten err_before (codes "Out of memory.\n") err_after → EndsAtStatus0 bulk words files before after err_before err_after 1
 refused_end bulk words files before after err_before err_after told rows walk can = inr (refl, inr (err_before, told, inl refl))
 
-pub line_told : (why : Fault) (before after err_before err_after : Stream) (status : ℕ) → status_of why ≡ 1 → message_of why ≡ codes "Out of memory."
+pub line_told : (why : Fault) (before after err_before err_after : Stream) (status : ℕ) → status_of why ≡ 1 → fault_message why ≡ codes "Out of memory."
     → IsReported (Some why) err_before err_after status → Stops before after err_before err_after status
 line_told why before after err_before err_after status one text (s, inl h) =
     (s ∙ one, inr (subst (λ (t : List ℕ). IsWritten err_before t err_after) (ap (λ (t : List ℕ). t ++ codes "\n") text) h))

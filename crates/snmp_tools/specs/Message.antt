@@ -103,16 +103,16 @@ end_message agent walk_end.Link = codes "The link failed."
 end_message agent (walk_end.Sink fault) = sink_message fault
 
 -- the line of a fault, without its newline
-abbrev pub message_of : Fault → List ℕ
-message_of (bad_version word) = codes "Unknown version: " ++ word
-message_of (bad_letter letter) = codes "Unknown letter: " ++ letter ∷ []
-message_of long_community = codes "Community too long."
-message_of (bad_agent word) = codes "Bad agent address: " ++ word
-message_of (bad_name error text) = name_fault error ++ text
-message_of (bad_modules why) = refusal_text why
-message_of (unreadable path) = path ++ codes ": cannot be read"
-message_of (bad_table path error) = table_message path error
-message_of (unsendable text) = codes "Name cannot be sent: " ++ text
-message_of (outside_root text) = codes "Not below the root: " ++ text
-message_of (ended agent why) = end_message agent why
-message_of out_of_memory = codes "Out of memory."
+abbrev pub fault_message : Fault → List ℕ
+fault_message (bad_version word) = codes "Unknown version: " ++ word
+fault_message (bad_letter letter) = codes "Unknown letter: " ++ letter ∷ []
+fault_message long_community = codes "Community too long."
+fault_message (bad_agent word) = codes "Bad agent address: " ++ word
+fault_message (bad_name error text) = name_fault error ++ text
+fault_message (bad_modules why) = refusal_text why
+fault_message (unreadable path) = path ++ codes ": cannot be read"
+fault_message (bad_table path error) = table_message path error
+fault_message (unsendable text) = codes "Name cannot be sent: " ++ text
+fault_message (outside_root text) = codes "Not below the root: " ++ text
+fault_message (ended agent why) = end_message agent why
+fault_message out_of_memory = codes "Out of memory."

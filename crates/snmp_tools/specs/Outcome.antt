@@ -24,7 +24,7 @@ use Rattle.snmp_io.specs.Count.{HasRisen}
 use Rattle.snmp_io.specs.Output.{FailsWithin, IsWritten, Stream, extended}
 use Rattle.snmp_words.specs.Words.{WalkWords}
 use Rattle.snmp_tools.specs.Lines.{IsPrintedUpTo, count_text}
-use Rattle.snmp_tools.specs.Message.{Fault, ended, message_of, out_of_memory, status_of}
+use Rattle.snmp_tools.specs.Message.{Fault, ended, fault_message, out_of_memory, status_of}
 use Rattle.snmp_net.specs.Address.{table, udp}
 use Rattle.snmp_serve.specs.Outcome.{Faults}
 use Rattle.snmp_serve.specs.TableFile.{HasTable}
@@ -242,7 +242,7 @@ abbrev pub IsReported : Option Fault → Stream → Stream → ℕ → Type 0
 IsReported None before after status = (status ≡ 0) × (after ≡ before)
 IsReported (Some why) before after status =
     (status ≡ status_of why)
-    × (IsWritten before (message_of why ++ codes "\n") after
+    × (IsWritten before (fault_message why ++ codes "\n") after
     ⊎ IsWritten before (codes "Out of memory.\n") after)
 
 -- the outcome of a job, which is reported

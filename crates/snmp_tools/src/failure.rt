@@ -46,7 +46,7 @@ pub enum Failure<'a> {
 impl Failure<'_> {
     ghost use Rattle.std.specs.Prelude.{◌≡◌, ◌++◌, OnOk, OnErr};
     ghost use Rattle.text_draft.specs.Draft.{Adds};
-    ghost use Rattle.snmp_tools.specs.Message.{fault_of, message_of, status_of};
+    ghost use Rattle.snmp_tools.specs.Message.{fault_of, fault_message, status_of};
 
     /// The exit status: 2 where the agent replied with an error status, else 1.
     pub fn status(&self) -> u8
@@ -61,7 +61,7 @@ impl Failure<'_> {
     /// Appends the message, without a newline. Where memory runs out, `out` is unchanged.
     pub fn message(&self, out: &mut Vec<u8>) -> Result<(), AllocError>
         ensures appended { OnOk result (
-            out.new.items ≡ out.old.items ++ message_of (fault_of self.now)) }
+            out.new.items ≡ out.old.items ++ fault_message (fault_of self.now)) }
         ensures unchanged_on_error { OnErr result (out.new.items ≡ out.old.items) }
     {
         let mut draft = Draft::after(out);
@@ -71,7 +71,7 @@ impl Failure<'_> {
 
     // Appends the message.
     fn append_message(&self, out: &mut Draft)
-        ensures { Adds out.old (message_of (fault_of self.now)) out.new }
+        ensures { Adds out.old (fault_message (fault_of self.now)) out.new }
     {
         match self {
             Failure::Version(word) => text_and_word(out, b"Unknown version: ", word),

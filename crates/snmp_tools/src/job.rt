@@ -8,7 +8,7 @@ ghost use Rattle.snmp_tools.specs.GetHeadline.{GetEndsAtStatus0, GetWritesAllAtS
 ghost use Rattle.snmp_tools.specs.GetHeadline.{GetWritesFront};
 ghost use Rattle.snmp_tools.specs.Got.{HasGetFacts, IsGetRun};
 ghost use Rattle.snmp_tools.specs.Headline.{EndsAtStatus0, WritesAllAtStatus0, WritesFront};
-ghost use Rattle.snmp_tools.specs.Message.{fault_of, message_of};
+ghost use Rattle.snmp_tools.specs.Message.{fault_of, fault_message};
 ghost use Rattle.snmp_tools.specs.Outcome.{HasLinkFacts, IsReported, IsWalkRun};
 ghost use Rattle.snmp_tools.specs.Planned.{IsWalkJob};
 ghost use Rattle.snmp_tools.specs.Serving.{IsServeRun, risen};
@@ -129,7 +129,7 @@ pub(crate) fn report<E: Output>(alloc: Global, failure: &Failure<'_>, err: &mut 
 // The message of a failure, with its newline.
 fn message_line(alloc: Global, failure: &Failure<'_>) -> Result<Vec<u8>, AllocError>
     ensures { IfOk result (λ text.
-        text.items ≡ message_of (fault_of failure.now) ++ codes "\n") }
+        text.items ≡ fault_message (fault_of failure.now) ++ codes "\n") }
 {
     let mut text = Vec::new(alloc);
     failure.message(&mut text)?;

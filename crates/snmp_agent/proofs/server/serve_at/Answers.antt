@@ -1,7 +1,7 @@
 use Rattle.std.proofs.Common.{◌≡◌, ◌+◌, ◌∷◌, ◌++◌, refl, sym, ap, ◌∙◌, arith, length}
 use Rattle.snmp_agent.specs.declared.server.Served.{Served}
 use Rattle.snmp_agent.specs.declared.server.Turn.{Turn}
-use Rattle.snmp_agent.specs.Serving.{extended, one_more}
+use Rattle.snmp_agent.specs.Serving.{logged, one_more}
 use Rattle.snmp_agent.proofs.ServerTurns.{extended_twice, one_more_turn}
 use Rattle.snmp_agent.proofs.server.serve_at.Goals as goal
 use Rattle.snmp_agent.proofs.server.serve_at.Goals.{in-Replied, in-Dropped, in-Idle, in-Failed}
@@ -25,5 +25,5 @@ turns-preserved g c =
       made = (so_far.events, made.0, refl, so_far.made, made.1);
       count = let long : length (t ∷ so_far.done) ≡ length so_far.done + 1 = omega arith in long ∙ ap (λ n. n + 1) so_far.count;
       counted = more ∙ ap (one_more t) so_far.counted;
-      log = made.2 ∙ ap (λ log. extended log made.0) so_far.log ∙ extended_twice (g.E.Endpoint.log c.args.endpoint.now) so_far.events made.0;
+      log = made.2 ∙ ap (λ log. logged log made.0) so_far.log ∙ extended_twice (g.E.Endpoint.log c.args.endpoint.now) so_far.events made.0;
     }

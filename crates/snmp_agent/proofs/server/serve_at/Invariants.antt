@@ -1,7 +1,7 @@
 use Rattle.std.proofs.Common.{◌≡◌, ◌+◌, List, length}
 use Rattle.snmp_agent.specs.declared.server.Turn.{Turn}
 use Rattle.snmp_agent.specs.Reply.{agent_of}
-use Rattle.snmp_agent.specs.Serving.{Event, extended, AreTurns, tally}
+use Rattle.snmp_agent.specs.Serving.{Event, logged, AreTurns, tally}
 use Rattle.snmp_agent.proofs.server.serve_at.Given as goal
 
 -- the turns so far, and what they left in the log
@@ -13,5 +13,5 @@ invariant-turns g l = record {
   made : AreTurns (agent_of l.table l.config) done events;
   count : length done ≡ l.counter;
   counted : l.served ≡ tally done;
-  log : g.E.Endpoint.log l.endpoint ≡ extended (g.E.Endpoint.log l.fn.endpoint) events;
+  log : g.E.Endpoint.log l.endpoint ≡ logged (g.E.Endpoint.log l.fn.endpoint) events;
 }

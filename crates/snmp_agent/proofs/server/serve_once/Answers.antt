@@ -1,5 +1,5 @@
 use Rattle.std.proofs.Common.{◌≡◌, ℕ, List, [], ◌∷◌, take, Ok, Some, inr, refl, ap, ◌∙◌}
-use Rattle.snmp_agent.specs.Event.{came, sent, send_failed, extended, event_of_receive, event_of_reply}
+use Rattle.snmp_agent.specs.Event.{came, sent, send_failed, logged, event_of_receive, event_of_reply}
 use Rattle.snmp_agent.proofs.ServerTurns.{both_events}
 use Rattle.snmp_agent.proofs.server.serve_once.Goals as goal
 
@@ -10,7 +10,7 @@ returns-in-Ok g c =
       came datagram ∷ sent reply ∷ [],
       (datagram, reply, c.answer.ensures.reply c.in-Reply.length c.in-Reply.is, refl),
       both_events _ _ _ c.receive.result c.in-Ok-Some.size c.receive.new.buffer reply c.reply.result (cc) c.receive.ensures.log c.reply.ensures
-          ∙ ap (λ r. extended (g.E.Endpoint.log c.args.endpoint.now) (came datagram ∷ event_of_reply r reply)) c.in-Ok.is,
+          ∙ ap (λ r. logged (g.E.Endpoint.log c.args.endpoint.now) (came datagram ∷ event_of_reply r reply)) c.in-Ok.is,
     )
 
 pub returns-in-Err-reply : goal.returns-in-Err-reply
@@ -20,7 +20,7 @@ returns-in-Err-reply g c =
       came datagram ∷ send_failed reply ∷ [],
       inr (datagram, reply, c.answer.ensures.reply c.in-Reply.length c.in-Reply.is, refl),
       both_events _ _ _ c.receive.result c.in-Ok-Some.size c.receive.new.buffer reply c.reply.result (cc) c.receive.ensures.log c.reply.ensures
-          ∙ ap (λ r. extended (g.E.Endpoint.log c.args.endpoint.now) (came datagram ∷ event_of_reply r reply)) c.in-Err-reply.is,
+          ∙ ap (λ r. logged (g.E.Endpoint.log c.args.endpoint.now) (came datagram ∷ event_of_reply r reply)) c.in-Err-reply.is,
     )
 
 pub returns-in-Dropped : goal.returns-in-Dropped
@@ -29,5 +29,5 @@ returns-in-Dropped g c =
     let received : c.receive.result ≡ Ok (Some c.in-Ok-Some.size) = cc in (
       came datagram ∷ [],
       (datagram, c.in-Dropped.field-0, c.answer.ensures.dropped c.in-Dropped.field-0 c.in-Dropped.is, refl),
-      c.receive.ensures.log ∙ ap (λ r. extended (g.E.Endpoint.log c.args.endpoint.now) (event_of_receive r c.receive.new.buffer)) received,
+      c.receive.ensures.log ∙ ap (λ r. logged (g.E.Endpoint.log c.args.endpoint.now) (event_of_receive r c.receive.new.buffer)) received,
     )

@@ -8,7 +8,7 @@ use Rattle.snmp_wire.specs.Message.{Datum}
 use Rattle.snmp_table.specs.Row.{entry_of, datum_of}
 use Rattle.snmp_table.specs.Places.{var_of}
 use Rattle.snmp_table.specs.Text.{States, nothing, object_prefix, instance}
-use Rattle.snmp_table.specs.Draft.{Holds, draft_entries, draft_objects, entry_of_pair}
+use Rattle.snmp_table.specs.Draft.{HoldsTable, draft_entries, draft_objects, entry_of_pair}
 use Rattle.snmp_table.proofs.Drafts.{StatesOnly, holds_nothing, holds_object, holds_instance, double, entries-insert, find-lookup, list_any-insert}
 use Rattle.snmp_table.proofs.draft.Draft.add.Goals as goal
 
@@ -37,7 +37,7 @@ returns-in-Ok-None c = λ before h.
     find-lookup c.args.self.now.rows.entries row.name ∙ ap (option_map datum_of) (sym c.in-Ok-None.ensures.old ∙ c.in-Ok-None.field-0-is) in
     let holds = holds_instance before c.args.line.now (draft_entries c.args.self.now) (draft_objects c.args.self.now) h (var_of (entry_of row)) only absent in
     let entries = ap (map entry_of_pair) c.in-Ok-None.ensures.entries ∙ entries-insert c.args.self.now.rows.entries row.name row.value in
-    let P : List (List ℕ × Datum) → Type 0 = λ es. Holds (before ++ c.args.line.now ∷ []) es (draft_objects c.args.self.now) in
+    let P : List (List ℕ × Datum) → Type 0 = λ es. HoldsTable (before ++ c.args.line.now ∷ []) es (draft_objects c.args.self.now) in
     subst P (sym entries) holds
 
 pub returns-in-Ok-Some : goal.returns-in-Ok-Some

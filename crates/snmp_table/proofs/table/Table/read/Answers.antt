@@ -5,7 +5,7 @@ use Rattle.snmp_wire.specs.Message.{Datum}
 use Rattle.snmp_table.specs.declared.draft.Draft.{Draft}
 use Rattle.snmp_table.specs.declared.row.Row.{Row}
 use Rattle.snmp_table.specs.Row.{entry_of}
-use Rattle.snmp_table.specs.Draft.{Holds, draft_entries, draft_objects, row_of}
+use Rattle.snmp_table.specs.Draft.{HoldsTable, draft_entries, draft_objects, row_of}
 use Rattle.snmp_table.proofs.Drafts.{IsReadTo, read_more, fault_at, all_read, entries_of_rows}
 use Rattle.snmp_table.proofs.Keeping.{kept, table_of}
 use Rattle.snmp_table.proofs.table.Table.read.Goals as goal
@@ -29,13 +29,13 @@ nothing_left (octet ∷ rest) b is h = let none : suc (length rest) ≡ 0 = eqb-
 
 -- what the draft holds at the text's end, as rows and object prefixes
 held : (text rest : List ℕ) (draft : Draft) (number : ℕ) (rows : List Row) (objects : List (List ℕ)) → IsReadTo text rest draft number → rest ≡ []
-    → rows ≡ map row_of draft.rows.entries → objects ≡ draft_objects draft → Holds (lines text) (map entry_of rows) objects
+    → rows ≡ map row_of draft.rows.entries → objects ≡ draft_objects draft → HoldsTable (lines text) (map entry_of rows) objects
 held text rest draft number rows objects h end rows_are objects_are =
-    let holds : Holds (lines text) (draft_entries draft) (draft_objects draft) = all_read text draft number (subst (λ
+    let holds : HoldsTable (lines text) (draft_entries draft) (draft_objects draft) = all_read text draft number (subst (λ
     (r : List ℕ). IsReadTo text r draft number) end h) in
     let entries : map entry_of rows ≡ draft_entries draft = ap (map entry_of) rows_are ∙ entries_of_rows draft.rows.entries in
-    subst (λ (es : List (List ℕ × Datum)). Holds (lines text) es objects) (sym entries)
-    (subst (λ (os : List (List ℕ)). Holds (lines text) (draft_entries draft) os) (sym objects_are) holds)
+    subst (λ (es : List (List ℕ × Datum)). HoldsTable (lines text) es objects) (sym entries)
+    (subst (λ (os : List (List ℕ)). HoldsTable (lines text) (draft_entries draft) os) (sym objects_are) holds)
 
 pub invariant_of-result : goal.invariant_of-result
 invariant_of-result c =
