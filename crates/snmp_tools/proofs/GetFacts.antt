@@ -1,5 +1,5 @@
 -- What the bindings and the end of a Get are to the names that it asked for.
-use Rattle.std.proofs.Common.{◌≡◌, ◌≢◌, ◌⊎◌, inl, inr, ◌++◌, ◌<◌, ◌+◌, ℕ, ℤ, pos, Bool, true, false, cond, List, [], ◌∷◌, length, map, replicate}
+use Rattle.std.proofs.Common.{◌≡◌, ◌≢◌, ◌⊎◌, inl, inr, ◌++◌, ◌<◌, ℕ, ℤ, pos, Bool, true, false, cond, List, [], ◌∷◌, length, map}
 use Rattle.std.proofs.Common.{Option, Result, Ok, Err, refl, sym, ◌∙◌, ap, subst, append_assoc, append-nil, arith}
 use Rattle.std.proofs.lemmas.Bool.{and_parts, eqb-true}
 use Rattle.std.specs.Prelude.{not, ◌&&◌, ◌==◌}
@@ -9,12 +9,11 @@ use Rattle.std.proofs.lemmas.List.{map-append}
 use Rattle.std.specs.Cmp.Lexicographic.{pointwise, same_text}
 use Rattle.snmp_oid.specs.Identifier.{wire}
 use Rattle.snmp_table.specs.Table.{IsGet, MibView}
-use Rattle.snmp_wire.specs.declared.kind.Kind.TheVariants as kind
 use Rattle.snmp_wire.specs.Canon.{canon}
 use Rattle.snmp_wire.specs.Message.{Message, VarBind}
 use Rattle.snmp_agent.specs.Reply.{AreAnswers, Fits, IsResponse, IsWhole, bulk, got, got_next, response, shortened, unwritten, whole}
-use Rattle.snmp_walk.specs.Facts.{IsDone, IsDoneOrStopped}
-use Rattle.snmp_walk.specs.Get.{AreGot, GetEnds, GetFacts, HasRoomForGet, IsBrought, IsLostGet, answers_of, are_for, asked_names, fails, get_request, gives}
+use Rattle.snmp_walk.specs.Facts.{IsDone}
+use Rattle.snmp_walk.specs.Get.{AreGot, GetEnds, IsBrought, IsLostGet, answers_of, are_for, asked_names, fails, get_request, gives}
 use Rattle.snmp_walk.specs.Get.{is_cut, is_refused, is_silent, is_too_long}
 use Rattle.snmp_walk.specs.Link.{Agents, IsUnanswered, OneOf}
 use Rattle.snmp_walk.specs.Names.{is_end}

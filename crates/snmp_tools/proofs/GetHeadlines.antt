@@ -1,5 +1,5 @@
 -- The headline of snmpget, of what a job wrote and reported.
-use Rattle.std.proofs.Common.{◌≡◌, ◌⊎◌, inl, inr, ◌++◌, ℕ, All, List, [], Option, Some, None, refl, sym, ◌∙◌, ap, subst, append_assoc, codes}
+use Rattle.std.proofs.Common.{◌≡◌, ◌⊎◌, inl, inr, ◌++◌, ℕ, All, List, [], Option, None, refl, sym, ◌∙◌, ap, subst, append_assoc, codes}
 use Rattle.std.specs.Str.Lines.{lines}
 use Rattle.smi_letters.specs.declared.letters.Letters.{Letters}
 use Rattle.snmp_oid.specs.Identifier.{IsWire, wire}

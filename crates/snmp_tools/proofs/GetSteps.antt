@@ -1,14 +1,13 @@
 -- The first step of a Get that fails, after those that are done.
-use Rattle.std.proofs.Common.{◌≡◌, ◌⊎◌, inl, inr, ◌++◌, ℕ, List, [], ◌∷◌, map, Result, Ok, refl, ◌∙◌, ap, append_assoc}
+use Rattle.std.proofs.Common.{◌≡◌, ◌⊎◌, inl, inr, ◌++◌, ℕ, List, [], ◌∷◌, map, Ok, refl, ◌∙◌, ap, append_assoc}
 use Rattle.smi_letters.specs.declared.letters.Letters.{Letters}
 use Rattle.smi_name.specs.Meaning.{meaning}
-use Rattle.smi_name.specs.declared.error.NameError.{NameError}
 use Rattle.snmp_net.specs.Address.{Address}
 use Rattle.snmp_words.specs.Words.{GetWords}
 use Rattle.snmp_tools.specs.Asking.{IsReached, MibsFail, NameFails, ReachFails, agent_step, community_step, letters_step, version_step}
 use Rattle.snmp_tools.specs.Get.{AreNames, FailsForGet, GetPlan, GetStep, HasMeaning, HasSendable, HasUnsendable, IsAskingFor, IsDoneForGet}
 use Rattle.snmp_tools.specs.Get.{IsEarlyGetRefusal, IsLateGetRefusal}
-use Rattle.snmp_tools.specs.Get.{asking, get_loading_steps, get_naming_steps, mibs_step, name_step, reach_step, sent_step}
+use Rattle.snmp_tools.specs.Get.{asking, get_naming_steps, mibs_step, name_step, reach_step, sent_step}
 use Rattle.snmp_tools.specs.Got.{IsGetFor}
 use Rattle.snmp_tools.specs.Message.{Fault, out_of_memory}
 use Rattle.snmp_io.specs.Files.{Holdings, MayHold}

@@ -5,7 +5,6 @@ use Rattle.std.proofs.lemmas.List.Elements.{All-head, All-tail}
 use Rattle.std.specs.Str.Lines.{lines}
 use Rattle.smi_letters.specs.declared.letters.Letters.{Letters}
 use Rattle.smi_name.specs.Meaning.{meaning}
-use Rattle.smi_name.specs.declared.error.NameError.{NameError}
 use Rattle.snmp_oid.specs.Identifier.{IsWire, wire}
 use Rattle.snmp_wire.specs.Message.{VarBind}
 use Rattle.snmp_table.specs.Table.{MibView}
@@ -13,17 +12,17 @@ use Rattle.snmp_table.specs.declared.error.TableError.{TableError}
 use Rattle.snmp_table.specs.declared.error.TableError.TheVariants as table_error
 use Rattle.snmp_table.specs.Stated.{IsTableOf, IsFirstFault}
 use Rattle.snmp_io.specs.Files.{Holdings, MayHold}
-use Rattle.snmp_words.specs.Words.{AskingWords, GetWords}
+use Rattle.snmp_words.specs.Words.{GetWords}
 use Rattle.snmp_net.specs.Address.{Address, table}
 use Rattle.snmp_serve.specs.TableFile.{TableFails}
 use Rattle.snmp_tools.specs.Asking.{AskingFails, AskingStep, HasAgent, NameFails, ReachFails}
 use Rattle.snmp_tools.specs.Asking.{agent_step, community_step, letters_step, version_step}
 use Rattle.snmp_tools.specs.Get.{AreNames, AskForGet, FailsForGet, GetPlan, GetStep, HasUnsendable, IsEarlyGetRefusal, IsLateGetRefusal}
-use Rattle.snmp_tools.specs.Get.{asking, get_loading_steps, get_naming_steps, mibs_step, name_step, reach_step, sent_step}
+use Rattle.snmp_tools.specs.Get.{get_loading_steps, get_naming_steps, name_step, reach_step, sent_step}
 use Rattle.snmp_tools.specs.GetHeadline.{IsGetOf}
-use Rattle.snmp_tools.specs.Message.{Fault, bad_table, out_of_memory, unreadable}
+use Rattle.snmp_tools.specs.Message.{Fault, bad_table, unreadable}
 use Rattle.snmp_tools.specs.Mib.{IsMibOf, Mib}
-use Rattle.snmp_io.specs.Steps.{AreDone, IsFirstToFail}
+use Rattle.snmp_io.specs.Steps.{AreDone}
 use Rattle.snmp_tools.proofs.Plans.{IsWant, OneList, OneTree, held_is, is_readable, no_name, one_load, one_name, one_reading, other_way, plain_want, table_want}
 
 -- texts state just one list of names

@@ -1,4 +1,4 @@
-use Rattle.std.proofs.Common.{◌≡◌, ◌∙◌, refl, sym, ap, subst, ℕ, Some, None}
+use Rattle.std.proofs.Common.{◌≡◌, ◌∙◌, refl, subst, ℕ, Some, None}
 use Rattle.snmp_translate.specs.Fault as translate
 use Rattle.snmp_translate.specs.Fault.{TranslateFault, translate_fault_of}
 use Rattle.snmp_tools.specs.Message.{Fault, status_of}
