@@ -211,8 +211,8 @@ pub record IsEndedBy (agents : Agents) (Silent Sent : Walker → Type 0) (first 
   pub silent : end ≡ ending.NoResponse → Silent w
   pub sent : Sent w
 
--- The last datagrams sent are the request of w, once for each try, and the agents have no reply to
--- it or the last deliveries used lost it.
+-- The last datagrams sent are the request of w, once for each try, and one of the agents has no
+-- reply to it or the last deliveries used lost it.
 pub record HasNoReply (agents : Agents) (tries : ℕ) (old new : Traffic) (w : Walker) : Type 0 where
   pub earlier : List (List ℕ)
   pub sent : new.sent ≡ earlier ++ replicate tries (canon (request_of w))
@@ -221,7 +221,7 @@ pub record HasNoReply (agents : Agents) (tries : ℕ) (old new : Traffic) (w : W
       × (old.ahead ≡ before ++ (used ++ new.ahead))
       × Lost agents (earlier ++ canon (request_of w) ∷ []) (canon (request_of w)) used tries 0)
 
--- the agents have no reply to the request of w
+-- one of the agents has no reply to the request of w
 abbrev pub HasNone : Agents → Walker → Type 0
 HasNone agents w = IsUnanswered agents (canon (request_of w))
 

@@ -146,8 +146,8 @@ pub record HasRoomForGet (agents : Agents) (request : Message) (names : List
       → AreGot view names all
       → Fits agents.max_size (response request (pos 0) (pos 0) all)
 
--- the request was sent once for each try, and the agents have no reply to it or the deliveries used
--- lost it
+-- the request was sent once for each try, and one of the agents has no reply to it or the
+-- deliveries used lost it
 pub record IsLostGet (agents : Agents) (tries : ℕ) (old : Traffic) (q : List ℕ)
     (new : Traffic) : Type 0 where
   pub sent : new.sent ≡ old.sent ++ replicate tries q

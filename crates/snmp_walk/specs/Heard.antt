@@ -31,8 +31,8 @@ pub record Hears (agents : Agents) (q : List ℕ) (old : Traffic) (silent : Type
       → Lost agents old.sent q (used ++ rest) (t + 1) 0)
 
 -- How often the request was sent, once at least unless the link failed, and at most `tries` times,
--- and which deliveries were used. Where no reply came, the agents have none or the deliveries lost
--- it.
+-- and which deliveries were used. Where no reply came, one of the agents has none or the
+-- deliveries lost it.
 pub record Exchanges (agents : Agents) (honest : Type 0) (tries : ℕ) (q : List ℕ) (old : Traffic)
     (silent failed : Type 0) (new : Traffic) : Type 0 where
   pub times : ℕ

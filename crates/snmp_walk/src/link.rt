@@ -50,7 +50,7 @@ pub trait Link {
     /// Whether a receive into fewer than 65507 octets is a fault.
     ghost refuses_short: { Self → Type 0 } = { λ _. ⊥ };
 
-    /// Sends a datagram. A fault changes the count of faults alone.
+    /// Sends a datagram. A fault is counted, and changes neither agents nor traffic.
     fn send(&mut self, datagram: &[u8]) -> Result<(), LinkFault>
         ensures sent { keeps self.old
             → OnOk result ((traffic self.new).sent ≡ (traffic self.old).sent ++ datagram.now ∷ []) }
@@ -68,7 +68,7 @@ pub trait Link {
             × ready self.new sends octets };
 
     /// Receives a datagram into the front of the buffer and returns its length, or None where none
-    /// comes in time. A fault changes the count of faults alone.
+    /// comes in time. A fault is counted, and changes neither agents nor traffic.
     fn receive(&mut self, buffer: &mut [u8]) -> Result<Option<usize>, LinkFault>
         ensures length { IfOk result (λ got. IfSome got (λ n. n ≤ length buffer.old)) }
         ensures brings { IfOk result (λ got. IfSome got
