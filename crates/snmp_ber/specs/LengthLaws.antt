@@ -88,12 +88,12 @@ length_again cut lead n rest (inr s) =
 
 -- ---- elements
 
--- a content behind some form of its length, and what follows
+-- a content after some form of its length, and what follows
 abbrev pub TakesContent : List ℕ → List ℕ × List ℕ → Type 0
 TakesContent octets x =
     (lead : List ℕ) × IsLength lead (length x.0) × (octets ≡ lead ++ (x.0 ++ x.1))
 
--- what is read as a content stands behind its length
+-- what is read as a content stands after its length
 pub content_takes : (cut : BerError) (octets : List ℕ) (x : List ℕ × List ℕ)
     → content_at cut octets ≡ Ok x → TakesContent octets x
 unfolding content_at
@@ -111,7 +111,7 @@ content_takes cut octets x e =
     t.2 ∙ ap (λ (tail : List ℕ). t.0 ++ tail) (sym (take-append-drop n after)) in
     subst (TakesContent octets) (ok_is (take n after, drop n after) x q.1) (t.0, is_length, parts)
 
--- a content behind its length is read
+-- a content after its length is read
 pub content_again : (cut : BerError) (lead content rest : List ℕ) → IsLength lead (length content)
     → content_at cut (lead ++ (content ++ rest)) ≡ Ok (content, rest)
 unfolding content_at
