@@ -1,15 +1,15 @@
 //! The commands of the program, with the rules for their words and the help on them.
-ghost use Rattle.std.specs.Prelude.{◌≡◌, IfOk, Ok, codes};
-ghost use Rattle.clap.specs.Built.{AddsSubcommand};
-ghost use Rattle.clap.specs.declared.builder.command.Command.{Command};
+ghost use Rattle.std.specs.Prelude.{◌≡◌, codes, false, true};
+ghost use Rattle.clap.specs.Simple.{App, new_app, with_rule, with_subcommand};
+ghost use Rattle.clap.specs.Walk.{Rule, rule_of};
 ghost use Rattle.clap.specs.Words.{app_of};
-ghost use Rattle.snmp_words.specs.Command.{asking_rules, get_app, getting_rules, place_rules};
-ghost use Rattle.snmp_words.specs.Command.{sending_rules, serve_app, serving_rules, showing_rules};
-ghost use Rattle.snmp_words.specs.Command.{snmp_app, top_app, translate_app, translating_rules};
-ghost use Rattle.snmp_words.specs.Command.{walk_app, walking_rules, with_rules};
+ghost use Rattle.snmp_words.specs.Command.{IsMade, asking_rules, get_app, getting_rules};
+ghost use Rattle.snmp_words.specs.Command.{place_rules, sending_rules, serve_app, serving_rules};
+ghost use Rattle.snmp_words.specs.Command.{showing_rules, snmp_app, top_app, translate_app};
+ghost use Rattle.snmp_words.specs.Command.{translating_rules, walk_app, walking_rules, with_rules};
 
 use crate::options;
-use clap::Command;
+use clap::{Arg, Command};
 use std::alloc::{AllocError, Global};
 
 const TRANSLATE_EXAMPLE: &str =
@@ -24,30 +24,57 @@ const BULK_EXAMPLE: &str =
 
 const SERVE_EXAMPLE: &str = "Example: snmp snmpd --table three.tab --listen 127.0.0.1:1161";
 
+// A command as far as it is made, or that memory ran out. Each call below takes it by value and
+// hands it on, so that none has to drop it amid its own steps.
+type Made<'a> = Result<Command<'a>, AllocError>;
+
 /// The command `snmp`, with its subcommands.
-pub(crate) fn snmp_command<'a>(alloc: Global) -> Result<Command<'a>, AllocError>
-    ensures { IfOk result (λ c. app_of c ≡ snmp_app) }
+pub(crate) fn snmp_command<'a>(alloc: Global) -> Made<'a>
+    ensures { IsMade result snmp_app }
 {
-    let with_translate = with_subcommand(top_command(alloc), translate_command(alloc))?;
-    let with_get = with_subcommand(with_translate, get_command(alloc))?;
-    let with_walk = with_subcommand(with_get, walk_command(alloc))?;
-    let with_bulk_walk = with_subcommand(with_walk, bulk_walk_command(alloc))?;
-    with_subcommand(with_bulk_walk, serve_command(alloc))
+    let with_translate = with_command(Ok(top_command(alloc)), translate_command(alloc));
+    let with_get = with_command(with_translate, get_command(alloc));
+    let with_walk = with_command(with_get, walk_command(alloc));
+    let with_bulk_walk = with_command(with_walk, bulk_walk_command(alloc));
+    with_command(with_bulk_walk, serve_command(alloc))
 }
 
-// The command with one more subcommand. It is dropped by a call where memory runs out: at the end
-// of a scope, all that a command drops would be written out.
-fn with_subcommand<'a>(
-    command: Command<'a>,
-    subcommand: Result<Command<'a>, AllocError>,
-) -> Result<Command<'a>, AllocError>
-    ensures { IfOk result (λ c. (added : Command) × (subcommand.entry ≡ Ok added)
-        × AddsSubcommand command.entry added c) }
+// The command with one more subcommand.
+fn with_command<'a>(command: Made<'a>, subcommand: Made<'a>) -> Made<'a>
+    ensures { (app sub : App) → IsMade command.entry app → IsMade subcommand.entry sub
+        → sub.top.is_plain ≡ true → IsMade result (with_subcommand app sub.top) }
+{
+    match command {
+        Ok(command) => extended(command, subcommand),
+        Err(error) => {
+            drop(subcommand);
+            Err(error)
+        }
+    }
+}
+
+fn extended<'a>(command: Command<'a>, subcommand: Made<'a>) -> Made<'a>
+    ensures { (app sub : App) → app_of command.entry ≡ app → IsMade subcommand.entry sub
+        → sub.top.is_plain ≡ true → IsMade result (with_subcommand app sub.top) }
 {
     match subcommand {
         Ok(subcommand) => command.subcommand(subcommand),
         Err(error) => {
             drop(command);
+            Err(error)
+        }
+    }
+}
+
+// The command with one more option or word.
+fn with_arg<'a>(command: Made<'a>, arg: Arg<'a>) -> Made<'a>
+    ensures { (app : App) (rule : Rule) → IsMade command.entry app → rule_of arg.entry ≡ rule
+        → arg.entry.global ≡ false → IsMade result (with_rule app rule) }
+{
+    match command {
+        Ok(command) => command.arg(arg),
+        Err(error) => {
+            drop(arg);
             Err(error)
         }
     }
@@ -65,124 +92,126 @@ fn top_command<'a>(alloc: Global) -> Command<'a>
         .disable_help_subcommand(true)
 }
 
-fn translate_command<'a>(alloc: Global) -> Result<Command<'a>, AllocError>
-    ensures { IfOk result (λ c. app_of c ≡ translate_app) }
+// A command with no words as yet, the line that help has on it, and an example after its help.
+fn described<'a>(alloc: Global, name: &'a str, about: &'a str, example: &'a str) -> Command<'a>
+    ensures { app_of result ≡ new_app name.now }
 {
-    let command = Command::new(alloc, "snmptranslate")
-        .about("Prints names of managed objects in another form, or details of them")
-        .after_help(TRANSLATE_EXAMPLE);
-    with_translating(alloc, command)
+    Command::new(alloc, name).about(about).after_help(example)
 }
 
-fn get_command<'a>(alloc: Global) -> Result<Command<'a>, AllocError>
-    ensures { IfOk result (λ c. app_of c ≡ get_app) }
+fn translate_command<'a>(alloc: Global) -> Made<'a>
+    ensures { IsMade result translate_app }
 {
-    let command = Command::new(alloc, "snmpget")
-        .about("Prints the instances that names stand for")
-        .after_help(GET_EXAMPLE);
-    with_getting(alloc, with_asking(alloc, command)?)
+    let about = "Prints names of managed objects in another form, or details of them";
+    let command = described(alloc, "snmptranslate", about, TRANSLATE_EXAMPLE);
+    with_translating(alloc, Ok(command))
 }
 
-fn walk_command<'a>(alloc: Global) -> Result<Command<'a>, AllocError>
-    ensures { IfOk result (λ c. app_of c ≡ walk_app (codes "snmpwalk")) }
+fn get_command<'a>(alloc: Global) -> Made<'a>
+    ensures { IsMade result get_app }
 {
-    let command = Command::new(alloc, "snmpwalk")
-        .about("Prints the instances below a name in their order, asking for one at a time")
-        .after_help(WALK_EXAMPLE);
-    with_walking(alloc, with_asking(alloc, command)?)
+    let about = "Prints the instances that names stand for";
+    let command = described(alloc, "snmpget", about, GET_EXAMPLE);
+    with_getting(alloc, with_asking(alloc, Ok(command)))
 }
 
-fn bulk_walk_command<'a>(alloc: Global) -> Result<Command<'a>, AllocError>
-    ensures { IfOk result (λ c. app_of c ≡ walk_app (codes "snmpbulkwalk")) }
+fn walk_command<'a>(alloc: Global) -> Made<'a>
+    ensures { IsMade result (walk_app (codes "snmpwalk")) }
 {
-    let command = Command::new(alloc, "snmpbulkwalk")
-        .about("Prints the instances below a name in their order, asking for many at a time")
-        .after_help(BULK_EXAMPLE);
-    with_walking(alloc, with_asking(alloc, command)?)
+    let about = "Prints the instances below a name in their order, asking for one at a time";
+    let command = described(alloc, "snmpwalk", about, WALK_EXAMPLE);
+    with_walking(alloc, with_asking(alloc, Ok(command)))
 }
 
-fn serve_command<'a>(alloc: Global) -> Result<Command<'a>, AllocError>
-    ensures { IfOk result (λ c. app_of c ≡ serve_app) }
+fn bulk_walk_command<'a>(alloc: Global) -> Made<'a>
+    ensures { IsMade result (walk_app (codes "snmpbulkwalk")) }
 {
-    let command = Command::new(alloc, "snmpd")
-        .about("Serves a table as an agent")
-        .after_help(SERVE_EXAMPLE);
-    with_serving(alloc, command)
+    let about = "Prints the instances below a name in their order, asking for many at a time";
+    let command = described(alloc, "snmpbulkwalk", about, BULK_EXAMPLE);
+    with_walking(alloc, with_asking(alloc, Ok(command)))
+}
+
+fn serve_command<'a>(alloc: Global) -> Made<'a>
+    ensures { IsMade result serve_app }
+{
+    let about = "Serves a table as an agent";
+    let command = described(alloc, "snmpd", about, SERVE_EXAMPLE);
+    with_serving(alloc, Ok(command))
 }
 
 // The options and words of a translation.
-fn with_translating<'a>(alloc: Global, command: Command<'a>) -> Result<Command<'a>, AllocError>
-    ensures { IfOk result (λ c. app_of c ≡ with_rules (app_of command.entry) translating_rules) }
+fn with_translating<'a>(alloc: Global, command: Made<'a>) -> Made<'a>
+    ensures { (app : App) → IsMade command.entry app
+        → IsMade result (with_rules app translating_rules) }
 {
-    command
-        .arg(options::mib_option(alloc))?
-        .arg(options::letters_option(alloc))?
-        .arg(options::details_option(alloc))?
-        .arg(options::names_word(alloc))
+    let filed = with_arg(command, options::mib_option(alloc));
+    let lettered = with_arg(filed, options::letters_option(alloc));
+    let detailed = with_arg(lettered, options::details_option(alloc));
+    with_arg(detailed, options::names_word(alloc))
 }
 
 // The options that say how an agent is asked, and how the replies are shown.
-fn with_asking<'a>(alloc: Global, command: Command<'a>) -> Result<Command<'a>, AllocError>
-    ensures { IfOk result (λ c. app_of c ≡ with_rules (app_of command.entry) asking_rules) }
+fn with_asking<'a>(alloc: Global, command: Made<'a>) -> Made<'a>
+    ensures { (app : App) → IsMade command.entry app
+        → IsMade result (with_rules app asking_rules) }
 {
-    let shown = with_showing(alloc, command)?;
-    with_sending(alloc, shown)
+    with_sending(alloc, with_showing(alloc, command))
 }
 
-fn with_showing<'a>(alloc: Global, command: Command<'a>) -> Result<Command<'a>, AllocError>
-    ensures { IfOk result (λ c. app_of c ≡ with_rules (app_of command.entry) showing_rules) }
+fn with_showing<'a>(alloc: Global, command: Made<'a>) -> Made<'a>
+    ensures { (app : App) → IsMade command.entry app
+        → IsMade result (with_rules app showing_rules) }
 {
-    command
-        .arg(options::mib_option(alloc))?
-        .arg(options::letters_option(alloc))?
-        .arg(options::protocol_option(alloc))?
-        .arg(options::community_option(alloc))
+    let filed = with_arg(command, options::mib_option(alloc));
+    let lettered = with_arg(filed, options::letters_option(alloc));
+    let versioned = with_arg(lettered, options::protocol_option(alloc));
+    with_arg(versioned, options::community_option(alloc))
 }
 
-fn with_sending<'a>(alloc: Global, command: Command<'a>) -> Result<Command<'a>, AllocError>
-    ensures { IfOk result (λ c. app_of c ≡ with_rules (app_of command.entry) sending_rules) }
+fn with_sending<'a>(alloc: Global, command: Made<'a>) -> Made<'a>
+    ensures { (app : App) → IsMade command.entry app
+        → IsMade result (with_rules app sending_rules) }
 {
-    command
-        .arg(options::retries_option(alloc))?
-        .arg(options::seconds_option(alloc))?
-        .arg(options::size_option(alloc))
+    let retried = with_arg(command, options::retries_option(alloc));
+    let timed = with_arg(retried, options::seconds_option(alloc));
+    with_arg(timed, options::size_option(alloc))
 }
 
 // The words of a get.
-fn with_getting<'a>(alloc: Global, command: Command<'a>) -> Result<Command<'a>, AllocError>
-    ensures { IfOk result (λ c. app_of c ≡ with_rules (app_of command.entry) getting_rules) }
+fn with_getting<'a>(alloc: Global, command: Made<'a>) -> Made<'a>
+    ensures { (app : App) → IsMade command.entry app
+        → IsMade result (with_rules app getting_rules) }
 {
-    command
-        .arg(options::agent_word(alloc))?
-        .arg(options::names_word(alloc))
+    let placed = with_arg(command, options::agent_word(alloc));
+    with_arg(placed, options::names_word(alloc))
 }
 
 // The options and words of a walk.
-fn with_walking<'a>(alloc: Global, command: Command<'a>) -> Result<Command<'a>, AllocError>
-    ensures { IfOk result (λ c. app_of c ≡ with_rules (app_of command.entry) walking_rules) }
+fn with_walking<'a>(alloc: Global, command: Made<'a>) -> Made<'a>
+    ensures { (app : App) → IsMade command.entry app
+        → IsMade result (with_rules app walking_rules) }
 {
-    command
-        .arg(options::walk_letters_option(alloc))?
-        .arg(options::after_option(alloc))?
-        .arg(options::agent_word(alloc))?
-        .arg(options::name_word(alloc))
+    let lettered = with_arg(command, options::walk_letters_option(alloc));
+    let resumed = with_arg(lettered, options::after_option(alloc));
+    let placed = with_arg(resumed, options::agent_word(alloc));
+    with_arg(placed, options::name_word(alloc))
 }
 
 // The options of an agent.
-fn with_serving<'a>(alloc: Global, command: Command<'a>) -> Result<Command<'a>, AllocError>
-    ensures { IfOk result (λ c. app_of c ≡ with_rules (app_of command.entry) serving_rules) }
+fn with_serving<'a>(alloc: Global, command: Made<'a>) -> Made<'a>
+    ensures { (app : App) → IsMade command.entry app
+        → IsMade result (with_rules app serving_rules) }
 {
-    let placed = with_place(alloc, command)?;
-    placed
-        .arg(options::size_option(alloc))?
-        .arg(options::turns_option(alloc))
+    let placed = with_place(alloc, command);
+    let bounded = with_arg(placed, options::size_option(alloc));
+    with_arg(bounded, options::turns_option(alloc))
 }
 
-fn with_place<'a>(alloc: Global, command: Command<'a>) -> Result<Command<'a>, AllocError>
-    ensures { IfOk result (λ c. app_of c ≡ with_rules (app_of command.entry) place_rules) }
+fn with_place<'a>(alloc: Global, command: Made<'a>) -> Made<'a>
+    ensures { (app : App) → IsMade command.entry app
+        → IsMade result (with_rules app place_rules) }
 {
-    command
-        .arg(options::table_option(alloc))?
-        .arg(options::community_option(alloc))?
-        .arg(options::listen_option(alloc))
+    let filled = with_arg(command, options::table_option(alloc));
+    let named = with_arg(filled, options::community_option(alloc));
+    with_arg(named, options::listen_option(alloc))
 }
