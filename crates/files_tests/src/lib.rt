@@ -4,4 +4,6 @@
 #[cfg(test)]
 mod loading;
 #[cfg(test)]
+mod machine;
+#[cfg(test)]
 mod tiny;

@@ -110,6 +110,3 @@ pub fn one_reading()
     ensures { (before text : List ℕ) (xs ys : List Item) →
         Lexes before text xs → Lexes before text ys → xs ≡ ys }
 {}
-
-#[cfg(test)]
-mod tests;

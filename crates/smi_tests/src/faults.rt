@@ -1,8 +1,12 @@
 //! Texts that are refused, with the fault and its line, and the smallest texts that are read.
 
-use crate::reading::{bad_byte, counts, fault, fault_of, is_named, open_string, syntax};
-use smi_text::{ParseError, parse_modules};
-use std::alloc::Global;
+use crate::reading::{
+    assert_fault_of_each, assert_faults, bad_byte, counts, fault_of, fault_of_pieces, is_named,
+    open_string, syntax,
+};
+use smi_text::{Module, ParseError, parse_modules};
+use std::alloc::{AllocError, Global};
+use std::process::Abort;
 use std::test::Fail;
 
 /// The fault of a second definition on this line.
@@ -10,25 +14,31 @@ fn double_name(line: usize) -> Option<ParseError> {
     Some(ParseError::DoubleName { line })
 }
 
+/// Texts without a module.
+const NO_MODULES: &[&[u8]] = &[
+    b"",
+    b"-- only a comment",
+    b" \t\r\n\x0b\x0c",
+    b"\n\n",
+    b"--",
+    b"-- one -- -- two\n",
+];
+
+/// Texts of a module with nothing in it.
+const EMPTY_MODULES: &[&[u8]] = &[
+    b"A DEFINITIONS ::= BEGIN END",
+    b"A -- note -- DEFINITIONS ::= BEGIN END",
+    b"A---note\nDEFINITIONS::=BEGIN--x--END",
+];
+
 #[test]
-fn no_modules_and_empty_ones(rt: HostRuntime) -> Result<(), Fail> {
+fn no_modules_and_empty_ones(rt: HostRuntime) {
     let alloc = rt.alloc();
-    for text in [
-        b"".as_slice(),
-        b"-- only a comment",
-        b" \t\r\n\x0b\x0c",
-        b"\n\n",
-        b"--",
-        b"-- one -- -- two\n",
-    ] {
+    for text in NO_MODULES {
         assert_eq!(rt; counts(alloc, text), Ok((0, 0)));
     }
-    for text in [
-        b"A DEFINITIONS ::= BEGIN END".as_slice(),
-        b"A -- note -- DEFINITIONS ::= BEGIN END",
-        b"A---note\nDEFINITIONS::=BEGIN--x--END",
-    ] {
-        assert!(rt; is_empty_module(alloc, text)?);
+    for text in EMPTY_MODULES {
+        assert!(rt; is_empty_module(alloc, text));
     }
     assert_eq!(rt;
         counts(
@@ -37,27 +47,29 @@ fn no_modules_and_empty_ones(rt: HostRuntime) -> Result<(), Fail> {
         ),
         Ok((1, 1))
     );
-    Ok(())
 }
 
 /// Whether a text is one module A, with nothing in it.
-fn is_empty_module(alloc: Global, text: &[u8]) -> Result<bool, Fail> {
-    let Ok(modules) = parse_modules(alloc, text) else {
-        return Ok(false);
+fn is_empty_module(alloc: Global, text: &[u8]) -> bool {
+    match parse_modules(alloc, text) {
+        Ok(modules) => are_empty_module(&modules),
+        Err(_) => false,
+    }
+}
+
+/// Whether modules are one module A, with nothing in it.
+fn are_empty_module(modules: &[Module]) -> bool {
+    let [module] = modules else {
+        return false;
     };
-    let [module] = modules.as_slice() else {
-        return Ok(false);
-    };
-    Ok(
-        is_named(&module.name, "A")
-            && module.heading.is_none()
-            && module.imports.is_none()
-            && module.defs.len() == 0,
-    )
+    is_named(&module.name, "A")
+        && module.heading.is_none()
+        && module.imports.is_none()
+        && module.defs.len() == 0
 }
 
 #[test]
-fn faults_and_their_lines(rt: HostRuntime) -> Result<(), Fail> {
+fn faults_and_their_lines(rt: HostRuntime) {
     let alloc = rt.alloc();
     let rows = [
         (b"A DEFINITIONS BEGIN\nEND".as_slice(), syntax(1)),
@@ -106,14 +118,11 @@ fn faults_and_their_lines(rt: HostRuntime) -> Result<(), Fail> {
             syntax(3),
         ),
     ];
-    for (text, expected) in rows {
-        assert_eq!(rt; fault(alloc, text), expected);
-    }
-    Ok(())
+    assert_faults(&rt, alloc, &rows);
 }
 
 #[test]
-fn names_that_are_defined_twice(rt: HostRuntime) -> Result<(), Fail> {
+fn names_that_are_defined_twice(rt: HostRuntime) {
     let alloc = rt.alloc();
     let rows = [
         (
@@ -162,14 +171,11 @@ fn names_that_are_defined_twice(rt: HostRuntime) -> Result<(), Fail> {
             syntax(3),
         ),
     ];
-    for (text, expected) in rows {
-        assert_eq!(rt; fault(alloc, text), expected);
-    }
-    Ok(())
+    assert_faults(&rt, alloc, &rows);
 }
 
 #[test]
-fn the_first_fault_of_several(rt: HostRuntime) -> Result<(), Fail> {
+fn the_first_fault_of_several(rt: HostRuntime) {
     let alloc = rt.alloc();
     let rows = [
         // A second definition before and after a fault of the lexer.
@@ -195,104 +201,102 @@ fn the_first_fault_of_several(rt: HostRuntime) -> Result<(), Fail> {
             bad_byte(2),
         ),
     ];
-    for (text, expected) in rows {
-        assert_eq!(rt; fault(alloc, text), expected);
-    }
-    Ok(())
+    assert_faults(&rt, alloc, &rows);
 }
+
+/// Definitions with numbers that are in their ranges.
+const IN_RANGE: &[&str] = &[
+    "x OBJECT IDENTIFIER ::= { 0 -0 4294967295 000004294967295 a(0) b(4294967295) c(-0) }",
+    "X ::= INTEGER { low(-9223372036854775808), high(18446744073709551615), zero(-0) }",
+    "X ::= INTEGER (-9223372036854775808..18446744073709551615)",
+    "X ::= INTEGER (-0009223372036854775808 | 00018446744073709551615)",
+    "X ::= OCTET STRING (SIZE (''H | ''B | 'ffffFFFFffffFFFF'h | '0000000000000000000000FF'H))",
+    "X ::= INTEGER ('1111111111111111111111111111111111111111111111111111111111111111'b)",
+    "X ::= [APPLICATION 18446744073709551615] IMPLICIT INTEGER",
+    "X ::= [APPLICATION -9223372036854775808] IMPLICIT INTEGER",
+    "x AGENT-CAPABILITIES 99999999999999999999999999 '10000000000000000'H ::= { 1 }",
+];
+
+/// Definitions with a number that is out of its range.
+const OUT_OF_RANGE: &[&str] = &[
+    "x OBJECT IDENTIFIER ::= { 4294967296 }",
+    "x OBJECT IDENTIFIER ::= { -1 }",
+    "x OBJECT IDENTIFIER ::= { iso 4294967296 }",
+    "x OBJECT IDENTIFIER ::= { iso a(4294967296) }",
+    "x OBJECT IDENTIFIER ::= { a(-1) }",
+    "x OBJECT IDENTIFIER ::= { 99999999999999999999999 }",
+    "X ::= INTEGER { low(-9223372036854775809) }",
+    "X ::= INTEGER { high(18446744073709551616) }",
+    "X ::= INTEGER (0..18446744073709551616)",
+    "X ::= INTEGER (-9223372036854775809..0)",
+    "X ::= INTEGER ('10000000000000000'H)",
+    "X ::= INTEGER ('10000000000000000000000000000000000000000000000000000000000000000'B)",
+    "X ::= [APPLICATION 18446744073709551616] IMPLICIT INTEGER",
+    "X ::= [APPLICATION '1'H] IMPLICIT INTEGER",
+    "X ::= INTEGER { a('1'H) }",
+    "x OBJECT IDENTIFIER ::= { '1'H }",
+];
 
 #[test]
 fn numbers_in_their_ranges(rt: HostRuntime) -> Result<(), Fail> {
-    let alloc = rt.alloc();
-    let good = [
-        "x OBJECT IDENTIFIER ::= { 0 -0 4294967295 000004294967295 a(0) b(4294967295) c(-0) }",
-        "X ::= INTEGER { low(-9223372036854775808), high(18446744073709551615), zero(-0) }",
-        "X ::= INTEGER (-9223372036854775808..18446744073709551615)",
-        "X ::= INTEGER (-0009223372036854775808 | 00018446744073709551615)",
-        "X ::= OCTET STRING (SIZE (''H | ''B | 'ffffFFFFffffFFFF'h | '0000000000000000000000FF'H))",
-        "X ::= INTEGER ('1111111111111111111111111111111111111111111111111111111111111111'b)",
-        "X ::= [APPLICATION 18446744073709551615] IMPLICIT INTEGER",
-        "X ::= [APPLICATION -9223372036854775808] IMPLICIT INTEGER",
-        "x AGENT-CAPABILITIES 99999999999999999999999999 '10000000000000000'H ::= { 1 }",
-    ];
-    for text in good {
-        assert_eq!(rt; fault_of(alloc, text)?, None, "{text}");
-    }
-    let bad = [
-        "x OBJECT IDENTIFIER ::= { 4294967296 }",
-        "x OBJECT IDENTIFIER ::= { -1 }",
-        "x OBJECT IDENTIFIER ::= { iso 4294967296 }",
-        "x OBJECT IDENTIFIER ::= { iso a(4294967296) }",
-        "x OBJECT IDENTIFIER ::= { a(-1) }",
-        "x OBJECT IDENTIFIER ::= { 99999999999999999999999 }",
-        "X ::= INTEGER { low(-9223372036854775809) }",
-        "X ::= INTEGER { high(18446744073709551616) }",
-        "X ::= INTEGER (0..18446744073709551616)",
-        "X ::= INTEGER (-9223372036854775809..0)",
-        "X ::= INTEGER ('10000000000000000'H)",
-        "X ::= INTEGER ('10000000000000000000000000000000000000000000000000000000000000000'B)",
-        "X ::= [APPLICATION 18446744073709551616] IMPLICIT INTEGER",
-        "X ::= [APPLICATION '1'H] IMPLICIT INTEGER",
-        "X ::= INTEGER { a('1'H) }",
-        "x OBJECT IDENTIFIER ::= { '1'H }",
-    ];
-    for text in bad {
-        assert_eq!(rt; fault_of(alloc, text)?, syntax(2), "{text}");
-    }
+    assert_fault_of_each(&rt, rt.alloc(), IN_RANGE, None)?;
+    assert_fault_of_each(&rt, rt.alloc(), OUT_OF_RANGE, syntax(2))?;
     Ok(())
 }
+
+/// Definitions with a clause in a wrong place, or without one.
+const MISPLACED: &[&str] = &[
+    "x OBJECT IDENTIFIER ::= iso",
+    "x OBJECT-TYPE SYNTAX BITS STATUS current DESCRIPTION \"\" MAX-ACCESS read-only \
+    ::= { iso 1 }",
+    "x OBJECT-TYPE SYNTAX BITS MAX-ACCESS read-only STATUS current DESCRIPTION \"\" \
+    DEFVAL { } INDEX { a } ::= { iso 1 }",
+    "x OBJECT-TYPE SYNTAX BITS MAX-ACCESS read-only UNITS \"\" STATUS current \
+    DESCRIPTION \"\" ::= { iso 1 }",
+    "x OBJECT-TYPE SYNTAX BITS MAX-ACCESS read-only STATUS current REFERENCE \"\" \
+    DESCRIPTION \"\" ::= { iso 1 }",
+    "x OBJECT-TYPE SYNTAX BITS MAX-ACCESS read-only STATUS current DESCRIPTION \"\" \
+    INDEX { IMPLIED a, b } ::= { iso 1 }",
+    "x OBJECT-TYPE SYNTAX BITS MAX-ACCESS read-only STATUS current DESCRIPTION \"\" INDEX { } \
+    ::= { iso 1 }",
+    "x OBJECT-TYPE SYNTAX BITS MAX-ACCESS read-only STATUS current DESCRIPTION \"\" \
+    AUGMENTS { a, b } ::= { iso 1 }",
+    "x OBJECT-TYPE SYNTAX BITS MAX-ACCESS read-only STATUS current DESCRIPTION \"\"",
+    "x NOTIFICATION-TYPE OBJECTS { } STATUS current DESCRIPTION \"\" ::= { iso 1 }",
+    "x OBJECT-GROUP STATUS current DESCRIPTION \"\" ::= { iso 1 }",
+    "x OBJECT-IDENTITY STATUS current ::= { iso 1 }",
+    "x MODULE-IDENTITY LAST-UPDATED \"\" ORGANIZATION \"\" DESCRIPTION \"\" CONTACT-INFO \"\" \
+    ::= { iso 1 }",
+    "x MODULE-COMPLIANCE a b",
+    "X ::= SEQUENCE { }",
+    "X ::= SEQUENCE { a BITS, }",
+    "X ::= SEQUENCE OF INTEGER",
+    "X ::= CHOICE { { }",
+    "X ::= CHOICE { } }",
+    "X ::= INTEGER { }",
+    "X ::= INTEGER { a(1), }",
+    "X ::= INTEGER { a }",
+    "X ::= INTEGER ( )",
+    "X ::= INTEGER (1..)",
+    "X ::= INTEGER (1 2)",
+    "X ::= INTEGER (MIN..MAX)",
+    "X ::= OCTET STRING SIZE (1)",
+    "X ::= OCTET STRING (SIZE 1)",
+    "X ::= OCTET STRING (SIZE (1)",
+    "X ::= SEQUENCE OF Y (1)",
+    "X ::= [1] IMPLICIT BITS",
+    "X ::= [APPLICATION 1] BITS",
+    "X ::= TEXTUAL-CONVENTION STATUS current DESCRIPTION \"\" DISPLAY-HINT \"d\" SYNTAX BITS",
+    "x BITS ::= { a }",
+    "x ::= { a }",
+    "X OBJECT IDENTIFIER ::= { a }",
+    "x OBJECT IDENTIFIER ::= { iso } IMPORTS a FROM B;",
+];
 
 #[test]
 fn clauses_in_wrong_places(rt: HostRuntime) -> Result<(), Fail> {
     let alloc = rt.alloc();
-    let bad = [
-        "x OBJECT IDENTIFIER ::= iso",
-        "x OBJECT-TYPE SYNTAX BITS STATUS current DESCRIPTION \"\" MAX-ACCESS read-only \
-        ::= { iso 1 }",
-        "x OBJECT-TYPE SYNTAX BITS MAX-ACCESS read-only STATUS current DESCRIPTION \"\" \
-        DEFVAL { } INDEX { a } ::= { iso 1 }",
-        "x OBJECT-TYPE SYNTAX BITS MAX-ACCESS read-only UNITS \"\" STATUS current \
-        DESCRIPTION \"\" ::= { iso 1 }",
-        "x OBJECT-TYPE SYNTAX BITS MAX-ACCESS read-only STATUS current REFERENCE \"\" \
-        DESCRIPTION \"\" ::= { iso 1 }",
-        "x OBJECT-TYPE SYNTAX BITS MAX-ACCESS read-only STATUS current DESCRIPTION \"\" \
-        INDEX { IMPLIED a, b } ::= { iso 1 }",
-        "x OBJECT-TYPE SYNTAX BITS MAX-ACCESS read-only STATUS current DESCRIPTION \"\" INDEX { } \
-        ::= { iso 1 }",
-        "x OBJECT-TYPE SYNTAX BITS MAX-ACCESS read-only STATUS current DESCRIPTION \"\" \
-        AUGMENTS { a, b } ::= { iso 1 }",
-        "x OBJECT-TYPE SYNTAX BITS MAX-ACCESS read-only STATUS current DESCRIPTION \"\"",
-        "x NOTIFICATION-TYPE OBJECTS { } STATUS current DESCRIPTION \"\" ::= { iso 1 }",
-        "x OBJECT-GROUP STATUS current DESCRIPTION \"\" ::= { iso 1 }",
-        "x OBJECT-IDENTITY STATUS current ::= { iso 1 }",
-        "x MODULE-IDENTITY LAST-UPDATED \"\" ORGANIZATION \"\" DESCRIPTION \"\" CONTACT-INFO \"\" \
-        ::= { iso 1 }",
-        "x MODULE-COMPLIANCE a b",
-        "X ::= SEQUENCE { }",
-        "X ::= SEQUENCE { a BITS, }",
-        "X ::= SEQUENCE OF INTEGER",
-        "X ::= CHOICE { { }",
-        "X ::= CHOICE { } }",
-        "X ::= INTEGER { }",
-        "X ::= INTEGER { a(1), }",
-        "X ::= INTEGER { a }",
-        "X ::= INTEGER ( )",
-        "X ::= INTEGER (1..)",
-        "X ::= INTEGER (1 2)",
-        "X ::= INTEGER (MIN..MAX)",
-        "X ::= OCTET STRING SIZE (1)",
-        "X ::= OCTET STRING (SIZE 1)",
-        "X ::= OCTET STRING (SIZE (1)",
-        "X ::= SEQUENCE OF Y (1)",
-        "X ::= [1] IMPLICIT BITS",
-        "X ::= [APPLICATION 1] BITS",
-        "X ::= TEXTUAL-CONVENTION STATUS current DESCRIPTION \"\" DISPLAY-HINT \"d\" SYNTAX BITS",
-        "x BITS ::= { a }",
-        "x ::= { a }",
-        "X OBJECT IDENTIFIER ::= { a }",
-        "x OBJECT IDENTIFIER ::= { iso } IMPORTS a FROM B;",
-    ];
-    for text in bad {
+    for text in MISPLACED {
         assert!(rt;
             matches!(fault_of(alloc, text)?, Some(ParseError::Syntax { .. })),
             "{text}"
@@ -301,20 +305,28 @@ fn clauses_in_wrong_places(rt: HostRuntime) -> Result<(), Fail> {
     Ok(())
 }
 
+/// Appends 10,000 braces.
+fn put_braces(text: &mut Vec<u8>, brace: u8) -> Result<(), AllocError> {
+    for _ in 0..10000 {
+        text.push(brace)?;
+    }
+    Ok(())
+}
+
+/// Appends braces to the front of a module, and asserts that it is read where all are closed.
+fn assert_deep(rt: &impl Abort, alloc: Global, text: &mut Vec<u8>) -> Result<(), AllocError> {
+    put_braces(text, b'{')?;
+    assert_eq!(rt; fault_of_pieces(alloc, &[text, b"\n"])?, syntax(2));
+    put_braces(text, b'}')?;
+    text.extend_from_slice(b"}\nEND\n")?;
+    assert_eq!(rt; counts(alloc, text), Ok((1, 1)));
+    Ok(())
+}
+
 #[test]
 fn deep_braces(rt: HostRuntime) -> Result<(), Fail> {
     let alloc = rt.alloc();
     let mut text = Vec::from_slice(alloc, b"A DEFINITIONS ::= BEGIN\nX ::= CHOICE {")?;
-    for _ in 0..10000 {
-        text.push(b'{')?;
-    }
-    let mut open = Vec::from_slice(alloc, &text)?;
-    open.push(b'\n')?;
-    assert_eq!(rt; fault(alloc, &open), syntax(2));
-    for _ in 0..10000 {
-        text.push(b'}')?;
-    }
-    text.extend_from_slice(b"}\nEND\n")?;
-    assert_eq!(rt; counts(alloc, &text), Ok((1, 1)));
+    assert_deep(&rt, alloc, &mut text)?;
     Ok(())
 }

@@ -1,37 +1,61 @@
 //! Octets of every kind, as the parser meets them.
 
-use crate::reading::{bad_byte, counts, definition, fault, fault_of, open_string, syntax};
-use smi_text::{LexError, Lexer, ParseError, Span, TokenKind, parse_modules};
+use crate::reading::{
+    assert_counts, assert_fault_of_each, assert_faults, bad_byte, counts, definition, open_string,
+    syntax,
+};
+use smi_text::{LexError, Lexer, ParseError, Span, Token, TokenKind, parse_modules};
+use std::alloc::{AllocError, Global};
+use std::process::Abort;
 use std::test::Fail;
+
+/// A token: its kind and text, where it begins and ends, and its line.
+type Row = (TokenKind, &'static str, usize, usize, usize);
+
+/// A text of which the first tokens are those of `TOKENS`; no token begins with what follows.
+const MIXED: &[u8] = b"A-b_9 x-- note --'0F'h -07..\n\"two\nlines\"::= :: '';";
+
+/// Its tokens.
+const TOKENS: &[Row] = &[
+    (TokenKind::Upper, "A-b_9", 0, 5, 1),
+    (TokenKind::Lower, "x", 6, 7, 1),
+    (TokenKind::Hex, "'0F'h", 17, 22, 1),
+    (TokenKind::Number, "-07", 23, 26, 1),
+    (TokenKind::Range, "..", 26, 28, 1),
+    (TokenKind::Text, "\"two\nlines\"", 29, 40, 2),
+    (TokenKind::Assign, "::=", 40, 43, 3),
+    (TokenKind::Colon, ":", 44, 45, 3),
+    (TokenKind::Colon, ":", 45, 46, 3),
+];
+
+/// Asserts that a token is this one.
+fn assert_token(rt: &impl Abort, token: &Token<'_>, row: &Row) {
+    let (kind, octets, start, end, line) = *row;
+    assert_eq!(rt; token.kind, kind);
+    assert_eq!(rt; token.span, Span { start, end });
+    assert_eq!(rt; token.text, octets.as_bytes());
+    assert_eq!(rt; token.line, line);
+}
 
 #[test]
 fn tokens_spans_and_lines(rt: HostRuntime) -> Result<(), Fail> {
-    let text = b"A-b_9 x-- note --'0F'h -07..\n\"two\nlines\"::= :: '';";
-    let expected = [
-        (TokenKind::Upper, "A-b_9", 0, 5, 1),
-        (TokenKind::Lower, "x", 6, 7, 1),
-        (TokenKind::Hex, "'0F'h", 17, 22, 1),
-        (TokenKind::Number, "-07", 23, 26, 1),
-        (TokenKind::Range, "..", 26, 28, 1),
-        (TokenKind::Text, "\"two\nlines\"", 29, 40, 2),
-        (TokenKind::Assign, "::=", 40, 43, 3),
-        (TokenKind::Colon, ":", 44, 45, 3),
-        (TokenKind::Colon, ":", 45, 46, 3),
-    ];
-    let mut lexer = Lexer::new(text);
-    for (kind, octets, start, end, line) in expected {
+    let mut lexer = Lexer::new(MIXED);
+    for row in TOKENS {
         let Some(Ok(token)) = lexer.next() else {
             return Err("no token".into());
         };
-        assert_eq!(rt; token.kind, kind);
-        assert_eq!(rt; token.span, Span { start, end });
-        assert_eq!(rt; token.text, octets.as_bytes());
-        assert_eq!(rt; token.line, line);
+        assert_token(&rt, &token, row);
     }
     assert_eq!(rt; lexer.next(), Some(Err(LexError::BadByte { line: 3 })));
     assert_eq!(rt; lexer.next(), None);
     assert_eq!(rt; lexer.next(), None);
     Ok(())
+}
+
+/// Whether a text defines the name on this line.
+fn has_line(alloc: Global, text: &[u8], name: &str, line: usize) -> Result<bool, ParseError> {
+    let modules = parse_modules(alloc, text)?;
+    Ok(definition(&modules, name).is_some_and(|def| def.line == line))
 }
 
 #[test]
@@ -40,8 +64,7 @@ fn ends_of_lines_and_pages(rt: HostRuntime) -> Result<(), Fail> {
     let text =
         b"A DEFINITIONS ::= BEGIN\r\nIMPORTS a\r\nFROM B;\r\n\x0cx OBJECT IDENTIFIER ::= {\r\n\
         iso 1 }\r\nEND\r\n";
-    let modules = parse_modules(alloc, text)?;
-    assert!(rt; definition(&modules, "x").is_some_and(|def| def.line == 4));
+    assert!(rt; has_line(alloc, text, "x", 4)?);
     let rows = [
         (
             b"A\x0cDEFINITIONS\x0b::=\tBEGIN\x0cEND\x0c".as_slice(),
@@ -52,14 +75,12 @@ fn ends_of_lines_and_pages(rt: HostRuntime) -> Result<(), Fail> {
         (b"A DEFINITIONS ::= BEGIN\r\n;\r\nEND", syntax(2)),
         (b"-- a comment that a CR doesn't end \rA", None),
     ];
-    for (text, expected) in rows {
-        assert_eq!(rt; fault(alloc, text), expected);
-    }
+    assert_faults(&rt, alloc, &rows);
     Ok(())
 }
 
 #[test]
-fn comments(rt: HostRuntime) -> Result<(), Fail> {
+fn comments(rt: HostRuntime) {
     let alloc = rt.alloc();
     let rows = [
         (
@@ -89,14 +110,11 @@ fn comments(rt: HostRuntime) -> Result<(), Fail> {
         ),
         (b"A DEFINITIONS ::= BEGIN\n-- ---- END ----\n", Ok((1, 0))),
     ];
-    for (text, expected) in rows {
-        assert_eq!(rt; counts(alloc, text), expected);
-    }
-    Ok(())
+    assert_counts(&rt, alloc, &rows);
 }
 
 #[test]
-fn octets_that_begin_nothing(rt: HostRuntime) -> Result<(), Fail> {
+fn octets_that_begin_nothing(rt: HostRuntime) {
     let alloc = rt.alloc();
     let rows = [
         (b"\x00".as_slice(), bad_byte(1)),
@@ -137,34 +155,43 @@ fn octets_that_begin_nothing(rt: HostRuntime) -> Result<(), Fail> {
             bad_byte(2),
         ),
     ];
-    for (text, expected) in rows {
-        assert_eq!(rt; fault(alloc, text), expected);
-    }
-    // In a string any octet but its quote may stand.
-    let mut text = Vec::from_slice(alloc, b"A DEFINITIONS ::= BEGIN X ::= CHOICE { \"")?;
+    assert_faults(&rt, alloc, &rows);
+}
+
+/// Appends a module with a string in which each octet but its quote stands.
+fn put_any_string(text: &mut Vec<u8>) -> Result<(), AllocError> {
+    text.extend_from_slice(b"A DEFINITIONS ::= BEGIN X ::= CHOICE { \"")?;
     for octet in 0..=255u8 {
         if octet != b'"' {
             text.push(octet)?;
         }
     }
     text.extend_from_slice(b"\" } END")?;
-    assert_eq!(rt; counts(alloc, &text), Ok((1, 1)));
     Ok(())
 }
 
 #[test]
+fn octets_in_a_string(rt: HostRuntime) -> Result<(), Fail> {
+    let mut text = Vec::new(rt.alloc());
+    put_any_string(&mut text)?;
+    assert_eq!(rt; counts(rt.alloc(), &text), Ok((1, 1)));
+    Ok(())
+}
+
+/// Definitions with raw text, in which every sign may stand.
+const RAW: &[&str] = &[
+    "x MODULE-COMPLIANCE { } } ( [ ] < > , ; : | . = .. -5 'a'H '1'B \"\" a B END \
+        ::= { iso 1 }",
+    "X ::= CHOICE { ) ( ] [ < > , ; : | . = .. ::= { END } -5 'a'H '1'B \"\" a B }",
+    "OBJECT-TYPE MACRO ::= BEGIN } ( [ < > , ; : | . = .. ::= -5 'a'H '1'B \"\" a BEGIN END",
+];
+
+/// Signs that no definition begins with.
+const SIGNS: &[&str] = &["<", ">", ":", ".", "=", "|", ")", "]", "-1", "\"\"", "''H"];
+
+#[test]
 fn signs_that_only_raw_text_has(rt: HostRuntime) -> Result<(), Fail> {
-    let alloc = rt.alloc();
-    let raw = "x MODULE-COMPLIANCE { } } ( [ ] < > , ; : | . = .. -5 'a'H '1'B \"\" a B END \
-        ::= { iso 1 }";
-    assert_eq!(rt; fault_of(alloc, raw)?, None);
-    let raw = "X ::= CHOICE { ) ( ] [ < > , ; : | . = .. ::= { END } -5 'a'H '1'B \"\" a B }";
-    assert_eq!(rt; fault_of(alloc, raw)?, None);
-    let raw =
-        "OBJECT-TYPE MACRO ::= BEGIN } ( [ < > , ; : | . = .. ::= -5 'a'H '1'B \"\" a BEGIN END";
-    assert_eq!(rt; fault_of(alloc, raw)?, None);
-    for sign in ["<", ">", ":", ".", "=", "|", ")", "]", "-1", "\"\"", "''H"] {
-        assert_eq!(rt; fault_of(alloc, sign)?, syntax(2), "{sign}");
-    }
+    assert_fault_of_each(&rt, rt.alloc(), RAW, None)?;
+    assert_fault_of_each(&rt, rt.alloc(), SIGNS, syntax(2))?;
     Ok(())
 }

@@ -1,5 +1,5 @@
-//! Tests of the reading of module texts, through the public functions of `smi_text`. They are a
-//! separate crate so that the parser is proved only once.
+//! Tests of the reading of module texts, through the public functions of `smi_lexer` and
+//! `smi_text`. They are a separate crate so that the lexer and the parser are proved only once.
 #![tactic(auto)]
 
 #[cfg(test)]
@@ -8,6 +8,8 @@ mod faults;
 mod lexemes;
 #[cfg(test)]
 mod reading;
+#[cfg(test)]
+mod tokens;
 #[cfg(test)]
 mod trees;
 #[cfg(test)]

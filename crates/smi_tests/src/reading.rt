@@ -1,8 +1,8 @@
 //! Helpers of the tests: reading texts, and comparing what was read.
 
 use smi_text::{Def, LexError, Module, Name, ParseError, Text, TokenText, parse_modules};
-use std::alloc::Global;
-use std::test::Fail;
+use std::alloc::{AllocError, Global};
+use std::process::Abort;
 
 /// The fault of a text.
 pub(crate) fn fault(alloc: Global, text: &[u8]) -> Option<ParseError> {
@@ -24,24 +24,60 @@ pub(crate) fn open_string(line: usize) -> Option<ParseError> {
     Some(ParseError::Lex(LexError::OpenString { line }))
 }
 
+/// Asserts that texts have these faults.
+pub(crate) fn assert_faults(rt: &impl Abort, alloc: Global, rows: &[(&[u8], Option<ParseError>)]) {
+    for (text, expected) in rows {
+        assert_eq!(rt; fault(alloc, text), *expected);
+    }
+}
+
+/// The octets of pieces in turn.
+pub(crate) fn joined(alloc: Global, pieces: &[&[u8]]) -> Result<Vec<u8>, AllocError> {
+    let mut octets = Vec::new(alloc);
+    for piece in pieces {
+        octets.extend_from_slice(piece)?;
+    }
+    Ok(octets)
+}
+
+/// The fault of a text of pieces.
+pub(crate) fn fault_of_pieces(
+    alloc: Global,
+    pieces: &[&[u8]],
+) -> Result<Option<ParseError>, AllocError> {
+    let text = joined(alloc, pieces)?;
+    Ok(fault(alloc, &text))
+}
+
 /// The fault of a text of three pieces, the second of which is the whole second line.
 pub(crate) fn fault_in_line(
     alloc: Global,
     before: &[u8],
     piece: &str,
     after: &str,
-) -> Result<Option<ParseError>, Fail> {
-    let mut text = Vec::from_slice(alloc, before)?;
-    text.push(b'\n')?;
-    text.extend_from_slice(piece.as_bytes())?;
-    text.push(b'\n')?;
-    text.extend_from_slice(after.as_bytes())?;
-    Ok(fault(alloc, &text))
+) -> Result<Option<ParseError>, AllocError> {
+    fault_of_pieces(
+        alloc,
+        &[before, b"\n", piece.as_bytes(), b"\n", after.as_bytes()],
+    )
 }
 
 /// The fault of a definition between the first and the last line of a module: its line is 2.
-pub(crate) fn fault_of(alloc: Global, definition: &str) -> Result<Option<ParseError>, Fail> {
+pub(crate) fn fault_of(alloc: Global, definition: &str) -> Result<Option<ParseError>, AllocError> {
     fault_in_line(alloc, b"A DEFINITIONS ::= BEGIN", definition, "END\n")
+}
+
+/// Asserts that each of these definitions has this fault.
+pub(crate) fn assert_fault_of_each(
+    rt: &impl Abort,
+    alloc: Global,
+    definitions: &[&str],
+    expected: Option<ParseError>,
+) -> Result<(), AllocError> {
+    for text in definitions {
+        assert_eq!(rt; fault_of(alloc, text)?, expected, "{text}");
+    }
+    Ok(())
 }
 
 /// How many modules a text has, and how many definitions they have together.
@@ -52,6 +88,17 @@ pub(crate) fn counts(alloc: Global, text: &[u8]) -> Result<(usize, usize), Parse
         defs = defs.saturating_add(module.defs.len());
     }
     Ok((modules.len(), defs))
+}
+
+/// Asserts that texts have so many modules and definitions, or these faults.
+pub(crate) fn assert_counts(
+    rt: &impl Abort,
+    alloc: Global,
+    rows: &[(&[u8], Result<(usize, usize), ParseError>)],
+) {
+    for (text, expected) in rows {
+        assert_eq!(rt; counts(alloc, text), *expected);
+    }
 }
 
 /// Whether a text of the tree has these octets.

@@ -5,6 +5,7 @@ use smi_text::{
     Base, Def, DefKind, Index, Module, ModuleIdentity, ObjectType, Part, Range, Refinement, Status,
     Syntax, TextualConvention, TokenText, TypeAssignment, parse_modules,
 };
+use std::process::Abort;
 use std::test::Fail;
 
 #[test]
@@ -30,18 +31,28 @@ fn each_production_broken_off(rt: HostRuntime) -> Result<(), Fail> {
 #[test]
 fn each_production(rt: HostRuntime) -> Result<(), Fail> {
     let modules = parse_modules(rt.alloc(), ALL)?;
-    assert!(rt; has_heads(&modules), "heads");
-    for row in SHAPES {
-        assert!(rt; has_shape(&modules, row), "{row}");
-    }
-    assert_eq!(rt; has_identities(&modules), Some(true), "identities");
-    assert_eq!(rt; has_groups(&modules), Some(true), "groups");
-    assert_eq!(rt; has_objects(&modules), Some(true), "objects");
-    assert_eq!(rt; has_indexes(&modules), Some(true), "indexes");
-    assert_eq!(rt; has_conventions(&modules), Some(true), "conventions");
-    assert_eq!(rt; has_types(&modules), Some(true), "types");
-    assert_eq!(rt; has_raw_tokens(&modules), Some(true), "raw tokens");
+    assert_shapes(&rt, &modules);
+    assert_clauses(&rt, &modules);
     Ok(())
+}
+
+/// Asserts that modules have their heads, and each definition its shape.
+fn assert_shapes(rt: &impl Abort, modules: &[Module]) {
+    assert!(rt; has_heads(modules), "heads");
+    for row in SHAPES {
+        assert!(rt; has_shape(modules, row), "{row}");
+    }
+}
+
+/// Asserts that the definitions of modules have their clauses.
+fn assert_clauses(rt: &impl Abort, modules: &[Module]) {
+    assert_eq!(rt; has_identities(modules), Some(true), "identities");
+    assert_eq!(rt; has_groups(modules), Some(true), "groups");
+    assert_eq!(rt; has_objects(modules), Some(true), "objects");
+    assert_eq!(rt; has_indexes(modules), Some(true), "indexes");
+    assert_eq!(rt; has_conventions(modules), Some(true), "conventions");
+    assert_eq!(rt; has_types(modules), Some(true), "types");
+    assert_eq!(rt; has_raw_tokens(modules), Some(true), "raw tokens");
 }
 
 /// The name, line, kind and identifier value of each definition, with `@` between them.

@@ -1,7 +1,8 @@
 //! What a module defines and imports, and the values of its numbers and strings.
 
 use smi_module::{arc, bound, number};
-use smi_text::{Def, Part, TokenKind, parse_modules};
+use smi_text::{Def, Module, Part, TokenKind, parse_modules};
+use std::process::Abort;
 use std::test::Fail;
 
 /// A module with two imports of `a`, the later one from another module.
@@ -9,44 +10,61 @@ const LOOKED_UP: &[u8] = b"A DEFINITIONS ::= BEGIN IMPORTS a, b FROM M\nOBJECT-T
     x OBJECT IDENTIFIER ::= { a -0 b(7) }\nY ::= BITS\n\
     g OBJECT-GROUP OBJECTS { x } STATUS current DESCRIPTION \"d\" ::= { x 2 }\nEND\n";
 
+/// The name of an import, the module after FROM, and the line of the clause.
+type Imported = (&'static [u8], Option<(&'static [u8], usize)>);
+
+/// What the module imports, and names that it doesn't.
+const IMPORTED: &[Imported] = &[
+    (b"a", Some((b"M", 1))),
+    (b"b", Some((b"M", 1))),
+    (b"c", Some((b"N", 2))),
+    (b"OBJECT-TYPE", Some((b"N", 2))),
+    (b"x", None),
+    (b"", None),
+    (b"A", None),
+];
+
+/// The name of a definition, its line, and the words of its kind.
+type Defined = (&'static [u8], Option<(usize, &'static [u8])>);
+
+/// What the module defines, and names that it doesn't.
+const DEFINED: &[Defined] = &[
+    (b"x", Some((3, b"OBJECT IDENTIFIER"))),
+    (b"Y", Some((4, b""))),
+    (b"g", Some((5, b"OBJECT-GROUP"))),
+    (b"X", None),
+    (b"a", None),
+    (b"", None),
+];
+
+/// The module after FROM where a module imports a name, and the line of the clause.
+fn import_of<'a>(module: &'a Module, name: &[u8]) -> Option<(&'a [u8], usize)> {
+    let import = module.import(name)?;
+    Some((import.source.as_bytes(), import.line))
+}
+
+/// The line where a module defines a name, and the words of the kind.
+fn definition_of<'a>(module: &'a Module, name: &[u8]) -> Option<(usize, &'a [u8])> {
+    let def = module.define(name)?;
+    Some((def.line, def.kind_words()))
+}
+
 #[test]
 fn names_are_looked_up(rt: HostRuntime) -> Result<(), Fail> {
     let modules = parse_modules(rt.alloc(), LOOKED_UP)?;
     let module = modules.first().ok_or("no module")?;
-    // The module after FROM, and the line of the clause.
-    let rows = [
-        (b"a".as_slice(), Some((b"M".as_slice(), 1))),
-        (b"b", Some((b"M", 1))),
-        (b"c", Some((b"N", 2))),
-        (b"OBJECT-TYPE", Some((b"N", 2))),
-        (b"x", None),
-        (b"", None),
-        (b"A", None),
-    ];
-    for (name, expected) in rows {
-        let found = match module.import(name) {
-            Some(import) => Some((import.source.as_bytes(), import.line)),
-            None => None,
-        };
-        assert!(rt; found == expected);
-    }
-    // The line of the definition, and the words of its kind.
-    let rows = [
-        (b"x".as_slice(), Some((3, b"OBJECT IDENTIFIER".as_slice()))),
-        (b"Y", Some((4, b""))),
-        (b"g", Some((5, b"OBJECT-GROUP"))),
-        (b"X", None),
-        (b"a", None),
-        (b"", None),
-    ];
-    for (name, expected) in rows {
-        let found = match module.define(name) {
-            Some(def) => Some((def.line, def.kind_words())),
-            None => None,
-        };
-        assert!(rt; found == expected);
-    }
+    assert_names(&rt, module);
     Ok(())
+}
+
+/// Asserts that a module imports and defines these names and no others.
+fn assert_names(rt: &impl Abort, module: &Module) {
+    for (name, expected) in IMPORTED {
+        assert!(rt; import_of(module, name) == *expected);
+    }
+    for (name, expected) in DEFINED {
+        assert!(rt; definition_of(module, name) == *expected);
+    }
 }
 
 /// The parts of a definition's identifier value, none for a type.
@@ -61,6 +79,11 @@ fn parts_of(def: &Def) -> &[Part] {
 fn parts_have_numbers(rt: HostRuntime) -> Result<(), Fail> {
     let modules = parse_modules(rt.alloc(), LOOKED_UP)?;
     let module = modules.first().ok_or("no module")?;
+    assert_numbers(&rt, module)
+}
+
+/// Asserts that the parts of `x` have these numbers, and that `Y` has no parts.
+fn assert_numbers(rt: &impl Abort, module: &Module) -> Result<(), Fail> {
     let x = module.define(b"x").ok_or("no x")?;
     let [first, second, third] = parts_of(x) else {
         return Err("not three parts".into());
@@ -74,7 +97,7 @@ fn parts_have_numbers(rt: HostRuntime) -> Result<(), Fail> {
 }
 
 #[test]
-fn numbers_of_identifiers(rt: HostRuntime) -> Result<(), Fail> {
+fn numbers_of_identifiers(rt: HostRuntime) {
     let rows = [
         (b"0".as_slice(), Some(0)),
         (b"-0", Some(0)),
@@ -88,11 +111,10 @@ fn numbers_of_identifiers(rt: HostRuntime) -> Result<(), Fail> {
     for (text, expected) in rows {
         assert_eq!(rt; arc(text), expected);
     }
-    Ok(())
 }
 
 #[test]
-fn signed_numbers(rt: HostRuntime) -> Result<(), Fail> {
+fn signed_numbers(rt: HostRuntime) {
     let rows = [
         (b"-0".as_slice(), Some(0)),
         (b"-1", Some(-1)),
@@ -104,11 +126,10 @@ fn signed_numbers(rt: HostRuntime) -> Result<(), Fail> {
     for (text, expected) in rows {
         assert_eq!(rt; number(text), expected);
     }
-    Ok(())
 }
 
 #[test]
-fn ends_of_ranges(rt: HostRuntime) -> Result<(), Fail> {
+fn ends_of_ranges(rt: HostRuntime) {
     let rows = [
         (TokenKind::Number, b"-12".as_slice(), Some(-12)),
         (TokenKind::Hex, b"''H", Some(0)),
@@ -126,5 +147,4 @@ fn ends_of_ranges(rt: HostRuntime) -> Result<(), Fail> {
     for (kind, text, expected) in rows {
         assert_eq!(rt; bound(kind, text), expected);
     }
-    Ok(())
 }

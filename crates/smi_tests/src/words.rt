@@ -1,7 +1,8 @@
 //! Every reserved word in every place of the grammar: it is read only where the grammar has it.
 
-use crate::reading::{fault_in_line, syntax};
-use std::alloc::Global;
+use crate::reading::{fault_in_line, joined, syntax};
+use smi_text::ParseError;
+use std::alloc::{AllocError, Global};
 use std::test::Fail;
 
 /// The words of the grammar.
@@ -147,26 +148,45 @@ fn is_among_macros(word: &str) -> bool {
     false
 }
 
-/// The first word whose fault in a place after this head isn't the expected one.
-fn wrong_word(alloc: Global, head: &str, place: &str) -> Result<Option<&'static str>, Fail> {
-    let (before, rest) = place.split_once('@').unwrap_or(("", ""));
-    let (after, rest) = rest.split_once('@').unwrap_or(("", ""));
-    let (whole, further) = rest.split_once('@').unwrap_or(("", ""));
-    let mut front = Vec::from_slice(alloc, head.as_bytes())?;
-    front.extend_from_slice(before.as_bytes())?;
+/// What stands before the first `@`, and after it.
+fn cut(place: &str) -> (&str, &str) {
+    place.split_once('@').unwrap_or(("", ""))
+}
+
+/// The fault that a word should have in a place, by the last two pieces of the place.
+fn expected(whole: &str, further: &str, word: &str) -> Option<ParseError> {
+    if is_among(further, word) {
+        syntax(3)
+    } else if is_among(whole, word) {
+        None
+    } else {
+        syntax(2)
+    }
+}
+
+/// The first word whose fault between these texts isn't the one that the last two pieces of the
+/// place say.
+fn first_wrong(
+    alloc: Global,
+    front: &[u8],
+    after: &str,
+    words: &str,
+) -> Result<Option<&'static str>, AllocError> {
+    let (whole, further) = cut(words);
     for word in WORDS.split_whitespace() {
-        let expected = if is_among(further, word) {
-            syntax(3)
-        } else if is_among(whole, word) {
-            None
-        } else {
-            syntax(2)
-        };
-        if fault_in_line(alloc, &front, word, after)? != expected {
+        if fault_in_line(alloc, front, word, after)? != expected(whole, further, word) {
             return Ok(Some(word));
         }
     }
     Ok(None)
+}
+
+/// The first word whose fault in a place after this head isn't the expected one.
+fn wrong_word(alloc: Global, head: &str, place: &str) -> Result<Option<&'static str>, AllocError> {
+    let (before, rest) = cut(place);
+    let (after, words) = cut(rest);
+    let front = joined(alloc, &[head.as_bytes(), before.as_bytes()])?;
+    first_wrong(alloc, &front, after, words)
 }
 
 #[test]

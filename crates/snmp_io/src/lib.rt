@@ -11,6 +11,3 @@ mod output;
 pub use files::{FileFault, Files};
 pub use machine::{MachineFiles, MachineOutput, ReadError, read_whole};
 pub use output::{Output, OutputFault, write_all};
-
-#[cfg(test)]
-mod tests;

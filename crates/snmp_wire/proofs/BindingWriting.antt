@@ -1,5 +1,5 @@
 -- Bindings: how long they are, and how they are written.
-use Rattle.std.proofs.Common.{◌≡◌, ℕ, ◌+◌, ◌-◌, ◌<◌, ◌≤◌, List, [], ◌∷◌, ◌++◌, length, drop, get_or, refl, sym, ap, subst, ◌∙◌, arith, length-append}
+use Rattle.std.proofs.Common.{◌≡◌, ℕ, ◌+◌, ◌-◌, ◌<◌, ◌≤◌, List, [], ◌∷◌, ◌++◌, length, drop, refl, sym, ap, subst, ◌∙◌, arith, length-append}
 use Rattle.std.specs.List.{flat_map}
 use Rattle.snmp_wire.specs.declared.binding.Binding.{Binding}
 use Rattle.snmp_wire.specs.Canon.{canon_binding, canon_bindings}
@@ -84,17 +84,3 @@ pub bindings_are : (bindings : List Binding) → flat_map binding_octets binding
 unfolding canon_bindings
 bindings_are [] = refl
 bindings_are (binding ∷ more) = ap (λ rest. canon_binding (var_bind binding) ++ rest) (bindings_are more)
-
--- a single binding is short
-pub one_binding : (bindings : List Binding) (binding : Binding) (size : ℕ) → length bindings ≡ 1 → binding ≡ get_or bindings 0 binding
-    → size ≡ length (canon_binding (var_bind binding)) → size ≤ 70000 → length (canon_bindings (var_binds bindings)) ≤ 4000000000
-unfolding canon_bindings
-one_binding [] binding size one is e short = omega arith
-one_binding (x ∷ []) binding size one is e short = omega (
-  arith,
-  ap (λ b. length (canon_binding (var_bind b))) is,
-  e,
-  short,
-  length-append (canon_binding (var_bind x)) [],
-)
-one_binding (x ∷ y ∷ more) binding size one is e short = omega arith

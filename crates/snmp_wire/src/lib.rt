@@ -18,8 +18,3 @@ pub use laws::{
 pub use message::{MAX_DATAGRAM, MessageRef, Parts, decode, encode, encode_head, head_size, size};
 pub use snmp_ber::{BerError, OctetString, Value, ValueRef};
 pub use snmp_oid::{Oid, OidError, OidTextError, parse_numeric, write_numeric};
-
-#[cfg(test)]
-mod encode_tests;
-#[cfg(test)]
-mod tests;

@@ -1,12 +1,12 @@
-//! Written messages against octets that were worked out by hand.
-
+//! Messages and bindings as they are written, against octets that were worked out by hand.
 ghost use Rattle.std.specs.Prelude.{IsTrue, All, ◌≡◌, ◌≤◌, length};
 ghost use Rattle.snmp_wire.specs.Canon.{IsEncodable, canon_bindings};
 ghost use Rattle.snmp_ber.specs.Canon.{IsEncodableValue};
 ghost use Rattle.snmp_ber.specs.Value.{datum};
 ghost use Rattle.snmp_wire.specs.Message.{var_bind, var_binds};
 
-use crate::{
+use crate::recorded::{REQUEST, RESPONSE};
+use snmp_wire::{
     Binding, Kind, MessageRef, Oid, Parts, ValueRef, binding_size, decode, encode, encode_binding,
     size,
 };
@@ -31,20 +31,6 @@ fn message<'a>(kind: Kind, b: i32, bindings: &'a [Binding<'a>]) -> Parts<'a>
 /// sysName.0, 1.3.6.1.2.1.1.5.0.
 const NAME: [u32; 9] = [1, 3, 6, 1, 2, 1, 1, 5, 0];
 
-/// The Get of sysName.0.
-const REQUEST: [u8; 40] = [
-    0x30, 0x26, 0x02, 0x01, 0x01, 0x04, 0x06, 0x70, 0x75, 0x62, 0x6C, 0x69, 0x63, 0xA0, 0x19, 0x02,
-    0x01, 0x01, 0x02, 0x01, 0x00, 0x02, 0x01, 0x00, 0x30, 0x0E, 0x30, 0x0C, 0x06, 0x08, 0x2B, 0x06,
-    0x01, 0x02, 0x01, 0x01, 0x05, 0x00, 0x05, 0x00,
-];
-
-/// Its Response, with the string `wes`.
-const RESPONSE: [u8; 43] = [
-    0x30, 0x29, 0x02, 0x01, 0x01, 0x04, 0x06, 0x70, 0x75, 0x62, 0x6C, 0x69, 0x63, 0xA2, 0x1C, 0x02,
-    0x01, 0x01, 0x02, 0x01, 0x00, 0x02, 0x01, 0x00, 0x30, 0x11, 0x30, 0x0F, 0x06, 0x08, 0x2B, 0x06,
-    0x01, 0x02, 0x01, 0x01, 0x05, 0x00, 0x04, 0x03, 0x77, 0x65, 0x73,
-];
-
 /// The GetBulk of 1.3.6.1.4.1.32473.1 with 10 repetitions.
 const BULK: [u8; 41] = [
     0x30, 0x27, 0x02, 0x01, 0x01, 0x04, 0x06, 0x70, 0x75, 0x62, 0x6C, 0x69, 0x63, 0xA5, 0x1A, 0x02,
@@ -68,18 +54,29 @@ fn binding<'a>(rt: &impl Abort, name: &[u32], value: ValueRef<'a>) -> Binding<'a
     ensures { IsEncodable (var_bind result) }
 {
     let name = Oid::from_slice(name).expect(rt, "at most 128 numbers");
-    assert!(rt; name.is_wire());
-    assert!(rt; is_encodable(&value));
-    Binding { name, value }
+    let binding = Binding { name, value };
+    assert_encodable(rt, &binding);
+    binding
 }
 
-/// How many octets one binding takes: not too many for a message.
+/// Asserts that a binding has an encoding.
+fn assert_encodable(rt: &impl Abort, binding: &Binding<'_>)
+    ensures { IsEncodable (var_bind binding.now) }
+{
+    assert!(rt; binding.name.is_wire());
+    assert!(rt; is_encodable(&binding.value));
+}
+
+/// How many octets at most one binding takes: not too many for a message.
 fn octets_of(bindings: &[Binding<'_>]) -> u64
-    requires one { length bindings.now ≡ 1 }
+    requires at_most_one { length bindings.now ≤ 1 }
     requires encodable { All (λ b. IsEncodable (var_bind b)) bindings.now }
     ensures { length (canon_bindings (var_binds bindings.now)) ≤ 4000000000 }
 {
-    binding_size(&bindings[0])
+    match bindings {
+        [] => 0,
+        [binding, ..] => binding_size(binding),
+    }
 }
 
 /// Whether the message of this one binding is these octets: in a slice that is longer, in one that
@@ -89,19 +86,44 @@ fn assert_message(rt: &impl Abort, kind: Kind, b: i32, binding: Binding<'_>, oct
 {
     let bindings = [binding];
     assert!(rt; octets_of(&bindings) < 512);
-    let parts = message(kind, b, &bindings);
+    assert_parts(rt, &message(kind, b, &bindings), octets);
+}
+
+/// Whether each octet is as it was before something was written.
+fn is_untouched(out: &[u8]) -> bool {
+    out.iter().all(|octet| *octet == 0xEE)
+}
+
+/// Writes the message of these parts to the front of a slice, and asserts that it is these octets
+/// and that what stands after them stays.
+fn assert_put(rt: &impl Abort, parts: &Parts<'_>, out: &mut [u8], octets: &[u8])
+    requires community { length parts.now.community.now ≤ 65535 }
+    requires bindings { All (λ b. IsEncodable (var_bind b)) parts.now.bindings.now }
+    requires total { length (canon_bindings (var_binds parts.now.bindings.now)) ≤ 4000000000 }
+{
     let len = octets.len();
+    assert_eq!(rt; encode(parts, out), Some(len));
+    assert!(rt; len <= out.len());
+    let (front, rest) = out.split_at(len);
+    assert_eq!(rt; front, octets);
+    assert!(rt; is_untouched(rest));
+}
+
+/// The same of the message of these parts.
+fn assert_parts(rt: &impl Abort, parts: &Parts<'_>, octets: &[u8])
+    requires community { length parts.now.community.now ≤ 65535 }
+    requires bindings { All (λ b. IsEncodable (var_bind b)) parts.now.bindings.now }
+    requires total { length (canon_bindings (var_binds parts.now.bindings.now)) ≤ 4000000000 }
+{
+    let len = octets.len();
+    assert!(rt; 0 < len && len < 512);
+    assert_eq!(rt; size(parts), len as u64);
     let mut out = [0xEE; 512];
-    assert!(rt; 0 < len && len < out.len());
-    assert_eq!(rt; size(&parts), len as u64);
-    assert_eq!(rt; encode(&parts, &mut out[..len - 1]), None);
-    assert!(rt; out.iter().all(|octet| *octet == 0xEE));
-    assert_eq!(rt; encode(&parts, &mut out[..len]), Some(len));
-    assert_eq!(rt; &out[..len], octets);
+    assert_eq!(rt; encode(parts, &mut out[..len - 1]), None);
+    assert!(rt; is_untouched(&out));
+    assert_put(rt, parts, &mut out[..len], octets);
     let mut out = [0xEE; 512];
-    assert_eq!(rt; encode(&parts, &mut out), Some(len));
-    assert_eq!(rt; &out[..len], octets);
-    assert!(rt; out[len..].iter().all(|octet| *octet == 0xEE));
+    assert_put(rt, parts, &mut out, octets);
 }
 
 #[test]
@@ -124,20 +146,33 @@ fn a_bulk_request(rt: HostRuntime) {
 
 /// Whether the value of a binding of the name 1.3 is these octets.
 fn assert_value(rt: &impl Abort, value: ValueRef<'_>, octets: &[u8]) {
-    let binding = binding(rt, &[1, 3], value);
+    assert_binding(rt, &binding(rt, &[1, 3], value), octets);
+}
+
+/// Whether the value of this binding of the name 1.3 is these octets.
+fn assert_binding(rt: &impl Abort, binding: &Binding<'_>, octets: &[u8])
+    requires { IsEncodable (var_bind binding.now) }
+{
     let mut out = [0xEE; 1024];
     let len = octets.len();
     assert!(rt; len < 100);
-    assert_eq!(rt; binding_size(&binding), (len + 5) as u64);
-    assert_eq!(rt; encode_binding(&binding, &mut out[..len + 4]), None);
-    assert!(rt; out.iter().all(|octet| *octet == 0xEE));
-    assert_eq!(rt; encode_binding(&binding, &mut out), Some(len + 5));
-    assert_eq!(rt;
-        &out[..5],
-        [0x30, (len + 3) as u8, 0x06, 0x01, 0x2B].as_slice()
-    );
-    assert_eq!(rt; &out[5..len + 5], octets);
-    assert!(rt; out[len + 5..].iter().all(|octet| *octet == 0xEE));
+    assert_eq!(rt; binding_size(binding), (len + 5) as u64);
+    assert_eq!(rt; encode_binding(binding, &mut out[..len + 4]), None);
+    assert!(rt; is_untouched(&out));
+    assert_eq!(rt; encode_binding(binding, &mut out), Some(len + 5));
+    assert_put_value(rt, &out, octets);
+}
+
+/// Asserts that a binding of the name 1.3 and a value of these octets stands at the front, and that
+/// what stands after it stays.
+fn assert_put_value(rt: &impl Abort, out: &[u8], octets: &[u8]) {
+    let len = octets.len();
+    assert!(rt; len < 100 && len + 5 <= out.len());
+    let (front, rest) = out.split_at(len + 5);
+    let (head, value) = front.split_at(5);
+    assert_eq!(rt; head, [0x30, (len + 3) as u8, 0x06, 0x01, 0x2B].as_slice());
+    assert_eq!(rt; value, octets);
+    assert!(rt; is_untouched(rest));
 }
 
 #[test]
@@ -216,17 +251,11 @@ fn the_longest_name(rt: HostRuntime) {
     );
 }
 
-/// Writes a message of these bindings to the front of `out`, and returns its length.
-fn write_again<'a>(
-    rt: &impl Abort,
-    message: &MessageRef<'a>,
-    bindings: &'a [Binding<'a>],
-    out: &mut [u8],
-) -> usize
-    requires bindings { All (λ b. IsEncodable (var_bind b)) bindings.now }
-    requires total { length (canon_bindings (var_binds bindings.now)) ≤ 4000000000 }
+/// The parts of a message with these bindings.
+fn parts_of<'a>(message: &MessageRef<'a>, bindings: &'a [Binding<'a>]) -> Parts<'a>
+    ensures { result.bindings.now ≡ bindings.now }
 {
-    let parts = Parts {
+    Parts {
         version: message.version(),
         community: message.community(),
         kind: message.kind(),
@@ -234,7 +263,21 @@ fn write_again<'a>(
         a: message.a(),
         b: message.b(),
         bindings,
-    };
+    }
+}
+
+/// Writes a message with at most one binding to the front of `out`, and returns its length.
+fn write_again<'a>(
+    rt: &impl Abort,
+    message: &MessageRef<'a>,
+    bindings: &'a [Binding<'a>],
+    out: &mut [u8],
+) -> usize
+    requires at_most_one { length bindings.now ≤ 1 }
+    requires bindings { All (λ b. IsEncodable (var_bind b)) bindings.now }
+{
+    assert!(rt; octets_of(bindings) < 512);
+    let parts = parts_of(message, bindings);
     assert!(rt; parts.community.len() <= 65535);
     let Some(len) = encode(&parts, out) else {
         panic!(rt; "there is room")
@@ -258,36 +301,44 @@ fn what_is_read_is_written(rt: HostRuntime) {
     }
 }
 
-/// Asserts that a message of at most one binding is written, and that what is written is read as
-/// the same: it is written in the same way again.
-fn assert_written(rt: &impl Abort, message: &MessageRef<'_>) {
-    let mut first = [0; 512];
-    let len = write_all(rt, message, &mut first);
-    assert!(rt; len <= first.len());
-    let Ok(again) = decode(&first[..len]) else {
-        panic!(rt; "it spells a message")
-    };
+/// Asserts that the heads of messages are the same.
+fn assert_same_head(rt: &impl Abort, again: &MessageRef<'_>, message: &MessageRef<'_>) {
     assert_eq!(rt; again.version(), message.version());
     assert_eq!(rt; again.kind(), message.kind());
     assert_eq!(rt; again.id(), message.id());
-    assert_eq!(rt; (again.a(), again.b()), (message.a(), message.b()));
-    let mut second = [0; 512];
-    let again_len = write_all(rt, &again, &mut second);
-    assert!(rt; again_len <= second.len());
-    assert_eq!(rt; &second[..again_len], &first[..len]);
+    assert_eq!(rt; [again.a(), again.b()], [message.a(), message.b()]);
+}
+
+/// Asserts that a message of at most one binding is written as these octets.
+fn assert_written_as(rt: &impl Abort, message: &MessageRef<'_>, octets: &[u8]) {
+    let mut out = [0; 512];
+    let len = write_all(rt, message, &mut out);
+    assert!(rt; len <= out.len());
+    assert_eq!(rt; &out[..len], octets);
+}
+
+/// Asserts that a message of at most one binding is written, and that what is written is read as
+/// the same: it is written in the same way again.
+fn assert_written(rt: &impl Abort, message: &MessageRef<'_>) {
+    let mut out = [0; 512];
+    let len = write_all(rt, message, &mut out);
+    assert!(rt; len <= out.len());
+    let octets = &out[..len];
+    let Ok(again) = decode(octets) else {
+        panic!(rt; "it spells a message")
+    };
+    assert_same_head(rt, &again, message);
+    assert_written_as(rt, &again, octets);
 }
 
 /// Writes a message of at most one binding to the front of `out`, and returns its length.
-#[tactic(auto, unfolding(crate::specs::Canon::canon_bindings))]
 fn write_all(rt: &impl Abort, message: &MessageRef<'_>, out: &mut [u8]) -> usize {
     let mut bindings = message.bindings();
     let Some(binding) = bindings.next() else {
         return write_again(rt, message, &[], out);
     };
     assert!(rt; bindings.next().is_none());
-    assert!(rt; binding.name.is_wire());
-    assert!(rt; is_encodable(&binding.value));
+    assert_encodable(rt, &binding);
     let one = [binding];
-    assert!(rt; octets_of(&one) < 512);
     write_again(rt, message, &one, out)
 }

@@ -1,11 +1,10 @@
 //! Texts with their tokens and faults, written by hand from the standard.
 
-use super::*;
-use crate::token::TokenKind;
-use crate::token::TokenKind::{
+use smi_lexer::TokenKind::{
     Assign, Binary, CloseBrace, CloseParen, Colon, Dot, Hex, Lower, Number, OpenBrace, OpenParen,
     Range, Text, Upper,
 };
+use smi_lexer::{LexError, Lexer, TokenKind};
 use std::process::Abort;
 
 /// A token's kind, text and line.

@@ -1,0 +1,14 @@
+//! Tests of identifiers and messages: their order and their texts, and recorded messages, read and
+//! written. They are a separate crate so that the layers below are proved only once.
+#![tactic(auto)]
+
+#[cfg(test)]
+mod decoding;
+#[cfg(test)]
+mod encoding;
+#[cfg(test)]
+mod identifiers;
+#[cfg(test)]
+mod recorded;
+#[cfg(test)]
+mod texts;
