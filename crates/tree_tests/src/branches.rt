@@ -2,7 +2,9 @@
 
 use crate::reading::oid;
 use smi_branches::Identifiers;
+use snmp_oid::Oid;
 use std::alloc::Global;
+use std::process::Abort;
 use std::test::Fail;
 
 /// `1.3.6` stands at two places, `1.3.6.1` at three.
@@ -27,71 +29,97 @@ fn identifiers(alloc: Global) -> Result<Identifiers, Fail> {
     Ok(Identifiers::new(alloc, oids)?)
 }
 
+static FIRST: [(&str, Option<usize>); 10] = [
+    ("1", Some(0)),
+    ("1.3", None),
+    ("1.3.6", Some(1)),
+    ("1.3.6.1", Some(3)),
+    ("1.3.6.10", Some(2)),
+    ("1.3.6.3", None),
+    ("1.3.6.1.1", None),
+    ("2", None),
+    ("2.5.1", Some(9)),
+    ("3", None),
+];
+
 #[test]
 fn the_first_place_is_found(rt: HostRuntime) -> Result<(), Fail> {
     let identifiers = identifiers(rt.alloc())?;
-    assert_eq!(rt; identifiers.len(), 10);
-    let rows = [
-        ("1", Some(0)),
-        ("1.3", None),
-        ("1.3.6", Some(1)),
-        ("1.3.6.1", Some(3)),
-        ("1.3.6.10", Some(2)),
-        ("1.3.6.3", None),
-        ("1.3.6.1.1", None),
-        ("2", None),
-        ("2.5.1", Some(9)),
-        ("3", None),
-    ];
-    for (text, expected) in rows {
-        assert_eq!(rt; identifiers.find(&oid(text)?), expected, "{text}");
+    assert_first(&rt, &identifiers)
+}
+
+fn assert_first(rt: &impl Abort, identifiers: &Identifiers) -> Result<(), Fail> {
+    assert!(rt; identifiers.len() == 10);
+    for (text, expected) in &FIRST {
+        assert!(rt; identifiers.find(&oid(text)?) == *expected, "{text}");
     }
     Ok(())
 }
+
+/// The deepest place on the way to an identifier, and its depth.
+static DEEPEST: [(&str, Option<(usize, usize)>); 10] = [
+    ("1", Some((0, 1))),
+    ("1.3", Some((0, 1))),
+    ("1.4.6.1", Some((0, 1))),
+    ("1.3.6", Some((1, 3))),
+    ("1.3.6.3.1", Some((1, 3))),
+    ("1.3.6.1", Some((3, 4))),
+    ("1.3.6.10.0.0", Some((2, 4))),
+    ("2.5", None),
+    ("2.5.1.0", Some((9, 3))),
+    ("0", None),
+];
 
 #[test]
 fn the_longest_beginning_is_deepest(rt: HostRuntime) -> Result<(), Fail> {
     let identifiers = identifiers(rt.alloc())?;
-    let rows = [
-        ("1", Some((0, 1))),
-        ("1.3", Some((0, 1))),
-        ("1.4.6.1", Some((0, 1))),
-        ("1.3.6", Some((1, 3))),
-        ("1.3.6.3.1", Some((1, 3))),
-        ("1.3.6.1", Some((3, 4))),
-        ("1.3.6.10.0.0", Some((2, 4))),
-        ("2.5", None),
-        ("2.5.1.0", Some((9, 3))),
-        ("0", None),
-    ];
-    for (text, expected) in rows {
-        let found = match identifiers.deepest(&oid(text)?) {
-            Some(deepest) => Some((deepest.place, deepest.depth)),
-            None => None,
-        };
-        assert!(rt; found == expected, "{text}");
+    assert_deepest(&rt, &identifiers)
+}
+
+fn assert_deepest(rt: &impl Abort, identifiers: &Identifiers) -> Result<(), Fail> {
+    for (text, expected) in &DEEPEST {
+        assert!(rt; deepest(identifiers, text)? == *expected, "{text}");
     }
     Ok(())
 }
 
+fn deepest(identifiers: &Identifiers, text: &str) -> Result<Option<(usize, usize)>, Fail> {
+    Ok(match identifiers.deepest(&oid(text)?) {
+        Some(deepest) => Some((deepest.place, deepest.depth)),
+        None => None,
+    })
+}
+
+static CHILDREN: [(&str, &[usize]); 6] = [
+    ("1.3.6", &[3, 6, 2, 7]),
+    ("1.3", &[1]),
+    ("1", &[]),
+    ("1.3.6.1", &[]),
+    ("2.5", &[9]),
+    ("1.3.7", &[]),
+];
+
 #[test]
 fn children_come_in_order(rt: HostRuntime) -> Result<(), Fail> {
-    let alloc = rt.alloc();
-    let identifiers = identifiers(alloc)?;
-    let rows = [
-        ("1.3.6", [3, 6, 2, 7].as_slice()),
-        ("1.3", &[1]),
-        ("1", &[]),
-        ("1.3.6.1", &[]),
-        ("2.5", &[9]),
-        ("1.3.7", &[]),
-    ];
-    for (text, expected) in rows {
-        let mut places = Vec::new(alloc);
-        for place in identifiers.children(&oid(text)?) {
-            places.push(place)?;
-        }
-        assert!(rt; places.as_slice() == expected, "{text}");
+    let identifiers = identifiers(rt.alloc())?;
+    assert_children(&rt, &identifiers)
+}
+
+fn assert_children(rt: &impl Abort, identifiers: &Identifiers) -> Result<(), Fail> {
+    for (text, expected) in &CHILDREN {
+        assert!(rt; has_children(identifiers, &oid(text)?, expected), "{text}");
     }
     Ok(())
+}
+
+/// Whether the children of an identifier are at these places, in order.
+fn has_children(identifiers: &Identifiers, oid: &Oid, expected: &[usize]) -> bool {
+    let mut left = expected;
+    for place in identifiers.children(oid) {
+        match left {
+            [first, rest @ ..] if *first == place => left = rest,
+            _ => return false,
+        }
+    }
+    left.is_empty()
 }

@@ -3,6 +3,7 @@
 use crate::reading::comes_to;
 use smi_links::{Basis, Resolution, ordered, resolutions};
 use std::alloc::Global;
+use std::process::Abort;
 use std::test::Fail;
 
 const MANY: usize = 40_000;
@@ -43,70 +44,102 @@ fn count_of(resolutions: &[Resolution], expected: &str) -> usize {
     count
 }
 
+/// How many of the places of these bases resolve to this.
+fn count(alloc: Global, bases: &[Basis], expected: &str) -> Result<usize, Fail> {
+    let resolutions = resolutions(alloc, bases)?;
+    Ok(count_of(&resolutions, expected))
+}
+
 #[test]
 fn long_chains_end(rt: HostRuntime) -> Result<(), Fail> {
     let alloc = rt.alloc();
-    let down = resolutions(alloc, &falling(alloc, MANY, &[])?)?;
-    assert_eq!(rt; count_of(&down, "1"), MANY);
+    assert!(rt; count(alloc, &falling(alloc, MANY, &[])?, "1")? == MANY);
     // The last place leads beyond itself, to a place with numbers of its own.
+    assert!(rt; count(alloc, &rising_to_numbers(alloc)?, "1.3")? == MANY + 1);
+    // Without that place it leads nowhere.
+    assert!(rt; count(alloc, &rising(alloc, MANY, MANY)?, "unresolved")? == MANY);
+    Ok(())
+}
+
+/// Places each of which leads to the one after it, the last of which has the numbers 1 and 3.
+fn rising_to_numbers(alloc: Global) -> Result<Vec<Basis>, Fail> {
     let mut bases = rising(alloc, MANY, MANY)?;
     bases.push(Basis::Numbers(Vec::from_slice(alloc, &[1, 3])?))?;
-    let up = resolutions(alloc, &bases)?;
-    assert_eq!(rt; count_of(&up, "1.3"), MANY + 1);
-    // Without that place it leads nowhere.
-    let up = resolutions(alloc, &rising(alloc, MANY, MANY)?)?;
-    assert_eq!(rt; count_of(&up, "unresolved"), MANY);
-    Ok(())
+    Ok(bases)
 }
 
 #[test]
 fn rings_have_no_end(rt: HostRuntime) -> Result<(), Fail> {
     let alloc = rt.alloc();
-    let ring = resolutions(alloc, &rising(alloc, MANY, 0)?)?;
-    assert_eq!(rt; count_of(&ring, "cycle"), MANY);
-    // A place of its own leads to itself, another leads into the ring, and one stands apart.
+    assert!(rt; count(alloc, &rising(alloc, MANY, 0)?, "cycle")? == MANY);
+    let bases = ring_and_others(alloc)?;
+    let led = resolutions(alloc, &bases)?;
+    assert_ring_and_others(&rt, &led);
+    Ok(())
+}
+
+/// A ring of places after others that lead into it; then a place of its own that leads to itself,
+/// another that leads into the ring, and two that stand apart.
+fn ring_and_others(alloc: Global) -> Result<Vec<Basis>, Fail> {
     let mut bases = rising(alloc, 1000, 500)?;
+    push_others(alloc, &mut bases)?;
+    Ok(bases)
+}
+
+fn push_others(alloc: Global, bases: &mut Vec<Basis>) -> Result<(), Fail> {
     bases.push(after(alloc, 1000, &[1])?)?;
     bases.push(after(alloc, 0, &[1])?)?;
     bases.push(Basis::Numbers(Vec::from_slice(alloc, &[2])?))?;
     bases.push(Basis::Nowhere)?;
-    let led = resolutions(alloc, &bases)?;
-    assert_eq!(rt; count_of(&led, "cycle"), 1002);
-    assert_eq!(rt; count_of(&led, "2"), 1);
-    assert_eq!(rt; count_of(&led, "unresolved"), 1);
     Ok(())
+}
+
+fn assert_ring_and_others(rt: &impl Abort, led: &[Resolution]) {
+    assert!(rt; count_of(led, "cycle") == 1002);
+    assert!(rt; count_of(led, "2") == 1);
+    assert!(rt; count_of(led, "unresolved") == 1);
 }
 
 #[test]
 fn numbers_come_along_a_chain(rt: HostRuntime) -> Result<(), Fail> {
-    let alloc = rt.alloc();
-    let chain = resolutions(alloc, &falling(alloc, 200, &[7])?)?;
+    let bases = falling(rt.alloc(), 200, &[7])?;
+    let chain = resolutions(rt.alloc(), &bases)?;
+    assert_chain(&rt, &chain);
+    Ok(())
+}
+
+fn assert_chain(rt: &impl Abort, chain: &[Resolution]) {
     assert!(rt; comes_to(chain.get(0), "1"));
     assert!(rt; comes_to(chain.get(3), "1.7.7.7"));
     // The place at 127 has 128 numbers.
-    assert_eq!(rt; count_of(&chain, "too long"), 200 - 128);
+    assert!(rt; count_of(chain, "too long") == 200 - 128);
     assert!(rt; comes_to(chain.get(128), "too long"));
-    let Some(Resolution::Numbers(longest)) = chain.get(127) else {
-        return Err("no identifier of 128 numbers")?;
-    };
-    assert_eq!(rt; longest.len(), 128);
-    Ok(())
+    assert!(rt; has_numbers(chain.get(127), 128));
+}
+
+/// Whether a place resolves to this many numbers.
+fn has_numbers(resolution: Option<&Resolution>, count: usize) -> bool {
+    match resolution {
+        Some(Resolution::Numbers(numbers)) => numbers.len() == count,
+        _ => false,
+    }
 }
 
 #[test]
 fn each_place_comes_after_the_one_it_leads_to(rt: HostRuntime) -> Result<(), Fail> {
-    // Places 1, 4 and 5 stand on a ring or lead into one.
-    let next = [
-        Some(3),
-        Some(4),
-        None,
-        Some(2),
-        Some(1),
-        Some(1),
-        Some(9),
-        Some(0),
-    ];
-    let order = ordered(rt.alloc(), &next)?;
+    let order = ordered(rt.alloc(), &NEXT)?;
     assert!(rt; order.as_slice() == [2, 3, 0, 6, 7].as_slice());
     Ok(())
 }
+
+/// The place that each place leads to: 1, 4 and 5 stand on a ring or lead into one.
+static NEXT: [Option<usize>; 8] = [
+    Some(3),
+    Some(4),
+    None,
+    Some(2),
+    Some(1),
+    Some(1),
+    Some(9),
+    Some(0),
+];

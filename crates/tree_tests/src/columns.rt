@@ -1,5 +1,7 @@
 //! The indexes of columns: by INDEX and AUGMENTS of their rows, over each base type.
 
+ghost use Rattle.std.specs.Prelude.{◌≡◌};
+
 use crate::reading::TINY;
 use smi_branches::Identifiers;
 use smi_columns::Indexes;
@@ -56,49 +58,96 @@ fn is_index(found: Option<&[IndexPart]>, expected: Option<&[IndexPart]>) -> bool
     }
 }
 
-/// The first row whose node has another index over the modules of a text, or isn't there.
-fn wrong_row(alloc: Global, text: &[u8], rows: &[Row<'_>]) -> Result<Option<usize>, Fail> {
-    let modules = parse_modules(alloc, text)?;
-    let names = Names::new(alloc, &modules)?;
-    let types = Types::new(alloc, &names, &modules)?;
-    let Gathered { sources, oids, .. } = nodes(alloc, &names, &modules)?;
-    let identifiers = Identifiers::new(alloc, oids)?;
-    if sources.len() != identifiers.len() {
-        return Err("a node without an identifier")?;
-    }
-    let indexes = Indexes::new(alloc, &names, &modules, &types, &sources, &identifiers)?;
+/// The first row whose node has another index, or isn't there.
+fn first_wrong(
+    modules: &[Module],
+    sources: &[Source],
+    indexes: &Indexes,
+    rows: &[Row<'_>],
+) -> Option<usize> {
     for (k, (label, expected)) in rows.iter().enumerate() {
-        let found = match place_of(&modules, &sources, label) {
+        let found = match place_of(modules, sources, label) {
             Some(place) => is_index(indexes.get(place), *expected),
             None => false,
         };
         if !found {
-            return Ok(Some(k));
+            return Some(k);
         }
     }
-    Ok(None)
+    None
+}
+
+/// The first wrong row over the modules of a text.
+fn wrong_row(alloc: Global, text: &[u8], rows: &[Row<'_>]) -> Result<Option<usize>, Fail> {
+    let modules = parse_modules(alloc, text)?;
+    wrong_row_of(alloc, &modules, rows)
+}
+
+fn wrong_row_of(
+    alloc: Global,
+    modules: &[Module],
+    rows: &[Row<'_>],
+) -> Result<Option<usize>, Fail> {
+    let names = Names::new(alloc, modules)?;
+    wrong_row_by(alloc, &names, modules, rows)
+}
+
+fn wrong_row_by<'a>(
+    alloc: Global,
+    names: &Names<'a>,
+    modules: &'a [Module],
+    rows: &[Row<'_>],
+) -> Result<Option<usize>, Fail>
+    requires { names.now ≡ modules.now }
+{
+    let Gathered { sources, oids, .. } = nodes(alloc, names, modules)?;
+    wrong_row_among(
+        alloc,
+        names,
+        modules,
+        &sources,
+        &Identifiers::new(alloc, oids)?,
+        rows,
+    )
+}
+
+fn wrong_row_among<'a>(
+    alloc: Global,
+    names: &Names<'a>,
+    modules: &'a [Module],
+    sources: &[Source],
+    identifiers: &Identifiers,
+    rows: &[Row<'_>],
+) -> Result<Option<usize>, Fail>
+    requires { names.now ≡ modules.now }
+{
+    if sources.len() != identifiers.len() {
+        return Err("a node without an identifier")?;
+    }
+    let types = Types::new(alloc, names, modules)?;
+    let indexes = Indexes::new(alloc, names, modules, &types, sources, identifiers)?;
+    Ok(first_wrong(modules, sources, &indexes, rows))
 }
 
 #[test]
 fn columns_of_a_table(rt: HostRuntime) -> Result<(), Fail> {
-    let text = [TEXT];
-    let implied = [IMPLIED_TEXT];
-    let rows = [
-        ("tinyName", Some(text.as_slice())),
-        ("tinyMac", Some(&text)),
-        ("tinyKeyUse", Some(&implied)),
-        ("tinyState", None),
-        ("tinyTable", None),
-        ("tinyEntry", None),
-        ("tinyKeyEntry", None),
-        ("tiny", None),
-    ];
-    assert_eq!(rt; wrong_row(rt.alloc(), TINY, &rows)?, None);
+    assert!(rt; wrong_row(rt.alloc(), TINY, &COLUMNS)?.is_none());
     Ok(())
 }
 
+static COLUMNS: [Row<'static>; 8] = [
+    ("tinyName", Some(&[TEXT])),
+    ("tinyMac", Some(&[TEXT])),
+    ("tinyKeyUse", Some(&[IMPLIED_TEXT])),
+    ("tinyState", None),
+    ("tinyTable", None),
+    ("tinyEntry", None),
+    ("tinyKeyEntry", None),
+    ("tiny", None),
+];
+
 /// What stands before an index object, its type, and the part for it.
-const PARTS: [(&str, &str, Option<IndexPart>); 27] = [
+static PARTS: [(&str, &str, Option<IndexPart>); 27] = [
     ("", "INTEGER", Some(NUMBER)),
     ("", "INTEGER { up(1) }", Some(NUMBER)),
     ("IMPLIED", "Integer32 (0..9)", Some(NUMBER)),
@@ -156,18 +205,34 @@ END
 
 #[test]
 fn each_base_type_in_an_index(rt: HostRuntime) -> Result<(), Fail> {
-    for (implied, syntax, part) in PARTS {
-        let text = row_of(rt.alloc(), implied, syntax)?;
-        let parts = [part.unwrap_or(NUMBER)];
-        let expected = if part.is_some() {
-            Some(parts.as_slice())
-        } else {
-            None
-        };
-        let wrong = wrong_row(rt.alloc(), text.as_bytes(), &[("column", expected)])?;
-        assert_eq!(rt; wrong, None, "{implied} {syntax}");
+    for (implied, syntax, part) in &PARTS {
+        assert!(rt;
+            is_part(rt.alloc(), implied, syntax, *part)?,
+            "{implied} {syntax}"
+        );
     }
     Ok(())
+}
+
+/// Whether an index object of a type has this part in the index, and no index without a part.
+fn is_part(
+    alloc: Global,
+    implied: &str,
+    syntax: &str,
+    part: Option<IndexPart>,
+) -> Result<bool, Fail> {
+    let text = row_of(alloc, implied, syntax)?;
+    has_part(alloc, text.as_bytes(), part)
+}
+
+fn has_part(alloc: Global, text: &[u8], part: Option<IndexPart>) -> Result<bool, Fail> {
+    let parts = [part.unwrap_or(NUMBER)];
+    let expected = if part.is_some() {
+        Some(parts.as_slice())
+    } else {
+        None
+    };
+    Ok(wrong_row(alloc, text, &[("column", expected)])?.is_none())
 }
 
 /// Rows of each kind, and their columns.
@@ -232,30 +297,28 @@ END
 
 #[test]
 fn rows_that_augment_and_rows_of_one_identifier(rt: HostRuntime) -> Result<(), Fail> {
-    let a = [NUMBER, SIX, IMPLIED_TEXT];
-    let far = [IndexPart::Address, NUMBER];
-    let first = [SIX];
-    let rows = [
-        ("nameA", Some(a.as_slice())),
-        // Neither an object, nor right below the row.
-        ("belowA", None),
-        ("deepA", None),
-        ("colB", Some(&a)),
-        // A row that augments one which augments.
-        ("colC", None),
-        // The names of the other row's INDEX mean what they mean in its own module.
-        ("colD", Some(&far)),
-        ("key", Some(&far)),
-        // Names of rows and objects that lead to nothing, to a ring, or to no object.
-        ("colE", None),
-        ("colF", None),
-        ("colG", None),
-        ("colH", None),
-        // The first of two rows of one identifier stands for it.
-        ("col9", Some(&first)),
-        ("col10", None),
-        ("col11", None),
-    ];
-    assert_eq!(rt; wrong_row(rt.alloc(), ROWS, &rows)?, None);
+    assert!(rt; wrong_row(rt.alloc(), ROWS, &COLUMNS_OF_ROWS)?.is_none());
     Ok(())
 }
+
+static COLUMNS_OF_ROWS: [Row<'static>; 14] = [
+    ("nameA", Some(&[NUMBER, SIX, IMPLIED_TEXT])),
+    // Neither an object, nor right below the row.
+    ("belowA", None),
+    ("deepA", None),
+    ("colB", Some(&[NUMBER, SIX, IMPLIED_TEXT])),
+    // A row that augments one which augments.
+    ("colC", None),
+    // The names of the other row's INDEX mean what they mean in its own module.
+    ("colD", Some(&[IndexPart::Address, NUMBER])),
+    ("key", Some(&[IndexPart::Address, NUMBER])),
+    // Names of rows and objects that lead to nothing, to a ring, or to no object.
+    ("colE", None),
+    ("colF", None),
+    ("colG", None),
+    ("colH", None),
+    // The first of two rows of one identifier stands for it.
+    ("col9", Some(&[SIX])),
+    ("col10", None),
+    ("col11", None),
+];

@@ -1,8 +1,11 @@
 //! What names mean in modules that import from one another.
 
-use crate::reading::comes_to;
+use crate::reading::{comes_to, push_child};
 use smi_meaning::{Decider, Names};
+use smi_module::Module;
 use smi_text::parse_modules;
+use std::alloc::Global;
+use std::process::Abort;
 use std::test::Fail;
 
 const MODULES: &[u8] = b"A DEFINITIONS ::= BEGIN
@@ -91,89 +94,103 @@ fn undecided_row<'a>(names: &Names<'a>, rows: &[(&'a str, &'a str, Decided<'a>)]
 fn names_resolve_in_their_modules(rt: HostRuntime) -> Result<(), Fail> {
     let modules = parse_modules(rt.alloc(), MODULES)?;
     let names = Names::new(rt.alloc(), &modules)?;
-    let rows = [
-        // Its own definition, not the imports of the name.
-        ("A", "x", "2.1"),
-        // The first import of the name.
-        ("A", "y", "1.2"),
-        ("A", "late", "1.2.5"),
-        ("A", "early", "1.2.5.1"),
-        // An import that the named module imports.
-        ("A", "z", "0.7"),
-        // An imported name comes before the root.
-        ("A", "iso", "2.9"),
-        ("A", "under", "2.9.6.7"),
-        ("A", "joint-iso-ccitt", "2"),
-        ("B", "iso", "1"),
-        ("D", "ccitt", "0"),
-        ("A", "named", "1.3"),
-        ("A", "number", "1.3"),
-        // Imports that go round a ring of modules, one to a definition and one to none.
-        ("A", "far", "1.11.10"),
-        ("A", "round", "cycle"),
-        ("RING-C", "round", "cycle"),
-        ("A", "own", "cycle"),
-        ("A", "each", "cycle"),
-        ("A", "on", "cycle"),
-        ("A", "gone", "unresolved"),
-        ("A", "absent", "unresolved"),
-        ("A", "OBJECT-TYPE", "unresolved"),
-        ("A", "missing", "unresolved"),
-        ("A", "onMissing", "unresolved"),
-        ("A", "T", "unresolved"),
-        ("A", "nothing", "no meaning"),
-        ("A", "hidden", "no meaning"),
-        ("B", "late", "no meaning"),
-        ("GONE", "iso", "no meaning"),
-        ("", "", "no meaning"),
-    ];
-    assert_eq!(rt; unresolved_row(&names, &rows), None);
-    assert!(rt; names.is_loaded(b"RING-C") && names.is_loaded(b"A"));
-    assert!(rt; !names.is_loaded(b"GONE") && !names.is_loaded(b""));
+    assert_resolutions(&rt, &names);
     Ok(())
 }
+
+fn assert_resolutions(rt: &impl Abort, names: &Names<'_>) {
+    assert!(rt; unresolved_row(names, &RESOLUTIONS).is_none());
+    assert!(rt; names.is_loaded(b"RING-C") && names.is_loaded(b"A"));
+    assert!(rt; !names.is_loaded(b"GONE") && !names.is_loaded(b""));
+}
+
+static RESOLUTIONS: [(&str, &str, &str); 29] = [
+    // Its own definition, not the imports of the name.
+    ("A", "x", "2.1"),
+    // The first import of the name.
+    ("A", "y", "1.2"),
+    ("A", "late", "1.2.5"),
+    ("A", "early", "1.2.5.1"),
+    // An import that the named module imports.
+    ("A", "z", "0.7"),
+    // An imported name comes before the root.
+    ("A", "iso", "2.9"),
+    ("A", "under", "2.9.6.7"),
+    ("A", "joint-iso-ccitt", "2"),
+    ("B", "iso", "1"),
+    ("D", "ccitt", "0"),
+    ("A", "named", "1.3"),
+    ("A", "number", "1.3"),
+    // Imports that go round a ring of modules, one to a definition and one to none.
+    ("A", "far", "1.11.10"),
+    ("A", "round", "cycle"),
+    ("RING-C", "round", "cycle"),
+    ("A", "own", "cycle"),
+    ("A", "each", "cycle"),
+    ("A", "on", "cycle"),
+    ("A", "gone", "unresolved"),
+    ("A", "absent", "unresolved"),
+    ("A", "OBJECT-TYPE", "unresolved"),
+    ("A", "missing", "unresolved"),
+    ("A", "onMissing", "unresolved"),
+    ("A", "T", "unresolved"),
+    ("A", "nothing", "no meaning"),
+    ("A", "hidden", "no meaning"),
+    ("B", "late", "no meaning"),
+    ("GONE", "iso", "no meaning"),
+    ("", "", "no meaning"),
+];
 
 #[test]
 fn names_are_decided(rt: HostRuntime) -> Result<(), Fail> {
     let modules = parse_modules(rt.alloc(), MODULES)?;
     let names = Names::new(rt.alloc(), &modules)?;
-    let rows = [
-        ("A", "x", Some((10, "", 0))),
-        ("A", "T", Some((20, "", 0))),
-        ("A", "y", Some((2, "B", 0))),
-        ("A", "iso", Some((3, "C", 0))),
-        ("A", "gone", Some((7, "GONE", 0))),
-        ("A", "OBJECT-TYPE", Some((8, "B", 0))),
-        ("A", "joint-iso-ccitt", Some((0, "", 2))),
-        ("RING-B", "iso", Some((0, "", 1))),
-        ("A", "nothing", None),
-        ("GONE", "iso", None),
-    ];
-    assert_eq!(rt; undecided_row(&names, &rows), None);
+    assert!(rt; undecided_row(&names, &DECISIONS).is_none());
+    Ok(())
+}
+
+static DECISIONS: [(&str, &str, Decided<'static>); 10] = [
+    ("A", "x", Some((10, "", 0))),
+    ("A", "T", Some((20, "", 0))),
+    ("A", "y", Some((2, "B", 0))),
+    ("A", "iso", Some((3, "C", 0))),
+    ("A", "gone", Some((7, "GONE", 0))),
+    ("A", "OBJECT-TYPE", Some((8, "B", 0))),
+    ("A", "joint-iso-ccitt", Some((0, "", 2))),
+    ("RING-B", "iso", Some((0, "", 1))),
+    ("A", "nothing", None),
+    ("GONE", "iso", None),
+];
+
+/// A module of 201 nodes, each before its parent.
+fn push_nodes(text: &mut String) -> Result<(), Fail> {
+    text.push_str("A DEFINITIONS ::= BEGIN\n")?;
+    for k in 0..200 {
+        let parent: u32 = 199 - k;
+        push_child(text, "x", parent + 1, parent)?;
+    }
+    text.push_str("x0 OBJECT IDENTIFIER ::= { iso }\nEND\n")?;
     Ok(())
 }
 
 #[test]
 fn parents_in_text_up_to_128_numbers(rt: HostRuntime) -> Result<(), Fail> {
-    let alloc = rt.alloc();
-    let mut text = Vec::from_slice(alloc, b"A DEFINITIONS ::= BEGIN\n")?;
-    // Each stands before its parent.
-    for k in 0..200 {
-        let parent: u32 = 199 - k;
-        let line = format!(in alloc;
-            "x{} OBJECT IDENTIFIER ::= {{ x{} 1 }}\n",
-            parent + 1,
-            parent
-        )?;
-        text.extend_from_slice(line.as_bytes())?;
-    }
-    text.extend_from_slice(b"x0 OBJECT IDENTIFIER ::= { iso }\nEND\n")?;
-    let modules = parse_modules(alloc, &text)?;
-    let names = Names::new(alloc, &modules)?;
+    let mut text = String::new(rt.alloc());
+    push_nodes(&mut text)?;
+    let modules = parse_modules(rt.alloc(), text.as_bytes())?;
+    assert_nodes(&rt, rt.alloc(), &modules)
+}
+
+fn assert_nodes(rt: &impl Abort, alloc: Global, modules: &[Module]) -> Result<(), Fail> {
+    let names = Names::new(alloc, modules)?;
+    assert_lengths(rt, &names);
+    Ok(())
+}
+
+fn assert_lengths(rt: &impl Abort, names: &Names<'_>) {
     assert!(rt; comes_to(names.resolution(b"A", b"x0"), "1"));
     assert!(rt; comes_to(names.resolution(b"A", b"x3"), "1.1.1.1"));
     assert!(rt; !comes_to(names.resolution(b"A", b"x127"), "too long"));
     assert!(rt; comes_to(names.resolution(b"A", b"x128"), "too long"));
     assert!(rt; comes_to(names.resolution(b"A", b"x200"), "too long"));
-    Ok(())
 }

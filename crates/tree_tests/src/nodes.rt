@@ -2,8 +2,11 @@
 
 use crate::reading::oid;
 use smi_meaning::Names;
-use smi_nodes::{Source, nodes};
+use smi_module::Module;
+use smi_nodes::{Gathered, Source, nodes};
 use smi_text::parse_modules;
+use std::alloc::Global;
+use std::process::Abort;
 use std::test::Fail;
 
 const MODULES: &[u8] = b"B DEFINITIONS ::= BEGIN IMPORTS a FROM A;
@@ -19,30 +22,48 @@ same OBJECT IDENTIFIER ::= { n }
 END
 ";
 
+/// Of each node the place of its module, that of its definition there, and its identifier. The roots
+/// stand first, in no module.
+static NODES: [(Option<(usize, usize)>, &str); 7] = [
+    (None, "0"),
+    (None, "1"),
+    (None, "2"),
+    (Some((0, 0)), "1.5.1"),
+    (Some((0, 2)), "1.5.1.2"),
+    (Some((1, 2)), "1.5"),
+    (Some((1, 3)), "1.5.1.2"),
+];
+
 #[test]
 fn nodes_come_in_order_of_loading(rt: HostRuntime) -> Result<(), Fail> {
     let modules = parse_modules(rt.alloc(), MODULES)?;
-    let names = Names::new(rt.alloc(), &modules)?;
-    let gathered = nodes(rt.alloc(), &names, &modules)?;
-    // The roots first; then the place of the module, that of the definition, and the identifier.
-    let rows = [
-        (None, "0"),
-        (None, "1"),
-        (None, "2"),
-        (Some((0, 0)), "1.5.1"),
-        (Some((0, 2)), "1.5.1.2"),
-        (Some((1, 2)), "1.5"),
-        (Some((1, 3)), "1.5.1.2"),
-    ];
-    assert_eq!(rt; gathered.sources.len(), rows.len());
-    assert_eq!(rt; gathered.oids.len(), rows.len());
-    for (k, (place, text)) in rows.iter().enumerate() {
-        let found = match gathered.sources.get(k) {
-            Some(Source::Definition(i, d)) => Some((*i, *d)),
-            _ => None,
-        };
-        assert!(rt; found == *place, "{text}");
-        assert!(rt; gathered.oids.get(k) == Some(&oid(text)?), "{text}");
+    assert_nodes(&rt, rt.alloc(), &modules)
+}
+
+fn assert_nodes(rt: &impl Abort, alloc: Global, modules: &[Module]) -> Result<(), Fail> {
+    let names = Names::new(alloc, modules)?;
+    let gathered = nodes(alloc, &names, modules)?;
+    assert_gathered(rt, &gathered)
+}
+
+fn assert_gathered(rt: &impl Abort, gathered: &Gathered) -> Result<(), Fail> {
+    assert!(rt; gathered.sources.len() == NODES.len());
+    assert!(rt; gathered.oids.len() == NODES.len());
+    for (k, (place, text)) in NODES.iter().enumerate() {
+        assert!(rt; place_of(gathered, k) == *place, "{text}");
+        assert!(rt; has_identifier(gathered, k, text)?, "{text}");
     }
     Ok(())
+}
+
+/// The places of the module and the definition of a node.
+fn place_of(gathered: &Gathered, k: usize) -> Option<(usize, usize)> {
+    match gathered.sources.get(k) {
+        Some(Source::Definition(i, d)) => Some((*i, *d)),
+        _ => None,
+    }
+}
+
+fn has_identifier(gathered: &Gathered, k: usize, text: &str) -> Result<bool, Fail> {
+    Ok(gathered.oids.get(k) == Some(&oid(text)?))
 }

@@ -6,7 +6,9 @@ use smi_show::{Letters, detail, line, name_text, resolve};
 use smi_text::parse_modules;
 use smi_tree::Tree;
 use snmp_ber::ValueRef;
+use snmp_oid::Oid;
 use std::alloc::Global;
+use std::process::Abort;
 use std::test::Fail;
 
 const STATE: &str = "1.3.6.1.4.1.32473.1.0";
@@ -23,116 +25,165 @@ fn tiny(alloc: Global) -> Result<Tree, Fail> {
 #[test]
 fn names_are_read(rt: HostRuntime) -> Result<(), Fail> {
     let tree = tiny(rt.alloc())?;
-    let rows = [
-        ("TINY-MIB::tinyState.0", STATE),
-        ("tinyState.0", STATE),
-        ("TINY-MIB::tinyMac.\"wes\"", MAC),
-        ("TINY-MIB::tinyKeyUse.'wes'", USE),
-        (
-            "iso.3.6.internet.private.enterprises.tiny.tinyState.0",
-            STATE,
-        ),
-        (".iso.3", "1.3"),
-        (
-            "tiny.tinyTable.tinyEntry.tinyMac",
-            "1.3.6.1.4.1.32473.2.1.2",
-        ),
-    ];
-    for (text, expected) in rows {
-        assert!(rt;
-            resolve(&tree, text.as_bytes()) == Ok(oid(expected)?),
-            "{text}"
-        );
+    assert_read(&rt, &tree)
+}
+
+/// Names with what they mean.
+static READ: [(&str, &str); 7] = [
+    ("TINY-MIB::tinyState.0", STATE),
+    ("tinyState.0", STATE),
+    ("TINY-MIB::tinyMac.\"wes\"", MAC),
+    ("TINY-MIB::tinyKeyUse.'wes'", USE),
+    (
+        "iso.3.6.internet.private.enterprises.tiny.tinyState.0",
+        STATE,
+    ),
+    (".iso.3", "1.3"),
+    (
+        "tiny.tinyTable.tinyEntry.tinyMac",
+        "1.3.6.1.4.1.32473.2.1.2",
+    ),
+];
+
+/// Names without a meaning.
+static UNREAD: [&str; 5] = [
+    "loopA",
+    "TINY-SMI::tiny",
+    ".tiny",
+    "tiny.tinyMac",
+    "GONE-MIB::other",
+];
+
+fn assert_read(rt: &impl Abort, tree: &Tree) -> Result<(), Fail> {
+    for (text, expected) in &READ {
+        assert!(rt; means(tree, text.as_bytes(), &oid(expected)?), "{text}");
     }
-    for text in [
-        "loopA",
-        "TINY-SMI::tiny",
-        ".tiny",
-        "tiny.tinyMac",
-        "GONE-MIB::other",
-    ] {
-        assert!(rt; resolve(&tree, text.as_bytes()).is_err(), "{text}");
+    for text in &UNREAD {
+        assert!(rt; resolve(tree, text.as_bytes()).is_err(), "{text}");
     }
     Ok(())
+}
+
+/// Whether a text means this identifier.
+fn means(tree: &Tree, text: &[u8], expected: &Oid) -> bool {
+    match resolve(tree, text) {
+        Ok(found) => found == *expected,
+        Err(_) => false,
+    }
 }
 
 #[test]
 fn names_are_shown(rt: HostRuntime) -> Result<(), Fail> {
     let tree = tiny(rt.alloc())?;
-    let rows = [
-        ("", STATE, "TINY-MIB::tinyState.0"),
-        ("", MAC, "TINY-MIB::tinyMac.\"wes\""),
-        ("", USE, "TINY-MIB::tinyKeyUse.'wes'"),
-        (
-            "",
-            "1.3.6.1.4.1.32473.2.1.2.2.119.0",
-            "TINY-MIB::tinyMac.2.119.0",
-        ),
-        ("", "1.3", "iso.3"),
-        ("b", MAC, "TINY-MIB::tinyMac.3.119.101.115"),
-        ("s", USE, "tinyKeyUse.'wes'"),
-        (
-            "f",
-            STATE,
-            ".iso.3.6.internet.private.enterprises.tiny.tinyState.0",
-        ),
-        ("n", STATE, ".1.3.6.1.4.1.32473.1.0"),
-    ];
-    for (letters, name, expected) in rows {
-        let letters = Letters::parse(letters.as_bytes()).ok().ok_or("letters")?;
-        let mut text = Vec::new(rt.alloc());
-        name_text(&tree, &letters, &oid(name)?, &mut text)?;
-        assert!(rt; text.as_slice() == expected.as_bytes(), "{expected}");
+    assert_shown(&rt, rt.alloc(), &tree)
+}
+
+/// Letters, an identifier, and its name by the letters.
+static SHOWN: [(&str, &str, &str); 9] = [
+    ("", STATE, "TINY-MIB::tinyState.0"),
+    ("", MAC, "TINY-MIB::tinyMac.\"wes\""),
+    ("", USE, "TINY-MIB::tinyKeyUse.'wes'"),
+    (
+        "",
+        "1.3.6.1.4.1.32473.2.1.2.2.119.0",
+        "TINY-MIB::tinyMac.2.119.0",
+    ),
+    ("", "1.3", "iso.3"),
+    ("b", MAC, "TINY-MIB::tinyMac.3.119.101.115"),
+    ("s", USE, "tinyKeyUse.'wes'"),
+    (
+        "f",
+        STATE,
+        ".iso.3.6.internet.private.enterprises.tiny.tinyState.0",
+    ),
+    ("n", STATE, ".1.3.6.1.4.1.32473.1.0"),
+];
+
+fn assert_shown(rt: &impl Abort, alloc: Global, tree: &Tree) -> Result<(), Fail> {
+    for (letters, name, expected) in &SHOWN {
+        assert!(rt;
+            is_shown(alloc, tree, letters, name, expected)?,
+            "{expected}"
+        );
     }
     Ok(())
+}
+
+fn letters_of(letters: &str) -> Result<Letters, Fail> {
+    Ok(Letters::parse(letters.as_bytes()).ok().ok_or("letters")?)
+}
+
+/// Whether an identifier is shown as this name.
+fn is_shown(
+    alloc: Global,
+    tree: &Tree,
+    letters: &str,
+    name: &str,
+    expected: &str,
+) -> Result<bool, Fail> {
+    let mut text = Vec::new(alloc);
+    name_text(tree, &letters_of(letters)?, &oid(name)?, &mut text)?;
+    Ok(text.as_slice() == expected.as_bytes())
 }
 
 #[test]
 fn lines_have_their_objects_syntax(rt: HostRuntime) -> Result<(), Fail> {
     let tree = tiny(rt.alloc())?;
-    let mac: &[u8] = &[0, 0x16, 0x3e, 0x5a, 0x78, 0x8e];
-    let rows = [
-        (
-            "",
-            STATE,
-            ValueRef::Integer(1),
-            "TINY-MIB::tinyState.0 = INTEGER: up(1)\n",
-        ),
-        (
-            "",
-            MAC,
-            ValueRef::Octets(mac),
-            "TINY-MIB::tinyMac.\"wes\" = STRING: 0:16:3e:5a:78:8e\n",
-        ),
-        (
-            "",
-            USE,
-            ValueRef::Gauge32(5),
-            "TINY-MIB::tinyKeyUse.'wes' = Gauge32: 5 jobs\n",
-        ),
-        ("qs", STATE, ValueRef::Integer(1), "tinyState.0 up\n"),
-        ("qv", STATE, ValueRef::Integer(1), "up\n"),
-    ];
-    for (letters, name, value, expected) in rows {
-        let letters = Letters::parse(letters.as_bytes()).ok().ok_or("letters")?;
-        let mut text = Vec::new(rt.alloc());
-        line(&tree, &letters, &oid(name)?, &value, &mut text)?;
-        assert!(rt; text.as_slice() == expected.as_bytes(), "{expected}");
-    }
+    assert_lines(&rt, rt.alloc(), &tree)
+}
+
+fn assert_lines(rt: &impl Abort, alloc: Global, tree: &Tree) -> Result<(), Fail> {
+    let up = ValueRef::Integer(1);
+    assert_line(
+        rt,
+        alloc,
+        tree,
+        "",
+        STATE,
+        &up,
+        "TINY-MIB::tinyState.0 = INTEGER: up(1)\n",
+    )?;
+    let mac = ValueRef::Octets(b"\x00\x16\x3e\x5a\x78\x8e");
+    assert_line(
+        rt,
+        alloc,
+        tree,
+        "",
+        MAC,
+        &mac,
+        "TINY-MIB::tinyMac.\"wes\" = STRING: 0:16:3e:5a:78:8e\n",
+    )?;
+    let jobs = ValueRef::Gauge32(5);
+    assert_line(
+        rt,
+        alloc,
+        tree,
+        "",
+        USE,
+        &jobs,
+        "TINY-MIB::tinyKeyUse.'wes' = Gauge32: 5 jobs\n",
+    )?;
+    assert_line(rt, alloc, tree, "qs", STATE, &up, "tinyState.0 up\n")?;
+    assert_line(rt, alloc, tree, "qv", STATE, &up, "up\n")
+}
+
+/// Checks the line of a value.
+fn assert_line(
+    rt: &impl Abort,
+    alloc: Global,
+    tree: &Tree,
+    letters: &str,
+    name: &str,
+    value: &ValueRef<'_>,
+    expected: &str,
+) -> Result<(), Fail> {
+    let mut text = Vec::new(alloc);
+    line(tree, &letters_of(letters)?, &oid(name)?, value, &mut text)?;
+    assert!(rt; text.as_slice() == expected.as_bytes(), "{expected}");
     Ok(())
 }
 
-#[test]
-fn details_are_those_of_the_deepest_node(rt: HostRuntime) -> Result<(), Fail> {
-    let tree = tiny(rt.alloc())?;
-    let mut text = Vec::new(rt.alloc());
-    detail(
-        &tree,
-        &Letters::new(),
-        &oid("1.3.6.1.4.1.32473.1")?,
-        &mut text,
-    )?;
-    let expected = "TINY-MIB::tinyState
+const DETAILS: &[u8] = b"TINY-MIB::tinyState
 tinyState OBJECT-TYPE
   -- FROM\tTINY-MIB
   SYNTAX\tINTEGER { up ( 1 ) , down ( 2 ) }
@@ -141,29 +192,56 @@ tinyState OBJECT-TYPE
   DESCRIPTION\t\"State.\"
 ::= { iso(1) 3 6 internet(1) private(4) enterprises(1) tiny(32473) 1 }
 ";
-    assert!(rt; text.as_slice() == expected.as_bytes());
+
+#[test]
+fn details_are_those_of_the_deepest_node(rt: HostRuntime) -> Result<(), Fail> {
+    let tree = tiny(rt.alloc())?;
+    assert_details(&rt, rt.alloc(), &tree, &oid("1.3.6.1.4.1.32473.1")?)
+}
+
+fn assert_details(rt: &impl Abort, alloc: Global, tree: &Tree, name: &Oid) -> Result<(), Fail> {
+    let mut text = Vec::new(alloc);
+    detail(tree, &Letters::new(), name, &mut text)?;
+    assert!(rt; text.as_slice() == DETAILS);
     Ok(())
 }
+
+/// The beginnings of the identifiers that are shown and read back.
+static FRONTS: [&str; 3] = [
+    "1.3.6.1.4.1.32473",
+    "1.3.6.1.4.1.32473.2.1.2",
+    "1.3.6.1.4.1.32473.3.1.1",
+];
 
 #[test]
 fn what_is_shown_is_read_back(rt: HostRuntime) -> Result<(), Fail> {
     let tree = tiny(rt.alloc())?;
-    let mut text = Vec::new(rt.alloc());
-    for front in [
-        "1.3.6.1.4.1.32473",
-        "1.3.6.1.4.1.32473.2.1.2",
-        "1.3.6.1.4.1.32473.3.1.1",
-    ] {
+    assert_fronts(&rt, rt.alloc(), &tree)
+}
+
+fn assert_fronts(rt: &impl Abort, alloc: Global, tree: &Tree) -> Result<(), Fail> {
+    for front in &FRONTS {
         let front = oid(front)?;
         for seed in 0..1000 {
             let name = random_oid(front.as_slice(), seed);
-            for letters in [b"S".as_slice(), b"Sb", b"n"] {
-                let letters = Letters::parse(letters).ok().ok_or("letters")?;
-                text.clear();
-                name_text(&tree, &letters, &name, &mut text)?;
-                assert!(rt; resolve(&tree, &text).is_ok_and(|found| found == name));
-            }
+            assert!(rt; are_read_back(alloc, tree, &name)?);
         }
     }
     Ok(())
+}
+
+/// Whether the names of an identifier are read back, by letters of three kinds.
+fn are_read_back(alloc: Global, tree: &Tree, name: &Oid) -> Result<bool, Fail> {
+    for letters in ["S", "Sb", "n"] {
+        if !is_read_back(alloc, tree, letters, name)? {
+            return Ok(false);
+        }
+    }
+    Ok(true)
+}
+
+fn is_read_back(alloc: Global, tree: &Tree, letters: &str, name: &Oid) -> Result<bool, Fail> {
+    let mut text = Vec::new(alloc);
+    name_text(tree, &letters_of(letters)?, name, &mut text)?;
+    Ok(means(tree, &text, name))
 }

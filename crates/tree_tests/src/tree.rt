@@ -1,11 +1,11 @@
 //! Trees of whole modules: their warnings in order, and what each look-up finds.
 
-use crate::reading::oid;
-use smi_module::Text;
+use crate::reading::{oid, push_child};
 use smi_text::parse_modules;
 use smi_tree::{Tree, Warning};
 use snmp_oid::Oid;
 use std::alloc::Global;
+use std::process::Abort;
 use std::test::Fail;
 
 const TINY_SMI: &str = "TINY-SMI DEFINITIONS ::= BEGIN
@@ -28,115 +28,192 @@ loopB OBJECT IDENTIFIER ::= { loopA 1 }
 END
 ";
 
-const TINY_WARNINGS: [&str; 4] = [
+static TINY_WARNINGS: [&str; 4] = [
     "TINY-MIB imports absent from TINY-SMI, which has none",
     "TINY-MIB imports from GONE-MIB, which is not loaded",
     "TINY-MIB::loopA stands on a cycle",
     "TINY-MIB::loopB stands on a cycle",
 ];
 
-fn utf8(text: &Text) -> Result<&str, Fail> {
-    Ok(str::from_utf8(text.as_bytes()).ok().ok_or("not UTF-8")?)
+/// The nodes of the tiny modules below the roots.
+static TINY_NODES: [(&str, &str, &str); 6] = [
+    ("TINY-SMI", "internet", "1.3.6.1"),
+    ("TINY-SMI", "private", "1.3.6.1.4"),
+    ("TINY-SMI", "enterprises", "1.3.6.1.4.1"),
+    ("TINY-MIB", "tiny", "1.3.6.1.4.1.32473"),
+    ("TINY-MIB", "tinyState", "1.3.6.1.4.1.32473.1"),
+    ("TINY-MIB", "tinyTable", "1.3.6.1.4.1.32473.2"),
+];
+
+/// A tree, and the warnings about its modules.
+#[derive(Drop)]
+struct Loaded {
+    tree: Tree,
+    warnings: Vec<Warning>,
 }
 
-/// A warning as a sentence.
-fn sentence(alloc: Global, warning: &Warning) -> Result<String, Fail> {
-    Ok(match warning {
-        Warning::DoubleModule(home) => format!(in alloc; "{} is loaded twice", utf8(home)?)?,
-        Warning::MissingModule(home, from) => {
-            format!(in alloc;
-                "{} imports from {}, which is not loaded",
-                utf8(home)?,
-                utf8(from)?
-            )?
-        }
-        Warning::MissingImport(home, name, from) => format!(in alloc;
-            "{} imports {} from {}, which has none",
-            utf8(home)?,
-            utf8(name)?,
-            utf8(from)?
-        )?,
-        Warning::Cycle(home, name) => {
-            format!(in alloc; "{}::{} stands on a cycle", utf8(home)?, utf8(name)?)?
-        }
-        Warning::Unresolved(home, name) => {
-            format!(in alloc; "{}::{} is unresolved", utf8(home)?, utf8(name)?)?
-        }
-        Warning::TooLong(home, name) => {
-            format!(in alloc; "{}::{} is too long", utf8(home)?, utf8(name)?)?
-        }
-    })
-}
-
-/// The tree of a text's modules, with its warnings as sentences.
-fn load(alloc: Global, text: &str) -> Result<(Tree, Vec<String>), Fail> {
+/// The tree of a text's modules.
+fn load(alloc: Global, text: &str) -> Result<Loaded, Fail> {
     let (tree, warnings) = Tree::load(alloc, parse_modules(alloc, text.as_bytes())?)?;
-    let mut sentences = Vec::new(alloc);
-    for warning in &warnings {
-        sentences.push(sentence(alloc, warning)?)?;
-    }
-    Ok((tree, sentences))
+    Ok(Loaded { tree, warnings })
 }
 
-/// Whether sentences are these, in order.
-fn are(sentences: &[String], expected: &[&str]) -> bool {
-    if sentences.len() != expected.len() {
+/// The texts in a row.
+fn joined(alloc: Global, texts: &[&str]) -> Result<String, Fail> {
+    let mut all = String::new(alloc);
+    for text in texts {
+        all.push_str(text)?;
+    }
+    Ok(all)
+}
+
+/// Whether a text consists of these parts, in order.
+fn consists_of(text: &str, parts: &[&[u8]]) -> bool {
+    let mut rest = text.as_bytes();
+    for part in parts {
+        match rest.strip_prefix(*part) {
+            Some(after) => rest = after,
+            None => return false,
+        }
+    }
+    rest.is_empty()
+}
+
+/// Whether a sentence says what a warning does.
+fn says(sentence: &str, warning: &Warning) -> bool {
+    match warning {
+        Warning::DoubleModule(home) => {
+            consists_of(sentence, &[home.as_bytes(), b" is loaded twice"])
+        }
+        Warning::MissingModule(home, from) => consists_of(
+            sentence,
+            &[
+                home.as_bytes(),
+                b" imports from ",
+                from.as_bytes(),
+                b", which is not loaded",
+            ],
+        ),
+        Warning::MissingImport(home, name, from) => consists_of(
+            sentence,
+            &[
+                home.as_bytes(),
+                b" imports ",
+                name.as_bytes(),
+                b" from ",
+                from.as_bytes(),
+                b", which has none",
+            ],
+        ),
+        Warning::Cycle(home, name) => consists_of(
+            sentence,
+            &[
+                home.as_bytes(),
+                b"::",
+                name.as_bytes(),
+                b" stands on a cycle",
+            ],
+        ),
+        Warning::Unresolved(home, name) => consists_of(
+            sentence,
+            &[home.as_bytes(), b"::", name.as_bytes(), b" is unresolved"],
+        ),
+        Warning::TooLong(home, name) => consists_of(
+            sentence,
+            &[home.as_bytes(), b"::", name.as_bytes(), b" is too long"],
+        ),
+    }
+}
+
+/// Whether these sentences say what warnings do, in order.
+fn say(sentences: &[&str], warnings: &[Warning]) -> bool {
+    if sentences.len() != warnings.len() {
         return false;
     }
-    for (sentence, wanted) in sentences.iter().zip(expected) {
-        if sentence.as_str() != *wanted {
+    for (sentence, warning) in sentences.iter().zip(warnings) {
+        if !says(sentence, warning) {
             return false;
         }
     }
     true
 }
 
-/// Whether a label in a module has this identifier.
-fn is_found(tree: &Tree, home: &str, label: &str, wanted: &Oid) -> bool {
-    match tree.find(home.as_bytes(), label.as_bytes()) {
-        Some(id) => id < tree.len() && tree.node(id).oid == wanted,
-        None => false,
-    }
-}
-
-/// Whether a tree has the nodes of the tiny modules.
-fn is_tiny(tree: &Tree) -> Result<bool, Fail> {
-    let rows = [
-        ("TINY-SMI", "internet", "1.3.6.1"),
-        ("TINY-SMI", "private", "1.3.6.1.4"),
-        ("TINY-SMI", "enterprises", "1.3.6.1.4.1"),
-        ("TINY-MIB", "tiny", "1.3.6.1.4.1.32473"),
-        ("TINY-MIB", "tinyState", "1.3.6.1.4.1.32473.1"),
-        ("TINY-MIB", "tinyTable", "1.3.6.1.4.1.32473.2"),
-    ];
-    for (home, label, text) in rows {
-        if !is_found(tree, home, label, &oid(text)?) {
+/// Whether warnings say this of a letter and each number in turn.
+fn say_of_each(
+    alloc: Global,
+    letter: &str,
+    first: usize,
+    what: &str,
+    warnings: &[Warning],
+) -> Result<bool, Fail> {
+    for (k, warning) in warnings.iter().enumerate() {
+        if !says_of(alloc, letter, k.wrapping_add(first), what, warning)? {
             return Ok(false);
         }
     }
-    Ok(tree.len() == rows.len() + 3)
+    Ok(true)
+}
+
+/// Whether a warning says this of a letter and a number.
+fn says_of(
+    alloc: Global,
+    letter: &str,
+    number: usize,
+    what: &str,
+    warning: &Warning,
+) -> Result<bool, Fail> {
+    let sentence = format!(in alloc; "{letter}{number} {what}")?;
+    Ok(says(&sentence, warning))
+}
+
+/// Whether a label in a module has this identifier.
+fn is_found(tree: &Tree, home: &str, label: &str, wanted: &str) -> Result<bool, Fail> {
+    Ok(match tree.find(home.as_bytes(), label.as_bytes()) {
+        Some(id) => id < tree.len() && tree.node(id).oid == &oid(wanted)?,
+        None => false,
+    })
+}
+
+/// Whether a tree has the nodes of the tiny modules, and the three roots.
+fn is_tiny(tree: &Tree) -> Result<bool, Fail> {
+    for (home, label, text) in &TINY_NODES {
+        if !is_found(tree, home, label, text)? {
+            return Ok(false);
+        }
+    }
+    Ok(tree.len() == TINY_NODES.len() + 3)
 }
 
 #[test]
 fn tiny_modules_in_both_orders(rt: HostRuntime) -> Result<(), Fail> {
-    for (first, second) in [(TINY_SMI, TINY_MIB), (TINY_MIB, TINY_SMI)] {
-        let text = format!(in rt.alloc(); "{first}{second}")?;
-        let (tree, warnings) = load(rt.alloc(), &text)?;
-        assert!(rt; are(&warnings, &TINY_WARNINGS));
-        assert!(rt; is_tiny(&tree)?);
-        assert!(rt; tree.has_module(b"TINY-MIB"));
-        assert!(rt; !tree.has_module(b"GONE-MIB"));
-        assert!(rt; tree.find(b"TINY-MIB", b"enterprises").is_none());
-        assert!(rt; tree.find(b"GONE-MIB", b"other").is_none());
-        assert!(rt; tree.find_any(b"loopA").is_none());
-    }
+    assert_tiny(&rt, rt.alloc(), &[TINY_SMI, TINY_MIB])?;
+    assert_tiny(&rt, rt.alloc(), &[TINY_MIB, TINY_SMI])
+}
+
+fn assert_tiny(rt: &impl Abort, alloc: Global, texts: &[&str]) -> Result<(), Fail> {
+    let loaded = load(alloc, &joined(alloc, texts)?)?;
+    assert_tiny_tree(rt, &loaded)
+}
+
+fn assert_tiny_tree(rt: &impl Abort, loaded: &Loaded) -> Result<(), Fail> {
+    let tree = &loaded.tree;
+    assert!(rt; say(&TINY_WARNINGS, &loaded.warnings));
+    assert!(rt; is_tiny(tree)?);
+    assert!(rt; tree.has_module(b"TINY-MIB") && !tree.has_module(b"GONE-MIB"));
+    assert!(rt; tree.find(b"TINY-MIB", b"enterprises").is_none());
+    assert!(rt; tree.find(b"GONE-MIB", b"other").is_none());
+    assert!(rt; tree.find_any(b"loopA").is_none());
     Ok(())
 }
 
 #[test]
 fn modules_loaded_twice_change_nothing(rt: HostRuntime) -> Result<(), Fail> {
-    let text = format!(in rt.alloc(); "{TINY_SMI}{TINY_MIB}{TINY_SMI}{TINY_MIB}")?;
-    let (tree, warnings) = load(rt.alloc(), &text)?;
+    let texts = [TINY_SMI, TINY_MIB, TINY_SMI, TINY_MIB];
+    let loaded = load(rt.alloc(), &joined(rt.alloc(), &texts)?)?;
+    assert_twice_tiny(&rt, &loaded)
+}
+
+fn assert_twice_tiny(rt: &impl Abort, loaded: &Loaded) -> Result<(), Fail> {
     let expected = [
         TINY_WARNINGS[0],
         TINY_WARNINGS[1],
@@ -145,14 +222,12 @@ fn modules_loaded_twice_change_nothing(rt: HostRuntime) -> Result<(), Fail> {
         "TINY-SMI is loaded twice",
         "TINY-MIB is loaded twice",
     ];
-    assert!(rt; are(&warnings, &expected));
-    assert!(rt; is_tiny(&tree)?);
+    assert!(rt; say(&expected, &loaded.warnings));
+    assert!(rt; is_tiny(&loaded.tree)?);
     Ok(())
 }
 
-#[test]
-fn imports_in_a_ring(rt: HostRuntime) -> Result<(), Fail> {
-    let text = "A DEFINITIONS ::= BEGIN IMPORTS x FROM B;
+const IMPORT_RING: &str = "A DEFINITIONS ::= BEGIN IMPORTS x FROM B;
 y OBJECT IDENTIFIER ::= { x 1 }
 END
 B DEFINITIONS ::= BEGIN IMPORTS x FROM A; END
@@ -160,39 +235,43 @@ S DEFINITIONS ::= BEGIN IMPORTS itself, OBJECT-TYPE, Counter32, iso FROM S;
 z OBJECT IDENTIFIER ::= { itself 1 }
 END
 ";
-    let (tree, warnings) = load(rt.alloc(), text)?;
-    // A module that imports from itself imports what it is asked for.
-    assert!(rt;
-        are(
-            &warnings,
-            &["A::y stands on a cycle", "S::z stands on a cycle"]
-        )
-    );
-    assert_eq!(rt; tree.len(), 3);
+
+#[test]
+fn imports_in_a_ring(rt: HostRuntime) -> Result<(), Fail> {
+    let loaded = load(rt.alloc(), IMPORT_RING)?;
+    assert_import_ring(&rt, &loaded);
     Ok(())
 }
 
-#[test]
-fn roots_and_repeated_symbols_are_missed(rt: HostRuntime) -> Result<(), Fail> {
-    let text = "A DEFINITIONS ::= BEGIN IMPORTS gone, iso, gone, MODULE-IDENTITY, Gauge32 FROM B
+fn assert_import_ring(rt: &impl Abort, loaded: &Loaded) {
+    // A module that imports from itself imports what it is asked for.
+    let expected = ["A::y stands on a cycle", "S::z stands on a cycle"];
+    assert!(rt; say(&expected, &loaded.warnings));
+    assert!(rt; loaded.tree.len() == 3);
+}
+
+const MISSED: &str =
+    "A DEFINITIONS ::= BEGIN IMPORTS gone, iso, gone, MODULE-IDENTITY, Gauge32 FROM B
 b FROM NONE c FROM NONE; END
 B DEFINITIONS ::= BEGIN END
 ";
-    let (_tree, warnings) = load(rt.alloc(), text)?;
-    let expected = [
-        "A imports gone from B, which has none",
-        "A imports iso from B, which has none",
-        "A imports gone from B, which has none",
-        "A imports from NONE, which is not loaded",
-        "A imports from NONE, which is not loaded",
-    ];
-    assert!(rt; are(&warnings, &expected));
+
+static MISSED_WARNINGS: [&str; 5] = [
+    "A imports gone from B, which has none",
+    "A imports iso from B, which has none",
+    "A imports gone from B, which has none",
+    "A imports from NONE, which is not loaded",
+    "A imports from NONE, which is not loaded",
+];
+
+#[test]
+fn roots_and_repeated_symbols_are_missed(rt: HostRuntime) -> Result<(), Fail> {
+    let loaded = load(rt.alloc(), MISSED)?;
+    assert!(rt; say(&MISSED_WARNINGS, &loaded.warnings));
     Ok(())
 }
 
-#[test]
-fn definitions_come_before_imports(rt: HostRuntime) -> Result<(), Fail> {
-    let text = "A DEFINITIONS ::= BEGIN IMPORTS x FROM B x FROM C;
+const IMPORTED_TWICE: &str = "A DEFINITIONS ::= BEGIN IMPORTS x FROM B x FROM C;
 x OBJECT IDENTIFIER ::= { iso 5 }
 a OBJECT IDENTIFIER ::= { x 1 }
 END
@@ -200,125 +279,168 @@ B DEFINITIONS ::= BEGIN x OBJECT IDENTIFIER ::= { iso 6 } END
 C DEFINITIONS ::= BEGIN x OBJECT IDENTIFIER ::= { iso 7 } END
 D DEFINITIONS ::= BEGIN IMPORTS x FROM C x FROM B; d OBJECT IDENTIFIER ::= { x 1 } END
 ";
-    let (tree, warnings) = load(rt.alloc(), text)?;
-    assert!(rt; are(&warnings, &[]));
-    let rows = [
-        ("A", "a", "1.5.1"),
-        ("A", "x", "1.5"),
-        ("B", "x", "1.6"),
-        ("C", "x", "1.7"),
-        ("D", "d", "1.7.1"),
-    ];
-    for (home, label, text) in rows {
-        assert!(rt;
-            is_found(&tree, home, label, &oid(text)?),
-            "{home}::{label}"
-        );
+
+static IMPORTED_NODES: [(&str, &str, &str); 5] = [
+    ("A", "a", "1.5.1"),
+    ("A", "x", "1.5"),
+    ("B", "x", "1.6"),
+    ("C", "x", "1.7"),
+    ("D", "d", "1.7.1"),
+];
+
+#[test]
+fn definitions_come_before_imports(rt: HostRuntime) -> Result<(), Fail> {
+    let loaded = load(rt.alloc(), IMPORTED_TWICE)?;
+    assert_imported(&rt, &loaded)
+}
+
+fn assert_imported(rt: &impl Abort, loaded: &Loaded) -> Result<(), Fail> {
+    let tree = &loaded.tree;
+    assert!(rt; loaded.warnings.is_empty());
+    for (home, label, text) in &IMPORTED_NODES {
+        assert!(rt; is_found(tree, home, label, text)?, "{home}::{label}");
     }
     // Of three nodes with this label the first loaded is found, and a root before all others.
-    assert_eq!(rt; tree.find_any(b"x"), tree.find(b"A", b"x"));
-    assert_eq!(rt; tree.find_any(b"iso"), Some(1));
+    assert!(rt; tree.find_any(b"x") == tree.find(b"A", b"x"));
+    assert!(rt; tree.find_any(b"iso") == Some(1));
     assert!(rt; tree.find(b"D", b"x").is_none());
     Ok(())
 }
 
-#[test]
-fn the_first_node_stands_for_an_identifier(rt: HostRuntime) -> Result<(), Fail> {
-    let text = "A DEFINITIONS ::= BEGIN
+const ONE_AND_TWO: &str = "A DEFINITIONS ::= BEGIN
 one OBJECT IDENTIFIER ::= { iso 3 }
 two OBJECT IDENTIFIER ::= { iso 3 }
 below OBJECT IDENTIFIER ::= { two 1 }
 own OBJECT IDENTIFIER ::= { 1 }
 END
 ";
-    let (tree, _warnings) = load(rt.alloc(), text)?;
-    let rows = [
-        ("1.3", Some(("one", 2))),
-        ("1.3.2", Some(("one", 2))),
-        ("1.3.1.9", Some(("below", 3))),
-        ("1.4", Some(("iso", 1))),
-        ("3", None),
-    ];
-    for (text, expected) in rows {
-        match (tree.deepest(&oid(text)?), expected) {
-            (Some(deepest), Some((label, depth))) => {
-                assert!(rt;
-                    deepest.place < tree.len()
-                        && tree.node(deepest.place).label == label.as_bytes(),
-                    "{text}"
-                );
-                assert_eq!(rt; deepest.depth, depth, "{text}");
-            }
-            (found, wanted) => assert!(rt; found.is_none() && wanted.is_none(), "{text}"),
+
+/// Identifiers, with the label and the depth of the deepest node of each.
+static DEEPEST: [(&str, Option<(&str, usize)>); 5] = [
+    ("1.3", Some(("one", 2))),
+    ("1.3.2", Some(("one", 2))),
+    ("1.3.1.9", Some(("below", 3))),
+    ("1.4", Some(("iso", 1))),
+    ("3", None),
+];
+
+/// Whether the deepest node of an identifier has this label and this depth.
+fn is_deepest(tree: &Tree, text: &str, expected: Option<(&str, usize)>) -> Result<bool, Fail> {
+    Ok(match (tree.deepest(&oid(text)?), expected) {
+        (Some(deepest), Some((label, depth))) => {
+            deepest.place < tree.len()
+                && tree.node(deepest.place).label == label.as_bytes()
+                && deepest.depth == depth
         }
+        (found, wanted) => found.is_none() && wanted.is_none(),
+    })
+}
+
+#[test]
+fn the_first_node_stands_for_an_identifier(rt: HostRuntime) -> Result<(), Fail> {
+    let loaded = load(rt.alloc(), ONE_AND_TWO)?;
+    assert_one_and_two(&rt, &loaded.tree)
+}
+
+fn assert_one_and_two(rt: &impl Abort, tree: &Tree) -> Result<(), Fail> {
+    for (text, expected) in &DEEPEST {
+        assert!(rt; is_deepest(tree, text, *expected)?, "{text}");
     }
     let iso = oid("1")?;
     assert!(rt; tree.child(&iso, b"two").is_none());
-    assert_eq!(rt; tree.child(&iso, b"one"), tree.find(b"A", b"one"));
+    assert!(rt; tree.child(&iso, b"one") == tree.find(b"A", b"one"));
     assert!(rt; tree.child(&oid("2")?, b"one").is_none());
+    Ok(())
+}
+
+/// A module of 200 nodes, each below the one before.
+fn push_chain(text: &mut String) -> Result<(), Fail> {
+    text.push_str("L DEFINITIONS ::= BEGIN x1 OBJECT IDENTIFIER ::= { iso 1 }\n")?;
+    for k in 1..200 {
+        push_child(text, "x", k + 1, k)?;
+    }
+    text.push_str("END\n")?;
     Ok(())
 }
 
 #[test]
 fn long_chains_end_at_128_numbers(rt: HostRuntime) -> Result<(), Fail> {
-    let mut text = format!(in rt.alloc();
-        "L DEFINITIONS ::= BEGIN x1 OBJECT IDENTIFIER ::= {{ iso 1 }}\n"
-    )?;
-    for k in 1..200 {
-        let line = format!(in rt.alloc(); "x{} OBJECT IDENTIFIER ::= {{ x{k} 1 }}\n", k + 1)?;
-        text.push_str(&line)?;
+    let mut text = String::new(rt.alloc());
+    push_chain(&mut text)?;
+    let loaded = load(rt.alloc(), &text)?;
+    assert_chain(&rt, rt.alloc(), &loaded)
+}
+
+fn assert_chain(rt: &impl Abort, alloc: Global, loaded: &Loaded) -> Result<(), Fail> {
+    // The identifier of x127 has 128 numbers.
+    assert!(rt; loaded.tree.len() == 3 + 127);
+    assert!(rt; loaded.warnings.len() == 73);
+    assert!(rt; say_of_each(alloc, "L::x", 128, "is too long", &loaded.warnings)?);
+    Ok(())
+}
+
+/// A module of 1000 nodes, each below the one after, and the last below the first.
+fn push_ring(text: &mut String) -> Result<(), Fail> {
+    text.push_str("R DEFINITIONS ::= BEGIN\n")?;
+    for k in 0..1000 {
+        push_child(text, "r", k, (k + 1) % 1000)?;
     }
     text.push_str("END\n")?;
-    let (tree, warnings) = load(rt.alloc(), &text)?;
-    // The identifier of x127 has 128 numbers.
-    assert_eq!(rt; tree.len(), 3 + 127);
-    assert_eq!(rt; warnings.len(), 73);
-    for (k, warning) in warnings.iter().enumerate() {
-        let expected = format!(in rt.alloc(); "L::x{} is too long", k.wrapping_add(128))?;
-        assert!(rt; warning.as_str() == expected.as_str());
-    }
     Ok(())
 }
 
 #[test]
 fn a_ring_of_names_has_no_end(rt: HostRuntime) -> Result<(), Fail> {
-    let mut text = format!(in rt.alloc(); "R DEFINITIONS ::= BEGIN\n")?;
-    for k in 0..1000 {
-        let next = (k + 1) % 1000;
-        let line = format!(in rt.alloc(); "r{k} OBJECT IDENTIFIER ::= {{ r{next} 1 }}\n")?;
-        text.push_str(&line)?;
+    let mut text = String::new(rt.alloc());
+    push_ring(&mut text)?;
+    let loaded = load(rt.alloc(), &text)?;
+    assert_ring(&rt, rt.alloc(), &loaded)
+}
+
+fn assert_ring(rt: &impl Abort, alloc: Global, loaded: &Loaded) -> Result<(), Fail> {
+    assert!(rt; loaded.tree.len() == 3);
+    assert!(rt; loaded.warnings.len() == 1000);
+    assert!(rt; say_of_each(alloc, "R::r", 0, "stands on a cycle", &loaded.warnings)?);
+    Ok(())
+}
+
+/// A module of 5000 nodes below one, each number once, out of order.
+fn push_children(text: &mut String) -> Result<(), Fail> {
+    text.push_str("M DEFINITIONS ::= BEGIN\n")?;
+    for k in 0..5000 {
+        let number = (k + 2500) % 5000;
+        writeln!(text, "c{number} OBJECT IDENTIFIER ::= {{ top {number} }}")?;
     }
-    text.push_str("END\n")?;
-    let (tree, warnings) = load(rt.alloc(), &text)?;
-    assert_eq!(rt; tree.len(), 3);
-    assert_eq!(rt; warnings.len(), 1000);
-    for (k, warning) in warnings.iter().enumerate() {
-        let expected = format!(in rt.alloc(); "R::r{k} stands on a cycle")?;
-        assert!(rt; warning.as_str() == expected.as_str());
-    }
+    text.push_str("top OBJECT IDENTIFIER ::= { iso 9 }\nEND\n")?;
     Ok(())
 }
 
 #[test]
 fn many_children_come_in_order(rt: HostRuntime) -> Result<(), Fail> {
-    let mut text = format!(in rt.alloc(); "M DEFINITIONS ::= BEGIN\n")?;
-    for k in 0..5000 {
-        // Each number once, out of order.
-        let number = (k + 2500) % 5000;
-        let line = format!(in rt.alloc(); "c{number} OBJECT IDENTIFIER ::= {{ top {number} }}\n")?;
-        text.push_str(&line)?;
-    }
-    text.push_str("top OBJECT IDENTIFIER ::= { iso 9 }\nEND\n")?;
-    let (tree, warnings) = load(rt.alloc(), &text)?;
-    assert_eq!(rt; warnings.len(), 0);
+    let mut text = String::new(rt.alloc());
+    push_children(&mut text)?;
+    let loaded = load(rt.alloc(), &text)?;
+    assert_children(&rt, &loaded)
+}
+
+fn assert_children(rt: &impl Abort, loaded: &Loaded) -> Result<(), Fail> {
+    let tree = &loaded.tree;
+    assert!(rt; loaded.warnings.is_empty());
     let top = oid("1.9")?;
-    let mut number: u32 = 0;
-    for id in tree.children(&top) {
-        assert!(rt; id < tree.len() && tree.node(id).oid.as_slice() == &[1, 9, number][..]);
-        number = number.wrapping_add(1);
-    }
-    assert_eq!(rt; number, 5000);
-    assert_eq!(rt; tree.child(&top, b"c4999"), tree.find(b"M", b"c4999"));
+    assert!(rt; children_in_order(tree, &top) == Some(5000));
+    assert!(rt; tree.child(&top, b"c4999") == tree.find(b"M", b"c4999"));
     assert!(rt; tree.child(&top, b"top").is_none());
     Ok(())
+}
+
+/// How many children a node has, unless one's number isn't its place among them.
+fn children_in_order(tree: &Tree, top: &Oid) -> Option<u32> {
+    let mut number: u32 = 0;
+    for id in tree.children(top) {
+        if id >= tree.len() || tree.node(id).oid.as_slice() != &[1, 9, number][..] {
+            return None;
+        }
+        number = number.wrapping_add(1);
+    }
+    Some(number)
 }

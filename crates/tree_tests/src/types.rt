@@ -1,11 +1,14 @@
 //! The syntax of objects: what their chains of types give, through modules that import from one
 //! another.
 
+ghost use Rattle.smi_types.specs.Kept.{AreTypesOf};
+
 use smi_meaning::Names;
 use smi_module::{Module, NamedNumber, Range};
 use smi_text::parse_modules;
 use smi_types::{TypeBase, TypeSyntax, Types};
 use std::alloc::Global;
+use std::process::Abort;
 use std::test::Fail;
 
 const TYPES: &str = "M DEFINITIONS ::= BEGIN IMPORTS Far, Counter32, Integer32 FROM N
@@ -46,19 +49,24 @@ Deep ::= OCTET STRING (SIZE (0..255))
 END
 ";
 
-/// The modules with an object of each syntax in the first one.
-fn modules(alloc: Global, syntaxes: &[&str]) -> Result<Vec<Module>, Fail> {
-    let mut text = Vec::new(alloc);
-    text.extend_from_slice(TYPES.as_bytes())?;
-    for (k, syntax) in syntaxes.iter().enumerate() {
-        let line = format!(in alloc;
+/// The modules with an object of each row's syntax in the first one.
+fn modules(alloc: Global, rows: &[Row<'_>]) -> Result<Vec<Module>, Fail> {
+    let mut text = String::new(alloc);
+    push_objects(&mut text, rows)?;
+    Ok(parse_modules(alloc, text.as_bytes())?)
+}
+
+fn push_objects(text: &mut String, rows: &[Row<'_>]) -> Result<(), Fail> {
+    text.push_str(TYPES)?;
+    for (k, (syntax, _)) in rows.iter().enumerate() {
+        writeln!(
+            text,
             "o{k} OBJECT-TYPE SYNTAX {syntax} MAX-ACCESS read-only STATUS \
-current DESCRIPTION \"\" ::= {{ iso {k} }}\n"
+current DESCRIPTION \"\" ::= {{ iso {k} }}"
         )?;
-        text.extend_from_slice(line.as_bytes())?;
     }
-    text.extend_from_slice(IMPORTED.as_bytes())?;
-    Ok(parse_modules(alloc, &text)?)
+    text.push_str(IMPORTED)?;
+    Ok(())
 }
 
 /// The text of a hint, empty if there is none.
@@ -88,6 +96,9 @@ fn first_length<'a>(sizes: Option<&'a [Range]>) -> &'a [u8] {
 /// A base, a hint, the first name, and the first length of SIZE, each empty if there is none.
 type Expected<'a> = Option<(TypeBase, &'a str, &'a str, &'a str)>;
 
+/// A syntax, and what its chain of types gives.
+type Row<'a> = (&'a str, Expected<'a>);
+
 fn is_syntax(found: Option<TypeSyntax<'_>>, expected: Expected<'_>) -> bool {
     match (found, expected) {
         (None, None) => true,
@@ -105,135 +116,169 @@ fn is_syntax(found: Option<TypeSyntax<'_>>, expected: Expected<'_>) -> bool {
 const BEFORE: usize = 19;
 
 /// The first of these rows whose syntax isn't as the row says.
-fn first_wrong(alloc: Global, rows: &[(&str, Expected<'_>)]) -> Result<Option<usize>, Fail> {
-    let mut syntaxes = Vec::new(alloc);
-    for (syntax, _) in rows {
-        syntaxes.push(*syntax)?;
-    }
-    let modules = modules(alloc, &syntaxes)?;
-    let names = Names::new(alloc, &modules)?;
-    let types = Types::new(alloc, &names, &modules)?;
+fn wrong_row(alloc: Global, rows: &[Row<'_>]) -> Result<Option<usize>, Fail> {
+    let modules = modules(alloc, rows)?;
+    wrong_row_of(alloc, &modules, rows)
+}
+
+fn wrong_row_of(
+    alloc: Global,
+    modules: &[Module],
+    rows: &[Row<'_>],
+) -> Result<Option<usize>, Fail> {
+    let names = Names::new(alloc, modules)?;
+    let types = Types::new(alloc, &names, modules)?;
+    Ok(first_wrong(modules, &types, rows))
+}
+
+fn first_wrong(modules: &[Module], types: &Types, rows: &[Row<'_>]) -> Option<usize>
+    requires { AreTypesOf modules.now types.now }
+{
     for (k, (_, expected)) in rows.iter().enumerate() {
-        if !is_syntax(
-            types.syntax(&modules, 0, BEFORE.saturating_add(k)),
-            *expected,
-        ) {
-            return Ok(Some(k));
+        let found = types.syntax(modules, 0, BEFORE.saturating_add(k));
+        if !is_syntax(found, *expected) {
+            return Some(k);
         }
     }
-    Ok(None)
+    None
 }
 
 #[test]
 fn base_types_go_by_name(rt: HostRuntime) -> Result<(), Fail> {
-    let rows = [
-        ("INTEGER", Some((TypeBase::Integer, "", "", ""))),
-        ("OCTET STRING", Some((TypeBase::OctetString, "", "", ""))),
-        (
-            "OBJECT IDENTIFIER",
-            Some((TypeBase::ObjectIdentifier, "", "", "")),
-        ),
-        ("BITS { x(0) }", Some((TypeBase::Bits, "", "x", ""))),
-        // Defined as another type by a module that it is imported from.
-        ("Integer32", Some((TypeBase::Integer, "", "", ""))),
-        ("Counter32", Some((TypeBase::Counter32, "", "", ""))),
-        // Defined by the module itself, as a string and as nothing.
-        ("Gauge32", Some((TypeBase::Gauge32, "", "", ""))),
-        ("TimeTicks", Some((TypeBase::TimeTicks, "", "", ""))),
-        // Defined by no module.
-        ("Unsigned32", Some((TypeBase::Unsigned32, "", "", ""))),
-        ("IpAddress", Some((TypeBase::IpAddress, "", "", ""))),
-        ("Opaque (SIZE (2))", Some((TypeBase::Opaque, "", "", "2"))),
-        ("Counter64", Some((TypeBase::Counter64, "", "", ""))),
-        ("Bound", Some((TypeBase::Integer, "", "", ""))),
-    ];
-    assert_eq!(rt; first_wrong(rt.alloc(), &rows)?, None);
+    assert!(rt; wrong_row(rt.alloc(), &BASES)?.is_none());
     Ok(())
 }
+
+static BASES: [Row<'static>; 13] = [
+    ("INTEGER", Some((TypeBase::Integer, "", "", ""))),
+    ("OCTET STRING", Some((TypeBase::OctetString, "", "", ""))),
+    (
+        "OBJECT IDENTIFIER",
+        Some((TypeBase::ObjectIdentifier, "", "", "")),
+    ),
+    ("BITS { x(0) }", Some((TypeBase::Bits, "", "x", ""))),
+    // Defined as another type by a module that it is imported from.
+    ("Integer32", Some((TypeBase::Integer, "", "", ""))),
+    ("Counter32", Some((TypeBase::Counter32, "", "", ""))),
+    // Defined by the module itself, as a string and as nothing.
+    ("Gauge32", Some((TypeBase::Gauge32, "", "", ""))),
+    ("TimeTicks", Some((TypeBase::TimeTicks, "", "", ""))),
+    // Defined by no module.
+    ("Unsigned32", Some((TypeBase::Unsigned32, "", "", ""))),
+    ("IpAddress", Some((TypeBase::IpAddress, "", "", ""))),
+    ("Opaque (SIZE (2))", Some((TypeBase::Opaque, "", "", "2"))),
+    ("Counter64", Some((TypeBase::Counter64, "", "", ""))),
+    ("Bound", Some((TypeBase::Integer, "", "", ""))),
+];
 
 #[test]
 fn what_is_nearest_stands(rt: HostRuntime) -> Result<(), Fail> {
-    let rows = [
-        // Through two imports, to the end of the chain.
-        ("Far", Some((TypeBase::OctetString, "255a", "", "6"))),
-        (
-            "Far (SIZE (1 | 3))",
-            Some((TypeBase::OctetString, "255a", "", "1")),
-        ),
-        ("Near", Some((TypeBase::OctetString, "1x:", "", "6"))),
-        ("On", Some((TypeBase::OctetString, "1x:", "", "6"))),
-        ("NearSize", Some((TypeBase::OctetString, "255a", "", "4"))),
-        ("Ranged", Some((TypeBase::OctetString, "255a", "", "0"))),
-        ("Up", Some((TypeBase::Integer, "", "up", ""))),
-        ("Up { own(1) }", Some((TypeBase::Integer, "", "own", ""))),
-        ("Other", Some((TypeBase::Integer, "d-2", "left", ""))),
-        ("Other (1..2)", Some((TypeBase::Integer, "d-2", "left", ""))),
-        ("Flags", Some((TypeBase::Bits, "", "a", ""))),
-        ("Flags { c(0) }", Some((TypeBase::Bits, "", "c", ""))),
-        // The module's own definition, not that of another module.
-        ("Plain", Some((TypeBase::Integer, "", "", ""))),
-    ];
-    assert_eq!(rt; first_wrong(rt.alloc(), &rows)?, None);
+    assert!(rt; wrong_row(rt.alloc(), &NEAREST)?.is_none());
     Ok(())
 }
+
+static NEAREST: [Row<'static>; 13] = [
+    // Through two imports, to the end of the chain.
+    ("Far", Some((TypeBase::OctetString, "255a", "", "6"))),
+    (
+        "Far (SIZE (1 | 3))",
+        Some((TypeBase::OctetString, "255a", "", "1")),
+    ),
+    ("Near", Some((TypeBase::OctetString, "1x:", "", "6"))),
+    ("On", Some((TypeBase::OctetString, "1x:", "", "6"))),
+    ("NearSize", Some((TypeBase::OctetString, "255a", "", "4"))),
+    ("Ranged", Some((TypeBase::OctetString, "255a", "", "0"))),
+    ("Up", Some((TypeBase::Integer, "", "up", ""))),
+    ("Up { own(1) }", Some((TypeBase::Integer, "", "own", ""))),
+    ("Other", Some((TypeBase::Integer, "d-2", "left", ""))),
+    ("Other (1..2)", Some((TypeBase::Integer, "d-2", "left", ""))),
+    ("Flags", Some((TypeBase::Bits, "", "a", ""))),
+    ("Flags { c(0) }", Some((TypeBase::Bits, "", "c", ""))),
+    // The module's own definition, not that of another module.
+    ("Plain", Some((TypeBase::Integer, "", "", ""))),
+];
 
 #[test]
 fn other_chains_have_no_syntax(rt: HostRuntime) -> Result<(), Fail> {
-    let rows = [
-        // Rings of definitions and of imports.
-        ("A", None),
-        ("B", None),
-        ("Self", None),
-        ("Ring", None),
-        // Names without a definition.
-        ("Gone", None),
-        ("Absent", None),
-        ("Lost", None),
-        ("Missing", None),
-        // Names of definitions that are no types of values.
-        ("SEQUENCE OF Row", None),
-        ("Row", None),
-        ("OnRow", None),
-        ("Rows", None),
-        ("Choice", None),
-    ];
-    assert_eq!(rt; first_wrong(rt.alloc(), &rows)?, None);
+    assert!(rt; wrong_row(rt.alloc(), &WITHOUT)?.is_none());
     Ok(())
 }
 
+static WITHOUT: [Row<'static>; 13] = [
+    // Rings of definitions and of imports.
+    ("A", None),
+    ("B", None),
+    ("Self", None),
+    ("Ring", None),
+    // Names without a definition.
+    ("Gone", None),
+    ("Absent", None),
+    ("Lost", None),
+    ("Missing", None),
+    // Names of definitions that are no types of values.
+    ("SEQUENCE OF Row", None),
+    ("Row", None),
+    ("OnRow", None),
+    ("Rows", None),
+    ("Choice", None),
+];
+
 #[test]
 fn only_objects_have_a_syntax(rt: HostRuntime) -> Result<(), Fail> {
-    let modules = modules(rt.alloc(), &["INTEGER"])?;
-    let names = Names::new(rt.alloc(), &modules)?;
-    let types = Types::new(rt.alloc(), &names, &modules)?;
-    for place in 0..BEFORE {
-        assert!(rt; types.syntax(&modules, 0, place).is_none(), "{place}");
-    }
-    assert!(rt; types.syntax(&modules, 0, BEFORE).is_some());
-    assert!(rt; types.syntax(&modules, 0, BEFORE + 1).is_none());
-    assert!(rt; types.syntax(&modules, 1, 0).is_none());
-    assert!(rt; types.syntax(&modules, 3, 0).is_none());
+    let modules = modules(rt.alloc(), &[("INTEGER", None)])?;
+    assert_objects(&rt, rt.alloc(), &modules)
+}
+
+fn assert_objects(rt: &impl Abort, alloc: Global, modules: &[Module]) -> Result<(), Fail> {
+    let names = Names::new(alloc, modules)?;
+    let types = Types::new(alloc, &names, modules)?;
+    assert_places(rt, modules, &types);
     Ok(())
+}
+
+fn assert_places(rt: &impl Abort, modules: &[Module], types: &Types)
+    requires { AreTypesOf modules.now types.now }
+{
+    for place in 0..BEFORE {
+        assert!(rt; types.syntax(modules, 0, place).is_none(), "{place}");
+    }
+    assert!(rt; types.syntax(modules, 0, BEFORE).is_some());
+    assert!(rt; types.syntax(modules, 0, BEFORE + 1).is_none());
+    assert!(rt; types.syntax(modules, 1, 0).is_none());
+    assert!(rt; types.syntax(modules, 3, 0).is_none());
+}
+
+/// A module with an object at the head of a chain of 10,001 types.
+fn push_chain(text: &mut String) -> Result<(), Fail> {
+    text.push_str("M DEFINITIONS ::= BEGIN\n")?;
+    text.push_str(
+        "o OBJECT-TYPE SYNTAX T0 MAX-ACCESS read-only STATUS current DESCRIPTION \"\"\n",
+    )?;
+    text.push_str("::= { iso 1 }\n")?;
+    for k in 0..10_000 {
+        writeln!(text, "T{k} ::= T{}", k + 1)?;
+    }
+    text.push_str("T10000 ::= INTEGER { last(1) }\nEND\n")?;
+    Ok(())
+}
+
+fn chain(alloc: Global) -> Result<Vec<Module>, Fail> {
+    let mut text = String::new(alloc);
+    push_chain(&mut text)?;
+    Ok(parse_modules(alloc, text.as_bytes())?)
 }
 
 #[test]
 fn long_chains_have_a_syntax(rt: HostRuntime) -> Result<(), Fail> {
-    let alloc = rt.alloc();
-    let mut text = Vec::new(alloc);
-    text.extend_from_slice(b"M DEFINITIONS ::= BEGIN\n")?;
-    text.extend_from_slice(
-        b"o OBJECT-TYPE SYNTAX T0 MAX-ACCESS read-only STATUS current DESCRIPTION \"\"\n",
-    )?;
-    text.extend_from_slice(b"::= { iso 1 }\n")?;
-    for k in 0..10_000 {
-        let line = format!(in alloc; "T{k} ::= T{}\n", k + 1)?;
-        text.extend_from_slice(line.as_bytes())?;
-    }
-    text.extend_from_slice(b"T10000 ::= INTEGER { last(1) }\nEND\n")?;
-    let modules = parse_modules(alloc, &text)?;
-    let names = Names::new(alloc, &modules)?;
-    let types = Types::new(alloc, &names, &modules)?;
-    let found = types.syntax(&modules, 0, 0);
-    assert!(rt; is_syntax(found, Some((TypeBase::Integer, "", "last", ""))));
+    let modules = chain(rt.alloc())?;
+    assert!(rt; has_last(rt.alloc(), &modules)?);
     Ok(())
+}
+
+/// Whether the first object has the syntax at the end of the chain.
+fn has_last(alloc: Global, modules: &[Module]) -> Result<bool, Fail> {
+    let names = Names::new(alloc, modules)?;
+    let types = Types::new(alloc, &names, modules)?;
+    let found = types.syntax(modules, 0, 0);
+    Ok(is_syntax(found, Some((TypeBase::Integer, "", "last", ""))))
 }
