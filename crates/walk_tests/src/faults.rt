@@ -1,17 +1,13 @@
 //! Walks and Gets over a link that fails, and into a sink that refuses a binding.
+ghost use Rattle.snmp_walk.specs.Facts.{IsFresh};
 
-use crate::gets::are_sendable;
+use crate::runs::{ROOT, get_ends, names_of, public, table_of, walk_ends, walk_of};
 use crate::sinks::Digits;
-use snmp_agent::Config;
 use snmp_table::Table;
-use snmp_walk::{
-    Link, LinkFault, MemoryLink, Method, Mode, Sink, SinkFault, WalkCore, WalkEnd, run_get,
-    run_walk,
-};
-use snmp_wire::{Binding, parse_numeric};
+use snmp_walk::{Link, LinkFault, MemoryLink, Method, Mode, Sink, SinkFault, WalkCore, WalkEnd};
+use snmp_wire::{Binding, Oid};
 use std::alloc::Global;
 use std::process::Abort;
-use std::test::Fail;
 
 /// Three integers.
 const THREE: &[u8] =
@@ -121,64 +117,65 @@ struct Brought {
     receives: usize,
 }
 
-/// The walk over the link of a case, which fails, brings this before.
-fn assert_walk(
-    rt: &impl Abort,
+/// Whether the walk over the link of a case, which fails, brings this before.
+fn walk_brings(
     alloc: Global,
+    table: &Table,
+    core: WalkCore,
     case: Case<'_>,
     brought: Brought,
-) -> Result<(), Fail> {
-    let table = Table::read(alloc, THREE)?;
-    let root = parse_numeric(b"1.3.6.1.4.1.32473.1")?;
-    let core = WalkCore::start(root, Mode::Plain, Method::Next, b"public", 1)?;
-    let config = Config {
-        community: b"public",
-        max_size: 1472,
-    };
-    let link = MemoryLink::new(alloc, &table, config, case.deliveries);
+) -> bool
+    requires { IsFresh core }
+{
+    let link = MemoryLink::new(alloc, table, public(1472), case.deliveries);
     let mut link = Failing::new(link, case.send, case.receive);
     let mut digits = Digits::new();
-    let ended = run_walk(&mut link, core, 2, &mut digits);
-    assert!(rt; ended == WalkEnd::Link);
-    assert_eq!(rt; link.faults(), 1);
-    assert_eq!(rt; digits.number, brought.number);
-    assert_eq!(rt; link.sends.count, brought.sends);
-    assert_eq!(rt; link.receives.count, brought.receives);
-    Ok(())
+    walk_ends(&mut link, core, 2, &mut digits, &WalkEnd::Link)
+        && link.faults() == 1
+        && digits.number == brought.number
+        && link.sends.count == brought.sends
+        && link.receives.count == brought.receives
 }
 
-/// The Get over the link of a case, which fails, gives nothing, after this many sends and receives.
-fn assert_get(
-    rt: &impl Abort,
+/// The walk over the link of a case, which fails, brings this before.
+fn assert_walk(rt: &impl Abort, alloc: Global, case: Case<'_>, brought: Brought) {
+    let core = walk_of(rt, ROOT, Mode::Plain, Method::Next, 1);
+    let table = table_of(rt, alloc, THREE);
+    assert!(rt; walk_brings(alloc, &table, core, case, brought));
+}
+
+/// Whether the Get over the link of a case, which fails, gives nothing, after this many sends and
+/// receives.
+fn get_brings_nothing(
     alloc: Global,
+    table: &Table,
+    names: &[Oid],
     case: Case<'_>,
     sends: usize,
     receives: usize,
-) -> Result<(), Fail> {
-    let table = Table::read(alloc, THREE)?;
-    let names = [parse_numeric(b"1.3.6.1.4.1.32473.1.1.0")?];
-    let config = Config {
-        community: b"public",
-        max_size: 1472,
-    };
-    let link = MemoryLink::new(alloc, &table, config, case.deliveries);
+) -> bool {
+    let link = MemoryLink::new(alloc, table, public(1472), case.deliveries);
     let mut link = Failing::new(link, case.send, case.receive);
     let mut digits = Digits::new();
-    assert!(rt; are_sendable(&names));
-    let ended = run_get(&mut link, &names, b"public", 1, 2, &mut digits);
-    assert!(rt; ended == WalkEnd::Link);
-    assert_eq!(rt; link.faults(), 1);
-    assert_eq!(rt; digits.rows, 0);
-    assert_eq!(rt; link.sends.count, sends);
-    assert_eq!(rt; link.receives.count, receives);
-    Ok(())
+    get_ends(&mut link, names, 1, 2, &mut digits, &WalkEnd::Link)
+        && link.faults() == 1
+        && digits.rows == 0
+        && link.sends.count == sends
+        && link.receives.count == receives
+}
+
+/// The Get over the link of a case, which fails, gives nothing, after this many sends and receives.
+fn assert_get(rt: &impl Abort, alloc: Global, case: Case<'_>, sends: usize, receives: usize) {
+    let names = names_of(rt, alloc, &[b"1.3.6.1.4.1.32473.1.1.0"]);
+    let table = table_of(rt, alloc, THREE);
+    assert!(rt; get_brings_nothing(alloc, &table, &names, case, sends, receives));
 }
 
 #[test]
-fn a_failing_link_ends_the_walk_after_what_was_given(rt: HostRuntime) -> Result<(), Fail> {
+fn a_failing_link_ends_the_walk_after_what_was_given(rt: HostRuntime) {
     // The deliveries, the failing send and receive, the integers, and how many sends and receives
     // there are.
-    let cases: [(&[Option<usize>], usize, usize, u64, usize, usize); 12] = [
+    const CASES: [(&[Option<usize>], usize, usize, u64, usize, usize); 12] = [
         (&[], 1, 0, 0, 1, 0),
         (&[], 2, 0, 1, 2, 1),
         (&[], 3, 0, 12, 3, 2),
@@ -194,7 +191,7 @@ fn a_failing_link_ends_the_walk_after_what_was_given(rt: HostRuntime) -> Result<
         (&[Some(1), Some(1), Some(1)], 0, 4, 1, 2, 4),
         (&[None, None], 3, 0, 0, 3, 2),
     ];
-    for (deliveries, send, receive, number, sends, receives) in cases {
+    for (deliveries, send, receive, number, sends, receives) in CASES {
         let case = Case {
             deliveries,
             send,
@@ -205,30 +202,28 @@ fn a_failing_link_ends_the_walk_after_what_was_given(rt: HostRuntime) -> Result<
             sends,
             receives,
         };
-        assert_walk(&rt, rt.alloc(), case, brought)?;
+        assert_walk(&rt, rt.alloc(), case, brought);
     }
-    Ok(())
 }
 
 #[test]
-fn a_failing_link_ends_a_get_with_nothing(rt: HostRuntime) -> Result<(), Fail> {
+fn a_failing_link_ends_a_get_with_nothing(rt: HostRuntime) {
     // The deliveries, the failing send and receive, and how many of each there are.
-    let cases: [(&[Option<usize>], usize, usize, usize, usize); 5] = [
+    const CASES: &[(&[Option<usize>], usize, usize, usize, usize)] = &[
         (&[], 1, 0, 1, 0),
         (&[], 0, 1, 1, 1),
         (&[None], 2, 0, 2, 1),
         (&[None], 0, 2, 2, 2),
         (&[None, None], 0, 3, 3, 3),
     ];
-    for (deliveries, send, receive, sends, receives) in cases {
+    for &(deliveries, send, receive, sends, receives) in CASES {
         let case = Case {
             deliveries,
             send,
             receive,
         };
-        assert_get(&rt, rt.alloc(), case, sends, receives)?;
+        assert_get(&rt, rt.alloc(), case, sends, receives);
     }
-    Ok(())
 }
 
 /// Takes bindings as digits, and refuses the one of this number, counted from 1, for this reason.
@@ -252,6 +247,40 @@ impl Sink for Refusing {
     }
 }
 
+impl Refusing {
+    /// The sink that refuses this binding for this reason, and was given none.
+    fn new(refused: usize, fault: SinkFault) -> Refusing {
+        Refusing {
+            digits: Digits::new(),
+            refused,
+            fault,
+            calls: 0,
+        }
+    }
+
+    /// Whether it was given these integers, and after them the binding that it refuses.
+    fn was_given(&self, number: u64) -> bool {
+        self.digits.number == number && self.calls == self.refused
+    }
+}
+
+/// Whether a walk into a sink that refuses the binding of this number for this reason gives the
+/// integers before it, and nothing after it.
+fn is_walk_refused(
+    alloc: Global,
+    table: &Table,
+    core: WalkCore,
+    refused: usize,
+    fault: SinkFault,
+    number: u64,
+) -> bool
+    requires { IsFresh core }
+{
+    let mut link = MemoryLink::new(alloc, table, public(1472), &[]);
+    let mut sink = Refusing::new(refused, fault);
+    walk_ends(&mut link, core, 0, &mut sink, &WalkEnd::Sink(fault)) && sink.was_given(number)
+}
+
 /// A walk below this root into a sink that refuses the binding of this number for this reason gives
 /// the integers before it, and nothing after it.
 fn assert_refused(
@@ -262,47 +291,47 @@ fn assert_refused(
     refused: usize,
     fault: SinkFault,
     number: u64,
-) -> Result<(), Fail> {
-    let table = Table::read(alloc, THREE)?;
-    let method = match method {
-        Method::Next => Method::Next,
-        Method::Bulk(repetitions) => Method::Bulk(repetitions.max(1)),
-    };
-    let core = WalkCore::start(parse_numeric(root)?, Mode::Plain, method, b"public", 1)?;
-    let config = Config {
-        community: b"public",
-        max_size: 1472,
-    };
-    let mut link = MemoryLink::new(alloc, &table, config, &[]);
-    let mut sink = Refusing {
-        digits: Digits::new(),
-        refused,
-        fault,
-        calls: 0,
-    };
-    let ended = run_walk(&mut link, core, 0, &mut sink);
-    assert!(rt; ended == WalkEnd::Sink(fault));
-    assert_eq!(rt; sink.digits.number, number);
-    assert_eq!(rt; sink.calls, refused);
-    Ok(())
+) {
+    let core = walk_of(rt, root, Mode::Plain, method, 1);
+    let table = table_of(rt, alloc, THREE);
+    assert!(rt; is_walk_refused(alloc, &table, core, refused, fault, number));
 }
 
-const ROOT: &[u8] = b"1.3.6.1.4.1.32473.1";
-
 #[test]
-fn a_refused_binding_ends_the_walk_after_those_before(rt: HostRuntime) -> Result<(), Fail> {
+fn a_refused_binding_ends_the_walk_after_those_before(rt: HostRuntime) {
     for fault in [SinkFault::Output, SinkFault::Memory] {
         for method in [Method::Next, Method::Bulk(2), Method::Bulk(10)] {
             for (refused, number) in [(1, 0), (2, 1), (3, 12)] {
-                assert_refused(&rt, rt.alloc(), ROOT, method, refused, fault, number)?;
+                assert_refused(&rt, rt.alloc(), ROOT, method, refused, fault, number);
             }
         }
         // The one binding is what a Get of the root gives.
         let leaf = b"1.3.6.1.4.1.32473.1.1.0";
-        assert_refused(&rt, rt.alloc(), leaf, Method::Next, 1, fault, 0)?;
+        assert_refused(&rt, rt.alloc(), leaf, Method::Next, 1, fault, 0);
     }
-    Ok(())
 }
+
+/// Whether a Get into a sink that refuses the binding of this number for this reason gives the
+/// integers before it, and nothing after it.
+fn is_get_refused(
+    alloc: Global,
+    table: &Table,
+    names: &[Oid],
+    refused: usize,
+    fault: SinkFault,
+    number: u64,
+) -> bool {
+    let mut link = MemoryLink::new(alloc, table, public(1472), &[]);
+    let mut sink = Refusing::new(refused, fault);
+    get_ends(&mut link, names, 1, 2, &mut sink, &WalkEnd::Sink(fault)) && sink.was_given(number)
+}
+
+/// The names of the three integers, from the last on.
+const NAMES: [&[u8]; 3] = [
+    b"1.3.6.1.4.1.32473.1.10.0",
+    b"1.3.6.1.4.1.32473.1.2.0",
+    b"1.3.6.1.4.1.32473.1.1.0",
+];
 
 /// A Get into a sink that refuses the binding of this number for this reason gives the integers
 /// before it, and nothing after it.
@@ -312,38 +341,17 @@ fn assert_get_refused(
     refused: usize,
     fault: SinkFault,
     number: u64,
-) -> Result<(), Fail> {
-    let table = Table::read(alloc, THREE)?;
-    let names = [
-        parse_numeric(b"1.3.6.1.4.1.32473.1.10.0")?,
-        parse_numeric(b"1.3.6.1.4.1.32473.1.2.0")?,
-        parse_numeric(b"1.3.6.1.4.1.32473.1.1.0")?,
-    ];
-    let config = Config {
-        community: b"public",
-        max_size: 1472,
-    };
-    let mut link = MemoryLink::new(alloc, &table, config, &[]);
-    let mut sink = Refusing {
-        digits: Digits::new(),
-        refused,
-        fault,
-        calls: 0,
-    };
-    assert!(rt; are_sendable(&names));
-    let ended = run_get(&mut link, &names, b"public", 1, 2, &mut sink);
-    assert!(rt; ended == WalkEnd::Sink(fault));
-    assert_eq!(rt; sink.digits.number, number);
-    assert_eq!(rt; sink.calls, refused);
-    Ok(())
+) {
+    let names = names_of(rt, alloc, &NAMES);
+    let table = table_of(rt, alloc, THREE);
+    assert!(rt; is_get_refused(alloc, &table, &names, refused, fault, number));
 }
 
 #[test]
-fn a_refused_binding_ends_the_get_after_those_before(rt: HostRuntime) -> Result<(), Fail> {
+fn a_refused_binding_ends_the_get_after_those_before(rt: HostRuntime) {
     for fault in [SinkFault::Output, SinkFault::Memory] {
         for (refused, number) in [(1, 0), (2, 3), (3, 32)] {
-            assert_get_refused(&rt, rt.alloc(), refused, fault, number)?;
+            assert_get_refused(&rt, rt.alloc(), refused, fault, number);
         }
     }
-    Ok(())
 }

@@ -1,16 +1,13 @@
 //! Gets over links in memory: of names that the agent has and hasn't, over lost replies, and where
 //! a message is too long.
-ghost use Rattle.std.specs.Prelude.{◌≡◌, All, true};
-ghost use Rattle.snmp_oid.specs.Identifier.{IsWire, wire};
 
+use crate::runs::{get_ends, names_of, public, push, table_of};
 use crate::sinks::{Counted, Digits};
-use snmp_agent::Config;
 use snmp_table::Table;
-use snmp_walk::{MemoryLink, WalkEnd, run_get};
-use snmp_wire::{Oid, parse_numeric};
+use snmp_walk::{MemoryLink, WalkEnd};
+use snmp_wire::Oid;
 use std::alloc::Global;
 use std::process::Abort;
-use std::test::Fail;
 
 /// Three integers and an object prefix.
 const THREE: &[u8] = b"object 1.3.6.1.4.1.32473.1.4\n\
@@ -18,14 +15,27 @@ const THREE: &[u8] = b"object 1.3.6.1.4.1.32473.1.4\n\
     1.3.6.1.4.1.32473.1.2.0|2|2\n\
     1.3.6.1.4.1.32473.1.1.0|2|1\n";
 
-/// A Get: its names, its agent's greatest size, its retries and deliveries.
+/// The name of the integer 1, that of the integer 2, and one between them and the integer 3.
+const FIRST: &[u8] = b"1.3.6.1.4.1.32473.1.1.0";
+
+const SECOND: &[u8] = b"1.3.6.1.4.1.32473.1.2.0";
+
+const ABSENT: &[u8] = b"1.3.6.1.4.1.32473.1.3.0";
+
+/// A Get: its agent's greatest size, its retries and deliveries.
 #[derive(Clone, Copy)]
 struct Case<'a> {
-    names: &'a [Oid],
     max_size: usize,
     retries: u32,
     deliveries: &'a [Option<usize>],
 }
+
+/// A Get that isn't sent again, over a link that brings each reply.
+const ONCE: Case<'static> = Case {
+    max_size: 1472,
+    retries: 0,
+    deliveries: &[],
+};
 
 /// What a Get brings: the integers as digits, how many bindings, and how many datagrams it sends.
 #[derive(Clone, Copy)]
@@ -35,92 +45,74 @@ struct Brought {
     sends: usize,
 }
 
-/// Whether each name can be sent.
-pub(crate) fn are_sendable(names: &[Oid]) -> bool
-    ensures { result ≡ true → All (λ o. IsWire (wire o)) names.now }
-{
-    names.iter().all(|name| name.to_wire().is_ok())
-}
-
-/// The Get of a case brings this, and ends in this way.
-fn assert_get(
-    rt: &impl Abort,
+/// Whether the Get of a case brings this, and ends in this way.
+fn brings(
     alloc: Global,
+    table: &Table,
+    names: &[Oid],
     case: Case<'_>,
     brought: Brought,
     end: &WalkEnd,
-) -> Result<(), Fail> {
-    let table = Table::read(alloc, THREE)?;
-    let config = Config {
-        community: b"public",
-        max_size: case.max_size.clamp(1, 65507),
-    };
-    let mut link = Counted::new(MemoryLink::new(alloc, &table, config, case.deliveries));
+) -> bool {
+    let agent = public(case.max_size);
+    let mut link = Counted::new(MemoryLink::new(alloc, table, agent, case.deliveries));
     let mut digits = Digits::new();
-    assert!(rt; !case.names.is_empty());
-    assert!(rt; are_sendable(case.names));
-    let ended = run_get(
-        &mut link,
-        case.names,
-        b"public",
-        1,
-        case.retries,
-        &mut digits,
-    );
-    assert!(rt; ended == *end);
-    assert_eq!(rt; digits.number, brought.number);
-    assert_eq!(rt; digits.rows, brought.rows);
-    assert_eq!(rt; link.sends, brought.sends);
-    Ok(())
+    get_ends(&mut link, names, 1, case.retries, &mut digits, end)
+        && digits.number == brought.number
+        && digits.rows == brought.rows
+        && link.sends == brought.sends
+}
+
+/// The Get of these names brings this, and ends in this way.
+fn assert_get(
+    rt: &impl Abort,
+    alloc: Global,
+    names: &[&[u8]],
+    case: Case<'_>,
+    brought: Brought,
+    end: WalkEnd,
+) {
+    let names = names_of(rt, alloc, names);
+    let table = table_of(rt, alloc, THREE);
+    assert!(rt; brings(alloc, &table, &names, case, brought, &end));
 }
 
 #[test]
-fn names_are_given_in_order(rt: HostRuntime) -> Result<(), Fail> {
+fn names_are_given_in_order(rt: HostRuntime) {
     let names = [
-        parse_numeric(b"1.3.6.1.4.1.32473.1.10.0")?,
-        parse_numeric(b"1.3.6.1.4.1.32473.1.3.0")?,
-        parse_numeric(b"1.3.6.1.4.1.32473.1.4.9")?,
-        parse_numeric(b"1.3.6.1.4.1.32473.1.1.0")?,
-        parse_numeric(b"1.3.6.1.4.1.32473.1.10.0")?,
-        parse_numeric(b"1")?,
+        b"1.3.6.1.4.1.32473.1.10.0".as_slice(),
+        ABSENT,
+        b"1.3.6.1.4.1.32473.1.4.9",
+        FIRST,
+        b"1.3.6.1.4.1.32473.1.10.0",
+        b"1",
     ];
-    let case = Case {
-        names: &names,
-        max_size: 1472,
-        retries: 0,
-        deliveries: &[],
-    };
     let brought = Brought {
         number: 313,
         rows: 6,
         sends: 1,
     };
-    assert_get(&rt, rt.alloc(), case, brought, &WalkEnd::Done(6))?;
-    let present = [parse_numeric(b"1.3.6.1.4.1.32473.1.1.0")?];
-    let one = Case {
-        names: &present,
-        ..case
-    };
+    assert_get(&rt, rt.alloc(), &names, ONCE, brought, WalkEnd::Done(6));
     let first = Brought {
         number: 1,
         rows: 1,
         sends: 1,
     };
-    assert_get(&rt, rt.alloc(), one, first, &WalkEnd::Done(1))?;
-    let absent = [parse_numeric(b"1.3.6.1.4.1.32473.1.3.0")?];
-    let other = Case {
-        names: &absent,
-        ..case
-    };
+    assert_get(&rt, rt.alloc(), &[FIRST], ONCE, first, WalkEnd::Done(1));
     let exception = Brought { number: 0, ..first };
-    assert_get(&rt, rt.alloc(), other, exception, &WalkEnd::Done(1))
+    assert_get(
+        &rt,
+        rt.alloc(),
+        &[ABSENT],
+        ONCE,
+        exception,
+        WalkEnd::Done(1),
+    );
 }
 
 #[test]
-fn a_lost_reply_is_asked_for_again(rt: HostRuntime) -> Result<(), Fail> {
-    let names = [parse_numeric(b"1.3.6.1.4.1.32473.1.2.0")?];
+fn a_lost_reply_is_asked_for_again(rt: HostRuntime) {
     let case = Case {
-        names: &names,
         max_size: 1472,
         retries: 2,
         deliveries: &[None, Some(0)],
@@ -130,7 +122,7 @@ fn a_lost_reply_is_asked_for_again(rt: HostRuntime) -> Result<(), Fail> {
         rows: 1,
         sends: 3,
     };
-    assert_get(&rt, rt.alloc(), case, brought, &WalkEnd::Done(1))?;
+    assert_get(&rt, rt.alloc(), &[SECOND], case, brought, WalkEnd::Done(1));
     // The reply to the first datagram is one to each other, which are the same.
     let late = Case {
         deliveries: &[None, Some(1)],
@@ -140,32 +132,36 @@ fn a_lost_reply_is_asked_for_again(rt: HostRuntime) -> Result<(), Fail> {
         sends: 2,
         ..brought
     };
-    assert_get(&rt, rt.alloc(), late, twice, &WalkEnd::Done(1))?;
+    assert_get(&rt, rt.alloc(), &[SECOND], late, twice, WalkEnd::Done(1));
     let silent = Case { retries: 1, ..case };
     let nothing = Brought {
         number: 0,
         rows: 0,
         sends: 2,
     };
-    assert_get(&rt, rt.alloc(), silent, nothing, &WalkEnd::NoResponse)
+    assert_get(
+        &rt,
+        rt.alloc(),
+        &[SECOND],
+        silent,
+        nothing,
+        WalkEnd::NoResponse,
+    );
 }
 
 #[test]
-fn a_response_that_does_not_fit_is_too_big(rt: HostRuntime) -> Result<(), Fail> {
-    let names = [parse_numeric(b"1.3.6.1.4.1.32473.1.2.0")?];
+fn a_response_that_does_not_fit_is_too_big(rt: HostRuntime) {
     // The Response has 44 octets, and the one without bindings 26.
     let case = Case {
-        names: &names,
         max_size: 44,
-        retries: 0,
-        deliveries: &[],
+        ..ONCE
     };
     let brought = Brought {
         number: 2,
         rows: 1,
         sends: 1,
     };
-    assert_get(&rt, rt.alloc(), case, brought, &WalkEnd::Done(1))?;
+    assert_get(&rt, rt.alloc(), &[SECOND], case, brought, WalkEnd::Done(1));
     let nothing = Brought {
         number: 0,
         rows: 0,
@@ -173,45 +169,67 @@ fn a_response_that_does_not_fit_is_too_big(rt: HostRuntime) -> Result<(), Fail> 
     };
     let small = Case {
         max_size: 43,
-        ..case
+        ..ONCE
     };
-    assert_get(&rt, rt.alloc(), small, nothing, &WalkEnd::Fault(1, 0))?;
+    assert_get(
+        &rt,
+        rt.alloc(),
+        &[SECOND],
+        small,
+        nothing,
+        WalkEnd::Fault(1, 0),
+    );
     let none = Case {
         max_size: 25,
-        ..case
+        ..ONCE
     };
-    assert_get(&rt, rt.alloc(), none, nothing, &WalkEnd::NoResponse)
+    assert_get(
+        &rt,
+        rt.alloc(),
+        &[SECOND],
+        none,
+        nothing,
+        WalkEnd::NoResponse,
+    );
 }
 
-#[test]
-fn a_request_that_fits_no_datagram_is_not_sent(rt: HostRuntime) -> Result<(), Fail> {
-    // 128 numbers in 627 octets, and 637 in the binding that asks for them.
+/// 103 names of 128 numbers, each of 627 octets, and 637 in the binding that asks for it.
+fn longest_names(rt: &impl Abort, alloc: Global) -> Vec<Oid> {
     let mut longest = [4294967295; 128];
     longest[..3].copy_from_slice(&[1, 3, 6]);
-    let mut names = Vec::new(rt.alloc());
+    let mut names = Vec::new(alloc);
     for _ in 0..103 {
-        names.push(Oid::from_slice(&longest)?)?;
+        let name = Oid::from_slice(&longest).expect(rt, "a name");
+        push(rt, &mut names, name);
     }
+    names
+}
+
+/// Whether a Get of 102 of the longest names is sent and done, and that of 103 isn't sent.
+fn is_one_too_many(alloc: Global, table: &Table, names: &[Oid]) -> bool {
     let case = Case {
-        names: names.get(..102).unwrap_or(&[]),
         max_size: 65507,
-        retries: 0,
-        deliveries: &[],
+        ..ONCE
     };
     let brought = Brought {
         number: 0,
         rows: 102,
         sends: 1,
     };
-    assert_get(&rt, rt.alloc(), case, brought, &WalkEnd::Done(102))?;
-    let longer = Case {
-        names: &names,
-        ..case
-    };
     let nothing = Brought {
         rows: 0,
         sends: 0,
         ..brought
     };
-    assert_get(&rt, rt.alloc(), longer, nothing, &WalkEnd::RequestTooLong)
+    let fitting = names.get(..102).unwrap_or(&[]);
+    brings(alloc, table, fitting, case, brought, &WalkEnd::Done(102))
+        && names.len() == 103
+        && brings(alloc, table, names, case, nothing, &WalkEnd::RequestTooLong)
+}
+
+#[test]
+fn a_request_that_fits_no_datagram_is_not_sent(rt: HostRuntime) {
+    let names = longest_names(&rt, rt.alloc());
+    let table = table_of(&rt, rt.alloc(), THREE);
+    assert!(&rt; is_one_too_many(rt.alloc(), &table, &names));
 }

@@ -1,11 +1,10 @@
 //! Walks and Gets over an agent that lies: its replies have the id that is waited for, and a fault.
 
-use crate::gets::are_sendable;
+use crate::runs::{ROOT, get_ends, name_of, names_of, walk_ends, walk_of};
 use crate::sinks::Digits;
-use snmp_walk::{Link, LinkFault, Method, Mode, WalkCore, WalkEnd, run_get, run_walk};
-use snmp_wire::{Oid, parse_numeric};
+use snmp_walk::{Link, LinkFault, Method, Mode, WalkEnd};
+use snmp_wire::Oid;
 use std::process::Abort;
-use std::test::Fail;
 
 /// The reply with 1.3.6.1.4.1.32473.1.1.0, whose value is the integer 1.
 pub(crate) const ROW: [u8; 44] = [
@@ -133,20 +132,11 @@ fn assert_end(
     rows: usize,
     sends: usize,
     end: &WalkEnd,
-) -> Result<(), Fail> {
-    let core = WalkCore::start(
-        parse_numeric(b"1.3.6.1.4.1.32473.1")?,
-        Mode::Plain,
-        Method::Next,
-        b"public",
-        first_id & 0x7FFF_FFFF,
-    )?;
+) {
+    let core = walk_of(rt, ROOT, Mode::Plain, Method::Next, first_id);
     let mut digits = Digits::new();
-    let ended = run_walk(&mut liar, core, 2, &mut digits);
-    assert!(rt; ended == *end);
-    assert_eq!(rt; digits.rows, rows);
-    assert_eq!(rt; liar.sends, sends);
-    Ok(())
+    assert!(rt; walk_ends(&mut liar, core, 2, &mut digits, end));
+    assert!(rt; digits.rows == rows && liar.sends == sends);
 }
 
 /// The Get of these names over this liar gives this many bindings, and ends in this way after this
@@ -159,13 +149,9 @@ fn assert_get(
     sends: usize,
     end: &WalkEnd,
 ) {
-    assert!(rt; !names.is_empty());
-    assert!(rt; are_sendable(names));
     let mut digits = Digits::new();
-    let ended = run_get(&mut liar, names, b"public", 1, 2, &mut digits);
-    assert!(rt; ended == *end);
-    assert_eq!(rt; digits.rows, rows);
-    assert_eq!(rt; liar.sends, sends);
+    assert!(rt; get_ends(&mut liar, names, 1, 2, &mut digits, end));
+    assert!(rt; digits.rows == rows && liar.sends == sends);
 }
 
 /// A liar with this reply, whose first id is 1.
@@ -190,56 +176,66 @@ fn late() -> Liar<'static> {
     }
 }
 
-#[test]
-fn each_lie_has_its_end(rt: HostRuntime) -> Result<(), Fail> {
-    let last = parse_numeric(b"1.3.6.1.4.1.32473.1.1.0")?;
-    let got = parse_numeric(b"1.3.6.1.4.1.32473.1.1.0")?;
-    let end = WalkEnd::NotIncreasing { last, got };
-    assert_end(&rt, lying(&ROW), 1, 1, 2, &end)?;
-    assert_end(&rt, lying(TWO), 1, 0, 1, &WalkEnd::BadReply)?;
-    assert_end(&rt, lying(MISSING), 1, 0, 1, &WalkEnd::BadReply)?;
-    let asked = parse_numeric(b"1.3.6.1.4.1.32473.1")?;
-    assert_end(&rt, lying(NONE), 1, 0, 1, &WalkEnd::NoProgress { asked })?;
-    assert_end(&rt, lying(GENERAL_ERROR), 1, 0, 1, &WalkEnd::Fault(5, 1))?;
-    assert_end(&rt, lying(UNKNOWN_ERROR), 1, 0, 1, &WalkEnd::Fault(19, 0))?;
-    assert_end(&rt, late(), 2147483645, 3, 3, &WalkEnd::TooManyRequests)
+/// The end of a walk whose second reply repeats the name of its first.
+fn not_increasing(rt: &impl Abort) -> WalkEnd {
+    let last = name_of(rt, b"1.3.6.1.4.1.32473.1.1.0");
+    let got = name_of(rt, b"1.3.6.1.4.1.32473.1.1.0");
+    WalkEnd::NotIncreasing { last, got }
+}
+
+/// The end of a walk whose first reply is without bindings.
+fn no_progress(rt: &impl Abort) -> WalkEnd {
+    let asked = name_of(rt, ROOT);
+    WalkEnd::NoProgress { asked }
+}
+
+/// A repeated and a missing name end a walk.
+fn assert_names_end(rt: &impl Abort) {
+    assert_end(rt, lying(&ROW), 1, 1, 2, &not_increasing(rt));
+    assert_end(rt, lying(NONE), 1, 0, 1, &no_progress(rt));
 }
 
 #[test]
-fn each_lie_to_a_get_has_its_end(rt: HostRuntime) -> Result<(), Fail> {
-    let one = [parse_numeric(b"1.3.6.1.4.1.32473.1.1.0")?];
-    assert_get(&rt, lying(&ROW), &one, 1, 1, &WalkEnd::Done(1));
-    assert_get(&rt, lying(MISSING), &one, 1, 1, &WalkEnd::Done(1));
-    assert_get(&rt, lying(TWO), &one, 0, 1, &WalkEnd::BadReply);
-    assert_get(&rt, lying(END), &one, 0, 1, &WalkEnd::BadReply);
-    assert_get(&rt, lying(NONE), &one, 0, 1, &WalkEnd::BadReply);
-    assert_get(&rt, lying(GENERAL_ERROR), &one, 0, 1, &WalkEnd::Fault(5, 1));
-    assert_get(
-        &rt,
-        lying(UNKNOWN_ERROR),
-        &one,
-        0,
-        1,
-        &WalkEnd::Fault(19, 0),
-    );
-    assert_get(&rt, late(), &one, 0, 3, &WalkEnd::NoResponse);
-    Ok(())
+fn each_lie_has_its_end(rt: HostRuntime) {
+    assert_names_end(&rt);
+    assert_end(&rt, lying(TWO), 1, 0, 1, &WalkEnd::BadReply);
+    assert_end(&rt, lying(MISSING), 1, 0, 1, &WalkEnd::BadReply);
+    assert_end(&rt, lying(GENERAL_ERROR), 1, 0, 1, &WalkEnd::Fault(5, 1));
+    assert_end(&rt, lying(UNKNOWN_ERROR), 1, 0, 1, &WalkEnd::Fault(19, 0));
+    assert_end(&rt, late(), 2147483645, 3, 3, &WalkEnd::TooManyRequests);
+}
+
+/// Each lie to a Get of one name has its end.
+fn assert_lies_to_get(rt: &impl Abort, one: &[Oid]) {
+    assert_get(rt, lying(&ROW), one, 1, 1, &WalkEnd::Done(1));
+    assert_get(rt, lying(MISSING), one, 1, 1, &WalkEnd::Done(1));
+    assert_get(rt, lying(TWO), one, 0, 1, &WalkEnd::BadReply);
+    assert_get(rt, lying(END), one, 0, 1, &WalkEnd::BadReply);
+    assert_get(rt, lying(NONE), one, 0, 1, &WalkEnd::BadReply);
+    assert_get(rt, lying(GENERAL_ERROR), one, 0, 1, &WalkEnd::Fault(5, 1));
+    assert_get(rt, lying(UNKNOWN_ERROR), one, 0, 1, &WalkEnd::Fault(19, 0));
+    assert_get(rt, late(), one, 0, 3, &WalkEnd::NoResponse);
 }
 
 #[test]
-fn a_get_wants_just_its_names_in_their_order(rt: HostRuntime) -> Result<(), Fail> {
-    let both = [
-        parse_numeric(b"1.3.6.1.4.1.32473.1.1.0")?,
-        parse_numeric(b"1.3.6.1.4.1.32473.1.2.0")?,
-    ];
-    assert_get(&rt, lying(TWO), &both, 2, 1, &WalkEnd::Done(2));
-    assert_get(&rt, lying(&ROW), &both, 0, 1, &WalkEnd::BadReply);
-    let swapped = [
-        parse_numeric(b"1.3.6.1.4.1.32473.1.2.0")?,
-        parse_numeric(b"1.3.6.1.4.1.32473.1.1.0")?,
-    ];
-    assert_get(&rt, lying(TWO), &swapped, 0, 1, &WalkEnd::BadReply);
-    let other = [parse_numeric(b"1.3.6.1.4.1.32473.1.2.0")?];
-    assert_get(&rt, lying(&ROW), &other, 0, 1, &WalkEnd::BadReply);
-    Ok(())
+fn each_lie_to_a_get_has_its_end(rt: HostRuntime) {
+    let one = [name_of(&rt, b"1.3.6.1.4.1.32473.1.1.0")];
+    assert_lies_to_get(&rt, &one);
+}
+
+/// The replies with both names and with the first one alone are replies to Gets of just these.
+fn assert_names_wanted(rt: &impl Abort, both: &[Oid], swapped: &[Oid], second: &[Oid]) {
+    assert_get(rt, lying(TWO), both, 2, 1, &WalkEnd::Done(2));
+    assert_get(rt, lying(&ROW), both, 0, 1, &WalkEnd::BadReply);
+    assert_get(rt, lying(TWO), swapped, 0, 1, &WalkEnd::BadReply);
+    assert_get(rt, lying(&ROW), second, 0, 1, &WalkEnd::BadReply);
+}
+
+#[test]
+fn a_get_wants_just_its_names_in_their_order(rt: HostRuntime) {
+    let first: &[u8] = b"1.3.6.1.4.1.32473.1.1.0";
+    let second: &[u8] = b"1.3.6.1.4.1.32473.1.2.0";
+    let both = names_of(&rt, rt.alloc(), &[first, second]);
+    let swapped = names_of(&rt, rt.alloc(), &[second, first]);
+    assert_names_wanted(&rt, &both, &swapped, swapped.get(..1).unwrap_or(&[]));
 }

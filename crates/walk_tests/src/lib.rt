@@ -13,6 +13,8 @@ mod memory;
 #[cfg(test)]
 mod requests;
 #[cfg(test)]
+mod runs;
+#[cfg(test)]
 mod schedules;
 #[cfg(test)]
 mod sinks;

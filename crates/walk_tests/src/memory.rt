@@ -1,10 +1,10 @@
 //! Receives from a link in memory into buffers of any length.
 
-use snmp_agent::Config;
+use crate::runs::{public, table_of};
 use snmp_table::Table;
 use snmp_walk::{Link, LinkFault, MemoryLink};
+use std::alloc::Global;
 use std::process::Abort;
-use std::test::Fail;
 
 /// The Get of 1.3.6.1.4.1.32473.8.1, in community `public` with id 1.
 const GET: [u8; 42] = [
@@ -20,52 +20,68 @@ const GOT: [u8; 43] = [
     0x01, 0x04, 0x01, 0x81, 0xFD, 0x59, 0x08, 0x01, 0x02, 0x01, 0x07,
 ];
 
-/// A receive into a whole buffer brings the Response of this id, or nothing where there is none.
-fn assert_received(rt: &impl Abort, link: &mut MemoryLink<'_>, id: Option<u8>) -> Result<(), Fail> {
-    let mut buffer = [0; 65507];
-    let got = link.receive(&mut buffer)?;
-    match id {
-        None => assert!(rt; got.is_none()),
-        Some(id) => {
-            let mut reply = GOT;
-            reply[17] = id;
-            assert!(rt; got == Some(43));
-            assert!(rt; buffer.starts_with(&reply));
-        }
+/// Sends the Get with each of the ids 1, 2 and 3.
+fn send_three(rt: &impl Abort, link: &mut MemoryLink<'_>) {
+    for id in 1..4 {
+        let mut request = GET;
+        request[17] = id;
+        assert!(rt; link.send(&request).is_ok());
     }
-    Ok(())
+}
+
+/// Whether a receive into a whole buffer brings the Response of this id, after this many faults.
+fn brings(link: &mut MemoryLink<'_>, id: u8, faults: u64) -> bool {
+    let mut buffer = [0; 65507];
+    let mut reply = GOT;
+    reply[17] = id;
+    link.receive(&mut buffer) == Ok(Some(43))
+        && buffer.starts_with(&reply)
+        && link.faults() == faults
+}
+
+/// Whether a receive into a whole buffer brings nothing.
+fn brings_nothing(link: &mut MemoryLink<'_>) -> bool {
+    let mut buffer = [0; 65507];
+    link.receive(&mut buffer) == Ok(None)
+}
+
+/// Whether a receive into a longer buffer brings a Response, after this many faults.
+fn brings_into_longer(link: &mut MemoryLink<'_>, faults: u64) -> bool {
+    let mut longer = [0; 65508];
+    link.receive(&mut longer) == Ok(Some(43)) && link.faults() == faults
+}
+
+/// Whether a receive into this buffer is the fault of this number.
+fn is_fault(link: &mut MemoryLink<'_>, buffer: &mut [u8], number: u64) -> bool {
+    link.receive(buffer) == Err(LinkFault) && link.faults() == number
+}
+
+/// Whether the link brings the replies to the requests 1, 2 and 3, the second after nothing, and
+/// between them a fault for each short buffer.
+fn brings_all(link: &mut MemoryLink<'_>) -> bool {
+    let mut short = [0; 65506];
+    let mut exact = [0; 43];
+    is_fault(link, &mut short, 1)
+        && is_fault(link, &mut [], 2)
+        && brings(link, 1, 2)
+        && is_fault(link, &mut short, 3)
+        && brings_nothing(link)
+        && brings(link, 2, 3)
+        && is_fault(link, &mut exact, 4)
+        && brings(link, 3, 4)
+        && brings_into_longer(link, 4)
+}
+
+/// Whether a link with a reply, a loss and a late reply brings all of them.
+fn are_received(rt: &impl Abort, alloc: Global, table: &Table) -> bool {
+    let deliveries = [Some(1), None, Some(2)];
+    let mut link = MemoryLink::new(alloc, table, public(1472), &deliveries);
+    send_three(rt, &mut link);
+    brings_all(&mut link)
 }
 
 #[test]
-fn a_receive_into_a_short_buffer_is_a_fault_and_uses_no_delivery(
-    rt: HostRuntime,
-) -> Result<(), Fail> {
-    let table = Table::read(rt.alloc(), b"1.3.6.1.4.1.32473.8.1|2|7")?;
-    let config = Config {
-        community: b"public",
-        max_size: 1472,
-    };
-    let mut link = MemoryLink::new(rt.alloc(), &table, config, &[Some(1), None, Some(2)]);
-    for id in [1, 2, 3] {
-        let mut request = GET;
-        request[17] = id;
-        link.send(&request)?;
-    }
-    let mut short = [0; 65506];
-    assert!(&rt; link.receive(&mut short) == Err(LinkFault));
-    assert_eq!(&rt; link.faults(), 1);
-    assert!(&rt; link.receive(&mut []) == Err(LinkFault));
-    assert_eq!(&rt; link.faults(), 2);
-    assert_received(&rt, &mut link, Some(1))?;
-    assert!(&rt; link.receive(&mut short) == Err(LinkFault));
-    assert_received(&rt, &mut link, None)?;
-    assert_received(&rt, &mut link, Some(2))?;
-    let mut exact = [0; 43];
-    assert!(&rt; link.receive(&mut exact) == Err(LinkFault));
-    assert_received(&rt, &mut link, Some(3))?;
-    assert_eq!(&rt; link.faults(), 4);
-    let mut longer = [0; 65508];
-    assert!(&rt; link.receive(&mut longer) == Ok(Some(43)));
-    assert_eq!(&rt; link.faults(), 4);
-    Ok(())
+fn a_receive_into_a_short_buffer_is_a_fault_and_uses_no_delivery(rt: HostRuntime) {
+    let table = table_of(&rt, rt.alloc(), b"1.3.6.1.4.1.32473.8.1|2|7");
+    assert!(&rt; are_received(&rt, rt.alloc(), &table));
 }

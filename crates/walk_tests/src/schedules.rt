@@ -1,15 +1,12 @@
 //! Walks over schedules drawn at random, compared with what the schedule gives, computed plainly.
-ghost use Rattle.std.specs.Prelude.{IfOk};
 ghost use Rattle.snmp_walk.specs.Facts.{IsFresh};
 
+use crate::runs::{ROOT, name_of, public, push, put, resumed, table_of, walk_ends, walk_of};
 use crate::sinks::{Counted, Digits};
-use snmp_agent::Config;
 use snmp_table::Table;
-use snmp_walk::{MemoryLink, Method, Mode, WalkCore, WalkEnd, run_walk};
-use snmp_wire::parse_numeric;
-use std::alloc::{AllocError, Global};
+use snmp_walk::{MemoryLink, Method, Mode, WalkCore, WalkEnd};
+use std::alloc::Global;
 use std::process::Abort;
-use std::test::Fail;
 
 /// Numbers that look random: a linear congruential generator (Knuth, MMIX).
 #[derive(Drop)]
@@ -52,132 +49,178 @@ struct Whole {
     given: Vec<usize>,
 }
 
-/// The walk of the table whose row of each number below the root has it as its value, and of the
-/// root's own row, by the definition of its requests.
-fn whole_walk(
-    alloc: Global,
-    asked: Asked,
-    numbers: &[u8],
-    own: Option<u8>,
-) -> Result<Whole, AllocError> {
-    let mut digits = Vec::new(alloc);
-    let mut given = Vec::new(alloc);
-    if asked.mode == Mode::Include && asked.after.is_none() {
-        if own.is_some() {
-            digits.push(own)?;
-        }
-        given.push(digits.len())?;
+impl Whole {
+    /// Adds a binding.
+    fn add(&mut self, rt: &impl Abort, digit: Option<u8>) {
+        push(rt, &mut self.digits, digit);
     }
-    let step = usize::from(asked.repetitions.unwrap_or(1)).max(1);
-    let mut here = 0_usize;
-    for number in numbers {
-        if asked.after.is_none_or(|after| after < *number) {
-            digits.push(Some(*number))?;
-            here = here.saturating_add(1);
-            if here % step == 0 {
-                given.push(digits.len())?;
+
+    /// Ends a request, with the bindings up to here.
+    fn end_request(&mut self, rt: &impl Abort) {
+        push(rt, &mut self.given, self.digits.len());
+    }
+
+    /// Adds the requests for the rows of these numbers, of this many each, after the one where the
+    /// walk is resumed.
+    fn add_rows(&mut self, rt: &impl Abort, numbers: &[u8], after: Option<u8>, step: usize) {
+        let mut here = 0_usize;
+        for number in numbers {
+            if after.is_none_or(|after| after < *number) {
+                self.add(rt, Some(*number));
+                here = here.saturating_add(1);
+                if here.checked_rem(step) == Some(0) {
+                    self.end_request(rt);
+                }
             }
         }
+        self.end_request(rt);
     }
-    given.push(digits.len())?;
-    if asked.mode == Mode::Plain && asked.after.is_none() && digits.is_empty() {
-        digits.push(own)?;
-        given.push(1)?;
+
+    /// Adds the requests of the walk of the table whose row of each number below the root has it as
+    /// its value, and of the root's own row, by their definition.
+    fn add_walk(&mut self, rt: &impl Abort, asked: Asked, numbers: &[u8], own: Option<u8>) {
+        let is_whole = asked.after.is_none();
+        if asked.mode == Mode::Include && is_whole {
+            if own.is_some() {
+                self.add(rt, own);
+            }
+            self.end_request(rt);
+        }
+        let step = usize::from(asked.repetitions.unwrap_or(1)).max(1);
+        self.add_rows(rt, numbers, asked.after, step);
+        if asked.mode == Mode::Plain && is_whole && self.digits.is_empty() {
+            self.add(rt, own);
+            self.end_request(rt);
+        }
     }
-    Ok(Whole { digits, given })
+
+    /// What is brought where this is the outcome.
+    fn brings(&self, outcome: Outcome) -> Wanted {
+        let rows = match outcome.replied.checked_sub(1) {
+            Some(last) => self.given.get(last).copied().unwrap_or(0),
+            None => 0,
+        };
+        let mut given = Digits::new();
+        for digit in self.digits.iter().take(rows) {
+            given.add(*digit);
+        }
+        Wanted {
+            number: given.number,
+            rows: given.rows,
+            sends: outcome.sends,
+            requests: outcome.replied.saturating_add(1).min(self.given.len()),
+            is_done: outcome.replied == self.given.len(),
+        }
+    }
 }
 
 /// What a run brings: how many requests have their replies, and how many datagrams it sends.
-#[derive(Clone, Copy, PartialEq, Eq, Debug)]
+#[derive(Clone, Copy)]
 struct Outcome {
     replied: usize,
     sends: usize,
 }
 
-/// The outcome of a run of this many requests, by the definition of the deliveries: each gives the
-/// reply to the datagram of its number, and later ones to the latest.
-fn computed(
-    alloc: Global,
+/// Whether a try of this request receives a reply to it, by the definition of the deliveries: each
+/// gives the reply to the datagram of its number, and later ones to the latest. `sent` has the
+/// request that each datagram sent is.
+fn is_heard(
+    request: usize,
+    sent: &[usize],
+    deliveries: &[Option<usize>],
+    used: &mut usize,
+) -> bool {
+    for _ in 0..64 {
+        let number = match deliveries.get(*used) {
+            Some(delivery) => {
+                *used += 1;
+                delivery.unwrap_or(0)
+            }
+            None => sent.len(),
+        };
+        match number
+            .checked_sub(1)
+            .and_then(|place| sent.get(place).copied())
+        {
+            None => return false,
+            Some(asked) => {
+                if asked == request {
+                    return true;
+                }
+            }
+        }
+    }
+    false
+}
+
+/// How many of this many requests have their replies, and in `sent` which request each datagram is.
+fn replied(
+    rt: &impl Abort,
+    sent: &mut Vec<usize>,
     requests: usize,
     retries: u8,
     deliveries: &[Option<usize>],
-) -> Result<Outcome, AllocError> {
-    // Which request each datagram sent is.
-    let mut sent = Vec::new(alloc);
+) -> usize {
     let mut used = 0;
     for request in 0..requests {
         let mut heard = false;
         for _ in 0..=retries {
-            if heard {
-                continue;
-            }
-            sent.push(request)?;
-            let mut waiting = true;
-            for _ in 0..64 {
-                if heard || !waiting {
-                    continue;
-                }
-                let number = match deliveries.get(used) {
-                    Some(delivery) => {
-                        used += 1;
-                        delivery.unwrap_or(0)
-                    }
-                    None => sent.len(),
-                };
-                match number
-                    .checked_sub(1)
-                    .and_then(|place| sent.get(place).copied())
-                {
-                    Some(asked) => heard = asked == request,
-                    None => waiting = false,
-                }
+            if !heard {
+                push(rt, sent, request);
+                heard = is_heard(request, sent, deliveries, &mut used);
             }
         }
         if !heard {
-            return Ok(Outcome {
-                replied: request,
-                sends: sent.len(),
-            });
+            return request;
         }
     }
-    Ok(Outcome {
-        replied: requests,
-        sends: sent.len(),
-    })
+    requests
 }
 
-/// The numbers below 10 that are drawn, in order.
-fn drawn(alloc: Global, random: &mut Random) -> Result<Vec<u8>, AllocError> {
+/// The outcome of a run of this many requests, by the definition of the deliveries.
+fn computed(rt: &impl Abort, alloc: Global, requests: usize, drawn: &Drawn) -> Outcome {
+    let mut sent = Vec::new(alloc);
+    let retries = drawn.asked.retries;
+    let replied = replied(rt, &mut sent, requests, retries, &drawn.deliveries);
+    Outcome {
+        replied,
+        sends: sent.len(),
+    }
+}
+
+/// Numbers below 10, drawn at random, in order.
+fn draw_numbers(rt: &impl Abort, alloc: Global, random: &mut Random) -> Vec<u8> {
     let mut numbers = Vec::new(alloc);
     let odds = random.below(4);
     for number in 0..10 {
         if random.below(4) < odds {
-            numbers.push(number)?;
+            push(rt, &mut numbers, number);
         }
     }
-    Ok(numbers)
+    numbers
 }
 
-/// The text of a table with a row for each number below the root, from the highest on, for the root
+/// Writes a table with a row for each number below the root, from the highest on, for the root
 /// itself, and for names that stand on both sides of them.
-fn text_of(alloc: Global, numbers: &[u8], own: Option<u8>) -> Result<Vec<u8>, AllocError> {
-    let mut text = Vec::new(alloc);
-    text.extend_from_slice(b"1.3.6.1.4.1.32473.2|2|8\n")?;
+fn put_table(rt: &impl Abort, text: &mut Vec<u8>, numbers: &[u8], own: Option<u8>) {
+    put(rt, text, b"1.3.6.1.4.1.32473.2|2|8\n");
     for number in numbers.iter().rev() {
         let digit = b'0'.saturating_add(*number);
-        text.extend_from_slice(b"1.3.6.1.4.1.32473.1.")?;
-        text.push(digit)?;
-        text.extend_from_slice(b"|2|")?;
-        text.push(digit)?;
-        text.push(b'\n')?;
+        put(rt, text, b"1.3.6.1.4.1.32473.1.");
+        put(rt, text, &[digit, b'|', b'2', b'|', digit, b'\n']);
     }
     if let Some(digit) = own {
-        text.extend_from_slice(b"1.3.6.1.4.1.32473.1|2|")?;
-        text.push(b'0'.saturating_add(digit))?;
-        text.push(b'\n')?;
+        put(rt, text, b"1.3.6.1.4.1.32473.1|2|");
+        put(rt, text, &[b'0'.saturating_add(digit), b'\n']);
     }
-    text.extend_from_slice(b"1.3.6.1.4.1.32473.0.1|2|9\n")?;
-    Ok(text)
+    put(rt, text, b"1.3.6.1.4.1.32473.0.1|2|9\n");
+}
+
+/// The table that is drawn.
+fn drawn_table(rt: &impl Abort, alloc: Global, drawn: &Drawn) -> Table {
+    let mut text = Vec::new(alloc);
+    put_table(rt, &mut text, &drawn.numbers, drawn.own);
+    table_of(rt, alloc, &text)
 }
 
 /// What is asked for, drawn at random.
@@ -205,90 +248,118 @@ fn draw_asked(random: &mut Random) -> Asked {
 }
 
 /// Up to 40 deliveries, drawn at random.
-fn draw_deliveries(alloc: Global, random: &mut Random) -> Result<Vec<Option<usize>>, AllocError> {
+fn draw_deliveries(rt: &impl Abort, alloc: Global, random: &mut Random) -> Vec<Option<usize>> {
     let mut deliveries = Vec::new(alloc);
     for _ in 0..random.below(41) {
         let number = random.below(12) as usize;
-        deliveries.push(if random.below(3) == 0 {
-            None
-        } else {
-            Some(number)
-        })?;
+        let is_lost = random.below(3) == 0;
+        push(
+            rt,
+            &mut deliveries,
+            if is_lost { None } else { Some(number) },
+        );
     }
-    Ok(deliveries)
+    deliveries
 }
 
 /// The core of the walk that is asked for.
-fn core_of(asked: Asked) -> Result<WalkCore, Fail>
-    ensures { IfOk result IsFresh }
+fn core_of(rt: &impl Abort, asked: Asked) -> WalkCore
+    ensures { IsFresh result }
 {
-    let root = parse_numeric(b"1.3.6.1.4.1.32473.1")?;
     let method = match asked.repetitions {
         None => Method::Next,
         Some(repetitions) => Method::Bulk(i32::from(repetitions).max(1)),
     };
     match asked.after {
-        None => Ok(WalkCore::start(root, asked.mode, method, b"public", 1)?),
+        None => walk_of(rt, ROOT, asked.mode, method, 1),
         Some(number) => {
-            let mut after = parse_numeric(b"1.3.6.1.4.1.32473.1")?;
-            after.push(u32::from(number))?;
-            Ok(WalkCore::resume(root, &after, method, b"public", 1)?)
+            let mut after = name_of(rt, ROOT);
+            after.push(u32::from(number)).expect(rt, "a name");
+            resumed(rt, &after, method)
         }
     }
 }
 
-/// Walks a table by a schedule, both drawn at random.
-fn assert_schedule(rt: &impl Abort, alloc: Global, random: &mut Random) -> Result<(), Fail> {
-    let numbers = drawn(alloc, random)?;
+/// What is drawn: a table's numbers below the root and its row at the root, a walk, and deliveries.
+#[derive(Drop)]
+struct Drawn {
+    numbers: Vec<u8>,
+    own: Option<u8>,
+    asked: Asked,
+    deliveries: Vec<Option<usize>>,
+}
+
+/// Draws a table, a walk and a schedule at random.
+fn draw(rt: &impl Abort, alloc: Global, random: &mut Random) -> Drawn {
+    let numbers = draw_numbers(rt, alloc, random);
     let own = if random.below(2) == 0 { None } else { Some(7) };
     let asked = draw_asked(random);
-    let deliveries = draw_deliveries(alloc, random)?;
-    let whole = whole_walk(alloc, asked, &numbers, own)?;
-    let wanted = computed(alloc, whole.given.len(), asked.retries, &deliveries)?;
-
-    let table = Table::read(alloc, &text_of(alloc, &numbers, own)?)?;
-    let config = Config {
-        community: b"public",
-        max_size: 1472,
-    };
-    let mut link = Counted::new(MemoryLink::new(alloc, &table, config, &deliveries));
-    let mut digits = Digits::new();
-    let ended = run_walk(
-        &mut link,
-        core_of(asked)?,
-        u32::from(asked.retries),
-        &mut digits,
-    );
-
-    let rows = match wanted.replied.checked_sub(1) {
-        Some(last) => whole.given.get(last).copied().unwrap_or(0),
-        None => 0,
-    };
-    let mut given = Digits::new();
-    for digit in whole.digits.iter().take(rows) {
-        given.add(*digit);
+    let deliveries = draw_deliveries(rt, alloc, random);
+    Drawn {
+        numbers,
+        own,
+        asked,
+        deliveries,
     }
-    let end = if wanted.replied == whole.given.len() {
-        WalkEnd::Done(rows as u64)
+}
+
+/// What a walk is to bring: the integers as digits, how many bindings, how many datagrams and
+/// requests it sends, and whether it is done.
+#[derive(Clone, Copy)]
+struct Wanted {
+    number: u64,
+    rows: usize,
+    sends: usize,
+    requests: usize,
+    is_done: bool,
+}
+
+/// What the walk that is drawn is to bring, computed plainly.
+fn wanted_of(rt: &impl Abort, alloc: Global, drawn: &Drawn) -> Wanted {
+    let mut whole = Whole {
+        digits: Vec::new(alloc),
+        given: Vec::new(alloc),
+    };
+    whole.add_walk(rt, drawn.asked, &drawn.numbers, drawn.own);
+    whole.brings(computed(rt, alloc, whole.given.len(), drawn))
+}
+
+/// Whether the walk over this table by these deliveries brings what is wanted.
+fn brings(alloc: Global, table: &Table, core: WalkCore, drawn: &Drawn, wanted: Wanted) -> bool
+    requires { IsFresh core }
+{
+    let mut link = Counted::new(MemoryLink::new(alloc, table, public(1472), &drawn.deliveries));
+    let mut digits = Digits::new();
+    let end = if wanted.is_done {
+        WalkEnd::Done(wanted.rows as u64)
     } else {
         WalkEnd::NoResponse
     };
-    assert!(rt; ended == end);
-    assert_eq!(rt; digits.rows, given.rows);
-    assert_eq!(rt; digits.number, given.number);
-    assert_eq!(rt; link.sends, wanted.sends);
-    assert_eq!(rt;
-        link.requests,
-        wanted.replied.saturating_add(1).min(whole.given.len())
-    );
-    Ok(())
+    walk_ends(
+        &mut link,
+        core,
+        u32::from(drawn.asked.retries),
+        &mut digits,
+        &end,
+    ) && digits.rows == wanted.rows
+        && digits.number == wanted.number
+        && link.sends == wanted.sends
+        && link.requests == wanted.requests
+}
+
+/// Walks a table by a schedule, both drawn at random.
+fn assert_schedule(rt: &impl Abort, alloc: Global, random: &mut Random) {
+    let drawn = draw(rt, alloc, random);
+    let wanted = wanted_of(rt, alloc, &drawn);
+    let core = core_of(rt, drawn.asked);
+    let table = drawn_table(rt, alloc, &drawn);
+    assert!(rt; brings(alloc, &table, core, &drawn, wanted));
 }
 
 #[test]
-fn a_thousand_schedules(rt: HostRuntime) -> Result<(), Fail> {
+fn a_thousand_schedules(rt: HostRuntime) {
     let mut random = Random { state: 20010101 };
     for _ in 0..1000 {
-        assert_schedule(&rt, rt.alloc(), &mut random)?;
+        assert_schedule(&rt, rt.alloc(), &mut random);
     }
-    Ok(())
 }

@@ -38,17 +38,19 @@ impl Sink for Digits {
     }
 }
 
-/// Compares its bindings with those that are wanted, each the text of a name and a value, counts
-/// them, and counts those that differ.
+/// A binding: the text of a name, and a value.
+pub type Row = (&'static [u8], ValueRef<'static>);
+
+/// Compares its bindings with those that are wanted, counts them, and counts those that differ.
 #[derive(Drop)]
 pub struct Listed<'a> {
-    pub wanted: &'a [(&'a [u8], ValueRef<'a>)],
+    pub wanted: &'a [Row],
     pub rows: usize,
     pub others: usize,
 }
 
 impl<'a> Listed<'a> {
-    pub fn new(wanted: &'a [(&'a [u8], ValueRef<'a>)]) -> Listed<'a> {
+    pub fn new(wanted: &'a [Row]) -> Listed<'a> {
         Listed {
             wanted,
             rows: 0,

@@ -1,15 +1,14 @@
 //! Walks and Gets over a link that brings strays before the replies.
+ghost use Rattle.snmp_walk.specs.Facts.{IsFresh};
 
-use crate::gets::are_sendable;
 use crate::liar::{GENERAL_ERROR, ROW};
+use crate::runs::{ROOT, get_ends, names_of, public, table_of, walk_ends, walk_of};
 use crate::sinks::{Counted, Digits};
-use snmp_agent::Config;
 use snmp_table::Table;
-use snmp_walk::{Link, LinkFault, MemoryLink, Method, Mode, WalkCore, WalkEnd, run_get, run_walk};
-use snmp_wire::parse_numeric;
+use snmp_walk::{Link, LinkFault, MemoryLink, Method, Mode, WalkCore, WalkEnd};
+use snmp_wire::Oid;
 use std::alloc::Global;
 use std::process::Abort;
-use std::test::Fail;
 
 /// Three integers.
 const THREE: &[u8] =
@@ -42,6 +41,13 @@ impl<'a, 'c> Crowded<'a, 'c> {
             left: 0,
             receives: 0,
         }
+    }
+
+    /// Whether this many datagrams and requests were sent, and this many receives tried.
+    fn has_counted(&self, brought: Brought) -> bool {
+        self.link.sends == brought.sends
+            && self.link.requests == brought.requests
+            && self.receives == brought.receives
     }
 }
 
@@ -100,62 +106,74 @@ struct Brought {
     receives: usize,
 }
 
-/// The walk from id 2 over the strays of a case brings this, and ends in this way.
-fn assert_walk(
-    rt: &impl Abort,
+/// Whether the walk over the strays of a case brings this, and ends in this way.
+fn walk_brings(
     alloc: Global,
+    table: &Table,
+    core: WalkCore,
     case: Case<'_>,
     brought: Brought,
     end: &WalkEnd,
-) -> Result<(), Fail> {
-    let table = Table::read(alloc, THREE)?;
-    let root = parse_numeric(b"1.3.6.1.4.1.32473.1")?;
-    let core = WalkCore::start(root, Mode::Plain, Method::Next, b"public", 2)?;
-    let config = Config {
-        community: b"public",
-        max_size: 1472,
-    };
-    let link = Counted::new(MemoryLink::new(alloc, &table, config, &[]));
+) -> bool
+    requires { IsFresh core }
+{
+    let link = Counted::new(MemoryLink::new(alloc, table, public(1472), &[]));
     let mut link = Crowded::new(link, case);
     let mut digits = Digits::new();
-    let ended = run_walk(&mut link, core, case.retries, &mut digits);
-    assert!(rt; ended == *end);
-    assert_eq!(rt; digits.number, brought.number);
-    assert_eq!(rt; link.link.sends, brought.sends);
-    assert_eq!(rt; link.link.requests, brought.requests);
-    assert_eq!(rt; link.receives, brought.receives);
-    Ok(())
+    walk_ends(&mut link, core, case.retries, &mut digits, end)
+        && digits.number == brought.number
+        && link.has_counted(brought)
 }
 
-/// The Get with id 2 over the strays of a case brings this, and ends in this way.
+/// The walk from id 2 over the strays of a case brings this, and is done where this is all of the
+/// integers, else without a response.
+fn assert_walk(rt: &impl Abort, alloc: Global, table: &Table, case: Case<'_>, brought: Brought) {
+    let core = walk_of(rt, ROOT, Mode::Plain, Method::Next, 2);
+    let end = if brought.number == 123 {
+        WalkEnd::Done(3)
+    } else {
+        WalkEnd::NoResponse
+    };
+    assert!(rt; walk_brings(alloc, table, core, case, brought, &end));
+}
+
+/// Whether the Get with id 2 over the strays of a case brings this, and ends in this way.
+fn get_brings(
+    alloc: Global,
+    table: &Table,
+    names: &[Oid],
+    case: Case<'_>,
+    brought: Brought,
+    end: &WalkEnd,
+) -> bool {
+    let link = Counted::new(MemoryLink::new(alloc, table, public(1472), &[]));
+    let mut link = Crowded::new(link, case);
+    let mut digits = Digits::new();
+    get_ends(&mut link, names, 2, case.retries, &mut digits, end)
+        && digits.number == brought.number
+        && link.has_counted(brought)
+}
+
+/// The Get with id 2 over the strays of a case brings this, and is done where this is the integer,
+/// else without a response.
 fn assert_get(
     rt: &impl Abort,
     alloc: Global,
+    table: &Table,
+    names: &[Oid],
     case: Case<'_>,
     brought: Brought,
-    end: &WalkEnd,
-) -> Result<(), Fail> {
-    let table = Table::read(alloc, THREE)?;
-    let names = [parse_numeric(b"1.3.6.1.4.1.32473.1.1.0")?];
-    let config = Config {
-        community: b"public",
-        max_size: 1472,
+) {
+    let end = if brought.number == 1 {
+        WalkEnd::Done(1)
+    } else {
+        WalkEnd::NoResponse
     };
-    let link = Counted::new(MemoryLink::new(alloc, &table, config, &[]));
-    let mut link = Crowded::new(link, case);
-    let mut digits = Digits::new();
-    assert!(rt; are_sendable(&names));
-    let ended = run_get(&mut link, &names, b"public", 2, case.retries, &mut digits);
-    assert!(rt; ended == *end);
-    assert_eq!(rt; digits.number, brought.number);
-    assert_eq!(rt; link.link.sends, brought.sends);
-    assert_eq!(rt; link.link.requests, brought.requests);
-    assert_eq!(rt; link.receives, brought.receives);
-    Ok(())
+    assert!(rt; get_brings(alloc, table, names, case, brought, &end));
 }
 
 /// 63 of these datagrams before a reply change nothing, and 64 end the try, in a walk.
-fn assert_stray_to_walks(rt: &impl Abort, alloc: Global, stray: &[u8]) -> Result<(), Fail> {
+fn assert_stray_to_walks(rt: &impl Abort, alloc: Global, table: &Table, stray: &[u8]) {
     // The strays, the retries, the integers, and how many sends, requests and receives there are.
     let cases: [(&[usize], u32, u64, usize, usize, usize); 7] = [
         (&[1], 0, 123, 4, 4, 5),
@@ -173,23 +191,23 @@ fn assert_stray_to_walks(rt: &impl Abort, alloc: Global, stray: &[u8]) -> Result
             requests,
             receives,
         };
-        let end = if number == 123 {
-            WalkEnd::Done(3)
-        } else {
-            WalkEnd::NoResponse
-        };
         let case = Case {
             stray,
             before,
             retries,
         };
-        assert_walk(rt, alloc, case, brought, &end)?;
+        assert_walk(rt, alloc, table, case, brought);
     }
-    Ok(())
 }
 
 /// 63 of these datagrams before the reply change nothing, and 64 end the try, in a Get.
-fn assert_stray_to_gets(rt: &impl Abort, alloc: Global, stray: &[u8]) -> Result<(), Fail> {
+fn assert_stray_to_gets(
+    rt: &impl Abort,
+    alloc: Global,
+    table: &Table,
+    names: &[Oid],
+    stray: &[u8],
+) {
     // The strays, the retries, the integer, and how many sends and receives there are.
     let cases: [(&[usize], u32, u64, usize, usize); 6] = [
         (&[1], 0, 1, 1, 2),
@@ -206,40 +224,35 @@ fn assert_stray_to_gets(rt: &impl Abort, alloc: Global, stray: &[u8]) -> Result<
             requests: 1,
             receives,
         };
-        let end = if number == 1 {
-            WalkEnd::Done(1)
-        } else {
-            WalkEnd::NoResponse
-        };
         let case = Case {
             stray,
             before,
             retries,
         };
-        assert_get(rt, alloc, case, brought, &end)?;
+        assert_get(rt, alloc, table, names, case, brought);
     }
-    Ok(())
 }
 
 /// The datagram is a stray to walks and to Gets.
-fn assert_stray(rt: &impl Abort, alloc: Global, stray: &[u8]) -> Result<(), Fail> {
-    assert_stray_to_walks(rt, alloc, stray)?;
-    assert_stray_to_gets(rt, alloc, stray)
+fn assert_stray(rt: &impl Abort, alloc: Global, stray: &[u8]) {
+    let table = table_of(rt, alloc, THREE);
+    let names = names_of(rt, alloc, &[b"1.3.6.1.4.1.32473.1.1.0"]);
+    assert_stray_to_gets(rt, alloc, &table, &names, stray);
+    assert_stray_to_walks(rt, alloc, &table, stray);
 }
 
 #[test]
-fn octets_that_are_no_message_are_strays(rt: HostRuntime) -> Result<(), Fail> {
+fn octets_that_are_no_message_are_strays(rt: HostRuntime) {
     let mut longer = [0; 45];
     longer[..44].copy_from_slice(&ROW);
     let strays: [&[u8]; 5] = [b"", &[0x30], b"no message", &ROW[..43], &longer];
     for stray in strays {
-        assert_stray(&rt, rt.alloc(), stray)?;
+        assert_stray(&rt, rt.alloc(), stray);
     }
-    Ok(())
 }
 
 #[test]
-fn a_reply_with_one_wrong_part_is_a_stray(rt: HostRuntime) -> Result<(), Fail> {
+fn a_reply_with_one_wrong_part_is_a_stray(rt: HostRuntime) {
     // The place of the part, and an octet that makes it: no message, another version, another
     // community, another kind, another id.
     for (place, octet) in [
@@ -267,12 +280,11 @@ fn a_reply_with_one_wrong_part_is_a_stray(rt: HostRuntime) -> Result<(), Fail> {
         if place < 44 {
             stray[place] = octet;
         }
-        assert_stray(&rt, rt.alloc(), &stray)?;
+        assert_stray(&rt, rt.alloc(), &stray);
     }
-    Ok(())
 }
 
 #[test]
-fn an_error_status_of_an_earlier_request_is_a_stray(rt: HostRuntime) -> Result<(), Fail> {
-    assert_stray(&rt, rt.alloc(), GENERAL_ERROR)
+fn an_error_status_of_an_earlier_request_is_a_stray(rt: HostRuntime) {
+    assert_stray(&rt, rt.alloc(), GENERAL_ERROR);
 }

@@ -1,14 +1,14 @@
 //! Walks over tables that change from one datagram to the next.
 ghost use Rattle.std.specs.Prelude.{◌≡◌, ◌<◌, All, length, true};
+ghost use Rattle.snmp_walk.specs.Facts.{IsFresh};
 
-use crate::sinks::{Counted, Listed};
-use snmp_agent::Config;
+use crate::runs::{public, table_of, walk_ends, walk_of};
+use crate::sinks::{Counted, Listed, Row};
 use snmp_table::Table;
-use snmp_walk::{MemoryLink, Method, Mode, WalkCore, WalkEnd, run_walk};
-use snmp_wire::{ValueRef, parse_numeric};
+use snmp_walk::{MemoryLink, Method, Mode, WalkCore, WalkEnd};
+use snmp_wire::ValueRef;
 use std::alloc::Global;
 use std::process::Abort;
-use std::test::Fail;
 
 /// A link: its tables, which of them replies to each datagram, and what its receives bring; and the
 /// retries.
@@ -28,37 +28,30 @@ fn are_places(uses: &[usize], tables: &[Table]) -> bool
     uses.iter().all(|place| *place < count)
 }
 
-/// The walk from 1.3.6.1.4.1.32473.8 over the link of a case gives these bindings, is done, and
-/// sends this many datagrams.
-fn assert_changing(
-    rt: &impl Abort,
-    alloc: Global,
-    case: Case<'_>,
-    wanted: &[(&[u8], ValueRef<'_>)],
-    sends: usize,
-) -> Result<(), Fail> {
-    let config = Config {
-        community: b"public",
-        max_size: 1472,
-    };
-    let core = WalkCore::start(
-        parse_numeric(b"1.3.6.1.4.1.32473.8")?,
-        Mode::Plain,
-        Method::Next,
-        b"public",
-        1,
-    )?;
-    assert!(rt; !case.tables.is_empty());
-    assert!(rt; are_places(case.uses, case.tables));
-    let link = MemoryLink::changing(alloc, case.tables, config, case.uses, case.deliveries);
+/// Whether the walk over the link of a case gives these bindings, is done, and sends this many
+/// datagrams.
+fn brings(alloc: Global, core: WalkCore, case: Case<'_>, wanted: &[Row], sends: usize) -> bool
+    requires { IsFresh core }
+{
+    if case.tables.is_empty() || !are_places(case.uses, case.tables) {
+        return false;
+    }
+    let (tables, agent) = (case.tables, public(1472));
+    let link = MemoryLink::changing(alloc, tables, agent, case.uses, case.deliveries);
     let mut link = Counted::new(link);
     let mut listed = Listed::new(wanted);
-    let ended = run_walk(&mut link, core, case.retries, &mut listed);
-    assert!(rt; ended == WalkEnd::Done(wanted.len() as u64));
-    assert_eq!(rt; listed.rows, wanted.len());
-    assert_eq!(rt; listed.others, 0);
-    assert_eq!(rt; link.sends, sends);
-    Ok(())
+    let end = WalkEnd::Done(wanted.len() as u64);
+    walk_ends(&mut link, core, case.retries, &mut listed, &end)
+        && listed.rows == wanted.len()
+        && listed.others == 0
+        && link.sends == sends
+}
+
+/// The walk from 1.3.6.1.4.1.32473.8 over the link of a case gives these bindings, is done, and
+/// sends this many datagrams.
+fn assert_changing(rt: &impl Abort, alloc: Global, case: Case<'_>, wanted: &[Row], sends: usize) {
+    let core = walk_of(rt, b"1.3.6.1.4.1.32473.8", Mode::Plain, Method::Next, 1);
+    assert!(rt; brings(alloc, core, case, wanted, sends));
 }
 
 /// The rows 1, 2 and 4.
@@ -79,11 +72,10 @@ const NAMES: [&[u8]; 4] = [
     b"1.3.6.1.4.1.32473.8.4",
 ];
 
-#[test]
-fn rows_of_both_tables_are_given_in_order(rt: HostRuntime) -> Result<(), Fail> {
-    let tables = [Table::read(rt.alloc(), A)?, Table::read(rt.alloc(), B)?];
+/// Over the rows of A and then of B, the rows 1 to 4 are given.
+fn assert_both(rt: &impl Abort, alloc: Global, tables: &[Table]) {
     let case = Case {
-        tables: &tables,
+        tables,
         uses: &[0, 1],
         deliveries: &[],
         retries: 0,
@@ -94,29 +86,44 @@ fn rows_of_both_tables_are_given_in_order(rt: HostRuntime) -> Result<(), Fail> {
         (NAMES[2], ValueRef::Integer(3)),
         (NAMES[3], ValueRef::Integer(4)),
     ];
-    assert_changing(&rt, rt.alloc(), case, &wanted, 5)
+    assert_changing(rt, alloc, case, &wanted, 5);
 }
 
 #[test]
-fn a_table_that_empties_ends_the_walk(rt: HostRuntime) -> Result<(), Fail> {
-    let one = b"1.3.6.1.4.1.32473.8.1|2|1\n";
-    let tables = [Table::read(rt.alloc(), one)?, Table::read(rt.alloc(), b"")?];
+fn rows_of_both_tables_are_given_in_order(rt: HostRuntime) {
+    let tables = [table_of(&rt, rt.alloc(), A), table_of(&rt, rt.alloc(), B)];
+    assert_both(&rt, rt.alloc(), &tables);
+}
+
+/// Over a table of the row 1 and then an empty one, this row is given, and the other way round an
+/// exception.
+fn assert_emptied(rt: &impl Abort, alloc: Global, tables: &[Table]) {
     let case = Case {
-        tables: &tables,
+        tables,
         uses: &[0, 1],
         deliveries: &[],
         retries: 0,
     };
     let row = [(NAMES[0], ValueRef::Integer(1))];
-    assert_changing(&rt, rt.alloc(), case, &row, 2)?;
+    assert_changing(rt, alloc, case, &row, 2);
     // What a Get of the root gives, an exception, is the one binding.
     let swapped = Case {
         uses: &[1, 0],
         ..case
     };
-    let root: &[u8] = b"1.3.6.1.4.1.32473.8";
+    let root: &'static [u8] = b"1.3.6.1.4.1.32473.8";
     let exception = [(root, ValueRef::NoSuchObject)];
-    assert_changing(&rt, rt.alloc(), swapped, &exception, 2)
+    assert_changing(rt, alloc, swapped, &exception, 2);
+}
+
+#[test]
+fn a_table_that_empties_ends_the_walk(rt: HostRuntime) {
+    let one = b"1.3.6.1.4.1.32473.8.1|2|1\n";
+    let tables = [
+        table_of(&rt, rt.alloc(), one),
+        table_of(&rt, rt.alloc(), b""),
+    ];
+    assert_emptied(&rt, rt.alloc(), &tables);
 }
 
 /// The rows 1, 2 and 3, with the value 0.
@@ -131,13 +138,20 @@ const ONES: &[u8] =
 const TWOS: &[u8] =
     b"1.3.6.1.4.1.32473.8.1|2|2\n1.3.6.1.4.1.32473.8.2|2|2\n1.3.6.1.4.1.32473.8.3|2|2\n";
 
-#[test]
-fn the_place_of_a_datagram_says_which_table_replies(rt: HostRuntime) -> Result<(), Fail> {
-    let tables = [
-        Table::read(rt.alloc(), ZEROS)?,
-        Table::read(rt.alloc(), ONES)?,
-        Table::read(rt.alloc(), TWOS)?,
+/// The walk over the link of a case gives the rows 1, 2 and 3 with these values, and sends this many
+/// datagrams.
+fn assert_places(rt: &impl Abort, alloc: Global, case: Case<'_>, places: [i32; 3], sends: usize) {
+    let wanted = [
+        (NAMES[0], ValueRef::Integer(places[0])),
+        (NAMES[1], ValueRef::Integer(places[1])),
+        (NAMES[2], ValueRef::Integer(places[2])),
     ];
+    assert_changing(rt, alloc, case, &wanted, sends);
+}
+
+/// Over these tables, of which each row has its table's place as its value, each row is from the
+/// table of its datagram.
+fn assert_uses(rt: &impl Abort, alloc: Global, tables: &[Table]) {
     // The uses, the deliveries, the place of the table that each of the three rows is from, and how
     // many datagrams are sent.
     let cases: [(&[usize], &[Option<usize>], [i32; 3], usize); 9] = [
@@ -158,17 +172,21 @@ fn the_place_of_a_datagram_says_which_table_replies(rt: HostRuntime) -> Result<(
     ];
     for (uses, deliveries, places, sends) in cases {
         let case = Case {
-            tables: &tables,
+            tables,
             uses,
             deliveries,
             retries: 1,
         };
-        let wanted = [
-            (NAMES[0], ValueRef::Integer(places[0])),
-            (NAMES[1], ValueRef::Integer(places[1])),
-            (NAMES[2], ValueRef::Integer(places[2])),
-        ];
-        assert_changing(&rt, rt.alloc(), case, &wanted, sends)?;
+        assert_places(rt, alloc, case, places, sends);
     }
-    Ok(())
+}
+
+#[test]
+fn the_place_of_a_datagram_says_which_table_replies(rt: HostRuntime) {
+    let tables = [
+        table_of(&rt, rt.alloc(), ZEROS),
+        table_of(&rt, rt.alloc(), ONES),
+        table_of(&rt, rt.alloc(), TWOS),
+    ];
+    assert_uses(&rt, rt.alloc(), &tables);
 }

@@ -1,13 +1,12 @@
 //! Walks whose messages arrive, and walks whose messages are lost, repeated or delayed.
+ghost use Rattle.snmp_walk.specs.Facts.{IsFresh};
 
+use crate::runs::{ROOT, name_of, public, put, resumed, table_of, walk_ends, walk_of};
 use crate::sinks::{Counted, Digits};
-use snmp_agent::Config;
 use snmp_table::Table;
-use snmp_walk::{MemoryLink, Method, Mode, StartError, WalkCore, WalkEnd, run_walk};
-use snmp_wire::parse_numeric;
+use snmp_walk::{MemoryLink, Method, Mode, StartError, WalkCore, WalkEnd};
 use std::alloc::Global;
 use std::process::Abort;
-use std::test::Fail;
 
 /// Six integers, each its place: 18 octets a binding.
 const SIX: &[u8] = b"1.3.6.1.4.1.32473.1.1.0|2|1\n\
@@ -46,39 +45,37 @@ struct Brought {
     requests: usize,
 }
 
-/// The walk of a case gives these integers, sends this many datagrams and requests, and ends in
-/// this way.
-fn assert_walk(
-    rt: &impl Abort,
+/// Whether the walk of a case gives these integers, sends this many datagrams and requests, and ends
+/// in this way.
+fn brings(
     alloc: Global,
+    table: &Table,
+    core: WalkCore,
     case: Case<'_>,
     brought: Brought,
     end: &WalkEnd,
-) -> Result<(), Fail> {
-    let table = Table::read(alloc, case.table)?;
-    let config = Config {
-        community: b"public",
-        max_size: case.max_size.clamp(1, 65507),
-    };
-    let method = match case.method {
-        Method::Next => Method::Next,
-        Method::Bulk(repetitions) => Method::Bulk(repetitions.max(1)),
-    };
-    let core = WalkCore::start(parse_numeric(case.root)?, Mode::Plain, method, b"public", 1)?;
-    let mut link = Counted::new(MemoryLink::new(alloc, &table, config, case.deliveries));
+) -> bool
+    requires { IsFresh core }
+{
+    let agent = public(case.max_size);
+    let mut link = Counted::new(MemoryLink::new(alloc, table, agent, case.deliveries));
     let mut digits = Digits::new();
-    let ended = run_walk(&mut link, core, case.retries, &mut digits);
-    assert!(rt; ended == *end);
-    assert_eq!(rt; digits.number, brought.number);
-    assert_eq!(rt; link.sends, brought.sends);
-    assert_eq!(rt; link.requests, brought.requests);
-    Ok(())
+    walk_ends(&mut link, core, case.retries, &mut digits, end)
+        && digits.number == brought.number
+        && link.sends == brought.sends
+        && link.requests == brought.requests
 }
 
-const ROOT: &[u8] = b"1.3.6.1.4.1.32473.1";
+/// The walk of a case gives these integers, sends this many datagrams and requests, and ends in
+/// this way.
+fn assert_walk(rt: &impl Abort, alloc: Global, case: Case<'_>, brought: Brought, end: &WalkEnd) {
+    let core = walk_of(rt, case.root, Mode::Plain, case.method, 1);
+    let table = table_of(rt, alloc, case.table);
+    assert!(rt; brings(alloc, &table, core, case, brought, end));
+}
 
 #[test]
-fn bulks_of_any_size_give_the_same_rows(rt: HostRuntime) -> Result<(), Fail> {
+fn bulks_of_any_size_give_the_same_rows(rt: HostRuntime) {
     for (max_size, repetitions, requests) in [
         (134, 1, 7),
         (134, 10, 2),
@@ -101,13 +98,12 @@ fn bulks_of_any_size_give_the_same_rows(rt: HostRuntime) -> Result<(), Fail> {
             sends: requests,
             requests,
         };
-        assert_walk(&rt, rt.alloc(), case, brought, &WalkEnd::Done(6))?;
+        assert_walk(&rt, rt.alloc(), case, brought, &WalkEnd::Done(6));
     }
-    Ok(())
 }
 
 #[test]
-fn a_row_too_large_for_a_message_ends_the_walk(rt: HostRuntime) -> Result<(), Fail> {
+fn a_row_too_large_for_a_message_ends_the_walk(rt: HostRuntime) {
     let case = Case {
         table: TOO_LARGE,
         root: ROOT,
@@ -121,24 +117,18 @@ fn a_row_too_large_for_a_message_ends_the_walk(rt: HostRuntime) -> Result<(), Fa
         sends: 2,
         requests: 2,
     };
-    assert_walk(&rt, rt.alloc(), case, brought, &WalkEnd::Fault(1, 0))?;
-    let asked = parse_numeric(b"1.3.6.1.4.1.32473.1.0")?;
+    assert_walk(&rt, rt.alloc(), case, brought, &WalkEnd::Fault(1, 0));
+    let asked = name_of(&rt, b"1.3.6.1.4.1.32473.1.0");
     let bulk = Case {
         method: Method::Bulk(10),
         ..case
     };
-    assert_walk(
-        &rt,
-        rt.alloc(),
-        bulk,
-        brought,
-        &WalkEnd::NoProgress { asked },
-    )?;
-    Ok(())
+    let end = WalkEnd::NoProgress { asked };
+    assert_walk(&rt, rt.alloc(), bulk, brought, &end);
 }
 
 #[test]
-fn lost_and_repeated_replies_change_nothing(rt: HostRuntime) -> Result<(), Fail> {
+fn lost_and_repeated_replies_change_nothing(rt: HostRuntime) {
     let case = Case {
         table: THREE,
         root: ROOT,
@@ -152,7 +142,7 @@ fn lost_and_repeated_replies_change_nothing(rt: HostRuntime) -> Result<(), Fail>
         sends: 5,
         requests: 4,
     };
-    assert_walk(&rt, rt.alloc(), case, brought, &WalkEnd::Done(3))?;
+    assert_walk(&rt, rt.alloc(), case, brought, &WalkEnd::Done(3));
     let silent = Case {
         deliveries: &[Some(1), None, None, None, None, None, None],
         ..case
@@ -162,7 +152,7 @@ fn lost_and_repeated_replies_change_nothing(rt: HostRuntime) -> Result<(), Fail>
         sends: 7,
         requests: 2,
     };
-    assert_walk(&rt, rt.alloc(), silent, one_row, &WalkEnd::NoResponse)?;
+    assert_walk(&rt, rt.alloc(), silent, one_row, &WalkEnd::NoResponse);
     let bulk = Case {
         table: SIX,
         method: Method::Bulk(10),
@@ -176,12 +166,11 @@ fn lost_and_repeated_replies_change_nothing(rt: HostRuntime) -> Result<(), Fail>
         sends: 4,
         requests: 2,
     };
-    assert_walk(&rt, rt.alloc(), bulk, all, &WalkEnd::Done(6))?;
-    Ok(())
+    assert_walk(&rt, rt.alloc(), bulk, all, &WalkEnd::Done(6));
 }
 
 #[test]
-fn a_try_ends_with_its_64th_receive(rt: HostRuntime) -> Result<(), Fail> {
+fn a_try_ends_with_its_64th_receive(rt: HostRuntime) {
     let strays = [Some(1); 65];
     let case = Case {
         table: THREE,
@@ -196,14 +185,14 @@ fn a_try_ends_with_its_64th_receive(rt: HostRuntime) -> Result<(), Fail> {
         sends: 5,
         requests: 4,
     };
-    assert_walk(&rt, rt.alloc(), case, all, &WalkEnd::Done(3))?;
+    assert_walk(&rt, rt.alloc(), case, all, &WalkEnd::Done(3));
     let once = Case { retries: 0, ..case };
     let one_row = Brought {
         number: 1,
         sends: 2,
         requests: 2,
     };
-    assert_walk(&rt, rt.alloc(), once, one_row, &WalkEnd::NoResponse)?;
+    assert_walk(&rt, rt.alloc(), once, one_row, &WalkEnd::NoResponse);
     let nothing = Case {
         deliveries: &[None],
         ..once
@@ -213,58 +202,47 @@ fn a_try_ends_with_its_64th_receive(rt: HostRuntime) -> Result<(), Fail> {
         sends: 1,
         requests: 1,
     };
-    assert_walk(&rt, rt.alloc(), nothing, none, &WalkEnd::NoResponse)?;
-    Ok(())
+    assert_walk(&rt, rt.alloc(), nothing, none, &WalkEnd::NoResponse);
+}
+
+/// Whether the walk over a link with memory for it gives all rows, and then its ids run out.
+fn runs_out(alloc: Global, table: &Table, core: WalkCore) -> bool
+    requires { IsFresh core }
+{
+    let mut link = MemoryLink::new(alloc, table, public(1472), &[]);
+    let mut digits = Digits::new();
+    let is_ready = link.reserve(6, 6000).is_ok();
+    walk_ends(&mut link, core, 0, &mut digits, &WalkEnd::TooManyRequests)
+        && is_ready
+        && digits.number == 123
 }
 
 #[test]
-fn ids_run_out(rt: HostRuntime) -> Result<(), Fail> {
-    let table = Table::read(rt.alloc(), THREE)?;
-    let config = Config {
-        community: b"public",
-        max_size: 1472,
-    };
-    let core = WalkCore::start(
-        parse_numeric(ROOT)?,
-        Mode::Plain,
-        Method::Next,
-        b"public",
-        2147483645,
-    )?;
-    let mut link = MemoryLink::new(rt.alloc(), &table, config, &[]);
-    link.reserve(6, 6000)?;
-    let mut digits = Digits::new();
-    let ended = run_walk(&mut link, core, 0, &mut digits);
-    assert!(&rt; ended == WalkEnd::TooManyRequests);
-    assert_eq!(&rt; digits.number, 123);
-    Ok(())
+fn ids_run_out(rt: HostRuntime) {
+    let core = walk_of(&rt, ROOT, Mode::Plain, Method::Next, 2147483645);
+    let table = table_of(&rt, rt.alloc(), THREE);
+    assert!(&rt; runs_out(rt.alloc(), &table, core));
 }
 
-/// The walk below the root that is resumed after this name ends so, with these integers as digits.
-fn assert_resumed(
-    rt: &impl Abort,
-    alloc: Global,
-    after: &[u8],
-    number: u64,
-    end: &WalkEnd,
-) -> Result<(), Fail> {
-    let table = Table::read(alloc, THREE)?;
-    let config = Config {
-        community: b"public",
-        max_size: 1472,
-    };
-    let after = parse_numeric(after)?;
-    let core = WalkCore::resume(parse_numeric(ROOT)?, &after, Method::Next, b"public", 1)?;
-    let mut link = MemoryLink::new(alloc, &table, config, &[]);
+/// Whether the walk over this table is done with these integers as digits, in this many rows.
+fn gives(alloc: Global, table: &Table, core: WalkCore, number: u64, rows: u64) -> bool
+    requires { IsFresh core }
+{
+    let mut link = MemoryLink::new(alloc, table, public(1472), &[]);
     let mut digits = Digits::new();
-    let ended = run_walk(&mut link, core, 0, &mut digits);
-    assert!(rt; ended == *end);
-    assert_eq!(rt; digits.number, number);
-    Ok(())
+    walk_ends(&mut link, core, 0, &mut digits, &WalkEnd::Done(rows)) && digits.number == number
+}
+
+/// The walk below the root that is resumed after this name is done with these integers as digits, in
+/// this many rows.
+fn assert_resumed(rt: &impl Abort, alloc: Global, after: &[u8], number: u64, rows: u64) {
+    let core = resumed(rt, &name_of(rt, after), Method::Next);
+    let table = table_of(rt, alloc, THREE);
+    assert!(rt; gives(alloc, &table, core, number, rows));
 }
 
 #[test]
-fn a_resumed_walk_gives_the_rest(rt: HostRuntime) -> Result<(), Fail> {
+fn a_resumed_walk_gives_the_rest(rt: HostRuntime) {
     let cases: [(&[u8], u64, u64); 5] = [
         (b"1.3.6.1.4.1.32473.1", 123, 3),
         (b"1.3.6.1.4.1.32473.1.1.0", 23, 2),
@@ -273,23 +251,19 @@ fn a_resumed_walk_gives_the_rest(rt: HostRuntime) -> Result<(), Fail> {
         (b"1.3.6.1.4.1.32473.1.10.0", 0, 0),
     ];
     for (after, number, rows) in cases {
-        assert_resumed(&rt, rt.alloc(), after, number, &WalkEnd::Done(rows))?;
+        assert_resumed(&rt, rt.alloc(), after, number, rows);
     }
-    Ok(())
 }
 
 /// A walk below this root that is resumed after this name is refused, for this reason.
-fn assert_refused(rt: &impl Abort, root: &[u8], after: &[u8], why: StartError) -> Result<(), Fail> {
-    let after = parse_numeric(after)?;
-    match WalkCore::resume(parse_numeric(root)?, &after, Method::Next, b"public", 1) {
-        Ok(_) => assert!(rt; false),
-        Err(error) => assert!(rt; error == why),
-    }
-    Ok(())
+fn assert_refused(rt: &impl Abort, root: &[u8], after: &[u8], why: StartError) {
+    let after = name_of(rt, after);
+    let core = WalkCore::resume(name_of(rt, root), &after, Method::Next, b"public", 1);
+    assert!(rt; core.err() == Some(why));
 }
 
 #[test]
-fn the_first_refusal_of_a_resumed_walk_is_the_roots(rt: HostRuntime) -> Result<(), Fail> {
+fn the_first_refusal_of_a_resumed_walk_is_the_roots(rt: HostRuntime) {
     let cases: [(&[u8], &[u8], StartError); 9] = [
         (b"3.1", b"3.1.1", StartError::NotWire),
         (b"3.1", b"1.3", StartError::NotWire),
@@ -302,35 +276,43 @@ fn the_first_refusal_of_a_resumed_walk_is_the_roots(rt: HostRuntime) -> Result<(
         (b".", b"0.40.1", StartError::NotWire),
     ];
     for (root, after, why) in cases {
-        assert_refused(&rt, root, after, why)?;
+        assert_refused(&rt, root, after, why);
     }
-    Ok(())
 }
 
-#[test]
-fn the_longest_name_is_walked(rt: HostRuntime) -> Result<(), Fail> {
-    let mut text = Vec::new(rt.alloc());
-    text.extend_from_slice(b"1.3.6")?;
+/// A table of one row, whose name has 128 numbers.
+fn longest_row(rt: &impl Abort, alloc: Global) -> Vec<u8> {
+    let mut text = Vec::new(alloc);
+    put(rt, &mut text, b"1.3.6");
     for _ in 0..125 {
-        text.extend_from_slice(b".4294967295")?;
+        put(rt, &mut text, b".4294967295");
     }
-    text.extend_from_slice(b"|2|5\n")?;
-    for method in [Method::Next, Method::Bulk(10)] {
+    put(rt, &mut text, b"|2|5\n");
+    text
+}
+
+/// The row of this table is walked by GetNext and by GetBulk.
+fn assert_longest(rt: &impl Abort, alloc: Global, table: &[u8]) {
+    for (method, requests) in [(Method::Next, 2), (Method::Bulk(10), 1)] {
         let case = Case {
-            table: &text,
+            table,
             root: b"1.3.6.4294967295",
             method,
             max_size: 1472,
             retries: 0,
             deliveries: &[],
         };
-        let requests = if method == Method::Next { 2 } else { 1 };
         let brought = Brought {
             number: 5,
             sends: requests,
             requests,
         };
-        assert_walk(&rt, rt.alloc(), case, brought, &WalkEnd::Done(1))?;
+        assert_walk(rt, alloc, case, brought, &WalkEnd::Done(1));
     }
-    Ok(())
+}
+
+#[test]
+fn the_longest_name_is_walked(rt: HostRuntime) {
+    let text = longest_row(&rt, rt.alloc());
+    assert_longest(&rt, rt.alloc(), &text);
 }
