@@ -1,206 +1,259 @@
 //! Each command with its options, given, repeated or left out.
 
-use snmp_words::{UsageError, read_words};
-use std::test::Fail;
+use snmp_words::{Job, UsageError, read_words};
+use std::alloc::Global;
+use std::process::Abort;
+
+/// Whether `Debug` shows the job so.
+fn is_shown_so(alloc: Global, job: &Job<'_>, text: &str) -> bool {
+    match format!(in alloc; "{job:?}") {
+        Ok(shown) => shown.as_str() == text,
+        Err(_) => false,
+    }
+}
 
 /// Whether the words state this job, shown as by `Debug`.
-pub fn states(rt: &HostRuntime, words: &[&str], job: &str) -> Result<bool, Fail> {
-    let stated = match read_words(rt.alloc(), words) {
-        Ok(stated) => format!(in rt.alloc(); "{stated:?}")?,
-        Err(error) => format!(in rt.alloc(); "{error}")?,
+// What was read is dropped by a call, here and in the other helpers: at the end of a scope the
+// drops of all kinds of jobs would be written out.
+fn states(alloc: Global, words: &[&str], job: &str) -> bool {
+    let read = read_words(alloc, words);
+    let stated = match &read {
+        Ok(stated) => is_shown_so(alloc, stated, job),
+        Err(_) => false,
     };
-    Ok(stated.as_str() == job)
+    drop(read);
+    stated
+}
+
+/// Asserts of each row that its words state its job, shown as by `Debug`.
+fn assert_stated(rt: &impl Abort, alloc: Global, rows: &[(&[&str], &str)]) {
+    for (words, job) in rows {
+        assert!(rt; states(alloc, words, job), "{words:?}");
+    }
 }
 
 /// Whether the words are refused, and no help is asked for.
-pub fn are_refused(rt: &HostRuntime, words: &[&str]) -> bool {
-    matches!(
-        read_words(rt.alloc(), words),
-        Err(UsageError::Parse { help: false, .. })
-    )
+pub fn are_refused(alloc: Global, words: &[&str]) -> bool {
+    let read = read_words(alloc, words);
+    let refused = matches!(&read, Err(UsageError::Parse { help: false, .. }));
+    drop(read);
+    refused
 }
 
-#[test]
-fn options_that_are_left_out_have_defaults(rt: HostRuntime) -> Result<(), Fail> {
-    let walk = "Walk(WalkJob { asking: Asking { mibs: [], letters: \"\", protocol: \"2c\", \
-                community: \"public\", retries: 5, seconds: 1, max_size: 1472, \
-                agent: \"router\" }, letters: \"\", after: None, name: None })";
-    assert!(rt; states(&rt, &["snmp", "snmpwalk", "router"], walk)?);
-    let bulk_walk = "BulkWalk(WalkJob { asking: Asking { mibs: [], letters: \"\", \
-                     protocol: \"2c\", community: \"public\", retries: 5, seconds: 1, \
-                     max_size: 1472, agent: \"router\" }, letters: \"\", after: None, \
-                     name: None })";
-    assert!(rt; states(&rt, &["snmp", "snmpbulkwalk", "router"], bulk_walk)?);
-    let serve = "Serve(ServeJob { table: \"t.tab\", community: \"public\", \
-                 listen: \"127.0.0.1:161\", max_size: 1472, turns: 18446744073709551615 })";
-    assert!(rt; states(&rt, &["snmp", "snmpd", "--table", "t.tab"], serve)?);
-    Ok(())
+/// Asserts that these words are refused, and that no help is asked for.
+pub fn assert_refused(rt: &impl Abort, alloc: Global, rows: &[&[&str]]) {
+    for words in rows {
+        assert!(rt; are_refused(alloc, words), "{words:?}");
+    }
 }
 
-#[test]
-fn words_of_translations_and_gets_have_defaults(rt: HostRuntime) -> Result<(), Fail> {
-    let translate = "Translate(TranslateJob { mibs: [], letters: \"\", details: \"\", \
-                     names: [\"iso.3\"] })";
-    assert!(rt; states(&rt, &["snmp", "snmptranslate", "iso.3"], translate)?);
-    let get = "Get(GetJob { asking: Asking { mibs: [], letters: \"\", protocol: \"2c\", \
-               community: \"public\", retries: 5, seconds: 1, max_size: 1472, \
-               agent: \"router\" }, names: [\"sysUpTime.0\"] })";
-    assert!(rt; states(&rt, &["snmp", "snmpget", "router", "sysUpTime.0"], get)?);
-    Ok(())
-}
+const DEFAULTS: &[(&[&str], &str)] = &[
+    (
+        &["snmp", "snmpwalk", "router"],
+        "Walk(WalkJob { asking: Asking { mibs: [], letters: \"\", protocol: \"2c\", \
+         community: \"public\", retries: 5, seconds: 1, max_size: 1472, agent: \"router\" }, \
+         letters: \"\", after: None, name: None })",
+    ),
+    (
+        &["snmp", "snmpbulkwalk", "router"],
+        "BulkWalk(WalkJob { asking: Asking { mibs: [], letters: \"\", protocol: \"2c\", \
+         community: \"public\", retries: 5, seconds: 1, max_size: 1472, agent: \"router\" }, \
+         letters: \"\", after: None, name: None })",
+    ),
+    (
+        &["snmp", "snmpd", "--table", "t.tab"],
+        "Serve(ServeJob { table: \"t.tab\", community: \"public\", listen: \"127.0.0.1:161\", \
+         max_size: 1472, turns: 18446744073709551615 })",
+    ),
+];
 
 #[test]
-fn options_that_are_given_are_stated(rt: HostRuntime) -> Result<(), Fail> {
-    let words = [
-        "snmp",
-        "snmpwalk",
-        "-Oqv",
-        "-v",
-        "1",
-        "-cprivate",
-        "-r0",
-        "-t",
-        "3600",
-        "--max-size=65507",
-        "udp:router:1161",
-    ];
-    let bare = "Walk(WalkJob { asking: Asking { mibs: [], letters: \"qv\", protocol: \"1\", \
-                community: \"private\", retries: 0, seconds: 3600, max_size: 65507, \
-                agent: \"udp:router:1161\" }, letters: \"\", after: None, name: None })";
-    assert!(rt; states(&rt, &words, bare)?);
-    let words = [
-        "snmp",
-        "snmpwalk",
-        "-Ci",
-        "--after",
-        "x",
-        "table:t.tab",
-        "y",
-    ];
-    let walk = "Walk(WalkJob { asking: Asking { mibs: [], letters: \"\", protocol: \"2c\", \
-                community: \"public\", retries: 5, seconds: 1, max_size: 1472, \
-                agent: \"table:t.tab\" }, letters: \"i\", after: Some(\"x\"), \
-                name: Some(\"y\") })";
-    assert!(rt; states(&rt, &words, walk)?);
-    let words = [
-        "snmp",
-        "snmpd",
-        "--listen",
-        "0.0.0.0:1161",
-        "--table=t.tab",
-        "-c",
-        "",
-        "--max-size",
-        "484",
-        "--turns",
-        "0",
-    ];
-    let serve = "Serve(ServeJob { table: \"t.tab\", community: \"\", listen: \"0.0.0.0:1161\", \
-                 max_size: 484, turns: 0 })";
-    assert!(rt; states(&rt, &words, serve)?);
-    Ok(())
+fn options_that_are_left_out_have_defaults(rt: HostRuntime) {
+    assert_stated(&rt, rt.alloc(), DEFAULTS);
 }
 
-#[test]
-fn options_of_translations_and_gets_are_stated(rt: HostRuntime) -> Result<(), Fail> {
-    let words = [
-        "snmp",
-        "snmptranslate",
-        "--mib",
-        "tiny.txt",
-        "-OnU",
-        "-Td",
-        "iso.3",
-        "nosuch",
-        "TINY-MIB::tinyMac.\"wes\"",
-    ];
-    let translate = "Translate(TranslateJob { mibs: [\"tiny.txt\"], letters: \"nU\", \
-                     details: \"d\", names: [\"iso.3\", \"nosuch\", \
-                     \"TINY-MIB::tinyMac.\\\"wes\\\"\"] })";
-    assert!(rt; states(&rt, &words, translate)?);
-    let words = [
-        "snmp",
-        "snmpget",
-        "--mib=tiny.txt",
-        "-Oqv",
-        "-v",
-        "1",
-        "-cprivate",
-        "-r0",
-        "-t",
-        "3600",
-        "--max-size=65507",
-        "udp:router:1161",
-        ".1.0",
-        ".2.0",
-        ".1.0",
-    ];
-    let get = "Get(GetJob { asking: Asking { mibs: [\"tiny.txt\"], letters: \"qv\", \
-               protocol: \"1\", community: \"private\", retries: 0, seconds: 3600, \
-               max_size: 65507, agent: \"udp:router:1161\" }, \
-               names: [\".1.0\", \".2.0\", \".1.0\"] })";
-    assert!(rt; states(&rt, &words, get)?);
-    Ok(())
-}
+const DEFAULTS_BESIDE_NAMES: &[(&[&str], &str)] = &[
+    (
+        &["snmp", "snmptranslate", "iso.3"],
+        "Translate(TranslateJob { mibs: [], letters: \"\", details: \"\", names: [\"iso.3\"] })",
+    ),
+    (
+        &["snmp", "snmpget", "router", "sysUpTime.0"],
+        "Get(GetJob { asking: Asking { mibs: [], letters: \"\", protocol: \"2c\", \
+         community: \"public\", retries: 5, seconds: 1, max_size: 1472, agent: \"router\" }, \
+         names: [\"sysUpTime.0\"] })",
+    ),
+];
 
 #[test]
-fn files_of_modules_are_stated_in_order(rt: HostRuntime) -> Result<(), Fail> {
-    let words = [
-        "snmp",
-        "snmptranslate",
-        "--mib=c.txt",
-        "-Od",
-        "--mib",
-        "a.txt",
-        "x",
-        "--mib=b.txt",
-        "-O",
-        "b",
-    ];
-    let translate = "Translate(TranslateJob { mibs: [\"c.txt\", \"a.txt\", \"b.txt\"], \
-                     letters: \"db\", details: \"\", names: [\"x\"] })";
-    assert!(rt; states(&rt, &words, translate)?);
-    let words = [
-        "snmp",
-        "snmpget",
-        "--mib",
-        "b.txt",
-        "router",
-        "--mib",
-        "a.txt",
-        "x",
-        "--mib=b.txt",
-        "y",
-    ];
-    let get = "Get(GetJob { asking: Asking { mibs: [\"b.txt\", \"a.txt\", \"b.txt\"], \
-               letters: \"\", protocol: \"2c\", community: \"public\", retries: 5, \
-               seconds: 1, max_size: 1472, agent: \"router\" }, names: [\"x\", \"y\"] })";
-    assert!(rt; states(&rt, &words, get)?);
-    let words = [
-        "snmp",
-        "snmpwalk",
-        "--mib=b.txt",
-        "--mib=a.txt",
-        "router",
-        "x",
-    ];
-    let walk = "Walk(WalkJob { asking: Asking { mibs: [\"b.txt\", \"a.txt\"], \
-                letters: \"\", protocol: \"2c\", community: \"public\", retries: 5, \
-                seconds: 1, max_size: 1472, agent: \"router\" }, letters: \"\", \
-                after: None, name: Some(\"x\") })";
-    assert!(rt; states(&rt, &words, walk)?);
-    let words = ["snmp", "snmpbulkwalk", "router", "--mib", "", "--mib=a.txt"];
-    let walk = "BulkWalk(WalkJob { asking: Asking { mibs: [\"\", \"a.txt\"], \
-                letters: \"\", protocol: \"2c\", community: \"public\", retries: 5, \
-                seconds: 1, max_size: 1472, agent: \"router\" }, letters: \"\", \
-                after: None, name: None })";
-    assert!(rt; states(&rt, &words, walk)?);
-    Ok(())
+fn words_of_translations_and_gets_have_defaults(rt: HostRuntime) {
+    assert_stated(&rt, rt.alloc(), DEFAULTS_BESIDE_NAMES);
 }
 
+const GIVEN: &[(&[&str], &str)] = &[
+    (
+        &[
+            "snmp",
+            "snmpwalk",
+            "-Oqv",
+            "-v",
+            "1",
+            "-cprivate",
+            "-r0",
+            "-t",
+            "3600",
+            "--max-size=65507",
+            "udp:router:1161",
+        ],
+        "Walk(WalkJob { asking: Asking { mibs: [], letters: \"qv\", protocol: \"1\", \
+         community: \"private\", retries: 0, seconds: 3600, max_size: 65507, \
+         agent: \"udp:router:1161\" }, letters: \"\", after: None, name: None })",
+    ),
+    (
+        &[
+            "snmp",
+            "snmpwalk",
+            "-Ci",
+            "--after",
+            "x",
+            "table:t.tab",
+            "y",
+        ],
+        "Walk(WalkJob { asking: Asking { mibs: [], letters: \"\", protocol: \"2c\", \
+         community: \"public\", retries: 5, seconds: 1, max_size: 1472, \
+         agent: \"table:t.tab\" }, letters: \"i\", after: Some(\"x\"), name: Some(\"y\") })",
+    ),
+    (
+        &[
+            "snmp",
+            "snmpd",
+            "--listen",
+            "0.0.0.0:1161",
+            "--table=t.tab",
+            "-c",
+            "",
+            "--max-size",
+            "484",
+            "--turns",
+            "0",
+        ],
+        "Serve(ServeJob { table: \"t.tab\", community: \"\", listen: \"0.0.0.0:1161\", \
+         max_size: 484, turns: 0 })",
+    ),
+];
+
 #[test]
-fn repeated_options_are_joined_in_order(rt: HostRuntime) -> Result<(), Fail> {
-    let words = [
+fn options_that_are_given_are_stated(rt: HostRuntime) {
+    assert_stated(&rt, rt.alloc(), GIVEN);
+}
+
+const GIVEN_BESIDE_NAMES: &[(&[&str], &str)] = &[
+    (
+        &[
+            "snmp",
+            "snmptranslate",
+            "--mib",
+            "tiny.txt",
+            "-OnU",
+            "-Td",
+            "iso.3",
+            "nosuch",
+            "TINY-MIB::tinyMac.\"wes\"",
+        ],
+        "Translate(TranslateJob { mibs: [\"tiny.txt\"], letters: \"nU\", details: \"d\", \
+         names: [\"iso.3\", \"nosuch\", \"TINY-MIB::tinyMac.\\\"wes\\\"\"] })",
+    ),
+    (
+        &[
+            "snmp",
+            "snmpget",
+            "--mib=tiny.txt",
+            "-Oqv",
+            "-v",
+            "1",
+            "-cprivate",
+            "-r0",
+            "-t",
+            "3600",
+            "--max-size=65507",
+            "udp:router:1161",
+            ".1.0",
+            ".2.0",
+            ".1.0",
+        ],
+        "Get(GetJob { asking: Asking { mibs: [\"tiny.txt\"], letters: \"qv\", protocol: \"1\", \
+         community: \"private\", retries: 0, seconds: 3600, max_size: 65507, \
+         agent: \"udp:router:1161\" }, names: [\".1.0\", \".2.0\", \".1.0\"] })",
+    ),
+];
+
+#[test]
+fn options_of_translations_and_gets_are_stated(rt: HostRuntime) {
+    assert_stated(&rt, rt.alloc(), GIVEN_BESIDE_NAMES);
+}
+
+const FILES_OF_MODULES: &[(&[&str], &str)] = &[
+    (
+        &[
+            "snmp",
+            "snmptranslate",
+            "--mib=c.txt",
+            "-Od",
+            "--mib",
+            "a.txt",
+            "x",
+            "--mib=b.txt",
+            "-O",
+            "b",
+        ],
+        "Translate(TranslateJob { mibs: [\"c.txt\", \"a.txt\", \"b.txt\"], letters: \"db\", \
+         details: \"\", names: [\"x\"] })",
+    ),
+    (
+        &[
+            "snmp",
+            "snmpget",
+            "--mib",
+            "b.txt",
+            "router",
+            "--mib",
+            "a.txt",
+            "x",
+            "--mib=b.txt",
+            "y",
+        ],
+        "Get(GetJob { asking: Asking { mibs: [\"b.txt\", \"a.txt\", \"b.txt\"], letters: \"\", \
+         protocol: \"2c\", community: \"public\", retries: 5, seconds: 1, max_size: 1472, \
+         agent: \"router\" }, names: [\"x\", \"y\"] })",
+    ),
+    (
+        &[
+            "snmp",
+            "snmpwalk",
+            "--mib=b.txt",
+            "--mib=a.txt",
+            "router",
+            "x",
+        ],
+        "Walk(WalkJob { asking: Asking { mibs: [\"b.txt\", \"a.txt\"], letters: \"\", \
+         protocol: \"2c\", community: \"public\", retries: 5, seconds: 1, max_size: 1472, \
+         agent: \"router\" }, letters: \"\", after: None, name: Some(\"x\") })",
+    ),
+    (
+        &["snmp", "snmpbulkwalk", "router", "--mib", "", "--mib=a.txt"],
+        "BulkWalk(WalkJob { asking: Asking { mibs: [\"\", \"a.txt\"], letters: \"\", \
+         protocol: \"2c\", community: \"public\", retries: 5, seconds: 1, max_size: 1472, \
+         agent: \"router\" }, letters: \"\", after: None, name: None })",
+    ),
+];
+
+#[test]
+fn files_of_modules_are_stated_in_order(rt: HostRuntime) {
+    assert_stated(&rt, rt.alloc(), FILES_OF_MODULES);
+}
+
+const REPEATED: &[(&[&str], &str)] = &[(
+    &[
         "snmp",
         "snmpbulkwalk",
         "-On",
@@ -211,98 +264,117 @@ fn repeated_options_are_joined_in_order(rt: HostRuntime) -> Result<(), Fail> {
         "-C",
         "p",
         "-Os",
-    ];
-    let walk = "BulkWalk(WalkJob { asking: Asking { mibs: [], letters: \"nqs\", \
-                protocol: \"2c\", community: \"public\", retries: 5, seconds: 1, \
-                max_size: 1472, agent: \"router\" }, letters: \"r25p\", after: None, \
-                name: None })";
-    assert!(rt; states(&rt, &words, walk)?);
-    Ok(())
-}
+    ],
+    "BulkWalk(WalkJob { asking: Asking { mibs: [], letters: \"nqs\", protocol: \"2c\", \
+     community: \"public\", retries: 5, seconds: 1, max_size: 1472, agent: \"router\" }, \
+     letters: \"r25p\", after: None, name: None })",
+)];
 
 #[test]
-fn other_options_stand_once(rt: HostRuntime) -> Result<(), Fail> {
-    for option in [
-        "-v2c",
-        "-cpublic",
-        "-r1",
-        "-t1",
-        "--max-size=1",
-        "--after=.1",
-    ] {
-        let once = ["snmp", "snmpwalk", option, "router"];
-        assert!(rt; !are_refused(&rt, &once));
-        let twice = ["snmp", "snmpwalk", option, option, "router"];
-        assert!(rt; are_refused(&rt, &twice));
-    }
-    for option in ["-v2c", "-cpublic", "-r1", "-t1", "--max-size=1"] {
-        let once = ["snmp", "snmpget", option, "router", ".1"];
-        assert!(rt; !are_refused(&rt, &once));
-        let twice = ["snmp", "snmpget", option, option, "router", ".1"];
-        assert!(rt; are_refused(&rt, &twice));
-    }
-    assert!(rt; !are_refused(&rt, &["snmp", "snmptranslate", "-Td", "x"]));
-    assert!(rt; are_refused(&rt, &["snmp", "snmptranslate", "-Td", "-Td", "x"]));
-    for option in ["-cpublic", "--listen=a:1", "--max-size=1", "--turns=1"] {
-        let once = ["snmp", "snmpd", "--table=t.tab", option];
-        assert!(rt; !are_refused(&rt, &once));
-        let twice = ["snmp", "snmpd", option, "--table=t.tab", option];
-        assert!(rt; are_refused(&rt, &twice));
-    }
-    Ok(())
+fn repeated_options_are_joined_in_order(rt: HostRuntime) {
+    assert_stated(&rt, rt.alloc(), REPEATED);
 }
 
-#[test]
-fn wrong_words_are_refused(rt: HostRuntime) -> Result<(), Fail> {
-    let none: &[&str] = &["snmp"];
-    for words in [
-        none,
-        &["snmp", "snmpset", "router", ".1"],
-        &["snmp", "help"],
-        &["snmp", "-On", "snmpwalk", "router"],
-        &["snmp", "snmptranslate"],
-        &["snmp", "snmptranslate", "--mib", "x"],
-        &["snmp", "snmptranslate", "x", "--mib"],
-        &["snmp", "snmptranslate", "-T", "-On", "x"],
-        &["snmp", "snmptranslate", "-cpublic", "x"],
-        &["snmp", "snmptranslate", "-m", "ALL", "x"],
-        &["snmp", "snmpget"],
-        &["snmp", "snmpget", "router"],
-        &["snmp", "snmpget", "-Td", "router", ".1"],
-        &["snmp", "snmpget", "-Ci", "router", ".1"],
-        &["snmp", "snmpget", "--after", ".1", "router", ".1"],
-        &["snmp", "snmpwalk"],
-        &["snmp", "snmpwalk", "router", ".1", ".2"],
-        &["snmp", "snmpwalk", "-m", "ALL", "router"],
-        &["snmp", "snmpwalk", "-Td", "router"],
-        &["snmp", "snmpwalk", "router", "-O"],
-        &["snmp", "snmpd"],
-        &["snmp", "snmpd", "--table", "a.tab", "--table", "b.tab"],
-        &["snmp", "snmpd", "t.tab"],
-        &["snmp", "snmpd", "--table=t.tab", "-On"],
-        &["snmp", "snmpd", "--table=t.tab", "--mib=a.txt"],
-    ] {
-        assert!(rt; are_refused(&rt, words));
-    }
-    Ok(())
+/// Whether the option may stand once in the words of a walk, and not twice.
+fn stands_once_in_walk(alloc: Global, option: &str) -> bool {
+    !are_refused(alloc, &["snmp", "snmpwalk", option, "router"])
+        && are_refused(alloc, &["snmp", "snmpwalk", option, option, "router"])
 }
 
+/// Whether the option may stand once in the words of a get, and not twice.
+fn stands_once_in_get(alloc: Global, option: &str) -> bool {
+    !are_refused(alloc, &["snmp", "snmpget", option, "router", ".1"])
+        && are_refused(alloc, &["snmp", "snmpget", option, option, "router", ".1"])
+}
+
+/// Whether the option may stand once in the words of an agent, and not twice.
+fn stands_once_in_serve(alloc: Global, option: &str) -> bool {
+    !are_refused(alloc, &["snmp", "snmpd", "--table=t.tab", option])
+        && are_refused(alloc, &["snmp", "snmpd", option, "--table=t.tab", option])
+}
+
+const OF_WALKS: &[&str] = &[
+    "-v2c",
+    "-cpublic",
+    "-r1",
+    "-t1",
+    "--max-size=1",
+    "--after=.1",
+];
+
+const OF_GETS: &[&str] = &["-v2c", "-cpublic", "-r1", "-t1", "--max-size=1"];
+
+const OF_AGENTS: &[&str] = &["-cpublic", "--listen=a:1", "--max-size=1", "--turns=1"];
+
 #[test]
-fn a_name_may_begin_with_a_hyphen_after_two(rt: HostRuntime) -> Result<(), Fail> {
-    let walk = "Walk(WalkJob { asking: Asking { mibs: [], letters: \"\", protocol: \"2c\", \
-                community: \"public\", retries: 5, seconds: 1, max_size: 1472, \
-                agent: \"router\" }, letters: \"\", after: None, name: Some(\"-x\") })";
-    assert!(rt; states(&rt, &["snmp", "snmpwalk", "--", "router", "-x"], walk)?);
-    assert!(rt; are_refused(&rt, &["snmp", "snmpwalk", "router", "-x"]));
-    let translate = "Translate(TranslateJob { mibs: [], letters: \"\", details: \"\", \
-                     names: [\"x\", \"-y\", \"--mib\"] })";
-    assert!(rt;
-        states(
-            &rt,
-            &["snmp", "snmptranslate", "x", "--", "-y", "--mib"],
-            translate
-        )?
-    );
-    assert!(rt; are_refused(&rt, &["snmp", "snmptranslate", "x", "-y"]));
-    Ok(())
+fn other_options_stand_once(rt: HostRuntime) {
+    for option in OF_WALKS {
+        assert!(rt; stands_once_in_walk(rt.alloc(), option));
+    }
+    for option in OF_GETS {
+        assert!(rt; stands_once_in_get(rt.alloc(), option));
+    }
+    assert!(rt; !are_refused(rt.alloc(), &["snmp", "snmptranslate", "-Td", "x"]));
+    assert!(rt; are_refused(rt.alloc(), &["snmp", "snmptranslate", "-Td", "-Td", "x"]));
+    for option in OF_AGENTS {
+        assert!(rt; stands_once_in_serve(rt.alloc(), option));
+    }
+}
+
+const WRONG: &[&[&str]] = &[
+    &["snmp"],
+    &["snmp", "snmpset", "router", ".1"],
+    &["snmp", "help"],
+    &["snmp", "-On", "snmpwalk", "router"],
+    &["snmp", "snmptranslate"],
+    &["snmp", "snmptranslate", "--mib", "x"],
+    &["snmp", "snmptranslate", "x", "--mib"],
+    &["snmp", "snmptranslate", "-T", "-On", "x"],
+    &["snmp", "snmptranslate", "-cpublic", "x"],
+    &["snmp", "snmptranslate", "-m", "ALL", "x"],
+    &["snmp", "snmpget"],
+    &["snmp", "snmpget", "router"],
+    &["snmp", "snmpget", "-Td", "router", ".1"],
+    &["snmp", "snmpget", "-Ci", "router", ".1"],
+    &["snmp", "snmpget", "--after", ".1", "router", ".1"],
+    &["snmp", "snmpwalk"],
+    &["snmp", "snmpwalk", "router", ".1", ".2"],
+    &["snmp", "snmpwalk", "-m", "ALL", "router"],
+    &["snmp", "snmpwalk", "-Td", "router"],
+    &["snmp", "snmpwalk", "router", "-O"],
+    &["snmp", "snmpd"],
+    &["snmp", "snmpd", "--table", "a.tab", "--table", "b.tab"],
+    &["snmp", "snmpd", "t.tab"],
+    &["snmp", "snmpd", "--table=t.tab", "-On"],
+    &["snmp", "snmpd", "--table=t.tab", "--mib=a.txt"],
+];
+
+#[test]
+fn wrong_words_are_refused(rt: HostRuntime) {
+    assert_refused(&rt, rt.alloc(), WRONG);
+}
+
+const AFTER_TWO_HYPHENS: &[(&[&str], &str)] = &[
+    (
+        &["snmp", "snmpwalk", "--", "router", "-x"],
+        "Walk(WalkJob { asking: Asking { mibs: [], letters: \"\", protocol: \"2c\", \
+         community: \"public\", retries: 5, seconds: 1, max_size: 1472, agent: \"router\" }, \
+         letters: \"\", after: None, name: Some(\"-x\") })",
+    ),
+    (
+        &["snmp", "snmptranslate", "x", "--", "-y", "--mib"],
+        "Translate(TranslateJob { mibs: [], letters: \"\", details: \"\", \
+         names: [\"x\", \"-y\", \"--mib\"] })",
+    ),
+];
+
+const AFTER_NONE: &[&[&str]] = &[
+    &["snmp", "snmpwalk", "router", "-x"],
+    &["snmp", "snmptranslate", "x", "-y"],
+];
+
+#[test]
+fn a_name_may_begin_with_a_hyphen_after_two(rt: HostRuntime) {
+    assert_stated(&rt, rt.alloc(), AFTER_TWO_HYPHENS);
+    assert_refused(&rt, rt.alloc(), AFTER_NONE);
 }

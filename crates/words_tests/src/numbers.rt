@@ -1,78 +1,132 @@
 //! The ranges of numbers, at their ends and past them.
 
-use crate::commands::are_refused;
+use crate::commands::{are_refused, assert_refused};
 use snmp_words::{Job, read_words};
-use std::test::Fail;
+use std::alloc::Global;
+use std::process::Abort;
 
-/// What a walk has of this option.
-fn asked(rt: &HostRuntime, option: &str, number: &str) -> Option<(u64, u64, u64)> {
+/// What a walk has of this option: its retries, seconds and greatest size.
+fn asked(alloc: Global, option: &str, number: &str) -> Option<(u64, u64, u64)> {
     let words = ["snmp", "snmpwalk", option, number, "router"];
-    match read_words(rt.alloc(), &words) {
+    let read = read_words(alloc, &words);
+    let numbers = match &read {
         Ok(Job::Walk(walk)) => Some((
             walk.asking.retries,
             walk.asking.seconds,
             walk.asking.max_size,
         )),
         _ => None,
-    }
+    };
+    drop(read);
+    numbers
 }
 
-/// What an agent has of this option.
-fn served(rt: &HostRuntime, option: &str, number: &str) -> Option<(u64, u64)> {
+/// What an agent has of this option: its greatest size and turns.
+fn served(alloc: Global, option: &str, number: &str) -> Option<(u64, u64)> {
     let words = ["snmp", "snmpd", "--table=t.tab", option, number];
-    match read_words(rt.alloc(), &words) {
+    let read = read_words(alloc, &words);
+    let numbers = match &read {
         Ok(Job::Serve(serve)) => Some((serve.max_size, serve.turns)),
         _ => None,
+    };
+    drop(read);
+    numbers
+}
+
+/// Options and numbers, each with the retries, seconds and greatest size that a walk then has.
+const ASKED: &[(&str, &str, (u64, u64, u64))] = &[
+    ("-r", "0", (0, 1, 1472)),
+    ("-r", "1000", (1000, 1, 1472)),
+    ("-r", "007", (7, 1, 1472)),
+    ("-r", "+3", (3, 1, 1472)),
+    ("-t", "1", (5, 1, 1472)),
+    ("-t", "3600", (5, 3600, 1472)),
+    ("-t", "0002", (5, 2, 1472)),
+    ("--max-size", "1", (5, 1, 1)),
+    ("--max-size", "65507", (5, 1, 65507)),
+    ("--max-size", "0484", (5, 1, 484)),
+];
+
+/// Whether a walk with this option and number is refused, and no help is asked for.
+fn is_refused(alloc: Global, option: &str, number: &str) -> bool {
+    are_refused(alloc, &["snmp", "snmpwalk", option, number, "router"])
+}
+
+/// Whether a bulk walk with this option and number is refused, and no help is asked for.
+fn is_refused_in_bulk(alloc: Global, option: &str, number: &str) -> bool {
+    are_refused(alloc, &["snmp", "snmpbulkwalk", option, number, "router"])
+}
+
+/// Options of walks with numbers past their ends.
+const NOT_ASKED: &[(&str, &str)] = &[
+    ("-r", "1001"),
+    ("-r", "18446744073709551616"),
+    ("-t", "0"),
+    ("-t", "3601"),
+    ("--max-size", "0"),
+    ("--max-size", "65508"),
+];
+
+const NO_NUMBERS: &[&str] = &["", "x", "1.5", "0x10", "-1", " 1"];
+
+/// Asserts that the option of walks is refused with a text that is no number.
+fn assert_number(rt: &impl Abort, alloc: Global, option: &str) {
+    for text in NO_NUMBERS {
+        assert!(rt; is_refused(alloc, option, text), "{option} {text:?}");
     }
 }
 
 #[test]
-fn numbers_of_requests(rt: HostRuntime) -> Result<(), Fail> {
-    for (text, number) in [("0", 0), ("1000", 1000), ("007", 7), ("+3", 3)] {
-        assert_eq!(rt; asked(&rt, "-r", text), Some((number, 1, 1472)));
+fn numbers_of_requests(rt: HostRuntime) {
+    for (option, text, numbers) in ASKED {
+        assert!(rt;
+            asked(rt.alloc(), option, text) == Some(*numbers),
+            "{option} {text}"
+        );
     }
-    for (text, number) in [("1", 1), ("3600", 3600), ("0002", 2)] {
-        assert_eq!(rt; asked(&rt, "-t", text), Some((5, number, 1472)));
+    for (option, text) in NOT_ASKED {
+        assert!(rt; is_refused(rt.alloc(), option, text), "{option} {text}");
+        assert!(rt;
+            is_refused_in_bulk(rt.alloc(), option, text),
+            "{option} {text}"
+        );
     }
-    for (text, number) in [("1", 1), ("65507", 65507), ("0484", 484)] {
-        assert_eq!(rt; asked(&rt, "--max-size", text), Some((5, 1, number)));
-    }
-    for (option, text) in [
-        ("-r", "1001"),
-        ("-r", "18446744073709551616"),
-        ("-t", "0"),
-        ("-t", "3601"),
-        ("--max-size", "0"),
-        ("--max-size", "65508"),
-    ] {
-        assert!(rt; are_refused(&rt, &["snmp", "snmpwalk", option, text, "router"]));
-        assert!(rt; are_refused(&rt, &["snmp", "snmpbulkwalk", option, text, "router"]));
-    }
-    for option in ["-r", "-t", "--max-size"] {
-        for text in ["", "x", "1.5", "0x10", "-1", " 1"] {
-            assert!(rt; are_refused(&rt, &["snmp", "snmpwalk", option, text, "router"]));
-        }
-    }
-    Ok(())
+    assert_number(&rt, rt.alloc(), "-r");
+    assert_number(&rt, rt.alloc(), "-t");
+    assert_number(&rt, rt.alloc(), "--max-size");
 }
 
+/// Options and numbers, each with the greatest size and the turns that an agent then has.
+const SERVED: &[(&str, &str, (u64, u64))] = &[
+    ("--max-size", "1", (1, u64::MAX)),
+    ("--max-size", "65507", (65507, u64::MAX)),
+    ("--turns", "0", (1472, 0)),
+    ("--turns", "1", (1472, 1)),
+    ("--turns", "18446744073709551615", (1472, u64::MAX)),
+];
+
+/// Options of an agent with numbers past their ends, or with none.
+const NOT_SERVED: &[&[&str]] = &[
+    &["snmp", "snmpd", "--table=t.tab", "--max-size", "0"],
+    &["snmp", "snmpd", "--table=t.tab", "--max-size", "65508"],
+    &[
+        "snmp",
+        "snmpd",
+        "--table=t.tab",
+        "--turns",
+        "18446744073709551616",
+    ],
+    &["snmp", "snmpd", "--table=t.tab", "--turns", "-1"],
+    &["snmp", "snmpd", "--table=t.tab", "--turns", ""],
+];
+
 #[test]
-fn numbers_of_an_agent(rt: HostRuntime) -> Result<(), Fail> {
-    let all = 18446744073709551615;
-    for (text, number) in [("1", 1), ("65507", 65507)] {
-        assert_eq!(rt; served(&rt, "--max-size", text), Some((number, all)));
+fn numbers_of_an_agent(rt: HostRuntime) {
+    for (option, text, numbers) in SERVED {
+        assert!(rt;
+            served(rt.alloc(), option, text) == Some(*numbers),
+            "{option} {text}"
+        );
     }
-    for (text, number) in [("0", 0), ("1", 1), ("18446744073709551615", all)] {
-        assert_eq!(rt; served(&rt, "--turns", text), Some((1472, number)));
-    }
-    for (option, text) in [
-        ("--max-size", "0"),
-        ("--max-size", "65508"),
-        ("--turns", "18446744073709551616"),
-        ("--turns", "-1"),
-        ("--turns", ""),
-    ] {
-        assert!(rt; are_refused(&rt, &["snmp", "snmpd", "--table=t.tab", option, text]));
-    }
-    Ok(())
+    assert_refused(&rt, rt.alloc(), NOT_SERVED);
 }
