@@ -1,10 +1,10 @@
 //! Datagrams and their replies, worked out by hand.
 
+use crate::table::repeated;
 use snmp_agent::{Config, Outcome, Why, answer};
 use snmp_table::Table;
 use snmp_wire::decode;
 use std::process::Abort;
-use std::test::Fail;
 
 /// The table of sysName.0 alone.
 pub(crate) const SYS_NAME: &[u8] = b"1.3.6.1.2.1.1.5.0|4|wes";
@@ -43,120 +43,140 @@ const NOT_SET: [u8; 41] = [
     0x01, 0x02, 0x01, 0x01, 0x05, 0x00, 0x02, 0x01, 0x01,
 ];
 
-/// The agent of `public`, with messages of at most `max_size` octets, from 1 to 65507, replies with
-/// just these octets.
-fn assert_reply(rt: &impl Abort, table: &Table, max_size: usize, request: &[u8], reply: &[u8]) {
+/// What the agent of `public`, with messages of at most `max_size` octets, from 1 to 65507, does
+/// with the request.
+pub(crate) fn outcome(
+    table: &Table,
+    max_size: usize,
+    request: &[u8],
+    out: &mut [u8; 65507],
+) -> Outcome {
     let max_size = max_size.clamp(1, 65507);
     let config = Config {
         community: b"public",
         max_size,
     };
+    answer(table, &config, request, out)
+}
+
+/// The agent of `public`, with messages of at most `max_size` octets, from 1 to 65507, replies with
+/// just these octets.
+fn assert_reply(rt: &impl Abort, table: &Table, max_size: usize, request: &[u8], reply: &[u8]) {
     let mut out = [0; 65507];
-    match answer(table, &config, request, &mut out) {
-        Outcome::Reply(size) => assert_eq!(rt; &out[..size], reply),
+    match outcome(table, max_size, request, &mut out) {
+        Outcome::Reply(size) => assert_eq!(rt; &out[..size.min(65507)], reply),
         Outcome::Dropped(why) => assert!(rt; false, "{why}"),
     }
 }
 
 /// The agent of `public`, with messages of at most `max_size` octets, from 1 to 65507, drops the
 /// request for this reason.
-fn assert_dropped(rt: &impl Abort, table: &Table, max_size: usize, request: &[u8], why: Why) {
-    let max_size = max_size.clamp(1, 65507);
-    let config = Config {
-        community: b"public",
-        max_size,
-    };
+pub(crate) fn assert_dropped(
+    rt: &impl Abort,
+    table: &Table,
+    max_size: usize,
+    request: &[u8],
+    why: Why,
+) {
     let mut out = [0; 65507];
-    assert_eq!(rt;
-        answer(table, &config, request, &mut out),
-        Outcome::Dropped(why)
-    );
+    let replied = outcome(table, max_size, request, &mut out);
+    assert_eq!(rt; replied, Outcome::Dropped(why));
 }
 
 #[test]
-fn a_get_has_its_reply_in_the_shortest_encoding(rt: HostRuntime) -> Result<(), Fail> {
-    let table = Table::read(rt.alloc(), SYS_NAME)?;
+fn a_get_has_its_reply_in_the_shortest_encoding(rt: HostRuntime) {
+    let table = Table::read(rt.alloc(), SYS_NAME).expect(&rt, "a table");
     assert_reply(&rt, &table, 1472, &GET, &GOT);
     assert_reply(&rt, &table, 43, &GET, &GOT);
     let mut long_length = [0; 42];
     long_length[..4].copy_from_slice(&[0x30, 0x82, 0x00, 0x26]);
     long_length[4..].copy_from_slice(&GET[2..]);
     assert_reply(&rt, &table, 1472, &long_length, &GOT);
-    Ok(())
 }
 
 #[test]
-fn a_reply_too_long_is_too_big(rt: HostRuntime) -> Result<(), Fail> {
-    let table = Table::read(rt.alloc(), SYS_NAME)?;
+fn a_reply_too_long_is_too_big(rt: HostRuntime) {
+    let table = Table::read(rt.alloc(), SYS_NAME).expect(&rt, "a table");
     assert_reply(&rt, &table, 42, &GET, &TOO_BIG);
     assert_reply(&rt, &table, 26, &GET, &TOO_BIG);
     assert_dropped(&rt, &table, 25, &GET, Why::TooLong);
-    Ok(())
 }
 
 #[test]
-fn nothing_is_written(rt: HostRuntime) -> Result<(), Fail> {
-    let table = Table::read(rt.alloc(), SYS_NAME)?;
+fn nothing_is_written(rt: HostRuntime) {
+    let table = Table::read(rt.alloc(), SYS_NAME).expect(&rt, "a table");
     assert_reply(&rt, &table, 1472, &SET, &NOT_SET);
-    Ok(())
 }
 
 #[test]
-fn a_get_next_gives_the_next_variable(rt: HostRuntime) -> Result<(), Fail> {
-    let table = Table::read(rt.alloc(), b"1.3.6.1.2.1.1.5.1|4|wes")?;
+fn a_get_next_gives_the_next_variable(rt: HostRuntime) {
+    let table = Table::read(rt.alloc(), b"1.3.6.1.2.1.1.5.1|4|wes").expect(&rt, "a table");
     let mut request = GET;
     request[13] = 0xA1;
     let mut reply = GOT;
     reply[37] = 0x01;
     assert_reply(&rt, &table, 1472, &request, &reply);
-    Ok(())
 }
 
-#[test]
-fn others_are_dropped(rt: HostRuntime) -> Result<(), Fail> {
-    let table = Table::read(rt.alloc(), SYS_NAME)?;
-    for (place, octet, why) in [
-        (1, 0x80, Why::Undecodable),
-        (4, 0x00, Why::Version),
-        (7, 0x71, Why::Community),
-        (13, 0xA2, Why::Pdu),
-        (13, 0xA6, Why::Pdu),
-        (13, 0xA7, Why::Pdu),
-        (13, 0xA8, Why::Pdu),
-        (13, 0xA4, Why::Undecodable),
-    ] {
-        let mut request = GET;
-        let place: usize = place;
-        if place < 40 {
-            request[place] = octet;
-        }
-        assert_dropped(&rt, &table, 1472, &request, why);
+/// The request with this octet at the place.
+fn with_octet(request: &[u8; 40], place: usize, octet: u8) -> [u8; 40] {
+    let mut changed = *request;
+    if place < 40 {
+        changed[place] = octet;
     }
-    for size in 0..40 {
-        assert_dropped(&rt, &table, 1472, &GET[..size], Why::Undecodable);
-    }
+    changed
+}
+
+/// Places of the Get, each with an octet that is put there, and why the agent then drops it.
+const OTHERS: &[(usize, u8, Why)] = &[
+    (1, 0x80, Why::Undecodable),
+    (4, 0x00, Why::Version),
+    (7, 0x71, Why::Community),
+    (13, 0xA2, Why::Pdu),
+    (13, 0xA6, Why::Pdu),
+    (13, 0xA7, Why::Pdu),
+    (13, 0xA8, Why::Pdu),
+    (13, 0xA4, Why::Undecodable),
+];
+
+/// No beginning of the Get is a message, and neither is the Get with an octet more.
+fn assert_other_lengths_dropped(rt: &impl Abort, table: &Table) {
     let mut longer = [0; 41];
     longer[..40].copy_from_slice(&GET);
-    assert_dropped(&rt, &table, 1472, &longer, Why::Undecodable);
-    Ok(())
+    assert_dropped(rt, table, 1472, &longer, Why::Undecodable);
+    for size in 0..40 {
+        assert_dropped(rt, table, 1472, &GET[..size], Why::Undecodable);
+    }
 }
 
 #[test]
-fn values_of_a_set_come_back_in_the_shortest_encoding(rt: HostRuntime) -> Result<(), Fail> {
-    let table = Table::read(rt.alloc(), SYS_NAME)?;
-    // A Counter32 of 200, without the octet that keeps its sign.
-    let mut request = SET;
-    request[38..].copy_from_slice(&[0x41, 0x01, 0xC8]);
-    let mut reply = [0; 42];
-    reply[..41].copy_from_slice(&NOT_SET);
-    reply[1] = 0x28;
-    reply[14] = 0x1B;
-    reply[25] = 0x10;
-    reply[27] = 0x0E;
-    reply[38..].copy_from_slice(&[0x41, 0x02, 0x00, 0xC8]);
-    assert_reply(&rt, &table, 42, &request, &reply);
-    assert_reply(&rt, &table, 41, &request, &TOO_BIG);
-    Ok(())
+fn others_are_dropped(rt: HostRuntime) {
+    let table = Table::read(rt.alloc(), SYS_NAME).expect(&rt, "a table");
+    for (place, octet, why) in OTHERS {
+        assert_dropped(&rt, &table, 1472, &with_octet(&GET, *place, *octet), *why);
+    }
+    assert_other_lengths_dropped(&rt, &table);
+}
+
+/// A Set of sysName.0 to a Counter32 of 200, without the octet that keeps its sign.
+const SET_COUNTER: [u8; 41] = [
+    0x30, 0x27, 0x02, 0x01, 0x01, 0x04, 0x06, 0x70, 0x75, 0x62, 0x6C, 0x69, 0x63, 0xA3, 0x1A, 0x02,
+    0x01, 0x01, 0x02, 0x01, 0x00, 0x02, 0x01, 0x00, 0x30, 0x0F, 0x30, 0x0D, 0x06, 0x08, 0x2B, 0x06,
+    0x01, 0x02, 0x01, 0x01, 0x05, 0x00, 0x41, 0x01, 0xC8,
+];
+
+/// Its Response: notWritable, at the first binding, with that octet.
+const NOT_SET_COUNTER: [u8; 42] = [
+    0x30, 0x28, 0x02, 0x01, 0x01, 0x04, 0x06, 0x70, 0x75, 0x62, 0x6C, 0x69, 0x63, 0xA2, 0x1B, 0x02,
+    0x01, 0x01, 0x02, 0x01, 0x11, 0x02, 0x01, 0x01, 0x30, 0x10, 0x30, 0x0E, 0x06, 0x08, 0x2B, 0x06,
+    0x01, 0x02, 0x01, 0x01, 0x05, 0x00, 0x41, 0x02, 0x00, 0xC8,
+];
+
+#[test]
+fn values_of_a_set_come_back_in_the_shortest_encoding(rt: HostRuntime) {
+    let table = Table::read(rt.alloc(), SYS_NAME).expect(&rt, "a table");
+    assert_reply(&rt, &table, 42, &SET_COUNTER, &NOT_SET_COUNTER);
+    assert_reply(&rt, &table, 41, &SET_COUNTER, &TOO_BIG);
 }
 
 /// The GetNext of 1.3.6.
@@ -166,62 +186,49 @@ const NEXT: [u8; 34] = [
     0x05, 0x00,
 ];
 
-#[test]
-fn the_longest_name_is_given(rt: HostRuntime) -> Result<(), Fail> {
-    let mut text = [0; 1384];
-    text[..5].copy_from_slice(b"1.3.6");
-    for place in 0..125 {
-        text[5 + 11 * place..16 + 11 * place].copy_from_slice(b".4294967295");
-    }
-    text[1380..].copy_from_slice(b"|2|1");
-    let table = Table::read(rt.alloc(), &text)?;
-    let config = Config {
-        community: b"public",
-        max_size: 1472,
-    };
+/// Asserts that the reply to the GetNext has the longest name of the table.
+fn assert_longest_name(rt: &impl Abort, table: &Table) {
     let mut out = [0; 65507];
-    assert_eq!(&rt;
-        answer(&table, &config, &NEXT, &mut out),
-        Outcome::Reply(670)
-    );
-    assert_eq!(&rt; &out[..4], [0x30, 0x82, 0x02, 0x9A].as_slice());
-    assert_eq!(&rt;
-        &out[36..47],
-        [
-            0x06, 0x82, 0x02, 0x73, 0x2B, 0x06, 0x8F, 0xFF, 0xFF, 0xFF, 0x7F
-        ]
-        .as_slice()
-    );
+    let replied = outcome(table, 1472, &NEXT, &mut out);
+    assert_eq!(rt; replied, Outcome::Reply(670));
+    assert!(rt; out.starts_with(&[0x30, 0x82, 0x02, 0x9A]));
+    let name = [
+        0x06, 0x82, 0x02, 0x73, 0x2B, 0x06, 0x8F, 0xFF, 0xFF, 0xFF, 0x7F,
+    ];
+    assert!(rt; out[36..].starts_with(&name));
+}
+
+#[test]
+fn the_longest_name_is_given(rt: HostRuntime) {
+    let text = repeated(rt.alloc(), b"1.3.6", b".4294967295", 125, b"|2|1").expect(&rt, "memory");
+    let table = Table::read(rt.alloc(), &text).expect(&rt, "a table");
+    assert_longest_name(&rt, &table);
     assert_reply(&rt, &table, 669, &NEXT, &TOO_BIG);
-    Ok(())
+}
+
+/// Whether the request is dropped, or has a reply that is a message.
+fn is_harmless(table: &Table, request: &[u8], out: &mut [u8; 65507]) -> bool {
+    match outcome(table, 1472, request, out) {
+        Outcome::Reply(size) => decode(&out[..size.min(65507)]).is_ok(),
+        Outcome::Dropped(_) => true,
+    }
 }
 
 /// Whatever one octet of the request is made, a reply is a message.
-fn assert_messages(rt: &impl Abort, table: &Table, request: &mut [u8]) {
-    let config = Config {
-        community: b"public",
-        max_size: 1472,
-    };
+fn assert_messages(rt: &impl Abort, table: &Table, request: &[u8; 40]) {
     let mut out = [0; 65507];
-    'places: for place in 0..request.len() {
-        let kept = request[place];
-        'octets: for octet in 0..=255 {
-            request[place] = octet;
-            if let Outcome::Reply(size) = answer(table, &config, request, &mut out) {
-                assert!(rt; decode(&out[..size]).is_ok());
-            }
+    for place in 0..40 {
+        for octet in 0..=255 {
+            let changed = with_octet(request, place, octet);
+            assert!(rt; is_harmless(table, &changed, &mut out));
         }
-        request[place] = kept;
     }
 }
 
 #[test]
-fn a_changed_octet_does_no_harm(rt: HostRuntime) -> Result<(), Fail> {
-    let table = Table::read(rt.alloc(), SYS_NAME)?;
-    let mut request = GET;
-    assert_messages(&rt, &table, &mut request);
-    request[13] = 0xA5;
-    request[23] = 0x02;
-    assert_messages(&rt, &table, &mut request);
-    Ok(())
+fn a_changed_octet_does_no_harm(rt: HostRuntime) {
+    let table = Table::read(rt.alloc(), SYS_NAME).expect(&rt, "a table");
+    assert_messages(&rt, &table, &GET);
+    let bulk = with_octet(&with_octet(&GET, 13, 0xA5), 23, 0x02);
+    assert_messages(&rt, &table, &bulk);
 }

@@ -1,10 +1,10 @@
 //! GetBulks and their replies, worked out by hand.
 
-use snmp_agent::{Config, Outcome, Why, answer};
+use crate::agent::{assert_dropped, outcome};
+use snmp_agent::{Outcome, Why};
 use snmp_table::Table;
-use snmp_wire::{ValueRef, decode};
+use snmp_wire::{Binding, Bindings, ValueRef, decode};
 use std::process::Abort;
-use std::test::Fail;
 
 /// Six integers, each its place: 18 octets a binding.
 const SIX: &[u8] =
@@ -18,15 +18,43 @@ const BULK: [u8; 41] = [
     0x01, 0x04, 0x01, 0x81, 0xFD, 0x59, 0x01, 0x05, 0x00,
 ];
 
-/// What the agent of `public`, with messages of at most `max_size` octets, from 1 to 65507, does
-/// with the request.
-fn outcome(table: &Table, max_size: usize, request: &[u8], out: &mut [u8; 65507]) -> Outcome {
-    let max_size = max_size.clamp(1, 65507);
-    let config = Config {
-        community: b"public",
-        max_size,
+/// Whether the binding is of this row: at the end of its name the number of the row, then its
+/// value, -1 for endOfMibView.
+fn is_of_row(binding: &Binding<'_>, row: (u32, i32)) -> bool {
+    let number = match binding.value {
+        ValueRef::Integer(number) => number,
+        ValueRef::EndOfMibView => -1,
+        _ => -2,
     };
-    answer(table, &config, request, out)
+    let numbers = binding.name.as_slice();
+    numbers.len() == 10 && numbers[8] == row.0 && number == row.1
+}
+
+/// Whether there is a next binding, of this row.
+fn has_row(bindings: &mut Bindings<'_>, row: (u32, i32)) -> bool {
+    match bindings.next() {
+        Some(binding) => is_of_row(&binding, row),
+        None => false,
+    }
+}
+
+/// Whether there are bindings of just these rows.
+fn have_rows(bindings: &mut Bindings<'_>, rows: &[(u32, i32)]) -> bool {
+    let mut all = true;
+    for row in rows {
+        all = has_row(bindings, *row) && all;
+    }
+    all && bindings.next().is_none()
+}
+
+/// Whether the reply has no error, and just these rows.
+fn is_reply_of(reply: &[u8], rows: &[(u32, i32)]) -> bool {
+    match decode(reply) {
+        Ok(message) => {
+            message.a() == 0 && message.b() == 0 && have_rows(&mut message.bindings(), rows)
+        }
+        Err(_) => false,
+    }
 }
 
 /// The reply has `octets` octets, and integers with these numbers: at the end of each name the
@@ -38,65 +66,35 @@ fn assert_integers(
     request: &[u8],
     octets: usize,
     rows: &[(u32, i32)],
-) -> Result<(), Fail> {
+) {
     let mut out = [0; 65507];
-    match outcome(table, max_size, request, &mut out) {
-        Outcome::Reply(size) => {
-            assert_eq!(rt; size, octets);
-            let message = decode(&out[..octets.min(65507)])?;
-            assert_eq!(rt; message.a(), 0);
-            assert_eq!(rt; message.b(), 0);
-            let mut rows = rows;
-            for binding in message.bindings() {
-                let number = match binding.value {
-                    ValueRef::Integer(number) => number,
-                    ValueRef::EndOfMibView => -1,
-                    _ => -2,
-                };
-                let [(place, value), rest @ ..] = rows else {
-                    assert!(rt; false, "one binding more");
-                    return Ok(());
-                };
-                rows = rest;
-                let numbers = binding.name.as_slice();
-                assert!(rt; numbers.len() == 10);
-                if numbers.len() == 10 {
-                    assert_eq!(rt; numbers[8], *place);
-                }
-                assert_eq!(rt; number, *value);
-            }
-            assert!(rt; rows.is_empty(), "one binding less");
-        }
-        Outcome::Dropped(why) => assert!(rt; false, "{why}"),
-    }
-    Ok(())
+    let replied = outcome(table, max_size, request, &mut out);
+    assert_eq!(rt; replied, Outcome::Reply(octets));
+    assert!(rt;
+        is_reply_of(&out[..octets.min(65507)], rows),
+        "not {rows:?}"
+    );
 }
 
 const ALL: &[(u32, i32)] = &[(1, 1), (2, 2), (3, 3), (4, 4), (5, 5), (6, 6), (6, -1)];
 
 #[test]
-fn as_many_come_as_fit(rt: HostRuntime) -> Result<(), Fail> {
-    let table = Table::read(rt.alloc(), SIX)?;
-    assert_integers(&rt, &table, 134, &BULK, 116, &ALL[..5])?;
-    assert_integers(&rt, &table, 135, &BULK, 135, &ALL[..6])?;
-    assert_integers(&rt, &table, 1472, &BULK, 153, ALL)?;
-    Ok(())
+fn as_many_come_as_fit(rt: HostRuntime) {
+    let table = Table::read(rt.alloc(), SIX).expect(&rt, "a table");
+    assert_integers(&rt, &table, 134, &BULK, 116, &ALL[..5]);
+    assert_integers(&rt, &table, 135, &BULK, 135, &ALL[..6]);
+    assert_integers(&rt, &table, 1472, &BULK, 153, ALL);
 }
 
 #[test]
-fn a_reply_fits_to_the_octet(rt: HostRuntime) -> Result<(), Fail> {
-    let table = Table::read(rt.alloc(), SIX)?;
-    assert_integers(&rt, &table, 153, &BULK, 153, ALL)?;
-    assert_integers(&rt, &table, 152, &BULK, 135, &ALL[..6])?;
-    assert_integers(&rt, &table, 44, &BULK, 44, &ALL[..1])?;
-    assert_integers(&rt, &table, 43, &BULK, 26, &[])?;
-    assert_integers(&rt, &table, 26, &BULK, 26, &[])?;
-    let mut out = [0; 65507];
-    assert_eq!(&rt;
-        outcome(&table, 25, &BULK, &mut out),
-        Outcome::Dropped(Why::TooLong)
-    );
-    Ok(())
+fn a_reply_fits_to_the_octet(rt: HostRuntime) {
+    let table = Table::read(rt.alloc(), SIX).expect(&rt, "a table");
+    assert_integers(&rt, &table, 153, &BULK, 153, ALL);
+    assert_integers(&rt, &table, 152, &BULK, 135, &ALL[..6]);
+    assert_integers(&rt, &table, 44, &BULK, 44, &ALL[..1]);
+    assert_integers(&rt, &table, 43, &BULK, 26, &[]);
+    assert_integers(&rt, &table, 26, &BULK, 26, &[]);
+    assert_dropped(&rt, &table, 25, &BULK, Why::TooLong);
 }
 
 /// The GetBulk of three names, 1.3.6.1.4.1.32473.1 twice and 1.3.6.1.4.1.32473.1.5.0, with
@@ -118,43 +116,45 @@ fn assert_three(
     repetitions: i32,
     octets: usize,
     rows: &[(u32, i32)],
-) -> Result<(), Fail> {
+) {
     let mut request = THREE;
     request[20..24].copy_from_slice(&non_repeaters.to_be_bytes());
     request[26..30].copy_from_slice(&repetitions.to_be_bytes());
-    assert_integers(rt, table, 1472, &request, octets, rows)
+    assert_integers(rt, table, 1472, &request, octets, rows);
 }
 
 /// The successors of the three names.
 const FIRST: &[(u32, i32)] = &[(1, 1), (1, 1), (6, 6)];
 
 #[test]
-fn names_repeat_after_those_that_do_not(rt: HostRuntime) -> Result<(), Fail> {
-    let table = Table::read(rt.alloc(), SIX)?;
+fn names_repeat_after_those_that_do_not(rt: HostRuntime) {
+    let table = Table::read(rt.alloc(), SIX).expect(&rt, "a table");
     let wanted = &[(1, 1), (1, 1), (6, 6), (2, 2), (6, -1)];
-    assert_three(&rt, &table, 1, 2, 115, wanted)?;
-    Ok(())
+    assert_three(&rt, &table, 1, 2, 115, wanted);
+}
+
+const FEW: &[i32] = &[-5, -1, 0, i32::MIN];
+
+const MANY: &[i32] = &[3, 9, i32::MAX];
+
+#[test]
+fn numbers_are_taken_within_bounds(rt: HostRuntime) {
+    let table = Table::read(rt.alloc(), SIX).expect(&rt, "a table");
+    for few in FEW {
+        assert_three(&rt, &table, *few, 1, 80, FIRST);
+        assert_three(&rt, &table, 1, *few, 44, &FIRST[..1]);
+        assert_three(&rt, &table, *few, *few, 26, &[]);
+    }
+    for many in MANY {
+        assert_three(&rt, &table, *many, 1, 80, FIRST);
+        assert_three(&rt, &table, *many, i32::MAX, 80, FIRST);
+        assert_three(&rt, &table, *many, -1, 80, FIRST);
+    }
 }
 
 #[test]
-fn numbers_are_taken_within_bounds(rt: HostRuntime) -> Result<(), Fail> {
-    let table = Table::read(rt.alloc(), SIX)?;
-    for few in [-5, -1, 0, i32::MIN] {
-        assert_three(&rt, &table, few, 1, 80, FIRST)?;
-        assert_three(&rt, &table, 1, few, 44, &FIRST[..1])?;
-        assert_three(&rt, &table, few, few, 26, &[])?;
-    }
-    for many in [3, 9, i32::MAX] {
-        assert_three(&rt, &table, many, 1, 80, FIRST)?;
-        assert_three(&rt, &table, many, i32::MAX, 80, FIRST)?;
-        assert_three(&rt, &table, many, -1, 80, FIRST)?;
-    }
-    Ok(())
-}
-
-#[test]
-fn a_round_of_ends_is_the_last(rt: HostRuntime) -> Result<(), Fail> {
-    let table = Table::read(rt.alloc(), SIX)?;
+fn a_round_of_ends_is_the_last(rt: HostRuntime) {
+    let table = Table::read(rt.alloc(), SIX).expect(&rt, "a table");
     let wanted = &[
         (1, 1),
         (6, 6),
@@ -173,7 +173,6 @@ fn a_round_of_ends_is_the_last(rt: HostRuntime) -> Result<(), Fail> {
     ];
     let mut all = [(1, 1); 15];
     all[1..].copy_from_slice(wanted);
-    assert_three(&rt, &table, 1, i32::MAX, 295, &all)?;
-    assert_three(&rt, &table, 1, 7, 295, &all)?;
-    Ok(())
+    assert_three(&rt, &table, 1, i32::MAX, 295, &all);
+    assert_three(&rt, &table, 1, 7, 295, &all);
 }

@@ -1,17 +1,27 @@
 //! Rows that are put into a table and removed again.
 
+use crate::table::gives;
 use snmp_table::{Place, PutError, Table};
 use snmp_wire::{Binding, Oid, ValueRef, parse_numeric};
 use std::process::Abort;
-use std::test::Fail;
 
 /// 1.3.6.1.4.1.32473.1, a number, and 0.
-fn name_of(number: u32) -> Result<Oid, Fail> {
-    Ok(Oid::from_slice(&[1, 3, 6, 1, 4, 1, 32473, 1, number, 0])?)
+fn name_of(number: u32) -> Option<Oid> {
+    Oid::from_slice(&[1, 3, 6, 1, 4, 1, 32473, 1, number, 0]).ok()
+}
+
+/// Whether the binding is the row of the number, with the number.
+fn is_row(binding: &Binding<'_>, number: u32) -> bool {
+    match name_of(number) {
+        Some(name) => {
+            binding.name == name && matches!(binding.value, ValueRef::Counter32(n) if n == number)
+        }
+        None => false,
+    }
 }
 
 /// The rows are those of the numbers from `low` to `high`, each with its number, and no others.
-fn assert_rows(rt: &impl Abort, table: &Table, low: u32, high: u32) -> Result<(), Fail> {
+fn assert_rows(rt: &impl Abort, table: &Table, low: u32, high: u32) {
     let mut binding = Binding {
         name: Oid::new(),
         value: ValueRef::Null,
@@ -19,81 +29,115 @@ fn assert_rows(rt: &impl Abort, table: &Table, low: u32, high: u32) -> Result<()
     let mut place = Place::default();
     for number in low..=high {
         table.advance(&mut binding, &mut place);
-        assert_eq!(rt; binding.name, name_of(number)?);
-        assert_eq!(rt; binding.value, ValueRef::Counter32(number));
+        assert!(rt; is_row(&binding, number), "no row of {number}");
     }
     table.advance(&mut binding, &mut place);
-    assert_eq!(rt; binding.value, ValueRef::EndOfMibView);
-    Ok(())
+    assert!(rt;
+        matches!(binding.value, ValueRef::EndOfMibView),
+        "a row past {high}"
+    );
+}
+
+/// Puts the row of the number, with the number. Whether there was none.
+fn is_added(table: &mut Table, number: u32) -> bool {
+    match name_of(number) {
+        Some(name) => matches!(table.put(&name, ValueRef::Counter32(number)), Ok(false)),
+        None => false,
+    }
+}
+
+/// Removes the row of the number. Whether there was one.
+fn is_removed(table: &mut Table, number: u32) -> bool {
+    match name_of(number) {
+        Some(name) => table.remove(&name),
+        None => false,
+    }
 }
 
 #[test]
-fn rows_put_in_falling_order_are_removed_in_rising_order(rt: HostRuntime) -> Result<(), Fail> {
-    let mut table = Table::read(rt.alloc(), b"object 1.3.6.1.4.1.32473.1\n")?;
+fn rows_put_in_falling_order_are_removed_in_rising_order(rt: HostRuntime) {
+    let mut table = Table::read(rt.alloc(), b"object 1.3.6.1.4.1.32473.1\n").expect(&rt, "a table");
     for number in (1..=600).rev() {
-        assert!(rt; !table.put(&name_of(number)?, ValueRef::Counter32(number))?);
-        assert_rows(&rt, &table, number, 600)?;
+        assert!(rt; is_added(&mut table, number));
+        assert_rows(&rt, &table, number, 600);
     }
     for number in 1..=600 {
-        assert!(rt; table.remove(&name_of(number)?));
-        assert!(rt; !table.remove(&name_of(number)?));
-        assert_rows(&rt, &table, number + 1, 600)?;
+        assert!(rt; is_removed(&mut table, number));
+        assert!(rt; !is_removed(&mut table, number));
+        assert_rows(&rt, &table, number + 1, 600);
     }
     // The object prefix stays.
-    assert_eq!(rt; table.get(&name_of(1)?), ValueRef::NoSuchInstance);
-    Ok(())
+    assert!(rt; gives(&table, b"1.3.6.1.4.1.32473.1.1.0", ValueRef::NoSuchInstance));
+}
+
+/// Puts the value at the name. Whether there was a row, or why it is not put.
+fn put(table: &mut Table, name: &[u8], value: ValueRef<'_>) -> Option<Result<bool, PutError>> {
+    match parse_numeric(name) {
+        Ok(name) => Some(table.put(&name, value)),
+        Err(_) => None,
+    }
+}
+
+/// Asserts that the row of 1.3.6.2 has the new value, once it is put there.
+fn assert_replaced(rt: &impl Abort, table: &mut Table, value: ValueRef<'_>, same: ValueRef<'_>) {
+    assert!(rt; put(table, b"1.3.6.2", value) == Some(Ok(true)));
+    assert!(rt; gives(table, b"1.3.6.2", same));
 }
 
 #[test]
-fn a_row_put_again_has_the_new_value(rt: HostRuntime) -> Result<(), Fail> {
-    let mut table = Table::read(rt.alloc(), b"1.3.6.1|2|1\n1.3.6.2|4|wes\n1.3.6.3|2|3")?;
-    let name = parse_numeric(b"1.3.6.2")?;
-    assert!(rt; table.put(&name, ValueRef::Octets(b"new"))?);
-    assert_eq!(rt; table.get(&name), ValueRef::Octets(b"new"));
-    assert!(rt; table.put(&name, ValueRef::ObjectId(parse_numeric(b"1.3.6.1")?))?);
-    assert_eq!(rt;
-        table.get(&name),
-        ValueRef::ObjectId(parse_numeric(b"1.3.6.1")?)
+fn a_row_put_again_has_the_new_value(rt: HostRuntime) {
+    let id = parse_numeric(b"1.3.6.1").expect(&rt, "a name");
+    let mut table = Table::read(rt.alloc(), b"1.3.6.1|2|1\n1.3.6.2|4|wes\n1.3.6.3|2|3").expect(
+        &rt, "a table",
     );
-    assert_eq!(rt;
-        table.get(&parse_numeric(b"1.3.6.1")?),
-        ValueRef::Integer(1)
+    assert_replaced(
+        &rt,
+        &mut table,
+        ValueRef::Octets(b"new"),
+        ValueRef::Octets(b"new"),
     );
-    assert_eq!(rt;
-        table.get(&parse_numeric(b"1.3.6.3")?),
-        ValueRef::Integer(3)
+    assert_replaced(
+        &rt,
+        &mut table,
+        ValueRef::ObjectId(id.copy()),
+        ValueRef::ObjectId(id),
     );
-    Ok(())
+    assert!(rt; gives(&table, b"1.3.6.1", ValueRef::Integer(1)));
+    assert!(rt; gives(&table, b"1.3.6.3", ValueRef::Integer(3)));
+}
+
+/// Asserts that no value is put at the name.
+fn assert_bad_name(rt: &impl Abort, table: &mut Table, name: &[u8]) {
+    assert!(rt; put(table, name, ValueRef::Integer(1)) == Some(Err(PutError::BadName)));
+    assert!(rt; put(table, name, ValueRef::Null) == Some(Err(PutError::BadName)));
+}
+
+/// Asserts that the value is not put at 1.3.6.1, which keeps 1.
+fn assert_bad_value(rt: &impl Abort, table: &mut Table, value: ValueRef<'_>) {
+    assert!(rt; put(table, b"1.3.6.1", value) == Some(Err(PutError::BadValue)));
+    assert!(rt; gives(table, b"1.3.6.1", ValueRef::Integer(1)));
+}
+
+/// Asserts that a string of all 65536 octets is not put at 1.3.6.1, and that one less are.
+fn assert_longest(rt: &impl Abort, table: &mut Table, octets: &[u8; 65536]) {
+    assert_bad_value(rt, table, ValueRef::Octets(octets));
+    assert_bad_value(rt, table, ValueRef::Opaque(octets));
+    let longest = ValueRef::Octets(&octets[..65535]);
+    assert!(rt; put(table, b"1.3.6.1", longest) == Some(Ok(true)));
 }
 
 #[test]
-fn bad_names_and_values_are_not_put(rt: HostRuntime) -> Result<(), Fail> {
-    let mut table = Table::read(rt.alloc(), b"1.3.6.1|2|1")?;
-    let good = parse_numeric(b"1.3.6.1")?;
-    let longest = [b'a'; 65536];
-    for name in [b"1.3".as_slice(), b".", b"1.40.1", b"3.1.1"] {
-        let bad = parse_numeric(name)?;
-        assert_eq!(rt;
-            table.put(&bad, ValueRef::Integer(1)).err(),
-            Some(PutError::BadName)
-        );
-        assert_eq!(rt;
-            table.put(&bad, ValueRef::Null).err(),
-            Some(PutError::BadName)
-        );
-    }
-    for value in [
-        ValueRef::Null,
-        ValueRef::NoSuchObject,
-        ValueRef::NoSuchInstance,
-        ValueRef::EndOfMibView,
-        ValueRef::ObjectId(parse_numeric(b"1")?),
-        ValueRef::Octets(&longest),
-        ValueRef::Opaque(&longest),
-    ] {
-        assert_eq!(rt; table.put(&good, value).err(), Some(PutError::BadValue));
-        assert_eq!(rt; table.get(&good), ValueRef::Integer(1));
-    }
-    assert!(rt; table.put(&good, ValueRef::Octets(&longest[..65535]))?);
-    Ok(())
+fn bad_names_and_values_are_not_put(rt: HostRuntime) {
+    let id = parse_numeric(b"1").expect(&rt, "a name");
+    let mut table = Table::read(rt.alloc(), b"1.3.6.1|2|1").expect(&rt, "a table");
+    assert_bad_name(&rt, &mut table, b"1.3");
+    assert_bad_name(&rt, &mut table, b".");
+    assert_bad_name(&rt, &mut table, b"1.40.1");
+    assert_bad_name(&rt, &mut table, b"3.1.1");
+    assert_bad_value(&rt, &mut table, ValueRef::Null);
+    assert_bad_value(&rt, &mut table, ValueRef::NoSuchObject);
+    assert_bad_value(&rt, &mut table, ValueRef::NoSuchInstance);
+    assert_bad_value(&rt, &mut table, ValueRef::EndOfMibView);
+    assert_bad_value(&rt, &mut table, ValueRef::ObjectId(id));
+    assert_longest(&rt, &mut table, &[b'a'; 65536]);
 }

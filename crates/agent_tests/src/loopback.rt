@@ -5,14 +5,16 @@ use crate::agent::{GET, GOT, SYS_NAME};
 use snmp_agent::{Config, Endpoint, EndpointFault, Served, serve, serve_at};
 use snmp_table::Table;
 use std::net::{Net, UdpSocket};
-use std::test::Fail;
+use std::process::Abort;
 use std::time::Duration;
 
 /// A socket on a free port of loopback, which waits a tenth of a second.
-fn socket_of(net: &impl Net) -> Result<UdpSocket, Fail> {
-    let socket = UdpSocket::bind(net, "127.0.0.1:0")?;
-    socket.set_read_timeout(Some(Duration::from_millis(100)))?;
-    Ok(socket)
+fn socket_of(rt: &(impl Net + Abort)) -> UdpSocket {
+    let socket = UdpSocket::bind(rt, "127.0.0.1:0").expect(rt, "a socket");
+    socket
+        .set_read_timeout(Some(Duration::from_millis(100)))
+        .expect(rt, "a time-out");
+    socket
 }
 
 /// The agent of `public`.
@@ -23,87 +25,80 @@ fn public() -> Config<'static> {
     }
 }
 
-#[test]
-fn a_request_has_its_reply(rt: HostRuntime) -> Result<(), Fail> {
-    let table = Table::read(rt.alloc(), SYS_NAME)?;
-    let server = socket_of(&rt)?;
-    let client = socket_of(&rt)?;
-    client.send_to(&GET, server.local_addr()?)?;
-    let served = serve(&server, &table, &public(), 1);
-    assert_eq!(rt;
-        served,
-        Served {
-            replies: 1,
-            dropped: 0,
-            idle: 0,
-            faults: 0
-        }
-    );
+/// Asserts that this was served.
+fn assert_served(rt: &impl Abort, served: Served, wanted: Served) {
+    assert_eq!(rt; served, wanted);
+}
+
+/// Sends the server the datagram.
+fn send(rt: &impl Abort, client: &UdpSocket, server: &UdpSocket, datagram: &[u8]) {
+    let address = server.local_addr().expect(rt, "an address");
+    client.send_to(datagram, address).expect(rt, "a send");
+}
+
+/// Asserts that the client has a reply of the server, with this id.
+fn assert_reply(rt: &impl Abort, client: &UdpSocket, server: &UdpSocket, id: u8) {
     let mut buffer = [0; 1472];
-    let (size, sender) = client.recv_from(&mut buffer)?;
-    assert_eq!(rt; &buffer[..size], GOT.as_slice());
-    assert_eq!(rt; sender, server.local_addr()?);
-    Ok(())
+    let (size, sender) = client.recv_from(&mut buffer).expect(rt, "a reply");
+    let mut reply = GOT;
+    reply[17] = id;
+    assert_eq!(rt; &buffer[..size.min(1472)], reply.as_slice());
+    let address = server.local_addr().expect(rt, "an address");
+    assert!(rt; sender == address);
 }
 
 #[test]
-fn a_silent_socket_is_idle(rt: HostRuntime) -> Result<(), Fail> {
-    let table = Table::read(rt.alloc(), SYS_NAME)?;
-    let server = socket_of(&rt)?;
+fn a_request_has_its_reply(rt: HostRuntime) {
+    let table = Table::read(rt.alloc(), SYS_NAME).expect(&rt, "a table");
+    let server = socket_of(&rt);
+    let client = socket_of(&rt);
+    send(&rt, &client, &server, &GET);
+    let served = serve(&server, &table, &public(), 1);
+    let one = Served {
+        replies: 1,
+        ..Served::default()
+    };
+    assert_served(&rt, served, one);
+    assert_reply(&rt, &client, &server, 1);
+}
+
+#[test]
+fn a_silent_socket_is_idle(rt: HostRuntime) {
+    let table = Table::read(rt.alloc(), SYS_NAME).expect(&rt, "a table");
+    let server = socket_of(&rt);
     let served = serve(&server, &table, &public(), 2);
-    assert_eq!(rt;
-        served,
-        Served {
-            replies: 0,
-            dropped: 0,
-            idle: 2,
-            faults: 0
-        }
-    );
+    let idle = Served {
+        idle: 2,
+        ..Served::default()
+    };
+    assert_served(&rt, served, idle);
     let none = serve(&server, &table, &public(), 0);
-    assert_eq!(rt;
-        none,
-        Served {
-            replies: 0,
-            dropped: 0,
-            idle: 0,
-            faults: 0
-        }
-    );
-    Ok(())
+    assert_served(&rt, none, Served::default());
 }
 
 #[test]
-fn each_sender_has_its_own_reply(rt: HostRuntime) -> Result<(), Fail> {
-    let table = Table::read(rt.alloc(), SYS_NAME)?;
-    let server = socket_of(&rt)?;
-    let first = socket_of(&rt)?;
-    let second = socket_of(&rt)?;
+fn each_sender_has_its_own_reply(rt: HostRuntime) {
+    let table = Table::read(rt.alloc(), SYS_NAME).expect(&rt, "a table");
+    let server = socket_of(&rt);
+    let first = socket_of(&rt);
+    let second = socket_of(&rt);
     let mut request = GET;
     request[17] = 2;
-    first.send_to(&GET, server.local_addr()?)?;
-    first.send_to(b"no message", server.local_addr()?)?;
-    second.send_to(b"", server.local_addr()?)?;
-    second.send_to(&request, server.local_addr()?)?;
+    send(&rt, &first, &server, &GET);
+    send(&rt, &first, &server, b"no message");
+    send(&rt, &second, &server, b"");
+    send(&rt, &second, &server, &request);
     let served = serve(&server, &table, &public(), 5);
-    assert_eq!(rt;
-        served,
-        Served {
-            replies: 2,
-            dropped: 2,
-            idle: 1,
-            faults: 0
-        }
-    );
-    let mut reply = GOT;
-    let mut buffer = [0; 1472];
-    let (size, _) = first.recv_from(&mut buffer)?;
-    assert_eq!(rt; &buffer[..size], reply.as_slice());
-    reply[17] = 2;
-    let (size, _) = second.recv_from(&mut buffer)?;
-    assert_eq!(rt; &buffer[..size], reply.as_slice());
-    assert!(rt; first.recv_from(&mut buffer).is_err());
-    Ok(())
+    let two = Served {
+        replies: 2,
+        dropped: 2,
+        idle: 1,
+        faults: 0,
+    };
+    assert_served(&rt, served, two);
+    assert_reply(&rt, &first, &server, 1);
+    assert_reply(&rt, &second, &server, 2);
+    assert!(rt; first.recv_from(&mut [0; 1472]).is_err());
 }
 
 /// An endpoint at which each second receive fails, and each second reply.
@@ -138,22 +133,19 @@ impl Endpoint for Failing {
 }
 
 #[test]
-fn what_fails_is_counted_and_the_next_turn_follows(rt: HostRuntime) -> Result<(), Fail> {
-    let table = Table::read(rt.alloc(), SYS_NAME)?;
+fn what_fails_is_counted_and_the_next_turn_follows(rt: HostRuntime) {
+    let table = Table::read(rt.alloc(), SYS_NAME).expect(&rt, "a table");
     let mut endpoint = Failing {
         receives: 0,
         replies: 0,
     };
     let served = serve_at(&mut endpoint, &table, &public(), 1000);
-    assert_eq!(rt;
-        served,
-        Served {
-            replies: 250,
-            dropped: 0,
-            idle: 0,
-            faults: 750
-        }
-    );
-    assert_eq!(rt; endpoint.replies, 500);
-    Ok(())
+    let wanted = Served {
+        replies: 250,
+        dropped: 0,
+        idle: 0,
+        faults: 750,
+    };
+    assert_served(&rt, served, wanted);
+    assert!(rt; endpoint.replies == 500);
 }

@@ -4,12 +4,19 @@ use snmp_table::{Place, Table, TableError};
 use snmp_wire::{Binding, Oid, ValueRef, parse_numeric};
 use std::alloc::{AllocError, Global};
 use std::process::Abort;
-use std::test::Fail;
 
 /// Rows that aren't in order, with each way to end a line.
 const ROWS: &[u8] =
     b"# three rows\r\nobject 1.3.6.1.4.1.32473.1\n\n1.3.6.1.4.1.32473.1.10.0|2|3\r\n\
 1.3.6.1.4.1.32473.1.2.0|4|wes\n.1.3.6.1.4.1.32473.1.1.0|2|1";
+
+/// Whether the binding is the variable of this name and value.
+fn is_variable(binding: &Binding<'_>, name: &[u8], value: ValueRef<'_>) -> bool {
+    match parse_numeric(name) {
+        Ok(name) => binding.name == name && binding.value == value,
+        Err(_) => false,
+    }
+}
 
 /// What a GetNext of the name gives.
 fn next<'a>(table: &'a Table, name: &Oid) -> Binding<'a> {
@@ -21,147 +28,205 @@ fn next<'a>(table: &'a Table, name: &Oid) -> Binding<'a> {
     binding
 }
 
-#[test]
-fn rows_are_in_order(rt: HostRuntime) -> Result<(), Fail> {
-    let table = Table::read(rt.alloc(), ROWS)?;
-    let root = parse_numeric(b"1.3.6.1.4.1.32473.1")?;
-    let first = next(&table, &root);
-    assert_eq!(rt; first.name, parse_numeric(b"1.3.6.1.4.1.32473.1.1.0")?);
-    assert_eq!(rt; first.value, ValueRef::Integer(1));
-    let second = next(&table, &first.name);
-    assert_eq!(rt; second.name, parse_numeric(b"1.3.6.1.4.1.32473.1.2.0")?);
-    assert_eq!(rt; second.value, ValueRef::Octets(b"wes"));
-    let mut last = next(&table, &second.name);
-    table.read_next_after(&root, 2, &mut last);
-    assert_eq!(rt; last.name, parse_numeric(b"1.3.6.1.4.1.32473.1.10.0")?);
-    assert_eq!(rt; last.value, ValueRef::Integer(3));
-    let mut end = next(&table, &last.name);
-    table.read_next_after(&root, 3, &mut end);
-    assert_eq!(rt; end.name, last.name);
-    assert_eq!(rt; end.value, ValueRef::EndOfMibView);
-    let past = parse_numeric(b"2.100.3")?;
-    let mut beyond = next(&table, &past);
-    table.read_next_after(&past, 7, &mut beyond);
-    assert_eq!(rt; beyond.name, past);
-    assert_eq!(rt; beyond.value, ValueRef::EndOfMibView);
-    Ok(())
+/// This variable is read `rounds` rows past the one after `from`, into a binding that held the one
+/// after `from`.
+fn assert_read(
+    rt: &impl Abort,
+    table: &Table,
+    from: &[u8],
+    rounds: usize,
+    name: &[u8],
+    value: ValueRef<'_>,
+) {
+    assert!(rt;
+        is_read(table, from, rounds, name, value),
+        "{rounds} rows past the first after {from:?}"
+    );
 }
 
-#[test]
-fn a_binding_walks_along_the_rows(rt: HostRuntime) -> Result<(), Fail> {
-    let table = Table::read(rt.alloc(), ROWS)?;
-    let mut binding = Binding {
-        name: parse_numeric(b"1.3.6.1.4.1.32473.1")?,
-        value: ValueRef::Null,
-    };
-    let mut place = Place::default();
-    for (name, value) in [
-        (b"1.3.6.1.4.1.32473.1.1.0".as_slice(), ValueRef::Integer(1)),
-        (b"1.3.6.1.4.1.32473.1.2.0", ValueRef::Octets(b"wes")),
-        (b"1.3.6.1.4.1.32473.1.10.0", ValueRef::Integer(3)),
-        (b"1.3.6.1.4.1.32473.1.10.0", ValueRef::EndOfMibView),
-        (b"1.3.6.1.4.1.32473.1.10.0", ValueRef::EndOfMibView),
-    ] {
-        table.advance(&mut binding, &mut place);
-        assert_eq!(rt; binding.name, parse_numeric(name)?);
-        assert_eq!(rt; binding.value, value);
+fn is_read(table: &Table, from: &[u8], rounds: usize, name: &[u8], value: ValueRef<'_>) -> bool {
+    match parse_numeric(from) {
+        Ok(from) => {
+            let mut binding = next(table, &from);
+            table.read_next_after(&from, rounds, &mut binding);
+            is_variable(&binding, name, value)
+        }
+        Err(_) => false,
     }
+}
+
+const ROOT: &[u8] = b"1.3.6.1.4.1.32473.1";
+
+const FIRST: &[u8] = b"1.3.6.1.4.1.32473.1.1.0";
+
+const SECOND: &[u8] = b"1.3.6.1.4.1.32473.1.2.0";
+
+const LAST: &[u8] = b"1.3.6.1.4.1.32473.1.10.0";
+
+const PAST: &[u8] = b"2.100.3";
+
+#[test]
+fn rows_are_in_order(rt: HostRuntime) {
+    let table = Table::read(rt.alloc(), ROWS).expect(&rt, "a table");
+    assert_read(&rt, &table, ROOT, 0, FIRST, ValueRef::Integer(1));
+    assert_read(&rt, &table, FIRST, 0, SECOND, ValueRef::Octets(b"wes"));
+    assert_read(&rt, &table, SECOND, 0, LAST, ValueRef::Integer(3));
+    assert_read(&rt, &table, ROOT, 2, LAST, ValueRef::Integer(3));
+    assert_read(&rt, &table, LAST, 0, LAST, ValueRef::EndOfMibView);
+    assert_read(&rt, &table, ROOT, 3, LAST, ValueRef::EndOfMibView);
+    assert_read(&rt, &table, PAST, 0, PAST, ValueRef::EndOfMibView);
+    assert_read(&rt, &table, PAST, 7, PAST, ValueRef::EndOfMibView);
+}
+
+/// A binding that walks along the rows of a table.
+#[derive(Drop)]
+struct Walk<'a> {
+    table: &'a Table,
+    binding: Binding<'a>,
+    place: Place,
+}
+
+impl Walk<'_> {
+    /// Advances the binding. Whether it is the variable of this name and value then.
+    fn comes_to(&mut self, name: &[u8], value: ValueRef<'_>) -> bool {
+        self.table.advance(&mut self.binding, &mut self.place);
+        is_variable(&self.binding, name, value)
+    }
+}
+
+/// Asserts that the walk, a step on, comes to the variable of this name and value.
+fn assert_step(rt: &impl Abort, walk: &mut Walk<'_>, name: &[u8], value: ValueRef<'_>) {
+    assert!(rt; walk.comes_to(name, value), "{name:?}");
+}
+
+/// Asserts that the walk comes to each row, and from another name on to the first.
+fn assert_walk(rt: &impl Abort, walk: &mut Walk<'_>, other: &Oid) {
+    assert_step(rt, walk, FIRST, ValueRef::Integer(1));
+    assert_step(rt, walk, SECOND, ValueRef::Octets(b"wes"));
+    assert_step(rt, walk, LAST, ValueRef::Integer(3));
+    assert_step(rt, walk, LAST, ValueRef::EndOfMibView);
+    assert_step(rt, walk, LAST, ValueRef::EndOfMibView);
     // The place is a hint alone: from another name the row is that name's.
-    binding.name = parse_numeric(b"1.3.6.1.4.1.32473.1.1")?;
-    table.advance(&mut binding, &mut place);
-    assert_eq!(rt; binding.value, ValueRef::Integer(1));
-    Ok(())
+    walk.binding.name.set_to(other);
+    assert_step(rt, walk, FIRST, ValueRef::Integer(1));
 }
 
 #[test]
-fn names_without_a_row_have_exceptions(rt: HostRuntime) -> Result<(), Fail> {
-    let table = Table::read(rt.alloc(), ROWS)?;
-    for (name, value) in [
-        (b"1.3.6.1.4.1.32473.1.10.0".as_slice(), ValueRef::Integer(3)),
-        (b"1.3.6.1.4.1.32473.1".as_slice(), ValueRef::NoSuchInstance),
-        (
-            b"1.3.6.1.4.1.32473.1.3".as_slice(),
-            ValueRef::NoSuchInstance,
-        ),
-        (b"1.3.6.1.4.1.32473".as_slice(), ValueRef::NoSuchObject),
-        (b"1.3.6.1.4.1.32473.2".as_slice(), ValueRef::NoSuchObject),
-        (b".".as_slice(), ValueRef::NoSuchObject),
-    ] {
-        assert_eq!(rt; table.get(&parse_numeric(name)?), value);
+fn a_binding_walks_along_the_rows(rt: HostRuntime) {
+    let name = parse_numeric(ROOT).expect(&rt, "a name");
+    let other = parse_numeric(b"1.3.6.1.4.1.32473.1.1").expect(&rt, "a name");
+    let table = Table::read(rt.alloc(), ROWS).expect(&rt, "a table");
+    let mut walk = Walk {
+        table: &table,
+        binding: Binding {
+            name,
+            value: ValueRef::Null,
+        },
+        place: Place::default(),
+    };
+    assert_walk(&rt, &mut walk, &other);
+}
+
+/// Whether a Get of the name gives the value.
+pub(crate) fn gives(table: &Table, name: &[u8], value: ValueRef<'_>) -> bool {
+    match parse_numeric(name) {
+        Ok(name) => table.get(&name) == value,
+        Err(_) => false,
     }
-    Ok(())
+}
+
+/// A Get of the name gives the value.
+fn assert_get(rt: &impl Abort, table: &Table, name: &[u8], value: ValueRef<'_>) {
+    assert!(rt; gives(table, name, value), "{name:?}");
+}
+
+#[test]
+fn names_without_a_row_have_exceptions(rt: HostRuntime) {
+    let table = Table::read(rt.alloc(), ROWS).expect(&rt, "a table");
+    assert_get(&rt, &table, LAST, ValueRef::Integer(3));
+    assert_get(&rt, &table, ROOT, ValueRef::NoSuchInstance);
+    assert_get(
+        &rt,
+        &table,
+        b"1.3.6.1.4.1.32473.1.3",
+        ValueRef::NoSuchInstance,
+    );
+    assert_get(&rt, &table, b"1.3.6.1.4.1.32473", ValueRef::NoSuchObject);
+    assert_get(&rt, &table, b"1.3.6.1.4.1.32473.2", ValueRef::NoSuchObject);
+    assert_get(&rt, &table, b".", ValueRef::NoSuchObject);
+}
+
+/// Whether the line states this value of 1.3.6.
+fn states(alloc: Global, line: &[u8], value: ValueRef<'_>) -> bool {
+    match Table::read(alloc, line) {
+        Ok(table) => gives(&table, b"1.3.6", value),
+        Err(_) => false,
+    }
 }
 
 /// The line states this value of 1.3.6.
-fn assert_states(rt: &impl Abort, alloc: Global, line: &[u8], value: &ValueRef) {
-    match (Table::read(alloc, line), parse_numeric(b"1.3.6")) {
-        (Ok(table), Ok(name)) => assert_eq!(rt; table.get(&name), *value, "of {line:?}"),
-        _ => assert!(rt; false, "of {line:?}"),
-    }
+fn assert_states(rt: &impl Abort, alloc: Global, line: &[u8], value: ValueRef<'_>) {
+    assert!(rt; states(alloc, line, value), "of {line:?}");
 }
 
 #[test]
-fn each_tag_states_its_values(rt: HostRuntime) -> Result<(), Fail> {
+fn each_tag_states_its_values(rt: HostRuntime) {
+    let id = parse_numeric(b"2.4294967295.0").expect(&rt, "a name");
+    let alloc = rt.alloc();
     assert_states(
         &rt,
-        rt.alloc(),
+        alloc,
         b"1.3.6|2|-2147483648",
-        &ValueRef::Integer(i32::MIN),
+        ValueRef::Integer(i32::MIN),
     );
     assert_states(
         &rt,
-        rt.alloc(),
+        alloc,
         b"1.3.6|2|0002147483647",
-        &ValueRef::Integer(i32::MAX),
+        ValueRef::Integer(i32::MAX),
     );
-    assert_states(&rt, rt.alloc(), b"1.3.6|2|-0", &ValueRef::Integer(0));
-    assert_states(&rt, rt.alloc(), b"1.3.6|4|", &ValueRef::Octets(b""));
+    assert_states(&rt, alloc, b"1.3.6|2|-0", ValueRef::Integer(0));
+    assert_states(&rt, alloc, b"1.3.6|4|", ValueRef::Octets(b""));
+    assert_states(&rt, alloc, b"1.3.6|4|a|b \r", ValueRef::Octets(b"a|b \r"));
+    assert_states(&rt, alloc, b"1.3.6|4|a\r\n", ValueRef::Octets(b"a"));
     assert_states(
         &rt,
-        rt.alloc(),
-        b"1.3.6|4|a|b \r",
-        &ValueRef::Octets(b"a|b \r"),
-    );
-    assert_states(&rt, rt.alloc(), b"1.3.6|4|a\r\n", &ValueRef::Octets(b"a"));
-    assert_states(
-        &rt,
-        rt.alloc(),
+        alloc,
         b"1.3.6|4x|00fFe0",
-        &ValueRef::Octets(&[0x00, 0xFF, 0xE0]),
+        ValueRef::Octets(&[0x00, 0xFF, 0xE0]),
     );
     assert_states(
         &rt,
-        rt.alloc(),
+        alloc,
         b"1.3.6|64|192.0.2.255",
-        &ValueRef::IpAddress([192, 0, 2, 255]),
+        ValueRef::IpAddress([192, 0, 2, 255]),
     );
     assert_states(
         &rt,
-        rt.alloc(),
+        alloc,
         b"1.3.6|65|4294967295",
-        &ValueRef::Counter32(u32::MAX),
+        ValueRef::Counter32(u32::MAX),
     );
-    assert_states(&rt, rt.alloc(), b"1.3.6|66|0", &ValueRef::Gauge32(0));
+    assert_states(&rt, alloc, b"1.3.6|66|0", ValueRef::Gauge32(0));
     assert_states(
         &rt,
-        rt.alloc(),
+        alloc,
         b"1.3.6|67|14096763",
-        &ValueRef::TimeTicks(14_096_763),
+        ValueRef::TimeTicks(14_096_763),
     );
-    assert_states(&rt, rt.alloc(), b"1.3.6|68x|9f", &ValueRef::Opaque(&[0x9F]));
+    assert_states(&rt, alloc, b"1.3.6|68x|9f", ValueRef::Opaque(&[0x9F]));
     assert_states(
         &rt,
-        rt.alloc(),
+        alloc,
         b"1.3.6|70|18446744073709551615",
-        &ValueRef::Counter64(u64::MAX),
+        ValueRef::Counter64(u64::MAX),
     );
     assert_states(
         &rt,
-        rt.alloc(),
+        alloc,
         b"1.3.6|6|2.4294967295.0",
-        &ValueRef::ObjectId(parse_numeric(b"2.4294967295.0")?),
+        ValueRef::ObjectId(id),
     );
-    Ok(())
 }
 
 /// Texts, each with the fault of its first faulty line.
@@ -207,19 +272,20 @@ const FAULTS: &[(&[u8], TableError)] = &[
     ),
 ];
 
+/// The fault of the text, if it states no table.
+fn fault_of(alloc: Global, text: &[u8]) -> Option<TableError> {
+    Table::read(alloc, text).err()
+}
+
 #[test]
 fn the_first_faulty_line_is_reported(rt: HostRuntime) {
     for (text, fault) in FAULTS {
-        assert_eq!(rt;
-            Table::read(rt.alloc(), text).err(),
-            Some(*fault),
-            "of {text:?}"
-        );
+        assert!(rt; fault_of(rt.alloc(), text) == Some(*fault), "of {text:?}");
     }
 }
 
 /// `before`, `part` repeated `count` times, and `after`.
-fn repeated(
+pub(crate) fn repeated(
     alloc: Global,
     before: &[u8],
     part: &[u8],
@@ -235,38 +301,44 @@ fn repeated(
     Ok(text)
 }
 
-#[test]
-fn names_have_128_numbers_at_most(rt: HostRuntime) -> Result<(), Fail> {
-    let longest = repeated(rt.alloc(), b"1.3.6", b".4294967295", 125, b"|2|1")?;
-    let table = Table::read(rt.alloc(), longest.as_slice())?;
-    let root = parse_numeric(b"1.3.6")?;
-    assert_eq!(rt; next(&table, &root).name.len(), 128);
-    let longer = repeated(rt.alloc(), b"1.3.6", b".4294967295", 126, b"|2|1")?;
-    assert_eq!(rt;
-        Table::read(rt.alloc(), longer.as_slice()).err(),
-        Some(TableError::BadName { line: 1 })
-    );
-    Ok(())
+/// The count of numbers of the name after 1.3.6 in the table of the text.
+fn length_of_name(alloc: Global, text: &[u8]) -> Option<usize> {
+    match (Table::read(alloc, text), parse_numeric(b"1.3.6")) {
+        (Ok(table), Ok(root)) => Some(next(&table, &root).name.len()),
+        _ => None,
+    }
 }
 
 #[test]
-fn strings_have_65535_octets_at_most(rt: HostRuntime) -> Result<(), Fail> {
-    let name = parse_numeric(b"1.3.6")?;
-    for (tag, part) in [
-        (b"1.3.6|4|".as_slice(), b"a".as_slice()),
-        (b"1.3.6|4x|".as_slice(), b"00".as_slice()),
-    ] {
-        let longest = repeated(rt.alloc(), tag, part, 65535, b"")?;
-        let table = Table::read(rt.alloc(), longest.as_slice())?;
-        match table.get(&name) {
-            ValueRef::Octets(octets) => assert_eq!(rt; octets.len(), 65535),
-            _ => assert!(rt; false),
-        }
-        let longer = repeated(rt.alloc(), tag, part, 65536, b"")?;
-        assert_eq!(rt;
-            Table::read(rt.alloc(), longer.as_slice()).err(),
-            Some(TableError::BadValue { line: 1 })
-        );
+fn names_have_128_numbers_at_most(rt: HostRuntime) {
+    let alloc = rt.alloc();
+    let longest = repeated(alloc, b"1.3.6", b".4294967295", 125, b"|2|1").expect(&rt, "memory");
+    assert!(rt; length_of_name(alloc, &longest) == Some(128));
+    let longer = repeated(alloc, b"1.3.6", b".4294967295", 126, b"|2|1").expect(&rt, "memory");
+    assert!(rt; fault_of(alloc, &longer) == Some(TableError::BadName { line: 1 }));
+}
+
+/// The count of octets of the string at 1.3.6 in the table of the text.
+fn length_of_string(alloc: Global, text: &[u8]) -> Option<usize> {
+    match (Table::read(alloc, text), parse_numeric(b"1.3.6")) {
+        (Ok(table), Ok(name)) => match table.get(&name) {
+            ValueRef::Octets(octets) => Some(octets.len()),
+            _ => None,
+        },
+        _ => None,
     }
-    Ok(())
+}
+
+/// Asserts that a string of 65535 parts after the tag is read, and that one part more is a fault.
+fn assert_longest(rt: &impl Abort, alloc: Global, tag: &[u8], part: &[u8]) {
+    let longest = repeated(alloc, tag, part, 65535, b"").expect(rt, "memory");
+    assert!(rt; length_of_string(alloc, &longest) == Some(65535));
+    let longer = repeated(alloc, tag, part, 65536, b"").expect(rt, "memory");
+    assert!(rt; fault_of(alloc, &longer) == Some(TableError::BadValue { line: 1 }));
+}
+
+#[test]
+fn strings_have_65535_octets_at_most(rt: HostRuntime) {
+    assert_longest(&rt, rt.alloc(), b"1.3.6|4|", b"a");
+    assert_longest(&rt, rt.alloc(), b"1.3.6|4x|", b"00");
 }
