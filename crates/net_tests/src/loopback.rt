@@ -1,5 +1,5 @@
 //! Walks over UDP sockets of this machine, in one process with no thread.
-ghost use Rattle.std.specs.Prelude.{◌≤◌, IfOk, length};
+ghost use Rattle.std.specs.Prelude.{◌≤◌, length};
 ghost use Rattle.snmp_walk.specs.Facts.{IsFresh};
 
 use snmp_agent::{Config, Served};
@@ -7,8 +7,9 @@ use snmp_net::{Links, MachineLinks, UdpLink};
 use snmp_table::Table;
 use snmp_walk::{Link, LinkFault, Method, Mode, Sink, SinkFault, WalkCore, WalkEnd, run_walk};
 use snmp_wire::{Binding, ValueRef, parse_numeric};
-use std::net::{Net, UdpSocket};
-use std::test::Fail;
+use std::alloc::Global;
+use std::net::{Net, SocketAddr, UdpSocket};
+use std::process::Abort;
 use std::time::Duration;
 
 /// Three rows in no order.
@@ -24,11 +25,17 @@ fn public() -> Config<'static> {
 }
 
 /// The walk of the three rows.
-fn core_of() -> Result<WalkCore, Fail>
-    ensures { IfOk result IsFresh }
+fn core_of(rt: &impl Abort) -> WalkCore
+    ensures { IsFresh result }
 {
-    let root = parse_numeric(b"1.3.6.1.4.1.32473.1")?;
-    Ok(WalkCore::start(root, Mode::Plain, Method::Next, b"public", 1)?)
+    let root = parse_numeric(b"1.3.6.1.4.1.32473.1").expect(rt, "a name");
+    let core = WalkCore::start(root, Mode::Plain, Method::Next, b"public", 1);
+    core.expect(rt, "a root that can be sent")
+}
+
+/// The table of the three rows.
+fn three(rt: &impl Abort, alloc: Global) -> Table {
+    Table::read(alloc, THREE).expect(rt, "a table")
 }
 
 /// Writes the last number but one of each name, and each integer, one after the other.
@@ -108,12 +115,63 @@ impl<'a, N: Net> Link for Looped<'a, N> {
     }
 }
 
+/// A door at any port.
+fn open_door<N: Net>(rt: &impl Abort, links: &mut MachineLinks<N>) -> UdpSocket {
+    links.bind("127.0.0.1", 0).expect(rt, "a door")
+}
+
+/// The port of a door.
+fn port_of(rt: &impl Abort, door: &UdpSocket) -> u16 {
+    door.local_addr().expect(rt, "the address of a door").port()
+}
+
+/// A link to this door.
+fn wire_to<N: Net>(rt: &impl Abort, links: &mut MachineLinks<N>, door: &UdpSocket) -> UdpLink {
+    links
+        .open("127.0.0.1", port_of(rt, door), 1)
+        .expect(rt, "a link")
+}
+
+/// Whether the walk ends in this way, with this many rows, whose columns are these.
+fn walk_gives<L: Link>(
+    link: &mut L,
+    core: WalkCore,
+    retries: u32,
+    end: &WalkEnd,
+    rows: usize,
+    number: u64,
+) -> bool
+    requires { IsFresh core }
+{
+    let mut columns = Columns { number: 0, rows: 0 };
+    run_walk(link, core, retries, &mut columns) == *end
+        && columns.rows == rows
+        && columns.number == number
+}
+
+/// Whether a walk gives the three rows, by the replies of four turns.
+fn gives_each_row<N: Net>(looped: &mut Looped<'_, N>, core: WalkCore) -> bool
+    requires { IsFresh core }
+{
+    let served = Served {
+        replies: 4,
+        dropped: 0,
+        idle: 0,
+        faults: 0,
+    };
+    walk_gives(looped, core, 0, &WalkEnd::Done(3), 3, 101021003)
+        && looped.served == served
+        && looped.faults() == 0
+        && looped.links.faults() == 0
+}
+
 #[test]
-fn a_walk_over_loopback_gives_each_row(rt: HostRuntime) -> Result<(), Fail> {
-    let table = Table::read(rt.alloc(), THREE)?;
+fn a_walk_over_loopback_gives_each_row(rt: HostRuntime) {
+    let core = core_of(&rt);
+    let table = three(&rt, rt.alloc());
     let mut links = MachineLinks::new(&rt);
-    let door = links.bind("127.0.0.1", 0)?;
-    let wire = links.open("127.0.0.1", door.local_addr()?.port(), 1)?;
+    let door = open_door(&rt, &mut links);
+    let wire = wire_to(&rt, &mut links, &door);
     let mut looped = Looped {
         wire,
         links,
@@ -121,88 +179,114 @@ fn a_walk_over_loopback_gives_each_row(rt: HostRuntime) -> Result<(), Fail> {
         table: &table,
         served: Served::default(),
     };
-    let mut columns = Columns { number: 0, rows: 0 };
-    let ended = run_walk(&mut looped, core_of()?, 0, &mut columns);
-    assert!(rt; ended == WalkEnd::Done(3));
-    assert_eq!(rt; columns.rows, 3);
-    assert_eq!(rt; columns.number, 101021003);
-    assert_eq!(rt;
-        looped.served,
-        Served {
-            replies: 4,
-            dropped: 0,
-            idle: 0,
-            faults: 0
-        }
-    );
-    assert_eq!(rt; looped.faults(), 0);
-    assert_eq!(rt; looped.links.faults(), 0);
-    Ok(())
+    assert!(rt; gives_each_row(&mut looped, core));
 }
 
-#[test]
-fn a_silent_agent_is_asked_as_often_as_allowed(rt: HostRuntime) -> Result<(), Fail> {
-    let mut links = MachineLinks::new(&rt);
-    let door = links.bind("127.0.0.1", 0)?;
-    let mut wire = links.open("127.0.0.1", door.local_addr()?.port(), 1)?;
-    let mut columns = Columns { number: 0, rows: 0 };
-    let ended = run_walk(&mut wire, core_of()?, 1, &mut columns);
-    assert!(rt; ended == WalkEnd::NoResponse);
-    assert_eq!(rt; columns.rows, 0);
-    assert_eq!(rt; wire.faults(), 0);
+/// The octets of the next datagram that comes to this door, in the buffer.
+fn received<'a>(rt: &impl Abort, door: &UdpSocket, buffer: &'a mut [u8; 1472]) -> &'a [u8] {
+    let (size, _) = door.recv_from(buffer).expect(rt, "a datagram");
+    buffer.get(..size).unwrap_or(&[])
+}
+
+/// The walk over this link, to which this door doesn't reply, sends its first request twice.
+fn assert_silent(rt: &impl Abort, wire: &mut UdpLink, door: &UdpSocket) {
+    assert!(rt; walk_gives(wire, core_of(rt), 1, &WalkEnd::NoResponse, 0, 0));
+    assert!(rt; wire.faults() == 0);
     let mut first = [0; 1472];
     let mut second = [0; 1472];
-    let (size, _) = door.recv_from(&mut first)?;
-    let (again, _) = door.recv_from(&mut second)?;
-    assert!(rt; size > 0 && &first[..size] == &second[..again]);
-    assert!(rt; door.recv_from(&mut first).is_err());
-    Ok(())
+    let mut third = [0; 1472];
+    let request = received(rt, door, &mut first);
+    assert!(rt; !request.is_empty() && request == received(rt, door, &mut second));
+    assert!(rt; door.recv_from(&mut third).is_err());
 }
 
 #[test]
-fn a_datagram_of_another_sender_is_a_stray(rt: HostRuntime) -> Result<(), Fail> {
+fn a_silent_agent_is_asked_as_often_as_allowed(rt: HostRuntime) {
     let mut links = MachineLinks::new(&rt);
-    let door = links.bind("127.0.0.1", 0)?;
-    let other = links.bind("127.0.0.1", 0)?;
-    let mut wire = links.open("127.0.0.1", door.local_addr()?.port(), 1)?;
-    wire.send(b"request")?;
+    let door = open_door(&rt, &mut links);
+    let mut wire = wire_to(&rt, &mut links, &door);
+    assert_silent(&rt, &mut wire, &door);
+}
+
+/// Sends a request over the link, and returns who sent what came to the door.
+fn sender_of(rt: &impl Abort, wire: &mut UdpLink, door: &UdpSocket) -> SocketAddr {
     let mut buffer = [0; 1472];
-    let (size, sender) = door.recv_from(&mut buffer)?;
+    assert!(rt; wire.send(b"request").is_ok());
+    let (size, sender) = door.recv_from(&mut buffer).expect(rt, "the request");
     assert!(rt; &buffer[..size] == b"request".as_slice());
-    other.send_to(b"another", sender)?;
-    door.send_to(b"reply", sender)?;
-    assert_eq!(rt; wire.receive(&mut buffer)?, Some(0));
-    assert_eq!(rt; wire.receive(&mut buffer)?, Some(5));
-    assert!(rt; &buffer[..5] == b"reply".as_slice());
-    assert_eq!(rt; wire.receive(&mut buffer)?, None);
-    assert_eq!(rt; wire.faults(), 0);
-    Ok(())
+    sender
+}
+
+/// Whether the link receives a stray of no octets, the reply, and nothing more.
+fn receives_reply(wire: &mut UdpLink) -> bool {
+    let mut buffer = [0; 1472];
+    wire.receive(&mut buffer) == Ok(Some(0))
+        && wire.receive(&mut buffer) == Ok(Some(5))
+        && buffer.starts_with(b"reply")
+        && wire.receive(&mut buffer) == Ok(None)
+        && wire.faults() == 0
+}
+
+/// Of two datagrams that come to the link, that of its own door is the reply.
+fn assert_reply(rt: &impl Abort, wire: &mut UdpLink, door: &UdpSocket, other: &UdpSocket) {
+    let sender = sender_of(rt, wire, door);
+    assert!(rt; other.send_to(b"another", sender).is_ok());
+    assert!(rt; door.send_to(b"reply", sender).is_ok());
+    assert!(rt; receives_reply(wire));
 }
 
 #[test]
-fn each_refusal_is_counted(rt: HostRuntime) -> Result<(), Fail> {
+fn a_datagram_of_another_sender_is_a_stray(rt: HostRuntime) {
     let mut links = MachineLinks::new(&rt);
-    assert!(rt; links.open("::1", 161, 1).is_err());
-    assert_eq!(rt; links.faults(), 1);
-    assert!(rt; links.bind("::1", 161).is_err());
-    assert_eq!(rt; links.faults(), 2);
-    let door = links.bind("127.0.0.1", 0)?;
-    assert!(rt; links.bind("127.0.0.1", door.local_addr()?.port()).is_err());
-    assert_eq!(rt; links.faults(), 3);
-    let mut wire = links.open("127.0.0.1", 1, 1)?;
+    let door = open_door(&rt, &mut links);
+    let other = open_door(&rt, &mut links);
+    let mut wire = wire_to(&rt, &mut links, &door);
+    assert_reply(&rt, &mut wire, &door, &other);
+}
+
+/// Whether no link is opened to this host, and this is the fault of this number.
+fn is_open_refused<N: Net>(links: &mut MachineLinks<N>, host: &str, number: u64) -> bool {
+    links.open(host, 161, 1).is_err() && links.faults() == number
+}
+
+/// Whether no door is opened at this port, and this is the fault of this number.
+fn is_bind_refused<N: Net>(
+    links: &mut MachineLinks<N>,
+    host: &str,
+    port: u16,
+    number: u64,
+) -> bool {
+    links.bind(host, port).is_err() && links.faults() == number
+}
+
+/// Whether a datagram that is too long isn't sent, and this is the first fault.
+fn is_send_refused(wire: &mut UdpLink) -> bool {
     let long = [0; 65508];
-    assert!(rt; wire.send(&long).is_err());
-    assert_eq!(rt; wire.faults(), 1);
-    Ok(())
+    wire.send(&long).is_err() && wire.faults() == 1
 }
 
 #[test]
-fn a_turn_takes_a_second_at_most(rt: HostRuntime) -> Result<(), Fail> {
-    let table = Table::read(rt.alloc(), THREE)?;
+fn each_refusal_is_counted(rt: HostRuntime) {
     let mut links = MachineLinks::new(&rt);
-    let mut door = links.bind("localhost", 0)?;
-    assert!(rt; door.read_timeout()? == Some(Duration::from_secs(1)));
-    let served = links.serve(&mut door, &table, &public(), 1);
-    assert_eq!(rt; served.idle, 1);
-    Ok(())
+    assert!(rt; is_open_refused(&mut links, "::1", 1));
+    assert!(rt; is_bind_refused(&mut links, "::1", 161, 2));
+    let door = open_door(&rt, &mut links);
+    let port = port_of(&rt, &door);
+    assert!(rt; is_bind_refused(&mut links, "127.0.0.1", port, 3));
+    let mut wire = links.open("127.0.0.1", 1, 1).expect(&rt, "a link");
+    assert!(rt; is_send_refused(&mut wire));
+}
+
+/// Whether a receive at this door waits a second.
+fn waits_a_second(door: &UdpSocket) -> bool {
+    matches!(door.read_timeout(), Ok(Some(time)) if time == Duration::from_secs(1))
+}
+
+#[test]
+fn a_turn_takes_a_second_at_most(rt: HostRuntime) {
+    let table = three(&rt, rt.alloc());
+    let mut links = MachineLinks::new(&rt);
+    let mut door = links.bind("localhost", 0).expect(&rt, "a door");
+    assert!(rt; waits_a_second(&door));
+    assert!(rt; links.serve(&mut door, &table, &public(), 1).idle == 1);
 }

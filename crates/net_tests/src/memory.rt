@@ -7,7 +7,8 @@ use snmp_net::memory::{MemoryAgent, MemoryLinks};
 use snmp_table::Table;
 use snmp_walk::{Method, Mode, Sink, SinkFault, WalkCore, WalkEnd, run_walk};
 use snmp_wire::{Binding, parse_numeric};
-use std::test::Fail;
+use std::alloc::Global;
+use std::process::Abort;
 
 /// The Get of sysName.0, in community `public` with id 1.
 const GET: [u8; 40] = [
@@ -15,6 +16,12 @@ const GET: [u8; 40] = [
     0x01, 0x01, 0x02, 0x01, 0x00, 0x02, 0x01, 0x00, 0x30, 0x0E, 0x30, 0x0C, 0x06, 0x08, 0x2B, 0x06,
     0x01, 0x02, 0x01, 0x01, 0x05, 0x00, 0x05, 0x00,
 ];
+
+/// The agent of `public`.
+const PUBLIC: Config<'static> = Config {
+    community: b"public",
+    max_size: 1472,
+};
 
 /// Takes each row.
 #[derive(Drop)]
@@ -28,19 +35,46 @@ impl Sink for Any {
     }
 }
 
+/// The walk of `system` over the link to this port of host `a` gives this many rows.
+fn assert_rows(rt: &impl Abort, links: &mut MemoryLinks<'_>, port: u16, rows: u64) {
+    let root = parse_numeric(b"1.3.6.1.2.1.1").expect(rt, "a name");
+    let core = WalkCore::start(root, Mode::NoLast, Method::Next, b"public", 1);
+    let core = core.expect(rt, "a root that can be sent");
+    let mut wire = links.open("a", port, 1).expect(rt, "a link");
+    assert!(rt; run_walk(&mut wire, core, 0, &mut Any) == WalkEnd::Done(rows));
+}
+
+/// Whether links that had no fault refuse a link where there is no agent, and a door where there is
+/// one, and count each as a fault.
+fn are_refusals_counted(links: &mut MemoryLinks<'_>) -> bool {
+    links.faults() == 0
+        && links.open("b", 161, 1).is_err()
+        && links.open("a", 163, 1).is_err()
+        && links.bind("a", 161).is_err()
+        && links.faults() == 3
+}
+
+/// Of four turns at a door, one replies to the Get, one drops what is no message, and two are idle.
+fn assert_served(rt: &impl Abort, links: &mut MemoryLinks<'_>, table: &Table) {
+    let mut door = links.bind("b", 161).expect(rt, "a door");
+    let served = links.serve(&mut door, table, &PUBLIC, 4);
+    assert!(rt; served.replies == 1 && served.dropped == 1 && served.idle == 2);
+}
+
+/// The table of this text.
+fn table_of(rt: &impl Abort, alloc: Global, text: &[u8]) -> Table {
+    Table::read(alloc, text).expect(rt, "a table")
+}
+
 #[test]
-fn each_agent_has_its_link(rt: HostRuntime) -> Result<(), Fail> {
-    let one = Table::read(rt.alloc(), b"1.3.6.1.2.1.1.5.0|4|wes\n")?;
-    let none = Table::read(rt.alloc(), b"")?;
-    let config = Config {
-        community: b"public",
-        max_size: 1472,
-    };
+fn each_agent_has_its_link(rt: HostRuntime) {
+    let one = table_of(&rt, rt.alloc(), b"1.3.6.1.2.1.1.5.0|4|wes\n");
+    let none = table_of(&rt, rt.alloc(), b"");
     let agent = |host, port, table| MemoryAgent {
         host,
         port,
         table,
-        config,
+        config: PUBLIC,
         deliveries: &[],
     };
     let agents = [
@@ -50,19 +84,8 @@ fn each_agent_has_its_link(rt: HostRuntime) -> Result<(), Fail> {
     ];
     let requests = [GET.as_slice(), b"no message".as_slice()];
     let mut links = MemoryLinks::new(rt.alloc(), &agents, &requests);
-    for (port, rows) in [(161, 1), (162, 0)] {
-        let mut wire = links.open("a", port, 1)?;
-        let root = parse_numeric(b"1.3.6.1.2.1.1")?;
-        let core = WalkCore::start(root, Mode::NoLast, Method::Next, b"public", 1)?;
-        assert!(rt; run_walk(&mut wire, core, 0, &mut Any) == WalkEnd::Done(rows));
-    }
-    assert_eq!(rt; links.faults(), 0);
-    assert!(rt; links.open("b", 161, 1).is_err());
-    assert!(rt; links.open("a", 163, 1).is_err());
-    assert!(rt; links.bind("a", 161).is_err());
-    assert_eq!(rt; links.faults(), 3);
-    let mut door = links.bind("b", 161)?;
-    let served = links.serve(&mut door, &one, &config, 4);
-    assert_eq!(rt; (served.replies, served.dropped, served.idle), (1, 1, 2));
-    Ok(())
+    assert_rows(&rt, &mut links, 161, 1);
+    assert_rows(&rt, &mut links, 162, 0);
+    assert!(rt; are_refusals_counted(&mut links));
+    assert_served(&rt, &mut links, &one);
 }
