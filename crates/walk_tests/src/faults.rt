@@ -175,7 +175,7 @@ fn assert_get(rt: &impl Abort, alloc: Global, case: Case<'_>, sends: usize, rece
 fn a_failing_link_ends_the_walk_after_what_was_given(rt: HostRuntime) {
     // The deliveries, the failing send and receive, the integers, and how many sends and receives
     // there are.
-    const CASES: [(&[Option<usize>], usize, usize, u64, usize, usize); 12] = [
+    const CASES: &[(&[Option<usize>], usize, usize, u64, usize, usize)] = &[
         (&[], 1, 0, 0, 1, 0),
         (&[], 2, 0, 1, 2, 1),
         (&[], 3, 0, 12, 3, 2),
@@ -191,7 +191,7 @@ fn a_failing_link_ends_the_walk_after_what_was_given(rt: HostRuntime) {
         (&[Some(1), Some(1), Some(1)], 0, 4, 1, 2, 4),
         (&[None, None], 3, 0, 0, 3, 2),
     ];
-    for (deliveries, send, receive, number, sends, receives) in CASES {
+    for &(deliveries, send, receive, number, sends, receives) in CASES {
         let case = Case {
             deliveries,
             send,
@@ -225,6 +225,9 @@ fn a_failing_link_ends_a_get_with_nothing(rt: HostRuntime) {
         assert_get(&rt, rt.alloc(), case, sends, receives);
     }
 }
+
+/// The reasons of a sink.
+const FAULTS: &[SinkFault] = &[SinkFault::Output, SinkFault::Memory];
 
 /// Takes bindings as digits, and refuses the one of this number, counted from 1, for this reason.
 #[derive(Drop)]
@@ -299,9 +302,11 @@ fn assert_refused(
 
 #[test]
 fn a_refused_binding_ends_the_walk_after_those_before(rt: HostRuntime) {
-    for fault in [SinkFault::Output, SinkFault::Memory] {
-        for method in [Method::Next, Method::Bulk(2), Method::Bulk(10)] {
-            for (refused, number) in [(1, 0), (2, 1), (3, 12)] {
+    const METHODS: &[Method] = &[Method::Next, Method::Bulk(2), Method::Bulk(10)];
+    const CASES: &[(usize, u64)] = &[(1, 0), (2, 1), (3, 12)];
+    for &fault in FAULTS {
+        for &method in METHODS {
+            for &(refused, number) in CASES {
                 assert_refused(&rt, rt.alloc(), ROOT, method, refused, fault, number);
             }
         }
@@ -349,8 +354,9 @@ fn assert_get_refused(
 
 #[test]
 fn a_refused_binding_ends_the_get_after_those_before(rt: HostRuntime) {
-    for fault in [SinkFault::Output, SinkFault::Memory] {
-        for (refused, number) in [(1, 0), (2, 3), (3, 32)] {
+    const CASES: &[(usize, u64)] = &[(1, 0), (2, 3), (3, 32)];
+    for &fault in FAULTS {
+        for &(refused, number) in CASES {
             assert_get_refused(&rt, rt.alloc(), refused, fault, number);
         }
     }

@@ -40,7 +40,7 @@ fn assert_request(rt: &impl Abort, core: &WalkCore, octets: &[u8]) {
 
 #[test]
 fn a_request_asks_from_the_root_by_its_kind(rt: HostRuntime) {
-    let cases: [(Mode, Method, &[u8]); 6] = [
+    const CASES: &[(Mode, Method, &[u8])] = &[
         (Mode::Plain, Method::Next, &NEXT),
         (Mode::NoLast, Method::Next, &NEXT),
         (Mode::Plain, Method::Bulk(10), &BULK),
@@ -48,7 +48,7 @@ fn a_request_asks_from_the_root_by_its_kind(rt: HostRuntime) {
         (Mode::Include, Method::Next, &GET),
         (Mode::Include, Method::Bulk(10), &GET),
     ];
-    for (mode, method, octets) in cases {
+    for &(mode, method, octets) in CASES {
         assert_request(&rt, &walk_of(&rt, ROOT, mode, method, 1), octets);
     }
 }

@@ -175,7 +175,7 @@ fn assert_get(
 /// 63 of these datagrams before a reply change nothing, and 64 end the try, in a walk.
 fn assert_stray_to_walks(rt: &impl Abort, alloc: Global, table: &Table, stray: &[u8]) {
     // The strays, the retries, the integers, and how many sends, requests and receives there are.
-    let cases: [(&[usize], u32, u64, usize, usize, usize); 7] = [
+    const CASES: &[(&[usize], u32, u64, usize, usize, usize)] = &[
         (&[1], 0, 123, 4, 4, 5),
         (&[63, 63, 63, 63], 0, 123, 4, 4, 256),
         (&[64], 0, 0, 1, 1, 64),
@@ -184,7 +184,7 @@ fn assert_stray_to_walks(rt: &impl Abort, alloc: Global, table: &Table, stray: &
         (&[64, 64, 63], 2, 123, 6, 4, 195),
         (&[0, 64], 0, 1, 2, 2, 65),
     ];
-    for (before, retries, number, sends, requests, receives) in cases {
+    for &(before, retries, number, sends, requests, receives) in CASES {
         let brought = Brought {
             number,
             sends,
@@ -209,7 +209,7 @@ fn assert_stray_to_gets(
     stray: &[u8],
 ) {
     // The strays, the retries, the integer, and how many sends and receives there are.
-    let cases: [(&[usize], u32, u64, usize, usize); 6] = [
+    const CASES: &[(&[usize], u32, u64, usize, usize)] = &[
         (&[1], 0, 1, 1, 2),
         (&[63], 0, 1, 1, 64),
         (&[64], 0, 0, 1, 64),
@@ -217,7 +217,7 @@ fn assert_stray_to_gets(
         (&[64, 63], 1, 1, 2, 128),
         (&[64, 64], 1, 0, 2, 128),
     ];
-    for (before, retries, number, sends, receives) in cases {
+    for &(before, retries, number, sends, receives) in CASES {
         let brought = Brought {
             number,
             sends,
@@ -255,7 +255,7 @@ fn octets_that_are_no_message_are_strays(rt: HostRuntime) {
 fn a_reply_with_one_wrong_part_is_a_stray(rt: HostRuntime) {
     // The place of the part, and an octet that makes it: no message, another version, another
     // community, another kind, another id.
-    for (place, octet) in [
+    const PARTS: &[(usize, u8)] = &[
         (1, 0x80),
         (1, 0x29),
         (13, 0xA4),
@@ -273,10 +273,10 @@ fn a_reply_with_one_wrong_part_is_a_stray(rt: HostRuntime) {
         (17, 0x00),
         (17, 0x09),
         (17, 0x82),
-    ] {
+    ];
+    for &(place, octet) in PARTS {
         let mut stray = ROW;
         stray[17] = 2;
-        let place: usize = place;
         if place < 44 {
             stray[place] = octet;
         }

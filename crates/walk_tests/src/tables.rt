@@ -154,7 +154,7 @@ fn assert_places(rt: &impl Abort, alloc: Global, case: Case<'_>, places: [i32; 3
 fn assert_uses(rt: &impl Abort, alloc: Global, tables: &[Table]) {
     // The uses, the deliveries, the place of the table that each of the three rows is from, and how
     // many datagrams are sent.
-    let cases: [(&[usize], &[Option<usize>], [i32; 3], usize); 9] = [
+    const CASES: &[(&[usize], &[Option<usize>], [i32; 3], usize)] = &[
         // After the uses the last table replies.
         (&[], &[], [2, 2, 2], 4),
         (&[0], &[], [0, 2, 2], 4),
@@ -170,7 +170,7 @@ fn assert_uses(rt: &impl Abort, alloc: Global, tables: &[Table]) {
         // A datagram that isn't sent yet has no reply.
         (&[0, 1], &[Some(2)], [1, 2, 2], 5),
     ];
-    for (uses, deliveries, places, sends) in cases {
+    for &(uses, deliveries, places, sends) in CASES {
         let case = Case {
             tables,
             uses,

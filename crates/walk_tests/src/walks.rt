@@ -76,7 +76,7 @@ fn assert_walk(rt: &impl Abort, alloc: Global, case: Case<'_>, brought: Brought,
 
 #[test]
 fn bulks_of_any_size_give_the_same_rows(rt: HostRuntime) {
-    for (max_size, repetitions, requests) in [
+    const CASES: &[(usize, i32, usize)] = &[
         (134, 1, 7),
         (134, 10, 2),
         (134, i32::MAX, 2),
@@ -84,7 +84,8 @@ fn bulks_of_any_size_give_the_same_rows(rt: HostRuntime) {
         (1472, 10, 1),
         (1472, i32::MAX, 1),
         (1472, 2, 4),
-    ] {
+    ];
+    for &(max_size, repetitions, requests) in CASES {
         let case = Case {
             table: SIX,
             root: ROOT,
@@ -243,14 +244,14 @@ fn assert_resumed(rt: &impl Abort, alloc: Global, after: &[u8], number: u64, row
 
 #[test]
 fn a_resumed_walk_gives_the_rest(rt: HostRuntime) {
-    let cases: [(&[u8], u64, u64); 5] = [
+    const CASES: &[(&[u8], u64, u64)] = &[
         (b"1.3.6.1.4.1.32473.1", 123, 3),
         (b"1.3.6.1.4.1.32473.1.1.0", 23, 2),
         (b"1.3.6.1.4.1.32473.1.2", 23, 2),
         (b"1.3.6.1.4.1.32473.1.2.0", 3, 1),
         (b"1.3.6.1.4.1.32473.1.10.0", 0, 0),
     ];
-    for (after, number, rows) in cases {
+    for &(after, number, rows) in CASES {
         assert_resumed(&rt, rt.alloc(), after, number, rows);
     }
 }
@@ -264,7 +265,7 @@ fn assert_refused(rt: &impl Abort, root: &[u8], after: &[u8], why: StartError) {
 
 #[test]
 fn the_first_refusal_of_a_resumed_walk_is_the_roots(rt: HostRuntime) {
-    let cases: [(&[u8], &[u8], StartError); 9] = [
+    const CASES: &[(&[u8], &[u8], StartError)] = &[
         (b"3.1", b"3.1.1", StartError::NotWire),
         (b"3.1", b"1.3", StartError::NotWire),
         (b"1.40", b"3.1", StartError::NotWire),
@@ -275,7 +276,7 @@ fn the_first_refusal_of_a_resumed_walk_is_the_roots(rt: HostRuntime) {
         (b".", b"3", StartError::NotWire),
         (b".", b"0.40.1", StartError::NotWire),
     ];
-    for (root, after, why) in cases {
+    for &(root, after, why) in CASES {
         assert_refused(&rt, root, after, why);
     }
 }
@@ -293,7 +294,8 @@ fn longest_row(rt: &impl Abort, alloc: Global) -> Vec<u8> {
 
 /// The row of this table is walked by GetNext and by GetBulk.
 fn assert_longest(rt: &impl Abort, alloc: Global, table: &[u8]) {
-    for (method, requests) in [(Method::Next, 2), (Method::Bulk(10), 1)] {
+    const CASES: &[(Method, usize)] = &[(Method::Next, 2), (Method::Bulk(10), 1)];
+    for &(method, requests) in CASES {
         let case = Case {
             table,
             root: b"1.3.6.4294967295",
