@@ -1,113 +1,137 @@
 //! Letters of `-O`.
 use smi_letters::{Letters, NameForm, StringForm, TypeForm};
+use std::process::Abort;
+
+/// Asserts that the text has these letters.
+fn assert_letters(rt: &impl Abort, text: &[u8], letters: Letters) {
+    assert!(rt; Letters::parse(text) == Ok(letters), "{text:?}");
+}
+
+/// Asserts that this octet of the text is no letter.
+fn assert_no_letter(rt: &impl Abort, text: &[u8], octet: u8) {
+    assert!(rt; Letters::parse(text) == Err(octet), "{text:?}");
+}
 
 #[test]
 fn no_letters_say_the_usual_forms(rt: HostRuntime) {
-    assert_eq!(rt; Letters::parse(b""), Ok(Letters::new()));
-    assert_eq!(rt; Letters::new().names, NameForm::ModuleLabel);
-    assert_eq!(rt; Letters::new().types, TypeForm::Typed);
-    assert_eq!(rt; Letters::new().strings, StringForm::Plain);
+    let usual = Letters::new();
+    assert_letters(&rt, b"", usual);
+    assert!(rt; usual.names == NameForm::ModuleLabel);
+    assert!(rt; usual.types == TypeForm::Typed);
+    assert!(rt; usual.strings == StringForm::Plain);
 }
 
 #[test]
 fn the_last_of_letters_that_exclude_each_other_holds(rt: HostRuntime) {
     let letters = Letters::new();
-    assert_eq!(rt;
-        Letters::parse(b"nfs"),
-        Ok(Letters {
+    assert_letters(
+        &rt,
+        b"nfs",
+        Letters {
             names: NameForm::Label,
             ..letters
-        })
+        },
     );
-    assert_eq!(rt;
-        Letters::parse(b"snf"),
-        Ok(Letters {
+    assert_letters(
+        &rt,
+        b"snf",
+        Letters {
             names: NameForm::Full,
             ..letters
-        })
+        },
     );
-    assert_eq!(rt;
-        Letters::parse(b"fSn"),
-        Ok(Letters {
+    assert_letters(
+        &rt,
+        b"fSn",
+        Letters {
             names: NameForm::Numeric,
             ..letters
-        })
+        },
     );
-    assert_eq!(rt; Letters::parse(b"nS"), Ok(letters));
-    assert_eq!(rt;
-        Letters::parse(b"Qq"),
-        Ok(Letters {
+    assert_letters(&rt, b"nS", letters);
+    assert_letters(
+        &rt,
+        b"Qq",
+        Letters {
             types: TypeForm::Quick,
             ..letters
-        })
+        },
     );
-    assert_eq!(rt;
-        Letters::parse(b"qQ"),
-        Ok(Letters {
+    assert_letters(
+        &rt,
+        b"qQ",
+        Letters {
             types: TypeForm::Untyped,
             ..letters
-        })
+        },
     );
-    assert_eq!(rt;
-        Letters::parse(b"ax"),
-        Ok(Letters {
+    assert_letters(
+        &rt,
+        b"ax",
+        Letters {
             strings: StringForm::Hexadecimal,
             ..letters
-        })
+        },
     );
-    assert_eq!(rt;
-        Letters::parse(b"xa"),
-        Ok(Letters {
+    assert_letters(
+        &rt,
+        b"xa",
+        Letters {
             strings: StringForm::Text,
             ..letters
-        })
+        },
     );
 }
 
 #[test]
 fn the_other_letters_stand_for_themselves(rt: HostRuntime) {
     let letters = Letters::new();
-    assert_eq!(rt;
-        Letters::parse(b"v"),
-        Ok(Letters {
+    assert_letters(
+        &rt,
+        b"v",
+        Letters {
             value_alone: true,
             ..letters
-        })
+        },
     );
-    assert_eq!(rt;
-        Letters::parse(b"ee"),
-        Ok(Letters {
+    assert_letters(
+        &rt,
+        b"ee",
+        Letters {
             numeric_enumerations: true,
             ..letters
-        })
+        },
     );
-    assert_eq!(rt;
-        Letters::parse(b"t"),
-        Ok(Letters {
+    assert_letters(
+        &rt,
+        b"t",
+        Letters {
             raw_ticks: true,
             ..letters
-        })
+        },
     );
-    assert_eq!(rt;
-        Letters::parse(b"b"),
-        Ok(Letters {
+    assert_letters(
+        &rt,
+        b"b",
+        Letters {
             numeric_index: true,
             ..letters
-        })
+        },
     );
-    assert_eq!(rt;
-        Letters::parse(b"U"),
-        Ok(Letters {
+    assert_letters(
+        &rt,
+        b"U",
+        Letters {
             no_units: true,
             ..letters
-        })
+        },
     );
 }
 
 #[test]
 fn the_first_other_octet_is_reported(rt: HostRuntime) {
-    assert_eq!(rt; Letters::parse(b"u"), Err(b'u'));
-    assert_eq!(rt; Letters::parse(b"qXsN"), Err(b'X'));
-    assert_eq!(rt; Letters::parse(b"nfsSqQvetbUxa "), Err(b' '));
-    assert_eq!(rt; Letters::parse(b"\0"), Err(0));
+    assert_no_letter(&rt, b"u", b'u');
+    assert_no_letter(&rt, b"qXsN", b'X');
+    assert_no_letter(&rt, b"nfsSqQvetbUxa ", b' ');
+    assert_no_letter(&rt, b"\0", 0);
 }

@@ -1,4 +1,6 @@
 //! Each row of the table of values, with each letter that affects it.
+ghost use Rattle.std.specs.Prelude.{◌≡◌, true};
+ghost use Rattle.smi_module.specs.Word.{is_word};
 ghost use Rattle.snmp_ber.specs.Value.{datum};
 ghost use Rattle.smi_value.specs.Value.{IsNoIdentifier};
 
@@ -6,518 +8,392 @@ use smi_letters::Letters;
 use smi_module::{Name, NamedNumber, Text};
 use smi_value::{ValueBase, ValueSyntax, append_value};
 use snmp_ber::ValueRef;
-use std::test::Fail;
+use std::alloc::{AllocError, Global};
+use std::process::Abort;
 use text_draft::Draft;
 
-/// Checks the text of a value.
-fn check(
-    rt: &HostRuntime,
-    letters: &[u8],
+/// A value that is no identifier.
+#[derive(Clone, Copy)]
+enum Value<'a> {
+    Integer(i32),
+    Octets(&'a [u8]),
+    Null,
+    IpAddress([u8; 4]),
+    Counter32(u32),
+    Gauge32(u32),
+    TimeTicks(u32),
+    Opaque(&'a [u8]),
+    Counter64(u64),
+    NoSuchObject,
+    NoSuchInstance,
+    EndOfMibView,
+}
+
+/// The value as it is read from a message.
+fn value_of(value: Value<'_>) -> ValueRef<'_>
+    ensures { IsNoIdentifier (datum result) }
+{
+    match value {
+        Value::Integer(n) => ValueRef::Integer(n),
+        Value::Octets(octets) => ValueRef::Octets(octets),
+        Value::Null => ValueRef::Null,
+        Value::IpAddress(octets) => ValueRef::IpAddress(octets),
+        Value::Counter32(n) => ValueRef::Counter32(n),
+        Value::Gauge32(n) => ValueRef::Gauge32(n),
+        Value::TimeTicks(n) => ValueRef::TimeTicks(n),
+        Value::Opaque(octets) => ValueRef::Opaque(octets),
+        Value::Counter64(n) => ValueRef::Counter64(n),
+        Value::NoSuchObject => ValueRef::NoSuchObject,
+        Value::NoSuchInstance => ValueRef::NoSuchInstance,
+        Value::EndOfMibView => ValueRef::EndOfMibView,
+    }
+}
+
+/// The text of a value.
+fn text_of(
+    alloc: Global,
+    letters: &Letters,
     syntax: Option<&ValueSyntax<'_>>,
     value: &ValueRef<'_>,
-    text: &[u8],
-) -> Result<(), Fail>
+) -> Result<Vec<u8>, AllocError>
     requires { IsNoIdentifier (datum value.now) }
 {
-    let letters = Letters::parse(letters).map_err(|_| "no letters")?;
-    let mut out = Vec::new(rt.alloc());
+    let mut out = Vec::new(alloc);
     let mut draft = Draft::after(&mut out);
-    append_value(&mut draft, &letters, syntax, value);
+    append_value(&mut draft, letters, syntax, value);
     draft.finish(&mut out)?;
-    if out.as_slice() == text {
-        Ok(())
+    Ok(out)
+}
+
+/// Whether the letters show the value so.
+fn shows(
+    alloc: Global,
+    letters: &[u8],
+    syntax: Option<&ValueSyntax<'_>>,
+    value: Value<'_>,
+    text: &[u8],
+) -> bool {
+    match Letters::parse(letters) {
+        Ok(letters) => match text_of(alloc, &letters, syntax, &value_of(value)) {
+            Ok(shown) => shown.as_slice() == text,
+            Err(_) => false,
+        },
+        Err(_) => false,
+    }
+}
+
+/// Letters, a value, and the text that they show of it.
+type Row = (&'static [u8], Value<'static>, &'static [u8]);
+
+/// Asserts of each row that its letters show its value by its text.
+fn assert_rows(rt: &impl Abort, alloc: Global, syntax: Option<&ValueSyntax<'_>>, rows: &[Row]) {
+    for (letters, value, text) in rows {
+        assert!(rt;
+            shows(alloc, letters, syntax, *value, text),
+            "{letters:?} {text:?}"
+        );
+    }
+}
+
+const NUMBERS: &[Row] = &[
+    (b"", Value::Integer(-2147483648), b"INTEGER: -2147483648"),
+    (b"q", Value::Integer(0), b"0"),
+    (b"Q", Value::Integer(2147483647), b"2147483647"),
+    (b"etUxanfsSvb", Value::Integer(5), b"INTEGER: 5"),
+    (b"", Value::Counter32(4294967295), b"Counter32: 4294967295"),
+    (b"q", Value::Counter32(1), b"1"),
+    (b"", Value::Gauge32(200), b"Gauge32: 200"),
+    (b"Q", Value::Gauge32(200), b"200"),
+    (
+        b"",
+        Value::Counter64(u64::MAX),
+        b"Counter64: 18446744073709551615",
+    ),
+    (b"q", Value::Counter64(7), b"7"),
+];
+
+#[test]
+fn numbers_without_a_syntax(rt: HostRuntime) {
+    assert_rows(&rt, rt.alloc(), None, NUMBERS);
+}
+
+const TICKS: &[Row] = &[
+    (
+        b"",
+        Value::TimeTicks(14096763),
+        b"Timeticks: (14096763) 1 day, 15:09:27.63",
+    ),
+    (b"q", Value::TimeTicks(14096763), b"1:15:09:27.63"),
+    (b"Q", Value::TimeTicks(14096763), b"1:15:09:27.63"),
+    (b"t", Value::TimeTicks(14096763), b"14096763"),
+    (b"qt", Value::TimeTicks(14096763), b"14096763"),
+    (b"", Value::TimeTicks(0), b"Timeticks: (0) 0:00:00.00"),
+    (b"q", Value::TimeTicks(0), b"0:0:00:00.00"),
+    (
+        b"",
+        Value::TimeTicks(8639999),
+        b"Timeticks: (8639999) 23:59:59.99",
+    ),
+    (
+        b"",
+        Value::TimeTicks(8640000),
+        b"Timeticks: (8640000) 1 day, 0:00:00.00",
+    ),
+    (
+        b"",
+        Value::TimeTicks(17280000),
+        b"Timeticks: (17280000) 2 days, 0:00:00.00",
+    ),
+    (
+        b"",
+        Value::TimeTicks(u32::MAX),
+        b"Timeticks: (4294967295) 497 days, 2:27:52.95",
+    ),
+    (b"q", Value::TimeTicks(u32::MAX), b"497:2:27:52.95"),
+];
+
+#[test]
+fn ticks(rt: HostRuntime) {
+    assert_rows(&rt, rt.alloc(), None, TICKS);
+}
+
+const STRINGS: &[Row] = &[
+    (b"", Value::Octets(b""), b"\"\""),
+    (b"qx", Value::Octets(b""), b"\"\""),
+    (b"a", Value::Octets(b""), b"\"\""),
+    (b"", Value::Octets(b"wes"), b"STRING: \"wes\""),
+    (b"q", Value::Octets(b"wes"), b"\"wes\""),
+    (b"x", Value::Octets(b"wes"), b"Hex-STRING: 77 65 73 "),
+    (b"xQ", Value::Octets(b"wes"), b"77 65 73 "),
+    (
+        b"",
+        Value::Octets(b" ~a\"b\\c"),
+        b"STRING: \" ~a\\\"b\\\\c\"",
+    ),
+    (
+        b"",
+        Value::Octets(b"\x00\x16\x3e"),
+        b"Hex-STRING: 00 16 3E ",
+    ),
+    (b"", Value::Octets(b"a\x7f"), b"Hex-STRING: 61 7F "),
+    (
+        b"a",
+        Value::Octets(b"a\x7f\x1f\"\xff"),
+        b"STRING: \"a..\\\".\"",
+    ),
+];
+
+#[test]
+fn strings_without_a_hint(rt: HostRuntime) {
+    assert_rows(&rt, rt.alloc(), None, STRINGS);
+}
+
+/// The octets of two lines.
+const OCTETS: &[u8] =
+    b"\x00\x01\x02\x03\x04\x05\x06\x07\x08\x09\x0a\x0b\x0c\x0d\x0e\x0f\xf0\xe1\xd2\xc3\xb4\xa5\
+    \x96\x87\x78\x69\x5a\x4b\x3c\x2d\x1e\x0f";
+
+/// The same in hexadecimal, in two lines.
+const LINES: &[u8] = b"00 01 02 03 04 05 06 07 08 09 0A 0B 0C 0D 0E 0F \n\
+    F0 E1 D2 C3 B4 A5 96 87 78 69 5A 4B 3C 2D 1E 0F ";
+
+const OPAQUES: &[Row] = &[
+    (b"q", Value::Opaque(OCTETS), LINES),
+    (b"", Value::Opaque(b"\xff"), b"OPAQUE: FF "),
+    (b"a", Value::Opaque(b""), b"OPAQUE: "),
+];
+
+#[test]
+fn hexadecimal_lines(rt: HostRuntime) {
+    let line = Value::Octets(&OCTETS[..16]);
+    assert!(rt;
+        shows(
+            rt.alloc(),
+            b"q",
+            None,
+            line,
+            b"00 01 02 03 04 05 06 07 08 09 0A 0B 0C 0D 0E 0F "
+        )
+    );
+    let longer = Value::Octets(&OCTETS[..17]);
+    assert!(rt; shows(rt.alloc(), b"q", None, longer, &LINES[..52]));
+    assert_rows(&rt, rt.alloc(), None, OPAQUES);
+}
+
+/// Whether the letters show the string of this octet so.
+fn shows_octet(alloc: Global, letters: &[u8], octet: u8, text: &[u8]) -> bool {
+    shows(alloc, letters, None, Value::Octets(&[octet]), text)
+}
+
+/// Whether the string of this printable octet is shown as itself.
+fn is_shown_as_text(alloc: Global, octet: u8) -> bool {
+    if octet == b'"' || octet == b'\\' {
+        shows_octet(alloc, b"q", octet, &[b'"', b'\\', octet, b'"'])
     } else {
-        Err("another text")?
+        shows_octet(alloc, b"q", octet, &[b'"', octet, b'"'])
     }
 }
 
 #[test]
-fn numbers_without_a_syntax(rt: HostRuntime) -> Result<(), Fail> {
-    check(
-        &rt,
-        b"",
-        None,
-        &ValueRef::Integer(-2147483648),
-        b"INTEGER: -2147483648",
-    )?;
-    check(&rt, b"q", None, &ValueRef::Integer(0), b"0")?;
-    check(
-        &rt,
-        b"Q",
-        None,
-        &ValueRef::Integer(2147483647),
-        b"2147483647",
-    )?;
-    check(
-        &rt,
-        b"etUxanfsSvb",
-        None,
-        &ValueRef::Integer(5),
-        b"INTEGER: 5",
-    )?;
-    check(
-        &rt,
-        b"",
-        None,
-        &ValueRef::Counter32(4294967295),
-        b"Counter32: 4294967295",
-    )?;
-    check(&rt, b"q", None, &ValueRef::Counter32(1), b"1")?;
-    check(&rt, b"", None, &ValueRef::Gauge32(200), b"Gauge32: 200")?;
-    check(&rt, b"Q", None, &ValueRef::Gauge32(200), b"200")?;
-    check(
-        &rt,
-        b"",
-        None,
-        &ValueRef::Counter64(u64::MAX),
-        b"Counter64: 18446744073709551615",
-    )?;
-    check(&rt, b"q", None, &ValueRef::Counter64(7), b"7")
-}
-
-#[test]
-fn ticks(rt: HostRuntime) -> Result<(), Fail> {
-    let value = ValueRef::TimeTicks(14096763);
-    check(
-        &rt,
-        b"",
-        None,
-        &value,
-        b"Timeticks: (14096763) 1 day, 15:09:27.63",
-    )?;
-    check(&rt, b"q", None, &value, b"1:15:09:27.63")?;
-    check(&rt, b"Q", None, &value, b"1:15:09:27.63")?;
-    check(&rt, b"t", None, &value, b"14096763")?;
-    check(&rt, b"qt", None, &value, b"14096763")?;
-    check(
-        &rt,
-        b"",
-        None,
-        &ValueRef::TimeTicks(0),
-        b"Timeticks: (0) 0:00:00.00",
-    )?;
-    check(&rt, b"q", None, &ValueRef::TimeTicks(0), b"0:0:00:00.00")?;
-    check(
-        &rt,
-        b"",
-        None,
-        &ValueRef::TimeTicks(8639999),
-        b"Timeticks: (8639999) 23:59:59.99",
-    )?;
-    check(
-        &rt,
-        b"",
-        None,
-        &ValueRef::TimeTicks(8640000),
-        b"Timeticks: (8640000) 1 day, 0:00:00.00",
-    )?;
-    check(
-        &rt,
-        b"",
-        None,
-        &ValueRef::TimeTicks(17280000),
-        b"Timeticks: (17280000) 2 days, 0:00:00.00",
-    )?;
-    check(
-        &rt,
-        b"",
-        None,
-        &ValueRef::TimeTicks(u32::MAX),
-        b"Timeticks: (4294967295) 497 days, 2:27:52.95",
-    )?;
-    check(
-        &rt,
-        b"q",
-        None,
-        &ValueRef::TimeTicks(u32::MAX),
-        b"497:2:27:52.95",
-    )
-}
-
-#[test]
-fn strings_without_a_hint(rt: HostRuntime) -> Result<(), Fail> {
-    check(&rt, b"", None, &ValueRef::Octets(b""), b"\"\"")?;
-    check(&rt, b"qx", None, &ValueRef::Octets(b""), b"\"\"")?;
-    check(&rt, b"a", None, &ValueRef::Octets(b""), b"\"\"")?;
-    check(
-        &rt,
-        b"",
-        None,
-        &ValueRef::Octets(b"wes"),
-        b"STRING: \"wes\"",
-    )?;
-    check(&rt, b"q", None, &ValueRef::Octets(b"wes"), b"\"wes\"")?;
-    check(
-        &rt,
-        b"x",
-        None,
-        &ValueRef::Octets(b"wes"),
-        b"Hex-STRING: 77 65 73 ",
-    )?;
-    check(&rt, b"xQ", None, &ValueRef::Octets(b"wes"), b"77 65 73 ")?;
-    check(
-        &rt,
-        b"",
-        None,
-        &ValueRef::Octets(b" ~a\"b\\c"),
-        b"STRING: \" ~a\\\"b\\\\c\"",
-    )?;
-    check(
-        &rt,
-        b"",
-        None,
-        &ValueRef::Octets(b"\x00\x16\x3e"),
-        b"Hex-STRING: 00 16 3E ",
-    )?;
-    check(
-        &rt,
-        b"",
-        None,
-        &ValueRef::Octets(b"a\x7f"),
-        b"Hex-STRING: 61 7F ",
-    )?;
-    check(
-        &rt,
-        b"a",
-        None,
-        &ValueRef::Octets(b"a\x7f\x1f\"\xff"),
-        b"STRING: \"a..\\\".\"",
-    )
-}
-
-#[test]
-fn hexadecimal_lines(rt: HostRuntime) -> Result<(), Fail> {
-    let octets =
-        b"\x00\x01\x02\x03\x04\x05\x06\x07\x08\x09\x0a\x0b\x0c\x0d\x0e\x0f\xf0\xe1\xd2\xc3\xb4\xa5\
-        \x96\x87\x78\x69\x5a\x4b\x3c\x2d\x1e\x0f";
-    let first = b"00 01 02 03 04 05 06 07 08 09 0A 0B 0C 0D 0E 0F ";
-    let all = b"00 01 02 03 04 05 06 07 08 09 0A 0B 0C 0D 0E 0F \n\
-        F0 E1 D2 C3 B4 A5 96 87 78 69 5A 4B 3C 2D 1E 0F ";
-    check(&rt, b"q", None, &ValueRef::Octets(&octets[..16]), first)?;
-    check(
-        &rt,
-        b"q",
-        None,
-        &ValueRef::Octets(&octets[..17]),
-        &all[..52],
-    )?;
-    check(&rt, b"q", None, &ValueRef::Opaque(octets), all)?;
-    check(&rt, b"", None, &ValueRef::Opaque(b"\xff"), b"OPAQUE: FF ")?;
-    check(&rt, b"a", None, &ValueRef::Opaque(b""), b"OPAQUE: ")
-}
-
-#[test]
-fn every_octet_as_text(rt: HostRuntime) -> Result<(), Fail> {
+fn every_octet_as_text(rt: HostRuntime) {
     for octet in 32..127 {
-        if octet == b'"' || octet == b'\\' {
-            check(
-                &rt,
-                b"q",
-                None,
-                &ValueRef::Octets(&[octet]),
-                &[b'"', b'\\', octet, b'"'],
-            )?;
-        } else {
-            check(
-                &rt,
-                b"q",
-                None,
-                &ValueRef::Octets(&[octet]),
-                &[b'"', octet, b'"'],
-            )?;
-        }
+        assert!(rt; is_shown_as_text(rt.alloc(), octet));
     }
     for octet in 127..=255 {
-        check(&rt, b"qa", None, &ValueRef::Octets(&[octet]), b"\".\"")?;
+        assert!(rt; shows_octet(rt.alloc(), b"qa", octet, b"\".\""));
     }
     for octet in 0..32 {
-        check(&rt, b"qa", None, &ValueRef::Octets(&[octet]), b"\".\"")?;
+        assert!(rt; shows_octet(rt.alloc(), b"qa", octet, b"\".\""));
     }
-    Ok(())
 }
 
-#[test]
-fn other_values(rt: HostRuntime) -> Result<(), Fail> {
-    check(
-        &rt,
+const OTHERS: &[Row] = &[
+    (
         b"",
-        None,
-        &ValueRef::IpAddress([192, 0, 2, 255]),
+        Value::IpAddress([192, 0, 2, 255]),
         b"IpAddress: 192.0.2.255",
-    )?;
-    check(
-        &rt,
+    ),
+    (b"q", Value::IpAddress([0, 10, 100, 9]), b"0.10.100.9"),
+    (b"", Value::Null, b"NULL"),
+    (b"q", Value::Null, b"NULL"),
+    (
         b"q",
-        None,
-        &ValueRef::IpAddress([0, 10, 100, 9]),
-        b"0.10.100.9",
-    )?;
-    check(&rt, b"", None, &ValueRef::Null, b"NULL")?;
-    check(&rt, b"q", None, &ValueRef::Null, b"NULL")?;
-    check(
-        &rt,
-        b"q",
-        None,
-        &ValueRef::NoSuchObject,
+        Value::NoSuchObject,
         b"No Such Object available on this agent at this OID",
-    )?;
-    check(
-        &rt,
+    ),
+    (
         b"",
-        None,
-        &ValueRef::NoSuchInstance,
+        Value::NoSuchInstance,
         b"No Such Instance currently exists at this OID",
-    )?;
-    check(
-        &rt,
+    ),
+    (
         b"Q",
-        None,
-        &ValueRef::EndOfMibView,
+        Value::EndOfMibView,
         b"No more variables left in this MIB View (It is past the end of the MIB tree)",
-    )
-}
+    ),
+];
 
 #[test]
-fn hints_and_units(rt: HostRuntime) -> Result<(), Fail> {
+fn other_values(rt: HostRuntime) {
+    assert_rows(&rt, rt.alloc(), None, OTHERS);
+}
+
+const HUNDREDTHS: &[Row] = &[
+    (b"", Value::Integer(-5), b"INTEGER: -0.05 degrees"),
+    (b"q", Value::Integer(2050), b"20.50 degrees"),
+    (b"U", Value::Integer(2050), b"INTEGER: 20.50"),
+    (b"e", Value::Integer(1), b"INTEGER: 0.01 degrees"),
+    (b"", Value::Gauge32(5), b"Gauge32: 5"),
+    (b"", Value::Octets(b"a"), b"STRING: \"a\""),
+];
+
+const BINARY: &[Row] = &[(b"", Value::Gauge32(5), b"Gauge32: 101 jobs")];
+
+const JOBS: &[Row] = &[(b"", Value::Gauge32(5), b"Gauge32: 5 jobs")];
+
+const PACKETS: &[Row] = &[
+    (b"", Value::Counter32(255), b"Counter32: 255 packets"),
+    (b"", Value::Counter64(255), b"Counter64: 255"),
+];
+
+const OCTETS_COUNTED: &[Row] = &[
+    (b"", Value::Counter64(9), b"Counter64: 9 octets"),
+    (b"U", Value::Counter64(9), b"Counter64: 9"),
+];
+
+const TIME: &[Row] = &[
+    (b"", Value::TimeTicks(0), b"Timeticks: (0) 0:00:00.00 ticks"),
+    (b"t", Value::TimeTicks(3), b"3 ticks"),
+    (b"q", Value::TimeTicks(3), b"0:0:00:00.03 ticks"),
+];
+
+#[test]
+fn hints_and_units(rt: HostRuntime) {
     let hundredths = ValueSyntax::new(ValueBase::Integer, &[], Some(b"d-2"), Some(b"degrees"));
-    check(
-        &rt,
-        b"",
-        Some(&hundredths),
-        &ValueRef::Integer(-5),
-        b"INTEGER: -0.05 degrees",
-    )?;
-    check(
-        &rt,
-        b"q",
-        Some(&hundredths),
-        &ValueRef::Integer(2050),
-        b"20.50 degrees",
-    )?;
-    check(
-        &rt,
-        b"U",
-        Some(&hundredths),
-        &ValueRef::Integer(2050),
-        b"INTEGER: 20.50",
-    )?;
-    check(
-        &rt,
-        b"e",
-        Some(&hundredths),
-        &ValueRef::Integer(1),
-        b"INTEGER: 0.01 degrees",
-    )?;
-    check(
-        &rt,
-        b"",
-        Some(&hundredths),
-        &ValueRef::Gauge32(5),
-        b"Gauge32: 5",
-    )?;
-    check(
-        &rt,
-        b"",
-        Some(&hundredths),
-        &ValueRef::Octets(b"a"),
-        b"STRING: \"a\"",
-    )?;
+    assert_rows(&rt, rt.alloc(), Some(&hundredths), HUNDREDTHS);
     let bits = ValueSyntax::new(ValueBase::Gauge32, &[], Some(b"b"), Some(b"jobs"));
-    check(
-        &rt,
-        b"",
-        Some(&bits),
-        &ValueRef::Gauge32(5),
-        b"Gauge32: 101 jobs",
-    )?;
+    assert_rows(&rt, rt.alloc(), Some(&bits), BINARY);
     let jobs = ValueSyntax::new(ValueBase::Gauge32, &[], Some(b"1x:"), Some(b"jobs"));
-    check(
-        &rt,
-        b"",
-        Some(&jobs),
-        &ValueRef::Gauge32(5),
-        b"Gauge32: 5 jobs",
-    )?;
+    assert_rows(&rt, rt.alloc(), Some(&jobs), JOBS);
     let packets = ValueSyntax::new(ValueBase::Counter32, &[], Some(b"x"), Some(b"packets"));
-    check(
-        &rt,
-        b"",
-        Some(&packets),
-        &ValueRef::Counter32(255),
-        b"Counter32: 255 packets",
-    )?;
-    check(
-        &rt,
-        b"",
-        Some(&packets),
-        &ValueRef::Counter64(255),
-        b"Counter64: 255",
-    )?;
+    assert_rows(&rt, rt.alloc(), Some(&packets), PACKETS);
     let octets = ValueSyntax::new(ValueBase::Counter64, &[], None, Some(b"octets"));
-    check(
-        &rt,
-        b"",
-        Some(&octets),
-        &ValueRef::Counter64(9),
-        b"Counter64: 9 octets",
-    )?;
-    check(
-        &rt,
-        b"U",
-        Some(&octets),
-        &ValueRef::Counter64(9),
-        b"Counter64: 9",
-    )?;
+    assert_rows(&rt, rt.alloc(), Some(&octets), OCTETS_COUNTED);
     let time = ValueSyntax::new(ValueBase::TimeTicks, &[], None, Some(b"ticks"));
-    check(
-        &rt,
-        b"",
-        Some(&time),
-        &ValueRef::TimeTicks(0),
-        b"Timeticks: (0) 0:00:00.00 ticks",
-    )?;
-    check(&rt, b"t", Some(&time), &ValueRef::TimeTicks(3), b"3 ticks")?;
-    check(
-        &rt,
-        b"q",
-        Some(&time),
-        &ValueRef::TimeTicks(3),
-        b"0:0:00:00.03 ticks",
-    )
+    assert_rows(&rt, rt.alloc(), Some(&time), TIME);
 }
 
+const ADDRESSES: &[Row] = &[
+    (b"", Value::Octets(b"\x00\x16\x3e"), b"STRING: 0:16:3e"),
+    (b"qx", Value::Octets(b"\x00\x16\x3e"), b"0:16:3e"),
+    (b"a", Value::Octets(b""), b"STRING: "),
+    (b"", Value::Opaque(b"\x01"), b"OPAQUE: 01 "),
+];
+
+const WITH_HINT_OF_NUMBERS: &[Row] = &[(b"", Value::Octets(b"wes"), b"STRING: \"wes\"")];
+
 #[test]
-fn strings_with_a_hint(rt: HostRuntime) -> Result<(), Fail> {
+fn strings_with_a_hint(rt: HostRuntime) {
     let mac = ValueSyntax::new(ValueBase::OctetString, &[], Some(b"1x:"), None);
-    let value = ValueRef::Octets(b"\x00\x16\x3e");
-    check(&rt, b"", Some(&mac), &value, b"STRING: 0:16:3e")?;
-    check(&rt, b"qx", Some(&mac), &value, b"0:16:3e")?;
-    check(&rt, b"a", Some(&mac), &ValueRef::Octets(b""), b"STRING: ")?;
-    check(
-        &rt,
-        b"",
-        Some(&mac),
-        &ValueRef::Opaque(b"\x01"),
-        b"OPAQUE: 01 ",
-    )?;
+    assert_rows(&rt, rt.alloc(), Some(&mac), ADDRESSES);
     let number = ValueSyntax::new(ValueBase::OctetString, &[], Some(b"d"), Some(b"m"));
-    check(
-        &rt,
-        b"",
-        Some(&number),
-        &ValueRef::Octets(b"wes"),
-        b"STRING: \"wes\"",
-    )
+    assert_rows(&rt, rt.alloc(), Some(&number), WITH_HINT_OF_NUMBERS);
+}
+
+/// The name with its number, from their texts.
+fn named(rt: &impl Abort, alloc: Global, name: &[u8], number: &[u8]) -> NamedNumber
+    requires { is_word name.now ≡ true }
+{
+    let name = Vec::from_slice(alloc, name).expect(rt, "memory");
+    let number = Vec::from_slice(alloc, number).expect(rt, "memory");
+    NamedNumber {
+        name: Name {
+            octets: Text::new(name),
+        },
+        number: Text::new(number),
+    }
 }
 
 /// `up(1)`, `down(2)` and `again(1)`.
-fn states(rt: &HostRuntime) -> Result<[NamedNumber; 3], Fail> {
-    Ok([
-        NamedNumber {
-            name: Name {
-                octets: Text::new(Vec::from_slice(rt.alloc(), b"up")?),
-            },
-            number: Text::new(Vec::from_slice(rt.alloc(), b"1")?),
-        },
-        NamedNumber {
-            name: Name {
-                octets: Text::new(Vec::from_slice(rt.alloc(), b"down")?),
-            },
-            number: Text::new(Vec::from_slice(rt.alloc(), b"002")?),
-        },
-        NamedNumber {
-            name: Name {
-                octets: Text::new(Vec::from_slice(rt.alloc(), b"again")?),
-            },
-            number: Text::new(Vec::from_slice(rt.alloc(), b"1")?),
-        },
-    ])
+fn states(rt: &impl Abort, alloc: Global) -> [NamedNumber; 3] {
+    let up = named(rt, alloc, b"up", b"1");
+    let down = named(rt, alloc, b"down", b"002");
+    let again = named(rt, alloc, b"again", b"1");
+    [up, down, again]
 }
 
+const STATES: &[Row] = &[
+    (b"", Value::Integer(1), b"INTEGER: up(1)"),
+    (b"", Value::Integer(2), b"INTEGER: down(2)"),
+    (b"q", Value::Integer(1), b"up"),
+    (b"Q", Value::Integer(2), b"down"),
+    (b"e", Value::Integer(1), b"INTEGER: 1"),
+    (b"qe", Value::Integer(1), b"1"),
+    (b"", Value::Integer(3), b"INTEGER: 0.03 m"),
+    (b"", Value::Integer(-1), b"INTEGER: -0.01 m"),
+    (b"", Value::Gauge32(1), b"Gauge32: 1"),
+];
+
 #[test]
-fn names_of_numbers(rt: HostRuntime) -> Result<(), Fail> {
-    let names = states(&rt)?;
+fn names_of_numbers(rt: HostRuntime) {
+    let names = states(&rt, rt.alloc());
     let state = ValueSyntax::new(ValueBase::Integer, &names, Some(b"d-2"), Some(b"m"));
-    check(
-        &rt,
-        b"",
-        Some(&state),
-        &ValueRef::Integer(1),
-        b"INTEGER: up(1)",
-    )?;
-    check(
-        &rt,
-        b"",
-        Some(&state),
-        &ValueRef::Integer(2),
-        b"INTEGER: down(2)",
-    )?;
-    check(&rt, b"q", Some(&state), &ValueRef::Integer(1), b"up")?;
-    check(&rt, b"Q", Some(&state), &ValueRef::Integer(2), b"down")?;
-    check(
-        &rt,
-        b"e",
-        Some(&state),
-        &ValueRef::Integer(1),
-        b"INTEGER: 1",
-    )?;
-    check(&rt, b"qe", Some(&state), &ValueRef::Integer(1), b"1")?;
-    check(
-        &rt,
-        b"",
-        Some(&state),
-        &ValueRef::Integer(3),
-        b"INTEGER: 0.03 m",
-    )?;
-    check(
-        &rt,
-        b"",
-        Some(&state),
-        &ValueRef::Integer(-1),
-        b"INTEGER: -0.01 m",
-    )?;
-    check(&rt, b"", Some(&state), &ValueRef::Gauge32(1), b"Gauge32: 1")
+    assert_rows(&rt, rt.alloc(), Some(&state), STATES);
 }
 
+const FLAGS: &[Row] = &[
+    (b"", Value::Octets(b""), b"BITS: "),
+    (b"q", Value::Octets(b""), b""),
+    (b"", Value::Octets(b"\x00"), b"BITS: 00 "),
+    (b"", Value::Octets(b"\xe0"), b"BITS: E0 0 up(1) down(2) "),
+    (b"qe", Value::Octets(b"\xe0"), b"E0 0 1 2 "),
+    (b"qa", Value::Octets(b"\x1f\x81"), b"1F 81 3 4 5 6 7 8 15 "),
+    (b"x", Value::Octets(b"@\x01"), b"BITS: 40 01 up(1) 15 "),
+];
+
 #[test]
-fn bits(rt: HostRuntime) -> Result<(), Fail> {
-    let names = states(&rt)?;
+fn bits(rt: HostRuntime) {
+    let names = states(&rt, rt.alloc());
     let flags = ValueSyntax::new(ValueBase::Bits, &names, Some(b"1x:"), Some(b"m"));
-    check(&rt, b"", Some(&flags), &ValueRef::Octets(b""), b"BITS: ")?;
-    check(&rt, b"q", Some(&flags), &ValueRef::Octets(b""), b"")?;
-    check(
-        &rt,
-        b"",
-        Some(&flags),
-        &ValueRef::Octets(b"\x00"),
-        b"BITS: 00 ",
-    )?;
-    check(
-        &rt,
-        b"",
-        Some(&flags),
-        &ValueRef::Octets(b"\xe0"),
-        b"BITS: E0 0 up(1) down(2) ",
-    )?;
-    check(
-        &rt,
-        b"qe",
-        Some(&flags),
-        &ValueRef::Octets(b"\xe0"),
-        b"E0 0 1 2 ",
-    )?;
-    check(
-        &rt,
-        b"qa",
-        Some(&flags),
-        &ValueRef::Octets(b"\x1f\x81"),
-        b"1F 81 3 4 5 6 7 8 15 ",
-    )?;
-    check(
-        &rt,
-        b"x",
-        Some(&flags),
-        &ValueRef::Octets(b"@\x01"),
-        b"BITS: 40 01 up(1) 15 ",
-    )
+    assert_rows(&rt, rt.alloc(), Some(&flags), FLAGS);
 }
