@@ -188,16 +188,22 @@ fn received<'a>(rt: &impl Abort, door: &UdpSocket, buffer: &'a mut [u8; 1472]) -
     buffer.get(..size).unwrap_or(&[])
 }
 
-/// The walk over this link, to which this door doesn't reply, sends its first request twice.
-fn assert_silent(rt: &impl Abort, wire: &mut UdpLink, door: &UdpSocket) {
-    assert!(rt; walk_gives(wire, core_of(rt), 1, &WalkEnd::NoResponse, 0, 0));
-    assert!(rt; wire.faults() == 0);
+/// Whether two datagrams came to this door that are the same and not empty, and no third.
+fn has_two_alike(rt: &impl Abort, door: &UdpSocket) -> bool {
     let mut first = [0; 1472];
     let mut second = [0; 1472];
     let mut third = [0; 1472];
     let request = received(rt, door, &mut first);
-    assert!(rt; !request.is_empty() && request == received(rt, door, &mut second));
-    assert!(rt; door.recv_from(&mut third).is_err());
+    !request.is_empty()
+        && request == received(rt, door, &mut second)
+        && door.recv_from(&mut third).is_err()
+}
+
+/// The walk over this link, to which this door doesn't reply, sends its first request twice.
+fn assert_silent(rt: &impl Abort, wire: &mut UdpLink, door: &UdpSocket) {
+    assert!(rt; walk_gives(wire, core_of(rt), 1, &WalkEnd::NoResponse, 0, 0));
+    assert!(rt; wire.faults() == 0);
+    assert!(rt; has_two_alike(rt, door));
 }
 
 #[test]
@@ -259,10 +265,16 @@ fn is_bind_refused<N: Net>(
     links.bind(host, port).is_err() && links.faults() == number
 }
 
+/// Whether the port of an open door is refused, as the third fault.
+fn is_port_refused<N: Net>(rt: &impl Abort, links: &mut MachineLinks<N>) -> bool {
+    let door = open_door(rt, links);
+    is_bind_refused(links, "127.0.0.1", port_of(rt, &door), 3)
+}
+
 /// Whether a datagram that is too long isn't sent, and this is the first fault.
-fn is_send_refused(wire: &mut UdpLink) -> bool {
-    let long = [0; 65508];
-    wire.send(&long).is_err() && wire.faults() == 1
+fn is_send_refused<N: Net>(rt: &impl Abort, links: &mut MachineLinks<N>) -> bool {
+    let mut wire = links.open("127.0.0.1", 1, 1).expect(rt, "a link");
+    wire.send(&[0; 65508]).is_err() && wire.faults() == 1
 }
 
 #[test]
@@ -270,11 +282,8 @@ fn each_refusal_is_counted(rt: HostRuntime) {
     let mut links = MachineLinks::new(&rt);
     assert!(rt; is_open_refused(&mut links, "::1", 1));
     assert!(rt; is_bind_refused(&mut links, "::1", 161, 2));
-    let door = open_door(&rt, &mut links);
-    let port = port_of(&rt, &door);
-    assert!(rt; is_bind_refused(&mut links, "127.0.0.1", port, 3));
-    let mut wire = links.open("127.0.0.1", 1, 1).expect(&rt, "a link");
-    assert!(rt; is_send_refused(&mut wire));
+    assert!(rt; is_port_refused(&rt, &mut links));
+    assert!(rt; is_send_refused(&rt, &mut links));
 }
 
 /// Whether a receive at this door waits a second.
@@ -282,11 +291,14 @@ fn waits_a_second(door: &UdpSocket) -> bool {
     matches!(door.read_timeout(), Ok(Some(time)) if time == Duration::from_secs(1))
 }
 
+/// Whether a turn at a door to which nothing comes waits a second, and is idle.
+fn is_idle_turn<N: Net>(rt: &impl Abort, links: &mut MachineLinks<N>, table: &Table) -> bool {
+    let mut door = links.bind("localhost", 0).expect(rt, "a door");
+    waits_a_second(&door) && links.serve(&mut door, table, &public(), 1).idle == 1
+}
+
 #[test]
 fn a_turn_takes_a_second_at_most(rt: HostRuntime) {
     let table = three(&rt, rt.alloc());
-    let mut links = MachineLinks::new(&rt);
-    let mut door = links.bind("localhost", 0).expect(&rt, "a door");
-    assert!(rt; waits_a_second(&door));
-    assert!(rt; links.serve(&mut door, &table, &public(), 1).idle == 1);
+    assert!(rt; is_idle_turn(&rt, &mut MachineLinks::new(&rt), &table));
 }

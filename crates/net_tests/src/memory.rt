@@ -66,26 +66,31 @@ fn table_of(rt: &impl Abort, alloc: Global, text: &[u8]) -> Table {
     Table::read(alloc, text).expect(rt, "a table")
 }
 
-#[test]
-fn each_agent_has_its_link(rt: HostRuntime) {
-    let one = table_of(&rt, rt.alloc(), b"1.3.6.1.2.1.1.5.0|4|wes\n");
-    let none = table_of(&rt, rt.alloc(), b"");
-    let agent = |host, port, table| MemoryAgent {
-        host,
+/// The agent at this port of host `a`.
+fn agent(port: u16, table: &Table) -> MemoryAgent<'_> {
+    MemoryAgent {
+        host: "a",
         port,
         table,
         config: PUBLIC,
         deliveries: &[],
-    };
-    let agents = [
-        agent("a", 161, &one),
-        agent("a", 162, &none),
-        agent("a", 161, &none),
-    ];
+    }
+}
+
+/// The links to three agents, two of them at one port, reach the first at each port.
+fn assert_links(rt: &impl Abort, alloc: Global, one: &Table, none: &Table) {
+    let agents = [agent(161, one), agent(162, none), agent(161, none)];
     let requests = [GET.as_slice(), b"no message".as_slice()];
-    let mut links = MemoryLinks::new(rt.alloc(), &agents, &requests);
-    assert_rows(&rt, &mut links, 161, 1);
-    assert_rows(&rt, &mut links, 162, 0);
+    let mut links = MemoryLinks::new(alloc, &agents, &requests);
+    assert_rows(rt, &mut links, 161, 1);
+    assert_rows(rt, &mut links, 162, 0);
     assert!(rt; are_refusals_counted(&mut links));
-    assert_served(&rt, &mut links, &one);
+    assert_served(rt, &mut links, one);
+}
+
+#[test]
+fn each_agent_has_its_link(rt: HostRuntime) {
+    let one = table_of(&rt, rt.alloc(), b"1.3.6.1.2.1.1.5.0|4|wes\n");
+    let none = table_of(&rt, rt.alloc(), b"");
+    assert_links(&rt, rt.alloc(), &one, &none);
 }

@@ -1,39 +1,63 @@
 //! Which words name agents.
 
 use snmp_net::{AgentAddress, UdpAddress};
-use std::process::Abort;
 
-fn assert_udp(rt: &impl Abort, word: &str, host: &str, port: u16) {
+/// Whether the word means the agent at this port of this host.
+fn is_udp(word: &str, host: &str, port: u16) -> bool {
     let at = UdpAddress { host, port };
-    assert!(rt; AgentAddress::read(word) == Some(AgentAddress::Udp(at)));
+    AgentAddress::read(word) == Some(AgentAddress::Udp(at))
+}
+
+/// Whether the word means the agent of the table in this file.
+fn is_table(word: &str, path: &str) -> bool {
+    AgentAddress::read(word) == Some(AgentAddress::Table(path))
+}
+
+/// Whether the word means no agent.
+fn is_no_agent(word: &str) -> bool {
+    AgentAddress::read(word).is_none()
+}
+
+/// Whether the word means no place to listen.
+fn is_no_place(word: &str) -> bool {
+    UdpAddress::read(word).is_none()
 }
 
 #[test]
 fn words_for_agents_are_read(rt: HostRuntime) {
-    assert_udp(&rt, "router", "router", 161);
-    assert_udp(&rt, "192.0.2.1", "192.0.2.1", 161);
-    assert_udp(&rt, "192.0.2.1:1161", "192.0.2.1", 1161);
-    assert_udp(&rt, "udp:router", "router", 161);
-    assert_udp(&rt, "udp:router:1", "router", 1);
-    assert_udp(&rt, "router:65535", "router", 65535);
-    assert_udp(&rt, "router:0161", "router", 161);
-    assert_udp(&rt, "router:000000000000000000000000161", "router", 161);
-    assert_udp(&rt, "udp", "udp", 161);
-    assert_udp(&rt, "udp:161", "161", 161);
-    assert_udp(&rt, "table", "table", 161);
-    assert_udp(&rt, "udp:table", "table", 161);
-    assert_udp(&rt, "udp:table:162", "table", 162);
-    let path = AgentAddress::read("table:three.tab");
-    assert!(rt; path == Some(AgentAddress::Table("three.tab")));
-    let path = AgentAddress::read("table:udp:a:b");
-    assert!(rt; path == Some(AgentAddress::Table("udp:a:b")));
-    let path = AgentAddress::read("table:161");
-    assert!(rt; path == Some(AgentAddress::Table("161")));
+    // The word, and the host and the port of the agent.
+    const AGENTS: &[(&str, &str, u16)] = &[
+        ("router", "router", 161),
+        ("192.0.2.1", "192.0.2.1", 161),
+        ("192.0.2.1:1161", "192.0.2.1", 1161),
+        ("udp:router", "router", 161),
+        ("udp:router:1", "router", 1),
+        ("router:65535", "router", 65535),
+        ("router:0161", "router", 161),
+        ("router:000000000000000000000000161", "router", 161),
+        ("udp", "udp", 161),
+        ("udp:161", "161", 161),
+        ("table", "table", 161),
+        ("udp:table", "table", 161),
+        ("udp:table:162", "table", 162),
+    ];
+    for &(word, host, port) in AGENTS {
+        assert!(rt; is_udp(word, host, port));
+    }
+    // The word, and the path of the agent's table.
+    const TABLES: &[(&str, &str)] = &[
+        ("table:three.tab", "three.tab"),
+        ("table:udp:a:b", "udp:a:b"),
+        ("table:161", "161"),
+    ];
+    for &(word, path) in TABLES {
+        assert!(rt; is_table(word, path));
+    }
 }
 
 #[test]
 fn other_words_name_no_agent(rt: HostRuntime) {
-    let words = [
+    const WORDS: &[&str] = &[
         "",
         ":",
         ":161",
@@ -54,19 +78,20 @@ fn other_words_name_no_agent(rt: HostRuntime) {
         "udp:udp:a:1",
         "a:99999999999999999999",
     ];
-    for word in words {
-        assert!(rt; AgentAddress::read(word).is_none());
+    for word in WORDS {
+        assert!(rt; is_no_agent(word));
     }
+}
+
+/// Whether the word is a place to listen, at this port of this host.
+fn is_place(word: &str, host: &str, port: u16) -> bool {
+    UdpAddress::read(word) == Some(UdpAddress { host, port })
 }
 
 #[test]
 fn a_place_to_listen_has_its_port(rt: HostRuntime) {
-    let at = UdpAddress {
-        host: "127.0.0.1",
-        port: 16161,
-    };
-    assert!(rt; UdpAddress::read("127.0.0.1:16161") == Some(at));
-    let words = [
+    assert!(rt; is_place("127.0.0.1:16161", "127.0.0.1", 16161));
+    const WORDS: &[&str] = &[
         "127.0.0.1",
         "udp:127.0.0.1:161",
         "a:",
@@ -77,7 +102,7 @@ fn a_place_to_listen_has_its_port(rt: HostRuntime) {
         "table:x",
         "",
     ];
-    for word in words {
-        assert!(rt; UdpAddress::read(word).is_none());
+    for word in WORDS {
+        assert!(rt; is_no_place(word));
     }
 }
