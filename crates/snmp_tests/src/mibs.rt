@@ -1,12 +1,11 @@
 //! Names and types by module files.
 
-use snmp_io::memory::{MemoryFiles, MemoryOutput};
-use snmp_net::memory::MemoryLinks;
-use snmp_tools::tool;
-use std::test::Fail;
+use crate::run::{Held, NO_LIMITS, Run, assert_refused, prints};
+use std::alloc::{AllocError, Global};
+use std::process::Abort;
 
 /// Two modules in one file: the second imports what there isn't, and has a cycle.
-const TINY: &str = "TINY-SMI DEFINITIONS ::= BEGIN
+const TINY: &[u8] = b"TINY-SMI DEFINITIONS ::= BEGIN
 enterprises OBJECT IDENTIFIER ::= { private 1 }
 private     OBJECT IDENTIFIER ::= { internet 4 }
 internet    OBJECT IDENTIFIER ::= { iso org(3) dod(6) 1 }
@@ -41,7 +40,7 @@ END
 ";
 
 /// The lines of their warnings.
-const WARNINGS: &[u8] = b"snmp: TINY-MIB imports absent from TINY-SMI, which has no absent\n\
+const WARNINGS: &str = "snmp: TINY-MIB imports absent from TINY-SMI, which has no absent\n\
 snmp: TINY-MIB imports from GONE-MIB, which is not loaded\n\
 snmp: TINY-MIB::loopA stands on a cycle\nsnmp: TINY-MIB::loopB stands on a cycle\n";
 
@@ -51,242 +50,333 @@ const TABLE: &[u8] = b"object 1.3.6.1.4.1.32473.1\n1.3.6.1.4.1.32473.1.0|2|1\n\
 1.3.6.1.4.1.32473.3.1.1.119.101.115|66|5\n";
 
 /// Its lines.
-const LINES: &[u8] = b"TINY-MIB::tinyState.0 = INTEGER: up(1)\n\
+const LINES: &str = "TINY-MIB::tinyState.0 = INTEGER: up(1)\n\
 TINY-MIB::tinyMac.\"wes\" = STRING: 0:16:3e:5a:78:8e\n\
 TINY-MIB::tinyKeyUse.'wes' = Gauge32: 5 jobs\n";
 
 /// A module whose names stand on those of the others, without a warning.
-const MORE: &str = "MORE-MIB DEFINITIONS ::= BEGIN
+const MORE: &[u8] = b"MORE-MIB DEFINITIONS ::= BEGIN
 IMPORTS tiny FROM TINY-MIB;
 more OBJECT IDENTIFIER ::= { tiny 9 }
 END
 ";
 
 /// A module whose third line has a fault.
-const FAULTY: &str = "BAD-MIB DEFINITIONS ::= BEGIN
+const FAULTY: &[u8] = b"BAD-MIB DEFINITIONS ::= BEGIN
 x OBJECT IDENTIFIER ::= { iso 1 }
 ::= END
 ";
 
-/// Whether the words, over the files of these tests, print these lines, write a front of these
-/// messages, as much of it as the error output takes, and have this status.
-fn prints(
-    rt: &HostRuntime,
-    limit: usize,
-    words: &[&str],
-    lines: &[u8],
-    messages: &[u8],
+/// The files of these tests.
+const FILES: Held<'static> = &[
+    ("tiny.txt", TINY),
+    ("more.txt", MORE),
+    ("bad.txt", FAULTY),
+    ("tiny.tab", TABLE),
+    ("more.tab", b"1.3.6.1.4.1.32473.9.1|2|7\n"),
+    ("bad.tab", b"x\n"),
+];
+
+/// Whether the command line prints these lines, the warnings and then this message, and has this
+/// status.
+fn warns(
+    alloc: Global,
+    line: &str,
+    lines: &str,
+    message: &str,
     status: u8,
-) -> bool {
-    let held = [
-        ("tiny.txt", TINY.as_bytes()),
-        ("more.txt", MORE.as_bytes()),
-        ("bad.txt", FAULTY.as_bytes()),
-        ("tiny.tab", TABLE),
-        ("more.tab", b"1.3.6.1.4.1.32473.9.1|2|7\n".as_slice()),
-        ("bad.tab", b"x\n".as_slice()),
-    ];
-    let files = MemoryFiles { files: &held };
-    let mut out = MemoryOutput::new(rt.alloc());
-    let mut err = MemoryOutput::with_limit(rt.alloc(), limit);
-    let mut links = MemoryLinks::new(rt.alloc(), &[], &[]);
-    let ended = tool(rt.alloc(), words, &files, &mut links, &mut out, &mut err);
-    let written = err.octets();
-    ended == status
-        && out.octets() == lines
-        && messages.starts_with(written)
-        && written.len() == limit.min(messages.len())
+) -> Result<bool, AllocError> {
+    let text = format!(in alloc; "{WARNINGS}{message}")?;
+    prints(
+        alloc,
+        FILES,
+        NO_LIMITS,
+        (line, lines, text.as_str(), status),
+    )
 }
 
-/// Whether the words print these lines, nothing else but the warnings, and are done.
-fn shows(rt: &HostRuntime, words: &[&str], lines: &[u8]) -> bool {
-    prints(rt, 1000, words, lines, WARNINGS, 0)
+/// Asserts that each of the command lines prints these lines, nothing else but the warnings, and
+/// is done.
+fn assert_shows(rt: &impl Abort, alloc: Global, cases: &[(&str, &str)]) {
+    for (line, lines) in cases {
+        assert!(rt;
+            matches!(warns(alloc, line, lines, "", 0), Ok(true)),
+            "{line}"
+        );
+    }
 }
 
-/// Whether the words print this message alone, with status 1.
-fn refuses(rt: &HostRuntime, words: &[&str], message: &[u8]) -> bool {
-    prints(rt, 1000, words, b"", message, 1)
-}
-
-/// The warnings and then this message.
-fn warned(rt: &HostRuntime, message: &[u8]) -> Result<Vec<u8>, Fail> {
-    let mut text = Vec::from_slice(rt.alloc(), WARNINGS)?;
-    text.extend_from_slice(message)?;
-    Ok(text)
-}
-
-/// The words of a walk by the names of `tiny.txt`.
-fn tiny<'a>(option: &'a str, agent: &'a str, name: &'a str) -> [&'a str; 6] {
-    ["snmp", "snmpwalk", "--mib=tiny.txt", option, agent, name]
-}
-
-/// The words of a walk by the names of two files.
-fn both<'a>(one: &'a str, other: &'a str, agent: &'a str, name: &'a str) -> [&'a str; 6] {
-    ["snmp", "snmpbulkwalk", one, other, agent, name]
+/// Asserts that each of the command lines prints no line, the warnings and then this message, and
+/// has status 1.
+fn assert_warned(rt: &impl Abort, alloc: Global, cases: &[(&str, &str)]) {
+    for (line, message) in cases {
+        assert!(rt;
+            matches!(warns(alloc, line, "", message, 1), Ok(true)),
+            "{line}"
+        );
+    }
 }
 
 #[test]
-fn lines_by_module_files(rt: HostRuntime) -> Result<(), Fail> {
-    let quick = b"tinyState.0 up\ntinyMac.\"wes\" 0:16:3e:5a:78:8e\ntinyKeyUse.'wes' 5 jobs\n";
-    let values = b"up\n0:16:3e:5a:78:8e\n5 jobs\n";
-    let numeric = b".1.3.6.1.4.1.32473.1.0 = INTEGER: 1\n\
+fn lines_by_module_files(rt: HostRuntime) {
+    assert_shows(
+        &rt,
+        rt.alloc(),
+        &[
+            ("snmp snmpwalk --mib tiny.txt table:tiny.tab tiny", LINES),
+            (
+                "snmp snmpwalk --mib=tiny.txt -Oqs table:tiny.tab tiny",
+                "tinyState.0 up\ntinyMac.\"wes\" 0:16:3e:5a:78:8e\ntinyKeyUse.'wes' 5 jobs\n",
+            ),
+            (
+                "snmp snmpwalk --mib=tiny.txt -Oqv table:tiny.tab tiny",
+                "up\n0:16:3e:5a:78:8e\n5 jobs\n",
+            ),
+            (
+                "snmp snmpwalk --mib=tiny.txt -OneU table:tiny.tab tiny",
+                ".1.3.6.1.4.1.32473.1.0 = INTEGER: 1\n\
 .1.3.6.1.4.1.32473.2.1.2.3.119.101.115 = STRING: 0:16:3e:5a:78:8e\n\
-.1.3.6.1.4.1.32473.3.1.1.119.101.115 = Gauge32: 5\n";
-    let plain = [
-        "snmp",
-        "snmpwalk",
-        "--mib",
-        "tiny.txt",
-        "table:tiny.tab",
-        "tiny",
-    ];
-    assert!(rt; shows(&rt, &plain, LINES));
-    assert!(rt; shows(&rt, &tiny("-Oqs", "table:tiny.tab", "tiny"), quick));
-    assert!(rt; shows(&rt, &tiny("-Oqv", "table:tiny.tab", "tiny"), values));
-    assert!(rt; shows(&rt, &tiny("-OneU", "table:tiny.tab", "tiny"), numeric));
-    let bulk = [
-        "snmp",
-        "snmpbulkwalk",
-        "--mib=tiny.txt",
-        "table:tiny.tab",
-        "tiny",
-    ];
-    assert!(rt; shows(&rt, &bulk, LINES));
-    Ok(())
+.1.3.6.1.4.1.32473.3.1.1.119.101.115 = Gauge32: 5\n",
+            ),
+            (
+                "snmp snmpbulkwalk --mib=tiny.txt table:tiny.tab tiny",
+                LINES,
+            ),
+        ],
+    );
 }
 
 #[test]
-fn names_by_module_files(rt: HostRuntime) -> Result<(), Fail> {
-    let last = b"TINY-MIB::tinyKeyUse.'wes' = Gauge32: 5 jobs\n";
-    for name in [
-        "TINY-MIB::tinyKeyUse.'wes'",
-        "tinyKeyTable",
-        ".iso.3.6.internet.private.enterprises.tiny.3",
-        "1.3.6.1.4.1.32473.3",
-    ] {
-        assert!(rt; shows(&rt, &tiny("-OS", "table:tiny.tab", name), last));
+fn names_by_module_files(rt: HostRuntime) {
+    const LAST: &str = "TINY-MIB::tinyKeyUse.'wes' = Gauge32: 5 jobs\n";
+    assert_shows(
+        &rt,
+        rt.alloc(),
+        &[
+            (
+                "snmp snmpwalk --mib=tiny.txt -OS table:tiny.tab TINY-MIB::tinyKeyUse.'wes'",
+                LAST,
+            ),
+            (
+                "snmp snmpwalk --mib=tiny.txt -OS table:tiny.tab tinyKeyTable",
+                LAST,
+            ),
+            (
+                "snmp snmpwalk --mib=tiny.txt -OS table:tiny.tab \
+.iso.3.6.internet.private.enterprises.tiny.3",
+                LAST,
+            ),
+            (
+                "snmp snmpwalk --mib=tiny.txt -OS table:tiny.tab 1.3.6.1.4.1.32473.3",
+                LAST,
+            ),
+            (
+                "snmp snmpwalk --mib=tiny.txt --after=TINY-MIB::tinyMac.\"wes\" table:tiny.tab tiny",
+                LAST,
+            ),
+        ],
+    );
+}
+
+#[test]
+fn names_of_all_module_files(rt: HostRuntime) {
+    const LINE: &str = "MORE-MIB::more.1 = INTEGER: 7\n";
+    assert_shows(
+        &rt,
+        rt.alloc(),
+        &[
+            (
+                "snmp snmpbulkwalk --mib=tiny.txt --mib=more.txt table:more.tab more",
+                LINE,
+            ),
+            (
+                "snmp snmpbulkwalk --mib=more.txt --mib=tiny.txt table:more.tab more",
+                LINE,
+            ),
+        ],
+    );
+    let twice = "snmp snmpwalk --mib=tiny.txt --mib=more.txt --mib=more.txt table:more.tab tiny";
+    let message = "snmp: MORE-MIB is loaded twice\n";
+    assert!(rt; matches!(warns(rt.alloc(), twice, LINE, message, 0), Ok(true)));
+}
+
+#[test]
+fn module_files_that_are_refused(rt: HostRuntime) {
+    assert_refused(
+        &rt,
+        rt.alloc(),
+        FILES,
+        &[
+            (
+                "snmp snmpbulkwalk --mib=tiny.txt --mib=no.txt table:tiny.tab tiny",
+                "no.txt: cannot be read\n",
+            ),
+            (
+                "snmp snmpbulkwalk --mib=tiny.txt --mib=bad.txt table:tiny.tab tiny",
+                "bad.txt:3: syntax\n",
+            ),
+            (
+                "snmp snmpbulkwalk --mib=bad.txt --mib=no.txt table:tiny.tab tiny",
+                "bad.txt:3: syntax\n",
+            ),
+        ],
+    );
+}
+
+#[test]
+fn words_come_before_module_files_and_those_before_names(rt: HostRuntime) {
+    assert_refused(
+        &rt,
+        rt.alloc(),
+        FILES,
+        &[
+            (
+                "snmp snmpbulkwalk --mib=no.txt -v1 table:no.tab nowhere",
+                "Unknown version: 1\n",
+            ),
+            (
+                "snmp snmpbulkwalk --mib=no.txt -Oz table:no.tab nowhere",
+                "Unknown letter: z\n",
+            ),
+            (
+                "snmp snmpbulkwalk --mib=no.txt -Cz table:no.tab nowhere",
+                "Unknown letter: z\n",
+            ),
+            (
+                "snmp snmpwalk --mib=tiny.txt -Oz table:no.tab nowhere",
+                "Unknown letter: z\n",
+            ),
+            (
+                "snmp snmpbulkwalk --mib=no.txt -On table: nowhere",
+                "Bad agent address: table:\n",
+            ),
+            (
+                "snmp snmpbulkwalk --mib=no.txt -On table:no.tab nowhere",
+                "no.txt: cannot be read\n",
+            ),
+        ],
+    );
+}
+
+#[test]
+fn warnings_come_before_other_failures(rt: HostRuntime) {
+    assert_warned(
+        &rt,
+        rt.alloc(),
+        &[
+            (
+                "snmp snmpwalk --mib=tiny.txt -On table:no.tab nowhere",
+                "Unknown name: nowhere\n",
+            ),
+            (
+                "snmp snmpwalk --mib=tiny.txt --after=loopA table:no.tab tiny",
+                "Unknown name: loopA\n",
+            ),
+            (
+                "snmp snmpwalk --mib=tiny.txt -On table:no.tab tiny",
+                "no.tab: cannot be read\n",
+            ),
+            (
+                "snmp snmpwalk --mib=tiny.txt -On table:bad.tab tiny",
+                "bad.tab:1: bad line\n",
+            ),
+            (
+                "snmp snmpwalk --mib=tiny.txt -On table:tiny.tab .3",
+                "Name cannot be sent: .3\n",
+            ),
+            (
+                "snmp snmpwalk --mib=tiny.txt -On nobody tiny",
+                "The link failed.\n",
+            ),
+        ],
+    );
+}
+
+/// Asserts that the run is as well where standard error takes no more octets than one of these.
+fn assert_cut_off(rt: &impl Abort, alloc: Global, limits: &[usize], run: Run<'_>) {
+    for limit in limits {
+        let cut = prints(alloc, FILES, (usize::MAX, *limit), run);
+        assert!(rt; matches!(cut, Ok(true)), "{limit}");
     }
-    let after = "--after=TINY-MIB::tinyMac.\"wes\"";
-    assert!(rt; shows(&rt, &tiny(after, "table:tiny.tab", "tiny"), last));
-    Ok(())
 }
 
 #[test]
-fn names_of_all_module_files(rt: HostRuntime) -> Result<(), Fail> {
-    let line = b"MORE-MIB::more.1 = INTEGER: 7\n";
-    let (one, other) = ("--mib=tiny.txt", "--mib=more.txt");
-    assert!(rt; shows(&rt, &both(one, other, "table:more.tab", "more"), line));
-    assert!(rt; shows(&rt, &both(other, one, "table:more.tab", "more"), line));
-    let twice = [
-        "snmp",
-        "snmpwalk",
-        one,
-        other,
-        other,
-        "table:more.tab",
-        "tiny",
-    ];
-    let messages = warned(&rt, b"snmp: MORE-MIB is loaded twice\n")?;
-    assert!(rt; prints(&rt, 1000, &twice, line, &messages, 0));
-    Ok(())
+fn an_error_output_that_fails_changes_nothing_else(rt: HostRuntime) {
+    assert_cut_off(
+        &rt,
+        rt.alloc(),
+        &[0, 1, 64, 65, 66, 200],
+        (
+            "snmp snmpwalk --mib=tiny.txt -OS table:tiny.tab tiny",
+            LINES,
+            WARNINGS,
+            0,
+        ),
+    );
+    assert_cut_off(
+        &rt,
+        rt.alloc(),
+        &[0, 65, 200],
+        (
+            "snmp snmpwalk --mib=tiny.txt -OS table:tiny.tab nowhere",
+            "",
+            WARNINGS,
+            1,
+        ),
+    );
 }
 
 #[test]
-fn module_files_that_are_refused(rt: HostRuntime) -> Result<(), Fail> {
-    let (one, bad, absent) = ("--mib=tiny.txt", "--mib=bad.txt", "--mib=no.txt");
-    let words = both(one, absent, "table:tiny.tab", "tiny");
-    assert!(rt; refuses(&rt, &words, b"no.txt: cannot be read\n"));
-    let words = both(one, bad, "table:tiny.tab", "tiny");
-    assert!(rt; refuses(&rt, &words, b"bad.txt:3: syntax\n"));
-    let words = both(bad, absent, "table:tiny.tab", "tiny");
-    assert!(rt; refuses(&rt, &words, b"bad.txt:3: syntax\n"));
-    Ok(())
-}
-
-#[test]
-fn words_come_before_module_files_and_those_before_names(rt: HostRuntime) -> Result<(), Fail> {
-    let file = "--mib=no.txt";
-    let words = both(file, "-v1", "table:no.tab", "nowhere");
-    assert!(rt; refuses(&rt, &words, b"Unknown version: 1\n"));
-    let words = both(file, "-Oz", "table:no.tab", "nowhere");
-    assert!(rt; refuses(&rt, &words, b"Unknown letter: z\n"));
-    let words = both(file, "-Cz", "table:no.tab", "nowhere");
-    assert!(rt; refuses(&rt, &words, b"Unknown letter: z\n"));
-    let words = tiny("-Oz", "table:no.tab", "nowhere");
-    assert!(rt; refuses(&rt, &words, b"Unknown letter: z\n"));
-    let words = both(file, "-On", "table:", "nowhere");
-    assert!(rt; refuses(&rt, &words, b"Bad agent address: table:\n"));
-    let words = both(file, "-On", "table:no.tab", "nowhere");
-    assert!(rt; refuses(&rt, &words, b"no.txt: cannot be read\n"));
-    Ok(())
-}
-
-#[test]
-fn warnings_come_before_other_failures(rt: HostRuntime) -> Result<(), Fail> {
-    let words = tiny("-On", "table:no.tab", "nowhere");
-    assert!(rt; refuses(&rt, &words, &warned(&rt, b"Unknown name: nowhere\n")?));
-    let words = tiny("--after=loopA", "table:no.tab", "tiny");
-    assert!(rt; refuses(&rt, &words, &warned(&rt, b"Unknown name: loopA\n")?));
-    let words = tiny("-On", "table:no.tab", "tiny");
-    assert!(rt; refuses(&rt, &words, &warned(&rt, b"no.tab: cannot be read\n")?));
-    let words = tiny("-On", "table:bad.tab", "tiny");
-    assert!(rt; refuses(&rt, &words, &warned(&rt, b"bad.tab:1: bad line\n")?));
-    let words = tiny("-On", "table:tiny.tab", ".3");
-    assert!(rt; refuses(&rt, &words, &warned(&rt, b"Name cannot be sent: .3\n")?));
-    let words = tiny("-On", "nobody", "tiny");
-    assert!(rt; refuses(&rt, &words, &warned(&rt, b"The link failed.\n")?));
-    Ok(())
-}
-
-#[test]
-fn an_error_output_that_fails_changes_nothing_else(rt: HostRuntime) -> Result<(), Fail> {
-    let words = tiny("-OS", "table:tiny.tab", "tiny");
-    for limit in [0, 1, 64, 65, 66, 200] {
-        assert!(rt; prints(&rt, limit, &words, LINES, WARNINGS, 0));
-    }
-    let words = tiny("-OS", "table:tiny.tab", "nowhere");
-    for limit in [0, 65, 200] {
-        assert!(rt; prints(&rt, limit, &words, b"", WARNINGS, 1));
-    }
-    Ok(())
-}
-
-#[test]
-fn gets_by_module_files(rt: HostRuntime) -> Result<(), Fail> {
-    let (state, mac) = ("tinyState.0", "TINY-MIB::tinyMac.\"wes\"");
-    let words = [
-        "snmp",
-        "snmpget",
-        "--mib=tiny.txt",
-        "table:tiny.tab",
-        mac,
-        state,
-        "tinyState.1",
-    ];
-    let lines = b"TINY-MIB::tinyMac.\"wes\" = STRING: 0:16:3e:5a:78:8e\n\
+fn gets_by_module_files(rt: HostRuntime) {
+    assert_shows(
+        &rt,
+        rt.alloc(),
+        &[
+            (
+                "snmp snmpget --mib=tiny.txt table:tiny.tab TINY-MIB::tinyMac.\"wes\" tinyState.0 \
+tinyState.1",
+                "TINY-MIB::tinyMac.\"wes\" = STRING: 0:16:3e:5a:78:8e\n\
 TINY-MIB::tinyState.0 = INTEGER: up(1)\n\
-TINY-MIB::tinyState.1 = No Such Instance currently exists at this OID\n";
-    assert!(rt; shows(&rt, &words, lines));
-    let (snmp, snmpget, mib, values) = ("snmp", "snmpget", "--mib=tiny.txt", "-Oqv");
-    let words = [snmp, snmpget, mib, values, "table:tiny.tab", state, mac];
-    assert!(rt; shows(&rt, &words, b"up\n0:16:3e:5a:78:8e\n"));
-    let words = [snmp, snmpget, mib, values, "table:no.tab", state, "loopA"];
-    assert!(rt; refuses(&rt, &words, &warned(&rt, b"Unknown name: loopA\n")?));
-    let words = [snmp, snmpget, mib, values, "table:no.tab", state, ".3"];
-    assert!(rt; refuses(&rt, &words, &warned(&rt, b"no.tab: cannot be read\n")?));
-    let words = [snmp, snmpget, mib, values, "table:tiny.tab", state, ".3"];
-    assert!(rt; refuses(&rt, &words, &warned(&rt, b"Name cannot be sent: .3\n")?));
-    let words = [
-        snmp,
-        snmpget,
-        "--mib=bad.txt",
-        values,
-        "table:no.tab",
-        "loopA",
-        ".3",
-    ];
-    assert!(rt; refuses(&rt, &words, b"bad.txt:3: syntax\n"));
-    let words = [snmp, snmpget, mib, "-Oz", "table:no.tab", "loopA", ".3"];
-    assert!(rt; refuses(&rt, &words, b"Unknown letter: z\n"));
-    Ok(())
+TINY-MIB::tinyState.1 = No Such Instance currently exists at this OID\n",
+            ),
+            (
+                "snmp snmpget --mib=tiny.txt -Oqv table:tiny.tab tinyState.0 \
+TINY-MIB::tinyMac.\"wes\"",
+                "up\n0:16:3e:5a:78:8e\n",
+            ),
+        ],
+    );
+    assert_warned(
+        &rt,
+        rt.alloc(),
+        &[
+            (
+                "snmp snmpget --mib=tiny.txt -Oqv table:no.tab tinyState.0 loopA",
+                "Unknown name: loopA\n",
+            ),
+            (
+                "snmp snmpget --mib=tiny.txt -Oqv table:no.tab tinyState.0 .3",
+                "no.tab: cannot be read\n",
+            ),
+            (
+                "snmp snmpget --mib=tiny.txt -Oqv table:tiny.tab tinyState.0 .3",
+                "Name cannot be sent: .3\n",
+            ),
+        ],
+    );
+    assert_refused(
+        &rt,
+        rt.alloc(),
+        FILES,
+        &[
+            (
+                "snmp snmpget --mib=bad.txt -Oqv table:no.tab loopA .3",
+                "bad.txt:3: syntax\n",
+            ),
+            (
+                "snmp snmpget --mib=tiny.txt -Oz table:no.tab loopA .3",
+                "Unknown letter: z\n",
+            ),
+        ],
+    );
 }

@@ -3,44 +3,150 @@
 use snmp_io::memory::{MemoryFiles, MemoryOutput};
 use snmp_net::memory::MemoryLinks;
 use snmp_tools::tool;
+use std::alloc::{AllocError, Global};
+use std::process::Abort;
 
 /// The table of three instances.
 pub const THREE: &[u8] =
     b"1.3.6.1.4.1.32473.1.10.0|2|3\n1.3.6.1.4.1.32473.1.2.0|4|wes\n1.3.6.1.4.1.32473.1.1.0|2|1\n";
 
 /// Its lines.
-pub const THREE_LINES: &[u8] = b".1.3.6.1.4.1.32473.1.1.0 = INTEGER: 1\n\
+pub const THREE_LINES: &str = ".1.3.6.1.4.1.32473.1.1.0 = INTEGER: 1\n\
     .1.3.6.1.4.1.32473.1.2.0 = STRING: \"wes\"\n\
     .1.3.6.1.4.1.32473.1.10.0 = INTEGER: 3\n";
 
-/// Whether the words, over a file `t.tab` of this text, print these texts on standard output and
-/// standard error, and have this status.
-pub fn prints(
-    rt: &HostRuntime,
-    table: &[u8],
-    words: &[&str],
-    lines: &[u8],
-    messages: &[u8],
-    status: u8,
-) -> bool {
-    let held = [("t.tab", table)];
-    let files = MemoryFiles { files: &held };
-    let mut out = MemoryOutput::new(rt.alloc());
-    let mut err = MemoryOutput::new(rt.alloc());
-    let mut links = MemoryLinks::new(rt.alloc(), &[], &[]);
-    let answered = tool(rt.alloc(), words, &files, &mut links, &mut out, &mut err);
-    answered == status && out.octets() == lines && err.octets() == messages
+/// Files: paths with their texts.
+pub type Held<'a> = &'a [(&'a str, &'a [u8])];
+
+/// A file `t.tab` with the table of three instances.
+pub const OF_THREE: Held<'static> = &[("t.tab", THREE)];
+
+/// A command line, what it must print on standard output and on standard error, and its status.
+///
+/// Its words are what stands between spaces: a word is empty between two spaces in a row, and after
+/// one at the end.
+pub type Run<'a> = (&'a str, &'a str, &'a str, u8);
+
+/// How many octets standard output and standard error take.
+pub type Room = (usize, usize);
+
+/// Outputs that take as much as memory holds.
+pub const NO_LIMITS: Room = (usize::MAX, usize::MAX);
+
+/// The status of a command line over files, links and outputs.
+pub fn status_of(
+    alloc: Global,
+    line: &str,
+    files: Held<'_>,
+    links: &mut MemoryLinks<'_>,
+    out: &mut MemoryOutput,
+    err: &mut MemoryOutput,
+) -> Result<u8, AllocError> {
+    let words: Vec<&str> = line.split(' ').collect(alloc)?;
+    let files = MemoryFiles { files };
+    Ok(tool(alloc, &words, &files, links, out, err))
 }
 
-/// Whether a walk of the table from a name, with numeric names, prints these lines and nothing
-/// else, and is done.
-pub fn walks(rt: &HostRuntime, table: &[u8], root: &str, lines: &[u8]) -> bool {
-    prints(
-        rt,
-        table,
-        &["snmp", "snmpwalk", "-On", "table:t.tab", root],
-        lines,
-        b"",
-        0,
-    )
+/// Whether an output that takes `limit` octets took the text, as much of it as that is.
+fn has_taken(output: &MemoryOutput, limit: usize, text: &str) -> bool {
+    let octets = output.octets();
+    text.as_bytes().starts_with(octets) && octets.len() == limit.min(text.len())
+}
+
+/// Whether the run over files and links prints its texts, as much of them as the outputs take, and
+/// has its status.
+pub fn prints_over(
+    alloc: Global,
+    files: Held<'_>,
+    links: &mut MemoryLinks<'_>,
+    room: Room,
+    run: Run<'_>,
+) -> Result<bool, AllocError> {
+    let (line, lines, messages, status) = run;
+    let mut out = MemoryOutput::with_limit(alloc, room.0);
+    let mut err = MemoryOutput::with_limit(alloc, room.1);
+    let ended = status_of(alloc, line, files, links, &mut out, &mut err)?;
+    Ok(ended == status && has_taken(&out, room.0, lines) && has_taken(&err, room.1, messages))
+}
+
+/// Whether the run over files, with no agent, prints its texts, as much of them as the outputs
+/// take, and has its status.
+pub fn prints(
+    alloc: Global,
+    files: Held<'_>,
+    room: Room,
+    run: Run<'_>,
+) -> Result<bool, AllocError> {
+    let mut links = MemoryLinks::new(alloc, &[], &[]);
+    prints_over(alloc, files, &mut links, room, run)
+}
+
+/// Asserts that each of the runs over files and links, one after the other, prints its texts, as
+/// much of them as the outputs take, and has its status.
+pub fn assert_runs_over(
+    rt: &impl Abort,
+    alloc: Global,
+    files: Held<'_>,
+    links: &mut MemoryLinks<'_>,
+    room: Room,
+    runs: &[Run<'_>],
+) {
+    for run in runs {
+        let ended = prints_over(alloc, files, links, room, *run);
+        assert!(rt; matches!(ended, Ok(true)), "{}", run.0);
+    }
+}
+
+/// Asserts that each of the runs over files, with no agent, prints its texts, as much of them as
+/// the outputs take, and has its status.
+pub fn assert_runs_within(
+    rt: &impl Abort,
+    alloc: Global,
+    files: Held<'_>,
+    room: Room,
+    runs: &[Run<'_>],
+) {
+    for run in runs {
+        assert!(rt;
+            matches!(prints(alloc, files, room, *run), Ok(true)),
+            "{}",
+            run.0
+        );
+    }
+}
+
+/// Asserts that each of the runs over files, with no agent, prints its texts and has its status.
+pub fn assert_runs(rt: &impl Abort, alloc: Global, files: Held<'_>, runs: &[Run<'_>]) {
+    assert_runs_within(rt, alloc, files, NO_LIMITS, runs);
+}
+
+/// Asserts that each of the command lines prints these lines alone and has status 0.
+pub fn assert_prints(rt: &impl Abort, alloc: Global, files: Held<'_>, lines: &[(&str, &str)]) {
+    for (line, printed) in lines {
+        let run = (*line, *printed, "", 0);
+        assert!(rt;
+            matches!(prints(alloc, files, NO_LIMITS, run), Ok(true)),
+            "{line}"
+        );
+    }
+}
+
+/// Asserts that each of the command lines prints this message alone and has status 1.
+pub fn assert_refused(rt: &impl Abort, alloc: Global, files: Held<'_>, lines: &[(&str, &str)]) {
+    for (line, message) in lines {
+        let run = (*line, "", *message, 1);
+        assert!(rt;
+            matches!(prints(alloc, files, NO_LIMITS, run), Ok(true)),
+            "{line}"
+        );
+    }
+}
+
+/// A table of one instance, whose value has 1500 octets.
+pub fn long_table(alloc: Global) -> Result<Vec<u8>, AllocError> {
+    let mut table = Vec::from_slice(alloc, b"1.3.6.1.4.1.32473.1.1|4|")?;
+    for _ in 0..1500 {
+        table.push(b'x')?;
+    }
+    Ok(table)
 }
