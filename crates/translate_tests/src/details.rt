@@ -1,27 +1,10 @@
 //! Details of names, which `-Td` asks for.
 
-use crate::run::{Given, NO_LIMITS, WARNINGS, ends};
-use std::test::Fail;
-
-/// Whether the details of names are printed in this way by the letters, over the small modules.
-fn prints_details(
-    rt: &HostRuntime,
-    letters: &str,
-    names: &[&str],
-    text: &[u8],
-) -> Result<bool, Fail> {
-    let given = Given {
-        mibs: &["tiny.txt"],
-        letters,
-        details: "d",
-        names,
-    };
-    ends(rt, given, NO_LIMITS, (text, WARNINGS), "done")
-}
+use crate::run::{assert_ends, assert_prints};
 
 #[test]
-fn details_of_an_object(rt: HostRuntime) -> Result<(), Fail> {
-    let text = b"TINY-MIB::tinyState
+fn details_of_an_object(rt: HostRuntime) {
+    const STATE: &str = "TINY-MIB::tinyState
 tinyState OBJECT-TYPE
   -- FROM\tTINY-MIB
   SYNTAX\tINTEGER { up ( 1 ) , down ( 2 ) }
@@ -30,8 +13,7 @@ tinyState OBJECT-TYPE
   DESCRIPTION\t\"State.\"
 ::= { iso(1) 3 6 internet(1) private(4) enterprises(1) tiny(32473) 1 }
 ";
-    assert!(rt; prints_details(&rt, "", &["TINY-MIB::tinyState"], text)?);
-    let text = b".1.3.6.1.4.1.32473.3.1.1.119
+    const USE: &str = ".1.3.6.1.4.1.32473.3.1.1.119
 tinyKeyUse OBJECT-TYPE
   -- FROM\tTINY-MIB
   SYNTAX\tGauge32
@@ -42,13 +24,19 @@ tinyKeyUse OBJECT-TYPE
 ::= { iso(1) 3 6 internet(1) private(4) enterprises(1) tiny(32473) tinyKeyTable(3) \
 tinyKeyEntry(1) tinyKeyUse(1) 119 }
 ";
-    assert!(rt; prints_details(&rt, "n", &["tinyKeyUse.'w'"], text)?);
-    Ok(())
+    assert_prints(
+        &rt,
+        rt.alloc(),
+        &[
+            ("", "d", "TINY-MIB::tinyState", STATE),
+            ("n", "d", "tinyKeyUse.'w'", USE),
+        ],
+    );
 }
 
 #[test]
-fn details_of_several_names(rt: HostRuntime) -> Result<(), Fail> {
-    let text = b".iso
+fn details_of_several_names(rt: HostRuntime) {
+    const DETAILS: &str = ".iso
 iso OBJECT IDENTIFIER
 ::= { 1 }
 .
@@ -60,28 +48,25 @@ tiny OBJECT IDENTIFIER
 .3.1
 ::= { 3 1 }
 ";
-    assert!(rt; prints_details(&rt, "f", &["iso", ".", "tiny", "3.1"], text)?);
-    Ok(())
-}
-
-/// The job of `iso` by the letters of `-T`.
-fn iso_by<'a>(details: &'a str) -> Given<'a> {
-    Given {
-        mibs: &[],
-        letters: "",
-        details,
-        names: &["iso"],
-    }
+    assert_prints(&rt, rt.alloc(), &[("f", "d", "iso . tiny 3.1", DETAILS)]);
 }
 
 #[test]
-fn letters_of_details(rt: HostRuntime) -> Result<(), Fail> {
-    let text = b"iso\niso OBJECT IDENTIFIER\n::= { 1 }\n";
-    assert!(rt; ends(&rt, iso_by("dd"), NO_LIMITS, (text, b""), "done")?);
-    assert!(rt; ends(&rt, iso_by(""), NO_LIMITS, (b"iso\n", b""), "done")?);
-    let fault = "Unknown letter: 67";
-    assert!(rt; ends(&rt, iso_by("C"), NO_LIMITS, (b"", b""), fault)?);
-    assert!(rt; ends(&rt, iso_by("dC"), NO_LIMITS, (b"", b""), fault)?);
-    assert!(rt; ends(&rt, iso_by("Cdx"), NO_LIMITS, (b"", b""), fault)?);
-    Ok(())
+fn letters_of_details(rt: HostRuntime) {
+    assert_ends(
+        &rt,
+        rt.alloc(),
+        &[
+            (
+                ("", "", "dd", "iso"),
+                "iso\niso OBJECT IDENTIFIER\n::= { 1 }\n",
+                "",
+                "done",
+            ),
+            (("", "", "", "iso"), "iso\n", "", "done"),
+            (("", "", "C", "iso"), "", "", "Unknown letter: 67"),
+            (("", "", "dC", "iso"), "", "", "Unknown letter: 67"),
+            (("", "", "Cdx", "iso"), "", "", "Unknown letter: 67"),
+        ],
+    );
 }

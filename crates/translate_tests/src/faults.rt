@@ -1,131 +1,161 @@
 //! What ends the job early, and what was printed before.
 
-use crate::run::{Given, Limits, NO_LIMITS, WARNINGS, ends};
-use std::test::Fail;
-
-/// The job of names alone.
-fn of_names<'a>(names: &'a [&'a str]) -> Given<'a> {
-    Given {
-        mibs: &[],
-        letters: "",
-        details: "",
-        names,
-    }
-}
+use crate::run::{Limits, NO_LIMITS, WARNINGS, assert_ends, ends};
+use std::alloc::{AllocError, Global};
+use std::process::Abort;
 
 #[test]
-fn the_first_bad_name_ends_the_job(rt: HostRuntime) -> Result<(), Fail> {
-    let given = of_names(&["iso.3", "nosuch", "iso"]);
-    assert!(rt;
-        ends(
-            &rt,
-            given,
-            NO_LIMITS,
-            (b"iso.3\n", b""),
-            "nosuch: unknown name"
-        )?
+fn the_first_bad_name_ends_the_job(rt: HostRuntime) {
+    assert_ends(
+        &rt,
+        rt.alloc(),
+        &[
+            (
+                ("", "", "", "iso.3 nosuch iso"),
+                "iso.3\n",
+                "",
+                "nosuch: unknown name",
+            ),
+            // the second name is empty
+            (
+                ("tiny.txt", "", "", "iso.3 "),
+                "iso.3\n",
+                WARNINGS,
+                ": unknown name",
+            ),
+            (
+                ("tiny.txt", "", "", "iso.3 NO-MIB::iso"),
+                "iso.3\n",
+                WARNINGS,
+                "NO-MIB::iso: unknown name",
+            ),
+            (
+                ("tiny.txt", "", "", "iso.3 tinyMac.\"wes"),
+                "iso.3\n",
+                WARNINGS,
+                "tinyMac.\"wes: bad index",
+            ),
+            (
+                ("tiny.txt", "", "", "iso.3 iso..3"),
+                "iso.3\n",
+                WARNINGS,
+                "iso..3: bad number",
+            ),
+            (
+                ("tiny.txt", "", "", "iso.3 iso.4294967296"),
+                "iso.3\n",
+                WARNINGS,
+                "iso.4294967296: bad number",
+            ),
+        ],
     );
-    for (name, fault) in [
-        ("", ": unknown name"),
-        ("NO-MIB::iso", "NO-MIB::iso: unknown name"),
-        ("tinyMac.\"wes", "tinyMac.\"wes: bad index"),
-        ("iso..3", "iso..3: bad number"),
-        ("iso.4294967296", "iso.4294967296: bad number"),
-    ] {
-        let names = ["iso.3", name];
-        let given = Given {
-            mibs: &["tiny.txt"],
-            ..of_names(&names)
-        };
-        assert!(rt;
-            ends(&rt, given, NO_LIMITS, (b"iso.3\n", WARNINGS), fault)?,
-            "{name}"
-        );
-    }
-    Ok(())
 }
 
-#[test]
-fn a_name_of_too_many_numbers(rt: HostRuntime) -> Result<(), Fail> {
-    let mut name = String::from_str(rt.alloc(), "0")?;
-    for _ in 0..127 {
+/// The name of so many numbers and one more, each of them 0.
+fn zeros(alloc: Global, more: usize) -> Result<String, AllocError> {
+    let mut name = String::from_str(alloc, "0")?;
+    for _ in 0..more {
         name.push_str(".0")?;
     }
-    let names = [name.as_str()];
-    let given = Given {
-        letters: "n",
-        ..of_names(&names)
-    };
-    let mut line = String::from_str(rt.alloc(), ".")?;
-    line.push_str(name.as_str())?;
-    line.push_str("\n")?;
-    assert!(rt; ends(&rt, given, NO_LIMITS, (line.as_bytes(), b""), "done")?);
-    name.push_str(".0")?;
-    let names = [name.as_str()];
-    let fault = format!(in rt.alloc(); "{}: name too long", name.as_str())?;
-    assert!(rt; ends(&rt, of_names(&names), NO_LIMITS, (b"", b""), fault.as_str())?);
-    Ok(())
+    Ok(name)
 }
 
-/// The job of an unknown name, by module files and the letters of `-O` and of `-T`.
-fn of_words<'a>(mibs: &'a [&'a str], letters: &'a str, details: &'a str) -> Given<'a> {
-    Given {
-        mibs,
-        letters,
-        details,
-        names: &["nosuch"],
-    }
+/// Whether a name of 128 numbers is printed.
+fn prints_128_numbers(alloc: Global) -> Result<bool, AllocError> {
+    let name = zeros(alloc, 127)?;
+    let line = format!(in alloc; ".{}\n", name.as_str())?;
+    let given = ("", "n", "", name.as_str());
+    ends(alloc, NO_LIMITS, (given, line.as_str(), "", "done"))
+}
+
+/// Whether a name of 129 numbers is refused.
+fn refuses_129_numbers(alloc: Global) -> Result<bool, AllocError> {
+    let name = zeros(alloc, 128)?;
+    let end = format!(in alloc; "{}: name too long", name.as_str())?;
+    let given = ("", "", "", name.as_str());
+    ends(alloc, NO_LIMITS, (given, "", "", end.as_str()))
 }
 
 #[test]
-fn words_are_judged_in_order(rt: HostRuntime) -> Result<(), Fail> {
-    let mibs = ["tiny.txt", "bad.txt", "no.txt"];
-    let given = of_words(&mibs, "nzy", "C");
-    assert!(rt; ends(&rt, given, NO_LIMITS, (b"", b""), "Unknown letter: 122")?);
-    let given = of_words(&mibs, "n", "C");
-    assert!(rt; ends(&rt, given, NO_LIMITS, (b"", b""), "Unknown letter: 67")?);
-    let given = of_words(&mibs, "n", "d");
-    let fault = "bad.txt: line 2: no token begins here";
-    assert!(rt; ends(&rt, given, NO_LIMITS, (b"", b""), fault)?);
-    let mibs = ["tiny.txt", "no.txt", "bad.txt"];
-    let given = of_words(&mibs, "n", "d");
-    assert!(rt; ends(&rt, given, NO_LIMITS, (b"", b""), "no.txt: cannot be read")?);
-    let mibs = ["tiny.txt"];
-    let given = of_words(&mibs, "n", "d");
-    let fault = "nosuch: unknown name";
-    assert!(rt; ends(&rt, given, NO_LIMITS, (b"", WARNINGS), fault)?);
-    Ok(())
+fn a_name_of_too_many_numbers(rt: HostRuntime) {
+    assert!(rt; matches!(prints_128_numbers(rt.alloc()), Ok(true)));
+    assert!(rt; matches!(refuses_129_numbers(rt.alloc()), Ok(true)));
 }
 
 #[test]
-fn an_output_that_fails(rt: HostRuntime) -> Result<(), Fail> {
-    let given = of_names(&["iso.3", "iso", "nosuch"]);
-    for (limit, front) in [
-        (0, b"".as_slice()),
-        (3, b"iso"),
-        (6, b"iso.3\n"),
-        (9, b"iso.3\niso"),
-    ] {
+fn words_are_judged_in_order(rt: HostRuntime) {
+    assert_ends(
+        &rt,
+        rt.alloc(),
+        &[
+            (
+                ("tiny.txt bad.txt no.txt", "nzy", "C", "nosuch"),
+                "",
+                "",
+                "Unknown letter: 122",
+            ),
+            (
+                ("tiny.txt bad.txt no.txt", "n", "C", "nosuch"),
+                "",
+                "",
+                "Unknown letter: 67",
+            ),
+            (
+                ("tiny.txt bad.txt no.txt", "n", "d", "nosuch"),
+                "",
+                "",
+                "bad.txt: line 2: no token begins here",
+            ),
+            (
+                ("tiny.txt no.txt bad.txt", "n", "d", "nosuch"),
+                "",
+                "",
+                "no.txt: cannot be read",
+            ),
+            (
+                ("tiny.txt", "n", "d", "nosuch"),
+                "",
+                WARNINGS,
+                "nosuch: unknown name",
+            ),
+        ],
+    );
+}
+
+/// Asserts of limits that an output that takes so many octets takes these, and that its failure
+/// ends the job.
+fn assert_cut_off(rt: &impl Abort, alloc: Global, cases: &[(usize, &str)]) {
+    for (limit, front) in cases {
         let limits = Limits {
-            out: limit,
+            out: *limit,
             err: usize::MAX,
         };
-        let fault = "The output failed.";
-        assert!(rt; ends(&rt, given, limits, (front, b""), fault)?, "{limit}");
+        let given = ("", "", "", "iso.3 iso nosuch");
+        let cut = ends(alloc, limits, (given, *front, "", "The output failed."));
+        assert!(rt; matches!(cut, Ok(true)), "{limit}");
     }
-    Ok(())
 }
 
 #[test]
-fn an_output_of_warnings_that_fails(rt: HostRuntime) -> Result<(), Fail> {
-    let given = Given {
-        mibs: &["tiny.txt"],
-        ..of_names(&["tiny"])
-    };
+fn an_output_that_fails(rt: HostRuntime) {
+    assert_cut_off(
+        &rt,
+        rt.alloc(),
+        &[(0, ""), (3, "iso"), (6, "iso.3\n"), (9, "iso.3\niso")],
+    );
+}
+
+#[test]
+fn an_output_of_warnings_that_fails(rt: HostRuntime) {
     let limits = Limits {
         out: usize::MAX,
         err: 5,
     };
-    assert!(rt; ends(&rt, given, limits, (b"TINY-MIB::tiny\n", b"snmp:"), "done")?);
-    Ok(())
+    let case = (
+        ("tiny.txt", "", "", "tiny"),
+        "TINY-MIB::tiny\n",
+        "snmp:",
+        "done",
+    );
+    assert!(rt; matches!(ends(rt.alloc(), limits, case), Ok(true)));
 }

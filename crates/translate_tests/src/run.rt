@@ -3,10 +3,11 @@
 use snmp_io::memory::{MemoryFiles, MemoryOutput};
 use snmp_translate::translate;
 use snmp_words::TranslateJob;
-use std::test::Fail;
+use std::alloc::{AllocError, Global};
+use std::process::Abort;
 
 /// Two small modules.
-pub const TINY: &[u8] = b"TINY-SMI DEFINITIONS ::= BEGIN
+const TINY: &[u8] = b"TINY-SMI DEFINITIONS ::= BEGIN
 enterprises OBJECT IDENTIFIER ::= { private 1 }
 private     OBJECT IDENTIFIER ::= { internet 4 }
 internet    OBJECT IDENTIFIER ::= { iso org(3) dod(6) 1 }
@@ -41,20 +42,19 @@ END
 ";
 
 /// The lines of their warnings.
-pub const WARNINGS: &[u8] = b"snmp: TINY-MIB imports absent from TINY-SMI, which has no absent
+pub const WARNINGS: &str = "snmp: TINY-MIB imports absent from TINY-SMI, which has no absent
 snmp: TINY-MIB imports from GONE-MIB, which is not loaded
 snmp: TINY-MIB::loopA stands on a cycle
 snmp: TINY-MIB::loopB stands on a cycle
 ";
 
 /// What the words of snmptranslate give: module files, letters of `-O`, letters of `-T` and names.
-#[derive(Clone, Copy)]
-pub struct Given<'a> {
-    pub mibs: &'a [&'a str],
-    pub letters: &'a str,
-    pub details: &'a str,
-    pub names: &'a [&'a str],
-}
+/// There is a space between two files and between two names.
+pub type Given<'a> = (&'a str, &'a str, &'a str, &'a str);
+
+/// What a job is given, what it must print on the output and on that of warnings, and how it must
+/// end: with the message of the error, or with `done`.
+pub type Case<'a> = (Given<'a>, &'a str, &'a str, &'a str);
 
 /// How many octets the output and the output of warnings take before they fail.
 #[derive(Clone, Copy)]
@@ -69,40 +69,68 @@ pub const NO_LIMITS: Limits = Limits {
     err: usize::MAX,
 };
 
-/// Whether the job, over the file `tiny.txt`, prints these texts on the output and on that of
-/// warnings, and ends in this way: with the message of the error, or with `done`.
-pub fn ends(
-    rt: &HostRuntime,
-    given: Given<'_>,
-    limits: Limits,
-    texts: (&[u8], &[u8]),
-    end: &str,
-) -> Result<bool, Fail> {
+/// How the job ends over the files `tiny.txt` and `bad.txt`.
+fn end_of(
+    alloc: Global,
+    job: &TranslateJob<'_>,
+    out: &mut MemoryOutput,
+    err: &mut MemoryOutput,
+) -> Result<String, AllocError> {
     let held = [("tiny.txt", TINY), ("bad.txt", b"BAD-MIB\n!".as_slice())];
     let files = MemoryFiles { files: &held };
-    let mut out = MemoryOutput::with_limit(rt.alloc(), limits.out);
-    let mut err = MemoryOutput::with_limit(rt.alloc(), limits.err);
-    let job = TranslateJob {
-        mibs: Vec::from_slice(rt.alloc(), given.mibs)?,
-        letters: String::from_str(rt.alloc(), given.letters)?,
-        details: given.details,
-        names: Vec::from_slice(rt.alloc(), given.names)?,
-    };
-    let ended = match translate(rt.alloc(), &job, &files, &mut out, &mut err) {
-        Ok(()) => format!(in rt.alloc(); "done")?,
-        Err(error) => format!(in rt.alloc(); "{error}")?,
-    };
-    let written = out.octets() == texts.0 && err.octets() == texts.1;
+    match translate(alloc, job, &files, out, err) {
+        Ok(()) => String::from_str(alloc, "done"),
+        Err(error) => format!(in alloc; "{error}"),
+    }
+}
+
+/// Whether the job prints these texts and ends in this way.
+fn job_ends(
+    alloc: Global,
+    job: &TranslateJob<'_>,
+    limits: Limits,
+    texts: (&str, &str),
+    end: &str,
+) -> Result<bool, AllocError> {
+    let mut out = MemoryOutput::with_limit(alloc, limits.out);
+    let mut err = MemoryOutput::with_limit(alloc, limits.err);
+    let ended = end_of(alloc, job, &mut out, &mut err)?;
+    let written = out.octets() == texts.0.as_bytes() && err.octets() == texts.1.as_bytes();
     Ok(written && ended.as_str() == end)
 }
 
-/// Whether names are printed as these lines by the letters, over the small modules.
-pub fn prints(rt: &HostRuntime, letters: &str, names: &[&str], text: &[u8]) -> Result<bool, Fail> {
-    let given = Given {
-        mibs: &["tiny.txt"],
-        letters,
-        details: "",
-        names,
+/// Whether the job, over the files `tiny.txt` and `bad.txt`, prints and ends as the case says.
+pub fn ends(alloc: Global, limits: Limits, case: Case<'_>) -> Result<bool, AllocError> {
+    let ((mibs, letters, details, names), lines, messages, end) = case;
+    let job = TranslateJob {
+        mibs: mibs.split_whitespace().collect(alloc)?,
+        letters: String::from_str(alloc, letters)?,
+        details,
+        names: names.split(' ').collect(alloc)?,
     };
-    ends(rt, given, NO_LIMITS, (text, WARNINGS), "done")
+    job_ends(alloc, &job, limits, (lines, messages), end)
+}
+
+/// Asserts that each job prints and ends as its case says.
+pub fn assert_ends(rt: &impl Abort, alloc: Global, cases: &[Case<'_>]) {
+    for case in cases {
+        assert!(rt; matches!(ends(alloc, NO_LIMITS, *case), Ok(true)), "{}", case.0.3);
+    }
+}
+
+/// Asserts of letters of `-O`, each with letters of `-T` and names, that by them the names are
+/// printed as these lines, over the small modules.
+pub fn assert_prints(rt: &impl Abort, alloc: Global, cases: &[(&str, &str, &str, &str)]) {
+    for (letters, details, names, lines) in cases {
+        let case = (
+            ("tiny.txt", *letters, *details, *names),
+            *lines,
+            WARNINGS,
+            "done",
+        );
+        assert!(rt;
+            matches!(ends(alloc, NO_LIMITS, case), Ok(true)),
+            "{letters}: {names}"
+        );
+    }
 }
