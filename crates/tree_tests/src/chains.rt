@@ -3,7 +3,6 @@
 use crate::reading::comes_to;
 use smi_links::{Basis, Resolution, ordered, resolutions};
 use std::alloc::Global;
-use std::process::Abort;
 use std::test::Fail;
 
 const MANY: usize = 40_000;
@@ -45,19 +44,19 @@ fn count_of(resolutions: &[Resolution], expected: &str) -> usize {
 }
 
 /// How many of the places of these bases resolve to this.
-fn count(alloc: Global, bases: &[Basis], expected: &str) -> Result<usize, Fail> {
-    let resolutions = resolutions(alloc, bases)?;
+fn count(alloc: Global, bases: Vec<Basis>, expected: &str) -> Result<usize, Fail> {
+    let resolutions = resolutions(alloc, &bases)?;
     Ok(count_of(&resolutions, expected))
 }
 
 #[test]
 fn long_chains_end(rt: HostRuntime) -> Result<(), Fail> {
     let alloc = rt.alloc();
-    assert!(rt; count(alloc, &falling(alloc, MANY, &[])?, "1")? == MANY);
+    assert!(rt; count(alloc, falling(alloc, MANY, &[])?, "1")? == MANY);
     // The last place leads beyond itself, to a place with numbers of its own.
-    assert!(rt; count(alloc, &rising_to_numbers(alloc)?, "1.3")? == MANY + 1);
+    assert!(rt; count(alloc, rising_to_numbers(alloc)?, "1.3")? == MANY + 1);
     // Without that place it leads nowhere.
-    assert!(rt; count(alloc, &rising(alloc, MANY, MANY)?, "unresolved")? == MANY);
+    assert!(rt; count(alloc, rising(alloc, MANY, MANY)?, "unresolved")? == MANY);
     Ok(())
 }
 
@@ -71,10 +70,10 @@ fn rising_to_numbers(alloc: Global) -> Result<Vec<Basis>, Fail> {
 #[test]
 fn rings_have_no_end(rt: HostRuntime) -> Result<(), Fail> {
     let alloc = rt.alloc();
-    assert!(rt; count(alloc, &rising(alloc, MANY, 0)?, "cycle")? == MANY);
-    let bases = ring_and_others(alloc)?;
-    let led = resolutions(alloc, &bases)?;
-    assert_ring_and_others(&rt, &led);
+    assert!(rt; count(alloc, rising(alloc, MANY, 0)?, "cycle")? == MANY);
+    assert!(rt; count(alloc, ring_and_others(alloc)?, "cycle")? == 1002);
+    assert!(rt; count(alloc, ring_and_others(alloc)?, "2")? == 1);
+    assert!(rt; count(alloc, ring_and_others(alloc)?, "unresolved")? == 1);
     Ok(())
 }
 
@@ -94,27 +93,22 @@ fn push_others(alloc: Global, bases: &mut Vec<Basis>) -> Result<(), Fail> {
     Ok(())
 }
 
-fn assert_ring_and_others(rt: &impl Abort, led: &[Resolution]) {
-    assert!(rt; count_of(led, "cycle") == 1002);
-    assert!(rt; count_of(led, "2") == 1);
-    assert!(rt; count_of(led, "unresolved") == 1);
-}
-
 #[test]
 fn numbers_come_along_a_chain(rt: HostRuntime) -> Result<(), Fail> {
     let bases = falling(rt.alloc(), 200, &[7])?;
     let chain = resolutions(rt.alloc(), &bases)?;
-    assert_chain(&rt, &chain);
+    assert!(rt; is_chain(&chain));
     Ok(())
 }
 
-fn assert_chain(rt: &impl Abort, chain: &[Resolution]) {
-    assert!(rt; comes_to(chain.get(0), "1"));
-    assert!(rt; comes_to(chain.get(3), "1.7.7.7"));
-    // The place at 127 has 128 numbers.
-    assert!(rt; count_of(chain, "too long") == 200 - 128);
-    assert!(rt; comes_to(chain.get(128), "too long"));
-    assert!(rt; has_numbers(chain.get(127), 128));
+/// Whether each place of a chain has one number more than the one before, up to 128.
+fn is_chain(chain: &[Resolution]) -> bool {
+    comes_to(chain.get(0), "1")
+        && comes_to(chain.get(3), "1.7.7.7")
+        // The place at 127 has 128 numbers.
+        && has_numbers(chain.get(127), 128)
+        && comes_to(chain.get(128), "too long")
+        && count_of(chain, "too long") == 200 - 128
 }
 
 /// Whether a place resolves to this many numbers.

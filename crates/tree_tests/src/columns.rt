@@ -50,14 +50,6 @@ fn has_label(modules: &[Module], source: Source, label: &str) -> bool {
     }
 }
 
-fn is_index(found: Option<&[IndexPart]>, expected: Option<&[IndexPart]>) -> bool {
-    match (found, expected) {
-        (Some(found), Some(expected)) => found == expected,
-        (None, None) => true,
-        _ => false,
-    }
-}
-
 /// The first row whose node has another index, or isn't there.
 fn first_wrong(
     modules: &[Module],
@@ -67,7 +59,7 @@ fn first_wrong(
 ) -> Option<usize> {
     for (k, (label, expected)) in rows.iter().enumerate() {
         let found = match place_of(modules, sources, label) {
-            Some(place) => is_index(indexes.get(place), *expected),
+            Some(place) => indexes.get(place) == *expected,
             None => false,
         };
         if !found {
@@ -80,16 +72,8 @@ fn first_wrong(
 /// The first wrong row over the modules of a text.
 fn wrong_row(alloc: Global, text: &[u8], rows: &[Row<'_>]) -> Result<Option<usize>, Fail> {
     let modules = parse_modules(alloc, text)?;
-    wrong_row_of(alloc, &modules, rows)
-}
-
-fn wrong_row_of(
-    alloc: Global,
-    modules: &[Module],
-    rows: &[Row<'_>],
-) -> Result<Option<usize>, Fail> {
-    let names = Names::new(alloc, modules)?;
-    wrong_row_by(alloc, &names, modules, rows)
+    let names = Names::new(alloc, &modules)?;
+    wrong_row_by(alloc, &names, &modules, rows)
 }
 
 fn wrong_row_by<'a>(
@@ -222,17 +206,13 @@ fn is_part(
     part: Option<IndexPart>,
 ) -> Result<bool, Fail> {
     let text = row_of(alloc, implied, syntax)?;
-    has_part(alloc, text.as_bytes(), part)
-}
-
-fn has_part(alloc: Global, text: &[u8], part: Option<IndexPart>) -> Result<bool, Fail> {
     let parts = [part.unwrap_or(NUMBER)];
     let expected = if part.is_some() {
         Some(parts.as_slice())
     } else {
         None
     };
-    Ok(wrong_row(alloc, text, &[("column", expected)])?.is_none())
+    Ok(wrong_row(alloc, text.as_bytes(), &[("column", expected)])?.is_none())
 }
 
 /// Rows of each kind, and their columns.

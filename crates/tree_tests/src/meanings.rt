@@ -93,15 +93,21 @@ fn undecided_row<'a>(names: &Names<'a>, rows: &[(&'a str, &'a str, Decided<'a>)]
 #[test]
 fn names_resolve_in_their_modules(rt: HostRuntime) -> Result<(), Fail> {
     let modules = parse_modules(rt.alloc(), MODULES)?;
-    let names = Names::new(rt.alloc(), &modules)?;
-    assert_resolutions(&rt, &names);
+    assert_resolutions(&rt, rt.alloc(), &modules)
+}
+
+fn assert_resolutions(rt: &impl Abort, alloc: Global, modules: &[Module]) -> Result<(), Fail> {
+    let names = Names::new(alloc, modules)?;
+    assert!(rt; unresolved_row(&names, &RESOLUTIONS).is_none() && are_loaded(&names));
     Ok(())
 }
 
-fn assert_resolutions(rt: &impl Abort, names: &Names<'_>) {
-    assert!(rt; unresolved_row(names, &RESOLUTIONS).is_none());
-    assert!(rt; names.is_loaded(b"RING-C") && names.is_loaded(b"A"));
-    assert!(rt; !names.is_loaded(b"GONE") && !names.is_loaded(b""));
+/// Whether modules are loaded by their names alone.
+fn are_loaded(names: &Names<'_>) -> bool {
+    names.is_loaded(b"RING-C")
+        && names.is_loaded(b"A")
+        && !names.is_loaded(b"GONE")
+        && !names.is_loaded(b"")
 }
 
 static RESOLUTIONS: [(&str, &str, &str); 29] = [
@@ -144,7 +150,11 @@ static RESOLUTIONS: [(&str, &str, &str); 29] = [
 #[test]
 fn names_are_decided(rt: HostRuntime) -> Result<(), Fail> {
     let modules = parse_modules(rt.alloc(), MODULES)?;
-    let names = Names::new(rt.alloc(), &modules)?;
+    assert_decisions(&rt, rt.alloc(), &modules)
+}
+
+fn assert_decisions(rt: &impl Abort, alloc: Global, modules: &[Module]) -> Result<(), Fail> {
+    let names = Names::new(alloc, modules)?;
     assert!(rt; undecided_row(&names, &DECISIONS).is_none());
     Ok(())
 }
@@ -183,14 +193,14 @@ fn parents_in_text_up_to_128_numbers(rt: HostRuntime) -> Result<(), Fail> {
 
 fn assert_nodes(rt: &impl Abort, alloc: Global, modules: &[Module]) -> Result<(), Fail> {
     let names = Names::new(alloc, modules)?;
-    assert_lengths(rt, &names);
+    assert!(rt; unresolved_row(&names, &LENGTHS).is_none());
+    assert!(rt; !comes_to(names.resolution(b"A", b"x127"), "too long"));
     Ok(())
 }
 
-fn assert_lengths(rt: &impl Abort, names: &Names<'_>) {
-    assert!(rt; comes_to(names.resolution(b"A", b"x0"), "1"));
-    assert!(rt; comes_to(names.resolution(b"A", b"x3"), "1.1.1.1"));
-    assert!(rt; !comes_to(names.resolution(b"A", b"x127"), "too long"));
-    assert!(rt; comes_to(names.resolution(b"A", b"x128"), "too long"));
-    assert!(rt; comes_to(names.resolution(b"A", b"x200"), "too long"));
-}
+static LENGTHS: [(&str, &str, &str); 4] = [
+    ("A", "x0", "1"),
+    ("A", "x3", "1.1.1.1"),
+    ("A", "x128", "too long"),
+    ("A", "x200", "too long"),
+];

@@ -5,6 +5,7 @@ use smi_meaning::Names;
 use smi_module::Module;
 use smi_nodes::{Gathered, Source, nodes};
 use smi_text::parse_modules;
+use snmp_oid::Oid;
 use std::alloc::Global;
 use std::process::Abort;
 use std::test::Fail;
@@ -47,23 +48,18 @@ fn assert_nodes(rt: &impl Abort, alloc: Global, modules: &[Module]) -> Result<()
 }
 
 fn assert_gathered(rt: &impl Abort, gathered: &Gathered) -> Result<(), Fail> {
-    assert!(rt; gathered.sources.len() == NODES.len());
-    assert!(rt; gathered.oids.len() == NODES.len());
+    assert!(rt; gathered.sources.len() == NODES.len() && gathered.oids.len() == NODES.len());
     for (k, (place, text)) in NODES.iter().enumerate() {
-        assert!(rt; place_of(gathered, k) == *place, "{text}");
-        assert!(rt; has_identifier(gathered, k, text)?, "{text}");
+        assert!(rt; is_node(gathered, k, *place, &oid(text)?), "{text}");
     }
     Ok(())
 }
 
-/// The places of the module and the definition of a node.
-fn place_of(gathered: &Gathered, k: usize) -> Option<(usize, usize)> {
-    match gathered.sources.get(k) {
+/// Whether a node has this place and this identifier.
+fn is_node(gathered: &Gathered, k: usize, place: Option<(usize, usize)>, oid: &Oid) -> bool {
+    let found = match gathered.sources.get(k) {
         Some(Source::Definition(i, d)) => Some((*i, *d)),
         _ => None,
-    }
-}
-
-fn has_identifier(gathered: &Gathered, k: usize, text: &str) -> Result<bool, Fail> {
-    Ok(gathered.oids.get(k) == Some(&oid(text)?))
+    };
+    found == place && gathered.oids.get(k) == Some(oid)
 }

@@ -196,12 +196,12 @@ tinyState OBJECT-TYPE
 #[test]
 fn details_are_those_of_the_deepest_node(rt: HostRuntime) -> Result<(), Fail> {
     let tree = tiny(rt.alloc())?;
-    assert_details(&rt, rt.alloc(), &tree, &oid("1.3.6.1.4.1.32473.1")?)
+    assert_details(&rt, rt.alloc(), &tree, "1.3.6.1.4.1.32473.1")
 }
 
-fn assert_details(rt: &impl Abort, alloc: Global, tree: &Tree, name: &Oid) -> Result<(), Fail> {
+fn assert_details(rt: &impl Abort, alloc: Global, tree: &Tree, name: &str) -> Result<(), Fail> {
     let mut text = Vec::new(alloc);
-    detail(tree, &Letters::new(), name, &mut text)?;
+    detail(tree, &Letters::new(), &oid(name)?, &mut text)?;
     assert!(rt; text.as_slice() == DETAILS);
     Ok(())
 }

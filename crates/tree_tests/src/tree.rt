@@ -2,7 +2,7 @@
 
 use crate::reading::{oid, push_child};
 use smi_text::parse_modules;
-use smi_tree::{Tree, Warning};
+use smi_tree::{NodeId, Tree, Warning};
 use snmp_oid::Oid;
 use std::alloc::Global;
 use std::process::Abort;
@@ -138,30 +138,42 @@ fn say(sentences: &[&str], warnings: &[Warning]) -> bool {
     true
 }
 
-/// Whether warnings say this of a letter and each number in turn.
-fn say_of_each(
-    alloc: Global,
-    letter: &str,
+/// Warnings that say the same of a letter and each number in turn.
+struct Numbered {
+    count: usize,
+    letter: &'static str,
     first: usize,
-    what: &str,
-    warnings: &[Warning],
+    what: &'static str,
+}
+
+/// Whether a text has a tree of this many nodes, with these warnings.
+fn gives_numbered(
+    alloc: Global,
+    text: &str,
+    nodes: usize,
+    warnings: &Numbered,
 ) -> Result<bool, Fail> {
-    for (k, warning) in warnings.iter().enumerate() {
-        if !says_of(alloc, letter, k.wrapping_add(first), what, warning)? {
+    let loaded = load(alloc, text)?;
+    Ok(loaded.tree.len() == nodes && are_numbered(alloc, &loaded.warnings, warnings)?)
+}
+
+fn are_numbered(alloc: Global, found: &[Warning], expected: &Numbered) -> Result<bool, Fail> {
+    for (k, warning) in found.iter().enumerate() {
+        if !says_of(alloc, warning, expected, k.wrapping_add(expected.first))? {
             return Ok(false);
         }
     }
-    Ok(true)
+    Ok(found.len() == expected.count)
 }
 
-/// Whether a warning says this of a letter and a number.
+/// Whether a warning is the one of a number.
 fn says_of(
     alloc: Global,
-    letter: &str,
-    number: usize,
-    what: &str,
     warning: &Warning,
+    expected: &Numbered,
+    number: usize,
 ) -> Result<bool, Fail> {
+    let Numbered { letter, what, .. } = expected;
     let sentence = format!(in alloc; "{letter}{number} {what}")?;
     Ok(says(&sentence, warning))
 }
@@ -174,14 +186,30 @@ fn is_found(tree: &Tree, home: &str, label: &str, wanted: &str) -> Result<bool, 
     })
 }
 
-/// Whether a tree has the nodes of the tiny modules, and the three roots.
-fn is_tiny(tree: &Tree) -> Result<bool, Fail> {
-    for (home, label, text) in &TINY_NODES {
+/// Whether a tree has these nodes, each of a label in a module with its identifier.
+fn has_nodes(tree: &Tree, rows: &[(&str, &str, &str)]) -> Result<bool, Fail> {
+    for (home, label, text) in rows {
         if !is_found(tree, home, label, text)? {
             return Ok(false);
         }
     }
-    Ok(tree.len() == TINY_NODES.len() + 3)
+    Ok(true)
+}
+
+/// The node of a label right below an identifier.
+fn child(tree: &Tree, parent: &str, label: &str) -> Result<Option<NodeId>, Fail> {
+    Ok(tree.child(&oid(parent)?, label.as_bytes()))
+}
+
+/// Whether a text has a tree of this many nodes, with these warnings.
+fn gives(alloc: Global, text: &str, nodes: usize, warnings: &[&str]) -> Result<bool, Fail> {
+    let loaded = load(alloc, text)?;
+    Ok(loaded.tree.len() == nodes && say(warnings, &loaded.warnings))
+}
+
+/// Whether a tree has the nodes of the tiny modules, and the three roots.
+fn is_tiny(tree: &Tree) -> Result<bool, Fail> {
+    Ok(has_nodes(tree, &TINY_NODES)? && tree.len() == TINY_NODES.len() + 3)
 }
 
 #[test]
@@ -199,10 +227,13 @@ fn assert_tiny_tree(rt: &impl Abort, loaded: &Loaded) -> Result<(), Fail> {
     let tree = &loaded.tree;
     assert!(rt; say(&TINY_WARNINGS, &loaded.warnings));
     assert!(rt; is_tiny(tree)?);
-    assert!(rt; tree.has_module(b"TINY-MIB") && !tree.has_module(b"GONE-MIB"));
-    assert!(rt; tree.find(b"TINY-MIB", b"enterprises").is_none());
-    assert!(rt; tree.find(b"GONE-MIB", b"other").is_none());
-    assert!(rt; tree.find_any(b"loopA").is_none());
+    assert!(rt;
+        tree.has_module(b"TINY-MIB")
+            && !tree.has_module(b"GONE-MIB")
+            && tree.find(b"TINY-MIB", b"enterprises").is_none()
+            && tree.find(b"GONE-MIB", b"other").is_none()
+            && tree.find_any(b"loopA").is_none()
+    );
     Ok(())
 }
 
@@ -238,16 +269,10 @@ END
 
 #[test]
 fn imports_in_a_ring(rt: HostRuntime) -> Result<(), Fail> {
-    let loaded = load(rt.alloc(), IMPORT_RING)?;
-    assert_import_ring(&rt, &loaded);
-    Ok(())
-}
-
-fn assert_import_ring(rt: &impl Abort, loaded: &Loaded) {
     // A module that imports from itself imports what it is asked for.
     let expected = ["A::y stands on a cycle", "S::z stands on a cycle"];
-    assert!(rt; say(&expected, &loaded.warnings));
-    assert!(rt; loaded.tree.len() == 3);
+    assert!(rt; gives(rt.alloc(), IMPORT_RING, 3, &expected)?);
+    Ok(())
 }
 
 const MISSED: &str =
@@ -266,8 +291,7 @@ static MISSED_WARNINGS: [&str; 5] = [
 
 #[test]
 fn roots_and_repeated_symbols_are_missed(rt: HostRuntime) -> Result<(), Fail> {
-    let loaded = load(rt.alloc(), MISSED)?;
-    assert!(rt; say(&MISSED_WARNINGS, &loaded.warnings));
+    assert!(rt; gives(rt.alloc(), MISSED, 3, &MISSED_WARNINGS)?);
     Ok(())
 }
 
@@ -297,13 +321,13 @@ fn definitions_come_before_imports(rt: HostRuntime) -> Result<(), Fail> {
 fn assert_imported(rt: &impl Abort, loaded: &Loaded) -> Result<(), Fail> {
     let tree = &loaded.tree;
     assert!(rt; loaded.warnings.is_empty());
-    for (home, label, text) in &IMPORTED_NODES {
-        assert!(rt; is_found(tree, home, label, text)?, "{home}::{label}");
-    }
+    assert!(rt; has_nodes(tree, &IMPORTED_NODES)?);
     // Of three nodes with this label the first loaded is found, and a root before all others.
-    assert!(rt; tree.find_any(b"x") == tree.find(b"A", b"x"));
-    assert!(rt; tree.find_any(b"iso") == Some(1));
-    assert!(rt; tree.find(b"D", b"x").is_none());
+    assert!(rt;
+        tree.find_any(b"x") == tree.find(b"A", b"x")
+            && tree.find_any(b"iso") == Some(1)
+            && tree.find(b"D", b"x").is_none()
+    );
     Ok(())
 }
 
@@ -346,10 +370,8 @@ fn assert_one_and_two(rt: &impl Abort, tree: &Tree) -> Result<(), Fail> {
     for (text, expected) in &DEEPEST {
         assert!(rt; is_deepest(tree, text, *expected)?, "{text}");
     }
-    let iso = oid("1")?;
-    assert!(rt; tree.child(&iso, b"two").is_none());
-    assert!(rt; tree.child(&iso, b"one") == tree.find(b"A", b"one"));
-    assert!(rt; tree.child(&oid("2")?, b"one").is_none());
+    assert!(rt; child(tree, "1", "one")? == tree.find(b"A", b"one"));
+    assert!(rt; child(tree, "1", "two")?.is_none() && child(tree, "2", "one")?.is_none());
     Ok(())
 }
 
@@ -363,19 +385,19 @@ fn push_chain(text: &mut String) -> Result<(), Fail> {
     Ok(())
 }
 
+static TOO_LONG: Numbered = Numbered {
+    count: 73,
+    letter: "L::x",
+    first: 128,
+    what: "is too long",
+};
+
 #[test]
 fn long_chains_end_at_128_numbers(rt: HostRuntime) -> Result<(), Fail> {
     let mut text = String::new(rt.alloc());
     push_chain(&mut text)?;
-    let loaded = load(rt.alloc(), &text)?;
-    assert_chain(&rt, rt.alloc(), &loaded)
-}
-
-fn assert_chain(rt: &impl Abort, alloc: Global, loaded: &Loaded) -> Result<(), Fail> {
     // The identifier of x127 has 128 numbers.
-    assert!(rt; loaded.tree.len() == 3 + 127);
-    assert!(rt; loaded.warnings.len() == 73);
-    assert!(rt; say_of_each(alloc, "L::x", 128, "is too long", &loaded.warnings)?);
+    assert!(rt; gives_numbered(rt.alloc(), &text, 3 + 127, &TOO_LONG)?);
     Ok(())
 }
 
@@ -389,18 +411,18 @@ fn push_ring(text: &mut String) -> Result<(), Fail> {
     Ok(())
 }
 
+static CYCLE: Numbered = Numbered {
+    count: 1000,
+    letter: "R::r",
+    first: 0,
+    what: "stands on a cycle",
+};
+
 #[test]
 fn a_ring_of_names_has_no_end(rt: HostRuntime) -> Result<(), Fail> {
     let mut text = String::new(rt.alloc());
     push_ring(&mut text)?;
-    let loaded = load(rt.alloc(), &text)?;
-    assert_ring(&rt, rt.alloc(), &loaded)
-}
-
-fn assert_ring(rt: &impl Abort, alloc: Global, loaded: &Loaded) -> Result<(), Fail> {
-    assert!(rt; loaded.tree.len() == 3);
-    assert!(rt; loaded.warnings.len() == 1000);
-    assert!(rt; say_of_each(alloc, "R::r", 0, "stands on a cycle", &loaded.warnings)?);
+    assert!(rt; gives_numbered(rt.alloc(), &text, 3, &CYCLE)?);
     Ok(())
 }
 
@@ -419,18 +441,22 @@ fn push_children(text: &mut String) -> Result<(), Fail> {
 fn many_children_come_in_order(rt: HostRuntime) -> Result<(), Fail> {
     let mut text = String::new(rt.alloc());
     push_children(&mut text)?;
-    let loaded = load(rt.alloc(), &text)?;
-    assert_children(&rt, &loaded)
+    assert!(rt; has_wide_tree(rt.alloc(), &text)?);
+    Ok(())
 }
 
-fn assert_children(rt: &impl Abort, loaded: &Loaded) -> Result<(), Fail> {
-    let tree = &loaded.tree;
-    assert!(rt; loaded.warnings.is_empty());
-    let top = oid("1.9")?;
-    assert!(rt; children_in_order(tree, &top) == Some(5000));
-    assert!(rt; tree.child(&top, b"c4999") == tree.find(b"M", b"c4999"));
-    assert!(rt; tree.child(&top, b"top").is_none());
-    Ok(())
+/// Whether a text has a tree without warnings, in which the 5000 children of 1.9 come in order.
+fn has_wide_tree(alloc: Global, text: &str) -> Result<bool, Fail> {
+    let loaded = load(alloc, text)?;
+    Ok(loaded.warnings.is_empty() && is_wide(&loaded.tree)?)
+}
+
+fn is_wide(tree: &Tree) -> Result<bool, Fail> {
+    Ok(
+        children_in_order(tree, &oid("1.9")?) == Some(5000)
+            && child(tree, "1.9", "c4999")? == tree.find(b"M", b"c4999")
+            && child(tree, "1.9", "top")?.is_none(),
+    )
 }
 
 /// How many children a node has, unless one's number isn't its place among them.

@@ -118,24 +118,26 @@ const BEFORE: usize = 19;
 /// The first of these rows whose syntax isn't as the row says.
 fn wrong_row(alloc: Global, rows: &[Row<'_>]) -> Result<Option<usize>, Fail> {
     let modules = modules(alloc, rows)?;
-    wrong_row_of(alloc, &modules, rows)
+    wrong_row_from(alloc, &modules, BEFORE, rows)
 }
 
-fn wrong_row_of(
+/// The first wrong row of objects that begin at a place of the first module.
+fn wrong_row_from(
     alloc: Global,
     modules: &[Module],
+    first: usize,
     rows: &[Row<'_>],
 ) -> Result<Option<usize>, Fail> {
     let names = Names::new(alloc, modules)?;
     let types = Types::new(alloc, &names, modules)?;
-    Ok(first_wrong(modules, &types, rows))
+    Ok(first_wrong(modules, &types, first, rows))
 }
 
-fn first_wrong(modules: &[Module], types: &Types, rows: &[Row<'_>]) -> Option<usize>
+fn first_wrong(modules: &[Module], types: &Types, first: usize, rows: &[Row<'_>]) -> Option<usize>
     requires { AreTypesOf modules.now types.now }
 {
     for (k, (_, expected)) in rows.iter().enumerate() {
-        let found = types.syntax(modules, 0, BEFORE.saturating_add(k));
+        let found = types.syntax(modules, 0, first.saturating_add(k));
         if !is_syntax(found, *expected) {
             return Some(k);
         }
@@ -232,29 +234,40 @@ fn only_objects_have_a_syntax(rt: HostRuntime) -> Result<(), Fail> {
 fn assert_objects(rt: &impl Abort, alloc: Global, modules: &[Module]) -> Result<(), Fail> {
     let names = Names::new(alloc, modules)?;
     let types = Types::new(alloc, &names, modules)?;
-    assert_places(rt, modules, &types);
+    assert!(rt; first_object(modules, &types) == Some(BEFORE));
+    assert!(rt; are_no_objects(modules, &types));
     Ok(())
 }
 
-fn assert_places(rt: &impl Abort, modules: &[Module], types: &Types)
+/// The place of the first object in the first module: the first definition with a syntax.
+fn first_object(modules: &[Module], types: &Types) -> Option<usize>
     requires { AreTypesOf modules.now types.now }
 {
-    for place in 0..BEFORE {
-        assert!(rt; types.syntax(modules, 0, place).is_none(), "{place}");
+    for place in 0..=BEFORE {
+        if types.syntax(modules, 0, place).is_some() {
+            return Some(place);
+        }
     }
-    assert!(rt; types.syntax(modules, 0, BEFORE).is_some());
-    assert!(rt; types.syntax(modules, 0, BEFORE + 1).is_none());
-    assert!(rt; types.syntax(modules, 1, 0).is_none());
-    assert!(rt; types.syntax(modules, 3, 0).is_none());
+    None
 }
+
+/// Whether there is no object after it, nor in the other modules or where there is no module.
+fn are_no_objects(modules: &[Module], types: &Types) -> bool
+    requires { AreTypesOf modules.now types.now }
+{
+    types.syntax(modules, 0, BEFORE + 1).is_none()
+        && types.syntax(modules, 1, 0).is_none()
+        && types.syntax(modules, 3, 0).is_none()
+}
+
+const CHAIN: &str = "M DEFINITIONS ::= BEGIN
+o OBJECT-TYPE SYNTAX T0 MAX-ACCESS read-only STATUS current DESCRIPTION \"\"
+::= { iso 1 }
+";
 
 /// A module with an object at the head of a chain of 10,001 types.
 fn push_chain(text: &mut String) -> Result<(), Fail> {
-    text.push_str("M DEFINITIONS ::= BEGIN\n")?;
-    text.push_str(
-        "o OBJECT-TYPE SYNTAX T0 MAX-ACCESS read-only STATUS current DESCRIPTION \"\"\n",
-    )?;
-    text.push_str("::= { iso 1 }\n")?;
+    text.push_str(CHAIN)?;
     for k in 0..10_000 {
         writeln!(text, "T{k} ::= T{}", k + 1)?;
     }
@@ -271,14 +284,7 @@ fn chain(alloc: Global) -> Result<Vec<Module>, Fail> {
 #[test]
 fn long_chains_have_a_syntax(rt: HostRuntime) -> Result<(), Fail> {
     let modules = chain(rt.alloc())?;
-    assert!(rt; has_last(rt.alloc(), &modules)?);
+    let last = [("T0", Some((TypeBase::Integer, "", "last", "")))];
+    assert!(rt; wrong_row_from(rt.alloc(), &modules, 0, &last)?.is_none());
     Ok(())
-}
-
-/// Whether the first object has the syntax at the end of the chain.
-fn has_last(alloc: Global, modules: &[Module]) -> Result<bool, Fail> {
-    let names = Names::new(alloc, modules)?;
-    let types = Types::new(alloc, &names, modules)?;
-    let found = types.syntax(modules, 0, 0);
-    Ok(is_syntax(found, Some((TypeBase::Integer, "", "last", ""))))
 }
