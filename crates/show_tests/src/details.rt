@@ -7,28 +7,37 @@ use smi_module::{Def, Module};
 use smi_show::{Letters, detail};
 use smi_text::parse_modules;
 use snmp_oid::Oid;
+use std::alloc::Global;
 use std::test::Fail;
 
-static COUNTED: [IndexPart; 1] = [IndexPart::Text(Extent::Counted)];
+const COUNTED: &[IndexPart] = &[IndexPart::Text(Extent::Counted)];
 
-/// Checks the details of an identifier.
-fn check(
-    rt: &HostRuntime,
+/// Whether an identifier has these details.
+fn has_details(
+    alloc: Global,
     definition: Option<&Def>,
     letters: &[u8],
     numbers: &[u32],
     text: &[u8],
-) -> Result<(), Fail> {
-    let mut tree = Known::new(Sample::new(&COUNTED));
+) -> Result<bool, Fail> {
+    let mut tree = Known::new(Sample::new(COUNTED));
     tree.definition = definition;
-    let letters = Letters::parse(letters).map_err(|_| "no letters")?;
-    let mut out = Vec::new(rt.alloc());
+    let letters = Letters::parse(letters).ok().ok_or("no letters")?;
+    let mut out = Vec::new(alloc);
     detail(&tree, &letters, &Oid::from_slice(numbers)?, &mut out)?;
-    if out.as_slice() == text {
-        Ok(())
-    } else {
-        Err("another text")?
-    }
+    Ok(out.as_slice() == text)
+}
+
+/// Whether an identifier has these details by the only definition of a module.
+fn has_details_by(
+    alloc: Global,
+    module: &[u8],
+    letters: &[u8],
+    numbers: &[u32],
+    text: &[u8],
+) -> Result<bool, Fail> {
+    let modules = parse_modules(alloc, module)?;
+    has_details(alloc, only(&modules), letters, numbers, text)
 }
 
 /// The only definition of the only module.
@@ -86,27 +95,33 @@ tinyMac MODULE-IDENTITY
 
 #[test]
 fn clauses_of_a_definition(rt: HostRuntime) -> Result<(), Fail> {
-    let modules = parse_modules(rt.alloc(), STATE)?;
-    check(&rt, only(&modules), b"", &[1, 3, 6, 2], STATE_DETAILS)?;
-    let modules = parse_modules(rt.alloc(), ROW)?;
-    check(&rt, only(&modules), b"f", &[1, 3, 6, 2, 0], ROW_DETAILS)?;
-    let modules = parse_modules(rt.alloc(), GROUP)?;
-    check(&rt, only(&modules), b"", &[1, 3, 6, 2], GROUP_DETAILS)
+    let alloc = rt.alloc();
+    assert!(rt; has_details_by(alloc, STATE, b"", &[1, 3, 6, 2], STATE_DETAILS)?);
+    assert!(rt; has_details_by(alloc, ROW, b"f", &[1, 3, 6, 2, 0], ROW_DETAILS)?);
+    assert!(rt; has_details_by(alloc, GROUP, b"", &[1, 3, 6, 2], GROUP_DETAILS)?);
+    Ok(())
 }
+
+/// Letters, the numbers of an identifier without a definition, and its details.
+static UNDEFINED: [(&[u8], &[u32], &str); 5] = [
+    (b"", &[1], "iso\niso OBJECT IDENTIFIER\n::= { 1 }\n"),
+    (
+        b"",
+        &[1, 3, 7],
+        "iso.3.7\niso OBJECT IDENTIFIER\n::= { iso(1) 3 7 }\n",
+    ),
+    (b"", &[2, 5], ".2.5\n::= { 2 5 }\n"),
+    (b"", &[], ".\n::= { }\n"),
+    (b"n", &[1], ".1\niso OBJECT IDENTIFIER\n::= { 1 }\n"),
+];
 
 #[test]
 fn roots_and_other_identifiers(rt: HostRuntime) -> Result<(), Fail> {
-    let root = b"iso\niso OBJECT IDENTIFIER\n::= { 1 }\n";
-    check(&rt, None, b"", &[1], root)?;
-    let below = b"iso.3.7\niso OBJECT IDENTIFIER\n::= { iso(1) 3 7 }\n";
-    check(&rt, None, b"", &[1, 3, 7], below)?;
-    check(&rt, None, b"", &[2, 5], b".2.5\n::= { 2 5 }\n")?;
-    check(&rt, None, b"", &[], b".\n::= { }\n")?;
-    check(
-        &rt,
-        None,
-        b"n",
-        &[1],
-        b".1\niso OBJECT IDENTIFIER\n::= { 1 }\n",
-    )
+    for (letters, numbers, text) in &UNDEFINED {
+        assert!(rt;
+            has_details(rt.alloc(), None, letters, numbers, text.as_bytes())?,
+            "{text}"
+        );
+    }
+    Ok(())
 }

@@ -8,189 +8,294 @@ use smi_show::{Letters, line, name_text, value_text};
 use smi_value::ValueBase;
 use snmp_ber::ValueRef;
 use snmp_oid::Oid;
+use std::alloc::Global;
+use std::process::Abort;
 use std::test::Fail;
 
-static COUNTED: [IndexPart; 1] = [IndexPart::Text(Extent::Counted)];
+const COUNTED: &[IndexPart] = &[IndexPart::Text(Extent::Counted)];
+
+/// The nodes alone.
+fn known<'a>() -> Known<'a> {
+    Known::new(Sample::new(COUNTED))
+}
+
+fn letters_of(letters: &[u8]) -> Result<Letters, Fail> {
+    Ok(Letters::parse(letters).ok().ok_or("no letters")?)
+}
+
+/// Whether a binding has this line, after what stands before it.
+fn has_line(
+    alloc: Global,
+    tree: &Known<'_>,
+    letters: &Letters,
+    name: &Oid,
+    value: &ValueRef<'_>,
+    text: &[u8],
+) -> Result<bool, Fail> {
+    let mut out = Vec::from_slice(alloc, b"before")?;
+    line(tree, letters, name, value, &mut out)?;
+    Ok(out.strip_prefix(b"before") == Some(text))
+}
+
+/// Whether a line ends in the text of its value.
+fn ends_in_value(
+    alloc: Global,
+    tree: &Known<'_>,
+    letters: &Letters,
+    name: &Oid,
+    value: &ValueRef<'_>,
+    line: &[u8],
+) -> Result<bool, Fail> {
+    let mut shown = Vec::new(alloc);
+    value_text(tree, letters, name, value, &mut shown)?;
+    shown.push(b'\n')?;
+    Ok(line.ends_with(&shown))
+}
 
 /// Checks the line of a binding, the text of its value, and what stands before both.
-fn check(
-    rt: &HostRuntime,
+fn assert_line(
+    rt: &impl Abort,
+    alloc: Global,
     tree: &Known<'_>,
     letters: &[u8],
     numbers: &[u32],
     value: &ValueRef<'_>,
-    text: &[u8],
+    text: &str,
 ) -> Result<(), Fail> {
-    let letters = Letters::parse(letters).map_err(|_| "no letters")?;
-    let oid = Oid::from_slice(numbers)?;
-    let mut out = Vec::from_slice(rt.alloc(), b"before")?;
-    line(tree, &letters, &oid, value, &mut out)?;
-    let mut shown = Vec::new(rt.alloc());
-    value_text(tree, &letters, &oid, value, &mut shown)?;
-    shown.push(b'\n')?;
-    if out.strip_prefix(b"before") == Some(text) && out.ends_with(&shown) {
-        Ok(())
-    } else {
-        Err("another text")?
+    let letters = letters_of(letters)?;
+    let name = Oid::from_slice(numbers)?;
+    let line = text.as_bytes();
+    assert!(rt;
+        has_line(alloc, tree, &letters, &name, value, line)?,
+        "{text}"
+    );
+    assert!(rt;
+        ends_in_value(alloc, tree, &letters, &name, value, line)?,
+        "{text}"
+    );
+    Ok(())
+}
+
+/// Checks the lines of a binding by letters.
+fn assert_lines(
+    rt: &impl Abort,
+    alloc: Global,
+    tree: &Known<'_>,
+    numbers: &[u32],
+    value: &ValueRef<'_>,
+    rows: &[(&[u8], &str)],
+) -> Result<(), Fail> {
+    for (letters, text) in rows {
+        assert_line(rt, alloc, tree, letters, numbers, value, text)?;
     }
+    Ok(())
 }
 
 /// The instance of `tinyMac` whose index is `wes`.
 const WES: [u32; 8] = [1, 3, 6, 2, 3, 119, 101, 115];
 
+/// Letters, and the line of a value by the letters.
+static NAMES: [(&[u8], &str); 14] = [
+    (
+        b"",
+        "TINY-MIB::tinyMac.\"wes\" = STRING: 0:16:3e:5a:78:8e\n",
+    ),
+    (
+        b"S",
+        "TINY-MIB::tinyMac.\"wes\" = STRING: 0:16:3e:5a:78:8e\n",
+    ),
+    (b"s", "tinyMac.\"wes\" = STRING: 0:16:3e:5a:78:8e\n"),
+    (
+        b"f",
+        ".iso.3.6.tinyMac.\"wes\" = STRING: 0:16:3e:5a:78:8e\n",
+    ),
+    (b"n", ".1.3.6.2.3.119.101.115 = STRING: 0:16:3e:5a:78:8e\n"),
+    (
+        b"b",
+        "TINY-MIB::tinyMac.3.119.101.115 = STRING: 0:16:3e:5a:78:8e\n",
+    ),
+    (
+        b"fb",
+        ".iso.3.6.tinyMac.3.119.101.115 = STRING: 0:16:3e:5a:78:8e\n",
+    ),
+    (b"q", "TINY-MIB::tinyMac.\"wes\" 0:16:3e:5a:78:8e\n"),
+    (b"Q", "TINY-MIB::tinyMac.\"wes\" = 0:16:3e:5a:78:8e\n"),
+    (b"v", "STRING: 0:16:3e:5a:78:8e\n"),
+    (b"qv", "0:16:3e:5a:78:8e\n"),
+    (b"Qvs", "0:16:3e:5a:78:8e\n"),
+    (b"xas", "tinyMac.\"wes\" = STRING: 0:16:3e:5a:78:8e\n"),
+    (
+        b"nS",
+        "TINY-MIB::tinyMac.\"wes\" = STRING: 0:16:3e:5a:78:8e\n",
+    ),
+];
+
 #[test]
 fn names_by_each_letter(rt: HostRuntime) -> Result<(), Fail> {
-    let mut tree = Known::new(Sample::new(&COUNTED));
+    let mut tree = known();
     tree.base = Some(ValueBase::OctetString);
     tree.hint = Some(b"1x:");
     let value = ValueRef::Octets(b"\x00\x16\x3e\x5a\x78\x8e");
-    let rows = [
-        (
-            b"".as_slice(),
-            b"TINY-MIB::tinyMac.\"wes\" = STRING: 0:16:3e:5a:78:8e\n".as_slice(),
-        ),
-        (
-            b"S",
-            b"TINY-MIB::tinyMac.\"wes\" = STRING: 0:16:3e:5a:78:8e\n",
-        ),
-        (b"s", b"tinyMac.\"wes\" = STRING: 0:16:3e:5a:78:8e\n"),
-        (
-            b"f",
-            b".iso.3.6.tinyMac.\"wes\" = STRING: 0:16:3e:5a:78:8e\n",
-        ),
-        (b"n", b".1.3.6.2.3.119.101.115 = STRING: 0:16:3e:5a:78:8e\n"),
-        (
-            b"b",
-            b"TINY-MIB::tinyMac.3.119.101.115 = STRING: 0:16:3e:5a:78:8e\n",
-        ),
-        (
-            b"fb",
-            b".iso.3.6.tinyMac.3.119.101.115 = STRING: 0:16:3e:5a:78:8e\n",
-        ),
-        (b"q", b"TINY-MIB::tinyMac.\"wes\" 0:16:3e:5a:78:8e\n"),
-        (b"Q", b"TINY-MIB::tinyMac.\"wes\" = 0:16:3e:5a:78:8e\n"),
-        (b"v", b"STRING: 0:16:3e:5a:78:8e\n"),
-        (b"qv", b"0:16:3e:5a:78:8e\n"),
-        (b"Qvs", b"0:16:3e:5a:78:8e\n"),
-        (b"xas", b"tinyMac.\"wes\" = STRING: 0:16:3e:5a:78:8e\n"),
-        (
-            b"nS",
-            b"TINY-MIB::tinyMac.\"wes\" = STRING: 0:16:3e:5a:78:8e\n",
-        ),
-    ];
-    for (letters, text) in rows {
-        check(&rt, &tree, letters, &WES, &value, text)?;
-    }
-    Ok(())
+    assert_lines(&rt, rt.alloc(), &tree, &WES, &value, &NAMES)
 }
+
+/// Letters, and the line of an identifier by the letters.
+static IDENTIFIERS: [(&[u8], &str); 7] = [
+    (b"", "iso.3 = OID: TINY-MIB::tinyMac.\"wes\"\n"),
+    (b"n", ".1.3 = OID: .1.3.6.2.3.119.101.115\n"),
+    (b"s", "iso.3 = OID: tinyMac.\"wes\"\n"),
+    (b"f", ".iso.3 = OID: .iso.3.6.tinyMac.\"wes\"\n"),
+    (b"b", "iso.3 = OID: TINY-MIB::tinyMac.3.119.101.115\n"),
+    (b"q", "iso.3 TINY-MIB::tinyMac.\"wes\"\n"),
+    (b"v", "OID: TINY-MIB::tinyMac.\"wes\"\n"),
+];
 
 #[test]
 fn identifiers_are_shown_as_names(rt: HostRuntime) -> Result<(), Fail> {
-    let tree = Known::new(Sample::new(&COUNTED));
-    let rows = [
-        (
-            b"".as_slice(),
-            b"iso.3 = OID: TINY-MIB::tinyMac.\"wes\"\n".as_slice(),
-        ),
-        (b"n", b".1.3 = OID: .1.3.6.2.3.119.101.115\n"),
-        (b"s", b"iso.3 = OID: tinyMac.\"wes\"\n"),
-        (b"f", b".iso.3 = OID: .iso.3.6.tinyMac.\"wes\"\n"),
-        (b"b", b"iso.3 = OID: TINY-MIB::tinyMac.3.119.101.115\n"),
-        (b"q", b"iso.3 TINY-MIB::tinyMac.\"wes\"\n"),
-        (b"v", b"OID: TINY-MIB::tinyMac.\"wes\"\n"),
-    ];
-    for (letters, text) in rows {
-        let value = ValueRef::ObjectId(Oid::from_slice(&WES)?);
-        check(&rt, &tree, letters, &[1, 3], &value, text)?;
-    }
-    Ok(())
+    let value = ValueRef::ObjectId(Oid::from_slice(&WES)?);
+    assert_lines(&rt, rt.alloc(), &known(), &[1, 3], &value, &IDENTIFIERS)
 }
 
 #[test]
 fn a_syntax_shows_values_of_its_type_alone(rt: HostRuntime) -> Result<(), Fail> {
-    let names = [NamedNumber {
+    let names = [up(rt.alloc())?];
+    assert_integers(&rt, rt.alloc(), &names)?;
+    assert_others(&rt, rt.alloc(), &names)
+}
+
+/// The name `up` of the number 1.
+fn up(alloc: Global) -> Result<NamedNumber, Fail> {
+    let octets = Vec::from_slice(alloc, b"up")?;
+    let number = Vec::from_slice(alloc, b"1")?;
+    Ok(NamedNumber {
         name: Name {
-            octets: Text::new(Vec::from_slice(rt.alloc(), b"up")?),
+            octets: Text::new(octets),
         },
-        number: Text::new(Vec::from_slice(rt.alloc(), b"1")?),
-    }];
-    let mut tree = Known::new(Sample::new(&COUNTED));
-    tree.base = Some(ValueBase::Integer);
-    tree.names = &names;
+        number: Text::new(number),
+    })
+}
+
+/// The nodes, with a base, names of numbers, and units.
+fn known_with(base: ValueBase, names: &[NamedNumber]) -> Known<'_> {
+    let mut tree = known();
+    tree.base = Some(base);
+    tree.names = names;
     tree.units = Some(b"jobs");
-    let iso = [1];
-    check(
-        &rt,
+    tree
+}
+
+/// Checks the line of a value of `iso`.
+fn assert_iso(
+    rt: &impl Abort,
+    alloc: Global,
+    tree: &Known<'_>,
+    letters: &[u8],
+    value: &ValueRef<'_>,
+    text: &str,
+) -> Result<(), Fail> {
+    assert_line(rt, alloc, tree, letters, &[1], value, text)
+}
+
+fn assert_integers(rt: &impl Abort, alloc: Global, names: &[NamedNumber]) -> Result<(), Fail> {
+    let tree = known_with(ValueBase::Integer, names);
+    assert_iso(
+        rt,
+        alloc,
         &tree,
         b"",
-        &iso,
         &ValueRef::Integer(1),
-        b"iso = INTEGER: up(1)\n",
+        "iso = INTEGER: up(1)\n",
     )?;
-    check(&rt, &tree, b"q", &iso, &ValueRef::Integer(1), b"iso up\n")?;
-    check(
-        &rt,
+    assert_iso(rt, alloc, &tree, b"q", &ValueRef::Integer(1), "iso up\n")?;
+    assert_iso(
+        rt,
+        alloc,
         &tree,
         b"e",
-        &iso,
         &ValueRef::Integer(1),
-        b"iso = INTEGER: 1\n",
+        "iso = INTEGER: 1\n",
     )?;
-    check(
-        &rt,
+    assert_iso(
+        rt,
+        alloc,
         &tree,
         b"",
-        &iso,
         &ValueRef::Integer(2),
-        b"iso = INTEGER: 2 jobs\n",
+        "iso = INTEGER: 2 jobs\n",
     )?;
-    check(
-        &rt,
+    assert_iso(
+        rt,
+        alloc,
         &tree,
         b"U",
-        &iso,
         &ValueRef::Integer(2),
-        b"iso = INTEGER: 2\n",
+        "iso = INTEGER: 2\n",
     )?;
-    check(
-        &rt,
+    assert_iso(
+        rt,
+        alloc,
         &tree,
         b"",
-        &iso,
         &ValueRef::Gauge32(2),
-        b"iso = Gauge32: 2\n",
+        "iso = Gauge32: 2\n",
     )?;
-    check(&rt, &tree, b"", &iso, &ValueRef::Null, b"iso = NULL\n")?;
-    tree.base = Some(ValueBase::Bits);
+    assert_iso(rt, alloc, &tree, b"", &ValueRef::Null, "iso = NULL\n")
+}
+
+fn assert_others(rt: &impl Abort, alloc: Global, names: &[NamedNumber]) -> Result<(), Fail> {
+    let tree = known_with(ValueBase::Bits, names);
     let bits = ValueRef::Octets(b"\x40");
-    check(&rt, &tree, b"", &iso, &bits, b"iso = BITS: 40 up(1) \n")?;
-    tree.base = Some(ValueBase::TimeTicks);
+    assert_iso(rt, alloc, &tree, b"", &bits, "iso = BITS: 40 up(1) \n")?;
+    let tree = known_with(ValueBase::TimeTicks, names);
     let ticks = ValueRef::TimeTicks(14096763);
-    check(&rt, &tree, b"t", &iso, &ticks, b"iso = 14096763 jobs\n")
+    assert_iso(rt, alloc, &tree, b"t", &ticks, "iso = 14096763 jobs\n")
 }
 
 #[test]
 fn exceptions_have_their_texts(rt: HostRuntime) -> Result<(), Fail> {
-    let tree = Known::new(Sample::new(&COUNTED));
-    let text = b".1.0 = No Such Object available on this agent at this OID\n";
-    check(&rt, &tree, b"n", &[1, 0], &ValueRef::NoSuchObject, text)?;
-    let text = b".1.0 = No Such Instance currently exists at this OID\n";
-    check(&rt, &tree, b"n", &[1, 0], &ValueRef::NoSuchInstance, text)?;
-    let text =
-        b". = No more variables left in this MIB View (It is past the end of the MIB tree)\n";
-    check(&rt, &tree, b"n", &[], &ValueRef::EndOfMibView, text)
+    assert_exceptions(&rt, rt.alloc(), &known())
+}
+
+fn assert_exceptions(rt: &impl Abort, alloc: Global, tree: &Known<'_>) -> Result<(), Fail> {
+    let text = ".1.0 = No Such Object available on this agent at this OID\n";
+    assert_line(
+        rt,
+        alloc,
+        tree,
+        b"n",
+        &[1, 0],
+        &ValueRef::NoSuchObject,
+        text,
+    )?;
+    let text = ".1.0 = No Such Instance currently exists at this OID\n";
+    assert_line(
+        rt,
+        alloc,
+        tree,
+        b"n",
+        &[1, 0],
+        &ValueRef::NoSuchInstance,
+        text,
+    )?;
+    let text = ". = No more variables left in this MIB View (It is past the end of the MIB tree)\n";
+    assert_line(rt, alloc, tree, b"n", &[], &ValueRef::EndOfMibView, text)
 }
 
 #[test]
 fn a_name_alone(rt: HostRuntime) -> Result<(), Fail> {
-    let tree = Known::new(Sample::new(&COUNTED));
     let mut out = Vec::new(rt.alloc());
-    for letters in [b"".as_slice(), b"n", b"f", b"s"] {
-        let letters = Letters::parse(letters).map_err(|_| "no letters")?;
-        name_text(&tree, &letters, &Oid::from_slice(&[1, 3, 6, 2])?, &mut out)?;
-        out.push(b' ')?;
-    }
+    push_names(&known(), &mut out)?;
     let all = b"TINY-MIB::tinyMac .1.3.6.2 .iso.3.6.tinyMac tinyMac ";
     assert!(rt; out.as_slice() == all.as_slice());
+    Ok(())
+}
+
+/// Appends the names of the column by four letters.
+fn push_names(tree: &Known<'_>, out: &mut Vec<u8>) -> Result<(), Fail> {
+    let column = Oid::from_slice(&[1, 3, 6, 2])?;
+    for letters in [b"".as_slice(), b"n", b"f", b"s"] {
+        name_text(tree, &letters_of(letters)?, &column, out)?;
+        out.push(b' ')?;
+    }
     Ok(())
 }
