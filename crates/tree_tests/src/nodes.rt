@@ -23,8 +23,8 @@ same OBJECT IDENTIFIER ::= { n }
 END
 ";
 
-/// Of each node the place of its module, that of its definition there, and its identifier. The roots
-/// stand first, in no module.
+/// Of each node the place of its module, that of its definition there, and its identifier. The
+/// roots stand first, in no module.
 static NODES: [(Option<(usize, usize)>, &str); 7] = [
     (None, "0"),
     (None, "1"),
