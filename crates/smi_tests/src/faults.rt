@@ -313,10 +313,15 @@ fn put_braces(text: &mut Vec<u8>, brace: u8) -> Result<(), AllocError> {
     Ok(())
 }
 
+/// The fault of a text that ends its last line.
+fn fault_of_line(alloc: Global, text: &[u8]) -> Result<Option<ParseError>, AllocError> {
+    fault_of_pieces(alloc, &[text, b"\n"])
+}
+
 /// Appends braces to the front of a module, and asserts that it is read where all are closed.
 fn assert_deep(rt: &impl Abort, alloc: Global, text: &mut Vec<u8>) -> Result<(), AllocError> {
     put_braces(text, b'{')?;
-    assert_eq!(rt; fault_of_pieces(alloc, &[text, b"\n"])?, syntax(2));
+    assert_eq!(rt; fault_of_line(alloc, text)?, syntax(2));
     put_braces(text, b'}')?;
     text.extend_from_slice(b"}\nEND\n")?;
     assert_eq!(rt; counts(alloc, text), Ok((1, 1)));

@@ -4,7 +4,7 @@ use smi_lexer::TokenKind::{
     Assign, Binary, CloseBrace, CloseParen, Colon, Dot, Hex, Lower, Number, OpenBrace, OpenParen,
     Range, Text, Upper,
 };
-use smi_lexer::{LexError, Lexer, TokenKind};
+use smi_lexer::{LexError, Lexer, Token, TokenKind};
 use std::process::Abort;
 
 /// A token's kind, text and line.
@@ -13,22 +13,26 @@ type Row = (TokenKind, &'static [u8], usize);
 /// A text, its tokens, and its fault if it breaks off.
 type Case = (&'static [u8], &'static [Row], Option<LexError>);
 
+/// Compares a token of a text, also with the octets at its span.
+fn expect_token(rt: &impl Abort, text: &[u8], token: &Token<'_>, row: &Row) {
+    let (kind, octets, line) = row;
+    assert_eq!(rt; token.kind, *kind, "in {text:?}");
+    assert_eq!(rt; token.text, *octets, "in {text:?}");
+    assert_eq!(rt; token.line, *line, "in {text:?}");
+    let span = token.span;
+    assert_eq!(rt;
+        text.get(span.start..span.end),
+        Some(*octets),
+        "in {text:?}"
+    );
+}
+
 /// Compares the tokens and the fault of a text, and checks that the lexer ends after them.
 fn expect(rt: &impl Abort, text: &[u8], rows: &[Row], fault: Option<LexError>) {
     let mut lexer = Lexer::new(text);
-    for (kind, octets, line) in rows {
+    for row in rows {
         match lexer.next() {
-            Some(Ok(token)) => {
-                assert_eq!(rt; token.kind, *kind, "in {text:?}");
-                assert_eq!(rt; token.text, *octets, "in {text:?}");
-                assert_eq!(rt; token.line, *line, "in {text:?}");
-                let span = token.span;
-                assert_eq!(rt;
-                    text.get(span.start..span.end),
-                    Some(*octets),
-                    "in {text:?}"
-                );
-            }
+            Some(Ok(token)) => expect_token(rt, text, &token, row),
             _ => assert!(rt; false, "a token is missing in {text:?}"),
         }
     }

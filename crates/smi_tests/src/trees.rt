@@ -46,17 +46,22 @@ fn assert_shapes(rt: &impl Abort, modules: &[Module]) {
 
 /// Asserts that the definitions of modules have their clauses.
 fn assert_clauses(rt: &impl Abort, modules: &[Module]) {
-    assert_eq!(rt; has_identities(modules), Some(true), "identities");
-    assert_eq!(rt; has_groups(modules), Some(true), "groups");
-    assert_eq!(rt; has_objects(modules), Some(true), "objects");
-    assert_eq!(rt; has_indexes(modules), Some(true), "indexes");
-    assert_eq!(rt; has_conventions(modules), Some(true), "conventions");
-    assert_eq!(rt; has_types(modules), Some(true), "types");
-    assert_eq!(rt; has_raw_tokens(modules), Some(true), "raw tokens");
+    assert_right(rt, has_identities(modules), "identities");
+    assert_right(rt, has_groups(modules), "groups");
+    assert_right(rt, has_objects(modules), "objects");
+    assert_right(rt, has_indexes(modules), "indexes");
+    assert_right(rt, has_conventions(modules), "conventions");
+    assert_right(rt, has_types(modules), "types");
+    assert_right(rt, has_raw_tokens(modules), "raw tokens");
+}
+
+/// Asserts that definitions are there, and that what they have is right.
+fn assert_right(rt: &impl Abort, right: Option<bool>, what: &str) {
+    assert_eq!(rt; right, Some(true), "{what}");
 }
 
 /// The name, line, kind and identifier value of each definition, with `@` between them.
-const SHAPES: [&str; 26] = [
+const SHAPES: &[&str] = &[
     "m@5@MODULE-IDENTITY@iso 1",
     "o@7@OBJECT IDENTIFIER@iso org(3) dod(6) 1",
     "oi@8@OBJECT-IDENTITY@o 1",

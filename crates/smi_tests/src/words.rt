@@ -22,7 +22,7 @@ const MACROS: &str =
 /// place, the text after it, the words with which the whole is a module text, and the words that
 /// may stand there although the whole isn't one, so that the fault comes after the word. MACROS
 /// stands for all names of macros, ANY for all words.
-const OUTSIDE: [&str; 6] = [
+const OUTSIDE: &[&str] = &[
     "@DEFINITIONS ::= BEGIN END@@",
     "A {@} DEFINITIONS ::= BEGIN END@@",
     "A { a@} DEFINITIONS ::= BEGIN END@@",
@@ -32,7 +32,7 @@ const OUTSIDE: [&str; 6] = [
 ];
 
 /// Places in a module, whose head comes before the text.
-const INSIDE: [&str; 80] = [
+const INSIDE: &[&str] = &[
     "IMPORTS@FROM B; END@MACROS@",
     "IMPORTS a,@FROM B; END@MACROS@",
     "IMPORTS a@B; END@FROM@",
