@@ -94,6 +94,46 @@ fn is_untouched(out: &[u8]) -> bool {
     out.iter().all(|octet| *octet == 0xEE)
 }
 
+/// [`encode`] without its clauses: the tests compare what it returns and writes.
+fn put(parts: &Parts<'_>, out: &mut [u8]) -> Option<usize>
+    requires community { length parts.now.community.now ≤ 65535 }
+    requires bindings { All (λ b. IsEncodable (var_bind b)) parts.now.bindings.now }
+    requires total { length (canon_bindings (var_binds parts.now.bindings.now)) ≤ 4000000000 }
+{
+    encode(parts, out)
+}
+
+/// [`size`] without its clauses.
+fn size_of(parts: &Parts<'_>) -> u64
+    requires community { length parts.now.community.now ≤ 65535 }
+    requires bindings { All (λ b. IsEncodable (var_bind b)) parts.now.bindings.now }
+    requires total { length (canon_bindings (var_binds parts.now.bindings.now)) ≤ 4000000000 }
+{
+    size(parts)
+}
+
+/// [`encode_binding`] without its clauses.
+fn put_binding(binding: &Binding<'_>, out: &mut [u8]) -> Option<usize>
+    requires { IsEncodable (var_bind binding.now) }
+{
+    encode_binding(binding, out)
+}
+
+/// [`binding_size`] without its clauses.
+fn size_of_binding(binding: &Binding<'_>) -> u64
+    requires { IsEncodable (var_bind binding.now) }
+{
+    binding_size(binding)
+}
+
+/// Asserts that octets stand at the front, and that what stands after them is as it was.
+fn assert_front(rt: &impl Abort, out: &[u8], octets: &[u8]) {
+    assert!(rt; octets.len() <= out.len());
+    let (front, rest) = out.split_at(octets.len());
+    assert_eq!(rt; front, octets);
+    assert!(rt; is_untouched(rest));
+}
+
 /// Writes the message of these parts to the front of a slice, and asserts that it is these octets
 /// and that what stands after them stays.
 fn assert_put(rt: &impl Abort, parts: &Parts<'_>, out: &mut [u8], octets: &[u8])
@@ -101,15 +141,11 @@ fn assert_put(rt: &impl Abort, parts: &Parts<'_>, out: &mut [u8], octets: &[u8])
     requires bindings { All (λ b. IsEncodable (var_bind b)) parts.now.bindings.now }
     requires total { length (canon_bindings (var_binds parts.now.bindings.now)) ≤ 4000000000 }
 {
-    let len = octets.len();
-    assert_eq!(rt; encode(parts, out), Some(len));
-    assert!(rt; len <= out.len());
-    let (front, rest) = out.split_at(len);
-    assert_eq!(rt; front, octets);
-    assert!(rt; is_untouched(rest));
+    assert_eq!(rt; put(parts, out), Some(octets.len()));
+    assert_front(rt, out, octets);
 }
 
-/// The same of the message of these parts.
+/// Whether the message of these parts is these octets, in slices of the three lengths.
 fn assert_parts(rt: &impl Abort, parts: &Parts<'_>, octets: &[u8])
     requires community { length parts.now.community.now ≤ 65535 }
     requires bindings { All (λ b. IsEncodable (var_bind b)) parts.now.bindings.now }
@@ -117,9 +153,9 @@ fn assert_parts(rt: &impl Abort, parts: &Parts<'_>, octets: &[u8])
 {
     let len = octets.len();
     assert!(rt; 0 < len && len < 512);
-    assert_eq!(rt; size(parts), len as u64);
+    assert_eq!(rt; size_of(parts), len as u64);
     let mut out = [0xEE; 512];
-    assert_eq!(rt; encode(parts, &mut out[..len - 1]), None);
+    assert_eq!(rt; put(parts, &mut out[..len - 1]), None);
     assert!(rt; is_untouched(&out));
     assert_put(rt, parts, &mut out[..len], octets);
     let mut out = [0xEE; 512];
@@ -153,26 +189,15 @@ fn assert_value(rt: &impl Abort, value: ValueRef<'_>, octets: &[u8]) {
 fn assert_binding(rt: &impl Abort, binding: &Binding<'_>, octets: &[u8])
     requires { IsEncodable (var_bind binding.now) }
 {
-    let mut out = [0xEE; 1024];
     let len = octets.len();
     assert!(rt; len < 100);
-    assert_eq!(rt; binding_size(binding), (len + 5) as u64);
-    assert_eq!(rt; encode_binding(binding, &mut out[..len + 4]), None);
+    assert_eq!(rt; size_of_binding(binding), (len + 5) as u64);
+    let mut out = [0xEE; 1024];
+    assert_eq!(rt; put_binding(binding, &mut out[..len + 4]), None);
     assert!(rt; is_untouched(&out));
-    assert_eq!(rt; encode_binding(binding, &mut out), Some(len + 5));
-    assert_put_value(rt, &out, octets);
-}
-
-/// Asserts that a binding of the name 1.3 and a value of these octets stands at the front, and that
-/// what stands after it stays.
-fn assert_put_value(rt: &impl Abort, out: &[u8], octets: &[u8]) {
-    let len = octets.len();
-    assert!(rt; len < 100 && len + 5 <= out.len());
-    let (front, rest) = out.split_at(len + 5);
-    let (head, value) = front.split_at(5);
-    assert_eq!(rt; head, [0x30, (len + 3) as u8, 0x06, 0x01, 0x2B].as_slice());
-    assert_eq!(rt; value, octets);
-    assert!(rt; is_untouched(rest));
+    assert_eq!(rt; put_binding(binding, &mut out), Some(len + 5));
+    assert_front(rt, &out[..5], &[0x30, (len + 3) as u8, 0x06, 0x01, 0x2B]);
+    assert_front(rt, &out[5..], octets);
 }
 
 #[test]
