@@ -138,8 +138,8 @@ const ONES: &[u8] =
 const TWOS: &[u8] =
     b"1.3.6.1.4.1.32473.8.1|2|2\n1.3.6.1.4.1.32473.8.2|2|2\n1.3.6.1.4.1.32473.8.3|2|2\n";
 
-/// The walk over the link of a case gives the rows 1, 2 and 3 with these values, and sends this many
-/// datagrams.
+/// The walk over the link of a case gives the rows 1, 2 and 3 with these values, and sends this
+/// many datagrams.
 fn assert_places(rt: &impl Abort, alloc: Global, case: Case<'_>, places: [i32; 3], sends: usize) {
     let wanted = [
         (NAMES[0], ValueRef::Integer(places[0])),

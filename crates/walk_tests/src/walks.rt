@@ -45,8 +45,8 @@ struct Brought {
     requests: usize,
 }
 
-/// Whether the walk of a case gives these integers, sends this many datagrams and requests, and ends
-/// in this way.
+/// Whether the walk of a case gives these integers, sends this many datagrams and requests, and
+/// ends in this way.
 fn brings(
     alloc: Global,
     table: &Table,
@@ -234,8 +234,8 @@ fn gives(alloc: Global, table: &Table, core: WalkCore, number: u64, rows: u64) -
     walk_ends(&mut link, core, 0, &mut digits, &WalkEnd::Done(rows)) && digits.number == number
 }
 
-/// The walk below the root that is resumed after this name is done with these integers as digits, in
-/// this many rows.
+/// The walk below the root that is resumed after this name is done with these integers as digits,
+/// in this many rows.
 fn assert_resumed(rt: &impl Abort, alloc: Global, after: &[u8], number: u64, rows: u64) {
     let core = resumed(rt, &name_of(rt, after), Method::Next);
     let table = table_of(rt, alloc, THREE);
