@@ -1,7 +1,7 @@
 //! The small modules that the tests load.
 
 /// Two modules in one file: the second imports what there isn't, and has a cycle.
-pub(crate) const TINY: &str = "TINY-SMI DEFINITIONS ::= BEGIN
+pub(crate) const TINY: &[u8] = b"TINY-SMI DEFINITIONS ::= BEGIN
 enterprises OBJECT IDENTIFIER ::= { private 1 }
 private     OBJECT IDENTIFIER ::= { internet 4 }
 internet    OBJECT IDENTIFIER ::= { iso org(3) dod(6) 1 }
@@ -50,7 +50,7 @@ snmp: TINY-MIB is loaded twice
 ";
 
 /// A module of a definition without a meaning and one of more numbers than an identifier may have.
-pub(crate) const ASTRAY: &str = "ASTRAY-MIB DEFINITIONS ::= BEGIN
+pub(crate) const ASTRAY: &[u8] = b"ASTRAY-MIB DEFINITIONS ::= BEGIN
 lost OBJECT IDENTIFIER ::= { nowhere 1 }
 long OBJECT IDENTIFIER ::= { iso
   1 1 1 1 1 1 1 1 1 1 1 1 1 1 1 1 1 1 1 1 1 1 1 1 1 1 1 1 1 1 1 1
@@ -67,14 +67,14 @@ snmp: ASTRAY-MIB::long is too long
 ";
 
 /// A module without a warning, if the one below is loaded too.
-pub(crate) const ACROSS: &str = "ACROSS-MIB DEFINITIONS ::= BEGIN
+pub(crate) const ACROSS: &[u8] = b"ACROSS-MIB DEFINITIONS ::= BEGIN
 IMPORTS well FROM WELL-MIB;
 across OBJECT IDENTIFIER ::= { well 2 }
 END
 ";
 
 /// A module without a warning.
-pub(crate) const WELL: &str = "WELL-MIB DEFINITIONS ::= BEGIN
+pub(crate) const WELL: &[u8] = b"WELL-MIB DEFINITIONS ::= BEGIN
 well OBJECT IDENTIFIER ::= { iso 7 }
 END
 ";
