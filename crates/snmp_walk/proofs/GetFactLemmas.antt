@@ -43,8 +43,8 @@ use Rattle.snmp_walk.specs.Heard.{Exchanges, IsAsked}
 use Rattle.snmp_walk.specs.Facts.{IsDone, IsDoneOrStopped}
 use Rattle.snmp_walk.specs.declared.rows.Step.{Step}
 use Rattle.snmp_walk.specs.declared.rows.Step.TheVariants as step
-use Rattle.snmp_walk.specs.declared.tries.Heard.{Heard}
-use Rattle.snmp_walk.specs.declared.tries.Heard.TheVariants as heard
+use Rattle.snmp_walk.specs.Course.{Heard}
+use Rattle.snmp_walk.specs.Course as heard
 use Rattle.snmp_walk.specs.Sink.{Given}
 use Rattle.snmp_walk.specs.Read.{rows_in, Delivers, is_stray, goes_on as delivered_on, ends as delivered_last, is_refused as delivered_part}
 use Rattle.snmp_walk.proofs.GetLemmas.{no_link_of}
@@ -156,7 +156,7 @@ no_part (q ∷ rows) left p e = cc
 
 module _ {S : Type 0} (takes : S → VarBind → Result (Unit {0}) SinkFault → S → Type 0) (request : Message) (names : List (List ℕ)) (From : Message → Type 0)
     (before after : S) (m : Message) (from : From m) (given : Step) (what : Heard) where
-  by_ok : (all : List VarBind) → answers_of names m ≡ Ok all → given ≡ step.Last all (ending.Done (length names)) → (end : WalkEnd) → what ≡ heard.Ends end
+  by_ok : (all : List VarBind) → answers_of names m ≡ Ok all → given ≡ step.Last all (ending.Done (length names)) → (end : WalkEnd) → what ≡ heard.ends end
       → Delivers takes given before what after → IsGotEnd takes request names From before end after
   by_ok all is e end f (is_stray h k l) = let no : ⊥ = cc in absurd no
   by_ok all is e end f (delivered_on rows h k l) = let no : ⊥ = cc in absurd no
@@ -182,7 +182,7 @@ module _ {S : Type 0} (takes : S → VarBind → Result (Unit {0}) SinkFault →
         no_length = λ x. let no : ⊥ = cc in no;
       }
 
-  by_err : (cause : WalkEnd) → answers_of names m ≡ Err cause → given ≡ step.Last [] cause → (end : WalkEnd) → what ≡ heard.Ends end
+  by_err : (cause : WalkEnd) → answers_of names m ≡ Err cause → given ≡ step.Last [] cause → (end : WalkEnd) → what ≡ heard.ends end
       → Delivers takes given before what after → IsGotEnd takes request names From before end after
   by_err cause is e end f (is_stray h k l) = let no : ⊥ = cc in absurd no
   by_err cause is e end f (delivered_on rows h k l) = let no : ⊥ = cc in absurd no
@@ -200,27 +200,27 @@ module _ {S : Type 0} (takes : S → VarBind → Result (Unit {0}) SinkFault →
       }
   by_err cause is e end f (delivered_part fault rows p left between h k l n) = absurd (no_part rows left p (sym (ap rows_in e) ∙ h))
 
-  by_answers : (r : Result (List VarBind) WalkEnd) → answers_of names m ≡ r → given ≡ step_of (length names) r → (end : WalkEnd) → what ≡ heard.Ends end
+  by_answers : (r : Result (List VarBind) WalkEnd) → answers_of names m ≡ r → given ≡ step_of (length names) r → (end : WalkEnd) → what ≡ heard.ends end
       → Delivers takes given before what after → IsGotEnd takes request names From before end after
   by_answers (Ok all) is e = by_ok all is e
   by_answers (Err cause) is e = by_err cause is e
 
-  pub got_ends : given ≡ got_step names m → (end : WalkEnd) → what ≡ heard.Ends end → Delivers takes given before what after
+  pub got_ends : given ≡ got_step names m → (end : WalkEnd) → what ≡ heard.ends end → Delivers takes given before what after
       → IsGotEnd takes request names From before end after
   got_ends e = by_answers (answers_of names m) refl e
 
-  never_last : (rows : List VarBind) (cause : WalkEnd) → given ≡ step.Last rows cause → what ≡ heard.GoesOn → Delivers takes given before what after → ⊥
+  never_last : (rows : List VarBind) (cause : WalkEnd) → given ≡ step.Last rows cause → what ≡ heard.goes_on → Delivers takes given before what after → ⊥
   never_last all cause e f (is_stray h k l) = cc
   never_last all cause e f (delivered_on rows h k l) = cc
   never_last all cause e f (delivered_last rows other h k l) = cc
   never_last all cause e f (delivered_part fault rows p left between h k l n) = cc
 
-  goes_never : (r : Result (List VarBind) WalkEnd) → given ≡ step_of (length names) r → what ≡ heard.GoesOn → Delivers takes given before what after → ⊥
+  goes_never : (r : Result (List VarBind) WalkEnd) → given ≡ step_of (length names) r → what ≡ heard.goes_on → Delivers takes given before what after → ⊥
   goes_never (Ok all) e = never_last all (ending.Done (length names)) e
   goes_never (Err cause) e = never_last [] cause e
 
   -- and it doesn't go on
-  pub got_ends_always : given ≡ got_step names m → what ≡ heard.GoesOn → Delivers takes given before what after → ⊥
+  pub got_ends_always : given ≡ got_step names m → what ≡ heard.goes_on → Delivers takes given before what after → ⊥
   got_ends_always e = goes_never (answers_of names m) e
 
 -- no deliveries lose nothing

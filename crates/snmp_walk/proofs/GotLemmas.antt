@@ -18,7 +18,7 @@ use Rattle.snmp_walk.specs.Link.{Agents, OneOf, AreLawful, IsReplyFrom}
 use Rattle.snmp_walk.specs.Heard.{IsAsked}
 use Rattle.snmp_walk.specs.declared.end.SinkFault.{SinkFault}
 use Rattle.snmp_walk.specs.declared.rows.Step.{Step}
-use Rattle.snmp_walk.specs.declared.tries.Heard.{Heard}
+use Rattle.snmp_walk.specs.Course.{Heard}
 use Rattle.snmp_walk.specs.Read.{IsRead}
 use Rattle.snmp_walk.specs.Get.{asked_names, get_request, IsBrought}
 use Rattle.snmp_walk.proofs.HonestLemmas.{get_in_range, bindings_within, fits_from}

@@ -21,7 +21,7 @@ use Rattle.snmp_walk.specs.Traffic.{Traffic}
 use Rattle.snmp_walk.specs.Run.{IsHeard, IsFullReply}
 use Rattle.snmp_walk.specs.declared.end.SinkFault.{SinkFault}
 use Rattle.snmp_walk.specs.declared.rows.Step.{Step}
-use Rattle.snmp_walk.specs.declared.tries.Heard.{Heard}
+use Rattle.snmp_walk.specs.Course.{Heard}
 use Rattle.snmp_walk.specs.Read.{IsRead}
 use Rattle.snmp_walk.proofs.HonestLemmas.{honest_reply}
 

@@ -16,8 +16,8 @@ use Rattle.snmp_walk.specs.Link.{Agents}
 use Rattle.snmp_walk.specs.declared.end.SinkFault.{SinkFault}
 use Rattle.snmp_wire.specs.Spelling.{Spells}
 use Rattle.snmp_walk.specs.Run.{IsHeard, IsFrom, Turns, goes_on as turn_on, ends, is_refused}
-use Rattle.snmp_walk.specs.declared.tries.Heard.{Heard}
-use Rattle.snmp_walk.specs.declared.tries.Heard.TheVariants as heard
+use Rattle.snmp_walk.specs.Course.{Heard, end_of}
+use Rattle.snmp_walk.specs.Course as heard
 use Rattle.snmp_walk.specs.Read.{
   rows_in,
   Delivers,
@@ -117,20 +117,15 @@ pub if_some : {X : Type 0} (o : Option X) (P : X → Type 0) (x : X) → o ≡ S
 if_some None P x e h = let no : ⊥ = cc in absurd no
 if_some (Some y) P x e h = let same : y ≡ x = cc in subst P same h
 
--- how the walk ended, if it did
-abbrev pub end_of : Heard → Option WalkEnd
-end_of heard.GoesOn = None
-end_of (heard.Ends why) = Some why
-
 -- no end that replies don't lead to
 abbrev pub HasEnd : Heard → Type 0
-HasEnd heard.GoesOn = Unit {0}
-HasEnd (heard.Ends why) = (why ≡ ending.Link → ⊥) × (why ≡ ending.NoResponse → ⊥)
+HasEnd heard.goes_on = Unit {0}
+HasEnd (heard.ends why) = (why ≡ ending.Link → ⊥) × (why ≡ ending.NoResponse → ⊥)
 
-reply_has_end : (why : WalkEnd) → IsReplyEnd why → HasEnd (heard.Ends why)
+reply_has_end : (why : WalkEnd) → IsReplyEnd why → HasEnd (heard.ends why)
 reply_has_end why own = (λ e. subst IsReplyEnd e own, λ e. subst IsReplyEnd e own)
 
-sink_has_end : (fault : SinkFault) → HasEnd (heard.Ends (ending.Sink fault))
+sink_has_end : (fault : SinkFault) → HasEnd (heard.ends (ending.Sink fault))
 sink_has_end fault = (λ e. cc, λ e. cc)
 
 module _ {S : Type 0} (takes : S → VarBind → Result (Unit {0}) SinkFault → S → Type 0) (s t : S) where
@@ -173,3 +168,12 @@ link_end e = cc
 
 pub no_link_end : None ≡ Some ending.Link → ⊥
 no_link_end e = cc
+
+-- no reply leads to these ends
+pub not_silent : (what : Heard) → HasEnd what → end_of what ≡ Some ending.NoResponse → ⊥
+not_silent heard.goes_on h e = no_end e
+not_silent (heard.ends why) h e = h.1 (same_end why ending.NoResponse e)
+
+pub not_link : (what : Heard) → HasEnd what → end_of what ≡ Some ending.Link → ⊥
+not_link heard.goes_on h e = no_link_end e
+not_link (heard.ends why) h e = h.0 (same_end why ending.Link e)

@@ -14,6 +14,7 @@ pub mod Heard
 pub mod Missed
 pub mod Room
 pub mod Sink
+pub mod Course
 pub mod Read
 pub mod Run
 pub mod Tables

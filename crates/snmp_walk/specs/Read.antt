@@ -7,8 +7,8 @@ use Rattle.snmp_walk.specs.declared.end.WalkEnd.{WalkEnd}
 use Rattle.snmp_walk.specs.declared.end.WalkEnd.TheVariants as ending
 use Rattle.snmp_walk.specs.declared.rows.Step.{Step}
 use Rattle.snmp_walk.specs.declared.rows.Step.TheVariants as step
-use Rattle.snmp_walk.specs.declared.tries.Heard.{Heard}
-use Rattle.snmp_walk.specs.declared.tries.Heard.TheVariants as heard
+use Rattle.snmp_walk.specs.Course.{Heard}
+use Rattle.snmp_walk.specs.Course as heard
 use Rattle.snmp_walk.specs.Taken.{awaits}
 use Rattle.snmp_walk.specs.Sink.{Given}
 
@@ -21,15 +21,15 @@ rows_in (step.Last rows why) = rows
 -- what came of a step whose bindings were given to the sink, until it refused one
 pub data Delivers {S : Type 0} (takes : S → VarBind → Result (Unit {0}) SinkFault → S → Type 0)
     (given : Step) (before : S) (what : Heard) (after : S) : Type 0 where
-  is_stray : given ≡ step.Stray → what ≡ heard.GoesOn → after ≡ before
+  is_stray : given ≡ step.Stray → what ≡ heard.goes_on → after ≡ before
       → Delivers takes given before what after
-  goes_on : (rows : List VarBind) → given ≡ step.Rows rows → what ≡ heard.GoesOn
+  goes_on : (rows : List VarBind) → given ≡ step.Rows rows → what ≡ heard.goes_on
       → Given takes before rows after → Delivers takes given before what after
   ends : (rows : List VarBind) (why : WalkEnd) → given ≡ step.Last rows why
-      → what ≡ heard.Ends why → Given takes before rows after
+      → what ≡ heard.ends why → Given takes before rows after
       → Delivers takes given before what after
   is_refused : (fault : SinkFault) (rows : List VarBind) (p : VarBind) (left : List VarBind)
-      (between : S) → rows_in given ≡ rows ++ p ∷ left → what ≡ heard.Ends (ending.Sink fault)
+      (between : S) → rows_in given ≡ rows ++ p ∷ left → what ≡ heard.ends (ending.Sink fault)
       → Given takes before rows between → takes between p (Err fault) after
       → Delivers takes given before what after
 

@@ -20,7 +20,7 @@ ghost use Rattle.snmp_walk.specs.Get.{asked_names, get_request, are_for as are_t
 ghost use Rattle.snmp_walk.specs.Get.{IsBrought, GetEnds, GetFacts};
 
 use crate::laws::codec;
-use crate::tries::{Heard, Waiter, exchange, is_awaited};
+use crate::tries::{Course, Waiter, exchange, is_awaited};
 use crate::walker::copy_of;
 use crate::{Link, Rows, Sink, Step, WalkEnd};
 use snmp_wire::{
@@ -83,21 +83,23 @@ pub fn run_get<L: Link, S: Sink>(
         community,
         id,
     };
-    let heard = match exchange(
+    let mut end = WalkEnd::NoResponse;
+    let course = match exchange(
         link,
         &mut get,
         retries,
         &request[..length],
         &mut buffer,
         sink,
+        &mut end,
     ) {
-        Ok(Some(heard)) => heard,
+        Ok(Some(course)) => course,
         Ok(None) => return WalkEnd::NoResponse,
         Err(_) => return WalkEnd::Link,
     };
-    match heard {
-        Heard::GoesOn => unreachable!(),
-        Heard::Ends(end) => end,
+    match course {
+        Course::GoesOn => unreachable!(),
+        Course::Ends => end,
     }
 }
 

@@ -6,6 +6,7 @@ ghost use Rattle.std.specs.Prelude.{false};
 ghost use Rattle.snmp_io.specs.Count.{HasRisen};
 ghost use Rattle.snmp_wire.specs.Canon.{canon};
 ghost use Rattle.snmp_wire.specs.Message.{VarBind};
+ghost use Rattle.snmp_walk.specs.Course.{ended};
 ghost use Rattle.snmp_walk.specs.Request.{request_of};
 ghost use Rattle.snmp_walk.specs.Taken.{is_over};
 ghost use Rattle.snmp_walk.specs.Walker.{IsWalker};
@@ -19,7 +20,7 @@ ghost use Rattle.snmp_walk.specs.Facts.{ReadyFacts};
 ghost use Rattle.snmp_walk.specs.Facts.{IsFresh, IsLastSent, WalkFacts, SendFacts, EndFacts};
 
 use crate::laws::codec;
-use crate::tries::{Heard, exchange};
+use crate::tries::{Course, exchange};
 use crate::{Link, Sink, WalkCore, WalkEnd};
 
 /// Walks over the link with a core that has taken no reply yet: each request is sent at most
@@ -67,15 +68,25 @@ pub fn run_walk<L: Link, S: Sink>(
     let mut core = core;
     let mut request = [0; 65507];
     let mut buffer = [0; 65507];
+    let mut end = WalkEnd::NoResponse;
     'turns: loop {
-        if let Some(end) = turn(link, &mut core, retries, sink, &mut request, &mut buffer) {
-            return end;
+        match turn(
+            link,
+            &mut core,
+            retries,
+            sink,
+            &mut request,
+            &mut buffer,
+            &mut end,
+        ) {
+            Course::GoesOn => {}
+            Course::Ends => return end,
         }
     }
 }
 
 /// One turn of a walk: sends the request, reads the reply, and gives the bindings that it brings to
-/// the sink. Returns how the walk ended, or None where it goes on.
+/// the sink.
 fn turn<L: Link, S: Sink>(
     link: &mut L,
     core: &mut WalkCore,
@@ -83,40 +94,44 @@ fn turn<L: Link, S: Sink>(
     sink: &mut S,
     request: &mut [u8; 65507],
     buffer: &mut [u8; 65507],
-) -> Option<WalkEnd>
+    end: &mut WalkEnd,
+) -> Course
     requires { is_over core.old.phase ≡ false }
     ensures turns { (rows : List VarBind) × Turns S.takes (ComesOver L.brings)
         (L.agents link.old) (L.honest link.old
-        × IsEarlier (L.traffic link.old).sent core.old) core.old sink.old rows result core.new
-        sink.new }
-    ensures unanswered { result ≡ Some WalkEnd.NoResponse → AreMissed L.sends L.brings L.is_silent
+        × IsEarlier (L.traffic link.old).sent core.old) core.old sink.old rows
+        (ended result end.new) core.new sink.new }
+    ensures unanswered { ended result end.new ≡ Some WalkEnd.NoResponse
+        → AreMissed L.sends L.brings L.is_silent
         (IsNotAwaited core.old.community core.old.id) (canon (request_of core.old)) (retries + 1)
         link.old link.new }
     ensures exchanged { L.keeps link.old → Exchanges (L.agents link.old) (L.honest link.old
         × IsEarlier (L.traffic link.old).sent core.old) (retries + 1) (canon (request_of core.old))
-        (L.traffic link.old) (result ≡ Some WalkEnd.NoResponse) (result ≡ Some WalkEnd.Link)
-        (L.traffic link.new) }
+        (L.traffic link.old) (ended result end.new ≡ Some WalkEnd.NoResponse)
+        (ended result end.new ≡ Some WalkEnd.Link) (L.traffic link.new) }
     ensures walker { IsWalker core.old }
     ensures keeps { L.keeps link.old → L.keeps link.new }
     ensures honest { L.honest link.old → L.honest link.new }
     ensures agents { L.agents link.new ≡ L.agents link.old }
-    ensures count { (result ≡ Some WalkEnd.Link → ⊥)
+    ensures count { (ended result end.new ≡ Some WalkEnd.Link → ⊥)
         → L.fault_count link.new ≡ L.fault_count link.old }
-    ensures fault { result ≡ Some WalkEnd.Link
+    ensures fault { ended result end.new ≡ Some WalkEnd.Link
         → HasRisen (L.fault_count link.old) (L.fault_count link.new) }
     ensures ready { (times : ℕ) × (times ≤ retries + 1) × ((sends octets : ℕ)
         → L.ready link.old (sends + times) (octets + times * length (canon (request_of core.old)))
-        → (result ≡ Some WalkEnd.Link → ⊥) × L.ready link.new sends octets) }
+        → (ended result end.new ≡ Some WalkEnd.Link → ⊥) × L.ready link.new sends octets) }
 {
     codec();
     let length = core.request(request);
-    let heard = match exchange(link, core, retries, &request[..length], buffer, sink) {
-        Ok(Some(heard)) => heard,
-        Ok(None) => return Some(WalkEnd::NoResponse),
-        Err(_) => return Some(WalkEnd::Link),
-    };
-    match heard {
-        Heard::GoesOn => None,
-        Heard::Ends(end) => Some(end),
+    match exchange(link, core, retries, &request[..length], buffer, sink, end) {
+        Ok(Some(course)) => course,
+        Ok(None) => {
+            *end = WalkEnd::NoResponse;
+            Course::Ends
+        }
+        Err(_) => {
+            *end = WalkEnd::Link;
+            Course::Ends
+        }
     }
 }

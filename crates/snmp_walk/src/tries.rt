@@ -6,6 +6,7 @@ ghost use Rattle.snmp_io.specs.Count.{HasRisen};
 ghost use Rattle.snmp_wire.specs.Message.{Message};
 ghost use Rattle.snmp_wire.specs.Spelling.{Spells};
 ghost use Rattle.snmp_walk.specs.Taken.{awaits};
+ghost use Rattle.snmp_walk.specs.Course.{heard_of};
 ghost use Rattle.snmp_walk.specs.Link.{IsReplyFrom, ComesOver};
 ghost use Rattle.snmp_walk.specs.Traffic.{latest};
 ghost use Rattle.snmp_walk.specs.Heard.{IsAsked, Hears, Exchanges};
@@ -43,12 +44,14 @@ pub(crate) trait Waiter {
         ensures { reads self.old reply.now result self.new };
 }
 
-/// What came of a reply, once its bindings were given.
-pub(crate) enum Heard {
+/// Whether the walk or the Get goes on after a reply, once its bindings were given. How it ended is
+/// written to a place of the caller, since an end has room for two identifiers and would be copied
+/// by each call that returns it.
+pub(crate) enum Course {
     /// The next request waits.
     GoesOn,
-    /// It ended the walk or the Get.
-    Ends(WalkEnd),
+    /// The reply ended the walk or the Get.
+    Ends,
 }
 
 /// How many datagrams are received after a request was sent, before it is sent again.
@@ -63,17 +66,18 @@ pub(crate) fn exchange<L: Link, W: Waiter, S: Sink>(
     request: &[u8],
     buffer: &mut [u8; 65507],
     sink: &mut S,
-) -> Result<Option<Heard>, LinkFault>
-    ensures read { IfOk result (λ heard. IfSome heard
+    end: &mut WalkEnd,
+) -> Result<Option<Course>, LinkFault>
+    ensures read { IfOk result (λ course. IfSome course
         (λ h. IsRead (ComesOver L.brings) (λ octets. L.honest link.old
         → IsAsked (L.agents link.old) (W.community waiter.old) (W.id waiter.old) request.now
         (L.traffic link.old).sent
         → IsReplyFrom (L.agents link.old) request.now octets)
-        (W.community waiter.old) (W.id waiter.old) (W.reads waiter.old) S.takes sink.old h
-        waiter.new sink.new)) }
-    ensures silent { IfOk result (λ heard. IfNone heard
+        (W.community waiter.old) (W.id waiter.old) (W.reads waiter.old) S.takes sink.old
+        (heard_of h end.new) waiter.new sink.new)) }
+    ensures silent { IfOk result (λ course. IfNone course
         ((waiter.new ≡ waiter.old) × (sink.new ≡ sink.old))) }
-    ensures unanswered { IfOk result (λ heard. IfNone heard
+    ensures unanswered { IfOk result (λ course. IfNone course
         (AreMissed L.sends L.brings L.is_silent (IsNotAwaited (W.community waiter.old)
         (W.id waiter.old)) request.now (retries + 1) link.old link.new)) }
     ensures cut_off { OnErr result ((waiter.new ≡ waiter.old) × (sink.new ≡ sink.old)) }
@@ -94,8 +98,8 @@ pub(crate) fn exchange<L: Link, W: Waiter, S: Sink>(
     let tries = u64::from(retries) + 1;
     'tries: for _ in 0..tries {
         link.send(request)?;
-        if let Some(heard) = hear(link, waiter, buffer, sink)? {
-            return Ok(Some(heard));
+        if let Some(course) = hear(link, waiter, buffer, sink, end)? {
+            return Ok(Some(course));
         }
     }
     Ok(None)
@@ -108,18 +112,19 @@ fn hear<L: Link, W: Waiter, S: Sink>(
     waiter: &mut W,
     buffer: &mut [u8; 65507],
     sink: &mut S,
-) -> Result<Option<Heard>, LinkFault>
-    ensures read { IfOk result (λ heard. IfSome heard
+    end: &mut WalkEnd,
+) -> Result<Option<Course>, LinkFault>
+    ensures read { IfOk result (λ course. IfSome course
         (λ h. IsRead (ComesOver L.brings) (λ octets. (q : List ℕ) → L.honest link.old
         → latest (L.traffic link.old).sent ≡ Some q
         → IsAsked (L.agents link.old) (W.community waiter.old) (W.id waiter.old) q
         (L.traffic link.old).sent
         → IsReplyFrom (L.agents link.old) q octets)
-        (W.community waiter.old) (W.id waiter.old) (W.reads waiter.old) S.takes sink.old h
-        waiter.new sink.new)) }
-    ensures silent { IfOk result (λ heard. IfNone heard
+        (W.community waiter.old) (W.id waiter.old) (W.reads waiter.old) S.takes sink.old
+        (heard_of h end.new) waiter.new sink.new)) }
+    ensures silent { IfOk result (λ course. IfNone course
         ((waiter.new ≡ waiter.old) × (sink.new ≡ sink.old))) }
-    ensures unanswered { IfOk result (λ heard. IfNone heard (IsMissed L.brings L.is_silent
+    ensures unanswered { IfOk result (λ course. IfNone course (IsMissed L.brings L.is_silent
         (IsNotAwaited (W.community waiter.old) (W.id waiter.old)) 64 link.old link.new)) }
     ensures cut_off { OnErr result ((waiter.new ≡ waiter.old) × (sink.new ≡ sink.old)) }
     ensures heard { (q : List ℕ) → L.honest link.old → latest (L.traffic link.old).sent ≡ Some q
@@ -139,17 +144,23 @@ fn hear<L: Link, W: Waiter, S: Sink>(
         let Some(length) = link.receive(buffer)? else {
             return Ok(None);
         };
-        if let Some(heard) = read_reply(waiter, &buffer[..length], sink) {
-            return Ok(Some(heard));
+        if let Some(course) = read_reply(waiter, &buffer[..length], sink, end) {
+            return Ok(Some(course));
         }
     }
     Ok(None)
 }
 
 /// Reads the datagram, if it is the reply, and gives the bindings that it brings to the sink.
-fn read_reply<W: Waiter, S: Sink>(waiter: &mut W, datagram: &[u8], sink: &mut S) -> Option<Heard>
-    ensures some { IfSome result (IsReadAs datagram.now (W.community waiter.old) (W.id waiter.old)
-        (W.reads waiter.old) S.takes sink.old waiter.new sink.new) }
+fn read_reply<W: Waiter, S: Sink>(
+    waiter: &mut W,
+    datagram: &[u8],
+    sink: &mut S,
+    end: &mut WalkEnd,
+) -> Option<Course>
+    ensures some { IfSome result (λ h. IsReadAs datagram.now (W.community waiter.old)
+        (W.id waiter.old) (W.reads waiter.old) S.takes sink.old waiter.new sink.new
+        (heard_of h end.new)) }
     ensures none { IfNone result ((m : Message) → Spells m datagram.now
         → awaits (W.community waiter.old) (W.id waiter.old) m ≡ false) }
     ensures unchanged { IfNone result ((waiter.new ≡ waiter.old) × (sink.new ≡ sink.old)) }
@@ -161,22 +172,31 @@ fn read_reply<W: Waiter, S: Sink>(waiter: &mut W, datagram: &[u8], sink: &mut S)
         return None;
     }
     let step = waiter.read(&message);
-    Some(deliver(step, sink))
+    Some(deliver(step, sink, end))
 }
 
 /// Gives the bindings of a step to the sink.
-fn deliver<S: Sink>(step: Step<'_>, sink: &mut S) -> Heard
-    ensures { Delivers S.takes step.entry sink.old result sink.new }
+fn deliver<S: Sink>(step: Step<'_>, sink: &mut S, end: &mut WalkEnd) -> Course
+    ensures { Delivers S.takes step.entry sink.old (heard_of result end.new) sink.new }
 {
     match step {
-        Step::Stray => Heard::GoesOn,
+        Step::Stray => Course::GoesOn,
         Step::Rows(rows) => match give(rows, sink) {
-            Ok(()) => Heard::GoesOn,
-            Err(fault) => Heard::Ends(WalkEnd::Sink(fault)),
+            Ok(()) => Course::GoesOn,
+            Err(fault) => {
+                *end = WalkEnd::Sink(fault);
+                Course::Ends
+            }
         },
-        Step::Last(rows, end) => match give(rows, sink) {
-            Ok(()) => Heard::Ends(end),
-            Err(fault) => Heard::Ends(WalkEnd::Sink(fault)),
+        Step::Last(rows, why) => match give(rows, sink) {
+            Ok(()) => {
+                *end = why;
+                Course::Ends
+            }
+            Err(fault) => {
+                *end = WalkEnd::Sink(fault);
+                Course::Ends
+            }
         },
     }
 }

@@ -1,6 +1,7 @@
 use Rattle.std.proofs.Common.{◌≡◌, refl, [], ℕ, List, subst, ap, arith, ◌+◌, Ok}
 use Rattle.snmp_walk.specs.Get.{get_request, IsBrought, is_too_long, is_silent, is_cut}
 use Rattle.snmp_walk.specs.Link.{ComesOver}
+use Rattle.snmp_walk.specs.Course.{heard_of}
 use Rattle.snmp_walk.proofs.GotLemmas.{brought, own}
 use Rattle.snmp_walk.proofs.TurnLemmas.{if_some, if_silent, if_cut}
 use Rattle.snmp_walk.proofs.GetFactLemmas.{facts_by, lost_exchange, short_enough, got_ends, got_ends_always}
@@ -43,27 +44,31 @@ returns-in-Err-clause-rows_given g c =
 
 pub unreachable-requires : goal.unreachable-requires
 unreachable-requires g c =
-    let r = if_some c.in-Ok-Some.field-0 _ c.in-Ok-Some.heard c.in-Ok-Some.field-0-is c.in-Ok-Some.ensures.read in
+    let what = heard_of c.in-Ok-Some.course c.exchange.new.end in
+    let r = if_some c.in-Ok-Some.field-0 _ c.in-Ok-Some.course c.in-Ok-Some.field-0-is c.in-Ok-Some.ensures.read in
     let b = brought c.codec.ensures c.args.community.now c.args.id c.args.names.now c.in-Some.ensures.range (ComesOver g.L.Link.brings)
     (g.L.Link.agents c.args.link.now)
     (g.L.Link.honest c.args.link.now) (g.met.L.Link.lawful c.args.link.now) _ c.in-Some.ensures.some.1
-    (g.L.Link.traffic c.args.link.now).sent _ g.S.Sink.takes c.args.sink.now c.in-Ok-Some.heard c.exchange.new.waiter c.exchange.new.sink r in
+    (g.L.Link.traffic c.args.link.now).sent _ g.S.Sink.takes c.args.sink.now what c.exchange.new.waiter c.exchange.new.sink r in
     got_ends_always g.S.Sink.takes (get_request c.args.community.now c.args.id c.args.names.now) c.args.names.now
     (IsBrought (ComesOver g.L.Link.brings) (g.L.Link.agents c.args.link.now) (g.L.Link.honest c.args.link.now × ((g.L.Link.traffic c.args.link.now).sent ≡ []))
     c.args.community.now c.args.id c.args.names.now)
-    c.args.sink.now c.exchange.new.sink r.is_read.message b r.is_read.given c.in-Ok-Some.heard r.is_read.read c.in-GoesOn.is r.is_read.delivered
+    c.args.sink.now c.exchange.new.sink r.is_read.message b r.is_read.given what r.is_read.read
+    (ap (λ x. heard_of x c.exchange.new.end) c.in-GoesOn.is) r.is_read.delivered
 
 pub returns-clause-rows_given : goal.returns-clause-rows_given
 returns-clause-rows_given g c =
-    let r = if_some c.in-Ok-Some.field-0 _ c.in-Ok-Some.heard c.in-Ok-Some.field-0-is c.in-Ok-Some.ensures.read in
+    let what = heard_of c.in-Ok-Some.course c.exchange.new.end in
+    let r = if_some c.in-Ok-Some.field-0 _ c.in-Ok-Some.course c.in-Ok-Some.field-0-is c.in-Ok-Some.ensures.read in
     let b = brought c.codec.ensures c.args.community.now c.args.id c.args.names.now c.in-Some.ensures.range (ComesOver g.L.Link.brings)
     (g.L.Link.agents c.args.link.now)
     (g.L.Link.honest c.args.link.now) (g.met.L.Link.lawful c.args.link.now) _ c.in-Some.ensures.some.1
-    (g.L.Link.traffic c.args.link.now).sent _ g.S.Sink.takes c.args.sink.now c.in-Ok-Some.heard c.exchange.new.waiter c.exchange.new.sink r in
+    (g.L.Link.traffic c.args.link.now).sent _ g.S.Sink.takes c.args.sink.now what c.exchange.new.waiter c.exchange.new.sink r in
     let e = got_ends g.S.Sink.takes (get_request c.args.community.now c.args.id c.args.names.now) c.args.names.now
     (IsBrought (ComesOver g.L.Link.brings) (g.L.Link.agents c.args.link.now) (g.L.Link.honest c.args.link.now × ((g.L.Link.traffic c.args.link.now).sent ≡ []))
     c.args.community.now c.args.id c.args.names.now)
-    c.args.sink.now c.exchange.new.sink r.is_read.message b r.is_read.given c.in-Ok-Some.heard r.is_read.read c.in-Ends.end c.in-Ends.is r.is_read.delivered in
+    c.args.sink.now c.exchange.new.sink r.is_read.message b r.is_read.given what r.is_read.read c.exchange.new.end
+    (ap (λ x. heard_of x c.exchange.new.end) c.in-Ends.is) r.is_read.delivered in
     facts_by c.codec.ensures (ComesOver g.L.Link.brings) (g.L.Link.agents c.args.link.now) (g.L.Link.honest c.args.link.now)
     (g.met.L.Link.lawful c.args.link.now)
     (c.args.retries + 1) (omega arith)
@@ -73,15 +78,17 @@ returns-clause-rows_given g c =
 
 pub returns-clause-too_long : goal.returns-clause-too_long
 returns-clause-too_long g c =
-    let r = if_some c.in-Ok-Some.field-0 _ c.in-Ok-Some.heard c.in-Ok-Some.field-0-is c.in-Ok-Some.ensures.read in
+    let what = heard_of c.in-Ok-Some.course c.exchange.new.end in
+    let r = if_some c.in-Ok-Some.field-0 _ c.in-Ok-Some.course c.in-Ok-Some.field-0-is c.in-Ok-Some.ensures.read in
     let b = brought c.codec.ensures c.args.community.now c.args.id c.args.names.now c.in-Some.ensures.range (ComesOver g.L.Link.brings)
     (g.L.Link.agents c.args.link.now)
     (g.L.Link.honest c.args.link.now) (g.met.L.Link.lawful c.args.link.now) _ c.in-Some.ensures.some.1
-    (g.L.Link.traffic c.args.link.now).sent _ g.S.Sink.takes c.args.sink.now c.in-Ok-Some.heard c.exchange.new.waiter c.exchange.new.sink r in
+    (g.L.Link.traffic c.args.link.now).sent _ g.S.Sink.takes c.args.sink.now what c.exchange.new.waiter c.exchange.new.sink r in
     let e = got_ends g.S.Sink.takes (get_request c.args.community.now c.args.id c.args.names.now) c.args.names.now
     (IsBrought (ComesOver g.L.Link.brings) (g.L.Link.agents c.args.link.now) (g.L.Link.honest c.args.link.now × ((g.L.Link.traffic c.args.link.now).sent ≡ []))
     c.args.community.now c.args.id c.args.names.now)
-    c.args.sink.now c.exchange.new.sink r.is_read.message b r.is_read.given c.in-Ok-Some.heard r.is_read.read c.in-Ends.end c.in-Ends.is
+    c.args.sink.now c.exchange.new.sink r.is_read.message b r.is_read.given what r.is_read.read c.exchange.new.end
+    (ap (λ x. heard_of x c.exchange.new.end) c.in-Ends.is)
     r.is_read.delivered in (
       (λ long. absurd (e.no_length long)),
       (λ long. absurd (short_enough _ _ _ c.in-Some.ensures.some.0 c.in-Some.ensures.some.1 long)),
@@ -89,15 +96,17 @@ returns-clause-too_long g c =
 
 pub returns-clause-fault : goal.returns-clause-fault
 returns-clause-fault g c = λ link.
-    let r = if_some c.in-Ok-Some.field-0 _ c.in-Ok-Some.heard c.in-Ok-Some.field-0-is c.in-Ok-Some.ensures.read in
+    let what = heard_of c.in-Ok-Some.course c.exchange.new.end in
+    let r = if_some c.in-Ok-Some.field-0 _ c.in-Ok-Some.course c.in-Ok-Some.field-0-is c.in-Ok-Some.ensures.read in
     let b = brought c.codec.ensures c.args.community.now c.args.id c.args.names.now c.in-Some.ensures.range (ComesOver g.L.Link.brings)
     (g.L.Link.agents c.args.link.now)
     (g.L.Link.honest c.args.link.now) (g.met.L.Link.lawful c.args.link.now) _ c.in-Some.ensures.some.1
-    (g.L.Link.traffic c.args.link.now).sent _ g.S.Sink.takes c.args.sink.now c.in-Ok-Some.heard c.exchange.new.waiter c.exchange.new.sink r in
+    (g.L.Link.traffic c.args.link.now).sent _ g.S.Sink.takes c.args.sink.now what c.exchange.new.waiter c.exchange.new.sink r in
     let e = got_ends g.S.Sink.takes (get_request c.args.community.now c.args.id c.args.names.now) c.args.names.now
     (IsBrought (ComesOver g.L.Link.brings) (g.L.Link.agents c.args.link.now) (g.L.Link.honest c.args.link.now × ((g.L.Link.traffic c.args.link.now).sent ≡ []))
     c.args.community.now c.args.id c.args.names.now)
-    c.args.sink.now c.exchange.new.sink r.is_read.message b r.is_read.given c.in-Ok-Some.heard r.is_read.read c.in-Ends.end c.in-Ends.is r.is_read.delivered in
+    c.args.sink.now c.exchange.new.sink r.is_read.message b r.is_read.given what r.is_read.read c.exchange.new.end
+    (ap (λ x. heard_of x c.exchange.new.end) c.in-Ends.is) r.is_read.delivered in
     absurd (e.no_link link)
 
 pub returns-in-Ok-None-clause-unanswered : goal.returns-in-Ok-None-clause-unanswered
@@ -108,13 +117,15 @@ returns-in-Ok-None-clause-unanswered g c = λ _.
 
 pub returns-clause-unanswered : goal.returns-clause-unanswered
 returns-clause-unanswered g c = λ silent.
-    let r = if_some c.in-Ok-Some.field-0 _ c.in-Ok-Some.heard c.in-Ok-Some.field-0-is c.in-Ok-Some.ensures.read in
+    let what = heard_of c.in-Ok-Some.course c.exchange.new.end in
+    let r = if_some c.in-Ok-Some.field-0 _ c.in-Ok-Some.course c.in-Ok-Some.field-0-is c.in-Ok-Some.ensures.read in
     let b = brought c.codec.ensures c.args.community.now c.args.id c.args.names.now c.in-Some.ensures.range (ComesOver g.L.Link.brings)
     (g.L.Link.agents c.args.link.now)
     (g.L.Link.honest c.args.link.now) (g.met.L.Link.lawful c.args.link.now) _ c.in-Some.ensures.some.1
-    (g.L.Link.traffic c.args.link.now).sent _ g.S.Sink.takes c.args.sink.now c.in-Ok-Some.heard c.exchange.new.waiter c.exchange.new.sink r in
+    (g.L.Link.traffic c.args.link.now).sent _ g.S.Sink.takes c.args.sink.now what c.exchange.new.waiter c.exchange.new.sink r in
     let e = got_ends g.S.Sink.takes (get_request c.args.community.now c.args.id c.args.names.now) c.args.names.now
     (IsBrought (ComesOver g.L.Link.brings) (g.L.Link.agents c.args.link.now) (g.L.Link.honest c.args.link.now × ((g.L.Link.traffic c.args.link.now).sent ≡ []))
     c.args.community.now c.args.id c.args.names.now)
-    c.args.sink.now c.exchange.new.sink r.is_read.message b r.is_read.given c.in-Ok-Some.heard r.is_read.read c.in-Ends.end c.in-Ends.is r.is_read.delivered in
+    c.args.sink.now c.exchange.new.sink r.is_read.message b r.is_read.given what r.is_read.read c.exchange.new.end
+    (ap (λ x. heard_of x c.exchange.new.end) c.in-Ends.is) r.is_read.delivered in
     absurd (e.no_silence silent)

@@ -11,7 +11,7 @@ returns-in-Err g c =
     is_refused c.in-Err.fault r.0 r.1 r.2 r.4 (ap rows_in c.in-Rows.is ∙ r.3) refl r.5 r.6
 
 pub returns-in-Ok-give : goal.returns-in-Ok-give
-returns-in-Ok-give g c = ends c.in-Last.rows c.in-Last.end c.in-Last.is refl c.in-Ok-give.ensures.ok
+returns-in-Ok-give g c = ends c.in-Last.rows c.in-Last.why c.in-Last.is refl c.in-Ok-give.ensures.ok
 
 pub returns-in-Err-give : goal.returns-in-Err-give
 returns-in-Err-give g c =

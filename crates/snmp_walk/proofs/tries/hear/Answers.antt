@@ -4,7 +4,9 @@ use Rattle.std.specs.Prelude.{true, Result, IfSome, IfNone}
 use Rattle.snmp_wire.specs.Message.{VarBind, Message}
 use Rattle.snmp_walk.specs.declared.end.SinkFault.{SinkFault}
 use Rattle.snmp_walk.specs.declared.rows.Step.{Step}
-use Rattle.snmp_walk.specs.declared.tries.Heard.{Heard}
+use Rattle.snmp_walk.specs.Course.{heard_of}
+use Rattle.snmp_walk.specs.declared.end.WalkEnd.{WalkEnd}
+use Rattle.snmp_walk.specs.declared.tries.Course.{Course}
 use Rattle.snmp_walk.specs.Taken.{awaits}
 use Rattle.snmp_walk.specs.Read.{IsRead, IsReadAs}
 use Rattle.snmp_walk.specs.Link.{ComesOver}
@@ -33,15 +35,16 @@ returns-in_default-clause-heard g c = λ q h last asked.
 -- the waiter and the sink are as they were
 read_now : {W S : Type 0} (Comes Reply : List ℕ → Type 0) (community : W → List ℕ) (id : W → ℕ) (reads : W → Message → Step → W → Type 0)
     (takes : S → VarBind → Result (Unit {0}) SinkFault → S → Type 0) (v w : W) (s t : S) (datagram : List ℕ) (new : W) (after : S)
-    (o : Option Heard) (h : Heard) → v ≡ w → s ≡ t → o ≡ Some h → IfSome o (IsReadAs datagram (community v) (id v) (reads v) takes s new after)
-    → Comes datagram → Reply datagram → IsRead Comes Reply (community w) (id w) (reads w) takes t h new after
-read_now Comes Reply community id reads takes v w s t datagram new after o h e f is read comes reply = record {
+    (o : Option Course) (h : Course) (end : WalkEnd) → v ≡ w → s ≡ t → o ≡ Some h
+    → IfSome o (λ x. IsReadAs datagram (community v) (id v) (reads v) takes s new after (heard_of x end))
+    → Comes datagram → Reply datagram → IsRead Comes Reply (community w) (id w) (reads w) takes t (heard_of h end) new after
+read_now Comes Reply community id reads takes v w s t datagram new after o h end e f is read comes reply = record {
   datagram = datagram;
   comes = comes;
   reply = reply;
-  is_read = subst (λ x. IsReadAs datagram (community w) (id w) (reads w) takes x new after h) f
-      (subst (λ x. IsReadAs datagram (community x) (id x) (reads x) takes s new after h) e
-      (if_some o (IsReadAs datagram (community v) (id v) (reads v) takes s new after) h is read));
+  is_read = subst (λ x. IsReadAs datagram (community w) (id w) (reads w) takes x new after (heard_of h end)) f
+      (subst (λ x. IsReadAs datagram (community x) (id x) (reads x) takes s new after (heard_of h end)) e
+      (if_some o (λ x. IsReadAs datagram (community v) (id v) (reads v) takes s new after (heard_of x end)) h is read));
 }
 
 -- and where it isn't the reply, it is not
@@ -61,10 +64,10 @@ read_awaited community id v w m e h = subst (λ x. awaits (community x) (id x) m
 pub returns-in-Some-read_reply-clause-read : goal.returns-in-Some-read_reply-clause-read
 returns-in-Some-read_reply-clause-read g c =
     let inv = c.receives.invariant in
-    let is = if_some c.read_reply.result _ c.in-Some-read_reply.heard c.in-Some-read_reply.is c.read_reply.ensures.some in
+    let is = if_some c.read_reply.result _ c.in-Some-read_reply.course c.in-Some-read_reply.is c.read_reply.ensures.some in
     read_now (ComesOver g.L.Link.brings) _ g.W.Waiter.community g.W.Waiter.id g.W.Waiter.reads g.S.Sink.takes c.receives.waiter c.args.waiter.now
-    c.receives.sink c.args.sink.now (take c.in-Some.length c.receive.new.buffer) _ _ c.read_reply.result c.in-Some-read_reply.heard
-    inv.7 inv.8 c.in-Some-read_reply.is c.read_reply.ensures.some (
+    c.receives.sink c.args.sink.now (take c.in-Some.length c.receive.new.buffer) _ _ c.read_reply.result c.in-Some-read_reply.course
+    c.read_reply.new.end inv.7 inv.8 c.in-Some-read_reply.is c.read_reply.ensures.some (
       c.receives.link,
       c.receive.new.self,
       if_some c.in_ok-length.field-0 (λ n. g.L.Link.brings c.receives.link (take n c.receive.new.buffer) c.receive.new.self) c.in-Some.length c.in-Some.is

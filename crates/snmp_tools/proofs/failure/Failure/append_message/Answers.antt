@@ -14,7 +14,8 @@ returns-in-Letter c =
 
 pub returns-in-Agent : goal.returns-in-Agent
 returns-in-Agent c =
-    subst (λ (f : Failure). Adds c.args.out.now (fault_message (fault_of f)) c.text_and_word-in-Agent.new.out) (sym c.in-Agent.is) c.text_and_word-in-Agent.ensures
+    subst (λ (f : Failure). Adds c.args.out.now (fault_message (fault_of f)) c.text_and_word-in-Agent.new.out)
+    (sym c.in-Agent.is) c.text_and_word-in-Agent.ensures
 
 pub returns-in-Unreadable : goal.returns-in-Unreadable
 returns-in-Unreadable c =
