@@ -171,7 +171,8 @@ fn names_by_module_files(rt: HostRuntime) {
                 LAST,
             ),
             (
-                "snmp snmpwalk --mib=tiny.txt --after=TINY-MIB::tinyMac.\"wes\" table:tiny.tab tiny",
+                "snmp snmpwalk --mib=tiny.txt --after=TINY-MIB::tinyMac.\"wes\" \
+                 table:tiny.tab tiny",
                 LAST,
             ),
         ],
