@@ -1,4 +1,5 @@
-//! Tests of the tree of names that module files give: its warnings, and what refuses files.
+//! Tests of outputs and files, and of the tree of names that module files give: its warnings, and
+//! what refuses files.
 #![tactic(auto)]
 
 #[cfg(test)]
