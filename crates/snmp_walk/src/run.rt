@@ -86,7 +86,7 @@ pub fn run_walk<L: Link, S: Sink>(
 }
 
 /// One turn of a walk: sends the request, reads the reply, and gives the bindings that it brings to
-/// the sink.
+/// the sink. Where the walk ends by it, how is written to `end`.
 fn turn<L: Link, S: Sink>(
     link: &mut L,
     core: &mut WalkCore,
