@@ -7,6 +7,8 @@ driver agent_bench agent.c
 for request in middle singles names long; do
     for rows in 1000 100000; do
         bindings=$("$work/driver" "$request" "$rows" 1)
-        echo "$request, $rows rows: $bindings bindings, $(($(each 5 "$request" "$rows") / bindings)) instructions each"
+        # A reply of 50 bindings takes so little beside reading the table that many are counted.
+        case $request in middle) times=500 ;; *) times=5 ;; esac
+        echo "$request, $rows rows: $bindings bindings, $(($(each $times "$request" "$rows") / bindings)) instructions each"
     done
 done
