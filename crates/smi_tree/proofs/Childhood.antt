@@ -24,7 +24,7 @@ pub data IsOfLowest (f : ℕ → Option ℕ) : Option ℕ → Type 0 where
   nothing : ((m : ℕ) → f m ≡ None) → IsOfLowest f None
   lowest : (n k : ℕ) → f n ≡ Some k → ((m : ℕ) → m < n → f m ≡ None) → IsOfLowest f (Some k)
 
-of_lowest-none : (f : ℕ → Option ℕ) (b : ℕ) → ((m : ℕ) → m < b → f m ≡ None) → of_lowest f b ≡ None
+pub of_lowest-none : (f : ℕ → Option ℕ) (b : ℕ) → ((m : ℕ) → m < b → f m ≡ None) → of_lowest f b ≡ None
 unfolding of_lowest
 of_lowest-none f zero h = refl
 of_lowest-none f (suc b) h = rw (of_lowest-none f b (λ m l. h m (omega arith)), h b (omega arith)) refl

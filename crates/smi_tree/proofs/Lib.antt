@@ -8,3 +8,4 @@ pub mod Reaching
 pub mod Soundness
 pub mod Sounding
 pub mod Single
+pub mod Bare

@@ -70,16 +70,16 @@ oid-at (m ∷ nodes) zero n e = let same_node : m ≡ n = cc in ap (λ (n : Node
 oid-at (m ∷ nodes) (suc i) n e = oid-at nodes i n e
 
 -- a node as names see it, and the node that it is
-record StandsFor (t : Contents) (o : List ℕ) (node : Standing) : Type 0 where
-  place : ℕ
-  n : Node
-  there : slice_get t.nodes place ≡ Some n
-  home : node.home ≡ home_name n.home
-  label : node.label ≡ n.label
-  depth : node.depth ≤ length o
-  oid : n.oid ≡ take node.depth o
+pub record StandsFor (t : Contents) (o : List ℕ) (node : Standing) : Type 0 where
+  pub place : ℕ
+  pub n : Node
+  pub there : slice_get t.nodes place ≡ Some n
+  pub home : node.home ≡ home_name n.home
+  pub label : node.label ≡ n.label
+  pub depth : node.depth ≤ length o
+  pub oid : n.oid ≡ take node.depth o
 
-stands : (t : Contents) (o : List ℕ) (node : Standing) → option_and_then (standing_of_longest t) (longest t.nodes o) ≡ Some node → StandsFor t o node
+pub stands : (t : Contents) (o : List ℕ) (node : Standing) → option_and_then (standing_of_longest t) (longest t.nodes o) ≡ Some node → StandsFor t o node
 stands t o node e = by (longest t.nodes o) refl e
   where
     by : (r : Option Longest) → longest t.nodes o ≡ r → option_and_then (standing_of_longest t) r ≡ Some node → StandsFor t o node
@@ -112,7 +112,7 @@ first-passing t b (suc i) (y ∷ xs) x e p = by (t y) refl (first-passing t (b +
     by false f r = let more : b + 1 + r.0 ≡ b + suc r.0 = omega arith in (suc r.0, r.1, rw f (r.2 ∙ ap (λ k. Some k) more), r.3, r.4)
 
 -- the roots
-root-case : (P : Node → Type 0) → P (node_of_root (codes "ccitt") 0) → P (node_of_root (codes "iso") 1) → P (node_of_root (codes "joint-iso-ccitt") 2)
+pub root-case : (P : Node → Type 0) → P (node_of_root (codes "ccitt") 0) → P (node_of_root (codes "iso") 1) → P (node_of_root (codes "joint-iso-ccitt") 2)
     → (k : ℕ) (n : Node) → slice_get roots k ≡ Some n → P n
 root-case P c i j zero n e = let is : node_of_root (codes "ccitt") 0 ≡ n = cc in subst P is c
 root-case P c i j (suc zero) n e = let is : node_of_root (codes "iso") 1 ≡ n = cc in subst P is i
@@ -123,7 +123,7 @@ root-leads : (ns : List Node) (k : ℕ) (n : Node) → slice_get roots k ≡ Som
     → oid_of (roots ++ ns) (place_anywhere (roots ++ ns) n.label) ≡ Some n.oid
 root-leads ns = root-case (λ n. oid_of (roots ++ ns) (place_anywhere (roots ++ ns) n.label) ≡ Some n.oid) refl refl refl
 
-root-word : (k : ℕ) (n : Node) → slice_get roots k ≡ Some n → is_word n.label ≡ true
+pub root-word : (k : ℕ) (n : Node) → slice_get roots k ≡ Some n → is_word n.label ≡ true
 root-word = root-case (λ n. is_word n.label ≡ true) refl refl refl
 
 root-home : (k : ℕ) (n : Node) → slice_get roots k ≡ Some n → n.home ≡ None
@@ -181,7 +181,7 @@ leads-by t ns ws law nodes l k n there (inr f) =
     let found = in-its-module t.modules ns ws law l k n there f in
     rw (home, label, nodes) (f.home.name.lexical, f.loaded, found)
 
-leads-alike : (naming : Naming) (h i : Option (List ℕ)) (x y o p : List ℕ) → h ≡ i → x ≡ y → o ≡ p → LabelLeadsTo naming h x o → LabelLeadsTo naming i y p
+pub leads-alike : (naming : Naming) (h i : Option (List ℕ)) (x y o p : List ℕ) → h ≡ i → x ≡ y → o ≡ p → LabelLeadsTo naming h x o → LabelLeadsTo naming i y p
 leads-alike naming h i x y o p e f g leads = rw (sym e, sym f, sym g) leads
 
 word-by : (t : Contents) (n : Node) → ((j : ℕ) × (slice_get roots j ≡ Some n)) ⊎ IsOfModule t.modules n → is_word n.label ≡ true

@@ -22,7 +22,7 @@ use Rattle.smi_tree.specs.Tree.{IsTree}
 use Rattle.smi_tree.specs.Kept.{contents}
 use Rattle.smi_tree.proofs.Bridging.{parts, node-none}
 
-no_syntax : (ms : List Module) → HasNoSyntax ms no_type
+pub no_syntax : (ms : List Module) → HasNoSyntax ms no_type
 no_syntax ms f h = elim h.chain [ ]
 
 same_object : (ms : List Module) (i k : ℕ) → object_in (slice_get ms i) (gathered.def_of_module (slice_get ms i) k) ≡ object_origin ms i k

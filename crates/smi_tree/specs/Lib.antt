@@ -3,6 +3,7 @@ pub mod Places
 pub mod Standing
 pub mod Shown
 pub mod Tree
+pub mod Bare
 pub mod Kept
 pub mod Resolved
 pub mod Naming

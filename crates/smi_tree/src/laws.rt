@@ -1,7 +1,8 @@
 //! Laws of trees of names, for any modules.
-ghost use Rattle.std.specs.Prelude.{◌≡◌, List};
+ghost use Rattle.std.specs.Prelude.{◌≡◌, List, []};
 ghost use Rattle.smi_module.specs.declared.tree.Module.{Module};
 ghost use Rattle.smi_nodes.specs.declared.warning.Warning.{Warning};
+ghost use Rattle.smi_tree.specs.Bare.{bare};
 ghost use Rattle.smi_tree.specs.Tree.{Contents, IsTree};
 
 use smi_columns::one_list_of_indexes;
@@ -20,3 +21,10 @@ pub fn one_tree()
     one_syntax();
     one_list_of_indexes();
 }
+
+/// No modules give the tree of the roots, without warnings (RFC 2578, section 2).
+///
+/// A law: the call does nothing, and its caller may use what it ensures.
+pub fn bare_tree()
+    ensures { IsTree [] bare [] }
+{}

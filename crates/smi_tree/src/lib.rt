@@ -9,12 +9,14 @@ mod laws;
 mod naming;
 mod node;
 mod places;
+mod roots;
 mod show;
 mod shown;
 mod tree;
 
-pub use laws::one_tree;
+pub use laws::{bare_tree, one_tree};
 pub use node::Node;
+pub use roots::Roots;
 pub use smi_branches::{Children, Deepest};
 pub use smi_nodes::Warning;
 pub use smi_types::TypeSyntax;

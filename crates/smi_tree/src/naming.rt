@@ -31,7 +31,7 @@ impl Tree {
 }
 
 /// The place of the root of a label (RFC 2578, section 2).
-fn root_place(label: &[u8]) -> Option<usize>
+pub(crate) fn root_place(label: &[u8]) -> Option<usize>
     ensures { result ≡ place_anywhere roots label.now }
 {
     if &b"ccitt"[..] == label {

@@ -53,7 +53,7 @@ pub(crate) fn definition(modules: &[Module], source: Source) -> Option<&Def>
 }
 
 /// The label of the root with a number (RFC 2578, section 2).
-fn root_label(number: u32) -> &'static [u8]
+pub(crate) fn root_label(number: u32) -> &'static [u8]
     ensures { result.now ≡ root_label number }
 {
     match number {

@@ -1,0 +1,167 @@
+-- The tree of no modules: what is found among the three roots.
+use Rattle.std.proofs.Common.{◌≡◌, ◌≢◌, ℕ, zero, suc, ◌<◌, ◌≤◌, Bool, true, false, cond, ◌&&◌, List, [], ◌∷◌, ◌++◌, length, take, get_or, slice_index_or}
+use Rattle.std.proofs.Common.{Option, Some, None, refl, sym, ap, arith, nat_eq}
+use Rattle.std.proofs.lemmas.Bool.{ne_eqb}
+use Rattle.std.specs.Prelude.{codes}
+use Rattle.std.specs.List.{slice_get}
+use Rattle.std.specs.Option.{option_and_then}
+use Rattle.smi_module.specs.Mark.{same_text}
+use Rattle.smi_branches.specs.Standing.{place_of, IsDeepestAt, HasNoBeginning}
+use Rattle.smi_meaning.specs.Meaning.{or_else}
+use Rattle.smi_name.specs.Naming.{LabelLeadsTo, IsSound}
+use Rattle.smi_nodes.specs.Nodes.{Node, roots, none_yet}
+use Rattle.smi_nodes.specs.Gathered.{root_label}
+use Rattle.smi_types.specs.Types.{Facts}
+use Rattle.smi_index.specs.declared.part.IndexPart.{IndexPart}
+use Rattle.smi_columns.specs.Index.{IsIndex, IsObjectType}
+use Rattle.smi_tree.specs.Nodes.{oids_of, place_anywhere, child_at, child_of, if_labelled, of_lowest}
+use Rattle.smi_tree.specs.Standing.{Longest, longest}
+use Rattle.smi_tree.specs.Shown.{IsSyntaxOf, shown_at}
+use Rattle.smi_tree.specs.Tree.{IsTree}
+use Rattle.smi_tree.specs.Naming.{home_name, standing_of_longest, oid_of, naming_of, nearest_definition, nearest_syntax}
+use Rattle.smi_tree.specs.Bare.{bare}
+use Rattle.smi_tree.proofs.Childhood.{of_lowest-none}
+use Rattle.smi_tree.proofs.Reaching.{longest-some, longest-none}
+use Rattle.smi_tree.proofs.Sounding.{stands, root-case, root-word, leads-alike}
+use Rattle.smi_tree.proofs.Syntaxes.{no_syntax}
+
+-- the roots have no syntax and no index
+none-at : {A : Type 0} (k : ℕ) → slice_index_or {A = Option A} (None ∷ (None ∷ (None ∷ []))) k None ≡ None
+none-at zero = refl
+none-at (suc zero) = refl
+none-at (suc (suc zero)) = refl
+none-at (suc (suc (suc k))) = refl
+
+root-syntax : (k : ℕ) (n : Node) → slice_get roots k ≡ Some n → IsSyntaxOf [] n None
+root-syntax = root-case (λ n. IsSyntaxOf [] n None) (no_syntax []) (no_syntax []) (no_syntax [])
+
+no_object : IsObjectType None → ⊥
+no_object (d, o, e, k) = cc
+
+root-index : (k : ℕ) (n : Node) → slice_get roots k ≡ Some n → IsIndex [] roots n None
+root-index = root-case (λ n. IsIndex [] roots n None) (λ parts i. no_object i.of_row.object) (λ parts i. no_object i.of_row.object)
+    (λ parts i. no_object i.of_row.object)
+
+-- no modules give the roots alone
+pub is_bare : IsTree [] bare []
+is_bare = record {
+  passed = refl;
+  ns = [];
+  nodes = refl;
+  loads = none_yet;
+  syntaxes = record { long = refl; each = λ k n e. rw (none-at {A = Facts} k) (root-syntax k n e) };
+  indexes = record { long = refl; each = λ k n e. rw (none-at {A = List IndexPart} k) (root-index k n e) };
+}
+
+-- no root has two numbers
+longer : (x y : ℕ) (rest : List ℕ) → place_of (oids_of roots) (x ∷ y ∷ rest) ≡ None
+longer x y rest = by (nat_eq 0 x) (nat_eq 1 x) (nat_eq 2 x)
+  where
+    by : (a b d : Bool) → cond {A = Option ℕ} (a && false) (Some 0) (cond (b && false) (Some 1) (cond (d && false) (Some 2) None)) ≡ None
+    by true true true = refl
+    by true true false = refl
+    by true false true = refl
+    by true false false = refl
+    by false true true = refl
+    by false true false = refl
+    by false false true = refl
+    by false false false = refl
+
+longer-by : (x : ℕ) (xs : List ℕ) (n : ℕ) → place_of (oids_of roots) (x ∷ (xs ++ n ∷ [])) ≡ None
+longer-by x [] n = longer x n []
+longer-by x (y ∷ xs) n = longer x y (xs ++ n ∷ [])
+
+-- the children of the identifier of no numbers are the roots
+pub child-roots : (label : List ℕ) → oid_of roots (place_anywhere roots label) ≡ oid_of roots (child_of roots [] label)
+unfolding of_lowest
+child-roots label = by (same_text (codes "ccitt") label) (same_text (codes "iso") label) (same_text (codes "joint-iso-ccitt") label)
+  where
+    by : (a b d : Bool) → oid_of roots (cond a (Some 0) (cond b (Some 1) (cond d (Some 2) None)))
+        ≡ oid_of roots (or_else (or_else (or_else None (cond a (Some 0) None)) (cond b (Some 1) None)) (cond d (Some 2) None))
+    by true b d = refl
+    by false true d = refl
+    by false false true = refl
+    by false false false = refl
+
+-- a root has no children
+pub child-longer : (o label : List ℕ) → o ≢ [] → None ≡ oid_of roots (child_of roots o label)
+child-longer [] label some = absurd (some refl)
+child-longer (x ∷ xs) label some =
+    ap (λ r. oid_of roots r) (sym (of_lowest-none (child_at roots (x ∷ xs) label) 3 (λ m l. ap (λ r. if_labelled roots label r) (longer-by x xs m))))
+
+-- the longest beginning that is a root is the first number, if that is below three
+longer-beginning : (x : ℕ) (rest : List ℕ) (j : ℕ) → 1 < j → j ≤ length (x ∷ rest) → place_of (oids_of roots) (take j (x ∷ rest)) ≡ None
+longer-beginning x rest zero l w = absurd (omega (arith, l))
+longer-beginning x rest (suc zero) l w = absurd (omega (arith, l))
+longer-beginning x [] (suc (suc k)) l w = absurd (omega (arith, w))
+longer-beginning x (y ∷ rest) (suc (suc k)) l w = longer x y (take k rest)
+
+deepest-root : (x : ℕ) (rest : List ℕ) → place_of (oids_of roots) (x ∷ []) ≡ Some x → IsDeepestAt (oids_of roots) (x ∷ rest) x 1
+deepest-root x rest e = record { within = omega arith; here = e; none_longer = longer-beginning x rest }
+
+first-root : (x : ℕ) (rest : List ℕ) → x < 3
+    → Some (record { home = None; label = root_label x; depth = 1; index = None }) ≡ option_and_then (standing_of_longest bare) (longest roots (x ∷ rest))
+first-root zero rest l = rw (longest-some (oids_of roots) (0 ∷ rest) 0 1 (deepest-root 0 rest refl)) refl
+first-root (suc zero) rest l = rw (longest-some (oids_of roots) (1 ∷ rest) 1 1 (deepest-root 1 rest refl)) refl
+first-root (suc (suc zero)) rest l = rw (longest-some (oids_of roots) (2 ∷ rest) 2 1 (deepest-root 2 rest refl)) refl
+first-root (suc (suc (suc k))) rest l = absurd (omega (arith, l))
+
+pub deepest-some : (o : List ℕ) → 1 ≤ length o → get_or o 0 0 < 3
+    → Some (record { home = None; label = root_label (get_or o 0 0); depth = 1; index = None })
+    ≡ option_and_then (standing_of_longest bare) (longest roots o)
+deepest-some [] w l = absurd (omega (arith, w))
+deepest-some (x ∷ rest) w l = first-root x rest l
+
+beyond : (x : ℕ) → 3 ≤ x → place_of (oids_of roots) (x ∷ []) ≡ None
+beyond x l = rw (ne_eqb 0 x (λ e. omega (arith, e, l)), ne_eqb 1 x (λ e. omega (arith, e, l)), ne_eqb 2 x (λ e. omega (arith, e, l))) refl
+
+no_beginning : (o : List ℕ) → (1 ≤ length o → 3 ≤ get_or o 0 0) → HasNoBeginning (oids_of roots) o
+no_beginning [] h zero w = refl
+no_beginning [] h (suc j) w = refl
+no_beginning (x ∷ rest) h zero w = refl
+no_beginning (x ∷ rest) h (suc zero) w = beyond x (h (omega arith))
+no_beginning (x ∷ rest) h (suc (suc k)) w = longer-beginning x rest (suc (suc k)) (omega arith) w
+
+pub deepest-none : (o : List ℕ) → (1 ≤ length o → 3 ≤ get_or o 0 0) → None ≡ option_and_then (standing_of_longest bare) (longest roots o)
+deepest-none o h = rw (longest-none (oids_of roots) o (no_beginning o h)) refl
+
+-- a root has no definition and no syntax
+root-definition : (k : ℕ) → option_and_then (λ n. n.definition) (slice_get roots k) ≡ None
+root-definition zero = refl
+root-definition (suc zero) = refl
+root-definition (suc (suc zero)) = refl
+root-definition (suc (suc (suc k))) = refl
+
+pub no_definition : (o : List ℕ) → None ≡ nearest_definition bare o
+no_definition o = by (longest roots o)
+  where
+    by : (l : Option Longest) → None ≡ option_and_then (λ l. option_and_then (λ n. n.definition) (slice_get roots l.place)) l
+    by None = refl
+    by (Some l) = sym (root-definition l.place)
+
+root-shown : (k : ℕ) → shown_at roots bare.syntaxes k ≡ None
+root-shown zero = refl
+root-shown (suc zero) = refl
+root-shown (suc (suc zero)) = refl
+root-shown (suc (suc (suc k))) = refl
+
+pub none_shown : (o : List ℕ) → None ≡ nearest_syntax bare o
+none_shown o = by (longest roots o)
+  where
+    by : (l : Option Longest) → None ≡ option_and_then (λ l. shown_at roots bare.syntaxes l.place) l
+    by None = refl
+    by (Some l) = sym (root-shown l.place)
+
+-- labels of roots are words, and lead to the roots
+root-leads-to : (k : ℕ) (n : Node) → slice_get roots k ≡ Some n → LabelLeadsTo (naming_of bare) (home_name n.home) n.label n.oid
+root-leads-to = root-case (λ n. LabelLeadsTo (naming_of bare) (home_name n.home) n.label n.oid) refl refl refl
+
+pub sound-bare : IsSound (naming_of bare)
+sound-bare = record {
+  within = λ o node e. (stands bare o node e).depth;
+  words = λ o node e. let s = stands bare o node e in rw s.label (root-word s.place s.n s.there);
+  leads = λ o node e.
+      let s = stands bare o node e in
+      leads-alike (naming_of bare) (home_name s.n.home) node.home s.n.label node.label s.n.oid (take node.depth o) (sym s.home) (sym s.label) s.oid
+      (root-leads-to s.place s.n s.there);
+}
