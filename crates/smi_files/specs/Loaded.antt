@@ -1,8 +1,12 @@
 -- The tree of names of module files.
-use Rattle.std.specs.Prelude.{ℕ, List}
+use Rattle.std.specs.Prelude.{◌≡◌, ℕ, List, Option}
+use Rattle.smi_module.specs.declared.tree.Def.{Def}
 use Rattle.smi_module.specs.declared.tree.Module.{Module}
+use Rattle.smi_name.specs.Naming.{Naming}
 use Rattle.smi_nodes.specs.declared.warning.Warning.{Warning}
+use Rattle.smi_tree.specs.Naming.{naming_of, nearest_definition, nearest_syntax}
 use Rattle.smi_tree.specs.Tree.{Contents, IsTree}
+use Rattle.smi_value.specs.Syntax.{ObjectSyntax}
 use Rattle.snmp_io.specs.Output.{Stream, IsWritten}
 use Rattle.smi_files.specs.Files.{AreModulesOf}
 use Rattle.smi_files.specs.Warned.{warning_lines}
@@ -17,3 +21,13 @@ pub record IsLoaded (Held : (path text : List ℕ) → Type 0) (paths : List (Li
   pub warnings : List Warning
   pub loads : IsTree modules tree warnings
   pub told : IsWritten before (warning_lines warnings) after
+
+-- The names, definitions and syntaxes are those of a tree that is loaded.
+pub record AreLoadedAs (Held : (path text : List ℕ) → Type 0) (paths : List (List ℕ))
+    (naming : Naming) (definition_at : List ℕ → Option Def)
+    (syntax_at : List ℕ → Option ObjectSyntax) (before after : Stream) : Type 0 where
+  pub tree : Contents
+  pub loaded : IsLoaded Held paths tree before after
+  pub names : naming ≡ naming_of tree
+  pub definitions : definition_at ≡ nearest_definition tree
+  pub syntaxes : syntax_at ≡ nearest_syntax tree

@@ -6,9 +6,11 @@
 
 mod error;
 mod load;
+mod modules;
 mod read;
 mod warned;
 
 pub use error::FilesError;
 pub use load::load_tree;
+pub use modules::{ModuleFiles, WithoutModules};
 pub use read::{one_list_of_modules, read_modules};

@@ -1,26 +1,37 @@
 -- What a walk that was refused after its plan was made tells of its words.
 use Rattle.std.proofs.Common.{◌≡◌, inl, inr, ℕ, Bool, List, [], Option, Some, None, Ok, unwrap_or, refl, ◌∙◌, ap}
-use Rattle.smi_files.specs.Loaded.{IsLoaded}
+use Rattle.smi_files.specs.Loaded.{AreLoadedAs}
+use Rattle.smi_module.specs.declared.tree.Def.{Def}
 use Rattle.smi_name.specs.Meaning.{meaning}
-use Rattle.smi_tree.specs.Tree.{Contents}
+use Rattle.smi_name.specs.Naming.{Naming}
+use Rattle.smi_tree.specs.Naming.{naming_of}
+use Rattle.smi_value.specs.Syntax.{ObjectSyntax}
 use Rattle.snmp_io.specs.Output.{Stream}
 use Rattle.snmp_words.specs.Words.{WalkWords}
 use Rattle.snmp_net.specs.Address.{address_of}
 use Rattle.snmp_tools.specs.Asking.{HasAgent, IsNameIfGiven, IsReached, ReachFails}
 use Rattle.snmp_tools.specs.Message.{Fault}
 use Rattle.snmp_io.specs.Files.{Holdings, MayHold}
-use Rattle.snmp_tools.specs.Mib.{AreLoaded, IsMibOf, Mib, mib_of}
+use Rattle.snmp_tools.specs.Mib.{AreLoaded, IsMibOf, Mib}
 use Rattle.snmp_tools.specs.Plan.{AskFor, IsAfterOf, IsLateRefusal, IsRootOf, Plan, root_text}
 use Rattle.snmp_tools.specs.Chosen.{chosen}
-use Rattle.snmp_tools.specs.Planned.{AreOrdersOf, NamesFail}
+use Rattle.snmp_tools.specs.Planned.{AreOrdersOf, NamesFail, mib_in}
 use Rattle.snmp_tools.specs.declared.plan.Orders.{Orders}
 use Rattle.snmp_tools.specs.Start.{ResumeFails, StartFails}
 use Rattle.snmp_tools.proofs.Steps.{at_after, at_after_below, at_after_sent, at_reach, at_root, at_root_sent}
 
--- what a load tells of the tree
-pub are_loaded : (files : Holdings) (paths : List (List ℕ)) (tree : Contents) (before after : Stream) (is : IsLoaded (MayHold files) paths tree before after)
-    → AreLoaded (MayHold files) paths (mib_of tree) is.warnings
-are_loaded files paths tree before after is = record { modules = is.modules; read = is.read; tree = tree; loads = is.loads; is = refl }
+-- what a load tells of its names and types
+pub are_loaded : (files : Holdings) (paths : List (List ℕ)) (naming : Naming) (definition_at : List ℕ → Option Def)
+    (syntax_at : List ℕ → Option ObjectSyntax) (before after : Stream)
+    (is : AreLoadedAs (MayHold files) paths naming definition_at syntax_at before after)
+    → AreLoaded (MayHold files) paths (mib_in naming syntax_at) is.loaded.warnings
+are_loaded files paths naming definition_at syntax_at before after is = record {
+  modules = is.loaded.modules;
+  read = is.loaded.read;
+  tree = is.tree;
+  loads = is.loaded.loads;
+  is = ap (λ n. mib_in n syntax_at) is.names ∙ ap (mib_in (naming_of is.tree)) is.syntaxes;
+}
 
 -- the name to go on after, where a plan has one
 given_after : (mib : Mib) (given : Option (List ℕ)) (planned : Option (List ℕ)) (after : List ℕ) → IsNameIfGiven mib given planned → planned ≡ Some after

@@ -16,7 +16,8 @@ ghost use Rattle.snmp_tools.specs.Translating.{IsTranslated};
 ghost use Rattle.snmp_tools.specs.Usage.{IsHelpOrMistake, PrintsHelp};
 
 use crate::job::{run_job, tell};
-use snmp_io::{Files, Output, write_all};
+use smi_files::ModuleFiles;
+use snmp_io::{Output, write_all};
 use snmp_net::Links;
 use snmp_words::{UsageError, read_words};
 use std::alloc::Global;
@@ -27,7 +28,7 @@ use std::alloc::Global;
 /// It is 0 where that was done, 2 where an agent replied with an error status, and 1 in any other
 /// case. A failure is one line on `err`, except that a mistake in the shape of the words may take
 /// several.
-pub fn tool<F: Files, L: Links, O: Output, E: Output>(
+pub fn tool<F: ModuleFiles, L: Links, O: Output, E: Output>(
     alloc: Global,
     words: &[&str],
     files: &F,

@@ -23,7 +23,7 @@ use crate::lines::print_get;
 use crate::names::{check_names, read_names};
 use crate::plan::GetPlan;
 use crate::walk::{end_in_memory, load, table_at};
-use smi_files::one_list_of_modules;
+use smi_files::{ModuleFiles, one_list_of_modules};
 use smi_show::{Letters, ShowTree};
 use smi_tree::one_tree;
 use snmp_agent::Config;
@@ -35,7 +35,7 @@ use snmp_words::{Asking, GetJob};
 use std::alloc::Global;
 
 /// Does the job of snmpget, and returns the exit status.
-pub(crate) fn do_get<F: Files, L: Links, O: Output, E: Output>(
+pub(crate) fn do_get<F: ModuleFiles, L: Links, O: Output, E: Output>(
     alloc: Global,
     get: &GetJob<'_>,
     files: &F,
@@ -63,7 +63,7 @@ pub(crate) fn do_get<F: Files, L: Links, O: Output, E: Output>(
 }
 
 // Writes the lines of a Get, and reports what failed.
-fn get_and_report<F: Files, L: Links, O: Output, E: Output>(
+fn get_and_report<F: ModuleFiles, L: Links, O: Output, E: Output>(
     alloc: Global,
     get: &GetJob<'_>,
     files: &F,
@@ -84,7 +84,7 @@ fn get_and_report<F: Files, L: Links, O: Output, E: Output>(
 }
 
 // Writes the lines of a Get, and before them, on `err`, those of its modules' warnings.
-fn get_lines<'a, F: Files, L: Links, O: Output, E: Output>(
+fn get_lines<'a, F: ModuleFiles, L: Links, O: Output, E: Output>(
     alloc: Global,
     get: &GetJob<'a>,
     files: &F,

@@ -19,9 +19,9 @@ use crate::get::do_get;
 use crate::serve::do_serve;
 use crate::translate::do_translate;
 use crate::walk::walk_lines;
-use smi_files::one_list_of_modules;
+use smi_files::{ModuleFiles, one_list_of_modules};
 use smi_tree::one_tree;
-use snmp_io::{Files, Output, write_all};
+use snmp_io::{Output, write_all};
 use snmp_net::Links;
 use snmp_table::{no_fault, one_table};
 use snmp_words::{Job, WalkJob};
@@ -32,7 +32,7 @@ use std::alloc::{AllocError, Global};
 ///
 /// Each line is written to `out` as its binding comes. A failure is one line on `err`; an `err`
 /// that fails itself changes nothing else.
-pub fn run_job<F: Files, L: Links, O: Output, E: Output>(
+pub fn run_job<F: ModuleFiles, L: Links, O: Output, E: Output>(
     alloc: Global,
     job: &Job<'_>,
     files: &F,
@@ -92,7 +92,7 @@ pub fn run_job<F: Files, L: Links, O: Output, E: Output>(
 }
 
 // Does the job of a walk.
-fn do_walk<F: Files, L: Links, O: Output, E: Output>(
+fn do_walk<F: ModuleFiles, L: Links, O: Output, E: Output>(
     alloc: Global,
     walk: &WalkJob<'_>,
     bulk: bool,

@@ -22,6 +22,7 @@ mod walk;
 pub use entry::tool;
 pub use failure::Failure;
 pub use job::run_job;
+pub use smi_files::ModuleFiles;
 pub use snmp_io::{FileFault, Files, Output, OutputFault};
 pub use snmp_net::Links;
 pub use snmp_words::{Asking, GetJob, Job, ServeJob, UsageError, WalkJob, read_words};

@@ -7,14 +7,15 @@ ghost use Rattle.snmp_tools.specs.Translating.{IsTranslated, reported};
 
 use crate::failure::Failure;
 use crate::job::report;
-use snmp_io::{Files, Output};
+use smi_files::ModuleFiles;
+use snmp_io::Output;
 use snmp_translate::{TranslateError, translate};
 use snmp_walk::{SinkFault, WalkEnd};
 use snmp_words::TranslateJob;
 use std::alloc::Global;
 
 /// Does the job of snmptranslate, and returns the exit status.
-pub(crate) fn do_translate<F: Files, O: Output, E: Output>(
+pub(crate) fn do_translate<F: ModuleFiles, O: Output, E: Output>(
     alloc: Global,
     job: &TranslateJob<'_>,
     files: &F,

@@ -1,7 +1,7 @@
 //! A walk: its words are judged, its names looked up, its agent reached, and its lines printed.
 ghost use Rattle.std.specs.Prelude.{◌≡◌, ◌⊎◌, ◌+◌, [], IfErr, IfOk, None, OnErr, OnOk, Some};
 ghost use Rattle.std.specs.Prelude.{unwrap_or};
-ghost use Rattle.smi_files.specs.Loaded.{IsLoaded};
+ghost use Rattle.smi_files.specs.Loaded.{AreLoadedAs};
 ghost use Rattle.snmp_net.specs.Address.{address_of, table, udp};
 ghost use Rattle.snmp_words.specs.Words.{asking_words, walk_words};
 ghost use Rattle.snmp_serve.specs.TableFile.{HasTable, TableFails};
@@ -23,9 +23,8 @@ use crate::judge::MIB_2;
 use crate::lines::{print_count, print_walk};
 use crate::plan::{Orders, Plan};
 use crate::start::start;
-use smi_files::{FilesError, load_tree};
+use smi_files::{FilesError, ModuleFiles};
 use smi_show::ShowTree;
-use smi_tree::Tree;
 use snmp_agent::Config;
 use snmp_io::{FileFault, Files, Output};
 use snmp_net::{AgentAddress, Links, UdpAddress};
@@ -35,7 +34,7 @@ use snmp_words::{Asking, WalkJob};
 use std::alloc::Global;
 
 /// Writes the lines of a walk, and before them, on `err`, those of its modules' warnings.
-pub(crate) fn walk_lines<'a, F: Files, L: Links, O: Output, E: Output>(
+pub(crate) fn walk_lines<'a, F: ModuleFiles, L: Links, O: Output, E: Output>(
     alloc: Global,
     walk: &WalkJob<'a>,
     bulk: bool,
@@ -67,20 +66,20 @@ pub(crate) fn walk_lines<'a, F: Files, L: Links, O: Output, E: Output>(
 }
 
 // The tree of the names and types of a job's modules. The lines of its warnings are written.
-pub(crate) fn load<'a, F: Files, E: Output>(
+pub(crate) fn load<'a, F: ModuleFiles, E: Output>(
     alloc: Global,
     asking: &Asking<'a>,
     files: &F,
     err: &mut E,
-) -> Result<Tree, Failure<'a>>
-    ensures loaded { IfOk result (λ tree.
-        IsLoaded (MayHold (F.text_at files.now)) (asking_words asking.now).mibs tree
-        (E.stream err.old) (E.stream err.new)) }
+) -> Result<F::Names, Failure<'a>>
+    ensures loaded { IfOk result (λ tree. AreLoadedAs (MayHold (F.text_at files.now))
+        (asking_words asking.now).mibs (F.Names.naming tree) (F.Names.definition_at tree)
+        (F.Names.syntax_at tree) (E.stream err.old) (E.stream err.new)) }
     ensures failed { IfErr result (λ e. (fault_of e ≡ out_of_memory)
         ⊎ MibsFail (F.text_at files.now) (asking_words asking.now).mibs (fault_of e)) }
     ensures untold { OnErr result (E.stream err.new ≡ E.stream err.old) }
 {
-    match load_tree(alloc, files, &asking.mibs, err) {
+    match files.load(alloc, &asking.mibs, err) {
         Ok(tree) => Ok(tree),
         Err(FilesError::Unreadable(path)) => Err(Failure::Modules(FilesError::Unreadable(path))),
         Err(FilesError::Text(path, why)) => Err(Failure::Modules(FilesError::Text(path, why))),

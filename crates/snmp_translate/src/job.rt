@@ -8,8 +8,8 @@ ghost use Rattle.snmp_translate.specs.Outcome.{IsTranslateOutcome};
 use crate::error::{TranslateError, modules_error};
 use crate::names::print_names;
 use crate::style::Style;
-use smi_files::{load_tree, one_list_of_modules};
-use snmp_io::{Files, Output};
+use smi_files::{ModuleFiles, one_list_of_modules};
+use snmp_io::Output;
 use snmp_words::TranslateJob;
 use std::alloc::Global;
 
@@ -19,7 +19,7 @@ use std::alloc::Global;
 ///
 /// The letters and then the module files are judged before anything is printed. Warnings of the
 /// modules go to `err`; an `err` that fails changes nothing else.
-pub fn translate<'a, F: Files, O: Output, E: Output>(
+pub fn translate<'a, F: ModuleFiles, O: Output, E: Output>(
     alloc: Global,
     job: &TranslateJob<'a>,
     files: &F,
@@ -42,7 +42,7 @@ pub fn translate<'a, F: Files, O: Output, E: Output>(
 }
 
 // Prints the names by the tree of the module files.
-fn translate_names<'a, F: Files, O: Output, E: Output>(
+fn translate_names<'a, F: ModuleFiles, O: Output, E: Output>(
     alloc: Global,
     job: &TranslateJob<'a>,
     files: &F,
@@ -60,7 +60,7 @@ fn translate_names<'a, F: Files, O: Output, E: Output>(
         Ok(style) => style,
         Err(error) => return Err(error),
     };
-    let tree = match load_tree(alloc, files, &job.mibs, err) {
+    let tree = match files.load(alloc, &job.mibs, err) {
         Ok(tree) => tree,
         Err(error) => return Err(modules_error(error)),
     };

@@ -21,16 +21,16 @@ returns-in-Err-load-clause-failed g c =
 
 pub lines_by-requires-clause-known : goal.lines_by-requires-clause-known
 lines_by-requires-clause-known g c =
-    (_, are_loaded (g.F.Files.text_at c.args.files.now) _ c.in-Ok-load.tree _ _ c.in-Ok-load.ensures.loaded)
+    (_, are_loaded (g.F.Files.text_at c.args.files.now) _ _ _ _ _ _ c.in-Ok-load.ensures.loaded)
 
 pub returns-clause-done : goal.returns-clause-done
 returns-clause-done g c =
     let is = c.in-Ok-load.ensures.loaded in
-    on_ok_weaker c.lines_by.result (λ h. loaded _ is.warnings (are_loaded (g.F.Files.text_at c.args.files.now) _ c.in-Ok-load.tree _ _ is) is.told h)
+    on_ok_weaker c.lines_by.result (λ h. loaded _ is.loaded.warnings (are_loaded (g.F.Files.text_at c.args.files.now) _ _ _ _ _ _ is) is.loaded.told h)
     c.lines_by.ensures.done
 
 pub returns-clause-failed : goal.returns-clause-failed
 returns-clause-failed g c =
     let is = c.in-Ok-load.ensures.loaded in
-    IfErr-weaker c.lines_by.result _ _ (λ e h. loaded _ is.warnings
-    (are_loaded (g.F.Files.text_at c.args.files.now) _ c.in-Ok-load.tree _ _ is) is.told h) c.lines_by.ensures.failed
+    IfErr-weaker c.lines_by.result _ _ (λ e h. loaded _ is.loaded.warnings
+    (are_loaded (g.F.Files.text_at c.args.files.now) _ _ _ _ _ _ is) is.loaded.told h) c.lines_by.ensures.failed

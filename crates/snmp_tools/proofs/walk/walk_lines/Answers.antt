@@ -33,16 +33,16 @@ returns-in-Err-load-clause-failed g c =
 
 pub walk_by-requires-clause-known : goal.walk_by-requires-clause-known
 walk_by-requires-clause-known g c =
-    (_, are_loaded (g.F.Files.text_at c.args.files.now) _ c.in-Ok-load.tree _ _ c.in-Ok-load.ensures.loaded)
+    (_, are_loaded (g.F.Files.text_at c.args.files.now) _ _ _ _ _ _ c.in-Ok-load.ensures.loaded)
 
 pub returns-clause-done : goal.returns-clause-done
 returns-clause-done g c =
     let is = c.in-Ok-load.ensures.loaded in
-    on_ok_weaker c.walk_by.result (λ h. loaded _ is.warnings (are_loaded (g.F.Files.text_at c.args.files.now) _ c.in-Ok-load.tree _ _ is) is.told h)
+    on_ok_weaker c.walk_by.result (λ h. loaded _ is.loaded.warnings (are_loaded (g.F.Files.text_at c.args.files.now) _ _ _ _ _ _ is) is.loaded.told h)
     c.walk_by.ensures.done
 
 pub returns-clause-failed : goal.returns-clause-failed
 returns-clause-failed g c =
     let is = c.in-Ok-load.ensures.loaded in
-    IfErr-weaker c.walk_by.result _ _ (λ e h. loaded _ is.warnings
-    (are_loaded (g.F.Files.text_at c.args.files.now) _ c.in-Ok-load.tree _ _ is) is.told h) c.walk_by.ensures.failed
+    IfErr-weaker c.walk_by.result _ _ (λ e h. loaded _ is.loaded.warnings
+    (are_loaded (g.F.Files.text_at c.args.files.now) _ _ _ _ _ _ is) is.loaded.told h) c.walk_by.ensures.failed
