@@ -1,12 +1,16 @@
 #!/usr/bin/env bash
 # Runs the built program on a table of words, and compares what it wrote to its output and to its error
-# output, and its status, with what must come. Its last line is 'N passed, M failed'.
+# output, and its status, with what must come. Words without --mib are run by snmp_bare too. The last
+# line is 'N passed, M failed'.
 # shellcheck disable=SC2086  # words are split on purpose
 set -uo pipefail
 export LC_ALL=C
 cd "$(dirname "${BASH_SOURCE[0]}")/data" || exit 1
 program=$PWD/../../crates/snmp/out/snmp
-[ -x "$program" ] || { echo "tests/program.sh: the program isn't built: ./snmp --build" >&2; exit 1; }
+bare=$PWD/../../crates/snmp_bare/out/snmp_bare
+for built in "$program" "$bare"; do
+    [ -x "$built" ] || { echo "tests/program.sh: ${built##*/} isn't built: ./.ci/run builds it" >&2; exit 1; }
+done
 passed=0
 failed=0
 got=$(mktemp -d)
@@ -42,23 +46,29 @@ same() {
 # expect STATUS OUTPUT MESSAGES WORD..; with `target` or `errors` before it, output or messages go there, and
 # with `limit` the program may take so many kibibytes of memory, and with `stack` of stack.
 expect() {
-    local status=$1 output=$2 messages=$3 ended wrote said
-    shift 3
+    writes "$program" "$@"
+    case " ${*:4}" in *' --mib'*) ;; *) writes "$bare" "$@" ;; esac
+}
+
+# writes PROGRAM STATUS OUTPUT MESSAGES WORD..: the program does, but for its own name.
+writes() {
+    local run=$1 status=$2 output=$3 messages=$4 ended wrote said
+    shift 4
     : >"$got/out"
     : >"$got/err"
     (
         [ -z "${limit:-}" ] || ulimit -v "$limit"
         [ -z "${stack:-}" ] || ulimit -s "$stack"
-        exec timeout 60 "$program" "$@" >"${target:-$got/out}" 2>"${errors:-$got/err}" </dev/null
+        exec timeout 60 "$run" "$@" >"${target:-$got/out}" 2>"${errors:-$got/err}" </dev/null
     )
     ended=$?
-    wrote=$(cat "$got/out"; echo .)
-    said=$(cat "$got/err"; echo .)
+    wrote=$(sed 's/snmp_bare/snmp/g' "$got/out"; echo .)
+    said=$(sed 's/snmp_bare/snmp/g' "$got/err"; echo .)
     if [ $ended = "$status" ] && matches "$output" "${wrote%.}" && matches "$messages" "${said%.}"; then
         count ''
     else
-        count "$(printf 'snmp %s\n  status %s, not %s\n  output: %q\n  messages: %q' \
-            "$*" $ended "$status" "${wrote%.}" "${said%.}")"
+        count "$(printf '%s %s\n  status %s, not %s\n  output: %q\n  messages: %q' \
+            "${run##*/}" "$*" $ended "$status" "${wrote%.}" "${said%.}")"
     fi
 }
 prints() { expect 0 "$1" '' "${@:2}"; }

@@ -1,0 +1,49 @@
+//! The program `snmp` without its modules: a run of the sources that names no module file takes less
+//! time by it. A module file that is named can't be read.
+#![tactic(auto)]
+
+use smi_files::WithoutModules;
+use snmp_io::{MachineFiles, MachineOutput, Output, write_all};
+use snmp_net::MachineLinks;
+use snmp_tools::tool;
+use std::env::Env;
+use std::io::ErrorKind;
+use std::net::Net;
+use std::process::ExitCode;
+use std::rt::Files;
+use std::{env, io};
+
+fn main(rt: HostRuntime) -> ExitCode {
+    let mut out = MachineOutput::new(rt.stdout());
+    let mut err = MachineOutput::new(rt.stderr());
+    let status = match run(&rt, &mut out, &mut err) {
+        Ok(status) => status,
+        Err(error) => refused(&mut err, &error),
+    };
+    ExitCode::from(status)
+}
+
+fn run<R, O, E>(rt: &R, out: &mut O, err: &mut E) -> io::Result<u8>
+where
+    R: Env + Files + Net + AllocGlobal,
+    O: Output,
+    E: Output,
+{
+    let words: Vec<String> = env::args(rt)?.collect(rt.alloc())?;
+    let texts: Vec<&str> = words.iter().map(|word| word.as_str()).collect(rt.alloc())?;
+    let files = WithoutModules {
+        files: MachineFiles { rt },
+    };
+    let mut links = MachineLinks::new(rt);
+    Ok(tool(rt.alloc(), texts.as_slice(), &files, &mut links, out, err))
+}
+
+// No words can be had: memory ran out, or one of them is no text.
+fn refused<E: Output>(err: &mut E, error: &io::Error) -> u8 {
+    let text = match error.kind() {
+        ErrorKind::OutOfMemory => "Out of memory.\n",
+        _ => "error: invalid UTF-8 was detected in one or more arguments\n",
+    };
+    let _ = write_all(err, text.as_bytes());
+    1
+}
