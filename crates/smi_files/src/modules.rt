@@ -1,4 +1,4 @@
-//! Files of modules, as a caller loads the tree of their names.
+//! The names that are loaded from files, of modules or of the roots alone.
 ghost use Rattle.std.specs.Prelude.{◌≡◌, IfErr, IfOk, List, None, OnErr};
 ghost use Rattle.smi_module.specs.declared.tree.Module.{Module};
 ghost use Rattle.snmp_io.specs.Files.{Holds, MayHold};
@@ -15,7 +15,7 @@ use snmp_io::{FileFault, Files, MachineFiles, Output};
 use std::alloc::Global;
 use std::rt;
 
-/// Files of which modules are loaded.
+/// Files, with the names that are loaded from them: of their modules, or of the roots alone.
 pub trait ModuleFiles: Files {
     /// What names and values are read and shown by.
     type Names: ShowTree + Drop;

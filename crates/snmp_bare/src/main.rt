@@ -1,4 +1,4 @@
-//! The program `snmp` without its modules: a run of the sources that names no module file takes less
+//! The program `snmp` over files of which no modules are loaded: a run of the sources takes less
 //! time by it. A module file that is named can't be read.
 #![tactic(auto)]
 
