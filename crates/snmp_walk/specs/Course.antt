@@ -1,8 +1,19 @@
--- What came of a reply, once its bindings were given.
+-- What a reply means, and what came of it, once its bindings were given; where it ended the walk or
+-- the Get, with the end that stands in a place of its own.
 use Rattle.std.specs.Prelude.{Option, None, Some}
 use Rattle.snmp_walk.specs.declared.end.WalkEnd.{WalkEnd}
+use Rattle.snmp_walk.specs.declared.rows.Step.{Step}
+use Rattle.snmp_walk.specs.declared.rows.Step.TheVariants as step
 use Rattle.snmp_walk.specs.declared.tries.Course.{Course}
 use Rattle.snmp_walk.specs.declared.tries.Course.TheVariants as course
+use Rattle.snmp_walk.specs.declared.tries.Judgement.{Judgement}
+use Rattle.snmp_walk.specs.declared.tries.Judgement.TheVariants as judgement
+
+-- a judgement, with the end that stands in its place
+abbrev pub step_of : Judgement → WalkEnd → Step
+step_of judgement.Stray end = step.Stray
+step_of (judgement.GoesOn rows) end = step.Rows rows
+step_of (judgement.Ends rows) end = step.Last rows end
 
 -- the walk or the Get goes on, or ends so
 pub data Heard : Type 0 where

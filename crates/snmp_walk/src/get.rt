@@ -20,9 +20,9 @@ ghost use Rattle.snmp_walk.specs.Get.{asked_names, get_request, are_for as are_t
 ghost use Rattle.snmp_walk.specs.Get.{IsBrought, GetEnds, GetFacts};
 
 use crate::laws::codec;
-use crate::tries::{Course, Waiter, exchange, is_awaited};
+use crate::tries::{Course, Judgement, Waiter, exchange, is_awaited};
 use crate::walker::copy_of;
-use crate::{Link, Rows, Sink, Step, WalkEnd};
+use crate::{Link, Rows, Sink, WalkEnd};
 use snmp_wire::{
     Binding, Bindings, Kind, MessageRef, Oid, Parts, ValueRef, encode_binding, encode_head,
     head_size, pieces,
@@ -141,11 +141,13 @@ impl<'n> Waiter for Get<'n> {
         is_awaited(self.community, self.id, message)
     }
 
-    fn read<'a>(&mut self, reply: &MessageRef<'a>) -> Step<'a> {
-        match read_message(self.names, reply) {
-            Ok(rows) => Step::Last(rows, WalkEnd::Done(self.names.len() as u64)),
-            Err(end) => Step::Last(Rows::front(reply.bindings(), 0), end),
-        }
+    fn read<'a>(&mut self, reply: &MessageRef<'a>, end: &mut WalkEnd) -> Judgement<'a> {
+        let (rows, how) = match read_message(self.names, reply) {
+            Ok(rows) => (rows, WalkEnd::Done(self.names.len() as u64)),
+            Err(fault) => (Rows::front(reply.bindings(), 0), fault),
+        };
+        *end = how;
+        Judgement::Ends(rows)
     }
 }
 

@@ -6,7 +6,7 @@ ghost use Rattle.snmp_io.specs.Count.{HasRisen};
 ghost use Rattle.snmp_wire.specs.Message.{Message};
 ghost use Rattle.snmp_wire.specs.Spelling.{Spells};
 ghost use Rattle.snmp_walk.specs.Taken.{awaits};
-ghost use Rattle.snmp_walk.specs.Course.{heard_of};
+ghost use Rattle.snmp_walk.specs.Course.{heard_of, step_of};
 ghost use Rattle.snmp_walk.specs.Link.{IsReplyFrom, ComesOver};
 ghost use Rattle.snmp_walk.specs.Traffic.{latest};
 ghost use Rattle.snmp_walk.specs.Heard.{IsAsked, Hears, Exchanges};
@@ -14,7 +14,7 @@ ghost use Rattle.snmp_walk.specs.Missed.{IsNotAwaited, IsMissed, AreMissed};
 ghost use Rattle.snmp_walk.specs.Read.{IsRead, IsReadAs, Delivers};
 
 use crate::sink::give;
-use crate::{Link, LinkFault, Sink, Step, WalkEnd};
+use crate::{Link, LinkFault, Rows, Sink, WalkEnd};
 use snmp_wire::{Kind, MessageRef, decode};
 
 /// What waits for the reply to a request: a walk or a Get.
@@ -24,6 +24,7 @@ pub(crate) trait Waiter {
     ghost use Rattle.snmp_walk.specs.declared.rows.Step.{Step};
     ghost use Rattle.snmp_walk.specs.Taken.{awaits};
     ghost use Rattle.snmp_walk.specs.Reading.{AreSendable};
+    ghost use Rattle.snmp_walk.specs.Course.{step_of};
 
     /// The community of the request.
     ghost community: { Self → List ℕ };
@@ -38,15 +39,26 @@ pub(crate) trait Waiter {
     fn awaits(&self, message: &MessageRef<'_>) -> bool
         ensures { result ≡ awaits (community self.now) (id self.now) message.now };
 
-    /// Reads the reply.
-    fn read<'a>(&mut self, reply: &MessageRef<'a>) -> Step<'a>
+    /// Reads the reply. Where it ends the walk or the Get, `end` is how.
+    fn read<'a>(&mut self, reply: &MessageRef<'a>, end: &mut WalkEnd) -> Judgement<'a>
         requires { AreSendable reply.now.bindings }
-        ensures { reads self.old reply.now result self.new };
+        ensures { reads self.old reply.now (step_of result end.new) self.new };
 }
 
-/// Whether the walk or the Get goes on after a reply, once its bindings were given. How it ended is
-/// written to a place of the caller, since an end has room for two identifiers and would be copied
-/// by each call that returns it.
+/// What a datagram means to a walk or a Get. How it ends one is written to a place of the caller,
+/// since an end has room for two identifiers and would be copied by each call that returns it.
+#[derive(Drop)]
+pub(crate) enum Judgement<'a> {
+    /// It isn't the reply.
+    Stray,
+    /// The reply: these bindings are given, and the next request waits.
+    GoesOn(Rows<'a>),
+    /// The reply that ends the walk or the Get: these bindings are given before the end.
+    Ends(Rows<'a>),
+}
+
+/// Whether the walk or the Get goes on after a reply, once its bindings were given. How it ended
+/// stands in the caller's place too.
 pub(crate) enum Course {
     /// The next request waits.
     GoesOn,
@@ -171,28 +183,26 @@ fn read_reply<W: Waiter, S: Sink>(
     if !waiter.awaits(&message) {
         return None;
     }
-    let step = waiter.read(&message);
-    Some(deliver(step, sink, end))
+    let judgement = waiter.read(&message, end);
+    Some(deliver(judgement, sink, end))
 }
 
-/// Gives the bindings of a step to the sink.
-fn deliver<S: Sink>(step: Step<'_>, sink: &mut S, end: &mut WalkEnd) -> Course
-    ensures { Delivers S.takes step.entry sink.old (heard_of result end.new) sink.new }
+/// Gives the bindings that a reply brings to the sink. Where it refuses one, that is the end.
+fn deliver<S: Sink>(judgement: Judgement<'_>, sink: &mut S, end: &mut WalkEnd) -> Course
+    ensures { Delivers S.takes (step_of judgement.entry end.old) sink.old
+        (heard_of result end.new) sink.new }
 {
-    match step {
-        Step::Stray => Course::GoesOn,
-        Step::Rows(rows) => match give(rows, sink) {
+    match judgement {
+        Judgement::Stray => Course::GoesOn,
+        Judgement::GoesOn(rows) => match give(rows, sink) {
             Ok(()) => Course::GoesOn,
             Err(fault) => {
                 *end = WalkEnd::Sink(fault);
                 Course::Ends
             }
         },
-        Step::Last(rows, why) => match give(rows, sink) {
-            Ok(()) => {
-                *end = why;
-                Course::Ends
-            }
+        Judgement::Ends(rows) => match give(rows, sink) {
+            Ok(()) => Course::Ends,
             Err(fault) => {
                 *end = WalkEnd::Sink(fault);
                 Course::Ends

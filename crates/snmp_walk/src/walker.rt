@@ -8,7 +8,7 @@ ghost use Rattle.snmp_walk.specs.Reading.{is_misplaced};
 ghost use Rattle.snmp_wire.specs.Message.{var_bind, datum};
 ghost use Rattle.snmp_walk.specs.Request.{first_phase as phase_at_first};
 
-use crate::tries::{Waiter, is_awaited};
+use crate::tries::{Judgement, Waiter, is_awaited};
 use crate::{Method, Mode, Phase, Rows, StartError, Step, WalkEnd};
 use arrayvec::ArrayVec;
 use snmp_wire::{
@@ -75,6 +75,7 @@ impl WalkCore {
     ghost use Rattle.snmp_walk.specs.Taken.{is_over, is_awaited, stops, goes_on, closes};
     ghost use Rattle.snmp_walk.specs.Taken.{reads_next, reads_first, reads_last, got, take_of};
     ghost use Rattle.snmp_walk.specs.Taken.{Takes, asked_for};
+    ghost use Rattle.snmp_walk.specs.Course.{step_of};
     ghost use Rattle.std.specs.Option.{option_map};
     ghost use Rattle.snmp_walk.specs.Reading.{IsFrontOf, is_misplaced, AreSendable, read_front};
     ghost use Rattle.snmp_walk.specs.Reading.{ending_at};
@@ -204,9 +205,14 @@ impl WalkCore {
     pub fn take<'a>(&mut self, datagram: &'a [u8]) -> Step<'a>
         ensures { Takes self.old datagram.now result self.new }
     {
-        match decode(datagram) {
-            Ok(message) => self.take_message(&message),
-            Err(_) => Step::Stray,
+        let Ok(message) = decode(datagram) else {
+            return Step::Stray;
+        };
+        let mut end = WalkEnd::NoResponse;
+        match self.take_message(&message, &mut end) {
+            Judgement::Stray => Step::Stray,
+            Judgement::GoesOn(rows) => Step::Rows(rows),
+            Judgement::Ends(rows) => Step::Last(rows, end),
         }
     }
 
@@ -239,44 +245,52 @@ impl WalkCore {
     }
 
     /// Ends the walk, after these bindings.
-    fn stop<'a>(&mut self, rows: Rows<'a>, why: WalkEnd) -> Step<'a>
-        ensures { (result, self.new) ≡ stops self.old rows.entry why }
+    fn stop<'a>(&mut self, rows: Rows<'a>, end: &mut WalkEnd, why: WalkEnd) -> Judgement<'a>
+        ensures { (step_of result end.new, self.new) ≡ stops self.old rows.entry why }
     {
         self.phase = Phase::Over;
-        Step::Last(rows, why)
+        *end = why;
+        Judgement::Ends(rows)
     }
 
     /// Gives these `count` bindings, the last of which has the name `last`, and waits for the reply
     /// to the next request.
-    fn go_on<'a>(&mut self, next: Phase, rows: Rows<'a>, count: u32, last: &Oid) -> Step<'a>
+    fn go_on<'a>(
+        &mut self,
+        next: Phase,
+        rows: Rows<'a>,
+        count: u32,
+        last: &Oid,
+        end: &mut WalkEnd,
+    ) -> Judgement<'a>
         requires count { count ≡ length rows }
         requires last { last.now ≡ last_name self.old.asked rows }
         requires wire { IsWire last.now }
         requires identifier { IsIdentifier last.now }
-        ensures { (result, self.new) ≡ goes_on self.old next rows.entry }
+        ensures { (step_of result end.new, self.new) ≡ goes_on self.old next rows.entry }
     {
         if self.id >= MAX_ID {
-            return self.stop(rows, WalkEnd::TooManyRequests);
+            return self.stop(rows, end, WalkEnd::TooManyRequests);
         }
         self.phase = next;
         self.asked.set_to(last);
         self.id += 1;
         self.count += u64::from(count);
-        Step::Rows(rows)
+        Judgement::GoesOn(rows)
     }
 
     /// Nothing more is below the root: gives these `count` bindings, and then asks for the root
     /// itself or ends the walk.
-    fn close<'a>(&mut self, rows: Rows<'a>, count: u32) -> Step<'a>
+    fn close<'a>(&mut self, rows: Rows<'a>, count: u32, end: &mut WalkEnd) -> Judgement<'a>
         requires count { count ≡ length rows }
-        ensures { (result, self.new) ≡ closes self.old rows.entry }
+        ensures { (step_of result end.new, self.new) ≡ closes self.old rows.entry }
     {
         let given = self.count + u64::from(count);
         if self.mode == Mode::Plain && given == 0 {
             let asked = copy_of(&self.asked);
-            return self.go_on(Phase::Last, rows, 0, &asked);
+            return self.go_on(Phase::Last, rows, 0, &asked, end);
         }
-        self.stop(rows, WalkEnd::Done(given))
+        self.stop(rows, end, WalkEnd::Done(given))
     }
 
     /// The instances below the root at the front of these bindings, their names rising from `last`,
@@ -368,83 +382,79 @@ impl WalkCore {
     }
 
     /// Reads the reply to the first request of a walk that includes the root, a Get of it.
-    fn read_first<'a>(&mut self, message: &MessageRef<'a>) -> Step<'a>
-        ensures { (result, self.new) ≡ reads_first self.old (got self.old.asked
+    fn read_first<'a>(&mut self, message: &MessageRef<'a>, end: &mut WalkEnd) -> Judgement<'a>
+        ensures { (step_of result end.new, self.new) ≡ reads_first self.old (got self.old.asked
             message.now.bindings) }
     {
         let bindings = message.bindings();
         match self.got(message.bindings()) {
-            None => self.stop(Rows::front(bindings, 0), WalkEnd::BadReply),
+            None => self.stop(Rows::front(bindings, 0), end, WalkEnd::BadReply),
             Some(lacks_value) => {
                 let count = if lacks_value { 0 } else { 1 };
                 let asked = copy_of(&self.asked);
-                self.go_on(
-                    Phase::Rows,
-                    Rows::front(bindings, count as usize),
-                    count,
-                    &asked,
-                )
+                let rows = Rows::front(bindings, count as usize);
+                self.go_on(Phase::Rows, rows, count, &asked, end)
             }
         }
     }
 
     /// Reads the reply to the last request of a plain walk that gave nothing, a Get of the root.
-    fn read_last<'a>(&mut self, message: &MessageRef<'a>) -> Step<'a>
-        ensures { (result, self.new) ≡ reads_last self.old (got self.old.asked
+    fn read_last<'a>(&mut self, message: &MessageRef<'a>, end: &mut WalkEnd) -> Judgement<'a>
+        ensures { (step_of result end.new, self.new) ≡ reads_last self.old (got self.old.asked
             message.now.bindings) }
     {
         let bindings = message.bindings();
         if self.got(message.bindings()).is_none() {
-            return self.stop(Rows::front(bindings, 0), WalkEnd::BadReply);
+            return self.stop(Rows::front(bindings, 0), end, WalkEnd::BadReply);
         }
         let given = self.count + 1;
-        self.stop(Rows::front(bindings, 1), WalkEnd::Done(given))
+        self.stop(Rows::front(bindings, 1), end, WalkEnd::Done(given))
     }
 
     /// Reads a reply with the next instances.
-    fn read_next<'a>(&mut self, message: &MessageRef<'a>) -> Step<'a>
+    fn read_next<'a>(&mut self, message: &MessageRef<'a>, end: &mut WalkEnd) -> Judgement<'a>
         requires { AreSendable message.now.bindings }
-        ensures { (result, self.new) ≡ reads_next self.old message.now.bindings }
+        ensures { (step_of result end.new, self.new) ≡ reads_next self.old message.now.bindings }
     {
         let mut last = Oid::new();
         last.set_to(&self.asked);
         let mut binding = Binding::empty();
         let Some(Front { rows, ending }) = self.front(message.bindings(), &mut last, &mut binding)
         else {
-            return self.stop(Rows::front(message.bindings(), 0), WalkEnd::BadReply);
+            return self.stop(Rows::front(message.bindings(), 0), end, WalkEnd::BadReply);
         };
         let given = Rows::front(message.bindings(), rows as usize);
         match ending {
-            Ending::GoesOn if rows == 0 => self.stop(given, WalkEnd::NoProgress { asked: last }),
-            Ending::GoesOn => self.go_on(Phase::Rows, given, rows, &last),
-            Ending::Leaves => self.close(given, rows),
+            Ending::GoesOn if rows == 0 => {
+                self.stop(given, end, WalkEnd::NoProgress { asked: last })
+            }
+            Ending::GoesOn => self.go_on(Phase::Rows, given, rows, &last, end),
+            Ending::Leaves => self.close(given, rows, end),
             Ending::Falls => {
                 let got = binding.name;
-                self.stop(given, WalkEnd::NotIncreasing { last, got })
+                self.stop(given, end, WalkEnd::NotIncreasing { last, got })
             }
         }
     }
 
     /// Reads a message.
-    fn take_message<'a>(&mut self, message: &MessageRef<'a>) -> Step<'a>
+    fn take_message<'a>(&mut self, message: &MessageRef<'a>, end: &mut WalkEnd) -> Judgement<'a>
         requires { AreSendable message.now.bindings }
-        ensures { (result, self.new) ≡ take_of self.old message.now }
+        ensures { (step_of result end.new, self.new) ≡ take_of self.old message.now }
     {
         if !self.is_awaiting(message) {
-            return Step::Stray;
+            return Judgement::Stray;
         }
         let status = message.a();
         if status != 0 {
-            return self.stop(
-                Rows::front(message.bindings(), 0),
-                WalkEnd::Fault(status, message.b()),
-            );
+            let why = WalkEnd::Fault(status, message.b());
+            return self.stop(Rows::front(message.bindings(), 0), end, why);
         }
         match self.phase {
-            Phase::First => self.read_first(message),
-            Phase::Rows => self.read_next(message),
-            Phase::Last => self.read_last(message),
-            Phase::Over => Step::Stray,
+            Phase::First => self.read_first(message, end),
+            Phase::Rows => self.read_next(message, end),
+            Phase::Last => self.read_last(message, end),
+            Phase::Over => Judgement::Stray,
         }
     }
 }
@@ -463,8 +473,8 @@ impl Waiter for WalkCore {
         is_awaited(self.community.as_slice(), self.id, message)
     }
 
-    fn read<'a>(&mut self, reply: &MessageRef<'a>) -> Step<'a> {
-        self.take_message(reply)
+    fn read<'a>(&mut self, reply: &MessageRef<'a>, end: &mut WalkEnd) -> Judgement<'a> {
+        self.take_message(reply, end)
     }
 }
 

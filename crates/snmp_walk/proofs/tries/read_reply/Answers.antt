@@ -1,5 +1,6 @@
 use Rattle.std.proofs.Common.{◌≡◌, ◌∙◌, sym, ap}
 use Rattle.snmp_walk.specs.Taken.{awaits}
+use Rattle.snmp_walk.specs.Course.{step_of}
 use Rattle.snmp_walk.proofs.SpelledLemmas.{sendable}
 use Rattle.snmp_walk.proofs.tries.read_reply.Goals as goal
 
@@ -13,15 +14,15 @@ returns-then-not-awaits-clause-none g c = λ m h.
     ap (awaits (g.W.Waiter.community c.args.waiter.now) (g.W.Waiter.id c.args.waiter.now)) one
     ∙ sym {b = awaits (g.W.Waiter.community c.args.waiter.now) (g.W.Waiter.id c.args.waiter.now) c.in-Ok.message} c.awaits.ensures ∙ c.if-not-awaits.true
 
-pub read-step-requires : goal.read-step-requires
-read-step-requires g c = sendable _ _ c.in-Ok.ensures.found
+pub read-judgement-requires : goal.read-judgement-requires
+read-judgement-requires g c = sendable _ _ c.in-Ok.ensures.found
 
 pub returns-clause-some : goal.returns-clause-some
 returns-clause-some g c = record {
   message = c.in-Ok.message;
   spelt = c.in-Ok.ensures.found;
   awaited = sym c.awaits.ensures ∙ c.if-not-awaits.false;
-  given = c.read-step.result;
-  read = c.read-step.ensures;
+  given = step_of c.read-judgement.result c.read-judgement.new.end;
+  read = c.read-judgement.ensures;
   delivered = c.deliver.ensures;
 }
