@@ -244,7 +244,7 @@ impl WalkCore {
         self.phase != Phase::Over && is_awaited(self.community.as_slice(), self.id, message)
     }
 
-    /// Ends the walk, after these bindings.
+    /// Ends the walk, after these bindings, and writes how to `end`.
     fn stop<'a>(&mut self, rows: Rows<'a>, end: &mut WalkEnd, why: WalkEnd) -> Judgement<'a>
         ensures { (step_of result end.new, self.new) ≡ stops self.old rows.entry why }
     {
