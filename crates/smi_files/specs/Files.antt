@@ -1,11 +1,12 @@
 -- The modules that files hold, and why they can't be had.
-use Rattle.std.specs.Prelude.{◌≡◌, ◌⊎◌, ◌++◌, ℕ, List, [], ◌∷◌, map}
+use Rattle.std.specs.Prelude.{◌≡◌, ◌≢◌, ◌⊎◌, ◌++◌, ℕ, List, [], ◌∷◌, map}
 use Rattle.std.specs.Borrow.{Bor}
 use Rattle.snmp_io.specs.Files.{Holdings, MayHold, MayHoldNone}
 use Rattle.snmp_io.specs.Steps.{IsFirstToFail}
 use Rattle.smi_module.specs.declared.tree.Module.{Module}
 use Rattle.smi_text.specs.Text.{HasNoDoubles, IsCause, AreSpelledBy}
 use Rattle.smi_text.specs.declared.error.ParseError.{ParseError}
+use Rattle.smi_text.specs.declared.error.ParseError.TheVariants as error
 
 -- the texts behind references
 abbrev pub texts : List (Bor (List ℕ)) → List (List ℕ)
@@ -35,12 +36,16 @@ pub data Refusal : Type 0 where
   faulty : (path : List ℕ) → ParseError → Refusal
   no_memory : Refusal
 
+-- the fault is one of the text, and not that memory ran out
+abbrev pub IsFaultOf : ParseError → (text : List ℕ) → Type 0
+IsFaultOf fault text = (fault ≢ error.Memory) × IsCause fault text
+
 -- the file has no text, or its text spells no modules
 abbrev pub FileFails : Holdings → (path : List ℕ) → Refusal → Type 0
 FileFails files path why =
     (MayHoldNone files path × (why ≡ unreadable path))
-    ⊎ ((text : List ℕ) × (error : ParseError) × MayHold files path text × IsCause error text
-    × (why ≡ faulty path error))
+    ⊎ ((text : List ℕ) × (fault : ParseError) × MayHold files path text × IsFaultOf fault text
+    × (why ≡ faulty path fault))
 
 -- the first file that fails, after those that hold modules
 abbrev pub FilesFail : Holdings → (paths : List (List ℕ)) → Refusal → Type 0

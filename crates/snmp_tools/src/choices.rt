@@ -6,7 +6,7 @@ ghost use Rattle.std.specs.Prelude.{◌≤◌};
 pub(crate) struct Choices {
     /// The root's own instance comes first, if there is one.
     pub(crate) includes_root: bool,
-    /// The root's own value isn't printed where nothing is below it.
+    /// No last Get of the root is sent where nothing is below it.
     pub(crate) leaves_last_get: bool,
     /// The number of lines is printed after them.
     pub(crate) counts: bool,

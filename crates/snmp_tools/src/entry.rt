@@ -26,8 +26,8 @@ use std::alloc::Global;
 /// returns the exit status.
 ///
 /// It is 0 where that was done, 2 where an agent replied with an error status, and 1 in any other
-/// case. A failure is one line on `err`, except that a mistake in the shape of the words may take
-/// several.
+/// case. A failure is one line on `err`, except that a mistake in the command line's syntax may
+/// take several.
 pub fn tool<F: ModuleFiles, L: Links, O: Output, E: Output>(
     alloc: Global,
     words: &[&str],

@@ -35,7 +35,7 @@ pub(crate) fn do_serve<F: Files, L: Links, O: Output, E: Output>(
     }
 }
 
-// The failure that is reported where a table isn't served at the place of a word.
+// The failure to report for an error of serving, where the words name this place.
 fn failure_of<'a>(error: ServeError<'a>, word: &'a str) -> Failure<'a>
     ensures { fault_of result ≡ reported_as word.now (serve_fault_of error.entry) }
 {

@@ -8,8 +8,8 @@ use crate::LinkFault;
 
 /// A way to send datagrams to an agent and to receive its replies.
 ///
-/// The facts below are what a walk's promises rest on. A link in memory keeps all of them; another
-/// may keep the first alone, or none, as a socket.
+/// The facts below are what a walk's promises rest on. All of them hold of a link in memory; of
+/// another perhaps `keeps` alone, and of a socket neither that nor `honest`.
 pub trait Link {
     ghost use Rattle.std.specs.Prelude.{Option, take};
     ghost use Rattle.snmp_io.specs.Count.{HasRisen};

@@ -8,7 +8,8 @@ use snmp_agent::{Config, Outcome, answer};
 use snmp_table::Table;
 use std::alloc::{AllocError, Global};
 
-/// A link to an agent in memory, over one table or over tables that take turns.
+/// A link to an agent in memory, over one table, or over several that each reply to some of the
+/// datagrams.
 ///
 /// It keeps the datagrams that are sent. Each receive uses the next of the deliveries that it was
 /// made with: nothing, or the agent's reply to the k-th datagram sent, counted from 1. After the
@@ -100,7 +101,7 @@ impl<'a> MemoryLink<'a> {
         self.arena.reserve(sends, octets)
     }
 
-    /// The number of the datagram whose reply the next receive gives, or 0 where it gives nothing.
+    /// The number of the datagram whose reply the next delivery is, or 0 where that is nothing.
     fn next_number(&mut self) -> usize
         ensures number { IsNextNumber self.old.arena.datagrams (traffic_of self.old).ahead result
             (traffic_of self.new).ahead }

@@ -24,7 +24,8 @@ use crate::tries::{Course, exchange};
 use crate::{Link, Sink, WalkCore, WalkEnd};
 
 /// Walks over the link with a core that has taken no reply yet: each request is sent at most
-/// `retries + 1` times, and each binding of the walk is given to the sink as it comes.
+/// `retries + 1` times, as far as the link keeps what was sent, and each binding of the walk is
+/// given to the sink as it comes.
 ///
 /// Whatever the link brings, the walk ends, each way for its own reason, and the names given below
 /// the root rise. Over an honest link to the agent of one table, of the walk's community, whose

@@ -521,7 +521,7 @@ fn first_phase(mode: Mode) -> Phase
     }
 }
 
-/// The community, in the core itself.
+/// A copy of the community, in the core itself.
 fn owned(community: &[u8]) -> ArrayVec<u8, 255>
     requires { length community.now ≤ 255 }
     ensures value { result.items ≡ community.now }
