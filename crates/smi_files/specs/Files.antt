@@ -8,7 +8,7 @@ use Rattle.smi_text.specs.Text.{HasNoDoubles, IsCause, AreSpelledBy}
 use Rattle.smi_text.specs.declared.error.ParseError.{ParseError}
 use Rattle.smi_text.specs.declared.error.ParseError.TheVariants as error
 
--- the texts behind references
+-- the texts that references lead to
 abbrev pub texts : List (Bor (List ℕ)) → List (List ℕ)
 texts paths = map (λ path. path.now) paths
 
