@@ -2,7 +2,7 @@
 
 use crate::table::repeated;
 use snmp_agent::{Config, Outcome, Why, answer};
-use snmp_table::Table;
+use snmp_agent::table::Table;
 use snmp_wire::decode;
 use std::process::Abort;
 

@@ -2,7 +2,7 @@
 
 use crate::agent::{assert_dropped, outcome};
 use snmp_agent::{Outcome, Why};
-use snmp_table::Table;
+use snmp_agent::table::Table;
 use snmp_wire::{Binding, Bindings, ValueRef, decode};
 use std::process::Abort;
 

@@ -4,7 +4,7 @@ ghost use Rattle.snmp_walk.specs.Facts.{IsFresh};
 
 use snmp_agent::{Config, Served};
 use snmp_net::{Links, MachineLinks, UdpLink};
-use snmp_table::Table;
+use snmp_agent::table::Table;
 use snmp_walk::{Link, LinkFault, Method, Mode, Sink, SinkFault, WalkCore, WalkEnd, run_walk};
 use snmp_wire::{Binding, ValueRef, parse_numeric};
 use std::alloc::Global;

@@ -1,9 +1,9 @@
 //! Details of identifiers, as `snmptranslate -Td` prints them.
 
 use crate::Known;
-use name_tests::Sample;
-use smi_index::{Extent, IndexPart};
-use smi_module::{Def, Module};
+use crate::names::Sample;
+use smi_show::index::{Extent, IndexPart};
+use smi_text::trees::{Def, Module};
 use smi_show::{Letters, detail};
 use smi_text::parse_modules;
 use snmp_oid::Oid;

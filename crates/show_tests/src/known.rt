@@ -1,11 +1,11 @@
 //! A tree of two nodes, with one definition and one syntax for all identifiers.
 ghost use Rattle.std.specs.Prelude.{◌≡◌, option_map};
 ghost use Rattle.std.specs.Option.{option_copied};
-ghost use Rattle.name_tests.specs.Sample.{sample};
+ghost use Rattle.show_tests.specs.names.Sample.{sample};
 
-use name_tests::Sample;
-use smi_module::{Def, NamedNumber};
-use smi_name::{NameTree, Node};
+use crate::names::Sample;
+use smi_text::trees::{Def, NamedNumber};
+use smi_show::name::{NameTree, Node};
 use smi_show::{DetailTree, ShowTree};
 use smi_value::{ValueBase, ValueSyntax};
 use snmp_oid::Oid;

@@ -1,6 +1,7 @@
 //! Tests of lines, values and details over a small tree.
 #![tactic(auto)]
 
+pub mod names;
 mod known;
 
 pub use known::Known;

@@ -1,12 +1,12 @@
 //! Lines and values, by the letters and the syntax of the object.
 
 use crate::Known;
-use name_tests::Sample;
-use smi_index::{Extent, IndexPart};
-use smi_module::{Name, NamedNumber, Text};
+use crate::names::Sample;
+use smi_show::index::{Extent, IndexPart};
+use smi_text::trees::{Name, NamedNumber, Text};
 use smi_show::{Letters, line, name_text, value_text};
 use smi_value::ValueBase;
-use snmp_ber::ValueRef;
+use snmp_wire::ber::ValueRef;
 use snmp_oid::Oid;
 use std::alloc::Global;
 use std::process::Abort;

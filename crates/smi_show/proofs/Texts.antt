@@ -1,6 +1,6 @@
 -- Texts that are appended one after the other.
 use Rattle.std.proofs.Common.{ℕ, List, ◌++◌, subst, append_assoc}
-use Rattle.text_draft.specs.Draft.{Written, Grows, Adds}
+use Rattle.snmp_io.specs.draft.Draft.{Written, Grows, Adds}
 
 pub adds_both : (old middle new : Written) (a b : List ℕ) → Adds old a middle → Adds middle b new → Adds old (a ++ b) new
 adds_both old middle new a b one two = record {

@@ -1,1 +1,4 @@
 pub mod Line
+pub mod index
+pub mod name
+pub mod details

@@ -1,11 +1,11 @@
 -- The line of a variable binding: its name, ` = `, its value, and a newline.
 use Rattle.std.specs.Prelude.{◌≡◌, ℕ, Bool, if◌then◌else◌, List, ◌++◌, codes, Option}
-use Rattle.smi_letters.specs.declared.letters.Letters.{Letters}
-use Rattle.smi_letters.specs.declared.letters.TypeForm.{TypeForm}
-use Rattle.smi_letters.specs.declared.letters.TypeForm.TheVariants.{Typed, Untyped, Quick}
-use Rattle.snmp_ber.specs.Value.{Datum}
-use Rattle.smi_name.specs.Naming.{Naming}
-use Rattle.smi_name.specs.Name.{name_text}
+use Rattle.smi_value.specs.declared.letters.letters.Letters.{Letters}
+use Rattle.smi_value.specs.declared.letters.letters.TypeForm.{TypeForm}
+use Rattle.smi_value.specs.declared.letters.letters.TypeForm.TheVariants.{Typed, Untyped, Quick}
+use Rattle.snmp_wire.specs.ber.Value.{Datum}
+use Rattle.smi_show.specs.name.Naming.{Naming}
+use Rattle.smi_show.specs.name.Name.{name_text}
 use Rattle.smi_value.specs.Syntax.{ObjectSyntax}
 use Rattle.smi_value.specs.Value.{ShowsValue}
 

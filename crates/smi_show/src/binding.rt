@@ -1,18 +1,18 @@
 //! The value of a binding, and its line.
 ghost use Rattle.std.specs.Prelude.{◌≡◌, ℕ, List, ◌++◌, codes, OnOk, OnErr};
-ghost use Rattle.text_draft.specs.Draft.{Adds};
-ghost use Rattle.snmp_ber.specs.Value.{datum};
+ghost use Rattle.snmp_io.specs.draft.Draft.{Adds};
+ghost use Rattle.snmp_wire.specs.ber.Value.{datum};
 ghost use Rattle.smi_value.specs.Value.{ShowsValue};
 ghost use Rattle.smi_show.specs.Line.{IsLine, front_text, names_by, separator};
 
 use crate::ShowTree;
-use smi_letters::{Letters, TypeForm};
-use smi_name::name_text;
+use smi_value::letters::{Letters, TypeForm};
+use crate::name::name_text;
 use smi_value::{append_identifier_word, append_value};
-use snmp_ber::ValueRef;
+use snmp_wire::ber::ValueRef;
 use snmp_oid::Oid;
 use std::alloc::AllocError;
-use text_draft::Draft;
+use snmp_io::draft::Draft;
 
 /// Appends the text of the value of an instance: its type, a colon, a blank and the value, as the
 /// letters and the syntax of the object say. If memory runs out, `out` is unchanged.

@@ -4,13 +4,16 @@
 //! the `Vec<u8>` unchanged if memory runs out.
 #![tactic(auto)]
 
+pub mod index;
+pub mod name;
+pub mod details;
 mod binding;
 mod text;
 mod tree;
 
 pub use binding::{line, value_text};
-pub use smi_detail::DetailTree;
-pub use smi_letters::{Letters, NameForm};
-pub use smi_name::{NameError, NameTree, Node, resolve};
+pub use crate::details::DetailTree;
+pub use smi_value::letters::{Letters, NameForm};
+pub use crate::name::{NameError, NameTree, Node, resolve};
 pub use text::{detail, name_text};
 pub use tree::ShowTree;

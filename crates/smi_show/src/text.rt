@@ -1,14 +1,14 @@
 //! A name, and the details of an identifier.
 ghost use Rattle.std.specs.Prelude.{◌≡◌, ◌++◌, OnOk, OnErr};
-ghost use Rattle.smi_detail.specs.Detail.{detail_text};
+ghost use Rattle.smi_show.specs.details.Detail.{detail_text};
 ghost use Rattle.smi_show.specs.Line.{names_by};
 
-use smi_detail::{DetailTree, detail_text};
-use smi_letters::Letters;
-use smi_name::NameTree;
+use crate::details::{DetailTree, detail_text};
+use smi_value::letters::Letters;
+use crate::name::NameTree;
 use snmp_oid::Oid;
 use std::alloc::AllocError;
-use text_draft::Draft;
+use snmp_io::draft::Draft;
 
 /// Appends the name of an identifier, as the letters say. If memory runs out, `out` is unchanged.
 pub fn name_text<T: NameTree>(
@@ -22,7 +22,7 @@ pub fn name_text<T: NameTree>(
     ensures unchanged_on_error { OnErr result (out.new.items ≡ out.old.items) }
 {
     let mut draft = Draft::after(out);
-    smi_name::name_text(tree, letters.names, letters.numeric_index, oid, &mut draft);
+    crate::name::name_text(tree, letters.names, letters.numeric_index, oid, &mut draft);
     draft.finish(out)
 }
 

@@ -2,7 +2,7 @@
 ghost use Rattle.std.specs.Prelude.{◌≡◌, List, ℕ, Option};
 ghost use Rattle.smi_value.specs.Syntax.{ObjectSyntax};
 
-use smi_detail::DetailTree;
+use crate::details::DetailTree;
 use smi_value::ValueSyntax;
 use snmp_oid::Oid;
 

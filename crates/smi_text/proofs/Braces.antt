@@ -24,12 +24,12 @@ use Rattle.std.proofs.Common.{
   append-nil,
 }
 use Rattle.std.specs.Prelude.{◌==◌, ◌≢◌}
-use Rattle.smi_lexer.specs.declared.token.TokenKind.{TokenKind}
-use Rattle.smi_lexer.specs.declared.token.TokenKind.TheVariants as K
-use Rattle.smi_module.specs.Mark.{same_kind}
+use Rattle.smi_text.specs.declared.lexer.token.TokenKind.{TokenKind}
+use Rattle.smi_text.specs.declared.lexer.token.TokenKind.TheVariants as K
+use Rattle.smi_text.specs.trees.Mark.{same_kind}
 use Rattle.smi_text.specs.Grammar.{depth_after, is_outside, is_balanced}
-use Rattle.smi_module.specs.Braces.{IsBalanced, none, other, nested}
-use Rattle.smi_module.specs.declared.tree.TokenText.{TokenText}
+use Rattle.smi_text.specs.trees.Braces.{IsBalanced, none, other, nested}
+use Rattle.smi_text.specs.declared.trees.tree.TokenText.{TokenText}
 use Rattle.smi_text.proofs.Marks.{and-left, and-right, false-from, same_kind-eq, same_kind-same}
 
 -- ---- how a token changes the count

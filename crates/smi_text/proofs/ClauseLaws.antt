@@ -1,7 +1,7 @@
 -- Clauses that several definitions have are lawful.
 use Rattle.std.proofs.Common.{refl, sym, ap}
 use Rattle.std.specs.Prelude.{codes}
-use Rattle.smi_lexer.specs.declared.token.TokenKind.TheVariants as K
+use Rattle.smi_text.specs.declared.lexer.token.TokenKind.TheVariants as K
 use Rattle.smi_text.specs.Format.{before, behind, many, maybe, pair, separated, shaped, some_of, text, token, word, lower}
 use Rattle.smi_text.specs.Grammar.{to_status, from_status, to_revision, from_revision, braced, clause, names, revision, status}
 use Rattle.smi_text.proofs.Lawful.{Lawful}

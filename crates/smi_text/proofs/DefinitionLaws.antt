@@ -1,12 +1,12 @@
 -- Definitions are lawful.
 use Rattle.std.proofs.Common.{◌≡◌, ℕ, Bool, true, false, not, List, [], ◌∷◌, Some, None, Ok, Err, if◌then◌else◌, refl, sym, ◌∙◌, ap, subst, inl, inr, ◌⊎◌}
-use Rattle.smi_lexer.specs.declared.token.TokenKind.{TokenKind}
-use Rattle.smi_lexer.specs.declared.token.TokenKind.TheVariants as K
-use Rattle.smi_lexer.specs.Token.{Item}
-use Rattle.smi_module.specs.Mark.{spelled, on_line}
+use Rattle.smi_text.specs.declared.lexer.token.TokenKind.{TokenKind}
+use Rattle.smi_text.specs.declared.lexer.token.TokenKind.TheVariants as K
+use Rattle.smi_text.specs.lexer.Token.{Item}
+use Rattle.smi_text.specs.trees.Mark.{spelled, on_line}
 use Rattle.smi_text.specs.Format.{StandsAhead}
-use Rattle.smi_module.specs.Reserved.{is_reserved}
-use Rattle.smi_module.specs.Number.{is_macro}
+use Rattle.smi_text.specs.trees.Reserved.{is_reserved}
+use Rattle.smi_text.specs.trees.Number.{is_macro}
 use Rattle.smi_text.specs.Format.{Format, before, behind, either, lined, many, maybe, name, pair, separated, shaped, some_of, text, text_where, token, word}
 use Rattle.smi_text.specs.Format.{lower}
 use Rattle.smi_text.specs.Grammar.{to_assigned, from_assigned, Labelled, to_def, from_def, def_pieces, arc, assigned, balanced, base, before_assign}
@@ -18,9 +18,9 @@ use Rattle.smi_text.specs.Grammar.{syntax_clause, syntax_type, tag, tagged, text
 use Rattle.smi_text.proofs.Lawful.{Lawful}
 use Rattle.smi_text.proofs.Marks.{false-from, StandsAhead-split}
 use Rattle.smi_text.proofs.Laws.{some-inj, never-stands, lower-law, name-law, pair-law, either-law, shaped-law, lined-law}
-use Rattle.smi_module.specs.declared.tree.Def.{Def}
-use Rattle.smi_module.specs.declared.tree.DefKind.{DefKind}
-use Rattle.smi_module.specs.declared.tree.DefKind.TheVariants as D
+use Rattle.smi_text.specs.declared.trees.tree.Def.{Def}
+use Rattle.smi_text.specs.declared.trees.tree.DefKind.{DefKind}
+use Rattle.smi_text.specs.declared.trees.tree.DefKind.TheVariants as D
 use Rattle.smi_text.proofs.RawLaws.{not-true}
 use Rattle.smi_text.proofs.LowerLaws.{lower_definition-law}
 use Rattle.smi_text.proofs.UpperLaws.{assignment, macro_definition-law, no-pieces, macro-pieces, upper_definition-law, macro_name-law, macro-reserved}

@@ -2,10 +2,10 @@
 use Rattle.std.proofs.Common.{◌≡◌, ℕ, true, false, not, List, [], ◌∷◌, ◌++◌, Some, None, refl, sym, ◌∙◌, ap, subst, inl, inr}
 use Rattle.std.specs.Prelude.{codes}
 use Rattle.std.specs.List.{flat_map, list_any, list_all}
-use Rattle.smi_lexer.specs.Token.{Item}
-use Rattle.smi_module.specs.Mark.{Mark, same_text}
+use Rattle.smi_text.specs.lexer.Token.{Item}
+use Rattle.smi_text.specs.trees.Mark.{Mark, same_text}
 use Rattle.smi_text.specs.Format.{StandsAhead}
-use Rattle.smi_module.specs.Reserved.{is_reserved}
+use Rattle.smi_text.specs.trees.Reserved.{is_reserved}
 use Rattle.smi_text.specs.Format.{
   Format,
   Parsed,
@@ -93,13 +93,13 @@ use Rattle.smi_text.specs.Grammar.{
   upper_definition,
   value,
 }
-use Rattle.smi_module.specs.Spelling.{of_def, of_head, of_module, spelling}
+use Rattle.smi_text.specs.trees.Spelling.{of_def, of_head, of_module, spelling}
 use Rattle.smi_text.specs.Text.{HasNoDoubles}
 use Rattle.smi_text.specs.Returned.{RepeatsIn, RepeatsAgain}
-use Rattle.smi_module.specs.Lookup.{labels, are_distinct}
+use Rattle.smi_text.specs.trees.Lookup.{labels, are_distinct}
 use Rattle.smi_text.specs.declared.modules.Head.{Head}
-use Rattle.smi_module.specs.declared.tree.Def.{Def}
-use Rattle.smi_module.specs.declared.tree.Module.{Module}
+use Rattle.smi_text.specs.declared.trees.tree.Def.{Def}
+use Rattle.smi_text.specs.declared.trees.tree.Module.{Module}
 use Rattle.smi_text.proofs.Lawful.{Lawful}
 use Rattle.smi_text.proofs.Marks.{and-left, and-right, or-cases, or-left, or-right, same_text-eq, same_text-same, StandsAhead-split, apart-false}
 use Rattle.smi_text.proofs.Many.{many-fails, many-goes_on, with_front-append, with_front-nil}

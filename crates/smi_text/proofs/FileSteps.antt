@@ -3,15 +3,15 @@ use Rattle.std.proofs.Common.{◌≡◌, ℕ, ◌<◌, ◌≤◌, Bool, true, fa
 use Rattle.std.specs.Prelude.{codes}
 use Rattle.std.specs.List.{flat_map, list_any}
 use Rattle.std.specs.BTreeSet.{BTreeSet}
-use Rattle.smi_lexer.specs.Token.{Item}
-use Rattle.smi_module.specs.Mark.{Mark, same_text}
+use Rattle.smi_text.specs.lexer.Token.{Item}
+use Rattle.smi_text.specs.trees.Mark.{Mark, same_text}
 use Rattle.smi_text.specs.Format.{StandsAhead}
 use Rattle.smi_text.specs.Names.{has}
 use Rattle.smi_text.specs.Format.{Ahead, begins, read_many, many, with_front, shaped, pair, before, word, lower}
 use Rattle.smi_text.specs.Grammar.{definition, head, module_text, file}
-use Rattle.smi_module.specs.Spelling.{of_def, of_head, of_module, spelling}
+use Rattle.smi_text.specs.trees.Spelling.{of_def, of_head, of_module, spelling}
 use Rattle.smi_text.specs.Text.{HasNoDoubles}
-use Rattle.smi_module.specs.Lookup.{labels, are_distinct}
+use Rattle.smi_text.specs.trees.Lookup.{labels, are_distinct}
 use Rattle.smi_text.specs.Returned.{
   RepeatsIn,
   is_memory,
@@ -30,8 +30,8 @@ use Rattle.smi_text.specs.declared.stop.Stop.TheVariants as S
 use Rattle.smi_text.specs.declared.error.ParseError.{ParseError}
 use Rattle.smi_text.specs.declared.error.ParseError.TheVariants as E
 use Rattle.smi_text.specs.declared.modules.Head.{Head}
-use Rattle.smi_module.specs.declared.tree.Def.{Def}
-use Rattle.smi_module.specs.declared.tree.Module.{Module}
+use Rattle.smi_text.specs.declared.trees.tree.Def.{Def}
+use Rattle.smi_text.specs.declared.trees.tree.Module.{Module}
 use Rattle.smi_text.proofs.Marks.{StandsAhead-append}
 use Rattle.smi_text.proofs.Many.{
   reading-shorter,

@@ -4,10 +4,10 @@ use Rattle.std.specs.Prelude.{◌==◌, map, count_by}
 use Rattle.std.specs.List.{list_all}
 use Rattle.std.proofs.lemmas.List.Folds.{list_all-map}
 use Rattle.std.proofs.lemmas.List.Sums.{sum_by-cons}
-use Rattle.smi_lexer.specs.declared.token.TokenKind.TheVariants as K
-use Rattle.smi_module.specs.declared.tree.TokenText.{TokenText}
-use Rattle.smi_module.specs.Mark.{same_kind}
-use Rattle.smi_module.specs.Fronts.{opening_braces, closing_braces, fronts, has_balanced_braces}
+use Rattle.smi_text.specs.declared.lexer.token.TokenKind.TheVariants as K
+use Rattle.smi_text.specs.declared.trees.tree.TokenText.{TokenText}
+use Rattle.smi_text.specs.trees.Mark.{same_kind}
+use Rattle.smi_text.specs.trees.Fronts.{opening_braces, closing_braces, fronts, has_balanced_braces}
 use Rattle.smi_text.specs.Grammar.{depth_after, is_outside, is_balanced}
 use Rattle.smi_text.proofs.Marks.{same_kind-eq}
 

@@ -1,7 +1,7 @@
 -- When a format is sound: what it reads is what it spells, and what is spelled is read.
 use Rattle.std.specs.Prelude.{◌≡◌, true, false, List, Some}
 use Rattle.std.proofs.Common.{◌⊎◌}
-use Rattle.smi_lexer.specs.Token.{Item}
+use Rattle.smi_text.specs.lexer.Token.{Item}
 use Rattle.smi_text.specs.Format.{StandsAhead}
 use Rattle.smi_text.specs.Format.{Format, begins}
 

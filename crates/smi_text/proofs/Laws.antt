@@ -33,12 +33,12 @@ use Rattle.std.proofs.Common.{
 }
 use Rattle.std.specs.Prelude.{option_map, option_and_then}
 use Rattle.std.specs.List.{list_any, flat_map}
-use Rattle.smi_lexer.specs.declared.token.TokenKind.{TokenKind}
-use Rattle.smi_lexer.specs.declared.token.TokenKind.TheVariants.{Lower, Upper}
-use Rattle.smi_lexer.specs.Token.{Lexeme, Item}
-use Rattle.smi_module.specs.Mark.{Mark, sign, sign_text, spelled, same_kind, same_text, MarksToken}
+use Rattle.smi_text.specs.declared.lexer.token.TokenKind.{TokenKind}
+use Rattle.smi_text.specs.declared.lexer.token.TokenKind.TheVariants.{Lower, Upper}
+use Rattle.smi_text.specs.lexer.Token.{Lexeme, Item}
+use Rattle.smi_text.specs.trees.Mark.{Mark, sign, sign_text, spelled, same_kind, same_text, MarksToken}
 use Rattle.smi_text.specs.Format.{StandsAhead}
-use Rattle.smi_module.specs.Reserved.{is_reserved}
+use Rattle.smi_text.specs.trees.Reserved.{is_reserved}
 use Rattle.smi_text.specs.Format.{
   Format,
   Parsed,
@@ -77,8 +77,8 @@ use Rattle.smi_text.specs.Format.{
   name_of,
   is_sign,
 }
-use Rattle.smi_module.specs.Spelling.{put_line}
-use Rattle.smi_module.specs.declared.names.Name.{Name}
+use Rattle.smi_text.specs.trees.Spelling.{put_line}
+use Rattle.smi_text.specs.declared.trees.names.Name.{Name}
 use Rattle.smi_text.proofs.Lawful.{Lawful}
 use Rattle.smi_text.proofs.NameLaws.{name_of-octets, name_of-is}
 use Rattle.smi_text.proofs.Marks.{

@@ -4,8 +4,8 @@ use Rattle.std.specs.Prelude.{drop, IfOk, IfErr}
 use Rattle.std.proofs.Math.Bool.{Bool-set}
 use Rattle.std.proofs.Math.Logic.{∥∥₁_elim}
 use Rattle.std.proofs.lemmas.Bool.{false≢true}
-use Rattle.smi_lexer.specs.declared.token.TokenKind.{TokenKind}
-use Rattle.smi_lexer.specs.declared.token.TokenKind.TheVariants.{
+use Rattle.smi_text.specs.declared.lexer.token.TokenKind.{TokenKind}
+use Rattle.smi_text.specs.declared.lexer.token.TokenKind.TheVariants.{
   Lower,
   Upper,
   Number,
@@ -29,10 +29,10 @@ use Rattle.smi_lexer.specs.declared.token.TokenKind.TheVariants.{
   Dot,
   Equals,
 }
-use Rattle.smi_lexer.specs.Lexeme.{IsLexeme}
-use Rattle.smi_lexer.specs.Token.{Lexeme, Item}
-use Rattle.smi_module.specs.Mark.{sign_text, same_text, same_kind}
-use Rattle.smi_module.specs.declared.names.Name.{Name}
+use Rattle.smi_text.specs.lexer.Lexeme.{IsLexeme}
+use Rattle.smi_text.specs.lexer.Token.{Lexeme, Item}
+use Rattle.smi_text.specs.trees.Mark.{sign_text, same_text, same_kind}
+use Rattle.smi_text.specs.declared.trees.names.Name.{Name}
 use Rattle.smi_text.specs.Kinds.{is_sign_kind}
 use Rattle.smi_text.specs.declared.stop.Stop.{Stop}
 use Rattle.smi_text.specs.declared.stop.Stop.TheVariants.{Memory}

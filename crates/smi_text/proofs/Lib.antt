@@ -25,3 +25,14 @@ pub mod Tokens
 pub mod Braces
 pub mod Fronts
 pub mod Lines
+pub mod LexerFronts
+pub mod Scans
+pub mod Parts
+pub mod Classes
+pub mod ItemsLemmas
+pub mod Gaps
+pub mod PartLaws
+pub mod LexerLaws
+pub mod Digits
+pub mod Words
+pub mod Finds

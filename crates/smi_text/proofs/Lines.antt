@@ -2,44 +2,44 @@
 use Rattle.std.proofs.Common.{◌≡◌, ℕ, Bool, true, false, not, List, [], ◌∷◌, ◌++◌, Option, Some, None, if◌then◌else◌, refl, sym, ◌∙◌, ap, subst}
 use Rattle.std.specs.Prelude.{codes, map, option_map}
 use Rattle.std.specs.List.{flat_map}
-use Rattle.smi_lexer.specs.Token.{Lexeme, Item}
-use Rattle.smi_lexer.specs.declared.token.TokenKind.{TokenKind}
-use Rattle.smi_lexer.specs.declared.token.TokenKind.TheVariants as K
-use Rattle.smi_module.specs.Mark.{Mark, sign, spelled, on_line, MarksToken, Stands}
-use Rattle.smi_module.specs.Reserved.{is_reserved}
-use Rattle.smi_module.specs.Number.{is_macro}
-use Rattle.smi_module.specs.Spelling.{put_line}
-use Rattle.smi_module.specs.Fronts.{has_balanced_braces}
-use Rattle.smi_module.specs.declared.names.Name.{Name}
-use Rattle.smi_module.specs.Spelling as say
-use Rattle.smi_module.specs.Lines.{plain, unlined, unlined_def, unlined_import}
-use Rattle.smi_module.specs.declared.tree.Module.{Module}
-use Rattle.smi_module.specs.declared.tree.Import.{Import}
-use Rattle.smi_module.specs.declared.tree.TokenText.{TokenText}
-use Rattle.smi_module.specs.declared.tree.DefKind.{DefKind}
-use Rattle.smi_module.specs.declared.tree.DefKind.TheVariants as D
-use Rattle.smi_module.specs.declared.tree.Def.{Def}
-use Rattle.smi_module.specs.declared.tree.Part.{Part}
-use Rattle.smi_module.specs.declared.tree.Part.TheVariants as P
-use Rattle.smi_module.specs.declared.tree.ModuleIdentity.{ModuleIdentity}
-use Rattle.smi_module.specs.declared.tree.Status.{Status}
-use Rattle.smi_module.specs.declared.tree.ObjectType.{ObjectType}
-use Rattle.smi_module.specs.declared.tree.Index.{Index}
-use Rattle.smi_module.specs.declared.tree.Index.TheVariants as I
-use Rattle.smi_module.specs.declared.tree.NotificationType.{NotificationType}
-use Rattle.smi_module.specs.declared.tree.Group.{Group}
-use Rattle.smi_module.specs.declared.tree.RawDefinition.{RawDefinition}
-use Rattle.smi_module.specs.declared.tree.TextualConvention.{TextualConvention}
-use Rattle.smi_module.specs.declared.tree.TypeAssignment.{TypeAssignment}
-use Rattle.smi_module.specs.declared.tree.Field.{Field}
-use Rattle.smi_module.specs.declared.tree.Syntax.{Syntax}
-use Rattle.smi_module.specs.declared.tree.Syntax.TheVariants as T
-use Rattle.smi_module.specs.declared.tree.SimpleType.{SimpleType}
-use Rattle.smi_module.specs.declared.tree.Base.{Base}
-use Rattle.smi_module.specs.declared.tree.Base.TheVariants as B
-use Rattle.smi_module.specs.declared.tree.Refinement.{Refinement}
-use Rattle.smi_module.specs.declared.tree.Refinement.TheVariants as R
-use Rattle.smi_module.specs.declared.tree.Range.{Range}
+use Rattle.smi_text.specs.lexer.Token.{Lexeme, Item}
+use Rattle.smi_text.specs.declared.lexer.token.TokenKind.{TokenKind}
+use Rattle.smi_text.specs.declared.lexer.token.TokenKind.TheVariants as K
+use Rattle.smi_text.specs.trees.Mark.{Mark, sign, spelled, on_line, MarksToken, Stands}
+use Rattle.smi_text.specs.trees.Reserved.{is_reserved}
+use Rattle.smi_text.specs.trees.Number.{is_macro}
+use Rattle.smi_text.specs.trees.Spelling.{put_line}
+use Rattle.smi_text.specs.trees.Fronts.{has_balanced_braces}
+use Rattle.smi_text.specs.declared.trees.names.Name.{Name}
+use Rattle.smi_text.specs.trees.Spelling as say
+use Rattle.smi_text.specs.trees.Lines.{plain, unlined, unlined_def, unlined_import}
+use Rattle.smi_text.specs.declared.trees.tree.Module.{Module}
+use Rattle.smi_text.specs.declared.trees.tree.Import.{Import}
+use Rattle.smi_text.specs.declared.trees.tree.TokenText.{TokenText}
+use Rattle.smi_text.specs.declared.trees.tree.DefKind.{DefKind}
+use Rattle.smi_text.specs.declared.trees.tree.DefKind.TheVariants as D
+use Rattle.smi_text.specs.declared.trees.tree.Def.{Def}
+use Rattle.smi_text.specs.declared.trees.tree.Part.{Part}
+use Rattle.smi_text.specs.declared.trees.tree.Part.TheVariants as P
+use Rattle.smi_text.specs.declared.trees.tree.ModuleIdentity.{ModuleIdentity}
+use Rattle.smi_text.specs.declared.trees.tree.Status.{Status}
+use Rattle.smi_text.specs.declared.trees.tree.ObjectType.{ObjectType}
+use Rattle.smi_text.specs.declared.trees.tree.Index.{Index}
+use Rattle.smi_text.specs.declared.trees.tree.Index.TheVariants as I
+use Rattle.smi_text.specs.declared.trees.tree.NotificationType.{NotificationType}
+use Rattle.smi_text.specs.declared.trees.tree.Group.{Group}
+use Rattle.smi_text.specs.declared.trees.tree.RawDefinition.{RawDefinition}
+use Rattle.smi_text.specs.declared.trees.tree.TextualConvention.{TextualConvention}
+use Rattle.smi_text.specs.declared.trees.tree.TypeAssignment.{TypeAssignment}
+use Rattle.smi_text.specs.declared.trees.tree.Field.{Field}
+use Rattle.smi_text.specs.declared.trees.tree.Syntax.{Syntax}
+use Rattle.smi_text.specs.declared.trees.tree.Syntax.TheVariants as T
+use Rattle.smi_text.specs.declared.trees.tree.SimpleType.{SimpleType}
+use Rattle.smi_text.specs.declared.trees.tree.Base.{Base}
+use Rattle.smi_text.specs.declared.trees.tree.Base.TheVariants as B
+use Rattle.smi_text.specs.declared.trees.tree.Refinement.{Refinement}
+use Rattle.smi_text.specs.declared.trees.tree.Refinement.TheVariants as R
+use Rattle.smi_text.specs.declared.trees.tree.Range.{Range}
 use Rattle.smi_text.proofs.Laws.{some-inj}
 use Rattle.smi_text.proofs.Tokens.{tokens-read}
 

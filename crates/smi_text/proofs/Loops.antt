@@ -27,15 +27,15 @@ use Rattle.std.proofs.Common.{
   append_assoc,
 }
 use Rattle.std.specs.Prelude.{◌==◌, codes}
-use Rattle.smi_lexer.specs.declared.token.TokenKind.{TokenKind}
-use Rattle.smi_lexer.specs.declared.token.TokenKind.TheVariants as K
-use Rattle.smi_lexer.specs.Token.{Lexeme, Item}
-use Rattle.smi_module.specs.declared.tree.TokenText.{TokenText}
-use Rattle.smi_module.specs.declared.tree.IndexParts.{IndexParts}
-use Rattle.smi_module.specs.Mark.{same_kind}
+use Rattle.smi_text.specs.declared.lexer.token.TokenKind.{TokenKind}
+use Rattle.smi_text.specs.declared.lexer.token.TokenKind.TheVariants as K
+use Rattle.smi_text.specs.lexer.Token.{Lexeme, Item}
+use Rattle.smi_text.specs.declared.trees.tree.TokenText.{TokenText}
+use Rattle.smi_text.specs.declared.trees.tree.IndexParts.{IndexParts}
+use Rattle.smi_text.specs.trees.Mark.{same_kind}
 use Rattle.smi_text.specs.Format.{Parsed, a_word, a_kind, begins, word, behind, with_front, lower, token, token_ahead}
 use Rattle.smi_text.specs.Grammar.{index_names, read_index, with_names, index_parts, depth_after, is_outside, kept_text, read_balanced, balanced}
-use Rattle.smi_module.specs.declared.names.Name.{Name}
+use Rattle.smi_text.specs.declared.trees.names.Name.{Name}
 use Rattle.smi_text.proofs.Laws.{lower-law, token-law}
 use Rattle.smi_text.proofs.Many.{reading-shorter, with_front-append, with_front-end}
 

@@ -1,7 +1,7 @@
 -- Definitions by a name in lower case are lawful.
 use Rattle.std.proofs.Common.{◌≡◌, Some, refl, sym, ap, inl, inr, ◌⊎◌}
 use Rattle.std.specs.Prelude.{codes}
-use Rattle.smi_module.specs.Reserved.{is_reserved}
+use Rattle.smi_text.specs.trees.Reserved.{is_reserved}
 use Rattle.smi_text.specs.Format.{Format, before, behind, either, many, maybe, name, pair, separated, shaped, some_of, text, text_where, token, word, lower}
 use Rattle.smi_text.specs.Grammar.{Lower, to_lower, from_lower, arc, balanced, base, before_assign, bound, braced, clause, default_value, group, identifier}
 use Rattle.smi_text.specs.Grammar.{index, index_names, later_part, lower_definition, module_identity, named_number, names, notification_type}
@@ -10,11 +10,11 @@ use Rattle.smi_text.specs.Grammar.{parenthesized, part, range, ranges, raw_defin
 use Rattle.smi_text.specs.Grammar.{syntax_type, value}
 use Rattle.smi_text.proofs.Lawful.{Lawful}
 use Rattle.smi_text.proofs.Laws.{some-inj, either-law, shaped-law}
-use Rattle.smi_module.specs.declared.tree.DefKind.{DefKind}
-use Rattle.smi_module.specs.declared.tree.DefKind.TheVariants as D
-use Rattle.smi_module.specs.declared.tree.NotificationType.{NotificationType}
-use Rattle.smi_module.specs.declared.tree.Group.{Group}
-use Rattle.smi_module.specs.declared.tree.RawDefinition.{RawDefinition}
+use Rattle.smi_text.specs.declared.trees.tree.DefKind.{DefKind}
+use Rattle.smi_text.specs.declared.trees.tree.DefKind.TheVariants as D
+use Rattle.smi_text.specs.declared.trees.tree.NotificationType.{NotificationType}
+use Rattle.smi_text.specs.declared.trees.tree.Group.{Group}
+use Rattle.smi_text.specs.declared.trees.tree.RawDefinition.{RawDefinition}
 use Rattle.smi_text.proofs.MacroLaws.{module_identity-law, object_identity-law, object_type-law, notification_type-law, group-law, raw_definition-law}
 use Rattle.smi_text.proofs.MacroLaws.{object_identifier-law}
 

@@ -1,8 +1,8 @@
 -- The clauses of each kind of definition are lawful.
 use Rattle.std.proofs.Common.{ℕ, List, Option, refl, sym, ap}
 use Rattle.std.specs.Prelude.{codes}
-use Rattle.smi_lexer.specs.declared.token.TokenKind.TheVariants as K
-use Rattle.smi_module.specs.Reserved.{is_reserved}
+use Rattle.smi_text.specs.declared.lexer.token.TokenKind.TheVariants as K
+use Rattle.smi_text.specs.trees.Reserved.{is_reserved}
 use Rattle.smi_text.specs.Format.{Format, before, behind, either, many, maybe, name, pair, separated, shaped, some_of, text, text_where, token, word, lower}
 use Rattle.smi_text.specs.Grammar.{to_module_identity, from_module_identity, to_object_identity, from_object_identity, to_object_type, from_object_type}
 use Rattle.smi_text.specs.Grammar.{to_notification_type, from_notification_type, to_group, from_group, to_raw_definition, from_raw_definition}
@@ -13,10 +13,10 @@ use Rattle.smi_text.specs.Grammar.{parenthesized, part, range, ranges, raw_defin
 use Rattle.smi_text.specs.Grammar.{syntax_type, textual_convention, value}
 use Rattle.smi_text.proofs.Lawful.{Lawful}
 use Rattle.smi_text.proofs.Laws.{some-inj, word-law, text-law, pair-law, behind-law, maybe-law, many-law, shaped-law}
-use Rattle.smi_module.specs.declared.tree.TokenText.{TokenText}
-use Rattle.smi_module.specs.declared.tree.Part.{Part}
-use Rattle.smi_module.specs.declared.tree.Index.{Index}
-use Rattle.smi_module.specs.declared.tree.Status.{Status}
+use Rattle.smi_text.specs.declared.trees.tree.TokenText.{TokenText}
+use Rattle.smi_text.specs.declared.trees.tree.Part.{Part}
+use Rattle.smi_text.specs.declared.trees.tree.Index.{Index}
+use Rattle.smi_text.specs.declared.trees.tree.Status.{Status}
 use Rattle.smi_text.proofs.PieceLaws.{clause-law}
 use Rattle.smi_text.proofs.IdentifierLaws.{value-law}
 use Rattle.smi_text.proofs.TypeLaws.{object_identifier_words-law, syntax_type-law}

@@ -32,8 +32,8 @@ use Rattle.std.proofs.Common.{
   append_assoc,
   append-nil,
 }
-use Rattle.smi_lexer.specs.Token.{Item}
-use Rattle.smi_module.specs.Mark.{Mark}
+use Rattle.smi_text.specs.lexer.Token.{Item}
+use Rattle.smi_text.specs.trees.Mark.{Mark}
 use Rattle.smi_text.specs.Format.{StandsAhead}
 use Rattle.smi_text.specs.Format.{Format, Parsed, begins, read_many, many, with_front}
 use Rattle.smi_text.proofs.Lawful.{Lawful}

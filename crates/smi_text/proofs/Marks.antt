@@ -31,8 +31,8 @@ use Rattle.std.proofs.Common.{
 }
 use Rattle.std.specs.Prelude.{option_map, option_and_then, ◌==◌}
 use Rattle.std.specs.List.{list_any, list_all}
-use Rattle.smi_lexer.specs.declared.token.TokenKind.{TokenKind}
-use Rattle.smi_lexer.specs.declared.token.TokenKind.TheVariants.{
+use Rattle.smi_text.specs.declared.lexer.token.TokenKind.{TokenKind}
+use Rattle.smi_text.specs.declared.lexer.token.TokenKind.TheVariants.{
   Lower,
   Upper,
   Number,
@@ -56,10 +56,10 @@ use Rattle.smi_lexer.specs.declared.token.TokenKind.TheVariants.{
   Dot,
   Equals,
 }
-use Rattle.smi_lexer.specs.Token.{Lexeme, Item}
-use Rattle.smi_module.specs.Mark.{Mark, kind_number, same_kind, same_text}
+use Rattle.smi_text.specs.lexer.Token.{Lexeme, Item}
+use Rattle.smi_text.specs.trees.Mark.{Mark, kind_number, same_kind, same_text}
 use Rattle.smi_text.specs.Format.{StandsAhead}
-use Rattle.smi_module.specs.Reserved.{is_reserved}
+use Rattle.smi_text.specs.trees.Reserved.{is_reserved}
 use Rattle.smi_text.specs.Format.{Ahead, a_word, a_name, a_kind, no_word, no_kind, is_this_word, meets, begins, half_apart, apart}
 
 -- tests

@@ -2,11 +2,11 @@
 use Rattle.std.proofs.Common.{◌≡◌, true, ◌&&◌, ◌||◌, not, List, ◌∷◌, refl, sym, ap, inl, inr}
 use Rattle.std.specs.Prelude.{codes}
 use Rattle.std.specs.List.{list_any}
-use Rattle.smi_lexer.specs.declared.token.TokenKind.TheVariants as K
-use Rattle.smi_lexer.specs.Token.{Lexeme}
-use Rattle.smi_module.specs.Mark.{same_kind}
-use Rattle.smi_module.specs.Reserved.{is_reserved}
-use Rattle.smi_module.specs.Number.{is_symbol, is_macro}
+use Rattle.smi_text.specs.declared.lexer.token.TokenKind.TheVariants as K
+use Rattle.smi_text.specs.lexer.Token.{Lexeme}
+use Rattle.smi_text.specs.trees.Mark.{same_kind}
+use Rattle.smi_text.specs.trees.Reserved.{is_reserved}
+use Rattle.smi_text.specs.trees.Number.{is_symbol, is_macro}
 use Rattle.smi_text.specs.Format.{Format, a_name, a_kind, meets, before, behind, either, lined, many, maybe, name, pair, separated, shaped, some_of, text}
 use Rattle.smi_text.specs.Format.{text_where, token, word, lower}
 use Rattle.smi_text.specs.Grammar.{macro_words, to_import, from_import, to_head, from_head, to_module, from_module, head_of, arc, assigned, balanced}
@@ -19,8 +19,8 @@ use Rattle.smi_text.specs.Grammar.{syntax_type, tag, tagged, textual_convention,
 use Rattle.smi_text.proofs.Lawful.{Lawful}
 use Rattle.smi_text.proofs.Marks.{and-left, and-right, and-both, or-cases, or-left, or-right}
 use Rattle.smi_text.proofs.Laws.{some-inj, word-law, token-law, name-law, pair-law, behind-law, before-law, maybe-law, many-law, shaped-law, lined-law}
-use Rattle.smi_module.specs.declared.tree.TokenText.{TokenText}
-use Rattle.smi_module.specs.declared.names.Name.{Name}
+use Rattle.smi_text.specs.declared.trees.tree.TokenText.{TokenText}
+use Rattle.smi_text.specs.declared.trees.names.Name.{Name}
 use Rattle.smi_text.proofs.PieceLaws.{braced-law, separated-law, kept-law}
 use Rattle.smi_text.proofs.IdentifierLaws.{part-law}
 use Rattle.smi_text.proofs.UpperLaws.{macro-ahead}

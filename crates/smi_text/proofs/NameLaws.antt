@@ -2,8 +2,8 @@
 use Rattle.std.proofs.Common.{◌≡◌, ℕ, Bool, true, false, List, Some, refl, sym, ◌∙◌, ap}
 use Rattle.std.proofs.Math.Bool.{Bool-set}
 use Rattle.std.proofs.lemmas.Bool.{false≢true}
-use Rattle.smi_module.specs.Word.{is_word}
-use Rattle.smi_module.specs.declared.names.Name.{Name}
+use Rattle.smi_text.specs.trees.Word.{is_word}
+use Rattle.smi_text.specs.declared.trees.names.Name.{Name}
 use Rattle.smi_text.specs.Format.{name_when, name_of}
 
 some-inj : {A : Type 0} (x y : A) → Some x ≡ Some y → x ≡ y

@@ -2,10 +2,10 @@
 use Rattle.std.proofs.Common.{◌≡◌, ℕ, Bool, true, false, List, [], ◌∷◌, Option, Some, None, if◌then◌else◌, refl, sym, ◌∙◌, ap, subst, inl, inr, ◌⊎◌}
 use Rattle.std.specs.Prelude.{option_map, option_and_then}
 use Rattle.std.specs.List.{list_any}
-use Rattle.smi_lexer.specs.declared.token.TokenKind.{TokenKind}
-use Rattle.smi_lexer.specs.declared.token.TokenKind.TheVariants as K
-use Rattle.smi_lexer.specs.Token.{Lexeme, Item}
-use Rattle.smi_module.specs.Mark.{Mark, spelled}
+use Rattle.smi_text.specs.declared.lexer.token.TokenKind.{TokenKind}
+use Rattle.smi_text.specs.declared.lexer.token.TokenKind.TheVariants as K
+use Rattle.smi_text.specs.lexer.Token.{Lexeme, Item}
+use Rattle.smi_text.specs.trees.Mark.{Mark, spelled}
 use Rattle.smi_text.specs.Format.{StandsAhead}
 use Rattle.smi_text.specs.Format.{Format, Ahead, a_kind, meets, apart, begins, before, behind, many, pair, separated, shaped, some_of, text, token}
 use Rattle.smi_text.specs.Format.{with_front, word, lower}
@@ -13,7 +13,7 @@ use Rattle.smi_text.specs.Grammar.{kept, kept_text, braced, clause, parenthesize
 use Rattle.smi_text.proofs.Lawful.{Lawful}
 use Rattle.smi_text.proofs.Laws.{IsOne, some-inj, if-some, if-true, one-law, word-law, token-law, text-law, pair-law, behind-law, before-law, many-law}
 use Rattle.smi_text.proofs.Laws.{shaped-law}
-use Rattle.smi_module.specs.declared.tree.TokenText.{TokenText}
+use Rattle.smi_text.specs.declared.trees.tree.TokenText.{TokenText}
 
 -- pieces and parts
 

@@ -1,9 +1,9 @@
 -- Raw runs of tokens are lawful.
 use Rattle.std.proofs.Common.{◌≡◌, ℕ, Bool, true, false, ◌&&◌, not, List, [], ◌∷◌, ◌++◌, Some, None, Ok, Err, if◌then◌else◌, refl, subst, inl, inr, ◌⊎◌}
 use Rattle.std.specs.Prelude.{◌==◌, codes}
-use Rattle.smi_lexer.specs.declared.token.TokenKind.TheVariants as K
-use Rattle.smi_lexer.specs.Token.{Lexeme, Item}
-use Rattle.smi_module.specs.Mark.{same_kind, same_text}
+use Rattle.smi_text.specs.declared.lexer.token.TokenKind.TheVariants as K
+use Rattle.smi_text.specs.lexer.Token.{Lexeme, Item}
+use Rattle.smi_text.specs.trees.Mark.{same_kind, same_text}
 use Rattle.smi_text.specs.Format.{StandsAhead}
 use Rattle.smi_text.specs.Format.{Parsed, no_word, no_kind, never, begins, before, behind, token, with_front, word, lower}
 use Rattle.smi_text.specs.Grammar.{kept_text, depth_after, is_outside, raw_marks, balanced, before_assign, before_end, braced, default_value, is_balanced}
@@ -11,7 +11,7 @@ use Rattle.smi_text.specs.Grammar.{read_balanced}
 use Rattle.smi_text.proofs.Lawful.{Lawful}
 use Rattle.smi_text.proofs.Marks.{and-left, and-right, and-both, or-false, map-inv}
 use Rattle.smi_text.proofs.Laws.{some-inj, any-one, never-stands, word-law, behind-law}
-use Rattle.smi_module.specs.declared.tree.TokenText.{TokenText}
+use Rattle.smi_text.specs.declared.trees.tree.TokenText.{TokenText}
 use Rattle.smi_text.proofs.PieceLaws.{braced-law, same-token, kept-law}
 
 -- raw runs

@@ -1,12 +1,12 @@
 -- Productions of which there may be several in a row take a token at least.
 use Rattle.std.proofs.Common.{◌≡◌, ◌<◌, false, List, Result, Ok, Err, length, refl}
 use Rattle.std.specs.Prelude.{OnOk}
-use Rattle.smi_lexer.specs.Token.{Item}
+use Rattle.smi_text.specs.lexer.Token.{Item}
 use Rattle.smi_text.specs.declared.stop.Stop.{Stop}
-use Rattle.smi_module.specs.declared.tree.Part.{Part}
-use Rattle.smi_module.specs.declared.tree.NamedNumber.{NamedNumber}
-use Rattle.smi_module.specs.declared.tree.Range.{Range}
-use Rattle.smi_module.specs.declared.tree.Field.{Field}
+use Rattle.smi_text.specs.declared.trees.tree.Part.{Part}
+use Rattle.smi_text.specs.declared.trees.tree.NamedNumber.{NamedNumber}
+use Rattle.smi_text.specs.declared.trees.tree.Range.{Range}
+use Rattle.smi_text.specs.declared.trees.tree.Field.{Field}
 use Rattle.smi_text.specs.Returned.{ReturnsReading}
 use Rattle.smi_text.specs.Format.{
   Format,
@@ -95,10 +95,10 @@ use Rattle.smi_text.proofs.ClauseLaws.{revision-law}
 use Rattle.smi_text.proofs.RawLaws.{before_assign-law, before_end-law}
 use Rattle.smi_text.proofs.ModuleLaws.{imported_symbol-law, import_clause-law}
 use Rattle.smi_text.proofs.Laws.{lower-law}
-use Rattle.smi_module.specs.declared.names.Name.{Name}
-use Rattle.smi_module.specs.declared.tree.Revision.{Revision}
-use Rattle.smi_module.specs.declared.tree.TokenText.{TokenText}
-use Rattle.smi_module.specs.declared.tree.Import.{Import}
+use Rattle.smi_text.specs.declared.trees.names.Name.{Name}
+use Rattle.smi_text.specs.declared.trees.tree.Revision.{Revision}
+use Rattle.smi_text.specs.declared.trees.tree.TokenText.{TokenText}
+use Rattle.smi_text.specs.declared.trees.tree.Import.{Import}
 
 gives-shorter : {A : Type 0} (f : Format A) → Lawful f → f.empty ≡ false → (r : Result A Stop) (ts rest : List Item) → ReturnsReading r rest (f.read ts)
     → OnOk r (length rest < length ts)

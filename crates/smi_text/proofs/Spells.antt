@@ -2,10 +2,10 @@
 use Rattle.std.proofs.Common.{◌≡◌, ℕ, Bool, true, false, not, List, [], ◌∷◌, ◌++◌, Option, Some, None, if◌then◌else◌, refl, sym, ap, ◌⊎◌, inl, inr}
 use Rattle.std.specs.Prelude.{codes}
 use Rattle.std.specs.List.{flat_map}
-use Rattle.smi_lexer.specs.declared.token.TokenKind.TheVariants as K
-use Rattle.smi_module.specs.Mark.{Mark, sign, spelled, on_line}
-use Rattle.smi_module.specs.Reserved.{is_reserved}
-use Rattle.smi_module.specs.Number.{is_macro}
+use Rattle.smi_text.specs.declared.lexer.token.TokenKind.TheVariants as K
+use Rattle.smi_text.specs.trees.Mark.{Mark, sign, spelled, on_line}
+use Rattle.smi_text.specs.trees.Reserved.{is_reserved}
+use Rattle.smi_text.specs.trees.Number.{is_macro}
 use Rattle.smi_text.specs.Format.{
   never,
   spell_option,
@@ -27,7 +27,7 @@ use Rattle.smi_text.specs.Format.{
   word,
   lower,
 }
-use Rattle.smi_module.specs.Spelling.{put_line}
+use Rattle.smi_text.specs.trees.Spelling.{put_line}
 use Rattle.smi_text.specs.Grammar.{
   Labelled,
   raw_marks,
@@ -92,38 +92,38 @@ use Rattle.smi_text.specs.Grammar.{
   upper_definition,
   value,
 }
-use Rattle.smi_module.specs.Spelling as say
-use Rattle.smi_module.specs.declared.tree.Module.{Module}
-use Rattle.smi_module.specs.declared.names.Name.{Name}
+use Rattle.smi_text.specs.trees.Spelling as say
+use Rattle.smi_text.specs.declared.trees.tree.Module.{Module}
+use Rattle.smi_text.specs.declared.trees.names.Name.{Name}
 use Rattle.smi_text.proofs.Fronts.{fronts-counted}
-use Rattle.smi_module.specs.declared.tree.Import.{Import}
-use Rattle.smi_module.specs.declared.tree.TokenText.{TokenText}
-use Rattle.smi_module.specs.declared.tree.Def.{Def}
-use Rattle.smi_module.specs.declared.tree.DefKind.{DefKind}
-use Rattle.smi_module.specs.declared.tree.DefKind.TheVariants as D
-use Rattle.smi_module.specs.declared.tree.Part.{Part}
-use Rattle.smi_module.specs.declared.tree.Part.TheVariants as P
-use Rattle.smi_module.specs.declared.tree.NamedNumber.{NamedNumber}
-use Rattle.smi_module.specs.declared.tree.ModuleIdentity.{ModuleIdentity}
-use Rattle.smi_module.specs.declared.tree.Revision.{Revision}
-use Rattle.smi_module.specs.declared.tree.ObjectIdentity.{ObjectIdentity}
-use Rattle.smi_module.specs.declared.tree.Status.{Status}
-use Rattle.smi_module.specs.declared.tree.ObjectType.{ObjectType}
-use Rattle.smi_module.specs.declared.tree.Index.{Index}
-use Rattle.smi_module.specs.declared.tree.Index.TheVariants as I
-use Rattle.smi_module.specs.declared.tree.NotificationType.{NotificationType}
-use Rattle.smi_module.specs.declared.tree.Group.{Group}
-use Rattle.smi_module.specs.declared.tree.RawDefinition.{RawDefinition}
-use Rattle.smi_module.specs.declared.tree.TextualConvention.{TextualConvention}
-use Rattle.smi_module.specs.declared.tree.Field.{Field}
-use Rattle.smi_module.specs.declared.tree.Syntax.{Syntax}
-use Rattle.smi_module.specs.declared.tree.Syntax.TheVariants as T
-use Rattle.smi_module.specs.declared.tree.SimpleType.{SimpleType}
-use Rattle.smi_module.specs.declared.tree.Base.{Base}
-use Rattle.smi_module.specs.declared.tree.Base.TheVariants as B
-use Rattle.smi_module.specs.declared.tree.Refinement.{Refinement}
-use Rattle.smi_module.specs.declared.tree.Refinement.TheVariants as R
-use Rattle.smi_module.specs.declared.tree.Range.{Range}
+use Rattle.smi_text.specs.declared.trees.tree.Import.{Import}
+use Rattle.smi_text.specs.declared.trees.tree.TokenText.{TokenText}
+use Rattle.smi_text.specs.declared.trees.tree.Def.{Def}
+use Rattle.smi_text.specs.declared.trees.tree.DefKind.{DefKind}
+use Rattle.smi_text.specs.declared.trees.tree.DefKind.TheVariants as D
+use Rattle.smi_text.specs.declared.trees.tree.Part.{Part}
+use Rattle.smi_text.specs.declared.trees.tree.Part.TheVariants as P
+use Rattle.smi_text.specs.declared.trees.tree.NamedNumber.{NamedNumber}
+use Rattle.smi_text.specs.declared.trees.tree.ModuleIdentity.{ModuleIdentity}
+use Rattle.smi_text.specs.declared.trees.tree.Revision.{Revision}
+use Rattle.smi_text.specs.declared.trees.tree.ObjectIdentity.{ObjectIdentity}
+use Rattle.smi_text.specs.declared.trees.tree.Status.{Status}
+use Rattle.smi_text.specs.declared.trees.tree.ObjectType.{ObjectType}
+use Rattle.smi_text.specs.declared.trees.tree.Index.{Index}
+use Rattle.smi_text.specs.declared.trees.tree.Index.TheVariants as I
+use Rattle.smi_text.specs.declared.trees.tree.NotificationType.{NotificationType}
+use Rattle.smi_text.specs.declared.trees.tree.Group.{Group}
+use Rattle.smi_text.specs.declared.trees.tree.RawDefinition.{RawDefinition}
+use Rattle.smi_text.specs.declared.trees.tree.TextualConvention.{TextualConvention}
+use Rattle.smi_text.specs.declared.trees.tree.Field.{Field}
+use Rattle.smi_text.specs.declared.trees.tree.Syntax.{Syntax}
+use Rattle.smi_text.specs.declared.trees.tree.Syntax.TheVariants as T
+use Rattle.smi_text.specs.declared.trees.tree.SimpleType.{SimpleType}
+use Rattle.smi_text.specs.declared.trees.tree.Base.{Base}
+use Rattle.smi_text.specs.declared.trees.tree.Base.TheVariants as B
+use Rattle.smi_text.specs.declared.trees.tree.Refinement.{Refinement}
+use Rattle.smi_text.specs.declared.trees.tree.Refinement.TheVariants as R
+use Rattle.smi_text.specs.declared.trees.tree.Range.{Range}
 
 -- two spellings that agree at each part agree at lists and at what may be left out
 

@@ -1,10 +1,10 @@
 -- What marks take of the items of a text, and what they say of its tokens.
 use Rattle.std.proofs.Common.{◌≡◌, ℕ, List, [], ◌∷◌, Some, None, Ok, Err, refl, ap}
 use Rattle.std.specs.Prelude.{map}
-use Rattle.smi_lexer.specs.Token.{Lexeme, Item, tokens_of, first_fault}
-use Rattle.smi_module.specs.Mark.{Mark, Stands}
-use Rattle.smi_module.specs.Spelling.{spelling}
-use Rattle.smi_module.specs.declared.tree.Module.{Module}
+use Rattle.smi_text.specs.lexer.Token.{Lexeme, Item, tokens_of, first_fault}
+use Rattle.smi_text.specs.trees.Mark.{Mark, Stands}
+use Rattle.smi_text.specs.trees.Spelling.{spelling}
+use Rattle.smi_text.specs.declared.trees.tree.Module.{Module}
 use Rattle.smi_text.specs.Format.{StandsAhead}
 use Rattle.smi_text.specs.Grammar.{file}
 use Rattle.smi_text.specs.Returned.{RepeatsIn, RepeatsAgain}

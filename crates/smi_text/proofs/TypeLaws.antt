@@ -2,11 +2,11 @@
 use Rattle.std.proofs.Common.{◌≡◌, true, ◌&&◌, ◌||◌, List, [], ◌∷◌, Some, refl, sym, ap, inl, inr, ◌⊎◌}
 use Rattle.std.specs.Prelude.{codes}
 use Rattle.std.specs.List.{list_any}
-use Rattle.smi_lexer.specs.declared.token.TokenKind.TheVariants as K
-use Rattle.smi_lexer.specs.Token.{Lexeme}
-use Rattle.smi_module.specs.Mark.{same_kind}
-use Rattle.smi_module.specs.Reserved.{is_reserved}
-use Rattle.smi_module.specs.Number.{is_number, is_bound, is_literal}
+use Rattle.smi_text.specs.declared.lexer.token.TokenKind.TheVariants as K
+use Rattle.smi_text.specs.lexer.Token.{Lexeme}
+use Rattle.smi_text.specs.trees.Mark.{same_kind}
+use Rattle.smi_text.specs.trees.Reserved.{is_reserved}
+use Rattle.smi_text.specs.trees.Number.{is_number, is_bound, is_literal}
 use Rattle.smi_text.specs.Format.{a_kind, meets, before, behind, either, many, maybe, name, pair, separated, shaped, some_of, text, text_where, token, word}
 use Rattle.smi_text.specs.Format.{lower}
 use Rattle.smi_text.specs.Grammar.{to_named_number, from_named_number, to_range, from_range, to_refinement, from_refinement, to_base, from_base}
@@ -16,16 +16,16 @@ use Rattle.smi_text.specs.Grammar.{syntax_type}
 use Rattle.smi_text.proofs.Lawful.{Lawful}
 use Rattle.smi_text.proofs.Marks.{and-left, or-cases, or-right}
 use Rattle.smi_text.proofs.Laws.{some-inj, word-law, token-law, text_where-law, lower-law, name-law, pair-law, behind-law, maybe-law, either-law, shaped-law}
-use Rattle.smi_module.specs.declared.names.Name.{Name}
-use Rattle.smi_module.specs.declared.tree.NamedNumber.{NamedNumber}
-use Rattle.smi_module.specs.declared.tree.Syntax.{Syntax}
-use Rattle.smi_module.specs.declared.tree.Syntax.TheVariants as T
-use Rattle.smi_module.specs.declared.tree.SimpleType.{SimpleType}
-use Rattle.smi_module.specs.declared.tree.Base.{Base}
-use Rattle.smi_module.specs.declared.tree.Refinement.{Refinement}
-use Rattle.smi_module.specs.declared.tree.Range.{Range}
-use Rattle.smi_module.specs.declared.tree.Base.TheVariants as B
-use Rattle.smi_module.specs.declared.tree.Refinement.TheVariants as R
+use Rattle.smi_text.specs.declared.trees.names.Name.{Name}
+use Rattle.smi_text.specs.declared.trees.tree.NamedNumber.{NamedNumber}
+use Rattle.smi_text.specs.declared.trees.tree.Syntax.{Syntax}
+use Rattle.smi_text.specs.declared.trees.tree.Syntax.TheVariants as T
+use Rattle.smi_text.specs.declared.trees.tree.SimpleType.{SimpleType}
+use Rattle.smi_text.specs.declared.trees.tree.Base.{Base}
+use Rattle.smi_text.specs.declared.trees.tree.Refinement.{Refinement}
+use Rattle.smi_text.specs.declared.trees.tree.Range.{Range}
+use Rattle.smi_text.specs.declared.trees.tree.Base.TheVariants as B
+use Rattle.smi_text.specs.declared.trees.tree.Refinement.TheVariants as R
 use Rattle.smi_text.proofs.PieceLaws.{braced-law, parenthesized-law, separated-law, kept-law}
 
 -- types

@@ -2,12 +2,12 @@
 use Rattle.std.proofs.Common.{◌≡◌, ℕ, Bool, true, ◌||◌, List, [], ◌∷◌, Option, Some, None, Ok, Err, refl, sym, ◌∙◌, ap, subst, inl, inr, ◌⊎◌}
 use Rattle.std.specs.Prelude.{codes, map}
 use Rattle.std.specs.List.{list_any, list_all}
-use Rattle.smi_lexer.specs.declared.token.TokenKind.TheVariants as K
-use Rattle.smi_lexer.specs.Token.{Lexeme, Item}
-use Rattle.smi_module.specs.Mark.{same_kind, same_text}
+use Rattle.smi_text.specs.declared.lexer.token.TokenKind.TheVariants as K
+use Rattle.smi_text.specs.lexer.Token.{Lexeme, Item}
+use Rattle.smi_text.specs.trees.Mark.{same_kind, same_text}
 use Rattle.smi_text.specs.Format.{StandsAhead}
-use Rattle.smi_module.specs.Reserved.{is_reserved, macros, reserved_words}
-use Rattle.smi_module.specs.Number.{is_number, is_macro}
+use Rattle.smi_text.specs.trees.Reserved.{is_reserved, macros, reserved_words}
+use Rattle.smi_text.specs.trees.Number.{is_number, is_macro}
 use Rattle.smi_text.specs.Format.{Format, a_word, meets, begins, spell_pieces, before, behind, either, many, maybe, name, pair, separated, shaped, some_of}
 use Rattle.smi_text.specs.Format.{text, text_where, token, word, lower}
 use Rattle.smi_text.specs.Grammar.{macro_words, Assigned, to_assigned, from_assigned, from_type, to_macro, from_macro, to_upper, from_upper, assigned}
@@ -18,11 +18,11 @@ use Rattle.smi_text.proofs.Lawful.{Lawful}
 use Rattle.smi_text.proofs.Marks.{and-left, and-right, and-both, or-cases, or-left, or-right, same_text-eq}
 use Rattle.smi_text.proofs.Laws.{some-inj, never-stands, word-law, token-law, text_where-law, name_where-law, pair-law, behind-law, before-law, either-law}
 use Rattle.smi_text.proofs.Laws.{many-law, shaped-law}
-use Rattle.smi_module.specs.declared.tree.TokenText.{TokenText}
-use Rattle.smi_module.specs.declared.tree.DefKind.{DefKind}
-use Rattle.smi_module.specs.declared.tree.DefKind.TheVariants as D
-use Rattle.smi_module.specs.declared.tree.Syntax.{Syntax}
-use Rattle.smi_module.specs.declared.tree.Syntax.TheVariants as T
+use Rattle.smi_text.specs.declared.trees.tree.TokenText.{TokenText}
+use Rattle.smi_text.specs.declared.trees.tree.DefKind.{DefKind}
+use Rattle.smi_text.specs.declared.trees.tree.DefKind.TheVariants as D
+use Rattle.smi_text.specs.declared.trees.tree.Syntax.{Syntax}
+use Rattle.smi_text.specs.declared.trees.tree.Syntax.TheVariants as T
 use Rattle.smi_text.proofs.PieceLaws.{braced-law, separated-law}
 use Rattle.smi_text.proofs.TypeLaws.{simple_type-law, of_row-law, syntax_type-law, field-law}
 use Rattle.smi_text.proofs.RawLaws.{before_end-law, balanced-law}

@@ -27,14 +27,14 @@ use Rattle.std.specs.Prelude.{
 }
 use Rattle.std.specs.List.{list_any, list_all, flat_map}
 use Rattle.std.proofs.Common.{◌⊎◌, inl, inr, zero, suc}
-use Rattle.smi_lexer.specs.declared.token.TokenKind.{TokenKind}
-use Rattle.smi_lexer.specs.declared.token.TokenKind.TheVariants.{Lower, Upper}
-use Rattle.smi_lexer.specs.Token.{Lexeme, Item}
-use Rattle.smi_module.specs.Mark.{Mark, sign, sign_text, spelled, same_kind, same_text, MarksToken}
-use Rattle.smi_module.specs.Word.{is_word}
-use Rattle.smi_module.specs.Reserved.{is_reserved}
-use Rattle.smi_module.specs.Spelling.{put_line}
-use Rattle.smi_module.specs.declared.names.Name.{Name}
+use Rattle.smi_text.specs.declared.lexer.token.TokenKind.{TokenKind}
+use Rattle.smi_text.specs.declared.lexer.token.TokenKind.TheVariants.{Lower, Upper}
+use Rattle.smi_text.specs.lexer.Token.{Lexeme, Item}
+use Rattle.smi_text.specs.trees.Mark.{Mark, sign, sign_text, spelled, same_kind, same_text, MarksToken}
+use Rattle.smi_text.specs.trees.Word.{is_word}
+use Rattle.smi_text.specs.trees.Reserved.{is_reserved}
+use Rattle.smi_text.specs.trees.Spelling.{put_line}
+use Rattle.smi_text.specs.declared.trees.names.Name.{Name}
 
 -- which token may be ahead: a word of the grammar, a name, one of a kind, or any token but such a
 -- one

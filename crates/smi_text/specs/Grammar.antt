@@ -26,12 +26,12 @@ use Rattle.std.specs.Prelude.{
   option_map,
 }
 use Rattle.std.proofs.Common.{◌⊎◌, inl, inr, zero, suc}
-use Rattle.smi_lexer.specs.declared.token.TokenKind.{TokenKind}
-use Rattle.smi_lexer.specs.declared.token.TokenKind.TheVariants as K
-use Rattle.smi_lexer.specs.Token.{Lexeme, Item}
-use Rattle.smi_module.specs.Mark.{Mark, sign, spelled, same_kind, same_text}
-use Rattle.smi_module.specs.Reserved.{macros}
-use Rattle.smi_module.specs.Number.{is_arc, is_number, is_bound, is_symbol, is_macro}
+use Rattle.smi_text.specs.declared.lexer.token.TokenKind.{TokenKind}
+use Rattle.smi_text.specs.declared.lexer.token.TokenKind.TheVariants as K
+use Rattle.smi_text.specs.lexer.Token.{Lexeme, Item}
+use Rattle.smi_text.specs.trees.Mark.{Mark, sign, spelled, same_kind, same_text}
+use Rattle.smi_text.specs.trees.Reserved.{macros}
+use Rattle.smi_text.specs.trees.Number.{is_arc, is_number, is_bound, is_symbol, is_macro}
 use Rattle.smi_text.specs.Format.{
   Format,
   Parsed,
@@ -63,38 +63,38 @@ use Rattle.smi_text.specs.Format.{
   lower,
   name_where,
 }
-use Rattle.smi_module.specs.declared.names.Name.{Name}
-use Rattle.smi_module.specs.declared.tree.Module.{Module}
+use Rattle.smi_text.specs.declared.trees.names.Name.{Name}
+use Rattle.smi_text.specs.declared.trees.tree.Module.{Module}
 use Rattle.smi_text.specs.declared.modules.Head.{Head}
-use Rattle.smi_module.specs.declared.tree.Import.{Import}
-use Rattle.smi_module.specs.declared.tree.TokenText.{TokenText}
-use Rattle.smi_module.specs.declared.tree.Def.{Def}
-use Rattle.smi_module.specs.declared.tree.DefKind.{DefKind}
-use Rattle.smi_module.specs.declared.tree.DefKind.TheVariants as D
-use Rattle.smi_module.specs.declared.tree.Part.{Part}
-use Rattle.smi_module.specs.declared.tree.Part.TheVariants as P
-use Rattle.smi_module.specs.declared.tree.NamedNumber.{NamedNumber}
-use Rattle.smi_module.specs.declared.tree.ModuleIdentity.{ModuleIdentity}
-use Rattle.smi_module.specs.declared.tree.Revision.{Revision}
-use Rattle.smi_module.specs.declared.tree.ObjectIdentity.{ObjectIdentity}
-use Rattle.smi_module.specs.declared.tree.Status.{Status}
-use Rattle.smi_module.specs.declared.tree.ObjectType.{ObjectType}
-use Rattle.smi_module.specs.declared.tree.Index.{Index}
-use Rattle.smi_module.specs.declared.tree.Index.TheVariants as I
-use Rattle.smi_module.specs.declared.tree.IndexParts.{IndexParts}
-use Rattle.smi_module.specs.declared.tree.NotificationType.{NotificationType}
-use Rattle.smi_module.specs.declared.tree.Group.{Group}
-use Rattle.smi_module.specs.declared.tree.RawDefinition.{RawDefinition}
-use Rattle.smi_module.specs.declared.tree.TextualConvention.{TextualConvention}
-use Rattle.smi_module.specs.declared.tree.Field.{Field}
-use Rattle.smi_module.specs.declared.tree.Syntax.{Syntax}
-use Rattle.smi_module.specs.declared.tree.Syntax.TheVariants as T
-use Rattle.smi_module.specs.declared.tree.SimpleType.{SimpleType}
-use Rattle.smi_module.specs.declared.tree.Base.{Base}
-use Rattle.smi_module.specs.declared.tree.Base.TheVariants as B
-use Rattle.smi_module.specs.declared.tree.Refinement.{Refinement}
-use Rattle.smi_module.specs.declared.tree.Refinement.TheVariants as R
-use Rattle.smi_module.specs.declared.tree.Range.{Range}
+use Rattle.smi_text.specs.declared.trees.tree.Import.{Import}
+use Rattle.smi_text.specs.declared.trees.tree.TokenText.{TokenText}
+use Rattle.smi_text.specs.declared.trees.tree.Def.{Def}
+use Rattle.smi_text.specs.declared.trees.tree.DefKind.{DefKind}
+use Rattle.smi_text.specs.declared.trees.tree.DefKind.TheVariants as D
+use Rattle.smi_text.specs.declared.trees.tree.Part.{Part}
+use Rattle.smi_text.specs.declared.trees.tree.Part.TheVariants as P
+use Rattle.smi_text.specs.declared.trees.tree.NamedNumber.{NamedNumber}
+use Rattle.smi_text.specs.declared.trees.tree.ModuleIdentity.{ModuleIdentity}
+use Rattle.smi_text.specs.declared.trees.tree.Revision.{Revision}
+use Rattle.smi_text.specs.declared.trees.tree.ObjectIdentity.{ObjectIdentity}
+use Rattle.smi_text.specs.declared.trees.tree.Status.{Status}
+use Rattle.smi_text.specs.declared.trees.tree.ObjectType.{ObjectType}
+use Rattle.smi_text.specs.declared.trees.tree.Index.{Index}
+use Rattle.smi_text.specs.declared.trees.tree.Index.TheVariants as I
+use Rattle.smi_text.specs.declared.trees.tree.IndexParts.{IndexParts}
+use Rattle.smi_text.specs.declared.trees.tree.NotificationType.{NotificationType}
+use Rattle.smi_text.specs.declared.trees.tree.Group.{Group}
+use Rattle.smi_text.specs.declared.trees.tree.RawDefinition.{RawDefinition}
+use Rattle.smi_text.specs.declared.trees.tree.TextualConvention.{TextualConvention}
+use Rattle.smi_text.specs.declared.trees.tree.Field.{Field}
+use Rattle.smi_text.specs.declared.trees.tree.Syntax.{Syntax}
+use Rattle.smi_text.specs.declared.trees.tree.Syntax.TheVariants as T
+use Rattle.smi_text.specs.declared.trees.tree.SimpleType.{SimpleType}
+use Rattle.smi_text.specs.declared.trees.tree.Base.{Base}
+use Rattle.smi_text.specs.declared.trees.tree.Base.TheVariants as B
+use Rattle.smi_text.specs.declared.trees.tree.Refinement.{Refinement}
+use Rattle.smi_text.specs.declared.trees.tree.Refinement.TheVariants as R
+use Rattle.smi_text.specs.declared.trees.tree.Range.{Range}
 
 -- pieces and parts
 

@@ -1,7 +1,7 @@
 -- Kinds of tokens: words, and signs, which have one text each.
 use Rattle.std.specs.Prelude.{Bool, true, false}
-use Rattle.smi_lexer.specs.declared.token.TokenKind.{TokenKind}
-use Rattle.smi_lexer.specs.declared.token.TokenKind.TheVariants.{
+use Rattle.smi_text.specs.declared.lexer.token.TokenKind.{TokenKind}
+use Rattle.smi_text.specs.declared.lexer.token.TokenKind.TheVariants.{
   Lower,
   Upper,
   Number,

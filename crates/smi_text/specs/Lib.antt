@@ -5,3 +5,5 @@ pub mod Returned
 pub mod Names
 pub mod Text
 pub mod Kinds
+pub mod lexer
+pub mod trees

@@ -16,23 +16,23 @@ use Rattle.std.specs.Prelude.{
   Err,
 }
 use Rattle.std.specs.Borrow.{Bor}
-use Rattle.smi_lexer.specs.Token.{Lexeme, Item}
+use Rattle.smi_text.specs.lexer.Token.{Lexeme, Item}
 use Rattle.std.specs.List.{flat_map, list_any}
 use Rattle.smi_text.specs.declared.stop.Stop.{Stop}
 use Rattle.smi_text.specs.declared.stop.Stop.TheVariants.{Syntax, Lex, Memory}
 use Rattle.smi_text.specs.declared.error.ParseError.{ParseError}
 use Rattle.smi_text.specs.declared.error.ParseError.TheVariants as E
-use Rattle.smi_module.specs.Mark.{same_text}
+use Rattle.smi_text.specs.trees.Mark.{same_text}
 use Rattle.smi_text.specs.Format.{Parsed, StandsAhead, token_ahead, begins, many}
 use Rattle.smi_text.specs.Grammar.{definition, module_text, file}
-use Rattle.smi_module.specs.Spelling.{of_def, of_head, spelling}
-use Rattle.smi_module.specs.Lookup.{labels, are_distinct}
-use Rattle.smi_module.specs.declared.names.Name.{Name}
+use Rattle.smi_text.specs.trees.Spelling.{of_def, of_head, spelling}
+use Rattle.smi_text.specs.trees.Lookup.{labels, are_distinct}
+use Rattle.smi_text.specs.declared.trees.names.Name.{Name}
 use Rattle.smi_text.specs.Text.{HasNoDoubles, BreaksOff}
-use Rattle.smi_module.specs.declared.tree.Module.{Module}
-use Rattle.smi_module.specs.declared.tree.Part.{Part}
-use Rattle.smi_module.specs.declared.tree.Import.{Import}
-use Rattle.smi_module.specs.declared.tree.Def.{Def}
+use Rattle.smi_text.specs.declared.trees.tree.Module.{Module}
+use Rattle.smi_text.specs.declared.trees.tree.Part.{Part}
+use Rattle.smi_text.specs.declared.trees.tree.Import.{Import}
+use Rattle.smi_text.specs.declared.trees.tree.Def.{Def}
 
 -- the step stopped because memory ran out
 abbrev pub is_memory : Stop → Bool

@@ -5,13 +5,13 @@ ghost use Rattle.std.specs.Prelude.{◌≡◌, ◌+◌, ◌<◌, ◌^◌, List, 
 ghost use Rattle.smi_text.specs.Format.{begins, a_word, a_kind, no_word, no_kind};
 ghost use Rattle.smi_text.specs.Format as format;
 ghost use Rattle.smi_text.specs.Grammar as grammar;
-ghost use Rattle.smi_lexer.specs.declared.token.TokenKind.TheVariants as kinds;
+ghost use Rattle.smi_text.specs.declared.lexer.token.TokenKind.TheVariants as kinds;
 ghost use Rattle.smi_text.specs.Returned.{ReturnsReading};
 
 use crate::parser::{AfterComma, Parser, Production, keep};
 use crate::stop::Stop;
-use smi_lexer::TokenKind;
-use smi_module::{Index, IndexParts, Items, Name, Revision, Status, TokenText};
+use crate::lexer::TokenKind;
+use crate::trees::{Index, IndexParts, Items, Name, Revision, Status, TokenText};
 
 /// A name in lower case.
 pub(crate) struct OneName;

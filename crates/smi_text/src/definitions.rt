@@ -11,8 +11,8 @@ use crate::clauses::{BeforeAssign, BeforeEnd, OneRevision};
 use crate::parser::{AfterComma, Parser};
 use crate::stop::Stop;
 use crate::syntax::OneField;
-use smi_lexer::TokenKind;
-use smi_module::{
+use crate::lexer::TokenKind;
+use crate::trees::{
     Def, DefKind, Field, Group, Items, ModuleIdentity, Name, NotificationType, ObjectIdentity,
     ObjectType, Part, RawDefinition, Syntax, Text, TextualConvention, TokenText, TypeAssignment,
     is_macro, is_reserved,

@@ -3,27 +3,27 @@
 
 ghost use Rattle.std.specs.Prelude.{◌≡◌, List, [], IfOk, IfErr, IfSome, MatchResult, MatchBool};
 ghost use Rattle.std.specs.Prelude.{map, true, false, Some, ◌↔◌, ◌||◌, ℕ, OnOk};
-ghost use Rattle.smi_lexer.specs.Token.{Lexeme};
-ghost use Rattle.smi_module.specs.Mark.{Stands, same_text};
+ghost use Rattle.smi_text.specs.lexer.Token.{Lexeme};
+ghost use Rattle.smi_text.specs.trees.Mark.{Stands, same_text};
 ghost use Rattle.smi_text.specs.Names.{has};
-ghost use Rattle.smi_module.specs.Spelling.{spelling};
-ghost use Rattle.smi_module.specs.Lines.{plain, unlined};
+ghost use Rattle.smi_text.specs.trees.Spelling.{spelling};
+ghost use Rattle.smi_text.specs.trees.Lines.{plain, unlined};
 ghost use Rattle.smi_text.specs.Returned.{ReadsDefinitions, ReadsModule, ReadsModules};
 ghost use Rattle.smi_text.specs.Returned.{NewDefinitionFault, DefinitionsFault};
 ghost use Rattle.smi_text.specs.Returned.{ModuleFault, ModulesFault};
 ghost use Rattle.smi_text.specs.Returned.{IsLabelAhead};
 ghost use Rattle.smi_text.specs.Returned.{IsCauseOf};
 ghost use Rattle.smi_text.specs.Text.{AreSpelledBy, HasNoDoubles, IsCause, BreaksOff};
-ghost use Rattle.smi_module.specs.Braces.{IsBalanced};
+ghost use Rattle.smi_text.specs.trees.Braces.{IsBalanced};
 ghost use Rattle.smi_text.specs.Grammar.{definition, is_balanced};
-ghost use Rattle.smi_module.specs.declared.tree.Module.{Module as Tree};
-ghost use Rattle.smi_module.specs.declared.tree.TokenText.{TokenText};
+ghost use Rattle.smi_text.specs.declared.trees.tree.Module.{Module as Tree};
+ghost use Rattle.smi_text.specs.declared.trees.tree.TokenText.{TokenText};
 
 use crate::error::ParseError;
 use crate::names;
 use crate::parser::{Parser, keep};
-use smi_lexer::{LexError, Lexer};
-use smi_module::{Def, Items, Module};
+use crate::lexer::{LexError, Lexer};
+use crate::trees::{Def, Items, Module};
 use std::alloc::Global;
 use std::collections::BTreeSet;
 

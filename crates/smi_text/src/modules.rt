@@ -1,19 +1,19 @@
 //! Modules, with what they import (RFC 2578, section 3).
-#![tactic(auto, unfolding(crate::specs::Format::begins, crate::specs::Format::pair, crate::specs::Format::behind, crate::specs::Format::before, crate::specs::Format::maybe, crate::specs::Format::either, crate::specs::Format::shaped, crate::specs::Format::some_of, crate::specs::Format::separated, crate::specs::Format::lined, crate::specs::Format::lower, crate::specs::Format::word, crate::specs::Format::token, crate::specs::Format::text, crate::specs::Format::text_where, crate::specs::Format::name, crate::specs::Grammar::braced, crate::specs::Grammar::imported_symbol, crate::specs::Grammar::import_clause, crate::specs::Grammar::imports, crate::specs::Grammar::heading, crate::specs::Grammar::opening, crate::specs::Grammar::head, crate::specs::Grammar::module_text, smi_module::specs::Number::is_symbol))]
+#![tactic(auto, unfolding(crate::specs::Format::begins, crate::specs::Format::pair, crate::specs::Format::behind, crate::specs::Format::before, crate::specs::Format::maybe, crate::specs::Format::either, crate::specs::Format::shaped, crate::specs::Format::some_of, crate::specs::Format::separated, crate::specs::Format::lined, crate::specs::Format::lower, crate::specs::Format::word, crate::specs::Format::token, crate::specs::Format::text, crate::specs::Format::text_where, crate::specs::Format::name, crate::specs::Grammar::braced, crate::specs::Grammar::imported_symbol, crate::specs::Grammar::import_clause, crate::specs::Grammar::imports, crate::specs::Grammar::heading, crate::specs::Grammar::opening, crate::specs::Grammar::head, crate::specs::Grammar::module_text, crate::specs::trees::Number::is_symbol))]
 
 ghost use Rattle.std.specs.Prelude.{◌≡◌, List, [], ◌∷◌, codes};
 ghost use Rattle.smi_text.specs.Format.{begins, a_word, a_kind, a_name};
 ghost use Rattle.smi_text.specs.Format as format;
 ghost use Rattle.smi_text.specs.Grammar as grammar;
-ghost use Rattle.smi_lexer.specs.declared.token.TokenKind.TheVariants as kinds;
-ghost use Rattle.smi_module.specs.Number as number;
+ghost use Rattle.smi_text.specs.declared.lexer.token.TokenKind.TheVariants as kinds;
+ghost use Rattle.smi_text.specs.trees.Number as number;
 ghost use Rattle.smi_text.specs.Returned.{ReturnsReading};
 
 use crate::parser::{AfterComma, Parser, Production};
 use crate::stop::Stop;
 use crate::syntax::HeadingPart;
-use smi_lexer::TokenKind;
-use smi_module::{Import, Items, Name, Part, TokenText, is_macro, is_reserved};
+use crate::lexer::TokenKind;
+use crate::trees::{Import, Items, Name, Part, TokenText, is_macro, is_reserved};
 
 /// A module up to its definitions.
 #[derive(Debug, Drop)]

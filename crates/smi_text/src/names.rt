@@ -1,7 +1,7 @@
 //! The names that a module has defined so far.
 
 ghost use Rattle.std.specs.Prelude.{◌≡◌, ℕ, List, ◌||◌, not, IfOk, IfErr};
-ghost use Rattle.smi_module.specs.Mark.{same_text};
+ghost use Rattle.smi_text.specs.trees.Mark.{same_text};
 ghost use Rattle.smi_text.specs.Names.{has};
 
 use crate::stop::Stop;

@@ -3,19 +3,19 @@
 
 ghost use Rattle.std.specs.Prelude.{◌≡◌, ℕ, true, false, MatchBool, List, [], ◌∷◌, codes, map};
 ghost use Rattle.std.specs.Prelude.{drop, IfNone, IfSome, IfOk, IfErr, OnOk, ◌++◌, ◌<◌, length};
-ghost use Rattle.smi_lexer.specs.Token.{Lexeme, Item, lexeme_of};
+ghost use Rattle.smi_text.specs.lexer.Token.{Lexeme, Item, lexeme_of};
 ghost use Rattle.smi_text.specs.Format.{Format, begins, token_ahead, a_word, a_kind, a_name};
 ghost use Rattle.smi_text.specs.Format.{line_ahead, name_of, with_front};
 ghost use Rattle.smi_text.specs.Kinds.{is_sign_kind, is_word_kind};
 ghost use Rattle.smi_text.specs.Format as format;
-ghost use Rattle.smi_lexer.specs.Lexes.{Lexes};
+ghost use Rattle.smi_text.specs.lexer.Lexes.{Lexes};
 ghost use Rattle.smi_text.specs.Returned.{ReturnsReading, is_memory};
 ghost use Rattle.smi_text.specs.Grammar as grammar;
-ghost use Rattle.smi_lexer.specs.declared.token.TokenKind.TheVariants as kinds;
+ghost use Rattle.smi_text.specs.declared.lexer.token.TokenKind.TheVariants as kinds;
 
 use crate::stop::Stop;
-use smi_lexer::{LexError, Lexer, Token, TokenKind};
-use smi_module::{Items, Name, Text, TokenText, is_reserved};
+use crate::lexer::{LexError, Lexer, Token, TokenKind};
+use crate::trees::{Items, Name, Text, TokenText, is_reserved};
 use std::alloc::Global;
 use std::collections::BTreeSet;
 use std::marker::Model;
@@ -33,7 +33,7 @@ pub(crate) struct Parser<'a> {
 
 impl<'a> Model for Parser<'a> {
     ghost use Rattle.std.specs.Prelude.{List};
-    ghost use Rattle.smi_lexer.specs.Token.{Item};
+    ghost use Rattle.smi_text.specs.lexer.Token.{Item};
 
     ghost Value = { List Item };
 

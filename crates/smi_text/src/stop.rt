@@ -1,6 +1,6 @@
 //! Why a step of the parser stops.
 
-use smi_lexer::LexError;
+use crate::lexer::LexError;
 
 /// What ends the reading of a text.
 #[derive(Clone, Copy, Debug)]

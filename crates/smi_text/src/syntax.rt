@@ -5,13 +5,13 @@ ghost use Rattle.std.specs.Prelude.{◌≡◌, List, [], ◌∷◌, codes};
 ghost use Rattle.smi_text.specs.Format.{begins, a_word, a_kind, a_name};
 ghost use Rattle.smi_text.specs.Format as format;
 ghost use Rattle.smi_text.specs.Grammar as grammar;
-ghost use Rattle.smi_module.specs.Number.{is_number};
+ghost use Rattle.smi_text.specs.trees.Number.{is_number};
 ghost use Rattle.smi_text.specs.Returned.{ReturnsReading};
 
 use crate::parser::{AfterBar, AfterComma, Parser, Production};
 use crate::stop::Stop;
-use smi_lexer::TokenKind;
-use smi_module::{
+use crate::lexer::TokenKind;
+use crate::trees::{
     Base, Field, Items, Name, NamedNumber, Part, Range, Refinement, SimpleType, Syntax, Text,
     TokenText, is_arc, is_bound, is_number,
 };

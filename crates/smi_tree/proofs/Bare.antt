@@ -5,15 +5,15 @@ use Rattle.std.proofs.lemmas.Bool.{ne_eqb}
 use Rattle.std.specs.Prelude.{codes}
 use Rattle.std.specs.List.{slice_get}
 use Rattle.std.specs.Option.{option_and_then}
-use Rattle.smi_module.specs.Mark.{same_text}
-use Rattle.smi_branches.specs.Standing.{place_of, IsDeepestAt, HasNoBeginning}
-use Rattle.smi_meaning.specs.Meaning.{or_else}
-use Rattle.smi_name.specs.Naming.{LabelLeadsTo, IsSound}
-use Rattle.smi_nodes.specs.Nodes.{Node, roots, none_yet}
-use Rattle.smi_nodes.specs.Gathered.{root_label}
-use Rattle.smi_types.specs.Types.{Facts}
-use Rattle.smi_index.specs.declared.part.IndexPart.{IndexPart}
-use Rattle.smi_columns.specs.Index.{IsIndex, IsObjectType}
+use Rattle.smi_text.specs.trees.Mark.{same_text}
+use Rattle.smi_tree.specs.branches.Standing.{place_of, IsDeepestAt, HasNoBeginning}
+use Rattle.smi_names.specs.meaning.Meaning.{or_else}
+use Rattle.smi_show.specs.name.Naming.{LabelLeadsTo, IsSound}
+use Rattle.smi_names.specs.nodes.Nodes.{Node, roots, none_yet}
+use Rattle.smi_names.specs.nodes.Gathered.{root_label}
+use Rattle.smi_tree.specs.types.Types.{Facts}
+use Rattle.smi_show.specs.declared.index.part.IndexPart.{IndexPart}
+use Rattle.smi_tree.specs.columns.Index.{IsIndex, IsObjectType}
 use Rattle.smi_tree.specs.Nodes.{oids_of, place_anywhere, child_at, child_of, if_labelled, of_lowest}
 use Rattle.smi_tree.specs.Standing.{Longest, longest}
 use Rattle.smi_tree.specs.Shown.{IsSyntaxOf, shown_at}

@@ -5,14 +5,14 @@ use Rattle.std.specs.List.{slice_get, position_from, find}
 use Rattle.std.proofs.lemmas.Bool.{eqb-true}
 use Rattle.std.proofs.Math.Dec.{eqb_refl}
 use Rattle.std.proofs.lemmas.Option.{slice_get-get_or, slice_get_within}
-use Rattle.smi_module.specs.Mark.{same_text}
-use Rattle.smi_module.specs.declared.tree.Module.{Module}
-use Rattle.smi_module.specs.declared.tree.Def.{Def}
-use Rattle.smi_meaning.specs.Names.{module_place}
-use Rattle.smi_nodes.specs.Nodes.{Node}
-use Rattle.smi_nodes.specs.Gathered.{node_from, node_from_def, def_of_module, nodes_of}
-use Rattle.smi_nodes.specs.declared.source.Source.{Source}
-use Rattle.smi_nodes.specs.declared.source.Source.TheVariants as S
+use Rattle.smi_text.specs.trees.Mark.{same_text}
+use Rattle.smi_text.specs.declared.trees.tree.Module.{Module}
+use Rattle.smi_text.specs.declared.trees.tree.Def.{Def}
+use Rattle.smi_names.specs.meaning.Names.{module_place}
+use Rattle.smi_names.specs.nodes.Nodes.{Node}
+use Rattle.smi_names.specs.nodes.Gathered.{node_from, node_from_def, def_of_module, nodes_of}
+use Rattle.smi_names.specs.declared.nodes.source.Source.{Source}
+use Rattle.smi_names.specs.declared.nodes.source.Source.TheVariants as S
 use Rattle.smi_tree.specs.Nodes.{has_label, is_named, is_of, is_labelled, place_in_module, place_anywhere, oids_of}
 use Rattle.smi_tree.specs.Places.{Places, kept_place, place_at, home_from, label_from, definition_from, label_in, is_this, place_of_home, is_in, AreScopes}
 use Rattle.smi_tree.specs.Places as places

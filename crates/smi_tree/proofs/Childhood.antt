@@ -9,9 +9,9 @@ use Rattle.std.specs.Cmp.{ranked}
 use Rattle.std.specs.Cmp.Lexicographic.{pointwise}
 use Rattle.std.proofs.lemmas.Bool.{cases_eq}
 use Rattle.std.proofs.lemmas.Slice.Eq.{bytes_eq-Decides}
-use Rattle.smi_branches.specs.Standing.{place_of, AreChildren}
-use Rattle.smi_meaning.specs.Meaning.{or_else}
-use Rattle.smi_nodes.specs.Nodes.{Node}
+use Rattle.smi_tree.specs.branches.Standing.{place_of, AreChildren}
+use Rattle.smi_names.specs.meaning.Meaning.{or_else}
+use Rattle.smi_names.specs.nodes.Nodes.{Node}
 use Rattle.smi_tree.specs.Nodes.{is_labelled, if_labelled, of_lowest, last_number, highest, child_at, child_of, oids_of}
 
 -- what the first of numbers gives that gives anything

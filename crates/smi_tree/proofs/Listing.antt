@@ -4,8 +4,8 @@ use Rattle.std.proofs.Common.{Option, Some, None, is_some, refl, sym, ◌∙◌,
 use Rattle.std.proofs.lemmas.Slice.Eq.{bytes_eq-Decides}
 use Rattle.std.proofs.lemmas.List.{take_more, length-take-le}
 use Rattle.std.specs.List.{position_from}
-use Rattle.smi_module.specs.Mark.{same_text}
-use Rattle.smi_meaning.specs.Meaning.{or_else}
+use Rattle.smi_text.specs.trees.Mark.{same_text}
+use Rattle.smi_names.specs.meaning.Meaning.{or_else}
 use Rattle.smi_tree.specs.Places.{Places, kept_place}
 
 pub none_of : {A : Type 0} (r : Option A) → is_some r ≡ false → r ≡ None

@@ -2,8 +2,8 @@
 use Rattle.std.proofs.Common.{◌≡◌, ◌≢◌, ℕ, zero, suc, ◌≤◌, ◌⊎◌, inl, inr, List, length, take}
 use Rattle.std.proofs.Common.{Some, None, refl, arith}
 use Rattle.std.proofs.lemmas.Bool.{cases_eq}
-use Rattle.smi_branches.specs.Standing.{place_of, IsDeepestAt, HasNoBeginning}
-use Rattle.smi_meaning.specs.Meaning.{or_else}
+use Rattle.smi_tree.specs.branches.Standing.{place_of, IsDeepestAt, HasNoBeginning}
+use Rattle.smi_names.specs.meaning.Meaning.{or_else}
 use Rattle.smi_tree.specs.Standing.{at_depth, longest_up_to}
 
 up_to-some : (oids : List (List ℕ)) (o : List ℕ) (p d j : ℕ) → IsDeepestAt oids o p d → d ≤ j → j ≤ length o

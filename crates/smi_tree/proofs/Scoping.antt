@@ -5,11 +5,11 @@ use Rattle.std.proofs.Math.ListN.{length-set}
 use Rattle.std.proofs.lemmas.Bool.{eqb-true, eqb-false}
 use Rattle.std.proofs.lemmas.Option.{slice_get-get_or}
 use Rattle.std.specs.List.{slice_get, position_from}
-use Rattle.smi_module.specs.Mark.{same_text}
-use Rattle.smi_module.specs.declared.tree.Module.{Module}
-use Rattle.smi_meaning.specs.Meaning.{or_else}
-use Rattle.smi_meaning.specs.Names.{module_place}
-use Rattle.smi_nodes.specs.declared.source.Source.{Source}
+use Rattle.smi_text.specs.trees.Mark.{same_text}
+use Rattle.smi_text.specs.declared.trees.tree.Module.{Module}
+use Rattle.smi_names.specs.meaning.Meaning.{or_else}
+use Rattle.smi_names.specs.meaning.Names.{module_place}
+use Rattle.smi_names.specs.declared.nodes.source.Source.{Source}
 use Rattle.smi_tree.specs.Places.{Places, kept_place, place_at, home_from, label_from, is_in, Puts, AreScopes}
 use Rattle.smi_tree.proofs.Listing.{or_else_none, position-at}
 

@@ -2,14 +2,14 @@
 use Rattle.std.proofs.Common.{◌≡◌, ℕ, zero, suc, ◌<◌, List, [], ◌∷◌, ◌++◌, length, Option, Some, None, slice_index_or, refl, sym, ap, ◌∙◌, arith}
 use Rattle.std.proofs.lemmas.List.{ext_get_or}
 use Rattle.std.specs.List.{slice_get}
-use Rattle.smi_module.specs.declared.tree.Module.{Module}
-use Rattle.smi_meaning.specs.Meaning.{QualifiedName}
-use Rattle.smi_nodes.specs.Nodes.{Node, roots, Loads}
-use Rattle.smi_nodes.specs.declared.warning.Warning.{Warning}
-use Rattle.smi_types.specs.Chain.{TypeOrigin}
-use Rattle.smi_types.specs.Types.{Facts, HasSyntax, object_in}
-use Rattle.smi_columns.specs.Index.{AreIndexesOf}
-use Rattle.smi_index.specs.declared.part.IndexPart.{IndexPart}
+use Rattle.smi_text.specs.declared.trees.tree.Module.{Module}
+use Rattle.smi_names.specs.meaning.Meaning.{QualifiedName}
+use Rattle.smi_names.specs.nodes.Nodes.{Node, roots, Loads}
+use Rattle.smi_names.specs.declared.nodes.warning.Warning.{Warning}
+use Rattle.smi_tree.specs.types.Chain.{TypeOrigin}
+use Rattle.smi_tree.specs.types.Types.{Facts, HasSyntax, object_in}
+use Rattle.smi_tree.specs.columns.Index.{AreIndexesOf}
+use Rattle.smi_show.specs.declared.index.part.IndexPart.{IndexPart}
 use Rattle.smi_tree.specs.Shown.{IsSyntaxOf, AreSyntaxesOf}
 use Rattle.smi_tree.specs.Tree.{Contents, IsTree}
 

@@ -6,14 +6,14 @@ use Rattle.std.specs.List.{slice_get, position_from}
 use Rattle.std.specs.Option.{option_and_then}
 use Rattle.std.specs.Cmp.Lexicographic.{pointwise}
 use Rattle.std.proofs.lemmas.Slice.Eq.{bytes_eq-Decides}
-use Rattle.smi_module.specs.Mark.{same_text}
-use Rattle.smi_module.specs.Word.{is_word}
-use Rattle.smi_module.specs.declared.tree.Module.{Module}
-use Rattle.smi_meaning.specs.Meaning.{Means, QualifiedName, or_else}
-use Rattle.smi_branches.specs.Standing.{place_of}
-use Rattle.smi_name.specs.Naming.{Naming, Standing, LabelLeadsTo, IsSound}
-use Rattle.smi_nodes.specs.Nodes.{Node, node_of_root, roots, Loads}
-use Rattle.smi_nodes.specs.declared.warning.Warning.{Warning}
+use Rattle.smi_text.specs.trees.Mark.{same_text}
+use Rattle.smi_text.specs.trees.Word.{is_word}
+use Rattle.smi_text.specs.declared.trees.tree.Module.{Module}
+use Rattle.smi_names.specs.meaning.Meaning.{Means, QualifiedName, or_else}
+use Rattle.smi_tree.specs.branches.Standing.{place_of}
+use Rattle.smi_show.specs.name.Naming.{Naming, Standing, LabelLeadsTo, IsSound}
+use Rattle.smi_names.specs.nodes.Nodes.{Node, node_of_root, roots, Loads}
+use Rattle.smi_names.specs.declared.nodes.warning.Warning.{Warning}
 use Rattle.smi_tree.specs.Nodes.{oids_of, is_of, place_in_module, place_anywhere}
 use Rattle.smi_tree.specs.Standing.{Longest, at_depth, longest_up_to, longest}
 use Rattle.smi_tree.specs.Tree.{Contents}

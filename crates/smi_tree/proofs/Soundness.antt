@@ -2,15 +2,15 @@
 use Rattle.std.proofs.Common.{◌≡◌, ℕ, zero, suc, ◌⊎◌, inl, inr, Bool, true, false, cond, List, [], ◌∷◌, ◌++◌}
 use Rattle.std.proofs.Common.{Option, Some, None, is_some, refl, subst}
 use Rattle.std.specs.List.{slice_get}
-use Rattle.smi_links.specs.declared.basis.Resolution.TheVariants as R
-use Rattle.smi_module.specs.Mark.{same_text}
-use Rattle.smi_module.specs.Lookup.{identifier_value_of}
-use Rattle.smi_module.specs.declared.tree.Module.{Module}
-use Rattle.smi_module.specs.declared.tree.Def.{Def}
-use Rattle.smi_module.specs.declared.tree.Part.{Part}
-use Rattle.smi_meaning.specs.Meaning.{Means, module_named}
-use Rattle.smi_nodes.specs.Nodes.{Node, node_of, roots, GivesNodesBy, Gathers, none, more, is_loaded, Brings, left_out, loaded, Loads, none_yet, then_module}
-use Rattle.smi_nodes.specs.declared.warning.Warning.{Warning}
+use Rattle.smi_names.specs.declared.links.basis.Resolution.TheVariants as R
+use Rattle.smi_text.specs.trees.Mark.{same_text}
+use Rattle.smi_text.specs.trees.Lookup.{identifier_value_of}
+use Rattle.smi_text.specs.declared.trees.tree.Module.{Module}
+use Rattle.smi_text.specs.declared.trees.tree.Def.{Def}
+use Rattle.smi_text.specs.declared.trees.tree.Part.{Part}
+use Rattle.smi_names.specs.meaning.Meaning.{Means, module_named}
+use Rattle.smi_names.specs.nodes.Nodes.{Node, node_of, roots, GivesNodesBy, Gathers, none, more, is_loaded, Brings, left_out, loaded, Loads, none_yet, then_module}
+use Rattle.smi_names.specs.declared.nodes.warning.Warning.{Warning}
 use Rattle.smi_tree.proofs.Listing.{same_itself}
 
 -- a node of a module that is loaded, whose label means its identifier

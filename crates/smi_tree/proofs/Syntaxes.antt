@@ -2,22 +2,22 @@
 use Rattle.std.proofs.Common.{◌≡◌, ℕ, zero, suc, List, [], ◌∷◌, MatchOption, Option, Some, None, slice_index_or, length, refl, sym, ap, ◌∙◌, arith}
 use Rattle.std.specs.List.{slice_get}
 use Rattle.std.specs.Option.{option_and_then}
-use Rattle.smi_module.specs.declared.tree.Module.{Module}
-use Rattle.smi_meaning.specs.Meaning.{QualifiedName}
-use Rattle.smi_nodes.specs.Nodes.{Node}
-use Rattle.smi_nodes.specs.Gathered.{node_from, nodes_of, AreGathered}
-use Rattle.smi_nodes.specs.declared.gather.Gathered.{Gathered}
-use Rattle.smi_nodes.specs.Gathered as gathered
-use Rattle.smi_nodes.specs.declared.source.Source.{Source}
-use Rattle.smi_nodes.specs.declared.source.Source.TheVariants as S
-use Rattle.smi_types.specs.Chain.{TypeOrigin, no_type}
-use Rattle.smi_types.specs.Types.{Facts, HasSyntax, HasNoSyntax, object_in, object_origin}
-use Rattle.smi_types.specs.Kept.{kept_syntax}
-use Rattle.smi_types.specs.declared.types.Types.{Types}
+use Rattle.smi_text.specs.declared.trees.tree.Module.{Module}
+use Rattle.smi_names.specs.meaning.Meaning.{QualifiedName}
+use Rattle.smi_names.specs.nodes.Nodes.{Node}
+use Rattle.smi_names.specs.nodes.Gathered.{node_from, nodes_of, AreGathered}
+use Rattle.smi_names.specs.declared.nodes.gather.Gathered.{Gathered}
+use Rattle.smi_names.specs.nodes.Gathered as gathered
+use Rattle.smi_names.specs.declared.nodes.source.Source.{Source}
+use Rattle.smi_names.specs.declared.nodes.source.Source.TheVariants as S
+use Rattle.smi_tree.specs.types.Chain.{TypeOrigin, no_type}
+use Rattle.smi_tree.specs.types.Types.{Facts, HasSyntax, HasNoSyntax, object_in, object_origin}
+use Rattle.smi_tree.specs.types.Kept.{kept_syntax}
+use Rattle.smi_tree.specs.declared.types.types.Types.{Types}
 use Rattle.smi_tree.specs.Places.{definition_from}
 use Rattle.smi_tree.specs.Shown.{IsSyntaxOf, AreSyntaxesOf, syntax_from, syntaxes_from, units_of, units_at}
-use Rattle.smi_index.specs.declared.part.IndexPart.{IndexPart}
-use Rattle.smi_columns.specs.Index.{AreIndexesOf}
+use Rattle.smi_show.specs.declared.index.part.IndexPart.{IndexPart}
+use Rattle.smi_tree.specs.columns.Index.{AreIndexesOf}
 use Rattle.smi_tree.specs.Tree.{IsTree}
 use Rattle.smi_tree.specs.Kept.{contents}
 use Rattle.smi_tree.proofs.Bridging.{parts, node-none}

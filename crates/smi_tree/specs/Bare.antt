@@ -1,6 +1,6 @@
 -- The tree of no modules (RFC 2578, section 2).
 use Rattle.std.specs.Prelude.{[], ◌∷◌, None}
-use Rattle.smi_nodes.specs.Nodes.{roots}
+use Rattle.smi_names.specs.nodes.Nodes.{roots}
 use Rattle.smi_tree.specs.Tree.{Contents}
 
 -- the three roots, which have no syntax and no index

@@ -7,3 +7,6 @@ pub mod Bare
 pub mod Kept
 pub mod Resolved
 pub mod Naming
+pub mod branches
+pub mod types
+pub mod columns

@@ -2,12 +2,12 @@
 use Rattle.std.specs.Prelude.{ℕ, List, Option, None, is_some, option_map, slice_index_or}
 use Rattle.std.specs.List.{slice_get}
 use Rattle.std.specs.Option.{option_and_then}
-use Rattle.smi_index.specs.declared.part.IndexPart.{IndexPart}
-use Rattle.smi_module.specs.declared.tree.Module.{Module}
-use Rattle.smi_module.specs.declared.tree.Def.{Def}
-use Rattle.smi_meaning.specs.Meaning.{module_named}
-use Rattle.smi_nodes.specs.Nodes.{Node, roots}
-use Rattle.smi_name.specs.Naming.{Naming, Standing}
+use Rattle.smi_show.specs.declared.index.part.IndexPart.{IndexPart}
+use Rattle.smi_text.specs.declared.trees.tree.Module.{Module}
+use Rattle.smi_text.specs.declared.trees.tree.Def.{Def}
+use Rattle.smi_names.specs.meaning.Meaning.{module_named}
+use Rattle.smi_names.specs.nodes.Nodes.{Node, roots}
+use Rattle.smi_show.specs.name.Naming.{Naming, Standing}
 use Rattle.smi_value.specs.Syntax.{ObjectSyntax}
 use Rattle.smi_tree.specs.Shown.{shown_at}
 use Rattle.smi_tree.specs.Nodes.{oids_of, place_in_module, place_anywhere, child_of}

@@ -20,11 +20,11 @@ use Rattle.std.specs.Prelude.{
   if◌then◌else◌,
 }
 use Rattle.std.specs.List.{slice_get, position_from}
-use Rattle.smi_module.specs.Mark.{same_text}
-use Rattle.smi_module.specs.declared.tree.Module.{Module}
-use Rattle.smi_branches.specs.Standing.{place_of}
-use Rattle.smi_meaning.specs.Meaning.{or_else}
-use Rattle.smi_nodes.specs.Nodes.{Node}
+use Rattle.smi_text.specs.trees.Mark.{same_text}
+use Rattle.smi_text.specs.declared.trees.tree.Module.{Module}
+use Rattle.smi_tree.specs.branches.Standing.{place_of}
+use Rattle.smi_names.specs.meaning.Meaning.{or_else}
+use Rattle.smi_names.specs.nodes.Nodes.{Node}
 
 -- the node is of this label
 abbrev pub has_label : List ℕ → Node → Bool

@@ -7,14 +7,14 @@ use Rattle.std.specs.Option.{option_and_then}
 use Rattle.std.specs.Ordering.{nat_cmp}
 use Rattle.std.specs.BTreeMap.{BTreeMap, get_by}
 use Rattle.std.specs.Cmp.Lexicographic.{slice_cmp}
-use Rattle.smi_module.specs.Mark.{same_text}
-use Rattle.smi_module.specs.declared.tree.Module.{Module}
-use Rattle.smi_module.specs.declared.tree.Def.{Def}
-use Rattle.smi_meaning.specs.Meaning.{or_else}
-use Rattle.smi_meaning.specs.Names.{module_place}
-use Rattle.smi_nodes.specs.Gathered.{root_label, def_of_module}
-use Rattle.smi_nodes.specs.declared.source.Source.{Source}
-use Rattle.smi_nodes.specs.declared.source.Source.TheVariants as S
+use Rattle.smi_text.specs.trees.Mark.{same_text}
+use Rattle.smi_text.specs.declared.trees.tree.Module.{Module}
+use Rattle.smi_text.specs.declared.trees.tree.Def.{Def}
+use Rattle.smi_names.specs.meaning.Meaning.{or_else}
+use Rattle.smi_names.specs.meaning.Names.{module_place}
+use Rattle.smi_names.specs.nodes.Gathered.{root_label, def_of_module}
+use Rattle.smi_names.specs.declared.nodes.source.Source.{Source}
+use Rattle.smi_names.specs.declared.nodes.source.Source.TheVariants as S
 
 abbrev pub home_from : List Module → Source → Option Module
 home_from ms (S.Root n) = None

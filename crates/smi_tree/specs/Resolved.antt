@@ -1,6 +1,6 @@
 -- What modules define, resolved.
 use Rattle.std.specs.Prelude.{◌≡◌, List, length}
-use Rattle.smi_module.specs.declared.tree.Module.{Module}
+use Rattle.smi_text.specs.declared.trees.tree.Module.{Module}
 use Rattle.smi_tree.specs.Tree.{IsTree}
 use Rattle.smi_tree.specs.Kept.{contents}
 use Rattle.smi_tree.specs.declared.tree.Resolved.{Resolved}

@@ -19,17 +19,17 @@ use Rattle.std.specs.Prelude.{
 }
 use Rattle.std.specs.List.{slice_get}
 use Rattle.std.specs.Option.{option_and_then}
-use Rattle.smi_module.specs.declared.tree.Module.{Module}
-use Rattle.smi_module.specs.declared.tree.DefKind.{DefKind}
-use Rattle.smi_module.specs.declared.tree.DefKind.TheVariants as D
-use Rattle.smi_nodes.specs.Nodes.{Node}
-use Rattle.smi_nodes.specs.declared.source.Source.{Source}
-use Rattle.smi_nodes.specs.declared.source.Source.TheVariants as S
-use Rattle.smi_types.specs.Types.{Facts, HasSyntax, HasNoSyntax, object_in}
-use Rattle.smi_types.specs.Kept.{kept_syntax}
-use Rattle.smi_types.specs.declared.base.TypeBase.{TypeBase}
-use Rattle.smi_types.specs.declared.base.TypeBase.TheVariants as T
-use Rattle.smi_types.specs.declared.types.Types.{Types}
+use Rattle.smi_text.specs.declared.trees.tree.Module.{Module}
+use Rattle.smi_text.specs.declared.trees.tree.DefKind.{DefKind}
+use Rattle.smi_text.specs.declared.trees.tree.DefKind.TheVariants as D
+use Rattle.smi_names.specs.nodes.Nodes.{Node}
+use Rattle.smi_names.specs.declared.nodes.source.Source.{Source}
+use Rattle.smi_names.specs.declared.nodes.source.Source.TheVariants as S
+use Rattle.smi_tree.specs.types.Types.{Facts, HasSyntax, HasNoSyntax, object_in}
+use Rattle.smi_tree.specs.types.Kept.{kept_syntax}
+use Rattle.smi_tree.specs.declared.types.base.TypeBase.{TypeBase}
+use Rattle.smi_tree.specs.declared.types.base.TypeBase.TheVariants as T
+use Rattle.smi_tree.specs.declared.types.types.Types.{Types}
 use Rattle.smi_value.specs.Syntax.{ObjectSyntax}
 use Rattle.smi_value.specs.declared.base.ValueBase.{ValueBase}
 use Rattle.smi_value.specs.declared.base.ValueBase.TheVariants as V

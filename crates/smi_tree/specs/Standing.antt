@@ -2,11 +2,11 @@
 use Rattle.std.specs.Prelude.{ℕ, zero, suc, List, [], length, take, Option, Some, None}
 use Rattle.std.specs.List.{slice_get}
 use Rattle.std.specs.Option.{option_and_then}
-use Rattle.smi_branches.specs.Standing.{place_of}
-use Rattle.smi_branches.specs.declared.identifiers.Deepest.{Deepest}
-use Rattle.smi_meaning.specs.Meaning.{or_else}
-use Rattle.smi_module.specs.declared.tree.Def.{Def}
-use Rattle.smi_nodes.specs.Nodes.{Node}
+use Rattle.smi_tree.specs.branches.Standing.{place_of}
+use Rattle.smi_tree.specs.declared.branches.identifiers.Deepest.{Deepest}
+use Rattle.smi_names.specs.meaning.Meaning.{or_else}
+use Rattle.smi_text.specs.declared.trees.tree.Def.{Def}
+use Rattle.smi_names.specs.nodes.Nodes.{Node}
 use Rattle.smi_tree.specs.Nodes.{oids_of}
 
 -- a place, and how many numbers the beginning has for which it stands

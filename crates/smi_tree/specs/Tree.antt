@@ -1,12 +1,12 @@
 -- What a tree of names holds.
 use Rattle.std.specs.Prelude.{◌≡◌, List, ◌++◌, Option}
 use Rattle.std.specs.Option.{option_copied}
-use Rattle.smi_module.specs.declared.tree.Module.{Module}
-use Rattle.smi_nodes.specs.Nodes.{Node, roots, Loads}
-use Rattle.smi_nodes.specs.declared.warning.Warning.{Warning}
-use Rattle.smi_types.specs.Types.{Facts}
-use Rattle.smi_columns.specs.Index.{AreIndexesOf}
-use Rattle.smi_index.specs.declared.part.IndexPart.{IndexPart}
+use Rattle.smi_text.specs.declared.trees.tree.Module.{Module}
+use Rattle.smi_names.specs.nodes.Nodes.{Node, roots, Loads}
+use Rattle.smi_names.specs.declared.nodes.warning.Warning.{Warning}
+use Rattle.smi_tree.specs.types.Types.{Facts}
+use Rattle.smi_tree.specs.columns.Index.{AreIndexesOf}
+use Rattle.smi_show.specs.declared.index.part.IndexPart.{IndexPart}
 use Rattle.smi_tree.specs.Shown.{AreSyntaxesOf}
 use Rattle.smi_tree.specs.declared.node.Node.{Node as Seen}
 

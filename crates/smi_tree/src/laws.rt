@@ -1,13 +1,13 @@
 //! Laws of trees of names, for any modules.
 ghost use Rattle.std.specs.Prelude.{◌≡◌, List, []};
-ghost use Rattle.smi_module.specs.declared.tree.Module.{Module};
-ghost use Rattle.smi_nodes.specs.declared.warning.Warning.{Warning};
+ghost use Rattle.smi_text.specs.declared.trees.tree.Module.{Module};
+ghost use Rattle.smi_names.specs.declared.nodes.warning.Warning.{Warning};
 ghost use Rattle.smi_tree.specs.Bare.{bare};
 ghost use Rattle.smi_tree.specs.Tree.{Contents, IsTree};
 
-use smi_columns::one_list_of_indexes;
-use smi_nodes::one_loading;
-use smi_types::one_syntax;
+use crate::columns::one_list_of_indexes;
+use smi_names::nodes::one_loading;
+use crate::types::one_syntax;
 
 /// Modules have one tree at most, with one list of warnings.
 ///

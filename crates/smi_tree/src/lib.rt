@@ -4,6 +4,9 @@
 //! values and details are shown by it, and words of the command line are read by it.
 #![tactic(auto)]
 
+pub mod branches;
+pub mod types;
+pub mod columns;
 mod detail;
 mod laws;
 mod naming;
@@ -17,7 +20,7 @@ mod tree;
 pub use laws::{bare_tree, one_tree};
 pub use node::Node;
 pub use roots::Roots;
-pub use smi_branches::{Children, Deepest};
-pub use smi_nodes::Warning;
-pub use smi_types::TypeSyntax;
+pub use crate::branches::{Children, Deepest};
+pub use smi_names::nodes::Warning;
+pub use crate::types::TypeSyntax;
 pub use tree::{NodeId, Tree};

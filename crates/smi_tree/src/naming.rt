@@ -1,17 +1,17 @@
 //! The tree as names are read and shown by it.
 ghost use Rattle.std.specs.Prelude.{◌≡◌, ◌<◌, length, Some};
 ghost use Rattle.std.specs.Option.{option_copied};
-ghost use Rattle.smi_name.specs.Standing.{standing_of as seen_as};
-ghost use Rattle.smi_nodes.specs.Nodes.{roots};
+ghost use Rattle.smi_show.specs.name.Standing.{standing_of as seen_as};
+ghost use Rattle.smi_names.specs.nodes.Nodes.{roots};
 ghost use Rattle.smi_tree.specs.Nodes.{place_anywhere};
 ghost use Rattle.smi_tree.specs.Naming.{home_name, standing_of_longest};
 ghost use Rattle.smi_tree.specs.Standing.{longest_of};
 
 use crate::tree::Tree;
-use smi_branches::Deepest;
-use smi_meaning::one_meaning;
-use smi_module::Module;
-use smi_name::{NameTree, Node};
+use crate::branches::Deepest;
+use smi_names::meaning::one_meaning;
+use smi_text::trees::Module;
+use smi_show::name::{NameTree, Node};
 use snmp_oid::Oid;
 
 impl Tree {

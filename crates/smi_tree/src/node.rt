@@ -2,11 +2,11 @@
 ghost use Rattle.std.specs.Prelude.{◌≡◌, ℕ, List};
 ghost use Rattle.std.specs.List.{slice_get};
 ghost use Rattle.std.specs.Option.{option_copied};
-ghost use Rattle.smi_nodes.specs.Gathered.{root_label};
+ghost use Rattle.smi_names.specs.nodes.Gathered.{root_label};
 ghost use Rattle.smi_tree.specs.Places.{home_from, label_from, definition_from};
 
-use smi_module::{Def, Module};
-use smi_nodes::Source;
+use smi_text::trees::{Def, Module};
+use smi_names::nodes::Source;
 use snmp_oid::Oid;
 
 /// A node of a tree: a definition with an identifier, or a root.

@@ -5,15 +5,15 @@
 ghost use Rattle.std.specs.Prelude.{◌≡◌, ℕ, List, length, Some, None, IfOk, OnOk};
 ghost use Rattle.std.specs.Prelude.{if◌then◌else◌};
 ghost use Rattle.std.specs.List.{position_from};
-ghost use Rattle.smi_module.specs.Mark.{same_text};
-ghost use Rattle.smi_meaning.specs.Meaning.{or_else};
-ghost use Rattle.smi_meaning.specs.Names.{module_place};
+ghost use Rattle.smi_text.specs.trees.Mark.{same_text};
+ghost use Rattle.smi_names.specs.meaning.Meaning.{or_else};
+ghost use Rattle.smi_names.specs.meaning.Names.{module_place};
 ghost use Rattle.smi_tree.specs.Places as places;
 ghost use Rattle.smi_tree.specs.Places.{kept_place, AreEmpty, Puts, AreScopes};
 
 use crate::node::{home, label};
-use smi_module::Module;
-use smi_nodes::Source;
+use smi_text::trees::Module;
+use smi_names::nodes::Source;
 use std::alloc::{AllocError, Global};
 use std::collections::BTreeMap;
 

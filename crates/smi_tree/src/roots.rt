@@ -1,15 +1,15 @@
 //! The tree of names where no modules are loaded.
 ghost use Rattle.std.specs.Prelude.{◌≡◌, [], ◌∷◌};
 ghost use Rattle.std.specs.Option.{option_copied};
-ghost use Rattle.smi_nodes.specs.Nodes.{roots};
+ghost use Rattle.smi_names.specs.nodes.Nodes.{roots};
 ghost use Rattle.smi_tree.specs.Bare.{bare};
 ghost use Rattle.smi_tree.specs.Naming.{oid_of};
 
 use crate::naming::root_place;
 use crate::node::root_label;
-use smi_detail::DetailTree;
-use smi_module::Def;
-use smi_name::{NameTree, Node};
+use smi_show::details::DetailTree;
+use smi_text::trees::Def;
+use smi_show::name::{NameTree, Node};
 use smi_show::ShowTree;
 use smi_value::ValueSyntax;
 use snmp_oid::Oid;
@@ -26,7 +26,7 @@ pub struct Roots {
 
 impl Model for Roots {
     ghost use Rattle.std.specs.Prelude.{◌≡◌};
-    ghost use Rattle.smi_nodes.specs.Nodes.{roots};
+    ghost use Rattle.smi_names.specs.nodes.Nodes.{roots};
     ghost use Rattle.smi_tree.specs.Bare.{bare};
     ghost use Rattle.smi_tree.specs.Nodes.{oids_of};
     ghost use Rattle.smi_tree.specs.Tree.{Contents};

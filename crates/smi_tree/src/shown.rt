@@ -1,19 +1,19 @@
 //! The syntax of objects as values are shown by it.
 ghost use Rattle.std.specs.Prelude.{◌≡◌, ℕ, List, length, option_map};
 ghost use Rattle.std.specs.Option.{option_and_then, option_copied};
-ghost use Rattle.smi_module.specs.declared.tree.Module.{Module};
-ghost use Rattle.smi_nodes.specs.Gathered.{nodes_of};
-ghost use Rattle.smi_nodes.specs.declared.source.Source.{Source};
-ghost use Rattle.smi_types.specs.Kept.{facts_of, AreTypesOf};
-ghost use Rattle.smi_types.specs.declared.types.Types.{Types};
+ghost use Rattle.smi_text.specs.declared.trees.tree.Module.{Module};
+ghost use Rattle.smi_names.specs.nodes.Gathered.{nodes_of};
+ghost use Rattle.smi_names.specs.declared.nodes.source.Source.{Source};
+ghost use Rattle.smi_tree.specs.types.Kept.{facts_of, AreTypesOf};
+ghost use Rattle.smi_tree.specs.declared.types.types.Types.{Types};
 ghost use Rattle.smi_tree.specs.Places.{definition_from};
 ghost use Rattle.smi_tree.specs.Shown.{AreSyntaxesOf, syntax_from, syntaxes_from};
 ghost use Rattle.smi_tree.specs.Shown.{value_base, between_quotes, units_of, shown_syntax};
 
 use crate::node::definition;
-use smi_module::{DefKind, Module, Text};
-use smi_nodes::Source;
-use smi_types::{TypeBase, TypeSyntax, Types, kept_is_right};
+use smi_text::trees::{DefKind, Module, Text};
+use smi_names::nodes::Source;
+use crate::types::{TypeBase, TypeSyntax, Types, kept_is_right};
 use smi_value::{ValueBase, ValueSyntax};
 
 /// The type that a value of a base type has on the wire, where its syntax says more than that.

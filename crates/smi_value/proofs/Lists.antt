@@ -33,7 +33,7 @@ use Rattle.std.proofs.lemmas.List.{take_more, flat_map_more}
 use Rattle.std.proofs.lemmas.List.Folds.{find-append}
 use Rattle.std.proofs.lemmas.List.FromFn.{length-enumerate_from, get_or-enumerate_from}
 use Rattle.std.proofs.Math.Seq.{take-length}
-use Rattle.text_draft.specs.Draft.{Written, Grows, Adds}
+use Rattle.snmp_io.specs.draft.Draft.{Written, Grows, Adds}
 
 -- what is appended in two steps
 pub grows_both : (first middle last : Written) (front back : List ℕ) → Grows first front middle → Grows middle back last → Grows first (front ++ back) last

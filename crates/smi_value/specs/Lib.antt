@@ -1,3 +1,5 @@
 pub mod Syntax
 pub mod Pieces
 pub mod Value
+pub mod letters
+pub mod hint

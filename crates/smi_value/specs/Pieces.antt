@@ -28,13 +28,13 @@ use Rattle.std.specs.Prelude.{
   decimal,
 }
 use Rattle.std.specs.List.{flat_map, list_all, enumerate_from}
-use Rattle.text_draft.specs.Draft.{hexadecimal_octet}
-use Rattle.smi_letters.specs.declared.letters.Letters.{Letters}
-use Rattle.smi_letters.specs.declared.letters.TypeForm.{TypeForm}
-use Rattle.smi_letters.specs.declared.letters.TypeForm.TheVariants as types
-use Rattle.smi_letters.specs.declared.letters.StringForm.{StringForm}
-use Rattle.smi_letters.specs.declared.letters.StringForm.TheVariants as strings
-use Rattle.smi_module.specs.declared.tree.NamedNumber.{NamedNumber}
+use Rattle.snmp_io.specs.draft.Draft.{hexadecimal_octet}
+use Rattle.smi_value.specs.declared.letters.letters.Letters.{Letters}
+use Rattle.smi_value.specs.declared.letters.letters.TypeForm.{TypeForm}
+use Rattle.smi_value.specs.declared.letters.letters.TypeForm.TheVariants as types
+use Rattle.smi_value.specs.declared.letters.letters.StringForm.{StringForm}
+use Rattle.smi_value.specs.declared.letters.letters.StringForm.TheVariants as strings
+use Rattle.smi_text.specs.declared.trees.tree.NamedNumber.{NamedNumber}
 use Rattle.smi_value.specs.Syntax.{name_of_number}
 
 -- values have the words of their types: neither q nor Q is given

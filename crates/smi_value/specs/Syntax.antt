@@ -3,8 +3,8 @@ use Rattle.std.specs.Prelude.{ℕ, ℤ, Bool, true, false, if◌then◌else◌, 
 use Rattle.std.specs.Option.{option_map}
 use Rattle.std.specs.List.{find}
 use Rattle.std.specs.Ordering.{int_eq}
-use Rattle.smi_module.specs.declared.tree.NamedNumber.{NamedNumber}
-use Rattle.smi_module.specs.Number.{stated_number}
+use Rattle.smi_text.specs.declared.trees.tree.NamedNumber.{NamedNumber}
+use Rattle.smi_text.specs.trees.Number.{stated_number}
 use Rattle.smi_value.specs.declared.base.ValueBase.{ValueBase}
 use Rattle.smi_value.specs.declared.base.ValueBase.TheVariants as base
 

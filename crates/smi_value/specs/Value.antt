@@ -2,10 +2,10 @@
 use Rattle.std.specs.Prelude.{◌≡◌, ℕ, ℤ, pos, ◌⊎◌, List, ◌++◌, Option, Some, None, codes, decimal}
 use Rattle.std.specs.Prelude.{MatchBool}
 use Rattle.std.specs.Fmt.{signed_decimal}
-use Rattle.smi_hint.specs.Hint.{IsOfNumbers, IsOfOctets, ShowsNumber}
-use Rattle.smi_hint.specs.Pieces.{ShowsOctets}
-use Rattle.smi_letters.specs.declared.letters.Letters.{Letters}
-use Rattle.snmp_ber.specs.Value.{
+use Rattle.smi_value.specs.hint.Hint.{IsOfNumbers, IsOfOctets, ShowsNumber}
+use Rattle.smi_value.specs.hint.Pieces.{ShowsOctets}
+use Rattle.smi_value.specs.declared.letters.letters.Letters.{Letters}
+use Rattle.snmp_wire.specs.ber.Value.{
   Datum,
   integer_value,
   octet_string,
@@ -13,8 +13,8 @@ use Rattle.snmp_ber.specs.Value.{
   object_id,
   ip_address,
 }
-use Rattle.snmp_ber.specs.Value.{counter32, gauge32, time_ticks, opaque_octets, counter64}
-use Rattle.snmp_ber.specs.Value.{no_such_object, no_such_instance, end_of_mib_view}
+use Rattle.snmp_wire.specs.ber.Value.{counter32, gauge32, time_ticks, opaque_octets, counter64}
+use Rattle.snmp_wire.specs.ber.Value.{no_such_object, no_such_instance, end_of_mib_view}
 use Rattle.smi_value.specs.declared.base.ValueBase.TheVariants as base
 use Rattle.smi_value.specs.Syntax.{ObjectSyntax, syntax_at, is_of_bits, name_of_number}
 use Rattle.smi_value.specs.Pieces.{

@@ -1,6 +1,8 @@
 //! The texts of values, by the letters of `-O` and the syntax of an object, if one is known.
 #![tactic(auto)]
 
+pub mod letters;
+pub mod hint;
 mod base;
 mod pieces;
 mod syntax;

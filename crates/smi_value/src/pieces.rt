@@ -4,7 +4,7 @@ ghost use Rattle.std.specs.Prelude.{decimal, if◌then◌else◌, ◌/◌, ◌^�
 ghost use Rattle.std.specs.Fmt.{signed_decimal};
 ghost use Rattle.std.specs.List.{flat_map, list_all, enumerate_from};
 ghost use Rattle.std.specs.Option.{option_copied};
-ghost use Rattle.text_draft.specs.Draft.{Adds};
+ghost use Rattle.snmp_io.specs.draft.Draft.{Adds};
 ghost use Rattle.smi_value.specs.Pieces.{is_typed, type_word, units_text, is_printable, escaped};
 ghost use Rattle.smi_value.specs.Pieces.{dotted, quoted, dumped, hexadecimal_text, is_text};
 ghost use Rattle.smi_value.specs.Pieces.{string_text, address_text, two_digits, days_text};
@@ -14,9 +14,9 @@ ghost use Rattle.smi_value.specs.Syntax.{name_of_number};
 
 use crate::syntax::name_of;
 use itoa::Buffer;
-use smi_letters::{Letters, StringForm, TypeForm};
-use smi_module::NamedNumber;
-use text_draft::Draft;
+use crate::letters::{Letters, StringForm, TypeForm};
+use smi_text::trees::NamedNumber;
+use snmp_io::draft::Draft;
 
 /// Appends the word of a type, with its colon and blank, unless `q` or `Q` is given.
 pub(crate) fn append_word(draft: &mut Draft, letters: &Letters, word: &[u8])

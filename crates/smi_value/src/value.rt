@@ -1,8 +1,8 @@
 //! The text of a value, or of an exception in its place.
 ghost use Rattle.std.specs.Prelude.{◌≡◌, ◌++◌, List, ℕ, Some, None, pos, codes, true};
 ghost use Rattle.std.specs.Option.{option_copied};
-ghost use Rattle.text_draft.specs.Draft.{Adds};
-ghost use Rattle.snmp_ber.specs.Value.{datum, integer_value, octet_string};
+ghost use Rattle.snmp_io.specs.draft.Draft.{Adds};
+ghost use Rattle.snmp_wire.specs.ber.Value.{datum, integer_value, octet_string};
 ghost use Rattle.smi_value.specs.Syntax.{syntax_at, name_of_number};
 ghost use Rattle.smi_value.specs.Pieces.{type_word};
 ghost use Rattle.smi_value.specs.Value.{IsNumberText, IsTypedNumber, IsIntegerText, IsStringText};
@@ -15,10 +15,10 @@ use crate::pieces::{
     append_units, append_word,
 };
 use crate::syntax::{ValueSyntax, name_of};
-use smi_hint::{Hint, HintValue};
-use smi_letters::Letters;
-use snmp_ber::ValueRef;
-use text_draft::Draft;
+use crate::hint::{Hint, HintValue};
+use crate::letters::Letters;
+use snmp_wire::ber::ValueRef;
+use snmp_io::draft::Draft;
 
 /// Appends the text of a value, or of an exception in its place: its type, a colon, a blank and the
 /// value, as the letters say.

@@ -3,8 +3,8 @@ use Rattle.std.proofs.Common.{◌≡◌, ℕ, List, [], ◌∷◌, refl}
 use Rattle.snmp_wire.specs.declared.kind.Kind.{Kind}
 use Rattle.snmp_wire.specs.declared.kind.Kind.TheVariants as kind
 use Rattle.snmp_wire.specs.Message.{VarBind}
-use Rattle.snmp_table.specs.Exact.{HasOne}
-use Rattle.snmp_table.specs.Table.{MibView, IsGet, IsNext, IsNextAfter}
+use Rattle.snmp_agent.specs.table.Exact.{HasOne}
+use Rattle.snmp_agent.specs.table.Table.{MibView, IsGet, IsNext, IsNextAfter}
 use Rattle.snmp_agent.specs.Reply.{AreAnswers}
 use Rattle.snmp_agent.specs.Answering.{IsPaired, IsAnswer, AreGiven}
 

@@ -6,7 +6,7 @@ use Rattle.snmp_wire.specs.Message.{VarBind, Message}
 use Rattle.snmp_wire.specs.Canon.{canon, canon_binding, canon_bindings, canon_head}
 use Rattle.snmp_wire.specs.Laws.{HasPieces}
 use Rattle.snmp_wire.specs.Sizes.{MessageSizes}
-use Rattle.snmp_table.specs.Table.{MibView}
+use Rattle.snmp_agent.specs.table.Table.{MibView}
 use Rattle.snmp_agent.specs.Reply.{Fits, IsBulk, IsLongestFront, bulk, no_error, response}
 use Rattle.snmp_agent.specs.Answering.{HoldsBindings, IsResponseWritten, IsResponseTooLong, HasNoRoom, HoldsFront, IsRoom, PassesLimit, whole_size}
 use Rattle.snmp_agent.proofs.Requests.{bare, response_size, sealed, sealed_size}

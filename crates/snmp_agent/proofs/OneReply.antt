@@ -4,8 +4,8 @@ use Rattle.snmp_wire.specs.declared.kind.Kind.TheVariants as kind
 use Rattle.snmp_wire.specs.Message.{VarBind, Message}
 use Rattle.snmp_wire.specs.Spelling.{Spells}
 use Rattle.snmp_wire.specs.Canon.{canon}
-use Rattle.snmp_table.specs.Exact.{HasOne}
-use Rattle.snmp_table.specs.Table.{MibView, IsGet, IsNext, IsNextAfter}
+use Rattle.snmp_agent.specs.table.Exact.{HasOne}
+use Rattle.snmp_agent.specs.table.Table.{MibView, IsGet, IsNext, IsNextAfter}
 use Rattle.snmp_agent.specs.declared.config.Why.{Why}
 use Rattle.snmp_agent.specs.declared.config.Why.TheVariants as why
 use Rattle.snmp_agent.specs.Reply.{Agent, IsServed, response, AreAnswers, no_error, IsWhole, got, got_next, unwritten, Fits, or_zero, AreEnds, joined}

@@ -1,7 +1,7 @@
 -- Rounds in the output.
 use Rattle.std.proofs.Common.{◌≡◌, ◌≢◌, ◌⊎◌, inl, inr, ℕ, suc, ◌+◌, ◌-◌, ◌<◌, List, [], ◌∷◌, ◌++◌, sym, subst, refl, arith, append_assoc}
 use Rattle.snmp_wire.specs.Message.{VarBind}
-use Rattle.snmp_table.specs.Table.{MibView}
+use Rattle.snmp_agent.specs.table.Table.{MibView}
 use Rattle.snmp_agent.specs.Reply.{AreEnds, joined}
 use Rattle.snmp_agent.specs.Answering.{AreGiven, AreRoundsFrom, HasRow, Extends, HoldsFront}
 use Rattle.snmp_agent.proofs.Answers.{HasNextsAfter}

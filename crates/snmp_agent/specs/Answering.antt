@@ -10,7 +10,7 @@ use Rattle.snmp_wire.specs.Message.{ip_address, counter32, gauge32, time_ticks, 
 use Rattle.snmp_wire.specs.Message.{counter64, no_such_object, no_such_instance, end_of_mib_view}
 use Rattle.snmp_wire.specs.Message.{VarBind, Message}
 use Rattle.snmp_wire.specs.Canon.{canon, canon_binding, canon_bindings, canon_head}
-use Rattle.snmp_table.specs.Table.{MibView, IsGet, IsNext, IsNextAfter}
+use Rattle.snmp_agent.specs.table.Table.{MibView, IsGet, IsNext, IsNextAfter}
 use Rattle.snmp_agent.specs.declared.bulk.Progress.{Progress}
 use Rattle.snmp_agent.specs.declared.bulk.Progress.TheVariants as progress
 use Rattle.snmp_agent.specs.Reply.{AreAnswers, AreEnds, IsResponse, not_writable, no_error}

@@ -2,3 +2,4 @@ pub mod Answering
 pub mod Event
 pub mod Reply
 pub mod Serving
+pub mod table

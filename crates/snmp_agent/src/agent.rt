@@ -13,7 +13,7 @@ ghost use Rattle.snmp_agent.specs.Answering.{IsResponseTooLong, whole_status, wh
 use crate::bulk::append_bulk;
 use crate::config::{Config, Outcome, Why};
 use crate::draft::{Draft, append_answers, room_for_bindings, seal};
-use snmp_table::{Table, one_answer};
+use crate::table::{Table, one_answer};
 use snmp_wire::{
     Kind, MAX_DATAGRAM, MessageRef, Parts, decode, encode_head, head_size, message_sizes, pieces,
 };

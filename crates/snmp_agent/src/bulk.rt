@@ -9,7 +9,7 @@ ghost use Rattle.snmp_agent.specs.Answering.{IsWritable, AreWritable, HoldsFront
 ghost use Rattle.snmp_agent.specs.Answering.{IsProgress, Leaves, HasRow, AreRoundsFrom};
 
 use crate::draft::{Draft, blank};
-use snmp_table::{Place, Table, one_answer};
+use crate::table::{Place, Table, one_answer};
 use snmp_wire::{Binding, Bindings, MAX_DATAGRAM, MessageRef, ValueRef};
 
 /// How far bindings were written, and how many octets they and those before them take.

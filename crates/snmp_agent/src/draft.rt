@@ -11,8 +11,8 @@ ghost use Rattle.snmp_agent.specs.Answering.{IsShortValue, HoldsBindings, IsRoom
 ghost use Rattle.snmp_agent.specs.Answering.{whole_size};
 
 use crate::config::Config;
-use snmp_ber::element_sizes;
-use snmp_table::{Place, Table, one_answer};
+use snmp_wire::ber::element_sizes;
+use crate::table::{Place, Table, one_answer};
 use snmp_wire::{
     Binding, Bindings, Kind, MAX_DATAGRAM, Oid, Parts, ValueRef, encode_binding, encode_head,
     head_size, message_sizes,

@@ -3,7 +3,7 @@ ghost use Rattle.std.specs.Prelude.{◌≡◌, ℕ, List};
 ghost use Rattle.snmp_agent.specs.Reply.{Agent, IsReply, IsDropped};
 
 use crate::config::Why;
-use snmp_table::one_answer;
+use crate::table::one_answer;
 use snmp_wire::one_spelling;
 
 /// An agent has at most one reply to a datagram, and none to one that it drops.

@@ -5,6 +5,7 @@
 //! memory, passes the datagrams to it.
 #![tactic(auto)]
 
+pub mod table;
 mod agent;
 mod bulk;
 mod config;

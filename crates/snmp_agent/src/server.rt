@@ -6,7 +6,7 @@ ghost use Rattle.snmp_agent.specs.Serving.{Event, logged, IsTurn, AreTurns, tall
 use crate::agent::answer;
 use crate::config::{Config, Outcome};
 use crate::endpoint::{Endpoint, SocketEndpoint};
-use snmp_table::Table;
+use crate::table::Table;
 use snmp_wire::MAX_DATAGRAM;
 use std::net::UdpSocket;
 

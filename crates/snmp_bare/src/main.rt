@@ -2,7 +2,7 @@
 //! time by it. A module file that is named can't be read.
 #![tactic(auto)]
 
-use smi_files::WithoutModules;
+use snmp_tools::loading::WithoutModules;
 use snmp_io::{MachineFiles, MachineOutput, Output, write_all};
 use snmp_net::MachineLinks;
 use snmp_tools::tool;

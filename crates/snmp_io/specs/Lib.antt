@@ -5,3 +5,4 @@ pub mod Memory
 pub mod Output
 pub mod Steps
 pub mod Streams
+pub mod draft

@@ -3,6 +3,7 @@
 //! files only the number of failed writes is known; those in memory keep every fact.
 #![tactic(auto)]
 
+pub mod draft;
 mod files;
 mod machine;
 pub mod memory;

@@ -5,7 +5,7 @@ ghost use Rattle.snmp_net.specs.Memory.{AreServed, BindsAt, OpensTo, agent_at};
 
 use crate::links::Links;
 use snmp_agent::{Config, Endpoint, EndpointFault, Served, serve_at};
-use snmp_table::Table;
+use snmp_agent::table::Table;
 use snmp_walk::{LinkFault, MemoryLink};
 use std::alloc::Global;
 

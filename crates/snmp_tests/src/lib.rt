@@ -2,6 +2,8 @@
 #![tactic(auto)]
 
 #[cfg(test)]
+pub mod loading;
+pub mod translation;
 mod faults;
 #[cfg(test)]
 mod gets;

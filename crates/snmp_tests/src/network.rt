@@ -3,7 +3,7 @@
 use crate::run::{NO_LIMITS, Run, THREE, THREE_LINES, assert_runs_over};
 use snmp_agent::Config;
 use snmp_net::memory::{MemoryAgent, MemoryLinks};
-use snmp_table::Table;
+use snmp_agent::table::Table;
 use std::alloc::Global;
 use std::process::Abort;
 use std::test::Fail;

@@ -3,7 +3,7 @@
 use crate::run::{Held, NO_LIMITS, THREE, assert_runs_over, prints_over};
 use snmp_agent::Config;
 use snmp_net::memory::{MemoryAgent, MemoryLinks};
-use snmp_table::Table;
+use snmp_agent::table::Table;
 use std::alloc::{AllocError, Global};
 use std::process::Abort;
 use std::test::Fail;

@@ -8,7 +8,7 @@ use Rattle.std.specs.Ordering.{int_eq}
 use Rattle.std.proofs.lemmas.List.{map-append}
 use Rattle.std.specs.Cmp.Lexicographic.{pointwise, same_text}
 use Rattle.snmp_oid.specs.Identifier.{wire}
-use Rattle.snmp_table.specs.Table.{IsGet, MibView}
+use Rattle.snmp_agent.specs.table.Table.{IsGet, MibView}
 use Rattle.snmp_wire.specs.Canon.{canon}
 use Rattle.snmp_wire.specs.Message.{Message, VarBind}
 use Rattle.snmp_agent.specs.Reply.{AreAnswers, Fits, IsResponse, IsWhole, bulk, got, got_next, response, shortened, unwritten, whole}

@@ -1,25 +1,25 @@
 -- The headline of snmpget, of what a job wrote and reported.
 use Rattle.std.proofs.Common.{◌≡◌, ◌⊎◌, inl, inr, ◌++◌, ℕ, All, List, [], Option, None, refl, sym, ◌∙◌, ap, subst, append_assoc, codes}
 use Rattle.std.specs.Str.Lines.{lines}
-use Rattle.smi_letters.specs.declared.letters.Letters.{Letters}
+use Rattle.smi_value.specs.declared.letters.letters.Letters.{Letters}
 use Rattle.snmp_oid.specs.Identifier.{IsWire, wire}
 use Rattle.snmp_wire.specs.Message.{VarBind}
-use Rattle.snmp_table.specs.Table.{MibView}
-use Rattle.snmp_table.specs.declared.error.TableError.{TableError}
-use Rattle.snmp_table.specs.declared.error.TableError.TheVariants as table_error
-use Rattle.snmp_table.specs.Stated.{IsTableOf, IsFirstFault}
+use Rattle.snmp_agent.specs.table.Table.{MibView}
+use Rattle.snmp_agent.specs.declared.table.error.TableError.{TableError}
+use Rattle.snmp_agent.specs.declared.table.error.TableError.TheVariants as table_error
+use Rattle.snmp_agent.specs.table.Stated.{IsTableOf, IsFirstFault}
 use Rattle.snmp_walk.specs.Facts.{IsDone}
 use Rattle.snmp_walk.specs.Get.{AreGot, HasRoomForGet}
 use Rattle.snmp_walk.specs.declared.end.SinkFault.TheVariants as sink
 use Rattle.snmp_walk.specs.declared.end.WalkEnd.{WalkEnd}
 use Rattle.snmp_walk.specs.declared.end.WalkEnd.TheVariants as ending
-use Rattle.smi_files.specs.Warned.{warning_lines}
-use Rattle.smi_nodes.specs.declared.warning.Warning.{Warning}
+use Rattle.snmp_tools.specs.loading.Warned.{warning_lines}
+use Rattle.smi_names.specs.declared.nodes.warning.Warning.{Warning}
 use Rattle.snmp_io.specs.Output.{IsWritten, Stream, extended}
 use Rattle.snmp_net.specs.Address.{table, udp}
 use Rattle.snmp_words.specs.Words.{GetWords}
-use Rattle.snmp_serve.specs.Outcome.{Faults}
-use Rattle.snmp_serve.specs.TableFile.{HasTable}
+use Rattle.snmp_tools.specs.agent.Outcome.{Faults}
+use Rattle.snmp_tools.specs.agent.TableFile.{HasTable}
 use Rattle.snmp_tools.specs.Get.{AskForGet, GetPlan}
 use Rattle.snmp_tools.specs.GetHeadline.{GetEndsAtStatus0, GetWritesAllAtStatus0, GetWritesFront, IsGetOf}
 use Rattle.snmp_tools.specs.Got.{IsGetFor, IsGetOutcome, IsGetOutcomeBy, IsGetRun, agent_for, fault_at, got, got_over, loaded, not_asked}

@@ -1,7 +1,7 @@
 -- The first step of a Get that fails, after those that are done.
 use Rattle.std.proofs.Common.{◌≡◌, ◌⊎◌, inl, inr, ◌++◌, ℕ, List, [], ◌∷◌, map, Ok, refl, ◌∙◌, ap, append_assoc}
-use Rattle.smi_letters.specs.declared.letters.Letters.{Letters}
-use Rattle.smi_name.specs.Meaning.{meaning}
+use Rattle.smi_value.specs.declared.letters.letters.Letters.{Letters}
+use Rattle.smi_show.specs.name.Meaning.{meaning}
 use Rattle.snmp_net.specs.Address.{Address}
 use Rattle.snmp_words.specs.Words.{GetWords}
 use Rattle.snmp_tools.specs.Asking.{IsReached, MibsFail, NameFails, ReachFails, agent_step, community_step, letters_step, version_step}

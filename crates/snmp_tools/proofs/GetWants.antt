@@ -3,18 +3,18 @@ use Rattle.std.proofs.Common.{◌≡◌, inl, inr, ℕ, length, List, [], ◌∷
 use Rattle.std.proofs.Common.{refl, sym, ◌∙◌, ap, subst}
 use Rattle.std.proofs.lemmas.List.Elements.{All-head, All-tail}
 use Rattle.std.specs.Str.Lines.{lines}
-use Rattle.smi_letters.specs.declared.letters.Letters.{Letters}
-use Rattle.smi_name.specs.Meaning.{meaning}
+use Rattle.smi_value.specs.declared.letters.letters.Letters.{Letters}
+use Rattle.smi_show.specs.name.Meaning.{meaning}
 use Rattle.snmp_oid.specs.Identifier.{IsWire, wire}
 use Rattle.snmp_wire.specs.Message.{VarBind}
-use Rattle.snmp_table.specs.Table.{MibView}
-use Rattle.snmp_table.specs.declared.error.TableError.{TableError}
-use Rattle.snmp_table.specs.declared.error.TableError.TheVariants as table_error
-use Rattle.snmp_table.specs.Stated.{IsTableOf, IsFirstFault}
+use Rattle.snmp_agent.specs.table.Table.{MibView}
+use Rattle.snmp_agent.specs.declared.table.error.TableError.{TableError}
+use Rattle.snmp_agent.specs.declared.table.error.TableError.TheVariants as table_error
+use Rattle.snmp_agent.specs.table.Stated.{IsTableOf, IsFirstFault}
 use Rattle.snmp_io.specs.Files.{Holdings, MayHold}
 use Rattle.snmp_words.specs.Words.{GetWords}
 use Rattle.snmp_net.specs.Address.{Address, table}
-use Rattle.snmp_serve.specs.TableFile.{TableFails}
+use Rattle.snmp_tools.specs.agent.TableFile.{TableFails}
 use Rattle.snmp_tools.specs.Asking.{AskingFails, AskingStep, HasAgent, NameFails, ReachFails}
 use Rattle.snmp_tools.specs.Asking.{agent_step, community_step, letters_step, version_step}
 use Rattle.snmp_tools.specs.Get.{AreNames, AskForGet, FailsForGet, GetPlan, GetStep, HasUnsendable, IsEarlyGetRefusal, IsLateGetRefusal}

@@ -2,7 +2,7 @@
 use Rattle.std.proofs.Common.{◌≡◌, inl, inr, ℕ, List, Option}
 use Rattle.snmp_io.specs.Output.{Stream}
 use Rattle.snmp_net.specs.Address.{table}
-use Rattle.snmp_serve.specs.Outcome.{Faults}
+use Rattle.snmp_tools.specs.agent.Outcome.{Faults}
 use Rattle.snmp_wire.specs.Message.{VarBind}
 use Rattle.snmp_walk.specs.declared.end.WalkEnd.{WalkEnd}
 use Rattle.snmp_words.specs.Words.{GetWords}

@@ -2,10 +2,10 @@
 use Rattle.std.proofs.Common.{◌≡◌, ◌⊎◌, inl, inr, ◌++◌, ℕ, Bool, List, [], Option, Some, None, refl, sym, ◌∙◌, ap, subst, codes}
 use Rattle.std.specs.Str.Lines.{lines}
 use Rattle.snmp_wire.specs.Message.{VarBind}
-use Rattle.snmp_table.specs.Table.{MibView}
-use Rattle.snmp_table.specs.declared.error.TableError.{TableError}
-use Rattle.snmp_table.specs.declared.error.TableError.TheVariants as table_error
-use Rattle.snmp_table.specs.Stated.{IsTableOf, IsFirstFault}
+use Rattle.snmp_agent.specs.table.Table.{MibView}
+use Rattle.snmp_agent.specs.declared.table.error.TableError.{TableError}
+use Rattle.snmp_agent.specs.declared.table.error.TableError.TheVariants as table_error
+use Rattle.snmp_agent.specs.table.Stated.{IsTableOf, IsFirstFault}
 use Rattle.snmp_walk.specs.Walker.{Walker}
 use Rattle.snmp_walk.specs.declared.end.SinkFault.TheVariants as sink
 use Rattle.snmp_walk.specs.declared.end.WalkEnd.{WalkEnd}
@@ -13,13 +13,13 @@ use Rattle.snmp_walk.specs.declared.end.WalkEnd.TheVariants as ending
 use Rattle.snmp_io.specs.Count.{HasRisen}
 use Rattle.snmp_io.specs.Output.{IsWritten, Stream, extended}
 use Rattle.snmp_net.specs.Address.{table, udp}
-use Rattle.snmp_serve.specs.Outcome.{Faults}
+use Rattle.snmp_tools.specs.agent.Outcome.{Faults}
 use Rattle.snmp_words.specs.Words.{WalkWords}
 use Rattle.snmp_tools.specs.Headline.{EndsAtStatus0, IsFeasible, IsMishap, IsWalk, IsWholeText, WritesAllAtStatus0, WritesFront}
-use Rattle.smi_letters.specs.declared.letters.Letters.{Letters}
+use Rattle.smi_value.specs.declared.letters.letters.Letters.{Letters}
 use Rattle.snmp_tools.specs.Lines.{IsPrintedUpTo}
-use Rattle.smi_files.specs.Warned.{warning_lines}
-use Rattle.smi_nodes.specs.declared.warning.Warning.{Warning}
+use Rattle.snmp_tools.specs.loading.Warned.{warning_lines}
+use Rattle.smi_names.specs.declared.nodes.warning.Warning.{Warning}
 use Rattle.snmp_io.specs.Files.{Holdings, MayHold}
 use Rattle.snmp_tools.specs.Mib.{AreLoaded, Mib}
 use Rattle.snmp_tools.specs.Message.{Fault, bad_table, ended, fault_message, out_of_memory, status_of}

@@ -15,3 +15,8 @@ pub mod Steps
 pub mod Texts
 pub mod Walked
 pub mod Wholes
+pub mod TranslationHeadlines
+pub mod Printing
+pub mod Refusals
+pub mod Serving
+pub mod Reading

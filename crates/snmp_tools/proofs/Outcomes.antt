@@ -1,7 +1,7 @@
 -- What a job wrote of the walk that its words ask for.
 use Rattle.std.proofs.Common.{◌≡◌, ◌⊎◌, inl, inr, ◌++◌, ℕ, length, List, [], ◌∷◌, Option, Some, None}
 use Rattle.std.proofs.Common.{refl, sym, ◌∙◌, ap, subst, append_assoc, append-nil}
-use Rattle.smi_letters.specs.declared.letters.Letters.{Letters}
+use Rattle.smi_value.specs.declared.letters.letters.Letters.{Letters}
 use Rattle.snmp_wire.specs.Message.{VarBind}
 use Rattle.snmp_walk.specs.Facts.{IsDone}
 use Rattle.snmp_walk.specs.declared.end.SinkFault.TheVariants as sink

@@ -2,32 +2,32 @@
 use Rattle.std.proofs.Common.{◌≡◌, ◌⊎◌, inl, inr, ℕ, Bool, ◌<◌, ◌≤◌, length, arith, List, Option, Some, None, Result, Ok, Err}
 use Rattle.std.proofs.Common.{sym, ◌∙◌, ap, subst}
 use Rattle.std.specs.Str.Lines.{lines}
-use Rattle.smi_letters.specs.declared.letters.Letters.{Letters}
-use Rattle.smi_letters.specs.declared.letters.NameForm.{NameForm}
-use Rattle.smi_letters.specs.declared.letters.StringForm.{StringForm}
-use Rattle.smi_letters.specs.declared.letters.TypeForm.{TypeForm}
-use Rattle.smi_name.specs.Meaning.{meaning}
-use Rattle.smi_name.specs.declared.error.NameError.{NameError}
+use Rattle.smi_value.specs.declared.letters.letters.Letters.{Letters}
+use Rattle.smi_value.specs.declared.letters.letters.NameForm.{NameForm}
+use Rattle.smi_value.specs.declared.letters.letters.StringForm.{StringForm}
+use Rattle.smi_value.specs.declared.letters.letters.TypeForm.{TypeForm}
+use Rattle.smi_show.specs.name.Meaning.{meaning}
+use Rattle.smi_show.specs.declared.name.error.NameError.{NameError}
 use Rattle.snmp_oid.specs.Identifier.{IsBelow, IsWire, wire}
 use Rattle.snmp_wire.specs.Message.{VarBind}
-use Rattle.snmp_table.specs.Table.{MibView}
-use Rattle.snmp_table.specs.declared.error.TableError.{TableError}
-use Rattle.snmp_table.specs.declared.error.TableError.TheVariants as table_error
-use Rattle.snmp_table.specs.Stated.{IsTableOf, IsFirstFault}
+use Rattle.snmp_agent.specs.table.Table.{MibView}
+use Rattle.snmp_agent.specs.declared.table.error.TableError.{TableError}
+use Rattle.snmp_agent.specs.declared.table.error.TableError.TheVariants as table_error
+use Rattle.snmp_agent.specs.table.Stated.{IsTableOf, IsFirstFault}
 use Rattle.snmp_walk.specs.declared.mode.Method.{Method}
 use Rattle.snmp_walk.specs.declared.mode.Mode.{Mode}
 use Rattle.snmp_io.specs.Files.{Holdings, Holds, HoldsIfKnown, MayHold}
 use Rattle.snmp_words.specs.Words.{WalkWords}
 use Rattle.snmp_net.specs.Address.{Address, table}
-use Rattle.snmp_serve.specs.TableFile.{TableFails}
+use Rattle.snmp_tools.specs.agent.TableFile.{TableFails}
 use Rattle.snmp_tools.specs.Asking.{AreShown, AskingFails, AskingStep, HasAgent, IsNameIfGiven, NameFails, ReachFails}
 use Rattle.snmp_tools.specs.Asking.{agent_step, community_step, letters_step, version_step}
 use Rattle.snmp_tools.specs.Headline.{CanGoOn, IsFeasible, IsWalk}
 use Rattle.snmp_tools.specs.Letters.{Choices, choices_of, method_of, mode_of}
 use Rattle.snmp_tools.specs.Message.{Fault, bad_table, out_of_memory, unreadable}
-use Rattle.smi_files.specs.Files.{AreModulesOf}
-use Rattle.smi_module.specs.declared.tree.Module.{Module}
-use Rattle.smi_nodes.specs.declared.warning.Warning.{Warning}
+use Rattle.snmp_tools.specs.loading.Files.{AreModulesOf}
+use Rattle.smi_text.specs.declared.trees.tree.Module.{Module}
+use Rattle.smi_names.specs.declared.nodes.warning.Warning.{Warning}
 use Rattle.smi_tree.specs.Tree.{Contents, IsTree}
 use Rattle.snmp_tools.specs.Mib.{AreLoaded, IsMibOf, Mib, mib_of}
 use Rattle.snmp_tools.specs.Plan.{AskFor, FailsForWalk, IsAfterOf, IsEarlyRefusal, IsLateRefusal, IsRootOf, Plan, WalkStep, root_text}

@@ -1,9 +1,9 @@
 -- What a walk that was refused after its plan was made tells of its words.
 use Rattle.std.proofs.Common.{◌≡◌, inl, inr, ℕ, Bool, List, [], Option, Some, None, Ok, unwrap_or, refl, ◌∙◌, ap}
-use Rattle.smi_files.specs.Loaded.{AreLoadedAs}
-use Rattle.smi_module.specs.declared.tree.Def.{Def}
-use Rattle.smi_name.specs.Meaning.{meaning}
-use Rattle.smi_name.specs.Naming.{Naming}
+use Rattle.snmp_tools.specs.loading.Loaded.{AreLoadedAs}
+use Rattle.smi_text.specs.declared.trees.tree.Def.{Def}
+use Rattle.smi_show.specs.name.Meaning.{meaning}
+use Rattle.smi_show.specs.name.Naming.{Naming}
 use Rattle.smi_tree.specs.Naming.{naming_of}
 use Rattle.smi_value.specs.Syntax.{ObjectSyntax}
 use Rattle.snmp_io.specs.Output.{Stream}

@@ -1,10 +1,10 @@
 -- What the facts of a walk over a table in memory are to the job that began it.
 use Rattle.std.proofs.Common.{◌≡◌, ℕ, List, [], length, Option, Some, None, refl, sym, ◌∙◌, ap, subst}
-use Rattle.smi_letters.specs.declared.letters.Letters.{Letters}
+use Rattle.smi_value.specs.declared.letters.letters.Letters.{Letters}
 use Rattle.snmp_wire.specs.Message.{VarBind}
-use Rattle.snmp_table.specs.Exact.{HasOne}
-use Rattle.snmp_table.specs.Listing.{variables}
-use Rattle.snmp_table.specs.Table.{MibView, IsMibView, IsGet}
+use Rattle.snmp_agent.specs.table.Exact.{HasOne}
+use Rattle.snmp_agent.specs.table.Listing.{variables}
+use Rattle.snmp_agent.specs.table.Table.{MibView, IsMibView, IsGet}
 use Rattle.snmp_walk.specs.declared.end.WalkEnd.{WalkEnd}
 use Rattle.snmp_walk.specs.declared.end.WalkEnd.TheVariants as ending
 use Rattle.snmp_walk.specs.Walker.{Walker}

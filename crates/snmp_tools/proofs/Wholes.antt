@@ -1,7 +1,7 @@
 -- What was written of a walk over a table file or over the network, as the outcome of its job.
 use Rattle.std.proofs.Common.{inl, inr, ℕ, Bool, List, Option}
 use Rattle.snmp_io.specs.Output.{Stream}
-use Rattle.snmp_serve.specs.Outcome.{Faults}
+use Rattle.snmp_tools.specs.agent.Outcome.{Faults}
 use Rattle.snmp_wire.specs.Message.{VarBind}
 use Rattle.snmp_walk.specs.Walker.{Walker}
 use Rattle.snmp_walk.specs.declared.end.WalkEnd.{WalkEnd}

@@ -2,15 +2,15 @@
 -- community, and the agent.
 use Rattle.std.specs.Prelude.{◌≡◌, ◌≢◌, ◌<◌, ◌≤◌, ℕ, List, length, Some, None}
 use Rattle.std.specs.Prelude.{Option, Ok, Err, codes}
-use Rattle.smi_files.specs.Files.{AreModulesOf, FilesFail, Refusal}
-use Rattle.smi_module.specs.declared.tree.Module.{Module}
-use Rattle.smi_letters.specs.declared.letters.Letters.{Letters}
-use Rattle.smi_letters.specs.Letters.{AreLetters, first_other}
-use Rattle.smi_name.specs.Meaning.{meaning}
-use Rattle.smi_name.specs.declared.error.NameError.{NameError}
+use Rattle.snmp_tools.specs.loading.Files.{AreModulesOf, FilesFail, Refusal}
+use Rattle.smi_text.specs.declared.trees.tree.Module.{Module}
+use Rattle.smi_value.specs.declared.letters.letters.Letters.{Letters}
+use Rattle.smi_value.specs.letters.Letters.{AreLetters, first_other}
+use Rattle.smi_show.specs.name.Meaning.{meaning}
+use Rattle.smi_show.specs.declared.name.error.NameError.{NameError}
 use Rattle.snmp_io.specs.Files.{Holdings, Holds}
-use Rattle.snmp_serve.specs.TableFile.{HasTable, TableFails}
-use Rattle.snmp_table.specs.Table.{MibView}
+use Rattle.snmp_tools.specs.agent.TableFile.{HasTable, TableFails}
+use Rattle.snmp_agent.specs.table.Table.{MibView}
 use Rattle.snmp_net.specs.Address.{Address, IsAgent, table, udp}
 use Rattle.snmp_words.specs.Words.{AskingWords}
 use Rattle.snmp_tools.specs.Message.{Fault, bad_agent, bad_letter, bad_modules, bad_name, bad_table}

@@ -1,7 +1,7 @@
 -- What the words of snmpget ask for, and why they may be refused.
 use Rattle.std.specs.Prelude.{◌≡◌, ◌≤◌, ◌⊎◌, ◌++◌, ℕ, List, [], ◌∷◌, length, map, Ok, codes}
-use Rattle.smi_letters.specs.declared.letters.Letters.{Letters}
-use Rattle.smi_name.specs.Meaning.{meaning}
+use Rattle.smi_value.specs.declared.letters.letters.Letters.{Letters}
+use Rattle.smi_show.specs.name.Meaning.{meaning}
 use Rattle.snmp_oid.specs.Identifier.{IsWire, wire}
 use Rattle.snmp_words.specs.Words.{AskingWords, GetWords}
 use Rattle.snmp_net.specs.Address.{Address, IsAgent}

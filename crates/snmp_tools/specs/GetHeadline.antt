@@ -6,10 +6,10 @@
 -- (smi_show).
 use Rattle.std.specs.Prelude.{◌≡◌, ◌⊎◌, ◌++◌, ℕ, List, All}
 use Rattle.std.specs.Str.Lines.{lines}
-use Rattle.smi_nodes.specs.declared.warning.Warning.{Warning}
+use Rattle.smi_names.specs.declared.nodes.warning.Warning.{Warning}
 use Rattle.snmp_oid.specs.Identifier.{IsWire, wire}
-use Rattle.snmp_table.specs.Stated.{IsTableOf}
-use Rattle.snmp_table.specs.Table.{MibView}
+use Rattle.snmp_agent.specs.table.Stated.{IsTableOf}
+use Rattle.snmp_agent.specs.table.Table.{MibView}
 use Rattle.snmp_wire.specs.Message.{VarBind}
 use Rattle.snmp_walk.specs.Get.{AreGot, HasRoomForGet}
 use Rattle.snmp_io.specs.Output.{Stream, TakesFront, extended}

@@ -2,7 +2,7 @@
 use Rattle.std.specs.Prelude.{◌≡◌, ◌≢◌, ◌⊎◌, ◌<◌, ◌≤◌, ◌+◌, ◌++◌, ℕ, ℤ, pos, List, [], ◌∷◌, length}
 use Rattle.std.specs.Prelude.{Option, Some, None, Ok, Err, map, replicate}
 use Rattle.snmp_oid.specs.Identifier.{wire}
-use Rattle.snmp_table.specs.Table.{MibView}
+use Rattle.snmp_agent.specs.table.Table.{MibView}
 use Rattle.snmp_wire.specs.Canon.{canon}
 use Rattle.snmp_wire.specs.Message.{Message, VarBind}
 use Rattle.snmp_agent.specs.Reply.{Fits, response}
@@ -14,14 +14,14 @@ use Rattle.snmp_walk.specs.declared.link.Link.{Ghosts as LinkFacts}
 use Rattle.snmp_walk.specs.Traffic.{Traffic}
 use Rattle.snmp_walk.specs.declared.end.WalkEnd.{WalkEnd}
 use Rattle.snmp_walk.specs.declared.end.WalkEnd.TheVariants as ending
-use Rattle.smi_files.specs.Warned.{warning_lines}
-use Rattle.smi_nodes.specs.declared.warning.Warning.{Warning}
+use Rattle.snmp_tools.specs.loading.Warned.{warning_lines}
+use Rattle.smi_names.specs.declared.nodes.warning.Warning.{Warning}
 use Rattle.snmp_io.specs.Count.{HasRisen}
 use Rattle.snmp_io.specs.Output.{IsWritten, Stream}
 use Rattle.snmp_words.specs.Words.{GetWords}
 use Rattle.snmp_net.specs.Address.{table, udp}
-use Rattle.snmp_serve.specs.Outcome.{Faults}
-use Rattle.snmp_serve.specs.TableFile.{HasTable}
+use Rattle.snmp_tools.specs.agent.Outcome.{Faults}
+use Rattle.snmp_tools.specs.agent.TableFile.{HasTable}
 use Rattle.snmp_tools.specs.Asking.{HasAgent}
 use Rattle.snmp_tools.specs.Get.{AskForGet, GetPlan, IsEarlyGetRefusal, IsLateGetRefusal}
 use Rattle.snmp_tools.specs.Lines.{IsPrintedUpTo}

@@ -6,11 +6,11 @@
 -- lines, by `IsLine` (smi_show), and `count_text` is the count line.
 use Rattle.std.specs.Prelude.{◌≡◌, ◌⊎◌, ◌++◌, ℕ, Bool, List, length, Option, Some, None, codes}
 use Rattle.std.specs.Str.Lines.{lines}
-use Rattle.smi_files.specs.Warned.{warning_lines}
-use Rattle.smi_nodes.specs.declared.warning.Warning.{Warning}
+use Rattle.snmp_tools.specs.loading.Warned.{warning_lines}
+use Rattle.smi_names.specs.declared.nodes.warning.Warning.{Warning}
 use Rattle.snmp_oid.specs.Identifier.{IsBelow, IsWire, wire}
-use Rattle.snmp_table.specs.Stated.{IsTableOf}
-use Rattle.snmp_table.specs.Table.{MibView}
+use Rattle.snmp_agent.specs.table.Stated.{IsTableOf}
+use Rattle.snmp_agent.specs.table.Table.{MibView}
 use Rattle.snmp_wire.specs.Message.{VarBind}
 use Rattle.snmp_walk.specs.Room.{HasIds, HasRoomForEach}
 use Rattle.snmp_io.specs.Count.{HasRisen}

@@ -16,3 +16,6 @@ pub mod Serving
 pub mod Start
 pub mod Translating
 pub mod Usage
+pub mod translation
+pub mod agent
+pub mod loading

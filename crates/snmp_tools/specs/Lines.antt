@@ -1,7 +1,7 @@
 -- What a walk or a Get writes on an output.
 use Rattle.std.specs.Prelude.{◌≡◌, ◌++◌, ℕ, Bool, List, [], ◌∷◌, Result, Ok, Err, codes, decimal}
 use Rattle.std.specs.Prelude.{if◌then◌else◌}
-use Rattle.smi_letters.specs.declared.letters.Letters.{Letters}
+use Rattle.smi_value.specs.declared.letters.letters.Letters.{Letters}
 use Rattle.smi_show.specs.Line.{IsLine}
 use Rattle.snmp_wire.specs.Message.{VarBind}
 use Rattle.snmp_walk.specs.declared.end.SinkFault.{SinkFault}

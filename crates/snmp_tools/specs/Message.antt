@@ -3,12 +3,12 @@ use Rattle.std.specs.Prelude.{ℕ, ℤ, pos, negsuc, List, [], ◌∷◌, ◌++�
 use Rattle.std.specs.Prelude.{slice_index_or}
 use Rattle.std.specs.Fmt.{signed_decimal}
 use Rattle.snmp_oid.specs.Numeric.{numeric_text}
-use Rattle.smi_files.specs.Files.{Refusal}
-use Rattle.smi_files.specs.Message.{refusal_of, refusal_text}
-use Rattle.smi_name.specs.declared.error.NameError.{NameError}
-use Rattle.smi_name.specs.declared.error.NameError.TheVariants as name
-use Rattle.snmp_table.specs.declared.error.TableError.{TableError}
-use Rattle.snmp_table.specs.declared.error.TableError.TheVariants as table
+use Rattle.snmp_tools.specs.loading.Files.{Refusal}
+use Rattle.snmp_tools.specs.loading.Message.{refusal_of, refusal_text}
+use Rattle.smi_show.specs.declared.name.error.NameError.{NameError}
+use Rattle.smi_show.specs.declared.name.error.NameError.TheVariants as name
+use Rattle.snmp_agent.specs.declared.table.error.TableError.{TableError}
+use Rattle.snmp_agent.specs.declared.table.error.TableError.TheVariants as table
 use Rattle.snmp_walk.specs.declared.end.WalkEnd.{WalkEnd}
 use Rattle.snmp_walk.specs.declared.end.WalkEnd.TheVariants as walk_end
 use Rattle.snmp_walk.specs.declared.end.SinkFault.{SinkFault}

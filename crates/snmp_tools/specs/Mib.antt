@@ -1,9 +1,9 @@
 -- By which names and types of objects a job reads names and shows lines.
 use Rattle.std.specs.Prelude.{◌≡◌, ℕ, List, Option}
-use Rattle.smi_files.specs.Files.{AreModulesOf}
-use Rattle.smi_module.specs.declared.tree.Module.{Module}
-use Rattle.smi_name.specs.Naming.{Naming}
-use Rattle.smi_nodes.specs.declared.warning.Warning.{Warning}
+use Rattle.snmp_tools.specs.loading.Files.{AreModulesOf}
+use Rattle.smi_text.specs.declared.trees.tree.Module.{Module}
+use Rattle.smi_show.specs.name.Naming.{Naming}
+use Rattle.smi_names.specs.declared.nodes.warning.Warning.{Warning}
 use Rattle.smi_tree.specs.Naming.{naming_of, nearest_syntax}
 use Rattle.smi_tree.specs.Tree.{Contents, IsTree}
 use Rattle.smi_value.specs.Syntax.{ObjectSyntax}

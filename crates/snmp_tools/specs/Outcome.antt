@@ -1,11 +1,11 @@
 -- What a job that walks writes, and what it reports.
 use Rattle.std.specs.Prelude.{◌≡◌, ◌≢◌, ◌⊎◌, ◌+◌, ◌++◌, ℕ, Bool, List, [], ◌∷◌, length, codes}
 use Rattle.std.specs.Prelude.{Option, Some, None}
-use Rattle.smi_files.specs.Warned.{warning_lines}
-use Rattle.smi_nodes.specs.declared.warning.Warning.{Warning}
+use Rattle.snmp_tools.specs.loading.Warned.{warning_lines}
+use Rattle.smi_names.specs.declared.nodes.warning.Warning.{Warning}
 use Rattle.snmp_oid.specs.Identifier.{wire}
-use Rattle.snmp_table.specs.Listing.{variables}
-use Rattle.snmp_table.specs.Table.{IsGet, MibView}
+use Rattle.snmp_agent.specs.table.Listing.{variables}
+use Rattle.snmp_agent.specs.table.Table.{IsGet, MibView}
 use Rattle.snmp_wire.specs.Message.{VarBind}
 use Rattle.snmp_walk.specs.Facts.{EndFacts, HasNone, IsDone, IsLastSent, IsLawfulEnd, ReadyFacts}
 use Rattle.snmp_walk.specs.Facts.{SendFacts, WalkFacts}
@@ -26,8 +26,8 @@ use Rattle.snmp_words.specs.Words.{WalkWords}
 use Rattle.snmp_tools.specs.Lines.{IsPrintedUpTo, count_text}
 use Rattle.snmp_tools.specs.Message.{Fault, ended, fault_message, out_of_memory, status_of}
 use Rattle.snmp_net.specs.Address.{table, udp}
-use Rattle.snmp_serve.specs.Outcome.{Faults}
-use Rattle.snmp_serve.specs.TableFile.{HasTable}
+use Rattle.snmp_tools.specs.agent.Outcome.{Faults}
+use Rattle.snmp_tools.specs.agent.TableFile.{HasTable}
 use Rattle.snmp_tools.specs.Asking.{HasAgent}
 use Rattle.snmp_io.specs.Files.{Holdings, MayHold}
 use Rattle.snmp_tools.specs.Mib.{AreLoaded, IsMibOf, Mib}

@@ -1,8 +1,8 @@
 -- What the words of a walk ask for, and why they may be refused.
 use Rattle.std.specs.Prelude.{◌≡◌, ◌≤◌, ◌⊎◌, ℕ, Bool, List, [], ◌∷◌, length}
 use Rattle.std.specs.Prelude.{Option, Some, Ok, Err, codes, unwrap_or}
-use Rattle.smi_letters.specs.declared.letters.Letters.{Letters}
-use Rattle.smi_name.specs.Meaning.{meaning}
+use Rattle.smi_value.specs.declared.letters.letters.Letters.{Letters}
+use Rattle.smi_show.specs.name.Meaning.{meaning}
 use Rattle.snmp_oid.specs.Identifier.{IsBelow, IsWire, wire}
 use Rattle.snmp_walk.specs.declared.mode.Method.{Method}
 use Rattle.snmp_walk.specs.declared.mode.Mode.{Mode}

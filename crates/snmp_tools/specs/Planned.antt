@@ -1,8 +1,8 @@
 -- The plan that the program keeps, and what it has read of the words before.
 use Rattle.std.specs.Prelude.{◌≡◌, ◌≤◌, ◌⊎◌, Bool, true, false, length, Ok, Some, codes, ℕ, List}
 use Rattle.std.specs.Prelude.{Option}
-use Rattle.smi_name.specs.Meaning.{meaning}
-use Rattle.smi_name.specs.Naming.{Naming}
+use Rattle.smi_show.specs.name.Meaning.{meaning}
+use Rattle.smi_show.specs.name.Naming.{Naming}
 use Rattle.smi_value.specs.Syntax.{ObjectSyntax}
 use Rattle.snmp_words.specs.Words.{AskingWords, Stated, WalkWords, job_words, snmpbulkwalk}
 use Rattle.snmp_words.specs.Words.{snmpwalk}

@@ -3,9 +3,9 @@ use Rattle.std.specs.Prelude.{ℕ, List, Option, option_map}
 use Rattle.snmp_agent.specs.Reply.{Agent}
 use Rattle.snmp_agent.specs.declared.server.Served.{Served}
 use Rattle.snmp_io.specs.Output.{Stream}
-use Rattle.snmp_serve.specs.Fault as serve
-use Rattle.snmp_serve.specs.Fault.{ServeFault}
-use Rattle.snmp_serve.specs.Outcome.{Faults, IsServeOutcome}
+use Rattle.snmp_tools.specs.agent.Fault as serve
+use Rattle.snmp_tools.specs.agent.Fault.{ServeFault}
+use Rattle.snmp_tools.specs.agent.Outcome.{Faults, IsServeOutcome}
 use Rattle.snmp_io.specs.Files.{Holdings}
 use Rattle.snmp_walk.specs.declared.end.SinkFault.TheVariants as sink
 use Rattle.snmp_walk.specs.declared.end.WalkEnd.TheVariants as ending

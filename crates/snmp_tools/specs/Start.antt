@@ -1,8 +1,8 @@
 -- How a walk begins, and why it can't.
 use Rattle.std.specs.Prelude.{◌≡◌, ◌⊎◌, ℕ, List, Option, Some, None}
 use Rattle.snmp_oid.specs.Identifier.{IsBelow, IsWire, wire}
-use Rattle.snmp_table.specs.Listing.{variables}
-use Rattle.snmp_table.specs.Table.{IsMibView, MibView}
+use Rattle.snmp_agent.specs.table.Listing.{variables}
+use Rattle.snmp_agent.specs.table.Table.{IsMibView, MibView}
 use Rattle.snmp_wire.specs.Message.{VarBind}
 use Rattle.snmp_walk.specs.Facts.{IsFresh, walk_at}
 use Rattle.snmp_walk.specs.Walk.{rest_of, walk_of}

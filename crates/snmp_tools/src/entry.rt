@@ -1,7 +1,7 @@
 //! From words to status.
 ghost use Rattle.std.specs.Prelude.{◌≡◌, Bool, Some, true};
 ghost use Rattle.snmp_words.specs.Command.{is_taken};
-ghost use Rattle.snmp_serve.specs.Outcome.{AtDoor};
+ghost use Rattle.snmp_tools.specs.agent.Outcome.{AtDoor};
 ghost use Rattle.snmp_words.specs.Words.{AreFaulty, GetWords, ServeWords, WalkWords, snmpd};
 ghost use Rattle.snmp_words.specs.Words.{TranslateWords, snmpget, snmptranslate, stated_job};
 ghost use Rattle.snmp_words.specs.Words.{texts_at};
@@ -16,7 +16,7 @@ ghost use Rattle.snmp_tools.specs.Translating.{IsTranslated};
 ghost use Rattle.snmp_tools.specs.Usage.{IsHelpOrMistake, PrintsHelp};
 
 use crate::job::{run_job, tell};
-use smi_files::ModuleFiles;
+use crate::loading::ModuleFiles;
 use snmp_io::{Output, write_all};
 use snmp_net::Links;
 use snmp_words::{UsageError, read_words};

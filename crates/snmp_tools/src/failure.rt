@@ -2,17 +2,17 @@
 ghost use Rattle.std.specs.Prelude.{◌≡◌, ◌++◌, ◌∷◌, codes, decimal, OnOk, OnErr};
 ghost use Rattle.std.specs.Fmt.{signed_decimal};
 ghost use Rattle.snmp_oid.specs.Numeric.{numeric_text};
-ghost use Rattle.text_draft.specs.Draft.{Adds};
+ghost use Rattle.snmp_io.specs.draft.Draft.{Adds};
 ghost use Rattle.snmp_tools.specs.Message.{end_message, error_status_text, name_fault, status_name};
 ghost use Rattle.snmp_tools.specs.Message.{table_message};
 
-use smi_files::FilesError;
+use crate::loading::FilesError;
 use smi_show::NameError;
 use snmp_oid::{LONGEST_TEXT, Oid, write_numeric};
-use snmp_table::TableError;
+use snmp_agent::table::TableError;
 use snmp_walk::{SinkFault, WalkEnd};
 use std::alloc::AllocError;
-use text_draft::Draft;
+use snmp_io::draft::Draft;
 
 /// Why a job wasn't done, with the words that its message repeats.
 #[derive(Debug, Drop)]
@@ -45,7 +45,7 @@ pub enum Failure<'a> {
 
 impl Failure<'_> {
     ghost use Rattle.std.specs.Prelude.{◌≡◌, ◌++◌, OnOk, OnErr};
-    ghost use Rattle.text_draft.specs.Draft.{Adds};
+    ghost use Rattle.snmp_io.specs.draft.Draft.{Adds};
     ghost use Rattle.snmp_tools.specs.Message.{fault_of, fault_message, status_of};
 
     /// The exit status: 2 where the agent replied with an error status, else 1.

@@ -1,7 +1,7 @@
 //! A job: it is done, and what failed is reported.
 ghost use Rattle.std.specs.Prelude.{◌≡◌, ◌++◌, Bool, codes, IfOk, Some};
 ghost use Rattle.snmp_io.specs.Output.{IsWritten};
-ghost use Rattle.snmp_serve.specs.Outcome.{AtDoor};
+ghost use Rattle.snmp_tools.specs.agent.Outcome.{AtDoor};
 ghost use Rattle.snmp_words.specs.Words.{GetWords, ServeWords, WalkWords, job_words, snmpd};
 ghost use Rattle.snmp_words.specs.Words.{TranslateWords, snmpget, snmptranslate, walk_words};
 ghost use Rattle.snmp_tools.specs.GetHeadline.{GetEndsAtStatus0, GetWritesAllAtStatus0};
@@ -19,11 +19,11 @@ use crate::get::do_get;
 use crate::serve::do_serve;
 use crate::translate::do_translate;
 use crate::walk::walk_lines;
-use smi_files::{ModuleFiles, one_list_of_modules};
+use crate::loading::{ModuleFiles, one_list_of_modules};
 use smi_tree::one_tree;
 use snmp_io::{Output, write_all};
 use snmp_net::Links;
-use snmp_table::{no_fault, one_table};
+use snmp_agent::table::{no_fault, one_table};
 use snmp_words::{Job, WalkJob};
 use std::alloc::{AllocError, Global};
 

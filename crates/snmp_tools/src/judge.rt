@@ -2,8 +2,8 @@
 //! meaning.
 ghost use Rattle.std.specs.Prelude.{◌≡◌, ◌↔◌, ◌≤◌, ℕ, List, Some, Ok, codes, length};
 ghost use Rattle.std.specs.Prelude.{IfErr, IfNone, IfOk, IfSome, IsTrue, option_map, string_bytes};
-ghost use Rattle.smi_name.specs.Meaning.{meaning};
-ghost use Rattle.smi_name.specs.Naming.{Naming};
+ghost use Rattle.smi_show.specs.name.Meaning.{meaning};
+ghost use Rattle.smi_show.specs.name.Naming.{Naming};
 ghost use Rattle.snmp_walk.specs.Walker.{IsMethod};
 ghost use Rattle.snmp_words.specs.Words.{asking_words, walk_words};
 ghost use Rattle.snmp_net.specs.Address.{address_of};

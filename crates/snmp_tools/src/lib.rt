@@ -4,6 +4,9 @@
 //! values. The program passes the machine to it.
 #![tactic(auto)]
 
+pub mod translation;
+pub mod agent;
+pub mod loading;
 mod choices;
 mod entry;
 mod failure;
@@ -22,7 +25,7 @@ mod walk;
 pub use entry::tool;
 pub use failure::Failure;
 pub use job::run_job;
-pub use smi_files::ModuleFiles;
+pub use crate::loading::ModuleFiles;
 pub use snmp_io::{FileFault, Files, Output, OutputFault};
 pub use snmp_net::Links;
 pub use snmp_words::{Asking, GetJob, Job, ServeJob, UsageError, WalkJob, read_words};

@@ -15,7 +15,7 @@ use snmp_oid::Oid;
 use snmp_walk::{Link, Sink, SinkFault, WalkCore, WalkEnd, run_get, run_walk};
 use snmp_wire::Binding;
 use std::alloc::AllocError;
-use text_draft::Draft;
+use snmp_io::draft::Draft;
 
 /// What writes the lines of bindings, by the names and types of a tree and the letters of `-O`.
 #[derive(Drop)]

@@ -1,7 +1,7 @@
 //! The job of snmpd, and what of it is reported.
 ghost use Rattle.std.specs.Prelude.{◌≡◌};
-ghost use Rattle.snmp_serve.specs.Fault.{serve_fault_of};
-ghost use Rattle.snmp_serve.specs.Outcome.{AtDoor};
+ghost use Rattle.snmp_tools.specs.agent.Fault.{serve_fault_of};
+ghost use Rattle.snmp_tools.specs.agent.Outcome.{AtDoor};
 ghost use Rattle.snmp_words.specs.Words.{serve_words};
 ghost use Rattle.snmp_tools.specs.Message.{fault_of};
 ghost use Rattle.snmp_tools.specs.Serving.{IsServeRun, reported_as, risen};
@@ -10,7 +10,7 @@ use crate::failure::Failure;
 use crate::job::report;
 use snmp_io::{Files, Output};
 use snmp_net::Links;
-use snmp_serve::{ServeError, serve_table};
+use crate::agent::{ServeError, serve_table};
 use snmp_walk::{SinkFault, WalkEnd};
 use snmp_words::ServeJob;
 use std::alloc::Global;

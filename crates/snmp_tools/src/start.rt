@@ -2,8 +2,8 @@
 ghost use Rattle.std.specs.Prelude.{◌≡◌, ◌⊎◌, IfErr, IfOk, unwrap_or, option_map, [], List, ℕ};
 ghost use Rattle.std.specs.Prelude.{length, ◌≤◌};
 ghost use Rattle.snmp_oid.specs.Identifier.{IsWire, wire};
-ghost use Rattle.snmp_table.specs.Listing.{variables};
-ghost use Rattle.snmp_table.specs.Table.{MibView};
+ghost use Rattle.snmp_agent.specs.table.Listing.{variables};
+ghost use Rattle.snmp_agent.specs.table.Table.{MibView};
 ghost use Rattle.snmp_wire.specs.Message.{VarBind};
 ghost use Rattle.snmp_walk.specs.Facts.{IsFresh, walk_at};
 ghost use Rattle.snmp_walk.specs.Request.{resumed};

@@ -1,15 +1,15 @@
 //! The job of snmptranslate, and what of it is reported.
 ghost use Rattle.std.specs.Prelude.{◌≡◌};
-ghost use Rattle.snmp_translate.specs.Fault.{translate_fault_of};
+ghost use Rattle.snmp_tools.specs.translation.Fault.{translate_fault_of};
 ghost use Rattle.snmp_words.specs.Words.{translate_words};
 ghost use Rattle.snmp_tools.specs.Message.{fault_of};
 ghost use Rattle.snmp_tools.specs.Translating.{IsTranslated, reported};
 
 use crate::failure::Failure;
 use crate::job::report;
-use smi_files::ModuleFiles;
+use crate::loading::ModuleFiles;
 use snmp_io::Output;
-use snmp_translate::{TranslateError, translate};
+use crate::translation::{TranslateError, translate};
 use snmp_walk::{SinkFault, WalkEnd};
 use snmp_words::TranslateJob;
 use std::alloc::Global;

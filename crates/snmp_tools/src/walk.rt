@@ -1,10 +1,10 @@
 //! A walk: its words are judged, its names looked up, its agent reached, and its lines printed.
 ghost use Rattle.std.specs.Prelude.{◌≡◌, ◌⊎◌, ◌+◌, [], IfErr, IfOk, None, OnErr, OnOk, Some};
 ghost use Rattle.std.specs.Prelude.{unwrap_or};
-ghost use Rattle.smi_files.specs.Loaded.{AreLoadedAs};
+ghost use Rattle.snmp_tools.specs.loading.Loaded.{AreLoadedAs};
 ghost use Rattle.snmp_net.specs.Address.{address_of, table, udp};
 ghost use Rattle.snmp_words.specs.Words.{asking_words, walk_words};
-ghost use Rattle.snmp_serve.specs.TableFile.{HasTable, TableFails};
+ghost use Rattle.snmp_tools.specs.agent.TableFile.{HasTable, TableFails};
 ghost use Rattle.snmp_tools.specs.Asking.{MibsFail};
 ghost use Rattle.snmp_tools.specs.Message.{bad_table, fault_of, out_of_memory, unreadable};
 ghost use Rattle.snmp_io.specs.Files.{MayHold};
@@ -23,12 +23,12 @@ use crate::judge::MIB_2;
 use crate::lines::{print_count, print_walk};
 use crate::plan::{Orders, Plan};
 use crate::start::start;
-use smi_files::{FilesError, ModuleFiles};
+use crate::loading::{FilesError, ModuleFiles};
 use smi_show::ShowTree;
 use snmp_agent::Config;
 use snmp_io::{FileFault, Files, Output};
 use snmp_net::{AgentAddress, Links, UdpAddress};
-use snmp_table::{Table, one_answer};
+use snmp_agent::table::{Table, one_answer};
 use snmp_walk::{Link, MemoryLink, SinkFault, WalkCore, WalkEnd};
 use snmp_words::{Asking, WalkJob};
 use std::alloc::Global;

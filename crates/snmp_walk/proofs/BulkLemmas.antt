@@ -40,7 +40,7 @@ use Rattle.std.specs.List.{list_any}
 use Rattle.std.specs.Prelude.{◌||◌}
 use Rattle.std.proofs.lemmas.Bool.{cases_lt}
 use Rattle.snmp_walk.specs.Names.{is_end}
-use Rattle.snmp_table.specs.Table.{MibView, IsMibView, IsNext, IsNextAfter}
+use Rattle.snmp_agent.specs.table.Table.{MibView, IsMibView, IsNext, IsNextAfter}
 use Rattle.snmp_agent.specs.Reply.{AreAnswers, AreEnds, AreRounds, IsBulk, joined, or_zero}
 use Rattle.snmp_walk.specs.Standing.{IsChain}
 use Rattle.snmp_walk.specs.Codec.{Codec}

@@ -1,8 +1,8 @@
 -- Over one table the facts of a run are about its rows.
 use Rattle.std.proofs.Common.{◌≡◌, ◌⊎◌, inl, inr, ℕ, ◌+◌, ◌<◌, List, [], ◌∷◌, ◌++◌, length, refl, sym, ◌∙◌, ap, subst, arith, length-append, Option}
 use Rattle.snmp_wire.specs.Message.{VarBind}
-use Rattle.snmp_table.specs.Table.{MibView, IsMibView, IsGet, IsNext}
-use Rattle.snmp_table.specs.Listing.{variables}
+use Rattle.snmp_agent.specs.table.Table.{MibView, IsMibView, IsGet, IsNext}
+use Rattle.snmp_agent.specs.table.Listing.{variables}
 use Rattle.snmp_walk.specs.declared.end.WalkEnd.{WalkEnd}
 use Rattle.snmp_walk.specs.declared.end.WalkEnd.TheVariants as ending
 use Rattle.snmp_walk.specs.Walker.{Walker, IsWalker}

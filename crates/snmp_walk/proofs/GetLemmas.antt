@@ -8,7 +8,7 @@ use Rattle.std.specs.Prelude.{◌&&◌, not, pos, Ok, Err}
 use Rattle.std.specs.Bool.{nat_eq}
 use Rattle.std.specs.Cmp.Lexicographic.{pointwise}
 use Rattle.snmp_oid.specs.Identifier.{wire}
-use Rattle.snmp_ber.specs.Value.{null_value}
+use Rattle.snmp_wire.specs.ber.Value.{null_value}
 use Rattle.snmp_wire.specs.Message.{VarBind, Message}
 use Rattle.snmp_wire.specs.Laws.{HasPieces}
 use Rattle.snmp_wire.specs.Range.{IsBindingInRange}

@@ -11,7 +11,7 @@ use Rattle.snmp_wire.specs.Spelling.{Spells}
 use Rattle.snmp_wire.specs.Canon.{canon}
 use Rattle.snmp_wire.specs.Range.{IsBindingInRange, IsMessageInRange}
 use Rattle.snmp_walk.specs.Codec.{Codec}
-use Rattle.snmp_table.specs.Table.{MibView, IsMibView, IsGet}
+use Rattle.snmp_agent.specs.table.Table.{MibView, IsMibView, IsGet}
 use Rattle.snmp_agent.specs.Reply.{response, AreAnswers, got, got_next, unwritten, Fits, IsResponse, whole, shortened, bulk}
 use Rattle.snmp_walk.specs.Taken.{awaits}
 use Rattle.snmp_walk.specs.Link.{Agents, OneOf, AreLawful, IsReplyFrom}

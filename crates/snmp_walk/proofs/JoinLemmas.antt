@@ -9,7 +9,7 @@ use Rattle.std.specs.FinMap.{get, entries, find, is_sorted, get-entries, entries
 use Rattle.std.specs.FinMap.Entries.{below_all}
 use Rattle.snmp_oid.specs.Identifier.{Precedes}
 use Rattle.snmp_wire.specs.Message.{Datum, VarBind}
-use Rattle.snmp_table.specs.Table.{
+use Rattle.snmp_agent.specs.table.Table.{
   MibView,
   IsRow,
   IsInstanceName,
@@ -23,7 +23,7 @@ use Rattle.snmp_table.specs.Table.{
   successor,
   end_of_view,
 }
-use Rattle.snmp_table.specs.Listing.{variables}
+use Rattle.snmp_agent.specs.table.Listing.{variables}
 use Rattle.snmp_walk.specs.Names.{is_missing, comes_after}
 use Rattle.snmp_walk.specs.Walk.{rows_after, rows_named, AreAfter, AreRising, AreInstances, or_end}
 use Rattle.snmp_walk.proofs.OrderLemmas.{less_from_after, after-irrefl}

@@ -7,8 +7,8 @@ use Rattle.std.specs.Cmp.Lexicographic.{slice_cmp}
 use Rattle.std.specs.declared.cmp.Ordering.TheVariants.{Less}
 use Rattle.snmp_oid.specs.Identifier.{IsWire, IsBelow, Precedes, wire}
 use Rattle.snmp_wire.specs.Message.{VarBind}
-use Rattle.snmp_table.specs.Table.{MibView, IsRow, IsMibView, IsGet}
-use Rattle.snmp_table.specs.Listing.{variables}
+use Rattle.snmp_agent.specs.table.Table.{MibView, IsRow, IsMibView, IsGet}
+use Rattle.snmp_agent.specs.table.Listing.{variables}
 use Rattle.snmp_walk.specs.declared.mode.Mode.{Mode}
 use Rattle.snmp_walk.specs.declared.mode.Mode.TheVariants as mode
 use Rattle.snmp_walk.specs.Names.{is_below, is_missing, comes_after}

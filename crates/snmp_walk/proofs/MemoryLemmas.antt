@@ -33,7 +33,7 @@ use Rattle.std.proofs.Common.{
 use Rattle.std.specs.Prelude.{unwrap_or, IfSome, IfNone}
 use Rattle.std.specs.List.{slice_get}
 use Rattle.std.proofs.lemmas.List.{get_or_default, drop_all, take_all, take_more, take-append-le}
-use Rattle.snmp_table.specs.Table.{MibView, IsMibView}
+use Rattle.snmp_agent.specs.table.Table.{MibView, IsMibView}
 use Rattle.snmp_agent.specs.Reply.{agent_of, IsReply, IsDropped}
 use Rattle.snmp_agent.specs.declared.config.Config.{Config}
 use Rattle.snmp_agent.specs.declared.config.Why.{Why}

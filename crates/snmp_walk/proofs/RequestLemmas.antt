@@ -56,7 +56,7 @@ use Rattle.snmp_wire.specs.Canon.{
   IsEncodable,
 }
 use Rattle.snmp_wire.specs.declared.binding.Binding.{Binding}
-use Rattle.snmp_ber.specs.declared.value.ValueRef.TheVariants as value
+use Rattle.snmp_wire.specs.declared.ber.value.ValueRef.TheVariants as value
 use Rattle.snmp_walk.specs.Walker.{Walker}
 use Rattle.snmp_walk.specs.Request.{request_of}
 

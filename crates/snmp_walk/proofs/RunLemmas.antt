@@ -51,7 +51,7 @@ use Rattle.snmp_walk.proofs.FactLemmas.{one_table, facts, lawful_by, send_facts}
 use Rattle.snmp_walk.proofs.SwiftLemmas.{few_in, gets_one, trail_in_rest}
 use Rattle.snmp_walk.proofs.TablesLemmas.{few_rows}
 use Rattle.snmp_walk.specs.Walk.{rest_of}
-use Rattle.snmp_table.specs.Listing.{variables}
+use Rattle.snmp_agent.specs.table.Listing.{variables}
 use Rattle.std.specs.Prelude.{◌≢◌, length, ◌≤◌}
 use Rattle.snmp_walk.proofs.SendLemmas.{
   Sends,

@@ -24,7 +24,7 @@ use Rattle.snmp_wire.specs.Message.{
   no_such_instance,
   end_of_mib_view,
 }
-use Rattle.snmp_table.specs.Table.{MibView, IsInstanceValue, IsMibView, IsGet, variable, unknown_object, unknown_instance, IsNext, successor, end_of_view}
+use Rattle.snmp_agent.specs.table.Table.{MibView, IsInstanceValue, IsMibView, IsGet, variable, unknown_object, unknown_instance, IsNext, successor, end_of_view}
 use Rattle.snmp_walk.specs.Names.{is_end, is_missing, comes_after}
 use Rattle.snmp_walk.specs.Trail.{AreLawfulReplies}
 use Rattle.snmp_walk.specs.Link.{Agents, OneOf, IsNextFrom, IsGotFrom, AreViews}

@@ -4,7 +4,7 @@ use Rattle.std.specs.Ordering.{nat_cmp}
 use Rattle.std.specs.Cmp.Lexicographic.{slice_cmp}
 use Rattle.std.specs.declared.cmp.Ordering.TheVariants.{Less}
 use Rattle.snmp_oid.specs.Identifier.{Precedes}
-use Rattle.snmp_ber.specs.Sizes.{ElementSizes}
+use Rattle.snmp_wire.specs.ber.Sizes.{ElementSizes}
 use Rattle.snmp_wire.specs.Sizes.{MessageSizes}
 use Rattle.snmp_wire.specs.Laws.{OneMessage, StrictIsRead, EncodingIsStrict, HasPieces}
 

@@ -30,7 +30,7 @@ use Rattle.std.specs.Ordering.{int_eq}
 use Rattle.std.specs.Cmp.Lexicographic.{pointwise}
 use Rattle.snmp_oid.specs.Identifier.{wire}
 use Rattle.snmp_wire.specs.declared.kind.Kind.TheVariants as kind
-use Rattle.snmp_ber.specs.Value.{null_value}
+use Rattle.snmp_wire.specs.ber.Value.{null_value}
 use Rattle.snmp_wire.specs.Message.{VarBind, Message}
 use Rattle.snmp_wire.specs.Canon.{canon}
 use Rattle.snmp_wire.specs.Spelling.{Spells}
@@ -46,7 +46,7 @@ use Rattle.snmp_walk.specs.Sink.{Given}
 use Rattle.snmp_walk.specs.Link.{Agents, OneOf, IsUnanswered}
 use Rattle.snmp_walk.specs.Traffic.{Traffic, Lost}
 use Rattle.snmp_walk.specs.Facts.{IsDone, IsDoneOrStopped}
-use Rattle.snmp_table.specs.Table.{MibView, IsGet}
+use Rattle.snmp_agent.specs.table.Table.{MibView, IsGet}
 
 -- each name as it is sent, with the value Null
 abbrev pub asked_names : List (List ℕ) → List VarBind

@@ -3,7 +3,7 @@ use Rattle.std.specs.Prelude.{pos, ◌≡◌, ℕ, ◌^◌, ◌<◌, ◌≤◌, 
 use Rattle.snmp_wire.specs.declared.kind.Kind.TheVariants as kind
 use Rattle.snmp_wire.specs.Message.{VarBind, Message}
 use Rattle.snmp_wire.specs.Canon.{canon}
-use Rattle.snmp_table.specs.Table.{MibView, IsGet, IsNext, IsMibView}
+use Rattle.snmp_agent.specs.table.Table.{MibView, IsGet, IsNext, IsMibView}
 use Rattle.snmp_agent.specs.Reply.{Agent, IsReply, IsDropped}
 use Rattle.snmp_agent.specs.declared.config.Why.{Why}
 

@@ -2,7 +2,7 @@
 use Rattle.std.specs.Prelude.{◌≡◌, ℕ, ◌≤◌, ◌-◌, ◌⊎◌, List, [], ◌∷◌, ◌++◌, length, drop, get_or}
 use Rattle.std.specs.Prelude.{Option, Some, None, unwrap_or}
 use Rattle.std.specs.List.{slice_get}
-use Rattle.snmp_table.specs.Table.{MibView}
+use Rattle.snmp_agent.specs.table.Table.{MibView}
 use Rattle.snmp_agent.specs.declared.config.Config.{Config}
 use Rattle.snmp_walk.specs.declared.memory.MemoryLink.{MemoryLink}
 use Rattle.snmp_agent.specs.declared.config.Why.{Why}

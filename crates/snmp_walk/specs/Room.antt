@@ -11,8 +11,8 @@ use Rattle.snmp_wire.specs.Message.{
   end_of_mib_view,
 }
 use Rattle.snmp_wire.specs.Canon.{canon}
-use Rattle.snmp_table.specs.Table.{MibView, IsRow}
-use Rattle.snmp_table.specs.Listing.{variables}
+use Rattle.snmp_agent.specs.table.Table.{MibView, IsRow}
+use Rattle.snmp_agent.specs.table.Listing.{variables}
 use Rattle.snmp_walk.specs.Walk.{rest_of}
 use Rattle.snmp_walk.specs.Walker.{Walker}
 use Rattle.snmp_walk.specs.Link.{Agents, OneOf, single_response}

@@ -1,7 +1,7 @@
 -- What a walk gives where the agent's table changes: each reply is that of one of several tables.
 use Rattle.std.specs.Prelude.{◌≡◌, ℕ, ◌+◌, ◌≤◌, ◌⊎◌, true, List, [], ◌∷◌, ◌++◌, length}
 use Rattle.snmp_wire.specs.Message.{VarBind}
-use Rattle.snmp_table.specs.Table.{MibView, IsRow}
+use Rattle.snmp_agent.specs.table.Table.{MibView, IsRow}
 use Rattle.snmp_walk.specs.declared.mode.Mode.TheVariants as mode
 use Rattle.snmp_walk.specs.Names.{is_below, comes_after}
 use Rattle.snmp_walk.specs.Run.{IsNameIn}

@@ -7,7 +7,7 @@ ghost use Rattle.snmp_wire.specs.Canon.{IsEncodable};
 ghost use Rattle.snmp_wire.specs.Parts.{parts_message};
 ghost use Rattle.std.specs.Bool.{nat_eq};
 ghost use Rattle.std.specs.Cmp.Lexicographic.{pointwise};
-ghost use Rattle.snmp_ber.specs.Value.{null_value};
+ghost use Rattle.snmp_wire.specs.ber.Value.{null_value};
 ghost use Rattle.snmp_wire.specs.Message.{Message, VarBind, var_bind};
 ghost use Rattle.snmp_walk.specs.Names.{is_end};
 ghost use Rattle.snmp_walk.specs.Taken.{awaits};

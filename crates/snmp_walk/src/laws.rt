@@ -2,15 +2,15 @@
 ghost use Rattle.std.specs.Prelude.{◌≡◌, ◌++◌, ◌∷◌, ◌↔◌, ℕ, List};
 ghost use Rattle.snmp_oid.specs.Identifier.{IsWire, IsBelow, Precedes, wire};
 ghost use Rattle.snmp_wire.specs.Message.{VarBind};
-ghost use Rattle.snmp_table.specs.Table.{MibView, IsMibView, IsRow, IsGet};
-ghost use Rattle.snmp_table.specs.Listing.{variables};
+ghost use Rattle.snmp_agent.specs.table.Table.{MibView, IsMibView, IsRow, IsGet};
+ghost use Rattle.snmp_agent.specs.table.Listing.{variables};
 ghost use Rattle.snmp_walk.specs.declared.mode.Mode.{Mode};
 ghost use Rattle.snmp_walk.specs.Walk.{rows_below, walk_of, rest_of};
 ghost use Rattle.snmp_walk.specs.Codec.{Codec};
 ghost use Rattle.snmp_walk.specs.Link.{OneOf};
 ghost use Rattle.snmp_walk.specs.Ordered.{AreOrdered, IsResumable};
 
-use snmp_ber::element_sizes;
+use snmp_wire::ber::element_sizes;
 use snmp_oid::order;
 use snmp_wire::{encoding_is_strict, message_sizes, one_spelling, pieces, strict_is_read};
 

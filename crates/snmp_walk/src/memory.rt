@@ -5,7 +5,7 @@ ghost use Rattle.snmp_walk.specs.Traffic.{datagram_at, received, Gives};
 use crate::arena::Arena;
 use crate::{Link, LinkFault};
 use snmp_agent::{Config, Outcome, answer};
-use snmp_table::Table;
+use snmp_agent::table::Table;
 use std::alloc::{AllocError, Global};
 
 /// A link to an agent in memory, over one table, or over several that each reply to some of the
@@ -31,7 +31,7 @@ pub struct MemoryLink<'a> {
 impl<'a> MemoryLink<'a> {
     ghost use Rattle.std.specs.Prelude.{◌≡◌, ◌<◌, [], ◌∷◌, ℕ, All, length, OnOk, OnErr, IfSome};
     ghost use Rattle.std.specs.Prelude.{◌≤◌};
-    ghost use Rattle.snmp_table.specs.Table.{IsMibView};
+    ghost use Rattle.snmp_agent.specs.table.Table.{IsMibView};
     ghost use Rattle.snmp_walk.specs.Link.{AreViews, OneOf};
     ghost use Rattle.snmp_walk.specs.Traffic.{Gives, datagram_at, received};
     ghost use Rattle.snmp_walk.specs.Memory.{IsHonest, IsReadyFor, IsNextNumber, agents_of};

@@ -68,8 +68,8 @@ impl WalkCore {
     ghost use Rattle.snmp_walk.specs.Walker.{IsMethod, IsWalker};
     ghost use Rattle.snmp_walk.specs.Facts.{IsFresh, walk_at};
     ghost use Rattle.snmp_walk.specs.Walk.{walk_of, rest_of};
-    ghost use Rattle.snmp_table.specs.Table.{MibView, IsMibView};
-    ghost use Rattle.snmp_table.specs.Listing.{variables};
+    ghost use Rattle.snmp_agent.specs.table.Table.{MibView, IsMibView};
+    ghost use Rattle.snmp_agent.specs.table.Listing.{variables};
     ghost use Rattle.snmp_walk.specs.Request.{started, resumed, request_of, request_kind};
     ghost use Rattle.snmp_walk.specs.Request.{request_repetitions};
     ghost use Rattle.snmp_walk.specs.Taken.{is_over, is_awaited, stops, goes_on, closes};

@@ -2,13 +2,13 @@
 use Rattle.std.proofs.Common.{◌≡◌, ℕ, zero, suc, ◌<◌, ◌≤◌, List, [], ◌∷◌, length, Result, Ok, Err, IsOk, refl, sym, ap, subst, ◌∙◌, arith}
 use Rattle.std.specs.Result.{result_unwrap_or}
 use Rattle.std.proofs.lemmas.List.{nil_from_length}
-use Rattle.snmp_ber.specs.declared.error.BerError.{BerError}
-use Rattle.snmp_ber.specs.Value.{Datum}
+use Rattle.snmp_wire.specs.declared.ber.error.BerError.{BerError}
+use Rattle.snmp_wire.specs.ber.Value.{Datum}
 use Rattle.snmp_wire.specs.Message.{VarBind}
-use Rattle.snmp_ber.specs.Reading.{◌>>=◌, checked, inner_at, identifier_of, typed_value}
+use Rattle.snmp_wire.specs.ber.Reading.{◌>>=◌, checked, inner_at, identifier_of, typed_value}
 use Rattle.snmp_wire.specs.Reading.{Fields, fields_of, fields_at, binding_of, binding_at, bindings_within, bindings_of, bindings_in}
-use Rattle.snmp_ber.specs.ReadingLaws.{ok_is, bind_ok, bind_same, ok_value, is_ok_at, checked_err, err_checked, ok_checked}
-use Rattle.snmp_ber.specs.LengthLaws.{inner_takes, element_shrinks}
+use Rattle.snmp_wire.specs.ber.ReadingLaws.{ok_is, bind_ok, bind_same, ok_value, is_ok_at, checked_err, err_checked, ok_checked}
+use Rattle.snmp_wire.specs.ber.LengthLaws.{inner_takes, element_shrinks}
 
 -- a binding has octets of its own
 pub fields_shrink : (octets : List ℕ) (x : Fields × List ℕ) → fields_at octets ≡ Ok x → length x.1 < length octets

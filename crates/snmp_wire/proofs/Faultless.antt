@@ -1,19 +1,19 @@
 -- Octets that spell a message have no fault.
 use Rattle.std.proofs.Common.{◌≡◌, ◌≢◌, ℕ, ℤ, ◌+◌, Some, None, List, [], ◌∷◌, ◌++◌, length, Ok, refl, sym, ap, subst, ◌∙◌, append_assoc, arith, inl, inr}
 use Rattle.std.proofs.lemmas.List.{append-nil}
-use Rattle.snmp_ber.specs.declared.error.BerError.{BerError}
-use Rattle.snmp_ber.specs.declared.error.BerError.TheVariants as error
-use Rattle.snmp_ber.specs.Number.{lenient}
-use Rattle.snmp_ber.specs.Length.{IsElement}
-use Rattle.snmp_ber.specs.Value.{Datum, integer_value, octet_string, object_id}
+use Rattle.snmp_wire.specs.declared.ber.error.BerError.{BerError}
+use Rattle.snmp_wire.specs.declared.ber.error.BerError.TheVariants as error
+use Rattle.snmp_wire.specs.ber.Number.{lenient}
+use Rattle.snmp_wire.specs.ber.Length.{IsElement}
+use Rattle.snmp_wire.specs.ber.Value.{Datum, integer_value, octet_string, object_id}
 use Rattle.snmp_wire.specs.Message.{VarBind, Message}
-use Rattle.snmp_ber.specs.Spelling.{value_tag, IsContent, SpellsValue}
+use Rattle.snmp_wire.specs.ber.Spelling.{value_tag, IsContent, SpellsValue}
 use Rattle.snmp_wire.specs.Spelling.{SpellsBindings, kind_tag, SpellsPdu, Spells}
-use Rattle.snmp_ber.specs.Reading.{element_at}
+use Rattle.snmp_wire.specs.ber.Reading.{element_at}
 use Rattle.snmp_wire.specs.Fault.{BeginsWith, EndsEarly, HasForbiddenLength, Place, at_message, at_version, at_community, at_pdu, at_id, at_a, at_b, at_list}
 use Rattle.snmp_wire.specs.Fault.{at_binding, at_name, at_value, first_inside, next_behind, AllowsTag, Calls, Expects, starts, inside, behind, IsFault}
-use Rattle.snmp_ber.specs.ReadingLaws.{ok_is}
-use Rattle.snmp_ber.specs.LengthLaws.{element_again}
+use Rattle.snmp_wire.specs.ber.ReadingLaws.{ok_is}
+use Rattle.snmp_wire.specs.ber.LengthLaws.{element_again}
 
 -- an element stands here as the place wants it, and the elements inside it and behind it do
 data IsGood : Place → List ℕ → Type 0 where

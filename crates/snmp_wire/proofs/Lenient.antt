@@ -1,10 +1,10 @@
 -- What is spelt by the standard is spelt in a form that is read.
 use Rattle.std.specs.Prelude.{ℕ, List, [], ◌∷◌}
-use Rattle.snmp_ber.specs.Value.{integer_value, octet_string, object_id}
+use Rattle.snmp_wire.specs.ber.Value.{integer_value, octet_string, object_id}
 use Rattle.snmp_wire.specs.Message.{VarBind, Message}
-use Rattle.snmp_ber.specs.Number.{lenient, strict}
+use Rattle.snmp_wire.specs.ber.Number.{lenient, strict}
 use Rattle.snmp_wire.specs.Spelling.{SpellsBinding, SpellsBindings, SpellsPdu, Spells, Strict}
-use Rattle.snmp_ber.specs.Laws.{ShortestEncodings}
+use Rattle.snmp_wire.specs.ber.Laws.{ShortestEncodings}
 
 binding_is_read : (laws : ShortestEncodings) (binding : VarBind) (text : List ℕ) → SpellsBinding strict binding text → SpellsBinding lenient binding text
 binding_is_read laws binding text is = record {

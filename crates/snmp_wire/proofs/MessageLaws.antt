@@ -3,22 +3,22 @@ use Rattle.std.proofs.Common.{◌≡◌, ℕ, ℤ, zero, suc, ◌<◌, cond, eqb
 use Rattle.std.proofs.Common.{arith, inl, inr}
 use Rattle.std.proofs.lemmas.Bool.{eqb-true}
 use Rattle.std.proofs.lemmas.List.{nil_from_length, append-nil, length-append, append_cancel_right}
-use Rattle.snmp_ber.specs.declared.error.BerError.{BerError}
-use Rattle.snmp_ber.specs.declared.error.BerError.TheVariants as error
+use Rattle.snmp_wire.specs.declared.ber.error.BerError.{BerError}
+use Rattle.snmp_wire.specs.declared.ber.error.BerError.TheVariants as error
 use Rattle.snmp_wire.specs.declared.kind.Kind.{Kind}
 use Rattle.snmp_wire.specs.declared.kind.Kind.TheVariants as kind
-use Rattle.snmp_ber.specs.Number.{AreOctets, lenient}
-use Rattle.snmp_ber.specs.Length.{IsElement}
-use Rattle.snmp_ber.specs.Value.{integer_value}
+use Rattle.snmp_wire.specs.ber.Number.{AreOctets, lenient}
+use Rattle.snmp_wire.specs.ber.Length.{IsElement}
+use Rattle.snmp_wire.specs.ber.Value.{integer_value}
 use Rattle.snmp_wire.specs.Message.{VarBind, Message}
-use Rattle.snmp_ber.specs.Spelling.{value_tag, SpellsValue}
+use Rattle.snmp_wire.specs.ber.Spelling.{value_tag, SpellsValue}
 use Rattle.snmp_wire.specs.Spelling.{SpellsBinding, SpellsBindings, kind_tag, SpellsPdu, Spells}
-use Rattle.snmp_ber.specs.Reading.{fault_or, ◌>>=◌, content_at, inner_at, element_at, integer_of, integer_at, identifier_of, typed_value}
+use Rattle.snmp_wire.specs.ber.Reading.{fault_or, ◌>>=◌, content_at, inner_at, element_at, integer_of, integer_at, identifier_of, typed_value}
 use Rattle.snmp_wire.specs.Reading.{Fields, fields_of, fields_at, binding_of, binding_at, bindings_within, bindings_of, kind_of, outermost_of, pdu_of}
 use Rattle.snmp_wire.specs.Reading.{message_of}
-use Rattle.snmp_ber.specs.ReadingLaws.{done, ok_is, bind_ok, chosen, passed}
-use Rattle.snmp_ber.specs.LengthLaws.{content_takes, content_again, inner_takes, inner_again, element_takes, element_again}
-use Rattle.snmp_ber.specs.Laws.{ContentReading}
+use Rattle.snmp_wire.specs.ber.ReadingLaws.{done, ok_is, bind_ok, chosen, passed}
+use Rattle.snmp_wire.specs.ber.LengthLaws.{content_takes, content_again, inner_takes, inner_again, element_takes, element_again}
+use Rattle.snmp_wire.specs.ber.Laws.{ContentReading}
 use Rattle.snmp_wire.proofs.BindingLemmas.{with_rest, bindings_step}
 
 -- ---- integers

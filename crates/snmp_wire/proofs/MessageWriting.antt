@@ -4,16 +4,16 @@ use Rattle.std.proofs.lemmas.Int.{to_z-of_z}
 use mir.Syntax.{w32}
 use mir.Val.{SFits, of_z, to_z}
 use Rattle.snmp_wire.specs.Canon.{canon, canon_bindings, canon_fields, canon_front, canon_head, canon_opening}
-use Rattle.snmp_ber.specs.Canon.{canon_element, canon_header, canon_length, canon_value}
+use Rattle.snmp_wire.specs.ber.Canon.{canon_element, canon_header, canon_length, canon_value}
 use Rattle.snmp_wire.specs.Message.{Message}
 pub use Rattle.snmp_wire.specs.Sizes.{pdu_size}
-use Rattle.snmp_ber.specs.Value.{integer_value, octet_string}
+use Rattle.snmp_wire.specs.ber.Value.{integer_value, octet_string}
 use Rattle.snmp_wire.specs.Spelling.{kind_tag}
-use Rattle.snmp_ber.specs.Spelling.{sequence_tag}
-use Rattle.snmp_ber.specs.Writing.{Writes}
-use Rattle.snmp_ber.specs.ElementLaws.{length-canon_header}
-use Rattle.snmp_ber.specs.Sizes.{ElementSizes}
-use Rattle.snmp_ber.specs.WritingLaws.{writes_same, writes_then}
+use Rattle.snmp_wire.specs.ber.Spelling.{sequence_tag}
+use Rattle.snmp_wire.specs.ber.Writing.{Writes}
+use Rattle.snmp_wire.specs.ber.ElementLaws.{length-canon_header}
+use Rattle.snmp_wire.specs.ber.Sizes.{ElementSizes}
+use Rattle.snmp_wire.specs.ber.WritingLaws.{writes_same, writes_then}
 
 pub length-canon_fields : (message : Message) → length (canon_fields message)
     ≡ length (canon_value (integer_value message.id)) + length (canon_value (integer_value message.a)) + length (canon_value (integer_value message.b))

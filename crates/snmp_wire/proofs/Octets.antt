@@ -1,7 +1,7 @@
 -- Octets in two parts.
 use Rattle.std.proofs.Common.{ℕ, ◌+◌, ◌<◌, List, ◌++◌, length, arith, subst, length-append}
 use Rattle.std.proofs.lemmas.List.{get_or_append_left, get_or-append-add}
-use Rattle.snmp_ber.specs.Number.{AreOctets}
+use Rattle.snmp_wire.specs.ber.Number.{AreOctets}
 
 pub front_octets : (xs ys : List ℕ) → AreOctets (xs ++ ys) → AreOctets xs
 front_octets xs ys h k d lt =

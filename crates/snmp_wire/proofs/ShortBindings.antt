@@ -2,10 +2,10 @@
 use Rattle.std.proofs.Common.{◌≡◌, ℕ, ◌+◌, ◌-◌, ◌<◌, ◌≤◌, List, [], ◌∷◌, ◌++◌, length, get_or, take, drop, Ok, refl, sym, ap, subst, ◌∙◌, append_assoc, arith}
 use Rattle.std.proofs.Common.{inl}
 use Rattle.std.proofs.lemmas.List.{length-append, length-drop, length-take-le, take-append-drop}
-use Rattle.snmp_ber.specs.Length.{IsElement}
-use Rattle.snmp_ber.specs.Reading.{inner_at}
+use Rattle.snmp_wire.specs.ber.Length.{IsElement}
+use Rattle.snmp_wire.specs.ber.Reading.{inner_at}
 use Rattle.snmp_wire.specs.Reading.{Fields, fields_at}
-use Rattle.snmp_ber.specs.LengthLaws.{inner_again}
+use Rattle.snmp_wire.specs.ber.LengthLaws.{inner_again}
 use Rattle.snmp_wire.proofs.MessageLaws.{fields_again}
 
 short_element : (tag : ℕ) (content : List ℕ) → length content < 128 → IsElement tag content (tag ∷ length content ∷ content)

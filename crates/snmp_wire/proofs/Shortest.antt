@@ -1,14 +1,14 @@
 -- No spelling by the standard is shorter than the one that is written.
 use Rattle.std.proofs.Common.{ℕ, ◌≤◌, List, [], ◌∷◌, ◌++◌, length, ap, subst, arith, length-append}
 use Rattle.snmp_wire.specs.Canon.{canon, canon_binding, canon_bindings, canon_fields, canon_opening}
-use Rattle.snmp_ber.specs.Canon.{canon_element, canon_value}
-use Rattle.snmp_ber.specs.Value.{integer_value, octet_string, object_id}
+use Rattle.snmp_wire.specs.ber.Canon.{canon_element, canon_value}
+use Rattle.snmp_wire.specs.ber.Value.{integer_value, octet_string, object_id}
 use Rattle.snmp_wire.specs.Message.{VarBind, Message}
-use Rattle.snmp_ber.specs.Number.{AreOctets, strict}
-use Rattle.snmp_ber.specs.Spelling.{sequence_tag}
+use Rattle.snmp_wire.specs.ber.Number.{AreOctets, strict}
+use Rattle.snmp_wire.specs.ber.Spelling.{sequence_tag}
 use Rattle.snmp_wire.specs.Spelling.{SpellsBinding, SpellsBindings, SpellsPdu, Strict, kind_tag}
 use Rattle.snmp_wire.proofs.MessageWriting.{length-canon_fields, length-canon_opening}
-use Rattle.snmp_ber.specs.Laws.{ShortestEncodings}
+use Rattle.snmp_wire.specs.ber.Laws.{ShortestEncodings}
 use Rattle.snmp_wire.proofs.Octets.{back_octets, front_octets}
 
 -- ---- elements

@@ -4,15 +4,15 @@ use Rattle.std.specs.Prelude.{ℕ, ◌+◌}
 use Rattle.std.specs.Prelude.{List, ◌++◌, length}
 use Rattle.std.specs.List.{flat_map}
 use Rattle.snmp_oid.specs.Identifier.{IsWire}
-use Rattle.snmp_ber.specs.Value.{integer_value, octet_string, object_id}
+use Rattle.snmp_wire.specs.ber.Value.{integer_value, octet_string, object_id}
 use Rattle.snmp_wire.specs.Message.{VarBind, Message}
-use Rattle.snmp_ber.specs.Spelling.{sequence_tag}
+use Rattle.snmp_wire.specs.ber.Spelling.{sequence_tag}
 use Rattle.snmp_wire.specs.Spelling.{kind_tag}
-unfoldable pub use Rattle.snmp_ber.specs.Canon.{canon_content, canon_element, canon_header}
-unfoldable pub use Rattle.snmp_ber.specs.Canon.{canon_length, canon_number, canon_subidentifier}
-unfoldable pub use Rattle.snmp_ber.specs.Canon.{canon_value, length_size, number_size, octets}
-unfoldable pub use Rattle.snmp_ber.specs.Canon.{septets, subidentifier_size}
-pub use Rattle.snmp_ber.specs.Canon.{IsEncodableValue, digit_count, magnitude_of}
+unfoldable pub use Rattle.snmp_wire.specs.ber.Canon.{canon_content, canon_element, canon_header}
+unfoldable pub use Rattle.snmp_wire.specs.ber.Canon.{canon_length, canon_number, canon_subidentifier}
+unfoldable pub use Rattle.snmp_wire.specs.ber.Canon.{canon_value, length_size, number_size, octets}
+unfoldable pub use Rattle.snmp_wire.specs.ber.Canon.{septets, subidentifier_size}
+pub use Rattle.snmp_wire.specs.ber.Canon.{IsEncodableValue, digit_count, magnitude_of}
 
 unfoldable pub canon_binding : VarBind → List ℕ
 canon_binding binding =

@@ -1,12 +1,12 @@
 -- Why octets encode no message: what each fault says of them.
 use Rattle.std.specs.Prelude.{◌≡◌, ◌≢◌, ℕ, ◌≤◌, ◌⊎◌, List, [], ◌∷◌, ◌++◌, Option, Some, None}
-use Rattle.snmp_ber.specs.declared.error.BerError.{BerError}
-use Rattle.snmp_ber.specs.declared.error.BerError.TheVariants as error
+use Rattle.snmp_wire.specs.declared.ber.error.BerError.{BerError}
+use Rattle.snmp_wire.specs.declared.ber.error.BerError.TheVariants as error
 use Rattle.snmp_wire.specs.declared.kind.Kind.{Kind}
-use Rattle.snmp_ber.specs.Number.{lenient}
-use Rattle.snmp_ber.specs.Length.{IsElement}
-use Rattle.snmp_ber.specs.Value.{Datum}
-use Rattle.snmp_ber.specs.Spelling.{sequence_tag, value_tag, IsContent}
+use Rattle.snmp_wire.specs.ber.Number.{lenient}
+use Rattle.snmp_wire.specs.ber.Length.{IsElement}
+use Rattle.snmp_wire.specs.ber.Value.{Datum}
+use Rattle.snmp_wire.specs.ber.Spelling.{sequence_tag, value_tag, IsContent}
 use Rattle.snmp_wire.specs.Spelling.{kind_tag}
 
 -- the octets begin with an element, and the rest follows

@@ -8,9 +8,10 @@ pub mod Reading
 pub mod Shortest
 pub mod Sizes
 pub mod Spelling
-pub use Rattle.snmp_ber.specs.Identifier
-pub use Rattle.snmp_ber.specs.Length
-pub use Rattle.snmp_ber.specs.Number
-pub use Rattle.snmp_ber.specs.Owned
-pub use Rattle.snmp_ber.specs.Value
-pub use Rattle.snmp_ber.specs.Writing
+pub use Rattle.snmp_wire.specs.ber.Identifier
+pub use Rattle.snmp_wire.specs.ber.Length
+pub use Rattle.snmp_wire.specs.ber.Number
+pub use Rattle.snmp_wire.specs.ber.Owned
+pub use Rattle.snmp_wire.specs.ber.Value
+pub use Rattle.snmp_wire.specs.ber.Writing
+pub mod ber

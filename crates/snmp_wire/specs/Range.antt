@@ -3,9 +3,9 @@
 use Rattle.std.specs.Prelude.{◌≤◌, length}
 use Rattle.std.specs.List.{AllByRecursion}
 use Rattle.snmp_wire.specs.Canon.{canon_bindings}
-use Rattle.snmp_ber.specs.Value.{integer_value, octet_string, object_id}
+use Rattle.snmp_wire.specs.ber.Value.{integer_value, octet_string, object_id}
 use Rattle.snmp_wire.specs.Message.{VarBind, Message}
-pub use Rattle.snmp_ber.specs.Range.{IsInRange}
+pub use Rattle.snmp_wire.specs.ber.Range.{IsInRange}
 
 pub record IsBindingInRange (binding : VarBind) : Type 0 where
   pub name : IsInRange (object_id binding.name)

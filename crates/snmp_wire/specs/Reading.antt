@@ -4,14 +4,14 @@ use Rattle.std.specs.Prelude.{ℕ, zero, suc, ℤ}
 use Rattle.std.specs.Prelude.{◌==◌, if◌then◌else◌}
 use Rattle.std.specs.Prelude.{List, [], ◌∷◌, length, Result, Ok, Err}
 use Rattle.std.specs.Result.{result_unwrap_or}
-use Rattle.snmp_ber.specs.declared.error.BerError.{BerError}
-use Rattle.snmp_ber.specs.declared.error.BerError.TheVariants as error
+use Rattle.snmp_wire.specs.declared.ber.error.BerError.{BerError}
+use Rattle.snmp_wire.specs.declared.ber.error.BerError.TheVariants as error
 use Rattle.snmp_wire.specs.declared.kind.Kind.{Kind}
 use Rattle.snmp_wire.specs.declared.kind.Kind.TheVariants as kind
 use Rattle.snmp_wire.specs.declared.binding.Fields as Lent
 use Rattle.snmp_wire.specs.Message.{VarBind, Message}
-use Rattle.snmp_ber.specs.Reading.{fault_or, content_at, element_at, identifier_of, inner_at}
-use Rattle.snmp_ber.specs.Reading.{integer_at, typed_value, ◌>>=◌}
+use Rattle.snmp_wire.specs.ber.Reading.{fault_or, content_at, element_at, identifier_of, inner_at}
+use Rattle.snmp_wire.specs.ber.Reading.{integer_at, typed_value, ◌>>=◌}
 
 -- ---- bindings
 

@@ -1,8 +1,8 @@
 -- How many octets the parts of a message's encoding take.
 use Rattle.std.specs.Prelude.{◌≡◌, ◌≤◌, ℕ, ◌+◌, length}
-use Rattle.snmp_ber.specs.Canon.{canon_header, canon_value}
-use Rattle.snmp_ber.specs.Spelling.{sequence_tag}
-use Rattle.snmp_ber.specs.Value.{integer_value, octet_string}
+use Rattle.snmp_wire.specs.ber.Canon.{canon_header, canon_value}
+use Rattle.snmp_wire.specs.ber.Spelling.{sequence_tag}
+use Rattle.snmp_wire.specs.ber.Value.{integer_value, octet_string}
 use Rattle.snmp_wire.specs.Canon.{canon, canon_bindings, canon_fields, canon_front, canon_head}
 use Rattle.snmp_wire.specs.Canon.{canon_opening}
 use Rattle.snmp_wire.specs.Message.{Message}

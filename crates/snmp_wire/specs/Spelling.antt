@@ -3,11 +3,11 @@
 use Rattle.std.specs.Prelude.{◌≡◌, ℕ, List, [], ◌∷◌, ◌++◌}
 use Rattle.snmp_wire.specs.declared.kind.Kind.{Kind}
 use Rattle.snmp_wire.specs.declared.kind.Kind.TheVariants as kind
-use Rattle.snmp_ber.specs.Number.{AreOctets, Form, lenient, strict}
-use Rattle.snmp_ber.specs.Length.{IsElement}
-use Rattle.snmp_ber.specs.Value.{integer_value, octet_string, object_id}
+use Rattle.snmp_wire.specs.ber.Number.{AreOctets, Form, lenient, strict}
+use Rattle.snmp_wire.specs.ber.Length.{IsElement}
+use Rattle.snmp_wire.specs.ber.Value.{integer_value, octet_string, object_id}
 use Rattle.snmp_wire.specs.Message.{VarBind, Message}
-pub use Rattle.snmp_ber.specs.Spelling.{IsContent, SpellsValue, sequence_tag, value_tag}
+pub use Rattle.snmp_wire.specs.ber.Spelling.{IsContent, SpellsValue, sequence_tag, value_tag}
 
 -- the octets encode the binding: a SEQUENCE of its name and its value
 pub record SpellsBinding (form : Form) (binding : VarBind) (octets : List ℕ) : Type 0 where

@@ -2,16 +2,16 @@
 ghost use Rattle.std.specs.Prelude.{◌≡◌, ℕ, List, [], ◌∷◌, true, false, length, IsOk, Ok, ◌+◌, ◌^◌};
 ghost use Rattle.std.specs.Prelude.{◌<◌, ◌≤◌, ◌↔◌, ◌++◌, drop, IfSome, IfNone, IsSome, ⊤};
 ghost use Rattle.snmp_wire.specs.Message.{var_bind};
-ghost use Rattle.snmp_ber.specs.Value.{null_value, object_id};
+ghost use Rattle.snmp_wire.specs.ber.Value.{null_value, object_id};
 ghost use Rattle.snmp_wire.specs.Reading as reading;
-ghost use Rattle.snmp_ber.specs.Reading.{AgreesBy, checked};
+ghost use Rattle.snmp_wire.specs.ber.Reading.{AgreesBy, checked};
 ghost use Rattle.snmp_oid.specs.Identifier.{IsWire};
 ghost use Rattle.snmp_wire.specs.Canon.{IsEncodable, canon_binding};
-ghost use Rattle.snmp_ber.specs.Canon.{canon_value};
-ghost use Rattle.snmp_ber.specs.Writing.{Writes};
+ghost use Rattle.snmp_wire.specs.ber.Canon.{canon_value};
+ghost use Rattle.snmp_wire.specs.ber.Writing.{Writes};
 
-use snmp_ber::tag::{OBJECT_IDENTIFIER, SEQUENCE};
-use snmp_ber::{
+use crate::ber::tag::{OBJECT_IDENTIFIER, SEQUENCE};
+use crate::ber::{
     BerError, ValueRef, check_identifier, check_value, content_size, element_at, header_size,
     identifier_size, inner_at, push_identifier, put_header, put_identifier, put_short_header,
     put_value, read_value,

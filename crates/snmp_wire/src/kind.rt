@@ -1,10 +1,10 @@
 //! The kinds of PDU.
 ghost use Rattle.std.specs.Prelude.{◌≡◌};
 ghost use Rattle.snmp_wire.specs.Reading as reading;
-ghost use Rattle.snmp_ber.specs.Reading.{AgreesBy};
+ghost use Rattle.snmp_wire.specs.ber.Reading.{AgreesBy};
 ghost use Rattle.snmp_wire.specs.Spelling.{kind_tag};
 
-use snmp_ber::BerError;
+use crate::ber::BerError;
 
 /// The kind of a PDU (RFC 3416, section 3).
 #[derive(Clone, Copy, Debug, PartialEq, Eq)]

@@ -1,7 +1,7 @@
 //! Laws of messages and their encodings, for proofs above and for readers: each is a call that does
 //! nothing, and whose caller knows what it states.
 ghost use Rattle.std.specs.Prelude.{ℕ, List};
-ghost use Rattle.snmp_ber.specs.declared.error.BerError.{BerError};
+ghost use Rattle.snmp_wire.specs.declared.ber.error.BerError.{BerError};
 ghost use Rattle.snmp_wire.specs.Fault.{IsFault};
 ghost use Rattle.snmp_wire.specs.Laws.{EncodingIsShortest, EncodingIsStrict, HasPieces, OneMessage};
 ghost use Rattle.snmp_wire.specs.Laws.{OneShortestEncoding, StrictIsRead};
@@ -9,7 +9,7 @@ ghost use Rattle.snmp_wire.specs.Message.{Message};
 ghost use Rattle.snmp_wire.specs.Sizes.{MessageSizes};
 ghost use Rattle.snmp_wire.specs.Spelling.{Spells};
 
-use snmp_ber::{content_reading, element_sizes, shortest_encodings};
+use crate::ber::{content_reading, element_sizes, shortest_encodings};
 
 /// Octets encode at most one message, and no encoding is the front of another.
 #[inline]

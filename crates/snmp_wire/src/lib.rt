@@ -4,6 +4,7 @@
 //! alone, and read and write them by this crate.
 #![tactic(auto)]
 
+pub mod ber;
 mod binding;
 mod kind;
 mod laws;
@@ -16,5 +17,5 @@ pub use laws::{
     one_spelling, pieces, strict_is_read,
 };
 pub use message::{MAX_DATAGRAM, MessageRef, Parts, decode, encode, encode_head, head_size, size};
-pub use snmp_ber::{BerError, OctetString, Value, ValueRef};
+pub use crate::ber::{BerError, OctetString, Value, ValueRef};
 pub use snmp_oid::{Oid, OidError, OidTextError, parse_numeric, write_numeric};

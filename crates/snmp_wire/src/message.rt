@@ -3,24 +3,24 @@ ghost use Rattle.std.specs.Prelude.{◌≡◌, ℕ, List, ◌++◌, IfOk, IfErr,
 ghost use Rattle.std.specs.Prelude.{length, drop, take, IfSome, IfNone, IsSome, All};
 ghost use Rattle.snmp_wire.specs.Fault.{IsFault};
 ghost use Rattle.snmp_wire.specs.Message.{Message, var_bind, var_binds};
-ghost use Rattle.snmp_ber.specs.Value.{integer_value, octet_string};
+ghost use Rattle.snmp_wire.specs.ber.Value.{integer_value, octet_string};
 ghost use Rattle.snmp_wire.specs.Reading as reading;
-ghost use Rattle.snmp_ber.specs.Reading.{AgreesBy};
+ghost use Rattle.snmp_wire.specs.ber.Reading.{AgreesBy};
 ghost use Rattle.snmp_wire.specs.Spelling.{Spells};
 ghost use Rattle.snmp_wire.specs.Canon.{IsEncodable, canon, canon_bindings, canon_front};
 ghost use Rattle.snmp_wire.specs.Canon.{canon_head};
-ghost use Rattle.snmp_ber.specs.Canon.{canon_value};
+ghost use Rattle.snmp_wire.specs.ber.Canon.{canon_value};
 ghost use Rattle.snmp_wire.specs.Parts.{parts_message};
 ghost use Rattle.snmp_wire.specs.Range.{IsMessageInRange};
 ghost use Rattle.snmp_wire.specs.Shortest.{IsShortestEncoding};
-ghost use Rattle.snmp_ber.specs.Writing.{Writes};
+ghost use Rattle.snmp_wire.specs.ber.Writing.{Writes};
 
 use crate::binding::{binding_size, check_bindings, put_binding};
 use crate::kind::{kind_of, tag_of_kind};
 use crate::laws::one_shortest_encoding;
 use crate::{Binding, Bindings, Kind};
-use snmp_ber::tag::{INTEGER, OCTET_STRING, SEQUENCE};
-use snmp_ber::{
+use crate::ber::tag::{INTEGER, OCTET_STRING, SEQUENCE};
+use crate::ber::{
     BerError, content_at, content_reading, element_at, header_size, inner_at, integer_at,
     integer_size, put_header, put_integer, put_text,
 };

@@ -3,14 +3,14 @@
 ghost use Rattle.std.specs.Prelude.{◌≡◌};
 
 use crate::reading::TINY;
-use smi_branches::Identifiers;
-use smi_columns::Indexes;
-use smi_index::{Extent, IndexPart};
-use smi_meaning::Names;
-use smi_module::Module;
-use smi_nodes::{Gathered, Source, nodes};
+use smi_tree::branches::Identifiers;
+use smi_tree::columns::Indexes;
+use smi_show::index::{Extent, IndexPart};
+use smi_names::meaning::Names;
+use smi_text::trees::Module;
+use smi_names::nodes::{Gathered, Source, nodes};
 use smi_text::parse_modules;
-use smi_types::Types;
+use smi_tree::types::Types;
 use std::alloc::Global;
 use std::test::Fail;
 

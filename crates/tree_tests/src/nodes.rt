@@ -1,9 +1,9 @@
 //! The nodes of definitions, in order of loading.
 
 use crate::reading::oid;
-use smi_meaning::Names;
-use smi_module::Module;
-use smi_nodes::{Gathered, Source, nodes};
+use smi_names::meaning::Names;
+use smi_text::trees::Module;
+use smi_names::nodes::{Gathered, Source, nodes};
 use smi_text::parse_modules;
 use snmp_oid::Oid;
 use std::alloc::Global;

@@ -1,11 +1,11 @@
 //! Names, lines and details by the tree of the tiny modules.
 
 use crate::reading::{TINY, oid};
-use name_tests::random_oid;
+use show_tests::names::random_oid;
 use smi_show::{Letters, detail, line, name_text, resolve};
 use smi_text::parse_modules;
 use smi_tree::Tree;
-use snmp_ber::ValueRef;
+use snmp_wire::ber::ValueRef;
 use snmp_oid::Oid;
 use std::alloc::Global;
 use std::process::Abort;

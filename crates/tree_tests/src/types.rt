@@ -1,12 +1,12 @@
 //! The syntax of objects: what their chains of types give, through modules that import from one
 //! another.
 
-ghost use Rattle.smi_types.specs.Kept.{AreTypesOf};
+ghost use Rattle.smi_tree.specs.types.Kept.{AreTypesOf};
 
-use smi_meaning::Names;
-use smi_module::{Module, NamedNumber, Range};
+use smi_names::meaning::Names;
+use smi_text::trees::{Module, NamedNumber, Range};
 use smi_text::parse_modules;
-use smi_types::{TypeBase, TypeSyntax, Types};
+use smi_tree::types::{TypeBase, TypeSyntax, Types};
 use std::alloc::Global;
 use std::process::Abort;
 use std::test::Fail;

@@ -1,16 +1,16 @@
 //! Each row of the table of values, with each letter that affects it.
 ghost use Rattle.std.specs.Prelude.{◌≡◌, true};
-ghost use Rattle.smi_module.specs.Word.{is_word};
-ghost use Rattle.snmp_ber.specs.Value.{datum};
+ghost use Rattle.smi_text.specs.trees.Word.{is_word};
+ghost use Rattle.snmp_wire.specs.ber.Value.{datum};
 ghost use Rattle.smi_value.specs.Value.{IsNoIdentifier};
 
-use smi_letters::Letters;
-use smi_module::{Name, NamedNumber, Text};
+use smi_value::letters::Letters;
+use smi_text::trees::{Name, NamedNumber, Text};
 use smi_value::{ValueBase, ValueSyntax, append_value};
-use snmp_ber::ValueRef;
+use snmp_wire::ber::ValueRef;
 use std::alloc::{AllocError, Global};
 use std::process::Abort;
-use text_draft::Draft;
+use snmp_io::draft::Draft;
 
 /// A value that is no identifier.
 #[derive(Clone, Copy)]

@@ -1,6 +1,6 @@
 //! Recorded messages, right and wrong ones, as they are read.
 ghost use Rattle.std.specs.Prelude.{◌≡◌, true};
-ghost use Rattle.snmp_ber.specs.declared.error.BerError.{BerError};
+ghost use Rattle.snmp_wire.specs.declared.ber.error.BerError.{BerError};
 ghost use Rattle.snmp_wire.specs.Fault.{IsFault};
 
 use crate::recorded::{REQUEST, RESPONSE};

@@ -1,8 +1,8 @@
 //! Messages and bindings as they are written, against octets that were worked out by hand.
 ghost use Rattle.std.specs.Prelude.{IsTrue, All, ◌≡◌, ◌≤◌, length};
 ghost use Rattle.snmp_wire.specs.Canon.{IsEncodable, canon_bindings};
-ghost use Rattle.snmp_ber.specs.Canon.{IsEncodableValue};
-ghost use Rattle.snmp_ber.specs.Value.{datum};
+ghost use Rattle.snmp_wire.specs.ber.Canon.{IsEncodableValue};
+ghost use Rattle.snmp_wire.specs.ber.Value.{datum};
 ghost use Rattle.snmp_wire.specs.Message.{var_bind, var_binds};
 
 use crate::recorded::{REQUEST, RESPONSE};

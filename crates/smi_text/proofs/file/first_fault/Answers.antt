@@ -1,5 +1,5 @@
 use Rattle.std.proofs.Common.{◌∷◌, ◌∙◌, sym, ap}
-use Rattle.smi_lexer.specs.Token.{first_fault, item_of}
+use Rattle.smi_text.specs.lexer.Token.{first_fault, item_of}
 use Rattle.smi_text.proofs.file.first_fault.Goals as goal
 
 pub each-init : goal.each-init

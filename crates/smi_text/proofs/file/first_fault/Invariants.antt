@@ -1,6 +1,6 @@
 use Rattle.std.proofs.Common.{◌≡◌, List, []}
-use Rattle.smi_lexer.specs.Token.{Item, first_fault}
-use Rattle.smi_lexer.specs.Lexes.{Lexes}
+use Rattle.smi_text.specs.lexer.Token.{Item, first_fault}
+use Rattle.smi_text.specs.lexer.Lexes.{Lexes}
 use Rattle.smi_text.proofs.file.first_fault.Given as goal
 
 abbrev pub invariant-each : goal.invariant-each

@@ -1,6 +1,6 @@
 use Rattle.std.proofs.Common.{List, [], ◌∙◌, sym, ap}
-use Rattle.smi_lexer.specs.Token.{Item}
-use Rattle.smi_module.specs.declared.tree.Module.{Module}
+use Rattle.smi_text.specs.lexer.Token.{Item}
+use Rattle.smi_text.specs.declared.trees.tree.Module.{Module}
 use Rattle.smi_text.proofs.Laws.{some-inj}
 use Rattle.smi_text.proofs.Tokens.{tokens-read}
 use Rattle.smi_text.proofs.file.one_reading.Goals as goal

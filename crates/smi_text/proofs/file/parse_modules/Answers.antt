@@ -1,11 +1,11 @@
 use Rattle.std.proofs.Common.{◌≡◌, ℕ, List, [], Some, ◌∙◌, sym, ap, subst}
-use Rattle.smi_lexer.specs.Token.{Item, tokens_of, first_fault}
-use Rattle.smi_lexer.specs.Lexes.{Lexes}
+use Rattle.smi_text.specs.lexer.Token.{Item, tokens_of, first_fault}
+use Rattle.smi_text.specs.lexer.Lexes.{Lexes}
 use Rattle.smi_text.specs.declared.error.ParseError.{ParseError}
 use Rattle.smi_text.specs.declared.error.ParseError.TheVariants as E
-use Rattle.smi_module.specs.declared.tree.Module.{Module}
-use Rattle.smi_module.specs.Mark.{Stands}
-use Rattle.smi_module.specs.Spelling.{spelling}
+use Rattle.smi_text.specs.declared.trees.tree.Module.{Module}
+use Rattle.smi_text.specs.trees.Mark.{Stands}
+use Rattle.smi_text.specs.trees.Spelling.{spelling}
 use Rattle.smi_text.specs.Text.{AreSpelledBy, HasNoDoubles, IsCause}
 use Rattle.smi_text.specs.Returned.{ReadsModules, ModulesFault, IsLexFault, IsCauseOf}
 use Rattle.smi_text.specs.Grammar.{file}

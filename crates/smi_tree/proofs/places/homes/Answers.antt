@@ -1,6 +1,6 @@
 -- One module more.
 use Rattle.std.proofs.Common.{rules, ◌≡◌, ◌<◌, length, refl, ◌∙◌}
-use Rattle.smi_module.specs.Mark.{same_text}
+use Rattle.smi_text.specs.trees.Mark.{same_text}
 use Rattle.smi_tree.proofs.Listing.{position-more}
 use Rattle.smi_tree.proofs.places.homes.Goals as goal
 

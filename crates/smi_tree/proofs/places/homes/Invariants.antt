@@ -1,5 +1,5 @@
 use Rattle.std.proofs.Common.{◌≡◌, ℕ, List, take}
-use Rattle.smi_meaning.specs.Names.{module_place}
+use Rattle.smi_names.specs.meaning.Names.{module_place}
 use Rattle.smi_tree.specs.Places.{kept_place}
 use Rattle.smi_tree.proofs.places.homes.Given as goal
 

@@ -1,6 +1,6 @@
 -- One source more.
 use Rattle.std.proofs.Common.{rules, ◌<◌, length, ◌∙◌, sym}
-use Rattle.smi_nodes.specs.declared.source.Source.TheVariants as S
+use Rattle.smi_names.specs.declared.nodes.source.Source.TheVariants as S
 use Rattle.smi_tree.specs.Places.{has_label}
 use Rattle.smi_tree.proofs.Listing.{position-at}
 use Rattle.smi_tree.proofs.places.labels.Goals as goal

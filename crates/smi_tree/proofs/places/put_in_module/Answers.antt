@@ -1,8 +1,8 @@
 -- The label has a place in its module, or gets one.
 use Rattle.std.proofs.Common.{◌≡◌, ◌<◌, length, Some, Result, Ok, Err, OnOk, sym, ◌∙◌, arith}
 use Rattle.std.specs.declared.alloc.AllocError.{AllocError}
-use Rattle.smi_module.specs.Mark.{same_text}
-use Rattle.smi_meaning.specs.Names.{module_place}
+use Rattle.smi_text.specs.trees.Mark.{same_text}
+use Rattle.smi_names.specs.meaning.Names.{module_place}
 use Rattle.smi_tree.proofs.Scoping.{position_within, Puts-set}
 use Rattle.smi_tree.proofs.places.put_in_module.Goals as goal
 use Rattle.smi_tree.proofs.places.put_in_module.Goals.{In-Some-find}

@@ -1,6 +1,6 @@
 -- One source more.
 use Rattle.std.proofs.Common.{rules, ◌<◌, length}
-use Rattle.smi_nodes.specs.declared.source.Source.TheVariants as S
+use Rattle.smi_names.specs.declared.nodes.source.Source.TheVariants as S
 use Rattle.smi_tree.proofs.Scoping.{AreScopes-more}
 use Rattle.smi_tree.proofs.places.scopes.Goals as goal
 

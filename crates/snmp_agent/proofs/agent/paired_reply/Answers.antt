@@ -2,7 +2,7 @@ use Rattle.std.proofs.Common.{◌≡◌, ◌≤◌, ◌<◌, ℕ, length, take, 
 use Rattle.snmp_wire.specs.Canon.{canon}
 use Rattle.snmp_wire.specs.Message.{Message}
 use Rattle.snmp_wire.specs.Parts.{parts_message}
-use Rattle.snmp_table.specs.Table.{MibView}
+use Rattle.snmp_agent.specs.table.Table.{MibView}
 use Rattle.snmp_agent.specs.Reply.{IsResponse}
 use Rattle.snmp_agent.proofs.Requests.{finished, replaced}
 use Rattle.snmp_agent.proofs.agent.paired_reply.Goals as goal

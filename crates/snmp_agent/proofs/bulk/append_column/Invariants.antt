@@ -1,6 +1,6 @@
 use Rattle.std.proofs.Common.{List, [], ◌∷◌}
 use Rattle.snmp_wire.specs.Message.{VarBind, var_bind}
-use Rattle.snmp_table.specs.Table.{IsNext, IsNextAfter}
+use Rattle.snmp_agent.specs.table.Table.{IsNext, IsNextAfter}
 use Rattle.snmp_agent.specs.Reply.{joined}
 use Rattle.snmp_agent.specs.Answering.{Extends, IsWritable}
 use Rattle.snmp_agent.proofs.RoundFronts.{WithOthers}

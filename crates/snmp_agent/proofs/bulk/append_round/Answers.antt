@@ -1,7 +1,7 @@
 use Rattle.std.proofs.Common.{◌≡◌, List, [], ◌∷◌, ◌++◌, sym, subst}
 use Rattle.std.proofs.lemmas.List.{append-nil}
 use Rattle.snmp_wire.specs.Message.{VarBind, var_bind}
-use Rattle.snmp_table.specs.Table.{IsNextAfter}
+use Rattle.snmp_agent.specs.table.Table.{IsNextAfter}
 use Rattle.snmp_agent.specs.Answering.{AreGiven, AreWritable, Extends}
 use Rattle.snmp_agent.proofs.Answers.{all_given}
 use Rattle.snmp_agent.proofs.Drafts.{step}

@@ -1,8 +1,8 @@
 use Rattle.std.proofs.Common.{◌≡◌, refl, inl, inr, false, Option, Some, subst}
-use Rattle.snmp_serve.specs.Fault.{no_memory}
-use Rattle.snmp_serve.specs.Outcome as serve
-use Rattle.snmp_translate.specs.Fault as translate
-use Rattle.snmp_translate.specs.Outcome as translated
+use Rattle.snmp_tools.specs.agent.Fault.{no_memory}
+use Rattle.snmp_tools.specs.agent.Outcome as serve
+use Rattle.snmp_tools.specs.translation.Fault as translate
+use Rattle.snmp_tools.specs.translation.Outcome as translated
 use Rattle.snmp_words.specs.Command.{faults_of}
 use Rattle.snmp_words.specs.Words.{HasFaultOf, Stated, texts_at}
 use Rattle.snmp_words.specs.declared.UsageError.{UsageError}

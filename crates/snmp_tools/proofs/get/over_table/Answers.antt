@@ -2,7 +2,7 @@ use Rattle.std.proofs.Common.{◌≡◌, ◌⊎◌, refl, sym, subst, ℕ, Bor, 
 use Rattle.std.proofs.lemmas.Result.{IfErr-weaker, on_ok_weaker}
 use Rattle.snmp_net.specs.Address.{Address, table}
 use Rattle.snmp_words.specs.Words.{get_words, texts_at}
-use Rattle.snmp_serve.specs.TableFile.{TableFails}
+use Rattle.snmp_tools.specs.agent.TableFile.{TableFails}
 use Rattle.snmp_tools.specs.Asking.{IsReached, ReachFails}
 use Rattle.snmp_tools.specs.Get.{HasSendable, HasUnsendable}
 use Rattle.snmp_tools.specs.GetPlanned.{get_plan_of}

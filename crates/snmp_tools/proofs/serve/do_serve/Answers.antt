@@ -1,5 +1,5 @@
 use Rattle.std.proofs.Common.{Some, subst}
-use Rattle.snmp_serve.specs.Fault.{serve_fault_of}
+use Rattle.snmp_tools.specs.agent.Fault.{serve_fault_of}
 use Rattle.snmp_tools.specs.Message.{Fault}
 use Rattle.snmp_tools.specs.Outcome.{IsReported}
 use Rattle.snmp_tools.proofs.serve.do_serve.Goals as goal

@@ -1,6 +1,6 @@
 use Rattle.std.proofs.Common.{◌≡◌, ◌∙◌, refl, subst, ℕ, Some, None}
-use Rattle.snmp_translate.specs.Fault as translate
-use Rattle.snmp_translate.specs.Fault.{TranslateFault, translate_fault_of}
+use Rattle.snmp_tools.specs.translation.Fault as translate
+use Rattle.snmp_tools.specs.translation.Fault.{TranslateFault, translate_fault_of}
 use Rattle.snmp_tools.specs.Message.{Fault, status_of}
 use Rattle.snmp_tools.specs.Outcome.{IsReported}
 use Rattle.snmp_tools.specs.Translating.{reported}

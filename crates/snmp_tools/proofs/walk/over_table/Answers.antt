@@ -2,7 +2,7 @@ use Rattle.std.proofs.Common.{◌≡◌, ◌⊎◌, refl, sym, subst, ℕ, Bool,
 use Rattle.std.proofs.lemmas.Result.{IfErr-weaker, on_ok_weaker}
 use Rattle.snmp_net.specs.Address.{Address, table}
 use Rattle.snmp_words.specs.Words.{WalkWords, walk_words}
-use Rattle.snmp_serve.specs.TableFile.{TableFails}
+use Rattle.snmp_tools.specs.agent.TableFile.{TableFails}
 use Rattle.snmp_tools.specs.Asking.{IsReached, ReachFails}
 use Rattle.snmp_tools.specs.Message.{Fault, bad_table, fault_of, out_of_memory, unreadable}
 use Rattle.snmp_io.specs.Files.{Holdings}

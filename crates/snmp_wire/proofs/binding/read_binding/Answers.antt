@@ -1,4 +1,4 @@
-use Rattle.snmp_ber.specs.Value.{datum}
+use Rattle.snmp_wire.specs.ber.Value.{datum}
 use Rattle.snmp_wire.specs.Reading.{fields}
 use Rattle.snmp_wire.proofs.BindingLemmas.{parts_of, binding_made}
 use Rattle.snmp_wire.proofs.binding.read_binding.Goals as goal

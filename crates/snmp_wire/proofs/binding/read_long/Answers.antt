@@ -1,5 +1,5 @@
 use Rattle.snmp_wire.specs.Reading.{fields}
-use Rattle.snmp_ber.specs.ReadingLaws.{never_err}
+use Rattle.snmp_wire.specs.ber.ReadingLaws.{never_err}
 use Rattle.snmp_wire.proofs.BindingLemmas.{stands, begins_ok}
 use Rattle.snmp_wire.proofs.binding.read_long.Goals as goal
 

@@ -1,12 +1,12 @@
 use Rattle.std.proofs.Common.{◌≡◌, ℕ, ◌<◌, List, get_or, Result, Ok, Err, IfOk, IfErr, sym, subst, ◌∙◌, arith}
 use Rattle.std.proofs.lemmas.List.{get_or_default}
-use Rattle.snmp_ber.specs.declared.error.BerError.{BerError}
+use Rattle.snmp_wire.specs.declared.ber.error.BerError.{BerError}
 use Rattle.snmp_wire.specs.Message.{Message}
-use Rattle.snmp_ber.specs.Laws.{ContentReading}
-use Rattle.snmp_ber.specs.Number.{AreOctets}
+use Rattle.snmp_wire.specs.ber.Laws.{ContentReading}
+use Rattle.snmp_wire.specs.ber.Number.{AreOctets}
 use Rattle.snmp_wire.specs.Fault.{IsFault}
 use Rattle.snmp_wire.specs.Spelling.{Spells}
-use Rattle.snmp_ber.specs.Reading.{AgreesBy}
+use Rattle.snmp_wire.specs.ber.Reading.{AgreesBy}
 use Rattle.snmp_wire.specs.Reading.{message_of}
 use Rattle.snmp_wire.proofs.MessageLaws.{message_takes, message_again}
 use Rattle.snmp_wire.proofs.FaultLaws.{message_faults}

@@ -1,10 +1,10 @@
 use Rattle.std.proofs.Common.{List, ap, length, refl, subst, sym, ℕ, ◌≤◌, ◌∙◌}
 use Rattle.std.proofs.lemmas.Int.{to_z-of_z}
 use mir.Syntax.{w32}
-use Rattle.snmp_ber.specs.Canon.{canon_number}
-use Rattle.snmp_ber.specs.Value.{integer_value}
-use Rattle.snmp_ber.specs.ElementLaws.{content_number, value_content_fits, value_header_fits, writes_value}
-use Rattle.snmp_ber.specs.WritingLaws.{writes_same}
+use Rattle.snmp_wire.specs.ber.Canon.{canon_number}
+use Rattle.snmp_wire.specs.ber.Value.{integer_value}
+use Rattle.snmp_wire.specs.ber.ElementLaws.{content_number, value_content_fits, value_header_fits, writes_value}
+use Rattle.snmp_wire.specs.ber.WritingLaws.{writes_same}
 use Rattle.snmp_wire.proofs.message.put_integer_element.Goals as goal
 
 pub put_integer-start-requires-clause-room : goal.put_integer-start-requires-clause-room

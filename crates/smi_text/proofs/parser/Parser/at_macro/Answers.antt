@@ -1,8 +1,8 @@
 use Rattle.std.proofs.Common.{◌≡◌, ◌∙◌, sym, ap}
 use denote.Enum.Bare.{same_true}
-use Rattle.smi_lexer.specs.contracts.token.TokenKind.{the_type}
-use Rattle.smi_lexer.specs.declared.token.TokenKind.TheVariants.{Upper}
-use Rattle.smi_lexer.specs.Token.{lexeme_of}
+use Rattle.smi_text.specs.contracts.lexer.token.TokenKind.{the_type}
+use Rattle.smi_text.specs.declared.lexer.token.TokenKind.TheVariants.{Upper}
+use Rattle.smi_text.specs.lexer.Token.{lexeme_of}
 use Rattle.smi_text.specs.Format.{begins}
 use Rattle.smi_text.specs.Grammar.{macro_words}
 use Rattle.smi_text.proofs.UpperLaws.{begins-macro}

@@ -1,7 +1,7 @@
 use Rattle.std.proofs.Common.{◌∙◌, sym, ap, arith, length-append, [], ◌∷◌}
 use Rattle.smi_text.specs.Format.{with_front}
 use Rattle.smi_text.specs.Grammar.{kept_text, read_balanced}
-use Rattle.smi_lexer.specs.Token.{lexeme_of}
+use Rattle.smi_text.specs.lexer.Token.{lexeme_of}
 use Rattle.smi_text.proofs.Loops.{depth_after-le, balanced-next, balanced-open, balanced-outside, balanced-closed, balanced-starts_with}
 use Rattle.smi_text.proofs.Many.{with_front-nil}
 use Rattle.smi_text.proofs.parser.Parser.balanced.Goals as goal

@@ -1,8 +1,8 @@
 use Rattle.std.proofs.Common.{true, [], ◌∷◌, refl, sym}
 use denote.Enum.Bare.{same_true}
-use Rattle.smi_lexer.specs.contracts.token.TokenKind.{the_type}
-use Rattle.smi_lexer.specs.declared.token.TokenKind.TheVariants as K
-use Rattle.smi_lexer.specs.Token.{lexeme_of}
+use Rattle.smi_text.specs.contracts.lexer.token.TokenKind.{the_type}
+use Rattle.smi_text.specs.declared.lexer.token.TokenKind.TheVariants as K
+use Rattle.smi_text.specs.lexer.Token.{lexeme_of}
 use Rattle.smi_text.specs.Format.{a_kind, lower}
 use Rattle.smi_text.proofs.Lexical.{gives-name}
 use Rattle.smi_text.proofs.parser.Parser.lower.Goals as goal

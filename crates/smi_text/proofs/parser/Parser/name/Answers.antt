@@ -1,9 +1,9 @@
 use Rattle.std.proofs.Common.{not, [], ◌∷◌, refl, sym}
 use denote.Enum.Bare.{same_true}
-use Rattle.smi_lexer.specs.contracts.token.TokenKind.{the_type}
-use Rattle.smi_lexer.specs.declared.token.TokenKind.TheVariants as K
-use Rattle.smi_lexer.specs.Token.{lexeme_of}
-use Rattle.smi_module.specs.Reserved.{is_reserved}
+use Rattle.smi_text.specs.contracts.lexer.token.TokenKind.{the_type}
+use Rattle.smi_text.specs.declared.lexer.token.TokenKind.TheVariants as K
+use Rattle.smi_text.specs.lexer.Token.{lexeme_of}
+use Rattle.smi_text.specs.trees.Reserved.{is_reserved}
 use Rattle.smi_text.specs.Format.{a_name, name}
 use Rattle.smi_text.proofs.Lexical.{gives-name}
 use Rattle.smi_text.proofs.parser.Parser.name.Goals as goal

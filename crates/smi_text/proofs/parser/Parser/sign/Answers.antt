@@ -1,7 +1,7 @@
 use Rattle.std.proofs.Common.{sym, ◌∙◌, ap}
 use denote.Enum.Bare.{same_true}
-use Rattle.smi_lexer.specs.contracts.token.TokenKind.{the_type}
-use Rattle.smi_lexer.specs.Token.{lexeme_of}
+use Rattle.smi_text.specs.contracts.lexer.token.TokenKind.{the_type}
+use Rattle.smi_text.specs.lexer.Token.{lexeme_of}
 use Rattle.smi_text.specs.Format.{token}
 use Rattle.smi_text.proofs.Lexical.{sign-read}
 use Rattle.smi_text.proofs.parser.Parser.sign.Goals as goal

@@ -1,6 +1,6 @@
 -- The roots come first.
 use Rattle.std.proofs.Common.{ap, ◌∙◌}
-use Rattle.smi_nodes.specs.Nodes.{roots}
+use Rattle.smi_names.specs.nodes.Nodes.{roots}
 use Rattle.smi_tree.specs.Naming.{oid_of}
 use Rattle.smi_tree.proofs.Sounding.{among-roots}
 use Rattle.smi_tree.proofs.naming.TreeNameTree.among_roots.Goals as goal

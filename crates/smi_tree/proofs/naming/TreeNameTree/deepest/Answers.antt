@@ -1,7 +1,7 @@
 -- The node at the longest beginning.
 use Rattle.std.proofs.Common.{◌≡◌, length, List, [], ◌∷◌, suc, ap, refl, arith, ◌∙◌, take, nat_eq}
 use Rattle.std.specs.Cmp.Lexicographic.{pointwise}
-use Rattle.smi_nodes.specs.Nodes.{Node}
+use Rattle.smi_names.specs.nodes.Nodes.{Node}
 use Rattle.smi_tree.specs.Nodes.{oids_of}
 use Rattle.smi_tree.proofs.Scoping.{position_within}
 use Rattle.smi_tree.proofs.Reaching.{longest-some, longest-none}

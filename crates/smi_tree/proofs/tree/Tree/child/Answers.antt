@@ -1,6 +1,6 @@
 -- The first of the children that has the label.
 use Rattle.std.proofs.Common.{◌≡◌, [], ◌∷◌, true, false, sym, ◌∙◌}
-use Rattle.smi_branches.specs.Children.{places_left}
+use Rattle.smi_tree.specs.branches.Children.{places_left}
 use Rattle.smi_tree.specs.Nodes.{is_labelled}
 use Rattle.smi_tree.proofs.Childhood.{child-found}
 use Rattle.smi_tree.proofs.tree.Tree.child.Goals as goal

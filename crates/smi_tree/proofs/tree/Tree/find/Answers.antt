@@ -1,7 +1,7 @@
 -- The first node of the label in the modules of the name is in the map of the first of them.
 use Rattle.std.proofs.Common.{rules, ◌≡◌, Some, None, refl, sym, ◌∙◌}
 use Rattle.std.specs.List.{slice_get}
-use Rattle.smi_meaning.specs.Names.{module_place}
+use Rattle.smi_names.specs.meaning.Names.{module_place}
 use Rattle.smi_tree.specs.Places.{kept_place, place_at}
 use Rattle.smi_tree.proofs.Bridging.{in_module-some, in_module-none}
 use Rattle.smi_tree.proofs.tree.Tree.find.Goals as goal

@@ -1,7 +1,7 @@
 -- The label is that of the source at the place.
 use Rattle.std.proofs.Common.{rules, ◌≡◌, Some, None, sym, ◌∙◌}
 use Rattle.std.specs.List.{slice_get}
-use Rattle.smi_module.specs.Mark.{same_text}
+use Rattle.smi_text.specs.trees.Mark.{same_text}
 use Rattle.smi_tree.specs.Places.{label_from}
 use Rattle.smi_tree.proofs.Bridging.{labelled-some, labelled-none}
 use Rattle.smi_tree.proofs.tree.Tree.has_label.Goals as goal

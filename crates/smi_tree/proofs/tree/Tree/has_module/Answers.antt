@@ -1,6 +1,6 @@
 -- A module of the name is found where the name has a place.
 use Rattle.std.proofs.Common.{rules, ◌≡◌, is_some, sym, ap, ◌∙◌}
-use Rattle.smi_module.specs.Mark.{same_text}
+use Rattle.smi_text.specs.trees.Mark.{same_text}
 use Rattle.smi_tree.specs.Places.{kept_place}
 use Rattle.smi_tree.proofs.Bridging.{is_some-find}
 use Rattle.smi_tree.proofs.tree.Tree.has_module.Goals as goal

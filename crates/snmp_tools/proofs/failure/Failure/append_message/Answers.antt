@@ -1,5 +1,5 @@
 use Rattle.std.proofs.Common.{sym, subst}
-use Rattle.text_draft.specs.Draft.{Adds}
+use Rattle.snmp_io.specs.draft.Draft.{Adds}
 use Rattle.snmp_tools.specs.Message.{fault_of, fault_message}
 use Rattle.snmp_tools.specs.declared.failure.Failure.{Failure}
 use Rattle.snmp_tools.proofs.failure.Failure.append_message.Goals as goal

@@ -1,6 +1,6 @@
 use Rattle.std.proofs.Common.{◌≡◌, ◌∙◌, ℕ, List, Bor, Ok, inl, inr, refl, sym, ap, subst}
-use Rattle.smi_name.specs.Meaning.{meaning}
-use Rattle.smi_name.specs.Naming.{Naming}
+use Rattle.smi_show.specs.name.Meaning.{meaning}
+use Rattle.smi_show.specs.name.Naming.{Naming}
 use Rattle.snmp_words.specs.Words.{walk_words}
 use Rattle.snmp_tools.specs.Asking.{NameFails}
 use Rattle.snmp_tools.specs.Chosen.{chosen}

@@ -1,6 +1,6 @@
 use Rattle.std.proofs.Common.{◌≡◌, ◌<◌, ◌-◌, length, get_or, List, ℕ, Some, sym, subst, arith}
 use Rattle.std.specs.List.{slice_get}
-use Rattle.snmp_table.specs.Table.{MibView}
+use Rattle.snmp_agent.specs.table.Table.{MibView}
 use Rattle.std.proofs.lemmas.Bool.{ltb-true}
 use Rattle.snmp_walk.proofs.MemoryLemmas.{one_got, table_found}
 use Rattle.snmp_walk.proofs.memory.MemoryLink.table_for.Goals as goal

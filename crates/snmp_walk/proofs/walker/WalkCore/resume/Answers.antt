@@ -1,4 +1,4 @@
-use Rattle.snmp_table.specs.Listing.{variables}
+use Rattle.snmp_agent.specs.table.Listing.{variables}
 use Rattle.snmp_walk.specs.Walk.{rest_of}
 use Rattle.std.proofs.Common.{ap, List, ℕ, ◌≡◌, ◌⊎◌, ◌∙◌, refl, rules}
 use Rattle.snmp_oid.specs.Identifier.{IsBelow}

@@ -1,5 +1,5 @@
 use Rattle.std.proofs.Common.{◌∙◌, refl, ap, List, ℕ}
-use Rattle.snmp_table.specs.Listing.{variables}
+use Rattle.snmp_agent.specs.table.Listing.{variables}
 use Rattle.snmp_walk.specs.Walk.{walk_from}
 use Rattle.snmp_walk.proofs.JoinLemmas.{variables_are}
 use Rattle.snmp_walk.proofs.TableLemmas.{walk_from_wire}

@@ -1,6 +1,6 @@
 use Rattle.std.proofs.Common.{sym, ◌∙◌, refl}
 use Rattle.snmp_wire.specs.Reading.{fields}
-use Rattle.snmp_ber.specs.ReadingLaws.{some_left, none_left}
+use Rattle.snmp_wire.specs.ber.ReadingLaws.{some_left, none_left}
 use Rattle.snmp_wire.proofs.BindingLemmas.{stands, bindings_in_end}
 use Rattle.snmp_wire.proofs.binding.Bindings.read_next.Goals as goal
 

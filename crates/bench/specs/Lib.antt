@@ -1,0 +1,6 @@
+pub mod codec
+pub mod modules
+pub mod agent
+pub mod value
+pub mod tree
+pub mod show

@@ -1,0 +1,10 @@
+//! bench.
+#![tactic(auto)]
+
+pub mod codec;
+pub mod modules;
+pub mod agent;
+pub mod walk;
+pub mod value;
+pub mod tree;
+pub mod show;

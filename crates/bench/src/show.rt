@@ -1,0 +1,40 @@
+//! Lines, as a function that a C program can call and that `bench/lines.sh` measures.
+
+use show_tests::names::Sample;
+use show_tests::Known;
+use smi_show::{Letters, NameForm, line};
+use snmp_wire::ber::ValueRef;
+use snmp_oid::Oid;
+use std::alloc::Global;
+
+/// Shows the line of an INTEGER at an identifier of this many numbers, each of them `number`,
+/// `times` times, and returns how many octets it has. The names are numeric if `numeric` is 1.
+#[unsafe(no_mangle)]
+pub extern "C" fn line_octets(
+    alloc: Global,
+    numeric: u32,
+    numbers: usize,
+    number: u32,
+    times: u64,
+) -> usize {
+    let mut out = Vec::new(alloc);
+    let tree = Known::new(Sample::new(&[]));
+    let mut letters = Letters::new();
+    if numeric == 1 {
+        letters.names = NameForm::Numeric;
+    }
+    let mut oid = Oid::new();
+    for _ in 0..numbers {
+        if oid.push(number).is_err() {
+            return 0;
+        }
+    }
+    let value = ValueRef::Integer(5);
+    for _ in 0..times {
+        out.clear();
+        if line(&tree, &letters, &oid, &value, &mut out).is_err() {
+            return 0;
+        }
+    }
+    out.len()
+}

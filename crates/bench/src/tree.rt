@@ -1,0 +1,101 @@
+//! The tree of names as functions that a C program can call: what `bench/tree.sh` counts.
+
+use smi_show::{Letters, line};
+use smi_text::parse_modules;
+use smi_tree::Tree;
+use snmp_wire::ber::ValueRef;
+use snmp_oid::parse_numeric;
+use std::alloc::Global;
+
+/// The tree of the modules of a text, None where the text is refused or memory runs out.
+fn tree_in(alloc: Global, text: &[u8]) -> Option<Tree> {
+    let Ok(modules) = parse_modules(alloc, text) else {
+        return None;
+    };
+    match Tree::load(alloc, modules) {
+        Ok((tree, _warnings)) => Some(tree),
+        Err(_) => None,
+    }
+}
+
+/// How many nodes the modules of a text have together; the greatest number where the text is
+/// refused.
+#[unsafe(no_mangle)]
+pub extern "C" fn tree_nodes_in(alloc: Global, text: &[u8]) -> usize {
+    match tree_in(alloc, text) {
+        Some(tree) => tree.len(),
+        None => usize::MAX,
+    }
+}
+
+/// How often a name is found in the tree of a text, looked up so many times.
+#[unsafe(no_mangle)]
+pub extern "C" fn tree_names_in(alloc: Global, text: &[u8], times: usize) -> usize {
+    let Some(tree) = tree_in(alloc, text) else {
+        return usize::MAX;
+    };
+    let mut count: usize = 0;
+    let mut name = *b"name12340";
+    for _i in 0..times {
+        name[8] = if name[8] == b'9' { b'0' } else { b'9' };
+        if tree.find(b"MANY", &name).is_some() {
+            count = count.saturating_add(1);
+        }
+    }
+    count
+}
+
+/// How often a node is found for an identifier in the tree of a text, looked up so many times.
+#[unsafe(no_mangle)]
+pub extern "C" fn tree_identifiers_in(alloc: Global, text: &[u8], times: usize) -> usize {
+    let Some(tree) = tree_in(alloc, text) else {
+        return usize::MAX;
+    };
+    let Ok(oid) = parse_numeric(b"1.12345.1.2") else {
+        return usize::MAX;
+    };
+    let mut count: usize = 0;
+    for _i in 0..times {
+        if tree.deepest(&oid).is_some() {
+            count = count.saturating_add(1);
+        }
+    }
+    count
+}
+
+/// How often the syntax of the first node is found in the tree of a text, looked up so many times.
+#[unsafe(no_mangle)]
+pub extern "C" fn tree_syntaxes_in(alloc: Global, text: &[u8], times: usize) -> usize {
+    let Some(tree) = tree_in(alloc, text) else {
+        return usize::MAX;
+    };
+    let mut count: usize = 0;
+    for _i in 0..times {
+        if tree.syntax_of(3).is_some() {
+            count = count.saturating_add(1);
+        }
+    }
+    count
+}
+
+/// How many octets the line of an instance of an object has, shown so many times by the tree of a
+/// text; the greatest number where the text is refused or memory runs out.
+#[unsafe(no_mangle)]
+pub extern "C" fn tree_lines_in(alloc: Global, text: &[u8], times: usize) -> usize {
+    let Some(tree) = tree_in(alloc, text) else {
+        return usize::MAX;
+    };
+    let Ok(name) = parse_numeric(b"1.3.6.1.4.1.32473.12345.0") else {
+        return usize::MAX;
+    };
+    let mut out = Vec::new(alloc);
+    let letters = Letters::new();
+    let value = ValueRef::Integer(1);
+    for _i in 0..times {
+        out.clear();
+        if line(&tree, &letters, &name, &value, &mut out).is_err() {
+            return usize::MAX;
+        }
+    }
+    out.len()
+}

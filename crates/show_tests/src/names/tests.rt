@@ -1,0 +1,241 @@
+//! Names that are read, refused and shown.
+use crate::names::{Sample, random_oid};
+use smi_show::index::{Extent, IndexPart};
+use smi_show::name::{NameError, NameForm, name_text, resolve};
+use snmp_oid::Oid;
+use std::alloc::Global;
+use std::process::Abort;
+use std::test::Fail;
+use snmp_io::draft::Draft;
+
+const COUNTED: &[IndexPart] = &[IndexPart::Text(Extent::Counted)];
+
+const IMPLIED: &[IndexPart] = &[IndexPart::Text(Extent::Implied)];
+
+const TRIPLE: &[IndexPart] = &[
+    IndexPart::Number,
+    IndexPart::Text(Extent::Fixed(2)),
+    IndexPart::Address,
+];
+
+/// Whether a text means the identifier of these numbers.
+fn means(tree: &Sample<'_>, text: &[u8], numbers: &[u32]) -> bool {
+    match resolve(tree, text) {
+        Ok(found) => found.as_slice() == numbers,
+        Err(_) => false,
+    }
+}
+
+/// Whether a text means an identifier.
+fn is_meant(tree: &Sample<'_>, text: &[u8]) -> bool {
+    resolve(tree, text).is_ok()
+}
+
+/// Whether a text means no identifier, for this reason.
+fn is_fault(tree: &Sample<'_>, text: &[u8], fault: NameError) -> bool {
+    match resolve(tree, text) {
+        Ok(_) => false,
+        Err(found) => found == fault,
+    }
+}
+
+/// Names, with the numbers of what they mean.
+static READ: [(&str, &[u32]); 10] = [
+    (".", &[]),
+    ("iso", &[1]),
+    ("iso.3", &[1, 3]),
+    (".1.03", &[1, 3]),
+    ("TINY-MIB::1.3", &[1, 3]),
+    ("TINY-MIB::tinyMac.\"wes\"", &[1, 3, 6, 2, 3, 119, 101, 115]),
+    ("tinyMac.'wes'", &[1, 3, 6, 2, 119, 101, 115]),
+    (
+        ".iso.3.6.tinyMac.\"a.b\".'c::d'",
+        &[1, 3, 6, 2, 3, 97, 46, 98, 99, 58, 58, 100],
+    ),
+    ("iso.\"\"", &[1, 0]),
+    ("\"a\"", &[1, 97]),
+];
+
+#[test]
+fn names_are_read(rt: HostRuntime) {
+    let tree = Sample::new(COUNTED);
+    assert_read(&rt, &tree);
+}
+
+fn assert_read(rt: &impl Abort, tree: &Sample<'_>) {
+    for (text, numbers) in &READ {
+        assert!(rt; means(tree, text.as_bytes(), numbers), "{text}");
+    }
+}
+
+/// Texts without a meaning, with their first faults.
+static FAULTS: [(&str, NameError); 23] = [
+    ("", NameError::Unknown),
+    ("nosuch", NameError::Unknown),
+    (".tinyMac", NameError::Unknown),
+    ("iso.tinyMac", NameError::Unknown),
+    ("NO-MIB::1.3", NameError::Unknown),
+    ("NO-MIB::", NameError::Unknown),
+    ("::x", NameError::Unknown),
+    ("ab'c.d'", NameError::Unknown),
+    ("TINY-MIB::", NameError::BadNumber),
+    ("TINY-MIB::.1", NameError::BadNumber),
+    ("..", NameError::BadNumber),
+    ("iso..3", NameError::BadNumber),
+    ("iso.3x", NameError::BadNumber),
+    ("iso.4294967296", NameError::BadNumber),
+    ("tinyMac.\"wes", NameError::BadIndex),
+    ("tinyMac.\"wes\"x", NameError::BadIndex),
+    ("tinyMac.''", NameError::BadIndex),
+    ("tinyMac.'a\\b'", NameError::BadIndex),
+    ("tinyMac.\"\x7f\"", NameError::BadIndex),
+    ("'abc::x", NameError::BadIndex),
+    ("iso.nosuch.4294967296", NameError::Unknown),
+    ("iso.4294967296.nosuch", NameError::BadNumber),
+    ("iso.'x.nosuch", NameError::BadIndex),
+];
+
+#[test]
+fn the_first_fault_is_reported(rt: HostRuntime) {
+    let tree = Sample::new(COUNTED);
+    assert_faults(&rt, &tree);
+}
+
+fn assert_faults(rt: &impl Abort, tree: &Sample<'_>) {
+    for (text, fault) in &FAULTS {
+        assert!(rt; is_fault(tree, text.as_bytes(), *fault), "{text}");
+    }
+}
+
+#[test]
+fn a_name_has_at_most_128_numbers(rt: HostRuntime) -> Result<(), Fail> {
+    let mut text = Vec::new(rt.alloc());
+    assert_limit(&rt, &Sample::new(COUNTED), &mut text)
+}
+
+/// Appends a name of 128 numbers.
+fn push_sevens(text: &mut Vec<u8>) -> Result<(), Fail> {
+    text.extend_from_slice(b"iso")?;
+    for _ in 0..127 {
+        text.extend_from_slice(b".7")?;
+    }
+    Ok(())
+}
+
+fn assert_limit(rt: &impl Abort, tree: &Sample<'_>, text: &mut Vec<u8>) -> Result<(), Fail> {
+    push_sevens(text)?;
+    assert!(rt; is_meant(tree, text));
+    text.extend_from_slice(b".7")?;
+    assert!(rt; is_fault(tree, text, NameError::TooLong));
+    text.extend_from_slice(b".x.4294967296")?;
+    assert!(rt; is_fault(tree, text, NameError::TooLong));
+    Ok(())
+}
+
+/// The index of the column, whether numbers show it, the numbers after the column, and the name.
+static INSTANCES: [(&[IndexPart], bool, &[u32], &str); 11] = [
+    (COUNTED, false, &[], "TINY-MIB::tinyMac"),
+    (
+        COUNTED,
+        false,
+        &[3, 119, 101, 115],
+        "TINY-MIB::tinyMac.\"wes\"",
+    ),
+    (
+        COUNTED,
+        true,
+        &[3, 119, 101, 115],
+        "TINY-MIB::tinyMac.3.119.101.115",
+    ),
+    (COUNTED, false, &[2, 119, 0], "TINY-MIB::tinyMac.2.119.0"),
+    (COUNTED, false, &[2, 119], "TINY-MIB::tinyMac.2.119"),
+    (COUNTED, false, &[1, 119, 7], "TINY-MIB::tinyMac.1.119.7"),
+    (COUNTED, false, &[1, 34], "TINY-MIB::tinyMac.1.34"),
+    (COUNTED, false, &[0], "TINY-MIB::tinyMac.0"),
+    (IMPLIED, false, &[119, 101, 115], "TINY-MIB::tinyMac.'wes'"),
+    (IMPLIED, false, &[256], "TINY-MIB::tinyMac.256"),
+    (
+        TRIPLE,
+        false,
+        &[7, 97, 46, 192, 0, 2, 1],
+        "TINY-MIB::tinyMac.7.'a.'.192.0.2.1",
+    ),
+];
+
+#[test]
+fn instances_are_shown(rt: HostRuntime) -> Result<(), Fail> {
+    for (index, numeric_index, tail, text) in &INSTANCES {
+        let tree = Sample::new(index);
+        assert!(rt;
+            shows(rt.alloc(), &tree, *numeric_index, tail, text)?,
+            "{text}"
+        );
+    }
+    Ok(())
+}
+
+/// Whether the numbers after the column are shown as this text, and the text is read back.
+fn shows(
+    alloc: Global,
+    tree: &Sample<'_>,
+    numeric_index: bool,
+    tail: &[u32],
+    text: &str,
+) -> Result<bool, Fail> {
+    let mut oid = Oid::from_slice(&[1, 3, 6, 2])?;
+    oid.extend_from_slice(tail)?;
+    let mut out = Vec::new(alloc);
+    push_name(tree, NameForm::ModuleLabel, numeric_index, &oid, &mut out)?;
+    Ok(out.as_slice() == text.as_bytes() && means(tree, &out, oid.as_slice()))
+}
+
+/// Appends the name of an identifier.
+fn push_name(
+    tree: &Sample<'_>,
+    form: NameForm,
+    numeric_index: bool,
+    oid: &Oid,
+    out: &mut Vec<u8>,
+) -> Result<(), Fail> {
+    let mut draft = Draft::after(out);
+    name_text(tree, form, numeric_index, oid, &mut draft);
+    draft.finish(out)?;
+    Ok(())
+}
+
+#[test]
+fn what_is_shown_is_read_back(rt: HostRuntime) -> Result<(), Fail> {
+    for seed in 0..1000 {
+        let oid = random_oid(&[1, 3, 6, 2], seed);
+        for index in [COUNTED, IMPLIED, TRIPLE] {
+            assert!(rt; is_read_back(rt.alloc(), index, seed % 3 == 0, &oid)?);
+        }
+    }
+    Ok(())
+}
+
+/// Whether the names of an identifier, in numbers and by its module, are read back.
+fn is_read_back(
+    alloc: Global,
+    index: &[IndexPart],
+    numeric_index: bool,
+    oid: &Oid,
+) -> Result<bool, Fail> {
+    let tree = Sample::new(index);
+    Ok(
+        is_name_read_back(alloc, &tree, NameForm::Numeric, numeric_index, oid)?
+            && is_name_read_back(alloc, &tree, NameForm::ModuleLabel, numeric_index, oid)?,
+    )
+}
+
+fn is_name_read_back(
+    alloc: Global,
+    tree: &Sample<'_>,
+    form: NameForm,
+    numeric_index: bool,
+    oid: &Oid,
+) -> Result<bool, Fail> {
+    let mut out = Vec::new(alloc);
+    push_name(tree, form, numeric_index, oid, &mut out)?;
+    Ok(means(tree, &out, oid.as_slice()))
+}

@@ -1,4 +1,0 @@
-pub mod Branching
-pub mod Growing
-pub mod Places
-pub mod Walking

@@ -1,9 +1,0 @@
--- Nothing follows the first branch.
-use Rattle.std.proofs.Common.{rules, ◌≡◌, [], ◌∷◌, None, refl}
-use Rattle.smi_branches.proofs.Branching.{Branches-none}
-use Rattle.smi_branches.proofs.branch.first.Goals as goal
-
-pub returns : goal.returns
-returns c =
-    let pushed : c.push.new.self.items ≡ record { after = c.new.result; standing = None } ∷ [] = search rules in
-    rw pushed (Branches-none (record { after = c.new.result; standing = None }) (λ n. rw c.new.ensures.empty refl) refl)

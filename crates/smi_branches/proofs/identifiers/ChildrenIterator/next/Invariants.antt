@@ -1,9 +1,0 @@
-use Rattle.std.proofs.Common.{◌≡◌, length}
-use Rattle.smi_branches.specs.Children.{places_left}
-use Rattle.smi_branches.proofs.identifiers.ChildrenIterator.next.Given as goal
-
-abbrev pub invariant-left : goal.invariant-left
-invariant-left l = places_left l.self ≡ places_left l.initial.self
-
-abbrev pub decreases-left : goal.decreases-left
-decreases-left l = length l.self.left

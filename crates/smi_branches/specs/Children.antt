@@ -1,9 +1,0 @@
--- What an iterator over the children has left.
-use Rattle.std.specs.Prelude.{ℕ, List}
-use Rattle.std.specs.List.{filter_map}
-use Rattle.smi_branches.specs.Branches.{standing_at}
-use Rattle.smi_branches.specs.declared.identifiers.Children.{Children}
-
--- the places that stand at the branches that are left, in their order
-abbrev pub places_left : Children → List ℕ
-places_left c = filter_map (λ e. standing_at c.branches.now e.1) c.left

@@ -1,5 +1,0 @@
-use Rattle.smi_files.proofs.Reading.{one_list}
-use Rattle.smi_files.proofs.read.one_list_of_modules.Goals as goal
-
-pub returns : goal.returns
-returns c = one_list c.one_reading.ensures c.one_reading-2.ensures

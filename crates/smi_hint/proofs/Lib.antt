@@ -1,5 +1,0 @@
-pub mod Digits
-pub mod Specs
-pub mod Growing
-pub mod Groups
-pub mod Unique

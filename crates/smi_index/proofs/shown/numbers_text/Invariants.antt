@@ -1,7 +1,0 @@
-use Rattle.std.proofs.Common.{take}
-use Rattle.text_draft.specs.Draft.{Grows}
-use Rattle.smi_index.specs.Pieces.{as_numbers, shown_pieces}
-use Rattle.smi_index.proofs.shown.numbers_text.Given as goal
-
-abbrev pub invariant-numbers : goal.invariant-numbers
-invariant-numbers l = Grows l.initial.draft (shown_pieces (as_numbers (take l.number-index l.numbers))) l.draft

@@ -1,6 +1,0 @@
-use Rattle.std.proofs.Common.{take}
-use Rattle.text_draft.specs.Draft.{Grows}
-use Rattle.smi_index.proofs.shown.octets_text.Given as goal
-
-abbrev pub invariant-octets : goal.invariant-octets
-invariant-octets l = Grows l.initial.draft (take l.octet-index l.value) l.draft

@@ -1,6 +1,0 @@
-//! Letters that say how names and values are shown, as the tools take them after `-O`.
-#![tactic(auto)]
-
-mod letters;
-
-pub use letters::{Letters, NameForm, StringForm, TypeForm};

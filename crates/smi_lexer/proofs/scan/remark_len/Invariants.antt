@@ -1,5 +1,0 @@
-use Rattle.smi_lexer.specs.Reading.{GoesOn, is_remark_rest}
-use Rattle.smi_lexer.proofs.scan.remark_len.Given as goal
-
-abbrev pub invariant-octets : goal.invariant-octets
-invariant-octets l = GoesOn is_remark_rest l.text l.n

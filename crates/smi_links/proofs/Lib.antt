@@ -1,3 +1,0 @@
-pub mod Climbing
-pub mod Filling
-pub mod Ending

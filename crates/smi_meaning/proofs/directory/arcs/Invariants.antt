@@ -1,6 +1,0 @@
-use Rattle.std.proofs.Common.{◌≡◌, take, Some}
-use Rattle.smi_meaning.specs.Meaning.{arcs}
-use Rattle.smi_meaning.proofs.directory.arcs.Given as goal
-
-abbrev pub invariant-parts : goal.invariant-parts
-invariant-parts l = arcs (take l.part-index l.parts) ≡ Some l.numbers.items

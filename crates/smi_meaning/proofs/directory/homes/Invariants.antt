@@ -1,7 +1,0 @@
-use Rattle.std.proofs.Common.{◌≡◌, ℕ, List, take}
-use Rattle.smi_meaning.specs.Scopes.{place_in}
-use Rattle.smi_meaning.specs.Names.{module_place}
-use Rattle.smi_meaning.proofs.directory.homes.Given as goal
-
-abbrev pub invariant-modules : goal.invariant-modules
-invariant-modules l = (x : List ℕ) → place_in l.homes x ≡ module_place (take l.i l.modules) x

@@ -1,7 +1,0 @@
--- By the chain of the name.
-use Rattle.smi_meaning.specs.Meaning.{origin}
-use Rattle.smi_meaning.proofs.Bridging.{Means-one}
-use Rattle.smi_meaning.proofs.laws.one_meaning.Goals as goal
-
-pub returns : goal.returns
-returns c = λ modules place o p m n. Means-one (origin modules) m p n

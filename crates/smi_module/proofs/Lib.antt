@@ -1,3 +1,0 @@
-pub mod Digits
-pub mod Words
-pub mod Finds

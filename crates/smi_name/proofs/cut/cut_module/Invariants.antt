@@ -1,5 +1,0 @@
-use Rattle.smi_name.proofs.CutLemmas.{IsModuleAt}
-use Rattle.smi_name.proofs.cut.cut_module.Given as goal
-
-abbrev pub invariant-octets : goal.invariant-octets
-invariant-octets l = IsModuleAt l.text l.at l.quote

@@ -1,0 +1,219 @@
+-- The steps of the search: a place is met, a path is settled, and a path that leads back has no end.
+use Rattle.std.proofs.Common.{
+  ◌≡◌,
+  ◌≢◌,
+  ℕ,
+  zero,
+  suc,
+  ◌+◌,
+  ◌<◌,
+  ◌⊎◌,
+  inl,
+  inr,
+  Bool,
+  true,
+  false,
+  cond,
+  List,
+  [],
+  ◌∷◌,
+  ◌++◌,
+  length,
+  set,
+  take,
+  Option,
+  Some,
+  None,
+  Contains,
+  refl,
+  sym,
+  ap,
+  ◌∙◌,
+  subst,
+  arith,
+}
+use Rattle.std.proofs.lemmas.List.{
+  get_or-set_same,
+  get_or-set_other,
+  length-set,
+  get_or_append_left,
+  get_or_push,
+  length_push,
+  take_all,
+  take-append-le,
+  get_or_past,
+}
+use Rattle.std.proofs.lemmas.List.Elements.{All-push, All-nil, All-contains, Contains-push, Contains-push_cases, Contains-append_left}
+use Rattle.std.proofs.lemmas.Bool.{cases_lt, cases_eq}
+use Rattle.smi_names.specs.links.Chain.{HasEnd, ends, leads_on}
+use Rattle.smi_names.specs.links.Order.{next_at, ComeAfterNext}
+use Rattle.smi_names.specs.links.Search.{Keeps, Leads, IsSettled, LeadsToSettled, mark_at}
+use Rattle.smi_names.specs.declared.links.order.Mark.{Mark}
+use Rattle.smi_names.specs.declared.links.order.Mark.TheVariants as M
+
+abbrev pub is_new : Mark → Bool
+is_new M.New = true
+is_new M.Met = false
+is_new M.Settled = false
+
+abbrev pub news : List Mark → ℕ
+news [] = 0
+news (m ∷ ms) = cond (is_new m) 1 0 + news ms
+
+pub news-set : (ms : List Mark) (p : ℕ) → p < length ms → mark_at ms p ≡ M.New → news (set ms p M.Met) < news ms
+news-set [] p h e = absurd (omega arith)
+news-set (m ∷ ms) zero h e = let e' : m ≡ M.New = e in rw e' (omega arith)
+news-set (m ∷ ms) (suc p) h e = let r = news-set ms p (omega arith) e in omega arith
+
+module _ (next : List (Option ℕ)) where
+  -- one step down
+  below : {p q : ℕ} → HasEnd (next_at next) p → next_at next p ≡ Some q → HasEnd (next_at next) q
+  below (ends e) h = cc
+  below {p} {q} (leads_on {a} {b} e r) h = let same : b ≡ q = cc in subst (λ x. HasEnd (next_at next) x) same r
+
+  pub Leads-push : (path : List ℕ) (from : Option ℕ) (p : ℕ) → Leads next path from (Some p) → Leads next (path ++ p ∷ []) from (next_at next p)
+  Leads-push [] from p e = (e, refl)
+  Leads-push (x ∷ xs) from p l = (l.0, Leads-push xs (next_at next x) p l.1)
+
+  pub Leads-pop : (path : List ℕ) (from to : Option ℕ) (p : ℕ) → Leads next (path ++ p ∷ []) from to → Leads next path from (Some p) × (next_at next p ≡ to)
+  Leads-pop [] from to p l = l
+  Leads-pop (x ∷ xs) from to p l = let r = Leads-pop xs (next_at next x) to p l.1 in ((l.0, r.0), r.1)
+
+  -- a path whose first place has an end leads to one that has
+  led : (path : List ℕ) (from : Option ℕ) (at : ℕ) → Leads next path from (Some at)
+      → ((p : ℕ) → from ≡ Some p → HasEnd (next_at next) p) → HasEnd (next_at next) at
+  led [] from at l f = f at l
+  led (x ∷ xs) from at l f = led xs (next_at next x) at l.1 (λ q e. below (f x l.0) e)
+
+  -- so does one any of whose places has an end
+  led_from : (path : List ℕ) (from : Option ℕ) (at p : ℕ) → Leads next path from (Some at) → Contains path p → HasEnd (next_at next) p → HasEnd
+      (next_at next) at
+  led_from [] from at p l m h = absurd (omega (arith, m.1))
+  led_from (x ∷ xs) from at p l (zero, k, e) h = let same : x ≡ p = e in led xs (next_at next x) at l.1 (λ q f. below (subst (λ y. HasEnd
+      (next_at next) y) (sym same) h) f)
+  led_from (x ∷ xs) from at p l (suc i, k, e) h = led_from xs (next_at next x) at p l.1 (i, omega arith, e) h
+
+  Contains-later : (x : ℕ) (xs : List ℕ) (p : ℕ) → Contains xs p → Contains (x ∷ xs) p
+  Contains-later x xs p (i, k, e) = (suc i, omega arith, e)
+
+  -- each place of a path leads to a place of it, or to where the path leads
+  onward : (path : List ℕ) (from : Option ℕ) (at p : ℕ) → Leads next path from (Some at) → Contains path p
+      → (q : ℕ) × (next_at next p ≡ Some q) × (Contains path q ⊎ (q ≡ at))
+  onward [] from at p l m = absurd (omega (arith, m.1))
+  onward (x ∷ []) from at p l (zero, k, e) = let same : x ≡ p = e in (at, ap (next_at next) (sym same) ∙ l.1, inr refl)
+  onward (x ∷ (y ∷ ys)) from at p l (zero, k, e) = let same : x ≡ p = e in (y, ap (next_at next) (sym same) ∙ l.1.0, inl (1, omega arith, refl))
+  onward (x ∷ xs) from at p l (suc i, k, e) =
+      let r = onward xs (next_at next x) at p l.1 (i, omega arith, e) in
+      (r.0, r.1, elim r.2 [ inl m ↦ inl (Contains-later x xs r.0 m) | inr s ↦ inr s ])
+
+  -- places that lead back among themselves have no end
+  no_end : (S : ℕ → Type 0) → ((p : ℕ) → S p → (q : ℕ) × (next_at next p ≡ Some q) × S q) → {p : ℕ} → HasEnd (next_at next) p → S p → ⊥
+  no_end S closed {p} (ends e) s = let r = closed p s in let f = r.1 in cc
+  no_end S closed {p} (leads_on {a} {b} e h) s =
+      let r = closed p s in let f = r.1 in let same : r.0 ≡ b = cc in no_end S closed h (subst S same r.2)
+
+  module _ (marks : List Mark) (order path : List ℕ) (kept : Keeps next marks order path) where
+    pub Keeps-met : (at : ℕ) → at < length next → mark_at marks at ≡ M.New → Keeps next (set marks at M.Met) order (path ++ at ∷ [])
+    Keeps-met at inside new = record {
+      long = length-set marks at M.Met ∙ kept.long;
+      within = kept.within;
+      along = All-push (λ p. p < length next) path at kept.along inside;
+      only_ended = kept.only_ended;
+      after_next = kept.after_next;
+      settled = λ p e. elim (cases_eq p at) [
+        | inl same ↦ let here : mark_at (set marks at M.Met) p ≡ M.Met = rw same (get_or-set_same marks at M.Met M.New (omega (arith, kept.long))) in cc
+        | inr other ↦ kept.settled p (sym (get_or-set_other marks at p M.Met M.New other) ∙ e)
+      ];
+      met = λ p e h. elim (cases_eq p at) [
+        | inl same ↦ rw same (Contains-push path at)
+        | inr other ↦ Contains-append_left path (at ∷ []) p (kept.met p (sym (get_or-set_other marks at p M.Met M.New other) ∙ e) h)
+      ];
+    }
+
+    pub Keeps-left : (from : Option ℕ) (at : ℕ) → Leads next path from (Some at) → mark_at marks at ≡ M.Met → Keeps next marks order []
+    Keeps-left from at l m = record {
+      long = kept.long;
+      within = kept.within;
+      along = All-nil (λ p. p < length next);
+      only_ended = kept.only_ended;
+      after_next = kept.after_next;
+      settled = kept.settled;
+      met = λ p e h.
+          let there = led_from path from at p l (kept.met p e h) h in
+          let on = kept.met at m there in
+          absurd (no_end (λ q. Contains path q) (λ q s. let r = onward path from at q l s in
+          (r.0, r.1, elim r.2 [ inl k ↦ k | inr same ↦ rw same on ])) there on);
+    }
+
+  ComeAfterNext-push : (order : List ℕ) (p : ℕ) → ComeAfterNext next order → ((q : ℕ) → next_at next p ≡ Some q → q < length next → Contains order q)
+      → ComeAfterNext next (order ++ p ∷ [])
+  ComeAfterNext-push order p before last = λ i q l e inside. elim (cases_lt i (length order)) [
+    | inl in_front ↦
+        let old = before i q in_front (ap (next_at next) (sym (get_or_append_left order (p ∷ []) 0 i in_front)) ∙ e) inside in
+        rw (take-append-le i order (p ∷ []) (omega arith)) old
+    | inr at_end ↦
+        let i_is : length order ≡ i = omega (arith, length_push order p) in
+        let same = get_or_push order p 0 i i_is in
+        let found = last q (ap (next_at next) (sym same) ∙ e) inside in
+        let front : take i (order ++ p ∷ []) ≡ order = take-append-le i order (p ∷ []) (omega arith) ∙ take_all i order (omega arith) in
+        rw front found
+  ]
+
+  pub Keeps-settled : (marks : List Mark) (order path : List ℕ) (p : ℕ) (to : Option ℕ) → Keeps next marks order (path ++ p ∷ [])
+      → next_at next p ≡ to → IsSettled next order to → Keeps next (set marks p M.Settled) (order ++ p ∷ []) path
+  Keeps-settled marks order path p to kept leads done =
+      let inside : p < length next = All-contains (λ q. q < length next) (path ++ p ∷ []) p kept.along (Contains-push path p) in
+      let has_end = has_end_from p to leads (λ q e. (done q e).0) in record {
+        long = length-set marks p M.Settled ∙ kept.long;
+        within = All-push (λ q. q < length next) order p kept.within inside;
+        along = λ k d l. subst (λ q. q < length next) (get_or_append_left path (p ∷ []) d k l) (kept.along k d (omega (arith, length_push path p)));
+        only_ended = All-push (HasEnd (next_at next)) order p kept.only_ended has_end;
+        after_next = ComeAfterNext-push order p kept.after_next (λ q e. (done q (sym leads ∙ e)).1);
+        settled = λ q e. elim (cases_eq q p) [
+          | inl same ↦ rw same (Contains-push order p)
+          | inr other ↦ Contains-append_left order (p ∷ []) q (kept.settled q (sym (get_or-set_other marks p q M.Settled M.New other) ∙ e))
+        ];
+        met = λ q e h. elim (cases_eq q p) [
+          | inl same ↦ let here : mark_at (set marks p M.Settled) q ≡ M.Settled = rw same (get_or-set_same marks p M.Settled M.New (omega
+              (arith, kept.long))) in cc
+          | inr other ↦ elim (Contains-push_cases path p q (kept.met q (sym (get_or-set_other marks p q M.Settled M.New other) ∙ e) h)) [
+            | inl m ↦ m
+            | inr same ↦ absurd (other (sym same))
+          ]
+        ];
+      }
+    where
+      has_end_from : (p : ℕ) (to : Option ℕ) → next_at next p ≡ to → ((q : ℕ) → to ≡ Some q → HasEnd (next_at next) q) → HasEnd (next_at next) p
+      has_end_from p None e f = ends e
+      has_end_from p (Some q) e f = leads_on e (f q refl)
+
+  pub Leads-settled : (order path : List ℕ) (p : ℕ) → LeadsToSettled next order (path ++ p ∷ []) → p < length next → LeadsToSettled next (order ++ p ∷ []) path
+  Leads-settled order path p l inside =
+      let back = Leads-pop path l.from l.to p l.leads in record {
+        from = l.from;
+        to = Some p;
+        leads = back.0;
+        settled = λ q e. let same : p ≡ q = cc in (
+          subst (λ x. HasEnd (next_at next) x) same (has_end_to p l.to back.1 (λ r f. (l.settled r f).0)),
+          λ _. subst (λ x. Contains (order ++ p ∷ []) x) same (Contains-push order p),
+        );
+      }
+    where
+      has_end_to : (p : ℕ) (to : Option ℕ) → next_at next p ≡ to → ((q : ℕ) → to ≡ Some q → HasEnd (next_at next) q) → HasEnd (next_at next) p
+      has_end_to p None e f = ends e
+      has_end_to p (Some q) e f = leads_on e (f q refl)
+
+  -- a climb that stopped at no place that is met, nor at a new one, has come to an end
+  pub IsSettled-stopped : (marks : List Mark) (order path : List ℕ) (to : Option ℕ) → Keeps next marks order path
+      → ((q : ℕ) → to ≡ Some q → q < length next → mark_at marks q ≢ M.New) → ((q : ℕ) → to ≡ Some q → mark_at marks q ≢ M.Met)
+      → IsSettled next order to
+  IsSettled-stopped marks order path to kept stopped other = λ q e. elim (cases_lt q (length next)) [
+    | inl inside ↦ let there = kept.settled q (left (mark_at marks q) (stopped q e inside) (other q e)) in
+        (All-contains (HasEnd (next_at next)) order q kept.only_ended there, λ _. there)
+    | inr beyond ↦ (ends (get_or_past next q None beyond), λ h. absurd (omega arith))
+  ]
+    where
+      left : (m : Mark) → m ≢ M.New → m ≢ M.Met → m ≡ M.Settled
+      left M.New f g = absurd (f refl)
+      left M.Met f g = absurd (g refl)
+      left M.Settled f g = refl

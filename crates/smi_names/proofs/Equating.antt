@@ -1,0 +1,244 @@
+-- A name's place has what decides the name, so the chain of places is that of names.
+use Rattle.std.proofs.Common.{
+  ◌≡◌,
+  ◌≢◌,
+  ℕ,
+  zero,
+  suc,
+  ◌+◌,
+  ◌-◌,
+  ◌<◌,
+  ◌≤◌,
+  inl,
+  inr,
+  Bool,
+  true,
+  false,
+  cond,
+  List,
+  [],
+  ◌∷◌,
+  ◌++◌,
+  length,
+  map,
+  get_or,
+  unwrap_or,
+  is_some,
+  MatchOption,
+  Option,
+  Some,
+  None,
+  refl,
+  sym,
+  ap,
+  ◌∙◌,
+  arith,
+}
+use Rattle.std.proofs.lemmas.List.{get_or_past, length-map, length_push}
+use Rattle.std.proofs.lemmas.Bool.{cases_eq, cases_lt}
+use Rattle.std.specs.List.{slice_get, find, position_from, HoldsAt}
+use Rattle.std.specs.Option.{option_and_then, option_map}
+use Rattle.std.specs.Borrow.{Bor}
+use Rattle.smi_names.specs.links.Chain.{nowhere}
+use Rattle.smi_names.specs.links.Basis.{origin_of, origin_at, ComesTo, EachComesTo}
+use Rattle.smi_names.specs.declared.links.basis.Basis.{Basis}
+use Rattle.smi_names.specs.declared.links.basis.Resolution.{Resolution}
+use Rattle.smi_text.specs.trees.Mark.{same_text}
+use Rattle.smi_text.specs.declared.trees.tree.Module.{Module}
+use Rattle.smi_names.specs.meaning.Meaning.{QualifiedName, Decision, decision, origin, origin_by, origin_in, module_named}
+use Rattle.smi_names.specs.meaning.Scopes.{content_of, decision_of, place_in, known, decided_as}
+use Rattle.smi_names.specs.meaning.Names.{NamePlaces, map_origin}
+use Rattle.smi_names.specs.meaning.Directory.{place_by, place_of_entry, AreBases}
+use Rattle.smi_names.specs.meaning.Resolved.{IsDirectory, AreResolutions}
+use Rattle.smi_names.specs.declared.meaning.entry.Entry.{Entry}
+use Rattle.smi_names.specs.declared.meaning.directory.Directory.{Directory}
+use Rattle.smi_names.proofs.Bridging.{ComesTo-back, from_nowhere}
+use Rattle.smi_names.proofs.Knowing.{same}
+use Rattle.smi_names.proofs.Placing.{module_found, module_missing}
+
+pub get_past : {X : Type 0} (xs : List X) (j : ℕ) → length xs ≤ j → slice_get xs j ≡ None
+get_past [] j l = refl
+get_past (x ∷ xs) zero l = absurd (omega arith)
+get_past (x ∷ xs) (suc j) l = get_past xs j (omega arith)
+
+get_within : {X : Type 0} (xs : List X) (i : ℕ) → i < length xs → (x : X) × (slice_get xs i ≡ Some x)
+get_within [] i l = absurd (omega arith)
+get_within (x ∷ xs) zero l = (x, refl)
+get_within (x ∷ xs) (suc i) l = get_within xs i (omega arith)
+
+within_get : {X : Type 0} (xs : List X) (i : ℕ) (x : X) → slice_get xs i ≡ Some x → i < length xs
+within_get [] i x e = absurd (cc)
+within_get (y ∷ xs) zero x e = omega arith
+within_get (y ∷ xs) (suc i) x e = omega (arith, within_get xs i x e)
+
+past_get : {X : Type 0} (xs : List X) (i : ℕ) → slice_get xs i ≡ None → length xs ≤ i
+past_get xs i e = elim (cases_lt i (length xs)) [ inl l ↦ let r = get_within xs i l in let h = r.1 in absurd (cc) | inr l ↦ l ]
+
+-- one entry more
+get-push : {X : Type 0} (xs : List X) (j : ℕ) (y : X) → j ≢ length xs → slice_get (xs ++ y ∷ []) j ≡ slice_get xs j
+get-push [] zero y f = absurd (f refl)
+get-push [] (suc j) y f = refl
+get-push (x ∷ xs) zero y f = refl
+get-push (x ∷ xs) (suc j) y f = get-push xs j y (λ e. f (ap suc e))
+
+get-push_at : {X : Type 0} (xs : List X) (y : X) → slice_get (xs ++ y ∷ []) (length xs) ≡ Some y
+get-push_at [] y = refl
+get-push_at (x ∷ xs) y = get-push_at xs y
+
+pub AreBases-more : (d : Directory) (es : List Entry) (bs : List Basis) (e : Entry) (b : Basis) → AreBases d es bs
+    → origin_of b ≡ map_origin (place_by d) (origin_by (place_of_entry e) (Some (content_of e).decided))
+    → AreBases d (es ++ e ∷ []) (bs ++ b ∷ [])
+AreBases-more d es bs e b are says = record {
+  long = length_push bs b ∙ rw are.long (sym (length_push es e));
+  each = λ p x y ex ey. elim (cases_eq p (length es)) [
+    | inl end ↦
+        let at : p ≡ length bs = end ∙ sym are.long in
+        let is : e ≡ x = let a = rw (sym end) at (get-push_at es e) in cc in
+        let is' : b ≡ y = let a = rw (sym at) at (get-push_at bs b) in cc in
+        rw (sym is, sym is') says
+    | inr before ↦
+        are.each p x y (sym (get-push es p e before) ∙ ex) (sym (get-push bs p b (λ h. before (h ∙ are.long))) ∙ ey)
+  ];
+}
+
+pub find_true : (t : Module → Bool) (ms : List Module) (m : Module) → find t ms ≡ Some m → t m ≡ true
+find_true t [] m e = absurd (cc)
+find_true t (x ∷ ms) m e = by (t x) refl e (λ h. find_true t ms m h)
+  where
+    by : (b : Bool) → t x ≡ b → cond b (Some x) (find t ms) ≡ Some m → (find t ms ≡ Some m → t m ≡ true) → t m ≡ true
+    by true h e ih = let is : x ≡ m = cc in rw (sym is) h
+    by false h e ih = ih e
+
+-- what the place of a name has
+pub entry_at : (ms : List Module) (d : Directory) → IsDirectory ms d → (a : QualifiedName)
+    → option_map content_of (slice_get d.entries.items (place_by d a))
+    ≡ option_and_then (λ m. decided_as m a.name (decision m a.name)) (module_named ms a.home)
+entry_at ms d dir a = by (place_in d.homes a.home) refl
+  where
+    es : List Entry
+    es = d.entries.items
+
+    t : Module → Bool
+    t = λ m. same_text m.name.octets a.home
+
+    inner : (m : Module) (scope : NamePlaces) → known d.entries.items scope a.name ≡ decided_as m a.name (decision m a.name)
+        → (r : Option ℕ) → place_in scope a.name ≡ r
+        → option_map content_of (slice_get d.entries.items (unwrap_or r (length d.entries.items))) ≡ decided_as m a.name (decision m a.name)
+    inner m scope k None e = rw (get_past d.entries.items (length d.entries.items) (omega arith)) (rw e at k)
+    inner m scope k (Some p) e = rw e at k
+
+    by : (r : Option ℕ) → place_in d.homes a.home ≡ r
+        → option_map content_of (slice_get d.entries.items
+        (unwrap_or (option_and_then (λ i. option_and_then (λ scope. place_in scope a.name) (slice_get d.scopes.items i)) r) (length d.entries.items)))
+        ≡ option_and_then (λ m. decided_as m a.name (decision m a.name)) (module_named ms a.home)
+    by None e =
+        let none = module_missing (λ m. same_text m.name.octets a.home) 0 ms (sym (dir.placed a.home) ∙ e) in
+        rw (get_past d.entries.items (length d.entries.items) (omega arith), none) refl
+    by (Some i) e =
+        let found = module_found (λ m. same_text m.name.octets a.home) 0 ms i (sym (dir.placed a.home) ∙ e) in
+        let m = found.0 in
+        let all : i - 0 ≡ i = omega arith in
+        let at : slice_get ms i ≡ Some found.0 = rw all at found.1 in
+        let s = get_within d.scopes.items i (omega (arith, within_get ms i found.0 at, dir.named.long)) in
+        rw (s.1, found.2) (inner m s.0 (dir.named.each i m s.0 at s.1 a.name) (place_in s.0 a.name) refl)
+
+-- the origin of a place is that of its name
+pub origins : (ms : List Module) (d : Directory) → IsDirectory ms d → (bs : List Basis) → AreBases d d.entries.items bs → (a : QualifiedName)
+    → origin_at bs (place_by d a) ≡ map_origin (place_by d) (origin ms a)
+origins ms d dir bs are a = by (slice_get d.entries.items (place_by d a)) refl
+  where
+    origin_past : (p : ℕ) → length bs ≤ p → origin_at bs p ≡ nowhere
+    origin_past p l = get_or_past (map origin_of bs) p nowhere (omega (arith, length-map bs origin_of))
+
+    origin_there : (xs : List Basis) (p : ℕ) (b : Basis) → slice_get xs p ≡ Some b → origin_at xs p ≡ origin_of b
+    origin_there [] p b e = absurd (cc)
+    origin_there (x ∷ xs) zero b e = let is : x ≡ b = cc in rw is refl
+    origin_there (x ∷ xs) (suc p) b e = origin_there xs p b e
+
+    undecided : (r : Option Module) → None ≡ option_and_then (λ m. decided_as m a.name (decision m a.name)) r → origin_in a r ≡ nowhere
+    undecided None e = refl
+    undecided (Some m) e = step (decision m a.name) e
+      where
+        step : (v : Option Decision) → None ≡ decided_as m a.name v → origin_by a v ≡ nowhere
+        step None e = refl
+        step (Some v) e = absurd (cc)
+
+    decides : (e : Entry) (r : Option Module) → ((m : Module) → r ≡ Some m → m.name.octets ≡ a.home)
+        → Some (content_of e) ≡ option_and_then (λ m. decided_as m a.name (decision m a.name)) r
+        → origin_by (place_of_entry e) (Some (content_of e).decided) ≡ origin_in a r
+    decides e None named h = absurd (cc)
+    decides e (Some m) named h = step (decision m a.name) h
+      where
+        step : (v : Option Decision) → Some (content_of e) ≡ decided_as m a.name v → origin_by (place_of_entry e) (Some (content_of e).decided) ≡ origin_by a v
+        step None h = absurd (cc)
+        step (Some v) h =
+            let is : content_of e ≡ record { home = m; name = a.name; decided = v } = cc in
+            let home : e.«module».now.name.octets ≡ a.home = ap (λ x. x.home.name.octets) is ∙ named m refl in
+            let name : e.name.now ≡ a.name = ap (λ x. x.name) is in
+            let decided : (content_of e).decided ≡ v = ap (λ x. x.decided) is in
+            rw (home, name, decided) refl
+
+    by : (r : Option Entry) → slice_get d.entries.items (place_by d a) ≡ r → origin_at bs (place_by d a) ≡ map_origin (place_by d) (origin ms a)
+    by None e =
+        let none = undecided (module_named ms a.home) (rw e at (entry_at ms d dir a)) in
+        rw (origin_past (place_by d a) (omega (arith, past_get d.entries.items (place_by d a) e, are.long)), none) refl
+    by (Some x) e =
+        let b = get_within bs (place_by d a) (omega (arith, within_get d.entries.items (place_by d a) x e, are.long)) in
+        let says = decides x (module_named ms a.home) (λ m h. same m.name.octets a.home (find_true (λ n. same_text n.name.octets a.home) ms m h))
+        (rw e at (entry_at ms d dir a)) in
+        origin_there bs (place_by d a) b.0 b.1 ∙ are.each (place_by d a) x b.0 e b.1 ∙ ap (map_origin (place_by d)) says
+
+pub AreResolutions-all : (ms : List Module) (d : Directory) → IsDirectory ms d → (bs : List Basis) → AreBases d d.entries.items bs → (rs : List Resolution)
+    → length rs ≡ length bs → EachComesTo (origin_at bs) rs → AreResolutions ms d rs
+AreResolutions-all ms d dir bs are rs long each = record {
+  directory = dir;
+  comes = λ a r e. ComesTo-back (place_by d) (origin ms) (origin_at bs) (origins ms d dir bs are) a r
+      (rw (read rs (place_by d a) r e) at (each (place_by d a) r (within_get rs (place_by d a) r e)));
+  leads_nowhere = λ a e. from_nowhere (place_by d) (origin ms a)
+      (sym (origins ms d dir bs are a)
+      ∙ get_or_past (map origin_of bs) (place_by d a) nowhere (omega (arith, length-map bs origin_of, past_get rs (place_by d a) e)));
+}
+  where
+    read : (xs : List Resolution) (p : ℕ) (r : Resolution) → slice_get xs p ≡ Some r → get_or xs p r ≡ r
+    read [] p r e = refl
+    read (x ∷ xs) zero r e = cc
+    read (x ∷ xs) (suc p) r e = read xs p r e
+
+-- what `get` gives
+pub looked_up : {X : Type 0} (xs : List X) (i : ℕ) (r : Option (Bor X))
+    → MatchOption r (length xs ≤ i) (λ x. (i < length xs) × HoldsAt (λ y. x.now ≡ y) xs i) → slice_get xs i ≡ option_map (λ x. x.now) r
+looked_up xs i None l = get_past xs i l
+looked_up xs i (Some x) h = read xs i x.now h.0 (h.1 x.now)
+  where
+    read : {X : Type 0} (xs : List X) (i : ℕ) (x : X) → i < length xs → x ≡ get_or xs i x → slice_get xs i ≡ Some x
+    read [] i x l e = absurd (omega arith)
+    read (y ∷ ys) zero x l e = ap (λ z. Some z) (sym e)
+    read (y ∷ ys) (suc i) x l e = read ys i x (omega arith) e
+
+pub resolved : (ms : List Module) (d : Directory) (rs : List Resolution) → AreResolutions ms d rs → (a : QualifiedName) (r : Option (Bor Resolution))
+    → slice_get rs (place_by d a) ≡ option_map (λ x. x.now) r → MatchOption r (origin ms a ≡ nowhere) (λ x. ComesTo (origin ms) a x.now)
+resolved ms d rs is a None e = is.leads_nowhere a e
+resolved ms d rs is a (Some x) e = is.comes a x.now e
+
+pub decided_at : (a : QualifiedName) (s : Option Entry) (r : Option Module)
+    → option_map content_of s ≡ option_and_then (λ m. decided_as m a.name (decision m a.name)) r
+    → option_map (λ e. decision_of e.decider) s ≡ option_and_then (λ m. decision m a.name) r
+decided_at a None None e = refl
+decided_at a (Some x) None e = absurd (cc)
+decided_at a s (Some m) e = step s (decision m a.name) e
+  where
+    step : (s : Option Entry) (v : Option Decision) → option_map content_of s ≡ decided_as m a.name v → option_map (λ e. decision_of e.decider) s ≡ v
+    step None None e = refl
+    step None (Some v) e = absurd (cc)
+    step (Some x) None e = absurd (cc)
+    step (Some x) (Some v) e =
+        let is : content_of x ≡ record { home = m; name = a.name; decided = v } = cc in ap (λ c. Some c.decided) is
+
+pub loaded : (t : Module → Bool) (j : ℕ) (ms : List Module) → is_some (position_from t j ms) ≡ is_some (find t ms)
+loaded t j [] = refl
+loaded t j (m ∷ ms) = by (t m) (loaded t (j + 1) ms)
+  where
+    by : (b : Bool) → is_some (position_from t (j + 1) ms) ≡ is_some (find t ms)
+        → is_some (cond b (Some j) (position_from t (j + 1) ms)) ≡ is_some (cond b (Some m) (find t ms))
+    by true h = refl
+    by false h = h

@@ -1,0 +1,155 @@
+-- Nodes and warnings are added at the end.
+use Rattle.std.proofs.Common.{◌≡◌, ℕ, zero, suc, ◌<◌, true, false, List, [], ◌∷◌, ◌++◌, length, get_or, Some, None, refl, sym, ap, ◌∙◌, arith, append_assoc}
+use Rattle.std.proofs.lemmas.List.{append-nil, length_push}
+use Rattle.std.specs.List.{slice_get}
+use Rattle.smi_names.specs.links.Basis.{ComesTo}
+use Rattle.smi_names.specs.declared.links.basis.Resolution.{Resolution}
+use Rattle.smi_names.specs.declared.links.basis.Resolution.TheVariants as R
+use Rattle.smi_text.specs.declared.trees.tree.Module.{Module}
+use Rattle.smi_text.specs.declared.trees.tree.Def.{Def}
+use Rattle.smi_text.specs.declared.trees.tree.Part.{Part}
+use Rattle.smi_text.specs.trees.Lookup.{identifier_value_of}
+use Rattle.smi_names.specs.meaning.Meaning.{origin}
+use Rattle.smi_names.specs.nodes.Imports.{import_warnings}
+use Rattle.smi_names.specs.nodes.Nodes.{Node, nodes_by, warnings_by, roots, none, more, is_loaded, left_out, loaded, none_yet, then_module}
+use Rattle.smi_names.specs.nodes.Gathered.{node_from, nodes_of, sources_by, oids_by, IsSourceOf}
+use Rattle.smi_names.specs.nodes.Gathered.{GrowsByDefinition, AddsNodes, AddsDefinition, AddsDefinitions, AddsModule, AreGathered}
+use Rattle.smi_names.specs.declared.nodes.source.Source.{Source}
+use Rattle.smi_names.specs.declared.nodes.source.Source.TheVariants as S
+use Rattle.smi_names.specs.declared.nodes.gather.Gathered.{Gathered}
+use Rattle.smi_names.specs.declared.nodes.warning.Warning.{Warning}
+use Rattle.smi_names.specs.declared.nodes.warning.Warning.TheVariants as W
+
+nodes_of-push : (ms : List Module) (ss : List Source) (os : List (List ℕ)) (s : Source) (o : List ℕ) → length ss ≡ length os
+    → nodes_of ms (ss ++ s ∷ []) (os ++ o ∷ []) ≡ nodes_of ms ss os ++ node_from ms s o ∷ []
+nodes_of-push ms [] [] s o e = refl
+nodes_of-push ms [] (x ∷ os) s o e = absurd (omega arith)
+nodes_of-push ms (x ∷ ss) [] s o e = absurd (omega arith)
+nodes_of-push ms (x ∷ ss) (y ∷ os) s o e = ap (λ ns. node_from ms x y ∷ ns) (nodes_of-push ms ss os s o (omega arith))
+
+pub AddsNodes-extended : (ms : List Module) (old new : Gathered) (s : Source) (m : Module) (d : Def) (r : Resolution)
+    → length old.sources.items ≡ length old.oids.items
+    → IsSourceOf ms s m d → GrowsByDefinition old new s m d r → AddsNodes ms old new (nodes_by m d r) (warnings_by m d r)
+AddsNodes-extended ms old new s m d r long is e = record {
+  long = rw (e.sources, e.oids) (long_by r);
+  nodes = rw (e.sources, e.oids) (nodes r);
+  warnings = e.warnings;
+}
+  where
+    long_by : (r : Resolution) → length (old.sources.items ++ sources_by s r) ≡ length (old.oids.items ++ oids_by r)
+    long_by (R.Numbers o) = length_push old.sources.items s ∙ rw long (sym (length_push old.oids.items o))
+    long_by R.Cycle = rw (append-nil old.sources.items, append-nil old.oids.items) long
+    long_by R.Unresolved = rw (append-nil old.sources.items, append-nil old.oids.items) long
+    long_by R.TooLong = rw (append-nil old.sources.items, append-nil old.oids.items) long
+
+    same : nodes_of ms (old.sources.items ++ []) (old.oids.items ++ []) ≡ nodes_of ms old.sources.items old.oids.items ++ []
+    same = rw (append-nil old.sources.items, append-nil old.oids.items) (sym (append-nil (nodes_of ms old.sources.items old.oids.items)))
+
+    nodes : (r : Resolution) → nodes_of ms (old.sources.items ++ sources_by s r) (old.oids.items ++ oids_by r)
+        ≡ nodes_of ms old.sources.items old.oids.items ++ nodes_by m d r
+    nodes (R.Numbers o) = nodes_of-push ms old.sources.items old.oids.items s o long ∙ rw (is o) refl
+    nodes R.Cycle = same
+    nodes R.Unresolved = same
+    nodes R.TooLong = same
+
+pub AddsDefinition-by : (ms : List Module) (old new : Gathered) (s : Source) (m : Module) (d : Def) (r : Resolution) (v : List Part)
+    → length old.sources.items ≡ length old.oids.items → IsSourceOf ms s m d → identifier_value_of d.kind ≡ Some v
+    → ComesTo (origin ms) (record { home = m.name.octets; name = d.label.octets }) r → GrowsByDefinition old new s m d r → AddsDefinition ms old new m d
+AddsDefinition-by ms old new s m d r v long is value comes e = record {
+  ns = nodes_by m d r;
+  ws = warnings_by m d r;
+  gives = rw value (r, comes, refl, refl);
+  adds = AddsNodes-extended ms old new s m d r long is e;
+}
+
+pub AddsDefinition-none : (ms : List Module) (g : Gathered) (m : Module) (d : Def) → length g.sources.items ≡ length g.oids.items
+    → identifier_value_of d.kind ≡ None → AddsDefinition ms g g m d
+AddsDefinition-none ms g m d long value = record {
+  ns = [];
+  ws = [];
+  gives = rw value (refl, refl);
+  adds = record { long = long; nodes = sym (append-nil (nodes_of ms g.sources.items g.oids.items)); warnings = sym (append-nil g.warnings.items) };
+}
+
+pub AddsNodes-then : (ms : List Module) (a b c : Gathered) (ns ms' : List Node) (ws vs : List Warning) → AddsNodes ms a b ns ws → AddsNodes ms b c ms' vs
+    → AddsNodes ms a c (ns ++ ms') (ws ++ vs)
+AddsNodes-then ms a b c ns ms' ws vs f g = record {
+  long = g.long;
+  nodes = g.nodes ∙ rw f.nodes (append_assoc (nodes_of ms a.sources.items a.oids.items) ns ms');
+  warnings = g.warnings ∙ rw f.warnings (append_assoc a.warnings.items ws vs);
+}
+
+pub AddsDefinitions-none : (ms : List Module) (g : Gathered) (m : Module) → length g.sources.items ≡ length g.oids.items → AddsDefinitions ms g g m []
+AddsDefinitions-none ms g m long = record {
+  ns = [];
+  ws = [];
+  gathers = none;
+  adds = record { long = long; nodes = sym (append-nil (nodes_of ms g.sources.items g.oids.items)); warnings = sym (append-nil g.warnings.items) };
+}
+
+pub AddsDefinitions-more : (ms : List Module) (a b c : Gathered) (m : Module) (ds : List Def) (d : Def) → AddsDefinitions ms a b m ds
+    → AddsDefinition ms b c m d
+    → AddsDefinitions ms a c m (ds ++ d ∷ [])
+AddsDefinitions-more ms a b c m ds d f g = record {
+  ns = f.ns ++ g.ns;
+  ws = f.ws ++ g.ws;
+  gathers = more ds d f.ns g.ns f.ws g.ws f.gathers g.gives;
+  adds = AddsNodes-then ms a b c f.ns g.ns f.ws g.ws f.adds g.adds;
+}
+
+pub AreGathered-more : (ms : List Module) (a b : Gathered) (before : List Module) (m : Module) → AreGathered ms a before → AddsModule ms a b before m
+    → AreGathered ms b (before ++ m ∷ [])
+AreGathered-more ms a b before m f g = record {
+  ns = f.ns ++ g.ns;
+  long = g.adds.long;
+  nodes = g.adds.nodes ∙ rw f.nodes (append_assoc roots f.ns g.ns);
+  loads = rw g.adds.warnings (then_module before m f.ns g.ns a.warnings.items g.ws f.loads g.brings);
+}
+
+-- only warnings are added
+pub AddsNodes-warnings : (ms : List Module) (old new : Gathered) (ws : List Warning) → length old.sources.items ≡ length old.oids.items
+    → new.sources.items ≡ old.sources.items → new.oids.items ≡ old.oids.items → new.warnings.items ≡ old.warnings.items ++ ws
+    → AddsNodes ms old new [] ws
+AddsNodes-warnings ms old new ws long s o w = record {
+  long = rw (s, o) long;
+  nodes = rw (s, o) (sym (append-nil (nodes_of ms old.sources.items old.oids.items)));
+  warnings = w;
+}
+
+pub AddsModule-left_out : (ms : List Module) (old new : Gathered) (before : List Module) (m : Module) → length old.sources.items ≡ length old.oids.items
+    → is_loaded before m.name.octets ≡ true
+    → new.sources.items ≡ old.sources.items → new.oids.items ≡ old.oids.items
+    → new.warnings.items ≡ old.warnings.items ++ W.DoubleModule m.name.octets ∷ []
+    → AddsModule ms old new before m
+AddsModule-left_out ms old new before m long double s o w = record {
+  ns = [];
+  ws = W.DoubleModule m.name.octets ∷ [];
+  brings = left_out double;
+  adds = AddsNodes-warnings ms old new (W.DoubleModule m.name.octets ∷ []) long s o w;
+}
+
+pub AddsModule-loaded : (ms : List Module) (a b c : Gathered) (before : List Module) (m : Module) → length a.sources.items ≡ length a.oids.items
+    → is_loaded before m.name.octets ≡ false
+    → b.sources.items ≡ a.sources.items → b.oids.items ≡ a.oids.items → b.warnings.items ≡ a.warnings.items ++ import_warnings ms m
+    → AddsDefinitions ms b c m m.defs → AddsModule ms a c before m
+AddsModule-loaded ms a b c before m long first s o w f = record {
+  ns = f.ns;
+  ws = import_warnings ms m ++ f.ws;
+  brings = loaded f.ns f.ws first f.gathers;
+  adds = AddsNodes-then ms a b c [] f.ns (import_warnings ms m) f.ws (AddsNodes-warnings ms a b (import_warnings ms m) long s o w) f.adds;
+}
+
+-- an element of a list by its place
+pub get_read : {X : Type 0} (xs : List X) (i : ℕ) (x : X) → i < length xs → x ≡ get_or xs i x → slice_get xs i ≡ Some x
+get_read [] i x l e = absurd (omega arith)
+get_read (y ∷ ys) zero x l e = ap (λ z. Some z) (sym e)
+get_read (y ∷ ys) (suc i) x l e = get_read ys i x (omega arith) e
+
+-- the definition at its place
+pub IsSourceOf-definition : (ms : List Module) (i k : ℕ) (m : Module) (d : Def) → slice_get ms i ≡ Some m → slice_get m.defs k ≡ Some d
+    → IsSourceOf ms (S.Definition i k) m d
+IsSourceOf-definition ms i k m d at there = λ o. rw (at, there) refl
+
+pub AreGathered-roots : (ms : List Module) (g : Gathered) → g.sources.items ≡ S.Root 0 ∷ (S.Root 1 ∷ (S.Root 2 ∷ []))
+    → g.oids.items ≡ (0 ∷ []) ∷ ((1 ∷ []) ∷ ((2 ∷ []) ∷ [])) → g.warnings.items ≡ [] → AreGathered ms g []
+AreGathered-roots ms g s o w = record { ns = []; long = rw (s, o) refl; nodes = rw (s, o) refl; loads = rw w none_yet }

@@ -1,0 +1,11 @@
+pub mod Climbing
+pub mod Filling
+pub mod Ending
+pub mod Bridging
+pub mod Equating
+pub mod Knowing
+pub mod Placing
+pub mod Single
+pub mod Gathering
+pub mod Importing
+pub mod NodesSingle

@@ -1,0 +1,15 @@
+-- What is made is resolved.
+use Rattle.std.proofs.Common.{◌≡◌}
+use Rattle.smi_names.specs.meaning.Resolved.{IsDirectory}
+use Rattle.smi_names.specs.declared.meaning.directory.Directory.{Directory}
+use Rattle.smi_names.proofs.Equating.{AreResolutions-all}
+use Rattle.smi_names.proofs.meaning.names.Names.new.Goals as goal
+
+pub invariant_of-result : goal.invariant_of-result
+invariant_of-result c =
+    let d : Directory = record { homes = c.in_ok-homes.field-0; scopes = c.in_ok-scopes.scopes; entries = c.scopes.new.entries } in
+    let dir : IsDirectory c.args.modules.now d = record { placed = c.in_ok-homes.ensures; named = c.in_ok-scopes.ensures } in
+    let list : c.deref.result.now ≡ c.in_ok-bases.bases.items = c.deref.ensures.value in
+    let long = rw list at c.in_ok-resolutions.ensures.length in
+    let each = rw list at c.in_ok-resolutions.ensures.each in
+    AreResolutions-all c.args.modules.now d dir c.in_ok-bases.bases.items c.in_ok-bases.ensures c.in_ok-resolutions.resolutions.items long each

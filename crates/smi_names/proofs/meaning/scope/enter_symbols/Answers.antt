@@ -1,0 +1,44 @@
+-- One symbol more.
+use Rattle.std.proofs.Common.{◌≡◌, ℕ, ◌+◌, ◌<◌, ◌||◌, Bool, true, false, cond, length, List, [], ◌∷◌, Some, None, get_or, take, refl, sym, ap, ◌∙◌}
+use Rattle.std.proofs.lemmas.List.{take_more, take_all}
+use Rattle.std.specs.List.{list_any}
+use Rattle.std.specs.Option.{option_map}
+use Rattle.smi_text.specs.trees.Mark.{same_text}
+use Rattle.smi_text.specs.trees.Lookup.{first_import, is_imported_by}
+use Rattle.smi_text.specs.declared.trees.tree.Import.{Import}
+use Rattle.smi_text.specs.declared.trees.tree.TokenText.{TokenText}
+use Rattle.smi_names.specs.meaning.Meaning.{Decision, imported, or_else}
+use Rattle.smi_names.proofs.Knowing.{KnowsMore-then, KnowsMore-same, list_any-push}
+use Rattle.smi_names.proofs.meaning.scope.enter_symbols.Goals as goal
+
+merged : (a b : Bool) (d : Decision) → or_else (cond a (Some d) None) (cond b (Some d) None) ≡ cond (a || b) (Some d) None
+merged true b d = refl
+merged false b d = refl
+
+more : (ts : List TokenText) (k : ℕ) (t : TokenText) (x : List ℕ) (d : Decision) → k < length ts → t ≡ get_or ts k t
+    → or_else (cond (list_any (λ s. same_text s.text x) (take k ts)) (Some d) None) (cond (same_text t.text x) (Some d) None)
+    ≡ cond (list_any (λ s. same_text s.text x) (take (k + 1) ts)) (Some d) None
+more ts k t x d l e =
+    merged (list_any (λ s. same_text s.text x) (take k ts)) (same_text t.text x) d
+    ∙ ap (λ b. cond b (Some d) None) (sym (list_any-push (λ s. same_text s.text x) (take k ts) t) ∙ rw (take_more ts k t l, sym e) refl)
+
+whole : (i : Import) (x : List ℕ) → cond (is_imported_by x i) (Some (imported i)) None ≡ option_map imported (first_import x (i ∷ []))
+whole i x = by (is_imported_by x i)
+  where
+    by : (b : Bool) → cond b (Some (imported i)) None ≡ option_map imported (cond b (Some i) None)
+    by true = refl
+    by false = refl
+
+pub symbols-preserved : goal.symbols-preserved
+symbols-preserved c =
+    let text : c.as_bytes.result.now ≡ c.symbol-item.result.text = c.as_bytes.ensures in
+    let entered = rw text at c.in_ok-enter.ensures.entered in
+    KnowsMore-same _ _ _ _ _ _ _ _ (KnowsMore-then _ _ _ _ _ _ _ _ _ _ c.symbols.invariant entered)
+    (λ x. more c.as_slice-symbols.result.now c.symbols.symbol-index c.symbol-item.result x (imported c.args.import.now) c.symbols-test.true c.symbol-item.is)
+
+pub returns : goal.returns
+returns c =
+    let list : c.as_slice-symbols.result.now ≡ c.args.import.now.symbols = c.as_slice-symbols.ensures in
+    let all = take_all c.symbols.symbol-index c.as_slice-symbols.result.now c.symbols-test.false in
+    let known = rw (all, list) at c.symbols.invariant in
+    record { entered = KnowsMore-same _ _ _ _ _ _ _ _ known (λ x. whole c.args.import.now x) }

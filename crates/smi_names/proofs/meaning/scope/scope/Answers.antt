@@ -1,0 +1,21 @@
+-- Definitions decide before imports, and these before roots.
+use Rattle.std.proofs.Common.{◌≡◌, None, refl, ◌∙◌}
+use Rattle.smi_names.specs.meaning.Scopes.{place_in}
+use Rattle.smi_names.proofs.Knowing.{KnowsMore-then}
+use Rattle.smi_names.proofs.meaning.scope.scope.Goals as goal
+
+pub returns-clause-decided : goal.returns-clause-decided
+returns-clause-decided c = λ x.
+    let empty : place_in c.new-scope.result x ≡ None = rw c.new-scope.ensures.empty refl in
+    let first = c.in_ok-enter_definitions.ensures.entered in
+    let clauses = c.import_clauses.ensures in
+    let second = rw clauses at c.in_ok-enter_imports.ensures.entered in
+    let all = KnowsMore-then _ _ _ _ _ _ _ _ _ _ (KnowsMore-then _ _ _ _ _ _ _ _ _ _ first second) c.in_ok-enter_roots.ensures.entered in
+    all.knows x ∙ rw empty refl
+
+pub returns-clause-grown : goal.returns-clause-grown
+returns-clause-grown c =
+    let first = c.in_ok-enter_definitions.ensures.entered in
+    let second = rw (c.import_clauses.ensures) at c.in_ok-enter_imports.ensures.entered in
+    let all = KnowsMore-then _ _ _ _ _ _ _ _ _ _ (KnowsMore-then _ _ _ _ _ _ _ _ _ _ first second) c.in_ok-enter_roots.ensures.entered in
+    (all.added, all.grown, all.of)

@@ -1,0 +1,63 @@
+-- By whether the definition has an identifier, and by what its name comes to.
+use Rattle.std.proofs.Common.{rules, ◌≡◌, true, false, List, length, Option, Some, None, Result, Ok, Err, OnOk, is_some, refl, sym}
+use Rattle.std.specs.declared.alloc.AllocError.{AllocError}
+use Rattle.smi_names.specs.links.Chain.{here}
+use Rattle.smi_names.specs.links.Basis.{ComesTo}
+use Rattle.smi_names.specs.declared.links.basis.Resolution.{Resolution}
+use Rattle.smi_names.specs.declared.links.basis.Resolution.TheVariants as R
+use Rattle.smi_text.specs.declared.trees.tree.Module.{Module}
+use Rattle.smi_text.specs.declared.trees.tree.Def.{Def}
+use Rattle.smi_text.specs.declared.trees.tree.Part.{Part}
+use Rattle.smi_text.specs.trees.Lookup.{identifier_value_of}
+use Rattle.smi_names.specs.meaning.Meaning.{origin}
+use Rattle.smi_names.specs.nodes.Gathered.{GrowsByDefinition, AddsDefinition, IsSourceOf}
+use Rattle.smi_names.specs.declared.nodes.source.Source.{Source}
+use Rattle.smi_names.specs.declared.nodes.gather.Gathered.{Gathered}
+use Rattle.smi_names.proofs.Gathering.{AddsDefinition-by, AddsDefinition-none}
+use Rattle.smi_names.proofs.nodes.gather.Gathered.add_definition.Goals as goal
+
+none_of : (r : Option (List Part)) → is_some r ≡ false → r ≡ None
+none_of None e = refl
+none_of (Some p) e = cc
+
+some_of : (r : Option (List Part)) → is_some r ≡ true → (v : List Part) × (r ≡ Some v)
+some_of None e = cc
+some_of (Some v) e = (v, refl)
+
+added : (ms : List Module) (old new : Gathered) (s : Source) (m : Module) (d : Def) (r : Resolution) (v : List Part) (out : Result (Unit {0}) AllocError)
+    → length old.sources.items ≡ length old.oids.items → IsSourceOf ms s m d → identifier_value_of d.kind ≡ Some v
+    → ComesTo (origin ms) (record { home = m.name.octets; name = d.label.octets }) r
+    → OnOk out (GrowsByDefinition old new s m d r) → OnOk out (AddsDefinition ms old new m d)
+added ms old new s m d r v (Ok u) long is value comes e = AddsDefinition-by ms old new s m d r v long is value comes e
+added ms old new s m d r v (Err x) long is value comes e = tt
+
+pub returns-then-is_none : goal.returns-then-is_none
+returns-then-is_none c =
+    let none : is_some (identifier_value_of c.args.def.now.kind) ≡ false = search rules in
+    record {
+      added = AddsDefinition-none c.args.names.now c.args.self.now c.args.module.now c.args.def.now c.requires.long
+          (none_of (identifier_value_of c.args.def.now.kind) none);
+    }
+
+pub returns-in-Some : goal.returns-in-Some
+returns-in-Some c =
+    let some : is_some (identifier_value_of c.args.def.now.kind) ≡ true = search rules in
+    let v = some_of (identifier_value_of c.args.def.now.kind) some in
+    let comes : ComesTo (origin c.args.names.now)
+    (record { home = c.args.module.now.name.octets; name = c.args.def.now.label.octets }) c.in-Some.resolution.now =
+    rw (sym c.as_bytes.ensures.octets, sym c.as_bytes-2.ensures.octets) c.in-Some.ensures in
+    record {
+      added = added c.args.names.now c.args.self.now c.add.new.self c.args.source c.args.module.now c.args.def.now c.in-Some.resolution.now v.0 c.add.result
+          c.requires.long c.requires.there v.1 comes c.add.ensures.added;
+    }
+
+pub returns-in-None : goal.returns-in-None
+returns-in-None c =
+    let some : is_some (identifier_value_of c.args.def.now.kind) ≡ true = search rules in
+    let v = some_of (identifier_value_of c.args.def.now.kind) some in
+    let comes : ComesTo (origin c.args.names.now) (record { home = c.args.module.now.name.octets; name = c.args.def.now.label.octets }) R.Unresolved =
+    rw (sym c.as_bytes.ensures.octets, sym c.as_bytes-2.ensures.octets) (here c.in-None.ensures) in
+    record {
+      added = added c.args.names.now c.args.self.now c.add-in-None.new.self c.args.source c.args.module.now c.args.def.now R.Unresolved v.0 c.add-in-None.result
+          c.requires.long c.requires.there v.1 comes c.add-in-None.ensures.added;
+    }

@@ -1,0 +1,24 @@
+-- One definition more.
+use Rattle.std.proofs.Common.{rules, ◌≡◌, ◌+◌, ◌<◌, [], ◌∷◌, ◌++◌, length, take, refl, sym, ◌∙◌}
+use Rattle.std.proofs.lemmas.List.{take_more}
+use Rattle.smi_names.proofs.Gathering.{AddsDefinitions-none, AddsDefinitions-more, IsSourceOf-definition, get_read}
+use Rattle.smi_names.proofs.nodes.gather.Gathered.add_definitions.Goals as goal
+
+pub defs-init : goal.defs-init
+defs-init c = AddsDefinitions-none c.args.names.now c.args.self.now c.args.module.now c.requires.long
+
+pub add_definition-requires-clause-there : goal.add_definition-requires-clause-there
+add_definition-requires-clause-there c =
+    let list : c.as_slice-defs.result.now ≡ c.args.module.now.defs = c.as_slice-defs.ensures in
+    let inside : c.defs.k < length c.as_slice-defs.result.now = search rules in
+    let read = get_read c.as_slice-defs.result.now c.defs.k c.index-defs-k.result inside c.index-defs-k.is in
+    IsSourceOf-definition c.args.names.now c.args.place c.defs.k c.args.module.now c.index-defs-k.result c.requires.there (rw list at read)
+
+pub defs-preserved : goal.defs-preserved
+defs-preserved c =
+    let ds = c.as_slice-defs.result.now in
+    let k = c.defs.k in
+    let inside : c.defs.k < length c.as_slice-defs.result.now = search rules in
+    let more : take (k + 1) ds ≡ take k ds ++ c.index-defs-k.result ∷ [] = take_more ds k c.index-defs-k.result inside ∙ rw (sym c.index-defs-k.is) refl in
+    rw more (AddsDefinitions-more c.args.names.now c.args.self.now c.defs.self c.add_definition.new.self c.args.module.now (take k ds) c.index-defs-k.result
+    c.defs.invariant c.in_ok-add_definition.ensures.added)

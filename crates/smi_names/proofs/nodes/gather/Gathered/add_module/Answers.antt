@@ -1,0 +1,19 @@
+-- A warning alone is added for a name that is loaded.
+use Rattle.std.proofs.Common.{rules, ◌≡◌, ◌++◌, ◌∷◌, [], refl, take, true}
+use Rattle.smi_names.specs.declared.nodes.gather.Gathered.{Gathered}
+use Rattle.smi_names.specs.declared.nodes.warning.Warning.TheVariants as W
+use Rattle.smi_names.specs.nodes.Nodes.{is_loaded}
+use Rattle.smi_names.proofs.Gathering.{AddsModule-left_out}
+use Rattle.smi_names.proofs.nodes.gather.Gathered.add_module.Goals as goal
+
+pub returns-then-is_double : goal.returns-then-is_double
+returns-then-is_double c =
+    let old = c.args.self.now in
+    let new : Gathered = record { sources = old.sources; oids = old.oids; warnings = c.push.new.self } in
+    let pushed : c.push.new.self.items ≡ old.warnings.items ++ W.DoubleModule c.in_ok-name.name ∷ [] = search rules in
+    let name : c.in_ok-name.name ≡ c.as_bytes.result.now = c.in_ok-name.ensures in
+    let warned = rw (name, c.as_bytes.ensures.octets) at pushed in
+    let double : is_loaded (take c.args.place c.args.names.now) c.args.module.now.name.octets ≡ true = search rules in
+    record {
+      added = AddsModule-left_out c.args.names.now old new (take c.args.place c.args.names.now) c.args.module.now c.requires.long double refl refl warned;
+    }

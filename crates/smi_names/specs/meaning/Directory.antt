@@ -1,0 +1,25 @@
+-- What the numbers of each entry's name are based on.
+use Rattle.std.specs.Prelude.{◌≡◌, ℕ, List, length, Some}
+use Rattle.std.specs.List.{slice_get}
+use Rattle.smi_names.specs.links.Basis.{origin_of}
+use Rattle.smi_names.specs.declared.links.basis.Basis.{Basis}
+use Rattle.smi_names.specs.meaning.Meaning.{QualifiedName, origin_by}
+use Rattle.smi_names.specs.meaning.Scopes.{content_of}
+use Rattle.smi_names.specs.meaning.Names.{place_of_name, map_origin}
+use Rattle.smi_names.specs.declared.meaning.entry.Entry.{Entry}
+use Rattle.smi_names.specs.declared.meaning.directory.Directory.{Directory}
+
+abbrev pub place_by : Directory → QualifiedName → ℕ
+place_by d p = place_of_name d.homes d.scopes.items (length d.entries.items) p
+
+-- the name of an entry, in its module
+abbrev pub place_of_entry : Entry → QualifiedName
+place_of_entry e = record { home = e.«module».now.name.octets; name = e.name.now }
+
+-- each entry's basis says what decides it, by places
+pub record AreBases (d : Directory) (entries : List Entry) (bases : List Basis) : Type 0 where
+  pub long : length bases ≡ length entries
+  pub each : (p : ℕ) (e : Entry) (b : Basis) → slice_get entries p ≡ Some e
+      → slice_get bases p ≡ Some b
+      → origin_of b ≡ map_origin (place_by d) (origin_by (place_of_entry e) (Some
+      (content_of e).decided))

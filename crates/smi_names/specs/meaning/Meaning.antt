@@ -1,0 +1,106 @@
+-- What names mean in modules (RFC 2578, sections 3.1, 3.2 and 7.10).
+use Rattle.std.specs.Prelude.{
+  ℕ,
+  List,
+  [],
+  ◌∷◌,
+  Option,
+  Some,
+  None,
+  option_map,
+  codes,
+  if◌then◌else◌,
+}
+use Rattle.std.specs.List.{find}
+use Rattle.smi_names.specs.links.Chain as chain
+use Rattle.smi_names.specs.links.Chain.{Origin, numbers, after, nowhere}
+use Rattle.smi_text.specs.declared.trees.tree.Module.{Module}
+use Rattle.smi_text.specs.declared.trees.tree.Def.{Def}
+use Rattle.smi_text.specs.declared.trees.tree.Import.{Import}
+use Rattle.smi_text.specs.declared.trees.tree.Part.{Part}
+use Rattle.smi_text.specs.declared.trees.tree.Part.TheVariants as P
+use Rattle.smi_text.specs.trees.Lookup.{definition_of, import_of, identifier_value_of, part_number}
+use Rattle.smi_text.specs.trees.Mark.{same_text}
+
+-- a name in a module
+pub record QualifiedName : Type 0 where
+  pub home : List ℕ
+  pub name : List ℕ
+
+-- the names at the top, which have no definition (RFC 2578, section 2)
+abbrev pub root_arc : List ℕ → Option ℕ
+root_arc x =
+    if same_text (codes "ccitt") x then Some 0 else
+    (if same_text (codes "iso") x then Some 1 else
+    (if same_text (codes "joint-iso-ccitt") x then Some 2 else None))
+
+-- what decides what a name means in a module
+pub data Decision : Type 0 where
+  defined : Def → Decision
+  imported : Import → Decision
+  root : ℕ → Decision
+
+abbrev pub or_else : {A : Type 0} → Option A → Option A → Option A
+or_else None d = d
+or_else (Some x) d = Some x
+
+-- the module's own definition decides, otherwise the first import of the name, otherwise a root
+abbrev pub decision : Module → List ℕ → Option Decision
+decision m x =
+    or_else (or_else (option_map defined (definition_of m x)) (option_map imported (import_of m x)))
+    (option_map root (root_arc x))
+
+abbrev pub both : Option ℕ → Option (List ℕ) → Option (List ℕ)
+both None ns = None
+both (Some n) None = None
+both (Some n) (Some ns) = Some (n ∷ ns)
+
+-- the numbers of parts; a name alone has none
+abbrev pub arcs : List Part → Option (List ℕ)
+arcs [] = Some []
+arcs (p ∷ ps) = both (part_number p) (arcs ps)
+
+abbrev pub by_itself : Option (List ℕ) → Origin QualifiedName
+by_itself None = nowhere
+by_itself (Some ns) = numbers ns
+
+abbrev pub after_name : QualifiedName → Option (List ℕ) → Origin QualifiedName
+after_name a None = nowhere
+after_name a (Some ns) = after a ns
+
+-- an identifier value: a name in the first place has its meaning, a number or a name with a number
+-- stands for the number, and a name alone in a later place has none
+abbrev pub origin_of_parts : List ℕ → List Part → Origin QualifiedName
+origin_of_parts home [] = nowhere
+origin_of_parts home (P.Name x ∷ rest) = after_name (record { home = home; name = x.octets })
+    (arcs rest)
+origin_of_parts home (P.Number n ∷ rest) = by_itself (arcs (P.Number n ∷ rest))
+origin_of_parts home (P.NamedNumber n ∷ rest) = by_itself (arcs (P.NamedNumber n ∷ rest))
+
+abbrev pub origin_of_value : List ℕ → Option (List Part) → Origin QualifiedName
+origin_of_value home None = nowhere
+origin_of_value home (Some parts) = origin_of_parts home parts
+
+-- a definition gives its value; an imported name means what it means in the module after FROM
+abbrev pub origin_by : QualifiedName → Option Decision → Origin QualifiedName
+origin_by a None = nowhere
+origin_by a (Some (defined d)) = origin_of_value a.home (identifier_value_of d.kind)
+origin_by a (Some (imported i)) = after
+    (record { home = i.source.octets; name = a.name }) []
+origin_by a (Some (root n)) = numbers (n ∷ [])
+
+-- the first loaded module of a name
+abbrev pub module_named : List Module → List ℕ → Option Module
+module_named ms x = find (λ m. same_text m.name.octets x) ms
+
+-- one step: in a module that isn't loaded no name has a meaning
+abbrev pub origin_in : QualifiedName → Option Module → Origin QualifiedName
+origin_in a None = nowhere
+origin_in a (Some m) = origin_by a (decision m a.name)
+
+abbrev pub origin : List Module → QualifiedName → Origin QualifiedName
+origin ms a = origin_in a (module_named ms a.home)
+
+-- the name has the identifier
+abbrev pub Means : List Module → QualifiedName → List ℕ → Type 0
+Means ms a o = chain.HasIdentifier (origin ms) a o

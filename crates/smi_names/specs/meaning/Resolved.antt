@@ -1,0 +1,25 @@
+-- What a directory of names and their resolutions state.
+use Rattle.std.specs.Prelude.{◌≡◌, ℕ, List, Some, None}
+use Rattle.std.specs.List.{slice_get}
+use Rattle.smi_names.specs.links.Chain.{nowhere}
+use Rattle.smi_names.specs.links.Basis.{ComesTo}
+use Rattle.smi_names.specs.declared.links.basis.Resolution.{Resolution}
+use Rattle.smi_text.specs.declared.trees.tree.Module.{Module}
+use Rattle.smi_names.specs.meaning.Meaning.{QualifiedName, origin}
+use Rattle.smi_names.specs.meaning.Scopes.{place_in}
+use Rattle.smi_names.specs.meaning.Names.{AreEach, module_place}
+use Rattle.smi_names.specs.meaning.Directory.{place_by}
+use Rattle.smi_names.specs.declared.meaning.directory.Directory.{Directory}
+
+-- modules and names have their places
+pub record IsDirectory (ms : List Module) (d : Directory) : Type 0 where
+  pub placed : (x : List ℕ) → place_in d.homes x ≡ module_place ms x
+  pub named : AreEach ms d.scopes.items d.entries.items
+
+-- and each name resolves to what its place has
+pub record AreResolutions (ms : List Module) (d : Directory) (rs : List Resolution) : Type 0 where
+  pub directory : IsDirectory ms d
+  pub comes : (a : QualifiedName) (r : Resolution) → slice_get rs (place_by d a) ≡ Some r
+      → ComesTo (origin ms) a r
+  pub leads_nowhere : (a : QualifiedName) → slice_get rs (place_by d a) ≡ None
+      → origin ms a ≡ nowhere

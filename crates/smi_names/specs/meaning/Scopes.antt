@@ -1,0 +1,63 @@
+-- The names of modules with their places among the entries.
+use Rattle.std.specs.Prelude.{◌≡◌, ℕ, ◌<◌, List, ◌++◌, length, Option, Some, option_map, All}
+use Rattle.std.specs.List.{slice_get}
+use Rattle.std.specs.Option.{option_and_then}
+use Rattle.std.specs.Ordering.{nat_cmp}
+use Rattle.std.specs.Borrow.{Bor}
+use Rattle.std.specs.BTreeMap.{BTreeMap, get_by}
+use Rattle.std.specs.Cmp.Lexicographic.{slice_cmp}
+use Rattle.smi_text.specs.declared.trees.tree.Module.{Module}
+use Rattle.smi_text.specs.declared.trees.tree.Def.{Def}
+use Rattle.smi_names.specs.meaning.Meaning.{Decision, defined, imported, root, or_else}
+use Rattle.smi_names.specs.declared.meaning.entry.Decider.{Decider}
+use Rattle.smi_names.specs.declared.meaning.entry.Decider.TheVariants as D
+use Rattle.smi_names.specs.declared.meaning.entry.Entry.{Entry}
+
+-- the place of a name in a map
+abbrev pub place_in : BTreeMap (Bor (List ℕ)) ℕ → List ℕ → Option ℕ
+place_in scope x = get_by (λ k. slice_cmp nat_cmp x k.now) scope
+
+abbrev pub decision_of : Decider → Decision
+decision_of (D.Definition d) = defined d.now
+decision_of (D.Import i) = imported i.now
+decision_of (D.Root n) = root n
+
+-- what an entry says: this decides what this name means in this module
+pub record Content : Type 0 where
+  pub home : Module
+  pub name : List ℕ
+  pub decided : Decision
+
+abbrev pub content_of : Entry → Content
+content_of e = record { home = e.«module».now; name = e.name.now; decided = decision_of e.decider }
+
+-- what a scope knows of a name
+abbrev pub known : List Entry → BTreeMap (Bor (List ℕ)) ℕ → List ℕ → Option Content
+known entries scope x =
+    option_and_then (λ p. option_map content_of (slice_get entries p)) (place_in scope x)
+
+abbrev pub decided_as : Module → List ℕ → Option Decision → Option Content
+decided_as m x d = option_map (λ v. record { home = m; name = x; decided = v }) d
+
+abbrev pub IsWithin : List Entry → BTreeMap (Bor (List ℕ)) ℕ → Type 0
+IsWithin entries scope = (x : List ℕ) (p : ℕ) → place_in scope x ≡ Some p → p < length entries
+
+-- a definition that decides stands in the module at the place that the entry states
+abbrev pub IsDefinedAt : Entry → Type 0
+IsDefinedAt e = (d : Def) → decision_of e.decider ≡ defined d
+    → slice_get e.«module».now.defs e.source.1 ≡ Some d
+
+-- an entry is one of the module at a place
+abbrev pub IsEntryOf : Module → ℕ → Entry → Type 0
+IsEntryOf m i e = (e.«module».now ≡ m) × (e.source.0 ≡ i) × IsDefinedAt e
+
+-- the scope knows more: where it knew nothing, it has what `more` decides
+pub record KnowsMore (old : List Entry) (before : BTreeMap (Bor (List ℕ)) ℕ) (new : List Entry)
+    (scope : BTreeMap (Bor (List ℕ)) ℕ) (m : Module) (i : ℕ) (more : List ℕ
+    → Option Decision) : Type 0 where
+  pub knows : (x : List ℕ)
+      → known new scope x ≡ or_else (known old before x) (decided_as m x (more x))
+  pub added : List Entry
+  pub grown : new ≡ old ++ added
+  pub of : All (IsEntryOf m i) added
+  pub within : IsWithin new scope

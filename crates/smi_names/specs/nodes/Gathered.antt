@@ -1,0 +1,114 @@
+-- What is gathered, as nodes.
+use Rattle.std.specs.Prelude.{
+  ◌≡◌,
+  ℕ,
+  ◌==◌,
+  List,
+  [],
+  ◌∷◌,
+  ◌++◌,
+  length,
+  Option,
+  Some,
+  None,
+  codes,
+  if◌then◌else◌,
+}
+use Rattle.std.specs.List.{slice_get}
+use Rattle.smi_names.specs.declared.links.basis.Resolution.{Resolution}
+use Rattle.smi_names.specs.declared.links.basis.Resolution.TheVariants as R
+use Rattle.smi_text.specs.declared.trees.tree.Module.{Module}
+use Rattle.smi_text.specs.declared.trees.tree.Def.{Def}
+use Rattle.smi_names.specs.nodes.Nodes.{Node, node_of, warnings_by, roots, GivesNodes, Gathers}
+use Rattle.smi_names.specs.nodes.Nodes.{Brings, Loads}
+use Rattle.smi_names.specs.declared.nodes.warning.Warning.{Warning}
+use Rattle.smi_names.specs.declared.nodes.source.Source.{Source}
+use Rattle.smi_names.specs.declared.nodes.source.Source.TheVariants as S
+use Rattle.smi_names.specs.declared.nodes.gather.Gathered.{Gathered}
+
+abbrev pub root_label : ℕ → List ℕ
+root_label n = if n == 0 then codes "ccitt" else
+    (if n == 1 then codes "iso" else codes "joint-iso-ccitt")
+
+abbrev pub node_from_def : Option Module → Option Def → List ℕ → Node
+node_from_def (Some m) (Some d) o = node_of m d o
+node_from_def (Some m) None o = record { home = Some m; label = []; oid = o; definition = None }
+node_from_def None d o = record { home = None; label = []; oid = o; definition = d }
+
+abbrev pub def_of_module : Option Module → ℕ → Option Def
+def_of_module None k = None
+def_of_module (Some m) k = slice_get m.defs k
+
+-- the node of a source
+abbrev pub node_from : List Module → Source → List ℕ → Node
+node_from ms (S.Root n) o = record { home = None; label = root_label n; oid = o; definition = None }
+node_from ms (S.Definition i k) o = node_from_def (slice_get ms i)
+    (def_of_module (slice_get ms i) k) o
+
+-- the nodes of sources, each with its identifier
+abbrev pub nodes_of : List Module → List Source → List (List ℕ) → List Node
+nodes_of ms [] os = []
+nodes_of ms (s ∷ ss) [] = []
+nodes_of ms (s ∷ ss) (o ∷ os) = node_from ms s o ∷ nodes_of ms ss os
+
+abbrev pub sources_by : Source → Resolution → List Source
+sources_by s (R.Numbers o) = s ∷ []
+sources_by s R.Cycle = []
+sources_by s R.Unresolved = []
+sources_by s R.TooLong = []
+
+abbrev pub oids_by : Resolution → List (List ℕ)
+oids_by (R.Numbers o) = o ∷ []
+oids_by R.Cycle = []
+oids_by R.Unresolved = []
+oids_by R.TooLong = []
+
+-- what is gathered grows by what a definition gives whose name resolves to r
+pub record GrowsByDefinition (old new : Gathered) (s : Source) (m : Module) (d : Def)
+    (r : Resolution) : Type 0 where
+  pub sources : new.sources.items ≡ old.sources.items ++ sources_by s r
+  pub oids : new.oids.items ≡ old.oids.items ++ oids_by r
+  pub warnings : new.warnings.items ≡ old.warnings.items ++ warnings_by m d r
+
+-- the source is this definition of this module
+abbrev pub IsSourceOf : List Module → Source → Module → Def → Type 0
+IsSourceOf ms s m d = (o : List ℕ) → node_from ms s o ≡ node_of m d o
+
+-- these nodes and warnings are added
+pub record AddsNodes (ms : List Module) (old new : Gathered) (ns : List Node)
+    (ws : List Warning) : Type 0 where
+  pub long : length new.sources.items ≡ length new.oids.items
+  pub nodes : nodes_of ms new.sources.items new.oids.items ≡ nodes_of ms old.sources.items
+      old.oids.items ++ ns
+  pub warnings : new.warnings.items ≡ old.warnings.items ++ ws
+
+-- what a definition gives is added
+pub record AddsDefinition (ms : List Module) (old new : Gathered) (m : Module)
+    (d : Def) : Type 0 where
+  pub ns : List Node
+  pub ws : List Warning
+  pub gives : GivesNodes ms m d ns ws
+  pub adds : AddsNodes ms old new ns ws
+
+-- what definitions of a module give is added
+pub record AddsDefinitions (ms : List Module) (old new : Gathered) (m : Module)
+    (ds : List Def) : Type 0 where
+  pub ns : List Node
+  pub ws : List Warning
+  pub gathers : Gathers ms m ds ns ws
+  pub adds : AddsNodes ms old new ns ws
+
+-- what a module brings after those before it is added
+pub record AddsModule (ms : List Module) (old new : Gathered) (before : List Module)
+    (m : Module) : Type 0 where
+  pub ns : List Node
+  pub ws : List Warning
+  pub brings : Brings ms before m ns ws
+  pub adds : AddsNodes ms old new ns ws
+
+-- what is gathered is what modules bring, after the roots
+pub record AreGathered (ms : List Module) (g : Gathered) (before : List Module) : Type 0 where
+  pub ns : List Node
+  pub long : length g.sources.items ≡ length g.oids.items
+  pub nodes : nodes_of ms g.sources.items g.oids.items ≡ roots ++ ns
+  pub loads : Loads ms before ns g.warnings.items

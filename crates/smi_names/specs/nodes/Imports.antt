@@ -1,0 +1,72 @@
+-- The warnings that the imports of a module give (RFC 2578, section 3.2).
+use Rattle.std.specs.Prelude.{
+  ℕ,
+  Bool,
+  true,
+  false,
+  ◌||◌,
+  List,
+  [],
+  ◌∷◌,
+  Option,
+  Some,
+  None,
+  is_some,
+  codes,
+  if◌then◌else◌,
+}
+use Rattle.std.specs.List.{list_any, flat_map}
+use Rattle.smi_text.specs.trees.Mark.{same_text}
+use Rattle.smi_text.specs.trees.Number.{is_macro}
+use Rattle.smi_text.specs.trees.Lookup.{definition_of, import_of, import_clauses}
+use Rattle.smi_text.specs.declared.trees.tree.Module.{Module}
+use Rattle.smi_text.specs.declared.trees.tree.Import.{Import}
+use Rattle.smi_text.specs.declared.trees.tree.TokenText.{TokenText}
+use Rattle.smi_names.specs.meaning.Meaning.{Decision, defined, imported, root, module_named}
+use Rattle.smi_names.specs.declared.nodes.warning.Warning.{Warning}
+use Rattle.smi_names.specs.declared.nodes.warning.Warning.TheVariants as W
+
+-- the base types that a name stands for in every module (RFC 2578, section 7.1)
+abbrev pub base_types : List (List ℕ)
+base_types =
+    codes "Integer32" ∷ codes "Counter32" ∷ codes "Gauge32" ∷ codes "Unsigned32" ∷
+    codes "TimeTicks" ∷ codes "IpAddress" ∷ codes "Opaque" ∷ codes "Counter64" ∷ []
+
+unfoldable pub is_base_type : List ℕ → Bool
+is_base_type x = list_any (same_text x) base_types
+
+-- the names of macros and of base types need no definition
+abbrev pub needs_no_definition : List ℕ → Bool
+needs_no_definition x = is_macro x || is_base_type x
+
+-- a definition or an import of the module decides, and not the list of roots
+abbrev pub is_stated : Decision → Bool
+is_stated (defined d) = true
+is_stated (imported i) = true
+is_stated (root n) = false
+
+-- the module, if it is loaded, defines or imports the name
+abbrev pub defines_or_imports : Option Module → List ℕ → Bool
+defines_or_imports None x = false
+defines_or_imports (Some m) x = is_some (definition_of m x) || is_some (import_of m x)
+
+-- the warning that a symbol gives: the module after FROM, which is loaded, neither defines nor
+-- imports it
+abbrev pub symbol_warnings : Option Module → List ℕ → List ℕ → TokenText → List Warning
+symbol_warnings source home from s =
+    if needs_no_definition s.text || defines_or_imports source s.text then []
+    else W.MissingImport home s.text from ∷ []
+
+-- the warnings that a FROM clause gives: one if its module isn't loaded, otherwise those of its
+-- symbols
+abbrev pub clause_warnings_by : Option Module → List ℕ → Import → List Warning
+clause_warnings_by None home i = W.MissingModule home i.source.octets ∷ []
+clause_warnings_by (Some source) home i =
+    flat_map (symbol_warnings (Some source) home i.source.octets) i.symbols
+
+abbrev pub clause_warnings : List Module → List ℕ → Import → List Warning
+clause_warnings ms home i = clause_warnings_by (module_named ms i.source.octets) home i
+
+-- the warnings that the imports of a module give, in order of the text
+abbrev pub import_warnings : List Module → Module → List Warning
+import_warnings ms m = flat_map (clause_warnings ms m.name.octets) (import_clauses m)

@@ -1,0 +1,103 @@
+-- The nodes of the tree of names, in order of loading (RFC 2578, sections 2 and 3.6).
+use Rattle.std.specs.Prelude.{
+  ◌≡◌,
+  ℕ,
+  Bool,
+  true,
+  false,
+  List,
+  [],
+  ◌∷◌,
+  ◌++◌,
+  Option,
+  Some,
+  None,
+  is_some,
+  codes,
+}
+use Rattle.smi_names.specs.links.Basis.{ComesTo}
+use Rattle.smi_names.specs.declared.links.basis.Resolution.{Resolution}
+use Rattle.smi_names.specs.declared.links.basis.Resolution.TheVariants as R
+use Rattle.smi_text.specs.declared.trees.tree.Module.{Module}
+use Rattle.smi_text.specs.declared.trees.tree.Def.{Def}
+use Rattle.smi_text.specs.declared.trees.tree.Part.{Part}
+use Rattle.smi_text.specs.trees.Lookup.{identifier_value_of}
+use Rattle.smi_names.specs.meaning.Meaning.{origin, module_named}
+use Rattle.smi_names.specs.nodes.Imports.{import_warnings}
+use Rattle.smi_names.specs.declared.nodes.warning.Warning.{Warning}
+use Rattle.smi_names.specs.declared.nodes.warning.Warning.TheVariants as W
+
+-- a node: the module that defines it, its label, its identifier and its definition; a root has no
+-- module and no definition
+pub record Node : Type 0 where
+  pub home : Option Module
+  pub label : List ℕ
+  pub oid : List ℕ
+  pub definition : Option Def
+
+abbrev pub node_of_root : List ℕ → ℕ → Node
+node_of_root label n = record { home = None; label = label; oid = n ∷ []; definition = None }
+
+-- the roots count as loaded before every module
+abbrev pub roots : List Node
+roots =
+    node_of_root (codes "ccitt") 0 ∷ (node_of_root (codes "iso") 1 ∷ (node_of_root
+    (codes "joint-iso-ccitt") 2 ∷ []))
+
+abbrev pub node_of : Module → Def → List ℕ → Node
+node_of m d o = record { home = Some m; label = d.label.octets; oid = o; definition = Some d }
+
+-- the node that a definition gives, by what its name resolves to
+abbrev pub nodes_by : Module → Def → Resolution → List Node
+nodes_by m d (R.Numbers o) = node_of m d o ∷ []
+nodes_by m d R.Cycle = []
+nodes_by m d R.Unresolved = []
+nodes_by m d R.TooLong = []
+
+-- the warning that a definition gives, by what its name resolves to
+abbrev pub warnings_by : Module → Def → Resolution → List Warning
+warnings_by m d (R.Numbers o) = []
+warnings_by m d R.Cycle = W.Cycle m.name.octets d.label.octets ∷ []
+warnings_by m d R.Unresolved = W.Unresolved m.name.octets d.label.octets ∷ []
+warnings_by m d R.TooLong = W.TooLong m.name.octets d.label.octets ∷ []
+
+-- a definition gives these nodes and warnings: a type or a macro none, any other by what its name
+-- resolves to
+abbrev pub GivesNodesBy : List Module → Module → Def → Option (List Part) → List Node → List Warning
+    → Type 0
+GivesNodesBy ms m d None ns ws = (ns ≡ []) × (ws ≡ [])
+GivesNodesBy ms m d (Some value) ns ws =
+    (r : Resolution) × ComesTo (origin ms)
+    (record { home = m.name.octets; name = d.label.octets }) r
+    × (ns ≡ nodes_by m d r) × (ws ≡ warnings_by m d r)
+
+abbrev pub GivesNodes : List Module → Module → Def → List Node → List Warning → Type 0
+GivesNodes ms m d ns ws = GivesNodesBy ms m d (identifier_value_of d.kind) ns ws
+
+-- definitions of a module give nodes and warnings, one after the other
+pub data Gathers (ms : List Module) (m : Module) : List Def → List Node → List Warning
+    → Type 0 where
+  none : Gathers ms m [] [] []
+  more : (ds : List Def) (d : Def) (ns more_nodes : List Node) (ws more_warnings : List Warning)
+      → Gathers ms m ds ns ws → GivesNodes ms m d more_nodes more_warnings
+      → Gathers ms m (ds ++ d ∷ []) (ns ++ more_nodes) (ws ++ more_warnings)
+
+-- a module of this name is among these
+abbrev pub is_loaded : List Module → List ℕ → Bool
+is_loaded ms name = is_some (module_named ms name)
+
+-- what a module brings after those before it: a warning alone if one of them has its name,
+-- otherwise the warnings of its imports, and then what its definitions give
+pub data Brings (ms before : List Module) (m : Module) : List Node → List Warning → Type 0 where
+  left_out : is_loaded before m.name.octets ≡ true
+      → Brings ms before m [] (W.DoubleModule m.name.octets ∷ [])
+  loaded : (ns : List Node) (ws : List Warning) → is_loaded before m.name.octets ≡ false
+      → Gathers ms m m.defs ns ws → Brings ms before m ns (import_warnings ms m ++ ws)
+
+-- modules bring nodes and warnings, one after the other
+pub data Loads (ms : List Module) : List Module → List Node → List Warning → Type 0 where
+  none_yet : Loads ms [] [] []
+  then_module : (before : List Module) (m : Module) (ns more_nodes : List Node)
+      (ws more_warnings : List Warning)
+      → Loads ms before ns ws → Brings ms before m more_nodes more_warnings
+      → Loads ms (before ++ m ∷ []) (ns ++ more_nodes) (ws ++ more_warnings)

@@ -1,0 +1,6 @@
+//! smi_names.
+#![tactic(auto)]
+
+pub mod links;
+pub mod meaning;
+pub mod nodes;

@@ -1,0 +1,17 @@
+//! What names mean in modules: each name of each module is decided once, and its chain is resolved.
+//!
+//! Depends on module trees and on chains. The tree of names makes its nodes from what is resolved
+//! here.
+
+mod directory;
+mod entries;
+mod entry;
+mod laws;
+mod names;
+mod scope;
+
+pub use entries::Entries;
+pub use entry::{Decider, Entry};
+pub use laws::{one_meaning, one_resolution};
+pub use names::Names;
+pub use scope::import_clauses;

@@ -1,0 +1,163 @@
+//! The places of names: which entry a name of a module has, and what its numbers are based on.
+ghost use Rattle.std.specs.Prelude.{◌≡◌, ◌∷◌, ℕ, List, [], length, option_map, IfOk, OnOk, Some};
+ghost use Rattle.std.specs.Prelude.{None, if◌then◌else◌};
+ghost use Rattle.smi_names.specs.links.Basis.{origin_of};
+ghost use Rattle.smi_text.specs.trees.Mark.{same_text};
+ghost use Rattle.smi_names.specs.meaning.Meaning.{arcs as arcs_of, origin_by, origin_of_parts, or_else};
+ghost use Rattle.smi_names.specs.meaning.Scopes.{place_in, content_of};
+ghost use Rattle.smi_names.specs.meaning.Names.{AreEach, module_place, map_origin};
+ghost use Rattle.smi_names.specs.meaning.Directory.{place_by, place_of_entry, AreBases};
+
+use crate::meaning::entry::{Decider, Entry};
+use crate::meaning::scope::{NamePlaces, scope};
+use crate::links::Basis;
+use smi_text::trees::{Module, Part};
+use std::alloc::{AllocError, Global};
+use std::collections::BTreeMap;
+
+/// The modules and their names, each with its place.
+#[derive(Drop)]
+pub(crate) struct Directory<'a> {
+    pub(crate) homes: NamePlaces<'a>,
+    pub(crate) scopes: Vec<NamePlaces<'a>>,
+    pub(crate) entries: Vec<Entry<'a>>,
+}
+
+/// Gives a name a place, unless it has one.
+fn put_first<'a>(scope: &mut NamePlaces<'a>, name: &'a [u8], place: usize) -> Result<(), AllocError>
+    ensures put { OnOk result ((x : List ℕ) → place_in scope.new x
+        ≡ or_else (place_in scope.old x) (if same_text name.now x then Some place else None)) }
+{
+    if scope.contains_key(&name) {
+        return Ok(());
+    }
+    scope.insert(name, place)?;
+    Ok(())
+}
+
+/// The place of a name.
+pub(crate) fn find<'b>(scope: &NamePlaces<'b>, name: &'b [u8]) -> Option<usize>
+    ensures { result ≡ place_in scope.now name.now }
+{
+    scope.get(&name).copied()
+}
+
+/// The place of each module, by its name: the first of those that have it.
+pub(crate) fn homes<'a>(alloc: Global, modules: &'a [Module]) -> Result<NamePlaces<'a>, AllocError>
+    ensures { IfOk result (λ homes. (x : List ℕ) → place_in homes x ≡ module_place modules.now x) }
+{
+    let mut homes = BTreeMap::new(alloc);
+    'modules: for (i, module) in modules.iter().enumerate() {
+        put_first(&mut homes, module.name.as_bytes(), i)?;
+    }
+    Ok(homes)
+}
+
+/// The names that have a meaning in each module, which are entered.
+pub(crate) fn scopes<'a>(
+    alloc: Global,
+    entries: &mut Vec<Entry<'a>>,
+    modules: &'a [Module],
+) -> Result<Vec<NamePlaces<'a>>, AllocError>
+    requires { entries.old.items ≡ [] }
+    ensures { IfOk result (λ scopes. AreEach modules.now scopes.items entries.new.items) }
+{
+    let mut scopes = Vec::new(alloc);
+    'modules: for (i, module) in modules.iter().enumerate() {
+        let scope = scope(alloc, entries, module, i)?;
+        scopes.push(scope)?;
+    }
+    Ok(scopes)
+}
+
+/// The numbers of parts, if each has one.
+fn arcs(alloc: Global, parts: &[Part]) -> Result<Option<Vec<u32>>, AllocError>
+    ensures { IfOk result (λ numbers. option_map (λ v. v.items) numbers ≡ arcs_of parts.now) }
+{
+    let mut numbers = Vec::new(alloc);
+    'parts: for part in parts {
+        match part.number() {
+            Some(number) => numbers.push(number)?,
+            None => return Ok(None),
+        }
+    }
+    Ok(Some(numbers))
+}
+
+impl<'a> Directory<'a> {
+    /// The place of a name in the module of a name; the one past the last if it has no meaning
+    /// there.
+    pub(crate) fn place(&self, home: &'a [u8], name: &'a [u8]) -> usize
+        ensures { result ≡ place_by self.now (record { home = home.now; name = name.now }) }
+    {
+        let Some(i) = find(&self.homes, home) else {
+            return self.entries.len();
+        };
+        let Some(scope) = self.scopes.get(i) else {
+            return self.entries.len();
+        };
+        match find(scope, name) {
+            Some(place) => place,
+            None => self.entries.len(),
+        }
+    }
+
+    /// What the numbers of an identifier value are based on.
+    fn basis_of_parts(
+        &self,
+        alloc: Global,
+        home: &'a [u8],
+        parts: &'a [Part],
+    ) -> Result<Basis, AllocError>
+        ensures { IfOk result (λ basis.
+            origin_of basis ≡ map_origin (place_by self.now) (origin_of_parts home.now parts.now)) }
+    {
+        match parts {
+            [] => Ok(Basis::Nowhere),
+            [Part::Name(name), rest @ ..] => match arcs(alloc, rest)? {
+                Some(numbers) => Ok(Basis::After(self.place(home, name.as_bytes()), numbers)),
+                None => Ok(Basis::Nowhere),
+            },
+            _ => match arcs(alloc, parts)? {
+                Some(numbers) => Ok(Basis::Numbers(numbers)),
+                None => Ok(Basis::Nowhere),
+            },
+        }
+    }
+
+    /// What the numbers of an entry's name are based on.
+    fn basis(&self, alloc: Global, entry: &Entry<'a>) -> Result<Basis, AllocError>
+        ensures { IfOk result (λ basis. origin_of basis
+            ≡ map_origin (place_by self.now)
+            (origin_by (place_of_entry entry.now) (Some (content_of entry.now).decided))) }
+    {
+        let module = entry.module;
+        let home = module.name.as_bytes();
+        match entry.decider {
+            Decider::Definition(def) => match def.identifier() {
+                Some(parts) => self.basis_of_parts(alloc, home, parts.as_slice()),
+                None => Ok(Basis::Nowhere),
+            },
+            Decider::Import(import) => {
+                let place = self.place(import.source.as_bytes(), entry.name);
+                Ok(Basis::After(place, Vec::new(alloc)))
+            }
+            Decider::Root(number) => {
+                let mut numbers = Vec::new(alloc);
+                numbers.push(number)?;
+                Ok(Basis::Numbers(numbers))
+            }
+        }
+    }
+
+    /// What the numbers of each entry's name are based on.
+    pub(crate) fn bases(&self, alloc: Global) -> Result<Vec<Basis>, AllocError>
+        ensures { IfOk result (λ bases. AreBases self.now self.now.entries.items bases.items) }
+    {
+        let mut bases = Vec::with_capacity(alloc, self.entries.len())?;
+        'entries: for entry in &self.entries {
+            bases.push(self.basis(alloc, entry)?)?;
+        }
+        Ok(bases)
+    }
+}

@@ -1,0 +1,27 @@
+//! The names of modules, each with what decides what it means.
+
+use smi_text::trees::{Def, Import, Module};
+
+/// What decides what a name means in a module (RFC 2578, section 3.2).
+#[derive(Clone, Copy, Debug)]
+pub enum Decider<'a> {
+    /// The module's own definition.
+    Definition(&'a Def),
+    /// The first FROM clause that imports it.
+    Import(&'a Import),
+    /// Neither of these, but it is the root with this number.
+    Root(u32),
+}
+
+/// A name that has a meaning in a module.
+#[derive(Clone, Copy)]
+pub struct Entry<'a> {
+    /// The module.
+    pub module: &'a Module,
+    /// The octets of the name.
+    pub name: &'a [u8],
+    /// What decides its meaning.
+    pub decider: Decider<'a>,
+    /// The place of the module and, if a definition decides, the place of the definition in it.
+    pub source: (usize, usize),
+}

@@ -1,0 +1,19 @@
+//! Laws of meanings, for any modules.
+ghost use Rattle.std.specs.Prelude.{◌≡◌, ℕ, List};
+ghost use Rattle.smi_names.specs.links.Basis.{ComesTo};
+ghost use Rattle.smi_names.specs.declared.links.basis.Resolution.{Resolution};
+ghost use Rattle.smi_text.specs.declared.trees.tree.Module.{Module};
+ghost use Rattle.smi_names.specs.meaning.Meaning.{Means, QualifiedName, origin};
+
+/// A name has at most one identifier, whatever the order of modules and definitions.
+pub fn one_meaning()
+    ensures { (modules : List Module) (a : QualifiedName) (o p : List ℕ)
+        → Means modules a o → Means modules a p → o ≡ p }
+{}
+
+/// A name resolves to one identifier, or to none for one reason.
+pub fn one_resolution()
+    ensures { (modules : List Module) (a : QualifiedName) (one other : Resolution)
+        → ComesTo (origin modules) a one → ComesTo (origin modules) a other
+        → one ≡ other }
+{}

@@ -1,0 +1,104 @@
+//! The names of modules, resolved.
+ghost use Rattle.std.specs.Prelude.{◌≡◌, IfOk, MatchOption, is_some, option_map};
+ghost use Rattle.std.specs.Option.{option_and_then};
+ghost use Rattle.smi_names.specs.links.Chain.{nowhere};
+ghost use Rattle.smi_names.specs.links.Basis.{ComesTo};
+ghost use Rattle.smi_names.specs.meaning.Meaning.{origin, module_named, decision, QualifiedName};
+ghost use Rattle.smi_names.specs.meaning.Scopes.{decision_of};
+ghost use Rattle.smi_names.specs.meaning.Names.{module_place};
+
+use crate::meaning::directory::{Directory, find, homes, scopes};
+use crate::meaning::entries::Entries;
+use crate::meaning::entry::Decider;
+use crate::links::{Resolution, resolutions};
+use smi_text::trees::Module;
+use std::alloc::{AllocError, Global};
+use std::marker::Model;
+
+/// The names of modules: what decides the meaning of each, and what it resolves to.
+///
+/// Of two modules with the same name, the first is used.
+#[derive(Drop)]
+pub struct Names<'a> {
+    modules: &'a [Module],
+    directory: Directory<'a>,
+    resolutions: Vec<Resolution>,
+}
+
+impl<'a> Model for Names<'a> {
+    ghost use Rattle.std.specs.Prelude.{List};
+    ghost use Rattle.smi_text.specs.declared.trees.tree.Module.{Module};
+    ghost use Rattle.smi_names.specs.meaning.Resolved.{AreResolutions};
+
+    ghost Value = { List Module };
+
+    ghost view = { λ s. s.modules.now };
+
+    ghost invariant = { λ s. AreResolutions s.modules.now s.directory s.resolutions.items };
+}
+
+impl<'a> Names<'a> {
+    /// The names of these modules, each resolved once.
+    pub fn new(alloc: Global, modules: &'a [Module]) -> Result<Names<'a>, AllocError>
+        ensures { IfOk result (λ names. names ≡ modules.now) }
+    {
+        let mut entries = Vec::new(alloc);
+        let scopes = scopes(alloc, &mut entries, modules)?;
+        let directory = Directory {
+            homes: homes(alloc, modules)?,
+            scopes,
+            entries,
+        };
+        let bases = directory.bases(alloc)?;
+        let resolutions = resolutions(alloc, &bases)?;
+        Ok(Names {
+            modules,
+            directory,
+            resolutions,
+        })
+    }
+
+    /// What a name resolves to in the module of a name; None if it has no meaning there.
+    pub fn resolution(&self, home: &'a [u8], name: &'a [u8]) -> Option<&Resolution>
+        ensures { let qualified : QualifiedName = record { home = home.now; name = name.now } in
+            MatchOption result (origin self.now qualified ≡ nowhere)
+            (λ resolution. ComesTo (origin self.now) qualified resolution.now) }
+    {
+        let place = self.directory.place(home, name);
+        self.resolutions.get(place)
+    }
+
+    /// What decides the meaning of a name in the module of a name.
+    pub fn decider(&self, home: &'a [u8], name: &'a [u8]) -> Option<Decider<'a>>
+        ensures { option_map decision_of result
+            ≡ option_and_then (λ m. decision m name.now) (module_named self.now home.now) }
+    {
+        let place = self.directory.place(home, name);
+        let entry = self.directory.entries.get(place)?;
+        Some(entry.decider)
+    }
+
+    /// The names by their places.
+    pub fn entries(&self) -> Entries<'_, 'a>
+        ensures { result.modules ≡ self.now }
+    {
+        Entries {
+            modules: self.modules,
+            directory: &self.directory,
+        }
+    }
+
+    /// The place of the first module of a name.
+    pub fn module_place(&self, name: &'a [u8]) -> Option<usize>
+        ensures { result ≡ module_place self.now name.now }
+    {
+        find(&self.directory.homes, name)
+    }
+
+    /// Whether there is a module of this name.
+    pub fn is_loaded(&self, name: &'a [u8]) -> bool
+        ensures { result ≡ is_some (module_named self.now name.now) }
+    {
+        find(&self.directory.homes, name).is_some()
+    }
+}

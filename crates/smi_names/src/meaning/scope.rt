@@ -1,0 +1,177 @@
+//! The names that have a meaning in a module.
+ghost use Rattle.std.specs.Prelude.{◌≡◌, ℕ, List, [], ◌∷◌, ◌++◌, Some, None, option_map, OnOk};
+ghost use Rattle.std.specs.Prelude.{IfOk, All, if◌then◌else◌};
+ghost use Rattle.smi_text.specs.trees.Lookup.{first_definition, first_import};
+ghost use Rattle.smi_text.specs.trees.Lookup as lookup;
+ghost use Rattle.smi_text.specs.trees.Mark.{same_text};
+ghost use Rattle.smi_names.specs.meaning.Meaning.{defined, imported, root, root_arc, decision};
+ghost use Rattle.smi_names.specs.declared.meaning.entry.Entry.{Entry};
+ghost use Rattle.smi_names.specs.meaning.Scopes.{decision_of, decided_as, known, IsWithin, IsDefinedAt};
+ghost use Rattle.smi_names.specs.meaning.Scopes.{IsEntryOf, KnowsMore};
+
+use crate::meaning::entry::{Decider, Entry};
+use smi_text::trees::{Import, Module};
+use std::alloc::{AllocError, Global};
+use std::collections::BTreeMap;
+
+/// The names of a module, each with its place among the entries.
+pub(crate) type NamePlaces<'a> = BTreeMap<&'a [u8], usize>;
+
+/// Enters a name, unless it is there.
+fn enter<'a>(
+    entries: &mut Vec<Entry<'a>>,
+    scope: &mut NamePlaces<'a>,
+    entry: Entry<'a>,
+) -> Result<(), AllocError>
+    requires within { IsWithin entries.old.items scope.old }
+    requires found { IsDefinedAt entry }
+    ensures entered { OnOk result (KnowsMore entries.old.items scope.old entries.new.items
+        scope.new entry.entry.«module».now entry.entry.source.0
+        (λ x. if same_text entry.entry.name.now x then Some (decision_of entry.entry.decider)
+        else None)) }
+{
+    if scope.contains_key(&entry.name) {
+        return Ok(());
+    }
+    let place = entries.len();
+    entries.push(entry)?;
+    scope.insert(entry.name, place)?;
+    Ok(())
+}
+
+/// Enters the names that definitions define.
+fn enter_definitions<'a>(
+    entries: &mut Vec<Entry<'a>>,
+    scope: &mut NamePlaces<'a>,
+    module: &'a Module,
+    place: usize,
+) -> Result<(), AllocError>
+    requires { IsWithin entries.old.items scope.old }
+    ensures entered { OnOk result (KnowsMore entries.old.items scope.old entries.new.items
+        scope.new module.now place
+        (λ x. option_map defined (first_definition x module.now.defs))) }
+{
+    let defs = module.defs.as_slice();
+    'defs: for (k, def) in defs.iter().enumerate() {
+        let entry = Entry {
+            module,
+            name: def.label.as_bytes(),
+            decider: Decider::Definition(def),
+            source: (place, k),
+        };
+        enter(entries, scope, entry)?;
+    }
+    Ok(())
+}
+
+/// Enters the symbols of a FROM clause.
+fn enter_symbols<'a>(
+    entries: &mut Vec<Entry<'a>>,
+    scope: &mut NamePlaces<'a>,
+    module: &'a Module,
+    place: usize,
+    import: &'a Import,
+) -> Result<(), AllocError>
+    requires { IsWithin entries.old.items scope.old }
+    ensures entered { OnOk result (KnowsMore entries.old.items scope.old entries.new.items
+        scope.new module.now place
+        (λ x. option_map imported (first_import x (import.now ∷ [])))) }
+{
+    let symbols = import.symbols.as_slice();
+    'symbols: for symbol in symbols {
+        let entry = Entry {
+            module,
+            name: symbol.text.as_bytes(),
+            decider: Decider::Import(import),
+            source: (place, 0),
+        };
+        enter(entries, scope, entry)?;
+    }
+    Ok(())
+}
+
+/// Enters the symbols of FROM clauses.
+fn enter_imports<'a>(
+    entries: &mut Vec<Entry<'a>>,
+    scope: &mut NamePlaces<'a>,
+    module: &'a Module,
+    place: usize,
+    imports: &'a [Import],
+) -> Result<(), AllocError>
+    requires { IsWithin entries.old.items scope.old }
+    ensures entered { OnOk result (KnowsMore entries.old.items scope.old entries.new.items
+        scope.new module.now place
+        (λ x. option_map imported (first_import x imports.now))) }
+{
+    'imports: for import in imports {
+        enter_symbols(entries, scope, module, place, import)?;
+    }
+    Ok(())
+}
+
+/// The entry of a root.
+fn root_entry<'a>(module: &'a Module, place: usize, name: &'a [u8], number: u32) -> Entry<'a>
+    ensures entry { (result.«module».now ≡ module.now) × (result.name.now ≡ name.now)
+        × (decision_of result.decider ≡ root number) × (result.source.0 ≡ place) }
+    ensures found { IsDefinedAt result }
+{
+    Entry {
+        module,
+        name,
+        decider: Decider::Root(number),
+        source: (place, 0),
+    }
+}
+
+/// Enters the roots (RFC 2578, section 2).
+fn enter_roots<'a>(
+    entries: &mut Vec<Entry<'a>>,
+    scope: &mut NamePlaces<'a>,
+    module: &'a Module,
+    place: usize,
+) -> Result<(), AllocError>
+    requires { IsWithin entries.old.items scope.old }
+    ensures entered { OnOk result (KnowsMore entries.old.items scope.old entries.new.items
+        scope.new module.now place
+        (λ x. option_map root (root_arc x))) }
+{
+    enter(entries, scope, root_entry(module, place, b"ccitt", 0))?;
+    enter(entries, scope, root_entry(module, place, b"iso", 1))?;
+    enter(
+        entries,
+        scope,
+        root_entry(module, place, b"joint-iso-ccitt", 2),
+    )?;
+    Ok(())
+}
+
+/// The FROM clauses of a module, none if it has no IMPORTS.
+pub fn import_clauses(module: &Module) -> &[Import]
+    ensures { result.now ≡ lookup.import_clauses module.now }
+{
+    match &module.imports {
+        Some(imports) => imports.as_slice(),
+        None => &[],
+    }
+}
+
+/// The names that have a meaning in a module, which are entered.
+pub(crate) fn scope<'a>(
+    alloc: Global,
+    entries: &mut Vec<Entry<'a>>,
+    module: &'a Module,
+    place: usize,
+) -> Result<NamePlaces<'a>, AllocError>
+    ensures decided { IfOk result (λ scope. (x : List ℕ)
+        → known entries.new.items scope x ≡ decided_as module.now x (decision module.now x)) }
+    ensures within { IfOk result (λ scope. IsWithin entries.new.items scope) }
+    ensures grown { IfOk result (λ _. (added : List Entry)
+        × (entries.new.items ≡ entries.old.items ++ added)
+        × All (IsEntryOf module.now place) added) }
+{
+    let mut scope = BTreeMap::new(alloc);
+    enter_definitions(entries, &mut scope, module, place)?;
+    enter_imports(entries, &mut scope, module, place, import_clauses(module))?;
+    enter_roots(entries, &mut scope, module, place)?;
+    Ok(scope)
+}

@@ -1,0 +1,223 @@
+//! The nodes and warnings that modules give, in order of loading.
+ghost use Rattle.std.specs.Prelude.{◌≡◌, List, [], ◌∷◌, length, take, Some, OnOk, IfOk, slice_get};
+ghost use Rattle.std.specs.Prelude.{false};
+ghost use Rattle.smi_names.specs.nodes.Nodes.{is_loaded};
+ghost use Rattle.smi_names.specs.nodes.Gathered.{GrowsByDefinition, AddsDefinition, AddsDefinitions};
+ghost use Rattle.smi_names.specs.nodes.Gathered.{AreGathered};
+ghost use Rattle.smi_names.specs.nodes.Gathered.{AddsModule, IsSourceOf};
+ghost use Rattle.smi_text.specs.declared.trees.tree.Module.{Module};
+
+use crate::nodes::imports::add_import_warnings;
+use crate::nodes::source::Source;
+use crate::nodes::warning::Warning;
+use crate::links::Resolution;
+use crate::meaning::Names;
+use smi_text::trees::{Def, Module, Text};
+use snmp_oid::Oid;
+use std::alloc::{AllocError, Global};
+
+/// The nodes of modules, and the warnings for definitions without an identifier.
+#[derive(Drop)]
+pub struct Gathered {
+    /// Where each node comes from, in order of loading: the roots first.
+    pub sources: Vec<Source>,
+    /// The identifier of each node.
+    pub oids: Vec<Oid>,
+    /// The warnings, in order of loading.
+    pub warnings: Vec<Warning>,
+}
+
+/// An owned text of these octets.
+pub(crate) fn text(alloc: Global, octets: &[u8]) -> Result<Text, AllocError>
+    ensures { IfOk result (λ text. text ≡ octets.now) }
+{
+    Ok(Text::new(Vec::from_slice(alloc, octets)?))
+}
+
+/// A copy of an identifier.
+fn copied(oid: &Oid) -> Oid
+    ensures { result ≡ oid.now }
+{
+    let mut copy = Oid::new();
+    let _fits = copy.extend_from_slice(oid.as_slice());
+    copy
+}
+
+/// The identifier of one number.
+fn single(number: u32) -> Oid
+    ensures { result ≡ number ∷ [] }
+{
+    let mut oid = Oid::new();
+    oid.push_with_room(number);
+    oid
+}
+
+/// Whether one of the modules before this place has the name of a module.
+fn is_double<'a>(names: &Names<'a>, module: &'a Module, place: usize) -> bool
+    ensures { result ≡ is_loaded (take place names.now) module.now.name.octets }
+{
+    match names.module_place(module.name.as_bytes()) {
+        Some(first) => first < place,
+        None => false,
+    }
+}
+
+impl Gathered {
+    /// Adds what a definition gives whose name has this resolution.
+    fn add(
+        &mut self,
+        alloc: Global,
+        module: &Module,
+        def: &Def,
+        source: Source,
+        resolution: &Resolution,
+    ) -> Result<(), AllocError>
+        ensures added { OnOk result (GrowsByDefinition self.old self.new source module.now def.now
+            resolution.now) }
+    {
+        let warning = match resolution {
+            Resolution::Numbers(oid) => {
+                self.sources.push(source)?;
+                self.oids.push(copied(oid))?;
+                return Ok(());
+            }
+            Resolution::Cycle => Warning::Cycle(
+                text(alloc, module.name.as_bytes())?,
+                text(alloc, def.label.as_bytes())?,
+            ),
+            Resolution::Unresolved => Warning::Unresolved(
+                text(alloc, module.name.as_bytes())?,
+                text(alloc, def.label.as_bytes())?,
+            ),
+            Resolution::TooLong => Warning::TooLong(
+                text(alloc, module.name.as_bytes())?,
+                text(alloc, def.label.as_bytes())?,
+            ),
+        };
+        self.warnings.push(warning)?;
+        Ok(())
+    }
+}
+
+impl Gathered {
+    /// Adds what a definition gives, by what its name resolves to in its module.
+    fn add_definition<'a>(
+        &mut self,
+        alloc: Global,
+        names: &Names<'a>,
+        module: &'a Module,
+        def: &'a Def,
+        source: Source,
+    ) -> Result<(), AllocError>
+        requires long { length self.old.sources.items ≡ length self.old.oids.items }
+        requires there { IsSourceOf names.now source module.now def.now }
+        ensures added { OnOk result
+            (AddsDefinition names.now self.old self.new module.now def.now) }
+    {
+        if def.identifier().is_none() {
+            return Ok(());
+        }
+        match names.resolution(module.name.as_bytes(), def.label.as_bytes()) {
+            Some(resolution) => self.add(alloc, module, def, source, resolution),
+            None => self.add(alloc, module, def, source, &Resolution::Unresolved),
+        }
+    }
+
+    /// Adds what the definitions of a module give, in order of the text.
+    fn add_definitions<'a>(
+        &mut self,
+        alloc: Global,
+        names: &Names<'a>,
+        module: &'a Module,
+        place: usize,
+    ) -> Result<(), AllocError>
+        requires long { length self.old.sources.items ≡ length self.old.oids.items }
+        requires there { slice_get names.now place ≡ Some module.now }
+        ensures added { OnOk result
+            (AddsDefinitions names.now self.old self.new module.now module.now.defs) }
+    {
+        let defs = module.defs.as_slice();
+        'defs: for (k, def) in defs.iter().enumerate() {
+            let source = Source::Definition(place, k);
+            self.add_definition(alloc, names, module, def, source)?;
+        }
+        Ok(())
+    }
+
+    /// Adds what a module gives whose name no earlier one has: the warnings of its imports, and
+    /// then what its definitions give.
+    fn add_loaded<'a>(
+        &mut self,
+        alloc: Global,
+        names: &Names<'a>,
+        module: &'a Module,
+        place: usize,
+    ) -> Result<(), AllocError>
+        requires long { length self.old.sources.items ≡ length self.old.oids.items }
+        requires there { slice_get names.now place ≡ Some module.now }
+        requires first { is_loaded (take place names.now) module.now.name.octets ≡ false }
+        ensures added { OnOk result
+            (AddsModule names.now self.old self.new (take place names.now) module.now) }
+    {
+        add_import_warnings(alloc, &mut self.warnings, names, module)?;
+        self.add_definitions(alloc, names, module, place)?;
+        Ok(())
+    }
+
+    /// Adds what the module at a place brings after those before it.
+    fn add_module<'a>(
+        &mut self,
+        alloc: Global,
+        names: &Names<'a>,
+        module: &'a Module,
+        place: usize,
+    ) -> Result<(), AllocError>
+        requires long { length self.old.sources.items ≡ length self.old.oids.items }
+        requires there { slice_get names.now place ≡ Some module.now }
+        ensures added { OnOk result
+            (AddsModule names.now self.old self.new (take place names.now) module.now) }
+    {
+        if is_double(names, module, place) {
+            let name = text(alloc, module.name.as_bytes())?;
+            self.warnings.push(Warning::DoubleModule(name))?;
+            return Ok(());
+        }
+        self.add_loaded(alloc, names, module, place)
+    }
+
+    /// The roots alone (RFC 2578, section 2).
+    fn roots(alloc: Global) -> Result<Gathered, AllocError>
+        ensures { IfOk result (λ gathered. (ms : List Module) → AreGathered ms gathered []) }
+    {
+        let mut sources = Vec::new(alloc);
+        let mut oids = Vec::new(alloc);
+        sources.push(Source::Root(0))?;
+        oids.push(single(0))?;
+        sources.push(Source::Root(1))?;
+        oids.push(single(1))?;
+        sources.push(Source::Root(2))?;
+        oids.push(single(2))?;
+        Ok(Gathered {
+            sources,
+            oids,
+            warnings: Vec::new(alloc),
+        })
+    }
+}
+
+/// The nodes and warnings of modules, by what their names resolve to: the roots, and then those of
+/// each module, in order.
+pub fn nodes<'a>(
+    alloc: Global,
+    names: &Names<'a>,
+    modules: &'a [Module],
+) -> Result<Gathered, AllocError>
+    requires { names.now ≡ modules.now }
+    ensures { IfOk result (λ gathered. AreGathered modules.now gathered modules.now) }
+{
+    let mut gathered = Gathered::roots(alloc)?;
+    'modules: for (i, module) in modules.iter().enumerate() {
+        gathered.add_module(alloc, names, module, i)?;
+    }
+    Ok(gathered)
+}

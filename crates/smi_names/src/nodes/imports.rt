@@ -1,0 +1,147 @@
+//! The warnings that the imports of a module give.
+ghost use Rattle.std.specs.Prelude.{◌≡◌, ◌++◌, map, OnOk};
+ghost use Rattle.std.specs.List.{list_any, flat_map};
+ghost use Rattle.smi_text.specs.trees.Mark.{same_text};
+ghost use Rattle.smi_names.specs.meaning.Meaning.{module_named};
+ghost use Rattle.smi_names.specs.meaning.Scopes.{decision_of};
+ghost use Rattle.smi_names.specs.nodes.Imports as imports;
+
+use crate::nodes::gather::text;
+use crate::nodes::warning::Warning;
+use crate::meaning::{Decider, Names, import_clauses};
+use smi_text::trees::{Import, Module, TokenText, is_macro};
+use std::alloc::{AllocError, Global};
+
+/// The base types that a name stands for in every module (RFC 2578, section 7.1).
+const BASE_TYPES: [&[u8]; 8] = [
+    b"Integer32",
+    b"Counter32",
+    b"Gauge32",
+    b"Unsigned32",
+    b"TimeTicks",
+    b"IpAddress",
+    b"Opaque",
+    b"Counter64",
+];
+
+/// Whether a text is one of these words.
+fn is_among(words: &[&[u8]], text: &[u8]) -> bool
+    ensures { result ≡ list_any (same_text text.now) (map (λ word. word.now) words.now) }
+{
+    for word in words {
+        if text == *word {
+            return true;
+        }
+    }
+    false
+}
+
+/// Whether a name is that of a base type.
+#[tactic(auto, unfolding(crate::specs::nodes::Imports::is_base_type))]
+fn is_base_type(text: &[u8]) -> bool
+    ensures { result ≡ imports.is_base_type text.now }
+{
+    is_among(&BASE_TYPES, text)
+}
+
+/// Whether a module's own text decides what a name means in it, and not the list of roots.
+fn is_stated(decider: Decider<'_>) -> bool
+    ensures { result ≡ imports.is_stated (decision_of decider.entry) }
+{
+    match decider {
+        Decider::Definition(_) | Decider::Import(_) => true,
+        Decider::Root(_) => false,
+    }
+}
+
+/// Whether the module of a name, if it is loaded, defines or imports another name.
+fn has_name<'a>(names: &Names<'a>, home: &'a [u8], name: &'a [u8]) -> bool
+    ensures { result ≡ imports.defines_or_imports (module_named names.now home.now) name.now }
+{
+    match names.decider(home, name) {
+        Some(decider) => is_stated(decider),
+        None => false,
+    }
+}
+
+/// Adds the warning that a symbol of a FROM clause gives.
+fn add_symbol_warnings<'a>(
+    alloc: Global,
+    warnings: &mut Vec<Warning>,
+    names: &Names<'a>,
+    module: &'a Module,
+    import: &'a Import,
+    symbol: &'a TokenText,
+) -> Result<(), AllocError>
+    ensures { let from = import.now.source.octets in
+        let source = module_named names.now from in
+        OnOk result (warnings.new.items ≡ warnings.old.items
+        ++ imports.symbol_warnings source module.now.name.octets from symbol.now) }
+{
+    let from = import.source.as_bytes();
+    let name = symbol.text.as_bytes();
+    if is_macro(name) || is_base_type(name) || has_name(names, from, name) {
+        return Ok(());
+    }
+    let home = text(alloc, module.name.as_bytes())?;
+    warnings.push(Warning::MissingImport(home, text(alloc, name)?, text(alloc, from)?))?;
+    Ok(())
+}
+
+/// Adds the warnings that the symbols of a FROM clause give, whose module is loaded.
+fn add_symbols_warnings<'a>(
+    alloc: Global,
+    warnings: &mut Vec<Warning>,
+    names: &Names<'a>,
+    module: &'a Module,
+    import: &'a Import,
+) -> Result<(), AllocError>
+    ensures { let from = import.now.source.octets in
+        let source = module_named names.now from in
+        OnOk result (warnings.new.items ≡ warnings.old.items
+        ++ flat_map (imports.symbol_warnings source module.now.name.octets from)
+        import.now.symbols) }
+{
+    let symbols = import.symbols.as_slice();
+    'symbols: for symbol in symbols {
+        add_symbol_warnings(alloc, warnings, names, module, import, symbol)?;
+    }
+    Ok(())
+}
+
+/// Adds the warnings that a FROM clause gives.
+fn add_clause_warnings<'a>(
+    alloc: Global,
+    warnings: &mut Vec<Warning>,
+    names: &Names<'a>,
+    module: &'a Module,
+    import: &'a Import,
+) -> Result<(), AllocError>
+    ensures { OnOk result (warnings.new.items ≡ warnings.old.items
+        ++ imports.clause_warnings names.now module.now.name.octets import.now) }
+{
+    if names.is_loaded(import.source.as_bytes()) {
+        return add_symbols_warnings(alloc, warnings, names, module, import);
+    }
+    let home = text(alloc, module.name.as_bytes())?;
+    let source = text(alloc, import.source.as_bytes())?;
+    warnings.push(Warning::MissingModule(home, source))?;
+    Ok(())
+}
+
+/// Adds the warnings that the imports of a module give, in order of the text.
+pub(crate) fn add_import_warnings<'a>(
+    alloc: Global,
+    warnings: &mut Vec<Warning>,
+    names: &Names<'a>,
+    module: &'a Module,
+) -> Result<(), AllocError>
+    ensures { OnOk result (warnings.new.items ≡ warnings.old.items
+        ++ imports.import_warnings names.now module.now) }
+{
+    let clauses = import_clauses(module);
+    'clauses: for import in clauses {
+        add_clause_warnings(alloc, warnings, names, module, import)?;
+    }
+    Ok(())
+}

@@ -1,6 +1,0 @@
-use Rattle.std.proofs.Common.{take}
-use Rattle.smi_nodes.specs.Gathered.{AddsDefinitions}
-use Rattle.smi_nodes.proofs.gather.Gathered.add_definitions.Given as goal
-
-abbrev pub invariant-defs : goal.invariant-defs
-invariant-defs l = AddsDefinitions l.names l.initial.self l.self l.module (take l.k l.defs)

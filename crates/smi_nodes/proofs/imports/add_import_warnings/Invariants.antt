@@ -1,7 +1,0 @@
-use Rattle.std.proofs.Common.{◌≡◌, ◌++◌, take}
-use Rattle.std.specs.List.{flat_map}
-use Rattle.smi_nodes.specs.Imports.{clause_warnings}
-use Rattle.smi_nodes.proofs.imports.add_import_warnings.Given as goal
-
-abbrev pub invariant-clauses : goal.invariant-clauses
-invariant-clauses l = l.warnings.items ≡ l.initial.warnings.items ++ flat_map (clause_warnings l.names l.module.name.octets) (take l.import-index l.clauses)

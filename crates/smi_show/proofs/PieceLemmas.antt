@@ -1,0 +1,168 @@
+-- The pieces that show numbers: what one more value adds, and that the pieces stand for the numbers shown.
+use Rattle.std.proofs.Common.{◌≡◌, ◌≢◌, ℕ, ◌+◌, ◌<◌, ◌^◌, Bool, true, false, not, ◌&&◌, cond}
+use Rattle.std.proofs.Common.{nat_eq, List, [], ◌∷◌, ◌++◌, length, drop, get_or, Option, Some, None}
+use Rattle.std.proofs.Common.{option_map, unwrap_or, All, refl, sym, ◌∙◌, ap, subst}
+use Rattle.std.specs.List.{list_all, flat_map}
+use Rattle.std.proofs.lemmas.Grind.{flat_map-append}
+use Rattle.std.proofs.lemmas.List.{at_drop_more, append-nil}
+use Rattle.std.proofs.lemmas.List.Elements.{All-nil, All-cons, All-head, All-tail, All-append}
+use Rattle.std.proofs.lemmas.List.Elements.{All-map}
+use Rattle.smi_show.specs.declared.index.part.Extent.{Extent}
+use Rattle.smi_show.specs.declared.index.part.Extent.TheVariants.{Fixed, Counted, Implied}
+use Rattle.smi_show.specs.declared.index.part.IndexPart.{IndexPart}
+use Rattle.smi_show.specs.declared.index.part.IndexPart.TheVariants.{Number, Address, Text, Octets}
+use Rattle.smi_show.specs.declared.index.part.IndexPart.TheVariants.{Identifier, ImpliedIdentifier}
+use Rattle.smi_show.specs.index.Index.{IsInExtent, IsEncoding, ReadsValue, ReadValues}
+use Rattle.smi_show.specs.index.Reading.{front_of, values_of}
+use Rattle.smi_show.specs.index.Pieces.{plain_number, is_quotable, is_shown_text, piece_numbers, IsPiece}
+use Rattle.smi_show.specs.index.Pieces.{dotted_text, shown_pieces, as_numbers, as_text, extent_numbers}
+use Rattle.smi_show.specs.index.Pieces.{value_numbers, value_pieces, index_pieces, instance_pieces}
+use Rattle.smi_show.proofs.ReadingLemmas.{all_found, first_value}
+
+-- the first of the values that are left
+pub record IsNextValue (parts : List IndexPart) (i : ℕ) (value rest : List ℕ) (ahead : List (List ℕ)) : Type 0 where
+  pub more : List (List ℕ)
+  pub left : values_of (drop (i + 1) parts) rest ≡ Some more
+  pub text : shown_pieces (index_pieces (drop i parts) ahead)
+      ≡ shown_pieces (value_pieces (get_or parts i Number) value) ++ shown_pieces (index_pieces (drop (i + 1) parts) more)
+
+next_at : (part : IndexPart) (parts : List IndexPart) (left value rest : List ℕ) (ahead : List (List ℕ)) → front_of part left ≡ Some (value, rest)
+    → values_of (part ∷ parts) left ≡ Some ahead → (more : List (List ℕ)) × (values_of parts rest ≡ Some more) × (ahead ≡ value ∷ more)
+next_at part parts left value rest ahead front h =
+    first_value value (values_of parts rest) ahead (sym (rw front refl) ∙ h)
+
+pub next_value : (parts : List IndexPart) (i : ℕ) (left value rest : List ℕ) (ahead : List (List ℕ)) → i < length parts
+    → front_of (get_or parts i Number) left ≡ Some (value, rest) → values_of (drop i parts) left ≡ Some ahead → IsNextValue parts i value rest ahead
+next_value parts i left value rest ahead low front h =
+    let here : drop i parts ≡ get_or parts i Number ∷ drop (i + 1) parts = at_drop_more (λ (ps : List IndexPart). ps) parts i Number low in
+    let P : List IndexPart → Type 0 = λ ps. values_of ps left ≡ Some ahead in
+    let e = next_at (get_or parts i Number) (drop (i + 1) parts) left value rest ahead front (subst P here h) in
+    record {
+      more = e.0;
+      left = e.1;
+      text = ap (λ (ps : List IndexPart). shown_pieces (index_pieces ps ahead)) here
+          ∙ ap (λ (vs : List (List ℕ)). shown_pieces (index_pieces (get_or parts i Number ∷ drop (i + 1) parts) vs)) e.2
+          ∙ flat_map-append dotted_text (value_pieces (get_or parts i Number) value) (index_pieces (drop (i + 1) parts) e.0);
+    }
+
+-- the numbers of pieces
+numbers_of_numbers : (numbers : List ℕ) → flat_map piece_numbers (as_numbers numbers) ≡ numbers
+numbers_of_numbers [] = refl
+numbers_of_numbers (n ∷ more) = ap (λ (ns : List ℕ). n ∷ ns) (numbers_of_numbers more)
+
+text_numbers : (extent : Extent) (value : List ℕ) → flat_map piece_numbers (as_text extent value ∷ []) ≡ extent_numbers extent value
+text_numbers (Fixed size) value = append-nil value
+text_numbers Counted value = append-nil (length value ∷ value)
+text_numbers Implied value = append-nil value
+
+either_numbers : (extent : Extent) (value : List ℕ) (test : Bool)
+    → flat_map piece_numbers (cond test (as_text extent value ∷ []) (as_numbers (extent_numbers extent value))) ≡ extent_numbers extent value
+either_numbers extent value true = text_numbers extent value
+either_numbers extent value false = numbers_of_numbers (extent_numbers extent value)
+
+value_is : (part : IndexPart) (value : List ℕ) → flat_map piece_numbers (value_pieces part value) ≡ value_numbers part value
+value_is Number value = numbers_of_numbers value
+value_is Address value = numbers_of_numbers value
+value_is (Text extent) value = either_numbers extent value (is_shown_text value)
+value_is (Octets extent) value = numbers_of_numbers (extent_numbers extent value)
+value_is Identifier value = numbers_of_numbers (length value ∷ value)
+value_is ImpliedIdentifier value = numbers_of_numbers value
+
+extent_here : (extent : Extent) (value here : List ℕ) → IsInExtent extent value here → here ≡ extent_numbers extent value
+extent_here (Fixed size) value here h = h.1
+extent_here Counted value here h = h
+extent_here Implied value here h = h.1
+
+encoding_is : (part : IndexPart) (value here : List ℕ) → IsEncoding part value here → here ≡ value_numbers part value
+encoding_is Number value here h = h.1
+encoding_is Address value here h = h.2
+encoding_is (Text extent) value here h = extent_here extent value here h.1
+encoding_is (Octets extent) value here h = extent_here extent value here h.1
+encoding_is Identifier value here h = h
+encoding_is ImpliedIdentifier value here h = h.1
+
+read_whole : (part : IndexPart) (numbers value rest : List ℕ) → ReadsValue part numbers value rest → numbers ≡ value_numbers part value ++ rest
+read_whole part numbers value rest h = h.whole ∙ ap (λ (t : List ℕ). t ++ rest) (encoding_is part value h.here h.encoding)
+
+index_is : (parts : List IndexPart) (numbers : List ℕ) (values : List (List ℕ)) → ReadValues parts numbers values
+    → flat_map piece_numbers (index_pieces parts values) ≡ numbers
+index_is [] numbers [] h = sym h
+index_is [] numbers (value ∷ values) h = absurd h
+index_is (part ∷ parts) numbers [] h = absurd h
+index_is (part ∷ parts) numbers (value ∷ values) h =
+    flat_map-append piece_numbers (value_pieces part value) (index_pieces parts values)
+    ∙ ap (λ (t : List ℕ). t ++ flat_map piece_numbers (index_pieces parts values)) (value_is part value)
+    ∙ ap (λ (t : List ℕ). value_numbers part value ++ t) (index_is parts h.0 values h.2)
+    ∙ sym (read_whole part numbers value h.0 h.1)
+
+either_whole : (parts : List IndexPart) (numbers : List ℕ) (read : Option (List (List ℕ))) → values_of parts numbers ≡ read
+    → flat_map piece_numbers (unwrap_or (option_map (index_pieces parts) read) (as_numbers numbers)) ≡ numbers
+either_whole parts numbers None is = numbers_of_numbers numbers
+either_whole parts numbers (Some values) is = index_is parts numbers values (all_found parts numbers values is)
+
+pub whole : (index : Option (List IndexPart)) (numbers : List ℕ) → flat_map piece_numbers (instance_pieces index numbers) ≡ numbers
+whole None numbers = numbers_of_numbers numbers
+whole (Some parts) numbers = either_whole parts numbers (values_of parts numbers) refl
+
+-- each piece may stand in a name
+abbrev IsNumber : ℕ → Type 0
+IsNumber n = n < 2 ^ 32
+
+are_numbers : (numbers : List ℕ) → All IsNumber numbers → All IsPiece (as_numbers numbers)
+are_numbers numbers h = All-map IsPiece plain_number numbers h
+
+front_all : (front rest : List ℕ) → All IsNumber (front ++ rest) → All IsNumber front
+front_all [] rest h = All-nil IsNumber
+front_all (n ∷ front) rest h = All-cons IsNumber n front (All-head IsNumber n (front ++ rest) h) (front_all front rest (All-tail IsNumber n (front ++ rest) h))
+
+rest_all : (front rest : List ℕ) → All IsNumber (front ++ rest) → All IsNumber rest
+rest_all [] rest h = h
+rest_all (n ∷ front) rest h = rest_all front rest (All-tail IsNumber n (front ++ rest) h)
+
+not_empty : (value : List ℕ) → is_shown_text value ≡ true → value ≢ []
+not_empty value h none = let P : List ℕ → Type 0 = λ v. is_shown_text v ≡ true in let no : false ≡ true = subst P none h in cc
+
+and_right : (a b : Bool) → (a && b) ≡ true → b ≡ true
+and_right true b h = h
+and_right false b h = let no : ⊥ = cc in absurd no
+
+quotable : (value : List ℕ) → is_shown_text value ≡ true → list_all is_quotable value ≡ true
+quotable value h = and_right (not (nat_eq (length value) 0)) (list_all is_quotable value) h
+
+text_is_piece : (extent : Extent) (value : List ℕ) → is_shown_text value ≡ true → IsPiece (as_text extent value)
+text_is_piece (Fixed size) value h = (not_empty value h, quotable value h)
+text_is_piece Counted value h = quotable value h
+text_is_piece Implied value h = (not_empty value h, quotable value h)
+
+either_piece : (extent : Extent) (value : List ℕ) (test : Bool) → is_shown_text value ≡ test → All IsNumber (extent_numbers extent value)
+    → All IsPiece (cond test (as_text extent value ∷ []) (as_numbers (extent_numbers extent value)))
+either_piece extent value true is h = All-cons IsPiece (as_text extent value) [] (text_is_piece extent value is) (All-nil IsPiece)
+either_piece extent value false is h = are_numbers (extent_numbers extent value) h
+
+value_each : (part : IndexPart) (value : List ℕ) → All IsNumber (value_numbers part value) → All IsPiece (value_pieces part value)
+value_each Number value h = are_numbers value h
+value_each Address value h = are_numbers value h
+value_each (Text extent) value h = either_piece extent value (is_shown_text value) refl h
+value_each (Octets extent) value h = are_numbers (extent_numbers extent value) h
+value_each Identifier value h = are_numbers (length value ∷ value) h
+value_each ImpliedIdentifier value h = are_numbers value h
+
+index_each : (parts : List IndexPart) (numbers : List ℕ) (values : List (List ℕ)) → ReadValues parts numbers values → All IsNumber numbers
+    → All IsPiece (index_pieces parts values)
+index_each [] numbers values h all = All-nil IsPiece
+index_each (part ∷ parts) numbers [] h all = absurd h
+index_each (part ∷ parts) numbers (value ∷ values) h all =
+    let P : List ℕ → Type 0 = λ ns. All IsNumber ns in
+    let both = subst P (read_whole part numbers value h.0 h.1) all in
+    All-append IsPiece (value_pieces part value) (index_pieces parts values)
+    (value_each part value (front_all (value_numbers part value) h.0 both))
+    (index_each parts h.0 values h.2 (rest_all (value_numbers part value) h.0 both))
+
+either_each : (parts : List IndexPart) (numbers : List ℕ) (read : Option (List (List ℕ))) → values_of parts numbers ≡ read → All IsNumber numbers
+    → All IsPiece (unwrap_or (option_map (index_pieces parts) read) (as_numbers numbers))
+either_each parts numbers None is all = are_numbers numbers all
+either_each parts numbers (Some values) is all = index_each parts numbers values (all_found parts numbers values is) all
+
+pub each : (index : Option (List IndexPart)) (numbers : List ℕ) → All IsNumber numbers → All IsPiece (instance_pieces index numbers)
+each None numbers all = are_numbers numbers all
+each (Some parts) numbers all = either_each parts numbers (values_of parts numbers) refl all

@@ -1,0 +1,230 @@
+-- What is computed at the front of the numbers is an encoding of a part, and each encoding is computed.
+use Rattle.std.proofs.Common.{◌≡◌, ◌≢◌, ℕ, ◌≤◌, Bool, true, false, cond, leb, List, [], ◌∷◌, ◌++◌}
+use Rattle.std.proofs.Common.{length, take, drop, Option, Some, None, option_map, option_and_then}
+use Rattle.std.proofs.Common.{is_some, refl, sym, ◌∙◌, ap, subst, arith}
+use Rattle.std.specs.List.{list_all}
+use Rattle.std.proofs.lemmas.Bool.{leb-true, le-leb}
+use Rattle.std.proofs.lemmas.List.{take-append-drop, length-take-le, append-nil}
+use Rattle.std.proofs.Math.Seq.{take-append_seam, drop-append_seam}
+use Rattle.smi_show.specs.declared.index.part.Extent.{Extent}
+use Rattle.smi_show.specs.declared.index.part.Extent.TheVariants.{Fixed, Counted, Implied}
+use Rattle.smi_show.specs.declared.index.part.IndexPart.{IndexPart}
+use Rattle.smi_show.specs.declared.index.part.IndexPart.TheVariants.{Number, Address, Text, Octets}
+use Rattle.smi_show.specs.declared.index.part.IndexPart.TheVariants.{Identifier, ImpliedIdentifier}
+use Rattle.smi_show.specs.index.Index.{is_octet, AreOctetNumbers, IsInExtent, IsEncoding, LeavesIn, LeavesAfter}
+use Rattle.smi_show.specs.index.Index.{ReadsValue, ReadValues}
+use Rattle.smi_show.specs.index.Reading.{front_and_rest, counted, remaining, of_octets, in_extent, front_of}
+use Rattle.smi_show.specs.index.Reading.{values_of}
+
+abbrev Pair : Type 0
+Pair = List ℕ × List ℕ
+
+same_value : (p q : Pair) → Some p ≡ Some q → p.0 ≡ q.0
+same_value p q h = let e : p ≡ q = cc in ap (λ (r : Pair). r.0) e
+
+same_rest : (p q : Pair) → Some p ≡ Some q → p.1 ≡ q.1
+same_rest p q h = let e : p ≡ q = cc in ap (λ (r : Pair). r.1) e
+
+-- a front_and_rest
+cut_at : (size : ℕ) (numbers value rest : List ℕ) (test : Bool) → leb size (length numbers) ≡ test
+    → cond {A = Option Pair} test (Some (take size numbers, drop size numbers)) None ≡ Some (value, rest) → (numbers ≡ value ++ rest) × (length value ≡ size)
+cut_at size numbers value rest true fits h =
+    let front : take size numbers ≡ value = same_value (take size numbers, drop size numbers) (value, rest) h in
+    let back : drop size numbers ≡ rest = same_rest (take size numbers, drop size numbers) (value, rest) h in
+    let whole : value ++ rest ≡ numbers = ap (λ (v : List ℕ). v ++ rest) (sym front) ∙ ap (λ (r : List ℕ). take size numbers ++ r) (sym back)
+    ∙ take-append-drop size numbers in
+    let low : size ≤ length numbers = leb-true size (length numbers) fits in
+    (sym whole, ap length (sym front) ∙ length-take-le size numbers low)
+cut_at size numbers value rest false fits h = let no : ⊥ = cc in absurd no
+
+pub cut_found : (size : ℕ) (numbers value rest : List ℕ) → front_and_rest size numbers ≡ Some (value, rest) → (numbers ≡ value ++ rest) × (length value ≡ size)
+cut_found size numbers value rest h = cut_at size numbers value rest (leb size (length numbers)) refl h
+
+long_enough : (value rest : List ℕ) → length value ≤ length (value ++ rest)
+long_enough [] rest = omega arith
+long_enough (n ∷ value) rest = let more = long_enough value rest in omega arith
+
+pub cut_only : (value rest : List ℕ) → front_and_rest (length value) (value ++ rest) ≡ Some (value, rest)
+cut_only value rest =
+    let fits : leb (length value) (length (value ++ rest)) ≡ true = le-leb _ _ (long_enough value rest) in
+    rw fits (ap (λ (v : List ℕ). Some (v, drop (length value) (value ++ rest))) (take-append_seam value rest)
+    ∙ ap (λ (r : List ℕ). Some (value, r)) (drop-append_seam value rest))
+
+-- what a length counts
+counted_found : (numbers value rest : List ℕ) → counted numbers ≡ Some (value, rest) → numbers ≡ (length value ∷ value) ++ rest
+counted_found [] value rest h = let no : ⊥ = cc in absurd no
+counted_found (size ∷ numbers) value rest h =
+    let e = cut_found size numbers value rest h in
+    ap (λ (n : ℕ). n ∷ numbers) (sym e.1) ∙ ap (λ (t : List ℕ). length value ∷ t) e.0
+
+-- what remains
+remaining_found : (numbers value rest : List ℕ) → remaining numbers ≡ Some (value, rest) → (numbers ≡ value ++ rest) × (value ≢ []) × (rest ≡ [])
+remaining_found [] value rest h = let no : ⊥ = cc in absurd no
+remaining_found (n ∷ more) value rest h =
+    let front : n ∷ more ≡ value = same_value (n ∷ more, []) (value, rest) h in
+    let back : [] ≡ rest = same_rest (n ∷ more, []) (value, rest) h in (
+      sym (append-nil (n ∷ more)) ∙ ap (λ (v : List ℕ). v ++ []) front
+          ∙ ap (λ (r : List ℕ). value ++ r) back,
+      λ none. (let no : n ∷ more ≡ [] = front ∙ none in cc),
+      sym back,
+    )
+
+remaining_only : (value : List ℕ) → value ≢ [] → remaining (value ++ []) ≡ Some (value, [])
+remaining_only [] some = absurd (some refl)
+remaining_only (n ∷ more) some = ap (λ (v : List ℕ). Some (n ∷ v, [])) (append-nil more)
+
+-- octets
+octets_at : (value rest : List ℕ) (p : Pair) (test : Bool) → list_all is_octet p.0 ≡ test → cond test (Some p) None ≡ Some (value, rest)
+    → (Some p ≡ Some (value, rest)) × AreOctetNumbers value
+octets_at value rest p true are h =
+    let same : p.0 ≡ value = same_value p (value, rest) h in (h, ap (λ (v : List ℕ). list_all is_octet v) (sym same) ∙ are)
+octets_at value rest p false are h = let no : ⊥ = cc in absurd no
+
+octets_found : (read : Option Pair) (value rest : List ℕ) → of_octets read ≡ Some (value, rest) → (read ≡ Some (value, rest)) × AreOctetNumbers value
+octets_found None value rest h = let no : ⊥ = cc in absurd no
+octets_found (Some (first, more)) value rest h = octets_at value rest (first, more) (list_all is_octet first) refl h
+
+octets_only : (read : Option Pair) (value rest : List ℕ) → read ≡ Some (value, rest) → AreOctetNumbers value → of_octets read ≡ Some (value, rest)
+octets_only read value rest is are = ap of_octets is ∙ rw are refl
+
+-- a string
+pub record IsSplit (extent : Extent) (numbers value rest : List ℕ) : Type 0 where
+  pub here : List ℕ
+  pub whole : numbers ≡ here ++ rest
+  pub encoding : IsInExtent extent value here
+  pub after : LeavesIn extent rest
+
+extent_found : (extent : Extent) (numbers value rest : List ℕ) → in_extent extent numbers ≡ Some (value, rest) → IsSplit extent numbers value rest
+extent_found (Fixed size) numbers value rest h =
+    let e = cut_found size numbers value rest h in record { here = value; whole = e.0; encoding = (e.1, refl); after = tt }
+extent_found Counted numbers value rest h =
+    record { here = length value ∷ value; whole = counted_found numbers value rest h; encoding = refl; after = tt }
+extent_found Implied numbers value rest h =
+    let e = remaining_found numbers value rest h in record { here = value; whole = e.0; encoding = (e.1, refl); after = e.2 }
+
+extent_only : (extent : Extent) (value here rest : List ℕ) → IsInExtent extent value here → LeavesIn extent rest
+    → in_extent extent (here ++ rest) ≡ Some (value, rest)
+extent_only (Fixed size) value here rest h after =
+    let P : ℕ → Type 0 = λ n. front_and_rest n (value ++ rest) ≡ Some (value, rest) in
+    let Q : List ℕ → Type 0 = λ t. front_and_rest size (t ++ rest) ≡ Some (value, rest) in
+    subst Q (sym h.1) (subst P h.0 (cut_only value rest))
+extent_only Counted value here rest h after =
+    let Q : List ℕ → Type 0 = λ t. counted (t ++ rest) ≡ Some (value, rest) in subst Q (sym h) (cut_only value rest)
+extent_only Implied value here rest h after =
+    let P : List ℕ → Type 0 = λ r. remaining (value ++ r) ≡ Some (value, r) in
+    let Q : List ℕ → Type 0 = λ t. remaining (t ++ rest) ≡ Some (value, rest) in
+    subst Q (sym h.1) (subst P (sym after) (remaining_only value h.0))
+
+-- a part
+pub part_found : (part : IndexPart) (numbers value rest : List ℕ) → front_of part numbers ≡ Some (value, rest) → ReadsValue part numbers value rest
+part_found Number numbers value rest h =
+    let e = cut_found 1 numbers value rest h in record { here = value; whole = e.0; encoding = (e.1, refl); after = tt }
+part_found Address numbers value rest h =
+    let are = octets_found (front_and_rest 4 numbers) value rest h in
+    let e = cut_found 4 numbers value rest are.0 in
+    record { here = value; whole = e.0; encoding = (are.1, e.1, refl); after = tt }
+part_found (Text extent) numbers value rest h =
+    let are = octets_found (in_extent extent numbers) value rest h in
+    let e = extent_found extent numbers value rest are.0 in
+    record { here = e.here; whole = e.whole; encoding = (are.1, e.encoding); after = e.after }
+part_found (Octets extent) numbers value rest h =
+    let are = octets_found (in_extent extent numbers) value rest h in
+    let e = extent_found extent numbers value rest are.0 in
+    record { here = e.here; whole = e.whole; encoding = (are.1, e.encoding); after = e.after }
+part_found Identifier numbers value rest h =
+    record { here = length value ∷ value; whole = counted_found numbers value rest h; encoding = refl; after = tt }
+part_found ImpliedIdentifier numbers value rest h =
+    let e = remaining_found numbers value rest h in record { here = value; whole = e.0; encoding = (e.1, refl); after = e.2 }
+
+encoded_only : (part : IndexPart) (value here rest : List ℕ) → IsEncoding part value here → LeavesAfter part rest → front_of part (here ++ rest)
+    ≡ Some (value, rest)
+encoded_only Number value here rest h after =
+    let P : ℕ → Type 0 = λ n. front_and_rest n (value ++ rest) ≡ Some (value, rest) in
+    let Q : List ℕ → Type 0 = λ t. front_and_rest 1 (t ++ rest) ≡ Some (value, rest) in
+    subst Q (sym h.1) (subst P h.0 (cut_only value rest))
+encoded_only Address value here rest h after =
+    let P : ℕ → Type 0 = λ n. front_and_rest n (value ++ rest) ≡ Some (value, rest) in
+    let Q : List ℕ → Type 0 = λ t. front_and_rest 4 (t ++ rest) ≡ Some (value, rest) in
+    octets_only (front_and_rest 4 (here ++ rest)) value rest (subst Q (sym h.2) (subst P h.1 (cut_only value rest))) h.0
+encoded_only (Text extent) value here rest h after = octets_only (in_extent extent (here ++ rest)) value rest (extent_only extent value here rest h.1 after) h.0
+encoded_only (Octets extent) value here rest h after =
+    octets_only (in_extent extent (here ++ rest)) value rest (extent_only extent value here rest h.1 after) h.0
+encoded_only Identifier value here rest h after =
+    let Q : List ℕ → Type 0 = λ t. counted (t ++ rest) ≡ Some (value, rest) in subst Q (sym h) (cut_only value rest)
+encoded_only ImpliedIdentifier value here rest h after =
+    let P : List ℕ → Type 0 = λ r. remaining (value ++ r) ≡ Some (value, r) in
+    let Q : List ℕ → Type 0 = λ t. remaining (t ++ rest) ≡ Some (value, rest) in
+    subst Q (sym h.1) (subst P (sym after) (remaining_only value h.0))
+
+pub part_only : (part : IndexPart) (numbers value rest : List ℕ) → ReadsValue part numbers value rest → front_of part numbers ≡ Some (value, rest)
+part_only part numbers value rest h = ap (front_of part) h.whole ∙ encoded_only part value h.here rest h.encoding h.after
+
+pub one_front : (part : IndexPart) (numbers value rest other left : List ℕ) → ReadsValue part numbers value rest → ReadsValue part numbers other left
+    → (value ≡ other) × (rest ≡ left)
+one_front part numbers value rest other left h g =
+    let e : Some (value, rest) ≡ Some (other, left) = sym (part_only part numbers value rest h) ∙ part_only part numbers other left g in
+    (same_value (value, rest) (other, left) e, same_rest (value, rest) (other, left) e)
+
+-- all parts
+pub first_value : (value : List ℕ) (read : Option (List (List ℕ))) (values : List (List ℕ)) → option_map (λ vs. value ∷ vs) read ≡ Some values
+    → (more : List (List ℕ)) × (read ≡ Some more) × (values ≡ value ∷ more)
+first_value value None values h = let no : ⊥ = cc in absurd no
+first_value value (Some more) values h = (more, refl, cc)
+
+step_found : (part : IndexPart) (parts : List IndexPart) (numbers : List ℕ) (values : List (List ℕ)) (front : Option Pair) → front_of part numbers ≡ front
+    → ((rest : List ℕ) (more : List (List ℕ)) → values_of parts rest ≡ Some more → ReadValues parts rest more)
+    → option_and_then (λ (value, rest). option_map (λ vs. value ∷ vs) (values_of parts rest)) front ≡ Some values → ReadValues (part ∷ parts) numbers values
+step_found part parts numbers values None is again h = let no : ⊥ = cc in absurd no
+step_found part parts numbers values (Some (value, rest)) is again h =
+    let e = first_value value (values_of parts rest) values h in
+    let P : List (List ℕ) → Type 0 = λ vs. ReadValues (part ∷ parts) numbers vs in
+    subst P (sym e.2) (rest, part_found part numbers value rest is, again rest e.0 e.1)
+
+pub all_found : (parts : List IndexPart) (numbers : List ℕ) (values : List (List ℕ)) → values_of parts numbers ≡ Some values → ReadValues parts numbers values
+all_found [] [] [] h = refl
+all_found [] [] (value ∷ values) h = let no : ⊥ = cc in absurd no
+all_found [] (n ∷ more) values h = let no : ⊥ = cc in absurd no
+all_found (part ∷ parts) numbers values h = step_found part parts numbers values (front_of part numbers) refl (all_found parts) h
+
+pub all_only : (parts : List IndexPart) (numbers : List ℕ) (values : List (List ℕ)) → ReadValues parts numbers values → values_of parts numbers ≡ Some values
+all_only [] numbers [] h = ap (values_of []) h
+all_only [] numbers (value ∷ values) h = absurd h
+all_only (part ∷ parts) numbers [] h = absurd h
+all_only (part ∷ parts) numbers (value ∷ values) h =
+    let front : front_of part numbers ≡ Some (value, h.0) = part_only part numbers value h.0 h.1 in
+    let more : values_of parts h.0 ≡ Some values = all_only parts h.0 values h.2 in
+    rw front (rw more refl)
+
+pub one_reading_of_all : (parts : List IndexPart) (numbers : List ℕ) (values others : List (List ℕ)) → ReadValues parts numbers values
+    → ReadValues parts numbers others → values ≡ others
+one_reading_of_all parts numbers values others h g =
+    let e : Some values ≡ Some others = sym (all_only parts numbers values h) ∙ all_only parts numbers others g in cc
+
+-- whether all parts are read
+pub read_if : (parts : List IndexPart) (numbers : List ℕ) → ((values : List (List ℕ)) × ReadValues parts numbers values)
+    → is_some (values_of parts numbers) ≡ true
+read_if parts numbers h = ap is_some (all_only parts numbers h.0 h.1)
+
+some_of : (o : Option (List (List ℕ))) → is_some o ≡ true → (values : List (List ℕ)) × (o ≡ Some values)
+some_of None h = let no : ⊥ = cc in absurd no
+some_of (Some values) h = (values, refl)
+
+pub if_read : (parts : List IndexPart) (numbers : List ℕ) → is_some (values_of parts numbers) ≡ true
+    → (values : List (List ℕ)) × ReadValues parts numbers values
+if_read parts numbers h = let e = some_of (values_of parts numbers) h in (e.0, all_found parts numbers e.0 e.1)
+
+pub none_read : (part : IndexPart) (parts : List IndexPart) (numbers : List ℕ) → front_of part numbers ≡ None
+    → is_some (values_of (part ∷ parts) numbers) ≡ false
+none_read part parts numbers h = rw h refl
+
+mapped : (value : List ℕ) (o : Option (List (List ℕ))) → is_some (option_map (λ vs. value ∷ vs) o) ≡ is_some o
+mapped value None = refl
+mapped value (Some values) = refl
+
+pub one_read : (part : IndexPart) (parts : List IndexPart) (numbers value rest : List ℕ) → front_of part numbers ≡ Some (value, rest)
+    → is_some (values_of (part ∷ parts) numbers) ≡ is_some (values_of parts rest)
+one_read part parts numbers value rest h = rw h (mapped value (values_of parts rest))
+
+pub all_read : (numbers : List ℕ) → is_some (values_of [] numbers) ≡ true → numbers ≡ []
+all_read [] h = refl
+all_read (n ∷ more) h = let no : ⊥ = cc in absurd no

@@ -1,0 +1,134 @@
+-- The text of a type is that of the tokens of its spelling, joined by blanks.
+use Rattle.std.proofs.Common.{◌≡◌, ℕ, List, [], ◌∷◌, ◌++◌, codes, Option, Some, None, refl, sym, ◌∙◌, ap, append_assoc, append-nil}
+use Rattle.std.specs.List.{flat_map}
+use Rattle.std.proofs.lemmas.Grind.{flat_map-append}
+use Rattle.smi_text.specs.lexer.Token.{Lexeme}
+use Rattle.smi_text.specs.declared.lexer.token.TokenKind.TheVariants as K
+use Rattle.smi_text.specs.trees.Mark.{Mark, spelled, on_line, sign, MarksToken, Stands}
+use Rattle.smi_text.specs.trees.Spelling.{bound, of_list, of_named_number, of_range, of_ranges, of_refinement, of_option, of_base, of_syntax}
+use Rattle.smi_text.specs.declared.trees.tree.NamedNumber.{NamedNumber}
+use Rattle.smi_text.specs.declared.trees.tree.Range.{Range}
+use Rattle.smi_text.specs.declared.trees.tree.TokenText.{TokenText}
+use Rattle.smi_text.specs.declared.trees.tree.Refinement.{Refinement}
+use Rattle.smi_text.specs.declared.trees.tree.Refinement.TheVariants as R
+use Rattle.smi_text.specs.declared.trees.tree.Base.{Base}
+use Rattle.smi_text.specs.declared.trees.tree.Base.TheVariants as B
+use Rattle.smi_text.specs.declared.trees.tree.Syntax.{Syntax}
+use Rattle.smi_text.specs.declared.trees.tree.Syntax.TheVariants as T
+use Rattle.smi_show.specs.details.Syntax.{named_number_text, more_numbers, numbers_text, high_text, range_text, more_ranges, ranges_text, refinement_text}
+use Rattle.smi_show.specs.details.Syntax.{refined_text, base_text, syntax_text}
+use Rattle.smi_show.specs.details.Tokens.{AreTokensOf, joined_by_blanks}
+
+-- the text that a mark asks of its token
+abbrev text_of : Mark → List ℕ
+text_of (spelled k x ok) = x
+text_of (on_line n m) = text_of m
+
+-- the texts of marks, each after a blank
+abbrev spaced : List Mark → List ℕ
+spaced ms = flat_map (λ m. codes " " ++ text_of m) ms
+
+-- the texts of marks, with one blank between two
+abbrev joined : List Mark → List ℕ
+joined [] = []
+joined (m ∷ ms) = text_of m ++ spaced ms
+
+token_text : (m : Mark) (t : Lexeme) → MarksToken m t → t.text ≡ text_of m
+token_text (spelled k x ok) t h = h.1
+token_text (on_line n m) t h = token_text m t h.0
+
+tokens_spaced : (ms : List Mark) (ts : List Lexeme) → Stands ms ts [] → flat_map (λ t. codes " " ++ t.text) ts ≡ spaced ms
+tokens_spaced [] [] h = refl
+tokens_spaced [] (t ∷ ts) h = cc
+tokens_spaced (m ∷ ms) [] h = absurd h
+tokens_spaced (m ∷ ms) (t ∷ ts) h =
+    ap (λ (x : List ℕ). (codes " " ++ x) ++ flat_map (λ (y : Lexeme). codes " " ++ y.text) ts) (token_text m t h.0)
+    ∙ ap (λ (x : List ℕ). (codes " " ++ text_of m) ++ x) (tokens_spaced ms ts h.1)
+
+tokens_joined : (ms : List Mark) (ts : List Lexeme) → Stands ms ts [] → joined_by_blanks ts ≡ joined ms
+tokens_joined [] [] h = refl
+tokens_joined [] (t ∷ ts) h = cc
+tokens_joined (m ∷ ms) [] h = absurd h
+tokens_joined (m ∷ ms) (t ∷ ts) h =
+    ap (λ (x : List ℕ). x ++ flat_map (λ (y : Lexeme). codes " " ++ y.text) ts) (token_text m t h.0)
+    ∙ ap (λ (x : List ℕ). text_of m ++ x) (tokens_spaced ms ts h.1)
+
+spaced_append : (ms ns : List Mark) → spaced (ms ++ ns) ≡ spaced ms ++ spaced ns
+spaced_append ms ns = flat_map-append (λ (m : Mark). codes " " ++ text_of m) ms ns
+
+-- between two signs
+enclosed : (opens closes : Mark) (ms : List Mark) (text : List ℕ) → text ≡ spaced ms
+    → (codes " " ++ text_of opens) ++ (text ++ (codes " " ++ text_of closes)) ≡ spaced (opens ∷ (ms ++ closes ∷ []))
+enclosed opens closes ms text is =
+    ap (λ (t : List ℕ). (codes " " ++ text_of opens) ++ (t ++ (codes " " ++ text_of closes))) is
+    ∙ ap (λ (t : List ℕ). (codes " " ++ text_of opens) ++ (spaced ms ++ t)) (sym (append-nil (codes " " ++ text_of closes)))
+    ∙ ap (λ (t : List ℕ). (codes " " ++ text_of opens) ++ t) (sym (spaced_append ms (closes ∷ [])))
+
+-- each part after a sign
+parts_spaced : {A : Type 0} (m : Mark) (marks : A → List Mark) (text : A → List ℕ) → ((x : A) → text x ≡ spaced (m ∷ marks x)) → (xs : List A)
+    → flat_map text xs ≡ spaced (flat_map (λ x. m ∷ marks x) xs)
+parts_spaced m marks text is [] = refl
+parts_spaced m marks text is (x ∷ xs) =
+    ap (λ (t : List ℕ). t ++ flat_map text xs) (is x)
+    ∙ ap (λ (t : List ℕ). spaced (m ∷ marks x) ++ t) (parts_spaced m marks text is xs)
+    ∙ sym (spaced_append (m ∷ marks x) (flat_map (λ y. m ∷ marks y) xs))
+
+named_number_spaced : (n : NamedNumber) → named_number_text n ≡ spaced (of_named_number n)
+named_number_spaced n =
+    ap (λ (t : List ℕ). codes " " ++ t) (append_assoc (n.name.octets ++ codes " ( ") n.number (codes " )")
+    ∙ append_assoc n.name.octets (codes " ( ") (n.number ++ codes " )"))
+
+numbers_spaced : (ns : List NamedNumber) → numbers_text ns ≡ spaced (of_list (sign K.Comma) of_named_number ns)
+numbers_spaced [] = refl
+numbers_spaced (n ∷ ns) =
+    ap (λ (t : List ℕ). t ++ flat_map more_numbers ns) (named_number_spaced n)
+    ∙ ap (λ (t : List ℕ). spaced (of_named_number n) ++ t) (parts_spaced (sign K.Comma) of_named_number more_numbers
+    (λ x. ap (λ (t : List ℕ). codes " ," ++ t) (named_number_spaced x)) ns)
+    ∙ sym (spaced_append (of_named_number n) (flat_map (λ y. sign K.Comma ∷ of_named_number y) ns))
+
+high_spaced : (high : Option TokenText) → high_text high ≡ spaced (of_option (λ x. sign K.Range ∷ bound x ∷ []) high)
+high_spaced None = refl
+high_spaced (Some high) = ap (λ (t : List ℕ). codes " .. " ++ t) (sym (append-nil high.text))
+
+range_spaced : (r : Range) → range_text r ≡ spaced (of_range r)
+range_spaced r = ap (λ (t : List ℕ). (codes " " ++ r.low.text) ++ t) (high_spaced r.high)
+
+ranges_spaced : (rs : List Range) → ranges_text rs ≡ spaced (of_ranges rs)
+ranges_spaced [] = refl
+ranges_spaced (r ∷ rs) =
+    ap (λ (t : List ℕ). t ++ flat_map more_ranges rs) (range_spaced r)
+    ∙ ap (λ (t : List ℕ). spaced (of_range r) ++ t) (parts_spaced (sign K.Bar) of_range more_ranges
+    (λ x. ap (λ (t : List ℕ). codes " |" ++ t) (range_spaced x)) rs)
+    ∙ sym (spaced_append (of_range r) (flat_map (λ y. sign K.Bar ∷ of_range y) rs))
+
+refinement_spaced : (r : Refinement) → refinement_text r ≡ spaced (of_refinement r)
+refinement_spaced (R.Numbers ns) =
+    enclosed (sign K.OpenBrace) (sign K.CloseBrace) (of_list (sign K.Comma) of_named_number ns) (numbers_text ns) (numbers_spaced ns)
+refinement_spaced (R.Values rs) = enclosed (sign K.OpenParen) (sign K.CloseParen) (of_ranges rs) (ranges_text rs) (ranges_spaced rs)
+refinement_spaced (R.Size rs) =
+    let ms = of_ranges rs in
+    let close = sign K.CloseParen ∷ [] in
+    ap (λ (t : List ℕ). codes " ( SIZE (" ++ t) (
+    ap (λ (t : List ℕ). t ++ codes " ) )") (ranges_spaced rs)
+    ∙ sym (append_assoc (spaced ms) (codes " )") (codes " )"))
+    ∙ ap (λ (t : List ℕ). t ++ codes " )") (sym (spaced_append ms close))
+    ∙ sym (spaced_append (ms ++ close) close)
+    )
+
+refined_spaced : (r : Option Refinement) → refined_text r ≡ spaced (of_option of_refinement r)
+refined_spaced None = refl
+refined_spaced (Some r) = refinement_spaced r
+
+pub syntax_joined : (s : Syntax) → syntax_text s ≡ joined (of_syntax s)
+syntax_joined (T.SequenceOf row) = ap (λ (t : List ℕ). codes "SEQUENCE OF " ++ t) (sym (append-nil row.octets))
+syntax_joined (T.Simple t) = simple_joined t.base (of_option of_refinement t.refinement) (refined_text t.refinement) (refined_spaced t.refinement)
+  where
+    simple_joined : (b : Base) (ms : List Mark) (text : List ℕ) → text ≡ spaced ms → base_text b ++ text ≡ joined (of_base b ++ ms)
+    simple_joined B.Integer ms text is = ap (λ (t : List ℕ). codes "INTEGER" ++ t) is
+    simple_joined B.OctetString ms text is = ap (λ (t : List ℕ). codes "OCTET STRING" ++ t) is
+    simple_joined B.ObjectIdentifier ms text is = ap (λ (t : List ℕ). codes "OBJECT IDENTIFIER" ++ t) is
+    simple_joined B.Bits ms text is = ap (λ (t : List ℕ). codes "BITS" ++ t) is
+    simple_joined (B.Named name) ms text is = ap (λ (t : List ℕ). name.octets ++ t) is
+
+pub own_tokens : (s : Syntax) (ts : List Lexeme) → AreTokensOf s ts → syntax_text s ≡ joined_by_blanks ts
+own_tokens s ts are = syntax_joined s ∙ sym (tokens_joined (of_syntax s) ts are)

@@ -1,0 +1,86 @@
+-- A shown piece, or a label, is read as the word that it shows.
+use Rattle.std.proofs.Common.{
+  ◌≡◌,
+  ◌≢◌,
+  ℕ,
+  ◌+◌,
+  ◌-◌,
+  true,
+  ◌&&◌,
+  eqb,
+  ltb,
+  cond,
+  List,
+  [],
+  ◌∷◌,
+  ◌++◌,
+  length,
+  take,
+  get_or,
+  decimal,
+  Option,
+  Some,
+  None,
+  Ok,
+  refl,
+  ◌∙◌,
+  ap,
+  arith,
+  length-append,
+}
+use Rattle.std.specs.List.{list_all}
+use Rattle.std.specs.Char.{is_ascii_digit}
+use Rattle.std.specs.Str.{all_ascii_digits}
+use Rattle.std.proofs.lemmas.Bool.{eq-eqb, lt-ltb}
+use Rattle.std.proofs.Math.Seq.{take-append_seam, get_or-append_seam}
+use Rattle.snmp_oid.specs.Numeric.{IsNumeral}
+use Rattle.smi_text.specs.trees.Word.{is_word}
+use Rattle.smi_show.specs.index.Pieces.{Piece, plain_number, counted_text, plain_text, is_quotable, IsPiece, shown_piece}
+use Rattle.smi_show.specs.name.Word.{a_piece, a_label, numeral_of, quoted_in, number_word, counted_word, plain_word, word_of}
+use Rattle.smi_show.proofs.NumeralLemmas.{numeral_is}
+use Rattle.smi_show.proofs.PlainLemmas.{and_left, word_no_digit, plain_word_begins}
+
+pub digit_first : (octet : ℕ) (more : List ℕ) → is_ascii_digit octet ≡ true → word_of (octet ∷ more) ≡ number_word (numeral_of (octet ∷ more))
+digit_first octet more h = rw h refl
+
+pub digits_word : (text : List ℕ) (n : ℕ) → IsNumeral text n → word_of text ≡ Ok (a_piece (plain_number n))
+digits_word [] n h = absurd (h.some refl)
+digits_word (octet ∷ more) n h =
+    let digit : is_ascii_digit octet ≡ true = and_left (is_ascii_digit octet) (all_ascii_digits more) h.digits in
+    digit_first octet more digit ∙ ap number_word (numeral_is (octet ∷ more) n h)
+
+-- the octets before a quote
+quoted_at : ℕ → List ℕ → ℕ → Option (List ℕ)
+quoted_at quote rest size =
+    cond (ltb 0 (length rest) && eqb (get_or rest size 0) quote && list_all is_quotable (take size rest)) (Some (take size rest)) None
+
+quoted_read : (quote : ℕ) (octets : List ℕ) → list_all is_quotable octets ≡ true → quoted_at quote (octets ++ quote ∷ []) (length octets) ≡ Some octets
+unfolding quoted_at
+quoted_read quote octets h =
+    let size : length (octets ++ quote ∷ []) ≡ length octets + 1 = length-append octets (quote ∷ []) in
+    let some : ltb 0 (length (octets ++ quote ∷ [])) ≡ true = lt-ltb 0 (length (octets ++ quote ∷ [])) (omega (arith, size)) in
+    let last : eqb (get_or (octets ++ quote ∷ []) (length octets) 0) quote ≡ true = eq-eqb _ _ (get_or-append_seam octets quote [] 0) in
+    let front : take (length octets) (octets ++ quote ∷ []) ≡ octets = take-append_seam octets (quote ∷ []) in
+    rw some (rw last (rw front (rw h refl)))
+
+pub quoted_back : (quote : ℕ) (octets : List ℕ) → list_all is_quotable octets ≡ true → quoted_in quote (octets ++ quote ∷ []) ≡ Some octets
+unfolding quoted_at
+quoted_back quote octets h =
+    let size : length (octets ++ quote ∷ []) - 1 ≡ length octets = omega (arith, length-append octets (quote ∷ [])) in
+    ap (quoted_at quote (octets ++ quote ∷ [])) size ∙ quoted_read quote octets h
+
+pub some_text : (octets : List ℕ) → octets ≢ [] → plain_word (Some octets) ≡ Ok (a_piece (plain_text octets))
+some_text [] some = absurd (some refl)
+some_text (octet ∷ more) some = refl
+
+pub piece_word : (piece : Piece) → IsPiece piece → ((n : ℕ) → IsPiece (plain_number n) → IsNumeral (decimal n) n)
+    → word_of (shown_piece piece) ≡ Ok (a_piece piece)
+piece_word (plain_number n) h numeral = digits_word (decimal n) n (numeral n h)
+piece_word (counted_text octets) h numeral = ap counted_word (quoted_back 34 octets h)
+piece_word (plain_text octets) h numeral = ap plain_word (quoted_back 39 octets h.1) ∙ some_text octets h.0
+
+pub label_word : (label : List ℕ) → is_word label ≡ true → word_of label ≡ Ok (a_label label)
+label_word [] h = let wrong : ⊥ = cc in absurd wrong
+label_word (octet ∷ more) h =
+    let begins = plain_word_begins octet more h in
+    rw (word_no_digit octet more h) (rw begins.double (rw begins.single refl))

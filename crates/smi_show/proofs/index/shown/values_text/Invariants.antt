@@ -1,0 +1,17 @@
+use Rattle.std.proofs.Common.{◌≡◌, ℕ, List, ◌++◌, drop, Some}
+use Rattle.snmp_io.specs.draft.Draft.{Grows}
+use Rattle.smi_show.specs.index.Reading.{values_of}
+use Rattle.smi_show.specs.index.Pieces.{index_pieces, shown_pieces}
+use Rattle.smi_show.proofs.index.shown.values_text.Given as goal
+
+-- what is shown, with what the parts that are left read, is the whole text
+abbrev pub invariant-parts : goal.invariant-parts
+invariant-parts l =
+    (values : List (List ℕ)) → values_of l.fn.parts l.fn.numbers ≡ Some values
+    → record {
+      done : List ℕ;
+      ahead : List (List ℕ);
+      grows : Grows l.initial.draft done l.draft;
+      left : values_of (drop l.part-index l.parts) l.left ≡ Some ahead;
+      whole : done ++ shown_pieces (index_pieces (drop l.part-index l.parts) ahead) ≡ shown_pieces (index_pieces l.fn.parts values);
+    }

@@ -1,0 +1,18 @@
+use Rattle.std.proofs.Common.{◌≡◌, ℕ, ◌+◌, List, length, Option, Some, None, option_map}
+use Rattle.smi_show.specs.name.Left.{parts_left}
+use Rattle.smi_show.specs.name.Meaning.{further_meaning}
+use Rattle.smi_show.proofs.name.meaning.further_meaning.Given as goal
+
+-- what is left means, after what stands so far, what the whole means
+abbrev pub invariant-parts : goal.invariant-parts
+invariant-parts g l =
+    further_meaning (g.T.NameTree.naming l.tree) l.oid (parts_left (option_map (λ s. s.now) l.left))
+    ≡ further_meaning (g.T.NameTree.naming l.tree) l.fn.so_far (parts_left (option_map (λ s. s.now) l.fn.parts))
+
+-- one more than is left
+abbrev octets_left : Option (List ℕ) → ℕ
+octets_left None = 0
+octets_left (Some here) = length here + 1
+
+abbrev pub decreases-parts : goal.decreases-parts
+decreases-parts g l = octets_left (option_map (λ s. s.now) l.left)

@@ -1,0 +1,34 @@
+-- The details of an identifier: its name, the definition of its deepest node, and the identifier as
+-- a value.
+use Rattle.std.specs.Prelude.{ℕ, Bool, List, [], ◌++◌, codes, Option, Some, None}
+use Rattle.smi_value.specs.declared.letters.letters.NameForm.{NameForm}
+use Rattle.smi_text.specs.declared.trees.tree.Def.{Def}
+use Rattle.smi_text.specs.trees.Lookup.{kind_words}
+use Rattle.smi_show.specs.name.Naming.{Naming, Standing}
+use Rattle.smi_show.specs.name.Name.{name_text}
+use Rattle.smi_show.specs.details.Definition.{definition_text}
+use Rattle.smi_show.specs.details.Value.{identifier_text}
+
+-- a root is an OBJECT IDENTIFIER
+abbrev pub kind_text : Option Def → List ℕ
+kind_text None = codes "OBJECT IDENTIFIER"
+kind_text (Some d) = kind_words d.kind
+
+abbrev pub from_text : Option (List ℕ) → List ℕ
+from_text None = []
+from_text (Some home) = codes "  -- FROM\t" ++ home ++ codes "\n"
+
+abbrev pub clauses_text : Option Def → List ℕ
+clauses_text None = []
+clauses_text (Some d) = definition_text d.kind
+
+abbrev pub node_detail : Option Standing → Option Def → List ℕ
+node_detail None definition = []
+node_detail (Some node) definition =
+    node.label ++ codes " " ++ kind_text definition ++ codes "\n" ++ from_text node.home
+    ++ clauses_text definition
+
+abbrev pub detail_text : Naming → Option Def → NameForm → Bool → List ℕ → List ℕ
+detail_text naming definition form numeric_index o =
+    name_text naming form numeric_index o ++ codes "\n"
+    ++ node_detail (naming.deepest o) definition ++ identifier_text naming o

@@ -1,0 +1,16 @@
+-- The tokens that a module text has for a type, and the text that they make.
+use Rattle.std.specs.Prelude.{ℕ, List, [], ◌∷◌, ◌++◌, codes}
+use Rattle.std.specs.List.{flat_map}
+use Rattle.smi_text.specs.lexer.Token.{Lexeme}
+use Rattle.smi_text.specs.trees.Mark.{Stands}
+use Rattle.smi_text.specs.trees.Spelling.{of_syntax}
+use Rattle.smi_text.specs.declared.trees.tree.Syntax.{Syntax}
+
+-- the tokens are the type's spelling, and no more
+abbrev pub AreTokensOf : Syntax → List Lexeme → Type 0
+AreTokensOf syntax tokens = Stands (of_syntax syntax) tokens []
+
+-- the texts of tokens, with one blank between two
+abbrev pub joined_by_blanks : List Lexeme → List ℕ
+joined_by_blanks [] = []
+joined_by_blanks (first ∷ rest) = first.text ++ flat_map (λ token. codes " " ++ token.text) rest

@@ -1,0 +1,96 @@
+-- The instance part of a name as text: pieces, each after a dot. A piece is a number, or a text in
+-- quotes: double ones stand for its length and its octets, single ones for its octets alone.
+use Rattle.std.specs.Prelude.{◌≢◌, ℕ, ◌<◌, ◌^◌, Bool, not, ◌&&◌, ◌||◌, ◌==◌, nat_le, if◌then◌else◌}
+use Rattle.std.specs.Prelude.{List, [], ◌∷◌, ◌++◌, length, map, decimal, codes, Option, Some, None}
+use Rattle.std.specs.Prelude.{option_map, unwrap_or, IsTrue}
+use Rattle.std.specs.List.{flat_map, list_all}
+use Rattle.smi_show.specs.index.Reading.{values_of}
+use Rattle.smi_show.specs.declared.index.part.Extent.{Extent}
+use Rattle.smi_show.specs.declared.index.part.Extent.TheVariants.{Fixed, Counted, Implied}
+use Rattle.smi_show.specs.declared.index.part.IndexPart.{IndexPart}
+use Rattle.smi_show.specs.declared.index.part.IndexPart.TheVariants.{Number, Address, Text, Octets}
+use Rattle.smi_show.specs.declared.index.part.IndexPart.TheVariants.{Identifier, ImpliedIdentifier}
+
+pub data Piece : Type 0 where
+  plain_number : ℕ → Piece
+  counted_text : List ℕ → Piece
+  plain_text : List ℕ → Piece
+
+-- an octet that may stand between quotes: printable, and neither a quote nor a backslash
+abbrev pub is_quotable : ℕ → Bool
+is_quotable octet =
+    nat_le 32 octet && nat_le octet 126 && not (octet == 34 || octet == 39 || octet == 92)
+
+-- octets that may stand between quotes, at least one
+abbrev pub is_shown_text : List ℕ → Bool
+is_shown_text value = not (length value == 0) && list_all is_quotable value
+
+-- the numbers that a piece stands for
+abbrev pub piece_numbers : Piece → List ℕ
+piece_numbers (plain_number n) = n ∷ []
+piece_numbers (counted_text octets) = length octets ∷ octets
+piece_numbers (plain_text octets) = octets
+
+-- what a name may have as a piece; between single quotes there is at least one octet
+abbrev pub IsPiece : Piece → Type 0
+IsPiece (plain_number n) = n < 2 ^ 32
+IsPiece (counted_text octets) = IsTrue (list_all is_quotable octets)
+IsPiece (plain_text octets) = (octets ≢ []) × IsTrue (list_all is_quotable octets)
+
+-- a piece as it is written
+abbrev pub shown_piece : Piece → List ℕ
+shown_piece (plain_number n) = decimal n
+shown_piece (counted_text octets) = codes "\"" ++ octets ++ codes "\""
+shown_piece (plain_text octets) = codes "'" ++ octets ++ codes "'"
+
+abbrev pub dotted_text : Piece → List ℕ
+dotted_text piece = codes "." ++ shown_piece piece
+
+abbrev pub shown_pieces : List Piece → List ℕ
+shown_pieces pieces = flat_map dotted_text pieces
+
+-- a list of numbers as pieces
+abbrev pub as_numbers : List ℕ → List Piece
+as_numbers numbers = map plain_number numbers
+
+abbrev pub as_text : Extent → List ℕ → Piece
+as_text (Fixed size) value = plain_text value
+as_text Counted value = counted_text value
+as_text Implied value = plain_text value
+
+-- the numbers that stand for a value
+abbrev pub extent_numbers : Extent → List ℕ → List ℕ
+extent_numbers (Fixed size) value = value
+extent_numbers Counted value = length value ∷ value
+extent_numbers Implied value = value
+
+abbrev pub value_numbers : IndexPart → List ℕ → List ℕ
+value_numbers Number value = value
+value_numbers Address value = value
+value_numbers (Text extent) value = extent_numbers extent value
+value_numbers (Octets extent) value = extent_numbers extent value
+value_numbers Identifier value = length value ∷ value
+value_numbers ImpliedIdentifier value = value
+
+-- a value of an index: an OCTET STRING as text if its octets may stand between quotes, anything
+-- else as numbers
+abbrev pub value_pieces : IndexPart → List ℕ → List Piece
+value_pieces (Text extent) value =
+    if is_shown_text value then as_text extent value ∷ []
+    else as_numbers (extent_numbers extent value)
+value_pieces Number value = as_numbers value
+value_pieces Address value = as_numbers value
+value_pieces (Octets extent) value = as_numbers (extent_numbers extent value)
+value_pieces Identifier value = as_numbers (length value ∷ value)
+value_pieces ImpliedIdentifier value = as_numbers value
+
+abbrev pub index_pieces : List IndexPart → List (List ℕ) → List Piece
+index_pieces [] values = []
+index_pieces (part ∷ parts) [] = []
+index_pieces (part ∷ parts) (value ∷ values) = value_pieces part value ++ index_pieces parts values
+
+-- the numbers after a node: by its index if that reads all of them, otherwise as numbers
+abbrev pub instance_pieces : Option (List IndexPart) → List ℕ → List Piece
+instance_pieces None numbers = as_numbers numbers
+instance_pieces (Some parts) numbers =
+    unwrap_or (option_map (index_pieces parts) (values_of parts numbers)) (as_numbers numbers)

@@ -1,0 +1,54 @@
+-- An index computed from numbers: what the relations of Index determine.
+use Rattle.std.specs.Prelude.{ℕ, nat_le, if◌then◌else◌, List, [], ◌∷◌, length, take, drop, Option}
+use Rattle.std.specs.Prelude.{Some, None, option_map, option_and_then}
+use Rattle.std.specs.List.{list_all}
+use Rattle.smi_show.specs.index.Index.{is_octet}
+use Rattle.smi_show.specs.declared.index.part.Extent.{Extent}
+use Rattle.smi_show.specs.declared.index.part.Extent.TheVariants.{Fixed, Counted, Implied}
+use Rattle.smi_show.specs.declared.index.part.IndexPart.{IndexPart}
+use Rattle.smi_show.specs.declared.index.part.IndexPart.TheVariants.{Number, Address, Text, Octets}
+use Rattle.smi_show.specs.declared.index.part.IndexPart.TheVariants.{Identifier, ImpliedIdentifier}
+
+-- the first `size` numbers and the rest
+abbrev pub front_and_rest : ℕ → List ℕ → Option (List ℕ × List ℕ)
+front_and_rest size numbers =
+    if nat_le size (length numbers) then Some (take size numbers, drop size numbers) else None
+
+-- a length, and then this many numbers
+abbrev pub counted : List ℕ → Option (List ℕ × List ℕ)
+counted [] = None
+counted (size ∷ numbers) = front_and_rest size numbers
+
+-- all of them, at least one
+abbrev pub remaining : List ℕ → Option (List ℕ × List ℕ)
+remaining [] = None
+remaining (n ∷ more) = Some (n ∷ more, [])
+
+abbrev pub octets_or_none : List ℕ × List ℕ → Option (List ℕ × List ℕ)
+octets_or_none (value, rest) = if list_all is_octet value then Some (value, rest) else None
+
+abbrev pub of_octets : Option (List ℕ × List ℕ) → Option (List ℕ × List ℕ)
+of_octets read = option_and_then octets_or_none read
+
+abbrev pub in_extent : Extent → List ℕ → Option (List ℕ × List ℕ)
+in_extent (Fixed size) numbers = front_and_rest size numbers
+in_extent Counted numbers = counted numbers
+in_extent Implied numbers = remaining numbers
+
+-- the value of a part and the rest
+abbrev pub front_of : IndexPart → List ℕ → Option (List ℕ × List ℕ)
+front_of Number numbers = front_and_rest 1 numbers
+front_of Address numbers = of_octets (front_and_rest 4 numbers)
+front_of (Text extent) numbers = of_octets (in_extent extent numbers)
+front_of (Octets extent) numbers = of_octets (in_extent extent numbers)
+front_of Identifier numbers = counted numbers
+front_of ImpliedIdentifier numbers = remaining numbers
+
+-- the values of all parts, if no number is left
+abbrev pub values_of : List IndexPart → List ℕ → Option (List (List ℕ))
+values_of [] [] = Some []
+values_of [] (n ∷ more) = None
+values_of (part ∷ parts) numbers =
+    option_and_then
+    (λ (value, rest). option_map (λ values. value ∷ values) (values_of parts rest))
+    (front_of part numbers)

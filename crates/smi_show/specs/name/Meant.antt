@@ -1,0 +1,109 @@
+-- What a text means as a name: a relation between the text and its identifier, or its first fault
+-- from the left.
+use Rattle.std.specs.Prelude.{◌≡◌, ◌≢◌, ◌<◌, ◌≤◌, ◌⊎◌, ◌++◌, ℕ, true, false, List, [], ◌∷◌, length}
+use Rattle.std.specs.Prelude.{Option, Some, None, Result, Ok, Err}
+use Rattle.std.specs.Char.{is_ascii_digit}
+use Rattle.snmp_oid.specs.Numeric.{IsNumeral}
+use Rattle.smi_show.specs.index.Pieces.{IsPiece, Piece, counted_text, piece_numbers, plain_number}
+use Rattle.smi_show.specs.index.Pieces.{plain_text, shown_piece}
+use Rattle.smi_show.specs.name.Cut.{module_after, name_parts}
+use Rattle.smi_show.specs.name.Meaning.{Scope, among_roots, anywhere, found_in, in_module}
+use Rattle.smi_show.specs.name.Naming.{Naming}
+use Rattle.smi_show.specs.declared.name.error.NameError.{NameError}
+use Rattle.smi_show.specs.declared.name.error.NameError.TheVariants.{BadIndex, BadNumber, TooLong}
+use Rattle.smi_show.specs.declared.name.error.NameError.TheVariants.{Unknown}
+
+-- ---- a part on its own
+
+-- the part states a number, in decimal digits with leading zeros or not, or a text in quotes
+abbrev pub StatesPiece : (part : List ℕ) → Piece → Type 0
+StatesPiece part (plain_number n) = IsNumeral part n
+StatesPiece part (counted_text octets) =
+    (part ≡ shown_piece (counted_text octets)) × IsPiece (counted_text octets)
+StatesPiece part (plain_text octets) =
+    (part ≡ shown_piece (plain_text octets)) × IsPiece (plain_text octets)
+
+-- a part that begins neither with a digit nor with a quote is a label
+abbrev pub IsLabel : List ℕ → Type 0
+IsLabel [] = ⊥
+IsLabel (octet ∷ more) = (is_ascii_digit octet ≡ false) × (octet ≢ 34) × (octet ≢ 39)
+
+-- the part is empty, or begins with a digit and states no number
+abbrev pub IsBadNumber : List ℕ → Type 0
+IsBadNumber [] = Unit {0}
+IsBadNumber (octet ∷ more) =
+    (is_ascii_digit octet ≡ true) × ((n : ℕ) → IsNumeral (octet ∷ more) n → ⊥)
+
+-- the part begins with a quote and states no text
+abbrev pub IsBadIndex : List ℕ → Type 0
+IsBadIndex [] = ⊥
+IsBadIndex (octet ∷ more) =
+    ((octet ≡ 34) ⊎ (octet ≡ 39)) × ((piece : Piece) → StatesPiece (octet ∷ more) piece → ⊥)
+
+-- ---- a part after others
+
+-- these numbers, which are at most 128
+abbrev pub IsRoomFor : List ℕ → Result (List ℕ) NameError → Type 0
+IsRoomFor o result =
+    ((length o ≤ 128) × (result ≡ Ok o)) ⊎ ((128 < length o) × (result ≡ Err TooLong))
+
+-- what a look-up found
+abbrev pub IsFound : Option (List ℕ) → Result (List ℕ) NameError → Type 0
+IsFound None result = result ≡ Err Unknown
+IsFound (Some o) result = result ≡ Ok o
+
+-- What a part means after the identifier so far, where labels are looked up in this way: the
+-- numbers that it states after those so far, what its label stands for, or a fault of its own.
+abbrev pub PartMeans : (look_up : List ℕ → Option (List ℕ)) → (so_far part : List ℕ)
+    → Result (List ℕ) NameError → Type 0
+PartMeans look_up so_far part result =
+    ((piece : Piece) × StatesPiece part piece × IsRoomFor (so_far ++ piece_numbers piece) result)
+    ⊎ ((IsLabel part × IsFound (look_up part) result)
+    ⊎ ((IsBadNumber part × (result ≡ Err BadNumber))
+    ⊎ (IsBadIndex part × (result ≡ Err BadIndex))))
+
+-- What parts mean after the identifier so far, from the left: the first that has a fault decides.
+-- The label of the first is looked up in this way, and that of a later one among the children of
+-- what stands before it.
+abbrev pub PartsMean : Naming → (look_up : List ℕ → Option (List ℕ)) → (so_far : List ℕ)
+    → (parts : List (List ℕ)) → Result (List ℕ) NameError → Type 0
+PartsMean naming look_up so_far [] result = result ≡ Ok so_far
+PartsMean naming look_up so_far (part ∷ more) result =
+    ((next : List ℕ) × PartMeans look_up so_far part (Ok next)
+    × PartsMean naming (naming.child next) next more result)
+    ⊎ ((why : NameError) × PartMeans look_up so_far part (Err why) × (result ≡ Err why))
+
+-- ---- a text
+
+-- The parts of the text stand in `rest`, and the label of the first is looked up in this scope: in
+-- the module before `::`, after a leading dot among the roots, and anywhere otherwise.
+abbrev pub IsScoped : (text : List ℕ) → Scope → (rest : List ℕ) → Type 0
+IsScoped text (in_module home) rest = module_after None text ≡ Some (home, rest)
+IsScoped text among_roots rest = (module_after None text ≡ None) × (text ≡ 46 ∷ rest)
+IsScoped text anywhere rest =
+    (module_after None text ≡ None) × (rest ≡ text) × ((more : List ℕ) → text ≢ 46 ∷ more)
+
+-- whether a module that the scope names is loaded
+abbrev pub ScopeIsLoaded : Naming → Scope → Type 0
+ScopeIsLoaded naming (in_module home) = naming.is_loaded home ≡ true
+ScopeIsLoaded naming _ = Unit {0}
+
+abbrev pub ScopeIsMissing : Naming → Scope → Type 0
+ScopeIsMissing naming (in_module home) = naming.is_loaded home ≡ false
+ScopeIsMissing naming _ = ⊥
+
+-- parts in a scope: the fault of a module that isn't loaded comes first
+abbrev pub ScopeMeans : Naming → Scope → (rest : List ℕ) → Result (List ℕ) NameError → Type 0
+ScopeMeans naming scope rest result =
+    (ScopeIsMissing naming scope × (result ≡ Err Unknown))
+    ⊎ (ScopeIsLoaded naming scope
+    × PartsMean naming (found_in naming scope) [] (name_parts rest) result)
+
+-- The empty text is unknown, a dot alone is the empty identifier, and any other text is its parts
+-- in a scope.
+abbrev pub TextMeans : Naming → (text : List ℕ) → Result (List ℕ) NameError → Type 0
+TextMeans naming text result =
+    ((text ≡ []) × (result ≡ Err Unknown))
+    ⊎ (((text ≡ 46 ∷ []) × (result ≡ Ok []))
+    ⊎ ((text ≢ []) × (text ≢ 46 ∷ []) × ((scope : Scope) × (rest : List ℕ)
+    × IsScoped text scope rest × ScopeMeans naming scope rest result)))

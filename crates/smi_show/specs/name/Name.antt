@@ -1,0 +1,62 @@
+-- The name of an identifier as text.
+use Rattle.std.specs.Prelude.{◌≡◌, ℕ, Bool, ◌⊎◌, ◌==◌, if◌then◌else◌, List, [], ◌∷◌, ◌++◌, length}
+use Rattle.std.specs.Prelude.{take, drop, codes, decimal, Option, Some, None}
+use Rattle.snmp_oid.specs.Numeric.{numeric_text}
+use Rattle.smi_show.specs.index.Pieces.{instance_pieces, shown_pieces}
+use Rattle.smi_show.specs.name.Naming.{Naming, Standing}
+use Rattle.smi_value.specs.declared.letters.letters.NameForm.{NameForm}
+use Rattle.smi_value.specs.declared.letters.letters.NameForm.TheVariants.{
+  Numeric,
+  Full,
+  Label,
+  ModuleLabel,
+}
+
+-- the label with its module, a root's alone
+abbrev pub qualified : Option (List ℕ) → List ℕ → List ℕ
+qualified None label = label
+qualified (Some home) label = home ++ codes "::" ++ label
+
+-- the name of the last number of an identifier: the label if a node stands for the identifier,
+-- otherwise the number
+abbrev pub arc_text : Option Standing → List ℕ → ℕ → List ℕ
+arc_text None o n = decimal n
+arc_text (Some node) o n = if node.depth == length o then node.label else decimal n
+
+-- each number after those before it, with a dot before each
+abbrev pub path_text : Naming → List ℕ → List ℕ → List ℕ
+path_text naming before [] = []
+path_text naming before (n ∷ more) =
+    let here = before ++ n ∷ [] in
+    codes "." ++ arc_text (naming.deepest here) here n ++ path_text naming here more
+
+-- the deepest node in this form
+abbrev pub node_text : Naming → NameForm → List ℕ → Standing → List ℕ
+node_text naming Numeric o node = []
+node_text naming Full o node = path_text naming [] (take node.depth o)
+node_text naming Label o node = node.label
+node_text naming ModuleLabel o node = qualified node.home node.label
+
+-- the numbers after the node, by its index unless that is to be shown as numbers
+abbrev pub instance_text : Bool → List ℕ → Standing → List ℕ
+instance_text numeric_index o node =
+    shown_pieces (instance_pieces (if numeric_index then None else node.index) (drop node.depth o))
+
+abbrev pub standing_text : Naming → NameForm → Bool → List ℕ → Option Standing → List ℕ
+standing_text naming form numeric_index o None = numeric_text o
+standing_text naming form numeric_index o (Some node) =
+    node_text naming form o node ++ instance_text numeric_index o node
+
+-- in numbers, or by the deepest node and what follows it; in numbers too if there is no node
+abbrev pub name_text : Naming → NameForm → Bool → List ℕ → List ℕ
+name_text naming Numeric numeric_index o = numeric_text o
+name_text naming Full numeric_index o =
+    standing_text naming Full numeric_index o (naming.deepest o)
+name_text naming Label numeric_index o =
+    standing_text naming Label numeric_index o (naming.deepest o)
+name_text naming ModuleLabel numeric_index o =
+    standing_text naming ModuleLabel numeric_index o (naming.deepest o)
+
+-- the forms whose texts are read back
+abbrev pub ReadsBack : NameForm → Type 0
+ReadsBack form = (form ≡ Numeric) ⊎ (form ≡ ModuleLabel)

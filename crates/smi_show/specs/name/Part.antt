@@ -1,0 +1,30 @@
+-- A part as the code reads it, and a scope as the code has it.
+use Rattle.std.specs.Prelude.{Result, Ok, Err}
+use Rattle.smi_show.specs.index.Pieces as pieces
+use Rattle.smi_show.specs.name.Word.{Word, a_piece, a_label}
+use Rattle.smi_show.specs.name.Meaning as meaning
+use Rattle.smi_show.specs.declared.name.error.NameError.{NameError}
+use Rattle.smi_show.specs.declared.name.word.Part.{Part}
+use Rattle.smi_show.specs.declared.name.word.Part.TheVariants as part
+use Rattle.smi_show.specs.declared.name.word.Piece.{Piece}
+use Rattle.smi_show.specs.declared.name.word.Piece.TheVariants.{Number, Counted, Plain}
+use Rattle.smi_show.specs.declared.name.scope.Scope.{Scope}
+use Rattle.smi_show.specs.declared.name.scope.Scope.TheVariants.{Module, Anywhere, Roots}
+
+abbrev pub piece_in : Piece → pieces.Piece
+piece_in (Number n) = pieces.plain_number n
+piece_in (Counted octets) = pieces.counted_text octets.now
+piece_in (Plain octets) = pieces.plain_text octets.now
+
+abbrev pub word_in : Part → Word
+word_in (part.Piece piece) = a_piece (piece_in piece)
+word_in (part.Label label) = a_label label.now
+
+abbrev pub outcome_in : Result Part NameError → Result Word NameError
+outcome_in (Ok part) = Ok (word_in part)
+outcome_in (Err fault) = Err fault
+
+abbrev pub scope_in : Scope → meaning.Scope
+scope_in (Module home) = meaning.in_module home.now
+scope_in Anywhere = meaning.anywhere
+scope_in Roots = meaning.among_roots

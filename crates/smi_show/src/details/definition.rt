@@ -1,0 +1,59 @@
+//! The clauses of a definition, one per line.
+ghost use Rattle.std.specs.Prelude.{◌≡◌, [], ◌++◌, codes};
+ghost use Rattle.snmp_io.specs.draft.Draft.{Adds};
+ghost use Rattle.smi_show.specs.details.Definition.{clause_text, definition_text, object_type_text};
+ghost use Rattle.smi_show.specs.details.Definition.{status_text, units_clause};
+ghost use Rattle.smi_show.specs.details.Syntax.{syntax_text};
+
+use crate::details::syntax_text;
+use smi_text::trees::{DefKind, ObjectType, Status, Text};
+use snmp_io::draft::Draft;
+
+/// Appends those of SYNTAX, UNITS, MAX-ACCESS, STATUS and DESCRIPTION that a definition has (RFC
+/// 2578, sections 5 to 8), one per line. A definition whose clauses are raw has none.
+pub fn definition_text(kind: &DefKind, draft: &mut Draft)
+    ensures { Adds draft.old (definition_text kind.now) draft.new }
+{
+    match kind {
+        DefKind::ModuleIdentity(d) => clause_text(b"DESCRIPTION", &d.description, draft),
+        DefKind::ObjectIdentity(d) => status_text(&d.status, draft),
+        DefKind::ObjectType(d) => object_type_text(d, draft),
+        DefKind::NotificationType(d) => status_text(&d.status, draft),
+        DefKind::ObjectGroup(d) => status_text(&d.status, draft),
+        DefKind::NotificationGroup(d) => status_text(&d.status, draft),
+        _ => draft.octets(b""),
+    }
+}
+
+/// The clauses of an OBJECT-TYPE.
+fn object_type_text(d: &ObjectType, draft: &mut Draft)
+    ensures { Adds draft.old (object_type_text d.now) draft.new }
+{
+    draft.octets(b"  SYNTAX\t");
+    syntax_text(&d.syntax, draft);
+    draft.octets(b"\n");
+    if let Some(units) = &d.units {
+        clause_text(b"UNITS", units, draft);
+    }
+    clause_text(b"MAX-ACCESS", &d.max_access, draft);
+    status_text(&d.status, draft);
+}
+
+/// STATUS and DESCRIPTION.
+fn status_text(status: &Status, draft: &mut Draft)
+    ensures { Adds draft.old (status_text status.now) draft.new }
+{
+    clause_text(b"STATUS", &status.status, draft);
+    clause_text(b"DESCRIPTION", &status.description, draft);
+}
+
+/// One clause.
+fn clause_text(word: &[u8], text: &Text, draft: &mut Draft)
+    ensures { Adds draft.old (clause_text word.now text.now) draft.new }
+{
+    draft.octets(b"  ");
+    draft.octets(word);
+    draft.octets(b"\t");
+    draft.octets(text.as_bytes());
+    draft.octets(b"\n");
+}

@@ -1,0 +1,78 @@
+//! The details of an identifier.
+ghost use Rattle.std.specs.Prelude.{◌≡◌, ◌++◌, [], Some, None, codes};
+ghost use Rattle.std.specs.Option.{option_copied};
+ghost use Rattle.snmp_io.specs.draft.Draft.{Adds};
+ghost use Rattle.smi_show.specs.name.Standing.{standing_of};
+ghost use Rattle.smi_show.specs.details.Detail.{detail_text, node_detail, from_text, kind_text};
+ghost use Rattle.smi_show.specs.details.Detail.{clauses_text};
+
+use crate::details::value::identifier_text;
+use crate::details::{DetailTree, definition_text};
+use smi_text::trees::Def;
+use crate::name::{NameForm, Node, name_text};
+use snmp_oid::Oid;
+use snmp_io::draft::Draft;
+
+/// Appends the details of an identifier: its name, the kind, module and clauses of its deepest
+/// node, and the identifier as a value.
+pub fn detail_text<T: DetailTree>(
+    tree: &T,
+    form: NameForm,
+    numeric_index: bool,
+    oid: &Oid,
+    draft: &mut Draft,
+)
+    ensures { let definition = T.definition_at tree.now oid.now in
+        let text = detail_text (T.naming tree.now) definition form numeric_index oid.now in
+        Adds draft.old text draft.new }
+{
+    name_text(tree, form, numeric_index, oid, draft);
+    draft.octets(b"\n");
+    if let Some(node) = tree.deepest(oid) {
+        node_text(node, tree.definition(oid), draft);
+    }
+    identifier_text(tree, oid, draft);
+}
+
+/// The lines of a node and its definition.
+fn node_text(node: Node<'_>, definition: Option<&Def>, draft: &mut Draft)
+    ensures { let standing = Some (standing_of node.entry) in
+        Adds draft.old (node_detail standing (option_copied definition.entry)) draft.new }
+{
+    draft.octets(node.label);
+    draft.octets(b" ");
+    kind_text(definition, draft);
+    draft.octets(b"\n");
+    from_text(node.home, draft);
+    clauses_text(definition, draft);
+}
+
+/// The module of a node, which a root doesn't have.
+fn from_text(home: Option<&[u8]>, draft: &mut Draft)
+    ensures { Adds draft.old (from_text (option_copied home.entry)) draft.new }
+{
+    if let Some(name) = home {
+        draft.octets(b"  -- FROM\t");
+        draft.octets(name);
+        draft.octets(b"\n");
+    }
+}
+
+/// The clauses of a definition.
+fn clauses_text(definition: Option<&Def>, draft: &mut Draft)
+    ensures { Adds draft.old (clauses_text (option_copied definition.entry)) draft.new }
+{
+    if let Some(found) = definition {
+        definition_text(&found.kind, draft);
+    }
+}
+
+/// What kind of definition a node has; a root is an OBJECT IDENTIFIER.
+fn kind_text(definition: Option<&Def>, draft: &mut Draft)
+    ensures { Adds draft.old (kind_text (option_copied definition.entry)) draft.new }
+{
+    match definition {
+        Some(found) => draft.octets(found.kind_words()),
+        None => draft.octets(b"OBJECT IDENTIFIER"),
+    }
+}

@@ -1,0 +1,13 @@
+//! The instance part of a name: which numbers the index of a row takes, what values they stand for,
+//! and their text.
+//!
+//! The names of managed objects build on this crate; a tree of modules says which parts an index
+//! has.
+
+mod index;
+mod part;
+mod shown;
+
+pub use index::{one_list, reads};
+pub use part::{Extent, IndexPart, one_reading, read_part};
+pub use shown::{index_text, numbers_text, pieces_stand_for_numbers};

@@ -1,0 +1,133 @@
+//! One part of an index, read from the front of a list of numbers.
+ghost use Rattle.std.specs.Prelude.{◌≡◌, ℕ, ◌≤◌, ◌<◌, ◌↔◌, List, ◌++◌, length, Some, None};
+ghost use Rattle.std.specs.Prelude.{option_map, IfSome, IfNone, IsTrue};
+ghost use Rattle.std.specs.List.{list_all};
+ghost use Rattle.smi_show.specs.index.Index.{ReadsValue, is_octet};
+ghost use Rattle.smi_show.specs.index.Reading.{front_and_rest, counted, remaining, of_octets, in_extent};
+ghost use Rattle.smi_show.specs.index.Reading.{front_of};
+
+/// What decides how many numbers a string of an index has (RFC 2578, section 7.7).
+#[derive(Clone, Copy, Debug, PartialEq, Eq)]
+pub enum Extent {
+    /// The number that its SIZE fixes.
+    Fixed(u64),
+    /// The number that stands before it as its length.
+    Counted,
+    /// All that remain, at least one: the index says IMPLIED.
+    Implied,
+}
+
+/// A part of an index, by the base of the object's type (RFC 2578, section 7.7).
+#[derive(Clone, Copy, Debug, PartialEq, Eq)]
+pub enum IndexPart {
+    /// INTEGER, Counter32, Gauge32, Unsigned32 or TimeTicks: one number.
+    Number,
+    /// IpAddress: four numbers up to 255.
+    Address,
+    /// OCTET STRING: numbers up to 255.
+    Text(Extent),
+    /// BITS or Opaque: numbers up to 255.
+    Octets(Extent),
+    /// OBJECT IDENTIFIER: a length, and then this many numbers.
+    Identifier,
+    /// OBJECT IDENTIFIER after IMPLIED: all numbers that remain, at least one.
+    ImpliedIdentifier,
+}
+
+/// The value of a part at the front of the numbers, without its length, and the numbers after it;
+/// None if no encoding of a value stands there (RFC 2578, section 7.7).
+pub fn read_part<'a>(part: IndexPart, numbers: &'a [u32]) -> Option<(&'a [u32], &'a [u32])>
+    ensures reads { option_map (λ r. (r.0.now, r.1.now)) result ≡ front_of part numbers.now }
+    ensures found { IfSome result (λ r. ReadsValue part numbers.now r.0.now r.1.now) }
+    ensures none { IfNone result ((value rest : List ℕ)
+        → ¬ ReadsValue part numbers.now value rest) }
+{
+    let read = front(part, numbers);
+    read
+}
+
+/// What `read_part` returns, by the cases of the part.
+fn front<'a>(part: IndexPart, numbers: &'a [u32]) -> Option<(&'a [u32], &'a [u32])>
+    ensures { option_map (λ r. (r.0.now, r.1.now)) result ≡ front_of part numbers.now }
+{
+    match part {
+        IndexPart::Number => split(numbers, 1),
+        IndexPart::Address => octets_alone(split(numbers, 4)),
+        IndexPart::Text(extent) | IndexPart::Octets(extent) => {
+            octets_alone(split_extent(extent, numbers))
+        }
+        IndexPart::Identifier => split_counted(numbers),
+        IndexPart::ImpliedIdentifier => split_all(numbers),
+    }
+}
+
+/// Numbers begin with the encoding of at most one value, and what remains after it is one list.
+///
+/// A law: the call does nothing, and its caller may use what it ensures.
+#[inline]
+pub fn one_reading()
+    ensures { (part : IndexPart) (numbers value rest other left : List ℕ)
+        → ReadsValue part numbers value rest → ReadsValue part numbers other left
+        → (value ≡ other) × (rest ≡ left) }
+{}
+
+/// The numbers of a string and those after it.
+fn split_extent<'a>(extent: Extent, numbers: &'a [u32]) -> Option<(&'a [u32], &'a [u32])>
+    ensures { option_map (λ r. (r.0.now, r.1.now)) result ≡ in_extent extent numbers.now }
+{
+    match extent {
+        Extent::Fixed(size) => split(numbers, size),
+        Extent::Counted => split_counted(numbers),
+        Extent::Implied => split_all(numbers),
+    }
+}
+
+/// The first `size` numbers and the rest, None if there are fewer.
+fn split<'a>(numbers: &'a [u32], size: u64) -> Option<(&'a [u32], &'a [u32])>
+    ensures { option_map (λ r. (r.0.now, r.1.now)) result ≡ front_and_rest size numbers.now }
+{
+    if size <= numbers.len() as u64 {
+        Some(numbers.split_at(size as usize))
+    } else {
+        None
+    }
+}
+
+/// The numbers that a length at the front counts, and the rest.
+fn split_counted<'a>(numbers: &'a [u32]) -> Option<(&'a [u32], &'a [u32])>
+    ensures { option_map (λ r. (r.0.now, r.1.now)) result ≡ counted numbers.now }
+{
+    match numbers {
+        [length, after @ ..] => split(after, u64::from(*length)),
+        [] => None,
+    }
+}
+
+/// All numbers, of which there is at least one, and none after them.
+fn split_all<'a>(numbers: &'a [u32]) -> Option<(&'a [u32], &'a [u32])>
+    ensures { option_map (λ r. (r.0.now, r.1.now)) result ≡ remaining numbers.now }
+{
+    if numbers.is_empty() {
+        None
+    } else {
+        Some(numbers.split_at(numbers.len()))
+    }
+}
+
+/// What was read, if its value has only numbers up to 255.
+fn octets_alone<'a>(read: Option<(&'a [u32], &'a [u32])>) -> Option<(&'a [u32], &'a [u32])>
+    ensures { option_map (λ r. (r.0.now, r.1.now)) result
+        ≡ of_octets (option_map (λ r. (r.0.now, r.1.now)) read.entry) }
+{
+    match read {
+        Some((value, rest)) if are_octets(value) => Some((value, rest)),
+        _ => None,
+    }
+}
+
+/// Whether each number is at most 255.
+fn are_octets(numbers: &[u32]) -> bool
+    ensures { result ≡ list_all is_octet numbers.now }
+{
+    numbers.iter().all(|number| *number <= 255)
+}

@@ -1,0 +1,22 @@
+//! Names of managed objects: the identifier that a name means, and the name of an identifier, over
+//! any tree of nodes.
+//!
+//! Depends on the index of rows; the tree of loaded modules says which nodes there are.
+
+mod cut;
+mod error;
+mod laws;
+mod meaning;
+mod name;
+mod part;
+mod piece;
+mod scope;
+mod tree;
+mod word;
+
+pub use error::NameError;
+pub use laws::one_meaning;
+pub use meaning::resolve;
+pub use name::name_text;
+pub use smi_value::letters::NameForm;
+pub use tree::{NameTree, Node};

@@ -1,0 +1,65 @@
+//! A name cut at dots and at `::` outside quotes.
+ghost use Rattle.std.specs.Prelude.{◌≡◌, ◌∷◌, ◌++◌, ◌<◌, IfSome, None, length, option_map};
+ghost use Rattle.smi_show.specs.name.Cut.{name_parts, module_after, open_after, is_double_colon};
+ghost use Rattle.std.specs.Prelude.{◌&&◌};
+ghost use Rattle.smi_show.specs.name.Cut.{is_unquoted};
+ghost use Rattle.smi_show.specs.name.Left.{parts_left};
+
+/// The first part of a text, and what follows the dot that ends it, None if no dot does.
+pub fn cut_part(text: &[u8]) -> (&[u8], Option<&[u8]>)
+    ensures parts { let left = parts_left (option_map (λ rest. rest.now) result.1) in
+        result.0.now ∷ left ≡ name_parts text.now }
+    ensures shorter { IfSome result.1 (λ rest. length rest.now < length text.now) }
+{
+    let mut quote = None;
+    'octets: for (at, octet) in text.iter().enumerate() {
+        if quote.is_none() && *octet == b'.' {
+            return (&text[..at], Some(&text[at + 1..]));
+        }
+        quote = open_after(quote, *octet);
+    }
+    (text, None)
+}
+
+/// What stands before the first `::` outside quotes, and after it.
+pub fn cut_module(text: &[u8]) -> Option<(&[u8], &[u8])>
+    ensures { option_map (λ r. (r.0.now, r.1.now)) result ≡ module_after None text.now }
+{
+    let mut quote = None;
+    'octets: for (at, octet) in text.iter().enumerate() {
+        if ends_module(quote, &text[at..]) {
+            return Some((&text[..at], &text[at + 2..]));
+        }
+        quote = open_after(quote, *octet);
+    }
+    None
+}
+
+/// Whether `::` stands at the front, outside quotes.
+fn ends_module(before: Option<u8>, text: &[u8]) -> bool
+    ensures { result ≡ (is_unquoted before && is_double_colon text.now) }
+{
+    before.is_none() && is_double_colon(text)
+}
+
+/// Whether `::` stands at the front.
+fn is_double_colon(text: &[u8]) -> bool
+    ensures { result ≡ is_double_colon text.now }
+{
+    match text {
+        [first, second, ..] => *first == b':' && *second == b':',
+        _ => false,
+    }
+}
+
+/// The quote that is open after one more octet.
+fn open_after(before: Option<u8>, octet: u8) -> Option<u8>
+    ensures { result ≡ open_after before octet }
+{
+    match before {
+        None if octet == b'"' || octet == b'\'' => Some(octet),
+        None => None,
+        Some(quote) if octet == quote => None,
+        Some(quote) => Some(quote),
+    }
+}

@@ -1,0 +1,82 @@
+//! Reads a part of a name on its own.
+ghost use Rattle.std.specs.Prelude.{◌≡◌, ◌≢◌, ◌<◌, ℕ, [], length, option_map, slice_index, Some};
+ghost use Rattle.std.specs.Prelude.{None};
+ghost use Rattle.std.specs.Prelude.{◌∷◌, IfNone, IfSome};
+ghost use Rattle.std.specs.Option.{option_copied};
+ghost use Rattle.std.specs.List.{list_all};
+ghost use Rattle.smi_show.specs.index.Pieces.{is_quotable};
+ghost use Rattle.smi_show.specs.name.Word.{numeral_of, quoted_in, word_of};
+ghost use Rattle.smi_show.specs.name.Part.{outcome_in};
+
+use crate::name::NameError;
+use crate::name::word::{Part, Piece};
+use snmp_oid::parse_numeric;
+
+/// What a part says: a number, a text in quotes, or a label; or its own fault.
+pub fn read_part(part: &[u8]) -> Result<Part<'_>, NameError>
+    ensures { outcome_in result ≡ word_of part.now }
+{
+    match part {
+        [] => Err(NameError::BadNumber),
+        [b'0'..=b'9', ..] => match numeral(part) {
+            Some(number) => Ok(Part::Piece(Piece::Number(number))),
+            None => Err(NameError::BadNumber),
+        },
+        [b'"', rest @ ..] => match quoted(b'"', rest) {
+            Some(octets) => Ok(Part::Piece(Piece::Counted(octets))),
+            None => Err(NameError::BadIndex),
+        },
+        [b'\'', rest @ ..] => match quoted(b'\'', rest) {
+            Some(octets) if !octets.is_empty() => Ok(Part::Piece(Piece::Plain(octets))),
+            _ => Err(NameError::BadIndex),
+        },
+        _ => Ok(Part::Label(part)),
+    }
+}
+
+/// The number of 32 bits that decimal digits stand for.
+fn numeral(part: &[u8]) -> Option<u32>
+    requires some { part.now ≢ [] }
+    requires dotless { slice_index part.now 0 ≢ 46 }
+    ensures { result ≡ numeral_of part.now }
+{
+    match parse_numeric(part) {
+        Ok(oid) => only_number(oid.as_slice()),
+        Err(_) => None,
+    }
+}
+
+/// The number, if there is just one.
+fn only_number(numbers: &[u32]) -> Option<u32>
+    ensures found { IfSome result (λ n. numbers.now ≡ n ∷ []) }
+    ensures none { IfNone result (length numbers.now ≢ 1) }
+{
+    match numbers {
+        [number] => Some(*number),
+        _ => None,
+    }
+}
+
+/// The octets before the quote that ends a text, where each may stand between quotes.
+fn quoted(quote: u8, rest: &[u8]) -> Option<&[u8]>
+    ensures { option_map (λ octets. octets.now) result ≡ quoted_in quote rest.now }
+{
+    match rest {
+        [octets @ .., last] if *last == quote && are_quotable(octets) => Some(octets),
+        _ => None,
+    }
+}
+
+/// Whether the octets may stand between quotes.
+fn are_quotable(octets: &[u8]) -> bool
+    ensures { result ≡ list_all is_quotable octets.now }
+{
+    octets.iter().all(|octet| is_quotable(*octet))
+}
+
+/// Whether the octet may stand between quotes: printable, and neither a quote nor a backslash.
+fn is_quotable(octet: u8) -> bool
+    ensures { result ≡ is_quotable octet }
+{
+    32 <= octet && octet <= 126 && !(octet == 34 || octet == 39 || octet == 92)
+}

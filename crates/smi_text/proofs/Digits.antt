@@ -1,0 +1,86 @@
+-- What digits write, read from the front.
+use Rattle.std.proofs.Common.{
+  ◌≡◌,
+  ℕ,
+  suc,
+  ◌+◌,
+  ◌*◌,
+  ◌^◌,
+  ◌<◌,
+  ◌≤◌,
+  List,
+  [],
+  ◌∷◌,
+  length,
+  get_or,
+  drop,
+  refl,
+  sym,
+  ◌∙◌,
+  ap,
+  arith,
+  drop-cons,
+  add-one,
+  nat_le,
+  true,
+  false,
+}
+use Rattle.std.specs.Prelude.{Some, None}
+use Rattle.std.proofs.lemmas.List.{drop_all}
+use Rattle.std.proofs.Math.Nat.{le-mul_of_pos_right, one-le-pow, mul_comm, mul_assoc, mul-one, pow-zero, pow-succ'}
+use Rattle.smi_text.specs.trees.Number.{digit_value, number_value, up_to}
+
+-- what digits write after those that wrote n
+abbrev pub worth : ℕ → ℕ → List ℕ → ℕ
+worth base n cs = n * base ^ length cs + number_value base cs
+
+add-mul : (a b c : ℕ) → (a + b) * c ≡ a * c + b * c
+add-mul a b c = grind arith
+
+pub worth-digit : (base n c : ℕ) (cs : List ℕ) → worth base n (c ∷ cs) ≡ worth base (base * n + digit_value c) cs
+unfolding number_value
+worth-digit base n c cs =
+    let power : base ^ length (c ∷ cs) ≡ base * base ^ length cs = pow-succ' base (length cs) in
+    let first : n * (base * base ^ length cs) ≡ (base * n) * base ^ length cs = sym (mul_assoc n base (base ^ length cs))
+    ∙ ap (λ m. m * base ^ length cs) (mul_comm n base) in
+    let both = add-mul (base * n) (digit_value c) (base ^ length cs) in
+    let next : n * base ^ length (c ∷ cs) ≡ (base * n) * base ^ length cs = ap (λ m. n * m) power ∙ first in
+    omega (arith, both, next)
+
+-- more digits write no smaller number
+pub worth-grows : (base n : ℕ) (cs : List ℕ) → 0 < base → n ≤ worth base n cs
+worth-grows base n cs h =
+    let least : n ≤ n * base ^ length cs = le-mul_of_pos_right n (one-le-pow (length cs) base h) in
+    omega (arith, least)
+
+-- one digit more
+pub worth-step : (base n i : ℕ) (cs : List ℕ) → i < length cs → worth base n (drop i cs) ≡ worth base (base * n + digit_value (get_or cs i 0)) (drop (i + 1) cs)
+worth-step base n i cs h = rw (add-one, drop-cons cs i 0) (worth-digit base n (get_or cs i 0) (drop (suc i) cs))
+
+above : (v most : ℕ) → most < v → nat_le v most ≡ false
+above v most h = grind arith
+
+-- where the digits so far are worth too much, all of them are
+pub worth-above : (base n i most : ℕ) (cs : List ℕ) → 0 < base → i < length cs → worth base n (drop i cs) ≡ number_value base cs
+    → most < base * n + digit_value (get_or cs i 0) → None ≡ up_to most (number_value base cs)
+worth-above base n i most cs pos h e over =
+    let grown = worth-grows base (base * n + digit_value (get_or cs i 0)) (drop (i + 1) cs) pos in
+    let step = worth-step base n i cs h in
+    rw (above (number_value base cs) most (omega (arith, grown, step, e))) refl
+
+nothing-more : (base n : ℕ) → worth base n [] ≡ n
+unfolding number_value
+nothing-more base n = let one : n * base ^ 0 ≡ n = ap (λ m. n * m) (pow-zero base) ∙ mul-one n in omega (arith, one)
+
+pub worth-end : (base n i : ℕ) (cs : List ℕ) → length cs ≤ i → worth base n (drop i cs) ≡ n
+unfolding number_value
+worth-end base n i cs h = rw (drop_all i cs h) (nothing-more base n)
+
+below : (v most : ℕ) → v ≤ most → nat_le v most ≡ true
+below v most h = grind arith
+
+pub value-within : (v most : ℕ) → v ≤ most → Some v ≡ up_to most v
+value-within v most h = rw (below v most h) refl
+
+pub value-beyond : (v most : ℕ) → most < v → None ≡ up_to most v
+value-beyond v most h = rw (above v most h) refl

@@ -1,0 +1,185 @@
+-- The computed items are those that `Lexes` says, and no others are.
+use Rattle.std.proofs.Common.{
+  ◌≡◌,
+  ℕ,
+  zero,
+  suc,
+  ◌+◌,
+  ◌-◌,
+  ◌<◌,
+  ◌≤◌,
+  cond,
+  Option,
+  Some,
+  None,
+  Ok,
+  List,
+  [],
+  ◌∷◌,
+  ◌++◌,
+  length,
+  take,
+  drop,
+  refl,
+  sym,
+  ap,
+  ◌∙◌,
+  subst,
+  ⊎_elim,
+  arith,
+  length-append,
+  length-take-le,
+  length-drop,
+  append_assoc,
+  slice_range,
+}
+use Rattle.std.proofs.lemmas.Bool.{cases_lt}
+use Rattle.std.proofs.lemmas.List.{take_all, take-append-drop}
+use Rattle.std.proofs.Math.Seq.{drop-append_seam}
+use Rattle.std.proofs.lemmas.List.Sums.{sum_by-append}
+use Rattle.smi_text.specs.lexer.Token.{Item, Lexeme, tokens_of}
+use Rattle.smi_text.specs.lexer.Lexeme.{Part, gap, is_newline, lexeme}
+use Rattle.smi_text.specs.lexer.Lexes.{AreInOrder, IsLongest, Lexes, breaks, ends, gives, lexeme_behind, passes}
+use Rattle.smi_text.specs.lexer.Reading.{IsPartFront, items_at, longest_front, newlines, part_of, part_or_shorter}
+use Rattle.smi_text.proofs.ItemsLemmas.{front_some, items-front, items-none, items-nothing}
+use Rattle.smi_text.proofs.PartLaws.{is_part, part_is}
+use Rattle.smi_text.proofs.Parts.{none_some}
+
+-- ---- the longest front, by the relation and by the reading
+
+none_unless : (r : Option Part) → ((part : Part) → r ≡ Some part → ⊥) → r ≡ None
+none_unless None h = refl
+none_unless (Some part) h = absurd (h part refl)
+
+longest-front : (part : Part) (n : ℕ) (text : List ℕ) → IsPartFront part_of text part n → IsLongest part n text
+longest-front part n text front = record {
+  within = front.within;
+  is_one = part_is (take n text) part front.reads;
+  longest = λ other m above within h. none_some other (sym (front.longest m above within) ∙ is_part other (take m text) h);
+}
+
+front-longest : (part : Part) (n : ℕ) (text : List ℕ) → IsLongest part n text → IsPartFront part_of text part n
+front-longest part n text longest = record {
+  within = longest.within;
+  reads = is_part part (take n text) longest.is_one;
+  longest = λ m above within. none_unless (part_of (take m text)) (λ other h. longest.longest other m above within (part_is (take m text) other h));
+}
+
+-- what the search for the longest front finds
+abbrev Finds : ℕ → List ℕ → Option (Part × ℕ) → Type 0
+Finds n text None = (m : ℕ) → m ≤ n → part_of (take m text) ≡ None
+Finds n text (Some front) = (front.1 ≤ n) × (part_of (take front.1 text) ≡ Some front.0) × ((m : ℕ) → front.1 < m → m ≤ n → part_of (take m text) ≡ None)
+
+finds_step : (n : ℕ) (text : List ℕ) (r : Option Part) (found : Option (Part × ℕ)) → part_of (take (suc n) text) ≡ r → Finds n text found
+    → Finds (suc n) text (part_or_shorter (suc n) r found)
+finds_step n text (Some part) found is below = (omega arith, is, λ m above within. absurd (omega arith))
+finds_step n text None None is below = λ m within. ⊎_elim (λ here. ap (λ k. part_of (take k text)) (let e : m ≡ suc n = omega arith in e)
+    ∙ is) (λ shorter. below m shorter) (cases_lt n m)
+finds_step n text None (Some front) is below = (
+  omega (arith, below.0),
+  below.1,
+  λ m above within. ⊎_elim (λ here. ap (λ k. part_of (take k text)) (let e : m ≡ suc n = omega arith in e)
+      ∙ is) (λ shorter. below.2 m above shorter) (cases_lt n m),
+)
+
+finds : (n : ℕ) (text : List ℕ) → Finds n text (longest_front n text)
+unfolding part_of
+finds zero text = λ m within. let e : m ≡ 0 = omega arith in ap (λ k. part_of (take k text)) e
+finds (suc n) text = finds_step n text (part_of (take (suc n) text)) (longest_front n text) refl (finds n text)
+
+-- ---- places
+
+-- behind a front of n octets
+behind : (before text : List ℕ) (n : ℕ) → n ≤ length text
+    → items_at 0 (length (before ++ take n text)) (newlines (before ++ take n text)) (drop n text) ≡ items_at 0 (length before + n)
+    (newlines before + newlines (take n text)) (drop n text)
+behind before text n within =
+    ap (λ at. items_at 0 at (newlines (before ++ take n text)) (drop n text)) (length-append before (take n text)
+    ∙ ap (λ k. length before + k) (length-take-le n text within))
+    ∙ ap (λ lines. items_at 0 (length before + n) lines (drop n text)) (sum_by-append (λ c. cond (is_newline c) 1 0) before (take n text))
+
+-- no front at all is a part
+none_of : (text : List ℕ) → Finds (length text) text None → (m : ℕ) → part_of (take m text) ≡ None
+none_of text none m = ⊎_elim
+    (λ longer. let past : length text ≤ m = omega arith in ap part_of (take_all m text past ∙ sym (take_all (length text) text (omega arith)))
+    ∙ none (length text) (omega arith))
+    (λ within. none m within) (cases_lt (length text) m)
+
+-- ---- the items
+
+-- a text has the items that are computed
+pub lexes : (n : ℕ) (before text : List ℕ) → length text ≤ n → Lexes before text (items_at 0 (length before) (newlines before) text)
+lexes n before [] within = subst (Lexes before []) (sym (items-nothing (length before) (newlines before))) ends
+lexes zero before (c ∷ cs) within = absurd (omega arith)
+lexes (suc n) before (c ∷ cs) within = by_front (longest_front (length (c ∷ cs)) (c ∷ cs)) (finds (length (c ∷ cs)) (c ∷ cs)) (lexes n)
+  where
+    by_part : (part : Part) (k : ℕ) → IsPartFront part_of (c ∷ cs) part k
+        → Lexes (before ++ take k (c ∷ cs)) (drop k (c ∷ cs)) (items_at 0 (length (before ++ take k (c ∷ cs))) (newlines (before ++ take k (c ∷ cs))) (drop k
+        (c ∷ cs)))
+        → Lexes before (c ∷ cs) (items_at 0 (length before) (newlines before) (c ∷ cs))
+    by_part gap k front rest =
+        subst (Lexes before (c ∷ cs)) (behind before (c ∷ cs) k front.within ∙ sym (items-front (c ∷ cs) gap k (length before) (newlines before) front))
+        (passes k (longest-front gap k (c ∷ cs) front) rest)
+    by_part (lexeme kind) k front rest =
+        subst (Lexes before (c ∷ cs))
+        (ap (λ items. Ok (lexeme_behind before kind (take k (c ∷ cs))) ∷ items) (behind before (c ∷ cs) k front.within)
+        ∙ sym (items-front (c ∷ cs) (lexeme kind) k (length before) (newlines before) front))
+        (gives kind k (longest-front (lexeme kind) k (c ∷ cs) front) rest)
+
+    by_front : (found : Option (Part × ℕ)) → Finds (length (c ∷ cs)) (c ∷ cs) found
+        → ((before text : List ℕ) → length text ≤ n → Lexes before text (items_at 0 (length before) (newlines before) text))
+        → Lexes before (c ∷ cs) (items_at 0 (length before) (newlines before) (c ∷ cs))
+    by_front None none below =
+        let all = none_of (c ∷ cs) none in
+        subst (Lexes before (c ∷ cs)) (sym (items-none c cs (length before) (newlines before) all))
+        (breaks c cs (λ part m h. none_some part (sym (all m) ∙ is_part part (take m (c ∷ cs)) h)))
+    by_front (Some found) is below =
+        let front : IsPartFront part_of (c ∷ cs) found.0 found.1 = record { within = is.0; reads = is.1; longest = is.2 } in
+        let some : 0 < found.1 = front_some (c ∷ cs) found.0 found.1 front in
+        by_part found.0 found.1 front (below (before ++ take found.1 (c ∷ cs)) (drop found.1 (c ∷ cs)) (omega (arith, length-drop found.1 (c ∷ cs))))
+
+-- and no others
+pub sole_items : {before text : List ℕ} {items : List Item} → Lexes before text items → items ≡ items_at 0 (length before) (newlines before) text
+sole_items (ends {before}) = sym (items-nothing (length before) (newlines before))
+sole_items (passes {before} {text} {items} n longest rest) =
+    sole_items rest ∙ behind before text n longest.within ∙ sym (items-front text gap n (length before) (newlines before) (front-longest gap n text longest))
+sole_items (gives {before} {text} {items} kind n longest rest) =
+    ap (λ more. Ok (lexeme_behind before kind (take n text)) ∷ more) (sole_items rest ∙ behind before text n longest.within)
+    ∙ sym (items-front text (lexeme kind) n (length before) (newlines before) (front-longest (lexeme kind) n text longest))
+sole_items (breaks {before} c cs none) =
+    sym (items-none c cs (length before) (newlines before) (λ m. none_unless (part_of (take m (c ∷ cs))) (λ part h. none part m (part_is (take m
+    (c ∷ cs)) part h))))
+
+pub one_list : (before text : List ℕ) (xs ys : List Item) → Lexes before text xs → Lexes before text ys → xs ≡ ys
+one_list before text xs ys first second = sole_items first ∙ sym (sole_items second)
+
+-- ---- spans
+
+earlier : (source : List ℕ) (low high : ℕ) (tokens : List Lexeme) → low ≤ high → AreInOrder source high tokens → AreInOrder source low tokens
+earlier source low high [] below h = tt
+earlier source low high (t ∷ ts) below h = (omega (arith, h.0), h.1, h.2, h.3, h.4)
+
+-- the octets of a span are those behind what stands before it
+span_of : (before text : List ℕ) (n : ℕ) → n ≤ length text → take n text ≡ slice_range (before ++ text) (length before) (length before + length (take n text))
+span_of before text n within =
+    let len : (length before + length (take n text)) - length before ≡ n = omega (arith, length-take-le n text within) in
+    sym (ap (λ s. take ((length before + length (take n text)) - length before) s) (drop-append_seam before text) ∙ ap (λ k. take k text) len)
+
+pub in_order : {before text : List ℕ} {items : List Item} → Lexes before text items → AreInOrder (before ++ text) (length before) (tokens_of items)
+in_order ends = tt
+in_order (passes {before} {text} {items} n longest rest) =
+    earlier (before ++ text) (length before) (length (before ++ take n text)) (tokens_of items) (omega (arith, length-append before (take n text)))
+    (subst (λ s. AreInOrder s (length (before ++ take n text)) (tokens_of items)) (append_assoc before (take n text) (drop n text)
+    ∙ ap (λ s. before ++ s) (take-append-drop n text)) (in_order rest))
+in_order (gives {before} {text} {items} kind n longest rest) =
+    let some : 0 < n = front_some text (lexeme kind) n (front-longest (lexeme kind) n text longest) in
+    let len = length-take-le n text longest.within in (
+      omega arith,
+      omega (arith, len),
+      omega (arith, len, longest.within, length-append before text),
+      span_of before text n longest.within,
+      subst (λ at. AreInOrder (before ++ text) at (tokens_of items)) (length-append before (take n text))
+          (subst (λ s. AreInOrder s (length (before ++ take n text)) (tokens_of items)) (append_assoc before (take n text) (drop n text)
+          ∙ ap (λ s. before ++ s) (take-append-drop n text)) (in_order rest)),
+    )
+in_order (breaks c cs none) = tt

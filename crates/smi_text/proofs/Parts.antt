@@ -1,0 +1,321 @@
+-- The parts that the scans find, behind their first octet.
+use Rattle.std.proofs.Common.{
+  ◌≡◌,
+  ℕ,
+  zero,
+  suc,
+  ◌+◌,
+  ◌-◌,
+  ◌<◌,
+  ◌≤◌,
+  Bool,
+  true,
+  false,
+  cond,
+  if◌then◌else◌,
+  not,
+  ◌&&◌,
+  ◌⊎◌,
+  Option,
+  Some,
+  None,
+  List,
+  [],
+  ◌∷◌,
+  ◌++◌,
+  length,
+  get_or,
+  take,
+  drop,
+  refl,
+  sym,
+  ap,
+  ◌∙◌,
+  subst,
+  inl,
+  inr,
+  ⊎_elim,
+  arith,
+  eqb,
+  add-one,
+  length-drop,
+}
+use Rattle.std.specs.List.{list_all}
+use Rattle.std.specs.Bool.{then_some}
+use Rattle.std.proofs.Math.Bool.{and-false, and-true, and_assoc}
+use Rattle.std.proofs.Math.Seq.{take-add}
+use Rattle.std.specs.Option.{option_map}
+use Rattle.std.specs.Char.{is_ascii_hexdigit}
+use Rattle.std.proofs.lemmas.Bool.{cases_lt, false≢true}
+use Rattle.std.proofs.lemmas.List.{drop_all}
+use Rattle.smi_text.specs.declared.lexer.token.TokenKind.{TokenKind}
+use Rattle.smi_text.specs.declared.lexer.token.TokenKind.TheVariants.{Text, Hex, Binary}
+use Rattle.smi_text.specs.lexer.Lexeme.{Part, lexeme, is_binary_digit}
+use Rattle.smi_text.specs.lexer.Reading.{
+  HasNoLexeme,
+  IsFirstPlace,
+  IsLexemeFront,
+  IsLongestPassing,
+  IsPartFront,
+  is_other,
+  is_nothing,
+  is_sole,
+  is_string_rest,
+  is_literal_rest,
+  string_part,
+  literal_part,
+  literal_of,
+  is_hex_letter,
+  is_binary_letter,
+  class_of,
+  part_in,
+  part_of,
+}
+use Rattle.smi_text.proofs.LexerFronts.{rest_at, and_true, longest_behind, goes_on_past}
+
+-- a front that a test decides
+pub part_front : (test : List ℕ → Bool) (reading : List ℕ → Option Part) (part : Part) (text : List ℕ) (n : ℕ)
+    → ((s : List ℕ) → reading s ≡ then_some (test s) part) → IsLongestPassing test text n → IsPartFront reading text part n
+part_front test reading part text n read front = record {
+  within = front.within;
+  reads = read (take n text) ∙ ap (λ b. then_some b part) front.passes;
+  longest = λ m above within. read (take m text) ∙ ap (λ b. then_some b part) (front.longest m above within);
+}
+
+pub none_some : (part : Part) → ◌≡◌ {A = Option Part} None (Some part) → ⊥
+none_some part h = cc
+
+-- no front that a test decides
+pub no_front : (test : List ℕ → Bool) (reading : List ℕ → Option Part) (part : Part) (text : List ℕ)
+    → ((s : List ℕ) → reading s ≡ then_some (test s) part) → ((m : ℕ) → test (take m text) ≡ false) → HasNoLexeme reading text
+no_front test reading part text read fails kind m h = none_some (lexeme kind) (sym (read (take m text) ∙ ap (λ b. then_some b part) (fails m)) ∙ h)
+
+-- each front of octets that pass is such
+pub list_all-take : (p : ℕ → Bool) (m : ℕ) (s : List ℕ) → list_all p s ≡ true → list_all p (take m s) ≡ true
+list_all-take p zero s h = refl
+list_all-take p (suc m) [] h = refl
+list_all-take p (suc m) (c ∷ cs) h =
+    let both = and_true (p c) (list_all p cs) h in
+    ap (λ b. b && list_all p (take m cs)) both.0 ∙ list_all-take p m cs both.1
+
+pub other_not : (octet c : ℕ) → is_other octet c ≡ true → eqb c octet ≡ false
+other_not octet c h = by_test (eqb c octet) h
+  where
+    by_test : (b : Bool) → not b ≡ true → b ≡ false
+    by_test false h = refl
+    by_test true h = absurd (false≢true h)
+
+-- ---- strings
+
+-- an octet other than a quote makes no difference
+pub string_step : (c : ℕ) (s : List ℕ) → is_other 34 c ≡ true → is_string_rest (c ∷ s) ≡ is_string_rest s
+string_step c s h = ap (λ b. cond b (is_nothing s) (is_string_rest s)) (other_not 34 c h)
+
+pub string_open : (s : List ℕ) → list_all (is_other 34) s ≡ true → is_string_rest s ≡ false
+string_open [] h = refl
+string_open (c ∷ cs) h =
+    let both = and_true (is_other 34 c) (list_all (is_other 34) cs) h in
+    string_step c cs both.0 ∙ string_open cs both.1
+
+pub string_none : (text : List ℕ) → IsFirstPlace 34 text None → IsLexemeFront string_part text None
+string_none text h = no_front is_string_rest string_part (lexeme Text) text (λ s. refl) (λ m. string_open (take m text) (list_all-take (is_other 34) m text h))
+
+pub quote_alone : (s : List ℕ) → IsLongestPassing is_string_rest (34 ∷ s) 1
+quote_alone s = record { within = omega arith; passes = refl; longest = more s }
+  where
+    more : (s : List ℕ) (m : ℕ) → 1 < m → m ≤ length (34 ∷ s) → is_string_rest (take m (34 ∷ s)) ≡ false
+    more s zero above within = absurd (omega arith)
+    more s (suc zero) above within = absurd (omega arith)
+    more [] (suc (suc m)) above within = absurd (omega arith)
+    more (c ∷ cs) (suc (suc m)) above within = refl
+
+pub string_some : (text : List ℕ) (i : ℕ) → IsFirstPlace 34 text (Some i) → IsLexemeFront string_part text (Some (Text, i + 1))
+string_some text i h =
+    part_front is_string_rest string_part (lexeme Text) text (i + 1) (λ s. refl)
+    (longest_behind is_string_rest is_string_rest text i 1 (omega (arith, h.0))
+    (goes_on_past is_string_rest (is_other 34) string_step i text (omega (arith, h.0)) h.2)
+    (subst (λ s. IsLongestPassing is_string_rest s 1) (sym (rest_at text i h.0 ∙ ap (λ c. c ∷ drop (i + 1) text) h.1)) (quote_alone (drop (i + 1) text))))
+
+-- ---- literals
+
+-- up to the first quote nothing ends a literal
+pub literal_open : (is_digit is_letter : ℕ → Bool) (s : List ℕ) → list_all (is_other 39) s ≡ true → is_literal_rest is_digit is_letter s ≡ false
+literal_open is_digit is_letter [] h = refl
+literal_open is_digit is_letter (c ∷ cs) h =
+    let both = and_true (is_other 39 c) (list_all (is_other 39) cs) h in
+    ap (λ b. cond b (is_sole is_letter cs) (is_digit c && is_literal_rest is_digit is_letter cs)) (other_not 39 c both.0)
+    ∙ ap (λ b. is_digit c && b) (literal_open is_digit is_letter cs both.1) ∙ and-false (is_digit c)
+
+-- behind the second quote the letter decides
+pub literal_closed : (is_digit is_letter : ℕ → Bool) (digits s : List ℕ) → list_all (is_other 39) digits ≡ true
+    → is_literal_rest is_digit is_letter (digits ++ 39 ∷ s) ≡ (list_all is_digit digits && is_sole is_letter s)
+literal_closed is_digit is_letter [] s h = refl
+literal_closed is_digit is_letter (c ∷ cs) s h =
+    let both = and_true (is_other 39 c) (list_all (is_other 39) cs) h in
+    ap (λ b. cond b (is_sole is_letter (cs ++ 39 ∷ s)) (is_digit c && is_literal_rest is_digit is_letter (cs ++ 39 ∷ s))) (other_not 39 c both.0)
+    ∙ ap (λ b. is_digit c && b) (literal_closed is_digit is_letter cs s both.1)
+    ∙ sym (and_assoc (is_digit c) (list_all is_digit cs) (is_sole is_letter s))
+
+-- what stands behind a literal's digits decides
+abbrev pub literal_behind : List ℕ → List ℕ → Option Part
+literal_behind digits s =
+    if list_all is_ascii_hexdigit digits && is_sole is_hex_letter s then Some (lexeme Hex)
+    else then_some (list_all is_binary_digit digits && is_sole is_binary_letter s) (lexeme Binary)
+
+pub literal_reads : (digits s : List ℕ) → list_all (is_other 39) digits ≡ true → literal_part (digits ++ 39 ∷ s) ≡ literal_behind digits s
+literal_reads digits s h =
+    ap (λ b. if b then Some (lexeme Hex) else then_some (is_literal_rest is_binary_digit is_binary_letter (digits ++ 39 ∷ s)) (lexeme Binary))
+    (literal_closed is_ascii_hexdigit is_hex_letter digits s h)
+    ∙ ap (λ b. if list_all is_ascii_hexdigit digits && is_sole is_hex_letter s then Some (lexeme Hex) else then_some b (lexeme Binary))
+    (literal_closed is_binary_digit is_binary_letter digits s h)
+
+literal_fails : (digits s : List ℕ) → is_sole is_hex_letter s ≡ false → is_sole is_binary_letter s ≡ false → literal_behind digits s ≡ None
+literal_fails digits s hex binary =
+    ap (λ b. if list_all is_ascii_hexdigit digits && b then Some (lexeme Hex) else then_some (list_all is_binary_digit digits && is_sole is_binary_letter s)
+    (lexeme Binary)) hex
+    ∙ ap (λ b. if b then Some (lexeme Hex) else then_some (list_all is_binary_digit digits && is_sole is_binary_letter s) (lexeme Binary)) (and-false
+    (list_all is_ascii_hexdigit digits))
+    ∙ ap (λ b. then_some (list_all is_binary_digit digits && b) (lexeme Binary)) binary
+    ∙ ap (λ b. then_some b (lexeme Binary)) (and-false (list_all is_binary_digit digits))
+
+pub literal_exact : (digits : List ℕ) (letter : ℕ) → literal_behind digits (letter ∷ []) ≡ literal_of digits letter
+literal_exact digits letter =
+    ap (λ b. if list_all is_ascii_hexdigit digits && b then Some (lexeme Hex) else then_some (list_all is_binary_digit digits &&
+    (is_binary_letter letter && true)) (lexeme Binary)) (and-true (is_hex_letter letter))
+    ∙ ap (λ b. if list_all is_ascii_hexdigit digits && is_hex_letter letter then Some (lexeme Hex) else then_some (list_all is_binary_digit digits && b)
+    (lexeme Binary)) (and-true (is_binary_letter letter))
+
+literal_unclosed : (s : List ℕ) → list_all (is_other 39) s ≡ true → literal_part s ≡ None
+literal_unclosed s h =
+    ap (λ b. if b then Some (lexeme Hex) else then_some (is_literal_rest is_binary_digit is_binary_letter s) (lexeme Binary))
+    (literal_open is_ascii_hexdigit is_hex_letter s h)
+    ∙ ap (λ b. then_some b (lexeme Binary)) (literal_open is_binary_digit is_binary_letter s h)
+
+-- a front that ends before the second quote
+literal_short : (m i : ℕ) (text : List ℕ) → m ≤ i → list_all (is_other 39) (take i text) ≡ true → literal_part (take m text) ≡ None
+literal_short m i text within h = literal_unclosed (take m text) (shorter m i text within h)
+  where
+    shorter : (m i : ℕ) (text : List ℕ) → m ≤ i → list_all (is_other 39) (take i text) ≡ true → list_all (is_other 39) (take m text) ≡ true
+    shorter zero i text within h = refl
+    shorter (suc m) zero text within h = absurd (omega arith)
+    shorter (suc m) (suc i) [] within h = refl
+    shorter (suc m) (suc i) (c ∷ cs) within h =
+        let both = and_true (is_other 39 c) (list_all (is_other 39) (take i cs)) h in
+        ap (λ b. b && list_all (is_other 39) (take m cs)) both.0 ∙ shorter m i cs (omega arith) both.1
+
+-- a front that ends behind it
+literal_long : (k i : ℕ) (text : List ℕ) → i < length text → get_or text i 0 ≡ 39 → list_all (is_other 39) (take i text) ≡ true
+    → literal_part (take (i + suc k) text) ≡ literal_behind (take i text) (take k (drop (i + 1) text))
+literal_long k i text here quote h =
+    ap literal_part (take-add i (suc k) text ∙ ap (λ s. take i text ++ take (suc k) s) (rest_at text i here ∙ ap (λ c. c ∷ drop (i + 1) text) quote))
+    ∙ literal_reads (take i text) (take k (drop (i + 1) text)) h
+
+pub literal_none : (text : List ℕ) → IsFirstPlace 39 text None → IsLexemeFront literal_part text None
+literal_none text h kind m is = none_some (lexeme kind) (sym (literal_unclosed (take m text) (list_all-take (is_other 39) m text h)) ∙ is)
+
+-- no letter follows the second quote
+pub literal_ends : (text : List ℕ) (i : ℕ) → IsFirstPlace 39 text (Some i) → i + 1 ≡ length text → IsLexemeFront literal_part text None
+literal_ends text i h last kind m is = none_some (lexeme kind) (sym (fails m (cases_lt i m)) ∙ is)
+  where
+    nothing : (k : ℕ) → literal_behind (take i text) (take k []) ≡ None
+    nothing zero = literal_fails (take i text) [] refl refl
+    nothing (suc k) = literal_fails (take i text) [] refl refl
+
+    fails : (m : ℕ) → (i < m) ⊎ (m ≤ i) → literal_part (take m text) ≡ None
+    fails m (inr short) = literal_short m i text short h.2
+    fails m (inl long) =
+        let place : m ≡ i + suc (m - (i + 1)) = omega arith in
+        let rest : drop (i + 1) text ≡ [] = drop_all (i + 1) text (omega arith) in
+        ap (λ j. literal_part (take j text)) place ∙ literal_long (m - (i + 1)) i text h.0 h.1 h.2
+        ∙ ap (λ s. literal_behind (take i text) (take (m - (i + 1)) s)) rest ∙ nothing (m - (i + 1))
+
+-- the letter decides
+pub literal_front : (text : List ℕ) (i : ℕ) → IsFirstPlace 39 text (Some i) → i + 1 < length text
+    → (found : Option TokenKind) → option_map lexeme found ≡ literal_of (take i text) (get_or text (i + 1) 0)
+    → IsLexemeFront literal_part text (option_map (λ kind. (kind, i + 2)) found)
+literal_front text i h next found kind_is = by_kind found kind_is
+  where
+    letter : drop (i + 1) text ≡ get_or text (i + 1) 0 ∷ drop (i + 2) text
+    letter = rest_at text (i + 1) next ∙ ap (λ m. get_or text (i + 1) 0 ∷ drop m text) (let e : (i + 1) + 1 ≡ i + 2 = omega arith in e)
+
+    long : (k : ℕ) → literal_part (take (i + suc (suc k)) text) ≡ literal_behind (take i text) (get_or text (i + 1) 0 ∷ take k (drop (i + 2) text))
+    long k = literal_long (suc k) i text h.0 h.1 h.2 ∙ ap (λ s. literal_behind (take i text) (take (suc k) s)) letter
+
+    fails_long : (k : ℕ) (s : List ℕ) → 0 < length s → literal_behind (take i text) (get_or text (i + 1) 0 ∷ take (suc k) s) ≡ None
+    fails_long k [] some = absurd (omega arith)
+    fails_long k (d ∷ ds) some = literal_fails (take i text) (get_or text (i + 1) 0 ∷ d ∷ take k ds) (and-false (is_hex_letter (get_or text (i + 1) 0)))
+        (and-false (is_binary_letter (get_or text (i + 1) 0)))
+
+    exact : literal_part (take (i + 2) text) ≡ literal_of (take i text) (get_or text (i + 1) 0)
+    exact = long 0 ∙ literal_exact (take i text) (get_or text (i + 1) 0)
+
+    -- each front is too short, the literal, or too long
+    by_rest : (k : ℕ) (rest : List ℕ) → drop (i + 2) text ≡ rest
+        → (literal_part (take (i + suc (suc (suc k))) text) ≡ None)
+        ⊎ (literal_part (take (i + suc (suc (suc k))) text) ≡ literal_of (take i text) (get_or text (i + 1) 0))
+    by_rest k [] e = inr (long (suc k) ∙ ap (λ s. literal_behind (take i text) (get_or text (i + 1) 0 ∷ take (suc k) s)) e
+        ∙ literal_exact (take i text) (get_or text (i + 1) 0))
+    by_rest k (d ∷ ds) e = inl (long (suc k) ∙ ap (λ s. literal_behind (take i text) (get_or text (i + 1) 0 ∷ take (suc k) s)) e
+        ∙ fails_long k (d ∷ ds) (omega arith))
+
+    behind : (k : ℕ) → (literal_part (take (i + suc k) text) ≡ None) ⊎ (literal_part (take (i + suc k) text) ≡ literal_of (take i text) (get_or text (i + 1) 0))
+    behind zero = inl (literal_long 0 i text h.0 h.1 h.2 ∙ literal_fails (take i text) [] refl refl)
+    behind (suc zero) = inr (long 0 ∙ literal_exact (take i text) (get_or text (i + 1) 0))
+    behind (suc (suc k)) = by_rest k (drop (i + 2) text) refl
+
+    each : (m : ℕ) → (i < m) ⊎ (m ≤ i) → (literal_part (take m text) ≡ None) ⊎ (literal_part (take m text) ≡ literal_of (take i text) (get_or text (i + 1) 0))
+    each m (inr short) = inl (literal_short m i text short h.2)
+    each m (inl long) =
+        let place : i + suc (m - (i + 1)) ≡ m = omega arith in
+        subst (λ j. (literal_part (take j text) ≡ None)
+        ⊎ (literal_part (take j text) ≡ literal_of (take i text) (get_or text (i + 1) 0))) place (behind (m - (i + 1)))
+
+    by_kind : (found : Option TokenKind) → option_map lexeme found ≡ literal_of (take i text) (get_or text (i + 1) 0)
+        → IsLexemeFront literal_part text (option_map (λ kind. (kind, i + 2)) found)
+    by_kind None kind_is = λ kind m is. ⊎_elim (λ none. none_some (lexeme kind) (sym none ∙ is)) (λ same. none_some (lexeme kind) (kind_is ∙ sym same
+        ∙ is)) (each m (cases_lt i m))
+    by_kind (Some kind) kind_is = record {
+      within = omega arith;
+      reads = exact ∙ sym kind_is;
+      longest = λ m above within.
+          let place : m ≡ i + suc (suc (suc (m - (i + 3)))) = omega arith in
+          ap (λ j. literal_part (take j text)) place ∙ long (suc (m - (i + 3)))
+          ∙ fails_long (m - (i + 3)) (drop (i + 2) text) (omega (arith, length-drop (i + 2) text));
+    }
+
+-- ---- with the first octet
+
+-- an octet before a front of octets that a test decides
+pub front_cons : (reading : List ℕ → Option Part) (test : List ℕ → Bool) (part : Part) (c : ℕ) (cs : List ℕ) (n : ℕ)
+    → ((s : List ℕ) → reading (c ∷ s) ≡ then_some (test s) part) → IsLongestPassing test cs n → IsPartFront reading (c ∷ cs) part (n + 1)
+front_cons reading test part c cs n read front = rw (add-one n) (record {
+  within = omega (arith, front.within);
+  reads = read (take n cs) ∙ ap (λ b. then_some b part) front.passes;
+  longest = longer;
+})
+  where
+    longer : (m : ℕ) → suc n < m → m ≤ suc (length cs) → reading (take m (c ∷ cs)) ≡ None
+    longer zero above within = absurd (omega arith)
+    longer (suc m) above within = read (take m cs) ∙ ap (λ b. then_some b part) (front.longest m (omega arith) (omega arith))
+
+pub none_behind_first : (c : ℕ) (cs : List ℕ) → HasNoLexeme (part_in (class_of c)) cs → HasNoLexeme part_of (c ∷ cs)
+unfolding part_of
+none_behind_first c cs none kind zero is = none_some (lexeme kind) is
+none_behind_first c cs none kind (suc m) is = none kind m is
+
+pub front_behind_first : (c : ℕ) (cs : List ℕ) (part : Part) (n : ℕ) → IsPartFront (part_in (class_of c)) cs part n → IsPartFront part_of (c ∷ cs) part (n + 1)
+unfolding part_of
+front_behind_first c cs part n front = rw (add-one n) (record {
+  within = omega (arith, front.within);
+  reads = front.reads;
+  longest = longer;
+})
+  where
+    longer : (m : ℕ) → suc n < m → m ≤ suc (length cs) → part_of (take m (c ∷ cs)) ≡ None
+    longer zero above within = absurd (omega arith)
+    longer (suc m) above within = front.longest m (omega arith) (omega arith)
+
+pub no_lexeme_of_nothing : HasNoLexeme part_of []
+unfolding part_of
+no_lexeme_of_nothing kind zero is = none_some (lexeme kind) is
+no_lexeme_of_nothing kind (suc m) is = none_some (lexeme kind) is

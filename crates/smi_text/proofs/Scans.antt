@@ -1,0 +1,183 @@
+-- Steps and ends of the scans, each by its own test.
+use Rattle.std.proofs.Common.{
+  ◌≡◌,
+  ℕ,
+  zero,
+  suc,
+  ◌+◌,
+  ◌<◌,
+  ◌≤◌,
+  Bool,
+  true,
+  false,
+  cond,
+  ◌&&◌,
+  ◌||◌,
+  ◌⊎◌,
+  List,
+  [],
+  ◌∷◌,
+  length,
+  get_or,
+  take,
+  drop,
+  refl,
+  sym,
+  ap,
+  ◌∙◌,
+  subst,
+  inl,
+  inr,
+  arith,
+  eqb,
+  eq-eqb,
+}
+use Rattle.std.specs.List.{list_all}
+use Rattle.std.proofs.lemmas.Bool.{eqb-true, ne_eqb, cases_lt, false≢true}
+use Rattle.std.proofs.lemmas.List.Folds.{list_all_more}
+use Rattle.std.proofs.lemmas.List.{drop_all}
+use Rattle.smi_text.specs.lexer.Lexeme.{begins, is_hyphen, is_word_octet, is_word_rest}
+use Rattle.smi_text.specs.lexer.Reading.{GoesOn, IsLongestPassing, IsRemarkEnd, is_comment_rest, is_remark_rest}
+use Rattle.smi_text.proofs.LexerFronts.{rest_at, rest_of_two, scan_step, scan_two, scan_stop, longest_behind, goes_on_past}
+
+-- ---- small facts
+
+pub or_true : (b : Bool) → (b || true) ≡ true
+or_true true = refl
+or_true false = refl
+
+pub begins-take : (test : ℕ → Bool) (k : ℕ) (s : List ℕ) → begins test s ≡ false → begins test (take k s) ≡ false
+begins-take test zero s h = refl
+begins-take test (suc k) [] h = refl
+begins-take test (suc k) (c ∷ cs) h = h
+
+-- nothing begins where the text has ended
+pub begins_past : (test : ℕ → Bool) (text : List ℕ) (n : ℕ) → length text ≤ n → begins test (drop n text) ≡ false
+begins_past test text n past = ap (begins test) (drop_all n text past)
+
+pub begins_at : (test : ℕ → Bool) (text : List ℕ) (n : ℕ) → n < length text → begins test (drop n text) ≡ test (get_or text n 0)
+begins_at test text n here = ap (begins test) (rest_at text n here)
+
+-- ---- octets that all pass
+
+pub passing_step : (p : ℕ → Bool) (text : List ℕ) (n : ℕ) → n < length text → p (get_or text n 0) ≡ true
+    → GoesOn (list_all p) text n → GoesOn (list_all p) text (n + 1)
+passing_step p text n here pass = scan_step (list_all p) text n here (λ k. ap (λ b. b && list_all p (take k (drop (n + 1) text))) pass)
+
+pub passing_stop : (p : ℕ → Bool) (text : List ℕ) (n : ℕ) → n < length text → p (get_or text n 0) ≡ false
+    → GoesOn (list_all p) text n → IsLongestPassing (list_all p) text n
+passing_stop p text n here fail = scan_stop (list_all p) text n here refl (λ k. ap (λ b. b && list_all p (take k (drop (n + 1) text))) fail)
+
+-- ---- a hyphen that nothing of this kind follows
+
+pub hyphen_alone : (next : ℕ → Bool) (c k : ℕ) (s : List ℕ) → (c ≡ 45 → begins next s ≡ false) → (is_hyphen c && begins next (take k s)) ≡ false
+hyphen_alone next c k s alone = by_test (is_hyphen c) refl
+  where
+    by_test : (b : Bool) → eqb c 45 ≡ b → (b && begins next (take k s)) ≡ false
+    by_test true is = begins-take next k s (alone (eqb-true c 45 is))
+    by_test false is = refl
+
+-- ---- words
+
+-- a letter, digit or `_`
+pub word_step : (text : List ℕ) (n : ℕ) → n < length text → is_word_octet (get_or text n 0) ≡ true
+    → GoesOn is_word_rest text n → GoesOn is_word_rest text (n + 1)
+word_step text n here pass =
+    let rest = λ (k : ℕ). take k (drop (n + 1) text) in
+    scan_step is_word_rest text n here (λ k. ap (λ b. (b || (is_hyphen (get_or text n 0) && begins is_word_octet (rest k))) && is_word_rest (rest k)) pass)
+
+-- a hyphen, and one of these
+pub hyphen_step : (text : List ℕ) (n : ℕ) → n + 1 < length text → get_or text n 0 ≡ 45 → is_word_octet (get_or text (n + 1) 0) ≡ true
+    → GoesOn is_word_rest text n → GoesOn is_word_rest text (n + 2)
+hyphen_step text n here hyphen pass = scan_two is_word_rest text n here (λ k. both (get_or text n 0) (get_or text (n + 1) 0) (take k (drop
+    (n + 2) text)) hyphen pass)
+  where
+    both : (c d : ℕ) (s : List ℕ) → c ≡ 45 → is_word_octet d ≡ true → is_word_rest (c ∷ d ∷ s) ≡ is_word_rest s
+    both c d s hyphen pass =
+        ap (λ b. (is_word_octet c || (is_hyphen c && b)) && ((b || (is_hyphen d && begins is_word_octet s)) && is_word_rest s)) pass
+        ∙ ap (λ b. (is_word_octet c || (b && true)) && is_word_rest s) (eq-eqb c 45 hyphen)
+        ∙ ap (λ b. b && is_word_rest s) (or_true (is_word_octet c))
+
+pub word_stop : (text : List ℕ) (n : ℕ) → n < length text → is_word_octet (get_or text n 0) ≡ false
+    → (get_or text n 0 ≡ 45 → begins is_word_octet (drop (n + 1) text) ≡ false)
+    → GoesOn is_word_rest text n → IsLongestPassing is_word_rest text n
+word_stop text n here fail next = scan_stop is_word_rest text n here refl (λ k. stops (get_or text n 0) k (drop (n + 1) text) fail next)
+  where
+    stops : (c : ℕ) (k : ℕ) (s : List ℕ) → is_word_octet c ≡ false → (c ≡ 45 → begins is_word_octet s ≡ false) → is_word_rest (c ∷ take k s) ≡ false
+    stops c k s fail next =
+        ap (λ b. (b || (is_hyphen c && begins is_word_octet (take k s))) && is_word_rest (take k s)) fail
+        ∙ ap (λ b. b && is_word_rest (take k s)) (hyphen_alone is_word_octet c k s next)
+
+-- ---- remarks
+
+-- an octet that is no newline and no hyphen before another
+pub remark_step : (text : List ℕ) (n : ℕ) → n < length text → (get_or text n 0 ≡ 10 → ⊥)
+    → (get_or text n 0 ≡ 45 → begins is_hyphen (drop (n + 1) text) ≡ false)
+    → GoesOn is_remark_rest text n → GoesOn is_remark_rest text (n + 1)
+remark_step text n here plain alone = scan_step is_remark_rest text n here (λ k. one (get_or text n 0) k (drop (n + 1) text) plain alone)
+  where
+    one : (c k : ℕ) (s : List ℕ) → (c ≡ 10 → ⊥) → (c ≡ 45 → begins is_hyphen s ≡ false) → is_remark_rest (c ∷ take k s) ≡ is_remark_rest (take k s)
+    one c k s plain alone =
+        ap (λ b. cond b false (cond (is_hyphen c && begins is_hyphen (take k s)) (list_all is_hyphen (take k s)) (is_remark_rest (take k s))))
+        (ne_eqb c 10 plain)
+        ∙ ap (λ b. cond b (list_all is_hyphen (take k s)) (is_remark_rest (take k s))) (hyphen_alone is_hyphen c k s alone)
+
+pub line_ends : (text : List ℕ) (n : ℕ) → n < length text → get_or text n 0 ≡ 10 → IsRemarkEnd (drop n text)
+line_ends text n here newline = subst IsRemarkEnd (sym (rest_at text n here)) (at_newline (get_or text n 0) (drop (n + 1) text) newline)
+  where
+    at_newline : (c : ℕ) (s : List ℕ) → c ≡ 10 → IsRemarkEnd (c ∷ s)
+    at_newline c [] h = h
+    at_newline c (d ∷ ds) h = inl h
+
+pub run_begins : (text : List ℕ) (n : ℕ) → n + 1 < length text → get_or text n 0 ≡ 45 → get_or text (n + 1) 0 ≡ 45 → IsRemarkEnd (drop n text)
+run_begins text n here first second = subst IsRemarkEnd (sym (rest_of_two text n here)) (inr (first, second))
+
+pub text_ends : (text : List ℕ) (n : ℕ) → length text ≤ n → IsRemarkEnd (drop n text)
+text_ends text n past = subst IsRemarkEnd (sym (drop_all n text past)) tt
+
+-- where a remark has ended, a closing run is all that may follow
+pub closing_run : (k : ℕ) (s : List ℕ) → IsRemarkEnd s → is_remark_rest (take k s) ≡ list_all is_hyphen (take k s)
+closing_run zero s h = refl
+closing_run (suc k) [] h = refl
+closing_run (suc zero) (c ∷ []) h = subst (λ d. is_remark_rest (d ∷ []) ≡ list_all is_hyphen (d ∷ [])) (sym h) refl
+closing_run (suc (suc k)) (c ∷ []) h = subst (λ d. is_remark_rest (d ∷ []) ≡ list_all is_hyphen (d ∷ [])) (sym h) refl
+closing_run (suc k) (c ∷ d ∷ cs) (inl newline) = subst (λ e. is_remark_rest (e ∷ take k (d ∷ cs)) ≡ list_all is_hyphen (e ∷ take k (d ∷ cs))) (sym newline) refl
+closing_run (suc zero) (c ∷ d ∷ cs) (inr run) = subst (λ e. is_remark_rest (e ∷ []) ≡ list_all is_hyphen (e ∷ [])) (sym run.0) refl
+closing_run (suc (suc k)) (c ∷ d ∷ cs) (inr run) =
+    subst (λ e. is_remark_rest (e ∷ d ∷ take k cs) ≡ list_all is_hyphen (e ∷ d ∷ take k cs)) (sym run.0)
+    (subst (λ e. is_remark_rest (45 ∷ e ∷ take k cs) ≡ list_all is_hyphen (45 ∷ e ∷ take k cs)) (sym run.1) refl)
+
+-- ---- comments
+
+-- behind the opening run the remark begins
+pub remark_begins : (k : ℕ) (s : List ℕ) → begins is_hyphen s ≡ false → is_comment_rest (take k s) ≡ is_remark_rest (take k s)
+remark_begins zero s h = refl
+remark_begins (suc k) [] h = refl
+remark_begins (suc k) (c ∷ cs) h = ap (λ b. cond b (is_comment_rest (take k cs)) (is_remark_rest (c ∷ take k cs))) h
+
+-- no hyphen stands behind the longest run
+pub run_closed : (text : List ℕ) (n : ℕ) → IsLongestPassing (list_all is_hyphen) text n → begins is_hyphen (drop n text) ≡ false
+run_closed text n front = closed (cases_lt n (length text))
+  where
+    closed : (n < length text) ⊎ (length text ≤ n) → begins is_hyphen (drop n text) ≡ false
+    closed (inr past) = begins_past is_hyphen text n past
+    closed (inl here) = begins_at is_hyphen text n here ∙ unequal (is_hyphen (get_or text n 0)) refl
+      where
+        unequal : (b : Bool) → is_hyphen (get_or text n 0) ≡ b → is_hyphen (get_or text n 0) ≡ false
+        unequal false h = h
+        unequal true h = absurd (false≢true (sym (front.longest (n + 1) (omega arith) (omega arith)) ∙ list_all_more is_hyphen text n 0 here
+            ∙ ap (λ b. b && is_hyphen (get_or text n 0)) front.passes ∙ h))
+
+-- a comment behind its first two hyphens: the opening run, the remark, the closing run
+pub comment_front : (text remark closing : List ℕ) (o n r : ℕ) → IsLongestPassing (list_all is_hyphen) text o → remark ≡ drop o text
+    → n ≤ length remark → GoesOn is_remark_rest remark n → IsRemarkEnd (drop n remark) → closing ≡ drop n remark
+    → IsLongestPassing (list_all is_hyphen) closing r
+    → IsLongestPassing is_comment_rest text (o + (n + r))
+comment_front text remark closing o n r opening remark_is within goes ends closing_is run =
+    longest_behind is_comment_rest is_remark_rest text o (n + r) opening.within
+    (λ k. goes_on_past is_comment_rest is_hyphen (λ c s h. ap (λ b. cond b (is_comment_rest s) (is_remark_rest
+    (c ∷ s))) h) o text opening.within opening.passes k
+    ∙ remark_begins k (drop o text) (run_closed text o opening))
+    (subst (λ s. IsLongestPassing is_remark_rest s (n + r)) remark_is
+    (longest_behind is_remark_rest (list_all is_hyphen) remark n r within (λ k. goes.same k ∙ closing_run k (drop n remark) ends)
+    (subst (λ s. IsLongestPassing (list_all is_hyphen) s r) closing_is run)))

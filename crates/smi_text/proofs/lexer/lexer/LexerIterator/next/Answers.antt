@@ -1,0 +1,93 @@
+use Rattle.std.proofs.Common.{◌≡◌, ◌<◌, ℕ, ◌+◌, ◌∙◌, sym, ap, List, [], ◌∷◌, Err, Ok, length, subst, arith, take, drop, eq-eqb}
+use Rattle.std.proofs.lemmas.Bool.{eqb-true, false≢true}
+use Rattle.smi_text.specs.lexer.Token.{Item, Lexeme}
+use Rattle.smi_text.specs.lexer.Lexeme.{IsLexeme, lexeme}
+use Rattle.smi_text.specs.lexer.Reading.{items_at, newlines}
+use Rattle.smi_text.proofs.ItemsLemmas.{items-empty, items-nothing, next_ends, next_faults, next_gives_token}
+use Rattle.smi_text.proofs.PartLaws.{part_is}
+use Rattle.smi_text.proofs.lexer.lexer.LexerIterator.next.Goals as goal
+use Rattle.smi_text.proofs.lexer.lexer.LexerIterator.next.Goals.{After-fault_at, After-lines_in}
+
+-- one item fewer is left
+fewer : (old new : List Item) (item : Item) → old ≡ item ∷ new → length new < length old
+fewer old new item e = omega (arith, ap length e)
+
+pub returns-then-is_empty-clause-steps : goal.returns-then-is_empty-clause-steps
+returns-then-is_empty-clause-steps c =
+    let gaps = c.gaps_at-gaps in
+    let text = c.split_at.result.1.now in
+    let empty : length text ≡ 0 = eqb-true (length text) 0 (sym c.if-is_empty.ensures) in (
+      sym c.self.view_is ∙ next_ends c.self.inside.rest.now text c.self.inside.at c.self.inside.lines gaps.result.0 gaps.result.1 gaps.ensures.skips
+          c.split_at.ensures.back empty,
+      items-empty c.self.inside.at c.self.inside.lines text empty,
+    )
+
+fault : (c : After-fault_at) → c.args.self.now ≡ Err c.fault_at.result ∷ []
+fault c =
+    let gaps = c.gaps_at-gaps in
+    let text = c.split_at.result.1.now in
+    sym c.self.view_is
+    ∙ next_faults c.self.inside.rest.now text c.self.inside.at c.self.inside.lines gaps.result.0 gaps.result.1 gaps.ensures.skips c.split_at.ensures.back
+    (λ empty. false≢true (c.if-is_empty.ensures ∙ eq-eqb (length text) 0 empty)) gaps.ensures.all c.in_default.ensures
+    ∙ ap (λ f. Err f ∷ []) (sym c.fault_at.ensures)
+
+pub returns-in_default-clause-steps : goal.returns-in_default-clause-steps
+returns-in_default-clause-steps c =
+    fault (goal.at.returns-in_default-clause-steps c).After-fault_at
+    ∙ ap (λ items. Err c.fault_at.result ∷ items) (sym (items-nothing c.self.inside.at c.self.inside.lines))
+
+pub returns-in_default-clause-goes : goal.returns-in_default-clause-goes
+returns-in_default-clause-goes c =
+    let rest = items_at 0 c.self.inside.at c.self.inside.lines [] in
+    let all : c.args.self.now ≡ Err c.fault_at.result ∷ rest =
+    fault (goal.at.returns-in_default-clause-goes c).After-fault_at
+    ∙ ap (λ items. Err c.fault_at.result ∷ items) (sym (items-nothing c.self.inside.at c.self.inside.lines)) in
+    record { on = λ _. (tt, tt, fewer c.args.self.now rest (Err c.fault_at.result) all); keeps = tt; rests = λ _. tt }
+
+pub invariant_of-result : goal.invariant_of-result
+invariant_of-result c =
+    let text = c.split_at.result.1.now in
+    record {
+      lexical = ∣ subst (IsLexeme c.in-Some.kind) (sym c.split_at-2.ensures.front) (part_is (take c.in-Some.len text)
+          (lexeme c.in-Some.kind) c.in-Some.ensures.reads) ∣₁;
+    }
+
+token : (c : After-lines_in) → c.args.self.now
+    ≡ Ok (record {
+      kind = c.in-Some.kind;
+      span = record { start = c.self.inside.at + c.gaps_at-gaps.result.0; «end» = (c.self.inside.at + c.gaps_at-gaps.result.0) + c.in-Some.len };
+      text = c.split_at-2.result.0.now;
+      line = (c.self.inside.lines + c.gaps_at-gaps.result.1) + 1;
+    })
+    ∷ items_at 0 ((c.self.inside.at + c.gaps_at-gaps.result.0) + c.in-Some.len)
+    ((c.self.inside.lines + c.gaps_at-gaps.result.1) + c.lines_in.result) c.split_at-2.result.1.now
+token c =
+    let gaps = c.gaps_at-gaps in
+    let text = c.split_at.result.1.now in
+    let k = c.in-Some.len in
+    let start = c.self.inside.at + gaps.result.0 in
+    let ended = c.self.inside.lines + gaps.result.1 in
+    let octets = c.split_at-2.result.0.now in
+    let lexeme_with = λ (s : List ℕ). let l : Lexeme = record {
+      kind = c.in-Some.kind;
+      span = record { start = start; «end» = start + k };
+      text = s;
+      line =
+          ended + 1;
+    } in l in
+    let parts = c.split_at-2.ensures in
+    let is_lexeme : IsLexeme c.in-Some.kind octets = subst (IsLexeme c.in-Some.kind) (sym parts.front) (part_is (take k text)
+    (lexeme c.in-Some.kind) c.in-Some.ensures.reads) in
+    sym c.self.view_is
+    ∙ next_gives_token c.self.inside.rest.now text c.self.inside.at c.self.inside.lines gaps.result.0 gaps.result.1 gaps.ensures.skips c.split_at.ensures.back
+    c.in-Some.kind k c.in-Some.ensures
+    ∙ ap (λ s. Ok (lexeme_with s) ∷ items_at 0 (start + k) (ended + newlines s) (drop k text)) (sym parts.front)
+    ∙ ap (λ m. Ok (lexeme_with octets) ∷ items_at 0 (start + k) (ended + m) (drop k text)) (sym (c.lines_in.ensures.count is_lexeme))
+    ∙ ap (λ s. Ok (lexeme_with octets) ∷ items_at 0 (start + k) (ended + c.lines_in.result) s) (sym parts.back)
+
+pub returns-clause-steps : goal.returns-clause-steps
+returns-clause-steps c = token (goal.at.returns-clause-steps c).After-lines_in
+
+pub returns-clause-goes : goal.returns-clause-goes
+returns-clause-goes c =
+    record { on = λ _. (tt, tt, fewer _ _ _ (token (goal.at.returns-clause-goes c).After-lines_in)); keeps = tt; rests = λ _. tt }

@@ -1,0 +1,12 @@
+use Rattle.std.proofs.Common.{◌-◌, length}
+use Rattle.std.specs.List.{list_all}
+use Rattle.std.specs.Char.{is_ascii_digit}
+use Rattle.smi_text.specs.lexer.Reading.{GoesOn}
+use Rattle.smi_text.proofs.lexer.scan.digits_len.Given as goal
+
+-- the octets before n make no difference
+abbrev pub invariant-octets : goal.invariant-octets
+invariant-octets l = GoesOn (list_all is_ascii_digit) l.text l.n
+
+abbrev pub decreases-octets : goal.decreases-octets
+decreases-octets l = length l.initial.text - l.n

@@ -1,0 +1,68 @@
+use Rattle.std.proofs.Common.{sym, ◌∙◌, ◌+◌, ap, subst, drop, arith, get_or, length-drop, add-zero}
+use Rattle.std.proofs.lemmas.Bool.{ne_eqb}
+use Rattle.std.proofs.lemmas.List.{take_rest}
+use Rattle.smi_text.specs.lexer.Lexeme.{is_blank, is_hyphen}
+use Rattle.smi_text.specs.lexer.Reading.{IsLongestPassing, Skips, is_comment_rest}
+use Rattle.smi_text.proofs.Gaps.{newlines-newline, newlines-other, skips_blank, skips_comment, gaps_end, gaps_stop}
+use Rattle.smi_text.proofs.Scans.{begins_at, begins_past}
+use Rattle.smi_text.proofs.lexer.scan.gaps_at.Goals as goal
+use Rattle.smi_text.proofs.lexer.scan.gaps_at.Goals.{
+  else-text-n-eq45-via-then-text-n-eq45+then-n-text+else-text-n-eq45-2,
+  else-text-n-eq45-via-then-text-n-eq45+else-n-text,
+  else-text-n-eq45-via-else-text-n-eq45,
+}
+
+pub gaps-preserved-then-text-n-eq10 : goal.gaps-preserved-then-text-n-eq10
+gaps-preserved-then-text-n-eq10 c =
+    let text = c.args.text.now in
+    let n = c.gaps.n in
+    let octet = get_or text n 0 in
+    let newline = c.if-text-n-eq10.true in
+    record {
+      within = omega arith;
+      lines = omega arith;
+      skips = subst (λ m. Skips text (n + 1) (c.gaps.lines + m)) (newlines-newline octet newline) (skips_blank text n c.gaps.lines c.gaps-test.true
+          (ap is_blank newline) c.gaps.invariant.skips);
+    }
+
+pub gaps-preserved-then-is_blank : goal.gaps-preserved-then-is_blank
+gaps-preserved-then-is_blank c =
+    let text = c.args.text.now in
+    let n = c.gaps.n in
+    let octet = get_or text n 0 in
+    record {
+      within = omega arith;
+      lines = omega arith;
+      skips = subst (Skips text (n + 1)) (add-zero c.gaps.lines)
+          (subst (λ m. Skips text (n + 1) (c.gaps.lines + m)) (newlines-other octet c.if-text-n-eq10.false)
+          (skips_blank text n c.gaps.lines c.gaps-test.true (sym c.is_blank.ensures ∙ c.if-is_blank.true) c.gaps.invariant.skips));
+    }
+
+pub gaps-preserved : goal.gaps-preserved
+gaps-preserved c =
+    let text = c.args.text.now in
+    let n = c.gaps.n in
+    let k = c.comment_rest_len.result in
+    let front : IsLongestPassing is_comment_rest (drop (n + 2) text) k = subst (λ s. IsLongestPassing is_comment_rest s k) (take_rest text
+    (n + 2)) c.comment_rest_len.ensures in
+    record {
+      within = omega (arith, front.within, length-drop (n + 2) text);
+      lines = omega arith;
+      skips = subst (Skips text (n + (2 + k))) (add-zero c.gaps.lines)
+          (skips_comment text n c.gaps.lines k c.if-n-text.true c.if-text-n-eq45.true c.if-text-n-eq45-2.true front c.gaps.invariant.skips);
+    }
+
+pub returns-after-gaps-clause-all : goal.returns-after-gaps-clause-all
+returns-after-gaps-clause-all c = gaps_end c.args.text.now c.gaps.n c.gaps-test.false
+
+pub returns-else-text-n-eq45-clause-all : goal.returns-else-text-n-eq45-clause-all
+returns-else-text-n-eq45-clause-all c =
+    let text = c.args.text.now in
+    let n = c.gaps.n in
+    gaps_stop text n c.gaps-test.true (sym c.is_blank.ensures ∙ c.if-is_blank.false)
+    (λ hyphen. elim c.else-text-n-eq45.branch [
+      | else-text-n-eq45-via-then-text-n-eq45+then-n-text+else-text-n-eq45-2 w ↦ begins_at is_hyphen text (n + 1) w.if-n-text.true
+          ∙ ne_eqb _ _ w.if-text-n-eq45-2.false
+      | else-text-n-eq45-via-then-text-n-eq45+else-n-text w ↦ begins_past is_hyphen text (n + 1) w.if-n-text.false
+      | else-text-n-eq45-via-else-text-n-eq45 w ↦ absurd (w.if-text-n-eq45.false hyphen)
+    ])

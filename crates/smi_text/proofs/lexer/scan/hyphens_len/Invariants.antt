@@ -1,0 +1,12 @@
+use Rattle.std.proofs.Common.{◌-◌, length}
+use Rattle.std.specs.List.{list_all}
+use Rattle.smi_text.specs.lexer.Lexeme.{is_hyphen}
+use Rattle.smi_text.specs.lexer.Reading.{GoesOn}
+use Rattle.smi_text.proofs.lexer.scan.hyphens_len.Given as goal
+
+-- the octets before n make no difference
+abbrev pub invariant-octets : goal.invariant-octets
+invariant-octets l = GoesOn (list_all is_hyphen) l.text l.n
+
+abbrev pub decreases-octets : goal.decreases-octets
+decreases-octets l = length l.initial.text - l.n

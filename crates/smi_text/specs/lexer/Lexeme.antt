@@ -1,0 +1,172 @@
+-- The lexemes of a module text and what may stand between them, each as a relation on octets. SMIv2
+-- takes them from ASN.1 (RFC 2578, section 3; X.208, section 8). This lexer accepts more, because
+-- texts in use need it: `_` in words, a hyphen before digits as part of the number, and lower-case
+-- digits and letters in literals.
+use Rattle.std.specs.Prelude.{
+  ◌≡◌,
+  ◌≢◌,
+  ℕ,
+  ◌≤◌,
+  Bool,
+  true,
+  false,
+  not,
+  ◌&&◌,
+  ◌||◌,
+  ◌⊎◌,
+  List,
+  [],
+  ◌∷◌,
+  ◌++◌,
+  length,
+  IsTrue,
+  ◌==◌,
+}
+use Rattle.std.specs.List.{list_all}
+use Rattle.std.specs.Char.{
+  is_ascii_lowercase,
+  is_ascii_uppercase,
+  is_ascii_digit,
+  is_ascii_hexdigit,
+  is_ascii_alphanumeric,
+}
+use Rattle.smi_text.specs.declared.lexer.token.TokenKind.{TokenKind}
+use Rattle.smi_text.specs.declared.lexer.token.TokenKind.TheVariants.{
+  Lower,
+  Upper,
+  Number,
+  Text,
+  Hex,
+  Binary,
+  Assign,
+  Range,
+  OpenBrace,
+  CloseBrace,
+  OpenParen,
+  CloseParen,
+  OpenBracket,
+  CloseBracket,
+  Less,
+  Greater,
+  Comma,
+  Semicolon,
+  Colon,
+  Bar,
+  Dot,
+  Equals,
+}
+use lib.Chars.{codes}
+
+-- ---- octets
+
+abbrev pub is_newline : ℕ → Bool
+is_newline c = c == 10
+
+abbrev pub is_hyphen : ℕ → Bool
+is_hyphen c = c == 45
+
+-- tab, LF, VT, FF, CR and space
+abbrev pub is_blank : ℕ → Bool
+is_blank c = c == 9 || c == 10 || c == 11 || c == 12 || c == 13 || c == 32
+
+-- a letter, a digit or `_`
+abbrev pub is_word_octet : ℕ → Bool
+is_word_octet c = is_ascii_alphanumeric c || c == 95
+
+abbrev pub is_binary_digit : ℕ → Bool
+is_binary_digit c = c == 48 || c == 49
+
+-- there is a first octet, and it passes the test
+abbrev pub begins : (ℕ → Bool) → List ℕ → Bool
+begins test [] = false
+begins test (c ∷ cs) = test c
+
+-- ---- lexemes
+
+-- letters, digits, `_`, and hyphens that one of these follows
+abbrev pub is_word_rest : List ℕ → Bool
+is_word_rest [] = true
+is_word_rest (c ∷ cs) = (is_word_octet c ||
+    (is_hyphen c && begins is_word_octet cs)) && is_word_rest cs
+
+-- a word: a first letter that passes the test, and then what may follow it
+abbrev pub IsWord : (ℕ → Bool) → List ℕ → Type 0
+IsWord is_first text = (c : ℕ) × (rest : List ℕ) × (text ≡ c ∷ rest) × IsTrue (is_first c)
+    × IsTrue (is_word_rest rest)
+
+-- digits, with or without a hyphen directly before them
+abbrev pub IsNumber : List ℕ → Type 0
+IsNumber text = (sign digits : List ℕ) × (text ≡ sign ++ digits)
+    × ((sign ≡ []) ⊎ (sign ≡ codes "-")) × (digits ≢ []) × IsTrue (list_all is_ascii_digit digits)
+
+-- octets other than `"` between two of them
+abbrev pub IsString : List ℕ → Type 0
+IsString text = (body : List ℕ) × (text ≡ codes "\"" ++ body ++ codes "\"")
+    × IsTrue (list_all (λ c. not (c == 34)) body)
+
+-- digits of a base, or none, between two `'`, and the base's letter in either case
+abbrev pub IsLiteral : (ℕ → Bool) → ℕ → ℕ → List ℕ → Type 0
+IsLiteral is_digit upper lower text = (digits : List ℕ) × (letter : ℕ)
+    × (text ≡ codes "'" ++ digits ++ codes "'" ++ letter ∷ [])
+    × IsTrue (list_all is_digit digits) × ((letter ≡ upper) ⊎ (letter ≡ lower))
+
+abbrev pub IsLexeme : TokenKind → List ℕ → Type 0
+IsLexeme Lower text = IsWord is_ascii_lowercase text
+IsLexeme Upper text = IsWord is_ascii_uppercase text
+IsLexeme Number text = IsNumber text
+IsLexeme Text text = IsString text
+IsLexeme Hex text = IsLiteral is_ascii_hexdigit 72 104 text
+IsLexeme Binary text = IsLiteral is_binary_digit 66 98 text
+IsLexeme Assign text = text ≡ codes "::="
+IsLexeme Range text = text ≡ codes ".."
+IsLexeme OpenBrace text = text ≡ codes "{"
+IsLexeme CloseBrace text = text ≡ codes "}"
+IsLexeme OpenParen text = text ≡ codes "("
+IsLexeme CloseParen text = text ≡ codes ")"
+IsLexeme OpenBracket text = text ≡ codes "["
+IsLexeme CloseBracket text = text ≡ codes "]"
+IsLexeme Less text = text ≡ codes "<"
+IsLexeme Greater text = text ≡ codes ">"
+IsLexeme Comma text = text ≡ codes ","
+IsLexeme Semicolon text = text ≡ codes ";"
+IsLexeme Colon text = text ≡ codes ":"
+IsLexeme Bar text = text ≡ codes "|"
+IsLexeme Dot text = text ≡ codes "."
+IsLexeme Equals text = text ≡ codes "="
+
+-- ---- gaps
+
+-- two or more hyphens
+abbrev pub IsRunOfHyphens : List ℕ → Type 0
+IsRunOfHyphens octets = (2 ≤ length octets) × IsTrue (list_all is_hyphen octets)
+
+-- octets of one line, no two hyphens in a row among them
+abbrev pub is_remark : List ℕ → Bool
+is_remark [] = true
+is_remark (c ∷ cs) = not (is_newline c) && not (is_hyphen c && begins is_hyphen cs) && is_remark cs
+
+-- A run of hyphens, a remark, and the next run or nothing. Where no other run follows on the line,
+-- the longest comment ends before the line does.
+abbrev pub IsComment : List ℕ → Type 0
+IsComment text = (opening remark closing : List ℕ) × (text ≡ opening ++ remark ++ closing)
+    × IsRunOfHyphens opening × IsTrue (is_remark remark) × ((closing ≡ []) ⊎ IsRunOfHyphens closing)
+
+-- a blank octet, or a comment
+abbrev pub IsGap : List ℕ → Type 0
+IsGap text = ((c : ℕ) × (text ≡ c ∷ []) × IsTrue (is_blank c)) ⊎ IsComment text
+
+-- ---- both
+
+-- what a piece of the text is
+pub data Part : Type 0 where
+  gap : Part
+  lexeme : TokenKind → Part
+
+abbrev pub IsPart : Part → List ℕ → Type 0
+IsPart gap text = IsGap text
+IsPart (lexeme kind) text = IsLexeme kind text
+
+-- a `"` or `'` with no other one after it
+abbrev pub is_open_string : List ℕ → Bool
+is_open_string [] = false
+is_open_string (c ∷ cs) = (c == 34 || c == 39) && list_all (λ d. not (d == c)) cs

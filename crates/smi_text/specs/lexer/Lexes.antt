@@ -1,0 +1,76 @@
+-- The tokens of a text.
+use Rattle.std.specs.Prelude.{
+  ℕ,
+  ◌+◌,
+  ◌<◌,
+  ◌≤◌,
+  List,
+  [],
+  ◌∷◌,
+  ◌++◌,
+  length,
+  take,
+  drop,
+  Ok,
+  Err,
+  count_by,
+  slice_range,
+  ◌≡◌,
+  if◌then◌else◌,
+}
+use Rattle.smi_text.specs.declared.lexer.token.TokenKind.{TokenKind}
+use Rattle.smi_text.specs.declared.lexer.error.LexError.{LexError}
+use Rattle.smi_text.specs.declared.lexer.error.LexError.TheVariants.{BadByte, OpenString}
+use Rattle.smi_text.specs.lexer.Token.{Lexeme, Item}
+use Rattle.smi_text.specs.lexer.Lexeme.{Part, gap, lexeme, IsPart, is_newline, is_open_string}
+
+-- the line of what follows these octets: lines count from 1, and end with LF
+abbrev pub line_behind : List ℕ → ℕ
+line_behind before = count_by is_newline before + 1
+
+-- the lexeme that these octets are, after the octets before it
+abbrev pub lexeme_behind : List ℕ → TokenKind → List ℕ → Lexeme
+lexeme_behind before kind text = record {
+  kind = kind;
+  span = record {
+    start = length before;
+    «end»
+        = length before + length text;
+  };
+  text = text;
+  line = line_behind before;
+}
+
+-- the fault of a text on this line at whose front no token or gap stands
+abbrev pub fault_on : ℕ → List ℕ → LexError
+fault_on line text = if is_open_string text then OpenString line else BadByte line
+
+-- the first n octets of the text are this part, and no longer front of the text is a part
+pub record IsLongest (part : Part) (n : ℕ) (text : List ℕ) : Type 0 where
+  pub within : n ≤ length text
+  pub is_one : IsPart part (take n text)
+  pub longest : (other : Part) (m : ℕ) → n < m → m ≤ length text → IsPart other (take m text) → ⊥
+
+-- After the octets `before`, the text is a sequence of gaps and lexemes, each the longest that
+-- could stand there. The items are its tokens, and last the fault if the text breaks off before its
+-- end.
+pub data Lexes : List ℕ → List ℕ → List Item → Type 0 where
+  ends : {before : List ℕ} → Lexes before [] []
+  passes : {before text : List ℕ} {items : List Item} (n : ℕ) → IsLongest gap n text
+      → Lexes (before ++ take n text) (drop n text) items
+      → Lexes before text items
+  gives : {before text : List ℕ} {items : List Item} (kind : TokenKind) (n : ℕ)
+      → IsLongest (lexeme kind) n text
+      → Lexes (before ++ take n text) (drop n text) items
+      → Lexes before text (Ok (lexeme_behind before kind (take n text)) ∷ items)
+  breaks : {before : List ℕ} (c : ℕ) (cs : List ℕ) → ((part : Part) (m : ℕ)
+      → IsPart part (take m (c ∷ cs)) → ⊥)
+      → Lexes before (c ∷ cs) (Err (fault_on (line_behind before) (c ∷ cs)) ∷ [])
+
+-- from this place on each token comes after the one before it, is not empty, and has the source's
+-- octets in its span as its text
+abbrev pub AreInOrder : List ℕ → ℕ → List Lexeme → Type 0
+AreInOrder source from [] = Unit {0}
+AreInOrder source from (t ∷ ts) = (from ≤ t.span.start) × (t.span.start < t.span.end)
+    × (t.span.end ≤ length source) × (t.text ≡ slice_range source t.span.start t.span.end)
+    × AreInOrder source t.span.end ts

@@ -1,0 +1,305 @@
+-- The tokens of a text, computed in the plain, slow way: every front of what is left is tried, the
+-- longest first. The law that this agrees with `Lexes` is in proofs/; only private clauses use this
+-- file.
+use Rattle.std.specs.Prelude.{
+  ◌≡◌,
+  ℕ,
+  zero,
+  suc,
+  pred,
+  ◌+◌,
+  ◌<◌,
+  ◌≤◌,
+  ◌⊎◌,
+  not,
+  get_or,
+  Bool,
+  true,
+  false,
+  if◌then◌else◌,
+  ◌&&◌,
+  ◌||◌,
+  ◌==◌,
+  Option,
+  Some,
+  None,
+  Ok,
+  Err,
+  List,
+  [],
+  ◌∷◌,
+  length,
+  take,
+  drop,
+  count_by,
+}
+use Rattle.std.specs.List.{list_all}
+use Rattle.std.specs.Bool.{then_some}
+use Rattle.std.specs.Char.{
+  is_ascii_lowercase,
+  is_ascii_uppercase,
+  is_ascii_digit,
+  is_ascii_hexdigit,
+}
+use Rattle.smi_text.specs.declared.lexer.class.Class.{Class}
+use Rattle.smi_text.specs.declared.lexer.class.Class.TheVariants.{
+  Blank,
+  Lowercase,
+  Uppercase,
+  Digit,
+  Hyphen,
+  Quote,
+  Apostrophe,
+  Symbol,
+  Other,
+}
+use Rattle.smi_text.specs.declared.lexer.token.TokenKind.{TokenKind}
+use Rattle.smi_text.specs.declared.lexer.token.TokenKind.TheVariants.{
+  Lower,
+  Upper,
+  Number,
+  Text,
+  Hex,
+  Binary,
+  Assign,
+  Range,
+  OpenBrace,
+  CloseBrace,
+  OpenParen,
+  CloseParen,
+  OpenBracket,
+  CloseBracket,
+  Less,
+  Greater,
+  Comma,
+  Semicolon,
+  Colon,
+  Bar,
+  Dot,
+  Equals,
+}
+use Rattle.smi_text.specs.lexer.Token.{Lexeme, Item}
+use Rattle.smi_text.specs.lexer.Lexes.{fault_on}
+use Rattle.smi_text.specs.lexer.Lexeme.{
+  Part,
+  gap,
+  lexeme,
+  is_blank,
+  is_hyphen,
+  is_newline,
+  is_binary_digit,
+  begins,
+  is_word_rest,
+}
+
+-- ---- what a piece of a text is, by its first octet
+
+-- the symbols of one octet
+abbrev pub symbols : List (ℕ × TokenKind)
+symbols =
+    (123, OpenBrace) ∷ (125, CloseBrace) ∷ (40, OpenParen) ∷ (41, CloseParen) ∷
+    (91, OpenBracket) ∷ (93, CloseBracket)
+    ∷ (60, Less) ∷ (62, Greater) ∷ (44, Comma) ∷ (59, Semicolon) ∷ (58, Colon) ∷ (124, Bar) ∷
+    (46, Dot) ∷ (61, Equals) ∷ []
+
+abbrev pub symbol_among : List (ℕ × TokenKind) → ℕ → Class
+symbol_among [] c = Other
+symbol_among (symbol ∷ others) c = if c == symbol.0 then Symbol symbol.1 else symbol_among others c
+
+-- what an octet may begin
+abbrev pub class_of : ℕ → Class
+class_of c =
+    if is_blank c then Blank
+    else (if is_ascii_lowercase c then Lowercase
+    else (if is_ascii_uppercase c then Uppercase
+    else (if is_ascii_digit c then Digit
+    else (if c == 45 then Hyphen
+    else (if c == 34 then Quote
+    else (if c == 39 then Apostrophe
+    else symbol_among symbols c))))))
+
+abbrev pub is_nothing : List ℕ → Bool
+is_nothing [] = true
+is_nothing (c ∷ cs) = false
+
+-- one octet, which passes the test
+abbrev pub is_sole : (ℕ → Bool) → List ℕ → Bool
+is_sole test [] = false
+is_sole test (c ∷ cs) = test c && is_nothing cs
+
+-- after the run of hyphens that a comment begins with
+abbrev pub is_remark_rest : List ℕ → Bool
+is_remark_rest [] = true
+is_remark_rest (c ∷ cs) = if is_newline c then false else
+    (if is_hyphen c && begins is_hyphen cs then list_all is_hyphen cs else is_remark_rest cs)
+
+-- after the first two hyphens of a comment
+abbrev pub is_comment_rest : List ℕ → Bool
+is_comment_rest [] = true
+is_comment_rest (c ∷ cs) = if is_hyphen c then is_comment_rest cs else is_remark_rest (c ∷ cs)
+
+-- after the first `"` of a string
+abbrev pub is_string_rest : List ℕ → Bool
+is_string_rest [] = false
+is_string_rest (c ∷ cs) = if c == 34 then is_nothing cs else is_string_rest cs
+
+-- after the first `'` of a literal
+abbrev pub is_literal_rest : (ℕ → Bool) → (ℕ → Bool) → List ℕ → Bool
+is_literal_rest is_digit is_letter [] = false
+is_literal_rest is_digit is_letter
+    (c ∷ cs) = if c == 39 then is_sole is_letter cs else is_digit c && is_literal_rest is_digit
+    is_letter cs
+
+abbrev pub is_hex_letter : ℕ → Bool
+is_hex_letter c = c == 72 || c == 104
+
+abbrev pub is_binary_letter : ℕ → Bool
+is_binary_letter c = c == 66 || c == 98
+
+abbrev pub string_part : List ℕ → Option Part
+string_part cs = then_some (is_string_rest cs) (lexeme Text)
+
+abbrev pub literal_part : List ℕ → Option Part
+literal_part cs =
+    if is_literal_rest is_ascii_hexdigit is_hex_letter cs then Some (lexeme Hex)
+    else then_some (is_literal_rest is_binary_digit is_binary_letter cs) (lexeme Binary)
+
+-- the kind of literal that these digits and this letter make, if they make one
+abbrev pub literal_of : List ℕ → ℕ → Option Part
+literal_of digits letter =
+    if list_all is_ascii_hexdigit digits && is_hex_letter letter then Some (lexeme Hex)
+    else then_some (list_all is_binary_digit digits && is_binary_letter letter) (lexeme Binary)
+
+abbrev pub hyphen_part : List ℕ → Option Part
+hyphen_part [] = None
+hyphen_part (c ∷ cs) = if is_hyphen c then then_some (is_comment_rest cs) gap else then_some
+    (list_all is_ascii_digit (c ∷ cs)) (lexeme Number)
+
+abbrev pub symbol_part : TokenKind → List ℕ → Option Part
+symbol_part kind [] = Some (lexeme kind)
+symbol_part Colon (c ∷ cs) = then_some (c == 58 && is_sole (λ d. d == 61) cs) (lexeme Assign)
+symbol_part Dot (c ∷ cs) = then_some (c == 46 && is_nothing cs) (lexeme Range)
+symbol_part _ (c ∷ cs) = None
+
+-- the part that an octet of this class and the octets after it are, if they are one
+abbrev pub part_in : Class → List ℕ → Option Part
+part_in Blank cs = then_some (is_nothing cs) gap
+part_in Lowercase cs = then_some (is_word_rest cs) (lexeme Lower)
+part_in Uppercase cs = then_some (is_word_rest cs) (lexeme Upper)
+part_in Digit cs = then_some (list_all is_ascii_digit cs) (lexeme Number)
+part_in Hyphen cs = hyphen_part cs
+part_in Quote cs = string_part cs
+part_in Apostrophe cs = literal_part cs
+part_in (Symbol kind) cs = symbol_part kind cs
+part_in Other cs = None
+
+unfoldable pub part_of : List ℕ → Option Part
+part_of [] = None
+part_of (c ∷ cs) = part_in (class_of c) cs
+
+-- ---- the longest front
+
+-- the part of this length if there is one, otherwise the shorter one
+abbrev pub part_or_shorter : ℕ → Option Part → Option (Part × ℕ) → Option (Part × ℕ)
+part_or_shorter n None shorter = shorter
+part_or_shorter n (Some part) shorter = Some (part, n)
+
+-- the longest front of at most n octets that is a part, and its length
+abbrev pub longest_front : ℕ → List ℕ → Option (Part × ℕ)
+longest_front zero text = None
+longest_front (suc n) text = part_or_shorter (suc n) (part_of (take (suc n) text))
+    (longest_front n text)
+
+-- the same for a test: the front of n octets passes it, and no longer one does
+pub record IsLongestPassing (test : List ℕ → Bool) (text : List ℕ) (n : ℕ) : Type 0 where
+  pub within : n ≤ length text
+  pub passes : test (take n text) ≡ true
+  pub longest : (m : ℕ) → n < m → m ≤ length text → test (take m text) ≡ false
+
+-- the front of n octets reads as this part, and no longer front reads as a part
+pub record IsPartFront (reading : List ℕ
+    → Option Part) (text : List ℕ) (part : Part) (n : ℕ) : Type 0 where
+  pub within : n ≤ length text
+  pub reads : reading (take n text) ≡ Some part
+  pub longest : (m : ℕ) → n < m → m ≤ length text → reading (take m text) ≡ None
+
+-- no front reads as a lexeme; no front is a gap
+abbrev pub HasNoLexeme : (List ℕ → Option Part) → List ℕ → Type 0
+HasNoLexeme reading text = (kind : TokenKind) (m : ℕ)
+    → reading (take m text) ≡ Some (lexeme kind) → ⊥
+
+abbrev pub HasNoGap : List ℕ → Type 0
+HasNoGap text = (m : ℕ) → part_of (take m text) ≡ Some gap → ⊥
+
+-- the kind and length of the lexeme that the longest front is, or None if no front is a lexeme
+abbrev pub IsLexemeFront : (List ℕ → Option Part) → List ℕ → Option (TokenKind × ℕ) → Type 0
+IsLexemeFront reading text None = HasNoLexeme reading text
+IsLexemeFront reading text (Some front) = IsPartFront reading text (lexeme front.0) front.1
+
+-- ---- the items
+
+abbrev pub newlines : List ℕ → ℕ
+newlines text = count_by is_newline text
+
+abbrev pub lexeme_at : ℕ → ℕ → TokenKind → List ℕ → Lexeme
+lexeme_at at lines kind text = record {
+  kind = kind;
+  span = record {
+    start = at;
+    «end» = at +
+        length text;
+  };
+  text = text;
+  line = lines + 1;
+}
+
+-- what a part of these octets gives, before the items of the rest
+abbrev pub part_items : ℕ → ℕ → Part → List ℕ → List Item → List Item
+part_items at lines gap octets rest = rest
+part_items at lines (lexeme kind) octets rest = Ok (lexeme_at at lines kind octets) ∷ rest
+
+-- what the longest front gives, before the items of the rest
+abbrev pub front_items : ℕ → ℕ → List ℕ → Option (Part × ℕ) → List Item → List Item
+front_items at lines text None rest = Err (fault_on (lines + 1) text) ∷ []
+front_items at lines text (Some front) rest = part_items at lines front.0 (take front.1 text) rest
+
+-- how far the front goes beyond its first octet
+abbrev pub front_rest : Option (Part × ℕ) → ℕ
+front_rest None = 0
+front_rest (Some front) = pred front.1
+
+-- the items of a text of which the first `skipped` octets are read already; `at` octets, in which
+-- `lines` lines end, stand before it
+unfoldable pub items_at : ℕ → ℕ → ℕ → List ℕ → List Item
+items_at skipped at lines [] = []
+items_at (suc skipped) at lines (c ∷ cs) = items_at skipped (at + 1) (lines + newlines (c ∷ [])) cs
+items_at zero at lines (c ∷ cs) =
+    front_items at lines (c ∷ cs) (longest_front (length (c ∷ cs)) (c ∷ cs))
+    (items_at (front_rest (longest_front (length (c ∷ cs)) (c ∷ cs))) (at + 1) (lines + newlines
+    (c ∷ [])) cs)
+
+-- the first n octets, in which this many lines end, give no item
+abbrev pub Skips : List ℕ → ℕ → ℕ → Type 0
+Skips text n lines = (at before : ℕ)
+    → items_at 0 at before text ≡ items_at 0 (at + n) (before + lines) (drop n text)
+
+-- the first n octets make no difference to the test of a front of n octets or more
+pub record GoesOn (test : List ℕ → Bool) (text : List ℕ) (n : ℕ) : Type 0 where
+  pub within : n ≤ length text
+  pub same : (k : ℕ) → test (take (n + k) text) ≡ test (take k (drop n text))
+
+-- the line ends here, or two hyphens stand here
+abbrev pub IsRemarkEnd : List ℕ → Type 0
+IsRemarkEnd [] = Unit {0}
+IsRemarkEnd (c ∷ []) = c ≡ 10
+IsRemarkEnd (c ∷ d ∷ cs) = (c ≡ 10) ⊎ ((c ≡ 45) × (d ≡ 45))
+
+-- it is another octet
+abbrev pub is_other : ℕ → ℕ → Bool
+is_other octet c = not (c == octet)
+
+-- where an octet stands first, or None where it does not occur
+abbrev pub IsFirstPlace : ℕ → List ℕ → Option ℕ → Type 0
+IsFirstPlace octet text None = list_all (is_other octet) text ≡ true
+IsFirstPlace octet text (Some i) = (i < length text) × (get_or text i 0 ≡ octet)
+    × (list_all (is_other octet) (take i text) ≡ true)

@@ -1,0 +1,329 @@
+-- The spelling of a list of module trees: one case for each production of the grammar, with the
+-- marks of its tokens in order. In the comments a word stands for itself, and UPPER, LOWER, NUM and
+-- STR for a token of that kind (RFC 2578, sections 3 to 8; RFC 2579; RFC 2580).
+use Rattle.std.specs.Prelude.{
+  ℕ,
+  Bool,
+  true,
+  false,
+  ◌&&◌,
+  not,
+  List,
+  [],
+  ◌∷◌,
+  ◌++◌,
+  Option,
+  Some,
+  None,
+  codes,
+  map,
+  if◌then◌else◌,
+}
+use Rattle.std.specs.List.{flat_map}
+use Rattle.smi_text.specs.declared.lexer.token.TokenKind.TheVariants as K
+use Rattle.smi_text.specs.trees.Mark.{Mark, sign, spelled, on_line, same_kind, same_text}
+use Rattle.smi_text.specs.trees.Reserved.{is_reserved}
+use Rattle.smi_text.specs.trees.Number.{is_arc, is_number, is_bound, is_symbol, is_macro}
+use Rattle.smi_text.specs.trees.Fronts.{has_balanced_braces}
+use Rattle.smi_text.specs.declared.trees.names.Name.{Name}
+use Rattle.smi_text.specs.declared.trees.tree.Module.{Module}
+use Rattle.smi_text.specs.declared.trees.tree.Import.{Import}
+use Rattle.smi_text.specs.declared.trees.tree.TokenText.{TokenText}
+use Rattle.smi_text.specs.declared.trees.tree.Def.{Def}
+use Rattle.smi_text.specs.declared.trees.tree.DefKind.{DefKind}
+use Rattle.smi_text.specs.declared.trees.tree.DefKind.TheVariants as D
+use Rattle.smi_text.specs.declared.trees.tree.Part.{Part}
+use Rattle.smi_text.specs.declared.trees.tree.Part.TheVariants as P
+use Rattle.smi_text.specs.declared.trees.tree.NamedNumber.{NamedNumber}
+use Rattle.smi_text.specs.declared.trees.tree.ModuleIdentity.{ModuleIdentity}
+use Rattle.smi_text.specs.declared.trees.tree.Revision.{Revision}
+use Rattle.smi_text.specs.declared.trees.tree.ObjectIdentity.{ObjectIdentity}
+use Rattle.smi_text.specs.declared.trees.tree.Status.{Status}
+use Rattle.smi_text.specs.declared.trees.tree.ObjectType.{ObjectType}
+use Rattle.smi_text.specs.declared.trees.tree.Index.{Index}
+use Rattle.smi_text.specs.declared.trees.tree.Index.TheVariants as I
+use Rattle.smi_text.specs.declared.trees.tree.NotificationType.{NotificationType}
+use Rattle.smi_text.specs.declared.trees.tree.Group.{Group}
+use Rattle.smi_text.specs.declared.trees.tree.RawDefinition.{RawDefinition}
+use Rattle.smi_text.specs.declared.trees.tree.TextualConvention.{TextualConvention}
+use Rattle.smi_text.specs.declared.trees.tree.TypeAssignment.{TypeAssignment}
+use Rattle.smi_text.specs.declared.trees.tree.Field.{Field}
+use Rattle.smi_text.specs.declared.trees.tree.Syntax.{Syntax}
+use Rattle.smi_text.specs.declared.trees.tree.Syntax.TheVariants as T
+use Rattle.smi_text.specs.declared.trees.tree.SimpleType.{SimpleType}
+use Rattle.smi_text.specs.declared.trees.tree.Base.{Base}
+use Rattle.smi_text.specs.declared.trees.tree.Base.TheVariants as B
+use Rattle.smi_text.specs.declared.trees.tree.Refinement.{Refinement}
+use Rattle.smi_text.specs.declared.trees.tree.Refinement.TheVariants as R
+use Rattle.smi_text.specs.declared.trees.tree.Range.{Range}
+
+-- tokens
+
+abbrev pub word : List ℕ → Mark
+word w = spelled K.Upper w true
+
+-- an UPPER that is not a reserved word
+abbrev pub upper : Name → Mark
+upper x = spelled K.Upper x.octets (not (is_reserved x.octets))
+
+abbrev pub lower : Name → Mark
+lower x = spelled K.Lower x.octets true
+
+-- a LOWER that is kept as a text, not as a name
+abbrev pub lower_text : List ℕ → Mark
+lower_text x = spelled K.Lower x true
+
+abbrev pub string : List ℕ → Mark
+string x = spelled K.Text x true
+
+-- NUM of an identifier
+abbrev pub arc : List ℕ → Mark
+arc x = spelled K.Number x (is_arc x)
+
+-- any other NUM
+abbrev pub number : List ℕ → Mark
+number x = spelled K.Number x (is_number x)
+
+-- NUM, HEX or BIN
+abbrev pub bound : TokenText → Mark
+bound x = spelled x.kind x.text (is_bound x.kind x.text)
+
+-- no token
+abbrev pub nothing : List Mark
+nothing = spelled K.Upper [] false ∷ []
+
+abbrev pub braces : List Mark → List Mark
+braces ms = sign K.OpenBrace ∷ (ms ++ sign K.CloseBrace ∷ [])
+
+abbrev pub parentheses : List Mark → List Mark
+parentheses ms = sign K.OpenParen ∷ (ms ++ sign K.CloseParen ∷ [])
+
+-- [ part ]
+abbrev pub of_option : {A : Type 0} → (A → List Mark) → Option A → List Mark
+of_option f None = []
+of_option f (Some x) = f x
+
+-- part { sign part }
+abbrev pub of_list : {A : Type 0} → Mark → (A → List Mark) → List A → List Mark
+of_list m f [] = nothing
+of_list m f (x ∷ xs) = f x ++ flat_map (λ y. m ∷ f y) xs
+
+-- identifiers
+
+-- LOWER "(" NUM ")"
+abbrev pub of_named_arc : NamedNumber → List Mark
+of_named_arc n = lower n.name ∷ parentheses (arc n.number ∷ [])
+
+abbrev pub of_part : Part → List Mark
+of_part (P.Number n) = arc n ∷ []
+of_part (P.Name x) = lower x ∷ []
+of_part (P.NamedNumber n) = of_named_arc n
+
+-- a part in a later place: not LOWER alone
+abbrev pub of_later_part : Part → List Mark
+of_later_part (P.Number n) = arc n ∷ []
+of_later_part (P.Name x) = nothing
+of_later_part (P.NamedNumber n) = of_named_arc n
+
+abbrev pub of_parts : List Part → List Mark
+of_parts [] = nothing
+of_parts (p ∷ ps) = of_part p ++ flat_map of_later_part ps
+
+-- "::=" "{" part { part } "}"
+abbrev pub of_value : List Part → List Mark
+of_value ps = sign K.Assign ∷ braces (of_parts ps)
+
+-- types
+
+-- bound [ ".." bound ]
+abbrev pub of_range : Range → List Mark
+of_range r = bound r.low ∷ of_option (λ x. sign K.Range ∷ bound x ∷ []) r.high
+
+abbrev pub of_ranges : List Range → List Mark
+of_ranges rs = of_list (sign K.Bar) of_range rs
+
+-- LOWER "(" NUM ")"
+abbrev pub of_named_number : NamedNumber → List Mark
+of_named_number n = lower n.name ∷ parentheses (number n.number ∷ [])
+
+abbrev pub of_refinement : Refinement → List Mark
+of_refinement (R.Numbers ns) = braces (of_list (sign K.Comma) of_named_number ns)
+of_refinement (R.Values rs) = parentheses (of_ranges rs)
+of_refinement (R.Size rs) = parentheses (word (codes "SIZE") ∷ parentheses (of_ranges rs))
+
+abbrev pub of_base : Base → List Mark
+of_base B.Integer = word (codes "INTEGER") ∷ []
+of_base B.OctetString = word (codes "OCTET") ∷ word (codes "STRING") ∷ []
+of_base B.ObjectIdentifier = word (codes "OBJECT") ∷ word (codes "IDENTIFIER") ∷ []
+of_base B.Bits = word (codes "BITS") ∷ []
+of_base (B.Named x) = upper x ∷ []
+
+abbrev pub of_simple_type : SimpleType → List Mark
+of_simple_type t = of_base t.base ++ of_option of_refinement t.refinement
+
+-- "SEQUENCE" "OF" UPPER | base [ refinement ]
+abbrev pub of_syntax : Syntax → List Mark
+of_syntax (T.SequenceOf x) = word (codes "SEQUENCE") ∷ word (codes "OF") ∷ upper x ∷ []
+of_syntax (T.Simple t) = of_simple_type t
+
+abbrev pub of_field : Field → List Mark
+of_field f = lower f.label ∷ of_syntax f.syntax
+
+-- clauses
+
+abbrev pub of_clause : List ℕ → List ℕ → List Mark
+of_clause w x = word w ∷ string x ∷ []
+
+-- "{" LOWER { "," LOWER } "}"
+abbrev pub of_names : List Name → List Mark
+of_names xs = braces (of_list (sign K.Comma) (λ x. lower x ∷ []) xs)
+
+-- "STATUS" LOWER "DESCRIPTION" STR [ "REFERENCE" STR ]
+abbrev pub of_status : Status → List Mark
+of_status s =
+    word (codes "STATUS") ∷ lower_text s.status ∷ word
+    (codes "DESCRIPTION") ∷ string s.description ∷ of_option (of_clause
+    (codes "REFERENCE")) s.reference
+
+-- { LOWER "," } [ "IMPLIED" ] LOWER
+abbrev pub of_index_names : List Name → Bool → List Mark
+of_index_names [] implied = nothing
+of_index_names (x ∷ []) implied = (if implied then word
+    (codes "IMPLIED") ∷ [] else []) ++ lower x ∷ []
+of_index_names (x ∷ (y ∷ ys)) implied = lower x ∷ sign K.Comma ∷ of_index_names (y ∷ ys) implied
+
+abbrev pub of_index : Index → List Mark
+of_index (I.Own p) = word (codes "INDEX") ∷ braces (of_index_names p.names p.implied)
+of_index (I.Augments x) = word (codes "AUGMENTS") ∷ braces (lower x ∷ [])
+
+-- raw, between braces
+abbrev pub of_balanced : List TokenText → List Mark
+of_balanced xs = if has_balanced_braces xs then map
+    (λ x. spelled x.kind x.text true) xs else nothing
+
+-- raw, before "::="
+abbrev pub of_raw_clauses : List TokenText → List Mark
+of_raw_clauses xs = flat_map (λ x. spelled x.kind x.text (not (same_kind x.kind K.Assign)) ∷ []) xs
+
+-- raw, before END
+abbrev pub of_raw_body : List TokenText → List Mark
+of_raw_body xs = flat_map (λ x. spelled x.kind x.text (not
+    (same_kind x.kind K.Upper && same_text x.text (codes "END"))) ∷ []) xs
+
+-- definitions
+
+abbrev pub of_revision : Revision → List Mark
+of_revision r = word (codes "REVISION") ∷ string r.date ∷ word
+    (codes "DESCRIPTION") ∷ string r.description ∷ []
+
+abbrev pub of_module_identity : ModuleIdentity → List Mark
+of_module_identity d =
+    word (codes "MODULE-IDENTITY") ∷ word (codes "LAST-UPDATED") ∷ string d.last_updated ∷ word
+    (codes "ORGANIZATION") ∷ string d.organization ∷
+    word (codes "CONTACT-INFO") ∷ string d.contact_info ∷ word
+    (codes "DESCRIPTION") ∷ string d.description ∷
+    (flat_map of_revision d.revisions ++ of_value d.value)
+
+abbrev pub of_object_identity : ObjectIdentity → List Mark
+of_object_identity d = word (codes "OBJECT-IDENTITY") ∷ (of_status d.status ++ of_value d.value)
+
+abbrev pub of_object_type : ObjectType → List Mark
+of_object_type d =
+    word (codes "OBJECT-TYPE") ∷ word (codes "SYNTAX") ∷ (of_syntax d.syntax ++ (of_option
+    (of_clause (codes "UNITS")) d.units ++
+    (word (codes "MAX-ACCESS") ∷ lower_text d.max_access ∷ (of_status d.status ++
+    (of_option of_index d.index ++
+    (of_option (λ xs. word (codes "DEFVAL") ∷ braces
+    (of_balanced xs)) d.default ++ of_value d.value))))))
+
+abbrev pub of_notification_type : NotificationType → List Mark
+of_notification_type d =
+    word (codes "NOTIFICATION-TYPE") ∷ (of_option (λ xs. word
+    (codes "OBJECTS") ∷ of_names xs) d.objects ++ (of_status d.status ++ of_value d.value))
+
+abbrev pub of_group : List ℕ → List ℕ → Group → List Mark
+of_group w members d = word w ∷ word members ∷ (of_names d.members ++
+    (of_status d.status ++ of_value d.value))
+
+abbrev pub of_raw_definition : List ℕ → RawDefinition → List Mark
+of_raw_definition w d = word w ∷ (of_raw_clauses d.clauses ++ of_value d.value)
+
+abbrev pub of_textual_convention : TextualConvention → List Mark
+of_textual_convention d =
+    word (codes "TEXTUAL-CONVENTION") ∷ (of_option (of_clause
+    (codes "DISPLAY-HINT")) d.display_hint ++ (of_status d.status ++
+    (word (codes "SYNTAX") ∷ of_syntax d.syntax)))
+
+-- [ "[" "APPLICATION" NUM "]" "IMPLICIT" ] type
+abbrev pub of_type_assignment : TypeAssignment → List Mark
+of_type_assignment d =
+    of_option (λ n. sign K.OpenBracket ∷ word
+    (codes "APPLICATION") ∷ number n ∷ sign K.CloseBracket ∷ word
+    (codes "IMPLICIT") ∷ []) d.tag ++ of_syntax d.syntax
+
+-- a name in lower case or in upper case, on its line, and what it is defined as
+abbrev pub of_def_kind : ℕ → Name → DefKind → List Mark
+of_def_kind line x (D.ObjectIdentifier v) = on_line line (lower x) ∷ word (codes "OBJECT") ∷ word
+    (codes "IDENTIFIER") ∷ of_value v
+of_def_kind line x (D.ModuleIdentity d) = on_line line (lower x) ∷ of_module_identity d
+of_def_kind line x (D.ObjectIdentity d) = on_line line (lower x) ∷ of_object_identity d
+of_def_kind line x (D.ObjectType d) = on_line line (lower x) ∷ of_object_type d
+of_def_kind line x (D.NotificationType d) = on_line line (lower x) ∷ of_notification_type d
+of_def_kind line x (D.ObjectGroup d) = on_line line (lower x) ∷ of_group (codes "OBJECT-GROUP")
+    (codes "OBJECTS") d
+of_def_kind line x (D.NotificationGroup d) = on_line line (lower x) ∷ of_group
+    (codes "NOTIFICATION-GROUP") (codes "NOTIFICATIONS") d
+of_def_kind line x (D.ModuleCompliance d) = on_line line (lower x) ∷ of_raw_definition
+    (codes "MODULE-COMPLIANCE") d
+of_def_kind line x (D.AgentCapabilities d) = on_line line (lower x) ∷ of_raw_definition
+    (codes "AGENT-CAPABILITIES") d
+of_def_kind line x (D.TextualConvention d) = on_line line
+    (upper x) ∷ sign K.Assign ∷ of_textual_convention d
+of_def_kind line x (D.TypeAssignment d) = on_line line
+    (upper x) ∷ sign K.Assign ∷ of_type_assignment d
+of_def_kind line x (D.Sequence fs) =
+    on_line line (upper x) ∷ sign K.Assign ∷ word (codes "SEQUENCE") ∷ braces (of_list
+    (sign K.Comma) of_field fs)
+of_def_kind line x (D.Choice xs) = on_line line (upper x) ∷ sign K.Assign ∷ word
+    (codes "CHOICE") ∷ braces (of_balanced xs)
+-- a macro may have its reserved word as its name
+of_def_kind line x (D.Macro xs) =
+    on_line line (spelled K.Upper x.octets (if is_macro x.octets then true else not
+    (is_reserved x.octets))) ∷ word (codes "MACRO") ∷ sign K.Assign ∷ word (codes "BEGIN") ∷
+    (of_raw_body xs ++ word (codes "END") ∷ [])
+
+abbrev pub of_def : Def → List Mark
+of_def d = of_def_kind d.line d.label d.kind
+
+-- modules
+
+-- LOWER | UPPER | macro
+abbrev pub imported_symbol : TokenText → Mark
+imported_symbol x = spelled x.kind x.text (is_symbol x.kind x.text)
+
+-- the marks, the first of them on this line
+abbrev pub put_line : ℕ → List Mark → List Mark
+put_line n [] = nothing
+put_line n (m ∷ ms) = on_line n m ∷ ms
+
+-- symbol { "," symbol } "FROM" UPPER, the first token on its line
+abbrev pub of_import : Import → List Mark
+of_import i =
+    put_line i.line (of_list (sign K.Comma) (λ x. imported_symbol x ∷ []) i.symbols ++ (word
+    (codes "FROM") ∷ upper i.source ∷ []))
+
+-- UPPER [ "{" { part } "}" ] "DEFINITIONS" "::=" "BEGIN" [ "IMPORTS" .. ";" ]
+abbrev pub of_head : Name → Option (List Part) → Option (List Import) → List Mark
+of_head x heading imports =
+    upper x ∷ (of_option (λ ps. braces (flat_map of_part ps)) heading ++ (word
+    (codes "DEFINITIONS") ∷ sign K.Assign ∷ word (codes "BEGIN") ∷
+    of_option (λ is. word (codes "IMPORTS") ∷
+    (flat_map of_import is ++ sign K.Semicolon ∷ [])) imports))
+
+abbrev pub of_module : Module → List Mark
+of_module m = of_head m.name m.heading m.imports ++ (flat_map of_def m.defs ++ word
+    (codes "END") ∷ [])
+
+-- the spelling of a list of modules
+abbrev pub spelling : List Module → List Mark
+spelling ms = flat_map of_module ms

@@ -1,0 +1,12 @@
+//! The lexer of SMIv2 module texts (RFC 2578, section 3), the lowest layer of reading a module. The
+//! parser reads its tokens, and re-exports these types.
+
+mod class;
+mod error;
+mod lexer;
+mod scan;
+mod token;
+
+pub use error::LexError;
+pub use lexer::{Lexer, one_reading};
+pub use token::{Span, Token, TokenKind};

@@ -1,0 +1,112 @@
+//! The lexer: it returns the tokens of a text one after the other, and last the fault if it breaks
+//! off.
+ghost use Rattle.std.specs.Prelude.{◌≡◌, ℕ, List, []};
+ghost use Rattle.smi_text.specs.lexer.Lexes.{AreInOrder, Lexes, fault_on};
+ghost use Rattle.smi_text.specs.lexer.Token.{Item, tokens_of};
+
+use crate::lexer::error::LexError;
+use crate::lexer::scan::{gaps_at, is_open, lexeme_at, lines_in};
+use crate::lexer::token::{Span, Token};
+use std::marker::Model;
+
+/// An iterator over the tokens of a module text. Where neither a lexeme nor a gap begins it returns
+/// the fault, and then ends. It does not allocate.
+#[derive(Drop)]
+pub struct Lexer<'a> {
+    /// The octets that aren't read yet.
+    rest: &'a [u8],
+    /// How many octets are read.
+    at: usize,
+    /// How many lines have ended in them.
+    lines: usize,
+}
+
+impl<'a> Model for Lexer<'a> {
+    ghost use Rattle.std.specs.Prelude.{List, ◌+◌, ◌<◌, ◌≤◌, ◌^◌, length};
+    ghost use Rattle.smi_text.specs.lexer.Token.{Item};
+
+    ghost Value = { List Item };
+
+    ghost use Rattle.smi_text.specs.lexer.Reading.{items_at};
+
+    ghost view = { λ s. items_at 0 s.at s.lines s.rest.now };
+
+    ghost invariant = { λ s. (s.at + length s.rest.now < 2 ^ 64) × (s.lines ≤ s.at) };
+}
+
+impl<'a> Lexer<'a> {
+    /// The lexer of a whole text.
+    pub fn new(text: &'a [u8]) -> Self
+        // These are the text's tokens, and then the fault if it breaks off before its end.
+        ensures tokens { Lexes [] text.now result }
+        // A text has no other list of tokens.
+        ensures only { (items : List Item) → Lexes [] text.now items → items ≡ result }
+        // So spans rise.
+        ensures spans { AreInOrder text.now 0 (tokens_of result) }
+    {
+        Lexer {
+            rest: text,
+            at: 0,
+            lines: 0,
+        }
+    }
+}
+
+impl<'a> Iterator for Lexer<'a> {
+    type Item = Result<Token<'a>, LexError>;
+
+    ghost use Rattle.std.specs.Iterator.{YieldsFirstBy, item_count};
+    ghost use Rattle.smi_text.specs.lexer.Token.{item_of};
+
+    ghost next_gives = { YieldsFirstBy item_of (λ s. s) };
+
+    ghost remaining = { item_count (λ s. s) };
+
+    fn next(&mut self) -> Option<Result<Token<'a>, LexError>> {
+        let (gaps, ended) = gaps_at(self.rest);
+        let (_, text) = self.rest.split_at(gaps);
+        let start = self.at + gaps;
+        let lines = self.lines + ended;
+        if text.is_empty() {
+            self.rest = text;
+            return None;
+        }
+        let line = lines + 1;
+        let Some((kind, len)) = lexeme_at(text) else {
+            // Nothing is left after a fault.
+            self.rest = &[];
+            return Some(Err(fault_at(text, line)));
+        };
+        let (octets, rest) = text.split_at(len);
+        let span = Span {
+            start,
+            end: start + len,
+        };
+        self.rest = rest;
+        self.at = span.end;
+        self.lines = lines + lines_in(kind, octets);
+        Some(Ok(Token {
+            kind,
+            span,
+            text: octets,
+            line,
+        }))
+    }
+}
+
+/// Why no token begins at the front of the text, which stands on line `line`.
+fn fault_at(text: &[u8], line: usize) -> LexError
+    ensures { result ≡ fault_on line text.now }
+{
+    if is_open(text) {
+        LexError::OpenString { line }
+    } else {
+        LexError::BadByte { line }
+    }
+}
+
+/// A text has one list of tokens, and one fault at most.
+pub fn one_reading()
+    ensures { (before text : List ℕ) (xs ys : List Item) →
+        Lexes before text xs → Lexes before text ys → xs ≡ ys }
+{}

@@ -1,0 +1,257 @@
+//! The lengths of lexemes and gaps, for the lexer's `next`.
+ghost use Rattle.std.specs.Prelude.{◌≡◌, ◌≤◌, ◌<◌, ℕ, drop, length};
+ghost use Rattle.std.specs.List.{list_all};
+ghost use Rattle.std.specs.Option.{option_map};
+ghost use Rattle.std.specs.Char.{is_ascii_digit, is_ascii_hexdigit};
+ghost use Rattle.smi_text.specs.lexer.Lexeme.{IsLexeme, lexeme, is_binary_digit, is_blank, is_hyphen};
+ghost use Rattle.smi_text.specs.lexer.Lexeme.{is_open_string, is_word_octet, is_word_rest};
+ghost use Rattle.smi_text.specs.lexer.Reading.{GoesOn, HasNoGap, IsFirstPlace, IsLexemeFront};
+ghost use Rattle.smi_text.specs.lexer.Reading.{IsLongestPassing, IsPartFront, IsRemarkEnd, Skips};
+ghost use Rattle.smi_text.specs.lexer.Reading.{is_comment_rest, is_remark_rest, hyphen_part, literal_of};
+ghost use Rattle.smi_text.specs.lexer.Reading.{literal_part, newlines, part_in, part_of, string_part};
+ghost use Rattle.smi_text.specs.lexer.Reading.{symbol_part};
+
+use crate::lexer::class::{Class, class_of_octet};
+use crate::lexer::token::TokenKind;
+
+fn is_blank(octet: u8) -> bool
+    ensures { result ≡ is_blank octet }
+{
+    octet == b' ' || (octet >= b'\t' && octet <= b'\r')
+}
+
+fn is_word_octet(octet: u8) -> bool
+    ensures { result ≡ is_word_octet octet }
+{
+    octet.is_ascii_alphanumeric() || octet == b'_'
+}
+
+/// How many of the octets after a word's first letter belong to the word.
+fn word_rest_len(text: &[u8]) -> usize
+    ensures { IsLongestPassing is_word_rest text.now result }
+{
+    let mut n = 0;
+    'octets: while n < text.len() {
+        if is_word_octet(text[n]) {
+            n += 1;
+        } else if text[n] == b'-' && n + 1 < text.len() && is_word_octet(text[n + 1]) {
+            n += 2;
+        } else {
+            break;
+        }
+    }
+    n
+}
+
+/// How many digits stand at the front.
+fn digits_len(text: &[u8]) -> usize
+    ensures { IsLongestPassing (list_all is_ascii_digit) text.now result }
+{
+    let mut n = 0;
+    'octets: while n < text.len() && text[n].is_ascii_digit() {
+        n += 1;
+    }
+    n
+}
+
+/// How many hyphens stand at the front.
+fn hyphens_len(text: &[u8]) -> usize
+    ensures { IsLongestPassing (list_all is_hyphen) text.now result }
+{
+    let mut n = 0;
+    'octets: while n < text.len() && text[n] == b'-' {
+        n += 1;
+    }
+    n
+}
+
+/// How many octets stand before the line ends or two hyphens stand in a row.
+fn remark_len(text: &[u8]) -> usize
+    ensures within { result ≤ length text.now }
+    ensures same { GoesOn is_remark_rest text.now result }
+    ensures ends { IsRemarkEnd (drop result text.now) }
+{
+    'octets: for (n, octet) in text.iter().enumerate() {
+        if *octet == b'\n' {
+            return n;
+        }
+        if *octet == b'-' && n + 1 < text.len() && text[n + 1] == b'-' {
+            return n;
+        }
+    }
+    text.len()
+}
+
+/// How many of the octets after the first two hyphens of a comment belong to it.
+fn comment_rest_len(text: &[u8]) -> usize
+    ensures { IsLongestPassing is_comment_rest text.now result }
+{
+    let opening = hyphens_len(text);
+    let (_, remark) = text.split_at(opening);
+    let len = remark_len(remark);
+    let (_, closing) = remark.split_at(len);
+    opening + (len + hyphens_len(closing))
+}
+
+/// Where an octet stands first, if it occurs.
+fn place_of(octet: u8, text: &[u8]) -> Option<usize>
+    ensures { IsFirstPlace octet text.now result }
+{
+    'octets: for (i, other) in text.iter().enumerate() {
+        if *other == octet {
+            return Some(i);
+        }
+    }
+    None
+}
+
+/// How many of the octets after a string's first quote belong to it.
+fn string_rest(text: &[u8]) -> Option<(TokenKind, usize)>
+    ensures { IsLexemeFront string_part text.now result }
+{
+    let end = place_of(b'"', text)?;
+    Some((TokenKind::Text, end + 1))
+}
+
+fn is_hexadecimal(digits: &[u8]) -> bool
+    ensures { result ≡ list_all is_ascii_hexdigit digits.now }
+{
+    digits.iter().all(|digit| digit.is_ascii_hexdigit())
+}
+
+fn is_binary(digits: &[u8]) -> bool
+    ensures { result ≡ list_all is_binary_digit digits.now }
+{
+    digits.iter().all(|digit| *digit == b'0' || *digit == b'1')
+}
+
+/// The kind of a literal, by its digits and its letter.
+fn literal_kind(digits: &[u8], letter: u8) -> Option<TokenKind>
+    ensures { option_map lexeme result ≡ literal_of digits.now letter }
+{
+    match letter {
+        b'H' | b'h' if is_hexadecimal(digits) => Some(TokenKind::Hex),
+        b'B' | b'b' if is_binary(digits) => Some(TokenKind::Binary),
+        _ => None,
+    }
+}
+
+/// How many of the octets after a literal's first quote belong to it.
+fn literal_rest(text: &[u8]) -> Option<(TokenKind, usize)>
+    ensures { IsLexemeFront literal_part text.now result }
+{
+    let end = place_of(b'\'', text)?;
+    if end + 1 == text.len() {
+        return None;
+    }
+    let (digits, _) = text.split_at(end);
+    let kind = literal_kind(digits, text[end + 1])?;
+    Some((kind, end + 2))
+}
+
+/// How many of the octets after a hyphen belong to its number.
+fn number_rest(text: &[u8]) -> Option<(TokenKind, usize)>
+    ensures { IsLexemeFront hyphen_part text.now result }
+{
+    let len = digits_len(text);
+    if len == 0 {
+        None
+    } else {
+        Some((TokenKind::Number, len))
+    }
+}
+
+/// The longest symbol that begins with this one, and how many of the octets after it belong to it.
+fn symbol_rest(kind: TokenKind, text: &[u8]) -> (TokenKind, usize)
+    ensures { IsPartFront (symbol_part kind) text.now (lexeme result.0) result.1 }
+{
+    match (kind, text) {
+        (TokenKind::Colon, [b':', b'=', ..]) => (TokenKind::Assign, 2),
+        (TokenKind::Dot, [b'.', ..]) => (TokenKind::Range, 1),
+        _ => (kind, 0),
+    }
+}
+
+/// The longest lexeme that begins with an octet of this class, and how many of the octets after it
+/// belong to it.
+fn lexeme_rest(class: Class, text: &[u8]) -> Option<(TokenKind, usize)>
+    ensures { IsLexemeFront (part_in class) text.now result }
+{
+    match class {
+        Class::Lowercase => Some((TokenKind::Lower, word_rest_len(text))),
+        Class::Uppercase => Some((TokenKind::Upper, word_rest_len(text))),
+        Class::Digit => Some((TokenKind::Number, digits_len(text))),
+        Class::Hyphen => number_rest(text),
+        Class::Quote => string_rest(text),
+        Class::Apostrophe => literal_rest(text),
+        Class::Symbol(kind) => Some(symbol_rest(kind, text)),
+        Class::Blank | Class::Other => None,
+    }
+}
+
+/// The longest lexeme at the front of the text, and how many octets it has.
+pub fn lexeme_at(text: &[u8]) -> Option<(TokenKind, usize)>
+    ensures { IsLexemeFront part_of text.now result }
+{
+    let (first, rest) = text.split_first()?;
+    let (kind, len) = lexeme_rest(class_of_octet(*first), rest)?;
+    Some((kind, len + 1))
+}
+
+/// How many octets of gaps stand at the front of the text, and how many lines end in them.
+pub fn gaps_at(text: &[u8]) -> (usize, usize)
+    ensures within { result.0 ≤ length text.now }
+    ensures lines { result.1 ≤ result.0 }
+    ensures skips { Skips text.now result.0 result.1 }
+    ensures all { HasNoGap (drop result.0 text.now) }
+{
+    let mut n = 0;
+    let mut lines = 0;
+    'gaps: while n < text.len() {
+        if text[n] == b'\n' {
+            lines += 1;
+            n += 1;
+        } else if is_blank(text[n]) {
+            n += 1;
+        } else if text[n] == b'-' && n + 1 < text.len() && text[n + 1] == b'-' {
+            n += 2 + comment_rest_len(&text[n + 2..]);
+        } else {
+            break;
+        }
+    }
+    (n, lines)
+}
+
+/// How many lines end in a lexeme of this kind. A line can end only in a string.
+pub fn lines_in(kind: TokenKind, octets: &[u8]) -> usize
+    ensures count { IsLexeme kind octets.now → result ≡ newlines octets.now }
+    ensures within { result ≤ length octets.now }
+{
+    match kind {
+        TokenKind::Text => newlines_in(octets),
+        _ => 0,
+    }
+}
+
+fn newlines_in(text: &[u8]) -> usize
+    ensures count { result ≡ newlines text.now }
+    ensures within { result ≤ length text.now }
+{
+    let mut lines = 0;
+    'octets: for octet in text {
+        if *octet == b'\n' {
+            lines += 1;
+        }
+    }
+    lines
+}
+
+/// Whether a `"` or `'` stands at the front, with no other one after it.
+pub fn is_open(text: &[u8]) -> bool
+    ensures { result ≡ is_open_string text.now }
+{
+    match text {
+        [quote @ (b'"' | b'\''), rest @ ..] => place_of(*quote, rest).is_none(),
+        _ => false,
+    }
+}

@@ -1,0 +1,21 @@
+//! Module trees of SMIv2 (RFC 2578, RFC 2579, RFC 2580): what a module text says, the tokens that
+//! state it, and what its names and numbers mean. The parser in `smi_text` and the tree of names in
+//! `smi_tree` build on this crate.
+
+mod items;
+mod lookup;
+mod names;
+mod numbers;
+mod reserved;
+mod strings;
+mod tree;
+
+pub use items::{Items, Text};
+pub use names::Name;
+pub use numbers::{arc, bound, is_arc, is_bound, is_number, number};
+pub use reserved::{is_macro, is_reserved};
+pub use tree::{
+    Base, Def, DefKind, Field, Group, Import, Index, IndexParts, Module, ModuleIdentity,
+    NamedNumber, NotificationType, ObjectIdentity, ObjectType, Part, Range, RawDefinition,
+    Refinement, Revision, SimpleType, Status, Syntax, TextualConvention, TokenText, TypeAssignment,
+};

@@ -1,0 +1,95 @@
+//! The reserved words: those that stand in quotes in the grammar. No name is one of them.
+#![tactic(auto, unfolding(crate::specs::trees::Reserved::is_reserved, crate::specs::trees::Number::is_macro))]
+
+ghost use Rattle.std.specs.Prelude.{◌≡◌, map};
+ghost use Rattle.std.specs.List.{list_any};
+ghost use Rattle.smi_text.specs.trees.Mark.{same_text};
+ghost use Rattle.smi_text.specs.trees.Reserved as words;
+ghost use Rattle.smi_text.specs.trees.Number as number;
+
+/// The words that name a macro, which can be defined and imported (RFC 2578, section 3).
+const MACROS: [&[u8]; 9] = [
+    b"MODULE-IDENTITY",
+    b"OBJECT-IDENTITY",
+    b"OBJECT-TYPE",
+    b"NOTIFICATION-TYPE",
+    b"TEXTUAL-CONVENTION",
+    b"OBJECT-GROUP",
+    b"NOTIFICATION-GROUP",
+    b"MODULE-COMPLIANCE",
+    b"AGENT-CAPABILITIES",
+];
+
+/// The words of the grammar, the names of macros among them.
+const RESERVED: [&[u8]; 44] = [
+    b"DEFINITIONS",
+    b"BEGIN",
+    b"END",
+    b"IMPORTS",
+    b"FROM",
+    b"OBJECT",
+    b"IDENTIFIER",
+    b"MODULE-IDENTITY",
+    b"LAST-UPDATED",
+    b"ORGANIZATION",
+    b"CONTACT-INFO",
+    b"DESCRIPTION",
+    b"REVISION",
+    b"OBJECT-IDENTITY",
+    b"OBJECT-TYPE",
+    b"SYNTAX",
+    b"UNITS",
+    b"MAX-ACCESS",
+    b"DEFVAL",
+    b"NOTIFICATION-TYPE",
+    b"OBJECTS",
+    b"OBJECT-GROUP",
+    b"NOTIFICATION-GROUP",
+    b"NOTIFICATIONS",
+    b"MODULE-COMPLIANCE",
+    b"AGENT-CAPABILITIES",
+    b"TEXTUAL-CONVENTION",
+    b"DISPLAY-HINT",
+    b"APPLICATION",
+    b"IMPLICIT",
+    b"SEQUENCE",
+    b"CHOICE",
+    b"MACRO",
+    b"STATUS",
+    b"REFERENCE",
+    b"INDEX",
+    b"IMPLIED",
+    b"AUGMENTS",
+    b"OF",
+    b"INTEGER",
+    b"OCTET",
+    b"STRING",
+    b"BITS",
+    b"SIZE",
+];
+
+/// Whether a text is one of these words.
+fn is_among(words: &[&[u8]], text: &[u8]) -> bool
+    ensures { result ≡ list_any (same_text text.now) (map (λ word. word.now) words.now) }
+{
+    for word in words {
+        if text == *word {
+            return true;
+        }
+    }
+    false
+}
+
+/// Whether a word is reserved.
+pub fn is_reserved(text: &[u8]) -> bool
+    ensures { result ≡ words.is_reserved text.now }
+{
+    is_among(&RESERVED, text)
+}
+
+/// Whether a word names a macro.
+pub fn is_macro(text: &[u8]) -> bool
+    ensures { result ≡ number.is_macro text.now }
+{
+    is_among(&MACROS, text)
+}

@@ -1,0 +1,254 @@
+//! Module trees: what a module text says, without blanks and comments (RFC 2578, sections 3 to 8;
+//! RFC 2579; RFC 2580).
+//! A tree owns its texts, which are the unchanged texts of the tokens: strings keep their quotes,
+//! numbers their zeros.
+use crate::trees::items::{Items, Text};
+use crate::trees::names::Name;
+use crate::lexer::TokenKind;
+
+/// A module (RFC 2578, section 3).
+#[derive(Debug, Drop)]
+pub struct Module {
+    pub name: Name,
+    /// The identifier in braces after the name, if there are braces. It may be empty.
+    pub heading: Option<Items<Part>>,
+    /// What is imported, one item for each FROM, if there is an IMPORTS. It may be empty.
+    pub imports: Option<Items<Import>>,
+    /// The definitions, in the order of the text. No two have the same label.
+    pub defs: Items<Def>,
+}
+
+/// The symbols that one FROM clause imports (RFC 2578, section 3.2).
+#[derive(Debug, Drop)]
+pub struct Import {
+    /// At least one, in the order of the text.
+    pub symbols: Items<TokenText>,
+    /// The module after FROM.
+    pub source: Name,
+    /// The line of the first symbol, counted from 1.
+    pub line: usize,
+}
+
+/// A token that a tree keeps unchanged.
+#[derive(Debug, Drop)]
+pub struct TokenText {
+    pub kind: TokenKind,
+    pub text: Text,
+}
+
+/// A definition: a name, and what it is defined as.
+#[derive(Debug, Drop)]
+pub struct Def {
+    pub label: Name,
+    /// The line of the label, counted from 1.
+    pub line: usize,
+    pub kind: DefKind,
+}
+
+/// What a definition defines its name as: one variant for each form in the grammar.
+#[derive(Debug, Drop)]
+pub enum DefKind {
+    /// `OBJECT IDENTIFIER ::= { .. }` (RFC 2578, section 3.6).
+    ObjectIdentifier(Items<Part>),
+    /// MODULE-IDENTITY (RFC 2578, section 5).
+    ModuleIdentity(ModuleIdentity),
+    /// OBJECT-IDENTITY (RFC 2578, section 6).
+    ObjectIdentity(ObjectIdentity),
+    /// OBJECT-TYPE (RFC 2578, section 7).
+    ObjectType(ObjectType),
+    /// NOTIFICATION-TYPE (RFC 2578, section 8).
+    NotificationType(NotificationType),
+    /// OBJECT-GROUP (RFC 2580, section 3).
+    ObjectGroup(Group),
+    /// NOTIFICATION-GROUP (RFC 2580, section 4).
+    NotificationGroup(Group),
+    /// MODULE-COMPLIANCE (RFC 2580, section 5), its clauses raw.
+    ModuleCompliance(RawDefinition),
+    /// AGENT-CAPABILITIES (RFC 2580, section 6), its clauses raw.
+    AgentCapabilities(RawDefinition),
+    /// TEXTUAL-CONVENTION (RFC 2579, section 3).
+    TextualConvention(TextualConvention),
+    /// A type that is assigned a name (RFC 2578, section 7.1).
+    TypeAssignment(TypeAssignment),
+    /// The columns of a row, SEQUENCE (RFC 2578, section 7.1.12).
+    Sequence(Items<Field>),
+    /// CHOICE, raw.
+    Choice(Items<TokenText>),
+    /// MACRO, raw.
+    Macro(Items<TokenText>),
+}
+
+/// A part of an identifier value (RFC 2578, section 7.10).
+#[derive(Debug, Drop)]
+pub enum Part {
+    /// A number from 0 to 4294967295.
+    Number(Text),
+    /// A name alone. In a definition's value it stands in the first place only.
+    Name(Name),
+    /// A name with its number.
+    NamedNumber(NamedNumber),
+}
+
+/// A name with a number in parentheses.
+#[derive(Debug, Drop)]
+pub struct NamedNumber {
+    pub name: Name,
+    pub number: Text,
+}
+
+/// The clauses of MODULE-IDENTITY (RFC 2578, section 5).
+#[derive(Debug, Drop)]
+pub struct ModuleIdentity {
+    pub last_updated: Text,
+    pub organization: Text,
+    pub contact_info: Text,
+    pub description: Text,
+    pub revisions: Items<Revision>,
+    pub value: Items<Part>,
+}
+
+/// A REVISION with its DESCRIPTION (RFC 2578, sections 5.5 and 5.6).
+#[derive(Debug, Drop)]
+pub struct Revision {
+    pub date: Text,
+    pub description: Text,
+}
+
+/// The clauses of OBJECT-IDENTITY (RFC 2578, section 6).
+#[derive(Debug, Drop)]
+pub struct ObjectIdentity {
+    pub status: Status,
+    pub value: Items<Part>,
+}
+
+/// STATUS, DESCRIPTION and REFERENCE of a definition (RFC 2578, sections 7.4 to 7.6).
+#[derive(Debug, Drop)]
+pub struct Status {
+    pub status: Text,
+    pub description: Text,
+    pub reference: Option<Text>,
+}
+
+/// The clauses of OBJECT-TYPE (RFC 2578, section 7).
+#[derive(Debug, Drop)]
+pub struct ObjectType {
+    pub syntax: Syntax,
+    pub units: Option<Text>,
+    pub max_access: Text,
+    pub status: Status,
+    pub index: Option<Index>,
+    /// The tokens between the braces of DEFVAL.
+    pub default: Option<Items<TokenText>>,
+    pub value: Items<Part>,
+}
+
+/// How the rows of a table are identified: INDEX or AUGMENTS (RFC 2578, sections 7.7 and 7.8).
+#[derive(Debug, Drop)]
+pub enum Index {
+    /// INDEX.
+    Own(IndexParts),
+    /// AUGMENTS, by the row whose INDEX is used.
+    Augments(Name),
+}
+
+/// The objects of an INDEX clause (RFC 2578, section 7.7).
+#[derive(Debug, Drop)]
+pub struct IndexParts {
+    /// At least one.
+    pub names: Items<Name>,
+    /// Whether IMPLIED stands before the last one.
+    pub implied: bool,
+}
+
+/// The clauses of NOTIFICATION-TYPE (RFC 2578, section 8).
+#[derive(Debug, Drop)]
+pub struct NotificationType {
+    pub objects: Option<Items<Name>>,
+    pub status: Status,
+    pub value: Items<Part>,
+}
+
+/// The clauses of OBJECT-GROUP and NOTIFICATION-GROUP (RFC 2580, sections 3 and 4).
+#[derive(Debug, Drop)]
+pub struct Group {
+    /// The objects or notifications, at least one.
+    pub members: Items<Name>,
+    pub status: Status,
+    pub value: Items<Part>,
+}
+
+/// A definition whose clauses are kept as tokens.
+#[derive(Debug, Drop)]
+pub struct RawDefinition {
+    /// The tokens before `::=`.
+    pub clauses: Items<TokenText>,
+    pub value: Items<Part>,
+}
+
+/// The clauses of TEXTUAL-CONVENTION (RFC 2579, section 3).
+#[derive(Debug, Drop)]
+pub struct TextualConvention {
+    pub display_hint: Option<Text>,
+    pub status: Status,
+    pub syntax: Syntax,
+}
+
+/// A type, with a tag before it if it has one, as the base types of RFC 2578's own module do.
+#[derive(Debug, Drop)]
+pub struct TypeAssignment {
+    /// The number of `[APPLICATION n] IMPLICIT`.
+    pub tag: Option<Text>,
+    pub syntax: Syntax,
+}
+
+/// A column of a row, with its type.
+#[derive(Debug, Drop)]
+pub struct Field {
+    pub label: Name,
+    pub syntax: Syntax,
+}
+
+/// A type (RFC 2578, sections 7.1 and 9).
+#[derive(Debug, Drop)]
+pub enum Syntax {
+    /// `SEQUENCE OF` a row's type.
+    SequenceOf(Name),
+    /// Any other type.
+    Simple(SimpleType),
+}
+
+/// A base type or a named one, perhaps refined.
+#[derive(Debug, Drop)]
+pub struct SimpleType {
+    pub base: Base,
+    pub refinement: Option<Refinement>,
+}
+
+/// What a type is made of.
+#[derive(Debug, Drop)]
+pub enum Base {
+    Integer,
+    OctetString,
+    ObjectIdentifier,
+    Bits,
+    Named(Name),
+}
+
+/// What narrows a type (RFC 2578, section 9).
+#[derive(Debug, Drop)]
+pub enum Refinement {
+    /// Named numbers or bits.
+    Numbers(Items<NamedNumber>),
+    /// Ranges of values.
+    Values(Items<Range>),
+    /// Ranges of lengths, SIZE.
+    Size(Items<Range>),
+}
+
+/// A range, or one value if there is no upper bound.
+#[derive(Debug, Drop)]
+pub struct Range {
+    /// A number, or a hexadecimal or binary literal.
+    pub low: TokenText,
+    pub high: Option<TokenText>,
+}

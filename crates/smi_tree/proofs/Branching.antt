@@ -1,0 +1,274 @@
+-- Branches stay those of a list as it grows.
+use Rattle.std.proofs.Common.{
+  ◌≡◌,
+  ◌≢◌,
+  ℕ,
+  zero,
+  suc,
+  ◌+◌,
+  ◌<◌,
+  ◌≤◌,
+  ◌⊎◌,
+  inl,
+  inr,
+  List,
+  [],
+  ◌∷◌,
+  ◌++◌,
+  length,
+  take,
+  drop,
+  get_or,
+  MatchOption,
+  Option,
+  Some,
+  None,
+  refl,
+  sym,
+  ap,
+  ◌∙◌,
+  arith,
+}
+use Rattle.std.proofs.lemmas.List.{length_push, get_or_append_left, get_or_push, take-append-drop, take_more, take-take}
+use Rattle.std.proofs.lemmas.Bool.{cases_eq, cases_lt}
+use Rattle.std.specs.Option.{option_and_then}
+use Rattle.smi_tree.specs.branches.Standing.{place_of, oid_at, HasNoBeginning, IsDeepestAt}
+use Rattle.smi_tree.specs.branches.Branches.{follower, standing_at, walk, branch_of, IsBeginning, AreBranches, AreBranchesOf, deeper_of, GrowsBranch, there, made}
+use Rattle.smi_tree.specs.declared.branches.branch.Branch.{Branch}
+use Rattle.smi_tree.specs.declared.branches.identifiers.Deepest.{Deepest}
+use Rattle.smi_tree.proofs.Growing.{get_past, follower_past}
+use Rattle.smi_tree.proofs.PlacesLemmas.{place_found, place_push_itself, place_push_other, or_else}
+use Rattle.smi_tree.proofs.Walking.{same_or_not, walk-push, walk_front, walk_within, walk_made, walk_kept, none_there, by_last}
+
+-- what no branch leads to is none of the identifiers
+pub place_off : (known oids : List (List ℕ)) (bs : List Branch) → AreBranches known oids bs → (o : List ℕ) → branch_of bs o ≡ None → place_of oids o ≡ None
+place_off known oids bs are o e = by (place_of oids o) refl
+  where
+    by : (r : Option ℕ) → place_of oids o ≡ r → r ≡ None
+    by None h = refl
+    by (Some k) h =
+        let f = place_found oids o k h in let b = are.each k f.0 in let same = rw f.1 at b.1 in absurd (cc)
+
+-- nor is anything that goes on from it
+pub places_off : (known oids : List (List ℕ)) (bs : List Branch) → AreBranches known oids bs → (xs ys : List ℕ) → branch_of bs xs ≡ None
+    → place_of oids (xs ++ ys) ≡ None
+places_off known oids bs are xs ys e = place_off known oids bs are (xs ++ ys) (by (branch_of bs (xs ++ ys)) refl)
+  where
+    by : (r : Option ℕ) → branch_of bs (xs ++ ys) ≡ r → r ≡ None
+    by None h = refl
+    by (Some c) h = let f = walk_front (follower bs) 0 xs ys c h in let there = f.1 in absurd (cc)
+
+module _ (known oids : List (List ℕ)) (bs new : List Branch) (q : List ℕ) (at n : ℕ) (are : AreBranches known oids bs)
+    (here : branch_of bs q ≡ Some at) (begins : IsBeginning known (q ++ n ∷ [])) where
+  grown_there : (b : ℕ) → new ≡ bs → follower bs at n ≡ Some b → AreBranches known oids new × (branch_of new (q ++ n ∷ []) ≡ Some b)
+  grown_there b e f = rw e (are, walk-push (follower bs) 0 q n ∙ rw here f)
+
+  grown_made : length new ≡ length bs + 1 → follower bs at n ≡ None → follower new at n ≡ Some (length bs)
+      → ((c m : ℕ) → (c ≡ at → m ≡ n → ⊥) → follower new c m ≡ follower bs c m)
+      → ((c : ℕ) → standing_at new c ≡ standing_at bs c)
+      → AreBranches known oids new × (branch_of new (q ++ n ∷ []) ≡ Some (length bs))
+  grown_made long none leads others stands =
+      let f = follower bs in let g = follower new in
+      let past : (m : ℕ) → follower bs (length bs) m ≡ None = λ m. follower_past bs (length bs) m (omega arith) in
+      let came = walk_made f g q at n (length bs) are.within are.some are.apart here none leads others past in
+      let kept = walk_kept f g q at n (length bs) are.within are.some are.apart here none leads others past in
+      let off = none_there f g q at n (length bs) are.within are.some are.apart here none leads others past in
+      let inside = walk_within f g q at n (length bs) are.within are.some are.apart here none leads others past in (
+        record {
+          some = omega arith;
+          within = λ c m b e. elim (cases_eq c at) [
+            | inl s ↦ elim (cases_eq m n) [
+              | inl t ↦ let is : length bs ≡ b = let l = rw (s, t) at e in cc in omega arith
+              | inr t ↦ let l = are.within c m b (sym (others c m (λ _ h. t h)) ∙ e) in omega arith
+            ]
+            | inr s ↦ let l = are.within c m b (sym (others c m (λ h _. s h)) ∙ e) in omega arith
+          ];
+          apart = λ o p b eo ep. elim (same_or_not o (q ++ n ∷ [])) [
+            | inl so ↦ elim (same_or_not p (q ++ n ∷ [])) [
+              | inl sp ↦ so ∙ sym sp
+              | inr sp ↦ let l = inside p b (sym (kept p sp) ∙ ep) in let is : length bs ≡ b = let w = rw so at eo in cc in absurd (omega arith)
+            ]
+            | inr so ↦ elim (same_or_not p (q ++ n ∷ [])) [
+              | inl sp ↦ let l = inside o b (sym (kept o so) ∙ eo) in let is : length bs ≡ b = let w = rw sp at ep in cc in absurd (omega arith)
+              | inr sp ↦ are.apart o p b (sym (kept o so) ∙ eo) (sym (kept p sp) ∙ ep)
+            ]
+          ];
+          standing = λ o b e. elim (same_or_not o (q ++ n ∷ [])) [
+            | inl s ↦ let is : length bs ≡ b = let w = rw s at e in cc in
+                stands b ∙ rw (sym is, get_past bs (length bs) (omega arith)) (sym (rw s (place_off known oids bs are (q ++ n ∷ []) off)))
+            | inr s ↦ stands b ∙ are.standing o b (sym (kept o s) ∙ e)
+          ];
+          each = λ k l. let b = are.each k l in elim (same_or_not (oid_at oids k) (q ++ n ∷ [])) [
+            | inl s ↦ let w = rw s at b.1 in absurd (cc)
+            | inr s ↦ (b.0, kept (oid_at oids k) s ∙ b.1)
+          ];
+          only = λ o b e f. elim (same_or_not o (q ++ n ∷ [])) [
+            | inl s ↦ rw s begins
+            | inr s ↦ are.only o b (sym (kept o s) ∙ e) f
+          ];
+        },
+        came,
+      )
+
+pub Branches-grown : (known oids : List (List ℕ)) (bs new : List Branch) (q : List ℕ) (at n b : ℕ) → AreBranches known oids bs
+    → branch_of bs q ≡ Some at → IsBeginning known (q ++ n ∷ []) → GrowsBranch bs new at n b
+    → AreBranches known oids new × (branch_of new (q ++ n ∷ []) ≡ Some b)
+Branches-grown known oids bs new q at n b are here begins (there e f) = grown_there known oids bs new q at n are here begins b e f
+Branches-grown known oids bs new q at n b are here begins (made is long none leads others stands) =
+    rw is (grown_made known oids bs new q at n are here begins long none (leads ∙ ap (λ x. Some x) is) others stands)
+
+-- more is known
+pub Branches-known : (known oids : List (List ℕ)) (p : List ℕ) (bs : List Branch) → AreBranches known oids bs → AreBranches (known ++ p ∷ []) oids bs
+Branches-known known oids p bs are = record {
+  some = are.some;
+  within = are.within;
+  apart = are.apart;
+  standing = are.standing;
+  each = are.each;
+  only = λ o b e f. let r = are.only o b e f in
+      (r.0, r.1, omega (arith, r.2, length_push known p), get_or_append_left known (p ∷ []) [] r.0 r.2 ∙ r.3);
+}
+
+-- the new identifier's own beginnings are known
+pub begins_push : (known : List (List ℕ)) (p : List ℕ) (j : ℕ) → IsBeginning (known ++ p ∷ []) (take j p)
+begins_push known p j =
+    (length known, drop j p, omega (arith, length_push known p), get_or_push known p [] (length known) refl ∙ sym (take-append-drop j p))
+
+-- the new identifier stands where its numbers lead, if none stands there
+pub Branches-ended : (oids : List (List ℕ)) (p : List ℕ) (bs new : List Branch) (at : ℕ) → AreBranches (oids ++ p ∷ []) oids bs
+    → branch_of bs p ≡ Some at → length new ≡ length bs → ((c m : ℕ) → follower new c m ≡ follower bs c m)
+    → standing_at new at ≡ or_else (standing_at bs at) (Some (length oids))
+    → ((c : ℕ) → c ≢ at → standing_at new c ≡ standing_at bs c)
+    → AreBranchesOf (oids ++ p ∷ []) new
+Branches-ended oids p bs new at are here long same stands others =
+    let walks = walk-same (follower bs) (follower new) same in record {
+      some = omega (arith, are.some);
+      within = λ c m b e. omega (arith, are.within c m b (sym (same c m) ∙ e));
+      apart = λ o r b eo er. are.apart o r b (sym (walks 0 o) ∙ eo) (sym (walks 0 r) ∙ er);
+      standing = λ o b e. elim (same_or_not p o) [
+        | inl s ↦ let is : at ≡ b = let w = sym (walks 0 o) ∙ e in let v = rw s at here in cc in
+            rw (sym is, sym s) (stands ∙ rw (are.standing p at here) (sym (place_push_itself oids p)))
+        | inr s ↦ let before = sym (walks 0 o) ∙ e in
+            others b (λ is. s (are.apart p o at here (before ∙ ap (λ x. Some x) is))) ∙ are.standing o b before ∙ sym (place_push_other oids p o s)
+      ];
+      each = λ k l. elim (cases_lt k (length oids)) [
+        | inl m ↦ let b = are.each k m in (b.0, walks 0 (oid_at (oids ++ p ∷ []) k) ∙ rw (get_or_append_left oids (p ∷ []) [] k m) b.1)
+        | inr m ↦ let is : length oids ≡ k = omega (arith, length_push oids p) in (
+          at,
+          walks 0 (oid_at (oids ++ p ∷ []) k)
+              ∙ rw (get_or_push oids p [] k is) here,
+        )
+      ];
+      only = λ o b e f. are.only o b (sym (walks 0 o) ∙ e) f;
+    }
+  where
+    walk-same : (f g : ℕ → ℕ → Option ℕ) → ((c m : ℕ) → g c m ≡ f c m) → (at : ℕ) (o : List ℕ) → walk g at o ≡ walk f at o
+    walk-same f g same at [] = refl
+    walk-same f g same at (n ∷ o) = rw (same at n) (by (f at n) (λ b. walk-same f g same b o))
+      where
+        by : (r : Option ℕ) → ((b : ℕ) → walk g b o ≡ walk f b o) → option_and_then (λ b. walk g b o) r ≡ option_and_then (λ b. walk f b o) r
+        by None h = refl
+        by (Some b) h = h b
+
+-- the branches of no identifier
+pub Branches-none : (b : Branch) → ((n : ℕ) → follower (b ∷ []) 0 n ≡ None) → b.standing ≡ None → AreBranchesOf [] (b ∷ [])
+Branches-none b none stands =
+    let only_first = by_last (λ o. (c : ℕ) → branch_of (b ∷ []) o ≡ Some c → (o ≡ []) × (c ≡ 0)) (λ c e. (refl, cc))
+    (λ xs x ih c e. absurd (step xs x c (sym (walk-push (follower (b ∷ [])) 0 xs x) ∙ e))) in record {
+      some = omega arith;
+      within = λ c n d e. absurd (none_at c n d e);
+      apart = λ o p c eo ep. (only_first o c eo).0 ∙ sym (only_first p c ep).0;
+      standing = λ o c e. rw (only_first o c e).1 stands;
+      each = λ k l. absurd (omega arith);
+      only = λ o c e f. absurd (f (only_first o c e).0);
+    }
+  where
+    none_at : (c n d : ℕ) → follower (b ∷ []) c n ≡ Some d → ⊥
+    none_at zero n d e = let f = none n in cc
+    none_at (suc c) n d e = cc
+
+    step : (xs : List ℕ) (x c : ℕ) → option_and_then (λ d. follower (b ∷ []) d x) (branch_of (b ∷ []) xs) ≡ Some c → ⊥
+    step xs x c e = by (branch_of (b ∷ []) xs) e
+      where
+        by : (r : Option ℕ) → option_and_then (λ d. follower (b ∷ []) d x) r ≡ Some c → ⊥
+        by None e = cc
+        by (Some d) e = none_at d x c e
+
+-- a branch lies within
+pub branch_inside : (known oids : List (List ℕ)) (bs : List Branch) → AreBranches known oids bs → (o : List ℕ) (b : ℕ) → branch_of bs o ≡ Some b → b < length bs
+branch_inside known oids bs are = by_last (λ o. (b : ℕ) → branch_of bs o ≡ Some b → b < length bs)
+    (λ b e. let first : 0 ≡ b = cc in omega (arith, are.some))
+    (λ xs x ih b e. step (branch_of bs xs) x b (sym (walk-push (follower bs) 0 xs x) ∙ e))
+  where
+    step : (r : Option ℕ) (x b : ℕ) → option_and_then (λ d. follower bs d x) r ≡ Some b → b < length bs
+    step None x b e = absurd (cc)
+    step (Some d) x b e = are.within d x b e
+
+-- the walk goes on by the next of the numbers
+pub branch_more : (bs : List Branch) (o : List ℕ) (i at : ℕ) → i < length o → branch_of bs (take i o) ≡ Some at
+    → branch_of bs (take (i + 1) o) ≡ follower bs at (get_or o i 0)
+branch_more bs o i at l e = rw (take_more o i 0 l, walk-push (follower bs) 0 (take i o) (get_or o i 0), e) refl
+
+pub branch_off : (bs : List Branch) (o : List ℕ) (i at : ℕ) → i < length o → branch_of bs (take i o) ≡ Some at
+    → follower bs at (get_or o i 0) ≡ None → branch_of bs o ≡ None
+branch_off bs o i at l e f = by (branch_of bs o) refl
+  where
+    by : (r : Option ℕ) → branch_of bs o ≡ r → r ≡ None
+    by None h = refl
+    by (Some c) h =
+        let whole = rw (sym (take-append-drop (i + 1) o)) at h in
+        let front = walk_front (follower bs) 0 (take (i + 1) o) (drop (i + 1) o) c whole in
+        let none = branch_more bs o i at l e ∙ f in let some = front.1 in absurd (cc)
+
+-- the longest of the beginnings up to a length
+abbrev pub SoFar : List (List ℕ) → List ℕ → ℕ → Option Deepest → Type 0
+SoFar oids o i None = (j : ℕ) → j ≤ i → place_of oids (take j o) ≡ None
+SoFar oids o i (Some d) =
+    (d.depth ≤ i) × (place_of oids (take d.depth o) ≡ Some d.place) × ((j : ℕ) → d.depth < j → j ≤ i → place_of oids (take j o) ≡ None)
+
+pub SoFar-none : (oids : List (List ℕ)) (o : List ℕ) (i : ℕ) (r : Option Deepest) → SoFar oids o i r → place_of oids (take (i + 1) o) ≡ None
+    → SoFar oids o (i + 1) r
+SoFar-none oids o i None f e = λ j l. elim (cases_lt i j) [ inl m ↦ let is : j ≡ i + 1 = omega arith in rw is e | inr m ↦ f j m ]
+SoFar-none oids o i (Some d) f e = (
+  omega (arith, f.0),
+  f.1,
+  λ j l m. elim (cases_lt i j) [
+    | inl n ↦ let is : j ≡ i + 1 = omega arith in rw is e
+    | inr n ↦ f.2 j l n
+  ],
+)
+
+pub SoFar-some : (oids : List (List ℕ)) (o : List ℕ) (i k : ℕ) → place_of oids (take (i + 1) o) ≡ Some k
+    → SoFar oids o (i + 1) (Some (record { place = k; depth = i + 1 }))
+SoFar-some oids o i k e = (omega arith, e, λ j l m. absurd (omega arith))
+
+pub SoFar-off : (oids : List (List ℕ)) (o : List ℕ) (i n : ℕ) (r : Option Deepest) → SoFar oids o i r
+    → ((j : ℕ) → i < j → place_of oids (take j o) ≡ None) → SoFar oids o n r ⊎ (n < i)
+SoFar-off oids o i n None f g = elim (cases_lt n i) [ inl l ↦ inr l | inr l ↦ inl (λ j m. elim (cases_lt i j) [ inl k ↦ g j k | inr k ↦ f j k ]) ]
+SoFar-off oids o i n (Some d) f g = elim (cases_lt n i) [
+  | inl l ↦ inr l
+  | inr l ↦ inl (omega (arith, f.0), f.1, λ j m k. elim (cases_lt i j) [ inl p ↦ g j p | inr p ↦ f.2 j m p ])
+]
+
+pub SoFar-whole : (oids : List (List ℕ)) (o : List ℕ) (r : Option Deepest) → SoFar oids o (length o) r
+    → MatchOption r (HasNoBeginning oids o) (λ d. IsDeepestAt oids o d.place d.depth)
+SoFar-whole oids o None f = f
+SoFar-whole oids o (Some d) f = record { within = f.0; here = f.1; none_longer = f.2 }
+
+-- no longer beginning is there where the numbers lead no further
+pub none_beyond : (oids : List (List ℕ)) (bs : List Branch) → AreBranchesOf oids bs → (o : List ℕ) (i at : ℕ) → i < length o → branch_of bs (take i o) ≡ Some at
+    → follower bs at (get_or o i 0) ≡ None → (j : ℕ) → i < j → place_of oids (take j o) ≡ None
+none_beyond oids bs are o i at l e f j m =
+    let none = branch_more bs o i at l e ∙ f in
+    let split : take (i + 1) o ++ drop (i + 1) (take j o) ≡ take j o =
+    rw (sym (take-take (i + 1) j o (omega arith))) (take-append-drop (i + 1) (take j o)) in
+    rw (sym split) (places_off oids oids bs are (take (i + 1) o) (drop (i + 1) (take j o)) none)
+
+pub SoFar-deeper : (oids : List (List ℕ)) (o : List ℕ) (i : ℕ) (r : Option Deepest) (s : Option ℕ) → SoFar oids o i r → s ≡ place_of oids (take (i + 1) o)
+    → SoFar oids o (i + 1) (deeper_of s (i + 1) r)
+SoFar-deeper oids o i r None f e = SoFar-none oids o i r f (sym e)
+SoFar-deeper oids o i r (Some k) f e = SoFar-some oids o i k (sym e)
+
+pub SoFar-first : (oids : List (List ℕ)) (o : List ℕ) (s : Option ℕ) → s ≡ place_of oids (take 0 o) → SoFar oids o 0 (deeper_of s 0 None)
+SoFar-first oids o None e = λ j l. let is : j ≡ 0 = omega arith in rw is (sym e)
+SoFar-first oids o (Some k) e = (omega arith, sym e, λ j l m. absurd (omega arith))

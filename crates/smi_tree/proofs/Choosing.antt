@@ -1,0 +1,28 @@
+-- A type has one chain, and so one syntax.
+use Rattle.std.proofs.Common.{◌≡◌, List, ◌∷◌, refl, sym, ap, ◌∙◌}
+use Rattle.smi_text.specs.declared.trees.tree.Module.{Module}
+use Rattle.smi_names.specs.meaning.Meaning.{QualifiedName}
+use Rattle.smi_tree.specs.types.Chain.{Layer, TypeOrigin, TypeChain, at_end, on_type}
+use Rattle.smi_tree.specs.types.Types.{Facts, HasSyntax, type_origin}
+use Rattle.smi_tree.specs.declared.types.base.TypeBase.{TypeBase}
+
+module _ {A : Type 0} (origin : A → TypeOrigin A) where
+  pub one_chain : {o : TypeOrigin A} {ls : List Layer} {b : TypeBase} → TypeChain origin o ls b
+      → {ms : List Layer} {c : TypeBase} → TypeChain origin o ms c → (ls ≡ ms) × (b ≡ c)
+  one_chain at_end at_end = (refl, refl)
+  one_chain (on_type {l = l} h) (on_type k) = let r = one_chain h k in (ap (λ x. l ∷ x) r.0, r.1)
+
+pub one_syntax : (ms : List Module) (o : TypeOrigin QualifiedName) (f g : Facts) → HasSyntax ms o f → HasSyntax ms o g → f ≡ g
+one_syntax ms o f g a b =
+    let r = one_chain (type_origin ms) a.chain b.chain in
+    let hint : f.hint ≡ g.hint = a.hint ∙ rw r.0 (sym b.hint) in
+    let names : f.names ≡ g.names = a.names ∙ rw r.0 (sym b.names) in
+    let sizes : f.sizes ≡ g.sizes = a.sizes ∙ rw r.0 (sym b.sizes) in
+    same f g r.1 hint names sizes
+  where
+    same : (f g : Facts) → f.base ≡ g.base → f.hint ≡ g.hint → f.names ≡ g.names → f.sizes ≡ g.sizes → f ≡ g
+    same f g base hint names sizes =
+        ap (λ b. record { base = b; hint = f.hint; names = f.names; sizes = f.sizes }) base
+        ∙ ap (λ h. record { base = g.base; hint = h; names = f.names; sizes = f.sizes }) hint
+        ∙ ap (λ n. record { base = g.base; hint = g.hint; names = n; sizes = f.sizes }) names
+        ∙ ap (λ z. record { base = g.base; hint = g.hint; names = g.names; sizes = z }) sizes

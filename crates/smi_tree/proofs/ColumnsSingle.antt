@@ -1,0 +1,97 @@
+-- A column has one index.
+use Rattle.std.proofs.Common.{◌≡◌, ℕ, Bool, List, Option, Some, None, refl, sym, ap, ◌∙◌, arith}
+use Rattle.std.proofs.lemmas.List.{ext_get_or}
+use Rattle.std.proofs.lemmas.Option.{slice_get_within}
+use Rattle.smi_show.specs.declared.index.part.Extent.{Extent}
+use Rattle.smi_show.specs.declared.index.part.Extent.TheVariants.{Fixed, Counted, Implied}
+use Rattle.smi_show.specs.declared.index.part.IndexPart.{IndexPart}
+use Rattle.smi_show.specs.declared.index.part.IndexPart.TheVariants as P
+use Rattle.smi_text.specs.declared.trees.tree.Module.{Module}
+use Rattle.smi_text.specs.declared.trees.tree.Def.{Def}
+use Rattle.smi_text.specs.declared.trees.tree.Range.{Range}
+use Rattle.smi_text.specs.declared.trees.tree.IndexParts.{IndexParts}
+use Rattle.smi_names.specs.meaning.Meaning.{QualifiedName}
+use Rattle.smi_tree.specs.types.Chain.{TypeOrigin}
+use Rattle.smi_tree.specs.types.Types.{Facts, HasSyntax, origin_of_object}
+use Rattle.smi_tree.specs.declared.types.base.TypeBase.{TypeBase}
+use Rattle.smi_tree.specs.declared.types.base.TypeBase.TheVariants as T
+use Rattle.smi_names.specs.nodes.Nodes.{Node}
+use Rattle.smi_tree.specs.columns.Parts.{IsFixedSize, HasExtent, IsPartOf}
+use Rattle.smi_tree.specs.columns.Index.{IsIndexPart, AreParts, IsIndexed, IsIndexOf, IsIndex, AreIndexesOf, index_at, is_implied}
+use Rattle.smi_tree.proofs.Lists.{get_within, same_items}
+use Rattle.smi_tree.proofs.Parting.{defined_once}
+use Rattle.smi_tree.proofs.Indexing.{index_once}
+
+fixed_once : (sizes : Option (List Range)) (n m : ℕ) → IsFixedSize sizes n → IsFixedSize sizes m → n ≡ m
+fixed_once sizes n m a b =
+    let one = a.alone in
+    let other = b.alone in
+    let same : a.range ≡ b.range = cc in
+    let from = rw same at a.single.from in
+    let also = b.single.from in
+    cc
+
+extent_once : (sizes : Option (List Range)) (implied : Bool) (e f : Extent) → HasExtent sizes implied e → HasExtent sizes implied f → e ≡ f
+extent_once sizes implied (Fixed n) (Fixed m) a b = ap (λ k. Fixed k) (fixed_once sizes n m a b)
+extent_once sizes implied (Fixed n) Counted a b = absurd (b.0 n a)
+extent_once sizes implied (Fixed n) Implied a b = absurd (b.0 n a)
+extent_once sizes implied Counted (Fixed m) a b = absurd (a.0 m b)
+extent_once sizes implied Counted Counted a b = refl
+extent_once sizes implied Counted Implied a b = let no = a.1 in let yes = b.1 in absurd (cc)
+extent_once sizes implied Implied (Fixed m) a b = absurd (a.0 m b)
+extent_once sizes implied Implied Counted a b = let yes = a.1 in let no = b.1 in absurd (cc)
+extent_once sizes implied Implied Implied a b = refl
+
+part_once : (base : TypeBase) (sizes : Option (List Range)) (implied : Bool) (p q : IndexPart) → IsPartOf base sizes implied p → IsPartOf base sizes implied q
+    → p ≡ q
+part_once T.Integer sizes implied p q a b = a ∙ sym b
+part_once T.Counter32 sizes implied p q a b = a ∙ sym b
+part_once T.Gauge32 sizes implied p q a b = a ∙ sym b
+part_once T.Unsigned32 sizes implied p q a b = a ∙ sym b
+part_once T.TimeTicks sizes implied p q a b = a ∙ sym b
+part_once T.IpAddress sizes implied p q a b = a ∙ sym b
+part_once T.OctetString sizes implied p q a b = a.2 ∙ ap (λ e. P.Text e) (extent_once sizes implied a.0 b.0 a.1 b.1) ∙ sym b.2
+part_once T.Bits sizes implied p q a b = a.2 ∙ ap (λ e. P.Octets e) (extent_once sizes implied a.0 b.0 a.1 b.1) ∙ sym b.2
+part_once T.Opaque sizes implied p q a b = a.2 ∙ ap (λ e. P.Octets e) (extent_once sizes implied a.0 b.0 a.1 b.1) ∙ sym b.2
+part_once T.ObjectIdentifier sizes implied p q a b = a ∙ sym b
+part_once T.Counter64 sizes implied p q a b = absurd a
+
+module _ (ms : List Module) (one : (o : TypeOrigin QualifiedName) (f g : Facts) → HasSyntax ms o f → HasSyntax ms o g → f ≡ g) where
+  same_part : (m : Module) (x : List ℕ) (implied : Bool) (p q : IndexPart) → IsIndexPart ms m x implied p → IsIndexPart ms m x implied q → p ≡ q
+  same_part m x implied p q a b =
+      let same = defined_once a.named b.named in
+      let syntax : HasSyntax ms (origin_of_object b.home.name.octets b.object) a.facts = rw (same.home, same.definition) at a.syntax in
+      let facts = one (origin_of_object b.home.name.octets b.object) a.facts b.facts syntax b.syntax in
+      part_once b.facts.base b.facts.sizes implied p q (rw facts at a.reads) b.reads
+
+  same_parts : (m : Module) (clause : IndexParts) (ps qs : List IndexPart) → AreParts ms m clause ps → AreParts ms m clause qs → ps ≡ qs
+  same_parts m clause ps qs a b = same_items ps qs (a.long ∙ sym b.long) (λ j p q here there.
+      let inside = slice_get_within ps j p here in
+      let name = get_within clause.names j (omega (arith, a.long)) in
+      same_part m name.0.octets (is_implied clause j) p q (a.each j name.0 p name.1 here) (b.each j name.0 q name.1 there))
+
+  same_indexed : (m : Module) (d : Def) (ps qs : List IndexPart) → IsIndexed ms m d ps → IsIndexed ms m d qs → ps ≡ qs
+  same_indexed m d ps qs a b =
+      let states = a.states in
+      let also = b.states in
+      let same : a.clause ≡ b.clause = cc in
+      same_parts m b.clause ps qs (rw same at a.read) b.read
+
+  pub same_index : (nodes : List Node) (column : Node) (ps qs : List IndexPart) → IsIndexOf ms nodes column ps → IsIndexOf ms nodes column qs → ps ≡ qs
+  same_index nodes column ps qs a b =
+      same_indexed b.index_module b.index_definition ps qs (index_once ms nodes column b.row b.row_module b.row_definition b.index_module
+      b.index_definition ps b.of_row b.home b.defined b.uses a) b.indexed
+
+-- each node has one index or none, so the lists of them are the same
+module _ (ms : List Module) (nodes : List Node)
+    (one : (column : Node) (ps qs : List IndexPart) → IsIndexOf ms nodes column ps → IsIndexOf ms nodes column qs → ps ≡ qs) where
+  index_or_none : (node : Node) (r s : Option (List IndexPart)) → IsIndex ms nodes node r → IsIndex ms nodes node s → r ≡ s
+  index_or_none node None None a b = refl
+  index_or_none node None (Some qs) a b = absurd (a qs b)
+  index_or_none node (Some ps) None a b = absurd (b ps a)
+  index_or_none node (Some ps) (Some qs) a b = ap (λ x. Some x) (one node ps qs a b)
+
+  pub same_indexes : (is js : List (Option (List IndexPart))) → AreIndexesOf ms nodes is → AreIndexesOf ms nodes js → is ≡ js
+  same_indexes is js a b = ext_get_or None is js (a.long ∙ sym b.long) (λ k inside.
+      let node = get_within nodes k (omega (arith, a.long)) in
+      index_or_none node.0 (index_at is k) (index_at js k) (a.each k node.0 node.1) (b.each k node.0 node.1))

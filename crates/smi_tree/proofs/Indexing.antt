@@ -1,0 +1,104 @@
+-- The index of each node, by its row and by the parts of the INDEX clause that the row uses.
+use Rattle.std.proofs.Common.{◌≡◌, ℕ, zero, suc, ◌≤◌, List, [], ◌∷◌, length, Option, Some, None, refl, sym, ap, ◌∙◌, arith}
+use Rattle.std.proofs.lemmas.List.{same_from_push}
+use Rattle.std.specs.List.{slice_get}
+use Rattle.std.specs.Option.{option_and_then}
+use Rattle.smi_show.specs.declared.index.part.IndexPart.{IndexPart}
+use Rattle.smi_text.specs.declared.trees.tree.Module.{Module}
+use Rattle.smi_text.specs.declared.trees.tree.Def.{Def}
+use Rattle.smi_text.specs.declared.trees.tree.Index.{Index}
+use Rattle.smi_text.specs.declared.trees.tree.Index.TheVariants.{Own, Augments}
+use Rattle.smi_names.specs.nodes.Nodes.{Node}
+use Rattle.smi_tree.specs.columns.Index.{IsColumnOf, StandsAt, IsIndexOf, IsIndex, AreIndexesOf, IsIndexed, UsesIndexOf, clause_of, index_at}
+use Rattle.smi_tree.specs.columns.Kept.{KeptOfModule, IsOwn, AreOwnOfAll, AreRows, HasRowAt, HasRowOrNone, indexes_of, parts_at, items_of}
+use Rattle.smi_tree.proofs.Parting.{Same, same_own, defined_once}
+
+-- ---- a column has one row, and a row uses one clause
+
+stands_once : (nodes : List Node) (o : List ℕ) (a b : Node) → StandsAt nodes o a → StandsAt nodes o b → a ≡ b
+stands_once nodes o a b s t =
+    let first = s.first in
+    let other = t.first in
+    let same : s.place ≡ t.place = cc in
+    let there = rw same at s.there in
+    let also = t.there in
+    cc
+
+pub column_once : (nodes : List Node) (column a b : Node) → IsColumnOf nodes column a → IsColumnOf nodes column b → a ≡ b
+column_once nodes column a b c d =
+    let same = (same_from_push c.front d.front c.last d.last (sym c.below ∙ d.below)).0 in
+    stands_once nodes d.front a b (rw same at c.stands) d.stands
+
+pub uses_once : (ms : List Module) (m : Module) (d : Def) (clause : Option Index) (n k : Module) (e f : Def)
+    → UsesIndexOf ms m d clause n e → UsesIndexOf ms m d clause k f → Same n k e f
+uses_once ms m d None n k e f a b = absurd a
+uses_once ms m d (Some (Own clause)) n k e f a b = same_own n k e f (a.0 ∙ sym b.0) (a.1 ∙ sym b.1)
+uses_once ms m d (Some (Augments name)) n k e f a b = defined_once a b
+
+-- the definition whose clause a column uses
+pub index_once : (ms : List Module) (nodes : List Node) (column : Node) (row : Node) (m : Module) (d : Def) (n : Module) (e : Def) (parts : List IndexPart)
+    → IsColumnOf nodes column row → row.home ≡ Some m → row.definition ≡ Some d → UsesIndexOf ms m d (clause_of d.kind) n e
+    → IsIndexOf ms nodes column parts → IsIndexed ms n e parts
+index_once ms nodes column row m d n e parts of_row home defined uses is =
+    let same = column_once nodes column is.row row is.of_row of_row in
+    let here : is.row.home ≡ row.home = ap (λ (x : Node). x.home) same in
+    let there : is.row.definition ≡ row.definition = ap (λ (x : Node). x.definition) same in
+    let one : is.row_module ≡ m = let h = is.home in cc in
+    let def : is.row_definition ≡ d = let h = is.defined in cc in
+    let other = rw (one, def) at is.uses in
+    let both = uses_once ms m d (clause_of d.kind) is.index_module n is.index_definition e other uses in
+    rw (both.home, both.definition) at is.indexed
+
+-- ---- what is kept
+
+pub index-at : (kept : List KeptOfModule) (rows : List (Option (ℕ × ℕ))) (k : ℕ) (at : Option (ℕ × ℕ)) → slice_get rows k ≡ Some at
+    → index_at (indexes_of kept rows) k ≡ option_and_then (λ p. parts_at kept p.0 p.1) at
+index-at kept [] k at e = absurd (cc)
+index-at kept (x ∷ rows) zero at e = ap (λ y. option_and_then (λ p. parts_at kept p.0 p.1) y) (same_some x at e)
+  where
+    same_some : (x y : Option (ℕ × ℕ)) → Some x ≡ Some y → x ≡ y
+    same_some x y e = cc
+index-at kept (x ∷ rows) (suc k) at e = index-at kept rows k at e
+
+pub index-past : (kept : List KeptOfModule) (rows : List (Option (ℕ × ℕ))) (k : ℕ) → length rows ≤ k → index_at (indexes_of kept rows) k ≡ None
+index-past kept [] k l = refl
+index-past kept (x ∷ rows) zero l = absurd (omega arith)
+index-past kept (x ∷ rows) (suc k) l = index-past kept rows k (omega arith)
+
+indexes-length : (kept : List KeptOfModule) (rows : List (Option (ℕ × ℕ))) → length (indexes_of kept rows) ≡ length rows
+indexes-length kept [] = refl
+indexes-length kept (x ∷ rows) = let rest = indexes-length kept rows in omega arith
+
+module _ (ms : List Module) (nodes : List Node) (kept : List KeptOfModule) (own : AreOwnOfAll ms ms kept) where
+  is_index_by : (node : Node) (i k : ℕ) (h : HasRowAt ms nodes node i k) (parts : Option (List IndexPart))
+      → IsOwn ms h.used.index_module h.used.index_definition parts → IsIndex ms nodes node parts
+  is_index_by node i k h None none = λ parts is.
+      none parts (index_once ms nodes node h.row h.used.row_module h.used.row_definition h.used.index_module h.used.index_definition parts h.of_row
+      h.used.home h.used.defined h.used.uses is)
+  is_index_by node i k h (Some parts) is = record {
+    row = h.row;
+    of_row = h.of_row;
+    row_module = h.used.row_module;
+    home = h.used.home;
+    row_definition = h.used.row_definition;
+    defined = h.used.defined;
+    index_module = h.used.index_module;
+    index_definition = h.used.index_definition;
+    uses = h.used.uses;
+    indexed = is;
+  }
+
+  is_index : (node : Node) (at : Option (ℕ × ℕ)) → HasRowOrNone ms nodes node at → IsIndex ms nodes node (option_and_then (λ p. parts_at kept p.0 p.1) at)
+  is_index node None none = λ parts is.
+      none is.row is.of_row is.row_module is.row_definition is.index_module is.index_definition is.home is.defined is.uses
+  is_index node (Some p) h =
+      let of_module = own p.0 h.used.index_module h.used.at_module in
+      let of_def = of_module.2 p.1 h.used.index_definition h.used.there in
+      let found : parts_at kept p.0 p.1 ≡ items_of of_def.0 = rw (of_module.1, of_def.1) refl in
+      rw found (is_index_by node p.0 p.1 h (items_of of_def.0) of_def.2)
+
+  pub are_indexes : (rows : List (Option (ℕ × ℕ))) → AreRows ms nodes rows → AreIndexesOf ms nodes (indexes_of kept rows)
+  are_indexes rows are = record {
+    long = indexes-length kept rows ∙ are.long;
+    each = λ k node there. let r = are.each k node there in rw (index-at kept rows k r.0 r.1) (is_index node r.0 r.2);
+  }

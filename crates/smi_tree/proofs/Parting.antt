@@ -1,0 +1,77 @@
+-- The part of an object, by where its definition is found.
+use Rattle.std.proofs.Common.{◌≡◌, ℕ, Bool, List, MatchOption, Option, Some, None, refl}
+use Rattle.smi_names.specs.links.Basis.{ComesTo}
+use Rattle.smi_names.specs.declared.links.basis.Resolution.TheVariants as R
+use Rattle.smi_show.specs.declared.index.part.IndexPart.{IndexPart}
+use Rattle.smi_text.specs.declared.trees.tree.Module.{Module}
+use Rattle.smi_text.specs.declared.trees.tree.Def.{Def}
+use Rattle.smi_names.specs.meaning.Meaning.{QualifiedName, origin}
+use Rattle.smi_tree.specs.types.Chain.{TypeOrigin}
+use Rattle.smi_tree.specs.types.Types.{Facts, HasSyntax, HasNoSyntax, object_origin, origin_of_object}
+use Rattle.smi_tree.specs.columns.Definitions.{qualified_name, IsDefinedBy, own, through}
+use Rattle.smi_tree.specs.columns.Parts.{IsPartOf}
+use Rattle.smi_tree.specs.columns.Index.{IsIndexPart}
+use Rattle.smi_tree.specs.columns.Named.{IsFoundAt}
+use Rattle.smi_tree.specs.columns.Kept.{HasNoPart}
+
+-- ---- a name leads to one definition
+
+pub record Same (m n : Module) (d e : Def) : Type 0 where
+  pub home : m ≡ n
+  pub definition : d ≡ e
+
+pub same_own : (m n : Module) (d e : Def) → m ≡ n → d ≡ e → Same m n d e
+same_own m n d e f g = record { home = f; definition = g }
+
+pub defined_once : {ms : List Module} {p : QualifiedName} {m n : Module} {d e : Def} → IsDefinedBy ms p m d → IsDefinedBy ms p n e → Same m n d e
+defined_once (own {m = m} {d = d} home by) (own {m = n} {d = e} other also) =
+    let same : m ≡ n = cc in
+    let is = rw same at by in
+    same_own m n d e same (cc)
+defined_once (own {m = m} {d = d} home by) (through {m = n} {i = i} other also rest) =
+    let same : m ≡ n = cc in
+    let is = rw same at by in
+    absurd (cc)
+defined_once (through {m = m} {i = i} home by rest) (own {m = n} {d = e} other also) =
+    let same : m ≡ n = cc in
+    let is = rw same at by in
+    absurd (cc)
+defined_once (through {p = p} {m = m} {i = i} home by rest) (through {m = n} {i = j} other also more) =
+    let same : m ≡ n = cc in
+    let is = rw same at by in
+    let clause : i ≡ j = cc in
+    defined_once rest (rw (← clause) at more)
+
+-- ---- parts
+
+module _ (ms : List Module) (m : Module) (x : List ℕ) (i k : ℕ) (found : IsFoundAt ms (qualified_name m x) i k) where
+  at_object : object_origin ms i k ≡ origin_of_object found.home.name.octets found.definition
+  at_object = rw (found.at_module, found.there) refl
+
+  -- the syntax of the object that the name leads to
+  syntax_here : (implied : Bool) (part : IndexPart) (p : IsIndexPart ms m x implied part) → HasSyntax ms (object_origin ms i k) p.facts
+  syntax_here implied part p =
+      let same = defined_once found.named p.named in
+      rw (at_object, same.home, same.definition) p.syntax
+
+  pub part_untyped : (implied : Bool) → HasNoSyntax ms (object_origin ms i k) → HasNoPart ms m x implied
+  part_untyped implied none = λ part p. none p.facts (syntax_here implied part p)
+
+  pub part_read : (implied : Bool) (facts : Facts) (read : Option IndexPart) → HasSyntax ms (object_origin ms i k) facts
+      → ((o : TypeOrigin QualifiedName) (f g : Facts) → HasSyntax ms o f → HasSyntax ms o g → f ≡ g)
+      → (oid : List ℕ) → ComesTo (origin ms) (qualified_name m x) (R.Numbers oid)
+      → MatchOption read ((part : IndexPart) → IsPartOf facts.base facts.sizes implied part → ⊥) (λ part. IsPartOf facts.base facts.sizes implied part)
+      → MatchOption read (HasNoPart ms m x implied) (λ part. IsIndexPart ms m x implied part)
+  part_read implied facts None has one oid comes none = λ part p.
+      let same = one (object_origin ms i k) p.facts facts (syntax_here implied part p) has in
+      none part (rw same at p.reads)
+  part_read implied facts (Some part) has one oid comes is = record {
+    home = found.home;
+    object = found.definition;
+    named = found.named;
+    oid = oid;
+    identified = comes;
+    facts = facts;
+    syntax = rw at_object at has;
+    reads = is;
+  }

@@ -1,0 +1,45 @@
+-- By the row of the node.
+use Rattle.std.proofs.Common.{rules, length, get_or, IsTrue, refl}
+use Rattle.std.proofs.lemmas.Option.{slice_get_read, slice_get-get_or}
+use Rattle.smi_names.specs.declared.nodes.source.Source.TheVariants as S
+use Rattle.smi_tree.proofs.Using.{no_row_undefined, no_row_other, no_row_place, no_row_source, row_is}
+use Rattle.smi_tree.proofs.columns.objects.Objects.row.Goals as goal
+
+pub returns-in_err-def : goal.returns-in_err-def
+returns-in_err-def c = λ node there.
+    let at = slice_get-get_or c.args.sources.now c.args.place (S.Root 0) c.requires.within in
+    rw c.from_residual.ensures (no_row_undefined c.args.self.now c.args.sources.now c.args.identifiers.now c.requires.long c.args.place node
+    (get_or c.args.sources.now c.args.place (S.Root 0)) there at c.in_err-def.ensures)
+
+pub returns-then-not-is_object_type : goal.returns-then-not-is_object_type
+returns-then-not-is_object_type c = λ node there.
+    let at = slice_get-get_or c.args.sources.now c.args.place (S.Root 0) c.requires.within in
+    no_row_other c.args.self.now c.args.sources.now c.args.identifiers.now c.requires.long c.args.place node
+    (get_or c.args.sources.now c.args.place (S.Root 0)) there at c.in_ok-def.def.now c.in_ok-def.ensures (λ object.
+    let held = rw c.if-not-is_object_type.true at (c.is_object_type.ensures.1 object) in
+    absurd (search rules))
+
+pub returns-in_err-row : goal.returns-in_err-row
+returns-in_err-row c = λ node there.
+    let at = slice_get-get_or c.args.sources.now c.args.place (S.Root 0) c.requires.within in
+    rw c.from_residual-in_err-row.ensures (no_row_place c.args.self.now c.args.sources.now c.args.identifiers.now c.requires.long c.args.place node
+    (get_or c.args.sources.now c.args.place (S.Root 0)) there at c.in_err-row.ensures)
+
+pub returns-in_err-source : goal.returns-in_err-source
+returns-in_err-source c = λ node there.
+    let at = slice_get-get_or c.args.sources.now c.args.place (S.Root 0) c.requires.within in
+    let row = c.in_ok-row.ensures in
+    rw c.from_residual-in_err-source.ensures (no_row_source c.args.self.now c.args.sources.now c.args.identifiers.now c.requires.long c.args.place node
+    (get_or c.args.sources.now c.args.place (S.Root 0)) there at row.0 row.1 c.in_ok-row.row row.2 row.3 c.in_err-source.ensures.lookup.3)
+
+pub returns : goal.returns
+returns c = λ node there.
+    let at = slice_get-get_or c.args.sources.now c.args.place (S.Root 0) c.requires.within in
+    let row = c.in_ok-row.ensures in
+    let holds : IsTrue c.is_object_type.result = search rules in
+    let read = slice_get_read c.args.sources.now (length c.args.sources.now) c.in_ok-row.row c.in_ok-source.source.now refl
+    c.in_ok-source.ensures.lookup.3.0 c.in_ok-source.ensures.lookup.1 in
+    row_is c.args.self.now c.args.sources.now c.args.identifiers.now c.requires.long c.args.place node
+    (get_or c.args.sources.now c.args.place (S.Root 0)) there at row.0 row.1 c.in_ok-row.row row.2 row.3 c.in_ok-def.def.now c.in_ok-source.source.now
+    c.used.result
+    c.in_ok-def.ensures (c.is_object_type.ensures.0 holds) read c.used.ensures

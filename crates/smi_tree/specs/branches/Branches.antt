@@ -1,0 +1,73 @@
+-- What follows each beginning of an identifier of a list.
+use Rattle.std.specs.Prelude.{
+  ◌≡◌,
+  ◌≢◌,
+  ℕ,
+  ◌+◌,
+  ◌<◌,
+  List,
+  [],
+  ◌∷◌,
+  ◌++◌,
+  length,
+  Option,
+  Some,
+  None,
+}
+use Rattle.std.specs.List.{slice_get}
+use Rattle.std.specs.Option.{option_and_then}
+use Rattle.std.specs.Ordering.{nat_cmp}
+use Rattle.std.specs.BTreeMap.{get}
+use Rattle.smi_tree.specs.branches.Standing.{place_of, oid_at}
+use Rattle.smi_tree.specs.declared.branches.branch.Branch.{Branch}
+use Rattle.smi_tree.specs.declared.branches.identifiers.Deepest.{Deepest}
+
+-- the branch to which a number leads from a branch
+abbrev pub follower : List Branch → ℕ → ℕ → Option ℕ
+follower bs at n = option_and_then (λ b. get nat_cmp b.after n) (slice_get bs at)
+
+-- the place that stands at a branch
+abbrev pub standing_at : List Branch → ℕ → Option ℕ
+standing_at bs at = option_and_then (λ b. b.standing) (slice_get bs at)
+
+-- the branch to which numbers lead from a branch, one after the other
+abbrev pub walk : (ℕ → ℕ → Option ℕ) → ℕ → List ℕ → Option ℕ
+walk next at [] = Some at
+walk next at (n ∷ rest) = option_and_then (λ b. walk next b rest) (next at n)
+
+-- an identifier of the list begins with o
+abbrev pub IsBeginning : List (List ℕ) → List ℕ → Type 0
+IsBeginning oids o = (k : ℕ) × (rest : List ℕ) × (k < length oids) × (oid_at oids k ≡ o ++ rest)
+
+-- the branch of a beginning is the first one's, from which its numbers lead
+abbrev pub branch_of : List Branch → List ℕ → Option ℕ
+branch_of bs o = walk (follower bs) 0 o
+
+-- the branches are those of the beginnings of `known`, one for each, and at each stands the place
+-- that `oids` has for it
+pub record AreBranches (known oids : List (List ℕ)) (bs : List Branch) : Type 0 where
+  pub some : 0 < length bs
+  pub within : (at n b : ℕ) → follower bs at n ≡ Some b → b < length bs
+  pub apart : (o p : List ℕ) (b : ℕ) → branch_of bs o ≡ Some b → branch_of bs p ≡ Some b → o ≡ p
+  pub standing : (o : List ℕ) (b : ℕ) → branch_of bs o ≡ Some b → standing_at bs b ≡ place_of oids o
+  pub each : (k : ℕ) → k < length oids → (b : ℕ) × (branch_of bs (oid_at oids k) ≡ Some b)
+  pub only : (o : List ℕ) (b : ℕ) → branch_of bs o ≡ Some b → o ≢ [] → IsBeginning known o
+
+-- the branches of a list of identifiers
+abbrev pub AreBranchesOf : List (List ℕ) → List Branch → Type 0
+AreBranchesOf oids bs = AreBranches oids oids bs
+
+-- branch `at` leads by the number n to a branch that was there or is added, and nothing else is
+-- changed
+pub data GrowsBranch (old new : List Branch) (at n : ℕ) : ℕ → Type 0 where
+  there : {b : ℕ} → new ≡ old → follower old at n ≡ Some b → GrowsBranch old new at n b
+  made : {b : ℕ} → b ≡ length old → length new ≡ length old + 1 → follower old at n ≡ None
+      → follower new at n ≡ Some b
+      → ((c m : ℕ) → (c ≡ at → m ≡ n → ⊥) → follower new c m ≡ follower old c m)
+      → ((c : ℕ) → standing_at new c ≡ standing_at old c)
+      → GrowsBranch old new at n b
+
+-- what stands at a branch, as the deepest place, or the deepest place before it
+abbrev pub deeper_of : Option ℕ → ℕ → Option Deepest → Option Deepest
+deeper_of None depth before = before
+deeper_of (Some place) depth before = Some (record { place = place; depth = depth })

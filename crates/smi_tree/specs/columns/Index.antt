@@ -1,0 +1,142 @@
+-- The index of a column: what identifies the rows of its table (RFC 2578, sections 7.7 and 7.8).
+use Rattle.std.specs.Prelude.{
+  ◌≡◌,
+  ℕ,
+  ◌+◌,
+  ◌==◌,
+  Bool,
+  ◌&&◌,
+  List,
+  [],
+  ◌∷◌,
+  ◌++◌,
+  length,
+  map,
+  slice_index_or,
+  Option,
+  Some,
+  None,
+}
+use Rattle.std.specs.List.{slice_get}
+use Rattle.smi_names.specs.links.Basis.{ComesTo}
+use Rattle.smi_names.specs.declared.links.basis.Resolution.TheVariants as R
+use Rattle.smi_tree.specs.branches.Standing.{place_of}
+use Rattle.smi_show.specs.declared.index.part.IndexPart.{IndexPart}
+use Rattle.smi_text.specs.declared.trees.tree.Module.{Module}
+use Rattle.smi_text.specs.declared.trees.tree.Def.{Def}
+use Rattle.smi_text.specs.declared.trees.tree.DefKind.{DefKind}
+use Rattle.smi_text.specs.declared.trees.tree.DefKind.TheVariants as D
+use Rattle.smi_text.specs.declared.trees.tree.ObjectType.{ObjectType}
+use Rattle.smi_text.specs.declared.trees.tree.Index.{Index}
+use Rattle.smi_text.specs.declared.trees.tree.Index.TheVariants.{Own, Augments}
+use Rattle.smi_text.specs.declared.trees.tree.IndexParts.{IndexParts}
+use Rattle.smi_text.specs.declared.trees.names.Name.{Name}
+use Rattle.smi_names.specs.meaning.Meaning.{origin}
+use Rattle.smi_tree.specs.types.Types.{Facts, HasSyntax, origin_of_object}
+use Rattle.smi_names.specs.nodes.Nodes.{Node}
+use Rattle.smi_tree.specs.columns.Definitions.{qualified_name, IsDefinedBy}
+use Rattle.smi_tree.specs.columns.Parts.{IsPartOf}
+
+-- ---- the objects of an INDEX clause
+
+-- the part for a name in an INDEX clause of this module: the name leads to an object that has an
+-- identifier and a syntax, whose base is one that an index may have
+pub record IsIndexPart (ms : List Module) (m : Module) (name : List ℕ) (implied : Bool)
+    (part : IndexPart) : Type 0 where
+  pub home : Module
+  pub object : Def
+  pub named : IsDefinedBy ms (qualified_name m name) home object
+  pub oid : List ℕ
+  pub identified : ComesTo (origin ms) (qualified_name m name) (R.Numbers oid)
+  pub facts : Facts
+  pub syntax : HasSyntax ms (origin_of_object home.name.octets object) facts
+  pub reads : IsPartOf facts.base facts.sizes implied part
+
+-- IMPLIED stands before the name at this place
+abbrev pub is_implied : IndexParts → ℕ → Bool
+is_implied clause i = clause.implied && (i + 1 == length clause.names)
+
+-- the parts for the names of an INDEX clause of this module, each for its name
+pub record AreParts (ms : List Module) (m : Module) (clause : IndexParts)
+    (parts : List IndexPart) : Type 0 where
+  pub long : length parts ≡ length clause.names
+  pub each : (i : ℕ) (name : Name) (part : IndexPart) → slice_get clause.names i ≡ Some name
+      → slice_get parts i ≡ Some part → IsIndexPart ms m name.octets (is_implied clause i) part
+
+-- ---- INDEX and AUGMENTS
+
+-- the INDEX or AUGMENTS clause of a definition
+abbrev pub clause_of : DefKind → Option Index
+clause_of (D.ObjectType o) = o.index
+clause_of _ = None
+
+-- the rows of a definition with this clause are identified by the INDEX clause of another
+-- definition: of the row that AUGMENTS names, or of the definition itself
+abbrev pub UsesIndexOf : List Module → Module → Def → Option Index → Module → Def → Type 0
+UsesIndexOf ms m d None n e = ⊥
+UsesIndexOf ms m d (Some (Own clause)) n e = (n ≡ m) × (e ≡ d)
+UsesIndexOf ms m d (Some (Augments name)) n e = IsDefinedBy ms (qualified_name m name.octets) n e
+
+-- the parts of the definition's own INDEX clause
+pub record IsIndexed (ms : List Module) (m : Module) (d : Def) (parts : List IndexPart)
+    : Type 0 where
+  pub clause : IndexParts
+  pub states : clause_of d.kind ≡ Some (Own clause)
+  pub read : AreParts ms m clause parts
+
+-- ---- columns
+
+abbrev pub IsObjectType : Option Def → Type 0
+IsObjectType definition = (d : Def) × (o : ObjectType) × (definition ≡ Some d)
+    × (d.kind ≡ D.ObjectType o)
+
+-- the node that stands for an identifier: the first one with it
+pub record StandsAt (nodes : List Node) (oid : List ℕ) (node : Node) : Type 0 where
+  pub place : ℕ
+  pub first : place_of (map (λ n. n.oid) nodes) oid ≡ Some place
+  pub there : slice_get nodes place ≡ Some node
+
+-- the node is a column of the row: an object whose identifier is one number longer than that for
+-- which the row stands
+pub record IsColumnOf (nodes : List Node) (column row : Node) : Type 0 where
+  pub object : IsObjectType column.definition
+  pub front : List ℕ
+  pub last : ℕ
+  pub below : column.oid ≡ front ++ last ∷ []
+  pub stands : StandsAt nodes front row
+
+-- these are the parts of the index of a column
+pub record IsIndexOf (ms : List Module) (nodes : List Node) (column : Node)
+    (parts : List IndexPart) : Type 0 where
+  pub row : Node
+  pub of_row : IsColumnOf nodes column row
+  pub row_module : Module
+  pub home : row.home ≡ Some row_module
+  pub row_definition : Def
+  pub defined : row.definition ≡ Some row_definition
+  pub index_module : Module
+  pub index_definition : Def
+  pub uses : UsesIndexOf ms row_module row_definition (clause_of row_definition.kind) index_module
+      index_definition
+  pub indexed : IsIndexed ms index_module index_definition parts
+
+-- the node is no column, or the index can't be read
+abbrev pub HasNoIndex : List Module → List Node → Node → Type 0
+HasNoIndex ms nodes node = (parts : List IndexPart) → IsIndexOf ms nodes node parts → ⊥
+
+-- ---- the indexes of all nodes
+
+abbrev pub IsIndex : List Module → List Node → Node → Option (List IndexPart) → Type 0
+IsIndex ms nodes node None = HasNoIndex ms nodes node
+IsIndex ms nodes node (Some parts) = IsIndexOf ms nodes node parts
+
+-- the index of the node at a place
+abbrev pub index_at : List (Option (List IndexPart)) → ℕ → Option (List IndexPart)
+index_at indexes k = slice_index_or indexes k None
+
+-- the index of each node, in the order of the nodes
+pub record AreIndexesOf (ms : List Module) (nodes : List Node)
+    (indexes : List (Option (List IndexPart))) : Type 0 where
+  pub long : length indexes ≡ length nodes
+  pub each : (k : ℕ) (node : Node) → slice_get nodes k ≡ Some node
+      → IsIndex ms nodes node (index_at indexes k)

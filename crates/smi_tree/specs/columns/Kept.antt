@@ -1,0 +1,106 @@
+-- What is kept: the parts of each INDEX clause, and for each node which of them identify its row.
+use Rattle.std.specs.Prelude.{◌≡◌, ℕ, List, Bool, Option, Some, None, option_map, length, map, Vec}
+use Rattle.std.specs.List.{slice_get}
+use Rattle.std.specs.Option.{option_and_then}
+use Rattle.std.specs.Global.{Global}
+use Rattle.smi_show.specs.declared.index.part.IndexPart.{IndexPart}
+use Rattle.smi_text.specs.declared.trees.tree.Module.{Module}
+use Rattle.smi_text.specs.declared.trees.tree.Def.{Def}
+use Rattle.smi_text.specs.declared.trees.tree.IndexParts.{IndexParts}
+use Rattle.smi_names.specs.nodes.Nodes.{Node}
+use Rattle.smi_tree.specs.columns.Index.{
+  IsIndexPart,
+  AreParts,
+  IsIndexed,
+  IsColumnOf,
+  UsesIndexOf,
+  clause_of,
+}
+
+-- the object has no part
+abbrev pub HasNoPart : List Module → Module → List ℕ → Bool → Type 0
+HasNoPart ms m name implied = (part : IndexPart) → IsIndexPart ms m name implied part → ⊥
+
+-- the parts of an INDEX clause, or none if one of its objects has none
+abbrev pub IsReading : List Module → Module → IndexParts → Option (List IndexPart) → Type 0
+IsReading ms m clause None = (parts : List IndexPart) → AreParts ms m clause parts → ⊥
+IsReading ms m clause (Some parts) = AreParts ms m clause parts
+
+-- the parts of a definition's own INDEX clause, if it has one that can be read
+abbrev pub IsOwn : List Module → Module → Def → Option (List IndexPart) → Type 0
+IsOwn ms m d None = (parts : List IndexPart) → IsIndexed ms m d parts → ⊥
+IsOwn ms m d (Some parts) = IsIndexed ms m d parts
+
+-- the parts that are kept for a definition
+abbrev pub KeptParts : Type 0
+KeptParts = Option (Vec IndexPart Global)
+
+abbrev pub KeptOfModule : Type 0
+KeptOfModule = Vec KeptParts Global
+
+abbrev pub items_of : KeptParts → Option (List IndexPart)
+items_of kept = option_map (λ v. v.items) kept
+
+-- the parts of each definition's own INDEX clause
+abbrev pub AreOwn : List Module → Module → List Def → List (KeptParts) → Type 0
+AreOwn ms m ds kept =
+    (k : ℕ) (d : Def) → slice_get ds k ≡ Some d
+    → (own : KeptParts) × (slice_get kept k ≡ Some own) × IsOwn ms m d (items_of own)
+
+-- and those of each module
+abbrev pub AreOwnOfAll : List Module → List Module → List KeptOfModule → Type 0
+AreOwnOfAll ms some kept =
+    (i : ℕ) (m : Module) → slice_get some i ≡ Some m
+    → (own : KeptOfModule) × (slice_get kept i ≡ Some own)
+    × AreOwn ms m m.defs own.items
+
+-- the parts that are kept for a definition of a module, each by its place
+abbrev pub parts_at : List KeptOfModule → ℕ → ℕ → Option (List IndexPart)
+parts_at kept i k =
+    option_and_then items_of (option_and_then (λ own. slice_get own.items k) (slice_get kept i))
+
+-- the row uses the INDEX clause of this definition of this module, each by its place
+pub record UsesAt (ms : List Module) (row : Node) (i k : ℕ) : Type 0 where
+  pub row_module : Module
+  pub home : row.home ≡ Some row_module
+  pub row_definition : Def
+  pub defined : row.definition ≡ Some row_definition
+  pub index_module : Module
+  pub at_module : slice_get ms i ≡ Some index_module
+  pub index_definition : Def
+  pub there : slice_get index_module.defs k ≡ Some index_definition
+  pub uses : UsesIndexOf ms row_module row_definition (clause_of row_definition.kind) index_module
+      index_definition
+
+-- the row uses none
+abbrev pub UsesNone : List Module → Node → Type 0
+UsesNone ms row =
+    (m : Module) (d : Def) (n : Module) (e : Def) → row.home ≡ Some m → row.definition ≡ Some d
+    → UsesIndexOf ms m d (clause_of d.kind) n e → ⊥
+
+-- the INDEX clause by which the rows of a column are identified is that of this definition
+pub record HasRowAt (ms : List Module) (nodes : List Node) (column : Node) (i k : ℕ) : Type 0 where
+  pub row : Node
+  pub of_row : IsColumnOf nodes column row
+  pub used : UsesAt ms row i k
+
+-- the node is no column, or its row uses no INDEX clause
+abbrev pub HasNoRow : List Module → List Node → Node → Type 0
+HasNoRow ms nodes node = (row : Node) → IsColumnOf nodes node row → UsesNone ms row
+
+-- the INDEX clause by which the rows of a node are identified, or that there is none
+abbrev pub HasRowOrNone : List Module → List Node → Node → Option (ℕ × ℕ) → Type 0
+HasRowOrNone ms nodes node None = HasNoRow ms nodes node
+HasRowOrNone ms nodes node (Some at) = HasRowAt ms nodes node at.0 at.1
+
+-- for each node the definition whose INDEX clause its row uses
+pub record AreRows (ms : List Module) (nodes : List Node) (rows : List (Option (ℕ × ℕ)))
+    : Type 0 where
+  pub long : length rows ≡ length nodes
+  pub each : (k : ℕ) (node : Node) → slice_get nodes k ≡ Some node
+      → (at : Option (ℕ × ℕ)) × (slice_get rows k ≡ Some at) × HasRowOrNone ms nodes node at
+
+-- the index of each node, by what is kept
+abbrev pub indexes_of : List KeptOfModule → List (Option (ℕ × ℕ))
+    → List (Option (List IndexPart))
+indexes_of kept rows = map (λ at. option_and_then (λ p. parts_at kept p.0 p.1) at) rows

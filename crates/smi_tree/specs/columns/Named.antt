@@ -1,0 +1,47 @@
+-- The names at which imports end, by their places.
+use Rattle.std.specs.Prelude.{◌≡◌, ℕ, ◌<◌, List, length, Option, Some, None}
+use Rattle.std.specs.List.{slice_get}
+use Rattle.smi_names.specs.links.Order.{next_at}
+use Rattle.smi_names.specs.links.Ends.{ChainEnds, end_at}
+use Rattle.smi_text.specs.declared.trees.tree.Module.{Module}
+use Rattle.smi_text.specs.declared.trees.tree.Def.{Def}
+use Rattle.smi_names.specs.meaning.Meaning.{QualifiedName, Decision, defined, imported, root}
+use Rattle.smi_names.specs.meaning.Scopes.{Content}
+use Rattle.smi_names.specs.meaning.Known.{content_named}
+use Rattle.smi_tree.specs.columns.Definitions.{IsDefinedBy}
+
+-- an import leads to the same name in the module after FROM, by its place; any other name leads to
+-- none
+abbrev pub IsNextOf : List Module → List Content → List ℕ → Decision → Option ℕ → Type 0
+IsNextOf ms names x (defined d) next = next ≡ None
+IsNextOf ms names x (imported i) next =
+    (q : ℕ) × (next ≡ Some q)
+    × (slice_get names q ≡ content_named ms (record { home = i.source.octets; name = x }))
+IsNextOf ms names x (root n) next = next ≡ None
+
+-- each name leads to its next
+pub record AreNexts (ms : List Module) (names : List Content) (next : List (Option ℕ))
+    : Type 0 where
+  pub long : length next ≡ length names
+  pub each : (p : ℕ) (c : Content) → slice_get names p ≡ Some c
+      → IsNextOf ms names c.name c.decided (next_at next p)
+
+-- for each name, the place of the name at which its imports end
+pub record AreEndsOfImports (ms : List Module) (names : List Content) (ends : List (Option ℕ))
+    : Type 0 where
+  pub next : List (Option ℕ)
+  pub nexts : AreNexts ms names next
+  pub long : length ends ≡ length next
+  pub each : (p : ℕ) → p < length next → ChainEnds (next_at next) p (end_at ends p)
+
+-- the name leads to a definition, by the places of its module and of itself in it
+pub record IsFoundAt (ms : List Module) (p : QualifiedName) (i k : ℕ) : Type 0 where
+  pub home : Module
+  pub at_module : slice_get ms i ≡ Some home
+  pub definition : Def
+  pub there : slice_get home.defs k ≡ Some definition
+  pub named : IsDefinedBy ms p home definition
+
+-- the name leads to no definition
+abbrev pub IsUndefined : List Module → QualifiedName → Type 0
+IsUndefined ms p = (m : Module) (d : Def) → IsDefinedBy ms p m d → ⊥

@@ -1,0 +1,67 @@
+-- The parts of an index, by the types of its objects (RFC 2578, section 7.7).
+use Rattle.std.specs.Prelude.{
+  ◌≡◌,
+  ℕ,
+  pos,
+  Bool,
+  true,
+  false,
+  List,
+  [],
+  ◌∷◌,
+  Option,
+  Some,
+  if◌then◌else◌,
+}
+use Rattle.smi_show.specs.declared.index.part.Extent.{Extent}
+use Rattle.smi_show.specs.declared.index.part.Extent.TheVariants.{Fixed, Counted, Implied}
+use Rattle.smi_show.specs.declared.index.part.IndexPart.{IndexPart}
+use Rattle.smi_show.specs.declared.index.part.IndexPart.TheVariants as P
+use Rattle.smi_text.specs.declared.trees.tree.Range.{Range}
+use Rattle.smi_text.specs.declared.trees.tree.TokenText.{TokenText}
+use Rattle.smi_text.specs.trees.Number.{bound_in}
+use Rattle.smi_tree.specs.declared.types.base.TypeBase.{TypeBase}
+use Rattle.smi_tree.specs.declared.types.base.TypeBase.TheVariants as T
+
+-- the token stands for this number
+abbrev pub StatesBound : TokenText → ℕ → Type 0
+StatesBound t n = bound_in t.kind t.text ≡ Some (pos n)
+
+-- the range goes from n to n
+pub record IsSingle (range : Range) (n : ℕ) : Type 0 where
+  pub from : StatesBound range.low n
+  pub to : (high : TokenText) → range.high ≡ Some high → StatesBound high n
+
+-- a SIZE that only n meets: one range, from n to n
+pub record IsFixedSize (sizes : Option (List Range)) (n : ℕ) : Type 0 where
+  pub range : Range
+  pub alone : sizes ≡ Some (range ∷ [])
+  pub single : IsSingle range n
+
+abbrev pub HasNoFixedSize : Option (List Range) → Type 0
+HasNoFixedSize sizes = (n : ℕ) → IsFixedSize sizes n → ⊥
+
+-- how many numbers a string has: as many as its SIZE fixes; otherwise as its length says, or, after
+-- IMPLIED, all that remain
+abbrev pub HasExtent : Option (List Range) → Bool → Extent → Type 0
+HasExtent sizes implied (Fixed n) = IsFixedSize sizes n
+HasExtent sizes implied Counted = HasNoFixedSize sizes × (implied ≡ false)
+HasExtent sizes implied Implied = HasNoFixedSize sizes × (implied ≡ true)
+
+-- the part of an object of this base and SIZE, after IMPLIED or not; Counter64 has none
+abbrev pub IsPartOf : TypeBase → Option (List Range) → Bool → IndexPart → Type 0
+IsPartOf T.Integer sizes implied part = part ≡ P.Number
+IsPartOf T.Counter32 sizes implied part = part ≡ P.Number
+IsPartOf T.Gauge32 sizes implied part = part ≡ P.Number
+IsPartOf T.Unsigned32 sizes implied part = part ≡ P.Number
+IsPartOf T.TimeTicks sizes implied part = part ≡ P.Number
+IsPartOf T.IpAddress sizes implied part = part ≡ P.Address
+IsPartOf T.OctetString sizes implied part =
+    (extent : Extent) × HasExtent sizes implied extent × (part ≡ P.Text extent)
+IsPartOf T.Bits sizes implied part =
+    (extent : Extent) × HasExtent sizes implied extent × (part ≡ P.Octets extent)
+IsPartOf T.Opaque sizes implied part =
+    (extent : Extent) × HasExtent sizes implied extent × (part ≡ P.Octets extent)
+IsPartOf T.ObjectIdentifier sizes implied part =
+    part ≡ (if implied then P.ImpliedIdentifier else P.Identifier)
+IsPartOf T.Counter64 sizes implied part = ⊥

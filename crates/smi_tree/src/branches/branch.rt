@@ -1,0 +1,85 @@
+//! The branches: for each beginning of an identifier, the numbers that follow it, in order, and
+//! what stands there.
+ghost use Rattle.std.specs.Prelude.{◌≡◌, ◌<◌, ◌+◌, ℕ, List, [], ◌∷◌, ◌++◌, length, take, IfOk};
+ghost use Rattle.std.specs.Prelude.{Some, None, option_copied};
+ghost use Rattle.smi_tree.specs.branches.Branches.{follower, GrowsBranch, AreBranchesOf};
+
+use snmp_oid::Oid;
+use std::alloc::{AllocError, Global};
+use std::collections::BTreeMap;
+
+/// What follows a beginning of an identifier.
+#[derive(Drop)]
+pub(crate) struct Branch {
+    /// The branch of each number that follows.
+    pub(crate) after: BTreeMap<u32, usize>,
+    /// The place of the identifier that ends here, if one does.
+    pub(crate) standing: Option<usize>,
+}
+
+/// The branch of a beginning that is one number longer.
+pub(crate) fn next(branches: &[Branch], at: usize, number: u32) -> Option<usize>
+    ensures { result ≡ follower branches.now at number }
+{
+    let branch = branches.get(at)?;
+    branch.after.get(&number).copied()
+}
+
+/// The branch of a beginning that is one number longer, which is added if it isn't there.
+fn grow(
+    alloc: Global,
+    branches: &mut Vec<Branch>,
+    at: usize,
+    number: u32,
+) -> Result<usize, AllocError>
+    requires { at < length branches.old.items }
+    ensures grows { IfOk result (GrowsBranch branches.old.items branches.new.items at number) }
+{
+    if let Some(place) = next(branches, at, number) {
+        return Ok(place);
+    }
+    let place = branches.len();
+    branches.push(Branch {
+        after: BTreeMap::new(alloc),
+        standing: None,
+    })?;
+    let branch = &mut branches[at];
+    branch.after.insert(number, place)?;
+    Ok(place)
+}
+
+/// The first branch alone, after which no number follows.
+pub(crate) fn first(alloc: Global) -> Result<Vec<Branch>, AllocError>
+    ensures { IfOk result (λ branches. AreBranchesOf [] branches.items) }
+{
+    let mut branches = Vec::new(alloc);
+    branches.push(Branch {
+        after: BTreeMap::new(alloc),
+        standing: None,
+    })?;
+    Ok(branches)
+}
+
+/// Adds the branches of the identifier at a place to those of the identifiers before it.
+pub(crate) fn add(
+    alloc: Global,
+    branches: &mut Vec<Branch>,
+    oids: &[Oid],
+    place: usize,
+) -> Result<(), AllocError>
+    requires within { place < length oids.now }
+    requires before { AreBranchesOf (take place oids.now) branches.old.items }
+    ensures added { IfOk result
+        (λ _. AreBranchesOf (take (place + 1) oids.now) branches.new.items) }
+{
+    let oid = &oids[place];
+    let mut at = 0;
+    'numbers: for number in oid.as_slice() {
+        at = grow(alloc, branches, at, *number)?;
+    }
+    let branch = &mut branches[at];
+    if branch.standing.is_none() {
+        branch.standing = Some(place);
+    }
+    Ok(())
+}

@@ -1,0 +1,15 @@
+//! The indexes of columns: which values the numbers after a column's identifier stand for, by the
+//! INDEX or AUGMENTS clause of its row.
+//!
+//! Depends on the nodes of modules and on the types of their objects. The tree of names keeps the
+//! index of each node beside the node.
+
+mod definitions;
+mod indexes;
+mod laws;
+mod objects;
+mod part;
+mod rows;
+
+pub use indexes::Indexes;
+pub use laws::{one_index, one_list_of_indexes};

@@ -1,0 +1,72 @@
+//! The index of each node.
+ghost use Rattle.std.specs.Prelude.{◌≡◌, length, IfOk, option_map};
+ghost use Rattle.smi_tree.specs.types.Kept.{AreTypesOf};
+ghost use Rattle.smi_names.specs.nodes.Gathered.{nodes_of};
+ghost use Rattle.smi_tree.specs.columns.Index.{AreIndexesOf, index_at};
+
+use crate::columns::objects::Objects;
+use crate::branches::Identifiers;
+use smi_show::index::IndexPart;
+use smi_names::meaning::Names;
+use smi_text::trees::Module;
+use smi_names::nodes::Source;
+use crate::types::Types;
+use std::alloc::{AllocError, Global};
+use std::marker::Model;
+
+/// The index of each node that is a column: what the numbers after its identifier stand for (RFC
+/// 2578, sections 7.7 and 7.8).
+///
+/// The parts of an INDEX clause are kept once, however many columns there are.
+#[derive(Drop)]
+pub struct Indexes {
+    /// The parts of the INDEX clause of each definition of each module.
+    parts: Vec<Vec<Option<Vec<IndexPart>>>>,
+    /// For each node the places of the module and the definition whose INDEX clause it uses.
+    rows: Vec<Option<(usize, usize)>>,
+}
+
+impl Model for Indexes {
+    ghost use Rattle.std.specs.Prelude.{List, Option};
+    ghost use Rattle.smi_show.specs.declared.index.part.IndexPart.{IndexPart};
+    ghost use Rattle.smi_tree.specs.columns.Kept.{indexes_of};
+
+    ghost Value = { List (Option (List IndexPart)) };
+
+    ghost view = { λ s. indexes_of s.parts.items s.rows.items };
+}
+
+impl Indexes {
+    /// The index of each node of modules, where sources and identifiers are those of the nodes.
+    pub fn new<'a>(
+        alloc: Global,
+        names: &Names<'a>,
+        modules: &'a [Module],
+        types: &Types,
+        sources: &[Source],
+        identifiers: &Identifiers,
+    ) -> Result<Indexes, AllocError>
+        requires named { names.now ≡ modules.now }
+        requires typed { AreTypesOf modules.now types.now }
+        requires long { length sources.now ≡ length identifiers.now }
+        ensures { IfOk result (λ indexes. AreIndexesOf modules.now
+            (nodes_of modules.now sources.now identifiers.now) indexes) }
+    {
+        let objects = Objects::new(alloc, names, modules, types)?;
+        let parts = objects.parts_of_modules(alloc)?;
+        let rows = objects.rows(alloc, sources, identifiers)?;
+        Ok(Indexes { parts, rows })
+    }
+
+    /// The parts of the index of the node at a place, None if it is no column or its index can't be
+    /// read.
+    pub fn get(&self, place: usize) -> Option<&[IndexPart]>
+        ensures { option_map (λ r. r.now) result ≡ index_at self.now place }
+    {
+        let (i, k) = (*self.rows.get(place)?)?;
+        match self.parts.get(i)?.get(k)? {
+            Some(parts) => Some(parts.as_slice()),
+            None => None,
+        }
+    }
+}

@@ -1,0 +1,189 @@
+//! The parts of INDEX clauses, by the objects that they name.
+ghost use Rattle.std.specs.Prelude.{◌≡◌, ◌<◌, ◌↔◌, ℕ, List, length, IsTrue, IfOk, MatchOption};
+ghost use Rattle.std.specs.Option.{option_copied};
+ghost use Rattle.smi_names.specs.links.Basis.{ComesTo};
+ghost use Rattle.smi_names.specs.meaning.Meaning.{origin, QualifiedName};
+ghost use Rattle.smi_tree.specs.types.Kept.{AreTypesOf};
+ghost use Rattle.smi_tree.specs.columns.Index.{IsIndexPart, clause_of, is_implied};
+ghost use Rattle.smi_tree.specs.columns.Kept.{HasNoPart, IsReading, items_of};
+ghost use Rattle.smi_tree.specs.columns.Kept.{IsOwn, AreOwn, AreOwnOfAll};
+
+use crate::columns::definitions::Definitions;
+use crate::columns::part::part;
+use smi_show::index::IndexPart;
+use smi_names::links::Resolution;
+use smi_names::meaning::Names;
+use smi_text::trees::{Def, DefKind, Index, IndexParts, Module, Name};
+use crate::types::{Types, one_syntax};
+use std::alloc::{AllocError, Global};
+use std::marker::Model;
+
+/// What the objects of INDEX clauses are read by.
+#[derive(Drop)]
+pub(crate) struct Objects<'n, 'a> {
+    pub(crate) modules: &'a [Module],
+    pub(crate) definitions: Definitions<'n, 'a>,
+    names: &'n Names<'a>,
+    types: &'n Types,
+}
+
+impl<'n, 'a> Model for Objects<'n, 'a> {
+    ghost use Rattle.std.specs.Prelude.{List, ◌≡◌};
+    ghost use Rattle.smi_text.specs.declared.trees.tree.Module.{Module};
+    ghost use Rattle.smi_tree.specs.types.Kept.{AreTypesOf};
+
+    ghost Value = { List Module };
+
+    ghost view = { λ s. s.modules.now };
+
+    ghost invariant = { λ s. (s.definitions ≡ s.modules.now) × (s.names.now ≡ s.modules.now)
+        × AreTypesOf s.modules.now s.types.now };
+}
+
+/// The INDEX or AUGMENTS clause of a definition.
+pub(crate) fn clause(def: &Def) -> Option<&Index>
+    ensures { option_copied result ≡ clause_of def.now.kind }
+{
+    match &def.kind {
+        DefKind::ObjectType(object) => object.index.as_ref(),
+        _ => None,
+    }
+}
+
+/// Whether a name has an identifier.
+fn is_identifier(resolution: &Resolution) -> bool
+    ensures { IsTrue result ↔ ((oid : List ℕ) × (resolution.now ≡ Resolution.Numbers oid)) }
+{
+    matches!(resolution, Resolution::Numbers(_))
+}
+
+/// Whether IMPLIED stands before the name at a place of an INDEX clause.
+fn is_implied(clause: &IndexParts, place: usize) -> bool
+    requires { place < length clause.now.names }
+    ensures { result ≡ is_implied clause.now place }
+{
+    let names = clause.names.len();
+    clause.implied && place + 1 == names
+}
+
+impl<'n, 'a> Objects<'n, 'a> {
+    /// What the objects of modules are read by.
+    pub(crate) fn new(
+        alloc: Global,
+        names: &'n Names<'a>,
+        modules: &'a [Module],
+        types: &'n Types,
+    ) -> Result<Objects<'n, 'a>, AllocError>
+        requires named { names.now ≡ modules.now }
+        requires typed { AreTypesOf modules.now types.now }
+        ensures { IfOk result (λ objects. objects ≡ modules.now) }
+    {
+        let definitions = Definitions::new(alloc, names)?;
+        Ok(Objects {
+            modules,
+            definitions,
+            names,
+            types,
+        })
+    }
+
+    /// Whether a name resolves to an identifier in the module of a name.
+    fn has_identifier(&self, home: &'a [u8], name: &'a [u8]) -> bool
+        ensures { let qualified : QualifiedName = record { home = home.now; name = name.now } in
+            IsTrue result ↔ ((oid : List ℕ)
+            × ComesTo (origin self.now) qualified (Resolution.Numbers oid)) }
+    {
+        match self.names.resolution(home, name) {
+            Some(resolution) => is_identifier(resolution),
+            None => false,
+        }
+    }
+
+    /// The part for a name in an INDEX clause of a module, after IMPLIED or not.
+    fn part(&self, home: &'a Module, name: &'a Name, implied: bool) -> Option<IndexPart>
+        ensures { let ms = self.now in
+            MatchOption result (HasNoPart ms home.now name.now.octets implied)
+            (λ part. IsIndexPart ms home.now name.now.octets implied part) }
+    {
+        let home = home.name.as_bytes();
+        let name = name.as_bytes();
+        if !self.has_identifier(home, name) {
+            return None;
+        }
+        let (module, def) = self.definitions.find(home, name)?;
+        let syntax = self.types.syntax(self.modules, module, def)?;
+        one_syntax();
+        part(syntax.base, syntax.sizes, implied)
+    }
+
+    /// The parts of an INDEX clause of a module, None if it can't be read.
+    fn parts(
+        &self,
+        alloc: Global,
+        home: &'a Module,
+        clause: &'a IndexParts,
+    ) -> Result<Option<Vec<IndexPart>>, AllocError>
+        ensures { IfOk result (λ parts.
+            IsReading self.now home.now clause.now (items_of parts)) }
+    {
+        let names = clause.names.as_slice();
+        let mut parts = Vec::with_capacity(alloc, names.len())?;
+        'names: for (i, name) in names.iter().enumerate() {
+            let Some(part) = self.part(home, name, is_implied(clause, i)) else {
+                return Ok(None);
+            };
+            parts.push(part)?;
+        }
+        Ok(Some(parts))
+    }
+
+    /// The parts of the INDEX clause of a definition, None if it has none or it can't be read.
+    fn own_parts(
+        &self,
+        alloc: Global,
+        home: &'a Module,
+        def: &'a Def,
+    ) -> Result<Option<Vec<IndexPart>>, AllocError>
+        ensures { IfOk result (λ parts.
+            IsOwn self.now home.now def.now (items_of parts)) }
+    {
+        match clause(def) {
+            Some(Index::Own(clause)) => self.parts(alloc, home, clause),
+            Some(Index::Augments(_)) | None => Ok(None),
+        }
+    }
+
+    /// The parts of the INDEX clause of each definition of a module.
+    fn parts_of_module(
+        &self,
+        alloc: Global,
+        home: &'a Module,
+    ) -> Result<Vec<Option<Vec<IndexPart>>>, AllocError>
+        ensures { IfOk result (λ kept.
+            AreOwn self.now home.now home.now.defs kept.items) }
+    {
+        let defs = home.defs.as_slice();
+        let mut kept = Vec::with_capacity(alloc, defs.len())?;
+        'defs: for def in defs {
+            let own = self.own_parts(alloc, home, def)?;
+            kept.push(own)?;
+        }
+        Ok(kept)
+    }
+
+    /// The parts of the INDEX clause of each definition of each module.
+    pub(crate) fn parts_of_modules(
+        &self,
+        alloc: Global,
+    ) -> Result<Vec<Vec<Option<Vec<IndexPart>>>>, AllocError>
+        ensures { IfOk result (λ kept.
+            AreOwnOfAll self.now self.now kept.items) }
+    {
+        let mut kept = Vec::with_capacity(alloc, self.modules.len())?;
+        'modules: for home in self.modules {
+            let own = self.parts_of_module(alloc, home)?;
+            kept.push(own)?;
+        }
+        Ok(kept)
+    }
+}

@@ -1,0 +1,129 @@
+//! What types state, and the syntax of an object.
+ghost use Rattle.std.specs.Prelude.{◌≡◌};
+ghost use Rattle.std.specs.Option.{option_copied, option_and_then};
+ghost use Rattle.smi_tree.specs.types.Types.{names_in, sizes_in, simple_in, type_hint, type_syntax};
+ghost use Rattle.smi_tree.specs.types.Types.{object_syntax, base_in};
+ghost use Rattle.smi_tree.specs.types.Kept.{type_base, type_names, type_sizes};
+
+use crate::types::base::TypeBase;
+use smi_text::trees::{Base, Def, DefKind, NamedNumber, Range, Refinement, SimpleType, Syntax, Text};
+
+/// The syntax of an object: what its chain of types gives. It borrows its texts from the modules.
+#[derive(Clone, Copy, Debug)]
+pub struct TypeSyntax<'a> {
+    /// The base type at the end of the chain.
+    pub base: TypeBase,
+    /// The nearest names of numbers or bits (RFC 2578, sections 7.1.1 and 7.1.4).
+    pub names: Option<&'a [NamedNumber]>,
+    /// The nearest display hint, as the string in quotes (RFC 2579, section 3.1).
+    pub hint: Option<&'a Text>,
+    /// The nearest SIZE: ranges of lengths (RFC 2578, section 9).
+    pub sizes: Option<&'a [Range]>,
+}
+
+/// The names of numbers or bits that a type states.
+pub(crate) fn names_of(simple: &SimpleType) -> Option<&[NamedNumber]>
+    ensures { option_copied result ≡ names_in simple.now.refinement }
+{
+    match &simple.refinement {
+        Some(Refinement::Numbers(names)) => Some(names.as_slice()),
+        _ => None,
+    }
+}
+
+/// The SIZE that a type states.
+pub(crate) fn sizes_of(simple: &SimpleType) -> Option<&[Range]>
+    ensures { option_copied result ≡ sizes_in simple.now.refinement }
+{
+    match &simple.refinement {
+        Some(Refinement::Size(sizes)) => Some(sizes.as_slice()),
+        _ => None,
+    }
+}
+
+/// The base type that a type refines, if it is one by itself or by its name.
+pub(crate) fn base_of(simple: &SimpleType) -> Option<TypeBase>
+    ensures { result ≡ base_in simple.now.base }
+{
+    match &simple.base {
+        Base::Integer => Some(TypeBase::Integer),
+        Base::OctetString => Some(TypeBase::OctetString),
+        Base::ObjectIdentifier => Some(TypeBase::ObjectIdentifier),
+        Base::Bits => Some(TypeBase::Bits),
+        Base::Named(name) => TypeBase::named(name.as_bytes()),
+    }
+}
+
+/// The display hint of a textual convention, if it has one.
+pub(crate) fn hint_of(kind: &DefKind) -> Option<&Text>
+    ensures { option_copied result ≡ type_hint kind.now }
+{
+    match kind {
+        DefKind::TextualConvention(clauses) => match &clauses.display_hint {
+            Some(hint) => Some(hint),
+            None => None,
+        },
+        _ => None,
+    }
+}
+
+/// A syntax that is no SEQUENCE OF.
+fn simple_of(syntax: &Syntax) -> Option<&SimpleType>
+    ensures { option_copied result ≡ simple_in syntax.now }
+{
+    match syntax {
+        Syntax::SequenceOf(_) => None,
+        Syntax::Simple(simple) => Some(simple),
+    }
+}
+
+/// The syntax of a textual convention or of an assigned type, if it is no SEQUENCE OF.
+pub(crate) fn type_of(kind: &DefKind) -> Option<&SimpleType>
+    ensures { option_copied result ≡ option_and_then simple_in (type_syntax kind.now) }
+{
+    match kind {
+        DefKind::TextualConvention(clauses) => simple_of(&clauses.syntax),
+        DefKind::TypeAssignment(assigned) => simple_of(&assigned.syntax),
+        _ => None,
+    }
+}
+
+/// The syntax of an OBJECT-TYPE, if it is no SEQUENCE OF.
+pub(crate) fn object_type_of(kind: &DefKind) -> Option<&SimpleType>
+    ensures { option_copied result ≡ option_and_then simple_in (object_syntax kind.now) }
+{
+    match kind {
+        DefKind::ObjectType(clauses) => simple_of(&clauses.syntax),
+        _ => None,
+    }
+}
+
+/// The base type that a definition of a type refines by itself.
+pub(crate) fn base_in_definition(def: &Def) -> Option<TypeBase>
+    ensures { result ≡ type_base def.now }
+{
+    match type_of(&def.kind) {
+        Some(simple) => base_of(simple),
+        None => None,
+    }
+}
+
+/// The names of numbers or bits that a definition of a type states.
+pub(crate) fn names_in_definition(def: &Def) -> Option<&[NamedNumber]>
+    ensures { option_copied result ≡ type_names def.now }
+{
+    match type_of(&def.kind) {
+        Some(simple) => names_of(simple),
+        None => None,
+    }
+}
+
+/// The SIZE that a definition of a type states.
+pub(crate) fn sizes_in_definition(def: &Def) -> Option<&[Range]>
+    ensures { option_copied result ≡ type_sizes def.now }
+{
+    match type_of(&def.kind) {
+        Some(simple) => sizes_of(simple),
+        None => None,
+    }
+}

@@ -1,6 +1,0 @@
-use Rattle.smi_types.specs.Leads.{LeadsTo, content_origin}
-use Rattle.smi_types.proofs.Leading.{HoldUpTo}
-use Rattle.smi_types.proofs.leads.leads.Given as goal
-
-abbrev pub invariant-places : goal.invariant-places
-invariant-places l = HoldUpTo (λ c p r. LeadsTo l.entries (content_origin c) r) l.entries.names l.place l.leads.items

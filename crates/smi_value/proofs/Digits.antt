@@ -1,0 +1,148 @@
+-- Digits read from the front of a text, and written from the last to the first.
+use Rattle.std.proofs.Common.{
+  ◌≡◌,
+  ℕ,
+  suc,
+  ◌+◌,
+  ◌-◌,
+  ◌*◌,
+  ◌/◌,
+  ◌%◌,
+  ◌<◌,
+  ◌≤◌,
+  true,
+  false,
+  List,
+  [],
+  ◌∷◌,
+  length,
+  take,
+  drop,
+  get_or,
+  refl,
+  sym,
+  ◌∙◌,
+  ap,
+  subst,
+  arith,
+  rules,
+}
+use Rattle.std.specs.Fmt.{digits, digits_onto, digit_glyph}
+use Rattle.std.specs.Char.{is_ascii_digit}
+use Rattle.std.specs.Int.{IsInRange}
+use Rattle.std.specs.List.{prefix_len}
+use Rattle.std.specs.Str.Parse.{digits_value}
+use Rattle.std.proofs.Common.{tests, add-one, ◌^◌}
+use Rattle.std.proofs.Math.ListN.{set}
+use Rattle.std.proofs.lemmas.List.{drop-set}
+use Rattle.std.proofs.lemmas.List.{get_or-take, take_more}
+use Rattle.std.proofs.lemmas.List.Sums.{prefix_len_passes}
+use Rattle.std.proofs.lemmas.List.Folds.{length-prefix_len}
+use Rattle.std.proofs.lemmas.Int.Digits.{digits_value_more, number_after_append}
+use Rattle.std.proofs.lemmas.Str.{digit_value_digit}
+use Rattle.std.proofs.lemmas.Str.Parse.{digits_value-take-le}
+use Rattle.std.proofs.Math.Pow.{pow_mono}
+use Rattle.smi_value.specs.hint.Number.{front_digits, StartsWithNumber}
+use Rattle.smi_value.specs.hint.Pieces.{number_of_octets}
+use Rattle.std.proofs.lemmas.Nat.{pow-add}
+use Rattle.std.proofs.Common.{inl, inr}
+use Rattle.smi_value.specs.hint.Number.{IsNumberHint}
+use Rattle.smi_value.specs.declared.hint.number.NumberForm.{NumberForm}
+use Rattle.smi_value.specs.declared.hint.number.NumberForm.TheVariants as form
+use Rattle.std.specs.Bool.{◌==◌}
+
+-- the digits that are still to be written stand before the ones that are there
+pub record AreLeft (at base left : ℕ) (written : List ℕ) (n : ℕ) : Type 0 where
+  pub same : digits_onto at base false left written ≡ digits base false n
+
+pub all_left : (base n : ℕ) (written : List ℕ) → written ≡ [] → AreLeft 64 base n written n
+unfolding digits
+all_left base n written e = record { same = ap (λ (w : List ℕ). digits_onto 64 base false n w) e }
+
+pub one_written : (at base left n : ℕ) (written : List ℕ) → AreLeft (suc at) base left written n → (left / base == 0) ≡ false
+    → AreLeft at base (left / base) (digit_glyph false (left % base) ∷ written) n
+one_written at base left n written h e = record { same = rw e at h.same }
+
+pub last_written : (at base left n : ℕ) (written : List ℕ) → AreLeft (suc at) base left written n → (left / base == 0) ≡ true
+    → digit_glyph false (left % base) ∷ written ≡ digits base false n
+last_written at base left n written h e = rw e at h.same
+
+pub front_is_digits : (text : List ℕ) (k : ℕ) → k < length (front_digits text) → IsInRange 48 57 (get_or (front_digits text) k 0)
+front_is_digits text k low =
+    let n : ℕ = prefix_len is_ascii_digit text in
+    let long : length (front_digits text) ≡ n = length-prefix_len is_ascii_digit text in
+    let within : k < n = omega arith in
+    let same : get_or (front_digits text) k 0 ≡ get_or text k 0 = get_or-take n text k 0 within in
+    let passes : is_ascii_digit (get_or text k 0) ≡ true = prefix_len_passes is_ascii_digit text k 0 within in
+    let digit : IsInRange 48 57 (get_or text k 0) = search (rules, tests) in
+    let P : ℕ → Type 0 = λ c. IsInRange 48 57 c in
+    subst P (sym same) digit
+
+-- a digit written before those that are there
+pub written_before : (at base left n digit : ℕ) (text : List ℕ) → 0 < at → at ≤ length text → AreLeft at base left (drop at text) n
+    → digit ≡ digit_glyph false (left % base)
+    → (left / base == 0) ≡ false → AreLeft (at - 1) base (left / base) (drop (at - 1) (set text (at - 1) digit)) n
+written_before at base left n digit text some within h is_digit more =
+    let k : ℕ = at - 1 in
+    let e : at ≡ suc k = omega arith in
+    let P : ℕ → Type 0 = λ a. AreLeft a base left (drop a text) n in
+    let last : drop k (set text k digit) ≡ digit_glyph false (left % base) ∷ drop (suc k) text = drop-set text k digit (omega arith)
+    ∙ (rw (add-one, is_digit) refl) in
+    rw last (one_written k base left n (drop (suc k) text) (subst P e h) more)
+
+pub written_last : (at base left n digit : ℕ) (text : List ℕ) → 0 < at → at ≤ length text → AreLeft at base left (drop at text) n
+    → digit ≡ digit_glyph false (left % base)
+    → (left / base == 0) ≡ true → drop (at - 1) (set text (at - 1) digit) ≡ digits base false n
+written_last at base left n digit text some within h is_digit no_more =
+    let k : ℕ = at - 1 in
+    let e : at ≡ suc k = omega arith in
+    let P : ℕ → Type 0 = λ a. AreLeft a base left (drop a text) n in
+    let last : drop k (set text k digit) ≡ digit_glyph false (left % base) ∷ drop (suc k) text = drop-set text k digit (omega arith)
+    ∙ (rw (add-one, is_digit) refl) in
+    last ∙ last_written k base left n (drop (suc k) text) (subst P e h) no_more
+
+pub all_written : (base left n : ℕ) (text : List ℕ) → AreLeft 0 base left (drop 0 text) n → drop 0 text ≡ digits base false n
+all_written base left n text h = h.same
+
+-- one digit more
+pub value_more : (digits : List ℕ) (i n d : ℕ) → i < length digits → IsInRange 48 57 (get_or digits i 0) → n ≡ digits_value 10 (take i digits)
+    → d ≡ get_or digits i 0 - 48
+    → n * 10 + d ≡ digits_value 10 (take (i + 1) digits)
+value_more digits i n d low digit e f =
+    let more = digits_value_more 10 digits i low in
+    let value = digit_value_digit (get_or digits i 0) digit in
+    omega (arith, more, value, digit.0)
+
+pub value_above : (text : List ℕ) (i n most : ℕ) → n ≡ digits_value 10 (take (i + 1) (front_digits text)) → most < n
+    → (number : ℕ) (rest : List ℕ) → StartsWithNumber text number rest → most < number
+value_above text i n most e above number rest h =
+    let le = digits_value-take-le 10 (front_digits text) (i + 1) (omega arith) in
+    omega (arith, le, h.value)
+
+-- one octet more of a number
+pub number_more : (octets : List ℕ) (i : ℕ) → i < length octets → number_of_octets (take (i + 1) octets)
+    ≡ number_of_octets (take i octets) * 256 + get_or octets i 0
+number_more octets i low =
+    ap number_of_octets (take_more octets i 0 low) ∙ number_after_append 256 0 (take i octets) (get_or octets i 0 ∷ [])
+
+pub below_more : (n o i : ℕ) → n < 2 ^ (8 * i) → o < 256 → n * 256 + o < 2 ^ (8 * (i + 1))
+below_more n o i low small =
+    let e : 8 * (i + 1) ≡ 8 * i + 8 = omega arith in
+    let f : 2 ^ (8 * i + 8) ≡ 2 ^ (8 * i) * 2 ^ 8 = pow-add 2 (8 * i) 8 in
+    rw e (rw f (omega arith))
+
+pub below_56_bits : (n i : ℕ) → n < 2 ^ (8 * i) → i ≤ 7 → n < 2 ^ 56
+below_56_bits n i low short =
+    let le : 2 ^ (8 * i) ≤ 2 ^ 56 = pow_mono {i = 8 * i} {j = 56} (omega arith) in
+    omega (arith, le, low)
+
+-- a text that names no number of places
+pub no_places : (text : List ℕ) → ((places : ℕ) → StartsWithNumber text places [] → places ≤ 20 → ⊥) → (form : NumberForm)
+    → IsNumberHint (100 ∷ 45 ∷ text) form → ⊥
+no_places text none (form.Decimal places) (inl h) = absurd (cc h.0)
+no_places text none (form.Decimal places) (inr h) =
+    let same : h.after_hyphen ≡ text = cc h.whole in
+    none places (rw same at h.number) h.at_most
+no_places text none form.Hexadecimal h = absurd (cc h)
+no_places text none form.Octal h = absurd (cc h)
+no_places text none form.Binary h = absurd (cc h)

@@ -1,0 +1,308 @@
+-- The pieces and groups that octets are still to be cut into, and those that they were cut into.
+use Rattle.std.proofs.Common.{
+  ◌≡◌,
+  ◌≢◌,
+  ℕ,
+  zero,
+  suc,
+  ◌+◌,
+  ◌-◌,
+  ◌<◌,
+  ◌≤◌,
+  Bool,
+  true,
+  false,
+  List,
+  [],
+  ◌∷◌,
+  ◌++◌,
+  length,
+  take,
+  drop,
+  replicate,
+  refl,
+  sym,
+  ◌∙◌,
+  ap,
+  subst,
+  arith,
+  rules,
+  tests,
+  inl,
+  inr,
+  ◌⊎◌,
+  append-nil,
+  Option,
+  None,
+  option_to_list,
+  if◌then◌else◌,
+  length-drop,
+}
+use Rattle.std.specs.Bool.{◌==◌, nat_lt}
+use Rattle.std.proofs.lemmas.List.{length-replicate}
+use Rattle.snmp_io.specs.draft.Draft.{Written, Grows, Adds}
+use Rattle.smi_value.specs.declared.hint.spec.Spec.{Spec}
+use Rattle.smi_value.specs.hint.Spec.{IsFirstSpec, AreSpecs, IsOctetHint, LastTakesOctets, takes_octets, most_octets}
+use Rattle.smi_value.specs.hint.Pieces.{ArePieces, IsCut, IsGroup, AreGroups, ShowsOctets, piece_text, pieces_text, mark_before, last_mark, body_of, specs_after}
+use Rattle.smi_value.proofs.Growing.{grows_none, grows_both, adds_from}
+use Rattle.smi_value.proofs.Specs.{same_spec, same_rest, Begins, begins}
+
+-- from `old` to `new` the text of some pieces of the octets is appended
+pub record AppendsPieces (spec : Spec) (times : ℕ) (octets : List ℕ) (old new : Written) (rest : List ℕ) : Type 0 where
+  pub pieces : List (List ℕ)
+  pub cut : IsCut spec.length times pieces octets rest
+  pub grows : Grows old (pieces_text spec pieces rest) new
+
+-- what suffices from here on suffices from the start
+pub record PiecesAhead (spec : Spec) (times : ℕ) (octets : List ℕ) (old : Written) (ahead : ℕ) (left : List ℕ) (now : Written) : Type 0 where
+  pub whole : (new : Written) (rest : List ℕ) → AppendsPieces spec ahead left now new rest → AppendsPieces spec times octets old new rest
+
+pub no_pieces : (spec : Spec) (times : ℕ) (octets : List ℕ) (now : Written) → (0 ≡ times) ⊎ (octets ≡ []) → AppendsPieces spec times octets now now octets
+no_pieces spec times octets now enough = record {
+  pieces = [];
+  cut = record { are_pieces = refl; at_most = omega arith; enough = enough };
+  grows = grows_none now;
+}
+
+one_mark : (spec : Spec) (ahead : ℕ) (rest : List ℕ) → (0 ≡ ahead) ⊎ (rest ≡ [])
+    → mark_before (if ahead == 0 then last_mark spec else spec.separator) rest ≡ mark_before (last_mark spec) rest
+one_mark spec ahead rest (inl e) = let none : ahead ≡ 0 = sym e in rw none refl
+one_mark spec ahead rest (inr e) = rw e refl
+
+more_mark : (spec : Spec) (ahead : ℕ) (rest : List ℕ) → 0 < ahead → rest ≢ []
+    → mark_before (if ahead == 0 then last_mark spec else spec.separator) rest ≡ option_to_list spec.separator
+more_mark spec zero rest some left = absurd (omega arith)
+more_mark spec (suc ahead) [] some left = absurd (left refl)
+more_mark spec (suc ahead) (octet ∷ more) some left =
+    let more_ahead : (suc ahead == 0) ≡ false = search (rules, tests) in rw more_ahead refl
+
+pub one_piece : (spec : Spec) (ahead : ℕ) (left : List ℕ) (old now new : Written) (rest : List ℕ) → left ≢ []
+    → Grows old (piece_text spec.format (take spec.length left) ++ mark_before (if ahead == 0 then last_mark spec else spec.separator)
+    (drop spec.length left)) now
+    → AppendsPieces spec ahead (drop spec.length left) now new rest → AppendsPieces spec (ahead + 1) left old new rest
+one_piece spec ahead left old now new rest some first h = go h.pieces h.cut h.grows
+  where
+    go : (pieces : List (List ℕ)) → IsCut spec.length ahead pieces (drop spec.length left) rest → Grows now (pieces_text spec pieces rest) new
+        → AppendsPieces spec (ahead + 1) left old new rest
+    go [] cut grows =
+        let enough : (0 ≡ ahead) ⊎ (drop spec.length left ≡ []) =
+        elim cut.enough [ inl e ↦ inl e | inr e ↦ inr (sym cut.are_pieces ∙ e) ] in
+        let marks = one_mark spec ahead (drop spec.length left) enough in
+        let text : piece_text spec.format (take spec.length left) ++ mark_before (if ahead == 0 then last_mark spec else spec.separator) (drop spec.length left)
+        ≡ piece_text spec.format (take spec.length left) ++ mark_before (last_mark spec) rest =
+        rw (marks, cut.are_pieces) refl in
+        let both = grows_both old now new _ [] first grows in
+        record {
+          pieces = take spec.length left ∷ [];
+          cut = record {
+            are_pieces = (some, refl, cut.are_pieces);
+            at_most = omega arith;
+            enough = elim cut.enough [ inl e ↦ inl (omega (arith, e)) | inr e ↦ inr e ];
+          };
+          grows = rw (← text) (rw append-nil at both);
+        }
+    go (piece ∷ pieces) cut grows =
+        let ahead_some : 0 < ahead = omega (arith, cut.at_most) in
+        let marks = more_mark spec ahead (drop spec.length left) ahead_some cut.are_pieces.0 in
+        record {
+          pieces = take spec.length left ∷ piece ∷ pieces;
+          cut = record {
+            are_pieces = (some, refl, cut.are_pieces);
+            at_most = omega (arith, cut.at_most);
+            enough = elim cut.enough [ inl e ↦ inl (omega (arith, e)) | inr e ↦ inr e ];
+          };
+          grows = grows_both old now new _ _ (rw marks at first) grows;
+        }
+
+-- pieces of no octets, with no mark between them, have the text of one
+empty_pieces : (spec : Spec) (n : ℕ) (octets : List ℕ) → spec.separator ≡ None
+    → pieces_text spec (replicate (suc n) []) octets ≡ mark_before (last_mark spec) octets
+empty_pieces spec zero octets e = refl
+empty_pieces spec (suc n) octets e =
+    ap (λ (mark : Option ℕ). option_to_list mark ++ pieces_text spec (replicate (suc n) []) octets) e ∙ empty_pieces spec n octets e
+
+are_empty_pieces : (n : ℕ) (octets : List ℕ) → octets ≢ [] → ArePieces 0 (replicate n []) octets octets
+are_empty_pieces zero octets some = refl
+are_empty_pieces (suc n) octets some = (some, refl, are_empty_pieces n octets some)
+
+pub one_for_all : (spec : Spec) (times : ℕ) (octets : List ℕ) (old new : Written) (rest : List ℕ) → spec.length ≡ 0 → spec.separator ≡ None → 1 < times
+    → AppendsPieces spec 1 octets old new rest → AppendsPieces spec times octets old new rest
+one_for_all spec times octets old new rest short bare more h = go h.pieces h.cut h.grows
+  where
+    go : (pieces : List (List ℕ)) → IsCut spec.length 1 pieces octets rest → Grows old (pieces_text spec pieces rest) new
+        → AppendsPieces spec times octets old new rest
+    go [] cut grows = record {
+      pieces = [];
+      cut = record { are_pieces = cut.are_pieces; at_most = omega arith; enough = elim cut.enough [ inl e ↦ absurd (omega (arith, e)) | inr e ↦ inr e ] };
+      grows = grows;
+    }
+    go (piece ∷ []) cut grows =
+        let same : rest ≡ octets = cut.are_pieces.2 ∙ ap (λ (n : ℕ). drop n octets) short in
+        let none : piece ≡ [] = cut.are_pieces.1 ∙ ap (λ (n : ℕ). take n octets) short in
+        let k : ℕ = times - 1 in
+        let e : times ≡ suc k = omega arith in
+        let text : pieces_text spec (piece ∷ []) rest ≡ pieces_text spec (replicate (suc k) []) rest =
+        rw none (sym (empty_pieces spec k rest bare)) in
+        let along_width = let P : ℕ → Type 0 = λ n. ArePieces n (replicate (suc k) []) octets octets in λ (h : P 0). subst P (sym short) h in
+        let along_rest = let P : List ℕ → Type 0 = λ s. ArePieces spec.length (replicate (suc k) []) octets s in λ (h : P octets). subst P (sym same) h in
+        let are : ArePieces 0 (replicate (suc k) []) octets octets = are_empty_pieces (suc k) octets cut.are_pieces.0 in
+        record {
+          pieces = replicate (suc k) [];
+          cut = record {
+            are_pieces = along_rest (along_width are);
+            at_most = omega (arith, length-replicate {A = List ℕ} (suc k) []);
+            enough = inl (omega
+                (arith, length-replicate {A = List ℕ} (suc k) []));
+          };
+          grows = rw text at grows;
+        }
+    go (piece ∷ next ∷ pieces) cut grows = absurd (omega (arith, cut.at_most))
+
+-- from `old` to `new` the text of some groups of the octets is appended
+pub record AppendsGroups (specs : List Spec) (octets : List ℕ) (old new : Written) : Type 0 where
+  pub groups : List (List (List ℕ))
+  pub text : List ℕ
+  pub are_groups : AreGroups specs groups octets text
+  pub grows : Grows old text new
+
+pub record AppendsShown (hint octets : List ℕ) (old new : Written) : Type 0 where
+  pub text : List ℕ
+  pub shows : ShowsOctets hint octets text
+  pub grows : Grows old text new
+
+pub record GroupsAhead (hint octets : List ℕ) (old : Written) (spec : Spec) (ahead left : List ℕ) (now : Written) : Type 0 where
+  pub specs : List Spec
+  pub are_specs : AreSpecs ahead specs
+  pub ends : LastTakesOctets (spec ∷ specs)
+  pub fits : spec.length ≤ most_octets spec.format
+  pub whole : (new : Written) → AppendsGroups (spec ∷ specs) left now new → AppendsShown hint octets old new
+
+pieces_no_longer : (width : ℕ) (pieces : List (List ℕ)) (octets rest : List ℕ) → ArePieces width pieces octets rest → length rest ≤ length octets
+pieces_no_longer width [] octets rest h = omega (arith, ap length h)
+pieces_no_longer width (piece ∷ pieces) octets rest h =
+    let le = pieces_no_longer width pieces (drop width octets) rest h.2 in
+    omega (arith, le, length-drop width octets)
+
+body_no_longer : (spec : Spec) (octets : List ℕ) → length (body_of spec octets) ≤ length octets
+body_no_longer spec octets = elim spec.is_counted as (λ b. length (if b then drop 1 octets else octets) ≤ length octets) [
+  | true ↦ omega
+      (arith, length-drop 1 octets)
+  | false ↦ omega arith
+]
+
+pub group_no_longer : (spec : Spec) (pieces : List (List ℕ)) (octets rest : List ℕ) → IsGroup spec pieces octets rest → length rest ≤ length octets
+group_no_longer spec pieces octets rest h =
+    let le = pieces_no_longer spec.length pieces (body_of spec octets) rest h.cut.are_pieces in
+    omega (arith, le, body_no_longer spec octets)
+
+counted_group : (spec : Spec) (octets : List ℕ) → spec.is_counted ≡ true → octets ≢ [] → length (body_of spec octets) < length octets
+counted_group spec [] e some = absurd (some refl)
+counted_group spec (octet ∷ more) e some = rw e (omega arith)
+
+single_group : (spec : Spec) (pieces : List (List ℕ)) (octets rest : List ℕ) → octets ≢ [] → 0 < spec.length → IsCut spec.length 1 pieces octets rest
+    → length rest < length octets
+single_group spec [] octets rest some wide cut =
+    elim cut.enough [ inl e ↦ absurd (omega (arith, e)) | inr e ↦ absurd (some (sym cut.are_pieces ∙ e)) ]
+single_group spec (piece ∷ pieces) [] rest some wide cut = absurd (some refl)
+single_group spec (piece ∷ pieces) (octet ∷ more) rest some wide cut =
+    let le = pieces_no_longer spec.length pieces (drop spec.length (octet ∷ more)) rest cut.are_pieces.2 in
+    omega (arith, le, length-drop spec.length (octet ∷ more))
+
+pub group_shorter : (spec : Spec) (pieces : List (List ℕ)) (octets rest : List ℕ) → takes_octets spec ≡ true → IsGroup spec pieces octets rest
+    → length rest < length octets
+group_shorter spec pieces octets rest takes h = go spec.is_counted refl
+  where
+    go : (b : Bool) → spec.is_counted ≡ b → length rest < length octets
+    go true e =
+        let le = pieces_no_longer spec.length pieces (body_of spec octets) rest h.cut.are_pieces in
+        omega (arith, le, counted_group spec octets e h.some)
+    go false e =
+        let wide : nat_lt 0 spec.length ≡ true = rw e at takes in
+        let some : 0 < spec.length = search (rules, tests) in
+        let cut : IsCut spec.length 1 pieces octets rest = rw e at h.cut in
+        single_group spec pieces octets rest h.some some cut
+
+pub hint_begins : (hint : List ℕ) (specs : List Spec) → IsOctetHint hint specs → Begins hint specs
+hint_begins hint [] h = absurd h.ends
+hint_begins hint (spec ∷ more) h = record { spec = spec; rest = h.read.0; more = more; is_first = h.read.1; are_more = h.read.2; whole = refl }
+
+pub groups_begin : (hint octets : List ℕ) (old : Written) (spec : Spec) (ahead : List ℕ) (all : List Spec) → IsOctetHint hint all → IsFirstSpec hint spec ahead
+    → GroupsAhead hint octets old spec ahead octets old
+groups_begin hint octets old spec ahead all is_hint is_first =
+    let b = hint_begins hint all is_hint in
+    let same : b.spec ≡ spec = same_spec hint b.spec spec b.rest ahead b.is_first is_first in
+    let after : b.rest ≡ ahead = same_rest hint b.spec spec b.rest ahead b.is_first is_first in
+    let whole : all ≡ spec ∷ b.more = b.whole ∙ ap (λ (s : Spec). s ∷ b.more) same in
+    let known : IsOctetHint hint (spec ∷ b.more) = rw whole at is_hint in
+    record {
+      specs = b.more;
+      are_specs = rw after at b.are_more;
+      ends = known.ends;
+      fits = is_first.fits;
+      whole = λ new h. record {
+        text = h.text;
+        shows = record { specs = spec ∷ b.more; groups = h.groups; is_hint = known; are_groups = h.are_groups };
+        grows =
+            h.grows;
+      };
+    }
+
+-- one group before the others
+group_before : (spec : Spec) (specs : List Spec) (pieces : List (List ℕ)) (left rest : List ℕ) (old now new : Written) → IsGroup spec pieces left rest
+    → Adds old (pieces_text spec pieces rest) now
+    → AppendsGroups (specs_after spec specs) rest now new → AppendsGroups (spec ∷ specs) left old new
+group_before spec specs pieces left rest old now new group adds h = record {
+  groups = pieces ∷ h.groups;
+  text = pieces_text spec pieces rest ++ h.text;
+  are_groups = (rest, h.text, group, h.are_groups, refl);
+  grows = grows_both old now new _ _ adds.grows h.grows;
+}
+
+pub group_then_next : (hint octets : List ℕ) (old : Written) (spec next : Spec) (ahead after left rest : List ℕ) (now new : Written) (pieces : List (List ℕ))
+    → ahead ≢ [] → IsFirstSpec ahead next after
+    → IsGroup spec pieces left rest → Adds now (pieces_text spec pieces rest) new → GroupsAhead hint octets old spec ahead left now
+    → GroupsAhead hint octets old next after rest new
+group_then_next hint octets old spec next ahead after left rest now new pieces some is_first group adds h =
+    let b = begins ahead h.specs some h.are_specs in
+    let same : b.spec ≡ next = same_spec ahead b.spec next b.rest after b.is_first is_first in
+    let follows : b.rest ≡ after = same_rest ahead b.spec next b.rest after b.is_first is_first in
+    let whole : h.specs ≡ next ∷ b.more = b.whole ∙ ap (λ (s : Spec). s ∷ b.more) same in
+    let ends : LastTakesOctets (spec ∷ next ∷ b.more) = rw whole at h.ends in
+    record {
+      specs = b.more;
+      are_specs = rw follows at b.are_more;
+      ends = ends;
+      fits = is_first.fits;
+      whole = λ last k.
+          let P : List Spec → Type 0 = λ s. AppendsGroups (spec ∷ s) left now last in
+          h.whole last (subst P (sym whole) (group_before spec (next ∷ b.more) pieces left rest now new last group adds k));
+    }
+
+no_specs : (specs : List Spec) → AreSpecs [] specs → specs ≡ []
+no_specs [] are = refl
+no_specs (spec ∷ more) are = absurd (are.1.digits refl)
+
+pub last_takes : (hint octets : List ℕ) (old : Written) (spec : Spec) (left : List ℕ) (now : Written) → GroupsAhead hint octets old spec [] left now
+    → takes_octets spec ≡ true
+last_takes hint octets old spec left now h = rw (no_specs h.specs h.are_specs) at h.ends
+
+pub group_then_again : (hint octets : List ℕ) (old : Written) (spec : Spec) (left rest : List ℕ) (now new : Written) (pieces : List (List ℕ))
+    → IsGroup spec pieces left rest → Adds now (pieces_text spec pieces rest) new → GroupsAhead hint octets old spec [] left now
+    → GroupsAhead hint octets old spec [] rest new
+group_then_again hint octets old spec left rest now new pieces group adds h =
+    let none : h.specs ≡ [] = no_specs h.specs h.are_specs in
+    record {
+      specs = [];
+      are_specs = refl;
+      ends = rw none at h.ends;
+      fits = h.fits;
+      whole = λ last k.
+          let P : List Spec → Type 0 = λ s. AppendsGroups (spec ∷ s) left now last in
+          h.whole last (subst P (sym none) (group_before spec [] pieces left rest now new last group adds k));
+    }
+
+pub groups_end : (hint octets : List ℕ) (old : Written) (spec : Spec) (ahead : List ℕ) (now : Written) → GroupsAhead hint octets old spec ahead [] now
+    → (text : List ℕ) × ShowsOctets hint octets text × Adds old text now
+groups_end hint octets old spec ahead now h =
+    let all = h.whole now (record { groups = []; text = []; are_groups = (refl, refl); grows = grows_none now }) in
+    (all.text, all.shows, adds_from old now all.text all.grows)

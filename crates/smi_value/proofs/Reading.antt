@@ -1,0 +1,106 @@
+-- Letters that are read one after the other.
+use Rattle.std.proofs.Common.{
+  ◌≡◌,
+  ℕ,
+  ◌+◌,
+  ◌<◌,
+  Bool,
+  true,
+  false,
+  not,
+  List,
+  [],
+  ◌∷◌,
+  ◌++◌,
+  Option,
+  Some,
+  None,
+  refl,
+  sym,
+  ◌∙◌,
+  ap,
+  take,
+  drop,
+  length,
+  get_or,
+  codes,
+  if◌then◌else◌,
+  suc,
+  drop-cons,
+  take-append-drop,
+}
+use Rattle.std.specs.Bool.{◌==◌}
+use Rattle.std.proofs.Common.{◌||◌}
+use Rattle.std.specs.List.{find}
+use Rattle.std.proofs.lemmas.List.{reverse-append, take_more}
+use Rattle.std.proofs.lemmas.List.Folds.{find-append}
+use Rattle.smi_value.specs.letters.Letters.{AreLetters, IsWith, is_one_of, last_of, has_letter, first_other, all_letters, name_form, type_form, string_form}
+use Rattle.smi_value.specs.declared.letters.letters.Letters.{Letters}
+
+choice_of : {X : Type 0} (f : Option ℕ → X) (b : Bool) (x y : Option ℕ) → f (if b then x else y) ≡ (if b then f x else f y)
+choice_of f true x y = refl
+choice_of f false x y = refl
+
+last_more : (letters text : List ℕ) (octet : ℕ) → last_of letters (text ++ octet ∷ []) ≡ (if is_one_of letters octet then Some octet else last_of letters text)
+last_more letters text octet = ap (find (is_one_of letters)) (reverse-append text (octet ∷ []))
+
+either_way : (x o y : Bool) → (x || (if o then true else y)) ≡ (if o then true else (x || y))
+either_way true true y = refl
+either_way true false y = refl
+either_way false true y = refl
+either_way false false y = refl
+
+has_more : (letter : ℕ) (text : List ℕ) (octet : ℕ) → has_letter letter (text ++ octet ∷ []) ≡ (if octet == letter then true else has_letter letter text)
+has_more letter [] octet = alone (octet == letter)
+  where
+    alone : (b : Bool) → (b || false) ≡ (if b then true else false)
+    alone true = refl
+    alone false = refl
+has_more letter (x ∷ text) octet =
+    ap (λ (b : Bool). (x == letter) || b) (has_more letter text octet) ∙ either_way (x == letter) (octet == letter) (has_letter letter text)
+
+-- the letters of a text with one more
+pub letters_more : (text : List ℕ) (octet : ℕ) (old new : Letters) → AreLetters text old → IsWith old octet new → AreLetters (text ++ octet ∷ []) new
+letters_more text octet old new h k = record {
+  n_f_s_S = k.n_f_s_S ∙ (rw h.n_f_s_S (sym (choice_of name_form (is_one_of (codes "nfsS") octet) (Some octet) (last_of (codes "nfsS") text))))
+      ∙ ap name_form (sym (last_more (codes "nfsS") text octet));
+  q_Q = k.q_Q ∙ (rw h.q_Q (sym (choice_of type_form (is_one_of (codes "qQ") octet) (Some octet) (last_of (codes "qQ") text))))
+      ∙ ap type_form (sym (last_more (codes "qQ") text octet));
+  x_a = k.x_a ∙ (rw h.x_a (sym (choice_of string_form (is_one_of (codes "xa") octet) (Some octet) (last_of (codes "xa") text))))
+      ∙ ap string_form (sym (last_more (codes "xa") text octet));
+  v = k.v ∙ (rw h.v (sym (has_more 118 text octet)));
+  e = k.e ∙ (rw h.e (sym (has_more 101 text octet)));
+  t = k.t ∙ (rw h.t (sym (has_more 116 text octet)));
+  b = k.b ∙ (rw h.b (sym (has_more 98 text octet)));
+  U = k.U ∙ (rw h.U (sym (has_more 85 text octet)));
+}
+
+pub letters_at : (text : List ℕ) (i : ℕ) (old new : Letters) → i < length text → AreLetters (take i text) old → IsWith old (get_or text i 0) new
+    → AreLetters (take (i + 1) text) new
+letters_at text i old new low h k = rw (take_more text i 0 low) (letters_more (take i text) (get_or text i 0) old new h k)
+
+find_here : (p : ℕ → Bool) (octet : ℕ) (more : List ℕ) → p octet ≡ true → find p (octet ∷ more) ≡ Some octet
+find_here p octet more e = rw e refl
+
+find_nowhere : (p : ℕ → Bool) (octet : ℕ) → p octet ≡ false → find p (octet ∷ []) ≡ None
+find_nowhere p octet e = rw e refl
+
+find_after : (p : ℕ → Bool) (front back : List ℕ) → find p front ≡ None → find p (front ++ back) ≡ find p back
+find_after p front back none = find-append p front back ∙ (rw none refl)
+
+abbrev is_other : ℕ → Bool
+is_other octet = not (is_one_of all_letters octet)
+
+pub no_other_more : (text : List ℕ) (i : ℕ) → i < length text → first_other (take i text) ≡ None → is_one_of all_letters (get_or text i 0) ≡ true
+    → first_other (take (i + 1) text) ≡ None
+no_other_more text i low none letter =
+    ap first_other (take_more text i 0 low) ∙ find_after is_other (take i text) (get_or text i 0 ∷ []) none
+    ∙ find_nowhere is_other (get_or text i 0) (ap not letter)
+
+pub other_at : (text : List ℕ) (i : ℕ) → i < length text → first_other (take i text) ≡ None → is_one_of all_letters (get_or text i 0) ≡ false
+    → first_other text ≡ Some (get_or text i 0)
+other_at text i low none other =
+    let whole : text ≡ take i text ++ (get_or text i 0 ∷ drop (suc i) text) = sym (take-append-drop i text)
+    ∙ ap (λ (back : List ℕ). take i text ++ back) (drop-cons text i 0 low) in
+    ap first_other whole ∙ find_after is_other (take i text) (get_or text i 0 ∷ drop (suc i) text) none
+    ∙ find_here is_other (get_or text i 0) (drop (suc i) text) (ap not other)

@@ -1,0 +1,130 @@
+-- The specs of a text, read from the front.
+use Rattle.std.proofs.Common.{◌≡◌, ◌≢◌, ℕ, Bool, true, false, List, [], ◌∷◌, refl}
+use Rattle.std.proofs.Common.{Option, Some, None, is_some, MatchOption, inl, inr, subst, arith, ◌<◌, ◌≤◌}
+use Rattle.smi_value.specs.hint.Number.{StartsWithNumber, IsNumberHint}
+use Rattle.smi_value.specs.hint.Hint.{IsOfNumbers, IsOfOctets}
+use Rattle.smi_value.specs.declared.hint.number.NumberForm.{NumberForm}
+use Rattle.smi_value.specs.declared.hint.number.NumberForm.TheVariants as form
+use Rattle.smi_value.specs.declared.hint.spec.OctetFormat.{OctetFormat}
+use Rattle.smi_value.specs.declared.hint.spec.OctetFormat.TheVariants as octet_format
+use Rattle.smi_value.specs.hint.Spec.{most_octets, after_star, at_letter, IsFirstSpec, AreSpecs, IsOctetHint, LastTakesOctets, takes_octets, may_end}
+use Rattle.smi_value.specs.declared.hint.spec.Spec.{Spec}
+
+same_fields : (a b : Spec) → a.is_counted ≡ b.is_counted → a.length ≡ b.length → a.format ≡ b.format → a.separator ≡ b.separator
+    → a.terminator ≡ b.terminator → a ≡ b
+same_fields a b e f g h k = λ i. record { is_counted = e i; length = f i; format = g i; separator = h i; terminator = k i }
+
+-- a text has one first spec
+pub same_spec : (text : List ℕ) (a b : Spec) (r s : List ℕ) → IsFirstSpec text a r → IsFirstSpec text b s → a ≡ b
+same_spec text a b r s h k =
+    let counted : a.is_counted ≡ b.is_counted = cc (h.star, k.star) in
+    let separators : a.separator ≡ b.separator = cc (h.separator, k.separator) in
+    let ends : may_end a ≡ may_end b = cc (counted, separators) in
+    let lengths : a.length ≡ b.length = cc (h.length_is, k.length_is) in
+    let formats : a.format ≡ b.format = cc (h.format, k.format) in
+    let terminators : a.terminator ≡ b.terminator = cc (h.terminator, k.terminator, ends) in
+    same_fields a b counted lengths formats separators terminators
+
+pub same_rest : (text : List ℕ) (a b : Spec) (r s : List ℕ) → IsFirstSpec text a r → IsFirstSpec text b s → r ≡ s
+same_rest text a b r s h k =
+    let e : a ≡ b = same_spec text a b r s h k in cc (h.after, k.after, e)
+
+-- the last spec takes octets, or where there is none the one before did
+abbrev pub TakesAfter : Bool → List Spec → Type 0
+TakesAfter before [] = before ≡ true
+TakesAfter before (spec ∷ specs) = TakesAfter (takes_octets spec) specs
+
+pub takes_after_from : (specs : List Spec) → LastTakesOctets specs → TakesAfter false specs
+takes_after_from [] h = absurd h
+takes_after_from (spec ∷ []) h = h
+takes_after_from (spec ∷ next ∷ more) h = takes_after_from (next ∷ more) h
+
+pub takes_after_to : (specs : List Spec) → TakesAfter false specs → LastTakesOctets specs
+takes_after_to [] h = absurd (cc)
+takes_after_to (spec ∷ []) h = h
+takes_after_to (spec ∷ next ∷ more) h = takes_after_to (next ∷ more) h
+
+-- the text is a hint exactly where the rest goes on to the end of one
+pub record GoesOn (text rest : List ℕ) (before : Bool) : Type 0 where
+  pub whole : (specs : List Spec) → AreSpecs rest specs → TakesAfter before specs → (all : List Spec) × IsOctetHint text all
+  pub part : (all : List Spec) → IsOctetHint text all → (specs : List Spec) × AreSpecs rest specs × TakesAfter before specs
+
+pub goes_on_first : (text : List ℕ) → GoesOn text text false
+goes_on_first text = record {
+  whole = λ specs are ends. (specs, record { read = are; ends = takes_after_to specs ends });
+  part = λ all hint. (all, hint.read, takes_after_from all hint.ends);
+}
+
+-- what a rest that isn't empty begins with
+pub record Begins (text : List ℕ) (specs : List Spec) : Type 0 where
+  pub spec : Spec
+  pub rest : List ℕ
+  pub more : List Spec
+  pub is_first : IsFirstSpec text spec rest
+  pub are_more : AreSpecs rest more
+  pub whole : specs ≡ spec ∷ more
+
+pub begins : (text : List ℕ) (specs : List Spec) → text ≢ [] → AreSpecs text specs → Begins text specs
+begins text [] some are = absurd (some are)
+begins text (spec ∷ more) some are = record { spec = spec; rest = are.0; more = more; is_first = are.1; are_more = are.2; whole = refl }
+
+pub goes_on_next : (text rest next : List ℕ) (before : Bool) (spec : Spec) → rest ≢ [] → IsFirstSpec rest spec next → GoesOn text rest before
+    → GoesOn text next (takes_octets spec)
+goes_on_next text rest next before spec some is_first h = record {
+  whole = λ specs are ends. h.whole (spec ∷ specs) (next, is_first, are) ends;
+  part = λ all hint.
+      let had = h.part all hint in
+      let b = begins rest had.0 some had.1 in
+      let same : b.spec ≡ spec = same_spec rest b.spec spec b.rest next b.is_first is_first in
+      let after : b.rest ≡ next = same_rest rest b.spec spec b.rest next b.is_first is_first in
+      let ends : TakesAfter before (b.spec ∷ b.more) = rw b.whole at had.2 in
+      (b.more, rw after at b.are_more, rw same at ends);
+}
+
+pub no_hint : (text rest : List ℕ) (before : Bool) → rest ≢ [] → ((spec : Spec) (next : List ℕ) → IsFirstSpec rest spec next → ⊥) → GoesOn text rest before
+    → (all : List Spec) → IsOctetHint text all → ⊥
+no_hint text rest before some none h all hint =
+    let had = h.part all hint in
+    let b = begins rest had.0 some had.1 in
+    none b.spec b.rest b.is_first
+
+pub at_end : (text : List ℕ) (before : Bool) → GoesOn text [] before → (all : List Spec) → IsOctetHint text all → before ≡ true
+at_end text before h all hint = go (h.part all hint).0 (h.part all hint).1 (h.part all hint).2
+  where
+    go : (specs : List Spec) → AreSpecs [] specs → TakesAfter before specs → before ≡ true
+    go [] are ends = ends
+    go (spec ∷ more) are ends = absurd (are.1.digits refl)
+
+most_octets-le : (format : OctetFormat) → most_octets format ≤ 65535
+most_octets-le octet_format.Hexadecimal = omega arith
+most_octets-le octet_format.Decimal = omega arith
+most_octets-le octet_format.Octal = omega arith
+most_octets-le octet_format.Text = omega arith
+
+-- no number of a length that a spec may have
+pub no_length : (text after : List ℕ) → after ≡ after_star text → ((number : ℕ) (rest : List ℕ) → StartsWithNumber after number rest → 65535 < number)
+    → (spec : Spec) (rest : List ℕ) → IsFirstSpec text spec rest → ⊥
+no_length text after e none spec rest h =
+    let P : List ℕ → Type 0 = λ s. (number : ℕ) (rest : List ℕ) → StartsWithNumber s number rest → 65535 < number in
+    let above = subst P e none spec.length (at_letter text) (record { some = h.digits; value = h.length_is; after = refl }) in
+    let le = most_octets-le spec.format in
+    absurd (omega (arith, above, le, h.fits))
+
+-- no text is a hint of integers and one of octets
+pub not_both : (text : List ℕ) (form : NumberForm) (specs : List Spec) → IsNumberHint text form → IsOctetHint text specs → ⊥
+not_both text form [] h k = k.ends
+not_both text (form.Decimal places) (spec ∷ more) (inl h) k = (rw h.0 at k.read.1.digits) refl
+not_both text (form.Decimal places) (spec ∷ more) (inr h) k = (rw h.whole at k.read.1.digits) refl
+not_both text form.Hexadecimal (spec ∷ more) h k = (rw h at k.read.1.digits) refl
+not_both text form.Octal (spec ∷ more) h k = (rw h at k.read.1.digits) refl
+not_both text form.Binary (spec ∷ more) h k = (rw h at k.read.1.digits) refl
+
+pub number_is : (number : Option NumberForm) (text : List ℕ) → MatchOption number ((specs : List Spec) × IsOctetHint text specs) (IsNumberHint text)
+    → (is_some number ≡ true → IsOfNumbers text) × (IsOfNumbers text → is_some number ≡ true)
+number_is None text h = (λ e. absurd (cc e), λ n. absurd (not_both text n.0 h.0 n.1 h.1))
+number_is (Some form) text h = (λ _. (form, h), λ _. refl)
+
+pub octets_are : (number : Option NumberForm) (text : List ℕ) → MatchOption number ((specs : List Spec) × IsOctetHint text specs) (IsNumberHint text)
+    → (is_some number ≡ false → IsOfOctets text) × (IsOfOctets text → is_some number ≡ false)
+octets_are None text h = (λ _. h, λ _. refl)
+octets_are (Some form) text h = (λ e. absurd (cc e), λ n. absurd (not_both text form n.0 h n.1))

@@ -1,0 +1,6 @@
+use Rattle.std.proofs.Common.{replicate}
+use Rattle.snmp_io.specs.draft.Draft.{Grows}
+use Rattle.smi_value.proofs.hint.number.append_zeros.Given as goal
+
+abbrev pub invariant-zeros : goal.invariant-zeros
+invariant-zeros l = Grows l.initial.draft (replicate l.place 48) l.draft

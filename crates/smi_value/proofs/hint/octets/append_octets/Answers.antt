@@ -1,0 +1,58 @@
+use Rattle.std.proofs.Common.{◌≡◌, ◌≢◌, List, [], subst, sym, rules, arith}
+use Rattle.smi_value.proofs.Groups.{
+  GroupsAhead,
+  hint_begins,
+  groups_begin,
+  groups_end,
+  group_then_next,
+  group_then_again,
+  group_no_longer,
+  group_shorter,
+  last_takes,
+}
+use Rattle.smi_value.proofs.Growing.{none_left}
+use Rattle.smi_value.proofs.hint.octets.append_octets.Goals as goal
+
+pub next_spec-requires : goal.next_spec-requires
+next_spec-requires c =
+    let b = hint_begins c.args.hint.now c.requires.0 c.requires.1 in
+    (b.spec, b.rest, b.is_first)
+
+pub groups-init : goal.groups-init
+groups-init c = groups_begin c.args.hint.now c.args.octets.now c.args.draft.now _ _ c.requires.0 c.requires.1 c.next_spec.ensures.first
+
+pub groups-smaller-then-not-is_empty : goal.groups-smaller-then-not-is_empty
+groups-smaller-then-not-is_empty c =
+    let le = group_no_longer _ _ _ _ c.append_group-left.ensures.1 in
+    omega (arith, le, c.next_spec-then-not-is_empty.ensures.shorter)
+
+pub groups-preserved-then-not-is_empty : goal.groups-preserved-then-not-is_empty
+groups-preserved-then-not-is_empty c =
+    let some : c.groups.ahead.now ≢ [] = search rules in
+    group_then_next c.args.hint.now c.args.octets.now c.args.draft.now c.groups.spec _ c.groups.ahead.now _ c.groups.left.now _ c.groups.draft _
+    c.append_group-left.ensures.0 some
+    c.next_spec-then-not-is_empty.ensures.first c.append_group-left.ensures.1 c.append_group-left.ensures.2 c.groups.invariant
+
+pub groups-smaller : goal.groups-smaller
+groups-smaller c =
+    let none : c.groups.ahead.now ≡ [] = search rules in
+    let P : List _ → Type 0 = λ ahead. GroupsAhead c.args.hint.now c.args.octets.now c.args.draft.now c.groups.spec ahead c.groups.left.now c.groups.draft in
+    let takes = last_takes _ _ _ _ _ _ (subst P none c.groups.invariant) in
+    let lt = group_shorter _ _ _ _ takes c.append_group-left.ensures.1 in
+    omega (arith, lt)
+
+pub groups-preserved : goal.groups-preserved
+groups-preserved c =
+    let none : c.groups.ahead.now ≡ [] = search rules in
+    let P : List _ → Type 0 = λ ahead. GroupsAhead c.args.hint.now c.args.octets.now c.args.draft.now c.groups.spec ahead c.groups.left.now c.groups.draft in
+    let Q : List _ → Type 0 = λ ahead. GroupsAhead c.args.hint.now c.args.octets.now c.args.draft.now c.groups.spec ahead c.append_group-left.result.now
+    c.append_group-left.new.draft in
+    subst Q (sym none) (group_then_again c.args.hint.now c.args.octets.now c.args.draft.now c.groups.spec c.groups.left.now _ c.groups.draft _
+    c.append_group-left.ensures.0
+    c.append_group-left.ensures.1 c.append_group-left.ensures.2 (subst P none c.groups.invariant))
+
+pub returns : goal.returns
+returns c =
+    let none : c.groups.left.now ≡ [] = none_left _ _ c.is_empty.ensures c.groups-test.false in
+    let P : List _ → Type 0 = λ left. GroupsAhead c.args.hint.now c.args.octets.now c.args.draft.now c.groups.spec c.groups.ahead.now left c.groups.draft in
+    groups_end c.args.hint.now c.args.octets.now c.args.draft.now c.groups.spec c.groups.ahead.now c.groups.draft (subst P none c.groups.invariant)

@@ -1,0 +1,9 @@
+use Rattle.std.proofs.Common.{length}
+use Rattle.smi_value.proofs.Specs.{GoesOn}
+use Rattle.smi_value.proofs.hint.spec.is_octet_hint.Given as goal
+
+abbrev pub invariant-specs : goal.invariant-specs
+invariant-specs l = GoesOn l.text l.rest l.ends_well
+
+abbrev pub decreases-specs : goal.decreases-specs
+decreases-specs l = length l.rest

@@ -1,0 +1,33 @@
+-- A display hint and what it shows (RFC 2579, section 3.1).
+use Rattle.std.specs.Prelude.{◌≡◌, ℕ, ℤ, List}
+use Rattle.smi_value.specs.hint.Number.{IsNumberHint, number_text}
+use Rattle.smi_value.specs.hint.Spec.{IsOctetHint}
+use Rattle.smi_value.specs.hint.Pieces.{ShowsOctets}
+use Rattle.smi_value.specs.declared.hint.number.NumberForm.{NumberForm}
+use Rattle.smi_value.specs.declared.hint.spec.Spec.{Spec}
+use Rattle.smi_value.specs.declared.hint.hint.HintValue.{HintValue}
+use Rattle.smi_value.specs.declared.hint.hint.HintValue.TheVariants as value
+
+-- the text is a hint of integers
+abbrev pub IsOfNumbers : List ℕ → Type 0
+IsOfNumbers text = (form : NumberForm) × IsNumberHint text form
+
+-- the text is a hint of octets
+abbrev pub IsOfOctets : List ℕ → Type 0
+IsOfOctets text = (specs : List Spec) × IsOctetHint text specs
+
+-- a hint shows a number as this text
+pub record ShowsNumber (hint : List ℕ) (n : ℤ) (text : List ℕ) : Type 0 where
+  pub form : NumberForm
+  pub is_hint : IsNumberHint hint form
+  pub is_text : text ≡ number_text form n
+
+-- a hint shows a value as this text
+abbrev pub Shows : List ℕ → HintValue → List ℕ → Type 0
+Shows hint (value.Number n) text = ShowsNumber hint n text
+Shows hint (value.Octets octets) text = ShowsOctets hint octets.now text
+
+-- the hint is one for values like this one
+abbrev pub IsHintFor : List ℕ → HintValue → Type 0
+IsHintFor hint (value.Number _) = IsOfNumbers hint
+IsHintFor hint (value.Octets _) = IsOfOctets hint

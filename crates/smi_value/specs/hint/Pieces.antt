@@ -1,0 +1,89 @@
+-- Octets under a display hint (RFC 2579, section 3.1): count octets and pieces, and their text.
+use Rattle.std.specs.Prelude.{◌≡◌, ◌≢◌, ℕ, ◌≤◌, ◌⊎◌, false, if◌then◌else◌, is_some, List, []}
+use Rattle.std.specs.Prelude.{◌∷◌}
+use Rattle.std.specs.Prelude.{◌++◌, length, take, drop, slice_index, Option, option_to_list}
+use Rattle.std.specs.Prelude.{decimal}
+use Rattle.std.specs.Fmt.{digits}
+use Rattle.std.specs.Int.Digits.{number_from_digits}
+use Rattle.smi_value.specs.hint.Spec.{IsOctetHint}
+use Rattle.smi_value.specs.declared.hint.spec.OctetFormat.{OctetFormat}
+use Rattle.smi_value.specs.declared.hint.spec.OctetFormat.TheVariants as octet_format
+use Rattle.smi_value.specs.declared.hint.spec.Spec.{Spec}
+
+-- octets as one number, the most significant first
+abbrev pub number_of_octets : List ℕ → ℕ
+number_of_octets octets = number_from_digits 256 octets
+
+-- one application: text unchanged, or one number; no octets give no text
+abbrev pub piece_text : OctetFormat → List ℕ → List ℕ
+piece_text format [] = []
+piece_text octet_format.Text (octet ∷ more) = octet ∷ more
+piece_text octet_format.Hexadecimal (octet ∷ more) = digits 16 false
+    (number_of_octets (octet ∷ more))
+piece_text octet_format.Decimal (octet ∷ more) = decimal (number_of_octets (octet ∷ more))
+piece_text octet_format.Octal (octet ∷ more) = digits 8 false (number_of_octets (octet ∷ more))
+
+-- pieces of a width, or all that remains if fewer, are cut from the front while octets remain
+abbrev pub ArePieces : ℕ → List (List ℕ) → List ℕ → List ℕ → Type 0
+ArePieces width [] octets rest = rest ≡ octets
+ArePieces width (piece ∷ pieces) octets rest =
+    (octets ≢ []) × (piece ≡ take width octets) × ArePieces width pieces (drop width octets) rest
+
+-- `times` pieces, or fewer if nothing remains after them
+pub record IsCut (width times : ℕ) (pieces : List (List ℕ)) (octets rest : List ℕ) : Type 0 where
+  pub are_pieces : ArePieces width pieces octets rest
+  pub at_most : length pieces ≤ times
+  pub enough : (length pieces ≡ times) ⊎ (rest ≡ [])
+
+-- a mark is shown if octets remain
+abbrev pub mark_before : Option ℕ → List ℕ → List ℕ
+mark_before mark [] = []
+mark_before mark (_ ∷ _) = option_to_list mark
+
+-- the mark after the last application: the terminator, if any, in place of the separator
+abbrev pub last_mark : Spec → Option ℕ
+last_mark spec = if is_some spec.terminator then spec.terminator else spec.separator
+
+-- the text of the pieces of one spec, before octets that remain
+abbrev pub pieces_text : Spec → List (List ℕ) → List ℕ → List ℕ
+pieces_text spec [] rest = []
+pieces_text spec (piece ∷ []) rest =
+    piece_text spec.format piece ++ mark_before (last_mark spec) rest
+pieces_text spec (piece ∷ next ∷ more) rest =
+    piece_text spec.format piece ++ option_to_list spec.separator
+    ++ pieces_text spec (next ∷ more) rest
+
+-- how often a spec is applied: as often as the first octet says if it has a star, otherwise once
+abbrev pub times_of : Spec → List ℕ → ℕ
+times_of spec octets = if spec.is_counted then slice_index octets 0 else 1
+
+-- the octets that it is applied to
+abbrev pub body_of : Spec → List ℕ → List ℕ
+body_of spec octets = if spec.is_counted then drop 1 octets else octets
+
+-- the specs after one: the last spec comes again
+abbrev pub specs_after : Spec → List Spec → List Spec
+specs_after spec [] = spec ∷ []
+specs_after spec (next ∷ more) = next ∷ more
+
+-- the pieces of a first spec, and what comes after them
+pub record IsGroup (spec : Spec) (pieces : List (List ℕ)) (octets rest : List ℕ) : Type 0 where
+  pub some : octets ≢ []
+  pub cut : IsCut spec.length (times_of spec octets) pieces (body_of spec octets) rest
+
+-- the specs are applied one after the other while octets remain, to these groups of pieces, with
+-- this text
+abbrev pub AreGroups : List Spec → List (List (List ℕ)) → List ℕ → List ℕ → Type 0
+AreGroups specs [] octets text = (octets ≡ []) × (text ≡ [])
+AreGroups [] (pieces ∷ groups) octets text = ⊥
+AreGroups (spec ∷ specs) (pieces ∷ groups) octets text =
+    (rest : List ℕ) × (later : List ℕ) × IsGroup spec pieces octets rest
+    × AreGroups (specs_after spec specs) groups rest later
+    × (text ≡ pieces_text spec pieces rest ++ later)
+
+-- a hint shows octets as this text
+pub record ShowsOctets (hint octets text : List ℕ) : Type 0 where
+  pub specs : List Spec
+  pub groups : List (List (List ℕ))
+  pub is_hint : IsOctetHint hint specs
+  pub are_groups : AreGroups specs groups octets text

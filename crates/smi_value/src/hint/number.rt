@@ -1,0 +1,193 @@
+//! Display hints of integers (RFC 2579, section 3.1): `d`, `d-n`, `x`, `o` and `b`.
+ghost use Rattle.std.specs.Prelude.{◌≡◌, ◌<◌, ◌≤◌, ◌^◌, ◌*◌, ℕ, List, length, drop, replicate};
+ghost use Rattle.std.specs.Prelude.{IfSome, IfNone, false, decimal, codes, ◌++◌, EachIndex};
+ghost use Rattle.std.specs.Prelude.{slice_index};
+ghost use Rattle.std.specs.List.{take_while};
+ghost use Rattle.std.specs.Char.{is_ascii_digit};
+ghost use Rattle.std.specs.Int.{IsInRange};
+ghost use Rattle.std.specs.Fmt.{digits, digit_glyph};
+ghost use Rattle.snmp_io.specs.draft.Draft.{Adds};
+ghost use Rattle.smi_value.specs.declared.hint.number.NumberForm.{NumberForm};
+ghost use Rattle.smi_value.specs.hint.Number.{StartsWithNumber, front_digits, after_digits};
+ghost use Rattle.smi_value.specs.hint.Number.{IsNumberHint, with_point, magnitude_text, number_text};
+
+use itoa::Buffer;
+use snmp_io::draft::Draft;
+
+/// How an integer is shown (RFC 2579, section 3.1).
+#[derive(Clone, Copy, Debug, PartialEq, Eq)]
+pub enum NumberForm {
+    /// `d` and `d-n`: decimal digits, with a point before the last `n`, 0 to 20.
+    Decimal(u8),
+    /// `x`: to the base 16.
+    Hexadecimal,
+    /// `o`: to the base 8.
+    Octal,
+    /// `b`: to the base 2.
+    Binary,
+}
+
+/// The integer hint that a text is, if it is one.
+pub(crate) fn number_form(text: &[u8]) -> Option<NumberForm>
+    ensures found { IfSome result (IsNumberHint text.now) }
+    ensures none { IfNone result ((form : NumberForm) → IsNumberHint text.now form → ⊥) }
+{
+    match text {
+        [b'd'] => Some(NumberForm::Decimal(0)),
+        [b'd', b'-', digits @ ..] => decimal_places(digits),
+        [b'x'] => Some(NumberForm::Hexadecimal),
+        [b'o'] => Some(NumberForm::Octal),
+        [b'b'] => Some(NumberForm::Binary),
+        _ => None,
+    }
+}
+
+/// The form of decimal digits with the number of places that a text says, if it is at most 20.
+fn decimal_places(text: &[u8]) -> Option<NumberForm>
+    ensures found { IfSome result (λ form. IsNumberHint (codes "d-" ++ text.now) form) }
+    ensures none { IfNone result
+        ((form : NumberForm) → IsNumberHint (codes "d-" ++ text.now) form → ⊥) }
+{
+    let Some((places, rest)) = front_number(text, 20) else {
+        return None;
+    };
+    if rest.is_empty() {
+        Some(NumberForm::Decimal(places as u8))
+    } else {
+        None
+    }
+}
+
+/// The number that the digits at the front of a text stand for, if it is at most `most`, and what
+/// follows them.
+pub(crate) fn front_number(text: &[u8], most: u32) -> Option<(u32, &[u8])>
+    requires { most < 2 ^ 24 }
+    ensures found { IfSome result (λ r. StartsWithNumber text.now r.0 r.1.now) }
+    ensures at_most { IfSome result (λ r. r.0 ≤ most) }
+    ensures none { IfNone result ((number : ℕ) (rest : List ℕ)
+        → StartsWithNumber text.now number rest → most < number) }
+{
+    let (front, rest) = split_digits(text);
+    if front.is_empty() {
+        return None;
+    }
+    let mut number = 0;
+    'digits: for octet in front {
+        number = number * 10 + u32::from(*octet - b'0');
+        if number > most {
+            return None;
+        }
+    }
+    Some((number, rest))
+}
+
+/// The digits at the front of a text, and what stands after them.
+fn split_digits(text: &[u8]) -> (&[u8], &[u8])
+    ensures front { result.0.now ≡ front_digits text.now }
+    ensures after { result.1.now ≡ after_digits text.now }
+    ensures digits { EachIndex result.0.now
+        (λ k. IsInRange 48 57 (slice_index result.0.now k)) }
+{
+    text.split_at(count_digits(text))
+}
+
+/// How many digits stand at the front of a text.
+fn count_digits(text: &[u8]) -> usize
+    ensures count { result ≡ length (take_while is_ascii_digit text.now) }
+    ensures within { result ≤ length text.now }
+{
+    text.iter()
+        .take_while(|octet| octet.is_ascii_digit())
+        .count()
+}
+
+/// Appends a number as an integer hint says.
+pub(crate) fn append_number(draft: &mut Draft, form: NumberForm, n: i64)
+    ensures { Adds draft.old (number_text form n) draft.new }
+{
+    if n < 0 {
+        draft.octet(b'-');
+    }
+    append_magnitude(draft, form, n.unsigned_abs());
+}
+
+/// Appends the digits of a number as an integer hint says.
+fn append_magnitude(draft: &mut Draft, form: NumberForm, n: u64)
+    ensures { Adds draft.old (magnitude_text form n) draft.new }
+{
+    match form {
+        NumberForm::Decimal(0) => draft.number(n),
+        NumberForm::Decimal(places) => append_with_point(draft, usize::from(places), n),
+        NumberForm::Hexadecimal => append_digits(draft, 16, n),
+        NumberForm::Octal => append_digits(draft, 8, n),
+        NumberForm::Binary => append_digits(draft, 2, n),
+    }
+}
+
+/// Appends a number in decimal digits with a point before the last `places` of them, and zeros
+/// before them if there are too few.
+fn append_with_point(draft: &mut Draft, places: usize, n: u64)
+    requires { 0 < places }
+    ensures { Adds draft.old (with_point places (decimal n)) draft.new }
+{
+    let mut buffer = Buffer::new();
+    let number = buffer.format(n).as_bytes();
+    if number.len() > places {
+        let (whole, part) = number.split_at(number.len() - places);
+        draft.octets(whole);
+        draft.octet(b'.');
+        draft.octets(part);
+    } else {
+        draft.octets(b"0.");
+        append_zeros(draft, places - number.len());
+        draft.octets(number);
+    }
+}
+
+/// Appends zeros.
+fn append_zeros(draft: &mut Draft, count: usize)
+    ensures { Adds draft.old (replicate count 48) draft.new }
+{
+    'zeros: for place in 0..count {
+        draft.octet(b'0');
+    }
+}
+
+/// Appends the digits of a number to a base, lower case.
+pub(crate) fn append_digits(draft: &mut Draft, base: u64, n: u64)
+    requires low { 2 ≤ base }
+    requires high { base ≤ 16 }
+    ensures { Adds draft.old (digits base false n) draft.new }
+{
+    let mut text = [0; 64];
+    let start = put_digits(&mut text, base, n);
+    draft.octets(&text[start..]);
+}
+
+/// Writes the digits of a number to a base to the end of a text, and returns where they start.
+fn put_digits(text: &mut [u8; 64], base: u64, n: u64) -> usize
+    requires low { 2 ≤ base }
+    requires high { base ≤ 16 }
+    ensures within { result ≤ 64 }
+    ensures digits { drop result text.new ≡ digits base false n }
+{
+    let mut at = 64;
+    let mut left = n;
+    'digits: while at > 0 {
+        at -= 1;
+        text[at] = digit((left % base) as u8);
+        left /= base;
+        if left == 0 {
+            return at;
+        }
+    }
+    at
+}
+
+/// A lower-case digit to a base of at most 16.
+fn digit(n: u8) -> u8
+    requires { n < 16 }
+    ensures { result ≡ digit_glyph false n }
+{
+    if n < 10 { b'0' + n } else { b'a' + (n - 10) }
+}

@@ -1,0 +1,161 @@
+//! Octets under a display hint: the specs are applied one after the other, the last one again and
+//! again.
+ghost use Rattle.std.specs.Prelude.{◌≡◌, ◌≢◌, ◌<◌, ◌≤◌, List, ℕ, [], ◌++◌, length, drop, take};
+ghost use Rattle.std.specs.Prelude.{if◌then◌else◌, true};
+ghost use Rattle.snmp_io.specs.draft.Draft.{Adds};
+ghost use Rattle.smi_value.specs.hint.Spec.{IsFirstSpec, IsOctetHint, AreSpecs, most_octets};
+ghost use Rattle.smi_value.specs.hint.Spec.{takes_octets};
+ghost use Rattle.smi_value.specs.hint.Pieces.{IsCut, IsGroup, ShowsOctets, last_mark, mark_before};
+ghost use Rattle.smi_value.specs.hint.Pieces.{number_of_octets, piece_text, pieces_text};
+ghost use Rattle.smi_value.specs.declared.hint.spec.Spec.{Spec};
+
+use crate::hint::number::append_digits;
+use crate::hint::spec::{OctetFormat, Spec, first_spec};
+use snmp_io::draft::Draft;
+
+/// Appends octets as a hint shows them.
+pub(crate) fn append_octets(draft: &mut Draft, hint: &[u8], octets: &[u8])
+    requires { (specs : List Spec) × IsOctetHint hint.now specs }
+    ensures { (text : List ℕ) × ShowsOctets hint.now octets.now text
+        × Adds draft.old text draft.new }
+{
+    let (mut spec, mut ahead) = next_spec(hint);
+    let mut left = octets;
+    'groups: while !left.is_empty() {
+        left = append_group(draft, &spec, left);
+        if !ahead.is_empty() {
+            (spec, ahead) = next_spec(ahead);
+        }
+    }
+}
+
+/// The first of the specs of a text, and what stands after it.
+fn next_spec(text: &[u8]) -> (Spec, &[u8])
+    requires { (spec : Spec) × (rest : List ℕ) × IsFirstSpec text.now spec rest }
+    ensures first { IsFirstSpec text.now result.0 result.1.now }
+    ensures shorter { length result.1.now < length text.now }
+{
+    match first_spec(text) {
+        Some(first) => first,
+        None => unreachable!(),
+    }
+}
+
+/// Appends what one spec shows of the first octets, and returns the octets after them.
+fn append_group<'a>(draft: &mut Draft, spec: &Spec, octets: &'a [u8]) -> &'a [u8]
+    requires some { octets.now ≢ [] }
+    requires fits { spec.now.length ≤ most_octets spec.now.format }
+    ensures { (pieces : List (List ℕ)) × IsGroup spec.now pieces octets.now result.now
+        × Adds draft.old (pieces_text spec.now pieces result.now) draft.new }
+{
+    match octets {
+        [count, body @ ..] if spec.is_counted => {
+            append_pieces(draft, spec, usize::from(*count), body)
+        }
+        _ => append_pieces(draft, spec, 1, octets),
+    }
+}
+
+/// Appends what a spec shows when it is applied a number of times, and returns the octets after
+/// that.
+fn append_pieces<'a>(draft: &mut Draft, spec: &Spec, times: usize, octets: &'a [u8]) -> &'a [u8]
+    requires { spec.now.length ≤ most_octets spec.now.format }
+    ensures { (pieces : List (List ℕ))
+        × IsCut spec.now.length times pieces octets.now result.now
+        × Adds draft.old (pieces_text spec.now pieces result.now) draft.new }
+{
+    if spec.length == 0 && spec.separator.is_none() && times > 1 {
+        // Empty pieces with no marks between them have no text: one is enough for all.
+        append_cut(draft, spec, 1, octets)
+    } else {
+        append_cut(draft, spec, times, octets)
+    }
+}
+
+/// Appends the pieces of [`append_pieces`] one after the other.
+fn append_cut<'a>(draft: &mut Draft, spec: &Spec, times: usize, octets: &'a [u8]) -> &'a [u8]
+    requires { spec.now.length ≤ most_octets spec.now.format }
+    ensures { (pieces : List (List ℕ))
+        × IsCut spec.now.length times pieces octets.now result.now
+        × Adds draft.old (pieces_text spec.now pieces result.now) draft.new }
+{
+    let mut ahead = times;
+    let mut left = octets;
+    'pieces: while ahead > 0 && !left.is_empty() {
+        ahead -= 1;
+        left = append_piece(draft, spec, ahead == 0, left);
+    }
+    left
+}
+
+/// Appends one application of a spec with the mark after it, and returns the octets that remain.
+fn append_piece<'a>(draft: &mut Draft, spec: &Spec, is_last: bool, octets: &'a [u8]) -> &'a [u8]
+    requires { spec.now.length ≤ most_octets spec.now.format }
+    ensures rest { result.now ≡ drop spec.now.length octets.now }
+    ensures adds { let mark = if is_last then last_mark spec.now else spec.now.separator in
+        let piece = take spec.now.length octets.now in
+        Adds draft.old (piece_text spec.now.format piece ++ mark_before mark result.now) draft.new }
+{
+    let (piece, rest) = octets.split_at(octets.len().min(usize::from(spec.length)));
+    append_formatted(draft, spec.format, piece);
+    let mark = if is_last {
+        spec.last_mark()
+    } else {
+        spec.separator
+    };
+    append_mark(draft, mark, rest);
+    rest
+}
+
+/// Appends a mark, if there is one and octets remain.
+fn append_mark(draft: &mut Draft, mark: Option<u8>, rest: &[u8])
+    ensures { Adds draft.old (mark_before mark rest.now) draft.new }
+{
+    match mark {
+        Some(octet) if !rest.is_empty() => draft.octet(octet),
+        _ => draft.octets(b""),
+    }
+}
+
+/// Appends the octets of one application.
+fn append_formatted(draft: &mut Draft, format: OctetFormat, piece: &[u8])
+    requires { length piece.now ≤ most_octets format }
+    ensures { Adds draft.old (piece_text format piece.now) draft.new }
+{
+    if piece.is_empty() {
+        return draft.octets(b"");
+    }
+    match format {
+        OctetFormat::Hexadecimal => append_digits(draft, 16, number_of(piece)),
+        OctetFormat::Decimal => draft.number(number_of(piece)),
+        OctetFormat::Octal => append_digits(draft, 8, number_of(piece)),
+        OctetFormat::Text => draft.octets(piece),
+    }
+}
+
+/// Octets as one number, the most significant first.
+fn number_of(octets: &[u8]) -> u64
+    requires { length octets.now ≤ 8 }
+    ensures { result ≡ number_of_octets octets.now }
+{
+    let mut number: u64 = 0;
+    'octets: for octet in octets {
+        number = number * 256 + u64::from(*octet);
+    }
+    number
+}
+
+impl Spec {
+    ghost use Rattle.smi_value.specs.hint.Pieces.{last_mark};
+
+    /// The mark after the last application: the terminator, if any, in place of the separator.
+    fn last_mark(&self) -> Option<u8>
+        ensures { result ≡ last_mark self.now }
+    {
+        if self.terminator.is_some() {
+            self.terminator
+        } else {
+            self.separator
+        }
+    }
+}

@@ -1,0 +1,32 @@
+//! Appending a value as a hint shows it.
+ghost use Rattle.std.specs.Prelude.{◌≡◌, List, ℕ, ◌++◌, OnOk, OnErr};
+ghost use Rattle.smi_value.specs.hint.Hint.{IsHintFor, Shows};
+ghost use Rattle.smi_value.specs.hint.Pieces.{ShowsOctets};
+
+use crate::hint::hint::{Hint, HintValue};
+use std::alloc::AllocError;
+use snmp_io::draft::Draft;
+
+/// Appends a value to `out` as a hint shows it. If memory runs out, `out` is unchanged.
+///
+/// The value must be a number for a hint of integers, and octets for a hint of octets.
+pub fn write_hint(
+    hint: &Hint<'_>,
+    value: HintValue<'_>,
+    out: &mut Vec<u8>,
+) -> Result<(), AllocError>
+    requires { IsHintFor hint.now value }
+    ensures ok { OnOk result ((text : List ℕ) × Shows hint.now value.entry text
+        × (out.new.items ≡ out.old.items ++ text)) }
+    ensures unchanged_on_error { OnErr result (out.new.items ≡ out.old.items) }
+{
+    let mut draft = Draft::after(out);
+    hint.append(value, &mut draft);
+    draft.finish(out)
+}
+
+/// A hint shows octets in one way.
+pub fn one_text()
+    ensures { (hint octets first second : List ℕ)
+        → ShowsOctets hint octets first → ShowsOctets hint octets second → first ≡ second }
+{}

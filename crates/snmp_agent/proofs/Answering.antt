@@ -1,0 +1,50 @@
+-- What the view of an agent answers: names that have an encoding, and values that an answer may give.
+use Rattle.std.proofs.Common.{◌≡◌, ℕ, zero, suc, List, sym, subst}
+use Rattle.snmp_oid.specs.Identifier.{IsWire}
+use Rattle.snmp_wire.specs.Message.{Datum, VarBind}
+use Rattle.snmp_wire.specs.Message.Datum.{integer_value, octet_string, null_value, object_id, ip_address, counter32, gauge32, time_ticks, opaque_octets}
+use Rattle.snmp_wire.specs.Message.Datum.{counter64, no_such_object, no_such_instance, end_of_mib_view}
+use Rattle.snmp_agent.specs.table.Table.{MibView, IsMibView, IsInstanceValue, IsAnswerValue, IsGet, variable, unknown_object, unknown_instance, IsNext, successor}
+use Rattle.snmp_agent.specs.table.Table.{end_of_view, IsNextAfter}
+
+instance_answer : (v : Datum) → IsInstanceValue v → IsAnswerValue v
+instance_answer (integer_value z) h = h
+instance_answer (octet_string octets) h = h
+instance_answer null_value h = h
+instance_answer (object_id o) h = h
+instance_answer (ip_address octets) h = h
+instance_answer (counter32 n) h = h
+instance_answer (gauge32 n) h = h
+instance_answer (time_ticks n) h = h
+instance_answer (opaque_octets octets) h = h
+instance_answer (counter64 n) h = h
+instance_answer no_such_object h = absurd h
+instance_answer no_such_instance h = absurd h
+instance_answer end_of_mib_view h = absurd h
+
+-- at a binding that equals a record
+at_binding : (Q : VarBind → Type 0) (p q : VarBind) → p ≡ q → Q q → Q p
+at_binding Q p q same h = subst Q (sym same) h
+
+pub get_value : (view : MibView) (o : List ℕ) (p : VarBind) → IsMibView view → IsGet view o p → IsAnswerValue p.value
+get_value view o p h (variable name row) = instance_answer p.value (h.values p row)
+get_value view o p h (unknown_object none never same) = at_binding (λ (q : VarBind). IsAnswerValue q.value) p
+    (record { name = o; value = no_such_object }) same tt
+get_value view o p h (unknown_instance none some same) = at_binding (λ (q : VarBind). IsAnswerValue q.value) p
+    (record { name = o; value = no_such_instance }) same tt
+
+next_value : (view : MibView) (o : List ℕ) (p : VarBind) → IsMibView view → IsNext view o p → IsAnswerValue p.value
+next_value view o p h (successor is) = instance_answer p.value (h.values p is.row)
+next_value view o p h (end_of_view none same) = at_binding (λ (q : VarBind). IsAnswerValue q.value) p (record { name = o; value = end_of_mib_view }) same tt
+
+next_name : (view : MibView) (o : List ℕ) (p : VarBind) → IsMibView view → IsWire o → IsNext view o p → IsWire p.name
+next_name view o p h wire (successor is) = (h.names p is.row).wire
+next_name view o p h wire (end_of_view none same) = at_binding (λ (q : VarBind). IsWire q.name) p (record { name = o; value = end_of_mib_view }) same wire
+
+pub next_after_value : (view : MibView) (rounds : ℕ) (o : List ℕ) (p : VarBind) → IsMibView view → IsNextAfter view rounds o p → IsAnswerValue p.value
+next_after_value view zero o p h is = next_value view o p h is
+next_after_value view (suc rounds) o p h is = next_value view is.0.name p h is.2
+
+pub next_after_name : (view : MibView) (rounds : ℕ) (o : List ℕ) (p : VarBind) → IsMibView view → IsWire o → IsNextAfter view rounds o p → IsWire p.name
+next_after_name view zero o p h wire is = next_name view o p h wire is
+next_after_name view (suc rounds) o p h wire is = next_name view is.0.name p h (next_after_name view rounds o is.0 h wire is.1) is.2

@@ -1,0 +1,183 @@
+-- Each name has just one answer to a Get, and one to a GetNext.
+use Rattle.std.proofs.Common.{◌≡◌, ℕ, zero, suc, ◌+◌, ◌<◌, ◌⊎◌, inl, inr, Bool, true, false, T, List, [], ◌∷◌, ◌++◌, map, length, take, drop, Option, Some}
+use Rattle.std.proofs.Common.{None, Less, Equal, Greater, Ordering, refl, sym, ap, subst, ◌∙◌, ⊎_elim, arith, length-append}
+use Rattle.std.specs.Ordering.{nat_cmp}
+use Rattle.std.specs.Cmp.Lexicographic.{slice_cmp, nat_list_cmp_total}
+use Rattle.std.specs.FinMap.{get, entries, entries_sorted, get-entries, find, is_sorted}
+use Rattle.std.specs.FinSet.{contains}
+use Rattle.std.proofs.lemmas.Bool.{cases_lt}
+use Rattle.std.proofs.lemmas.List.{take-append-drop}
+use Rattle.std.proofs.Math.Seq.{take-append_seam}
+use Rattle.snmp_wire.specs.Message.{Datum, no_such_object, no_such_instance, VarBind}
+use Rattle.snmp_agent.specs.table.Exact.{HasOne}
+use Rattle.snmp_agent.specs.table.Table.{MibView, IsRow, HasObject, IsGet, variable, unknown_object, unknown_instance, IsSuccessor, IsNext, successor, end_of_view}
+use Rattle.snmp_agent.specs.table.Table.{IsNextAfter}
+use Rattle.snmp_agent.specs.table.Listing.{first_or_end}
+use Rattle.snmp_agent.specs.table.Places.{IsBeforeAll, IsBeforeNone, var_of}
+use Rattle.snmp_agent.proofs.Rising.{before_all, first_of_both, second_of_both, same_name, turned}
+use Rattle.snmp_agent.proofs.Successors.{IsOrder, is_next}
+
+same_binding : (p q : VarBind) → p.name ≡ q.name → p.value ≡ q.value → p ≡ q
+same_binding p q name value = λ i. record { name = name i; value = value i }
+
+some_once : (v w : Datum) → Some v ≡ Some w → v ≡ w
+some_once v w e = cc
+
+some_none : (v : Datum) → Some v ≡ None → ⊥
+some_none v e = let no : ⊥ = cc in no
+
+-- ---- Get
+
+-- a beginning of the name is an object prefix, or none of its shortest ones is
+
+seek : (view : MibView) (o : List ℕ) (n : ℕ)
+    → ((k : ℕ) × (contains view.objects (take k o) ≡ true)) ⊎ ((k : ℕ) → k < n → contains view.objects (take k o) ≡ true → ⊥)
+seek view o zero = inr (λ k h e. absurd (omega arith))
+seek view o (suc n) = elim (seek view o n) [
+  | inl found ↦ inl found
+  | inr none ↦ here (contains view.objects (take n o)) refl none
+]
+  where
+    here : (b : Bool) → contains view.objects (take n o) ≡ b → ((k : ℕ) → k < n → contains view.objects (take k o) ≡ true → ⊥)
+        → ((k : ℕ) × (contains view.objects (take k o) ≡ true)) ⊎ ((k : ℕ) → k < suc n → contains view.objects (take k o) ≡ true → ⊥)
+    here true e none = inl (n, e)
+    here false e none = inr (λ k h is. ⊎_elim
+        (λ below. none k below is)
+        (λ above.
+        let same : k ≡ n = omega arith in
+        let both : contains view.objects (take k o) ≡ false = ap (λ j. contains view.objects (take j o)) same ∙ e in cc)
+        (cases_lt k n))
+
+object_decided : (view : MibView) (o : List ℕ) → HasObject view o ⊎ (HasObject view o → ⊥)
+object_decided view o = elim (seek view o (suc (length o))) [
+  | inl found ↦ inl (take found.0 o, drop found.0 o, found.1, sym (take-append-drop found.0 o))
+  | inr none ↦ inr (λ has.
+      let front : take (length has.0) o ≡ has.0 = ap (take (length has.0)) has.3 ∙ take-append_seam has.0 has.1 in
+      let long : length o ≡ length has.0 + length has.1 = ap length has.3 ∙ length-append has.0 has.1 in
+      none (length has.0) (omega arith) (ap (contains view.objects) front ∙ has.2))
+]
+
+got : (view : MibView) (o : List ℕ) → (p : VarBind) × IsGet view o p
+got view o = by_value (get view.rows o) refl
+  where
+    by_value : (found : Option Datum) → get view.rows o ≡ found → (p : VarBind) × IsGet view o p
+    by_value (Some value) e = (record { name = o; value = value }, variable refl e)
+    by_value None e = elim (object_decided view o) [
+      | inl has ↦ (record { name = o; value = no_such_instance }, unknown_instance e has refl)
+      | inr hasnt ↦ (record { name = o; value = no_such_object }, unknown_object e hasnt refl)
+    ]
+
+module _ (view : MibView) (o : List ℕ) where
+  row_at : (p : VarBind) → p.name ≡ o → IsRow view p → get view.rows o ≡ Some p.value
+  row_at p name row = ap (get view.rows) (sym name) ∙ row
+
+  no_row : (p : VarBind) → p.name ≡ o → IsRow view p → get view.rows o ≡ None → ⊥
+  no_row p name row none = some_none p.value (sym (row_at p name row) ∙ none)
+
+  same_get : (p q : VarBind) → IsGet view o p → IsGet view o q → p ≡ q
+  same_get p q (variable name row) (variable other at) =
+      same_binding p q (name ∙ sym other) (some_once p.value q.value (sym (row_at p name row) ∙ row_at q other at))
+  same_get p q (variable name row) (unknown_object none never is) = absurd (no_row p name row none)
+  same_get p q (variable name row) (unknown_instance none some is) = absurd (no_row p name row none)
+  same_get p q (unknown_object none never is) (variable name row) = absurd (no_row q name row none)
+  same_get p q (unknown_object none never is) (unknown_object nothing neither same) = is ∙ sym same
+  same_get p q (unknown_object none never is) (unknown_instance nothing some same) = absurd (never some)
+  same_get p q (unknown_instance none some is) (variable name row) = absurd (no_row q name row none)
+  same_get p q (unknown_instance none some is) (unknown_object nothing never same) = absurd (never some)
+  same_get p q (unknown_instance none some is) (unknown_instance nothing other same) = is ∙ sym same
+
+pub one_get : (view : MibView) (o : List ℕ) → HasOne (IsGet view o)
+one_get view o = let first = got view o in (first.0, first.1, λ q is. same_get view o q first.0 is first.1)
+
+-- ---- GetNext
+
+further : (o p : List ℕ) (es : List (List ℕ × Datum)) → slice_cmp nat_cmp o p ≡ Less → IsBeforeAll p es → IsBeforeAll o es
+further o p [] less h = tt
+further o p (e ∷ es) less h = (nat_list_cmp_total.trans o p e.0 less h.0, further o p es less h.1)
+
+-- where the entries part at the name
+record Parting (o : List ℕ) (es : List (List ℕ × Datum)) : Type 0 where
+  front : List (List ℕ × Datum)
+  back : List (List ℕ × Datum)
+  parts : es ≡ front ++ back
+  passed : IsBeforeNone o front
+  ahead : IsBeforeAll o back
+
+not_less : (r : Ordering) → r ≡ Equal ⊎ r ≡ Greater → r ≡ Less → ⊥
+not_less r (inl e) h = absurd (cc)
+not_less r (inr e) h = absurd (cc)
+
+parting : (o : List ℕ) (es : List (List ℕ × Datum)) → T (is_sorted (slice_cmp nat_cmp) es) → Parting o es
+parting o [] rising = record { front = []; back = []; parts = refl; passed = tt; ahead = tt }
+parting o (e ∷ es) rising = by_order (slice_cmp nat_cmp o e.0) refl (parting o es (second_of_both _ _ rising))
+  where
+    later : (slice_cmp nat_cmp o e.0 ≡ Less → ⊥) → Parting o es → Parting o (e ∷ es)
+    later none rest = record {
+      front = e ∷ rest.front;
+      back = rest.back;
+      parts = ap (λ fs. e ∷ fs) rest.parts;
+      passed = (none, rest.passed);
+      ahead = rest.ahead;
+    }
+
+    by_order : (r : Ordering) → slice_cmp nat_cmp o e.0 ≡ r → Parting o es → Parting o (e ∷ es)
+    by_order Less h rest = record {
+      front = [];
+      back = e ∷ es;
+      parts = refl;
+      passed = tt;
+      ahead = (h, further o e.0 es h (before_all e.0 es (first_of_both _ _ rising)));
+    }
+    by_order Equal h rest = later (λ less. not_less (slice_cmp nat_cmp o e.0) (inl h) less) rest
+    by_order Greater h rest = later (λ less. not_less (slice_cmp nat_cmp o e.0) (inr h) less) rest
+
+module _ (order : IsOrder) where
+  next : (view : MibView) (o : List ℕ) → (p : VarBind) × IsNext view o p
+  next view o =
+      let es = entries view.rows in
+      let cut : Parting o es = parting o es (entries_sorted view.rows) in (
+        first_or_end o (map var_of cut.back),
+        is_next order view o cut.front cut.back (record {
+          found = λ q. get-entries view.rows q ∙ ap (find (slice_cmp nat_cmp) q) cut.parts;
+          rising = subst (λ (fs : List (List ℕ × Datum)). T (is_sorted (slice_cmp nat_cmp) fs)) cut.parts (entries_sorted view.rows);
+          passed = cut.passed;
+          ahead = cut.ahead;
+        }),
+      )
+
+  -- two successors have one name, as neither lies between
+  same_successor : (view : MibView) (o : List ℕ) (p q : VarBind) → IsSuccessor view o p → IsSuccessor view o q → p ≡ q
+  same_successor view o p q h k = by_order (slice_cmp nat_cmp p.name q.name) refl
+    where
+      by_order : (r : Ordering) → slice_cmp nat_cmp p.name q.name ≡ r → p ≡ q
+      by_order Less e = absurd (k.nearest p h.row h.behind ((order p.name q.name).0 e))
+      by_order Greater e = absurd (h.nearest q k.row k.behind ((order q.name p.name).0 (turned p.name q.name Greater e)))
+      by_order Equal e =
+          let name : p.name ≡ q.name = same_name p.name q.name e in
+          same_binding p q name (some_once p.value q.value (sym h.row ∙ ap (get view.rows) name ∙ k.row))
+
+  same_next : (view : MibView) (o : List ℕ) (p q : VarBind) → IsNext view o p → IsNext view o q → p ≡ q
+  same_next view o p q (successor h) (successor k) = same_successor view o p q h k
+  same_next view o p q (successor h) (end_of_view none same) = absurd (none p h.row h.behind)
+  same_next view o p q (end_of_view none same) (successor k) = absurd (none q k.row k.behind)
+  same_next view o p q (end_of_view none same) (end_of_view nothing other) = same ∙ sym other
+
+  pub one_next : (view : MibView) (o : List ℕ) → HasOne (IsNext view o)
+  one_next view o = let first = next view o in (first.0, first.1, λ q is. same_next view o q first.0 is first.1)
+
+  next_after : (view : MibView) (rounds : ℕ) (o : List ℕ) → (p : VarBind) × IsNextAfter view rounds o p
+  next_after view zero o = next view o
+  next_after view (suc rounds) o =
+      let before = next_after view rounds o in
+      let here = next view before.0.name in
+      (here.0, (before.0, before.1, here.1))
+
+  same_next_after : (view : MibView) (rounds : ℕ) (o : List ℕ) (p q : VarBind) → IsNextAfter view rounds o p → IsNextAfter view rounds o q → p ≡ q
+  same_next_after view zero o p q h k = same_next view o p q h k
+  same_next_after view (suc rounds) o p q h k =
+      let before : h.0 ≡ k.0 = same_next_after view rounds o h.0 k.0 h.1 k.1 in
+      same_next view k.0.name p q (subst (λ (b : VarBind). IsNext view b.name p) before h.2) k.2
+
+  pub one_next_after : (view : MibView) (rounds : ℕ) (o : List ℕ) → HasOne (IsNextAfter view rounds o)
+  one_next_after view rounds o =
+      let first = next_after view rounds o in (first.0, first.1, λ q is. same_next_after view rounds o q first.0 is first.1)

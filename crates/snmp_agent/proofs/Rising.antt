@@ -1,0 +1,127 @@
+-- Facts about lists of entries whose names rise.
+use Rattle.std.proofs.Common.{◌≡◌, ℕ, ◌⊎◌, inl, inr, Bool, true, false, cond, ◌&&◌, T, List, [], ◌∷◌, ◌++◌, Some, refl, sym, ◌∙◌, ap, subst, Ordering, Less}
+use Rattle.std.proofs.Common.{Equal, Greater}
+use Rattle.std.specs.Ordering.{nat_cmp, is_eq, is_lt, ordering_reverse}
+use Rattle.std.specs.Cmp.{tied_itself}
+use Rattle.std.specs.Cmp.Lexicographic.{slice_cmp, nat_list_cmp_total}
+use Rattle.std.specs.FinMap.{find, is_sorted, slice_cmp-IsAntisymmetric, nat_cmp-IsAntisymmetric}
+use Rattle.std.specs.FinMap.Entries.{below_all}
+use Rattle.snmp_wire.specs.Message.{Datum}
+use Rattle.snmp_agent.specs.table.Places.{IsBeforeAll, IsBeforeNone}
+
+-- the entry stands in the list
+abbrev pub Listed : List ℕ × Datum → List (List ℕ × Datum) → Type 0
+Listed e [] = ⊥
+Listed e (f ∷ fs) = (e ≡ f) ⊎ Listed e fs
+
+-- ---- the order of names
+
+pub same_name : (o p : List ℕ) → slice_cmp nat_cmp o p ≡ Equal → o ≡ p
+same_name = slice_cmp-IsAntisymmetric nat_cmp-IsAntisymmetric
+
+pub not_before_itself : (o : List ℕ) → slice_cmp nat_cmp o o ≡ Less → ⊥
+not_before_itself o e = let same : slice_cmp nat_cmp o o ≡ Equal = tied_itself nat_list_cmp_total o in cc
+
+pub turned : (o p : List ℕ) (r : Ordering) → slice_cmp nat_cmp o p ≡ r → slice_cmp nat_cmp p o ≡ ordering_reverse r
+turned o p r e = nat_list_cmp_total.antisymm p o ∙ ap ordering_reverse e
+
+pub not_both : (o p : List ℕ) → slice_cmp nat_cmp o p ≡ Less → slice_cmp nat_cmp p o ≡ Less → ⊥
+not_both o p e f = let g : slice_cmp nat_cmp p o ≡ Greater = turned o p Less e in cc
+
+-- ---- where an entry stands
+
+pub less_from_test : (r : Ordering) → T (is_lt r) → r ≡ Less
+less_from_test Less h = refl
+less_from_test Equal h = absurd h
+less_from_test Greater h = absurd h
+
+pub first_of_both : (a b : Bool) → T (a && b) → T a
+first_of_both true b h = tt
+first_of_both false b h = h
+
+pub second_of_both : (a b : Bool) → T (a && b) → T b
+second_of_both true b h = h
+second_of_both false b h = absurd h
+
+pub both : (a b : Bool) → T a → T b → T (a && b)
+both true b h k = k
+both false b h k = h
+
+pub before_all : (o : List ℕ) (es : List (List ℕ × Datum)) → T (below_all (slice_cmp nat_cmp) o es) → IsBeforeAll o es
+before_all o [] h = tt
+before_all o (e ∷ es) h = (less_from_test _ (first_of_both _ _ h), before_all o es (second_of_both _ _ h))
+
+pub before_listed : (o : List ℕ) (e : List ℕ × Datum) (es : List (List ℕ × Datum)) → IsBeforeAll o es → Listed e es → slice_cmp nat_cmp o e.0 ≡ Less
+before_listed o e [] h at = absurd at
+before_listed o e (f ∷ fs) h (inl same) = ap (λ (g : List ℕ × Datum). slice_cmp nat_cmp o g.0) same ∙ h.0
+before_listed o e (f ∷ fs) h (inr later) = before_listed o e fs h.1 later
+
+pub not_before_listed : (o : List ℕ) (e : List ℕ × Datum) (es : List (List ℕ × Datum)) → IsBeforeNone o es → Listed e es → slice_cmp nat_cmp o e.0 ≡ Less → ⊥
+not_before_listed o e [] h at less = absurd at
+not_before_listed o e (f ∷ fs) h (inl same) less = h.0 (ap (λ (g : List ℕ × Datum). slice_cmp nat_cmp o g.0) (sym same) ∙ less)
+not_before_listed o e (f ∷ fs) h (inr later) less = not_before_listed o e fs h.1 later less
+
+pub listed_in_both : (e : List ℕ × Datum) (es fs : List (List ℕ × Datum)) → Listed e (es ++ fs) → Listed e es ⊎ Listed e fs
+listed_in_both e [] fs at = inr at
+listed_in_both e (f ∷ es) fs (inl same) = inl (inl same)
+listed_in_both e (f ∷ es) fs (inr later) = elim (listed_in_both e es fs later) [ inl here ↦ inl (inr here) | inr there ↦ inr there ]
+
+pub listed_in_first : (e : List ℕ × Datum) (es fs : List (List ℕ × Datum)) → Listed e es → Listed e (es ++ fs)
+listed_in_first e [] fs at = absurd at
+listed_in_first e (f ∷ es) fs (inl same) = inl same
+listed_in_first e (f ∷ es) fs (inr later) = inr (listed_in_first e es fs later)
+
+pub listed_in_second : (e : List ℕ × Datum) (es fs : List (List ℕ × Datum)) → Listed e fs → Listed e (es ++ fs)
+listed_in_second e [] fs at = at
+listed_in_second e (f ∷ es) fs at = inr (listed_in_second e es fs at)
+
+-- ---- rising lists
+
+pub rising_rest : (es fs : List (List ℕ × Datum)) → T (is_sorted (slice_cmp nat_cmp) (es ++ fs)) → T (is_sorted (slice_cmp nat_cmp) fs)
+rising_rest [] fs h = h
+rising_rest (e ∷ es) fs h = rising_rest es fs (second_of_both _ _ h)
+
+below_first : (o : List ℕ) (es fs : List (List ℕ × Datum)) → T (below_all (slice_cmp nat_cmp) o (es ++ fs)) → T (below_all (slice_cmp nat_cmp) o es)
+below_first o [] fs h = tt
+below_first o (e ∷ es) fs h = both _ _ (first_of_both _ _ h) (below_first o es fs (second_of_both _ _ h))
+
+pub rising_first : (es fs : List (List ℕ × Datum)) → T (is_sorted (slice_cmp nat_cmp) (es ++ fs)) → T (is_sorted (slice_cmp nat_cmp) es)
+rising_first [] fs h = tt
+rising_first (e ∷ es) fs h = both _ _ (below_first e.0 es fs (first_of_both _ _ h)) (rising_first es fs (second_of_both _ _ h))
+
+-- the entry behind some others is before all the later ones, and before none of those up to it
+pub before_later : (es fs : List (List ℕ × Datum)) (e : List ℕ × Datum) → T (is_sorted (slice_cmp nat_cmp) (es ++ e ∷ fs)) → IsBeforeAll e.0 fs
+before_later es fs e h = let rest = rising_rest es (e ∷ fs) h in before_all e.0 fs (first_of_both _ _ rest)
+
+pub before_no_earlier : (es fs : List (List ℕ × Datum)) (e : List ℕ × Datum) → T (is_sorted (slice_cmp nat_cmp) (es ++ e ∷ fs))
+    → IsBeforeNone e.0 (es ++ e ∷ [])
+before_no_earlier [] fs e h = (not_before_itself e.0, tt)
+before_no_earlier (f ∷ es) fs e h =
+    let less = before_listed f.0 e (es ++ e ∷ fs) (before_all f.0 _ (first_of_both _ _ h)) (listed_in_second e es (e ∷ fs) (inl refl)) in
+    (not_both f.0 e.0 less, before_no_earlier es fs e (second_of_both _ _ h))
+
+-- ---- finding
+
+find_step : (o : List ℕ) (e f : List ℕ × Datum) (fs : List (List ℕ × Datum)) → slice_cmp nat_cmp f.0 e.0 ≡ Less
+    → find (slice_cmp nat_cmp) e.0 (f ∷ fs) ≡ find (slice_cmp nat_cmp) e.0 fs
+find_step o e f fs less = ap (λ r. cond (is_eq r) (Some f.1) (find (slice_cmp nat_cmp) e.0 fs)) (turned f.0 e.0 Less less)
+
+pub find-listed : (e : List ℕ × Datum) (es : List (List ℕ × Datum)) → T (is_sorted (slice_cmp nat_cmp) es) → Listed e es
+    → find (slice_cmp nat_cmp) e.0 es ≡ Some e.1
+find-listed e [] rising at = absurd at
+find-listed e (f ∷ fs) rising (inl same) =
+    let here : find (slice_cmp nat_cmp) f.0 (f ∷ fs) ≡ Some f.1 = ap (λ r. cond (is_eq r) (Some f.1) (find (slice_cmp nat_cmp) f.0 fs))
+    (tied_itself nat_list_cmp_total f.0) in
+    let P : List ℕ × Datum → Type 0 = λ g. find (slice_cmp nat_cmp) g.0 (f ∷ fs) ≡ Some g.1 in subst P (sym same) here
+find-listed e (f ∷ fs) rising (inr later) =
+    find_step e.0 e f fs (before_listed f.0 e fs (before_all f.0 fs (first_of_both _ _ rising)) later) ∙ find-listed e fs (second_of_both _ _ rising) later
+
+pub listed_from_find : (o : List ℕ) (v : Datum) (es : List (List ℕ × Datum)) → find (slice_cmp nat_cmp) o es ≡ Some v → Listed (o, v) es
+listed_from_find o v [] e = let no : ⊥ = cc in absurd no
+listed_from_find o v (f ∷ fs) found =
+    elim (slice_cmp nat_cmp o f.0) as (λ r. slice_cmp nat_cmp o f.0 ≡ r → cond (is_eq r) (Some f.1) (find (slice_cmp nat_cmp) o fs) ≡ Some v
+    → Listed (o, v) (f ∷ fs)) [
+      | Less ↦ λ _ e. inr (listed_from_find o v fs e)
+      | Equal ↦ λ tied e. inl (let name : o ≡ f.0 = same_name o f.0 tied in let value : v ≡ f.1 = cc in λ i. (name i, value i))
+      | Greater ↦ λ _ e. inr (listed_from_find o v fs e)
+    ] refl found

@@ -1,0 +1,33 @@
+-- Lines state one table at most.
+use Rattle.std.proofs.Common.{◌≡◌, ℕ, Bool, true, false, List, refl, sym, ◌∙◌, ap, Option, Some, None}
+use Rattle.std.specs.Ordering.{nat_cmp}
+use Rattle.std.specs.Cmp.Lexicographic.{slice_cmp, nat_list_cmp_total}
+use Rattle.std.specs.FinMap.{FinMap, get, same_map, nat_cmp-IsAntisymmetric, slice_cmp-IsAntisymmetric}
+use Rattle.std.specs.FinSet.{FinSet, contains, same_set}
+use Rattle.snmp_wire.specs.Message.{Datum}
+use Rattle.snmp_agent.specs.table.Table.{MibView}
+use Rattle.snmp_agent.specs.table.Stated.{IsTableOf}
+
+-- what one knows, the other knows
+same_option : {X : Type 0} (a b : Option X) → ((x : X) → a ≡ Some x → b ≡ Some x) → ((x : X) → b ≡ Some x → a ≡ Some x) → a ≡ b
+same_option (Some x) b f g = sym (f x refl)
+same_option None (Some y) f g = g y refl
+same_option None None f g = refl
+
+same_bool : (a b : Bool) → (a ≡ true → b ≡ true) → (b ≡ true → a ≡ true) → a ≡ b
+same_bool true b f g = sym (f refl)
+same_bool false true f g = g refl
+same_bool false false f g = refl
+
+pub one_view : (lines : List (List ℕ)) (v w : MibView) → IsTableOf lines v → IsTableOf lines w → v ≡ w
+one_view lines v w h k =
+    let rows : v.rows ≡ w.rows = same_map nat_list_cmp_total (slice_cmp-IsAntisymmetric nat_cmp-IsAntisymmetric) v.rows w.rows
+    (λ o. same_option (get v.rows o) (get w.rows o)
+    (λ x e. (k.rows (record { name = o; value = x })).1 ((h.rows (record { name = o; value = x })).0 e))
+    (λ x e. (h.rows (record { name = o; value = x })).1 ((k.rows (record { name = o; value = x })).0 e))) in
+    let objects : v.objects ≡ w.objects = same_set nat_list_cmp_total (slice_cmp-IsAntisymmetric nat_cmp-IsAntisymmetric) v.objects w.objects
+    (λ o. same_bool (contains v.objects o) (contains w.objects o)
+    (λ e. (k.objects o).1 ((h.objects o).0 e))
+    (λ e. (h.objects o).1 ((k.objects o).0 e))) in
+    ap (λ (r : FinMap (slice_cmp nat_cmp) Datum). record { rows = r; objects = v.objects }) rows
+    ∙ ap (λ (s : FinSet (slice_cmp nat_cmp)). record { rows = w.rows; objects = s }) objects

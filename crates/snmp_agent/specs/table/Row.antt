@@ -1,0 +1,59 @@
+-- How a table keeps what it serves: rows in the order of their names.
+use Rattle.std.specs.Prelude.{ℕ, ◌≤◌, List, map, length, codes}
+use Rattle.std.specs.FinMap.{from_sorted}
+use Rattle.std.specs.FinSet.{from_list}
+use Rattle.snmp_wire.specs.Message.{Datum}
+use Rattle.snmp_wire.specs.Message.Datum.{integer_value, octet_string, object_id, ip_address}
+use Rattle.snmp_wire.specs.Message.Datum.{counter32, gauge32, time_ticks, opaque_octets, counter64}
+use Rattle.snmp_agent.specs.declared.table.row.Row.{Row}
+use Rattle.snmp_agent.specs.declared.table.value.Tag.{Tag}
+use Rattle.snmp_agent.specs.declared.table.value.Tag.TheVariants as tag
+use Rattle.snmp_agent.specs.declared.table.row.RowValue.{RowValue}
+use Rattle.snmp_agent.specs.declared.table.row.RowValue.TheVariants as value
+use Rattle.snmp_agent.specs.table.Table.{MibView}
+
+-- the value that a row's stands for
+abbrev pub datum_of : RowValue → Datum
+datum_of (value.Integer n) = integer_value n
+datum_of (value.Octets octets) = octet_string octets.items
+datum_of (value.ObjectId numbers) = object_id numbers.items
+datum_of (value.IpAddress octets) = ip_address octets
+datum_of (value.Counter32 n) = counter32 n
+datum_of (value.Gauge32 n) = gauge32 n
+datum_of (value.TimeTicks n) = time_ticks n
+datum_of (value.Opaque octets) = opaque_octets octets.items
+datum_of (value.Counter64 n) = counter64 n
+
+-- where the value is an identifier, it has at most 128 numbers
+abbrev pub IsShort : RowValue → Type 0
+IsShort (value.ObjectId numbers) = length numbers.items ≤ 128
+IsShort _ = Unit {0}
+
+abbrev pub entry_of : Row → List ℕ × Datum
+entry_of row = (row.name.items, datum_of row.value)
+
+-- the MIB view that rows and object prefixes stand for
+abbrev pub view_of : List Row → List (List ℕ) → MibView
+view_of rows objects = record {
+  rows = from_sorted
+      (map entry_of rows);
+  objects = from_list objects;
+}
+
+-- the name of the row has at most 128 numbers, and so has its value where that is an identifier
+pub record IsShortRow (row : Row) : Type 0 where
+  pub name : length row.name.items ≤ 128
+  pub value : IsShort row.value
+
+-- the text of a tag
+abbrev pub tag_text : Tag → List ℕ
+tag_text tag.Integer = codes "2"
+tag_text tag.OctetString = codes "4"
+tag_text tag.HexOctetString = codes "4x"
+tag_text tag.ObjectId = codes "6"
+tag_text tag.IpAddress = codes "64"
+tag_text tag.Counter32 = codes "65"
+tag_text tag.Gauge32 = codes "66"
+tag_text tag.TimeTicks = codes "67"
+tag_text tag.HexOpaque = codes "68x"
+tag_text tag.Counter64 = codes "70"

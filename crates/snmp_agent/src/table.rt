@@ -1,0 +1,17 @@
+//! The table of an agent: the instances that it serves, and the text file that states them.
+//!
+//! Built on identifiers and values. The agent replies to requests from it.
+
+mod change;
+mod draft;
+mod error;
+mod laws;
+mod line;
+mod row;
+mod split;
+mod table;
+mod value;
+
+pub use error::{PutError, TableError};
+pub use laws::{no_fault, one_answer, one_table};
+pub use table::{Place, Table};

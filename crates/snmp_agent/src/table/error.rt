@@ -1,0 +1,51 @@
+//! Why a text states no table, and why a variable isn't put.
+
+use thiserror::Error;
+
+/// Why a text states no table, and the first line, from 1, where that shows.
+#[derive(Clone, Copy, Debug, PartialEq, Eq, Error)]
+pub enum TableError {
+    /// The line is no comment and no object prefix, and has not two bars with a known tag between
+    /// them.
+    #[error("line {line}: bad line")]
+    BadLine {
+        /// Which line.
+        line: usize,
+    },
+    /// The name is no numeric name, or not one that an object prefix or an instance has.
+    #[error("line {line}: bad name")]
+    BadName {
+        /// Which line.
+        line: usize,
+    },
+    /// The text after the tag states no value of that type.
+    #[error("line {line}: bad value")]
+    BadValue {
+        /// Which line.
+        line: usize,
+    },
+    /// An earlier line states the same instance.
+    #[error("line {line}: double name")]
+    Double {
+        /// Which line.
+        line: usize,
+    },
+    /// Memory ran out.
+    #[error("out of memory")]
+    Memory,
+}
+
+/// Why [`Table::put`](crate::table::Table::put) refuses a variable: the first that applies.
+#[derive(Clone, Copy, Debug, PartialEq, Eq, Error)]
+pub enum PutError {
+    /// The name has fewer than three numbers, or no encoding.
+    #[error("bad name")]
+    BadName,
+    /// The value is Null or an exception, an identifier that has no encoding, or a string of more
+    /// than 65535 octets.
+    #[error("bad value")]
+    BadValue,
+    /// Memory ran out.
+    #[error("out of memory")]
+    Memory,
+}

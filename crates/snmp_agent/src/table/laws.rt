@@ -1,0 +1,31 @@
+//! Laws: what is true of each table, as calls that do nothing. A proof of a crate above calls them.
+ghost use Rattle.std.specs.Prelude.{◌≡◌, ℕ, List};
+ghost use Rattle.snmp_agent.specs.table.Exact.{HasOne};
+ghost use Rattle.snmp_agent.specs.table.Stated.{IsTableOf, IsFirstFault};
+ghost use Rattle.snmp_agent.specs.table.Table.{MibView, IsGet, IsNext, IsNextAfter};
+
+use crate::table::error::TableError;
+use snmp_oid::order;
+
+/// Lines state one table at most.
+pub fn one_table()
+    ensures { (lines : List (List ℕ)) (v w : MibView) → IsTableOf lines v → IsTableOf lines w
+        → v ≡ w }
+{}
+
+/// Lines that state a table have no fault: reading them fails only where memory runs out.
+pub fn no_fault()
+    ensures { (lines : List (List ℕ)) (view : MibView) (fault : TableError) → IsTableOf lines view
+        → IsFirstFault lines fault → fault ≡ TableError.Memory }
+{}
+
+/// Each name has just one value in a reply to a Get, one binding in a reply to a GetNext, and one
+/// in each round of a GetBulk (RFC 3416, sections 4.2.1 to 4.2.3).
+pub fn one_answer()
+    ensures get { (view : MibView) (o : List ℕ) → HasOne (IsGet view o) }
+    ensures get_next { (view : MibView) (o : List ℕ) → HasOne (IsNext view o) }
+    ensures get_bulk { (view : MibView) (rounds : ℕ) (o : List ℕ)
+        → HasOne (IsNextAfter view rounds o) }
+{
+    order();
+}

@@ -1,0 +1,147 @@
+//! The lines of a table's text.
+ghost use Rattle.std.specs.Prelude.{◌≡◌, ℕ, List, IfOk, IfErr};
+ghost use Rattle.snmp_agent.specs.table.Exact.{IsOnly};
+ghost use Rattle.snmp_agent.specs.table.Row.{tag_text};
+ghost use Rattle.snmp_agent.specs.table.Text.{Statement, States, IsBlank, IsObjectLine, IsInstanceText};
+ghost use Rattle.snmp_agent.specs.table.Line.{IsForm, IsObjectRead, IsInstanceRead, IsLineFault};
+ghost use Rattle.snmp_agent.specs.table.Line.{statement_of};
+
+use crate::table::change::is_instance_name;
+use crate::table::row::Row;
+use crate::table::split::split_once;
+use crate::table::value::{Tag, name, value};
+use snmp_wire::Oid;
+use std::alloc::{AllocError, Global};
+
+/// What a line states.
+#[derive(Drop)]
+pub enum Line {
+    /// Nothing, as an empty line or a comment does.
+    Nothing,
+    /// An object prefix, as its numbers.
+    Object(Vec<u32>),
+    /// An instance with its value.
+    Instance(Row),
+}
+
+/// Why a line states nothing that a table may hold.
+#[derive(Clone, Copy, PartialEq, Eq)]
+pub enum LineFault {
+    /// It has none of the forms of a line.
+    Line,
+    /// Its name is no numeric name, or not one of its kind.
+    Name,
+    /// Its text states no value of its tag.
+    Value,
+    /// Memory ran out.
+    Memory,
+}
+
+impl From<AllocError> for LineFault {
+    ghost use Rattle.std.specs.Prelude.{◌≡◌};
+    ghost use Rattle.snmp_agent.specs.declared.table.line.LineFault.{LineFault};
+    ghost use Rattle.snmp_agent.specs.declared.table.line.LineFault.TheVariants.{Memory};
+
+    ghost from_gives = { λ _ fault. fault ≡ Memory };
+
+    fn from(_: AllocError) -> LineFault {
+        LineFault::Memory
+    }
+}
+
+/// The form of a line, with the parts that it has.
+#[derive(Clone, Copy)]
+enum Form<'a> {
+    Blank,
+    Object {
+        text: &'a [u8],
+    },
+    Row {
+        name: &'a [u8],
+        tag: Tag,
+        text: &'a [u8],
+    },
+}
+
+/// What a line states.
+pub fn read_line(alloc: Global, line: &[u8]) -> Result<Line, LineFault>
+    ensures states { IfOk result (λ stated. States line.now (statement_of stated)) }
+    ensures only { IfOk result (λ stated. (s : Statement) → States line.now s
+        → s ≡ statement_of stated) }
+    ensures fault { IfErr result (IsLineFault line.now) }
+{
+    match form_of(line) {
+        None => Err(LineFault::Line),
+        Some(Form::Blank) => Ok(Line::Nothing),
+        Some(Form::Object { text }) => object(alloc, text),
+        Some(Form::Row { name, tag, text }) => instance(alloc, name, tag, text),
+    }
+}
+
+/// The form that a line has, or None where it has none.
+fn form_of(line: &[u8]) -> Option<Form<'_>>
+    ensures { IsForm line.now result }
+{
+    match line {
+        [] | [b'#', ..] => return Some(Form::Blank),
+        _ => {}
+    }
+    match line.strip_prefix(b"object ") {
+        Some(text) => Some(Form::Object { text }),
+        None => row_form(line),
+    }
+}
+
+/// The parts of a line between its first two bars and around them, None where it has not two or the
+/// tag between them is unknown.
+fn row_form(line: &[u8]) -> Option<Form<'_>>
+    requires not_blank { IsBlank line.now → ⊥ }
+    requires no_object { (text : List ℕ) → IsObjectLine line.now text → ⊥ }
+    ensures { IsForm line.now result }
+{
+    let (name, behind) = split_once(line, b'|')?;
+    let (tag, text) = split_once(behind, b'|')?;
+    Some(Form::Row {
+        name,
+        tag: Tag::from_text(tag)?,
+        text,
+    })
+}
+
+/// The object prefix that a text names.
+fn object(alloc: Global, text: &[u8]) -> Result<Line, LineFault>
+    ensures { IsObjectRead text.now result }
+{
+    match name(text) {
+        Some(oid) if !oid.is_empty() => Ok(Line::Object(Vec::from_slice(alloc, oid.as_slice())?)),
+        _ => Err(LineFault::Name),
+    }
+}
+
+/// The instance that a line of this form states.
+fn instance(alloc: Global, text: &[u8], tag: Tag, value_text: &[u8]) -> Result<Line, LineFault>
+    ensures { IsInstanceRead text.now (tag_text tag) value_text.now result }
+{
+    let Some(oid) = instance_name(text) else {
+        return Err(LineFault::Name);
+    };
+    match value(alloc, tag, value_text)? {
+        Some(value) => Ok(Line::Instance(Row {
+            name: Vec::from_slice(alloc, oid.as_slice())?,
+            value,
+        })),
+        None => Err(LineFault::Value),
+    }
+}
+
+/// The name of an instance: at least three numbers, with an encoding.
+fn instance_name(text: &[u8]) -> Option<Oid>
+    ensures { IsOnly (IsInstanceText text.now) result }
+{
+    let oid = name(text)?;
+    if is_instance_name(&oid) {
+        Some(oid)
+    } else {
+        None
+    }
+}

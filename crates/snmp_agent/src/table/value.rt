@@ -1,0 +1,179 @@
+//! Values as a table's text states them.
+ghost use Rattle.std.specs.Prelude.{◌≡◌, ◌<◌, ◌≤◌, ◌^◌, IfOk, FitsSigned};
+ghost use Rattle.std.specs.Int.{w32};
+ghost use Rattle.std.specs.Option.{option_map};
+ghost use Rattle.hex.specs.Hex.{decode_of};
+ghost use Rattle.snmp_oid.specs.Identifier.{IsWire};
+ghost use Rattle.snmp_agent.specs.table.Exact.{IsOnly};
+ghost use Rattle.snmp_agent.specs.table.Row.{datum_of, tag_text};
+ghost use Rattle.snmp_agent.specs.table.Table.{IsTableString};
+ghost use Rattle.snmp_agent.specs.table.Text.{IsDecimal, IsSignedDecimal, IsAddressText, IsName};
+ghost use Rattle.snmp_agent.specs.table.Text.{IsValueText};
+
+use crate::table::row::RowValue;
+use hex::FromHexError;
+use snmp_wire::{Oid, parse_numeric};
+use std::alloc::{AllocError, Global};
+
+/// The tag of a row, which says of what type its value is, and how the text states it.
+#[derive(Clone, Copy)]
+pub enum Tag {
+    Integer,
+    OctetString,
+    HexOctetString,
+    ObjectId,
+    IpAddress,
+    Counter32,
+    Gauge32,
+    TimeTicks,
+    HexOpaque,
+    Counter64,
+}
+
+impl Tag {
+    ghost use Rattle.std.specs.Prelude.{◌≡◌, MatchOption};
+    ghost use Rattle.snmp_agent.specs.table.Text.{IsTag};
+    ghost use Rattle.snmp_agent.specs.table.Row.{tag_text};
+
+    /// The tag that a text names.
+    pub fn from_text(text: &[u8]) -> Option<Tag>
+        ensures { MatchOption result (IsTag text.now → ⊥) (λ tag. text.now ≡ tag_text tag) }
+    {
+        match text {
+            b"2" => Some(Tag::Integer),
+            b"4" => Some(Tag::OctetString),
+            b"4x" => Some(Tag::HexOctetString),
+            b"6" => Some(Tag::ObjectId),
+            b"64" => Some(Tag::IpAddress),
+            b"65" => Some(Tag::Counter32),
+            b"66" => Some(Tag::Gauge32),
+            b"67" => Some(Tag::TimeTicks),
+            b"68x" => Some(Tag::HexOpaque),
+            b"70" => Some(Tag::Counter64),
+            _ => None,
+        }
+    }
+}
+
+/// How many octets a string of a table has at most.
+pub const LONGEST_STRING: usize = 65535;
+
+/// The numbers of the identifier that a text names (`parse_numeric`).
+pub fn name(text: &[u8]) -> Option<Oid>
+    ensures { IsOnly (IsName text.now) result }
+{
+    parse_numeric(text).ok()
+}
+
+/// The value that the text states, None where it states none of the tag's type.
+pub fn value(alloc: Global, tag: Tag, text: &[u8]) -> Result<Option<RowValue>, AllocError>
+    ensures { IfOk result
+        (λ value. IsOnly (IsValueText (tag_text tag) text.now) (option_map datum_of value)) }
+{
+    match tag {
+        Tag::Integer => Ok(signed(text).map(RowValue::Integer)),
+        Tag::OctetString => Ok(string(alloc, text)?.map(RowValue::Octets)),
+        Tag::HexOctetString => Ok(hexadecimal(alloc, text)?.map(RowValue::Octets)),
+        Tag::ObjectId => Ok(object_id(alloc, text)?.map(RowValue::ObjectId)),
+        Tag::IpAddress => Ok(address(text).map(RowValue::IpAddress)),
+        Tag::Counter32 => Ok(unsigned(text).map(RowValue::Counter32)),
+        Tag::Gauge32 => Ok(unsigned(text).map(RowValue::Gauge32)),
+        Tag::TimeTicks => Ok(unsigned(text).map(RowValue::TimeTicks)),
+        Tag::HexOpaque => Ok(hexadecimal(alloc, text)?.map(RowValue::Opaque)),
+        Tag::Counter64 => Ok(decimal(text).map(RowValue::Counter64)),
+    }
+}
+
+/// A number of 64 bits in decimal digits, leading zeros among them or not.
+fn decimal(text: &[u8]) -> Option<u64>
+    ensures { IsOnly (λ n. IsDecimal text.now n × (n < 2 ^ 64)) result }
+{
+    if text.is_empty() {
+        return None;
+    }
+    let mut number: u64 = 0;
+    'digits: for octet in text {
+        if !octet.is_ascii_digit() {
+            return None;
+        }
+        number = number
+            .checked_mul(10)?
+            .checked_add(u64::from(*octet - b'0'))?;
+    }
+    Some(number)
+}
+
+/// A number of 32 bits in decimal digits.
+fn unsigned(text: &[u8]) -> Option<u32>
+    ensures { IsOnly (λ n. IsDecimal text.now n × (n < 2 ^ 32)) result }
+{
+    u32::try_from(decimal(text)?).ok()
+}
+
+/// A signed number of 32 bits in decimal digits, with a minus sign before them or not.
+fn signed(text: &[u8]) -> Option<i32>
+    ensures { IsOnly (λ z. IsSignedDecimal text.now z × FitsSigned w32 z) result }
+{
+    match text {
+        [b'-', digits @ ..] => i32::try_from(-i64::try_from(decimal(digits)?).ok()?).ok(),
+        _ => i32::try_from(decimal(text)?).ok(),
+    }
+}
+
+/// Four numbers of 8 bits with a dot between each two.
+fn address(text: &[u8]) -> Option<[u8; 4]>
+    ensures { IsOnly (IsAddressText text.now) result }
+{
+    if let [b'.', ..] = text {
+        return None;
+    }
+    match parse_numeric(text).ok()?.as_slice() {
+        [first, second, third, fourth] => Some([
+            u8::try_from(*first).ok()?,
+            u8::try_from(*second).ok()?,
+            u8::try_from(*third).ok()?,
+            u8::try_from(*fourth).ok()?,
+        ]),
+        _ => None,
+    }
+}
+
+/// An identifier that has an encoding, as its numbers.
+fn object_id(alloc: Global, text: &[u8]) -> Result<Option<Vec<u32>>, AllocError>
+    ensures { IfOk result (λ numbers. IsOnly (λ o. IsName text.now o
+        × IsWire o) (option_map (λ v. v.items) numbers)) }
+{
+    let Some(oid) = name(text) else {
+        return Ok(None);
+    };
+    if !oid.is_wire() {
+        return Ok(None);
+    }
+    Ok(Some(Vec::from_slice(alloc, oid.as_slice())?))
+}
+
+/// The octets of the text itself.
+fn string(alloc: Global, text: &[u8]) -> Result<Option<Vec<u8>>, AllocError>
+    ensures { IfOk result (λ octets. IsOnly (λ s. (text.now ≡ s)
+        × IsTableString s) (option_map (λ v. v.items) octets)) }
+{
+    if text.len() > LONGEST_STRING {
+        return Ok(None);
+    }
+    Ok(Some(Vec::from_slice(alloc, text)?))
+}
+
+/// The octets that pairs of hexadecimal digits encode.
+fn hexadecimal(alloc: Global, text: &[u8]) -> Result<Option<Vec<u8>>, AllocError>
+    ensures { IfOk result (λ octets. IsOnly (λ s. (decode_of text.now ≡ Ok s)
+        × IsTableString s) (option_map (λ v. v.items) octets)) }
+{
+    if text.len() > 2 * LONGEST_STRING {
+        return Ok(None);
+    }
+    match hex::decode(alloc, text) {
+        Ok(octets) => Ok(Some(octets)),
+        Err(FromHexError::OutOfMemory) => Err(AllocError),
+        Err(_) => Ok(None),
+    }
+}

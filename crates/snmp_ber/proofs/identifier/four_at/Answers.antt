@@ -1,6 +1,0 @@
-use Rattle.snmp_ber.proofs.IdentifierLemmas.{plain_front}
-use Rattle.snmp_ber.proofs.identifier.four_at.Goals as goal
-
-pub returns-then-are_low : goal.returns-then-are_low
-returns-then-are_low c = rw (c.split_at.ensures.front, c.split_at.ensures.back)
-    (plain_front c.args.octets.now c.in-len4-up.len_at_least (c.are_low.ensures c.if-are_low.true))

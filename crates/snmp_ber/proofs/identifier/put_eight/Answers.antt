@@ -1,7 +1,0 @@
-use Rattle.snmp_ber.specs.WritingLaws.{writes_then}
-use Rattle.snmp_ber.proofs.identifier.put_eight.Goals as goal
-
-pub returns : goal.returns
-returns c = writes_then (writes_then (writes_then (writes_then (writes_then
-    (writes_then (writes_then c.put_octet-at_h.ensures c.put_octet-at_g.ensures) c.put_octet-at_f.ensures) c.put_octet-at_e.ensures) c.put_octet-at_d.ensures)
-    c.put_octet-at_c.ensures) c.put_octet-at_b.ensures) c.put_octet.ensures

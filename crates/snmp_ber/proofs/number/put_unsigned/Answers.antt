@@ -1,8 +1,0 @@
-use Rattle.std.proofs.Common.{ap, ◌∙◌}
-use Rattle.snmp_ber.specs.Canon.{octets}
-use Rattle.snmp_ber.proofs.CanonLemmas.{octets_from_zero}
-use Rattle.snmp_ber.specs.WritingLaws.{writes_same}
-use Rattle.snmp_ber.proofs.number.put_unsigned.Goals as goal
-
-pub returns : goal.returns
-returns c = writes_same c.put_octets.ensures (ap (λ count. octets count c.args.number) c.unsigned_size.ensures.value ∙ octets_from_zero c.args.number)

@@ -1,8 +1,0 @@
-use Rattle.std.proofs.Common.{arith}
-use Rattle.std.proofs.lemmas.Grind.{common_steps}
-use Rattle.snmp_ber.specs.Reading.{integer_of, typed_value}
-use Rattle.snmp_ber.proofs.value.check_value.Goals as goal
-
-pub returns-after-not-is_empty : goal.returns-after-not-is_empty
-unfolding typed_value integer_of
-returns-after-not-is_empty c = grind (arith, common_steps)

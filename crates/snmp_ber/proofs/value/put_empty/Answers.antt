@@ -1,8 +1,0 @@
-use Rattle.snmp_ber.proofs.ValueWriting.{empty_fits, writes_empty}
-use Rattle.snmp_ber.proofs.value.put_empty.Goals as goal
-
-pub put_short_header-requires-clause-room : goal.put_short_header-requires-clause-room
-put_short_header-requires-clause-room c = empty_fits c.args.tag c.args.end c.requires.room
-
-pub returns : goal.returns
-returns c = writes_empty c.args.tag c.put_short_header.ensures

@@ -1,5 +1,0 @@
-use Rattle.snmp_table.proofs.Unique.{one_view}
-use Rattle.snmp_table.proofs.laws.one_table.Goals as goal
-
-pub returns : goal.returns
-returns c = one_view

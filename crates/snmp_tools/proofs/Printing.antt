@@ -1,0 +1,59 @@
+-- Names are printed one after the other.
+use Rattle.std.proofs.Common.{◌≡◌, ◌∙◌, ◌++◌, ◌+◌, ◌<◌, ap, refl, sym, subst, ℕ, List, [], ◌∷◌, Bor, take, drop, length, get_or}
+use Rattle.std.proofs.Common.{append_assoc, append-nil}
+use Rattle.std.proofs.lemmas.List.{drop_more, map-append, take-append-drop, take_more}
+use Rattle.snmp_io.specs.Output.{Stream, extended}
+use Rattle.snmp_io.specs.Streams.{extended-twice}
+use Rattle.snmp_words.specs.Words.{texts_at}
+use Rattle.snmp_tools.specs.translation.Fault.{TranslateFault}
+use Rattle.snmp_tools.specs.translation.Outcome.{AreNamesPrinted, IsNamePrinted, StopsAtName, StopsWithin}
+use Rattle.snmp_tools.specs.translation.Text.{AreTextsOf, DetailMib, IsTextOf}
+use Rattle.snmp_tools.specs.declared.translation.style.Style.{Style}
+
+-- the text of one name more
+pub AreTextsOf-more : (mib : DetailMib) (style : Style) (names : List (List ℕ)) (name text one : List ℕ)
+    → AreTextsOf mib style names text → IsTextOf mib style name one → AreTextsOf mib style (names ++ name ∷ []) (text ++ one)
+AreTextsOf-more mib style [] name text one none is = (one, [], is, refl, ap (λ (t : List ℕ). t ++ one) none ∙ sym (append-nil one))
+AreTextsOf-more mib style (n ∷ names) name text one (first, rest, here, more, whole) is = (
+  first,
+  rest ++ one,
+  here,
+  AreTextsOf-more mib style names name rest one more is,
+  ap (λ (t : List ℕ). t ++ one) whole ∙ append_assoc first rest one,
+)
+
+-- one name more is printed
+pub more_printed : (mib : DetailMib) (style : Style) (names : List (List ℕ)) (name : List ℕ) (before middle after : Stream)
+    → AreNamesPrinted mib style names before middle → IsNamePrinted mib style middle name after → AreNamesPrinted mib style (names ++ name ∷ []) before after
+more_printed mib style names name before middle after (text, texts, is) (one, is_text, is_too) = (
+  text ++ one,
+  AreTextsOf-more mib style names name text one texts is_text,
+  is_too ∙ ap (λ (s : Stream). extended s one) is ∙ extended-twice before text one,
+)
+
+pub texts-more : (names : List (Bor (List ℕ))) (i : ℕ) (d : Bor (List ℕ)) → i < length names
+    → texts_at (take (i + 1) names) ≡ texts_at (take i names) ++ (get_or names i d).now ∷ []
+texts-more names i d inside =
+    ap texts_at (take_more names i d inside) ∙ map-append (λ (p : Bor (List ℕ)). p.now) (take i names) (get_or names i d ∷ [])
+
+texts-parts : (names : List (Bor (List ℕ))) (i : ℕ) (d : Bor (List ℕ)) → i < length names
+    → texts_at names ≡ texts_at (take i names) ++ (get_or names i d).now ∷ texts_at (drop (i + 1) names)
+texts-parts names i d inside =
+    ap texts_at (sym (take-append-drop i names))
+    ∙ map-append (λ (p : Bor (List ℕ)). p.now) (take i names) (drop i names)
+    ∙ ap (λ (rest : List (Bor (List ℕ))). texts_at (take i names) ++ texts_at rest) (drop_more names i d inside)
+
+-- it stops at the first name that isn't printed
+pub stopped_at : (mib : DetailMib) (style : Style) (names : List (Bor (List ℕ))) (i : ℕ) (d : Bor (List ℕ)) (before middle after : Stream)
+    (why : TranslateFault)
+    → i < length names → AreNamesPrinted mib style (texts_at (take i names)) before middle → StopsAtName mib style middle (get_or names i d).now after why
+    → StopsWithin mib style (texts_at names) before after why
+stopped_at mib style names i d before middle after why inside (text, texts, is) stops = record {
+  printed = texts_at (take i names);
+  name = (get_or names i d).now;
+  left = texts_at (drop (i + 1) names);
+  order = texts-parts names i d inside;
+  text = text;
+  shown = texts;
+  stops = subst (λ (s : Stream). StopsAtName mib style s (get_or names i d).now after why) is stops;
+}

@@ -1,0 +1,107 @@
+-- The modules of one file more, and that there is one list of them.
+use Rattle.std.proofs.Common.{◌≡◌, ◌∙◌, ◌⊎◌, inl, inr, ◌++◌, ◌+◌, ◌<◌, ap, ap₂, refl, sym, subst, ℕ, List, [], ◌∷◌, Bor, Option, Some}
+use Rattle.std.proofs.Common.{take, drop, length, get_or, unwrap_or, append_assoc, append-nil}
+use Rattle.std.proofs.lemmas.List.{drop_more, map-append, take-append-drop, take_more}
+use Rattle.snmp_io.specs.draft.Draft.{Adds, Grows, Written}
+use Rattle.smi_text.specs.lexer.Lexes.{Lexes}
+use Rattle.smi_text.specs.lexer.Token.{Item, Lexeme, tokens_of}
+use Rattle.smi_text.specs.trees.Mark.{Stands}
+use Rattle.smi_text.specs.trees.Spelling.{spelling}
+use Rattle.smi_text.specs.declared.trees.tree.Module.{Module}
+use Rattle.smi_text.specs.Text.{AreSpelledBy}
+use Rattle.snmp_io.specs.Files.{Holdings, Holds, HoldsIfKnown, MayHold}
+use Rattle.snmp_io.specs.Steps.{AreDone}
+use Rattle.snmp_tools.specs.loading.Files.{AreModulesIn, AreModulesOf, FileFails, IsFilesRefusal, MayHoldModules, Refusal, no_memory, texts}
+
+pub AreModulesOf-more : (Held : (path text : List ℕ) → Type 0) (paths : List (List ℕ)) (path : List ℕ) (ms first : List Module)
+    → AreModulesOf Held paths ms → AreModulesIn Held path first → AreModulesOf Held (paths ++ path ∷ []) (ms ++ first)
+AreModulesOf-more Held [] path ms first none one = (first, [], one, refl, ap (λ (xs : List Module). xs ++ first) none ∙ sym (append-nil first))
+AreModulesOf-more Held (p ∷ paths) path ms first (here, rest, is, more, whole) one = (
+  here,
+  rest ++ first,
+  is,
+  AreModulesOf-more Held paths path rest first more one,
+  ap (λ (xs : List Module). xs ++ first) whole ∙ append_assoc here rest first,
+)
+
+abbrev OneLexing : Type 0
+OneLexing = (before text : List ℕ) (xs ys : List Item) → Lexes before text xs → Lexes before text ys → xs ≡ ys
+
+abbrev OneReading : Type 0
+OneReading = (ms ns : List Module) (tokens : List Lexeme) → Stands (spelling ms) tokens [] → Stands (spelling ns) tokens [] → ms ≡ ns
+
+one_spelled : OneLexing → OneReading → (ms ns : List Module) (text : List ℕ) → AreSpelledBy ms text → AreSpelledBy ns text → ms ≡ ns
+one_spelled lexing reading ms ns text a b =
+    let items : b.items ≡ a.items = lexing [] text b.items a.items b.lexed a.lexed in
+    reading ms ns (tokens_of a.items) a.spelled (subst (λ (xs : List Item). Stands (spelling ns) (tokens_of xs) []) items b.spelled)
+
+some_inj : (x y : List ℕ) → Some x ≡ Some y → x ≡ y
+some_inj x y e = ap (λ (o : Option (List ℕ)). unwrap_or o x) e
+
+one_text : (files : Holdings) (path text other : List ℕ) → Holds files path text → MayHold files path other → other ≡ text
+one_text files path text other held may =
+    let known : HoldsIfKnown (Some (Some text)) (Some other) = subst (λ (o : Option (Option (List ℕ))). HoldsIfKnown o (Some other)) held may in
+    sym (some_inj text other known)
+
+one_in : OneLexing → OneReading → (files : Holdings) (path : List ℕ) (ms ns : List Module)
+    → AreModulesIn (Holds files) path ms → AreModulesIn (MayHold files) path ns → ms ≡ ns
+one_in lexing reading files path ms ns (text, held, spells, once) (other, may, spells_too, once_too) =
+    one_spelled lexing reading ms ns text spells (subst (λ (t : List ℕ). AreSpelledBy ns t) (one_text files path text other held may) spells_too)
+
+pub one_list : OneLexing → OneReading → (files : Holdings) (paths : List (List ℕ)) (ms ns : List Module)
+    → AreModulesOf (Holds files) paths ms → AreModulesOf (MayHold files) paths ns → ms ≡ ns
+one_list lexing reading files [] ms ns none none_too = none ∙ sym none_too
+one_list lexing reading files (path ∷ paths) ms ns (first, rest, is, more, whole) (first', rest', is', more', whole') =
+    whole ∙ ap₂ (λ (xs ys : List Module). xs ++ ys) (one_in lexing reading files path first first' is is')
+    (one_list lexing reading files paths rest rest' more more') ∙ sym whole'
+
+pub texts-more : (paths : List (Bor (List ℕ))) (i : ℕ) (d : Bor (List ℕ)) → i < length paths
+    → texts (take (i + 1) paths) ≡ texts (take i paths) ++ (get_or paths i d).now ∷ []
+texts-more paths i d inside =
+    ap texts (take_more paths i d inside) ∙ map-append (λ (p : Bor (List ℕ)). p.now) (take i paths) (get_or paths i d ∷ [])
+
+-- one text after another
+pub adds-both : (first middle last : Written) (s t : List ℕ) → Adds first s middle → Adds middle t last → Adds first (s ++ t) last
+adds-both first middle last s t one two = record {
+  grows = two.goes_on first s one.grows;
+  goes_on = λ (begin : Written) (text : List ℕ) g. subst (λ (u : List ℕ). Grows begin u last) (append_assoc text s t)
+      (two.goes_on begin (text ++ s) (one.goes_on begin text g));
+}
+
+texts-parts : (paths : List (Bor (List ℕ))) (i : ℕ) (d : Bor (List ℕ)) → i < length paths
+    → texts paths ≡ texts (take i paths) ++ (get_or paths i d).now ∷ texts (drop (i + 1) paths)
+texts-parts paths i d inside =
+    ap texts (sym (take-append-drop i paths))
+    ∙ map-append (λ (p : Bor (List ℕ)). p.now) (take i paths) (drop i paths)
+    ∙ ap (λ (rest : List (Bor (List ℕ))). texts (take i paths) ++ texts rest) (drop_more paths i d inside)
+
+-- each of the files whose modules were read holds modules
+are_read : (files : Holdings) (paths : List (List ℕ)) (ms : List Module) → AreModulesOf (MayHold files) paths ms → AreDone (MayHoldModules files) paths
+are_read files [] ms none = tt
+are_read files (path ∷ paths) ms (first, rest, is, more, whole) = ((first, is), are_read files paths rest more)
+
+-- the file that fails is the first
+pub refused_at : (files : Holdings) (paths : List (Bor (List ℕ))) (i : ℕ) (d : Bor (List ℕ)) (ms : List Module) (why : Refusal) → i < length paths
+    → AreModulesOf (MayHold files) (texts (take i paths)) ms → (why ≡ no_memory) ⊎ FileFails files (get_or paths i d).now why
+    → IsFilesRefusal files (texts paths) why
+refused_at files paths i d ms why inside read (inl none) = inl none
+refused_at files paths i d ms why inside read (inr fails) = inr (record {
+  done = texts (take i paths);
+  failed = (get_or paths i d).now;
+  left = texts (drop (i + 1) paths);
+  order = texts-parts paths i d inside;
+  are_done = are_read files (texts (take i paths)) ms read;
+  fails = fails;
+})
+
+-- each of the files is known to hold modules where all are
+pub held_at : (files : Holdings) (before : List (List ℕ)) (path : List ℕ) (left : List (List ℕ)) (ms : List Module)
+    → AreModulesOf (Holds files) (before ++ path ∷ left) ms → (first : List Module) × AreModulesIn (Holds files) path first
+held_at files [] path left ms (first, rest, is, more, whole) = (first, is)
+held_at files (p ∷ before) path left ms (first, rest, is, more, whole) = held_at files before path left rest more
+
+pub held_among : (files : Holdings) (paths : List (Bor (List ℕ))) (i : ℕ) (d : Bor (List ℕ)) (ms : List Module) → i < length paths
+    → AreModulesOf (Holds files) (texts paths) ms → (first : List Module) × AreModulesIn (Holds files) (get_or paths i d).now first
+held_among files paths i d ms inside are =
+    held_at files (texts (take i paths)) (get_or paths i d).now (texts (drop (i + 1) paths)) ms
+    (subst (λ (ps : List (List ℕ)). AreModulesOf (Holds files) ps ms) (texts-parts paths i d inside) are)

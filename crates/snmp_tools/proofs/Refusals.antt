@@ -1,0 +1,44 @@
+-- Why nothing is printed.
+use Rattle.std.proofs.Common.{◌≡◌, ap, inl, inr, refl, ℕ, [], ◌∷◌, Some, None}
+use Rattle.snmp_tools.specs.loading.Files.{IsFilesRefusal, Refusal}
+use Rattle.smi_value.specs.letters.Letters.{first_other}
+use Rattle.snmp_io.specs.Files.{Holdings}
+use Rattle.snmp_words.specs.Words.{TranslateWords}
+use Rattle.snmp_tools.specs.translation.Fault.{bad_letter, modules_fault}
+use Rattle.snmp_tools.specs.translation.Refusal.{IsTranslateRefusal, TranslationFails, details_step, letters_step, modules_step}
+use Rattle.snmp_tools.specs.translation.Style.{IsStyleOf, first_other_of_t}
+use Rattle.snmp_tools.specs.declared.translation.style.Style.{Style}
+
+pub letters_fail : (words : TranslateWords) (files : Holdings) (octet : ℕ) → first_other words.letters ≡ Some octet
+    → TranslationFails words files (bad_letter octet)
+letters_fail words files octet other = record {
+  done = [];
+  failed = letters_step;
+  left = details_step ∷ modules_step ∷ [];
+  order = refl;
+  are_done = tt;
+  fails = (octet, other, refl);
+}
+
+pub details_fail : (words : TranslateWords) (files : Holdings) (octet : ℕ) → first_other words.letters ≡ None
+    → first_other_of_t words.details ≡ Some octet → TranslationFails words files (bad_letter octet)
+details_fail words files octet known other = record {
+  done = letters_step ∷ [];
+  failed = details_step;
+  left = modules_step ∷ [];
+  order = refl;
+  are_done = (known, tt);
+  fails = (octet, other, refl);
+}
+
+pub modules_fail : (words : TranslateWords) (files : Holdings) (style : Style) (why : Refusal) → IsStyleOf words style
+    → IsFilesRefusal files words.mibs why → IsTranslateRefusal words files (modules_fault why)
+modules_fail words files style why styled (inl none) = inl (ap modules_fault none)
+modules_fail words files style why styled (inr fails) = inr (record {
+  done = letters_step ∷ details_step ∷ [];
+  failed = modules_step;
+  left = [];
+  order = refl;
+  are_done = (styled.known, (styled.known_of_t, tt));
+  fails = (why, fails, refl);
+})

@@ -1,0 +1,119 @@
+-- What the outcome says of the texts of all names.
+use Rattle.std.proofs.Common.{◌≡◌, ◌∙◌, ◌++◌, ap, inl, inr, refl, sym, subst, ℕ, Bool, List, [], ◌∷◌, Option, Some, None, Result, Ok, Err}
+use Rattle.std.specs.Prelude.{IfErr, OnOk}
+use Rattle.std.proofs.Common.{append_assoc, append-nil}
+use Rattle.snmp_tools.specs.loading.Files.{AreModulesOf}
+use Rattle.snmp_tools.specs.loading.Loaded.{IsLoaded}
+use Rattle.smi_value.specs.letters.Letters.{AreLetters}
+use Rattle.smi_value.specs.declared.letters.letters.Letters.{Letters}
+use Rattle.smi_value.specs.declared.letters.letters.NameForm.{NameForm}
+use Rattle.smi_value.specs.declared.letters.letters.StringForm.{StringForm}
+use Rattle.smi_value.specs.declared.letters.letters.TypeForm.{TypeForm}
+use Rattle.smi_text.specs.declared.trees.tree.Module.{Module}
+use Rattle.smi_tree.specs.Tree.{Contents, IsTree}
+use Rattle.snmp_io.specs.Files.{Holdings, Holds, MayHold}
+use Rattle.snmp_io.specs.Output.{Stream, extended}
+use Rattle.snmp_io.specs.Streams.{front_after, whole_taken}
+use Rattle.snmp_words.specs.Words.{TranslateWords}
+use Rattle.snmp_tools.specs.translation.Fault.{TranslateFault, translate_fault_of}
+use Rattle.snmp_tools.specs.translation.Headline.{AskForTranslation, IsByTree, IsFront, PrintsAll, PrintsFront}
+use Rattle.snmp_tools.specs.translation.Outcome.{AreNamesPrinted, IsPrinting, IsTranslateOutcome, StopsAtName, StopsWithin, ran, refused}
+use Rattle.snmp_tools.specs.translation.Style.{IsStyleOf}
+use Rattle.snmp_tools.specs.translation.Text.{DetailMib, detail_mib_of}
+use Rattle.snmp_tools.specs.declared.translation.error.TranslateError.{TranslateError}
+use Rattle.snmp_tools.specs.declared.translation.style.Style.{Style}
+use Rattle.snmp_tools.proofs.Printing.{AreTextsOf-more}
+
+-- letters of the same forms are the same
+same_letters : (a b : Letters) → a.names ≡ b.names → a.types ≡ b.types → a.strings ≡ b.strings → a.value_alone ≡ b.value_alone
+    → a.numeric_enumerations ≡ b.numeric_enumerations → a.raw_ticks ≡ b.raw_ticks → a.numeric_index ≡ b.numeric_index → a.no_units ≡ b.no_units → a ≡ b
+same_letters a b names types strings value_alone enumerations ticks index units =
+    ap (λ (x : NameForm). record a { names = x }) names
+    ∙ ap (λ (x : TypeForm). record a { names = b.names; types = x }) types
+    ∙ ap (λ (x : StringForm). record a { names = b.names; types = b.types; strings = x }) strings
+    ∙ ap (λ (x : Bool). record a { names = b.names; types = b.types; strings = b.strings; value_alone = x }) value_alone
+    ∙ ap (λ (x : Bool). record b { numeric_enumerations = x; raw_ticks = a.raw_ticks; numeric_index = a.numeric_index; no_units = a.no_units }) enumerations
+    ∙ ap (λ (x : Bool). record b { raw_ticks = x; numeric_index = a.numeric_index; no_units = a.no_units }) ticks
+    ∙ ap (λ (x : Bool). record b { numeric_index = x; no_units = a.no_units }) index
+    ∙ ap (λ (x : Bool). record b { no_units = x }) units
+
+one_reading : (text : List ℕ) (a b : Letters) → AreLetters text a → AreLetters text b → a ≡ b
+one_reading text a b p q =
+    same_letters a b (p.n_f_s_S ∙ sym q.n_f_s_S) (p.q_Q ∙ sym q.q_Q) (p.x_a ∙ sym q.x_a) (p.v ∙ sym q.v) (p.e ∙ sym q.e) (p.t ∙ sym q.t) (p.b ∙ sym q.b)
+    (p.U ∙ sym q.U)
+
+same_style : (a b : Style) → a.letters ≡ b.letters → a.details ≡ b.details → a ≡ b
+same_style a b letters details =
+    ap (λ (x : Letters). record a { letters = x }) letters ∙ ap (λ (x : Bool). record b { details = x }) details
+
+-- words state one style
+one_style : (words : TranslateWords) (a b : Style) → IsStyleOf words a → IsStyleOf words b → a ≡ b
+one_style words a b p q = same_style a b (one_reading words.letters a.letters b.letters p.letters q.letters) (p.details ∙ sym q.details)
+
+-- files that are known to hold texts have one list of modules
+abbrev OneList : Type 0
+OneList = (files : Holdings) (paths : List (List ℕ)) (ms ns : List Module) → AreModulesOf (Holds files) paths ms
+    → AreModulesOf (MayHold files) paths ns → ms ≡ ns
+
+-- by the tree that was loaded
+by_tree : OneList → (words : TranslateWords) (files : Holdings) (style : Style) (modules : List Module) (tree : Contents) (err_before err_after : Stream)
+    (Printed : DetailMib → Type 0) → AskForTranslation words files style modules → IsLoaded (MayHold files) words.mibs tree err_before err_after
+    → Printed (detail_mib_of tree) → IsByTree modules Printed
+by_tree one words files style modules tree err_before err_after Printed asked loaded printed = record {
+  tree = tree;
+  warnings = loaded.warnings;
+  loads = subst (λ (ms : List Module). IsTree ms tree loaded.warnings) (sym (one files words.mibs modules loaded.modules asked.read loaded.read)) loaded.loads;
+  printed = printed;
+}
+
+pub all_printed : OneList → (words : TranslateWords) (files : Holdings) (before after err_before err_after : Stream)
+    → IsTranslateOutcome words files before after err_before err_after None → PrintsAll words files before after
+all_printed one words files before after err_before err_after (refused why refusal same same_too is) style modules asked =
+    let no : ⊥ = cc in absurd no
+all_printed one words files before after err_before err_after (ran own tree styled loaded printed) style modules asked =
+    by_tree one words files style modules tree err_before err_after (λ (mib : DetailMib). AreNamesPrinted mib style words.names before after) asked loaded
+    (subst (λ (s : Style). AreNamesPrinted (detail_mib_of tree) s words.names before after) (one_style words own style styled asked.styled) printed)
+
+-- a front of the texts of the names up to the one at which it stopped
+front_stopped : (mib : DetailMib) (style : Style) (names : List (List ℕ)) (before after : Stream) (why : TranslateFault)
+    → (stopped : StopsWithin mib style names before after why) → StopsAtName mib style (extended before stopped.text) stopped.name after why
+    → IsFront style names before after mib
+front_stopped mib style names before after why stopped (inl (nothing, same)) =
+    (stopped.printed, stopped.name ∷ stopped.left, stopped.text, stopped.order, stopped.shown, whole_taken before after stopped.text same)
+front_stopped mib style names before after why stopped (inr (inl (memory, same))) =
+    (stopped.printed, stopped.name ∷ stopped.left, stopped.text, stopped.order, stopped.shown, whole_taken before after stopped.text same)
+front_stopped mib style names before after why stopped (inr (inr (output, (text, is_text, fails)))) = (
+  stopped.printed ++ stopped.name ∷ [],
+  stopped.left,
+  stopped.text ++ text,
+  stopped.order ∙ sym (append_assoc stopped.printed (stopped.name ∷ []) stopped.left),
+  AreTextsOf-more mib style stopped.printed stopped.name stopped.text text stopped.shown is_text,
+  front_after before (extended before stopped.text) after stopped.text text refl fails.begun,
+)
+
+-- all were printed
+front_whole : (mib : DetailMib) (style : Style) (names : List (List ℕ)) (before after : Stream) → AreNamesPrinted mib style names before after
+    → IsFront style names before after mib
+front_whole mib style names before after (text, texts, is) = (names, [], text, sym (append-nil names), texts, whole_taken before after text is)
+
+front_printing : (mib : DetailMib) (style : Style) (names : List (List ℕ)) (before after : Stream) (fault : Option TranslateFault)
+    → IsPrinting mib style names before after fault → IsFront style names before after mib
+front_printing mib style names before after None printed = front_whole mib style names before after printed
+front_printing mib style names before after (Some why) stopped = front_stopped mib style names before after why stopped stopped.stops
+
+front_printed : OneList → (words : TranslateWords) (files : Holdings) (before after err_before err_after : Stream) (fault : Option TranslateFault)
+    → IsTranslateOutcome words files before after err_before err_after fault → PrintsFront words files before after
+front_printed one words files before after err_before err_after fault (refused why refusal same same_too is) style modules asked = inl same
+front_printed one words files before after err_before err_after fault (ran own tree styled loaded printing) style modules asked =
+    inr (by_tree one words files style modules tree err_before err_after (IsFront style words.names before after) asked loaded
+    (subst (λ (s : Style). IsFront s words.names before after (detail_mib_of tree)) (one_style words own style styled asked.styled)
+    (front_printing (detail_mib_of tree) own words.names before after fault printing)))
+
+-- however it ended
+pub front_at_any_end : OneList → (words : TranslateWords) (files : Holdings) (before after err_before err_after : Stream)
+    (result : Result (Unit {0}) TranslateError) → OnOk result (IsTranslateOutcome words files before after err_before err_after None)
+    → IfErr result (λ e. IsTranslateOutcome words files before after err_before err_after (Some (translate_fault_of e))) → PrintsFront words files before after
+front_at_any_end one words files before after err_before err_after (Ok _) done failed =
+    front_printed one words files before after err_before err_after None done
+front_at_any_end one words files before after err_before err_after (Err e) done failed =
+    front_printed one words files before after err_before err_after (Some (translate_fault_of e)) failed

@@ -1,0 +1,5 @@
+use Rattle.snmp_tools.proofs.Reading.{one_list}
+use Rattle.snmp_tools.proofs.loading.read.one_list_of_modules.Goals as goal
+
+pub returns : goal.returns
+returns c = one_list c.one_reading.ensures c.one_reading-2.ensures

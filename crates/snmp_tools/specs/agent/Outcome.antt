@@ -1,0 +1,70 @@
+-- What snmpd prints, and why it ends.
+use Rattle.std.specs.Prelude.{◌≡◌, ◌⊎◌, ◌+◌, ◌++◌, ℕ, List, Option, Some, None, codes, decimal}
+use Rattle.snmp_agent.specs.Reply.{Agent}
+use Rattle.snmp_agent.specs.declared.server.Served.{Served}
+use Rattle.snmp_io.specs.Count.{HasRisen}
+use Rattle.snmp_io.specs.Files.{Holdings}
+use Rattle.snmp_io.specs.Output.{FailsWithin, Stream, extended}
+use Rattle.snmp_agent.specs.table.Table.{MibView}
+use Rattle.snmp_words.specs.Words.{ServeWords}
+use Rattle.snmp_tools.specs.agent.Fault.{ServeFault, no_door, no_memory, no_output}
+use Rattle.snmp_tools.specs.agent.Service.{AskForService, IsServeRefusal, served_agent}
+
+-- where requests are received, in the word's own octets
+abbrev pub listening_line : (word : List ℕ) → List ℕ
+listening_line word = codes "listening on " ++ word ++ codes "\n"
+
+-- how many requests were replied to, and how many dropped
+abbrev pub counts_line : Served → List ℕ
+counts_line served = decimal served.replies ++ codes " replies, " ++ decimal served.dropped
+    ++ codes " dropped\n"
+
+-- how many calls of the network had failed before, and after
+pub record Faults : Type 0 where
+  pub before : ℕ
+  pub after : ℕ
+
+-- what may have been served at a door that was opened at this port of this host
+abbrev pub AtDoor : {Door : Type 0} → (Binds : (host : List ℕ) → (port : ℕ) → Door → Type 0)
+    → (Serves : Door → Agent → ℕ → Served → Type 0) → (host : List ℕ) → (port : ℕ) → Agent → ℕ
+    → Served → Type 0
+AtDoor {Door} Binds Serves host port agent turns served =
+    (door : Door) × Binds host port door × Serves door agent turns served
+
+-- a line isn't printed, or only a front of it: memory for it ran out, or the output failed
+abbrev pub StopsAtLine : (before : Stream) → List ℕ → (after : Stream) → Option ServeFault → Type 0
+StopsAtLine before line after fault =
+    ((after ≡ before) × (fault ≡ Some no_memory))
+    ⊎ (FailsWithin before line after × (fault ≡ Some no_output))
+
+-- The line of the counts, which add up to the turns, follows that of the place. `Serves agent turns
+-- served` says what may have been served.
+abbrev pub IsServedAndCounted : (Serves : Agent → ℕ → Served → Type 0) → ServeWords → MibView
+    → (before after : Stream) → Option ServeFault → Type 0
+IsServedAndCounted Serves words view before after fault =
+    (served : Served) × Serves (served_agent words view) words.turns served
+    × (served.replies + served.dropped + served.idle + served.faults ≡ words.turns)
+    × (((after ≡ extended before (counts_line served)) × (fault ≡ None))
+    ⊎ StopsAtLine before (counts_line served) after fault)
+
+-- no door was opened, and the network counted why; or the place wasn't printed; or it was, and the
+-- table was served
+abbrev pub IsServing : (Serves : Agent → ℕ → Served → Type 0) → Faults → ServeWords → MibView
+    → (before after : Stream) → Option ServeFault → Type 0
+IsServing Serves faults words view before after fault =
+    (HasRisen faults.before faults.after × (after ≡ before)
+    × (fault ≡ Some no_door))
+    ⊎ (StopsAtLine before (listening_line words.listen) after fault
+    ⊎ IsServedAndCounted Serves words view (extended before (listening_line words.listen)) after
+    fault)
+
+-- What snmpd printed, and why it stopped, if it stopped before its turns were done. `Serves host
+-- port` says what may have been served at a port of a host.
+pub data IsServeOutcome (Serves : (host : List ℕ) → (port : ℕ) → Agent → ℕ → Served → Type 0)
+    (faults : Faults) (words : ServeWords) (files : Holdings) (before after : Stream)
+    (fault : Option ServeFault) : Type 0 where
+  refused : (why : ServeFault) → IsServeRefusal words files why → after ≡ before → fault ≡ Some why
+      → IsServeOutcome Serves faults words files before after fault
+  ran : (view : MibView) (asked : AskForService words files view)
+      → IsServing (Serves asked.host asked.port) faults words view before after fault
+      → IsServeOutcome Serves faults words files before after fault

@@ -1,0 +1,56 @@
+-- The modules that files hold, and why they can't be had.
+use Rattle.std.specs.Prelude.{◌≡◌, ◌≢◌, ◌⊎◌, ◌++◌, ℕ, List, [], ◌∷◌, map}
+use Rattle.std.specs.Borrow.{Bor}
+use Rattle.snmp_io.specs.Files.{Holdings, MayHold, MayHoldNone}
+use Rattle.snmp_io.specs.Steps.{IsFirstToFail}
+use Rattle.smi_text.specs.declared.trees.tree.Module.{Module}
+use Rattle.smi_text.specs.Text.{HasNoDoubles, IsCause, AreSpelledBy}
+use Rattle.smi_text.specs.declared.error.ParseError.{ParseError}
+use Rattle.smi_text.specs.declared.error.ParseError.TheVariants as error
+
+-- the texts that references lead to
+abbrev pub texts : List (Bor (List ℕ)) → List (List ℕ)
+texts paths = map (λ path. path.now) paths
+
+-- The text of a file spells these modules. `Held path text` says that the file holds it.
+abbrev pub AreModulesIn : (Held : (path text : List ℕ) → Type 0) → (path : List ℕ) → List Module
+    → Type 0
+AreModulesIn Held path ms = (text : List ℕ) × Held path text × AreSpelledBy ms text
+    × HasNoDoubles ms
+
+-- these are the modules of the files, one file after the other
+abbrev pub AreModulesOf : (Held : (path text : List ℕ) → Type 0) → (paths : List (List ℕ))
+    → List Module → Type 0
+AreModulesOf Held [] ms = ms ≡ []
+AreModulesOf Held (path ∷ more) ms =
+    (first : List Module) × (rest : List Module) × AreModulesIn Held path first
+    × AreModulesOf Held more rest × (ms ≡ first ++ rest)
+
+-- the file at a path holds modules, as far as it is known what it holds
+abbrev pub MayHoldModules : Holdings → (path : List ℕ) → Type 0
+MayHoldModules files path = (modules : List Module) × AreModulesIn (MayHold files) path modules
+
+-- why the modules of files can't be had
+pub data Refusal : Type 0 where
+  unreadable : (path : List ℕ) → Refusal
+  faulty : (path : List ℕ) → ParseError → Refusal
+  no_memory : Refusal
+
+-- the fault is one of the text, and not that memory ran out
+abbrev pub IsFaultOf : ParseError → (text : List ℕ) → Type 0
+IsFaultOf fault text = (fault ≢ error.Memory) × IsCause fault text
+
+-- the file has no text, or its text spells no modules
+abbrev pub FileFails : Holdings → (path : List ℕ) → Refusal → Type 0
+FileFails files path why =
+    (MayHoldNone files path × (why ≡ unreadable path))
+    ⊎ ((text : List ℕ) × (fault : ParseError) × MayHold files path text × IsFaultOf fault text
+    × (why ≡ faulty path fault))
+
+-- the first file that fails, after those that hold modules
+abbrev pub FilesFail : Holdings → (paths : List (List ℕ)) → Refusal → Type 0
+FilesFail files paths why = IsFirstToFail paths (MayHoldModules files) (FileFails files) why
+
+-- memory ran out, or a file failed
+abbrev pub IsFilesRefusal : Holdings → (paths : List (List ℕ)) → Refusal → Type 0
+IsFilesRefusal files paths why = (why ≡ no_memory) ⊎ FilesFail files paths why

@@ -1,0 +1,69 @@
+-- What snmptranslate prints, and why it ends.
+use Rattle.std.specs.Prelude.{◌≡◌, ◌⊎◌, ◌++◌, ℕ, List, ◌∷◌, Option, Some, None, Err}
+use Rattle.snmp_tools.specs.loading.Loaded.{IsLoaded}
+use Rattle.smi_show.specs.name.Meant.{TextMeans}
+use Rattle.smi_show.specs.declared.name.error.NameError.{NameError}
+use Rattle.smi_tree.specs.Tree.{Contents}
+use Rattle.snmp_io.specs.Files.{Holdings, MayHold}
+use Rattle.snmp_io.specs.Output.{FailsWithin, Stream, extended}
+use Rattle.snmp_words.specs.Words.{TranslateWords}
+use Rattle.snmp_tools.specs.translation.Fault.{TranslateFault, bad_name, no_memory, no_output}
+use Rattle.snmp_tools.specs.translation.Refusal.{IsTranslateRefusal}
+use Rattle.snmp_tools.specs.translation.Style.{IsStyleOf}
+use Rattle.snmp_tools.specs.translation.Text.{AreTextsOf, DetailMib, IsTextOf, detail_mib_of}
+use Rattle.snmp_tools.specs.declared.translation.style.Style.{Style}
+
+-- the name has no meaning, for this reason
+abbrev pub HasNoMeaning : DetailMib → (name : List ℕ) → TranslateFault → Type 0
+HasNoMeaning mib name why =
+    (error : NameError) × TextMeans mib.naming name (Err error) × (why ≡ bad_name name error)
+
+-- A name isn't printed: it has no meaning, or memory for its text ran out. Or only a front of its
+-- text is: the output failed.
+abbrev pub StopsAtName : DetailMib → Style → (before : Stream) → (name : List ℕ)
+    → (after : Stream) → TranslateFault → Type 0
+StopsAtName mib style before name after why =
+    (HasNoMeaning mib name why × (after ≡ before))
+    ⊎ (((why ≡ no_memory) × (after ≡ before))
+    ⊎ ((why ≡ no_output)
+    × ((text : List ℕ) × IsTextOf mib style name text × FailsWithin before text after)))
+
+-- the name is printed
+abbrev pub IsNamePrinted : DetailMib → Style → (before : Stream) → (name : List ℕ)
+    → (after : Stream) → Type 0
+IsNamePrinted mib style before name after =
+    (text : List ℕ) × IsTextOf mib style name text × (after ≡ extended before text)
+
+-- the names up to this one were printed, and there it stopped
+pub record StopsWithin (mib : DetailMib) (style : Style) (names : List (List ℕ))
+    (before after : Stream) (why : TranslateFault) : Type 0 where
+  pub printed : List (List ℕ)
+  pub name : List ℕ
+  pub left : List (List ℕ)
+  pub order : names ≡ printed ++ name ∷ left
+  pub text : List ℕ
+  pub shown : AreTextsOf mib style printed text
+  pub stops : StopsAtName mib style (extended before text) name after why
+
+-- all names were printed
+abbrev pub AreNamesPrinted : DetailMib → Style → (names : List (List ℕ))
+    → (before after : Stream) → Type 0
+AreNamesPrinted mib style names before after =
+    (text : List ℕ) × AreTextsOf mib style names text × (after ≡ extended before text)
+
+-- the names were printed, or those up to the first at which it stopped
+abbrev pub IsPrinting : DetailMib → Style → (names : List (List ℕ)) → (before after : Stream)
+    → Option TranslateFault → Type 0
+IsPrinting mib style names before after None = AreNamesPrinted mib style names before after
+IsPrinting mib style names before after (Some why) = StopsWithin mib style names before after why
+
+-- what snmptranslate printed, and why it stopped, if it stopped before its last name was printed
+pub data IsTranslateOutcome (words : TranslateWords) (files : Holdings)
+    (before after err_before err_after : Stream) (fault : Option TranslateFault) : Type 0 where
+  refused : (why : TranslateFault) → IsTranslateRefusal words files why → after ≡ before
+      → err_after ≡ err_before → fault ≡ Some why
+      → IsTranslateOutcome words files before after err_before err_after fault
+  ran : (style : Style) (tree : Contents) → IsStyleOf words style
+      → IsLoaded (MayHold files) words.mibs tree err_before err_after
+      → IsPrinting (detail_mib_of tree) style words.names before after fault
+      → IsTranslateOutcome words files before after err_before err_after fault

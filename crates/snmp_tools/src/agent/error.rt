@@ -1,0 +1,30 @@
+//! Why a table isn't served.
+
+use snmp_agent::table::TableError;
+use thiserror::Error;
+
+/// Why a table isn't served, or not for all of its turns.
+#[derive(Clone, Copy, Debug, Error)]
+pub enum ServeError<'a> {
+    /// The community has more than 255 octets.
+    #[error("Community too long.")]
+    Community,
+    /// The word for the place is no host with its port.
+    #[error("Bad agent address: {0}")]
+    Place(&'a str),
+    /// The table file can't be read.
+    #[error("{0}: cannot be read")]
+    Unreadable(&'a str),
+    /// The table file has a fault.
+    #[error("{0}: {1}")]
+    Table(&'a str, TableError),
+    /// No requests can be received at the place.
+    #[error("The link failed.")]
+    Door,
+    /// The output failed.
+    #[error("The output failed.")]
+    Output,
+    /// Memory ran out.
+    #[error("Out of memory.")]
+    Memory,
+}

@@ -1,0 +1,50 @@
+//! The tree of names of module files.
+ghost use Rattle.std.specs.Prelude.{◌≡◌, IfErr, IfOk, List, OnErr};
+ghost use Rattle.smi_text.specs.declared.trees.tree.Module.{Module};
+ghost use Rattle.snmp_io.specs.Output.{IsWritten};
+ghost use Rattle.snmp_io.specs.Files.{Holds, MayHold};
+ghost use Rattle.snmp_tools.specs.loading.Files.{AreModulesOf, IsFilesRefusal, no_memory, texts};
+ghost use Rattle.snmp_tools.specs.loading.Loaded.{IsLoaded};
+ghost use Rattle.snmp_tools.specs.loading.Message.{refusal_of};
+
+use crate::loading::error::FilesError;
+use crate::loading::read::read_modules;
+use crate::loading::warned::warning_lines;
+use smi_tree::Tree;
+use snmp_io::{Files, Output, write_all};
+use std::alloc::Global;
+
+/// Loads the tree of names from module files (RFC 2578, section 3), and writes the line of each
+/// warning on `err`, in order.
+///
+/// The first file that can't be read, or whose text has a fault anywhere, is the error, and then
+/// nothing is written. An `err` that fails changes nothing else.
+pub fn load_tree<'a, F: Files, E: Output>(
+    alloc: Global,
+    files: &F,
+    paths: &[&'a str],
+    err: &mut E,
+) -> Result<Tree, FilesError<'a>>
+    ensures loaded { IfOk result (λ tree. IsLoaded (MayHold (F.text_at files.now))
+        (texts paths.now) tree (E.stream err.old) (E.stream err.new)) }
+    ensures refused { IfErr result (λ e.
+        IsFilesRefusal (F.text_at files.now) (texts paths.now) (refusal_of e)) }
+    // Files that are known to hold modules are loaded, unless memory runs out.
+    ensures only { (ms : List Module)
+        → AreModulesOf (Holds (F.text_at files.now)) (texts paths.now) ms
+        → IfErr result (λ e. refusal_of e ≡ no_memory) }
+    ensures untold { OnErr result (E.stream err.new ≡ E.stream err.old) }
+{
+    let modules = read_modules(alloc, files, paths)?;
+    let (tree, warnings) = Tree::load(alloc, modules)?;
+    let lines = warning_lines(alloc, &warnings)?;
+    tell(err, &lines);
+    Ok(tree)
+}
+
+// Writes a text. A fault is ignored: there is nowhere left to report it.
+fn tell<E: Output>(err: &mut E, text: &[u8])
+    ensures { IsWritten (E.stream err.old) text.now (E.stream err.new) }
+{
+    let _ = write_all(err, text);
+}

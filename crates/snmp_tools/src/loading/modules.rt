@@ -1,0 +1,102 @@
+//! The names that are loaded from files, of modules or of the roots alone.
+ghost use Rattle.std.specs.Prelude.{◌≡◌, IfErr, IfOk, List, None, OnErr};
+ghost use Rattle.smi_text.specs.declared.trees.tree.Module.{Module};
+ghost use Rattle.snmp_io.specs.Files.{Holds, MayHold};
+ghost use Rattle.snmp_tools.specs.loading.Files.{AreModulesOf, IsFilesRefusal, no_memory, texts};
+ghost use Rattle.snmp_tools.specs.loading.Loaded.{AreLoadedAs};
+ghost use Rattle.snmp_tools.specs.loading.Message.{refusal_of};
+
+use crate::loading::error::FilesError;
+use crate::loading::load::load_tree;
+use smi_show::ShowTree;
+use smi_tree::{Roots, Tree, bare_tree};
+use snmp_io::memory::MemoryFiles;
+use snmp_io::{FileFault, Files, MachineFiles, Output};
+use std::alloc::Global;
+use std::rt;
+
+/// Files, with the names that are loaded from them: of their modules, or of the roots alone.
+pub trait ModuleFiles: Files {
+    /// What names and values are read and shown by.
+    type Names: ShowTree + Drop;
+
+    /// Loads the names of module files, as [`load_tree`] does.
+    fn load<'a, E: Output>(
+        &self,
+        alloc: Global,
+        paths: &[&'a str],
+        err: &mut E,
+    ) -> Result<Self::Names, FilesError<'a>>
+        ensures loaded { IfOk result (λ names. AreLoadedAs (MayHold (Self.text_at self.now))
+            (texts paths.now) (Self.Names.naming names) (Self.Names.definition_at names)
+            (Self.Names.syntax_at names) (E.stream err.old) (E.stream err.new)) }
+        ensures refused { IfErr result (λ e.
+            IsFilesRefusal (Self.text_at self.now) (texts paths.now) (refusal_of e)) }
+        ensures only { (ms : List Module)
+            → AreModulesOf (Holds (Self.text_at self.now)) (texts paths.now) ms
+            → IfErr result (λ e. refusal_of e ≡ no_memory) }
+        ensures untold { OnErr result (E.stream err.new ≡ E.stream err.old) };
+}
+
+impl<R: rt::Files> ModuleFiles for MachineFiles<R> {
+    type Names = Tree;
+
+    fn load<'a, E: Output>(
+        &self,
+        alloc: Global,
+        paths: &[&'a str],
+        err: &mut E,
+    ) -> Result<Tree, FilesError<'a>> {
+        load_tree(alloc, self, paths, err)
+    }
+}
+
+impl ModuleFiles for MemoryFiles<'_> {
+    type Names = Tree;
+
+    fn load<'a, E: Output>(
+        &self,
+        alloc: Global,
+        paths: &[&'a str],
+        err: &mut E,
+    ) -> Result<Tree, FilesError<'a>> {
+        load_tree(alloc, self, paths, err)
+    }
+}
+
+/// Files of which no modules are loaded: the names are those of the roots alone, and a module file
+/// that is named can't be read.
+///
+/// A program over them holds no code of modules.
+#[derive(Drop)]
+pub struct WithoutModules<F> {
+    /// The files of tables.
+    pub files: F,
+}
+
+impl<F: Files> Files for WithoutModules<F> {
+    ghost text_at = { λ _ _. None };
+
+    fn read(&self, alloc: Global, path: &str) -> Result<Vec<u8>, FileFault> {
+        self.files.read(alloc, path)
+    }
+}
+
+impl<F: Files> ModuleFiles for WithoutModules<F> {
+    type Names = Roots;
+
+    fn load<'a, E: Output>(
+        &self,
+        _alloc: Global,
+        paths: &[&'a str],
+        _err: &mut E,
+    ) -> Result<Roots, FilesError<'a>> {
+        match paths.first() {
+            Some(path) => Err(FilesError::Unreadable(path)),
+            None => {
+                bare_tree();
+                Ok(Roots::new())
+            }
+        }
+    }
+}

@@ -1,0 +1,13 @@
+//! The job of snmptranslate: each name is printed as the letters of `-O` say, or with its details,
+//! by the names of module files.
+//!
+//! Built on the words, on module files and on names and details as text. The tools do this job
+//! among theirs.
+
+mod error;
+mod job;
+mod names;
+mod style;
+
+pub use error::TranslateError;
+pub use job::translate;

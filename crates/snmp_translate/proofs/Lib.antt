@@ -1,3 +1,0 @@
-mod Headlines
-mod Printing
-mod Refusals

@@ -1,0 +1,25 @@
+-- Headers and elements behind contents whose sizes are known.
+use Rattle.std.proofs.Common.{◌≡◌, ℕ, ◌-◌, ◌≤◌, List, [], ◌∷◌, length, ap, subst, arith}
+use Rattle.snmp_wire.specs.ber.Canon.{canon_element, canon_header, canon_length}
+use Rattle.snmp_wire.specs.ber.ElementLaws.{header_fits, writes_element}
+use Rattle.snmp_wire.specs.ber.Writing.{Writes}
+use Rattle.snmp_wire.specs.ber.WritingLaws.{writes_same, writes_then}
+
+-- a tag before a length
+pub writes_tag : {old mid new : List ℕ} {start middle end : ℕ} (tag size : ℕ) → Writes old middle end (canon_length size) mid
+    → Writes mid start middle (tag ∷ []) new → Writes old start end (canon_header tag size) new
+unfolding canon_header
+writes_tag tag size w v = writes_then w v
+
+-- a header has room before a content whose size is known
+pub sized_header_fits : {old mid content : List ℕ} {middle end : ℕ} (tag size : ℕ) → size ≡ length content → Writes old middle end content mid
+    → length (canon_element tag content) ≤ end → length (canon_header tag size) ≤ middle
+sized_header_fits {old} {mid} {content} {middle} {end} tag size e w room =
+    let same : end - middle ≡ size = omega (arith, e, w.begins) in
+    subst (λ (k : ℕ). length (canon_header tag k) ≤ middle) same (header_fits tag w room)
+
+pub writes_sized : {old mid new content : List ℕ} {start middle end : ℕ} (tag size : ℕ) → size ≡ length content → Writes old middle end content mid
+    → Writes mid start middle (canon_header tag size) new → Writes old start end (canon_element tag content) new
+writes_sized {old} {mid} {new} {content} {start} {middle} {end} tag size e w v =
+    let same : size ≡ end - middle = omega (arith, e, w.begins) in
+    writes_element tag w (writes_same v (ap (canon_header tag) same))

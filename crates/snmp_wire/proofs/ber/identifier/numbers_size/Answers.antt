@@ -1,0 +1,13 @@
+use Rattle.std.proofs.Common.{arith}
+use Rattle.snmp_wire.proofs.ShortNumbers.{nine_counted, none_counted}
+use Rattle.snmp_wire.proofs.ber.identifier.numbers_size.Goals as goal
+
+pub returns-then-count-eq9-clause-value : goal.returns-then-count-eq9-clause-value
+returns-then-count-eq9-clause-value c =
+    let whole = nine_counted c.args.numbers.now c.from.result c.if-count-lt9.false (c.are_short.ensures c.if-not-are_short.false) c.from.ensures in
+    omega (arith, whole, none_counted c.args.numbers.now c.if-count-eq9.true, c.septets_size.ensures.value)
+
+pub returns-clause-value : goal.returns-clause-value
+returns-clause-value c =
+    let whole = nine_counted c.args.numbers.now c.from.result c.if-count-lt9.false (c.are_short.ensures c.if-not-are_short.false) c.from.ensures in
+    omega (arith, whole, c.septets_size.ensures.value, c.other_numbers_size-2.ensures.value)

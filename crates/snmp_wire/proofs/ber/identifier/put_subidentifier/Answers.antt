@@ -1,0 +1,56 @@
+use Rattle.std.proofs.Common.{◌/◌, arith}
+use Rattle.snmp_wire.proofs.IdentifierWriting.{length-canon_subidentifier, short_itself, subidentifier_some, writes_subidentifier, subidentifier_two, one_septet}
+use Rattle.snmp_wire.proofs.IdentifierWriting.{subidentifier_three, two_septets}
+use Rattle.snmp_wire.specs.ber.WritingLaws.{writes_same, writes_then}
+use Rattle.snmp_wire.proofs.ber.identifier.put_subidentifier.Goals as goal
+
+pub put_octet-last-requires-clause-room : goal.put_octet-last-requires-clause-room
+put_octet-last-requires-clause-room c = omega (arith, length-canon_subidentifier c.args.number, subidentifier_some c.args.number)
+
+pub returns-then-number-lt128 : goal.returns-then-number-lt128
+returns-then-number-lt128 c = writes_same c.put_octet.ensures (short_itself c.args.number c.if-number-lt128.true)
+
+pub put_octet-requires-then-number-lt16384-clause-room : goal.put_octet-requires-then-number-lt16384-clause-room
+put_octet-requires-then-number-lt16384-clause-room c = omega (
+  arith,
+  length-canon_subidentifier c.args.number,
+  subidentifier_two c.args.number c.if-number-lt128.false c.if-number-lt16384.true,
+  c.put_octet-last.ensures.begins,
+)
+
+pub returns-then-number-lt16384 : goal.returns-then-number-lt16384
+returns-then-number-lt16384 c =
+    writes_subidentifier c.args.number 2 (subidentifier_two c.args.number c.if-number-lt128.false c.if-number-lt16384.true) c.put_octet-last.ensures
+    (writes_same c.put_octet-then-number-lt16384.ensures (one_septet (c.args.number / 128) (omega (arith, c.if-number-lt16384.true))))
+
+pub put_octet-mid-requires-clause-room : goal.put_octet-mid-requires-clause-room
+put_octet-mid-requires-clause-room c = omega (
+  arith,
+  length-canon_subidentifier c.args.number,
+  subidentifier_three c.args.number c.if-number-lt16384.false c.if-number-lt2097152.true,
+  c.put_octet-last.ensures.begins,
+)
+
+pub put_octet-requires-then-number-lt2097152-clause-room : goal.put_octet-requires-then-number-lt2097152-clause-room
+put_octet-requires-then-number-lt2097152-clause-room c = omega (
+  arith,
+  length-canon_subidentifier c.args.number,
+  subidentifier_three c.args.number c.if-number-lt16384.false c.if-number-lt2097152.true,
+  c.put_octet-last.ensures.begins,
+  c.put_octet-mid.ensures.begins,
+)
+
+pub returns-then-number-lt2097152 : goal.returns-then-number-lt2097152
+returns-then-number-lt2097152 c =
+    writes_subidentifier c.args.number 3 (subidentifier_three c.args.number c.if-number-lt16384.false c.if-number-lt2097152.true) c.put_octet-last.ensures
+    (writes_same (writes_then c.put_octet-mid.ensures c.put_octet-then-number-lt2097152.ensures)
+    (two_septets (c.args.number / 128) (omega (arith, c.if-number-lt2097152.true))))
+
+pub put_septets-requires-clause-room : goal.put_septets-requires-clause-room
+put_septets-requires-clause-room c = omega (arith, length-canon_subidentifier c.args.number)
+
+pub returns : goal.returns
+returns c = writes_subidentifier c.args.number c.septets_size.result c.septets_size.ensures.value c.put_octet-last.ensures c.put_septets.ensures
+
+pub put_octet-requires-clause-room : goal.put_octet-requires-clause-room
+put_octet-requires-clause-room c = omega (arith, length-canon_subidentifier c.args.number, subidentifier_some c.args.number)

@@ -1,0 +1,15 @@
+use Rattle.std.proofs.Common.{arith}
+use Rattle.snmp_wire.proofs.NumberLemmas.{number_of-more, octet_more, octet_fits}
+use Rattle.snmp_wire.proofs.ber.number.unsigned.Goals as goal
+
+pub overflow_mul-sum : goal.overflow_mul-sum
+overflow_mul-sum c = omega (arith, octet_fits c.octets.octet-index c.octets.sum (omega arith) c.octets.invariant.bound)
+
+pub overflow_add-sum : goal.overflow_add-sum
+overflow_add-sum c = omega (arith, octet_fits c.octets.octet-index c.octets.sum (omega arith) c.octets.invariant.bound, c.type_inv.octets c.octets.octet-index)
+
+pub octets-preserved : goal.octets-preserved
+octets-preserved c = record {
+  value = omega (arith, number_of-more 256 c.args.octets.now c.octets.octet-index c.octets-test.true);
+  bound = octet_more c.octets.octet-index c.octets.sum _ c.octets.invariant.bound (omega (arith, c.type_inv.octets c.octets.octet-index));
+}

@@ -1,0 +1,123 @@
+-- The shortest encoding: each length in the shortest form, each whole number in the fewest octets
+-- (X.690, 8.1.3, 8.3 and 8.19; RFC 3417, section 8).
+use Rattle.std.specs.Prelude.{ℕ, ℤ, pos, negsuc, ◌+◌, ◌-◌, ◌*◌, ◌/◌, ◌%◌, ◌^◌, ◌<◌, ◌≤◌, suc, zero}
+use Rattle.std.specs.Prelude.{List, [], ◌∷◌, ◌++◌, length, get_or, nat_lt, if◌then◌else◌}
+use Rattle.std.specs.List.{flat_map}
+use Rattle.snmp_oid.specs.Identifier.{IsWire}
+use Rattle.snmp_wire.specs.ber.Identifier.{subidentifiers}
+use Rattle.snmp_wire.specs.ber.Value.{Datum, integer_value, octet_string, null_value, object_id}
+use Rattle.snmp_wire.specs.ber.Value.{ip_address, counter32, gauge32, time_ticks, opaque_octets}
+use Rattle.snmp_wire.specs.ber.Value.{counter64, no_such_object, no_such_instance, end_of_mib_view}
+use Rattle.snmp_wire.specs.ber.Spelling.{value_tag}
+
+-- how many digits a number has to a base: one below the limit, and one more for each further power
+-- of the base, up to `more` more
+abbrev pub digit_count : ℕ → ℕ → ℕ → ℕ → ℕ
+digit_count base limit zero n = 1
+digit_count base limit (suc more) n =
+    if nat_lt n limit then 1 else 1 + digit_count base (limit * base) more n
+
+-- the number's lowest digits to the base 256, `count` of them, the most significant first
+unfoldable pub octets : ℕ → ℕ → List ℕ
+octets zero n = []
+octets (suc count) n = (n / 256 ^ count % 256) ∷ octets count n
+
+-- how many octets two's complement takes for a number from 0, the first bit being the sign
+unfoldable pub number_size : ℕ → ℕ
+number_size n = digit_count 256 128 8 n
+
+-- a whole number, or for one below zero its complement: two's complement takes as many octets for
+-- either
+abbrev pub magnitude_of : ℤ → ℕ
+magnitude_of (pos n) = n
+magnitude_of (negsuc n) = n
+
+-- a whole number in the fewest octets of two's complement (X.690, 8.3)
+unfoldable pub canon_number : ℤ → List ℕ
+canon_number (pos n) = octets (number_size n) n
+canon_number (negsuc n) = octets (number_size n) (256 ^ number_size n - (n + 1))
+
+-- how many octets a length takes
+unfoldable pub length_size : ℕ → ℕ
+length_size n = digit_count 256 256 3 n
+
+-- the shortest form of a length (X.690, 8.1.3)
+unfoldable pub canon_length : ℕ → List ℕ
+canon_length n = if nat_lt n 128 then n ∷ [] else (128 + length_size n) ∷ octets (length_size n) n
+
+-- how many octets a subidentifier takes, of seven bits each
+unfoldable pub subidentifier_size : ℕ → ℕ
+subidentifier_size n = digit_count 128 128 4 n
+
+-- the number's lowest digits to the base 128, `count` of them, with the bit that says that the
+-- subidentifier goes on
+unfoldable pub septets : ℕ → ℕ → List ℕ
+septets zero n = []
+septets (suc count) n = (128 + n / 128 ^ count % 128) ∷ septets count n
+
+-- a subidentifier in the fewest octets (X.690, 8.19.2)
+unfoldable pub canon_subidentifier : ℕ → List ℕ
+canon_subidentifier n = septets (subidentifier_size n - 1) (n / 128) ++ (n % 128) ∷ []
+
+-- The eight numbers from a place on have one octet each. Private functions and proofs alone cite
+-- this, and no public clause does: it is a step of a loop.
+pub record AreShort (numbers : List ℕ) (from : ℕ) : Type 0 where
+  pub first : get_or numbers from 0 < 128
+  pub second : get_or numbers (from + 1) 0 < 128
+  pub third : get_or numbers (from + 2) 0 < 128
+  pub fourth : get_or numbers (from + 3) 0 < 128
+  pub fifth : get_or numbers (from + 4) 0 < 128
+  pub sixth : get_or numbers (from + 5) 0 < 128
+  pub seventh : get_or numbers (from + 6) 0 < 128
+  pub eighth : get_or numbers (from + 7) 0 < 128
+
+-- The eight numbers from a place on, for private functions and proofs alone.
+abbrev pub eight_from : List ℕ → ℕ → List ℕ
+eight_from numbers from =
+    get_or numbers from 0 ∷ get_or numbers (from + 1) 0
+    ∷ get_or numbers (from + 2) 0 ∷ get_or numbers (from + 3) 0
+    ∷ get_or numbers (from + 4) 0 ∷ get_or numbers (from + 5) 0
+    ∷ get_or numbers (from + 6) 0 ∷ get_or numbers (from + 7) 0 ∷ []
+
+-- the tag and the length before a content of `size` octets
+unfoldable pub canon_header : ℕ → ℕ → List ℕ
+canon_header tag size = tag ∷ canon_length size
+
+-- an element: tag, length, content
+unfoldable pub canon_element : ℕ → List ℕ → List ℕ
+canon_element tag content = canon_header tag (length content) ++ content
+
+-- the content of a value
+unfoldable pub canon_content : Datum → List ℕ
+canon_content (integer_value z) = canon_number z
+canon_content (octet_string text) = text
+canon_content null_value = []
+canon_content (object_id name) = flat_map canon_subidentifier (subidentifiers name)
+canon_content (ip_address address) = address
+canon_content (counter32 n) = canon_number (pos n)
+canon_content (gauge32 n) = canon_number (pos n)
+canon_content (time_ticks n) = canon_number (pos n)
+canon_content (opaque_octets text) = text
+canon_content (counter64 n) = canon_number (pos n)
+canon_content no_such_object = []
+canon_content no_such_instance = []
+canon_content end_of_mib_view = []
+
+unfoldable pub canon_value : Datum → List ℕ
+canon_value value = canon_element (value_tag value) (canon_content value)
+
+-- what an encoding may hold: an identifier that has one, or a string of at most 65535 octets
+abbrev pub IsEncodableValue : Datum → Type 0
+IsEncodableValue (integer_value z) = Unit {0}
+IsEncodableValue (octet_string text) = length text ≤ 65535
+IsEncodableValue null_value = Unit {0}
+IsEncodableValue (object_id name) = IsWire name
+IsEncodableValue (ip_address address) = Unit {0}
+IsEncodableValue (counter32 n) = Unit {0}
+IsEncodableValue (gauge32 n) = Unit {0}
+IsEncodableValue (time_ticks n) = Unit {0}
+IsEncodableValue (opaque_octets text) = length text ≤ 65535
+IsEncodableValue (counter64 n) = Unit {0}
+IsEncodableValue no_such_object = Unit {0}
+IsEncodableValue no_such_instance = Unit {0}
+IsEncodableValue end_of_mib_view = Unit {0}

@@ -1,0 +1,128 @@
+-- Laws of headers, elements and values as they are written, for proofs here and of the crates
+-- above: how long they are, and how they are written before their content.
+use Rattle.std.proofs.Common.{◌≡◌, ℕ, ℤ, ◌+◌, ◌-◌, ◌<◌, ◌≤◌, List, [], ◌∷◌, ◌++◌, length}
+use Rattle.std.proofs.Common.{refl, sym, ap, subst, ◌∙◌, arith, length-append}
+use Rattle.std.proofs.lemmas.Bool.{lt-ltb}
+use Rattle.snmp_wire.specs.ber.Canon.{canon_content, canon_element, canon_header, canon_length}
+use Rattle.snmp_wire.specs.ber.Canon.{canon_number, canon_value}
+use Rattle.snmp_wire.specs.ber.Value.{Datum, integer_value, octet_string}
+use Rattle.snmp_wire.specs.ber.Spelling.{value_tag}
+use Rattle.snmp_wire.specs.ber.Writing.{Writes}
+use Rattle.snmp_wire.specs.ber.WritingLaws.{writes_same, writes_then}
+
+-- ---- headers
+
+-- a length below 128 has one octet
+pub canon_length_short : (n : ℕ) → n < 128 → canon_length n ≡ n ∷ []
+unfolding canon_length
+canon_length_short n h = rw (lt-ltb n 128 h) refl
+
+-- its header has two
+pub header_short : (n : ℕ) → n < 128 → 1 + length (canon_length n) ≡ 2
+header_short n h = ap (λ octets. 1 + length octets) (canon_length_short n h)
+
+-- a header is a tag and a length
+pub length-canon_header : (tag size : ℕ)
+    → length (canon_header tag size) ≡ 1 + length (canon_length size)
+unfolding canon_header
+length-canon_header tag size =
+    let one : length (tag ∷ canon_length size) ≡ 1 + length (canon_length size) = omega arith in
+    one
+
+-- ---- elements
+
+-- an element is a tag, a length and its content
+pub length-canon_element : (tag : ℕ) (content : List ℕ)
+    → length (canon_element tag content)
+    ≡ 1 + length (canon_length (length content)) + length content
+unfolding canon_element
+length-canon_element tag content =
+    omega (
+      arith,
+      length-append (canon_header tag (length content)) content,
+      length-canon_header tag (length content),
+    )
+
+-- the sizes of a header and a content are that of the element
+pub element_size : (tag header size : ℕ) (content : List ℕ)
+    → size ≡ length content → header ≡ 1 + length (canon_length size)
+    → header + size ≡ length (canon_element tag content)
+element_size tag header size content s h =
+    let same : 1 + length (canon_length size) ≡ 1 + length (canon_length (length content)) =
+    ap (λ n. 1 + length (canon_length n)) s in
+    omega (arith, same, length-canon_element tag content)
+
+-- a content has room where its element has
+pub content_fits : (tag end : ℕ) (content : List ℕ)
+    → length (canon_element tag content) ≤ end → length content ≤ end
+content_fits tag end content room = omega (arith, length-canon_element tag content)
+
+-- and its header has room before it
+pub header_fits : {old mid content : List ℕ} {middle end : ℕ} (tag : ℕ)
+    → Writes old middle end content mid → length (canon_element tag content) ≤ end
+    → length (canon_header tag (end - middle)) ≤ middle
+header_fits {old} {mid} {content} {middle} {end} tag w room =
+    let size : length content ≡ end - middle = omega (arith, w.begins) in
+    let header : length (canon_header tag (end - middle))
+    ≡ 1 + length (canon_length (length content)) = length-canon_header tag (end - middle)
+    ∙ ap (λ n. 1 + length (canon_length n)) (sym size) in
+    omega (arith, header, length-canon_element tag content, w.begins)
+
+-- a header is written before its content
+pub writes_element : {old mid new content : List ℕ} {start middle end : ℕ} (tag : ℕ)
+    → Writes old middle end content mid
+    → Writes mid start middle (canon_header tag (end - middle)) new
+    → Writes old start end (canon_element tag content) new
+unfolding canon_element
+writes_element {old} {mid} {new} {content} {start} {middle} {end} tag w v =
+    let size : end - middle ≡ length content = omega (arith, w.begins) in
+    writes_same (writes_then w v) (ap (λ n. canon_header tag n ++ content) size)
+
+-- ---- values
+
+value_is : (value : Datum)
+    → canon_value value ≡ canon_element (value_tag value) (canon_content value)
+unfolding canon_value
+value_is value = refl
+
+-- the content of an INTEGER
+pub content_number : (z : ℤ) → canon_content (integer_value z) ≡ canon_number z
+unfolding canon_content
+content_number z = refl
+
+-- the content of an OCTET STRING
+pub content_text : (text : List ℕ) → canon_content (octet_string text) ≡ text
+unfolding canon_content
+content_text text = refl
+
+-- the sizes of a header and a content are that of the value
+pub sizes_value : (header size : ℕ) (value : Datum)
+    → size ≡ length (canon_content value) → header ≡ 1 + length (canon_length size)
+    → header + size ≡ length (canon_value value)
+sizes_value header size value s h =
+    element_size (value_tag value) header size (canon_content value) s h
+    ∙ ap length (sym (value_is value))
+
+-- a content has room where its value has
+pub value_content_fits : (end : ℕ) (value : Datum)
+    → length (canon_value value) ≤ end → length (canon_content value) ≤ end
+value_content_fits end value room =
+    content_fits (value_tag value) end (canon_content value)
+    (subst (λ (octets : List ℕ). length octets ≤ end) (value_is value) room)
+
+-- and its header has room before it
+pub value_header_fits : {old mid : List ℕ} {middle end : ℕ} (tag : ℕ) (value : Datum)
+    → tag ≡ value_tag value → Writes old middle end (canon_content value) mid
+    → length (canon_value value) ≤ end → length (canon_header tag (end - middle)) ≤ middle
+value_header_fits {old} {mid} {middle} {end} tag value e w room =
+    header_fits tag w (subst (λ (octets : List ℕ). length octets ≤ end)
+    (value_is value ∙ ap (λ t. canon_element t (canon_content value)) (sym e)) room)
+
+-- a header is written before the content of its value
+pub writes_value : {old mid new : List ℕ} {start middle end : ℕ} (tag : ℕ) (value : Datum)
+    → tag ≡ value_tag value → Writes old middle end (canon_content value) mid
+    → Writes mid start middle (canon_header tag (end - middle)) new
+    → Writes old start end (canon_value value) new
+writes_value tag value e w v =
+    writes_same (writes_element tag w v)
+    (ap (λ t. canon_element t (canon_content value)) e ∙ sym (value_is value))

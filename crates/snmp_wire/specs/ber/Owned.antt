@@ -1,0 +1,38 @@
+-- Values that own their octets.
+use Rattle.snmp_wire.specs.declared.ber.owned.Value.{Value}
+use Rattle.snmp_wire.specs.declared.ber.owned.Value.TheVariants as value
+use Rattle.snmp_wire.specs.ber.Value.{Datum, integer_value, octet_string, null_value, object_id}
+use Rattle.snmp_wire.specs.ber.Value.{ip_address, counter32, gauge32, time_ticks, opaque_octets}
+use Rattle.snmp_wire.specs.ber.Value.{counter64, no_such_object, no_such_instance, end_of_mib_view}
+
+-- the value that an owned one stands for
+abbrev pub owned : Value → Datum
+owned (value.Integer n) = integer_value n
+owned (value.Octets octets) = octet_string octets
+owned value.Null = null_value
+owned (value.ObjectId oid) = object_id oid
+owned (value.IpAddress octets) = ip_address octets
+owned (value.Counter32 n) = counter32 n
+owned (value.Gauge32 n) = gauge32 n
+owned (value.TimeTicks n) = time_ticks n
+owned (value.Opaque octets) = opaque_octets octets
+owned (value.Counter64 n) = counter64 n
+owned value.NoSuchObject = no_such_object
+owned value.NoSuchInstance = no_such_instance
+owned value.EndOfMibView = end_of_mib_view
+
+-- the value is no string, so its copy takes no memory
+abbrev pub HasNoString : Datum → Type 0
+HasNoString (integer_value z) = Unit {0}
+HasNoString (octet_string text) = ⊥
+HasNoString null_value = Unit {0}
+HasNoString (object_id name) = Unit {0}
+HasNoString (ip_address address) = Unit {0}
+HasNoString (counter32 n) = Unit {0}
+HasNoString (gauge32 n) = Unit {0}
+HasNoString (time_ticks n) = Unit {0}
+HasNoString (opaque_octets text) = ⊥
+HasNoString (counter64 n) = Unit {0}
+HasNoString no_such_object = Unit {0}
+HasNoString no_such_instance = Unit {0}
+HasNoString end_of_mib_view = Unit {0}

@@ -1,0 +1,26 @@
+-- How many octets encodings take (X.690, 8.1 and 8.3).
+use Rattle.std.specs.Prelude.{◌≡◌, ℕ, pos, ◌+◌, ◌<◌, ◌≤◌, List, length}
+use Rattle.snmp_wire.specs.ber.Canon.{canon_element, canon_header, canon_length, canon_number}
+use Rattle.snmp_wire.specs.ber.Canon.{digit_count, length_size, number_size}
+
+-- the sizes of lengths, whole numbers and elements
+pub record ElementSizes : Type 0 where
+  -- the short form of a length
+  pub short_length : (n : ℕ) → n < 128 → length (canon_length n) ≡ 1
+  -- the long form: an octet, and the digits
+  pub long_length : (n : ℕ) → 128 ≤ n → length (canon_length n) ≡ 1 + length_size n
+  -- there is a digit at least
+  pub digits : (base limit more n : ℕ) → 1 ≤ digit_count base limit more n
+  -- a number from 0
+  pub number : (n : ℕ) → length (canon_number (pos n)) ≡ number_size n
+  -- a tag and a length
+  pub header : (tag size : ℕ) → length (canon_header tag size) ≡ 1 + length (canon_length size)
+  -- a tag, a length and the content
+  pub element : (tag : ℕ) (content : List ℕ)
+      → length (canon_element tag content)
+      ≡ 1 + length (canon_length (length content)) + length content
+  -- a greater number has no fewer digits
+  pub digits_rise : (base limit more m n : ℕ)
+      → m ≤ n → digit_count base limit more m ≤ digit_count base limit more n
+  -- a greater length takes no fewer octets
+  pub lengths_rise : (m n : ℕ) → m ≤ n → length (canon_length m) ≤ length (canon_length n)

@@ -1,0 +1,90 @@
+-- Laws of what writers leave, one after the other from the back to the front, for proofs here and
+-- of the crates above.
+use Rattle.std.proofs.Common.{◌≡◌, ℕ, ◌+◌, ◌-◌, ◌<◌, ◌≤◌, suc, zero, List, [], ◌∷◌, ◌++◌, length}
+use Rattle.std.proofs.Common.{take, drop, get_or, sym, ap, subst, ◌∙◌, arith, append_assoc}
+use Rattle.std.proofs.Common.{length-append}
+use Rattle.std.proofs.lemmas.List.{take-take, drop_more}
+use Rattle.std.specs.List.{flat_map}
+use Rattle.snmp_wire.specs.ber.Writing.{Writes}
+
+-- where the front stays as it was, so does each front of it
+pub kept : (k start : ℕ) (old new : List ℕ)
+    → k ≤ start → take start new ≡ take start old → take k new ≡ take k old
+kept k start old new h e =
+    sym (take-take k start new h) ∙ ap (take k) e ∙ take-take k start old h
+
+-- one text is written before another
+pub writes_then : {old : List ℕ} {start middle end : ℕ} {front back mid new : List ℕ}
+    → Writes old middle end back mid → Writes mid start middle front new
+    → Writes old start end (front ++ back) new
+writes_then {old} {start} {middle} {end} {front} {back} {mid} {new} w v = record {
+  begins = omega (arith, length-append front back, w.begins, v.begins);
+  before = v.before ∙ kept start middle old mid (omega (arith, v.begins)) w.before;
+  after =
+      v.after ∙ ap (λ rest. front ++ rest) w.after ∙ sym (append_assoc front back (drop end old));
+}
+
+-- the text that is written has other names
+pub writes_same : {old : List ℕ} {start end : ℕ} {text new other : List ℕ}
+    → Writes old start end text new → text ≡ other → Writes old start end other new
+writes_same {old} {start} {end} {text} {new} {other} w e =
+    subst (λ (t : List ℕ). Writes old start end t new) e w
+
+-- ---- pieces that are written one for each element of a list, the last one first
+
+-- the pieces from a place on are the one there, and those behind it
+pub flat_map-drop : {X : Type 0} (f : X → List ℕ) (xs : List X) (i : ℕ) (x d : X)
+    → i < length xs → x ≡ get_or xs i d
+    → flat_map f (drop i xs) ≡ f x ++ flat_map f (drop (i + 1) xs)
+flat_map-drop f xs i x d h e =
+    ap (flat_map f) (drop_more xs i d h)
+    ∙ ap (λ y. f y ++ flat_map f (drop (i + 1) xs)) (sym e)
+
+-- so are their lengths
+pub length-flat_map_drop : {X : Type 0} (f : X → List ℕ) (xs : List X) (i : ℕ) (x d : X)
+    → i < length xs → x ≡ get_or xs i d
+    → length (flat_map f (drop i xs)) ≡ length (f x) + length (flat_map f (drop (i + 1) xs))
+length-flat_map_drop f xs i x d h e =
+    ap length (flat_map-drop f xs i x d h e) ∙ length-append (f x) (flat_map f (drop (i + 1) xs))
+
+-- the pieces from a place on are no longer than all of them
+pub flat_map_rest : {X : Type 0} (f : X → List ℕ) (xs : List X) (i : ℕ)
+    → length (flat_map f (drop i xs)) ≤ length (flat_map f xs)
+flat_map_rest f xs zero = omega arith
+flat_map_rest f [] (suc i) = omega arith
+flat_map_rest f (x ∷ xs) (suc i) =
+    omega (arith, flat_map_rest f xs i, length-append (f x) (flat_map f xs))
+
+-- one piece more is written before those that are
+pub writes_piece : {X : Type 0} {old mid new : List ℕ} {start middle end : ℕ}
+    (f : X → List ℕ) (xs : List X) (i : ℕ) (x d : X)
+    → 0 < i → i ≤ length xs → x ≡ get_or xs (i - 1) d
+    → Writes old middle end (flat_map f (drop i xs)) mid → Writes mid start middle (f x) new
+    → Writes old start end (flat_map f (drop (i - 1) xs)) new
+writes_piece f xs i x d some h e w v =
+    let next : i - 1 + 1 ≡ i = omega arith in
+    writes_same (writes_then w v) (sym (flat_map-drop f xs (i - 1) x d (omega arith) e
+    ∙ ap (λ k. f x ++ flat_map f (drop k xs)) next))
+
+-- it has room where all pieces have
+pub piece_fits : {X : Type 0} {old mid : List ℕ} {middle end : ℕ}
+    (f : X → List ℕ) (xs : List X) (i : ℕ) (x d : X)
+    → 0 < i → i ≤ length xs → x ≡ get_or xs (i - 1) d
+    → Writes old middle end (flat_map f (drop i xs)) mid → length (flat_map f xs) ≤ end
+    → length (f x) ≤ middle
+piece_fits f xs i x d some h e w room =
+    let next : i - 1 + 1 ≡ i = omega arith in
+    let step : length (flat_map f (drop (i - 1) xs))
+    ≡ length (f x) + length (flat_map f (drop i xs)) =
+    length-flat_map_drop f xs (i - 1) x d (omega arith) e
+    ∙ ap (λ k. length (f x) + length (flat_map f (drop k xs))) next in
+    omega (arith, step, flat_map_rest f xs (i - 1), w.begins)
+
+-- all pieces are written where none is left
+pub writes_pieces : {X : Type 0} {old new : List ℕ} {start end : ℕ}
+    (f : X → List ℕ) (xs : List X) (i : ℕ) → i ≤ 0
+    → Writes old start end (flat_map f (drop i xs)) new
+    → Writes old start end (flat_map f xs) new
+writes_pieces f xs i h w =
+    let none : i ≡ 0 = omega arith in
+    writes_same w (ap (λ k. flat_map f (drop k xs)) none)

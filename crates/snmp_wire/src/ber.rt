@@ -1,0 +1,23 @@
+//! The Basic Encoding Rules of values (X.690; RFC 3417, section 8): whole numbers, lengths, object
+//! identifiers, and the value of a variable binding.
+//!
+//! Built on the identifiers. Bindings and messages are read and written from these pieces.
+
+mod error;
+mod identifier;
+mod laws;
+mod length;
+mod number;
+mod owned;
+pub mod tag;
+mod value;
+mod writing;
+
+pub use error::BerError;
+pub use identifier::{check_identifier, identifier_size, push_identifier, put_identifier};
+pub use laws::{content_reading, element_sizes, shortest_encodings};
+pub use length::{content_at, element_at, header_size, inner_at, put_header, put_short_header};
+pub use number::{integer_at, integer_size, put_integer};
+pub use owned::{OctetString, Value};
+pub use value::{ValueRef, check_value, content_size, put_value, read_value};
+pub use writing::put_text;
