@@ -1,7 +1,7 @@
 //! Lines, as a function that a C program can call and that `bench/lines.sh` measures.
 
-use show_tests::names::Sample;
-use show_tests::Known;
+use smi_show_tests::names::Sample;
+use smi_show_tests::Known;
 use smi_show::{Letters, NameForm, line};
 use snmp_wire::ber::ValueRef;
 use snmp_oid::Oid;

@@ -1,5 +1,5 @@
-use Rattle.wire_tests.proofs.Few.{none_fits, one_fits}
-use Rattle.wire_tests.proofs.encoding.octets_of.Goals as goal
+use Rattle.snmp_wire_tests.proofs.Few.{none_fits, one_fits}
+use Rattle.snmp_wire_tests.proofs.encoding.octets_of.Goals as goal
 
 pub returns-in-empty : goal.returns-in-empty
 returns-in-empty c = none_fits c.args.bindings.now c.in-empty.len_below

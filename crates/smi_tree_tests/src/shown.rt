@@ -1,7 +1,7 @@
 //! Names, lines and details by the tree of the tiny modules.
 
 use crate::reading::{TINY, oid};
-use show_tests::names::random_oid;
+use smi_show_tests::names::random_oid;
 use smi_show::{Letters, detail, line, name_text, resolve};
 use smi_text::parse_modules;
 use smi_tree::Tree;
