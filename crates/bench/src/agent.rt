@@ -1,7 +1,6 @@
 //! The agent as a function that a C program can call: what `bench/agent.sh` counts.
 
-use snmp_agent::{Config, Outcome, answer};
-use snmp_agent::table::Table;
+use snmp_agent::{Config, Outcome, Table, answer};
 use snmp_wire::decode;
 use std::alloc::Global;
 

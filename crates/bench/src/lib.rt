@@ -1,10 +1,10 @@
 //! bench.
 #![tactic(auto)]
 
+pub mod agent;
 pub mod codec;
 pub mod modules;
-pub mod agent;
-pub mod walk;
-pub mod value;
-pub mod tree;
 pub mod show;
+pub mod tree;
+pub mod value;
+pub mod walk;

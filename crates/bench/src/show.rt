@@ -1,10 +1,10 @@
 //! Lines, as a function that a C program can call and that `bench/lines.sh` measures.
 
-use smi_show_tests::names::Sample;
-use smi_show_tests::Known;
 use smi_show::{Letters, NameForm, line};
-use snmp_wire::ber::ValueRef;
+use smi_show_tests::Known;
+use smi_show_tests::names::Sample;
 use snmp_oid::Oid;
+use snmp_wire::ValueRef;
 use std::alloc::Global;
 
 /// Shows the line of an INTEGER at an identifier of this many numbers, each of them `number`,

@@ -3,8 +3,8 @@
 use smi_show::{Letters, line};
 use smi_text::parse_modules;
 use smi_tree::Tree;
-use snmp_wire::ber::ValueRef;
 use snmp_oid::parse_numeric;
+use snmp_wire::ValueRef;
 use std::alloc::Global;
 
 /// The tree of the modules of a text, None where the text is refused or memory runs out.

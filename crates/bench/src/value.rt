@@ -1,11 +1,10 @@
 //! The texts of values, as a function that a C program can call and that `bench/values.sh`
 //! measures.
 
-use smi_value::letters::Letters;
-use smi_value::{ValueBase, ValueSyntax, append_value};
-use snmp_wire::ber::ValueRef;
+use smi_value::{Letters, ValueBase, ValueSyntax, append_value};
+use snmp_io::Draft;
+use snmp_wire::ValueRef;
 use std::alloc::{AllocError, Global};
-use snmp_io::draft::Draft;
 
 /// Shows a value `times` times, and returns how many octets its text has.
 ///

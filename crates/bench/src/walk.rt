@@ -1,7 +1,6 @@
 //! A walk as a function that a C program can call: what `bench/walk.sh` counts.
 
-use snmp_agent::Config;
-use snmp_agent::table::Table;
+use snmp_agent::{Config, Table};
 use snmp_walk::{MemoryLink, Method, Mode, Sink, SinkFault, WalkCore, run_walk};
 use snmp_wire::{Binding, Oid};
 use std::alloc::Global;

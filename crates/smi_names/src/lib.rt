@@ -1,6 +1,13 @@
-//! smi_names.
+//! What names mean in loaded modules (RFC 2578, section 3), and the nodes that modules define, each
+//! with its identifier, with the warnings for what refers to nothing.
+//!
+//! Stands on module trees and on identifiers. The tree of names keeps the nodes, and finds them.
 #![tactic(auto)]
 
-pub mod links;
-pub mod meaning;
-pub mod nodes;
+mod links;
+mod meaning;
+mod nodes;
+
+pub use links::{Basis, Resolution, ends, ordered, resolutions};
+pub use meaning::{Decider, Entries, Entry, Names, one_identifier};
+pub use nodes::{Gathered, Source, Warning, gather_nodes, one_loading};

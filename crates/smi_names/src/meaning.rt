@@ -12,6 +12,6 @@ mod scope;
 
 pub use entries::Entries;
 pub use entry::{Decider, Entry};
-pub use laws::{one_meaning, one_resolution};
+pub use laws::{one_identifier, one_resolution};
 pub use names::Names;
 pub use scope::import_clauses;

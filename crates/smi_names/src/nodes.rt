@@ -9,7 +9,7 @@ mod laws;
 mod source;
 mod warning;
 
-pub use gather::{Gathered, nodes};
+pub use gather::{Gathered, gather_nodes};
 pub use laws::one_loading;
 pub use source::Source;
 pub use warning::Warning;

@@ -6,13 +6,12 @@ ghost use Rattle.smi_value.specs.Value.{ShowsValue};
 ghost use Rattle.smi_show.specs.Line.{IsLine, front_text, names_by, separator};
 
 use crate::ShowTree;
-use smi_value::letters::{Letters, TypeForm};
 use crate::name::name_text;
-use smi_value::{append_identifier_word, append_value};
-use snmp_wire::ber::ValueRef;
+use smi_value::{Letters, TypeForm, append_identifier_word, append_value};
+use snmp_io::Draft;
 use snmp_oid::Oid;
+use snmp_wire::ValueRef;
 use std::alloc::AllocError;
-use snmp_io::draft::Draft;
 
 /// Appends the text of the value of an instance: its type, a colon, a blank and the value, as the
 /// letters and the syntax of the object say. If memory runs out, `out` is unchanged.

@@ -9,5 +9,5 @@ mod part;
 mod shown;
 
 pub use index::{one_list, reads};
-pub use part::{Extent, IndexPart, one_reading, read_part};
+pub use part::{Extent, IndexPart, one_part_reading, read_part};
 pub use shown::{index_text, numbers_text, pieces_stand_for_numbers};

@@ -4,16 +4,17 @@
 //! the `Vec<u8>` unchanged if memory runs out.
 #![tactic(auto)]
 
-pub mod index;
-pub mod name;
-pub mod details;
 mod binding;
+mod details;
+mod index;
+mod name;
 mod text;
 mod tree;
 
-pub use binding::{line, value_text};
 pub use crate::details::DetailTree;
-pub use smi_value::letters::{Letters, NameForm};
+pub use crate::index::{Extent, IndexPart};
 pub use crate::name::{NameError, NameTree, Node, resolve};
+pub use binding::{line, value_text};
+pub use smi_value::{Letters, NameForm};
 pub use text::{detail, name_text};
 pub use tree::ShowTree;

@@ -18,5 +18,5 @@ pub use error::NameError;
 pub use laws::one_meaning;
 pub use meaning::resolve;
 pub use name::name_text;
-pub use smi_value::letters::NameForm;
+pub use smi_value::NameForm;
 pub use tree::{NameTree, Node};

@@ -4,11 +4,11 @@ ghost use Rattle.smi_show.specs.details.Detail.{detail_text};
 ghost use Rattle.smi_show.specs.Line.{names_by};
 
 use crate::details::{DetailTree, detail_text};
-use smi_value::letters::Letters;
 use crate::name::NameTree;
+use smi_value::Letters;
+use snmp_io::Draft;
 use snmp_oid::Oid;
 use std::alloc::AllocError;
-use snmp_io::draft::Draft;
 
 /// Appends the name of an identifier, as the letters say. If memory runs out, `out` is unchanged.
 pub fn name_text<T: NameTree>(

@@ -2,10 +2,8 @@
 
 use crate::Known;
 use crate::names::Sample;
-use smi_show::index::{Extent, IndexPart};
-use smi_text::trees::{Def, Module};
-use smi_show::{Letters, detail};
-use smi_text::parse_modules;
+use smi_show::{Extent, IndexPart, Letters, detail};
+use smi_text::{Def, Module, parse_modules};
 use snmp_oid::Oid;
 use std::alloc::Global;
 use std::test::Fail;

@@ -4,9 +4,8 @@ ghost use Rattle.std.specs.Option.{option_copied};
 ghost use Rattle.smi_show_tests.specs.names.Sample.{sample};
 
 use crate::names::Sample;
-use smi_text::trees::{Def, NamedNumber};
-use smi_show::name::{NameTree, Node};
-use smi_show::{DetailTree, ShowTree};
+use smi_show::{DetailTree, NameTree, Node, ShowTree};
+use smi_text::{Def, NamedNumber};
 use smi_value::{ValueBase, ValueSyntax};
 use snmp_oid::Oid;
 

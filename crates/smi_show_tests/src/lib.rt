@@ -1,8 +1,8 @@
 //! Tests of lines, values and details over a small tree.
 #![tactic(auto)]
 
-pub mod names;
 mod known;
+pub mod names;
 
 pub use known::Known;
 

@@ -2,12 +2,11 @@
 
 use crate::Known;
 use crate::names::Sample;
-use smi_show::index::{Extent, IndexPart};
-use smi_text::trees::{Name, NamedNumber, Text};
-use smi_show::{Letters, line, name_text, value_text};
+use smi_show::{Extent, IndexPart, Letters, line, name_text, value_text};
+use smi_text::{Name, NamedNumber, Text};
 use smi_value::ValueBase;
-use snmp_wire::ber::ValueRef;
 use snmp_oid::Oid;
+use snmp_wire::ValueRef;
 use std::alloc::Global;
 use std::process::Abort;
 use std::test::Fail;

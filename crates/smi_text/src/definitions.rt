@@ -8,10 +8,10 @@ ghost use Rattle.smi_text.specs.Grammar as grammar;
 ghost use Rattle.smi_text.specs.Returned.{ReturnsReading};
 
 use crate::clauses::{BeforeAssign, BeforeEnd, OneRevision};
+use crate::lexer::TokenKind;
 use crate::parser::{AfterComma, Parser};
 use crate::stop::Stop;
 use crate::syntax::OneField;
-use crate::lexer::TokenKind;
 use crate::trees::{
     Def, DefKind, Field, Group, Items, ModuleIdentity, Name, NotificationType, ObjectIdentity,
     ObjectType, Part, RawDefinition, Syntax, Text, TextualConvention, TokenText, TypeAssignment,

@@ -1,7 +1,7 @@
 //! Why a module text is refused.
 
-use crate::stop::Stop;
 use crate::lexer::LexError;
+use crate::stop::Stop;
 use thiserror::Error;
 
 /// Why a text is refused as a whole. Lines count from 1.

@@ -20,9 +20,9 @@ ghost use Rattle.smi_text.specs.declared.trees.tree.Module.{Module as Tree};
 ghost use Rattle.smi_text.specs.declared.trees.tree.TokenText.{TokenText};
 
 use crate::error::ParseError;
+use crate::lexer::{LexError, Lexer};
 use crate::names;
 use crate::parser::{Parser, keep};
-use crate::lexer::{LexError, Lexer};
 use crate::trees::{Def, Items, Module};
 use std::alloc::Global;
 use std::collections::BTreeSet;
@@ -165,13 +165,13 @@ pub fn parse_modules(alloc: Global, text: &[u8]) -> Result<Vec<Module>, ParseErr
 }
 
 /// Tokens are the spelling of at most one list of modules.
-pub fn one_reading()
+pub fn one_module_list()
     ensures { (ms ns : List Tree) (tokens : List Lexeme) → Stands (spelling ms) tokens []
         → Stands (spelling ns) tokens [] → ms ≡ ns }
 {}
 
 /// Kinds and texts of tokens are the spelling of at most one list of modules, apart from its lines.
-pub fn one_reading_without_lines()
+pub fn one_module_list_without_lines()
     ensures { (ms ns : List Tree) (tokens : List Lexeme)
         → Stands (map plain (spelling ms)) tokens [] → Stands (map plain (spelling ns)) tokens [] →
         map unlined ms ≡ map unlined ns }

@@ -8,5 +8,5 @@ mod scan;
 mod token;
 
 pub use error::LexError;
-pub use lexer::{Lexer, one_reading};
+pub use lexer::{Lexer, one_token_list};
 pub use token::{Span, Token, TokenKind};

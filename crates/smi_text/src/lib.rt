@@ -1,24 +1,24 @@
 //! The parser of SMIv2 module texts into module trees.
 #![tactic(auto)]
 
-pub mod lexer;
-pub mod trees;
 mod clauses;
 mod definitions;
 mod error;
 mod file;
+mod lexer;
 mod modules;
 mod names;
 mod parser;
 mod stop;
 mod syntax;
+mod trees;
 
-pub use error::ParseError;
-pub use file::{balanced_braces, one_reading, one_reading_without_lines, parse_modules};
-pub use crate::lexer::{LexError, Lexer, Span, Token, TokenKind};
+pub use crate::lexer::{LexError, Lexer, Span, Token, TokenKind, one_token_list};
 pub use crate::trees::{
     Base, Def, DefKind, Field, Group, Import, Index, IndexParts, Items, Module, ModuleIdentity,
     Name, NamedNumber, NotificationType, ObjectIdentity, ObjectType, Part, Range, RawDefinition,
     Refinement, Revision, SimpleType, Status, Syntax, Text, TextualConvention, TokenText,
-    TypeAssignment,
+    TypeAssignment, arc, bound, is_arc, is_bound, is_macro, is_number, is_reserved, number,
 };
+pub use error::ParseError;
+pub use file::{balanced_braces, one_module_list, one_module_list_without_lines, parse_modules};

@@ -9,10 +9,10 @@ ghost use Rattle.smi_text.specs.declared.lexer.token.TokenKind.TheVariants as ki
 ghost use Rattle.smi_text.specs.trees.Number as number;
 ghost use Rattle.smi_text.specs.Returned.{ReturnsReading};
 
+use crate::lexer::TokenKind;
 use crate::parser::{AfterComma, Parser, Production};
 use crate::stop::Stop;
 use crate::syntax::HeadingPart;
-use crate::lexer::TokenKind;
 use crate::trees::{Import, Items, Name, Part, TokenText, is_macro, is_reserved};
 
 /// A module up to its definitions.

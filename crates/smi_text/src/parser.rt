@@ -13,8 +13,8 @@ ghost use Rattle.smi_text.specs.Returned.{ReturnsReading, is_memory};
 ghost use Rattle.smi_text.specs.Grammar as grammar;
 ghost use Rattle.smi_text.specs.declared.lexer.token.TokenKind.TheVariants as kinds;
 
-use crate::stop::Stop;
 use crate::lexer::{LexError, Lexer, Token, TokenKind};
+use crate::stop::Stop;
 use crate::trees::{Items, Name, Text, TokenText, is_reserved};
 use std::alloc::Global;
 use std::collections::BTreeSet;

@@ -8,9 +8,9 @@ ghost use Rattle.smi_text.specs.Grammar as grammar;
 ghost use Rattle.smi_text.specs.trees.Number.{is_number};
 ghost use Rattle.smi_text.specs.Returned.{ReturnsReading};
 
+use crate::lexer::TokenKind;
 use crate::parser::{AfterBar, AfterComma, Parser, Production};
 use crate::stop::Stop;
-use crate::lexer::TokenKind;
 use crate::trees::{
     Base, Field, Items, Name, NamedNumber, Part, Range, Refinement, SimpleType, Syntax, Text,
     TokenText, is_arc, is_bound, is_number,

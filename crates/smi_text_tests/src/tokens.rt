@@ -1,10 +1,10 @@
 //! Texts with their tokens and faults, written by hand from the standard.
 
-use smi_text::lexer::TokenKind::{
+use smi_text::TokenKind::{
     Assign, Binary, CloseBrace, CloseParen, Colon, Dot, Hex, Lower, Number, OpenBrace, OpenParen,
     Range, Text, Upper,
 };
-use smi_text::lexer::{LexError, Lexer, Token, TokenKind};
+use smi_text::{LexError, Lexer, Token, TokenKind};
 use std::process::Abort;
 
 /// A token's kind, text and line.

@@ -1,7 +1,6 @@
 //! What a module defines and imports, and the values of its numbers and strings.
 
-use smi_text::trees::{arc, bound, number};
-use smi_text::{Def, Module, Part, TokenKind, parse_modules};
+use smi_text::{Def, Module, Part, TokenKind, arc, bound, number, parse_modules};
 use std::process::Abort;
 use std::test::Fail;
 

@@ -2,8 +2,8 @@
 ghost use Rattle.std.specs.Prelude.{◌≡◌};
 
 use crate::tree::Tree;
-use smi_show::details::DetailTree;
-use smi_text::trees::Def;
+use smi_show::DetailTree;
+use smi_text::Def;
 use snmp_oid::Oid;
 
 impl DetailTree for Tree {

@@ -6,8 +6,8 @@ ghost use Rattle.smi_tree.specs.Bare.{bare};
 ghost use Rattle.smi_tree.specs.Tree.{Contents, IsTree};
 
 use crate::columns::one_list_of_indexes;
-use smi_names::nodes::one_loading;
 use crate::types::one_syntax;
+use smi_names::one_loading;
 
 /// Modules have one tree at most, with one list of warnings.
 ///

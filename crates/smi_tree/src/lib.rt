@@ -4,9 +4,8 @@
 //! values and details are shown by it, and words of the command line are read by it.
 #![tactic(auto)]
 
-pub mod branches;
-pub mod types;
-pub mod columns;
+mod branches;
+mod columns;
 mod detail;
 mod laws;
 mod naming;
@@ -16,11 +15,13 @@ mod roots;
 mod show;
 mod shown;
 mod tree;
+mod types;
 
+pub use crate::branches::{Children, Deepest, Identifiers};
+pub use crate::columns::Indexes;
+pub use crate::types::{TypeBase, TypeSyntax, Types};
 pub use laws::{bare_tree, one_tree};
 pub use node::Node;
 pub use roots::Roots;
-pub use crate::branches::{Children, Deepest};
-pub use smi_names::nodes::Warning;
-pub use crate::types::TypeSyntax;
+pub use smi_names::Warning;
 pub use tree::{NodeId, Tree};

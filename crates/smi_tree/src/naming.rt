@@ -7,11 +7,11 @@ ghost use Rattle.smi_tree.specs.Nodes.{place_anywhere};
 ghost use Rattle.smi_tree.specs.Naming.{home_name, standing_of_longest};
 ghost use Rattle.smi_tree.specs.Standing.{longest_of};
 
-use crate::tree::Tree;
 use crate::branches::Deepest;
-use smi_names::meaning::one_meaning;
-use smi_text::trees::Module;
-use smi_show::name::{NameTree, Node};
+use crate::tree::Tree;
+use smi_names::one_identifier;
+use smi_show::{NameTree, Node};
+use smi_text::Module;
 use snmp_oid::Oid;
 
 impl Tree {
@@ -93,6 +93,6 @@ impl NameTree for Tree {
 
     fn sound(&self) {
         self.is_tree();
-        one_meaning();
+        one_identifier();
     }
 }

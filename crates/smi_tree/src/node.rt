@@ -5,8 +5,8 @@ ghost use Rattle.std.specs.Option.{option_copied};
 ghost use Rattle.smi_names.specs.nodes.Gathered.{root_label};
 ghost use Rattle.smi_tree.specs.Places.{home_from, label_from, definition_from};
 
-use smi_text::trees::{Def, Module};
-use smi_names::nodes::Source;
+use smi_names::Source;
+use smi_text::{Def, Module};
 use snmp_oid::Oid;
 
 /// A node of a tree: a definition with an identifier, or a root.

@@ -12,8 +12,8 @@ ghost use Rattle.smi_tree.specs.Places as places;
 ghost use Rattle.smi_tree.specs.Places.{kept_place, AreEmpty, Puts, AreScopes};
 
 use crate::node::{home, label};
-use smi_text::trees::Module;
-use smi_names::nodes::Source;
+use smi_names::Source;
+use smi_text::Module;
 use std::alloc::{AllocError, Global};
 use std::collections::BTreeMap;
 

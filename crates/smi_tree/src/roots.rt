@@ -7,10 +7,8 @@ ghost use Rattle.smi_tree.specs.Naming.{oid_of};
 
 use crate::naming::root_place;
 use crate::node::root_label;
-use smi_show::details::DetailTree;
-use smi_text::trees::Def;
-use smi_show::name::{NameTree, Node};
-use smi_show::ShowTree;
+use smi_show::{DetailTree, NameTree, Node, ShowTree};
+use smi_text::Def;
 use smi_value::ValueSyntax;
 use snmp_oid::Oid;
 use std::marker::Model;

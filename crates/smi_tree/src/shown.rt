@@ -11,9 +11,9 @@ ghost use Rattle.smi_tree.specs.Shown.{AreSyntaxesOf, syntax_from, syntaxes_from
 ghost use Rattle.smi_tree.specs.Shown.{value_base, between_quotes, units_of, shown_syntax};
 
 use crate::node::definition;
-use smi_text::trees::{DefKind, Module, Text};
-use smi_names::nodes::Source;
 use crate::types::{TypeBase, TypeSyntax, Types, kept_is_right};
+use smi_names::Source;
+use smi_text::{DefKind, Module, Text};
 use smi_value::{ValueBase, ValueSyntax};
 
 /// The type that a value of a base type has on the wire, where its syntax says more than that.

@@ -15,16 +15,15 @@ ghost use Rattle.smi_tree.specs.Naming.{oid_of};
 ghost use Rattle.smi_tree.specs.Tree.{IsTree, seen_node};
 ghost use Rattle.smi_names.specs.declared.nodes.warning.Warning.{Warning};
 
+use crate::branches::{Children, Deepest, Identifiers};
+use crate::columns::Indexes;
 use crate::node::{Node, at, definition, home, label};
 use crate::places::{Places, find, homes, labels, scopes};
 use crate::shown::{kept_syntaxes, syntax, units, value_syntax};
-use crate::branches::{Children, Deepest, Identifiers};
-use crate::columns::Indexes;
-use smi_show::index::IndexPart;
-use smi_names::meaning::Names;
-use smi_text::trees::{Def, Module, Text};
-use smi_names::nodes::{Source, Warning, nodes};
 use crate::types::{TypeSyntax, Types};
+use smi_names::{Names, Source, Warning, gather_nodes};
+use smi_show::IndexPart;
+use smi_text::{Def, Module, Text};
 use smi_value::ValueSyntax;
 use snmp_oid::Oid;
 use std::alloc::{AllocError, Global};
@@ -85,7 +84,7 @@ fn resolve(alloc: Global, modules: &[Module]) -> Result<Resolved, AllocError>
     ensures { IfOk result (λ resolved. IsResolved modules.now resolved) }
 {
     let names = Names::new(alloc, modules)?;
-    let gathered = nodes(alloc, &names, modules)?;
+    let gathered = gather_nodes(alloc, &names, modules)?;
     let sources = gathered.sources;
     let identifiers = Identifiers::new(alloc, gathered.oids)?;
     let types = Types::new(alloc, &names, modules)?;

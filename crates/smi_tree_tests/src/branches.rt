@@ -1,7 +1,7 @@
 //! Identifiers found number by number, where some stand at several places.
 
 use crate::reading::oid;
-use smi_tree::branches::Identifiers;
+use smi_tree::Identifiers;
 use snmp_oid::Oid;
 use std::alloc::Global;
 use std::process::Abort;

@@ -1,7 +1,7 @@
 //! Chains of places: long ones in both directions, rings, and what leads into a ring or nowhere.
 
 use crate::reading::comes_to;
-use smi_names::links::{Basis, Resolution, ordered, resolutions};
+use smi_names::{Basis, Resolution, ordered, resolutions};
 use std::alloc::Global;
 use std::test::Fail;
 

@@ -3,14 +3,10 @@
 ghost use Rattle.std.specs.Prelude.{◌≡◌};
 
 use crate::reading::TINY;
-use smi_tree::branches::Identifiers;
-use smi_tree::columns::Indexes;
-use smi_show::index::{Extent, IndexPart};
-use smi_names::meaning::Names;
-use smi_text::trees::Module;
-use smi_names::nodes::{Gathered, Source, nodes};
-use smi_text::parse_modules;
-use smi_tree::types::Types;
+use smi_names::{Gathered, Names, Source, gather_nodes};
+use smi_show::{Extent, IndexPart};
+use smi_text::{Module, parse_modules};
+use smi_tree::{Identifiers, Indexes, Types};
 use std::alloc::Global;
 use std::test::Fail;
 
@@ -84,7 +80,7 @@ fn wrong_row_by<'a>(
 ) -> Result<Option<usize>, Fail>
     requires { names.now ≡ modules.now }
 {
-    let Gathered { sources, oids, .. } = nodes(alloc, names, modules)?;
+    let Gathered { sources, oids, .. } = gather_nodes(alloc, names, modules)?;
     wrong_row_among(
         alloc,
         names,

@@ -1,9 +1,8 @@
 //! What names mean in modules that import from one another.
 
 use crate::reading::{comes_to, push_child};
-use smi_names::meaning::{Decider, Names};
-use smi_text::trees::Module;
-use smi_text::parse_modules;
+use smi_names::{Decider, Names};
+use smi_text::{Module, parse_modules};
 use std::alloc::Global;
 use std::process::Abort;
 use std::test::Fail;

@@ -1,10 +1,8 @@
 //! The nodes of definitions, in order of loading.
 
 use crate::reading::oid;
-use smi_names::meaning::Names;
-use smi_text::trees::Module;
-use smi_names::nodes::{Gathered, Source, nodes};
-use smi_text::parse_modules;
+use smi_names::{Gathered, Names, Source, gather_nodes};
+use smi_text::{Module, parse_modules};
 use snmp_oid::Oid;
 use std::alloc::Global;
 use std::process::Abort;
@@ -43,7 +41,7 @@ fn nodes_come_in_order_of_loading(rt: HostRuntime) -> Result<(), Fail> {
 
 fn assert_nodes(rt: &impl Abort, alloc: Global, modules: &[Module]) -> Result<(), Fail> {
     let names = Names::new(alloc, modules)?;
-    let gathered = nodes(alloc, &names, modules)?;
+    let gathered = gather_nodes(alloc, &names, modules)?;
     assert_gathered(rt, &gathered)
 }
 

@@ -1,7 +1,7 @@
 //! Helpers of the tests: two modules, identifiers from texts, definitions in a row, and what names
 //! resolve to.
 
-use smi_names::links::Resolution;
+use smi_names::Resolution;
 use snmp_oid::{Oid, parse_numeric};
 use std::test::Fail;
 

@@ -1,12 +1,12 @@
 //! Names, lines and details by the tree of the tiny modules.
 
 use crate::reading::{TINY, oid};
-use smi_show_tests::names::random_oid;
 use smi_show::{Letters, detail, line, name_text, resolve};
+use smi_show_tests::names::random_oid;
 use smi_text::parse_modules;
 use smi_tree::Tree;
-use snmp_wire::ber::ValueRef;
 use snmp_oid::Oid;
+use snmp_wire::ValueRef;
 use std::alloc::Global;
 use std::process::Abort;
 use std::test::Fail;

@@ -3,10 +3,9 @@
 
 ghost use Rattle.smi_tree.specs.types.Kept.{AreTypesOf};
 
-use smi_names::meaning::Names;
-use smi_text::trees::{Module, NamedNumber, Range};
-use smi_text::parse_modules;
-use smi_tree::types::{TypeBase, TypeSyntax, Types};
+use smi_names::Names;
+use smi_text::{Module, NamedNumber, Range, parse_modules};
+use smi_tree::{TypeBase, TypeSyntax, Types};
 use std::alloc::Global;
 use std::process::Abort;
 use std::test::Fail;

@@ -12,11 +12,11 @@ ghost use Rattle.smi_value.specs.Pieces.{clock_text, ticks_text, named_text, bit
 ghost use Rattle.smi_value.specs.Pieces.{bits_text, bit_text};
 ghost use Rattle.smi_value.specs.Syntax.{name_of_number};
 
+use crate::letters::{Letters, StringForm, TypeForm};
 use crate::syntax::name_of;
 use itoa::Buffer;
-use crate::letters::{Letters, StringForm, TypeForm};
-use smi_text::trees::NamedNumber;
-use snmp_io::draft::Draft;
+use smi_text::NamedNumber;
+use snmp_io::Draft;
 
 /// Appends the word of a type, with its colon and blank, unless `q` or `Q` is given.
 pub(crate) fn append_word(draft: &mut Draft, letters: &Letters, word: &[u8])

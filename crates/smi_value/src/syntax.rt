@@ -5,7 +5,7 @@ ghost use Rattle.smi_value.specs.Syntax.{ObjectSyntax, syntax_at, name_of_number
 ghost use Rattle.smi_value.specs.Syntax.{is_of_bits};
 
 use crate::base::ValueBase;
-use smi_text::trees::{NamedNumber, number};
+use smi_text::{NamedNumber, number};
 use std::marker::Model;
 
 /// The syntax of an object, as far as its values are shown by it. It borrows its texts from the

@@ -10,15 +10,15 @@ ghost use Rattle.smi_value.specs.Value.{IsOctetsText, ShowsValue, IsNoIdentifier
 ghost use Rattle.smi_value.specs.declared.base.ValueBase.TheVariants as base;
 
 use crate::base::ValueBase;
+use crate::hint::{Hint, HintValue};
+use crate::letters::Letters;
 use crate::pieces::{
     append_address, append_bits, append_hexadecimal, append_named, append_string, append_ticks,
     append_units, append_word,
 };
 use crate::syntax::{ValueSyntax, name_of};
-use crate::hint::{Hint, HintValue};
-use crate::letters::Letters;
-use snmp_wire::ber::ValueRef;
-use snmp_io::draft::Draft;
+use snmp_io::Draft;
+use snmp_wire::ValueRef;
 
 /// Appends the text of a value, or of an exception in its place: its type, a colon, a blank and the
 /// value, as the letters say.

@@ -1,5 +1,5 @@
 //! Display hints, with the examples of RFC 2579, section 3.1.
-use smi_value::hint::{Hint, HintValue, write_hint};
+use smi_value::{Hint, HintValue, write_hint};
 use std::alloc::Global;
 use std::process::Abort;
 

@@ -1,5 +1,5 @@
 //! Letters of `-O`.
-use smi_value::letters::{Letters, NameForm, StringForm, TypeForm};
+use smi_value::{Letters, NameForm, StringForm, TypeForm};
 use std::process::Abort;
 
 /// Asserts that the text has these letters.

@@ -4,13 +4,12 @@ ghost use Rattle.smi_text.specs.trees.Word.{is_word};
 ghost use Rattle.snmp_wire.specs.ber.Value.{datum};
 ghost use Rattle.smi_value.specs.Value.{IsNoIdentifier};
 
-use smi_value::letters::Letters;
-use smi_text::trees::{Name, NamedNumber, Text};
-use smi_value::{ValueBase, ValueSyntax, append_value};
-use snmp_wire::ber::ValueRef;
+use smi_text::{Name, NamedNumber, Text};
+use smi_value::{Letters, ValueBase, ValueSyntax, append_value};
+use snmp_io::Draft;
+use snmp_wire::ValueRef;
 use std::alloc::{AllocError, Global};
 use std::process::Abort;
-use snmp_io::draft::Draft;
 
 /// A value that is no identifier.
 #[derive(Clone, Copy)]

@@ -11,11 +11,10 @@ ghost use Rattle.snmp_agent.specs.Answering.{IsShortValue, HoldsBindings, IsRoom
 ghost use Rattle.snmp_agent.specs.Answering.{whole_size};
 
 use crate::config::Config;
-use snmp_wire::ber::element_sizes;
 use crate::table::{Place, Table, one_answer};
 use snmp_wire::{
-    Binding, Bindings, Kind, MAX_DATAGRAM, Oid, Parts, ValueRef, encode_binding, encode_head,
-    head_size, message_sizes,
+    Binding, Bindings, Kind, MAX_DATAGRAM, Oid, Parts, ValueRef, element_sizes, encode_binding,
+    encode_head, head_size, message_sizes,
 };
 
 /// Writes the bindings of the reply to a request to the front of `out`, and returns how many octets

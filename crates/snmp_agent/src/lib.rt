@@ -5,7 +5,6 @@
 //! memory, passes the datagrams to it.
 #![tactic(auto)]
 
-pub mod table;
 mod agent;
 mod bulk;
 mod config;
@@ -13,9 +12,11 @@ mod draft;
 mod endpoint;
 mod laws;
 mod server;
+mod table;
 
 pub use agent::answer;
 pub use config::{Config, Outcome, Why};
 pub use endpoint::{Endpoint, EndpointFault};
 pub use laws::one_reply;
 pub use server::{Served, serve, serve_at};
+pub use table::{Place, PutError, Table, TableError, no_fault, one_answer, one_table};

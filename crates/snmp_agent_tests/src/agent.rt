@@ -1,8 +1,7 @@
 //! Datagrams and their replies, worked out by hand.
 
 use crate::table::repeated;
-use snmp_agent::{Config, Outcome, Why, answer};
-use snmp_agent::table::Table;
+use snmp_agent::{Config, Outcome, Table, Why, answer};
 use snmp_wire::decode;
 use std::process::Abort;
 

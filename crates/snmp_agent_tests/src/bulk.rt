@@ -1,8 +1,7 @@
 //! GetBulks and their replies, worked out by hand.
 
 use crate::agent::{assert_dropped, outcome};
-use snmp_agent::{Outcome, Why};
-use snmp_agent::table::Table;
+use snmp_agent::{Outcome, Table, Why};
 use snmp_wire::{Binding, Bindings, ValueRef, decode};
 use std::process::Abort;
 

@@ -1,7 +1,7 @@
 //! Rows that are put into a table and removed again.
 
 use crate::table::gives;
-use snmp_agent::table::{Place, PutError, Table};
+use snmp_agent::{Place, PutError, Table};
 use snmp_wire::{Binding, Oid, ValueRef, parse_numeric};
 use std::process::Abort;
 

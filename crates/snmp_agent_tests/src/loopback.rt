@@ -2,8 +2,7 @@
 ghost use Rattle.std.specs.Prelude.{◌≤◌, length};
 
 use crate::agent::{GET, GOT, SYS_NAME};
-use snmp_agent::{Config, Endpoint, EndpointFault, Served, serve, serve_at};
-use snmp_agent::table::Table;
+use snmp_agent::{Config, Endpoint, EndpointFault, Served, Table, serve, serve_at};
 use std::net::{Net, UdpSocket};
 use std::process::Abort;
 use std::time::Duration;

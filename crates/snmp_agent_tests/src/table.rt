@@ -1,6 +1,6 @@
 //! The worked examples of tables: what their lines give, and each fault with its line.
 
-use snmp_agent::table::{Place, Table, TableError};
+use snmp_agent::{Place, Table, TableError};
 use snmp_wire::{Binding, Oid, ValueRef, parse_numeric};
 use std::alloc::{AllocError, Global};
 use std::process::Abort;

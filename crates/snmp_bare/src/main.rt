@@ -2,10 +2,9 @@
 //! time by it. A module file that is named can't be read.
 #![tactic(auto)]
 
-use snmp_tools::loading::WithoutModules;
 use snmp_io::{MachineFiles, MachineOutput, Output, write_all};
 use snmp_net::MachineLinks;
-use snmp_tools::tool;
+use snmp_tools::{WithoutModules, tool};
 use std::env::Env;
 use std::io::ErrorKind;
 use std::net::Net;

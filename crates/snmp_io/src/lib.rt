@@ -3,12 +3,13 @@
 //! files only the number of failed writes is known; those in memory keep every fact.
 #![tactic(auto)]
 
-pub mod draft;
+mod draft;
 mod files;
 mod machine;
 pub mod memory;
 mod output;
 
+pub use draft::Draft;
 pub use files::{FileFault, Files};
 pub use machine::{MachineFiles, MachineOutput, ReadError, read_whole};
 pub use output::{Output, OutputFault, write_all};

@@ -4,8 +4,7 @@ ghost use Rattle.snmp_io.specs.Count.{HasRisen};
 ghost use Rattle.snmp_agent.specs.Reply.{Agent, agent_of};
 ghost use Rattle.snmp_agent.specs.declared.server.Served.{Served};
 
-use snmp_agent::{Config, Served};
-use snmp_agent::table::Table;
+use snmp_agent::{Config, Served, Table};
 use snmp_walk::{Link, LinkFault};
 
 /// What opens links to agents, and doors at which an agent is served.

@@ -4,8 +4,7 @@ ghost use Rattle.snmp_io.specs.Count.{HasRisen};
 
 use crate::links::Links;
 use crate::udp::{UdpLink, first_address};
-use snmp_agent::{Config, Served};
-use snmp_agent::table::Table;
+use snmp_agent::{Config, Served, Table};
 use snmp_walk::LinkFault;
 use std::net::{Net, UdpSocket};
 use std::time::Duration;

@@ -4,8 +4,7 @@ ghost use Rattle.snmp_io.specs.Count.{HasRisen};
 ghost use Rattle.snmp_net.specs.Memory.{AreServed, BindsAt, OpensTo, agent_at};
 
 use crate::links::Links;
-use snmp_agent::{Config, Endpoint, EndpointFault, Served, serve_at};
-use snmp_agent::table::Table;
+use snmp_agent::{Config, Endpoint, EndpointFault, Served, Table, serve_at};
 use snmp_walk::{LinkFault, MemoryLink};
 use std::alloc::Global;
 

@@ -2,9 +2,8 @@
 ghost use Rattle.std.specs.Prelude.{◌≤◌, length};
 ghost use Rattle.snmp_walk.specs.Facts.{IsFresh};
 
-use snmp_agent::{Config, Served};
+use snmp_agent::{Config, Served, Table};
 use snmp_net::{Links, MachineLinks, UdpLink};
-use snmp_agent::table::Table;
 use snmp_walk::{Link, LinkFault, Method, Mode, Sink, SinkFault, WalkCore, WalkEnd, run_walk};
 use snmp_wire::{Binding, ValueRef, parse_numeric};
 use std::alloc::Global;

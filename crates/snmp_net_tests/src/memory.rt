@@ -1,10 +1,9 @@
 //! Links and doors in memory.
 ghost use Rattle.std.specs.Prelude.{◌≤◌, length};
 
-use snmp_agent::Config;
+use snmp_agent::{Config, Table};
 use snmp_net::Links;
 use snmp_net::memory::{MemoryAgent, MemoryLinks};
-use snmp_agent::table::Table;
 use snmp_walk::{Method, Mode, Sink, SinkFault, WalkCore, WalkEnd, run_walk};
 use snmp_wire::{Binding, parse_numeric};
 use std::alloc::Global;

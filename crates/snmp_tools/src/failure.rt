@@ -8,11 +8,11 @@ ghost use Rattle.snmp_tools.specs.Message.{table_message};
 
 use crate::loading::FilesError;
 use smi_show::NameError;
+use snmp_agent::TableError;
+use snmp_io::Draft;
 use snmp_oid::{LONGEST_TEXT, Oid, write_numeric};
-use snmp_agent::table::TableError;
 use snmp_walk::{SinkFault, WalkEnd};
 use std::alloc::AllocError;
-use snmp_io::draft::Draft;
 
 /// Why a job wasn't done, with the words that its message repeats.
 #[derive(Debug, Drop)]

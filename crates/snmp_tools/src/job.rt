@@ -16,14 +16,14 @@ ghost use Rattle.snmp_tools.specs.Translating.{IsTranslated};
 
 use crate::failure::Failure;
 use crate::get::do_get;
+use crate::loading::{ModuleFiles, one_list_of_modules};
 use crate::serve::do_serve;
 use crate::translate::do_translate;
 use crate::walk::walk_lines;
-use crate::loading::{ModuleFiles, one_list_of_modules};
 use smi_tree::one_tree;
+use snmp_agent::{no_fault, one_table};
 use snmp_io::{Output, write_all};
 use snmp_net::Links;
-use snmp_agent::table::{no_fault, one_table};
 use snmp_words::{Job, WalkJob};
 use std::alloc::{AllocError, Global};
 

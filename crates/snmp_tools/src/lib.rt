@@ -4,9 +4,7 @@
 //! values. The program passes the machine to it.
 #![tactic(auto)]
 
-pub mod translation;
-pub mod agent;
-pub mod loading;
+mod agent;
 mod choices;
 mod entry;
 mod failure;
@@ -15,17 +13,19 @@ mod job;
 mod judge;
 mod letters;
 mod lines;
+mod loading;
 mod names;
 mod plan;
 mod serve;
 mod start;
 mod translate;
+pub mod translation;
 mod walk;
 
+pub use crate::loading::{FilesError, ModuleFiles, WithoutModules, load_tree};
 pub use entry::tool;
 pub use failure::Failure;
 pub use job::run_job;
-pub use crate::loading::ModuleFiles;
 pub use snmp_io::{FileFault, Files, Output, OutputFault};
 pub use snmp_net::Links;
 pub use snmp_words::{Asking, GetJob, Job, ServeJob, UsageError, WalkJob, read_words};

@@ -10,12 +10,11 @@ ghost use Rattle.snmp_tools.specs.Planned.{mib_in};
 
 use crate::start::FIRST_ID;
 use smi_show::{Letters, ShowTree, line};
-use snmp_io::{Output, OutputFault, write_all};
+use snmp_io::{Draft, Output, OutputFault, write_all};
 use snmp_oid::Oid;
 use snmp_walk::{Link, Sink, SinkFault, WalkCore, WalkEnd, run_get, run_walk};
 use snmp_wire::Binding;
 use std::alloc::AllocError;
-use snmp_io::draft::Draft;
 
 /// What writes the lines of bindings, by the names and types of a tree and the letters of `-O`.
 #[derive(Drop)]

@@ -6,11 +6,11 @@ ghost use Rattle.snmp_words.specs.Words.{serve_words};
 ghost use Rattle.snmp_tools.specs.Message.{fault_of};
 ghost use Rattle.snmp_tools.specs.Serving.{IsServeRun, reported_as, risen};
 
+use crate::agent::{ServeError, serve_table};
 use crate::failure::Failure;
 use crate::job::report;
 use snmp_io::{Files, Output};
 use snmp_net::Links;
-use crate::agent::{ServeError, serve_table};
 use snmp_walk::{SinkFault, WalkEnd};
 use snmp_words::ServeJob;
 use std::alloc::Global;

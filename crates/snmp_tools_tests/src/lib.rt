@@ -2,13 +2,13 @@
 #![tactic(auto)]
 
 #[cfg(test)]
-pub mod loading;
-pub mod translation;
 mod faults;
 #[cfg(test)]
 mod gets;
 #[cfg(test)]
 mod letters;
+#[cfg(test)]
+mod loading;
 #[cfg(test)]
 mod mibs;
 #[cfg(test)]
@@ -19,5 +19,7 @@ mod options;
 mod run;
 #[cfg(test)]
 mod serving;
+#[cfg(test)]
+mod translation;
 #[cfg(test)]
 mod walks;

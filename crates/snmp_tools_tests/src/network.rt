@@ -1,9 +1,8 @@
 //! Walks and Gets over the network, by links in memory.
 
 use crate::run::{NO_LIMITS, Run, THREE, THREE_LINES, assert_runs_over};
-use snmp_agent::Config;
+use snmp_agent::{Config, Table};
 use snmp_net::memory::{MemoryAgent, MemoryLinks};
-use snmp_agent::table::Table;
 use std::alloc::Global;
 use std::process::Abort;
 use std::test::Fail;

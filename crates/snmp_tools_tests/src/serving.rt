@@ -1,9 +1,8 @@
 //! Tables that are served: what snmpd prints, what it refuses, and what it reports.
 
 use crate::run::{Held, NO_LIMITS, THREE, assert_runs_over, prints_over};
-use snmp_agent::Config;
+use snmp_agent::{Config, Table};
 use snmp_net::memory::{MemoryAgent, MemoryLinks};
-use snmp_agent::table::Table;
 use std::alloc::{AllocError, Global};
 use std::process::Abort;
 use std::test::Fail;

@@ -10,9 +10,10 @@ ghost use Rattle.snmp_walk.specs.Codec.{Codec};
 ghost use Rattle.snmp_walk.specs.Link.{OneOf};
 ghost use Rattle.snmp_walk.specs.Ordered.{AreOrdered, IsResumable};
 
-use snmp_wire::ber::element_sizes;
 use snmp_oid::order;
-use snmp_wire::{encoding_is_strict, message_sizes, one_spelling, pieces, strict_is_read};
+use snmp_wire::{
+    element_sizes, encoding_is_strict, message_sizes, one_spelling, pieces, strict_is_read,
+};
 
 /// The instances that a walk gives below its root are those of the table, in the order of their
 /// names, and those that are left after a name are the ones that come after it.

@@ -4,8 +4,7 @@ ghost use Rattle.snmp_walk.specs.Traffic.{datagram_at, received, Gives};
 
 use crate::arena::Arena;
 use crate::{Link, LinkFault};
-use snmp_agent::{Config, Outcome, answer};
-use snmp_agent::table::Table;
+use snmp_agent::{Config, Outcome, Table, answer};
 use std::alloc::{AllocError, Global};
 
 /// A link to an agent in memory, over one table, or over several that each reply to some of the

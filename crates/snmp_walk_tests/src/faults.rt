@@ -3,7 +3,7 @@ ghost use Rattle.snmp_walk.specs.Facts.{IsFresh};
 
 use crate::runs::{ROOT, get_ends, names_of, public, table_of, walk_ends, walk_of};
 use crate::sinks::Digits;
-use snmp_agent::table::Table;
+use snmp_agent::Table;
 use snmp_walk::{Link, LinkFault, MemoryLink, Method, Mode, Sink, SinkFault, WalkCore, WalkEnd};
 use snmp_wire::{Binding, Oid};
 use std::alloc::Global;

@@ -3,7 +3,7 @@
 
 use crate::runs::{get_ends, names_of, public, push, table_of};
 use crate::sinks::{Counted, Digits};
-use snmp_agent::table::Table;
+use snmp_agent::Table;
 use snmp_walk::{MemoryLink, WalkEnd};
 use snmp_wire::Oid;
 use std::alloc::Global;

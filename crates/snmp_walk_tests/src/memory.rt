@@ -1,7 +1,7 @@
 //! Receives from a link in memory into buffers of any length.
 
 use crate::runs::{public, table_of};
-use snmp_agent::table::Table;
+use snmp_agent::Table;
 use snmp_walk::{Link, LinkFault, MemoryLink};
 use std::alloc::Global;
 use std::process::Abort;

@@ -4,8 +4,7 @@ ghost use Rattle.snmp_oid.specs.Identifier.{IsWire, wire};
 ghost use Rattle.snmp_walk.specs.Facts.{IsFresh};
 ghost use Rattle.snmp_walk.specs.Walker.{IsMethod};
 
-use snmp_agent::Config;
-use snmp_agent::table::Table;
+use snmp_agent::{Config, Table};
 use snmp_walk::{Link, Method, Mode, Sink, WalkCore, WalkEnd, run_get, run_walk};
 use snmp_wire::{Oid, parse_numeric};
 use std::alloc::Global;

@@ -4,7 +4,7 @@ ghost use Rattle.snmp_walk.specs.Facts.{IsFresh};
 use crate::liar::{GENERAL_ERROR, ROW};
 use crate::runs::{ROOT, get_ends, names_of, public, table_of, walk_ends, walk_of};
 use crate::sinks::{Counted, Digits};
-use snmp_agent::table::Table;
+use snmp_agent::Table;
 use snmp_walk::{Link, LinkFault, MemoryLink, Method, Mode, WalkCore, WalkEnd};
 use snmp_wire::Oid;
 use std::alloc::Global;

@@ -4,7 +4,7 @@ ghost use Rattle.snmp_walk.specs.Facts.{IsFresh};
 
 use crate::runs::{public, table_of, walk_ends, walk_of};
 use crate::sinks::{Counted, Listed, Row};
-use snmp_agent::table::Table;
+use snmp_agent::Table;
 use snmp_walk::{MemoryLink, Method, Mode, WalkCore, WalkEnd};
 use snmp_wire::ValueRef;
 use std::alloc::Global;

@@ -3,7 +3,7 @@ ghost use Rattle.snmp_walk.specs.Facts.{IsFresh};
 
 use crate::runs::{ROOT, name_of, public, put, resumed, table_of, walk_ends, walk_of};
 use crate::sinks::{Counted, Digits};
-use snmp_agent::table::Table;
+use snmp_agent::Table;
 use snmp_walk::{MemoryLink, Method, Mode, StartError, WalkCore, WalkEnd};
 use std::alloc::Global;
 use std::process::Abort;

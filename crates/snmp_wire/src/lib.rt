@@ -4,12 +4,13 @@
 //! alone, and read and write them by this crate.
 #![tactic(auto)]
 
-pub mod ber;
+mod ber;
 mod binding;
 mod kind;
 mod laws;
 mod message;
 
+pub use crate::ber::{BerError, OctetString, Value, ValueRef, element_sizes};
 pub use binding::{Binding, Bindings, binding_size, encode_binding};
 pub use kind::Kind;
 pub use laws::{
@@ -17,5 +18,4 @@ pub use laws::{
     one_spelling, pieces, strict_is_read,
 };
 pub use message::{MAX_DATAGRAM, MessageRef, Parts, decode, encode, encode_head, head_size, size};
-pub use crate::ber::{BerError, OctetString, Value, ValueRef};
 pub use snmp_oid::{Oid, OidError, OidTextError, parse_numeric, write_numeric};

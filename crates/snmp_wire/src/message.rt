@@ -15,15 +15,15 @@ ghost use Rattle.snmp_wire.specs.Range.{IsMessageInRange};
 ghost use Rattle.snmp_wire.specs.Shortest.{IsShortestEncoding};
 ghost use Rattle.snmp_wire.specs.ber.Writing.{Writes};
 
-use crate::binding::{binding_size, check_bindings, put_binding};
-use crate::kind::{kind_of, tag_of_kind};
-use crate::laws::one_shortest_encoding;
-use crate::{Binding, Bindings, Kind};
 use crate::ber::tag::{INTEGER, OCTET_STRING, SEQUENCE};
 use crate::ber::{
     BerError, content_at, content_reading, element_at, header_size, inner_at, integer_at,
     integer_size, put_header, put_integer, put_text,
 };
+use crate::binding::{binding_size, check_bindings, put_binding};
+use crate::kind::{kind_of, tag_of_kind};
+use crate::laws::one_shortest_encoding;
+use crate::{Binding, Bindings, Kind};
 use std::marker::Model;
 
 /// How many octets a datagram of UDP over IPv4 has at most (RFC 768; RFC 791, section 3.1): 65535

@@ -8,10 +8,10 @@ ghost use Rattle.smi_names.specs.meaning.Scopes.{place_in, content_of};
 ghost use Rattle.smi_names.specs.meaning.Names.{AreEach, module_place, map_origin};
 ghost use Rattle.smi_names.specs.meaning.Directory.{place_by, place_of_entry, AreBases};
 
+use crate::links::Basis;
 use crate::meaning::entry::{Decider, Entry};
 use crate::meaning::scope::{NamePlaces, scope};
-use crate::links::Basis;
-use smi_text::trees::{Module, Part};
+use smi_text::{Module, Part};
 use std::alloc::{AllocError, Global};
 use std::collections::BTreeMap;
 

@@ -8,7 +8,7 @@ ghost use Rattle.smi_names.specs.declared.meaning.entry.Entry.{Entry};
 
 use crate::meaning::directory::Directory;
 use crate::meaning::entry::Entry;
-use smi_text::trees::Module;
+use smi_text::Module;
 use std::marker::Model;
 
 /// The names that have a meaning in modules, each with its place.

@@ -1,6 +1,6 @@
 //! The names of modules, each with what decides what it means.
 
-use smi_text::trees::{Def, Import, Module};
+use smi_text::{Def, Import, Module};
 
 /// What decides what a name means in a module (RFC 2578, section 3.2).
 #[derive(Clone, Copy, Debug)]

@@ -6,7 +6,7 @@ ghost use Rattle.smi_text.specs.declared.trees.tree.Module.{Module};
 ghost use Rattle.smi_names.specs.meaning.Meaning.{Means, QualifiedName, origin};
 
 /// A name has at most one identifier, whatever the order of modules and definitions.
-pub fn one_meaning()
+pub fn one_identifier()
     ensures { (modules : List Module) (a : QualifiedName) (o p : List ℕ)
         → Means modules a o → Means modules a p → o ≡ p }
 {}

@@ -7,11 +7,11 @@ ghost use Rattle.smi_names.specs.meaning.Meaning.{origin, module_named, decision
 ghost use Rattle.smi_names.specs.meaning.Scopes.{decision_of};
 ghost use Rattle.smi_names.specs.meaning.Names.{module_place};
 
+use crate::links::{Resolution, resolutions};
 use crate::meaning::directory::{Directory, find, homes, scopes};
 use crate::meaning::entries::Entries;
 use crate::meaning::entry::Decider;
-use crate::links::{Resolution, resolutions};
-use smi_text::trees::Module;
+use smi_text::Module;
 use std::alloc::{AllocError, Global};
 use std::marker::Model;
 

@@ -10,7 +10,7 @@ ghost use Rattle.smi_names.specs.meaning.Scopes.{decision_of, decided_as, known,
 ghost use Rattle.smi_names.specs.meaning.Scopes.{IsEntryOf, KnowsMore};
 
 use crate::meaning::entry::{Decider, Entry};
-use smi_text::trees::{Import, Module};
+use smi_text::{Import, Module};
 use std::alloc::{AllocError, Global};
 use std::collections::BTreeMap;
 

@@ -7,12 +7,12 @@ ghost use Rattle.smi_names.specs.nodes.Gathered.{AreGathered};
 ghost use Rattle.smi_names.specs.nodes.Gathered.{AddsModule, IsSourceOf};
 ghost use Rattle.smi_text.specs.declared.trees.tree.Module.{Module};
 
+use crate::links::Resolution;
+use crate::meaning::Names;
 use crate::nodes::imports::add_import_warnings;
 use crate::nodes::source::Source;
 use crate::nodes::warning::Warning;
-use crate::links::Resolution;
-use crate::meaning::Names;
-use smi_text::trees::{Def, Module, Text};
+use smi_text::{Def, Module, Text};
 use snmp_oid::Oid;
 use std::alloc::{AllocError, Global};
 
@@ -207,7 +207,7 @@ impl Gathered {
 
 /// The nodes and warnings of modules, by what their names resolve to: the roots, and then those of
 /// each module, in order.
-pub fn nodes<'a>(
+pub fn gather_nodes<'a>(
     alloc: Global,
     names: &Names<'a>,
     modules: &'a [Module],

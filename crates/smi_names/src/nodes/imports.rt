@@ -6,10 +6,10 @@ ghost use Rattle.smi_names.specs.meaning.Meaning.{module_named};
 ghost use Rattle.smi_names.specs.meaning.Scopes.{decision_of};
 ghost use Rattle.smi_names.specs.nodes.Imports as imports;
 
+use crate::meaning::{Decider, Names, import_clauses};
 use crate::nodes::gather::text;
 use crate::nodes::warning::Warning;
-use crate::meaning::{Decider, Names, import_clauses};
-use smi_text::trees::{Import, Module, TokenText, is_macro};
+use smi_text::{Import, Module, TokenText, is_macro};
 use std::alloc::{AllocError, Global};
 
 /// The base types that a name stands for in every module (RFC 2578, section 7.1).

@@ -1,6 +1,6 @@
 //! Warnings about modules that are loaded.
 
-use smi_text::trees::Text;
+use smi_text::Text;
 
 /// A warning about a module that is loaded.
 #[derive(Debug, Drop)]

@@ -6,8 +6,8 @@ ghost use Rattle.smi_show.specs.details.Definition.{status_text, units_clause};
 ghost use Rattle.smi_show.specs.details.Syntax.{syntax_text};
 
 use crate::details::syntax_text;
-use smi_text::trees::{DefKind, ObjectType, Status, Text};
-use snmp_io::draft::Draft;
+use smi_text::{DefKind, ObjectType, Status, Text};
+use snmp_io::Draft;
 
 /// Appends those of SYNTAX, UNITS, MAX-ACCESS, STATUS and DESCRIPTION that a definition has (RFC
 /// 2578, sections 5 to 8), one per line. A definition whose clauses are raw has none.

@@ -8,10 +8,10 @@ ghost use Rattle.smi_show.specs.details.Detail.{clauses_text};
 
 use crate::details::value::identifier_text;
 use crate::details::{DetailTree, definition_text};
-use smi_text::trees::Def;
 use crate::name::{NameForm, Node, name_text};
+use smi_text::Def;
+use snmp_io::Draft;
 use snmp_oid::Oid;
-use snmp_io::draft::Draft;
 
 /// Appends the details of an identifier: its name, the kind, module and clauses of its deepest
 /// node, and the identifier as a value.

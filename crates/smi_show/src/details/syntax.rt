@@ -8,8 +8,8 @@ ghost use Rattle.smi_show.specs.details.Syntax.{refinement_text, syntax_text};
 ghost use Rattle.smi_show.specs.details.Tokens.{AreTokensOf, joined_by_blanks};
 ghost use Rattle.smi_text.specs.lexer.Token.{Lexeme};
 
-use smi_text::trees::{Base, NamedNumber, Range, Refinement, Syntax};
-use snmp_io::draft::Draft;
+use smi_text::{Base, NamedNumber, Range, Refinement, Syntax};
+use snmp_io::Draft;
 
 /// Appends the tokens of a type, joined by one blank.
 #[tactic(auto, using(crate::proofs::TokenTexts::own_tokens))]

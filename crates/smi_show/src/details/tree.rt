@@ -3,8 +3,8 @@ ghost use Rattle.std.specs.Prelude.{◌≡◌, List, ℕ, Option};
 ghost use Rattle.std.specs.Option.{option_copied};
 ghost use Rattle.smi_text.specs.declared.trees.tree.Def.{Def};
 
-use smi_text::trees::Def;
 use crate::name::NameTree;
+use smi_text::Def;
 use snmp_oid::Oid;
 
 /// A tree of nodes that knows their definitions.

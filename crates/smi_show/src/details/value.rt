@@ -5,8 +5,8 @@ ghost use Rattle.smi_show.specs.details.Value.{identifier_text, labelled_number,
 ghost use Rattle.smi_show.specs.details.Value.{parts_text};
 
 use crate::name::NameTree;
+use snmp_io::Draft;
 use snmp_oid::Oid;
-use snmp_io::draft::Draft;
 
 /// Appends `::= { P }`, P being the numbers, each but the last with the label of the node there.
 pub fn identifier_text<T: NameTree>(tree: &T, oid: &Oid, draft: &mut Draft)

@@ -65,7 +65,7 @@ fn front<'a>(part: IndexPart, numbers: &'a [u32]) -> Option<(&'a [u32], &'a [u32
 ///
 /// A law: the call does nothing, and its caller may use what it ensures.
 #[inline]
-pub fn one_reading()
+pub fn one_part_reading()
     ensures { (part : IndexPart) (numbers value rest other left : List ℕ)
         → ReadsValue part numbers value rest → ReadsValue part numbers other left
         → (value ≡ other) × (rest ≡ left) }

@@ -12,7 +12,7 @@ ghost use Rattle.smi_show.specs.index.Pieces.{piece_numbers};
 ghost use Rattle.smi_show.specs.index.Pieces.{shown_pieces, value_pieces};
 
 use crate::index::{Extent, IndexPart, read_part, reads};
-use snmp_io::draft::Draft;
+use snmp_io::Draft;
 
 /// Appends numbers, with a dot before each.
 pub fn numbers_text(numbers: &[u32], draft: &mut Draft)

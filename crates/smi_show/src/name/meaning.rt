@@ -12,13 +12,13 @@ ghost use Rattle.smi_show.specs.name.Meant.{TextMeans};
 ghost use Rattle.smi_show.specs.name.Name.{ReadsBack, name_text};
 ghost use Rattle.smi_show.specs.name.Part.{scope_in};
 
+use crate::index::pieces_stand_for_numbers;
 use crate::name::cut::{cut_module, cut_part};
 use crate::name::part::read_part;
 use crate::name::piece::with_piece;
 use crate::name::scope::Scope;
 use crate::name::word::Part;
 use crate::name::{NameError, NameTree};
-use crate::index::pieces_stand_for_numbers;
 use snmp_oid::{Oid, names};
 
 /// The identifier that a name means, or the first fault from the left. Does not allocate.

@@ -9,10 +9,10 @@ ghost use Rattle.smi_show.specs.name.Name.{arc_text, instance_text, name_text, n
 ghost use Rattle.smi_show.specs.name.Name.{qualified, standing_text};
 ghost use Rattle.smi_show.specs.name.Standing.{standing_of};
 
-use crate::name::{NameForm, NameTree, Node};
 use crate::index::{index_text, numbers_text};
+use crate::name::{NameForm, NameTree, Node};
+use snmp_io::Draft;
 use snmp_oid::Oid;
-use snmp_io::draft::Draft;
 
 /// Appends the name of an identifier.
 ///

@@ -6,8 +6,7 @@ ghost use Rattle.smi_show.specs.name.Naming.{Naming};
 ghost use Rattle.smi_show.specs.name.Standing.{standing_of};
 ghost use Rattle.smi_show_tests.specs.names.Sample.{begins_with, deepest_in, found, sample};
 
-use smi_show::index::IndexPart;
-use smi_show::name::{NameTree, Node};
+use smi_show::{IndexPart, NameTree, Node};
 use snmp_oid::Oid;
 
 /// The root `iso`, and the column `tinyMac` of TINY-MIB, 1.3.6.2 below 1.3.6.

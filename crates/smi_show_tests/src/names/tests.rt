@@ -1,12 +1,10 @@
 //! Names that are read, refused and shown.
 use crate::names::{Sample, random_oid};
-use smi_show::index::{Extent, IndexPart};
-use smi_show::name::{NameError, NameForm, name_text, resolve};
+use smi_show::{Extent, IndexPart, Letters, NameError, NameForm, name_text, resolve};
 use snmp_oid::Oid;
 use std::alloc::Global;
 use std::process::Abort;
 use std::test::Fail;
-use snmp_io::draft::Draft;
 
 const COUNTED: &[IndexPart] = &[IndexPart::Text(Extent::Counted)];
 
@@ -197,9 +195,10 @@ fn push_name(
     oid: &Oid,
     out: &mut Vec<u8>,
 ) -> Result<(), Fail> {
-    let mut draft = Draft::after(out);
-    name_text(tree, form, numeric_index, oid, &mut draft);
-    draft.finish(out)?;
+    let mut letters = Letters::new();
+    letters.names = form;
+    letters.numeric_index = numeric_index;
+    name_text(tree, &letters, oid, out)?;
     Ok(())
 }
 

@@ -106,7 +106,7 @@ fn fault_at(text: &[u8], line: usize) -> LexError
 }
 
 /// A text has one list of tokens, and one fault at most.
-pub fn one_reading()
+pub fn one_token_list()
     ensures { (before text : List ℕ) (xs ys : List Item) →
         Lexes before text xs → Lexes before text ys → xs ≡ ys }
 {}

@@ -2,9 +2,9 @@
 //! RFC 2579; RFC 2580).
 //! A tree owns its texts, which are the unchanged texts of the tokens: strings keep their quotes,
 //! numbers their zeros.
+use crate::lexer::TokenKind;
 use crate::trees::items::{Items, Text};
 use crate::trees::names::Name;
-use crate::lexer::TokenKind;
 
 /// A module (RFC 2578, section 3).
 #[derive(Debug, Drop)]

@@ -5,8 +5,7 @@ ghost use Rattle.smi_names.specs.meaning.Scopes.{Content};
 ghost use Rattle.smi_names.specs.meaning.Meaning.{QualifiedName};
 ghost use Rattle.smi_tree.specs.columns.Named.{IsNextOf, AreNexts, IsFoundAt, IsUndefined};
 
-use smi_names::links::ends;
-use smi_names::meaning::{Decider, Entries, Names};
+use smi_names::{Decider, Entries, Names, ends};
 use std::alloc::{AllocError, Global};
 use std::marker::Model;
 

@@ -4,13 +4,12 @@ ghost use Rattle.smi_tree.specs.types.Kept.{AreTypesOf};
 ghost use Rattle.smi_names.specs.nodes.Gathered.{nodes_of};
 ghost use Rattle.smi_tree.specs.columns.Index.{AreIndexesOf, index_at};
 
-use crate::columns::objects::Objects;
 use crate::branches::Identifiers;
-use smi_show::index::IndexPart;
-use smi_names::meaning::Names;
-use smi_text::trees::Module;
-use smi_names::nodes::Source;
+use crate::columns::objects::Objects;
 use crate::types::Types;
+use smi_names::{Names, Source};
+use smi_show::IndexPart;
+use smi_text::Module;
 use std::alloc::{AllocError, Global};
 use std::marker::Model;
 

@@ -10,11 +10,10 @@ ghost use Rattle.smi_tree.specs.columns.Kept.{IsOwn, AreOwn, AreOwnOfAll};
 
 use crate::columns::definitions::Definitions;
 use crate::columns::part::part;
-use smi_show::index::IndexPart;
-use smi_names::links::Resolution;
-use smi_names::meaning::Names;
-use smi_text::trees::{Def, DefKind, Index, IndexParts, Module, Name};
 use crate::types::{Types, one_syntax};
+use smi_names::{Names, Resolution};
+use smi_show::IndexPart;
+use smi_text::{Def, DefKind, Index, IndexParts, Module, Name};
 use std::alloc::{AllocError, Global};
 use std::marker::Model;
 

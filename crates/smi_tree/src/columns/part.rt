@@ -5,9 +5,9 @@ ghost use Rattle.smi_show.specs.declared.index.part.IndexPart.{IndexPart};
 ghost use Rattle.smi_tree.specs.columns.Parts.{StatesBound, IsSingle, IsFixedSize, HasExtent};
 ghost use Rattle.smi_tree.specs.columns.Parts.{HasNoFixedSize, IsPartOf};
 
-use smi_show::index::{Extent, IndexPart};
-use smi_text::trees::{Range, TokenText, bound};
 use crate::types::TypeBase;
+use smi_show::{Extent, IndexPart};
+use smi_text::{Range, TokenText, bound};
 
 /// The number that an end of a range stands for, if it isn't below zero.
 fn number(end: &TokenText) -> Option<u64>

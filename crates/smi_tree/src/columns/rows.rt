@@ -8,10 +8,10 @@ ghost use Rattle.smi_names.specs.nodes.Gathered.{node_from, nodes_of};
 ghost use Rattle.smi_tree.specs.columns.Index.{IsObjectType};
 ghost use Rattle.smi_tree.specs.columns.Kept.{UsesAt, UsesNone, AreRows, HasRowOrNone};
 
-use crate::columns::objects::{Objects, clause};
 use crate::branches::Identifiers;
-use smi_text::trees::{Def, DefKind, Index};
-use smi_names::nodes::Source;
+use crate::columns::objects::{Objects, clause};
+use smi_names::Source;
+use smi_text::{Def, DefKind, Index};
 use snmp_oid::Oid;
 use std::alloc::{AllocError, Global};
 

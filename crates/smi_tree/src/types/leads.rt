@@ -9,8 +9,8 @@ ghost use Rattle.smi_tree.specs.types.Leads.{content_origin, LeadsTo, StatesIf, 
 ghost use Rattle.smi_tree.specs.types.Leads.{IsNextUntil, AreLeads, AreNextUntil, AreSources, at_place};
 
 use crate::types::syntax::{base_of, hint_of, names_of, sizes_of, type_of};
-use smi_names::meaning::{Decider, Entries, Entry};
-use smi_text::trees::{Base, Name, SimpleType};
+use smi_names::{Decider, Entries, Entry};
+use smi_text::{Base, Name, SimpleType};
 use std::alloc::{AllocError, Global};
 
 /// What the types of a chain may state.

@@ -6,7 +6,7 @@ ghost use Rattle.smi_tree.specs.types.Types.{object_syntax, base_in};
 ghost use Rattle.smi_tree.specs.types.Kept.{type_base, type_names, type_sizes};
 
 use crate::types::base::TypeBase;
-use smi_text::trees::{Base, Def, DefKind, NamedNumber, Range, Refinement, SimpleType, Syntax, Text};
+use smi_text::{Base, Def, DefKind, NamedNumber, Range, Refinement, SimpleType, Syntax, Text};
 
 /// The syntax of an object: what its chain of types gives. It borrows its texts from the modules.
 #[derive(Clone, Copy, Debug)]

@@ -15,9 +15,8 @@ use crate::types::syntax::{
     TypeSyntax, base_in_definition, base_of, hint_of, names_in_definition, names_of,
     object_type_of, sizes_in_definition, sizes_of,
 };
-use smi_names::links::ends;
-use smi_names::meaning::{Entries, Names};
-use smi_text::trees::{Def, Module, NamedNumber, Range, SimpleType, Text};
+use smi_names::{Entries, Names, ends};
+use smi_text::{Def, Module, NamedNumber, Range, SimpleType, Text};
 use std::alloc::{AllocError, Global};
 
 /// The types of modules, by places of names. The modules are kept by the caller.

@@ -9,8 +9,8 @@ ghost use Rattle.smi_value.specs.declared.hint.spec.Spec.{Spec};
 use crate::hint::number::{NumberForm, append_number, number_form};
 use crate::hint::octets::append_octets;
 use crate::hint::spec::is_octet_hint;
+use snmp_io::Draft;
 use std::marker::Model;
-use snmp_io::draft::Draft;
 
 /// A value that a display hint shows.
 #[derive(Clone, Copy, Debug)]

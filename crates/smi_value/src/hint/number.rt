@@ -12,7 +12,7 @@ ghost use Rattle.smi_value.specs.hint.Number.{StartsWithNumber, front_digits, af
 ghost use Rattle.smi_value.specs.hint.Number.{IsNumberHint, with_point, magnitude_text, number_text};
 
 use itoa::Buffer;
-use snmp_io::draft::Draft;
+use snmp_io::Draft;
 
 /// How an integer is shown (RFC 2579, section 3.1).
 #[derive(Clone, Copy, Debug, PartialEq, Eq)]

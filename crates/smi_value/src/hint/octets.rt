@@ -11,7 +11,7 @@ ghost use Rattle.smi_value.specs.declared.hint.spec.Spec.{Spec};
 
 use crate::hint::number::append_digits;
 use crate::hint::spec::{OctetFormat, Spec, first_spec};
-use snmp_io::draft::Draft;
+use snmp_io::Draft;
 
 /// Appends octets as a hint shows them.
 pub(crate) fn append_octets(draft: &mut Draft, hint: &[u8], octets: &[u8])

@@ -4,8 +4,8 @@ ghost use Rattle.smi_value.specs.hint.Hint.{IsHintFor, Shows};
 ghost use Rattle.smi_value.specs.hint.Pieces.{ShowsOctets};
 
 use crate::hint::hint::{Hint, HintValue};
+use snmp_io::Draft;
 use std::alloc::AllocError;
-use snmp_io::draft::Draft;
 
 /// Appends a value to `out` as a hint shows it. If memory runs out, `out` is unchanged.
 ///

@@ -1,6 +1,6 @@
 //! Why a table isn't served.
 
-use snmp_agent::table::TableError;
+use snmp_agent::TableError;
 use thiserror::Error;
 
 /// Why a table isn't served, or not for all of its turns.

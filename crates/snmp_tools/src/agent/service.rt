@@ -12,13 +12,11 @@ ghost use Rattle.snmp_tools.specs.agent.Service.{ServiceFails};
 ghost use Rattle.snmp_tools.specs.agent.TableFile.{HasTable, TableFails};
 
 use crate::agent::error::ServeError;
-use snmp_agent::{Config, Served};
-use snmp_io::{FileFault, Files, Output, write_all};
+use snmp_agent::{Config, Served, Table};
+use snmp_io::{Draft, FileFault, Files, Output, write_all};
 use snmp_net::{Links, UdpAddress};
-use snmp_agent::table::Table;
 use snmp_words::ServeJob;
 use std::alloc::{AllocError, Global};
-use snmp_io::draft::Draft;
 
 /// Serves the table of a file as the words of snmpd ask: prints where requests are received, serves
 /// the turns, and prints how many requests were replied to and how many dropped.

@@ -4,8 +4,8 @@ ghost use Rattle.snmp_io.specs.draft.Draft.{Adds};
 ghost use Rattle.snmp_tools.specs.loading.Message.{at_line, fault_text};
 
 use smi_text::{LexError, ParseError};
+use snmp_io::Draft;
 use std::alloc::AllocError;
-use snmp_io::draft::Draft;
 use thiserror::Error;
 
 /// Why the modules of files can't be had, with the path of the file.

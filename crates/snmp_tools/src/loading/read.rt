@@ -8,8 +8,7 @@ ghost use Rattle.snmp_tools.specs.loading.Files.{no_memory};
 ghost use Rattle.snmp_tools.specs.loading.Message.{refusal_of};
 
 use crate::loading::error::FilesError;
-use smi_text::lexer::one_reading as one_lexing;
-use smi_text::{Module, ParseError, one_reading, parse_modules};
+use smi_text::{Module, ParseError, one_module_list, one_token_list, parse_modules};
 use snmp_io::{FileFault, Files};
 use std::alloc::Global;
 
@@ -67,6 +66,6 @@ pub fn one_list_of_modules()
     ensures { (files : Holdings) (paths : List (List ℕ)) (ms ns : List Tree)
         → AreModulesOf (Holds files) paths ms → AreModulesOf (MayHold files) paths ns → ms ≡ ns }
 {
-    one_lexing();
-    one_reading();
+    one_token_list();
+    one_module_list();
 }

@@ -3,9 +3,9 @@ ghost use Rattle.std.specs.Prelude.{◌≡◌, ◌++◌, IfOk, codes};
 ghost use Rattle.snmp_io.specs.draft.Draft.{Adds};
 ghost use Rattle.snmp_tools.specs.loading.Warned.{symbol, warning_line, warning_lines, warning_text};
 
-use smi_names::nodes::Warning;
+use smi_names::Warning;
+use snmp_io::Draft;
 use std::alloc::{AllocError, Global};
-use snmp_io::draft::Draft;
 
 /// The lines of warnings, in order.
 pub(crate) fn warning_lines(alloc: Global, warnings: &[Warning]) -> Result<Vec<u8>, AllocError>

@@ -4,7 +4,7 @@ ghost use Rattle.snmp_tools.specs.loading.Message.{refusal_of};
 ghost use Rattle.snmp_tools.specs.translation.Fault.{modules_fault, translate_fault_of};
 
 use crate::loading::FilesError;
-use smi_show::name::NameError;
+use smi_show::NameError;
 use thiserror::Error;
 
 /// Why not all names are printed.

@@ -5,10 +5,10 @@ ghost use Rattle.snmp_tools.specs.translation.Fault.{translate_fault_of};
 ghost use Rattle.snmp_tools.specs.translation.Headline.{PrintsAll, PrintsFront};
 ghost use Rattle.snmp_tools.specs.translation.Outcome.{IsTranslateOutcome};
 
+use crate::loading::{ModuleFiles, one_list_of_modules};
 use crate::translation::error::{TranslateError, modules_error};
 use crate::translation::names::print_names;
 use crate::translation::style::Style;
-use crate::loading::{ModuleFiles, one_list_of_modules};
 use snmp_io::Output;
 use snmp_words::TranslateJob;
 use std::alloc::Global;

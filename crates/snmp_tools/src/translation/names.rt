@@ -7,9 +7,7 @@ ghost use Rattle.snmp_tools.specs.translation.Text.{shown_text};
 
 use crate::translation::error::TranslateError;
 use crate::translation::style::Style;
-use smi_show::details::DetailTree;
-use smi_show::name::resolve;
-use smi_show::{detail, name_text};
+use smi_show::{DetailTree, detail, name_text, resolve};
 use snmp_io::{Output, write_all};
 use snmp_oid::Oid;
 use std::alloc::{AllocError, Global};

@@ -8,7 +8,7 @@ ghost use Rattle.snmp_tools.specs.translation.Refusal.{TranslationFails};
 ghost use Rattle.snmp_tools.specs.translation.Style.{IsStyleOf, first_other_of_t};
 
 use crate::translation::error::TranslateError;
-use smi_value::letters::Letters;
+use smi_value::Letters;
 use snmp_words::TranslateJob;
 
 /// How each name is printed.

@@ -1,14 +1,13 @@
 //! What a load of module files gives and writes, and what refuses it.
 
 use crate::loading::tiny::{ACROSS, ASTRAY, ASTRAY_WARNINGS, DOUBLES, TINY, WARNINGS, WELL};
-use snmp_tools::loading::{FilesError, load_tree};
 use smi_tree::Tree;
-use snmp_io::Output;
 use snmp_io::memory::{MemoryFiles, MemoryOutput};
+use snmp_io::{Draft, Output};
+use snmp_tools::{FilesError, load_tree};
 use std::alloc::{AllocError, Global};
 use std::process::Abort;
 use std::test::Fail;
-use snmp_io::draft::Draft;
 
 // The files of the tests: modules without a fault, and a file for each fault that the text of a
 // module can have.

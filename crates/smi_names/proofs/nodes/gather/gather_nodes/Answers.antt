@@ -2,7 +2,7 @@
 use Rattle.std.proofs.Common.{rules, ◌≡◌, ◌+◌, ◌<◌, [], ◌∷◌, ◌++◌, length, take, refl, sym, ◌∙◌}
 use Rattle.std.proofs.lemmas.List.{take_more}
 use Rattle.smi_names.proofs.Gathering.{AreGathered-more}
-use Rattle.smi_names.proofs.nodes.gather.nodes.Goals as goal
+use Rattle.smi_names.proofs.nodes.gather.gather_nodes.Goals as goal
 
 pub modules-preserved : goal.modules-preserved
 modules-preserved c =

@@ -3,7 +3,7 @@ use Rattle.smi_text.specs.lexer.Token.{Item}
 use Rattle.smi_text.specs.declared.trees.tree.Module.{Module}
 use Rattle.smi_text.proofs.Laws.{some-inj}
 use Rattle.smi_text.proofs.Tokens.{tokens-read}
-use Rattle.smi_text.proofs.file.one_reading.Goals as goal
+use Rattle.smi_text.proofs.file.one_module_list.Goals as goal
 
 pub returns : goal.returns
 returns c = λ ms ns ts h k.
