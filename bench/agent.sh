@@ -3,7 +3,7 @@
 # 1,000 and 100,000 rows, and on requests that try to make it take more: thousands of names before one
 # that repeats without end, thousands of names that repeat once, and names of 128 numbers.
 source "$(dirname "${BASH_SOURCE[0]}")/common.sh"
-driver agent_bench agent.c
+driver agent.c
 for request in middle singles names long; do
     for rows in 1000 100000; do
         bindings=$("$work/driver" "$request" "$rows" 1)

@@ -1,17 +1,32 @@
-# What the benchmarks share: each calls a static library of the crates (crates/*_bench, proved as every
-# crate is) from a small C program, and counts instructions by valgrind's callgrind.
+# What the benchmarks share: each calls the static library of crates/bench, which is proved as every crate
+# is, from a small C program, and counts instructions by valgrind's callgrind.
 # A count is the difference of two runs, so that what a run does once doesn't count, or that of one call.
 set -euo pipefail
 top=$(cd "$(dirname "${BASH_SOURCE[0]}")/.." && pwd)
 work=$(mktemp -d)
 trap 'rm -rf "$work"' EXIT
 
-# driver CRATE SOURCE: proves and builds the library, and links the C program with it, as $work/driver.
+library=$top/crates/bench/out/libbench.a
+
+# is_built: whether the library is there, and is younger than every source.
+is_built() {
+    [ -f "$library" ] && [ -z "$(find "$top/crates.txt" "$top/crates" -name out -prune -o -name must-fail -prune -o \
+        \( -name '*.rt' -o -name crates.txt \) -newer "$library" -print -quit)" ]
+}
+
+# build: proves and builds the library, which all drivers link. Where no source changed, the build leaves
+# the library's date as it is.
+build() {
+    (cd "$top/crates/bench" && rt lib) >"$work/lib.log" 2>&1 || { tail -n 20 "$work/lib.log" >&2; exit 1; }
+    touch -c "$library"
+}
+
+# driver SOURCE: links the C program with the library, as $work/driver.
 driver() {
     local kit
     kit=$(cd "$(dirname "$(readlink -f "$(command -v rt)")")/.." && pwd)
-    (cd "$top/crates/$1" && rt lib) >"$work/lib.log" 2>&1 || { tail -n 20 "$work/lib.log" >&2; exit 1; }
-    cc -O2 -o "$work/driver" "$top/bench/$2" "$top/crates/$1/out/lib$1.a" "$kit/c/liblibc_c.a"
+    is_built || build
+    cc -O2 -o "$work/driver" "$top/bench/$1" "$library" "$kit/c/liblibc_c.a"
 }
 
 # instructions WORD..: how many instructions the driver takes with these words.

@@ -2,7 +2,7 @@
 # Counts the instructions of a line, `NAME = INTEGER: 5`, by how many numbers its name has, in numbers
 # and by module and label.
 source "$(dirname "${BASH_SOURCE[0]}")/common.sh"
-driver show_bench lines.c
+driver lines.c
 
 for numbers in 2 12 24; do
     for number in 1 65 4294967295; do

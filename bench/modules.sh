@@ -2,7 +2,7 @@
 # Counts the instructions of reading module texts: for each octet of a text of 1 MB with every production,
 # and at n and 2n for many definitions, deep braces and a long string, which shows that the cost is linear.
 source "$(dirname "${BASH_SOURCE[0]}")/common.sh"
-driver smi_bench modules.c
+driver modules.c
 
 python3 "$top/bench/modules_text.py" 1000000 >"$work/text"
 octets=$(stat -c %s "$work/text")

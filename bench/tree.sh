@@ -3,7 +3,7 @@
 # production, at n and 2n for many definitions, for chains of parents and of types, and of one look-up and of
 # one line in a tree of 20,000 nodes.
 source "$(dirname "${BASH_SOURCE[0]}")/common.sh"
-driver tree_bench tree.c
+driver tree.c
 
 echo 'SNMPv2-SMI DEFINITIONS ::= BEGIN enterprises OBJECT IDENTIFIER ::= { iso 3 6 1 4 1 } END' >"$work/text"
 python3 "$top/bench/modules_text.py" 1000000 >>"$work/text"

@@ -2,7 +2,7 @@
 # Counts the instructions of showing a value: an INTEGER, TimeTicks, and strings of 100 and 200 octets,
 # without a display hint and under some, which shows that the cost is linear in the text and the octets.
 source "$(dirname "${BASH_SOURCE[0]}")/common.sh"
-driver value_bench values.c
+driver values.c
 
 echo "INTEGER 5: $(each 1000 0 "" 0) instructions"
 echo "TimeTicks 4294967295: $(each 1000 1 "" 0) instructions"

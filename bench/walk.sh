@@ -3,7 +3,7 @@
 # 50: request, agent and reply together, without printing. It is the difference of walks over 4,000 and
 # 2,000 rows, so that what a walk does once doesn't count, nor the reading of the table.
 source "$(dirname "${BASH_SOURCE[0]}")/common.sh"
-driver walk_bench walk.c
+driver walk.c
 rows=2000
 for repetitions in 0 1 10 50; do
     given=$("$work/driver" "$repetitions" "$rows" 1)

@@ -5,8 +5,7 @@ use snmp_wire::decode;
 use std::alloc::Global;
 
 /// Reads the table, replies to the request that many times, and returns the number of bindings of
-/// the last
-/// reply; the greatest number where the table is refused or there is no reply.
+/// the last reply; the greatest number where the table is refused or there is no reply.
 #[unsafe(no_mangle)]
 pub extern "C" fn agent_bench(
     alloc: Global,

@@ -1,4 +1,5 @@
-//! bench.
+//! What the scripts in `bench/` call from C, and count: one static library, with a module for each
+//! of them.
 #![tactic(auto)]
 
 pub mod agent;

@@ -1,8 +1,8 @@
 //! Chains of names, resolved without recursion: where each chain ends, and which numbers come along
 //! it.
 //!
-//! Depends on object identifiers alone. The tree of names resolves definitions, imports and types
-//! with it, and gives each of them a place, which is a number.
+//! Depends on object identifiers alone. Meanings resolve definitions and imports with it, and the
+//! tree of names follows types, and names to their definitions: each has a place, a number.
 
 mod basis;
 mod chain;

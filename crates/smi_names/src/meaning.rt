@@ -1,7 +1,6 @@
 //! What names mean in modules: each name of each module is decided once, and its chain is resolved.
 //!
-//! Depends on module trees and on chains. The tree of names makes its nodes from what is resolved
-//! here.
+//! Depends on module trees and on chains. The nodes are made from what is resolved here.
 
 mod directory;
 mod entries;

@@ -1,8 +1,7 @@
 //! The instance part of a name: which numbers the index of a row takes, what values they stand for,
 //! and their text.
 //!
-//! The names of managed objects build on this crate; a tree of modules says which parts an index
-//! has.
+//! Names as text build on this module; a tree of modules says which parts an index has.
 
 mod index;
 mod part;

@@ -1,4 +1,4 @@
-//! Tests of lines, values and details over a small tree.
+//! Tests of names, lines, values and details over a small tree.
 #![tactic(auto)]
 
 mod known;

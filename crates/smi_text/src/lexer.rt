@@ -1,5 +1,5 @@
-//! The lexer of SMIv2 module texts (RFC 2578, section 3), the lowest layer of reading a module. The
-//! parser reads its tokens, and re-exports these types.
+//! The lexer of SMIv2 module texts (RFC 2578, section 3), the first step of reading a module. The
+//! parser reads its tokens.
 
 mod class;
 mod error;

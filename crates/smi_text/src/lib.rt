@@ -1,4 +1,7 @@
-//! The parser of SMIv2 module texts into module trees.
+//! SMIv2 module texts (RFC 2578, RFC 2579, RFC 2580): their tokens, the module trees that they
+//! spell, and the parser from one to the other.
+//!
+//! The lowest layer of module files: the crates of names and values read the trees.
 #![tactic(auto)]
 
 mod clauses;

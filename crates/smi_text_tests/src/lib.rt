@@ -1,5 +1,5 @@
-//! Tests of the reading of module texts, through the public functions of `smi_lexer` and
-//! `smi_text`. They are a separate crate so that the lexer and the parser are proved only once.
+//! Tests of the reading of module texts, through the public functions of `smi_text`: its tokens,
+//! its trees and its faults. They are a separate crate so that `smi_text` is proved only once.
 #![tactic(auto)]
 
 #[cfg(test)]

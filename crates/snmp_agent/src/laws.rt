@@ -1,4 +1,4 @@
-//! A law of agents, as a call that does nothing. A proof of a crate above calls it.
+//! A law of agents, as a call that does nothing, and whose caller knows what it states.
 ghost use Rattle.std.specs.Prelude.{◌≡◌, ℕ, List};
 ghost use Rattle.snmp_agent.specs.Reply.{Agent, IsReply, IsDropped};
 

@@ -1,8 +1,8 @@
 //! A read-only agent: the replies to the requests of SNMPv2c, octets in and octets out (RFC 3416,
 //! section 4.2).
 //!
-//! Built on the table, which gives what each name has, and on the messages. A server, or a link in
-//! memory, passes the datagrams to it.
+//! Built on the messages. Its table gives what each name has; its server, or a link in memory of
+//! the walk, passes the datagrams to it.
 #![tactic(auto)]
 
 mod agent;

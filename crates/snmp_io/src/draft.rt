@@ -1,8 +1,7 @@
 //! Texts that are appended to a `Vec<u8>` piece by piece, and leave it unchanged if memory runs
 //! out.
 //!
-//! The crates that show names and values build on this one: each text that they append is such a
-//! draft.
+//! The crates above append names, values, lines and details as text, each as such a draft.
 
 mod draft;
 

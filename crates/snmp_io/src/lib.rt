@@ -1,6 +1,8 @@
 //! The parts of the machine that the tools use, as traits: outputs that take octets, and files that
 //! hold texts. The traits state facts that a promise can rest on. Of the machine's own outputs and
 //! files only the number of failed writes is known; those in memory keep every fact.
+//!
+//! Beside them stands the draft, a text that is appended whole or not at all.
 #![tactic(auto)]
 
 mod draft;

@@ -1,7 +1,7 @@
 -- What snmpget promises over a table file, on one page.
 --
 -- `IsGetOf` says which names the words ask for: `AskForGet` (Get) reads the words, by the names of
--- the modules that `AreLoaded` (Mib) states, `IsTableOf` (snmp_table) reads the file, and `AreGot`
+-- the modules that `AreLoaded` (Mib) states, `IsTableOf` (snmp_agent) reads the file, and `AreGot`
 -- (snmp_walk) has what a Get of each name gives. `AreLines` (Lines) are their lines, by `IsLine`
 -- (smi_show).
 use Rattle.std.specs.Prelude.{◌≡◌, ◌⊎◌, ◌++◌, ℕ, List, All}

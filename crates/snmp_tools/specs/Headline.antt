@@ -1,7 +1,7 @@
 -- What a walk over a table file promises, on one page.
 --
 -- `IsWalk` says which walk the words ask for: `AskFor` (Plan) reads the words, by the names of the
--- modules that `AreLoaded` (Mib) states, `IsTableOf` (snmp_table) reads the file, and `AreRowsOf`
+-- modules that `AreLoaded` (Mib) states, `IsTableOf` (snmp_agent) reads the file, and `AreRowsOf`
 -- (Outcome) has the rows, by `walk_of` and `rest_of` (snmp_walk). `AreLines` (Lines) are their
 -- lines, by `IsLine` (smi_show), and `count_text` is the count line.
 use Rattle.std.specs.Prelude.{◌≡◌, ◌⊎◌, ◌++◌, ℕ, Bool, List, length, Option, Some, None, codes}

@@ -1,4 +1,5 @@
-//! Tests that go through several crates: from words to lines, over files and outputs in memory.
+//! Tests that go through several crates: from words to lines, over files and outputs in memory; and
+//! of module files and of translations alone.
 #![tactic(auto)]
 
 #[cfg(test)]

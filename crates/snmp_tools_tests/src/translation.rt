@@ -1,5 +1,4 @@
-//! Tests of the job of snmptranslate, over module files and outputs in memory. They are a separate
-//! crate so that the job is proved only once.
+//! Tests of the job of snmptranslate, over module files and outputs in memory.
 
 #[cfg(test)]
 mod details;

@@ -1,5 +1,5 @@
--- Laws of headers, elements and values as they are written, for proofs here and of the crates
--- above: how long they are, and how they are written before their content.
+-- Laws of headers, elements and values as they are written, for proofs of values and messages:
+-- how long they are, and how they are written before their content.
 use Rattle.std.proofs.Common.{◌≡◌, ℕ, ℤ, ◌+◌, ◌-◌, ◌<◌, ◌≤◌, List, [], ◌∷◌, ◌++◌, length}
 use Rattle.std.proofs.Common.{refl, sym, ap, subst, ◌∙◌, arith, length-append}
 use Rattle.std.proofs.lemmas.Bool.{lt-ltb}

@@ -1,5 +1,5 @@
--- Laws of lengths and elements, for proofs here and of the crates above: what is read as one is
--- one, and what is one is read.
+-- Laws of lengths and elements, for proofs of values and messages: what is read as one is one,
+-- and what is one is read.
 use Rattle.std.proofs.Common.{◌≡◌, ℕ, suc, ◌+◌, ◌-◌, ◌<◌, ◌≤◌, false, cond, eqb, ltb, ◌&&◌}
 use Rattle.std.proofs.Common.{List, [], ◌∷◌, ◌++◌, length, take, drop, Ok, Err, refl, sym, ap}
 use Rattle.std.proofs.Common.{subst, ◌∙◌, append_assoc, arith, inl, inr}

@@ -1,5 +1,5 @@
--- Laws of what writers leave, one after the other from the back to the front, for proofs here and
--- of the crates above.
+-- Laws of what writers leave, one after the other from the back to the front, for proofs of
+-- values and messages.
 use Rattle.std.proofs.Common.{◌≡◌, ℕ, ◌+◌, ◌-◌, ◌<◌, ◌≤◌, suc, zero, List, [], ◌∷◌, ◌++◌, length}
 use Rattle.std.proofs.Common.{take, drop, get_or, sym, ap, subst, ◌∙◌, arith, append_assoc}
 use Rattle.std.proofs.Common.{length-append}
