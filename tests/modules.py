@@ -131,6 +131,9 @@ def loads(files):
         check(f"{file} loads without a warning",
               run("snmptranslate", *mibs(needed(file, files)), "-On", ".1.3.6.1"), silent)
     check(f"{ALL} loads without a warning", run("snmptranslate", "--mib", ALL, "-On", ".1.3.6.1"), silent)
+    check("what other modules import is there",
+          run("snmptranslate", *mibs([ALL, "tests/data/imports.txt"]), "-Of", "vendor.1"),
+          (0, ".iso.org.dod.internet.private.enterprises.vendor.1\n", ""))
     rng = random.Random(1)
     orders = [files, files[::-1]] + [rng.sample(files, len(files)) for _ in range(10)]
     for order in orders:
