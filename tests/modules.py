@@ -57,7 +57,7 @@ ifOperStatus OBJECT-TYPE
   SYNTAX\tINTEGER { up ( 1 ) , down ( 2 ) , testing ( 3 ) , unknown ( 4 ) , dormant ( 5 ) , notPresent ( 6 ) , lowerLayerDown ( 7 ) }
   MAX-ACCESS\tread-only
   STATUS\tcurrent
-  DESCRIPTION\t"The state that it has."
+  DESCRIPTION\t"The state that the interface has."
 ::= { iso(1) org(3) dod(6) internet(1) mgmt(2) mib-2(1) interfaces(2) ifTable(2) ifEntry(1) 8 }
 """
 UNREAD = "SNMPv2-SMI DEFINITIONS ::= BEGIN\nInteger32 ::=\n    [UNIVERSAL 2] IMPLICIT INTEGER (-2147483648..2147483647)\nEND\n"
