@@ -1,0 +1,347 @@
+#!/usr/bin/env bash
+# Tests what an operator meets beside the program's own output: the manual and the completions against the
+# options that the program takes, the install, walks that become tables, and the version. The last line is
+# 'N passed, M failed'.
+# shellcheck disable=SC2086  # words are split on purpose
+set -uo pipefail
+export LC_ALL=C
+cd "$(dirname "${BASH_SOURCE[0]}")/.." || exit 1
+top=$PWD
+program=$top/crates/snmp/out/snmp
+[ -x "$program" ] || { echo "tests/operator.sh: the program isn't built: ./snmp --build" >&2; exit 1; }
+passed=0
+failed=0
+got=$(mktemp -d) || exit 1
+trap 'rm -rf "$got"' EXIT
+commands='snmptranslate snmpget snmpwalk snmpbulkwalk snmpd'
+
+# Counts a test, which failed where there is a text that says why.
+count() {
+    if [ -z "$1" ]; then
+        passed=$((passed + 1))
+    else
+        failed=$((failed + 1))
+        printf 'FAILED: %s\n' "$1"
+    fi
+}
+
+# same TITLE WANTED GOT: two texts are one.
+same() {
+    if [ "$2" = "$3" ]; then count ''; else count "$1: $(diff <(echo "$2") <(echo "$3"))"; fi
+}
+
+# -- the options that the program takes, by its help
+
+# The words of a command and the options with their values, one a line, but for help and version.
+taken() {
+    "$program" "$1" --help | awk '
+        /^Usage: / {
+            sub(/^Usage: [^ ]+ [^ ]+ */, ""); sub(/\[OPTIONS\] */, ""); gsub(/--[a-z-]+ <[^>]*> */, "")
+            n = split($0, words, / +/); for (i = 1; i <= n; i++) print words[i]
+        }
+        /^ +(-[a-zA-Z](, )?)?(--[a-z-]+)? <[^>]*>/ && /^ +-/ { print $1, $2 }' | sort
+}
+
+# The letters of an option of a command.
+letters() {
+    "$program" "$1" --help | awk -v option="$2" '
+        /^ +-/ { on = $1 == option }
+        on && /^ +[a-zA-Z]N?: / { print substr($1, 1, 1) }' | sort
+}
+
+# -- the manual
+
+# The same by the synopsis of the manual.
+stated() {
+    awk -v command="$1" '
+        /^\.Nm/ { on = 0 }
+        on && /^\.(Op )?Fl/ { sub(/^\.(Op )?Fl /, ""); print "-" $1, "<" toupper($3) ">" }
+        on && /^\.Op Ar/ { print "[" toupper($3) "]" }
+        on && /^\.Ar/ { print "<" toupper($2) ">" ($3 == "..." ? "..." : "") }
+        $0 == ".Cm " command { on = 1 }
+        /^\.Sh DESCRIPTION/ { exit }' docs/snmp.1 | sort
+}
+
+# The letters that the manual has for an option.
+stated_letters() {
+    awk -v option="$1" '
+        /^\.It Fl/ { on = $3 == option }
+        on && /^\.It Cm/ { print $3 }' docs/snmp.1 | sort
+}
+
+for command in $commands; do
+    same "the manual's synopsis of $command" "$(taken "$command")" "$(stated "$command")"
+done
+for option in O C T; do
+    case $option in T) command=snmptranslate ;; *) command=snmpbulkwalk ;; esac
+    same "the manual's letters of -$option" "$(letters "$command" "-$option")" "$(stated_letters "$option")"
+done
+described=$(sed -n 's/^\.It Fl \([^ ]*\) Ar.*/\1/p; s/^\.It Fl \([hV]\) , -\(.*\)/\1\n-\2/p' docs/snmp.1 | sort)
+synopsis=$(sed -n '/^\.Sh SYNOPSIS/,/^\.Sh DESC/s/^\.\(Op \)\?Fl \([^ ]*\).*/\2/p' docs/snmp.1; echo V; echo -version; echo -help)
+same 'the options that the manual describes' "$(sort -u <<<"$synopsis")" "$described"
+if command -v mandoc >/dev/null; then
+    same 'mandoc -Tlint' '' "$(mandoc -Tlint -W warning docs/snmp.1 2>&1)"
+fi
+if command -v man >/dev/null && command -v groff >/dev/null; then
+    same 'man --warnings' '' "$(man --warnings -E UTF-8 -l -Tutf8 -Z docs/snmp.1 2>&1 >/dev/null)"
+fi
+
+# -- the completions
+
+# complete WORD..: what bash offers for the last word.
+complete_words() {
+    bash -c '. completions/snmp.bash
+        words=() line="$*"
+        # bash splits words at : and =.
+        for word; do
+            while [[ $word == *[:=]* ]]; do
+                before=${word%%[:=]*}
+                [ -z "$before" ] || words+=("$before")
+                words+=("${word:${#before}:1}")
+                word=${word:${#before}+1}
+                [ -n "$word" ] || break 2
+            done
+            words+=("$word")
+        done
+        COMP_WORDS=("${words[@]}") COMP_CWORD=$((${#words[@]} - 1)) COMP_LINE=$line COMP_POINT=${#line}
+        $(complete -p snmp | sed "s/.*-F \([^ ]*\) .*/\1/")
+        printf "%s\n" "${COMPREPLY[@]}"' complete "$@" | sort
+}
+offers() { same "completion of ${*:2}" "$(tr ' ' '\n' <<<"$1" | sort)" "$(complete_words "${@:2}")"; }
+
+offers "$commands -h --help -V --version" snmp ''
+offers 'snmpwalk' snmp snmpw
+offers 'snmptranslate' ./snmp snmpt
+for command in $commands; do
+    options=$({ taken "$command" | sed -n 's/^\(-[^ ]*\) .*/\1/p'; echo -h; echo --help; } | sort)
+    same "options of $command that bash offers" "$options" "$(complete_words snmp "$command" -)"
+    [ "$command" = snmpd ] ||
+        same "letters of $command -O that bash offers" "$(letters "$command" -O)" "$(complete_words snmp "$command" -O '')"
+done
+same 'letters of -C that bash offers' "$(letters snmpwalk -C)" \
+    "$({ complete_words snmp snmpwalk -C ''; complete_words snmp snmpbulkwalk -C ''; } | sort -u)"
+offers 'i p I' snmp snmpwalk -C ''
+offers 'i p r' snmp snmpbulkwalk -C ''
+offers '-Cip -Cir' snmp snmpbulkwalk -Ci
+offers '' snmp snmpbulkwalk -Cr
+offers '' snmp snmpbulkwalk -Cr5
+offers 'd' snmp snmptranslate -T ''
+offers '-Td' snmp snmptranslate -T
+offers '2c' snmp snmpget -v ''
+offers '-v2c' snmp snmpget -v
+offers '--max-size' snmp snmpd --m
+offers '' snmp snmpd -c ''
+offers 'examples/three.tab' snmp snmpwalk table:examples/th
+offers 'examples/three.tab' snmp snmpwalk -On --mib x.txt table:examples/th
+offers 'examples/three.tab' snmp snmpd --table examples/th
+offers 'examples/three.tab' snmp snmpd --table=examples/th
+offers 'examples/tiny.txt' snmp snmpget --mib examples/ti
+offers 'examples/tiny.txt' snmp snmpget --mib=examples/ti
+offers 'table:' snmp snmpget ta
+offers 'table:' snmp snmpget -c ta ta
+offers '' snmp snmpget table:x ta
+offers '' snmp snmpget --after ta
+offers '-Td' snmptranslate -T
+if command -v zsh >/dev/null; then
+    same 'zsh -n' '' "$(zsh -n completions/_snmp 2>&1)"
+fi
+for letter in $(letters snmpwalk -O); do
+    count "$(grep -qF "'${letter}[" completions/_snmp || echo "zsh isn't offered -O $letter")"
+done
+for command in $commands; do
+    for option in $(taken "$command" | sed -n 's/^\(-[^ ]*\) .*/\1/p'); do
+        count "$(grep -qE -e "['*\"]${option}[+=]\[" completions/_snmp || echo "zsh isn't offered $option")"
+    done
+done
+
+# -- the install
+
+# A folder with what an install takes, so that nothing of the repository is touched.
+tree() {
+    rm -rf "${got:?}/tree" "${got:?}/usr" "${got:?}/names"
+    mkdir -p "$got/tree/crates/snmp/out" "$got/tree/modules" "$got/tree/docs"
+    cp -r snmp tools completions "$got/tree"
+    cp docs/snmp.1 "$got/tree/docs"
+    ln -s "$program" "$got/tree/crates/snmp/out/snmp"
+    touch "$got/tree/crates.txt" -d 2000-01-01
+    echo 'base' >"$got/tree/modules/base.txt"
+}
+install_with() { (cd "$got" && tree/snmp --install "$@" 2>&1); }
+there() { (cd "$got" && find usr names -type f -o -type l 2>/dev/null | sort); }
+
+tree
+files='bin/lines-to-table bin/snmp share/bash-completion/completions/snmp share/man/man1/snmp.1
+share/snmp/modules/base.txt share/zsh/site-functions/_snmp'
+files=$(printf 'usr/%s\n' $files)
+scripts=$(printf 'names/%s\n' $commands)
+same 'an install lists its files' "$files" "$(install_with usr | sed "s:^$got/::" | sort)"
+same 'the files of an install' "$files" "$(there)"
+same 'an installed program runs' "$("$program" --version)" "$(cd / && "$got/usr/bin/snmp" --version)"
+same 'an installed lines-to-table runs' '1.3.6|2|1' "$(echo '.1.3.6 = INTEGER: 1' | "$got/usr/bin/lines-to-table")"
+for file in tools/lines-to-table:bin/lines-to-table docs/snmp.1:share/man/man1/snmp.1 \
+    completions/snmp.bash:share/bash-completion/completions/snmp completions/_snmp:share/zsh/site-functions/_snmp; do
+    count "$(cmp "${file%%:*}" "$got/usr/${file#*:}" 2>&1)"
+done
+same 'modes of an install' '644 755' "$(stat -c %a "$got/usr/share/man/man1/snmp.1" "$got/usr/bin/snmp" | xargs)"
+
+install_with usr --with-names names >"$got/out"
+same 'an install over an install, with names' "$(printf '%s\n' "$files" "$scripts" | sort)" "$(there)"
+for command in $commands; do
+    same "$command by its name" "$("$program" "$command" --help)" "$("$got/names/$command" --help)"
+done
+three='.1.3.6.1.4.1.32473.1.1.0 = INTEGER: 1
+.1.3.6.1.4.1.32473.1.2.0 = STRING: "wes"
+.1.3.6.1.4.1.32473.1.10.0 = INTEGER: 3'
+same 'a walk by its own name' "$three" "$("$got/names/snmpwalk" -v2c -cpublic -On table:examples/three.tab .1)"
+install_with usr --with-names names >"$got/out"
+same 'names over those of an install' 0 $?
+mkdir "$got/it's"
+install_with "it's here" --with-names "it's" >"$got/out"
+same 'a folder with a quote' "$three" "$("$got/it's/snmpwalk" -On table:examples/three.tab .1)"
+
+tree
+mkdir "$got/names"
+echo another >"$got/names/snmpwalk"
+same 'a file of another is left as it is' \
+    "snmp: $got/names/snmpwalk: is there, and is no script of an install; --force replaces it" \
+    "$(install_with usr --with-names names)"
+same 'nothing is installed then' "names/snmpwalk another" "$(there) $(cat "$got/names/snmpwalk")"
+count "$([ ! -e "$got/usr" ] || echo 'folders are left')"
+install_with usr --with-names names --force >"$got/out"
+same '--force replaces it' "$three" "$("$got/names/snmpwalk" -On table:examples/three.tab .1)"
+
+tree
+mkdir -p "$got/usr/share/man/man1/snmp.1"
+same 'a folder in the way' "snmp: $got/usr/share/man/man1/snmp.1: is a folder" "$(install_with usr)"
+same 'nothing is left of it' '' "$(there)$(find "$got/usr/bin" 2>/dev/null)"
+tree
+touch "$got/usr"
+same 'a prefix that is no folder' "snmp: $got/usr: cannot be made" "$(install_with usr)"
+same 'no prefix' 'snmp: usage: ./snmp --install PREFIX [--with-names DIR] [--force]' "$(install_with)"
+same 'two prefixes' 'snmp: --install takes one folder, and b is a second' "$(install_with a b)"
+same 'no names' 'snmp: --with-names needs a folder' "$(install_with a --with-names)"
+same 'another option' 'snmp: --install has no option --prefix' "$(install_with --prefix a)"
+tree
+rm "$got/tree/crates/snmp/out/snmp"
+same 'no program' "snmp: the program isn't built, or is older than its sources: ./snmp --build" "$(install_with usr)"
+same 'nothing is installed of it' '' "$(there)"
+tree
+touch "$got/tree/crates.txt" -d 2100-01-01
+same 'an old program' "snmp: the program isn't built, or is older than its sources: ./snmp --build" "$(install_with usr)"
+
+# -- walks as tables
+
+e=1.3.6.1.4.1.32473.1
+many=$(printf '%02X' {0..255})
+cat >"$got/all.tab" <<TABLE
+$e.1.0|2|-2147483648
+$e.1.1|2|2147483647
+$e.4.0|4|wes
+$e.4.1|4|
+$e.4.2|4|say "hi" \\ there | bar
+$e.4.3|4| blanks 
+$e.4.4|4x|00163E5A788E
+$e.4.5|4x|${many:0:30}
+$e.4.6|4x|${many:0:32}
+$e.4.7|4x|${many:0:34}
+$e.4.8|4x|$many
+$e.4.9|4x|6C696E65310A6C696E65320D0A09746162
+$e.4.10|4x|2E312E332E36203D20494E54454745523A20310A
+$e.6.0|6|0.0
+$e.6.1|6|1.3.6.1.4.1.32473.4294967295
+$e.6.2|6|2.4294967295
+$e.64.0|64|192.0.2.1
+$e.65.0|65|4294967295
+$e.66.0|66|0
+$e.67.0|67|14096763
+$e.67.1|67|4294967295
+$e.68.0|68x|9F78043FC00000
+$e.68.1|68x|
+$e.68.2|68x|$many
+$e.70.0|70|18446744073709551615
+2.4294967295.4294967295|4|$(printf 'x%.0s' {1..1200})
+TABLE
+walk() { "$program" snmpbulkwalk "$@"; }
+same 'lines become the table' "$(cat "$got/all.tab")" \
+    "$(for root in .1 .2; do walk -Onx "table:$got/all.tab" $root; done | tools/lines-to-table)"
+for letters in n nx ne S; do
+    walk "-O$letters" -Cp "table:$got/all.tab" .1 >"$got/walk.txt"
+    tools/lines-to-table "$got/walk.txt" >"$got/copy.tab"
+    same "-O$letters: all can be turned" 0 $?
+    same "-O$letters: a walk of the copy" "$(cat "$got/walk.txt")" "$(walk "-O$letters" -Cp "table:$got/copy.tab" .1)"
+done
+
+# The copy as an agent, over UDP.
+place=127.0.0.1:$((20000 + RANDOM % 10000))
+"$program" snmpd --table "$got/copy.tab" --listen $place >"$got/listening" &
+server=$!
+for _ in {1..200}; do [ -s "$got/listening" ] && break; sleep 0.05; done
+same 'a walk of the copy that is served' "$(walk -Onx "table:$got/all.tab" .1)" "$(walk -Onx $place .1)"
+kill $server
+wait $server 2>/dev/null
+
+# turned TITLE ROWS MESSAGES LINES: the lines become these rows, and of the others it is told.
+turned() {
+    local status=0
+    printf '%s' "$4" | tools/lines-to-table >"$got/out" 2>"$got/err" || status=$?
+    same "$1" "$([ -z "$3" ]; echo $?) $2 $3" "$status $(cat "$got/out") $(cat "$got/err")"
+}
+turned 'strings in quotes go on in further lines' $'1.3.6.1|4x|610A62\n1.3.6.2|4|say "\\"\n1.3.6.3|4x|220A5C' '' \
+    $'.1.3.6.1 = STRING: "a\nb"\n.1.3.6.2 = STRING: "say \\"\\\\\\""\n.1.3.6.3 = STRING: "\\"\n\\\\"\n'
+turned 'a line in a string that looks like another' '1.3.6.1|4x|0A2E312E332E362E32203D20494E54454745523A2031' '' \
+    $'.1.3.6.1 = STRING: "\n.1.3.6.2 = INTEGER: 1"\n'
+turned 'roots by their labels' $'1.3.6.1|6|0.0\n1.3.6.2|6|2.999' '' \
+    $'iso.3.6.1 = OID: ccitt.0\niso.3.6.2 = OID: joint-iso-ccitt.999\n'
+turned 'names of numbers, units and bits' $'1.3.6.1|2|1\n1.3.6.2|66|5\n1.3.6.3|4x|8001\n1.3.6.4|4x|802010\n1.3.6.5|4|' '' \
+    $'.1.3.6.1 = INTEGER: up(1)\n.1.3.6.2 = Gauge32: 5 jobs\n.1.3.6.3 = BITS: 80 01 first(0) last(15) 
+.1.3.6.4 = BITS: 80 20 10 0 10 19 \n.1.3.6.5 = BITS: \n'
+turned 'bits in further lines' "1.3.6.1|4x|$(printf '0%.0s' {1..31})102" '' \
+    ".1.3.6.1 = BITS: $(printf '00 %.0s' {1..15})01 "$'\n02 a(127) 134 \n'
+turned 'lines that are no rows' '1.3.6.1|4|t' '' \
+    $'.1.3.6.1 = Wrong Type (should be INTEGER): STRING: "t"\n\n
+.1.3.6.1 = No more variables left in this MIB View (It is past the end of the MIB tree)\nVariables found: 1\n'
+turned 'values at their ends and past them' $'1.3.6.1|70|18446744073709551615\n1.3.6.3|2|-2147483648' \
+    'input:2: no value of its type: .1.3.6.2 = Counter64: 18446744073709551616
+input:4: no value of its type: .1.3.6.4 = INTEGER: 2147483648
+input:5: no value of its type: .1.3.6.5 = Gauge32: -1
+input:6: no value of its type: .1.3.6.6 = IpAddress: 1.2.3.256
+input:7: no name that a table holds: .1.3.6.7 = OID: .1.40
+input:8: no value of its type: .1.3.6.8 = Timeticks: 1:2:3.00' \
+    $'.1.3.6.1 = Counter64: 18446744073709551615\n.1.3.6.2 = Counter64: 18446744073709551616
+.1.3.6.3 = INTEGER: -2147483648\n.1.3.6.4 = INTEGER: 2147483648\n.1.3.6.5 = Gauge32: -1
+.1.3.6.6 = IpAddress: 1.2.3.256\n.1.3.6.7 = OID: .1.40\n.1.3.6.8 = Timeticks: 1:2:3.00\n'
+turned 'no types of a table' '' "input:1: no type that a table has: .1.3.6.1 = NULL
+input:2: no type that a table has: .1.3.6.2 = No Such Instance currently exists at this OID
+input:3: no type that a table has: .1.3.6.3 = Opaque: Float: 1.5
+input:4: no value of its type: .1.3.6.4 = STRING: 0:16:3e
+input:5: no value of its type: .1.3.6.5 = INTEGER: 0.05" \
+    $'.1.3.6.1 = NULL\n.1.3.6.2 = No Such Instance currently exists at this OID\n.1.3.6.3 = Opaque: Float: 1.5
+.1.3.6.4 = STRING: 0:16:3e\n.1.3.6.5 = INTEGER: 0.05\n'
+turned 'names that no table has' '' "input:1: no name in numbers: IF-MIB::ifIndex.1 = INTEGER: 1
+input:2: no name that a table holds: .1.3 = INTEGER: 1
+input:3: no name that a table holds: .1.3.4294967296 = INTEGER: 1
+input:4: no name that a table holds: .3.1.1 = INTEGER: 1
+input:5: no line of a walk: .1.3.6.1 \"t\"" \
+    $'IF-MIB::ifIndex.1 = INTEGER: 1\n.1.3 = INTEGER: 1\n.1.3.4294967296 = INTEGER: 1\n.3.1.1 = INTEGER: 1\n.1.3.6.1 "t"\n'
+turned 'a name that came before' '1.3.6.1|2|1' 'input:2: the name has a row: .1.3.6.1 = INTEGER: 2' \
+    $'.1.3.6.1 = INTEGER: 1\n.1.3.6.1 = INTEGER: 2\n'
+turned 'a string that has no end' '1.3.6.2|4|b' 'input:1: no value of its type: .1.3.6.1 = STRING: "a' \
+    $'.1.3.6.1 = STRING: "a\n.1.3.6.2 = STRING: "b"\n'
+turned 'a line that is cut' '1.3.6.1|2|1' 'input:2: cut off: .1.3.6.2 = INTEGER: 12' $'.1.3.6.1 = INTEGER: 1\n.1.3.6.2 = INTEGER: 12'
+for rest in '1' '11' '11 2'; do
+    turned "octets that are cut at $rest" '' "input:1: cut off: .1.3.6.1 = Hex-STRING: 00 " ".1.3.6.1 = Hex-STRING: 00 "$'\n'"$rest"
+done
+same 'a walk that is no file' "lines-to-table: [Errno 2] No such file or directory: 'no.txt'" "$(tools/lines-to-table no.txt 2>&1)"
+echo '.1.3.6 = INTEGER: 1' | tools/lines-to-table >/dev/full 2>"$got/err"
+same 'an output that takes no more' "1 lines-to-table: [Errno 28] No space left on device" "$? $(cat "$got/err")"
+
+# -- the version
+
+version=$("$program" --version)
+same 'the version of the changelog' "$version" "snmp $(sed -n 's/^## \([0-9][0-9.]*\).*/\1/p' CHANGELOG.md | head -n 1)"
+while read -r _ stated; do
+    same 'the version of README.md' "$version" "snmp $stated"
+done < <(grep -ohE '(\bsnmp|[Vv]ersion) [0-9]+\.[0-9]+\.[0-9]+' README.md | sort -u)
+
+echo "$passed passed, $failed failed"
+[ $failed = 0 ]
