@@ -2,7 +2,7 @@
 # Tests what an operator meets beside the program's own output: the manual and the completions against the
 # options that the program takes, the install, walks that become tables, and the version. The last line is
 # 'N passed, M failed'.
-# shellcheck disable=SC2086  # words are split on purpose
+# shellcheck disable=SC2016,SC2086  # words are split on purpose, and backquotes are those of pages
 set -uo pipefail
 export LC_ALL=C
 cd "$(dirname "${BASH_SOURCE[0]}")/.." || exit 1
@@ -79,6 +79,10 @@ done
 described=$(sed -n 's/^\.It Fl \([^ ]*\) Ar.*/\1/p; s/^\.It Fl \([hV]\) , -\(.*\)/\1\n-\2/p' docs/snmp.1 | sort)
 synopsis=$(sed -n '/^\.Sh SYNOPSIS/,/^\.Sh DESC/s/^\.\(Op \)\?Fl \([^ ]*\).*/\2/p' docs/snmp.1; echo V; echo -version; echo -help)
 same 'the options that the manual describes' "$(sort -u <<<"$synopsis")" "$described"
+while read -r message; do
+    count "$(grep -qxF ".It Li \"$message\"" docs/snmp.1 || echo "the manual lacks the message $message")"
+done < <(sed -n '/^| what | message |/,/^$/s/.*| \(.*\) |$/\1/p; /^Warnings change no status/p' docs/PROFILE.md |
+    grep -o '`[^`]*`' | tr -d '`' | grep -E '^([A-Z][a-z]|snmp: )')
 if command -v mandoc >/dev/null; then
     same 'mandoc -Tlint' '' "$(mandoc -Tlint -W warning docs/snmp.1 2>&1)"
 fi
@@ -214,6 +218,10 @@ tree
 mkdir -p "$got/usr/share/man/man1/snmp.1"
 same 'a folder in the way' "snmp: $got/usr/share/man/man1/snmp.1: is a folder" "$(install_with usr)"
 same 'nothing is left of it' '' "$(there)$(find "$got/usr/bin" 2>/dev/null)"
+tree
+same 'a file that cannot be written whole' "snmp: $got/usr/bin/snmp: cannot be written" \
+    "$(trap '' XFSZ; ulimit -f 16; install_with usr)"
+count "$([ ! -e "$got/usr" ] || echo 'folders are left')"
 tree
 touch "$got/usr"
 same 'a prefix that is no folder' "snmp: $got/usr: cannot be made" "$(install_with usr)"
