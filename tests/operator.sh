@@ -280,7 +280,10 @@ for letters in n nx ne S; do
 done
 
 # The copy as an agent, over UDP.
-place=127.0.0.1:$((20000 + RANDOM % 10000))
+place=127.0.0.1:$(python3 -c 'import socket
+door = socket.socket(socket.AF_INET, socket.SOCK_DGRAM)
+door.bind(("127.0.0.1", 0))
+print(door.getsockname()[1])')
 "$program" snmpd --table "$got/copy.tab" --listen $place >"$got/listening" &
 server=$!
 for _ in {1..200}; do [ -s "$got/listening" ] && break; sleep 0.05; done
