@@ -75,10 +75,13 @@ def check(title, got, wanted):
         print(f"FAILED: {title}\n  wanted {wanted!r}\n  got    {got!r}")
 
 
-def run(*words, top=TOP):
+def run(*words):
     """The status of the program, what it wrote and what it said."""
-    ran = subprocess.run([PROGRAM, *words], cwd=top, capture_output=True, text=True, timeout=60,
-                         stdin=subprocess.DEVNULL)
+    try:
+        ran = subprocess.run([PROGRAM, *words], cwd=TOP, capture_output=True, text=True, timeout=300,
+                             stdin=subprocess.DEVNULL)
+    except subprocess.TimeoutExpired:
+        return None, "", "no end in 300 seconds"
     return ran.returncode, ran.stdout, ran.stderr
 
 
@@ -172,9 +175,9 @@ def translations(files):
         for name, label in found:
             module = name or module
             labels += [f"{module}::{label}"] if label else []
-        status, numbers, said = run("snmptranslate", "--mib", ALL, "-On", *labels)
-        check(f"each label of {file} has numbers", (status, numbers.count("\n"), said), (0, len(labels), ""))
-        check(f"each number of {file} has its label", run("snmptranslate", "--mib", ALL, *numbers.split()),
+        numbers = run("snmptranslate", "--mib", ALL, "-On", *labels)[1].split()
+        check(f"each label of {file} has numbers", len(numbers), len(labels))
+        check(f"each number of {file} has its label", run("snmptranslate", "--mib", ALL, *numbers),
               (0, "".join(f"{label}\n" for label in labels), ""))
 
 
