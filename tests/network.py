@@ -184,29 +184,53 @@ def failing(status, index, bindings=()):
     return lambda seen: [reply(seen[-1], bindings, status, index)]
 
 
-def play(door, agent, seen, faults, program):
-    """Plays the agent at a socket, up to an empty datagram."""
-    with socket.socket(socket.AF_INET, socket.SOCK_DGRAM) as other:
-        while True:
-            datagram, sender = door.recvfrom(65535)
-            if not datagram:
-                return
-            seen.append(datagram)
-            try:
-                for act in agent([read(request) for request in seen]):
-                    if act is stopping:
-                        pid = program.result()
-                        os.kill(pid, signal.SIGSTOP)
-                        time.sleep(0.1)
-                        os.kill(pid, signal.SIGCONT)
-                    elif isinstance(act, Elsewhere):
-                        other.sendto(act.datagram, sender)
-                    elif isinstance(act, bytes):
-                        door.sendto(act, sender)
-                    else:
-                        time.sleep(act)
-            except Exception:
-                faults.append(traceback.format_exc())
+class Agent:
+    """An agent of this script at one of this machine's addresses, with what it was sent and by whom. `pid` is told
+    of the program that asks, where the agent stops it."""
+
+    def __init__(self, agent, host="127.0.0.1"):
+        self.agent, self.host = agent, host
+        self.seen, self.senders, self.faults, self.pid = [], [], [], concurrent.futures.Future()
+
+    def __enter__(self):
+        self.door = socket.socket(socket.AF_INET, socket.SOCK_DGRAM)
+        self.door.bind((self.host, 0))
+        self.port = self.door.getsockname()[1]
+        self.place = f"{self.host}:{self.port}"
+        self.player = threading.Thread(target=self.play)
+        self.player.start()
+        return self
+
+    def __exit__(self, *_):
+        with socket.socket(socket.AF_INET, socket.SOCK_DGRAM) as ender:
+            ender.sendto(b"", (self.host, self.port))
+        self.player.join()
+        self.door.close()
+
+    def play(self):
+        """Plays the agent, up to an empty datagram."""
+        with socket.socket(socket.AF_INET, socket.SOCK_DGRAM) as other:
+            while True:
+                datagram, sender = self.door.recvfrom(65535)
+                if not datagram:
+                    return
+                self.seen.append(datagram)
+                self.senders.append(sender)
+                try:
+                    for act in self.agent([read(request) for request in self.seen]):
+                        if act is stopping:
+                            pid = self.pid.result()
+                            os.kill(pid, signal.SIGSTOP)
+                            time.sleep(0.1)
+                            os.kill(pid, signal.SIGCONT)
+                        elif isinstance(act, Elsewhere):
+                            other.sendto(act.datagram, sender)
+                        elif isinstance(act, bytes):
+                            self.door.sendto(act, sender)
+                        else:
+                            time.sleep(act)
+                except Exception:
+                    self.faults.append(traceback.format_exc())
 
 
 Run = collections.namedtuple("Run", "status output messages asked seconds faults")
@@ -214,28 +238,20 @@ Run = collections.namedtuple("Run", "status output messages asked seconds faults
 
 def run(words, agent):
     """Runs the program, `AGENT` among the words standing for the agent's place; that is what it says then."""
-    with socket.socket(socket.AF_INET, socket.SOCK_DGRAM) as door:
-        door.bind(("127.0.0.1", 0))
-        host, port = door.getsockname()
-        place, seen, faults, pid = f"{host}:{port}", [], [], concurrent.futures.Future()
-        player = threading.Thread(target=play, args=(door, agent, seen, faults, pid))
-        player.start()
+    with Agent(agent) as asked:
         begun = time.monotonic()
-        words = [word.replace("AGENT", place).replace("PORT", str(port)) for word in words]
+        words = [word.replace("AGENT", asked.place).replace("PORT", str(asked.port)) for word in words]
         with subprocess.Popen([PROGRAM, *words], stdin=subprocess.DEVNULL, stdout=subprocess.PIPE,
                               stderr=subprocess.PIPE) as program:
-            pid.set_result(program.pid)
+            asked.pid.set_result(program.pid)
             try:
                 output, messages = program.communicate(timeout=60)
             except subprocess.TimeoutExpired:
                 program.kill()
                 output, messages = program.communicate()
         seconds = time.monotonic() - begun
-        with socket.socket(socket.AF_INET, socket.SOCK_DGRAM) as ender:
-            ender.sendto(b"", (host, port))
-        player.join()
-        output, messages = (octets.decode().replace(place, "AGENT") for octets in (output, messages))
-        return Run(program.returncode, output, messages, seen, seconds, faults)
+    output, messages = (octets.decode().replace(asked.place, "AGENT") for octets in (output, messages))
+    return Run(program.returncode, output, messages, asked.seen, seconds, asked.faults)
 
 
 def shown(datagrams):
@@ -675,6 +691,15 @@ class Server:
         return self.program.returncode, output, messages
 
 
+def sockets_of(pid):
+    """How many sockets a program has, and the addresses and ports of those of UDP, as /proc/net/udp has them."""
+    links = [os.readlink(link) for link in glob.glob(f"/proc/{pid}/fd/*")]
+    sockets = [link[len("socket:["):-1] for link in links if link.startswith("socket:[")]
+    with open("/proc/net/udp", encoding="ascii") as file:
+        places = [fields[1] for fields in map(str.split, file) if fields[9] in sockets]
+    return len(sockets), places
+
+
 def differs(got, wanted):
     return "" if got == wanted else f"{got!r}\n  not {wanted!r}"
 
@@ -856,11 +881,7 @@ def snmpd_stopped():
 @test("snmpd listens on the stated port and no other")
 def snmpd_port():
     with Server() as server:
-        links = [os.readlink(link) for link in glob.glob(f"/proc/{server.program.pid}/fd/*")]
-        sockets = [link[len("socket:["):-1] for link in links if link.startswith("socket:[")]
-        with open("/proc/net/udp", encoding="ascii") as file:
-            places = [fields[1] for fields in map(str.split, file) if fields[9] in sockets]
-        return differs((len(sockets), places), (1, [f"0100007F:{server.port:04X}"]))
+        return differs(sockets_of(server.program.pid), (1, [f"0100007F:{server.port:04X}"]))
 
 
 @test("snmpd refuses a port that another listens on")
@@ -969,9 +990,10 @@ def relayed_walks():
     return "\n  ".join(wrong) or differs(any(whole for _, whole in outcomes), True)
 
 
-def main():
+def run_tests(script, tests):
+    """Runs these tests, and prints what is wrong and the counts; the script's exit status."""
     if not os.access(PROGRAM, os.X_OK):
-        print("tests/network.py: the program isn't built: ./snmp --build", file=sys.stderr)
+        print(f"{script}: the program isn't built: ./snmp --build", file=sys.stderr)
         return 1
 
     def tried(function):
@@ -992,4 +1014,4 @@ def main():
 
 
 if __name__ == "__main__":
-    sys.exit(main())
+    sys.exit(run_tests("tests/network.py", tests))

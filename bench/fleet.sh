@@ -1,0 +1,131 @@
+#!/usr/bin/env bash
+# Polls many agents on loopback, each over a table of 24 interfaces that the program's own snmpd serves, so
+# many at a time: by a Get of five names, and by walks and bulk walks of a column and of the whole table. It
+# prints the seconds, the clients' seconds of a processor and their instructions for each poll, beside those
+# of Net-SNMP's tools where these are installed (Debian's package snmp), which take turns with ours in each
+# round; of the seconds it prints the least. Then it polls a fleet of which one in ten is silent.
+#
+#   bench/fleet.sh [AGENTS [AT-ONCE [ROUNDS [GETS]]]]        200, 16, 5 and 1,000 by default
+#
+# Without valgrind it leaves the instructions out. The seconds are of use on a quiet machine alone.
+source "$(dirname "${BASH_SOURCE[0]}")/common.sh"
+agents=${1:-200}
+at_once=${2:-16}
+rounds=${3:-5}
+gets=${4:-1000}
+program=$top/crates/snmp/out/snmp
+[ -x "$program" ] || "$top/snmp" --build
+port=$((20000 + RANDOM % 8000))
+table=.1.3.6.1.2.1.2.2.1
+column=$table.2
+names=("$table.8.1" "$table.10.1" "$table.14.1" "$table.16.1" "$table.20.1")
+started=()
+trap 'kill "${started[@]}" 2>/dev/null; rm -rf "$work"' EXIT
+
+for row in {1..24}; do
+    for of in 1 3 4 7 8 14; do echo "$table.$of.$row|2|$((row * of))"; done
+    echo "$table.2.$row|4|GigabitEthernet0/$row"
+    for of in 5 21; do echo "$table.$of.$row|66|1000000000"; done
+    printf '%s.6.%s|4x|0200000000%02x\n' "$table" "$row" "$row"
+    echo "$table.9.$row|67|$((row * 8640000))"
+    for of in 10 11 12 13 15 16 17 18 19 20; do echo "$table.$of.$row|65|$((row * of * 1000003))"; done
+    echo "$table.22.$row|6|.0.0"
+done >"$work/table.tab"
+for ((i = 0; i < agents; i++)); do
+    "$program" snmpd --table "$work/table.tab" --listen "127.0.0.1:$((port + i))" >"$work/agent.$i" 2>&1 &
+    started+=($!)
+    echo "127.0.0.1:$((port + i))"
+done >"$work/devices"
+for ((i = 0; i < agents; i++)); do
+    until [ -s "$work/agent.$i" ]; do sleep 0.02; done
+    grep -q '^listening' "$work/agent.$i" || { cat "$work/agent.$i" >&2; exit 1; }
+done
+
+# timed DEVICES PROGRAM WORD..: polls the devices, DEVICE among the words; the seconds, and those of a processor.
+timed() {
+    local devices=$1 TIMEFORMAT='%R %U %S'
+    shift
+    { time xargs -P "$at_once" -I DEVICE "$@" <"$devices" >/dev/null 2>&1 || true; } 2>&1 |
+        awk '{ print $1, $2 + $3 }'
+}
+
+# count PROGRAM WORD..: the instructions of a run.
+count() {
+    command -v valgrind >/dev/null || return 0
+    ln -sf "$(command -v "$1")" "$work/driver"
+    shift
+    instructions "${@//DEVICE/127.0.0.1:$port}"
+}
+
+# beside NAME POLLS: a line of what ours and theirs, as $work/ours and $work/theirs have them, take.
+beside() {
+    awk -v name="$1" -v polls="$2" '
+        NF == 1 { count[FILENAME] = $1 }
+        NF == 2 && (!(FILENAME in wall) || $1 < wall[FILENAME]) { wall[FILENAME] = $1 }
+        NF == 2 && (!(FILENAME in used) || $2 < used[FILENAME]) { used[FILENAME] = $2 }
+        function told(file) {
+            printf "%.2f s, %.2f s of a processor", wall[file], used[file]
+            if (file in count) printf ", %d instructions a poll", count[file]
+        }
+        END {
+            printf "%s, %d polls: ", name, polls; told("ours")
+            if ("theirs" in wall) {
+                printf "; Net-SNMP'\''s "; told("theirs")
+                printf " (%.1f, %.1f", wall["theirs"] / wall["ours"], used["theirs"] / used["ours"]
+                if ("ours" in count) printf ", %.1f", count["theirs"] / count["ours"]
+                printf " times as many)"
+            }
+            print ""
+        }' "${both[@]}"
+}
+
+# compare NAME DEVICES COMMAND OPTIONS WORD..: polls by ours and theirs, in turns.
+compare() {
+    local name=$1 devices=$2 command=$3 options=$4 both=(ours) round
+    shift 4
+    local ours=("$program" "$command" -On -t 1 -r 0 $options DEVICE "$@")
+    local theirs=("$command" -v2c -c public -m '' -On -t 1 -r 0 $options DEVICE "$@")
+    cd "$work"
+    count "${ours[@]}" >ours
+    if command -v "$command" >/dev/null; then
+        both+=(theirs)
+        count "${theirs[@]}" >theirs
+    fi
+    for ((round = 0; round < rounds; round++)); do
+        timed "$devices" "${ours[@]}" >>ours
+        [ ${#both[@]} = 1 ] || timed "$devices" "${theirs[@]}" >>theirs
+    done
+    beside "$name" "$(wc -l <"$devices")"
+}
+
+# A Get is short, so each agent is asked several times.
+for ((i = 0; i < gets; i += agents)); do cat "$work/devices"; done >"$work/many"
+echo "$agents agents, $at_once at a time, $(wc -l <"$work/table.tab") rows each, the least of $rounds rounds"
+compare 'Get of five names' "$work/many" snmpget '' "${names[@]}"
+compare 'walk of a column' "$work/devices" snmpwalk '' "$column"
+compare 'bulk walk of a column, -Cr25' "$work/devices" snmpbulkwalk -Cr25 "$column"
+compare 'walk of the table' "$work/devices" snmpwalk '' "$table"
+compare 'bulk walk of the table, -Cr25' "$work/devices" snmpbulkwalk -Cr25 "$table"
+
+# One in ten is silent: sockets that nobody reads.
+silent=$(((agents + 9) / 10))
+python3 - "$silent" >"$work/silent" <<'SILENT' &
+import socket, sys, time
+doors = [socket.socket(socket.AF_INET, socket.SOCK_DGRAM) for _ in range(int(sys.argv[1]))]
+for door in doors:
+    door.bind(("127.0.0.1", 0))
+    print("127.0.0.1:{1}".format(*door.getsockname()))
+print(flush=True)
+time.sleep(86400)
+SILENT
+started+=($!)
+until grep -q '^$' "$work/silent"; do sleep 0.1; done
+grep . "$work/silent" >"$work/dead"
+awk -v dead="$work/dead" 'NR % 10 == 1 { getline < dead } { print }' "$work/devices" >"$work/mixed"
+read -r seconds used < <(timed "$work/mixed" "$program" snmpget -On -t 1 -r 0 DEVICE "${names[@]}")
+[ "$(grep -cxFf "$work/dead" "$work/mixed")" = "$silent" ]
+awk -v n="$agents" -v silent="$silent" -v at_once="$at_once" -v seconds="$seconds" -v used="$used" 'BEGIN {
+    waves = int((silent + at_once - 1) / at_once)
+    printf "Get of five names, %d agents of which %d are silent, -t 1 -r 0: %.2f s, %.2f s of a processor;", n, silent, seconds, used
+    printf " the silent ones take %.2f s at %d at a time, %d where they come together\n", silent / at_once, at_once, waves
+}'

@@ -1,0 +1,698 @@
+#!/usr/bin/env python3
+"""Runs the built program at the machine's edge, of which no proof knows: this machine's addresses, signals,
+outputs that take a part, files without an end, and descriptors, memory and ports that run out.
+
+usage: edge.py
+
+Above a test stands, after 'Catches', a wrong program that would prove as well and that the test catches. What
+this machine has no means for is named, and not tried. Its last line is 'N passed, M failed'.
+"""
+import concurrent.futures
+import contextlib
+import errno
+import fcntl
+import os
+import random
+import resource
+import signal
+import socket
+import struct
+import subprocess
+import sys
+import tempfile
+import termios
+import threading
+import time
+
+import network
+from network import (Agent, E, FIRST, LINES, NAMES, PROGRAM, R, ROOT, ROWS, SECOND, SILENT, Server, differs, dotted,
+                     failing, get, integer, message, nexts, reply, saying, served, serving, silent, sockets_of,
+                     stopping, test, text, walks)
+
+network.tests.clear()
+FAILED = "The output failed.\n"
+NO_LINK = "The link failed.\n"
+untried = []
+
+
+def start(*words, before=(), **where):
+    """Starts the program by these words, with a command that runs it before them."""
+    where = {"stdin": subprocess.DEVNULL, "stdout": subprocess.PIPE, "stderr": subprocess.PIPE, **where}
+    return subprocess.Popen([*before, PROGRAM, *words], **where)
+
+
+def ended(program):
+    """Its status, and the rest of what it wrote to its output, where that is a pipe to here, and said."""
+    try:
+        output, messages = program.communicate(timeout=60)
+    except subprocess.TimeoutExpired:
+        program.kill()
+        output, messages = program.communicate()
+    return program.returncode, (output or b"").decode(), (messages or b"").decode()
+
+
+def run(*words, **how):
+    return ended(start(*words, **how))
+
+
+def until(holds):
+    """Waits until this holds."""
+    for _ in range(6000):
+        if holds():
+            return
+        time.sleep(0.01)
+    raise RuntimeError("it didn't come to that in a minute")
+
+
+def state(pid):
+    """A process's state: R as it runs, S as it waits, T as it is stopped."""
+    with open(f"/proc/{pid}/stat", encoding="utf-8") as file:
+        return file.read().rpartition(")")[2].split()[0]
+
+
+def waits(program, reader):
+    """Whether the program waits for a reader of its output, who has something to read; it must not have ended."""
+    if program.poll() is not None:
+        raise RuntimeError(f"the program has ended with status {program.returncode}")
+    return held(reader) > 0 and state(program.pid) == "S"
+
+
+def stop(pid):
+    """Stops a process, and lets it go on."""
+    os.kill(pid, signal.SIGSTOP)
+    until(lambda: state(pid) == "T")
+    os.kill(pid, signal.SIGCONT)
+    until(lambda: state(pid) != "T")
+
+
+@contextlib.contextmanager
+def file(octets=b"", size=None):
+    """The path of a file with these octets; of this size, the rest zeros that take no room on the disk."""
+    with tempfile.NamedTemporaryFile() as it:
+        it.write(octets)
+        it.flush()
+        if size is not None:
+            it.truncate(size)
+        yield it.name
+
+
+@contextlib.contextmanager
+def fifo():
+    with tempfile.TemporaryDirectory() as folder:
+        os.mkfifo(f"{folder}/fifo")
+        yield f"{folder}/fifo"
+
+
+def wrongs(*found):
+    return "\n  ".join(filter(None, found))
+
+
+def stated(rows):
+    """A table file of these rows, whose values are numbers or texts."""
+    return "".join(f"{dotted(name)}|{2 if isinstance(value, int) else 4}|{value}\n"
+                   for name, value in rows.items()).encode()
+
+
+def lines(rows):
+    """What a walk of them prints."""
+    return "".join(f"{dotted(name)} = " + (f"INTEGER: {value}\n" if isinstance(value, int) else f'STRING: "{value}"\n')
+                   for name, value in sorted(rows.items()))
+
+
+# -- addresses
+
+def own_addresses():
+    """Two of this machine's addresses beside 127.0.0.1, or one: where a datagram to elsewhere would be sent from
+    is another, but none is sent."""
+    yield "127.0.0.2"
+    with socket.socket(socket.AF_INET, socket.SOCK_DGRAM) as probe:
+        try:
+            probe.connect(("198.51.100.1", 9))
+        except OSError:
+            untried.append("an agent at an address that isn't a loopback one: this machine has none")
+            return
+        yield probe.getsockname()[0]
+
+
+# Catches: a socket that is bound to 127.0.0.1, or one for each request; a second socket beside the walk's.
+@test("a walk and a Get have one socket, at no address of its own, and send all from there")
+def one_socket():
+    wrong = []
+    for command, count in ("snmpwalk", 4), ("snmpbulkwalk", 1), ("snmpget", 1):
+        places = []
+
+        def looking(seen):
+            places.append(sockets_of(agent.pid.result()))
+            return [served(ROWS, seen[-1])]
+        with Agent(looking) as agent:
+            program = start(command, "-On", agent.place, ROOT)
+            agent.pid.set_result(program.pid)
+            ended(program)
+        port = agent.senders[0][1]
+        wrong += [differs(places, [(1, [f"00000000:{port:04X}"])] * count), *agent.faults,
+                  differs({sender[1] for sender in agent.senders}, {port})]
+    return wrongs(*wrong)
+
+
+# Catches: a socket that is bound to 127.0.0.1, which then asks the others from there.
+@test("an agent at another of this machine's addresses is asked, from the address that the system chooses")
+def other_addresses():
+    wrong = []
+    for host in own_addresses():
+        with Agent(serving(ROWS), host) as agent:
+            wrong.append(differs(run("snmpwalk", "-On", agent.place, ROOT), (0, LINES, "")))
+        if not host.startswith("127."):
+            wrong.append(differs({sender[0] for sender in agent.senders}, {host}))
+        # snmpd listens there and not elsewhere.
+        with Server(host=host) as server:
+            wrong.append(differs(run("snmpget", "-On", server.place, f"{ROOT}.1.0"), (0, FIRST, "")))
+            there = f"127.0.0.1:{server.port}"
+            wrong.append(differs(run("snmpget", "-r", "0", there, f"{ROOT}.1.0"),
+                                 (1, "", SILENT.replace("AGENT", there))))
+    return wrongs(*wrong)
+
+
+# -- names of several addresses
+#
+# A file of hosts is mounted over the machine's own, where only the program sees it.
+
+with file() as nothing:
+    mounts = subprocess.run(["unshare", "-rm", "mount", "--bind", nothing, "/etc/hosts"], capture_output=True,
+                            check=False).returncode == 0
+HOSTS = """for name in hosts nsswitch.conf; do mount --bind "$1/$name" "/etc/$name" || exit 99; done
+shift
+exec "$@"
+"""
+
+
+def where(possible, title, means):
+    """A test that is tried only where that is possible; else what is missing is told at the end."""
+    if possible:
+        return test(title)
+    untried.append(f"{title}: {means}")
+    return lambda function: function
+
+
+# Catches: the first address of any family, which the socket can't be sent to; an IPv4 address only where it is
+# the first.
+@where(mounts, "of a host's addresses the first of IPv4 is asked", "no file can be mounted here")
+def both_families():
+    wrong = []
+    with tempfile.TemporaryDirectory() as folder, Agent(serving(ROWS), "127.0.0.2") as agent, \
+            Server(host="127.0.0.2") as server:
+        with open(f"{folder}/nsswitch.conf", "w", encoding="ascii") as table:
+            table.write("hosts: files\n")
+        for hosts, status in {"::1 both\n127.0.0.2 both\n": 0, "127.0.0.2 both\n::1 both\n": 0,
+                              "::1 both\n::2 both\n127.0.0.2 other both\n": 0, "::1 both\n": 1,
+                              "127.0.0.2 other\n": 1}.items():
+            with open(f"{folder}/hosts", "w", encoding="ascii") as table:
+                table.write(hosts)
+            before = ["unshare", "-rm", "sh", "-c", HOSTS, "-", folder]
+            for port in agent.port, server.port:
+                ran = run("snmpget", "-On", f"both:{port}", f"{ROOT}.1.0", before=before)
+                wrong.append(differs((hosts, ran), (hosts, (status, "", NO_LINK) if status else (0, FIRST, ""))))
+            free = next(network.ports)
+            ran = run("snmpd", "--table", server.file.name, "--listen", f"both:{free}", "--turns", "0", before=before)
+            wrong.append(differs((hosts, ran), (hosts, (status, "", NO_LINK) if status else
+                                                (0, f"listening on both:{free}\n0 replies, 0 dropped\n", ""))))
+    return wrongs(*wrong)
+
+
+# -- a walk that is stopped and let go on
+#
+# A receive that waits is interrupted by that. Catches: an interrupted receive as one that brought nothing, which
+# sends the request again and takes a try; or as a link that failed.
+for walker in "snmpwalk", "snmpbulkwalk -Cr1":
+    walks(f"{walker}, stopped thrice in each wait, sends each request once", f"{walker} -On -r 9 -t 5 AGENT {ROOT}",
+          lambda seen: [0.1, stopping, 0.05, stopping, 0.05, stopping, served(ROWS, seen[-1])], LINES,
+          asked=nexts(*NAMES) if walker == "snmpwalk" else network.bulks(1, *NAMES))
+walks("a Get, stopped thrice in its one wait, takes the reply", f"snmpget -On -r 0 -t 5 AGENT {ROOT}.1.0",
+      lambda seen: [0.1, stopping, 0.05, stopping, 0.05, stopping, served(ROWS, seen[-1])], FIRST,
+      asked=get(NAMES[1]))
+
+
+# -- outputs
+
+# Six rows of 60,000 octets each, whose letters tell where a piece is from.
+LONG = {R + (i,): chr(ord("a") + i) * 60000 for i in range(6)}
+LONG_TEXT = lines(LONG)
+BIG = "--max-size=65507"
+
+
+def held(pipe):
+    """How many octets wait in a pipe or a socket."""
+    return struct.unpack("i", fcntl.ioctl(pipe, termios.FIONREAD, bytes(4)))[0]
+
+
+def all_of(reader, most=1 << 20):
+    """What is left to read, by pieces of at most so many octets."""
+    octets = b""
+    while piece := os.read(reader, most):
+        octets += piece
+    return octets.decode()
+
+
+def beginning(got, whole):
+    return "" if whole.startswith(got) else f"not the beginning of the text, from octet {len(os.path.commonprefix([got, whole]))}"
+
+
+# Catches: a write that took a part as one that took the whole, or that begins anew after it; the status 0 after
+# a write that failed.
+@test("a pipe that doesn't block and isn't read takes the beginning of the text")
+def full_pipe():
+    with file(stated(LONG)) as table:
+        reader, writer = os.pipe()
+        os.set_blocking(writer, False)
+        program = start("snmpwalk", "-On", BIG, f"table:{table}", ROOT, stdout=writer)
+        os.close(writer)
+        status, _, messages = ended(program)
+        got = all_of(reader)
+        os.close(reader)
+    return wrongs(beginning(got, LONG_TEXT), differs((status, messages), (1, FAILED)),
+                  differs(0 < len(got) < len(LONG_TEXT), True))
+
+
+@test("a pipe that doesn't block and is read slowly takes the beginning of the text, and at status 0 the whole")
+def slow_pipe():
+    wrong = []
+    with file(stated(LONG)) as table:
+        for seed in range(12):
+            rng, got = random.Random(seed), b""
+            reader, writer = os.pipe()
+            os.set_blocking(writer, False)
+            program = start("snmpwalk", "-On", BIG, f"table:{table}", ROOT, stdout=writer)
+            os.close(writer)
+            while piece := os.read(reader, rng.choice([100, 5000, 70000])):
+                got += piece
+                time.sleep(rng.choice([0, 0, 0.0001, 0.001]))
+            os.close(reader)
+            status, _, messages = ended(program)
+            whole = got.decode() == LONG_TEXT
+            wrong += [beginning(got.decode(), LONG_TEXT), differs((status, messages), (0, "") if whole else (1, FAILED))]
+    return wrongs(*wrong)
+
+
+# A write that waits takes a part as it is stopped. Catches: that part as the whole.
+@test("a walk that is stopped while a pipe takes a line prints the whole")
+def stopped_write():
+    with file(stated(LONG)) as table:
+        reader, writer = os.pipe()
+        fcntl.fcntl(writer, fcntl.F_SETPIPE_SZ, 4096)
+        program = start("snmpwalk", "-On", BIG, f"table:{table}", ROOT, stdout=writer)
+        os.close(writer)
+        got = ""
+        for _ in range(20):
+            until(lambda: waits(program, reader))
+            stop(program.pid)
+            got += os.read(reader, 4096).decode()
+        got += all_of(reader)
+        os.close(reader)
+        return differs((got == LONG_TEXT, ended(program)), (True, (0, "", "")))
+
+
+# A write to a socket with a limit of time is interrupted as it is stopped. Catches: an interrupted write as one
+# that failed.
+@test("a write that a signal interrupts is made again")
+def interrupted_write():
+    with file(stated(LONG)) as table:
+        ours, theirs = socket.socketpair()
+        theirs.setsockopt(socket.SOL_SOCKET, socket.SO_SNDBUF, 4096)
+        theirs.setsockopt(socket.SOL_SOCKET, socket.SO_SNDTIMEO, struct.pack("ll", 60, 0))
+        program = start("snmpwalk", "-On", BIG, f"table:{table}", ROOT, stdout=theirs)
+        theirs.close()
+        got = ""
+        for _ in range(20):
+            for _ in range(3):
+                until(lambda: waits(program, ours))
+                stop(program.pid)
+            got += ours.recv(1000).decode()
+        got += all_of(ours.fileno())
+        ours.close()
+        return differs((got == LONG_TEXT, ended(program)), (True, (0, "", "")))
+
+
+# Catches: a walk that asks on where nobody reads.
+@test("a walk whose reader goes away ends at the next line, and asks no more")
+def reader_goes():
+    wrong = []
+    for command, count in ("snmpwalk", 3), ("snmpbulkwalk", 1):
+        reader, writer = os.pipe()
+        taken = []
+
+        def leaving(seen):
+            if len(seen) == count:
+                if count > 1:
+                    taken.append(os.read(reader, 1000).decode())
+                os.close(reader)
+            return [served(ROWS, seen[-1])]
+        with Agent(leaving) as agent:
+            program = start(command, "-On", agent.place, ROOT, stdout=writer)
+            os.close(writer)
+            wrong.append(differs(ended(program), (1, "", FAILED)))
+        asked = nexts(*NAMES[:3]) if count > 1 else network.bulks(10, R)
+        wrong += [differs(agent.seen, asked), differs(taken, [FIRST + SECOND][:count - 1]), *agent.faults]
+    return wrongs(*wrong)
+
+
+@test("a reader that goes away has the beginning of the text")
+def readers_of_some():
+    wrong = []
+    with file(stated(LONG)) as table:
+        for size in 1, 30, 4096, 60030, 100000, len(LONG_TEXT) - 70000:
+            reader, writer = os.pipe()
+            program = start("snmpwalk", "-On", BIG, f"table:{table}", ROOT, stdout=writer)
+            os.close(writer)
+            got = ""
+            while len(got) < size:
+                got += os.read(reader, size - len(got)).decode()
+            os.close(reader)
+            wrong += [differs(got == LONG_TEXT[:size], True), differs(ended(program), (1, "", FAILED))]
+    return wrongs(*wrong)
+
+
+SOME = {R + (i,): i for i in range(200)}
+SOME_TEXT = lines(SOME)
+
+
+# As on a full disk, a file takes so many octets and no more. Catches: a write that took a part as the whole,
+# which ends with status 0 or leaves lines out.
+@test("a file that takes so many octets has the beginning of the text, and at status 0 the whole")
+def full_file():
+    wrong = []
+    with file(stated(SOME)) as table:
+        for size in 0, 1, 37, 38, 39, 1000, 4096, len(SOME_TEXT) - 1, len(SOME_TEXT):
+            for ignores in True, False:
+                with tempfile.TemporaryFile() as out:
+                    before = ["env", "--ignore-signal=XFSZ"] if ignores else ["env", "--default-signal=XFSZ"]
+                    ran = run("snmpwalk", "-On", f"table:{table}", ROOT, stdout=out,
+                              before=[*before, "prlimit", f"--fsize={size}"])
+                    out.seek(0)
+                    got = out.read().decode()
+                whole = size == len(SOME_TEXT)
+                wrong += [differs(got == SOME_TEXT[:size], True), differs(
+                    ran, (0, "", "") if whole else (1, "", FAILED) if ignores else (-signal.SIGXFSZ, "", ""))]
+    return wrongs(*wrong)
+
+
+@where(mounts, "a disk that is full has the beginning of the text", "no disk can be mounted here")
+def full_disk():
+    with file(stated(LONG)) as table, tempfile.TemporaryDirectory() as folder:
+        words = ["snmpwalk", "-On", BIG, f"table:{table}", ROOT]
+        ran = subprocess.run(["unshare", "-rm", "sh", "-c", """
+            mount -t tmpfs -o size=128k none "$1" || exit 99
+            cd "$1"
+            shift
+            "$@" >out
+            status=$?
+            cat out
+            exit $status""", "-", folder, PROGRAM, *words], capture_output=True, text=True, timeout=60, check=False)
+        return wrongs(differs(ran.stdout == LONG_TEXT[:131072], True),
+                      differs((ran.returncode, ran.stderr), (1, FAILED)))
+
+
+# -- signals
+
+@test("a signal ends a walk at once; the lines before it stay")
+def signals():
+    wrong = []
+    for ending in signal.SIGTERM, signal.SIGINT, signal.SIGHUP, signal.SIGKILL:
+        def killing(seen):
+            if len(seen) == 3:
+                os.kill(agent.pid.result(), ending)
+                return []
+            return [served(ROWS, seen[-1])]
+        with Agent(killing) as agent:
+            program = start("snmpwalk", "-On", agent.place, ROOT, before=["env", "--default-signal"])
+            agent.pid.set_result(program.pid)
+            wrong += [differs(ended(program), (-ending, FIRST + SECOND, "")), *agent.faults]
+        wrong.append(differs(agent.seen, nexts(*NAMES[:3])))
+    return wrongs(*wrong)
+
+
+@test("a signal may cut the line that is being written; what was printed is the beginning of the text")
+def signal_in_line():
+    with file(stated(LONG)) as table:
+        reader, writer = os.pipe()
+        fcntl.fcntl(writer, fcntl.F_SETPIPE_SZ, 4096)
+        program = start("snmpwalk", "-On", BIG, f"table:{table}", ROOT, stdout=writer)
+        os.close(writer)
+        got = ""
+        while len(got) < 100000:
+            got += os.read(reader, 1000).decode()
+        until(lambda: waits(program, reader))
+        program.terminate()
+        ran = ended(program)
+        got += all_of(reader)
+        os.close(reader)
+        return wrongs(beginning(got, LONG_TEXT), differs((len(got) < len(LONG_TEXT), ran), (True, (-signal.SIGTERM, "", ""))))
+
+
+@test("a signal ends snmpd at once, without its counts")
+def signals_to_snmpd():
+    wrong = []
+    for ending in signal.SIGTERM, signal.SIGHUP, signal.SIGKILL:
+        with Server() as server:
+            asked = message(network.GET, 1, [])
+            wrong.append(differs(server.ask(asked), [message(network.RESPONSE, 1, [])]))
+            server.program.send_signal(ending)
+            wrong.append(differs(server.end(), (-ending, "", "")))
+    # As from ^C, which a shell may have told its jobs to ignore.
+    with file(stated(SOME)) as table:
+        place = f"127.0.0.1:{next(network.ports)}"
+        program = start("snmpd", "--table", table, "--listen", place, before=["env", "--default-signal"])
+        wrong.append(differs(program.stdout.readline().decode(), f"listening on {place}\n"))
+        program.send_signal(signal.SIGINT)
+        wrong.append(differs(ended(program), (-signal.SIGINT, "", "")))
+    return wrongs(*wrong)
+
+
+# -- many runs that append to one file
+
+RUNS = 64
+
+
+# Catches: a line that is written in pieces, as a front of it at each write.
+@test(f"{RUNS} runs that append to one file leave each line whole")
+def appended():
+    with tempfile.TemporaryDirectory() as folder:
+        wanted = []
+        for number in range(RUNS):
+            rows = {R + (number, i): str(number) * (1 + i * 7 % 300) for i in range(200)}
+            wanted += lines(rows).splitlines(True)
+            with open(f"{folder}/{number}.tab", "wb") as table:
+                table.write(stated(rows))
+        with open(f"{folder}/all.txt", "ab") as out:
+            programs = [start("snmpwalk" if number % 2 else "snmpbulkwalk", "-On", f"table:{folder}/{number}.tab", ROOT,
+                              stdout=out) for number in range(RUNS)]
+            ran = {ended(program) for program in programs}
+        with open(f"{folder}/all.txt", encoding="ascii") as out:
+            got = sorted(out.readlines())
+        return wrongs(differs(ran, {(0, "", "")}), differs(sorted(set(got) - set(wanted))[:3], []),
+                      differs(got == sorted(wanted), True))
+
+
+# -- files
+
+MOST = 268435456
+
+
+# Catches: a longer file that is read as its beginning.
+@test("a file of 268435456 octets is read, and one of more is refused")
+def large_files():
+    # After a row, a comment goes up to the end.
+    head = stated(SOME) + b"#"
+    wrong = []
+    with file(head, MOST) as table:
+        wrong.append(differs(run("snmpwalk", "-On", f"table:{table}", ROOT), (0, SOME_TEXT, "")))
+    for size in MOST + 1, 1 << 40:
+        with file(head, size) as table:
+            refused = (1, "", f"{table}: cannot be read\n")
+            wrong += [differs(run("snmpwalk", "-On", f"table:{table}", ROOT), refused),
+                      differs(run("snmptranslate", "--mib", table, "iso"), refused),
+                      differs(run("snmpd", "--table", table, "--listen", "127.0.0.1:1", "--turns", "0"), refused)]
+    return wrongs(*wrong)
+
+
+def fed(path, pieces, *words):
+    """Runs the program while these pieces are written to a pipe at the path, with a pause before each."""
+    program = start(*words)
+    try:
+        with open(path, "wb", buffering=0) as pipe:
+            for piece in pieces:
+                time.sleep(0.1)
+                while piece:
+                    piece = piece[pipe.write(piece):]
+    except BrokenPipeError:
+        pass
+    return ended(program)
+
+
+# Catches: a file that is read once, or only as far as it went as it was opened.
+@test("a file that grows while it is read is read up to its end")
+def growing_files():
+    rows = stated(SOME)
+    pieces = [rows[:1], rows[1:40], rows[40:2000], rows[2000:]]
+    with fifo() as path:
+        return wrongs(differs(fed(path, pieces, "snmpwalk", "-On", f"table:{path}", ROOT), (0, SOME_TEXT, "")),
+                      differs(fed(path, [b"M DEFINITIONS ::= BEGIN a OBJECT", b" IDENTIFIER ::= { iso 7 } ", b"END"],
+                                  "snmptranslate", "--mib", path, "-On", "a"), (0, ".1.7\n", "")))
+
+
+# Catches: a file that is read to its end, however far that is.
+@test("a file that grows beyond the limit is refused, though it doesn't end")
+def endless_files():
+    with fifo() as path:
+        pieces = (bytes(1 << 20) for _ in range(1024))
+        return differs(fed(path, pieces, "snmpwalk", "-On", f"table:{path}", ROOT), (1, "", f"{path}: cannot be read\n"))
+
+
+# -- memory
+
+# What is refused for a reason of its own has the message of that, however long it is: no limit is set, so the
+# system refuses no memory. Catches: 'Out of memory.' in the place of another message, as of one that is long.
+@test("no refusal but for want of memory is said to be that")
+def no_excuses():
+    unlimited = {resource.getrlimit(limit)[0] for limit in (resource.RLIMIT_AS, resource.RLIMIT_DATA)}
+    if unlimited != {resource.RLIM_INFINITY}:
+        return "memory is limited here"
+    wrong = []
+
+    def refuses(said, *words, status=1, output=""):
+        ran = run(*words)
+        if ran != (status, output, said + "\n"):
+            wrong.append(f"{words[0]}: {ran[0]}, {ran[1][:200]!r}, {ran[2][:200]!r}\n  not {said[:200]!r}")
+    for size in 60, 80, 300, 5000, 100000:
+        letters, digits, zeros = "x" * size, "9" * size, "0" * size
+        refuses(f"Unknown version: {letters}", "snmpget", "-v", letters, "h", ".1")
+        refuses(f"Bad agent address: {letters}:", "snmpwalk", f"{letters}:", ".1")
+        refuses(f"Bad agent address: {letters}", "snmpd", "--table", "t", "--listen", letters)
+        refuses(f"{letters}: cannot be read", "snmpwalk", f"table:{letters}", ".1")
+        refuses(f"{letters}: cannot be read", "snmptranslate", "--mib", letters, ".1")
+        refuses(f"{letters}: cannot be read", "snmpd", "--table", letters)
+        refuses(f"Unknown name: {letters}", "snmptranslate", letters)
+        refuses(f'Bad index: iso."{letters}', "snmptranslate", f'iso."{letters}')
+        refuses(f"Bad number: .1.{digits}", "snmptranslate", f".1.{digits}")
+        refuses(f"Name too long: .1{'.1' * 128}.{zeros}", "snmptranslate", f".1{'.1' * 128}.{zeros}")
+        with file(stated(ROWS_OF_NUMBERS)) as table:
+            agent = f"table:{table}"
+            refuses(f"Name cannot be sent: .{zeros}3", "snmpget", agent, f".{zeros}3")
+            refuses(f"Not below the root: .{zeros}2", "snmpwalk", "--after", f".{zeros}2", agent, ".1")
+            refuses(f"Timeout: No Response from table:{'/' * size}{table}.", "snmpget", "--max-size", "1",
+                    f"table:{'/' * size if size < 4000 else ''}{table}", ".1") if size < 4000 else None
+        if size >= 300:
+            refuses("Community too long.", "snmpget", "-c", letters, "h", ".1")
+        for command in "snmpget", "snmpwalk":
+            with Agent(saying([])) as agent:
+                place = f"{agent.host}:{zeros}{agent.port}"
+                refuses(f"Bad reply from {place}." if command == "snmpget" else f"No progress after {ROOT}",
+                        command, "-On", place, ROOT)
+            with Agent(silent) as agent:
+                place = f"{agent.host}:{zeros}{agent.port}"
+                refuses(f"Timeout: No Response from {place}.", command, "-r", "0", place, ROOT)
+        with file(f"M DEFINITIONS ::= BEGIN IMPORTS n{letters} FROM F{letters}; a{letters} OBJECT IDENTIFIER ::= "
+                  f"{{ b{letters} 1 }} END".encode()) as path:
+            refuses(f"snmp: M imports from F{letters}, which is not loaded\nsnmp: M::a{letters} is unresolved",
+                    "snmptranslate", "--mib", path, "iso", status=0, output="iso\n")
+        with file(f"M DEFINITIONS ::= BEGIN a{letters} OBJECT IDENTIFIER ::= {{ iso iso 1 }} END".encode()) as path:
+            refuses(f"{path}:1: syntax", "snmptranslate", "--mib", path, "iso")
+    # Names of 128 numbers.
+    far = R + (4294967295,) * (128 - len(R))
+    with Agent(saying([(far, integer(1))], [(far, integer(1))])) as agent:
+        refuses(f"Error: OID not increasing: {dotted(far)} >= {dotted(far)}", "snmpwalk", "-On", agent.place, ROOT,
+                output=f"{dotted(far)} = INTEGER: 1\n")
+    with Agent(saying([(far, integer(1))], [])) as agent:
+        refuses(f"No progress after {dotted(far)}", "snmpbulkwalk", "-On", agent.place, ROOT,
+                output=f"{dotted(far)} = INTEGER: 1\n")
+    with Agent(failing(-2147483648, -2147483648)) as agent:
+        refuses("Error in packet: unknown (-2147483648), index -2147483648", "snmpget", agent.place, ROOT, status=2)
+    return wrongs(*wrong)
+
+
+ROWS_OF_NUMBERS = {R + (1, 0): 1}
+
+
+# The least that the program needs is found by halves; below it the loader or the system refuses, or the program
+# says that memory ran out. Catches: a beginning of the lines at status 0.
+@test("with less and less memory, a run prints the whole, or ends with a status and a message")
+def little_memory():
+    kinds, wrong = set(), []
+    with file(stated(SOME)) as table, Server(table=stated(SOME).decode()) as server:
+        for agent in f"table:{table}", server.place:
+            for kibibytes in [*range(1000, 12000, 250), 20000, 40000]:
+                status, output, said = run("snmpwalk", "-On", agent, ROOT, before=["prlimit", f"--as={kibibytes * 1024}"])
+                if status == 0:
+                    kinds.add("whole")
+                    wrong.append(differs((output == SOME_TEXT, said), (True, "")))
+                elif status == 1 and said == "Out of memory.\n":
+                    kinds.add("refused by itself")
+                    wrong.append(beginning(output, SOME_TEXT))
+                else:
+                    kinds.add("refused by the system")
+                    wrong.append(differs((output, status in (1, 126, 127) and said != "" or status < 0), ("", True)))
+    return wrongs(*wrong, differs("whole" in kinds, True))
+
+
+# -- descriptors and ports
+
+def with_descriptors(count, *words):
+    """Runs the program by these words, and once it waits for a pipe that `FIFO` stands for, leaves it so many
+    descriptors: from then on each that it opens is refused where there are no more."""
+    with fifo() as path:
+        program = start(*(word.replace("FIFO", path) for word in words))
+        with open(path, "wb", buffering=0) as pipe:
+            resource.prlimit(program.pid, resource.RLIMIT_NOFILE, (count, count))
+            pipe.write(stated(SOME) if "FIFO" in words[2] and words[0] == "snmpd" else b"M DEFINITIONS ::= BEGIN END")
+        return ended(program)
+
+
+# Catches: a link or a file that is said to be there, or want of memory.
+@test("where no descriptor is left, a link or a file is refused")
+def no_descriptors():
+    with file(stated(SOME)) as table, Server(table=stated(SOME).decode()) as server:
+        walk = ["snmpwalk", "--mib", "FIFO", "-On"]
+        free = f"127.0.0.1:{next(network.ports)}"
+        return wrongs(differs(with_descriptors(3, *walk, server.place, ROOT), (1, "", NO_LINK)),
+                      differs(with_descriptors(4, *walk, server.place, ROOT), (0, SOME_TEXT, "")),
+                      differs(with_descriptors(3, *walk, f"table:{table}", ROOT), (1, "", f"{table}: cannot be read\n")),
+                      differs(with_descriptors(4, *walk, f"table:{table}", ROOT), (0, SOME_TEXT, "")),
+                      differs(with_descriptors(3, "snmpd", "--table", "FIFO", "--listen", free, "--turns", "0"),
+                              (1, "", NO_LINK)))
+
+
+# A network of its own, whose sockets get two ports, which this takes. Lines go to standard output.
+NO_PORTS = """
+import fcntl, socket, struct, subprocess, sys
+with open("/proc/sys/net/ipv4/ip_local_port_range", "w") as limits:
+    limits.write("40000 40001")
+door = socket.socket(socket.AF_INET, socket.SOCK_DGRAM)
+fcntl.ioctl(door, 0x8914, struct.pack("16sh", b"lo", 0x41))
+taken = [socket.socket(socket.AF_INET, socket.SOCK_DGRAM) for _ in range(2)]
+for port, it in enumerate(taken, 40000):
+    it.bind(("0.0.0.0", port))
+table, program, root = sys.argv[1:]
+server = subprocess.Popen([program, "snmpd", "--table", table, "--listen", "127.0.0.1:1161"], stdout=subprocess.PIPE)
+server.stdout.readline()
+for _ in range(2):
+    ran = subprocess.run([program, "snmpwalk", "-On", "127.0.0.1:1161", root], capture_output=True, text=True)
+    print([ran.returncode, ran.stdout, ran.stderr])
+    taken.pop().close()
+server.kill()
+server.wait()
+"""
+networks = subprocess.run(["unshare", "-rn", "sh", "-c", "echo 40000 40001 >/proc/sys/net/ipv4/ip_local_port_range"],
+                          capture_output=True, check=False).returncode == 0
+
+
+@where(networks, "where no port is free the link fails, and once one is the walk is whole", "no network of its own here")
+def no_ports():
+    with file(stated(SOME)) as table:
+        ran = subprocess.run(["unshare", "-rn", sys.executable, "-c", NO_PORTS, table, PROGRAM, ROOT],
+                             capture_output=True, text=True, timeout=60, check=False)
+        return differs((ran.stdout, ran.stderr), (f"{[1, '', NO_LINK]}\n{[0, SOME_TEXT, '']}\n", ""))
+
+
+if __name__ == "__main__":
+    ending = network.run_tests("tests/edge.py", network.tests)
+    for what in untried:
+        print(f"not tried: {what}", file=sys.stderr)
+    sys.exit(ending)

@@ -1,0 +1,337 @@
+#!/usr/bin/env python3
+"""Runs each command of docs/MANY-DEVICES.md over agents on loopback, most of which the program's own snmpd
+serves, and compares what is collected with what their tables hold.
+
+usage: fleet.py
+
+The page's commands are the blocks that it marks as `sh`; they run in order, in one folder. Its last line is
+'N passed, M failed'.
+"""
+import collections
+import contextlib
+import os
+import re
+import shutil
+import subprocess
+import sys
+import tempfile
+import time
+import traceback
+
+import network
+from network import Agent, PROGRAM, Server, differs, dotted, failing, integer, served, silent
+
+PAGE = os.path.join(network.here, "..", "docs", "MANY-DEVICES.md")
+ROWS_OF_INTERFACES = (1, 3, 6, 1, 2, 1, 2, 2, 1)
+NAMES_OF_INTERFACES = ROWS_OF_INTERFACES + (2,)
+RECEIVED = ROWS_OF_INTERFACES + (10,)
+SERVED = int(os.environ.get("SERVED", "50"))
+
+# -- the agents
+
+
+def interfaces(device):
+    """The rows of a table of 24 interfaces: to each name its tag, its value and the text that a walk prints."""
+    rows = {}
+    for port in range(1, 25):
+        address = bytes([2, 0, device, 0, 0, port])
+        # Of one line in hexadecimal, or of several.
+        alias = b"port \xb7 of device" + bytes([device]) * (port % 3 * 10)
+        lines = [alias[at:at + 16] for at in range(0, len(alias), 16)]
+        shown = "\n".join("".join(f"{octet:02X} " for octet in line) for line in lines)
+        count = (device * 1000003 + port * 7919) % 2 ** 32
+        for column, tag, value, text in [
+                (1, "2", port, f"INTEGER: {port}"), (2, "4", f"port {port} of {device}", f'STRING: "port {port} of {device}"'),
+                (3, "2", 6, "INTEGER: 6"), (5, "66", 1000000000, "Gauge32: 1000000000"),
+                (6, "4x", address.hex(), "Hex-STRING: " + "".join(f"{octet:02X} " for octet in address)),
+                (8, "2", 1 + port % 2, f"INTEGER: {1 + port % 2}"), (10, "65", count, f"Counter32: {count}"),
+                (16, "65", count // 2, f"Counter32: {count // 2}"), (18, "4x", alias.hex(), f"Hex-STRING: {shown}")]:
+            rows[ROWS_OF_INTERFACES + (column, port)] = tag, value, text
+    return rows
+
+
+def table(rows):
+    return "1.3.6.1.2.1.1.1.0|4|device\n" + "".join(f"{dotted(name)}|{tag}|{value}\n"
+                                                    for name, (tag, value, _) in rows.items())
+
+
+def printed(rows, root=ROWS_OF_INTERFACES):
+    """What a walk prints below the root."""
+    return "".join(f"{dotted(name)} = {text}\n" for name, (_, _, text) in sorted(rows.items())
+                   if name[:len(root)] == root)
+
+
+class BreakingOff:
+    """An agent over rows that replies so many times, and then falls silent."""
+
+    def __init__(self, rows):
+        self.rows, self.left = rows, 0
+
+    def __call__(self, seen):
+        self.left -= 1
+        return [served(self.rows, seen[-1])] if self.left >= 0 else []
+
+
+Fleet = collections.namedtuple("Fleet", "rows failing breaking")
+
+
+def fleet(stack):
+    """Agents over tables, with what they hold; those that fail, with the status and the message that each must end
+    with; and those that break off, with what they hold."""
+    rows, ends, breaking = {}, {}, {}
+    for device in range(SERVED):
+        rows[stack.enter_context(Server(table=table(interfaces(device)))).place] = interfaces(device)
+    closed = f"127.0.0.1:{next(network.ports)}"
+    other = stack.enter_context(Server("-c", "other", table=table(interfaces(0)))).place
+    for place in stack.enter_context(Agent(silent)).place, stack.enter_context(Agent(silent)).place, closed, other:
+        ends[place] = 1, f"Timeout: No Response from {place}."
+    ends["a..b"] = 1, "The link failed."
+    for _ in range(2):
+        ends[stack.enter_context(Agent(failing(5, 1))).place] = 2, "Error in packet: genErr (5), index 1"
+    for port in 7, 8:
+        held = {ROWS_OF_INTERFACES + (column, row): ("2", row, f"INTEGER: {row}") for column in (2, 10)
+                for row in range(1, 25 + port)}
+        agent = BreakingOff({name: integer(value) for name, (_, value, _) in held.items()})
+        breaking[stack.enter_context(Agent(agent)).place] = agent, held
+    return Fleet(rows, ends, breaking)
+
+
+# -- the commands
+
+def blocks():
+    """The page's commands: to each heading the blocks below it."""
+    with open(PAGE, encoding="utf-8") as file:
+        sections = file.read().split("\n## ")[1:]
+    found = {section.splitlines()[0]: re.findall(r"^```sh\n(.*?)^```$", section, re.M | re.S) for section in sections}
+    return {heading: listed for heading, listed in found.items() if listed}
+
+
+class Folder:
+    """Where the page's commands run, over a fleet."""
+
+    def __init__(self, path, fleet):
+        self.path, self.fleet, self.said = path, fleet, ""
+        self.environment = {**os.environ, "PATH": f"{path}/bin:{os.environ['PATH']}", "HOME": path, "LC_ALL": "C"}
+        os.mkdir(f"{path}/bin")
+        shutil.copy(PROGRAM, f"{path}/bin/snmp")
+
+    def run(self, commands):
+        """Runs commands, which must end with status 0 and no message."""
+        ran = subprocess.run(["bash", "-e", "-c", commands], cwd=self.path, env=self.environment, capture_output=True,
+                             text=True, timeout=120, stdin=subprocess.DEVNULL, check=False)
+        self.said = ran.stdout
+        return differs((ran.returncode, ran.stderr), (0, ""))
+
+    def text(self, name):
+        with open(f"{self.path}/{name}", encoding="ascii") as file:
+            return file.read()
+
+    def write(self, name, text):
+        with open(f"{self.path}/{name}", "w", encoding="ascii") as file:
+            file.write(text)
+        os.chmod(f"{self.path}/{name}", 0o755)
+
+    def ends(self, name):
+        """A list of statuses: to each device its status and message."""
+        lines = [line.split(" ", 2) for line in self.text(name).splitlines()]
+        return sorted((device, (int(status), message)) for status, device, message in lines)
+
+    def silent(self, places):
+        return {place: (1, f"Timeout: No Response from {place}.") for place in places}
+
+    def files(self, places):
+        """What differs between the files of these devices and their tables."""
+        rows = {**self.fleet.rows, **{place: held for place, (_, held) in self.fleet.breaking.items()}}
+        return [differs((place, self.text(f"out/{place}")), (place, printed(rows[place]))) for place in places]
+
+    def lines(self, root, mark):
+        """What a walk of all devices prints, each line with its device before it, in order of texts; and its
+        messages."""
+        rows = {**self.fleet.rows, **{place: held for place, (_, held) in self.fleet.breaking.items()}}
+        lines = [f"{place}{mark}{line}" for place, held in rows.items() for line in printed(held, root).splitlines()]
+        return sorted(lines), sorted(f"{place}{mark}{said}" for place, (_, said) in self.fleet.failing.items())
+
+
+# Each returns what is wrong with a block, and with what it left.
+
+def the_devices(folder, block):
+    places = [*folder.fleet.rows, *folder.fleet.failing, *folder.fleet.breaking]
+    remarks = ["", "  # first floor", " "] * len(places)
+    folder.write("inventory.txt", "# devices\n\n" + "".join(f"{it}{remark}\n" for it, remark in zip(places, remarks)))
+    return [folder.run(block), differs(folder.text("devices.txt").splitlines(), places)]
+
+
+def files_of_devices(folder, block):
+    wrong = [*starved(folder, block), folder.run(block)]
+    wanted = {**{place: (0, "") for place in folder.fleet.rows}, **folder.fleet.failing,
+              **folder.silent(folder.fleet.breaking)}
+    return [*wrong, differs(folder.ends("statuses"), sorted(wanted.items())), *folder.files(folder.fleet.rows)]
+
+
+def starved(folder, block):
+    """Over the agents that serve, with descriptors and memory taken from some runs: each of these is among the
+    failures, the other files are whole, and the second round completes the list."""
+    rows, whole = folder.fleet.rows, f"{folder.path}/bin/snmp"
+    os.rename(whole, f"{whole}.whole")
+    folder.write("bin/snmp", f"""#!/bin/sh
+case "$*" in
+    *:*[0-3]' '*) ulimit -n 3 ;;
+    *:*[4-6]' '*) ulimit -v 3000 ;;
+esac
+exec "{whole}.whole" "$@"
+""")
+    folder.write("served.txt", "".join(f"{place}\n" for place in rows))
+    wrong = [folder.run(block.replace("devices.txt", "served.txt"))]
+    ends = folder.ends("statuses")
+    wrong.append(differs([place for place, _ in ends], sorted(rows)))
+    for place, (status, _) in ends:
+        starved = place[-1] in "0123456"
+        wrong.append(differs((place, status != 0, folder.text(f"out/{place}")),
+                             (place, starved, "" if starved else printed(rows[place]))))
+    os.rename(f"{whole}.whole", whole)
+    wrong += [folder.run(again) for heading in ("What failed", "A second round") for again in blocks()[heading]]
+    failed = [place for place, (status, _) in ends if status]
+    return [*wrong, differs(sorted(folder.text("again.txt").split()), failed), differs(folder.text("failures"), ""),
+            *folder.files(rows)]
+
+
+def what_failed(folder, block):
+    wanted = {**folder.fleet.failing, **folder.silent(folder.fleet.breaking)}
+    wrong = [folder.run(block), differs(folder.ends("failures"), sorted(wanted.items()))]
+    counts = collections.Counter([0] * SERVED + [status for status, _ in wanted.values()])
+    return [*wrong, differs([tuple(map(int, line.split())) for line in folder.said.splitlines()],
+                            [(count, status) for status, count in sorted(counts.items())])]
+
+
+def second_round(folder, block):
+    """One of the devices that were silent replies by now, and the other breaks off after one reply."""
+    (first, (replying, _)), (second, (breaking, held)) = folder.fleet.breaking.items()
+    replying.left, breaking.left = 99, 1
+    wrong = [folder.run(block), differs(folder.ends("failures"),
+                                        sorted({**folder.fleet.failing, **folder.silent([second])}.items()))]
+    part = "".join(printed(held).splitlines(True)[:25])
+    return [*wrong, *folder.files([*folder.fleet.rows, first]), differs(folder.text(f"out/{second}"), part)]
+
+
+def cut_off(folder, block):
+    """It goes on where it was cut off."""
+    (_, (first, _)), (second, (breaking, _)) = folder.fleet.breaking.items()
+    first.left = breaking.left = 99999
+    return [folder.run(block), differs(folder.ends("failures"), sorted(folder.fleet.failing.items())),
+            *folder.files([*folder.fleet.rows, *folder.fleet.breaking])]
+
+
+def lines_of_files(folder, block):
+    wrong = folder.run(block)
+    lines, _ = folder.lines(ROWS_OF_INTERFACES, " ")
+    return [wrong, differs(sorted(folder.text("all.txt").splitlines()), lines)]
+
+
+def lines_as_they_come(folder, block):
+    wrong = folder.run(block)
+    lines, messages = folder.lines(NAMES_OF_INTERFACES, " ")
+    return [wrong, differs(sorted(folder.text("all.txt").splitlines()), sorted(lines + messages))]
+
+
+def messages(folder):
+    """What parallel's runs said; it warns where it is slow to start them."""
+    return sorted(line for line in folder.text("messages.txt").splitlines() if not line.startswith("parallel: Warning"))
+
+
+def by_parallel(folder, block):
+    wrong = folder.run(block)
+    lines, said = folder.lines(NAMES_OF_INTERFACES, "\t")
+    listed = sorted((line.split()[-2], line.split()[0]) for line in folder.said.splitlines() if " snmp " in line)
+    return [wrong, differs(sorted(folder.text("tagged.txt").splitlines()), lines), differs(messages(folder), said),
+            differs(listed, sorted((place, str(status)) for place, (status, _) in folder.fleet.failing.items()))]
+
+
+def over_machines(folder, block):
+    """What stands for ssh and scp runs and copies here, in a folder of each machine."""
+    folder.write("bin/ssh", f"""#!/bin/sh
+while :; do case $1 in -o) shift 2 ;; -*) shift ;; *) break ;; esac; done
+machine=$1
+shift
+[ "$1" != -- ] || shift
+cd "{folder.path}/$machine" && exec sh -c "$*"
+""")
+    folder.write("bin/scp", f"""#!/bin/sh
+cp "$1" "{folder.path}/$(echo "$2" | tr : /)"
+""")
+    for machine in "collector1", "collector2":
+        os.mkdir(f"{folder.path}/{machine}")
+    wrong = folder.run(block)
+    lines, said = folder.lines(NAMES_OF_INTERFACES, "\t")
+    machines = {line.split("\t")[1] for line in folder.text("joblog2").splitlines()[1:]}
+    return [wrong, differs(sorted(folder.text("tagged2.txt").splitlines()), lines), differs(messages(folder), said),
+            differs(machines, {"collector1", "collector2"})]
+
+
+def a_check(folder, block):
+    first = next(iter(folder.fleet.rows))
+    name = dotted(ROWS_OF_INTERFACES) + ".8.1"
+    wrong = [differs(folder.fleet.rows[first][ROWS_OF_INTERFACES + (8, 1)][1], 2),
+             folder.run(f"({block}) && exit 1 || [ $? = 2 ]"),
+             differs(folder.said, f"CRITICAL - {name} is 2, above 1 | value=2\n")]
+    dead, (_, said) = next(iter(folder.fleet.failing.items()))
+    for words, status, text in [
+            (f"{first} {name} 2", 0, f"OK - {name} is 2 | value=2\n"), (f"{dead} {name} 2", 3, f"UNKNOWN - {said}\n"),
+            (f"{first} .1.3 2", 3, f"UNKNOWN - .1.3 is {network.NO_OBJECT}\n"),
+            (f"{first} {name.replace('.8.', '.2.')} 2", 3, f'UNKNOWN - {name.replace(".8.", ".2.")} is "port 1 of 0"\n')]:
+        wrong += [folder.run(f"./check_value {words} || [ $? = {status} ]"), differs(folder.said, text)]
+    return wrong
+
+
+def for_a_collector(folder, block):
+    begun = int(time.time())
+    wrong = folder.run(block)
+    points = [re.fullmatch(r"(interface,agent=\S+,index=\d+ in_octets=\d+i) (\d{10})0{9}", line)
+              for line in folder.text("points.txt").splitlines()]
+    rows = {**folder.fleet.rows, **{place: held for place, (_, held) in folder.fleet.breaking.items()}}
+    wanted = [f"interface,agent={place},index={name[-1]} in_octets={value}i" for place, held in rows.items()
+              for name, (_, value, _) in held.items() if name[:-1] == RECEIVED]
+    return [wrong, differs(sorted(point[1] for point in points), sorted(wanted)),
+            differs([point[0] for point in points if not begun <= int(point[2]) <= time.time()], []),
+            differs(sorted(line for line in folder.text("messages.txt").splitlines() if not line.startswith("xargs: ")),
+                    sorted(said for _, said in folder.fleet.failing.values()))]
+
+
+TESTS = {"The devices": [the_devices], "A file for each device": [files_of_devices], "What failed": [what_failed],
+         "A second round": [second_round], "A walk that was cut off": [cut_off],
+         "Lines with the device before them": [lines_of_files, lines_as_they_come], "GNU parallel": [by_parallel],
+         "Several machines": [over_machines], "A check of a monitoring system": [a_check],
+         "Lines for a collector": [for_a_collector]}
+BY_PARALLEL = "GNU parallel", "Several machines"
+
+
+def main():
+    if not os.access(PROGRAM, os.X_OK):
+        print("tests/fleet.py: the program isn't built: ./snmp --build", file=sys.stderr)
+        return 1
+    counts = collections.Counter()
+
+    def told(title, found):
+        wrong = "\n  ".join(filter(None, found))
+        counts[not wrong] += 1
+        if wrong:
+            print(f"FAILED: {title}\n  {wrong[:5000]}")
+    page = blocks()
+    shape = {heading: len(listed) for heading, listed in page.items()}
+    told("each block of the page has its test", [differs(shape, {heading: len(it) for heading, it in TESTS.items()})])
+    with contextlib.ExitStack() as stack:
+        folder = Folder(stack.enter_context(tempfile.TemporaryDirectory()), fleet(stack))
+        for heading, tests in TESTS.items():
+            if heading in BY_PARALLEL and not shutil.which("parallel"):
+                print(f"not tried: {heading}: parallel isn't installed", file=sys.stderr)
+                continue
+            for block, test in zip(page.get(heading, []), tests):
+                try:
+                    told(heading, test(folder, block))
+                except Exception:
+                    told(heading, [traceback.format_exc()])
+    print(f"{counts[True]} passed, {counts[False]} failed")
+    return 1 if counts[False] else 0
+
+
+if __name__ == "__main__":
+    sys.exit(main())
