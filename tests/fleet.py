@@ -241,7 +241,8 @@ def messages(folder):
 def by_parallel(folder, block):
     wrong = folder.run(block)
     lines, said = folder.lines(NAMES_OF_INTERFACES, "\t")
-    listed = sorted((line.split()[-2], line.split()[0]) for line in folder.said.splitlines() if " snmp " in line)
+    listed = sorted((line.split()[-2].strip("'"), line.split()[0]) for line in folder.said.splitlines()
+                    if " snmp " in line)
     return [wrong, differs(sorted(folder.text("tagged.txt").splitlines()), lines), differs(messages(folder), said),
             differs(listed, sorted((place, str(status)) for place, (status, _) in folder.fleet.failing.items()))]
 
