@@ -109,7 +109,8 @@ compare 'bulk walk of the table, -Cr25' "$work/devices" snmpbulkwalk -Cr25 "$tab
 
 # One in ten is silent: sockets that nobody reads.
 silent=$(((agents + 9) / 10))
-python3 - "$silent" >"$work/silent" <<'SILENT' &
+: >"$work/silent"
+python3 - "$silent" >>"$work/silent" <<'SILENT' &
 import socket, sys, time
 doors = [socket.socket(socket.AF_INET, socket.SOCK_DGRAM) for _ in range(int(sys.argv[1]))]
 for door in doors:

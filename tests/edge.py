@@ -7,9 +7,7 @@ usage: edge.py
 Above a test stands, after 'Catches', a wrong program that would prove as well and that the test catches. What
 this machine has no means for is named, and not tried. Its last line is 'N passed, M failed'.
 """
-import concurrent.futures
 import contextlib
-import errno
 import fcntl
 import os
 import random
@@ -21,14 +19,14 @@ import subprocess
 import sys
 import tempfile
 import termios
-import threading
 import time
 
 import network
-from network import (Agent, E, FIRST, LINES, NAMES, PROGRAM, R, ROOT, ROWS, SECOND, SILENT, Server, differs, dotted,
-                     failing, get, integer, message, nexts, reply, saying, served, serving, silent, sockets_of,
-                     stopping, test, text, walks)
+from network import (Agent, FIRST, LINES, NAMES, PROGRAM, R, ROOT, ROWS, SECOND, SILENT, Server, differs, dotted,
+                     failing, get, integer, message, nexts, saying, served, serving, silent, sockets_of, stopping,
+                     test, walks)
 
+# Its own tests are run by itself.
 network.tests.clear()
 FAILED = "The output failed.\n"
 NO_LINK = "The link failed.\n"
@@ -115,8 +113,8 @@ def stated(rows):
 
 def lines(rows):
     """What a walk of them prints."""
-    return "".join(f"{dotted(name)} = " + (f"INTEGER: {value}\n" if isinstance(value, int) else f'STRING: "{value}"\n')
-                   for name, value in sorted(rows.items()))
+    return "".join(f"{dotted(name)} = " + (f"INTEGER: {value}\n" if isinstance(value, int) else
+                                           f'STRING: "{value}"\n') for name, value in sorted(rows.items()))
 
 
 # -- addresses
@@ -253,7 +251,10 @@ def all_of(reader, most=1 << 20):
 
 
 def beginning(got, whole):
-    return "" if whole.startswith(got) else f"not the beginning of the text, from octet {len(os.path.commonprefix([got, whole]))}"
+    """What is wrong with a text that has to be the beginning of another."""
+    if whole.startswith(got):
+        return ""
+    return f"not the beginning of the text, from octet {len(os.path.commonprefix([got, whole]))} on"
 
 
 # Catches: a write that took a part as one that took the whole, or that begins anew after it; the status 0 after
@@ -287,8 +288,8 @@ def slow_pipe():
                 time.sleep(rng.choice([0, 0, 0.0001, 0.001]))
             os.close(reader)
             status, _, messages = ended(program)
-            whole = got.decode() == LONG_TEXT
-            wrong += [beginning(got.decode(), LONG_TEXT), differs((status, messages), (0, "") if whole else (1, FAILED))]
+            wanted = (0, "") if got.decode() == LONG_TEXT else (1, FAILED)
+            wrong += [beginning(got.decode(), LONG_TEXT), differs((status, messages), wanted)]
     return wrongs(*wrong)
 
 
@@ -444,7 +445,8 @@ def signal_in_line():
         ran = ended(program)
         got += all_of(reader)
         os.close(reader)
-        return wrongs(beginning(got, LONG_TEXT), differs((len(got) < len(LONG_TEXT), ran), (True, (-signal.SIGTERM, "", ""))))
+        return wrongs(beginning(got, LONG_TEXT), differs(len(got) < len(LONG_TEXT), True),
+                      differs(ran, (-signal.SIGTERM, "", "")))
 
 
 @test("a signal ends snmpd at once, without its counts")
@@ -482,8 +484,8 @@ def appended():
             with open(f"{folder}/{number}.tab", "wb") as table:
                 table.write(stated(rows))
         with open(f"{folder}/all.txt", "ab") as out:
-            programs = [start("snmpwalk" if number % 2 else "snmpbulkwalk", "-On", f"table:{folder}/{number}.tab", ROOT,
-                              stdout=out) for number in range(RUNS)]
+            programs = [start(walker, "-On", f"table:{folder}/{number}.tab", ROOT, stdout=out)
+                        for number, walker in zip(range(RUNS), ["snmpwalk", "snmpbulkwalk"] * RUNS)]
             ran = {ended(program) for program in programs}
         with open(f"{folder}/all.txt", encoding="ascii") as out:
             got = sorted(out.readlines())
@@ -543,7 +545,8 @@ def growing_files():
 def endless_files():
     with fifo() as path:
         pieces = (bytes(1 << 20) for _ in range(1024))
-        return differs(fed(path, pieces, "snmpwalk", "-On", f"table:{path}", ROOT), (1, "", f"{path}: cannot be read\n"))
+        refused = 1, "", f"{path}: cannot be read\n"
+        return differs(fed(path, pieces, "snmpwalk", "-On", f"table:{path}", ROOT), refused)
 
 
 # -- memory
@@ -573,12 +576,13 @@ def no_excuses():
         refuses(f'Bad index: iso."{letters}', "snmptranslate", f'iso."{letters}')
         refuses(f"Bad number: .1.{digits}", "snmptranslate", f".1.{digits}")
         refuses(f"Name too long: .1{'.1' * 128}.{zeros}", "snmptranslate", f".1{'.1' * 128}.{zeros}")
-        with file(stated(ROWS_OF_NUMBERS)) as table:
+        with file(stated({R + (1, 0): 1})) as table:
             agent = f"table:{table}"
             refuses(f"Name cannot be sent: .{zeros}3", "snmpget", agent, f".{zeros}3")
             refuses(f"Not below the root: .{zeros}2", "snmpwalk", "--after", f".{zeros}2", agent, ".1")
-            refuses(f"Timeout: No Response from table:{'/' * size}{table}.", "snmpget", "--max-size", "1",
-                    f"table:{'/' * size if size < 4000 else ''}{table}", ".1") if size < 4000 else None
+            # A path has at most 4,095 octets.
+            agent = f"table:{'/' * min(size, 4000)}{table}"
+            refuses(f"Timeout: No Response from {agent}.", "snmpget", "--max-size", "1", agent, ".1")
         if size >= 300:
             refuses("Community too long.", "snmpget", "-c", letters, "h", ".1")
         for command in "snmpget", "snmpwalk":
@@ -608,9 +612,6 @@ def no_excuses():
     return wrongs(*wrong)
 
 
-ROWS_OF_NUMBERS = {R + (1, 0): 1}
-
-
 # The least that the program needs is found by halves; below it the loader or the system refuses, or the program
 # says that memory ran out. Catches: a beginning of the lines at status 0.
 @test("with less and less memory, a run prints the whole, or ends with a status and a message")
@@ -619,7 +620,8 @@ def little_memory():
     with file(stated(SOME)) as table, Server(table=stated(SOME).decode()) as server:
         for agent in f"table:{table}", server.place:
             for kibibytes in [*range(1000, 12000, 250), 20000, 40000]:
-                status, output, said = run("snmpwalk", "-On", agent, ROOT, before=["prlimit", f"--as={kibibytes * 1024}"])
+                before = ["prlimit", f"--as={kibibytes * 1024}"]
+                status, output, said = run("snmpwalk", "-On", agent, ROOT, before=before)
                 if status == 0:
                     kinds.add("whole")
                     wrong.append(differs((output == SOME_TEXT, said), (True, "")))
@@ -641,7 +643,7 @@ def with_descriptors(count, *words):
         program = start(*(word.replace("FIFO", path) for word in words))
         with open(path, "wb", buffering=0) as pipe:
             resource.prlimit(program.pid, resource.RLIMIT_NOFILE, (count, count))
-            pipe.write(stated(SOME) if "FIFO" in words[2] and words[0] == "snmpd" else b"M DEFINITIONS ::= BEGIN END")
+            pipe.write(stated(SOME) if words[0] == "snmpd" else b"M DEFINITIONS ::= BEGIN END")
         return ended(program)
 
 
@@ -649,11 +651,11 @@ def with_descriptors(count, *words):
 @test("where no descriptor is left, a link or a file is refused")
 def no_descriptors():
     with file(stated(SOME)) as table, Server(table=stated(SOME).decode()) as server:
-        walk = ["snmpwalk", "--mib", "FIFO", "-On"]
+        walk, refused = ["snmpwalk", "--mib", "FIFO", "-On"], f"{table}: cannot be read\n"
         free = f"127.0.0.1:{next(network.ports)}"
         return wrongs(differs(with_descriptors(3, *walk, server.place, ROOT), (1, "", NO_LINK)),
                       differs(with_descriptors(4, *walk, server.place, ROOT), (0, SOME_TEXT, "")),
-                      differs(with_descriptors(3, *walk, f"table:{table}", ROOT), (1, "", f"{table}: cannot be read\n")),
+                      differs(with_descriptors(3, *walk, f"table:{table}", ROOT), (1, "", refused)),
                       differs(with_descriptors(4, *walk, f"table:{table}", ROOT), (0, SOME_TEXT, "")),
                       differs(with_descriptors(3, "snmpd", "--table", "FIFO", "--listen", free, "--turns", "0"),
                               (1, "", NO_LINK)))
@@ -683,7 +685,7 @@ networks = subprocess.run(["unshare", "-rn", "sh", "-c", "echo 40000 40001 >/pro
                           capture_output=True, check=False).returncode == 0
 
 
-@where(networks, "where no port is free the link fails, and once one is the walk is whole", "no network of its own here")
+@where(networks, "where no port is free the link fails, and once one is the walk is whole", "no network to itself")
 def no_ports():
     with file(stated(SOME)) as table:
         ran = subprocess.run(["unshare", "-rn", sys.executable, "-c", NO_PORTS, table, PROGRAM, ROOT],

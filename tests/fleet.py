@@ -25,7 +25,7 @@ PAGE = os.path.join(network.here, "..", "docs", "MANY-DEVICES.md")
 ROWS_OF_INTERFACES = (1, 3, 6, 1, 2, 1, 2, 2, 1)
 NAMES_OF_INTERFACES = ROWS_OF_INTERFACES + (2,)
 RECEIVED = ROWS_OF_INTERFACES + (10,)
-SERVED = int(os.environ.get("SERVED", "50"))
+SERVED = 50
 
 # -- the agents
 
@@ -34,14 +34,14 @@ def interfaces(device):
     """The rows of a table of 24 interfaces: to each name its tag, its value and the text that a walk prints."""
     rows = {}
     for port in range(1, 25):
-        address = bytes([2, 0, device, 0, 0, port])
+        label, address = f"port {port} of {device}", bytes([2, 0, device, 0, 0, port])
         # Of one line in hexadecimal, or of several.
         alias = b"port \xb7 of device" + bytes([device]) * (port % 3 * 10)
         lines = [alias[at:at + 16] for at in range(0, len(alias), 16)]
         shown = "\n".join("".join(f"{octet:02X} " for octet in line) for line in lines)
         count = (device * 1000003 + port * 7919) % 2 ** 32
         for column, tag, value, text in [
-                (1, "2", port, f"INTEGER: {port}"), (2, "4", f"port {port} of {device}", f'STRING: "port {port} of {device}"'),
+                (1, "2", port, f"INTEGER: {port}"), (2, "4", label, f'STRING: "{label}"'),
                 (3, "2", 6, "INTEGER: 6"), (5, "66", 1000000000, "Gauge32: 1000000000"),
                 (6, "4x", address.hex(), "Hex-STRING: " + "".join(f"{octet:02X} " for octet in address)),
                 (8, "2", 1 + port % 2, f"INTEGER: {1 + port % 2}"), (10, "65", count, f"Counter32: {count}"),
@@ -234,8 +234,9 @@ def lines_as_they_come(folder, block):
 
 
 def messages(folder):
-    """What parallel's runs said; it warns where it is slow to start them."""
-    return sorted(line for line in folder.text("messages.txt").splitlines() if not line.startswith("parallel: Warning"))
+    """What the runs said, without what xargs and parallel add."""
+    lines = folder.text("messages.txt").splitlines()
+    return sorted(line for line in lines if not line.startswith(("parallel: Warning", "xargs: ")))
 
 
 def by_parallel(folder, block):
@@ -275,10 +276,11 @@ def a_check(folder, block):
              folder.run(f"({block}) && exit 1 || [ $? = 2 ]"),
              differs(folder.said, f"CRITICAL - {name} is 2, above 1 | value=2\n")]
     dead, (_, said) = next(iter(folder.fleet.failing.items()))
+    label = dotted(NAMES_OF_INTERFACES) + ".1"
     for words, status, text in [
             (f"{first} {name} 2", 0, f"OK - {name} is 2 | value=2\n"), (f"{dead} {name} 2", 3, f"UNKNOWN - {said}\n"),
             (f"{first} .1.3 2", 3, f"UNKNOWN - .1.3 is {network.NO_OBJECT}\n"),
-            (f"{first} {name.replace('.8.', '.2.')} 2", 3, f'UNKNOWN - {name.replace(".8.", ".2.")} is "port 1 of 0"\n')]:
+            (f"{first} {label} 2", 3, f'UNKNOWN - {label} is "port 1 of 0"\n')]:
         wrong += [folder.run(f"./check_value {words} || [ $? = {status} ]"), differs(folder.said, text)]
     return wrong
 
@@ -293,8 +295,7 @@ def for_a_collector(folder, block):
               for name, (_, value, _) in held.items() if name[:-1] == RECEIVED]
     return [wrong, differs(sorted(point[1] for point in points), sorted(wanted)),
             differs([point[0] for point in points if not begun <= int(point[2]) <= time.time()], []),
-            differs(sorted(line for line in folder.text("messages.txt").splitlines() if not line.startswith("xargs: ")),
-                    sorted(said for _, said in folder.fleet.failing.values()))]
+            differs(messages(folder), sorted(said for _, said in folder.fleet.failing.values()))]
 
 
 TESTS = {"The devices": [the_devices], "A file for each device": [files_of_devices], "What failed": [what_failed],
