@@ -50,6 +50,9 @@ NAMES = {
     "BRIDGE-MIB::dot1dStaticStatus.'abcdef'.1": ".1.3.6.1.2.1.17.5.1.1.4.97.98.99.100.101.102.1",
     "BRIDGE-MIB::topologyChange": ".1.3.6.1.2.1.17.0.2",
 }
+# RFC 2790 has these in both of its modules, and a number is shown by the first.
+TWICE = {f"HOST-RESOURCES-TYPES::{label}": f"HOST-RESOURCES-MIB::{label}"
+         for label in ("hrStorageTypes", "hrDeviceTypes", "hrFSTypes")}
 DETAILS = """\
 IF-MIB::ifOperStatus
 ifOperStatus OBJECT-TYPE
@@ -178,7 +181,7 @@ def translations(files):
         numbers = run("snmptranslate", "--mib", ALL, "-On", *labels)[1].split()
         check(f"each label of {file} has numbers", len(numbers), len(labels))
         check(f"each number of {file} has its label", run("snmptranslate", "--mib", ALL, *numbers),
-              (0, "".join(f"{label}\n" for label in labels), ""))
+              (0, "".join(f"{TWICE.get(label, label)}\n" for label in labels), ""))
 
 
 def beside():
