@@ -36,7 +36,7 @@ untried = []
 def start(*words, before=(), **where):
     """Starts the program by these words, with a command that runs it before them."""
     where = {"stdin": subprocess.DEVNULL, "stdout": subprocess.PIPE, "stderr": subprocess.PIPE, **where}
-    return subprocess.Popen([*before, PROGRAM, *words], **where)
+    return network.Program([*before, PROGRAM, *words], **where)
 
 
 def ended(program):
@@ -344,10 +344,11 @@ def reader_goes():
             if len(seen) == count:
                 if count > 1:
                     taken.append(os.read(reader, 1000).decode())
-                os.close(reader)
+                with network.starting:
+                    os.close(reader)
             return [served(ROWS, seen[-1])]
         with Agent(leaving) as agent:
-            program = start(command, "-On", agent.place, ROOT, stdout=writer)
+            program = start(command, "-On", "-t", "20", agent.place, ROOT, stdout=writer)
             os.close(writer)
             wrong.append(differs(ended(program), (1, "", FAILED)))
         asked = nexts(*NAMES[:3]) if count > 1 else network.bulks(10, R)

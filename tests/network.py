@@ -233,6 +233,18 @@ class Agent:
                     self.faults.append(traceback.format_exc())
 
 
+# A child holds what is open here until it is another program: what is closed under this lock is closed for good.
+starting = threading.Lock()
+
+
+class Program(subprocess.Popen):
+    """A program that is started while no other is."""
+
+    def __init__(self, *words, **where):
+        with starting:
+            super().__init__(*words, **where)
+
+
 Run = collections.namedtuple("Run", "status output messages asked seconds faults")
 
 
@@ -241,8 +253,8 @@ def run(words, agent):
     with Agent(agent) as asked:
         begun = time.monotonic()
         words = [word.replace("AGENT", asked.place).replace("PORT", str(asked.port)) for word in words]
-        with subprocess.Popen([PROGRAM, *words], stdin=subprocess.DEVNULL, stdout=subprocess.PIPE,
-                              stderr=subprocess.PIPE) as program:
+        with Program([PROGRAM, *words], stdin=subprocess.DEVNULL, stdout=subprocess.PIPE,
+                     stderr=subprocess.PIPE) as program:
             asked.pid.set_result(program.pid)
             try:
                 output, messages = program.communicate(timeout=60)
@@ -650,7 +662,7 @@ class Server:
         # Another program may have the port.
         for self.port in itertools.islice(ports, 20):
             self.place = f"{self.host}:{self.port}"
-            self.program = subprocess.Popen(
+            self.program = Program(
                 [PROGRAM, "snmpd", "--table", self.file.name, "--listen", self.place, *self.words],
                 stdin=subprocess.DEVNULL, stdout=subprocess.PIPE, stderr=subprocess.PIPE, text=True)
             self.listening = self.program.stdout.readline()
