@@ -34,7 +34,10 @@ untried = []
 
 
 def start(*words, before=(), **where):
-    """Starts the program by these words, with a command that runs it before them."""
+    """Starts the program by these words, with a command that runs it before them. Where they say nothing of it, a reply
+    is waited for for four seconds, so that a machine with other work sends nothing again."""
+    if words[0].startswith("snmp") and words[0] not in ("snmpd", "snmptranslate") and not any(it.startswith("-t") for it in words):
+        words = (words[0], "-t", "4", *words[1:])
     where = {"stdin": subprocess.DEVNULL, "stdout": subprocess.PIPE, "stderr": subprocess.PIPE, **where}
     return network.Program([*before, PROGRAM, *words], **where)
 
@@ -348,7 +351,7 @@ def reader_goes():
                     os.close(reader)
             return [served(ROWS, seen[-1])]
         with Agent(leaving) as agent:
-            program = start(command, "-On", "-t", "20", agent.place, ROOT, stdout=writer)
+            program = start(command, "-On", agent.place, ROOT, stdout=writer)
             os.close(writer)
             wrong.append(differs(ended(program), (1, "", FAILED)))
         asked = nexts(*NAMES[:3]) if count > 1 else network.bulks(10, R)
