@@ -13,7 +13,7 @@ _snmp_options() {
         snmpwalk | snmpbulkwalk) echo "$showing $asking -C --after" ;;
         snmpd) echo '--table -c --listen --max-size --turns' ;;
     esac
-    echo '-h --help'
+    echo '-h --help -V --version'
 }
 
 # The letters of an option of a command.

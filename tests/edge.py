@@ -276,6 +276,8 @@ def full_pipe():
                   differs(0 < len(got) < len(LONG_TEXT), True))
 
 
+# Catches: a write that goes on with the next line where the pipe took a part of one; the status 0 after a write
+# that the pipe refused.
 @test("a pipe that doesn't block and is read slowly takes the beginning of the text, and at status 0 the whole")
 def slow_pipe():
     wrong = []
@@ -359,6 +361,7 @@ def reader_goes():
     return wrongs(*wrong)
 
 
+# Catches: lines that are written in another order than they come, and status 0 once the last reader is gone.
 @test("a reader that goes away has the beginning of the text")
 def readers_of_some():
     wrong = []
@@ -399,6 +402,7 @@ def full_file():
     return wrongs(*wrong)
 
 
+# Catches: a write that the disk refused as one that it took, which leaves lines out at status 0.
 @where(mounts, "a disk that is full has the beginning of the text", "no disk can be mounted here")
 def full_disk():
     with file(stated(LONG)) as table, tempfile.TemporaryDirectory() as folder:
@@ -417,6 +421,7 @@ def full_disk():
 
 # -- signals
 
+# Catches: lines that are held back until a walk's end, or until there are many of them.
 @test("a signal ends a walk at once; the lines before it stay")
 def signals():
     wrong = []
@@ -434,6 +439,7 @@ def signals():
     return wrongs(*wrong)
 
 
+# Catches: a program that ignores TERM, or ends by it with a status of its own; a line that is begun anew.
 @test("a signal may cut the line that is being written; what was printed is the beginning of the text")
 def signal_in_line():
     with file(stated(LONG)) as table:
@@ -453,6 +459,7 @@ def signal_in_line():
                       differs(ran, (-signal.SIGTERM, "", "")))
 
 
+# Catches: a server that waits for the end of its turn, as no signal has to, or prints its counts at it.
 @test("a signal ends snmpd at once, without its counts")
 def signals_to_snmpd():
     wrong = []
@@ -689,6 +696,7 @@ networks = subprocess.run(["unshare", "-rn", "sh", "-c", "echo 40000 40001 >/pro
                           capture_output=True, check=False).returncode == 0
 
 
+# Catches: a link that is said to be open where it couldn't be bound, and then waits for replies that can't come.
 @where(networks, "where no port is free the link fails, and once one is the walk is whole", "no network to itself")
 def no_ports():
     with file(stated(SOME)) as table:

@@ -1,7 +1,7 @@
 #!/usr/bin/env bash
-# Tests what an operator meets beside the program's own output: the manual and the completions against the
-# options that the program takes, the install, walks that become tables, and the version. The last line is
-# 'N passed, M failed'.
+# Tests what an operator meets beside the program's own output: the help, whole, and its examples; the manual
+# and the completions against the options that the program takes; the install, walks that become tables, and
+# the version. The last line is 'N passed, M failed'.
 # shellcheck disable=SC2016,SC2086  # words are split on purpose, and backquotes are those of pages
 set -uo pipefail
 export LC_ALL=C
@@ -48,6 +48,37 @@ letters() {
         /^ +-/ { on = $1 == option }
         on && /^ +[a-zA-Z]N?: / { print substr($1, 1, 1) }' | sort
 }
+
+# -- the help, whole; its example, wherever it is pasted; and the version
+
+# shown COMMAND: what the example in the help of a command prints.
+shown() {
+    sed -n '/^Example/{n;s/^  //p}' "tests/data/help/$1.txt" >"$got/example"
+    sed -i "s/127\.0\.0\.1:1161 --turns 30/127.0.0.1:$2 --turns 0/" "$got/example"
+    (mkdir -p "$got/empty" && cd "$got/empty" && PATH=${program%/*}:$PATH sh "$got/example" 2>&1)
+}
+
+# A port of UDP that is free.
+free_port() {
+    python3 -c 'import socket
+door = socket.socket(socket.AF_INET, socket.SOCK_DGRAM)
+door.bind(("127.0.0.1", 0))
+print(door.getsockname()[1])'
+}
+
+same 'the help of snmp' "$(cat tests/data/help/snmp.txt)" "$("$program" --help)"
+for command in $commands; do
+    same "the help of $command" "$(cat "tests/data/help/$command.txt")" "$("$program" "$command" --help)"
+    same "the help of $command, by -h" "$(cat "tests/data/help/$command.txt")" "$("$program" "$command" -h)"
+    same "the version by $command" "$("$program" --version)" "$("$program" "$command" --version)"
+done
+row='.1.3.6.1.2.1.1.5.0 = STRING: "gate"'
+same 'the example of snmptranslate' '.1.3.6.1.2.1.1.5.0' "$(shown snmptranslate)"
+same 'the example of snmpget' "$row" "$(shown snmpget)"
+same 'the example of snmpwalk' "$row" "$(shown snmpwalk)"
+same 'the example of snmpbulkwalk' "$row"$'\nVariables found: 1' "$(shown snmpbulkwalk)"
+port=$(free_port)
+same 'the example of snmpd' "listening on 127.0.0.1:$port"$'\n0 replies, 0 dropped' "$(shown snmpd "$port")"
 
 # -- the manual
 
@@ -117,7 +148,7 @@ offers "$commands -h --help -V --version" snmp ''
 offers 'snmpwalk' snmp snmpw
 offers 'snmptranslate' ./snmp snmpt
 for command in $commands; do
-    options=$({ taken "$command" | sed -n 's/^\(-[^ ]*\) .*/\1/p'; echo -h; echo --help; } | sort)
+    options=$({ taken "$command" | sed -n 's/^\(-[^ ]*\) .*/\1/p'; printf '%s\n' -h --help -V --version; } | sort)
     same "options of $command that bash offers" "$options" "$(complete_words snmp "$command" -)"
     [ "$command" = snmpd ] ||
         same "letters of $command -O that bash offers" "$(letters "$command" -O)" "$(complete_words snmp "$command" -O '')"
@@ -280,10 +311,7 @@ for letters in n nx ne S; do
 done
 
 # The copy as an agent, over UDP.
-place=127.0.0.1:$(python3 -c 'import socket
-door = socket.socket(socket.AF_INET, socket.SOCK_DGRAM)
-door.bind(("127.0.0.1", 0))
-print(door.getsockname()[1])')
+place=127.0.0.1:$(free_port)
 "$program" snmpd --table "$got/copy.tab" --listen $place >"$got/listening" &
 server=$!
 for _ in {1..200}; do [ -s "$got/listening" ] && break; sleep 0.05; done

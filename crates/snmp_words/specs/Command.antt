@@ -152,6 +152,7 @@ serve_app = with_rules (new_app (codes "snmpd")) serving_rules
 abbrev pub top_app : App
 top_app = on_top (λ s. record s {
   has_version = true;
+  propagate_version = true;
   subcommand_required = true;
   disable_help_subcommand = true;
 }) (new_app (codes "snmp"))

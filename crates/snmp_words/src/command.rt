@@ -8,21 +8,54 @@ ghost use Rattle.snmp_words.specs.Command.{place_rules, sending_rules, serve_app
 ghost use Rattle.snmp_words.specs.Command.{showing_rules, snmp_app, top_app, translate_app};
 ghost use Rattle.snmp_words.specs.Command.{translating_rules, walk_app, walking_rules, with_rules};
 
+use crate::mistakes::VERSION;
 use crate::options;
 use clap::{Arg, Command};
 use std::alloc::{AllocError, Global};
 
-const TRANSLATE_EXAMPLE: &str =
-    "Example: snmp snmptranslate --mib tiny.txt -Td TINY-MIB::tinyState";
+// What stands after the help of each command: an example that needs no file, and the statuses.
+const TRANSLATE_END: &str = "\
+Example:
+  snmp snmptranslate -On iso.3.6.1.2.1.1.5.0
 
-const GET_EXAMPLE: &str = "Example: snmp snmpget -On table:three.tab .1.3.6.1.4.1.32473.1.2.0";
+Exit status:
+  0  each name was printed
+  1  a name without a meaning, or another fault, with a message on standard error";
 
-const WALK_EXAMPLE: &str = "Example: snmp snmpwalk -On -Cp table:three.tab .1.3.6.1.4.1.32473.1";
+const GET_END: &str = "\
+Example:
+  echo '1.3.6.1.2.1.1.5.0|4|gate' | snmp snmpget -On table:/dev/stdin .1.3.6.1.2.1.1.5.0
 
-const BULK_EXAMPLE: &str =
-    "Example: snmp snmpbulkwalk -On -Cr25 table:three.tab .1.3.6.1.4.1.32473.1";
+Exit status:
+  0  each name was answered, be it that there is no such instance
+  1  no reply, or another fault, with a message on standard error
+  2  the agent reports an error";
 
-const SERVE_EXAMPLE: &str = "Example: snmp snmpd --table three.tab --listen 127.0.0.1:1161";
+const WALK_END: &str = "\
+Example:
+  echo '1.3.6.1.2.1.1.5.0|4|gate' | snmp snmpwalk -On table:/dev/stdin .1.3.6.1.2.1.1
+
+Exit status:
+  0  all below the name was printed
+  1  no reply, or another fault, with a message on standard error
+  2  the agent reports an error";
+
+const BULK_END: &str = "\
+Example:
+  echo '1.3.6.1.2.1.1.5.0|4|gate' | snmp snmpbulkwalk -On -Cr25 -Cp table:/dev/stdin .1.3.6
+
+Exit status:
+  0  all below the name was printed
+  1  no reply, or another fault, with a message on standard error
+  2  the agent reports an error";
+
+const SERVE_END: &str = "\
+Example, an agent for half a minute:
+  echo '1.3.6.1.2.1.1.5.0|4|gate' | snmp snmpd --table /dev/stdin --listen 127.0.0.1:1161 --turns 30
+
+Exit status:
+  0  all turns were served
+  1  the table or the address was refused, or another fault, with a message on standard error";
 
 // A command as far as it is made, or that memory ran out. Each call below takes it by value and
 // hands it on, so that none has to drop it amid its own steps.
@@ -87,23 +120,25 @@ fn top_command<'a>(alloc: Global) -> Command<'a>
         .about(
             "Translates names of managed objects, reads them from SNMP agents, and serves tables",
         )
-        .version("0.6.0")
+        .after_help("snmp COMMAND --help is on the words of a command, with an example")
+        .version(VERSION)
+        .propagate_version(true)
         .subcommand_required(true)
         .disable_help_subcommand(true)
 }
 
-// A command with no words as yet, the line that help has on it, and an example after its help.
-fn described<'a>(alloc: Global, name: &'a str, about: &'a str, example: &'a str) -> Command<'a>
+// A command with no words as yet, the line that help has on it, and what stands after its help.
+fn described<'a>(alloc: Global, name: &'a str, about: &'a str, end: &'a str) -> Command<'a>
     ensures { app_of result ≡ new_app name.now }
 {
-    Command::new(alloc, name).about(about).after_help(example)
+    Command::new(alloc, name).about(about).after_help(end)
 }
 
 fn translate_command<'a>(alloc: Global) -> Made<'a>
     ensures { IsMade result translate_app }
 {
     let about = "Prints names of managed objects in another form, or details of them";
-    let command = described(alloc, "snmptranslate", about, TRANSLATE_EXAMPLE);
+    let command = described(alloc, "snmptranslate", about, TRANSLATE_END);
     with_translating(alloc, Ok(command))
 }
 
@@ -111,7 +146,7 @@ fn get_command<'a>(alloc: Global) -> Made<'a>
     ensures { IsMade result get_app }
 {
     let about = "Prints the instances that names stand for";
-    let command = described(alloc, "snmpget", about, GET_EXAMPLE);
+    let command = described(alloc, "snmpget", about, GET_END);
     with_getting(alloc, with_asking(alloc, Ok(command)))
 }
 
@@ -119,7 +154,7 @@ fn walk_command<'a>(alloc: Global) -> Made<'a>
     ensures { IsMade result (walk_app (codes "snmpwalk")) }
 {
     let about = "Prints the instances below a name in their order, asking for one at a time";
-    let command = described(alloc, "snmpwalk", about, WALK_EXAMPLE);
+    let command = described(alloc, "snmpwalk", about, WALK_END);
     with_walking(alloc, with_asking(alloc, Ok(command)))
 }
 
@@ -127,7 +162,7 @@ fn bulk_walk_command<'a>(alloc: Global) -> Made<'a>
     ensures { IsMade result (walk_app (codes "snmpbulkwalk")) }
 {
     let about = "Prints the instances below a name in their order, asking for many at a time";
-    let command = described(alloc, "snmpbulkwalk", about, BULK_EXAMPLE);
+    let command = described(alloc, "snmpbulkwalk", about, BULK_END);
     with_walking(alloc, with_asking(alloc, Ok(command)))
 }
 
@@ -135,7 +170,7 @@ fn serve_command<'a>(alloc: Global) -> Made<'a>
     ensures { IsMade result serve_app }
 {
     let about = "Serves a table as an agent";
-    let command = described(alloc, "snmpd", about, SERVE_EXAMPLE);
+    let command = described(alloc, "snmpd", about, SERVE_END);
     with_serving(alloc, Ok(command))
 }
 

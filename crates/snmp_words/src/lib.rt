@@ -7,6 +7,7 @@
 mod command;
 mod given;
 mod job;
+mod mistakes;
 mod options;
 
 ghost use Rattle.std.specs.Prelude.{◌≡◌, [], ◌∷◌, List, ℕ, Some, codes, true};
@@ -60,7 +61,7 @@ pub fn read_words<'a>(alloc: Global, words: &'a [&'a str]) -> Result<Job<'a>, Us
     let command = snmp_command(alloc)?;
     match command.try_get_matches_from(words) {
         Ok(matches) => Ok(job_of(alloc, &matches)?),
-        Err(error) => Err(usage_error(alloc, &error)),
+        Err(error) => Err(usage_error(alloc, &error, words)),
     }
 }
 
@@ -100,7 +101,7 @@ pub fn gets_are_taken()
 {}
 
 // Help and the version are what was asked for.
-fn usage_error(alloc: Global, error: &clap::Error) -> UsageError
+fn usage_error(alloc: Global, error: &clap::Error, words: &[&str]) -> UsageError
     ensures memory { kind_of error.now ≡ ErrorKind.OutOfMemory → IsMemory result }
     ensures refusal { StandsFor result (kind_of error.now) }
 {
@@ -108,7 +109,7 @@ fn usage_error(alloc: Global, error: &clap::Error) -> UsageError
         return UsageError::Memory;
     }
     let help = !error.use_stderr();
-    match format!(in alloc; "{error}") {
+    match mistakes::text_of(alloc, error, words) {
         Ok(text) => UsageError::Parse { text, help },
         Err(_) => UsageError::Memory,
     }

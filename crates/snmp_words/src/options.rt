@@ -9,8 +9,8 @@ ghost use Rattle.snmp_words.specs.Command.{size_rule, table_rule, turns_rule, wa
 use clap::{Arg, ArgAction, value_parser};
 use std::alloc::Global;
 
-const LETTERS_HELP: &str = "How names and values are shown; may be repeated. \
-                            Of n, f, s and S, of q and Q, and of x and a, the last one counts\n\
+const LETTERS_HELP: &str = "How names and values are shown; may be repeated\n\
+                            of n, f, s and S, of q and Q, and of x and a, the last one counts\n\
                             n: names in numbers\n\
                             f: names with the labels from the root on\n\
                             s: names with their last label\n\
@@ -33,8 +33,8 @@ const WALK_LETTERS_HELP: &str = "What is walked; may be repeated\n\
                                  rN: snmpbulkwalk: N instances a request, 1 to 2147483647; \
                                  by default 10";
 
-const MIB_HELP: &str = "A file of MIB modules, whose names can be given and are shown; may be \
-                        repeated, in order";
+const MIB_HELP: &str = "A file of modules, whose names can be given and are shown\n\
+                        may be repeated; the files are loaded in order";
 
 const DETAILS_HELP: &str = "What is shown in place of names\n\
                             d: details";
@@ -46,8 +46,9 @@ const TURNS_HELP: &str = "Ends after N turns: a request, or a second without one
                           18446744073709551615";
 
 const AGENT_HELP: &str = "The agent\n\
-                          host[:port] or udp:host[:port]: the agent at that UDP port; by \
-                          default port 161\n\
+                          host[:port] or udp:host[:port]: the agent at that UDP port, by default \
+                          161,\n\
+                          such as 192.0.2.1 or router:1161\n\
                           table:FILE: an agent in memory that serves the table of a file";
 
 /// `--mib FILE`

@@ -252,6 +252,64 @@ fn files_of_modules_are_stated_in_order(rt: HostRuntime) {
     assert_stated(&rt, rt.alloc(), FILES_OF_MODULES);
 }
 
+/// Options with their values joined, and the same apart.
+const JOINED: &[(&[&str], &str)] = &[
+    (
+        &[
+            "snmp",
+            "snmpbulkwalk",
+            "-v2c",
+            "-cprivate",
+            "-r1",
+            "-t2",
+            "-On",
+            "-Cr50",
+            "router",
+            ".1",
+        ],
+        OF_JOINED,
+    ),
+    (
+        &[
+            "snmp",
+            "snmpbulkwalk",
+            "-v",
+            "2c",
+            "-c",
+            "private",
+            "-r",
+            "1",
+            "-t",
+            "2",
+            "-O",
+            "n",
+            "-C",
+            "r50",
+            "router",
+            ".1",
+        ],
+        OF_JOINED,
+    ),
+];
+
+const OF_JOINED: &str = "BulkWalk(WalkJob { asking: Asking { mibs: [], letters: \"n\", \
+                         protocol: \"2c\", community: \"private\", retries: 1, seconds: 2, \
+                         max_size: 1472, agent: \"router\" }, letters: \"r50\", after: None, \
+                         name: Some(\".1\") })";
+
+/// Several options in one word, and long ones joined without an equals sign, aren't read as such.
+const NOT_JOINED: &[&[&str]] = &[
+    &["snmp", "snmpwalk", "-r1t2", "router"],
+    &["snmp", "snmpwalk", "--max-size484", "router"],
+    &["snmp", "snmpwalk", "--mibx.txt", "router"],
+];
+
+#[test]
+fn values_are_joined_or_apart(rt: HostRuntime) {
+    assert_stated(&rt, rt.alloc(), JOINED);
+    assert_refused(&rt, rt.alloc(), NOT_JOINED);
+}
+
 const REPEATED: &[(&[&str], &str)] = &[(
     &[
         "snmp",

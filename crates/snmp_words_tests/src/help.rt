@@ -41,41 +41,58 @@ const LETTERS: [&str; 13] = [
     "a: strings as text",
 ];
 
-/// Each command with the line of its usage and that of its example.
+/// Each command with the lines of its usage, of its example and of its statuses.
 const COMMANDS: &[(&str, &[&str])] = &[
     (
         "snmptranslate",
         &[
             "Usage: snmp snmptranslate [OPTIONS] <NAME>...",
-            "Example: snmp snmptranslate --mib tiny.txt -Td TINY-MIB::tinyState",
+            "snmp snmptranslate -On iso.3.6.1.2.1.1.5.0",
+            "0  each name was printed",
+            "1  a name without a meaning, or another fault, with a message on standard error",
         ],
     ),
     (
         "snmpget",
         &[
             "Usage: snmp snmpget [OPTIONS] <AGENT> <NAME>...",
-            "Example: snmp snmpget -On table:three.tab .1.3.6.1.4.1.32473.1.2.0",
+            "echo '1.3.6.1.2.1.1.5.0|4|gate' | snmp snmpget \
+             -On table:/dev/stdin .1.3.6.1.2.1.1.5.0",
+            "0  each name was answered, be it that there is no such instance",
+            "1  no reply, or another fault, with a message on standard error",
+            "2  the agent reports an error",
         ],
     ),
     (
         "snmpwalk",
         &[
             "Usage: snmp snmpwalk [OPTIONS] <AGENT> [NAME]",
-            "Example: snmp snmpwalk -On -Cp table:three.tab .1.3.6.1.4.1.32473.1",
+            "echo '1.3.6.1.2.1.1.5.0|4|gate' | snmp snmpwalk -On table:/dev/stdin .1.3.6.1.2.1.1",
+            "0  all below the name was printed",
+            "1  no reply, or another fault, with a message on standard error",
+            "2  the agent reports an error",
         ],
     ),
     (
         "snmpbulkwalk",
         &[
             "Usage: snmp snmpbulkwalk [OPTIONS] <AGENT> [NAME]",
-            "Example: snmp snmpbulkwalk -On -Cr25 table:three.tab .1.3.6.1.4.1.32473.1",
+            "echo '1.3.6.1.2.1.1.5.0|4|gate' | snmp snmpbulkwalk \
+             -On -Cr25 -Cp table:/dev/stdin .1.3.6",
+            "0  all below the name was printed",
+            "1  no reply, or another fault, with a message on standard error",
+            "2  the agent reports an error",
         ],
     ),
     (
         "snmpd",
         &[
             "Usage: snmp snmpd [OPTIONS] --table <FILE>",
-            "Example: snmp snmpd --table three.tab --listen 127.0.0.1:1161",
+            "echo '1.3.6.1.2.1.1.5.0|4|gate' | snmp snmpd \
+             --table /dev/stdin --listen 127.0.0.1:1161 --turns 30",
+            "0  all turns were served",
+            "1  the table or the address was refused, or another fault, with a message on \
+             standard error",
         ],
     ),
 ];
@@ -106,7 +123,8 @@ fn help_lists_each_letter(rt: HostRuntime) {
 }
 
 const FORMS_OF_AGENTS: &[&str] = &[
-    "host[:port] or udp:host[:port]: the agent at that UDP port; by default port 161",
+    "host[:port] or udp:host[:port]: the agent at that UDP port, by default 161,",
+    "such as 192.0.2.1 or router:1161",
     "table:FILE: an agent in memory that serves the table of a file",
 ];
 
@@ -128,5 +146,9 @@ fn the_program_has_help_and_a_version(rt: HostRuntime) {
     assert!(rt; helps(rt.alloc(), &["snmp", "--help"], &["Usage: snmp <COMMAND>"]));
     assert!(rt; helps(rt.alloc(), &["snmp", "--version"], &["snmp 0.6.0"]));
     assert!(rt; helps(rt.alloc(), &["snmp", "-V"], &["snmp 0.6.0"]));
+    for (command, _) in COMMANDS {
+        assert!(rt; helps(rt.alloc(), &["snmp", command, "--version"], &["snmp 0.6.0"]));
+        assert!(rt; helps(rt.alloc(), &["snmp", command, "-V"], &["snmp 0.6.0"]));
+    }
     assert!(rt; !helps(rt.alloc(), &["snmp"], &[]));
 }

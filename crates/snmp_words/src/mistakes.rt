@@ -1,0 +1,249 @@
+//! What is printed where words give no job: the text of the parser, with what to write in place of
+//! a word of Net-SNMP, what a value should be, and the help to read.
+use clap::error::ErrorKind;
+use std::alloc::{AllocError, Global};
+
+/// The version of the program.
+pub(crate) const VERSION: &str = "0.6.0";
+
+// Words, each with a tip.
+type Tips = &'static [(&'static str, &'static str)];
+
+const NOT_HERE: &str =
+    "there are snmptranslate, snmpget, snmpwalk, snmpbulkwalk and snmpd, and no more";
+
+const COMMANDS: Tips = &[
+    (
+        "help",
+        "snmp --help is on the commands, snmp COMMAND --help on one",
+    ),
+    ("snmpset", "agents are read here and never written"),
+    ("snmpgetnext", "snmpwalk asks for the names that follow one"),
+    (
+        "snmpbulkget",
+        "snmpbulkwalk asks for many instances at a time",
+    ),
+    (
+        "snmptable",
+        "snmpbulkwalk prints a table, column after column",
+    ),
+    ("snmptrap", NOT_HERE),
+    ("snmptrapd", NOT_HERE),
+    ("snmpinform", NOT_HERE),
+    ("snmpstatus", NOT_HERE),
+    ("snmpdelta", NOT_HERE),
+    ("snmpdf", NOT_HERE),
+];
+
+const MODULES: &str = "--mib FILE names a file of modules, and may be repeated";
+
+const USERS: &str = "there is SNMPv2c alone: a community (-c), and neither users nor keys";
+
+const DUMPS: &str = "messages are shown by tcpdump -vv -s0 udp port 161";
+
+const LOGS: &str = "messages are written to standard error, and nowhere else";
+
+const OPTIONS: Tips = &[
+    ("-m", MODULES),
+    (
+        "-M",
+        "no folder is searched for modules: --mib FILE names each file",
+    ),
+    (
+        "-P",
+        "files of modules (--mib FILE) are read in one way alone",
+    ),
+    (
+        "-I",
+        "a name is numbers, a label, or MODULE::label, and is read in one way alone",
+    ),
+    ("-R", "a label is looked up in all modules"),
+    ("-T", "snmptranslate -Td prints details"),
+    ("-C", "snmpwalk and snmpbulkwalk take letters of -C"),
+    ("-d", DUMPS),
+    ("-D", DUMPS),
+    ("-L", LOGS),
+    ("-u", USERS),
+    ("-l", USERS),
+    ("-a", USERS),
+    ("-A", USERS),
+    ("-x", USERS),
+    ("-X", USERS),
+    ("-e", USERS),
+    ("-E", USERS),
+    ("-n", USERS),
+    ("-Z", USERS),
+];
+
+const OPTIONS_OF_SNMPD: Tips = &[
+    ("-f", "snmpd stays in the foreground without it"),
+    (
+        "-C",
+        "--table FILE says what is served: no configuration is read",
+    ),
+    ("-m", "a table has names in numbers, so no modules are read"),
+    ("-M", "a table has names in numbers, so no modules are read"),
+    ("-p", "no file of the process's number is written"),
+    ("-u", "snmpd runs as the user who starts it"),
+    ("-g", "snmpd runs as the user who starts it"),
+    ("-d", DUMPS),
+    ("-D", DUMPS),
+    ("-L", LOGS),
+];
+
+const VALUES: Tips = &[
+    ("--mib <FILE>", "FILE is a file of modules"),
+    (
+        "-O <LETTERS>",
+        "LETTERS are some of n, f, s, S, q, Q, v, e, t, b, U, x and a",
+    ),
+    ("-T <LETTERS>", "LETTERS are d"),
+    (
+        "-C <LETTERS>",
+        "LETTERS are some of i, p, I (snmpwalk) and rN (snmpbulkwalk)",
+    ),
+    ("-v <VERSION>", "VERSION is 2c"),
+    (
+        "-c <COMMUNITY>",
+        "COMMUNITY is a text of at most 255 octets, such as public",
+    ),
+    ("-r <RETRIES>", "RETRIES is a whole number from 0 to 1000"),
+    ("-t <SECONDS>", "SECONDS is a whole number from 1 to 3600"),
+    (
+        "--max-size <OCTETS>",
+        "OCTETS is a whole number from 1 to 65507",
+    ),
+    ("--after <NAME>", "NAME is the last one that a walk printed"),
+    ("--table <FILE>", "FILE is a table file"),
+    (
+        "--listen <HOST:PORT>",
+        "HOST:PORT is an address of this machine, such as 127.0.0.1:1161",
+    ),
+    (
+        "--turns <N>",
+        "N is a whole number from 0 to 18446744073709551615",
+    ),
+];
+
+/// The text for the user on words that the parser refused, or that ask for help or the version.
+pub(crate) fn text_of(
+    alloc: Global,
+    error: &clap::Error,
+    words: &[&str],
+) -> Result<String, AllocError> {
+    match error.kind() {
+        ErrorKind::DisplayHelp => format!(in alloc; "{error}"),
+        ErrorKind::DisplayVersion => format!(in alloc; "snmp {VERSION}\n"),
+        _ => {
+            let text = format!(in alloc; "{error}")?;
+            explained(alloc, text.as_str(), command_of(words))
+        }
+    }
+}
+
+// The command that the words begin with, if they begin with one.
+fn command_of<'a>(words: &[&'a str]) -> Option<&'a str> {
+    match words.get(1) {
+        Some(word) if is_command(word) => Some(*word),
+        _ => None,
+    }
+}
+
+fn is_command(word: &str) -> bool {
+    matches!(
+        word,
+        "snmptranslate" | "snmpget" | "snmpwalk" | "snmpbulkwalk" | "snmpd"
+    )
+}
+
+// The parser's text has parts with an empty line between: the mistake; tips, or none; the usage, or
+// none; and the help to read.
+fn explained(alloc: Global, text: &str, command: Option<&str>) -> Result<String, AllocError> {
+    let (mistake, rest) = text.split_once("\n\n").unwrap_or((text, ""));
+    let (tips, rest) = tips_before(rest);
+    let usage = rest
+        .strip_suffix("For more information, try '--help'.\n")
+        .unwrap_or(rest);
+    let mut explained = format!(in alloc; "{mistake}\n\n")?;
+    if let Some(tip) = tip_on(mistake, command).or(tip_among_parsers(tips)) {
+        write!(explained, "  tip: {tip}\n\n")?;
+    }
+    explained.push_str(usage)?;
+    explained.push_str("For more information, try 'snmp ")?;
+    if let Some(command) = command {
+        write!(explained, "{command} ")?;
+    }
+    explained.push_str("--help'.\n")?;
+    Ok(explained)
+}
+
+// The tips that a text begins with, and what follows them.
+fn tips_before(text: &str) -> (&str, &str) {
+    if text.starts_with("  tip: ") {
+        text.split_once("\n\n").unwrap_or((text, ""))
+    } else {
+        ("", text)
+    }
+}
+
+// The first of the parser's tips. One to pass a word that begins with a hyphen as a value doesn't
+// count: no agent and no name begins with one.
+fn tip_among_parsers(tips: &str) -> Option<&str> {
+    let (first, _) = tips.split_once('\n').unwrap_or((tips, ""));
+    let tip = first.strip_prefix("  tip: ")?;
+    if tip.starts_with("to pass '") {
+        None
+    } else {
+        Some(tip)
+    }
+}
+
+// What to write in place of what a mistake names.
+fn tip_on(mistake: &str, command: Option<&str>) -> Option<&'static str> {
+    if let Some(name) = between("error: unrecognized subcommand '", mistake, "'") {
+        return tip_among(COMMANDS, name);
+    }
+    if let Some(word) = between("error: unexpected argument '", mistake, "' found") {
+        return tip_on_word(word, command);
+    }
+    if mistake.starts_with("error: the following required") && mistake.contains("<AGENT>") {
+        return Some("AGENT is HOST or HOST:PORT, such as 192.0.2.1, or table:FILE");
+    }
+    tip_among(VALUES, option_of(mistake)?)
+}
+
+fn tip_on_word(word: &str, command: Option<&str>) -> Option<&'static str> {
+    match command {
+        None => Some("the command comes first, as in snmp snmpwalk -On AGENT"),
+        Some("snmpd") if !word.starts_with('-') => Some(
+            "--table FILE says what is served, and --listen HOST:PORT where",
+        ),
+        Some("snmpd") => tip_among(OPTIONS_OF_SNMPD, word),
+        Some(_) => tip_among(OPTIONS, word),
+    }
+}
+
+// The option whose value a mistake is about.
+fn option_of(mistake: &str) -> Option<&str> {
+    if let Some(rest) = mistake.strip_prefix("error: a value is required for '") {
+        let (option, _) = rest.split_once("' but")?;
+        return Some(option);
+    }
+    let rest = mistake.strip_prefix("error: invalid value '")?;
+    let (_, rest) = rest.rsplit_once("' for '")?;
+    let (option, _) = rest.split_once("': ")?;
+    Some(option)
+}
+
+fn between<'t>(before: &str, text: &'t str, after: &str) -> Option<&'t str> {
+    text.strip_prefix(before)?.strip_suffix(after)
+}
+
+fn tip_among(tips: Tips, word: &str) -> Option<&'static str> {
+    for (name, tip) in tips {
+        if *name == word {
+            return Some(*tip);
+        }
+    }
+    None
+}
