@@ -374,6 +374,13 @@ same 'a walk that is no file' "lines-to-table: [Errno 2] No such file or directo
 echo '.1.3.6 = INTEGER: 1' | tools/lines-to-table >/dev/full 2>"$got/err"
 same 'an output that takes no more' "1 lines-to-table: [Errno 28] No space left on device" "$? $(cat "$got/err")"
 
+# -- the drawing of README
+
+same 'the drawing of the figures' "$(cat docs/speed.svg)" "$(tools/draw-speed)"
+while read -r figure; do
+    count "$(grep -qF ">$figure" docs/speed.svg || echo "the drawing lacks $figure, which README says of it")"
+done < <(sed -n 's/^!\[\([^]]*\)\](docs\/speed.svg)$/\1/p' README.md | grep -oE '[0-9]{1,2},[0-9]{3}')
+
 # -- the version
 
 version=$("$program" --version)
