@@ -12,10 +12,11 @@ ghost use Rattle.snmp_agent.specs.Answering.{IsResponseTooLong, whole_status, wh
 
 use crate::bulk::append_bulk;
 use crate::config::{Config, Outcome, Why};
-use crate::draft::{Draft, append_answers, room_for_bindings, seal};
+use crate::draft::{Draft, append_answers, room_for_bindings};
 use crate::table::{Table, one_answer};
 use snmp_wire::{
     Kind, MAX_DATAGRAM, MessageRef, Parts, decode, encode_head, head_size, message_sizes, pieces,
+    seal,
 };
 
 /// The version of SNMPv2c (RFC 1901, section 3).
@@ -121,7 +122,7 @@ fn bulk_reply<'a>(
         Some(room) => {
             let draft = Draft { room, total: 0 };
             let total = append_bulk(table, request, draft, out);
-            Some(seal(&parts, out, total))
+            seal(&parts, 0, total, &mut out[..])
         }
         None => None,
     }
@@ -153,7 +154,7 @@ fn paired_reply(
         config,
         out,
     ) {
-        Some(total) => Some(seal(&parts, out, total)),
+        Some(total) => seal(&parts, 0, total, &mut out[..]),
         None => shortened(request, config, out),
     }
 }

@@ -3,7 +3,7 @@
 ghost use Rattle.std.specs.Prelude.{◌≡◌, ◌+◌, ◌≤◌, ◌<◌, ◌++◌, List, [], length, take, IfSome};
 ghost use Rattle.std.specs.Prelude.{IfNone, IsTrue, ◌↔◌};
 ghost use Rattle.snmp_wire.specs.Message.{VarBind, var_bind, datum, null_value};
-ghost use Rattle.snmp_wire.specs.Canon.{canon_binding, canon_bindings, canon_head};
+ghost use Rattle.snmp_wire.specs.Canon.{canon_binding, canon_bindings};
 ghost use Rattle.snmp_wire.specs.Parts.{parts_message};
 ghost use Rattle.snmp_agent.specs.Reply.{AreAnswers};
 ghost use Rattle.snmp_agent.specs.Answering.{IsPaired, IsAnswer, IsWritable, AreWritable};
@@ -14,7 +14,7 @@ use crate::config::Config;
 use crate::table::{Place, Table, one_answer};
 use snmp_wire::{
     Binding, Bindings, Kind, MAX_DATAGRAM, Oid, Parts, ValueRef, element_sizes, encode_binding,
-    encode_head, head_size, message_sizes,
+    head_size, message_sizes,
 };
 
 /// Writes the bindings of the reply to a request to the front of `out`, and returns how many octets
@@ -149,23 +149,5 @@ fn is_short(value: &ValueRef<'_>) -> bool
     match value {
         ValueRef::Octets(text) | ValueRef::Opaque(text) => text.len() <= 65535,
         _ => true,
-    }
-}
-
-/// Makes a message of the bindings in the first `total` octets: moves them, writes the head before
-/// them, and returns the length of the message.
-pub fn seal(parts: &Parts<'_>, out: &mut [u8; MAX_DATAGRAM], total: usize) -> usize
-    requires community { length parts.now.community.now ≤ 255 }
-    requires datagram { total ≤ 65507 }
-    requires room { whole_size (parts_message parts.now) total ≤ length out.old }
-    ensures size { result ≡ whole_size (parts_message parts.now) total }
-    ensures message { take result out.new ≡ canon_head (parts_message parts.now) total ++ take
-        total out.old }
-{
-    let head = head_size(parts, total as u64) as usize;
-    out.copy_within(..total, head);
-    match encode_head(parts, total as u64, &mut out[..]) {
-        Some(_) => head + total,
-        None => unreachable!(),
     }
 }

@@ -2,9 +2,8 @@
 ghost use Rattle.std.specs.Prelude.{◌≡◌, ◌≤◌, ◌<◌, ◌^◌, ◌+◌, ◌++◌, ◌≢◌, replicate, ℕ, List, []};
 ghost use Rattle.std.specs.Prelude.{All, length, take, IfSome, IfNone, IsSome, ◌↔◌, ◌&&◌, not};
 ghost use Rattle.snmp_oid.specs.Identifier.{IsWire, wire};
-ghost use Rattle.snmp_wire.specs.Canon.{canon, canon_binding, canon_bindings, canon_head};
+ghost use Rattle.snmp_wire.specs.Canon.{canon, canon_binding, canon_bindings};
 ghost use Rattle.snmp_wire.specs.Canon.{IsEncodable};
-ghost use Rattle.snmp_wire.specs.Parts.{parts_message};
 ghost use Rattle.std.specs.Bool.{nat_eq};
 ghost use Rattle.std.specs.Cmp.Lexicographic.{pointwise};
 ghost use Rattle.snmp_wire.specs.ber.Value.{null_value};
@@ -24,8 +23,7 @@ use crate::tries::{Course, Judgement, Waiter, exchange, is_awaited};
 use crate::walker::copy_of;
 use crate::{Link, Rows, Sink, WalkEnd};
 use snmp_wire::{
-    Binding, Bindings, Kind, MessageRef, Oid, Parts, ValueRef, encode_binding, encode_head,
-    head_size, pieces,
+    Binding, Bindings, Kind, MessageRef, Oid, Parts, ValueRef, encode_binding, pieces, seal,
 };
 use std::marker::Model;
 
@@ -191,28 +189,7 @@ fn write_request(names: &[Oid], community: &[u8], id: u32, out: &mut [u8; 65507]
         b: 0,
         bindings: &[],
     };
-    if head_size(&parts, total as u64) as usize + total > 65507 {
-        return None;
-    }
-    Some(put_head(&parts, total, &mut out[..]))
-}
-
-/// Makes a message of the bindings in the first `total` octets: moves them, writes what precedes
-/// them, and returns the length of the message.
-fn put_head(parts: &Parts<'_>, total: usize, out: &mut [u8]) -> usize
-    requires community { length parts.now.community.now ≤ 255 }
-    requires datagram { total ≤ 65507 }
-    requires room { length (canon_head (parts_message parts.now) total) + total ≤ length out.old }
-    ensures size { result ≡ length (canon_head (parts_message parts.now) total) + total }
-    ensures message { take result out.new ≡ canon_head (parts_message parts.now) total ++ take
-        total out.old }
-{
-    let head = head_size(parts, total as u64) as usize;
-    out.copy_within(..total, head);
-    match encode_head(parts, total as u64, out) {
-        Some(_) => head + total,
-        None => unreachable!(),
-    }
+    seal(&parts, 0, total, &mut out[..])
 }
 
 /// Writes a binding after the `total` octets of those before it, and returns how many octets all of

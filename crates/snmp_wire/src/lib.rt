@@ -17,5 +17,7 @@ pub use laws::{
     encoding_is_shortest, encoding_is_strict, message_sizes, no_fault, one_shortest_encoding,
     one_spelling, pieces, strict_is_read,
 };
-pub use message::{MAX_DATAGRAM, MessageRef, Parts, decode, encode, encode_head, head_size, size};
+pub use message::{
+    MAX_DATAGRAM, MessageRef, Parts, decode, encode, encode_head, head_size, seal, size,
+};
 pub use snmp_oid::{Oid, OidError, OidTextError, parse_numeric, write_numeric};

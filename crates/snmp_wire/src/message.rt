@@ -319,6 +319,35 @@ pub fn encode_head(parts: &Parts<'_>, total: u64, out: &mut [u8]) -> Option<usiz
     Some(size)
 }
 
+/// Makes a message of encoded bindings that lie in `out`, in the `len` octets from `at` on: moves
+/// them, writes the shortest head for that many octets before them, and returns the length of the
+/// message, which begins at the front of `out`. What follows the message there is unspecified. The
+/// bindings of `parts` aren't looked at.
+///
+/// It requires a community of at most 65535 octets, and that these octets are at most 4,000,000,000
+/// and lie within `out`. None only where the message is longer than `out`, which is then unchanged.
+#[inline]
+pub fn seal(parts: &Parts<'_>, at: usize, len: usize, out: &mut [u8]) -> Option<usize>
+    requires community { length parts.now.community.now ≤ 65535 }
+    requires total { len ≤ 4000000000 }
+    requires within { at + len ≤ length out.old }
+    ensures some { IfSome result (λ n.
+        (n ≡ length (canon_head (parts_message parts.now) len) + len)
+        × (take n out.new
+        ≡ canon_head (parts_message parts.now) len ++ take len (drop at out.old))) }
+    ensures variant { IsSome result
+        ↔ (length (canon_head (parts_message parts.now) len) + len ≤ length out.old) }
+    ensures unchanged { IfNone result (out.new ≡ out.old) }
+{
+    let head = head_size(parts, len as u64) as usize;
+    if out.len() - len < head {
+        return None;
+    }
+    out.copy_within(at..at + len, head);
+    put_head(out, head, parts, len as u64);
+    Some(head + len)
+}
+
 /// How many octets bindings take together.
 #[inline(never)]
 fn bindings_size(bindings: &[Binding<'_>]) -> u64

@@ -8,7 +8,7 @@ ghost use Rattle.snmp_wire.specs.Message.{var_bind, var_binds};
 use crate::recorded::{REQUEST, RESPONSE};
 use snmp_wire::{
     Binding, Kind, MessageRef, Oid, Parts, ValueRef, binding_size, decode, encode, encode_binding,
-    size,
+    seal, size,
 };
 use std::process::Abort;
 
@@ -366,4 +366,16 @@ fn write_all(rt: &impl Abort, message: &MessageRef<'_>, out: &mut [u8]) -> usize
     assert_encodable(rt, &binding);
     let one = [binding];
     write_again(rt, message, &one, out)
+}
+
+#[test]
+fn bindings_written_before_their_head_are_sealed(rt: HostRuntime) {
+    let parts = message(Kind::GetBulkRequest, 10, &[]);
+    let mut out = [0; 60];
+    out[20..37].copy_from_slice(&BULK[24..]);
+    assert_eq!(rt; seal(&parts, 22, 15, &mut out), Some(41));
+    assert_eq!(rt; &out[..41], &BULK[..]);
+    let mut short = [7; 40];
+    assert_eq!(rt; seal(&parts, 25, 15, &mut short), None);
+    assert_eq!(rt; short, [7; 40]);
 }

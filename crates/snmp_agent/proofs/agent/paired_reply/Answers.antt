@@ -1,18 +1,25 @@
-use Rattle.std.proofs.Common.{◌≡◌, ◌≤◌, ◌<◌, ℕ, length, take, Option, Some, None, IfSome, IfNone}
+use Rattle.std.proofs.Common.{◌≡◌, ◌≤◌, ◌<◌, ℕ, length, take, Option, Some, None, IfSome, IfNone, arith}
+use Rattle.std.proofs.lemmas.Option.{IfSome_then}
 use Rattle.snmp_wire.specs.Canon.{canon}
 use Rattle.snmp_wire.specs.Message.{Message}
 use Rattle.snmp_wire.specs.Parts.{parts_message}
 use Rattle.snmp_agent.specs.table.Table.{MibView}
 use Rattle.snmp_agent.specs.Reply.{IsResponse}
+use Rattle.snmp_agent.proofs.Lengths.{not_none}
 use Rattle.snmp_agent.proofs.Requests.{finished, replaced}
 use Rattle.snmp_agent.proofs.agent.paired_reply.Goals as goal
 
 pub returns-in-Some-clause-sent : goal.returns-in-Some-clause-sent
 returns-in-Some-clause-sent c =
     let written = c.in-Some.ensures.written in
-    finished c.message_sizes.ensures c.pieces.ensures c.args.table.now c.args.config.now.max_size c.args.request.now c.kind.result c.bindings.result written.0
-    (parts_message c.whole_parts-parts.result) c.in-Some.total c.seal.result c.append_answers.new.out c.seal.new.out
-    c.requires.paired c.kind.ensures c.bindings.ensures c.whole_parts-parts.ensures written.1 written.2 c.seal.ensures.size c.seal.ensures.message
+    IfSome_then c.seal.result c.seal.ensures.some (λ n h. finished c.message_sizes.ensures c.pieces.ensures c.args.table.now c.args.config.now.max_size
+    c.args.request.now c.kind.result c.bindings.result written.0 (parts_message c.whole_parts-parts.result) c.in-Some.total n c.append_answers.new.out
+    c.seal.new.out c.requires.paired c.kind.ensures c.bindings.ensures c.whole_parts-parts.ensures written.1 written.2 h.0 h.1)
+
+pub returns-in-Some-clause-none : goal.returns-in-Some-clause-none
+returns-in-Some-clause-none c =
+    let written = c.in-Some.ensures.written in
+    not_none _ c.seal.result (c.seal.ensures.variant.1 (omega (arith, written.2.fits, c.args.config.now.datagram)))
 
 pub returns-in-None-clause-sent : goal.returns-in-None-clause-sent
 returns-in-None-clause-sent c =

@@ -1,13 +1,15 @@
-use Rattle.std.proofs.Common.{◌≡◌, ◌∙◌, ap, arith, ℤ, pos, [], w32, to_z}
+use Rattle.std.proofs.Common.{◌≡◌, ◌≤◌, ◌<◌, ◌+◌, ◌↔◌, ◌∙◌, ap, arith, ℕ, ℤ, pos, List, [], length, take, Option, Some, None, IsSome, IfSome, IfNone, w32, to_z, refl}
 use Rattle.std.proofs.lemmas.Int.{to_z_pos}
+use Rattle.std.proofs.lemmas.Bool.{cases_lt}
+use Rattle.std.proofs.Common.{⊎_elim}
 use Rattle.snmp_wire.specs.Message.{Message}
 use Rattle.snmp_wire.specs.declared.kind.Kind.TheVariants as kind
 use Rattle.snmp_walk.specs.Get.{get_request}
 use Rattle.snmp_walk.proofs.GetLemmas.{pieces_of, size_of}
 use Rattle.snmp_walk.proofs.get.write_request.Goals as goal
 
-pub returns-then-head_size-total-gt65507-clause-none : goal.returns-then-head_size-total-gt65507-clause-none
-returns-then-head_size-total-gt65507-clause-none c =
+pub returns-clause-none : goal.returns-clause-none
+returns-clause-none c =
     let m : Message = get_request c.args.community.now c.args.id c.args.names.now in
     let id : to_z w32 c.args.id ≡ pos c.args.id = to_z_pos w32 c.args.id c.requires.id in
     let some = c.in-Some.ensures.some in
@@ -15,9 +17,12 @@ returns-then-head_size-total-gt65507-clause-none c =
     (record { version = pos 1; community = c.args.community.now; kind = kind.GetRequest; id = to_z w32 c.args.id; a = pos 0; b = pos 0; bindings = [] })
     (ap (λ (z : ℤ). record { version = pos 1; community = c.args.community.now; kind = kind.GetRequest; id = z; a = pos 0; b = pos 0; bindings = [] }) id)
     c.in-Some.total some.1 in
-    let value = c.head_size.ensures.value in
-    let past = c.if-head_size-total-gt65507.true in
-    omega (arith, size, value, past)
+    by_result c.seal.result _ _ _ size (omega (arith, c.write_names.array_long)) c.seal.ensures.variant
+  where
+    by_result : (written : Option ℕ) (n whole room : ℕ) → n ≡ whole → room ≡ 65507 → IsSome written ↔ (n ≤ room) → IfNone written (65507 < whole)
+    by_result (Some k) n whole room e all fits = tt
+    by_result None n whole room e all fits =
+        ⊎_elim (λ past. past) (λ low. let no : IsSome {T = ℕ} None = fits.1 (omega arith) in absurd (cc)) (cases_lt 65507 whole)
 
 pub returns-clause-some : goal.returns-clause-some
 returns-clause-some c =
@@ -28,7 +33,9 @@ returns-clause-some c =
     (record { version = pos 1; community = c.args.community.now; kind = kind.GetRequest; id = to_z w32 c.args.id; a = pos 0; b = pos 0; bindings = [] })
     (ap (λ (z : ℤ). record { version = pos 1; community = c.args.community.now; kind = kind.GetRequest; id = z; a = pos 0; b = pos 0; bindings = [] }) id)
     c.in-Some.total _ some.1 some.2 in
-    let value = c.head_size.ensures.value in
-    let size = c.put_head.ensures.size in
-    let fits = c.if-head_size-total-gt65507.false in
-    (omega (arith, value, size, fits), c.put_head.ensures.message ∙ text)
+    by_result c.seal.result _ _ _ _ _ text (omega (arith, c.write_names.array_long)) c.seal.ensures.variant c.seal.ensures.some
+  where
+    by_result : (written : Option ℕ) (size room : ℕ) (new made text : List ℕ) → made ≡ text → room ≡ 65507 → IsSome written ↔ (size ≤ room)
+        → IfSome written (λ n. (n ≡ size) × (take n new ≡ made)) → IfSome written (λ n. (n ≤ 65507) × (take n new ≡ text))
+    by_result None size room new made text e all fits h = tt
+    by_result (Some n) size room new made text e all fits h = (omega (arith, h.0, fits.0 refl), h.1 ∙ e)
