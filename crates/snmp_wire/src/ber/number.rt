@@ -56,9 +56,22 @@ fn sign_of(octet: u8) -> u8
 }
 
 /// The INTEGER at the front, and what follows.
-#[tactic(auto, unfolding(crate::specs::ber::Reading::integer_at))]
+#[tactic(auto, unfolding(crate::specs::ber::Reading::integer_at, crate::specs::ber::Reading::inner_at, crate::specs::ber::Reading::content_at, crate::specs::ber::Reading::length_at, crate::specs::ber::Reading::integer_of))]
 #[inline]
 pub fn integer_at(octets: &[u8]) -> Result<(i32, &[u8]), BerError>
+    ensures { AgreesBy (λ x. (x.0, x.1.now)) result (reading.integer_at octets.now) }
+{
+    match octets {
+        // Most have one octet, as the version, the error status and the error index have.
+        [tag::INTEGER, 1, octet, rest @ ..] if *octet < 0x80 => Ok((i32::from(*octet), rest)),
+        _ => any_integer_at(octets),
+    }
+}
+
+/// The INTEGER at the front, and what follows, whatever its length.
+#[tactic(auto, unfolding(crate::specs::ber::Reading::integer_at))]
+#[inline]
+fn any_integer_at(octets: &[u8]) -> Result<(i32, &[u8]), BerError>
     ensures { AgreesBy (λ x. (x.0, x.1.now)) result (reading.integer_at octets.now) }
 {
     let (content, rest) = inner_at(tag::INTEGER, octets)?;
