@@ -10,6 +10,9 @@ use Rattle.snmp_walk.specs.Taken.{awaits}
 use Rattle.snmp_walk.specs.Link.{Agents, OneOf, IsReplyFrom, IsUnanswered}
 use Rattle.snmp_walk.specs.Traffic.{Traffic, latest, datagram_at, received, Gives, Receives, IsNothing, IsOther, resent, Lost}
 use Rattle.snmp_walk.specs.Heard.{IsAsked, Hears}
+use Rattle.snmp_walk.specs.Moved.{IsMoved}
+use Rattle.snmp_walk.specs.declared.link.Link.{Ghosts as LinkFacts}
+use Rattle.snmp_walk.proofs.MoveLemmas.{sent_all, tries_on}
 
 -- a datagram found is one of those sent
 one_of : (sent : List (List ℕ)) (k : ℕ) (d : List ℕ) → slice_get sent k ≡ Some d → OneOf sent d
@@ -144,11 +147,6 @@ module _ (agents : Agents) (community : List ℕ) (id : ℕ) (q : List ℕ) (old
       by_datagram : (d : Option (List ℕ)) → datagram_at old.sent k ≡ d → Gives agents d (Some octets) → IsReplyFrom agents q octets
       by_datagram None e given = let no : ⊥ = cc in absurd no
       by_datagram (Some d) e given = by_other d given (asked.others d (found old.sent k d e))
-
--- how a try that was cut off used its deliveries, where it had heard others alone
-pub waits_used : (agents : Agents) (q : List ℕ) (old now : Traffic) (count : ℕ) → count ≤ 64 → Waits agents q old count now → (silent : Type 0) → (silent
-    → ⊥) → Hears agents q old silent now
-waits_used agents q old now count few w silent never = record { used = w.used; parts = w.parts; few = omega (arith, w.few, few); lost = λ s. absurd (never s) }
 
 -- after the last receive
 pub waits_over : (agents : Agents) (q : List ℕ) (old now : Traffic) → Waits agents q old 64 now → (silent : Type 0) → Hears agents q old silent now
@@ -314,18 +312,25 @@ asked_still agents community id q sent n a = record { own = a.own; others = λ d
     by_part d (inl one) = a.others d one
     by_part d (inr one) = inl (one_same n q d one)
 
-module _ (agents here : Agents) (same : here ≡ agents) (community : List ℕ) (id : ℕ) (q : List ℕ) (old before between : Traffic) (count : ℕ)
-    (sent : before.sent ≡ old.sent ++ replicate count q) (more : between.sent ≡ before.sent ++ q ∷ []) (asked : IsAsked agents community id q old.sent) where
-  sent_now : between.sent ≡ old.sent ++ replicate (count + 1) q
-  sent_now = more ∙ ap (λ (s : List (List ℕ)). s ++ q ∷ []) sent ∙ sym (sent_more old.sent q count)
+-- the request was tried `count` times without a fault, and sent once more
+module _ {L : Type 0} (facts : LinkFacts L) (keeping : (link : L) → facts.honest link → facts.keeps link) (q : List ℕ) (count : ℕ) (old before between : L)
+    (tried : IsMoved facts old (replicate count q) ⊥ before) (sent : IsMoved facts before (q ∷ []) ⊥ between) where
+  pub try_sent : facts.keeps old → (facts.traffic between).sent ≡ ((facts.traffic old).sent ++ replicate count q) ++ q ∷ []
+  try_sent k = sent_all (λ f. f) (sent.sent (tried.keeps k)) ∙ ap (λ (s : List (List ℕ)). s ++ q ∷ []) (sent_all (λ f. f) (tried.sent k))
 
-  pub last_now : latest between.sent ≡ Some q
-  last_now = ap latest more ∙ latest_is before.sent q
+  pub tries_sent : facts.keeps old → (facts.traffic between).sent ≡ (facts.traffic old).sent ++ replicate (count + 1) q
+  tries_sent k = sent_all (λ f. f) ((tries_on facts count tried sent).sent k)
 
-  pub asked_now : IsAsked here community id q between.sent
-  asked_now =
-      subst (λ (a : Agents). IsAsked a community id q between.sent) (sym same)
-      (subst (IsAsked agents community id q) (sym sent_now) (asked_still agents community id q old.sent (count + 1) asked))
-
-  pub try_sent : between.sent ≡ (old.sent ++ replicate count q) ++ q ∷ []
-  try_sent = more ∙ ap (λ (s : List (List ℕ)). s ++ q ∷ []) sent
+  -- what an honest link with this request as the latest shows, where its reply alone is awaited
+  pub shown : {W : Type 0} (community : W → List ℕ) (id : W → ℕ) (v w : W) → v ≡ w → (Shows : Agents → List ℕ → Type 0)
+      → ((r : List ℕ) → facts.honest between → latest (facts.traffic between).sent ≡ Some r
+      → IsAsked (facts.agents between) (community v) (id v) r (facts.traffic between).sent → Shows (facts.agents between) r)
+      → facts.honest old → IsAsked (facts.agents old) (community w) (id w) q (facts.traffic old).sent → Shows (facts.agents old) q
+  shown community id v w same Shows by h asked =
+      let k = keeping old h in
+      let agents : facts.agents between ≡ facts.agents old = sent.agents ∙ tried.agents in
+      let still = asked_still (facts.agents old) (community w) (id w) q (facts.traffic old).sent (count + 1) asked in
+      let asked_now = subst (IsAsked (facts.agents old) (community w) (id w) q) (sym (tries_sent k)) still in
+      let asked_by = subst (λ (a : Agents). IsAsked a (community w) (id w) q (facts.traffic between).sent) (sym agents) asked_now in
+      subst (λ (a : Agents). Shows a q) agents (by q (sent.honest (tried.honest h)) (ap latest (try_sent k) ∙ latest_is ((facts.traffic old).sent ++ replicate count q) q)
+      (subst (λ x. IsAsked (facts.agents between) (community x) (id x) q (facts.traffic between).sent) (sym same) asked_by))

@@ -11,7 +11,7 @@ pub mod SinkLemmas
 pub mod ReplyLemmas
 pub mod TurnLemmas
 pub mod SendLemmas
-pub mod ReadyLemmas
+pub mod MoveLemmas
 pub mod RunLemmas
 pub mod ViewLemmas
 pub mod JoinLemmas

@@ -166,6 +166,9 @@ no_end e = cc
 pub link_end : Some ending.Link ≡ Some ending.NoResponse → ⊥
 link_end e = cc
 
+pub silent_no_link : Some ending.NoResponse ≡ Some ending.Link → ⊥
+silent_no_link e = cc
+
 pub no_link_end : None ≡ Some ending.Link → ⊥
 no_link_end e = cc
 

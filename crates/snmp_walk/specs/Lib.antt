@@ -10,6 +10,8 @@ pub mod Reading
 pub mod Standing
 pub mod Link
 pub mod Traffic
+pub mod Moves
+pub mod Moved
 pub mod Heard
 pub mod Missed
 pub mod Room

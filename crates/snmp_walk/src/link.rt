@@ -12,8 +12,8 @@ use crate::LinkFault;
 /// another perhaps `keeps` alone, and of a socket neither that nor `honest`.
 pub trait Link {
     ghost use Rattle.std.specs.Prelude.{Option, take};
-    ghost use Rattle.snmp_io.specs.Count.{HasRisen};
     ghost use Rattle.snmp_walk.specs.Link.{Agents, AreLawful};
+    ghost use Rattle.snmp_walk.specs.Moves.{Moves};
     ghost use Rattle.snmp_walk.specs.Traffic.{Traffic, Receives, received};
 
     /// Whether this link keeps the list of the datagrams sent.
@@ -52,20 +52,12 @@ pub trait Link {
 
     /// Sends a datagram. A fault is counted, and changes neither agents nor traffic.
     fn send(&mut self, datagram: &[u8]) -> Result<(), LinkFault>
-        ensures sent { keeps self.old
-            → OnOk result ((traffic self.new).sent ≡ (traffic self.old).sent ++ datagram.now ∷ []) }
         ensures sends { OnOk result (sends self.old datagram.now self.new) }
         ensures ahead { honest self.old
             → OnOk result ((traffic self.new).ahead ≡ (traffic self.old).ahead) }
         ensures unchanged { OnErr result (traffic self.new ≡ traffic self.old) }
-        ensures keeps { keeps self.old → keeps self.new }
-        ensures honest { honest self.old → honest self.new }
-        ensures agents { agents self.new ≡ agents self.old }
-        ensures count { OnOk result (fault_count self.new ≡ fault_count self.old) }
-        ensures fault { OnErr result (HasRisen (fault_count self.old) (fault_count self.new)) }
-        ensures ready { (sends octets : ℕ)
-            → ready self.old (sends + 1) (octets + length datagram.now) → IsOk result
-            × ready self.new sends octets };
+        ensures moves { Moves keeps honest agents traffic fault_count ready self.old
+            (datagram.now ∷ []) (IsErr result) self.new };
 
     /// Receives a datagram into the front of the buffer and returns its length, or None where none
     /// comes in time. A fault is counted, and changes neither agents nor traffic.
@@ -78,15 +70,10 @@ pub trait Link {
             → IfOk result (λ got. Receives (agents self.old) (traffic self.old).sent
             (traffic self.old).ahead (received got buffer.new) (traffic self.new).ahead) }
         ensures short { refuses_short self.old → length buffer.old < 65507 → IsErr result }
-        ensures sent { keeps self.old → (traffic self.new).sent ≡ (traffic self.old).sent }
         ensures unchanged { OnErr result (traffic self.new ≡ traffic self.old) }
-        ensures keeps { keeps self.old → keeps self.new }
-        ensures honest { honest self.old → honest self.new }
-        ensures agents { agents self.new ≡ agents self.old }
-        ensures count { OnOk result (fault_count self.new ≡ fault_count self.old) }
-        ensures fault { OnErr result (HasRisen (fault_count self.old) (fault_count self.new)) }
-        ensures ready { (sends octets : ℕ) → ready self.old sends octets
-            → 65507 ≤ length buffer.old → IsOk result × ready self.new sends octets };
+        ensures moves { Moves keeps honest agents traffic fault_count
+            (λ link sends octets. (65507 ≤ length buffer.old) × ready link sends octets) self.old []
+            (IsErr result) self.new };
 
     /// How many sends and receives failed, up to 18446744073709551615.
     fn faults(&self) -> u64

@@ -1,7 +1,6 @@
 //! A walk over a link: from the first request to the end, each binding to a sink as it comes.
 ghost use Rattle.std.specs.Prelude.{◌≡◌, ◌≢◌, ◌≤◌, ◌⊎◌, ◌+◌, ◌++◌, ℕ, List, [], length};
 ghost use Rattle.std.specs.Prelude.{Option, Some, None, Ok, Err, IfOk, IfSome, IfNone, OnOk, OnErr};
-ghost use Rattle.std.specs.Prelude.{IsOk, ◌*◌};
 ghost use Rattle.std.specs.Prelude.{false};
 ghost use Rattle.snmp_io.specs.Count.{HasRisen};
 ghost use Rattle.snmp_wire.specs.Canon.{canon};
@@ -12,6 +11,7 @@ ghost use Rattle.snmp_walk.specs.Taken.{is_over};
 ghost use Rattle.snmp_walk.specs.Walker.{IsWalker};
 ghost use Rattle.snmp_walk.specs.Run.{Turns};
 ghost use Rattle.snmp_walk.specs.Heard.{Exchanges, IsEarlier};
+ghost use Rattle.snmp_walk.specs.Moved.{IsMovedByTries};
 ghost use Rattle.snmp_walk.specs.Missed.{IsNotAwaited, AreMissed, MissesReply};
 ghost use Rattle.snmp_walk.specs.Sink.{Took};
 ghost use Rattle.snmp_walk.specs.Standing.{IsPartOfWalk, Rises, Named};
@@ -111,16 +111,8 @@ fn turn<L: Link, S: Sink>(
         (L.traffic link.old) (ended result end.new ≡ Some WalkEnd.NoResponse)
         (ended result end.new ≡ Some WalkEnd.Link) (L.traffic link.new) }
     ensures walker { IsWalker core.old }
-    ensures keeps { L.keeps link.old → L.keeps link.new }
-    ensures honest { L.honest link.old → L.honest link.new }
-    ensures agents { L.agents link.new ≡ L.agents link.old }
-    ensures count { (ended result end.new ≡ Some WalkEnd.Link → ⊥)
-        → L.fault_count link.new ≡ L.fault_count link.old }
-    ensures fault { ended result end.new ≡ Some WalkEnd.Link
-        → HasRisen (L.fault_count link.old) (L.fault_count link.new) }
-    ensures ready { (times : ℕ) × (times ≤ retries + 1) × ((sends octets : ℕ)
-        → L.ready link.old (sends + times) (octets + times * length (canon (request_of core.old)))
-        → (ended result end.new ≡ Some WalkEnd.Link → ⊥) × L.ready link.new sends octets) }
+    ensures moves { IsMovedByTries L.Link link.old (canon (request_of core.old)) (retries + 1)
+        (ended result end.new ≡ Some WalkEnd.Link) link.new }
 {
     codec();
     let length = core.request(request);

@@ -1,8 +1,6 @@
 //! One request over a link: it is sent until its reply comes or no try is left.
-ghost use Rattle.std.specs.Prelude.{◌≡◌, ◌≤◌, ◌<◌, ◌+◌, ◌^◌, ℕ, List, length, Some, None, Ok};
-ghost use Rattle.std.specs.Prelude.{IfOk, IfSome, IfNone, OnErr, IsOk, IsErr, true, false, OnOk};
-ghost use Rattle.std.specs.Prelude.{◌*◌};
-ghost use Rattle.snmp_io.specs.Count.{HasRisen};
+ghost use Rattle.std.specs.Prelude.{◌≡◌, ◌<◌, ◌+◌, ◌^◌, ℕ, List, [], Some, None, Ok};
+ghost use Rattle.std.specs.Prelude.{IfOk, IfSome, IfNone, OnErr, IsErr, true, false};
 ghost use Rattle.snmp_wire.specs.Message.{Message};
 ghost use Rattle.snmp_wire.specs.Spelling.{Spells};
 ghost use Rattle.snmp_walk.specs.Taken.{awaits};
@@ -10,6 +8,7 @@ ghost use Rattle.snmp_walk.specs.Course.{heard_of, step_of};
 ghost use Rattle.snmp_walk.specs.Link.{IsReplyFrom, ComesOver};
 ghost use Rattle.snmp_walk.specs.Traffic.{latest};
 ghost use Rattle.snmp_walk.specs.Heard.{IsAsked, Hears, Exchanges};
+ghost use Rattle.snmp_walk.specs.Moved.{IsMoved, IsMovedByTries};
 ghost use Rattle.snmp_walk.specs.Missed.{IsNotAwaited, IsMissed, AreMissed};
 ghost use Rattle.snmp_walk.specs.Read.{IsRead, IsReadAs, Delivers};
 
@@ -98,14 +97,8 @@ pub(crate) fn exchange<L: Link, W: Waiter, S: Sink>(
         (L.traffic link.old).sent)
         (retries + 1) request.now (L.traffic link.old) (result ≡ Ok None) (IsErr result)
         (L.traffic link.new) }
-    ensures keeps { L.keeps link.old → L.keeps link.new }
-    ensures honest { L.honest link.old → L.honest link.new }
-    ensures agents { L.agents link.new ≡ L.agents link.old }
-    ensures count { OnOk result (L.fault_count link.new ≡ L.fault_count link.old) }
-    ensures fault { OnErr result (HasRisen (L.fault_count link.old) (L.fault_count link.new)) }
-    ensures ready { (times : ℕ) × (times ≤ retries + 1) × ((sends octets : ℕ)
-        → L.ready link.old (sends + times) (octets + times * length request.now)
-        → IsOk result × L.ready link.new sends octets) }
+    ensures moves { IsMovedByTries L.Link link.old request.now (retries + 1) (IsErr result)
+        link.new }
 {
     let tries = u64::from(retries) + 1;
     'tries: for _ in 0..tries {
@@ -143,14 +136,7 @@ fn hear<L: Link, W: Waiter, S: Sink>(
         → IsAsked (L.agents link.old) (W.community waiter.old) (W.id waiter.old) q
         (L.traffic link.old).sent
         → Hears (L.agents link.old) q (L.traffic link.old) (result ≡ Ok None) (L.traffic link.new) }
-    ensures sent { L.keeps link.old → (L.traffic link.new).sent ≡ (L.traffic link.old).sent }
-    ensures keeps { L.keeps link.old → L.keeps link.new }
-    ensures honest { L.honest link.old → L.honest link.new }
-    ensures agents { L.agents link.new ≡ L.agents link.old }
-    ensures count { OnOk result (L.fault_count link.new ≡ L.fault_count link.old) }
-    ensures fault { OnErr result (HasRisen (L.fault_count link.old) (L.fault_count link.new)) }
-    ensures ready { (sends octets : ℕ) → L.ready link.old sends octets
-        → IsOk result × L.ready link.new sends octets }
+    ensures moves { IsMoved L.Link link.old [] (IsErr result) link.new }
 {
     'receives: for _ in 0..RECEIVES {
         let Some(length) = link.receive(buffer)? else {

@@ -3,6 +3,7 @@ use Rattle.snmp_walk.specs.Get.{get_request, IsBrought, is_too_long, is_silent, 
 use Rattle.snmp_walk.specs.Link.{ComesOver}
 use Rattle.snmp_walk.specs.Course.{heard_of}
 use Rattle.snmp_walk.proofs.GotLemmas.{brought, own}
+use Rattle.snmp_walk.proofs.MoveLemmas.{is_bad, never_bad}
 use Rattle.snmp_walk.proofs.TurnLemmas.{if_some, if_silent, if_cut}
 use Rattle.snmp_walk.proofs.GetFactLemmas.{facts_by, lost_exchange, short_enough, got_ends, got_ends_always}
 use Rattle.snmp_walk.specs.Missed.{IsNotAwaited, AreMissed}
@@ -129,3 +130,12 @@ returns-clause-unanswered g c = λ silent.
     c.args.sink.now c.exchange.new.sink r.is_read.message b r.is_read.given what r.is_read.read c.exchange.new.end
     (ap (λ x. heard_of x c.exchange.new.end) c.in-Ends.is) r.is_read.delivered in
     absurd (e.no_silence silent)
+
+pub returns-in-Ok-None-clause-count : goal.returns-in-Ok-None-clause-count
+returns-in-Ok-None-clause-count g c = λ fine. c.exchange.ensures.moves.2.count (never_bad _ _ c.in-Ok-None.is)
+
+pub returns-clause-count : goal.returns-clause-count
+returns-clause-count g c = λ fine. c.exchange.ensures.moves.2.count (never_bad _ _ c.in-Ok-Some.is)
+
+pub returns-in-Err-clause-fault : goal.returns-in-Err-clause-fault
+returns-in-Err-clause-fault g c = λ link. c.exchange.ensures.moves.2.fault (is_bad _ _ c.in-Err.is)

@@ -1,14 +1,11 @@
-use Rattle.std.proofs.Common.{◌∙◌, ◌+◌, ℕ, List, ap, refl, subst, length, [], Ok}
-use Rattle.std.specs.Prelude.{IsOk}
-use Rattle.snmp_wire.specs.Canon.{canon}
+use Rattle.std.proofs.Common.{◌∙◌, ◌+◌, ℕ, List, ap, refl, subst, [], Ok}
 use Rattle.snmp_walk.specs.Walker.{Walker}
-use Rattle.snmp_walk.specs.Request.{request_of}
 use Rattle.snmp_walk.specs.Link.{ComesOver}
 use Rattle.snmp_walk.specs.Run.{is_silent, fails}
 use Rattle.snmp_walk.specs.Course.{heard_of}
-use Rattle.snmp_walk.proofs.ReadyLemmas.{Leaves, leaves_by, never_err, never_bad, silent_no_link}
+use Rattle.snmp_walk.proofs.MoveLemmas.{is_bad, never_bad, tries_as}
 use Rattle.snmp_walk.proofs.ReplyLemmas.{heard_by, exchanged_by}
-use Rattle.snmp_walk.proofs.TurnLemmas.{if_some, if_silent, if_cut, turns_of, not_silent, not_link, link_end}
+use Rattle.snmp_walk.proofs.TurnLemmas.{if_some, if_silent, if_cut, turns_of, not_silent, not_link, link_end, silent_no_link}
 use Rattle.snmp_walk.specs.Missed.{IsNotAwaited, AreMissed}
 use Rattle.snmp_walk.proofs.run.turn.Goals as goal
 
@@ -36,21 +33,14 @@ returns-in-Err-clause-exchanged g c = λ keeps.
     (g.L.Link.traffic c.args.link.now) _ _ _ _ _
     (λ s. absurd (link_end s)) (λ f. refl) (c.exchange.ensures.exchanged keeps)
 
-pub returns-in-Ok-None-clause-ready : goal.returns-in-Ok-None-clause-ready
-returns-in-Ok-None-clause-ready g c =
-    let Of : List ℕ → Type 0 = λ q. Leaves (g.L.Link.ready c.args.link.now) (g.L.Link.ready c.exchange.new.link) (c.args.retries + 1) (length q)
-    (IsOk c.exchange.result) in
-    leaves_by (g.L.Link.ready c.args.link.now) (g.L.Link.ready c.exchange.new.link) (c.args.retries + 1) (length (canon (request_of c.args.core.now)))
-    (IsOk c.exchange.result) _ (λ ok e. silent_no_link e)
-    (subst Of (c.request-length.ensures.waiting c.requires).1 c.exchange.ensures.ready)
+pub returns-in-Ok-None-clause-moves : goal.returns-in-Ok-None-clause-moves
+returns-in-Ok-None-clause-moves g c =
+    tries_as g.L.Link (c.request-length.ensures.waiting c.requires).1 (λ f. absurd (never_bad _ _ c.in-Ok-None.is f)) (λ e. absurd (silent_no_link e))
+    c.exchange.ensures.moves
 
-pub returns-in-Err-clause-ready : goal.returns-in-Err-clause-ready
-returns-in-Err-clause-ready g c =
-    let Of : List ℕ → Type 0 = λ q. Leaves (g.L.Link.ready c.args.link.now) (g.L.Link.ready c.exchange.new.link) (c.args.retries + 1) (length q)
-    (IsOk c.exchange.result) in
-    leaves_by (g.L.Link.ready c.args.link.now) (g.L.Link.ready c.exchange.new.link) (c.args.retries + 1) (length (canon (request_of c.args.core.now)))
-    (IsOk c.exchange.result) _ (λ ok. absurd (never_err _ _ c.in-Err.is ok))
-    (subst Of (c.request-length.ensures.waiting c.requires).1 c.exchange.ensures.ready)
+pub returns-in-Err-clause-moves : goal.returns-in-Err-clause-moves
+returns-in-Err-clause-moves g c =
+    tries_as g.L.Link (c.request-length.ensures.waiting c.requires).1 (λ f. refl) (λ e. is_bad _ _ c.in-Err.is) c.exchange.ensures.moves
 
 pub returns-in-Ok-None-clause-unanswered : goal.returns-in-Ok-None-clause-unanswered
 returns-in-Ok-None-clause-unanswered g c = λ _.
@@ -87,8 +77,8 @@ returns-in-Ok-Some-clause-exchanged g c = λ keeps.
     (g.L.Link.traffic c.args.link.now) _ _ _ _ _
     (λ s. absurd (not_silent what t.1 s)) (λ f. absurd (never_bad _ _ c.in-Ok-Some.is f)) (c.exchange.ensures.exchanged keeps)
 
-pub returns-in-Ok-Some-clause-fault : goal.returns-in-Ok-Some-clause-fault
-returns-in-Ok-Some-clause-fault g c = λ link.
+pub returns-in-Ok-Some-clause-moves : goal.returns-in-Ok-Some-clause-moves
+returns-in-Ok-Some-clause-moves g c =
     let agents = g.L.Link.agents c.args.link.now in
     let w : Walker = c.args.core.now in
     let what = heard_of c.in-Ok-Some.course c.exchange.new.end in
@@ -98,24 +88,8 @@ returns-in-Ok-Some-clause-fault g c = λ link.
     g.S.Sink.takes c.args.sink.now what c.exchange.new.waiter c.exchange.new.sink r in
     let t = turns_of g.S.Sink.takes c.args.sink.now c.exchange.new.sink (ComesOver g.L.Link.brings) agents _ w r.is_read.message r.is_read.given
     c.exchange.new.waiter what what refl c.requires is_heard r.is_read.read r.is_read.delivered in
-    absurd (not_link what t.1 link)
-
-pub returns-in-Ok-Some-clause-ready : goal.returns-in-Ok-Some-clause-ready
-returns-in-Ok-Some-clause-ready g c =
-    let agents = g.L.Link.agents c.args.link.now in
-    let w : Walker = c.args.core.now in
-    let what = heard_of c.in-Ok-Some.course c.exchange.new.end in
-    let r = if_some c.in-Ok-Some.field-0 _ c.in-Ok-Some.course c.in-Ok-Some.field-0-is c.in-Ok-Some.ensures.read in
-    let is_heard = heard_by c.codec.ensures agents (g.L.Link.honest c.args.link.now) w _ (c.request-length.ensures.waiting c.requires).1 c.requires
-    c.request-length.ensures.walker (g.met.L.Link.lawful c.args.link.now) (ComesOver g.L.Link.brings) (g.L.Link.traffic c.args.link.now).sent _
-    g.S.Sink.takes c.args.sink.now what c.exchange.new.waiter c.exchange.new.sink r in
-    let t = turns_of g.S.Sink.takes c.args.sink.now c.exchange.new.sink (ComesOver g.L.Link.brings) agents _ w r.is_read.message r.is_read.given
-    c.exchange.new.waiter what what refl c.requires is_heard r.is_read.read r.is_read.delivered in
-    let Of : List ℕ → Type 0 = λ q. Leaves (g.L.Link.ready c.args.link.now) (g.L.Link.ready c.exchange.new.link) (c.args.retries + 1) (length q)
-    (IsOk c.exchange.result) in
-    leaves_by (g.L.Link.ready c.args.link.now) (g.L.Link.ready c.exchange.new.link) (c.args.retries + 1) (length (canon (request_of c.args.core.now)))
-    (IsOk c.exchange.result) _ (λ ok e. not_link what t.1 e)
-    (subst Of (c.request-length.ensures.waiting c.requires).1 c.exchange.ensures.ready)
+    tries_as g.L.Link (c.request-length.ensures.waiting c.requires).1 (λ f. absurd (never_bad _ _ c.in-Ok-Some.is f)) (λ e. absurd (not_link what t.1 e))
+    c.exchange.ensures.moves
 
 pub returns-in-Ok-Some-clause-unanswered : goal.returns-in-Ok-Some-clause-unanswered
 returns-in-Ok-Some-clause-unanswered g c = λ silent.

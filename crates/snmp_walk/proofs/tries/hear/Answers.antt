@@ -14,6 +14,7 @@ use Rattle.snmp_walk.specs.Traffic.{Traffic}
 use Rattle.snmp_walk.proofs.HearLemmas.{waits_first, stray_heard, none_heard, reply_heard, heard_used, received_by}
 use Rattle.snmp_walk.specs.Missed.{IsNotAwaited}
 use Rattle.snmp_walk.proofs.MissedLemmas.{IsMissing, missing_first, missing_more, missed_all, missed_silent}
+use Rattle.snmp_walk.proofs.MoveLemmas.{is_bad, never_bad, ok_fine, sent_none, moves_none, moves_as, receives_on}
 use Rattle.snmp_walk.proofs.TurnLemmas.{if_some}
 use Rattle.snmp_walk.proofs.tries.hear.Goals as goal
 
@@ -26,11 +27,11 @@ returns-in_default-clause-heard g c = λ q h last asked.
     let long : 65507 ≤ length c.receives.buffer = grind (arith, common_steps) in
     let less : c.receives.counter < 64 = omega arith in
     let r = received_by (g.L.Link.agents c.receives.link)
-    (g.L.Link.agents c.args.link.now) inv.2 now.sent now.ahead left.ahead c.in_ok-length.field-0 None c.receive.new.buffer c.in_default.is
-    (c.in_ok-length.ensures.reply (inv.0 h) long) in
+    (g.L.Link.agents c.args.link.now) inv.moved.agents now.sent now.ahead left.ahead c.in_ok-length.field-0 None c.receive.new.buffer c.in_default.is
+    (c.in_ok-length.ensures.reply (inv.moved.honest h) long) in
     none_heard (g.L.Link.agents c.args.link.now) (g.W.Waiter.community c.args.waiter.now) (g.W.Waiter.id c.args.waiter.now) q old asked last
-    c.receives.counter now left (inv.4 (g.met.L.Link.keeping c.args.link.now h)) less now.ahead refl r
-    (inv.5 q h last asked) _
+    c.receives.counter now left (sent_none (inv.moved.sent (g.met.L.Link.keeping c.args.link.now h))) less now.ahead refl r
+    (inv.waits q h last asked) _
 
 -- the waiter and the sink are as they were
 read_now : {W S : Type 0} (Comes Reply : List ℕ → Type 0) (community : W → List ℕ) (id : W → ℕ) (reads : W → Message → Step → W → Type 0)
@@ -67,7 +68,7 @@ returns-in-Some-read_reply-clause-read g c =
     let is = if_some c.read_reply.result _ c.in-Some-read_reply.course c.in-Some-read_reply.is c.read_reply.ensures.some in
     read_now (ComesOver g.L.Link.brings) _ g.W.Waiter.community g.W.Waiter.id g.W.Waiter.reads g.S.Sink.takes c.receives.waiter c.args.waiter.now
     c.receives.sink c.args.sink.now (take c.in-Some.length c.receive.new.buffer) _ _ c.read_reply.result c.in-Some-read_reply.course
-    c.read_reply.new.end inv.7 inv.8 c.in-Some-read_reply.is c.read_reply.ensures.some (
+    c.read_reply.new.end inv.waiter inv.sink c.in-Some-read_reply.is c.read_reply.ensures.some (
       c.receives.link,
       c.receive.new.self,
       if_some c.in_ok-length.field-0 (λ n. g.L.Link.brings c.receives.link (take n c.receive.new.buffer) c.receive.new.self) c.in-Some.length c.in-Some.is
@@ -78,13 +79,13 @@ returns-in-Some-read_reply-clause-read g c =
     let now : Traffic = g.L.Link.traffic c.receives.link in
     let left : Traffic = g.L.Link.traffic c.receive.new.self in
     let long : 65507 ≤ length c.receives.buffer = grind (arith, common_steps) in
-    let r = received_by (g.L.Link.agents c.receives.link) (g.L.Link.agents c.args.link.now) inv.2 now.sent now.ahead left.ahead c.in_ok-length.field-0
+    let r = received_by (g.L.Link.agents c.receives.link) (g.L.Link.agents c.args.link.now) inv.moved.agents now.sent now.ahead left.ahead c.in_ok-length.field-0
     (Some c.in-Some.length) c.receive.new.buffer c.in-Some.is
-    (c.in_ok-length.ensures.reply (inv.0 h) long) in
+    (c.in_ok-length.ensures.reply (inv.moved.honest h) long) in
     reply_heard (g.L.Link.agents c.args.link.now) (g.W.Waiter.community c.args.waiter.now) (g.W.Waiter.id c.args.waiter.now) q old asked last now left
     (take c.in-Some.length c.receive.new.buffer)
-    (inv.4 (g.met.L.Link.keeping c.args.link.now h)) now.ahead refl r
-    is.message is.spelt (read_awaited g.W.Waiter.community g.W.Waiter.id c.receives.waiter c.args.waiter.now is.message inv.7 is.awaited))
+    (sent_none (inv.moved.sent (g.met.L.Link.keeping c.args.link.now h))) now.ahead refl r
+    is.message is.spelt (read_awaited g.W.Waiter.community g.W.Waiter.id c.receives.waiter c.args.waiter.now is.message inv.waiter is.awaited))
 
 pub returns-in-Some-read_reply-clause-heard : goal.returns-in-Some-read_reply-clause-heard
 returns-in-Some-read_reply-clause-heard g c = λ q h last asked.
@@ -94,25 +95,21 @@ returns-in-Some-read_reply-clause-heard g c = λ q h last asked.
     let left : Traffic = g.L.Link.traffic c.receive.new.self in
     let long : 65507 ≤ length c.receives.buffer = grind (arith, common_steps) in
     let less : c.receives.counter < 64 = omega arith in
-    let r = received_by (g.L.Link.agents c.receives.link) (g.L.Link.agents c.args.link.now) inv.2 now.sent now.ahead left.ahead c.in_ok-length.field-0
+    let r = received_by (g.L.Link.agents c.receives.link) (g.L.Link.agents c.args.link.now) inv.moved.agents now.sent now.ahead left.ahead c.in_ok-length.field-0
     (Some c.in-Some.length) c.receive.new.buffer c.in-Some.is
-    (c.in_ok-length.ensures.reply (inv.0 h) long) in
+    (c.in_ok-length.ensures.reply (inv.moved.honest h) long) in
     heard_used (g.L.Link.agents c.args.link.now) q old now left c.receives.counter (Some (take c.in-Some.length c.receive.new.buffer)) less now.ahead refl r
-    (inv.5 q h last asked) _ (λ e. cc)
+    (inv.waits q h last asked) _ (λ e. cc)
 
 pub receives-init : goal.receives-init
-receives-init g c = (
-  λ h. h,
-  λ h. h,
-  refl,
-  refl,
-  λ h. refl,
-  λ q h last asked. waits_first (g.L.Link.agents c.args.link.now) q (g.L.Link.traffic c.args.link.now),
-  λ sends octets h. h,
-  refl,
-  refl,
-  missing_first g.L.Link.brings g.L.Link.is_silent (IsNotAwaited (g.W.Waiter.community c.args.waiter.now) (g.W.Waiter.id c.args.waiter.now)) c.args.link.now,
-)
+receives-init g c = record {
+  moved = moves_none g.L.Link c.args.link.now;
+  waits = λ q h last asked. waits_first (g.L.Link.agents c.args.link.now) q (g.L.Link.traffic c.args.link.now);
+  waiter = refl;
+  sink = refl;
+  missing = missing_first g.L.Link.brings g.L.Link.is_silent (IsNotAwaited (g.W.Waiter.community c.args.waiter.now) (g.W.Waiter.id c.args.waiter.now))
+      c.args.link.now;
+}
 
 pub receives-preserved : goal.receives-preserved
 receives-preserved g c =
@@ -121,37 +118,33 @@ receives-preserved g c =
     let now : Traffic = g.L.Link.traffic c.receives.link in
     let left : Traffic = g.L.Link.traffic c.receive.new.self in
     let long : 65507 ≤ length c.receives.buffer = grind (arith, common_steps) in
-    let less : c.receives.counter < 64 = omega arith in (
-      λ h. c.receive.ensures.honest (inv.0 h),
-      λ h. c.receive.ensures.keeps (inv.1 h),
-      c.receive.ensures.agents ∙ inv.2,
-      c.in_ok-length.ensures.count ∙ inv.3,
-      λ h. c.receive.ensures.sent (inv.1 h) ∙ inv.4 h,
-      λ q h last asked.
-          let r = received_by (g.L.Link.agents c.receives.link) (g.L.Link.agents c.args.link.now) inv.2 now.sent now.ahead left.ahead c.in_ok-length.field-0
-          (Some c.in-Some.length) c.receive.new.buffer c.in-Some.is
-          (c.in_ok-length.ensures.reply (inv.0 h) long) in
+    let less : c.receives.counter < 64 = omega arith in
+    record {
+      moved = receives_on g.L.Link long (never_bad _ _ c.in_ok-length.was) (λ f. absurd f) inv.moved c.receive.ensures.moves;
+      waits = λ q h last asked.
+          let r = received_by (g.L.Link.agents c.receives.link) (g.L.Link.agents c.args.link.now) inv.moved.agents now.sent now.ahead left.ahead
+          c.in_ok-length.field-0 (Some c.in-Some.length) c.receive.new.buffer c.in-Some.is
+          (c.in_ok-length.ensures.reply (inv.moved.honest h) long) in
           stray_heard (g.L.Link.agents c.args.link.now) (g.W.Waiter.community c.args.waiter.now) (g.W.Waiter.id c.args.waiter.now) q old asked last
           c.receives.counter now left (take c.in-Some.length c.receive.new.buffer)
-          (inv.4 (g.met.L.Link.keeping c.args.link.now h)) less now.ahead refl r
-          (λ m spelt. sym (read_other g.W.Waiter.community g.W.Waiter.id c.receives.waiter c.args.waiter.now m inv.7
-          (if_none c.read_reply.result _ c.in_default-read_reply.is c.read_reply.ensures.none m spelt))) (inv.5 q h last asked),
-      λ sends octets h. (c.receive.ensures.ready sends octets (inv.6 sends octets h) long).1,
-      (if_none c.read_reply.result _ c.in_default-read_reply.is c.read_reply.ensures.unchanged).0 ∙ inv.7,
-      (if_none c.read_reply.result _ c.in_default-read_reply.is c.read_reply.ensures.unchanged).1 ∙ inv.8,
-      missing_more g.L.Link.brings g.L.Link.is_silent (IsNotAwaited (g.W.Waiter.community c.args.waiter.now) (g.W.Waiter.id c.args.waiter.now))
-          c.receives.counter c.args.link.now c.receives.link c.receive.new.self (take c.in-Some.length c.receive.new.buffer) inv.9
+          (sent_none (inv.moved.sent (g.met.L.Link.keeping c.args.link.now h))) less now.ahead refl r
+          (λ m spelt. sym (read_other g.W.Waiter.community g.W.Waiter.id c.receives.waiter c.args.waiter.now m inv.waiter
+          (if_none c.read_reply.result _ c.in_default-read_reply.is c.read_reply.ensures.none m spelt))) (inv.waits q h last asked);
+      waiter = (if_none c.read_reply.result _ c.in_default-read_reply.is c.read_reply.ensures.unchanged).0 ∙ inv.waiter;
+      sink = (if_none c.read_reply.result _ c.in_default-read_reply.is c.read_reply.ensures.unchanged).1 ∙ inv.sink;
+      missing = missing_more g.L.Link.brings g.L.Link.is_silent (IsNotAwaited (g.W.Waiter.community c.args.waiter.now) (g.W.Waiter.id c.args.waiter.now))
+          c.receives.counter c.args.link.now c.receives.link c.receive.new.self (take c.in-Some.length c.receive.new.buffer) inv.missing
           (if_some c.in_ok-length.field-0 (λ n. g.L.Link.brings c.receives.link (take n c.receive.new.buffer) c.receive.new.self) c.in-Some.length c.in-Some.is
           c.in_ok-length.ensures.brings)
-          (λ m spelt. read_other g.W.Waiter.community g.W.Waiter.id c.receives.waiter c.args.waiter.now m inv.7
-          (if_none c.read_reply.result _ c.in_default-read_reply.is c.read_reply.ensures.none m spelt)),
-    )
+          (λ m spelt. read_other g.W.Waiter.community g.W.Waiter.id c.receives.waiter c.args.waiter.now m inv.waiter
+          (if_none c.read_reply.result _ c.in_default-read_reply.is c.read_reply.ensures.none m spelt));
+    }
 
 pub returns-in_default-clause-unanswered : goal.returns-in_default-clause-unanswered
 returns-in_default-clause-unanswered g c =
     let less : c.receives.counter < 64 = omega arith in
     missed_silent g.L.Link.brings g.L.Link.is_silent (IsNotAwaited (g.W.Waiter.community c.args.waiter.now) (g.W.Waiter.id c.args.waiter.now))
-    c.receives.counter c.args.link.now c.receives.link c.receive.new.self less c.receives.invariant.9
+    c.receives.counter c.args.link.now c.receives.link c.receive.new.self less c.receives.invariant.missing
     (if_none c.in_ok-length.field-0 _ c.in_default.is c.in_ok-length.ensures.silent)
 
 pub returns-clause-unanswered : goal.returns-clause-unanswered
@@ -160,4 +153,23 @@ returns-clause-unanswered g c =
     missed_all g.L.Link.brings g.L.Link.is_silent (IsNotAwaited (g.W.Waiter.community c.args.waiter.now) (g.W.Waiter.id c.args.waiter.now))
     c.args.link.now c.receives.link
     (subst (λ (n : ℕ). IsMissing g.L.Link.brings g.L.Link.is_silent (IsNotAwaited (g.W.Waiter.community c.args.waiter.now) (g.W.Waiter.id c.args.waiter.now)) n
-    c.args.link.now c.receives.link) all c.receives.invariant.9)
+    c.args.link.now c.receives.link) all c.receives.invariant.missing)
+
+pub returns-in_err-length-clause-moves : goal.returns-in_err-length-clause-moves
+returns-in_err-length-clause-moves g c =
+    let long : 65507 ≤ length c.receives.buffer = grind (arith, common_steps) in
+    receives_on g.L.Link long (λ f. c.from_residual.ensures.0) (λ f. is_bad _ _ c.in_err-length.was) c.receives.invariant.moved
+    c.receive.ensures.moves
+
+pub returns-in_default-clause-moves : goal.returns-in_default-clause-moves
+returns-in_default-clause-moves g c =
+    let long : 65507 ≤ length c.receives.buffer = grind (arith, common_steps) in
+    receives_on g.L.Link long (λ f. absurd (never_bad _ _ c.in_ok-length.was f)) (λ f. absurd (ok_fine f)) c.receives.invariant.moved c.receive.ensures.moves
+
+pub returns-in-Some-read_reply-clause-moves : goal.returns-in-Some-read_reply-clause-moves
+returns-in-Some-read_reply-clause-moves g c =
+    let long : 65507 ≤ length c.receives.buffer = grind (arith, common_steps) in
+    receives_on g.L.Link long (λ f. absurd (never_bad _ _ c.in_ok-length.was f)) (λ f. absurd (ok_fine f)) c.receives.invariant.moved c.receive.ensures.moves
+
+pub returns-clause-moves : goal.returns-clause-moves
+returns-clause-moves g c = moves_as g.L.Link (λ f. absurd f) (λ f. absurd (ok_fine f)) c.receives.invariant.moved

@@ -1,9 +1,10 @@
-use Rattle.std.proofs.Common.{◌≤◌, length, take, drop, refl, sym, ap, subst, ℕ, List, Option}
-use Rattle.snmp_walk.specs.Link.{Agents}
+use Rattle.std.proofs.Common.{◌≤◌, length, take, drop, refl, sym, ap, subst, ℕ, List, Option, rules, arith}
+use Rattle.snmp_walk.specs.Link.{Agents, AreLawful}
 use Rattle.std.specs.Prelude.{IfSome, IfNone}
 use Rattle.snmp_walk.specs.Memory.{agents_of, IsReplyOf, HasNoReplyOf, UsesDelivery}
 use Rattle.snmp_walk.specs.Traffic.{received, datagram_at, Gives, Receives}
 use Rattle.snmp_walk.specs.Arena.{Store}
+use Rattle.snmp_walk.proofs.MoveLemmas.{ok_fine, sent_nothing}
 use Rattle.snmp_walk.proofs.MemoryLemmas.{brought_by, silent_by, as_before, received_front, received_at, within_more}
 use Rattle.snmp_walk.proofs.memory.MemoryLinkLink.receive.Goals as goal
 
@@ -25,15 +26,38 @@ returns-clause-reply c = λ h long.
     (received_at (agents_of self) self.arena.datagrams
     (drop self.used self.deliveries.now) c.next_number-number.result _ _ c.next_number-number.ensures.number given)
 
-pub returns-clause-ready : goal.returns-clause-ready
-returns-clause-ready c = λ s o h long.
-    let same = c.next_number-number.ensures.arena in (
-      refl,
-      record {
-        places = subst (λ (a : Store). s ≤ a.places) (sym same) h.places;
-        room = subst (λ (a : Store). o ≤ a.room) (sym same) h.room;
-      },
-    )
+pub returns-clause-moves : goal.returns-clause-moves
+returns-clause-moves c =
+    let same = c.next_number-number.ensures in
+    record {
+      keeps = λ k. tt;
+      honest = λ h. record { lawful = subst AreLawful (sym same.agents) h.lawful };
+      agents = same.agents;
+      sent = λ k. sent_nothing _ (ap (λ (s : Store). s.datagrams) same.arena);
+      count = λ fine. same.count;
+      fault = λ f. absurd (ok_fine f);
+      ready = λ s o r. (
+        ok_fine,
+        (
+          r.0,
+          record {
+            places = subst (λ (a : Store). s ≤ a.places) (sym same.arena) (omega (arith, r.1.places));
+            room = subst (λ (a : Store). o ≤ a.room) (sym same.arena) (omega (arith, r.1.room));
+          },
+        ),
+      );
+    }
+
+pub returns-in_default-clause-moves : goal.returns-in_default-clause-moves
+returns-in_default-clause-moves c = record {
+  keeps = λ k. tt;
+  honest = λ h. record { lawful = h.lawful };
+  agents = refl;
+  sent = λ k. sent_nothing _ refl;
+  count = λ fine. absurd (fine refl);
+  fault = λ f. search rules;
+  ready = λ s o r. let long = r.0 in absurd (search rules);
+}
 
 pub returns-clause-brings : goal.returns-clause-brings
 returns-clause-brings c =

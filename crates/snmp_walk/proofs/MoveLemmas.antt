@@ -1,0 +1,180 @@
+-- Moves of a link, one after another.
+use Rattle.std.proofs.Common.{◌≡◌, ℕ, zero, suc, ◌+◌, ◌-◌, ◌*◌, ◌≤◌, List, [], ◌∷◌, ◌++◌, length, replicate, refl, sym, ◌∙◌, ap, subst, arith}
+use Rattle.std.proofs.Common.{append-nil, append_assoc, length-append}
+use Rattle.std.proofs.Math.Nat.{suc-mul, mul-le-mul_left, mul-le-mul_right, add-mul}
+use Rattle.std.proofs.lemmas.Grind.{replicate_next}
+use Rattle.std.proofs.lemmas.List.{length-replicate}
+use Rattle.std.specs.Prelude.{Result, Ok, Err, IsErr, false, true}
+use Rattle.snmp_io.specs.Count.{HasRisen}
+use Rattle.snmp_walk.specs.Moves.{AreSent, Moves, octets_in}
+use Rattle.snmp_walk.specs.Moved.{IsMoved, IsMovedByTries}
+use Rattle.snmp_walk.specs.declared.link.Link.{Ghosts as LinkFacts}
+
+-- ---- what was sent
+
+octets-append : (xs ys : List (List ℕ)) → octets_in (xs ++ ys) ≡ octets_in xs + octets_in ys
+octets-append [] ys = omega arith
+octets-append (x ∷ xs) ys = let rest = octets-append xs ys in omega (arith, rest)
+
+octets-replicate : (n : ℕ) (q : List ℕ) → octets_in (replicate n q) ≡ n * length q
+octets-replicate zero q = omega arith
+octets-replicate (suc n) q = let rest = octets-replicate n q in let one = suc-mul n (length q) in omega (arith, rest, one)
+
+pub sent_nothing : (failed : Type 0) {before after : List (List ℕ)} → after ≡ before → AreSent [] failed before after
+sent_nothing failed {before} e = record { front = []; left = []; parts = refl; sent = e ∙ sym (append-nil before); all = λ fine. refl }
+
+pub sent_all : {tried before after : List (List ℕ)} {failed : Type 0} → (failed → ⊥) → AreSent tried failed before after → after ≡ before ++ tried
+sent_all {tried} {before} fine h =
+    h.sent ∙ ap (λ (s : List (List ℕ)). before ++ s) (sym (h.parts ∙ ap (λ (s : List (List ℕ)). h.front ++ s) (h.all fine) ∙ append-nil h.front))
+
+pub sent_none : {before after : List (List ℕ)} {failed : Type 0} → AreSent [] failed before after → after ≡ before
+sent_none {before} h = h.sent ∙ ap (λ (s : List (List ℕ)). before ++ s) (empty h.front h.left h.parts) ∙ append-nil before
+  where
+    empty : (front left : List (List ℕ)) → [] ≡ front ++ left → front ≡ []
+    empty [] left e = refl
+    empty (d ∷ front) left e = let no : ⊥ = cc in absurd no
+
+sent_more : (tried more before between after : List (List ℕ)) (failed : Type 0) → between ≡ before ++ tried → AreSent more failed between after
+    → AreSent (tried ++ more) failed before after
+sent_more tried more before between after failed e h = record {
+  front = tried ++ h.front;
+  left = h.left;
+  parts = ap (λ (s : List (List ℕ)). tried ++ s) h.parts ∙ sym (append_assoc tried h.front h.left);
+  sent = h.sent ∙ ap (λ (s : List (List ℕ)). s ++ h.front) e ∙ append_assoc before tried h.front;
+  all = h.all;
+}
+
+-- ---- whether a call failed
+
+pub is_bad : {T E : Type 0} (r : Result T E) (e : E) → r ≡ Err e → IsErr r
+is_bad (Ok x) e is = let no : ⊥ = cc in absurd no
+is_bad (Err f) e is = refl
+
+pub never_bad : {T E : Type 0} (r : Result T E) (x : T) → r ≡ Ok x → IsErr r → ⊥
+never_bad (Ok y) x is h = let no : ⊥ = cc in no
+never_bad (Err f) x is h = let no : ⊥ = cc in no
+
+pub ok_fine : false ≡ true → ⊥
+ok_fine e = cc
+
+-- ---- how the link moved
+
+by_equal : (R : ℕ → ℕ → Type 0) (s t o p : ℕ) → s ≡ t → o ≡ p → R s o → R t p
+by_equal R s t o p e f h = subst (λ (x : ℕ). R x p) e (subst (R s) f h)
+
+module _ {W : Type 0} (facts : LinkFacts W) where
+  -- a link that stays as it is
+  pub moves_none : (link : W) → IsMoved facts link [] ⊥ link
+  moves_none link = record {
+    keeps = λ k. k;
+    honest = λ h. h;
+    agents = refl;
+    sent = λ k. sent_nothing ⊥ refl;
+    count = λ fine. refl;
+    fault = λ f. absurd f;
+    ready = λ s o r. (λ f. f, by_equal (facts.ready link) (s + 0) s (o + 0) o (omega arith) (omega arith) r);
+  }
+
+  -- one that moved twice, the first time without a fault
+  pub moves_on : {old between new : W} {tried more : List (List ℕ)} {failed : Type 0} → IsMoved facts old tried ⊥ between → IsMoved facts between more failed new
+      → IsMoved facts old (tried ++ more) failed new
+  moves_on {old} {between} {new} {tried} {more} {failed} m n = record {
+    keeps = λ k. n.keeps (m.keeps k);
+    honest = λ h. n.honest (m.honest h);
+    agents = n.agents ∙ m.agents;
+    sent = λ k. sent_more tried more (facts.traffic old).sent (facts.traffic between).sent (facts.traffic new).sent failed
+        (sent_all (λ f. f) (m.sent k)) (n.sent (m.keeps k));
+    count = λ fine. n.count fine ∙ m.count (λ f. f);
+    fault = λ f. subst (λ (c : ℕ). HasRisen c (facts.fault_count new)) (m.count (λ no. no)) (n.fault f);
+    ready = λ s o r. n.ready s o (m.ready (s + length more) (o + octets_in more)
+        (by_equal (facts.ready old) (s + length (tried ++ more)) (s + length more + length tried) (o + octets_in (tried ++ more))
+        (o + octets_in more + octets_in tried) (omega (arith, length-append tried more)) (omega (arith, octets-append tried more)) r)).1;
+  }
+
+  -- the same, where its failure is said in other words
+  pub moves_as : {old new : W} {tried : List (List ℕ)} {failed other : Type 0} → (failed → other) → (other → failed) → IsMoved facts old tried failed new
+      → IsMoved facts old tried other new
+  moves_as {old} {new} {tried} {failed} {other} there back m = record {
+    keeps = m.keeps;
+    honest = m.honest;
+    agents = m.agents;
+    sent = λ k. let s = m.sent k in record { front = s.front; left = s.left; parts = s.parts; sent = s.sent; all = λ fine. s.all (λ f. fine (there f)) };
+    count = λ fine. m.count (λ f. fine (there f));
+    fault = λ f. m.fault (back f);
+    ready = λ s o r. let left = m.ready s o r in (λ f. left.0 (back f), left.1);
+  }
+
+  -- where it didn't fail
+  pub went : {old new : W} {tried : List (List ℕ)} {failed : Type 0} → (failed → ⊥) → IsMoved facts old tried failed new → IsMoved facts old tried ⊥ new
+  went fine m = moves_as fine (λ f. absurd f) m
+
+  -- a receive into a buffer that is long enough
+  received : {old new : W} {n : ℕ} {failed : Type 0} → 65507 ≤ n
+      → Moves facts.keeps facts.honest facts.agents facts.traffic facts.fault_count (λ link s o. (65507 ≤ n) × facts.ready link s o) old [] failed new
+      → IsMoved facts old [] failed new
+  received long m = record {
+    keeps = m.keeps;
+    honest = m.honest;
+    agents = m.agents;
+    sent = m.sent;
+    count = m.count;
+    fault = m.fault;
+    ready = λ s o r. let left = m.ready s o (long, r) in (left.0, left.1.1);
+  }
+
+  -- one more receive, whose failure is said in other words
+  pub receives_on : {old between new : W} {n : ℕ} {failed other : Type 0} → 65507 ≤ n → (failed → other) → (other → failed) → IsMoved facts old [] ⊥ between
+      → Moves facts.keeps facts.honest facts.agents facts.traffic facts.fault_count (λ link s o. (65507 ≤ n) × facts.ready link s o) between [] failed new
+      → IsMoved facts old [] other new
+  receives_on long there back m n = moves_on m (moves_as there back (received long n))
+
+  -- one try more
+  pub tries_on : {old between new : W} {q : List ℕ} {failed : Type 0} (n : ℕ) → IsMoved facts old (replicate n q) ⊥ between
+      → IsMoved facts between (q ∷ []) failed new → IsMoved facts old (replicate (n + 1) q) failed new
+  tries_on {old} {between} {new} {q} {failed} n m t =
+      subst (λ (d : List (List ℕ)). IsMoved facts old d failed new) (sym (replicate_next n q)) (moves_on m t)
+
+  -- tries of this very request, whose failure is said in other words
+  pub tries_as : {old new : W} {q r : List ℕ} {tries : ℕ} {failed other : Type 0} → q ≡ r → (failed → other) → (other → failed)
+      → IsMovedByTries facts old q tries failed new → IsMovedByTries facts old r tries other new
+  tries_as {old} {new} {q} {r} {tries} {failed} {other} e there back h =
+      (h.0, h.1, subst (λ (d : List ℕ). IsMoved facts old (replicate h.0 d) other new) e (moves_as there back h.2))
+
+  -- Requests of ids that rise by one, each tried so often at most and of at most 1,000 octets, moved the link: `to` is the id of the next.
+  pub record HasMoved (old : W) (tries from to : ℕ) (failed : Type 0) (now : W) : Type 0 where
+    pub tried : List (List ℕ)
+    pub moved : IsMoved facts old tried failed now
+    pub requests : ℕ
+    pub ids : to ≡ from + requests
+    pub few : length tried ≤ requests * tries
+    pub short : octets_in tried ≤ requests * tries * 1000
+
+  pub moved_first : (link : W) (tries from : ℕ) → HasMoved link tries from from ⊥ link
+  moved_first link tries from =
+      record { tried = []; moved = moves_none link; requests = 0; ids = omega arith; few = omega arith; short = omega arith }
+
+  pub moved_more : {old now new : W} {q : List ℕ} {tries from to : ℕ} {failed : Type 0} → HasMoved old tries from to ⊥ now
+      → IsMovedByTries facts now q tries failed new → length q ≤ 1000 → HasMoved old tries from (to + 1) failed new
+  moved_more {old} {now} {new} {q} {tries} h t size =
+      let n = h.requests in
+      let more : (n + 1) * tries ≡ n * tries + tries = add-mul n 1 tries ∙ (let one : n * tries + 1 * tries ≡ n * tries + tries = omega arith in one) in
+      let octets : (n + 1) * tries * 1000 ≡ n * tries * 1000 + tries * 1000 = ap (λ (k : ℕ). k * 1000) more ∙ add-mul (n * tries) tries 1000 in
+      let own : t.0 * length q ≤ t.0 * 1000 = mul-le-mul_left t.0 size in
+      let all : t.0 * 1000 ≤ tries * 1000 = mul-le-mul_right 1000 t.1 in
+      record {
+        tried = h.tried ++ replicate t.0 q;
+        moved = moves_on h.moved t.2;
+        requests = n + 1;
+        ids = omega (arith, h.ids);
+        few = omega (arith, more, h.few, t.1, length-append h.tried (replicate t.0 q), length-replicate t.0 q);
+        short = omega (arith, octets, own, all, h.short, octets-append h.tried (replicate t.0 q), octets-replicate t.0 q);
+      }
+
+  -- where it was ready for as many requests and one more, it didn't fail
+  pub moved_fine : {old new : W} {tries from to : ℕ} {failed : Type 0} → HasMoved old tries from to failed new → (k : ℕ) → to ≤ from + k + 2
+      → facts.ready old ((k + 3) * tries) ((k + 3) * tries * 1000) → failed → ⊥
+  moved_fine {old} {new} {tries} h k few_ids ready =
+      let most : h.requests * tries ≤ (k + 3) * tries = mul-le-mul_right tries (let least : h.requests ≤ k + 3 = omega (arith, h.ids, few_ids) in least) in
+      let octets : h.requests * tries * 1000 ≤ (k + 3) * tries * 1000 = mul-le-mul_right 1000 most in
+      (h.moved.ready ((k + 3) * tries - length h.tried) ((k + 3) * tries * 1000 - octets_in h.tried)
+      (by_equal (facts.ready old) ((k + 3) * tries) _ ((k + 3) * tries * 1000) _ (omega (arith, most, h.few)) (omega (arith, octets, h.short)) ready)).0
