@@ -15,7 +15,8 @@ ghost use Rattle.smi_text.specs.Returned.{IsLabelAhead};
 ghost use Rattle.smi_text.specs.Returned.{IsCauseOf};
 ghost use Rattle.smi_text.specs.Text.{AreSpelledBy, HasNoDoubles, IsCause, BreaksOff};
 ghost use Rattle.smi_text.specs.trees.Braces.{IsBalanced};
-ghost use Rattle.smi_text.specs.Grammar.{definition, is_balanced};
+ghost use Rattle.smi_text.specs.trees.Fronts.{has_balanced_braces};
+ghost use Rattle.smi_text.specs.Grammar.{definition};
 ghost use Rattle.smi_text.specs.declared.trees.tree.Module.{Module as Tree};
 ghost use Rattle.smi_text.specs.declared.trees.tree.TokenText.{TokenText};
 
@@ -177,7 +178,8 @@ pub fn one_module_list_without_lines()
         map unlined ms ≡ map unlined ns }
 {}
 
-/// The tokens that a spelling counts as balanced are those with balanced braces.
+/// Raw tokens between braces are spelled exactly where each brace that opens among them is followed
+/// by the one that closes it, and none closes another.
 pub fn balanced_braces()
-    ensures { (xs : List TokenText) → is_balanced 0 xs ≡ true ↔ IsBalanced xs }
+    ensures { (xs : List TokenText) → has_balanced_braces xs ≡ true ↔ IsBalanced xs }
 {}

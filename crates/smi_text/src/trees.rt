@@ -7,7 +7,6 @@ mod lookup;
 mod names;
 mod numbers;
 mod reserved;
-mod strings;
 mod tree;
 
 pub use items::{Items, Text};

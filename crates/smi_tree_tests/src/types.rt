@@ -68,10 +68,13 @@ current DESCRIPTION \"\" ::= {{ iso {k} }}"
     Ok(())
 }
 
-/// The text of a hint, empty if there is none.
+/// A hint without its quotes, empty if there is none.
 fn hint<'a>(syntax: &TypeSyntax<'a>) -> &'a [u8] {
     match syntax.hint {
-        Some(hint) => hint.unquoted(),
+        Some(hint) => match hint.as_bytes() {
+            [b'"', octets @ .., b'"'] => octets,
+            octets => octets,
+        },
         None => b"",
     }
 }
