@@ -5,3 +5,4 @@ pub mod Specs
 pub mod Growing
 pub mod Groups
 pub mod Unique
+pub mod ValueUnique

@@ -1,5 +1,12 @@
--- A hint shows octets in one way.
-use Rattle.std.proofs.Common.{◌≡◌, ℕ, ◌-◌, inl, inr, List, [], ◌∷◌, ◌++◌, drop, refl, sym, ◌∙◌, subst, arith}
+-- A hint shows a value in one way.
+use Rattle.std.proofs.Common.{◌≡◌, ℕ, ℤ, ◌-◌, inl, inr, List, [], ◌∷◌, ◌++◌, drop, get_or, refl, sym, ◌∙◌, ap, subst, arith}
+use Rattle.std.specs.Str.Parse.{digits_value}
+use Rattle.smi_value.specs.hint.Number.{IsNumberHint, front_digits, number_text}
+use Rattle.smi_value.specs.hint.Hint.{ShowsNumber, Shows}
+use Rattle.smi_value.specs.declared.hint.number.NumberForm.{NumberForm}
+use Rattle.smi_value.specs.declared.hint.number.NumberForm.TheVariants as form
+use Rattle.smi_value.specs.declared.hint.hint.HintValue.{HintValue}
+use Rattle.smi_value.specs.declared.hint.hint.HintValue.TheVariants as value
 use Rattle.smi_value.specs.hint.Spec.{AreSpecs}
 use Rattle.smi_value.specs.declared.hint.spec.Spec.{Spec}
 use Rattle.smi_value.specs.hint.Pieces.{IsCut, AreGroups, ShowsOctets, pieces_text, times_of, body_of, specs_after}
@@ -55,3 +62,57 @@ same_shown hint octets first second h k =
     let specs : h.specs ≡ k.specs = same_specs hint h.specs k.specs h.is_hint.read k.is_hint.read in
     let P : List Spec → Type 0 = λ s. AreGroups s h.groups octets first in
     same_groups k.specs h.groups k.groups octets first second (subst P specs h.are_groups) k.are_groups
+
+-- ---- numbers
+
+-- the letter that a hint of integers begins with
+letter : NumberForm → ℕ
+letter (form.Decimal places) = 100
+letter form.Hexadecimal = 120
+letter form.Octal = 111
+letter form.Binary = 98
+
+begins : (text : List ℕ) (f : NumberForm) → IsNumberHint text f → get_or text 0 0 ≡ letter f
+unfolding letter
+begins text (form.Decimal places) (inl h) = ap (λ (t : List ℕ). get_or t 0 0) h.0
+begins text (form.Decimal places) (inr h) = ap (λ (t : List ℕ). get_or t 0 0) h.whole
+begins text form.Hexadecimal h = ap (λ (t : List ℕ). get_or t 0 0) h
+begins text form.Octal h = ap (λ (t : List ℕ). get_or t 0 0) h
+begins text form.Binary h = ap (λ (t : List ℕ). get_or t 0 0) h
+
+same_places : (text : List ℕ) (p q : ℕ) → IsNumberHint text (form.Decimal p) → IsNumberHint text (form.Decimal q) → p ≡ q
+same_places text p q (inl h) (inl k) = h.1 ∙ sym k.1
+same_places text p q (inl h) (inr k) = let no : 100 ∷ [] ≡ 100 ∷ 45 ∷ k.after_hyphen = sym h.0 ∙ k.whole in absurd (cc)
+same_places text p q (inr h) (inl k) = let no : 100 ∷ [] ≡ 100 ∷ 45 ∷ h.after_hyphen = sym k.0 ∙ h.whole in absurd (cc)
+same_places text p q (inr h) (inr k) =
+    let whole : 100 ∷ 45 ∷ h.after_hyphen ≡ 100 ∷ 45 ∷ k.after_hyphen = sym h.whole ∙ k.whole in
+    let after : h.after_hyphen ≡ k.after_hyphen = cc in
+    h.number.value ∙ ap (λ (t : List ℕ). digits_value 10 (front_digits t)) after ∙ sym k.number.value
+
+same_letter : (f g : NumberForm) → letter f ≡ letter g → (text : List ℕ) → IsNumberHint text f → IsNumberHint text g → f ≡ g
+unfolding letter
+same_letter (form.Decimal p) (form.Decimal q) e text h k = ap (λ (n : ℕ). form.Decimal n) (same_places text p q h k)
+same_letter (form.Decimal p) form.Hexadecimal e text h k = absurd (omega arith)
+same_letter (form.Decimal p) form.Octal e text h k = absurd (omega arith)
+same_letter (form.Decimal p) form.Binary e text h k = absurd (omega arith)
+same_letter form.Hexadecimal (form.Decimal q) e text h k = absurd (omega arith)
+same_letter form.Hexadecimal form.Hexadecimal e text h k = refl
+same_letter form.Hexadecimal form.Octal e text h k = absurd (omega arith)
+same_letter form.Hexadecimal form.Binary e text h k = absurd (omega arith)
+same_letter form.Octal (form.Decimal q) e text h k = absurd (omega arith)
+same_letter form.Octal form.Hexadecimal e text h k = absurd (omega arith)
+same_letter form.Octal form.Octal e text h k = refl
+same_letter form.Octal form.Binary e text h k = absurd (omega arith)
+same_letter form.Binary (form.Decimal q) e text h k = absurd (omega arith)
+same_letter form.Binary form.Hexadecimal e text h k = absurd (omega arith)
+same_letter form.Binary form.Octal e text h k = absurd (omega arith)
+same_letter form.Binary form.Binary e text h k = refl
+
+pub same_number : (hint : List ℕ) (n : ℤ) (first second : List ℕ) → ShowsNumber hint n first → ShowsNumber hint n second → first ≡ second
+same_number hint n first second h k =
+    let same = same_letter h.form k.form (sym (begins hint h.form h.is_hint) ∙ begins hint k.form k.is_hint) hint h.is_hint k.is_hint in
+    h.is_text ∙ ap (λ (f : NumberForm). number_text f n) same ∙ sym k.is_text
+
+pub same_by_hint : (hint : List ℕ) (shown : HintValue) (first second : List ℕ) → Shows hint shown first → Shows hint shown second → first ≡ second
+same_by_hint hint (value.Number n) first second h k = same_number hint n first second h k
+same_by_hint hint (value.Octets octets) first second h k = same_shown hint octets.now first second h k

@@ -12,4 +12,4 @@ pub use base::ValueBase;
 pub use hint::{Hint, HintValue, one_text, write_hint};
 pub use letters::{Letters, NameForm, StringForm, TypeForm};
 pub use syntax::ValueSyntax;
-pub use value::{append_identifier_word, append_value};
+pub use value::{append_identifier_word, append_value, one_value_by_names};

@@ -1,9 +1,10 @@
 //! The text of a value, or of an exception in its place.
-ghost use Rattle.std.specs.Prelude.{◌≡◌, ◌++◌, List, ℕ, Some, None, pos, codes, true};
+ghost use Rattle.std.specs.Prelude.{◌≡◌, ◌++◌, List, ℕ, Option, Some, None, pos, codes, true};
 ghost use Rattle.std.specs.Option.{option_copied};
 ghost use Rattle.snmp_io.specs.draft.Draft.{Adds};
-ghost use Rattle.snmp_wire.specs.ber.Value.{datum, integer_value, octet_string};
-ghost use Rattle.smi_value.specs.Syntax.{syntax_at, name_of_number};
+ghost use Rattle.snmp_wire.specs.ber.Value.{Datum, datum, integer_value, octet_string};
+ghost use Rattle.smi_value.specs.declared.letters.letters.Letters.{Letters};
+ghost use Rattle.smi_value.specs.Syntax.{ObjectSyntax, syntax_at, name_of_number};
 ghost use Rattle.smi_value.specs.Pieces.{type_word};
 ghost use Rattle.smi_value.specs.Value.{IsNumberText, IsTypedNumber, IsIntegerText, IsStringText};
 ghost use Rattle.smi_value.specs.Value.{IsOctetsText, ShowsValue, IsNoIdentifier, counter_text};
@@ -83,6 +84,17 @@ pub fn append_value(
         ),
     }
 }
+
+/// A value has one text, by the letters and a syntax, where the names of identifiers have one.
+///
+/// A law: the call does nothing, and its caller may use what it ensures.
+pub fn one_value_by_names()
+    ensures { (letters : Letters) (names others : List ℕ → List ℕ)
+        → ((o : List ℕ) → names o ≡ others o)
+        → (syntax : Option ObjectSyntax) (value : Datum) (text other : List ℕ)
+        → ShowsValue names letters syntax value text
+        → ShowsValue others letters syntax value other → text ≡ other }
+{}
 
 /// Appends the word of an identifier, which stands before the text of its name, unless `q` or `Q`
 /// is given.

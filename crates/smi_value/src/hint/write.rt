@@ -1,7 +1,7 @@
 //! Appending a value as a hint shows it.
 ghost use Rattle.std.specs.Prelude.{◌≡◌, List, ℕ, ◌++◌, OnOk, OnErr};
 ghost use Rattle.smi_value.specs.hint.Hint.{IsHintFor, Shows};
-ghost use Rattle.smi_value.specs.hint.Pieces.{ShowsOctets};
+ghost use Rattle.smi_value.specs.declared.hint.hint.HintValue.{HintValue};
 
 use crate::hint::hint::{Hint, HintValue};
 use snmp_io::Draft;
@@ -25,8 +25,8 @@ pub fn write_hint(
     draft.finish(out)
 }
 
-/// A hint shows octets in one way.
+/// A hint shows a value in one way.
 pub fn one_text()
-    ensures { (hint octets first second : List ℕ)
-        → ShowsOctets hint octets first → ShowsOctets hint octets second → first ≡ second }
+    ensures { (hint : List ℕ) (value : HintValue) (first second : List ℕ)
+        → Shows hint value first → Shows hint value second → first ≡ second }
 {}

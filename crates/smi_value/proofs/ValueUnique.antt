@@ -1,0 +1,69 @@
+-- A value has one text, where the names of identifiers have one.
+use Rattle.std.proofs.Common.{◌≡◌, ℕ, ℤ, Bool, true, false, MatchBool, inl, inr, List, ◌++◌, Option, Some, None, sym, ◌∙◌, ap}
+use Rattle.std.specs.Prelude.{pos, codes}
+use Rattle.snmp_wire.specs.ber.Value.{Datum, integer_value, octet_string, null_value, object_id, ip_address, counter32, gauge32, time_ticks}
+use Rattle.snmp_wire.specs.ber.Value.{opaque_octets, counter64, no_such_object, no_such_instance, end_of_mib_view}
+use Rattle.smi_value.specs.declared.base.ValueBase.TheVariants as base
+use Rattle.smi_value.specs.declared.letters.letters.Letters.{Letters}
+use Rattle.smi_value.specs.Pieces.{type_word, units_text}
+use Rattle.smi_value.specs.Syntax.{ObjectSyntax, syntax_at, is_of_bits, name_of_number}
+use Rattle.smi_value.specs.Value.{IsNumberText, IsTypedNumber, IsIntegerText, IsHintedString, IsStringText, IsOctetsText, ShowsValue}
+use Rattle.smi_value.proofs.Unique.{same_shown, same_number}
+
+number_once : (hint : Option (List ℕ)) (n : ℤ) (a b : List ℕ) → IsNumberText hint n a → IsNumberText hint n b → a ≡ b
+number_once None n a b h k = h ∙ sym k
+number_once (Some hint) n a b (inl h) (inl k) = same_number hint n a b h k
+number_once (Some hint) n a b (inl h) (inr k) = absurd (k.0 (h.form, h.is_hint))
+number_once (Some hint) n a b (inr h) (inl k) = absurd (h.0 (k.form, k.is_hint))
+number_once (Some hint) n a b (inr h) (inr k) = h.1 ∙ sym k.1
+
+module _ (letters : Letters) where
+  typed_once : (word : List ℕ) (hint units : Option (List ℕ)) (n : ℤ) (a b : List ℕ) → IsTypedNumber letters word hint units n a
+      → IsTypedNumber letters word hint units n b → a ≡ b
+  typed_once word hint units n a b h k =
+      h.whole ∙ ap (λ (t : List ℕ). type_word letters word ++ t ++ units_text letters units) (number_once hint n h.shown k.shown h.is_number k.is_number)
+      ∙ sym k.whole
+
+  integer_once : (syntax : ObjectSyntax) (n : ℤ) (name : Option (List ℕ)) (a b : List ℕ) → IsIntegerText letters syntax n name a
+      → IsIntegerText letters syntax n name b → a ≡ b
+  integer_once syntax n None a b h k = typed_once (codes "INTEGER: ") syntax.hint syntax.units n a b h k
+  integer_once syntax n (Some name) a b h k = h ∙ sym k
+
+  hinted_once : (hint octets a b : List ℕ) → IsHintedString letters hint octets a → IsHintedString letters hint octets b → a ≡ b
+  hinted_once hint octets a b h k =
+      h.whole ∙ ap (λ (t : List ℕ). type_word letters (codes "STRING: ") ++ t) (same_shown hint octets h.shown k.shown h.shows k.shows) ∙ sym k.whole
+
+  string_once : (hint : Option (List ℕ)) (octets a b : List ℕ) → IsStringText letters hint octets a → IsStringText letters hint octets b → a ≡ b
+  string_once None octets a b h k = h ∙ sym k
+  string_once (Some hint) octets a b (inl h) (inl k) = hinted_once hint octets a b h k
+  string_once (Some hint) octets a b (inl h) (inr k) = absurd (k.0 (h.shows.specs, h.shows.is_hint))
+  string_once (Some hint) octets a b (inr h) (inl k) = absurd (h.0 (k.shows.specs, k.shows.is_hint))
+  string_once (Some hint) octets a b (inr h) (inr k) = h.1 ∙ sym k.1
+
+  either_once : (bits : Bool) (whole : List ℕ) (hint : Option (List ℕ)) (octets a b : List ℕ)
+      → MatchBool bits (a ≡ whole) (IsStringText letters hint octets a) → MatchBool bits (b ≡ whole) (IsStringText letters hint octets b) → a ≡ b
+  either_once true whole hint octets a b h k = h ∙ sym k
+  either_once false whole hint octets a b h k = string_once hint octets a b h k
+
+  octets_once : (syntax : Option ObjectSyntax) (octets a b : List ℕ) → IsOctetsText letters syntax octets a → IsOctetsText letters syntax octets b → a ≡ b
+  octets_once syntax octets a b h k =
+      either_once (is_of_bits syntax) _ (syntax_at base.OctetString syntax).hint octets a b h k
+
+  pub value_once : (names others : List ℕ → List ℕ) → ((o : List ℕ) → names o ≡ others o) → (syntax : Option ObjectSyntax) (value : Datum) (a b : List ℕ)
+      → ShowsValue names letters syntax value a → ShowsValue others letters syntax value b → a ≡ b
+  value_once names others same syntax (integer_value n) a b h k =
+      let at = syntax_at base.Integer syntax in integer_once at n (name_of_number at.names n) a b h k
+  value_once names others same syntax (octet_string octets) a b h k = octets_once syntax octets a b h k
+  value_once names others same syntax null_value a b h k = h ∙ sym k
+  value_once names others same syntax (object_id name) a b h k =
+      h ∙ ap (λ (t : List ℕ). type_word letters (codes "OID: ") ++ t) (same name) ∙ sym k
+  value_once names others same syntax (ip_address octets) a b h k = h ∙ sym k
+  value_once names others same syntax (counter32 n) a b h k = h ∙ sym k
+  value_once names others same syntax (gauge32 n) a b h k =
+      let at = syntax_at base.Gauge32 syntax in typed_once (codes "Gauge32: ") at.hint at.units (pos n) a b h k
+  value_once names others same syntax (time_ticks n) a b h k = h ∙ sym k
+  value_once names others same syntax (opaque_octets octets) a b h k = h ∙ sym k
+  value_once names others same syntax (counter64 n) a b h k = h ∙ sym k
+  value_once names others same syntax no_such_object a b h k = h ∙ sym k
+  value_once names others same syntax no_such_instance a b h k = h ∙ sym k
+  value_once names others same syntax end_of_mib_view a b h k = h ∙ sym k
