@@ -1,72 +1,62 @@
 -- Lines that state a table have no fault.
-use Rattle.std.proofs.Common.{◌≡◌, inl, inr, ℕ, List, [], ◌∷◌, ◌++◌, refl, sym, ◌∙◌, ap, subst, arith, codes}
-use Rattle.snmp_wire.specs.Message.{VarBind}
+use Rattle.std.proofs.Common.{◌≡◌, inl, inr, ℕ, List, ◌∷◌, ◌++◌, length, length-append, get_or, ◌<◌, refl, ◌∙◌, subst, arith}
+use Rattle.std.specs.List.{All, AllPairs, Contains}
+use Rattle.std.proofs.Math.ListN.{get_or-append}
+use Rattle.std.proofs.Math.Seq.{get_or-append_seam}
+use Rattle.std.proofs.lemmas.List.Elements.{All-contains, Contains-append_right}
 use Rattle.snmp_agent.specs.declared.table.error.TableError.{TableError}
 use Rattle.snmp_agent.specs.declared.table.error.TableError.TheVariants as error
-use Rattle.snmp_agent.specs.table.Text.{Statement, nothing, object_prefix, instance, States, IsBlank, IsObjectLine, IsObjectText, IsInstanceText, IsValueText}
-use Rattle.snmp_agent.specs.table.Text.{IsBadLine, IsBadName, IsBadValue}
-use Rattle.snmp_agent.specs.table.Stated.{IsStated, AllState, NamesDiffer, AreGood, IsFirstFault}
-use Rattle.snmp_agent.proofs.Statements.{same_rows}
+use Rattle.snmp_agent.specs.table.Form.{IsObjectText, IsInstanceText, IsBadLine, IsBadName, IsBadValue}
+use Rattle.snmp_agent.specs.table.Text.{AreTable, DifferInName, IsGoodLine, IsValueText, a_blank, a_prefix, a_row}
+use Rattle.snmp_agent.specs.table.Stated.{IsFirstFault}
+use Rattle.snmp_agent.proofs.Statements.{blank_no_object, row_form, same_object, same_rows}
 
--- the first octet, and 0 of none
-abbrev first_of : List ℕ → ℕ
-first_of [] = 0
-first_of (octet ∷ more) = octet
+good_line : (line : List ℕ) → IsGoodLine line → IsBadLine line → ⊥
+good_line line (a_blank h) bad = bad.not_blank h
+good_line line (a_prefix object h) bad = bad.no_object h.0 h.1
+good_line line (a_row p h) bad = bad.no_row h.name h.tag h.text (row_form line p h)
 
-blank_no_object : (line text : List ℕ) → IsBlank line → IsObjectLine line text → ⊥
-blank_no_object line text (inl e) f = let no : 0 ≡ 111 = ap first_of (sym e ∙ f) in omega (arith, no)
-blank_no_object line text (inr e) f = let no : 35 ≡ 111 = ap first_of (sym e.1 ∙ f) in omega (arith, no)
+good_name : (line : List ℕ) → IsGoodLine line → IsBadName line → ⊥
+good_name line (a_blank h) (inl bad) = blank_no_object line bad.0 h bad.1
+good_name line (a_blank h) (inr bad) = bad.3.not_blank h
+good_name line (a_prefix o h) (inl bad) = bad.2 o (subst (λ (t : List ℕ). IsObjectText t o) (same_object line h.0 bad.0 h.1 bad.1) (h.2, h.3))
+good_name line (a_prefix o h) (inr bad) = bad.3.no_object h.0 h.1
+good_name line (a_row p h) (inl bad) = (row_form line p h).no_object bad.0 bad.1
+good_name line (a_row p h) (inr bad) =
+    let same = same_rows line bad.0 bad.1 bad.2 h.name h.tag h.text bad.3 (row_form line p h) in
+    bad.4 p.name (subst (λ (n : List ℕ). IsInstanceText n p.name) same.0 (h.named, h.instance_name))
 
-good_line : (line : List ℕ) (s : Statement) → States line s → IsBadLine line → ⊥
-good_line line nothing h bad = bad.not_blank h
-good_line line (object_prefix o) h bad = bad.no_object h.0 h.1
-good_line line (instance p) h bad = bad.no_row h.0 h.1 h.2 h.3
+good_value : (line : List ℕ) → IsGoodLine line → IsBadValue line → ⊥
+good_value line (a_blank h) bad = bad.3.not_blank h
+good_value line (a_prefix o h) bad = bad.3.no_object h.0 h.1
+good_value line (a_row p h) bad =
+    let same = same_rows line bad.0 bad.1 bad.2 h.name h.tag h.text bad.3 (row_form line p h) in
+    bad.5 p.value (subst (λ (t : List ℕ). IsValueText bad.1 t p.value) same.2 (subst (λ (t : List ℕ). IsValueText t h.text p.value) same.1 h.valued))
 
-same_back : (front a b : List ℕ) → front ++ a ≡ front ++ b → a ≡ b
-same_back [] a b e = e
-same_back (octet ∷ front) a b e = let rest : front ++ a ≡ front ++ b = cc in same_back front a b rest
+pub line_good : (front : List (List ℕ)) (line : List ℕ) (back : List (List ℕ)) → All IsGoodLine (front ++ line ∷ back) → IsGoodLine line
+line_good front line back h =
+    All-contains IsGoodLine (front ++ line ∷ back) line h (Contains-append_right front (line ∷ back) line (0, omega arith, refl))
 
-same_object : (line a b : List ℕ) → IsObjectLine line a → IsObjectLine line b → a ≡ b
-same_object line a b e f = same_back (codes "object ") a b (sym e ∙ f)
+-- a line and one before it
+pub earlier_differs : (front : List (List ℕ)) (line : List ℕ) (back : List (List ℕ)) (other : List ℕ) → AllPairs DifferInName (front ++ line ∷ back)
+    → Contains front other → DifferInName other line
+earlier_differs front line back other h at =
+    let low : length front < length (front ++ line ∷ back) = omega (arith, length-append front (line ∷ back)) in
+    let here = h at.0 (length front) other at.1 low in
+    let P : List ℕ → Type 0 = λ l. DifferInName other l in
+    let Q : List ℕ → Type 0 = λ l. DifferInName l (get_or (front ++ line ∷ back) (length front) other) in
+    subst P (get_or-append_seam front line back other) (subst Q (get_or-append front (line ∷ back) other at.0 at.1 ∙ at.2) here)
 
-good_name : (line : List ℕ) (s : Statement) → States line s → IsBadName line → ⊥
-good_name line nothing h (inl bad) = blank_no_object line bad.0 h bad.1
-good_name line nothing h (inr bad) = bad.3.not_blank h
-good_name line (object_prefix o) h (inl bad) = bad.2 o (subst (λ (t : List ℕ). IsObjectText t o) (same_object line h.0 bad.0 h.1 bad.1) h.2)
-good_name line (object_prefix o) h (inr bad) = bad.3.no_object h.0 h.1
-good_name line (instance p) h (inl bad) = h.3.no_object bad.0 bad.1
-good_name line (instance p) h (inr bad) =
-    let same = same_rows line bad.0 bad.1 bad.2 h.0 h.1 h.2 bad.3 h.3 in
-    bad.4 p.name (subst (λ (n : List ℕ). IsInstanceText n p.name) same.0 h.4)
-
-good_value : (line : List ℕ) (s : Statement) → States line s → IsBadValue line → ⊥
-good_value line nothing h bad = bad.3.not_blank h
-good_value line (object_prefix o) h bad = bad.3.no_object h.0 h.1
-good_value line (instance p) h bad =
-    let same = same_rows line bad.0 bad.1 bad.2 h.0 h.1 h.2 bad.3 h.3 in
-    bad.5 p.value (subst (λ (t : List ℕ). IsValueText bad.1 t p.value) same.2 (subst (λ (t : List ℕ). IsValueText t h.2 p.value) same.1 h.5))
-
-line_states : (front : List (List ℕ)) (line : List ℕ) (back : List (List ℕ)) → AllState (front ++ line ∷ back) → (s : Statement) × States line s
-line_states [] line back h = h.0
-line_states (first ∷ front) line back h = line_states front line back h.1
-
-is_stated : (front : List (List ℕ)) (line : List ℕ) (back : List (List ℕ)) (s : Statement) → States line s → IsStated (front ++ line ∷ back) s
-is_stated [] line back s h = inl h
-is_stated (first ∷ front) line back s h = inr (is_stated front line back s h)
-
-no_double : (front : List (List ℕ)) (line : List ℕ) (back : List (List ℕ)) (p q : VarBind) → NamesDiffer (front ++ line ∷ back) → States line (instance p)
-    → IsStated front (instance q) → q.name ≡ p.name → ⊥
-no_double [] line back p q h states stated e = absurd stated
-no_double (first ∷ front) line back p q h states (inl here) e = h.0 q here p (is_stated front line back (instance p) states) (sym e)
-no_double (first ∷ front) line back p q h states (inr later) e = no_double front line back p q h.1 states later e
-
-pub no_fault : (lines : List (List ℕ)) (fault : TableError) → AreGood lines → IsFirstFault lines fault → fault ≡ error.Memory
+pub no_fault : (lines : List (List ℕ)) (fault : TableError) → AreTable lines → IsFirstFault lines fault → fault ≡ error.Memory
 no_fault lines (error.BadLine n) good h =
-    let s = line_states h.0 h.1 h.2.back (subst AllState h.2.parts good.each) in absurd (good_line h.1 s.0 s.1 h.3)
+    absurd (good_line h.1 (line_good h.0 h.1 h.2.back (subst (λ ls. All IsGoodLine ls) h.2.parts good.each)) h.3)
 no_fault lines (error.BadName n) good h =
-    let s = line_states h.0 h.1 h.2.back (subst AllState h.2.parts good.each) in absurd (good_name h.1 s.0 s.1 h.3)
+    absurd (good_name h.1 (line_good h.0 h.1 h.2.back (subst (λ ls. All IsGoodLine ls) h.2.parts good.each)) h.3)
 no_fault lines (error.BadValue n) good h =
-    let s = line_states h.0 h.1 h.2.back (subst AllState h.2.parts good.each) in absurd (good_value h.1 s.0 s.1 h.3)
+    absurd (good_value h.1 (line_good h.0 h.1 h.2.back (subst (λ ls. All IsGoodLine ls) h.2.parts good.each)) h.3)
 no_fault lines (error.Double n) good h =
-    absurd (no_double h.0 h.1 h.2.back h.3.0 h.3.1 (subst NamesDiffer h.2.parts good.differ) h.3.2 h.3.3 h.3.4)
+    let pairs = subst (λ ls. AllPairs DifferInName ls) h.2.parts good.differ in
+    let double = h.3 in
+    let earlier = double.3 in
+    absurd (earlier_differs h.0 h.1 h.2.back earlier.0 pairs earlier.1 double.1 double.0 earlier.2 double.2 double.4)
 no_fault lines error.Memory good h = refl

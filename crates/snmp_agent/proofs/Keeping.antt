@@ -1,9 +1,9 @@
 -- What lines state is what a table may keep.
-use Rattle.std.proofs.Common.{◌≡◌, ◌≢◌, ℕ, inl, inr, true, All, List, [], ◌∷◌, map, slice_index_or, sym, ◌∙◌}
+use Rattle.std.proofs.Common.{◌≡◌, ◌≢◌, ℕ, true, All, List, [], map, slice_index_or, sym, ◌∙◌}
 use Rattle.std.specs.Ordering.{nat_cmp}
 use Rattle.std.specs.Cmp.Lexicographic.{slice_cmp, nat_list_cmp_total}
-use Rattle.std.specs.FinMap.{get, get-from_sorted, find}
-use Rattle.std.specs.FinSet.{contains, contains-from_list}
+use Rattle.std.specs.FinMap.{from_sorted, get, get-from_sorted, find}
+use Rattle.std.specs.FinSet.{contains, contains-from_list, from_list}
 use Rattle.std.proofs.lemmas.Option.{slice_get-get_or}
 use Rattle.snmp_oid.specs.Identifier.{IsIdentifier}
 use Rattle.snmp_wire.specs.Message.{Datum, VarBind}
@@ -12,11 +12,11 @@ use Rattle.snmp_wire.specs.Message.Datum.{counter64, no_such_object, no_such_ins
 use Rattle.snmp_agent.specs.declared.table.row.Row.{Row}
 use Rattle.snmp_agent.specs.declared.table.row.RowValue.{RowValue}
 use Rattle.snmp_agent.specs.declared.table.row.RowValue.TheVariants as value
-use Rattle.snmp_agent.specs.table.Table.{IsRow, IsInstanceName, IsInstanceValue, IsMibView}
+use Rattle.snmp_agent.specs.table.Table.{IsRow, IsInstanceName, IsInstanceValue, IsMibView, MibView}
 use Rattle.snmp_agent.specs.table.Row.{entry_of, datum_of, view_of, IsShort, IsShortRow}
 use Rattle.snmp_agent.specs.table.Places.{var_of, IsRising, IsKept}
-use Rattle.snmp_agent.specs.table.Text.{object_prefix, instance, IsValueText, IsName}
-use Rattle.snmp_agent.specs.table.Stated.{IsStated, IsTableOf}
+use Rattle.snmp_agent.specs.table.Text.{HasPrefix, HasRow, IsName, IsPrefixLine, IsValueText}
+use Rattle.snmp_agent.specs.table.Stated.{IsTableOf}
 use Rattle.snmp_agent.specs.table.Draft.{HoldsTable}
 use Rattle.snmp_agent.proofs.Rising.{Listed, find-listed}
 use Rattle.snmp_agent.proofs.Finding.{listed_at}
@@ -40,20 +40,14 @@ instance_value tag text no_such_object h = h
 instance_value tag text no_such_instance h = h
 instance_value tag text end_of_mib_view h = h
 
-stated_name : (lines : List (List ℕ)) (p : VarBind) → IsStated lines (instance p) → IsInstanceName p.name
-stated_name [] p h = absurd h
-stated_name (line ∷ lines) p (inl here) = here.4.1
-stated_name (line ∷ lines) p (inr later) = stated_name lines p later
+row_name : (lines : List (List ℕ)) (p : VarBind) → HasRow lines p → IsInstanceName p.name
+row_name lines p h = h.2.instance_name
 
-stated_value : (lines : List (List ℕ)) (p : VarBind) → IsStated lines (instance p) → IsInstanceValue p.value
-stated_value [] p h = absurd h
-stated_value (line ∷ lines) p (inl here) = instance_value here.1 here.2 p.value here.5
-stated_value (line ∷ lines) p (inr later) = stated_value lines p later
+row_value : (lines : List (List ℕ)) (p : VarBind) → HasRow lines p → IsInstanceValue p.value
+row_value lines p h = instance_value h.2.tag h.2.text p.value h.2.valued
 
-stated_object : (lines : List (List ℕ)) (o : List ℕ) → IsStated lines (object_prefix o) → (o ≢ []) × IsIdentifier o
-stated_object [] o h = absurd h
-stated_object (line ∷ lines) o (inl here) = (here.2.1, identifier here.0 o here.2.0)
-stated_object (line ∷ lines) o (inr later) = stated_object lines o later
+prefix_name : (lines : List (List ℕ)) (o : List ℕ) → HasPrefix lines o → (o ≢ []) × IsIdentifier o
+prefix_name lines o h = let prefix : IsPrefixLine h.0 o = h.2 in (prefix.3, identifier prefix.0 o prefix.2)
 
 short_value : (v : RowValue) → IsInstanceValue (datum_of v) → IsShort v
 short_value (value.Integer n) h = tt
@@ -80,35 +74,40 @@ short_rows rows objects rising view = λ k d low. row_short (slice_index_or rows
           value = short_value row.value (view.values (var_of (entry_of row)) is_row);
         }
 
-module _ (lines : List (List ℕ)) (rows : List Row) (objects : List (List ℕ)) (h : HoldsTable lines (map entry_of rows) objects) where
-  value_at : (o : List ℕ) → get (view_of rows objects).rows o ≡ find (slice_cmp nat_cmp) o (map entry_of rows)
-  value_at o = get-from_sorted (slice_cmp nat_cmp) (map entry_of rows) o h.rising
+-- the view of these entries and object prefixes
+abbrev pub view_from : List (List ℕ × Datum) → List (List ℕ) → MibView
+view_from entries objects = record { rows = from_sorted entries; objects = from_list objects }
 
-  row_stated : (p : VarBind) → IsRow (view_of rows objects) p → IsStated lines (instance p)
+module _ (lines : List (List ℕ)) (entries : List (List ℕ × Datum)) (objects : List (List ℕ)) (h : HoldsTable lines entries objects) where
+  value_at : (o : List ℕ) → get (view_from entries objects).rows o ≡ find (slice_cmp nat_cmp) o entries
+  value_at o = get-from_sorted (slice_cmp nat_cmp) entries o h.rising
+
+  row_stated : (p : VarBind) → IsRow (view_from entries objects) p → HasRow lines p
   row_stated p row = (h.rows p).0 (sym (value_at p.name) ∙ row)
 
-  stated_row : (p : VarBind) → IsStated lines (instance p) → IsRow (view_of rows objects) p
+  stated_row : (p : VarBind) → HasRow lines p → IsRow (view_from entries objects) p
   stated_row p stated = value_at p.name ∙ (h.rows p).1 stated
 
-  object_stated : (o : List ℕ) → contains (view_of rows objects).objects o ≡ true → IsStated lines (object_prefix o)
+  object_stated : (o : List ℕ) → contains (view_from entries objects).objects o ≡ true → HasPrefix lines o
   object_stated o has = (h.prefixes o).0 (sym (contains-from_list nat_list_cmp_total objects o) ∙ has)
 
-  stated_has : (o : List ℕ) → IsStated lines (object_prefix o) → contains (view_of rows objects).objects o ≡ true
+  stated_has : (o : List ℕ) → HasPrefix lines o → contains (view_from entries objects).objects o ≡ true
   stated_has o stated = contains-from_list nat_list_cmp_total objects o ∙ (h.prefixes o).1 stated
 
-  pub kept : IsKept rows objects
-  kept = record { rising = h.rising; short = short_rows rows objects h.rising is_view; view = is_view }
-    where
-      is_view : IsMibView (view_of rows objects)
-      is_view = record {
-        names = λ p row. stated_name lines p (row_stated p row);
-        values = λ p row. stated_value lines p (row_stated p row);
-        objects = λ o has. stated_object lines o (object_stated o has);
-      }
+  pub is_view : IsMibView (view_from entries objects)
+  is_view = record {
+    names = λ p row. row_name lines p (row_stated p row);
+    values = λ p row. row_value lines p (row_stated p row);
+    objects = λ o has. prefix_name lines o (object_stated o has);
+  }
 
-  pub table_of : IsTableOf lines (view_of rows objects)
+  pub table_of : IsTableOf lines (view_from entries objects)
   table_of = record {
     good = h.good;
     rows = λ p. (row_stated p, stated_row p);
     objects = λ o. (object_stated o, stated_has o);
   }
+
+pub kept : (lines : List (List ℕ)) (rows : List Row) (objects : List (List ℕ)) → HoldsTable lines (map entry_of rows) objects → IsKept rows objects
+kept lines rows objects h =
+    let view = is_view lines (map entry_of rows) objects h in record { rising = h.rising; short = short_rows rows objects h.rising view; view = view }

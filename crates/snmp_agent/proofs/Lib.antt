@@ -18,6 +18,7 @@ pub mod Each
 pub mod Faultless
 pub mod Finding
 pub mod Keeping
+pub mod Made
 pub mod Partition
 pub mod Rising
 pub mod Statements

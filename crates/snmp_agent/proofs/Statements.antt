@@ -1,8 +1,15 @@
 -- Facts about what lines state.
-use Rattle.std.proofs.Common.{◌≡◌, ℕ, ◌^◌, ◌<◌, inl, inr, List, [], ◌∷◌, ◌++◌, Result, Ok, Err, IfOk, refl, sym, ◌∙◌, ap, subst, append_assoc, arith}
+use Rattle.std.proofs.Common.{◌≡◌, ℕ, ◌^◌, ◌<◌, inl, inr, Bool, true, false, ◌&&◌, ◌||◌, eqb, List, [], ◌∷◌, ◌++◌, Result, Ok, Err, IfOk, refl, sym, ◌∙◌, ap}
+use Rattle.std.proofs.Common.{subst, append_assoc, arith, codes}
+use Rattle.std.specs.Char.{is_ascii_digit}
 use Rattle.std.specs.List.{All}
+use Rattle.std.specs.Str.{all_ascii_digits}
+use Rattle.std.proofs.lemmas.List.{append_cancel_left}
 use Rattle.std.proofs.lemmas.List.Elements.{All-nil, All-cons}
-use Rattle.snmp_oid.specs.Numeric.{IsDotted, IsNumericName}
+use Rattle.snmp_oid.specs.Numeric.{dot, IsDotted, IsNumeral, IsNumericName}
+use Rattle.snmp_wire.specs.Message.{Datum, VarBind}
+use Rattle.snmp_wire.specs.Message.Datum.{integer_value, octet_string, null_value, object_id, ip_address, counter32, gauge32, time_ticks, opaque_octets}
+use Rattle.snmp_wire.specs.Message.Datum.{counter64, no_such_object, no_such_instance, end_of_mib_view}
 use Rattle.snmp_agent.specs.declared.table.value.Tag.{Tag}
 use Rattle.snmp_agent.specs.declared.table.value.Tag.TheVariants as tag
 use Rattle.snmp_agent.specs.declared.table.line.Line.{Line}
@@ -10,9 +17,50 @@ use Rattle.snmp_agent.specs.declared.table.line.Line.TheVariants as line
 use Rattle.snmp_agent.specs.declared.table.line.LineFault.{LineFault}
 use Rattle.snmp_agent.specs.table.Row.{entry_of, datum_of, tag_text}
 use Rattle.snmp_agent.specs.table.Places.{var_of}
-use Rattle.snmp_agent.specs.table.Text.{bar, Statement, nothing, object_prefix, instance, States, IsTag, IsObjectLine, IsRowLine, IsInstanceText, IsValueText}
+use Rattle.snmp_agent.specs.table.Form.{Statement, nothing, object_prefix, instance, States, IsTag, IsObjectForm, IsRowForm, IsObjectText, IsInstanceText}
+use Rattle.snmp_agent.specs.table.Text.{bar, IsBlank, IsRowLine, IsValueText}
 use Rattle.snmp_agent.specs.table.Line.{statement_of, IsObjectRead, IsInstanceRead}
 use Rattle.snmp_agent.proofs.Cuts.{HasNoBar, no_cut, same_cut}
+
+-- ---- first octets
+
+-- the first octet, and 0 of none
+abbrev first_of : List ℕ → ℕ
+first_of [] = 0
+first_of (octet ∷ more) = octet
+
+-- a numeric name may begin with it
+abbrev begins_name : ℕ → Bool
+begins_name octet = is_ascii_digit octet || eqb octet 46
+
+first_true : (a b : Bool) → (a && b) ≡ true → a ≡ true
+first_true true b h = refl
+first_true false b h = h
+
+front_begins : (front rest : List ℕ) → begins_name (first_of front) ≡ true → begins_name (first_of (front ++ rest)) ≡ true
+front_begins [] rest h = let no : false ≡ true = h in absurd (cc)
+front_begins (octet ∷ front) rest h = h
+
+numeral_begins : (text : List ℕ) (n : ℕ) → IsNumeral text n → begins_name (first_of text) ≡ true
+numeral_begins [] n h = absurd (h.some refl)
+numeral_begins (octet ∷ text) n h =
+    let digit : is_ascii_digit octet ≡ true = first_true (is_ascii_digit octet) (all_ascii_digits text) h.digits in
+    ap (λ b. b || eqb octet 46) digit
+
+dotted_begins : (text o : List ℕ) → IsDotted text o → begins_name (first_of text) ≡ true
+dotted_begins text [] h = absurd h
+dotted_begins text (n ∷ []) h = numeral_begins text n h
+dotted_begins text (n ∷ m ∷ o) h =
+    subst (λ (t : List ℕ). begins_name (first_of t) ≡ true) (sym h.2) (front_begins h.0 (dot ∷ h.1) (numeral_begins h.0 n h.3))
+
+name_begins : (text o : List ℕ) → IsNumericName text o → begins_name (first_of text) ≡ true
+name_begins text o (inl h) = subst (λ (t : List ℕ). begins_name (first_of t) ≡ true) (sym h.0) refl
+name_begins text o (inr (inl h)) = dotted_begins text o h
+name_begins text o (inr (inr h)) = subst (λ (t : List ℕ). begins_name (first_of t) ≡ true) (sym h.1) refl
+
+pub blank_no_object : (l text : List ℕ) → IsBlank l → IsObjectForm l text → ⊥
+blank_no_object l text (inl e) f = let no : 0 ≡ 111 = ap first_of (sym e ∙ f) in omega (arith, no)
+blank_no_object l text (inr e) f = let no : 35 ≡ 111 = ap first_of (sym e.1 ∙ f) in omega (arith, no)
 
 -- ---- names
 
@@ -40,32 +88,71 @@ tag_known tag.TimeTicks = (7, omega arith, refl)
 tag_known tag.HexOpaque = (8, omega arith, refl)
 tag_known tag.Counter64 = (9, omega arith, refl)
 
+tag_stated : (t text : List ℕ) (v : Datum) → IsValueText t text v → IsTag t
+tag_stated t text (integer_value z) h = (0, omega arith, sym h.0)
+tag_stated t text (octet_string octets) h = elim h.0 [ inl here ↦ (1, omega arith, sym here.0) | inr here ↦ (2, omega arith, sym here.0) ]
+tag_stated t text null_value h = absurd h
+tag_stated t text (object_id o) h = (3, omega arith, sym h.0)
+tag_stated t text (ip_address octets) h = (4, omega arith, sym h.0)
+tag_stated t text (counter32 n) h = (5, omega arith, sym h.0)
+tag_stated t text (gauge32 n) h = (6, omega arith, sym h.0)
+tag_stated t text (time_ticks n) h = (7, omega arith, sym h.0)
+tag_stated t text (opaque_octets octets) h = (8, omega arith, sym h.0)
+tag_stated t text (counter64 n) h = (9, omega arith, sym h.0)
+tag_stated t text no_such_object h = absurd h
+tag_stated t text no_such_instance h = absurd h
+tag_stated t text end_of_mib_view h = absurd h
+
+row_begins : (l : List ℕ) (p : VarBind) → IsRowLine l p → begins_name (first_of l) ≡ true
+row_begins l p h =
+    let whole : l ≡ h.name ++ bar ∷ (h.tag ++ bar ∷ h.text) = h.parts ∙ append_assoc h.name (bar ∷ h.tag) (bar ∷ h.text) in
+    subst (λ (t : List ℕ). begins_name (first_of t) ≡ true) (sym whole)
+    (front_begins h.name (bar ∷ (h.tag ++ bar ∷ h.text)) (name_begins h.name p.name h.named.named))
+
+begins_otherwise : (l other : List ℕ) → begins_name (first_of l) ≡ true → begins_name (first_of other) ≡ false → l ≡ other → ⊥
+begins_otherwise l other begins never e = let same : begins_name (first_of l) ≡ begins_name (first_of other) = ap (λ (t : List ℕ). begins_name (first_of t)) e in
+    let wrong : true ≡ false = sym begins ∙ same ∙ never in absurd (cc)
+
+-- a row's line has the form of one
+pub row_form : (l : List ℕ) (p : VarBind) (h : IsRowLine l p) → IsRowForm l h.name h.tag h.text
+row_form l p h = record {
+  not_blank = λ blank. elim blank [
+    | inl e ↦ begins_otherwise l [] (row_begins l p h) refl e
+    | inr e ↦ begins_otherwise l (codes "#" ++ e.0) (row_begins l p h) refl e.1
+  ];
+  no_object = λ text e. begins_otherwise l (codes "object " ++ text) (row_begins l p h) refl e;
+  parts = h.parts;
+  name_ends = h.name_ends;
+  tag_ends = h.tag_ends;
+  known = tag_stated h.tag h.text p.value h.valued;
+}
+
 -- the first cut of a row's line
-first_cut : (l name tag text : List ℕ) → IsRowLine l name tag text → l ≡ name ++ bar ∷ (tag ++ bar ∷ text)
+first_cut : (l name tag text : List ℕ) → IsRowForm l name tag text → l ≡ name ++ bar ∷ (tag ++ bar ∷ text)
 first_cut l name tag text h = h.parts ∙ append_assoc name (bar ∷ tag) (bar ∷ text)
 
-pub no_row_without_bar : (l name tag text : List ℕ) → HasNoBar l → IsRowLine l name tag text → ⊥
+pub no_row_without_bar : (l name tag text : List ℕ) → HasNoBar l → IsRowForm l name tag text → ⊥
 no_row_without_bar l name tag text none h = no_cut l name (tag ++ bar ∷ text) none (first_cut l name tag text h)
 
 -- what stands behind the first bar
-behind_first : (l front behind name tag text : List ℕ) → l ≡ front ++ bar ∷ behind → HasNoBar front → IsRowLine l name tag text
+behind_first : (l front behind name tag text : List ℕ) → l ≡ front ++ bar ∷ behind → HasNoBar front → IsRowForm l name tag text
     → (name ≡ front) × (tag ++ bar ∷ text ≡ behind)
 behind_first l front behind name tag text e none h = same_cut name (tag ++ bar ∷ text) front behind h.name_ends none (sym (first_cut l name tag text h) ∙ e)
 
-pub no_row_with_one_bar : (l front behind name tag text : List ℕ) → l ≡ front ++ bar ∷ behind → HasNoBar front → HasNoBar behind → IsRowLine l name tag text → ⊥
+pub no_row_with_one_bar : (l front behind name tag text : List ℕ) → l ≡ front ++ bar ∷ behind → HasNoBar front → HasNoBar behind → IsRowForm l name tag text → ⊥
 no_row_with_one_bar l front behind name tag text e none none_behind h =
     no_cut behind tag text none_behind (sym (behind_first l front behind name tag text e none h).1)
 
 -- the parts of a row's line
 pub same_parts : (l front behind middle back name tag text : List ℕ) → l ≡ front ++ bar ∷ behind → HasNoBar front → behind ≡ middle ++ bar ∷ back
-    → HasNoBar middle → IsRowLine l name tag text
+    → HasNoBar middle → IsRowForm l name tag text
     → (name ≡ front) × (tag ≡ middle) × (text ≡ back)
 same_parts l front behind middle back name tag text e none f none_middle h =
     let first = behind_first l front behind name tag text e none h in
     let second = same_cut tag text middle back h.tag_ends none_middle (first.1 ∙ f) in
     (first.0, second.0, second.1)
 
-pub same_rows : (l name tag text name2 tag2 text2 : List ℕ) → IsRowLine l name tag text → IsRowLine l name2 tag2 text2
+pub same_rows : (l name tag text name2 tag2 text2 : List ℕ) → IsRowForm l name tag text → IsRowForm l name2 tag2 text2
     → (name2 ≡ name) × (tag2 ≡ tag) × (text2 ≡ text)
 same_rows l name tag text name2 tag2 text2 h k = same_parts l name (tag ++ bar ∷ text) tag text name2 tag2 text2
     (first_cut l name tag text h) h.name_ends refl h.tag_ends k
@@ -78,21 +165,31 @@ row_parts l front behind middle back tag e f g =
 
 -- ---- what a line states
 
-pub object_states : (l text : List ℕ) → IsObjectLine l text → (r : Result Line LineFault) → IsObjectRead text r
+pub object_states : (l text : List ℕ) → IsObjectForm l text → (r : Result Line LineFault) → IsObjectRead text r
     → IfOk r (λ stated. States l (statement_of stated))
-object_states l text e (Ok (line.Object numbers)) h = (text, e, h.0)
+object_states l text e (Ok (line.Object numbers)) h = (text, e, h.0.0, h.0.1)
 object_states l text e (Ok line.Nothing) h = absurd h
 object_states l text e (Ok (line.Instance row)) h = absurd h
 object_states l text e (Err fault) h = tt
 
-pub row_states : (l name tag text : List ℕ) → IsRowLine l name tag text → (r : Result Line LineFault) → IsInstanceRead name tag text r
+pub row_states : (l name tag text : List ℕ) → IsRowForm l name tag text → (r : Result Line LineFault) → IsInstanceRead name tag text r
     → IfOk r (λ stated. States l (statement_of stated))
-row_states l name tag text e (Ok (line.Instance row)) h = (name, tag, text, e, h.named, h.valued)
+row_states l name tag text e (Ok (line.Instance row)) h = record {
+  name = name;
+  tag = tag;
+  text = text;
+  parts = e.parts;
+  name_ends = e.name_ends;
+  tag_ends = e.tag_ends;
+  named = h.named.0;
+  instance_name = h.named.1;
+  valued = h.valued;
+}
 row_states l name tag text e (Ok line.Nothing) h = absurd h
 row_states l name tag text e (Ok (line.Object numbers)) h = absurd h
 row_states l name tag text e (Err fault) h = tt
 
-pub row_only : (l name tag text : List ℕ) → IsRowLine l name tag text → (r : Result Line LineFault) → IsInstanceRead name tag text r
+pub row_only : (l name tag text : List ℕ) → IsRowForm l name tag text → (r : Result Line LineFault) → IsInstanceRead name tag text r
     → IfOk r (λ stated. (s : Statement) → States l s → s ≡ statement_of stated)
 row_only l name tag text e (Ok line.Nothing) h = absurd h
 row_only l name tag text e (Ok (line.Object numbers)) h = absurd h
@@ -102,10 +199,31 @@ row_only l name tag text e (Ok (line.Instance row)) h = only_instance where
   only_instance nothing k = absurd (e.not_blank k)
   only_instance (object_prefix o) k = absurd (e.no_object k.0 k.1)
   only_instance (instance p) k =
-      let same = same_rows l name tag text k.0 k.1 k.2 e k.3 in
+      let same = same_rows l name tag text k.name k.tag k.text e (row_form l p k) in
       let P : List ℕ → Type 0 = λ n. IsInstanceText n p.name in
-      let named : p.name ≡ row.name.items = h.only_name p.name (subst P same.0 k.4) in
-      let Q : List ℕ → Type 0 = λ t. IsValueText t k.2 p.value in
+      let named : p.name ≡ row.name.items = h.only_name p.name (subst P same.0 (k.named, k.instance_name)) in
+      let Q : List ℕ → Type 0 = λ t. IsValueText t k.text p.value in
       let R : List ℕ → Type 0 = λ x. IsValueText tag x p.value in
-      let valued : p.value ≡ datum_of row.value = h.only_value p.value (subst R same.2 (subst Q same.1 k.5)) in
+      let valued : p.value ≡ datum_of row.value = h.only_value p.value (subst R same.2 (subst Q same.1 k.valued)) in
       λ i. instance (record { name = named i; value = valued i })
+
+pub same_object : (l a b : List ℕ) → IsObjectForm l a → IsObjectForm l b → a ≡ b
+same_object l a b e f = append_cancel_left (codes "object ") a b (sym e ∙ f)
+
+pub blank_only : (l : List ℕ) → IsBlank l → (s : Statement) → States l s → s ≡ nothing
+blank_only l e nothing k = refl
+blank_only l e (object_prefix o) k = absurd (blank_no_object l k.0 e k.1)
+blank_only l e (instance p) k = absurd ((row_form l p k).not_blank e)
+
+pub object_only : (l text : List ℕ) → IsObjectForm l text → (r : Result Line LineFault) → IsObjectRead text r
+    → IfOk r (λ stated. (s : Statement) → States l s → s ≡ statement_of stated)
+object_only l text e (Ok line.Nothing) h = absurd h
+object_only l text e (Ok (line.Instance row)) h = absurd h
+object_only l text e (Err fault) h = tt
+object_only l text e (Ok (line.Object numbers)) h = only_object where
+  only_object : (s : Statement) → States l s → s ≡ object_prefix numbers.items
+  only_object nothing k = absurd (blank_no_object l text k e)
+  only_object (object_prefix o) k =
+      let P : List ℕ → Type 0 = λ t. IsObjectText t o in
+      ap object_prefix (h.1 o (subst P (same_object l k.0 text k.1 e) (k.2, k.3)))
+  only_object (instance p) k = absurd ((row_form l p k).no_object text e)

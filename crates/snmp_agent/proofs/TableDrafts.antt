@@ -1,8 +1,10 @@
 -- Facts about what lines state together, and about the draft that holds it.
 use Rattle.std.proofs.Common.{◌≡◌, ℕ, ◌⊎◌, inl, inr, ◌↔◌, Bool, true, false, cond, ◌||◌, List, [], ◌∷◌, ◌++◌, map, Some, None, refl, sym, ◌∙◌, ap, subst, Less}
-use Rattle.std.proofs.Common.{Equal, Greater, Vec, Global, ◌+◌, ◌<◌, ◌≤◌, length, append_assoc, append-nil, length-append, arith}
+use Rattle.std.proofs.Common.{zero, suc, get_or, Equal, Greater, Vec, Global, ◌+◌, ◌<◌, ◌≤◌, length, append_assoc, append-nil, length-append, arith}
 use Rattle.std.specs.Str.Lines.{lines}
-use Rattle.std.specs.List.{list_any}
+use Rattle.std.specs.List.{Contains, list_any}
+use Rattle.std.proofs.lemmas.List.Elements.{All-append, All-cons, All-contains_itself, All-nil, Contains-append_cases, Contains-append_left, Contains-append_right}
+use Rattle.std.proofs.lemmas.List.Quantifiers.{all_pairs_push}
 use Rattle.std.specs.Option.{option_map}
 use Rattle.std.specs.Ordering.{nat_cmp, is_eq, eq_by_cmp, match_ordering}
 use Rattle.std.specs.Cmp.{tied_itself}
@@ -18,46 +20,56 @@ use Rattle.snmp_agent.specs.declared.table.error.TableError.{TableError}
 use Rattle.snmp_agent.specs.declared.table.error.TableError.TheVariants as error
 use Rattle.snmp_agent.specs.declared.table.row.RowValue.{RowValue}
 use Rattle.snmp_agent.specs.table.Row.{entry_of, datum_of}
-use Rattle.snmp_agent.specs.table.Text.{Statement, nothing, object_prefix, instance, States}
-use Rattle.snmp_agent.specs.table.Stated.{IsStated, AllState, IsNewName, NamesDiffer, AreGood, IsDouble, IsBehindGood, IsFirstFault}
+use Rattle.snmp_agent.specs.table.Form.{Statement, nothing, object_prefix, instance, States}
+use Rattle.snmp_agent.specs.table.Text.{AreTable, DifferInName, HasRow, IsGoodLine, IsRowLine, a_blank, a_prefix, a_row}
+use Rattle.snmp_agent.specs.table.Stated.{IsDouble, IsBehindGood, IsFirstFault}
 use Rattle.snmp_agent.specs.table.Draft.{entry_of_pair, row_of, HoldsTable, IsDraft, IsFaultBehind}
 use Rattle.snmp_agent.proofs.Rising.{same_name}
 
 -- ---- one more line
 
-pub stated_before : (before : List (List ℕ)) (line : List ℕ) (s : Statement) → IsStated before s → IsStated (before ++ line ∷ []) s
-stated_before [] line s h = absurd h
-stated_before (first ∷ before) line s (inl here) = inl here
-stated_before (first ∷ before) line s (inr later) = inr (stated_before before line s later)
+-- one of the lines states it: of an instance `HasRow`, of an object prefix `HasPrefix`
+abbrev IsStated : List (List ℕ) → Statement → Type 0
+IsStated lines s = (line : List ℕ) × Contains lines line × States line s
 
-pub stated_now : (before : List (List ℕ)) (line : List ℕ) (s : Statement) → States line s → IsStated (before ++ line ∷ []) s
-stated_now [] line s h = inl h
-stated_now (first ∷ before) line s h = inr (stated_now before line s h)
+stated_before : (before : List (List ℕ)) (line : List ℕ) (s : Statement) → IsStated before s → IsStated (before ++ line ∷ []) s
+stated_before before line s h = (h.0, Contains-append_left before (line ∷ []) h.0 h.1, h.2)
 
-pub stated_either : (before : List (List ℕ)) (line : List ℕ) (s : Statement) → IsStated (before ++ line ∷ []) s → IsStated before s ⊎ States line s
-stated_either [] line s (inl here) = inr here
-stated_either [] line s (inr later) = absurd later
-stated_either (first ∷ before) line s (inl here) = inl (inl here)
-stated_either (first ∷ before) line s (inr later) = elim (stated_either before line s later) [ inl old ↦ inl (inr old) | inr new ↦ inr new ]
+stated_now : (before : List (List ℕ)) (line : List ℕ) (s : Statement) → States line s → IsStated (before ++ line ∷ []) s
+stated_now before line s h = (line, Contains-append_right before (line ∷ []) line (0, omega arith, refl), h)
 
-all_state_more : (before : List (List ℕ)) (line : List ℕ) → AllState before → ((s : Statement) × States line s) → AllState (before ++ line ∷ [])
-all_state_more [] line h now = (now, tt)
-all_state_more (first ∷ before) line h now = (h.0, all_state_more before line h.1 now)
+the_only : (line other : List ℕ) (k : ℕ) → k < length (line ∷ []) → get_or (line ∷ []) k other ≡ other → other ≡ line
+the_only line other zero low at = sym at
+the_only line other (suc k) low at = absurd (omega arith)
 
-names_differ_more : (before : List (List ℕ)) (line : List ℕ) → NamesDiffer before → ((p : VarBind) → States line (instance p) → IsNewName before p.name)
-    → NamesDiffer (before ++ line ∷ [])
-names_differ_more [] line h fresh = (λ p stated q later same. later, tt)
-names_differ_more (first ∷ before) line h fresh = (
-  λ p stated q later same. elim (stated_either before line (instance q) later) [
-    | inl old ↦ h.0 p stated q old same
-    | inr now ↦ fresh q now p (inl stated) (sym same)
-  ],
-  names_differ_more before line h.1 (λ p stated q old same. fresh p stated q (inr old) same),
-)
+stated_either : (before : List (List ℕ)) (line : List ℕ) (s : Statement) → IsStated (before ++ line ∷ []) s → IsStated before s ⊎ States line s
+stated_either before line s h =
+    elim (Contains-append_cases before (line ∷ []) h.0 h.1) [
+      | inl old ↦ inl (h.0, old, h.2)
+      | inr new ↦ inr (subst (λ (l : List ℕ). States l s) (the_only line h.0 new.0 new.1 new.2) h.2)
+    ]
 
-good_more : (before : List (List ℕ)) (line : List ℕ) (s : Statement) → AreGood before → States line s → ((p : VarBind) → States line (instance p)
-    → IsNewName before p.name) → AreGood (before ++ line ∷ [])
-good_more before line s h states fresh = record { each = all_state_more before line h.each (s, states); differ = names_differ_more before line h.differ fresh }
+good_statement : (line : List ℕ) (s : Statement) → States line s → IsGoodLine line
+good_statement line nothing h = a_blank h
+good_statement line (object_prefix object) h = a_prefix object h
+good_statement line (instance row) h = a_row row h
+
+good_more : (before : List (List ℕ)) (line : List ℕ) (s : Statement) → AreTable before → States line s
+    → ((p : VarBind) → IsRowLine line p → (q : VarBind) → HasRow before q → q.name ≡ p.name → ⊥) → AreTable (before ++ line ∷ [])
+good_more before line s h states fresh = record {
+  each = All-append IsGoodLine before (line ∷ []) h.each (All-cons IsGoodLine line [] (good_statement line s states) (All-nil IsGoodLine));
+  differ = all_pairs_push DifferInName before line h.differ
+      (λ k d low row other is_row is_other. fresh other is_other row (get_or before k d, All-contains_itself before k d low, is_row));
+}
+
+-- a draft of no lines
+pub holds_none : HoldsTable [] [] []
+holds_none = record {
+  good = record { each = All-nil IsGoodLine; differ = λ i j d before within. absurd (omega (arith, before, within)) };
+  rising = tt;
+  rows = λ p. (λ found. (let no : ⊥ = cc in absurd no), λ h. absurd (omega (arith, h.1.1)));
+  prefixes = λ o. (λ found. (let no : ⊥ = cc in absurd no), λ h. absurd (omega (arith, h.1.1)));
+}
 
 -- what a line states when it states one thing alone
 abbrev pub StatesOnly : List ℕ → Statement → Type 0

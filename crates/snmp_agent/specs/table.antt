@@ -1,5 +1,6 @@
 pub mod Draft
 pub mod Exact
+pub mod Form
 pub mod Line
 pub mod Listing
 pub mod Places

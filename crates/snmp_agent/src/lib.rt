@@ -19,4 +19,6 @@ pub use config::{Config, Outcome, Why};
 pub use endpoint::{Endpoint, EndpointFault};
 pub use laws::one_reply;
 pub use server::{Served, serve, serve_at};
-pub use table::{Place, PutError, Table, TableError, no_fault, one_answer, one_table};
+pub use table::{
+    Place, PutError, Table, TableError, no_fault, one_answer, one_table, table_of_lines,
+};

@@ -13,5 +13,5 @@ mod table;
 mod value;
 
 pub use error::{PutError, TableError};
-pub use laws::{no_fault, one_answer, one_table};
+pub use laws::{no_fault, one_answer, one_table, table_of_lines};
 pub use table::{Place, Table};

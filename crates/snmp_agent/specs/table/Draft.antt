@@ -12,8 +12,9 @@ use Rattle.snmp_agent.specs.declared.table.error.TableError.TheVariants as error
 use Rattle.snmp_agent.specs.declared.table.row.Row.{Row}
 use Rattle.snmp_agent.specs.declared.table.row.RowValue.{RowValue}
 use Rattle.snmp_agent.specs.table.Row.{datum_of}
-use Rattle.snmp_agent.specs.table.Text.{object_prefix, instance, IsBadLine, IsBadName, IsBadValue}
-use Rattle.snmp_agent.specs.table.Stated.{IsStated, AreGood, IsDouble}
+use Rattle.snmp_agent.specs.table.Form.{IsBadLine, IsBadName, IsBadValue}
+use Rattle.snmp_agent.specs.table.Text.{AreTable, HasPrefix, HasRow}
+use Rattle.snmp_agent.specs.table.Stated.{IsDouble}
 
 abbrev pub entry_of_pair : Vec ℕ Global × RowValue → List ℕ × Datum
 entry_of_pair e = (e.0.items, datum_of e.1)
@@ -31,13 +32,12 @@ draft_objects draft = map (λ object. object.items) draft.objects.keys
 -- the lines are good, and the entries and object prefixes are those that they state
 pub record HoldsTable (lines : List (List ℕ)) (entries : List (List ℕ
     × Datum)) (objects : List (List ℕ)) : Type 0 where
-  pub good : AreGood lines
+  pub good : AreTable lines
   pub rising : T (is_sorted (slice_cmp nat_cmp) entries)
   pub rows : (p : VarBind)
-      → (find (slice_cmp nat_cmp) p.name entries ≡ Some p.value) ↔ IsStated lines (instance p)
+      → (find (slice_cmp nat_cmp) p.name entries ≡ Some p.value) ↔ HasRow lines p
   pub prefixes : (object : List ℕ)
-      → (list_any (eq_by_cmp (slice_cmp nat_cmp) object) objects ≡ true) ↔ IsStated lines
-      (object_prefix object)
+      → (list_any (eq_by_cmp (slice_cmp nat_cmp) object) objects ≡ true) ↔ HasPrefix lines object
 
 -- the draft has what the lines state
 abbrev pub IsDraft : List (List ℕ) → Draft → Type 0

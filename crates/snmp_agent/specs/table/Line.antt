@@ -9,9 +9,10 @@ use Rattle.snmp_agent.specs.declared.table.line.Form.{Form}
 use Rattle.snmp_agent.specs.declared.table.line.Form.TheVariants as form
 use Rattle.snmp_agent.specs.table.Row.{entry_of, tag_text}
 use Rattle.snmp_agent.specs.table.Places.{var_of}
-use Rattle.snmp_agent.specs.table.Text.{Statement, nothing, object_prefix, instance, IsBlank}
-use Rattle.snmp_agent.specs.table.Text.{IsObjectLine, IsRowLine, IsObjectText, IsInstanceText}
-use Rattle.snmp_agent.specs.table.Text.{IsValueText, IsBadLine, IsBadName, IsBadValue}
+use Rattle.snmp_agent.specs.table.Form.{Statement, nothing, object_prefix, instance}
+use Rattle.snmp_agent.specs.table.Form.{IsObjectForm, IsRowForm, IsObjectText, IsInstanceText}
+use Rattle.snmp_agent.specs.table.Form.{IsBadLine, IsBadName, IsBadValue}
+use Rattle.snmp_agent.specs.table.Text.{IsBlank, IsValueText}
 
 abbrev pub statement_of : Line → Statement
 statement_of line.Nothing = nothing
@@ -21,8 +22,8 @@ statement_of (line.Instance row) = instance (var_of (entry_of row))
 abbrev pub IsForm : List ℕ → Option Form → Type 0
 IsForm l None = IsBadLine l
 IsForm l (Some form.Blank) = IsBlank l
-IsForm l (Some (form.Object text)) = IsObjectLine l text.now
-IsForm l (Some (form.Row name tag text)) = IsRowLine l name.now (tag_text tag) text.now
+IsForm l (Some (form.Object text)) = IsObjectForm l text.now
+IsForm l (Some (form.Row name tag text)) = IsRowForm l name.now (tag_text tag) text.now
 
 -- the object prefix that a text names, or the fault
 abbrev pub IsObjectRead : List ℕ → Result Line LineFault → Type 0

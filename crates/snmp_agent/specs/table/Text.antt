@@ -1,8 +1,8 @@
--- The text of a table, in a format of this project's own: a statement on each line. Lines end with
--- LF, CR LF or the text, as those of Rust's `str::lines` do: a CR that no LF follows belongs to its
--- line.
+-- The text of a table, in a format of this project's own: each line is empty, a comment, the prefix
+-- of an object's instances, `object OID`, or a row, `OID|TAG|VALUE`. Lines end with LF, CR LF or the
+-- text, as those of Rust's `str::lines` do: a CR that no LF follows belongs to its line.
 use Rattle.std.specs.Prelude.{◌≡◌, ◌≢◌, ℕ, ℤ, pos, ◌^◌, ◌<◌, ◌≤◌, ◌⊎◌, true, List, [], ◌∷◌, ◌++◌}
-use Rattle.std.specs.Prelude.{length, codes, All, Contains, Ok, FitsSigned, neg_ℤ}
+use Rattle.std.specs.Prelude.{length, codes, All, AllPairs, Contains, Ok, FitsSigned, neg_ℤ}
 use Rattle.std.specs.Int.{w32}
 use Rattle.std.specs.Str.{all_ascii_digits}
 use Rattle.hex.specs.Hex.{decode_of}
@@ -14,12 +14,6 @@ use Rattle.snmp_wire.specs.Message.Datum.{ip_address, counter32, gauge32, time_t
 use Rattle.snmp_wire.specs.Message.Datum.{counter64, no_such_object, no_such_instance}
 use Rattle.snmp_wire.specs.Message.Datum.{end_of_mib_view}
 use Rattle.snmp_agent.specs.table.Table.{IsInstanceName, IsTableString}
-
--- what a line states: nothing, an object prefix, or an instance with its value
-pub data Statement : Type 0 where
-  nothing : Statement
-  object_prefix : List ℕ → Statement
-  instance : VarBind → Statement
 
 -- ---- values
 
@@ -66,10 +60,6 @@ IsValueText tag text no_such_object = ⊥
 IsValueText tag text no_such_instance = ⊥
 IsValueText tag text end_of_mib_view = ⊥
 
-abbrev pub IsTag : List ℕ → Type 0
-IsTag tag = Contains (codes "2" ∷ codes "4" ∷ codes "4x" ∷ codes "6" ∷ codes "64" ∷ codes "65" ∷
-    codes "66" ∷ codes "67" ∷ codes "68x" ∷ codes "70" ∷ []) tag
-
 -- ---- lines
 
 -- the octet of `|`
@@ -80,49 +70,46 @@ bar = 124
 abbrev pub IsBlank : List ℕ → Type 0
 IsBlank line = (line ≡ []) ⊎ ((comment : List ℕ) × (line ≡ codes "#" ++ comment))
 
-abbrev pub IsObjectLine : List ℕ → List ℕ → Type 0
-IsObjectLine line text = line ≡ codes "object " ++ text
+-- the line of this object prefix, which has a number at least
+abbrev pub IsPrefixLine : List ℕ → List ℕ → Type 0
+IsPrefixLine line object =
+    (text : List ℕ) × (line ≡ codes "object " ++ text) × IsName text object × (object ≢ [])
 
--- any other line with two bars: a name, a known tag, and a text, which may have more bars
-pub record IsRowLine (line name tag text : List ℕ) : Type 0 where
-  pub not_blank : IsBlank line → ⊥
-  pub no_object : (object : List ℕ) → IsObjectLine line object → ⊥
+-- the line of this row: the name of an instance, a tag, and the text of a value, which may have more
+-- bars
+pub record IsRowLine (line : List ℕ) (row : VarBind) : Type 0 where
+  pub name : List ℕ
+  pub tag : List ℕ
+  pub text : List ℕ
   pub parts : line ≡ name ++ bar ∷ tag ++ bar ∷ text
   pub name_ends : All (λ octet. octet ≢ bar) name
   pub tag_ends : All (λ octet. octet ≢ bar) tag
-  pub known : IsTag tag
+  pub named : IsName name row.name
+  pub instance_name : IsInstanceName row.name
+  pub valued : IsValueText tag text row.value
 
--- the name of an object prefix, which has a number at least
-abbrev pub IsObjectText : List ℕ → List ℕ → Type 0
-IsObjectText text o = IsName text o × (o ≢ [])
+-- a line of one of the four forms
+pub data IsGoodLine (line : List ℕ) : Type 0 where
+  a_blank : IsBlank line → IsGoodLine line
+  a_prefix : (object : List ℕ) → IsPrefixLine line object → IsGoodLine line
+  a_row : (row : VarBind) → IsRowLine line row → IsGoodLine line
 
-abbrev pub IsInstanceText : List ℕ → List ℕ → Type 0
-IsInstanceText text o = IsName text o × IsInstanceName o
+-- ---- tables
 
-abbrev pub States : List ℕ → Statement → Type 0
-States line nothing = IsBlank line
-States line (object_prefix o) = (text : List ℕ) × IsObjectLine line text × IsObjectText text o
-States line (instance p) = (name : List ℕ) × (tag : List ℕ) × (text : List ℕ)
-    × IsRowLine line name tag text × IsInstanceText name p.name × IsValueText tag text p.value
+-- one of the lines is that of this row
+abbrev pub HasRow : List (List ℕ) → VarBind → Type 0
+HasRow lines row = (line : List ℕ) × Contains lines line × IsRowLine line row
 
--- ---- faults of a line by itself
+-- one of the lines is that of this object prefix
+abbrev pub HasPrefix : List (List ℕ) → List ℕ → Type 0
+HasPrefix lines object = (line : List ℕ) × Contains lines line × IsPrefixLine line object
 
--- none of the three forms
-pub record IsBadLine (line : List ℕ) : Type 0 where
-  pub not_blank : IsBlank line → ⊥
-  pub no_object : (text : List ℕ) → IsObjectLine line text → ⊥
-  pub no_row : (name tag text : List ℕ) → IsRowLine line name tag text → ⊥
+-- where the two lines are rows, the rows have different names
+abbrev pub DifferInName : List ℕ → List ℕ → Type 0
+DifferInName line later =
+    (row other : VarBind) → IsRowLine line row → IsRowLine later other → row.name ≢ other.name
 
--- a name that names no object, or no instance
-abbrev pub IsBadName : List ℕ → Type 0
-IsBadName line =
-    ((text : List ℕ) × IsObjectLine line text × ((o : List ℕ) → IsObjectText text o → ⊥))
-    ⊎ ((name : List ℕ) × (tag : List ℕ) × (text : List ℕ) × IsRowLine line name tag text
-    × ((o : List ℕ) → IsInstanceText name o → ⊥))
-
--- a good name, and a text that states no value of the tag
-abbrev pub IsBadValue : List ℕ → Type 0
-IsBadValue line =
-    (name : List ℕ) × (tag : List ℕ) × (text : List ℕ) × IsRowLine line name tag text
-    × ((o : List ℕ) × IsInstanceText name o) × ((value : Datum) → IsValueText tag text value
-    → ⊥)
+-- lines that state a table: each is good, and no two are rows of one name
+pub record AreTable (lines : List (List ℕ)) : Type 0 where
+  pub each : All IsGoodLine lines
+  pub differ : AllPairs DifferInName lines

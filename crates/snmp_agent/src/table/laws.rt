@@ -2,10 +2,19 @@
 ghost use Rattle.std.specs.Prelude.{◌≡◌, ℕ, List};
 ghost use Rattle.snmp_agent.specs.table.Exact.{HasOne};
 ghost use Rattle.snmp_agent.specs.table.Stated.{IsTableOf, IsFirstFault};
-ghost use Rattle.snmp_agent.specs.table.Table.{MibView, IsGet, IsNext, IsNextAfter};
+ghost use Rattle.snmp_agent.specs.table.Table.{MibView, IsGet, IsMibView, IsNext, IsNextAfter};
+ghost use Rattle.snmp_agent.specs.table.Text.{AreTable};
 
 use crate::table::error::TableError;
-use snmp_oid::order;
+use snmp_oid::{names, order};
+
+/// Good lines state a table, which is a MIB view.
+pub fn table_of_lines()
+    ensures { (lines : List (List ℕ)) → AreTable lines
+        → (view : MibView) × IsTableOf lines view × IsMibView view }
+{
+    names();
+}
 
 /// Lines state one table at most.
 pub fn one_table()

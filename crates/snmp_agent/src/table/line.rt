@@ -2,9 +2,10 @@
 ghost use Rattle.std.specs.Prelude.{◌≡◌, ℕ, List, IfOk, IfErr};
 ghost use Rattle.snmp_agent.specs.table.Exact.{IsOnly};
 ghost use Rattle.snmp_agent.specs.table.Row.{tag_text};
-ghost use Rattle.snmp_agent.specs.table.Text.{Statement, States, IsBlank, IsObjectLine, IsInstanceText};
+ghost use Rattle.snmp_agent.specs.table.Form.{Statement, States, IsInstanceText, IsObjectForm};
 ghost use Rattle.snmp_agent.specs.table.Line.{IsForm, IsObjectRead, IsInstanceRead, IsLineFault};
 ghost use Rattle.snmp_agent.specs.table.Line.{statement_of};
+ghost use Rattle.snmp_agent.specs.table.Text.{IsBlank};
 
 use crate::table::change::is_instance_name;
 use crate::table::row::Row;
@@ -96,7 +97,7 @@ fn form_of(line: &[u8]) -> Option<Form<'_>>
 /// tag between them is unknown.
 fn row_form(line: &[u8]) -> Option<Form<'_>>
     requires not_blank { IsBlank line.now → ⊥ }
-    requires no_object { (text : List ℕ) → IsObjectLine line.now text → ⊥ }
+    requires no_object { (text : List ℕ) → IsObjectForm line.now text → ⊥ }
     ensures { IsForm line.now result }
 {
     let (name, behind) = split_once(line, b'|')?;

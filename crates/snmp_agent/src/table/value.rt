@@ -32,7 +32,7 @@ pub enum Tag {
 
 impl Tag {
     ghost use Rattle.std.specs.Prelude.{◌≡◌, MatchOption};
-    ghost use Rattle.snmp_agent.specs.table.Text.{IsTag};
+    ghost use Rattle.snmp_agent.specs.table.Form.{IsTag};
     ghost use Rattle.snmp_agent.specs.table.Row.{tag_text};
 
     /// The tag that a text names.

@@ -2,7 +2,8 @@ use Rattle.std.proofs.Common.{◌≡◌, ℕ, List, Some, sym, ◌∙◌, subst}
 use Rattle.std.specs.Option.{option_map}
 use Rattle.snmp_agent.specs.table.Exact.{IsOnly}
 use Rattle.snmp_agent.specs.table.Row.{datum_of, tag_text}
-use Rattle.snmp_agent.specs.table.Text.{IsInstanceText, IsValueText}
+use Rattle.snmp_agent.specs.table.Form.{IsInstanceText}
+use Rattle.snmp_agent.specs.table.Text.{IsValueText}
 use Rattle.snmp_agent.proofs.table.line.instance.Goals as goal
 
 pub returns-in_ok-from_slice-in-Some-2 : goal.returns-in_ok-from_slice-in-Some-2

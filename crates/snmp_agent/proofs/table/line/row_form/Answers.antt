@@ -1,5 +1,5 @@
 use Rattle.std.proofs.Common.{◌≡◌, subst}
-use Rattle.snmp_agent.specs.table.Text.{IsTag}
+use Rattle.snmp_agent.specs.table.Form.{IsTag}
 use Rattle.snmp_agent.specs.table.Row.{tag_text}
 use Rattle.snmp_agent.proofs.Cuts.{HasNoBar}
 use Rattle.snmp_agent.proofs.Statements.{tag_known, no_row_without_bar, no_row_with_one_bar, same_parts, row_parts}

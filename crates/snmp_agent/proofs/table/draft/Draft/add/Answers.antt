@@ -7,7 +7,7 @@ use Rattle.std.specs.FinMap.{find}
 use Rattle.snmp_wire.specs.Message.{Datum}
 use Rattle.snmp_agent.specs.table.Row.{entry_of, datum_of}
 use Rattle.snmp_agent.specs.table.Places.{var_of}
-use Rattle.snmp_agent.specs.table.Text.{States, nothing, object_prefix, instance}
+use Rattle.snmp_agent.specs.table.Form.{States, nothing, object_prefix, instance}
 use Rattle.snmp_agent.specs.table.Draft.{HoldsTable, draft_entries, draft_objects, entry_of_pair}
 use Rattle.snmp_agent.proofs.TableDrafts.{StatesOnly, holds_nothing, holds_object, holds_instance, double, entries-insert, find-lookup, list_any-insert}
 use Rattle.snmp_agent.proofs.table.draft.Draft.add.Goals as goal

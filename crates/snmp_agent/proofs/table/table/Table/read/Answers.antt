@@ -48,7 +48,7 @@ invariant_of-result c =
 pub returns-in-Ok-clause-table : goal.returns-in-Ok-clause-table
 returns-in-Ok-clause-table c =
     let end : c.lines.rest.now ≡ [] = nothing_left c.lines.rest.now c.is_empty.result c.is_empty.ensures c.lines-test.false in
-    table_of (lines c.args.text.now) c.in-Ok.rows.items (map (λ o. o.items) c.in-Ok.objects.keys)
+    table_of (lines c.args.text.now) (map entry_of c.in-Ok.rows.items) (map (λ o. o.items) c.in-Ok.objects.keys)
     (held c.args.text.now c.lines.rest.now c.lines.draft c.lines.number c.in-Ok.rows.items (map
     (λ o. o.items) c.in-Ok.objects.keys) c.lines.invariant end c.in-Ok.ensures.rows
     (ap (λ objects. map (λ o. o.items) objects.keys) c.in-Ok.ensures.objects))
