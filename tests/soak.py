@@ -4,9 +4,9 @@ delays and mutates datagrams in both directions. It isn't a part of the gate.
 
 usage: soak.py [--seconds N] [--seed S]
 
-A walk prints all rows, or the first of them and that the agent fell silent; where a mutated reply was still a
-reply to some request, whole lines whose names rise below the root, and one stated end. The counts come at the
-end, and the last line is 'N passed, M failed'.
+A walk prints all rows, or the first of them and that the agent fell silent; where a mutated request or reply was
+still a message, whole lines whose names rise below the root, and one stated end. The counts come at the end, and
+the last line is 'N passed, M failed'.
 """
 import argparse
 import collections
@@ -71,11 +71,12 @@ class Relay:
                 due += [(time.monotonic() + wait, end, datagram, it) for wait, it in self.fate(datagram)]
             now = time.monotonic()
             for _, end, datagram, it in [entry for entry in due if entry[0] <= now]:
+                # A mutated request may be one for another name, whose reply has the id that is waited for.
+                self.tainted |= it != datagram and is_message(it)
                 try:
                     if end is self.door:
                         self.back.send(it)
                     else:
-                        self.tainted |= it != datagram and is_reply(it)
                         self.replies.append(it)
                         self.door.sendto(it, walker)
                 except OSError:
@@ -83,13 +84,13 @@ class Relay:
             due = [entry for entry in due if entry[0] > now]
 
 
-def is_reply(datagram):
-    """Whether a datagram is a reply to some request of a walker, as far as this script reads it."""
+def is_message(datagram):
+    """Whether a datagram is a message that snmpd or a walker takes for one, as far as this script reads it."""
     try:
         it = read(datagram)
     except Exception:
         return False
-    return (it.version, it.community, it.kind) == (1, b"public", RESPONSE)
+    return (it.version, it.community) == (1, b"public")
 
 
 def walk(seed):
@@ -114,10 +115,10 @@ def walk(seed):
     broken = ran[:3] == (1, "".join(lines[:ran.output.count("\n")]), SILENT)
     wrong = "" if whole or broken else f"seed {seed}: {words}: {ran}"
     if wrong and relay.tainted:
-        sent = [(read(it), it) for it in relay.replies if is_reply(it)]
+        sent = [(read(it), it) for it in relay.replies if is_message(it)]
         wrong = "; ".join(faults_of(words, ran, sent))
         wrong = wrong and f"seed {seed}: {words}: {wrong}"
-    end = "whole" if whole else "silent after its first rows" if broken else "by what a mutated reply says"
+    end = "whole" if whole else "silent after its first rows" if broken else "by what a mutated message says"
     return wrong, end, relay.counts
 
 
