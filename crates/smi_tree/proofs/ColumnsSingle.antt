@@ -24,11 +24,11 @@ use Rattle.smi_tree.proofs.Indexing.{index_once}
 
 fixed_once : (sizes : Option (List Range)) (n m : ℕ) → IsFixedSize sizes n → IsFixedSize sizes m → n ≡ m
 fixed_once sizes n m a b =
-    let one = a.alone in
-    let other = b.alone in
+    let one = a.only in
+    let other = b.only in
     let same : a.range ≡ b.range = cc in
-    let from = rw same at a.single.from in
-    let also = b.single.from in
+    let states = rw same at a.single.states in
+    let also = b.single.states in
     cc
 
 extent_once : (sizes : Option (List Range)) (implied : Bool) (e f : Extent) → HasExtent sizes implied e → HasExtent sizes implied f → e ≡ f

@@ -127,7 +127,7 @@ static COLUMNS: [Row<'static>; 8] = [
 ];
 
 /// What stands before an index object, its type, and the part for it.
-static PARTS: [(&str, &str, Option<IndexPart>); 27] = [
+static PARTS: [(&str, &str, Option<IndexPart>); 28] = [
     ("", "INTEGER", Some(NUMBER)),
     ("", "INTEGER { up(1) }", Some(NUMBER)),
     ("IMPLIED", "Integer32 (0..9)", Some(NUMBER)),
@@ -147,7 +147,9 @@ static PARTS: [(&str, &str, Option<IndexPart>); 27] = [
     ("IMPLIED", "OCTET STRING", Some(IMPLIED_TEXT)),
     ("", "OCTET STRING (SIZE (6))", Some(SIX)),
     ("IMPLIED", "OCTET STRING (SIZE (6))", Some(SIX)),
-    ("", "OCTET STRING (SIZE (6..6))", Some(SIX)),
+    // A range, though of one length.
+    ("", "OCTET STRING (SIZE (6..6))", Some(TEXT)),
+    ("IMPLIED", "OCTET STRING (SIZE (6..6))", Some(IMPLIED_TEXT)),
     ("", "OCTET STRING (SIZE ('06'H))", Some(SIX)),
     ("", "OCTET STRING (SIZE (0..32))", Some(TEXT)),
     ("IMPLIED", "OCTET STRING (SIZE (1..32))", Some(IMPLIED_TEXT)),

@@ -18,7 +18,11 @@ const MAC: &str = "1.3.6.1.4.1.32473.2.1.2.3.119.101.115";
 const USE: &str = "1.3.6.1.4.1.32473.3.1.1.119.101.115";
 
 fn tiny(alloc: Global) -> Result<Tree, Fail> {
-    let (tree, _warnings) = Tree::load(alloc, parse_modules(alloc, TINY)?)?;
+    loaded(alloc, TINY)
+}
+
+fn loaded(alloc: Global, text: &[u8]) -> Result<Tree, Fail> {
+    let (tree, _warnings) = Tree::load(alloc, parse_modules(alloc, text)?)?;
     Ok(tree)
 }
 
@@ -124,6 +128,36 @@ fn is_shown(
     let mut text = Vec::new(alloc);
     name_text(tree, &letters_of(letters)?, &oid(name)?, &mut text)?;
     Ok(text.as_slice() == expected.as_bytes())
+}
+
+/// A row of strings whose SIZE is a number, a range from that number to itself, and a literal.
+const SIZES: &[u8] = b"M DEFINITIONS ::= BEGIN
+row OBJECT-TYPE SYNTAX Row MAX-ACCESS not-accessible STATUS current DESCRIPTION \"\"
+  INDEX { fixed, ranged, literal } ::= { iso 1 }
+fixed OBJECT-TYPE SYNTAX OCTET STRING (SIZE (2)) MAX-ACCESS read-only STATUS current
+  DESCRIPTION \"\" ::= { row 1 }
+ranged OBJECT-TYPE SYNTAX OCTET STRING (SIZE (2..2)) MAX-ACCESS read-only STATUS current
+  DESCRIPTION \"\" ::= { row 2 }
+literal OBJECT-TYPE SYNTAX OCTET STRING (SIZE ('02'H)) MAX-ACCESS read-only STATUS current
+  DESCRIPTION \"\" ::= { row 3 }
+END
+";
+
+#[test]
+fn only_a_single_bound_has_no_length(rt: HostRuntime) -> Result<(), Fail> {
+    let tree = loaded(rt.alloc(), SIZES)?;
+    assert_sizes(&rt, rt.alloc(), &tree)
+}
+
+fn assert_sizes(rt: &impl Abort, alloc: Global, tree: &Tree) -> Result<(), Fail> {
+    let numbers = "1.1.1.97.98.2.99.100.101.102";
+    let text = "M::fixed.'ab'.\"cd\".'ef'";
+    assert!(rt; is_shown(alloc, tree, "", numbers, text)?);
+    assert!(rt; means(tree, text.as_bytes(), &oid(numbers)?));
+    // Without its length `cd` is no index.
+    let numbers = "1.1.1.97.98.99.100.101.102";
+    assert!(rt; is_shown(alloc, tree, "", numbers, "M::fixed.97.98.99.100.101.102")?);
+    Ok(())
 }
 
 #[test]

@@ -11,6 +11,7 @@ use Rattle.std.specs.Prelude.{
   ◌∷◌,
   Option,
   Some,
+  None,
   if◌then◌else◌,
 }
 use Rattle.smi_show.specs.declared.index.part.Extent.{Extent}
@@ -27,16 +28,16 @@ use Rattle.smi_tree.specs.declared.types.base.TypeBase.TheVariants as T
 abbrev pub StatesBound : TokenText → ℕ → Type 0
 StatesBound t n = bound_in t.kind t.text ≡ Some (pos n)
 
--- the range goes from n to n
-pub record IsSingle (range : Range) (n : ℕ) : Type 0 where
-  pub from : StatesBound range.low n
-  pub to : (high : TokenText) → range.high ≡ Some high → StatesBound high n
+-- the range is one bound alone, and states this number; `n..n` is no single bound
+pub record IsSingleBound (range : Range) (n : ℕ) : Type 0 where
+  pub states : StatesBound range.low n
+  pub alone : range.high ≡ None
 
--- a SIZE that only n meets: one range, from n to n
+-- a fixed SIZE: a single bound and nothing else
 pub record IsFixedSize (sizes : Option (List Range)) (n : ℕ) : Type 0 where
   pub range : Range
-  pub alone : sizes ≡ Some (range ∷ [])
-  pub single : IsSingle range n
+  pub only : sizes ≡ Some (range ∷ [])
+  pub single : IsSingleBound range n
 
 abbrev pub HasNoFixedSize : Option (List Range) → Type 0
 HasNoFixedSize sizes = (n : ℕ) → IsFixedSize sizes n → ⊥

@@ -2,7 +2,7 @@
 ghost use Rattle.std.specs.Prelude.{ℕ, MatchOption};
 ghost use Rattle.std.specs.Option.{option_copied};
 ghost use Rattle.smi_show.specs.declared.index.part.IndexPart.{IndexPart};
-ghost use Rattle.smi_tree.specs.columns.Parts.{StatesBound, IsSingle, IsFixedSize, HasExtent};
+ghost use Rattle.smi_tree.specs.columns.Parts.{StatesBound, IsSingleBound, IsFixedSize, HasExtent};
 ghost use Rattle.smi_tree.specs.columns.Parts.{HasNoFixedSize, IsPartOf};
 
 use crate::types::TypeBase;
@@ -18,19 +18,19 @@ fn number(end: &TokenText) -> Option<u64>
     if value < 0 { None } else { Some(value as u64) }
 }
 
-/// The number that a range goes from and to, if these are the same.
+/// The number of a single bound; None for a range, also from a number to itself.
 fn single(range: &Range) -> Option<u64>
-    ensures { MatchOption result ((n : ℕ) → IsSingle range.now n → ⊥) (λ n. IsSingle range.now n) }
+    ensures { MatchOption result
+        ((n : ℕ) → IsSingleBound range.now n → ⊥)
+        (λ n. IsSingleBound range.now n) }
 {
-    let from = number(&range.low)?;
-    let to = match &range.high {
-        Some(high) => number(high)?,
-        None => from,
-    };
-    if from == to { Some(from) } else { None }
+    match range.high {
+        Some(_) => None,
+        None => number(&range.low),
+    }
 }
 
-/// The number that a SIZE fixes, if only one meets it.
+/// The number that a SIZE fixes, if it is a single bound.
 fn fixed_size(sizes: Option<&[Range]>) -> Option<u64>
     ensures { let given = option_copied sizes.entry in
         MatchOption result (HasNoFixedSize given) (λ n. IsFixedSize given n) }
