@@ -1,7 +1,7 @@
 -- The pieces that show numbers: what one more value adds, and that the pieces stand for the numbers shown.
 use Rattle.std.proofs.Common.{◌≡◌, ◌≢◌, ℕ, ◌+◌, ◌<◌, ◌^◌, Bool, true, false, not, ◌&&◌, cond}
 use Rattle.std.proofs.Common.{nat_eq, List, [], ◌∷◌, ◌++◌, length, drop, get_or, Option, Some, None}
-use Rattle.std.proofs.Common.{option_map, unwrap_or, All, refl, sym, ◌∙◌, ap, subst}
+use Rattle.std.proofs.Common.{option_map, unwrap_or, All, inl, inr, refl, sym, ◌∙◌, ap, subst}
 use Rattle.std.specs.List.{list_all, flat_map}
 use Rattle.std.proofs.lemmas.Grind.{flat_map-append}
 use Rattle.std.proofs.lemmas.List.{at_drop_more, append-nil}
@@ -13,11 +13,11 @@ use Rattle.smi_show.specs.declared.index.part.IndexPart.{IndexPart}
 use Rattle.smi_show.specs.declared.index.part.IndexPart.TheVariants.{Number, Address, Text, Octets}
 use Rattle.smi_show.specs.declared.index.part.IndexPart.TheVariants.{Identifier, ImpliedIdentifier}
 use Rattle.smi_show.specs.index.Index.{IsInExtent, IsEncoding, ReadsValue, ReadValues}
-use Rattle.smi_show.specs.index.Reading.{front_of, values_of}
-use Rattle.smi_show.specs.index.Pieces.{plain_number, is_quotable, is_shown_text, piece_numbers, IsPiece}
+use Rattle.smi_show.specs.index.Reading.{front_of, values_of, instance_pieces}
+use Rattle.smi_show.specs.index.Pieces.{Piece, plain_number, is_quotable, is_shown_text, piece_numbers, IsPiece}
 use Rattle.smi_show.specs.index.Pieces.{dotted_text, shown_pieces, as_numbers, as_text, extent_numbers}
-use Rattle.smi_show.specs.index.Pieces.{value_numbers, value_pieces, index_pieces, instance_pieces}
-use Rattle.smi_show.proofs.ReadingLemmas.{all_found, first_value}
+use Rattle.smi_show.specs.index.Pieces.{value_numbers, value_pieces, index_pieces, AreInstancePieces}
+use Rattle.smi_show.proofs.ReadingLemmas.{all_found, all_only, first_value}
 
 -- the first of the values that are left
 pub record IsNextValue (parts : List IndexPart) (i : ℕ) (value rest : List ℕ) (ahead : List (List ℕ)) : Type 0 where
@@ -166,3 +166,29 @@ either_each parts numbers (Some values) is all = index_each parts numbers values
 pub each : (index : Option (List IndexPart)) (numbers : List ℕ) → All IsNumber numbers → All IsPiece (instance_pieces index numbers)
 each None numbers all = are_numbers numbers all
 each (Some parts) numbers all = either_each parts numbers (values_of parts numbers) refl all
+
+-- the pieces that are computed are those of the numbers, and there are no others
+abbrev pieces_by : List IndexPart → List ℕ → Option (List (List ℕ)) → List Piece
+pieces_by parts numbers read = unwrap_or (option_map (index_pieces parts) read) (as_numbers numbers)
+
+read_stated : (parts : List IndexPart) (numbers : List ℕ) (read : Option (List (List ℕ))) → values_of parts numbers ≡ read
+    → AreInstancePieces (Some parts) numbers (pieces_by parts numbers read)
+read_stated parts numbers None is = inr (λ values h. (let some = all_only parts numbers values h in let no : ⊥ = cc in no), refl)
+read_stated parts numbers (Some values) is = inl (values, all_found parts numbers values is, refl)
+
+pub pieces_stated : (index : Option (List IndexPart)) (numbers : List ℕ) → AreInstancePieces index numbers (instance_pieces index numbers)
+pieces_stated None numbers = refl
+pieces_stated (Some parts) numbers = read_stated parts numbers (values_of parts numbers) refl
+
+read_only : (parts : List IndexPart) (numbers : List ℕ) (pieces : List Piece) (read : Option (List (List ℕ))) → values_of parts numbers ≡ read
+    → AreInstancePieces (Some parts) numbers pieces → pieces ≡ pieces_by parts numbers read
+read_only parts numbers pieces None is (inl h) = let some = all_only parts numbers h.0 h.1 in let no : ⊥ = cc in absurd no
+read_only parts numbers pieces None is (inr h) = h.1
+read_only parts numbers pieces (Some values) is (inl h) =
+    let same : h.0 ≡ values = (let some = all_only parts numbers h.0 h.1 in cc) in h.2 ∙ ap (index_pieces parts) same
+read_only parts numbers pieces (Some values) is (inr h) = absurd (h.0 values (all_found parts numbers values is))
+
+pub pieces_only : (index : Option (List IndexPart)) (numbers : List ℕ) (pieces : List Piece) → AreInstancePieces index numbers pieces
+    → pieces ≡ instance_pieces index numbers
+pieces_only None numbers pieces h = h
+pieces_only (Some parts) numbers pieces h = read_only parts numbers pieces (values_of parts numbers) refl h

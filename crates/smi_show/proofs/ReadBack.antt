@@ -45,7 +45,8 @@ use Rattle.snmp_oid.specs.Identifier.{IsIdentifier}
 use Rattle.snmp_oid.specs.Numeric.{IsNumeral, IsNumericName, numeric_text, dot}
 use Rattle.smi_text.specs.trees.Word.{is_word}
 use Rattle.smi_show.specs.declared.index.part.IndexPart.{IndexPart}
-use Rattle.smi_show.specs.index.Pieces.{Piece, plain_number, piece_numbers, IsPiece, shown_piece, shown_pieces, as_numbers, instance_pieces}
+use Rattle.smi_show.specs.index.Pieces.{Piece, plain_number, piece_numbers, IsPiece, shown_piece, shown_pieces, as_numbers}
+use Rattle.smi_show.specs.index.Reading.{instance_pieces}
 use Rattle.smi_show.specs.declared.name.error.NameError.{NameError}
 use Rattle.smi_value.specs.declared.letters.letters.NameForm.{NameForm}
 use Rattle.smi_value.specs.declared.letters.letters.NameForm.TheVariants.{Numeric, Full, Label, ModuleLabel}
@@ -70,7 +71,8 @@ use Rattle.smi_show.specs.name.Meaning.{
   scoped_meaning,
   meaning,
 }
-use Rattle.smi_show.specs.name.Name.{qualified, standing_text, name_text, ReadsBack}
+use Rattle.smi_show.specs.name.Name.{qualified, ReadsBack}
+use Rattle.smi_show.specs.name.Shown.{standing_text, name_text}
 use Rattle.smi_show.proofs.PlainLemmas.{plain_word, plain_digits, plain_word_begins}
 use Rattle.smi_show.proofs.ShownLemmas.{plain_is_whole, piece_is_whole, joined_parts, joined_module}
 use Rattle.smi_show.proofs.WordLemmas.{piece_word, label_word}

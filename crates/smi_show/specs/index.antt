@@ -1,3 +1,3 @@
 pub mod Index
-pub mod Reading
 pub mod Pieces
+pub mod Reading

@@ -6,4 +6,5 @@ pub mod Word
 pub mod Meaning
 pub mod Part
 pub mod Name
+pub mod Shown
 pub mod Meant

@@ -1,13 +1,16 @@
 //! The value of a binding, and its line.
-ghost use Rattle.std.specs.Prelude.{◌≡◌, ℕ, List, ◌++◌, codes, OnOk, OnErr};
+ghost use Rattle.std.specs.Prelude.{◌≡◌, ℕ, List, ◌++◌, codes, Option, OnOk, OnErr};
 ghost use Rattle.snmp_io.specs.draft.Draft.{Adds};
-ghost use Rattle.snmp_wire.specs.ber.Value.{datum};
+ghost use Rattle.snmp_wire.specs.ber.Value.{Datum, datum};
 ghost use Rattle.smi_value.specs.Value.{ShowsValue};
-ghost use Rattle.smi_show.specs.Line.{IsLine, front_text, names_by, separator};
+ghost use Rattle.smi_value.specs.declared.letters.letters.Letters.{Letters};
+ghost use Rattle.smi_value.specs.Syntax.{ObjectSyntax};
+ghost use Rattle.smi_show.specs.name.Naming.{Naming};
+ghost use Rattle.smi_show.specs.Line.{IsLine, IsValueText, front_text, names_by, separator};
 
 use crate::ShowTree;
 use crate::name::name_text;
-use smi_value::{Letters, TypeForm, append_identifier_word, append_value};
+use smi_value::{Letters, TypeForm, append_identifier_word, append_value, one_value_by_names};
 use snmp_io::Draft;
 use snmp_oid::Oid;
 use snmp_wire::ValueRef;
@@ -22,9 +25,9 @@ pub fn value_text<T: ShowTree>(
     value: &ValueRef<'_>,
     out: &mut Vec<u8>,
 ) -> Result<(), AllocError>
-    ensures ok { let names = names_by (T.naming tree.now) letters.now in
+    ensures ok { let syntax = T.syntax_at tree.now name.now in
         OnOk result ((text : List ℕ)
-        × ShowsValue names letters.now (T.syntax_at tree.now name.now) (datum value.now) text
+        × IsValueText (T.naming tree.now) letters.now syntax (datum value.now) text
         × (out.new.items ≡ out.old.items ++ text)) }
     ensures unchanged_on_error { OnErr result (out.new.items ≡ out.old.items) }
 {
@@ -51,6 +54,30 @@ pub fn line<T: ShowTree>(
     let mut draft = Draft::after(out);
     append_line(tree, letters, name, value, &mut draft);
     draft.finish(out)
+}
+
+/// A value has one text, by the letters and the syntax of its object.
+///
+/// A law: the call does nothing, and its caller may use what it ensures.
+pub fn one_value()
+    ensures { (naming : Naming) (letters : Letters) (syntax : Option ObjectSyntax)
+        (value : Datum) (text other : List ℕ)
+        → IsValueText naming letters syntax value text
+        → IsValueText naming letters syntax value other → text ≡ other }
+{
+    one_value_by_names();
+}
+
+/// A binding has one line, by the letters and the syntax of its object.
+///
+/// A law: the call does nothing, and its caller may use what it ensures.
+pub fn one_line()
+    ensures { (naming : Naming) (letters : Letters) (syntax : Option ObjectSyntax)
+        (name : List ℕ) (value : Datum) (text other : List ℕ)
+        → IsLine naming letters syntax name value text
+        → IsLine naming letters syntax name value other → text ≡ other }
+{
+    one_value();
 }
 
 /// The line of a binding.

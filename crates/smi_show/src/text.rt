@@ -1,7 +1,7 @@
 //! A name, and the details of an identifier.
-ghost use Rattle.std.specs.Prelude.{◌≡◌, ◌++◌, OnOk, OnErr};
-ghost use Rattle.smi_show.specs.details.Detail.{detail_text};
-ghost use Rattle.smi_show.specs.Line.{names_by};
+ghost use Rattle.std.specs.Prelude.{◌≡◌, ◌++◌, List, ℕ, OnOk, OnErr};
+ghost use Rattle.smi_show.specs.details.Detail.{IsDetail};
+ghost use Rattle.smi_show.specs.name.Name.{IsName};
 
 use crate::details::{DetailTree, detail_text};
 use crate::name::NameTree;
@@ -17,8 +17,10 @@ pub fn name_text<T: NameTree>(
     oid: &Oid,
     out: &mut Vec<u8>,
 ) -> Result<(), AllocError>
-    ensures ok { let text = names_by (T.naming tree.now) letters.now oid.now in
-        OnOk result (out.new.items ≡ out.old.items ++ text) }
+    ensures ok { let form = letters.now.names in
+        let index = letters.now.numeric_index in
+        OnOk result ((text : List ℕ) × IsName (T.naming tree.now) form index oid.now text
+        × (out.new.items ≡ out.old.items ++ text)) }
     ensures unchanged_on_error { OnErr result (out.new.items ≡ out.old.items) }
 {
     let mut draft = Draft::after(out);
@@ -37,8 +39,9 @@ pub fn detail<T: DetailTree>(
     ensures ok { let definition = T.definition_at tree.now oid.now in
         let form = letters.now.names in
         let index = letters.now.numeric_index in
-        let text = detail_text (T.naming tree.now) definition form index oid.now in
-        OnOk result (out.new.items ≡ out.old.items ++ text) }
+        OnOk result ((text : List ℕ)
+        × IsDetail (T.naming tree.now) definition form index oid.now text
+        × (out.new.items ≡ out.old.items ++ text)) }
     ensures unchanged_on_error { OnErr result (out.new.items ≡ out.old.items) }
 {
     let mut draft = Draft::after(out);

@@ -1,11 +1,12 @@
 -- The details of an identifier: its name, the definition of its deepest node, and the identifier as
 -- a value.
-use Rattle.std.specs.Prelude.{ℕ, Bool, List, [], ◌++◌, codes, Option, Some, None}
+use Rattle.std.specs.Prelude.{◌≡◌, ℕ, Bool, List, [], ◌++◌, codes, Option, Some, None}
 use Rattle.smi_value.specs.declared.letters.letters.NameForm.{NameForm}
 use Rattle.smi_text.specs.declared.trees.tree.Def.{Def}
 use Rattle.smi_text.specs.trees.Lookup.{kind_words}
 use Rattle.smi_show.specs.name.Naming.{Naming, Standing}
-use Rattle.smi_show.specs.name.Name.{name_text}
+use Rattle.smi_show.specs.name.Name.{IsName}
+use Rattle.smi_show.specs.name.Shown.{name_text}
 use Rattle.smi_show.specs.details.Definition.{definition_text}
 use Rattle.smi_show.specs.details.Value.{identifier_text}
 
@@ -28,6 +29,15 @@ node_detail (Some node) definition =
     node.label ++ codes " " ++ kind_text definition ++ codes "\n" ++ from_text node.home
     ++ clauses_text definition
 
+-- the name, what is said of the deepest node, and the identifier as a value
+pub record IsDetail (naming : Naming) (definition : Option Def) (form : NameForm)
+    (numeric_index : Bool) (o text : List ℕ) : Type 0 where
+  pub name : List ℕ
+  pub is_name : IsName naming form numeric_index o name
+  pub whole : text ≡ name ++ codes "\n" ++ node_detail (naming.deepest o) definition
+      ++ identifier_text naming o
+
+-- computed, for private clauses
 abbrev pub detail_text : Naming → Option Def → NameForm → Bool → List ℕ → List ℕ
 detail_text naming definition form numeric_index o =
     name_text naming form numeric_index o ++ codes "\n"

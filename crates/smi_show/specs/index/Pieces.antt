@@ -1,10 +1,10 @@
 -- The instance part of a name as text: pieces, each after a dot. A piece is a number, or a text in
 -- quotes: double ones stand for its length and its octets, single ones for its octets alone.
-use Rattle.std.specs.Prelude.{◌≢◌, ℕ, ◌<◌, ◌^◌, Bool, not, ◌&&◌, ◌||◌, ◌==◌, nat_le, if◌then◌else◌}
+use Rattle.std.specs.Prelude.{◌≡◌, ◌≢◌, ℕ, ◌<◌, ◌^◌, Bool, not, ◌&&◌, ◌||◌, ◌==◌, nat_le, ◌⊎◌}
 use Rattle.std.specs.Prelude.{List, [], ◌∷◌, ◌++◌, length, map, decimal, codes, Option, Some, None}
-use Rattle.std.specs.Prelude.{option_map, unwrap_or, IsTrue}
+use Rattle.std.specs.Prelude.{if◌then◌else◌, IsTrue}
 use Rattle.std.specs.List.{flat_map, list_all}
-use Rattle.smi_show.specs.index.Reading.{values_of}
+use Rattle.smi_show.specs.index.Index.{ReadValues}
 use Rattle.smi_show.specs.declared.index.part.Extent.{Extent}
 use Rattle.smi_show.specs.declared.index.part.Extent.TheVariants.{Fixed, Counted, Implied}
 use Rattle.smi_show.specs.declared.index.part.IndexPart.{IndexPart}
@@ -89,8 +89,12 @@ index_pieces [] values = []
 index_pieces (part ∷ parts) [] = []
 index_pieces (part ∷ parts) (value ∷ values) = value_pieces part value ++ index_pieces parts values
 
--- the numbers after a node: by its index if that reads all of them, otherwise as numbers
-abbrev pub instance_pieces : Option (List IndexPart) → List ℕ → List Piece
-instance_pieces None numbers = as_numbers numbers
-instance_pieces (Some parts) numbers =
-    unwrap_or (option_map (index_pieces parts) (values_of parts numbers)) (as_numbers numbers)
+-- the numbers after a node: the values that its index reads, where these are all numbers; otherwise
+-- each number by itself
+abbrev pub AreInstancePieces : Option (List IndexPart) → (numbers : List ℕ) → List Piece → Type 0
+AreInstancePieces None numbers pieces = pieces ≡ as_numbers numbers
+AreInstancePieces (Some parts) numbers pieces =
+    ((values : List (List ℕ)) × ReadValues parts numbers values
+    × (pieces ≡ index_pieces parts values))
+    ⊎ (((values : List (List ℕ)) → ReadValues parts numbers values → ⊥)
+    × (pieces ≡ as_numbers numbers))

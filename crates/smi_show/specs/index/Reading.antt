@@ -1,8 +1,10 @@
--- An index computed from numbers: what the relations of Index determine.
+-- An index computed from numbers, and its pieces, for private clauses: what the relations of Index
+-- and Pieces determine.
 use Rattle.std.specs.Prelude.{ℕ, nat_le, if◌then◌else◌, List, [], ◌∷◌, length, take, drop, Option}
-use Rattle.std.specs.Prelude.{Some, None, option_map, option_and_then}
+use Rattle.std.specs.Prelude.{Some, None, option_map, option_and_then, unwrap_or}
 use Rattle.std.specs.List.{list_all}
 use Rattle.smi_show.specs.index.Index.{is_octet}
+use Rattle.smi_show.specs.index.Pieces.{Piece, as_numbers, index_pieces}
 use Rattle.smi_show.specs.declared.index.part.Extent.{Extent}
 use Rattle.smi_show.specs.declared.index.part.Extent.TheVariants.{Fixed, Counted, Implied}
 use Rattle.smi_show.specs.declared.index.part.IndexPart.{IndexPart}
@@ -52,3 +54,9 @@ values_of (part ∷ parts) numbers =
     option_and_then
     (λ (value, rest). option_map (λ values. value ∷ values) (values_of parts rest))
     (front_of part numbers)
+
+-- the pieces of the numbers after a node
+abbrev pub instance_pieces : Option (List IndexPart) → List ℕ → List Piece
+instance_pieces None numbers = as_numbers numbers
+instance_pieces (Some parts) numbers =
+    unwrap_or (option_map (index_pieces parts) (values_of parts numbers)) (as_numbers numbers)

@@ -2,7 +2,7 @@
 use Rattle.std.specs.Prelude.{◌≡◌, ℕ, Bool, ◌⊎◌, ◌==◌, if◌then◌else◌, List, [], ◌∷◌, ◌++◌, length}
 use Rattle.std.specs.Prelude.{take, drop, codes, decimal, Option, Some, None}
 use Rattle.snmp_oid.specs.Numeric.{numeric_text}
-use Rattle.smi_show.specs.index.Pieces.{instance_pieces, shown_pieces}
+use Rattle.smi_show.specs.index.Pieces.{AreInstancePieces, Piece, shown_pieces}
 use Rattle.smi_show.specs.name.Naming.{Naming, Standing}
 use Rattle.smi_value.specs.declared.letters.letters.NameForm.{NameForm}
 use Rattle.smi_value.specs.declared.letters.letters.NameForm.TheVariants.{
@@ -38,24 +38,28 @@ node_text naming Label o node = node.label
 node_text naming ModuleLabel o node = qualified node.home node.label
 
 -- the numbers after the node, by its index unless that is to be shown as numbers
-abbrev pub instance_text : Bool → List ℕ → Standing → List ℕ
-instance_text numeric_index o node =
-    shown_pieces (instance_pieces (if numeric_index then None else node.index) (drop node.depth o))
+abbrev pub IsInstanceText : Bool → List ℕ → Standing → (text : List ℕ) → Type 0
+IsInstanceText numeric_index o node text =
+    (pieces : List Piece) × AreInstancePieces (if numeric_index then None else node.index)
+    (drop node.depth o) pieces × (text ≡ shown_pieces pieces)
 
-abbrev pub standing_text : Naming → NameForm → Bool → List ℕ → Option Standing → List ℕ
-standing_text naming form numeric_index o None = numeric_text o
-standing_text naming form numeric_index o (Some node) =
-    node_text naming form o node ++ instance_text numeric_index o node
+-- by the deepest node and what follows it, or in numbers if there is no node
+abbrev pub IsStandingText : Naming → NameForm → Bool → List ℕ → Option Standing
+    → (text : List ℕ) → Type 0
+IsStandingText naming form numeric_index o None text = text ≡ numeric_text o
+IsStandingText naming form numeric_index o (Some node) text =
+    (instance : List ℕ) × IsInstanceText numeric_index o node instance
+    × (text ≡ node_text naming form o node ++ instance)
 
--- in numbers, or by the deepest node and what follows it; in numbers too if there is no node
-abbrev pub name_text : Naming → NameForm → Bool → List ℕ → List ℕ
-name_text naming Numeric numeric_index o = numeric_text o
-name_text naming Full numeric_index o =
-    standing_text naming Full numeric_index o (naming.deepest o)
-name_text naming Label numeric_index o =
-    standing_text naming Label numeric_index o (naming.deepest o)
-name_text naming ModuleLabel numeric_index o =
-    standing_text naming ModuleLabel numeric_index o (naming.deepest o)
+-- the text is the name of an identifier: in numbers, or by its deepest node
+abbrev pub IsName : Naming → NameForm → Bool → List ℕ → (text : List ℕ) → Type 0
+IsName naming Numeric numeric_index o text = text ≡ numeric_text o
+IsName naming Full numeric_index o text =
+    IsStandingText naming Full numeric_index o (naming.deepest o) text
+IsName naming Label numeric_index o text =
+    IsStandingText naming Label numeric_index o (naming.deepest o) text
+IsName naming ModuleLabel numeric_index o text =
+    IsStandingText naming ModuleLabel numeric_index o (naming.deepest o) text
 
 -- the forms whose texts are read back
 abbrev pub ReadsBack : NameForm → Type 0

@@ -5,9 +5,9 @@ ghost use Rattle.std.specs.Prelude.{codes, decimal, IsTrue, Option, Some, None, 
 ghost use Rattle.std.specs.List.{flat_map, list_all};
 ghost use Rattle.snmp_io.specs.draft.Draft.{Adds};
 ghost use Rattle.smi_show.specs.declared.index.part.IndexPart.{IndexPart};
-ghost use Rattle.smi_show.specs.index.Reading.{values_of};
+ghost use Rattle.smi_show.specs.index.Reading.{instance_pieces, values_of};
 ghost use Rattle.smi_show.specs.index.Pieces.{IsPiece, as_numbers, as_text, index_pieces};
-ghost use Rattle.smi_show.specs.index.Pieces.{instance_pieces, is_quotable, is_shown_text};
+ghost use Rattle.smi_show.specs.index.Pieces.{is_quotable, is_shown_text};
 ghost use Rattle.smi_show.specs.index.Pieces.{piece_numbers};
 ghost use Rattle.smi_show.specs.index.Pieces.{shown_pieces, value_pieces};
 

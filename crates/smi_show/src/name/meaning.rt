@@ -9,7 +9,7 @@ ghost use Rattle.smi_show.specs.name.Meaning.{further_meaning, head_meaning, mea
 ghost use Rattle.smi_show.specs.name.Meaning.{found_in, or_unknown, parts_meaning, plain_meaning};
 ghost use Rattle.smi_show.specs.name.Meaning.{scoped_meaning};
 ghost use Rattle.smi_show.specs.name.Meant.{TextMeans};
-ghost use Rattle.smi_show.specs.name.Name.{ReadsBack, name_text};
+ghost use Rattle.smi_show.specs.name.Name.{IsName, ReadsBack};
 ghost use Rattle.smi_show.specs.name.Part.{scope_in};
 
 use crate::index::pieces_stand_for_numbers;
@@ -33,7 +33,7 @@ pub fn resolve<T: NameTree>(tree: &T, text: &[u8]) -> Result<Oid, NameError>
     ensures meant { result ≡ meaning (T.naming tree.now) text.now }
     ensures reads_back { (form : NameForm) (numeric_index : Bool) (o : List ℕ)
         → ReadsBack form → IsIdentifier o
-        → text.now ≡ name_text (T.naming tree.now) form numeric_index o → result ≡ Ok o }
+        → IsName (T.naming tree.now) form numeric_index o text.now → result ≡ Ok o }
 {
     tree.sound();
     names();

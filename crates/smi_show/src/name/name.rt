@@ -4,9 +4,10 @@ ghost use Rattle.std.specs.Prelude.{decimal, drop, take, codes, if◌then◌else
 ghost use Rattle.std.specs.Option.{option_copied};
 ghost use Rattle.snmp_oid.specs.Numeric.{numeric_text};
 ghost use Rattle.snmp_io.specs.draft.Draft.{Adds};
-ghost use Rattle.smi_show.specs.index.Pieces.{instance_pieces, shown_pieces};
-ghost use Rattle.smi_show.specs.name.Name.{arc_text, instance_text, name_text, node_text, path_text};
-ghost use Rattle.smi_show.specs.name.Name.{qualified, standing_text};
+ghost use Rattle.smi_show.specs.index.Pieces.{shown_pieces};
+ghost use Rattle.smi_show.specs.index.Reading.{instance_pieces};
+ghost use Rattle.smi_show.specs.name.Name.{arc_text, node_text, path_text, qualified};
+ghost use Rattle.smi_show.specs.name.Shown.{instance_text, name_text, standing_text};
 ghost use Rattle.smi_show.specs.name.Standing.{standing_of};
 
 use crate::index::{index_text, numbers_text};

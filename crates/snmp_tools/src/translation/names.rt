@@ -3,7 +3,7 @@ ghost use Rattle.std.specs.Prelude.{◌≡◌, IfErr, IfOk, None, OnOk, Some};
 ghost use Rattle.snmp_words.specs.Words.{texts_at};
 ghost use Rattle.snmp_tools.specs.translation.Fault.{translate_fault_of};
 ghost use Rattle.snmp_tools.specs.translation.Outcome.{IsNamePrinted, IsPrinting, StopsAtName};
-ghost use Rattle.snmp_tools.specs.translation.Text.{shown_text};
+ghost use Rattle.snmp_tools.specs.translation.Text.{IsShown};
 
 use crate::translation::error::TranslateError;
 use crate::translation::style::Style;
@@ -73,9 +73,9 @@ fn shown<T: DetailTree>(
     style: Style,
     oid: &Oid,
 ) -> Result<Vec<u8>, AllocError>
-    ensures { IfOk result (λ text. text.items ≡ shown_text
+    ensures { IfOk result (λ text. IsShown
         (record { naming = T.naming tree.now; definition_at = T.definition_at tree.now })
-        style oid.now) }
+        style oid.now text.items) }
 {
     let mut text = Vec::new(alloc);
     if style.details {

@@ -1,15 +1,28 @@
 use Rattle.std.proofs.Common.{◌≡◌, ℕ, List, ◌++◌, codes, refl}
 use Rattle.smi_show.specs.Line.{front_text, names_by}
+use Rattle.smi_show.proofs.NamesStated.{name_stated}
 use Rattle.smi_show.proofs.Texts.{adds_both}
 use Rattle.smi_show.proofs.binding.append_line.Goals as goal
 
 pub returns : goal.returns
 returns g c =
     let letters = c.args.letters.now in
-    let front = front_text letters (names_by (g.T.NameTree.naming c.args.tree.now) letters c.args.name.now) in
+    let naming = g.T.NameTree.naming c.args.tree.now in
+    let shown_name = names_by naming letters c.args.name.now in
+    let front = front_text letters shown_name in
     let value = c.append_shown.ensures in
     let before = adds_both c.args.draft.now c.append_front.new.draft c.append_shown.new.draft front value.0 c.append_front.ensures value.2 in (
       front ++ value.0 ++ codes "\n",
-      record { shown = value.0; is_value = value.1; whole = refl },
+      record {
+        shown_name = shown_name;
+        is_name = name_stated naming letters.names letters.numeric_index c.args.name.now;
+        shown = value.0;
+        is_value = record {
+          names = names_by naming letters;
+          are_names = name_stated naming letters.names letters.numeric_index;
+          shows = value.1;
+        };
+        whole = refl;
+      },
       adds_both c.args.draft.now c.append_shown.new.draft c.octets.new.self (front ++ value.0) (codes "\n") before c.octets.ensures,
     )
