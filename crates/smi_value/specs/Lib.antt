@@ -1,4 +1,5 @@
 pub mod Syntax
+pub mod Texts
 pub mod Pieces
 pub mod Value
 pub mod letters

@@ -1,34 +1,7 @@
 -- Pieces of the texts of values.
-use Rattle.std.specs.Prelude.{
-  ℕ,
-  pos,
-  ◌+◌,
-  ◌*◌,
-  ◌/◌,
-  ◌%◌,
-  Bool,
-  true,
-  false,
-  ◌&&◌,
-  ◌||◌,
-  ◌==◌,
-  nat_le,
-  nat_lt,
-}
-use Rattle.std.specs.Prelude.{
-  if◌then◌else◌,
-  List,
-  [],
-  ◌∷◌,
-  ◌++◌,
-  Option,
-  Some,
-  None,
-  codes,
-  decimal,
-}
+use Rattle.std.specs.Prelude.{ℕ, pos, ◌+◌, ◌*◌, ◌/◌, ◌%◌, Bool, true, false, ◌==◌, if◌then◌else◌}
+use Rattle.std.specs.Prelude.{List, [], ◌∷◌, ◌++◌, Option, Some, None, codes, decimal}
 use Rattle.std.specs.List.{flat_map, list_all, enumerate_from}
-use Rattle.snmp_io.specs.draft.Draft.{hexadecimal_octet}
 use Rattle.smi_value.specs.declared.letters.letters.Letters.{Letters}
 use Rattle.smi_value.specs.declared.letters.letters.TypeForm.{TypeForm}
 use Rattle.smi_value.specs.declared.letters.letters.TypeForm.TheVariants as types
@@ -36,6 +9,7 @@ use Rattle.smi_value.specs.declared.letters.letters.StringForm.{StringForm}
 use Rattle.smi_value.specs.declared.letters.letters.StringForm.TheVariants as strings
 use Rattle.smi_text.specs.declared.trees.tree.NamedNumber.{NamedNumber}
 use Rattle.smi_value.specs.Syntax.{name_of_number}
+use Rattle.smi_value.specs.Texts.{clock_text, days_text, escaped, hexadecimal_text, is_printable}
 
 -- values have the words of their types: neither q nor Q is given
 abbrev pub is_typed : TypeForm → Bool
@@ -51,14 +25,6 @@ abbrev pub units_text : Letters → Option (List ℕ) → List ℕ
 units_text letters None = []
 units_text letters (Some units) = if letters.no_units then [] else 32 ∷ units
 
--- a character of printable ASCII
-abbrev pub is_printable : ℕ → Bool
-is_printable octet = nat_le 32 octet && nat_le octet 126
-
--- a backslash before each quote and each backslash
-abbrev pub escaped : ℕ → List ℕ
-escaped octet = if (octet == 34) || (octet == 92) then 92 ∷ octet ∷ [] else octet ∷ []
-
 -- a dot for an octet that isn't printable
 abbrev pub dotted : ℕ → ℕ
 dotted octet = if is_printable octet then octet else 46
@@ -66,15 +32,6 @@ dotted octet = if is_printable octet then octet else 46
 -- octets between quotes
 abbrev pub quoted : List ℕ → List ℕ
 quoted octets = codes "\"" ++ flat_map (λ octet. escaped (dotted octet)) octets ++ codes "\""
-
--- two digits and a blank, on a new line after each 16 octets
-abbrev pub dumped : ℕ × ℕ → List ℕ
-dumped (place, octet) =
-    (if nat_lt 0 place && (place % 16 == 0) then 10 ∷ [] else [])
-    ++ hexadecimal_octet octet ++ codes " "
-
-abbrev pub hexadecimal_text : List ℕ → List ℕ
-hexadecimal_text octets = flat_map dumped (enumerate_from 0 octets)
 
 -- a string without a hint: two quotes if it is empty; as text if each octet is printable or `a` is
 -- given, but in hexadecimal if `x` is given
@@ -89,28 +46,6 @@ string_text letters (octet ∷ more) =
     if is_text letters.strings (octet ∷ more)
     then type_word letters (codes "STRING: ") ++ quoted (octet ∷ more)
     else type_word letters (codes "Hex-STRING: ") ++ hexadecimal_text (octet ∷ more)
-
--- the octets of an address as numbers with dots between
-abbrev pub address_text : List ℕ → List ℕ
-address_text [] = []
-address_text (first ∷ more) = decimal first ++ flat_map (λ n. 46 ∷ decimal n) more
-
--- a mark and two decimal digits
-abbrev pub two_digits : ℕ → ℕ → List ℕ
-two_digits mark n = mark ∷ (48 + n / 10) ∷ (48 + n % 10) ∷ []
-
-abbrev pub days_text : ℕ → List ℕ
-days_text days =
-    if days == 0 then [] else
-    (if days == 1 then codes "1 day, " else decimal days ++ codes " days, ")
-
--- hundredths of a second as hours of the day, minutes, seconds and hundredths
-abbrev pub clock_text : ℕ → List ℕ
-clock_text ticks =
-    decimal (ticks / 360000 % 24)
-    ++ two_digits 58 (ticks / 6000 % 60)
-    ++ two_digits 58 (ticks / 100 % 60)
-    ++ two_digits 46 (ticks % 100)
 
 -- TimeTicks: the number and the time; the time alone with q or Q; the number alone with t
 abbrev pub ticks_text : Letters → ℕ → List ℕ

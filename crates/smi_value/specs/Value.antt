@@ -25,7 +25,7 @@ use Rattle.smi_value.specs.Pieces.{
   string_text,
   bits_text,
 }
-use Rattle.smi_value.specs.Pieces.{address_text, hexadecimal_text}
+use Rattle.smi_value.specs.Texts.{address_text, hexadecimal_text}
 
 -- a number under a hint of integers, otherwise in decimal digits
 abbrev pub IsNumberText : Option (List ℕ) → ℤ → List ℕ → Type 0

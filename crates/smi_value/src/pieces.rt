@@ -5,12 +5,12 @@ ghost use Rattle.std.specs.Fmt.{signed_decimal};
 ghost use Rattle.std.specs.List.{flat_map, list_all, enumerate_from};
 ghost use Rattle.std.specs.Option.{option_copied};
 ghost use Rattle.snmp_io.specs.draft.Draft.{Adds};
-ghost use Rattle.smi_value.specs.Pieces.{is_typed, type_word, units_text, is_printable, escaped};
-ghost use Rattle.smi_value.specs.Pieces.{dotted, quoted, dumped, hexadecimal_text, is_text};
-ghost use Rattle.smi_value.specs.Pieces.{string_text, address_text, two_digits, days_text};
-ghost use Rattle.smi_value.specs.Pieces.{clock_text, ticks_text, named_text, bit_name, octet_bits};
+ghost use Rattle.smi_value.specs.Pieces.{is_typed, type_word, units_text, dotted, quoted, is_text};
+ghost use Rattle.smi_value.specs.Pieces.{string_text, ticks_text, named_text, bit_name, octet_bits};
 ghost use Rattle.smi_value.specs.Pieces.{bits_text, bit_text};
 ghost use Rattle.smi_value.specs.Syntax.{name_of_number};
+ghost use Rattle.smi_value.specs.Texts.{is_printable, escaped, dumped, hexadecimal_text};
+ghost use Rattle.smi_value.specs.Texts.{address_text, two_digits, days_text, clock_text};
 
 use crate::letters::{Letters, StringForm, TypeForm};
 use crate::syntax::name_of;

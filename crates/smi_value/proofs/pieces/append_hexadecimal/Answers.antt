@@ -1,5 +1,5 @@
 use Rattle.std.proofs.Common.{arith}
-use Rattle.smi_value.specs.Pieces.{dumped}
+use Rattle.smi_value.specs.Texts.{dumped}
 use Rattle.smi_value.proofs.Lists.{adds_from, enumerated_more, enumerated_all}
 use Rattle.smi_value.proofs.pieces.append_hexadecimal.Goals as goal
 
