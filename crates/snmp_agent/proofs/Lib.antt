@@ -19,6 +19,7 @@ pub mod Faultless
 pub mod Finding
 pub mod Keeping
 pub mod Made
+pub mod OneStatement
 pub mod Partition
 pub mod Rising
 pub mod Statements

@@ -167,7 +167,7 @@ row_parts l front behind middle back tag e f g =
 
 pub object_states : (l text : List ℕ) → IsObjectForm l text → (r : Result Line LineFault) → IsObjectRead text r
     → IfOk r (λ stated. States l (statement_of stated))
-object_states l text e (Ok (line.Object numbers)) h = (text, e, h.0.0, h.0.1)
+object_states l text e (Ok (line.Object numbers)) h = (text, e, h.0, h.1)
 object_states l text e (Ok line.Nothing) h = absurd h
 object_states l text e (Ok (line.Instance row)) h = absurd h
 object_states l text e (Err fault) h = tt
@@ -181,49 +181,13 @@ row_states l name tag text e (Ok (line.Instance row)) h = record {
   parts = e.parts;
   name_ends = e.name_ends;
   tag_ends = e.tag_ends;
-  named = h.named.0;
-  instance_name = h.named.1;
-  valued = h.valued;
+  named = h.0.0;
+  instance_name = h.0.1;
+  valued = h.1;
 }
 row_states l name tag text e (Ok line.Nothing) h = absurd h
 row_states l name tag text e (Ok (line.Object numbers)) h = absurd h
 row_states l name tag text e (Err fault) h = tt
 
-pub row_only : (l name tag text : List ℕ) → IsRowForm l name tag text → (r : Result Line LineFault) → IsInstanceRead name tag text r
-    → IfOk r (λ stated. (s : Statement) → States l s → s ≡ statement_of stated)
-row_only l name tag text e (Ok line.Nothing) h = absurd h
-row_only l name tag text e (Ok (line.Object numbers)) h = absurd h
-row_only l name tag text e (Err fault) h = tt
-row_only l name tag text e (Ok (line.Instance row)) h = only_instance where
-  only_instance : (s : Statement) → States l s → s ≡ instance (var_of (entry_of row))
-  only_instance nothing k = absurd (e.not_blank k)
-  only_instance (object_prefix o) k = absurd (e.no_object k.0 k.1)
-  only_instance (instance p) k =
-      let same = same_rows l name tag text k.name k.tag k.text e (row_form l p k) in
-      let P : List ℕ → Type 0 = λ n. IsInstanceText n p.name in
-      let named : p.name ≡ row.name.items = h.only_name p.name (subst P same.0 (k.named, k.instance_name)) in
-      let Q : List ℕ → Type 0 = λ t. IsValueText t k.text p.value in
-      let R : List ℕ → Type 0 = λ x. IsValueText tag x p.value in
-      let valued : p.value ≡ datum_of row.value = h.only_value p.value (subst R same.2 (subst Q same.1 k.valued)) in
-      λ i. instance (record { name = named i; value = valued i })
-
 pub same_object : (l a b : List ℕ) → IsObjectForm l a → IsObjectForm l b → a ≡ b
 same_object l a b e f = append_cancel_left (codes "object ") a b (sym e ∙ f)
-
-pub blank_only : (l : List ℕ) → IsBlank l → (s : Statement) → States l s → s ≡ nothing
-blank_only l e nothing k = refl
-blank_only l e (object_prefix o) k = absurd (blank_no_object l k.0 e k.1)
-blank_only l e (instance p) k = absurd ((row_form l p k).not_blank e)
-
-pub object_only : (l text : List ℕ) → IsObjectForm l text → (r : Result Line LineFault) → IsObjectRead text r
-    → IfOk r (λ stated. (s : Statement) → States l s → s ≡ statement_of stated)
-object_only l text e (Ok line.Nothing) h = absurd h
-object_only l text e (Ok (line.Instance row)) h = absurd h
-object_only l text e (Err fault) h = tt
-object_only l text e (Ok (line.Object numbers)) h = only_object where
-  only_object : (s : Statement) → States l s → s ≡ object_prefix numbers.items
-  only_object nothing k = absurd (blank_no_object l text k e)
-  only_object (object_prefix o) k =
-      let P : List ℕ → Type 0 = λ t. IsObjectText t o in
-      ap object_prefix (h.1 o (subst P (same_object l k.0 text k.1 e) (k.2, k.3)))
-  only_object (instance p) k = absurd ((row_form l p k).no_object text e)

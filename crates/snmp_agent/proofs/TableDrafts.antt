@@ -24,6 +24,7 @@ use Rattle.snmp_agent.specs.table.Form.{Statement, nothing, object_prefix, insta
 use Rattle.snmp_agent.specs.table.Text.{AreTable, DifferInName, HasRow, IsGoodLine, IsRowLine, a_blank, a_prefix, a_row}
 use Rattle.snmp_agent.specs.table.Stated.{IsDouble, IsBehindGood, IsFirstFault}
 use Rattle.snmp_agent.specs.table.Draft.{entry_of_pair, row_of, HoldsTable, IsDraft, IsFaultBehind}
+use Rattle.snmp_agent.proofs.OneStatement.{StatesOnly}
 use Rattle.snmp_agent.proofs.Rising.{same_name}
 
 -- ---- one more line
@@ -70,10 +71,6 @@ holds_none = record {
   rows = λ p. (λ found. (let no : ⊥ = cc in absurd no), λ h. absurd (omega (arith, h.1.1)));
   prefixes = λ o. (λ found. (let no : ⊥ = cc in absurd no), λ h. absurd (omega (arith, h.1.1)));
 }
-
--- what a line states when it states one thing alone
-abbrev pub StatesOnly : List ℕ → Statement → Type 0
-StatesOnly line s = States line s × ((t : Statement) → States line t → t ≡ s)
 
 -- ---- what the draft holds behind one more line
 

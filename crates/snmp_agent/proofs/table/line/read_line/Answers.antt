@@ -1,7 +1,6 @@
 use Rattle.snmp_agent.specs.table.Row.{tag_text}
 use Rattle.snmp_agent.specs.table.Form.{IsObjectForm, IsRowForm}
-use Rattle.snmp_agent.specs.table.Text.{IsBlank}
-use Rattle.snmp_agent.proofs.Statements.{blank_only, object_only, object_states, row_states, row_only}
+use Rattle.snmp_agent.proofs.Statements.{object_states, row_states}
 use Rattle.snmp_agent.proofs.table.line.read_line.Goals as goal
 
 pub returns-in-Some-Object-clause-states : goal.returns-in-Some-Object-clause-states
@@ -14,18 +13,3 @@ returns-in-Some-Row-clause-states c =
     let form : IsRowForm c.args.line.now c.in-Some-Row.name.now
     (tag_text c.in-Some-Row.tag) c.in-Some-Row.text.now = rw c.in-Some-Row.field-0-is at c.in-Some-Row.ensures in
     row_states c.args.line.now c.in-Some-Row.name.now (tag_text c.in-Some-Row.tag) c.in-Some-Row.text.now form c.instance.result c.instance.ensures
-
-pub returns-in-Some-Row-clause-only : goal.returns-in-Some-Row-clause-only
-returns-in-Some-Row-clause-only c =
-    let form : IsRowForm c.args.line.now c.in-Some-Row.name.now
-    (tag_text c.in-Some-Row.tag) c.in-Some-Row.text.now = rw c.in-Some-Row.field-0-is at c.in-Some-Row.ensures in
-    row_only c.args.line.now c.in-Some-Row.name.now (tag_text c.in-Some-Row.tag) c.in-Some-Row.text.now form c.instance.result c.instance.ensures
-
-pub returns-in-Some-Blank-clause-only : goal.returns-in-Some-Blank-clause-only
-returns-in-Some-Blank-clause-only c =
-    let form : IsBlank c.args.line.now = rw c.in-Some-Blank.field-0-is at c.in-Some-Blank.ensures in blank_only c.args.line.now form
-
-pub returns-in-Some-Object-clause-only : goal.returns-in-Some-Object-clause-only
-returns-in-Some-Object-clause-only c =
-    let form : IsObjectForm c.args.line.now c.in-Some-Object.text.now = rw c.in-Some-Object.field-0-is at c.in-Some-Object.ensures in
-    object_only c.args.line.now c.in-Some-Object.text.now form c.object.result c.object.ensures

@@ -9,20 +9,20 @@ use Rattle.snmp_agent.specs.table.Row.{entry_of, datum_of}
 use Rattle.snmp_agent.specs.table.Places.{var_of}
 use Rattle.snmp_agent.specs.table.Form.{States, nothing, object_prefix, instance}
 use Rattle.snmp_agent.specs.table.Draft.{HoldsTable, draft_entries, draft_objects, entry_of_pair}
-use Rattle.snmp_agent.proofs.TableDrafts.{StatesOnly, holds_nothing, holds_object, holds_instance, double, entries-insert, find-lookup, list_any-insert}
+use Rattle.snmp_agent.proofs.OneStatement.{states_only}
+use Rattle.snmp_agent.proofs.TableDrafts.{holds_nothing, holds_object, holds_instance, double, entries-insert, find-lookup, list_any-insert}
 use Rattle.snmp_agent.proofs.table.draft.Draft.add.Goals as goal
 
 pub returns-in-Ok-Nothing : goal.returns-in-Ok-Nothing
 returns-in-Ok-Nothing c = λ before h.
-    let only : StatesOnly c.args.line.now nothing =
-    (rw c.in-Ok-Nothing.field-0-is at c.in-Ok-Nothing.ensures.states, rw c.in-Ok-Nothing.field-0-is at c.in-Ok-Nothing.ensures.only) in
+    let only = states_only c.names.ensures.at_most_one c.args.line.now nothing (rw c.in-Ok-Nothing.field-0-is at c.in-Ok-Nothing.ensures.states) in
     holds_nothing before c.args.line.now (draft_entries c.args.self.now) (draft_objects c.args.self.now) h only
 
 pub returns-in-Ok : goal.returns-in-Ok
 returns-in-Ok c = λ before h.
     let object = c.in-Ok-Object.object in
-    let only : StatesOnly c.args.line.now (object_prefix object.items) =
-    (rw c.in-Ok-Object.field-0-is at c.in-Ok-Object.ensures.states, rw c.in-Ok-Object.field-0-is at c.in-Ok-Object.ensures.only) in
+    let only = states_only c.names.ensures.at_most_one c.args.line.now (object_prefix object.items)
+    (rw c.in-Ok-Object.field-0-is at c.in-Ok-Object.ensures.states) in
     holds_object before c.args.line.now (draft_entries c.args.self.now) (draft_objects c.args.self.now) h object.items (map
     (λ x. x.items) c.insert.new.self.keys) only
     (λ o. ap (λ keys. list_any (eq_by_cmp (slice_cmp nat_cmp) o) (map (λ x. x.items) keys)) c.in-Ok.ensures.keys
@@ -31,8 +31,8 @@ returns-in-Ok c = λ before h.
 pub returns-in-Ok-None : goal.returns-in-Ok-None
 returns-in-Ok-None c = λ before h.
     let row = c.in-Ok-Instance.row in
-    let only : StatesOnly c.args.line.now (instance (var_of (entry_of row))) =
-    (rw c.in-Ok-Instance.field-0-is at c.in-Ok-Instance.ensures.states, rw c.in-Ok-Instance.field-0-is at c.in-Ok-Instance.ensures.only) in
+    let only = states_only c.names.ensures.at_most_one c.args.line.now (instance (var_of (entry_of row)))
+    (rw c.in-Ok-Instance.field-0-is at c.in-Ok-Instance.ensures.states) in
     let absent : find (slice_cmp nat_cmp) row.name.items (draft_entries c.args.self.now) ≡ None =
     find-lookup c.args.self.now.rows.entries row.name ∙ ap (option_map datum_of) (sym c.in-Ok-None.ensures.old ∙ c.in-Ok-None.field-0-is) in
     let holds = holds_instance before c.args.line.now (draft_entries c.args.self.now) (draft_objects c.args.self.now) h (var_of (entry_of row)) only absent in
