@@ -197,7 +197,7 @@ digits_some : (text rest : List ℕ) → text ≢ [] → dot ∷ (text ++ rest) 
 digits_some [] rest some same = absurd (some refl)
 digits_some (octet ∷ more) rest some same = let wrong : ⊥ = cc in absurd wrong
 
-numeric_back : (known : Known) (naming : Naming) (o : List ℕ) → IsIdentifier o → meaning naming (numeric_text o) ≡ Ok o
+pub numeric_back : (known : Known) (naming : Naming) (o : List ℕ) → IsIdentifier o → meaning naming (numeric_text o) ≡ Ok o
 numeric_back known naming [] h = refl
 numeric_back known naming (n ∷ more) h =
     let numbers = h.numbers in

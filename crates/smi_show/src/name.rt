@@ -15,7 +15,7 @@ mod tree;
 mod word;
 
 pub use error::NameError;
-pub use laws::one_meaning;
+pub use laws::{numbers_are_read, one_meaning};
 pub use meaning::resolve;
 pub use name::name_text;
 pub use smi_value::NameForm;

@@ -1,9 +1,14 @@
 //! What holds of the meanings of names, for proofs.
-ghost use Rattle.std.specs.Prelude.{◌≡◌, ℕ, List, Result};
+ghost use Rattle.std.specs.Prelude.{◌≡◌, ℕ, List, Ok, Result};
+ghost use Rattle.snmp_oid.specs.Identifier.{IsIdentifier};
+ghost use Rattle.snmp_oid.specs.Numeric.{numeric_text};
 ghost use Rattle.smi_show.specs.name.Meaning.{meaning};
 ghost use Rattle.smi_show.specs.name.Meant.{TextMeans};
 ghost use Rattle.smi_show.specs.name.Naming.{Naming};
 ghost use Rattle.smi_show.specs.declared.name.error.NameError.{NameError};
+
+use crate::index::pieces_stand_for_numbers;
+use snmp_oid::names;
 
 /// A text means one identifier, or has one first fault: what [`crate::name::resolve`] returns.
 pub fn one_meaning()
@@ -12,3 +17,12 @@ pub fn one_meaning()
     ensures only { (naming : Naming) (text : List ℕ) (result : Result (List ℕ) NameError)
         → TextMeans naming text result → result ≡ meaning naming text }
 {}
+
+/// An identifier written in numbers means itself, whatever nodes there are.
+pub fn numbers_are_read()
+    ensures { (naming : Naming) (o : List ℕ) → IsIdentifier o
+        → meaning naming (numeric_text o) ≡ Ok o }
+{
+    names();
+    pieces_stand_for_numbers();
+}
