@@ -5,6 +5,9 @@ pub mod GetSteps
 pub mod GetWants
 pub mod GetWholes
 pub mod Headlines
+pub mod BareNames
+pub mod RowLines
+pub mod TableWalks
 pub mod LetterLemmas
 pub mod Outcomes
 pub mod Plans

@@ -19,3 +19,5 @@ pub mod Usage
 pub mod translation
 pub mod agent
 pub mod loading
+pub mod RowText
+pub mod TableWalk

@@ -1,5 +1,6 @@
 //! From words to status.
-ghost use Rattle.std.specs.Prelude.{◌≡◌, Bool, Some, true};
+ghost use Rattle.std.specs.Prelude.{◌≡◌, ℕ, Bool, List, Some, true};
+ghost use Rattle.std.specs.Str.Lines.{lines};
 ghost use Rattle.snmp_words.specs.Command.{is_taken};
 ghost use Rattle.snmp_tools.specs.agent.Outcome.{AtDoor};
 ghost use Rattle.snmp_words.specs.Words.{AreFaulty, GetWords, ServeWords, WalkWords, snmpd};
@@ -12,10 +13,12 @@ ghost use Rattle.snmp_tools.specs.Got.{HasGetFacts, IsGetRun};
 ghost use Rattle.snmp_tools.specs.Headline.{EndsAtStatus0, WritesAllAtStatus0, WritesFront};
 ghost use Rattle.snmp_tools.specs.Outcome.{HasLinkFacts, IsWalkRun};
 ghost use Rattle.snmp_tools.specs.Planned.{walk_stated};
+ghost use Rattle.snmp_tools.specs.TableWalk.{HoldsTableFile, PrintsRows, table_walk};
 ghost use Rattle.snmp_tools.specs.Translating.{IsTranslated};
 ghost use Rattle.snmp_tools.specs.Usage.{IsHelpOrMistake, PrintsHelp};
 
 use crate::job::{run_job, tell};
+use crate::laws::table_walks;
 use crate::loading::ModuleFiles;
 use snmp_io::{Output, write_all};
 use snmp_net::Links;
@@ -36,6 +39,11 @@ pub fn tool<F: ModuleFiles, L: Links, O: Output, E: Output>(
     out: &mut O,
     err: &mut E,
 ) -> u8
+    ensures rows_printed { (path root text : List ℕ)
+        → texts_at words.now ≡ table_walk path root
+        → HoldsTableFile (F.text_at files.now) path root text
+        → PrintsRows (lines text) root (O.stream out.old) (O.stream out.new)
+        (E.stream err.old) (E.stream err.new) result }
     ensures translated { (w : TranslateWords) → is_taken (texts_at words.now) ≡ true
         → stated_job (texts_at words.now) ≡ Some (snmptranslate w)
         → IsTranslated w (F.text_at files.now) (O.stream out.old) (O.stream out.new)
@@ -85,6 +93,7 @@ pub fn tool<F: ModuleFiles, L: Links, O: Output, E: Output>(
         → IsHelpOrMistake (texts_at words.now) (O.stream out.old) (O.stream out.new)
         (E.stream err.old) (E.stream err.new) result }
 {
+    table_walks();
     match read_words(alloc, words) {
         Ok(job) => run_job(alloc, &job, files, links, out, err),
         Err(UsageError::Parse { text, help: true }) => print_help(&text, out, err),

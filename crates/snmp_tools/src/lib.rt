@@ -11,6 +11,7 @@ mod failure;
 mod get;
 mod job;
 mod judge;
+mod laws;
 mod letters;
 mod lines;
 mod loading;

@@ -23,6 +23,7 @@ pub mod FactLemmas
 pub mod BulkLemmas
 pub mod HonestLemmas
 pub mod RoomLemmas
+pub mod ShortLemmas
 pub mod SwiftLemmas
 pub mod FullLemmas
 pub mod ArenaLemmas

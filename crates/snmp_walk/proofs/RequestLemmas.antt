@@ -31,7 +31,7 @@ use Rattle.std.specs.Prelude.{All, nat_lt}
 use Rattle.std.specs.List.{flat_map}
 use Rattle.std.proofs.lemmas.List.Elements.{All-cons, All-nil}
 use Rattle.snmp_oid.specs.Identifier.{IsWire}
-use Rattle.snmp_wire.specs.Message.{VarBind, Message, null_value, integer_value, octet_string, object_id, var_bind}
+use Rattle.snmp_wire.specs.Message.{Datum, VarBind, Message, null_value, integer_value, octet_string, object_id, var_bind}
 use Rattle.snmp_wire.specs.Identifier.{subidentifiers}
 use Rattle.snmp_wire.specs.Spelling.{value_tag, kind_tag, sequence_tag}
 use Rattle.snmp_wire.specs.Canon.{
@@ -78,7 +78,7 @@ unfolding octets
 octets_length zero n = refl
 octets_length (suc count) n = omega (arith, octets_length count n)
 
-number_bound : (z : ℤ) → length (canon_number z) ≤ 9
+pub number_bound : (z : ℤ) → length (canon_number z) ≤ 9
 unfolding canon_number number_size
 number_bound (pos n) = omega (arith, octets_length (number_size n) n, digit_bound 256 128 8 n)
 number_bound (negsuc n) =
@@ -118,11 +118,11 @@ subidentifier_bound n =
       digit_bound 128 128 4 n,
     )
 
-each_bound : (xs : List ℕ) → length (flat_map canon_subidentifier xs) ≤ 5 * length xs
+pub each_bound : (xs : List ℕ) → length (flat_map canon_subidentifier xs) ≤ 5 * length xs
 each_bound [] = omega arith
 each_bound (x ∷ xs) = omega (arith, each_bound xs, subidentifier_bound x, length-append (canon_subidentifier x) (flat_map canon_subidentifier xs))
 
-parts_bound : (name : List ℕ) → length (subidentifiers name) ≤ length name
+pub parts_bound : (name : List ℕ) → length (subidentifiers name) ≤ length name
 parts_bound [] = omega arith
 parts_bound (x ∷ []) = omega arith
 parts_bound (x ∷ y ∷ name) = omega arith
@@ -131,40 +131,53 @@ integer_bound : (z : ℤ) → length (canon_value (integer_value z)) ≤ 15
 unfolding canon_value canon_content
 integer_bound z = element_bound (value_tag (integer_value z)) (canon_number z) 9 (number_bound z)
 
-name_bound : (name : List ℕ) → length name ≤ 128 → length (canon_value (object_id name)) ≤ 646
+name_bound : (name : List ℕ) → length (canon_value (object_id name)) ≤ 6 + 5 * length name
 unfolding canon_value canon_content
-name_bound name h =
-    element_bound (value_tag (object_id name)) (flat_map canon_subidentifier (subidentifiers name)) 640 (omega (
+name_bound name =
+    element_bound (value_tag (object_id name)) (flat_map canon_subidentifier (subidentifiers name)) (5 * length name) (omega (
       arith,
       each_bound
           (subidentifiers name),
       parts_bound name,
-      h,
     ))
 
-null_bound : length (canon_value null_value) ≤ 6
+text_bound : (text : List ℕ) → length (canon_value (octet_string text)) ≤ 6 + length text
 unfolding canon_value canon_content
-null_bound = element_bound (value_tag null_value) [] 0 (omega arith)
+text_bound text = element_bound (value_tag (octet_string text)) text (length text) (omega arith)
 
-text_bound : (text : List ℕ) → length text ≤ 255 → length (canon_value (octet_string text)) ≤ 261
-unfolding canon_value canon_content
-text_bound text h = element_bound (value_tag (octet_string text)) text 255 h
+-- a binding takes at most 18 octets besides its name's numbers and its value's content
+pub binding_bound : (name : List ℕ) (value : Datum)
+    → length (canon_binding (record { name = name; value = value })) ≤ 18 + 5 * length name + length (canon_content value)
+unfolding canon_binding canon_value
+binding_bound name value =
+    let text = canon_value (object_id name) in
+    let content : length (canon_value value) ≤ 6 + length (canon_content value) =
+    element_bound (value_tag value) (canon_content value) (length (canon_content value)) (omega arith) in
+    let both : length (text ++ canon_value value) ≤ 12 + 5 * length name + length (canon_content value) =
+    omega (arith, name_bound name, content, length-append text (canon_value value)) in
+    let whole = element_bound sequence_tag (text ++ canon_value value) (12 + 5 * length name + length (canon_content value)) both in
+    omega (arith, whole)
 
-binding_bound : (name : List ℕ) → length name ≤ 128 → length (canon_binding (record { name = name; value = null_value })) ≤ 658
-unfolding canon_binding
-binding_bound name h =
-    element_bound sequence_tag (canon_value (object_id name) ++ canon_value null_value) 652
-    (omega (arith, name_bound name h, null_bound, length-append (canon_value (object_id name)) (canon_value null_value)))
+-- one binding alone
+pub one_bound : (name : List ℕ) (value : Datum)
+    → length (canon_bindings (record { name = name; value = value } ∷ [])) ≤ 18 + 5 * length name + length (canon_content value)
+unfolding canon_bindings
+one_bound name value =
+    let b : VarBind = record { name = name; value = value } in
+    omega (arith, binding_bound name value, length-append (canon_binding b) [])
+
+no_content : length (canon_content null_value) ≤ 0
+unfolding canon_content
+no_content = omega arith
 
 pub name_short : (name : List ℕ) → length name ≤ 128 → length (canon_bindings (record { name = name; value = null_value } ∷ [])) ≤ 658
-unfolding canon_bindings
-name_short name h =
-    let b : VarBind = record { name = name; value = null_value } in
-    omega (arith, binding_bound name h, length-append (canon_binding b) [])
+name_short name h = omega (arith, h, one_bound name null_value, no_content)
 
-message_bound : (m : Message) → length m.community ≤ 255 → length (canon_bindings m.bindings) ≤ 658 → length (canon m) ≤ 1000
+-- a message takes at most 84 octets besides its community and its bindings
+pub message_bound : (m : Message) → length (canon m) ≤ 84 + length m.community + length (canon_bindings m.bindings)
 unfolding canon canon_opening canon_fields
-message_bound m h k =
+message_bound m =
+    let n = length (canon_bindings m.bindings) in
     let id = canon_value (integer_value m.id) in
     let a = canon_value (integer_value m.a) in
     let b = canon_value (integer_value m.b) in
@@ -178,25 +191,26 @@ message_bound m h k =
           (id ++ a) b,
       length-append id a,
     ) in
-    let list_bound : length list ≤ 664 = element_bound sequence_tag (canon_bindings m.bindings) 658 k in
-    let pdu_content : length (canon_fields m ++ list) ≤ 709 = omega (arith, fields, list_bound, length-append (canon_fields m) list) in
+    let list_bound : length list ≤ 6 + n = element_bound sequence_tag (canon_bindings m.bindings) n (omega arith) in
+    let pdu_content : length (canon_fields m ++ list) ≤ 51 + n = omega (arith, fields, list_bound, length-append (canon_fields m) list) in
     let pdu = canon_element (kind_tag m.kind) (canon_fields m ++ list) in
-    let pdu_bound : length pdu ≤ 715 = element_bound (kind_tag m.kind) (canon_fields m ++ list) 709 pdu_content in
-    let opening : length (canon_opening m) ≤ 276 =
+    let pdu_bound : length pdu ≤ 6 + (51 + n) = element_bound (kind_tag m.kind) (canon_fields m ++ list) (51 + n) pdu_content in
+    let opening : length (canon_opening m) ≤ 21 + length m.community =
     omega (
       arith,
       integer_bound m.version,
-      text_bound m.community h,
+      text_bound m.community,
       length-append (canon_value (integer_value m.version)) (canon_value
           (octet_string m.community)),
     ) in
-    let content : length (canon_opening m ++ pdu) ≤ 991 = omega (arith, opening, pdu_bound, length-append (canon_opening m) pdu) in
-    let whole : length (canon_element sequence_tag (canon_opening m ++ pdu)) ≤ 997 = element_bound sequence_tag (canon_opening m ++ pdu) 991 content in
+    let content : length (canon_opening m ++ pdu) ≤ 78 + length m.community + n =
+    omega (arith, opening, pdu_bound, length-append (canon_opening m) pdu) in
+    let whole = element_bound sequence_tag (canon_opening m ++ pdu) (78 + length m.community + n) content in
     omega (arith, whole)
 
 -- no request of a walk is longer than 1,000 octets
 pub request_short : (w : Walker) → length w.community ≤ 255 → length w.asked ≤ 128 → length (canon (request_of w)) ≤ 1000
-request_short w h k = message_bound (request_of w) h (name_short w.asked k)
+request_short w h k = omega (arith, h, message_bound (request_of w), name_short w.asked k)
 
 pub request_fits : (w : Walker) → length w.community ≤ 255 → length w.asked ≤ 128 → length (canon (request_of w)) ≤ 65507
 request_fits w h k = omega (arith, request_short w h k)

@@ -6,6 +6,8 @@ use Rattle.snmp_wire.specs.Message.{
   Datum,
   VarBind,
   Message,
+  octet_string,
+  opaque_octets,
   no_such_object,
   no_such_instance,
   end_of_mib_view,
@@ -23,6 +25,12 @@ use Rattle.snmp_agent.specs.Reply.{IsBulk}
 -- greatest request-id is no longer than their greatest size.
 abbrev pub HasRoom : Agents → VarBind → Type 0
 HasRoom agents p = length (canon (single_response agents.community 2147483647 p)) ≤ agents.max_size
+
+-- a string of at most 700 octets: with any name, its row fits a message of 1472 octets
+abbrev pub IsShort : Datum → Type 0
+IsShort (octet_string octets) = length octets ≤ 700
+IsShort (opaque_octets octets) = length octets ≤ 700
+IsShort _ = Unit {0}
 
 -- the response of these bindings
 abbrev pub full_response : List ℕ → ℕ → List VarBind → Message

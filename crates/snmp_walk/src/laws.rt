@@ -1,5 +1,5 @@
 //! Laws of walks, as calls that do nothing. A proof of a crate above calls them.
-ghost use Rattle.std.specs.Prelude.{◌≡◌, ◌++◌, ◌∷◌, ◌↔◌, ℕ, List};
+ghost use Rattle.std.specs.Prelude.{◌≡◌, ◌≤◌, ◌++◌, ◌∷◌, ◌↔◌, ℕ, List, length};
 ghost use Rattle.snmp_oid.specs.Identifier.{IsWire, IsBelow, Precedes, wire};
 ghost use Rattle.snmp_wire.specs.Message.{VarBind};
 ghost use Rattle.snmp_agent.specs.table.Table.{MibView, IsMibView, IsRow, IsGet};
@@ -7,8 +7,10 @@ ghost use Rattle.snmp_agent.specs.table.Listing.{variables};
 ghost use Rattle.snmp_walk.specs.declared.mode.Mode.{Mode};
 ghost use Rattle.snmp_walk.specs.Walk.{rows_below, walk_of, rest_of};
 ghost use Rattle.snmp_walk.specs.Codec.{Codec};
-ghost use Rattle.snmp_walk.specs.Link.{OneOf};
+ghost use Rattle.snmp_walk.specs.Link.{Agents, OneOf};
 ghost use Rattle.snmp_walk.specs.Ordered.{AreOrdered, IsResumable};
+ghost use Rattle.snmp_walk.specs.Room.{HasRoomForEach, IsShort};
+ghost use Rattle.snmp_walk.specs.Walker.{Walker};
 
 use snmp_oid::order;
 use snmp_wire::{
@@ -47,6 +49,15 @@ pub fn rest_of_a_walk()
     ensures resumable { (view : MibView) (mode : Mode) (root : List ℕ) (got p : VarBind)
         → IsMibView view → IsGet view (wire root) got → IsWire (wire root)
         → OneOf (walk_of mode root got (variables view)) p → IsResumable root p.name }
+{}
+
+/// Agents whose messages may have 1472 octets have room for each row of a table without long
+/// strings.
+pub fn short_rows_have_room()
+    ensures { (agents : Agents) (view : MibView) (first : Walker)
+        → first.community ≡ agents.community → length agents.community ≤ 30
+        → 1472 ≤ agents.max_size → length first.asked ≤ 128 → IsMibView view
+        → ((p : VarBind) → IsRow view p → IsShort p.value) → HasRoomForEach agents view first }
 {}
 
 /// What the crates below state of names, and of messages and their encodings.

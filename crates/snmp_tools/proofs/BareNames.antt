@@ -1,0 +1,35 @@
+-- The names and types that a job knows without module files.
+use Rattle.std.proofs.Common.{◌≡◌, refl, ap, ℕ, zero, suc, List, [], ◌∷◌, Option, Some, None}
+use Rattle.std.specs.Prelude.{slice_index_or, option_map}
+use Rattle.std.specs.Option.{option_and_then}
+use Rattle.smi_names.specs.nodes.Nodes.{roots}
+use Rattle.smi_tree.specs.Bare.{bare}
+use Rattle.smi_tree.specs.Shown.{shown_at, shown_syntax, units_at}
+use Rattle.smi_tree.specs.Standing.{Longest, longest}
+use Rattle.smi_tree.specs.Tree.{IsTree}
+use Rattle.smi_tree.specs.types.Types.{Facts}
+use Rattle.snmp_io.specs.Files.{Holdings, Holds}
+use Rattle.snmp_tools.specs.Mib.{AreLoaded, Mib, mib_of}
+use Rattle.snmp_tools.proofs.RowLines.{HasNoSyntax}
+
+abbrev pub bare_mib : Mib
+bare_mib = mib_of bare
+
+pub bare_is_loaded : IsTree [] bare [] → (files : Holdings) → AreLoaded (Holds files) [] bare_mib []
+bare_is_loaded loads files = record { modules = []; read = refl; tree = bare; loads = loads; is = refl }
+
+abbrev none_three : List (Option Facts)
+none_three = None ∷ (None ∷ (None ∷ []))
+
+none_at : (place : ℕ) → slice_index_or none_three place None ≡ None
+none_at zero = refl
+none_at (suc zero) = refl
+none_at (suc (suc zero)) = refl
+none_at (suc (suc (suc k))) = refl
+
+none_shown : (l : Option Longest) → option_and_then (λ l. shown_at roots none_three l.place) l ≡ None
+none_shown None = refl
+none_shown (Some l) = ap (option_map (λ f. shown_syntax f (units_at roots l.place))) (none_at l.place)
+
+pub bare_has_no_syntax : HasNoSyntax bare_mib
+bare_has_no_syntax o = none_shown (longest roots o)

@@ -1,0 +1,106 @@
+-- The lines of rows where no object has a syntax: those of `RowText`.
+use Rattle.std.proofs.Common.{◌≡◌, refl, ap, ◌∙◌, subst, ℕ, Bool, true, false, List, [], ◌∷◌, ◌++◌, Option, None, append-nil}
+use Rattle.std.specs.Prelude.{codes, if◌then◌else◌, ◌&&◌, decimal}
+use Rattle.std.specs.Fmt.{signed_decimal}
+use Rattle.std.specs.List.{flat_map, list_all}
+use Rattle.snmp_oid.specs.Numeric.{numeric_text}
+use Rattle.snmp_wire.specs.Message.{Datum, VarBind, integer_value, octet_string, null_value, object_id, ip_address}
+use Rattle.snmp_wire.specs.Message.{counter32, gauge32, time_ticks, opaque_octets, counter64}
+use Rattle.snmp_wire.specs.Message.{no_such_object, no_such_instance, end_of_mib_view}
+use Rattle.smi_value.specs.declared.letters.letters.Letters.{Letters}
+use Rattle.smi_value.specs.declared.letters.letters.NameForm.TheVariants as names
+use Rattle.smi_value.specs.declared.letters.letters.TypeForm.TheVariants as types
+use Rattle.smi_value.specs.declared.letters.letters.StringForm.TheVariants as strings
+use Rattle.smi_value.specs.letters.Letters.{AreLetters}
+use Rattle.smi_value.specs.Pieces as pieces
+use Rattle.smi_value.specs.Pieces.{dotted, quoted}
+use Rattle.smi_value.specs.Texts.{escaped, hexadecimal_text, is_printable}
+use Rattle.smi_value.specs.Syntax.{ObjectSyntax}
+use Rattle.smi_value.specs.Value.{ShowsValue}
+use Rattle.snmp_tools.specs.Lines.{AreLines, IsLineOf}
+use Rattle.snmp_tools.specs.Mib.{Mib}
+use Rattle.snmp_tools.specs.RowText.{row_line, string_text, value_text}
+
+-- what `-On` says of lines
+abbrev pub numeric_letters : Letters
+numeric_letters = record {
+  names = names.Numeric;
+  types = types.Typed;
+  strings = strings.Plain;
+  value_alone = false;
+  numeric_enumerations = false;
+  raw_ticks = false;
+  numeric_index = false;
+  no_units = false;
+}
+
+pub numeric_are : AreLetters (codes "n") numeric_letters
+numeric_are = record { n_f_s_S = refl; q_Q = refl; x_a = refl; v = refl; e = refl; t = refl; b = refl; U = refl }
+
+-- no object has a syntax
+abbrev pub HasNoSyntax : Mib → Type 0
+HasNoSyntax mib = (o : List ℕ) → mib.syntax_at o ≡ None
+
+-- ---- strings
+
+both : (a b : Bool) → a && b ≡ true → (a ≡ true) × (b ≡ true)
+both true b e = (refl, e)
+both false b e = let no : ⊥ = cc in absurd no
+
+-- no dots are written where each octet is printable
+without_dots : (xs : List ℕ) → list_all is_printable xs ≡ true → flat_map (λ x. escaped (dotted x)) xs ≡ flat_map escaped xs
+without_dots [] e = refl
+without_dots (x ∷ xs) e =
+    let parts = both (is_printable x) (list_all is_printable xs) e in
+    let first : escaped (dotted x) ≡ escaped x = ap (λ (b : Bool). escaped (if b then x else 46)) parts.0 in
+    let rest = without_dots xs parts.1 in
+    ap (λ (t : List ℕ). t ++ flat_map (λ y. escaped (dotted y)) xs) first ∙ ap (λ (t : List ℕ). escaped x ++ t) rest
+
+text_is : (xs : List ℕ) (b : Bool) → list_all is_printable xs ≡ b
+    → (if b then codes "STRING: " ++ quoted xs else codes "Hex-STRING: " ++ hexadecimal_text xs)
+    ≡ (if b then codes "STRING: \"" ++ flat_map escaped xs ++ codes "\"" else codes "Hex-STRING: " ++ hexadecimal_text xs)
+text_is xs true e = ap (λ (t : List ℕ). codes "STRING: \"" ++ t ++ codes "\"") (without_dots xs e)
+text_is xs false e = refl
+
+string_is : (xs : List ℕ) → pieces.string_text numeric_letters xs ≡ string_text xs
+string_is [] = refl
+string_is (x ∷ xs) = text_is (x ∷ xs) (list_all is_printable (x ∷ xs)) refl
+
+-- ---- values
+
+-- a number after the word of its type
+number_is : (word shown number text : List ℕ) → shown ≡ number → text ≡ word ++ shown ++ [] → text ≡ word ++ number
+number_is word shown number text e whole = whole ∙ append-nil (word ++ shown) ∙ ap (λ (t : List ℕ). word ++ t) e
+
+value_is : (names : List ℕ → List ℕ) → ((o : List ℕ) → names o ≡ numeric_text o) → (value : Datum) (text : List ℕ)
+    → ShowsValue names numeric_letters None value text → text ≡ value_text value
+value_is names same (integer_value n) text shows = number_is (codes "INTEGER: ") shows.shown (signed_decimal n) text shows.is_number shows.whole
+value_is names same (octet_string octets) text shows = shows ∙ string_is octets
+value_is names same (object_id name) text shows = shows ∙ ap (λ (t : List ℕ). codes "OID: " ++ t) (same name)
+value_is names same (ip_address octets) text shows = shows
+value_is names same (counter32 n) text shows = shows ∙ append-nil (codes "Counter32: " ++ decimal n)
+value_is names same (gauge32 n) text shows = number_is (codes "Gauge32: ") shows.shown (decimal n) text shows.is_number shows.whole
+value_is names same (time_ticks n) text shows = shows ∙ append-nil (value_text (time_ticks n))
+value_is names same (opaque_octets octets) text shows = shows
+value_is names same (counter64 n) text shows = shows ∙ append-nil (codes "Counter64: " ++ decimal n)
+value_is names same null_value text shows = shows
+value_is names same no_such_object text shows = shows
+value_is names same no_such_instance text shows = shows
+value_is names same end_of_mib_view text shows = shows
+
+-- ---- lines
+
+line_is : (mib : Mib) → HasNoSyntax mib → (row : VarBind) (line : List ℕ) → IsLineOf mib numeric_letters row line → line ≡ row_line row
+line_is mib none row line is =
+    let value = is.is_value in
+    let shows : ShowsValue value.names numeric_letters None row.value is.shown =
+    subst (λ (s : Option ObjectSyntax). ShowsValue value.names numeric_letters s row.value is.shown) (none row.name) value.shows in
+    is.whole ∙ ap (λ (t : List ℕ). t ++ codes " = " ++ is.shown ++ codes "\n") is.is_name
+    ∙ ap (λ (t : List ℕ). numeric_text row.name ++ codes " = " ++ t ++ codes "\n") (value_is value.names value.are_names row.value is.shown shows)
+
+pub lines_are : (mib : Mib) → HasNoSyntax mib → (rows : List VarBind) (text : List ℕ) → AreLines mib numeric_letters rows text
+    → text ≡ flat_map row_line rows
+lines_are mib none [] text are = are
+lines_are mib none (row ∷ more) text (line, rest, is, are, whole) =
+    whole ∙ ap (λ (t : List ℕ). t ++ rest) (line_is mib none row line is)
+    ∙ ap (λ (t : List ℕ). row_line row ++ t) (lines_are mib none more rest are)

@@ -1,0 +1,306 @@
+-- What the headline says of a walk of a table file in numbers: which lines are printed.
+use Rattle.std.proofs.Common.{◌≡◌, ◌≢◌, ◌⊎◌, inl, inr, refl, sym, ap, ◌∙◌, subst, ℕ, zero, suc, ◌+◌, ◌<◌, ◌≤◌, Bool, false, List, [], ◌∷◌}
+use Rattle.std.proofs.Common.{◌++◌, length, true, Some, None, Ok, arith, append-nil, append_assoc}
+use Rattle.std.specs.Prelude.{AllPairs, Contains, codes, drop, filter, if◌then◌else◌, slice_index_or}
+use Rattle.std.specs.List.{flat_map}
+use Rattle.std.specs.FinMap.{get}
+use Rattle.std.specs.Str.Lines.{lines}
+use Rattle.std.proofs.lemmas.List.Concat.{flat_map-append}
+use Rattle.std.proofs.lemmas.List.Kept.{AllPairs-cons}
+use Rattle.snmp_oid.specs.Identifier.{IsBelow, IsIdentifier, IsWire, Precedes, wire}
+use Rattle.snmp_oid.specs.Numeric.{numeric_text}
+use Rattle.snmp_wire.specs.Message.{VarBind}
+use Rattle.snmp_agent.specs.table.Exact.{HasOne}
+use Rattle.snmp_agent.specs.table.Listing.{variables}
+use Rattle.snmp_agent.specs.table.Stated.{IsTableOf}
+use Rattle.snmp_agent.specs.table.Table as table
+use Rattle.snmp_agent.specs.table.Table.{HasObject, IsGet, IsMibView, IsRow, MibView}
+use Rattle.snmp_agent.specs.table.Text.{AreTable, HasRow}
+use Rattle.snmp_walk.specs.Link.{Agents, OneOf}
+use Rattle.snmp_walk.specs.Names.{comes_after}
+use Rattle.snmp_walk.specs.Ordered.{AreOrdered}
+use Rattle.snmp_walk.specs.Room.{HasRoomForEach, IsShort}
+use Rattle.snmp_walk.specs.Walk.{or_only, rest_of, rows_below}
+use Rattle.snmp_walk.specs.Walker.{Walker}
+use Rattle.snmp_walk.specs.declared.mode.Method.TheVariants as method
+use Rattle.snmp_walk.specs.declared.mode.Mode.TheVariants as mode
+use Rattle.smi_show.specs.name.Meaning.{meaning}
+use Rattle.smi_show.specs.name.Naming.{Naming}
+use Rattle.smi_tree.specs.Bare.{bare}
+use Rattle.smi_tree.specs.Tree.{IsTree}
+use Rattle.snmp_io.specs.Files.{Holdings}
+use Rattle.snmp_io.specs.Count.{HasRisen}
+use Rattle.snmp_io.specs.Output.{IsWritten, Stream, TakesFront, appended, extended}
+use Rattle.snmp_io.specs.Streams.{extended-nil}
+use Rattle.snmp_net.specs.Address as address
+use Rattle.snmp_words.specs.Words.{walk_line}
+use Rattle.snmp_tools.specs.Headline.{EndsAtStatus0, IsFeasible, IsMishap, IsWalk, WritesAllAtStatus0, WritesFront}
+use Rattle.snmp_tools.specs.Lines.{AreLines}
+use Rattle.snmp_tools.specs.Mib.{Mib}
+use Rattle.snmp_tools.specs.Outcome.{agent_over, first_of}
+use Rattle.snmp_tools.specs.Plan.{AskFor, Plan}
+use Rattle.snmp_tools.specs.Planned.{numeric_walk}
+use Rattle.snmp_tools.specs.RowText.{row_line}
+use Rattle.snmp_tools.specs.TableWalk as page
+use Rattle.snmp_tools.specs.TableWalk.{AreRowsBelow, AreWalked, HoldsTableFile, IsFree, IsGot, IsOfObject, IsOutOfMemoryTold, PrintsRows, table_walk}
+use Rattle.snmp_tools.specs.Letters.{no_choices}
+use Rattle.snmp_tools.proofs.BareNames.{bare_has_no_syntax, bare_is_loaded, bare_mib}
+use Rattle.snmp_tools.proofs.RowLines.{HasNoSyntax, lines_are, numeric_are, numeric_letters}
+
+-- ---- the words
+
+-- a dot stands before an identifier in numbers
+begins_with_dot : (o : List ℕ) → codes "." ++ drop 1 (numeric_text o) ≡ numeric_text o
+begins_with_dot [] = refl
+begins_with_dot (n ∷ more) = refl
+
+pub words_are : (path root : List ℕ) → table_walk path root ≡ walk_line (codes "-On" ∷ []) path (drop 1 (numeric_text root))
+words_are path root =
+    ap (λ (t : List ℕ). codes "snmp" ∷ codes "snmpwalk" ∷ codes "-On" ∷ (codes "table:" ++ path) ∷ t ∷ []) (sym (begins_with_dot root))
+
+abbrev walk_plan : (path root : List ℕ) → Plan
+walk_plan path root = record {
+  agent = address.table path;
+  community = codes "public";
+  max_size = 1472;
+  letters = numeric_letters;
+  root = root;
+  after = None;
+  mode = mode.Plain;
+  method = method.Next;
+  counts = false;
+}
+
+-- an identifier in numbers means itself
+abbrev pub NumbersAreRead : Type 0
+NumbersAreRead = (naming : Naming) (o : List ℕ) → IsIdentifier o → meaning naming (numeric_text o) ≡ Ok o
+
+words_ask : NumbersAreRead → (path root : List ℕ) → path ≢ [] → IsIdentifier root → AskFor false (numeric_walk path root) bare_mib (walk_plan path root)
+words_ask read path root named identifier = record {
+  version = refl;
+  letters = record { known = refl; read = numeric_are };
+  choices = no_choices;
+  chosen = refl;
+  mode = refl;
+  method = refl;
+  counts = refl;
+  short_community = omega arith;
+  community = refl;
+  max_size = refl;
+  agent = (named, refl);
+  root = ap (meaning bare_mib.naming) (begins_with_dot root) ∙ read bare_mib.naming root identifier;
+  after = refl;
+}
+
+-- ---- the rows
+
+contained_is_one : (rows : List VarBind) (row : VarBind) → Contains rows row → OneOf rows row
+contained_is_one [] row (k, within, at) = absurd (omega arith)
+contained_is_one (first ∷ more) row (zero, within, at) = inl (sym at)
+contained_is_one (first ∷ more) row (suc k, within, at) = inr (contained_is_one more row (k, omega arith, at))
+
+one_is_contained : (rows : List VarBind) (row : VarBind) → OneOf rows row → Contains rows row
+one_is_contained [] row none = absurd none
+one_is_contained (first ∷ more) row (inl e) = (0, omega arith, sym e)
+one_is_contained (first ∷ more) row (inr one) =
+    let at = one_is_contained more row one in
+    (suc at.0, omega arith, at.2)
+
+each_one : (P : VarBind → Type 0) (rows : List VarBind) → ((row : VarBind) → OneOf rows row → P row)
+    → (k : ℕ) (d : VarBind) → k < length rows → P (slice_index_or rows k d)
+each_one P [] each k d within = absurd (omega arith)
+each_one P (row ∷ more) each zero d within = each row (inl refl)
+each_one P (row ∷ more) each (suc k) d within = each_one P more (λ other one. each other (inr one)) k d (omega arith)
+
+pairs_ordered : (rows : List VarBind) → AreOrdered rows → AllPairs (λ row later. Precedes row.name later.name) rows
+pairs_ordered [] ordered = λ i j d before within. absurd (omega arith)
+pairs_ordered (row ∷ more) ordered =
+    AllPairs-cons (λ r later. Precedes r.name later.name) row more
+    (each_one (λ later. Precedes row.name later.name) more ordered.0) (pairs_ordered more ordered.1)
+
+free_name : (ls : List (List ℕ)) (view : MibView) (o : List ℕ) → IsTableOf ls view → get view.rows o ≡ None → IsFree ls o
+free_name ls view o is none row has same =
+    let at : get view.rows row.name ≡ Some row.value = (is.rows row).1 has in
+    let at_o : get view.rows o ≡ Some row.value = ap (get view.rows) (sym same) ∙ at in
+    let no : ⊥ = cc in
+    no
+
+object_of : (ls : List (List ℕ)) (view : MibView) (o : List ℕ) → IsTableOf ls view → HasObject view o → IsOfObject ls o
+object_of ls view o is (object, rest, has, parts) = (object, rest, (is.objects object).0 has, parts)
+
+no_object_of : (ls : List (List ℕ)) (view : MibView) (o : List ℕ) → IsTableOf ls view → (HasObject view o → ⊥) → IsOfObject ls o → ⊥
+no_object_of ls view o is lacks (object, rest, has, parts) = lacks (object, rest, (is.objects object).1 has, parts)
+
+got_is : (ls : List (List ℕ)) (view : MibView) (o : List ℕ) (got : VarBind) → IsTableOf ls view → IsGet view o got → IsGot ls o got
+got_is ls view o got is (table.variable e row) = page.variable e ((is.rows got).0 row)
+got_is ls view o got is (table.unknown_object none lacks e) =
+    page.unknown_object (free_name ls view o is none) (no_object_of ls view o is lacks) e
+got_is ls view o got is (table.unknown_instance none has e) = page.unknown_instance (free_name ls view o is none) (object_of ls view o is has) e
+
+-- what a walk gives below its root
+abbrev pub BelowAreRows : Type 0
+BelowAreRows = (view : MibView) (root : List ℕ) (p : VarBind) → IsMibView view
+    → (OneOf (rows_below root (variables view)) p → IsRow view p × IsBelow p.name root)
+    × (IsRow view p × IsBelow p.name root → OneOf (rows_below root (variables view)) p)
+
+rows_are : (ls : List (List ℕ)) (view : MibView) (root : List ℕ) → IsTableOf ls view → IsMibView view → BelowAreRows
+    → AreOrdered (rows_below root (variables view)) → AreRowsBelow ls root (rows_below root (variables view))
+rows_are ls view root is is_view law ordered = record {
+  ordered = pairs_ordered (rows_below root (variables view)) ordered;
+  exact = λ row. (
+    λ has. (
+        let both = (law view root row is_view).0 (contained_is_one (rows_below root (variables view)) row has) in
+        ((is.rows row).0 both.0, both.1)
+        ),
+    λ has. one_is_contained (rows_below root (variables view)) row ((law view root row is_view).1 ((is.rows row).1 has.0, has.1)),
+  );
+}
+
+are_walked : (ls : List (List ℕ)) (root : List ℕ) (got : VarBind) (rows : List VarBind) → AreRowsBelow ls root rows → IsGot ls root got
+    → AreWalked ls root (or_only got rows)
+are_walked ls root got [] are is_got = page.none_below got are is_got refl
+are_walked ls root got (row ∷ more) are is_got = page.below (λ e. cc) are
+
+-- ---- what is written
+
+front_is : (mib : Mib) (before after : Stream) (rows first rest : List VarBind) (text : List ℕ) → HasNoSyntax mib → rows ≡ first ++ rest
+    → AreLines mib numeric_letters first text ⊎ ((shown : List ℕ) × AreLines mib numeric_letters rows shown × (text ≡ shown ++ []))
+    → TakesFront before text after → TakesFront before (flat_map row_line rows) after
+front_is mib before after rows first rest text none parts (inl are) taken = record {
+  front = taken.front;
+  rest = taken.rest ++ flat_map row_line rest;
+  parts =
+      ap (flat_map row_line) parts ∙ flat_map-append row_line first rest
+      ∙ ap (λ (t : List ℕ). t ++ flat_map row_line rest) (sym (lines_are mib none first text are) ∙ taken.parts)
+      ∙ append_assoc taken.front taken.rest (flat_map row_line rest);
+  taken = taken.taken;
+}
+front_is mib before after rows first rest text none parts (inr (shown, are, whole)) taken =
+    subst (λ (t : List ℕ). TakesFront before t after) (whole ∙ append-nil shown ∙ lines_are mib none rows shown are) taken
+
+all_are : (mib : Mib) (before after : Stream) (rows : List VarBind) (text : List ℕ) → HasNoSyntax mib
+    → ((shown : List ℕ) × AreLines mib numeric_letters rows shown × (text ≡ shown ++ [])) → after ≡ extended before text
+    → after ≡ extended before (flat_map row_line rows)
+all_are mib before after rows text none (shown, are, whole) written =
+    written ∙ ap (extended before) (whole ∙ append-nil shown ∙ lines_are mib none rows shown are)
+
+no_front : (front rest : List ℕ) → [] ≡ front ++ rest → front ≡ []
+no_front [] rest e = refl
+no_front (octet ∷ front) rest e = let no : ⊥ = cc in absurd no
+
+-- nothing is taken of no warnings
+same_taken : (before now : Stream) → (now ≡ before) ⊎ IsWritten before [] now → now.taken ≡ before.taken
+same_taken before now (inl same) = ap (λ (s : Stream). s.taken) same
+same_taken before now (inr (inl whole)) = ap (λ (s : Stream). s.taken) (whole ∙ extended-nil before)
+same_taken before now (inr (inr failed)) =
+    failed.begun.taken ∙ ap (appended before.taken) (no_front failed.begun.front failed.begun.rest failed.begun.parts)
+    ∙ ap (λ (s : Stream). s.taken) (extended-nil before)
+
+mishap_is : (before after err_before err_after : Stream) (status : ℕ) → (status ≡ 0) ⊎ IsMishap [] before after err_before err_after status
+    → (status ≡ 0) ⊎ ((status ≡ 1) × (HasRisen before.faults after.faults ⊎ IsOutOfMemoryTold err_before err_after))
+mishap_is before after err_before err_after status (inl zero_status) = inl zero_status
+mishap_is before after err_before err_after status (inr (one, inl risen)) = inr (one, inl risen)
+mishap_is before after err_before err_after status (inr (one, inr (now, told, same))) =
+    inr (one, inr (now, same_taken err_before now same, told))
+
+-- ---- what is needed
+
+wire_is : (o : List ℕ) → IsWire o → wire o ≡ o
+wire_is [] h = absurd h
+wire_is (x ∷ []) h = absurd h
+wire_is (x ∷ y ∷ more) h = refl
+
+kept_or_not : (b : Bool) (row : VarBind) (kept more : List VarBind) → length kept ≤ length more
+    → length (if b then row ∷ kept else kept) ≤ length (row ∷ more)
+kept_or_not true row kept more h = omega (arith, h)
+kept_or_not false row kept more h = omega (arith, h)
+
+filter_is_short : (test : VarBind → Bool) (rows : List VarBind) → length (filter test rows) ≤ length rows
+filter_is_short test [] = omega arith
+filter_is_short test (row ∷ more) = kept_or_not (test row) row (filter test more) more (filter_is_short test more)
+
+only_is_long : (got : VarBind) (rows : List VarBind) → length rows ≤ length (or_only got rows)
+only_is_long got [] = omega arith
+only_is_long got (row ∷ more) = omega arith
+
+-- where strings are short there is room for each row
+abbrev pub ShortHaveRoom : Type 0
+ShortHaveRoom = (agents : Agents) (view : MibView) (first : Walker) → first.community ≡ agents.community → length agents.community ≤ 30
+    → 1472 ≤ agents.max_size → length first.asked ≤ 128 → IsMibView view → ((p : VarBind) → IsRow view p → IsShort p.value)
+    → HasRoomForEach agents view first
+
+ids_are : (root : List ℕ) (got : VarBind) (vars : List VarBind) → length (or_only got (rows_below root vars)) ≤ 2147483644
+    → 1 + length (rest_of root (wire root) vars) + 2 ≤ 2147483647
+ids_are root got vars few =
+    let fewer = filter_is_short (λ row. comes_after (wire root) row.name) (rows_below root vars) in
+    let only = only_is_long got (rows_below root vars) in
+    omega (arith, few, fewer, only)
+
+asked_short : (root : List ℕ) → IsIdentifier root → IsWire root → length (wire root) ≤ 128
+asked_short root identifier sendable = subst (λ (o : List ℕ). length o ≤ 128) (sym (wire_is root sendable)) identifier.short
+
+feasible : (ls : List (List ℕ)) (path root : List ℕ) (view : MibView) (got : VarBind) → IsIdentifier root → IsWire root → IsTableOf ls view
+    → IsMibView view → ShortHaveRoom → ((row : VarBind) → HasRow ls row → IsShort row.value)
+    → length (or_only got (rows_below root (variables view))) ≤ 2147483644 → IsFeasible (walk_plan path root) view
+feasible ls path root view got identifier sendable is is_view room short few = record {
+  root = subst IsWire (sym (wire_is root sendable)) sendable;
+  after = tt;
+  room =
+      room (agent_over (walk_plan path root) view) view (first_of (walk_plan path root)) refl (omega arith) (omega arith)
+      (asked_short root identifier sendable) is_view (λ p row. short p ((is.rows p).0 row));
+  ids = ids_are root got (variables view) few;
+}
+
+-- ---- the walk
+
+abbrev walk_over : (files : Holdings) (path root text : List ℕ) → HoldsTableFile files path root text → IsTree [] bare [] → NumbersAreRead
+    → (view : MibView) → IsTableOf (lines text) view → (got : VarBind) → IsGet view (wire root) got
+    → IsWalk false (numeric_walk path root) files (or_only got (rows_below root (variables view)))
+walk_over files path root text holds loads read view is got is_got = record {
+  mib = bare_mib;
+  warnings = [];
+  known = bare_is_loaded loads files;
+  plan = walk_plan path root;
+  asked = words_ask read path root holds.named holds.identifier;
+  path = path;
+  over = refl;
+  text = text;
+  held = holds.held;
+  view = view;
+  table = is;
+  are_rows = (got, is_got, refl);
+}
+
+pub prints_rows : IsTree [] bare [] → NumbersAreRead → BelowAreRows
+    → ((view : MibView) (root : List ℕ) → IsMibView view → AreOrdered (rows_below root (variables view)))
+    → ((view : MibView) (o : List ℕ) → HasOne (IsGet view o)) → ShortHaveRoom
+    → ((ls : List (List ℕ)) → AreTable ls → (view : MibView) × IsTableOf ls view × IsMibView view)
+    → (files : Holdings) (path root text : List ℕ) (before after err_before err_after : Stream) (status : ℕ)
+    → HoldsTableFile files path root text → WritesFront false (numeric_walk path root) files before after
+    → WritesAllAtStatus0 false (numeric_walk path root) files before after status
+    → EndsAtStatus0 false (numeric_walk path root) files before after err_before err_after status
+    → PrintsRows (lines text) root before after err_before err_after status
+prints_rows loads read law ordered one_get room tables files path root text before after err_before err_after status holds front all ends =
+    let stated = tables (lines text) holds.table in
+    let view : MibView = stated.0 in
+    let is : IsTableOf (lines text) view = stated.1 in
+    let is_view : IsMibView view = stated.2 in
+    let one = one_get view (wire root) in
+    let got : VarBind = one.0 in
+    let is_got : IsGet view (wire root) got = one.1 in
+    let got_root : IsGet view root got = subst (λ (o : List ℕ). IsGet view o got) (wire_is root holds.sendable) is_got in
+    let rows : List VarBind = or_only got (rows_below root (variables view)) in
+    let walk : IsWalk false (numeric_walk path root) files rows = walk_over files path root text holds loads read view is got is_got in
+    let first = front rows walk in
+    record {
+      rows = rows;
+      are_walked = are_walked (lines text) root got (rows_below root (variables view)) (rows_are (lines text) view root is is_view law
+          (ordered view root is_view)) (got_is (lines text) view root got is got_root);
+      front = front_is bare_mib before after rows first.0 first.1 first.2 bare_has_no_syntax first.3 first.4 first.5;
+      all = λ zero_status. (
+          let whole = all rows walk zero_status in
+          all_are bare_mib before after rows whole.0 bare_has_no_syntax whole.1 whole.2
+          );
+      ends = λ short few. mishap_is before after err_before err_after status
+          (ends rows walk (feasible (lines text) path root view got holds.identifier holds.sendable is is_view room short few));
+    }

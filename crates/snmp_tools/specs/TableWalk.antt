@@ -1,0 +1,90 @@
+-- What `snmpwalk -On table:PATH ROOT` prints, where no module files are given and the root is in
+-- numbers: the rows of the table file that are below the root, in the order of their names. This is
+-- the page to begin at.
+--
+-- `table.Text` (snmp_agent) says what the lines of the file state, `RowText` which line a row has,
+-- and `Output` (snmp_io) what an output took.
+use Rattle.std.specs.Prelude.{◌≡◌, ◌≢◌, ◌⊎◌, ◌↔◌, ◌++◌, ◌≤◌, ℕ, List, [], ◌∷◌, length, codes}
+use Rattle.std.specs.Prelude.{AllPairs, Contains}
+use Rattle.std.specs.List.{flat_map}
+use Rattle.std.specs.Str.Lines.{lines}
+use Rattle.snmp_oid.specs.Identifier.{IsBelow, IsIdentifier, IsWire, Precedes}
+use Rattle.snmp_oid.specs.Numeric.{numeric_text}
+use Rattle.snmp_wire.specs.Message.{VarBind, no_such_object, no_such_instance}
+use Rattle.snmp_agent.specs.table.Text.{AreTable, HasPrefix, HasRow}
+use Rattle.snmp_walk.specs.Room.{IsShort}
+use Rattle.snmp_io.specs.Count.{HasRisen}
+use Rattle.snmp_io.specs.Files.{Holdings, Holds}
+use Rattle.snmp_io.specs.Output.{IsWritten, Stream, TakesFront, extended}
+use Rattle.snmp_tools.specs.RowText.{row_line}
+
+-- ---- what is asked for
+
+-- the words of the command line
+abbrev pub table_walk : (path root : List ℕ) → List (List ℕ)
+table_walk path root =
+    codes "snmp" ∷ codes "snmpwalk" ∷ codes "-On" ∷ (codes "table:" ++ path) ∷ numeric_text root
+    ∷ []
+
+-- The file at the path holds this text, whose lines are those of a table. The root can be sent: it
+-- has two numbers at least, the first from 0 to 2, and the second below 40 after a first of 0 or 1.
+pub record HoldsTableFile (files : Holdings) (path root text : List ℕ) : Type 0 where
+  pub named : path ≢ []
+  pub held : Holds files path text
+  pub table : AreTable (lines text)
+  pub identifier : IsIdentifier root
+  pub sendable : IsWire root
+
+-- ---- what there is below the root
+
+-- the rows of the lines that are below the root, and no others, each once: names rise
+pub record AreRowsBelow (lines : List (List ℕ)) (root : List ℕ) (rows : List VarBind) : Type 0 where
+  pub ordered : AllPairs (λ row later. Precedes row.name later.name) rows
+  pub exact : (row : VarBind) → Contains rows row ↔ (HasRow lines row × IsBelow row.name root)
+
+-- no row has this name
+abbrev pub IsFree : (lines : List (List ℕ)) → List ℕ → Type 0
+IsFree lines o = (row : VarBind) → HasRow lines row → row.name ≢ o
+
+-- an object's prefix begins the name, or is the name
+abbrev pub IsOfObject : (lines : List (List ℕ)) → List ℕ → Type 0
+IsOfObject lines o =
+    (object : List ℕ) × (rest : List ℕ) × HasPrefix lines object × (o ≡ object ++ rest)
+
+-- What a Get of a name gives (RFC 3416, section 4.2.1): the row of that name, or that there is no
+-- such object or no such instance of one.
+pub data IsGot (lines : List (List ℕ)) (o : List ℕ) (got : VarBind) : Type 0 where
+  variable : got.name ≡ o → HasRow lines got → IsGot lines o got
+  unknown_object : IsFree lines o → (IsOfObject lines o → ⊥)
+      → got ≡ record { name = o; value = no_such_object } → IsGot lines o got
+  unknown_instance : IsFree lines o → IsOfObject lines o
+      → got ≡ record { name = o; value = no_such_instance } → IsGot lines o got
+
+-- the rows below the root; where there are none, what a Get of the root gives
+pub data AreWalked (lines : List (List ℕ)) (root : List ℕ) (rows : List VarBind) : Type 0 where
+  below : rows ≢ [] → AreRowsBelow lines root rows → AreWalked lines root rows
+  none_below : (got : VarBind) → AreRowsBelow lines root [] → IsGot lines root got → rows ≡ got ∷ []
+      → AreWalked lines root rows
+
+-- ---- what is printed
+
+-- that memory ran out is told on standard error, which took nothing before that
+abbrev pub IsOutOfMemoryTold : (before after : Stream) → Type 0
+IsOutOfMemoryTold before after =
+    (now : Stream) × (now.taken ≡ before.taken) × IsWritten now (codes "Out of memory.\n") after
+
+-- the lines of the rows are printed, and the status says whether that was done
+pub record PrintsRows (lines : List (List ℕ)) (root : List ℕ)
+    (before after err_before err_after : Stream) (status : ℕ) : Type 0 where
+  pub rows : List VarBind
+  pub are_walked : AreWalked lines root rows
+  -- whatever fails, a front of their lines is written, and nothing else
+  pub front : TakesFront before (flat_map row_line rows) after
+  -- at status 0 all of them are
+  pub all : status ≡ 0 → after ≡ extended before (flat_map row_line rows)
+  -- Where strings are short and there are fewer rows than ids of requests, it is 0, unless the
+  -- output fails or memory runs out.
+  pub ends : ((row : VarBind) → HasRow lines row → IsShort row.value) → length rows ≤ 2147483644
+      → (status ≡ 0)
+      ⊎ ((status ≡ 1)
+      × (HasRisen before.faults after.faults ⊎ IsOutOfMemoryTold err_before err_after))
