@@ -51,19 +51,20 @@ letters() {
 
 # -- the help, whole; its example, wherever it is pasted; and the version
 
-# shown COMMAND: what the example in the help of a command prints.
-shown() {
-    sed -n '/^Example/{n;s/^  //p}' "tests/data/help/$1.txt" >"$got/example"
-    sed -i "s/127\.0\.0\.1:1161 --turns 30/127.0.0.1:$2 --turns 0/" "$got/example"
-    (mkdir -p "$got/empty" && cd "$got/empty" && PATH=${program%/*}:$PATH sh "$got/example" 2>&1)
-}
-
 # A port of UDP that is free.
 free_port() {
     python3 -c 'import socket
 door = socket.socket(socket.AF_INET, socket.SOCK_DGRAM)
 door.bind(("127.0.0.1", 0))
 print(door.getsockname()[1])'
+}
+port=$(free_port)
+
+# shown COMMAND: what the example in the help of a command prints. The agent's has no turns, at a port that is free.
+shown() {
+    sed -n '/^Example/{n;s/^  //p}' "tests/data/help/$1.txt" |
+        sed "s/127\.0\.0\.1:1161 --turns 30/127.0.0.1:$port --turns 0/" >"$got/example"
+    (mkdir -p "$got/empty" && cd "$got/empty" && PATH=${program%/*}:$PATH sh "$got/example" 2>&1)
 }
 
 same 'the help of snmp' "$(cat tests/data/help/snmp.txt)" "$("$program" --help)"
@@ -77,8 +78,7 @@ same 'the example of snmptranslate' '.1.3.6.1.2.1.1.5.0' "$(shown snmptranslate)
 same 'the example of snmpget' "$row" "$(shown snmpget)"
 same 'the example of snmpwalk' "$row" "$(shown snmpwalk)"
 same 'the example of snmpbulkwalk' "$row"$'\nVariables found: 1' "$(shown snmpbulkwalk)"
-port=$(free_port)
-same 'the example of snmpd' "listening on 127.0.0.1:$port"$'\n0 replies, 0 dropped' "$(shown snmpd "$port")"
+same 'the example of snmpd' "listening on 127.0.0.1:$port"$'\n0 replies, 0 dropped' "$(shown snmpd)"
 
 # -- the manual
 
