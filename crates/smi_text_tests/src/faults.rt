@@ -318,12 +318,19 @@ fn fault_of_line(alloc: Global, text: &[u8]) -> Result<Option<ParseError>, Alloc
     fault_of_pieces(alloc, &[text, b"\n"])
 }
 
-/// Appends braces to the front of a module, and asserts that it is read where all are closed.
-fn assert_deep(rt: &impl Abort, alloc: Global, text: &mut Vec<u8>) -> Result<(), AllocError> {
+/// Appends braces to the front of a module, and asserts that it is read where all are closed, with
+/// the last of them and what follows it, and else refused at its last line.
+fn assert_deep(
+    rt: &impl Abort,
+    alloc: Global,
+    text: &mut Vec<u8>,
+    rest: &[u8],
+) -> Result<(), AllocError> {
     put_braces(text, b'{')?;
     assert_eq!(rt; fault_of_line(alloc, text)?, syntax(2));
     put_braces(text, b'}')?;
-    text.extend_from_slice(b"}\nEND\n")?;
+    assert_eq!(rt; fault_of_line(alloc, text)?, syntax(2));
+    text.extend_from_slice(rest)?;
     assert_eq!(rt; counts(alloc, text), Ok((1, 1)));
     Ok(())
 }
@@ -332,6 +339,18 @@ fn assert_deep(rt: &impl Abort, alloc: Global, text: &mut Vec<u8>) -> Result<(),
 fn deep_braces(rt: HostRuntime) -> Result<(), Fail> {
     let alloc = rt.alloc();
     let mut text = Vec::from_slice(alloc, b"A DEFINITIONS ::= BEGIN\nX ::= CHOICE {")?;
-    assert_deep(&rt, alloc, &mut text)?;
+    assert_deep(&rt, alloc, &mut text, b"}\nEND\n")?;
+    Ok(())
+}
+
+#[test]
+fn deep_braces_of_a_default(rt: HostRuntime) -> Result<(), Fail> {
+    let alloc = rt.alloc();
+    let mut text = Vec::from_slice(
+        alloc,
+        b"A DEFINITIONS ::= BEGIN\nx OBJECT-TYPE SYNTAX INTEGER MAX-ACCESS read-only \
+STATUS current DESCRIPTION \"\" DEFVAL {",
+    )?;
+    assert_deep(&rt, alloc, &mut text, b"} ::= { iso 1 }\nEND\n")?;
     Ok(())
 }

@@ -1,8 +1,15 @@
 //! Datagrams and their replies, worked out by hand.
+ghost use Rattle.std.specs.Prelude.{IsTrue};
+ghost use Rattle.snmp_wire.specs.Canon.{IsEncodable};
+ghost use Rattle.snmp_wire.specs.ber.Canon.{IsEncodableValue};
+ghost use Rattle.snmp_wire.specs.ber.Value.{datum};
+ghost use Rattle.snmp_wire.specs.Message.{var_bind};
 
 use crate::table::repeated;
 use snmp_agent::{Config, Outcome, Table, Why, answer};
-use snmp_wire::decode;
+use snmp_wire::{
+    Binding, MessageRef, Parts, ValueRef, binding_size, decode, encode_binding, encode_head,
+};
 use std::process::Abort;
 
 /// The table of sysName.0 alone.
@@ -205,29 +212,87 @@ fn the_longest_name_is_given(rt: HostRuntime) {
     assert_reply(&rt, &table, 669, &NEXT, &TOO_BIG);
 }
 
-/// Whether the request is dropped, or has a reply that is a message.
-fn is_harmless(table: &Table, request: &[u8], out: &mut [u8; 65507]) -> bool {
-    match outcome(table, 1472, request, out) {
-        Outcome::Reply(size) => decode(&out[..size.min(65507)]).is_ok(),
-        Outcome::Dropped(_) => true,
+/// Asserts that a binding has an encoding.
+fn assert_encodable(rt: &impl Abort, binding: &Binding<'_>)
+    ensures { IsEncodable (var_bind binding.now) }
+{
+    assert!(rt; binding.name.is_wire());
+    assert!(rt; is_encodable(&binding.value));
+}
+
+/// Whether a value has an encoding.
+fn is_encodable(value: &ValueRef<'_>) -> bool
+    ensures { IsTrue result → IsEncodableValue (datum value.now) }
+{
+    match value {
+        ValueRef::Octets(text) | ValueRef::Opaque(text) => text.len() <= 65535,
+        ValueRef::ObjectId(name) => name.is_wire(),
+        _ => true,
     }
 }
 
-/// Whatever one octet of the request is made, a reply is a message.
+/// How many octets the bindings of a message take, each in its shortest encoding.
+fn octets_of_bindings(rt: &impl Abort, message: &MessageRef<'_>) -> u64 {
+    let mut total: u64 = 0;
+    for binding in message.bindings() {
+        assert_encodable(rt, &binding);
+        total = total.saturating_add(binding_size(&binding));
+    }
+    total
+}
+
+/// Writes the shortest encoding of a message up to its bindings, which take `total` octets.
+fn write_head(rt: &impl Abort, message: &MessageRef<'_>, total: u64, out: &mut [u8]) -> usize {
+    let parts = Parts {
+        version: message.version(),
+        community: message.community(),
+        kind: message.kind(),
+        id: message.id(),
+        a: message.a(),
+        b: message.b(),
+        bindings: &[],
+    };
+    assert!(rt; total <= 4_000_000_000 && parts.community.len() <= 65535);
+    encode_head(&parts, total, out).expect(rt, "room for the head")
+}
+
+/// Asserts that the octets are the shortest encoding of the message that they encode.
+fn assert_shortest(rt: &impl Abort, octets: &[u8]) {
+    let Ok(message) = decode(octets) else {
+        panic!(rt; "they encode a message")
+    };
+    let mut out = [0; 1472];
+    let mut size = write_head(rt, &message, octets_of_bindings(rt, &message), &mut out);
+    for binding in message.bindings() {
+        assert_encodable(rt, &binding);
+        assert!(rt; size <= out.len());
+        let written = encode_binding(&binding, &mut out[size..]);
+        size = size.saturating_add(written.expect(rt, "room for a binding"));
+    }
+    assert!(rt; size <= out.len());
+    assert_eq!(rt; octets, &out[..size]);
+}
+
+/// Whatever one octet of the request is made, it is dropped, or its reply is a message in its
+/// shortest encoding.
 fn assert_messages(rt: &impl Abort, table: &Table, request: &[u8; 40]) {
     let mut out = [0; 65507];
     for place in 0..40 {
         for octet in 0..=255 {
             let changed = with_octet(request, place, octet);
-            assert!(rt; is_harmless(table, &changed, &mut out));
+            if let Outcome::Reply(size) = outcome(table, 1472, &changed, &mut out) {
+                assert_shortest(rt, &out[..size.min(1472)]);
+            }
         }
     }
 }
 
 #[test]
-fn a_changed_octet_does_no_harm(rt: HostRuntime) {
+fn with_any_octet_changed_a_reply_is_in_its_shortest_encoding(rt: HostRuntime) {
     let table = Table::read(rt.alloc(), SYS_NAME).expect(&rt, "a table");
     assert_messages(&rt, &table, &GET);
+    assert_messages(&rt, &table, &with_octet(&GET, 13, 0xA1));
+    assert_messages(&rt, &table, &with_octet(&GET, 13, 0xA3));
     let bulk = with_octet(&with_octet(&GET, 13, 0xA5), 23, 0x02);
     assert_messages(&rt, &table, &bulk);
 }
