@@ -1,9 +1,13 @@
--- What an error of the machine says of a file.
-use Rattle.std.specs.Prelude.{◌≡◌}
+-- How large a file may be, and what an error of the machine says of one.
+use Rattle.std.specs.Prelude.{◌≡◌, ℕ}
 use Rattle.std.specs.IoError.{error_kind}
 use Rattle.std.specs.declared.io.ErrorKind.TheVariants.{OutOfMemory}
 use Rattle.snmp_io.specs.declared.machine.ReadError.{ReadError}
 use Rattle.snmp_io.specs.declared.machine.ReadError.TheVariants.{Failed, TooLong}
+
+-- the greatest number of octets of a file that is read, 256 MiB
+abbrev pub most_octets : ℕ
+most_octets = 268435456
 
 -- the read failed because memory ran out
 abbrev pub IsWantOfMemory : ReadError → Type 0

@@ -1,7 +1,7 @@
 //! The machine's own outputs and files, of which nothing is known.
 ghost use Rattle.std.specs.Prelude.{◌≡◌, ◌<◌, ◌≤◌, ◌↔◌, ℕ, None, IfOk, IfSome, IsErrOf};
 ghost use Rattle.std.specs.Prelude.{length, vec_len};
-ghost use Rattle.snmp_io.specs.Machine.{IsWantOfMemory};
+ghost use Rattle.snmp_io.specs.Machine.{IsWantOfMemory, most_octets};
 
 use crate::files::{FileFault, Files};
 use crate::output::{Output, OutputFault};
@@ -119,9 +119,9 @@ impl ReadError {
 pub fn read_whole<R: Read + Drop>(alloc: Global, from: R) -> Result<Vec<u8>, ReadError>
     ensures whole { IfOk result (λ text.
         IfSome (R.remaining from) (λ octets. text.items ≡ octets)) }
-    ensures within_limit { IfOk result (λ text. vec_len text ≤ MOST_OCTETS) }
+    ensures within_limit { IfOk result (λ text. vec_len text ≤ most_octets) }
     ensures too_long { IsErrOf result ReadError.TooLong
-        → IfSome (R.remaining from) (λ octets. MOST_OCTETS < length octets) }
+        → IfSome (R.remaining from) (λ octets. most_octets < length octets) }
 {
     let mut text = Vec::new(alloc);
     match from.take(MOST_OCTETS as u64 + 1).read_to_end(&mut text) {
