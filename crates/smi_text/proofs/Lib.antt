@@ -27,6 +27,7 @@ pub mod Fronts
 pub mod Lines
 pub mod LexerFronts
 pub mod Scans
+pub mod Places
 pub mod Parts
 pub mod Classes
 pub mod ItemsLemmas

@@ -13,6 +13,7 @@ ghost use Rattle.smi_text.specs.lexer.Reading.{symbol_part};
 
 use crate::lexer::class::{Class, class_of_octet};
 use crate::lexer::token::TokenKind;
+use memchr::memchr;
 
 fn is_blank(octet: u8) -> bool
     ensures { result ≡ is_blank octet }
@@ -97,12 +98,7 @@ fn comment_rest_len(text: &[u8]) -> usize
 fn place_of(octet: u8, text: &[u8]) -> Option<usize>
     ensures { IsFirstPlace octet text.now result }
 {
-    'octets: for (i, other) in text.iter().enumerate() {
-        if *other == octet {
-            return Some(i);
-        }
-    }
-    None
+    memchr(octet, text)
 }
 
 /// How many of the octets after a string's first quote belong to it.
