@@ -6,7 +6,7 @@ use Rattle.snmp_io.specs.Count.{HasRisen}
 use Rattle.snmp_io.specs.Output.{FailsWithin, Stream, extended}
 use Rattle.snmp_io.specs.Streams.{extended-twice}
 
-rest_whole : (w : ℕ) (text : List ℕ) → take (length text - w) (drop w text) ≡ drop w text
+pub rest_whole : (w : ℕ) (text : List ℕ) → take (length text - w) (drop w text) ≡ drop w text
 rest_whole w text = ap (λ n. take n (drop w text)) (sym (length-drop w text)) ∙ take-length (drop w text)
 
 -- n more octets of the text

@@ -3,6 +3,8 @@ pub mod Files
 pub mod Machine
 pub mod Memory
 pub mod Output
+pub mod QuoteLaws
+pub mod Quotes
 pub mod Steps
 pub mod Streams
 pub mod draft

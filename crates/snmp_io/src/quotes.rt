@@ -1,0 +1,43 @@
+//! Texts with quotes, and where they are cut: names that are given as text, and the lines of a
+//! table, have parts that end at an octet outside quotes.
+ghost use Rattle.std.specs.Prelude.{◌≡◌, MatchOption};
+ghost use Rattle.snmp_io.specs.Quotes.{HasNoneOutside, IsCut, IsFrontOf, open_after};
+
+/// The texts before and after the first octet that equals `stop` and stands outside quotes, or None
+/// where there is none. A quote opens with `"` or `'`, and ends with the next octet of its kind.
+pub fn split_unquoted(text: &[u8], stop: u8) -> Option<(&[u8], &[u8])>
+    ensures { MatchOption result (HasNoneOutside stop text.now)
+        (λ parts. IsCut stop text.now parts.0.now parts.1.now) }
+{
+    let mut quote = None;
+    'octets: for (at, octet) in text.iter().enumerate() {
+        if quote.is_none() && *octet == stop {
+            return Some((&text[..at], &text[at + 1..]));
+        }
+        quote = open_after(quote, *octet);
+    }
+    None
+}
+
+/// What stands before the first octet that equals `stop` and stands outside quotes, or the whole
+/// text where there is none.
+pub fn unquoted_front(text: &[u8], stop: u8) -> &[u8]
+    ensures { IsFrontOf stop text.now result.now }
+{
+    match split_unquoted(text, stop) {
+        Some((front, _)) => front,
+        None => text,
+    }
+}
+
+/// The quote that is open after one more octet.
+pub fn open_after(before: Option<u8>, octet: u8) -> Option<u8>
+    ensures { result ≡ open_after before octet }
+{
+    match before {
+        None if octet == b'"' || octet == b'\'' => Some(octet),
+        None => None,
+        Some(quote) if octet == quote => None,
+        Some(quote) => Some(quote),
+    }
+}
