@@ -45,7 +45,7 @@ def start(*words, before=(), **where):
 def ended(program):
     """Its status, and the rest of what it wrote to its output, where that is a pipe to here, and said."""
     try:
-        output, messages = program.communicate(timeout=60)
+        output, messages = program.communicate(timeout=300)
     except subprocess.TimeoutExpired:
         program.kill()
         output, messages = program.communicate()
@@ -58,11 +58,11 @@ def run(*words, **how):
 
 def until(holds):
     """Waits until this holds."""
-    for _ in range(6000):
+    for _ in range(30000):
         if holds():
             return
         time.sleep(0.01)
-    raise RuntimeError("it didn't come to that in a minute")
+    raise RuntimeError("it didn't come to that in five minutes")
 
 
 def state(pid):
@@ -414,7 +414,7 @@ def full_disk():
             "$@" >out
             status=$?
             cat out
-            exit $status""", "-", folder, PROGRAM, *words], capture_output=True, text=True, timeout=60, check=False)
+            exit $status""", "-", folder, PROGRAM, *words], capture_output=True, text=True, timeout=300, check=False)
         return wrongs(differs(ran.stdout == LONG_TEXT[:131072], True),
                       differs((ran.returncode, ran.stderr), (1, FAILED)))
 
@@ -701,7 +701,7 @@ networks = subprocess.run(["unshare", "-rn", "sh", "-c", "echo 40000 40001 >/pro
 def no_ports():
     with file(stated(SOME)) as table:
         ran = subprocess.run(["unshare", "-rn", sys.executable, "-c", NO_PORTS, table, PROGRAM, ROOT],
-                             capture_output=True, text=True, timeout=60, check=False)
+                             capture_output=True, text=True, timeout=300, check=False)
         return differs((ran.stdout, ran.stderr), (f"{[1, '', NO_LINK]}\n{[0, SOME_TEXT, '']}\n", ""))
 
 

@@ -503,6 +503,8 @@ walks("an error status amid a walk", f"snmpwalk -On -Cp AGENT {ROOT}",
 walks("an error status in the reply to the last Get", f"snmpwalk -On AGENT {ROOT}",
       lambda seen: (serving({}) if len(seen) == 1 else failing(16, 0))(seen), "",
       "Error in packet: authorizationError (16), index 0\n", 2, asked=nexts(R) + get(R, id=2))
+walks("an error status of no name", f"snmpwalk -On AGENT {ROOT}", failing(19, 0), "",
+      "Error in packet: unknown (19), index 0\n", 2, asked=nexts(R))
 walks("an error status below 0", f"snmpbulkwalk AGENT {ROOT}", failing(-1, -2147483648), "",
       "Error in packet: unknown (-1), index -2147483648\n", 2, asked=bulks(10, R))
 
