@@ -1,0 +1,79 @@
+//! Values and tables.
+
+use crate::Fault;
+use crate::room::Room;
+use snmp_agent::{Config, Outcome, PutError, Table, TableError, answer};
+use snmp_oid::parse_numeric;
+use snmp_wire::{Value, ValueRef, decode};
+use std::alloc::Global;
+
+/// The agent's community and greatest message.
+const CONFIG: Config<'static> = Config {
+    community: b"public",
+    max_size: 1472,
+};
+
+/// `Value::from_ref`, for each value of a message: the names of its bindings.
+pub fn values(alloc: Global, datagram: &[u8], room: &mut Room<'_>) -> Result<(), Fault> {
+    let Ok(message) = decode(datagram) else {
+        return Err(Fault::Wrong);
+    };
+    'bindings: for binding in message.bindings() {
+        match Value::from_ref(alloc, &binding.value) {
+            Ok(value) if value.as_ref() == binding.value => room.append_name(&binding.name),
+            Ok(_) => return Err(Fault::Wrong),
+            Err(_) => return Err(Fault::Refused),
+        }
+    }
+    Ok(())
+}
+
+/// The table that a text states.
+fn table_of(alloc: Global, text: &[u8]) -> Result<Table, Fault> {
+    match Table::read(alloc, text) {
+        Ok(table) => Ok(table),
+        Err(TableError::Memory) => Err(Fault::Refused),
+        Err(_) => Err(Fault::Wrong),
+    }
+}
+
+/// `Table::read`: the reply to a request over the table.
+pub fn table(alloc: Global, text: &[u8], request: &[u8], room: &mut Room<'_>) -> Result<(), Fault> {
+    let table = table_of(alloc, text)?;
+    reply(&table, request, room);
+    Ok(())
+}
+
+/// Appends the reply to a request.
+fn reply(table: &Table, request: &[u8], room: &mut Room<'_>) {
+    let mut octets = [0; 65507];
+    if let Outcome::Reply(size) = answer(table, &CONFIG, request, &mut octets) {
+        room.append(octets.get(..size).unwrap_or(&[]));
+    }
+}
+
+/// `Table::put` of a string at 1.3.6.1.4.1.32473.1.5.0: the reply to a request then. Where it is
+/// refused, the reply is as before.
+pub fn put(alloc: Global, text: &[u8], request: &[u8], room: &mut Room<'_>) -> Result<(), Fault> {
+    let mut table = table_of(alloc, text)?;
+    let Ok(name) = parse_numeric(b"1.3.6.1.4.1.32473.1.5.0") else {
+        return Err(Fault::Wrong);
+    };
+    let mut octets = ([0; 1472], [0; 1472]);
+    reply(&table, request, &mut Room::new(&mut octets.0));
+    match table.put(&name, ValueRef::Octets(b"sextet")) {
+        Ok(_) => {
+            reply(&table, request, room);
+            Ok(())
+        }
+        Err(PutError::Memory) => {
+            reply(&table, request, &mut Room::new(&mut octets.1));
+            if octets.0 == octets.1 {
+                Err(Fault::Refused)
+            } else {
+                Err(Fault::Wrong)
+            }
+        }
+        Err(_) => Err(Fault::Wrong),
+    }
+}

@@ -1,0 +1,90 @@
+//! The program `heap_checks CHECK FILE FILE`, which `tests/heap.py` runs over a heap that refuses
+//! memory.
+//!
+//! A check makes a call that takes memory, on the octets of the two files. It prints the call's
+//! whole answer, for which it takes none, with status 0; or nothing, with status 1, where memory
+//! was refused and it has seen that what was to be changed is as it was. Status 2: a wrong answer.
+#![tactic(auto)]
+
+mod agents;
+mod modules;
+mod room;
+mod texts;
+
+use crate::room::Room;
+use snmp_io::{FileFault, Files, MachineFiles, MachineOutput, write_all};
+use std::alloc::Global;
+use std::env::Env;
+use std::process::ExitCode;
+use std::{env, rt};
+
+/// Why there is no whole answer.
+#[derive(Clone, Copy, Debug)]
+pub(crate) enum Fault {
+    /// Memory was refused, and what was to be changed is as it was.
+    Refused,
+    /// What was to be changed isn't as it was, or an error has no cause.
+    Wrong,
+}
+
+fn main(rt: HostRuntime) -> ExitCode {
+    let mut octets = [0; 16384];
+    let mut room = Room::new(&mut octets);
+    let status = match run(&rt, &mut room) {
+        Ok(()) => {
+            let mut out = MachineOutput::new(rt.stdout());
+            match write_all(&mut out, room.octets()) {
+                Ok(()) => 0,
+                Err(_) => 2,
+            }
+        }
+        Err(Fault::Refused) => 1,
+        Err(Fault::Wrong) => 2,
+    };
+    ExitCode::from(status)
+}
+
+/// The check that the words name, on the files that they name.
+fn run<R: Env + rt::Files + AllocGlobal>(rt: &R, room: &mut Room<'_>) -> Result<(), Fault> {
+    let Ok(words) = env::args(rt) else {
+        return Err(Fault::Refused);
+    };
+    let Ok(words): Result<Vec<String>, _> = words.collect(rt.alloc()) else {
+        return Err(Fault::Refused);
+    };
+    let [_, check, first, second] = words.as_slice() else {
+        return Err(Fault::Wrong);
+    };
+    let first = file(rt, first)?;
+    let second = file(rt, second)?;
+    check_by(rt.alloc(), check, &first, &second, room)
+}
+
+/// The octets of a file.
+fn file<R: rt::Files + AllocGlobal>(rt: &R, path: &str) -> Result<Vec<u8>, Fault> {
+    let files = MachineFiles { rt };
+    match files.read(rt.alloc(), path) {
+        Ok(octets) => Ok(octets),
+        Err(FileFault::Memory) => Err(Fault::Refused),
+        Err(FileFault::Unreadable) => Err(Fault::Wrong),
+    }
+}
+
+/// The check of this name.
+fn check_by(
+    alloc: Global,
+    check: &str,
+    first: &[u8],
+    second: &[u8],
+    room: &mut Room<'_>,
+) -> Result<(), Fault> {
+    match check {
+        "values" => agents::values(alloc, first, room),
+        "table" => agents::table(alloc, first, second, room),
+        "put" => agents::put(alloc, first, second, room),
+        "modules" => modules::modules(alloc, first, room),
+        "tree" => modules::tree(alloc, first, room),
+        "hint" => texts::hint(alloc, first, second, room),
+        _ => texts::shown(alloc, check, first, second, room),
+    }
+}

@@ -1,0 +1,71 @@
+//! Texts, each of which is appended to `before: `.
+
+use crate::Fault;
+use crate::modules::tree_of;
+use crate::room::Room;
+use smi_show::{Letters, detail, line, name_text, value_text};
+use smi_tree::Tree;
+use smi_value::{Hint, HintValue, write_hint};
+use snmp_oid::{Oid, parse_numeric};
+use snmp_wire::ValueRef;
+use std::alloc::{AllocError, Global};
+
+const BEFORE: &[u8] = b"before: ";
+
+/// Prints a text that was appended to; where that was refused, it is as before.
+fn told(ended: Result<(), AllocError>, text: &[u8], room: &mut Room<'_>) -> Result<(), Fault> {
+    if ended.is_ok() {
+        room.append(text);
+        Ok(())
+    } else if text == BEFORE {
+        Err(Fault::Refused)
+    } else {
+        Err(Fault::Wrong)
+    }
+}
+
+/// `write_hint`, of octets.
+pub fn hint(alloc: Global, hint: &[u8], octets: &[u8], room: &mut Room<'_>) -> Result<(), Fault> {
+    let Ok(mut text) = Vec::from_slice(alloc, BEFORE) else {
+        return Err(Fault::Refused);
+    };
+    let Some(hint) = Hint::parse(hint) else {
+        return Err(Fault::Wrong);
+    };
+    if hint.is_number() {
+        return Err(Fault::Wrong);
+    }
+    let ended = write_hint(&hint, HintValue::Octets(octets), &mut text);
+    told(ended, text.as_slice(), room)
+}
+
+/// `name_text`, `value_text`, `line` or `detail`, by the modules of a text, of the instance of this
+/// name, whose value has six octets.
+pub fn shown(
+    alloc: Global,
+    check: &str,
+    modules: &[u8],
+    name: &[u8],
+    room: &mut Room<'_>,
+) -> Result<(), Fault> {
+    let tree = tree_of(alloc, modules)?;
+    let Ok(name) = parse_numeric(name) else {
+        return Err(Fault::Wrong);
+    };
+    let Ok(mut text) = Vec::from_slice(alloc, BEFORE) else {
+        return Err(Fault::Refused);
+    };
+    let ended = append(&tree, check, &name, &mut text);
+    told(ended, text.as_slice(), room)
+}
+
+fn append(tree: &Tree, check: &str, name: &Oid, text: &mut Vec<u8>) -> Result<(), AllocError> {
+    let letters = Letters::new();
+    let value = ValueRef::Octets(b"\x00\x16\x3e\x5a\x78\x8e");
+    match check {
+        "name" => name_text(tree, &letters, name, text),
+        "value" => value_text(tree, &letters, name, &value, text),
+        "line" => line(tree, &letters, name, &value, text),
+        _ => detail(tree, &letters, name, text),
+    }
+}

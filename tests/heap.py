@@ -1,0 +1,194 @@
+#!/usr/bin/env python3
+"""Refuses memory, one request after the other, over the heap of tests/heap.c: to the calls that take it, by the program
+heap_checks, and to command lines of the tools.
+
+usage: heap.py
+
+Each run has its whole answer, or is refused, and what was to be changed is as it was; each block that it took is given
+back. Of a command line that is refused, what is written is whole lines from the beginning of its text, and 'Out of
+memory.' with status 1 (or that of an agent's error). Where no request was refused, the answer is the whole one, with
+the message of its own reason. The last line is 'N passed, M failed'.
+
+Catches, in wrong programs that prove as well: half a line where memory runs out; a beginning of the lines at status 0,
+or without a message; a line that is left out; a block that is kept; 'Out of memory.' where no request was refused.
+"""
+import os
+import subprocess
+import sys
+import tempfile
+
+import network
+from network import (E, GET, NULL, PROGRAM, RESPONSE, ROOT, Server, dotted, element, here, message, read, served, test,
+                     text)
+
+# Its own tests are run by itself.
+network.tests.clear()
+CHECKS = os.path.join(here, "..", "crates", "heap_checks", "out", "heap_checks")
+MEMORY = "Out of memory.\n"
+folder = tempfile.TemporaryDirectory()
+
+
+def path(name, octets):
+    """A file with these octets, in the folder where programs run."""
+    with open(f"{folder.name}/{name}", "wb") as file:
+        file.write(octets)
+    return name
+
+
+def judged(words, is_whole, is_refused, keeps=False):
+    """What is wrong with the answers of a program, whose status, output and messages these are told."""
+    ran = subprocess.run(words, cwd=folder.name, env={**os.environ, "LD_PRELOAD": f"{folder.name}/heap.so"},
+                         stdin=subprocess.DEVNULL, capture_output=True, text=True, timeout=300, check=False)
+    wrong, refusals = [], 0
+    for line in ran.stdout.splitlines():
+        how, times, status, kept, *texts = line.split(" ")
+        answer = (int(status), *(bytes.fromhex(it.strip("-")).decode(errors="replace") for it in texts))
+        refusals += int(times) * (how == "refused")
+        if not (is_whole(*answer) or how == "refused" and is_refused(*answer)) or (kept != "0" and not keeps):
+            wrong.append(f"{how}, {times} times, {kept} blocks kept: {str(answer)[:300]}")
+    if ran.returncode or ran.stderr or refusals == 0:
+        wrong.append(f"status {ran.returncode}, {ran.stderr!r}, {refusals} runs were refused memory")
+    return "\n  ".join(wrong[:5])
+
+
+# -- the calls
+
+with open(f"{here}/data/tiny.txt", "rb") as tiny:
+    TINY = tiny.read()
+with open(f"{here}/data/tiny.tab", "rb") as tiny:
+    TINY_TABLE = tiny.read()
+# More rows than a page of a table has.
+ROWS = {E + (1, i, 0): text(b"%d" % i) for i in range(1, 300) if i != 5}
+TABLE = "".join(f"{dotted(name)}|4|{name[-2]}\n" for name in ROWS).encode()
+NAMES = [E + (1, i, 0) for i in (4, 5, 6)]
+ASKED = message(GET, 1, [(name, NULL) for name in NAMES])
+
+
+def shown(rows):
+    """The reply to ASKED over these rows, as a text."""
+    return served(rows, read(ASKED)).decode(errors="replace")
+
+
+def calls(title, check, a, b, whole):
+    @test(f"{title}, with each request for memory refused")
+    def it():
+        files = [path(f"{title.replace(' ', '_')}.{i}", octets) for i, octets in enumerate([a, b])]
+        return judged([CHECKS, check, *files], lambda *answer: answer == (0, whole, ""),
+                      lambda *answer: answer == (1, "", ""))
+
+
+calls("Value::from_ref", "values",
+      message(RESPONSE, 1, [((1, 3, 6), text(b"wes")), ((1, 3, 7), element(0x44, b"\1\2"))]), b"",
+      ".1.3.6\n.1.3.7\n")
+calls("Table::read", "table", TABLE, ASKED, shown(ROWS))
+calls("Table::put", "put", TABLE, ASKED, shown({**ROWS, E + (1, 5, 0): text(b"sextet")}))
+calls("Table::put in place of a value", "put", TABLE + b".1.3.6.1.4.1.32473.1.5.0|2|1", ASKED,
+      shown({**ROWS, E + (1, 5, 0): text(b"sextet")}))
+LABELS = """TINY-SMI enterprises private internet TINY-MIB tiny Mac tinyState tinyTable tinyEntry TinyEntry tinyName
+tinyMac tinyKeyTable tinyKeyEntry TinyKeyEntry tinyKeyUse loopA loopB
+"""
+calls("parse_modules", "modules", TINY, b"", LABELS.replace(" ", "\n"))
+NODES = [".0", ".1", ".2", ".1.3.6.1.4.1", ".1.3.6.1.4", ".1.3.6.1"] + [f"{dotted(E)}{rest}" for rest in (
+    "", ".1", ".2", ".2.1", ".2.1.1", ".2.1.2", ".3", ".3.1", ".3.1.1")]
+calls("Tree::load", "tree", TINY, b"", "".join(f"{name}\n" for name in NODES))
+calls("write_hint", "hint", b"2d-1d-1d,1d:1d:1d.1d,1a1d:1d", bytes.fromhex("07C8051A0D1E0F002D0400"),
+      "before: 1992-5-26,13:30:15.0,-4:0")
+MAC = f"{dotted(E)}.2.1.2.3.119.101.115"
+calls("name_text", "name", TINY, MAC.encode(), 'before: TINY-MIB::tinyMac."wes"')
+calls("value_text", "value", TINY, MAC.encode(), "before: STRING: 0:16:3e:5a:78:8e")
+calls("line", "line", TINY, MAC.encode(), 'before: TINY-MIB::tinyMac."wes" = STRING: 0:16:3e:5a:78:8e\n')
+DETAIL = """TINY-MIB::tinyState
+tinyState OBJECT-TYPE
+  -- FROM	TINY-MIB
+  SYNTAX	INTEGER { up ( 1 ) , down ( 2 ) }
+  MAX-ACCESS	read-only
+  STATUS	current
+  DESCRIPTION	"State."
+::= { iso(1) 3 6 internet(1) private(4) enterprises(1) tiny(32473) 1 }
+"""
+calls("detail", "detail", TINY, ROOT.encode(), f"before: {DETAIL}")
+
+
+# -- the tools
+
+THREE = b"1.3.6.1.4.1.32473.1.10.0|2|3\n1.3.6.1.4.1.32473.1.2.0|4|wes\n1.3.6.1.4.1.32473.1.1.0|2|1\n"
+WARNINGS = """snmp: TINY-MIB imports absent from TINY-SMI, which has no absent
+snmp: TINY-MIB imports from GONE-MIB, which is not loaded
+snmp: TINY-MIB::loopA stands on a cycle
+snmp: TINY-MIB::loopB stands on a cycle
+"""
+FIRST, SECOND, THIRD = (f"{ROOT}.{rest}\n" for rest in ("1.0 = INTEGER: 1", '2.0 = STRING: "wes"', "10.0 = INTEGER: 3"))
+MISSING = "No Such Object available on this agent at this OID"
+
+
+def runs(words, output, messages="", status=0, table=THREE, modules=TINY):
+    """A test that a command line prints this, and that with memory refused it is refused so. Where nothing is told of
+    its output, that is what it prints as it is."""
+    warnings = WARNINGS if messages.startswith(WARNINGS) else ""
+    assert MEMORY not in messages
+
+    @test(f"{words[:70]}, with each request for memory refused")
+    def it():
+        files = {name: path(f"{name}.{abs(hash(octets))}", octets)
+                 for name, octets in [("TABLE", table), ("MODULES", modules)]}
+        line, said = words, messages
+        for name, file in files.items():
+            line, said = line.replace(name, file), said.replace(name, file)
+        line = [PROGRAM, *line.split(" ")]
+        whole = subprocess.run(line, cwd=folder.name, capture_output=True, text=True, timeout=60, check=False)
+        whole = whole.returncode, whole.stdout, whole.stderr
+        wrong = network.differs(whole, (status, whole[1] if output is None else output, said))
+        # The status of an agent's error stays where its message can't be made.
+        return wrong or judged(line, lambda *answer: answer == whole, lambda ended, wrote, said: (
+            ended in (1, status or 1) and whole[1].startswith(wrote) and wrote[-1:] in ("", "\n")
+            and said in (MEMORY, warnings + MEMORY)))
+
+
+@test("a walk over UDP, with each request for memory refused")
+def over_udp():
+    whole = FIRST + SECOND + THIRD
+    with Server(table=THREE.decode()) as server:
+        # The system's own calls take memory too, and may keep it.
+        return judged([PROGRAM, "snmpwalk", "-On", "-t4", server.place, ROOT], lambda *answer: answer == (0, whole, ""),
+                      lambda status, wrote, said: (status == 1 and whole.startswith(wrote) and wrote[-1:] in ("", "\n")
+                                                   and said in (MEMORY, "The link failed.\n")), keeps=True)
+
+
+AGENT = "table:TABLE"
+runs(f"snmpwalk -On {AGENT} {ROOT}", FIRST + SECOND + THIRD)
+runs(f"snmpwalk --mib MODULES {AGENT} tiny", """TINY-MIB::tinyState.0 = INTEGER: up(1)
+TINY-MIB::tinyMac."wes" = STRING: 0:16:3e:5a:78:8e
+TINY-MIB::tinyKeyUse.'wes' = Gauge32: 5 jobs
+""", WARNINGS, table=TINY_TABLE)
+runs(f"snmpbulkwalk -On -Cr2 -Cp --after {ROOT}.1.0 {AGENT} {ROOT}", f"{SECOND}{THIRD}Variables found: 2\n")
+runs(f"snmpget -On {AGENT} {ROOT}.10.0 {ROOT}.3.0", f"{THIRD}{ROOT}.3.0 = {MISSING}\n")
+runs("snmptranslate --mib MODULES -Td TINY-MIB::tinyState", DETAIL, WARNINGS)
+runs("snmptranslate --mib MODULES -On TINY-MIB::tinyMac.\"wes\" iso.3", f"{MAC}\n.1.3\n", WARNINGS)
+DOOR = f"127.0.0.1:{next(network.ports)}"
+runs(f"snmpd --table TABLE --listen {DOOR} --turns 0", f"listening on {DOOR}\n0 replies, 0 dropped\n")
+runs("snmpget --help", None)
+runs("--version", None)
+
+# What is refused for a reason of its own.
+FAR = "x" * 300
+runs(f"snmpwalk -OX {AGENT}", "", "Unknown letter: X\n", 1)
+runs(f"snmpget -v {FAR} {AGENT} .1", "", f"Unknown version: {FAR}\n", 1)
+runs(f"snmpwalk {FAR}: .1", "", f"Bad agent address: {FAR}:\n", 1)
+runs(f"snmpwalk table:{FAR} .1", "", f"{FAR}: cannot be read\n", 1)
+runs(f"snmpwalk {AGENT} .1", "", "TABLE:2: bad line\n", 1, table=b"\n" + FAR.encode())
+runs("snmptranslate --mib MODULES .1", "", "MODULES:1: syntax\n", 1, modules=b"A DEFINITIONS BEGIN\nEND")
+runs(f"snmptranslate {FAR}", "", f"Unknown name: {FAR}\n", 1)
+runs(f"snmptranslate iso {FAR}", "iso\n", f"Unknown name: {FAR}\n", 1)
+runs(f'snmptranslate iso."{FAR}', "", f'Bad index: iso."{FAR}\n', 1)
+runs(f"snmptranslate .1.9{'9' * 300}", "", f"Bad number: .1.9{'9' * 300}\n", 1)
+runs(f"snmpget {AGENT} .{'0' * 300}3", "", f"Name cannot be sent: .{'0' * 300}3\n", 1)
+runs(f"snmpwalk --after .{'0' * 300}2 {AGENT} .1", "", f"Not below the root: .{'0' * 300}2\n", 1)
+runs(f"snmpwalk -On {AGENT} {ROOT}", "", "Error in packet: tooBig (1), index 0\n", 2,
+     table=f"{ROOT}.1|4|{'x' * 1500}".encode())
+runs(f"snmpbulkwalk -On --max-size 1 {AGENT} {ROOT}", "", f"Timeout: No Response from {AGENT}.\n", 1)
+runs(f"snmpget -c {FAR} {AGENT} .1", "", "Community too long.\n", 1)
+
+
+if __name__ == "__main__":
+    subprocess.run(["cc", "-O2", "-shared", "-fPIC", "-o", f"{folder.name}/heap.so", f"{here}/heap.c"], check=True)
+    sys.exit(network.run_tests("tests/heap.py", network.tests))
