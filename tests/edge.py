@@ -12,6 +12,7 @@ import fcntl
 import os
 import random
 import resource
+import shutil
 import signal
 import socket
 import struct
@@ -122,6 +123,18 @@ def lines(rows):
 
 # -- addresses
 
+traces = shutil.which("strace") and subprocess.run(["strace", "-o", "/dev/null", "true"], capture_output=True,
+                                                   check=False).returncode == 0
+
+
+def where(possible, title, means):
+    """A test that is tried only where that is possible; else what is missing is told at the end."""
+    if possible:
+        return test(title)
+    untried.append(f"{title}: {means}")
+    return lambda function: function
+
+
 def own_addresses():
     """Two of this machine's addresses beside 127.0.0.1, or one: where a datagram to elsewhere would be sent from
     is another, but none is sent."""
@@ -155,6 +168,23 @@ def one_socket():
     return wrongs(*wrong)
 
 
+# Catches: a second link beside the walk's, to another place too, that is closed before the walk goes on; a datagram
+# that is sent besides the requests.
+@where(traces, "a walk and a Get open one socket, and send the agent's requests and nothing else", "no strace here")
+def all_sent():
+    wrong = []
+    for command in "snmpwalk", "snmpbulkwalk", "snmpget":
+        with Agent(serving(ROWS)) as agent, file() as log:
+            ended(start(command, "-On", agent.place, ROOT, before=["strace", "-f", "-o", log, "-e", "trace=network"]))
+            with open(log, encoding="utf-8") as lines:
+                calls = [line for line in lines if "AF_INET" in line]
+        to_agent = f"sin_port=htons({agent.port}), sin_addr=inet_addr(\"127.0.0.1\")"
+        sent = [to_agent in call for call in calls if "send" in call]
+        wrong += [differs(sum("socket(" in call for call in calls), 1), differs(sent, [True] * len(agent.seen)),
+                  differs([call for call in calls if "connect(" in call], []), *agent.faults]
+    return wrongs(*wrong)
+
+
 # Catches: a socket that is bound to 127.0.0.1, which then asks the others from there.
 @test("an agent at another of this machine's addresses is asked, from the address that the system chooses")
 def other_addresses():
@@ -184,14 +214,6 @@ HOSTS = """for name in hosts nsswitch.conf; do mount --bind "$1/$name" "/etc/$na
 shift
 exec "$@"
 """
-
-
-def where(possible, title, means):
-    """A test that is tried only where that is possible; else what is missing is told at the end."""
-    if possible:
-        return test(title)
-    untried.append(f"{title}: {means}")
-    return lambda function: function
 
 
 # Catches: the first address of any family, which the socket can't be sent to; an IPv4 address only where it is
