@@ -6,10 +6,11 @@ use Rattle.snmp_walk.specs.declared.end.SinkFault.{SinkFault}
 use Rattle.snmp_walk.specs.declared.end.SinkFault.TheVariants as fault
 use Rattle.snmp_walk.specs.declared.end.WalkEnd.{WalkEnd}
 use Rattle.snmp_walk.specs.declared.end.WalkEnd.TheVariants as ending
+use Rattle.snmp_walk.specs.Ran.{IsRun}
 use Rattle.snmp_walk.specs.Sink.{Given, Refused, Took}
 use Rattle.snmp_io.specs.Output.{FailsWithin, Stream, extended}
 use Rattle.snmp_io.specs.Streams.{extended-nil, extended-twice}
-use Rattle.snmp_tools.specs.Lines.{AreLines, TakesLine, IsPrintedUpTo}
+use Rattle.snmp_tools.specs.Lines.{AreLines, ArePrinted, IsPrintedUpTo, TakesLine}
 use Rattle.snmp_tools.specs.Mib.{Mib}
 
 -- a sink that stays what it is, and whose states are seen as what is known of an output
@@ -90,11 +91,15 @@ module _ {S R N : Type 0} (tree : S → R) (letters : S → Letters) (name : S �
         let Q : Letters → Type 0 = λ l. TakesLine (mib (tree first)) l (stream old) binding result (stream new) in
         subst Q is.1 (subst P is.0 h.3)
 
-    pub same_name : (new : S) (rows turned : List VarBind) (why : WalkEnd) → Took prints first rows turned why new → name new ≡ name first
-    same_name new rows turned why h =
-        (stays_to_the_end prints stream Is (mib (tree first)) (letters first) stays writes first new rows turned why (refl, refl, refl) h).2
+    module _ (new : S) (end : WalkEnd) (Facts : (rows refused : List VarBind) → Type 0) (run : IsRun prints first end new Facts) where
+      pub same_name : name new ≡ name first
+      same_name = (stays_to_the_end prints stream Is (mib (tree first)) (letters first) stays writes first new run.rows run.refused end (refl, refl, refl)
+          run.took).2
 
-    pub lines_printed : (new : S) (rows turned : List VarBind) (why : WalkEnd) → Took prints first rows turned why new
-        → IsPrintedUpTo (mib (tree first)) (letters first) (stream first) rows turned why (stream new)
-    lines_printed new rows turned why h =
-        printed_up_to prints stream Is (mib (tree first)) (letters first) stays writes first new rows turned why (refl, refl, refl) h
+      pub are_printed : ArePrinted (mib (tree first)) (letters first) (stream first) (stream new) end Facts
+      are_printed = record {
+        rows = run.rows;
+        refused = run.refused;
+        lines = printed_up_to prints stream Is (mib (tree first)) (letters first) stays writes first new run.rows run.refused end (refl, refl, refl) run.took;
+        facts = run.facts;
+      }

@@ -1,17 +1,13 @@
 -- What a Get writes, and what it reports.
-use Rattle.std.specs.Prelude.{◌≡◌, ◌≢◌, ◌⊎◌, ◌<◌, ◌≤◌, ◌+◌, ◌++◌, ℕ, ℤ, pos, List, [], ◌∷◌, length}
-use Rattle.std.specs.Prelude.{Option, Some, None, Ok, Err, map, replicate}
-use Rattle.snmp_oid.specs.Identifier.{wire}
+use Rattle.std.specs.Prelude.{◌≡◌, ◌≢◌, ◌⊎◌, ◌+◌, ◌++◌, ℕ, List, [], ◌∷◌, Option, Some, None}
 use Rattle.snmp_agent.specs.table.Table.{MibView}
 use Rattle.snmp_wire.specs.Canon.{canon}
 use Rattle.snmp_wire.specs.Message.{Message, VarBind}
-use Rattle.snmp_agent.specs.Reply.{Fits, response}
 use Rattle.snmp_walk.specs.Facts.{IsDone}
-use Rattle.snmp_walk.specs.Get.{AreGot, GetFacts, HasRoomForGet, IsBrought, answers_of, get_request}
-use Rattle.snmp_walk.specs.Link.{Agents, ComesOver, IsUnanswered, OneOf}
-use Rattle.snmp_walk.specs.Missed.{AreMissed, IsNotAwaited}
+use Rattle.snmp_walk.specs.Get.{AreGot, HasRoomForGet, IsEndOfGet, IsTooBig, get_request}
+use Rattle.snmp_walk.specs.Link.{Agents, IsUnanswered}
+use Rattle.snmp_walk.specs.Ran.{IsGotOver}
 use Rattle.snmp_walk.specs.declared.link.Link.{Ghosts as LinkFacts}
-use Rattle.snmp_walk.specs.Traffic.{Traffic}
 use Rattle.snmp_walk.specs.declared.end.WalkEnd.{WalkEnd}
 use Rattle.snmp_walk.specs.declared.end.WalkEnd.TheVariants as ending
 use Rattle.snmp_tools.specs.loading.Warned.{warning_lines}
@@ -28,7 +24,7 @@ use Rattle.snmp_tools.specs.Lines.{IsPrintedUpTo}
 use Rattle.snmp_tools.specs.Message.{Fault, ended}
 use Rattle.snmp_io.specs.Files.{Holdings, MayHold}
 use Rattle.snmp_tools.specs.Mib.{AreLoaded, Mib}
-use Rattle.snmp_tools.specs.Outcome.{IsFreshAndHonest, IsOwnEnd, IsReported}
+use Rattle.snmp_tools.specs.Outcome.{IsOwnEnd, IsReported}
 
 -- ---- the Get
 
@@ -47,52 +43,6 @@ agent_for plan view =
     record { tables = view ∷ []; community = plan.community; max_size = plan.max_size }
 
 -- ---- how it ends
-
--- The Response with what Gets of the names give is longer than an agent's messages may be, and the
--- error status is tooBig.
-pub record IsTooBig (agents : Agents) (request : Message) (names : List (List ℕ))
-    (status index : ℤ) : Type 0 where
-  pub too_big : status ≡ pos 1
-  pub no_index : index ≡ pos 0
-  pub view : MibView
-  pub one : OneOf agents.tables view
-  pub all : List VarBind
-  pub got : AreGot view names all
-  pub no_room : Fits agents.max_size (response request (pos 0) (pos 0) all) → ⊥
-
--- How a Get may end: `Fails` says which error statuses a reply may have, `Bad` that it may have
--- other names than those asked for, and `Silent` that none may come.
-abbrev pub IsEndOfGet : (Fails : ℤ → ℤ → Type 0) → (Bad Silent : Type 0) → Message
-    → List (List ℕ) → WalkEnd → Type 0
-IsEndOfGet Fails Bad Silent request names (ending.Done count) = count ≡ length names
-IsEndOfGet Fails Bad Silent request names (ending.Fault status index) = Fails status index
-IsEndOfGet Fails Bad Silent request names ending.BadReply = Bad
-IsEndOfGet Fails Bad Silent request names ending.NoResponse = Silent
-IsEndOfGet Fails Bad Silent request names ending.RequestTooLong =
-    65507 < length (canon request)
-IsEndOfGet Fails Bad Silent request names ending.Link = Unit {0}
-IsEndOfGet Fails Bad Silent request names (ending.Sink fault) = Unit {0}
-IsEndOfGet Fails Bad Silent request names _ = ⊥
-
--- Over any link: the bindings given, with the one that was refused, have the names asked for, as
--- they are sent, from the first on, and all of them where the Get is done.
-pub record AreForNames (request : Message) (names : List (List ℕ)) (given refused : List VarBind)
-    (end : WalkEnd) : Type 0 where
-  pub left : List (List ℕ)
-  pub named : map wire names ≡ map (λ p. p.name) (given ++ refused) ++ left
-  pub whole : IsDone end → (left ≡ []) × (refused ≡ [])
-  pub ends : IsEndOfGet (λ _ _. Unit {0}) (Unit {0}) (Unit {0}) request names end
-  -- without names nothing is asked, and a request that fits no datagram isn't sent
-  pub no_names : names ≡ [] → IsDone end
-  pub too_long : names ≢ [] → 65507 < length (canon request) → end ≡ ending.RequestTooLong
-
--- Over an honest link over which nothing was sent before it ends with an error status only where
--- the agents' messages have no room.
-pub record AreFromAgents (agents : Agents) (tries : ℕ) (old : Traffic) (request : Message)
-    (names : List (List ℕ)) (given refused : List VarBind) (end : WalkEnd) (new : Traffic) :
-    Type 0 where
-  pub facts : GetFacts agents tries old request names given refused end new
-  pub ends : IsEndOfGet (IsTooBig agents request names) ⊥ (Unit {0}) request names end
 
 -- Over the agent in memory: what Gets of the names give was given, from the first on, and all of it
 -- where the Get is done.
@@ -135,47 +85,6 @@ IsGetTableOutcome words files mib plan path before after fault =
     ⊎ ((view : MibView) × HasTable files path view
     × IsGetPrinted (IsGot plan view) mib plan words.asking.agent before after fault)
 
--- Why a Get of names ended, whatever the link brings, `From` saying of a message that it is a reply
--- to the Get which came over the link: by what such a reply brings, or by the sink, that refused a
--- binding of it.
-abbrev pub IsReasonOfGet : (From : Message → Type 0) → (names : List (List ℕ))
-    → (given refused : List VarBind) → WalkEnd → Type 0
-IsReasonOfGet From names given refused (ending.Done count) =
-    (m : Message) × From m × (answers_of names m ≡ Ok given) × (refused ≡ [])
-IsReasonOfGet From names given refused (ending.Sink fault) =
-    (m : Message) × (p : VarBind) × (left : List VarBind) × From m
-    × (answers_of names m ≡ Ok (given ++ p ∷ left)) × (refused ≡ p ∷ [])
-IsReasonOfGet From names given refused ending.NoResponse = given ++ refused ≡ []
-IsReasonOfGet From names given refused ending.RequestTooLong = given ++ refused ≡ []
-IsReasonOfGet From names given refused ending.Link = given ++ refused ≡ []
-IsReasonOfGet From names given refused end =
-    (m : Message) × From m × (answers_of names m ≡ Err end) × (given ++ refused ≡ [])
-
--- What is known of a Get of names over a link, which was `link` before the Get and is `after` then.
--- Its request has the id 1.
-pub record IsGotOver {W : Type 0} (facts : LinkFacts W) (link after : W) (tries : ℕ)
-    (community : List ℕ) (names : List (List ℕ)) (given refused : List VarBind) (end : WalkEnd) :
-    Type 0 where
-  pub named : AreForNames (get_request community 1 names) names given refused end
-  -- each end has its own reason in a datagram that came over the link; with NoResponse it ends
-  -- where each try of the request missed its reply
-  pub reason : names ≢ [] → IsReasonOfGet (IsBrought (ComesOver facts.brings) (facts.agents link)
-      (IsFreshAndHonest facts link) community 1 names) names given refused end
-  pub missed : end ≡ ending.NoResponse → AreMissed facts.sends facts.brings facts.is_silent
-      (IsNotAwaited community 1) (canon (get_request community 1 names)) tries link after
-  -- over a link that keeps what is sent: the request alone, at most once for each try
-  pub sent : facts.keeps link → (times : ℕ) × (times ≤ tries)
-      × ((facts.traffic after).sent ≡ (facts.traffic link).sent
-      ++ replicate times (canon (get_request community 1 names)))
-      × (end ≡ ending.NoResponse → times ≡ tries)
-  -- over an honest link over which nothing was sent before: what its agents gave
-  pub judged : IsFreshAndHonest facts link → AreFromAgents (facts.agents link) tries
-      (facts.traffic link) (get_request community 1 names) names given refused end
-      (facts.traffic after)
-  -- the link counts a failure where the Get ends because of it, and none in any other case
-  pub fault : end ≡ ending.Link → HasRisen (facts.fault_count link) (facts.fault_count after)
-  pub count : end ≢ ending.Link → facts.fault_count after ≡ facts.fault_count link
-
 -- What is known of the link that was opened, over which nothing was sent before, and of the Get
 -- over it.
 pub record HasGetFacts {W : Type 0} (Opens : (host : List ℕ) → (port seconds : ℕ) → W → Type 0)
@@ -185,7 +94,7 @@ pub record HasGetFacts {W : Type 0} (Opens : (host : List ℕ) → (port seconds
   pub after : W
   pub opened : Opens host port seconds link
   pub fresh : (facts.traffic link).sent ≡ []
-  pub run : IsGotOver facts link after tries plan.community plan.names given refused end
+  pub run : IsGotOver facts link after tries plan.community 1 plan.names given refused end
 
 -- What a job wrote by the names and types of its modules, and why it wasn't done, if it wasn't:
 -- nothing where its words are refused, or the lines of what it got over a table, which its file

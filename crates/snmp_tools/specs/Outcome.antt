@@ -7,11 +7,9 @@ use Rattle.snmp_oid.specs.Identifier.{wire}
 use Rattle.snmp_agent.specs.table.Listing.{variables}
 use Rattle.snmp_agent.specs.table.Table.{IsGet, MibView}
 use Rattle.snmp_wire.specs.Message.{VarBind}
-use Rattle.snmp_walk.specs.Facts.{EndFacts, HasNone, IsDone, IsLastSent, IsLawfulEnd, ReadyFacts}
-use Rattle.snmp_walk.specs.Facts.{SendFacts, WalkFacts}
-use Rattle.snmp_walk.specs.Standing.{IsPartOfWalk, Named, Rises}
-use Rattle.snmp_walk.specs.Link.{Agents, ComesOver}
-use Rattle.snmp_walk.specs.Missed.{MissesReply}
+use Rattle.snmp_walk.specs.Facts.{HasNone, IsDone, IsLawfulEnd}
+use Rattle.snmp_walk.specs.Link.{Agents}
+use Rattle.snmp_walk.specs.Ran.{IsWalkedOver}
 use Rattle.snmp_walk.specs.declared.link.Link.{Ghosts as LinkFacts}
 use Rattle.snmp_walk.specs.Request.{resumed, started}
 use Rattle.snmp_walk.specs.Room.{HasIds, HasRoomForEach}
@@ -135,36 +133,6 @@ pub record IsWalkPrinted (mib : Mib) (plan : Plan) (view : MibView) (agent : Lis
   pub is_walked : IsWalked plan view given turned end
   pub lines : IsPrintedUpTo mib plan.letters before given turned end between
   pub finish : IsFinished plan.counts agent end between after fault
-
--- the link is honest, and nothing was sent over it before
-abbrev pub IsFreshAndHonest : {W : Type 0} → LinkFacts W → W → Type 0
-IsFreshAndHonest {W} facts link = facts.honest link × ((facts.traffic link).sent ≡ [])
-
--- What is known of a walk over a link, which was `link` before the walk and is `after` then.
-pub record IsWalkedOver {W : Type 0} (facts : LinkFacts W) (link after : W) (tries : ℕ)
-    (first : Walker) (given refused : List VarBind) (end : WalkEnd) : Type 0 where
-  -- the names given are those of its root and of instances below that
-  pub part : IsPartOfWalk Rises Named first (given ++ refused)
-  -- they rise, where it is done its end counts them, and each end has its own reason in a datagram
-  -- that came over the link; with NoResponse it ends where each try of the request missed its reply
-  pub ends : EndFacts (ComesOver facts.brings) (λ w.
-      (facts.keeps link → IsLastSent tries end (facts.traffic after) w)
-      × (end ≡ ending.NoResponse
-      → MissesReply facts.sends facts.brings facts.is_silent tries after w)) first given refused
-      end
-  -- over a link that keeps what is sent: which requests were sent, and how many times
-  pub sent : facts.keeps link → SendFacts (facts.agents link) (IsFreshAndHonest facts link) tries
-      (facts.traffic link) first given end (facts.traffic after)
-  -- over an honest link over which nothing was sent before: what its agents gave,
-  pub judged : IsFreshAndHonest facts link
-      → WalkFacts (facts.agents link) tries (facts.traffic link) first given refused end
-      (facts.traffic after)
-  -- and that it doesn't fail where it is ready for all that is sent
-  pub ready : ReadyFacts (facts.agents link) (IsFreshAndHonest facts link) (facts.ready link) tries
-      first end
-  -- the link counts a failure where the walk ends because of it, and none in any other case
-  pub fault : end ≡ ending.Link → HasRisen (facts.fault_count link) (facts.fault_count after)
-  pub count : end ≢ ending.Link → facts.fault_count after ≡ facts.fault_count link
 
 -- What is known of the link that was opened, over which nothing was sent before, and of the walk
 -- over it.

@@ -8,7 +8,8 @@ ghost use Rattle.snmp_tools.specs.GetHeadline.{GetEndsAtStatus0, GetWritesAllAtS
 ghost use Rattle.snmp_tools.specs.GetHeadline.{GetWritesFront};
 ghost use Rattle.snmp_tools.specs.GetPlanned.{get_plan_of};
 ghost use Rattle.snmp_tools.specs.Got.{HasGetFacts, IsGetFor, IsGetOutcome, IsGetOutcomeBy};
-ghost use Rattle.snmp_tools.specs.Got.{IsGetPrinted, IsGetRun, IsGetTableOutcome, IsGot, IsGotOver};
+ghost use Rattle.snmp_tools.specs.Got.{IsGetPrinted, IsGetRun, IsGetTableOutcome, IsGot};
+ghost use Rattle.snmp_walk.specs.Ran.{IsGotOver};
 ghost use Rattle.snmp_tools.specs.Got.{fault_at};
 ghost use Rattle.snmp_tools.specs.Message.{fault_of};
 ghost use Rattle.snmp_io.specs.Files.{Holdings, MayHold};
@@ -288,12 +289,12 @@ fn print_over<'a, T: ShowTree, L: Link, O: Output>(
     requires { All (λ o. IsWire (wire o)) plan.now.names.items }
     ensures done { OnOk result (IsGetPrinted
         (IsGotOver L.Link link.old link.new (asking.now.retries + 1)
-        plan.now.community.now plan.now.names.items)
+        plan.now.community.now 1 plan.now.names.items)
         (mib_in (T.naming tree.now) (T.syntax_at tree.now)) (get_plan_of plan.now)
         asking.now.agent.now (O.stream out.old) (O.stream out.new) None) }
     ensures failed { IfErr result (λ failure. IsGetPrinted
         (IsGotOver L.Link link.old link.new (asking.now.retries + 1)
-        plan.now.community.now plan.now.names.items)
+        plan.now.community.now 1 plan.now.names.items)
         (mib_in (T.naming tree.now) (T.syntax_at tree.now)) (get_plan_of plan.now)
         asking.now.agent.now (O.stream out.old) (O.stream out.new) (Some (fault_of failure))) }
 {

@@ -3,9 +3,8 @@
 ghost use Rattle.std.specs.Prelude.{◌≡◌, ◌≤◌, ◌+◌, ◌++◌, All, OnOk, length};
 ghost use Rattle.snmp_oid.specs.Identifier.{IsWire, wire};
 ghost use Rattle.snmp_walk.specs.Facts.{IsFresh};
-ghost use Rattle.snmp_tools.specs.Got.{IsGotOver};
+ghost use Rattle.snmp_walk.specs.Ran.{IsGotOver, IsWalkedOver};
 ghost use Rattle.snmp_tools.specs.Lines.{ArePrinted, TakesText, count_line};
-ghost use Rattle.snmp_tools.specs.Outcome.{IsWalkedOver};
 ghost use Rattle.snmp_tools.specs.Planned.{mib_in};
 
 use crate::start::FIRST_ID;
@@ -53,9 +52,8 @@ impl<T: ShowTree, O: Output> Printer<'_, T, O> {
     ghost use Rattle.std.specs.Prelude.{◌≡◌, ◌≤◌, ◌+◌, All, length};
     ghost use Rattle.snmp_oid.specs.Identifier.{IsWire, wire};
     ghost use Rattle.snmp_walk.specs.Facts.{IsFresh};
-    ghost use Rattle.snmp_tools.specs.Got.{IsGotOver};
+    ghost use Rattle.snmp_walk.specs.Ran.{IsGotOver, IsWalkedOver};
     ghost use Rattle.snmp_tools.specs.Lines.{ArePrinted};
-    ghost use Rattle.snmp_tools.specs.Outcome.{IsWalkedOver};
     ghost use Rattle.snmp_tools.specs.Planned.{mib_in};
 
     // Runs a walk whose bindings become lines.
@@ -86,11 +84,8 @@ impl<T: ShowTree, O: Output> Printer<'_, T, O> {
             (mib_in (T.naming self.old.tree.now) (T.syntax_at self.old.tree.now)) self.old.letters
             (O.stream self.old.out.now) (O.stream self.new.out.now) result
             (λ given refused. IsGotOver L.Link link.old link.new (retries + 1)
-            community.now names.now given refused result) }
+            community.now 1 names.now given refused result) }
     {
-        if names.is_empty() {
-            return WalkEnd::Done(0);
-        }
         run_get(link, names, community, FIRST_ID, retries, self)
     }
 }
@@ -137,7 +132,7 @@ pub(crate) fn print_get<T: ShowTree, L: Link, O: Output>(
     ensures printed { ArePrinted (mib_in (T.naming tree.now) (T.syntax_at tree.now)) letters
         (O.stream out.old) (O.stream out.new) result
         (λ given refused. IsGotOver L.Link link.old link.new (retries + 1)
-        community.now names.now given refused result) }
+        community.now 1 names.now given refused result) }
 {
     let mut printer = Printer {
         tree,

@@ -1,5 +1,5 @@
 -- What a Get gives over an honest link, and when it is done.
-use Rattle.std.proofs.Common.{◌≡◌, ◌⊎◌, inl, inr, ℕ, ◌*◌, ◌<◌, ◌≤◌, Bool, true, false, cond, List, []}
+use Rattle.std.proofs.Common.{◌≡◌, ◌≢◌, ◌⊎◌, inl, inr, ℕ, ◌*◌, ◌<◌, ◌≤◌, Bool, true, false, cond, List, []}
 use Rattle.std.proofs.Common.{◌∷◌, ◌++◌, length, take, refl, sym, ◌∙◌, ap, subst, arith, pos, append-nil, append_assoc, Option}
 use Rattle.std.proofs.lemmas.Bool.{and_from}
 use Rattle.std.proofs.lemmas.List.{length-take}
@@ -56,21 +56,23 @@ use Rattle.snmp_walk.specs.Get.{
   step_of,
   got_step,
   IsBrought,
-  GetEnds,
-  gives,
-  is_refused,
-  fails,
-  is_too_long,
-  is_silent,
-  is_cut,
   AreGot,
   HasRoomForGet,
+  IsEndOfGet,
   IsLostGet,
+  IsTooBig,
   GetFacts,
 }
 use Rattle.snmp_walk.proofs.ViewLemmas.{view_of, only_one, get_name, get_value}
 use Rattle.snmp_walk.proofs.JoinLemmas.{get_one}
 use Rattle.snmp_walk.proofs.GotLemmas.{asked_alone}
+use Rattle.snmp_walk.proofs.GetEndLemmas.{GetEnds, gives, is_refused, fails, is_too_long, is_silent, is_cut, for_names, for_none, reason_of, took}
+use Rattle.snmp_walk.proofs.MoveLemmas.{moves_as, moves_none}
+use Rattle.snmp_walk.specs.Link.{ComesOver}
+use Rattle.snmp_walk.specs.Missed.{AreMissed, IsNotAwaited}
+use Rattle.snmp_walk.specs.Moved.{IsMoved}
+use Rattle.snmp_walk.specs.Ran.{IsFreshAndHonest, IsGotOver, IsRun}
+use Rattle.snmp_walk.specs.declared.link.Link.{Ghosts as LinkFacts}
 
 -- what is given name by name
 got_from_answers : (view : MibView) (names : List (List ℕ)) (bindings : List VarBind)
@@ -247,12 +249,12 @@ module _ (codec : Codec) (agents : Agents) (lawful : AreLawful agents) (tries : 
   from_whole view m (unwritten k e) = let no : ⊥ = cc in absurd no
 
   -- a Response does, or is tooBig since that doesn't fit
-  abbrev IsTooBig : MibView → Message → Type 0
-  IsTooBig view m = (m ≡ response Request (pos 1) (pos 0) []) × ((all : List VarBind) × AreGot view names all
+  abbrev IsBigReply : MibView → Message → Type 0
+  IsBigReply view m = (m ≡ response Request (pos 1) (pos 0) []) × ((all : List VarBind) × AreGot view names all
       × (Fits agents.max_size (response Request (pos 0) (pos 0) all) → ⊥))
 
   from_response : (view : MibView) (m : Message) → IsResponse view agents.max_size Request m
-      → (GivesAll view m × Fits agents.max_size m) ⊎ IsTooBig view m
+      → (GivesAll view m × Fits agents.max_size m) ⊎ IsBigReply view m
   from_response view m (whole is fits) = inl (from_whole view m is, fits)
   from_response view m (shortened large is no_fit e) =
       let all = from_whole view large is in
@@ -273,7 +275,7 @@ module _ (codec : Codec) (agents : Agents) (lawful : AreLawful agents) (tries : 
       → answers_of names m ≡ Ok rows → AreGot view names rows
   brought_rows view one m is rows e = by_kind (from_response view m is)
     where
-      by_kind : (GivesAll view m × Fits agents.max_size m) ⊎ IsTooBig view m → AreGot view names rows
+      by_kind : (GivesAll view m × Fits agents.max_size m) ⊎ IsBigReply view m → AreGot view names rows
       by_kind (inl h) =
           let same : Ok h.0.0 ≡ Ok rows = sym (read_all view one m h.0.0 h.0.1 h.0.2) ∙ e in
           let rows_are : h.0.0 ≡ rows = cc in
@@ -282,10 +284,10 @@ module _ (codec : Codec) (agents : Agents) (lawful : AreLawful agents) (tries : 
 
   -- what is brought with an end
   brought_end : (view : MibView) → OneOf agents.tables view → (m : Message) → IsResponse view agents.max_size Request m → (end : WalkEnd)
-      → answers_of names m ≡ Err end → (end ≡ ending.Fault (pos 1) (pos 0)) × IsTooBig view m
+      → answers_of names m ≡ Err end → (end ≡ ending.Fault (pos 1) (pos 0)) × IsBigReply view m
   brought_end view one m is end e = by_kind (from_response view m is)
     where
-      by_kind : (GivesAll view m × Fits agents.max_size m) ⊎ IsTooBig view m → (end ≡ ending.Fault (pos 1) (pos 0)) × IsTooBig view m
+      by_kind : (GivesAll view m × Fits agents.max_size m) ⊎ IsBigReply view m → (end ≡ ending.Fault (pos 1) (pos 0)) × IsBigReply view m
       by_kind (inl h) = let same = sym (read_all view one m h.0.0 h.0.1 h.0.2) ∙ e in let no : ⊥ = cc in absurd no
       by_kind (inr h) = let same : end ≡ ending.Fault (pos 1) (pos 0) = cc (sym e ∙ read_big m h.0) in (same, h)
 
@@ -297,7 +299,7 @@ module _ (codec : Codec) (agents : Agents) (lawful : AreLawful agents) (tries : 
       → IsResponse view agents.max_size Request m → Fits agents.max_size m
   response_fits room view one m is = by_kind (from_response view m is)
     where
-      by_kind : (GivesAll view m × Fits agents.max_size m) ⊎ IsTooBig view m → Fits agents.max_size m
+      by_kind : (GivesAll view m × Fits agents.max_size m) ⊎ IsBigReply view m → Fits agents.max_size m
       by_kind (inl h) = h.1
       by_kind (inr h) = absurd (h.1.2 (room.response_fits view h.1.0 one h.1.1))
 
@@ -350,6 +352,9 @@ module _ (codec : Codec) (agents : Agents) (lawful : AreLawful agents) (tries : 
     empty_front none none_refused all =
         (all, ap (λ (s : List VarBind). s ++ all) (sym (ap (λ (r : List VarBind). r ++ refused) none ∙ none_refused)))
 
+    abbrev Ends : WalkEnd → Type 0
+    Ends why = IsEndOfGet (IsTooBig agents Request names) ⊥ (Unit {0}) Request names why
+
     pub get_facts : GetEnds takes Request names Brought before rows refused end after → Facts
     get_facts (gives m from e none given is) =
         let r = from.1 is_honest in
@@ -358,7 +363,7 @@ module _ (codec : Codec) (agents : Agents) (lawful : AreLawful agents) (tries : 
               let same = same_rows view all one_view all_are r.0 r.1 rows are in
               ([], sym (append-nil (rows ++ refused) ∙ ap (λ (s : List VarBind). rows ++ s) none ∙ append-nil rows ∙ same));
           all_at_done = λ view all one_view all_are d. same_rows view all one_view all_are r.0 r.1 rows are;
-          no_bad_reply = λ bad. let no : ⊥ = cc in no;
+          ends = subst Ends (sym is) refl;
           lost_without_response = lost;
           done_unless_stopped = λ room ahead. subst IsDoneOrStopped (sym is) tt;
         }
@@ -371,7 +376,7 @@ module _ (codec : Codec) (agents : Agents) (lawful : AreLawful agents) (tries : 
                 sym (ap (λ (s : List VarBind). (rows ++ s) ++ more) one ∙ append_assoc rows (p ∷ []) more ∙ same),
               );
           all_at_done = λ view all one_view all_are d. let no : ⊥ = subst IsDone is d in absurd no;
-          no_bad_reply = λ bad. let no : ⊥ = cc in no;
+          ends = subst Ends (sym is) tt;
           lost_without_response = lost;
           done_unless_stopped = λ room ahead. subst IsDoneOrStopped (sym is) tt;
         }
@@ -380,28 +385,36 @@ module _ (codec : Codec) (agents : Agents) (lawful : AreLawful agents) (tries : 
         let big = brought_end r.0 r.1 m r.3 end e in record {
           beginning = λ view all one_view all_are. empty_front none none_refused all;
           all_at_done = λ view all one_view all_are d. let no : ⊥ = subst IsDone big.0 d in absurd no;
-          no_bad_reply = λ bad. let same = sym big.0 ∙ bad in let no : ⊥ = cc in no;
+          ends = subst Ends (sym big.0) (record {
+            too_big = refl;
+            no_index = refl;
+            view = r.0;
+            one = r.1;
+            all = big.1.1.0;
+            got = big.1.1.1;
+            no_room = big.1.1.2;
+          });
           lost_without_response = lost;
           done_unless_stopped = λ room ahead. absurd (big.1.1.2 (room.response_fits r.0 big.1.1.0 r.1 big.1.1.1));
         }
     get_facts (is_too_long long is none none_refused same_sink) = record {
       beginning = λ view all one_view all_are. empty_front none none_refused all;
       all_at_done = λ view all one_view all_are d. let no : ⊥ = subst IsDone is d in absurd no;
-      no_bad_reply = λ bad. let no : ⊥ = cc in no;
+      ends = subst Ends (sym is) long;
       lost_without_response = lost;
       done_unless_stopped = λ room ahead. absurd (omega (arith, long, room.request_fits));
     }
     get_facts (is_silent is none none_refused same_sink) = record {
       beginning = λ view all one_view all_are. empty_front none none_refused all;
       all_at_done = λ view all one_view all_are d. let no : ⊥ = subst IsDone is d in absurd no;
-      no_bad_reply = λ bad. let no : ⊥ = cc in no;
+      ends = subst Ends (sym is) tt;
       lost_without_response = lost;
       done_unless_stopped = λ room ahead. absurd (never_lost room ahead (lost is));
     }
     get_facts (is_cut is none none_refused same_sink) = record {
       beginning = λ view all one_view all_are. empty_front none none_refused all;
       all_at_done = λ view all one_view all_are d. let no : ⊥ = subst IsDone is d in absurd no;
-      no_bad_reply = λ bad. let no : ⊥ = cc in no;
+      ends = subst Ends (sym is) tt;
       lost_without_response = lost;
       done_unless_stopped = λ room ahead. subst IsDoneOrStopped (sym is) tt;
     }
@@ -436,23 +449,80 @@ lost_exchange codec agents honest lawful tries community id names ranged q is ol
     (asked_alone codec community id names ranged agents (lawful h) old.sent none) in
     lost_get agents (honest × IsAsked agents community id q old.sent) tries q (canon (get_request community id names)) is old new silent failed s (h, asked) x
 
--- how a Get ended, with the facts
-pub facts_by : Codec → (Comes : List ℕ → Type 0) (agents : Agents) (honest : Type 0) (lawful : honest
-    → AreLawful agents) (tries : ℕ) (some : 0 < tries) (old new : Traffic)
-    (community : List ℕ) (id : ℕ) (names : List (List ℕ))
-    (own : length (canon (get_request community id names)) ≤ 65507 → Spells (get_request community id names) (canon (get_request community id names)))
-    {S : Type 0} (takes : S → VarBind → Result (Unit {0}) SinkFault → S → Type 0) (before after : S) (rows refused : List VarBind) (end : WalkEnd)
-    → (end ≡ ending.NoResponse → honest → old.sent ≡ [] → IsLostGet agents tries old (canon (get_request community id names)) new)
-    → GetEnds takes (get_request community id names) names (IsBrought Comes agents (honest × (old.sent ≡ [])) community id names) before rows refused end after
-    → (given : List VarBind) × (not_given : List VarBind)
-    × GetEnds takes (get_request community id names) names (IsBrought Comes agents (honest ×
-    (old.sent ≡ [])) community id names) before given not_given end after
-    × (honest → old.sent ≡ [] → GetFacts agents tries old (get_request community id names) names given not_given end new)
-facts_by codec Comes agents honest lawful tries some old new community id names own takes before after rows refused end lost ends = (
-  rows,
-  refused,
-  ends,
-  λ h none.
-      get_facts codec agents (lawful h) tries some old new community id names own (honest × (old.sent ≡ [])) (h, none) Comes takes before after rows refused end
-      (λ e. lost e h none) ends,
-)
+-- ---- a Get over a link
+
+none_got : (view : MibView) (names : List (List ℕ)) (all : List VarBind) → names ≡ [] → AreGot view names all → all ≡ []
+none_got view [] [] e are = refl
+none_got view [] (p ∷ all) e are = absurd are
+none_got view (o ∷ names) all e are = let no : ⊥ = cc in absurd no
+
+module _ {W S : Type 0} (facts : LinkFacts W) (link : W) (tries : ℕ) (community : List ℕ) (id : ℕ) (names : List (List ℕ))
+    (takes : S → VarBind → Result (Unit {0}) SinkFault → S → Type 0) (before : S) where
+  abbrev Asked : Message
+  Asked = get_request community id names
+
+  abbrev From : Message → Type 0
+  From m = IsBrought (ComesOver facts.brings) (facts.agents link) (IsFreshAndHonest facts link) community id names m
+
+  abbrev Sent : W → WalkEnd → Type 0
+  Sent after end = facts.keeps link → (times : ℕ) × (times ≤ tries)
+      × ((facts.traffic after).sent ≡ (facts.traffic link).sent ++ replicate times (canon Asked)) × (end ≡ ending.NoResponse → times ≡ tries)
+
+  pub sent_none : (end : WalkEnd) → (end ≡ ending.NoResponse → ⊥) → Sent link end
+  sent_none end heard keeps = (0, omega arith, sym (append-nil (facts.traffic link).sent), λ silent. absurd (heard silent))
+
+  -- the exchange of the request sent it so
+  pub sent_so : (after : W) (end : WalkEnd) (q : List ℕ) (honest silent failed : Type 0) → q ≡ canon Asked → (end ≡ ending.NoResponse → silent)
+      → (facts.keeps link → Exchanges (facts.agents link) honest tries q (facts.traffic link) silent failed (facts.traffic after)) → Sent after end
+  sent_so after end q honest silent failed is quiet exchanged keeps =
+      let x = exchanged keeps in
+      (x.times, x.few, subst (λ (t : List ℕ). (facts.traffic after).sent ≡ (facts.traffic link).sent ++ replicate x.times t) is x.sent, λ s. x.all (quiet s))
+
+  pub moved_none : (end : WalkEnd) → (end ≡ ending.Link → ⊥) → (tried : List (List ℕ)) × IsMoved facts link tried (end ≡ ending.Link) link
+  moved_none end fine = ([], moves_as facts (λ f. absurd f) fine (moves_none facts link))
+
+  -- without names
+  pub got_none : names ≡ [] → IsRun takes before (ending.Done 0) before
+      (λ given refused. IsGotOver facts link link tries community id names given refused (ending.Done 0))
+  got_none none = record {
+    rows = [];
+    refused = [];
+    took = (refl, refl);
+    facts = record {
+      named = for_none Asked names none;
+      reason = λ some. absurd (some none);
+      missed = λ silent. let no : ⊥ = cc in absurd no;
+      sent = sent_none (ending.Done 0) (λ silent. cc);
+      judged = λ fresh. record {
+        beginning = λ view all one are. ([], none_got view names all none are);
+        all_at_done = λ view all one are done. sym (none_got view names all none are);
+        ends = sym (ap length none);
+        lost_without_response = λ silent. let no : ⊥ = cc in absurd no;
+        done_unless_stopped = λ room ahead. tt;
+      };
+      moved = moved_none (ending.Done 0) (λ e. cc);
+    };
+  }
+
+  -- by the way in which it ended
+  pub got_over : Codec → (facts.honest link → AreLawful (facts.agents link)) → 0 < tries → names ≢ [] → (length (canon Asked) ≤ 65507 → Spells Asked (canon Asked))
+      → (after : W) (sunk : S) (rows refused : List VarBind) (end : WalkEnd) → GetEnds takes Asked names From before rows refused end sunk
+      → (end ≡ ending.NoResponse → IsFreshAndHonest facts link → IsLostGet (facts.agents link) tries (facts.traffic link) (canon Asked) (facts.traffic after))
+      → (65507 < length (canon Asked) → end ≡ ending.RequestTooLong)
+      → (end ≡ ending.NoResponse → AreMissed facts.sends facts.brings facts.is_silent (IsNotAwaited community id) (canon Asked) tries link after)
+      → Sent after end → (tried : List (List ℕ)) × IsMoved facts link tried (end ≡ ending.Link) after
+      → IsRun takes before end sunk (λ given refused. IsGotOver facts link after tries community id names given refused end)
+  got_over codec lawful some named own after sunk rows refused end ends lost long missed sent moved = record {
+    rows = rows;
+    refused = refused;
+    took = took takes Asked names From before sunk rows refused end ends;
+    facts = record {
+      named = for_names takes Asked names From before sunk rows refused end named long ends;
+      reason = λ _. reason_of takes Asked names From before sunk rows refused end ends;
+      missed = missed;
+      sent = sent;
+      judged = λ fresh. get_facts codec (facts.agents link) (lawful fresh.0) tries some (facts.traffic link) (facts.traffic after) community id names own
+          (IsFreshAndHonest facts link) fresh (ComesOver facts.brings) takes before sunk rows refused end (λ silent. lost silent fresh) ends;
+      moved = moved;
+    };
+  }

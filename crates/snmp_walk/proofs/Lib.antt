@@ -33,4 +33,5 @@ mod MissedLemmas
 pub mod GetLemmas
 pub mod GotLemmas
 pub mod LawLemmas
+pub mod GetEndLemmas
 pub mod GetFactLemmas

@@ -6,6 +6,7 @@ use Rattle.std.specs.Prelude.{
   ◌<◌,
   ◌≤◌,
   ℕ,
+  ℤ,
   pos,
   Bool,
   true,
@@ -35,14 +36,12 @@ use Rattle.snmp_wire.specs.Message.{VarBind, Message}
 use Rattle.snmp_wire.specs.Canon.{canon}
 use Rattle.snmp_wire.specs.Spelling.{Spells}
 use Rattle.snmp_agent.specs.Reply.{IsResponse, Fits, response}
-use Rattle.snmp_walk.specs.declared.end.SinkFault.{SinkFault}
 use Rattle.snmp_walk.specs.declared.end.WalkEnd.{WalkEnd}
 use Rattle.snmp_walk.specs.declared.rows.Step.{Step}
 use Rattle.snmp_walk.specs.declared.rows.Step.TheVariants as step
 use Rattle.snmp_walk.specs.declared.end.WalkEnd.TheVariants as ending
 use Rattle.snmp_walk.specs.Names.{is_end}
 use Rattle.snmp_walk.specs.Taken.{awaits}
-use Rattle.snmp_walk.specs.Sink.{Given}
 use Rattle.snmp_walk.specs.Link.{Agents, OneOf, IsUnanswered}
 use Rattle.snmp_walk.specs.Traffic.{Traffic, Lost}
 use Rattle.snmp_walk.specs.Facts.{IsDone, IsDoneOrStopped}
@@ -102,33 +101,6 @@ IsBrought Comes agents honest community id names m =
     × IsResponse view agents.max_size (get_request community id names) m)
     × ((datagram : List ℕ) × Comes datagram × Spells m datagram)
 
--- How a Get ends: which bindings the sink was given, and then refused, if it did. `From` says of a
--- message that the link brought it.
-pub data GetEnds {S : Type 0} (takes : S → VarBind → Result (Unit {0}) SinkFault → S
-    → Type 0) (request : Message) (names : List (List ℕ))
-    (From : Message → Type 0) (before : S) (rows refused : List VarBind) (end : WalkEnd)
-    (after : S) : Type 0 where
-  gives : (m : Message) → From m → answers_of names m ≡ Ok rows → refused ≡ []
-      → Given takes before rows after
-      → end ≡ ending.Done (length names)
-      → GetEnds takes request names From before rows refused end after
-  is_refused : (m : Message) (p : VarBind) (more : List VarBind) (fault : SinkFault)
-      (between : S) → From m
-      → answers_of names m ≡ Ok (rows ++ p ∷ more) → refused ≡ p ∷ []
-      → Given takes before rows between
-      → takes between p (Err fault) after → end ≡ ending.Sink fault
-      → GetEnds takes request names From before rows refused end after
-  fails : (m : Message) → From m → answers_of names m ≡ Err end → rows ≡ [] → refused ≡ []
-      → after ≡ before
-      → GetEnds takes request names From before rows refused end after
-  is_too_long : 65507 < length (canon request) → end ≡ ending.RequestTooLong → rows ≡ []
-      → refused ≡ [] → after ≡ before
-      → GetEnds takes request names From before rows refused end after
-  is_silent : end ≡ ending.NoResponse → rows ≡ [] → refused ≡ [] → after ≡ before
-      → GetEnds takes request names From before rows refused end after
-  is_cut : end ≡ ending.Link → rows ≡ [] → refused ≡ [] → after ≡ before
-      → GetEnds takes request names From before rows refused end after
-
 -- the bindings are what Gets of these names give of the table, each at its name's place
 abbrev pub AreGot : MibView → (names : List (List ℕ)) → List VarBind → Type 0
 AreGot view [] [] = Unit {0}
@@ -155,6 +127,60 @@ pub record IsLostGet (agents : Agents) (tries : ℕ) (old : Traffic) (q : List �
       ⊎ ((used : List (Option ℕ)) × (old.ahead ≡ used ++ new.ahead)
       × Lost agents (old.sent ++ q ∷ []) q used tries 0)
 
+-- The Response with what Gets of the names give is longer than an agent's messages may be, and the
+-- error status is tooBig.
+pub record IsTooBig (agents : Agents) (request : Message) (names : List (List ℕ))
+    (status index : ℤ) : Type 0 where
+  pub too_big : status ≡ pos 1
+  pub no_index : index ≡ pos 0
+  pub view : MibView
+  pub one : OneOf agents.tables view
+  pub all : List VarBind
+  pub got : AreGot view names all
+  pub no_room : Fits agents.max_size (response request (pos 0) (pos 0) all) → ⊥
+
+-- How a Get may end: `Fails` says which error statuses a reply may have, `Bad` that it may have
+-- other names than those asked for, and `Silent` that none may come.
+abbrev pub IsEndOfGet : (Fails : ℤ → ℤ → Type 0) → (Bad Silent : Type 0) → Message
+    → List (List ℕ) → WalkEnd → Type 0
+IsEndOfGet Fails Bad Silent request names (ending.Done count) = count ≡ length names
+IsEndOfGet Fails Bad Silent request names (ending.Fault status index) = Fails status index
+IsEndOfGet Fails Bad Silent request names ending.BadReply = Bad
+IsEndOfGet Fails Bad Silent request names ending.NoResponse = Silent
+IsEndOfGet Fails Bad Silent request names ending.RequestTooLong =
+    65507 < length (canon request)
+IsEndOfGet Fails Bad Silent request names ending.Link = Unit {0}
+IsEndOfGet Fails Bad Silent request names (ending.Sink fault) = Unit {0}
+IsEndOfGet Fails Bad Silent request names _ = ⊥
+
+-- Over any link: the bindings given, with the one that was refused, have the names asked for, as
+-- they are sent, from the first on, and all of them where the Get is done.
+pub record AreForNames (request : Message) (names : List (List ℕ)) (given refused : List VarBind)
+    (end : WalkEnd) : Type 0 where
+  pub left : List (List ℕ)
+  pub named : map wire names ≡ map (λ p. p.name) (given ++ refused) ++ left
+  pub whole : IsDone end → (left ≡ []) × (refused ≡ [])
+  pub ends : IsEndOfGet (λ _ _. Unit {0}) (Unit {0}) (Unit {0}) request names end
+  -- without names nothing is asked, and a request that fits no datagram isn't sent
+  pub no_names : names ≡ [] → IsDone end
+  pub too_long : names ≢ [] → 65507 < length (canon request) → end ≡ ending.RequestTooLong
+
+-- Why a Get of names ended, whatever the link brings, `From` saying of a message that it is a reply
+-- to the Get which came over the link: by what such a reply brings, or by the sink, that refused a
+-- binding of it.
+abbrev pub IsReasonOfGet : (From : Message → Type 0) → (names : List (List ℕ))
+    → (given refused : List VarBind) → WalkEnd → Type 0
+IsReasonOfGet From names given refused (ending.Done count) =
+    (m : Message) × From m × (answers_of names m ≡ Ok given) × (refused ≡ [])
+IsReasonOfGet From names given refused (ending.Sink fault) =
+    (m : Message) × (p : VarBind) × (left : List VarBind) × From m
+    × (answers_of names m ≡ Ok (given ++ p ∷ left)) × (refused ≡ p ∷ [])
+IsReasonOfGet From names given refused ending.NoResponse = given ++ refused ≡ []
+IsReasonOfGet From names given refused ending.RequestTooLong = given ++ refused ≡ []
+IsReasonOfGet From names given refused ending.Link = given ++ refused ≡ []
+IsReasonOfGet From names given refused end =
+    (m : Message) × From m × (answers_of names m ≡ Err end) × (given ++ refused ≡ [])
+
 -- What is promised of a Get over an honest link over which nothing was sent before. It gave these
 -- rows to the sink, and then the one that was refused, if any was.
 pub record GetFacts (agents : Agents) (tries : ℕ) (old : Traffic) (request : Message) (names : List
@@ -166,7 +192,9 @@ pub record GetFacts (agents : Agents) (tries : ℕ) (old : Traffic) (request : M
   -- and where it is done it is all of it
   pub all_at_done : (view : MibView) (all : List VarBind) → agents.tables ≡ view ∷ []
       → AreGot view names all → IsDone end → rows ≡ all
-  pub no_bad_reply : end ≢ ending.BadReply
+  -- it ends with an error status only where the agents' messages have no room, and with no other
+  -- names than those asked for
+  pub ends : IsEndOfGet (IsTooBig agents request names) ⊥ (Unit {0}) request names end
   pub lost_without_response : end ≡ ending.NoResponse
       → IsLostGet agents tries old (canon request) new
   -- Where there is room, and each receive gives the reply to the latest datagram, a Get is done

@@ -22,5 +22,6 @@ pub mod Run
 pub mod Tables
 pub mod Get
 pub mod Facts
+pub mod Ran
 pub mod Arena
 pub mod Memory

@@ -10,13 +10,10 @@ ghost use Rattle.snmp_wire.specs.ber.Value.{null_value};
 ghost use Rattle.snmp_wire.specs.Message.{Message, VarBind, var_bind};
 ghost use Rattle.snmp_walk.specs.Names.{is_end};
 ghost use Rattle.snmp_walk.specs.Taken.{awaits};
-ghost use Rattle.snmp_walk.specs.Link.{ComesOver};
-ghost use Rattle.snmp_walk.specs.Missed.{IsNotAwaited, AreMissed};
-ghost use Rattle.snmp_io.specs.Count.{HasRisen};
 ghost use Rattle.std.specs.List.{AllByRecursion};
 ghost use Rattle.snmp_wire.specs.Range.{IsBindingInRange, IsMessageInRange};
 ghost use Rattle.snmp_walk.specs.Get.{asked_names, get_request, are_for as are_these, answers_of};
-ghost use Rattle.snmp_walk.specs.Get.{IsBrought, GetEnds, GetFacts};
+ghost use Rattle.snmp_walk.specs.Ran.{IsGotOver, IsRun};
 
 use crate::laws::codec;
 use crate::tries::{Course, Judgement, Waiter, exchange, is_awaited};
@@ -30,8 +27,9 @@ use std::marker::Model;
 /// Gets the instances of these names: one Get of their wire forms is sent, at most `retries + 1`
 /// times, and the bindings of its reply are given to the sink in order (RFC 3416, section 4.2.1).
 ///
-/// There is at least one name, and each has a wire form; the community has at most 255 octets, and
-/// the id is at most 2147483647. `RequestTooLong` where the request has more than 65507 octets.
+/// Each name has a wire form; the community has at most 255 octets, and the id is at most
+/// 2147483647. Where there are no names, nothing is sent. `RequestTooLong` where the request has
+/// more than 65507 octets.
 // Not inlined: its two buffers are on the stack, and a caller with several such calls would have
 // room for each of them.
 #[inline(never)]
@@ -43,34 +41,17 @@ pub fn run_get<L: Link, S: Sink>(
     retries: u32,
     sink: &mut S,
 ) -> WalkEnd
-    requires some { names.now ≢ [] }
     requires wire { All (λ o. IsWire (wire o)) names.now }
     requires community { length community.now ≤ 255 }
     requires id { id < 2 ^ 31 }
-    ensures rows_given { (rows : List VarBind) × (refused : List VarBind)
-        × GetEnds S.takes (get_request community.now id names.now) names.now
-        (IsBrought (ComesOver L.brings) (L.agents link.old)
-        (L.honest link.old × ((L.traffic link.old).sent ≡ []))
-        community.now id names.now) sink.old rows refused result sink.new
-        × (L.honest link.old → (L.traffic link.old).sent ≡ []
-        → GetFacts (L.agents link.old) (retries + 1) (L.traffic link.old)
-        (get_request community.now id names.now) names.now rows refused result
-        (L.traffic link.new)) }
-    ensures too_long { (result ≡ WalkEnd.RequestTooLong)
-        ↔ (65507 < length (canon (get_request community.now id names.now))) }
-    ensures sent { L.keeps link.old → (times : ℕ) × (times ≤ retries + 1)
-        × ((L.traffic link.new).sent ≡ (L.traffic link.old).sent
-        ++ replicate times (canon (get_request community.now id names.now)))
-        × (result ≡ WalkEnd.NoResponse → times ≡ retries + 1) }
-    ensures unanswered { result ≡ WalkEnd.NoResponse → AreMissed L.sends L.brings L.is_silent
-        (IsNotAwaited community.now id) (canon (get_request community.now id names.now))
-        (retries + 1) link.old link.new }
-    ensures count { result ≢ WalkEnd.Link
-        → L.fault_count link.new ≡ L.fault_count link.old }
-    ensures fault { result ≡ WalkEnd.Link
-        → HasRisen (L.fault_count link.old) (L.fault_count link.new) }
+    ensures { IsRun S.takes sink.old result sink.new (λ given refused.
+        IsGotOver L.Link link.old link.new (retries + 1) community.now id names.now given refused
+        result) }
 {
     codec();
+    if names.is_empty() {
+        return WalkEnd::Done(0);
+    }
     let mut request = [0; 65507];
     let Some(length) = write_request(names, community, id, &mut request) else {
         return WalkEnd::RequestTooLong;

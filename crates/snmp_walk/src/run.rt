@@ -2,7 +2,6 @@
 ghost use Rattle.std.specs.Prelude.{◌≡◌, ◌≢◌, ◌≤◌, ◌⊎◌, ◌+◌, ◌++◌, ℕ, List, [], length};
 ghost use Rattle.std.specs.Prelude.{Option, Some, None, Ok, Err, IfOk, IfSome, IfNone, OnOk, OnErr};
 ghost use Rattle.std.specs.Prelude.{false};
-ghost use Rattle.snmp_io.specs.Count.{HasRisen};
 ghost use Rattle.snmp_wire.specs.Canon.{canon};
 ghost use Rattle.snmp_wire.specs.Message.{VarBind};
 ghost use Rattle.snmp_walk.specs.Course.{ended};
@@ -12,12 +11,10 @@ ghost use Rattle.snmp_walk.specs.Walker.{IsWalker};
 ghost use Rattle.snmp_walk.specs.Run.{Turns};
 ghost use Rattle.snmp_walk.specs.Heard.{Exchanges, IsEarlier};
 ghost use Rattle.snmp_walk.specs.Moved.{IsMovedByTries};
-ghost use Rattle.snmp_walk.specs.Missed.{IsNotAwaited, AreMissed, MissesReply};
-ghost use Rattle.snmp_walk.specs.Sink.{Took};
-ghost use Rattle.snmp_walk.specs.Standing.{IsPartOfWalk, Rises, Named};
+ghost use Rattle.snmp_walk.specs.Missed.{IsNotAwaited, AreMissed};
 ghost use Rattle.snmp_walk.specs.Link.{ComesOver};
-ghost use Rattle.snmp_walk.specs.Facts.{ReadyFacts};
-ghost use Rattle.snmp_walk.specs.Facts.{IsFresh, IsLastSent, WalkFacts, SendFacts, EndFacts};
+ghost use Rattle.snmp_walk.specs.Facts.{IsFresh};
+ghost use Rattle.snmp_walk.specs.Ran.{IsRun, IsWalkedOver};
 
 use crate::laws::codec;
 use crate::tries::{Course, exchange};
@@ -43,27 +40,8 @@ pub fn run_walk<L: Link, S: Sink>(
     sink: &mut S,
 ) -> WalkEnd
     requires { IsFresh core }
-    ensures rows_given { (rows : List VarBind) × (refused : List VarBind)
-        × Took S.takes sink.old rows refused result sink.new
-        × IsPartOfWalk Rises Named core (rows ++ refused)
-        × (L.honest link.old → (L.traffic link.old).sent ≡ []
-        → WalkFacts (L.agents link.old) (retries + 1) (L.traffic link.old) core rows refused
-        result (L.traffic link.new))
-        × (L.keeps link.old → SendFacts (L.agents link.old)
-        (L.honest link.old × ((L.traffic link.old).sent ≡ []))
-        (retries + 1) (L.traffic link.old) core rows result (L.traffic link.new))
-        × EndFacts (ComesOver L.brings) (λ w. (L.keeps link.old
-        → IsLastSent (retries + 1) result (L.traffic link.new) w)
-        × (result ≡ WalkEnd.NoResponse
-        → MissesReply L.sends L.brings L.is_silent (retries + 1) link.new w)) core rows refused
-        result }
-    ensures count { result ≢ WalkEnd.Link
-        → L.fault_count link.new ≡ L.fault_count link.old }
-    ensures fault { result ≡ WalkEnd.Link
-        → HasRisen (L.fault_count link.old) (L.fault_count link.new) }
-    ensures ready { ReadyFacts (L.agents link.old)
-        (L.honest link.old × ((L.traffic link.old).sent ≡ [])) (L.ready link.old) (retries + 1)
-        core result }
+    ensures { IsRun S.takes sink.old result sink.new (λ rows refused.
+        IsWalkedOver L.Link link.old link.new (retries + 1) core rows refused result) }
 {
     codec();
     let mut core = core;

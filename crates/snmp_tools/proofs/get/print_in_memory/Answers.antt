@@ -1,11 +1,11 @@
 use Rattle.std.proofs.Common.{◌+◌, ◌∙◌, ℕ, List, sym, ap, subst, arith}
 use Rattle.std.proofs.lemmas.Result.{IfErr-weaker, on_ok_weaker}
 use Rattle.snmp_walk.specs.Link.{Agents}
-use Rattle.snmp_walk.specs.Get.{get_request}
+use Rattle.snmp_walk.specs.Get.{GetFacts, get_request}
 use Rattle.snmp_walk.specs.Memory.{agents_of, traffic_of}
 use Rattle.snmp_walk.specs.Traffic.{Traffic}
 use Rattle.snmp_tools.specs.GetPlanned.{get_plan_of}
-use Rattle.snmp_tools.specs.Got.{AreFromAgents, fault_at}
+use Rattle.snmp_tools.specs.Got.{fault_at}
 use Rattle.snmp_tools.specs.Outcome.{end_in_memory}
 use Rattle.snmp_tools.proofs.GetFacts.{is_got}
 use Rattle.snmp_tools.proofs.Walked.{printed_in}
@@ -17,7 +17,7 @@ returns-clause-done g c =
     let traffic = c.new-link.ensures.traffic in
     let tries = c.args.asking.now.retries + 1 in
     let plan = get_plan_of c.args.plan.now in
-    let R : Agents → List (List ℕ) → Type 0 = λ a ns. AreFromAgents a tries (traffic_of c.new-link.result) (get_request plan.community 1 ns) ns printed.rows
+    let R : Agents → List (List ℕ) → Type 0 = λ a ns. GetFacts a tries (traffic_of c.new-link.result) (get_request plan.community 1 ns) ns printed.rows
     printed.refused c.print_get-end.result (traffic_of c.print_get-end.new.link) in
     let from = subst (λ (a : Agents). R a plan.names) c.new-link.ensures.agents (subst (R (agents_of c.new-link.result)) c.deref.ensures.value
     (printed.facts.judged (c.new-link.ensures.honest, ap (λ (t : Traffic). t.sent) traffic))) in
@@ -38,7 +38,7 @@ returns-clause-failed g c =
     let traffic = c.new-link.ensures.traffic in
     let tries = c.args.asking.now.retries + 1 in
     let plan = get_plan_of c.args.plan.now in
-    let R : Agents → List (List ℕ) → Type 0 = λ a ns. AreFromAgents a tries (traffic_of c.new-link.result) (get_request plan.community 1 ns) ns printed.rows
+    let R : Agents → List (List ℕ) → Type 0 = λ a ns. GetFacts a tries (traffic_of c.new-link.result) (get_request plan.community 1 ns) ns printed.rows
     printed.refused c.print_get-end.result (traffic_of c.print_get-end.new.link) in
     let from = subst (λ (a : Agents). R a plan.names) c.new-link.ensures.agents (subst (R (agents_of c.new-link.result)) c.deref.ensures.value
     (printed.facts.judged (c.new-link.ensures.honest, ap (λ (t : Traffic). t.sent) traffic))) in

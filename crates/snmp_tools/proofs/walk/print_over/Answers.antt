@@ -1,7 +1,7 @@
 use Rattle.std.proofs.Common.{◌+◌, subst}
 use Rattle.std.proofs.lemmas.Result.{IfErr-weaker, on_ok_weaker}
 use Rattle.snmp_walk.specs.Walker.{Walker}
-use Rattle.snmp_tools.specs.Outcome.{IsWalkedOver}
+use Rattle.snmp_walk.specs.Ran.{IsWalkedOver}
 use Rattle.snmp_tools.proofs.walk.print_over.Goals as goal
 
 pub returns-clause-done : goal.returns-clause-done

@@ -7,7 +7,7 @@ use Rattle.snmp_walk.specs.Run.{Turns}
 use Rattle.snmp_walk.specs.Missed.{MissesReply}
 use Rattle.snmp_walk.specs.declared.end.WalkEnd.TheVariants as ending
 use Rattle.snmp_walk.proofs.RunLemmas.{runs_first, runs_on, ran, ready_facts}
-use Rattle.snmp_walk.proofs.MoveLemmas.{HasMoved, moved_first, moved_more, moved_fine, tries_as}
+use Rattle.snmp_walk.proofs.MoveLemmas.{HasMoved, moved_first, moved_more, moved_fine, moves_as, tries_as}
 use Rattle.snmp_walk.proofs.RequestLemmas.{request_short}
 use Rattle.snmp_walk.proofs.TurnLemmas.{no_link_end, same_end}
 use Rattle.snmp_walk.proofs.run.run_walk.Goals as goal
@@ -19,8 +19,8 @@ turns-init g c = record {
   has_moved = moved_first g.L.Link c.args.link.now (c.args.retries + 1) c.args.core.id;
 }
 
-pub returns-in-Ends-clause-rows_given : goal.returns-in-Ends-clause-rows_given
-returns-in-Ends-clause-rows_given g c =
+pub returns-in-Ends : goal.returns-in-Ends
+returns-in-Ends g c =
     let inv = c.turns.invariant in
     let agents : Agents = g.L.Link.agents c.args.link.now in
     let t = c.in-Ends.ensures.turns in
@@ -28,7 +28,7 @@ returns-in-Ends-clause-rows_given g c =
     × IsEarlier (g.L.Link.traffic c.turns.link).sent c.turns.core) c.turns.core c.turns.sink t.0
     (Some c.turn.new.end) c.turn.new.core c.turn.new.sink)
     inv.has_moved.moved.agents t.1 in
-    ran g.S.Sink.takes (ComesOver g.L.Link.brings) agents (g.L.Link.keeps c.args.link.now) (g.L.Link.honest c.args.link.now)
+    let r = ran g.S.Sink.takes (ComesOver g.L.Link.brings) agents (g.L.Link.keeps c.args.link.now) (g.L.Link.honest c.args.link.now)
     (g.met.L.Link.keeping c.args.link.now)
     (c.args.retries + 1) c.args.core c.args.sink.now
     (g.L.Link.traffic c.args.link.now) c.turns.core c.turns.sink (g.L.Link.traffic c.turns.link) inv.runs c.turn.ensures.walker
@@ -39,28 +39,25 @@ returns-in-Ends-clause-rows_given g c =
     (Some c.turn.new.end ≡ Some ending.NoResponse) (Some c.turn.new.end ≡ Some ending.Link) (g.L.Link.traffic c.turn.new.link)) inv.has_moved.moved.agents
     (c.in-Ends.ensures.exchanged (inv.has_moved.moved.keeps k)))
     (MissesReply g.L.Link.sends g.L.Link.brings g.L.Link.is_silent (c.args.retries + 1) c.turn.new.link)
-    (λ silent. (c.turns.link, c.in-Ends.ensures.unanswered (ap Some silent)))
-
-pub returns-in-Ends-clause-fault : goal.returns-in-Ends-clause-fault
-returns-in-Ends-clause-fault g c = λ link.
-    (moved_more g.L.Link c.turns.invariant.has_moved c.in-Ends.ensures.moves
-    (request_short c.turns.core c.turn.ensures.walker.community c.turn.ensures.walker.identifier.short)).moved.fault (ap Some link)
-
-pub returns-in-Ends-clause-count : goal.returns-in-Ends-clause-count
-returns-in-Ends-clause-count g c = λ fine.
-    (moved_more g.L.Link c.turns.invariant.has_moved c.in-Ends.ensures.moves
-    (request_short c.turns.core c.turn.ensures.walker.community c.turn.ensures.walker.identifier.short)).moved.count
-    (λ e. fine (same_end c.turn.new.end ending.Link e))
-
-pub returns-in-Ends-clause-ready : goal.returns-in-Ends-clause-ready
-returns-in-Ends-clause-ready g c =
-    let inv = c.turns.invariant in
-    ready_facts c.codec.ensures g.S.Sink.takes (ComesOver g.L.Link.brings) (g.L.Link.agents c.args.link.now) (g.L.Link.keeps c.args.link.now)
-    (g.L.Link.honest c.args.link.now) (c.args.retries + 1) c.args.core c.args.sink.now (g.L.Link.traffic c.args.link.now) c.turns.core c.turns.sink
-    (g.L.Link.traffic c.turns.link) inv.runs c.requires (λ h. (g.met.L.Link.lawful c.args.link.now h).views) (g.L.Link.ready c.args.link.now) c.turn.new.end
-    (λ k few ready link.
-    moved_fine g.L.Link (moved_more g.L.Link inv.has_moved c.in-Ends.ensures.moves
-    (request_short c.turns.core c.turn.ensures.walker.community c.turn.ensures.walker.identifier.short)) k (omega (arith, few)) ready (ap Some link))
+    (λ silent. (c.turns.link, c.in-Ends.ensures.unanswered (ap Some silent))) in
+    let moved = moved_more g.L.Link inv.has_moved c.in-Ends.ensures.moves
+    (request_short c.turns.core c.turn.ensures.walker.community c.turn.ensures.walker.identifier.short) in
+    record {
+      rows = r.0;
+      refused = r.1;
+      took = r.2;
+      facts = record {
+        part = r.3;
+        ends = r.6;
+        sent = r.5;
+        judged = λ fresh. r.4 fresh.0 fresh.1;
+        ready = ready_facts c.codec.ensures g.S.Sink.takes (ComesOver g.L.Link.brings) agents (g.L.Link.keeps c.args.link.now)
+            (g.L.Link.honest c.args.link.now) (c.args.retries + 1) c.args.core c.args.sink.now (g.L.Link.traffic c.args.link.now) c.turns.core c.turns.sink
+            (g.L.Link.traffic c.turns.link) inv.runs c.requires (λ h. (g.met.L.Link.lawful c.args.link.now h).views) (g.L.Link.ready c.args.link.now)
+            c.turn.new.end (λ k few ready link. moved_fine g.L.Link moved k (omega (arith, few)) ready (ap Some link));
+        moved = (moved.tried, moves_as g.L.Link (same_end c.turn.new.end ending.Link) (ap Some) moved.moved);
+      };
+    }
 
 pub turns-smaller : goal.turns-smaller
 turns-smaller g c =

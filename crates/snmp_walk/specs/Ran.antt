@@ -1,0 +1,78 @@
+-- What is known of a run over a link: of a walk, and of a Get of names.
+use Rattle.std.specs.Prelude.{◌≡◌, ◌≢◌, ◌≤◌, ◌++◌, ℕ, List, [], Result, replicate}
+use Rattle.snmp_wire.specs.Canon.{canon}
+use Rattle.snmp_wire.specs.Message.{VarBind}
+use Rattle.snmp_walk.specs.declared.end.SinkFault.{SinkFault}
+use Rattle.snmp_walk.specs.declared.end.WalkEnd.{WalkEnd}
+use Rattle.snmp_walk.specs.declared.end.WalkEnd.TheVariants as ending
+use Rattle.snmp_walk.specs.declared.link.Link.{Ghosts as LinkFacts}
+use Rattle.snmp_walk.specs.Facts.{EndFacts, IsLastSent, ReadyFacts, SendFacts, WalkFacts}
+use Rattle.snmp_walk.specs.Get.{AreForNames, GetFacts, IsBrought, IsReasonOfGet, get_request}
+use Rattle.snmp_walk.specs.Link.{ComesOver}
+use Rattle.snmp_walk.specs.Missed.{AreMissed, IsNotAwaited, MissesReply}
+use Rattle.snmp_walk.specs.Moved.{IsMoved}
+use Rattle.snmp_walk.specs.Sink.{Took}
+use Rattle.snmp_walk.specs.Standing.{IsPartOfWalk, Named, Rises}
+use Rattle.snmp_walk.specs.Walker.{Walker}
+
+-- A run gave these bindings to a sink, and perhaps one more that was refused; so it ended, and such
+-- facts hold of them.
+pub record IsRun {S : Type 0} (takes : S → VarBind → Result (Unit {0}) SinkFault → S → Type 0)
+    (before : S) (end : WalkEnd) (after : S) (Facts : (rows refused : List VarBind) → Type 0) :
+    Type 0 where
+  pub rows : List VarBind
+  pub refused : List VarBind
+  pub took : Took takes before rows refused end after
+  pub facts : Facts rows refused
+
+-- the link is honest, and nothing was sent over it before
+abbrev pub IsFreshAndHonest : {W : Type 0} → LinkFacts W → W → Type 0
+IsFreshAndHonest {W} facts link = facts.honest link × ((facts.traffic link).sent ≡ [])
+
+-- What is known of a walk over a link, which was `link` before the walk and is `after` then.
+pub record IsWalkedOver {W : Type 0} (facts : LinkFacts W) (link after : W) (tries : ℕ)
+    (first : Walker) (given refused : List VarBind) (end : WalkEnd) : Type 0 where
+  -- the names given are those of its root and of instances below that
+  pub part : IsPartOfWalk Rises Named first (given ++ refused)
+  -- they rise, where it is done its end counts them, and each end has its own reason in a datagram
+  -- that came over the link; with NoResponse it ends where each try of the request missed its reply
+  pub ends : EndFacts (ComesOver facts.brings) (λ w.
+      (facts.keeps link → IsLastSent tries end (facts.traffic after) w)
+      × (end ≡ ending.NoResponse
+      → MissesReply facts.sends facts.brings facts.is_silent tries after w)) first given refused
+      end
+  -- over a link that keeps what is sent: which requests were sent, and how many times
+  pub sent : facts.keeps link → SendFacts (facts.agents link) (IsFreshAndHonest facts link) tries
+      (facts.traffic link) first given end (facts.traffic after)
+  -- over an honest link over which nothing was sent before: what its agents gave,
+  pub judged : IsFreshAndHonest facts link
+      → WalkFacts (facts.agents link) tries (facts.traffic link) first given refused end
+      (facts.traffic after)
+  -- and that it doesn't fail where it is ready for all that is sent
+  pub ready : ReadyFacts (facts.agents link) (IsFreshAndHonest facts link) (facts.ready link) tries
+      first end
+  -- the link moved, and failed where the walk ends because of it
+  pub moved : (tried : List (List ℕ)) × IsMoved facts link tried (end ≡ ending.Link) after
+
+-- What is known of a Get of names over a link, which was `link` before the Get and is `after` then.
+pub record IsGotOver {W : Type 0} (facts : LinkFacts W) (link after : W) (tries : ℕ)
+    (community : List ℕ) (id : ℕ) (names : List (List ℕ)) (given refused : List VarBind)
+    (end : WalkEnd) : Type 0 where
+  pub named : AreForNames (get_request community id names) names given refused end
+  -- each end has its own reason in a datagram that came over the link; with NoResponse it ends
+  -- where each try of the request missed its reply
+  pub reason : names ≢ [] → IsReasonOfGet (IsBrought (ComesOver facts.brings) (facts.agents link)
+      (IsFreshAndHonest facts link) community id names) names given refused end
+  pub missed : end ≡ ending.NoResponse → AreMissed facts.sends facts.brings facts.is_silent
+      (IsNotAwaited community id) (canon (get_request community id names)) tries link after
+  -- over a link that keeps what is sent: the request alone, at most once for each try
+  pub sent : facts.keeps link → (times : ℕ) × (times ≤ tries)
+      × ((facts.traffic after).sent ≡ (facts.traffic link).sent
+      ++ replicate times (canon (get_request community id names)))
+      × (end ≡ ending.NoResponse → times ≡ tries)
+  -- over an honest link over which nothing was sent before: what its agents gave
+  pub judged : IsFreshAndHonest facts link → GetFacts (facts.agents link) tries
+      (facts.traffic link) (get_request community id names) names given refused end
+      (facts.traffic after)
+  -- the link moved, and failed where the Get ends because of it
+  pub moved : (tried : List (List ℕ)) × IsMoved facts link tried (end ≡ ending.Link) after
