@@ -360,7 +360,7 @@ def interrupted_write():
 
 
 # Catches: a walk that asks on where nobody reads.
-@test("a walk whose reader goes away ends at the next line, and asks no more")
+@test("a walk whose reader goes away ends at the next reply, and asks no more")
 def reader_goes():
     wrong = []
     for command, count in ("snmpwalk", 3), ("snmpbulkwalk", 1):
@@ -402,6 +402,21 @@ def readers_of_some():
 
 SOME = {R + (i,): i for i in range(200)}
 SOME_TEXT = lines(SOME)
+
+
+# What takes packets shows each write. Catches: a write for each line, and one for the lines of several replies.
+@test("the lines of a reply are written at once")
+def reply_at_once():
+    ours, theirs = socket.socketpair(socket.AF_UNIX, socket.SOCK_SEQPACKET)
+    with file(stated(SOME)) as table, ours:
+        program = start("snmpbulkwalk", "-On", "-Cr50", f"table:{table}", ROOT, stdout=theirs)
+        theirs.close()
+        pieces = []
+        while piece := ours.recv(65536):
+            pieces.append(piece.decode())
+        each = SOME_TEXT.splitlines(True)
+        replies = ["".join(each[i:i + 50]) for i in range(0, len(each), 50)]
+        return wrongs(differs(pieces, replies), differs(ended(program), (0, "", "")))
 
 
 # As on a full disk, a file takes so many octets and no more. Catches: a write that took a part as the whole,

@@ -3,7 +3,7 @@ use Rattle.std.specs.Prelude.{◌≡◌, ◌++◌, ℕ, List, [], Option, Some, 
 use Rattle.std.proofs.Common.{◌∙◌, ap, refl, sym, append_assoc, append-nil}
 use Rattle.snmp_io.specs.Output.{Stream, TakesFront, appended, extended}
 
-appended-twice : (before : Option (List ℕ)) (a b : List ℕ)
+pub appended-twice : (before : Option (List ℕ)) (a b : List ℕ)
     → appended (appended before a) b ≡ appended before (a ++ b)
 appended-twice None a b = refl
 appended-twice (Some taken) a b = ap Some (append_assoc taken a b)

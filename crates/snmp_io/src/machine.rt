@@ -1,5 +1,5 @@
 //! The machine's own outputs and files, of which nothing is known.
-ghost use Rattle.std.specs.Prelude.{◌≡◌, ◌<◌, ◌≤◌, ◌↔◌, ℕ, None, IfOk, IfSome, IsErrOf};
+ghost use Rattle.std.specs.Prelude.{◌≡◌, ◌<◌, ◌≤◌, ◌↔◌, ℕ, None, IfOk, IfSome, IsErrOf, refl};
 ghost use Rattle.std.specs.Prelude.{length, vec_len};
 ghost use Rattle.snmp_io.specs.Machine.{IsWantOfMemory, most_octets};
 
@@ -43,6 +43,8 @@ impl<W> MachineOutput<W> {
 impl<W: Write> Output for MachineOutput<W> {
     ghost stream = { λ faults. record { taken = None; faults = faults } };
 
+    ghost after = { λ faults _. faults };
+
     fn write(&mut self, piece: &[u8]) -> Result<usize, OutputFault> {
         match write_some(&mut self.to, piece) {
             Some(n) => Ok(n),
@@ -56,6 +58,8 @@ impl<W: Write> Output for MachineOutput<W> {
     fn faults(&self) -> u64 {
         self.faults
     }
+
+    ghost after_takes = { λ _ _. refl };
 }
 
 fn write_some<W: Write>(to: &mut W, piece: &[u8]) -> Option<usize>

@@ -1,5 +1,5 @@
 //! An output and files in memory, which keep every fact, for tests of what is written and read.
-ghost use Rattle.std.specs.Prelude.{◌≡◌, [], ◌∷◌, Some, option_map};
+ghost use Rattle.std.specs.Prelude.{◌≡◌, [], ◌∷◌, ◌++◌, Some, option_map, refl};
 ghost use Rattle.snmp_io.specs.Memory.{KeptOutput, held_at};
 
 use crate::files::{FileFault, Files};
@@ -51,6 +51,12 @@ impl MemoryOutput {
 impl Output for MemoryOutput {
     ghost stream = { λ o. record { taken = Some o.octets; faults = o.faults } };
 
+    ghost after = { λ o text. record {
+      octets = o.octets ++ text;
+      limit = o.limit;
+      faults = o.faults;
+    } };
+
     fn write(&mut self, piece: &[u8]) -> Result<usize, OutputFault> {
         let room = self.limit.saturating_sub(self.octets.len());
         let n = piece.len().min(room);
@@ -64,6 +70,8 @@ impl Output for MemoryOutput {
     fn faults(&self) -> u64 {
         self.faults
     }
+
+    ghost after_takes = { λ _ _. refl };
 }
 
 /// Files of which the first with a path holds its text.

@@ -1,5 +1,5 @@
 //! Outputs, which take octets, and the loop that writes a whole text to one.
-ghost use Rattle.std.specs.Prelude.{◌≡◌, ◌<◌, ◌≤◌, length, take};
+ghost use Rattle.std.specs.Prelude.{◌≡◌, ◌<◌, ◌≤◌, ℕ, List, length, take};
 ghost use Rattle.std.specs.Prelude.{IfOk, OnErr, OnOk};
 ghost use Rattle.snmp_io.specs.Count.{HasRisen};
 ghost use Rattle.snmp_io.specs.Output.{FailsWithin, Stream, extended};
@@ -16,6 +16,9 @@ pub trait Output {
     /// What is known of it: the octets that it took, and how many writes failed.
     ghost stream: { Self → Stream };
 
+    /// What it would be if it had taken these octets too.
+    ghost after: { Self → List ℕ → Self };
+
     /// Takes a front of `piece`, not empty where the piece isn't, and returns its length. Where
     /// that fails, the fault is counted and nothing of the piece was taken.
     fn write(&mut self, piece: &[u8]) -> Result<usize, OutputFault>
@@ -31,6 +34,10 @@ pub trait Output {
     /// How many writes failed so far. The count stays at 18446744073709551615 once it is there.
     fn faults(&self) -> u64
         ensures { result ≡ (stream self.now).faults };
+
+    /// Of that, the octets are known, where they are of it, and no write failed.
+    ghost after_takes: { (out : Self) (text : List ℕ)
+        → stream (after out text) ≡ extended (stream out) text };
 }
 
 /// Writes the whole of `text`, or a front of it where a write fails.

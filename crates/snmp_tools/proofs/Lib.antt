@@ -20,6 +20,7 @@ pub mod Walked
 pub mod Wholes
 pub mod TranslationHeadlines
 pub mod Printing
+pub mod Replies
 pub mod Refusals
 pub mod Serving
 pub mod Reading

@@ -72,7 +72,7 @@ module _ {S : Type 0} (takes : S → VarBind → Result (Unit {0}) SinkFault →
 
 -- a printer: it keeps its tree, its letters and its output
 module _ {S R N : Type 0} (tree : S → R) (letters : S → Letters) (name : S → N) (stream : S → Stream) (mib : R → Mib) where
-  abbrev prints : S → VarBind → Result (Unit {0}) SinkFault → S → Type 0
+  abbrev pub prints : S → VarBind → Result (Unit {0}) SinkFault → S → Type 0
   prints old binding result new =
       (tree new ≡ tree old) × (letters new ≡ letters old) × (name new ≡ name old)
       × TakesLine (mib (tree old)) (letters old) (stream old) binding result (stream new)

@@ -1,9 +1,10 @@
-//! Lines on an output: one for each binding of a walk or a Get, as it comes, and the count after
-//! them.
-ghost use Rattle.std.specs.Prelude.{◌≡◌, ◌≤◌, ◌+◌, ◌++◌, All, OnOk, length};
+//! Lines on an output: one for each binding of a walk or a Get, as its reply comes, and the count
+//! after them.
+ghost use Rattle.std.specs.Prelude.{◌≡◌, ◌≤◌, ◌+◌, ◌++◌, All, IfErr, OnOk, length};
 ghost use Rattle.snmp_oid.specs.Identifier.{IsWire, wire};
 ghost use Rattle.snmp_walk.specs.Facts.{IsFresh};
 ghost use Rattle.snmp_walk.specs.Ran.{IsGotOver, IsWalkedOver};
+ghost use Rattle.snmp_io.specs.Output.{FailsWithin, extended};
 ghost use Rattle.snmp_tools.specs.Lines.{ArePrinted, TakesText, count_line};
 ghost use Rattle.snmp_tools.specs.Planned.{mib_in};
 
@@ -11,8 +12,8 @@ use crate::start::FIRST_ID;
 use smi_show::{Letters, ShowTree, line};
 use snmp_io::{Draft, Output, OutputFault, write_all};
 use snmp_oid::Oid;
-use snmp_walk::{Link, Sink, SinkFault, WalkCore, WalkEnd, run_get, run_walk};
-use snmp_wire::Binding;
+use snmp_walk::{Link, Rows, Sink, SinkFault, WalkCore, WalkEnd, run_get, run_walk};
+use snmp_wire::{Binding, ValueRef};
 use std::alloc::AllocError;
 
 /// What writes the lines of bindings, by the names and types of a tree and the letters of `-O`.
@@ -20,7 +21,7 @@ use std::alloc::AllocError;
 pub(crate) struct Printer<'a, T: ShowTree, O: Output> {
     tree: &'a T,
     letters: Letters,
-    // The line that is being written, whose memory is used again for the next.
+    // The lines of a reply that are being written. Their memory is used again for the next.
     text: &'a mut Vec<u8>,
     out: &'a mut O,
 }
@@ -41,10 +42,46 @@ impl<T: ShowTree, O: Output> Sink for Printer<'_, T, O> {
         if line(self.tree, &self.letters, name, value, self.text).is_err() {
             return Err(SinkFault::Memory);
         }
-        match write_all(self.out, self.text.as_slice()) {
-            Ok(()) => Ok(()),
-            Err(OutputFault) => Err(SinkFault::Output),
+        write_lines(self.out, self.text.as_slice())
+    }
+
+    // One write for all lines. A line alone may take as much memory as they: a reply may have one
+    // binding.
+    fn rows(&mut self, mut rows: Rows<'_>) -> Result<(), SinkFault> {
+        let mut binding = Binding {
+            name: Oid::new(),
+            value: ValueRef::Null,
+        };
+        if !rows.read_next(&mut binding) {
+            return Ok(());
         }
+        self.text.clear();
+        if line(
+            self.tree,
+            &self.letters,
+            &binding.name,
+            &binding.value,
+            self.text,
+        )
+        .is_err()
+        {
+            return Err(SinkFault::Memory);
+        }
+        'rows: while rows.read_next(&mut binding) {
+            if line(
+                self.tree,
+                &self.letters,
+                &binding.name,
+                &binding.value,
+                self.text,
+            )
+            .is_err()
+            {
+                write_lines(self.out, self.text.as_slice())?;
+                return Err(SinkFault::Memory);
+            }
+        }
+        write_lines(self.out, self.text.as_slice())
     }
 }
 
@@ -156,6 +193,18 @@ pub(crate) fn print_count<O: Output>(
         return Err(SinkFault::Memory);
     }
     match write_all(out, text.as_slice()) {
+        Ok(()) => Ok(()),
+        Err(OutputFault) => Err(SinkFault::Output),
+    }
+}
+
+// Writes lines, or a front of them where the output fails.
+fn write_lines<O: Output>(out: &mut O, lines: &[u8]) -> Result<(), SinkFault>
+    ensures whole_at_ok { OnOk result (O.stream out.new ≡ extended (O.stream out.old) lines.now) }
+    ensures front_at_fault { IfErr result (λ fault. (fault ≡ SinkFault.Output)
+        × FailsWithin (O.stream out.old) lines.now (O.stream out.new)) }
+{
+    match write_all(out, lines) {
         Ok(()) => Ok(()),
         Err(OutputFault) => Err(SinkFault::Output),
     }

@@ -12,7 +12,6 @@ ghost use Rattle.snmp_walk.specs.Moved.{IsMoved, IsMovedByTries};
 ghost use Rattle.snmp_walk.specs.Missed.{IsNotAwaited, IsMissed, AreMissed};
 ghost use Rattle.snmp_walk.specs.Read.{IsRead, IsReadAs, Delivers};
 
-use crate::sink::give;
 use crate::{Link, LinkFault, Rows, Sink, WalkEnd};
 use snmp_wire::{Kind, MessageRef, decode};
 
@@ -180,14 +179,14 @@ fn deliver<S: Sink>(judgement: Judgement<'_>, sink: &mut S, end: &mut WalkEnd) -
 {
     match judgement {
         Judgement::Stray => Course::GoesOn,
-        Judgement::GoesOn(rows) => match give(rows, sink) {
+        Judgement::GoesOn(rows) => match sink.rows(rows) {
             Ok(()) => Course::GoesOn,
             Err(fault) => {
                 *end = WalkEnd::Sink(fault);
                 Course::Ends
             }
         },
-        Judgement::Ends(rows) => match give(rows, sink) {
+        Judgement::Ends(rows) => match sink.rows(rows) {
             Ok(()) => Course::Ends,
             Err(fault) => {
                 *end = WalkEnd::Sink(fault);

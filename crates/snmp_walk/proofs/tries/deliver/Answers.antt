@@ -11,10 +11,10 @@ returns-in-Err g c =
     let r = c.in-Err.ensures.err in
     is_refused c.in-Err.fault r.0 r.1 r.2 r.4 (ap (λ j. rows_in (step_of j c.args.end.now)) c.in-GoesOn.is ∙ r.3) refl r.5 r.6
 
-pub returns-in-Ok-give : goal.returns-in-Ok-give
-returns-in-Ok-give g c = ends c.in-Ends.rows c.args.end.now (ap (λ j. step_of j c.args.end.now) c.in-Ends.is) refl c.in-Ok-give.ensures.ok
+pub returns-in-Ok-rows : goal.returns-in-Ok-rows
+returns-in-Ok-rows g c = ends c.in-Ends.rows c.args.end.now (ap (λ j. step_of j c.args.end.now) c.in-Ends.is) refl c.in-Ok-rows.ensures.ok
 
-pub returns-in-Err-give : goal.returns-in-Err-give
-returns-in-Err-give g c =
-    let r = c.in-Err-give.ensures.err in
-    is_refused c.in-Err-give.fault r.0 r.1 r.2 r.4 (ap (λ j. rows_in (step_of j c.args.end.now)) c.in-Ends.is ∙ r.3) refl r.5 r.6
+pub returns-in-Err-rows : goal.returns-in-Err-rows
+returns-in-Err-rows g c =
+    let r = c.in-Err-rows.ensures.err in
+    is_refused c.in-Err-rows.fault r.0 r.1 r.2 r.4 (ap (λ j. rows_in (step_of j c.args.end.now)) c.in-Ends.is ∙ r.3) refl r.5 r.6
