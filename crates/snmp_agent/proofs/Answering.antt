@@ -33,11 +33,11 @@ get_value view o p h (unknown_object none never same) = at_binding (λ (q : VarB
 get_value view o p h (unknown_instance none some same) = at_binding (λ (q : VarBind). IsAnswerValue q.value) p
     (record { name = o; value = no_such_instance }) same tt
 
-next_value : (view : MibView) (o : List ℕ) (p : VarBind) → IsMibView view → IsNext view o p → IsAnswerValue p.value
+pub next_value : (view : MibView) (o : List ℕ) (p : VarBind) → IsMibView view → IsNext view o p → IsAnswerValue p.value
 next_value view o p h (successor is) = instance_answer p.value (h.values p is.row)
 next_value view o p h (end_of_view none same) = at_binding (λ (q : VarBind). IsAnswerValue q.value) p (record { name = o; value = end_of_mib_view }) same tt
 
-next_name : (view : MibView) (o : List ℕ) (p : VarBind) → IsMibView view → IsWire o → IsNext view o p → IsWire p.name
+pub next_name : (view : MibView) (o : List ℕ) (p : VarBind) → IsMibView view → IsWire o → IsNext view o p → IsWire p.name
 next_name view o p h wire (successor is) = (h.names p is.row).wire
 next_name view o p h wire (end_of_view none same) = at_binding (λ (q : VarBind). IsWire q.name) p (record { name = o; value = end_of_mib_view }) same wire
 

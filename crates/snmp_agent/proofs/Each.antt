@@ -15,7 +15,7 @@ use Rattle.snmp_agent.specs.table.Table.{IsNextAfter}
 use Rattle.snmp_agent.specs.table.Listing.{first_or_end}
 use Rattle.snmp_agent.specs.table.Places.{IsBeforeAll, IsBeforeNone, var_of}
 use Rattle.snmp_agent.proofs.Rising.{before_all, first_of_both, second_of_both, same_name, turned}
-use Rattle.snmp_agent.proofs.Successors.{IsOrder, is_next}
+use Rattle.snmp_agent.proofs.Following.{IsOrder, is_next}
 
 same_binding : (p q : VarBind) → p.name ≡ q.name → p.value ≡ q.value → p ≡ q
 same_binding p q name value = λ i. record { name = name i; value = value i }

@@ -7,7 +7,8 @@ use Rattle.snmp_wire.specs.Number.{lenient}
 use Rattle.snmp_wire.specs.Spelling.{IsContent, SpellsBindings, Spells, sequence_tag, value_tag}
 use Rattle.snmp_wire.specs.Canon.{IsEncodable, IsEncodableValue, canon_binding, canon_content, canon_element, canon_value}
 use Rattle.snmp_wire.specs.ber.Sizes.{ElementSizes}
-use Rattle.snmp_agent.specs.table.Table.{IsAnswerValue}
+use Rattle.snmp_agent.specs.table.Table.{IsAnswerValue, IsMibView, IsNext, MibView}
+use Rattle.snmp_agent.proofs.Answering.{next_name, next_value}
 use Rattle.snmp_agent.specs.Answering.{HasEncoding, IsWritable, AreWritable, IsShortValue}
 
 -- ---- what is read
@@ -53,6 +54,13 @@ answer_value (counter64 n) h = tt
 answer_value no_such_object h = tt
 answer_value no_such_instance h = tt
 answer_value end_of_mib_view h = tt
+
+-- what a GetNext gives for a binding that has an encoding has one
+pub writable_next : (view : MibView) (p q : VarBind) → IsMibView view → IsWritable p → IsNext view p.name q → IsWritable q
+writable_next view p q mib writable next = record {
+  name = next_name view p.name q mib writable.name next;
+  value = answer_value q.value (next_value view p.name q mib next);
+}
 
 -- ---- what is written
 

@@ -3,69 +3,70 @@ use Rattle.std.proofs.Common.{◌≡◌, ℕ, zero, suc, ◌+◌, ◌-◌, ◌<�
 use Rattle.std.proofs.Common.{subst, arith, Less, ◌||◌, true, false, Vec, Global, length-append}
 use Rattle.std.specs.Ordering.{nat_cmp, is_eq, eq_by_cmp}
 use Rattle.std.specs.Cmp.Lexicographic.{slice_cmp, nat_list_cmp_total}
-use Rattle.std.specs.FinSet.{contains-from_list}
+use Rattle.std.specs.FinSet.{contains, contains-from_list, from_list}
 use Rattle.std.proofs.Math.Seq.{take-append_seam}
-use Rattle.std.specs.FinMap.{get, get-from_sorted, find, is_sorted}
+use Rattle.std.specs.FinMap.{get, find, is_sorted}
 use Rattle.std.specs.List.{slice_get, list_any}
 use Rattle.std.proofs.lemmas.List.{take-append-drop, map-append}
 use Rattle.snmp_wire.specs.Message.{Datum}
 use Rattle.snmp_wire.specs.Message.Datum.{no_such_object, no_such_instance}
-use Rattle.snmp_agent.specs.table.Table.{HasObject, IsGet, variable, unknown_object, unknown_instance}
-use Rattle.snmp_agent.specs.declared.table.row.Row.{Row}
-use Rattle.snmp_agent.specs.table.Row.{entry_of, datum_of, view_of}
-use Rattle.snmp_agent.specs.table.Places.{IsRising, IsBeforeNone, IsBeforeAll, HasBeginning}
+use Rattle.snmp_agent.specs.table.Table.{HasObject, IsGet, MibView, unknown_object, unknown_instance}
+use Rattle.snmp_agent.specs.declared.table.encoded.EncodedRow.{EncodedRow}
+use Rattle.snmp_agent.specs.table.Row.{entry_of, datum_of}
+use Rattle.snmp_agent.specs.table.Places.{IsBeforeNone, IsBeforeAll, HasBeginning}
+use Rattle.snmp_agent.specs.table.Pages.{IsRising, entries_of}
 use Rattle.snmp_agent.proofs.Rising.{Listed, not_before_itself, not_both, before_all, before_listed, first_of_both, second_of_both, rising_first}
 use Rattle.snmp_agent.proofs.Rising.{listed_in_first, listed_in_both, find-listed, listed_from_find}
 
-whole : (rows : List Row) (place : ℕ) → map entry_of rows ≡ map entry_of (take place rows) ++ map entry_of (drop place rows)
-whole rows place = ap (map entry_of) (sym (take-append-drop place rows)) ∙ map-append entry_of (take place rows) (drop place rows)
+whole : (rows : List EncodedRow) (place : ℕ) → entries_of rows ≡ entries_of (take place rows) ++ entries_of (drop place rows)
+whole rows place = ap entries_of (sym (take-append-drop place rows)) ∙ map-append (λ (r : EncodedRow). entry_of r.row) (take place rows) (drop place rows)
 
-pub listed_at : (rows : List Row) (k : ℕ) (row : Row) → slice_get rows k ≡ Some row → Listed (entry_of row) (map entry_of rows)
+pub listed_at : (rows : List EncodedRow) (k : ℕ) (row : EncodedRow) → slice_get rows k ≡ Some row → Listed (entry_of row.row) (entries_of rows)
 listed_at [] k row at = let no : ⊥ = cc in absurd no
-listed_at (first ∷ rows) zero row at = let same : first ≡ row = cc in inl (ap entry_of (sym same))
+listed_at (first ∷ rows) zero row at = let same : first ≡ row = cc in inl (ap (λ (r : EncodedRow). entry_of r.row) (sym same))
 listed_at (first ∷ rows) (suc k) row at = inr (listed_at rows k row at)
 
-listed_some : (e : List ℕ × Datum) (rows : List Row) → Listed e (map entry_of rows) → 0 < length rows
+listed_some : (e : List ℕ × Datum) (rows : List EncodedRow) → Listed e (entries_of rows) → 0 < length rows
 listed_some e [] at = absurd at
 listed_some e (row ∷ rows) at = omega arith
 
 -- the last row up to the name has it
-pub found_last : (rows : List Row) (place last : ℕ) (o : List ℕ) (row : Row) → IsRising rows → slice_get (take place rows) last ≡ Some row → row.name.items ≡ o
-    → find (slice_cmp nat_cmp) o (map entry_of rows) ≡ Some (datum_of row.value)
+pub found_last : (rows : List EncodedRow) (place last : ℕ) (o : List ℕ) (row : EncodedRow) → IsRising rows → slice_get (take place rows) last ≡ Some row → row.row.name.items ≡ o
+    → find (slice_cmp nat_cmp) o (entries_of rows) ≡ Some (datum_of row.row.value)
 found_last rows place last o row rising at name =
-    let listed : Listed (entry_of row) (map entry_of rows) =
-    subst (Listed (entry_of row)) (sym (whole rows place)) (listed_in_first (entry_of row) (map entry_of (take place rows)) (map entry_of (drop place rows))
+    let listed : Listed (entry_of row.row) (entries_of rows) =
+    subst (Listed (entry_of row.row)) (sym (whole rows place)) (listed_in_first (entry_of row.row) (entries_of (take place rows)) (entries_of (drop place rows))
     (listed_at (take place rows) last row at)) in
-    let P : List ℕ → Type 0 = λ p. find (slice_cmp nat_cmp) p (map entry_of rows) ≡ Some (datum_of row.value) in
-    subst P name (find-listed (entry_of row) (map entry_of rows) rising listed)
+    let P : List ℕ → Type 0 = λ p. find (slice_cmp nat_cmp) p (entries_of rows) ≡ Some (datum_of row.row.value) in
+    subst P name (find-listed (entry_of row.row) (entries_of rows) rising listed)
 
 -- the rows up to one that has the name, and those behind it
-pub parts_at : (rows : List Row) (place : ℕ) (row : Row) → IsRising rows → slice_get rows place ≡ Some row
-    → IsBeforeNone row.name.items (map entry_of (take (suc place) rows)) × IsBeforeAll row.name.items (map entry_of (drop (suc place) rows))
+pub parts_at : (rows : List EncodedRow) (place : ℕ) (row : EncodedRow) → IsRising rows → slice_get rows place ≡ Some row
+    → IsBeforeNone row.row.name.items (entries_of (take (suc place) rows)) × IsBeforeAll row.row.name.items (entries_of (drop (suc place) rows))
 parts_at [] place row rising at = let no : ⊥ = cc in absurd no
 parts_at (first ∷ rows) zero row rising at =
     let same : first ≡ row = cc in
-    subst (λ (r : Row). IsBeforeNone r.name.items (entry_of first ∷ []) × IsBeforeAll r.name.items (map entry_of rows)) same
-    ((not_before_itself first.name.items, tt), before_all first.name.items (map entry_of rows) (first_of_both _ _ rising))
+    subst (λ (r : EncodedRow). IsBeforeNone r.row.name.items (entry_of first.row ∷ []) × IsBeforeAll r.row.name.items (entries_of rows)) same
+    ((not_before_itself first.row.name.items, tt), before_all first.row.name.items (entries_of rows) (first_of_both _ _ rising))
 parts_at (first ∷ rows) (suc place) row rising at =
     let rest = parts_at rows place row (second_of_both _ _ rising) at in
-    let less : slice_cmp nat_cmp first.name.items row.name.items ≡ Less = before_listed first.name.items (entry_of row) (map entry_of rows)
-    (before_all first.name.items (map entry_of rows) (first_of_both _ _ rising)) (listed_at rows place row at) in
-    ((not_both first.name.items row.name.items less, rest.0), rest.1)
+    let less : slice_cmp nat_cmp first.row.name.items row.row.name.items ≡ Less = before_listed first.row.name.items (entry_of row.row) (entries_of rows)
+    (before_all first.row.name.items (entries_of rows) (first_of_both _ _ rising)) (listed_at rows place row at) in
+    ((not_both first.row.name.items row.row.name.items less, rest.0), rest.1)
 
 -- a row up to the name that has it is the last of them
-is_last : (o : List ℕ) (v : Datum) (rows : List Row) (last : ℕ) → length rows ≡ last + 1 → IsRising rows → IsBeforeNone o (map entry_of rows)
-    → Listed (o, v) (map entry_of rows)
-    → (row : Row) × (slice_get rows last ≡ Some row) × (row.name.items ≡ o)
+is_last : (o : List ℕ) (v : Datum) (rows : List EncodedRow) (last : ℕ) → length rows ≡ last + 1 → IsRising rows → IsBeforeNone o (entries_of rows)
+    → Listed (o, v) (entries_of rows)
+    → (row : EncodedRow) × (slice_get rows last ≡ Some row) × (row.row.name.items ≡ o)
 is_last o v [] last long rising none at = absurd at
 is_last o v (row ∷ []) zero long rising none (inl same) = (row, refl, ap (λ (e : List ℕ × Datum). e.0) (sym same))
 is_last o v (row ∷ []) zero long rising none (inr later) = absurd later
 is_last o v (row ∷ []) (suc last) long rising none at = absurd (omega (arith, long))
 is_last o v (row ∷ next ∷ rows) zero long rising none at = absurd (omega (arith, long))
 is_last o v (row ∷ next ∷ rows) (suc last) long rising none (inl same) =
-    let less : slice_cmp nat_cmp row.name.items next.name.items ≡ Less = (before_all row.name.items (map entry_of (next ∷ rows))
+    let less : slice_cmp nat_cmp row.row.name.items next.row.name.items ≡ Less = (before_all row.row.name.items (entries_of (next ∷ rows))
     (first_of_both _ _ rising)).0 in
-    let name : o ≡ row.name.items = ap (λ (e : List ℕ × Datum). e.0) same in
+    let name : o ≡ row.row.name.items = ap (λ (e : List ℕ × Datum). e.0) same in
     absurd (none.1.0 (rw name less))
 is_last o v (row ∷ next ∷ rows) (suc last) long rising none (inr later) = is_last o v (next ∷ rows) last (omega (arith, long))
     (second_of_both _ _ rising) none.1 later
@@ -77,56 +78,49 @@ none_from o es nowhere =
       | Some v ↦ λ found. absurd (nowhere v (listed_from_find o v es found))
     ] refl
 
-rising_front : (rows : List Row) (place : ℕ) → IsRising rows → IsRising (take place rows)
+rising_front : (rows : List EncodedRow) (place : ℕ) → IsRising rows → IsRising (take place rows)
 rising_front rows place rising =
-    rising_first (map entry_of (take place rows)) (map entry_of (drop place rows)) (subst (λ (es : List (List ℕ
+    rising_first (entries_of (take place rows)) (entries_of (drop place rows)) (subst (λ (es : List (List ℕ
     × Datum)). T (is_sorted (slice_cmp nat_cmp) es)) (whole rows place) rising)
 
 -- what stands at the end of the rows up to the name
-abbrev pub IsLast : List Row → Row → Type 0
+abbrev pub IsLast : List EncodedRow → EncodedRow → Type 0
 IsLast rows row = slice_get rows (length rows - 1) ≡ Some row
 
-no_entry : (o : List ℕ) (v : Datum) (rows : List Row) (place : ℕ) → IsRising rows → IsBeforeNone o (map entry_of (take place rows))
-    → IsBeforeAll o (map entry_of (drop place rows))
-    → ((row : Row) → IsLast (take place rows) row → row.name.items ≡ o → ⊥) → Listed (o, v) (map entry_of rows) → ⊥
+no_entry : (o : List ℕ) (v : Datum) (rows : List EncodedRow) (place : ℕ) → IsRising rows → IsBeforeNone o (entries_of (take place rows))
+    → IsBeforeAll o (entries_of (drop place rows))
+    → ((row : EncodedRow) → IsLast (take place rows) row → row.row.name.items ≡ o → ⊥) → Listed (o, v) (entries_of rows) → ⊥
 no_entry o v rows place rising passed ahead other at =
-    elim (listed_in_both (o, v) (map entry_of (take place rows)) (map entry_of (drop place rows)) (subst (Listed (o, v)) (whole rows place) at)) [
+    elim (listed_in_both (o, v) (entries_of (take place rows)) (entries_of (drop place rows)) (subst (Listed (o, v)) (whole rows place) at)) [
       | inl here ↦
           let some : 0 < length (take place rows) = listed_some (o, v) (take place rows) here in
           let last = is_last o v (take place rows) (length (take place rows) - 1) (omega arith) (rising_front rows place rising) passed here in
           other last.0 last.1 last.2
-      | inr there ↦ not_before_itself o (before_listed o (o, v) (map entry_of (drop place rows)) ahead there)
+      | inr there ↦ not_before_itself o (before_listed o (o, v) (entries_of (drop place rows)) ahead there)
     ]
 
 -- no row up to the name has it
-pub found_none : (rows : List Row) (place : ℕ) (o : List ℕ) → IsRising rows → IsBeforeNone o (map entry_of (take place rows))
-    → IsBeforeAll o (map entry_of (drop place rows))
-    → ((row : Row) → IsLast (take place rows) row → row.name.items ≡ o → ⊥)
-    → find (slice_cmp nat_cmp) o (map entry_of rows) ≡ None
-found_none rows place o rising passed ahead other = none_from o (map entry_of rows) (λ v at. no_entry o v rows place rising passed ahead other at)
+pub found_none : (rows : List EncodedRow) (place : ℕ) (o : List ℕ) → IsRising rows → IsBeforeNone o (entries_of (take place rows))
+    → IsBeforeAll o (entries_of (drop place rows))
+    → ((row : EncodedRow) → IsLast (take place rows) row → row.row.name.items ≡ o → ⊥)
+    → find (slice_cmp nat_cmp) o (entries_of rows) ≡ None
+found_none rows place o rising passed ahead other = none_from o (entries_of rows) (λ v at. no_entry o v rows place rising passed ahead other at)
 
 -- ---- Get
 
-has_object : (rows : List Row) (objects : List (List ℕ)) (o : List ℕ) → HasBeginning objects o → HasObject (view_of rows objects) o
-has_object rows objects o h = (h.0, h.1, contains-from_list nat_list_cmp_total objects h.0 ∙ h.2, h.3)
+has_object : (view : MibView) (objects : List (List ℕ)) (o : List ℕ) → view.objects ≡ from_list objects → HasBeginning objects o → HasObject view o
+has_object view objects o same h = (h.0, h.1, ap (λ os. contains os h.0) same ∙ contains-from_list nat_list_cmp_total objects h.0 ∙ h.2, h.3)
 
-has_beginning : (rows : List Row) (objects : List (List ℕ)) (o : List ℕ) → HasObject (view_of rows objects) o → HasBeginning objects o
-has_beginning rows objects o h = (h.0, h.1, sym (contains-from_list nat_list_cmp_total objects h.0) ∙ h.2, h.3)
+has_beginning : (view : MibView) (objects : List (List ℕ)) (o : List ℕ) → view.objects ≡ from_list objects → HasObject view o → HasBeginning objects o
+has_beginning view objects o same h = (h.0, h.1, sym (ap (λ os. contains os h.0) same ∙ contains-from_list nat_list_cmp_total objects h.0) ∙ h.2, h.3)
 
-module _ (rows : List Row) (objects : List (List ℕ)) (o : List ℕ) (rising : IsRising rows) where
-  value_at : get (view_of rows objects).rows o ≡ find (slice_cmp nat_cmp) o (map entry_of rows)
-  value_at = get-from_sorted (slice_cmp nat_cmp) (map entry_of rows) o rising
+pub get_no_instance : (view : MibView) (objects : List (List ℕ)) (o : List ℕ) → view.objects ≡ from_list objects → get view.rows o ≡ None
+    → HasBeginning objects o → IsGet view o (record { name = o; value = no_such_instance })
+get_no_instance view objects o same nothing h = unknown_instance nothing (has_object view objects o same h) refl
 
-  pub get_variable : (v : Datum) → find (slice_cmp nat_cmp) o (map entry_of rows) ≡ Some v → IsGet (view_of rows objects) o (record { name = o; value = v })
-  get_variable v found = variable refl (value_at ∙ found)
-
-  pub get_no_instance : find (slice_cmp nat_cmp) o (map entry_of rows) ≡ None → HasBeginning objects o
-      → IsGet (view_of rows objects) o (record { name = o; value = no_such_instance })
-  get_no_instance nothing h = unknown_instance (value_at ∙ nothing) (has_object rows objects o h) refl
-
-  pub get_no_object : find (slice_cmp nat_cmp) o (map entry_of rows) ≡ None → (HasBeginning objects o → ⊥)
-      → IsGet (view_of rows objects) o (record { name = o; value = no_such_object })
-  get_no_object nothing never = unknown_object (value_at ∙ nothing) (λ h. never (has_beginning rows objects o h)) refl
+pub get_no_object : (view : MibView) (objects : List (List ℕ)) (o : List ℕ) → view.objects ≡ from_list objects → get view.rows o ≡ None
+    → (HasBeginning objects o → ⊥) → IsGet view o (record { name = o; value = no_such_object })
+get_no_object view objects o same nothing never = unknown_object nothing (λ h. never (has_beginning view objects o same h)) refl
 
 -- ---- object prefixes
 

@@ -1,10 +1,9 @@
 -- What lines state is what a table may keep.
-use Rattle.std.proofs.Common.{◌≡◌, ◌≢◌, ℕ, true, All, List, [], map, slice_index_or, sym, ◌∙◌}
+use Rattle.std.proofs.Common.{◌≡◌, ◌≢◌, ℕ, true, List, [], sym, ◌∙◌, arith}
 use Rattle.std.specs.Ordering.{nat_cmp}
 use Rattle.std.specs.Cmp.Lexicographic.{slice_cmp, nat_list_cmp_total}
-use Rattle.std.specs.FinMap.{from_sorted, get, get-from_sorted, find}
-use Rattle.std.specs.FinSet.{contains, contains-from_list, from_list}
-use Rattle.std.proofs.lemmas.Option.{slice_get-get_or}
+use Rattle.std.specs.FinMap.{FinMap, entries, entries_sorted, entries-from_sorted, from_sorted, same_entries_map, get, get-from_sorted, find}
+use Rattle.std.specs.FinSet.{contains, contains-from_list}
 use Rattle.snmp_oid.specs.Identifier.{IsIdentifier}
 use Rattle.snmp_wire.specs.Message.{Datum, VarBind}
 use Rattle.snmp_wire.specs.Message.Datum.{integer_value, octet_string, null_value, object_id, ip_address, counter32, gauge32, time_ticks, opaque_octets}
@@ -13,13 +12,12 @@ use Rattle.snmp_agent.specs.declared.table.row.Row.{Row}
 use Rattle.snmp_agent.specs.declared.table.row.RowValue.{RowValue}
 use Rattle.snmp_agent.specs.declared.table.row.RowValue.TheVariants as value
 use Rattle.snmp_agent.specs.table.Table.{IsRow, IsInstanceName, IsInstanceValue, IsMibView, MibView}
-use Rattle.snmp_agent.specs.table.Row.{entry_of, datum_of, view_of, IsShort, IsShortRow}
-use Rattle.snmp_agent.specs.table.Places.{var_of, IsRising, IsKept}
+use Rattle.snmp_agent.specs.table.Row.{datum_of, IsShort, IsShortRow}
+use Rattle.snmp_agent.specs.table.Places.{view_of}
+use Rattle.snmp_agent.specs.table.Form.{States, instance}
 use Rattle.snmp_agent.specs.table.Text.{HasPrefix, HasRow, IsName, IsPrefixLine, IsValueText}
 use Rattle.snmp_agent.specs.table.Stated.{IsTableOf}
 use Rattle.snmp_agent.specs.table.Draft.{HoldsTable}
-use Rattle.snmp_agent.proofs.Rising.{Listed, find-listed}
-use Rattle.snmp_agent.proofs.Finding.{listed_at}
 use Rattle.snmp_agent.proofs.Statements.{name_numbers}
 
 identifier : (text o : List ℕ) → IsName text o → IsIdentifier o
@@ -40,43 +38,39 @@ instance_value tag text no_such_object h = h
 instance_value tag text no_such_instance h = h
 instance_value tag text end_of_mib_view h = h
 
+pub stated_name : (line : List ℕ) (p : VarBind) → States line (instance p) → IsInstanceName p.name
+stated_name line p h = h.instance_name
+
+pub stated_value : (line : List ℕ) (p : VarBind) → States line (instance p) → IsInstanceValue p.value
+stated_value line p h = instance_value h.tag h.text p.value h.valued
+
 row_name : (lines : List (List ℕ)) (p : VarBind) → HasRow lines p → IsInstanceName p.name
-row_name lines p h = h.2.instance_name
+row_name lines p h = stated_name h.0 p h.2
 
 row_value : (lines : List (List ℕ)) (p : VarBind) → HasRow lines p → IsInstanceValue p.value
-row_value lines p h = instance_value h.2.tag h.2.text p.value h.2.valued
+row_value lines p h = stated_value h.0 p h.2
 
 prefix_name : (lines : List (List ℕ)) (o : List ℕ) → HasPrefix lines o → (o ≢ []) × IsIdentifier o
 prefix_name lines o h = let prefix : IsPrefixLine h.0 o = h.2 in (prefix.3, identifier prefix.0 o prefix.2)
 
 short_value : (v : RowValue) → IsInstanceValue (datum_of v) → IsShort v
-short_value (value.Integer n) h = tt
-short_value (value.Octets octets) h = tt
+short_value (value.Integer n) h = omega arith
+short_value (value.Octets octets) h = omega arith
 short_value (value.ObjectId numbers) h = h.1.short
-short_value (value.IpAddress octets) h = tt
-short_value (value.Counter32 n) h = tt
-short_value (value.Gauge32 n) h = tt
-short_value (value.TimeTicks n) h = tt
-short_value (value.Opaque octets) h = tt
-short_value (value.Counter64 n) h = tt
+short_value (value.IpAddress octets) h = omega arith
+short_value (value.Counter32 n) h = omega arith
+short_value (value.Gauge32 n) h = omega arith
+short_value (value.TimeTicks n) h = omega arith
+short_value (value.Opaque octets) h = omega arith
+short_value (value.Counter64 n) h = omega arith
 
--- the rows of a view are no longer than identifiers are
-pub short_rows : (rows : List Row) (objects : List (List ℕ)) → IsRising rows → IsMibView (view_of rows objects) → All IsShortRow rows
-short_rows rows objects rising view = λ k d low. row_short (slice_index_or rows k d) (listed_at rows k (slice_index_or rows k d)
-    (slice_get-get_or rows k d low))
-  where
-    row_short : (row : Row) → Listed (entry_of row) (map entry_of rows) → IsShortRow row
-    row_short row listed =
-        let is_row : IsRow (view_of rows objects) (var_of (entry_of row)) =
-        get-from_sorted (slice_cmp nat_cmp) (map entry_of rows) row.name.items rising ∙ find-listed (entry_of row) (map entry_of rows) rising listed in
-        record {
-          name = (view.names (var_of (entry_of row)) is_row).identifier.short;
-          value = short_value row.value (view.values (var_of (entry_of row)) is_row);
-        }
+-- the name and the identifier of an instance have at most 128 numbers
+pub short_row : (row : Row) → IsInstanceName row.name.items → IsInstanceValue (datum_of row.value) → IsShortRow row
+short_row row name value = record { name = name.identifier.short; value = short_value row.value value }
 
 -- the view of these entries and object prefixes
 abbrev pub view_from : List (List ℕ × Datum) → List (List ℕ) → MibView
-view_from entries objects = record { rows = from_sorted entries; objects = from_list objects }
+view_from entries objects = view_of (from_sorted entries) objects
 
 module _ (lines : List (List ℕ)) (entries : List (List ℕ × Datum)) (objects : List (List ℕ)) (h : HoldsTable lines entries objects) where
   value_at : (o : List ℕ) → get (view_from entries objects).rows o ≡ find (slice_cmp nat_cmp) o entries
@@ -108,6 +102,6 @@ module _ (lines : List (List ℕ)) (entries : List (List ℕ × Datum)) (objects
     objects = λ o. (object_stated o, stated_has o);
   }
 
-pub kept : (lines : List (List ℕ)) (rows : List Row) (objects : List (List ℕ)) → HoldsTable lines (map entry_of rows) objects → IsKept rows objects
-kept lines rows objects h =
-    let view = is_view lines (map entry_of rows) objects h in record { rising = h.rising; short = short_rows rows objects h.rising view; view = view }
+-- the map of the entries of a map
+pub of_entries : (m : FinMap (slice_cmp nat_cmp) Datum) → from_sorted {R = slice_cmp nat_cmp} (entries m) ≡ m
+of_entries m = same_entries_map (from_sorted (entries m)) m (entries-from_sorted (slice_cmp nat_cmp) (entries m) (entries_sorted m))

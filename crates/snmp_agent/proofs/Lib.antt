@@ -20,9 +20,10 @@ pub mod Finding
 pub mod Keeping
 pub mod Made
 pub mod OneStatement
+pub mod Paging
 pub mod Partition
 pub mod Rising
 pub mod Statements
-pub mod Successors
+pub mod Following
 pub mod TextLines
 pub mod Unique

@@ -15,9 +15,8 @@ use Rattle.snmp_agent.specs.declared.table.value.Tag.TheVariants as tag
 use Rattle.snmp_agent.specs.declared.table.line.Line.{Line}
 use Rattle.snmp_agent.specs.declared.table.line.Line.TheVariants as line
 use Rattle.snmp_agent.specs.declared.table.line.LineFault.{LineFault}
-use Rattle.snmp_agent.specs.table.Row.{entry_of, datum_of, tag_text}
-use Rattle.snmp_agent.specs.table.Places.{var_of}
-use Rattle.snmp_agent.specs.table.Form.{Statement, nothing, object_prefix, instance, States, IsTag, IsObjectForm, IsRowForm, IsObjectText, IsInstanceText}
+use Rattle.snmp_agent.specs.table.Row.{tag_text}
+use Rattle.snmp_agent.specs.table.Form.{States, IsTag, IsObjectForm, IsRowForm}
 use Rattle.snmp_agent.specs.table.Text.{bar, IsBlank, IsRowLine, IsValueText}
 use Rattle.snmp_agent.specs.table.Line.{statement_of, IsObjectRead, IsInstanceRead}
 use Rattle.snmp_agent.proofs.Cuts.{HasNoBar, no_cut, same_cut}

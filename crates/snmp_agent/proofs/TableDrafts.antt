@@ -1,29 +1,24 @@
 -- Facts about what lines state together, and about the draft that holds it.
-use Rattle.std.proofs.Common.{◌≡◌, ℕ, ◌⊎◌, inl, inr, ◌↔◌, Bool, true, false, cond, ◌||◌, List, [], ◌∷◌, ◌++◌, map, Some, None, refl, sym, ◌∙◌, ap, subst, Less}
+use Rattle.std.proofs.Common.{◌≡◌, Option, is_some, ℕ, ◌⊎◌, inl, inr, ◌↔◌, Bool, true, false, cond, ◌||◌, List, [], ◌∷◌, ◌++◌, map, Some, None, refl, sym, ◌∙◌, ap, subst, Less}
 use Rattle.std.proofs.Common.{zero, suc, get_or, Equal, Greater, Vec, Global, ◌+◌, ◌<◌, ◌≤◌, length, append_assoc, append-nil, length-append, arith}
 use Rattle.std.specs.Str.Lines.{lines}
 use Rattle.std.specs.List.{Contains, list_any}
 use Rattle.std.proofs.lemmas.List.Elements.{All-append, All-cons, All-contains_itself, All-nil, Contains-append_cases, Contains-append_left, Contains-append_right}
 use Rattle.std.proofs.lemmas.List.Quantifiers.{all_pairs_push}
-use Rattle.std.specs.Option.{option_map}
 use Rattle.std.specs.Ordering.{nat_cmp, is_eq, eq_by_cmp, match_ordering}
 use Rattle.std.specs.Cmp.{tied_itself}
 use Rattle.std.specs.Cmp.Lexicographic.{slice_cmp, nat_list_cmp_total}
 use Rattle.std.specs.FinMap.{find, put}
-use Rattle.std.specs.FinMap.Entries.{by_order, is_sorted-put, find-put}
-use Rattle.std.specs.Map.{lookup}
-use Rattle.std.specs.BTreeMap.{insert_entry, is_at}
+use Rattle.std.specs.FinMap.Entries.{is_sorted-put, find-put}
 use Rattle.std.specs.BTreeSet.{insert_key}
 use Rattle.snmp_wire.specs.Message.{Datum, VarBind}
 use Rattle.snmp_agent.specs.declared.table.draft.Draft.{Draft}
 use Rattle.snmp_agent.specs.declared.table.error.TableError.{TableError}
 use Rattle.snmp_agent.specs.declared.table.error.TableError.TheVariants as error
-use Rattle.snmp_agent.specs.declared.table.row.RowValue.{RowValue}
-use Rattle.snmp_agent.specs.table.Row.{entry_of, datum_of}
 use Rattle.snmp_agent.specs.table.Form.{Statement, nothing, object_prefix, instance, States}
 use Rattle.snmp_agent.specs.table.Text.{AreTable, DifferInName, HasRow, IsGoodLine, IsRowLine, a_blank, a_prefix, a_row}
 use Rattle.snmp_agent.specs.table.Stated.{IsDouble, IsBehindGood, IsFirstFault}
-use Rattle.snmp_agent.specs.table.Draft.{entry_of_pair, row_of, HoldsTable, IsDraft, IsFaultBehind}
+use Rattle.snmp_agent.specs.table.Draft.{HoldsTable, IsDraft, IsFaultBehind}
 use Rattle.snmp_agent.proofs.OneStatement.{StatesOnly}
 use Rattle.snmp_agent.proofs.Rising.{same_name}
 
@@ -185,29 +180,6 @@ module _ (before : List (List ℕ)) (line : List ℕ) (es : List (List ℕ × Da
 
 -- ---- the collections of the draft
 
-pub entries-insert : (es : List (Vec ℕ Global × RowValue)) (k : Vec ℕ Global) (v : RowValue)
-    → map entry_of_pair (insert_entry (λ x y. slice_cmp nat_cmp x.items y.items) es k v) ≡ put (slice_cmp nat_cmp) k.items (datum_of v) (map entry_of_pair es)
-entries-insert [] k v = refl
-entries-insert (e ∷ es) k v =
-    elim (slice_cmp nat_cmp k.items e.0.items) as (λ r. map entry_of_pair (match_ordering r ((k, v) ∷ e ∷ es) ((e.0, v) ∷ es) (e ∷ insert_entry
-    (λ x y. slice_cmp nat_cmp x.items y.items) es k v))
-    ≡ by_order r ((k.items, datum_of v) ∷ map entry_of_pair (e ∷ es)) ((e.0.items, datum_of v) ∷ map entry_of_pair es) (entry_of_pair e ∷ put
-    (slice_cmp nat_cmp) k.items (datum_of v) (map entry_of_pair es))) [
-      | Less ↦ refl
-      | Equal ↦ refl
-      | Greater ↦ ap (λ (fs : List (List ℕ × Datum)). entry_of_pair e ∷ fs) (entries-insert es k v)
-    ]
-
-pub find-lookup : (es : List (Vec ℕ Global × RowValue)) (k : Vec ℕ Global)
-    → find (slice_cmp nat_cmp) k.items (map entry_of_pair es) ≡ option_map datum_of (lookup (is_at (λ y. slice_cmp nat_cmp k.items y.items)) es)
-find-lookup [] k = refl
-find-lookup (e ∷ es) k =
-    elim (is_eq (slice_cmp nat_cmp k.items e.0.items)) as (λ b. cond b (Some (datum_of e.1)) (find (slice_cmp nat_cmp) k.items (map entry_of_pair es))
-    ≡ option_map datum_of (cond b (Some e.1) (lookup (is_at (λ y. slice_cmp nat_cmp k.items y.items)) es))) [
-      | true ↦ refl
-      | false ↦ find-lookup es k
-    ]
-
 pub list_any-insert : (o : List ℕ) (ks : List (Vec ℕ Global)) (k : Vec ℕ Global)
     → list_any (eq_by_cmp (slice_cmp nat_cmp) o) (map (λ x. x.items) (insert_key (λ x y. slice_cmp nat_cmp x.items y.items) ks k))
     ≡ (is_eq (slice_cmp nat_cmp o k.items) || list_any (eq_by_cmp (slice_cmp nat_cmp) o) (map (λ x. x.items) ks))
@@ -281,7 +253,12 @@ pub all_read : (text : List ℕ) (draft : Draft) (number : ℕ) → IsReadTo tex
 all_read text draft number h =
     let whole : lines text ≡ h.done = h.parts ∙ append-nil h.done in subst (λ (ls : List (List ℕ)). IsDraft ls draft) (sym whole) h.holds
 
--- the rows that the draft's pairs become
-pub entries_of_rows : (es : List (Vec ℕ Global × RowValue)) → map entry_of (map row_of es) ≡ map entry_of_pair es
-entries_of_rows [] = refl
-entries_of_rows (e ∷ es) = ap (λ (fs : List (List ℕ × Datum)). entry_of_pair e ∷ fs) (entries_of_rows es)
+-- ---- what a look-up says
+
+pub some_of : {X : Type 0} (r : Option X) → is_some r ≡ true → (x : X) × (r ≡ Some x)
+some_of (Some x) h = (x, refl)
+some_of None h = absurd (cc)
+
+pub none_of : {X : Type 0} (r : Option X) → is_some r ≡ false → r ≡ None
+none_of (Some x) h = absurd (cc)
+none_of None h = refl

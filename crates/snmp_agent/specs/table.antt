@@ -3,6 +3,7 @@ pub mod Exact
 pub mod Form
 pub mod Line
 pub mod Listing
+pub mod Pages
 pub mod Places
 pub mod Put
 pub mod Row

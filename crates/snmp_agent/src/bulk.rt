@@ -9,7 +9,7 @@ ghost use Rattle.snmp_agent.specs.Answering.{IsWritable, AreWritable, HoldsFront
 ghost use Rattle.snmp_agent.specs.Answering.{IsProgress, Leaves, HasRow, AreRoundsFrom};
 
 use crate::draft::{Draft, blank};
-use crate::table::{Place, Table, one_answer};
+use crate::table::{Table, one_answer};
 use snmp_wire::{Binding, Bindings, MAX_DATAGRAM, MessageRef, ValueRef};
 
 /// How far bindings were written, and how many octets they and those before them take.
@@ -128,10 +128,11 @@ fn append_column<'a>(
         × HoldsFront draft.room draft.total out.old (joined rounds) result out.new }
 {
     one_answer();
+    table.is_mib_view();
     let mut total = draft.total;
-    let mut place = Place::default();
+    let mut rows = table.after(&binding.name);
     'rounds: for _ in 0..repetitions {
-        table.advance(binding, &mut place);
+        rows.advance(binding);
         let written = Draft {
             room: draft.room,
             total,

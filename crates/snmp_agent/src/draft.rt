@@ -11,7 +11,7 @@ ghost use Rattle.snmp_agent.specs.Answering.{IsShortValue, HoldsBindings, IsRoom
 ghost use Rattle.snmp_agent.specs.Answering.{whole_size};
 
 use crate::config::Config;
-use crate::table::{Place, Table, one_answer};
+use crate::table::{Table, one_answer};
 use snmp_wire::{
     Binding, Bindings, Kind, MAX_DATAGRAM, Oid, Parts, ValueRef, element_sizes, encode_binding,
     head_size, message_sizes,
@@ -70,9 +70,10 @@ fn answer_to<'a>(table: &'a Table, kind: Kind, binding: &mut Binding<'a>)
     ensures answer { IsAnswer table.now kind (var_bind binding.old) (var_bind binding.new) }
     ensures writable { IsWritable (var_bind binding.new) }
 {
+    table.is_mib_view();
     match kind {
         Kind::GetRequest => binding.value = table.get(&binding.name),
-        Kind::GetNextRequest => table.advance(binding, &mut Place::default()),
+        Kind::GetNextRequest => table.after(&binding.name).advance(binding),
         _ => {}
     }
 }

@@ -20,5 +20,5 @@ pub use endpoint::{Endpoint, EndpointFault};
 pub use laws::one_reply;
 pub use server::{Served, serve, serve_at};
 pub use table::{
-    Place, PutError, Table, TableError, no_fault, one_answer, one_table, table_of_lines,
+    PutError, Successors, Table, TableError, no_fault, one_answer, one_table, table_of_lines,
 };

@@ -4,14 +4,19 @@
 
 mod change;
 mod draft;
+mod encoded;
 mod error;
 mod laws;
 mod line;
+mod page;
+mod pages;
 mod row;
+mod search;
 mod split;
 mod table;
 mod value;
 
 pub use error::{PutError, TableError};
 pub use laws::{no_fault, one_answer, one_table, table_of_lines};
-pub use table::{Place, Table};
+pub use pages::Successors;
+pub use table::Table;

@@ -1,20 +1,20 @@
 //! Rows that are put into a table and removed again.
 
 use crate::table::gives;
-use snmp_agent::{Place, PutError, Table};
+use snmp_agent::{PutError, Table};
 use snmp_wire::{Binding, Oid, ValueRef, parse_numeric};
 use std::process::Abort;
 
 /// 1.3.6.1.4.1.32473.1, a number, and 0.
-fn name_of(number: u32) -> Option<Oid> {
+pub(crate) fn name_of(number: u32) -> Option<Oid> {
     Oid::from_slice(&[1, 3, 6, 1, 4, 1, 32473, 1, number, 0]).ok()
 }
 
-/// Whether the binding is the row of the number, with the number.
-fn is_row(binding: &Binding<'_>, number: u32) -> bool {
+/// Whether the binding is the row of the number, with this value.
+pub(crate) fn is_numbered(binding: &Binding<'_>, number: u32, value: u32) -> bool {
     match name_of(number) {
         Some(name) => {
-            binding.name == name && matches!(binding.value, ValueRef::Counter32(n) if n == number)
+            binding.name == name && matches!(binding.value, ValueRef::Counter32(n) if n == value)
         }
         None => false,
     }
@@ -26,12 +26,12 @@ fn assert_rows(rt: &impl Abort, table: &Table, low: u32, high: u32) {
         name: Oid::new(),
         value: ValueRef::Null,
     };
-    let mut place = Place::default();
+    let mut rows = table.after(&binding.name);
     for number in low..=high {
-        table.advance(&mut binding, &mut place);
-        assert!(rt; is_row(&binding, number), "no row of {number}");
+        rows.advance(&mut binding);
+        assert!(rt; is_numbered(&binding, number, number), "no row of {number}");
     }
-    table.advance(&mut binding, &mut place);
+    rows.advance(&mut binding);
     assert!(rt;
         matches!(binding.value, ValueRef::EndOfMibView),
         "a row past {high}"

@@ -1,6 +1,6 @@
 //! The worked examples of tables: what their lines give, and each fault with its line.
 
-use snmp_agent::{Place, Table, TableError};
+use snmp_agent::{Successors, Table, TableError};
 use snmp_wire::{Binding, Oid, ValueRef, parse_numeric};
 use std::alloc::{AllocError, Global};
 use std::process::Abort;
@@ -81,15 +81,14 @@ fn rows_are_in_order(rt: HostRuntime) {
 /// A binding that walks along the rows of a table.
 #[derive(Drop)]
 struct Walk<'a> {
-    table: &'a Table,
+    rows: Successors<'a>,
     binding: Binding<'a>,
-    place: Place,
 }
 
 impl Walk<'_> {
     /// Advances the binding. Whether it is the variable of this name and value then.
     fn comes_to(&mut self, name: &[u8], value: ValueRef<'_>) -> bool {
-        self.table.advance(&mut self.binding, &mut self.place);
+        self.rows.advance(&mut self.binding);
         is_variable(&self.binding, name, value)
     }
 }
@@ -99,32 +98,27 @@ fn assert_step(rt: &impl Abort, walk: &mut Walk<'_>, name: &[u8], value: ValueRe
     assert!(rt; walk.comes_to(name, value), "{name:?}");
 }
 
-/// Asserts that the walk comes to each row, and from another name on to the first.
-fn assert_walk(rt: &impl Abort, walk: &mut Walk<'_>, other: &Oid) {
+/// Asserts that the walk comes to each row, and then to the end.
+fn assert_walk(rt: &impl Abort, walk: &mut Walk<'_>) {
     assert_step(rt, walk, FIRST, ValueRef::Integer(1));
     assert_step(rt, walk, SECOND, ValueRef::Octets(b"wes"));
     assert_step(rt, walk, LAST, ValueRef::Integer(3));
     assert_step(rt, walk, LAST, ValueRef::EndOfMibView);
     assert_step(rt, walk, LAST, ValueRef::EndOfMibView);
-    // The place is a hint alone: from another name the row is that name's.
-    walk.binding.name.set_to(other);
-    assert_step(rt, walk, FIRST, ValueRef::Integer(1));
 }
 
 #[test]
 fn a_binding_walks_along_the_rows(rt: HostRuntime) {
     let name = parse_numeric(ROOT).expect(&rt, "a name");
-    let other = parse_numeric(b"1.3.6.1.4.1.32473.1.1").expect(&rt, "a name");
     let table = Table::read(rt.alloc(), ROWS).expect(&rt, "a table");
     let mut walk = Walk {
-        table: &table,
+        rows: table.after(&name),
         binding: Binding {
             name,
             value: ValueRef::Null,
         },
-        place: Place::default(),
     };
-    assert_walk(&rt, &mut walk, &other);
+    assert_walk(&rt, &mut walk);
 }
 
 /// Whether a Get of the name gives the value.

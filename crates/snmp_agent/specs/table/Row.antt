@@ -1,7 +1,5 @@
--- How a table keeps what it serves: rows in the order of their names.
-use Rattle.std.specs.Prelude.{ℕ, ◌≤◌, List, map, length, codes}
-use Rattle.std.specs.FinMap.{from_sorted}
-use Rattle.std.specs.FinSet.{from_list}
+-- Rows: instances with their values.
+use Rattle.std.specs.Prelude.{ℕ, ◌≤◌, List, length, codes}
 use Rattle.snmp_wire.specs.Message.{Datum}
 use Rattle.snmp_wire.specs.Message.Datum.{integer_value, octet_string, object_id, ip_address}
 use Rattle.snmp_wire.specs.Message.Datum.{counter32, gauge32, time_ticks, opaque_octets, counter64}
@@ -10,7 +8,6 @@ use Rattle.snmp_agent.specs.declared.table.value.Tag.{Tag}
 use Rattle.snmp_agent.specs.declared.table.value.Tag.TheVariants as tag
 use Rattle.snmp_agent.specs.declared.table.row.RowValue.{RowValue}
 use Rattle.snmp_agent.specs.declared.table.row.RowValue.TheVariants as value
-use Rattle.snmp_agent.specs.table.Table.{MibView}
 
 -- the value that a row's stands for
 abbrev pub datum_of : RowValue → Datum
@@ -24,21 +21,17 @@ datum_of (value.TimeTicks n) = time_ticks n
 datum_of (value.Opaque octets) = opaque_octets octets.items
 datum_of (value.Counter64 n) = counter64 n
 
+-- how many numbers the value has where it is an identifier, and else 0
+abbrev pub name_length : RowValue → ℕ
+name_length (value.ObjectId numbers) = length numbers.items
+name_length _ = 0
+
 -- where the value is an identifier, it has at most 128 numbers
 abbrev pub IsShort : RowValue → Type 0
-IsShort (value.ObjectId numbers) = length numbers.items ≤ 128
-IsShort _ = Unit {0}
+IsShort v = name_length v ≤ 128
 
 abbrev pub entry_of : Row → List ℕ × Datum
 entry_of row = (row.name.items, datum_of row.value)
-
--- the MIB view that rows and object prefixes stand for
-abbrev pub view_of : List Row → List (List ℕ) → MibView
-view_of rows objects = record {
-  rows = from_sorted
-      (map entry_of rows);
-  objects = from_list objects;
-}
 
 -- the name of the row has at most 128 numbers, and so has its value where that is an identifier
 pub record IsShortRow (row : Row) : Type 0 where

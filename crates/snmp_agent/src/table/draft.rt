@@ -2,29 +2,30 @@
 
 use crate::table::error::TableError;
 use crate::table::line::{Line, LineFault, read_line};
-use crate::table::row::{Row, RowValue};
+use crate::table::pages::Pages;
 use snmp_oid::names;
-use std::alloc::{AllocError, Global};
-use std::collections::{BTreeMap, BTreeSet};
+use std::alloc::Global;
+use std::collections::BTreeSet;
 
 /// What the lines read so far state.
 #[derive(Drop)]
 pub struct Draft {
-    rows: BTreeMap<Vec<u32>, RowValue>,
-    objects: BTreeSet<Vec<u32>>,
+    /// The rows.
+    pub rows: Pages,
+    /// The object prefixes.
+    pub objects: BTreeSet<Vec<u32>>,
 }
 
 impl Draft {
-    ghost use Rattle.std.specs.Prelude.{◌≡◌, ℕ, ◌++◌, ◌∷◌, [], List, IfOk, MatchResult};
-    ghost use Rattle.std.specs.Prelude.{map};
-    ghost use Rattle.snmp_agent.specs.table.Draft.{IsDraft, IsFaultBehind, row_of};
+    ghost use Rattle.std.specs.Prelude.{ℕ, ◌++◌, ◌∷◌, [], List, MatchResult};
+    ghost use Rattle.snmp_agent.specs.table.Draft.{IsDraft, IsFaultBehind};
 
     /// A draft of no lines.
     pub fn new(alloc: Global) -> Draft
         ensures { IsDraft [] result }
     {
         Draft {
-            rows: BTreeMap::new(alloc),
+            rows: Pages::new(alloc),
             objects: BTreeSet::new(alloc),
         }
     }
@@ -42,9 +43,9 @@ impl Draft {
                 Ok(_) => Ok(()),
                 Err(_) => Err(TableError::Memory),
             },
-            Ok(Line::Instance(row)) => match self.rows.insert(row.name, row.value) {
-                Ok(None) => Ok(()),
-                Ok(Some(_)) => Err(TableError::Double { line: number }),
+            Ok(Line::Instance(row)) => match self.rows.put(alloc, row) {
+                Ok(false) => Ok(()),
+                Ok(true) => Err(TableError::Double { line: number }),
                 Err(_) => Err(TableError::Memory),
             },
             Err(LineFault::Line) => Err(TableError::BadLine { line: number }),
@@ -52,17 +53,5 @@ impl Draft {
             Err(LineFault::Value) => Err(TableError::BadValue { line: number }),
             Err(LineFault::Memory) => Err(TableError::Memory),
         }
-    }
-
-    /// The rows in the order of their names, and the object prefixes.
-    pub fn into_parts(self, alloc: Global) -> Result<(Vec<Row>, BTreeSet<Vec<u32>>), AllocError>
-        ensures rows { IfOk result (λ parts. parts.0.items ≡ map row_of self.rows.entries) }
-        ensures objects { IfOk result (λ parts. parts.1 ≡ self.objects) }
-    {
-        let rows = self
-            .rows
-            .into_iter()
-            .map(|(name, value)| Row { name, value });
-        Ok((rows.collect(alloc)?, self.objects))
     }
 }

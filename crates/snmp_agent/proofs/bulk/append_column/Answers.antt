@@ -1,10 +1,10 @@
 use Rattle.std.proofs.Common.{◌≡◌, ◌+◌, ℕ, List, [], ◌∷◌, ◌++◌, sym, subst, arith, add-one}
 use Rattle.std.proofs.lemmas.List.{append-nil}
-use Rattle.snmp_wire.specs.Message.{VarBind, datum, var_bind}
-use Rattle.snmp_agent.specs.table.Table.{IsNextAfter}
+use Rattle.snmp_wire.specs.Message.{VarBind, var_bind}
+use Rattle.snmp_agent.specs.table.Table.{IsNext, IsNextAfter}
 use Rattle.snmp_agent.specs.Reply.{joined}
 use Rattle.snmp_agent.specs.Answering.{AreGiven, AreRoundsFrom, Extends}
-use Rattle.snmp_agent.proofs.Encodings.{answer_value}
+use Rattle.snmp_agent.proofs.Encodings.{writable_next}
 use Rattle.snmp_agent.proofs.Fronts.{nothing_more, one_more, whole_front, stopped}
 use Rattle.snmp_agent.proofs.RoundFronts.{others_next, written_next, closed_round}
 use Rattle.snmp_agent.proofs.bulk.append_column.Goals as goal
@@ -18,11 +18,20 @@ rounds-init c = record {
   chain = λ p h. h;
   written = nothing_more c.args.draft.room c.args.draft.total c.args.out.now c.args.draft.fits;
   writable = c.requires;
+  behind = c.after-rows.ensures;
 }
+
+pub append-requires : goal.append-requires
+append-requires c =
+    writable_next c.args.table.now (var_bind c.rounds.binding) (var_bind c.advance.new.binding) c.is_mib_view.ensures c.rounds.invariant.writable
+    (c.advance.ensures.next c.args.table.now c.rounds.invariant.behind)
+
+next : (c : After-append) → IsNext c.args.table.now c.rounds.binding.name (var_bind c.advance.new.binding)
+next c = c.advance.ensures.next c.args.table.now c.rounds.invariant.behind
 
 -- what the round gives
 given : (c : After-append) → AreGiven c.args.table.now c.rounds.counter (var_bind c.args.binding.now ∷ []) (var_bind c.advance.new.binding ∷ [])
-given c = (c.rounds.invariant.chain (var_bind c.advance.new.binding) c.advance.ensures.answer, tt)
+given c = (c.rounds.invariant.chain (var_bind c.advance.new.binding) (next c), tt)
 
 -- the round stands behind the others
 written : (c : In-Some) → Extends c.args.draft.room c.rounds.total c.rounds.out (var_bind c.advance.new.binding ∷ []) c.in-Some.end c.append.new.out
@@ -64,11 +73,9 @@ rounds-preserved c =
       chain = λ q h. subst (λ (k : ℕ). IsNextAfter c.args.table.now k c.args.binding.now.name q) (sym (add-one c.rounds.counter)) (p, here.0, h);
       written = written_next c.args.draft.room c.args.draft.total c.args.out.now c.rounds.total c.in-Some.end c.rounds.out c.append.new.out so_far.done
           (p ∷ []) so_far.written (written (goal.at.rounds-preserved c).In-Some);
-      writable = record {
-        name = c.advance.ensures.name so_far.writable.name;
-        value = answer_value
-            (datum c.advance.new.binding.value) c.advance.ensures.value;
-      };
+      writable = writable_next c.args.table.now (var_bind c.rounds.binding) p c.is_mib_view.ensures so_far.writable
+          (next (goal.at.rounds-preserved c).After-append);
+      behind = c.advance.ensures.behind c.args.table.now so_far.behind;
     }
 
 pub returns : goal.returns

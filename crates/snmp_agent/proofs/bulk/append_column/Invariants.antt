@@ -1,6 +1,7 @@
 use Rattle.std.proofs.Common.{List, [], ◌∷◌}
 use Rattle.snmp_wire.specs.Message.{VarBind, var_bind}
 use Rattle.snmp_agent.specs.table.Table.{IsNext, IsNextAfter}
+use Rattle.snmp_agent.specs.table.Pages.{AreBehind}
 use Rattle.snmp_agent.specs.Reply.{joined}
 use Rattle.snmp_agent.specs.Answering.{Extends, IsWritable}
 use Rattle.snmp_agent.proofs.RoundFronts.{WithOthers}
@@ -14,4 +15,5 @@ invariant-rounds l = record {
   chain : (p : VarBind) → IsNext l.table l.binding.name p → IsNextAfter l.table l.counter l.fn.binding.name p;
   written : Extends l.draft.room l.draft.total l.fn.out (joined done) l.total l.out;
   writable : IsWritable (var_bind l.binding);
+  behind : AreBehind l.table l.binding.name l.rows;
 }

@@ -1,5 +1,5 @@
-use Rattle.snmp_wire.specs.Message.{datum}
-use Rattle.snmp_agent.proofs.Encodings.{answer_value}
+use Rattle.snmp_wire.specs.Message.{datum, var_bind}
+use Rattle.snmp_agent.proofs.Encodings.{answer_value, writable_next}
 use Rattle.snmp_agent.proofs.draft.answer_to.Goals as goal
 
 pub returns-in-GetRequest-clause-writable : goal.returns-in-GetRequest-clause-writable
@@ -10,8 +10,6 @@ returns-in-GetRequest-clause-writable c = record {
 }
 
 pub returns-in-GetNextRequest-clause-writable : goal.returns-in-GetNextRequest-clause-writable
-returns-in-GetNextRequest-clause-writable c = record {
-  name = c.advance.ensures.name c.requires.writable.name;
-  value = answer_value
-      (datum c.advance.new.binding.value) c.advance.ensures.value;
-}
+returns-in-GetNextRequest-clause-writable c =
+    writable_next c.args.table.now (var_bind c.args.binding.now) (var_bind c.advance.new.binding) c.is_mib_view.ensures c.requires.writable
+    (c.advance.ensures.next c.args.table.now c.after.ensures)

@@ -1,52 +1,62 @@
-use Rattle.std.proofs.Common.{◌≡◌, List, ℕ, map, None, Some, sym, ◌∙◌, ap, subst, refl, [], ◌∷◌, ◌++◌}
+use Rattle.std.proofs.Common.{◌≡◌, List, ℕ, map, sym, ◌∙◌, ap, subst, refl, [], ◌∷◌, ◌++◌, is_some, true, false, rules}
 use Rattle.std.specs.List.{list_any}
-use Rattle.std.specs.Option.{option_map}
 use Rattle.std.specs.Ordering.{nat_cmp, eq_by_cmp}
-use Rattle.std.specs.Cmp.Lexicographic.{slice_cmp}
-use Rattle.std.specs.FinMap.{find}
+use Rattle.std.specs.Cmp.Lexicographic.{slice_cmp, nat_list_cmp_total}
+use Rattle.std.specs.FinMap.{contains_key, entries, entries-insert, find, get-entries}
+use Rattle.std.specs.FinMap.Entries.{put as put_entry}
 use Rattle.snmp_wire.specs.Message.{Datum}
 use Rattle.snmp_agent.specs.table.Row.{entry_of, datum_of}
 use Rattle.snmp_agent.specs.table.Places.{var_of}
 use Rattle.snmp_agent.specs.table.Form.{States, nothing, object_prefix, instance}
-use Rattle.snmp_agent.specs.table.Draft.{HoldsTable, draft_entries, draft_objects, entry_of_pair}
+use Rattle.snmp_agent.specs.table.Draft.{HoldsTable, draft_objects}
+use Rattle.snmp_agent.proofs.Keeping.{stated_value}
 use Rattle.snmp_agent.proofs.OneStatement.{states_only}
-use Rattle.snmp_agent.proofs.TableDrafts.{holds_nothing, holds_object, holds_instance, double, entries-insert, find-lookup, list_any-insert}
+use Rattle.snmp_agent.proofs.TableDrafts.{holds_nothing, holds_object, holds_instance, double, list_any-insert, some_of, none_of}
 use Rattle.snmp_agent.proofs.table.draft.Draft.add.Goals as goal
+use Rattle.snmp_agent.proofs.table.draft.Draft.add.Goals.{in-Ok, in-Err}
 
 pub returns-in-Ok-Nothing : goal.returns-in-Ok-Nothing
 returns-in-Ok-Nothing c = λ before h.
     let only = states_only c.names.ensures.at_most_one c.args.line.now nothing (rw c.in-Ok-Nothing.field-0-is at c.in-Ok-Nothing.ensures.states) in
-    holds_nothing before c.args.line.now (draft_entries c.args.self.now) (draft_objects c.args.self.now) h only
+    holds_nothing before c.args.line.now (entries c.args.self.now.rows) (draft_objects c.args.self.now) h only
 
-pub returns-in-Ok : goal.returns-in-Ok
-returns-in-Ok c = λ before h.
+pub returns-after-insert : goal.returns-after-insert
+returns-after-insert c = λ before h.
     let object = c.in-Ok-Object.object in
     let only = states_only c.names.ensures.at_most_one c.args.line.now (object_prefix object.items)
     (rw c.in-Ok-Object.field-0-is at c.in-Ok-Object.ensures.states) in
-    holds_object before c.args.line.now (draft_entries c.args.self.now) (draft_objects c.args.self.now) h object.items (map
-    (λ x. x.items) c.insert.new.self.keys) only
-    (λ o. ap (λ keys. list_any (eq_by_cmp (slice_cmp nat_cmp) o) (map (λ x. x.items) keys)) c.in-Ok.ensures.keys
-    ∙ list_any-insert o c.args.self.now.objects.keys object)
+    elim c.match-insert.branch [
+      | in-Ok w ↦ rw w.result-is (holds_object before c.args.line.now (entries c.args.self.now.rows) (draft_objects c.args.self.now) h object.items (map
+          (λ x. x.items) c.insert.new.self.keys) only
+          (λ o. ap (λ keys. list_any (eq_by_cmp (slice_cmp nat_cmp) o) (map (λ x. x.items) keys)) w.in-Ok.ensures.keys
+          ∙ list_any-insert o c.args.self.now.objects.keys object))
+      | in-Err w ↦ rw w.result-is tt
+    ]
 
-pub returns-in-Ok-None : goal.returns-in-Ok-None
-returns-in-Ok-None c = λ before h.
+pub put-requires-clause-value : goal.put-requires-clause-value
+put-requires-clause-value c =
+    stated_value c.args.line.now (var_of (entry_of c.in-Ok-Instance.row)) (rw c.in-Ok-Instance.field-0-is at c.in-Ok-Instance.ensures.states)
+
+pub returns-in-Ok-true : goal.returns-in-Ok-true
+returns-in-Ok-true c = λ before h.
     let row = c.in-Ok-Instance.row in
+    let o = row.name.items in
+    let rows = c.args.self.now.rows in
+    let states : States c.args.line.now (instance (var_of (entry_of row))) = rw c.in-Ok-Instance.field-0-is at c.in-Ok-Instance.ensures.states in
+    let has : contains_key rows o ≡ true = search rules in
+    let found = some_of (find (slice_cmp nat_cmp) o (entries rows)) (ap is_some (sym (get-entries rows o)) ∙ has) in
+    (refl, double before c.args.line.now (entries rows) (draft_objects c.args.self.now) h (var_of (entry_of row)) found.0 states found.1)
+
+pub returns-in-Ok-false : goal.returns-in-Ok-false
+returns-in-Ok-false c = λ before h.
+    let row = c.in-Ok-Instance.row in
+    let o = row.name.items in
+    let rows = c.args.self.now.rows in
     let only = states_only c.names.ensures.at_most_one c.args.line.now (instance (var_of (entry_of row)))
     (rw c.in-Ok-Instance.field-0-is at c.in-Ok-Instance.ensures.states) in
-    let absent : find (slice_cmp nat_cmp) row.name.items (draft_entries c.args.self.now) ≡ None =
-    find-lookup c.args.self.now.rows.entries row.name ∙ ap (option_map datum_of) (sym c.in-Ok-None.ensures.old ∙ c.in-Ok-None.field-0-is) in
-    let holds = holds_instance before c.args.line.now (draft_entries c.args.self.now) (draft_objects c.args.self.now) h (var_of (entry_of row)) only absent in
-    let entries = ap (map entry_of_pair) c.in-Ok-None.ensures.entries ∙ entries-insert c.args.self.now.rows.entries row.name row.value in
-    let P : List (List ℕ × Datum) → Type 0 = λ es. HoldsTable (before ++ c.args.line.now ∷ []) es (draft_objects c.args.self.now) in
-    subst P (sym entries) holds
-
-pub returns-in-Ok-Some : goal.returns-in-Ok-Some
-returns-in-Ok-Some c = λ before h.
-    let row = c.in-Ok-Instance.row in
-    let states : States c.args.line.now (instance (var_of (entry_of row))) = rw c.in-Ok-Instance.field-0-is at c.in-Ok-Instance.ensures.states in
-    let found : find (slice_cmp nat_cmp) row.name.items (draft_entries c.args.self.now) ≡ Some (datum_of c.in-Ok-Some.field-0-0) =
-    find-lookup c.args.self.now.rows.entries row.name ∙ ap (option_map datum_of) (sym c.in-Ok-Some.ensures.old ∙ c.in-Ok-Some.field-0-is) in (
-      refl,
-      double before c.args.line.now (draft_entries c.args.self.now) (draft_objects c.args.self.now) h (var_of (entry_of row))
-          (datum_of c.in-Ok-Some.field-0-0) states found,
-    )
+    let hasnt : contains_key rows o ≡ false = search rules in
+    let absent = none_of (find (slice_cmp nat_cmp) o (entries rows)) (ap is_some (sym (get-entries rows o)) ∙ hasnt) in
+    let holds = holds_instance before c.args.line.now (entries rows) (draft_objects c.args.self.now) h (var_of (entry_of row)) only absent in
+    let after : entries c.put.new.self ≡ put_entry (slice_cmp nat_cmp) o (datum_of row.value) (entries rows) =
+    ap entries c.in-Ok-false.ensures.put ∙ entries-insert nat_list_cmp_total rows o (datum_of row.value) in
+    subst (λ (es : List (List ℕ × Datum)). HoldsTable (before ++ c.args.line.now ∷ []) es (draft_objects c.args.self.now)) (sym after) holds

@@ -1,22 +1,15 @@
-use Rattle.std.proofs.Common.{map, ◌∙◌, ap}
-use Rattle.std.specs.FinMap.{contains_key}
-use Rattle.snmp_agent.specs.table.Table.{MibView, without_row}
-use Rattle.snmp_agent.proofs.Changing.{view_removed, had_name, kept_removed}
+use Rattle.std.proofs.Common.{map, sym, subst}
+use Rattle.std.specs.Ordering.{nat_cmp}
+use Rattle.std.specs.Cmp.Lexicographic.{slice_cmp}
+use Rattle.std.specs.FinMap.{FinMap}
+use Rattle.snmp_wire.specs.Message.{Datum}
+use Rattle.snmp_agent.specs.table.Places.{view_of}
+use Rattle.snmp_agent.specs.table.Table.{IsMibView}
+use Rattle.snmp_agent.proofs.Changing.{removed_good}
 use Rattle.snmp_agent.proofs.table.table.Table.remove.Goals as goal
 
 pub invariant_of-self : goal.invariant_of-self
 invariant_of-self c =
-    kept_removed c.args.name.now c.self.inside.rows.items c.remove_row.new.rows.items (map (λ o. o.items) c.self.inside.objects.keys) c.self.invariant
-    c.remove_row.ensures.rows
-
-pub returns-clause-removed : goal.returns-clause-removed
-returns-clause-removed c =
     let objects = map (λ o. o.items) c.self.inside.objects.keys in
-    view_removed c.args.name.now c.self.inside.rows.items c.remove_row.new.rows.items objects c.self.invariant.rising c.remove_row.ensures.rows
-    ∙ ap (λ (view : MibView). without_row view c.args.name.now) c.self.view_is
-
-pub returns-clause-found : goal.returns-clause-found
-returns-clause-found c =
-    let objects = map (λ o. o.items) c.self.inside.objects.keys in
-    c.remove_row.ensures.removed ∙ had_name c.args.name.now c.self.inside.rows.items c.remove_row.new.rows.items objects c.self.invariant.rising
-    ∙ ap (λ (view : MibView). contains_key view.rows c.args.name.now) c.self.view_is
+    subst (λ (m : FinMap (slice_cmp nat_cmp) Datum). IsMibView (view_of m objects)) (sym c.remove.ensures.removed)
+    (removed_good (view_of c.self.inside.rows objects) c.self.invariant c.as_slice.result.now)

@@ -1,9 +1,9 @@
 use Rattle.std.proofs.Common.{◌≡◌, true, false, rules}
 use Rattle.std.specs.List.Sorted.{IsPartitionPoint}
 use Rattle.std.proofs.lemmas.List.Sorted.{IsPartitionPoint-from_clause}
-use Rattle.snmp_agent.specs.table.Places.{is_up_to}
+use Rattle.snmp_agent.specs.table.Pages.{is_up_to}
 use Rattle.snmp_agent.proofs.Partition.{partitioned, passed_front, ahead_back}
-use Rattle.snmp_agent.proofs.table.table.place_after.Goals as goal
+use Rattle.snmp_agent.proofs.table.search.place_after.Goals as goal
 
 point : (c : goal.After-partition_point)
     → IsPartitionPoint (λ row. is_up_to c.args.name.now row ≡ true) (λ row. is_up_to c.args.name.now row ≡ false) c.args.rows.now c.partition_point.result

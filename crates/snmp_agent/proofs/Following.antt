@@ -1,0 +1,140 @@
+-- What comes next in a list of entries whose names rise.
+use Rattle.std.proofs.Common.{◌≡◌, ◌↔◌, ℕ, zero, suc, inl, inr, T, List, [], ◌∷◌, ◌++◌, map, Some, refl, sym, ◌∙◌, ap, subst, append_assoc, Less, ◌+◌, ◌≤◌}
+use Rattle.std.proofs.Common.{length, take, drop, arith, ◌-◌}
+use Rattle.std.specs.Ordering.{nat_cmp}
+use Rattle.std.specs.Cmp.Lexicographic.{slice_cmp}
+use Rattle.std.specs.FinMap.{find, is_sorted}
+use Rattle.std.specs.List.{slice_get}
+use Rattle.snmp_oid.specs.Identifier.{Precedes}
+use Rattle.snmp_wire.specs.Message.{Datum, VarBind}
+use Rattle.snmp_wire.specs.Message.Datum.{end_of_mib_view}
+use Rattle.snmp_agent.specs.table.Table.{MibView, IsRow, IsNext, successor, end_of_view, IsNextAfter}
+use Rattle.snmp_agent.specs.table.Listing.{first_or_end, nth_or_end}
+use Rattle.snmp_agent.specs.table.Places.{IsBeforeAll, var_of, last_name}
+use Rattle.snmp_agent.specs.declared.table.encoded.EncodedRow.{EncodedRow}
+use Rattle.snmp_agent.specs.table.Pages.{StandsApart, AreBehind, entries_of}
+use Rattle.snmp_agent.proofs.Rising.{Listed, not_before_itself, not_both, before_listed, not_before_listed, listed_in_both, listed_in_second, before_later}
+use Rattle.snmp_agent.proofs.Rising.{before_no_earlier, find-listed, listed_from_find}
+
+-- the order of names is the standard's
+abbrev pub IsOrder : Type 0
+IsOrder = (o p : List ℕ) → (slice_cmp nat_cmp o p ≡ Less) ↔ Precedes o p
+
+abbrev Entries : Type 0
+Entries = List (List ℕ × Datum)
+
+listed : (view : MibView) (o : List ℕ) (front back : Entries) → StandsApart view.rows o front back → (q : VarBind) → IsRow view q
+    → Listed (q.name, q.value) (front ++ back)
+listed view o front back apart q row = listed_from_find q.name q.value (front ++ back) (sym (apart.found q.name) ∙ row)
+
+-- past an entry
+past : (view : MibView) (o : List ℕ) (front back : Entries) (p : List ℕ × Datum) → StandsApart view.rows o front (p ∷ back)
+    → StandsApart view.rows p.0 (front ++ p ∷ []) back
+past view o front back p apart =
+    let whole : (front ++ p ∷ []) ++ back ≡ front ++ p ∷ back = append_assoc front (p ∷ []) back in
+    record {
+      found = λ q. apart.found q ∙ ap (find (slice_cmp nat_cmp) q) (sym whole);
+      rising = subst (λ (es : Entries). T (is_sorted (slice_cmp nat_cmp) es)) (sym whole) apart.rising;
+      passed = before_no_earlier front back p apart.rising;
+      ahead = before_later front back p apart.rising;
+    }
+
+-- asked first from o, and then `rounds` times more from what that gave
+next_from : (view : MibView) (rounds : ℕ) (o : List ℕ) (p q : VarBind) → IsNext view o p → IsNextAfter view rounds p.name q → IsNextAfter view (suc rounds) o q
+next_from view zero o p q first more = (p, first, more)
+next_from view (suc rounds) o p q first more = (more.0, next_from view rounds o p more.0 first more.1, more.2)
+
+module _ (order : IsOrder) where
+  -- a row after the name is among the later ones
+  later_listed : (view : MibView) (o : List ℕ) (front back : Entries) → StandsApart view.rows o front back → (q : VarBind) → IsRow view q → Precedes o q.name
+      → Listed (q.name, q.value) back
+  later_listed view o front back apart q row behind =
+      elim (listed_in_both (q.name, q.value) front back (listed view o front back apart q row)) [
+        | inl here ↦ absurd (not_before_listed o (q.name, q.value) front apart.passed here ((order o q.name).1 behind))
+        | inr there ↦ there
+      ]
+
+  nearest_in : (p : List ℕ × Datum) (back : Entries) (q : VarBind) → IsBeforeAll p.0 back → Listed (q.name, q.value) (p ∷ back) → Precedes q.name p.0 → ⊥
+  nearest_in p back q ahead (inl same) before =
+      let less : slice_cmp nat_cmp q.name p.0 ≡ Less = (order q.name p.0).1 before in
+      let name : q.name ≡ p.0 = ap (λ (e : List ℕ × Datum). e.0) same in
+      not_before_itself p.0 (rw name at less)
+  nearest_in p back q ahead (inr later) before =
+      not_both q.name p.0 ((order q.name p.0).1 before) (before_listed p.0 (q.name, q.value) back ahead later)
+
+  pub is_next : (view : MibView) (o : List ℕ) (front back : List (List ℕ × Datum)) → StandsApart view.rows o front back
+      → IsNext view o (first_or_end o (map var_of back))
+  is_next view o front [] apart = end_of_view (λ q row behind. later_listed view o front [] apart q row behind) refl
+  is_next view o front (p ∷ back) apart = successor record {
+    row = apart.found p.0 ∙ find-listed p (front ++ p ∷ back) apart.rising (listed_in_second p front (p ∷ back) (inl refl));
+    behind = (order o p.0).0 apart.ahead.0;
+    nearest = λ q row behind.
+        nearest_in p back q (before_later front back p apart.rising) (later_listed view o front (p ∷ back) apart q row behind);
+  }
+
+  is_next_after : (view : MibView) (rounds : ℕ) (o : List ℕ) (front back : Entries) → StandsApart view.rows o front back
+      → IsNextAfter view rounds o (nth_or_end o (map var_of back) rounds)
+  is_next_after view zero o front [] apart = is_next view o front [] apart
+  is_next_after view zero o front (p ∷ back) apart = is_next view o front (p ∷ back) apart
+  is_next_after view (suc rounds) o front [] apart =
+      let last : VarBind = record { name = o; value = end_of_mib_view } in
+      next_from view rounds o last last (is_next view o front [] apart) (is_next_after view rounds o front [] apart)
+  is_next_after view (suc rounds) o front (p ∷ back) apart =
+      next_from view rounds o (var_of p) (nth_or_end p.0 (map var_of back) rounds) (is_next view o front (p ∷ back) apart)
+      (is_next_after view rounds p.0 (front ++ p ∷ []) back (past view o front back p apart))
+
+  pub first_next : (view : MibView) (o : List ℕ) (e : List ℕ × Datum) (es : List (List ℕ × Datum)) → AreBehind view o (e ∷ es) → IsNext view o (var_of e)
+  first_next view o e es h = is_next view o h.0 (e ∷ es) h.1
+
+  pub end_next : (view : MibView) (o : List ℕ) → AreBehind view o [] → IsNext view o (record { name = o; value = end_of_mib_view })
+  end_next view o h = is_next view o h.0 [] h.1
+
+  -- what is asked from the last name of some entries that follow comes that many rounds later
+  pub asked_past : (view : MibView) (rounds : ℕ) (o : List ℕ) (front back : List (List ℕ × Datum)) → StandsApart view.rows o front back → (q : VarBind)
+      → IsNext view (last_name o (take rounds back)) q → IsNextAfter view rounds o q
+  asked_past view zero o front back apart q next = next
+  asked_past view (suc rounds) o front [] apart q next =
+      let last : VarBind = record { name = o; value = end_of_mib_view } in
+      next_from view rounds o last q (is_next view o front [] apart) (asked_past view rounds o front [] apart q (end_again rounds next))
+    where
+      end_again : (n : ℕ) → IsNext view o q → IsNext view (last_name o (take n [])) q
+      end_again zero h = h
+      end_again (suc n) h = h
+  asked_past view (suc rounds) o front (p ∷ back) apart q next =
+      next_from view rounds o (var_of p) q (is_next view o front (p ∷ back) apart)
+      (asked_past view rounds p.0 (front ++ p ∷ []) back (past view o front back p apart) q next)
+
+-- ---- rows behind a name
+
+pub behind_first : (view : MibView) (o : List ℕ) (e : List ℕ × Datum) (es : List (List ℕ × Datum)) → AreBehind view o (e ∷ es) → AreBehind view e.0 es
+behind_first view o e es h = (h.0 ++ e ∷ [], past view o h.0 es e h.1)
+
+pub behind_past : (view : MibView) (rounds : ℕ) (o : List ℕ) (back : List (List ℕ × Datum)) → AreBehind view o back
+    → AreBehind view (last_name o (take rounds back)) (drop rounds back)
+behind_past view zero o back h = h
+behind_past view (suc rounds) o [] h = h
+behind_past view (suc rounds) o (p ∷ back) h = behind_past view rounds p.0 back (behind_first view o p back h)
+
+pub last_name-last : (o : List ℕ) (rows : List EncodedRow) (row : EncodedRow) (last : ℕ) → length rows ≡ last + 1 → slice_get rows last ≡ Some row
+    → last_name o (entries_of rows) ≡ row.row.name.items
+last_name-last o [] row last whole at = let no : ⊥ = omega (arith, whole) in absurd no
+last_name-last o (first ∷ []) row zero whole at = let same : first ≡ row = cc in ap (λ (r : EncodedRow). r.row.name.items) same
+last_name-last o (first ∷ []) row (suc last) whole at = let no : ⊥ = omega (arith, whole) in absurd no
+last_name-last o (first ∷ second ∷ rows) row zero whole at = let no : ⊥ = omega (arith, whole) in absurd no
+last_name-last o (first ∷ second ∷ rows) row (suc last) whole at =
+    last_name-last first.row.name.items (second ∷ rows) row last (omega (arith, whole)) at
+
+-- ---- some rows skipped
+
+pub drop_rows : (rows : List EncodedRow) (more : List (List ℕ × Datum)) (n : ℕ) → length rows ≤ n → drop (n - length rows) more ≡ drop n (entries_of rows ++ more)
+drop_rows [] more n few = ap (λ (k : ℕ). drop k more) (omega arith)
+drop_rows (row ∷ rows) more zero few = absurd (omega (arith, few))
+drop_rows (row ∷ rows) more (suc n) few = ap (λ (k : ℕ). drop k more) (omega arith) ∙ drop_rows rows more n (omega (arith, few))
+
+pub take_rows : (o : List ℕ) (rows : List EncodedRow) (more : List (List ℕ × Datum)) (n : ℕ) → length rows ≤ n
+    → last_name (last_name o (entries_of rows)) (take (n - length rows) more) ≡ last_name o (take n (entries_of rows ++ more))
+take_rows o [] more n few = ap (λ (k : ℕ). last_name o (take k more)) (omega arith)
+take_rows o (row ∷ rows) more zero few = absurd (omega (arith, few))
+take_rows o (row ∷ rows) more (suc n) few =
+    ap (λ (k : ℕ). last_name (last_name row.row.name.items (entries_of rows)) (take k more)) (omega arith)
+    ∙ take_rows row.row.name.items rows more n (omega (arith, few))

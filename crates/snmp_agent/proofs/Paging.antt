@@ -1,0 +1,271 @@
+-- Pages of rows: what a change of one of them does to all rows, and where it is divided.
+use Rattle.std.proofs.Common.{◌≡◌, ℕ, zero, suc, ◌+◌, ◌≤◌, ◌<◌, false, List, [], ◌∷◌, ◌++◌, length, take, drop, Some, slice_set, slice_index_or, refl, sym, ◌∙◌, ap, subst}
+use Rattle.std.proofs.Common.{arith, append_assoc, length-append, add-one, true, is_some}
+use Rattle.std.specs.Ordering.{nat_cmp}
+use Rattle.std.specs.Cmp.Lexicographic.{slice_cmp}
+use Rattle.std.specs.FinMap.{find, from_sorted, get, get-from_sorted}
+use Rattle.std.specs.FinMap.Entries.{put}
+use Rattle.std.specs.List.{slice_get, insert as insert_at, remove as remove_at}
+use Rattle.std.proofs.lemmas.Option.{slice_get-get_or}
+use Rattle.std.proofs.lemmas.List.{take-append-drop, map-append, length-take-le}
+use Rattle.snmp_wire.specs.Message.{Datum}
+use Rattle.snmp_agent.specs.declared.table.encoded.EncodedRow.{EncodedRow}
+use Rattle.snmp_agent.specs.declared.table.page.Page.{Page}
+use Rattle.snmp_agent.specs.declared.table.row.Row.{Row}
+use Rattle.snmp_agent.specs.table.Row.{datum_of, entry_of}
+use Rattle.snmp_agent.specs.table.Places.{IsAfterAll, IsBeforeAll, IsBeforeNone, without_name}
+use Rattle.snmp_agent.specs.table.Pages.{ArePages, IsPageOf, IsPageWithRoom, IsRising, IsSorted, StandsApart, begins_up_to, entries_in, entries_of, has_name}
+use Rattle.snmp_agent.proofs.Changing.{around, set_around, at_low, put_past, put_in, without_past, without_in, past_front, find_in}
+use Rattle.snmp_agent.proofs.Partition.{before_both, after_both, after_none, none_both, rows_ahead, rows_passed}
+use Rattle.snmp_agent.proofs.Rising.{rising_first, rising_rest}
+
+abbrev Entries : Type 0
+Entries = List (List ℕ × Datum)
+
+-- ---- the rows of all pages
+
+pub rows-append : (xs ys : List EncodedRow) → entries_of (xs ++ ys) ≡ entries_of xs ++ entries_of ys
+rows-append = map-append (λ (r : EncodedRow). entry_of r.row)
+
+pub pages-append : (xs ys : List Page) → entries_in (xs ++ ys) ≡ entries_in xs ++ entries_in ys
+pages-append [] ys = refl
+pages-append (page ∷ xs) ys =
+    ap (λ es. entries_of page.rows.items ++ es) (pages-append xs ys) ∙ sym (append_assoc (entries_of page.rows.items) (entries_in xs) (entries_in ys))
+
+-- the rows before a page, those of it and those behind it
+module _ (pages : List Page) (place : ℕ) where
+  abbrev pub front : Entries
+  front = entries_in (take place pages)
+
+  abbrev pub back : Entries
+  back = entries_in (drop (suc place) pages)
+
+  pub parts : (page : Page) → slice_get pages place ≡ Some page → entries_in pages ≡ front ++ (entries_of page.rows.items ++ back)
+  parts page at = ap entries_in (around pages place page at) ∙ pages-append (take place pages) (page ∷ drop (suc place) pages)
+
+  pub set-parts : (page : Page) → place < length pages → entries_in (slice_set pages place page) ≡ front ++ (entries_of page.rows.items ++ back)
+  set-parts page low = ap entries_in (set_around pages place page low) ∙ pages-append (take place pages) (page ∷ drop (suc place) pages)
+
+  -- the page that is read at the place
+  pub page_read : (page found : Page) → slice_get pages place ≡ Some page → found ≡ slice_index_or pages place found → found ≡ page
+  page_read page found at read =
+      let same : Some found ≡ Some page = ap Some read ∙ sym (slice_get-get_or pages place found (at_low pages place page at)) ∙ at in cc
+
+  read_at : (found : Page) → place < length pages → found ≡ slice_index_or pages place found → slice_get pages place ≡ Some found
+  read_at found low read = slice_get-get_or pages place found low ∙ ap Some (sym read)
+
+  -- a page with the same rows
+  pub same_rows : (found new : Page) → place < length pages → found ≡ slice_index_or pages place found → new.rows.items ≡ found.rows.items
+      → entries_in (slice_set pages place new) ≡ entries_in pages
+  same_rows found new low read same =
+      set-parts new low ∙ ap (λ (rs : List EncodedRow). front ++ (entries_of rs ++ back)) same ∙ sym (parts found (read_at found low read))
+
+  -- without a row of the page
+  pub without_row_of : (page found new : Page) (row : ℕ) → slice_get pages place ≡ Some page → found ≡ slice_index_or pages place found
+      → new.rows.items ≡ remove_at found.rows.items row
+      → entries_in (slice_set pages place new) ≡ front ++ (entries_of (remove_at page.rows.items row) ++ back)
+  without_row_of page found new row at read removed =
+      set-parts new (at_low pages place page at)
+      ∙ ap (λ (rs : List EncodedRow). front ++ (entries_of rs ++ back))
+      (removed ∙ ap (λ (p : Page). remove_at p.rows.items row) (page_read page found at read))
+
+  only_row : (rows : List EncodedRow) (row : ℕ) → row < length rows → length rows ≤ 1 → entries_of (remove_at rows row) ≡ []
+  only_row [] row low one = absurd (omega (arith, low))
+  only_row (r ∷ []) zero low one = refl
+  only_row (r ∷ []) (suc row) low one = absurd (omega (arith, low))
+  only_row (r ∷ q ∷ rows) row low one = absurd (omega (arith, one))
+
+  -- without a page of one row
+  pub without_page : (page : Page) (row : ℕ) → row < length page.rows.items → length page.rows.items ≤ 1
+      → entries_in (remove_at pages place) ≡ front ++ (entries_of (remove_at page.rows.items row) ++ back)
+  without_page page row low one =
+      pages-append (take place pages) (drop (suc place) pages) ∙ ap (λ (es : Entries). front ++ (es ++ back)) (sym (only_row page.rows.items row low one))
+
+  -- a page of rising pages rises
+  pub page_rising : (page : Page) → slice_get pages place ≡ Some page → ArePages pages → IsRising page.rows.items
+  page_rising page at rising =
+      rising_first (entries_of page.rows.items) back (rising_rest front (entries_of page.rows.items ++ back) (subst IsSorted (parts page at) rising))
+
+  module _ (o : List ℕ) (h : IsPageOf o pages place) (page : Page) (at : slice_get pages place ≡ Some page) where
+    pub put_in_page : (v : Datum) (es : List (List ℕ × Datum)) → es ≡ put (slice_cmp nat_cmp) o v (entries_of page.rows.items)
+        → front ++ (es ++ back) ≡ put (slice_cmp nat_cmp) o v (entries_in pages)
+    put_in_page v es same =
+        ap (λ fs. front ++ (fs ++ back)) same
+        ∙ ap (λ fs. front ++ fs) (sym (put_in o v (entries_of page.rows.items) back h.ahead))
+        ∙ sym (put_past o v front (entries_of page.rows.items ++ back) h.passed)
+        ∙ ap (put (slice_cmp nat_cmp) o v) (sym (parts page at))
+
+    pub without_in_page : (es : List (List ℕ × Datum)) → es ≡ without_name o (entries_of page.rows.items)
+        → front ++ (es ++ back) ≡ without_name o (entries_in pages)
+    without_in_page es same =
+        ap (λ fs. front ++ (fs ++ back)) same
+        ∙ ap (λ fs. front ++ fs) (sym (without_in o (entries_of page.rows.items) back h.ahead))
+        ∙ sym (without_past o front (entries_of page.rows.items ++ back) h.passed)
+        ∙ ap (without_name o) (sym (parts page at))
+
+    pub find_in_page : find (slice_cmp nat_cmp) o (entries_in pages) ≡ find (slice_cmp nat_cmp) o (entries_of page.rows.items)
+    find_in_page =
+        ap (find (slice_cmp nat_cmp) o) (parts page at) ∙ past_front o front (entries_of page.rows.items ++ back) h.passed
+        ∙ find_in o (entries_of page.rows.items) back h.ahead
+
+    -- the rows up to a place of the page, and those behind it
+    pub apart_in_page : ArePages pages → (n : ℕ) → IsBeforeNone o (entries_of (take n page.rows.items)) → IsBeforeAll o (entries_of (drop n page.rows.items))
+        → StandsApart (from_sorted (entries_in pages)) o (front ++ entries_of (take n page.rows.items)) (entries_of (drop n page.rows.items) ++ back)
+    apart_in_page rising n passed ahead = record {
+      found = λ q. get-from_sorted (slice_cmp nat_cmp) (entries_in pages) q rising ∙ ap (find (slice_cmp nat_cmp) q) whole;
+      rising = subst IsSorted whole rising;
+      passed = none_both o front (entries_of (take n page.rows.items)) (after_none o front h.passed) passed;
+      ahead = before_both o (entries_of (drop n page.rows.items)) back ahead h.ahead;
+    } where
+      split : entries_of page.rows.items ≡ entries_of (take n page.rows.items) ++ entries_of (drop n page.rows.items)
+      split = ap entries_of (sym (take-append-drop n page.rows.items)) ∙ rows-append (take n page.rows.items) (drop n page.rows.items)
+
+      whole : entries_in pages ≡ (front ++ entries_of (take n page.rows.items)) ++ (entries_of (drop n page.rows.items) ++ back)
+      whole =
+          parts page at ∙ ap (λ es. front ++ (es ++ back)) split
+          ∙ ap (λ es. front ++ es) (append_assoc (entries_of (take n page.rows.items)) (entries_of (drop n page.rows.items)) back)
+          ∙ sym (append_assoc front (entries_of (take n page.rows.items)) (entries_of (drop n page.rows.items) ++ back))
+
+-- ---- a page among others
+
+seam_take : (xs ys : List Page) → take (length xs) (xs ++ ys) ≡ xs
+seam_take [] [] = refl
+seam_take [] (y ∷ ys) = refl
+seam_take (x ∷ xs) ys = ap (λ zs. x ∷ zs) (seam_take xs ys)
+
+seam_drop : (xs ys : List Page) (y : Page) → drop (suc (length xs)) (xs ++ y ∷ ys) ≡ ys
+seam_drop [] ys y = refl
+seam_drop (x ∷ xs) ys y = seam_drop xs ys y
+
+seam_at : (xs ys : List Page) (y : Page) → slice_get (xs ++ y ∷ ys) (length xs) ≡ Some y
+seam_at [] ys y = refl
+seam_at (x ∷ xs) ys y = seam_at xs ys y
+
+pub page_between : (o : List ℕ) (xs ys : List Page) (page : Page) → IsAfterAll o (entries_in xs) → IsBeforeAll o (entries_in ys) → length page.rows.items < 256
+    → IsPageWithRoom o (xs ++ page ∷ ys) (length xs)
+page_between o xs ys page passed ahead room = record {
+  page_of = record {
+    bound = omega (arith, length-append xs (page ∷ ys));
+    within = λ _. omega (arith, length-append xs (page ∷ ys));
+    passed = subst (λ (zs : List Page). IsAfterAll o (entries_in zs)) (sym (seam_take xs (page ∷ ys))) passed;
+    ahead = subst (λ (zs : List Page). IsBeforeAll o (entries_in zs)) (sym (seam_drop xs ys page)) ahead;
+  };
+  page = page;
+  at = seam_at xs ys page;
+  room = room;
+}
+
+-- ---- two pages in place of one
+
+-- the list of pages then
+abbrev pub divided : List Page → ℕ → Page → Page → List Page
+divided pages place first second = insert_at (slice_set pages place first) (place + 1) second
+
+divided_list : (pages : List Page) (place : ℕ) (first second : Page) → place < length pages
+    → insert_at (slice_set pages place first) (suc place) second ≡ take place pages ++ first ∷ second ∷ drop (suc place) pages
+divided_list [] place first second low = absurd (omega (arith, low))
+divided_list (page ∷ pages) zero first second low = refl
+divided_list (page ∷ pages) (suc place) first second low = ap (λ ps. page ∷ ps) (divided_list pages place first second (omega (arith, low)))
+
+module _ (pages : List Page) (place : ℕ) (found first second : Page) (low : place < length pages) (read : found ≡ slice_index_or pages place found)
+    (same : found.rows.items ≡ first.rows.items ++ second.rows.items) where
+  as_list : divided pages place first second ≡ take place pages ++ first ∷ second ∷ drop (suc place) pages
+  as_list = ap (λ (k : ℕ). insert_at (slice_set pages place first) k second) (add-one place) ∙ divided_list pages place first second low
+
+  halves : entries_in (first ∷ second ∷ drop (suc place) pages) ≡ entries_of found.rows.items ++ entries_in (drop (suc place) pages)
+  halves =
+      sym (append_assoc (entries_of first.rows.items) (entries_of second.rows.items) (entries_in (drop (suc place) pages)))
+      ∙ ap (λ (es : Entries). es ++ entries_in (drop (suc place) pages)) (sym (rows-append first.rows.items second.rows.items) ∙ sym (ap entries_of same))
+
+  listed_rows : entries_in (take place pages ++ first ∷ second ∷ drop (suc place) pages) ≡ entries_in pages
+  listed_rows =
+      pages-append (take place pages) (first ∷ second ∷ drop (suc place) pages)
+      ∙ ap (λ (es : Entries). entries_in (take place pages) ++ es) halves ∙ sym (parts pages place found (read_at pages place found low read))
+
+  pub divided_rows : entries_in (divided pages place first second) ≡ entries_in pages
+  divided_rows = ap entries_in as_list ∙ listed_rows
+
+  module _ (o : List ℕ) (h : IsPageOf o pages place) (rising : ArePages pages) where
+    rising_halves : IsSorted (entries_of first.rows.items ++ (entries_of second.rows.items ++ entries_in (drop (suc place) pages)))
+    rising_halves =
+        rising_rest (entries_in (take place pages)) (entries_in (first ∷ second ∷ drop (suc place) pages))
+        (subst IsSorted (sym listed_rows ∙ pages-append (take place pages) (first ∷ second ∷ drop (suc place) pages)) rising)
+
+    pub room_before : begins_up_to o second.rows.items ≡ false → IsPageWithRoom o (divided pages place first second) place
+    room_before begins =
+        let ahead : IsBeforeAll o (entries_in (second ∷ drop (suc place) pages)) = rows_ahead o second.rows.items (entries_in (drop (suc place) pages))
+        (rising_rest (entries_of first.rows.items) (entries_of second.rows.items ++ entries_in (drop (suc place) pages)) rising_halves) begins in
+        let room : length first.rows.items < 256 = omega (arith, found.most, second.some, ap length same, length-append first.rows.items second.rows.items) in
+        let whole = page_between o (take place pages) (second ∷ drop (suc place) pages) first h.passed ahead room in
+        subst (λ (ps : List Page). IsPageWithRoom o ps place) (sym as_list)
+        (subst (λ (k : ℕ). IsPageWithRoom o (take place pages ++ first ∷ second ∷ drop (suc place) pages) k) (length-take-le place pages (omega (arith, low))) whole)
+
+    pub room_behind : begins_up_to o second.rows.items ≡ true → IsPageWithRoom o (divided pages place first second) (place + 1)
+    room_behind begins =
+        let behind : IsAfterAll o (entries_of first.rows.items) =
+        rows_passed o first.rows.items (second ∷ drop (suc place) pages) rising_halves 0 second (omega arith) begins in
+        let front_passed : IsAfterAll o (entries_in (take place pages ++ first ∷ [])) = subst (λ (es : Entries). IsAfterAll o es)
+        (sym (pages-append (take place pages) (first ∷ [])))
+        (after_both o (entries_in (take place pages)) (entries_of first.rows.items ++ []) h.passed (after_both o (entries_of first.rows.items) [] behind tt)) in
+        let room : length second.rows.items < 256 = omega (arith, found.most, first.some, ap length same, length-append first.rows.items second.rows.items) in
+        let whole = page_between o (take place pages ++ first ∷ []) (drop (suc place) pages) second front_passed h.ahead room in
+        let at : length (take place pages ++ first ∷ []) ≡ place + 1 =
+        length-append (take place pages) (first ∷ []) ∙ ap (λ (k : ℕ). k + 1) (length-take-le place pages (omega (arith, low))) in
+        let list : (take place pages ++ first ∷ []) ++ second ∷ drop (suc place) pages ≡ divided pages place first second =
+        append_assoc (take place pages) (first ∷ []) (second ∷ drop (suc place) pages) ∙ sym as_list in
+        subst (λ (ps : List Page). IsPageWithRoom o ps (place + 1)) list
+        (subst (λ (k : ℕ). IsPageWithRoom o ((take place pages ++ first ∷ []) ++ second ∷ drop (suc place) pages) k) at whole)
+
+-- ---- no pages
+
+pub no_pages : (o : List ℕ) (pages : List Page) (place : ℕ) → IsPageOf o pages place → length pages ≤ place → entries_in pages ≡ []
+no_pages o [] place h past = refl
+no_pages o (page ∷ pages) place h past = let low : place < length (page ∷ pages) = h.within (omega arith) in absurd (omega (arith, low, past))
+
+pub get_in : (o : List ℕ) (pages : List Page) → ArePages pages
+    → get (from_sorted {R = slice_cmp nat_cmp} (entries_in pages)) o ≡ find (slice_cmp nat_cmp) o (entries_in pages)
+get_in o pages rising = get-from_sorted (slice_cmp nat_cmp) (entries_in pages) o rising
+
+pub none_apart : (o : List ℕ) (pages : List Page) → ArePages pages → entries_in pages ≡ [] → StandsApart (from_sorted (entries_in pages)) o [] []
+none_apart o pages rising none = record {
+  found = λ q. get_in q pages rising ∙ ap (find (slice_cmp nat_cmp) q) none;
+  rising = tt;
+  passed = tt;
+  ahead = tt;
+}
+
+-- ---- a row put into its page
+
+pub first_page : (old new : List Page) (page : Page) (kept : EncodedRow) (row : Row) → length old ≤ 0 → new ≡ old ++ page ∷ [] → page.rows.items ≡ kept ∷ []
+    → kept.row ≡ row → entries_in new ≡ put (slice_cmp nat_cmp) row.name.items (datum_of row.value) (entries_in old)
+first_page [] new page kept row none pushed rows same =
+    ap entries_in pushed ∙ ap (λ (rs : List EncodedRow). entries_of rs ++ []) rows ∙ ap (λ (r : Row). entry_of r ∷ []) same
+first_page (p ∷ old) new page kept row none pushed rows same = absurd (omega (arith, none))
+
+pub none_named : (o : List ℕ) (old : List Page) → length old ≤ 0 → false ≡ has_name o (entries_in old)
+none_named o [] none = refl
+none_named o (p ∷ old) none = absurd (omega (arith, none))
+
+module _ (o : List ℕ) (pages : List Page) (place : ℕ) (w : IsPageWithRoom o pages place) (found : Page) (read : found ≡ slice_index_or pages place found) where
+  is_page : found ≡ w.page
+  is_page = page_read pages place w.page found w.at read
+
+  pub rising_found : ArePages pages → IsRising found.rows.items
+  rising_found rising = subst (λ (p : Page). IsRising p.rows.items) (sym is_page) (page_rising pages place w.page w.at rising)
+
+  pub room_found : length found.rows.items < 256
+  room_found = subst (λ (p : Page). length p.rows.items < 256) (sym is_page) w.room
+
+  pub put_found : (v : Datum) (new : Page) → entries_of new.rows.items ≡ put (slice_cmp nat_cmp) o v (entries_of found.rows.items)
+      → entries_in (slice_set pages place new) ≡ put (slice_cmp nat_cmp) o v (entries_in pages)
+  put_found v new same =
+      set-parts pages place new (at_low pages place w.page w.at)
+      ∙ put_in_page pages place o w.page_of w.page w.at v (entries_of new.rows.items)
+      (same ∙ ap (λ (p : Page). put (slice_cmp nat_cmp) o v (entries_of p.rows.items)) is_page)
+
+  pub kept_found : (new : Page) → new.rows.items ≡ found.rows.items → entries_in (slice_set pages place new) ≡ entries_in pages
+  kept_found new same = same_rows pages place found new (at_low pages place w.page w.at) read same
+
+  pub named_found : has_name o (entries_of found.rows.items) ≡ has_name o (entries_in pages)
+  named_found =
+      ap (λ (p : Page). has_name o (entries_of p.rows.items)) is_page ∙ ap is_some (sym (find_in_page pages place o w.page_of w.page w.at))

@@ -1,0 +1,104 @@
+-- How a table keeps its rows: in pages, by rising names over all of them. No clause of a public call
+-- is stated by these.
+use Rattle.std.specs.Prelude.{◌≡◌, ℕ, suc, Some, ◌≤◌, ◌<◌, T, Bool, true, is_some, List, [], ◌∷◌}
+use Rattle.std.specs.Prelude.{◌++◌, map, length, take, drop}
+use Rattle.std.specs.Ordering.{nat_cmp, is_le}
+use Rattle.std.specs.List.{slice_get, remove as remove_at}
+use Rattle.std.specs.Cmp.Lexicographic.{slice_cmp}
+use Rattle.std.specs.FinMap.{FinMap, find, get, is_sorted}
+use Rattle.snmp_wire.specs.Message.{Datum}
+use Rattle.snmp_agent.specs.declared.table.encoded.EncodedRow.{EncodedRow}
+use Rattle.snmp_agent.specs.declared.table.page.Page.{Page}
+use Rattle.snmp_agent.specs.table.Row.{entry_of}
+use Rattle.snmp_agent.specs.table.Places.{IsBeforeAll, IsBeforeNone, IsAfterAll}
+use Rattle.snmp_agent.specs.table.Table.{MibView}
+
+-- the rows as entries
+abbrev pub entries_of : List EncodedRow → List (List ℕ × Datum)
+entries_of rows = map (λ r. entry_of r.row) rows
+
+-- the rows of all pages as entries
+abbrev pub entries_in : List Page → List (List ℕ × Datum)
+entries_in [] = []
+entries_in (page ∷ pages) = entries_of page.rows.items ++ entries_in pages
+
+abbrev pub IsSorted : List (List ℕ × Datum) → Type 0
+IsSorted es = T (is_sorted (slice_cmp nat_cmp) es)
+
+-- the names of the rows rise
+abbrev pub IsRising : List EncodedRow → Type 0
+IsRising rows = IsSorted (entries_of rows)
+
+-- the names of the rows rise over all pages
+abbrev pub ArePages : List Page → Type 0
+ArePages pages = IsSorted (entries_in pages)
+
+-- whether the row has the name or one before it
+abbrev pub is_up_to : List ℕ → EncodedRow → Bool
+is_up_to o r = is_le (slice_cmp nat_cmp r.row.name.items o)
+
+-- whether the first row does
+abbrev pub begins_up_to : List ℕ → List EncodedRow → Bool
+begins_up_to o [] = true
+begins_up_to o (row ∷ rows) = is_up_to o row
+
+-- the row at this place has the name
+pub record HasNameAt (o : List ℕ) (rows : List EncodedRow) (place : ℕ) : Type 0 where
+  pub found : EncodedRow
+  pub at : slice_get rows place ≡ Some found
+  pub low : place < length rows
+  pub name : found.row.name.items ≡ o
+  pub passed : IsAfterAll o (entries_of (take place rows))
+  pub ahead : IsBeforeAll o (entries_of (drop (suc place) rows))
+
+-- no row has the name: those up to this place come before it, the others after it
+pub record BelongsAt (o : List ℕ) (rows : List EncodedRow) (place : ℕ) : Type 0 where
+  pub bound : place ≤ length rows
+  pub passed : IsAfterAll o (entries_of (take place rows))
+  pub ahead : IsBeforeAll o (entries_of (drop place rows))
+
+-- whether an entry has the name
+abbrev pub has_name : List ℕ → List (List ℕ × Datum) → Bool
+has_name o es = is_some (find (slice_cmp nat_cmp) o es)
+
+-- only the page at this place may have a row of the name
+pub record IsPageOf (o : List ℕ) (pages : List Page) (place : ℕ) : Type 0 where
+  pub bound : place ≤ length pages
+  pub within : 1 ≤ length pages → place < length pages
+  pub passed : IsAfterAll o (entries_in (take place pages))
+  pub ahead : IsBeforeAll o (entries_in (drop (suc place) pages))
+
+-- the page at this place has more than one row
+abbrev pub IsLongPage : List Page → ℕ → Type 0
+IsLongPage pages place = (page : Page) × (slice_get pages place ≡ Some page)
+    × (1 < length page.rows.items)
+
+-- the page at this place is the only one that may have a row of the name, and has room for one more
+pub record IsPageWithRoom (o : List ℕ) (pages : List Page) (place : ℕ) : Type 0 where
+  pub page_of : IsPageOf o pages place
+  pub page : Page
+  pub at : slice_get pages place ≡ Some page
+  pub room : length page.rows.items < 256
+
+-- the page at this place has a row at that one
+abbrev pub IsRowIn : List Page → ℕ → ℕ → Type 0
+IsRowIn pages place row = (page : Page) × (slice_get pages place ≡ Some page)
+    × (row < length page.rows.items)
+
+-- these are the entries without that row
+abbrev pub IsWithoutRow : List Page → ℕ → ℕ → List (List ℕ × Datum) → Type 0
+IsWithoutRow pages place row es = (page : Page) → slice_get pages place ≡ Some page
+    → es ≡ entries_in (take place pages) ++ (entries_of (remove_at page.rows.items row)
+    ++ entries_in (drop (suc place) pages))
+
+-- the entries stand apart at the name: those at or before it, and those after it
+pub record StandsApart (rows : FinMap (slice_cmp nat_cmp) Datum) (o : List ℕ) (front back : List
+    (List ℕ × Datum)) : Type 0 where
+  pub found : (q : List ℕ) → get rows q ≡ find (slice_cmp nat_cmp) q (front ++ back)
+  pub rising : IsSorted (front ++ back)
+  pub passed : IsBeforeNone o front
+  pub ahead : IsBeforeAll o back
+
+-- these are the variables of the view behind the name
+abbrev pub AreBehind : MibView → List ℕ → List (List ℕ × Datum) → Type 0
+AreBehind view o back = (front : List (List ℕ × Datum)) × StandsApart view.rows o front back

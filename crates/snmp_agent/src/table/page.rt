@@ -1,0 +1,107 @@
+//! One page of a table's rows.
+ghost use Rattle.std.specs.Prelude.{◌≡◌, ◌≤◌, length, IfOk, IfErr};
+ghost use Rattle.std.specs.List.{insert};
+
+use crate::table::encoded::EncodedRow;
+use crate::table::search::find_row;
+use snmp_oid::compare_numbers;
+use std::alloc::{AllocError, Global};
+
+/// How many rows a page has at most.
+pub const PAGE_ROWS: usize = 256;
+
+/// Rows that a change moves together.
+#[derive(Drop)]
+pub struct Page {
+    /// The rows, of which there is one at least.
+    pub rows: Vec<EncodedRow>,
+    ghost some: { 1 ≤ length rows.items },
+    ghost most: { length rows.items ≤ 256 },
+}
+
+impl Page {
+    ghost use Rattle.std.specs.Prelude.{◌≡◌, ◌<◌, ◌++◌, ◌∷◌, [], length, IfOk, IfErr};
+    ghost use Rattle.std.specs.Ordering.{nat_cmp};
+    ghost use Rattle.std.specs.Cmp.Lexicographic.{slice_cmp};
+    ghost use Rattle.std.specs.FinMap.Entries.{put};
+    ghost use Rattle.std.specs.List.{remove as remove_at};
+    ghost use Rattle.snmp_agent.specs.table.Row.{datum_of};
+    ghost use Rattle.snmp_agent.specs.table.Pages.{IsRising, entries_of, has_name};
+
+    /// A page of one row.
+    pub fn of_row(alloc: Global, row: EncodedRow) -> Result<Page, AllocError>
+        ensures { IfOk result (λ page. page.rows.items ≡ row ∷ []) }
+    {
+        let mut rows = Vec::new(alloc);
+        match rows.push(row) {
+            Ok(()) => Ok(Page { rows }),
+            Err(_) => Err(AllocError),
+        }
+    }
+
+    /// Puts a row in its place among the others, or in place of the one that has its name, and
+    /// returns whether there was one.
+    pub fn put(&mut self, row: EncodedRow) -> Result<bool, AllocError>
+        requires rising { IsRising self.old.rows.items }
+        requires room { length self.old.rows.items < 256 }
+        ensures put { IfOk result (λ _. entries_of self.new.rows.items
+            ≡ put (slice_cmp nat_cmp) row.row.name.items (datum_of row.row.value) (entries_of
+            self.old.rows.items)) }
+        ensures replaced { IfOk result (λ replaced. replaced
+            ≡ has_name row.row.name.items (entries_of self.old.rows.items)) }
+        ensures unchanged_on_error { IfErr result (λ _. self.new.rows.items
+            ≡ self.old.rows.items) }
+    {
+        match find_row(self.rows.as_slice(), row.row.name.as_slice()) {
+            Ok(place) => {
+                self.rows[place] = row;
+                Ok(true)
+            }
+            Err(place) => {
+                insert_row(&mut self.rows, place, row)?;
+                Ok(false)
+            }
+        }
+    }
+
+    /// Divides the page, and returns its back: the half of its rows, or the last alone if the name
+    /// comes behind it, so that rows which come in order fill their pages.
+    pub fn divide(&mut self, name: &[u32]) -> Result<Page, AllocError>
+        requires { 1 < length self.old.rows.items }
+        ensures parts { IfOk result (λ back. self.old.rows.items
+            ≡ self.new.rows.items ++ back.rows.items) }
+        ensures unchanged_on_error { IfErr result (λ _. self.new.rows.items
+            ≡ self.old.rows.items) }
+    {
+        let count = self.rows.len();
+        let place = match self.rows.last() {
+            Some(row) if compare_numbers(row.row.name.as_slice(), name).is_lt() => count - 1,
+            _ => count / 2,
+        };
+        match self.rows.split_off(place) {
+            Ok(rows) => Ok(Page { rows }),
+            Err(error) => Err(error),
+        }
+    }
+
+    /// Removes the row at this place, which isn't the only one.
+    pub fn remove(&mut self, place: usize)
+        requires other { 1 < length self.old.rows.items }
+        requires within { place < length self.old.rows.items }
+        ensures { self.new.rows.items ≡ remove_at self.old.rows.items place }
+    {
+        let _ = self.rows.remove(place);
+    }
+}
+
+/// Inserts a row at a place.
+fn insert_row(rows: &mut Vec<EncodedRow>, place: usize, row: EncodedRow) -> Result<(), AllocError>
+    requires { place ≤ length rows.old.items }
+    ensures inserted { IfOk result (λ _. rows.new.items ≡ insert rows.old.items place row) }
+    ensures unchanged_on_error { IfErr result (λ _. rows.new.items ≡ rows.old.items) }
+{
+    match rows.insert(place, row) {
+        Ok(()) => Ok(()),
+        Err(_) => Err(AllocError),
+    }
+}

@@ -1,0 +1,275 @@
+//! The rows of a table, in pages, and the rows behind a name.
+ghost use Rattle.std.specs.Prelude.{◌≡◌, ◌≤◌, ◌++◌, ◌∷◌, [], length, IfOk, IfErr};
+ghost use Rattle.snmp_agent.specs.table.Places.{last_name};
+ghost use Rattle.snmp_agent.specs.table.Pages.{ArePages, IsPageOf, IsLongPage, IsPageWithRoom};
+ghost use Rattle.snmp_agent.specs.table.Pages.{IsRowIn, IsWithoutRow, entries_in, entries_of};
+
+use crate::table::encoded::EncodedRow;
+use crate::table::page::{PAGE_ROWS, Page};
+use crate::table::row::{Row, set_name};
+use crate::table::search::{begins_up_to, find_row, page_of, place_after, row_at};
+use snmp_oid::order;
+use snmp_wire::{Binding, Oid, ValueRef};
+use std::alloc::{AllocError, Global};
+use std::marker::Model;
+
+/// Rows by rising names, in pages of 1 to 256, so that a change moves no more rows than a page has.
+#[derive(Drop)]
+pub struct Pages {
+    list: Vec<Page>,
+}
+
+impl Model for Pages {
+    ghost use Rattle.std.specs.Coded.{codes};
+    ghost use Rattle.std.specs.Ordering.{nat_cmp};
+    ghost use Rattle.std.specs.Cmp.Lexicographic.{slice_cmp};
+    ghost use Rattle.std.specs.FinMap.{FinMap, code, from_sorted};
+    ghost use Rattle.snmp_wire.specs.Message.{Datum};
+    ghost use Rattle.snmp_agent.specs.table.Pages.{ArePages, entries_in};
+
+    ghost Value = { FinMap (slice_cmp nat_cmp) Datum };
+
+    ghost coded = { Prim.hlevel (codes, code) };
+
+    ghost view = { λ p. from_sorted (entries_in p.list.items) };
+
+    ghost invariant = { λ p. ArePages p.list.items };
+}
+
+impl Pages {
+    ghost use Rattle.std.specs.Prelude.{◌≡◌, [], List, ℕ, IfOk, IfErr};
+    ghost use Rattle.std.specs.Option.{option_map};
+    ghost use Rattle.std.specs.FinMap.{contains_key, entries, get, insert, remove as remove_key};
+    ghost use Rattle.snmp_wire.specs.Message.{Datum};
+    ghost use Rattle.snmp_agent.specs.table.Row.{datum_of};
+    ghost use Rattle.snmp_agent.specs.table.Table.{IsInstanceName, IsInstanceValue};
+    ghost use Rattle.snmp_agent.specs.table.Pages.{StandsApart};
+
+    /// No rows.
+    pub fn new(alloc: Global) -> Pages
+        ensures { entries result ≡ [] }
+    {
+        Pages {
+            list: Vec::new(alloc),
+        }
+    }
+
+    /// The row of this name.
+    pub fn find(&self, name: &[u32]) -> Option<&EncodedRow>
+        ensures { option_map (λ row. datum_of row.now.row.value) result ≡ get self.now name.now }
+    {
+        let pages = self.list.as_slice();
+        let page = pages.get(page_of(pages, name))?;
+        row_at(page.rows.as_slice(), name)
+    }
+
+    /// The rows behind this name.
+    pub fn after(&self, name: &[u32]) -> Successors<'_>
+        ensures { (front : List (List ℕ × Datum)) × StandsApart self.now name.now front result }
+    {
+        let pages = self.list.as_slice();
+        let place = page_of(pages, name);
+        let Some(page) = pages.get(place) else {
+            return Successors {
+                rows: &[],
+                pages: &[],
+            };
+        };
+        let (_, pages) = pages.split_at(place + 1);
+        let rows = page.rows.as_slice();
+        let (_, rows) = rows.split_at(place_after(rows, name));
+        Successors { rows, pages }
+    }
+
+    /// Puts a row in its place among the others, or in place of the one that has its name, and
+    /// returns whether there was one.
+    pub fn put(&mut self, alloc: Global, row: Row) -> Result<bool, AllocError>
+        requires name { IsInstanceName row.name.items }
+        requires value { IsInstanceValue (datum_of row.value) }
+        ensures put { IfOk result (λ _. self.new
+            ≡ insert self.old row.name.items (datum_of row.value)) }
+        ensures replaced { IfOk result (λ replaced. replaced
+            ≡ contains_key self.old row.name.items) }
+        ensures unchanged_on_error { IfErr result (λ _. self.new ≡ self.old) }
+    {
+        let row = EncodedRow::new(alloc, row)?;
+        if self.list.is_empty() {
+            let page = Page::of_row(alloc, row)?;
+            push_page(&mut self.list, page)?;
+            return Ok(false);
+        }
+        let place = page_with_room(&mut self.list, row.row.name.as_slice())?;
+        let replaced = self.list[place].put(row)?;
+        Ok(replaced)
+    }
+
+    /// Removes the row of this name, and returns whether there was one.
+    pub fn remove(&mut self, name: &[u32]) -> bool
+        ensures removed { self.new ≡ remove_key self.old name.now }
+        ensures found { result ≡ contains_key self.old name.now }
+    {
+        let place = page_of(self.list.as_slice(), name);
+        let Some(page) = self.list.as_slice().get(place) else {
+            return false;
+        };
+        match find_row(page.rows.as_slice(), name) {
+            Ok(row) => {
+                remove_row(&mut self.list, place, row);
+                true
+            }
+            Err(_) => false,
+        }
+    }
+}
+
+/// Appends a page.
+fn push_page(pages: &mut Vec<Page>, page: Page) -> Result<(), AllocError>
+    ensures pushed { IfOk result (λ _. pages.new.items ≡ pages.old.items ++ page ∷ []) }
+    ensures unchanged_on_error { IfErr result (λ _. pages.new.items ≡ pages.old.items) }
+{
+    match pages.push(page) {
+        Ok(()) => Ok(()),
+        Err(_) => Err(AllocError),
+    }
+}
+
+/// The place of the page where a row of this name belongs, which is divided before if it is full.
+fn page_with_room(pages: &mut Vec<Page>, name: &[u32]) -> Result<usize, AllocError>
+    requires rising { ArePages pages.old.items }
+    requires some { 1 ≤ length pages.old.items }
+    ensures rows { entries_in pages.new.items ≡ entries_in pages.old.items }
+    ensures place { IfOk result (IsPageWithRoom name.now pages.new.items) }
+{
+    let place = page_of(pages.as_slice(), name);
+    if pages[place].rows.len() < PAGE_ROWS {
+        return Ok(place);
+    }
+    divide(pages, place, name)
+}
+
+/// Divides the page where a row of this name belongs, and returns the place where it belongs then.
+fn divide(pages: &mut Vec<Page>, place: usize, name: &[u32]) -> Result<usize, AllocError>
+    requires rising { ArePages pages.old.items }
+    requires place { IsPageOf name.now pages.old.items place }
+    requires rows { IsLongPage pages.old.items place }
+    ensures rows { entries_in pages.new.items ≡ entries_in pages.old.items }
+    ensures place { IfOk result (IsPageWithRoom name.now pages.new.items) }
+{
+    pages.reserve(1)?;
+    let back = pages[place].divide(name)?;
+    let belongs = if begins_up_to(back.rows.as_slice(), name) {
+        place + 1
+    } else {
+        place
+    };
+    match pages.insert(place + 1, back) {
+        Ok(()) => Ok(belongs),
+        Err(_) => unreachable!(),
+    }
+}
+
+/// Removes a row from a page, and the page if it is empty then.
+fn remove_row(pages: &mut Vec<Page>, place: usize, row: usize)
+    requires { IsRowIn pages.old.items place row }
+    ensures { IsWithoutRow pages.old.items place row (entries_in pages.new.items) }
+{
+    if pages[place].rows.len() > 1 {
+        pages[place].remove(row);
+    } else {
+        let _ = pages.remove(place);
+    }
+}
+
+/// Rows behind a name, as a GetNext takes them that is asked again and again.
+#[derive(Drop)]
+pub struct Successors<'a> {
+    /// Those of the page where it stands.
+    rows: &'a [EncodedRow],
+    /// The pages behind that.
+    pages: &'a [Page],
+}
+
+impl<'a> Model for Successors<'a> {
+    ghost use Rattle.std.specs.Prelude.{◌++◌, ℕ, List};
+    ghost use Rattle.snmp_wire.specs.Message.{Datum};
+    ghost use Rattle.snmp_agent.specs.table.Pages.{entries_of, entries_in};
+
+    ghost Value = { List (List ℕ × Datum) };
+
+    ghost view = { λ s. entries_of s.rows.now ++ entries_in s.pages.now };
+}
+
+impl<'a> Successors<'a> {
+    ghost use Rattle.std.specs.Prelude.{◌≡◌, ◌∷◌, [], ℕ, List, take, drop, IfSome, IfNone};
+    ghost use Rattle.snmp_wire.specs.Message.{var_bind};
+    ghost use Rattle.snmp_agent.specs.table.Row.{entry_of};
+    ghost use Rattle.snmp_agent.specs.table.Places.{last_name};
+    ghost use Rattle.snmp_agent.specs.table.Pages.{AreBehind};
+    ghost use Rattle.snmp_agent.specs.table.Table.{MibView, IsNext};
+
+    /// Changes a binding of the name behind which these rows stand to what a GetNext of it gives:
+    /// the first of them, else the name itself with `EndOfMibView` (RFC 3416, section 4.2.2). The
+    /// rows behind that are left.
+    pub fn advance(&mut self, binding: &mut Binding<'a>)
+        ensures next { (view : MibView) → AreBehind view binding.old.name self.old
+            → IsNext view binding.old.name (var_bind binding.new) }
+        ensures behind { (view : MibView) → AreBehind view binding.old.name self.old
+            → AreBehind view binding.new.name self.new }
+    {
+        order();
+        match self.next_row() {
+            Some(row) => row.read_into(binding),
+            None => binding.value = ValueRef::EndOfMibView,
+        }
+    }
+
+    /// The first row. Those behind it are left.
+    fn next_row(&mut self) -> Option<&'a EncodedRow>
+        ensures some { IfSome result (λ row. self.old ≡ entry_of row.now.row ∷ self.new) }
+        ensures none { IfNone result ((self.old ≡ []) × (self.new ≡ [])) }
+    {
+        if let Some((row, rows)) = self.rows.split_first() {
+            self.rows = rows;
+            return Some(row);
+        }
+        let (page, pages) = self.pages.split_first()?;
+        let (row, rows) = page.rows.as_slice().split_first()?;
+        self.rows = rows;
+        self.pages = pages;
+        Some(row)
+    }
+
+    /// Skips as many rows, or all where there are fewer. The name becomes that of the last of them.
+    pub fn skip(&mut self, count: usize, name: &mut Oid)
+        ensures left { self.new ≡ drop count self.old }
+        ensures name { name.new ≡ last_name name.old (take count self.old) }
+    {
+        let mut left = count;
+        'pages: while left > self.rows.len() {
+            left -= self.rows.len();
+            set_to_last(name, self.rows);
+            match self.pages.split_first() {
+                Some((page, pages)) => {
+                    self.rows = page.rows.as_slice();
+                    self.pages = pages;
+                }
+                None => {
+                    self.rows = &[];
+                    left = 0;
+                }
+            }
+        }
+        let (passed, rows) = self.rows.split_at(left);
+        set_to_last(name, passed);
+        self.rows = rows;
+    }
+}
+
+/// Changes a name to that of the last row, if there is one.
+fn set_to_last(name: &mut Oid, rows: &[EncodedRow])
+    ensures { name.new ≡ last_name name.old (entries_of rows.now) }
+{
+    if let Some(row) = rows.last() {
+        set_name(name, row.row.name.as_slice());
+    }
+}
