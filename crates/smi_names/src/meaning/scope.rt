@@ -48,8 +48,8 @@ fn enter_definitions<'a>(
 ) -> Result<(), AllocError>
     requires { IsWithin entries.old.items scope.old }
     ensures entered { OnOk result (KnowsMore entries.old.items scope.old entries.new.items
-        scope.new module.now place
-        (λ x. option_map defined (first_definition x module.now.defs))) }
+        scope.new «module».now place
+        (λ x. option_map defined (first_definition x «module».now.defs))) }
 {
     let defs = module.defs.as_slice();
     'defs: for (k, def) in defs.iter().enumerate() {
@@ -74,7 +74,7 @@ fn enter_symbols<'a>(
 ) -> Result<(), AllocError>
     requires { IsWithin entries.old.items scope.old }
     ensures entered { OnOk result (KnowsMore entries.old.items scope.old entries.new.items
-        scope.new module.now place
+        scope.new «module».now place
         (λ x. option_map imported (first_import x (import.now ∷ [])))) }
 {
     let symbols = import.symbols.as_slice();
@@ -100,7 +100,7 @@ fn enter_imports<'a>(
 ) -> Result<(), AllocError>
     requires { IsWithin entries.old.items scope.old }
     ensures entered { OnOk result (KnowsMore entries.old.items scope.old entries.new.items
-        scope.new module.now place
+        scope.new «module».now place
         (λ x. option_map imported (first_import x imports.now))) }
 {
     'imports: for import in imports {
@@ -111,7 +111,7 @@ fn enter_imports<'a>(
 
 /// The entry of a root.
 fn root_entry<'a>(module: &'a Module, place: usize, name: &'a [u8], number: u32) -> Entry<'a>
-    ensures entry { (result.«module».now ≡ module.now) × (result.name.now ≡ name.now)
+    ensures entry { (result.«module».now ≡ «module».now) × (result.name.now ≡ name.now)
         × (decision_of result.decider ≡ root number) × (result.source.0 ≡ place) }
     ensures found { IsDefinedAt result }
 {
@@ -132,7 +132,7 @@ fn enter_roots<'a>(
 ) -> Result<(), AllocError>
     requires { IsWithin entries.old.items scope.old }
     ensures entered { OnOk result (KnowsMore entries.old.items scope.old entries.new.items
-        scope.new module.now place
+        scope.new «module».now place
         (λ x. option_map root (root_arc x))) }
 {
     enter(entries, scope, root_entry(module, place, b"ccitt", 0))?;
@@ -147,7 +147,7 @@ fn enter_roots<'a>(
 
 /// The FROM clauses of a module, none if it has no IMPORTS.
 pub fn import_clauses(module: &Module) -> &[Import]
-    ensures { result.now ≡ lookup.import_clauses module.now }
+    ensures { result.now ≡ lookup.import_clauses «module».now }
 {
     match &module.imports {
         Some(imports) => imports.as_slice(),
@@ -163,11 +163,11 @@ pub(crate) fn scope<'a>(
     place: usize,
 ) -> Result<NamePlaces<'a>, AllocError>
     ensures decided { IfOk result (λ scope. (x : List ℕ)
-        → known entries.new.items scope x ≡ decided_as module.now x (decision module.now x)) }
+        → known entries.new.items scope x ≡ decided_as «module».now x (decision «module».now x)) }
     ensures within { IfOk result (λ scope. IsWithin entries.new.items scope) }
     ensures grown { IfOk result (λ _. (added : List Entry)
         × (entries.new.items ≡ entries.old.items ++ added)
-        × All (IsEntryOf module.now place) added) }
+        × All (IsEntryOf «module».now place) added) }
 {
     let mut scope = BTreeMap::new(alloc);
     enter_definitions(entries, &mut scope, module, place)?;

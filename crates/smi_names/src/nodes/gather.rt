@@ -54,7 +54,7 @@ fn single(number: u32) -> Oid
 
 /// Whether one of the modules before this place has the name of a module.
 fn is_double<'a>(names: &Names<'a>, module: &'a Module, place: usize) -> bool
-    ensures { result ≡ is_loaded (take place names.now) module.now.name.octets }
+    ensures { result ≡ is_loaded (take place names.now) «module».now.name.octets }
 {
     match names.module_place(module.name.as_bytes()) {
         Some(first) => first < place,
@@ -72,7 +72,7 @@ impl Gathered {
         source: Source,
         resolution: &Resolution,
     ) -> Result<(), AllocError>
-        ensures added { OnOk result (GrowsByDefinition self.old self.new source module.now def.now
+        ensures added { OnOk result (GrowsByDefinition self.old self.new source «module».now def.now
             resolution.now) }
     {
         let warning = match resolution {
@@ -110,9 +110,9 @@ impl Gathered {
         source: Source,
     ) -> Result<(), AllocError>
         requires long { length self.old.sources.items ≡ length self.old.oids.items }
-        requires there { IsSourceOf names.now source module.now def.now }
+        requires there { IsSourceOf names.now source «module».now def.now }
         ensures added { OnOk result
-            (AddsDefinition names.now self.old self.new module.now def.now) }
+            (AddsDefinition names.now self.old self.new «module».now def.now) }
     {
         if def.identifier().is_none() {
             return Ok(());
@@ -132,9 +132,9 @@ impl Gathered {
         place: usize,
     ) -> Result<(), AllocError>
         requires long { length self.old.sources.items ≡ length self.old.oids.items }
-        requires there { slice_get names.now place ≡ Some module.now }
+        requires there { slice_get names.now place ≡ Some «module».now }
         ensures added { OnOk result
-            (AddsDefinitions names.now self.old self.new module.now module.now.defs) }
+            (AddsDefinitions names.now self.old self.new «module».now «module».now.defs) }
     {
         let defs = module.defs.as_slice();
         'defs: for (k, def) in defs.iter().enumerate() {
@@ -154,10 +154,10 @@ impl Gathered {
         place: usize,
     ) -> Result<(), AllocError>
         requires long { length self.old.sources.items ≡ length self.old.oids.items }
-        requires there { slice_get names.now place ≡ Some module.now }
-        requires first { is_loaded (take place names.now) module.now.name.octets ≡ false }
+        requires there { slice_get names.now place ≡ Some «module».now }
+        requires first { is_loaded (take place names.now) «module».now.name.octets ≡ false }
         ensures added { OnOk result
-            (AddsModule names.now self.old self.new (take place names.now) module.now) }
+            (AddsModule names.now self.old self.new (take place names.now) «module».now) }
     {
         add_import_warnings(alloc, &mut self.warnings, names, module)?;
         self.add_definitions(alloc, names, module, place)?;
@@ -173,9 +173,9 @@ impl Gathered {
         place: usize,
     ) -> Result<(), AllocError>
         requires long { length self.old.sources.items ≡ length self.old.oids.items }
-        requires there { slice_get names.now place ≡ Some module.now }
+        requires there { slice_get names.now place ≡ Some «module».now }
         ensures added { OnOk result
-            (AddsModule names.now self.old self.new (take place names.now) module.now) }
+            (AddsModule names.now self.old self.new (take place names.now) «module».now) }
     {
         if is_double(names, module, place) {
             let name = text(alloc, module.name.as_bytes())?;

@@ -76,7 +76,7 @@ fn add_symbol_warnings<'a>(
     ensures { let from = import.now.source.octets in
         let source = module_named names.now from in
         OnOk result (warnings.new.items ≡ warnings.old.items
-        ++ imports.symbol_warnings source module.now.name.octets from symbol.now) }
+        ++ imports.symbol_warnings source «module».now.name.octets from symbol.now) }
 {
     let from = import.source.as_bytes();
     let name = symbol.text.as_bytes();
@@ -99,7 +99,7 @@ fn add_symbols_warnings<'a>(
     ensures { let from = import.now.source.octets in
         let source = module_named names.now from in
         OnOk result (warnings.new.items ≡ warnings.old.items
-        ++ flat_map (imports.symbol_warnings source module.now.name.octets from)
+        ++ flat_map (imports.symbol_warnings source «module».now.name.octets from)
         import.now.symbols) }
 {
     let symbols = import.symbols.as_slice();
@@ -118,7 +118,7 @@ fn add_clause_warnings<'a>(
     import: &'a Import,
 ) -> Result<(), AllocError>
     ensures { OnOk result (warnings.new.items ≡ warnings.old.items
-        ++ imports.clause_warnings names.now module.now.name.octets import.now) }
+        ++ imports.clause_warnings names.now «module».now.name.octets import.now) }
 {
     if names.is_loaded(import.source.as_bytes()) {
         return add_symbols_warnings(alloc, warnings, names, module, import);
@@ -137,7 +137,7 @@ pub(crate) fn add_import_warnings<'a>(
     module: &'a Module,
 ) -> Result<(), AllocError>
     ensures { OnOk result (warnings.new.items ≡ warnings.old.items
-        ++ imports.import_warnings names.now module.now) }
+        ++ imports.import_warnings names.now «module».now) }
 {
     let clauses = import_clauses(module);
     'clauses: for import in clauses {
