@@ -1,6 +1,6 @@
-// Loads the modules of a file, for bench/tree.sh: tree nodes|names|identifiers|syntaxes|lines FILE
-// TIMES. It prints the nodes, how often the name, the identifier or the syntax was found, or the octets of
-// the line.
+// Loads the modules of a file, for bench/tree.sh and bench/chosen.sh: tree
+// nodes|keyed|names|identifiers|syntaxes|lines FILE TIMES. It prints the nodes, how often the name, the
+// identifier or the syntax was found, or the octets of the line.
 #include <stddef.h>
 #include <stdint.h>
 #include <stdio.h>
@@ -9,6 +9,8 @@
 
 // The nodes of the modules of the text, or SIZE_MAX where it is refused.
 size_t tree_nodes_in(const uint8_t *text, size_t length);
+// The same, with names hashed by a key of these octets.
+size_t tree_nodes_keyed(const uint8_t *text, size_t length, uint8_t seed);
 // How often a look-up finds something, so many times.
 size_t tree_names_in(const uint8_t *text, size_t length, size_t times);
 size_t tree_identifiers_in(const uint8_t *text, size_t length, size_t times);
@@ -29,6 +31,8 @@ int main(int count, char **words) {
     size_t found = 0;
     if (strcmp(words[1], "nodes") == 0)
         for (size_t i = times; i > 0; i--) found = tree_nodes_in(text, length);
+    else if (strcmp(words[1], "keyed") == 0)
+        for (size_t i = times; i > 0; i--) found = tree_nodes_keyed(text, length, 7);
     else if (strcmp(words[1], "names") == 0)
         found = tree_names_in(text, length, times);
     else if (strcmp(words[1], "identifiers") == 0)

@@ -2,17 +2,35 @@
 
 use smi_show::{Letters, line};
 use smi_text::parse_modules;
-use smi_tree::Tree;
+use smi_tree::{NameHash, Tree};
 use snmp_oid::parse_numeric;
 use snmp_wire::ValueRef;
 use std::alloc::Global;
+use std::io;
+use std::random::RandomSource;
+
+/// A source of keys whose octets are all the same.
+#[derive(Drop)]
+struct Seed(u8);
+
+impl RandomSource for Seed {
+    fn fill_bytes(&self, octets: &mut [u8]) -> io::Result<()> {
+        octets.fill(self.0);
+        Ok(())
+    }
+}
 
 /// The tree of the modules of a text, None where the text is refused or memory runs out.
 fn tree_in(alloc: Global, text: &[u8]) -> Option<Tree> {
+    tree_by(alloc, NameHash::Fixed, text)
+}
+
+/// The same, with names hashed in this way.
+fn tree_by(alloc: Global, hash: NameHash, text: &[u8]) -> Option<Tree> {
     let Ok(modules) = parse_modules(alloc, text) else {
         return None;
     };
-    match Tree::load(alloc, modules) {
+    match Tree::load(alloc, hash, modules) {
         Ok((tree, _warnings)) => Some(tree),
         Err(_) => None,
     }
@@ -23,6 +41,15 @@ fn tree_in(alloc: Global, text: &[u8]) -> Option<Tree> {
 #[unsafe(no_mangle)]
 pub extern "C" fn tree_nodes_in(alloc: Global, text: &[u8]) -> usize {
     match tree_in(alloc, text) {
+        Some(tree) => tree.len(),
+        None => usize::MAX,
+    }
+}
+
+/// The same, with names hashed by a key whose octets are all `seed`.
+#[unsafe(no_mangle)]
+pub extern "C" fn tree_nodes_keyed(alloc: Global, text: &[u8], seed: u8) -> usize {
+    match tree_by(alloc, NameHash::new(&Seed(seed)), text) {
         Some(tree) => tree.len(),
         None => usize::MAX,
     }

@@ -46,8 +46,8 @@ use Rattle.smi_names.specs.declared.links.basis.Resolution.{Resolution}
 use Rattle.smi_text.specs.trees.Mark.{same_text}
 use Rattle.smi_text.specs.declared.trees.tree.Module.{Module}
 use Rattle.smi_names.specs.meaning.Meaning.{QualifiedName, Decision, decision, origin, origin_by, origin_in, module_named}
-use Rattle.smi_names.specs.meaning.Scopes.{content_of, decision_of, place_in, known, decided_as}
-use Rattle.smi_names.specs.meaning.Names.{NamePlaces, map_origin}
+use Rattle.smi_names.specs.meaning.Scopes.{NamePlaces, content_of, decision_of, place_in, known, decided_as}
+use Rattle.smi_names.specs.meaning.Names.{map_origin}
 use Rattle.smi_names.specs.meaning.Directory.{place_by, place_of_entry, AreBases}
 use Rattle.smi_names.specs.meaning.Resolved.{IsDirectory, AreResolutions}
 use Rattle.smi_names.specs.declared.meaning.entry.Entry.{Entry}

@@ -5,6 +5,7 @@ use Rattle.std.proofs.Common.{
   zero,
   suc,
   ◌<◌,
+  ◌≤◌,
   ◌||◌,
   Bool,
   true,
@@ -18,6 +19,7 @@ use Rattle.std.proofs.Common.{
   Option,
   Some,
   None,
+  unwrap_or,
   refl,
   sym,
   ap,
@@ -30,12 +32,10 @@ use Rattle.std.proofs.lemmas.List.Elements.{All-nil, All-push, All-append}
 use Rattle.std.proofs.lemmas.Slice.Eq.{bytes_eq-Decides}
 use Rattle.std.specs.List.{slice_get, find, list_any}
 use Rattle.std.specs.Option.{option_and_then, option_map}
-use Rattle.std.specs.Borrow.{Bor}
-use Rattle.std.specs.BTreeMap.{BTreeMap}
 use Rattle.smi_text.specs.trees.Mark.{same_text}
 use Rattle.smi_text.specs.declared.trees.tree.Module.{Module}
 use Rattle.smi_names.specs.meaning.Meaning.{Decision, or_else}
-use Rattle.smi_names.specs.meaning.Scopes.{Content, content_of, place_in, known, decided_as, IsWithin, IsEntryOf, KnowsMore}
+use Rattle.smi_names.specs.meaning.Scopes.{Content, NamePlaces, content_of, place_in, known, decided_as, IsWithin, IsEntryOf, KnowsMore}
 use Rattle.smi_names.specs.declared.meaning.entry.Entry.{Entry}
 
 pub same : (xs ys : List ℕ) → same_text xs ys ≡ true → xs ≡ ys
@@ -79,9 +79,6 @@ get_within [] i l = absurd (omega arith)
 get_within (x ∷ xs) zero l = (x, refl)
 get_within (x ∷ xs) (suc i) l = get_within xs i (omega arith)
 
-abbrev pub NamePlaces : Type 0
-NamePlaces = BTreeMap (Bor (List ℕ)) ℕ
-
 pub known-append : (old added : List Entry) (scope : NamePlaces) (x : List ℕ) → IsWithin old scope → known (old ++ added) scope x ≡ known old scope x
 known-append old added scope x within = by (place_in scope x) refl
   where
@@ -94,18 +91,46 @@ or_else_none : {A : Type 0} (o : Option A) → or_else o None ≡ o
 or_else_none None = refl
 or_else_none (Some x) = refl
 
+-- a place before the one that was offered is the name's own
+pub had_place : (r : Option ℕ) (p place : ℕ) → p ≡ unwrap_or r place → p < place → r ≡ Some p
+had_place None p place e l = let is : p ≡ place = e in absurd (omega (arith, is))
+had_place (Some q) p place e l = let is : p ≡ q = e in rw is refl
+
+-- any other place is the one that was offered, to a name without one, where all places are before it
+pub had_none : (r : Option ℕ) (p place : ℕ) → p ≡ unwrap_or r place → ((q : ℕ) → r ≡ Some q → q < place) → place ≤ p → r ≡ None
+had_none None p place e within l = refl
+had_none (Some q) p place e within l = let is : p ≡ q = e in absurd (omega (arith, is, within q refl))
+
+-- a name without a place gets the one that was offered
+pub put_absent : (scope new : NamePlaces) (name : List ℕ) (place : ℕ) → place_in scope name ≡ None
+    → ((x : List ℕ) → place_in new x ≡ or_else (place_in scope x) (cond (same_text name x) (Some place) None)) → (x : List ℕ)
+    → place_in new x ≡ cond (same_text name x) (Some place) (place_in scope x)
+put_absent scope new name place none put x = put x ∙ by (same_text name x) refl
+  where
+    by : (b : Bool) → same_text name x ≡ b → or_else (place_in scope x) (cond b (Some place) None) ≡ cond b (Some place) (place_in scope x)
+    by false e = or_else_none (place_in scope x)
+    by true e = let at : place_in scope x ≡ None = rw (same name x e) at none in rw at refl
+
 module _ (old : List Entry) (scope : NamePlaces) (m : Module) (i : ℕ) (within : IsWithin old scope) where
-  -- the name is there
-  pub KnowsMore-there : (name : List ℕ) (d : Decision) (p : ℕ) → place_in scope name ≡ Some p
-      → KnowsMore old scope old scope m i (λ x. cond (same_text name x) (Some d) None)
-  KnowsMore-there name d p there = record {
-    knows = λ x. by x (same_text name x) refl;
+  -- the name is there, and keeps its place
+  pub KnowsMore-there : (new : NamePlaces) (name : List ℕ) (d : Decision) (p place : ℕ) → place_in scope name ≡ Some p
+      → ((x : List ℕ) → place_in new x ≡ or_else (place_in scope x) (cond (same_text name x) (Some place) None))
+      → KnowsMore old scope old new m i (λ x. cond (same_text name x) (Some d) None)
+  KnowsMore-there new name d p place there put = record {
+    knows = λ x. rw (stays x) (by x (same_text name x) refl);
     added = [];
     grown = sym (append-nil old);
     of = All-nil (IsEntryOf m i);
-    within = within;
+    within = λ x q at. within x q (sym (stays x) ∙ at);
   }
     where
+      keeps : (x : List ℕ) (b : Bool) → same_text name x ≡ b → or_else (place_in scope x) (cond b (Some place) None) ≡ place_in scope x
+      keeps x false e = or_else_none (place_in scope x)
+      keeps x true e = let at : place_in scope x ≡ Some p = rw (same name x e) at there in rw at refl
+
+      stays : (x : List ℕ) → place_in new x ≡ place_in scope x
+      stays x = put x ∙ keeps x (same_text name x) refl
+
       by : (x : List ℕ) (b : Bool) → same_text name x ≡ b → known old scope x ≡ or_else (known old scope x) (decided_as m x (cond b (Some d) None))
       by x false e = sym (or_else_none (known old scope x))
       by x true e =

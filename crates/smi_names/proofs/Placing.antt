@@ -42,33 +42,10 @@ use Rattle.smi_text.specs.trees.Lookup.{part_number}
 use Rattle.smi_text.specs.declared.trees.tree.Module.{Module}
 use Rattle.smi_text.specs.declared.trees.tree.Part.{Part}
 use Rattle.smi_names.specs.meaning.Meaning.{or_else, both, arcs, decision}
-use Rattle.smi_names.specs.meaning.Scopes.{place_in, known, decided_as, IsWithin, IsEntryOf}
-use Rattle.smi_names.specs.meaning.Names.{NamePlaces, module_place, IsSourced, AreEach}
+use Rattle.smi_names.specs.meaning.Scopes.{NamePlaces, place_in, known, decided_as, IsWithin, IsEntryOf}
+use Rattle.smi_names.specs.meaning.Names.{module_place, IsSourced, AreEach}
 use Rattle.smi_names.specs.declared.meaning.entry.Entry.{Entry}
 use Rattle.smi_names.proofs.Knowing.{same, known-append}
-
-or_else_none : {A : Type 0} (o : Option A) → or_else o None ≡ o
-or_else_none None = refl
-or_else_none (Some x) = refl
-
--- the name has a place already
-pub put_there : (scope : NamePlaces) (name : List ℕ) (p place : ℕ) → place_in scope name ≡ Some p → (x : List ℕ)
-    → place_in scope x ≡ or_else (place_in scope x) (cond (same_text name x) (Some place) None)
-put_there scope name p place there x = by (same_text name x) refl
-  where
-    by : (b : Bool) → same_text name x ≡ b → place_in scope x ≡ or_else (place_in scope x) (cond b (Some place) None)
-    by false e = sym (or_else_none (place_in scope x))
-    by true e = let at : place_in scope x ≡ Some p = rw (same name x e) at there in rw at refl
-
--- the name gets a place
-pub put_new : (scope new : NamePlaces) (name : List ℕ) (place : ℕ) → place_in scope name ≡ None
-    → ((x : List ℕ) → place_in new x ≡ cond (same_text name x) (Some place) (place_in scope x)) → (x : List ℕ)
-    → place_in new x ≡ or_else (place_in scope x) (cond (same_text name x) (Some place) None)
-put_new scope new name place none places x = places x ∙ by (same_text name x) refl
-  where
-    by : (b : Bool) → same_text name x ≡ b → cond b (Some place) (place_in scope x) ≡ or_else (place_in scope x) (cond b (Some place) None)
-    by false e = sym (or_else_none (place_in scope x))
-    by true e = let at : place_in scope x ≡ None = rw (same name x e) at none in rw at refl
 
 position-push : {A : Type 0} (t : A → Bool) (j : ℕ) (xs : List A) (y : A)
     → position_from t j (xs ++ y ∷ []) ≡ or_else (position_from t j xs) (cond (t y) (Some (j + length xs)) None)

@@ -4,10 +4,14 @@
 //! Stands on module trees and on identifiers. The tree of names keeps the nodes, and finds them.
 #![tactic(auto)]
 
+mod hash;
 mod links;
 mod meaning;
+mod name;
 mod nodes;
 
+pub use hash::NameHash;
 pub use links::{Basis, Resolution, ends, ordered, resolutions};
 pub use meaning::{Decider, Entries, Entry, Names, one_identifier};
+pub use name::{NameBuf, NameRef};
 pub use nodes::{Gathered, Source, Warning, gather_nodes, one_loading};

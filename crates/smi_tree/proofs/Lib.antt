@@ -1,4 +1,3 @@
-pub mod TextMap
 pub mod Listing
 pub mod Scoping
 pub mod Bridging

@@ -1,20 +1,11 @@
 -- Places in lists that grow, and places of names.
 use Rattle.std.proofs.Common.{◌≡◌, ℕ, zero, suc, ◌+◌, ◌<◌, Bool, true, false, cond, List, [], ◌∷◌, ◌++◌, length, take, get_or}
-use Rattle.std.proofs.Common.{Option, Some, None, is_some, refl, sym, ◌∙◌, arith}
+use Rattle.std.proofs.Common.{Option, Some, None, refl, sym, ◌∙◌, arith}
 use Rattle.std.proofs.lemmas.Slice.Eq.{bytes_eq-Decides}
 use Rattle.std.proofs.lemmas.List.{take_more, length-take-le}
 use Rattle.std.specs.List.{position_from}
 use Rattle.smi_text.specs.trees.Mark.{same_text}
 use Rattle.smi_names.specs.meaning.Meaning.{or_else}
-use Rattle.smi_tree.specs.Places.{Places, kept_place}
-
-pub none_of : {A : Type 0} (r : Option A) → is_some r ≡ false → r ≡ None
-none_of None e = refl
-none_of (Some p) e = cc
-
-pub some_of : {A : Type 0} (r : Option A) → is_some r ≡ true → (p : A) × (r ≡ Some p)
-some_of None e = cc
-some_of (Some p) e = (p, refl)
 
 pub or_else_none : {A : Type 0} (o : Option A) → or_else o None ≡ o
 or_else_none None = refl
@@ -53,21 +44,3 @@ same xs ys e = (bytes_eq-Decides xs ys).0 e
 
 pub same_itself : (xs : List ℕ) → same_text xs xs ≡ true
 same_itself xs = (bytes_eq-Decides xs xs).1 refl
-
--- a name that has a place keeps it
-pub put_there : (places : Places) (name : List ℕ) (p place : ℕ) → kept_place places name ≡ Some p → (x : List ℕ)
-    → kept_place places x ≡ or_else (kept_place places x) (cond (same_text name x) (Some place) None)
-put_there places name p place there x = by (same_text name x) refl
-  where
-    by : (b : Bool) → same_text name x ≡ b → kept_place places x ≡ or_else (kept_place places x) (cond b (Some place) None)
-    by false e = sym (or_else_none (kept_place places x))
-    by true e = let at : kept_place places x ≡ Some p = rw (same name x e) at there in rw at refl
-
-pub put_new : (old new : Places) (name : List ℕ) (place : ℕ) → kept_place old name ≡ None
-    → ((x : List ℕ) → kept_place new x ≡ cond (same_text name x) (Some place) (kept_place old x)) → (x : List ℕ)
-    → kept_place new x ≡ or_else (kept_place old x) (cond (same_text name x) (Some place) None)
-put_new old new name place none places x = places x ∙ by (same_text name x) refl
-  where
-    by : (b : Bool) → same_text name x ≡ b → cond b (Some place) (kept_place old x) ≡ or_else (kept_place old x) (cond b (Some place) None)
-    by false e = sym (or_else_none (kept_place old x))
-    by true e = let at : kept_place old x ≡ None = rw (same name x e) at none in rw at refl

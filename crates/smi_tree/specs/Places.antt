@@ -1,18 +1,17 @@
 -- Sources of nodes found by their names, and maps from names to places.
 use Rattle.std.specs.Prelude.{◌≡◌, ℕ, ◌==◌, ◌<◌, Bool, false, ◌&&◌}
 use Rattle.std.specs.Prelude.{List, [], length, Option, Some, None, if◌then◌else◌}
-use Rattle.std.specs.Global.{Vec}
 use Rattle.std.specs.List.{slice_get, position_from}
 use Rattle.std.specs.Option.{option_and_then}
-use Rattle.std.specs.Ordering.{nat_cmp}
-use Rattle.std.specs.BTreeMap.{BTreeMap, get_by}
-use Rattle.std.specs.Cmp.Lexicographic.{slice_cmp}
+use Rattle.std.specs.Str.{bytes_eq}
+use Rattle.indexmap.specs.IndexMap.{IndexMap, get}
 use Rattle.smi_text.specs.trees.Mark.{same_text}
 use Rattle.smi_text.specs.declared.trees.tree.Module.{Module}
 use Rattle.smi_text.specs.declared.trees.tree.Def.{Def}
 use Rattle.smi_names.specs.meaning.Meaning.{or_else}
 use Rattle.smi_names.specs.meaning.Names.{module_place}
 use Rattle.smi_names.specs.nodes.Gathered.{root_label, def_of_module}
+use Rattle.smi_names.specs.declared.hash.NameHash.{NameHash}
 use Rattle.smi_names.specs.declared.nodes.source.Source.{Source}
 use Rattle.smi_names.specs.declared.nodes.source.Source.TheVariants as S
 
@@ -38,11 +37,11 @@ has_label ms x s = same_text (label_from ms s) x
 
 -- names with their places
 abbrev pub Places : Type 0
-Places = BTreeMap (Vec ℕ) ℕ
+Places = IndexMap (List ℕ) ℕ NameHash
 
 -- the place of a name in a map
 abbrev pub kept_place : Places → List ℕ → Option ℕ
-kept_place places x = get_by (λ k. slice_cmp nat_cmp x k.items) places
+kept_place places x = get bytes_eq places x
 
 abbrev pub is_this : ℕ → Option ℕ → Bool
 is_this p None = false

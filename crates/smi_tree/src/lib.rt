@@ -23,5 +23,5 @@ pub use crate::types::{TypeBase, TypeSyntax, Types};
 pub use laws::{bare_tree, one_tree};
 pub use node::Node;
 pub use roots::Roots;
-pub use smi_names::Warning;
+pub use smi_names::{NameHash, Warning};
 pub use tree::{NodeId, Tree};

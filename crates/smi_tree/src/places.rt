@@ -1,7 +1,6 @@
 //! Nodes by their names: maps from names to places.
 //!
-//! Names come from files that others wrote, so the maps are ordered ones: no choice of names makes
-//! a look-up take longer than the logarithm of their number.
+//! Names come from files that others wrote, so the maps hash them by a key that those don't know.
 ghost use Rattle.std.specs.Prelude.{◌≡◌, ℕ, List, length, Some, None, IfOk, OnOk};
 ghost use Rattle.std.specs.Prelude.{if◌then◌else◌};
 ghost use Rattle.std.specs.List.{position_from};
@@ -12,13 +11,13 @@ ghost use Rattle.smi_tree.specs.Places as places;
 ghost use Rattle.smi_tree.specs.Places.{kept_place, AreEmpty, Puts, AreScopes};
 
 use crate::node::{home, label};
-use smi_names::Source;
+use indexmap::IndexMap;
+use smi_names::{NameBuf, NameHash, NameRef, Source};
 use smi_text::Module;
 use std::alloc::{AllocError, Global};
-use std::collections::BTreeMap;
 
 /// Names, each with its place.
-pub(crate) type Places = BTreeMap<Vec<u8>, usize>;
+pub(crate) type Places = IndexMap<NameBuf, usize, NameHash>;
 
 /// Gives a name a place, unless it has one.
 fn put_first(
@@ -30,10 +29,7 @@ fn put_first(
     ensures put { OnOk result ((x : List ℕ) → kept_place places.new x
         ≡ or_else (kept_place places.old x) (if same_text name.now x then Some place else None)) }
 {
-    if places.contains_key(name) {
-        return Ok(());
-    }
-    places.insert(Vec::from_slice(alloc, name)?, place)?;
+    places.entry(NameBuf::new(alloc, name)?)?.or_insert(place);
     Ok(())
 }
 
@@ -41,15 +37,15 @@ fn put_first(
 pub(crate) fn find(places: &Places, name: &[u8]) -> Option<usize>
     ensures { result ≡ kept_place places.now name.now }
 {
-    places.get(name).copied()
+    places.get(&NameRef::new(name)).copied()
 }
 
 /// The place of each module, by its name: the first of those that have it.
-pub(crate) fn homes(alloc: Global, modules: &[Module]) -> Result<Places, AllocError>
+pub(crate) fn homes(alloc: Global, hash: NameHash, modules: &[Module]) -> Result<Places, AllocError>
     ensures { IfOk result (λ homes. (x : List ℕ)
         → kept_place homes x ≡ module_place modules.now x) }
 {
-    let mut homes = BTreeMap::new(alloc);
+    let mut homes = IndexMap::with_hasher(alloc, hash);
     'modules: for (i, module) in modules.iter().enumerate() {
         put_first(alloc, &mut homes, module.name.as_bytes(), i)?;
     }
@@ -59,13 +55,14 @@ pub(crate) fn homes(alloc: Global, modules: &[Module]) -> Result<Places, AllocEr
 /// The first place of each label.
 pub(crate) fn labels(
     alloc: Global,
+    hash: NameHash,
     modules: &[Module],
     sources: &[Source],
 ) -> Result<Places, AllocError>
     ensures { IfOk result (λ labels. (x : List ℕ) → kept_place labels x
         ≡ position_from (places.has_label modules.now x) 0 sources.now) }
 {
-    let mut labels = BTreeMap::new(alloc);
+    let mut labels = IndexMap::with_hasher(alloc, hash);
     'sources: for (k, source) in sources.iter().enumerate() {
         put_first(alloc, &mut labels, label(modules, *source), k)?;
     }
@@ -73,12 +70,12 @@ pub(crate) fn labels(
 }
 
 /// This many maps without names.
-fn empty(alloc: Global, count: usize) -> Result<Vec<Places>, AllocError>
+fn empty(alloc: Global, hash: NameHash, count: usize) -> Result<Vec<Places>, AllocError>
     ensures { IfOk result (λ scopes. AreEmpty scopes.items count) }
 {
     let mut scopes = Vec::with_capacity(alloc, count)?;
     'count: for _i in 0..count {
-        scopes.push(BTreeMap::new(alloc))?;
+        scopes.push(IndexMap::with_hasher(alloc, hash))?;
     }
     Ok(scopes)
 }
@@ -109,6 +106,7 @@ fn put_in_module(
 /// The first place of each label in each module.
 pub(crate) fn scopes(
     alloc: Global,
+    hash: NameHash,
     modules: &[Module],
     homes: &Places,
     sources: &[Source],
@@ -116,7 +114,7 @@ pub(crate) fn scopes(
     requires { (x : List ℕ) → kept_place homes.now x ≡ module_place modules.now x }
     ensures { IfOk result (λ scopes. AreScopes modules.now sources.now scopes.items) }
 {
-    let mut scopes = empty(alloc, modules.len())?;
+    let mut scopes = empty(alloc, hash, modules.len())?;
     'sources: for (k, source) in sources.iter().enumerate() {
         put_in_module(alloc, &mut scopes, modules, homes, *source, k)?;
     }

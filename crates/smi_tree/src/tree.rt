@@ -21,7 +21,7 @@ use crate::node::{Node, at, definition, home, label};
 use crate::places::{Places, find, homes, labels, scopes};
 use crate::shown::{kept_syntaxes, syntax, units, value_syntax};
 use crate::types::{TypeSyntax, Types};
-use smi_names::{Names, Source, Warning, gather_nodes};
+use smi_names::{NameHash, Names, Source, Warning, gather_nodes};
 use smi_show::IndexPart;
 use smi_text::{Def, Module, Text};
 use smi_value::ValueSyntax;
@@ -80,10 +80,10 @@ struct Resolved {
 }
 
 /// What modules define, by what their names mean.
-fn resolve(alloc: Global, modules: &[Module]) -> Result<Resolved, AllocError>
+fn resolve(alloc: Global, hash: NameHash, modules: &[Module]) -> Result<Resolved, AllocError>
     ensures { IfOk result (λ resolved. IsResolved modules.now resolved) }
 {
-    let names = Names::new(alloc, modules)?;
+    let names = Names::new(alloc, hash, modules)?;
     let gathered = gather_nodes(alloc, &names, modules)?;
     let sources = gathered.sources;
     let identifiers = Identifiers::new(alloc, gathered.oids)?;
@@ -104,7 +104,11 @@ impl Tree {
     ///
     /// Names may refer to what stands later, in the same module or in another. A module whose name
     /// an earlier one has is left out.
-    pub fn load(alloc: Global, modules: Vec<Module>) -> Result<(Tree, Vec<Warning>), AllocError>
+    pub fn load(
+        alloc: Global,
+        hash: NameHash,
+        modules: Vec<Module>,
+    ) -> Result<(Tree, Vec<Warning>), AllocError>
         ensures { IfOk result (λ loaded. IsTree modules.items loaded.0 loaded.1.items) }
     {
         let Resolved {
@@ -113,10 +117,10 @@ impl Tree {
             types,
             indexes,
             warnings,
-        } = resolve(alloc, &modules)?;
-        let homes = homes(alloc, &modules)?;
-        let labels = labels(alloc, &modules, &sources)?;
-        let scopes = scopes(alloc, &modules, &homes, &sources)?;
+        } = resolve(alloc, hash, &modules)?;
+        let homes = homes(alloc, hash, &modules)?;
+        let labels = labels(alloc, hash, &modules, &sources)?;
+        let scopes = scopes(alloc, hash, &modules, &homes, &sources)?;
         let tree = Tree {
             modules,
             sources,

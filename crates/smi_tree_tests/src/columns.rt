@@ -3,7 +3,7 @@
 ghost use Rattle.std.specs.Prelude.{◌≡◌};
 
 use crate::reading::TINY;
-use smi_names::{Gathered, Names, Source, gather_nodes};
+use smi_names::{Gathered, NameHash, Names, Source, gather_nodes};
 use smi_show::{Extent, IndexPart};
 use smi_text::{Module, parse_modules};
 use smi_tree::{Identifiers, Indexes, Types};
@@ -68,7 +68,7 @@ fn first_wrong(
 /// The first wrong row over the modules of a text.
 fn wrong_row(alloc: Global, text: &[u8], rows: &[Row<'_>]) -> Result<Option<usize>, Fail> {
     let modules = parse_modules(alloc, text)?;
-    let names = Names::new(alloc, &modules)?;
+    let names = Names::new(alloc, NameHash::Fixed, &modules)?;
     wrong_row_by(alloc, &names, &modules, rows)
 }
 

@@ -1,7 +1,7 @@
 //! What names mean in modules that import from one another.
 
 use crate::reading::{comes_to, push_child};
-use smi_names::{Decider, Names};
+use smi_names::{Decider, NameHash, Names};
 use smi_text::{Module, parse_modules};
 use std::alloc::Global;
 use std::process::Abort;
@@ -96,7 +96,7 @@ fn names_resolve_in_their_modules(rt: HostRuntime) -> Result<(), Fail> {
 }
 
 fn assert_resolutions(rt: &impl Abort, alloc: Global, modules: &[Module]) -> Result<(), Fail> {
-    let names = Names::new(alloc, modules)?;
+    let names = Names::new(alloc, NameHash::Fixed, modules)?;
     assert!(rt; unresolved_row(&names, &RESOLUTIONS).is_none() && are_loaded(&names));
     Ok(())
 }
@@ -153,7 +153,7 @@ fn names_are_decided(rt: HostRuntime) -> Result<(), Fail> {
 }
 
 fn assert_decisions(rt: &impl Abort, alloc: Global, modules: &[Module]) -> Result<(), Fail> {
-    let names = Names::new(alloc, modules)?;
+    let names = Names::new(alloc, NameHash::Fixed, modules)?;
     assert!(rt; undecided_row(&names, &DECISIONS).is_none());
     Ok(())
 }
@@ -191,7 +191,7 @@ fn parents_in_text_up_to_128_numbers(rt: HostRuntime) -> Result<(), Fail> {
 }
 
 fn assert_nodes(rt: &impl Abort, alloc: Global, modules: &[Module]) -> Result<(), Fail> {
-    let names = Names::new(alloc, modules)?;
+    let names = Names::new(alloc, NameHash::Fixed, modules)?;
     assert!(rt; unresolved_row(&names, &LENGTHS).is_none());
     assert!(rt; !comes_to(names.resolution(b"A", b"x127"), "too long"));
     Ok(())

@@ -1,7 +1,7 @@
 //! The nodes of definitions, in order of loading.
 
 use crate::reading::oid;
-use smi_names::{Gathered, Names, Source, gather_nodes};
+use smi_names::{Gathered, NameHash, Names, Source, gather_nodes};
 use smi_text::{Module, parse_modules};
 use snmp_oid::Oid;
 use std::alloc::Global;
@@ -40,7 +40,7 @@ fn nodes_come_in_order_of_loading(rt: HostRuntime) -> Result<(), Fail> {
 }
 
 fn assert_nodes(rt: &impl Abort, alloc: Global, modules: &[Module]) -> Result<(), Fail> {
-    let names = Names::new(alloc, modules)?;
+    let names = Names::new(alloc, NameHash::Fixed, modules)?;
     let gathered = gather_nodes(alloc, &names, modules)?;
     assert_gathered(rt, &gathered)
 }

@@ -4,7 +4,7 @@ use crate::reading::{TINY, oid};
 use smi_show::{Letters, detail, line, name_text, resolve};
 use smi_show_tests::names::random_oid;
 use smi_text::parse_modules;
-use smi_tree::Tree;
+use smi_tree::{NameHash, Tree};
 use snmp_oid::Oid;
 use snmp_wire::ValueRef;
 use std::alloc::Global;
@@ -22,7 +22,8 @@ fn tiny(alloc: Global) -> Result<Tree, Fail> {
 }
 
 fn loaded(alloc: Global, text: &[u8]) -> Result<Tree, Fail> {
-    let (tree, _warnings) = Tree::load(alloc, parse_modules(alloc, text)?)?;
+    let modules = parse_modules(alloc, text)?;
+    let (tree, _warnings) = Tree::load(alloc, NameHash::Fixed, modules)?;
     Ok(tree)
 }
 

@@ -2,7 +2,7 @@
 
 use crate::reading::{oid, push_child};
 use smi_text::parse_modules;
-use smi_tree::{NodeId, Tree, Warning};
+use smi_tree::{NameHash, NodeId, Tree, Warning};
 use snmp_oid::Oid;
 use std::alloc::Global;
 use std::process::Abort;
@@ -54,7 +54,8 @@ struct Loaded {
 
 /// The tree of a text's modules.
 fn load(alloc: Global, text: &str) -> Result<Loaded, Fail> {
-    let (tree, warnings) = Tree::load(alloc, parse_modules(alloc, text.as_bytes())?)?;
+    let modules = parse_modules(alloc, text.as_bytes())?;
+    let (tree, warnings) = Tree::load(alloc, NameHash::Fixed, modules)?;
     Ok(Loaded { tree, warnings })
 }
 

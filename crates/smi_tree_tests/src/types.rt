@@ -3,7 +3,7 @@
 
 ghost use Rattle.smi_tree.specs.types.Kept.{AreTypesOf};
 
-use smi_names::Names;
+use smi_names::{NameHash, Names};
 use smi_text::{Module, NamedNumber, Range, parse_modules};
 use smi_tree::{TypeBase, TypeSyntax, Types};
 use std::alloc::Global;
@@ -130,7 +130,7 @@ fn wrong_row_from(
     first: usize,
     rows: &[Row<'_>],
 ) -> Result<Option<usize>, Fail> {
-    let names = Names::new(alloc, modules)?;
+    let names = Names::new(alloc, NameHash::Fixed, modules)?;
     let types = Types::new(alloc, &names, modules)?;
     Ok(first_wrong(modules, &types, first, rows))
 }
@@ -234,7 +234,7 @@ fn only_objects_have_a_syntax(rt: HostRuntime) -> Result<(), Fail> {
 }
 
 fn assert_objects(rt: &impl Abort, alloc: Global, modules: &[Module]) -> Result<(), Fail> {
-    let names = Names::new(alloc, modules)?;
+    let names = Names::new(alloc, NameHash::Fixed, modules)?;
     let types = Types::new(alloc, &names, modules)?;
     assert!(rt; first_object(modules, &types) == Some(BEFORE));
     assert!(rt; are_no_objects(modules, &types));

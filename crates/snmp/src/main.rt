@@ -8,6 +8,7 @@ use std::env::Env;
 use std::io::ErrorKind;
 use std::net::Net;
 use std::process::ExitCode;
+use std::random::RandomSource;
 use std::rt::Files;
 use std::{env, io};
 
@@ -23,7 +24,7 @@ fn main(rt: HostRuntime) -> ExitCode {
 
 fn run<R, O, E>(rt: &R, out: &mut O, err: &mut E) -> io::Result<u8>
 where
-    R: Env + Files + Net + AllocGlobal,
+    R: Env + Files + Net + RandomSource + AllocGlobal,
     O: Output,
     E: Output,
 {

@@ -2,18 +2,13 @@
 use Rattle.std.specs.Prelude.{◌≡◌, ℕ, List, length, Option, Some, unwrap_or, All}
 use Rattle.std.specs.List.{slice_get, position_from}
 use Rattle.std.specs.Option.{option_and_then}
-use Rattle.std.specs.Borrow.{Bor}
-use Rattle.std.specs.BTreeMap.{BTreeMap}
 use Rattle.smi_names.specs.links.Chain.{Origin, numbers, after, nowhere}
 use Rattle.smi_text.specs.trees.Mark.{same_text}
 use Rattle.smi_text.specs.declared.trees.tree.Module.{Module}
 use Rattle.smi_names.specs.meaning.Meaning.{QualifiedName, decision}
-use Rattle.smi_names.specs.meaning.Scopes.{place_in, known, decided_as, IsWithin, IsDefinedAt}
+use Rattle.smi_names.specs.meaning.Scopes.{NamePlaces, place_in, known, decided_as, IsWithin}
+use Rattle.smi_names.specs.meaning.Scopes.{IsDefinedAt}
 use Rattle.smi_names.specs.declared.meaning.entry.Entry.{Entry}
-
--- names with their places
-abbrev pub NamePlaces : Type 0
-NamePlaces = BTreeMap (Bor (List ℕ)) ℕ
 
 -- the place of a name of a module; a name without a meaning has the place past the last
 abbrev pub place_of_name : NamePlaces → List NamePlaces → ℕ → QualifiedName → ℕ

@@ -2,20 +2,23 @@
 use Rattle.std.specs.Prelude.{◌≡◌, ℕ, ◌<◌, List, ◌++◌, length, Option, Some, option_map, All}
 use Rattle.std.specs.List.{slice_get}
 use Rattle.std.specs.Option.{option_and_then}
-use Rattle.std.specs.Ordering.{nat_cmp}
-use Rattle.std.specs.Borrow.{Bor}
-use Rattle.std.specs.BTreeMap.{BTreeMap, get_by}
-use Rattle.std.specs.Cmp.Lexicographic.{slice_cmp}
+use Rattle.std.specs.Str.{bytes_eq}
+use Rattle.indexmap.specs.IndexMap.{IndexMap, get}
 use Rattle.smi_text.specs.declared.trees.tree.Module.{Module}
 use Rattle.smi_text.specs.declared.trees.tree.Def.{Def}
+use Rattle.smi_names.specs.declared.hash.NameHash.{NameHash}
 use Rattle.smi_names.specs.meaning.Meaning.{Decision, defined, imported, root, or_else}
 use Rattle.smi_names.specs.declared.meaning.entry.Decider.{Decider}
 use Rattle.smi_names.specs.declared.meaning.entry.Decider.TheVariants as D
 use Rattle.smi_names.specs.declared.meaning.entry.Entry.{Entry}
 
+-- names with their places
+abbrev pub NamePlaces : Type 0
+NamePlaces = IndexMap (List ℕ) ℕ NameHash
+
 -- the place of a name in a map
-abbrev pub place_in : BTreeMap (Bor (List ℕ)) ℕ → List ℕ → Option ℕ
-place_in scope x = get_by (λ k. slice_cmp nat_cmp x k.now) scope
+abbrev pub place_in : NamePlaces → List ℕ → Option ℕ
+place_in scope x = get bytes_eq scope x
 
 abbrev pub decision_of : Decider → Decision
 decision_of (D.Definition d) = defined d.now
@@ -32,14 +35,14 @@ abbrev pub content_of : Entry → Content
 content_of e = record { home = e.«module».now; name = e.name.now; decided = decision_of e.decider }
 
 -- what a scope knows of a name
-abbrev pub known : List Entry → BTreeMap (Bor (List ℕ)) ℕ → List ℕ → Option Content
+abbrev pub known : List Entry → NamePlaces → List ℕ → Option Content
 known entries scope x =
     option_and_then (λ p. option_map content_of (slice_get entries p)) (place_in scope x)
 
 abbrev pub decided_as : Module → List ℕ → Option Decision → Option Content
 decided_as m x d = option_map (λ v. record { home = m; name = x; decided = v }) d
 
-abbrev pub IsWithin : List Entry → BTreeMap (Bor (List ℕ)) ℕ → Type 0
+abbrev pub IsWithin : List Entry → NamePlaces → Type 0
 IsWithin entries scope = (x : List ℕ) (p : ℕ) → place_in scope x ≡ Some p → p < length entries
 
 -- a definition that decides stands in the module at the place that the entry states
@@ -52,8 +55,8 @@ abbrev pub IsEntryOf : Module → ℕ → Entry → Type 0
 IsEntryOf m i e = (e.«module».now ≡ m) × (e.source.0 ≡ i) × IsDefinedAt e
 
 -- the scope knows more: where it knew nothing, it has what `more` decides
-pub record KnowsMore (old : List Entry) (before : BTreeMap (Bor (List ℕ)) ℕ) (new : List Entry)
-    (scope : BTreeMap (Bor (List ℕ)) ℕ) (m : Module) (i : ℕ) (more : List ℕ
+pub record KnowsMore (old : List Entry) (before : NamePlaces) (new : List Entry)
+    (scope : NamePlaces) (m : Module) (i : ℕ) (more : List ℕ
     → Option Decision) : Type 0 where
   pub knows : (x : List ℕ)
       → known new scope x ≡ or_else (known old before x) (decided_as m x (more x))

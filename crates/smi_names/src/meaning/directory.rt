@@ -1,19 +1,19 @@
 //! The places of names: which entry a name of a module has, and what its numbers are based on.
-ghost use Rattle.std.specs.Prelude.{◌≡◌, ◌∷◌, ℕ, List, [], length, option_map, IfOk, OnOk, Some};
-ghost use Rattle.std.specs.Prelude.{None, if◌then◌else◌};
+ghost use Rattle.std.specs.Prelude.{◌≡◌, ◌∷◌, ℕ, List, [], length, option_map, IfOk, Some};
 ghost use Rattle.smi_names.specs.links.Basis.{origin_of};
-ghost use Rattle.smi_text.specs.trees.Mark.{same_text};
-ghost use Rattle.smi_names.specs.meaning.Meaning.{arcs as arcs_of, origin_by, origin_of_parts, or_else};
+ghost use Rattle.smi_names.specs.meaning.Meaning.{arcs as arcs_of, origin_by, origin_of_parts};
 ghost use Rattle.smi_names.specs.meaning.Scopes.{place_in, content_of};
 ghost use Rattle.smi_names.specs.meaning.Names.{AreEach, module_place, map_origin};
 ghost use Rattle.smi_names.specs.meaning.Directory.{place_by, place_of_entry, AreBases};
 
+use crate::hash::NameHash;
 use crate::links::Basis;
 use crate::meaning::entry::{Decider, Entry};
-use crate::meaning::scope::{NamePlaces, scope};
+use crate::meaning::scope::{NamePlaces, put_first, scope};
+use crate::name::NameRef;
+use indexmap::IndexMap;
 use smi_text::{Module, Part};
 use std::alloc::{AllocError, Global};
-use std::collections::BTreeMap;
 
 /// The modules and their names, each with its place.
 #[derive(Drop)]
@@ -23,30 +23,22 @@ pub(crate) struct Directory<'a> {
     pub(crate) entries: Vec<Entry<'a>>,
 }
 
-/// Gives a name a place, unless it has one.
-fn put_first<'a>(scope: &mut NamePlaces<'a>, name: &'a [u8], place: usize) -> Result<(), AllocError>
-    ensures put { OnOk result ((x : List ℕ) → place_in scope.new x
-        ≡ or_else (place_in scope.old x) (if same_text name.now x then Some place else None)) }
-{
-    if scope.contains_key(&name) {
-        return Ok(());
-    }
-    scope.insert(name, place)?;
-    Ok(())
-}
-
 /// The place of a name.
 pub(crate) fn find<'b>(scope: &NamePlaces<'b>, name: &'b [u8]) -> Option<usize>
     ensures { result ≡ place_in scope.now name.now }
 {
-    scope.get(&name).copied()
+    scope.get(&NameRef::new(name)).copied()
 }
 
 /// The place of each module, by its name: the first of those that have it.
-pub(crate) fn homes<'a>(alloc: Global, modules: &'a [Module]) -> Result<NamePlaces<'a>, AllocError>
+pub(crate) fn homes<'a>(
+    alloc: Global,
+    hash: NameHash,
+    modules: &'a [Module],
+) -> Result<NamePlaces<'a>, AllocError>
     ensures { IfOk result (λ homes. (x : List ℕ) → place_in homes x ≡ module_place modules.now x) }
 {
-    let mut homes = BTreeMap::new(alloc);
+    let mut homes = IndexMap::with_hasher(alloc, hash);
     'modules: for (i, module) in modules.iter().enumerate() {
         put_first(&mut homes, module.name.as_bytes(), i)?;
     }
@@ -56,6 +48,7 @@ pub(crate) fn homes<'a>(alloc: Global, modules: &'a [Module]) -> Result<NamePlac
 /// The names that have a meaning in each module, which are entered.
 pub(crate) fn scopes<'a>(
     alloc: Global,
+    hash: NameHash,
     entries: &mut Vec<Entry<'a>>,
     modules: &'a [Module],
 ) -> Result<Vec<NamePlaces<'a>>, AllocError>
@@ -64,7 +57,7 @@ pub(crate) fn scopes<'a>(
 {
     let mut scopes = Vec::new(alloc);
     'modules: for (i, module) in modules.iter().enumerate() {
-        let scope = scope(alloc, entries, module, i)?;
+        let scope = scope(alloc, hash, entries, module, i)?;
         scopes.push(scope)?;
     }
     Ok(scopes)

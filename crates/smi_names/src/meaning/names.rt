@@ -7,6 +7,7 @@ ghost use Rattle.smi_names.specs.meaning.Meaning.{origin, module_named, decision
 ghost use Rattle.smi_names.specs.meaning.Scopes.{decision_of};
 ghost use Rattle.smi_names.specs.meaning.Names.{module_place};
 
+use crate::hash::NameHash;
 use crate::links::{Resolution, resolutions};
 use crate::meaning::directory::{Directory, find, homes, scopes};
 use crate::meaning::entries::Entries;
@@ -39,13 +40,17 @@ impl<'a> Model for Names<'a> {
 
 impl<'a> Names<'a> {
     /// The names of these modules, each resolved once.
-    pub fn new(alloc: Global, modules: &'a [Module]) -> Result<Names<'a>, AllocError>
+    pub fn new(
+        alloc: Global,
+        hash: NameHash,
+        modules: &'a [Module],
+    ) -> Result<Names<'a>, AllocError>
         ensures { IfOk result (λ names. names ≡ modules.now) }
     {
         let mut entries = Vec::new(alloc);
-        let scopes = scopes(alloc, &mut entries, modules)?;
+        let scopes = scopes(alloc, hash, &mut entries, modules)?;
         let directory = Directory {
-            homes: homes(alloc, modules)?,
+            homes: homes(alloc, hash, modules)?,
             scopes,
             entries,
         };

@@ -1,21 +1,37 @@
 //! The names that have a meaning in a module.
 ghost use Rattle.std.specs.Prelude.{◌≡◌, ℕ, List, [], ◌∷◌, ◌++◌, Some, None, option_map, OnOk};
-ghost use Rattle.std.specs.Prelude.{IfOk, All, if◌then◌else◌};
+ghost use Rattle.std.specs.Prelude.{IfOk, All, if◌then◌else◌, unwrap_or};
 ghost use Rattle.smi_text.specs.trees.Lookup.{first_definition, first_import};
 ghost use Rattle.smi_text.specs.trees.Lookup as lookup;
 ghost use Rattle.smi_text.specs.trees.Mark.{same_text};
 ghost use Rattle.smi_names.specs.meaning.Meaning.{defined, imported, root, root_arc, decision};
+ghost use Rattle.smi_names.specs.meaning.Meaning.{or_else};
 ghost use Rattle.smi_names.specs.declared.meaning.entry.Entry.{Entry};
 ghost use Rattle.smi_names.specs.meaning.Scopes.{decision_of, decided_as, known, IsWithin, IsDefinedAt};
-ghost use Rattle.smi_names.specs.meaning.Scopes.{IsEntryOf, KnowsMore};
+ghost use Rattle.smi_names.specs.meaning.Scopes.{IsEntryOf, KnowsMore, place_in};
 
+use crate::hash::NameHash;
 use crate::meaning::entry::{Decider, Entry};
+use crate::name::NameRef;
+use indexmap::IndexMap;
 use smi_text::{Import, Module};
 use std::alloc::{AllocError, Global};
-use std::collections::BTreeMap;
 
 /// The names of a module, each with its place among the entries.
-pub(crate) type NamePlaces<'a> = BTreeMap<&'a [u8], usize>;
+pub(crate) type NamePlaces<'a> = IndexMap<NameRef<'a>, usize, NameHash>;
+
+/// The place of a name, which gets this one unless it has one.
+pub(crate) fn put_first<'a>(
+    scope: &mut NamePlaces<'a>,
+    name: &'a [u8],
+    place: usize,
+) -> Result<usize, AllocError>
+    ensures put { OnOk result ((x : List ℕ) → place_in scope.new x
+        ≡ or_else (place_in scope.old x) (if same_text name.now x then Some place else None)) }
+    ensures returned { IfOk result (λ p. p ≡ unwrap_or (place_in scope.old name.now) place) }
+{
+    Ok(*scope.entry(NameRef::new(name))?.or_insert(place))
+}
 
 /// Enters a name, unless it is there.
 fn enter<'a>(
@@ -30,12 +46,12 @@ fn enter<'a>(
         (λ x. if same_text entry.entry.name.now x then Some (decision_of entry.entry.decider)
         else None)) }
 {
-    if scope.contains_key(&entry.name) {
+    let place = entries.len();
+    let first = put_first(scope, entry.name, place)?;
+    if first < place {
         return Ok(());
     }
-    let place = entries.len();
     entries.push(entry)?;
-    scope.insert(entry.name, place)?;
     Ok(())
 }
 
@@ -158,6 +174,7 @@ pub fn import_clauses(module: &Module) -> &[Import]
 /// The names that have a meaning in a module, which are entered.
 pub(crate) fn scope<'a>(
     alloc: Global,
+    hash: NameHash,
     entries: &mut Vec<Entry<'a>>,
     module: &'a Module,
     place: usize,
@@ -169,7 +186,7 @@ pub(crate) fn scope<'a>(
         × (entries.new.items ≡ entries.old.items ++ added)
         × All (IsEntryOf «module».now place) added) }
 {
-    let mut scope = BTreeMap::new(alloc);
+    let mut scope = IndexMap::with_hasher(alloc, hash);
     enter_definitions(entries, &mut scope, module, place)?;
     enter_imports(entries, &mut scope, module, place, import_clauses(module))?;
     enter_roots(entries, &mut scope, module, place)?;

@@ -1,37 +1,31 @@
 -- The name is there, or is entered.
-use Rattle.std.proofs.Common.{rules, ◌≡◌, ℕ, true, false, [], ◌∷◌, ◌++◌, Option, Some, None, length, is_some, refl, ◌∙◌}
-use Rattle.std.proofs.lemmas.Map.Text.{btree_map_updates_str}
+use Rattle.std.proofs.Common.{rules, ◌≡◌, [], ◌∷◌, ◌++◌, length, refl}
 use Rattle.smi_names.specs.meaning.Scopes.{place_in, decision_of}
-use Rattle.smi_names.proofs.Knowing.{KnowsMore-there, KnowsMore-entered}
+use Rattle.smi_names.proofs.Knowing.{KnowsMore-there, KnowsMore-entered, had_place, had_none, put_absent}
 use Rattle.smi_names.proofs.meaning.scope.enter.Goals as goal
 
-some_of : (r : Option ℕ) → is_some r ≡ true → (p : ℕ) × (r ≡ Some p)
-some_of None e = cc
-some_of (Some p) e = (p, refl)
-
-none_of : (r : Option ℕ) → is_some r ≡ false → r ≡ None
-none_of None e = refl
-none_of (Some p) e = cc
-
-pub returns-then-contains_key : goal.returns-then-contains_key
-returns-then-contains_key c =
+pub returns-then-first-place : goal.returns-then-first-place
+returns-then-first-place c =
     let e = c.args.entry in
-    let there : is_some (place_in c.args.scope.now e.name.now) ≡ true = search rules in
-    let p = some_of (place_in c.args.scope.now e.name.now) there in
+    let p = c.in_ok-first.first in
+    let there = had_place (place_in c.args.scope.now e.name.now) p c.len-place.result c.in_ok-first.ensures.returned c.if-first-place.true in
     record {
-      entered = KnowsMore-there c.args.entries.now.items c.args.scope.now e.module.now e.source.0 c.requires.within e.name.now
-          (decision_of e.decider) p.0 p.1;
+      entered = KnowsMore-there c.args.entries.now.items c.args.scope.now e.module.now e.source.0 c.requires.within c.put_first.new.scope
+          e.name.now (decision_of e.decider) p c.len-place.result there c.in_ok-first.ensures.put;
     }
 
 pub returns : goal.returns
 returns c =
     let e = c.args.entry in
     let pushed : c.push.new.self.items ≡ c.args.entries.now.items ++ c.args.entry ∷ [] = search rules in
-    let absent : is_some (place_in c.args.scope.now e.name.now) ≡ false = search rules in
     let place : c.len-place.result ≡ length c.args.entries.now.items = search rules in
-    let none = none_of (place_in c.args.scope.now e.name.now) absent in
-    let places = btree_map_updates_str e.name.now c.args.scope.now c.insert.new.self _ c.in_ok-insert.ensures.updates in
+    let returned = rw place at c.in_ok-first.ensures.returned in
+    let put = rw place at c.in_ok-first.ensures.put in
+    let last = rw place at c.if-first-place.false in
+    let none = had_none (place_in c.args.scope.now e.name.now) c.in_ok-first.first (length c.args.entries.now.items) returned
+    (c.requires.within e.name.now) last in
+    let places = put_absent c.args.scope.now c.put_first.new.scope e.name.now (length c.args.entries.now.items) none put in
     rw pushed (record {
-      entered = KnowsMore-entered c.args.entries.now.items c.args.scope.now e.module.now e.source.0 c.requires.within c.insert.new.self e.name.now e none
-          (λ x. places x ∙ rw place refl) refl refl (refl, refl, c.requires.found);
+      entered = KnowsMore-entered c.args.entries.now.items c.args.scope.now e.module.now e.source.0 c.requires.within c.put_first.new.scope
+          e.name.now e none places refl refl (refl, refl, c.requires.found);
     })

@@ -6,7 +6,7 @@ use Rattle.smi_names.proofs.meaning.scope.scope.Goals as goal
 
 pub returns-clause-decided : goal.returns-clause-decided
 returns-clause-decided c = λ x.
-    let empty : place_in c.new-scope.result x ≡ None = rw c.new-scope.ensures.empty refl in
+    let empty : place_in c.with_hasher-scope.result x ≡ None = rw c.with_hasher-scope.ensures.empty refl in
     let first = c.in_ok-enter_definitions.ensures.entered in
     let clauses = c.import_clauses.ensures in
     let second = rw clauses at c.in_ok-enter_imports.ensures.entered in

@@ -1,0 +1,11 @@
+-- How names are hashed: by SipHash-1-3.
+use Rattle.std.specs.Hash.DefaultHasher as sip
+use Rattle.std.specs.RandomState.{initial_hasher}
+use Rattle.std.specs.declared.hash.DefaultHasher.{DefaultHasher}
+use Rattle.smi_names.specs.declared.hash.NameHash.{NameHash}
+use Rattle.smi_names.specs.declared.hash.NameHash.TheVariants as by
+
+-- a hasher with the key
+abbrev pub hasher_by : NameHash → DefaultHasher
+hasher_by (by.Keyed key) = initial_hasher key
+hasher_by by.Fixed = sip.initial

@@ -1,0 +1,7 @@
+-- Names as the keys of maps.
+use Rattle.std.specs.Prelude.{ℕ, List, [], ◌∷◌}
+use Rattle.std.specs.Hash.{HashWrites}
+
+-- what a name gives to a hasher: its octets, in one write
+abbrev pub name_writes : List ℕ → HashWrites
+name_writes octets = octets ∷ []
