@@ -5,7 +5,7 @@ use Rattle.std.specs.Str.{all_ascii_digits}
 use Rattle.std.proofs.lemmas.Bool.{leb-true, eqb-true}
 use Rattle.smi_text.specs.lexer.Lexeme.{is_word_octet, is_hyphen, begins, is_word_rest}
 use Rattle.smi_text.specs.trees.Word.{is_word}
-use Rattle.smi_show.specs.name.Cut.{is_quote}
+use Rattle.snmp_io.specs.Quotes.{is_quote}
 
 pub and_left : (a b : Bool) → (a && b) ≡ true → a ≡ true
 and_left true b h = refl

@@ -49,6 +49,9 @@ impl MemoryOutput {
 }
 
 impl Output for MemoryOutput {
+    ghost use Rattle.std.specs.Prelude.{◌<◌, ◌≤◌, ◌-◌, IfOk, IsErr, OnErr, OnOk, length, min, take};
+    ghost use Rattle.snmp_io.specs.Count.{HasRisen};
+
     ghost stream = { λ o. record { taken = Some o.octets; faults = o.faults } };
 
     ghost after = { λ o text. record {
@@ -57,7 +60,22 @@ impl Output for MemoryOutput {
       faults = o.faults;
     } };
 
-    fn write(&mut self, piece: &[u8]) -> Result<usize, OutputFault> {
+    /// Takes as much of `piece` as the limit leaves room for. That fails where it leaves none and
+    /// the piece isn't empty, and where memory runs out.
+    fn write(&mut self, piece: &[u8]) -> Result<usize, OutputFault>
+        ensures not_empty { IfOk result (λ n. 0 < length piece.now → 0 < n) }
+        ensures within_piece { IfOk result (λ n. n ≤ length piece.now) }
+        ensures all_that_fits { IfOk result (λ n.
+            n ≡ min (length piece.now) (self.old.limit - length self.old.octets)) }
+        ensures front_taken { IfOk result (λ n.
+            self.new.octets ≡ self.old.octets ++ take n piece.now) }
+        ensures no_fault_at_ok { OnOk result (self.new.faults ≡ self.old.faults) }
+        ensures none_taken_at_fault { OnErr result (self.new.octets ≡ self.old.octets) }
+        ensures fault_counted { OnErr result (HasRisen self.old.faults self.new.faults) }
+        ensures limit_kept { self.new.limit ≡ self.old.limit }
+        ensures fails_when_full { 0 < length piece.now → self.old.limit ≤ length self.old.octets
+            → IsErr result }
+    {
         let room = self.limit.saturating_sub(self.octets.len());
         let n = piece.len().min(room);
         if (n > 0 || piece.is_empty()) && self.octets.extend_from_slice(&piece[..n]).is_ok() {

@@ -1,5 +1,6 @@
 -- Which links are opened to agents in memory.
 use Rattle.std.specs.Prelude.{◌≡◌, ℕ, ◌==◌, ◌&&◌, List, [], ◌∷◌, Option, Some, None, find, length}
+use Rattle.std.specs.Prelude.{drop, map}
 use Rattle.std.specs.Borrow.{Bor}
 use Rattle.std.specs.Str.{bytes_eq}
 use Rattle.snmp_agent.specs.declared.server.Served.{Served}
@@ -32,6 +33,10 @@ abbrev pub BindsAt : List MemoryAgent → (requests : List (Bor (List ℕ))) →
     → (port : ℕ) → MemoryDoor → Type 0
 BindsAt agents requests host port door =
     (agent_at agents host port ≡ None) × (door.requests.now ≡ requests) × (door.used ≡ 0)
+
+-- the requests that are still to come at the door
+abbrev pub ahead_of : MemoryDoor → List (List ℕ)
+ahead_of door = map (λ request. request.now) (drop door.used door.requests.now)
 
 -- what the agent did by turns, in this many turns
 abbrev pub AreServed : Agent → (turns : ℕ) → Served → Type 0

@@ -129,11 +129,24 @@ pub struct MemoryDoor<'a> {
 }
 
 impl<'a> Endpoint for MemoryDoor<'a> {
-    ghost use Rattle.std.specs.Prelude.{None};
+    ghost use Rattle.std.specs.Prelude.{◌≡◌, ◌<◌, ◌≤◌, ℕ, List, [], ◌∷◌, length, take, None};
+    ghost use Rattle.std.specs.Prelude.{IfOk, IfSome, IfNone, OnErr};
+    ghost use Rattle.snmp_net.specs.Memory.{ahead_of};
 
     ghost log = { λ _. None };
 
-    fn receive(&mut self, buffer: &mut [u8]) -> Result<Option<usize>, EndpointFault> {
+    /// Receives the next request, and after the last nothing. One that is longer than the buffer is
+    /// a fault, and never comes.
+    fn receive(&mut self, buffer: &mut [u8]) -> Result<Option<usize>, EndpointFault>
+        ensures bound { IfOk result (λ received. IfSome received (λ n. n ≤ length buffer.new)) }
+        ensures next { IfOk result (λ received. IfSome received
+            (λ n. ahead_of self.old ≡ take n buffer.new ∷ ahead_of self.new)) }
+        ensures silent_after_the_last { IfOk result (λ received. IfNone received
+            ((ahead_of self.old ≡ []) × (ahead_of self.new ≡ []))) }
+        ensures skipped_where_too_long { OnErr result ((request : List ℕ)
+            × (ahead_of self.old ≡ request ∷ ahead_of self.new)
+            × (length buffer.old < length request)) }
+    {
         let Some(request) = self.requests.get(self.used) else {
             return Ok(None);
         };

@@ -1,9 +1,16 @@
 //! A link to an agent over UDP (RFC 3417, section 3).
-ghost use Rattle.std.specs.Prelude.{◌≡◌, ◌<◌, IfSome};
+ghost use Rattle.std.specs.Prelude.{◌≡◌, ◌<◌, IfSome, find, true};
+ghost use Rattle.std.specs.declared.net.ip_addr.IpAddr.{IpAddr};
+ghost use Rattle.std.specs.Net.Grammar.{IsIpText};
+ghost use Rattle.std.specs.Net.Addr.{is_ipv4};
+ghost use Rattle.std.specs.Net.Socket.{IsPlainSocket, socket_ip};
+ghost use Rattle.std.specs.Net.ToAddrs.{host_addrs};
 ghost use Rattle.snmp_io.specs.Count.{HasRisen};
 
 use snmp_walk::{Link, LinkFault};
+use std::array;
 use std::io::ErrorKind;
+use std::iter::Take;
 use std::net::{Net, SocketAddr, ToSocketAddrs, UdpSocket};
 use std::time::Duration;
 
@@ -97,9 +104,20 @@ impl Link for UdpLink {
     }
 }
 
-/// The first IPv4 address that the host has, with this port.
-pub(crate) fn first_address<N: Net>(net: &N, host: &str, port: u16) -> Option<SocketAddr> {
-    'addresses: for address in (host, port).to_socket_addrs(net).ok()? {
+/// The first IPv4 address that the host has, with this port. A word that spells an IPv4 address is
+/// that host.
+pub(crate) fn first_address<N: Net>(net: &N, host: &str, port: u16) -> Option<SocketAddr>
+    ensures { (ip : IpAddr) → IsIpText host.now ip → is_ipv4 ip ≡ true
+        → IfSome result (λ at. IsIpText host.now (socket_ip at) × IsPlainSocket at port) }
+{
+    first_ipv4((host, port).to_socket_addrs(net).ok()?)
+}
+
+/// The first of these addresses that is an IPv4 address.
+fn first_ipv4(addresses: Take<array::IntoIter<SocketAddr, 32>>) -> Option<SocketAddr>
+    ensures { result ≡ find (λ address. is_ipv4 (socket_ip address)) (host_addrs addresses) }
+{
+    'addresses: for address in addresses {
         if address.is_ipv4() {
             return Some(address);
         }

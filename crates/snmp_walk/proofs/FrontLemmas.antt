@@ -62,7 +62,7 @@ reads_as nothing w rows = goes_on w phase.Rows rows
 reads_as leaving w rows = closes w rows
 reads_as (falling name) w rows = stops w rows (walk_end.NotIncreasing (last_name w.asked rows) name)
 
-reads_by : (w : Walker) (bindings inside rows : List VarBind) (e : After) → EndsAs e rows inside bindings
+pub reads_by : (w : Walker) (bindings inside rows : List VarBind) (e : After) → EndsAs e rows inside bindings
     → (cond (nat_lt (length rows) (length inside)) (stops w rows (walk_end.NotIncreasing (last_name w.asked rows) (name_at inside (length rows))))
     (cond (nat_lt (length rows) (length bindings)) (closes w rows) (goes_on w phase.Rows rows)))
     ≡ reads_as e w rows

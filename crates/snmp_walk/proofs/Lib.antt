@@ -33,5 +33,6 @@ mod MissedLemmas
 pub mod GetLemmas
 pub mod GotLemmas
 pub mod LawLemmas
+mod JudgedLemmas
 pub mod GetEndLemmas
 pub mod GetFactLemmas

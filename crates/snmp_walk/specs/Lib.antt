@@ -6,6 +6,7 @@ pub mod Trail
 pub mod Walker
 pub mod Request
 pub mod Taken
+pub mod Judged
 pub mod Reading
 pub mod Standing
 pub mod Link

@@ -92,3 +92,11 @@ IsBroughtBy old octets new = (number : ℕ) × UsesDelivery old number new
 abbrev pub IsSilentBy : MemoryLink → MemoryLink → Type 0
 IsSilentBy old new = (number : ℕ) × UsesDelivery old number new
     × HasNoReplyOf (agents_of old) old.uses.now (traffic_of old).sent number
+
+-- A fault changes neither agents nor traffic nor which table replies to which datagram, and leaves
+-- the memory that was there.
+pub record IsAfterFault (old new : MemoryLink) : Type 0 where
+  pub agents : agents_of new ≡ agents_of old
+  pub uses : new.uses.now ≡ old.uses.now
+  pub traffic : traffic_of new ≡ traffic_of old
+  pub ready : (sends octets : ℕ) → IsReadyFor old sends octets → IsReadyFor new sends octets

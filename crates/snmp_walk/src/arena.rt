@@ -63,6 +63,8 @@ impl Arena {
     pub(crate) fn push(&mut self, datagram: &[u8]) -> Result<(), AllocError>
         ensures added { OnOk result (self.new.datagrams ≡ self.old.datagrams ++ datagram.now ∷ []) }
         ensures unchanged { OnErr result (self.new.datagrams ≡ self.old.datagrams) }
+        ensures kept { OnErr result
+            ((self.old.places ≤ self.new.places) × (self.old.room ≤ self.new.room)) }
         ensures ready { (s o : ℕ) → s + 1 ≤ self.old.places
             → o + length datagram.now ≤ self.old.room
             → IsOk result × (s ≤ self.new.places) × (o ≤ self.new.room) }

@@ -1,10 +1,13 @@
 //! Laws of walks, as calls that do nothing. A proof of a crate above calls them.
 ghost use Rattle.std.specs.Prelude.{◌≡◌, ◌≤◌, ◌++◌, ◌∷◌, ◌↔◌, ℕ, List, length};
 ghost use Rattle.snmp_oid.specs.Identifier.{IsWire, IsBelow, Precedes, wire};
-ghost use Rattle.snmp_wire.specs.Message.{VarBind};
+ghost use Rattle.snmp_wire.specs.Message.{Message, VarBind};
 ghost use Rattle.snmp_agent.specs.table.Table.{MibView, IsMibView, IsRow, IsGet};
 ghost use Rattle.snmp_agent.specs.table.Listing.{variables};
 ghost use Rattle.snmp_walk.specs.declared.mode.Mode.{Mode};
+ghost use Rattle.snmp_walk.specs.declared.rows.Step.{Step};
+ghost use Rattle.snmp_walk.specs.Judged.{Means, MeansBy};
+ghost use Rattle.snmp_walk.specs.Taken.{Takes, take_of};
 ghost use Rattle.snmp_walk.specs.Walk.{rows_below, walk_of, rest_of};
 ghost use Rattle.snmp_walk.specs.Codec.{Codec};
 ghost use Rattle.snmp_walk.specs.Link.{Agents, OneOf};
@@ -59,6 +62,18 @@ pub fn short_rows_have_room()
         → 1472 ≤ agents.max_size → length first.asked ≤ 128 → IsMibView view
         → ((p : VarBind) → IsRow view p → IsShort p.value) → HasRoomForEach agents view first }
 {}
+
+/// What a message means to a walk by the rules, said one by one in words of its names and bindings
+/// (`specs/Judged.antt`), is just what [`WalkCore::take`](crate::WalkCore::take) makes of it.
+pub fn messages_mean()
+    ensures found { (w : Walker) (m : Message) → Means w m (take_of w m).0 (take_of w m).1 }
+    ensures only { (w : Walker) (m : Message) (given : Step) (new : Walker)
+        → Means w m given new → (given ≡ (take_of w m).0) × (new ≡ (take_of w m).1) }
+    ensures taken { (w : Walker) (datagram : List ℕ) (given : Step) (new : Walker)
+        → Takes w datagram given new ↔ MeansBy w datagram given new }
+{
+    order();
+}
 
 /// What the crates below state of names, and of messages and their encodings.
 #[inline]

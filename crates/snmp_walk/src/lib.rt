@@ -21,7 +21,7 @@ mod walker;
 
 pub use end::{LinkFault, SinkFault, StartError, WalkEnd};
 pub use get::run_get;
-pub use laws::{instances_below, rest_of_a_walk, short_rows_have_room};
+pub use laws::{instances_below, messages_mean, rest_of_a_walk, short_rows_have_room};
 pub use link::Link;
 pub use memory::MemoryLink;
 pub use mode::{Method, Mode};

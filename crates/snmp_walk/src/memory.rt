@@ -93,6 +93,7 @@ impl<'a> MemoryLink<'a> {
     pub fn reserve(&mut self, sends: usize, octets: usize) -> Result<(), AllocError>
         ensures ready { OnOk result (IsReadyFor self.new sends octets) }
         ensures agents { agents_of self.new ≡ agents_of self.old }
+        ensures uses { self.new.uses.now ≡ self.old.uses.now }
         ensures traffic { traffic_of self.new ≡ traffic_of self.old }
         ensures no_fault { self.new.fault_count ≡ self.old.fault_count }
         ensures honest { IsHonest self.old → IsHonest self.new }
@@ -150,8 +151,12 @@ impl<'a> MemoryLink<'a> {
 }
 
 impl<'a> Link for MemoryLink<'a> {
+    ghost use Rattle.std.specs.Prelude.{◌≡◌, ◌<◌, ◌≤◌, [], ◌∷◌, length, take};
+    ghost use Rattle.std.specs.Prelude.{OnOk, OnErr, IsErr, IfOk, IfSome, IfNone};
     ghost use Rattle.snmp_walk.specs.Memory.{IsHonest, IsReadyFor, agents_of, traffic_of};
-    ghost use Rattle.snmp_walk.specs.Memory.{IsSentOver, IsBroughtBy, IsSilentBy};
+    ghost use Rattle.snmp_walk.specs.Memory.{IsSentOver, IsBroughtBy, IsSilentBy, IsAfterFault};
+    ghost use Rattle.snmp_walk.specs.Moves.{Moves};
+    ghost use Rattle.snmp_walk.specs.Traffic.{Receives, received};
 
     ghost keeps = { λ _. Unit {0} };
 
@@ -177,7 +182,16 @@ impl<'a> Link for MemoryLink<'a> {
 
     ghost lawful = { λ link h. h.lawful };
 
-    fn send(&mut self, datagram: &[u8]) -> Result<(), LinkFault> {
+    fn send(&mut self, datagram: &[u8]) -> Result<(), LinkFault>
+        ensures sends { OnOk result (IsSentOver self.old datagram.now self.new) }
+        ensures ahead { IsHonest self.old
+            → OnOk result ((traffic_of self.new).ahead ≡ (traffic_of self.old).ahead) }
+        ensures unchanged { OnErr result (traffic_of self.new ≡ traffic_of self.old) }
+        ensures moves { Moves (λ _. Unit {0}) IsHonest agents_of traffic_of
+            (λ link. link.fault_count) IsReadyFor self.old (datagram.now ∷ []) (IsErr result)
+            self.new }
+        ensures fault { OnErr result (IsAfterFault self.old self.new) }
+    {
         match self.arena.push(datagram) {
             Ok(()) => Ok(()),
             Err(_) => {
@@ -187,7 +201,22 @@ impl<'a> Link for MemoryLink<'a> {
         }
     }
 
-    fn receive(&mut self, buffer: &mut [u8]) -> Result<Option<usize>, LinkFault> {
+    fn receive(&mut self, buffer: &mut [u8]) -> Result<Option<usize>, LinkFault>
+        ensures length { IfOk result (λ got. IfSome got (λ n. n ≤ length buffer.old)) }
+        ensures brings { IfOk result (λ got. IfSome got
+            (λ n. IsBroughtBy self.old (take n buffer.new) self.new)) }
+        ensures silent { IfOk result (λ got. IfNone got (IsSilentBy self.old self.new)) }
+        ensures reply { IsHonest self.old → 65507 ≤ length buffer.old
+            → IfOk result (λ got. Receives (agents_of self.old) (traffic_of self.old).sent
+            (traffic_of self.old).ahead (received got buffer.new) (traffic_of self.new).ahead) }
+        ensures short { length buffer.old < 65507 → IsErr result }
+        ensures unchanged { OnErr result (traffic_of self.new ≡ traffic_of self.old) }
+        ensures moves { Moves (λ _. Unit {0}) IsHonest agents_of traffic_of
+            (λ link. link.fault_count)
+            (λ link sends octets. (65507 ≤ length buffer.old) × IsReadyFor link sends octets)
+            self.old [] (IsErr result) self.new }
+        ensures fault { OnErr result (IsAfterFault self.old self.new) }
+    {
         let Some(out) = buffer.first_chunk_mut::<65507>() else {
             self.fault_count = self.fault_count.saturating_add(1);
             return Err(LinkFault);

@@ -1,20 +1,8 @@
 -- A name as parts: it is cut at each dot outside quotes, and its module stands before the first
--- `::` outside quotes. A quote opens at any `"` or `'` outside quotes, also inside a part, and runs
--- to the next of its kind.
-use Rattle.std.specs.Prelude.{ℕ, Bool, true, false, ◌&&◌, ◌||◌, ◌==◌, if◌then◌else◌, List, [], ◌∷◌}
-use Rattle.std.specs.Prelude.{◌++◌, drop, Option, Some, None, option_map}
-
-abbrev pub is_quote : ℕ → Bool
-is_quote octet = octet == 34 || octet == 39
-
--- the quote that is open after one more octet
-abbrev pub open_after : Option ℕ → ℕ → Option ℕ
-open_after None octet = if is_quote octet then Some octet else None
-open_after (Some quote) octet = if octet == quote then None else Some quote
-
-abbrev pub is_unquoted : Option ℕ → Bool
-is_unquoted None = true
-is_unquoted (Some quote) = false
+-- `::` outside quotes. A quote may open inside a part.
+use Rattle.std.specs.Prelude.{ℕ, Bool, false, ◌&&◌, ◌==◌, if◌then◌else◌, List, [], ◌∷◌, ◌++◌, drop}
+use Rattle.std.specs.Prelude.{Option, Some, None, option_map}
+use Rattle.snmp_io.specs.Quotes.{is_unquoted, open_after}
 
 -- octets before the first of some parts
 abbrev pub with_prefix : List ℕ → List (List ℕ) → List (List ℕ)

@@ -4,6 +4,7 @@ use Rattle.std.specs.Prelude.{◌≡◌, ◌≢◌, ◌<◌, ◌≤◌, ◌⊎�
 use Rattle.std.specs.Prelude.{Option, Some, None, Result, Ok, Err}
 use Rattle.std.specs.Char.{is_ascii_digit}
 use Rattle.snmp_oid.specs.Numeric.{IsNumeral}
+use Rattle.snmp_io.specs.Quotes.{IsFrontOf}
 use Rattle.smi_show.specs.index.Pieces.{IsPiece, Piece, counted_text, piece_numbers, plain_number}
 use Rattle.smi_show.specs.index.Pieces.{plain_text, shown_piece}
 use Rattle.smi_show.specs.name.Cut.{module_after, name_parts}
@@ -107,3 +108,12 @@ TextMeans naming text result =
     ⊎ (((text ≡ 46 ∷ []) × (result ≡ Ok []))
     ⊎ ((text ≢ []) × (text ≢ 46 ∷ []) × ((scope : Scope) × (rest : List ℕ)
     × IsScoped text scope rest × ScopeMeans naming scope rest result)))
+
+-- what means what, for the front of a text: what stands before the first `stop` outside quotes,
+-- with its length
+abbrev pub FrontMeans : (means : List ℕ → Result (List ℕ) NameError → Type 0) → (stop : ℕ)
+    → (text : List ℕ) → Result (List ℕ × ℕ) NameError → Type 0
+FrontMeans means stop text (Ok (o, size)) = (front : List ℕ) × IsFrontOf stop text front
+    × means front (Ok o) × (size ≡ length front)
+FrontMeans means stop text (Err why) = (front : List ℕ) × IsFrontOf stop text front
+    × means front (Err why)

@@ -1,9 +1,10 @@
 //! A name cut at dots and at `::` outside quotes.
-ghost use Rattle.std.specs.Prelude.{◌≡◌, ◌∷◌, ◌++◌, ◌<◌, IfSome, None, length, option_map};
-ghost use Rattle.smi_show.specs.name.Cut.{name_parts, module_after, open_after, is_double_colon};
-ghost use Rattle.std.specs.Prelude.{◌&&◌};
-ghost use Rattle.smi_show.specs.name.Cut.{is_unquoted};
+ghost use Rattle.std.specs.Prelude.{◌≡◌, ◌&&◌, ◌∷◌, ◌++◌, ◌<◌, IfSome, None, length, option_map};
+ghost use Rattle.snmp_io.specs.Quotes.{is_unquoted};
+ghost use Rattle.smi_show.specs.name.Cut.{name_parts, module_after, is_double_colon};
 ghost use Rattle.smi_show.specs.name.Left.{parts_left};
+
+use snmp_io::open_after;
 
 /// The first part of a text, and what follows the dot that ends it, None if no dot does.
 pub fn cut_part(text: &[u8]) -> (&[u8], Option<&[u8]>)
@@ -49,17 +50,5 @@ fn is_double_colon(text: &[u8]) -> bool
     match text {
         [first, second, ..] => *first == b':' && *second == b':',
         _ => false,
-    }
-}
-
-/// The quote that is open after one more octet.
-fn open_after(before: Option<u8>, octet: u8) -> Option<u8>
-    ensures { result ≡ open_after before octet }
-{
-    match before {
-        None if octet == b'"' || octet == b'\'' => Some(octet),
-        None => None,
-        Some(quote) if octet == quote => None,
-        Some(quote) => Some(quote),
     }
 }

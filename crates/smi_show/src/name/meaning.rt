@@ -8,7 +8,7 @@ ghost use Rattle.smi_show.specs.name.Left.{parts_left};
 ghost use Rattle.smi_show.specs.name.Meaning.{further_meaning, head_meaning, meaning, part_meaning};
 ghost use Rattle.smi_show.specs.name.Meaning.{found_in, or_unknown, parts_meaning, plain_meaning};
 ghost use Rattle.smi_show.specs.name.Meaning.{scoped_meaning};
-ghost use Rattle.smi_show.specs.name.Meant.{TextMeans};
+ghost use Rattle.smi_show.specs.name.Meant.{FrontMeans, TextMeans};
 ghost use Rattle.smi_show.specs.name.Name.{IsName, ReadsBack};
 ghost use Rattle.smi_show.specs.name.Part.{scope_in};
 
@@ -19,6 +19,7 @@ use crate::name::piece::with_piece;
 use crate::name::scope::Scope;
 use crate::name::word::Part;
 use crate::name::{NameError, NameTree};
+use snmp_io::unquoted_front;
 use snmp_oid::{Oid, names};
 
 /// The identifier that a name means, or the first fault from the left. Does not allocate.
@@ -39,6 +40,25 @@ pub fn resolve<T: NameTree>(tree: &T, text: &[u8]) -> Result<Oid, NameError>
     names();
     pieces_stand_for_numbers();
     meaning_of(tree, text)
+}
+
+/// The identifier that the front of a text means, and the front's length, or the first fault: what
+/// stands before the first `stop` outside quotes, or the whole text where there is none, by
+/// [`crate::name::resolve`]. Does not allocate.
+pub fn resolve_front<T: NameTree>(
+    tree: &T,
+    text: &[u8],
+    stop: u8,
+) -> Result<(Oid, usize), NameError>
+    ensures stated { FrontMeans (TextMeans (T.naming tree.now)) stop text.now result }
+    ensures meant { FrontMeans (λ front found. found ≡ meaning (T.naming tree.now) front)
+        stop text.now result }
+{
+    let front = unquoted_front(text, stop);
+    match resolve(tree, front) {
+        Ok(oid) => Ok((oid, front.len())),
+        Err(fault) => Err(fault),
+    }
 }
 
 /// What `resolve` returns.

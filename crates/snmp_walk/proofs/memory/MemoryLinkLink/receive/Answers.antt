@@ -81,3 +81,11 @@ returns-clause-silent c =
     (record { agents = same.agents; uses = ap (λ u. u.now) same.uses; sent = ap (λ (s : Store). s.datagrams) same.arena; next = same.number })
     (as_before (λ a u sent. IfNone c.reply_to.result (HasNoReplyOf a u sent c.next_number-number.result)) (agents_of self) (agents_of later)
     self.uses.now later.uses.now self.arena later.arena same.agents (ap (λ u. u.now) same.uses) same.arena c.reply_to.ensures.none)
+
+pub returns-in_default-clause-fault : goal.returns-in_default-clause-fault
+returns-in_default-clause-fault c = record {
+  agents = refl;
+  uses = refl;
+  traffic = refl;
+  ready = λ s o r. record { places = r.places; room = r.room };
+}

@@ -34,3 +34,14 @@ returns-in-Err-clause-moves c = record {
   fault = λ f. search rules;
   ready = λ s o r. absurd (never_good _ _ c.in-Err.is (c.push.ensures.ready s o (omega (arith, r.places)) (omega (arith, r.room))).0);
 }
+
+pub returns-in-Err-clause-fault : goal.returns-in-Err-clause-fault
+returns-in-Err-clause-fault c = record {
+  agents = refl;
+  uses = refl;
+  traffic = search rules;
+  ready = λ s o r. record {
+    places = omega (arith, r.places, c.in-Err.ensures.kept);
+    room = omega (arith, r.room, c.in-Err.ensures.kept);
+  };
+}

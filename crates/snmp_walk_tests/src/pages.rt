@@ -1,0 +1,105 @@
+//! Walks over tables of several pages.
+
+use crate::runs::{ROOT, public, walk_ends, walk_of};
+use snmp_agent::Table;
+use snmp_walk::{MemoryLink, Method, Mode, Sink, SinkFault, WalkEnd};
+use snmp_wire::{Binding, ValueRef};
+use std::alloc::{AllocError, Global};
+use std::process::Abort;
+
+/// Counts the rows of the numbers from 0 on that come in order, and everything else.
+#[derive(Drop)]
+struct Numbers {
+    next: u32,
+    others: u32,
+}
+
+/// Whether the binding is the row of the number, with its number.
+fn is_row(binding: &Binding<'_>, number: u32) -> bool {
+    let name = binding.name.as_slice();
+    name.len() == 9
+        && name[8] == number
+        && matches!(binding.value, ValueRef::Counter32(held) if held == number)
+}
+
+impl Sink for Numbers {
+    ghost takes = { λ _ _ _ _. Unit {0} };
+
+    fn row(&mut self, binding: &Binding<'_>) -> Result<(), SinkFault> {
+        if is_row(binding, self.next) {
+            self.next = self.next.wrapping_add(1);
+        } else {
+            self.others = self.others.wrapping_add(1);
+        }
+        Ok(())
+    }
+}
+
+/// The text of `count` rows, of numbers that go up by `step` and from 0 on again at the count.
+fn rows_of(alloc: Global, count: u32, step: u32) -> Result<Vec<u8>, AllocError> {
+    let mut text = Vec::new(alloc);
+    let mut number: u32 = 0;
+    for _ in 0..count {
+        let line = format!(in alloc; "1.3.6.1.4.1.32473.1.{number}|65|{number}\n")?;
+        text.extend_from_slice(line.as_bytes())?;
+        number = number.wrapping_add(step) % count.max(1);
+    }
+    Ok(text)
+}
+
+/// Whether a walk over such rows gives each of them once, in order, and nothing else. Where there
+/// are none, it gives the exception of the root.
+fn is_walked(
+    rt: &impl Abort,
+    alloc: Global,
+    table: &Table,
+    count: u32,
+    method: Method,
+    size: usize,
+) -> bool {
+    let core = walk_of(rt, ROOT, Mode::Plain, method, 1);
+    let mut link = MemoryLink::new(alloc, table, public(size), &[]);
+    let mut numbers = Numbers { next: 0, others: 0 };
+    let end = WalkEnd::Done(u64::from(count.max(1)));
+    walk_ends(&mut link, core, 0, &mut numbers, &end)
+        && numbers.next == count
+        && numbers.others == u32::from(count == 0)
+}
+
+/// Walks by each of the methods, at several sizes of messages, give the rows of a table of `count`
+/// of them.
+fn assert_walked(rt: &impl Abort, alloc: Global, count: u32, step: u32, methods: &[Method]) {
+    let text = rows_of(alloc, count, step).expect(rt, "memory for rows");
+    let table = Table::read(alloc, &text).expect(rt, "a table");
+    for &size in &[134, 1472, 65507] {
+        for &method in methods {
+            assert!(rt;
+                is_walked(rt, alloc, &table, count, method, size),
+                "{count} rows by {step} in messages of {size} octets"
+            );
+        }
+    }
+}
+
+#[test]
+fn tables_around_the_size_of_a_page_are_walked_in_order(rt: HostRuntime) {
+    let methods = [Method::Next, Method::Bulk(50)];
+    // A step that has no factor in common with a count comes to each number once.
+    for &count in &[0, 1, 255, 256, 257, 512, 513] {
+        assert_walked(&rt, rt.alloc(), count, 1, &methods);
+        assert_walked(&rt, rt.alloc(), count, 101, &methods);
+    }
+}
+
+#[test]
+fn a_table_of_many_pages_is_walked_by_get_bulk(rt: HostRuntime) {
+    assert_walked(&rt, rt.alloc(), 10000, 1, &[Method::Bulk(50)]);
+    assert_walked(&rt, rt.alloc(), 10000, 7919, &[Method::Bulk(50)]);
+}
+
+#[test]
+fn a_table_of_many_pages_is_walked_by_get_next(rt: HostRuntime) {
+    // A request for each row: a tenth of the rows, so that the test ends in time unoptimized too.
+    assert_walked(&rt, rt.alloc(), 1000, 1, &[Method::Next]);
+    assert_walked(&rt, rt.alloc(), 1000, 7919, &[Method::Next]);
+}
