@@ -47,6 +47,16 @@ static void put_number(int32_t number) {
     put(content, sizeof content);
 }
 
+// Eight names, from 1.3.6.1.4.1.32473.1.128 on by 64: each stands for a column of a table.
+static void put_columns(void) {
+    for (char column = 0; column < 8; column++) {
+        char name[] = "\x2B\x06\x01\x04\x01\x81\xFD\x59\x01\x81\x00";
+        name[9] = (char)(0x81 + column / 2);
+        name[10] = (char)(column % 2 * 64);
+        put_bindings(name, 11, 1);
+    }
+}
+
 // 1.3.6.1.4.1.32473.1.500, in the middle of a table of 1,000 rows; a name before each row, and one after.
 static const char MIDDLE[] = "\x2B\x06\x01\x04\x01\x81\xFD\x59\x01\x83\x74";
 static const char BEFORE[] = "\x2B\x06\x01\x04\x01\x81\xFD\x59\x00";
@@ -72,6 +82,8 @@ static void build(const char *kind) {
         memcpy(name, BEFORE, 9);
         for (size_t i = 0; i < 120; i++) memcpy(name + 9 + 5 * i, "\x8F\xFF\xFF\xFF\x7F", 5);
         put_bindings(name, sizeof name, 100);
+    } else if (!strcmp(kind, "columns")) {
+        put_columns();
     } else {
         put_bindings(MIDDLE, 11, 1);
     }

@@ -1,8 +1,10 @@
 -- Facts about texts that are cut at a bar.
-use Rattle.std.proofs.Common.{◌≡◌, ◌≢◌, ℕ, List, [], ◌∷◌, ◌++◌, refl, ◌∙◌, ap}
+use Rattle.std.proofs.Common.{◌≡◌, ◌≢◌, ℕ, List, [], ◌∷◌, ◌++◌, refl, sym, ◌∙◌, ap}
 use Rattle.std.specs.List.{All}
 use Rattle.std.proofs.lemmas.List.Elements.{All-head, All-tail}
-use Rattle.snmp_agent.specs.table.Text.{bar}
+use Rattle.snmp_io.specs.QuoteLaws.{cut_once}
+use Rattle.snmp_io.specs.Quotes.{IsCut}
+use Rattle.snmp_agent.specs.table.Format.{Format, EndsAtBar, bar, first_format, second_format}
 
 -- no bar stands in the text
 abbrev pub HasNoBar : List ℕ → Type 0
@@ -32,3 +34,13 @@ same_cut (x ∷ front) back (y ∷ other) behind h k e =
     let first : x ≡ y = cc in
     let later = same_cut front back other behind (tail_of x front h) (tail_of y other k) rest in
     (ap (λ (o : ℕ). o ∷ front) first ∙ ap (λ (os : List ℕ). y ∷ os) later.0, later.1)
+
+-- one end of a name
+pub same_end : (format : Format) (name back other behind : List ℕ) → EndsAtBar format name → EndsAtBar format other
+    → name ++ bar ∷ back ≡ other ++ bar ∷ behind → (name ≡ other) × (back ≡ behind)
+same_end first_format name back other behind h k e = same_cut name back other behind h k e
+same_end (second_format names) name back other behind h k e =
+    let cut : IsCut bar (name ++ bar ∷ back) name back = record { parts = refl; outside = h.0; first = h.1 } in
+    let again : IsCut bar (name ++ bar ∷ back) other behind = record { parts = e; outside = k.0; first = k.1 } in
+    let same = cut_once bar (name ++ bar ∷ back) name back other behind cut again in
+    (sym same.0, sym same.1)

@@ -8,55 +8,64 @@ use Rattle.snmp_agent.specs.declared.table.error.TableError.{TableError}
 use Rattle.snmp_agent.specs.declared.table.error.TableError.TheVariants as error
 use Rattle.snmp_agent.specs.table.Form.{IsObjectText, IsInstanceText, IsBadLine, IsBadName, IsBadValue}
 use Rattle.snmp_agent.specs.table.Text.{AreTable, DifferInName, IsGoodLine, IsValueText, a_blank, a_prefix, a_row}
-use Rattle.snmp_agent.specs.table.Stated.{IsFirstFault}
+use Rattle.snmp_agent.specs.table.Format.{Format, IsFormat, Names}
+use Rattle.snmp_agent.specs.table.Stated.{IsFirstFault, IsFirstFaultIn, IsTableOf}
+use Rattle.snmp_agent.specs.table.Table.{MibView}
+use Rattle.snmp_agent.proofs.Unique.{one_format}
 use Rattle.snmp_agent.proofs.Statements.{blank_no_object, row_form, same_object, same_rows}
 
-good_line : (line : List ℕ) → IsGoodLine line → IsBadLine line → ⊥
-good_line line (a_blank h) bad = bad.not_blank h
-good_line line (a_prefix object h) bad = bad.no_object h.0 h.1
-good_line line (a_row p h) bad = bad.no_row h.name h.tag h.text (row_form line p h)
+good_line : (format : Format) (line : List ℕ) → IsGoodLine format line → IsBadLine format line → ⊥
+good_line format line (a_blank h) bad = bad.not_blank h
+good_line format line (a_prefix object h) bad = bad.no_object h.0 h.1
+good_line format line (a_row p h) bad = bad.no_row h.name h.tag h.text (row_form format line p h)
 
-good_name : (line : List ℕ) → IsGoodLine line → IsBadName line → ⊥
-good_name line (a_blank h) (inl bad) = blank_no_object line bad.0 h bad.1
-good_name line (a_blank h) (inr bad) = bad.3.not_blank h
-good_name line (a_prefix o h) (inl bad) = bad.2 o (subst (λ (t : List ℕ). IsObjectText t o) (same_object line h.0 bad.0 h.1 bad.1) (h.2, h.3))
-good_name line (a_prefix o h) (inr bad) = bad.3.no_object h.0 h.1
-good_name line (a_row p h) (inl bad) = (row_form line p h).no_object bad.0 bad.1
-good_name line (a_row p h) (inr bad) =
-    let same = same_rows line bad.0 bad.1 bad.2 h.name h.tag h.text bad.3 (row_form line p h) in
-    bad.4 p.name (subst (λ (n : List ℕ). IsInstanceText n p.name) same.0 (h.named, h.instance_name))
+good_name : (format : Format) (line : List ℕ) → IsGoodLine format line → IsBadName format line → ⊥
+good_name format line (a_blank h) (inl bad) = blank_no_object line bad.0 h bad.1
+good_name format line (a_blank h) (inr bad) = bad.3.not_blank h
+good_name format line (a_prefix o h) (inl bad) = bad.2 o (subst (λ (t : List ℕ). IsObjectText format t o) (same_object line h.0 bad.0 h.1 bad.1) (h.2, h.3))
+good_name format line (a_prefix o h) (inr bad) = bad.3.no_object h.0 h.1
+good_name format line (a_row p h) (inl bad) = (row_form format line p h).no_object bad.0 bad.1
+good_name format line (a_row p h) (inr bad) =
+    let same = same_rows format line bad.0 bad.1 bad.2 h.name h.tag h.text bad.3 (row_form format line p h) in
+    bad.4 p.name (subst (λ (n : List ℕ). IsInstanceText format n p.name) same.0 (h.named, h.instance_name))
 
-good_value : (line : List ℕ) → IsGoodLine line → IsBadValue line → ⊥
-good_value line (a_blank h) bad = bad.3.not_blank h
-good_value line (a_prefix o h) bad = bad.3.no_object h.0 h.1
-good_value line (a_row p h) bad =
-    let same = same_rows line bad.0 bad.1 bad.2 h.name h.tag h.text bad.3 (row_form line p h) in
-    bad.5 p.value (subst (λ (t : List ℕ). IsValueText bad.1 t p.value) same.2 (subst (λ (t : List ℕ). IsValueText t h.text p.value) same.1 h.valued))
+good_value : (format : Format) (line : List ℕ) → IsGoodLine format line → IsBadValue format line → ⊥
+good_value format line (a_blank h) bad = bad.3.not_blank h
+good_value format line (a_prefix o h) bad = bad.3.no_object h.0 h.1
+good_value format line (a_row p h) bad =
+    let same = same_rows format line bad.0 bad.1 bad.2 h.name h.tag h.text bad.3 (row_form format line p h) in
+    bad.5 p.value (subst (λ (t : List ℕ). IsValueText format bad.1 t p.value) same.2 (subst (λ (t : List ℕ). IsValueText format t h.text p.value) same.1 h.valued))
 
-pub line_good : (front : List (List ℕ)) (line : List ℕ) (back : List (List ℕ)) → All IsGoodLine (front ++ line ∷ back) → IsGoodLine line
-line_good front line back h =
-    All-contains IsGoodLine (front ++ line ∷ back) line h (Contains-append_right front (line ∷ back) line (0, omega arith, refl))
+pub line_good : (format : Format) (front : List (List ℕ)) (line : List ℕ) (back : List (List ℕ)) → All (IsGoodLine format) (front ++ line ∷ back) → IsGoodLine format line
+line_good format front line back h =
+    All-contains (IsGoodLine format) (front ++ line ∷ back) line h (Contains-append_right front (line ∷ back) line (0, omega arith, refl))
 
 -- a line and one before it
-pub earlier_differs : (front : List (List ℕ)) (line : List ℕ) (back : List (List ℕ)) (other : List ℕ) → AllPairs DifferInName (front ++ line ∷ back)
-    → Contains front other → DifferInName other line
-earlier_differs front line back other h at =
+pub earlier_differs : (format : Format) (front : List (List ℕ)) (line : List ℕ) (back : List (List ℕ)) (other : List ℕ) → AllPairs (DifferInName format) (front ++ line ∷ back)
+    → Contains front other → DifferInName format other line
+earlier_differs format front line back other h at =
     let low : length front < length (front ++ line ∷ back) = omega (arith, length-append front (line ∷ back)) in
     let here = h at.0 (length front) other at.1 low in
-    let P : List ℕ → Type 0 = λ l. DifferInName other l in
-    let Q : List ℕ → Type 0 = λ l. DifferInName l (get_or (front ++ line ∷ back) (length front) other) in
+    let P : List ℕ → Type 0 = λ l. DifferInName format other l in
+    let Q : List ℕ → Type 0 = λ l. DifferInName format l (get_or (front ++ line ∷ back) (length front) other) in
     subst P (get_or-append_seam front line back other) (subst Q (get_or-append front (line ∷ back) other at.0 at.1 ∙ at.2) here)
 
-pub no_fault : (lines : List (List ℕ)) (fault : TableError) → AreTable lines → IsFirstFault lines fault → fault ≡ error.Memory
-no_fault lines (error.BadLine n) good h =
-    absurd (good_line h.1 (line_good h.0 h.1 h.2.back (subst (λ ls. All IsGoodLine ls) h.2.parts good.each)) h.3)
-no_fault lines (error.BadName n) good h =
-    absurd (good_name h.1 (line_good h.0 h.1 h.2.back (subst (λ ls. All IsGoodLine ls) h.2.parts good.each)) h.3)
-no_fault lines (error.BadValue n) good h =
-    absurd (good_value h.1 (line_good h.0 h.1 h.2.back (subst (λ ls. All IsGoodLine ls) h.2.parts good.each)) h.3)
-no_fault lines (error.Double n) good h =
-    let pairs = subst (λ ls. AllPairs DifferInName ls) h.2.parts good.differ in
+no_fault_in : (format : Format) (lines : List (List ℕ)) (fault : TableError) → AreTable format lines → IsFirstFaultIn format lines fault → fault ≡ error.Memory
+no_fault_in format lines (error.BadLine n) good h =
+    absurd (good_line format h.1 (line_good format h.0 h.1 h.2.back (subst (λ ls. All (IsGoodLine format) ls) h.2.parts good.each)) h.3)
+no_fault_in format lines (error.BadName n) good h =
+    absurd (good_name format h.1 (line_good format h.0 h.1 h.2.back (subst (λ ls. All (IsGoodLine format) ls) h.2.parts good.each)) h.3)
+no_fault_in format lines (error.BadValue n) good h =
+    absurd (good_value format h.1 (line_good format h.0 h.1 h.2.back (subst (λ ls. All (IsGoodLine format) ls) h.2.parts good.each)) h.3)
+no_fault_in format lines (error.Double n) good h =
+    let pairs = subst (λ ls. AllPairs (DifferInName format) ls) h.2.parts good.differ in
     let double = h.3 in
     let earlier = double.3 in
-    absurd (earlier_differs h.0 h.1 h.2.back earlier.0 pairs earlier.1 double.1 double.0 earlier.2 double.2 double.4)
-no_fault lines error.Memory good h = refl
+    absurd (earlier_differs format h.0 h.1 h.2.back earlier.0 pairs earlier.1 double.1 double.0 earlier.2 double.2 double.4)
+no_fault_in format lines error.Memory good h = refl
+
+pub no_fault : (names : Names) (lines : List (List ℕ)) (view : MibView) (fault : TableError) → IsTableOf names lines view → IsFirstFault names lines fault
+    → fault ≡ error.Memory
+no_fault names lines view fault table first =
+    let P : Format → Type 0 = λ f. IsFirstFaultIn f lines fault in
+    no_fault_in table.0 lines fault table.2.good (subst P (one_format names lines table.0 first.0 table.1 first.1) first.2)

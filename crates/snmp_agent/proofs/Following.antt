@@ -106,6 +106,10 @@ module _ (order : IsOrder) where
 
 -- ---- rows behind a name
 
+-- the first of them is a variable
+pub first_row : (view : MibView) (o : List ℕ) (e : List ℕ × Datum) (es : List (List ℕ × Datum)) → AreBehind view o (e ∷ es) → IsRow view (var_of e)
+first_row view o e es h = h.1.found e.0 ∙ find-listed e (h.0 ++ e ∷ es) h.1.rising (listed_in_second e h.0 (e ∷ es) (inl refl))
+
 pub behind_first : (view : MibView) (o : List ℕ) (e : List ℕ × Datum) (es : List (List ℕ × Datum)) → AreBehind view o (e ∷ es) → AreBehind view e.0 es
 behind_first view o e es h = (h.0 ++ e ∷ [], past view o h.0 es e h.1)
 

@@ -1,4 +1,5 @@
 pub mod ServerTurns
+pub mod Standing
 pub mod Answers
 pub mod Encodings
 pub mod OneReply
@@ -17,6 +18,7 @@ pub mod TableDrafts
 pub mod Each
 pub mod Faultless
 pub mod Finding
+pub mod Formats
 pub mod Keeping
 pub mod Made
 pub mod OneStatement

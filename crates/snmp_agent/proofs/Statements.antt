@@ -1,5 +1,5 @@
 -- Facts about what lines state.
-use Rattle.std.proofs.Common.{◌≡◌, ℕ, ◌^◌, ◌<◌, inl, inr, Bool, true, false, ◌&&◌, ◌||◌, eqb, List, [], ◌∷◌, ◌++◌, Result, Ok, Err, IfOk, refl, sym, ◌∙◌, ap}
+use Rattle.std.proofs.Common.{◌≡◌, ℕ, ◌^◌, ◌<◌, inl, inr, Bool, true, false, ◌&&◌, ◌||◌, eqb, List, [], ◌∷◌, ◌++◌, Result, Ok, Err, IfErr, IfOk, refl, sym, ◌∙◌, ap}
 use Rattle.std.proofs.Common.{subst, append_assoc, arith, codes}
 use Rattle.std.specs.Char.{is_ascii_digit}
 use Rattle.std.specs.List.{All}
@@ -15,11 +15,13 @@ use Rattle.snmp_agent.specs.declared.table.value.Tag.TheVariants as tag
 use Rattle.snmp_agent.specs.declared.table.line.Line.{Line}
 use Rattle.snmp_agent.specs.declared.table.line.Line.TheVariants as line
 use Rattle.snmp_agent.specs.declared.table.line.LineFault.{LineFault}
+use Rattle.snmp_agent.specs.declared.table.line.LineFault.TheVariants as fault
 use Rattle.snmp_agent.specs.table.Row.{tag_text}
-use Rattle.snmp_agent.specs.table.Form.{States, IsTag, IsObjectForm, IsRowForm}
-use Rattle.snmp_agent.specs.table.Text.{bar, IsBlank, IsRowLine, IsValueText}
-use Rattle.snmp_agent.specs.table.Line.{statement_of, IsObjectRead, IsInstanceRead}
-use Rattle.snmp_agent.proofs.Cuts.{HasNoBar, no_cut, same_cut}
+use Rattle.snmp_agent.specs.table.Form.{States, IsTag, IsRowForm}
+use Rattle.snmp_agent.specs.table.Format.{Format, EndsAtBar, HasNoEnd, bar}
+use Rattle.snmp_agent.specs.table.Text.{IsBlank, IsObjectForm, IsRowLine, IsValueText}
+use Rattle.snmp_agent.specs.table.Line.{statement_of, IsInstanceRead, IsLineFault, IsObjectRead}
+use Rattle.snmp_agent.proofs.Cuts.{HasNoBar, no_cut, same_cut, same_end}
 
 -- ---- first octets
 
@@ -27,35 +29,6 @@ use Rattle.snmp_agent.proofs.Cuts.{HasNoBar, no_cut, same_cut}
 abbrev first_of : List ℕ → ℕ
 first_of [] = 0
 first_of (octet ∷ more) = octet
-
--- a numeric name may begin with it
-abbrev begins_name : ℕ → Bool
-begins_name octet = is_ascii_digit octet || eqb octet 46
-
-first_true : (a b : Bool) → (a && b) ≡ true → a ≡ true
-first_true true b h = refl
-first_true false b h = h
-
-front_begins : (front rest : List ℕ) → begins_name (first_of front) ≡ true → begins_name (first_of (front ++ rest)) ≡ true
-front_begins [] rest h = let no : false ≡ true = h in absurd (cc)
-front_begins (octet ∷ front) rest h = h
-
-numeral_begins : (text : List ℕ) (n : ℕ) → IsNumeral text n → begins_name (first_of text) ≡ true
-numeral_begins [] n h = absurd (h.some refl)
-numeral_begins (octet ∷ text) n h =
-    let digit : is_ascii_digit octet ≡ true = first_true (is_ascii_digit octet) (all_ascii_digits text) h.digits in
-    ap (λ b. b || eqb octet 46) digit
-
-dotted_begins : (text o : List ℕ) → IsDotted text o → begins_name (first_of text) ≡ true
-dotted_begins text [] h = absurd h
-dotted_begins text (n ∷ []) h = numeral_begins text n h
-dotted_begins text (n ∷ m ∷ o) h =
-    subst (λ (t : List ℕ). begins_name (first_of t) ≡ true) (sym h.2) (front_begins h.0 (dot ∷ h.1) (numeral_begins h.0 n h.3))
-
-name_begins : (text o : List ℕ) → IsNumericName text o → begins_name (first_of text) ≡ true
-name_begins text o (inl h) = subst (λ (t : List ℕ). begins_name (first_of t) ≡ true) (sym h.0) refl
-name_begins text o (inr (inl h)) = dotted_begins text o h
-name_begins text o (inr (inr h)) = subst (λ (t : List ℕ). begins_name (first_of t) ≡ true) (sym h.1) refl
 
 pub blank_no_object : (l text : List ℕ) → IsBlank l → IsObjectForm l text → ⊥
 blank_no_object l text (inl e) f = let no : 0 ≡ 111 = ap first_of (sym e ∙ f) in omega (arith, no)
@@ -87,74 +60,63 @@ tag_known tag.TimeTicks = (7, omega arith, refl)
 tag_known tag.HexOpaque = (8, omega arith, refl)
 tag_known tag.Counter64 = (9, omega arith, refl)
 
-tag_stated : (t text : List ℕ) (v : Datum) → IsValueText t text v → IsTag t
-tag_stated t text (integer_value z) h = (0, omega arith, sym h.0)
-tag_stated t text (octet_string octets) h = elim h.0 [ inl here ↦ (1, omega arith, sym here.0) | inr here ↦ (2, omega arith, sym here.0) ]
-tag_stated t text null_value h = absurd h
-tag_stated t text (object_id o) h = (3, omega arith, sym h.0)
-tag_stated t text (ip_address octets) h = (4, omega arith, sym h.0)
-tag_stated t text (counter32 n) h = (5, omega arith, sym h.0)
-tag_stated t text (gauge32 n) h = (6, omega arith, sym h.0)
-tag_stated t text (time_ticks n) h = (7, omega arith, sym h.0)
-tag_stated t text (opaque_octets octets) h = (8, omega arith, sym h.0)
-tag_stated t text (counter64 n) h = (9, omega arith, sym h.0)
-tag_stated t text no_such_object h = absurd h
-tag_stated t text no_such_instance h = absurd h
-tag_stated t text end_of_mib_view h = absurd h
-
-row_begins : (l : List ℕ) (p : VarBind) → IsRowLine l p → begins_name (first_of l) ≡ true
-row_begins l p h =
-    let whole : l ≡ h.name ++ bar ∷ (h.tag ++ bar ∷ h.text) = h.parts ∙ append_assoc h.name (bar ∷ h.tag) (bar ∷ h.text) in
-    subst (λ (t : List ℕ). begins_name (first_of t) ≡ true) (sym whole)
-    (front_begins h.name (bar ∷ (h.tag ++ bar ∷ h.text)) (name_begins h.name p.name h.named.named))
-
-begins_otherwise : (l other : List ℕ) → begins_name (first_of l) ≡ true → begins_name (first_of other) ≡ false → l ≡ other → ⊥
-begins_otherwise l other begins never e = let same : begins_name (first_of l) ≡ begins_name (first_of other) = ap (λ (t : List ℕ). begins_name (first_of t)) e in
-    let wrong : true ≡ false = sym begins ∙ same ∙ never in absurd (cc)
+tag_stated : (format : Format) (t text : List ℕ) (v : Datum) → IsValueText format t text v → IsTag t
+tag_stated format t text (integer_value z) h = (0, omega arith, sym h.0)
+tag_stated format t text (octet_string octets) h = elim h.0 [ inl here ↦ (1, omega arith, sym here.0) | inr here ↦ (2, omega arith, sym here.0) ]
+tag_stated format t text null_value h = absurd h
+tag_stated format t text (object_id o) h = (3, omega arith, sym h.0)
+tag_stated format t text (ip_address octets) h = (4, omega arith, sym h.0)
+tag_stated format t text (counter32 n) h = (5, omega arith, sym h.0)
+tag_stated format t text (gauge32 n) h = (6, omega arith, sym h.0)
+tag_stated format t text (time_ticks n) h = (7, omega arith, sym h.0)
+tag_stated format t text (opaque_octets octets) h = (8, omega arith, sym h.0)
+tag_stated format t text (counter64 n) h = (9, omega arith, sym h.0)
+tag_stated format t text no_such_object h = absurd h
+tag_stated format t text no_such_instance h = absurd h
+tag_stated format t text end_of_mib_view h = absurd h
 
 -- a row's line has the form of one
-pub row_form : (l : List ℕ) (p : VarBind) (h : IsRowLine l p) → IsRowForm l h.name h.tag h.text
-row_form l p h = record {
-  not_blank = λ blank. elim blank [
-    | inl e ↦ begins_otherwise l [] (row_begins l p h) refl e
-    | inr e ↦ begins_otherwise l (codes "#" ++ e.0) (row_begins l p h) refl e.1
-  ];
-  no_object = λ text e. begins_otherwise l (codes "object " ++ text) (row_begins l p h) refl e;
+pub row_form : (format : Format) (l : List ℕ) (p : VarBind) (h : IsRowLine format l p) → IsRowForm format l h.name h.tag h.text
+row_form format l p h = record {
+  not_blank = h.not_blank;
+  no_object = h.no_object;
   parts = h.parts;
   name_ends = h.name_ends;
   tag_ends = h.tag_ends;
-  known = tag_stated h.tag h.text p.value h.valued;
+  known = tag_stated format h.tag h.text p.value h.valued;
 }
 
 -- the first cut of a row's line
-first_cut : (l name tag text : List ℕ) → IsRowForm l name tag text → l ≡ name ++ bar ∷ (tag ++ bar ∷ text)
-first_cut l name tag text h = h.parts ∙ append_assoc name (bar ∷ tag) (bar ∷ text)
+first_cut : (format : Format) (l name tag text : List ℕ) → IsRowForm format l name tag text → l ≡ name ++ bar ∷ (tag ++ bar ∷ text)
+first_cut format l name tag text h = h.parts ∙ append_assoc name (bar ∷ tag) (bar ∷ text)
 
-pub no_row_without_bar : (l name tag text : List ℕ) → HasNoBar l → IsRowForm l name tag text → ⊥
-no_row_without_bar l name tag text none h = no_cut l name (tag ++ bar ∷ text) none (first_cut l name tag text h)
+pub no_row_without_bar : (format : Format) (l name tag text : List ℕ) → HasNoEnd format l → IsRowForm format l name tag text → ⊥
+no_row_without_bar format l name tag text none h = none name (tag ++ bar ∷ text) (first_cut format l name tag text h) h.name_ends
 
--- what stands behind the first bar
-behind_first : (l front behind name tag text : List ℕ) → l ≡ front ++ bar ∷ behind → HasNoBar front → IsRowForm l name tag text
+-- what stands behind the bar that ends the name
+behind_first : (format : Format) (l front behind name tag text : List ℕ) → l ≡ front ++ bar ∷ behind → EndsAtBar format front → IsRowForm format l name tag text
     → (name ≡ front) × (tag ++ bar ∷ text ≡ behind)
-behind_first l front behind name tag text e none h = same_cut name (tag ++ bar ∷ text) front behind h.name_ends none (sym (first_cut l name tag text h) ∙ e)
+behind_first format l front behind name tag text e ends h =
+    same_end format name (tag ++ bar ∷ text) front behind h.name_ends ends (sym (first_cut format l name tag text h) ∙ e)
 
-pub no_row_with_one_bar : (l front behind name tag text : List ℕ) → l ≡ front ++ bar ∷ behind → HasNoBar front → HasNoBar behind → IsRowForm l name tag text → ⊥
-no_row_with_one_bar l front behind name tag text e none none_behind h =
-    no_cut behind tag text none_behind (sym (behind_first l front behind name tag text e none h).1)
+pub no_row_with_one_bar : (format : Format) (l front behind name tag text : List ℕ) → l ≡ front ++ bar ∷ behind → EndsAtBar format front → HasNoBar behind
+    → IsRowForm format l name tag text → ⊥
+no_row_with_one_bar format l front behind name tag text e ends none_behind h =
+    no_cut behind tag text none_behind (sym (behind_first format l front behind name tag text e ends h).1)
 
 -- the parts of a row's line
-pub same_parts : (l front behind middle back name tag text : List ℕ) → l ≡ front ++ bar ∷ behind → HasNoBar front → behind ≡ middle ++ bar ∷ back
-    → HasNoBar middle → IsRowForm l name tag text
+pub same_parts : (format : Format) (l front behind middle back name tag text : List ℕ) → l ≡ front ++ bar ∷ behind → EndsAtBar format front → behind ≡ middle ++ bar ∷ back
+    → HasNoBar middle → IsRowForm format l name tag text
     → (name ≡ front) × (tag ≡ middle) × (text ≡ back)
-same_parts l front behind middle back name tag text e none f none_middle h =
-    let first = behind_first l front behind name tag text e none h in
+same_parts format l front behind middle back name tag text e none f none_middle h =
+    let first = behind_first format l front behind name tag text e none h in
     let second = same_cut tag text middle back h.tag_ends none_middle (first.1 ∙ f) in
     (first.0, second.0, second.1)
 
-pub same_rows : (l name tag text name2 tag2 text2 : List ℕ) → IsRowForm l name tag text → IsRowForm l name2 tag2 text2
+pub same_rows : (format : Format) (l name tag text name2 tag2 text2 : List ℕ) → IsRowForm format l name tag text → IsRowForm format l name2 tag2 text2
     → (name2 ≡ name) × (tag2 ≡ tag) × (text2 ≡ text)
-same_rows l name tag text name2 tag2 text2 h k = same_parts l name (tag ++ bar ∷ text) tag text name2 tag2 text2
-    (first_cut l name tag text h) h.name_ends refl h.tag_ends k
+same_rows format l name tag text name2 tag2 text2 h k = same_parts format l name (tag ++ bar ∷ text) tag text name2 tag2 text2
+    (first_cut format l name tag text h) h.name_ends refl h.tag_ends k
 
 -- the cuts of a line, put together
 pub row_parts : (l front behind middle back tag : List ℕ) → l ≡ front ++ bar ∷ behind → behind ≡ middle ++ bar ∷ back → middle ≡ tag
@@ -164,16 +126,18 @@ row_parts l front behind middle back tag e f g =
 
 -- ---- what a line states
 
-pub object_states : (l text : List ℕ) → IsObjectForm l text → (r : Result Line LineFault) → IsObjectRead text r
-    → IfOk r (λ stated. States l (statement_of stated))
-object_states l text e (Ok (line.Object numbers)) h = (text, e, h.0, h.1)
-object_states l text e (Ok line.Nothing) h = absurd h
-object_states l text e (Ok (line.Instance row)) h = absurd h
-object_states l text e (Err fault) h = tt
+pub object_states : (format : Format) (l text : List ℕ) → IsObjectForm l text → (r : Result Line LineFault) → IsObjectRead format text r
+    → IfOk r (λ stated. States format l (statement_of stated))
+object_states format l text e (Ok (line.Object numbers)) h = (text, e, h.0, h.1)
+object_states format l text e (Ok line.Nothing) h = absurd h
+object_states format l text e (Ok (line.Instance row)) h = absurd h
+object_states format l text e (Err why) h = tt
 
-pub row_states : (l name tag text : List ℕ) → IsRowForm l name tag text → (r : Result Line LineFault) → IsInstanceRead name tag text r
-    → IfOk r (λ stated. States l (statement_of stated))
-row_states l name tag text e (Ok (line.Instance row)) h = record {
+pub row_states : (format : Format) (l name tag text : List ℕ) → IsRowForm format l name tag text → (r : Result Line LineFault) → IsInstanceRead format name tag text r
+    → IfOk r (λ stated. States format l (statement_of stated))
+row_states format l name tag text e (Ok (line.Instance row)) h = record {
+  not_blank = e.not_blank;
+  no_object = e.no_object;
   name = name;
   tag = tag;
   text = text;
@@ -184,9 +148,17 @@ row_states l name tag text e (Ok (line.Instance row)) h = record {
   instance_name = h.0.1;
   valued = h.1;
 }
-row_states l name tag text e (Ok line.Nothing) h = absurd h
-row_states l name tag text e (Ok (line.Object numbers)) h = absurd h
-row_states l name tag text e (Err fault) h = tt
+row_states format l name tag text e (Ok line.Nothing) h = absurd h
+row_states format l name tag text e (Ok (line.Object numbers)) h = absurd h
+row_states format l name tag text e (Err why) h = tt
+
+pub row_faults : (format : Format) (l name tag text : List ℕ) → IsRowForm format l name tag text → (r : Result Line LineFault)
+    → IsInstanceRead format name tag text r → IfErr r (IsLineFault format l)
+row_faults format l name tag text e (Ok stated) h = tt
+row_faults format l name tag text e (Err fault.Line) h = absurd h
+row_faults format l name tag text e (Err fault.Name) h = inr (name, tag, text, e, h)
+row_faults format l name tag text e (Err fault.Value) h = (name, tag, text, e, h.0, h.1)
+row_faults format l name tag text e (Err fault.Memory) h = tt
 
 pub same_object : (l a b : List ℕ) → IsObjectForm l a → IsObjectForm l b → a ≡ b
 same_object l a b e f = append_cancel_left (codes "object ") a b (sym e ∙ f)

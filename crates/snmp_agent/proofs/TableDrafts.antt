@@ -15,9 +15,10 @@ use Rattle.snmp_wire.specs.Message.{Datum, VarBind}
 use Rattle.snmp_agent.specs.declared.table.draft.Draft.{Draft}
 use Rattle.snmp_agent.specs.declared.table.error.TableError.{TableError}
 use Rattle.snmp_agent.specs.declared.table.error.TableError.TheVariants as error
+use Rattle.snmp_agent.specs.table.Format.{Format}
 use Rattle.snmp_agent.specs.table.Form.{Statement, nothing, object_prefix, instance, States}
 use Rattle.snmp_agent.specs.table.Text.{AreTable, DifferInName, HasRow, IsGoodLine, IsRowLine, a_blank, a_prefix, a_row}
-use Rattle.snmp_agent.specs.table.Stated.{IsDouble, IsBehindGood, IsFirstFault}
+use Rattle.snmp_agent.specs.table.Stated.{IsDouble, IsBehindGood, IsFirstFaultIn}
 use Rattle.snmp_agent.specs.table.Draft.{HoldsTable, IsDraft, IsFaultBehind}
 use Rattle.snmp_agent.proofs.OneStatement.{StatesOnly}
 use Rattle.snmp_agent.proofs.Rising.{same_name}
@@ -25,91 +26,96 @@ use Rattle.snmp_agent.proofs.Rising.{same_name}
 -- ---- one more line
 
 -- one of the lines states it: of an instance `HasRow`, of an object prefix `HasPrefix`
-abbrev IsStated : List (List ℕ) → Statement → Type 0
-IsStated lines s = (line : List ℕ) × Contains lines line × States line s
+abbrev IsStated : Format → List (List ℕ) → Statement → Type 0
+IsStated format lines s = (line : List ℕ) × Contains lines line × States format line s
 
-stated_before : (before : List (List ℕ)) (line : List ℕ) (s : Statement) → IsStated before s → IsStated (before ++ line ∷ []) s
-stated_before before line s h = (h.0, Contains-append_left before (line ∷ []) h.0 h.1, h.2)
+stated_before : (format : Format) (before : List (List ℕ)) (line : List ℕ) (s : Statement) → IsStated format before s → IsStated format (before ++ line ∷ []) s
+stated_before format before line s h = (h.0, Contains-append_left before (line ∷ []) h.0 h.1, h.2)
 
-stated_now : (before : List (List ℕ)) (line : List ℕ) (s : Statement) → States line s → IsStated (before ++ line ∷ []) s
-stated_now before line s h = (line, Contains-append_right before (line ∷ []) line (0, omega arith, refl), h)
+stated_now : (format : Format) (before : List (List ℕ)) (line : List ℕ) (s : Statement) → States format line s → IsStated format (before ++ line ∷ []) s
+stated_now format before line s h = (line, Contains-append_right before (line ∷ []) line (0, omega arith, refl), h)
 
 the_only : (line other : List ℕ) (k : ℕ) → k < length (line ∷ []) → get_or (line ∷ []) k other ≡ other → other ≡ line
 the_only line other zero low at = sym at
 the_only line other (suc k) low at = absurd (omega arith)
 
-stated_either : (before : List (List ℕ)) (line : List ℕ) (s : Statement) → IsStated (before ++ line ∷ []) s → IsStated before s ⊎ States line s
-stated_either before line s h =
+stated_either : (format : Format) (before : List (List ℕ)) (line : List ℕ) (s : Statement) → IsStated format (before ++ line ∷ []) s → IsStated format before s ⊎ States format line s
+stated_either format before line s h =
     elim (Contains-append_cases before (line ∷ []) h.0 h.1) [
       | inl old ↦ inl (h.0, old, h.2)
-      | inr new ↦ inr (subst (λ (l : List ℕ). States l s) (the_only line h.0 new.0 new.1 new.2) h.2)
+      | inr new ↦ inr (subst (λ (l : List ℕ). States format l s) (the_only line h.0 new.0 new.1 new.2) h.2)
     ]
 
-good_statement : (line : List ℕ) (s : Statement) → States line s → IsGoodLine line
-good_statement line nothing h = a_blank h
-good_statement line (object_prefix object) h = a_prefix object h
-good_statement line (instance row) h = a_row row h
+good_statement : (format : Format) (line : List ℕ) (s : Statement) → States format line s → IsGoodLine format line
+good_statement format line nothing h = a_blank h
+good_statement format line (object_prefix object) h = a_prefix object h
+good_statement format line (instance row) h = a_row row h
 
-good_more : (before : List (List ℕ)) (line : List ℕ) (s : Statement) → AreTable before → States line s
-    → ((p : VarBind) → IsRowLine line p → (q : VarBind) → HasRow before q → q.name ≡ p.name → ⊥) → AreTable (before ++ line ∷ [])
-good_more before line s h states fresh = record {
-  each = All-append IsGoodLine before (line ∷ []) h.each (All-cons IsGoodLine line [] (good_statement line s states) (All-nil IsGoodLine));
-  differ = all_pairs_push DifferInName before line h.differ
+good_more : (format : Format) (before : List (List ℕ)) (line : List ℕ) (s : Statement) → AreTable format before → States format line s
+    → ((p : VarBind) → IsRowLine format line p → (q : VarBind) → HasRow format before q → q.name ≡ p.name → ⊥) → AreTable format (before ++ line ∷ [])
+good_more format before line s h states fresh = record {
+  each = All-append (IsGoodLine format) before (line ∷ []) h.each (All-cons (IsGoodLine format) line [] (good_statement format line s states) (All-nil (IsGoodLine format)));
+  differ = all_pairs_push (DifferInName format) before line h.differ
       (λ k d low row other is_row is_other. fresh other is_other row (get_or before k d, All-contains_itself before k d low, is_row));
 }
 
 -- a draft of no lines
-pub holds_none : HoldsTable [] [] []
-holds_none = record {
-  good = record { each = All-nil IsGoodLine; differ = λ i j d before within. absurd (omega (arith, before, within)) };
+pub holds_none : (format : Format) → HoldsTable format [] [] []
+holds_none format = record {
+  good = record { each = All-nil (IsGoodLine format); differ = λ i j d before within. absurd (omega (arith, before, within)) };
   rising = tt;
   rows = λ p. (λ found. (let no : ⊥ = cc in absurd no), λ h. absurd (omega (arith, h.1.1)));
   prefixes = λ o. (λ found. (let no : ⊥ = cc in absurd no), λ h. absurd (omega (arith, h.1.1)));
 }
 
+pub holds_none_yet : (format : Format) (es : List (List ℕ × Datum)) (os : List (List ℕ)) → es ≡ [] → os ≡ [] → HoldsTable format [] es os
+holds_none_yet format es os no_entries no_objects =
+    subst (λ (e : List (List ℕ × Datum)). HoldsTable format [] e os) (sym no_entries)
+    (subst (λ (o : List (List ℕ)). HoldsTable format [] [] o) (sym no_objects) (holds_none format))
+
 -- ---- what the draft holds behind one more line
 
-module _ (before : List (List ℕ)) (line : List ℕ) (es : List (List ℕ × Datum)) (os : List (List ℕ)) (h : HoldsTable before es os) where
-  same_rows : ((p : VarBind) → States line (instance p) → ⊥) → (p : VarBind)
-      → (find (slice_cmp nat_cmp) p.name es ≡ Some p.value) ↔ IsStated (before ++ line ∷ []) (instance p)
+module _ (format : Format) (before : List (List ℕ)) (line : List ℕ) (es : List (List ℕ × Datum)) (os : List (List ℕ)) (h : HoldsTable format before es os) where
+  same_rows : ((p : VarBind) → States format line (instance p) → ⊥) → (p : VarBind)
+      → (find (slice_cmp nat_cmp) p.name es ≡ Some p.value) ↔ IsStated format (before ++ line ∷ []) (instance p)
   same_rows never p = (
-    λ found. stated_before before line (instance p) ((h.rows p).0 found),
-    λ stated. elim (stated_either before line (instance p) stated) [ inl old ↦ (h.rows p).1 old | inr now ↦ absurd (never p now) ],
+    λ found. stated_before format before line (instance p) ((h.rows p).0 found),
+    λ stated. elim (stated_either format before line (instance p) stated) [ inl old ↦ (h.rows p).1 old | inr now ↦ absurd (never p now) ],
   )
 
-  same_prefixes : ((o : List ℕ) → States line (object_prefix o) → ⊥) → (o : List ℕ)
-      → (list_any (eq_by_cmp (slice_cmp nat_cmp) o) os ≡ true) ↔ IsStated (before ++ line ∷ []) (object_prefix o)
+  same_prefixes : ((o : List ℕ) → States format line (object_prefix o) → ⊥) → (o : List ℕ)
+      → (list_any (eq_by_cmp (slice_cmp nat_cmp) o) os ≡ true) ↔ IsStated format (before ++ line ∷ []) (object_prefix o)
   same_prefixes never o = (
-    λ found. stated_before before line (object_prefix o) ((h.prefixes o).0 found),
-    λ stated. elim (stated_either before line (object_prefix o) stated) [ inl old ↦ (h.prefixes o).1 old | inr now ↦ absurd (never o now) ],
+    λ found. stated_before format before line (object_prefix o) ((h.prefixes o).0 found),
+    λ stated. elim (stated_either format before line (object_prefix o) stated) [ inl old ↦ (h.prefixes o).1 old | inr now ↦ absurd (never o now) ],
   )
 
-  pub holds_nothing : StatesOnly line nothing → HoldsTable (before ++ line ∷ []) es os
+  pub holds_nothing : StatesOnly format line nothing → HoldsTable format (before ++ line ∷ []) es os
   holds_nothing only = record {
-    good = good_more before line nothing h.good only.0 (λ p states. let no_instance : instance p ≡ nothing = only.1 (instance p) states in absurd (cc));
+    good = good_more format before line nothing h.good only.0 (λ p states. let no_instance : instance p ≡ nothing = only.1 (instance p) states in absurd (cc));
     rising = h.rising;
     rows = same_rows (λ p states. let no_instance : instance p ≡ nothing = only.1 (instance p) states in cc);
     prefixes = same_prefixes (λ o states. let no_object : object_prefix o ≡ nothing = only.1 (object_prefix o) states in cc);
   }
 
-  pub holds_object : (object : List ℕ) (more : List (List ℕ)) → StatesOnly line (object_prefix object)
+  pub holds_object : (object : List ℕ) (more : List (List ℕ)) → StatesOnly format line (object_prefix object)
       → ((o : List ℕ) → list_any (eq_by_cmp (slice_cmp nat_cmp) o) more ≡ (is_eq (slice_cmp nat_cmp o object) || list_any (eq_by_cmp (slice_cmp nat_cmp) o) os))
-      → HoldsTable (before ++ line ∷ []) es more
+      → HoldsTable format (before ++ line ∷ []) es more
   holds_object object more only has = record {
-    good = good_more before line (object_prefix object) h.good only.0 (λ p states. let no_instance : instance p ≡ object_prefix object = only.1
+    good = good_more format before line (object_prefix object) h.good only.0 (λ p states. let no_instance : instance p ≡ object_prefix object = only.1
         (instance p) states in absurd (cc));
     rising = h.rising;
     rows = same_rows (λ p states. let no_instance : instance p ≡ object_prefix object = only.1 (instance p) states in cc);
     prefixes = λ o. (
       λ found. elim (slice_cmp nat_cmp o object) as (λ r. slice_cmp nat_cmp o object ≡ r → (is_eq r || list_any (eq_by_cmp (slice_cmp nat_cmp) o) os) ≡ true
-          → IsStated (before ++ line ∷ []) (object_prefix o)) [
-            | Less ↦ λ _ old. stated_before before line (object_prefix o) ((h.prefixes o).0 old)
+          → IsStated format (before ++ line ∷ []) (object_prefix o)) [
+            | Less ↦ λ _ old. stated_before format before line (object_prefix o) ((h.prefixes o).0 old)
             | Equal ↦ λ tied _.
-                let P : List ℕ → Type 0 = λ p. IsStated (before ++ line ∷ []) (object_prefix p) in
-                subst P (sym (same_name o object tied)) (stated_now before line (object_prefix object) only.0)
-            | Greater ↦ λ _ old. stated_before before line (object_prefix o) ((h.prefixes o).0 old)
+                let P : List ℕ → Type 0 = λ p. IsStated format (before ++ line ∷ []) (object_prefix p) in
+                subst P (sym (same_name o object tied)) (stated_now format before line (object_prefix object) only.0)
+            | Greater ↦ λ _ old. stated_before format before line (object_prefix o) ((h.prefixes o).0 old)
           ] refl (sym (has o) ∙ found),
-      λ stated. has o ∙ elim (stated_either before line (object_prefix o) stated) [
+      λ stated. has o ∙ elim (stated_either format before line (object_prefix o) stated) [
         | inl old ↦ ap (λ b. is_eq (slice_cmp nat_cmp o object) || b) ((h.prefixes o).1 old) ∙ or_true (is_eq (slice_cmp nat_cmp o object))
         | inr now ↦
             let same : object_prefix o ≡ object_prefix object = only.1 (object_prefix o) now in
@@ -123,10 +129,10 @@ module _ (before : List (List ℕ)) (line : List ℕ) (es : List (List ℕ × Da
     or_true true = refl
     or_true false = refl
 
-  pub holds_instance : (p : VarBind) → StatesOnly line (instance p) → find (slice_cmp nat_cmp) p.name es ≡ None
-      → HoldsTable (before ++ line ∷ []) (put (slice_cmp nat_cmp) p.name p.value es) os
+  pub holds_instance : (p : VarBind) → StatesOnly format line (instance p) → find (slice_cmp nat_cmp) p.name es ≡ None
+      → HoldsTable format (before ++ line ∷ []) (put (slice_cmp nat_cmp) p.name p.value es) os
   holds_instance p only absent = record {
-    good = good_more before line (instance p) h.good only.0 (λ q states other old same.
+    good = good_more format before line (instance p) h.good only.0 (λ q states other old same.
         let is : instance q ≡ instance p = only.1 (instance q) states in
         let name : other.name ≡ p.name = cc in
         let found : find (slice_cmp nat_cmp) other.name es ≡ Some other.value = (h.rows other).1 old in
@@ -140,22 +146,22 @@ module _ (before : List (List ℕ)) (line : List ℕ) (es : List (List ℕ × Da
     at q = find-put (slice_cmp nat_cmp) nat_list_cmp_total q p.name p.value es
 
     rows_found : (q : VarBind) → find (slice_cmp nat_cmp) q.name (put (slice_cmp nat_cmp) p.name p.value es) ≡ Some q.value
-        → IsStated (before ++ line ∷ []) (instance q)
+        → IsStated format (before ++ line ∷ []) (instance q)
     rows_found q found =
         elim (slice_cmp nat_cmp q.name p.name) as (λ r. slice_cmp nat_cmp q.name p.name ≡ r
-        → cond (is_eq r) (Some p.value) (find (slice_cmp nat_cmp) q.name es) ≡ Some q.value → IsStated (before ++ line ∷ []) (instance q)) [
-          | Less ↦ λ _ old. stated_before before line (instance q) ((h.rows q).0 old)
+        → cond (is_eq r) (Some p.value) (find (slice_cmp nat_cmp) q.name es) ≡ Some q.value → IsStated format (before ++ line ∷ []) (instance q)) [
+          | Less ↦ λ _ old. stated_before format before line (instance q) ((h.rows q).0 old)
           | Equal ↦ λ tied new.
               let name : q.name ≡ p.name = same_name q.name p.name tied in
               let value : q.value ≡ p.value = cc in
               let same : p ≡ q = λ i. record { name = sym name i; value = sym value i } in
-              subst (λ (x : VarBind). IsStated (before ++ line ∷ []) (instance x)) same (stated_now before line (instance p) only.0)
-          | Greater ↦ λ _ old. stated_before before line (instance q) ((h.rows q).0 old)
+              subst (λ (x : VarBind). IsStated format (before ++ line ∷ []) (instance x)) same (stated_now format before line (instance p) only.0)
+          | Greater ↦ λ _ old. stated_before format before line (instance q) ((h.rows q).0 old)
         ] refl (sym (at q.name) ∙ found)
 
-    rows_stated : (q : VarBind) → IsStated (before ++ line ∷ []) (instance q)
+    rows_stated : (q : VarBind) → IsStated format (before ++ line ∷ []) (instance q)
         → find (slice_cmp nat_cmp) q.name (put (slice_cmp nat_cmp) p.name p.value es) ≡ Some q.value
-    rows_stated q stated = at q.name ∙ elim (stated_either before line (instance q) stated) [
+    rows_stated q stated = at q.name ∙ elim (stated_either format before line (instance q) stated) [
       | inl old ↦
           let found : find (slice_cmp nat_cmp) q.name es ≡ Some q.value = (h.rows q).1 old in
           elim (slice_cmp nat_cmp q.name p.name) as (λ r. slice_cmp nat_cmp q.name p.name ≡ r
@@ -175,7 +181,7 @@ module _ (before : List (List ℕ)) (line : List ℕ) (es : List (List ℕ × Da
           ∙ ap (λ (v : Datum). Some v) value
     ]
 
-  pub double : (p : VarBind) (v : Datum) → States line (instance p) → find (slice_cmp nat_cmp) p.name es ≡ Some v → IsDouble before line
+  pub double : (p : VarBind) (v : Datum) → States format line (instance p) → find (slice_cmp nat_cmp) p.name es ≡ Some v → IsDouble format before line
   double p v states found = (p, record { name = p.name; value = v }, states, (h.rows (record { name = p.name; value = v })).0 found, refl)
 
 -- ---- the collections of the draft
@@ -210,18 +216,21 @@ list_any-insert o (x ∷ ks) k =
 -- ---- the lines of a text
 
 -- the draft has what the first lines of the text state, and the others are left
-pub record IsReadTo (text rest : List ℕ) (draft : Draft) (number : ℕ) : Type 0 where
+pub record IsReadTo (format : Format) (text rest : List ℕ) (draft : Draft) (number : ℕ) : Type 0 where
   pub done : List (List ℕ)
   pub parts : lines text ≡ done ++ lines rest
-  pub holds : IsDraft done draft
+  pub holds : IsDraft format done draft
   pub place : number ≡ length done
   pub few : number + length rest ≤ length text
 
+pub read_nothing : (format : Format) (text : List ℕ) (draft : Draft) → IsDraft format [] draft → IsReadTo format text text draft 0
+read_nothing format text draft holds = record { done = []; parts = refl; holds = holds; place = refl; few = omega arith }
+
 -- one more line
-pub read_more : (text rest line behind : List ℕ) (old new : Draft) (number : ℕ) (h : IsReadTo text rest old number) → lines rest ≡ line ∷ lines behind
+pub read_more : (format : Format) (text rest line behind : List ℕ) (old new : Draft) (number : ℕ) (h : IsReadTo format text rest old number) → lines rest ≡ line ∷ lines behind
     → length behind < length rest
-    → IsDraft (h.done ++ line ∷ []) new → IsReadTo text behind new (number + 1)
-read_more text rest line behind old new number h e shorter holds = record {
+    → IsDraft format (h.done ++ line ∷ []) new → IsReadTo format text behind new (number + 1)
+read_more format text rest line behind old new number h e shorter holds = record {
   done = h.done ++ line ∷ [];
   parts = h.parts ∙ ap (λ (ls : List (List ℕ)). h.done ++ ls) e ∙ sym (append_assoc h.done (line ∷ []) (lines behind));
   holds = holds;
@@ -230,10 +239,10 @@ read_more text rest line behind old new number h e shorter holds = record {
 }
 
 -- the fault of a line that stands behind the ones read
-pub fault_at : (text rest line behind : List ℕ) (draft : Draft) (number : ℕ) (h : IsReadTo text rest draft number) → lines rest ≡ line ∷ lines behind
-    → (e : TableError) → IsFaultBehind h.done line (number + 1) e → IsFirstFault (lines text) e
-fault_at text rest line behind draft number h e = cases where
-  behind_good : (at : ℕ) → at ≡ number + 1 → IsBehindGood (lines text) at h.done line
+pub fault_at : (format : Format) (text rest line behind : List ℕ) (draft : Draft) (number : ℕ) (h : IsReadTo format text rest draft number) → lines rest ≡ line ∷ lines behind
+    → (e : TableError) → IsFaultBehind format h.done line (number + 1) e → IsFirstFaultIn format (lines text) e
+fault_at format text rest line behind draft number h e = cases where
+  behind_good : (at : ℕ) → at ≡ number + 1 → IsBehindGood format (lines text) at h.done line
   behind_good at same = record {
     back = lines behind;
     parts = h.parts ∙ ap (λ (ls : List (List ℕ)). h.done ++ ls) e;
@@ -241,7 +250,7 @@ fault_at text rest line behind draft number h e = cases where
     good = h.holds.good;
   }
 
-  cases : (f : TableError) → IsFaultBehind h.done line (number + 1) f → IsFirstFault (lines text) f
+  cases : (f : TableError) → IsFaultBehind format h.done line (number + 1) f → IsFirstFaultIn format (lines text) f
   cases (error.BadLine at) k = (h.done, line, behind_good at k.0, k.1)
   cases (error.BadName at) k = (h.done, line, behind_good at k.0, k.1)
   cases (error.BadValue at) k = (h.done, line, behind_good at k.0, k.1)
@@ -249,9 +258,9 @@ fault_at text rest line behind draft number h e = cases where
   cases error.Memory k = tt
 
 -- all lines
-pub all_read : (text : List ℕ) (draft : Draft) (number : ℕ) → IsReadTo text [] draft number → IsDraft (lines text) draft
-all_read text draft number h =
-    let whole : lines text ≡ h.done = h.parts ∙ append-nil h.done in subst (λ (ls : List (List ℕ)). IsDraft ls draft) (sym whole) h.holds
+pub all_read : (format : Format) (text : List ℕ) (draft : Draft) (number : ℕ) → IsReadTo format text [] draft number → IsDraft format (lines text) draft
+all_read format text draft number h =
+    let whole : lines text ≡ h.done = h.parts ∙ append-nil h.done in subst (λ (ls : List (List ℕ)). IsDraft format ls draft) (sym whole) h.holds
 
 -- ---- what a look-up says
 

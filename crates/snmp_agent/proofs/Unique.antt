@@ -1,12 +1,13 @@
 -- Lines state one table at most.
-use Rattle.std.proofs.Common.{◌≡◌, ℕ, Bool, true, false, List, refl, sym, ◌∙◌, ap, Option, Some, None}
+use Rattle.std.proofs.Common.{◌≡◌, ◌↔◌, ℕ, Bool, true, false, List, subst, refl, sym, ◌∙◌, ap, Option, Some, None}
 use Rattle.std.specs.Ordering.{nat_cmp}
 use Rattle.std.specs.Cmp.Lexicographic.{slice_cmp, nat_list_cmp_total}
 use Rattle.std.specs.FinMap.{FinMap, get, same_map, nat_cmp-IsAntisymmetric, slice_cmp-IsAntisymmetric}
 use Rattle.std.specs.FinSet.{FinSet, contains, same_set}
 use Rattle.snmp_wire.specs.Message.{Datum}
 use Rattle.snmp_agent.specs.table.Table.{MibView}
-use Rattle.snmp_agent.specs.table.Stated.{IsTableOf}
+use Rattle.snmp_agent.specs.table.Format.{Format, IsFormat, IsMarked, Names, first_format, second_format}
+use Rattle.snmp_agent.specs.table.Stated.{IsTableIn, IsTableOf}
 
 -- what one knows, the other knows
 same_option : {X : Type 0} (a b : Option X) → ((x : X) → a ≡ Some x → b ≡ Some x) → ((x : X) → b ≡ Some x → a ≡ Some x) → a ≡ b
@@ -19,8 +20,8 @@ same_bool true b f g = sym (f refl)
 same_bool false true f g = g refl
 same_bool false false f g = refl
 
-pub one_view : (lines : List (List ℕ)) (v w : MibView) → IsTableOf lines v → IsTableOf lines w → v ≡ w
-one_view lines v w h k =
+one_view_in : (format : Format) (lines : List (List ℕ)) (v w : MibView) → IsTableIn format lines v → IsTableIn format lines w → v ≡ w
+one_view_in format lines v w h k =
     let rows : v.rows ≡ w.rows = same_map nat_list_cmp_total (slice_cmp-IsAntisymmetric nat_cmp-IsAntisymmetric) v.rows w.rows
     (λ o. same_option (get v.rows o) (get w.rows o)
     (λ x e. (k.rows (record { name = o; value = x })).1 ((h.rows (record { name = o; value = x })).0 e))
@@ -31,3 +32,22 @@ one_view lines v w h k =
     (λ e. (h.objects o).1 ((k.objects o).0 e))) in
     ap (λ (r : FinMap (slice_cmp nat_cmp) Datum). record { rows = r; objects = v.objects }) rows
     ∙ ap (λ (s : FinSet (slice_cmp nat_cmp)). record { rows = w.rows; objects = s }) objects
+
+-- lines have one format
+pub one_format : (names : Names) (lines : List (List ℕ)) (f g : Format) → IsFormat names lines f → IsFormat names lines g → g ≡ f
+one_format names lines first_format first_format h k = refl
+one_format names lines first_format (second_format other) h k = absurd (h k.0)
+one_format names lines (second_format given) first_format h k = absurd (k h.0)
+one_format names lines (second_format given) (second_format other) h k = ap second_format (k.1 ∙ sym h.1)
+
+pub one_view : (names : Names) (lines : List (List ℕ)) (v w : MibView) → IsTableOf names lines v → IsTableOf names lines w → v ≡ w
+one_view names lines v w h k =
+    let P : Format → Type 0 = λ f. IsTableIn f lines w in
+    one_view_in h.0 lines v w h.2 (subst P (one_format names lines h.0 k.0 h.1 k.1) k.2)
+
+pub without_mark : (names : Names) (lines : List (List ℕ)) (view : MibView) → (IsMarked lines → ⊥)
+    → (IsTableOf names lines view ↔ IsTableIn first_format lines view)
+without_mark names lines view unmarked = (
+  λ h. (let P : Format → Type 0 = λ f. IsTableIn f lines view in subst P (one_format names lines first_format h.0 unmarked h.1) h.2),
+  λ h. (first_format, unmarked, h),
+)

@@ -114,6 +114,16 @@ abbrev pub IsResponseTooLong : MibView → ℕ → Message → Type 0
 IsResponseTooLong view limit q = (r : Message) × IsResponse view limit q r
     × (limit < length (canon r))
 
+-- the binding's encoding follows the first `total` octets of the old output, and all keeps to the
+-- room
+abbrev pub IsAppended : ℕ → ℕ → List ℕ → VarBind → ℕ → List ℕ → Type 0
+IsAppended room total old p n out = (n ≡ total + length (canon_binding p))
+    × (take n out ≡ take total old ++ canon_binding p) × (n ≤ room)
+
+-- the binding has no room after `total` octets
+abbrev pub IsTooLong : ℕ → ℕ → VarBind → Type 0
+IsTooLong room total p = room < total + length (canon_binding p)
+
 -- ---- GetBulk
 
 -- `room` is the most octets that the bindings of the message may take where it keeps to the limit

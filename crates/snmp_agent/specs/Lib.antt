@@ -3,3 +3,4 @@ pub mod Event
 pub mod Reply
 pub mod Serving
 pub mod table
+pub mod Standing

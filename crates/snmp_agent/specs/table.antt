@@ -1,6 +1,7 @@
 pub mod Draft
 pub mod Exact
 pub mod Form
+pub mod Format
 pub mod Line
 pub mod Listing
 pub mod Pages

@@ -2,15 +2,24 @@
 //!
 //! They are written to the front of the output, as those of other replies are, and end before the
 //! first that has no room.
-ghost use Rattle.std.specs.Prelude.{◌≡◌, ◌≤◌, ◌↔◌, List, [], ◌∷◌, length, take, drop, IsTrue};
+ghost use Rattle.std.specs.Prelude.{◌≡◌, ◌≤◌, ◌↔◌, List, [], ◌∷◌, ◌++◌, length, take, drop};
+ghost use Rattle.std.specs.Prelude.{map, IsTrue};
 ghost use Rattle.snmp_wire.specs.Message.{VarBind, datum, var_bind, end_of_mib_view};
 ghost use Rattle.snmp_agent.specs.Reply.{IsBulk, joined, or_zero};
 ghost use Rattle.snmp_agent.specs.Answering.{IsWritable, AreWritable, HoldsFront, AreGiven};
 ghost use Rattle.snmp_agent.specs.Answering.{IsProgress, Leaves, HasRow, AreRoundsFrom};
+ghost use Rattle.snmp_agent.specs.Standing.{Stands, AreStanding, AreWireNames, AreAtEnd};
+ghost use Rattle.snmp_agent.specs.Standing.{AreMoved, next_at};
 
-use crate::draft::{Draft, blank};
+use crate::draft::{Draft, append_next, blank};
+use crate::place::Place;
 use crate::table::{Table, one_answer};
+use arrayvec::ArrayVec;
+use snmp_oid::order;
 use snmp_wire::{Binding, Bindings, MAX_DATAGRAM, MessageRef, ValueRef};
+
+/// How many names keep their places from one round to the next, at most.
+const MAX_PLACES: usize = 64;
 
 /// How far bindings were written, and how many octets they and those before them take.
 pub enum Progress {
@@ -72,17 +81,15 @@ fn append_singles<'a>(
     one_answer();
     let mut total = draft.total;
     let mut asked = blank();
-    let mut given = blank();
     'singles: for _ in 0..count {
         if !bindings.read_next(&mut asked) {
             return Progress::Open(total);
         }
-        table.read_next_after(&asked.name, 0, &mut given);
         let written = Draft {
             room: draft.room,
             total,
         };
-        match written.append(out, &given) {
+        match append_next(table, &mut asked, written, out) {
             Some(end) => total = end,
             None => return Progress::Closed(total),
         }
@@ -107,48 +114,160 @@ fn append_repeaters<'a>(
     let mut others = bindings.left();
     let mut first = blank();
     if others.read_next(&mut first) && others.next().is_none() {
-        append_column(table, repetitions, &mut first, draft, out)
+        let place = Place::new(table, bindings, &first.name);
+        append_column(table, repetitions, &first, place, draft, out)
     } else {
-        append_rounds(table, repetitions, bindings, draft, out)
+        append_columns(table, repetitions, bindings, draft, out)
     }
 }
 
-/// Writes the rounds of one binding, as a walk asks for them: each begins where the one before
-/// ended, and nothing is searched.
+/// Writes the rounds of one binding, which stands at this place, as a walk asks for them: each
+/// begins where the one before ended, and nothing is searched.
 fn append_column<'a>(
     table: &'a Table,
     repetitions: usize,
-    binding: &mut Binding<'a>,
+    binding: &Binding<'a>,
+    place: Place<'a>,
     draft: Draft,
     out: &mut [u8; MAX_DATAGRAM],
 ) -> usize
-    requires { IsWritable (var_bind binding.old) }
+    requires { Stands table.now 0 binding.now.name place }
     ensures { (rounds : List (List VarBind))
-        × AreRoundsFrom table.now (var_bind binding.old ∷ []) 0 repetitions rounds
+        × AreRoundsFrom table.now (var_bind binding.now ∷ []) 0 repetitions rounds
         × HoldsFront draft.room draft.total out.old (joined rounds) result out.new }
 {
     one_answer();
+    order();
     table.is_mib_view();
     let mut total = draft.total;
-    let mut rows = table.after(&binding.name);
+    let mut place = place;
     'rounds: for _ in 0..repetitions {
-        rows.advance(binding);
+        let is_last = place.is_at_end();
         let written = Draft {
             room: draft.room,
             total,
         };
-        match written.append(out, binding) {
+        match place.append_next(written, out) {
             Some(end) => total = end,
             None => return total,
         }
-        if is_end(&binding.value) {
+        if is_last {
             return total;
         }
     }
     total
 }
 
-/// Writes the rounds of several bindings, as [`append_repeaters`] does.
+/// Writes the rounds of several bindings, as [`append_repeaters`] does. Where they are few, their
+/// places are kept.
+fn append_columns<'a>(
+    table: &'a Table,
+    repetitions: usize,
+    bindings: Bindings<'a>,
+    draft: Draft,
+    out: &mut [u8; MAX_DATAGRAM],
+) -> usize
+    requires { AreWritable bindings }
+    ensures { (rounds : List (List VarBind))
+        × AreRoundsFrom table.now bindings.entry 0 repetitions rounds
+        × HoldsFront draft.room draft.total out.old (joined rounds) result out.new }
+{
+    let mut others = bindings.left();
+    let mut places = ArrayVec::new();
+    let mut more = blank();
+    keep_places(table, &mut others, &mut places);
+    if others.read_next(&mut more) {
+        append_rounds(table, repetitions, bindings, draft, out)
+    } else {
+        let places = places.as_mut_slice();
+        append_kept_rounds(table, repetitions, &bindings, places, draft, out)
+    }
+}
+
+/// Takes the first bindings, as many as there is room for or all where there are fewer, and adds
+/// their places.
+fn keep_places<'a>(
+    table: &'a Table,
+    bindings: &mut Bindings<'a>,
+    places: &mut ArrayVec<Place<'a>, MAX_PLACES>,
+)
+    requires writable { AreWritable bindings.old }
+    requires none { places.old.items ≡ [] }
+    ensures { (names : List VarBind) × (bindings.old ≡ names ++ bindings.new)
+        × AreStanding table.now 0 names places.new.items }
+{
+    let mut asked = blank();
+    'names: while !places.is_full() {
+        let from = bindings.left();
+        if !bindings.read_next(&mut asked) {
+            return;
+        }
+        places.push(Place::new(table, from, &asked.name));
+    }
+}
+
+/// Writes the rounds of bindings that stand at these places: each begins where the one before
+/// ended, and nothing is searched.
+fn append_kept_rounds<'a>(
+    table: &'a Table,
+    repetitions: usize,
+    bindings: &Bindings<'a>,
+    places: &mut [Place<'a>],
+    draft: Draft,
+    out: &mut [u8; MAX_DATAGRAM],
+) -> usize
+    requires { AreStanding table.now 0 bindings.now places.old }
+    ensures { (rounds : List (List VarBind))
+        × AreRoundsFrom table.now bindings.now 0 repetitions rounds
+        × HoldsFront draft.room draft.total out.old (joined rounds) result out.new }
+{
+    one_answer();
+    order();
+    table.is_mib_view();
+    let mut total = draft.total;
+    'rounds: for _ in 0..repetitions {
+        let written = Draft {
+            room: draft.room,
+            total,
+        };
+        match append_places(places, written, out) {
+            Progress::Open(end) => total = end,
+            Progress::Closed(end) => return end,
+        }
+    }
+    total
+}
+
+/// Writes what comes next at each place, and moves the places behind that.
+fn append_places(places: &mut [Place<'_>], draft: Draft, out: &mut [u8; MAX_DATAGRAM]) -> Progress
+    requires { AreWireNames places.old }
+    ensures progress { IsProgress (λ all. all ≡ map next_at places.old)
+        (λ all. AreAtEnd places.old → ⊥) draft.room draft.total out.old result out.new }
+    ensures moved { AreMoved places.old result places.new }
+{
+    let mut total = draft.total;
+    let mut over = true;
+    'places: for place in places.iter_mut() {
+        let is_last = place.is_at_end();
+        let written = Draft {
+            room: draft.room,
+            total,
+        };
+        match place.append_next(written, out) {
+            Some(end) => total = end,
+            None => return Progress::Closed(total),
+        }
+        over = over && is_last;
+    }
+    if over {
+        Progress::Closed(total)
+    } else {
+        Progress::Open(total)
+    }
+}
+
+/// Writes the rounds of many bindings, as [`append_repeaters`] does. Each is searched anew in each
+/// round, and a reply has room for few of them.
 fn append_rounds(
     table: &Table,
     repetitions: usize,

@@ -8,10 +8,12 @@ ghost use Rattle.snmp_wire.specs.Parts.{parts_message};
 ghost use Rattle.snmp_agent.specs.Reply.{AreAnswers};
 ghost use Rattle.snmp_agent.specs.Answering.{IsPaired, IsAnswer, IsWritable, AreWritable};
 ghost use Rattle.snmp_agent.specs.Answering.{IsShortValue, HoldsBindings, IsRoom, PassesLimit};
-ghost use Rattle.snmp_agent.specs.Answering.{whole_size};
+ghost use Rattle.snmp_agent.specs.Answering.{whole_size, IsAppended, IsTooLong};
+ghost use Rattle.snmp_agent.specs.table.Table.{IsGet, IsNext};
 
 use crate::config::Config;
-use crate::table::{Table, one_answer};
+use crate::table::{EncodedRow, Table, one_answer};
+use snmp_oid::order;
 use snmp_wire::{
     Binding, Bindings, Kind, MAX_DATAGRAM, Oid, Parts, ValueRef, element_sizes, encode_binding,
     head_size, message_sizes,
@@ -44,9 +46,8 @@ pub fn append_answers<'a>(
     let mut total = 0;
     let mut binding = blank();
     'bindings: while bindings.read_next(&mut binding) {
-        answer_to(table, kind, &mut binding);
         let draft = Draft { room, total };
-        total = draft.append(out, &binding)?;
+        total = append_answer(table, kind, &mut binding, draft, out)?;
     }
     Some(total)
 }
@@ -62,19 +63,75 @@ pub fn blank<'a>() -> Binding<'a>
     }
 }
 
-/// Changes a binding of a request of this kind to the one in its reply: for a Get the variable of
-/// its name, for a GetNext the one after it, and for a Set the binding itself.
-fn answer_to<'a>(table: &'a Table, kind: Kind, binding: &mut Binding<'a>)
+/// Writes what the reply to a request of this kind has for one of its bindings after those of the
+/// draft: for a Get the variable of its name, for a GetNext the one after it, and for a Set the
+/// binding itself. None, and nothing is written, where there is no room for it.
+fn append_answer<'a>(
+    table: &'a Table,
+    kind: Kind,
+    binding: &mut Binding<'a>,
+    draft: Draft,
+    out: &mut [u8; MAX_DATAGRAM],
+) -> Option<usize>
     requires paired { IsPaired kind }
     requires writable { IsWritable (var_bind binding.old) }
-    ensures answer { IsAnswer table.now kind (var_bind binding.old) (var_bind binding.new) }
-    ensures writable { IsWritable (var_bind binding.new) }
+    ensures written { IfSome result (λ n. (p : VarBind)
+        × IsAnswer table.now kind (var_bind binding.old) p
+        × IsAppended draft.room draft.total out.old p n out.new) }
+    ensures too_long { IfNone result ((p : VarBind)
+        × IsAnswer table.now kind (var_bind binding.old) p
+        × IsTooLong draft.room draft.total p) }
 {
-    table.is_mib_view();
     match kind {
-        Kind::GetRequest => binding.value = table.get(&binding.name),
-        Kind::GetNextRequest => table.after(&binding.name).advance(binding),
-        _ => {}
+        Kind::GetRequest => append_get(table, binding, draft, out),
+        Kind::GetNextRequest => append_next(table, binding, draft, out),
+        _ => draft.append(out, binding),
+    }
+}
+
+/// Writes what a Get of a binding's name gives, as [`append_answer`] does.
+fn append_get<'a>(
+    table: &'a Table,
+    binding: &mut Binding<'a>,
+    draft: Draft,
+    out: &mut [u8; MAX_DATAGRAM],
+) -> Option<usize>
+    requires { IsWritable (var_bind binding.old) }
+    ensures written { IfSome result (λ n. (p : VarBind) × IsGet table.now binding.old.name p
+        × IsAppended draft.room draft.total out.old p n out.new) }
+    ensures too_long { IfNone result ((p : VarBind) × IsGet table.now binding.old.name p
+        × IsTooLong draft.room draft.total p) }
+{
+    match table.row(&binding.name) {
+        Some(row) => draft.append_row(out, row),
+        None => {
+            binding.value = table.get(&binding.name);
+            draft.append(out, binding)
+        }
+    }
+}
+
+/// Writes what a GetNext of a binding's name gives, as [`append_answer`] does.
+pub fn append_next<'a>(
+    table: &'a Table,
+    binding: &mut Binding<'a>,
+    draft: Draft,
+    out: &mut [u8; MAX_DATAGRAM],
+) -> Option<usize>
+    requires { IsWritable (var_bind binding.old) }
+    ensures written { IfSome result (λ n. (p : VarBind) × IsNext table.now binding.old.name p
+        × IsAppended draft.room draft.total out.old p n out.new) }
+    ensures too_long { IfNone result ((p : VarBind) × IsNext table.now binding.old.name p
+        × IsTooLong draft.room draft.total p) }
+    ensures unchanged_on_none { IfNone result (out.new ≡ out.old) }
+{
+    order();
+    match table.after(&binding.name).next_row() {
+        Some(row) => draft.append_row(out, row),
+        None => {
+            binding.value = ValueRef::EndOfMibView;
+            draft.append(out, binding)
+        }
     }
 }
 
@@ -93,7 +150,37 @@ impl Draft {
     ghost use Rattle.std.specs.Prelude.{◌≡◌, ◌+◌, ◌≤◌, ◌<◌, ◌++◌, length, take, IfSome, IfNone};
     ghost use Rattle.snmp_wire.specs.Message.{var_bind};
     ghost use Rattle.snmp_wire.specs.Canon.{canon_binding};
-    ghost use Rattle.snmp_agent.specs.Answering.{IsWritable};
+    ghost use Rattle.snmp_agent.specs.Answering.{IsWritable, IsAppended, IsTooLong};
+    ghost use Rattle.snmp_agent.specs.table.Row.{entry_of};
+    ghost use Rattle.snmp_agent.specs.table.Places.{var_of};
+
+    /// Writes a row after the others, as [`Draft::append`] does, by a copy of its octets.
+    #[inline]
+    pub fn append_row(self, out: &mut [u8; MAX_DATAGRAM], row: &EncodedRow) -> Option<usize>
+        ensures written { IfSome result (λ n. IsAppended self.room self.total out.old
+            (var_of (entry_of row.now.row)) n out.new) }
+        ensures too_long { IfNone result (IsTooLong self.room self.total
+            (var_of (entry_of row.now.row))) }
+        ensures unchanged_on_none { IfNone result (out.new ≡ out.old) }
+    {
+        self.append_octets(out, row.octets.as_slice())
+    }
+
+    /// Writes octets after the others, and returns how many there are then. None, and nothing is
+    /// written, where there is no room for them.
+    fn append_octets(self, out: &mut [u8; MAX_DATAGRAM], octets: &[u8]) -> Option<usize>
+        ensures written { IfSome result (λ n. (n ≡ self.total + length octets.now)
+            × (take n out.new ≡ take self.total out.old ++ octets.now) × (n ≤ self.room)) }
+        ensures too_long { IfNone result (self.room < self.total + length octets.now) }
+        ensures unchanged_on_none { IfNone result (out.new ≡ out.old) }
+    {
+        if octets.len() > self.room - self.total {
+            return None;
+        }
+        let end = self.total + octets.len();
+        out[self.total..end].copy_from_slice(octets);
+        Some(end)
+    }
 
     /// Writes a binding after the others, and returns how many octets they take then. None, and
     /// nothing is written, where there is no room for it.

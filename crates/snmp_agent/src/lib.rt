@@ -11,6 +11,7 @@ mod config;
 mod draft;
 mod endpoint;
 mod laws;
+mod place;
 mod server;
 mod table;
 
@@ -20,5 +21,6 @@ pub use endpoint::{Endpoint, EndpointFault};
 pub use laws::one_reply;
 pub use server::{Served, serve, serve_at};
 pub use table::{
-    PutError, Successors, Table, TableError, no_fault, one_answer, one_table, table_of_lines,
+    NumericNames, PutError, Resolver, Successors, Table, TableError, no_fault, one_answer,
+    one_table, table_of_lines, unmarked_table,
 };

@@ -6,6 +6,7 @@ mod change;
 mod draft;
 mod encoded;
 mod error;
+mod format;
 mod laws;
 mod line;
 mod page;
@@ -16,7 +17,9 @@ mod split;
 mod table;
 mod value;
 
+pub use encoded::EncodedRow;
 pub use error::{PutError, TableError};
-pub use laws::{no_fault, one_answer, one_table, table_of_lines};
+pub use format::{NumericNames, Resolver};
+pub use laws::{no_fault, one_answer, one_table, table_of_lines, unmarked_table};
 pub use pages::Successors;
 pub use table::Table;

@@ -3,6 +3,7 @@
 use crate::agent::{assert_dropped, outcome};
 use snmp_agent::{Outcome, Table, Why};
 use snmp_wire::{Binding, Bindings, ValueRef, decode};
+use std::alloc::{AllocError, Global};
 use std::process::Abort;
 
 /// Six integers, each its place: 18 octets a binding.
@@ -174,4 +175,105 @@ fn a_round_of_ends_is_the_last(rt: HostRuntime) {
     all[1..].copy_from_slice(wanted);
     assert_three(&rt, &table, 1, i32::MAX, 295, &all);
     assert_three(&rt, &table, 1, 7, 295, &all);
+}
+
+/// The octets of the length of an element, in the form of three octets.
+fn long_length(length: u16) -> [u8; 3] {
+    let [high, low] = length.to_be_bytes();
+    [0x82, high, low]
+}
+
+/// The GetBulk of `count` names, 1.3.6.128 and those after it, with three repetitions: ten octets a
+/// binding.
+fn bulk_of(alloc: Global, count: u16) -> Result<Vec<u8>, AllocError> {
+    let size = count.wrapping_mul(10);
+    let mut octets = vec![in alloc; 0x30]?;
+    octets.extend_from_slice(&long_length(size.wrapping_add(28)))?;
+    octets.extend_from_slice(b"\x02\x01\x01\x04\x06public\xA5")?;
+    octets.extend_from_slice(&long_length(size.wrapping_add(13)))?;
+    octets.extend_from_slice(b"\x02\x01\x01\x02\x01\x00\x02\x01\x03\x30")?;
+    octets.extend_from_slice(&long_length(size))?;
+    for place in 0..count {
+        let [high, low] = place.wrapping_add(128).wrapping_mul(2).to_be_bytes();
+        let binding = [
+            0x30,
+            0x08,
+            0x06,
+            0x04,
+            0x2B,
+            0x06,
+            high | 0x80,
+            low / 2,
+            0x05,
+            0x00,
+        ];
+        octets.extend_from_slice(&binding)?;
+    }
+    Ok(octets)
+}
+
+/// The text of the rows of the numbers from 128 to `last`, each 1.3.6, the number, with its number.
+fn numbers_to(alloc: Global, last: u32) -> Result<Vec<u8>, AllocError> {
+    let mut text = Vec::new(alloc);
+    for number in 128..=last {
+        let line = format!(in alloc; "1.3.6.{number}|65|{number}\n")?;
+        text.extend_from_slice(line.as_bytes())?;
+    }
+    Ok(text)
+}
+
+/// Whether the binding is the row of this number, or past the last endOfMibView with its name.
+fn is_number(binding: &Binding<'_>, number: u32, last: u32) -> bool {
+    let name = binding.name.as_slice();
+    let is_given = match binding.value {
+        ValueRef::Counter32(held) => held == number && number <= last,
+        ValueRef::EndOfMibView => number > last,
+        _ => false,
+    };
+    name.len() == 4 && name[3] == number.min(last) && is_given
+}
+
+/// How many bindings the reply has, where they are the rounds of `count` names one after the other.
+fn rounds_in(reply: &[u8], count: u32, last: u32) -> Option<u32> {
+    let message = decode(reply).ok()?;
+    let mut bindings = message.bindings();
+    let mut binding = Binding::empty();
+    let count = count.max(1);
+    for place in 0..10000 {
+        if !bindings.read_next(&mut binding) {
+            return Some(place);
+        }
+        let number = (place % count)
+            .wrapping_add(place / count)
+            .wrapping_add(129);
+        if !is_number(&binding, number, last) {
+            return None;
+        }
+    }
+    None
+}
+
+/// How many bindings the reply to the GetBulk of `count` names has, where they are its rounds. The
+/// last name comes to the end of the view in the last of them.
+fn rounds_of(alloc: Global, count: u16) -> Option<u32> {
+    let last = u32::from(count).wrapping_add(129);
+    let table = Table::read(alloc, &numbers_to(alloc, last).ok()?).ok()?;
+    let request = bulk_of(alloc, count).ok()?;
+    let mut out = [0; 65507];
+    match outcome(&table, 65507, &request, &mut out) {
+        Outcome::Reply(size) => rounds_in(&out[..size.min(65507)], u32::from(count), last),
+        Outcome::Dropped(_) => None,
+    }
+}
+
+#[test]
+fn many_names_have_their_rounds(rt: HostRuntime) {
+    // Of 4,000 names there is room for one round and a part of another, of 12 octets a binding.
+    const CASES: &[(u16, u32)] = &[(1, 3), (63, 189), (64, 192), (65, 195), (4000, 5456)];
+    for &(count, bindings) in CASES {
+        assert!(rt;
+            rounds_of(rt.alloc(), count) == Some(bindings),
+            "{count} names"
+        );
+    }
 }

@@ -10,4 +10,6 @@ mod changes;
 #[cfg(test)]
 mod loopback;
 #[cfg(test)]
+mod pages;
+#[cfg(test)]
 mod table;

@@ -221,6 +221,13 @@ fn each_tag_states_its_values(rt: HostRuntime) {
         b"1.3.6|6|2.4294967295.0",
         ValueRef::ObjectId(id),
     );
+    assert_states(&rt, alloc, b"#snmptab 2\n.1.3.6|2|3", ValueRef::Integer(3));
+    assert_states(
+        &rt,
+        alloc,
+        b"#snmptab 2\n1.3.6|4|\"a|b",
+        ValueRef::Octets(b"\"a|b"),
+    );
 }
 
 /// Texts, each with the fault of its first faulty line.
@@ -263,6 +270,27 @@ const FAULTS: &[(&[u8], TableError)] = &[
     (
         b"1.3.6|2|1\nobject 1\nobject 1\n1.3.6|4|a\n?",
         TableError::Double { line: 4 },
+    ),
+    // The second format: its mark, and bars within quotes.
+    (b"\"a|b\"|2|1", TableError::BadLine { line: 1 }),
+    (b"#snmptab 2\n\"a|b\"|2|1", TableError::BadName { line: 2 }),
+    (b"#snmptab 2\r\n'a|b'|2|1", TableError::BadName { line: 2 }),
+    (b"#snmptab 2 \n\"a|b\"|2|1", TableError::BadLine { line: 2 }),
+    (
+        b"\n#snmptab 2\n\"a|b\"|2|1",
+        TableError::BadLine { line: 3 },
+    ),
+    (b"#snmptab 3\n\"a|b\"|2|1", TableError::BadLine { line: 2 }),
+    (b"#snmptab 2\n'a|2|1", TableError::BadLine { line: 2 }),
+    (b"#snmptab 2\n1.3.6\"|2|1", TableError::BadLine { line: 2 }),
+    (b"#snmptab 2\nobject 1.3|6", TableError::BadName { line: 2 }),
+    (
+        b"#snmptab 2\n1.3.6|6|1.3|6",
+        TableError::BadValue { line: 2 },
+    ),
+    (
+        b"#snmptab 2\n1.3.6|2|1\n.1.3.6|2|1",
+        TableError::Double { line: 3 },
     ),
 ];
 

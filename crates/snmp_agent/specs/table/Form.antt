@@ -2,7 +2,8 @@
 use Rattle.std.specs.Prelude.{◌≡◌, ◌≢◌, ◌⊎◌, List, [], ◌∷◌, ◌++◌, ℕ, codes, All, Contains}
 use Rattle.snmp_wire.specs.Message.{Datum, VarBind}
 use Rattle.snmp_agent.specs.table.Table.{IsInstanceName}
-use Rattle.snmp_agent.specs.table.Text.{IsBlank, IsName, IsPrefixLine, IsRowLine, IsValueText, bar}
+use Rattle.snmp_agent.specs.table.Format.{Format, EndsAtBar, IsNameIn, bar}
+use Rattle.snmp_agent.specs.table.Text.{IsBlank, IsObjectForm, IsPrefixLine, IsRowLine, IsValueText}
 
 -- what a line states: nothing, an object prefix, or an instance with its value
 pub data Statement : Type 0 where
@@ -10,10 +11,10 @@ pub data Statement : Type 0 where
   object_prefix : List ℕ → Statement
   instance : VarBind → Statement
 
-abbrev pub States : List ℕ → Statement → Type 0
-States line nothing = IsBlank line
-States line (object_prefix object) = IsPrefixLine line object
-States line (instance row) = IsRowLine line row
+abbrev pub States : Format → List ℕ → Statement → Type 0
+States format line nothing = IsBlank line
+States format line (object_prefix object) = IsPrefixLine format line object
+States format line (instance row) = IsRowLine format line row
 
 -- ---- forms
 
@@ -21,43 +22,40 @@ abbrev pub IsTag : List ℕ → Type 0
 IsTag tag = Contains (codes "2" ∷ codes "4" ∷ codes "4x" ∷ codes "6" ∷ codes "64" ∷ codes "65" ∷
     codes "66" ∷ codes "67" ∷ codes "68x" ∷ codes "70" ∷ []) tag
 
-abbrev pub IsObjectForm : List ℕ → List ℕ → Type 0
-IsObjectForm line text = line ≡ codes "object " ++ text
-
 -- two bars with a known tag between them, in a line that is neither blank nor an object's
-pub record IsRowForm (line name tag text : List ℕ) : Type 0 where
+pub record IsRowForm (format : Format) (line name tag text : List ℕ) : Type 0 where
   pub not_blank : IsBlank line → ⊥
   pub no_object : (object : List ℕ) → IsObjectForm line object → ⊥
   pub parts : line ≡ name ++ bar ∷ tag ++ bar ∷ text
-  pub name_ends : All (λ octet. octet ≢ bar) name
+  pub name_ends : EndsAtBar format name
   pub tag_ends : All (λ octet. octet ≢ bar) tag
   pub known : IsTag tag
 
 -- the name of an object prefix, which has a number at least
-abbrev pub IsObjectText : List ℕ → List ℕ → Type 0
-IsObjectText text o = IsName text o × (o ≢ [])
+abbrev pub IsObjectText : Format → (text o : List ℕ) → Type 0
+IsObjectText format text o = IsNameIn format text o × (o ≢ [])
 
-abbrev pub IsInstanceText : List ℕ → List ℕ → Type 0
-IsInstanceText text o = IsName text o × IsInstanceName o
+abbrev pub IsInstanceText : Format → (text o : List ℕ) → Type 0
+IsInstanceText format text o = IsNameIn format text o × IsInstanceName o
 
 -- ---- faults of a line by itself
 
 -- none of the three forms
-pub record IsBadLine (line : List ℕ) : Type 0 where
+pub record IsBadLine (format : Format) (line : List ℕ) : Type 0 where
   pub not_blank : IsBlank line → ⊥
   pub no_object : (text : List ℕ) → IsObjectForm line text → ⊥
-  pub no_row : (name tag text : List ℕ) → IsRowForm line name tag text → ⊥
+  pub no_row : (name tag text : List ℕ) → IsRowForm format line name tag text → ⊥
 
 -- a name that names no object, or no instance
-abbrev pub IsBadName : List ℕ → Type 0
-IsBadName line =
-    ((text : List ℕ) × IsObjectForm line text × ((o : List ℕ) → IsObjectText text o → ⊥))
-    ⊎ ((name : List ℕ) × (tag : List ℕ) × (text : List ℕ) × IsRowForm line name tag text
-    × ((o : List ℕ) → IsInstanceText name o → ⊥))
+abbrev pub IsBadName : Format → List ℕ → Type 0
+IsBadName format line =
+    ((text : List ℕ) × IsObjectForm line text × ((o : List ℕ) → IsObjectText format text o → ⊥))
+    ⊎ ((name : List ℕ) × (tag : List ℕ) × (text : List ℕ) × IsRowForm format line name tag text
+    × ((o : List ℕ) → IsInstanceText format name o → ⊥))
 
 -- a good name, and a text that states no value of the tag
-abbrev pub IsBadValue : List ℕ → Type 0
-IsBadValue line =
-    (name : List ℕ) × (tag : List ℕ) × (text : List ℕ) × IsRowForm line name tag text
-    × ((o : List ℕ) × IsInstanceText name o) × ((value : Datum) → IsValueText tag text value
-    → ⊥)
+abbrev pub IsBadValue : Format → List ℕ → Type 0
+IsBadValue format line =
+    (name : List ℕ) × (tag : List ℕ) × (text : List ℕ) × IsRowForm format line name tag text
+    × ((o : List ℕ) × IsInstanceText format name o) × ((value : Datum) → IsValueText format tag
+    text value → ⊥)

@@ -10,46 +10,50 @@ use Rattle.snmp_agent.specs.declared.table.line.Form.TheVariants as form
 use Rattle.snmp_agent.specs.table.Row.{datum_of, entry_of, tag_text}
 use Rattle.snmp_agent.specs.table.Places.{var_of}
 use Rattle.snmp_agent.specs.table.Form.{Statement, nothing, object_prefix, instance}
-use Rattle.snmp_agent.specs.table.Form.{IsObjectForm, IsRowForm, IsObjectText, IsInstanceText}
+use Rattle.snmp_agent.specs.table.Form.{IsRowForm, IsObjectText, IsInstanceText}
 use Rattle.snmp_agent.specs.table.Form.{IsBadLine, IsBadName, IsBadValue}
-use Rattle.snmp_agent.specs.table.Text.{IsBlank, IsValueText}
+use Rattle.snmp_agent.specs.table.Format.{Format}
+use Rattle.snmp_agent.specs.table.Text.{IsBlank, IsObjectForm, IsValueText}
 
 abbrev pub statement_of : Line → Statement
 statement_of line.Nothing = nothing
 statement_of (line.Object numbers) = object_prefix numbers.items
 statement_of (line.Instance row) = instance (var_of (entry_of row))
 
-abbrev pub IsForm : List ℕ → Option Form → Type 0
-IsForm l None = IsBadLine l
-IsForm l (Some form.Blank) = IsBlank l
-IsForm l (Some (form.Object text)) = IsObjectForm l text.now
-IsForm l (Some (form.Row name tag text)) = IsRowForm l name.now (tag_text tag) text.now
+abbrev pub IsForm : Format → List ℕ → Option Form → Type 0
+IsForm format l None = IsBadLine format l
+IsForm format l (Some form.Blank) = IsBlank l
+IsForm format l (Some (form.Object text)) = IsObjectForm l text.now
+IsForm format l (Some (form.Row name tag text)) =
+    IsRowForm format l name.now (tag_text tag) text.now
 
 -- the object prefix that a text names, or the fault
-abbrev pub IsObjectRead : List ℕ → Result Line LineFault → Type 0
-IsObjectRead text (Ok (line.Object numbers)) = IsObjectText text numbers.items
-IsObjectRead text (Ok line.Nothing) = ⊥
-IsObjectRead text (Ok (line.Instance row)) = ⊥
-IsObjectRead text (Err fault.Line) = ⊥
-IsObjectRead text (Err fault.Name) = (o : List ℕ) → IsObjectText text o → ⊥
-IsObjectRead text (Err fault.Value) = ⊥
-IsObjectRead text (Err fault.Memory) = Unit {0}
+abbrev pub IsObjectRead : Format → List ℕ → Result Line LineFault → Type 0
+IsObjectRead format text (Ok (line.Object numbers)) = IsObjectText format text numbers.items
+IsObjectRead format text (Ok line.Nothing) = ⊥
+IsObjectRead format text (Ok (line.Instance row)) = ⊥
+IsObjectRead format text (Err fault.Line) = ⊥
+IsObjectRead format text (Err fault.Name) = (o : List ℕ) → IsObjectText format text o → ⊥
+IsObjectRead format text (Err fault.Value) = ⊥
+IsObjectRead format text (Err fault.Memory) = Unit {0}
 
 -- the instance that the texts of a line state, or the fault
-abbrev pub IsInstanceRead : List ℕ → List ℕ → List ℕ → Result Line LineFault → Type 0
-IsInstanceRead name tag text (Ok (line.Instance row)) = IsInstanceText name row.name.items
-    × IsValueText tag text (datum_of row.value)
-IsInstanceRead name tag text (Ok line.Nothing) = ⊥
-IsInstanceRead name tag text (Ok (line.Object numbers)) = ⊥
-IsInstanceRead name tag text (Err fault.Line) = ⊥
-IsInstanceRead name tag text (Err fault.Name) = (o : List ℕ) → IsInstanceText name o → ⊥
-IsInstanceRead name tag text (Err fault.Value) = ((o : List ℕ) × IsInstanceText name o)
-    × ((v : Datum) → IsValueText tag text v → ⊥)
-IsInstanceRead name tag text (Err fault.Memory) = Unit {0}
+abbrev pub IsInstanceRead : Format → (name tag text : List ℕ) → Result Line LineFault → Type 0
+IsInstanceRead format name tag text (Ok (line.Instance row)) =
+    IsInstanceText format name row.name.items × IsValueText format tag text (datum_of row.value)
+IsInstanceRead format name tag text (Ok line.Nothing) = ⊥
+IsInstanceRead format name tag text (Ok (line.Object numbers)) = ⊥
+IsInstanceRead format name tag text (Err fault.Line) = ⊥
+IsInstanceRead format name tag text (Err fault.Name) =
+    (o : List ℕ) → IsInstanceText format name o → ⊥
+IsInstanceRead format name tag text (Err fault.Value) =
+    ((o : List ℕ) × IsInstanceText format name o)
+    × ((v : Datum) → IsValueText format tag text v → ⊥)
+IsInstanceRead format name tag text (Err fault.Memory) = Unit {0}
 
 -- what is wrong with a line by itself
-abbrev pub IsLineFault : List ℕ → LineFault → Type 0
-IsLineFault l fault.Line = IsBadLine l
-IsLineFault l fault.Name = IsBadName l
-IsLineFault l fault.Value = IsBadValue l
-IsLineFault l fault.Memory = Unit {0}
+abbrev pub IsLineFault : Format → List ℕ → LineFault → Type 0
+IsLineFault format l fault.Line = IsBadLine format l
+IsLineFault format l fault.Name = IsBadName format l
+IsLineFault format l fault.Value = IsBadValue format l
+IsLineFault format l fault.Memory = Unit {0}

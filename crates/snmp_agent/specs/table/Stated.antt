@@ -5,37 +5,54 @@ use Rattle.snmp_wire.specs.Message.{VarBind}
 use Rattle.snmp_agent.specs.declared.table.error.TableError.{TableError}
 use Rattle.snmp_agent.specs.declared.table.error.TableError.TheVariants as error
 use Rattle.snmp_agent.specs.table.Form.{IsBadLine, IsBadName, IsBadValue}
+use Rattle.snmp_agent.specs.table.Format.{Format, IsFormat, Names}
 use Rattle.snmp_agent.specs.table.Table.{MibView, IsRow}
 use Rattle.snmp_agent.specs.table.Text.{AreTable, HasPrefix, HasRow, IsRowLine}
 
--- the table that the lines state: its instances and object prefixes are those of a line
-pub record IsTableOf (lines : List (List ℕ)) (view : MibView) : Type 0 where
-  pub good : AreTable lines
-  pub rows : (row : VarBind) → IsRow view row ↔ HasRow lines row
+-- the table that lines of a format state: its instances and object prefixes are those of a line
+pub record IsTableIn (format : Format) (lines : List (List ℕ)) (view : MibView) : Type 0 where
+  pub good : AreTable format lines
+  pub rows : (row : VarBind) → IsRow view row ↔ HasRow format lines row
   pub objects : (object : List ℕ)
-      → (contains view.objects object ≡ true) ↔ HasPrefix lines object
+      → (contains view.objects object ≡ true) ↔ HasPrefix format lines object
 
 -- the line with this number, counted from 1, comes after good lines
-pub record IsBehindGood (lines : List (List ℕ)) (number : ℕ) (front : List (List ℕ))
-    (line : List ℕ) : Type 0 where
+pub record IsBehindGood (format : Format) (lines : List (List ℕ)) (number : ℕ)
+    (front : List (List ℕ)) (line : List ℕ) : Type 0 where
   pub back : List (List ℕ)
   pub parts : lines ≡ front ++ line ∷ back
   pub place : number ≡ length front + 1
-  pub good : AreTable front
+  pub good : AreTable format front
 
 -- the line states an instance whose name an earlier line states
-abbrev pub IsDouble : List (List ℕ) → List ℕ → Type 0
-IsDouble front line = (p : VarBind) × (q : VarBind) × IsRowLine line p
-    × HasRow front q × (q.name ≡ p.name)
+abbrev pub IsDouble : Format → List (List ℕ) → List ℕ → Type 0
+IsDouble format front line = (p : VarBind) × (q : VarBind) × IsRowLine format line p
+    × HasRow format front q × (q.name ≡ p.name)
 
--- why the lines state no table: what is wrong with the first line that isn't good
-abbrev pub IsFirstFault : List (List ℕ) → TableError → Type 0
-IsFirstFault lines (error.BadLine number) = (front : List (List ℕ)) × (line : List ℕ)
-    × IsBehindGood lines number front line × IsBadLine line
-IsFirstFault lines (error.BadName number) = (front : List (List ℕ)) × (line : List ℕ)
-    × IsBehindGood lines number front line × IsBadName line
-IsFirstFault lines (error.BadValue number) = (front : List (List ℕ)) × (line : List ℕ)
-    × IsBehindGood lines number front line × IsBadValue line
-IsFirstFault lines (error.Double number) = (front : List (List ℕ)) × (line : List ℕ)
-    × IsBehindGood lines number front line × IsDouble front line
-IsFirstFault lines error.Memory = Unit {0}
+-- why lines of a format state no table: what is wrong with the first line that isn't good
+abbrev pub IsFirstFaultIn : Format → List (List ℕ) → TableError → Type 0
+IsFirstFaultIn format lines (error.BadLine number) = (front : List (List ℕ)) × (line : List ℕ)
+    × IsBehindGood format lines number front line × IsBadLine format line
+IsFirstFaultIn format lines (error.BadName number) = (front : List (List ℕ)) × (line : List ℕ)
+    × IsBehindGood format lines number front line × IsBadName format line
+IsFirstFaultIn format lines (error.BadValue number) = (front : List (List ℕ)) × (line : List ℕ)
+    × IsBehindGood format lines number front line × IsBadValue format line
+IsFirstFaultIn format lines (error.Double number) = (front : List (List ℕ)) × (line : List ℕ)
+    × IsBehindGood format lines number front line × IsDouble format front line
+IsFirstFaultIn format lines error.Memory = Unit {0}
+
+-- ---- by the names of a reader
+
+-- lines that state a table, in the format that they have
+abbrev pub AreTableBy : Names → (lines : List (List ℕ)) → Type 0
+AreTableBy names lines = (format : Format) × IsFormat names lines format × AreTable format lines
+
+-- the table that the lines state
+abbrev pub IsTableOf : Names → (lines : List (List ℕ)) → MibView → Type 0
+IsTableOf names lines view =
+    (format : Format) × IsFormat names lines format × IsTableIn format lines view
+
+-- why the lines state no table
+abbrev pub IsFirstFault : Names → (lines : List (List ℕ)) → TableError → Type 0
+IsFirstFault names lines error =
+    (format : Format) × IsFormat names lines format × IsFirstFaultIn format lines error

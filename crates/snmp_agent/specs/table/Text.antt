@@ -1,18 +1,20 @@
 -- The text of a table, in a format of this project's own: each line is empty, a comment, the prefix
--- of an object's instances, `object OID`, or a row, `OID|TAG|VALUE`. Lines end with LF, CR LF or the
--- text, as those of Rust's `str::lines` do: a CR that no LF follows belongs to its line.
+-- of an object's instances, `object OID`, or a row, `OID|TAG|VALUE`. Where the first line is
+-- `#snmptab 2`, the text is of the second format. Lines end with LF, CR LF or the text, as those of
+-- Rust's `str::lines` do: a CR that no LF follows belongs to its line.
 use Rattle.std.specs.Prelude.{◌≡◌, ◌≢◌, ℕ, ℤ, pos, ◌^◌, ◌<◌, ◌≤◌, ◌⊎◌, true, List, [], ◌∷◌, ◌++◌}
 use Rattle.std.specs.Prelude.{length, codes, All, AllPairs, Contains, Ok, FitsSigned, neg_ℤ}
 use Rattle.std.specs.Int.{w32}
 use Rattle.std.specs.Str.{all_ascii_digits}
 use Rattle.hex.specs.Hex.{decode_of}
 use Rattle.snmp_oid.specs.Identifier.{IsWire}
-use Rattle.snmp_oid.specs.Numeric.{decimal_value, IsDotted, IsNumericName}
+use Rattle.snmp_oid.specs.Numeric.{decimal_value, IsDotted}
 use Rattle.snmp_wire.specs.Message.{Datum, VarBind}
 use Rattle.snmp_wire.specs.Message.Datum.{integer_value, octet_string, null_value, object_id}
 use Rattle.snmp_wire.specs.Message.Datum.{ip_address, counter32, gauge32, time_ticks, opaque_octets}
 use Rattle.snmp_wire.specs.Message.Datum.{counter64, no_such_object, no_such_instance}
 use Rattle.snmp_wire.specs.Message.Datum.{end_of_mib_view}
+use Rattle.snmp_agent.specs.table.Format.{Format, EndsAtBar, IsNameIn, bar}
 use Rattle.snmp_agent.specs.table.Table.{IsInstanceName, IsTableString}
 
 -- ---- values
@@ -35,81 +37,79 @@ pub record IsAddressText (text octets : List ℕ) : Type 0 where
   pub four : length octets ≡ 4
   pub small : All (λ octet. octet < 256) octets
 
--- a numeric name of as many numbers as an identifier holds
-pub record IsName (text o : List ℕ) : Type 0 where
-  pub named : IsNumericName text o
-  pub short : length o ≤ 128
-
 -- the value that a text states after a tag; the tags are those of the encoding, in decimal, and `x`
 -- says that the octets are hexadecimal
-abbrev pub IsValueText : List ℕ → List ℕ → Datum → Type 0
-IsValueText tag text (integer_value z) = (tag ≡ codes "2") × IsSignedDecimal text z
+abbrev pub IsValueText : Format → (tag text : List ℕ) → Datum → Type 0
+IsValueText format tag text (integer_value z) = (tag ≡ codes "2") × IsSignedDecimal text z
     × FitsSigned w32 z
-IsValueText tag text (octet_string octets) = (((tag ≡ codes "4")
+IsValueText format tag text (octet_string octets) = (((tag ≡ codes "4")
     × (text ≡ octets)) ⊎ ((tag ≡ codes "4x") × (decode_of text ≡ Ok octets))) × IsTableString octets
-IsValueText tag text null_value = ⊥
-IsValueText tag text (object_id o) = (tag ≡ codes "6") × IsName text o × IsWire o
-IsValueText tag text (ip_address octets) = (tag ≡ codes "64") × IsAddressText text octets
-IsValueText tag text (counter32 n) = (tag ≡ codes "65") × IsDecimal text n × (n < 2 ^ 32)
-IsValueText tag text (gauge32 n) = (tag ≡ codes "66") × IsDecimal text n × (n < 2 ^ 32)
-IsValueText tag text (time_ticks n) = (tag ≡ codes "67") × IsDecimal text n × (n < 2 ^ 32)
-IsValueText tag text (opaque_octets octets) = (tag ≡ codes "68x") × (decode_of text ≡ Ok octets)
-    × IsTableString octets
-IsValueText tag text (counter64 n) = (tag ≡ codes "70") × IsDecimal text n × (n < 2 ^ 64)
-IsValueText tag text no_such_object = ⊥
-IsValueText tag text no_such_instance = ⊥
-IsValueText tag text end_of_mib_view = ⊥
+IsValueText format tag text null_value = ⊥
+IsValueText format tag text (object_id o) = (tag ≡ codes "6") × IsNameIn format text o × IsWire o
+IsValueText format tag text (ip_address octets) = (tag ≡ codes "64") × IsAddressText text octets
+IsValueText format tag text (counter32 n) = (tag ≡ codes "65") × IsDecimal text n × (n < 2 ^ 32)
+IsValueText format tag text (gauge32 n) = (tag ≡ codes "66") × IsDecimal text n × (n < 2 ^ 32)
+IsValueText format tag text (time_ticks n) = (tag ≡ codes "67") × IsDecimal text n × (n < 2 ^ 32)
+IsValueText format tag text (opaque_octets octets) = (tag ≡ codes "68x")
+    × (decode_of text ≡ Ok octets) × IsTableString octets
+IsValueText format tag text (counter64 n) = (tag ≡ codes "70") × IsDecimal text n × (n < 2 ^ 64)
+IsValueText format tag text no_such_object = ⊥
+IsValueText format tag text no_such_instance = ⊥
+IsValueText format tag text end_of_mib_view = ⊥
 
 -- ---- lines
-
--- the octet of `|`
-abbrev pub bar : ℕ
-bar = 124
 
 -- an empty line, or a comment
 abbrev pub IsBlank : List ℕ → Type 0
 IsBlank line = (line ≡ []) ⊎ ((comment : List ℕ) × (line ≡ codes "#" ++ comment))
 
--- the line of this object prefix, which has a number at least
-abbrev pub IsPrefixLine : List ℕ → List ℕ → Type 0
-IsPrefixLine line object =
-    (text : List ℕ) × (line ≡ codes "object " ++ text) × IsName text object × (object ≢ [])
+-- the line of an object prefix, with this name
+abbrev pub IsObjectForm : (line text : List ℕ) → Type 0
+IsObjectForm line text = line ≡ codes "object " ++ text
 
--- the line of this row: the name of an instance, a tag, and the text of a value, which may have more
--- bars
-pub record IsRowLine (line : List ℕ) (row : VarBind) : Type 0 where
+-- the line of this object prefix, which has a number at least
+abbrev pub IsPrefixLine : Format → (line object : List ℕ) → Type 0
+IsPrefixLine format line object =
+    (text : List ℕ) × IsObjectForm line text × IsNameIn format text object × (object ≢ [])
+
+-- the line of this row, which is neither blank nor an object prefix's: the name of an instance, a
+-- tag, and the text of a value, which may have more bars
+pub record IsRowLine (format : Format) (line : List ℕ) (row : VarBind) : Type 0 where
+  pub not_blank : IsBlank line → ⊥
+  pub no_object : (object : List ℕ) → IsObjectForm line object → ⊥
   pub name : List ℕ
   pub tag : List ℕ
   pub text : List ℕ
   pub parts : line ≡ name ++ bar ∷ tag ++ bar ∷ text
-  pub name_ends : All (λ octet. octet ≢ bar) name
+  pub name_ends : EndsAtBar format name
   pub tag_ends : All (λ octet. octet ≢ bar) tag
-  pub named : IsName name row.name
+  pub named : IsNameIn format name row.name
   pub instance_name : IsInstanceName row.name
-  pub valued : IsValueText tag text row.value
+  pub valued : IsValueText format tag text row.value
 
 -- a line of one of the four forms
-pub data IsGoodLine (line : List ℕ) : Type 0 where
-  a_blank : IsBlank line → IsGoodLine line
-  a_prefix : (object : List ℕ) → IsPrefixLine line object → IsGoodLine line
-  a_row : (row : VarBind) → IsRowLine line row → IsGoodLine line
+pub data IsGoodLine (format : Format) (line : List ℕ) : Type 0 where
+  a_blank : IsBlank line → IsGoodLine format line
+  a_prefix : (object : List ℕ) → IsPrefixLine format line object → IsGoodLine format line
+  a_row : (row : VarBind) → IsRowLine format line row → IsGoodLine format line
 
 -- ---- tables
 
 -- one of the lines is that of this row
-abbrev pub HasRow : List (List ℕ) → VarBind → Type 0
-HasRow lines row = (line : List ℕ) × Contains lines line × IsRowLine line row
+abbrev pub HasRow : Format → List (List ℕ) → VarBind → Type 0
+HasRow format lines row = (line : List ℕ) × Contains lines line × IsRowLine format line row
 
 -- one of the lines is that of this object prefix
-abbrev pub HasPrefix : List (List ℕ) → List ℕ → Type 0
-HasPrefix lines object = (line : List ℕ) × Contains lines line × IsPrefixLine line object
+abbrev pub HasPrefix : Format → List (List ℕ) → List ℕ → Type 0
+HasPrefix format lines object =
+    (line : List ℕ) × Contains lines line × IsPrefixLine format line object
 
 -- where the two lines are rows, the rows have different names
-abbrev pub DifferInName : List ℕ → List ℕ → Type 0
-DifferInName line later =
-    (row other : VarBind) → IsRowLine line row → IsRowLine later other → row.name ≢ other.name
+abbrev pub DifferInName : Format → (line later : List ℕ) → Type 0
+DifferInName format line later = (row other : VarBind) → IsRowLine format line row
+    → IsRowLine format later other → row.name ≢ other.name
 
 -- lines that state a table: each is good, and no two are rows of one name
-pub record AreTable (lines : List (List ℕ)) : Type 0 where
-  pub each : All IsGoodLine lines
-  pub differ : AllPairs DifferInName lines
+pub record AreTable (format : Format) (lines : List (List ℕ)) : Type 0 where
+  pub each : All (IsGoodLine format) lines
+  pub differ : AllPairs (DifferInName format) lines

@@ -1,6 +1,7 @@
 //! A table while its text is read.
 
 use crate::table::error::TableError;
+use crate::table::format::LineFormat;
 use crate::table::line::{Line, LineFault, read_line};
 use crate::table::pages::Pages;
 use snmp_oid::names;
@@ -18,11 +19,12 @@ pub struct Draft {
 
 impl Draft {
     ghost use Rattle.std.specs.Prelude.{ℕ, ◌++◌, ◌∷◌, [], List, MatchResult};
+    ghost use Rattle.snmp_agent.specs.table.Format.{Format};
     ghost use Rattle.snmp_agent.specs.table.Draft.{IsDraft, IsFaultBehind};
 
     /// A draft of no lines.
     pub fn new(alloc: Global) -> Draft
-        ensures { IsDraft [] result }
+        ensures { (format : Format) → IsDraft format [] result }
     {
         Draft {
             rows: Pages::new(alloc),
@@ -31,13 +33,20 @@ impl Draft {
     }
 
     /// Adds what the line of this number states.
-    pub fn add(&mut self, alloc: Global, line: &[u8], number: usize) -> Result<(), TableError>
-        ensures { (before : List (List ℕ)) → IsDraft before self.old
-            → MatchResult result (λ _. IsDraft (before ++ line.now ∷ []) self.new) (IsFaultBehind
-            before line.now number) }
+    pub fn add<F: LineFormat>(
+        &mut self,
+        alloc: Global,
+        format: &F,
+        line: &[u8],
+        number: usize,
+    ) -> Result<(), TableError>
+        ensures { (before : List (List ℕ)) → IsDraft (F.format format.now) before self.old
+            → MatchResult result
+            (λ _. IsDraft (F.format format.now) (before ++ line.now ∷ []) self.new)
+            (IsFaultBehind (F.format format.now) before line.now number) }
     {
         names();
-        match read_line(alloc, line) {
+        match read_line(alloc, format, line) {
             Ok(Line::Nothing) => Ok(()),
             Ok(Line::Object(object)) => match self.objects.insert(object) {
                 Ok(_) => Ok(()),

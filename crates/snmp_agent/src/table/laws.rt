@@ -1,31 +1,38 @@
 //! Laws: what is true of each table, as calls that do nothing. A proof of a crate above calls them.
-ghost use Rattle.std.specs.Prelude.{◌≡◌, ℕ, List};
+ghost use Rattle.std.specs.Prelude.{◌≡◌, ◌↔◌, ℕ, List};
 ghost use Rattle.snmp_agent.specs.table.Exact.{HasOne};
-ghost use Rattle.snmp_agent.specs.table.Stated.{IsTableOf, IsFirstFault};
+ghost use Rattle.snmp_agent.specs.table.Stated.{AreTableBy, IsTableOf, IsFirstFault, IsTableIn};
 ghost use Rattle.snmp_agent.specs.table.Table.{MibView, IsGet, IsMibView, IsNext, IsNextAfter};
-ghost use Rattle.snmp_agent.specs.table.Text.{AreTable};
+ghost use Rattle.snmp_agent.specs.table.Format.{IsMarked, Names, first_format};
 
 use crate::table::error::TableError;
 use snmp_oid::{names, order};
 
 /// Good lines state a table, which is a MIB view.
 pub fn table_of_lines()
-    ensures { (lines : List (List ℕ)) → AreTable lines
-        → (view : MibView) × IsTableOf lines view × IsMibView view }
+    ensures { (names : Names) (lines : List (List ℕ)) → AreTableBy names lines
+        → (view : MibView) × IsTableOf names lines view × IsMibView view }
 {
     names();
 }
 
 /// Lines state one table at most.
 pub fn one_table()
-    ensures { (lines : List (List ℕ)) (v w : MibView) → IsTableOf lines v → IsTableOf lines w
-        → v ≡ w }
+    ensures { (names : Names) (lines : List (List ℕ)) (v w : MibView) → IsTableOf names lines v
+        → IsTableOf names lines w → v ≡ w }
 {}
 
 /// Lines that state a table have no fault: reading them fails only where memory runs out.
 pub fn no_fault()
-    ensures { (lines : List (List ℕ)) (view : MibView) (fault : TableError) → IsTableOf lines view
-        → IsFirstFault lines fault → fault ≡ TableError.Memory }
+    ensures { (names : Names) (lines : List (List ℕ)) (view : MibView) (fault : TableError)
+        → IsTableOf names lines view → IsFirstFault names lines fault → fault ≡ TableError.Memory }
+{}
+
+/// Lines without the mark of the second format state the same table whatever the names: that of the
+/// first format.
+pub fn unmarked_table()
+    ensures { (names : Names) (lines : List (List ℕ)) (view : MibView) → (IsMarked lines → ⊥)
+        → (IsTableOf names lines view ↔ IsTableIn first_format lines view) }
 {}
 
 /// Each name has just one value in a reply to a Get, one binding in a reply to a GetNext, and one

@@ -2,15 +2,16 @@
 ghost use Rattle.std.specs.Prelude.{ℕ, List, IfOk, IfErr};
 ghost use Rattle.snmp_agent.specs.table.Exact.{IsOnly};
 ghost use Rattle.snmp_agent.specs.table.Row.{tag_text};
-ghost use Rattle.snmp_agent.specs.table.Form.{States, IsInstanceText, IsObjectForm};
+ghost use Rattle.snmp_agent.specs.table.Form.{States, IsInstanceText};
 ghost use Rattle.snmp_agent.specs.table.Line.{IsForm, IsObjectRead, IsInstanceRead, IsLineFault};
 ghost use Rattle.snmp_agent.specs.table.Line.{statement_of};
-ghost use Rattle.snmp_agent.specs.table.Text.{IsBlank};
+ghost use Rattle.snmp_agent.specs.table.Text.{IsBlank, IsObjectForm};
 
 use crate::table::change::is_instance_name;
+use crate::table::format::LineFormat;
 use crate::table::row::Row;
 use crate::table::split::split_once;
-use crate::table::value::{Tag, name, value};
+use crate::table::value::{Tag, value};
 use snmp_wire::Oid;
 use std::alloc::{AllocError, Global};
 
@@ -30,7 +31,7 @@ pub enum Line {
 pub enum LineFault {
     /// It has none of the forms of a line.
     Line,
-    /// Its name is no numeric name, or not one of its kind.
+    /// Its name is no name, or not one of its kind.
     Name,
     /// Its text states no value of its tag.
     Value,
@@ -65,21 +66,22 @@ enum Form<'a> {
 }
 
 /// What a line states.
-pub fn read_line(alloc: Global, line: &[u8]) -> Result<Line, LineFault>
-    ensures states { IfOk result (λ stated. States line.now (statement_of stated)) }
-    ensures fault { IfErr result (IsLineFault line.now) }
+pub fn read_line<F: LineFormat>(alloc: Global, format: &F, line: &[u8]) -> Result<Line, LineFault>
+    ensures states { IfOk result
+        (λ stated. States (F.format format.now) line.now (statement_of stated)) }
+    ensures fault { IfErr result (IsLineFault (F.format format.now) line.now) }
 {
-    match form_of(line) {
+    match form_of(format, line) {
         None => Err(LineFault::Line),
         Some(Form::Blank) => Ok(Line::Nothing),
-        Some(Form::Object { text }) => object(alloc, text),
-        Some(Form::Row { name, tag, text }) => instance(alloc, name, tag, text),
+        Some(Form::Object { text }) => object(alloc, format, text),
+        Some(Form::Row { name, tag, text }) => instance(alloc, format, name, tag, text),
     }
 }
 
 /// The form that a line has, or None where it has none.
-fn form_of(line: &[u8]) -> Option<Form<'_>>
-    ensures { IsForm line.now result }
+fn form_of<'a, F: LineFormat>(format: &F, line: &'a [u8]) -> Option<Form<'a>>
+    ensures { IsForm (F.format format.now) line.now result }
 {
     match line {
         [] | [b'#', ..] => return Some(Form::Blank),
@@ -87,18 +89,18 @@ fn form_of(line: &[u8]) -> Option<Form<'_>>
     }
     match line.strip_prefix(b"object ") {
         Some(text) => Some(Form::Object { text }),
-        None => row_form(line),
+        None => row_form(format, line),
     }
 }
 
-/// The parts of a line between its first two bars and around them, None where it has not two or the
-/// tag between them is unknown.
-fn row_form(line: &[u8]) -> Option<Form<'_>>
+/// The parts of a line around the bar that ends its name and the next, None where it has not both
+/// or the tag between them is unknown.
+fn row_form<'a, F: LineFormat>(format: &F, line: &'a [u8]) -> Option<Form<'a>>
     requires not_blank { IsBlank line.now → ⊥ }
     requires no_object { (text : List ℕ) → IsObjectForm line.now text → ⊥ }
-    ensures { IsForm line.now result }
+    ensures { IsForm (F.format format.now) line.now result }
 {
-    let (name, behind) = split_once(line, b'|')?;
+    let (name, behind) = format.split_name(line)?;
     let (tag, text) = split_once(behind, b'|')?;
     Some(Form::Row {
         name,
@@ -108,23 +110,29 @@ fn row_form(line: &[u8]) -> Option<Form<'_>>
 }
 
 /// The object prefix that a text names.
-fn object(alloc: Global, text: &[u8]) -> Result<Line, LineFault>
-    ensures { IsObjectRead text.now result }
+fn object<F: LineFormat>(alloc: Global, format: &F, text: &[u8]) -> Result<Line, LineFault>
+    ensures { IsObjectRead (F.format format.now) text.now result }
 {
-    match name(text) {
+    match format.name(text) {
         Some(oid) if !oid.is_empty() => Ok(Line::Object(Vec::from_slice(alloc, oid.as_slice())?)),
         _ => Err(LineFault::Name),
     }
 }
 
 /// The instance that a line of this form states.
-fn instance(alloc: Global, text: &[u8], tag: Tag, value_text: &[u8]) -> Result<Line, LineFault>
-    ensures { IsInstanceRead text.now (tag_text tag) value_text.now result }
+fn instance<F: LineFormat>(
+    alloc: Global,
+    format: &F,
+    text: &[u8],
+    tag: Tag,
+    value_text: &[u8],
+) -> Result<Line, LineFault>
+    ensures { IsInstanceRead (F.format format.now) text.now (tag_text tag) value_text.now result }
 {
-    let Some(oid) = instance_name(text) else {
+    let Some(oid) = instance_name(format, text) else {
         return Err(LineFault::Name);
     };
-    match value(alloc, tag, value_text)? {
+    match value(alloc, format, tag, value_text)? {
         Some(value) => Ok(Line::Instance(Row {
             name: Vec::from_slice(alloc, oid.as_slice())?,
             value,
@@ -134,10 +142,10 @@ fn instance(alloc: Global, text: &[u8], tag: Tag, value_text: &[u8]) -> Result<L
 }
 
 /// The name of an instance: at least three numbers, with an encoding.
-fn instance_name(text: &[u8]) -> Option<Oid>
-    ensures { IsOnly (IsInstanceText text.now) result }
+fn instance_name<F: LineFormat>(format: &F, text: &[u8]) -> Option<Oid>
+    ensures { IsOnly (IsInstanceText (F.format format.now) text.now) result }
 {
-    let oid = name(text)?;
+    let oid = format.name(text)?;
     if is_instance_name(&oid) {
         Some(oid)
     } else {

@@ -37,7 +37,7 @@ impl Model for Pages {
 }
 
 impl Pages {
-    ghost use Rattle.std.specs.Prelude.{◌≡◌, [], List, ℕ, IfOk, IfErr};
+    ghost use Rattle.std.specs.Prelude.{◌≡◌, [], List, ℕ, IfOk, IfErr, IfSome};
     ghost use Rattle.std.specs.Option.{option_map};
     ghost use Rattle.std.specs.FinMap.{contains_key, entries, get, insert, remove as remove_key};
     ghost use Rattle.snmp_wire.specs.Message.{Datum};
@@ -56,7 +56,9 @@ impl Pages {
 
     /// The row of this name.
     pub fn find(&self, name: &[u32]) -> Option<&EncodedRow>
-        ensures { option_map (λ row. datum_of row.now.row.value) result ≡ get self.now name.now }
+        ensures value { option_map (λ row. datum_of row.now.row.value) result
+            ≡ get self.now name.now }
+        ensures name { IfSome result (λ row. row.now.row.name.items ≡ name.now) }
     {
         let pages = self.list.as_slice();
         let page = pages.get(page_of(pages, name))?;
@@ -200,7 +202,8 @@ impl<'a> Model for Successors<'a> {
 }
 
 impl<'a> Successors<'a> {
-    ghost use Rattle.std.specs.Prelude.{◌≡◌, ◌∷◌, [], ℕ, List, take, drop, IfSome, IfNone};
+    ghost use Rattle.std.specs.Prelude.{◌≡◌, ◌↔◌, ◌∷◌, [], ℕ, List, take, drop, IfSome, IfNone};
+    ghost use Rattle.std.specs.Prelude.{IsTrue};
     ghost use Rattle.snmp_wire.specs.Message.{var_bind};
     ghost use Rattle.snmp_agent.specs.table.Row.{entry_of};
     ghost use Rattle.snmp_agent.specs.table.Places.{last_name};
@@ -224,7 +227,8 @@ impl<'a> Successors<'a> {
     }
 
     /// The first row. Those behind it are left.
-    fn next_row(&mut self) -> Option<&'a EncodedRow>
+    #[inline]
+    pub(crate) fn next_row(&mut self) -> Option<&'a EncodedRow>
         ensures some { IfSome result (λ row. self.old ≡ entry_of row.now.row ∷ self.new) }
         ensures none { IfNone result ((self.old ≡ []) × (self.new ≡ [])) }
     {
@@ -237,6 +241,14 @@ impl<'a> Successors<'a> {
         self.rows = rows;
         self.pages = pages;
         Some(row)
+    }
+
+    /// Whether there are none.
+    #[inline]
+    pub(crate) fn is_empty(&self) -> bool
+        ensures { IsTrue result ↔ (self.now ≡ []) }
+    {
+        self.rows.is_empty() && self.pages.is_empty()
     }
 
     /// Skips as many rows, or all where there are fewer. The name becomes that of the last of them.
@@ -262,6 +274,17 @@ impl<'a> Successors<'a> {
         let (passed, rows) = self.rows.split_at(left);
         set_to_last(name, passed);
         self.rows = rows;
+    }
+}
+
+impl<'a> Default for Successors<'a> {
+    ghost is_default = { λ rows. rows ≡ [] };
+
+    fn default() -> Successors<'a> {
+        Successors {
+            rows: &[],
+            pages: &[],
+        }
     }
 }
 

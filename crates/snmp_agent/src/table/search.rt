@@ -55,9 +55,10 @@ pub fn place_after(rows: &[EncodedRow], name: &[u32]) -> usize
 /// The row of this name.
 pub fn row_at<'a>(rows: &'a [EncodedRow], name: &[u32]) -> Option<&'a EncodedRow>
     requires { IsRising rows.now }
-    ensures { option_map
+    ensures value { option_map
         (λ row. datum_of row.now.row.value) result ≡ find (slice_cmp nat_cmp) name.now (entries_of
         rows.now) }
+    ensures name { IfSome result (λ row. row.now.row.name.items ≡ name.now) }
 {
     let (front, _) = rows.split_at(place_after(rows, name));
     let row = front.last()?;

@@ -4,7 +4,11 @@ ghost use Rattle.snmp_agent.specs.table.Places.{HasBeginning};
 
 use crate::table::change::{is_instance_name, owned_value};
 use crate::table::draft::Draft;
+use crate::table::encoded::EncodedRow;
 use crate::table::error::{PutError, TableError};
+use crate::table::format::{
+    FirstFormat, LineFormat, NumericNames, Resolver, SecondFormat, is_marked,
+};
 use crate::table::pages::{Pages, Successors};
 use crate::table::row::Row;
 use crate::table::split::split_line;
@@ -42,25 +46,56 @@ impl Model for Table {
 
 impl Table {
     ghost use Rattle.snmp_wire.specs.Message.{datum, var_bind};
-    ghost use Rattle.std.specs.Prelude.{◌≡◌, IfOk, IfErr};
+    ghost use Rattle.std.specs.Prelude.{◌≡◌, IfOk, IfErr, IfSome};
     ghost use Rattle.std.specs.Str.Lines.{lines};
     ghost use Rattle.std.specs.FinMap.{contains_key};
     ghost use Rattle.snmp_agent.specs.table.Table.{IsGet, IsNext, IsNextAfter, IsAnswerValue, IsMibView};
     ghost use Rattle.snmp_agent.specs.table.Table.{IsInstanceName, IsInstanceValue, with_row};
     ghost use Rattle.snmp_agent.specs.table.Table.{without_row};
     ghost use Rattle.snmp_agent.specs.table.Put.{IsPutError};
+    ghost use Rattle.snmp_agent.specs.table.Row.{entry_of};
+    ghost use Rattle.snmp_agent.specs.table.Places.{var_of};
     ghost use Rattle.snmp_agent.specs.table.Pages.{AreBehind};
     ghost use Rattle.snmp_oid.specs.Identifier.{IsWire};
+    ghost use Rattle.snmp_agent.specs.table.Format.{numeric_names};
     ghost use Rattle.snmp_agent.specs.table.Stated.{IsTableOf, IsFirstFault};
+    ghost use Rattle.snmp_agent.specs.table.Stated.{IsTableIn, IsFirstFaultIn};
 
     /// Reads the table that a text states, or returns the fault of its first faulty line
-    /// (`docs/PROFILE.md`). `Memory` may come in place of any result.
+    /// (`docs/PROFILE.md`). `Memory` may come in place of any result. Names are numeric.
     ///
     /// A line ends with LF, CR LF or the text; a CR that no LF follows belongs to its line.
     pub fn read(alloc: Global, text: &[u8]) -> Result<Table, TableError>
-        ensures table { IfOk result (IsTableOf (lines text.now)) }
+        ensures table { IfOk result (IsTableOf numeric_names (lines text.now)) }
         ensures view { IfOk result IsMibView }
-        ensures fault { IfErr result (IsFirstFault (lines text.now)) }
+        ensures fault { IfErr result (IsFirstFault numeric_names (lines text.now)) }
+    {
+        Table::read_with(alloc, text, &NumericNames)
+    }
+
+    /// The same, with the names of a text of the second format, which begins with the line
+    /// `#snmptab 2`, read by `names`.
+    pub fn read_with<R: Resolver>(
+        alloc: Global,
+        text: &[u8],
+        names: &R,
+    ) -> Result<Table, TableError>
+        ensures table { IfOk result (IsTableOf (R.names names.now) (lines text.now)) }
+        ensures view { IfOk result IsMibView }
+        ensures fault { IfErr result (IsFirstFault (R.names names.now) (lines text.now)) }
+    {
+        if is_marked(text) {
+            Table::read_in(alloc, text, &SecondFormat { names })
+        } else {
+            Table::read_in(alloc, text, &FirstFormat)
+        }
+    }
+
+    /// Reads the table that a text of this format states.
+    fn read_in<F: LineFormat>(alloc: Global, text: &[u8], format: &F) -> Result<Table, TableError>
+        ensures table { IfOk result (IsTableIn (F.format format.now) (lines text.now)) }
+        ensures view { IfOk result IsMibView }
+        ensures fault { IfErr result (IsFirstFaultIn (F.format format.now) (lines text.now)) }
     {
         let mut draft = Draft::new(alloc);
         let mut rest = text;
@@ -68,7 +103,7 @@ impl Table {
         'lines: while !rest.is_empty() {
             let (line, behind) = split_line(rest);
             number += 1;
-            draft.add(alloc, line, number)?;
+            draft.add(alloc, format, line, number)?;
             rest = behind;
         }
         Ok(Table {
@@ -120,6 +155,13 @@ impl Table {
         ensures { IsMibView self.now }
     {
         let _ = &self.rows;
+    }
+
+    /// The row of this name.
+    pub(crate) fn row(&self, name: &Oid) -> Option<&EncodedRow>
+        ensures { IfSome result (λ row. IsGet self.now name.now (var_of (entry_of row.now.row))) }
+    {
+        self.rows.find(name.as_slice())
     }
 
     /// The value that a Get of the name gives: that of its instance; else `NoSuchObject` where no

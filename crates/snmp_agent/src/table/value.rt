@@ -7,12 +7,14 @@ ghost use Rattle.snmp_oid.specs.Identifier.{IsWire};
 ghost use Rattle.snmp_agent.specs.table.Exact.{IsOnly};
 ghost use Rattle.snmp_agent.specs.table.Row.{datum_of, tag_text};
 ghost use Rattle.snmp_agent.specs.table.Table.{IsTableString};
-ghost use Rattle.snmp_agent.specs.table.Text.{IsDecimal, IsSignedDecimal, IsAddressText, IsName};
+ghost use Rattle.snmp_agent.specs.table.Format.{IsNameIn};
+ghost use Rattle.snmp_agent.specs.table.Text.{IsDecimal, IsSignedDecimal, IsAddressText};
 ghost use Rattle.snmp_agent.specs.table.Text.{IsValueText};
 
+use crate::table::format::LineFormat;
 use crate::table::row::RowValue;
 use hex::FromHexError;
-use snmp_wire::{Oid, parse_numeric};
+use snmp_wire::parse_numeric;
 use std::alloc::{AllocError, Global};
 
 /// The tag of a row, which says of what type its value is, and how the text states it.
@@ -58,23 +60,21 @@ impl Tag {
 /// How many octets a string of a table has at most.
 pub const LONGEST_STRING: usize = 65535;
 
-/// The numbers of the identifier that a text names (`parse_numeric`).
-pub fn name(text: &[u8]) -> Option<Oid>
-    ensures { IsOnly (IsName text.now) result }
-{
-    parse_numeric(text).ok()
-}
-
 /// The value that the text states, None where it states none of the tag's type.
-pub fn value(alloc: Global, tag: Tag, text: &[u8]) -> Result<Option<RowValue>, AllocError>
-    ensures { IfOk result
-        (λ value. IsOnly (IsValueText (tag_text tag) text.now) (option_map datum_of value)) }
+pub fn value<F: LineFormat>(
+    alloc: Global,
+    format: &F,
+    tag: Tag,
+    text: &[u8],
+) -> Result<Option<RowValue>, AllocError>
+    ensures { IfOk result (λ value. IsOnly
+        (IsValueText (F.format format.now) (tag_text tag) text.now) (option_map datum_of value)) }
 {
     match tag {
         Tag::Integer => Ok(signed(text).map(RowValue::Integer)),
         Tag::OctetString => Ok(string(alloc, text)?.map(RowValue::Octets)),
         Tag::HexOctetString => Ok(hexadecimal(alloc, text)?.map(RowValue::Octets)),
-        Tag::ObjectId => Ok(object_id(alloc, text)?.map(RowValue::ObjectId)),
+        Tag::ObjectId => Ok(object_id(alloc, format, text)?.map(RowValue::ObjectId)),
         Tag::IpAddress => Ok(address(text).map(RowValue::IpAddress)),
         Tag::Counter32 => Ok(unsigned(text).map(RowValue::Counter32)),
         Tag::Gauge32 => Ok(unsigned(text).map(RowValue::Gauge32)),
@@ -139,11 +139,15 @@ fn address(text: &[u8]) -> Option<[u8; 4]>
 }
 
 /// An identifier that has an encoding, as its numbers.
-fn object_id(alloc: Global, text: &[u8]) -> Result<Option<Vec<u32>>, AllocError>
-    ensures { IfOk result (λ numbers. IsOnly (λ o. IsName text.now o
+fn object_id<F: LineFormat>(
+    alloc: Global,
+    format: &F,
+    text: &[u8],
+) -> Result<Option<Vec<u32>>, AllocError>
+    ensures { IfOk result (λ numbers. IsOnly (λ o. IsNameIn (F.format format.now) text.now o
         × IsWire o) (option_map (λ v. v.items) numbers)) }
 {
-    let Some(oid) = name(text) else {
+    let Some(oid) = format.name(text) else {
         return Ok(None);
     };
     if !oid.is_wire() {

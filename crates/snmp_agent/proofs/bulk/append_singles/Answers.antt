@@ -46,22 +46,29 @@ returns-then-not-read_next-clause-left c =
     let now : c.read_next.new.self ≡ [] = (c.read_next.ensures.none c.if-not-read_next.true).1 in
     now ∙ sym (drop-nothing left c.singles.bindings none) ∙ so_far.left left e
 
+pub append_next-requires : goal.append_next-requires
+append_next-requires c =
+    let first : c.singles.bindings ≡ var_bind c.read_next.new.into ∷ c.read_next.new.self = c.read_next.ensures.some c.if-not-read_next.false in
+    let writable : AreWritable (var_bind c.read_next.new.into ∷ c.read_next.new.self) = subst (λ
+    (bs : List VarBind). AreWritable bs) first c.singles.invariant.writable in writable.0
+
 pub returns-in-None-clause-progress : goal.returns-in-None-clause-progress
 returns-in-None-clause-progress c =
     let so_far = c.singles.invariant in
     let view = c.args.table.now in
-    let p : VarBind = var_bind c.read_next_after.new.into in
+    let long = c.in-None.ensures.too_long in
+    let p : VarBind = long.0 in
     let left = c.args.count - (c.singles.counter + 1) in
     let e : c.singles.counter + suc left ≡ c.args.count = omega (arith, c.singles-test.true) in
     let first : c.singles.bindings ≡ var_bind c.read_next.new.into ∷ c.read_next.new.self = c.read_next.ensures.some c.if-not-read_next.false in
     let taken : take (suc left) c.singles.bindings ≡ var_bind c.read_next.new.into ∷ take left c.read_next.new.self = take-first left c.singles.bindings
     c.read_next.new.self (var_bind c.read_next.new.into) first in
     let later = all_given c.one_answer.ensures.get_bulk view 0 (take left c.read_next.new.self) in
-    let front = stopped c.args.draft.room c.args.draft.total c.args.out.now so_far.given p later.0 c.singles.total c.singles.out c.append.new.out
-    so_far.written c.in-None.ensures.unchanged_on_none c.in-None.ensures.too_long in (
+    let front = stopped c.args.draft.room c.args.draft.total c.args.out.now so_far.given p later.0 c.singles.total c.singles.out c.append_next.new.out
+    so_far.written c.in-None.ensures.unchanged_on_none long.2 in (
       so_far.given ++ p ∷ later.0,
       so_far.others (suc left) (p ∷ later.0) e (subst (λ (bs : List VarBind). AreGiven view 0 bs (p ∷ later.0)) (sym taken)
-          (c.read_next_after.ensures.answer, later.1)),
+          (long.1, later.1)),
       front.0,
       λ unit. front.1,
     )
@@ -70,9 +77,10 @@ pub singles-preserved : goal.singles-preserved
 singles-preserved c =
     let so_far = c.singles.invariant in
     let view = c.args.table.now in
-    let p : VarBind = var_bind c.read_next_after.new.into in
+    let here = c.in-Some.ensures.written in
+    let p : VarBind = here.0 in
     let first : c.singles.bindings ≡ var_bind c.read_next.new.into ∷ c.read_next.new.self = c.read_next.ensures.some c.if-not-read_next.false in
-    let more = c.in-Some.ensures.written in
+    let more = here.2 in
     let writable : AreWritable (var_bind c.read_next.new.into ∷ c.read_next.new.self) = subst (λ (bs : List VarBind). AreWritable bs) first so_far.writable in
     record {
       given = so_far.given ++ p ∷ [];
@@ -80,12 +88,12 @@ singles-preserved c =
           let e' : c.singles.counter + suc left ≡ c.args.count = omega (arith, e) in
           step (λ asked given. IsNextAfter view 0 asked.name given) (take c.args.count c.args.bindings.now) (take (suc left) c.singles.bindings)
           (take left c.read_next.new.self) so_far.given (var_bind c.read_next.new.into) p
-          (take-first left c.singles.bindings c.read_next.new.self (var_bind c.read_next.new.into) first) c.read_next_after.ensures.answer
+          (take-first left c.singles.bindings c.read_next.new.self (var_bind c.read_next.new.into) first) here.1
           (λ more h. so_far.others (suc left) more e' h) rest h;
       left = λ left e.
           let e' : c.singles.counter + suc left ≡ c.args.count = omega (arith, e) in
           sym (drop-first left c.singles.bindings c.read_next.new.self (var_bind c.read_next.new.into) first) ∙ so_far.left (suc left) e';
-      written = one_more c.args.draft.room c.args.draft.total c.singles.total c.in-Some.end c.args.out.now c.singles.out c.append.new.out so_far.given p
+      written = one_more c.args.draft.room c.args.draft.total c.singles.total c.in-Some.end c.args.out.now c.singles.out c.append_next.new.out so_far.given p
           so_far.written more.0 more.1 more.2;
       writable = writable.1;
     }

@@ -34,34 +34,42 @@ bindings-init c = (
   omega arith,
 )
 
+pub append_answer-requires-clause-writable : goal.append_answer-requires-clause-writable
+append_answer-requires-clause-writable c =
+    let left : c.bindings.bindings ≡ var_bind c.read_next.new.into ∷ c.read_next.new.self = c.read_next.ensures.some c.bindings-test.true in
+    let writable : AreWritable (var_bind c.read_next.new.into ∷ c.read_next.new.self) = subst (λ
+    (bs : List VarBind). AreWritable bs) left c.bindings.invariant.3 in writable.0
+
 pub returns-in_err-total-clause-too_long : goal.returns-in_err-total-clause-too_long
 returns-in_err-total-clause-too_long c =
     let R = IsAnswer c.args.table.now c.args.kind in
     let so_far = c.bindings.invariant in
-    let p : VarBind = var_bind c.answer_to.new.binding in
+    let long = c.in_err-total.ensures.too_long in
+    let p : VarBind = long.0 in
     let left : c.bindings.bindings ≡ var_bind c.read_next.new.into ∷ c.read_next.new.self = c.read_next.ensures.some c.bindings-test.true in
     let later = all_answered c.one_answer.ensures.get c.one_answer.ensures.get_next c.args.table.now c.args.kind c.read_next.new.self c.requires.paired in
     none_anyway c.from_residual-in_err-total.result (
       so_far.0 ++ p ∷ later.0,
-      so_far.1 (p ∷ later.0) (subst (λ (bs : List VarBind). AreAnswers R bs (p ∷ later.0)) (sym left) (c.answer_to.ensures.answer, later.1)),
+      so_far.1 (p ∷ later.0) (subst (λ (bs : List VarBind). AreAnswers R bs (p ∷ later.0)) (sym left) (long.1, later.1)),
       passes c.message_sizes.ensures (parts_message c.args.parts.now) c.args.config.now.max_size so_far.0 later.0 p c.bindings.total c.bindings.out so_far.2
           (beyond c.message_sizes.ensures (parts_message c.args.parts.now) c.args.config.now.max_size c.in_ok-room.room (c.bindings.total + length
-          (canon_binding p)) c.in_ok-room.ensures.room c.in_err-total.ensures.too_long),
+          (canon_binding p)) c.in_ok-room.ensures.room long.2),
     )
 
 pub bindings-preserved : goal.bindings-preserved
 bindings-preserved c =
     let R = IsAnswer c.args.table.now c.args.kind in
     let so_far = c.bindings.invariant in
-    let p : VarBind = var_bind c.answer_to.new.binding in
+    let given = c.in_ok-total.ensures.written in
+    let p : VarBind = given.0 in
     let first : VarBind = var_bind c.read_next.new.into in
     let left : c.bindings.bindings ≡ first ∷ c.read_next.new.self = c.read_next.ensures.some c.bindings-test.true in
-    let written = c.in_ok-total.ensures.written in
+    let written = given.2 in
     let writable : AreWritable (first ∷ c.read_next.new.self) = subst (λ (bs : List VarBind). AreWritable bs) left so_far.3 in (
       so_far.0 ++ p ∷ [],
-      step R c.args.bindings c.bindings.bindings c.read_next.new.self so_far.0 first p left c.answer_to.ensures.answer so_far.1,
-      longer_draft (parts_message c.args.parts.now) c.args.config.now.max_size so_far.0 p c.bindings.total c.in_ok-total.total c.bindings.out c.append.new.out
-          so_far.2 written.0 written.1
+      step R c.args.bindings c.bindings.bindings c.read_next.new.self so_far.0 first p left given.1 so_far.1,
+      longer_draft (parts_message c.args.parts.now) c.args.config.now.max_size so_far.0 p c.bindings.total c.in_ok-total.total c.bindings.out
+          c.append_answer.new.out so_far.2 written.0 written.1
           (within c.message_sizes.ensures
           (parts_message c.args.parts.now) c.args.config.now.max_size c.in_ok-room.room c.in_ok-total.total c.in_ok-room.ensures.room written.2),
       writable.1,

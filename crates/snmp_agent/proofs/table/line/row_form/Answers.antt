@@ -1,4 +1,5 @@
 use Rattle.std.proofs.Common.{◌≡◌, subst}
+use Rattle.snmp_agent.specs.table.Format.{HasNoEnd}
 use Rattle.snmp_agent.specs.table.Form.{IsTag}
 use Rattle.snmp_agent.specs.table.Row.{tag_text}
 use Rattle.snmp_agent.proofs.Cuts.{HasNoBar}
@@ -6,27 +7,30 @@ use Rattle.snmp_agent.proofs.Statements.{tag_known, no_row_without_bar, no_row_w
 use Rattle.snmp_agent.proofs.table.line.row_form.Goals as goal
 
 pub returns-in_err-name : goal.returns-in_err-name
-returns-in_err-name c =
-    let none : HasNoBar c.args.line.now = c.in_err-name.ensures in
+returns-in_err-name g c =
+    let format = g.F.LineFormat.format c.args.format.now in
+    let none : HasNoEnd format c.args.line.now = c.in_err-name.ensures in
     rw c.from_residual.ensures record {
       not_blank = c.requires.not_blank;
       no_object = c.requires.no_object;
-      no_row = λ name tag text row. no_row_without_bar
+      no_row = λ name tag text row. no_row_without_bar format
           c.args.line.now name tag text none row;
     }
 
 pub returns-in_err-tag : goal.returns-in_err-tag
-returns-in_err-tag c =
+returns-in_err-tag g c =
+    let format = g.F.LineFormat.format c.args.format.now in
     let cut = c.in_ok-name.ensures in
     let none : HasNoBar c.in_ok-name.behind.now = c.in_err-tag.ensures in
     rw c.from_residual-in_err-tag.ensures record {
       not_blank = c.requires.not_blank;
       no_object = c.requires.no_object;
-      no_row = λ name tag text row. no_row_with_one_bar c.args.line.now c.in_ok-name.name.now c.in_ok-name.behind.now name tag text cut.0 cut.1 none row;
+      no_row = λ name tag text row. no_row_with_one_bar format c.args.line.now c.in_ok-name.name.now c.in_ok-name.behind.now name tag text cut.0 cut.1 none row;
     }
 
 pub returns-in_err-from_text : goal.returns-in_err-from_text
-returns-in_err-from_text c =
+returns-in_err-from_text g c =
+    let format = g.F.LineFormat.format c.args.format.now in
     let cut = c.in_ok-name.ensures in
     let second = c.in_ok-tag.ensures in
     let unknown : IsTag c.in_ok-tag.tag.now → ⊥ = c.in_err-from_text.ensures in
@@ -34,13 +38,14 @@ returns-in_err-from_text c =
       not_blank = c.requires.not_blank;
       no_object = c.requires.no_object;
       no_row = λ name tag text row.
-          let same = same_parts c.args.line.now c.in_ok-name.name.now c.in_ok-name.behind.now c.in_ok-tag.tag.now c.in_ok-tag.text.now name tag text cut.0
+          let same = same_parts format c.args.line.now c.in_ok-name.name.now c.in_ok-name.behind.now c.in_ok-tag.tag.now c.in_ok-tag.text.now name tag text cut.0
           cut.1 second.0 second.1 row in
           unknown (subst IsTag same.1 row.known);
     }
 
 pub returns : goal.returns
-returns c =
+returns g c =
+    let format = g.F.LineFormat.format c.args.format.now in
     let cut = c.in_ok-name.ensures in
     let second = c.in_ok-tag.ensures in
     let tag : c.in_ok-tag.tag.now ≡ tag_text c.in_ok-from_text.field-0 = c.in_ok-from_text.ensures in

@@ -9,8 +9,8 @@ use Rattle.snmp_agent.specs.table.Row.{datum_of}
 use Rattle.snmp_agent.proofs.Finding.{IsLast, found_last, found_none}
 use Rattle.snmp_agent.proofs.table.search.row_at.Goals as goal
 
-pub returns-in_err-row : goal.returns-in_err-row
-returns-in_err-row c =
+pub returns-in_err-row-clause-value : goal.returns-in_err-row-clause-value
+returns-in_err-row-clause-value c =
     let rows = c.args.rows.now in
     let place = c.place_after.result in
     let nothing : None ≡ slice_get (take place rows) (length (take place rows) - 1) = rw c.split_at.ensures.front at c.in_err-row.ensures.value in
@@ -18,8 +18,8 @@ returns-in_err-row c =
     (take place rows) row) name. absurd (cc)) in
     ap (option_map (λ (row : Bor EncodedRow). datum_of row.now.row.value)) c.from_residual.ensures ∙ sym none
 
-pub returns-then-eq : goal.returns-then-eq
-returns-then-eq c =
+pub returns-then-eq-clause-value : goal.returns-then-eq-clause-value
+returns-then-eq-clause-value c =
     let rows = c.args.rows.now in
     let place = c.place_after.result in
     let row = c.in_ok-row.row.now in
@@ -28,8 +28,8 @@ returns-then-eq c =
     slice_eq-Decides Decides-eqb row.row.name.items c.args.name.now c.eq.result (cc (c.eq.ensures, c.as_slice.ensures.value)) in
     sym (found_last rows place (length (take place rows) - 1) c.args.name.now row c.requires last (same.0 c.if-eq.true))
 
-pub returns-else-eq : goal.returns-else-eq
-returns-else-eq c =
+pub returns-else-eq-clause-value : goal.returns-else-eq-clause-value
+returns-else-eq-clause-value c =
     let rows = c.args.rows.now in
     let place = c.place_after.result in
     let row = c.in_ok-row.row.now in

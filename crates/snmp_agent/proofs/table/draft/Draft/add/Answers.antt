@@ -16,17 +16,19 @@ use Rattle.snmp_agent.proofs.table.draft.Draft.add.Goals as goal
 use Rattle.snmp_agent.proofs.table.draft.Draft.add.Goals.{in-Ok, in-Err}
 
 pub returns-in-Ok-Nothing : goal.returns-in-Ok-Nothing
-returns-in-Ok-Nothing c = λ before h.
-    let only = states_only c.names.ensures.at_most_one c.args.line.now nothing (rw c.in-Ok-Nothing.field-0-is at c.in-Ok-Nothing.ensures.states) in
-    holds_nothing before c.args.line.now (entries c.args.self.now.rows) (draft_objects c.args.self.now) h only
+returns-in-Ok-Nothing g c = λ before h.
+    let format = g.F.LineFormat.format c.args.format.now in
+    let only = states_only c.names.ensures.at_most_one format c.args.line.now nothing (rw c.in-Ok-Nothing.field-0-is at c.in-Ok-Nothing.ensures.states) in
+    holds_nothing format before c.args.line.now (entries c.args.self.now.rows) (draft_objects c.args.self.now) h only
 
 pub returns-after-insert : goal.returns-after-insert
-returns-after-insert c = λ before h.
+returns-after-insert g c = λ before h.
+    let format = g.F.LineFormat.format c.args.format.now in
     let object = c.in-Ok-Object.object in
-    let only = states_only c.names.ensures.at_most_one c.args.line.now (object_prefix object.items)
+    let only = states_only c.names.ensures.at_most_one format c.args.line.now (object_prefix object.items)
     (rw c.in-Ok-Object.field-0-is at c.in-Ok-Object.ensures.states) in
     elim c.match-insert.branch [
-      | in-Ok w ↦ rw w.result-is (holds_object before c.args.line.now (entries c.args.self.now.rows) (draft_objects c.args.self.now) h object.items (map
+      | in-Ok w ↦ rw w.result-is (holds_object format before c.args.line.now (entries c.args.self.now.rows) (draft_objects c.args.self.now) h object.items (map
           (λ x. x.items) c.insert.new.self.keys) only
           (λ o. ap (λ keys. list_any (eq_by_cmp (slice_cmp nat_cmp) o) (map (λ x. x.items) keys)) w.in-Ok.ensures.keys
           ∙ list_any-insert o c.args.self.now.objects.keys object))
@@ -34,29 +36,32 @@ returns-after-insert c = λ before h.
     ]
 
 pub put-requires-clause-value : goal.put-requires-clause-value
-put-requires-clause-value c =
-    stated_value c.args.line.now (var_of (entry_of c.in-Ok-Instance.row)) (rw c.in-Ok-Instance.field-0-is at c.in-Ok-Instance.ensures.states)
+put-requires-clause-value g c =
+    let format = g.F.LineFormat.format c.args.format.now in
+    stated_value format c.args.line.now (var_of (entry_of c.in-Ok-Instance.row)) (rw c.in-Ok-Instance.field-0-is at c.in-Ok-Instance.ensures.states)
 
 pub returns-in-Ok-true : goal.returns-in-Ok-true
-returns-in-Ok-true c = λ before h.
+returns-in-Ok-true g c = λ before h.
+    let format = g.F.LineFormat.format c.args.format.now in
     let row = c.in-Ok-Instance.row in
     let o = row.name.items in
     let rows = c.args.self.now.rows in
-    let states : States c.args.line.now (instance (var_of (entry_of row))) = rw c.in-Ok-Instance.field-0-is at c.in-Ok-Instance.ensures.states in
+    let states : States format c.args.line.now (instance (var_of (entry_of row))) = rw c.in-Ok-Instance.field-0-is at c.in-Ok-Instance.ensures.states in
     let has : contains_key rows o ≡ true = search rules in
     let found = some_of (find (slice_cmp nat_cmp) o (entries rows)) (ap is_some (sym (get-entries rows o)) ∙ has) in
-    (refl, double before c.args.line.now (entries rows) (draft_objects c.args.self.now) h (var_of (entry_of row)) found.0 states found.1)
+    (refl, double format before c.args.line.now (entries rows) (draft_objects c.args.self.now) h (var_of (entry_of row)) found.0 states found.1)
 
 pub returns-in-Ok-false : goal.returns-in-Ok-false
-returns-in-Ok-false c = λ before h.
+returns-in-Ok-false g c = λ before h.
+    let format = g.F.LineFormat.format c.args.format.now in
     let row = c.in-Ok-Instance.row in
     let o = row.name.items in
     let rows = c.args.self.now.rows in
-    let only = states_only c.names.ensures.at_most_one c.args.line.now (instance (var_of (entry_of row)))
+    let only = states_only c.names.ensures.at_most_one format c.args.line.now (instance (var_of (entry_of row)))
     (rw c.in-Ok-Instance.field-0-is at c.in-Ok-Instance.ensures.states) in
     let hasnt : contains_key rows o ≡ false = search rules in
     let absent = none_of (find (slice_cmp nat_cmp) o (entries rows)) (ap is_some (sym (get-entries rows o)) ∙ hasnt) in
-    let holds = holds_instance before c.args.line.now (entries rows) (draft_objects c.args.self.now) h (var_of (entry_of row)) only absent in
+    let holds = holds_instance format before c.args.line.now (entries rows) (draft_objects c.args.self.now) h (var_of (entry_of row)) only absent in
     let after : entries c.put.new.self ≡ put_entry (slice_cmp nat_cmp) o (datum_of row.value) (entries rows) =
     ap entries c.in-Ok-false.ensures.put ∙ entries-insert nat_list_cmp_total rows o (datum_of row.value) in
-    subst (λ (es : List (List ℕ × Datum)). HoldsTable (before ++ c.args.line.now ∷ []) es (draft_objects c.args.self.now)) (sym after) holds
+    subst (λ (es : List (List ℕ × Datum)). HoldsTable format (before ++ c.args.line.now ∷ []) es (draft_objects c.args.self.now)) (sym after) holds

@@ -3,8 +3,8 @@ use Rattle.std.specs.Result.{result_ok}
 use Rattle.snmp_oid.specs.Numeric.{IsNumericName}
 use Rattle.snmp_oid.specs.declared.numeric.OidTextError.{OidTextError}
 use Rattle.snmp_agent.specs.table.Exact.{IsOnly}
-use Rattle.snmp_agent.specs.table.Text.{IsName}
-use Rattle.snmp_agent.proofs.table.value.name.Goals as goal
+use Rattle.snmp_agent.specs.table.Format.{IsName}
+use Rattle.snmp_agent.proofs.table.format.numeric_name.Goals as goal
 
 only_name : (text : List ℕ) (r : Result (List ℕ) OidTextError) → IfOk r (IsNumericName text) → IfOk r (λ o. length o ≤ 128) → ((o : List ℕ)
     → IsNumericName text o → length o ≤ 128 → r ≡ Ok o)

@@ -1,0 +1,64 @@
+-- Names in the two formats.
+use Rattle.std.proofs.Common.{◌≡◌, ◌≢◌, ◌↔◌, ◌+◌, inl, inr, ℕ, List, [], ◌∷◌, ◌++◌, length, Option, Some, None, MatchOption, refl, sym, ◌∙◌, ap, subst, arith, length-append, codes}
+use Rattle.snmp_io.specs.Quotes.{HasNoneOutside}
+use Rattle.snmp_agent.specs.table.Exact.{IsOnly}
+use Rattle.snmp_agent.specs.table.Format.{HasNoEnd, IsFrontRead, IsMarked, IsNameIn, Means, Names, bar, first_format, second_format}
+use Rattle.snmp_agent.proofs.Cuts.{HasNoBar, no_cut}
+
+-- ---- names of a reader
+
+longer : (text front rest : List ℕ) → text ≡ front ++ bar ∷ rest → length front ≡ length text → ⊥
+longer text front rest e same =
+    let parts : length text ≡ length front + length (bar ∷ rest) = ap length e ∙ length-append front (bar ∷ rest) in
+    omega (arith, parts, same)
+
+-- a name of the whole text
+pub whole_name : (names : Names) (text : List ℕ) (o : List ℕ) (size : ℕ) → IsFrontRead names text (Some (o, size)) → size ≡ length text
+    → IsOnly (IsNameIn (second_format names) text) (Some o)
+whole_name names text o size h whole = elim h.place [
+  | inl none ↦
+      let P : List ℕ → Type 0 = λ t. Means names t o in
+      ((none.0, subst P none.1 h.named.0), λ p k. h.named.1 p (let Q : List ℕ → Type 0 = λ t. Means names t p in subst Q (sym none.1) k.1))
+  | inr cut ↦ absurd (longer text h.front cut.0 cut.1.parts (sym h.size ∙ whole))
+]
+
+-- what is no name, or that of a part of the text
+pub no_name : (names : Names) (text : List ℕ) → IsFrontRead names text None → IsOnly (IsNameIn (second_format names) text) None
+no_name names text h = λ p k. elim h.place [
+  | inl none ↦ h.named p (let Q : List ℕ → Type 0 = λ t. Means names t p in subst Q (sym none.1) k.1)
+  | inr cut ↦ k.0 h.front cut.0 cut.1.parts cut.1.outside
+]
+
+pub part_name : (names : Names) (text : List ℕ) (o : List ℕ) (size : ℕ) → IsFrontRead names text (Some (o, size)) → size ≢ length text
+    → IsOnly (IsNameIn (second_format names) text) None
+part_name names text o size h part = λ p k. elim h.place [
+  | inl none ↦ part (h.size ∙ ap length none.1)
+  | inr cut ↦ k.0 h.front cut.0 cut.1.parts cut.1.outside
+]
+
+-- ---- where a name ends
+
+pub no_end_first : (line : List ℕ) → HasNoBar line → HasNoEnd first_format line
+no_end_first line none = λ name rest e ends. no_cut line name rest none e
+
+pub no_end_second : (names : Names) (line : List ℕ) → HasNoneOutside bar line → HasNoEnd (second_format names) line
+no_end_second names line none = λ name rest e ends. none name rest e ends.0
+
+-- ---- the mark
+
+abbrev first_line : List (List ℕ) → List ℕ
+first_line [] = []
+first_line (line ∷ more) = line
+
+pub marked_by_first : (all : List (List ℕ)) (line : List ℕ) (more : List (List ℕ)) → all ≡ line ∷ more
+    → (line ≡ codes "#snmptab 2" ↔ IsMarked all)
+marked_by_first all line more e = (
+  λ same. (more, e ∙ ap (λ (l : List ℕ). l ∷ more) same),
+  λ marked. ap first_line (sym e ∙ marked.1),
+)
+
+-- ---- what is found
+
+pub match_weaker : {X A B : Type 0} (r : Option X) (P Q : X → Type 0) → (A → B) → ((x : X) → P x → Q x) → MatchOption r A P → MatchOption r B Q
+match_weaker None P Q none some h = none h
+match_weaker (Some x) P Q none some h = some x h

@@ -1,0 +1,16 @@
+use Rattle.std.proofs.Common.{List}
+use Rattle.snmp_wire.specs.Message.{VarBind}
+use Rattle.snmp_agent.specs.Reply.{joined}
+use Rattle.snmp_agent.specs.Answering.{Extends}
+use Rattle.snmp_agent.specs.Standing.{AreStanding}
+use Rattle.snmp_agent.proofs.RoundFronts.{WithOthers}
+use Rattle.snmp_agent.proofs.bulk.append_kept_rounds.Given as goal
+
+-- The rounds so far are written, and with the rounds that are left they are all rounds. The places are where they leave the names.
+abbrev pub invariant-rounds : goal.invariant-rounds
+invariant-rounds l = record {
+  done : List (List VarBind);
+  others : WithOthers l.table l.bindings l.repetitions l.counter done;
+  written : Extends l.draft.room l.draft.total l.fn.out (joined done) l.total l.out;
+  standing : AreStanding l.table l.counter l.bindings l.places;
+}

@@ -1,0 +1,38 @@
+use Rattle.std.proofs.Common.{◌≡◌, ◌≤◌, ◌++◌, ◌∷◌, [], List, ℕ, length, refl, sym, ◌∙◌, arith, eq-eqb}
+use Rattle.std.proofs.lemmas.Bool.{eqb-true, false≢true}
+use Rattle.snmp_wire.specs.Message.{Datum}
+use Rattle.snmp_agent.specs.declared.table.encoded.EncodedRow.{EncodedRow}
+use Rattle.snmp_agent.specs.declared.table.page.Page.{Page}
+use Rattle.snmp_agent.specs.table.Pages.{entries_in, entries_of}
+use Rattle.snmp_agent.proofs.table.pages.Successors.is_empty.Goals as goal
+
+none : (rows : List EncodedRow) (pages : List Page) → length rows ≡ 0 → length pages ≡ 0 → entries_of rows ++ entries_in pages ≡ []
+none [] [] rows_none pages_none = refl
+none [] (page ∷ pages) rows_none pages_none = absurd (omega (arith, pages_none))
+none (row ∷ rows) pages rows_none pages_none = absurd (omega (arith, rows_none))
+
+page_left : (rows : List EncodedRow) (more : List (List ℕ × Datum)) → 1 ≤ length rows → entries_of rows ++ more ≡ [] → ⊥
+page_left [] more some e = omega (arith, some)
+page_left (row ∷ rows) more some e = cc
+
+none_left : (rows : List EncodedRow) (pages : List Page) → entries_of rows ++ entries_in pages ≡ [] → (length rows ≡ 0) × (length pages ≡ 0)
+none_left [] [] e = (refl, refl)
+none_left [] (page ∷ pages) e = absurd (page_left page.rows.items (entries_in pages) page.some e)
+none_left (row ∷ rows) pages e = let never : ⊥ = cc in absurd never
+
+pub returns-then-is_empty : goal.returns-then-is_empty
+returns-then-is_empty c =
+    let rows = c.self.inside.rows.now in
+    let pages = c.self.inside.pages.now in
+    let no_rows : length rows ≡ 0 = eqb-true (length rows) 0 (sym c.if-is_empty.ensures) in (
+      λ is. sym c.self.view_is ∙ none rows pages no_rows (eqb-true (length pages) 0 (sym c.is_empty-then-is_empty.ensures ∙ is)),
+      λ e. c.is_empty-then-is_empty.ensures ∙ eq-eqb (length pages) 0 (none_left rows pages (c.self.view_is ∙ e)).1,
+    )
+
+pub returns-else-is_empty : goal.returns-else-is_empty
+returns-else-is_empty c =
+    let rows = c.self.inside.rows.now in
+    let pages = c.self.inside.pages.now in (
+      λ is. absurd (false≢true (sym c.if-is_empty.false ∙ is)),
+      λ e. absurd (false≢true (c.if-is_empty.ensures ∙ eq-eqb (length rows) 0 (none_left rows pages (c.self.view_is ∙ e)).0)),
+    )

@@ -1,0 +1,75 @@
+-- Where the names that repeat in a GetBulk stand among the variables of a view. No clause of a
+-- public call is stated by these.
+use Rattle.std.specs.Prelude.{◌≡◌, ℕ, ◌+◌, List, [], ◌∷◌, map}
+use Rattle.snmp_oid.specs.Identifier.{IsWire}
+use Rattle.snmp_wire.specs.Message.{Datum, VarBind, end_of_mib_view}
+use Rattle.snmp_agent.specs.table.Table.{MibView, IsNext, IsNextAfter}
+use Rattle.snmp_agent.specs.table.Pages.{AreBehind}
+use Rattle.snmp_agent.specs.table.Places.{var_of}
+use Rattle.snmp_agent.specs.declared.bulk.Progress.{Progress}
+use Rattle.snmp_agent.specs.declared.bulk.Progress.TheVariants as progress
+use Rattle.snmp_agent.specs.declared.place.Given.{Given}
+use Rattle.snmp_agent.specs.declared.place.Given.TheVariants as given
+
+-- the name of the first binding, or that of no numbers where there is none
+abbrev pub first_name : List VarBind → List ℕ
+first_name [] = []
+first_name (p ∷ more) = p.name
+
+-- the name of what was given last
+abbrev pub name_of : Given → List ℕ
+name_of given.Nothing = []
+name_of (given.Asked bindings) = first_name bindings
+name_of (given.Row row) = row.now.row.name.items
+
+-- a name, and the variables behind it
+pub record Standing : Type 0 where
+  pub name : List ℕ
+  pub rows : List (List ℕ × Datum)
+
+-- what a GetNext of the name gives: the first of these variables, else the name itself with
+-- endOfMibView
+abbrev pub first_of : List ℕ → List (List ℕ × Datum) → VarBind
+first_of o [] = record { name = o; value = end_of_mib_view }
+first_of o (e ∷ es) = var_of e
+
+-- where that leaves
+abbrev pub behind_first : List ℕ → List (List ℕ × Datum) → Standing
+behind_first o [] = record { name = o; rows = [] }
+behind_first o (e ∷ es) = record { name = e.0; rows = es }
+
+abbrev pub next_at : Standing → VarBind
+next_at place = first_of place.name place.rows
+
+abbrev pub passed : Standing → Standing
+passed place = behind_first place.name place.rows
+
+-- the place is where a name stands after `round` rounds: what comes next there is what the name is
+-- given in the round after them
+pub record Stands (view : MibView) (round : ℕ) (asked : List ℕ) (place : Standing) : Type 0 where
+  pub wire : IsWire place.name
+  pub behind : AreBehind view place.name place.rows
+  pub chain : (p : VarBind) → IsNext view place.name p → IsNextAfter view round asked p
+
+-- each name stands at the place that is beside it
+abbrev pub AreStanding : MibView → ℕ → List VarBind → List Standing → Type 0
+AreStanding view round [] [] = Unit {0}
+AreStanding view round [] (place ∷ places) = ⊥
+AreStanding view round (asked ∷ more) [] = ⊥
+AreStanding view round (asked ∷ more) (place ∷ places) = Stands view round asked.name place
+    × AreStanding view round more places
+
+-- the names at the places have encodings
+abbrev pub AreWireNames : List Standing → Type 0
+AreWireNames [] = Unit {0}
+AreWireNames (place ∷ places) = IsWire place.name × AreWireNames places
+
+-- no variable is left at any place
+abbrev pub AreAtEnd : List Standing → Type 0
+AreAtEnd [] = Unit {0}
+AreAtEnd (place ∷ places) = (place.rows ≡ []) × AreAtEnd places
+
+-- all places are moved where no binding of the round was left out
+abbrev pub AreMoved : List Standing → Progress → List Standing → Type 0
+AreMoved places (progress.Open total) moved = moved ≡ map passed places
+AreMoved places (progress.Closed total) moved = Unit {0}

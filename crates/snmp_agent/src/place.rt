@@ -1,0 +1,122 @@
+//! Where the names that repeat in a GetBulk stand among the rows of a table.
+ghost use Rattle.std.specs.Prelude.{◌≡◌, IfSome, IfNone};
+ghost use Rattle.snmp_oid.specs.Identifier.{IsWire};
+ghost use Rattle.snmp_wire.specs.Message.{end_of_mib_view};
+ghost use Rattle.snmp_agent.specs.Answering.{IsAppended, IsTooLong};
+ghost use Rattle.snmp_agent.specs.Standing.{name_of};
+
+use crate::draft::{Draft, blank};
+use crate::table::{EncodedRow, Successors, Table};
+use snmp_wire::{Bindings, MAX_DATAGRAM, Oid, ValueRef};
+use std::marker::Model;
+
+/// What a name was given last.
+#[derive(Drop)]
+pub enum Given<'a> {
+    /// Nothing, and there is no name.
+    Nothing,
+    /// Nothing: it is the name of the first of these bindings of a request.
+    Asked(Bindings<'a>),
+    /// A row.
+    Row(&'a EncodedRow),
+}
+
+/// Where a name that repeats stands.
+#[derive(Drop)]
+pub struct Place<'a> {
+    /// What it was given last.
+    given: Given<'a>,
+    /// The rows behind that.
+    rows: Successors<'a>,
+}
+
+impl<'a> Model for Place<'a> {
+    ghost use Rattle.snmp_agent.specs.Standing.{Standing, name_of};
+
+    ghost Value = { Standing };
+
+    ghost view = { λ p. record { name = name_of p.given; rows = p.rows } };
+}
+
+impl<'a> Default for Place<'a> {
+    ghost use Rattle.std.specs.Prelude.{◌≡◌, []};
+
+    ghost is_default = { λ place. place.name ≡ [] };
+
+    fn default() -> Place<'a> {
+        Place {
+            given: Given::Nothing,
+            rows: Successors::default(),
+        }
+    }
+}
+
+impl<'a> Place<'a> {
+    ghost use Rattle.std.specs.Prelude.{◌≡◌, ◌↔◌, [], IfSome, IfNone, IsTrue};
+    ghost use Rattle.snmp_oid.specs.Identifier.{IsWire};
+    ghost use Rattle.snmp_agent.specs.Answering.{IsAppended, IsTooLong};
+    ghost use Rattle.snmp_agent.specs.Standing.{first_name, next_at, passed};
+    ghost use Rattle.snmp_agent.specs.table.Pages.{AreBehind};
+
+    /// The place of the first of these bindings of a request, whose name this is.
+    pub fn new(table: &'a Table, asked: Bindings<'a>, name: &Oid) -> Place<'a>
+        ensures name { result.name ≡ first_name asked.entry }
+        ensures behind { AreBehind table.now name.now result.rows }
+    {
+        Place {
+            given: Given::Asked(asked),
+            rows: table.after(name),
+        }
+    }
+
+    /// Whether no row is left, so that the name is given `EndOfMibView`.
+    #[inline]
+    pub fn is_at_end(&self) -> bool
+        ensures { IsTrue result ↔ (self.now.rows ≡ []) }
+    {
+        self.rows.is_empty()
+    }
+
+    /// Writes what a GetNext gives at the place after the bindings of a draft, and moves the place
+    /// behind that. None, and nothing is written, where there is no room for it.
+    #[inline]
+    pub fn append_next(&mut self, draft: Draft, out: &mut [u8; MAX_DATAGRAM]) -> Option<usize>
+        requires { IsWire self.old.name }
+        ensures written { IfSome result
+            (λ n. IsAppended draft.room draft.total out.old (next_at self.old) n out.new) }
+        ensures too_long { IfNone result (IsTooLong draft.room draft.total (next_at self.old)) }
+        ensures unchanged_on_none { IfNone result (out.new ≡ out.old) }
+        ensures moved { self.new ≡ passed self.old }
+    {
+        match self.rows.next_row() {
+            Some(row) => {
+                self.given = Given::Row(row);
+                draft.append_row(out, row)
+            }
+            None => append_end(&self.given, draft, out),
+        }
+    }
+}
+
+/// Writes the name of what was given last with `EndOfMibView`, as [`Place::append_next`] does. Not
+/// inlined: its binding, of over a thousand octets, is set to zeros as the function begins.
+#[inline(never)]
+fn append_end(given: &Given<'_>, draft: Draft, out: &mut [u8; MAX_DATAGRAM]) -> Option<usize>
+    requires { IsWire (name_of given.now) }
+    ensures written { IfSome result (λ n. IsAppended draft.room draft.total out.old
+        (record { name = name_of given.now; value = end_of_mib_view }) n out.new) }
+    ensures too_long { IfNone result (IsTooLong draft.room draft.total
+        (record { name = name_of given.now; value = end_of_mib_view })) }
+    ensures unchanged_on_none { IfNone result (out.new ≡ out.old) }
+{
+    let mut binding = blank();
+    match given {
+        Given::Nothing => {}
+        Given::Asked(bindings) => {
+            let _ = bindings.left().read_next(&mut binding);
+        }
+        Given::Row(row) => row.read_into(&mut binding),
+    }
+    binding.value = ValueRef::EndOfMibView;
+    draft.append(out, &binding)
+}

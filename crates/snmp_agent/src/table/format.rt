@@ -1,0 +1,143 @@
+//! The names in a table's text: those that a reader hands in, and the two formats.
+ghost use Rattle.std.specs.Prelude.{◌≡◌, ◌++◌, ◌∷◌, ◌↔◌, IsTrue, MatchOption, codes};
+ghost use Rattle.std.specs.Str.Lines.{lines};
+ghost use Rattle.snmp_agent.specs.table.Exact.{IsOnly};
+ghost use Rattle.snmp_agent.specs.table.Format.{EndsAtBar, Format, HasNoEnd, IsFrontRead, IsMarked};
+ghost use Rattle.snmp_agent.specs.table.Format.{IsName, IsNameIn, Names, bar, numeric_names};
+ghost use Rattle.snmp_agent.specs.table.Format.{first_format, second_format};
+
+use crate::table::split::{split_line, split_once};
+use snmp_io::{split_unquoted, unquoted_front};
+use snmp_wire::{Oid, parse_numeric};
+
+/// What reads the names of a table file of the second format (`docs/PROFILE.md`).
+pub trait Resolver {
+    /// Which texts are names, and of what.
+    ghost names: { Self → Names };
+
+    /// The name that stands before the first `|` outside quotes, or is the whole text, and its
+    /// length in octets. None where that is no name.
+    fn front(&self, text: &[u8]) -> Option<(Oid, usize)>
+        ensures { IsFrontRead (names self.now) text.now result };
+}
+
+/// Numeric names alone.
+#[derive(Clone, Copy, Debug)]
+pub struct NumericNames;
+
+impl Resolver for NumericNames {
+    ghost use Rattle.snmp_agent.specs.table.Format.{IsFrontRead, numeric_names};
+
+    ghost names = { λ _. numeric_names };
+
+    fn front(&self, text: &[u8]) -> Option<(Oid, usize)>
+        ensures { IsFrontRead numeric_names text.now result }
+    {
+        let front = unquoted_front(text, b'|');
+        match numeric_name(front) {
+            Some(oid) => Some((oid, front.len())),
+            None => None,
+        }
+    }
+}
+
+/// A format of a table's lines.
+pub trait LineFormat {
+    ghost format: { Self → Format };
+
+    /// The identifier that a text names.
+    fn name(&self, text: &[u8]) -> Option<Oid>
+        ensures { IsOnly (IsNameIn (format self.now) text.now) result };
+
+    /// A row's name, and what follows the bar that ends it. None where no bar does.
+    fn split_name<'b>(&self, line: &'b [u8]) -> Option<(&'b [u8], &'b [u8])>
+        ensures { MatchOption result (HasNoEnd (format self.now) line.now)
+            (λ parts. (line.now ≡ parts.0.now ++ bar ∷ parts.1.now)
+            × EndsAtBar (format self.now) parts.0.now) };
+}
+
+/// Numeric names, which end at the first bar.
+#[derive(Clone, Copy)]
+pub struct FirstFormat;
+
+impl LineFormat for FirstFormat {
+    ghost use Rattle.std.specs.Prelude.{◌≡◌, ◌++◌, ◌∷◌, MatchOption};
+    ghost use Rattle.snmp_agent.specs.table.Exact.{IsOnly};
+    ghost use Rattle.snmp_agent.specs.table.Format.{EndsAtBar, HasNoEnd, IsNameIn, bar};
+    ghost use Rattle.snmp_agent.specs.table.Format.{first_format};
+
+    ghost format = { λ _. first_format };
+
+    fn name(&self, text: &[u8]) -> Option<Oid>
+        ensures { IsOnly (IsNameIn first_format text.now) result }
+    {
+        numeric_name(text)
+    }
+
+    fn split_name<'b>(&self, line: &'b [u8]) -> Option<(&'b [u8], &'b [u8])>
+        ensures { MatchOption result (HasNoEnd first_format line.now)
+            (λ parts. (line.now ≡ parts.0.now ++ bar ∷ parts.1.now)
+            × EndsAtBar first_format parts.0.now) }
+    {
+        split_once(line, b'|')
+    }
+}
+
+/// The names of a reader, which end at the first bar outside quotes.
+#[derive(Drop)]
+pub struct SecondFormat<'a, R: Resolver> {
+    /// What reads the names.
+    pub names: &'a R,
+}
+
+impl<'a, R: Resolver> LineFormat for SecondFormat<'a, R> {
+    ghost use Rattle.std.specs.Prelude.{◌≡◌, ◌++◌, ◌∷◌, MatchOption};
+    ghost use Rattle.snmp_agent.specs.table.Exact.{IsOnly};
+    ghost use Rattle.snmp_agent.specs.table.Format.{EndsAtBar, HasNoEnd, IsNameIn, bar};
+    ghost use Rattle.snmp_agent.specs.table.Format.{second_format};
+
+    ghost format = { λ f. second_format (R.names f.names.now) };
+
+    fn name(&self, text: &[u8]) -> Option<Oid>
+        ensures { IsOnly (IsNameIn (second_format (R.names self.now.names.now)) text.now) result }
+    {
+        match self.names.front(text) {
+            Some((oid, size)) if size == text.len() => Some(oid),
+            _ => None,
+        }
+    }
+
+    fn split_name<'b>(&self, line: &'b [u8]) -> Option<(&'b [u8], &'b [u8])>
+        ensures { MatchOption result
+            (HasNoEnd (second_format (R.names self.now.names.now)) line.now)
+            (λ parts. (line.now ≡ parts.0.now ++ bar ∷ parts.1.now)
+            × EndsAtBar (second_format (R.names self.now.names.now)) parts.0.now) }
+    {
+        split_unquoted(line, b'|')
+    }
+}
+
+/// The identifier that a numeric name has.
+fn numeric_name(text: &[u8]) -> Option<Oid>
+    ensures { IsOnly (IsName text.now) result }
+{
+    parse_numeric(text).ok()
+}
+
+/// Whether the first line says that the text is of the second format.
+pub fn is_marked(text: &[u8]) -> bool
+    ensures { IsTrue result ↔ IsMarked (lines text.now) }
+{
+    if text.is_empty() {
+        return false;
+    }
+    let (line, _) = split_line(text);
+    is_mark(line)
+}
+
+/// Whether a line is the mark of the second format.
+fn is_mark(line: &[u8]) -> bool
+    ensures { IsTrue result ↔ line.now ≡ codes "#snmptab 2" }
+{
+    line == b"#snmptab 2".as_slice()
+}

@@ -1,0 +1,149 @@
+//! Tables of several pages, whose rows are compared with those of a plain map.
+
+use crate::changes::{is_numbered, name_of};
+use snmp_agent::Table;
+use snmp_wire::{Binding, ValueRef};
+use std::alloc::{AllocError, Global};
+use std::collections::BTreeMap;
+use std::process::Abort;
+
+/// Numbers in no order, the same in each run.
+#[derive(Drop)]
+struct Random {
+    state: u32,
+}
+
+impl Random {
+    /// The next number below the bound.
+    fn below(&mut self, bound: u32) -> u32 {
+        self.state = self.state.wrapping_mul(1664525).wrapping_add(1013904223);
+        (self.state >> 8) % bound.max(1)
+    }
+}
+
+/// Whether the rows are those of the map, from each number to its value, and no others.
+fn has_rows(table: &Table, map: &BTreeMap<u32, u32>) -> bool {
+    let mut binding = Binding::empty();
+    let mut rows = table.after(&binding.name);
+    for (number, value) in map.iter() {
+        rows.advance(&mut binding);
+        if !is_numbered(&binding, *number, *value) {
+            return false;
+        }
+    }
+    rows.advance(&mut binding);
+    matches!(binding.value, ValueRef::EndOfMibView)
+}
+
+/// Puts the value at the row of the number, in both. Whether both say that there was none, or both
+/// that there was one.
+fn is_put(table: &mut Table, map: &mut BTreeMap<u32, u32>, number: u32, value: u32) -> bool {
+    let Some(name) = name_of(number) else {
+        return false;
+    };
+    match (
+        table.put(&name, ValueRef::Counter32(value)),
+        map.insert(number, value),
+    ) {
+        (Ok(replaced), Ok(old)) => replaced == old.is_some(),
+        _ => false,
+    }
+}
+
+/// Removes the row of the number from both. Whether both say that there was one, or both that there
+/// was none.
+fn is_removed(table: &mut Table, map: &mut BTreeMap<u32, u32>, number: u32) -> bool {
+    match name_of(number) {
+        Some(name) => table.remove(&name) == map.remove(&number).is_some(),
+        None => false,
+    }
+}
+
+#[test]
+fn changes_in_no_order_are_those_of_a_map(rt: HostRuntime) {
+    let mut table = Table::read(rt.alloc(), b"").expect(&rt, "a table");
+    let mut map = BTreeMap::new(rt.alloc());
+    let mut random = Random { state: 1 };
+    for change in 0..10000 {
+        let number = random.below(1500);
+        if random.below(3) == 0 {
+            assert!(rt; is_removed(&mut table, &mut map, number));
+        } else {
+            assert!(rt; is_put(&mut table, &mut map, number, change));
+        }
+        if change % 500 == 499 {
+            assert!(rt; has_rows(&table, &map), "after {change} changes");
+        }
+    }
+}
+
+/// The text of `count` rows of numbers that go up by `step`, from 0 on again at the count.
+fn text_of(alloc: Global, count: u32, step: u32) -> Result<Vec<u8>, AllocError> {
+    let mut text = Vec::new(alloc);
+    let mut number: u32 = 0;
+    for _ in 0..count {
+        let line = format!(in alloc; "1.3.6.1.4.1.32473.1.{number}.0|65|{number}\n")?;
+        text.extend_from_slice(line.as_bytes())?;
+        number = number.wrapping_add(step) % count.max(1);
+    }
+    Ok(text)
+}
+
+/// Whether a table that is read of `count` such rows has them.
+fn is_read(alloc: Global, count: u32, step: u32) -> Option<bool> {
+    let text = text_of(alloc, count, step).ok()?;
+    let table = Table::read(alloc, &text).ok()?;
+    let mut map = BTreeMap::new(alloc);
+    for number in 0..count {
+        map.insert(number, number).ok()?;
+    }
+    Some(has_rows(&table, &map))
+}
+
+#[test]
+fn rows_are_read_around_the_size_of_a_page(rt: HostRuntime) {
+    // A step that has no factor in common with a count comes to each number once.
+    for &count in &[0, 1, 255, 256, 257, 512, 513] {
+        assert!(rt;
+            is_read(rt.alloc(), count, 1) == Some(true),
+            "{count} rows that rise"
+        );
+        assert!(rt;
+            is_read(rt.alloc(), count, 101) == Some(true),
+            "{count} rows in no order"
+        );
+    }
+}
+
+/// The numbers before and after which an encoding becomes longer.
+const EDGES: [u32; 7] = [127, 128, 16383, 16384, 2097151, 2097152, 4294967295];
+
+/// Whether the rows of the edges have their order, where they are put in the order of this number.
+fn is_ordered(alloc: Global, order: usize) -> Option<bool> {
+    let mut table = Table::read(alloc, b"").ok()?;
+    let mut map = BTreeMap::new(alloc);
+    let mut left = Vec::from_array(alloc, EDGES).ok()?;
+    let mut order = order;
+    for _ in 0..EDGES.len() {
+        let count = left.len();
+        if count == 0 {
+            return None;
+        }
+        let number = left.remove(order % count);
+        order /= count;
+        if !is_put(&mut table, &mut map, number, number) {
+            return None;
+        }
+    }
+    Some(has_rows(&table, &map))
+}
+
+#[test]
+fn names_at_the_edges_of_encodings_are_in_order(rt: HostRuntime) {
+    for order in 0..5040 {
+        assert!(rt;
+            is_ordered(rt.alloc(), order) == Some(true),
+            "order {order}"
+        );
+    }
+}
