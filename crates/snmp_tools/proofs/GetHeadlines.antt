@@ -1,38 +1,35 @@
 -- The headline of snmpget, of what a job wrote and reported.
-use Rattle.std.proofs.Common.{◌≡◌, ◌⊎◌, inl, inr, ◌++◌, ℕ, All, List, [], Option, None, refl, sym, ◌∙◌, ap, subst, append_assoc, codes}
+use Rattle.std.proofs.Common.{◌≡◌, ◌⊎◌, inl, inr, ℕ, All, List, [], Option, None, false, refl, sym, ◌∙◌, ap, subst, codes}
 use Rattle.std.specs.Str.Lines.{lines}
-use Rattle.smi_value.specs.declared.letters.letters.Letters.{Letters}
 use Rattle.snmp_oid.specs.Identifier.{IsWire, wire}
 use Rattle.snmp_wire.specs.Message.{VarBind}
 use Rattle.snmp_agent.specs.table.Table.{MibView}
 use Rattle.snmp_agent.specs.declared.table.error.TableError.{TableError}
 use Rattle.snmp_agent.specs.declared.table.error.TableError.TheVariants as table_error
+use Rattle.snmp_agent.specs.table.Format.{Names}
 use Rattle.snmp_agent.specs.table.Stated.{IsTableOf, IsFirstFault}
-use Rattle.snmp_walk.specs.Facts.{IsDone}
 use Rattle.snmp_walk.specs.Get.{AreGot, HasRoomForGet}
-use Rattle.snmp_walk.specs.declared.end.SinkFault.TheVariants as sink
 use Rattle.snmp_walk.specs.declared.end.WalkEnd.{WalkEnd}
-use Rattle.snmp_walk.specs.declared.end.WalkEnd.TheVariants as ending
 use Rattle.snmp_tools.specs.loading.Warned.{warning_lines}
 use Rattle.smi_names.specs.declared.nodes.warning.Warning.{Warning}
 use Rattle.snmp_io.specs.Output.{IsWritten, Stream, extended}
 use Rattle.snmp_net.specs.Address.{table, udp}
 use Rattle.snmp_words.specs.Words.{GetWords}
 use Rattle.snmp_tools.specs.agent.Outcome.{Faults}
-use Rattle.snmp_tools.specs.agent.TableFile.{HasTable}
+use Rattle.snmp_tools.specs.agent.TableFile.{HasTable, names_in}
 use Rattle.snmp_tools.specs.Get.{AskForGet, GetPlan}
 use Rattle.snmp_tools.specs.GetHeadline.{GetEndsAtStatus0, GetWritesAllAtStatus0, GetWritesFront, IsGetOf}
-use Rattle.snmp_tools.specs.Got.{IsGetFor, IsGetOutcome, IsGetOutcomeBy, IsGetRun, agent_for, fault_at, got, got_over, loaded, not_asked}
+use Rattle.snmp_tools.specs.Got.{IsGetFor, IsGetOutcome, IsGetOutcomeBy, IsGetRun, agent_for, got, got_over, loaded, not_asked}
 use Rattle.snmp_tools.specs.Got.{not_linked, not_loaded, request_for}
 use Rattle.snmp_tools.specs.Headline.{IsMishap}
-use Rattle.snmp_tools.specs.Lines.{AreLines, IsPrintedUpTo}
-use Rattle.snmp_tools.specs.Message.{Fault, ended}
+use Rattle.snmp_tools.specs.Lines.{AreLines}
+use Rattle.snmp_tools.specs.Message.{Fault}
 use Rattle.snmp_io.specs.Files.{Holdings, MayHold}
 use Rattle.snmp_tools.specs.Mib.{AreLoaded, Mib}
-use Rattle.snmp_tools.specs.Outcome.{IsOwnEnd, IsReported}
+use Rattle.snmp_tools.specs.Outcome.{IsReported}
 use Rattle.snmp_tools.proofs.GetWants.{get_wants_early, get_wants_late, one_get}
-use Rattle.snmp_tools.proofs.Headlines.{Stops, line_told, mishap, want_told}
-use Rattle.snmp_tools.proofs.Outcomes.{IsFront, no_fault_at_0, printed_front}
+use Rattle.snmp_tools.proofs.Headlines.{Stops, mishap, own_told, want_told}
+use Rattle.snmp_tools.proofs.Outcomes.{IsFront, finished_all, finished_front, no_fault_at_0, plain_front, plain_whole}
 use Rattle.snmp_tools.proofs.Plans.{OneList, OneTree, held_is, one_load, one_path}
 use Rattle.snmp_io.specs.Streams.{nothing_taken}
 
@@ -44,47 +41,8 @@ pub get_refused_end : (words : GetWords) (files : Holdings) (before after err_be
     → IsWritten err_before (codes "Out of memory.\n") err_after → GetEndsAtStatus0 words files before after err_before err_after 1
 get_refused_end words files before after err_before err_after told rows get sent room = inr (refl, inr (err_before, told, inl refl))
 
--- a front of the rows that were printed is one of all of them
-front_of_all : (mib : Mib) (letters : Letters) (before after : Stream) (printed rows more : List VarBind) → rows ≡ printed ++ more
-    → IsFront mib letters printed before after → IsFront mib letters rows before after
-front_of_all mib letters before after printed rows more parts h =
-    (h.0, h.1 ++ more, h.2, parts ∙ ap (λ (s : List VarBind). s ++ more) h.3 ∙ append_assoc h.0 h.1 more, h.4, h.5)
-
--- a Get of which no fault is reported was done, and its lines were printed whole
-done_lines : (mib : Mib) (letters : Letters) (agent : List ℕ) (given refused all : List VarBind) (end : WalkEnd) (before after : Stream)
-    → (IsDone end → given ≡ all) → IsPrintedUpTo mib letters before given refused end after → None ≡ fault_at agent end
-    → (text : List ℕ) × AreLines mib letters all text × (after ≡ extended before text)
-done_lines mib letters agent given refused all (ending.Done n) before after whole lines e =
-    (lines.0, subst (λ (rows : List VarBind). AreLines mib letters rows lines.0) (whole tt) lines.1, lines.2)
-done_lines mib letters agent given refused all (ending.Sink fault) before after whole lines e = let no : ⊥ = cc in absurd no
-done_lines mib letters agent given refused all (ending.Fault status index) before after whole lines e = let no : ⊥ = cc in absurd no
-done_lines mib letters agent given refused all (ending.NoProgress asked) before after whole lines e = let no : ⊥ = cc in absurd no
-done_lines mib letters agent given refused all ending.BadReply before after whole lines e = let no : ⊥ = cc in absurd no
-done_lines mib letters agent given refused all (ending.NotIncreasing last next) before after whole lines e = let no : ⊥ = cc in absurd no
-done_lines mib letters agent given refused all ending.TooManyRequests before after whole lines e = let no : ⊥ = cc in absurd no
-done_lines mib letters agent given refused all ending.RequestTooLong before after whole lines e = let no : ⊥ = cc in absurd no
-done_lines mib letters agent given refused all ending.NoResponse before after whole lines e = let no : ⊥ = cc in absurd no
-done_lines mib letters agent given refused all ending.Link before after whole lines e = let no : ⊥ = cc in absurd no
-
--- a Get that ended for no reason but its own, the output's or memory's
-own_told : (mib : Mib) (letters : Letters) (agent : List ℕ) (given refused : List VarBind) (end : WalkEnd) (before after err_before err_after : Stream)
-    (status : ℕ) → IsOwnEnd end → IsPrintedUpTo mib letters before given refused end after → IsReported (fault_at agent end) err_before err_after status
-    → (status ≡ 0) ⊎ Stops before after err_before err_after status
-own_told mib letters agent given refused (ending.Done n) before after err_before err_after status own lines told = inl told.0
-own_told mib letters agent given refused (ending.Sink sink.Memory) before after err_before err_after status own lines told =
-    inr (line_told (ended agent (ending.Sink sink.Memory)) before after err_before err_after status refl refl told)
-own_told mib letters agent given refused (ending.Sink sink.Output) before after err_before err_after status own lines told = inr (told.0, inl lines.4.counted)
-own_told mib letters agent given refused (ending.Fault a b) before after err_before err_after status own lines told = absurd own
-own_told mib letters agent given refused (ending.NoProgress asked) before after err_before err_after status own lines told = absurd own
-own_told mib letters agent given refused ending.BadReply before after err_before err_after status own lines told = absurd own
-own_told mib letters agent given refused (ending.NotIncreasing last next) before after err_before err_after status own lines told = absurd own
-own_told mib letters agent given refused ending.TooManyRequests before after err_before err_after status own lines told = absurd own
-own_told mib letters agent given refused ending.RequestTooLong before after err_before err_after status own lines told = absurd own
-own_told mib letters agent given refused ending.NoResponse before after err_before err_after status own lines told = absurd own
-own_told mib letters agent given refused ending.Link before after err_before err_after status own lines told = absurd own
-
-module _ (one_table : (ls : List (List ℕ)) (v w : MibView) → IsTableOf ls v → IsTableOf ls w → v ≡ w)
-    (no_fault : (ls : List (List ℕ)) (view : MibView) (fault : TableError) → IsTableOf ls view → IsFirstFault ls fault → fault ≡ table_error.Memory)
+module _ (one_table : (names : Names) (ls : List (List ℕ)) (v w : MibView) → IsTableOf names ls v → IsTableOf names ls w → v ≡ w)
+    (no_fault : (names : Names) (ls : List (List ℕ)) (view : MibView) (fault : TableError) → IsTableOf names ls view → IsFirstFault names ls fault → fault ≡ table_error.Memory)
     (one_list : OneList) (one_tree : OneTree) (Facts : List ℕ → ℕ → ℕ → ℕ → GetPlan → List VarBind → List VarBind → WalkEnd → Type 0)
     (faults : Faults) (words : GetWords) (files : Holdings) (before after err_before err_after : Stream) (status : ℕ)
     (run : IsGetRun Facts faults words files before after err_before err_after status) where
@@ -106,13 +64,15 @@ module _ (one_table : (ls : List (List ℕ)) (v w : MibView) → IsTableOf ls v 
         agent_is : plan.agent ≡ table get.path
         agent_is = sym (ap (λ (p : GetPlan). p.agent) plan_is) ∙ get.over
 
-        view_is : (path : List ℕ) (view : MibView) → plan.agent ≡ table path → HasTable files path view → get.view ≡ view
+        view_is : (path : List ℕ) (view : MibView) → plan.agent ≡ table path → HasTable files (names_in mib.naming) path view → get.view ≡ view
         view_is path view over states =
             let same : get.path ≡ path = one_path get.path path (sym agent_is ∙ over) in
             let text : states.0 ≡ get.text = held_is (files path) states.0 get.text states.1 (ap files (sym same) ∙ get.held) in
-            one_table (lines get.text) get.view view get.table (subst (λ (t : List ℕ). IsTableOf (lines t) view) text states.2)
+            let P : Mib → List ℕ → Type 0 = λ m t. IsTableOf (names_in m.naming) (lines t) view in
+            one_table (names_in get.mib.naming) (lines get.text) get.view view get.table
+            (subst (λ (m : Mib). P m get.text) (sym mib_is) (subst (P mib) text states.2))
 
-        rows_over : (path : List ℕ) (view : MibView) → plan.agent ≡ table path → HasTable files path view → AreGot view plan.names rows
+        rows_over : (path : List ℕ) (view : MibView) → plan.agent ≡ table path → HasTable files (names_in mib.naming) path view → AreGot view plan.names rows
         rows_over path view over states =
             subst (λ (v : MibView). AreGot v plan.names rows) (view_is path view over states)
             (subst (λ (p : GetPlan). AreGot get.view p.names rows) plan_is get.are_rows)
@@ -124,10 +84,11 @@ module _ (one_table : (ls : List (List ℕ)) (v w : MibView) → IsTableOf ls v 
       front_by : (fault : Option Fault) → IsGetOutcomeBy Facts faults words files mib before after fault → IsFront get.mib get.plan.letters rows before after
       front_by fault (not_asked why refusal same is) = ([], rows, [], refl, refl, nothing_taken before after [] same)
       front_by fault (got plan view path for over states printed) =
-          let part = printed.facts.front rows (rows_over plan for path view over states) in
+          let got_rows = rows_over plan for path view over states in
           over_same plan for (λ m p. IsFront m p.letters rows before after)
-          (front_of_all mib plan.letters before after (printed.given ++ printed.refused) rows part.0 part.1
-          (printed_front mib plan.letters before after printed.given printed.refused printed.end printed.lines))
+          (plain_front mib plan.letters words.asking.agent before rows after
+          (finished_front mib plan.letters words.asking.agent before rows false printed.given printed.refused printed.end printed.between after fault
+          printed.lines printed.finish (λ e. let no : ⊥ = cc in absurd no) (printed.facts.whole rows got_rows) (printed.facts.front rows got_rows)))
       front_by fault (not_linked plan host port for over risen same is) = absurd (no_net plan for host port over)
       front_by fault (got_over plan host port for over printed) = absurd (no_net plan for host port over)
 
@@ -135,9 +96,10 @@ module _ (one_table : (ls : List (List ℕ)) (v w : MibView) → IsTableOf ls v 
           → (text : List ℕ) × AreLines get.mib get.plan.letters rows text × (after ≡ extended before text)
       all_by fault none (not_asked why refusal same is) = let no : ⊥ = cc in absurd no
       all_by fault none (got plan view path for over states printed) =
+          let all = finished_all mib plan.letters words.asking.agent before rows false printed.given printed.refused printed.end printed.between after
+          fault none printed.lines printed.finish (λ e. let no : ⊥ = cc in absurd no) (printed.facts.whole rows (rows_over plan for path view over states)) in
           over_same plan for (λ m p. (text : List ℕ) × AreLines m p.letters rows text × (after ≡ extended before text))
-          (done_lines mib plan.letters words.asking.agent printed.given printed.refused rows printed.end before after
-          (printed.facts.whole rows (rows_over plan for path view over states)) printed.lines (sym none ∙ printed.reported))
+          (all.0, plain_whole mib plan.letters words.asking.agent before rows all.0 all.1, all.2)
       all_by fault none (not_linked plan host port for over risen same is) = absurd (no_net plan for host port over)
       all_by fault none (got_over plan host port for over printed) = absurd (no_net plan for host port over)
 
@@ -152,9 +114,8 @@ module _ (one_table : (ls : List (List ℕ)) (v w : MibView) → IsTableOf ls v 
             let enough : HasRoomForGet (agent_for plan view) (request_for plan) plan.names =
             subst (λ (v : MibView). HasRoomForGet (agent_for plan v) (request_for plan) plan.names) (view_is plan for path view over states)
             (subst (λ (p : GetPlan). HasRoomForGet (agent_for p get.view) (request_for p) p.names) (plan_is plan for) room) in
-            own_told mib plan.letters words.asking.agent printed.given printed.refused printed.end before after warned err_after status
-            (printed.facts.complete enough) printed.lines
-            (subst (λ (f : Option Fault). IsReported f warned err_after status) printed.reported told)
+            own_told mib plan.letters false words.asking.agent printed.given printed.refused printed.end before printed.between after warned err_after
+            fault status (printed.facts.complete enough) printed.lines printed.finish told
         ends_by warned fault (not_linked plan host port for over risen same is) told = absurd (no_net plan for host port over)
         ends_by warned fault (got_over plan host port for over printed) told = absurd (no_net plan for host port over)
 

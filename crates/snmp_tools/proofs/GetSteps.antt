@@ -118,16 +118,16 @@ module _ (words : GetWords) (files : Holdings) (why : Fault) where
           shown (after_all Done Fails why (map name_step words.names) (reach_step ∷ map sent_step words.names)
           (map_done name_step (HasMeaning mib) Done (λ text d. (mib, known, d)) words.names (are_named mib words.names names are)) h)
 
-      at_reach : ReachFails files agent why → IsLateGetRefusal words files why
-      at_reach f = named (first Done Fails why reach_step (map sent_step words.names) (agent, asked.reached, f))
+      at_reach : ReachFails files mib agent why → IsLateGetRefusal words files why
+      at_reach f = named (first Done Fails why reach_step (map sent_step words.names) (mib, agent, known, asked.reached, f))
 
-      pub reach_refused : (why ≡ out_of_memory) ⊎ ReachFails files agent why → IsLateGetRefusal words files why
+      pub reach_refused : (why ≡ out_of_memory) ⊎ ReachFails files mib agent why → IsLateGetRefusal words files why
       reach_refused (inl e) = inl e
       reach_refused (inr f) = at_reach f
 
-      pub at_sent : IsReached files agent → IsFirstToFail words.names (HasSendable mib) (HasUnsendable mib) why → IsLateGetRefusal words files why
+      pub at_sent : IsReached files mib agent → IsFirstToFail words.names (HasSendable mib) (HasUnsendable mib) why → IsLateGetRefusal words files why
       at_sent reached h =
-          named (goes_on reach_step (map sent_step words.names) (agent, asked.reached, reached)
+          named (goes_on reach_step (map sent_step words.names) (mib, agent, known, asked.reached, reached)
           (mapped sent_step (HasSendable mib) Done (λ text d. (mib, known, d)) (HasUnsendable mib) Fails why (λ text f. (mib, known, f)) words.names h))
 
 -- what the words of a Get say before names are looked up
@@ -142,9 +142,9 @@ asked_by words mib plan for = record {
 module _ (words : GetWords) (files : Holdings) (mib : Mib) (known : IsMibOf (MayHold files) words.asking mib) (plan : GetPlan)
     (for : IsGetFor words mib plan) (why : Fault) where
   -- the agent isn't reached
-  pub unreached : (why ≡ out_of_memory) ⊎ ReachFails files plan.agent why → IsLateGetRefusal words files why
+  pub unreached : (why ≡ out_of_memory) ⊎ ReachFails files mib plan.agent why → IsLateGetRefusal words files why
   unreached h = reach_refused words files why plan.letters plan.agent (asked_by words mib plan for) mib known plan.names for.asked.names h
 
   -- a name can't be sent
-  pub unsent : IsReached files plan.agent → IsFirstToFail words.names (HasSendable mib) (HasUnsendable mib) why → IsLateGetRefusal words files why
+  pub unsent : IsReached files mib plan.agent → IsFirstToFail words.names (HasSendable mib) (HasUnsendable mib) why → IsLateGetRefusal words files why
   unsent reached h = at_sent words files why plan.letters plan.agent (asked_by words mib plan for) mib known plan.names for.asked.names reached h

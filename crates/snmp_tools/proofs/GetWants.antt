@@ -10,10 +10,12 @@ use Rattle.snmp_wire.specs.Message.{VarBind}
 use Rattle.snmp_agent.specs.table.Table.{MibView}
 use Rattle.snmp_agent.specs.declared.table.error.TableError.{TableError}
 use Rattle.snmp_agent.specs.declared.table.error.TableError.TheVariants as table_error
+use Rattle.snmp_agent.specs.table.Format.{Names}
 use Rattle.snmp_agent.specs.table.Stated.{IsTableOf, IsFirstFault}
 use Rattle.snmp_io.specs.Files.{Holdings, MayHold}
 use Rattle.snmp_words.specs.Words.{GetWords}
 use Rattle.snmp_net.specs.Address.{Address, table}
+use Rattle.snmp_tools.specs.agent.TableFile.{names_in}
 use Rattle.snmp_tools.specs.agent.TableFile.{TableFails}
 use Rattle.snmp_tools.specs.Asking.{AskingFails, AskingStep, HasAgent, NameFails, ReachFails}
 use Rattle.snmp_tools.specs.Asking.{agent_step, community_step, letters_step, version_step}
@@ -63,17 +65,17 @@ both P [] b h k = k
 both P (s ∷ a) b h k = (h.0, both P a b h.1 k)
 
 module _ (one_list : OneList) (one_tree : OneTree)
-    (no_fault : (ls : List (List ℕ)) (view : MibView) (fault : TableError) → IsTableOf ls view → IsFirstFault ls fault → fault ≡ table_error.Memory)
+    (no_fault : (names : Names) (ls : List (List ℕ)) (view : MibView) (fault : TableError) → IsTableOf names ls view → IsFirstFault names ls fault → fault ≡ table_error.Memory)
     (words : GetWords) (files : Holdings) (rows : List VarBind) (get : IsGetOf words files rows) (why : Fault) where
   agent_is : (agent : Address) → HasAgent words.asking.agent agent → agent ≡ table get.path
   agent_is agent has = sym (has.1 get.plan.agent get.asked.agent) ∙ get.over
 
-  table_want_only : TableFails unreadable bad_table files get.path why → IsWant why
+  table_want_only : TableFails unreadable bad_table files (names_in get.mib.naming) get.path why → IsWant why
   table_want_only (inl f) = absurd (is_readable get.text (files get.path) get.held f.0)
   table_want_only (inr f) =
       let same : f.0 ≡ get.text = held_is (files get.path) f.0 get.text f.2 get.held in
       let memory : f.1 ≡ table_error.Memory =
-      no_fault (lines get.text) get.view f.1 get.table (subst (λ (t : List ℕ). IsFirstFault (lines t) f.1) same f.3) in
+      no_fault (names_in get.mib.naming) (lines get.text) get.view f.1 get.table (subst (λ (t : List ℕ). IsFirstFault (names_in get.mib.naming) (lines t) f.1) same f.3) in
       table_want get.path (f.4 ∙ ap (bad_table get.path) memory)
 
   known_as : (mib : Mib) → IsMibOf (MayHold files) words.asking mib → mib ≡ get.mib
@@ -132,7 +134,8 @@ module _ (one_list : OneList) (one_tree : OneTree)
   named_want : All (λ o. IsWire (wire o)) get.plan.names → AreDone Wants (get_naming_steps words)
   named_want sent =
       both Wants (map name_step words.names) (reach_step ∷ map sent_step words.names) (names_want words.names get.plan.names get.asked.names) (
-        (λ f. table_want_only (subst (λ (a : Address). ReachFails files a why) (agent_is f.0 f.1) f.2)),
+        (λ f. table_want_only (subst (λ (m : Mib). ReachFails files m (table get.path) why) (known_as f.0 f.2)
+            (subst (λ (a : Address). ReachFails files f.0 a why) (agent_is f.1 f.3) f.4))),
         all_sent words.names get.plan.names get.asked.names sent,
       )
 

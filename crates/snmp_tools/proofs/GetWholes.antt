@@ -7,7 +7,7 @@ use Rattle.snmp_wire.specs.Message.{VarBind}
 use Rattle.snmp_walk.specs.declared.end.WalkEnd.{WalkEnd}
 use Rattle.snmp_words.specs.Words.{GetWords}
 use Rattle.snmp_tools.specs.Get.{GetPlan}
-use Rattle.snmp_tools.specs.Got.{IsGetFor, IsGetOutcomeBy, IsGetPrinted, IsGetTableOutcome, got, not_asked}
+use Rattle.snmp_tools.specs.Got.{IsGetFor, IsGetOutcomeBy, IsGetTableOutcome, got, not_asked}
 use Rattle.snmp_tools.specs.Message.{Fault}
 use Rattle.snmp_io.specs.Files.{Holdings}
 use Rattle.snmp_tools.specs.Mib.{Mib}
@@ -18,16 +18,3 @@ pub of_get_table : (Facts : List ℕ → ℕ → ℕ → ℕ → GetPlan → Lis
     → IsGetTableOutcome words files mib plan path before after fault → IsGetOutcomeBy Facts faults words files mib before after fault
 of_get_table Facts faults words files mib plan path before after fault for at (inl r) = not_asked r.0 r.1 r.2 r.3
 of_get_table Facts faults words files mib plan path before after fault for at (inr w) = got plan w.0 path for at w.1 w.2
-
--- other facts that follow
-pub with_get_facts : (F G : List VarBind → List VarBind → WalkEnd → Type 0) (mib : Mib) (plan : GetPlan) (agent : List ℕ) (before after : Stream)
-    (fault : Option Fault) → ((given refused : List VarBind) (end : WalkEnd) → F given refused end → G given refused end)
-    → IsGetPrinted F mib plan agent before after fault → IsGetPrinted G mib plan agent before after fault
-with_get_facts F G mib plan agent before after fault follows p = record {
-  given = p.given;
-  refused = p.refused;
-  end = p.end;
-  facts = follows p.given p.refused p.end p.facts;
-  lines = p.lines;
-  reported = p.reported;
-}

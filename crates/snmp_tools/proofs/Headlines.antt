@@ -1,10 +1,11 @@
 -- The headline, of what a job wrote and reported.
-use Rattle.std.proofs.Common.{◌≡◌, ◌⊎◌, inl, inr, ◌++◌, ℕ, Bool, List, [], Option, Some, None, refl, sym, ◌∙◌, ap, subst, codes}
+use Rattle.std.proofs.Common.{◌≡◌, ◌⊎◌, inl, inr, ◌++◌, ℕ, Bool, true, false, List, [], Option, Some, None, refl, sym, ◌∙◌, ap, subst, codes}
 use Rattle.std.specs.Str.Lines.{lines}
 use Rattle.snmp_wire.specs.Message.{VarBind}
 use Rattle.snmp_agent.specs.table.Table.{MibView}
 use Rattle.snmp_agent.specs.declared.table.error.TableError.{TableError}
 use Rattle.snmp_agent.specs.declared.table.error.TableError.TheVariants as table_error
+use Rattle.snmp_agent.specs.table.Format.{Names}
 use Rattle.snmp_agent.specs.table.Stated.{IsTableOf, IsFirstFault}
 use Rattle.snmp_walk.specs.Walker.{Walker}
 use Rattle.snmp_walk.specs.declared.end.SinkFault.TheVariants as sink
@@ -13,6 +14,7 @@ use Rattle.snmp_walk.specs.declared.end.WalkEnd.TheVariants as ending
 use Rattle.snmp_io.specs.Count.{HasRisen}
 use Rattle.snmp_io.specs.Output.{IsWritten, Stream, extended}
 use Rattle.snmp_net.specs.Address.{table, udp}
+use Rattle.snmp_tools.specs.agent.TableFile.{names_in}
 use Rattle.snmp_tools.specs.agent.Outcome.{Faults}
 use Rattle.snmp_words.specs.Words.{WalkWords}
 use Rattle.snmp_tools.specs.Headline.{EndsAtStatus0, IsFeasible, IsMishap, IsWalk, IsWholeText, WritesAllAtStatus0, WritesFront}
@@ -67,21 +69,23 @@ want_told why before after err_before err_after status (table_want path e) told 
     (Some w) err_before err_after status) e told)
 
 -- a walk that ended for no reason but its own, the output's or memory's
-own_told : (mib : Mib) (letters : Letters) (counts : Bool) (agent : List ℕ) (given turned : List VarBind) (end : WalkEnd) (before between after err_before
+pub own_told : (mib : Mib) (letters : Letters) (counts : Bool) (agent : List ℕ) (given turned : List VarBind) (end : WalkEnd) (before between after err_before
     err_after : Stream)
     (fault : Option Fault) (status : ℕ)
-    → IsOwnEnd end → IsPrintedUpTo mib letters before given turned end between → IsFinished counts agent end between after fault
+    → IsOwnEnd end → IsPrintedUpTo mib letters before given turned end between → IsFinished agent end counts between after fault
     → IsReported fault err_before err_after status
     → (status ≡ 0) ⊎ Stops before after err_before err_after status
-own_told mib letters counts agent given turned (ending.Done n) before between after err_before err_after fault status own printed (inl finish) told =
+own_told mib letters true agent given turned (ending.Done n) before between after err_before err_after fault status own printed (inl finish) told =
     inl (subst (λ (f : Option Fault). IsReported f err_before err_after status) finish.1 told).0
-own_told mib letters counts agent given turned (ending.Done n) before between after err_before err_after fault status own printed (inr (inl finish)) told =
+own_told mib letters true agent given turned (ending.Done n) before between after err_before err_after fault status own printed (inr (inl finish)) told =
     inr (want_told out_of_memory before after err_before err_after status (plain_want refl) (subst (λ
     (f : Option Fault). IsReported f err_before err_after status) finish.1 told))
-own_told mib letters counts agent given turned (ending.Done n) before between after err_before err_after fault status own printed (inr (inr finish)) told =
+own_told mib letters true agent given turned (ending.Done n) before between after err_before err_after fault status own printed (inr (inr finish)) told =
     let faults : between.faults ≡ before.faults = ap (λ (s : Stream). s.faults) printed.2 in
     let risen = subst (λ (m : ℕ). HasRisen m after.faults) faults finish.0.counted in
     inr ((subst (λ (f : Option Fault). IsReported f err_before err_after status) finish.1 told).0, inl risen)
+own_told mib letters false agent given turned (ending.Done n) before between after err_before err_after fault status own printed finish told =
+    inl (subst (λ (f : Option Fault). IsReported f err_before err_after status) finish.1 told).0
 own_told mib letters counts agent given turned (ending.Sink sink.Memory) before between after err_before err_after fault status own printed finish told =
     inr (line_told (ended agent (ending.Sink sink.Memory)) before after err_before err_after status refl refl
     (subst (λ (f : Option Fault). IsReported f err_before err_after status) finish.1 told))
@@ -102,8 +106,8 @@ own_told mib letters counts agent given turned ending.RequestTooLong before betw
 own_told mib letters counts agent given turned ending.NoResponse before between after err_before err_after fault status own printed finish told = absurd own
 own_told mib letters counts agent given turned ending.Link before between after err_before err_after fault status own printed finish told = absurd own
 
-module _ (one_table : (ls : List (List ℕ)) (v w : MibView) → IsTableOf ls v → IsTableOf ls w → v ≡ w)
-    (no_fault : (ls : List (List ℕ)) (view : MibView) (fault : TableError) → IsTableOf ls view → IsFirstFault ls fault → fault ≡ table_error.Memory)
+module _ (one_table : (names : Names) (ls : List (List ℕ)) (v w : MibView) → IsTableOf names ls v → IsTableOf names ls w → v ≡ w)
+    (no_fault : (names : Names) (ls : List (List ℕ)) (view : MibView) (fault : TableError) → IsTableOf names ls view → IsFirstFault names ls fault → fault ≡ table_error.Memory)
     (one_list : OneList) (one_tree : OneTree) (Facts : List ℕ → ℕ → ℕ → ℕ → Walker → List VarBind → List VarBind → WalkEnd → Type 0)
     (faults : Faults) (bulk : Bool) (words : WalkWords) (files : Holdings) (before after err_before err_after : Stream) (status : ℕ)
     (run : IsWalkRun Facts faults bulk words files before after err_before err_after status) where
@@ -125,7 +129,9 @@ module _ (one_table : (ls : List (List ℕ)) (v w : MibView) → IsTableOf ls v 
         view_is : walk.view ≡ view
         view_is =
             let text : over.states.0 ≡ walk.text = held_is (files over.path) over.states.0 walk.text over.states.1 (ap files (sym path_is) ∙ walk.held) in
-            one_table (lines walk.text) walk.view view walk.table (subst (λ (t : List ℕ). IsTableOf (lines t) view) text over.states.2)
+            let P : Mib → List ℕ → Type 0 = λ m t. IsTableOf (names_in m.naming) (lines t) view in
+            one_table (names_in walk.mib.naming) (lines walk.text) walk.view view walk.table
+            (subst (λ (m : Mib). P m walk.text) (sym mib_is) (subst (P mib) text over.states.2))
 
         rows_over : AreRowsOf plan view rows
         rows_over =
@@ -139,14 +145,15 @@ module _ (one_table : (ls : List (List ℕ)) (v w : MibView) → IsTableOf ls v 
           let agents : table walk.path ≡ udp net.host net.port = sym walk.over ∙ ap (λ (p : Plan). p.agent) same ∙ net.over in
           cc
 
-      front : (fault : Option Fault) → IsWalkOutcomeBy Facts faults bulk words files mib before after fault → IsFrontOf walk.mib walk.plan rows before after
+      front : (fault : Option Fault) → IsWalkOutcomeBy Facts faults bulk words files mib before after fault
+          → IsFrontOf walk.mib walk.plan.letters walk.plan.counts rows before after
       front fault (refused why refusal same is) = ([], rows, [], refl, inl refl, nothing_taken before after [] same)
       front fault (walked plan view over printed) =
           let is_rows : AreRowsOf plan view rows = rows_over plan view over in
-          subst (λ (m : Mib). IsFrontOf m walk.plan rows before after) (sym mib_is)
-          (subst (λ (p : Plan). IsFrontOf mib p rows before after) (sym (plan_is plan view over))
-          (finished_front mib plan words.asking.agent before rows printed.given printed.turned printed.end printed.between after fault printed.lines
-          printed.finish printed.is_walked.counted (printed.is_walked.whole rows is_rows) (printed.is_walked.front rows is_rows)))
+          subst (λ (m : Mib). IsFrontOf m walk.plan.letters walk.plan.counts rows before after) (sym mib_is)
+          (subst (λ (p : Plan). IsFrontOf mib p.letters p.counts rows before after) (sym (plan_is plan view over))
+          (finished_front mib plan.letters words.asking.agent before rows plan.counts printed.given printed.refused printed.end printed.between after fault
+          printed.lines printed.finish (λ _. printed.facts.counted) (printed.facts.whole rows is_rows) (printed.facts.front rows is_rows)))
       front fault (not_linked plan net risen same is) = absurd (no_net plan net)
       front fault (walked_over plan net printed) = absurd (no_net plan net)
 
@@ -154,12 +161,10 @@ module _ (one_table : (ls : List (List ℕ)) (v w : MibView) → IsTableOf ls v 
           → (text : List ℕ) × IsWholeText walk.mib walk.plan rows text × (after ≡ extended before text)
       all fault none (refused why refusal same is) = let no : ⊥ = cc in absurd no
       all fault none (walked plan view over printed) =
-          let finish : IsFinished plan.counts words.asking.agent printed.end printed.between after None =
-          subst (λ (f : Option Fault). IsFinished plan.counts words.asking.agent printed.end printed.between after f) none printed.finish in
           let P : Mib → Plan → Type 0 = λ m p. (text : List ℕ) × IsWholeText m p rows text × (after ≡ extended before text) in
           subst (λ (m : Mib). P m walk.plan) (sym mib_is) (subst (P mib) (sym (plan_is plan view over))
-          (finished_all mib plan words.asking.agent before rows printed.given printed.turned printed.end printed.between after printed.lines finish
-          printed.is_walked.counted (printed.is_walked.whole rows (rows_over plan view over))))
+          (finished_all mib plan.letters words.asking.agent before rows plan.counts printed.given printed.refused printed.end printed.between after fault none
+          printed.lines printed.finish (λ _. printed.facts.counted) (printed.facts.whole rows (rows_over plan view over))))
       all fault none (not_linked plan net risen same is) = absurd (no_net plan net)
       all fault none (walked_over plan net printed) = absurd (no_net plan net)
 
@@ -172,13 +177,13 @@ module _ (one_table : (ls : List (List ℕ)) (v w : MibView) → IsTableOf ls v 
           let feasible : IsFeasible plan view =
           subst (λ (v : MibView). IsFeasible plan v) (view_is plan view over) (subst (λ (p : Plan). IsFeasible p walk.view)
           (plan_is plan view over) can) in
-          own_told mib plan.letters plan.counts words.asking.agent printed.given printed.turned printed.end before printed.between after warned err_after
-          fault status (printed.is_walked.complete feasible.room feasible.ids) printed.lines printed.finish told
+          own_told mib plan.letters plan.counts words.asking.agent printed.given printed.refused printed.end before printed.between after warned err_after
+          fault status (printed.facts.complete feasible.room feasible.ids) printed.lines printed.finish told
       ends can warned fault (not_linked plan net risen same is) told = absurd (no_net plan net)
       ends can warned fault (walked_over plan net printed) told = absurd (no_net plan net)
 
     outcome_front : (warned : Stream) (fault : Option Fault) → IsWalkOutcome Facts faults bulk words files before after err_before warned fault
-        → IsFrontOf walk.mib walk.plan rows before after
+        → IsFrontOf walk.mib walk.plan.letters walk.plan.counts rows before after
     outcome_front warned fault (not_loaded why early same untold is) = ([], rows, [], refl, inl refl, nothing_taken before after [] same)
     outcome_front warned fault (loaded mib warnings loading lines by) = front mib warnings loading fault by
 

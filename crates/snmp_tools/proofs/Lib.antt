@@ -7,13 +7,13 @@ pub mod GetWholes
 pub mod Headlines
 pub mod BareNames
 pub mod RowLines
+pub mod TableNames
 pub mod TableWalks
 pub mod LetterLemmas
 pub mod Outcomes
 pub mod Plans
 pub mod Printed
 pub mod Starts
-pub mod Stated
 pub mod Steps
 pub mod Texts
 pub mod Walked
@@ -24,3 +24,4 @@ pub mod Replies
 pub mod Refusals
 pub mod Serving
 pub mod Reading
+pub mod Jobs

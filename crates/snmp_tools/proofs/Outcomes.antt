@@ -1,5 +1,5 @@
 -- What a job wrote of the walk that its words ask for.
-use Rattle.std.proofs.Common.{◌≡◌, ◌⊎◌, inl, inr, ◌++◌, ℕ, length, List, [], ◌∷◌, Option, Some, None}
+use Rattle.std.proofs.Common.{◌≡◌, ◌⊎◌, inl, inr, ◌++◌, ℕ, Bool, true, false, length, List, [], ◌∷◌, Option, Some, None}
 use Rattle.std.proofs.Common.{refl, sym, ◌∙◌, ap, subst, append_assoc, append-nil}
 use Rattle.smi_value.specs.declared.letters.letters.Letters.{Letters}
 use Rattle.snmp_wire.specs.Message.{VarBind}
@@ -8,12 +8,10 @@ use Rattle.snmp_walk.specs.declared.end.SinkFault.TheVariants as sink
 use Rattle.snmp_walk.specs.declared.end.WalkEnd.{WalkEnd}
 use Rattle.snmp_walk.specs.declared.end.WalkEnd.TheVariants as ending
 use Rattle.snmp_io.specs.Output.{Stream, TakesFront, extended}
-use Rattle.snmp_tools.specs.Headline.{IsWholeText}
-use Rattle.snmp_tools.specs.Lines.{AreLines, IsPrintedUpTo, count_text}
+use Rattle.snmp_tools.specs.Lines.{AreLines, IsPrintedUpTo, count_line, count_text}
 use Rattle.snmp_tools.specs.Message.{Fault, ended, status_of}
 use Rattle.snmp_tools.specs.Mib.{Mib}
 use Rattle.snmp_tools.specs.Outcome.{Counts, IsFinished, IsReported}
-use Rattle.snmp_tools.specs.Plan.{Plan}
 use Rattle.snmp_io.specs.Streams.{extended-twice, front_after, whole_taken}
 
 lines_of_both : (mib : Mib) (letters : Letters) (rows more : List VarBind) (a b : List ℕ) → AreLines mib letters rows a → AreLines mib letters more b
@@ -53,62 +51,81 @@ printed_front mib letters before after rows turned ending.RequestTooLong h = all
 printed_front mib letters before after rows turned ending.NoResponse h = all_front mib letters before after rows turned h
 printed_front mib letters before after rows turned ending.Link h = all_front mib letters before after rows turned h
 
+-- the lines of the rows, and where that is asked for their number
+abbrev pub IsWhole : Mib → Letters → (counts : Bool) → List VarBind → List ℕ → Type 0
+IsWhole mib letters counts rows text =
+    (shown : List ℕ) × AreLines mib letters rows shown × (text ≡ shown ++ count_text counts (length rows))
+
 -- a front of the lines of some first rows, or of the whole text
-abbrev pub IsFrontOf : Mib → Plan → List VarBind → (before after : Stream) → Type 0
-IsFrontOf mib plan rows before after =
+abbrev pub IsFrontOf : Mib → Letters → (counts : Bool) → List VarBind → (before after : Stream) → Type 0
+IsFrontOf mib letters counts rows before after =
     (first : List VarBind) × (rest : List VarBind) × (text : List ℕ) × (rows ≡ first ++ rest)
-    × (AreLines mib plan.letters first text ⊎ IsWholeText mib plan rows text) × TakesFront before text after
+    × (AreLines mib letters first text ⊎ IsWhole mib letters counts rows text) × TakesFront before text after
 
-module _ (mib : Mib) (plan : Plan) (agent : List ℕ) (before : Stream) (rows : List VarBind) where
+module _ (mib : Mib) (letters : Letters) (agent : List ℕ) (before : Stream) (rows : List VarBind) where
   abbrev Lines : List VarBind → Stream → Type 0
-  Lines given between = (text : List ℕ) × AreLines mib plan.letters given text × (between ≡ extended before text)
+  Lines given between = (text : List ℕ) × AreLines mib letters given text × (between ≡ extended before text)
 
-  whole_of : (given : List VarBind) (count : ℕ) (text : List ℕ) → given ≡ rows → count ≡ length given → AreLines mib plan.letters given text
-      → IsWholeText mib plan rows (text ++ count_text plan.counts count)
+  -- where the number isn't asked for
+  pub plain_whole : (text : List ℕ) → IsWhole mib letters false rows text → AreLines mib letters rows text
+  plain_whole text (shown, lines, e) = subst (AreLines mib letters rows) (sym (e ∙ append-nil shown)) lines
+
+  pub plain_front : (after : Stream) → IsFrontOf mib letters false rows before after → IsFront mib letters rows before after
+  plain_front after (first, rest, text, parts, inl lines, front) = (first, rest, text, parts, lines, front)
+  plain_front after (first, rest, text, parts, inr whole, front) = (rows, [], text, sym (append-nil rows), plain_whole text whole, front)
+
+  whole_of : (given : List VarBind) (count : ℕ) (text : List ℕ) → given ≡ rows → count ≡ length given → AreLines mib letters given text
+      → IsWhole mib letters true rows (text ++ count_line count)
   whole_of given count text whole counted lines = (
     text,
-    subst (λ (ps : List VarBind). AreLines mib plan.letters ps text) whole lines,
-    ap (λ (n : ℕ). text ++ count_text plan.counts n) (counted ∙ ap length whole),
+    subst (λ (ps : List VarBind). AreLines mib letters ps text) whole lines,
+    ap (λ (n : ℕ). text ++ count_line n) (counted ∙ ap length whole),
   )
 
   whole_written : (count : ℕ) (text : List ℕ) (between after : Stream) → between ≡ extended before text
-      → after ≡ extended between (count_text plan.counts count) → after ≡ extended before (text ++ count_text plan.counts count)
+      → after ≡ extended between (count_line count) → after ≡ extended before (text ++ count_line count)
   whole_written count text between after printed finish =
-      finish ∙ ap (λ (s : Stream). extended s (count_text plan.counts count)) printed ∙ extended-twice before text (count_text plan.counts count)
+      finish ∙ ap (λ (s : Stream). extended s (count_line count)) printed ∙ extended-twice before text (count_line count)
 
-  -- where the walk was done, what follows is the count line, or a front of it
-  done_front : (given : List VarBind) (count : ℕ) (between after : Stream) (fault : Option Fault) → given ≡ rows → count ≡ length given
-      → Lines given between → IsFinished plan.counts agent (ending.Done count) between after fault
-      → IsFrontOf mib plan rows before after
-  done_front given count between after fault whole counted (text, lines, printed) (inl finish) = (
-    rows,
-    [],
-    text ++ count_text plan.counts count,
-    sym (append-nil rows),
-    inr (whole_of given count text whole counted lines),
-    whole_taken before after (text ++ count_text plan.counts count) (whole_written count text between after printed finish.0),
-  )
-  done_front given count between after fault whole counted (text, lines, printed) (inr (inl finish)) = (
+  -- the lines of all rows, and nothing after them
+  lines_alone : (counts : Bool) (given : List VarBind) (between after : Stream) → given ≡ rows → Lines given between → after ≡ between
+      → IsFrontOf mib letters counts rows before after
+  lines_alone counts given between after whole (text, lines, printed) same = (
     rows,
     [],
     text,
     sym (append-nil rows),
-    inl (subst (λ (ps : List VarBind). AreLines mib plan.letters ps text) whole lines),
-    whole_taken before after text (finish.0 ∙ printed),
-  )
-  done_front given count between after fault whole counted (text, lines, printed) (inr (inr finish)) = (
-    rows,
-    [],
-    text ++ count_text plan.counts count,
-    sym (append-nil rows),
-    inr (whole_of given count text whole counted lines),
-    front_after before between after text (count_text plan.counts count) printed finish.0.begun,
+    inl (subst (λ (ps : List VarBind). AreLines mib letters ps text) whole lines),
+    whole_taken before after text (same ∙ printed),
   )
 
-  end_front : (given turned : List VarBind) (end : WalkEnd) (between after : Stream) → IsPrintedUpTo mib plan.letters before given turned end between
-      → after ≡ between → ((more : List VarBind) × (rows ≡ (given ++ turned) ++ more)) → IsFrontOf mib plan rows before after
-  end_front given turned end between after printed same left =
-      let f = printed_front mib plan.letters before between given turned end printed in (
+  -- where it was done, what follows is the count line, or a front of it
+  done_front : (counts : Bool) (given : List VarBind) (count : ℕ) (between after : Stream) (fault : Option Fault) → given ≡ rows
+      → (counts ≡ true → count ≡ length given) → Lines given between → IsFinished agent (ending.Done count) counts between after fault
+      → IsFrontOf mib letters counts rows before after
+  done_front true given count between after fault whole counted (text, lines, printed) (inl finish) = (
+    rows,
+    [],
+    text ++ count_line count,
+    sym (append-nil rows),
+    inr (whole_of given count text whole (counted refl) lines),
+    whole_taken before after (text ++ count_line count) (whole_written count text between after printed finish.0),
+  )
+  done_front true given count between after fault whole counted lines (inr (inl finish)) = lines_alone true given between after whole lines finish.0
+  done_front true given count between after fault whole counted (text, lines, printed) (inr (inr finish)) = (
+    rows,
+    [],
+    text ++ count_line count,
+    sym (append-nil rows),
+    inr (whole_of given count text whole (counted refl) lines),
+    front_after before between after text (count_line count) printed finish.0.begun,
+  )
+  done_front false given count between after fault whole counted lines finish = lines_alone false given between after whole lines finish.0
+
+  end_front : (counts : Bool) (given turned : List VarBind) (end : WalkEnd) (between after : Stream) → IsPrintedUpTo mib letters before given turned end between
+      → after ≡ between → ((more : List VarBind) × (rows ≡ (given ++ turned) ++ more)) → IsFrontOf mib letters counts rows before after
+  end_front counts given turned end between after printed same left =
+      let f = printed_front mib letters before between given turned end printed in (
         f.0,
         f.1 ++ left.0,
         f.2,
@@ -117,51 +134,73 @@ module _ (mib : Mib) (plan : Plan) (agent : List ℕ) (before : Stream) (rows : 
         subst (λ (s : Stream). TakesFront before f.2 s) (sym same) f.5,
       )
 
-  pub finished_front : (given turned : List VarBind) (end : WalkEnd) (between after : Stream) (fault : Option Fault)
-      → IsPrintedUpTo mib plan.letters before given turned end between
-      → IsFinished plan.counts agent end between after fault → Counts end (length given) → (IsDone end → given ≡ rows)
-      → ((more : List VarBind) × (rows ≡ (given ++ turned) ++ more)) → IsFrontOf mib plan rows before after
-  finished_front given turned (ending.Done count) between after fault printed finish counted whole left =
-      done_front given count between after fault (whole tt) counted printed finish
-  finished_front given turned (ending.Sink why) between after fault printed finish counted whole left =
-      end_front given turned (ending.Sink why) between after printed finish.0 left
-  finished_front given turned (ending.Fault status index) between after fault printed finish counted whole left =
-      end_front given turned (ending.Fault status index) between after printed finish.0 left
-  finished_front given turned (ending.NoProgress asked) between after fault printed finish counted whole left =
-      end_front given turned (ending.NoProgress asked) between after printed finish.0 left
-  finished_front given turned ending.BadReply between after fault printed finish counted whole left =
-      end_front given turned ending.BadReply between after printed finish.0 left
-  finished_front given turned (ending.NotIncreasing last got) between after fault printed finish counted whole left =
-      end_front given turned (ending.NotIncreasing last got) between after printed finish.0 left
-  finished_front given turned ending.TooManyRequests between after fault printed finish counted whole left =
-      end_front given turned ending.TooManyRequests between after printed finish.0 left
-  finished_front given turned ending.RequestTooLong between after fault printed finish counted whole left =
-      end_front given turned ending.RequestTooLong between after printed finish.0 left
-  finished_front given turned ending.NoResponse between after fault printed finish counted whole left =
-      end_front given turned ending.NoResponse between after printed finish.0 left
-  finished_front given turned ending.Link between after fault printed finish counted whole left =
-      end_front given turned ending.Link between after printed finish.0 left
+  abbrev HasCounted : Bool → WalkEnd → List VarBind → Type 0
+  HasCounted counts end given = counts ≡ true → Counts end (length given)
 
-  -- no fault is reported of a walk alone that was done and printed whole
-  pub finished_all : (given turned : List VarBind) (end : WalkEnd) (between after : Stream) → IsPrintedUpTo mib plan.letters before given turned end between
-      → IsFinished plan.counts agent end between after None → Counts end (length given) → (IsDone end → given ≡ rows)
-      → (text : List ℕ) × IsWholeText mib plan rows text × (after ≡ extended before text)
-  finished_all given turned (ending.Done count) between after printed (inl finish) counted whole = (
-    printed.0 ++ count_text plan.counts count,
-    whole_of given count printed.0 (whole tt) counted printed.1,
-    whole_written count printed.0 between after printed.2 finish.0,
+  pub finished_front : (counts : Bool) (given turned : List VarBind) (end : WalkEnd) (between after : Stream) (fault : Option Fault)
+      → IsPrintedUpTo mib letters before given turned end between
+      → IsFinished agent end counts between after fault → HasCounted counts end given → (IsDone end → given ≡ rows)
+      → ((more : List VarBind) × (rows ≡ (given ++ turned) ++ more)) → IsFrontOf mib letters counts rows before after
+  finished_front counts given turned (ending.Done count) between after fault printed finish counted whole left =
+      done_front counts given count between after fault (whole tt) counted printed finish
+  finished_front counts given turned (ending.Sink why) between after fault printed finish counted whole left =
+      end_front counts given turned (ending.Sink why) between after printed finish.0 left
+  finished_front counts given turned (ending.Fault status index) between after fault printed finish counted whole left =
+      end_front counts given turned (ending.Fault status index) between after printed finish.0 left
+  finished_front counts given turned (ending.NoProgress asked) between after fault printed finish counted whole left =
+      end_front counts given turned (ending.NoProgress asked) between after printed finish.0 left
+  finished_front counts given turned ending.BadReply between after fault printed finish counted whole left =
+      end_front counts given turned ending.BadReply between after printed finish.0 left
+  finished_front counts given turned (ending.NotIncreasing last got) between after fault printed finish counted whole left =
+      end_front counts given turned (ending.NotIncreasing last got) between after printed finish.0 left
+  finished_front counts given turned ending.TooManyRequests between after fault printed finish counted whole left =
+      end_front counts given turned ending.TooManyRequests between after printed finish.0 left
+  finished_front counts given turned ending.RequestTooLong between after fault printed finish counted whole left =
+      end_front counts given turned ending.RequestTooLong between after printed finish.0 left
+  finished_front counts given turned ending.NoResponse between after fault printed finish counted whole left =
+      end_front counts given turned ending.NoResponse between after printed finish.0 left
+  finished_front counts given turned ending.Link between after fault printed finish counted whole left =
+      end_front counts given turned ending.Link between after printed finish.0 left
+
+  -- no fault is reported alone where it was done and printed whole
+  done_all : (counts : Bool) (given : List VarBind) (count : ℕ) (between after : Stream) → given ≡ rows → (counts ≡ true → count ≡ length given)
+      → Lines given between → IsFinished agent (ending.Done count) counts between after None
+      → (text : List ℕ) × IsWhole mib letters counts rows text × (after ≡ extended before text)
+  done_all true given count between after whole counted (text, lines, printed) (inl finish) =
+      (text ++ count_line count, whole_of given count text whole (counted refl) lines, whole_written count text between after printed finish.0)
+  done_all true given count between after whole counted lines (inr (inl finish)) = let e = finish.1 in let no : ⊥ = cc in absurd no
+  done_all true given count between after whole counted lines (inr (inr finish)) = let e = finish.1 in let no : ⊥ = cc in absurd no
+  done_all false given count between after whole counted (text, lines, printed) finish = (
+    text,
+    (text, subst (λ (ps : List VarBind). AreLines mib letters ps text) whole lines, sym (append-nil text)),
+    finish.0 ∙ printed,
   )
-  finished_all given turned (ending.Done count) between after printed (inr (inl finish)) counted whole = let e = finish.1 in let no : ⊥ = cc in absurd no
-  finished_all given turned (ending.Done count) between after printed (inr (inr finish)) counted whole = let e = finish.1 in let no : ⊥ = cc in absurd no
-  finished_all given turned (ending.Sink why) between after printed finish counted whole = let e = finish.1 in let no : ⊥ = cc in absurd no
-  finished_all given turned (ending.Fault status index) between after printed finish counted whole = let e = finish.1 in let no : ⊥ = cc in absurd no
-  finished_all given turned (ending.NoProgress asked) between after printed finish counted whole = let e = finish.1 in let no : ⊥ = cc in absurd no
-  finished_all given turned ending.BadReply between after printed finish counted whole = let e = finish.1 in let no : ⊥ = cc in absurd no
-  finished_all given turned (ending.NotIncreasing last got) between after printed finish counted whole = let e = finish.1 in let no : ⊥ = cc in absurd no
-  finished_all given turned ending.TooManyRequests between after printed finish counted whole = let e = finish.1 in let no : ⊥ = cc in absurd no
-  finished_all given turned ending.RequestTooLong between after printed finish counted whole = let e = finish.1 in let no : ⊥ = cc in absurd no
-  finished_all given turned ending.NoResponse between after printed finish counted whole = let e = finish.1 in let no : ⊥ = cc in absurd no
-  finished_all given turned ending.Link between after printed finish counted whole = let e = finish.1 in let no : ⊥ = cc in absurd no
+
+  pub finished_all : (counts : Bool) (given turned : List VarBind) (end : WalkEnd) (between after : Stream) (fault : Option Fault) → fault ≡ None
+      → IsPrintedUpTo mib letters before given turned end between → IsFinished agent end counts between after fault
+      → HasCounted counts end given → (IsDone end → given ≡ rows)
+      → (text : List ℕ) × IsWhole mib letters counts rows text × (after ≡ extended before text)
+  finished_all counts given turned (ending.Done count) between after fault none printed finish counted whole =
+      done_all counts given count between after (whole tt) counted printed
+      (subst (IsFinished agent (ending.Done count) counts between after) none finish)
+  finished_all counts given turned (ending.Sink why) between after fault none printed finish counted whole =
+      let e = finish.1 in let no : ⊥ = cc in absurd no
+  finished_all counts given turned (ending.Fault status index) between after fault none printed finish counted whole =
+      let e = finish.1 in let no : ⊥ = cc in absurd no
+  finished_all counts given turned (ending.NoProgress asked) between after fault none printed finish counted whole =
+      let e = finish.1 in let no : ⊥ = cc in absurd no
+  finished_all counts given turned ending.BadReply between after fault none printed finish counted whole =
+      let e = finish.1 in let no : ⊥ = cc in absurd no
+  finished_all counts given turned (ending.NotIncreasing last got) between after fault none printed finish counted whole =
+      let e = finish.1 in let no : ⊥ = cc in absurd no
+  finished_all counts given turned ending.TooManyRequests between after fault none printed finish counted whole =
+      let e = finish.1 in let no : ⊥ = cc in absurd no
+  finished_all counts given turned ending.RequestTooLong between after fault none printed finish counted whole =
+      let e = finish.1 in let no : ⊥ = cc in absurd no
+  finished_all counts given turned ending.NoResponse between after fault none printed finish counted whole =
+      let e = finish.1 in let no : ⊥ = cc in absurd no
+  finished_all counts given turned ending.Link between after fault none printed finish counted whole =
+      let e = finish.1 in let no : ⊥ = cc in absurd no
 
 -- a fault's status isn't 0
 no_status : (why : Fault) → status_of why ≡ 0 → ⊥

@@ -13,12 +13,14 @@ use Rattle.snmp_wire.specs.Message.{VarBind}
 use Rattle.snmp_agent.specs.table.Table.{MibView}
 use Rattle.snmp_agent.specs.declared.table.error.TableError.{TableError}
 use Rattle.snmp_agent.specs.declared.table.error.TableError.TheVariants as table_error
+use Rattle.snmp_agent.specs.table.Format.{Names}
 use Rattle.snmp_agent.specs.table.Stated.{IsTableOf, IsFirstFault}
 use Rattle.snmp_walk.specs.declared.mode.Method.{Method}
 use Rattle.snmp_walk.specs.declared.mode.Mode.{Mode}
 use Rattle.snmp_io.specs.Files.{Holdings, Holds, HoldsIfKnown, MayHold}
 use Rattle.snmp_words.specs.Words.{WalkWords}
 use Rattle.snmp_net.specs.Address.{Address, table}
+use Rattle.snmp_tools.specs.agent.TableFile.{names_in}
 use Rattle.snmp_tools.specs.agent.TableFile.{TableFails}
 use Rattle.snmp_tools.specs.Asking.{AreShown, AskingFails, AskingStep, HasAgent, IsNameIfGiven, NameFails, ReachFails}
 use Rattle.snmp_tools.specs.Asking.{agent_step, community_step, letters_step, version_step}
@@ -149,18 +151,18 @@ goes_after mib (Some other) after text root o h e means can =
     subst (CanGoOn root) (h.2 ∙ ap Some is) can
 
 module _ (one_list : OneList) (one_tree : OneTree)
-    (no_fault : (ls : List (List ℕ)) (view : MibView) (fault : TableError) → IsTableOf ls view → IsFirstFault ls fault → fault ≡ table_error.Memory)
+    (no_fault : (names : Names) (ls : List (List ℕ)) (view : MibView) (fault : TableError) → IsTableOf names ls view → IsFirstFault names ls fault → fault ≡ table_error.Memory)
     (bulk : Bool) (words : WalkWords) (files : Holdings) (rows : List VarBind) (walk : IsWalk bulk words files rows)
     (can : IsFeasible walk.plan walk.view) where
   agent_is : (agent : Address) → HasAgent words.asking.agent agent → agent ≡ table walk.path
   agent_is agent has = sym (has.1 walk.plan.agent walk.asked.agent) ∙ walk.over
 
-  table_want_only : (why : Fault) → TableFails unreadable bad_table files walk.path why → IsWant why
+  table_want_only : (why : Fault) → TableFails unreadable bad_table files (names_in walk.mib.naming) walk.path why → IsWant why
   table_want_only why (inl f) = absurd (is_readable walk.text (files walk.path) walk.held f.0)
   table_want_only why (inr f) =
       let same : f.0 ≡ walk.text = held_is (files walk.path) f.0 walk.text f.2 walk.held in
       let memory : f.1 ≡ table_error.Memory =
-      no_fault (lines walk.text) walk.view f.1 walk.table (subst (λ (t : List ℕ). IsFirstFault (lines t) f.1) same f.3) in
+      no_fault (names_in walk.mib.naming) (lines walk.text) walk.view f.1 walk.table (subst (λ (t : List ℕ). IsFirstFault (names_in walk.mib.naming) (lines t) f.1) same f.3) in
       table_want walk.path (f.4 ∙ ap (bad_table walk.path) memory)
 
   known_as : (mib : Mib) → IsMibOf (MayHold files) words.asking mib → mib ≡ walk.mib
@@ -203,7 +205,8 @@ module _ (one_list : OneList) (one_tree : OneTree)
       absurd (after_stands walk.mib words.after walk.plan.after f.1 why walk.asked.after f.3
       (subst (λ (m : Mib). NameFails m f.1 why) (known_as f.0 f.2) f.4))
   step_want reach_step why f =
-      table_want_only why (subst (λ (a : Address). ReachFails files a why) (agent_is f.0 f.1) f.2)
+      table_want_only why (subst (λ (m : Mib). ReachFails files m (table walk.path) why) (known_as f.0 f.2)
+      (subst (λ (a : Address). ReachFails files f.0 a why) (agent_is f.1 f.3) f.4))
   step_want root_sent_step why f = absurd (f.2 (subst (λ (r : List ℕ). IsWire (wire r)) (sym (root_is f.0 f.1)) can.root))
   step_want after_below_step why f = absurd (f.5 (after_goes f.0 f.1 f.2 f.3 f.4).0)
   step_want after_sent_step why f =

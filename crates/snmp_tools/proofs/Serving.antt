@@ -1,5 +1,5 @@
 -- Why nothing is served, and what is printed where something is.
-use Rattle.std.proofs.Common.{◌≡◌, ◌<◌, ◌≤◌, ◌⊎◌, ◌+◌, inl, inr, refl, subst, ℕ, List, [], ◌∷◌, Option, None, length}
+use Rattle.std.proofs.Common.{◌≡◌, ap, ◌<◌, ◌≤◌, ◌⊎◌, ◌+◌, inl, inr, refl, subst, ℕ, List, [], ◌∷◌, Option, None, length}
 use Rattle.snmp_agent.specs.Reply.{Agent}
 use Rattle.snmp_agent.specs.declared.server.Served.{Served}
 use Rattle.snmp_io.specs.Files.{Holdings}
@@ -7,16 +7,16 @@ use Rattle.snmp_io.specs.Output.{Stream, extended}
 use Rattle.snmp_net.specs.Address.{IsHostAndPort}
 use Rattle.snmp_agent.specs.table.Table.{MibView}
 use Rattle.snmp_words.specs.Words.{ServeWords}
-use Rattle.snmp_tools.specs.agent.Fault.{ServeFault, bad_place, bad_table, long_community, no_memory, unreadable}
+use Rattle.snmp_tools.specs.agent.Fault.{ServeFault, bad_place, long_community, modules_fault}
 use Rattle.snmp_tools.specs.agent.Outcome.{IsServedAndCounted, StopsAtLine, counts_line, listening_line}
-use Rattle.snmp_tools.specs.agent.Service.{IsServeRefusal, ServiceFails, served_agent, community_step, place_step, table_step}
-use Rattle.snmp_tools.specs.agent.TableFile.{TableFails}
+use Rattle.snmp_tools.specs.agent.Service.{IsServeRefusal, ServiceFails, served_agent, community_step, modules_step, place_step}
+use Rattle.snmp_tools.specs.loading.Files.{IsFilesRefusal, Refusal}
 
 pub community_fails : (words : ServeWords) (files : Holdings) → 255 < length words.community → ServiceFails words files long_community
 community_fails words files long = record {
   done = [];
   failed = community_step;
-  left = place_step ∷ table_step ∷ [];
+  left = place_step ∷ modules_step ∷ [];
   order = refl;
   are_done = tt;
   fails = (long, refl);
@@ -27,22 +27,22 @@ pub place_fails : (words : ServeWords) (files : Holdings) → length words.commu
 place_fails words files short none = record {
   done = community_step ∷ [];
   failed = place_step;
-  left = table_step ∷ [];
+  left = modules_step ∷ [];
   order = refl;
   are_done = (short, tt);
   fails = (none, refl);
 }
 
-pub table_fails : (words : ServeWords) (files : Holdings) (host : List ℕ) (port : ℕ) (why : ServeFault) → length words.community ≤ 255
-    → IsHostAndPort words.listen host port → (why ≡ no_memory) ⊎ TableFails unreadable bad_table files words.table why → IsServeRefusal words files why
-table_fails words files host port why short place (inl none) = inl none
-table_fails words files host port why short place (inr fails) = inr (record {
+pub modules_fail : (words : ServeWords) (files : Holdings) (host : List ℕ) (port : ℕ) (why : Refusal) → length words.community ≤ 255
+    → IsHostAndPort words.listen host port → IsFilesRefusal files words.mibs why → IsServeRefusal words files (modules_fault why)
+modules_fail words files host port why short place (inl none) = inl (ap modules_fault none)
+modules_fail words files host port why short place (inr fails) = inr (record {
   done = community_step ∷ place_step ∷ [];
-  failed = table_step;
+  failed = modules_step;
   left = [];
   order = refl;
   are_done = (short, ((host, port, place), tt));
-  fails = fails;
+  fails = (why, fails, refl);
 })
 
 -- the counts weren't printed, or only a front of them

@@ -54,16 +54,16 @@ module _ (bulk : Bool) (words : WalkWords) (files : Holdings) (mib : Mib) (known
     is_root : IsRootOf words files plan.root
     is_root = record { mib = mib; known = known; means = asked.root }
 
-    pub reach_refused : (why : Fault) → ReachFails files plan.agent why → IsLateRefusal bulk words files why
+    pub reach_refused : (why : Fault) → ReachFails files mib plan.agent why → IsLateRefusal bulk words files why
     reach_refused why f =
         at_reach bulk words files why asked.version (plan.letters, asked.letters) (asked.choices, asked.chosen) asked.short_community
-        (plan.agent, only) (mib, known) (plan.root, is_root) (mib, plan.after, known, asked.after) (plan.agent, only, f)
+        (plan.agent, only) (mib, known) (plan.root, is_root) (mib, plan.after, known, asked.after) (mib, plan.agent, known, only, f)
 
-    module _ (reached : IsReached files plan.agent) where
+    module _ (reached : IsReached files mib plan.agent) where
       pub start_refused : (why : Fault) → StartFails plan (root_text words) (unwrap_or words.after []) why → IsLateRefusal bulk words files why
       start_refused why (inl f) =
           at_root_sent bulk words files why asked.version (plan.letters, asked.letters) (asked.choices, asked.chosen) asked.short_community
-          (plan.agent, only) (mib, known) (plan.root, is_root) (mib, plan.after, known, asked.after) (plan.agent, only, reached)
+          (plan.agent, only) (mib, known) (plan.root, is_root) (mib, plan.after, known, asked.after) (mib, plan.agent, known, only, reached)
           (plan.root, is_root, f.0, f.1)
       start_refused why (inr f) = resumed (f.1.2)
         where
@@ -81,9 +81,9 @@ module _ (bulk : Bool) (words : WalkWords) (files : Holdings) (mib : Mib) (known
           resumed : ResumeFails plan.root f.1.0 text why → IsLateRefusal bulk words files why
           resumed (inl g) =
               at_after_below bulk words files why asked.version (plan.letters, asked.letters) (asked.choices, asked.chosen) asked.short_community
-              (plan.agent, only) (mib, known) (plan.root, is_root) (mib, plan.after, known, asked.after) (plan.agent, only, reached)
+              (plan.agent, only) (mib, known) (plan.root, is_root) (mib, plan.after, known, asked.after) (mib, plan.agent, known, only, reached)
               (plan.root, is_root, f.0) (plan.root, text, after, is_root, is_after, g.0, g.1)
           resumed (inr g) =
               at_after_sent bulk words files why asked.version (plan.letters, asked.letters) (asked.choices, asked.chosen) asked.short_community
-              (plan.agent, only) (mib, known) (plan.root, is_root) (mib, plan.after, known, asked.after) (plan.agent, only, reached)
+              (plan.agent, only) (mib, known) (plan.root, is_root) (mib, plan.after, known, asked.after) (mib, plan.agent, known, only, reached)
               (plan.root, is_root, f.0) (plan.root, text, after, is_root, is_after, g.0) (text, after, is_after, g.1, g.2)

@@ -1,6 +1,6 @@
 -- What the headline says of a walk of a table file in numbers: which lines are printed.
 use Rattle.std.proofs.Common.{◌≡◌, ◌≢◌, ◌⊎◌, inl, inr, refl, sym, ap, ◌∙◌, subst, ℕ, zero, suc, ◌+◌, ◌<◌, ◌≤◌, Bool, false, List, [], ◌∷◌}
-use Rattle.std.proofs.Common.{◌++◌, length, true, Some, None, Ok, arith, append-nil, append_assoc}
+use Rattle.std.proofs.Common.{◌↔◌, ◌++◌, length, true, Some, None, Ok, arith, append-nil, append_assoc}
 use Rattle.std.specs.Prelude.{AllPairs, Contains, codes, drop, filter, if◌then◌else◌, slice_index_or}
 use Rattle.std.specs.List.{flat_map}
 use Rattle.std.specs.FinMap.{get}
@@ -12,10 +12,11 @@ use Rattle.snmp_oid.specs.Numeric.{numeric_text}
 use Rattle.snmp_wire.specs.Message.{VarBind}
 use Rattle.snmp_agent.specs.table.Exact.{HasOne}
 use Rattle.snmp_agent.specs.table.Listing.{variables}
-use Rattle.snmp_agent.specs.table.Stated.{IsTableOf}
+use Rattle.snmp_agent.specs.table.Format.{IsMarked, first_format}
+use Rattle.snmp_agent.specs.table.Stated.{AreTableBy, IsTableIn, IsTableOf}
 use Rattle.snmp_agent.specs.table.Table as table
 use Rattle.snmp_agent.specs.table.Table.{HasObject, IsGet, IsMibView, IsRow, MibView}
-use Rattle.snmp_agent.specs.table.Text.{AreTable, HasRow}
+use Rattle.snmp_agent.specs.table.Text.{HasRow}
 use Rattle.snmp_walk.specs.Link.{Agents, OneOf}
 use Rattle.snmp_walk.specs.Names.{comes_after}
 use Rattle.snmp_walk.specs.Ordered.{AreOrdered}
@@ -34,6 +35,7 @@ use Rattle.snmp_io.specs.Output.{IsWritten, Stream, TakesFront, appended, extend
 use Rattle.snmp_io.specs.Streams.{extended-nil}
 use Rattle.snmp_net.specs.Address as address
 use Rattle.snmp_words.specs.Words.{walk_line}
+use Rattle.snmp_tools.specs.agent.TableFile.{names_in}
 use Rattle.snmp_tools.specs.Headline.{EndsAtStatus0, IsFeasible, IsMishap, IsWalk, WritesAllAtStatus0, WritesFront}
 use Rattle.snmp_tools.specs.Lines.{AreLines}
 use Rattle.snmp_tools.specs.Mib.{Mib}
@@ -118,20 +120,20 @@ pairs_ordered (row ∷ more) ordered =
     AllPairs-cons (λ r later. Precedes r.name later.name) row more
     (each_one (λ later. Precedes row.name later.name) more ordered.0) (pairs_ordered more ordered.1)
 
-free_name : (ls : List (List ℕ)) (view : MibView) (o : List ℕ) → IsTableOf ls view → get view.rows o ≡ None → IsFree ls o
+free_name : (ls : List (List ℕ)) (view : MibView) (o : List ℕ) → IsTableIn first_format ls view → get view.rows o ≡ None → IsFree ls o
 free_name ls view o is none row has same =
     let at : get view.rows row.name ≡ Some row.value = (is.rows row).1 has in
     let at_o : get view.rows o ≡ Some row.value = ap (get view.rows) (sym same) ∙ at in
     let no : ⊥ = cc in
     no
 
-object_of : (ls : List (List ℕ)) (view : MibView) (o : List ℕ) → IsTableOf ls view → HasObject view o → IsOfObject ls o
+object_of : (ls : List (List ℕ)) (view : MibView) (o : List ℕ) → IsTableIn first_format ls view → HasObject view o → IsOfObject ls o
 object_of ls view o is (object, rest, has, parts) = (object, rest, (is.objects object).0 has, parts)
 
-no_object_of : (ls : List (List ℕ)) (view : MibView) (o : List ℕ) → IsTableOf ls view → (HasObject view o → ⊥) → IsOfObject ls o → ⊥
+no_object_of : (ls : List (List ℕ)) (view : MibView) (o : List ℕ) → IsTableIn first_format ls view → (HasObject view o → ⊥) → IsOfObject ls o → ⊥
 no_object_of ls view o is lacks (object, rest, has, parts) = lacks (object, rest, (is.objects object).1 has, parts)
 
-got_is : (ls : List (List ℕ)) (view : MibView) (o : List ℕ) (got : VarBind) → IsTableOf ls view → IsGet view o got → IsGot ls o got
+got_is : (ls : List (List ℕ)) (view : MibView) (o : List ℕ) (got : VarBind) → IsTableIn first_format ls view → IsGet view o got → IsGot ls o got
 got_is ls view o got is (table.variable e row) = page.variable e ((is.rows got).0 row)
 got_is ls view o got is (table.unknown_object none lacks e) =
     page.unknown_object (free_name ls view o is none) (no_object_of ls view o is lacks) e
@@ -143,7 +145,7 @@ BelowAreRows = (view : MibView) (root : List ℕ) (p : VarBind) → IsMibView vi
     → (OneOf (rows_below root (variables view)) p → IsRow view p × IsBelow p.name root)
     × (IsRow view p × IsBelow p.name root → OneOf (rows_below root (variables view)) p)
 
-rows_are : (ls : List (List ℕ)) (view : MibView) (root : List ℕ) → IsTableOf ls view → IsMibView view → BelowAreRows
+rows_are : (ls : List (List ℕ)) (view : MibView) (root : List ℕ) → IsTableIn first_format ls view → IsMibView view → BelowAreRows
     → AreOrdered (rows_below root (variables view)) → AreRowsBelow ls root (rows_below root (variables view))
 rows_are ls view root is is_view law ordered = record {
   ordered = pairs_ordered (rows_below root (variables view)) ordered;
@@ -239,8 +241,8 @@ ids_are root got vars few =
 asked_short : (root : List ℕ) → IsIdentifier root → IsWire root → length (wire root) ≤ 128
 asked_short root identifier sendable = subst (λ (o : List ℕ). length o ≤ 128) (sym (wire_is root sendable)) identifier.short
 
-feasible : (ls : List (List ℕ)) (path root : List ℕ) (view : MibView) (got : VarBind) → IsIdentifier root → IsWire root → IsTableOf ls view
-    → IsMibView view → ShortHaveRoom → ((row : VarBind) → HasRow ls row → IsShort row.value)
+feasible : (ls : List (List ℕ)) (path root : List ℕ) (view : MibView) (got : VarBind) → IsIdentifier root → IsWire root → IsTableIn first_format ls view
+    → IsMibView view → ShortHaveRoom → ((row : VarBind) → HasRow first_format ls row → IsShort row.value)
     → length (or_only got (rows_below root (variables view))) ≤ 2147483644 → IsFeasible (walk_plan path root) view
 feasible ls path root view got identifier sendable is is_view room short few = record {
   root = subst IsWire (sym (wire_is root sendable)) sendable;
@@ -254,7 +256,7 @@ feasible ls path root view got identifier sendable is is_view room short few = r
 -- ---- the walk
 
 abbrev walk_over : (files : Holdings) (path root text : List ℕ) → HoldsTableFile files path root text → IsTree [] bare [] → NumbersAreRead
-    → (view : MibView) → IsTableOf (lines text) view → (got : VarBind) → IsGet view (wire root) got
+    → (view : MibView) → IsTableOf (names_in bare_mib.naming) (lines text) view → (got : VarBind) → IsGet view (wire root) got
     → IsWalk false (numeric_walk path root) files (or_only got (rows_below root (variables view)))
 walk_over files path root text holds loads read view is got is_got = record {
   mib = bare_mib;
@@ -274,23 +276,25 @@ walk_over files path root text holds loads read view is got is_got = record {
 pub prints_rows : IsTree [] bare [] → NumbersAreRead → BelowAreRows
     → ((view : MibView) (root : List ℕ) → IsMibView view → AreOrdered (rows_below root (variables view)))
     → ((view : MibView) (o : List ℕ) → HasOne (IsGet view o)) → ShortHaveRoom
-    → ((ls : List (List ℕ)) → AreTable ls → (view : MibView) × IsTableOf ls view × IsMibView view)
+    → ((ls : List (List ℕ)) → AreTableBy (names_in bare_mib.naming) ls → (view : MibView) × IsTableOf (names_in bare_mib.naming) ls view × IsMibView view)
+    → ((ls : List (List ℕ)) (view : MibView) → (IsMarked ls → ⊥) → (IsTableOf (names_in bare_mib.naming) ls view ↔ IsTableIn first_format ls view))
     → (files : Holdings) (path root text : List ℕ) (before after err_before err_after : Stream) (status : ℕ)
     → HoldsTableFile files path root text → WritesFront false (numeric_walk path root) files before after
     → WritesAllAtStatus0 false (numeric_walk path root) files before after status
     → EndsAtStatus0 false (numeric_walk path root) files before after err_before err_after status
     → PrintsRows (lines text) root before after err_before err_after status
-prints_rows loads read law ordered one_get room tables files path root text before after err_before err_after status holds front all ends =
-    let stated = tables (lines text) holds.table in
+prints_rows loads read law ordered one_get room tables plain files path root text before after err_before err_after status holds front all ends =
+    let stated = tables (lines text) (first_format, holds.unmarked, holds.table) in
     let view : MibView = stated.0 in
-    let is : IsTableOf (lines text) view = stated.1 in
+    let by : IsTableOf (names_in bare_mib.naming) (lines text) view = stated.1 in
+    let is : IsTableIn first_format (lines text) view = (plain (lines text) view holds.unmarked).0 by in
     let is_view : IsMibView view = stated.2 in
     let one = one_get view (wire root) in
     let got : VarBind = one.0 in
     let is_got : IsGet view (wire root) got = one.1 in
     let got_root : IsGet view root got = subst (λ (o : List ℕ). IsGet view o got) (wire_is root holds.sendable) is_got in
     let rows : List VarBind = or_only got (rows_below root (variables view)) in
-    let walk : IsWalk false (numeric_walk path root) files rows = walk_over files path root text holds loads read view is got is_got in
+    let walk : IsWalk false (numeric_walk path root) files rows = walk_over files path root text holds loads read view by got is_got in
     let first = front rows walk in
     record {
       rows = rows;

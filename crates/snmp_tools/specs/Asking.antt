@@ -9,7 +9,7 @@ use Rattle.smi_value.specs.letters.Letters.{AreLetters, first_other}
 use Rattle.smi_show.specs.name.Meaning.{meaning}
 use Rattle.smi_show.specs.declared.name.error.NameError.{NameError}
 use Rattle.snmp_io.specs.Files.{Holdings, Holds}
-use Rattle.snmp_tools.specs.agent.TableFile.{HasTable, TableFails}
+use Rattle.snmp_tools.specs.agent.TableFile.{HasTable, TableFails, names_in}
 use Rattle.snmp_agent.specs.table.Table.{MibView}
 use Rattle.snmp_net.specs.Address.{Address, IsAgent, table, udp}
 use Rattle.snmp_words.specs.Words.{AskingWords}
@@ -72,11 +72,12 @@ IsNameIfGiven mib (Some text) name =
     (o : List ℕ) × (meaning mib.naming text ≡ Ok o) × (name ≡ Some o)
 
 -- the agent is over a table that its file states, or over the network
-abbrev pub IsReached : Holdings → Address → Type 0
-IsReached files (table path) = (view : MibView) × HasTable files path view
-IsReached files (udp host port) = Unit {0}
+abbrev pub IsReached : Holdings → Mib → Address → Type 0
+IsReached files mib (table path) = (view : MibView) × HasTable files (names_in mib.naming) path view
+IsReached files mib (udp host port) = Unit {0}
 
 -- its file can't be read or states no table
-abbrev pub ReachFails : Holdings → Address → Fault → Type 0
-ReachFails files (table path) why = TableFails unreadable bad_table files path why
-ReachFails files (udp host port) why = ⊥
+abbrev pub ReachFails : Holdings → Mib → Address → Fault → Type 0
+ReachFails files mib (table path) why =
+    TableFails unreadable bad_table files (names_in mib.naming) path why
+ReachFails files mib (udp host port) why = ⊥

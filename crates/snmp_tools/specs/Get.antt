@@ -86,7 +86,8 @@ IsDoneForGet words files mibs_step = (mib : Mib) × IsMibOf (MayHold files) word
 IsDoneForGet words files (name_step text) =
     (mib : Mib) × IsMibOf (MayHold files) words.asking mib × HasMeaning mib text
 IsDoneForGet words files reach_step =
-    (agent : Address) × HasAgent words.asking.agent agent × IsReached files agent
+    (mib : Mib) × (agent : Address) × IsMibOf (MayHold files) words.asking mib
+    × HasAgent words.asking.agent agent × IsReached files mib agent
 IsDoneForGet words files (sent_step text) =
     (mib : Mib) × IsMibOf (MayHold files) words.asking mib × HasSendable mib text
 
@@ -97,7 +98,8 @@ FailsForGet words files mibs_step why = MibsFail files words.asking.mibs why
 FailsForGet words files (name_step text) why =
     (mib : Mib) × IsMibOf (MayHold files) words.asking mib × NameFails mib text why
 FailsForGet words files reach_step why =
-    (agent : Address) × HasAgent words.asking.agent agent × ReachFails files agent why
+    (mib : Mib) × (agent : Address) × IsMibOf (MayHold files) words.asking mib
+    × HasAgent words.asking.agent agent × ReachFails files mib agent why
 FailsForGet words files (sent_step text) why =
     (mib : Mib) × IsMibOf (MayHold files) words.asking mib × HasUnsendable mib text why
 

@@ -17,6 +17,7 @@ use Rattle.snmp_net.specs.Address.{table}
 use Rattle.snmp_words.specs.Words.{GetWords}
 use Rattle.snmp_tools.specs.Get.{AskForGet, GetPlan}
 use Rattle.snmp_tools.specs.Got.{agent_for, request_for}
+use Rattle.snmp_tools.specs.agent.TableFile.{names_in}
 use Rattle.snmp_tools.specs.Headline.{IsMishap}
 use Rattle.snmp_tools.specs.Lines.{AreLines}
 use Rattle.snmp_io.specs.Files.{Holdings, Holds}
@@ -35,7 +36,7 @@ pub record IsGetOf (words : GetWords) (files : Holdings) (rows : List VarBind) :
   pub text : List ℕ
   pub held : Holds files path text
   pub view : MibView
-  pub table : IsTableOf (lines text) view
+  pub table : IsTableOf (names_in mib.naming) (lines text) view
   pub are_rows : AreGot view plan.names rows
 
 -- Whatever fails, a front of the lines of the first of them is written, and nothing else.

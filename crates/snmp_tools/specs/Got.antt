@@ -1,5 +1,5 @@
 -- What a Get writes, and what it reports.
-use Rattle.std.specs.Prelude.{◌≡◌, ◌≢◌, ◌⊎◌, ◌+◌, ◌++◌, ℕ, List, [], ◌∷◌, Option, Some, None}
+use Rattle.std.specs.Prelude.{◌≡◌, ◌≢◌, ◌⊎◌, ◌+◌, ◌++◌, ℕ, List, [], ◌∷◌, Option, Some, false}
 use Rattle.snmp_agent.specs.table.Table.{MibView}
 use Rattle.snmp_wire.specs.Canon.{canon}
 use Rattle.snmp_wire.specs.Message.{Message, VarBind}
@@ -17,14 +17,13 @@ use Rattle.snmp_io.specs.Output.{IsWritten, Stream}
 use Rattle.snmp_words.specs.Words.{GetWords}
 use Rattle.snmp_net.specs.Address.{table, udp}
 use Rattle.snmp_tools.specs.agent.Outcome.{Faults}
-use Rattle.snmp_tools.specs.agent.TableFile.{HasTable}
+use Rattle.snmp_tools.specs.agent.TableFile.{HasTable, names_in}
 use Rattle.snmp_tools.specs.Asking.{HasAgent}
 use Rattle.snmp_tools.specs.Get.{AskForGet, GetPlan, IsEarlyGetRefusal, IsLateGetRefusal}
-use Rattle.snmp_tools.specs.Lines.{IsPrintedUpTo}
 use Rattle.snmp_tools.specs.Message.{Fault, ended}
 use Rattle.snmp_io.specs.Files.{Holdings, MayHold}
 use Rattle.snmp_tools.specs.Mib.{AreLoaded, Mib}
-use Rattle.snmp_tools.specs.Outcome.{IsOwnEnd, IsReported}
+use Rattle.snmp_tools.specs.Outcome.{IsOwnEnd, IsPrinted, IsReported}
 
 -- ---- the Get
 
@@ -62,28 +61,13 @@ pub record IsGot (plan : GetPlan) (view : MibView) (given refused : List VarBind
 
 -- ---- what is written
 
--- the fault that is reported of a Get that ended in this way
-abbrev pub fault_at : (agent : List ℕ) → WalkEnd → Option Fault
-fault_at agent (ending.Done count) = None
-fault_at agent end = Some (ended agent end)
-
--- what a Get gave was printed, whose bindings and end are such
-pub record IsGetPrinted (Facts : (given refused : List VarBind) → WalkEnd → Type 0) (mib : Mib)
-    (plan : GetPlan) (agent : List ℕ) (before after : Stream) (fault : Option Fault) : Type 0 where
-  pub given : List VarBind
-  pub refused : List VarBind
-  pub end : WalkEnd
-  pub facts : Facts given refused end
-  pub lines : IsPrintedUpTo mib plan.letters before given refused end after
-  pub reported : fault ≡ fault_at agent end
-
 -- what was written of a Get over a table file, whose words ask for this, or why nothing was
 abbrev pub IsGetTableOutcome : GetWords → Holdings → Mib → GetPlan → (path : List ℕ)
     → (before after : Stream) → Option Fault → Type 0
 IsGetTableOutcome words files mib plan path before after fault =
     ((why : Fault) × IsLateGetRefusal words files why × (after ≡ before) × (fault ≡ Some why))
-    ⊎ ((view : MibView) × HasTable files path view
-    × IsGetPrinted (IsGot plan view) mib plan words.asking.agent before after fault)
+    ⊎ ((view : MibView) × HasTable files (names_in mib.naming) path view
+    × IsPrinted (IsGot plan view) mib plan.letters false words.asking.agent before after fault)
 
 -- What is known of the link that was opened, over which nothing was sent before, and of the Get
 -- over it.
@@ -106,8 +90,8 @@ pub data IsGetOutcomeBy (Facts : (host : List ℕ) → (port seconds tries : ℕ
   not_asked : (why : Fault) → IsLateGetRefusal words files why → after ≡ before → fault ≡ Some why
       → IsGetOutcomeBy Facts faults words files mib before after fault
   got : (plan : GetPlan) (view : MibView) (path : List ℕ) → IsGetFor words mib plan
-      → plan.agent ≡ table path → HasTable files path view
-      → IsGetPrinted (IsGot plan view) mib plan words.asking.agent before after fault
+      → plan.agent ≡ table path → HasTable files (names_in mib.naming) path view
+      → IsPrinted (IsGot plan view) mib plan.letters false words.asking.agent before after fault
       → IsGetOutcomeBy Facts faults words files mib before after fault
   -- no link was opened, and the network counted why
   not_linked : (plan : GetPlan) (host : List ℕ) (port : ℕ) → IsGetFor words mib plan
@@ -116,8 +100,8 @@ pub data IsGetOutcomeBy (Facts : (host : List ℕ) → (port seconds tries : ℕ
       → IsGetOutcomeBy Facts faults words files mib before after fault
   got_over : (plan : GetPlan) (host : List ℕ) (port : ℕ) → IsGetFor words mib plan
       → plan.agent ≡ udp host port
-      → IsGetPrinted
-      (Facts host port words.asking.seconds (words.asking.retries + 1) plan) mib plan
+      → IsPrinted
+      (Facts host port words.asking.seconds (words.asking.retries + 1) plan) mib plan.letters false
       words.asking.agent before after fault
       → IsGetOutcomeBy Facts faults words files mib before after fault
 

@@ -17,6 +17,7 @@ use Rattle.snmp_io.specs.Count.{HasRisen}
 use Rattle.snmp_io.specs.Output.{IsWritten, Stream, TakesFront, extended}
 use Rattle.snmp_net.specs.Address.{table}
 use Rattle.snmp_words.specs.Words.{WalkWords}
+use Rattle.snmp_tools.specs.agent.TableFile.{names_in}
 use Rattle.snmp_tools.specs.Lines.{AreLines, count_text}
 use Rattle.snmp_io.specs.Files.{Holdings, Holds}
 use Rattle.snmp_tools.specs.Mib.{AreLoaded, Mib}
@@ -37,7 +38,7 @@ pub record IsWalk (bulk : Bool) (words : WalkWords) (files : Holdings) (rows : L
   pub text : List ℕ
   pub held : Holds files path text
   pub view : MibView
-  pub table : IsTableOf (lines text) view
+  pub table : IsTableOf (names_in mib.naming) (lines text) view
   pub are_rows : AreRowsOf plan view rows
 
 -- the lines of the rows, and with -Cp their number

@@ -1,5 +1,6 @@
 pub mod Asking
 pub mod Chosen
+pub mod Done
 pub mod Get
 pub mod GetHeadline
 pub mod GetPlanned
@@ -12,6 +13,7 @@ pub mod Mib
 pub mod Outcome
 pub mod Plan
 pub mod Planned
+pub mod Seen
 pub mod Serving
 pub mod Start
 pub mod Translating

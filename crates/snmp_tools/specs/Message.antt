@@ -1,6 +1,6 @@
 -- Why a job isn't done, and the line on standard error that says so.
 use Rattle.std.specs.Prelude.{ℕ, ℤ, pos, negsuc, List, [], ◌∷◌, ◌++◌, codes, decimal}
-use Rattle.std.specs.Prelude.{slice_index_or}
+use Rattle.std.specs.Prelude.{Err, Ok, None, Option, Result, Some, slice_index_or}
 use Rattle.std.specs.Fmt.{signed_decimal}
 use Rattle.snmp_oid.specs.Numeric.{numeric_text}
 use Rattle.snmp_tools.specs.loading.Files.{Refusal}
@@ -45,6 +45,11 @@ fault_of (failure.NotWire text) = unsendable text.now
 fault_of (failure.AfterOutsideRoot text) = outside_root text.now
 fault_of (failure.Ended agent why) = ended agent.now why
 fault_of failure.Memory = out_of_memory
+
+-- the fault of what was tried, if it failed
+abbrev pub outcome_of : {T : Type 0} → Result T Failure → Option Fault
+outcome_of (Ok _) = None
+outcome_of (Err failure) = Some (fault_of failure)
 
 -- the exit status: 2 where an agent replied with an error status
 abbrev pub status_of : Fault → ℕ

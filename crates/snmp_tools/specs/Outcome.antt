@@ -1,5 +1,5 @@
 -- What a job that walks writes, and what it reports.
-use Rattle.std.specs.Prelude.{◌≡◌, ◌≢◌, ◌⊎◌, ◌+◌, ◌++◌, ℕ, Bool, List, [], ◌∷◌, length, codes}
+use Rattle.std.specs.Prelude.{◌≡◌, ◌≢◌, ◌⊎◌, ◌+◌, ◌++◌, ℕ, Bool, true, List, [], ◌∷◌, length, codes}
 use Rattle.std.specs.Prelude.{Option, Some, None}
 use Rattle.snmp_tools.specs.loading.Warned.{warning_lines}
 use Rattle.smi_names.specs.declared.nodes.warning.Warning.{Warning}
@@ -21,11 +21,12 @@ use Rattle.snmp_walk.specs.declared.end.WalkEnd.TheVariants as ending
 use Rattle.snmp_io.specs.Count.{HasRisen}
 use Rattle.snmp_io.specs.Output.{FailsWithin, IsWritten, Stream, extended}
 use Rattle.snmp_words.specs.Words.{WalkWords}
-use Rattle.snmp_tools.specs.Lines.{IsPrintedUpTo, count_text}
+use Rattle.smi_value.specs.declared.letters.letters.Letters.{Letters}
+use Rattle.snmp_tools.specs.Lines.{IsPrintedUpTo, count_line}
 use Rattle.snmp_tools.specs.Message.{Fault, ended, fault_message, out_of_memory, status_of}
 use Rattle.snmp_net.specs.Address.{table, udp}
 use Rattle.snmp_tools.specs.agent.Outcome.{Faults}
-use Rattle.snmp_tools.specs.agent.TableFile.{HasTable}
+use Rattle.snmp_tools.specs.agent.TableFile.{HasTable, names_in}
 use Rattle.snmp_tools.specs.Asking.{HasAgent}
 use Rattle.snmp_io.specs.Files.{Holdings, MayHold}
 use Rattle.snmp_tools.specs.Mib.{AreLoaded, IsMibOf, Mib}
@@ -66,7 +67,7 @@ pub record IsWalkOver (bulk : Bool) (words : WalkWords) (files : Holdings) (mib 
   pub only : HasAgent words.asking.agent plan.agent
   pub path : List ℕ
   pub over : plan.agent ≡ table path
-  pub states : HasTable files path view
+  pub states : HasTable files (names_in mib.naming) path view
 
 -- the words ask for this walk, by these names, over the network
 pub record IsNetWalk (bulk : Bool) (words : WalkWords) (files : Holdings) (mib : Mib)
@@ -113,26 +114,33 @@ pub record IsWalked (plan : Plan) (view : MibView) (given refused : List VarBind
 
 -- ---- what is written
 
--- what follows the lines of the walk, and the fault that is reported, if any is
-abbrev pub IsFinished : (counts : Bool) → (agent : List ℕ) → WalkEnd → (before after : Stream)
-    → Option Fault → Type 0
-IsFinished counts agent (ending.Done count) before after fault =
-    ((after ≡ extended before (count_text counts count)) × (fault ≡ None))
-    ⊎ (((after ≡ before) × (fault ≡ Some out_of_memory))
-    ⊎ (FailsWithin before (count_text counts count) after
-    × (fault ≡ Some (ended agent (ending.Sink sink.Output)))))
-IsFinished counts agent end before after fault = (after ≡ before) × (fault ≡ Some (ended agent end))
+-- the fault that is reported of a walk or a Get that ended in this way
+abbrev pub fault_at : (agent : List ℕ) → WalkEnd → Option Fault
+fault_at agent (ending.Done count) = None
+fault_at agent end = Some (ended agent end)
 
--- the walk of a plan over a table was printed, and why not all of it, if not all was
-pub record IsWalkPrinted (mib : Mib) (plan : Plan) (view : MibView) (agent : List ℕ)
-    (before after : Stream) (fault : Option Fault) : Type 0 where
+-- what follows the lines, with -Cp, and the fault that is reported, if any is
+abbrev pub IsFinished : (agent : List ℕ) → WalkEnd → (counts : Bool) → (before after : Stream)
+    → Option Fault → Type 0
+IsFinished agent (ending.Done count) true before after fault =
+    ((after ≡ extended before (count_line count)) × (fault ≡ None))
+    ⊎ (((after ≡ before) × (fault ≡ Some out_of_memory))
+    ⊎ (FailsWithin before (count_line count) after
+    × (fault ≡ Some (ended agent (ending.Sink sink.Output)))))
+IsFinished agent end counts before after fault = (after ≡ before) × (fault ≡ fault_at agent end)
+
+-- what a walk or a Get gave was printed, of which such facts hold, and why not all of it, if not
+-- all was
+pub record IsPrinted (Facts : (given refused : List VarBind) → WalkEnd → Type 0) (mib : Mib)
+    (letters : Letters) (counts : Bool) (agent : List ℕ) (before after : Stream)
+    (fault : Option Fault) : Type 0 where
   pub given : List VarBind
-  pub turned : List VarBind
+  pub refused : List VarBind
   pub end : WalkEnd
   pub between : Stream
-  pub is_walked : IsWalked plan view given turned end
-  pub lines : IsPrintedUpTo mib plan.letters before given turned end between
-  pub finish : IsFinished plan.counts agent end between after fault
+  pub facts : Facts given refused end
+  pub lines : IsPrintedUpTo mib letters before given refused end between
+  pub finish : IsFinished agent end counts between after fault
 
 -- What is known of the link that was opened, over which nothing was sent before, and of the walk
 -- over it.
@@ -145,24 +153,14 @@ pub record HasLinkFacts {W : Type 0} (Opens : (host : List ℕ) → (port second
   pub fresh : (facts.traffic link).sent ≡ []
   pub run : IsWalkedOver facts link after tries first given refused end
 
--- The walk of a plan over any link was printed: what it gave, of which such facts hold.
-pub record IsPrintedOver (Facts : (given refused : List VarBind) → WalkEnd → Type 0) (mib : Mib)
-    (plan : Plan) (agent : List ℕ) (before after : Stream) (fault : Option Fault) : Type 0 where
-  pub given : List VarBind
-  pub turned : List VarBind
-  pub end : WalkEnd
-  pub between : Stream
-  pub facts : Facts given turned end
-  pub lines : IsPrintedUpTo mib plan.letters before given turned end between
-  pub finish : IsFinished plan.counts agent end between after fault
-
 -- what was written of a walk over a table file, whose words ask for this plan, or why nothing was
 abbrev pub IsTableOutcome : Bool → WalkWords → Holdings → Mib → Plan → (before after : Stream)
     → Option Fault → Type 0
 IsTableOutcome bulk words files mib plan before after fault =
     ((why : Fault) × IsLateRefusal bulk words files why × (after ≡ before) × (fault ≡ Some why))
     ⊎ ((view : MibView) × IsWalkOver bulk words files mib plan view
-    × IsWalkPrinted mib plan view words.asking.agent before after fault)
+    × IsPrinted (IsWalked plan view) mib plan.letters plan.counts words.asking.agent before after
+    fault)
 
 -- What a job wrote by the names and types of its modules, and why it wasn't done, if it wasn't.
 -- `Facts` are what is known of a walk over a link to a port of a host, with so many seconds for a
@@ -174,7 +172,8 @@ pub data IsWalkOutcomeBy (Facts : (host : List ℕ) → (port seconds tries : �
   refused : (why : Fault) → IsLateRefusal bulk words files why → after ≡ before → fault ≡ Some why
       → IsWalkOutcomeBy Facts faults bulk words files mib before after fault
   walked : (plan : Plan) (view : MibView) → IsWalkOver bulk words files mib plan view
-      → IsWalkPrinted mib plan view words.asking.agent before after fault
+      → IsPrinted (IsWalked plan view) mib plan.letters plan.counts words.asking.agent before after
+      fault
       → IsWalkOutcomeBy Facts faults bulk words files mib before after fault
   -- no link was opened, and the network counted why
   not_linked : (plan : Plan) → IsNetWalk bulk words files mib plan
@@ -182,9 +181,9 @@ pub data IsWalkOutcomeBy (Facts : (host : List ℕ) → (port seconds tries : �
       → fault ≡ Some (ended words.asking.agent ending.Link)
       → IsWalkOutcomeBy Facts faults bulk words files mib before after fault
   walked_over : (plan : Plan) (net : IsNetWalk bulk words files mib plan)
-      → IsPrintedOver
+      → IsPrinted
       (Facts net.host net.port words.asking.seconds (words.asking.retries + 1) (first_of plan))
-      mib plan words.asking.agent before after fault
+      mib plan.letters plan.counts words.asking.agent before after fault
       → IsWalkOutcomeBy Facts faults bulk words files mib before after fault
 
 -- What a job wrote on its output and, of the warnings of its modules, on standard error: nothing

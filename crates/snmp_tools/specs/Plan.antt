@@ -102,7 +102,8 @@ IsDoneForWalk bulk words files after_step =
     (mib : Mib) × (after : Option (List ℕ)) × IsMibOf (MayHold files) words.asking mib
     × IsNameIfGiven mib words.after after
 IsDoneForWalk bulk words files reach_step =
-    (agent : Address) × HasAgent words.asking.agent agent × IsReached files agent
+    (mib : Mib) × (agent : Address) × IsMibOf (MayHold files) words.asking mib
+    × HasAgent words.asking.agent agent × IsReached files mib agent
 IsDoneForWalk bulk words files root_sent_step =
     (root : List ℕ) × IsRootOf words files root × IsWire (wire root)
 IsDoneForWalk bulk words files after_below_step =
@@ -122,7 +123,8 @@ FailsForWalk bulk words files after_step why =
     (mib : Mib) × (text : List ℕ) × IsMibOf (MayHold files) words.asking mib
     × (words.after ≡ Some text) × NameFails mib text why
 FailsForWalk bulk words files reach_step why =
-    (agent : Address) × HasAgent words.asking.agent agent × ReachFails files agent why
+    (mib : Mib) × (agent : Address) × IsMibOf (MayHold files) words.asking mib
+    × HasAgent words.asking.agent agent × ReachFails files mib agent why
 FailsForWalk bulk words files root_sent_step why =
     (root : List ℕ) × IsRootOf words files root × (IsWire (wire root) → ⊥)
     × (why ≡ unsendable (root_text words))

@@ -1,13 +1,11 @@
 -- The plan that the program keeps, and what it has read of the words before.
-use Rattle.std.specs.Prelude.{◌≡◌, ◌≤◌, ◌⊎◌, Bool, true, false, length, Ok, Some, codes, ℕ, List}
+use Rattle.std.specs.Prelude.{◌≡◌, ◌≤◌, ◌⊎◌, Bool, length, Ok, Some, codes, ℕ, List}
 use Rattle.std.specs.Prelude.{Option, drop}
 use Rattle.snmp_oid.specs.Numeric.{numeric_text}
 use Rattle.smi_show.specs.name.Meaning.{meaning}
 use Rattle.smi_show.specs.name.Naming.{Naming}
 use Rattle.smi_value.specs.Syntax.{ObjectSyntax}
-use Rattle.snmp_words.specs.Words.{AskingWords, Stated, WalkWords, job_words, snmpbulkwalk}
-use Rattle.snmp_words.specs.Words.{snmpwalk, words_of_walk}
-use Rattle.snmp_words.specs.declared.job.Job.{Job}
+use Rattle.snmp_words.specs.Words.{AskingWords, WalkWords, words_of_walk}
 use Rattle.snmp_net.specs.Address.{address_of}
 use Rattle.snmp_tools.specs.Asking.{AreShown, AskingFails, HasAgent, IsAskingDone, NameFails}
 use Rattle.snmp_tools.specs.Asking.{agent_step, community_step, letters_step, version_step}
@@ -74,15 +72,6 @@ plan_of p = record {
 abbrev pub mib_in : Naming → (List ℕ → Option ObjectSyntax) → Mib
 mib_in naming syntax_at = record { naming = naming; syntax_at = syntax_at }
 
--- the words are those of snmpbulkwalk, or of snmpwalk
-abbrev pub walk_stated : Bool → WalkWords → Stated
-walk_stated true words = snmpbulkwalk words
-walk_stated false words = snmpwalk words
-
 -- what is stated by the words of a walk of a table file, the root being in numbers
 abbrev pub numeric_walk : (path root : List ℕ) → WalkWords
 numeric_walk path root = words_of_walk path (drop 1 (numeric_text root))
-
--- the job is a walk of these words
-abbrev pub IsWalkJob : Job → Bool → WalkWords → Type 0
-IsWalkJob job bulk words = job_words job ≡ walk_stated bulk words

@@ -11,6 +11,7 @@ use Rattle.std.specs.Str.Lines.{lines}
 use Rattle.snmp_oid.specs.Identifier.{IsBelow, IsIdentifier, IsWire, Precedes}
 use Rattle.snmp_oid.specs.Numeric.{numeric_text}
 use Rattle.snmp_wire.specs.Message.{VarBind, no_such_object, no_such_instance}
+use Rattle.snmp_agent.specs.table.Format.{IsMarked, first_format}
 use Rattle.snmp_agent.specs.table.Text.{AreTable, HasPrefix, HasRow}
 use Rattle.snmp_walk.specs.Room.{IsShort}
 use Rattle.snmp_io.specs.Count.{HasRisen}
@@ -26,12 +27,14 @@ table_walk path root =
     codes "snmp" ∷ codes "snmpwalk" ∷ codes "-On" ∷ (codes "table:" ++ path) ∷ numeric_text root
     ∷ []
 
--- The file at the path holds this text, whose lines are those of a table. The root can be sent: it
--- has two numbers at least, the first from 0 to 2, and the second below 40 after a first of 0 or 1.
+-- The file at the path holds this text, whose lines are those of a table, without the mark of the
+-- second format. The root can be sent: it has two numbers at least, the first from 0 to 2, and the
+-- second below 40 after a first of 0 or 1.
 pub record HoldsTableFile (files : Holdings) (path root text : List ℕ) : Type 0 where
   pub named : path ≢ []
   pub held : Holds files path text
-  pub table : AreTable (lines text)
+  pub unmarked : IsMarked (lines text) → ⊥
+  pub table : AreTable first_format (lines text)
   pub identifier : IsIdentifier root
   pub sendable : IsWire root
 
@@ -40,21 +43,22 @@ pub record HoldsTableFile (files : Holdings) (path root text : List ℕ) : Type 
 -- the rows of the lines that are below the root, and no others, each once: names rise
 pub record AreRowsBelow (lines : List (List ℕ)) (root : List ℕ) (rows : List VarBind) : Type 0 where
   pub ordered : AllPairs (λ row later. Precedes row.name later.name) rows
-  pub exact : (row : VarBind) → Contains rows row ↔ (HasRow lines row × IsBelow row.name root)
+  pub exact : (row : VarBind)
+      → Contains rows row ↔ (HasRow first_format lines row × IsBelow row.name root)
 
 -- no row has this name
 abbrev pub IsFree : (lines : List (List ℕ)) → List ℕ → Type 0
-IsFree lines o = (row : VarBind) → HasRow lines row → row.name ≢ o
+IsFree lines o = (row : VarBind) → HasRow first_format lines row → row.name ≢ o
 
 -- an object's prefix begins the name, or is the name
 abbrev pub IsOfObject : (lines : List (List ℕ)) → List ℕ → Type 0
 IsOfObject lines o =
-    (object : List ℕ) × (rest : List ℕ) × HasPrefix lines object × (o ≡ object ++ rest)
+    (object : List ℕ) × (rest : List ℕ) × HasPrefix first_format lines object × (o ≡ object ++ rest)
 
 -- What a Get of a name gives (RFC 3416, section 4.2.1): the row of that name, or that there is no
 -- such object or no such instance of one.
 pub data IsGot (lines : List (List ℕ)) (o : List ℕ) (got : VarBind) : Type 0 where
-  variable : got.name ≡ o → HasRow lines got → IsGot lines o got
+  variable : got.name ≡ o → HasRow first_format lines got → IsGot lines o got
   unknown_object : IsFree lines o → (IsOfObject lines o → ⊥)
       → got ≡ record { name = o; value = no_such_object } → IsGot lines o got
   unknown_instance : IsFree lines o → IsOfObject lines o
@@ -84,7 +88,8 @@ pub record PrintsRows (lines : List (List ℕ)) (root : List ℕ)
   pub all : status ≡ 0 → after ≡ extended before (flat_map row_line rows)
   -- Where strings are short and there are fewer rows than ids of requests, it is 0, unless the
   -- output fails or memory runs out.
-  pub ends : ((row : VarBind) → HasRow lines row → IsShort row.value) → length rows ≤ 2147483644
+  pub ends : ((row : VarBind) → HasRow first_format lines row → IsShort row.value)
+      → length rows ≤ 2147483644
       → (status ≡ 0)
       ⊎ ((status ≡ 1)
       × (HasRisen before.faults after.faults ⊎ IsOutOfMemoryTold err_before err_after))

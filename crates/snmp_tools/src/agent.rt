@@ -1,6 +1,7 @@
-//! The job of snmpd: a table file is read, and served at a UDP port.
+//! The job of snmpd: module files and then a table file are read, and the table is served at a UDP
+//! port.
 //!
-//! Built on the words, the network and tables. The module `serve` calls it, and reports what
+//! Built on the words, the network, tables and loaded modules. The module `serve` calls it, and reports what
 //! failed.
 
 mod error;

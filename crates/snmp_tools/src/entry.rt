@@ -1,20 +1,12 @@
 //! From words to status.
-ghost use Rattle.std.specs.Prelude.{◌≡◌, ℕ, Bool, List, Some, true};
+ghost use Rattle.std.specs.Prelude.{◌≡◌, ℕ, List, Some, true};
 ghost use Rattle.std.specs.Str.Lines.{lines};
 ghost use Rattle.snmp_words.specs.Command.{is_taken};
+ghost use Rattle.snmp_words.specs.Words.{AreFaulty, Stated, stated_job, texts_at};
 ghost use Rattle.snmp_tools.specs.agent.Outcome.{AtDoor};
-ghost use Rattle.snmp_words.specs.Words.{AreFaulty, GetWords, ServeWords, WalkWords, snmpd};
-ghost use Rattle.snmp_words.specs.Words.{TranslateWords, snmpget, snmptranslate, stated_job};
-ghost use Rattle.snmp_words.specs.Words.{texts_at};
-ghost use Rattle.snmp_tools.specs.Serving.{IsServeRun, risen};
-ghost use Rattle.snmp_tools.specs.GetHeadline.{GetEndsAtStatus0, GetWritesAllAtStatus0};
-ghost use Rattle.snmp_tools.specs.GetHeadline.{GetWritesFront};
-ghost use Rattle.snmp_tools.specs.Got.{HasGetFacts, IsGetRun};
-ghost use Rattle.snmp_tools.specs.Headline.{EndsAtStatus0, WritesAllAtStatus0, WritesFront};
-ghost use Rattle.snmp_tools.specs.Outcome.{HasLinkFacts, IsWalkRun};
-ghost use Rattle.snmp_tools.specs.Planned.{walk_stated};
+ghost use Rattle.snmp_tools.specs.Done.{IsJobDone};
+ghost use Rattle.snmp_tools.specs.Seen.{seen};
 ghost use Rattle.snmp_tools.specs.TableWalk.{HoldsTableFile, PrintsRows, table_walk};
-ghost use Rattle.snmp_tools.specs.Translating.{IsTranslated};
 ghost use Rattle.snmp_tools.specs.Usage.{IsHelpOrMistake, PrintsHelp};
 
 use crate::job::{run_job, tell};
@@ -44,51 +36,12 @@ pub fn tool<F: ModuleFiles, L: Links, O: Output, E: Output>(
         → HoldsTableFile (F.text_at files.now) path root text
         → PrintsRows (lines text) root (O.stream out.old) (O.stream out.new)
         (E.stream err.old) (E.stream err.new) result }
-    ensures translated { (w : TranslateWords) → is_taken (texts_at words.now) ≡ true
-        → stated_job (texts_at words.now) ≡ Some (snmptranslate w)
-        → IsTranslated w (F.text_at files.now) (O.stream out.old) (O.stream out.new)
-        (E.stream err.old) (E.stream err.new) result }
-    ensures outcome_reported { (bulk : Bool) (w : WalkWords) → is_taken (texts_at words.now) ≡ true
-        → stated_job (texts_at words.now) ≡ Some (walk_stated bulk w)
-        → IsWalkRun (HasLinkFacts (L.opens links.old) L.Wire.Link)
-        (risen (L.fault_count links.old) (L.fault_count links.new))
-        bulk w (F.text_at files.now) (O.stream out.old) (O.stream out.new)
-        (E.stream err.old) (E.stream err.new) result }
-    ensures front_written { (bulk : Bool) (w : WalkWords) → is_taken (texts_at words.now) ≡ true
-        → stated_job (texts_at words.now) ≡ Some (walk_stated bulk w)
-        → WritesFront bulk w (F.text_at files.now) (O.stream out.old) (O.stream out.new) }
-    ensures all_written_at_status_0 { (bulk : Bool) (w : WalkWords)
-        → is_taken (texts_at words.now) ≡ true
-        → stated_job (texts_at words.now) ≡ Some (walk_stated bulk w)
-        → WritesAllAtStatus0 bulk w (F.text_at files.now)
-        (O.stream out.old) (O.stream out.new) result }
-    ensures ends_at_status_0 { (bulk : Bool) (w : WalkWords) → is_taken (texts_at words.now) ≡ true
-        → stated_job (texts_at words.now) ≡ Some (walk_stated bulk w)
-        → EndsAtStatus0 bulk w (F.text_at files.now)
-        (O.stream out.old) (O.stream out.new) (E.stream err.old) (E.stream err.new) result }
-    ensures get_reported { (w : GetWords) → is_taken (texts_at words.now) ≡ true
-        → stated_job (texts_at words.now) ≡ Some (snmpget w)
-        → IsGetRun (HasGetFacts (L.opens links.old) L.Wire.Link)
-        (risen (L.fault_count links.old) (L.fault_count links.new))
-        w (F.text_at files.now) (O.stream out.old) (O.stream out.new)
-        (E.stream err.old) (E.stream err.new) result }
-    ensures get_front_written { (w : GetWords) → is_taken (texts_at words.now) ≡ true
-        → stated_job (texts_at words.now) ≡ Some (snmpget w)
-        → GetWritesFront w (F.text_at files.now) (O.stream out.old) (O.stream out.new) }
-    ensures get_all_written_at_status_0 { (w : GetWords) → is_taken (texts_at words.now) ≡ true
-        → stated_job (texts_at words.now) ≡ Some (snmpget w)
-        → GetWritesAllAtStatus0 w (F.text_at files.now)
-        (O.stream out.old) (O.stream out.new) result }
-    ensures get_ends_at_status_0 { (w : GetWords) → is_taken (texts_at words.now) ≡ true
-        → stated_job (texts_at words.now) ≡ Some (snmpget w)
-        → GetEndsAtStatus0 w (F.text_at files.now)
-        (O.stream out.old) (O.stream out.new) (E.stream err.old) (E.stream err.new) result }
-    ensures served { (w : ServeWords) → is_taken (texts_at words.now) ≡ true
-        → stated_job (texts_at words.now) ≡ Some (snmpd w)
-        → IsServeRun (AtDoor (L.binds links.old) L.serves)
-        (risen (L.fault_count links.old) (L.fault_count links.new))
-        w (F.text_at files.now) (O.stream out.old) (O.stream out.new)
-        (E.stream err.old) (E.stream err.new) result }
+    ensures done { (job : Stated) → is_taken (texts_at words.now) ≡ true
+        → stated_job (texts_at words.now) ≡ Some job
+        → IsJobDone (L.opens links.old) L.Wire.Link (AtDoor (L.binds links.old) L.serves) job
+        (seen (F.text_at files.now) (L.fault_count links.old) (O.stream out.old) (E.stream err.old))
+        (seen (F.text_at files.now) (L.fault_count links.new) (O.stream out.new) (E.stream err.new))
+        result }
     ensures help_or_mistake { AreFaulty (texts_at words.now)
         → IsHelpOrMistake (texts_at words.now) (O.stream out.old) (O.stream out.new)
         (E.stream err.old) (E.stream err.new) result }

@@ -1,17 +1,15 @@
 //! A Get: its words are judged, its names looked up, its agent reached, and its lines printed.
-ghost use Rattle.std.specs.Prelude.{◌≡◌, ◌+◌, All, IfErr, IfOk, None, OnOk, Some};
+ghost use Rattle.std.specs.Prelude.{◌≡◌, ◌+◌, All, IfErr, IfOk, false};
 ghost use Rattle.snmp_oid.specs.Identifier.{IsWire, wire};
 ghost use Rattle.snmp_net.specs.Address.{address_of, table, udp};
 ghost use Rattle.snmp_words.specs.Words.{asking_words, get_words};
 ghost use Rattle.snmp_tools.specs.Get.{IsAskingFor, IsEarlyGetRefusal};
-ghost use Rattle.snmp_tools.specs.GetHeadline.{GetEndsAtStatus0, GetWritesAllAtStatus0};
-ghost use Rattle.snmp_tools.specs.GetHeadline.{GetWritesFront};
 ghost use Rattle.snmp_tools.specs.GetPlanned.{get_plan_of};
 ghost use Rattle.snmp_tools.specs.Got.{HasGetFacts, IsGetFor, IsGetOutcome, IsGetOutcomeBy};
-ghost use Rattle.snmp_tools.specs.Got.{IsGetPrinted, IsGetRun, IsGetTableOutcome, IsGot};
+ghost use Rattle.snmp_tools.specs.Got.{IsGetRun, IsGetTableOutcome, IsGot};
+ghost use Rattle.snmp_tools.specs.Outcome.{IsPrinted};
 ghost use Rattle.snmp_walk.specs.Ran.{IsGotOver};
-ghost use Rattle.snmp_tools.specs.Got.{fault_at};
-ghost use Rattle.snmp_tools.specs.Message.{fault_of};
+ghost use Rattle.snmp_tools.specs.Message.{fault_of, outcome_of};
 ghost use Rattle.snmp_io.specs.Files.{Holdings, MayHold};
 ghost use Rattle.snmp_tools.specs.Mib.{IsMibOf};
 ghost use Rattle.snmp_tools.specs.Planned.{mib_in};
@@ -21,13 +19,12 @@ use crate::failure::Failure;
 use crate::job::report;
 use crate::judge::{read_agent, read_shown};
 use crate::lines::print_get;
-use crate::loading::{ModuleFiles, one_list_of_modules};
+use crate::loading::ModuleFiles;
 use crate::names::{check_names, read_names};
 use crate::plan::GetPlan;
-use crate::walk::{end_in_memory, load, table_at};
+use crate::walk::{end_in_memory, finish, load, table_at};
 use smi_show::{Letters, ShowTree};
-use smi_tree::one_tree;
-use snmp_agent::{Config, Table, no_fault, one_table};
+use snmp_agent::{Config, Table};
 use snmp_io::{Files, Output};
 use snmp_net::{AgentAddress, Links, UdpAddress};
 use snmp_walk::{Link, MemoryLink, WalkEnd};
@@ -36,34 +33,6 @@ use std::alloc::Global;
 
 /// Does the job of snmpget, and returns the exit status.
 pub(crate) fn do_get<F: ModuleFiles, L: Links, O: Output, E: Output>(
-    alloc: Global,
-    get: &GetJob<'_>,
-    files: &F,
-    links: &mut L,
-    out: &mut O,
-    err: &mut E,
-) -> u8
-    ensures run { IsGetRun
-        (HasGetFacts (L.opens links.old) L.Wire.Link)
-        (risen (L.fault_count links.old) (L.fault_count links.new))
-        (get_words get.now) (F.text_at files.now) (O.stream out.old) (O.stream out.new)
-        (E.stream err.old) (E.stream err.new) result }
-    ensures front { GetWritesFront (get_words get.now) (F.text_at files.now)
-        (O.stream out.old) (O.stream out.new) }
-    ensures all { GetWritesAllAtStatus0 (get_words get.now) (F.text_at files.now)
-        (O.stream out.old) (O.stream out.new) result }
-    ensures ends { GetEndsAtStatus0 (get_words get.now) (F.text_at files.now)
-        (O.stream out.old) (O.stream out.new) (E.stream err.old) (E.stream err.new) result }
-{
-    one_table();
-    no_fault();
-    one_list_of_modules();
-    one_tree();
-    get_and_report(alloc, get, files, links, out, err)
-}
-
-// Writes the lines of a Get, and reports what failed.
-fn get_and_report<F: ModuleFiles, L: Links, O: Output, E: Output>(
     alloc: Global,
     get: &GetJob<'_>,
     files: &F,
@@ -92,16 +61,11 @@ fn get_lines<'a, F: ModuleFiles, L: Links, O: Output, E: Output>(
     out: &mut O,
     err: &mut E,
 ) -> Result<(), Failure<'a>>
-    ensures done { OnOk result (IsGetOutcome
+    ensures { IsGetOutcome
         (HasGetFacts (L.opens links.old) L.Wire.Link)
         (risen (L.fault_count links.old) (L.fault_count links.new))
         (get_words get.now) (F.text_at files.now) (O.stream out.old) (O.stream out.new)
-        (E.stream err.old) (E.stream err.new) None) }
-    ensures failed { IfErr result (λ failure. IsGetOutcome
-        (HasGetFacts (L.opens links.old) L.Wire.Link)
-        (risen (L.fault_count links.old) (L.fault_count links.new))
-        (get_words get.now) (F.text_at files.now) (O.stream out.old) (O.stream out.new)
-        (E.stream err.old) (E.stream err.new) (Some (fault_of failure))) }
+        (E.stream err.old) (E.stream err.new) (outcome_of result) }
 {
     let (letters, agent) = match read_asking(get) {
         Ok(read) => read,
@@ -145,18 +109,12 @@ fn lines_by<'a, T: ShowTree, F: Files, L: Links, O: Output>(
     requires known { IsMibOf (MayHold (F.text_at files.now)) (asking_words get.now.asking)
         (mib_in (T.naming tree.now) (T.syntax_at tree.now)) }
     requires asked { IsAskingFor (asking_words get.now.asking) letters (address_of agent) }
-    ensures done { OnOk result (IsGetOutcomeBy
+    ensures { IsGetOutcomeBy
         (HasGetFacts (L.opens links.old) L.Wire.Link)
         (risen (L.fault_count links.old) (L.fault_count links.new))
         (get_words get.now) (F.text_at files.now)
         (mib_in (T.naming tree.now) (T.syntax_at tree.now))
-        (O.stream out.old) (O.stream out.new) None) }
-    ensures failed { IfErr result (λ failure. IsGetOutcomeBy
-        (HasGetFacts (L.opens links.old) L.Wire.Link)
-        (risen (L.fault_count links.old) (L.fault_count links.new))
-        (get_words get.now) (F.text_at files.now)
-        (mib_in (T.naming tree.now) (T.syntax_at tree.now))
-        (O.stream out.old) (O.stream out.new) (Some (fault_of failure))) }
+        (O.stream out.old) (O.stream out.new) (outcome_of result) }
 {
     let names = match read_names(alloc, tree, &get.names) {
         Ok(names) => names,
@@ -186,18 +144,12 @@ fn by_plan<'a, T: ShowTree, F: Files, L: Links, O: Output>(
         (mib_in (T.naming tree.now) (T.syntax_at tree.now)) }
     requires plan { IsGetFor (get_words get.now)
         (mib_in (T.naming tree.now) (T.syntax_at tree.now)) (get_plan_of plan.now) }
-    ensures done { OnOk result (IsGetOutcomeBy
+    ensures { IsGetOutcomeBy
         (HasGetFacts (L.opens links.old) L.Wire.Link)
         (risen (L.fault_count links.old) (L.fault_count links.new))
         (get_words get.now) (F.text_at files.now)
         (mib_in (T.naming tree.now) (T.syntax_at tree.now))
-        (O.stream out.old) (O.stream out.new) None) }
-    ensures failed { IfErr result (λ failure. IsGetOutcomeBy
-        (HasGetFacts (L.opens links.old) L.Wire.Link)
-        (risen (L.fault_count links.old) (L.fault_count links.new))
-        (get_words get.now) (F.text_at files.now)
-        (mib_in (T.naming tree.now) (T.syntax_at tree.now))
-        (O.stream out.old) (O.stream out.new) (Some (fault_of failure))) }
+        (O.stream out.old) (O.stream out.new) (outcome_of result) }
 {
     match plan.agent {
         AgentAddress::Table(path) => over_table(alloc, get, plan, path, tree, files, out),
@@ -220,15 +172,11 @@ fn over_table<'a, T: ShowTree, F: Files, O: Output>(
     requires plan { IsGetFor (get_words get.now)
         (mib_in (T.naming tree.now) (T.syntax_at tree.now)) (get_plan_of plan.now) }
     requires path { address_of plan.now.agent ≡ table path.now }
-    ensures done { OnOk result (IsGetTableOutcome (get_words get.now) (F.text_at files.now)
+    ensures { IsGetTableOutcome (get_words get.now) (F.text_at files.now)
         (mib_in (T.naming tree.now) (T.syntax_at tree.now)) (get_plan_of plan.now) path.now
-        (O.stream out.old) (O.stream out.new) None) }
-    ensures failed { IfErr result (λ failure.
-        IsGetTableOutcome (get_words get.now) (F.text_at files.now)
-        (mib_in (T.naming tree.now) (T.syntax_at tree.now)) (get_plan_of plan.now) path.now
-        (O.stream out.old) (O.stream out.new) (Some (fault_of failure))) }
+        (O.stream out.old) (O.stream out.new) (outcome_of result) }
 {
-    let table = match table_at(alloc, files, path) {
+    let table = match table_at(alloc, tree, files, path) {
         Ok(table) => table,
         Err(failure) => return Err(failure),
     };
@@ -254,18 +202,12 @@ fn over_net<'a, T: ShowTree, F: Files, L: Links, O: Output>(
     requires plan { IsGetFor (get_words get.now)
         (mib_in (T.naming tree.now) (T.syntax_at tree.now)) (get_plan_of plan.now) }
     requires at { address_of plan.now.agent ≡ udp at.host.now at.port }
-    ensures done { OnOk result (IsGetOutcomeBy
+    ensures { IsGetOutcomeBy
         (HasGetFacts (L.opens links.old) L.Wire.Link)
         (risen (L.fault_count links.old) (L.fault_count links.new))
         (get_words get.now) (F.text_at files.now)
         (mib_in (T.naming tree.now) (T.syntax_at tree.now))
-        (O.stream out.old) (O.stream out.new) None) }
-    ensures failed { IfErr result (λ failure. IsGetOutcomeBy
-        (HasGetFacts (L.opens links.old) L.Wire.Link)
-        (risen (L.fault_count links.old) (L.fault_count links.new))
-        (get_words get.now) (F.text_at files.now)
-        (mib_in (T.naming tree.now) (T.syntax_at tree.now))
-        (O.stream out.old) (O.stream out.new) (Some (fault_of failure))) }
+        (O.stream out.old) (O.stream out.new) (outcome_of result) }
 {
     let mut link = match links.open(at.host, at.port, get.asking.seconds) {
         Ok(link) => link,
@@ -287,16 +229,11 @@ fn print_over<'a, T: ShowTree, L: Link, O: Output>(
     out: &mut O,
 ) -> Result<(), Failure<'a>>
     requires { All (λ o. IsWire (wire o)) plan.now.names.items }
-    ensures done { OnOk result (IsGetPrinted
+    ensures { IsPrinted
         (IsGotOver L.Link link.old link.new (asking.now.retries + 1)
         plan.now.community.now 1 plan.now.names.items)
-        (mib_in (T.naming tree.now) (T.syntax_at tree.now)) (get_plan_of plan.now)
-        asking.now.agent.now (O.stream out.old) (O.stream out.new) None) }
-    ensures failed { IfErr result (λ failure. IsGetPrinted
-        (IsGotOver L.Link link.old link.new (asking.now.retries + 1)
-        plan.now.community.now 1 plan.now.names.items)
-        (mib_in (T.naming tree.now) (T.syntax_at tree.now)) (get_plan_of plan.now)
-        asking.now.agent.now (O.stream out.old) (O.stream out.new) (Some (fault_of failure))) }
+        (mib_in (T.naming tree.now) (T.syntax_at tree.now)) plan.now.letters false
+        asking.now.agent.now (O.stream out.old) (O.stream out.new) (outcome_of result) }
 {
     let retries = asking.retries as u32;
     let (community, letters) = (plan.community, plan.letters);
@@ -311,7 +248,7 @@ fn print_over<'a, T: ShowTree, L: Link, O: Output>(
         &mut text,
         out,
     );
-    finish(end, asking.agent)
+    finish(end, false, asking.agent, &mut text, out)
 }
 
 // Prints the Get of a plan over the agent that serves a table.
@@ -324,13 +261,9 @@ fn print_in_memory<'a, T: ShowTree, O: Output>(
     out: &mut O,
 ) -> Result<(), Failure<'a>>
     requires { All (λ o. IsWire (wire o)) plan.now.names.items }
-    ensures done { OnOk result (IsGetPrinted (IsGot (get_plan_of plan.now) table.now)
-        (mib_in (T.naming tree.now) (T.syntax_at tree.now)) (get_plan_of plan.now)
-        asking.now.agent.now (O.stream out.old) (O.stream out.new) None) }
-    ensures failed { IfErr result (λ failure.
-        IsGetPrinted (IsGot (get_plan_of plan.now) table.now)
-        (mib_in (T.naming tree.now) (T.syntax_at tree.now)) (get_plan_of plan.now)
-        asking.now.agent.now (O.stream out.old) (O.stream out.new) (Some (fault_of failure))) }
+    ensures { IsPrinted (IsGot (get_plan_of plan.now) table.now)
+        (mib_in (T.naming tree.now) (T.syntax_at tree.now)) plan.now.letters false
+        asking.now.agent.now (O.stream out.old) (O.stream out.new) (outcome_of result) }
 {
     let config = Config {
         community: plan.community,
@@ -351,16 +284,5 @@ fn print_in_memory<'a, T: ShowTree, O: Output>(
         &mut text,
         out,
     );
-    finish(end_in_memory(end), asking.agent)
-}
-
-// What is reported of a Get that ended in this way.
-fn finish<'a>(end: WalkEnd, agent: &'a str) -> Result<(), Failure<'a>>
-    ensures done { OnOk result (fault_at agent.now end ≡ None) }
-    ensures failed { IfErr result (λ e. fault_at agent.now end ≡ Some (fault_of e)) }
-{
-    match end {
-        WalkEnd::Done(_) => Ok(()),
-        end => Err(Failure::Ended(agent, end)),
-    }
+    finish(end_in_memory(end), false, asking.agent, &mut text, out)
 }

@@ -1,18 +1,13 @@
 //! A job: it is done, and what failed is reported.
-ghost use Rattle.std.specs.Prelude.{◌≡◌, ◌++◌, Bool, codes, IfOk, Some};
+ghost use Rattle.std.specs.Prelude.{◌≡◌, ◌++◌, codes, IfOk, Some};
 ghost use Rattle.snmp_io.specs.Output.{IsWritten};
 ghost use Rattle.snmp_tools.specs.agent.Outcome.{AtDoor};
-ghost use Rattle.snmp_words.specs.Words.{GetWords, ServeWords, WalkWords, job_words, snmpd};
-ghost use Rattle.snmp_words.specs.Words.{TranslateWords, snmpget, snmptranslate, walk_words};
-ghost use Rattle.snmp_tools.specs.GetHeadline.{GetEndsAtStatus0, GetWritesAllAtStatus0};
-ghost use Rattle.snmp_tools.specs.GetHeadline.{GetWritesFront};
-ghost use Rattle.snmp_tools.specs.Got.{HasGetFacts, IsGetRun};
-ghost use Rattle.snmp_tools.specs.Headline.{EndsAtStatus0, WritesAllAtStatus0, WritesFront};
+ghost use Rattle.snmp_words.specs.Words.{job_words, walk_words};
+ghost use Rattle.snmp_tools.specs.Done.{IsJobDone};
 ghost use Rattle.snmp_tools.specs.Message.{fault_of, fault_message};
 ghost use Rattle.snmp_tools.specs.Outcome.{HasLinkFacts, IsReported, IsWalkRun};
-ghost use Rattle.snmp_tools.specs.Planned.{IsWalkJob};
-ghost use Rattle.snmp_tools.specs.Serving.{IsServeRun, risen};
-ghost use Rattle.snmp_tools.specs.Translating.{IsTranslated};
+ghost use Rattle.snmp_tools.specs.Seen.{seen};
+ghost use Rattle.snmp_tools.specs.Serving.{risen};
 
 use crate::failure::Failure;
 use crate::get::do_get;
@@ -30,8 +25,8 @@ use std::alloc::{AllocError, Global};
 /// Does a job, and returns the exit status: 0 where it was done, 2 where an agent replied with an
 /// error status, and 1 in any other case.
 ///
-/// Each line is written to `out` as its binding comes. A failure is one line on `err`; an `err`
-/// that fails itself changes nothing else.
+/// The lines of a reply are written to `out` together, as it comes. A failure is one line on `err`;
+/// an `err` that fails itself changes nothing else.
 pub fn run_job<F: ModuleFiles, L: Links, O: Output, E: Output>(
     alloc: Global,
     job: &Job<'_>,
@@ -40,43 +35,11 @@ pub fn run_job<F: ModuleFiles, L: Links, O: Output, E: Output>(
     out: &mut O,
     err: &mut E,
 ) -> u8
-    ensures translated { (words : TranslateWords) → job_words job.now ≡ snmptranslate words
-        → IsTranslated words (F.text_at files.now) (O.stream out.old) (O.stream out.new)
-        (E.stream err.old) (E.stream err.new) result }
-    ensures outcome_reported { (bulk : Bool) (words : WalkWords) → IsWalkJob job.now bulk words
-        → IsWalkRun (HasLinkFacts (L.opens links.old) L.Wire.Link)
-        (risen (L.fault_count links.old) (L.fault_count links.new))
-        bulk words (F.text_at files.now) (O.stream out.old) (O.stream out.new)
-        (E.stream err.old) (E.stream err.new) result }
-    ensures front_written { (bulk : Bool) (words : WalkWords) → IsWalkJob job.now bulk words
-        → WritesFront bulk words (F.text_at files.now)
-        (O.stream out.old) (O.stream out.new) }
-    ensures all_written_at_status_0 { (bulk : Bool) (words : WalkWords)
-        → IsWalkJob job.now bulk words
-        → WritesAllAtStatus0 bulk words (F.text_at files.now)
-        (O.stream out.old) (O.stream out.new) result }
-    ensures ends_at_status_0 { (bulk : Bool) (words : WalkWords) → IsWalkJob job.now bulk words
-        → EndsAtStatus0 bulk words (F.text_at files.now)
-        (O.stream out.old) (O.stream out.new) (E.stream err.old) (E.stream err.new) result }
-    ensures get_reported { (words : GetWords) → job_words job.now ≡ snmpget words
-        → IsGetRun (HasGetFacts (L.opens links.old) L.Wire.Link)
-        (risen (L.fault_count links.old) (L.fault_count links.new))
-        words (F.text_at files.now) (O.stream out.old) (O.stream out.new)
-        (E.stream err.old) (E.stream err.new) result }
-    ensures get_front_written { (words : GetWords) → job_words job.now ≡ snmpget words
-        → GetWritesFront words (F.text_at files.now) (O.stream out.old) (O.stream out.new) }
-    ensures get_all_written_at_status_0 { (words : GetWords)
-        → job_words job.now ≡ snmpget words
-        → GetWritesAllAtStatus0 words (F.text_at files.now)
-        (O.stream out.old) (O.stream out.new) result }
-    ensures get_ends_at_status_0 { (words : GetWords) → job_words job.now ≡ snmpget words
-        → GetEndsAtStatus0 words (F.text_at files.now)
-        (O.stream out.old) (O.stream out.new) (E.stream err.old) (E.stream err.new) result }
-    ensures served { (words : ServeWords) → job_words job.now ≡ snmpd words
-        → IsServeRun (AtDoor (L.binds links.old) L.serves)
-        (risen (L.fault_count links.old) (L.fault_count links.new))
-        words (F.text_at files.now) (O.stream out.old) (O.stream out.new)
-        (E.stream err.old) (E.stream err.new) result }
+    ensures { IsJobDone (L.opens links.old) L.Wire.Link (AtDoor (L.binds links.old) L.serves)
+        (job_words job.now)
+        (seen (F.text_at files.now) (L.fault_count links.old) (O.stream out.old) (E.stream err.old))
+        (seen (F.text_at files.now) (L.fault_count links.new) (O.stream out.new) (E.stream err.new))
+        result }
 {
     one_table();
     no_fault();

@@ -11,7 +11,7 @@ ghost use Rattle.snmp_tools.specs.TableWalk.{HoldsTableFile, PrintsRows, table_w
 
 use smi_show::numbers_are_read;
 use smi_tree::bare_tree;
-use snmp_agent::{one_answer, table_of_lines};
+use snmp_agent::{one_answer, table_of_lines, unmarked_table};
 use snmp_walk::{instances_below, short_rows_have_room};
 use snmp_words::walks_are_taken;
 
@@ -35,6 +35,7 @@ pub(crate) fn table_walks()
     numbers_are_read();
     bare_tree();
     table_of_lines();
+    unmarked_table();
     instances_below();
     one_answer();
     short_rows_have_room();

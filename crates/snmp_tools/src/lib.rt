@@ -19,6 +19,7 @@ mod names;
 mod plan;
 mod serve;
 mod start;
+mod table_names;
 mod translate;
 pub mod translation;
 mod walk;

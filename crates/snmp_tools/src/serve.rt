@@ -9,14 +9,15 @@ ghost use Rattle.snmp_tools.specs.Serving.{IsServeRun, reported_as, risen};
 use crate::agent::{ServeError, serve_table};
 use crate::failure::Failure;
 use crate::job::report;
-use snmp_io::{Files, Output};
+use crate::loading::ModuleFiles;
+use snmp_io::Output;
 use snmp_net::Links;
 use snmp_walk::{SinkFault, WalkEnd};
 use snmp_words::ServeJob;
 use std::alloc::Global;
 
 /// Does the job of snmpd, and returns the exit status.
-pub(crate) fn do_serve<F: Files, L: Links, O: Output, E: Output>(
+pub(crate) fn do_serve<F: ModuleFiles, L: Links, O: Output, E: Output>(
     alloc: Global,
     job: &ServeJob<'_>,
     files: &F,
@@ -29,7 +30,7 @@ pub(crate) fn do_serve<F: Files, L: Links, O: Output, E: Output>(
         (serve_words job.now) (F.text_at files.now) (O.stream out.old) (O.stream out.new)
         (E.stream err.old) (E.stream err.new) result }
 {
-    match serve_table(alloc, job, files, links, out) {
+    match serve_table(alloc, job, files, links, out, err) {
         Ok(()) => 0,
         Err(error) => report(alloc, &failure_of(error, job.listen), err),
     }
@@ -42,6 +43,7 @@ fn failure_of<'a>(error: ServeError<'a>, word: &'a str) -> Failure<'a>
     match error {
         ServeError::Community => Failure::Community,
         ServeError::Place(place) => Failure::Agent(place),
+        ServeError::Modules(why) => Failure::Modules(why),
         ServeError::Unreadable(path) => Failure::Unreadable(path),
         ServeError::Table(path, fault) => Failure::Table(path, fault),
         ServeError::Door => Failure::Ended(word, WalkEnd::Link),

@@ -1,17 +1,18 @@
 //! A walk: its words are judged, its names looked up, its agent reached, and its lines printed.
-ghost use Rattle.std.specs.Prelude.{◌≡◌, ◌⊎◌, ◌+◌, [], IfErr, IfOk, None, OnErr, OnOk, Some};
+ghost use Rattle.std.specs.Prelude.{◌≡◌, ◌⊎◌, ◌+◌, [], IfErr, IfOk, OnErr};
 ghost use Rattle.std.specs.Prelude.{unwrap_or};
 ghost use Rattle.snmp_tools.specs.loading.Loaded.{AreLoadedAs};
 ghost use Rattle.snmp_net.specs.Address.{address_of, table, udp};
 ghost use Rattle.snmp_words.specs.Words.{asking_words, walk_words};
-ghost use Rattle.snmp_tools.specs.agent.TableFile.{HasTable, TableFails};
+ghost use Rattle.snmp_tools.specs.agent.TableFile.{HasTable, TableFails, names_in};
 ghost use Rattle.snmp_tools.specs.Asking.{MibsFail};
-ghost use Rattle.snmp_tools.specs.Message.{bad_table, fault_of, out_of_memory, unreadable};
+ghost use Rattle.snmp_tools.specs.Message.{bad_table, fault_of, out_of_memory, outcome_of};
+ghost use Rattle.snmp_tools.specs.Message.{unreadable};
 ghost use Rattle.snmp_io.specs.Files.{MayHold};
 ghost use Rattle.snmp_tools.specs.Mib.{IsMibOf};
-ghost use Rattle.snmp_tools.specs.Outcome.{HasLinkFacts, IsFinished, IsPrintedOver};
+ghost use Rattle.snmp_tools.specs.Outcome.{HasLinkFacts, IsFinished, IsPrinted};
 ghost use Rattle.snmp_tools.specs.Outcome.{IsTableOutcome, IsWalkOutcome, IsWalkOutcomeBy};
-ghost use Rattle.snmp_tools.specs.Outcome.{IsWalkPrinted, end_in_memory, first_of};
+ghost use Rattle.snmp_tools.specs.Outcome.{IsWalked, end_in_memory, first_of};
 ghost use Rattle.snmp_walk.specs.Ran.{IsWalkedOver};
 ghost use Rattle.snmp_tools.specs.Planned.{AreOrdersOf, IsPlanFor, mib_in, plan_of};
 ghost use Rattle.snmp_tools.specs.Plan.{root_text};
@@ -25,7 +26,8 @@ use crate::lines::{print_count, print_walk};
 use crate::loading::{FilesError, ModuleFiles};
 use crate::plan::{Orders, Plan};
 use crate::start::start;
-use smi_show::ShowTree;
+use crate::table_names::TreeNames;
+use smi_show::{NameTree, ShowTree};
 use snmp_agent::{Config, Table, one_answer};
 use snmp_io::{FileFault, Files, Output};
 use snmp_net::{AgentAddress, Links, UdpAddress};
@@ -43,16 +45,11 @@ pub(crate) fn walk_lines<'a, F: ModuleFiles, L: Links, O: Output, E: Output>(
     out: &mut O,
     err: &mut E,
 ) -> Result<(), Failure<'a>>
-    ensures done { OnOk result (IsWalkOutcome
+    ensures { IsWalkOutcome
         (HasLinkFacts (L.opens links.old) L.Wire.Link)
         (risen (L.fault_count links.old) (L.fault_count links.new))
         bulk (walk_words walk.now) (F.text_at files.now) (O.stream out.old) (O.stream out.new)
-        (E.stream err.old) (E.stream err.new) None) }
-    ensures failed { IfErr result (λ failure. IsWalkOutcome
-        (HasLinkFacts (L.opens links.old) L.Wire.Link)
-        (risen (L.fault_count links.old) (L.fault_count links.new))
-        bulk (walk_words walk.now) (F.text_at files.now) (O.stream out.old) (O.stream out.new)
-        (E.stream err.old) (E.stream err.new) (Some (fault_of failure))) }
+        (E.stream err.old) (E.stream err.new) (outcome_of result) }
 {
     let orders = match Orders::read(walk, bulk) {
         Ok(orders) => orders,
@@ -101,18 +98,12 @@ fn walk_by<'a, T: ShowTree, F: Files, L: Links, O: Output>(
     requires orders { AreOrdersOf bulk (walk_words walk.now) orders }
     requires known { IsMibOf (MayHold (F.text_at files.now)) (walk_words walk.now).asking
         (mib_in (T.naming tree.now) (T.syntax_at tree.now)) }
-    ensures done { OnOk result (IsWalkOutcomeBy
+    ensures { IsWalkOutcomeBy
         (HasLinkFacts (L.opens links.old) L.Wire.Link)
         (risen (L.fault_count links.old) (L.fault_count links.new))
         bulk (walk_words walk.now) (F.text_at files.now)
         (mib_in (T.naming tree.now) (T.syntax_at tree.now))
-        (O.stream out.old) (O.stream out.new) None) }
-    ensures failed { IfErr result (λ failure. IsWalkOutcomeBy
-        (HasLinkFacts (L.opens links.old) L.Wire.Link)
-        (risen (L.fault_count links.old) (L.fault_count links.new))
-        bulk (walk_words walk.now) (F.text_at files.now)
-        (mib_in (T.naming tree.now) (T.syntax_at tree.now))
-        (O.stream out.old) (O.stream out.new) (Some (fault_of failure))) }
+        (O.stream out.old) (O.stream out.new) (outcome_of result) }
 {
     let plan = match Plan::read(walk, bulk, orders, tree) {
         Ok(plan) => plan,
@@ -149,15 +140,11 @@ fn over_table<'a, T: ShowTree, F: Files, O: Output>(
         (mib_in (T.naming tree.now) (T.syntax_at tree.now)) (plan_of plan.now) }
     requires method { IsMethod plan.now.method }
     requires path { address_of plan.now.agent ≡ table path.now }
-    ensures done { OnOk result (IsTableOutcome bulk (walk_words walk.now) (F.text_at files.now)
+    ensures { IsTableOutcome bulk (walk_words walk.now) (F.text_at files.now)
         (mib_in (T.naming tree.now) (T.syntax_at tree.now)) (plan_of plan.now)
-        (O.stream out.old) (O.stream out.new) None) }
-    ensures failed { IfErr result (λ failure.
-        IsTableOutcome bulk (walk_words walk.now) (F.text_at files.now)
-        (mib_in (T.naming tree.now) (T.syntax_at tree.now)) (plan_of plan.now)
-        (O.stream out.old) (O.stream out.new) (Some (fault_of failure))) }
+        (O.stream out.old) (O.stream out.new) (outcome_of result) }
 {
-    let table = match table_at(alloc, files, path) {
+    let table = match table_at(alloc, tree, files, path) {
         Ok(table) => table,
         Err(failure) => return Err(failure),
     };
@@ -184,18 +171,12 @@ fn over_net<'a, T: ShowTree, F: Files, L: Links, O: Output>(
         (mib_in (T.naming tree.now) (T.syntax_at tree.now)) (plan_of plan.now) }
     requires method { IsMethod plan.now.method }
     requires at { address_of plan.now.agent ≡ udp at.host.now at.port }
-    ensures done { OnOk result (IsWalkOutcomeBy
+    ensures { IsWalkOutcomeBy
         (HasLinkFacts (L.opens links.old) L.Wire.Link)
         (risen (L.fault_count links.old) (L.fault_count links.new))
         bulk (walk_words walk.now) (F.text_at files.now)
         (mib_in (T.naming tree.now) (T.syntax_at tree.now))
-        (O.stream out.old) (O.stream out.new) None) }
-    ensures failed { IfErr result (λ failure. IsWalkOutcomeBy
-        (HasLinkFacts (L.opens links.old) L.Wire.Link)
-        (risen (L.fault_count links.old) (L.fault_count links.new))
-        bulk (walk_words walk.now) (F.text_at files.now)
-        (mib_in (T.naming tree.now) (T.syntax_at tree.now))
-        (O.stream out.old) (O.stream out.new) (Some (fault_of failure))) }
+        (O.stream out.old) (O.stream out.new) (outcome_of result) }
 {
     let mut link = match links.open(at.host, at.port, walk.asking.seconds) {
         Ok(link) => link,
@@ -220,17 +201,11 @@ fn print_over<'a, T: ShowTree, L: Link, O: Output>(
     out: &mut O,
 ) -> Result<(), Failure<'a>>
     requires { IsStartOf core (plan_of plan.now) }
-    ensures done { OnOk result (IsPrintedOver
+    ensures { IsPrinted
         (IsWalkedOver L.Link link.old link.new (asking.now.retries + 1)
         (first_of (plan_of plan.now)))
-        (mib_in (T.naming tree.now) (T.syntax_at tree.now))
-        (plan_of plan.now) asking.now.agent.now (O.stream out.old) (O.stream out.new) None) }
-    ensures failed { IfErr result (λ failure. IsPrintedOver
-        (IsWalkedOver L.Link link.old link.new (asking.now.retries + 1)
-        (first_of (plan_of plan.now)))
-        (mib_in (T.naming tree.now) (T.syntax_at tree.now))
-        (plan_of plan.now) asking.now.agent.now (O.stream out.old) (O.stream out.new)
-        (Some (fault_of failure))) }
+        (mib_in (T.naming tree.now) (T.syntax_at tree.now)) plan.now.letters plan.now.counts
+        asking.now.agent.now (O.stream out.old) (O.stream out.new) (outcome_of result) }
 {
     let retries = asking.retries as u32;
     let mut text = Vec::new(alloc);
@@ -250,13 +225,9 @@ fn print_plan<'a, T: ShowTree, O: Output>(
     out: &mut O,
 ) -> Result<(), Failure<'a>>
     requires { IsStartOf core (plan_of plan.now) }
-    ensures done { OnOk result (IsWalkPrinted (mib_in (T.naming tree.now) (T.syntax_at tree.now))
-        (plan_of plan.now) table.now asking.now.agent.now
-        (O.stream out.old) (O.stream out.new) None) }
-    ensures failed { IfErr result (λ failure.
-        IsWalkPrinted (mib_in (T.naming tree.now) (T.syntax_at tree.now))
-        (plan_of plan.now) table.now asking.now.agent.now
-        (O.stream out.old) (O.stream out.new) (Some (fault_of failure))) }
+    ensures { IsPrinted (IsWalked (plan_of plan.now) table.now)
+        (mib_in (T.naming tree.now) (T.syntax_at tree.now)) plan.now.letters plan.now.counts
+        asking.now.agent.now (O.stream out.old) (O.stream out.new) (outcome_of result) }
 {
     let config = Config {
         community: plan.community,
@@ -287,18 +258,16 @@ pub(crate) fn end_in_memory(end: WalkEnd) -> WalkEnd
     }
 }
 
-// Prints what follows the lines of a walk that ended in this way.
-fn finish<'a, O: Output>(
+/// Prints what follows the lines of a walk or a Get that ended in this way.
+pub(crate) fn finish<'a, O: Output>(
     end: WalkEnd,
     counts: bool,
     agent: &'a str,
     text: &mut Vec<u8>,
     out: &mut O,
 ) -> Result<(), Failure<'a>>
-    ensures done { OnOk result (IsFinished counts agent.now end
-        (O.stream out.old) (O.stream out.new) None) }
-    ensures failed { IfErr result (λ failure. IsFinished counts agent.now end
-        (O.stream out.old) (O.stream out.new) (Some (fault_of failure))) }
+    ensures { IsFinished agent.now end counts (O.stream out.old) (O.stream out.new)
+        (outcome_of result) }
 {
     match end {
         WalkEnd::Done(count) if counts => match print_count(count, text, out) {
@@ -311,22 +280,25 @@ fn finish<'a, O: Output>(
     }
 }
 
-/// The table that the file at this path states.
-pub(crate) fn table_at<'a, F: Files>(
+/// The table that the file at this path states, by the names of a tree.
+pub(crate) fn table_at<'a, T: NameTree, F: Files>(
     alloc: Global,
+    tree: &T,
     files: &F,
     path: &'a str,
 ) -> Result<Table, Failure<'a>>
-    ensures table { IfOk result (HasTable (F.text_at files.now) path.now) }
+    ensures table { IfOk result
+        (HasTable (F.text_at files.now) (names_in (T.naming tree.now)) path.now) }
     ensures err { IfErr result (λ e. (fault_of e ≡ out_of_memory)
-        ⊎ TableFails unreadable bad_table (F.text_at files.now) path.now (fault_of e)) }
+        ⊎ TableFails unreadable bad_table (F.text_at files.now) (names_in (T.naming tree.now))
+        path.now (fault_of e)) }
 {
     let text = match files.read(alloc, path) {
         Ok(text) => text,
         Err(FileFault::Unreadable) => return Err(Failure::Unreadable(path)),
         Err(FileFault::Memory) => return Err(Failure::Memory),
     };
-    match Table::read(alloc, &text) {
+    match Table::read_with(alloc, &text, &TreeNames { tree }) {
         Ok(table) => Ok(table),
         Err(fault) => Err(Failure::Table(path, fault)),
     }

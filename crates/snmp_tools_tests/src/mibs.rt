@@ -54,6 +54,15 @@ const LINES: &str = "TINY-MIB::tinyState.0 = INTEGER: up(1)\n\
 TINY-MIB::tinyMac.\"wes\" = STRING: 0:16:3e:5a:78:8e\n\
 TINY-MIB::tinyKeyUse.'wes' = Gauge32: 5 jobs\n";
 
+/// A table whose rows are named by the modules.
+const NAMED: &[u8] = b"#snmptab 2\nobject TINY-MIB::tinyState\nTINY-MIB::tinyState.0|2|1\n\
+tinyMac.\"a|b\"|4x|00163E5A788E\n.1.3.6.1.4.1.32473.9.0|6|TINY-MIB::tinyMac\n";
+
+/// Its lines.
+const NAMED_LINES: &str = "TINY-MIB::tinyState.0 = INTEGER: up(1)\n\
+TINY-MIB::tinyMac.\"a|b\" = STRING: 0:16:3e:5a:78:8e\n\
+TINY-MIB::tiny.9.0 = OID: TINY-MIB::tinyMac\n";
+
 /// A module whose names stand on those of the others, without a warning.
 const MORE: &[u8] = b"MORE-MIB DEFINITIONS ::= BEGIN
 IMPORTS tiny FROM TINY-MIB;
@@ -74,6 +83,25 @@ const FILES: Held<'static> = &[
     ("bad.txt", FAULTY),
     ("tiny.tab", TABLE),
     ("more.tab", b"1.3.6.1.4.1.32473.9.1|2|7\n"),
+    ("two.tab", NAMED),
+    (
+        "unmarked.tab",
+        b"object TINY-MIB::tinyState\nTINY-MIB::tinyState.0|2|1\n",
+    ),
+    (
+        "implied.tab",
+        b"#snmptab 2\r\ntinyKeyUse.'a|b'|66|5\r\n.1.3.6.1.4.1.32473.3.1.1.99|66|6\r\n",
+    ),
+    ("roots.tab", b"#snmptab 2\niso.3.6|2|5\n"),
+    ("open.tab", b"#snmptab 2\ntinyKeyUse.'a|66|5\n"),
+    ("blank.tab", b"#snmptab 2 \ntinyState.0|2|1\n"),
+    ("late.tab", b"\n#snmptab 2\ntinyState.0|2|1\n"),
+    ("three.tab", b"#snmptab 3\ntinyState.0|2|1\n"),
+    ("value.tab", b"#snmptab 2\ntinyState.0|6|tinyGone\n"),
+    (
+        "double.tab",
+        b"#snmptab 2\ntinyMac.\"a\"|4|x\n.1.3.6.1.4.1.32473.2.1.2.1.97|4|y\n",
+    ),
     ("bad.tab", b"x\n"),
 ];
 
@@ -199,6 +227,98 @@ fn names_of_all_module_files(rt: HostRuntime) {
     let twice = "snmp snmpwalk --mib=tiny.txt --mib=more.txt --mib=more.txt table:more.tab tiny";
     let message = "snmp: MORE-MIB is loaded twice\n";
     assert!(rt; matches!(warns(rt.alloc(), twice, LINE, message, 0), Ok(true)));
+}
+
+#[test]
+fn a_table_is_named_by_module_files(rt: HostRuntime) {
+    assert_shows(
+        &rt,
+        rt.alloc(),
+        &[
+            (
+                "snmp snmpwalk --mib tiny.txt table:two.tab tiny",
+                NAMED_LINES,
+            ),
+            (
+                "snmp snmpbulkwalk --mib tiny.txt table:two.tab tiny",
+                NAMED_LINES,
+            ),
+            (
+                "snmp snmpget --mib tiny.txt table:two.tab tinyState.0 tiny.9.0",
+                "TINY-MIB::tinyState.0 = INTEGER: up(1)\n\
+TINY-MIB::tiny.9.0 = OID: TINY-MIB::tinyMac\n",
+            ),
+            (
+                "snmp snmpwalk --mib tiny.txt table:implied.tab tiny",
+                "TINY-MIB::tinyKeyUse.'a|b' = Gauge32: 5 jobs\n\
+TINY-MIB::tinyKeyUse.'c' = Gauge32: 6 jobs\n",
+            ),
+            (
+                "snmp snmpd --mib=tiny.txt --table=two.tab --turns=0",
+                "listening on 127.0.0.1:161\n0 replies, 0 dropped\n",
+            ),
+        ],
+    );
+}
+
+#[test]
+fn names_that_no_module_has(rt: HostRuntime) {
+    assert_refused(
+        &rt,
+        rt.alloc(),
+        FILES,
+        &[
+            (
+                "snmp snmpwalk table:two.tab .1.3.6.1.4.1.32473",
+                "two.tab:2: bad name\n",
+            ),
+            (
+                "snmp snmpwalk table:unmarked.tab .1.3.6.1.4.1.32473",
+                "unmarked.tab:1: bad name\n",
+            ),
+            (
+                "snmp snmpd --table=two.tab --turns=0",
+                "two.tab:2: bad name\n",
+            ),
+        ],
+    );
+    let line = "snmp snmpget -On table:roots.tab .1.3.6";
+    let run = (line, ".1.3.6 = INTEGER: 5\n", "", 0);
+    assert!(rt; matches!(prints(rt.alloc(), FILES, NO_LIMITS, run), Ok(true)));
+}
+
+#[test]
+fn faults_of_tables_that_are_named_by_module_files(rt: HostRuntime) {
+    assert_warned(
+        &rt,
+        rt.alloc(),
+        &[
+            (
+                "snmp snmpwalk --mib=tiny.txt table:open.tab tiny",
+                "open.tab:2: bad line\n",
+            ),
+            (
+                "snmp snmpwalk --mib=tiny.txt table:blank.tab tiny",
+                "blank.tab:2: bad name\n",
+            ),
+            (
+                "snmp snmpwalk --mib=tiny.txt table:late.tab tiny",
+                "late.tab:3: bad name\n",
+            ),
+            (
+                "snmp snmpget --mib=tiny.txt table:three.tab tinyState.0",
+                "three.tab:2: bad name\n",
+            ),
+            (
+                "snmp snmpd --mib=tiny.txt --table=value.tab --turns=0",
+                "value.tab:2: bad value\n",
+            ),
+            (
+                "snmp snmpd --mib=tiny.txt --table=double.tab --turns=0",
+                "double.tab:3: double name\n",
+            ),
+        ],
+    );
 }
 
 #[test]

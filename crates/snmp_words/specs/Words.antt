@@ -68,6 +68,7 @@ pub record WalkWords : Type 0 where
   pub name : Option Text
 
 pub record ServeWords : Type 0 where
+  pub mibs : List Text
   pub table : Text
   pub community : Text
   pub listen : Text
@@ -147,6 +148,7 @@ walk_of_rows rows = record {
 
 abbrev pub serve_of_rows : List Row → ServeWords
 serve_of_rows rows = record {
+  mibs = texts_of (codes "mib") rows;
   table = text_or (codes "table") [] rows;
   community = text_or (codes "community") (codes "public") rows;
   listen = text_or (codes "listen") (codes "127.0.0.1:161") rows;
@@ -219,6 +221,7 @@ walk_words w = record {
 
 abbrev pub serve_words : ServeJob → ServeWords
 serve_words s = record {
+  mibs = texts_at s.mibs.items;
   table = s.table.now;
   community = s.community.now;
   listen = s.listen.now;

@@ -55,7 +55,7 @@ Example, an agent for half a minute:
 
 Exit status:
   0  all turns were served
-  1  the table or the address was refused, or another fault, with a message on standard error";
+  1  a file or the address was refused, or another fault, with a message on standard error";
 
 // A command as far as it is made, or that memory ran out. Each call below takes it by value and
 // hands it on, so that none has to drop it amid its own steps.
@@ -237,7 +237,8 @@ fn with_serving<'a>(alloc: Global, command: Made<'a>) -> Made<'a>
     ensures { (app : App) → IsMade command.entry app
         → IsMade result (with_rules app serving_rules) }
 {
-    let placed = with_place(alloc, command);
+    let filed = with_arg(command, options::mib_option(alloc));
+    let placed = with_place(alloc, filed);
     let bounded = with_arg(placed, options::size_option(alloc));
     with_arg(bounded, options::turns_option(alloc))
 }

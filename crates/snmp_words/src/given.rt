@@ -27,7 +27,7 @@ pub(crate) fn job_of<'a>(alloc: Global, matches: &ArgMatches<'a>) -> Result<Job<
         "snmpget" => Ok(Job::Get(get_job(alloc, given)?)),
         "snmpwalk" => Ok(Job::Walk(walk_job(alloc, given)?)),
         "snmpbulkwalk" => Ok(Job::BulkWalk(walk_job(alloc, given)?)),
-        "snmpd" => Ok(Job::Serve(serve_job(given))),
+        "snmpd" => Ok(Job::Serve(serve_job(alloc, given)?)),
         _ => unreachable!(),
     }
 }
@@ -68,16 +68,18 @@ fn walk_job<'a>(alloc: Global, given: &ArgMatches<'a>) -> Result<WalkJob<'a>, Al
     })
 }
 
-fn serve_job<'a>(given: &ArgMatches<'a>) -> ServeJob<'a>
-    ensures { serve_words result ≡ serve_of_rows (rows_of (found_of given.now)) }
+fn serve_job<'a>(alloc: Global, given: &ArgMatches<'a>) -> Result<ServeJob<'a>, AllocError>
+    ensures { IfOk result (λ job. serve_words job ≡ serve_of_rows (rows_of (found_of given.now))) }
 {
-    ServeJob {
+    let mibs = all_texts(alloc, given, "mib")?;
+    Ok(ServeJob {
+        mibs,
         table: first_text(given, "table").unwrap_or(""),
         community: first_text(given, "community").unwrap_or("public"),
         listen: first_text(given, "listen").unwrap_or("127.0.0.1:161"),
         max_size: number(given, "size", 1472, 1, 65507),
         turns: number(given, "turns", u64::MAX, 0, u64::MAX),
-    }
+    })
 }
 
 fn asking_of<'a>(alloc: Global, given: &ArgMatches<'a>) -> Result<Asking<'a>, AllocError>

@@ -81,6 +81,8 @@ pub struct WalkJob<'a> {
 /// The words of `snmpd`.
 #[derive(Debug, Drop)]
 pub struct ServeJob<'a> {
+    /// The paths of module files, of `--mib`, in order.
+    pub mibs: Vec<&'a str>,
     /// The path of the table file, of `--table`.
     pub table: &'a str,
     /// The community of the agent: `public` where none was given.

@@ -81,8 +81,11 @@ const OPTIONS_OF_SNMPD: Tips = &[
         "-C",
         "--table FILE says what is served: no configuration is read",
     ),
-    ("-m", "a table has names in numbers, so no modules are read"),
-    ("-M", "a table has names in numbers, so no modules are read"),
+    ("-m", MODULES),
+    (
+        "-M",
+        "no folder is searched for modules: --mib FILE names each file",
+    ),
     ("-p", "no file of the process's number is written"),
     ("-u", "snmpd runs as the user who starts it"),
     ("-g", "snmpd runs as the user who starts it"),

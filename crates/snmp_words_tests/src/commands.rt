@@ -62,8 +62,8 @@ const DEFAULTS: &[(&[&str], &str)] = &[
     ),
     (
         &["snmp", "snmpd", "--table", "t.tab"],
-        "Serve(ServeJob { table: \"t.tab\", community: \"public\", listen: \"127.0.0.1:161\", \
-         max_size: 1472, turns: 18446744073709551615 })",
+        "Serve(ServeJob { mibs: [], table: \"t.tab\", community: \"public\", \
+         listen: \"127.0.0.1:161\", max_size: 1472, turns: 18446744073709551615 })",
     ),
 ];
 
@@ -130,15 +130,18 @@ const GIVEN: &[(&[&str], &str)] = &[
             "--listen",
             "0.0.0.0:1161",
             "--table=t.tab",
+            "--mib",
+            "b.txt",
             "-c",
             "",
+            "--mib=a.txt",
             "--max-size",
             "484",
             "--turns",
             "0",
         ],
-        "Serve(ServeJob { table: \"t.tab\", community: \"\", listen: \"0.0.0.0:1161\", \
-         max_size: 484, turns: 0 })",
+        "Serve(ServeJob { mibs: [\"b.txt\", \"a.txt\"], table: \"t.tab\", community: \"\", \
+         listen: \"0.0.0.0:1161\", max_size: 484, turns: 0 })",
     ),
 ];
 
@@ -404,7 +407,7 @@ const WRONG: &[&[&str]] = &[
     &["snmp", "snmpd", "--table", "a.tab", "--table", "b.tab"],
     &["snmp", "snmpd", "t.tab"],
     &["snmp", "snmpd", "--table=t.tab", "-On"],
-    &["snmp", "snmpd", "--table=t.tab", "--mib=a.txt"],
+    &["snmp", "snmpd", "--table=t.tab", "--mib"],
 ];
 
 #[test]

@@ -91,7 +91,7 @@ const COMMANDS: &[(&str, &[&str])] = &[
             "echo '1.3.6.1.2.1.1.5.0|4|gate' | snmp snmpd \
              --table /dev/stdin --listen 127.0.0.1:1161 --turns 30",
             "0  all turns were served",
-            "1  the table or the address was refused, or another fault, with a message on \
+            "1  a file or the address was refused, or another fault, with a message on \
              standard error",
         ],
     ),

@@ -2,13 +2,18 @@
 use Rattle.std.specs.Prelude.{◌≡◌, ◌⊎◌, ◌+◌, ◌++◌, ℕ, List, Option, Some, None, codes, decimal}
 use Rattle.snmp_agent.specs.Reply.{Agent}
 use Rattle.snmp_agent.specs.declared.server.Served.{Served}
-use Rattle.snmp_io.specs.Count.{HasRisen}
-use Rattle.snmp_io.specs.Files.{Holdings}
-use Rattle.snmp_io.specs.Output.{FailsWithin, Stream, extended}
+use Rattle.snmp_agent.specs.table.Format.{Names}
 use Rattle.snmp_agent.specs.table.Table.{MibView}
+use Rattle.snmp_io.specs.Count.{HasRisen}
+use Rattle.snmp_io.specs.Files.{Holdings, MayHold}
+use Rattle.snmp_io.specs.Output.{FailsWithin, Stream, extended}
+use Rattle.smi_tree.specs.Naming.{naming_of}
+use Rattle.smi_tree.specs.Tree.{Contents}
 use Rattle.snmp_words.specs.Words.{ServeWords}
 use Rattle.snmp_tools.specs.agent.Fault.{ServeFault, no_door, no_memory, no_output}
-use Rattle.snmp_tools.specs.agent.Service.{AskForService, IsServeRefusal, served_agent}
+use Rattle.snmp_tools.specs.agent.Service.{IsPlaced, IsServeRefusal, IsTableRefusal, served_agent}
+use Rattle.snmp_tools.specs.agent.TableFile.{HasTable, names_in}
+use Rattle.snmp_tools.specs.loading.Loaded.{IsLoaded}
 
 -- where requests are received, in the word's own octets
 abbrev pub listening_line : (word : List ℕ) → List ℕ
@@ -58,13 +63,27 @@ IsServing Serves faults words view before after fault =
     ⊎ IsServedAndCounted Serves words view (extended before (listening_line words.listen)) after
     fault)
 
--- What snmpd printed, and why it stopped, if it stopped before its turns were done. `Serves host
--- port` says what may have been served at a port of a host.
+-- By these names the table file is refused, or it states a table, which is served.
+abbrev pub IsServedBy : (Serves : Agent → ℕ → Served → Type 0) → Faults → ServeWords → Holdings
+    → Names → (before after : Stream) → Option ServeFault → Type 0
+IsServedBy Serves faults words files names before after fault =
+    ((why : ServeFault) × IsTableRefusal words files names why × (after ≡ before)
+    × (fault ≡ Some why))
+    ⊎ ((view : MibView) × HasTable files names words.table view
+    × IsServing Serves faults words view before after fault)
+
+-- What snmpd printed on its output and, of the warnings of its modules, on standard error, and why
+-- it stopped, if it stopped before its turns were done: nothing where it was refused before the
+-- modules were loaded; else their warnings, before anything else. `Serves host port` says what may
+-- have been served at a port of a host.
 pub data IsServeOutcome (Serves : (host : List ℕ) → (port : ℕ) → Agent → ℕ → Served → Type 0)
-    (faults : Faults) (words : ServeWords) (files : Holdings) (before after : Stream)
-    (fault : Option ServeFault) : Type 0 where
-  refused : (why : ServeFault) → IsServeRefusal words files why → after ≡ before → fault ≡ Some why
-      → IsServeOutcome Serves faults words files before after fault
-  ran : (view : MibView) (asked : AskForService words files view)
-      → IsServing (Serves asked.host asked.port) faults words view before after fault
-      → IsServeOutcome Serves faults words files before after fault
+    (faults : Faults) (words : ServeWords) (files : Holdings)
+    (before after err_before warned : Stream) (fault : Option ServeFault) : Type 0 where
+  not_loaded : (why : ServeFault) → IsServeRefusal words files why → after ≡ before
+      → warned ≡ err_before → fault ≡ Some why
+      → IsServeOutcome Serves faults words files before after err_before warned fault
+  loaded : (at : IsPlaced words) (tree : Contents)
+      → IsLoaded (MayHold files) words.mibs tree err_before warned
+      → IsServedBy (Serves at.host at.port) faults words files (names_in (naming_of tree)) before
+      after fault
+      → IsServeOutcome Serves faults words files before after err_before warned fault

@@ -1,5 +1,9 @@
 //! Why a table isn't served.
+ghost use Rattle.std.specs.Prelude.{◌≡◌};
+ghost use Rattle.snmp_tools.specs.loading.Message.{refusal_of};
+ghost use Rattle.snmp_tools.specs.agent.Fault.{modules_fault, serve_fault_of};
 
+use crate::loading::FilesError;
 use snmp_agent::TableError;
 use thiserror::Error;
 
@@ -12,6 +16,9 @@ pub enum ServeError<'a> {
     /// The word for the place is no host with its port.
     #[error("Bad agent address: {0}")]
     Place(&'a str),
+    /// The module files can't be loaded.
+    #[error("{0}")]
+    Modules(FilesError<'a>),
     /// The table file can't be read.
     #[error("{0}: cannot be read")]
     Unreadable(&'a str),
@@ -27,4 +34,14 @@ pub enum ServeError<'a> {
     /// Memory ran out.
     #[error("Out of memory.")]
     Memory,
+}
+
+/// Why module files can't be loaded, as why nothing is served.
+pub(crate) fn modules_error<'a>(error: FilesError<'a>) -> ServeError<'a>
+    ensures { serve_fault_of result ≡ modules_fault (refusal_of error.entry) }
+{
+    match error {
+        FilesError::Unreadable(_) | FilesError::Text(_, _) => ServeError::Modules(error),
+        FilesError::Memory => ServeError::Memory,
+    }
 }

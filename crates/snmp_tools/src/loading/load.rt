@@ -10,17 +10,18 @@ ghost use Rattle.snmp_tools.specs.loading.Message.{refusal_of};
 use crate::loading::error::FilesError;
 use crate::loading::read::read_modules;
 use crate::loading::warned::warning_lines;
-use smi_tree::Tree;
+use smi_tree::{NameHash, Tree};
 use snmp_io::{Files, Output, write_all};
 use std::alloc::Global;
 
 /// Loads the tree of names from module files (RFC 2578, section 3), and writes the line of each
-/// warning on `err`, in order.
+/// warning on `err`, in order. Its names are hashed by `hash`.
 ///
 /// The first file that can't be read, or whose text has a fault anywhere, is the error, and then
 /// nothing is written. An `err` that fails changes nothing else.
 pub fn load_tree<'a, F: Files, E: Output>(
     alloc: Global,
+    hash: NameHash,
     files: &F,
     paths: &[&'a str],
     err: &mut E,
@@ -36,7 +37,7 @@ pub fn load_tree<'a, F: Files, E: Output>(
     ensures untold { OnErr result (E.stream err.new ≡ E.stream err.old) }
 {
     let modules = read_modules(alloc, files, paths)?;
-    let (tree, warnings) = Tree::load(alloc, modules)?;
+    let (tree, warnings) = Tree::load(alloc, hash, modules)?;
     let lines = warning_lines(alloc, &warnings)?;
     tell(err, &lines);
     Ok(tree)

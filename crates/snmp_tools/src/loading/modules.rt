@@ -9,10 +9,11 @@ ghost use Rattle.snmp_tools.specs.loading.Message.{refusal_of};
 use crate::loading::error::FilesError;
 use crate::loading::load::load_tree;
 use smi_show::ShowTree;
-use smi_tree::{Roots, Tree, bare_tree};
+use smi_tree::{NameHash, Roots, Tree, bare_tree};
 use snmp_io::memory::MemoryFiles;
 use snmp_io::{FileFault, Files, MachineFiles, Output};
 use std::alloc::Global;
+use std::random::RandomSource;
 use std::rt;
 
 /// Files, with the names that are loaded from them: of their modules, or of the roots alone.
@@ -38,7 +39,7 @@ pub trait ModuleFiles: Files {
         ensures untold { OnErr result (E.stream err.new ≡ E.stream err.old) };
 }
 
-impl<R: rt::Files> ModuleFiles for MachineFiles<R> {
+impl<R: rt::Files + RandomSource> ModuleFiles for MachineFiles<R> {
     type Names = Tree;
 
     fn load<'a, E: Output>(
@@ -47,7 +48,7 @@ impl<R: rt::Files> ModuleFiles for MachineFiles<R> {
         paths: &[&'a str],
         err: &mut E,
     ) -> Result<Tree, FilesError<'a>> {
-        load_tree(alloc, self, paths, err)
+        load_tree(alloc, NameHash::new(&self.rt), self, paths, err)
     }
 }
 
@@ -60,7 +61,7 @@ impl ModuleFiles for MemoryFiles<'_> {
         paths: &[&'a str],
         err: &mut E,
     ) -> Result<Tree, FilesError<'a>> {
-        load_tree(alloc, self, paths, err)
+        load_tree(alloc, NameHash::Fixed, self, paths, err)
     }
 }
 

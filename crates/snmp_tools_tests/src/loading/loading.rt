@@ -1,7 +1,7 @@
 //! What a load of module files gives and writes, and what refuses it.
 
 use crate::loading::tiny::{ACROSS, ASTRAY, ASTRAY_WARNINGS, DOUBLES, TINY, WARNINGS, WELL};
-use smi_tree::Tree;
+use smi_tree::{NameHash, Tree};
 use snmp_io::memory::{MemoryFiles, MemoryOutput};
 use snmp_io::{Draft, Output};
 use snmp_tools::{FilesError, load_tree};
@@ -42,7 +42,7 @@ fn load<'a>(
     err: &mut MemoryOutput,
 ) -> Result<Tree, FilesError<'a>> {
     let files = MemoryFiles { files: HELD };
-    load_tree(alloc, &files, paths, err)
+    load_tree(alloc, NameHash::Fixed, &files, paths, err)
 }
 
 // Whether the files, with spaces between their paths, are loaded, and what is written of their

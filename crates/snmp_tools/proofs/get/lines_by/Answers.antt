@@ -10,8 +10,8 @@ use Rattle.snmp_io.specs.Steps.{IsFirstToFail}
 use Rattle.snmp_tools.proofs.GetSteps.{names_refused}
 use Rattle.snmp_tools.proofs.get.lines_by.Goals as goal
 
-pub returns-in-Err-clause-failed : goal.returns-in-Err-clause-failed
-returns-in-Err-clause-failed g c =
+pub returns-in-Err : goal.returns-in-Err
+returns-in-Err g c =
     let mib = mib_in (g.T.NameTree.naming c.args.tree.now) (g.T.ShowTree.syntax_at c.args.tree.now) in
     not_asked (fault_of c.in-Err.failure)
     (names_refused (get_words c.args.get.now) (g.F.Files.text_at c.args.files.now) (fault_of c.in-Err.failure) c.args.letters (address_of c.args.agent)

@@ -1,5 +1,4 @@
 use Rattle.std.proofs.Common.{ℕ, Bor, List, refl, sym, subst}
-use Rattle.std.proofs.lemmas.Result.{IfErr-weaker, on_ok_weaker}
 use Rattle.snmp_net.specs.Address.{Address}
 use Rattle.snmp_words.specs.Words.{get_words, texts_at}
 use Rattle.snmp_tools.specs.Asking.{IsReached}
@@ -11,11 +10,11 @@ use Rattle.snmp_tools.specs.Planned.{mib_in}
 use Rattle.snmp_io.specs.Steps.{IsFirstToFail}
 use Rattle.snmp_tools.proofs.GetNames.{same_texts}
 use Rattle.snmp_tools.proofs.GetSteps.{unsent}
-use Rattle.snmp_tools.proofs.GetWholes.{with_get_facts}
+use Rattle.snmp_tools.proofs.Wholes.{with_facts}
 use Rattle.snmp_tools.proofs.get.over_net.Goals as goal
 
-pub returns-in-Err-clause-failed : goal.returns-in-Err-clause-failed
-returns-in-Err-clause-failed g c =
+pub returns-in-Err : goal.returns-in-Err
+returns-in-Err g c =
     not_linked (get_plan_of c.args.plan.now) c.args.at.host.now c.args.at.port c.requires.plan c.requires.at c.in-Err.ensures.fault refl refl
 
 pub check_names-requires : goal.check_names-requires
@@ -23,11 +22,11 @@ check_names-requires g c =
     let mib = mib_in (g.T.NameTree.naming c.args.tree.now) (g.T.ShowTree.syntax_at c.args.tree.now) in
     (mib, same_texts mib _ _ _ _ c.deref.ensures.value c.deref-2.ensures.value c.requires.plan.asked.names)
 
-pub returns-clause-failed : goal.returns-clause-failed
-returns-clause-failed g c =
+pub returns : goal.returns
+returns g c =
     let mib = mib_in (g.T.NameTree.naming c.args.tree.now) (g.T.ShowTree.syntax_at c.args.tree.now) in
     let why = fault_of c.in-Err-check_names.failure in
-    let P : Address → Type 0 = λ a. IsReached (g.F.Files.text_at c.args.files.now) a in
+    let P : Address → Type 0 = λ a. IsReached (g.F.Files.text_at c.args.files.now) mib a in
     let first = c.in-Err-check_names.ensures.err mib
     (same_texts mib _ _ _ _ c.deref.ensures.value c.deref-2.ensures.value c.requires.plan.asked.names) in
     not_asked why
@@ -36,26 +35,13 @@ returns-clause-failed g c =
     (subst (λ (t : List (Bor (List ℕ))). IsFirstToFail (texts_at t) (HasSendable mib) (HasUnsendable mib) why) c.deref.ensures.value first))
     refl refl
 
-pub returns-in-Ok-check_names-clause-done : goal.returns-in-Ok-check_names-clause-done
-returns-in-Ok-check_names-clause-done g c =
-    on_ok_weaker c.print_over.result (λ p. got_over (get_plan_of c.args.plan.now) c.args.at.host.now c.args.at.port c.requires.plan c.requires.at
-    (with_get_facts _ _ (mib_in (g.T.NameTree.naming c.args.tree.now) (g.T.ShowTree.syntax_at c.args.tree.now)) (get_plan_of c.args.plan.now) _ _ _ _
-    (λ given refused end h. record {
+pub returns-in-Ok-check_names : goal.returns-in-Ok-check_names
+returns-in-Ok-check_names g c =
+    got_over (get_plan_of c.args.plan.now) c.args.at.host.now c.args.at.port c.requires.plan c.requires.at
+    (with_facts _ _ (mib_in (g.T.NameTree.naming c.args.tree.now) (g.T.ShowTree.syntax_at c.args.tree.now)) _ _ _ _ _ _ (λ given refused end h. record {
       link = c.in-Ok.link;
       after = c.print_over.new.link;
       opened = c.in-Ok.ensures.opened;
       fresh = c.in-Ok.ensures.fresh;
       run = h;
-    }) p)) c.print_over.ensures.done
-
-pub returns-in-Ok-check_names-clause-failed : goal.returns-in-Ok-check_names-clause-failed
-returns-in-Ok-check_names-clause-failed g c =
-    IfErr-weaker c.print_over.result _ _ (λ e p. got_over (get_plan_of c.args.plan.now) c.args.at.host.now c.args.at.port c.requires.plan c.requires.at
-    (with_get_facts _ _ (mib_in (g.T.NameTree.naming c.args.tree.now) (g.T.ShowTree.syntax_at c.args.tree.now)) (get_plan_of c.args.plan.now) _ _ _ _
-    (λ given refused end h. record {
-      link = c.in-Ok.link;
-      after = c.print_over.new.link;
-      opened = c.in-Ok.ensures.opened;
-      fresh = c.in-Ok.ensures.fresh;
-      run = h;
-    }) p)) c.print_over.ensures.failed
+    }) c.print_over.ensures)

@@ -1,5 +1,4 @@
 use Rattle.std.proofs.Common.{refl, sym, subst}
-use Rattle.std.proofs.lemmas.Result.{IfErr-weaker, on_ok_weaker}
 use Rattle.snmp_net.specs.Address.{Address}
 use Rattle.snmp_words.specs.Words.{walk_words}
 use Rattle.snmp_tools.specs.Asking.{IsReached}
@@ -11,8 +10,8 @@ use Rattle.snmp_tools.proofs.Wholes.{with_facts}
 use Rattle.snmp_tools.proofs.Starts.{start_refused}
 use Rattle.snmp_tools.proofs.walk.over_net.Goals as goal
 
-pub returns-in-Err-clause-failed : goal.returns-in-Err-clause-failed
-returns-in-Err-clause-failed g c =
+pub returns-in-Err : goal.returns-in-Err
+returns-in-Err g c =
     let for = c.requires.plan in
     let mib : Mib = mib_in (g.T.NameTree.naming c.args.tree.now) (g.T.ShowTree.syntax_at c.args.tree.now) in
     let over : IsNetWalk c.args.bulk (walk_words c.args.walk.now) (g.F.Files.text_at c.args.files.now) mib (plan_of c.args.plan.now) = record {
@@ -25,17 +24,18 @@ returns-in-Err-clause-failed g c =
     } in
     not_linked (plan_of c.args.plan.now) over c.in-Err.ensures.fault refl refl
 
-pub returns-in-Err-begin-clause-failed : goal.returns-in-Err-begin-clause-failed
-returns-in-Err-begin-clause-failed g c =
+pub returns-in-Err-begin : goal.returns-in-Err-begin
+returns-in-Err-begin g c =
     let for = c.requires.plan in
-    let P : Address → Type 0 = λ a. IsReached (g.F.Files.text_at c.args.files.now) a in
+    let mib : Mib = mib_in (g.T.NameTree.naming c.args.tree.now) (g.T.ShowTree.syntax_at c.args.tree.now) in
+    let P : Address → Type 0 = λ a. IsReached (g.F.Files.text_at c.args.files.now) mib a in
     refused (fault_of c.in-Err-begin.failure)
     (start_refused c.args.bulk (walk_words c.args.walk.now) (g.F.Files.text_at c.args.files.now) _ for.known (plan_of c.args.plan.now) for.asked for.only
     (subst P (sym c.requires.at) tt) (fault_of c.in-Err-begin.failure) c.in-Err-begin.ensures.err)
     refl refl
 
-pub returns-clause-done : goal.returns-clause-done
-returns-clause-done g c =
+pub returns : goal.returns
+returns g c =
     let for = c.requires.plan in
     let mib : Mib = mib_in (g.T.NameTree.naming c.args.tree.now) (g.T.ShowTree.syntax_at c.args.tree.now) in
     let over : IsNetWalk c.args.bulk (walk_words c.args.walk.now) (g.F.Files.text_at c.args.files.now) mib (plan_of c.args.plan.now) = record {
@@ -46,32 +46,10 @@ returns-clause-done g c =
       port = c.args.at.port;
       over = c.requires.at;
     } in
-    on_ok_weaker c.print_over.result (λ p. walked_over (plan_of c.args.plan.now) over (with_facts _ _ mib (plan_of c.args.plan.now) _ _ _ _ (λ given
-    turned end h. record {
+    walked_over (plan_of c.args.plan.now) over (with_facts _ _ mib _ _ _ _ _ _ (λ given refused end h. record {
       link = c.in-Ok.link;
       after = c.print_over.new.link;
       opened = c.in-Ok.ensures.opened;
       fresh = c.in-Ok.ensures.fresh;
       run = h;
-    }) p)) c.print_over.ensures.done
-
-pub returns-clause-failed : goal.returns-clause-failed
-returns-clause-failed g c =
-    let for = c.requires.plan in
-    let mib : Mib = mib_in (g.T.NameTree.naming c.args.tree.now) (g.T.ShowTree.syntax_at c.args.tree.now) in
-    let over : IsNetWalk c.args.bulk (walk_words c.args.walk.now) (g.F.Files.text_at c.args.files.now) mib (plan_of c.args.plan.now) = record {
-      known = for.known;
-      asked = for.asked;
-      only = for.only;
-      host = c.args.at.host.now;
-      port = c.args.at.port;
-      over = c.requires.at;
-    } in
-    IfErr-weaker c.print_over.result _ _ (λ e p. walked_over (plan_of c.args.plan.now) over (with_facts _ _ mib (plan_of c.args.plan.now) _ _ _ _ (λ
-    given turned end h. record {
-      link = c.in-Ok.link;
-      after = c.print_over.new.link;
-      opened = c.in-Ok.ensures.opened;
-      fresh = c.in-Ok.ensures.fresh;
-      run = h;
-    }) p)) c.print_over.ensures.failed
+    }) c.print_over.ensures)

@@ -1,35 +1,19 @@
 use Rattle.std.proofs.Common.{◌+◌, subst}
-use Rattle.std.proofs.lemmas.Result.{IfErr-weaker, on_ok_weaker}
 use Rattle.snmp_walk.specs.Walker.{Walker}
 use Rattle.snmp_walk.specs.Ran.{IsWalkedOver}
 use Rattle.snmp_tools.proofs.walk.print_over.Goals as goal
 
-pub returns-clause-done : goal.returns-clause-done
-returns-clause-done g c =
+pub returns : goal.returns
+returns g c =
     let printed = c.print_walk-end.ensures.printed in
     let R : Walker → Type 0 = λ w. IsWalkedOver g.L.Link c.args.link.now c.print_walk-end.new.link (c.args.asking.now.retries + 1) w printed.rows
     printed.refused c.print_walk-end.result in
-    on_ok_weaker c.finish.result (λ f. record {
+    record {
       given = printed.rows;
-      turned = printed.refused;
+      refused = printed.refused;
       end = c.print_walk-end.result;
       between = g.O.Output.stream c.print_walk-end.new.out;
       facts = subst R c.requires.is printed.facts;
       lines = printed.lines;
-      finish = f;
-    }) c.finish.ensures.done
-
-pub returns-clause-failed : goal.returns-clause-failed
-returns-clause-failed g c =
-    let printed = c.print_walk-end.ensures.printed in
-    let R : Walker → Type 0 = λ w. IsWalkedOver g.L.Link c.args.link.now c.print_walk-end.new.link (c.args.asking.now.retries + 1) w printed.rows
-    printed.refused c.print_walk-end.result in
-    IfErr-weaker c.finish.result _ _ (λ e f. record {
-      given = printed.rows;
-      turned = printed.refused;
-      end = c.print_walk-end.result;
-      between = g.O.Output.stream c.print_walk-end.new.out;
-      facts = subst R c.requires.is printed.facts;
-      lines = printed.lines;
-      finish = f;
-    }) c.finish.ensures.failed
+      finish = c.finish.ensures;
+    }

@@ -1,5 +1,4 @@
-use Rattle.std.proofs.Common.{refl, Some, None}
-use Rattle.std.proofs.lemmas.Result.{IfErr-weaker, on_ok_weaker}
+use Rattle.std.proofs.Common.{refl}
 use Rattle.snmp_words.specs.Words.{walk_words}
 use Rattle.snmp_tools.specs.Message.{fault_of}
 use Rattle.snmp_tools.specs.Mib.{Mib}
@@ -9,8 +8,8 @@ use Rattle.snmp_tools.proofs.Starts.{names_refused}
 use Rattle.snmp_tools.proofs.Wholes.{of_table}
 use Rattle.snmp_tools.proofs.walk.walk_by.Goals as goal
 
-pub returns-in-Err-clause-failed : goal.returns-in-Err-clause-failed
-returns-in-Err-clause-failed g c =
+pub returns-in-Err : goal.returns-in-Err
+returns-in-Err g c =
     let mib : Mib = mib_in (g.T.NameTree.naming c.args.tree.now) (g.T.ShowTree.syntax_at c.args.tree.now) in
     refused (fault_of c.in-Err.failure)
     (names_refused c.args.bulk (walk_words c.args.walk.now) (g.F.Files.text_at c.args.files.now) mib c.requires.known c.args.orders c.requires.orders
@@ -31,12 +30,6 @@ over_net-requires-clause-plan g c = record {
   only = c.in-Ok.ensures.only;
 }
 
-pub returns-in-Table-clause-done : goal.returns-in-Table-clause-done
-returns-in-Table-clause-done g c =
-    on_ok_weaker c.over_table.result (of_table _ _ c.args.bulk (walk_words c.args.walk.now) (g.F.Files.text_at c.args.files.now) _ (plan_of c.in-Ok.plan)
-    _ _ None) c.over_table.ensures.done
-
-pub returns-in-Table-clause-failed : goal.returns-in-Table-clause-failed
-returns-in-Table-clause-failed g c =
-    IfErr-weaker c.over_table.result _ _ (λ e h. of_table _ _ c.args.bulk (walk_words c.args.walk.now) (g.F.Files.text_at c.args.files.now) _
-    (plan_of c.in-Ok.plan) _ _ (Some (fault_of e)) h) c.over_table.ensures.failed
+pub returns-in-Table : goal.returns-in-Table
+returns-in-Table g c =
+    of_table _ _ c.args.bulk (walk_words c.args.walk.now) (g.F.Files.text_at c.args.files.now) _ (plan_of c.in-Ok.plan) _ _ _ c.over_table.ensures

@@ -1,5 +1,4 @@
 use Rattle.std.proofs.Common.{◌≡◌, ◌⊎◌, inl, inr, refl, Bool}
-use Rattle.std.proofs.lemmas.Result.{IfErr-weaker, on_ok_weaker}
 use Rattle.snmp_net.specs.Address.{address_of}
 use Rattle.snmp_words.specs.Words.{WalkWords, walk_words}
 use Rattle.snmp_tools.specs.Asking.{MibsFail}
@@ -21,12 +20,12 @@ early bulk words files orders why are (inr f) =
     at_mibs bulk words files why are.version (orders.letters, are.letters) (chosen orders.choices, are.chosen) are.short_community
     (address_of orders.agent, are.agent) f
 
-pub returns-in-Err-clause-failed : goal.returns-in-Err-clause-failed
-returns-in-Err-clause-failed g c =
+pub returns-in-Err : goal.returns-in-Err
+returns-in-Err g c =
     not_loaded (fault_of c.in-Err.failure) (c.in-Err.ensures.refused (g.F.Files.text_at c.args.files.now)) refl refl refl
 
-pub returns-in-Err-load-clause-failed : goal.returns-in-Err-load-clause-failed
-returns-in-Err-load-clause-failed g c =
+pub returns-in-Err-load : goal.returns-in-Err-load
+returns-in-Err-load g c =
     not_loaded (fault_of c.in-Err-load.failure)
     (early c.args.bulk (walk_words c.args.walk.now) (g.F.Files.text_at c.args.files.now) c.in-Ok.orders (fault_of c.in-Err-load.failure)
     c.in-Ok.ensures.orders c.in-Err-load.ensures.failed) refl c.in-Err-load.ensures.untold refl
@@ -35,14 +34,7 @@ pub walk_by-requires-clause-known : goal.walk_by-requires-clause-known
 walk_by-requires-clause-known g c =
     (_, are_loaded (g.F.Files.text_at c.args.files.now) _ _ _ _ _ _ c.in-Ok-load.ensures.loaded)
 
-pub returns-clause-done : goal.returns-clause-done
-returns-clause-done g c =
+pub returns : goal.returns
+returns g c =
     let is = c.in-Ok-load.ensures.loaded in
-    on_ok_weaker c.walk_by.result (λ h. loaded _ is.loaded.warnings (are_loaded (g.F.Files.text_at c.args.files.now) _ _ _ _ _ _ is) is.loaded.told h)
-    c.walk_by.ensures.done
-
-pub returns-clause-failed : goal.returns-clause-failed
-returns-clause-failed g c =
-    let is = c.in-Ok-load.ensures.loaded in
-    IfErr-weaker c.walk_by.result _ _ (λ e h. loaded _ is.loaded.warnings
-    (are_loaded (g.F.Files.text_at c.args.files.now) _ _ _ _ _ _ is) is.loaded.told h) c.walk_by.ensures.failed
+    loaded _ is.loaded.warnings (are_loaded (g.F.Files.text_at c.args.files.now) _ _ _ _ _ _ is) is.loaded.told c.walk_by.ensures

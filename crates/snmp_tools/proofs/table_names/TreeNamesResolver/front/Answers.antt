@@ -1,0 +1,9 @@
+use Rattle.snmp_tools.proofs.TableNames.{front_named, front_unnamed}
+use Rattle.snmp_tools.proofs.table_names.TreeNamesResolver.front.Goals as goal
+
+pub returns-in-Ok : goal.returns-in-Ok
+returns-in-Ok g c =
+    front_named (g.T.NameTree.naming c.args.self.now.tree.now) c.args.text.now c.in-Ok.oid c.in-Ok.size c.as_slice.ensures.is_identifier c.in-Ok.ensures.meant
+
+pub returns-in-Err : goal.returns-in-Err
+returns-in-Err g c = front_unnamed (g.T.NameTree.naming c.args.self.now.tree.now) c.args.text.now c.in-Err.field-0 c.in-Err.ensures.meant
