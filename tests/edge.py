@@ -10,7 +10,6 @@ this machine has no means for is named, and not tried. Its last line is 'N passe
 import contextlib
 import fcntl
 import os
-import random
 import resource
 import shutil
 import signal
@@ -25,7 +24,7 @@ import time
 import network
 from network import (Agent, FIRST, LINES, NAMES, PROGRAM, R, ROOT, ROWS, SECOND, SILENT, Server, differs, dotted,
                      failing, get, integer, message, nexts, saying, served, serving, silent, sockets_of, stopping,
-                     test, walks)
+                     test, text, walks)
 
 # Its own tests are run by itself.
 network.tests.clear()
@@ -182,6 +181,12 @@ def all_sent():
         sent = [to_agent in call for call in calls if "send" in call]
         wrong += [differs(sum("socket(" in call for call in calls), 1), differs(sent, [True] * len(agent.seen)),
                   differs([call for call in calls if "connect(" in call], []), *agent.faults]
+    # An agent in memory is asked over no socket.
+    with file(stated(SOME)) as table, file() as log:
+        before = ["strace", "-f", "-o", log, "-e", "trace=network"]
+        ran = ended(start("snmpwalk", "-On", f"table:{table}", ROOT, before=before))
+        with open(log, encoding="utf-8") as lines:
+            wrong += [differs(ran, (0, SOME_TEXT, "")), differs([line for line in lines if "socket(" in line], [])]
     return wrongs(*wrong)
 
 
@@ -286,37 +291,48 @@ def beginning(got, whole):
 # a write that failed.
 @test("a pipe that doesn't block and isn't read takes the beginning of the text")
 def full_pipe():
-    with file(stated(LONG)) as table:
-        reader, writer = os.pipe()
-        os.set_blocking(writer, False)
-        program = start("snmpwalk", "-On", BIG, f"table:{table}", ROOT, stdout=writer)
-        os.close(writer)
-        status, _, messages = ended(program)
-        got = all_of(reader)
-        os.close(reader)
-    return wrongs(beginning(got, LONG_TEXT), differs((status, messages), (1, FAILED)),
-                  differs(0 < len(got) < len(LONG_TEXT), True))
-
-
-# Catches: a write that goes on with the next line where the pipe took a part of one; the status 0 after a write
-# that the pipe refused.
-@test("a pipe that doesn't block and is read slowly takes the beginning of the text, and at status 0 the whole")
-def slow_pipe():
     wrong = []
-    with file(stated(LONG)) as table:
-        for seed in range(12):
-            rng, got = random.Random(seed), b""
+    # The pipe takes a part of the second line, which is the last one, or isn't.
+    for count in 2, len(LONG):
+        rows = dict(list(LONG.items())[:count])
+        with file(stated(rows)) as table:
             reader, writer = os.pipe()
             os.set_blocking(writer, False)
             program = start("snmpwalk", "-On", BIG, f"table:{table}", ROOT, stdout=writer)
             os.close(writer)
-            while piece := os.read(reader, rng.choice([100, 5000, 70000])):
-                got += piece
-                time.sleep(rng.choice([0, 0, 0.0001, 0.001]))
-            os.close(reader)
             status, _, messages = ended(program)
-            wanted = (0, "") if got.decode() == LONG_TEXT else (1, FAILED)
-            wrong += [beginning(got.decode(), LONG_TEXT), differs((status, messages), wanted)]
+            got = all_of(reader)
+            os.close(reader)
+        wrong += [beginning(got, LONG_TEXT), differs((status, messages), (1, FAILED)),
+                  differs(60000 < len(got) < len(lines(rows)), True)]
+    return wrongs(*wrong)
+
+
+# An agent reads the pipe before it replies, so that the next line finds this much room. Catches: a write that goes on
+# with the next line where the pipe took a part of one, or nothing; the status 0 after such a write.
+@test("a pipe that doesn't block and is read slowly takes the beginning of the text, and at status 0 the whole")
+def slow_pipe():
+    wrong, rows, most = [], {name: text(value.encode()) for name, value in LONG.items()}, 1 << 20
+    # How much it reads before its second reply, and those that follow.
+    for takes in [], [0], [100], [30000], [most, 40000], [most] * 4 + [0]:
+        got = b""
+        reader, writer = os.pipe()
+        os.set_blocking(writer, False)
+
+        def reading(seen):
+            nonlocal got
+            take = [0, *takes, *[most] * len(rows)][len(seen) - 1]
+            if take:
+                got += os.read(reader, take)
+            return [served(rows, seen[-1])]
+        with Agent(reading) as agent:
+            program = start("snmpwalk", "-On", agent.place, ROOT, stdout=writer)
+            os.close(writer)
+            status, _, messages = ended(program)
+        got = got.decode() + all_of(reader)
+        os.close(reader)
+        wanted = (False, 1, FAILED) if takes else (True, 0, "")
+        wrong += [beginning(got, LONG_TEXT), differs((got == LONG_TEXT, status, messages), wanted), *agent.faults]
     return wrongs(*wrong)
 
 
@@ -500,19 +516,13 @@ def signal_in_line():
 @test("a signal ends snmpd at once, without its counts")
 def signals_to_snmpd():
     wrong = []
-    for ending in signal.SIGTERM, signal.SIGHUP, signal.SIGKILL:
-        with Server() as server:
+    for ending in signal.SIGTERM, signal.SIGINT, signal.SIGHUP, signal.SIGKILL:
+        # A shell may have told its jobs to ignore ^C, and nohup to ignore HUP.
+        with Server(before=["env", "--default-signal"]) as server:
             asked = message(network.GET, 1, [])
             wrong.append(differs(server.ask(asked), [message(network.RESPONSE, 1, [])]))
             server.program.send_signal(ending)
             wrong.append(differs(server.end(), (-ending, "", "")))
-    # As from ^C, which a shell may have told its jobs to ignore.
-    with file(stated(SOME)) as table:
-        place = f"127.0.0.1:{next(network.ports)}"
-        program = start("snmpd", "--table", table, "--listen", place, before=["env", "--default-signal"])
-        wrong.append(differs(program.stdout.readline().decode(), f"listening on {place}\n"))
-        program.send_signal(signal.SIGINT)
-        wrong.append(differs(ended(program), (-signal.SIGINT, "", "")))
     return wrongs(*wrong)
 
 

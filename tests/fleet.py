@@ -249,13 +249,13 @@ def by_parallel(folder, block):
 
 
 def over_machines(folder, block):
-    """What stands for ssh and scp runs and copies here, in a folder of each machine."""
+    """What stands for ssh and scp runs and copies here, in a folder of each machine; as at a login, SHELL is set."""
     folder.write("bin/ssh", f"""#!/bin/sh
 while :; do case $1 in -o) shift 2 ;; -*) shift ;; *) break ;; esac; done
 machine=$1
 shift
 [ "$1" != -- ] || shift
-cd "{folder.path}/$machine" && exec sh -c "$*"
+cd "{folder.path}/$machine" && SHELL=/bin/sh exec sh -c "$*"
 """)
     folder.write("bin/scp", f"""#!/bin/sh
 cp "$1" "{folder.path}/$(echo "$2" | tr : /)"

@@ -30,9 +30,11 @@ folder = tempfile.TemporaryDirectory()
 
 
 def path(name, octets):
-    """A file with these octets, in the folder where programs run."""
-    with open(f"{folder.name}/{name}", "wb") as file:
+    """A file with these octets, in the folder where programs run. It is there whole at once, as tests that run side by
+    side share it."""
+    with tempfile.NamedTemporaryFile(dir=folder.name, delete=False) as file:
         file.write(octets)
+    os.replace(file.name, f"{folder.name}/{name}")
     return name
 
 
@@ -195,5 +197,8 @@ if __name__ == "__main__":
         print("not tried: memory that is refused, as there is no C compiler here (cc)", file=sys.stderr)
         print("0 passed, 0 failed")
         sys.exit(0)
+    if not os.access(CHECKS, os.X_OK):
+        print("tests/heap.py: the program heap_checks isn't built: rt run, in crates/heap_checks", file=sys.stderr)
+        sys.exit(1)
     subprocess.run(["cc", "-O2", "-shared", "-fPIC", "-o", f"{folder.name}/heap.so", f"{here}/heap.c"], check=True)
     sys.exit(network.run_tests("tests/heap.py", network.tests))

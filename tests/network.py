@@ -649,11 +649,17 @@ TABLE = f"""object {ROOT}.2
 ports = itertools.count(random.randrange(10000, 30000))
 
 
-class Server:
-    """snmpd over a table, and a socket that asks it."""
+# What is said of tests/data/tiny.txt.
+WARNINGS = ["snmp: TINY-MIB imports absent from TINY-SMI, which has no absent",
+            "snmp: TINY-MIB imports from GONE-MIB, which is not loaded", "snmp: TINY-MIB::loopA stands on a cycle",
+            "snmp: TINY-MIB::loopB stands on a cycle"]
 
-    def __init__(self, *words, table=TABLE, host="127.0.0.1"):
-        self.words, self.table, self.host = words, table, host
+
+class Server:
+    """snmpd over a table, with a command that runs it before its words, and a socket that asks it."""
+
+    def __init__(self, *words, table=TABLE, host="127.0.0.1", before=()):
+        self.words, self.table, self.host, self.before = words, table, host, before
 
     def __enter__(self):
         self.file = tempfile.NamedTemporaryFile("w", suffix=".tab")
@@ -665,7 +671,7 @@ class Server:
         for self.port in itertools.islice(ports, 20):
             self.place = f"{self.host}:{self.port}"
             self.program = Program(
-                [PROGRAM, "snmpd", "--table", self.file.name, "--listen", self.place, *self.words],
+                [*self.before, PROGRAM, "snmpd", "--table", self.file.name, "--listen", self.place, *self.words],
                 stdin=subprocess.DEVNULL, stdout=subprocess.PIPE, stderr=subprocess.PIPE, text=True)
             self.listening = self.program.stdout.readline()
             if self.listening:
@@ -798,6 +804,23 @@ def snmpd_random():
     return "\n  ".join(wrong)
 
 
+@test("a request with each octet replaced by each other one: a reply is its own shortest encoding")
+def snmpd_octets():
+    asked, replies, wrong = message(NEXT, 1, [(E + (1,), NULL)]), 0, []
+    with Server() as server:
+        for place, octet in itertools.product(range(len(asked)), range(256)):
+            changed = asked[:place] + bytes([octet]) + asked[place + 1:]
+            for got in server.ask(changed):
+                it = read(got)
+                shortest = message(it.kind, it.id, it.bindings, it.a, it.b, it.community, it.version)
+                replies += 1
+                if got != shortest or it.kind != RESPONSE:
+                    wrong.append(f"{changed.hex()} has the reply {got.hex()}")
+    if replies < 1000:
+        wrong.append(f"{replies} replies")
+    return "\n  ".join(wrong[:5])
+
+
 @test("snmpd still replies after 300 requests with random faults")
 def snmpd_faults():
     rng = random.Random(1)
@@ -842,6 +865,25 @@ def snmpd_sizes():
                 wrong.append(differs(server.receive(), replied))
             counts = "0 replies, 1 dropped\n" if replied is None else "1 replies, 0 dropped\n"
             wrong.append(differs(server.end(), (0, counts, "")))
+    return "\n  ".join(filter(None, wrong))
+
+
+@test("snmpd serves a table that names objects to the program's own walkers")
+def snmpd_names():
+    modules, table = (os.path.join(here, "data", name) for name in ("tiny.txt", "two.tab"))
+    with open(table, encoding="ascii") as file:
+        server = Server("--mib", modules, "--turns", "50", table=file.read())
+    lines = ["TINY-MIB::tinyState.0 = INTEGER: up(1)", 'TINY-MIB::tinyMac."a|b" = STRING: 0:16:3e:5a:78:8e',
+             "TINY-MIB::tiny.9.0 = OID: TINY-MIB::tinyMac"]
+    wrong = []
+    with server:
+        for command, names, wanted in (("snmpwalk", ["tiny"], lines), ("snmpbulkwalk", ["tiny"], lines),
+                                       ("snmpget", ["tiny.9.0", 'tinyMac."a|b"'], [lines[2], lines[1]])):
+            words = [PROGRAM, command, "--mib", modules, server.place, *names]
+            ran = subprocess.run(words, stdin=subprocess.DEVNULL, capture_output=True, text=True, timeout=60)
+            wrong.append(differs((ran.returncode, ran.stdout.splitlines()), (0, wanted)))
+        server.program.send_signal(signal.SIGTERM)
+        wrong.append(differs(server.end()[2].splitlines(), WARNINGS))
     return "\n  ".join(filter(None, wrong))
 
 

@@ -114,6 +114,11 @@ while read -r message; do
     count "$(grep -qxF ".It Li \"$message\"" docs/snmp.1 || echo "the manual lacks the message $message")"
 done < <(sed -n '/^| what | message |/,/^$/s/.*| \(.*\) |$/\1/p; /^Warnings change no status/p' docs/PROFILE.md |
     grep -o '`[^`]*`' | tr -d '`' | grep -E '^([A-Z][a-z]|snmp: )')
+# A walk that has used up its ids takes hours, so of this message the definition is compared, which the program is
+# proved to print.
+same 'the message of ids used up' 'walk_end.TooManyRequests = codes "Too many requests."' \
+    "$(sed -n 's/^end_message agent \(walk_end.TooManyRequests .*\)/\1/p' crates/snmp_tools/specs/Message.antt)"
+same 'the page of ids used up' '| ids used up | `Too many requests.` |' "$(grep -F 'ids used up' docs/PROFILE.md)"
 if command -v mandoc >/dev/null; then
     same 'mandoc -Tlint' '' "$(mandoc -Tlint -W warning docs/snmp.1 2>&1)"
 fi
@@ -164,7 +169,7 @@ offers 'd' snmp snmptranslate -T ''
 offers '-Td' snmp snmptranslate -T
 offers '2c' snmp snmpget -v ''
 offers '-v2c' snmp snmpget -v
-offers '--max-size' snmp snmpd --m
+offers '--max-size --mib' snmp snmpd --m
 offers '' snmp snmpd -c ''
 offers 'examples/three.tab' snmp snmpwalk table:examples/th
 offers 'examples/three.tab' snmp snmpwalk -On --mib x.txt table:examples/th

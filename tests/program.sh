@@ -265,7 +265,7 @@ helps 'snmpget --help' "${asking[@]}" '<NAME>...'
 for walker in $walkers; do
     helps "$walker --help" "${asking[@]}" '-C <LETTERS>' '--after <NAME>' '[NAME]'
 done
-helps 'snmpd -h' '--table <FILE>' '-c <COMMUNITY>' '--listen <HOST:PORT>' '--max-size <OCTETS>' '--turns <N>'
+helps 'snmpd -h' '--mib <FILE>' '--table <FILE>' '-c <COMMUNITY>' '--listen <HOST:PORT>' '--max-size <OCTETS>' '--turns <N>'
 
 # words that make no command
 refuses "error: 'snmp' requires a subcommand but one was not provided..."
@@ -380,7 +380,11 @@ refuses 'Unknown letter: y' snmptranslate -Ty --mib no.txt a
 refuses 'no.txt: cannot be read' snmptranslate --mib no.txt a
 refuses 'Community too long.' snmpd -c 0"$c255" --listen udp: --table no.tab
 refuses 'Bad agent address: udp:' snmpd --listen udp: --table no.tab
+refuses 'Bad agent address: udp:' snmpd --mib no.txt --listen udp: --table no.tab
+refuses 'no.txt: cannot be read' snmpd --mib tiny.txt --mib no.txt --listen a..b:1 --table no.tab
 refuses 'no.tab: cannot be read' snmpd --listen a..b:1 --table no.tab
+expect 1 '' "$warnings
+no.tab: cannot be read" snmpd --mib tiny.txt --listen a..b:1 --table no.tab
 
 # names
 refuses 'Unknown name: mib-2' snmpwalk -On table:three.tab mib-2
@@ -422,6 +426,45 @@ fault 'bad value' "$e.1.0|4x|0"
 fault 'bad value' "$e.1.0|2|2147483648"
 fault 'double name' "${e#.}.0.0|2|1" "$e.1.0|5|"
 
+# table files whose names are read by the loaded modules
+two='TINY-MIB::tinyState.0 = INTEGER: up(1)
+TINY-MIB::tinyMac."a|b" = STRING: 0:16:3e:5a:78:8e
+TINY-MIB::tiny.9.0 = OID: TINY-MIB::tinyMac'
+expect 0 "$two" "$warnings" snmpwalk --mib tiny.txt table:two.tab tiny
+expect 0 "$two" "$warnings" snmpbulkwalk --mib tiny.txt table:two.tab tiny
+expect 0 "${two#*$'\n'}" "$warnings" snmpget --mib tiny.txt table:two.tab 'tinyMac."a|b"' tiny.9.0
+refuses 'two.tab:2: bad name' snmpwalk -On table:two.tab $e
+refuses 'two.tab:2: bad name' snmpd --table two.tab --listen "$place" --turns 0
+expect 0 "listening on $place
+0 replies, 0 dropped" "$warnings" snmpd --mib tiny.txt --table two.tab --listen "$place" --turns 0
+tail -n +2 two.tab >"$got/t.tab"
+refuses "$got/t.tab:1: bad name" snmpwalk -On "table:$got/t.tab" $e
+printf '#snmptab 2\r\ntinyState.0|2|1\r\n' >"$got/t.tab"
+expect 0 'TINY-MIB::tinyState.0 = INTEGER: up(1)' "$warnings" snmpwalk --mib tiny.txt "table:$got/t.tab" tiny
+table '#snmptab 2' "tinyKeyUse.'a|b'|66|5" "$e.3.1.1.99|66|6"
+expect 0 "TINY-MIB::tinyKeyUse.'a|b' = Gauge32: 5 jobs
+TINY-MIB::tinyKeyUse.'c' = Gauge32: 6 jobs" "$warnings" snmpwalk --mib tiny.txt "table:$got/t.tab" tiny
+table '#snmptab 2' 'iso.3.6|2|5'
+expect 0 '.1.3.6 = INTEGER: 5' '' snmpget -On "table:$got/t.tab" .1.3.6
+spoils() {
+    table "${@:2}"
+    expect 1 '' "$warnings
+$got/t.tab:$1" snmpwalk --mib tiny.txt "table:$got/t.tab" tiny
+    expect 1 '' "$warnings
+$got/t.tab:$1" snmpd --mib tiny.txt --table "$got/t.tab" --listen "$place" --turns 0
+}
+spoils '2: bad name' '#snmptab 2 ' 'tinyState.0|2|1'
+spoils '3: bad name' '' '#snmptab 2' 'tinyState.0|2|1'
+spoils '2: bad name' '#snmptab 3' 'tinyState.0|2|1'
+spoils '2: bad line' '#snmptab 2' 'tinyMac."a|2|1'
+spoils '2: bad line' '#snmptab 2' "tinyKeyUse.'a|66|5"
+spoils '2: bad name' '#snmptab 2' 'object tinyMac|'
+spoils '2: bad name' '#snmptab 2' 'tinyGone.0|2|1'
+spoils '2: bad value' '#snmptab 2' 'tinyState.0|6|tinyGone'
+spoils '2: bad value' '#snmptab 2' 'tinyState.0|6|tiny|1'
+spoils '3: double name' '#snmptab 2' 'tinyState.0|2|1' 'TINY-MIB::tinyState.0|2|2'
+spoils '3: double name' '#snmptab 2' 'tinyMac."a"|4|1' "$e.2.1.2.1.97|4|2"
+
 # module files
 refuses 'no.txt: cannot be read' snmpwalk --mib tiny.txt --mib no.txt table:tiny.tab tiny
 faulty() {
@@ -435,6 +478,11 @@ faulty 'double name' 'a OBJECT IDENTIFIER ::= { iso 1 } a OBJECT IDENTIFIER ::= 
 module m.txt "a OBJECT IDENTIFIER ::= { b 1 } c OBJECT IDENTIFIER ::= { iso$(printf ' 1%.0s' {1..128}) }"
 expect 0 'iso' "snmp: M::a is unresolved
 snmp: M::c is too long" snmptranslate --mib "$got/m.txt" iso
+# Types that are each other's give an object no syntax, and no warning.
+module m.txt 'A ::= B B ::= A
+    a OBJECT-TYPE SYNTAX A UNITS "m" MAX-ACCESS read-only STATUS current DESCRIPTION "" ::= { iso 9 }'
+table '.1.9.0|2|5'
+expect 0 'M::a.0 = INTEGER: 5' '' snmpwalk --mib "$got/m.txt" "table:$got/t.tab" a
 expect 0 'iso' "$warnings
 snmp: TINY-SMI is loaded twice
 snmp: TINY-MIB is loaded twice" snmptranslate --mib tiny.txt --mib tiny.txt iso
