@@ -3,7 +3,7 @@
 # many at a time: by a Get of five names, and by walks and bulk walks of a column and of the whole table. It
 # prints the seconds, the clients' seconds of a processor and their instructions for each poll, beside those
 # of Net-SNMP's tools where these are installed (Debian's package snmp), which take turns with ours in each
-# round; of the seconds it prints the least. Then it polls a fleet of which one in ten is silent.
+# round; of the seconds it prints the median. Then it polls a fleet of which one in ten is silent.
 #
 #   bench/fleet.sh [AGENTS [AT-ONCE [ROUNDS [GETS]]]]        200, 16, 5 and 1,000 by default
 #
@@ -60,9 +60,18 @@ count() {
 # beside NAME POLLS: a line of what ours and theirs, as $work/ours and $work/theirs have them, take.
 beside() {
     awk -v name="$1" -v polls="$2" '
+        # The middle of n numbers, which it puts in order.
+        function middle(all, n, i, j, it) {
+            for (i = 2; i <= n; i++) {
+                it = all[i]
+                for (j = i - 1; j && all[j] > it; j--) all[j + 1] = all[j]
+                all[j + 1] = it
+            }
+            return (all[int((n + 1) / 2)] + all[int(n / 2) + 1]) / 2
+        }
+        FNR == 1 { n = 0 }
         NF == 1 { count[FILENAME] = $1 }
-        NF == 2 && (!(FILENAME in wall) || $1 < wall[FILENAME]) { wall[FILENAME] = $1 }
-        NF == 2 && (!(FILENAME in used) || $2 < used[FILENAME]) { used[FILENAME] = $2 }
+        NF == 2 { walls[++n] = $1; uses[n] = $2; wall[FILENAME] = middle(walls, n); used[FILENAME] = middle(uses, n) }
         function told(file) {
             printf "%.2f s, %.2f s of a processor", wall[file], used[file]
             if (file in count) printf ", %d instructions a poll", count[file]
@@ -100,7 +109,7 @@ compare() {
 
 # A Get is short, so each agent is asked several times.
 for ((i = 0; i < gets; i += agents)); do cat "$work/devices"; done >"$work/many"
-echo "$agents agents, $at_once at a time, $(wc -l <"$work/table.tab") rows each, the least of $rounds rounds"
+echo "$agents agents, $at_once at a time, $(wc -l <"$work/table.tab") rows each, medians of $rounds rounds"
 compare 'Get of five names' "$work/many" snmpget '' "${names[@]}"
 compare 'walk of a column' "$work/devices" snmpwalk '' "$column"
 compare 'bulk walk of a column, -Cr25' "$work/devices" snmpbulkwalk -Cr25 "$column"

@@ -11,7 +11,7 @@ _snmp_options() {
         snmptranslate) echo "$showing -T" ;;
         snmpget) echo "$showing $asking" ;;
         snmpwalk | snmpbulkwalk) echo "$showing $asking -C --after" ;;
-        snmpd) echo '--table -c --listen --max-size --turns' ;;
+        snmpd) echo '--mib --table -c --listen --max-size --turns' ;;
     esac
     echo '-h --help -V --version'
 }
