@@ -2,6 +2,18 @@
 //! with its identifier, with the warnings for what refers to nothing.
 //!
 //! Stands on module trees and on identifiers. The tree of names keeps the nodes, and finds them.
+//!
+//! # Examples
+//!
+//! Which modules are loaded:
+//!
+//! ```
+//! let text = b"A-MIB DEFINITIONS ::= BEGIN IMPORTS b FROM B-MIB;\n\
+//!     a OBJECT IDENTIFIER ::= { iso 5 } END";
+//! let modules = parse_modules(alloc, text)?;
+//! let names = Names::new(alloc, NameHash::Fixed, &modules)?;
+//! assert!(rt; names.is_loaded(b"A-MIB") && !names.is_loaded(b"B-MIB"));
+//! ```
 #![tactic(auto)]
 
 mod hash;

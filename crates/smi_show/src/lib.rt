@@ -2,6 +2,20 @@
 //!
 //! This is what the tools print of names and bindings. Each call appends its whole text, or leaves
 //! the `Vec<u8>` unchanged if memory runs out.
+//!
+//! # Examples
+//!
+//! A name is read, and the line of its instance is written:
+//!
+//! ```
+//! let text = b"A-MIB DEFINITIONS ::= BEGIN a OBJECT IDENTIFIER ::= { iso 5 } END";
+//! let modules = parse_modules(alloc, text)?;
+//! let (tree, _warnings) = Tree::load(alloc, NameHash::Fixed, modules)?;
+//! let name = resolve(&tree, b"A-MIB::a.1.0")?;
+//! let mut text = Vec::new(alloc);
+//! line(&tree, &Letters::new(), &name, &ValueRef::Integer(7), &mut text)?;
+//! assert_eq!(rt; text.as_slice(), b"A-MIB::a.1.0 = INTEGER: 7\n".as_slice());
+//! ```
 #![tactic(auto)]
 
 mod binding;

@@ -2,6 +2,20 @@
 //! spell, and the parser from one to the other.
 //!
 //! The lowest layer of module files: the crates of names and values read the trees.
+//!
+//! # Examples
+//!
+//! A text of one module, and one with a fault:
+//!
+//! ```
+//! let text = b"A-MIB DEFINITIONS ::= BEGIN a OBJECT IDENTIFIER ::= { iso 5 } END";
+//! let modules = parse_modules(alloc, text)?;
+//! assert_eq!(rt; modules.len(), 1);
+//! assert_eq!(rt; modules[0].name.as_bytes(), b"A-MIB".as_slice());
+//! assert!(rt; modules[0].define(b"a").is_some());
+//! let fault = parse_modules(alloc, b"A-MIB DEFINITIONS ::=\nBEGIN ? END").err();
+//! assert!(rt; fault.is_some());
+//! ```
 #![tactic(auto)]
 
 mod clauses;

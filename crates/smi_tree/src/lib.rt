@@ -2,6 +2,21 @@
 //!
 //! Depends on module trees, on what their names mean and on the nodes that they define. Names,
 //! values and details are shown by it, and words of the command line are read by it.
+//!
+//! # Examples
+//!
+//! A tree of one module, with a warning for its import:
+//!
+//! ```
+//! let text = b"A-MIB DEFINITIONS ::= BEGIN IMPORTS b FROM B-MIB;\n\
+//!     a OBJECT IDENTIFIER ::= { iso 5 } END";
+//! let modules = parse_modules(alloc, text)?;
+//! let (tree, warnings) = Tree::load(alloc, NameHash::Fixed, modules)?;
+//! assert!(rt; warnings.len() == 1);
+//! let node = tree.find(b"A-MIB", b"a").expect(rt, "a node");
+//! assert!(rt; *tree.node(node).oid == parse_numeric(b"1.5")?);
+//! assert!(rt; tree.find_any(b"b").is_none());
+//! ```
 #![tactic(auto)]
 
 mod branches;

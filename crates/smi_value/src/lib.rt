@@ -1,4 +1,15 @@
 //! The texts of values, by the letters of `-O` and the syntax of an object, if one is known.
+//!
+//! # Examples
+//!
+//! The hint of a MAC address:
+//!
+//! ```
+//! let hint = Hint::parse(b"1x:").expect(rt, "a hint");
+//! let mut text = Vec::new(alloc);
+//! write_hint(&hint, HintValue::Octets(b"\x00\x16\x3e\x5a\x78\x8e"), &mut text)?;
+//! assert_eq!(rt; text.as_slice(), b"0:16:3e:5a:78:8e".as_slice());
+//! ```
 #![tactic(auto)]
 
 mod base;

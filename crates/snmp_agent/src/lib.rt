@@ -3,6 +3,24 @@
 //!
 //! Built on the messages. Its table gives what each name has; its server, or a link in memory of
 //! the walk, passes the datagrams to it.
+//!
+//! # Examples
+//!
+//! A table is read, and its agent drops what is no message:
+//!
+//! ```
+//! let table = Table::read(alloc, b"1.3.6.1.2.1.1.5.0|4|wes\n")?;
+//! let config = Config {
+//!     community: b"public",
+//!     max_size: 1472,
+//! };
+//! let mut reply = [0; 65507];
+//! let outcome = answer(&table, &config, b"no message", &mut reply);
+//! assert!(rt; matches!(outcome, Outcome::Dropped(_)));
+//! let name = parse_numeric(b"1.3.6.1.2.1.1.5.0")?;
+//! assert!(rt; table.get(&name) == ValueRef::Octets(b"wes"));
+//! assert!(rt; table.get(&parse_numeric(b"1.3.6.1.2.1.1.6.0")?) == ValueRef::NoSuchObject);
+//! ```
 #![tactic(auto)]
 
 mod agent;

@@ -4,6 +4,19 @@
 //!
 //! Beside them stand the draft, a text that is appended whole or not at all, and the cut of a text
 //! outside quotes.
+//!
+//! # Examples
+//!
+//! An output that is full keeps a front of the text, and a bar within quotes ends nothing:
+//!
+//! ```
+//! let mut out = MemoryOutput::with_limit(alloc, 4);
+//! assert!(rt; write_all(&mut out, b"a line").is_err());
+//! assert_eq!(rt; out.octets(), b"a li".as_slice());
+//! let (name, value) = split_unquoted(b"a.'|'|4|text", b'|').unwrap_or((b"", b""));
+//! assert_eq!(rt; name, b"a.'|'".as_slice());
+//! assert_eq!(rt; value, b"4|text".as_slice());
+//! ```
 #![tactic(auto)]
 
 mod draft;

@@ -2,6 +2,17 @@
 //! served (RFC 3417, section 3).
 //!
 //! Built on the walk, whose links these are, and on the agent. The tools open their links here.
+//!
+//! # Examples
+//!
+//! Words for agents:
+//!
+//! ```
+//! let word = AgentAddress::read("192.0.2.1:1161");
+//! assert!(rt; matches!(word, Some(AgentAddress::Udp(at)) if at.port == 1161));
+//! let word = AgentAddress::read("table:rows.tab");
+//! assert!(rt; matches!(word, Some(AgentAddress::Table("rows.tab"))));
+//! ```
 #![tactic(auto)]
 
 mod address;

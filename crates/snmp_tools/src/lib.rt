@@ -2,6 +2,22 @@
 //!
 //! Built on the words, on outputs and files, on tables and walks, and on the texts of names and
 //! values. The program passes the machine to it.
+//!
+//! # Examples
+//!
+//! A command line over files, agents and outputs in memory:
+//!
+//! ```
+//! let files = MemoryFiles {
+//!     files: &[("rows.tab", b"1.3.6.1.2.1.1.5.0|4|wes\n")],
+//! };
+//! let mut links = MemoryLinks::new(alloc, &[], &[]);
+//! let mut out = MemoryOutput::new(alloc);
+//! let mut err = MemoryOutput::new(alloc);
+//! let words = ["snmp", "snmpget", "-On", "table:rows.tab", ".1.3.6.1.2.1.1.5.0"];
+//! assert!(rt; tool(alloc, &words, &files, &mut links, &mut out, &mut err) == 0);
+//! assert_eq!(rt; out.octets(), b".1.3.6.1.2.1.1.5.0 = STRING: \"wes\"\n".as_slice());
+//! ```
 #![tactic(auto)]
 
 mod agent;

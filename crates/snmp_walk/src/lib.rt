@@ -3,6 +3,25 @@
 //!
 //! Built on the messages. The core says which request to send and reads what comes back; a run
 //! sends and receives over a link, and gives each binding to a sink.
+//!
+//! # Examples
+//!
+//! A subtree is walked by GetBulk, over an agent in memory, into a sink that counts:
+//!
+//! ```
+//! let table = Table::read(alloc, b"1.3.6.1.2.1.1.3.0|67|42\n1.3.6.1.2.1.1.5.0|4|wes\n")?;
+//! let config = Config {
+//!     community: b"public",
+//!     max_size: 1472,
+//! };
+//! let root = parse_numeric(b"1.3.6.1.2.1.1")?;
+//! let start = WalkCore::start(root, Mode::Plain, Method::Bulk(10), b"public", 1);
+//! let core = start.expect(rt, "a root that can be sent");
+//! let mut link = MemoryLink::new(alloc, &table, config, &[]);
+//! let mut sink = Count { rows: 0 };
+//! assert!(rt; run_walk(&mut link, core, 5, &mut sink) == WalkEnd::Done(2));
+//! assert!(rt; sink.rows == 2);
+//! ```
 #![tactic(auto)]
 
 mod arena;

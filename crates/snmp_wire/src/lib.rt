@@ -2,6 +2,32 @@
 //!
 //! Stands on the identifiers, whose crate it hands on as its own. Agent and walk exchange octets
 //! alone, and read and write them by this crate.
+//!
+//! # Examples
+//!
+//! A Get is written, and read again:
+//!
+//! ```
+//! let bindings = [Binding {
+//!     name: parse_numeric(b"1.3.6.1.2.1.1.5.0")?,
+//!     value: ValueRef::Null,
+//! }];
+//! let parts = Parts {
+//!     version: 1,
+//!     community: b"public",
+//!     kind: Kind::GetRequest,
+//!     id: 7,
+//!     a: 0,
+//!     b: 0,
+//!     bindings: &bindings,
+//! };
+//! let mut datagram = [0; 1472];
+//! let size = encode(&parts, &mut datagram).unwrap_or(0);
+//! let message = decode(&datagram[..size])?;
+//! assert_eq!(rt; size, 40);
+//! assert_eq!(rt; message.community(), b"public".as_slice());
+//! assert_eq!(rt; message.id(), 7);
+//! ```
 #![tactic(auto)]
 
 mod ber;

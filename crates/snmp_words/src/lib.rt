@@ -2,6 +2,18 @@
 //!
 //! Only the shape of the words is checked here. The tools check whether letters, agent and name
 //! have a meaning.
+//!
+//! # Examples
+//!
+//! The words of a walk:
+//!
+//! ```
+//! let words = ["snmp", "snmpbulkwalk", "-Cr50", "192.0.2.1", "ifName"];
+//! match read_words(alloc, &words)? {
+//!     Job::BulkWalk(walk) => assert!(rt; walk.name == Some("ifName")),
+//!     _ => assert!(rt; false),
+//! }
+//! ```
 #![tactic(auto)]
 
 mod command;
