@@ -42,10 +42,10 @@ use Rattle.smi_text.specs.trees.Lookup.{part_number}
 use Rattle.smi_text.specs.declared.trees.tree.Module.{Module}
 use Rattle.smi_text.specs.declared.trees.tree.Part.{Part}
 use Rattle.smi_names.specs.meaning.Meaning.{or_else, both, arcs, decision}
-use Rattle.smi_names.specs.meaning.Scopes.{NamePlaces, place_in, known, decided_as, IsWithin, IsEntryOf}
+use Rattle.smi_names.specs.meaning.Scopes.{NamePlaces, known, decided_as, IsWithin, IsEntryOf}
 use Rattle.smi_names.specs.meaning.Names.{module_place, IsSourced, AreEach}
 use Rattle.smi_names.specs.declared.meaning.entry.Entry.{Entry}
-use Rattle.smi_names.proofs.Knowing.{same, known-append}
+use Rattle.smi_names.proofs.Knowing.{known-append}
 
 position-push : {A : Type 0} (t : A → Bool) (j : ℕ) (xs : List A) (y : A)
     → position_from t j (xs ++ y ∷ []) ≡ or_else (position_from t j xs) (cond (t y) (Some (j + length xs)) None)

@@ -10,6 +10,7 @@ ghost use Rattle.std.proofs.Common.{ap};
 ghost use Rattle.smi_names.specs.Name.{name_writes};
 
 use indexmap::Equivalent;
+use smi_text::Text;
 use std::alloc::{AllocError, Global};
 use std::hash::{Hash, Hasher};
 use std::marker::Model;
@@ -73,7 +74,7 @@ impl<'a> Hash for NameRef<'a> {
 /// A name of modules, which owns its octets. Names are equal where their octets are.
 #[derive(Drop)]
 pub struct NameBuf {
-    octets: Vec<u8>,
+    octets: Text,
 }
 
 impl Model for NameBuf {
@@ -81,7 +82,7 @@ impl Model for NameBuf {
 
     ghost Value = { List ℕ };
 
-    ghost view = { λ n. n.octets.items };
+    ghost view = { λ n. n.octets };
 }
 
 impl NameBuf {
@@ -89,7 +90,7 @@ impl NameBuf {
     pub fn new(alloc: Global, octets: &[u8]) -> Result<NameBuf, AllocError>
         ensures { IfOk result (λ name. name ≡ octets.now) }
     {
-        let octets = Vec::from_slice(alloc, octets)?;
+        let octets = Text::copied(alloc, octets)?;
         Ok(NameBuf { octets })
     }
 
@@ -97,7 +98,7 @@ impl NameBuf {
     pub fn as_bytes(&self) -> &[u8]
         ensures { result.now ≡ self.now }
     {
-        &self.octets
+        self.octets.as_bytes()
     }
 }
 

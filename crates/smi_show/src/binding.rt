@@ -1,16 +1,22 @@
 //! The value of a binding, and its line.
-ghost use Rattle.std.specs.Prelude.{◌≡◌, ℕ, List, ◌++◌, codes, Option, OnOk, OnErr};
+ghost use Rattle.std.specs.Prelude.{◌≡◌, ◌≢◌, ℕ, List, ◌++◌, codes, Option, OnOk, OnErr};
+ghost use Rattle.std.specs.Prelude.{false, option_map};
 ghost use Rattle.snmp_io.specs.draft.Draft.{Adds};
 ghost use Rattle.snmp_wire.specs.ber.Value.{Datum, datum};
 ghost use Rattle.smi_value.specs.Value.{ShowsValue};
 ghost use Rattle.smi_value.specs.declared.letters.letters.Letters.{Letters};
 ghost use Rattle.smi_value.specs.Syntax.{ObjectSyntax};
+ghost use Rattle.smi_value.specs.declared.letters.letters.NameForm.TheVariants as form;
 ghost use Rattle.smi_show.specs.name.Naming.{Naming};
+ghost use Rattle.smi_show.specs.name.Standing.{standing_of};
 ghost use Rattle.smi_show.specs.Line.{IsLine, IsValueText, front_text, names_by, separator};
 
 use crate::ShowTree;
-use crate::name::name_text;
-use smi_value::{Letters, TypeForm, append_identifier_word, append_value, one_value_by_names};
+use crate::name::{Node, name_by_node, name_text};
+use smi_value::{
+    Letters, NameForm, TypeForm, ValueSyntax, append_identifier_word, append_value,
+    one_value_by_names,
+};
 use snmp_io::Draft;
 use snmp_oid::Oid;
 use snmp_wire::ValueRef;
@@ -32,7 +38,7 @@ pub fn value_text<T: ShowTree>(
     ensures unchanged_on_error { OnErr result (out.new.items ≡ out.old.items) }
 {
     let mut draft = Draft::after(out);
-    append_shown(tree, letters, name, value, &mut draft);
+    append_shown(tree, letters, tree.syntax(name), value, &mut draft);
     draft.finish(out)
 }
 
@@ -92,9 +98,76 @@ fn append_line<T: ShowTree>(
         × IsLine (T.naming tree.now) letters.now syntax name.now (datum value.now) text
         × Adds draft.old text draft.new }
 {
-    append_front(tree, letters, name, draft);
-    append_shown(tree, letters, name, value, draft);
+    append_parts(tree, letters, name, value, draft);
     draft.octets(b"\n");
+}
+
+/// The name and the value.
+fn append_parts<T: ShowTree>(
+    tree: &T,
+    letters: &Letters,
+    name: &Oid,
+    value: &ValueRef<'_>,
+    draft: &mut Draft,
+)
+    ensures { let names = names_by (T.naming tree.now) letters.now in
+        let front = front_text letters.now (names name.now) in (text : List ℕ)
+        × ShowsValue names letters.now (T.syntax_at tree.now name.now) (datum value.now) text
+        × Adds draft.old (front ++ text) draft.new }
+{
+    if letters.value_alone || letters.names == NameForm::Numeric {
+        append_front(tree, letters, name, draft);
+        append_shown(tree, letters, tree.syntax(name), value, draft);
+    } else {
+        append_by_node(tree, letters, name, value, draft);
+    }
+}
+
+/// The name and the value, by one search of the tree for the name's node and the value's syntax.
+// A function of its own, since it clears room for both, which a name in numbers doesn't need.
+#[inline(never)]
+fn append_by_node<T: ShowTree>(
+    tree: &T,
+    letters: &Letters,
+    name: &Oid,
+    value: &ValueRef<'_>,
+    draft: &mut Draft,
+)
+    requires before { letters.now.value_alone ≡ false }
+    requires named { letters.now.names ≢ form.Numeric }
+    ensures { let names = names_by (T.naming tree.now) letters.now in
+        let front = front_text letters.now (names name.now) in (text : List ℕ)
+        × ShowsValue names letters.now (T.syntax_at tree.now name.now) (datum value.now) text
+        × Adds draft.old (front ++ text) draft.new }
+{
+    let (node, syntax) = tree.deepest_with_syntax(name);
+    append_named(tree, letters, name, node, draft);
+    append_shown(tree, letters, syntax, value, draft);
+}
+
+/// The name by its node, and what stands between it and the value.
+fn append_named<T: ShowTree>(
+    tree: &T,
+    letters: &Letters,
+    name: &Oid,
+    node: Option<Node<'_>>,
+    draft: &mut Draft,
+)
+    requires before { letters.now.value_alone ≡ false }
+    requires named { letters.now.names ≢ form.Numeric }
+    requires node { option_map standing_of node ≡ (T.naming tree.now).deepest name.now }
+    ensures { let shown = names_by (T.naming tree.now) letters.now name.now in
+        Adds draft.old (front_text letters.now shown) draft.new }
+{
+    name_by_node(
+        tree,
+        letters.names,
+        letters.numeric_index,
+        name,
+        node,
+        draft,
+    );
+    append_separator(letters.types, draft);
 }
 
 /// The name and what stands between it and the value, unless only the value is shown.
@@ -124,12 +197,12 @@ fn append_separator(types: TypeForm, draft: &mut Draft)
 fn append_shown<T: ShowTree>(
     tree: &T,
     letters: &Letters,
-    name: &Oid,
+    syntax: Option<ValueSyntax<'_>>,
     value: &ValueRef<'_>,
     draft: &mut Draft,
 )
     ensures { let names = names_by (T.naming tree.now) letters.now in (text : List ℕ)
-        × ShowsValue names letters.now (T.syntax_at tree.now name.now) (datum value.now) text
+        × ShowsValue names letters.now syntax.entry (datum value.now) text
         × Adds draft.old text draft.new }
 {
     match value {
@@ -137,6 +210,6 @@ fn append_shown<T: ShowTree>(
             append_identifier_word(draft, letters);
             name_text(tree, letters.names, letters.numeric_index, oid, draft);
         }
-        _ => append_value(draft, letters, tree.syntax(name).as_ref(), value),
+        _ => append_value(draft, letters, syntax.as_ref(), value),
     }
 }

@@ -1,8 +1,10 @@
 //! The tree of nodes that lines are shown by.
-ghost use Rattle.std.specs.Prelude.{◌≡◌, List, ℕ, Option};
+ghost use Rattle.std.specs.Prelude.{◌≡◌, List, ℕ, Option, option_map};
 ghost use Rattle.smi_value.specs.Syntax.{ObjectSyntax};
+ghost use Rattle.smi_show.specs.name.Standing.{standing_of};
 
 use crate::details::DetailTree;
+use crate::name::Node;
 use smi_value::ValueSyntax;
 use snmp_oid::Oid;
 
@@ -14,4 +16,9 @@ pub trait ShowTree: DetailTree {
     /// object whose type is known.
     fn syntax(&self, oid: &Oid) -> Option<ValueSyntax<'_>>
         ensures { result ≡ syntax_at self.now oid.now };
+
+    /// What `deepest` and `syntax` return, by one search.
+    fn deepest_with_syntax(&self, oid: &Oid) -> (Option<Node<'_>>, Option<ValueSyntax<'_>>)
+        ensures node { option_map standing_of result.0 ≡ (Self.naming self.now).deepest oid.now }
+        ensures syntax { result.1 ≡ syntax_at self.now oid.now };
 }

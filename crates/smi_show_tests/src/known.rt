@@ -94,4 +94,8 @@ impl ShowTree for Known<'_> {
             None => None,
         }
     }
+
+    fn deepest_with_syntax(&self, oid: &Oid) -> (Option<Node<'_>>, Option<ValueSyntax<'_>>) {
+        (self.deepest(oid), self.syntax(oid))
+    }
 }

@@ -164,13 +164,11 @@ fn a_syntax_shows_values_of_its_type_alone(rt: HostRuntime) -> Result<(), Fail> 
 
 /// The name `up` of the number 1.
 fn up(alloc: Global) -> Result<NamedNumber, Fail> {
-    let octets = Vec::from_slice(alloc, b"up")?;
-    let number = Vec::from_slice(alloc, b"1")?;
+    let octets = Text::copied(alloc, b"up")?;
+    let number = Text::copied(alloc, b"1")?;
     Ok(NamedNumber {
-        name: Name {
-            octets: Text::new(octets),
-        },
-        number: Text::new(number),
+        name: Name { octets },
+        number,
     })
 }
 

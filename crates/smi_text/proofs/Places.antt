@@ -1,11 +1,16 @@
--- Where an octet stands first.
-use Rattle.std.proofs.Common.{◌≡◌, ℕ, zero, suc, ◌<◌, ◌≤◌, Bool, true, false, not, ◌==◌, List, length, get_or, take, Option, Some, None, refl, arith, add-one}
+-- Where an octet stands first, and how often a newline does.
+use Rattle.std.proofs.Common.{◌≡◌, ℕ, zero, suc, ◌+◌, ◌-◌, ◌<◌, ◌≤◌, Bool, true, false, not, cond, ◌==◌, List, [], ◌∷◌, ◌++◌, length, get_or, take, drop, Option, Some, None, refl, sym, ap, ◌∙◌, arith, add-one}
 use Rattle.std.specs.List.{list_all}
 use Rattle.std.proofs.lemmas.Bool.{eqb-true}
 use Rattle.std.proofs.lemmas.List.{take_all}
 use Rattle.std.proofs.lemmas.List.Folds.{list_all_more}
-use Rattle.memchr.specs.Find.{IsFirstByte, is_byte}
-use Rattle.smi_text.specs.lexer.Reading.{IsFirstPlace, is_other}
+use Rattle.std.proofs.lemmas.List.{append-nil}
+use Rattle.std.specs.Iterator.{Drains, Yields}
+use Rattle.memchr.specs.Find.{IsFirstByte, TakesFirst, is_byte, places, places_from}
+use Rattle.smi_text.specs.lexer.Lexeme.{is_newline}
+use Rattle.smi_text.specs.lexer.Reading.{IsFirstPlace, is_other, newlines}
+use Rattle.smi_text.proofs.ItemsLemmas.{newlines-cons, newlines-one}
+use Rattle.smi_text.proofs.LexerFronts.{rest_at}
 
 not_so : (b : Bool) → (b ≡ true → ⊥) → not b ≡ true
 not_so false h = refl
@@ -31,3 +36,35 @@ first_place octet text (Some i) found = (
   eqb-true (get_or text i 0) octet found.1,
   others octet text i (omega (arith, found.0.high)) (λ k below. found.0.before k (omega arith) below),
 )
+
+-- one place more where an octet passes the test
+placed : (b : Bool) (i : ℕ) (later : List ℕ) (m : ℕ) → length later ≡ m
+    → length (cond b (i ∷ later) later) ≡ cond b 1 0 + m
+placed true i later m h = omega arith
+placed false i later m h = omega arith
+
+newlines_placed : (text : List ℕ) (i n : ℕ) → i + n ≤ length text
+    → length (places_from (is_byte 10) text i n) ≡ newlines (take n (drop i text))
+unfolding places_from
+newlines_placed text i zero within = refl
+newlines_placed text i (suc n) within =
+    let c = get_or text i 0 in
+    let later = newlines_placed text (i + 1) n (omega arith) in
+    placed (is_newline c) i (places_from (is_byte 10) text (i + 1) n) (newlines (take n (drop (i + 1) text))) later
+    ∙ ap (λ m. m + newlines (take n (drop (i + 1) text))) (sym (newlines-one c))
+    ∙ sym (newlines-cons c (take n (drop (i + 1) text)))
+    ∙ ap (λ s. newlines (take (suc n) s)) (sym (rest_at text i (omega arith)))
+
+places_of_newlines : (text : List ℕ) → length (places (is_byte 10) text) ≡ newlines text
+places_of_newlines text =
+    let all = newlines_placed text 0 (length text - 0) (omega arith) in
+    all ∙ ap newlines (take_all (length text - 0) text (omega arith))
+
+taken : (places given left : List ℕ) → Yields TakesFirst places given left → places ≡ given ++ left
+taken places [] left none = none
+taken places (place ∷ given) left first = first.1 ∙ ap (λ more. place ∷ more) (taken first.0 given left first.2)
+
+pub each_newline : (text given : List ℕ) → Drains TakesFirst (places (is_byte 10) text) given → length given ≡ newlines text
+each_newline text given run =
+    let all = taken (places (is_byte 10) text) given run.1.0 run.1.1 ∙ ap (λ left. given ++ left) run.1.2.0 ∙ append-nil given in
+    sym (ap length all) ∙ places_of_newlines text

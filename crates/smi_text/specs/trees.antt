@@ -1,4 +1,5 @@
 pub mod Word
+pub mod Octets
 pub mod Mark
 pub mod Reserved
 pub mod Number

@@ -238,9 +238,9 @@ impl<'a> Parser<'a> {
         ensures ok { IfOk result (λ x. (x ≡ text.now) × (self.new ≡ drop 1 self.old)) }
         ensures err { IfErr result (λ e. e ≡ Stop.Memory) }
     {
-        let text = Vec::from_slice(self.alloc, text).map_err(|_| Stop::Memory)?;
+        let text = Text::copied(self.alloc, text).map_err(|_| Stop::Memory)?;
         self.advance();
-        Ok(Text::new(text))
+        Ok(text)
     }
 
     /// Reads a token of this kind, and keeps its text.

@@ -4,6 +4,7 @@ pub mod Bridging
 pub mod Childhood
 pub mod Syntaxes
 pub mod Reaching
+pub mod Placing
 pub mod Soundness
 pub mod Sounding
 pub mod Single

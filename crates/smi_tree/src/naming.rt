@@ -16,7 +16,7 @@ use snmp_oid::Oid;
 
 impl Tree {
     /// The node at a place, as names see it, with the length of its identifier.
-    fn seen(&self, deepest: Deepest) -> Node<'_>
+    pub(crate) fn seen(&self, deepest: Deepest) -> Node<'_>
         requires { deepest.place < length self.now.nodes }
         ensures { Some (seen_as result) ≡ standing_of_longest self.now (longest_of deepest) }
     {

@@ -131,4 +131,8 @@ impl ShowTree for Roots {
     fn syntax(&self, _oid: &Oid) -> Option<ValueSyntax<'_>> {
         None
     }
+
+    fn deepest_with_syntax(&self, oid: &Oid) -> (Option<Node<'_>>, Option<ValueSyntax<'_>>) {
+        (self.deepest(oid), self.syntax(oid))
+    }
 }

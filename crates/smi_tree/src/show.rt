@@ -1,6 +1,6 @@
 //! The tree as values are shown by it.
 use crate::tree::Tree;
-use smi_show::ShowTree;
+use smi_show::{Node, ShowTree};
 use smi_value::ValueSyntax;
 use snmp_oid::Oid;
 
@@ -13,6 +13,13 @@ impl ShowTree for Tree {
         match self.deepest(oid) {
             Some(deepest) => self.value_syntax(deepest.place),
             None => None,
+        }
+    }
+
+    fn deepest_with_syntax(&self, oid: &Oid) -> (Option<Node<'_>>, Option<ValueSyntax<'_>>) {
+        match self.deepest(oid) {
+            Some(deepest) => (Some(self.seen(deepest)), self.value_syntax(deepest.place)),
+            None => (None, None),
         }
     }
 }

@@ -343,13 +343,11 @@ fn strings_with_a_hint(rt: HostRuntime) {
 fn named(rt: &impl Abort, alloc: Global, name: &[u8], number: &[u8]) -> NamedNumber
     requires { is_word name.now ≡ true }
 {
-    let name = Vec::from_slice(alloc, name).expect(rt, "memory");
-    let number = Vec::from_slice(alloc, number).expect(rt, "memory");
+    let octets = Text::copied(alloc, name).expect(rt, "memory");
+    let number = Text::copied(alloc, number).expect(rt, "memory");
     NamedNumber {
-        name: Name {
-            octets: Text::new(name),
-        },
-        number: Text::new(number),
+        name: Name { octets },
+        number,
     }
 }
 

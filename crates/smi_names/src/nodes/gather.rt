@@ -31,7 +31,7 @@ pub struct Gathered {
 pub(crate) fn text(alloc: Global, octets: &[u8]) -> Result<Text, AllocError>
     ensures { IfOk result (λ text. text ≡ octets.now) }
 {
-    Ok(Text::new(Vec::from_slice(alloc, octets)?))
+    Text::copied(alloc, octets)
 }
 
 /// A copy of an identifier.

@@ -30,7 +30,32 @@ pub fn name_text<T: NameTree>(
     if form == NameForm::Numeric {
         numeric(oid, draft);
     } else {
-        by_node(tree, form, numeric_index, oid, draft);
+        name_by_node(tree, form, numeric_index, oid, tree.deepest(oid), draft);
+    }
+}
+
+/// Appends the name of an identifier by its deepest node, which was found, and what follows that;
+/// in numbers if there is no node.
+pub fn name_by_node<T: NameTree>(
+    tree: &T,
+    form: NameForm,
+    numeric_index: bool,
+    oid: &Oid,
+    node: Option<Node<'_>>,
+    draft: &mut Draft,
+)
+    requires { option_map standing_of node ≡ (T.naming tree.now).deepest oid.now }
+    ensures { let standing = (T.naming tree.now).deepest oid.now in
+        let text = standing_text (T.naming tree.now) form numeric_index oid.now standing in
+        Adds draft.old text draft.new }
+{
+    tree.sound();
+    match node {
+        None => numeric(oid, draft),
+        Some(node) => {
+            node_text(tree, form, oid, node, draft);
+            instance_text(numeric_index, oid, node, draft);
+        }
     }
 }
 
@@ -41,22 +66,6 @@ fn numeric(oid: &Oid, draft: &mut Draft)
     match oid.as_slice() {
         [] => draft.octet(b'.'),
         numbers => numbers_text(numbers, draft),
-    }
-}
-
-/// The deepest node and what follows it, or numbers if there is no node.
-fn by_node<T: NameTree>(tree: &T, form: NameForm, numeric_index: bool, oid: &Oid, draft: &mut Draft)
-    ensures { let standing = (T.naming tree.now).deepest oid.now in
-        let text = standing_text (T.naming tree.now) form numeric_index oid.now standing in
-        Adds draft.old text draft.new }
-{
-    tree.sound();
-    match tree.deepest(oid) {
-        None => numeric(oid, draft),
-        Some(node) => {
-            node_text(tree, form, oid, node, draft);
-            instance_text(numeric_index, oid, node, draft);
-        }
     }
 }
 

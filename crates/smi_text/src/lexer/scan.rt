@@ -13,7 +13,7 @@ ghost use Rattle.smi_text.specs.lexer.Reading.{symbol_part};
 
 use crate::lexer::class::{Class, class_of_octet};
 use crate::lexer::token::TokenKind;
-use memchr::memchr;
+use memchr::{memchr, memchr_iter};
 
 fn is_blank(octet: u8) -> bool
     ensures { result ≡ is_blank octet }
@@ -233,13 +233,8 @@ fn newlines_in(text: &[u8]) -> usize
     ensures count { result ≡ newlines text.now }
     ensures within { result ≤ length text.now }
 {
-    let mut lines = 0;
-    'octets: for octet in text {
-        if *octet == b'\n' {
-            lines += 1;
-        }
-    }
-    lines
+    // The iterator's own `count` looks at each octet; this goes from one newline to the next.
+    Iterator::count(memchr_iter(b'\n', text))
 }
 
 /// Whether a `"` or `'` stands at the front, with no other one after it.

@@ -1,12 +1,21 @@
 //! The lists and texts that a module tree owns, which contracts see as lists.
-ghost use Rattle.std.specs.Prelude.{◌≡◌, length};
+ghost use Rattle.std.specs.Prelude.{◌≡◌, length, IfOk};
 
+use arrayvec::ArrayVec;
+use std::alloc::{AllocError, Global};
 use std::marker::Model;
+
+/// The octets of a text. Up to 24, as most names and numbers have, stand in place.
+#[derive(Drop, Debug)]
+enum Octets {
+    Few(ArrayVec<u8, 24>),
+    Many(Vec<u8>),
+}
 
 /// An owned text of the module: its octets, unchanged.
 #[derive(Drop, Debug)]
 pub struct Text {
-    bytes: Vec<u8>,
+    octets: Octets,
 }
 
 impl Model for Text {
@@ -14,22 +23,31 @@ impl Model for Text {
 
     ghost Value = { List ℕ };
 
-    ghost view = { λ t. t.bytes.items };
+    ghost use Rattle.smi_text.specs.trees.Octets.{octets_of};
+
+    ghost view = { λ t. octets_of t.octets };
 }
 
 impl Text {
-    /// The text of these octets.
-    pub fn new(bytes: Vec<u8>) -> Text
-        ensures { result ≡ bytes.items }
+    /// The text of these octets, which are copied.
+    pub fn copied(alloc: Global, octets: &[u8]) -> Result<Text, AllocError>
+        ensures { IfOk result (λ text. text ≡ octets.now) }
     {
-        Text { bytes }
+        let octets = match ArrayVec::try_from(octets) {
+            Ok(few) => Octets::Few(few),
+            Err(_) => Octets::Many(Vec::from_slice(alloc, octets)?),
+        };
+        Ok(Text { octets })
     }
 
     /// The octets.
     pub fn as_bytes(&self) -> &[u8]
         ensures { result.now ≡ self.now }
     {
-        &self.bytes
+        match &self.octets {
+            Octets::Few(few) => few.as_slice(),
+            Octets::Many(many) => many.as_slice(),
+        }
     }
 }
 

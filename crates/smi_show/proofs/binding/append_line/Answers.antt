@@ -1,4 +1,4 @@
-use Rattle.std.proofs.Common.{◌≡◌, ℕ, List, ◌++◌, codes, refl}
+use Rattle.std.proofs.Common.{◌++◌, codes, refl}
 use Rattle.smi_show.specs.Line.{front_text, names_by}
 use Rattle.smi_show.proofs.NamesStated.{name_stated}
 use Rattle.smi_show.proofs.Texts.{adds_both}
@@ -10,8 +10,7 @@ returns g c =
     let naming = g.T.NameTree.naming c.args.tree.now in
     let shown_name = names_by naming letters c.args.name.now in
     let front = front_text letters shown_name in
-    let value = c.append_shown.ensures in
-    let before = adds_both c.args.draft.now c.append_front.new.draft c.append_shown.new.draft front value.0 c.append_front.ensures value.2 in (
+    let value = c.append_parts.ensures in (
       front ++ value.0 ++ codes "\n",
       record {
         shown_name = shown_name;
@@ -24,5 +23,5 @@ returns g c =
         };
         whole = refl;
       },
-      adds_both c.args.draft.now c.append_shown.new.draft c.octets.new.self (front ++ value.0) (codes "\n") before c.octets.ensures,
+      adds_both c.args.draft.now c.append_parts.new.draft c.octets.new.self (front ++ value.0) (codes "\n") value.2 c.octets.ensures,
     )

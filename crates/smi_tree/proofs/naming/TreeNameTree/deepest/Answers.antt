@@ -1,24 +1,12 @@
 -- The node at the longest beginning.
-use Rattle.std.proofs.Common.{◌≡◌, length, List, [], ◌∷◌, suc, ap, refl, arith, ◌∙◌, take, nat_eq}
-use Rattle.std.specs.Cmp.Lexicographic.{pointwise}
-use Rattle.smi_names.specs.nodes.Nodes.{Node}
+use Rattle.std.proofs.Common.{refl, ◌∙◌}
 use Rattle.smi_tree.specs.Nodes.{oids_of}
-use Rattle.smi_tree.proofs.Scoping.{position_within}
+use Rattle.smi_tree.proofs.Placing.{place_within}
 use Rattle.smi_tree.proofs.Reaching.{longest-some, longest-none}
 use Rattle.smi_tree.proofs.naming.TreeNameTree.deepest.Goals as goal
 
-length-oids : (nodes : List Node) → length (oids_of nodes) ≡ length nodes
-length-oids [] = refl
-length-oids (n ∷ nodes) = ap suc (length-oids nodes)
-
 pub seen-requires : goal.seen-requires
-seen-requires c =
-    let d = c.in-Some.deepest in
-    let nodes = c.args.self.now.nodes in
-    let at = c.in-Some.ensures in
-    let within = position_within (λ x. pointwise nat_eq x (take d.depth c.args.oid.now)) 0 (oids_of nodes) d.place at.here in
-    let count : length (oids_of nodes) ≡ length nodes = length-oids nodes in
-    omega (arith, within.1, count)
+seen-requires c = place_within c.args.self.now.nodes c.args.oid.now c.in-Some.deepest.place c.in-Some.deepest.depth c.in-Some.ensures
 
 pub returns-in-Some : goal.returns-in-Some
 returns-in-Some c =
