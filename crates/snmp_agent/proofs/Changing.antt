@@ -1,7 +1,7 @@
 -- One row put among others, or removed.
 use Rattle.std.proofs.Common.{◌≡◌, ℕ, zero, suc, ◌-◌, ◌≤◌, ◌<◌, Bool, true, false, not, cond, is_some, List, [], ◌∷◌, ◌++◌, length, take, drop, Some}
 use Rattle.std.proofs.Common.{None, slice_set, refl, sym, ◌∙◌, ap, subst, arith, Ordering, Less, Equal, Greater}
-use Rattle.std.proofs.Common.{Result, Ok, Err, IfOk, IfErr}
+use Rattle.std.proofs.Common.{Result, Ok, Err, IfOk, IfErr, Option}
 use Rattle.std.specs.declared.alloc.AllocError.{AllocError}
 use Rattle.std.specs.Ordering.{nat_cmp, is_eq, eq_by_cmp}
 use Rattle.std.specs.Cmp.{tied_itself, alike_right, eq_by_cmp_equiv}
@@ -10,12 +10,11 @@ use Rattle.std.specs.FinMap.{FinMap, get, find, from_sorted, insert, remove, con
 use Rattle.std.specs.FinMap.{get-insert, get-remove, same_map, same_entries_map, nat_cmp-IsAntisymmetric, slice_cmp-IsAntisymmetric}
 use Rattle.std.specs.FinMap.Entries.{put, by_order, is_sorted-put, is_sorted-where_key, find-where_key}
 use Rattle.std.specs.List.{slice_get, insert as insert_at, remove as remove_at}
-use Rattle.std.proofs.lemmas.List.{take-append-drop, map-append, length-take-le}
+use Rattle.std.proofs.lemmas.List.{append-nil, take-append-drop, map-append, length-take-le}
+use Rattle.snmp_oid.specs.Identifier.{IsWire}
 use Rattle.snmp_wire.specs.Message.{Datum, VarBind}
-use Rattle.snmp_agent.specs.declared.table.encoded.EncodedRow.{EncodedRow}
 use Rattle.snmp_agent.specs.table.Table.{MibView, IsRow, IsInstanceName, IsInstanceValue, IsMibView, with_row, without_row}
-use Rattle.snmp_agent.specs.table.Row.{entry_of, datum_of}
-use Rattle.snmp_agent.specs.table.Places.{IsBeforeAll, IsBeforeNone, IsAfterAll, view_of, without_name}
+use Rattle.snmp_agent.specs.table.Places.{IsBeforeAll, IsBeforeNone, IsAfterAll, view_of, without_name, entry_of}
 use Rattle.snmp_agent.specs.table.Pages.{IsRising, IsSorted, HasNameAt, BelongsAt, has_name, entries_of}
 use Rattle.snmp_agent.proofs.Rising.{first_of_both, second_of_both, before_all, before_listed, turned, same_name}
 use Rattle.snmp_agent.proofs.Finding.{listed_at, IsLast, found_none, parts_at}
@@ -114,10 +113,17 @@ after_front o (e ∷ front) back h none = by_cases (cmp o e.0) refl (λ rest. af
         let rest : find cmp o ((e ∷ front) ++ back) ≡ find cmp o (front ++ back) = ap (λ r. cond (is_eq r) (Some e.1) (find cmp o (front ++ back))) is in
         (is, later (sym rest ∙ none))
 
+-- an entry put behind all others
+pub put_behind : (o : List ℕ) (v : Datum) (es : List (List ℕ × Datum)) → IsAfterAll o es → put cmp o v es ≡ es ++ (o, v) ∷ []
+put_behind o v es h = ap (put cmp o v) (sym (append-nil es)) ∙ put_past o v es [] h
+
+pub none_behind : (o : List ℕ) (es : List (List ℕ × Datum)) → IsAfterAll o es → false ≡ has_name o es
+none_behind o es h = ap is_some (sym (ap (find cmp o) (sym (append-nil es)) ∙ past_front o es [] h))
+
 -- ---- rows
 
-halves : (rows : List EncodedRow) (place : ℕ) → entries_of rows ≡ entries_of (take place rows) ++ entries_of (drop place rows)
-halves rows place = ap entries_of (sym (take-append-drop place rows)) ∙ map-append (λ (r : EncodedRow). entry_of r.row) (take place rows) (drop place rows)
+halves : (rows : List VarBind) (place : ℕ) → entries_of rows ≡ entries_of (take place rows) ++ entries_of (drop place rows)
+halves rows place = ap entries_of (sym (take-append-drop place rows)) ∙ map-append entry_of (take place rows) (drop place rows)
 
 pub around : {A : Type 0} (xs : List A) (place : ℕ) (x : A) → slice_get xs place ≡ Some x → xs ≡ take place xs ++ x ∷ drop (suc place) xs
 around [] place x at = let no : ⊥ = cc in absurd no
@@ -129,7 +135,7 @@ set_around [] place x low = absurd (omega (arith, low))
 set_around (first ∷ xs) zero x low = refl
 set_around (first ∷ xs) (suc place) x low = ap (λ ys. first ∷ ys) (set_around xs place x (omega (arith, low)))
 
-in_front : (rows : List EncodedRow) (place k : ℕ) (row : EncodedRow) → slice_get (take place rows) k ≡ Some row → slice_get rows k ≡ Some row
+in_front : (rows : List VarBind) (place k : ℕ) (row : VarBind) → slice_get (take place rows) k ≡ Some row → slice_get rows k ≡ Some row
 in_front [] zero k row at = at
 in_front [] (suc place) k row at = at
 in_front (first ∷ rows) zero k row at = let no : ⊥ = cc in absurd no
@@ -141,18 +147,18 @@ at_low [] k x at = let no : ⊥ = cc in absurd no
 at_low (first ∷ xs) zero x at = omega arith
 at_low (first ∷ xs) (suc k) x at = omega (arith, at_low xs k x at)
 
-before_row : (rows : List EncodedRow) (k : ℕ) (row : EncodedRow) → IsRising rows → slice_get rows k ≡ Some row → IsAfterAll row.row.name.items (entries_of (take k rows))
+before_row : (rows : List VarBind) (k : ℕ) (row : VarBind) → IsRising rows → slice_get rows k ≡ Some row → IsAfterAll row.name (entries_of (take k rows))
 before_row [] k row rising at = let no : ⊥ = cc in absurd no
 before_row (first ∷ rows) zero row rising at = tt
 before_row (first ∷ rows) (suc k) row rising at =
-    let less : cmp first.row.name.items row.row.name.items ≡ Less =
-    before_listed first.row.name.items (entry_of row.row) (entries_of rows) (before_all first.row.name.items (entries_of rows) (first_of_both _ _ rising))
+    let less : cmp first.name row.name ≡ Less =
+    before_listed first.name (entry_of row) (entries_of rows) (before_all first.name (entries_of rows) (first_of_both _ _ rising))
     (listed_at rows k row at) in
-    (turned first.row.name.items row.row.name.items Less less, before_row rows k row (second_of_both _ _ rising) at)
+    (turned first.name row.name Less less, before_row rows k row (second_of_both _ _ rising) at)
 
 -- the last of the rows up to a name has it
-pub has_name_at : (rows : List EncodedRow) (place : ℕ) (o : List ℕ) (row : EncodedRow) → IsRising rows → place ≤ length rows → IsLast (take place rows) row
-    → row.row.name.items ≡ o → HasNameAt o rows (place - 1)
+pub has_name_at : (rows : List VarBind) (place : ℕ) (o : List ℕ) (row : VarBind) → IsRising rows → place ≤ length rows → IsLast (take place rows) row
+    → row.name ≡ o → HasNameAt o rows (place - 1)
 has_name_at rows place o row rising bound last name =
     let long : length (take place rows) ≡ place = length-take-le place rows bound in
     let at : slice_get rows (place - 1) ≡ Some row = in_front rows place (place - 1) row (subst (λ (n : ℕ). slice_get (take place rows)
@@ -166,8 +172,8 @@ has_name_at rows place o row rising bound last name =
       ahead = subst (λ (p : List ℕ). IsBeforeAll p (entries_of (drop (suc (place - 1)) rows))) name (parts_at rows (place - 1) row rising at).1;
     }
 
-pub belongs_at : (rows : List EncodedRow) (place : ℕ) (o : List ℕ) → IsRising rows → place ≤ length rows → IsBeforeNone o (entries_of (take place rows))
-    → IsBeforeAll o (entries_of (drop place rows)) → ((row : EncodedRow) → IsLast (take place rows) row → row.row.name.items ≡ o → ⊥) → BelongsAt o rows place
+pub belongs_at : (rows : List VarBind) (place : ℕ) (o : List ℕ) → IsRising rows → place ≤ length rows → IsBeforeNone o (entries_of (take place rows))
+    → IsBeforeAll o (entries_of (drop place rows)) → ((row : VarBind) → IsLast (take place rows) row → row.name ≡ o → ⊥) → BelongsAt o rows place
 belongs_at rows place o rising bound passed ahead other =
     let none : find cmp o (entries_of rows) ≡ None = found_none rows place o rising passed ahead other in
     record {
@@ -176,39 +182,39 @@ belongs_at rows place o rising bound passed ahead other =
       ahead = ahead;
     }
 
-module _ (o : List ℕ) (rows : List EncodedRow) (place : ℕ) where
-  entries_around : (row : EncodedRow) → entries_of (take place rows ++ row ∷ drop (suc place) rows)
-      ≡ entries_of (take place rows) ++ entry_of row.row ∷ entries_of (drop (suc place) rows)
-  entries_around row = map-append (λ (r : EncodedRow). entry_of r.row) (take place rows) (row ∷ drop (suc place) rows)
+module _ (o : List ℕ) (rows : List VarBind) (place : ℕ) where
+  entries_around : (row : VarBind) → entries_of (take place rows ++ row ∷ drop (suc place) rows)
+      ≡ entries_of (take place rows) ++ entry_of row ∷ entries_of (drop (suc place) rows)
+  entries_around row = map-append entry_of (take place rows) (row ∷ drop (suc place) rows)
 
   -- the entries round the row of the name
   with_it : (h : HasNameAt o rows place)
-      → entries_of rows ≡ entries_of (take place rows) ++ (o, datum_of h.found.row.value) ∷ entries_of (drop (suc place) rows)
+      → entries_of rows ≡ entries_of (take place rows) ++ (o, h.found.value) ∷ entries_of (drop (suc place) rows)
   with_it h =
       ap entries_of (around rows place h.found h.at) ∙ entries_around h.found
-      ∙ ap (λ (p : List ℕ). entries_of (take place rows) ++ (p, datum_of h.found.row.value) ∷ entries_of (drop (suc place) rows)) h.name
+      ∙ ap (λ (p : List ℕ). entries_of (take place rows) ++ (p, h.found.value) ∷ entries_of (drop (suc place) rows)) h.name
 
-  pub row_replaced : (new : EncodedRow) → HasNameAt o rows place → new.row.name.items ≡ o
-      → entries_of (slice_set rows place new) ≡ put cmp o (datum_of new.row.value) (entries_of rows)
+  pub row_replaced : (new : VarBind) → HasNameAt o rows place → new.name ≡ o
+      → entries_of (slice_set rows place new) ≡ put cmp o (new.value) (entries_of rows)
   row_replaced new h name =
       ap entries_of (set_around rows place new h.low) ∙ entries_around new
-      ∙ ap (λ (p : List ℕ). entries_of (take place rows) ++ (p, datum_of new.row.value) ∷ entries_of (drop (suc place) rows)) name
-      ∙ sym (ap (put cmp o (datum_of new.row.value)) (with_it h)
-      ∙ put_over o (datum_of new.row.value) (datum_of h.found.row.value) (entries_of (take place rows)) (entries_of (drop (suc place) rows)) h.passed)
+      ∙ ap (λ (p : List ℕ). entries_of (take place rows) ++ (p, new.value) ∷ entries_of (drop (suc place) rows)) name
+      ∙ sym (ap (put cmp o (new.value)) (with_it h)
+      ∙ put_over o (new.value) (h.found.value) (entries_of (take place rows)) (entries_of (drop (suc place) rows)) h.passed)
 
-  pub row_inserted : (new : EncodedRow) → BelongsAt o rows place → new.row.name.items ≡ o
-      → entries_of (insert_at rows place new) ≡ put cmp o (datum_of new.row.value) (entries_of rows)
+  pub row_inserted : (new : VarBind) → BelongsAt o rows place → new.name ≡ o
+      → entries_of (insert_at rows place new) ≡ put cmp o (new.value) (entries_of rows)
   row_inserted new h name =
-      map-append (λ (r : EncodedRow). entry_of r.row) (take place rows) (new ∷ drop place rows)
-      ∙ ap (λ (p : List ℕ). entries_of (take place rows) ++ (p, datum_of new.row.value) ∷ entries_of (drop place rows)) name
-      ∙ sym (ap (put cmp o (datum_of new.row.value)) (halves rows place)
-      ∙ put_between o (datum_of new.row.value) (entries_of (take place rows)) (entries_of (drop place rows)) h.passed h.ahead)
+      map-append entry_of (take place rows) (new ∷ drop place rows)
+      ∙ ap (λ (p : List ℕ). entries_of (take place rows) ++ (p, new.value) ∷ entries_of (drop place rows)) name
+      ∙ sym (ap (put cmp o (new.value)) (halves rows place)
+      ∙ put_between o (new.value) (entries_of (take place rows)) (entries_of (drop place rows)) h.passed h.ahead)
 
   pub row_removed : HasNameAt o rows place → entries_of (remove_at rows place) ≡ without_name o (entries_of rows)
   row_removed h =
-      map-append (λ (r : EncodedRow). entry_of r.row) (take place rows) (drop (suc place) rows)
+      map-append entry_of (take place rows) (drop (suc place) rows)
       ∙ sym (ap (without_name o) (with_it h)
-      ∙ removes o (datum_of h.found.row.value) (entries_of (take place rows)) (entries_of (drop (suc place) rows)) h.passed h.ahead)
+      ∙ removes o (h.found.value) (entries_of (take place rows)) (entries_of (drop (suc place) rows)) h.passed h.ahead)
 
   pub none_removed : BelongsAt o rows place → entries_of rows ≡ without_name o (entries_of rows)
   none_removed h =
@@ -219,8 +225,8 @@ module _ (o : List ℕ) (rows : List EncodedRow) (place : ℕ) where
   name_found h =
       let front = entries_of (take place rows) in
       let back = entries_of (drop (suc place) rows) in
-      let found : find cmp o (entries_of rows) ≡ Some (datum_of h.found.row.value) =
-      ap (find cmp o) (with_it h) ∙ past_front o front ((o, datum_of h.found.row.value) ∷ back) h.passed ∙ at_front o (datum_of h.found.row.value) back in
+      let found : find cmp o (entries_of rows) ≡ Some (h.found.value) =
+      ap (find cmp o) (with_it h) ∙ past_front o front ((o, h.found.value) ∷ back) h.passed ∙ at_front o (h.found.value) back in
       ap is_some (sym found)
 
   pub no_name : BelongsAt o rows place → false ≡ has_name o (entries_of rows)
@@ -266,15 +272,25 @@ module _ (o : List ℕ) (es fs : Entries) (rising : IsSorted es) where
   pub had_name : has_name o es ≡ contains_key (from_sorted {R = cmp} es) o
   had_name = ap is_some (sym (get-from_sorted cmp es o rising))
 
--- ---- views
-
-tied : (o p : List ℕ) (b : Bool) → eq_by_cmp cmp o p ≡ b → b ≡ true → o ≡ p
+pub tied : (o p : List ℕ) (b : Bool) → eq_by_cmp cmp o p ≡ b → b ≡ true → o ≡ p
 tied o p b is yes_it = by_cases (cmp o p) refl (is ∙ yes_it)
   where
     by_cases : (r : Ordering) → cmp o p ≡ r → is_eq (cmp o p) ≡ true → o ≡ p
     by_cases Less e h = let no : is_eq (cmp o p) ≡ false = ap is_eq e in absurd (cc)
     by_cases Equal e h = same_name o p e
     by_cases Greater e h = let no : is_eq (cmp o p) ≡ false = ap is_eq e in absurd (cc)
+
+-- a name that no entry has
+pub nothing_removed : (m : FinMap cmp Datum) (o : List ℕ) → None ≡ get m o → m ≡ remove m o
+nothing_removed m o none =
+    same_map nat_list_cmp_total (slice_cmp-IsAntisymmetric nat_cmp-IsAntisymmetric) m (remove m o)
+    (λ q. by_cases q (eq_by_cmp cmp q o) refl ∙ sym (get-remove nat_list_cmp_total m o q))
+  where
+    by_cases : (q : List ℕ) (b : Bool) → eq_by_cmp cmp q o ≡ b → get m q ≡ cond (eq_by_cmp cmp q o) None (get m q)
+    by_cases q true is = ap (get m) (tied q o true is refl) ∙ sym none ∙ ap (λ b. cond b None (get m q)) (sym is)
+    by_cases q false is = ap (λ b. cond b None (get m q)) (sym is)
+
+-- ---- views
 
 module _ (view : MibView) (good : IsMibView view) (o : List ℕ) where
   -- a variable of the changed view is the one put, or one that was there
@@ -310,6 +326,14 @@ module _ (view : MibView) (good : IsMibView view) (o : List ℕ) where
     values = λ p row. good.values p (left_variable p row);
     objects = good.objects;
   }
+
+-- a name with no encoding
+pub unnamed : (view : MibView) → IsMibView view → (o : List ℕ) → (IsWire o → ⊥) → None ≡ get view.rows o
+unnamed view good o never = by_cases (get view.rows o) refl
+  where
+    by_cases : (found : Option Datum) → get view.rows o ≡ found → None ≡ get view.rows o
+    by_cases None is = sym is
+    by_cases (Some v) is = absurd (never (good.names (record { name = o; value = v }) is).wire)
 
 -- what a table keeps where a row is put, or an error leaves all as it was
 pub put_either : (result : Result Bool AllocError) (old new : FinMap cmp Datum) (objects : List (List ℕ)) (o : List ℕ) (v : Datum)

@@ -8,7 +8,7 @@ use Rattle.snmp_agent.specs.declared.table.error.TableError.{TableError}
 use Rattle.snmp_agent.specs.declared.table.error.TableError.TheVariants as error
 use Rattle.snmp_agent.specs.table.Form.{IsObjectText, IsInstanceText, IsBadLine, IsBadName, IsBadValue}
 use Rattle.snmp_agent.specs.table.Text.{AreTable, DifferInName, IsGoodLine, IsValueText, a_blank, a_prefix, a_row}
-use Rattle.snmp_agent.specs.table.Format.{Format, IsFormat, Names}
+use Rattle.snmp_agent.specs.table.Format.{Format, Names}
 use Rattle.snmp_agent.specs.table.Stated.{IsFirstFault, IsFirstFaultIn, IsTableOf}
 use Rattle.snmp_agent.specs.table.Table.{MibView}
 use Rattle.snmp_agent.proofs.Unique.{one_format}

@@ -11,7 +11,6 @@ use Rattle.snmp_wire.specs.Message.Datum.{end_of_mib_view}
 use Rattle.snmp_agent.specs.table.Table.{MibView, IsRow, IsNext, successor, end_of_view, IsNextAfter}
 use Rattle.snmp_agent.specs.table.Listing.{first_or_end, nth_or_end}
 use Rattle.snmp_agent.specs.table.Places.{IsBeforeAll, var_of, last_name}
-use Rattle.snmp_agent.specs.declared.table.encoded.EncodedRow.{EncodedRow}
 use Rattle.snmp_agent.specs.table.Pages.{StandsApart, AreBehind, entries_of}
 use Rattle.snmp_agent.proofs.Rising.{Listed, not_before_itself, not_both, before_listed, not_before_listed, listed_in_both, listed_in_second, before_later}
 use Rattle.snmp_agent.proofs.Rising.{before_no_earlier, find-listed, listed_from_find}
@@ -119,26 +118,26 @@ behind_past view zero o back h = h
 behind_past view (suc rounds) o [] h = h
 behind_past view (suc rounds) o (p ∷ back) h = behind_past view rounds p.0 back (behind_first view o p back h)
 
-pub last_name-last : (o : List ℕ) (rows : List EncodedRow) (row : EncodedRow) (last : ℕ) → length rows ≡ last + 1 → slice_get rows last ≡ Some row
-    → last_name o (entries_of rows) ≡ row.row.name.items
+pub last_name-last : (o : List ℕ) (rows : List VarBind) (row : VarBind) (last : ℕ) → length rows ≡ last + 1 → slice_get rows last ≡ Some row
+    → last_name o (entries_of rows) ≡ row.name
 last_name-last o [] row last whole at = let no : ⊥ = omega (arith, whole) in absurd no
-last_name-last o (first ∷ []) row zero whole at = let same : first ≡ row = cc in ap (λ (r : EncodedRow). r.row.name.items) same
+last_name-last o (first ∷ []) row zero whole at = let same : first ≡ row = cc in ap (λ (r : VarBind). r.name) same
 last_name-last o (first ∷ []) row (suc last) whole at = let no : ⊥ = omega (arith, whole) in absurd no
 last_name-last o (first ∷ second ∷ rows) row zero whole at = let no : ⊥ = omega (arith, whole) in absurd no
 last_name-last o (first ∷ second ∷ rows) row (suc last) whole at =
-    last_name-last first.row.name.items (second ∷ rows) row last (omega (arith, whole)) at
+    last_name-last first.name (second ∷ rows) row last (omega (arith, whole)) at
 
 -- ---- some rows skipped
 
-pub drop_rows : (rows : List EncodedRow) (more : List (List ℕ × Datum)) (n : ℕ) → length rows ≤ n → drop (n - length rows) more ≡ drop n (entries_of rows ++ more)
+pub drop_rows : (rows : List VarBind) (more : List (List ℕ × Datum)) (n : ℕ) → length rows ≤ n → drop (n - length rows) more ≡ drop n (entries_of rows ++ more)
 drop_rows [] more n few = ap (λ (k : ℕ). drop k more) (omega arith)
 drop_rows (row ∷ rows) more zero few = absurd (omega (arith, few))
 drop_rows (row ∷ rows) more (suc n) few = ap (λ (k : ℕ). drop k more) (omega arith) ∙ drop_rows rows more n (omega (arith, few))
 
-pub take_rows : (o : List ℕ) (rows : List EncodedRow) (more : List (List ℕ × Datum)) (n : ℕ) → length rows ≤ n
+pub take_rows : (o : List ℕ) (rows : List VarBind) (more : List (List ℕ × Datum)) (n : ℕ) → length rows ≤ n
     → last_name (last_name o (entries_of rows)) (take (n - length rows) more) ≡ last_name o (take n (entries_of rows ++ more))
 take_rows o [] more n few = ap (λ (k : ℕ). last_name o (take k more)) (omega arith)
 take_rows o (row ∷ rows) more zero few = absurd (omega (arith, few))
 take_rows o (row ∷ rows) more (suc n) few =
-    ap (λ (k : ℕ). last_name (last_name row.row.name.items (entries_of rows)) (take k more)) (omega arith)
-    ∙ take_rows row.row.name.items rows more n (omega (arith, few))
+    ap (λ (k : ℕ). last_name (last_name row.name (entries_of rows)) (take k more)) (omega arith)
+    ∙ take_rows row.name rows more n (omega (arith, few))

@@ -6,13 +6,13 @@ use Rattle.std.specs.FinMap.{FinMap, entries, entries_sorted, entries-from_sorte
 use Rattle.std.specs.FinSet.{contains, contains-from_list}
 use Rattle.snmp_oid.specs.Identifier.{IsIdentifier}
 use Rattle.snmp_wire.specs.Message.{Datum, VarBind}
+use Rattle.snmp_wire.specs.Range.{IsInRange}
 use Rattle.snmp_wire.specs.Message.Datum.{integer_value, octet_string, null_value, object_id, ip_address, counter32, gauge32, time_ticks, opaque_octets}
 use Rattle.snmp_wire.specs.Message.Datum.{counter64, no_such_object, no_such_instance, end_of_mib_view}
-use Rattle.snmp_agent.specs.declared.table.row.Row.{Row}
 use Rattle.snmp_agent.specs.declared.table.row.RowValue.{RowValue}
 use Rattle.snmp_agent.specs.declared.table.row.RowValue.TheVariants as value
 use Rattle.snmp_agent.specs.table.Table.{IsRow, IsInstanceName, IsInstanceValue, IsMibView, MibView}
-use Rattle.snmp_agent.specs.table.Row.{datum_of, IsShort, IsShortRow}
+use Rattle.snmp_agent.specs.table.Row.{datum_of, IsShort}
 use Rattle.snmp_agent.specs.table.Places.{view_of}
 use Rattle.snmp_agent.specs.table.Format.{Format, IsName, IsNameIn, Means, Names, first_format, names_by, numeric_names, second_format}
 use Rattle.snmp_agent.specs.table.Form.{States, instance}
@@ -32,7 +32,7 @@ is_identifier (second_format names) text o h = meant names h.1 where
   meant numeric_names k = identifier text o k
   meant (names_by meaning) k = k.1
 
-instance_value : (format : Format) (tag text : List ℕ) (v : Datum) → IsValueText format tag text v → IsInstanceValue v
+pub instance_value : (format : Format) (tag text : List ℕ) (v : Datum) → IsValueText format tag text v → IsInstanceValue v
 instance_value format tag text (integer_value z) h = h.2
 instance_value format tag text (octet_string octets) h = h.1
 instance_value format tag text null_value h = h
@@ -62,7 +62,7 @@ row_value format lines p h = stated_value format h.0 p h.2
 prefix_name : (format : Format) (lines : List (List ℕ)) (o : List ℕ) → HasPrefix format lines o → (o ≢ []) × IsIdentifier o
 prefix_name format lines o h = let prefix : IsPrefixLine format h.0 o = h.2 in (prefix.3, is_identifier format prefix.0 o prefix.2)
 
-short_value : (v : RowValue) → IsInstanceValue (datum_of v) → IsShort v
+pub short_value : (v : RowValue) → IsInstanceValue (datum_of v) → IsShort v
 short_value (value.Integer n) h = omega arith
 short_value (value.Octets octets) h = omega arith
 short_value (value.ObjectId numbers) h = h.1.short
@@ -73,9 +73,24 @@ short_value (value.TimeTicks n) h = omega arith
 short_value (value.Opaque octets) h = omega arith
 short_value (value.Counter64 n) h = omega arith
 
--- the name and the identifier of an instance have at most 128 numbers
-pub short_row : (row : Row) → IsInstanceName row.name.items → IsInstanceValue (datum_of row.value) → IsShortRow row
-short_row row name value = record { name = name.identifier.short; value = short_value row.value value }
+-- an instance has an encoding
+pub name_in_range : (o : List ℕ) → IsInstanceName o → IsInRange (object_id o)
+name_in_range o h = (h.wire, h.identifier)
+
+pub value_in_range : (v : Datum) → IsInstanceValue v → IsInRange v
+value_in_range (integer_value z) h = h
+value_in_range (octet_string octets) h = (h.1, h.0)
+value_in_range null_value h = tt
+value_in_range (object_id o) h = h
+value_in_range (ip_address octets) h = (h.1, h.0)
+value_in_range (counter32 n) h = h
+value_in_range (gauge32 n) h = h
+value_in_range (time_ticks n) h = h
+value_in_range (opaque_octets octets) h = (h.1, h.0)
+value_in_range (counter64 n) h = h
+value_in_range no_such_object h = tt
+value_in_range no_such_instance h = tt
+value_in_range end_of_mib_view h = tt
 
 -- the view of these entries and object prefixes
 abbrev pub view_from : List (List ℕ × Datum) → List (List ℕ) → MibView

@@ -1,4 +1,5 @@
 pub mod ServerTurns
+pub mod Splitting
 pub mod Standing
 pub mod Answers
 pub mod Encodings

@@ -1,31 +1,28 @@
 -- Pages of rows: what a change of one of them does to all rows, and where it is divided.
 use Rattle.std.proofs.Common.{◌≡◌, ℕ, zero, suc, ◌+◌, ◌≤◌, ◌<◌, false, List, [], ◌∷◌, ◌++◌, length, take, drop, Some, slice_set, slice_index_or, refl, sym, ◌∙◌, ap, subst}
-use Rattle.std.proofs.Common.{arith, append_assoc, length-append, add-one, true, is_some}
+use Rattle.std.proofs.Common.{arith, append_assoc, length-append, add-one, true, is_some, inl, Less}
 use Rattle.std.specs.Ordering.{nat_cmp}
-use Rattle.std.specs.Cmp.Lexicographic.{slice_cmp}
+use Rattle.std.specs.Cmp.Lexicographic.{slice_cmp, nat_list_cmp_total}
 use Rattle.std.specs.FinMap.{find, from_sorted, get, get-from_sorted}
 use Rattle.std.specs.FinMap.Entries.{put}
 use Rattle.std.specs.List.{slice_get, insert as insert_at, remove as remove_at}
 use Rattle.std.proofs.lemmas.Option.{slice_get-get_or}
-use Rattle.std.proofs.lemmas.List.{take-append-drop, map-append, length-take-le}
-use Rattle.snmp_wire.specs.Message.{Datum}
-use Rattle.snmp_agent.specs.declared.table.encoded.EncodedRow.{EncodedRow}
+use Rattle.std.proofs.lemmas.List.{append-nil, take-append-drop, map-append, length-take-le}
+use Rattle.snmp_wire.specs.Message.{Datum, VarBind}
 use Rattle.snmp_agent.specs.declared.table.page.Page.{Page}
-use Rattle.snmp_agent.specs.declared.table.row.Row.{Row}
-use Rattle.snmp_agent.specs.table.Row.{datum_of, entry_of}
-use Rattle.snmp_agent.specs.table.Places.{IsAfterAll, IsBeforeAll, IsBeforeNone, without_name}
+use Rattle.snmp_agent.specs.table.Places.{IsAfterAll, IsBeforeAll, IsBeforeNone, without_name, entry_of}
 use Rattle.snmp_agent.specs.table.Pages.{ArePages, IsPageOf, IsPageWithRoom, IsRising, IsSorted, StandsApart, begins_up_to, entries_in, entries_of, has_name}
 use Rattle.snmp_agent.proofs.Changing.{around, set_around, at_low, put_past, put_in, without_past, without_in, past_front, find_in}
 use Rattle.snmp_agent.proofs.Partition.{before_both, after_both, after_none, none_both, rows_ahead, rows_passed}
-use Rattle.snmp_agent.proofs.Rising.{rising_first, rising_rest}
+use Rattle.snmp_agent.proofs.Rising.{before_all, before_listed, first_of_both, listed_in_second, rising_first, rising_rest, second_of_both, turned}
 
 abbrev Entries : Type 0
 Entries = List (List ℕ × Datum)
 
 -- ---- the rows of all pages
 
-pub rows-append : (xs ys : List EncodedRow) → entries_of (xs ++ ys) ≡ entries_of xs ++ entries_of ys
-rows-append = map-append (λ (r : EncodedRow). entry_of r.row)
+pub rows-append : (xs ys : List VarBind) → entries_of (xs ++ ys) ≡ entries_of xs ++ entries_of ys
+rows-append = map-append entry_of
 
 pub pages-append : (xs ys : List Page) → entries_in (xs ++ ys) ≡ entries_in xs ++ entries_in ys
 pages-append [] ys = refl
@@ -58,7 +55,7 @@ module _ (pages : List Page) (place : ℕ) where
   pub same_rows : (found new : Page) → place < length pages → found ≡ slice_index_or pages place found → new.rows.items ≡ found.rows.items
       → entries_in (slice_set pages place new) ≡ entries_in pages
   same_rows found new low read same =
-      set-parts new low ∙ ap (λ (rs : List EncodedRow). front ++ (entries_of rs ++ back)) same ∙ sym (parts found (read_at found low read))
+      set-parts new low ∙ ap (λ (rs : List VarBind). front ++ (entries_of rs ++ back)) same ∙ sym (parts found (read_at found low read))
 
   -- without a row of the page
   pub without_row_of : (page found new : Page) (row : ℕ) → slice_get pages place ≡ Some page → found ≡ slice_index_or pages place found
@@ -66,10 +63,10 @@ module _ (pages : List Page) (place : ℕ) where
       → entries_in (slice_set pages place new) ≡ front ++ (entries_of (remove_at page.rows.items row) ++ back)
   without_row_of page found new row at read removed =
       set-parts new (at_low pages place page at)
-      ∙ ap (λ (rs : List EncodedRow). front ++ (entries_of rs ++ back))
+      ∙ ap (λ (rs : List VarBind). front ++ (entries_of rs ++ back))
       (removed ∙ ap (λ (p : Page). remove_at p.rows.items row) (page_read page found at read))
 
-  only_row : (rows : List EncodedRow) (row : ℕ) → row < length rows → length rows ≤ 1 → entries_of (remove_at rows row) ≡ []
+  only_row : (rows : List VarBind) (row : ℕ) → row < length rows → length rows ≤ 1 → entries_of (remove_at rows row) ≡ []
   only_row [] row low one = absurd (omega (arith, low))
   only_row (r ∷ []) zero low one = refl
   only_row (r ∷ []) (suc row) low one = absurd (omega (arith, low))
@@ -234,17 +231,64 @@ none_apart o pages rising none = record {
   ahead = tt;
 }
 
+-- ---- a row behind all others
+
+none_past : {A : Type 0} (xs : List A) (n : ℕ) → length xs ≡ n + 1 → drop (suc n) xs ≡ []
+none_past [] n long = refl
+none_past (x ∷ []) zero long = refl
+none_past (x ∷ y ∷ xs) zero long = absurd (omega (arith, long))
+none_past (x ∷ xs) (suc n) long = none_past xs n (omega (arith, long))
+
+last_entry : (rows : List VarBind) (k : ℕ) (row : VarBind) → length rows ≡ k + 1 → slice_get rows k ≡ Some row
+    → entries_of rows ≡ entries_of (take k rows) ++ entry_of row ∷ []
+last_entry rows k row long at =
+    ap entries_of (around rows k row at) ∙ rows-append (take k rows) (row ∷ drop (suc k) rows)
+    ∙ ap (λ (rs : List VarBind). entries_of (take k rows) ++ entry_of row ∷ entries_of rs) (none_past rows k long)
+
+after_last : (o : List ℕ) (front : Entries) (e : List ℕ × Datum) → IsSorted (front ++ e ∷ []) → slice_cmp nat_cmp e.0 o ≡ Less → IsAfterAll o (front ++ e ∷ [])
+after_last o [] e rising less = (turned e.0 o Less less, tt)
+after_last o (f ∷ front) e rising less =
+    let first : slice_cmp nat_cmp f.0 e.0 ≡ Less = before_listed f.0 e (front ++ e ∷ []) (before_all f.0 (front ++ e ∷ []) (first_of_both _ _ rising))
+    (listed_in_second e front (e ∷ []) (inl refl)) in
+    (turned f.0 o Less (nat_list_cmp_total.trans f.0 e.0 o first less), after_last o front e (second_of_both _ _ rising) less)
+
+module _ (pages : List Page) (place : ℕ) (long : length pages ≡ place + 1) where
+  last_parts : (page : Page) → slice_get pages place ≡ Some page → entries_in pages ≡ entries_in (take place pages) ++ entries_of page.rows.items
+  last_parts page at =
+      parts pages place page at
+      ∙ ap (λ (ps : List Page). entries_in (take place pages) ++ (entries_of page.rows.items ++ entries_in ps)) (none_past pages place long)
+      ∙ ap (λ (es : Entries). entries_in (take place pages) ++ es) (append-nil (entries_of page.rows.items))
+
+  -- a name after the last row is after all of them
+  pub after_all : (o : List ℕ) (page : Page) (k : ℕ) (row : VarBind) → ArePages pages → slice_get pages place ≡ Some page → length page.rows.items ≡ k + 1
+      → slice_get page.rows.items k ≡ Some row → slice_cmp nat_cmp row.name o ≡ Less → IsAfterAll o (entries_in pages)
+  after_all o page k row rising at rows_long row_at less =
+      let front : Entries = entries_in (take place pages) ++ entries_of (take k page.rows.items) in
+      let whole : entries_in pages ≡ front ++ entry_of row ∷ [] =
+      last_parts page at ∙ ap (λ (es : Entries). entries_in (take place pages) ++ es) (last_entry page.rows.items k row rows_long row_at)
+      ∙ sym (append_assoc (entries_in (take place pages)) (entries_of (take k page.rows.items)) (entry_of row ∷ [])) in
+      subst (IsAfterAll o) (sym whole) (after_last o front (entry_of row) (subst IsSorted whole rising) less)
+
+  -- a row appended to the last page
+  pub appended : (found new : Page) (row : VarBind) → found ≡ slice_index_or pages place found → new.rows.items ≡ found.rows.items ++ row ∷ []
+      → entries_in (slice_set pages place new) ≡ entries_in pages ++ entry_of row ∷ []
+  appended found new row read same =
+      let low : place < length pages = omega (arith, long) in
+      let front : Entries = entries_in (take place pages) in
+      let held : Entries = entries_of found.rows.items in
+      set-parts pages place new low
+      ∙ ap (λ (ps : List Page). front ++ (entries_of new.rows.items ++ entries_in ps)) (none_past pages place long)
+      ∙ ap (λ (es : Entries). front ++ es) (append-nil (entries_of new.rows.items) ∙ ap entries_of same ∙ rows-append found.rows.items (row ∷ []))
+      ∙ sym (append_assoc front held (entry_of row ∷ []))
+      ∙ ap (λ (es : Entries). es ++ entry_of row ∷ []) (sym (last_parts found (read_at pages place found low read)))
+
+-- a page of one row appended
+pub appended_page : (old new : List Page) (page : Page) (row : VarBind) → new ≡ old ++ page ∷ [] → page.rows.items ≡ row ∷ []
+    → entries_in new ≡ entries_in old ++ entry_of row ∷ []
+appended_page old new page row pushed rows =
+    ap entries_in pushed ∙ pages-append old (page ∷ []) ∙ ap (λ (rs : List VarBind). entries_in old ++ (entries_of rs ++ [])) rows
+
 -- ---- a row put into its page
-
-pub first_page : (old new : List Page) (page : Page) (kept : EncodedRow) (row : Row) → length old ≤ 0 → new ≡ old ++ page ∷ [] → page.rows.items ≡ kept ∷ []
-    → kept.row ≡ row → entries_in new ≡ put (slice_cmp nat_cmp) row.name.items (datum_of row.value) (entries_in old)
-first_page [] new page kept row none pushed rows same =
-    ap entries_in pushed ∙ ap (λ (rs : List EncodedRow). entries_of rs ++ []) rows ∙ ap (λ (r : Row). entry_of r ∷ []) same
-first_page (p ∷ old) new page kept row none pushed rows same = absurd (omega (arith, none))
-
-pub none_named : (o : List ℕ) (old : List Page) → length old ≤ 0 → false ≡ has_name o (entries_in old)
-none_named o [] none = refl
-none_named o (p ∷ old) none = absurd (omega (arith, none))
 
 module _ (o : List ℕ) (pages : List Page) (place : ℕ) (w : IsPageWithRoom o pages place) (found : Page) (read : found ≡ slice_index_or pages place found) where
   is_page : found ≡ w.page

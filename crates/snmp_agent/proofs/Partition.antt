@@ -6,15 +6,14 @@ use Rattle.std.specs.Cmp.{upto}
 use Rattle.std.specs.Cmp.Lexicographic.{slice_cmp, nat_list_cmp_total}
 use Rattle.std.specs.List.{AllWithin}
 use Rattle.std.specs.List.Sorted.{IsPartitionedBy}
-use Rattle.snmp_wire.specs.Message.{Datum}
-use Rattle.snmp_agent.specs.declared.table.encoded.EncodedRow.{EncodedRow}
+use Rattle.snmp_wire.specs.Message.{Datum, VarBind}
 use Rattle.snmp_agent.specs.declared.table.page.Page.{Page}
 use Rattle.snmp_agent.specs.table.Places.{IsAfterAll, IsBeforeNone, IsBeforeAll}
 use Rattle.snmp_agent.specs.table.Pages.{ArePages, IsPageOf, IsRising, IsSorted, begins_up_to, entries_in, entries_of, is_up_to}
 use Rattle.snmp_agent.proofs.Rising.{turned, same_name, before_all, rising_rest, first_of_both, second_of_both}
 
-before_at : (o : List ℕ) (rows : List EncodedRow) → IsBeforeAll o (entries_of rows) → (j : ℕ) (d : EncodedRow) → j < length rows
-    → slice_cmp nat_cmp o (slice_index_or rows j d).row.name.items ≡ Less
+before_at : (o : List ℕ) (rows : List VarBind) → IsBeforeAll o (entries_of rows) → (j : ℕ) (d : VarBind) → j < length rows
+    → slice_cmp nat_cmp o (slice_index_or rows j d).name ≡ Less
 before_at o [] h j d low = absurd (omega (arith, low))
 before_at o (row ∷ rows) h zero d low = h.0
 before_at o (row ∷ rows) h (suc j) d low = before_at o rows h.1 j d (omega (arith, low))
@@ -36,11 +35,11 @@ up_to_earlier o p q less h =
           let yes : is_gt (slice_cmp nat_cmp p o) ≡ true = ap is_gt is in absurd (cc)
     ] refl
 
-pub partitioned : (o : List ℕ) (rows : List EncodedRow) → IsRising rows → IsPartitionedBy (is_up_to o) rows
+pub partitioned : (o : List ℕ) (rows : List VarBind) → IsRising rows → IsPartitionedBy (is_up_to o) rows
 partitioned o [] rising i j d order low h = absurd (omega (arith, low))
 partitioned o (row ∷ rows) rising zero zero d order low h = h
 partitioned o (row ∷ rows) rising zero (suc j) d order low h =
-    up_to_earlier o row.row.name.items _ (before_at row.row.name.items rows (before_all row.row.name.items (entries_of rows) (first_of_both _ _ rising)) j d (omega
+    up_to_earlier o row.name _ (before_at row.name rows (before_all row.name (entries_of rows) (first_of_both _ _ rising)) j d (omega
     (arith, low))) h
 partitioned o (row ∷ rows) rising (suc i) zero d order low h = absurd (omega (arith, order))
 partitioned o (row ∷ rows) rising (suc i) (suc j) d order low h = partitioned o rows (second_of_both _ _ rising) i j d (omega (arith, order)) (omega
@@ -57,23 +56,23 @@ is_behind o p h =
       | Greater ↦ λ is _. turned p o Greater is
     ] refl h
 
-pub passed_front : (o : List ℕ) (rows : List EncodedRow) (place : ℕ) → AllWithin (λ row. is_up_to o row ≡ true) rows 0 place → place ≤ length rows
+pub passed_front : (o : List ℕ) (rows : List VarBind) (place : ℕ) → AllWithin (λ row. is_up_to o row ≡ true) rows 0 place → place ≤ length rows
     → IsBeforeNone o (entries_of (take place rows))
 passed_front o [] zero h low = tt
 passed_front o [] (suc place) h low = tt
 passed_front o (row ∷ rows) zero h low = tt
 passed_front o (row ∷ rows) (suc place) h low = (
-  not_behind o row.row.name.items (h 0 row (omega arith) (omega arith)),
+  not_behind o row.name (h 0 row (omega arith) (omega arith)),
   passed_front o rows place (λ k d from below. h (suc k) d (omega arith) (omega
       (arith, below))) (omega (arith, low)),
 )
 
-pub ahead_back : (o : List ℕ) (rows : List EncodedRow) (place : ℕ) → AllWithin (λ row. is_up_to o row ≡ false) rows place (length rows)
+pub ahead_back : (o : List ℕ) (rows : List VarBind) (place : ℕ) → AllWithin (λ row. is_up_to o row ≡ false) rows place (length rows)
     → IsBeforeAll o (entries_of (drop place rows))
 ahead_back o [] zero h = tt
 ahead_back o [] (suc place) h = tt
 ahead_back o (row ∷ rows) zero h = (
-  is_behind o row.row.name.items (h 0 row (omega arith) (omega arith)),
+  is_behind o row.name (h 0 row (omega arith) (omega arith)),
   ahead_back o rows zero (λ k d from below. h (suc k) d (omega arith) (omega
       (arith, below))),
 )
@@ -118,10 +117,10 @@ before_up_to q p o less h =
     ] refl h
 
 -- a name before all of the pages comes before one up to which a page begins
-begins_behind : (q o : List ℕ) (rows : List EncodedRow) → 1 ≤ length rows → IsBeforeAll q (entries_of rows) → begins_up_to o rows ≡ true
+begins_behind : (q o : List ℕ) (rows : List VarBind) → 1 ≤ length rows → IsBeforeAll q (entries_of rows) → begins_up_to o rows ≡ true
     → slice_cmp nat_cmp q o ≡ Less
 begins_behind q o [] some h begins = absurd (omega (arith, some))
-begins_behind q o (row ∷ rows) some h begins = before_up_to q row.row.name.items o h.0 begins
+begins_behind q o (row ∷ rows) some h begins = before_up_to q row.name o h.0 begins
 
 page_behind : (q o : List ℕ) (pages : List Page) → IsBeforeAll q (entries_in pages) → (j : ℕ) (d : Page) → j < length pages
     → begins_up_to o (slice_index_or pages j d).rows.items ≡ true → slice_cmp nat_cmp q o ≡ Less
@@ -131,12 +130,12 @@ page_behind q o (page ∷ pages) h zero d low begins =
 page_behind q o (page ∷ pages) h (suc j) d low begins =
     page_behind q o pages (before_rest q (entries_of page.rows.items) (entries_in pages) h) j d (omega (arith, low)) begins
 
-first_up_to : (o : List ℕ) (rows : List EncodedRow) (pages : List Page) → IsSorted (entries_of rows ++ entries_in pages) → (j : ℕ) (d : Page)
+first_up_to : (o : List ℕ) (rows : List VarBind) (pages : List Page) → IsSorted (entries_of rows ++ entries_in pages) → (j : ℕ) (d : Page)
     → j < length pages → begins_up_to o (slice_index_or pages j d).rows.items ≡ true → begins_up_to o rows ≡ true
 first_up_to o [] pages rising j d low begins = refl
 first_up_to o (row ∷ rows) pages rising j d low begins =
-    ap is_le (page_behind row.row.name.items o pages (before_rest row.row.name.items (entries_of rows) (entries_in pages)
-    (before_all row.row.name.items (entries_of rows ++ entries_in pages) (first_of_both _ _ rising))) j d low begins)
+    ap is_le (page_behind row.name o pages (before_rest row.name (entries_of rows) (entries_in pages)
+    (before_all row.name (entries_of rows ++ entries_in pages) (first_of_both _ _ rising))) j d low begins)
 
 pub pages_partitioned : (o : List ℕ) (pages : List Page) → ArePages pages → IsPartitionedBy (λ page. begins_up_to o page.rows.items) pages
 pages_partitioned o [] rising i j d order low h = absurd (omega (arith, low))
@@ -146,14 +145,14 @@ pages_partitioned o (page ∷ pages) rising (suc i) zero d order low h = absurd 
 pages_partitioned o (page ∷ pages) rising (suc i) (suc j) d order low h =
     pages_partitioned o pages (rising_rest (entries_of page.rows.items) (entries_in pages) rising) i j d (omega (arith, order)) (omega (arith, low)) h
 
-pub rows_passed : (o : List ℕ) (rows : List EncodedRow) (pages : List Page) → IsSorted (entries_of rows ++ entries_in pages) → (j : ℕ) (d : Page)
+pub rows_passed : (o : List ℕ) (rows : List VarBind) (pages : List Page) → IsSorted (entries_of rows ++ entries_in pages) → (j : ℕ) (d : Page)
     → j < length pages → begins_up_to o (slice_index_or pages j d).rows.items ≡ true → IsAfterAll o (entries_of rows)
 rows_passed o [] pages rising j d low begins = tt
 rows_passed o (row ∷ rows) pages rising j d low begins =
-    let less : slice_cmp nat_cmp row.row.name.items o ≡ Less = page_behind row.row.name.items o pages
-    (before_rest row.row.name.items (entries_of rows) (entries_in pages)
-    (before_all row.row.name.items (entries_of rows ++ entries_in pages) (first_of_both _ _ rising))) j d low begins in
-    (turned row.row.name.items o Less less, rows_passed o rows pages (second_of_both _ _ rising) j d low begins)
+    let less : slice_cmp nat_cmp row.name o ≡ Less = page_behind row.name o pages
+    (before_rest row.name (entries_of rows) (entries_in pages)
+    (before_all row.name (entries_of rows ++ entries_in pages) (first_of_both _ _ rising))) j d low begins in
+    (turned row.name o Less less, rows_passed o rows pages (second_of_both _ _ rising) j d low begins)
 
 -- the name comes after the pages before one that begins up to it
 pages_passed : (o : List ℕ) (pages : List Page) → ArePages pages → (n : ℕ) (d : Page) → n < length pages
@@ -165,12 +164,12 @@ pages_passed o (page ∷ pages) rising (suc n) d low begins =
     (pages_passed o pages (rising_rest (entries_of page.rows.items) (entries_in pages) rising) n d (omega (arith, low)) begins)
 
 -- it comes before rows whose first it comes before, and before all behind them
-pub rows_ahead : (o : List ℕ) (rows : List EncodedRow) (more : List (List ℕ × Datum)) → IsSorted (entries_of rows ++ more) → begins_up_to o rows ≡ false
+pub rows_ahead : (o : List ℕ) (rows : List VarBind) (more : List (List ℕ × Datum)) → IsSorted (entries_of rows ++ more) → begins_up_to o rows ≡ false
     → IsBeforeAll o (entries_of rows ++ more)
 rows_ahead o [] more rising begins = absurd (cc)
 rows_ahead o (row ∷ rows) more rising begins =
-    let less : slice_cmp nat_cmp o row.row.name.items ≡ Less = is_behind o row.row.name.items begins in
-    (less, before_more o row.row.name.items (entries_of rows ++ more) less (before_all row.row.name.items (entries_of rows ++ more) (first_of_both _ _ rising)))
+    let less : slice_cmp nat_cmp o row.name ≡ Less = is_behind o row.name begins in
+    (less, before_more o row.name (entries_of rows ++ more) less (before_all row.name (entries_of rows ++ more) (first_of_both _ _ rising)))
 
 pages_ahead : (o : List ℕ) (pages : List Page) (n : ℕ) → ArePages pages → AllWithin (λ page. begins_up_to o page.rows.items ≡ false) pages n (length pages)
     → IsBeforeAll o (entries_in (drop n pages))

@@ -4,12 +4,12 @@ use Rattle.std.proofs.Common.{IfSome, IfNone, slice_set}
 use Rattle.snmp_oid.specs.Identifier.{IsWire}
 use Rattle.snmp_wire.specs.Message.{Datum, VarBind}
 use Rattle.snmp_wire.specs.Message.Datum.{end_of_mib_view}
-use Rattle.snmp_agent.specs.table.Table.{MibView, IsMibView, IsRow, IsInstanceValue, IsNext, IsNextAfter}
+use Rattle.snmp_agent.specs.table.Table.{MibView, IsMibView, IsInstanceValue, IsNext, IsNextAfter}
 use Rattle.snmp_agent.specs.table.Places.{var_of}
 use Rattle.snmp_agent.specs.table.Pages.{AreBehind}
 use Rattle.snmp_agent.specs.Reply.{AreEnds}
 use Rattle.snmp_agent.specs.Answering.{AreGiven}
-use Rattle.snmp_agent.specs.Standing.{Standing, Stands, AreStanding, AreWireNames, AreAtEnd, first_name, next_at, passed}
+use Rattle.snmp_agent.specs.Standing.{Standing, Stands, AreStanding, AreWireNames, AreAtEnd, next_at, passed}
 use Rattle.snmp_agent.proofs.Answering.{next_name}
 use Rattle.snmp_agent.proofs.Following.{IsOrder, first_next, end_next, behind_first, first_row}
 
@@ -89,16 +89,13 @@ at_end view place mib behind end = by_rows place.name place.rows behind end
 
 -- ---- several names
 
--- where the first of the bindings stands before all rounds
-pub stands_first : (view : MibView) (bindings more : List VarBind) (p : VarBind) (place : Standing) → bindings ≡ p ∷ more → IsWire p.name
-    → place.name ≡ first_name bindings → AreBehind view p.name place.rows → Stands view 0 p.name place
-stands_first view bindings more p place first wire name behind =
-    let same : place.name ≡ p.name = name ∙ ap first_name first in
-    record {
-      wire = subst IsWire (sym same) wire;
-      behind = subst (λ (o : List ℕ). AreBehind view o place.rows) (sym same) behind;
-      chain = λ q is. subst (λ (o : List ℕ). IsNext view o q) same is;
-    }
+-- where a name stands before all rounds
+pub stands_first : (view : MibView) (o : List ℕ) (place : Standing) → IsWire o → place.name ≡ o → AreBehind view o place.rows → Stands view 0 o place
+stands_first view o place wire same behind = record {
+  wire = subst IsWire (sym same) wire;
+  behind = subst (λ (p : List ℕ). AreBehind view p place.rows) (sym same) behind;
+  chain = λ q is. subst (λ (p : List ℕ). IsNext view p q) same is;
+}
 
 pub standing_pushed : (view : MibView) (round : ℕ) (names : List VarBind) (places : List Standing) (p : VarBind) (place : Standing)
     → AreStanding view round names places → Stands view round p.name place → AreStanding view round (names ++ p ∷ []) (places ++ place ∷ [])

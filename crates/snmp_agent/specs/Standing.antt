@@ -1,6 +1,6 @@
 -- Where the names that repeat in a GetBulk stand among the variables of a view. No clause of a
 -- public call is stated by these.
-use Rattle.std.specs.Prelude.{◌≡◌, ℕ, ◌+◌, List, [], ◌∷◌, map}
+use Rattle.std.specs.Prelude.{◌≡◌, ℕ, List, [], ◌∷◌, map}
 use Rattle.snmp_oid.specs.Identifier.{IsWire}
 use Rattle.snmp_wire.specs.Message.{Datum, VarBind, end_of_mib_view}
 use Rattle.snmp_agent.specs.table.Table.{MibView, IsNext, IsNextAfter}
@@ -11,16 +11,11 @@ use Rattle.snmp_agent.specs.declared.bulk.Progress.TheVariants as progress
 use Rattle.snmp_agent.specs.declared.place.Given.{Given}
 use Rattle.snmp_agent.specs.declared.place.Given.TheVariants as given
 
--- the name of the first binding, or that of no numbers where there is none
-abbrev pub first_name : List VarBind → List ℕ
-first_name [] = []
-first_name (p ∷ more) = p.name
-
 -- the name of what was given last
 abbrev pub name_of : Given → List ℕ
 name_of given.Nothing = []
-name_of (given.Asked bindings) = first_name bindings
-name_of (given.Row row) = row.now.row.name.items
+name_of (given.Asked name) = name
+name_of (given.Row row) = row.now.name
 
 -- a name, and the variables behind it
 pub record Standing : Type 0 where

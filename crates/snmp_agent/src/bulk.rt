@@ -4,11 +4,12 @@
 //! first that has no room.
 ghost use Rattle.std.specs.Prelude.{◌≡◌, ◌≤◌, ◌↔◌, List, [], ◌∷◌, ◌++◌, length, take, drop};
 ghost use Rattle.std.specs.Prelude.{map, IsTrue};
-ghost use Rattle.snmp_wire.specs.Message.{VarBind, datum, var_bind, end_of_mib_view};
+ghost use Rattle.snmp_wire.specs.Message.{VarBind, datum, end_of_mib_view};
 ghost use Rattle.snmp_agent.specs.Reply.{IsBulk, joined, or_zero};
 ghost use Rattle.snmp_agent.specs.Answering.{IsWritable, AreWritable, HoldsFront, AreGiven};
 ghost use Rattle.snmp_agent.specs.Answering.{IsProgress, Leaves, HasRow, AreRoundsFrom};
-ghost use Rattle.snmp_agent.specs.Standing.{Stands, AreStanding, AreWireNames, AreAtEnd};
+ghost use Rattle.snmp_oid.specs.Identifier.{IsWire};
+ghost use Rattle.snmp_agent.specs.Standing.{AreStanding, AreWireNames, AreAtEnd};
 ghost use Rattle.snmp_agent.specs.Standing.{AreMoved, next_at};
 
 use crate::draft::{Draft, append_next, blank};
@@ -16,7 +17,7 @@ use crate::place::Place;
 use crate::table::{Table, one_answer};
 use arrayvec::ArrayVec;
 use snmp_oid::order;
-use snmp_wire::{Binding, Bindings, MAX_DATAGRAM, MessageRef, ValueRef};
+use snmp_wire::{BindingRef, Bindings, MAX_DATAGRAM, MessageRef, ValueRef};
 
 /// How many names keep their places from one round to the next, at most.
 const MAX_PLACES: usize = 64;
@@ -80,16 +81,15 @@ fn append_singles<'a>(
 {
     one_answer();
     let mut total = draft.total;
-    let mut asked = blank();
     'singles: for _ in 0..count {
-        if !bindings.read_next(&mut asked) {
+        let Some(asked) = bindings.next_ref() else {
             return Progress::Open(total);
-        }
+        };
         let written = Draft {
             room: draft.room,
             total,
         };
-        match append_next(table, &mut asked, written, out) {
+        match append_next(table, &asked, written, out) {
             Some(end) => total = end,
             None => return Progress::Closed(total),
         }
@@ -112,35 +112,31 @@ fn append_repeaters<'a>(
         × HoldsFront draft.room draft.total out.old (joined rounds) result out.new }
 {
     let mut others = bindings.left();
-    let mut first = blank();
-    if others.read_next(&mut first) && others.next().is_none() {
-        let place = Place::new(table, bindings, &first.name);
-        append_column(table, repetitions, &first, place, draft, out)
-    } else {
-        append_columns(table, repetitions, bindings, draft, out)
+    match (others.next_ref(), others.next_ref()) {
+        (Some(only), None) => append_column(table, repetitions, only, draft, out),
+        _ => append_columns(table, repetitions, bindings, draft, out),
     }
 }
 
-/// Writes the rounds of one binding, which stands at this place, as a walk asks for them: each
-/// begins where the one before ended, and nothing is searched.
+/// Writes the rounds of one binding, as a walk asks for them: each begins where the one before
+/// ended, and nothing is searched.
 fn append_column<'a>(
     table: &'a Table,
     repetitions: usize,
-    binding: &Binding<'a>,
-    place: Place<'a>,
+    asked: BindingRef<'a>,
     draft: Draft,
     out: &mut [u8; MAX_DATAGRAM],
 ) -> usize
-    requires { Stands table.now 0 binding.now.name place }
+    requires { IsWire asked.name }
     ensures { (rounds : List (List VarBind))
-        × AreRoundsFrom table.now (var_bind binding.now ∷ []) 0 repetitions rounds
+        × AreRoundsFrom table.now (asked.entry ∷ []) 0 repetitions rounds
         × HoldsFront draft.room draft.total out.old (joined rounds) result out.new }
 {
     one_answer();
     order();
     table.is_mib_view();
     let mut total = draft.total;
-    let mut place = place;
+    let mut place = Place::new(table, asked.name());
     'rounds: for _ in 0..repetitions {
         let is_last = place.is_at_end();
         let written = Draft {
@@ -174,13 +170,13 @@ fn append_columns<'a>(
 {
     let mut others = bindings.left();
     let mut places = ArrayVec::new();
-    let mut more = blank();
     keep_places(table, &mut others, &mut places);
-    if others.read_next(&mut more) {
-        append_rounds(table, repetitions, bindings, draft, out)
-    } else {
-        let places = places.as_mut_slice();
-        append_kept_rounds(table, repetitions, &bindings, places, draft, out)
+    match others.next_ref() {
+        Some(_) => append_rounds(table, repetitions, bindings, draft, out),
+        None => {
+            let places = places.as_mut_slice();
+            append_kept_rounds(table, repetitions, &bindings, places, draft, out)
+        }
     }
 }
 
@@ -196,13 +192,11 @@ fn keep_places<'a>(
     ensures { (names : List VarBind) × (bindings.old ≡ names ++ bindings.new)
         × AreStanding table.now 0 names places.new.items }
 {
-    let mut asked = blank();
     'names: while !places.is_full() {
-        let from = bindings.left();
-        if !bindings.read_next(&mut asked) {
+        let Some(asked) = bindings.next_ref() else {
             return;
-        }
-        places.push(Place::new(table, from, &asked.name));
+        };
+        places.push(Place::new(table, asked.name()));
     }
 }
 
@@ -310,10 +304,9 @@ fn append_round<'a>(
     one_answer();
     let mut total = draft.total;
     let mut over = true;
-    let mut asked = blank();
     let mut given = blank();
-    'bindings: while bindings.read_next(&mut asked) {
-        table.read_next_after(&asked.name, round, &mut given);
+    'bindings: while let Some(asked) = bindings.next_ref() {
+        table.read_next_after(&asked.name(), round, &mut given);
         let written = Draft {
             room: draft.room,
             total,

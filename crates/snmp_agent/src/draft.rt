@@ -12,11 +12,12 @@ ghost use Rattle.snmp_agent.specs.Answering.{whole_size, IsAppended, IsTooLong};
 ghost use Rattle.snmp_agent.specs.table.Table.{IsGet, IsNext};
 
 use crate::config::Config;
-use crate::table::{EncodedRow, Table, one_answer};
+use crate::place::{Given, append_end};
+use crate::table::{Table, one_answer};
 use snmp_oid::order;
 use snmp_wire::{
-    Binding, Bindings, Kind, MAX_DATAGRAM, Oid, Parts, ValueRef, element_sizes, encode_binding,
-    head_size, message_sizes,
+    Binding, BindingRef, Bindings, EncodedBinding, EncodedName, Kind, MAX_DATAGRAM, Oid, Parts,
+    ValueRef, element_sizes, encode_binding, head_size, message_sizes,
 };
 
 /// Writes the bindings of the reply to a request to the front of `out`, and returns how many octets
@@ -44,10 +45,9 @@ pub fn append_answers<'a>(
     message_sizes();
     let room = room_for_bindings(parts, config.max_size)?;
     let mut total = 0;
-    let mut binding = blank();
-    'bindings: while bindings.read_next(&mut binding) {
+    'bindings: while let Some(asked) = bindings.next_ref() {
         let draft = Draft { room, total };
-        total = append_answer(table, kind, &mut binding, draft, out)?;
+        total = append_answer(table, kind, &asked, draft, out)?;
     }
     Some(total)
 }
@@ -66,73 +66,101 @@ pub fn blank<'a>() -> Binding<'a>
 /// Writes what the reply to a request of this kind has for one of its bindings after those of the
 /// draft: for a Get the variable of its name, for a GetNext the one after it, and for a Set the
 /// binding itself. None, and nothing is written, where there is no room for it.
-fn append_answer<'a>(
-    table: &'a Table,
+fn append_answer(
+    table: &Table,
     kind: Kind,
-    binding: &mut Binding<'a>,
+    asked: &BindingRef<'_>,
     draft: Draft,
     out: &mut [u8; MAX_DATAGRAM],
 ) -> Option<usize>
     requires paired { IsPaired kind }
-    requires writable { IsWritable (var_bind binding.old) }
-    ensures written { IfSome result (λ n. (p : VarBind)
-        × IsAnswer table.now kind (var_bind binding.old) p
+    requires writable { IsWritable asked.now }
+    ensures written { IfSome result (λ n. (p : VarBind) × IsAnswer table.now kind asked.now p
         × IsAppended draft.room draft.total out.old p n out.new) }
-    ensures too_long { IfNone result ((p : VarBind)
-        × IsAnswer table.now kind (var_bind binding.old) p
+    ensures too_long { IfNone result ((p : VarBind) × IsAnswer table.now kind asked.now p
         × IsTooLong draft.room draft.total p) }
 {
     match kind {
-        Kind::GetRequest => append_get(table, binding, draft, out),
-        Kind::GetNextRequest => append_next(table, binding, draft, out),
-        _ => draft.append(out, binding),
+        Kind::GetRequest => append_get(table, asked, draft, out),
+        Kind::GetNextRequest => append_next(table, asked, draft, out),
+        _ => append_same(asked, draft, out),
     }
 }
 
 /// Writes what a Get of a binding's name gives, as [`append_answer`] does.
-fn append_get<'a>(
-    table: &'a Table,
-    binding: &mut Binding<'a>,
+fn append_get(
+    table: &Table,
+    asked: &BindingRef<'_>,
     draft: Draft,
     out: &mut [u8; MAX_DATAGRAM],
 ) -> Option<usize>
-    requires { IsWritable (var_bind binding.old) }
-    ensures written { IfSome result (λ n. (p : VarBind) × IsGet table.now binding.old.name p
+    requires { IsWritable asked.now }
+    ensures written { IfSome result (λ n. (p : VarBind) × IsGet table.now asked.now.name p
         × IsAppended draft.room draft.total out.old p n out.new) }
-    ensures too_long { IfNone result ((p : VarBind) × IsGet table.now binding.old.name p
+    ensures too_long { IfNone result ((p : VarBind) × IsGet table.now asked.now.name p
         × IsTooLong draft.room draft.total p) }
 {
-    match table.row(&binding.name) {
+    match table.row(&asked.name()) {
         Some(row) => draft.append_row(out, row),
-        None => {
-            binding.value = table.get(&binding.name);
-            draft.append(out, binding)
-        }
+        None => append_got(table, asked, draft, out),
     }
 }
 
-/// Writes what a GetNext of a binding's name gives, as [`append_answer`] does.
-pub fn append_next<'a>(
-    table: &'a Table,
-    binding: &mut Binding<'a>,
+/// The same, whatever a Get gives. Not inlined: its binding, of over a thousand octets, is set to
+/// zeros as the function begins.
+#[inline(never)]
+fn append_got(
+    table: &Table,
+    asked: &BindingRef<'_>,
     draft: Draft,
     out: &mut [u8; MAX_DATAGRAM],
 ) -> Option<usize>
-    requires { IsWritable (var_bind binding.old) }
-    ensures written { IfSome result (λ n. (p : VarBind) × IsNext table.now binding.old.name p
+    requires { IsWritable asked.now }
+    ensures written { IfSome result (λ n. (p : VarBind) × IsGet table.now asked.now.name p
         × IsAppended draft.room draft.total out.old p n out.new) }
-    ensures too_long { IfNone result ((p : VarBind) × IsNext table.now binding.old.name p
+    ensures too_long { IfNone result ((p : VarBind) × IsGet table.now asked.now.name p
+        × IsTooLong draft.room draft.total p) }
+{
+    let mut binding = blank();
+    asked.name().read_into(&mut binding.name);
+    binding.value = table.get(&binding.name);
+    draft.append(out, &binding)
+}
+
+/// Writes what a GetNext of a binding's name gives, as [`append_answer`] does.
+pub fn append_next(
+    table: &Table,
+    asked: &BindingRef<'_>,
+    draft: Draft,
+    out: &mut [u8; MAX_DATAGRAM],
+) -> Option<usize>
+    requires { IsWritable asked.now }
+    ensures written { IfSome result (λ n. (p : VarBind) × IsNext table.now asked.now.name p
+        × IsAppended draft.room draft.total out.old p n out.new) }
+    ensures too_long { IfNone result ((p : VarBind) × IsNext table.now asked.now.name p
         × IsTooLong draft.room draft.total p) }
     ensures unchanged_on_none { IfNone result (out.new ≡ out.old) }
 {
     order();
-    match table.after(&binding.name).next_row() {
+    let name = asked.name();
+    match table.after(&name).next_row() {
         Some(row) => draft.append_row(out, row),
-        None => {
-            binding.value = ValueRef::EndOfMibView;
-            draft.append(out, binding)
-        }
+        None => append_end(&Given::Asked(name), draft, out),
     }
+}
+
+/// Writes a binding of a request as it was asked, as [`append_answer`] does. Not inlined: its copy,
+/// of over a thousand octets, is set to zeros as the function begins.
+#[inline(never)]
+fn append_same(asked: &BindingRef<'_>, draft: Draft, out: &mut [u8; MAX_DATAGRAM]) -> Option<usize>
+    requires { IsWritable asked.now }
+    ensures written { IfSome result (λ n.
+        IsAppended draft.room draft.total out.old asked.now n out.new) }
+    ensures too_long { IfNone result (IsTooLong draft.room draft.total asked.now) }
+{
+    let mut binding = blank();
+    asked.read_into(&mut binding);
+    draft.append(out, &binding)
 }
 
 /// The bindings of a reply that is being written, in the front of an output.
@@ -151,19 +179,16 @@ impl Draft {
     ghost use Rattle.snmp_wire.specs.Message.{var_bind};
     ghost use Rattle.snmp_wire.specs.Canon.{canon_binding};
     ghost use Rattle.snmp_agent.specs.Answering.{IsWritable, IsAppended, IsTooLong};
-    ghost use Rattle.snmp_agent.specs.table.Row.{entry_of};
-    ghost use Rattle.snmp_agent.specs.table.Places.{var_of};
 
     /// Writes a row after the others, as [`Draft::append`] does, by a copy of its octets.
     #[inline]
-    pub fn append_row(self, out: &mut [u8; MAX_DATAGRAM], row: &EncodedRow) -> Option<usize>
+    pub fn append_row(self, out: &mut [u8; MAX_DATAGRAM], row: &EncodedBinding) -> Option<usize>
         ensures written { IfSome result (λ n. IsAppended self.room self.total out.old
-            (var_of (entry_of row.now.row)) n out.new) }
-        ensures too_long { IfNone result (IsTooLong self.room self.total
-            (var_of (entry_of row.now.row))) }
+            row.now n out.new) }
+        ensures too_long { IfNone result (IsTooLong self.room self.total row.now) }
         ensures unchanged_on_none { IfNone result (out.new ≡ out.old) }
     {
-        self.append_octets(out, row.octets.as_slice())
+        self.append_octets(out, row.octets())
     }
 
     /// Writes octets after the others, and returns how many there are then. None, and nothing is

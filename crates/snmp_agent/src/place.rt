@@ -6,8 +6,8 @@ ghost use Rattle.snmp_agent.specs.Answering.{IsAppended, IsTooLong};
 ghost use Rattle.snmp_agent.specs.Standing.{name_of};
 
 use crate::draft::{Draft, blank};
-use crate::table::{EncodedRow, Successors, Table};
-use snmp_wire::{Bindings, MAX_DATAGRAM, Oid, ValueRef};
+use crate::table::{Successors, Table};
+use snmp_wire::{EncodedBinding, EncodedName, MAX_DATAGRAM, ValueRef};
 use std::marker::Model;
 
 /// What a name was given last.
@@ -15,10 +15,10 @@ use std::marker::Model;
 pub enum Given<'a> {
     /// Nothing, and there is no name.
     Nothing,
-    /// Nothing: it is the name of the first of these bindings of a request.
-    Asked(Bindings<'a>),
+    /// Nothing: it is the name that a request asks from.
+    Asked(EncodedName<'a>),
     /// A row.
-    Row(&'a EncodedRow),
+    Row(&'a EncodedBinding),
 }
 
 /// Where a name that repeats stands.
@@ -55,17 +55,18 @@ impl<'a> Place<'a> {
     ghost use Rattle.std.specs.Prelude.{◌≡◌, ◌↔◌, [], IfSome, IfNone, IsTrue};
     ghost use Rattle.snmp_oid.specs.Identifier.{IsWire};
     ghost use Rattle.snmp_agent.specs.Answering.{IsAppended, IsTooLong};
-    ghost use Rattle.snmp_agent.specs.Standing.{first_name, next_at, passed};
+    ghost use Rattle.snmp_agent.specs.Standing.{next_at, passed};
     ghost use Rattle.snmp_agent.specs.table.Pages.{AreBehind};
 
-    /// The place of the first of these bindings of a request, whose name this is.
-    pub fn new(table: &'a Table, asked: Bindings<'a>, name: &Oid) -> Place<'a>
-        ensures name { result.name ≡ first_name asked.entry }
-        ensures behind { AreBehind table.now name.now result.rows }
+    /// The place of a name that a request asks from.
+    pub fn new(table: &'a Table, name: EncodedName<'a>) -> Place<'a>
+        ensures name { result.name ≡ name.entry }
+        ensures behind { AreBehind table.now name.entry result.rows }
     {
+        let rows = table.after(&name);
         Place {
-            given: Given::Asked(asked),
-            rows: table.after(name),
+            given: Given::Asked(name),
+            rows,
         }
     }
 
@@ -101,7 +102,7 @@ impl<'a> Place<'a> {
 /// Writes the name of what was given last with `EndOfMibView`, as [`Place::append_next`] does. Not
 /// inlined: its binding, of over a thousand octets, is set to zeros as the function begins.
 #[inline(never)]
-fn append_end(given: &Given<'_>, draft: Draft, out: &mut [u8; MAX_DATAGRAM]) -> Option<usize>
+pub fn append_end(given: &Given<'_>, draft: Draft, out: &mut [u8; MAX_DATAGRAM]) -> Option<usize>
     requires { IsWire (name_of given.now) }
     ensures written { IfSome result (λ n. IsAppended draft.room draft.total out.old
         (record { name = name_of given.now; value = end_of_mib_view }) n out.new) }
@@ -112,10 +113,8 @@ fn append_end(given: &Given<'_>, draft: Draft, out: &mut [u8; MAX_DATAGRAM]) -> 
     let mut binding = blank();
     match given {
         Given::Nothing => {}
-        Given::Asked(bindings) => {
-            let _ = bindings.left().read_next(&mut binding);
-        }
-        Given::Row(row) => row.read_into(&mut binding),
+        Given::Asked(name) => name.read_into(&mut binding.name),
+        Given::Row(row) => row.name().read_into(&mut binding.name),
     }
     binding.value = ValueRef::EndOfMibView;
     draft.append(out, &binding)

@@ -4,7 +4,6 @@
 
 mod change;
 mod draft;
-mod encoded;
 mod error;
 mod format;
 mod laws;
@@ -17,7 +16,6 @@ mod split;
 mod table;
 mod value;
 
-pub use encoded::EncodedRow;
 pub use error::{PutError, TableError};
 pub use format::{NumericNames, Resolver};
 pub use laws::{no_fault, one_answer, one_table, table_of_lines, unmarked_table};

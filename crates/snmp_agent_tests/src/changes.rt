@@ -1,6 +1,6 @@
 //! Rows that are put into a table and removed again.
 
-use crate::table::gives;
+use crate::table::{all_rows, gives};
 use snmp_agent::{PutError, Table};
 use snmp_wire::{Binding, Oid, ValueRef, parse_numeric};
 use std::process::Abort;
@@ -26,7 +26,7 @@ fn assert_rows(rt: &impl Abort, table: &Table, low: u32, high: u32) {
         name: Oid::new(),
         value: ValueRef::Null,
     };
-    let mut rows = table.after(&binding.name);
+    let mut rows = all_rows(table).expect(rt, "rows");
     for number in low..=high {
         rows.advance(&mut binding);
         assert!(rt; is_numbered(&binding, number, number), "no row of {number}");

@@ -1,6 +1,7 @@
 //! Tables of several pages, whose rows are compared with those of a plain map.
 
 use crate::changes::{is_numbered, name_of};
+use crate::table::all_rows;
 use snmp_agent::Table;
 use snmp_wire::{Binding, ValueRef};
 use std::alloc::{AllocError, Global};
@@ -24,7 +25,9 @@ impl Random {
 /// Whether the rows are those of the map, from each number to its value, and no others.
 fn has_rows(table: &Table, map: &BTreeMap<u32, u32>) -> bool {
     let mut binding = Binding::empty();
-    let mut rows = table.after(&binding.name);
+    let Some(mut rows) = all_rows(table) else {
+        return false;
+    };
     for (number, value) in map.iter() {
         rows.advance(&mut binding);
         if !is_numbered(&binding, *number, *value) {

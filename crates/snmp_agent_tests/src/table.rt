@@ -1,7 +1,7 @@
 //! The worked examples of tables: what their lines give, and each fault with its line.
 
 use snmp_agent::{Successors, Table, TableError};
-use snmp_wire::{Binding, Oid, ValueRef, parse_numeric};
+use snmp_wire::{Binding, EncodedName, MAX_CONTENT, Oid, ValueRef, parse_numeric};
 use std::alloc::{AllocError, Global};
 use std::process::Abort;
 
@@ -19,13 +19,24 @@ fn is_variable(binding: &Binding<'_>, name: &[u8], value: ValueRef<'_>) -> bool 
 }
 
 /// What a GetNext of the name gives.
-fn next<'a>(table: &'a Table, name: &Oid) -> Binding<'a> {
-    let mut binding = Binding {
-        name: Oid::new(),
-        value: ValueRef::Null,
-    };
+fn next<'a>(table: &'a Table, name: &EncodedName<'_>) -> Binding<'a> {
+    let mut binding = Binding::empty();
     table.read_next_after(name, 0, &mut binding);
     binding
+}
+
+/// The rows behind the name, if it has an encoding.
+fn rows_after<'a>(table: &'a Table, name: &Oid) -> Option<Successors<'a>> {
+    if !name.is_wire() {
+        return None;
+    }
+    let mut content = [0; MAX_CONTENT];
+    Some(table.after(&EncodedName::write(name, &mut content)))
+}
+
+/// All rows: those behind 0.0, which is no row's name.
+pub(crate) fn all_rows<'a>(table: &'a Table) -> Option<Successors<'a>> {
+    Some(table.after(&EncodedName::read(&[0])?))
 }
 
 /// This variable is read `rounds` rows past the one after `from`, into a binding that held the one
@@ -46,12 +57,14 @@ fn assert_read(
 
 fn is_read(table: &Table, from: &[u8], rounds: usize, name: &[u8], value: ValueRef<'_>) -> bool {
     match parse_numeric(from) {
-        Ok(from) => {
+        Ok(from) if from.is_wire() => {
+            let mut content = [0; MAX_CONTENT];
+            let from = EncodedName::write(&from, &mut content);
             let mut binding = next(table, &from);
             table.read_next_after(&from, rounds, &mut binding);
             is_variable(&binding, name, value)
         }
-        Err(_) => false,
+        _ => false,
     }
 }
 
@@ -112,7 +125,7 @@ fn a_binding_walks_along_the_rows(rt: HostRuntime) {
     let name = parse_numeric(ROOT).expect(&rt, "a name");
     let table = Table::read(rt.alloc(), ROWS).expect(&rt, "a table");
     let mut walk = Walk {
-        rows: table.after(&name),
+        rows: rows_after(&table, &name).expect(&rt, "rows"),
         binding: Binding {
             name,
             value: ValueRef::Null,
@@ -325,10 +338,9 @@ pub(crate) fn repeated(
 
 /// The count of numbers of the name after 1.3.6 in the table of the text.
 fn length_of_name(alloc: Global, text: &[u8]) -> Option<usize> {
-    match (Table::read(alloc, text), parse_numeric(b"1.3.6")) {
-        (Ok(table), Ok(root)) => Some(next(&table, &root).name.len()),
-        _ => None,
-    }
+    let table = Table::read(alloc, text).ok()?;
+    let root = EncodedName::read(&[0x2b, 6])?;
+    Some(next(&table, &root).name.len())
 }
 
 #[test]

@@ -62,6 +62,8 @@ impl<W: Write> Output for MachineOutput<W> {
     ghost after_takes = { λ _ _. refl };
 }
 
+/// Writes a front of the piece, and returns its length. None where the write fails, or signals
+/// interrupt it each time.
 fn write_some<W: Write>(to: &mut W, piece: &[u8]) -> Option<usize>
     ensures some { IfSome result (λ n. 0 < length piece.now → 0 < n) }
     ensures within { IfSome result (λ n. n ≤ length piece.now) }

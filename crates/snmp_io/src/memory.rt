@@ -110,6 +110,7 @@ impl Files for MemoryFiles<'_> {
     }
 }
 
+/// The text of the file at a path, if there is one: the first of those.
 fn text_at<'a>(files: &[(&'a str, &'a [u8])], path: &str) -> Option<&'a [u8]>
     ensures { option_map (λ text. text.now) result ≡ held_at files.now path.now }
 {

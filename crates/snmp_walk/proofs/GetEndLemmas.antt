@@ -1,18 +1,21 @@
 -- How a Get ends, and what its bindings and its end are to the names that it asked for.
 use Rattle.std.proofs.Common.{◌≡◌, ◌≢◌, ◌⊎◌, inl, inr, ◌++◌, ◌<◌, ℕ, pos, Bool, true, false, cond, List, [], ◌∷◌, length, map}
 use Rattle.std.proofs.Common.{Result, Ok, Err, refl, sym, ◌∙◌, ap, subst, append_assoc, append-nil, arith}
-use Rattle.std.proofs.lemmas.Bool.{and_parts, eqb-true}
+use Rattle.std.proofs.lemmas.Bool.{and_parts, eqb-true, false≢true}
+use Rattle.std.proofs.lemmas.Bool.Decides.{Decides-and, Decides-not, Decides-like, Decides-int_eq}
 use Rattle.std.specs.Prelude.{not, ◌&&◌, ◌==◌}
-use Rattle.std.specs.Bool.{nat_eq}
+use Rattle.std.specs.Bool.{nat_eq, Decides}
 use Rattle.std.specs.Ordering.{int_eq}
 use Rattle.std.proofs.lemmas.List.{map-append}
-use Rattle.std.specs.Cmp.Lexicographic.{pointwise, same_text}
+use Rattle.std.specs.Cmp.Lexicographic.{pointwise, same_text, bytes_decides}
 use Rattle.snmp_oid.specs.Identifier.{wire}
 use Rattle.snmp_wire.specs.Canon.{canon}
-use Rattle.snmp_wire.specs.Message.{Message, VarBind}
+use Rattle.snmp_wire.specs.Message.{Message, VarBind, end_of_mib_view}
 use Rattle.snmp_walk.specs.Facts.{IsDone}
-use Rattle.snmp_walk.specs.Get.{AreForNames, IsEndOfGet, IsReasonOfGet, answers_of, are_for}
+use Rattle.snmp_walk.specs.Get.{AreFor, AreForNames, IsEndOfGet, IsReasonOfGet, MeansToGet, answers_of, are_for}
+use Rattle.snmp_walk.specs.Link.{OneOf}
 use Rattle.snmp_walk.specs.Names.{is_end}
+use Rattle.snmp_walk.proofs.JudgedLemmas.{end_decided}
 use Rattle.snmp_walk.specs.Sink.{Given, Took}
 use Rattle.snmp_walk.specs.declared.end.SinkFault.{SinkFault}
 use Rattle.snmp_walk.specs.declared.end.WalkEnd.{WalkEnd}
@@ -68,6 +71,47 @@ read_rows names m rows e = by_cases (int_eq m.a (pos 0)) (are_for names m.bindin
     by_cases true false are is = let no : ⊥ = cc in absurd no
     by_cases false c are is = let no : ⊥ = cc in absurd no
 
+-- whether bindings are for names
+for_more : (o : List ℕ) (names : List (List ℕ)) (p : VarBind) (more : List VarBind) → ((p.name ≡ wire o) × (p.value ≡ end_of_mib_view → ⊥)) × AreFor names more
+    → AreFor (o ∷ names) (p ∷ more)
+for_more o names p more h = record {
+  named = ap (λ (n : List ℕ). n ∷ map wire names) (sym h.0.0) ∙ ap (λ (ns : List (List ℕ)). p.name ∷ ns) h.1.named;
+  values = λ q one. by_place q one;
+}
+  where
+    by_place : (q : VarBind) → OneOf (p ∷ more) q → q.value ≡ end_of_mib_view → ⊥
+    by_place q (inl same) end = h.0.1 (ap (λ (x : VarBind). x.value) (sym same) ∙ end)
+    by_place q (inr one) end = h.1.values q one end
+
+for_fewer : (o : List ℕ) (names : List (List ℕ)) (p : VarBind) (more : List VarBind) → AreFor (o ∷ names) (p ∷ more)
+    → ((p.name ≡ wire o) × (p.value ≡ end_of_mib_view → ⊥)) × AreFor names more
+for_fewer o names p more h =
+    let named = h.named in
+    let name : p.name ≡ wire o = cc in
+    let others : map wire names ≡ map (λ q. q.name) more = cc in
+    ((name, h.values p (inl refl)), record { named = others; values = λ q one. h.values q (inr one) })
+
+for_decided : (names : List (List ℕ)) (bindings : List VarBind) → Decides (are_for names bindings) (AreFor names bindings)
+for_decided [] [] = ((λ _. record { named = refl; values = λ q one. absurd one }), (λ _. refl))
+for_decided [] (p ∷ more) = ((λ e. absurd (false≢true e)), (λ h. let named = h.named in let no : ⊥ = cc in absurd no))
+for_decided (o ∷ names) [] = ((λ e. absurd (false≢true e)), (λ h. let named = h.named in let no : ⊥ = cc in absurd no))
+for_decided (o ∷ names) (p ∷ more) =
+    Decides-like _ (for_more o names p more) (for_fewer o names p more)
+    (Decides-and (pointwise nat_eq p.name (wire o) && not (is_end p.value)) (are_for names more)
+    (Decides-and (pointwise nat_eq p.name (wire o)) (not (is_end p.value)) (bytes_decides p.name (wire o))
+    (Decides-not (is_end p.value) (end_decided p.value))) (for_decided names more))
+
+-- what a reply brings is what it means
+pub means_to_get : (names : List (List ℕ)) (m : Message) (brought : Result (List VarBind) WalkEnd) → answers_of names m ≡ brought
+    → MeansToGet names m brought
+means_to_get names m brought e = by_cases (int_eq m.a (pos 0)) (are_for names m.bindings) (Decides-int_eq m.a (pos 0)) (for_decided names m.bindings) e
+  where
+    by_cases : (b c : Bool) → Decides b (m.a ≡ pos 0) → Decides c (AreFor names m.bindings)
+        → cond b (cond c (Ok m.bindings) (Err ending.BadReply)) (Err (ending.Fault m.a m.b)) ≡ brought → MeansToGet names m brought
+    by_cases true true status are is = subst (MeansToGet names m) is (status.0 refl, are.0 refl, refl)
+    by_cases true false status are is = subst (MeansToGet names m) is (inr (status.0 refl, (λ h. false≢true (are.1 h)), refl))
+    by_cases false c status are is = subst (MeansToGet names m) is (inl ((λ h. false≢true (status.1 h)), refl))
+
 -- how a reply ends a Get
 pub read_end : (names : List (List ℕ)) (m : Message) (end : WalkEnd) → answers_of names m ≡ Err end
     → (end ≡ ending.BadReply) ⊎ ((int_eq m.a (pos 0) ≡ false) × (end ≡ ending.Fault m.a m.b))
@@ -106,17 +150,17 @@ module _ {S : Type 0} (takes : S → VarBind → Result (Unit {0}) SinkFault →
   none_at_all none none_refused = ap (λ (r : List VarBind). r ++ refused) none ∙ none_refused
 
   pub reason_of : GetEnds takes request names From before rows refused end after → Reason end
-  reason_of (gives m from is none given done) = subst Reason (sym done) (m, from, is, none)
-  reason_of (is_refused m p more fault between from is one given turned done) = subst Reason (sym done) (m, p, more, from, is, one)
+  reason_of (gives m from is none given done) = subst Reason (sym done) (m, from, means_to_get names m _ is, none)
+  reason_of (is_refused m p more fault between from is one given turned done) = subst Reason (sym done) (m, p, more, from, means_to_get names m _ is, one)
   reason_of (fails m from is none none_refused same) = by_end (read_end names m end is)
     where
       by_end : (end ≡ ending.BadReply) ⊎ ((int_eq m.a (pos 0) ≡ false) × (end ≡ ending.Fault m.a m.b)) → Reason end
       by_end (inl bad) =
           let read = is ∙ ap Err bad in
-          subst Reason (sym bad) (m, from, read, none_at_all none none_refused)
+          subst Reason (sym bad) (m, from, means_to_get names m _ read, none_at_all none none_refused)
       by_end (inr fault) =
           let read = is ∙ ap Err fault.1 in
-          subst Reason (sym fault.1) (m, from, read, none_at_all none none_refused)
+          subst Reason (sym fault.1) (m, from, means_to_get names m _ read, none_at_all none none_refused)
   reason_of (is_too_long long is none none_refused same) = subst Reason (sym is) (none_at_all none none_refused)
   reason_of (is_silent is none none_refused same) = subst Reason (sym is) (none_at_all none none_refused)
   reason_of (is_cut is none none_refused same) = subst Reason (sym is) (none_at_all none none_refused)

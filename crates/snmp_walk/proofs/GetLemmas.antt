@@ -53,7 +53,7 @@ canon_append : (ps qs : List VarBind) → canon_bindings (ps ++ qs) ≡ canon_bi
 unfolding canon_bindings
 canon_append ps qs = flat_map-append canon_binding ps qs
 
-canon_one : (p : VarBind) → canon_bindings (p ∷ []) ≡ canon_binding p
+pub canon_one : (p : VarBind) → canon_bindings (p ∷ []) ≡ canon_binding p
 unfolding canon_bindings
 canon_one p = append-nil (canon_binding p)
 

@@ -1,10 +1,7 @@
 -- An agent's reply to a Get is awaited, and is its Response.
 use Rattle.std.proofs.Common.{◌≡◌, ℕ, ◌<◌, ◌≤◌, true, List, [], ◌∷◌, length, refl, sym, ◌∙◌, ap, subst, arith, pos}
-use Rattle.std.proofs.lemmas.Bool.{and_from}
-use Rattle.std.proofs.lemmas.Cmp.{int_eq_equiv}
 use Rattle.std.specs.Prelude.{Result}
 use Rattle.std.specs.List.{AllByRecursion}
-use Rattle.std.specs.Cmp.Lexicographic.{nat_list_eq_equiv}
 use Rattle.snmp_oid.specs.Identifier.{wire}
 use Rattle.snmp_wire.specs.Message.{VarBind, Message}
 use Rattle.snmp_wire.specs.Spelling.{Spells}
@@ -22,6 +19,7 @@ use Rattle.snmp_walk.specs.Course.{Heard}
 use Rattle.snmp_walk.specs.Read.{IsRead}
 use Rattle.snmp_walk.specs.Get.{asked_names, get_request, IsBrought}
 use Rattle.snmp_walk.proofs.HonestLemmas.{get_in_range, bindings_within, fits_from}
+use Rattle.snmp_walk.proofs.JudgedLemmas.{response_to_decided}
 use Rattle.snmp_walk.proofs.ViewLemmas.{view_of}
 
 gets_in_range : (view : MibView) → IsMibView view → (names : List (List ℕ)) (bindings : List VarBind) → AllByRecursion IsBindingInRange (asked_names names)
@@ -36,8 +34,8 @@ gets_in_range view good (o ∷ names) (p ∷ bindings) h a =
 module _ (codec : Codec) (community : List ℕ) (id : ℕ) (names : List (List ℕ)) (ranged : IsMessageInRange (get_request community id names)) where
   -- a Response to the request is awaited
   awaited : (a : ℕ) (bindings : List VarBind) → awaits community id (response (get_request community id names) (pos a) (pos 0) bindings) ≡ true
-  awaited a bindings = and_from _ _ (and_from _ _ (and_from _ _ (int_eq_equiv.refl (pos 1)) (nat_list_eq_equiv.refl community)) refl) (int_eq_equiv.refl
-      (pos id))
+  awaited a bindings = (response_to_decided community id (response (get_request community id names) (pos a) (pos 0) bindings)).1
+      (record { version = refl; community_is = refl; kind = refl; id_is = refl })
 
   ranged_response : (a : ℕ) (bindings : List VarBind) (n : ℕ) → a < 2 → AllByRecursion IsBindingInRange bindings
       → length (canon (response (get_request community id names) (pos a) (pos 0) bindings)) ≤ n → n ≤ 65507
@@ -114,7 +112,7 @@ module _ (codec : Codec) (community : List ℕ) (id : ℕ) (names : List (List �
       → IsBrought Comes agents (honest × (sent ≡ [])) community id names r.is_read.message
   brought Comes agents honest lawful q is sent reads takes before what new after here =
       let m : Message = here.is_read.message in (
-        here.is_read.awaited,
+        (response_to_decided community id m).0 here.is_read.awaited,
         λ h.
             let r = here.reply h.0 (subst (λ (x : List ℕ). IsAsked agents community id x sent) (sym is) (asked_alone agents (lawful h.0) sent h.1)) in
             let a = answered agents (lawful h.0) here.datagram (subst (λ (x : List ℕ). IsReplyFrom agents x here.datagram) is r) in

@@ -332,5 +332,6 @@ module _ {L : Type 0} (facts : LinkFacts L) (keeping : (link : L) → facts.hone
       let still = asked_still (facts.agents old) (community w) (id w) q (facts.traffic old).sent (count + 1) asked in
       let asked_now = subst (IsAsked (facts.agents old) (community w) (id w) q) (sym (tries_sent k)) still in
       let asked_by = subst (λ (a : Agents). IsAsked a (community w) (id w) q (facts.traffic between).sent) (sym agents) asked_now in
-      subst (λ (a : Agents). Shows a q) agents (by q (sent.honest (tried.honest h)) (ap latest (try_sent k) ∙ latest_is ((facts.traffic old).sent ++ replicate count q) q)
+      subst (λ (a : Agents). Shows a q) agents (by q (sent.honest (tried.honest h))
+      (ap latest (try_sent k) ∙ latest_is ((facts.traffic old).sent ++ replicate count q) q)
       (subst (λ x. IsAsked (facts.agents between) (community x) (id x) q (facts.traffic between).sent) (sym same) asked_by))

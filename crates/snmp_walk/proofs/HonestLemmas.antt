@@ -221,10 +221,12 @@ module _ (codec : Codec) (agents : Agents) (lawful : AreLawful agents) (w : Walk
       → IsReplyContent (IsNextFrom agents) (IsGotFrom agents) (IsTooLarge agents) w.phase w m
       → IsReplyTo (IsNextFrom agents) (IsGotFrom agents) (IsTooLarge agents) w m
   replied m a bindings e content = record {
-    version = ap (λ (x : Message). x.version) e;
-    community = ap (λ (x : Message). x.community) e;
-    kind = ap (λ (x : Message). x.kind) e;
-    id = ap (λ (x : Message). x.id) e;
+    response = record {
+      version = ap (λ (x : Message). x.version) e;
+      community_is = ap (λ (x : Message). x.community) e;
+      kind = ap (λ (x : Message). x.kind) e;
+      id_is = ap (λ (x : Message). x.id) e;
+    };
     content = content;
   }
 

@@ -1,5 +1,6 @@
 -- What the rules say of a message, one by one, is what `take_of` computes.
-use Rattle.std.proofs.Common.{◌≡◌, ◌⊎◌, inl, inr, ℕ, ◌+◌, ◌<◌, Bool, true, false, cond, List, [], ◌∷◌, ◌++◌, length, refl, sym, ◌∙◌, ap, subst, arith, append-nil, length-append, pos, Option, Some, None}
+use Rattle.std.proofs.Common.{◌≡◌, ◌⊎◌, inl, inr, ℕ, ◌+◌, ◌<◌, Bool, true, false, cond, List, [], ◌∷◌, ◌++◌, length}
+use Rattle.std.proofs.Common.{refl, sym, ◌∙◌, ap, subst, arith, append-nil, length-append, pos, Option, Some, None}
 use Rattle.std.proofs.lemmas.Bool.{false≢true, false_from_ne_true}
 use Rattle.std.proofs.lemmas.Bool.Decides.{Decides-and, Decides-or, Decides-not, Decides-like, Decides-ltb, Decides-eqb, Decides-int_eq}
 use Rattle.std.proofs.lemmas.List.Sums.{take_while-cons}
@@ -30,6 +31,7 @@ use Rattle.snmp_wire.specs.Message.{
   no_such_instance,
   end_of_mib_view,
 }
+use Rattle.snmp_wire.specs.Spelling.{Spells}
 use Rattle.snmp_walk.specs.declared.mode.Mode.{Mode}
 use Rattle.snmp_walk.specs.declared.mode.Mode.TheVariants as mode
 use Rattle.snmp_walk.specs.declared.phase.Phase.{Phase}
@@ -64,9 +66,9 @@ use Rattle.snmp_walk.specs.Taken.{
   reads_for,
   reads_reply,
   take_of,
-  Takes,
 }
 use Rattle.snmp_walk.specs.Judged.{
+  IsResponseTo,
   IsAwaitedReply,
   EndsBy,
   AsksOn,
@@ -116,7 +118,7 @@ plain_decided mode.Plain = ((λ _. refl), (λ _. refl))
 plain_decided mode.Include = ((λ e. absurd (false≢true e)), (λ e. let no : ⊥ = cc in absurd no))
 plain_decided mode.NoLast = ((λ e. absurd (false≢true e)), (λ e. let no : ⊥ = cc in absurd no))
 
-end_decided : (v : Datum) → Decides (is_end v) (v ≡ end_of_mib_view)
+pub end_decided : (v : Datum) → Decides (is_end v) (v ≡ end_of_mib_view)
 end_decided (integer_value n) = ((λ e. absurd (false≢true e)), (λ e. let no : ⊥ = cc in absurd no))
 end_decided (octet_string s) = ((λ e. absurd (false≢true e)), (λ e. let no : ⊥ = cc in absurd no))
 end_decided null_value = ((λ e. absurd (false≢true e)), (λ e. let no : ⊥ = cc in absurd no))
@@ -153,16 +155,24 @@ missing_tells end_of_mib_view e = absurd (false≢true e)
 missing_decided : (b : VarBind) → Decides (is_missing b.value) (IsMissing b)
 missing_decided b = (missing_tells b.value, missing_from b.value)
 
+pub response_to_decided : (community : List ℕ) (id : ℕ) (m : Message) → Decides (awaits community id m) (IsResponseTo community id m)
+response_to_decided community id m =
+    let parts = Decides-and _ (int_eq m.id (pos id))
+    (Decides-and _ (is_response m.kind)
+    (Decides-and (int_eq m.version (pos 1)) (pointwise nat_eq m.community community) (Decides-int_eq m.version (pos 1))
+    (bytes_decides m.community community)) (response_decided m.kind)) (Decides-int_eq m.id (pos id)) in (
+      (λ e. let h = parts.0 e in record { version = h.0.0.0; community_is = h.0.0.1; kind = h.0.1; id_is = h.1 }),
+      (λ h. parts.1 (((h.version, h.community_is), h.kind), h.id_is)),
+    )
+
+-- a message that isn't awaited is no such Response
+pub not_response : (community : List ℕ) (id : ℕ) (m : Message) → awaits community id m ≡ false → IsResponseTo community id m → ⊥
+not_response community id m e is = false≢true (sym e ∙ (response_to_decided community id m).1 is)
+
 awaited_decided : (w : Walker) (m : Message) → Decides (is_awaited w m) (IsAwaitedReply w m)
 awaited_decided w m =
-    let parts = Decides-and (not (is_over w.phase)) (awaits w.community w.id m) (waits_decided w.phase)
-    (Decides-and _ (int_eq m.id (pos w.id))
-    (Decides-and _ (is_response m.kind)
-    (Decides-and (int_eq m.version (pos 1)) (pointwise nat_eq m.community w.community) (Decides-int_eq m.version (pos 1))
-    (bytes_decides m.community w.community)) (response_decided m.kind)) (Decides-int_eq m.id (pos w.id))) in (
-      (λ e. let h = parts.0 e in record { waits = h.0; version = h.1.0.0.0; community = h.1.0.0.1; kind = h.1.0.1; id = h.1.1 }),
-      (λ h. parts.1 (h.waits, (((h.version, h.community), h.kind), h.id))),
-    )
+    let parts = Decides-and (not (is_over w.phase)) (awaits w.community w.id m) (waits_decided w.phase) (response_to_decided w.community w.id m) in
+    ((λ e. let h = parts.0 e in record { waits = h.0; response = h.1 }), (λ h. parts.1 (h.waits, h.response)))
 
 inside_decided : (root : List ℕ) (b : VarBind) → Decides (is_inside root b) (IsInside root b)
 inside_decided root b =
@@ -490,10 +500,7 @@ module _ (precedes : (o p : List ℕ) → slice_cmp nat_cmp o p ≡ Less → Pre
   pub found : (w : Walker) (m : Message) → Means w m (take_of w m).0 (take_of w m).1
   found w m = found_of (take_of w m).0 (take_of w m).1 w m (refl, refl)
 
-  pub taken_means : (w : Walker) (datagram : List ℕ) (given : Step) (new : Walker) → Takes w datagram given new → MeansBy w datagram given new
-  taken_means w datagram given new (inl h) = inl (h.0, h.1, found_of given new w h.0 (h.2, h.3))
-  taken_means w datagram given new (inr h) = inr (h.0, (h.1, h.2))
-
-  pub means_taken : (w : Walker) (datagram : List ℕ) (given : Step) (new : Walker) → MeansBy w datagram given new → Takes w datagram given new
-  means_taken w datagram given new (inl h) = let is = only given new w h.0 h.2 in inl (h.0, h.1, is.0, is.1)
-  means_taken w datagram given new (inr h) = inr (h.0, h.1.0, h.1.1)
+  -- what a datagram that encodes it means
+  pub means_by : (w : Walker) (datagram : List ℕ) (m : Message) → Spells m datagram → (given : Step) (new : Walker) → given ≡ (take_of w m).0
+      → new ≡ (take_of w m).1 → MeansBy w datagram given new
+  means_by w datagram m spelt given new e f = inl (m, spelt, found_of given new w m (e, f))

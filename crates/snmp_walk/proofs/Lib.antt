@@ -1,11 +1,11 @@
 pub mod NameLemmas
 pub mod RequestLemmas
 pub mod FrontLemmas
-pub mod SpelledLemmas
 pub mod TrailLemmas
 pub mod StandingLemmas
 pub mod OrderLemmas
 pub mod TableLemmas
+pub mod AskingLemmas
 pub mod AnyLemmas
 pub mod SinkLemmas
 pub mod ReplyLemmas

@@ -1,19 +1,14 @@
 -- What an honest reply is to the walk that waits for it.
-use Rattle.std.proofs.Common.{◌≡◌, ◌⊎◌, inl, inr, ℕ, ◌<◌, true, false, List, sym, ◌∙◌, ap, subst, refl, arith, pos, ℤ, []}
-use Rattle.std.proofs.lemmas.Bool.{and_from, and_parts, false_from_ne_true}
-use Rattle.std.proofs.lemmas.Cmp.{int_eq_equiv}
-use Rattle.std.proofs.lemmas.Bool.Decides.{Decides-int_eq}
+use Rattle.std.proofs.Common.{◌≡◌, ◌⊎◌, inl, inr, ℕ, ◌<◌, true, false, List, sym, ◌∙◌, ap, subst, refl, arith, pos, []}
+use Rattle.std.proofs.lemmas.Bool.{and_from, false_from_ne_true}
 use Rattle.std.specs.Prelude.{not, Result}
-use Rattle.std.specs.Bool.{nat_eq}
-use Rattle.std.specs.Ordering.{int_eq}
-use Rattle.std.specs.Cmp.Lexicographic.{pointwise, nat_list_eq_equiv}
 use Rattle.snmp_wire.specs.Message.{VarBind, Message}
 use Rattle.snmp_wire.specs.Canon.{canon}
 use Rattle.snmp_wire.specs.Spelling.{Spells}
 use Rattle.snmp_walk.specs.Codec.{Codec}
 use Rattle.snmp_walk.specs.Walker.{Walker, IsWalker}
 use Rattle.snmp_walk.specs.Request.{request_of}
-use Rattle.snmp_walk.specs.Taken.{is_over, is_response, awaits}
+use Rattle.snmp_walk.specs.Taken.{is_over, awaits}
 use Rattle.snmp_walk.specs.Standing.{IsReplyTo}
 use Rattle.snmp_walk.specs.Link.{Agents, IsNextFrom, IsGotFrom, IsTooLarge, AreLawful, IsReplyFrom}
 use Rattle.snmp_walk.specs.Heard.{IsAsked, Exchanges, IsSentBefore, IsEarlier}
@@ -24,17 +19,7 @@ use Rattle.snmp_walk.specs.declared.rows.Step.{Step}
 use Rattle.snmp_walk.specs.Course.{Heard}
 use Rattle.snmp_walk.specs.Read.{IsRead}
 use Rattle.snmp_walk.proofs.HonestLemmas.{honest_reply}
-
--- it is awaited
-pub reply_awaited : (Next Got : List ℕ → VarBind → Type 0) (Large : ℕ → VarBind → Type 0) (w : Walker) (m : Message)
-    → IsReplyTo Next Got Large w m → awaits w.community w.id m ≡ true
-reply_awaited Next Got Large w m r =
-    let version : int_eq m.version (pos 1) ≡ true = ap (λ (n : ℤ). int_eq n (pos 1)) r.version in
-    let community : pointwise nat_eq m.community w.community ≡ true = ap (λ (c : List ℕ). pointwise nat_eq c w.community) r.community
-    ∙ nat_list_eq_equiv.refl w.community in
-    let response : is_response m.kind ≡ true = ap is_response r.kind in
-    let id : int_eq m.id (pos w.id) ≡ true = ap (λ (n : ℤ). int_eq n (pos w.id)) r.id ∙ int_eq_equiv.refl (pos w.id) in
-    and_from _ _ (and_from _ _ (and_from _ _ version community) response) id
+use Rattle.snmp_walk.proofs.JudgedLemmas.{response_to_decided}
 
 -- by the one message that the octets spell
 one_spelt : Codec → (m n : Message) (octets : List ℕ) → Spells m octets → Spells n octets → m ≡ n
@@ -43,8 +28,8 @@ one_spelt codec m n octets a b = (codec.one m n octets octets [] [] a b refl).0
 -- a reply of another id isn't awaited
 other_id : (community : List ℕ) (id : ℕ) (m : Message) (other : ℕ) → other < id → m.id ≡ pos other → awaits community id m ≡ false
 other_id community id m other less e = false_from_ne_true (awaits community id m) (λ is.
-    let same : m.id ≡ pos id = (Decides-int_eq m.id (pos id)).0 (and_parts _ (int_eq m.id (pos id)) is).1 in
-    let equal : pos other ≡ pos id = sym e ∙ same in
+    let response = (response_to_decided community id m).0 is in
+    let equal : pos other ≡ pos id = sym e ∙ response.id_is in
     let numbers : other ≡ id = cc in
     absurd (omega (arith, less, numbers)))
 
@@ -72,7 +57,7 @@ pub asked_of : Codec → (agents : Agents) (sent : List (List ℕ)) (w : Walker)
     → IsAsked agents w.community w.id (canon (request_of w)) sent
 asked_of codec agents sent w lawful good waits earlier = record {
   own = λ octets reply. let given = honest_reply codec agents lawful w good waits octets reply in
-      (given.0, given.1, reply_awaited (IsNextFrom agents) (IsGotFrom agents) (IsTooLarge agents) w given.0 given.2);
+      (given.0, given.1, (response_to_decided w.community w.id given.0).1 given.2.response);
   others = λ d one. by_walker d (earlier d one);
 }
   where
@@ -81,7 +66,7 @@ asked_of codec agents sent w lawful good waits earlier = record {
     by_walker d (inl e) = inl e
     by_walker d (inr v) = inr (λ octets m reply spelt.
         let given = honest_reply codec agents lawful v.0 v.1 v.2 octets (subst (λ (x : List ℕ). IsReplyFrom agents x octets) v.4 reply) in
-        other_id w.community w.id m v.0.id v.3 (ap (λ (n : Message). n.id) (one_spelt codec m given.0 octets spelt given.1) ∙ given.2.id))
+        other_id w.community w.id m v.0.id v.3 (ap (λ (n : Message). n.id) (one_spelt codec m given.0 octets spelt given.1) ∙ given.2.response.id_is))
 
 pub exchanges_by : (agents : Agents) (honest same_honest : Type 0) (tries : ℕ) (q : List ℕ) (old : Traffic)
     (silent same_silent failed same_failed : Type 0) (new : Traffic)

@@ -15,7 +15,8 @@ use Rattle.snmp_walk.specs.declared.rows.Step.TheVariants as step
 use Rattle.snmp_walk.specs.Trail.{AreLawfulReplies}
 use Rattle.snmp_walk.specs.Walker.{Walker, IsWalker}
 use Rattle.snmp_walk.specs.Request.{first_phase}
-use Rattle.snmp_walk.specs.Taken.{is_over, take_of, Takes}
+use Rattle.snmp_walk.specs.Judged.{MeansBy}
+use Rattle.snmp_walk.specs.Taken.{is_over, take_of}
 use Rattle.snmp_walk.specs.Standing.{IsOpening, IsPartOfWalk, IsStage, IsPaced, Reaches, Ends, Advances, Rises, Named, IsReplyEnd, CountsAll, AdvancesAnyhow}
 use Rattle.snmp_walk.specs.Link.{Agents, IsNextFrom, IsGotFrom, IsTooLarge, IsUnanswered, AreViews}
 use Rattle.snmp_walk.specs.Sink.{Given, Took}
@@ -45,6 +46,7 @@ use Rattle.snmp_walk.specs.Traffic.{Traffic, Lost}
 use Rattle.snmp_walk.specs.Heard.{Exchanges, IsEarlier}
 use Rattle.snmp_walk.specs.Request.{request_of}
 use Rattle.snmp_wire.specs.Canon.{canon}
+use Rattle.snmp_walk.proofs.JudgedLemmas.{means_by}
 use Rattle.snmp_walk.proofs.ViewLemmas.{views_answer}
 use Rattle.snmp_walk.specs.Codec.{Codec}
 use Rattle.snmp_walk.proofs.FactLemmas.{one_table, facts, lawful_by, send_facts}
@@ -180,8 +182,8 @@ pub record RunFacts (agents : Agents) (Silent Sent : Walker → Type 0) (first :
 
 -- one datagram more was read
 are_more : (Comes : List ℕ → Type 0) (v w x : Walker) (readings : List Reading) (r : Reading) → AreRead Comes v readings w → Comes r.datagram
-    → Takes w r.datagram (step.Rows r.rows) x → AreRead Comes v (readings ++ r ∷ []) x
-are_more Comes v w x [] r e comes taken = (x, comes, subst (λ (y : Walker). Takes y r.datagram (step.Rows r.rows) x) e taken, refl)
+    → MeansBy w r.datagram (step.Rows r.rows) x → AreRead Comes v (readings ++ r ∷ []) x
+are_more Comes v w x [] r e comes taken = (x, comes, subst (λ (y : Walker). MeansBy y r.datagram (step.Rows r.rows) x) e taken, refl)
 are_more Comes v w x (s ∷ readings) r h comes taken = (h.0, h.1, h.2, are_more Comes h.0 w x readings r h.3 comes taken)
 
 rows_more : (readings : List Reading) (r : Reading) → rows_read (readings ++ r ∷ []) ≡ rows_read readings ++ r.rows
@@ -190,7 +192,7 @@ rows_more (s ∷ readings) r =
     ap (λ (rows : List VarBind). s.rows ++ rows) (rows_more readings r) ∙ sym (append_assoc s.rows (rows_read readings) r.rows)
 
 read_more : (Comes : List ℕ → Type 0) (first w x : Walker) (given rows : List VarBind) (datagram : List ℕ) → HasRead Comes first w given → Comes datagram
-    → Takes w datagram (step.Rows rows) x → HasRead Comes first x (given ++ rows)
+    → MeansBy w datagram (step.Rows rows) x → HasRead Comes first x (given ++ rows)
 read_more Comes first w x given rows datagram h comes taken =
     let r : Reading = record { datagram = datagram; rows = rows } in
     record {
@@ -199,8 +201,8 @@ read_more Comes first w x given rows datagram h comes taken =
       are_read = are_more Comes first w x h.readings r h.are_read comes taken;
     }
 
-module _ {S : Type 0} (takes : S → VarBind → Result (Unit {0}) SinkFault → S → Type 0) (Comes : List ℕ → Type 0) (agents : Agents) (Silent : Walker
-    → Type 0) (Sent : WalkEnd → Walker → Type 0) (honest : Type 0) (first w : Walker) (before s t : S)
+module _ {S : Type 0} (codec : Codec) (takes : S → VarBind → Result (Unit {0}) SinkFault → S → Type 0) (Comes : List ℕ → Type 0) (agents : Agents)
+    (Silent : Walker → Type 0) (Sent : WalkEnd → Walker → Type 0) (honest : Type 0) (first w : Walker) (before s t : S)
     (given : List VarBind) (sunk : Given takes before given s) (stands : Reaches Rises Named first w given) (good : IsWalker w) (later : first.id ≤ w.id)
     (read : HasRead Comes first w given) where
   -- the walk after one more turn
@@ -222,7 +224,7 @@ module _ {S : Type 0} (takes : S → VarBind → Result (Unit {0}) SinkFault →
         id = here.0;
         low = here.1;
         stands_on = here.2;
-        read_on = read_more Comes first w new given rows datagram read comes (inl (m, spelt, sym e, f));
+        read_on = read_more Comes first w new given rows datagram read comes (means_by codec.less w datagram m spelt _ _ (sym e) f);
         honestly = λ h laws k.
             let step_of = subst (λ (st : Step). Advances (IsNextFrom agents) (IsGotFrom agents) (IsTooLarge agents) first w given st (take_of w m).1) e
             (taken (IsNextFrom agents) (IsGotFrom agents) (IsTooLarge agents) laws first given w m k (from h).0) in
@@ -281,7 +283,7 @@ module _ {S : Type 0} (takes : S → VarBind → Result (Unit {0}) SinkFault →
               datagram = datagram;
               comes = comes;
               over = (take_of w m).1;
-              taken = inl (m, spelt, sym e, refl);
+              taken = means_by codec.less w datagram m spelt _ _ (sym e) refl;
             }));
         facts = λ h laws k.
             let step_of = subst (λ (st : Step). Advances (IsNextFrom agents) (IsGotFrom agents) (IsTooLarge agents) first w given st (take_of w m).1) e
@@ -319,7 +321,7 @@ module _ {S : Type 0} (takes : S → VarBind → Result (Unit {0}) SinkFault →
               left = left;
               step_taken = (take_of w m).0;
               over = (take_of w m).1;
-              taken = inl (m, spelt, refl, refl);
+              taken = means_by codec.less w datagram m spelt _ _ refl refl;
               read = e;
             });
         facts = λ h laws k.
@@ -459,12 +461,12 @@ module _ {S : Type 0} (takes : S → VarBind → Result (Unit {0}) SinkFault →
   waits : is_over w.phase ≡ false
   waits = stands_waits Rises Named first w r.given r.stands
 
-  pub runs_on : (rows : List VarBind) (v : Walker) (t : S) (later : Traffic) (silent failed : Type 0)
+  pub runs_on : Codec → (rows : List VarBind) (v : Walker) (t : S) (later : Traffic) (silent failed : Type 0)
       → Turns takes Comes agents (here × IsEarlier now.sent w) w s rows None v t
       → (keeps → Exchanges agents (here × IsEarlier now.sent w) tries (canon (request_of w)) now silent failed later) → RunsOn v t later
-  runs_on rows v t later silent failed turn x =
-      let gone = turned takes Comes agents (HasNone agents) (λ end u. Unit {0}) (here × IsEarlier now.sent w) first w before s t r.given r.sunk r.stands good
-      r.later r.read rows v turn in
+  runs_on codec rows v t later silent failed turn x =
+      let gone = turned codec takes Comes agents (HasNone agents) (λ end u. Unit {0}) (here × IsEarlier now.sent w) first w before s t r.given r.sunk r.stands
+      good r.later r.read rows v turn in
       record {
         runs = record {
           given = r.given ++ rows;
@@ -553,7 +555,7 @@ module _ {S : Type 0} (takes : S → VarBind → Result (Unit {0}) SinkFault →
         some = λ other. (x k).some (λ e. other (same_some end ending.Link e));
         all = λ silent. (x k).all (ap Some silent);
       } in
-      let done = over takes Comes agents (IsQuiet later)
+      let done = over codec takes Comes agents (IsQuiet later)
       (λ why u. (keeps → IsLastSent tries why later u) × (why ≡ ending.NoResponse → Unheard u)) (here × IsEarlier now.sent w)
       first w before s t r.given r.sunk r.stands good r.later r.read rows v end (sent, unheard)
       (λ silent k. λ h none. no_reply (Some end ≡ Some ending.NoResponse) (Some end ≡ Some ending.Link) later (ap Some silent) h none (x (keeping h))) turn in (

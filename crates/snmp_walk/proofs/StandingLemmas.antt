@@ -30,7 +30,6 @@ use Rattle.std.proofs.Common.{
   Some,
 }
 use Rattle.std.proofs.lemmas.Bool.{ltb-true, le-ltb, or_from, and_from, and_parts, eqb-true, ltb-false, eq-eqb}
-use Rattle.std.proofs.lemmas.Cmp.{int_eq_equiv}
 use Rattle.std.specs.Prelude.{nat_lt, ◌==◌, ◌&&◌, ◌||◌, not}
 use Rattle.std.specs.Bool.{nat_eq}
 use Rattle.std.specs.List.{list_any}
@@ -43,29 +42,12 @@ use Rattle.snmp_walk.specs.declared.phase.Phase.TheVariants as phase
 use Rattle.snmp_walk.specs.declared.end.WalkEnd.TheVariants as ending
 use Rattle.snmp_walk.specs.declared.rows.Step.{Step}
 use Rattle.snmp_walk.specs.declared.rows.Step.TheVariants as step
+use Rattle.snmp_walk.proofs.JudgedLemmas.{response_to_decided}
 use Rattle.snmp_walk.specs.Names.{is_missing}
 use Rattle.snmp_walk.specs.Trail.{last_name, IsTrail, IsAtEnd, AreLawfulReplies}
 use Rattle.snmp_walk.specs.Walker.{Walker}
 use Rattle.std.specs.Ordering.{int_eq}
-use Rattle.snmp_walk.specs.Taken.{
-  is_over,
-  is_response,
-  is_awaited,
-  is_plain,
-  inside_front,
-  rising_front,
-  asked_for,
-  stops,
-  goes_on,
-  closes,
-  reads_next,
-  got,
-  if_present,
-  reads_first,
-  reads_last,
-  reads_for,
-  take_of,
-}
+use Rattle.snmp_walk.specs.Taken.{is_over, is_awaited, is_plain, inside_front, rising_front, asked_for, stops, goes_on, closes, reads_next, got, if_present, reads_first, reads_last, reads_for, take_of}
 use Rattle.snmp_walk.specs.Standing.{
   IsChain,
   IsLarge,
@@ -335,13 +317,7 @@ module _ (Next Got : List ℕ → VarBind → Type 0) (Large : ℕ → VarBind �
   waiting given o phase.Over h = absurd h
 
   awaited : (given : List VarBind) (w : Walker) (m : Message) → Reaches Next Got first w given → IsReplyTo Next Got Large w m → is_awaited w m ≡ true
-  awaited given w m h r =
-      let version : int_eq m.version (pos 1) ≡ true = ap (λ (n : ℤ). int_eq n (pos 1)) r.version in
-      let community : pointwise nat_eq m.community w.community ≡ true = ap (λ (c : List ℕ). pointwise nat_eq c w.community) r.community
-      ∙ nat_list_eq_equiv.refl w.community in
-      let response : is_response m.kind ≡ true = ap is_response r.kind in
-      let id : int_eq m.id (pos w.id) ≡ true = ap (λ (n : ℤ). int_eq n (pos w.id)) r.id ∙ int_eq_equiv.refl (pos w.id) in
-      and_from _ _ (waiting given w.asked w.phase h.stage) (and_from _ _ (and_from _ _ (and_from _ _ version community) response) id)
+  awaited given w m h r = and_from _ _ (waiting given w.asked w.phase h.stage) ((response_to_decided w.community w.id m).1 r.response)
 
   -- an honest reply to the waiting request
   pub taken : (given : List VarBind) (w : Walker) (m : Message) → Reaches Next Got first w given → IsReplyTo Next Got Large w m

@@ -31,7 +31,8 @@ use Rattle.snmp_walk.specs.declared.rows.Step.{Step}
 use Rattle.snmp_walk.specs.declared.rows.Step.TheVariants as step
 use Rattle.snmp_walk.specs.Read.{rows_in}
 use Rattle.snmp_walk.specs.Walk.{walk_from, rest_of, AreRising}
-use Rattle.snmp_walk.specs.Taken.{Takes, asked_for}
+use Rattle.snmp_walk.specs.Judged.{MeansBy}
+use Rattle.snmp_walk.specs.Taken.{asked_for}
 use Rattle.snmp_walk.specs.declared.phase.Phase.TheVariants as phase
 use Rattle.snmp_walk.specs.Walker.{Walker, IsWalker}
 use Rattle.snmp_walk.specs.Request.{request_of, first_phase}
@@ -87,7 +88,7 @@ rows_read (r ∷ more) = r.rows ++ rows_read more
 abbrev pub AreRead : (List ℕ → Type 0) → Walker → List Reading → Walker → Type 0
 AreRead Comes v [] w = w ≡ v
 AreRead Comes v (r ∷ more) w =
-    (u : Walker) × Comes r.datagram × Takes v r.datagram (step.Rows r.rows) u
+    (u : Walker) × Comes r.datagram × MeansBy v r.datagram (step.Rows r.rows) u
     × AreRead Comes u more w
 
 -- the walk that began as `first` gave just the rows that it read in datagrams that a receive of
@@ -121,7 +122,7 @@ pub record IsReadSo (Comes : List ℕ → Type 0) (Sent : Walker → Type 0) (fi
   pub datagram : List ℕ
   pub comes : Comes datagram
   pub over : Walker
-  pub taken : Takes w datagram (step.Last more end) over
+  pub taken : MeansBy w datagram (step.Last more end) over
 
 -- The walk that began as `first` gave these rows, and the sink refused the next: w had given the
 -- first of them and was waiting for a reply, and reads a datagram that a receive of such a link may
@@ -138,7 +139,7 @@ pub record IsRefusedSo (Comes : List ℕ → Type 0) (Sent : Walker → Type 0) 
   pub left : List VarBind
   pub step_taken : Step
   pub over : Walker
-  pub taken : Takes w datagram step_taken over
+  pub taken : MeansBy w datagram step_taken over
   pub read : rows_in step_taken ≡ more ++ (refused ++ left)
 
 -- Why a run ends, whatever the link brings: by a reply that is read so, or while w was waiting for

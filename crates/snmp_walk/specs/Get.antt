@@ -32,7 +32,7 @@ use Rattle.std.specs.Cmp.Lexicographic.{pointwise}
 use Rattle.snmp_oid.specs.Identifier.{wire}
 use Rattle.snmp_wire.specs.declared.kind.Kind.TheVariants as kind
 use Rattle.snmp_wire.specs.ber.Value.{null_value}
-use Rattle.snmp_wire.specs.Message.{VarBind, Message}
+use Rattle.snmp_wire.specs.Message.{VarBind, Message, end_of_mib_view}
 use Rattle.snmp_wire.specs.Canon.{canon}
 use Rattle.snmp_wire.specs.Spelling.{Spells}
 use Rattle.snmp_agent.specs.Reply.{IsResponse, Fits, response}
@@ -41,7 +41,7 @@ use Rattle.snmp_walk.specs.declared.rows.Step.{Step}
 use Rattle.snmp_walk.specs.declared.rows.Step.TheVariants as step
 use Rattle.snmp_walk.specs.declared.end.WalkEnd.TheVariants as ending
 use Rattle.snmp_walk.specs.Names.{is_end}
-use Rattle.snmp_walk.specs.Taken.{awaits}
+use Rattle.snmp_walk.specs.Judged.{IsResponseTo}
 use Rattle.snmp_walk.specs.Link.{Agents, OneOf, IsUnanswered}
 use Rattle.snmp_walk.specs.Traffic.{Traffic, Lost}
 use Rattle.snmp_walk.specs.Facts.{IsDone, IsDoneOrStopped}
@@ -62,7 +62,20 @@ get_request community id names = record {
   bindings = asked_names names;
 }
 
--- bindings of just these names, in order, and none of them with endOfMibView
+-- bindings of just these names, as they are sent and in order, none of which is endOfMibView
+pub record AreFor (names : List (List ℕ)) (bindings : List VarBind) : Type 0 where
+  pub named : map wire names ≡ map (λ p. p.name) bindings
+  pub values : (p : VarBind) → OneOf bindings p → p.value ≢ end_of_mib_view
+
+-- What a reply means to a Get of these names: it brings all its bindings, where it has no error
+-- status and they are for the names, and else ends the Get without them.
+abbrev pub MeansToGet : List (List ℕ) → Message → Result (List VarBind) WalkEnd → Type 0
+MeansToGet names m (Ok rows) = (m.a ≡ pos 0) × AreFor names m.bindings × (rows ≡ m.bindings)
+MeansToGet names m (Err end) =
+    ((m.a ≢ pos 0) × (end ≡ ending.Fault m.a m.b))
+    ⊎ ((m.a ≡ pos 0) × (AreFor names m.bindings → ⊥) × (end ≡ ending.BadReply))
+
+-- The same, computed, for private clauses: whether bindings are for the names,
 abbrev pub are_for : List (List ℕ) → List VarBind → Bool
 are_for [] [] = true
 are_for [] (p ∷ more) = false
@@ -70,7 +83,7 @@ are_for (o ∷ names) [] = false
 are_for (o ∷ names) (p ∷ more) = (pointwise nat_eq p.name (wire o) && not
     (is_end p.value)) && are_for names more
 
--- what a reply brings: its bindings, or the end where it has an error status or other bindings
+-- and what a reply brings
 abbrev pub answers_of : List (List ℕ) → Message → Result (List VarBind) WalkEnd
 answers_of names m =
     if int_eq m.a (pos 0)
@@ -96,7 +109,7 @@ got_step names m = step_of (length names) (answers_of names m)
 abbrev pub IsBrought : (Comes : List ℕ → Type 0) → Agents → (honest : Type 0) → List ℕ → ℕ
     → List (List ℕ) → Message → Type 0
 IsBrought Comes agents honest community id names m =
-    (awaits community id m ≡ true)
+    IsResponseTo community id m
     × (honest → (view : MibView) × OneOf agents.tables view × (community ≡ agents.community)
     × IsResponse view agents.max_size (get_request community id names) m)
     × ((datagram : List ℕ) × Comes datagram × Spells m datagram)
@@ -171,15 +184,15 @@ pub record AreForNames (request : Message) (names : List (List ℕ)) (given refu
 abbrev pub IsReasonOfGet : (From : Message → Type 0) → (names : List (List ℕ))
     → (given refused : List VarBind) → WalkEnd → Type 0
 IsReasonOfGet From names given refused (ending.Done count) =
-    (m : Message) × From m × (answers_of names m ≡ Ok given) × (refused ≡ [])
+    (m : Message) × From m × MeansToGet names m (Ok given) × (refused ≡ [])
 IsReasonOfGet From names given refused (ending.Sink fault) =
     (m : Message) × (p : VarBind) × (left : List VarBind) × From m
-    × (answers_of names m ≡ Ok (given ++ p ∷ left)) × (refused ≡ p ∷ [])
+    × MeansToGet names m (Ok (given ++ p ∷ left)) × (refused ≡ p ∷ [])
 IsReasonOfGet From names given refused ending.NoResponse = given ++ refused ≡ []
 IsReasonOfGet From names given refused ending.RequestTooLong = given ++ refused ≡ []
 IsReasonOfGet From names given refused ending.Link = given ++ refused ≡ []
 IsReasonOfGet From names given refused end =
-    (m : Message) × From m × (answers_of names m ≡ Err end) × (given ++ refused ≡ [])
+    (m : Message) × From m × MeansToGet names m (Err end) × (given ++ refused ≡ [])
 
 -- What is promised of a Get over an honest link over which nothing was sent before. It gave these
 -- rows to the sink, and then the one that was refused, if any was.

@@ -33,14 +33,19 @@ use Rattle.snmp_walk.specs.Taken.{asked_for}
 use Rattle.snmp_walk.specs.Trail.{last_name}
 use Rattle.snmp_walk.specs.Walker.{Walker}
 
--- The walk waits for a reply, and the message is that: the Response of version 2c (which messages
--- number 1), of the walk's community and the waiting request-id. Any other message is a stray.
+-- the message is the Response of version 2c (which messages number 1) of this community and
+-- request-id
+pub record IsResponseTo (community : List ℕ) (id : ℕ) (m : Message) : Type 0 where
+  pub version : m.version ≡ pos 1
+  pub community_is : m.community ≡ community
+  pub kind : m.kind ≡ kind.Response
+  pub id_is : m.id ≡ pos id
+
+-- The walk waits for a reply, and the message is that: the Response of the walk's community and the
+-- waiting request-id. Any other message is a stray.
 pub record IsAwaitedReply (w : Walker) (m : Message) : Type 0 where
   pub waits : w.phase ≢ phase.Over
-  pub version : m.version ≡ pos 1
-  pub community : m.community ≡ w.community
-  pub kind : m.kind ≡ kind.Response
-  pub id : m.id ≡ pos w.id
+  pub response : IsResponseTo w.community w.id m
 
 -- The walk gives these bindings and ends so. After that it waits for nothing.
 abbrev pub EndsBy : Walker → List VarBind → WalkEnd → Step → Walker → Type 0

@@ -1,17 +1,19 @@
 -- How a request misses its reply over any link.
-use Rattle.std.specs.Prelude.{◌≡◌, ℕ, zero, suc, ◌⊎◌, false, List}
+use Rattle.std.specs.Prelude.{◌≡◌, ◌≤◌, ◌-◌, ◌*◌, ℕ, zero, suc, ◌⊎◌, List, length}
 use Rattle.snmp_wire.specs.Message.{Message}
 use Rattle.snmp_wire.specs.Spelling.{Spells}
 use Rattle.snmp_wire.specs.Canon.{canon}
 use Rattle.snmp_walk.specs.Walker.{Walker}
 use Rattle.snmp_walk.specs.Request.{request_of}
-use Rattle.snmp_walk.specs.Taken.{awaits}
+use Rattle.snmp_walk.specs.Judged.{IsResponseTo}
+use Rattle.snmp_walk.specs.Moved.{IsMoved}
+use Rattle.snmp_walk.specs.declared.link.Link.{Ghosts as LinkFacts}
 
 -- the datagram doesn't encode the reply of this community and request-id: it encodes another
 -- message, or none
 abbrev pub IsNotAwaited : List ℕ → ℕ → List ℕ → Type 0
 IsNotAwaited community id datagram = (m : Message) → Spells m datagram
-    → awaits community id m ≡ false
+    → IsResponseTo community id m → ⊥
 
 -- Receives took the link from one state to the other: each brought a datagram that is another than
 -- the reply, until one brought nothing, or `left` of them had.
@@ -32,9 +34,16 @@ AreMissed {L} sends brings is_silent Other request (suc tries) old new =
     × IsMissed brings is_silent Other 64 sent heard
     × AreMissed sends brings is_silent Other request tries heard new
 
--- each try of the request of w missed the reply, and then the link was in this state
-abbrev pub MissesReply : {L : Type 0} → (L → List ℕ → L → Type 0) → (L → List ℕ → L → Type 0)
-    → (L → L → Type 0) → (tries : ℕ) → L → Walker → Type 0
-MissesReply {L} sends brings is_silent tries new w =
-    (before : L) × AreMissed sends brings is_silent (IsNotAwaited w.community w.id)
-    (canon (request_of w)) tries before new
+-- The walk that began as `first`, over the link in the state `old`, waited as w for a reply that
+-- each try of its request missed, and then the link was in the state `new`.
+pub record MissesReply {L : Type 0} (facts : LinkFacts L) (tries : ℕ) (first : Walker)
+    (old new : L) (w : Walker) : Type 0 where
+  -- tries of the requests before it, as many of each at most, took the link to the state in which
+  -- this one was next,
+  pub before : L
+  pub tried : List (List ℕ)
+  pub moved : IsMoved facts old tried ⊥ before
+  pub few : length tried ≤ (w.id - first.id) * tries
+  -- and from there each try of it missed the reply
+  pub missed : AreMissed facts.sends facts.brings facts.is_silent (IsNotAwaited w.community w.id)
+      (canon (request_of w)) tries before new

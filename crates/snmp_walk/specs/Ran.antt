@@ -39,8 +39,7 @@ pub record IsWalkedOver {W : Type 0} (facts : LinkFacts W) (link after : W) (tri
   pub ends : EndFacts (ComesOver facts.brings) (λ w.
       (facts.keeps link → IsLastSent tries end (facts.traffic after) w)
       × (end ≡ ending.NoResponse
-      → MissesReply facts.sends facts.brings facts.is_silent tries after w)) first given refused
-      end
+      → MissesReply facts tries first link after w)) first given refused end
   -- over a link that keeps what is sent: which requests were sent, and how many times
   pub sent : facts.keeps link → SendFacts (facts.agents link) (IsFreshAndHonest facts link) tries
       (facts.traffic link) first given end (facts.traffic after)

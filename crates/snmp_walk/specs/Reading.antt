@@ -12,11 +12,13 @@ use Rattle.std.specs.Prelude.{
   Bool,
   ◌||◌,
   nat_lt,
+  Option,
+  Some,
+  None,
   length,
   take,
 }
 use Rattle.std.specs.List.{list_any}
-use Rattle.snmp_oid.specs.Identifier.{IsIdentifier, IsWire}
 use Rattle.snmp_wire.specs.Message.{VarBind}
 use Rattle.snmp_walk.specs.declared.walker.Ending.{Ending}
 use Rattle.snmp_walk.specs.declared.walker.Ending.TheVariants as ending
@@ -60,6 +62,11 @@ after_of ending.GoesOn name = nothing
 after_of ending.Leaves name = leaving
 after_of ending.Falls name = falling name
 
+-- this name, or the other where there is none
+abbrev pub name_or : List ℕ → Option (List ℕ) → List ℕ
+name_or other None = other
+name_or other (Some name) = name
+
 -- the front, with the names of its last row and of the last binding that was read
 abbrev pub read_front : Front → (last name : List ℕ) → ReadFront
 read_front front last name = record {
@@ -96,8 +103,3 @@ IsFrontOf root last before bindings front =
 abbrev pub is_misplaced : ℕ → List VarBind → Bool
 is_misplaced room bindings = nat_lt room (length bindings) || list_any
     (λ p. is_missing p.value) bindings
-
--- each name has an encoding
-abbrev pub AreSendable : List VarBind → Type 0
-AreSendable [] = Unit {0}
-AreSendable (b ∷ more) = IsWire b.name × IsIdentifier b.name × AreSendable more

@@ -20,7 +20,6 @@ use Rattle.std.specs.Prelude.{
   ◌++◌,
   length,
 }
-use Rattle.snmp_wire.specs.declared.kind.Kind.TheVariants as kind
 use Rattle.snmp_wire.specs.Message.{VarBind, Message}
 use Rattle.snmp_walk.specs.declared.mode.Mode.{Mode}
 use Rattle.snmp_walk.specs.declared.mode.Mode.TheVariants as mode
@@ -30,6 +29,7 @@ use Rattle.snmp_walk.specs.declared.end.WalkEnd.{WalkEnd}
 use Rattle.snmp_walk.specs.declared.end.WalkEnd.TheVariants as ending
 use Rattle.snmp_walk.specs.declared.rows.Step.{Step}
 use Rattle.snmp_walk.specs.declared.rows.Step.TheVariants as step
+use Rattle.snmp_walk.specs.Judged.{IsResponseTo}
 use Rattle.snmp_walk.specs.Names.{is_end, is_missing, comes_after}
 use Rattle.snmp_walk.specs.Trail.{last_name, IsTrail, IsAtEnd}
 use Rattle.snmp_walk.specs.Taken.{asked_for, if_present}
@@ -69,10 +69,7 @@ IsReplyContent Next Got Large phase.Over w m = ⊥
 -- the message is an honest reply to the waiting request
 pub record IsReplyTo (Next Got : List ℕ → VarBind → Type 0) (Large : ℕ → VarBind → Type 0)
     (w : Walker) (m : Message) : Type 0 where
-  pub version : m.version ≡ pos 1
-  pub community : m.community ≡ w.community
-  pub kind : m.kind ≡ kind.Response
-  pub id : m.id ≡ pos w.id
+  pub response : IsResponseTo w.community w.id m
   pub content : IsReplyContent Next Got Large w.phase w m
 
 -- what a walk gives before the instances below its root: the root's own, in a walk that includes it

@@ -1,8 +1,6 @@
--- What a message means to a walk (RFC 3416, section 4.2, and this project's profile): the rules by
--- which a reply is judged, as one function of the walk's state and the message.
+-- What a message means to a walk, computed, for private clauses: `Judged` has the rules by which a
+-- reply is judged, and `messages_mean` says that they name what is computed here.
 use Rattle.std.specs.Prelude.{
-  ◌≡◌,
-  ◌⊎◌,
   ℕ,
   zero,
   suc,
@@ -34,7 +32,6 @@ use Rattle.std.specs.Cmp.Lexicographic.{pointwise}
 use Rattle.snmp_wire.specs.declared.kind.Kind.{Kind}
 use Rattle.snmp_wire.specs.declared.kind.Kind.TheVariants as kind
 use Rattle.snmp_wire.specs.Message.{VarBind, Message}
-use Rattle.snmp_wire.specs.Spelling.{Spells}
 use Rattle.snmp_walk.specs.declared.mode.Mode.{Mode}
 use Rattle.snmp_walk.specs.declared.mode.Mode.TheVariants as mode
 use Rattle.snmp_walk.specs.declared.mode.Method.{Method}
@@ -171,9 +168,3 @@ reads_reply w m = if int_eq m.a (pos 0) then reads_for w.phase w m.bindings else
 -- what a message means to a walk, and the walk after it
 abbrev pub take_of : Walker → Message → Step × Walker
 take_of w m = if is_awaited w m then reads_reply w m else (step.Stray, w)
-
--- The datagram is read as the message that it encodes, and one that encodes none changes nothing.
-abbrev pub Takes : Walker → List ℕ → Step → Walker → Type 0
-Takes old datagram given new =
-    ((m : Message) × Spells m datagram × (given ≡ (take_of old m).0) × (new ≡ (take_of old m).1))
-    ⊎ (((m : Message) → Spells m datagram → ⊥) × (given ≡ step.Stray) × (new ≡ old))

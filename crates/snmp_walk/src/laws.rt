@@ -6,8 +6,8 @@ ghost use Rattle.snmp_agent.specs.table.Table.{MibView, IsMibView, IsRow, IsGet}
 ghost use Rattle.snmp_agent.specs.table.Listing.{variables};
 ghost use Rattle.snmp_walk.specs.declared.mode.Mode.{Mode};
 ghost use Rattle.snmp_walk.specs.declared.rows.Step.{Step};
-ghost use Rattle.snmp_walk.specs.Judged.{Means, MeansBy};
-ghost use Rattle.snmp_walk.specs.Taken.{Takes, take_of};
+ghost use Rattle.snmp_walk.specs.Judged.{Means};
+ghost use Rattle.snmp_walk.specs.Taken.{take_of};
 ghost use Rattle.snmp_walk.specs.Walk.{rows_below, walk_of, rest_of};
 ghost use Rattle.snmp_walk.specs.Codec.{Codec};
 ghost use Rattle.snmp_walk.specs.Link.{Agents, OneOf};
@@ -63,14 +63,12 @@ pub fn short_rows_have_room()
         → ((p : VarBind) → IsRow view p → IsShort p.value) → HasRoomForEach agents view first }
 {}
 
-/// What a message means to a walk by the rules, said one by one in words of its names and bindings
-/// (`specs/Judged.antt`), is just what [`WalkCore::take`](crate::WalkCore::take) makes of it.
+/// A message means one thing to a walk by the rules, said one by one in words of its names and
+/// bindings (`specs/Judged.antt`): what `take_of` computes.
 pub fn messages_mean()
     ensures found { (w : Walker) (m : Message) → Means w m (take_of w m).0 (take_of w m).1 }
     ensures only { (w : Walker) (m : Message) (given : Step) (new : Walker)
         → Means w m given new → (given ≡ (take_of w m).0) × (new ≡ (take_of w m).1) }
-    ensures taken { (w : Walker) (datagram : List ℕ) (given : Step) (new : Walker)
-        → Takes w datagram given new ↔ MeansBy w datagram given new }
 {
     order();
 }

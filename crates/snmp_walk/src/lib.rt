@@ -32,6 +32,7 @@ mod link;
 mod memory;
 mod mode;
 mod phase;
+mod root;
 mod rows;
 mod run;
 mod sink;

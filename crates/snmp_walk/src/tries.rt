@@ -21,7 +21,6 @@ pub(crate) trait Waiter {
     ghost use Rattle.snmp_wire.specs.Message.{Message};
     ghost use Rattle.snmp_walk.specs.declared.rows.Step.{Step};
     ghost use Rattle.snmp_walk.specs.Taken.{awaits};
-    ghost use Rattle.snmp_walk.specs.Reading.{AreSendable};
     ghost use Rattle.snmp_walk.specs.Course.{step_of};
 
     /// The community of the request.
@@ -39,7 +38,6 @@ pub(crate) trait Waiter {
 
     /// Reads the reply. Where it ends the walk or the Get, `end` is how.
     fn read<'a>(&mut self, reply: &MessageRef<'a>, end: &mut WalkEnd) -> Judgement<'a>
-        requires { AreSendable reply.now.bindings }
         ensures { reads self.old reply.now (step_of result end.new) self.new };
 }
 

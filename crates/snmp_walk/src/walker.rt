@@ -1,18 +1,21 @@
 //! The core of a walk: which request to send, and what the reply means.
 ghost use Rattle.std.specs.Prelude.{◌≡◌, ◌<◌, ◌≤◌, ℕ, length, All, IsOk, IfOk, IfErr, ◌↔◌, ◌^◌};
-ghost use Rattle.std.specs.Prelude.{true, false, IsTrue};
+ghost use Rattle.std.specs.Prelude.{true, false, IsTrue, None, []};
 ghost use Rattle.std.specs.Bool.{nat_eq};
+ghost use Rattle.std.specs.Cmp.Lexicographic.{pointwise};
 ghost use Rattle.snmp_oid.specs.Identifier.{IsIdentifier, IsWire, IsBelow, wire};
 ghost use Rattle.snmp_walk.specs.Names.{is_below, comes_after, is_inside, is_missing, is_end};
 ghost use Rattle.snmp_walk.specs.Reading.{is_misplaced};
-ghost use Rattle.snmp_wire.specs.Message.{var_bind, datum};
 ghost use Rattle.snmp_walk.specs.Request.{first_phase as phase_at_first};
 
+use crate::laws::codec;
+use crate::root::Root;
 use crate::tries::{Judgement, Waiter, is_awaited};
 use crate::{Method, Mode, Phase, Rows, StartError, Step, WalkEnd};
 use arrayvec::ArrayVec;
 use snmp_wire::{
-    Binding, Bindings, Kind, MessageRef, Oid, OidError, Parts, ValueRef, decode, encode,
+    BindingRef, Bindings, EncodedName, Kind, MAX_CONTENT, MessageRef, NameBuffer, Oid, OidError,
+    Parts, decode, encode_asking, pieces, seal, tag,
 };
 use std::cmp::Ordering;
 use std::marker::Model;
@@ -20,12 +23,12 @@ use std::marker::Model;
 /// The state of a walk.
 #[derive(Drop)]
 pub struct WalkCore {
-    root: Oid,
+    root: Root,
     mode: Mode,
     method: Method,
     community: ArrayVec<u8, 255>,
     phase: Phase,
-    asked: Oid,
+    asked: NameBuffer,
     id: u32,
     count: u64,
 }
@@ -74,12 +77,12 @@ impl WalkCore {
     ghost use Rattle.snmp_walk.specs.Request.{request_repetitions};
     ghost use Rattle.snmp_walk.specs.Taken.{is_over, is_awaited, stops, goes_on, closes};
     ghost use Rattle.snmp_walk.specs.Taken.{reads_next, reads_first, reads_last, got, take_of};
-    ghost use Rattle.snmp_walk.specs.Taken.{Takes, asked_for};
+    ghost use Rattle.snmp_walk.specs.Judged.{MeansBy};
+    ghost use Rattle.snmp_walk.specs.Taken.{asked_for};
     ghost use Rattle.snmp_walk.specs.Course.{step_of};
     ghost use Rattle.std.specs.Option.{option_map};
-    ghost use Rattle.snmp_walk.specs.Reading.{IsFrontOf, is_misplaced, AreSendable, read_front};
-    ghost use Rattle.snmp_walk.specs.Reading.{ending_at};
-    ghost use Rattle.snmp_wire.specs.Message.{var_bind};
+    ghost use Rattle.snmp_walk.specs.Reading.{IsFrontOf, is_misplaced, read_front};
+    ghost use Rattle.snmp_walk.specs.Reading.{ending_at, name_or};
     ghost use Rattle.std.specs.Prelude.{IfSome, IfNone};
     ghost use Rattle.snmp_walk.specs.Trail.{last_name};
     ghost use Rattle.snmp_walk.specs.Ordered.{IsAtOrBelow, IsUnsendable};
@@ -108,8 +111,9 @@ impl WalkCore {
         let Ok(asked) = sendable(&root) else {
             return Err(StartError::NotWire);
         };
+        let sent = NameBuffer::new(&asked.name());
         Ok(WalkCore {
-            root,
+            root: Root::new(root, sent),
             mode,
             method,
             community: owned(community),
@@ -147,9 +151,9 @@ impl WalkCore {
         ensures outside { result ≡ Err StartError.AfterOutsideRoot → IsWire (wire root)
             × (IsAtOrBelow after.now root → ⊥) }
     {
-        if root.to_wire().is_err() {
+        let Ok(sent) = sendable(&root) else {
             return Err(StartError::NotWire);
-        }
+        };
         if *after != root && !after.is_below(&root) {
             return Err(StartError::AfterOutsideRoot);
         }
@@ -157,7 +161,7 @@ impl WalkCore {
             return Err(StartError::NotWire);
         };
         Ok(WalkCore {
-            root,
+            root: Root::new(root, sent),
             mode: Mode::NoLast,
             method,
             community: owned(community),
@@ -180,11 +184,10 @@ impl WalkCore {
         if let Phase::Over = self.phase {
             return 0;
         }
-        let mut binding = Binding {
-            name: Oid::new(),
-            value: ValueRef::Null,
+        pieces();
+        let Some(total) = encode_asking(&self.asked.name(), &mut out[..]) else {
+            unreachable!()
         };
-        binding.name.set_to(&self.asked);
         let parts = Parts {
             version: 1,
             community: self.community.as_slice(),
@@ -192,9 +195,9 @@ impl WalkCore {
             id: self.id as i32,
             a: 0,
             b: self.repetitions(),
-            bindings: std::slice::from_ref(&binding),
+            bindings: &[],
         };
-        match encode(&parts, out) {
+        match seal(&parts, 0, total, &mut out[..]) {
             Some(length) => length,
             None => unreachable!(),
         }
@@ -203,8 +206,9 @@ impl WalkCore {
     /// Reads a datagram. Anything but the reply to the waiting request is `Stray` and changes
     /// nothing; after the end of the walk every datagram is.
     pub fn take<'a>(&mut self, datagram: &'a [u8]) -> Step<'a>
-        ensures { Takes self.old datagram.now result self.new }
+        ensures { MeansBy self.old datagram.now result self.new }
     {
+        codec();
         let Ok(message) = decode(datagram) else {
             return Step::Stray;
         };
@@ -253,27 +257,27 @@ impl WalkCore {
         Judgement::Ends(rows)
     }
 
-    /// Gives these `count` bindings, the last of which has the name `last`, and waits for the reply
-    /// to the next request.
+    /// Gives these `count` bindings, the last of which has the name `last`, or else the name asked
+    /// for, and waits for the reply to the next request.
     fn go_on<'a>(
         &mut self,
         next: Phase,
         rows: Rows<'a>,
         count: u32,
-        last: &Oid,
+        last: Option<EncodedName<'a>>,
         end: &mut WalkEnd,
     ) -> Judgement<'a>
         requires count { count ≡ length rows }
-        requires last { last.now ≡ last_name self.old.asked rows }
-        requires wire { IsWire last.now }
-        requires identifier { IsIdentifier last.now }
+        requires last { name_or self.old.asked last ≡ last_name self.old.asked rows }
         ensures { (step_of result end.new, self.new) ≡ goes_on self.old next rows.entry }
     {
         if self.id >= MAX_ID {
             return self.stop(rows, end, WalkEnd::TooManyRequests);
         }
         self.phase = next;
-        self.asked.set_to(last);
+        if let Some(last) = last {
+            self.asked.set_to(&last);
+        }
         self.id += 1;
         self.count += u64::from(count);
         Judgement::GoesOn(rows)
@@ -287,46 +291,41 @@ impl WalkCore {
     {
         let given = self.count + u64::from(count);
         if self.mode == Mode::Plain && given == 0 {
-            let asked = copy_of(&self.asked);
-            return self.go_on(Phase::Last, rows, 0, &asked, end);
+            return self.go_on(Phase::Last, rows, 0, None, end);
         }
         self.stop(rows, end, WalkEnd::Done(given))
     }
 
-    /// The instances below the root at the front of these bindings, their names rising from `last`,
-    /// the name asked for, on. Then `last` is the name of the last of them, and `binding` the one
-    /// that ends them, if one does. None where there are more bindings than were asked for, or
+    /// The instances below the root at the front of these bindings, their names rising from the
+    /// name asked for on. Then `last` is the name of the last of them, and `read` that of the last
+    /// binding that was read. None where there are more bindings than were asked for, or
     /// noSuchObject or noSuchInstance among them.
     ///
     /// Each binding is read once.
     fn front<'a>(
         &self,
         mut bindings: Bindings<'a>,
-        last: &mut Oid,
-        binding: &mut Binding<'a>,
+        last: &mut Option<EncodedName<'a>>,
+        read: &mut Option<EncodedName<'a>>,
     ) -> Option<Front>
-        requires asked { last.old ≡ self.now.asked }
-        requires wire { AreSendable bindings }
-        requires asked_wire { IsWire last.old }
-        requires asked_identifier { IsIdentifier last.old }
+        requires none { last.old ≡ None }
         ensures none { IfNone result
             (is_misplaced (asked_for self.now.method) bindings.entry ≡ true) }
         ensures some { IfSome result
             (λ front. (is_misplaced (asked_for self.now.method) bindings.entry ≡ false)
             × IsFrontOf self.now.root self.now.asked 0 bindings.entry
-            (read_front front last.new (var_bind binding.new).name)) }
-        ensures wire { IsWire last.new }
-        ensures identifier { IsIdentifier last.new }
+            (read_front front (name_or self.now.asked last.new) (name_or [] read.new))) }
     {
         let mut room = self.asked_for();
         let mut rows = 0;
-        'bindings: while bindings.read_next(binding) {
-            if room == 0 || lacks_value(&binding.value) {
+        'bindings: while let Some(binding) = bindings.next_ref() {
+            if room == 0 || lacks_value(&binding) {
                 return None;
             }
             room -= 1;
-            let ending = self.ending_at(last, binding);
+            let ending = self.ending_at(last, &binding);
             if ending != Ending::GoesOn {
+                *read = Some(binding.name());
                 return if is_misplaced(room, bindings) {
                     None
                 } else {
@@ -334,7 +333,7 @@ impl WalkCore {
                 };
             }
             rows += 1;
-            last.set_to(&binding.name);
+            *last = Some(binding.name());
         }
         Some(Front {
             rows,
@@ -352,17 +351,20 @@ impl WalkCore {
         }
     }
 
-    /// Whether the binding goes on after the name `last`, or how it ends the instances.
-    fn ending_at(&self, last: &Oid, binding: &Binding<'_>) -> Ending
-        ensures { result ≡ ending_at self.now.root last.now (var_bind binding.now) }
+    /// Whether the binding goes on after the name `last`, or else the name asked for, or how it
+    /// ends the instances.
+    fn ending_at(&self, last: &Option<EncodedName<'_>>, binding: &BindingRef<'_>) -> Ending
+        ensures { result ≡ ending_at self.now.root (name_or self.now.asked last.now) binding.now }
     {
         if !is_row(binding, &self.root) {
             return Ending::Leaves;
         }
-        if !comes_behind(last, &binding.name) {
-            return Ending::Falls;
-        }
-        Ending::GoesOn
+        let name = binding.name();
+        let rises = match last {
+            Some(last) => comes_after(last, &name),
+            None => comes_after(&self.asked.name(), &name),
+        };
+        if rises { Ending::GoesOn } else { Ending::Falls }
     }
 
     /// Whether the reply to a Get has no value for the name asked for. None where the reply isn't
@@ -371,14 +373,14 @@ impl WalkCore {
         ensures { result ≡ option_map
             (λ b. is_missing b.value) (got self.now.asked bindings.entry) }
     {
-        let binding = bindings.next()?;
-        if bindings.next().is_some()
-            || binding.name != self.asked
-            || matches!(binding.value, ValueRef::EndOfMibView)
+        let binding = bindings.next_ref()?;
+        if bindings.next_ref().is_some()
+            || !are_same(&binding.name(), &self.asked.name())
+            || binding.tag() == tag::END_OF_MIB_VIEW
         {
             return None;
         }
-        Some(lacks_value(&binding.value))
+        Some(lacks_value(&binding))
     }
 
     /// Reads the reply to the first request of a walk that includes the root, a Get of it.
@@ -391,9 +393,8 @@ impl WalkCore {
             None => self.stop(Rows::front(bindings, 0), end, WalkEnd::BadReply),
             Some(lacks_value) => {
                 let count = if lacks_value { 0 } else { 1 };
-                let asked = copy_of(&self.asked);
                 let rows = Rows::front(bindings, count as usize);
-                self.go_on(Phase::Rows, rows, count, &asked, end)
+                self.go_on(Phase::Rows, rows, count, None, end)
             }
         }
     }
@@ -413,33 +414,69 @@ impl WalkCore {
 
     /// Reads a reply with the next instances.
     fn read_next<'a>(&mut self, message: &MessageRef<'a>, end: &mut WalkEnd) -> Judgement<'a>
-        requires { AreSendable message.now.bindings }
         ensures { (step_of result end.new, self.new) ≡ reads_next self.old message.now.bindings }
     {
-        let mut last = Oid::new();
-        last.set_to(&self.asked);
-        let mut binding = Binding::empty();
-        let Some(Front { rows, ending }) = self.front(message.bindings(), &mut last, &mut binding)
+        let mut last = None;
+        let mut read = None;
+        let Some(Front { rows, ending }) = self.front(message.bindings(), &mut last, &mut read)
         else {
-            return self.stop(Rows::front(message.bindings(), 0), end, WalkEnd::BadReply);
+            return self.refuse(message, end);
         };
         let given = Rows::front(message.bindings(), rows as usize);
         match ending {
-            Ending::GoesOn if rows == 0 => {
-                self.stop(given, end, WalkEnd::NoProgress { asked: last })
-            }
-            Ending::GoesOn => self.go_on(Phase::Rows, given, rows, &last, end),
+            Ending::GoesOn if rows == 0 => self.stand(given, end),
+            Ending::GoesOn => self.go_on(Phase::Rows, given, rows, last, end),
             Ending::Leaves => self.close(given, rows, end),
-            Ending::Falls => {
-                let got = binding.name;
-                self.stop(given, end, WalkEnd::NotIncreasing { last, got })
-            }
+            Ending::Falls => self.fall(given, &last, &read, end),
         }
+    }
+
+    /// Ends the walk by a reply that isn't one to its request.
+    // This and the next two are functions of their own for their identifiers, which replies that
+    // go on need not clear.
+    #[inline(never)]
+    fn refuse<'a>(&mut self, message: &MessageRef<'a>, end: &mut WalkEnd) -> Judgement<'a>
+        ensures { (step_of result end.new, self.new) ≡ stops self.old [] WalkEnd.BadReply }
+    {
+        self.stop(Rows::front(message.bindings(), 0), end, WalkEnd::BadReply)
+    }
+
+    /// Ends the walk by a reply without instances, though there are more.
+    #[inline(never)]
+    fn stand<'a>(&mut self, rows: Rows<'a>, end: &mut WalkEnd) -> Judgement<'a>
+        ensures { (step_of result end.new, self.new)
+            ≡ stops self.old rows.entry (WalkEnd.NoProgress self.old.asked) }
+    {
+        let asked = oid_of(&self.asked.name());
+        self.stop(rows, end, WalkEnd::NoProgress { asked })
+    }
+
+    /// Ends the walk, after these bindings, by a name that doesn't come after `last`, or else the
+    /// name asked for.
+    #[inline(never)]
+    fn fall<'a>(
+        &mut self,
+        rows: Rows<'a>,
+        last: &Option<EncodedName<'a>>,
+        read: &Option<EncodedName<'a>>,
+        end: &mut WalkEnd,
+    ) -> Judgement<'a>
+        ensures { (step_of result end.new, self.new) ≡ stops self.old rows.entry
+            (WalkEnd.NotIncreasing (name_or self.old.asked last.now) (name_or [] read.now)) }
+    {
+        let last = match last {
+            Some(last) => oid_of(last),
+            None => oid_of(&self.asked.name()),
+        };
+        let got = match read {
+            Some(read) => oid_of(read),
+            None => Oid::new(),
+        };
+        self.stop(rows, end, WalkEnd::NotIncreasing { last, got })
     }
 
     /// Reads a message.
     fn take_message<'a>(&mut self, message: &MessageRef<'a>, end: &mut WalkEnd) -> Judgement<'a>
-        requires { AreSendable message.now.bindings }
         ensures { (step_of result end.new, self.new) ≡ take_of self.old message.now }
     {
         if !self.is_awaiting(message) {
@@ -502,13 +539,15 @@ enum Ending {
 const MAX_ID: u32 = 2147483647;
 
 /// The identifier as it is sent.
-fn sendable(oid: &Oid) -> Result<Oid, OidError>
+fn sendable(oid: &Oid) -> Result<NameBuffer, OidError>
     ensures ok { IfOk result (λ o. o ≡ wire oid.now) }
     ensures variant { IsOk result ↔ IsWire (wire oid.now) }
     ensures identifier { IfOk result IsIdentifier }
 {
     let sent = oid.to_wire()?;
-    Ok(copy_of(&sent))
+    let mut room = [0; MAX_CONTENT];
+    let name = EncodedName::write(&sent, &mut room);
+    Ok(NameBuffer::new(&name))
 }
 
 /// Which request a walk begins with.
@@ -544,15 +583,23 @@ pub(crate) fn copy_of(oid: &Oid) -> Oid
     }
 }
 
+/// The identifier of a name.
+fn oid_of(name: &EncodedName<'_>) -> Oid
+    ensures { result ≡ name.now }
+{
+    let mut oid = Oid::new();
+    name.read_into(&mut oid);
+    oid
+}
+
 /// Whether there are more of these bindings than there is room for, or noSuchObject or
 /// noSuchInstance among them.
 fn is_misplaced(room: u32, mut bindings: Bindings<'_>) -> bool
     ensures { result ≡ is_misplaced room bindings.entry }
 {
     let mut room = room;
-    let mut binding = Binding::empty();
-    'bindings: while bindings.read_next(&mut binding) {
-        if room == 0 || lacks_value(&binding.value) {
+    'bindings: while let Some(binding) = bindings.next_ref() {
+        if room == 0 || lacks_value(&binding) {
             return true;
         }
         room -= 1;
@@ -560,33 +607,30 @@ fn is_misplaced(room: u32, mut bindings: Bindings<'_>) -> bool
     false
 }
 
-/// Whether the name is longer than the root and begins with it.
-fn stands_below(name: &Oid, root: &Oid) -> bool
-    ensures { result ≡ is_below name.now root.now }
+/// Whether two names are the same.
+fn are_same(name: &EncodedName<'_>, other: &EncodedName<'_>) -> bool
+    ensures { result ≡ pointwise nat_eq name.now other.now }
 {
-    name.is_below(root)
+    name.compare(other).is_eq()
 }
 
 /// Whether the second name comes after the first.
-fn comes_behind(before: &Oid, name: &Oid) -> bool
+fn comes_after(before: &EncodedName<'_>, name: &EncodedName<'_>) -> bool
     ensures { result ≡ comes_after before.now name.now }
 {
-    before.cmp(name) == Ordering::Less
+    before.compare(name) == Ordering::Less
 }
 
 /// Whether the binding is an instance below the root.
-fn is_row(binding: &Binding<'_>, root: &Oid) -> bool
-    ensures { result ≡ is_inside root.now (var_bind binding.now) }
+fn is_row(binding: &BindingRef<'_>, root: &Root) -> bool
+    ensures { result ≡ is_inside root.now binding.now }
 {
-    match binding.value {
-        ValueRef::EndOfMibView => false,
-        _ => stands_below(&binding.name, root),
-    }
+    binding.tag() != tag::END_OF_MIB_VIEW && root.is_above(&binding.name())
 }
 
 /// Whether there is noSuchObject or noSuchInstance in place of a value.
-fn lacks_value(value: &ValueRef<'_>) -> bool
-    ensures { result ≡ is_missing (datum value.now) }
+fn lacks_value(binding: &BindingRef<'_>) -> bool
+    ensures { result ≡ is_missing binding.now.value }
 {
-    matches!(value, ValueRef::NoSuchObject | ValueRef::NoSuchInstance)
+    matches!(binding.tag(), tag::NO_SUCH_OBJECT | tag::NO_SUCH_INSTANCE)
 }

@@ -142,7 +142,7 @@ high_same (x ∷ xs) (y ∷ ys) h k a b e =
     ap (λ d. d ∷ xs) same ∙ ap (λ ds. y ∷ ds) (high_same xs ys h.1 k.1 a.1 b.1 rest)
 
 -- the low bits and the number of octets that go on decide a subidentifier
-same_subidentifier : (xs ys : List ℕ) (n : ℕ) → Octets xs → Octets ys → length xs ≡ length ys → IsSubidentifier xs n → IsSubidentifier ys n → xs ≡ ys
+pub same_subidentifier : (xs ys : List ℕ) (n : ℕ) → Octets xs → Octets ys → length xs ≡ length ys → IsSubidentifier xs n → IsSubidentifier ys n → xs ≡ ys
 same_subidentifier xs ys n h k size is made =
     let lows : low_bits xs ≡ low_bits ys = same_digits 128 (low_bits xs) (low_bits ys) (bits_below xs) (bits_below ys)
     (length-low_bits xs ∙ size ∙ sym (length-low_bits ys)) (is.value ∙ sym made.value) in

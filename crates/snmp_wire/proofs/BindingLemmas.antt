@@ -4,7 +4,8 @@ use Rattle.std.specs.Result.{result_unwrap_or}
 use Rattle.std.proofs.lemmas.List.{nil_from_length}
 use Rattle.snmp_wire.specs.declared.ber.error.BerError.{BerError}
 use Rattle.snmp_wire.specs.ber.Value.{Datum}
-use Rattle.snmp_wire.specs.Message.{VarBind}
+use Rattle.snmp_wire.specs.Lent.{binding_with}
+use Rattle.snmp_wire.specs.Message.{VarBind, null_value}
 use Rattle.snmp_wire.specs.ber.Reading.{◌>>=◌, checked, inner_at, identifier_of, typed_value}
 use Rattle.snmp_wire.specs.Reading.{Fields, fields_of, fields_at, binding_of, binding_at, bindings_within, bindings_of, bindings_in}
 use Rattle.snmp_wire.specs.ber.ReadingLaws.{ok_is, bind_ok, bind_same, ok_value, is_ok_at, checked_err, err_checked, ok_checked}
@@ -182,3 +183,24 @@ pub binding_made : (fields : Fields) (name : List ℕ) (value : Datum) → ident
     → binding_of fields ≡ Ok (record { name = name; value = value })
 unfolding binding_of
 binding_made fields name value e f = rw (e, f) refl
+
+-- and of a binding that is read so
+pub name_of : (fields : Fields) (binding : VarBind) (name : List ℕ) → binding_of fields ≡ Ok binding → identifier_of fields.name ≡ Ok name → name ≡ binding.name
+unfolding binding_of
+name_of fields binding name e f =
+    let n = bind_ok (identifier_of fields.name) (λ o. typed_value fields.tag fields.content >>= λ value. Ok (record { name = o; value = value })) binding e in
+    let v = bind_ok (typed_value fields.tag fields.content) (λ value. Ok (record { name = n.0; value = value })) binding n.2 in
+    ok_is name n.0 (sym f ∙ n.1) ∙ ap (λ (b : VarBind). b.name) (ok_is (record { name = n.0; value = v.0 }) binding v.2)
+
+pub value_of : (fields : Fields) (binding : VarBind) → binding_of fields ≡ Ok binding → typed_value fields.tag fields.content ≡ Ok binding.value
+unfolding binding_of
+value_of fields binding e =
+    let n = bind_ok (identifier_of fields.name) (λ o. typed_value fields.tag fields.content >>= λ value. Ok (record { name = o; value = value })) binding e in
+    let v = bind_ok (typed_value fields.tag fields.content) (λ value. Ok (record { name = n.0; value = value })) binding n.2 in
+    v.1 ∙ ap (λ (b : VarBind). Ok b.value) (ok_is (record { name = n.0; value = v.0 }) binding v.2)
+
+-- the binding of fields that are one's
+pub with_fields : (fields : Fields) → IsOk (binding_of fields) → binding_of fields ≡ Ok (binding_with fields)
+with_fields fields ok =
+    let b = ok_value (binding_of fields) ok in
+    b.1 ∙ sym (ap (λ (r : Result VarBind BerError). Ok (result_unwrap_or r (record { name = []; value = null_value }))) b.1)

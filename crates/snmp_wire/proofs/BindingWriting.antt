@@ -5,7 +5,7 @@ use Rattle.snmp_wire.specs.declared.binding.Binding.{Binding}
 use Rattle.snmp_wire.specs.Canon.{canon_binding, canon_bindings}
 use Rattle.snmp_wire.specs.ber.Canon.{canon_content, canon_element, canon_header, canon_length, canon_value}
 use Rattle.snmp_wire.specs.Message.{VarBind, var_bind, var_binds}
-use Rattle.snmp_wire.specs.ber.Value.{object_id}
+use Rattle.snmp_wire.specs.ber.Value.{object_id, null_value}
 use Rattle.snmp_wire.specs.ber.Spelling.{sequence_tag}
 use Rattle.snmp_wire.specs.ber.Writing.{Writes}
 use Rattle.snmp_wire.specs.ber.ElementLaws.{header_short, content_fits, element_size, header_fits, sizes_value, writes_element}
@@ -84,3 +84,17 @@ pub bindings_are : (bindings : List Binding) → flat_map binding_octets binding
 unfolding canon_bindings
 bindings_are [] = refl
 bindings_are (binding ∷ more) = ap (λ rest. canon_binding (var_bind binding) ++ rest) (bindings_are more)
+
+-- NULL has no content
+pub null_octets : canon_value null_value ≡ 5 ∷ 0 ∷ []
+unfolding canon_value canon_element canon_header canon_length canon_content
+null_octets = refl
+
+-- how long a binding is whose value is NULL
+pub sizes_null : (header name_header name : ℕ) (o : List ℕ) → name ≡ length (canon_content (object_id o)) → name_header ≡ 1 + length (canon_length name)
+    → header ≡ 1 + length (canon_length (name_header + name + 2))
+    → header + (name_header + name + 2) ≡ length (canon_binding (record { name = o; value = null_value }))
+sizes_null header name_header name o n hn h =
+    let of_name = sizes_value name_header name (object_id o) n hn in
+    let of_value : 2 ≡ length (canon_value null_value) = sym (ap length null_octets) in
+    sizes_binding header (name_header + name) 2 (record { name = o; value = null_value }) of_name of_value h

@@ -127,7 +127,7 @@ subidentifier_again text n rest h small =
     ap (λ (o : List ℕ). subidentifier_at (o ++ rest)) h.parts ∙ at_front h.front h.last rest minimal ∙ read ∙ ap (λ (v : ℕ). done (v, rest)) value
 
 -- a subidentifier has octets
-subidentifier_some : (text : List ℕ) (n : ℕ) → IsSubidentifier text n → 0 < length text
+pub subidentifier_some : (text : List ℕ) (n : ℕ) → IsSubidentifier text n → 0 < length text
 subidentifier_some text n h =
     let one : length text ≡ length h.front + 1 = ap length h.parts ∙ length-append h.front (h.last ∷ []) in
     omega arith

@@ -6,7 +6,7 @@ use Rattle.snmp_wire.specs.ber.Number.{lenient, strict}
 use Rattle.snmp_wire.specs.Spelling.{SpellsBinding, SpellsBindings, SpellsPdu, Spells, Strict}
 use Rattle.snmp_wire.specs.ber.Laws.{ShortestEncodings}
 
-binding_is_read : (laws : ShortestEncodings) (binding : VarBind) (text : List ℕ) → SpellsBinding strict binding text → SpellsBinding lenient binding text
+pub binding_is_read : (laws : ShortestEncodings) (binding : VarBind) (text : List ℕ) → SpellsBinding strict binding text → SpellsBinding lenient binding text
 binding_is_read laws binding text is = record {
   name = is.name;
   value = is.value;

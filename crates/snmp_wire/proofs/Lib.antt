@@ -2,6 +2,7 @@ pub mod OneShortest
 pub mod BindingLemmas
 pub mod FaultLaws
 pub mod Faultless
+pub mod Kept
 pub mod Lenient
 pub mod MessageLaws
 pub mod Octets
@@ -19,6 +20,9 @@ pub mod IdentifierWriting
 pub mod KnownLemmas
 pub mod LenientValues
 pub mod NumberLemmas
+pub mod NameComparing
+pub mod NameContents
+pub mod NameOrder
 pub mod NumberWriting
 pub mod ShortNumbers
 pub mod ShortestValues

@@ -120,7 +120,7 @@ binding_takes reading octets x e =
     let at_made : TakesBinding octets (made, a.0.1) = record { text = t.0; spells = spells; parts = t.2 ∙ ap (λ (o : List ℕ). t.0 ++ o) after_is } in
     subst (TakesBinding octets) (ap (λ (m : VarBind). (m, a.0.1)) (ok_is made b.0 v.2) ∙ ok_is (b.0, a.0.1) x b.2) at_made
 
-binding_again : (reading : ContentReading) (binding : VarBind) (text rest : List ℕ) → SpellsBinding lenient binding text
+pub binding_again : (reading : ContentReading) (binding : VarBind) (text rest : List ℕ) → SpellsBinding lenient binding text
     → binding_at (text ++ rest) ≡ Ok (binding, rest)
 unfolding binding_at fields_at binding_of
 binding_again reading binding text rest h =
@@ -149,7 +149,7 @@ element_some tag content element h =
     let one : length element ≡ suc (length (h.length_octets ++ content)) = ap length h.parts in
     omega arith
 
-bindings_again : (reading : ContentReading) (bindings : List VarBind) (octets : List ℕ) → SpellsBindings lenient bindings octets
+pub bindings_again : (reading : ContentReading) (bindings : List VarBind) (octets : List ℕ) → SpellsBindings lenient bindings octets
     → bindings_of octets ≡ Ok bindings
 unfolding bindings_of bindings_within
 bindings_again reading [] octets h = ap bindings_of h

@@ -145,12 +145,15 @@ unfolding subidentifier_size
 septets_fewest n zero some h = omega arith
 septets_fewest n (suc k) some h = omega (arith, digits_small 128 128 4 n k (omega (arith, h, pow-suc 128 k)))
 
+-- a subidentifier is below the power of its octets
+pub subidentifier_bound : (text : List ℕ) (n : ℕ) → IsSubidentifier text n → n < 128 ^ length text
+subidentifier_bound text n is = subst (λ (v : ℕ). v < 128 ^ length text) is.value
+    (subst (λ (k : ℕ). number_of 128 (low_bits text) < 128 ^ k) (length-low_bits text) (below_power 128 (low_bits text) (bits_below text)))
+
 pub subidentifier_shortest : (text : List ℕ) (n : ℕ) → IsSubidentifier text n → length (canon_subidentifier n) ≤ length text
 subidentifier_shortest text n is =
     let some : length text ≡ length is.front + 1 = ap length is.parts ∙ length-append is.front (is.last ∷ []) in
-    let bound : n < 128 ^ length text = subst (λ (v : ℕ). v < 128 ^ length text) is.value
-    (subst (λ (k : ℕ). number_of 128 (low_bits text) < 128 ^ k) (length-low_bits text) (below_power 128 (low_bits text) (bits_below text))) in
-    omega (arith, length-canon_subidentifier n, septets_fewest n (length text) (omega (arith, some)) bound)
+    omega (arith, length-canon_subidentifier n, septets_fewest n (length text) (omega (arith, some)) (subidentifier_bound text n is))
 
 pub subidentifiers_shortest : (content numbers : List ℕ) → AreSubidentifiers content numbers → length (flat_map canon_subidentifier numbers) ≤ length content
 subidentifiers_shortest content [] are = omega arith

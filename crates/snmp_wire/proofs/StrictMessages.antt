@@ -17,7 +17,7 @@ use Rattle.snmp_wire.specs.ber.Laws.{ShortestEncodings}
 
 -- ---- bindings
 
-spells_binding : (laws : ShortestEncodings) (binding : VarBind) → IsBindingInRange binding → SpellsBinding strict binding (canon_binding binding)
+pub spells_binding : (laws : ShortestEncodings) (binding : VarBind) → IsBindingInRange binding → SpellsBinding strict binding (canon_binding binding)
 unfolding canon_binding
 spells_binding laws binding h = record {
   name = canon_value (object_id binding.name);

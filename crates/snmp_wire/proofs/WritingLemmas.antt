@@ -1,6 +1,6 @@
 -- What writers leave: nothing, an octet more, a text.
-use Rattle.std.proofs.Common.{◌≡◌, ℕ, ◌+◌, ◌-◌, ◌<◌, ◌≤◌, List, [], ◌∷◌, ◌++◌, length, take, drop, set, refl, sym, ap, ◌∙◌, arith}
-use Rattle.std.proofs.lemmas.List.{take-set, drop-set, drop_all, length-take-le, drop_at, take_at}
+use Rattle.std.proofs.Common.{◌≡◌, ℕ, ◌+◌, ◌-◌, ◌<◌, ◌≤◌, List, [], ◌∷◌, ◌++◌, length, take, drop, set, refl, sym, ap, ◌∙◌, arith, length-drop}
+use Rattle.std.proofs.lemmas.List.{append-nil, drop-set, drop_all, drop_at, length-take-le, take-set, take_all, take_at}
 use Rattle.std.specs.List.{flat_map}
 use Rattle.snmp_wire.specs.ber.Writing.{Writes}
 use Rattle.snmp_wire.specs.ber.WritingLaws.{kept, writes_same}
@@ -35,3 +35,10 @@ writes_copy old text start end e h = record {
 -- of pieces, one for each element of a list, nothing is written where nothing is left
 pub writes_no_piece : {X : Type 0} (f : X → List ℕ) (xs : List X) (out : List ℕ) (end : ℕ) → Writes out end end (flat_map f (drop (length xs) xs)) out
 writes_no_piece f xs out end = writes_same (writes_none out end) (sym (ap (flat_map f) (drop_all (length xs) xs (omega arith))))
+
+-- what is written before the end of a slice is what lies there from its start on
+pub written_to_end : {old new text : List ℕ} {start end : ℕ} → Writes old start end text new → end ≡ length old
+    → take (length new - start) (drop start new) ≡ text
+written_to_end {old} {new} {text} {start} {end} w last =
+    take_all (length new - start) (drop start new) (omega (arith, length-drop start new))
+    ∙ w.after ∙ ap (λ (rest : List ℕ). text ++ rest) (drop_all end old (omega (arith, last))) ∙ append-nil text

@@ -1,7 +1,10 @@
 pub mod Canon
+pub mod Encoded
 pub mod Fault
 pub mod Laws
+pub mod Lent
 pub mod Message
+pub mod Name
 pub mod Parts
 pub mod Range
 pub mod Reading

@@ -2,7 +2,7 @@
 ghost use Rattle.std.specs.Prelude.{◌≡◌, ℕ, List, [], ◌∷◌, true, false, length, IsOk, Ok, ◌+◌, ◌^◌};
 ghost use Rattle.std.specs.Prelude.{◌<◌, ◌≤◌, ◌↔◌, ◌++◌, drop, IfSome, IfNone, IsSome, ⊤};
 ghost use Rattle.snmp_wire.specs.Message.{var_bind};
-ghost use Rattle.snmp_wire.specs.ber.Value.{null_value, object_id};
+ghost use Rattle.snmp_wire.specs.ber.Value.{datum, null_value, object_id};
 ghost use Rattle.snmp_wire.specs.Reading as reading;
 ghost use Rattle.snmp_wire.specs.ber.Reading.{AgreesBy, checked};
 ghost use Rattle.snmp_oid.specs.Identifier.{IsWire};
@@ -10,12 +10,15 @@ ghost use Rattle.snmp_wire.specs.Canon.{IsEncodable, canon_binding};
 ghost use Rattle.snmp_wire.specs.ber.Canon.{canon_value};
 ghost use Rattle.snmp_wire.specs.ber.Writing.{Writes};
 
+mod lent;
+
 use crate::ber::tag::{OBJECT_IDENTIFIER, SEQUENCE};
 use crate::ber::{
     BerError, ValueRef, check_identifier, check_value, content_size, element_at, header_size,
     identifier_size, inner_at, push_identifier, put_header, put_identifier, put_short_header,
     put_value, read_value,
 };
+pub use lent::BindingRef;
 use snmp_oid::Oid;
 use std::alloc::AllocError;
 use std::marker::Model;
@@ -61,6 +64,10 @@ impl<'a> Model for Bindings<'a> {
 }
 
 impl<'a> Bindings<'a> {
+    ghost use Rattle.std.specs.Prelude.{◌≡◌, [], ◌∷◌, true, false, IsOk, IfSome, IfNone};
+    ghost use Rattle.snmp_wire.specs.Message.{var_bind};
+    ghost use Rattle.snmp_wire.specs.Reading as reading;
+
     /// The bindings that the octets are.
     #[inline]
     pub(crate) fn new(octets: &'a [u8]) -> Bindings<'a>
@@ -87,15 +94,10 @@ impl<'a> Bindings<'a> {
         ensures some { result ≡ true → self.old ≡ var_bind into.new ∷ self.new }
         ensures none { result ≡ false → (self.old ≡ []) × (self.new ≡ []) × (into.new ≡ into.old) }
     {
-        if self.rest.is_empty() {
+        let Some(binding) = self.next_ref() else {
             return false;
-        }
-        let Some((fields, rest)) = short_fields_at(self.rest) else {
-            self.rest = read_long(self.rest, into);
-            return true;
         };
-        self.rest = rest;
-        read_binding(fields, into);
+        binding.read_into(into);
         true
     }
 }
@@ -236,21 +238,31 @@ fn left_over(tag: u8, content: &[u8]) -> BerError
     }
 }
 
-/// Reads the binding at the front into one that is there, whatever the form of its lengths, and
-/// returns what follows.
-#[cold]
-fn read_long<'a>(octets: &'a [u8], into: &mut Binding<'a>) -> &'a [u8]
+/// The fields of the binding at the front of octets that are known to be bindings, and what follows.
+// Hot: each binding that is read.
+#[inline(always)]
+fn fields_in<'a>(octets: &'a [u8]) -> (Fields<'a>, &'a [u8])
     requires some { 0 < length octets.now }
     requires bindings { IsOk (reading.bindings_of octets.now) }
-    ensures others { IsOk (reading.bindings_of result.now) }
-    ensures read { reading.bindings_in octets.now
-        ≡ var_bind into.new ∷ reading.bindings_in result.now }
+    ensures { reading.fields_at octets.now ≡ Ok (reading.fields result.0, result.1.now) }
 {
-    let Ok((fields, rest)) = any_fields_at(octets) else {
-        unreachable!()
-    };
-    read_binding(fields, into);
-    rest
+    match short_fields_at(octets) {
+        Some(found) => found,
+        None => long_fields_in(octets),
+    }
+}
+
+/// The same, whatever the form of the lengths.
+#[cold]
+fn long_fields_in<'a>(octets: &'a [u8]) -> (Fields<'a>, &'a [u8])
+    requires some { 0 < length octets.now }
+    requires bindings { IsOk (reading.bindings_of octets.now) }
+    ensures { reading.fields_at octets.now ≡ Ok (reading.fields result.0, result.1.now) }
+{
+    match any_fields_at(octets) {
+        Ok(found) => found,
+        Err(_) => unreachable!(),
+    }
 }
 
 /// Reads the binding of these fields into one that is there.
@@ -287,8 +299,22 @@ pub fn binding_size(binding: &Binding<'_>) -> u64
     ensures value { result ≡ length (canon_binding (var_bind binding.now)) }
     ensures at_most_70000 { result ≤ 70000 }
 {
-    let name = identifier_size(&binding.name);
-    let value = content_size(&binding.value);
+    pair_size(&binding.name, &binding.value)
+}
+
+/// How many octets the shortest encoding of the binding of a name and a value takes.
+// Hot: each binding that is written.
+#[inline(always)]
+pub(crate) fn pair_size(name: &Oid, value: &ValueRef<'_>) -> u64
+    requires { IsEncodable (record { name = name.now; value = datum value.now }) }
+    ensures value { result ≡ length (canon_binding (record {
+      name = name.now;
+      value = datum value.now;
+    })) }
+    ensures at_most_70000 { result ≤ 70000 }
+{
+    let name = identifier_size(name);
+    let value = content_size(value);
     if name + value < 124 {
         // Short, as most are: each of the three headers has two octets.
         return name + value + 6;
@@ -326,8 +352,23 @@ pub(crate) fn put_binding(out: &mut [u8], end: usize, binding: &Binding<'_>) -> 
     requires within { end ≤ length out.old }
     ensures { Writes out.old result end (canon_binding (var_bind binding.now)) out.new }
 {
-    let value = put_value(out, end, &binding.value);
-    let content = put_identifier(out, value, &binding.name);
+    put_pair(out, end, &binding.name, &binding.value)
+}
+
+/// Writes the binding of a name and a value before `end`, and returns where it begins.
+#[inline]
+pub(crate) fn put_pair(out: &mut [u8], end: usize, name: &Oid, value: &ValueRef<'_>) -> usize
+    requires encodable { IsEncodable (record { name = name.now; value = datum value.now }) }
+    requires room { length (canon_binding (record {
+      name = name.now;
+      value = datum value.now;
+    })) ≤ end }
+    requires within { end ≤ length out.old }
+    ensures { Writes out.old result end
+        (canon_binding (record { name = name.now; value = datum value.now })) out.new }
+{
+    let value = put_value(out, end, value);
+    let content = put_identifier(out, value, name);
     if end - content < 126 {
         // Short, as most are: each header has two octets.
         let name = put_short_header(out, content, OBJECT_IDENTIFIER, (value - content) as u64);

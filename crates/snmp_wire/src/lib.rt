@@ -30,14 +30,19 @@
 //! ```
 #![tactic(auto)]
 
+mod asking;
 mod ber;
 mod binding;
+mod encoded;
 mod kind;
 mod laws;
 mod message;
+mod name;
 
-pub use crate::ber::{BerError, OctetString, Value, ValueRef, element_sizes};
-pub use binding::{Binding, Bindings, binding_size, encode_binding};
+pub use crate::ber::{BerError, OctetString, Value, ValueRef, element_sizes, tag};
+pub use asking::{NameBuffer, encode_asking};
+pub use binding::{Binding, BindingRef, Bindings, binding_size, encode_binding};
+pub use encoded::EncodedBinding;
 pub use kind::Kind;
 pub use laws::{
     encoding_is_shortest, encoding_is_strict, message_sizes, no_fault, one_shortest_encoding,
@@ -46,4 +51,5 @@ pub use laws::{
 pub use message::{
     MAX_DATAGRAM, MessageRef, Parts, decode, encode, encode_head, head_size, seal, size,
 };
+pub use name::{EncodedName, MAX_CONTENT, encoded_names};
 pub use snmp_oid::{Oid, OidError, OidTextError, parse_numeric, write_numeric};

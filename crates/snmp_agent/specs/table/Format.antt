@@ -1,6 +1,6 @@
 -- The two formats of a table's text, which differ in how names are read and in where the name of a
 -- row ends.
-use Rattle.std.specs.Prelude.{◌≡◌, ◌≢◌, ◌≤◌, ℕ, Bool, List, ◌∷◌, ◌++◌, length, codes, All}
+use Rattle.std.specs.Prelude.{◌≡◌, ◌≢◌, ◌≤◌, ℕ, List, ◌∷◌, ◌++◌, length, codes, All}
 use Rattle.std.specs.Prelude.{Option, Some, None, IfSome, option_map}
 use Rattle.snmp_io.specs.Quotes.{quote_after, HasNoneOutside, IsFrontOf}
 use Rattle.snmp_oid.specs.Identifier.{IsIdentifier}

@@ -7,8 +7,7 @@ use Rattle.snmp_agent.specs.declared.table.line.LineFault.{LineFault}
 use Rattle.snmp_agent.specs.declared.table.line.LineFault.TheVariants as fault
 use Rattle.snmp_agent.specs.declared.table.line.Form.{Form}
 use Rattle.snmp_agent.specs.declared.table.line.Form.TheVariants as form
-use Rattle.snmp_agent.specs.table.Row.{datum_of, entry_of, tag_text}
-use Rattle.snmp_agent.specs.table.Places.{var_of}
+use Rattle.snmp_agent.specs.table.Row.{tag_text}
 use Rattle.snmp_agent.specs.table.Form.{Statement, nothing, object_prefix, instance}
 use Rattle.snmp_agent.specs.table.Form.{IsRowForm, IsObjectText, IsInstanceText}
 use Rattle.snmp_agent.specs.table.Form.{IsBadLine, IsBadName, IsBadValue}
@@ -18,7 +17,7 @@ use Rattle.snmp_agent.specs.table.Text.{IsBlank, IsObjectForm, IsValueText}
 abbrev pub statement_of : Line → Statement
 statement_of line.Nothing = nothing
 statement_of (line.Object numbers) = object_prefix numbers.items
-statement_of (line.Instance row) = instance (var_of (entry_of row))
+statement_of (line.Instance row) = instance row
 
 abbrev pub IsForm : Format → List ℕ → Option Form → Type 0
 IsForm format l None = IsBadLine format l
@@ -40,7 +39,7 @@ IsObjectRead format text (Err fault.Memory) = Unit {0}
 -- the instance that the texts of a line state, or the fault
 abbrev pub IsInstanceRead : Format → (name tag text : List ℕ) → Result Line LineFault → Type 0
 IsInstanceRead format name tag text (Ok (line.Instance row)) =
-    IsInstanceText format name row.name.items × IsValueText format tag text (datum_of row.value)
+    IsInstanceText format name row.name × IsValueText format tag text row.value
 IsInstanceRead format name tag text (Ok line.Nothing) = ⊥
 IsInstanceRead format name tag text (Ok (line.Object numbers)) = ⊥
 IsInstanceRead format name tag text (Err fault.Line) = ⊥

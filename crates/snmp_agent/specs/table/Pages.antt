@@ -1,21 +1,19 @@
--- How a table keeps its rows: in pages, by rising names over all of them. No clause of a public call
--- is stated by these.
+-- How a table keeps its rows: in pages, by rising names over all of them. Of this, public clauses
+-- name the rows behind a name alone (`AreBehind`).
 use Rattle.std.specs.Prelude.{◌≡◌, ℕ, suc, Some, ◌≤◌, ◌<◌, T, Bool, true, is_some, List, [], ◌∷◌}
 use Rattle.std.specs.Prelude.{◌++◌, map, length, take, drop}
 use Rattle.std.specs.Ordering.{nat_cmp, is_le}
 use Rattle.std.specs.List.{slice_get, remove as remove_at}
 use Rattle.std.specs.Cmp.Lexicographic.{slice_cmp}
 use Rattle.std.specs.FinMap.{FinMap, find, get, is_sorted}
-use Rattle.snmp_wire.specs.Message.{Datum}
-use Rattle.snmp_agent.specs.declared.table.encoded.EncodedRow.{EncodedRow}
+use Rattle.snmp_wire.specs.Message.{Datum, VarBind}
 use Rattle.snmp_agent.specs.declared.table.page.Page.{Page}
-use Rattle.snmp_agent.specs.table.Row.{entry_of}
-use Rattle.snmp_agent.specs.table.Places.{IsBeforeAll, IsBeforeNone, IsAfterAll}
+use Rattle.snmp_agent.specs.table.Places.{IsBeforeAll, IsBeforeNone, IsAfterAll, entry_of}
 use Rattle.snmp_agent.specs.table.Table.{MibView}
 
 -- the rows as entries
-abbrev pub entries_of : List EncodedRow → List (List ℕ × Datum)
-entries_of rows = map (λ r. entry_of r.row) rows
+abbrev pub entries_of : List VarBind → List (List ℕ × Datum)
+entries_of rows = map entry_of rows
 
 -- the rows of all pages as entries
 abbrev pub entries_in : List Page → List (List ℕ × Datum)
@@ -26,7 +24,7 @@ abbrev pub IsSorted : List (List ℕ × Datum) → Type 0
 IsSorted es = T (is_sorted (slice_cmp nat_cmp) es)
 
 -- the names of the rows rise
-abbrev pub IsRising : List EncodedRow → Type 0
+abbrev pub IsRising : List VarBind → Type 0
 IsRising rows = IsSorted (entries_of rows)
 
 -- the names of the rows rise over all pages
@@ -34,25 +32,25 @@ abbrev pub ArePages : List Page → Type 0
 ArePages pages = IsSorted (entries_in pages)
 
 -- whether the row has the name or one before it
-abbrev pub is_up_to : List ℕ → EncodedRow → Bool
-is_up_to o r = is_le (slice_cmp nat_cmp r.row.name.items o)
+abbrev pub is_up_to : List ℕ → VarBind → Bool
+is_up_to o r = is_le (slice_cmp nat_cmp r.name o)
 
 -- whether the first row does
-abbrev pub begins_up_to : List ℕ → List EncodedRow → Bool
+abbrev pub begins_up_to : List ℕ → List VarBind → Bool
 begins_up_to o [] = true
 begins_up_to o (row ∷ rows) = is_up_to o row
 
 -- the row at this place has the name
-pub record HasNameAt (o : List ℕ) (rows : List EncodedRow) (place : ℕ) : Type 0 where
-  pub found : EncodedRow
+pub record HasNameAt (o : List ℕ) (rows : List VarBind) (place : ℕ) : Type 0 where
+  pub found : VarBind
   pub at : slice_get rows place ≡ Some found
   pub low : place < length rows
-  pub name : found.row.name.items ≡ o
+  pub name : found.name ≡ o
   pub passed : IsAfterAll o (entries_of (take place rows))
   pub ahead : IsBeforeAll o (entries_of (drop (suc place) rows))
 
 -- no row has the name: those up to this place come before it, the others after it
-pub record BelongsAt (o : List ℕ) (rows : List EncodedRow) (place : ℕ) : Type 0 where
+pub record BelongsAt (o : List ℕ) (rows : List VarBind) (place : ℕ) : Type 0 where
   pub bound : place ≤ length rows
   pub passed : IsAfterAll o (entries_of (take place rows))
   pub ahead : IsBeforeAll o (entries_of (drop place rows))

@@ -33,6 +33,9 @@ IsAfterAll o (e ∷ es) = (slice_cmp nat_cmp o e.0 ≡ Greater) × IsAfterAll o 
 abbrev pub var_of : List ℕ × Datum → VarBind
 var_of e = record { name = e.0; value = e.1 }
 
+abbrev pub entry_of : VarBind → List ℕ × Datum
+entry_of p = (p.name, p.value)
+
 -- the name of the last entry, or another where there is none
 abbrev pub last_name : List ℕ → List (List ℕ × Datum) → List ℕ
 last_name o [] = o

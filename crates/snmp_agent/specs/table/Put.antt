@@ -10,9 +10,3 @@ abbrev pub IsPutError : List ℕ → Datum → PutError → Type 0
 IsPutError o v refusal.BadName = IsInstanceName o → ⊥
 IsPutError o v refusal.BadValue = IsInstanceName o × (IsInstanceValue v → ⊥)
 IsPutError o v refusal.Memory = IsInstanceName o × IsInstanceValue v
-
--- the same of the value alone
-abbrev pub IsValueError : Datum → PutError → Type 0
-IsValueError v refusal.BadName = ⊥
-IsValueError v refusal.BadValue = IsInstanceValue v → ⊥
-IsValueError v refusal.Memory = IsInstanceValue v

@@ -1,9 +1,8 @@
--- Rows: instances with their values.
+-- Values as the text of a table states them.
 use Rattle.std.specs.Prelude.{ℕ, ◌≤◌, List, length, codes}
 use Rattle.snmp_wire.specs.Message.{Datum}
 use Rattle.snmp_wire.specs.Message.Datum.{integer_value, octet_string, object_id, ip_address}
 use Rattle.snmp_wire.specs.Message.Datum.{counter32, gauge32, time_ticks, opaque_octets, counter64}
-use Rattle.snmp_agent.specs.declared.table.row.Row.{Row}
 use Rattle.snmp_agent.specs.declared.table.value.Tag.{Tag}
 use Rattle.snmp_agent.specs.declared.table.value.Tag.TheVariants as tag
 use Rattle.snmp_agent.specs.declared.table.row.RowValue.{RowValue}
@@ -29,14 +28,6 @@ name_length _ = 0
 -- where the value is an identifier, it has at most 128 numbers
 abbrev pub IsShort : RowValue → Type 0
 IsShort v = name_length v ≤ 128
-
-abbrev pub entry_of : Row → List ℕ × Datum
-entry_of row = (row.name.items, datum_of row.value)
-
--- the name of the row has at most 128 numbers, and so has its value where that is an identifier
-pub record IsShortRow (row : Row) : Type 0 where
-  pub name : length row.name.items ≤ 128
-  pub value : IsShort row.value
 
 -- the text of a tag
 abbrev pub tag_text : Tag → List ℕ

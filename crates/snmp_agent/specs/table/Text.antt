@@ -2,7 +2,7 @@
 -- of an object's instances, `object OID`, or a row, `OID|TAG|VALUE`. Where the first line is
 -- `#snmptab 2`, the text is of the second format. Lines end with LF, CR LF or the text, as those of
 -- Rust's `str::lines` do: a CR that no LF follows belongs to its line.
-use Rattle.std.specs.Prelude.{◌≡◌, ◌≢◌, ℕ, ℤ, pos, ◌^◌, ◌<◌, ◌≤◌, ◌⊎◌, true, List, [], ◌∷◌, ◌++◌}
+use Rattle.std.specs.Prelude.{◌≡◌, ◌≢◌, ℕ, ℤ, pos, ◌^◌, ◌<◌, ◌⊎◌, true, List, [], ◌∷◌, ◌++◌}
 use Rattle.std.specs.Prelude.{length, codes, All, AllPairs, Contains, Ok, FitsSigned, neg_ℤ}
 use Rattle.std.specs.Int.{w32}
 use Rattle.std.specs.Str.{all_ascii_digits}

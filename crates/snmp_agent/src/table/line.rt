@@ -9,10 +9,9 @@ ghost use Rattle.snmp_agent.specs.table.Text.{IsBlank, IsObjectForm};
 
 use crate::table::change::is_instance_name;
 use crate::table::format::LineFormat;
-use crate::table::row::Row;
 use crate::table::split::split_once;
 use crate::table::value::{Tag, value};
-use snmp_wire::Oid;
+use snmp_wire::{EncodedBinding, Oid};
 use std::alloc::{AllocError, Global};
 
 /// What a line states.
@@ -23,7 +22,7 @@ pub enum Line {
     /// An object prefix, as its numbers.
     Object(Vec<u32>),
     /// An instance with its value.
-    Instance(Row),
+    Instance(EncodedBinding),
 }
 
 /// Why a line states nothing that a table may hold.
@@ -133,10 +132,7 @@ fn instance<F: LineFormat>(
         return Err(LineFault::Name);
     };
     match value(alloc, format, tag, value_text)? {
-        Some(value) => Ok(Line::Instance(Row {
-            name: Vec::from_slice(alloc, oid.as_slice())?,
-            value,
-        })),
+        Some(value) => Ok(Line::Instance(EncodedBinding::new(alloc, &oid, &value.as_ref())?)),
         None => Err(LineFault::Value),
     }
 }

@@ -2,9 +2,8 @@
 ghost use Rattle.std.specs.Prelude.{◌≡◌, ◌≤◌, length, IfOk, IfErr};
 ghost use Rattle.std.specs.List.{insert};
 
-use crate::table::encoded::EncodedRow;
 use crate::table::search::find_row;
-use snmp_oid::compare_numbers;
+use snmp_wire::{EncodedBinding, EncodedName};
 use std::alloc::{AllocError, Global};
 
 /// How many rows a page has at most.
@@ -14,7 +13,7 @@ pub const PAGE_ROWS: usize = 256;
 #[derive(Drop)]
 pub struct Page {
     /// The rows, of which there is one at least.
-    pub rows: Vec<EncodedRow>,
+    pub rows: Vec<EncodedBinding>,
     ghost some: { 1 ≤ length rows.items },
     ghost most: { length rows.items ≤ 256 },
 }
@@ -25,11 +24,10 @@ impl Page {
     ghost use Rattle.std.specs.Cmp.Lexicographic.{slice_cmp};
     ghost use Rattle.std.specs.FinMap.Entries.{put};
     ghost use Rattle.std.specs.List.{remove as remove_at};
-    ghost use Rattle.snmp_agent.specs.table.Row.{datum_of};
     ghost use Rattle.snmp_agent.specs.table.Pages.{IsRising, entries_of, has_name};
 
     /// A page of one row.
-    pub fn of_row(alloc: Global, row: EncodedRow) -> Result<Page, AllocError>
+    pub fn of_row(alloc: Global, row: EncodedBinding) -> Result<Page, AllocError>
         ensures { IfOk result (λ page. page.rows.items ≡ row ∷ []) }
     {
         let mut rows = Vec::new(alloc);
@@ -39,20 +37,33 @@ impl Page {
         }
     }
 
-    /// Puts a row in its place among the others, or in place of the one that has its name, and
-    /// returns whether there was one.
-    pub fn put(&mut self, row: EncodedRow) -> Result<bool, AllocError>
-        requires rising { IsRising self.old.rows.items }
-        requires room { length self.old.rows.items < 256 }
-        ensures put { IfOk result (λ _. entries_of self.new.rows.items
-            ≡ put (slice_cmp nat_cmp) row.row.name.items (datum_of row.row.value) (entries_of
-            self.old.rows.items)) }
-        ensures replaced { IfOk result (λ replaced. replaced
-            ≡ has_name row.row.name.items (entries_of self.old.rows.items)) }
+    /// Appends a row.
+    pub fn push(&mut self, row: EncodedBinding) -> Result<(), AllocError>
+        requires { length self.old.rows.items < 256 }
+        ensures pushed { IfOk result (λ _. self.new.rows.items ≡ self.old.rows.items ++ row ∷ []) }
         ensures unchanged_on_error { IfErr result (λ _. self.new.rows.items
             ≡ self.old.rows.items) }
     {
-        match find_row(self.rows.as_slice(), row.row.name.as_slice()) {
+        match self.rows.push(row) {
+            Ok(()) => Ok(()),
+            Err(_) => Err(AllocError),
+        }
+    }
+
+    /// Puts a row in its place among the others, or in place of the one that has its name, and
+    /// returns whether there was one.
+    pub fn put(&mut self, row: EncodedBinding) -> Result<bool, AllocError>
+        requires rising { IsRising self.old.rows.items }
+        requires room { length self.old.rows.items < 256 }
+        ensures put { IfOk result (λ _. entries_of self.new.rows.items
+            ≡ put (slice_cmp nat_cmp) row.name row.value (entries_of self.old.rows.items)) }
+        ensures replaced { IfOk result (λ replaced. replaced
+            ≡ has_name row.name (entries_of self.old.rows.items)) }
+        ensures unchanged_on_error { IfErr result (λ _. self.new.rows.items
+            ≡ self.old.rows.items) }
+    {
+        let found = find_row(self.rows.as_slice(), &row.name());
+        match found {
             Ok(place) => {
                 self.rows[place] = row;
                 Ok(true)
@@ -66,7 +77,7 @@ impl Page {
 
     /// Divides the page, and returns its back: the half of its rows, or the last alone if the name
     /// comes behind it, so that rows which come in order fill their pages.
-    pub fn divide(&mut self, name: &[u32]) -> Result<Page, AllocError>
+    pub fn divide(&mut self, name: &EncodedName<'_>) -> Result<Page, AllocError>
         requires { 1 < length self.old.rows.items }
         ensures parts { IfOk result (λ back. self.old.rows.items
             ≡ self.new.rows.items ++ back.rows.items) }
@@ -75,7 +86,7 @@ impl Page {
     {
         let count = self.rows.len();
         let place = match self.rows.last() {
-            Some(row) if compare_numbers(row.row.name.as_slice(), name).is_lt() => count - 1,
+            Some(row) if row.name().compare(name).is_lt() => count - 1,
             _ => count / 2,
         };
         match self.rows.split_off(place) {
@@ -95,7 +106,11 @@ impl Page {
 }
 
 /// Inserts a row at a place.
-fn insert_row(rows: &mut Vec<EncodedRow>, place: usize, row: EncodedRow) -> Result<(), AllocError>
+fn insert_row(
+    rows: &mut Vec<EncodedBinding>,
+    place: usize,
+    row: EncodedBinding,
+) -> Result<(), AllocError>
     requires { place ≤ length rows.old.items }
     ensures inserted { IfOk result (λ _. rows.new.items ≡ insert rows.old.items place row) }
     ensures unchanged_on_error { IfErr result (λ _. rows.new.items ≡ rows.old.items) }

@@ -1,15 +1,13 @@
 //! The rows of a table, in pages, and the rows behind a name.
 ghost use Rattle.std.specs.Prelude.{◌≡◌, ◌≤◌, ◌++◌, ◌∷◌, [], length, IfOk, IfErr};
-ghost use Rattle.snmp_agent.specs.table.Places.{last_name};
+ghost use Rattle.snmp_agent.specs.table.Places.{entry_of, last_name};
 ghost use Rattle.snmp_agent.specs.table.Pages.{ArePages, IsPageOf, IsLongPage, IsPageWithRoom};
 ghost use Rattle.snmp_agent.specs.table.Pages.{IsRowIn, IsWithoutRow, entries_in, entries_of};
 
-use crate::table::encoded::EncodedRow;
 use crate::table::page::{PAGE_ROWS, Page};
-use crate::table::row::{Row, set_name};
-use crate::table::search::{begins_up_to, find_row, page_of, place_after, row_at};
+use crate::table::search::{begins_up_to, ends_before, find_row, page_of, place_after, row_at};
 use snmp_oid::order;
-use snmp_wire::{Binding, Oid, ValueRef};
+use snmp_wire::{Binding, EncodedBinding, EncodedName, Oid, ValueRef};
 use std::alloc::{AllocError, Global};
 use std::marker::Model;
 
@@ -41,8 +39,6 @@ impl Pages {
     ghost use Rattle.std.specs.Option.{option_map};
     ghost use Rattle.std.specs.FinMap.{contains_key, entries, get, insert, remove as remove_key};
     ghost use Rattle.snmp_wire.specs.Message.{Datum};
-    ghost use Rattle.snmp_agent.specs.table.Row.{datum_of};
-    ghost use Rattle.snmp_agent.specs.table.Table.{IsInstanceName, IsInstanceValue};
     ghost use Rattle.snmp_agent.specs.table.Pages.{StandsApart};
 
     /// No rows.
@@ -55,10 +51,10 @@ impl Pages {
     }
 
     /// The row of this name.
-    pub fn find(&self, name: &[u32]) -> Option<&EncodedRow>
-        ensures value { option_map (λ row. datum_of row.now.row.value) result
+    pub fn find(&self, name: &EncodedName<'_>) -> Option<&EncodedBinding>
+        ensures value { option_map (λ row. row.now.value) result
             ≡ get self.now name.now }
-        ensures name { IfSome result (λ row. row.now.row.name.items ≡ name.now) }
+        ensures name { IfSome result (λ row. row.now.name ≡ name.now) }
     {
         let pages = self.list.as_slice();
         let page = pages.get(page_of(pages, name))?;
@@ -66,7 +62,7 @@ impl Pages {
     }
 
     /// The rows behind this name.
-    pub fn after(&self, name: &[u32]) -> Successors<'_>
+    pub fn after(&self, name: &EncodedName<'_>) -> Successors<'_>
         ensures { (front : List (List ℕ × Datum)) × StandsApart self.now name.now front result }
     {
         let pages = self.list.as_slice();
@@ -85,28 +81,23 @@ impl Pages {
 
     /// Puts a row in its place among the others, or in place of the one that has its name, and
     /// returns whether there was one.
-    pub fn put(&mut self, alloc: Global, row: Row) -> Result<bool, AllocError>
-        requires name { IsInstanceName row.name.items }
-        requires value { IsInstanceValue (datum_of row.value) }
-        ensures put { IfOk result (λ _. self.new
-            ≡ insert self.old row.name.items (datum_of row.value)) }
-        ensures replaced { IfOk result (λ replaced. replaced
-            ≡ contains_key self.old row.name.items) }
+    pub fn put(&mut self, alloc: Global, row: EncodedBinding) -> Result<bool, AllocError>
+        ensures put { IfOk result (λ _. self.new ≡ insert self.old row.name row.value) }
+        ensures replaced { IfOk result (λ replaced. replaced ≡ contains_key self.old row.name) }
         ensures unchanged_on_error { IfErr result (λ _. self.new ≡ self.old) }
     {
-        let row = EncodedRow::new(alloc, row)?;
-        if self.list.is_empty() {
-            let page = Page::of_row(alloc, row)?;
-            push_page(&mut self.list, page)?;
+        let name = row.name();
+        if ends_before(self.list.as_slice(), &name) {
+            append(alloc, &mut self.list, row)?;
             return Ok(false);
         }
-        let place = page_with_room(&mut self.list, row.row.name.as_slice())?;
+        let place = page_with_room(&mut self.list, &name)?;
         let replaced = self.list[place].put(row)?;
         Ok(replaced)
     }
 
     /// Removes the row of this name, and returns whether there was one.
-    pub fn remove(&mut self, name: &[u32]) -> bool
+    pub fn remove(&mut self, name: &EncodedName<'_>) -> bool
         ensures removed { self.new ≡ remove_key self.old name.now }
         ensures found { result ≡ contains_key self.old name.now }
     {
@@ -124,6 +115,23 @@ impl Pages {
     }
 }
 
+/// Appends a row that comes after all others.
+fn append(alloc: Global, pages: &mut Vec<Page>, row: EncodedBinding) -> Result<(), AllocError>
+    ensures rows { IfOk result (λ _. entries_in pages.new.items
+        ≡ entries_in pages.old.items ++ entry_of row ∷ []) }
+    ensures unchanged_on_error { IfErr result (λ _. entries_in pages.new.items
+        ≡ entries_in pages.old.items) }
+{
+    let count = pages.len();
+    if count > 0 && pages[count - 1].rows.len() < PAGE_ROWS {
+        pages[count - 1].push(row)?;
+        return Ok(());
+    }
+    let page = Page::of_row(alloc, row)?;
+    push_page(pages, page)?;
+    Ok(())
+}
+
 /// Appends a page.
 fn push_page(pages: &mut Vec<Page>, page: Page) -> Result<(), AllocError>
     ensures pushed { IfOk result (λ _. pages.new.items ≡ pages.old.items ++ page ∷ []) }
@@ -136,7 +144,7 @@ fn push_page(pages: &mut Vec<Page>, page: Page) -> Result<(), AllocError>
 }
 
 /// The place of the page where a row of this name belongs, which is divided before if it is full.
-fn page_with_room(pages: &mut Vec<Page>, name: &[u32]) -> Result<usize, AllocError>
+fn page_with_room(pages: &mut Vec<Page>, name: &EncodedName<'_>) -> Result<usize, AllocError>
     requires rising { ArePages pages.old.items }
     requires some { 1 ≤ length pages.old.items }
     ensures rows { entries_in pages.new.items ≡ entries_in pages.old.items }
@@ -150,7 +158,7 @@ fn page_with_room(pages: &mut Vec<Page>, name: &[u32]) -> Result<usize, AllocErr
 }
 
 /// Divides the page where a row of this name belongs, and returns the place where it belongs then.
-fn divide(pages: &mut Vec<Page>, place: usize, name: &[u32]) -> Result<usize, AllocError>
+fn divide(pages: &mut Vec<Page>, place: usize, name: &EncodedName<'_>) -> Result<usize, AllocError>
     requires rising { ArePages pages.old.items }
     requires place { IsPageOf name.now pages.old.items place }
     requires rows { IsLongPage pages.old.items place }
@@ -186,7 +194,7 @@ fn remove_row(pages: &mut Vec<Page>, place: usize, row: usize)
 #[derive(Drop)]
 pub struct Successors<'a> {
     /// Those of the page where it stands.
-    rows: &'a [EncodedRow],
+    rows: &'a [EncodedBinding],
     /// The pages behind that.
     pages: &'a [Page],
 }
@@ -205,8 +213,7 @@ impl<'a> Successors<'a> {
     ghost use Rattle.std.specs.Prelude.{◌≡◌, ◌↔◌, ◌∷◌, [], ℕ, List, take, drop, IfSome, IfNone};
     ghost use Rattle.std.specs.Prelude.{IsTrue};
     ghost use Rattle.snmp_wire.specs.Message.{var_bind};
-    ghost use Rattle.snmp_agent.specs.table.Row.{entry_of};
-    ghost use Rattle.snmp_agent.specs.table.Places.{last_name};
+    ghost use Rattle.snmp_agent.specs.table.Places.{entry_of, last_name};
     ghost use Rattle.snmp_agent.specs.table.Pages.{AreBehind};
     ghost use Rattle.snmp_agent.specs.table.Table.{MibView, IsNext};
 
@@ -228,8 +235,8 @@ impl<'a> Successors<'a> {
 
     /// The first row. Those behind it are left.
     #[inline]
-    pub(crate) fn next_row(&mut self) -> Option<&'a EncodedRow>
-        ensures some { IfSome result (λ row. self.old ≡ entry_of row.now.row ∷ self.new) }
+    pub(crate) fn next_row(&mut self) -> Option<&'a EncodedBinding>
+        ensures some { IfSome result (λ row. self.old ≡ entry_of row.now ∷ self.new) }
         ensures none { IfNone result ((self.old ≡ []) × (self.new ≡ [])) }
     {
         if let Some((row, rows)) = self.rows.split_first() {
@@ -289,10 +296,10 @@ impl<'a> Default for Successors<'a> {
 }
 
 /// Changes a name to that of the last row, if there is one.
-fn set_to_last(name: &mut Oid, rows: &[EncodedRow])
+fn set_to_last(name: &mut Oid, rows: &[EncodedBinding])
     ensures { name.new ≡ last_name name.old (entries_of rows.now) }
 {
     if let Some(row) = rows.last() {
-        set_name(name, row.row.name.as_slice());
+        row.name().read_into(name);
     }
 }

@@ -1,21 +1,21 @@
 //! Where the rows of names stand among others.
 ghost use Rattle.std.specs.Prelude.{◌≡◌, ◌≤◌, length, take, drop, IfOk, IfErr, IfSome};
+ghost use Rattle.std.specs.Prelude.{IsTrue};
 ghost use Rattle.std.specs.Option.{option_map};
 ghost use Rattle.std.specs.Ordering.{nat_cmp};
 ghost use Rattle.std.specs.Cmp.Lexicographic.{slice_cmp};
 ghost use Rattle.std.specs.FinMap.{find};
-ghost use Rattle.snmp_agent.specs.table.Row.{datum_of};
-ghost use Rattle.snmp_agent.specs.table.Places.{IsBeforeNone, IsBeforeAll};
-ghost use Rattle.snmp_agent.specs.table.Pages.{IsRising, ArePages, is_up_to, begins_up_to, entries_of};
+ghost use Rattle.snmp_agent.specs.table.Places.{IsAfterAll, IsBeforeNone, IsBeforeAll};
+ghost use Rattle.snmp_agent.specs.table.Pages.{IsRising, ArePages, is_up_to, begins_up_to};
+ghost use Rattle.snmp_agent.specs.table.Pages.{entries_in, entries_of};
 ghost use Rattle.snmp_agent.specs.table.Pages.{HasNameAt, BelongsAt, IsPageOf};
 
-use crate::table::encoded::EncodedRow;
 use crate::table::page::Page;
-use snmp_oid::compare_numbers;
+use snmp_wire::{EncodedBinding, EncodedName};
 
 /// The place of the only page that may have a row of this name: the last one that begins with it or
 /// a name before it, else the first.
-pub fn page_of(pages: &[Page], name: &[u32]) -> usize
+pub fn page_of(pages: &[Page], name: &EncodedName<'_>) -> usize
     requires { ArePages pages.now }
     ensures { IsPageOf name.now pages.now result }
 {
@@ -28,41 +28,56 @@ pub fn page_of(pages: &[Page], name: &[u32]) -> usize
         .saturating_sub(1)
 }
 
+/// Whether all rows come before the name.
+pub fn ends_before(pages: &[Page], name: &EncodedName<'_>) -> bool
+    requires { ArePages pages.now }
+    ensures before { IsTrue result → IsAfterAll name.now (entries_in pages.now) }
+    ensures some { (IsTrue result → ⊥) → 1 ≤ length pages.now }
+{
+    let Some(page) = pages.last() else {
+        return true;
+    };
+    match page.rows.as_slice().last() {
+        Some(row) => row.name().compare(name).is_lt(),
+        None => unreachable!(),
+    }
+}
+
 /// Whether the first row has the name or one before it.
-pub fn begins_up_to(rows: &[EncodedRow], name: &[u32]) -> bool
+pub fn begins_up_to(rows: &[EncodedBinding], name: &EncodedName<'_>) -> bool
     ensures { result ≡ begins_up_to name.now rows.now }
 {
     match rows.first() {
-        Some(row) => compare_numbers(row.row.name.as_slice(), name).is_le(),
+        Some(row) => row.name().compare(name).is_le(),
         None => true,
     }
 }
 
 /// How many rows at the front have the name or one before it.
-pub fn place_after(rows: &[EncodedRow], name: &[u32]) -> usize
+pub fn place_after(rows: &[EncodedBinding], name: &EncodedName<'_>) -> usize
     requires { IsRising rows.now }
     ensures bound { result ≤ length rows.now }
     ensures passed { IsBeforeNone name.now (entries_of (take result rows.now)) }
     ensures ahead { IsBeforeAll name.now (entries_of (drop result rows.now)) }
 {
     rows.partition_point(
-        |row: &EncodedRow| -> bool
+        |row: &EncodedBinding| -> bool
             ensures { result ≡ is_up_to name.entry.now row.now }
-        { compare_numbers(row.row.name.as_slice(), name).is_le() },
+        { row.name().compare(name).is_le() },
     )
 }
 
 /// The row of this name.
-pub fn row_at<'a>(rows: &'a [EncodedRow], name: &[u32]) -> Option<&'a EncodedRow>
+pub fn row_at<'a>(rows: &'a [EncodedBinding], name: &EncodedName<'_>) -> Option<&'a EncodedBinding>
     requires { IsRising rows.now }
     ensures value { option_map
-        (λ row. datum_of row.now.row.value) result ≡ find (slice_cmp nat_cmp) name.now (entries_of
+        (λ row. row.now.value) result ≡ find (slice_cmp nat_cmp) name.now (entries_of
         rows.now) }
-    ensures name { IfSome result (λ row. row.now.row.name.items ≡ name.now) }
+    ensures name { IfSome result (λ row. row.now.name ≡ name.now) }
 {
     let (front, _) = rows.split_at(place_after(rows, name));
     let row = front.last()?;
-    if row.row.name.as_slice() == name {
+    if row.name().compare(name).is_eq() {
         Some(row)
     } else {
         None
@@ -70,7 +85,7 @@ pub fn row_at<'a>(rows: &'a [EncodedRow], name: &[u32]) -> Option<&'a EncodedRow
 }
 
 /// The place of the row of this name, or else, as an error, the place where it belongs.
-pub fn find_row(rows: &[EncodedRow], name: &[u32]) -> Result<usize, usize>
+pub fn find_row(rows: &[EncodedBinding], name: &EncodedName<'_>) -> Result<usize, usize>
     requires { IsRising rows.now }
     ensures found { IfOk result (HasNameAt name.now rows.now) }
     ensures none { IfErr result (BelongsAt name.now rows.now) }
@@ -78,7 +93,7 @@ pub fn find_row(rows: &[EncodedRow], name: &[u32]) -> Result<usize, usize>
     let place = place_after(rows, name);
     let (front, _) = rows.split_at(place);
     match front.last() {
-        Some(row) if row.row.name.as_slice() == name => Ok(place - 1),
+        Some(row) if row.name().compare(name).is_eq() => Ok(place - 1),
         _ => Err(place),
     }
 }

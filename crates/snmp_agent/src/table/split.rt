@@ -2,6 +2,8 @@
 ghost use Rattle.std.specs.Prelude.{◌≡◌, ◌≢◌, ◌<◌, ◌++◌, ◌∷◌, length, All, MatchOption};
 ghost use Rattle.std.specs.Str.Lines.{lines, strip_carriage_return};
 
+use memchr::memchr;
+
 /// The texts before and after the first octet that equals the separator, or None where there is
 /// none.
 pub fn split_once(text: &[u8], separator: u8) -> Option<(&[u8], &[u8])>
@@ -9,7 +11,7 @@ pub fn split_once(text: &[u8], separator: u8) -> Option<(&[u8], &[u8])>
         (λ parts. (text.now ≡ parts.0.now ++ separator ∷ parts.1.now)
         × All (λ octet. octet ≢ separator) parts.0.now) }
 {
-    let end = text.iter().position(|octet| *octet == separator)?;
+    let end = memchr(separator, text)?;
     Some((&text[..end], &text[end + 1..]))
 }
 

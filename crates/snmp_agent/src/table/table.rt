@@ -2,18 +2,16 @@
 ghost use Rattle.std.specs.Prelude.{◌↔◌, map, IsTrue};
 ghost use Rattle.snmp_agent.specs.table.Places.{HasBeginning};
 
-use crate::table::change::{is_instance_name, owned_value};
+use crate::table::change::{is_instance_name, is_instance_value};
 use crate::table::draft::Draft;
-use crate::table::encoded::EncodedRow;
 use crate::table::error::{PutError, TableError};
 use crate::table::format::{
     FirstFormat, LineFormat, NumericNames, Resolver, SecondFormat, is_marked,
 };
 use crate::table::pages::{Pages, Successors};
-use crate::table::row::Row;
 use crate::table::split::split_line;
 use snmp_oid::order;
-use snmp_wire::{Binding, Oid, ValueRef};
+use snmp_wire::{Binding, EncodedBinding, EncodedName, MAX_CONTENT, Oid, ValueRef};
 use std::alloc::Global;
 use std::collections::BTreeSet;
 use std::marker::Model;
@@ -48,13 +46,12 @@ impl Table {
     ghost use Rattle.snmp_wire.specs.Message.{datum, var_bind};
     ghost use Rattle.std.specs.Prelude.{◌≡◌, IfOk, IfErr, IfSome};
     ghost use Rattle.std.specs.Str.Lines.{lines};
-    ghost use Rattle.std.specs.FinMap.{contains_key};
+    ghost use Rattle.std.specs.Option.{option_map};
+    ghost use Rattle.std.specs.FinMap.{contains_key, get};
     ghost use Rattle.snmp_agent.specs.table.Table.{IsGet, IsNext, IsNextAfter, IsAnswerValue, IsMibView};
     ghost use Rattle.snmp_agent.specs.table.Table.{IsInstanceName, IsInstanceValue, with_row};
     ghost use Rattle.snmp_agent.specs.table.Table.{without_row};
     ghost use Rattle.snmp_agent.specs.table.Put.{IsPutError};
-    ghost use Rattle.snmp_agent.specs.table.Row.{entry_of};
-    ghost use Rattle.snmp_agent.specs.table.Places.{var_of};
     ghost use Rattle.snmp_agent.specs.table.Pages.{AreBehind};
     ghost use Rattle.snmp_oid.specs.Identifier.{IsWire};
     ghost use Rattle.snmp_agent.specs.table.Format.{numeric_names};
@@ -128,14 +125,13 @@ impl Table {
         if !is_instance_name(name) {
             return Err(PutError::BadName);
         }
-        let value = match owned_value(self.alloc, &value) {
-            Ok(value) => value,
-            Err(error) => return Err(error),
-        };
-        let Ok(name) = Vec::from_slice(self.alloc, name.as_slice()) else {
+        if !is_instance_value(&value) {
+            return Err(PutError::BadValue);
+        }
+        let Ok(row) = EncodedBinding::new(self.alloc, name, &value) else {
             return Err(PutError::Memory);
         };
-        match self.rows.put(self.alloc, Row { name, value }) {
+        match self.rows.put(self.alloc, row) {
             Ok(replaced) => Ok(replaced),
             Err(_) => Err(PutError::Memory),
         }
@@ -147,7 +143,12 @@ impl Table {
         ensures removed { self.new ≡ without_row self.old name.now }
         ensures found { result ≡ contains_key self.old.rows name.now }
     {
-        self.rows.remove(name.as_slice())
+        self.is_mib_view();
+        if !name.is_wire() {
+            return false;
+        }
+        let mut content = [0; MAX_CONTENT];
+        self.rows.remove(&EncodedName::write(name, &mut content))
     }
 
     /// What a table serves is a MIB view: a law, which does nothing when it runs.
@@ -158,10 +159,22 @@ impl Table {
     }
 
     /// The row of this name.
-    pub(crate) fn row(&self, name: &Oid) -> Option<&EncodedRow>
-        ensures { IfSome result (λ row. IsGet self.now name.now (var_of (entry_of row.now.row))) }
+    pub(crate) fn row(&self, name: &EncodedName<'_>) -> Option<&EncodedBinding>
+        ensures { IfSome result (λ row. IsGet self.now name.now row.now) }
     {
-        self.rows.find(name.as_slice())
+        self.rows.find(name)
+    }
+
+    /// The row of this name, which may have no encoding: no row has it then.
+    fn row_of(&self, name: &Oid) -> Option<&EncodedBinding>
+        ensures { option_map (λ row. row.now.value) result ≡ get self.now.rows name.now }
+    {
+        self.is_mib_view();
+        if !name.is_wire() {
+            return None;
+        }
+        let mut content = [0; MAX_CONTENT];
+        self.rows.find(&EncodedName::write(name, &mut content))
     }
 
     /// The value that a Get of the name gives: that of its instance; else `NoSuchObject` where no
@@ -172,32 +185,37 @@ impl Table {
             (record { name = name.now; value = datum result }) }
         ensures value { IsAnswerValue (datum result) }
     {
-        let numbers = name.as_slice();
-        match self.rows.find(numbers) {
-            Some(row) => row.row.value.as_ref(),
-            None if has_beginning(&self.objects, numbers) => ValueRef::NoSuchInstance,
+        match self.row_of(name) {
+            Some(row) => row.value(),
+            None if has_beginning(&self.objects, name.as_slice()) => ValueRef::NoSuchInstance,
             None => ValueRef::NoSuchObject,
         }
     }
 
     /// The rows behind a name, in order.
-    pub fn after(&self, name: &Oid) -> Successors<'_>
+    pub fn after(&self, name: &EncodedName<'_>) -> Successors<'_>
         ensures { AreBehind self.now name.now result }
     {
-        self.rows.after(name.as_slice())
+        self.rows.after(name)
     }
 
     /// Changes a binding to what a GetNext gives that is asked again, `rounds` times more, each
     /// time from the name that it gave, as a GetBulk does (RFC 3416, section 4.2.3).
-    pub fn read_next_after<'a>(&'a self, name: &Oid, rounds: usize, into: &mut Binding<'a>)
+    pub fn read_next_after<'a>(
+        &'a self,
+        name: &EncodedName<'_>,
+        rounds: usize,
+        into: &mut Binding<'a>,
+    )
         ensures answer { IsNextAfter self.now rounds name.now (var_bind into.new) }
-        ensures name { IsWire name.now → IsWire into.new.name }
+        ensures name { IsWire into.new.name }
         ensures value { IsAnswerValue (datum into.new.value) }
     {
         order();
         self.is_mib_view();
+        let _content = name.content();
         let mut rows = self.after(name);
-        into.name.set_to(name);
+        name.read_into(&mut into.name);
         rows.skip(rounds, &mut into.name);
         rows.advance(into);
     }

@@ -1,5 +1,5 @@
 use Rattle.std.proofs.Common.{List, [], ◌∷◌}
-use Rattle.snmp_wire.specs.Message.{VarBind, var_bind}
+use Rattle.snmp_wire.specs.Message.{VarBind}
 use Rattle.snmp_agent.specs.Reply.{joined}
 use Rattle.snmp_agent.specs.Answering.{Extends}
 use Rattle.snmp_agent.specs.Standing.{Stands}
@@ -10,7 +10,7 @@ use Rattle.snmp_agent.proofs.bulk.append_column.Given as goal
 abbrev pub invariant-rounds : goal.invariant-rounds
 invariant-rounds l = record {
   done : List (List VarBind);
-  others : WithOthers l.table (var_bind l.binding ∷ []) l.repetitions l.counter done;
+  others : WithOthers l.table (l.fn.asked ∷ []) l.repetitions l.counter done;
   written : Extends l.draft.room l.draft.total l.fn.out (joined done) l.total l.out;
-  stands : Stands l.table l.counter l.binding.name l.place;
+  stands : Stands l.table l.counter l.fn.asked.name l.place;
 }

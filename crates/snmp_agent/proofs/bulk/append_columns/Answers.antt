@@ -8,7 +8,7 @@ pub append_kept_rounds-requires : goal.append_kept_rounds-requires
 append_kept_rounds-requires c =
     let view = c.args.table.now in
     let kept = c.keep_places.ensures in
-    let none : c.keep_places.new.bindings ≡ [] = (c.read_next.ensures.none c.if-read_next.false).0 in
+    let none : c.keep_places.new.bindings ≡ [] = c.in-None.ensures.none.0 in
     let all : c.args.bindings ≡ kept.0 = sym c.left-others.ensures ∙ kept.1 ∙ ap (λ (bs : List VarBind). kept.0 ++ bs) none ∙ append-nil kept.0 in
     subst (λ (ps : List Standing). AreStanding view 0 c.args.bindings ps) (sym c.as_mut_slice-places.ensures.value)
     (subst (λ (bs : List VarBind). AreStanding view 0 bs c.keep_places.new.places.items) (sym all) kept.2)

@@ -1,9 +1,9 @@
-use Rattle.std.proofs.Common.{◌≡◌, ◌+◌, ℕ, List, [], ◌∷◌, ◌++◌, map, sym, ap, subst, arith}
+use Rattle.std.proofs.Common.{◌≡◌, ◌+◌, ℕ, List, [], ◌∷◌, ◌++◌, map, sym, subst, arith}
 use Rattle.std.proofs.lemmas.List.{append-nil}
 use Rattle.snmp_wire.specs.Message.{VarBind}
 use Rattle.snmp_agent.specs.Reply.{AreEnds, joined}
 use Rattle.snmp_agent.specs.Answering.{AreGiven, AreRoundsFrom, HasRow}
-use Rattle.snmp_agent.specs.Standing.{Standing, AreStanding, next_at, passed}
+use Rattle.snmp_agent.specs.Standing.{Standing, AreStanding, next_at}
 use Rattle.snmp_agent.proofs.Fronts.{nothing_more, whole_front}
 use Rattle.snmp_agent.proofs.RoundFronts.{others_next, written_next, closed_round}
 use Rattle.snmp_agent.proofs.Standing.{standing_wire, standing_given, standing_passed, ends_given, given_ends}

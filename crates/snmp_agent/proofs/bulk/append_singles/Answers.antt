@@ -1,6 +1,6 @@
 use Rattle.std.proofs.Common.{◌≡◌, refl, ℕ, suc, ◌+◌, ◌-◌, List, [], ◌∷◌, ◌++◌, take, drop, sym, ap, ◌∙◌, subst, arith}
 use Rattle.std.proofs.lemmas.List.{append-nil}
-use Rattle.snmp_wire.specs.Message.{VarBind, var_bind}
+use Rattle.snmp_wire.specs.Message.{VarBind}
 use Rattle.snmp_agent.specs.table.Table.{IsNextAfter}
 use Rattle.snmp_agent.specs.Answering.{AreGiven, AreWritable}
 use Rattle.snmp_agent.proofs.Answers.{all_given}
@@ -29,27 +29,27 @@ all c left e none =
     so_far.others left [] e (subst (λ (bs : List VarBind). AreGiven c.args.table.now 0 bs []) (sym none) tt) in
     subst (λ (gs : List VarBind). AreGiven c.args.table.now 0 (take c.args.count c.args.bindings.now) gs) (append-nil so_far.given) whole
 
-pub returns-then-not-read_next-clause-progress : goal.returns-then-not-read_next-clause-progress
-returns-then-not-read_next-clause-progress c =
+pub returns-in_default-clause-progress : goal.returns-in_default-clause-progress
+returns-in_default-clause-progress c =
     let so_far = c.singles.invariant in
     let left = c.args.count - c.singles.counter in
     let e : c.singles.counter + left ≡ c.args.count = omega (arith, c.singles-test.true) in
-    let none : c.singles.bindings ≡ [] = (c.read_next.ensures.none c.if-not-read_next.true).0 in
-    (so_far.given, all (goal.at.returns-then-not-read_next-clause-progress c).At-singles left e (take-nothing left c.singles.bindings none), tt, so_far.written)
+    let none : c.singles.bindings ≡ [] = c.in_default.ensures.none.0 in
+    (so_far.given, all (goal.at.returns-in_default-clause-progress c).At-singles left e (take-nothing left c.singles.bindings none), tt, so_far.written)
 
-pub returns-then-not-read_next-clause-left : goal.returns-then-not-read_next-clause-left
-returns-then-not-read_next-clause-left c =
+pub returns-in_default-clause-left : goal.returns-in_default-clause-left
+returns-in_default-clause-left c =
     let so_far = c.singles.invariant in
     let left = c.args.count - c.singles.counter in
     let e : c.singles.counter + left ≡ c.args.count = omega (arith, c.singles-test.true) in
-    let none : c.singles.bindings ≡ [] = (c.read_next.ensures.none c.if-not-read_next.true).0 in
-    let now : c.read_next.new.self ≡ [] = (c.read_next.ensures.none c.if-not-read_next.true).1 in
+    let none : c.singles.bindings ≡ [] = c.in_default.ensures.none.0 in
+    let now : c.next_ref.new.self ≡ [] = c.in_default.ensures.none.1 in
     now ∙ sym (drop-nothing left c.singles.bindings none) ∙ so_far.left left e
 
 pub append_next-requires : goal.append_next-requires
 append_next-requires c =
-    let first : c.singles.bindings ≡ var_bind c.read_next.new.into ∷ c.read_next.new.self = c.read_next.ensures.some c.if-not-read_next.false in
-    let writable : AreWritable (var_bind c.read_next.new.into ∷ c.read_next.new.self) = subst (λ
+    let first : c.singles.bindings ≡ c.in-Some.asked ∷ c.next_ref.new.self = c.in-Some.ensures.some in
+    let writable : AreWritable (c.in-Some.asked ∷ c.next_ref.new.self) = subst (λ
     (bs : List VarBind). AreWritable bs) first c.singles.invariant.writable in writable.0
 
 pub returns-in-None-clause-progress : goal.returns-in-None-clause-progress
@@ -60,10 +60,10 @@ returns-in-None-clause-progress c =
     let p : VarBind = long.0 in
     let left = c.args.count - (c.singles.counter + 1) in
     let e : c.singles.counter + suc left ≡ c.args.count = omega (arith, c.singles-test.true) in
-    let first : c.singles.bindings ≡ var_bind c.read_next.new.into ∷ c.read_next.new.self = c.read_next.ensures.some c.if-not-read_next.false in
-    let taken : take (suc left) c.singles.bindings ≡ var_bind c.read_next.new.into ∷ take left c.read_next.new.self = take-first left c.singles.bindings
-    c.read_next.new.self (var_bind c.read_next.new.into) first in
-    let later = all_given c.one_answer.ensures.get_bulk view 0 (take left c.read_next.new.self) in
+    let first : c.singles.bindings ≡ c.in-Some.asked ∷ c.next_ref.new.self = c.in-Some.ensures.some in
+    let taken : take (suc left) c.singles.bindings ≡ c.in-Some.asked ∷ take left c.next_ref.new.self = take-first left c.singles.bindings
+    c.next_ref.new.self (c.in-Some.asked) first in
+    let later = all_given c.one_answer.ensures.get_bulk view 0 (take left c.next_ref.new.self) in
     let front = stopped c.args.draft.room c.args.draft.total c.args.out.now so_far.given p later.0 c.singles.total c.singles.out c.append_next.new.out
     so_far.written c.in-None.ensures.unchanged_on_none long.2 in (
       so_far.given ++ p ∷ later.0,
@@ -77,23 +77,23 @@ pub singles-preserved : goal.singles-preserved
 singles-preserved c =
     let so_far = c.singles.invariant in
     let view = c.args.table.now in
-    let here = c.in-Some.ensures.written in
+    let here = c.in-Some-append_next.ensures.written in
     let p : VarBind = here.0 in
-    let first : c.singles.bindings ≡ var_bind c.read_next.new.into ∷ c.read_next.new.self = c.read_next.ensures.some c.if-not-read_next.false in
+    let first : c.singles.bindings ≡ c.in-Some.asked ∷ c.next_ref.new.self = c.in-Some.ensures.some in
     let more = here.2 in
-    let writable : AreWritable (var_bind c.read_next.new.into ∷ c.read_next.new.self) = subst (λ (bs : List VarBind). AreWritable bs) first so_far.writable in
+    let writable : AreWritable (c.in-Some.asked ∷ c.next_ref.new.self) = subst (λ (bs : List VarBind). AreWritable bs) first so_far.writable in
     record {
       given = so_far.given ++ p ∷ [];
       others = λ left rest e h.
           let e' : c.singles.counter + suc left ≡ c.args.count = omega (arith, e) in
           step (λ asked given. IsNextAfter view 0 asked.name given) (take c.args.count c.args.bindings.now) (take (suc left) c.singles.bindings)
-          (take left c.read_next.new.self) so_far.given (var_bind c.read_next.new.into) p
-          (take-first left c.singles.bindings c.read_next.new.self (var_bind c.read_next.new.into) first) here.1
+          (take left c.next_ref.new.self) so_far.given (c.in-Some.asked) p
+          (take-first left c.singles.bindings c.next_ref.new.self (c.in-Some.asked) first) here.1
           (λ more h. so_far.others (suc left) more e' h) rest h;
       left = λ left e.
           let e' : c.singles.counter + suc left ≡ c.args.count = omega (arith, e) in
-          sym (drop-first left c.singles.bindings c.read_next.new.self (var_bind c.read_next.new.into) first) ∙ so_far.left (suc left) e';
-      written = one_more c.args.draft.room c.args.draft.total c.singles.total c.in-Some.end c.args.out.now c.singles.out c.append_next.new.out so_far.given p
+          sym (drop-first left c.singles.bindings c.next_ref.new.self (c.in-Some.asked) first) ∙ so_far.left (suc left) e';
+      written = one_more c.args.draft.room c.args.draft.total c.singles.total c.in-Some-append_next.end c.args.out.now c.singles.out c.append_next.new.out so_far.given p
           so_far.written more.0 more.1 more.2;
       writable = writable.1;
     }

@@ -1,6 +1,6 @@
 use Rattle.std.proofs.Common.{◌≡◌, ◌+◌, List, [], ◌∷◌, ◌++◌, length, sym, subst, arith}
 use Rattle.std.proofs.lemmas.List.{append-nil}
-use Rattle.snmp_wire.specs.Message.{VarBind, var_bind}
+use Rattle.snmp_wire.specs.Message.{VarBind}
 use Rattle.snmp_wire.specs.Canon.{canon_binding, canon_bindings}
 use Rattle.snmp_wire.specs.Parts.{parts_message}
 use Rattle.snmp_agent.specs.Reply.{AreAnswers}
@@ -36,8 +36,8 @@ bindings-init c = (
 
 pub append_answer-requires-clause-writable : goal.append_answer-requires-clause-writable
 append_answer-requires-clause-writable c =
-    let left : c.bindings.bindings ≡ var_bind c.read_next.new.into ∷ c.read_next.new.self = c.read_next.ensures.some c.bindings-test.true in
-    let writable : AreWritable (var_bind c.read_next.new.into ∷ c.read_next.new.self) = subst (λ
+    let left : c.bindings.bindings ≡ c.in-Some.asked ∷ c.next_ref.new.self = c.in-Some.ensures.some in
+    let writable : AreWritable (c.in-Some.asked ∷ c.next_ref.new.self) = subst (λ
     (bs : List VarBind). AreWritable bs) left c.bindings.invariant.3 in writable.0
 
 pub returns-in_err-total-clause-too_long : goal.returns-in_err-total-clause-too_long
@@ -46,8 +46,8 @@ returns-in_err-total-clause-too_long c =
     let so_far = c.bindings.invariant in
     let long = c.in_err-total.ensures.too_long in
     let p : VarBind = long.0 in
-    let left : c.bindings.bindings ≡ var_bind c.read_next.new.into ∷ c.read_next.new.self = c.read_next.ensures.some c.bindings-test.true in
-    let later = all_answered c.one_answer.ensures.get c.one_answer.ensures.get_next c.args.table.now c.args.kind c.read_next.new.self c.requires.paired in
+    let left : c.bindings.bindings ≡ c.in-Some.asked ∷ c.next_ref.new.self = c.in-Some.ensures.some in
+    let later = all_answered c.one_answer.ensures.get c.one_answer.ensures.get_next c.args.table.now c.args.kind c.next_ref.new.self c.requires.paired in
     none_anyway c.from_residual-in_err-total.result (
       so_far.0 ++ p ∷ later.0,
       so_far.1 (p ∷ later.0) (subst (λ (bs : List VarBind). AreAnswers R bs (p ∷ later.0)) (sym left) (long.1, later.1)),
@@ -62,12 +62,12 @@ bindings-preserved c =
     let so_far = c.bindings.invariant in
     let given = c.in_ok-total.ensures.written in
     let p : VarBind = given.0 in
-    let first : VarBind = var_bind c.read_next.new.into in
-    let left : c.bindings.bindings ≡ first ∷ c.read_next.new.self = c.read_next.ensures.some c.bindings-test.true in
+    let first : VarBind = c.in-Some.asked in
+    let left : c.bindings.bindings ≡ first ∷ c.next_ref.new.self = c.in-Some.ensures.some in
     let written = given.2 in
-    let writable : AreWritable (first ∷ c.read_next.new.self) = subst (λ (bs : List VarBind). AreWritable bs) left so_far.3 in (
+    let writable : AreWritable (first ∷ c.next_ref.new.self) = subst (λ (bs : List VarBind). AreWritable bs) left so_far.3 in (
       so_far.0 ++ p ∷ [],
-      step R c.args.bindings c.bindings.bindings c.read_next.new.self so_far.0 first p left given.1 so_far.1,
+      step R c.args.bindings c.bindings.bindings c.next_ref.new.self so_far.0 first p left given.1 so_far.1,
       longer_draft (parts_message c.args.parts.now) c.args.config.now.max_size so_far.0 p c.bindings.total c.in_ok-total.total c.bindings.out
           c.append_answer.new.out so_far.2 written.0 written.1
           (within c.message_sizes.ensures
@@ -80,6 +80,6 @@ pub returns-clause-written : goal.returns-clause-written
 returns-clause-written c =
     let R = IsAnswer c.args.table.now c.args.kind in
     let so_far = c.bindings.invariant in
-    let none : c.bindings.bindings ≡ [] = (c.read_next.ensures.none c.bindings-test.false).0 in
+    let none : c.bindings.bindings ≡ [] = c.in_default.ensures.none.0 in
     let all : AreAnswers R c.args.bindings (so_far.0 ++ []) = so_far.1 [] (subst (λ (bs : List VarBind). AreAnswers R bs []) (sym none) tt) in
     (so_far.0, subst (λ (gs : List VarBind). AreAnswers R c.args.bindings gs) (append-nil so_far.0) all, so_far.2)

@@ -1,4 +1,4 @@
-use Rattle.std.proofs.Common.{◌≡◌, refl, [], ℕ, List, subst, ap, arith, ◌+◌, Ok, replicate}
+use Rattle.std.proofs.Common.{refl, [], ℕ, List, subst, ap, arith, ◌+◌, Ok}
 use Rattle.snmp_walk.specs.Get.{get_request, IsBrought}
 use Rattle.snmp_walk.specs.Link.{ComesOver}
 use Rattle.snmp_walk.specs.Course.{heard_of}

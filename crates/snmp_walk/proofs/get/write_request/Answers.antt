@@ -1,4 +1,5 @@
-use Rattle.std.proofs.Common.{◌≡◌, ◌≤◌, ◌<◌, ◌+◌, ◌↔◌, ◌∙◌, ap, arith, ℕ, ℤ, pos, List, [], length, take, Option, Some, None, IsSome, IfSome, IfNone, w32, to_z, refl}
+use Rattle.std.proofs.Common.{◌≡◌, ◌≤◌, ◌<◌, ◌↔◌, ◌∙◌, ap, arith, ℕ, ℤ, pos, List, [], take}
+use Rattle.std.proofs.Common.{Option, Some, None, IsSome, IfSome, IfNone, w32, to_z, refl}
 use Rattle.std.proofs.lemmas.Int.{to_z_pos}
 use Rattle.std.proofs.lemmas.Bool.{cases_lt}
 use Rattle.std.proofs.Common.{⊎_elim}

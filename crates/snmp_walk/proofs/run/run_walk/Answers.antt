@@ -1,4 +1,4 @@
-use Rattle.std.proofs.Common.{◌≡◌, ◌+◌, ap, subst, sym, refl, ℕ, arith, Some, None}
+use Rattle.std.proofs.Common.{◌≡◌, ◌≤◌, length, ◌+◌, ◌-◌, ◌*◌, ap, subst, sym, refl, ℕ, arith, Some, None}
 use Rattle.snmp_wire.specs.Canon.{canon}
 use Rattle.snmp_walk.specs.Request.{request_of}
 use Rattle.snmp_walk.specs.Link.{Agents, ComesOver}
@@ -11,6 +11,11 @@ use Rattle.snmp_walk.proofs.MoveLemmas.{HasMoved, moved_first, moved_more, moved
 use Rattle.snmp_walk.proofs.RequestLemmas.{request_short}
 use Rattle.snmp_walk.proofs.TurnLemmas.{no_link_end, same_end}
 use Rattle.snmp_walk.proofs.run.run_walk.Goals as goal
+
+few_before : (count requests tries from to : ℕ) → to ≡ from + requests → count ≤ requests * tries → count ≤ (to - from) * tries
+few_before count requests tries from to ids few =
+    let same : requests ≡ to - from = omega (arith, ids) in
+    subst (λ (n : ℕ). count ≤ n * tries) same few
 
 pub turns-init : goal.turns-init
 turns-init g c = record {
@@ -38,8 +43,15 @@ returns-in-Ends g c =
     × IsEarlier (g.L.Link.traffic c.turns.link).sent c.turns.core) (c.args.retries + 1) (canon (request_of c.turns.core)) (g.L.Link.traffic c.turns.link)
     (Some c.turn.new.end ≡ Some ending.NoResponse) (Some c.turn.new.end ≡ Some ending.Link) (g.L.Link.traffic c.turn.new.link)) inv.has_moved.moved.agents
     (c.in-Ends.ensures.exchanged (inv.has_moved.moved.keeps k)))
-    (MissesReply g.L.Link.sends g.L.Link.brings g.L.Link.is_silent (c.args.retries + 1) c.turn.new.link)
-    (λ silent. (c.turns.link, c.in-Ends.ensures.unanswered (ap Some silent))) in
+    (MissesReply g.L.Link (c.args.retries + 1) c.args.core c.args.link.now c.turn.new.link)
+    (λ silent. record {
+      before = c.turns.link;
+      tried = inv.has_moved.tried;
+      moved = inv.has_moved.moved;
+      few = few_before (length inv.has_moved.tried) inv.has_moved.requests (c.args.retries + 1) c.args.core.id c.turns.core.id inv.has_moved.ids
+          inv.has_moved.few;
+      missed = c.in-Ends.ensures.unanswered (ap Some silent);
+    }) in
     let moved = moved_more g.L.Link inv.has_moved c.in-Ends.ensures.moves
     (request_short c.turns.core c.turn.ensures.walker.community c.turn.ensures.walker.identifier.short) in
     record {
@@ -71,7 +83,7 @@ turns-smaller g c =
     (g.met.L.Link.keeping c.args.link.now)
     (c.args.retries + 1) c.args.core c.args.sink.now
     (g.L.Link.traffic c.args.link.now) c.turns.core c.turns.sink (g.L.Link.traffic c.turns.link) inv.runs c.turn.ensures.walker
-    (g.L.Link.honest c.turns.link) inv.has_moved.moved.honest t.0 c.turn.new.core c.turn.new.sink
+    (g.L.Link.honest c.turns.link) inv.has_moved.moved.honest c.codec.ensures t.0 c.turn.new.core c.turn.new.sink
     (g.L.Link.traffic c.turn.new.link) (None ≡ Some ending.NoResponse) (None ≡ Some ending.Link) same
     (λ k. subst (λ (a : Agents). Exchanges a (g.L.Link.honest c.turns.link
     × IsEarlier (g.L.Link.traffic c.turns.link).sent c.turns.core) (c.args.retries + 1) (canon (request_of c.turns.core)) (g.L.Link.traffic c.turns.link)
@@ -93,7 +105,7 @@ turns-preserved g c =
     (g.met.L.Link.keeping c.args.link.now)
     (c.args.retries + 1) c.args.core c.args.sink.now
     (g.L.Link.traffic c.args.link.now) c.turns.core c.turns.sink (g.L.Link.traffic c.turns.link) inv.runs c.turn.ensures.walker
-    (g.L.Link.honest c.turns.link) inv.has_moved.moved.honest t.0 c.turn.new.core c.turn.new.sink
+    (g.L.Link.honest c.turns.link) inv.has_moved.moved.honest c.codec.ensures t.0 c.turn.new.core c.turn.new.sink
     (g.L.Link.traffic c.turn.new.link) (None ≡ Some ending.NoResponse) (None ≡ Some ending.Link) same
     (λ k. subst (λ (a : Agents). Exchanges a (g.L.Link.honest c.turns.link
     × IsEarlier (g.L.Link.traffic c.turns.link).sent c.turns.core) (c.args.retries + 1) (canon (request_of c.turns.core)) (g.L.Link.traffic c.turns.link)

@@ -13,6 +13,7 @@ use Rattle.snmp_walk.specs.Link.{ComesOver}
 use Rattle.snmp_walk.specs.Traffic.{Traffic}
 use Rattle.snmp_walk.proofs.HearLemmas.{waits_first, stray_heard, none_heard, reply_heard, heard_used, received_by}
 use Rattle.snmp_walk.specs.Missed.{IsNotAwaited}
+use Rattle.snmp_walk.proofs.JudgedLemmas.{not_response}
 use Rattle.snmp_walk.proofs.MissedLemmas.{IsMissing, missing_first, missing_more, missed_all, missed_silent}
 use Rattle.snmp_walk.proofs.MoveLemmas.{is_bad, never_bad, ok_fine, sent_none, moves_none, moves_as, receives_on}
 use Rattle.snmp_walk.proofs.TurnLemmas.{if_some}
@@ -136,8 +137,9 @@ receives-preserved g c =
           c.receives.counter c.args.link.now c.receives.link c.receive.new.self (take c.in-Some.length c.receive.new.buffer) inv.missing
           (if_some c.in_ok-length.field-0 (λ n. g.L.Link.brings c.receives.link (take n c.receive.new.buffer) c.receive.new.self) c.in-Some.length c.in-Some.is
           c.in_ok-length.ensures.brings)
-          (λ m spelt. read_other g.W.Waiter.community g.W.Waiter.id c.receives.waiter c.args.waiter.now m inv.waiter
-          (if_none c.read_reply.result _ c.in_default-read_reply.is c.read_reply.ensures.none m spelt));
+          (λ m spelt. not_response (g.W.Waiter.community c.args.waiter.now) (g.W.Waiter.id c.args.waiter.now) m
+          (read_other g.W.Waiter.community g.W.Waiter.id c.receives.waiter c.args.waiter.now m inv.waiter
+          (if_none c.read_reply.result _ c.in_default-read_reply.is c.read_reply.ensures.none m spelt)));
     }
 
 pub returns-in_default-clause-unanswered : goal.returns-in_default-clause-unanswered

@@ -1,7 +1,6 @@
 use Rattle.std.proofs.Common.{◌≡◌, ◌∙◌, sym, ap}
 use Rattle.snmp_walk.specs.Taken.{awaits}
 use Rattle.snmp_walk.specs.Course.{step_of}
-use Rattle.snmp_walk.proofs.SpelledLemmas.{sendable}
 use Rattle.snmp_walk.proofs.tries.read_reply.Goals as goal
 
 pub returns-in_default-clause-none : goal.returns-in_default-clause-none
@@ -13,9 +12,6 @@ returns-then-not-awaits-clause-none g c = λ m h.
     let one : m ≡ c.in-Ok.message = cc in
     ap (awaits (g.W.Waiter.community c.args.waiter.now) (g.W.Waiter.id c.args.waiter.now)) one
     ∙ sym {b = awaits (g.W.Waiter.community c.args.waiter.now) (g.W.Waiter.id c.args.waiter.now) c.in-Ok.message} c.awaits.ensures ∙ c.if-not-awaits.true
-
-pub read-judgement-requires : goal.read-judgement-requires
-read-judgement-requires g c = sendable _ _ c.in-Ok.ensures.found
 
 pub returns-clause-some : goal.returns-clause-some
 returns-clause-some g c = record {

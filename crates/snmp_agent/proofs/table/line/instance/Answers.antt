@@ -1,16 +1,44 @@
-use Rattle.std.proofs.Common.{◌≡◌, ℕ, List, Some, sym, ◌∙◌, subst}
+use Rattle.std.proofs.Common.{◌≡◌, ℕ, List, Some, sym, ◌∙◌, subst, ap}
 use Rattle.std.specs.Option.{option_map}
+use Rattle.snmp_wire.specs.Message.{Datum, VarBind}
+use Rattle.snmp_wire.specs.Range.{IsInRange}
 use Rattle.snmp_agent.specs.table.Exact.{IsOnly}
 use Rattle.snmp_agent.specs.table.Row.{datum_of, tag_text}
 use Rattle.snmp_agent.specs.table.Form.{IsInstanceText}
 use Rattle.snmp_agent.specs.table.Text.{IsValueText}
+use Rattle.snmp_agent.proofs.Keeping.{instance_value, name_in_range, short_value, value_in_range}
+use Rattle.snmp_agent.proofs.table.line.instance.Given.{Over}
 use Rattle.snmp_agent.proofs.table.line.instance.Goals as goal
+use Rattle.snmp_agent.proofs.table.line.instance.Goals.{In-Some-2}
 
-pub returns-in_ok-from_slice-in-Some-2 : goal.returns-in_ok-from_slice-in-Some-2
-returns-in_ok-from_slice-in-Some-2 g c =
+stated : (g : Over) (c : In-Some-2 g)
+    → IsValueText (g.F.LineFormat.format c.args.format.now) (tag_text c.args.tag) c.args.value_text.now (datum_of c.in-Some-2.value)
+stated g c =
     let format = g.F.LineFormat.format c.args.format.now in
-    let name : c.in_ok-from_slice-in-Some-2.field-0.items ≡ c.in-Some.oid = c.in_ok-from_slice-in-Some-2.ensures.items ∙ c.as_slice.ensures.value in
-    let P : List ℕ → Type 0 = λ o. IsInstanceText format c.args.text.now o in
     let value : IsOnly (IsValueText format (tag_text c.args.tag) c.args.value_text.now) (option_map datum_of
-    (Some c.in-Some-2.value)) = rw c.in-Some-2.is at c.in_ok-value.ensures in
-    (subst P (sym name) c.in-Some.ensures.0, value.0)
+    (Some c.in-Some-2.value)) = rw c.in-Some-2.is at c.in_ok-value.ensures in value.0
+
+pub as_ref-requires : goal.as_ref-requires
+as_ref-requires g c =
+    short_value c.in-Some-2.value (instance_value (g.F.LineFormat.format c.args.format.now) (tag_text c.args.tag) c.args.value_text.now
+    (datum_of c.in-Some-2.value) (stated g (goal.at.as_ref-requires g c).In-Some-2))
+
+pub new-requires-clause-name : goal.new-requires-clause-name
+new-requires-clause-name g c = name_in_range c.in-Some.oid c.in-Some.ensures.0.1
+
+pub new-requires-clause-value : goal.new-requires-clause-value
+new-requires-clause-value g c =
+    subst (λ (v : Datum). IsInRange v) (sym c.as_ref.ensures) (value_in_range (datum_of c.in-Some-2.value)
+    (instance_value (g.F.LineFormat.format c.args.format.now) (tag_text c.args.tag) c.args.value_text.now (datum_of c.in-Some-2.value)
+    (stated g (goal.at.new-requires-clause-value g c).In-Some-2)))
+
+pub returns-in_ok-new-in-Some-2 : goal.returns-in_ok-new-in-Some-2
+returns-in_ok-new-in-Some-2 g c =
+    let format = g.F.LineFormat.format c.args.format.now in
+    let row : VarBind = c.in_ok-new-in-Some-2.field-0 in
+    let name : row.name ≡ c.in-Some.oid = ap (λ (p : VarBind). p.name) c.in_ok-new-in-Some-2.ensures in
+    let value : row.value ≡ datum_of c.in-Some-2.value = ap (λ (p : VarBind). p.value) c.in_ok-new-in-Some-2.ensures ∙ c.as_ref.ensures in (
+      subst (λ (o : List ℕ). IsInstanceText format c.args.text.now o) (sym name) c.in-Some.ensures.0,
+      subst (λ (v : Datum). IsValueText format (tag_text c.args.tag) c.args.value_text.now v) (sym value)
+          (stated g (goal.at.returns-in_ok-new-in-Some-2 g c).In-Some-2),
+    )

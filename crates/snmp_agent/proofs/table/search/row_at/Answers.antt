@@ -1,11 +1,11 @@
-use Rattle.std.proofs.Common.{◌≡◌, ◌-◌, length, take, None, sym, ◌∙◌, ap, Bor, true}
+use Rattle.std.proofs.Common.{List, ℕ, ◌≡◌, ◌-◌, length, take, None, sym, ◌∙◌, ap, Bor, true}
 use Rattle.std.specs.Option.{option_map}
 use Rattle.std.specs.List.{slice_get}
-use Rattle.std.proofs.lemmas.Bool.Decides.{Decides-eqb}
-use Rattle.std.proofs.lemmas.Slice.Eq.{slice_eq-Decides}
-use Rattle.std.specs.Bool.{Decides}
-use Rattle.snmp_agent.specs.declared.table.encoded.EncodedRow.{EncodedRow}
-use Rattle.snmp_agent.specs.table.Row.{datum_of}
+use Rattle.snmp_wire.specs.Message.{VarBind}
+use Rattle.std.specs.Ordering.{eq_by_cmp, is_eq, nat_cmp}
+use Rattle.std.specs.Cmp.{tied_itself}
+use Rattle.std.specs.Cmp.Lexicographic.{slice_cmp, nat_list_cmp_total}
+use Rattle.snmp_agent.proofs.Changing.{tied}
 use Rattle.snmp_agent.proofs.Finding.{IsLast, found_last, found_none}
 use Rattle.snmp_agent.proofs.table.search.row_at.Goals as goal
 
@@ -16,27 +16,33 @@ returns-in_err-row-clause-value c =
     let nothing : None ≡ slice_get (take place rows) (length (take place rows) - 1) = rw c.split_at.ensures.front at c.in_err-row.ensures.value in
     let none = found_none rows place c.args.name.now c.requires c.place_after.ensures.passed c.place_after.ensures.ahead (λ row (last : IsLast
     (take place rows) row) name. absurd (cc)) in
-    ap (option_map (λ (row : Bor EncodedRow). datum_of row.now.row.value)) c.from_residual.ensures ∙ sym none
+    ap (option_map (λ (row : Bor VarBind). row.now.value)) c.from_residual.ensures ∙ sym none
 
-pub returns-then-eq-clause-value : goal.returns-then-eq-clause-value
-returns-then-eq-clause-value c =
+pub returns-then-is_eq-clause-value : goal.returns-then-is_eq-clause-value
+returns-then-is_eq-clause-value c =
     let rows = c.args.rows.now in
     let place = c.place_after.result in
     let row = c.in_ok-row.row.now in
     let last : IsLast (take place rows) row = sym (rw c.split_at.ensures.front at c.in_ok-row.ensures.value) in
-    let same : Decides c.eq.result (row.row.name.items ≡ c.args.name.now) =
-    slice_eq-Decides Decides-eqb row.row.name.items c.args.name.now c.eq.result (cc (c.eq.ensures, c.as_slice.ensures.value)) in
-    sym (found_last rows place (length (take place rows) - 1) c.args.name.now row c.requires last (same.0 c.if-eq.true))
+    let tie : eq_by_cmp (slice_cmp nat_cmp) row.name c.args.name.now ≡ c.is_eq.result =
+    sym (c.is_eq.ensures ∙ ap is_eq (c.compare.ensures ∙ ap (λ (p : List ℕ). slice_cmp nat_cmp p c.args.name.now) c.name.ensures)) in
+    sym (found_last rows place (length (take place rows) - 1) c.args.name.now row c.requires last (tied row.name c.args.name.now c.is_eq.result tie c.if-is_eq.true))
 
-pub returns-else-eq-clause-value : goal.returns-else-eq-clause-value
-returns-else-eq-clause-value c =
+pub returns-else-is_eq-clause-value : goal.returns-else-is_eq-clause-value
+returns-else-is_eq-clause-value c =
     let rows = c.args.rows.now in
     let place = c.place_after.result in
     let row = c.in_ok-row.row.now in
     let last : IsLast (take place rows) row = sym (rw c.split_at.ensures.front at c.in_ok-row.ensures.value) in
-    let same : Decides c.eq.result (row.row.name.items ≡ c.args.name.now) =
-    slice_eq-Decides Decides-eqb row.row.name.items c.args.name.now c.eq.result (cc (c.eq.ensures, c.as_slice.ensures.value)) in
-    let other : (r : EncodedRow) → IsLast (take place rows) r → r.row.name.items ≡ c.args.name.now → ⊥ =
-    λ r is_last name. let e : r ≡ row = cc in let yes_same : c.eq.result ≡ true = same.1 (ap (λ (x : EncodedRow). x.row.name.items) (sym e)
-    ∙ name) in absurd (cc (c.if-eq.false)) in
+    let tie : eq_by_cmp (slice_cmp nat_cmp) row.name c.args.name.now ≡ c.is_eq.result =
+    sym (c.is_eq.ensures ∙ ap is_eq (c.compare.ensures ∙ ap (λ (p : List ℕ). slice_cmp nat_cmp p c.args.name.now) c.name.ensures)) in
+    let other : (r : VarBind) → IsLast (take place rows) r → r.name ≡ c.args.name.now → ⊥ =
+    λ r is_last name. let e : r ≡ row = cc in let yes_same : c.is_eq.result ≡ true = sym tie ∙ ap is_eq (ap (λ (p : List ℕ). slice_cmp nat_cmp p c.args.name.now) (ap (λ (x : VarBind). x.name) (sym e) ∙ name) ∙ tied_itself nat_list_cmp_total c.args.name.now) in absurd (cc (c.if-is_eq.false)) in
     sym (found_none rows place c.args.name.now c.requires c.place_after.ensures.passed c.place_after.ensures.ahead other)
+
+pub returns-then-is_eq-clause-name : goal.returns-then-is_eq-clause-name
+returns-then-is_eq-clause-name c =
+    let row = c.in_ok-row.row.now in
+    let tie : eq_by_cmp (slice_cmp nat_cmp) row.name c.args.name.now ≡ c.is_eq.result =
+    sym (c.is_eq.ensures ∙ ap is_eq (c.compare.ensures ∙ ap (λ (p : List ℕ). slice_cmp nat_cmp p c.args.name.now) c.name.ensures)) in
+    tied row.name c.args.name.now c.is_eq.result tie c.if-is_eq.true

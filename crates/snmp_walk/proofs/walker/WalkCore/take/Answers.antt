@@ -1,11 +1,32 @@
-use Rattle.std.proofs.Common.{refl, inr}
+use Rattle.std.proofs.Common.{◌≡◌, ℕ, List, refl, inr, sym, ◌∙◌, ap}
 use Rattle.snmp_wire.specs.Message.{Message}
 use Rattle.snmp_wire.specs.Spelling.{Spells}
-use Rattle.snmp_walk.proofs.SpelledLemmas.{sendable}
+use Rattle.snmp_walk.specs.Codec.{Codec}
+use Rattle.snmp_walk.specs.Course.{step_of}
+use Rattle.snmp_walk.specs.Judged.{MeansBy}
+use Rattle.snmp_walk.specs.Taken.{take_of}
+use Rattle.snmp_walk.specs.Walker.{Walker}
+use Rattle.snmp_walk.specs.declared.rows.Step.{Step}
+use Rattle.snmp_walk.proofs.JudgedLemmas.{means_by}
 use Rattle.snmp_walk.proofs.walker.WalkCore.take.Goals as goal
 
-pub take_message-requires : goal.take_message-requires
-take_message-requires c = sendable _ _ c.in-Ok.ensures.found
-
 pub returns-in_default : goal.returns-in_default
-returns-in_default c = inr ((λ (m : Message) (h : Spells m c.args.datagram.now). let e = c.in_default.ensures.only m h in let no : ⊥ = cc in no), refl, refl)
+returns-in_default c = inr ((λ (m : Message) (h : Spells m c.args.datagram.now). let e = c.in_default.ensures.only m h in let no : ⊥ = cc in no), (refl, refl))
+
+-- the message was read as this step
+read_as : Codec → (w : Walker) (datagram : List ℕ) (m : Message) → Spells m datagram → (judged given : Step) (new : Walker) → (judged, new) ≡ take_of w m
+    → judged ≡ given → MeansBy w datagram given new
+read_as codec w datagram m spelt judged given new e is =
+    means_by codec.less w datagram m spelt given new (sym is ∙ ap (λ (x : Step × Walker). x.0) e) (ap (λ (x : Step × Walker). x.1) e)
+
+pub returns-in-Stray : goal.returns-in-Stray
+returns-in-Stray c = read_as c.codec.ensures c.args.self.now c.args.datagram.now c.in-Ok.message c.in-Ok.ensures.found _ _ _ c.take_message.ensures
+    (ap (λ x. step_of x c.take_message.new.end) c.in-Stray.is)
+
+pub returns-in-GoesOn : goal.returns-in-GoesOn
+returns-in-GoesOn c = read_as c.codec.ensures c.args.self.now c.args.datagram.now c.in-Ok.message c.in-Ok.ensures.found _ _ _ c.take_message.ensures
+    (ap (λ x. step_of x c.take_message.new.end) c.in-GoesOn.is)
+
+pub returns-in-Ends : goal.returns-in-Ends
+returns-in-Ends c = read_as c.codec.ensures c.args.self.now c.args.datagram.now c.in-Ok.message c.in-Ok.ensures.found _ _ _ c.take_message.ensures
+    (ap (λ x. step_of x c.take_message.new.end) c.in-Ends.is)

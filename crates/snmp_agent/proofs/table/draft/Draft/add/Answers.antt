@@ -5,11 +5,8 @@ use Rattle.std.specs.Cmp.Lexicographic.{slice_cmp, nat_list_cmp_total}
 use Rattle.std.specs.FinMap.{contains_key, entries, entries-insert, find, get-entries}
 use Rattle.std.specs.FinMap.Entries.{put as put_entry}
 use Rattle.snmp_wire.specs.Message.{Datum}
-use Rattle.snmp_agent.specs.table.Row.{entry_of, datum_of}
-use Rattle.snmp_agent.specs.table.Places.{var_of}
 use Rattle.snmp_agent.specs.table.Form.{States, nothing, object_prefix, instance}
 use Rattle.snmp_agent.specs.table.Draft.{HoldsTable, draft_objects}
-use Rattle.snmp_agent.proofs.Keeping.{stated_value}
 use Rattle.snmp_agent.proofs.OneStatement.{states_only}
 use Rattle.snmp_agent.proofs.TableDrafts.{holds_nothing, holds_object, holds_instance, double, list_any-insert, some_of, none_of}
 use Rattle.snmp_agent.proofs.table.draft.Draft.add.Goals as goal
@@ -35,33 +32,28 @@ returns-after-insert g c = λ before h.
       | in-Err w ↦ rw w.result-is tt
     ]
 
-pub put-requires-clause-value : goal.put-requires-clause-value
-put-requires-clause-value g c =
-    let format = g.F.LineFormat.format c.args.format.now in
-    stated_value format c.args.line.now (var_of (entry_of c.in-Ok-Instance.row)) (rw c.in-Ok-Instance.field-0-is at c.in-Ok-Instance.ensures.states)
-
 pub returns-in-Ok-true : goal.returns-in-Ok-true
 returns-in-Ok-true g c = λ before h.
     let format = g.F.LineFormat.format c.args.format.now in
     let row = c.in-Ok-Instance.row in
-    let o = row.name.items in
+    let o = row.name in
     let rows = c.args.self.now.rows in
-    let states : States format c.args.line.now (instance (var_of (entry_of row))) = rw c.in-Ok-Instance.field-0-is at c.in-Ok-Instance.ensures.states in
+    let states : States format c.args.line.now (instance row) = rw c.in-Ok-Instance.field-0-is at c.in-Ok-Instance.ensures.states in
     let has : contains_key rows o ≡ true = search rules in
     let found = some_of (find (slice_cmp nat_cmp) o (entries rows)) (ap is_some (sym (get-entries rows o)) ∙ has) in
-    (refl, double format before c.args.line.now (entries rows) (draft_objects c.args.self.now) h (var_of (entry_of row)) found.0 states found.1)
+    (refl, double format before c.args.line.now (entries rows) (draft_objects c.args.self.now) h row found.0 states found.1)
 
 pub returns-in-Ok-false : goal.returns-in-Ok-false
 returns-in-Ok-false g c = λ before h.
     let format = g.F.LineFormat.format c.args.format.now in
     let row = c.in-Ok-Instance.row in
-    let o = row.name.items in
+    let o = row.name in
     let rows = c.args.self.now.rows in
-    let only = states_only c.names.ensures.at_most_one format c.args.line.now (instance (var_of (entry_of row)))
+    let only = states_only c.names.ensures.at_most_one format c.args.line.now (instance row)
     (rw c.in-Ok-Instance.field-0-is at c.in-Ok-Instance.ensures.states) in
     let hasnt : contains_key rows o ≡ false = search rules in
     let absent = none_of (find (slice_cmp nat_cmp) o (entries rows)) (ap is_some (sym (get-entries rows o)) ∙ hasnt) in
-    let holds = holds_instance format before c.args.line.now (entries rows) (draft_objects c.args.self.now) h (var_of (entry_of row)) only absent in
-    let after : entries c.put.new.self ≡ put_entry (slice_cmp nat_cmp) o (datum_of row.value) (entries rows) =
-    ap entries c.in-Ok-false.ensures.put ∙ entries-insert nat_list_cmp_total rows o (datum_of row.value) in
+    let holds = holds_instance format before c.args.line.now (entries rows) (draft_objects c.args.self.now) h row only absent in
+    let after : entries c.put.new.self ≡ put_entry (slice_cmp nat_cmp) o row.value (entries rows) =
+    ap entries c.in-Ok-false.ensures.put ∙ entries-insert nat_list_cmp_total rows o row.value in
     subst (λ (es : List (List ℕ × Datum)). HoldsTable format (before ++ c.args.line.now ∷ []) es (draft_objects c.args.self.now)) (sym after) holds

@@ -4,26 +4,26 @@ use Rattle.snmp_agent.proofs.Changing.{row_replaced, row_inserted, name_found, n
 use Rattle.snmp_agent.proofs.table.page.Page.put.Goals as goal
 use Rattle.snmp_agent.proofs.table.page.Page.put.Goals.{In-Ok, In-Err}
 
-found : (c : In-Ok) → HasNameAt c.args.row.row.name.items c.args.self.now.rows.items c.in-Ok.place
-found c = rw (c.as_slice-2.ensures.value, c.as_slice.ensures.value) at c.in-Ok.ensures.found
+found : (c : In-Ok) → HasNameAt c.args.row.name c.args.self.now.rows.items c.in-Ok.place
+found c = rw (c.name.ensures, c.as_slice.ensures.value) at c.in-Ok.ensures.found
 
-belongs : (c : In-Err) → BelongsAt c.args.row.row.name.items c.args.self.now.rows.items c.in-Err.place
-belongs c = rw (c.as_slice-2.ensures.value, c.as_slice.ensures.value) at c.in-Err.ensures.none
+belongs : (c : In-Err) → BelongsAt c.args.row.name c.args.self.now.rows.items c.in-Err.place
+belongs c = rw (c.name.ensures, c.as_slice.ensures.value) at c.in-Err.ensures.none
 
 pub returns-in-Ok-clause-put : goal.returns-in-Ok-clause-put
 returns-in-Ok-clause-put c =
-    row_replaced c.args.row.row.name.items c.args.self.now.rows.items c.in-Ok.place c.args.row (found (goal.at.returns-in-Ok-clause-put c).In-Ok) refl
+    row_replaced c.args.row.name c.args.self.now.rows.items c.in-Ok.place c.args.row (found (goal.at.returns-in-Ok-clause-put c).In-Ok) refl
 
 pub returns-in-Ok-clause-replaced : goal.returns-in-Ok-clause-replaced
 returns-in-Ok-clause-replaced c =
-    name_found c.args.row.row.name.items c.args.self.now.rows.items c.in-Ok.place (found (goal.at.returns-in-Ok-clause-replaced c).In-Ok)
+    name_found c.args.row.name c.args.self.now.rows.items c.in-Ok.place (found (goal.at.returns-in-Ok-clause-replaced c).In-Ok)
 
 pub returns-in_ok-insert_row-in-Err-clause-put : goal.returns-in_ok-insert_row-in-Err-clause-put
 returns-in_ok-insert_row-in-Err-clause-put c =
     ap entries_of c.in_ok-insert_row-in-Err.ensures.inserted
-    ∙ row_inserted c.args.row.row.name.items c.args.self.now.rows.items c.in-Err.place c.args.row
+    ∙ row_inserted c.args.row.name c.args.self.now.rows.items c.in-Err.place c.args.row
     (belongs (goal.at.returns-in_ok-insert_row-in-Err-clause-put c).In-Err) refl
 
 pub returns-in_ok-insert_row-in-Err-clause-replaced : goal.returns-in_ok-insert_row-in-Err-clause-replaced
 returns-in_ok-insert_row-in-Err-clause-replaced c =
-    no_name c.args.row.row.name.items c.args.self.now.rows.items c.in-Err.place (belongs (goal.at.returns-in_ok-insert_row-in-Err-clause-replaced c).In-Err)
+    no_name c.args.row.name c.args.self.now.rows.items c.in-Err.place (belongs (goal.at.returns-in_ok-insert_row-in-Err-clause-replaced c).In-Err)

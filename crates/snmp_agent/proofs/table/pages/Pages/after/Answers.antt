@@ -4,8 +4,7 @@ use Rattle.std.specs.Ordering.{nat_cmp}
 use Rattle.std.specs.Cmp.Lexicographic.{slice_cmp}
 use Rattle.std.specs.FinMap.{FinMap, from_sorted}
 use Rattle.std.proofs.lemmas.Option.{slice_get_read}
-use Rattle.snmp_wire.specs.Message.{Datum}
-use Rattle.snmp_agent.specs.declared.table.encoded.EncodedRow.{EncodedRow}
+use Rattle.snmp_wire.specs.Message.{Datum, VarBind}
 use Rattle.snmp_agent.specs.declared.table.page.Page.{Page}
 use Rattle.snmp_agent.specs.table.Places.{IsBeforeAll, IsBeforeNone}
 use Rattle.snmp_agent.specs.table.Pages.{IsPageOf, IsRising, StandsApart, entries_in, entries_of}
@@ -47,9 +46,9 @@ returns c =
     let page = c.in-Some.page.now in
     let n = c.place_after.result in
     let here : IsPageOf o pages place = subst (λ (ps : List Page). IsPageOf o ps place) c.as_slice-pages.ensures.value c.page_of-place.ensures in
-    let passed : IsBeforeNone o (entries_of (take n page.rows.items)) = subst (λ (rs : List EncodedRow). IsBeforeNone o (entries_of (take n rs)))
+    let passed : IsBeforeNone o (entries_of (take n page.rows.items)) = subst (λ (rs : List VarBind). IsBeforeNone o (entries_of (take n rs)))
     c.as_slice-rows.ensures.value c.place_after.ensures.passed in
-    let ahead : IsBeforeAll o (entries_of (drop n page.rows.items)) = subst (λ (rs : List EncodedRow). IsBeforeAll o (entries_of (drop n rs)))
+    let ahead : IsBeforeAll o (entries_of (drop n page.rows.items)) = subst (λ (rs : List VarBind). IsBeforeAll o (entries_of (drop n rs)))
     c.as_slice-rows.ensures.value c.place_after.ensures.ahead in
     let front : List (List ℕ × Datum) = entries_in (take place pages) ++ entries_of (take n page.rows.items) in
     let apart = apart_in_page pages place o here page (at (goal.at.returns c).In-Some) c.self.invariant n passed ahead in
@@ -59,6 +58,6 @@ returns c =
       front,
       subst (λ (m : FinMap (slice_cmp nat_cmp) Datum). StandsApart m o front (entries_of c.split_at-2.result.1.now ++ entries_in c.split_at.result.1.now))
           c.self.view_is
-          (subst (λ (rs : List EncodedRow). StandsApart (from_sorted (entries_in pages)) o front (entries_of rs ++ entries_in c.split_at.result.1.now)) (sym rows)
+          (subst (λ (rs : List VarBind). StandsApart (from_sorted (entries_in pages)) o front (entries_of rs ++ entries_in c.split_at.result.1.now)) (sym rows)
           (subst (λ (ps : List Page). StandsApart (from_sorted (entries_in pages)) o front (entries_of (drop n page.rows.items) ++ entries_in ps)) (sym behind) apart)),
     )

@@ -4,8 +4,7 @@ use Rattle.std.specs.Ordering.{nat_cmp}
 use Rattle.std.specs.Cmp.Lexicographic.{slice_cmp}
 use Rattle.std.specs.FinMap.{FinMap, contains_key, remove as remove_key}
 use Rattle.std.proofs.lemmas.Option.{slice_get_read}
-use Rattle.snmp_wire.specs.Message.{Datum}
-use Rattle.snmp_agent.specs.declared.table.encoded.EncodedRow.{EncodedRow}
+use Rattle.snmp_wire.specs.Message.{Datum, VarBind}
 use Rattle.snmp_agent.specs.declared.table.page.Page.{Page}
 use Rattle.snmp_agent.specs.table.Places.{without_name}
 use Rattle.snmp_agent.specs.table.Pages.{BelongsAt, HasNameAt, IsPageOf, IsRising, entries_in, has_name}
@@ -56,10 +55,10 @@ find_row-requires c =
     (page_rising c.self.inside.list.items c.page_of-place.result c.in-Some.page.now (at before) c.self.invariant)
 
 found : (c : In-Ok) → HasNameAt c.args.name.now c.in-Some.page.now.rows.items c.in-Ok.row
-found c = subst (λ (rows : List EncodedRow). HasNameAt c.args.name.now rows c.in-Ok.row) c.as_slice-3.ensures.value c.in-Ok.ensures.found
+found c = subst (λ (rows : List VarBind). HasNameAt c.args.name.now rows c.in-Ok.row) c.as_slice-3.ensures.value c.in-Ok.ensures.found
 
 belongs : (c : In-Err) → BelongsAt c.args.name.now c.in-Some.page.now.rows.items c.in-Err.field-0
-belongs c = subst (λ (rows : List EncodedRow). BelongsAt c.args.name.now rows c.in-Err.field-0) c.as_slice-3.ensures.value c.in-Err.ensures.none
+belongs c = subst (λ (rows : List VarBind). BelongsAt c.args.name.now rows c.in-Err.field-0) c.as_slice-3.ensures.value c.in-Err.ensures.none
 
 pub remove_row-requires : goal.remove_row-requires
 remove_row-requires c =

@@ -1,6 +1,6 @@
 use Rattle.std.proofs.Common.{◌∷◌, List, ℕ, sym, ap, subst}
 use Rattle.snmp_wire.specs.Message.{Datum, VarBind}
-use Rattle.snmp_agent.specs.table.Row.{entry_of}
+use Rattle.snmp_agent.specs.table.Places.{entry_of}
 use Rattle.snmp_agent.specs.table.Table.{IsNext}
 use Rattle.snmp_agent.specs.table.Pages.{AreBehind}
 use Rattle.snmp_agent.proofs.Following.{first_next, end_next, behind_first}
@@ -9,14 +9,14 @@ use Rattle.snmp_agent.proofs.table.pages.Successors.advance.Goals as goal
 pub returns-in-Some-clause-next : goal.returns-in-Some-clause-next
 returns-in-Some-clause-next c = λ view h.
     let o = c.args.binding.now.name in
-    let first : AreBehind view o (entry_of c.in-Some.row.now.row ∷ c.next_row.new.self) = subst (λ (es : List (List ℕ × Datum)). AreBehind view o es)
+    let first : AreBehind view o (entry_of c.in-Some.row.now ∷ c.next_row.new.self) = subst (λ (es : List (List ℕ × Datum)). AreBehind view o es)
     c.in-Some.ensures.some h in
     subst (λ (p : VarBind). IsNext view o p) (sym c.read_into.ensures) (first_next c.order.ensures.less view o _ _ first)
 
 pub returns-in-Some-clause-behind : goal.returns-in-Some-clause-behind
 returns-in-Some-clause-behind c = λ view h.
     let o = c.args.binding.now.name in
-    let first : AreBehind view o (entry_of c.in-Some.row.now.row ∷ c.next_row.new.self) = subst (λ (es : List (List ℕ × Datum)). AreBehind view o es)
+    let first : AreBehind view o (entry_of c.in-Some.row.now ∷ c.next_row.new.self) = subst (λ (es : List (List ℕ × Datum)). AreBehind view o es)
     c.in-Some.ensures.some h in
     subst (λ (p : List ℕ). AreBehind view p c.next_row.new.self) (ap (λ (p : VarBind). p.name) (sym c.read_into.ensures)) (behind_first view o _ _ first)
 

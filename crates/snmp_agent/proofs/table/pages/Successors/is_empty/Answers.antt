@@ -1,21 +1,20 @@
 use Rattle.std.proofs.Common.{◌≡◌, ◌≤◌, ◌++◌, ◌∷◌, [], List, ℕ, length, refl, sym, ◌∙◌, arith, eq-eqb}
 use Rattle.std.proofs.lemmas.Bool.{eqb-true, false≢true}
-use Rattle.snmp_wire.specs.Message.{Datum}
-use Rattle.snmp_agent.specs.declared.table.encoded.EncodedRow.{EncodedRow}
+use Rattle.snmp_wire.specs.Message.{Datum, VarBind}
 use Rattle.snmp_agent.specs.declared.table.page.Page.{Page}
 use Rattle.snmp_agent.specs.table.Pages.{entries_in, entries_of}
 use Rattle.snmp_agent.proofs.table.pages.Successors.is_empty.Goals as goal
 
-none : (rows : List EncodedRow) (pages : List Page) → length rows ≡ 0 → length pages ≡ 0 → entries_of rows ++ entries_in pages ≡ []
+none : (rows : List VarBind) (pages : List Page) → length rows ≡ 0 → length pages ≡ 0 → entries_of rows ++ entries_in pages ≡ []
 none [] [] rows_none pages_none = refl
 none [] (page ∷ pages) rows_none pages_none = absurd (omega (arith, pages_none))
 none (row ∷ rows) pages rows_none pages_none = absurd (omega (arith, rows_none))
 
-page_left : (rows : List EncodedRow) (more : List (List ℕ × Datum)) → 1 ≤ length rows → entries_of rows ++ more ≡ [] → ⊥
+page_left : (rows : List VarBind) (more : List (List ℕ × Datum)) → 1 ≤ length rows → entries_of rows ++ more ≡ [] → ⊥
 page_left [] more some e = omega (arith, some)
 page_left (row ∷ rows) more some e = cc
 
-none_left : (rows : List EncodedRow) (pages : List Page) → entries_of rows ++ entries_in pages ≡ [] → (length rows ≡ 0) × (length pages ≡ 0)
+none_left : (rows : List VarBind) (pages : List Page) → entries_of rows ++ entries_in pages ≡ [] → (length rows ≡ 0) × (length pages ≡ 0)
 none_left [] [] e = (refl, refl)
 none_left [] (page ∷ pages) e = absurd (page_left page.rows.items (entries_in pages) page.some e)
 none_left (row ∷ rows) pages e = let never : ⊥ = cc in absurd never

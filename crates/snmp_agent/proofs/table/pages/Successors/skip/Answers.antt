@@ -1,6 +1,5 @@
 use Rattle.std.proofs.Common.{◌≡◌, ◌-◌, ◌≤◌, ◌++◌, List, ℕ, length, take, drop, ◌∙◌, ap, sym, arith}
-use Rattle.snmp_wire.specs.Message.{Datum}
-use Rattle.snmp_agent.specs.declared.table.encoded.EncodedRow.{EncodedRow}
+use Rattle.snmp_wire.specs.Message.{Datum, VarBind}
 use Rattle.snmp_agent.specs.table.Places.{last_name}
 use Rattle.snmp_agent.specs.table.Pages.{entries_in, entries_of}
 use Rattle.snmp_agent.proofs.Following.{drop_rows, take_rows}
@@ -12,7 +11,7 @@ pages-preserved-in-Some c =
     let more : List (List ℕ × Datum) = entries_in c.pages.self-inside.pages.now in
     let few : length rows ≤ c.pages.left = omega (arith, c.pages-test.true) in
     let whole : entries_of c.as_slice-self-inside.result.now ++ entries_in c.in-Some.pages.now ≡ more =
-    ap (λ (rs : List EncodedRow). entries_of rs ++ entries_in c.in-Some.pages.now) c.as_slice-self-inside.ensures.value
+    ap (λ (rs : List VarBind). entries_of rs ++ entries_in c.in-Some.pages.now) c.as_slice-self-inside.ensures.value
     ∙ sym (ap entries_in c.in-Some.ensures.cases.0) in
     record {
       left = ap (drop (c.pages.left - length rows)) whole ∙ drop_rows rows more c.pages.left few ∙ c.pages.invariant.left;

@@ -14,7 +14,7 @@ answered c =
     let rows : List (List ℕ × Datum) = c.after-rows.result in
     let behind : AreBehind view o rows = c.after-rows.ensures in
     let at : c.skip.new.name ≡ last_name o (take c.args.rounds rows) =
-    c.skip.ensures.name ∙ ap (λ (p : List ℕ). last_name p (take c.args.rounds rows)) c.set_to.ensures in
+    c.skip.ensures.name ∙ ap (λ (p : List ℕ). last_name p (take c.args.rounds rows)) c.read_into.ensures in
     let here : AreBehind view c.skip.new.name c.skip.new.self = subst (λ (es : List (List ℕ × Datum)). AreBehind view c.skip.new.name es)
     (sym c.skip.ensures.left)
     (subst (λ (p : List ℕ). AreBehind view p (drop c.args.rounds rows)) (sym at) (behind_past view c.args.rounds o rows behind)) in
@@ -25,6 +25,6 @@ answered c =
 pub returns : goal.returns
 returns c = record {
   answer = answered c;
-  name = λ wire. next_after_name c.args.self.now c.args.rounds c.args.name.now (var_bind c.advance.new.binding) c.is_mib_view.ensures wire (answered c);
+  name = next_after_name c.args.self.now c.args.rounds c.args.name.now (var_bind c.advance.new.binding) c.is_mib_view.ensures c.content-content.ensures.encodes.wire (answered c);
   value = next_after_value c.args.self.now c.args.rounds c.args.name.now (var_bind c.advance.new.binding) c.is_mib_view.ensures (answered c);
 }

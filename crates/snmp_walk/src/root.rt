@@ -1,0 +1,57 @@
+//! The root of a walk.
+ghost use Rattle.std.specs.Prelude.{◌≡◌};
+ghost use Rattle.snmp_oid.specs.Identifier.{wire};
+ghost use Rattle.snmp_walk.specs.Names.{is_below};
+
+use snmp_wire::{EncodedName, NameBuffer, Oid};
+use std::marker::Model;
+
+/// The root of a walk, with its form in messages as it is encoded.
+#[derive(Drop)]
+pub(crate) struct Root {
+    oid: Oid,
+    sent: NameBuffer,
+}
+
+impl Model for Root {
+    ghost use Rattle.std.specs.Prelude.{◌≡◌, List, ℕ};
+    ghost use Rattle.snmp_oid.specs.Identifier.{wire};
+
+    ghost Value = { List ℕ };
+
+    ghost view = { λ root. root.oid };
+
+    ghost invariant = { λ root. root.sent ≡ wire root.oid };
+}
+
+impl Root {
+    /// The root that has this form in messages.
+    pub(crate) fn new(oid: Oid, sent: NameBuffer) -> Root
+        requires { sent ≡ wire oid }
+        ensures { result ≡ oid }
+    {
+        Root { oid, sent }
+    }
+
+    /// Whether the name begins with the root and is longer.
+    #[inline]
+    pub(crate) fn is_above(&self, name: &EncodedName<'_>) -> bool
+        ensures { result ≡ is_below name.now self.now }
+    {
+        if self.oid.len() < 2 {
+            return begins_with(name, &self.oid);
+        }
+        name.is_below(&self.sent.name())
+    }
+}
+
+/// Whether the name begins with the root, of any numbers, and is longer.
+// A function of its own for its identifier, which the tests of other names need not clear.
+#[inline(never)]
+fn begins_with(name: &EncodedName<'_>, root: &Oid) -> bool
+    ensures { result ≡ is_below name.now root.now }
+{
+    let mut oid = Oid::new();
+    name.read_into(&mut oid);
+    oid.is_below(root)
+}

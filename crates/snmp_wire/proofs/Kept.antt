@@ -1,0 +1,104 @@
+-- Bindings that are kept as their encodings: what is written is read again.
+use Rattle.std.proofs.Common.{◌≡◌, ℕ, List, [], ◌∷◌, ◌++◌, Result, Ok, IsOk, refl, sym, ap, subst, ◌∙◌}
+use Rattle.std.proofs.lemmas.List.{append-nil}
+use Rattle.std.specs.Result.{result_unwrap_or}
+use Rattle.snmp_wire.specs.declared.ber.error.BerError.{BerError}
+use Rattle.snmp_wire.specs.Canon.{IsEncodable, IsEncodableValue, canon_binding}
+use Rattle.snmp_wire.specs.Encoded.{IsKept, binding_in}
+use Rattle.snmp_wire.specs.Message.{VarBind, Datum, integer_value, octet_string, null_value, object_id, ip_address, counter32, gauge32, time_ticks}
+use Rattle.snmp_wire.specs.Message.{opaque_octets, counter64, no_such_object, no_such_instance, end_of_mib_view}
+use Rattle.snmp_wire.specs.Range.{IsBindingInRange, IsInRange}
+use Rattle.snmp_wire.specs.Reading.{Fields, binding_of, bindings_in, bindings_of}
+use Rattle.snmp_wire.specs.Spelling.{SpellsBinding}
+use Rattle.snmp_wire.specs.ber.Laws.{ContentReading, ShortestEncodings}
+use Rattle.snmp_wire.specs.ber.LengthLaws.{inner_again}
+use Rattle.snmp_wire.specs.ber.Number.{lenient}
+use Rattle.snmp_wire.specs.ber.Reading.{identifier_of, inner_at, typed_value}
+use Rattle.snmp_wire.specs.ber.ReadingLaws.{is_ok_at, ok_is, ok_value}
+use Rattle.snmp_wire.proofs.BindingLemmas.{binding_made, parts_of}
+use Rattle.snmp_wire.proofs.Lenient.{binding_is_read}
+use Rattle.snmp_wire.proofs.MessageLaws.{binding_again, bindings_again}
+use Rattle.snmp_wire.proofs.StrictMessages.{spells_binding}
+
+encodable_value : (v : Datum) → IsInRange v → IsEncodableValue v
+encodable_value (integer_value z) h = tt
+encodable_value (octet_string text) h = h.1
+encodable_value null_value h = tt
+encodable_value (object_id name) h = h.0
+encodable_value (ip_address address) h = tt
+encodable_value (counter32 n) h = tt
+encodable_value (gauge32 n) h = tt
+encodable_value (time_ticks n) h = tt
+encodable_value (opaque_octets text) h = h.1
+encodable_value (counter64 n) h = tt
+encodable_value no_such_object h = tt
+encodable_value no_such_instance h = tt
+encodable_value end_of_mib_view h = tt
+
+pub encodable : (p : VarBind) → IsInRange (object_id p.name) → IsInRange p.value → IsEncodable p
+encodable p name value = record { name = name.0; value = encodable_value p.value value }
+
+module _ (reading : ContentReading) (laws : ShortestEncodings) (p : VarBind) (range : IsBindingInRange p) where
+  spells : SpellsBinding lenient p (canon_binding p)
+  spells = binding_is_read laws p (canon_binding p) (spells_binding laws p range)
+
+  pub read_again : binding_in (canon_binding p) ≡ p
+  read_again =
+      ap (λ octets. binding_in octets) (sym (append-nil (canon_binding p)))
+      ∙ ap (λ (read : Result (VarBind × List ℕ) BerError). (result_unwrap_or read (record { name = []; value = null_value }, [])).0) (binding_again reading p (canon_binding p) [] spells)
+
+  pub is_kept : (octets : List ℕ) → octets ≡ canon_binding p → IsKept octets
+  is_kept octets e = subst IsKept (sym e) (record {
+    range = subst IsBindingInRange (sym read_again) range;
+    encoding = ap canon_binding (sym read_again);
+  })
+
+  all_again : bindings_of (canon_binding p) ≡ Ok (p ∷ [])
+  all_again = bindings_again reading (p ∷ []) (canon_binding p) (canon_binding p, [], sym (append-nil (canon_binding p)), spells, refl)
+
+  pub are_bindings : (octets : List ℕ) → octets ≡ canon_binding p → IsOk (bindings_of octets)
+  are_bindings octets e = is_ok_at (bindings_of octets) (p ∷ []) (ap bindings_of e ∙ all_again)
+
+  pub one_binding : (octets : List ℕ) → octets ≡ canon_binding p → bindings_in octets ≡ p ∷ []
+  one_binding octets e = ap bindings_in e ∙ ap (λ (read : Result (List VarBind) BerError). result_unwrap_or read []) all_again
+
+  -- the content of the binding and that of its name, in octets that are its encoding
+  record HasName (octets : List ℕ) : Type 0 where
+    content : List ℕ
+    name : List ℕ
+    value : List ℕ
+    outer : inner_at 0x30 octets ≡ Ok (content, [])
+    inner : inner_at 0x06 content ≡ Ok (name, value)
+    is_name : identifier_of name ≡ Ok p.name
+
+  has_name : (octets : List ℕ) → octets ≡ canon_binding p → HasName octets
+  has_name octets e = record {
+    content = spells.name ++ spells.value;
+    name = spells.is_name.content;
+    value = spells.value;
+    outer =
+        ap (inner_at 0x30) (e ∙ sym (append-nil (canon_binding p)))
+        ∙ inner_again 0x30 (spells.name ++ spells.value) (canon_binding p) [] spells.element;
+    inner = inner_again 0x06 spells.is_name.content spells.name spells.value spells.is_name.element;
+    is_name = reading.object_id_is_read spells.is_name.content p.name spells.is_name.is_content;
+  }
+
+  -- what is read of them
+  pub outer_ok : (octets : List ℕ) → octets ≡ canon_binding p → IsOk (inner_at 0x30 octets)
+  outer_ok octets e = let h = has_name octets e in is_ok_at (inner_at 0x30 octets) (h.content, []) h.outer
+
+  module _ (octets : List ℕ) (e : octets ≡ canon_binding p) (content after : List ℕ) (outer : inner_at 0x30 octets ≡ Ok (content, after)) where
+    content_is : content ≡ (has_name octets e).content
+    content_is = let h = has_name octets e in ap (λ (x : List ℕ × List ℕ). x.0) (ok_is (content, after) (h.content, []) (sym outer ∙ h.outer))
+
+    inner_is : inner_at 0x06 content ≡ Ok ((has_name octets e).name, (has_name octets e).value)
+    inner_is = ap (inner_at 0x06) content_is ∙ (has_name octets e).inner
+
+    pub inner_ok : IsOk (inner_at 0x06 content)
+    inner_ok = is_ok_at (inner_at 0x06 content) ((has_name octets e).name, (has_name octets e).value) inner_is
+
+    pub name_read : (name value : List ℕ) → inner_at 0x06 content ≡ Ok (name, value) → identifier_of name ≡ Ok p.name
+    name_read name value inner =
+        let h = has_name octets e in
+        let same : name ≡ h.name = ap (λ (x : List ℕ × List ℕ). x.0) (ok_is (name, value) (h.name, h.value) (sym inner ∙ inner_is)) in
+        ap identifier_of same ∙ h.is_name

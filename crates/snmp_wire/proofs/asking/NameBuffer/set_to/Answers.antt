@@ -1,0 +1,17 @@
+use Rattle.snmp_wire.proofs.NameOrder.{content_octets}
+use Rattle.snmp_wire.proofs.asking.NameBuffer.set_to.Goals as goal
+
+pub invariant_of-self : goal.invariant_of-self
+invariant_of-self c = (
+  c.content-content.ensures.at_most_640,
+  (content_octets _ _ c.args.name.now c.copy_to_front.ensures c.content-content.ensures.octets c.content-content.ensures.encodes).0,
+)
+
+pub returns-clause-value : goal.returns-clause-value
+returns-clause-value c = (content_octets _ _ c.args.name.now c.copy_to_front.ensures c.content-content.ensures.octets c.content-content.ensures.encodes).1
+
+pub returns-clause-wire : goal.returns-clause-wire
+returns-clause-wire c = c.content-content.ensures.encodes.wire
+
+pub returns-clause-identifier : goal.returns-clause-identifier
+returns-clause-identifier c = c.content-content.ensures.encodes.identifier

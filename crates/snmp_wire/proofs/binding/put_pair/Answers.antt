@@ -1,0 +1,49 @@
+use Rattle.std.proofs.Common.{◌-◌, ◌<◌, arith, refl}
+use Rattle.snmp_wire.specs.ber.Value.{object_id}
+use Rattle.snmp_wire.specs.Message.{datum}
+use Rattle.snmp_wire.proofs.BindingWriting.{binding_header_fits, binding_name_fits, binding_value_fits, writes_binding}
+use Rattle.snmp_wire.specs.ber.ElementLaws.{header_short, length-canon_header, value_content_fits, value_header_fits, writes_value}
+use Rattle.snmp_wire.proofs.binding.put_pair.Goals as goal
+
+pub put_value-value-requires-clause-room : goal.put_value-value-requires-clause-room
+put_value-value-requires-clause-room c = binding_value_fits c.args.end (record { name = c.args.name.now; value = datum c.args.value.now }) c.requires.room
+
+pub put_identifier-content-requires-clause-room : goal.put_identifier-content-requires-clause-room
+put_identifier-content-requires-clause-room c = value_content_fits c.put_value-value.result (object_id c.args.name.now)
+    (binding_name_fits (record { name = c.args.name.now; value = datum c.args.value.now }) c.put_value-value.ensures c.requires.room)
+
+pub put_short_header-name-requires-clause-room : goal.put_short_header-name-requires-clause-room
+put_short_header-name-requires-clause-room c = value_header_fits 6 (object_id c.args.name.now) refl c.put_identifier-content.ensures
+    (binding_name_fits (record { name = c.args.name.now; value = datum c.args.value.now }) c.put_value-value.ensures c.requires.room)
+
+pub put_short_header-requires-clause-below_128 : goal.put_short_header-requires-clause-below_128
+put_short_header-requires-clause-below_128 c =
+    let content : c.put_value-value.result - c.put_identifier-content.result < 128 =
+    omega (arith, c.if-end-content-lt126.true, c.put_value-value.ensures.begins) in
+    omega (
+      arith,
+      c.if-end-content-lt126.true,
+      c.put_short_header-name.ensures.begins,
+      length-canon_header 6 (c.put_value-value.result - c.put_identifier-content.result),
+      header_short (c.put_value-value.result - c.put_identifier-content.result) content,
+    )
+
+pub put_short_header-requires-clause-room : goal.put_short_header-requires-clause-room
+put_short_header-requires-clause-room c = binding_header_fits (record { name = c.args.name.now; value = datum c.args.value.now }) c.put_value-value.ensures
+    (writes_value 6 (object_id c.args.name.now) refl c.put_identifier-content.ensures c.put_short_header-name.ensures) c.requires.room
+
+pub returns-then-end-content-lt126 : goal.returns-then-end-content-lt126
+returns-then-end-content-lt126 c = writes_binding (record { name = c.args.name.now; value = datum c.args.value.now }) c.put_value-value.ensures
+    (writes_value 6 (object_id c.args.name.now) refl c.put_identifier-content.ensures c.put_short_header-name.ensures) c.put_short_header.ensures
+
+pub put_header-name-requires-clause-room : goal.put_header-name-requires-clause-room
+put_header-name-requires-clause-room c = value_header_fits 6 (object_id c.args.name.now) refl c.put_identifier-content.ensures
+    (binding_name_fits (record { name = c.args.name.now; value = datum c.args.value.now }) c.put_value-value.ensures c.requires.room)
+
+pub put_header-requires-clause-room : goal.put_header-requires-clause-room
+put_header-requires-clause-room c = binding_header_fits (record { name = c.args.name.now; value = datum c.args.value.now }) c.put_value-value.ensures
+    (writes_value 6 (object_id c.args.name.now) refl c.put_identifier-content.ensures c.put_header-name.ensures) c.requires.room
+
+pub returns : goal.returns
+returns c = writes_binding (record { name = c.args.name.now; value = datum c.args.value.now }) c.put_value-value.ensures
+    (writes_value 6 (object_id c.args.name.now) refl c.put_identifier-content.ensures c.put_header-name.ensures) c.put_header.ensures

@@ -1,0 +1,27 @@
+use Rattle.std.proofs.Common.{◌≡◌, ◌-◌, length, take, drop, Ok, sym, ap, ◌∙◌}
+use Rattle.snmp_wire.specs.ber.Canon.{canon_content}
+use Rattle.snmp_wire.specs.ber.Reading.{identifier_of}
+use Rattle.snmp_wire.specs.ber.ReadingLaws.{is_ok_at, ok_is}
+use Rattle.snmp_wire.specs.ber.Value.{object_id}
+use Rattle.snmp_wire.proofs.IdentifierLaws.{identifier_again}
+use Rattle.snmp_wire.proofs.NameOrder.{content_short}
+use Rattle.snmp_wire.proofs.StrictIdentifiers.{is_object_id}
+use Rattle.snmp_wire.proofs.WritingLemmas.{written_to_end}
+use Rattle.snmp_wire.proofs.name.EncodedName.write.Goals as goal
+use Rattle.snmp_wire.proofs.name.EncodedName.write.Goals.{After-put_identifier-start}
+
+pub put_identifier-start-requires-clause-room : goal.put_identifier-start-requires-clause-room
+put_identifier-start-requires-clause-room c = content_short c.args.name.now c.as_slice-numbers.ensures.at_most_128
+
+-- what lies there is read as the name
+is_read : (c : After-put_identifier-start) → identifier_of (take (length c.put_identifier-start.new.out - c.put_identifier-start.result)
+    (drop c.put_identifier-start.result c.put_identifier-start.new.out)) ≡ Ok c.args.name.now
+is_read c = ap identifier_of (written_to_end c.put_identifier-start.ensures (sym c.told-out))
+    ∙ identifier_again (canon_content (object_id c.args.name.now)) c.args.name.now
+    (is_object_id c.args.name.now c.requires c.as_slice-numbers.ensures.is_identifier)
+
+pub of-requires : goal.of-requires
+of-requires c = is_ok_at _ c.args.name.now (is_read (goal.at.of-requires c).After-put_identifier-start)
+
+pub returns : goal.returns
+returns c = ok_is c.of.result c.args.name.now (sym c.of.ensures ∙ is_read (goal.at.returns c).After-put_identifier-start)

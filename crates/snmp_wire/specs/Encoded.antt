@@ -1,0 +1,17 @@
+-- Bindings as they are encoded.
+use Rattle.std.specs.Prelude.{◌≡◌, ℕ, List, []}
+use Rattle.std.specs.Result.{result_unwrap_or}
+use Rattle.snmp_wire.specs.Canon.{canon_binding}
+use Rattle.snmp_wire.specs.Message.{VarBind, null_value}
+use Rattle.snmp_wire.specs.Range.{IsBindingInRange}
+use Rattle.snmp_wire.specs.Reading.{binding_at}
+
+-- the binding at the front of octets, or one of no name and no value where none is there
+abbrev pub binding_in : List ℕ → VarBind
+binding_in octets =
+    (result_unwrap_or (binding_at octets) (record { name = []; value = null_value }, [])).0
+
+-- the octets are the shortest encoding of a binding
+pub record IsKept (octets : List ℕ) : Type 0 where
+  pub range : IsBindingInRange (binding_in octets)
+  pub encoding : octets ≡ canon_binding (binding_in octets)

@@ -1,0 +1,112 @@
+//! What a walk keeps of a name, and the binding by which it asks for it.
+ghost use Rattle.std.specs.Prelude.{◌≡◌, ℕ, ◌≤◌, ◌↔◌, ◌++◌, drop, length, take};
+ghost use Rattle.std.specs.Prelude.{IfNone, IfSome, IsSome};
+ghost use Rattle.snmp_oid.specs.Identifier.{IsIdentifier, IsWire};
+ghost use Rattle.snmp_wire.specs.Canon.{canon_binding};
+ghost use Rattle.snmp_wire.specs.Name.{asking};
+ghost use Rattle.snmp_wire.specs.ber.Writing.{Writes};
+
+use crate::ber::tag::{NULL, OBJECT_IDENTIFIER, SEQUENCE};
+use crate::ber::{header_size, put_header, put_text};
+use crate::{EncodedName, MAX_CONTENT};
+use std::marker::Model;
+
+/// A name as it is encoded, in octets of its own.
+#[derive(Drop)]
+pub struct NameBuffer {
+    octets: [u8; MAX_CONTENT],
+    len: usize,
+}
+
+impl Model for NameBuffer {
+    ghost use Rattle.std.specs.Prelude.{List, ℕ, ◌≤◌, take};
+    ghost use Rattle.snmp_wire.specs.Name.{IsContentOctets, identifier_in};
+
+    ghost Value = { List ℕ };
+
+    ghost view = { λ name. identifier_in (take name.len name.octets) };
+
+    ghost invariant = { λ name.
+        (name.len ≤ 640) × IsContentOctets (take name.len name.octets) };
+}
+
+impl NameBuffer {
+    /// A copy of a name.
+    pub fn new(name: &EncodedName<'_>) -> NameBuffer
+        ensures value { result ≡ name.now }
+        ensures wire { IsWire name.now }
+        ensures identifier { IsIdentifier name.now }
+    {
+        let content = name.content();
+        let mut octets = [0; MAX_CONTENT];
+        copy_to_front(&mut octets, content);
+        NameBuffer {
+            octets,
+            len: content.len(),
+        }
+    }
+
+    /// The name.
+    #[inline]
+    pub fn name(&self) -> EncodedName<'_>
+        ensures { result ≡ self.now }
+    {
+        EncodedName::of(&self.octets[..self.len])
+    }
+
+    /// Sets it to another name, in place.
+    #[inline]
+    pub fn set_to(&mut self, name: &EncodedName<'_>)
+        ensures value { self.new ≡ name.now }
+        ensures wire { IsWire name.now }
+        ensures identifier { IsIdentifier name.now }
+    {
+        let content = name.content();
+        copy_to_front(&mut self.octets, content);
+        self.len = content.len();
+    }
+}
+
+/// Copies octets, of which there are at most 640, to the front of others.
+#[inline]
+fn copy_to_front(octets: &mut [u8; MAX_CONTENT], content: &[u8])
+    requires { length content.now ≤ 640 }
+    ensures { take (length content.now) octets.new ≡ content.now }
+{
+    octets[..content.len()].copy_from_slice(content);
+}
+
+/// Writes the binding that asks for a name, whose value is NULL (RFC 3416, section 4.2), to the
+/// front of `out`, and returns its length.
+///
+/// None only where `out` is shorter, and then it is unchanged.
+pub fn encode_asking(name: &EncodedName<'_>, out: &mut [u8]) -> Option<usize>
+    ensures some { IfSome result (λ n.
+        (n ≡ length (canon_binding (asking name.now)))
+        × (out.new ≡ canon_binding (asking name.now) ++ drop n out.old)) }
+    ensures variant { IsSome result
+        ↔ (length (canon_binding (asking name.now)) ≤ length out.old) }
+    ensures unchanged { IfNone result (out.new ≡ out.old) }
+{
+    let len = name.content().len() as u64;
+    let content = header_size(len) + len + 2;
+    let size = (header_size(content) + content) as usize;
+    if out.len() < size {
+        return None;
+    }
+    put_asking(out, size, name);
+    Some(size)
+}
+
+/// Writes the binding that asks for a name before `end`, and returns where it begins.
+#[inline]
+fn put_asking(out: &mut [u8], end: usize, asked: &EncodedName<'_>) -> usize
+    requires room { length (canon_binding (asking asked.now)) ≤ end }
+    requires within { end ≤ length out.old }
+    ensures { Writes out.old result end (canon_binding (asking asked.now)) out.new }
+{
+    let value = put_text(out, end, &[NULL, 0]);
+    let content = put_text(out, value, asked.content());
+    let name = put_header(out, content, OBJECT_IDENTIFIER, (value - content) as u64);
+    put_header(out, name, SEQUENCE, (end - name) as u64)
+}

@@ -1,0 +1,104 @@
+//! Bindings that are kept as their encodings, as a table keeps its rows.
+ghost use Rattle.std.specs.Prelude.{◌≡◌, IfOk};
+ghost use Rattle.snmp_wire.specs.Canon.{IsEncodable, canon_binding};
+ghost use Rattle.snmp_wire.specs.Message.{datum, object_id, var_bind};
+ghost use Rattle.snmp_wire.specs.Range.{IsBindingInRange, IsInRange};
+
+use crate::ber::tag::{OBJECT_IDENTIFIER, SEQUENCE};
+use crate::ber::{ValueRef, content_reading, inner_at, shortest_encodings};
+use crate::binding::{Binding, Bindings, pair_size, put_pair};
+use crate::name::EncodedName;
+use snmp_oid::Oid;
+use std::alloc::{AllocError, Global};
+use std::marker::Model;
+
+/// A variable binding (RFC 3416, section 3) as its shortest encoding, which a message has as it is.
+#[derive(Debug, Drop)]
+pub struct EncodedBinding {
+    octets: Vec<u8>,
+}
+
+impl Model for EncodedBinding {
+    ghost use Rattle.snmp_wire.specs.Encoded.{IsKept, binding_in};
+    ghost use Rattle.snmp_wire.specs.Message.{VarBind};
+
+    ghost Value = { VarBind };
+
+    ghost view = { λ b. binding_in b.octets.items };
+
+    ghost invariant = { λ b. IsKept b.octets.items };
+}
+
+impl EncodedBinding {
+    /// The binding of a name and a value, for whose encoding it takes memory.
+    pub fn new(
+        alloc: Global,
+        name: &Oid,
+        value: &ValueRef<'_>,
+    ) -> Result<EncodedBinding, AllocError>
+        requires name { IsInRange (object_id name.now) }
+        requires value { IsInRange (datum value.now) }
+        ensures { IfOk result
+            (λ binding. binding ≡ record { name = name.now; value = datum value.now }) }
+    {
+        content_reading();
+        shortest_encodings();
+        let octets = encoded(alloc, name, value)?;
+        Ok(EncodedBinding { octets })
+    }
+
+    /// The shortest encoding.
+    #[inline]
+    pub fn octets(&self) -> &[u8]
+        ensures encoding { result.now ≡ canon_binding self.now }
+        ensures range { IsBindingInRange self.now }
+    {
+        self.octets.as_slice()
+    }
+
+    /// The name, as it is encoded.
+    #[inline]
+    pub fn name(&self) -> EncodedName<'_>
+        ensures { result ≡ self.now.name }
+    {
+        content_reading();
+        shortest_encodings();
+        let Ok((content, _)) = inner_at(SEQUENCE, self.octets.as_slice()) else {
+            unreachable!()
+        };
+        let Ok((name, _)) = inner_at(OBJECT_IDENTIFIER, content) else {
+            unreachable!()
+        };
+        EncodedName::of(name)
+    }
+
+    /// Changes a binding to this one.
+    pub fn read_into<'a>(&'a self, into: &mut Binding<'a>)
+        ensures { var_bind into.new ≡ self.now }
+    {
+        content_reading();
+        shortest_encodings();
+        let _ = Bindings::new(self.octets.as_slice()).read_next(into);
+    }
+
+    /// The value.
+    pub fn value(&self) -> ValueRef<'_>
+        ensures { datum result ≡ self.now.value }
+    {
+        let mut binding = Binding::empty();
+        self.read_into(&mut binding);
+        binding.value
+    }
+}
+
+/// The shortest encoding of the binding of a name and a value.
+fn encoded(alloc: Global, name: &Oid, value: &ValueRef<'_>) -> Result<Vec<u8>, AllocError>
+    requires { IsEncodable (record { name = name.now; value = datum value.now }) }
+    ensures { IfOk result (λ octets. octets.items
+        ≡ canon_binding (record { name = name.now; value = datum value.now })) }
+{
+    let size = pair_size(name, value) as usize;
+    let mut octets = vec![in alloc; 0; size]?;
+    let _ = put_pair(octets.as_mut_slice(), size, name, value);
+    Ok(octets)
+}

@@ -1,0 +1,233 @@
+//! Names as they are encoded: compared, and tested against a root, without being decoded.
+ghost use Rattle.std.specs.Prelude.{◌≡◌, ℕ, ◌+◌, ◌<◌, ◌≤◌, ◌↔◌, List, length, get_or};
+ghost use Rattle.std.specs.Prelude.{IsOk, IsSome, IsTrue, IfSome, Ok, true};
+ghost use Rattle.std.specs.Ordering.{nat_cmp};
+ghost use Rattle.std.specs.Cmp.Lexicographic.{slice_cmp};
+ghost use Rattle.std.specs.Int.{w64, from_le_bytes};
+ghost use Rattle.snmp_oid.specs.Identifier.{IsBelow, IsIdentifier, IsWire};
+ghost use Rattle.snmp_wire.specs.Name.{EncodedNames, EndsAt, IsAlike};
+ghost use Rattle.snmp_wire.specs.ber.Canon.{canon_content, eight_from};
+ghost use Rattle.snmp_wire.specs.ber.Identifier.{IsObjectId};
+ghost use Rattle.snmp_wire.specs.ber.Number.{AreOctets};
+ghost use Rattle.snmp_wire.specs.ber.Reading as reading;
+ghost use Rattle.snmp_wire.specs.ber.Value.{object_id};
+
+use crate::ber::{check_identifier, push_identifier, put_identifier};
+use snmp_oid::{Oid, order};
+use std::cmp::Ordering;
+use std::marker::Model;
+
+/// The most octets that the content of an identifier takes: 128 subidentifiers of five.
+pub const MAX_CONTENT: usize = 640;
+
+/// The name of an instance as it is encoded: the content octets of an identifier (X.690, 8.19).
+///
+/// An identifier has one content, and a content is one identifier's ([`encoded_names`]). So names
+/// are compared as they lie in a datagram, and none of their numbers is read.
+#[derive(Debug, Drop)]
+pub struct EncodedName<'a> {
+    content: &'a [u8],
+}
+
+impl<'a> Model for EncodedName<'a> {
+    ghost use Rattle.std.specs.Prelude.{List, ℕ};
+    ghost use Rattle.snmp_wire.specs.Name.{IsContentOctets, identifier_in};
+
+    ghost Value = { List ℕ };
+
+    ghost view = { λ name. identifier_in name.content.now };
+
+    ghost invariant = { λ name. IsContentOctets name.content.now };
+}
+
+impl<'a> EncodedName<'a> {
+    /// The name that the content octets encode, or None where they encode none.
+    #[inline]
+    pub fn read(content: &'a [u8]) -> Option<EncodedName<'a>>
+        ensures some { IfSome result (λ name. IsObjectId content.now name) }
+        ensures variant { IsSome result ↔ ((name : List ℕ) × IsObjectId content.now name) }
+    {
+        match check_identifier(content) {
+            Ok(()) => Some(EncodedName::of(content)),
+            Err(_) => None,
+        }
+    }
+
+    /// The name of content octets that were checked.
+    #[inline]
+    pub(crate) fn of(content: &'a [u8]) -> EncodedName<'a>
+        requires { IsOk (reading.identifier_of content.now) }
+        ensures { reading.identifier_of content.now ≡ Ok result }
+    {
+        EncodedName { content }
+    }
+
+    /// Writes the content of an identifier to the end of `out`, and returns the name that lies
+    /// there. The identifier must have an encoding ([`Oid::is_wire`]).
+    #[inline]
+    pub fn write(name: &Oid, out: &'a mut [u8; MAX_CONTENT]) -> EncodedName<'a>
+        requires { IsWire name.now }
+        ensures { result ≡ name.now }
+    {
+        // At most 128 numbers, so that the content fits.
+        let _numbers = name.as_slice();
+        let start = put_identifier(out, MAX_CONTENT, name);
+        let written: &'a [u8] = out;
+        EncodedName::of(&written[start..])
+    }
+
+    /// The content octets: at most 640, and the one encoding of the name.
+    #[inline]
+    pub fn content(&self) -> &'a [u8]
+        ensures value { result.now ≡ canon_content (object_id self.now) }
+        ensures encodes { IsObjectId result.now self.now }
+        ensures octets { AreOctets result.now }
+        ensures at_most_640 { length result.now ≤ 640 }
+    {
+        self.content
+    }
+
+    /// The same name again.
+    #[inline]
+    pub fn copy(&self) -> EncodedName<'a>
+        ensures { result ≡ self.now }
+    {
+        EncodedName {
+            content: self.content,
+        }
+    }
+
+    /// Sets an identifier to the name, in place.
+    #[inline]
+    pub fn read_into(&self, oid: &mut Oid)
+        ensures { oid.new ≡ self.now }
+    {
+        oid.clear();
+        push_identifier(oid, self.content);
+    }
+
+    /// How two names compare ([`order`]). The first octet that differs decides, and the lengths of
+    /// the subidentifiers that it belongs to; the octets before it are compared eight at once.
+    #[inline]
+    pub fn compare(&self, other: &EncodedName<'_>) -> Ordering
+        ensures { result ≡ slice_cmp nat_cmp self.now other.now }
+    {
+        compare_contents(self.content, other.content)
+    }
+
+    /// Whether the name begins with `root` and is longer.
+    #[inline]
+    pub fn is_below(&self, root: &EncodedName<'_>) -> bool
+        ensures { IsTrue result ↔ IsBelow self.now root.now }
+    {
+        is_content_below(self.content, root.content)
+    }
+}
+
+/// How the names of two contents compare.
+fn compare_contents(content: &[u8], other: &[u8]) -> Ordering
+    requires this { IsOk (reading.identifier_of content.now) }
+    requires other { IsOk (reading.identifier_of other.now) }
+    ensures { (o p : List ℕ) → reading.identifier_of content.now ≡ Ok o
+        → reading.identifier_of other.now ≡ Ok p → result ≡ slice_cmp nat_cmp o p }
+{
+    order();
+    let at = alike(content, other);
+    if at == content.len() || at == other.len() {
+        return content.len().cmp(&other.len());
+    }
+    let octet = content[at];
+    let beside = other[at];
+    if octet >= 0x80 && beside >= 0x80 {
+        // Both subidentifiers go on: the longer is the greater.
+        let end = last_octet(content, at);
+        let other_end = last_octet(other, at);
+        if end != other_end {
+            return end.cmp(&other_end);
+        }
+    }
+    octet.cmp(&beside)
+}
+
+/// Whether the name of a content is below that of another.
+fn is_content_below(content: &[u8], root: &[u8]) -> bool
+    requires this { IsOk (reading.identifier_of content.now) }
+    requires root { IsOk (reading.identifier_of root.now) }
+    ensures { (o p : List ℕ) → reading.identifier_of content.now ≡ Ok o
+        → reading.identifier_of root.now ≡ Ok p → IsTrue result ↔ IsBelow o p }
+{
+    content.len() > root.len() && alike(content, root) == root.len()
+}
+
+/// The place of the last octet of the subidentifier that the octet at `at` belongs to.
+fn last_octet(content: &[u8], at: usize) -> usize
+    requires identifier { IsOk (reading.identifier_of content.now) }
+    requires within { at < length content.now }
+    ensures { EndsAt content.now at result }
+{
+    let mut end = at;
+    'octets: while content[end] >= 0x80 {
+        end += 1;
+    }
+    end
+}
+
+/// How many octets at the front are the same.
+#[inline]
+fn alike(octets: &[u8], others: &[u8]) -> usize
+    ensures same { IsAlike octets.now others.now result }
+    ensures first { result < length octets.now → result < length others.now
+        → get_or octets.now result 0 ≡ get_or others.now result 0 → ⊥ }
+{
+    let both = octets.len().min(others.len());
+    let mut count = eights_alike(octets, others);
+    'octets: while count < both && octets[count] == others[count] {
+        count += 1;
+    }
+    count
+}
+
+/// How many octets at the front are the same, of those that make up whole words of eight.
+// Hot: each comparison of names.
+#[inline(always)]
+fn eights_alike(octets: &[u8], others: &[u8]) -> usize
+    ensures { IsAlike octets.now others.now result }
+{
+    let both = octets.len().min(others.len());
+    let mut count = 0;
+    'eights: while both - count >= 8 && word_at(octets, count) == word_at(others, count) {
+        count += 8;
+    }
+    count
+}
+
+/// The eight octets from a place on, as one word.
+// Hot: one load for eight octets of a name.
+#[inline(always)]
+fn word_at(octets: &[u8], at: usize) -> u64
+    requires { at + 8 ≤ length octets.now }
+    ensures { result ≡ from_le_bytes w64 (eight_from octets.now at) }
+{
+    u64::from_le_bytes([
+        octets[at],
+        octets[at + 1],
+        octets[at + 2],
+        octets[at + 3],
+        octets[at + 4],
+        octets[at + 5],
+        octets[at + 6],
+        octets[at + 7],
+    ])
+}
+
+/// Contents stand for identifiers: each identifier that has one has just one, a name below a root
+/// begins with its content and is longer, and the order of names is that of their subidentifiers'
+/// lengths and octets.
+///
+/// A law: the call does nothing, and its caller knows what it states.
+#[inline]
+pub fn encoded_names()
+    ensures { EncodedNames }
+{
+    order();
+}
