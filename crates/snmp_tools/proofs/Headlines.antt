@@ -7,60 +7,62 @@ use Rattle.snmp_agent.specs.declared.table.error.TableError.{TableError}
 use Rattle.snmp_agent.specs.declared.table.error.TableError.TheVariants as table_error
 use Rattle.snmp_agent.specs.table.Format.{Names}
 use Rattle.snmp_agent.specs.table.Stated.{IsTableOf, IsFirstFault}
-use Rattle.snmp_walk.specs.Walker.{Walker}
 use Rattle.snmp_walk.specs.declared.end.SinkFault.TheVariants as sink
 use Rattle.snmp_walk.specs.declared.end.WalkEnd.{WalkEnd}
 use Rattle.snmp_walk.specs.declared.end.WalkEnd.TheVariants as ending
+use Rattle.snmp_walk.specs.declared.link.Link.{Ghosts as LinkFacts}
 use Rattle.snmp_io.specs.Count.{HasRisen}
-use Rattle.snmp_io.specs.Output.{IsWritten, Stream, extended}
-use Rattle.snmp_net.specs.Address.{table, udp}
-use Rattle.snmp_tools.specs.agent.TableFile.{names_in}
-use Rattle.snmp_tools.specs.agent.Outcome.{Faults}
-use Rattle.snmp_words.specs.Words.{WalkWords}
-use Rattle.snmp_tools.specs.Headline.{EndsAtStatus0, IsFeasible, IsMishap, IsWalk, IsWholeText, WritesAllAtStatus0, WritesFront}
-use Rattle.smi_value.specs.declared.letters.letters.Letters.{Letters}
-use Rattle.snmp_tools.specs.Lines.{IsPrintedUpTo}
-use Rattle.snmp_tools.specs.loading.Warned.{warning_lines}
-use Rattle.smi_names.specs.declared.nodes.warning.Warning.{Warning}
 use Rattle.snmp_io.specs.Files.{Holdings, MayHold}
-use Rattle.snmp_tools.specs.Mib.{AreLoaded, Mib}
-use Rattle.snmp_tools.specs.Message.{Fault, bad_table, ended, fault_message, out_of_memory, status_of}
-use Rattle.snmp_tools.specs.Outcome.{AreRowsOf, IsFinished, IsNetWalk, IsWalkOutcome, IsWalkOutcomeBy, IsOwnEnd, IsReported, IsWalkRun, IsWalkOver}
-use Rattle.snmp_tools.specs.Outcome.{loaded, not_linked, not_loaded, refused, walked, walked_over}
-use Rattle.snmp_tools.specs.Plan.{AskFor, Plan}
-use Rattle.snmp_tools.proofs.Outcomes.{IsFrontOf, finished_all, finished_front, no_fault_at_0}
-use Rattle.snmp_tools.proofs.Plans.{IsWant, OneList, OneTree, held_is, one_load, one_path, one_plan, plain_want, table_want, wants_early, wants_late}
+use Rattle.snmp_io.specs.Output.{IsWritten, Stream, extended}
 use Rattle.snmp_io.specs.Streams.{nothing_taken}
+use Rattle.snmp_net.specs.Address.{table, udp}
+use Rattle.snmp_net.specs.declared.links.Links.{Ghosts as Network}
+use Rattle.smi_names.specs.declared.nodes.warning.Warning.{Warning}
+use Rattle.smi_value.specs.declared.letters.letters.Letters.{Letters}
+use Rattle.snmp_tools.specs.agent.TableFile.{HasTable, names_in}
+use Rattle.snmp_tools.specs.loading.Warned.{warning_lines}
+use Rattle.snmp_tools.specs.Answer.{AreRowsOf, IsFeasible, IsOwnEnd}
+use Rattle.snmp_tools.specs.Headline.{EndsAtStatus0, IsAsk, IsMishap, IsWholeText, WritesAllAtStatus0, WritesFront}
+use Rattle.snmp_tools.specs.Lines.{IsPrintedUpTo}
+use Rattle.snmp_tools.specs.Message.{Fault, bad_table, ended, fault_message, out_of_memory, status_of}
+use Rattle.snmp_tools.specs.Mib.{AreLoaded, Mib}
+use Rattle.snmp_tools.specs.Outcome.{IsFinished, IsOutcome, IsOutcomeBy, IsReported, IsRun}
+use Rattle.snmp_tools.specs.Outcome.{asked, asked_over, loaded, not_begun, not_linked, not_loaded, refused}
+use Rattle.snmp_tools.specs.Question.{AskFor, AskWords, IsPlanFor, Plan, counts_in}
+use Rattle.snmp_tools.specs.Seen.{Seen}
+use Rattle.snmp_tools.proofs.Asked.{counted}
+use Rattle.snmp_tools.proofs.Outcomes.{IsFrontOf, finished_all, finished_front, no_fault_at_0}
+use Rattle.snmp_tools.proofs.Plans.{IsWant, OneList, OneTree, held_is, one_load, one_path, one_plan, plain_want, table_want, wants_early, wants_last, wants_late}
 
 -- memory ran out before anything was written
-pub refused_front : (bulk : Bool) (words : WalkWords) (files : Holdings) (before : Stream) → WritesFront bulk words files before before
-refused_front bulk words files before rows walk = ([], rows, [], refl, inl refl, nothing_taken before before [] refl)
+pub refused_front : (words : AskWords) (files : Holdings) (before : Stream) → WritesFront words files before before
+refused_front words files before rows ask = ([], rows, [], refl, inl refl, nothing_taken before before [] refl)
 
-pub refused_all : (bulk : Bool) (words : WalkWords) (files : Holdings) (before after : Stream) → WritesAllAtStatus0 bulk words files before after 1
-refused_all bulk words files before after rows walk e = let no : ⊥ = cc in absurd no
+pub refused_all : (words : AskWords) (files : Holdings) (before after : Stream) → WritesAllAtStatus0 words files before after 1
+refused_all words files before after rows ask e = let no : ⊥ = cc in absurd no
 
 -- the status is 1, and the output failed, or that memory ran out was reported after the warnings
-abbrev pub Stops : (before after warned err_after : Stream) → ℕ → Type 0
+abbrev Stops : (before after warned err_after : Stream) → ℕ → Type 0
 Stops before after warned err_after status = (status ≡ 1) × (HasRisen before.faults after.faults ⊎ IsWritten warned (codes "Out of memory.\n") err_after)
 
-pub mishap : (warnings : List Warning) (before after err_before warned err_after : Stream) (status : ℕ)
+mishap : (warnings : List Warning) (before after err_before warned err_after : Stream) (status : ℕ)
     → (warned ≡ err_before) ⊎ IsWritten err_before (warning_lines warnings) warned
     → (status ≡ 0) ⊎ Stops before after warned err_after status → (status ≡ 0) ⊎ IsMishap warnings before after err_before err_after status
 mishap warnings before after err_before warned err_after status lines (inl zero_status) = inl zero_status
 mishap warnings before after err_before warned err_after status lines (inr (one, inl risen)) = inr (one, inl risen)
 mishap warnings before after err_before warned err_after status lines (inr (one, inr told)) = inr (one, inr (warned, told, lines))
 
-pub refused_end : (bulk : Bool) (words : WalkWords) (files : Holdings) (before after err_before err_after : Stream)
-    → IsWritten err_before (codes "Out of memory.\n") err_after → EndsAtStatus0 bulk words files before after err_before err_after 1
-refused_end bulk words files before after err_before err_after told rows walk can = inr (refl, inr (err_before, told, inl refl))
+pub refused_end : (words : AskWords) (files : Holdings) (before after err_before err_after : Stream)
+    → IsWritten err_before (codes "Out of memory.\n") err_after → EndsAtStatus0 words files before after err_before err_after 1
+refused_end words files before after err_before err_after told rows ask can = inr (refl, inr (err_before, told, inl refl))
 
-pub line_told : (why : Fault) (before after err_before err_after : Stream) (status : ℕ) → status_of why ≡ 1 → fault_message why ≡ codes "Out of memory."
+line_told : (why : Fault) (before after err_before err_after : Stream) (status : ℕ) → status_of why ≡ 1 → fault_message why ≡ codes "Out of memory."
     → IsReported (Some why) err_before err_after status → Stops before after err_before err_after status
 line_told why before after err_before err_after status one text (s, inl h) =
     (s ∙ one, inr (subst (λ (t : List ℕ). IsWritten err_before t err_after) (ap (λ (t : List ℕ). t ++ codes "\n") text) h))
 line_told why before after err_before err_after status one text (s, inr h) = (s ∙ one, inr h)
 
-pub want_told : (why : Fault) (before after err_before err_after : Stream) (status : ℕ) → IsWant why → IsReported (Some why) err_before err_after status
+want_told : (why : Fault) (before after err_before err_after : Stream) (status : ℕ) → IsWant why → IsReported (Some why) err_before err_after status
     → Stops before after err_before err_after status
 want_told why before after err_before err_after status (plain_want e) told =
     line_told out_of_memory before after err_before err_after status refl refl (subst (λ (w : Fault). IsReported (Some w) err_before err_after status) e told)
@@ -68,8 +70,8 @@ want_told why before after err_before err_after status (table_want path e) told 
     line_told (bad_table path table_error.Memory) before after err_before err_after status refl refl (subst (λ (w : Fault). IsReported
     (Some w) err_before err_after status) e told)
 
--- a walk that ended for no reason but its own, the output's or memory's
-pub own_told : (mib : Mib) (letters : Letters) (counts : Bool) (agent : List ℕ) (given turned : List VarBind) (end : WalkEnd) (before between after err_before
+-- a run that ended for no reason but its own, the output's or memory's
+own_told : (mib : Mib) (letters : Letters) (counts : Bool) (agent : List ℕ) (given turned : List VarBind) (end : WalkEnd) (before between after err_before
     err_after : Stream)
     (fault : Option Fault) (status : ℕ)
     → IsOwnEnd end → IsPrintedUpTo mib letters before given turned end between → IsFinished agent end counts between after fault
@@ -95,7 +97,7 @@ own_told mib letters counts agent given turned (ending.Sink sink.Output) before 
       inl (subst (λ (s : Stream). HasRisen before.faults s.faults) (sym finish.0) printed.4.counted),
     )
 own_told mib letters counts agent given turned (ending.Fault a b) before between after err_before err_after fault status own printed finish told = absurd own
-own_told mib letters counts agent given turned (ending.NoProgress asked) before between after err_before err_after fault status own printed finish told =
+own_told mib letters counts agent given turned (ending.NoProgress o) before between after err_before err_after fault status own printed finish told =
     absurd own
 own_told mib letters counts agent given turned ending.BadReply before between after err_before err_after fault status own printed finish told = absurd own
 own_told mib letters counts agent given turned (ending.NotIncreasing last got) before between after err_before err_after fault status own printed finish told
@@ -108,109 +110,117 @@ own_told mib letters counts agent given turned ending.Link before between after 
 
 module _ (one_table : (names : Names) (ls : List (List ℕ)) (v w : MibView) → IsTableOf names ls v → IsTableOf names ls w → v ≡ w)
     (no_fault : (names : Names) (ls : List (List ℕ)) (view : MibView) (fault : TableError) → IsTableOf names ls view → IsFirstFault names ls fault → fault ≡ table_error.Memory)
-    (one_list : OneList) (one_tree : OneTree) (Facts : List ℕ → ℕ → ℕ → ℕ → Walker → List VarBind → List VarBind → WalkEnd → Type 0)
-    (faults : Faults) (bulk : Bool) (words : WalkWords) (files : Holdings) (before after err_before err_after : Stream) (status : ℕ)
-    (run : IsWalkRun Facts faults bulk words files before after err_before err_after status) where
-  module _ (rows : List VarBind) (walk : IsWalk bulk words files rows) where
-    module _ (mib : Mib) (warnings : List Warning) (loading : AreLoaded (MayHold files) words.asking.mibs mib warnings) where
-      both_are : (walk.mib ≡ mib) × (walk.warnings ≡ warnings)
-      both_are = one_load one_list one_tree files words.asking.mibs walk.mib mib walk.warnings warnings walk.known loading
+    (one_list : OneList) (one_tree : OneTree) {N V D : Type 0} (net : Network N V D) (wire : LinkFacts V)
+    (words : AskWords) (before after : Seen N) (status : ℕ) (run : IsRun net wire words before after status) where
+  module _ (rows : List VarBind) (ask : IsAsk words before.files rows) where
+    module _ (mib : Mib) (warnings : List Warning) (loading : AreLoaded (MayHold before.files) words.asking.mibs mib warnings) where
+      both_are : (ask.mib ≡ mib) × (ask.warnings ≡ warnings)
+      both_are = one_load one_list one_tree before.files words.asking.mibs ask.mib mib ask.warnings warnings ask.known loading
 
-      mib_is : walk.mib ≡ mib
+      mib_is : ask.mib ≡ mib
       mib_is = both_are.0
 
-      module _ (plan : Plan) (view : MibView) (over : IsWalkOver bulk words files mib plan view) where
-        plan_is : walk.plan ≡ plan
-        plan_is = one_plan bulk words mib walk.plan plan (subst (λ (m : Mib). AskFor bulk words m walk.plan) mib_is walk.asked) over.asked over.only
+      module _ (plan : Plan) (for : IsPlanFor words before.files mib plan) where
+        plan_is : ask.plan ≡ plan
+        plan_is = one_plan words mib ask.plan plan (subst (λ (m : Mib). AskFor words m ask.plan) mib_is ask.asked) for.asked for.only
 
-        path_is : walk.path ≡ over.path
-        path_is = one_path walk.path over.path (sym walk.over ∙ ap (λ (p : Plan). p.agent) plan_is ∙ over.over)
+        over_same : (P : Mib → Plan → Type 0) → P mib plan → P ask.mib ask.plan
+        over_same P p = subst (λ (m : Mib). P m ask.plan) (sym mib_is) (subst (P mib) (sym plan_is) p)
 
-        view_is : walk.view ≡ view
-        view_is =
-            let text : over.states.0 ≡ walk.text = held_is (files over.path) over.states.0 walk.text over.states.1 (ap files (sym path_is) ∙ walk.held) in
+        agent_is : plan.agent ≡ table ask.path
+        agent_is = sym (ap (λ (p : Plan). p.agent) plan_is) ∙ ask.over
+
+        view_is : (path : List ℕ) (view : MibView) → plan.agent ≡ table path → HasTable before.files (names_in mib.naming) path view → ask.view ≡ view
+        view_is path view over states =
+            let same : ask.path ≡ path = one_path ask.path path (sym agent_is ∙ over) in
+            let text : states.0 ≡ ask.text = held_is (before.files path) states.0 ask.text states.1 (ap before.files (sym same) ∙ ask.held) in
             let P : Mib → List ℕ → Type 0 = λ m t. IsTableOf (names_in m.naming) (lines t) view in
-            one_table (names_in walk.mib.naming) (lines walk.text) walk.view view walk.table
-            (subst (λ (m : Mib). P m walk.text) (sym mib_is) (subst (P mib) text over.states.2))
+            one_table (names_in ask.mib.naming) (lines ask.text) ask.view view ask.table
+            (subst (λ (m : Mib). P m ask.text) (sym mib_is) (subst (P mib) text states.2))
 
-        rows_over : AreRowsOf plan view rows
-        rows_over =
-            subst (λ (v : MibView). AreRowsOf plan v rows) view_is (subst (λ (p : Plan). AreRowsOf p walk.view rows)
-            plan_is walk.are_rows)
+        -- what is true of the plan and of the table
+        over_table : (P : Plan → MibView → Type 0) (path : List ℕ) (view : MibView) → plan.agent ≡ table path
+            → HasTable before.files (names_in mib.naming) path view → P ask.plan ask.view → P plan view
+        over_table P path view over states p = subst (P plan) (view_is path view over states) (subst (λ (q : Plan). P q ask.view) plan_is p)
 
-      -- the walk isn't one over the network
-      no_net : (plan : Plan) → IsNetWalk bulk words files mib plan → ⊥
-      no_net plan net =
-          let same = one_plan bulk words mib walk.plan plan (subst (λ (m : Mib). AskFor bulk words m walk.plan) mib_is walk.asked) net.asked net.only in
-          let agents : table walk.path ≡ udp net.host net.port = sym walk.over ∙ ap (λ (p : Plan). p.agent) same ∙ net.over in
-          cc
+        -- what is asked isn't asked over the network
+        no_net : (host : List ℕ) (port : ℕ) → plan.agent ≡ udp host port → ⊥
+        no_net host port over = let agents : table ask.path ≡ udp host port = sym agent_is ∙ over in cc
 
-      front : (fault : Option Fault) → IsWalkOutcomeBy Facts faults bulk words files mib before after fault
-          → IsFrontOf walk.mib walk.plan.letters walk.plan.counts rows before after
-      front fault (refused why refusal same is) = ([], rows, [], refl, inl refl, nothing_taken before after [] same)
-      front fault (walked plan view over printed) =
-          let is_rows : AreRowsOf plan view rows = rows_over plan view over in
-          subst (λ (m : Mib). IsFrontOf m walk.plan.letters walk.plan.counts rows before after) (sym mib_is)
-          (subst (λ (p : Plan). IsFrontOf mib p.letters p.counts rows before after) (sym (plan_is plan view over))
-          (finished_front mib plan.letters words.asking.agent before rows plan.counts printed.given printed.refused printed.end printed.between after fault
-          printed.lines printed.finish (λ _. printed.facts.counted) (printed.facts.whole rows is_rows) (printed.facts.front rows is_rows)))
-      front fault (not_linked plan net risen same is) = absurd (no_net plan net)
-      front fault (walked_over plan net printed) = absurd (no_net plan net)
+      module _ (warned : Stream) (end : Seen N) where
+        front_by : (fault : Option Fault) → IsOutcomeBy net wire words mib (record before { err = warned }) end fault
+            → IsFrontOf ask.mib ask.plan.letters (counts_in ask.plan.question) rows before.out end.out
+        front_by fault (refused why refusal same is) = ([], rows, [], refl, inl refl, nothing_taken before.out end.out [] (ap (λ (s : Seen N). s.out) same))
+        front_by fault (asked plan path view for over states printed same) =
+            let are = over_table plan for (λ p v. AreRowsOf p.question v rows) path view over states ask.are_rows in
+            over_same plan for (λ m p. IsFrontOf m p.letters (counts_in p.question) rows before.out end.out)
+            (finished_front mib plan.letters words.asking.agent before.out rows (counts_in plan.question) printed.given printed.refused printed.end
+            printed.between end.out fault printed.lines printed.finish (counted plan.question plan view printed.given printed.end printed.facts.reason)
+            (printed.facts.whole rows are) (printed.facts.front rows are))
+        front_by fault (not_begun why last plan for (inl (path, over, same)) is) =
+            ([], rows, [], refl, inl refl, nothing_taken before.out end.out [] (ap (λ (s : Seen N). s.out) same))
+        front_by fault (not_begun why last plan for (inr (host, port, over, opened)) is) = absurd (no_net plan for host port over)
+        front_by fault (not_linked plan host port for over risen same is) = absurd (no_net plan for host port over)
+        front_by fault (asked_over plan host port for over printed same) = absurd (no_net plan for host port over)
 
-      all : (fault : Option Fault) → fault ≡ None → IsWalkOutcomeBy Facts faults bulk words files mib before after fault
-          → (text : List ℕ) × IsWholeText walk.mib walk.plan rows text × (after ≡ extended before text)
-      all fault none (refused why refusal same is) = let no : ⊥ = cc in absurd no
-      all fault none (walked plan view over printed) =
-          let P : Mib → Plan → Type 0 = λ m p. (text : List ℕ) × IsWholeText m p rows text × (after ≡ extended before text) in
-          subst (λ (m : Mib). P m walk.plan) (sym mib_is) (subst (P mib) (sym (plan_is plan view over))
-          (finished_all mib plan.letters words.asking.agent before rows plan.counts printed.given printed.refused printed.end printed.between after fault none
-          printed.lines printed.finish (λ _. printed.facts.counted) (printed.facts.whole rows (rows_over plan view over))))
-      all fault none (not_linked plan net risen same is) = absurd (no_net plan net)
-      all fault none (walked_over plan net printed) = absurd (no_net plan net)
+        all_by : (fault : Option Fault) → fault ≡ None → IsOutcomeBy net wire words mib (record before { err = warned }) end fault
+            → (text : List ℕ) × IsWholeText ask.mib ask.plan rows text × (end.out ≡ extended before.out text)
+        all_by fault none (refused why refusal same is) = let no : ⊥ = cc in absurd no
+        all_by fault none (asked plan path view for over states printed same) =
+            let are = over_table plan for (λ p v. AreRowsOf p.question v rows) path view over states ask.are_rows in
+            over_same plan for (λ m p. (text : List ℕ) × IsWholeText m p rows text × (end.out ≡ extended before.out text))
+            (finished_all mib plan.letters words.asking.agent before.out rows (counts_in plan.question) printed.given printed.refused printed.end
+            printed.between end.out fault none printed.lines printed.finish
+            (counted plan.question plan view printed.given printed.end printed.facts.reason) (printed.facts.whole rows are))
+        all_by fault none (not_begun why last plan for where_begun is) = let no : ⊥ = cc in absurd no
+        all_by fault none (not_linked plan host port for over risen same is) = absurd (no_net plan for host port over)
+        all_by fault none (asked_over plan host port for over printed same) = absurd (no_net plan for host port over)
 
-      ends : IsFeasible walk.plan walk.view → (warned : Stream) (fault : Option Fault) → IsWalkOutcomeBy Facts faults bulk words files mib before after fault
-          → IsReported fault warned err_after status → (status ≡ 0) ⊎ Stops before after warned err_after status
-      ends can warned fault (refused why refusal same is) told =
-          inr (want_told why before after warned err_after status (wants_late one_list one_tree no_fault bulk words files rows walk can why refusal)
-          (subst (λ (f : Option Fault). IsReported f warned err_after status) is told))
-      ends can warned fault (walked plan view over printed) told =
-          let feasible : IsFeasible plan view =
-          subst (λ (v : MibView). IsFeasible plan v) (view_is plan view over) (subst (λ (p : Plan). IsFeasible p walk.view)
-          (plan_is plan view over) can) in
-          own_told mib plan.letters plan.counts words.asking.agent printed.given printed.refused printed.end before printed.between after warned err_after
-          fault status (printed.facts.complete feasible.room feasible.ids) printed.lines printed.finish told
-      ends can warned fault (not_linked plan net risen same is) told = absurd (no_net plan net)
-      ends can warned fault (walked_over plan net printed) told = absurd (no_net plan net)
+        ends_by : IsFeasible ask.plan ask.view → (fault : Option Fault) → IsOutcomeBy net wire words mib (record before { err = warned }) end fault
+            → (err : Stream) → IsReported fault warned err status → (status ≡ 0) ⊎ Stops before.out end.out warned err status
+        ends_by can fault (refused why refusal same is) err told =
+            inr (want_told why before.out end.out warned err status (wants_late one_list one_tree no_fault words before.files rows ask why refusal)
+            (subst (λ (f : Option Fault). IsReported f warned err status) is told))
+        ends_by can fault (asked plan path view for over states printed same) err told =
+            let feasible = over_table plan for (λ p v. IsFeasible p v) path view over states can in
+            own_told mib plan.letters (counts_in plan.question) words.asking.agent printed.given printed.refused printed.end before.out printed.between end.out
+            warned err fault status (printed.facts.complete feasible.room) printed.lines printed.finish told
+        ends_by can fault (not_begun why last plan for where_begun is) err told =
+            inr (want_told why before.out end.out warned err status (wants_last one_list one_tree no_fault words before.files rows ask why can.sendable last)
+            (subst (λ (f : Option Fault). IsReported f warned err status) is told))
+        ends_by can fault (not_linked plan host port for over risen same is) err told = absurd (no_net plan for host port over)
+        ends_by can fault (asked_over plan host port for over printed same) err told = absurd (no_net plan for host port over)
 
-    outcome_front : (warned : Stream) (fault : Option Fault) → IsWalkOutcome Facts faults bulk words files before after err_before warned fault
-        → IsFrontOf walk.mib walk.plan.letters walk.plan.counts rows before after
-    outcome_front warned fault (not_loaded why early same untold is) = ([], rows, [], refl, inl refl, nothing_taken before after [] same)
-    outcome_front warned fault (loaded mib warnings loading lines by) = front mib warnings loading fault by
+    module _ (warned : Stream) (fault : Option Fault) where
+      abbrev End : Seen N
+      End = record after { err = warned }
 
-    outcome_all : (warned : Stream) (fault : Option Fault) → fault ≡ None → IsWalkOutcome Facts faults bulk words files before after err_before warned fault
-        → (text : List ℕ) × IsWholeText walk.mib walk.plan rows text × (after ≡ extended before text)
-    outcome_all warned fault none (not_loaded why early same untold is) = let no : ⊥ = cc in absurd no
-    outcome_all warned fault none (loaded mib warnings loading lines by) = all mib warnings loading fault none by
+      front : IsOutcome net wire words before End fault → IsFrontOf ask.mib ask.plan.letters (counts_in ask.plan.question) rows before.out after.out
+      front (not_loaded why early same is) = ([], rows, [], refl, inl refl, nothing_taken before.out after.out [] (ap (λ (s : Seen N). s.out) same))
+      front (loaded mib warnings loading lines by) = front_by mib warnings loading warned End fault by
 
-    outcome_ends : IsFeasible walk.plan walk.view → (warned : Stream) (fault : Option Fault)
-        → IsWalkOutcome Facts faults bulk words files before after err_before warned fault → IsReported fault warned err_after status
-        → (status ≡ 0) ⊎ IsMishap walk.warnings before after err_before err_after status
-    outcome_ends can warned fault (not_loaded why early same untold is) told =
-        mishap walk.warnings before after err_before warned err_after status (inl untold)
-        (inr (want_told why before after warned err_after status
-        (wants_early one_list one_tree no_fault bulk words files rows walk can why early)
-        (subst (λ (f : Option Fault). IsReported f warned err_after status) is told)))
-    outcome_ends can warned fault (loaded mib warnings loading lines by) told =
-        mishap walk.warnings before after err_before warned err_after status
-        (inr (subst (λ (ws : List Warning). IsWritten err_before (warning_lines ws) warned) (sym (both_are mib warnings loading).1) lines))
-        (ends mib warnings loading can warned fault by told)
+      all : fault ≡ None → IsOutcome net wire words before End fault
+          → (text : List ℕ) × IsWholeText ask.mib ask.plan rows text × (after.out ≡ extended before.out text)
+      all none (not_loaded why early same is) = let no : ⊥ = cc in absurd no
+      all none (loaded mib warnings loading lines by) = all_by mib warnings loading warned End fault none by
 
-  pub writes_front : WritesFront bulk words files before after
-  writes_front rows walk = outcome_front rows walk run.warned run.fault run.outcome
+      ends : IsFeasible ask.plan ask.view → IsOutcome net wire words before End fault → IsReported fault warned after.err status
+          → (status ≡ 0) ⊎ IsMishap ask.warnings before.out after.out before.err after.err status
+      ends can (not_loaded why early same is) told =
+          mishap ask.warnings before.out after.out before.err warned after.err status (inl (ap (λ (s : Seen N). s.err) same))
+          (inr (want_told why before.out after.out warned after.err status (wants_early one_list one_tree no_fault words before.files rows ask why early)
+          (subst (λ (f : Option Fault). IsReported f warned after.err status) is told)))
+      ends can (loaded mib warnings loading lines by) told =
+          mishap ask.warnings before.out after.out before.err warned after.err status
+          (inr (subst (λ (ws : List Warning). IsWritten before.err (warning_lines ws) warned) (sym (both_are mib warnings loading).1) lines))
+          (ends_by mib warnings loading warned End can fault by after.err told)
 
-  pub writes_all : WritesAllAtStatus0 bulk words files before after status
-  writes_all rows walk zero_status =
-      outcome_all rows walk run.warned run.fault (no_fault_at_0 run.fault run.warned err_after status run.reported zero_status) run.outcome
+  pub writes_front : WritesFront words before.files before.out after.out
+  writes_front rows ask = front rows ask run.warned run.fault run.outcome
 
-  pub ends_at_0 : EndsAtStatus0 bulk words files before after err_before err_after status
-  ends_at_0 rows walk can = outcome_ends rows walk can run.warned run.fault run.outcome run.reported
+  pub writes_all : WritesAllAtStatus0 words before.files before.out after.out status
+  writes_all rows ask zero_status =
+      all rows ask run.warned run.fault (no_fault_at_0 run.fault run.warned after.err status run.reported zero_status) run.outcome
+
+  pub ends_at_0 : EndsAtStatus0 words before.files before.out after.out before.err after.err status
+  ends_at_0 rows ask can = ends rows ask run.warned run.fault can run.outcome run.reported

@@ -1,9 +1,4 @@
-pub mod GetFacts
-pub mod GetHeadlines
-pub mod GetNames
-pub mod GetSteps
-pub mod GetWants
-pub mod GetWholes
+pub mod Asked
 pub mod Headlines
 pub mod BareNames
 pub mod RowLines
@@ -13,10 +8,8 @@ pub mod LetterLemmas
 pub mod Outcomes
 pub mod Plans
 pub mod Printed
-pub mod Starts
 pub mod Steps
 pub mod Texts
-pub mod Walked
 pub mod Wholes
 pub mod TranslationHeadlines
 pub mod Printing

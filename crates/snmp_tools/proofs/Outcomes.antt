@@ -1,4 +1,4 @@
--- What a job wrote of the walk that its words ask for.
+-- What a job wrote of what its words ask for.
 use Rattle.std.proofs.Common.{◌≡◌, ◌⊎◌, inl, inr, ◌++◌, ℕ, Bool, true, false, length, List, [], ◌∷◌, Option, Some, None}
 use Rattle.std.proofs.Common.{refl, sym, ◌∙◌, ap, subst, append_assoc, append-nil}
 use Rattle.smi_value.specs.declared.letters.letters.Letters.{Letters}
@@ -11,7 +11,8 @@ use Rattle.snmp_io.specs.Output.{Stream, TakesFront, extended}
 use Rattle.snmp_tools.specs.Lines.{AreLines, IsPrintedUpTo, count_line, count_text}
 use Rattle.snmp_tools.specs.Message.{Fault, ended, status_of}
 use Rattle.snmp_tools.specs.Mib.{Mib}
-use Rattle.snmp_tools.specs.Outcome.{Counts, IsFinished, IsReported}
+use Rattle.snmp_tools.specs.Answer.{Counts}
+use Rattle.snmp_tools.specs.Outcome.{IsFinished, IsReported}
 use Rattle.snmp_io.specs.Streams.{extended-twice, front_after, whole_taken}
 
 lines_of_both : (mib : Mib) (letters : Letters) (rows more : List VarBind) (a b : List ℕ) → AreLines mib letters rows a → AreLines mib letters more b
@@ -65,14 +66,6 @@ IsFrontOf mib letters counts rows before after =
 module _ (mib : Mib) (letters : Letters) (agent : List ℕ) (before : Stream) (rows : List VarBind) where
   abbrev Lines : List VarBind → Stream → Type 0
   Lines given between = (text : List ℕ) × AreLines mib letters given text × (between ≡ extended before text)
-
-  -- where the number isn't asked for
-  pub plain_whole : (text : List ℕ) → IsWhole mib letters false rows text → AreLines mib letters rows text
-  plain_whole text (shown, lines, e) = subst (AreLines mib letters rows) (sym (e ∙ append-nil shown)) lines
-
-  pub plain_front : (after : Stream) → IsFrontOf mib letters false rows before after → IsFront mib letters rows before after
-  plain_front after (first, rest, text, parts, inl lines, front) = (first, rest, text, parts, lines, front)
-  plain_front after (first, rest, text, parts, inr whole, front) = (rows, [], text, sym (append-nil rows), plain_whole text whole, front)
 
   whole_of : (given : List VarBind) (count : ℕ) (text : List ℕ) → given ≡ rows → count ≡ length given → AreLines mib letters given text
       → IsWhole mib letters true rows (text ++ count_line count)

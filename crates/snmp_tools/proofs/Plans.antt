@@ -1,6 +1,7 @@
--- The words of a walk ask for one plan, and the steps before it fail for want of memory alone.
-use Rattle.std.proofs.Common.{◌≡◌, ◌⊎◌, inl, inr, ℕ, Bool, ◌<◌, ◌≤◌, length, arith, List, Option, Some, None, Result, Ok, Err}
-use Rattle.std.proofs.Common.{sym, ◌∙◌, ap, subst}
+-- The words ask for one plan, and the steps before its question fail for want of memory alone.
+use Rattle.std.proofs.Common.{◌≡◌, inl, inr, ℕ, Bool, ◌<◌, ◌≤◌, length, arith, List, [], ◌∷◌, ◌++◌, All, map, Option, Some, None, Result, Ok, Err}
+use Rattle.std.proofs.Common.{refl, sym, ◌∙◌, ap, subst}
+use Rattle.std.proofs.lemmas.List.Elements.{All-head, All-tail}
 use Rattle.std.specs.Str.Lines.{lines}
 use Rattle.smi_value.specs.declared.letters.letters.Letters.{Letters}
 use Rattle.smi_value.specs.declared.letters.letters.NameForm.{NameForm}
@@ -8,7 +9,7 @@ use Rattle.smi_value.specs.declared.letters.letters.StringForm.{StringForm}
 use Rattle.smi_value.specs.declared.letters.letters.TypeForm.{TypeForm}
 use Rattle.smi_show.specs.name.Meaning.{meaning}
 use Rattle.smi_show.specs.declared.name.error.NameError.{NameError}
-use Rattle.snmp_oid.specs.Identifier.{IsBelow, IsWire, wire}
+use Rattle.snmp_oid.specs.Identifier.{IsWire, wire}
 use Rattle.snmp_wire.specs.Message.{VarBind}
 use Rattle.snmp_agent.specs.table.Table.{MibView}
 use Rattle.snmp_agent.specs.declared.table.error.TableError.{TableError}
@@ -18,23 +19,24 @@ use Rattle.snmp_agent.specs.table.Stated.{IsTableOf, IsFirstFault}
 use Rattle.snmp_walk.specs.declared.mode.Method.{Method}
 use Rattle.snmp_walk.specs.declared.mode.Mode.{Mode}
 use Rattle.snmp_io.specs.Files.{Holdings, Holds, HoldsIfKnown, MayHold}
-use Rattle.snmp_words.specs.Words.{WalkWords}
+use Rattle.snmp_io.specs.Steps.{AreDone}
 use Rattle.snmp_net.specs.Address.{Address, table}
-use Rattle.snmp_tools.specs.agent.TableFile.{names_in}
-use Rattle.snmp_tools.specs.agent.TableFile.{TableFails}
+use Rattle.snmp_tools.specs.agent.TableFile.{TableFails, names_in}
+use Rattle.snmp_tools.specs.Answer.{CanBeSent, CanGoOn}
 use Rattle.snmp_tools.specs.Asking.{AreShown, AskingFails, AskingStep, HasAgent, IsNameIfGiven, NameFails, ReachFails}
 use Rattle.snmp_tools.specs.Asking.{agent_step, community_step, letters_step, version_step}
-use Rattle.snmp_tools.specs.Headline.{CanGoOn, IsFeasible, IsWalk}
-use Rattle.snmp_tools.specs.Letters.{Choices, choices_of, method_of, mode_of}
-use Rattle.snmp_tools.specs.Message.{Fault, bad_table, out_of_memory, unreadable}
+use Rattle.snmp_tools.specs.Headline.{IsAsk}
+use Rattle.snmp_tools.specs.Letters.{Choices}
+use Rattle.snmp_tools.specs.Message.{Fault, bad_table, out_of_memory, outside_root, unreadable}
 use Rattle.snmp_tools.specs.loading.Files.{AreModulesOf}
 use Rattle.smi_text.specs.declared.trees.tree.Module.{Module}
 use Rattle.smi_names.specs.declared.nodes.warning.Warning.{Warning}
 use Rattle.smi_tree.specs.Tree.{Contents, IsTree}
 use Rattle.snmp_tools.specs.Mib.{AreLoaded, IsMibOf, Mib, mib_of}
-use Rattle.snmp_tools.specs.Plan.{AskFor, FailsForWalk, IsAfterOf, IsEarlyRefusal, IsLateRefusal, IsRootOf, Plan, WalkStep, root_text}
-use Rattle.snmp_tools.specs.Plan.{asking, choices_step, mibs_step, root_step, after_step, reach_step, root_sent_step}
-use Rattle.snmp_tools.specs.Plan.{after_below_step, after_sent_step}
+use Rattle.snmp_tools.specs.Question.{AreNames, AskFor, AskWords, FailsFor, HasUnsendable, HaveNames, IsAtOrBelow, IsEarlyRefusal, IsLastRefusal, IsLateRefusal, IsQuestionOf}
+use Rattle.snmp_tools.specs.Question.{Plan, Question, Request, Step, Walk, choices_in, goes_on_after, root_text}
+use Rattle.snmp_tools.specs.Question.{get, names, subtree, walk, loading_steps, name_steps, reach_step, reaching_steps, sent_steps}
+use Rattle.snmp_tools.specs.Question.{below_step, name_step, reach_step, sent_step}
 
 pub held_is : (held : Option (Option (List ℕ))) (text other : List ℕ) → HoldsIfKnown held (Some text) → held ≡ Some (Some other) → text ≡ other
 held_is None text other h e = let no : ⊥ = cc in absurd no
@@ -66,8 +68,8 @@ one_load one_list one_tree files paths a b v w e f =
 -- letters of the same forms are the same
 same_letters : (a b : Letters) → a.names ≡ b.names → a.types ≡ b.types → a.strings ≡ b.strings → a.value_alone ≡ b.value_alone
     → a.numeric_enumerations ≡ b.numeric_enumerations → a.raw_ticks ≡ b.raw_ticks → a.numeric_index ≡ b.numeric_index → a.no_units ≡ b.no_units → a ≡ b
-same_letters a b names types strings value_alone enumerations ticks index units =
-    ap (λ (x : NameForm). record a { names = x }) names
+same_letters a b forms types strings value_alone enumerations ticks index units =
+    ap (λ (x : NameForm). record a { names = x }) forms
     ∙ ap (λ (x : TypeForm). record a { names = b.names; types = x }) types
     ∙ ap (λ (x : StringForm). record a { names = b.names; types = b.types; strings = x }) strings
     ∙ ap (λ (x : Bool). record a { names = b.names; types = b.types; strings = b.strings; value_alone = x }) value_alone
@@ -82,20 +84,6 @@ one_reading text a b x y =
     let q = y.read in
     same_letters a b (p.n_f_s_S ∙ sym q.n_f_s_S) (p.q_Q ∙ sym q.q_Q) (p.x_a ∙ sym q.x_a) (p.v ∙ sym q.v) (p.e ∙ sym q.e) (p.t ∙ sym q.t) (p.b ∙ sym q.b)
     (p.U ∙ sym q.U)
-
--- plans of the same parts are the same
-same_plan : (p q : Plan) → p.agent ≡ q.agent → p.community ≡ q.community → p.max_size ≡ q.max_size → p.letters ≡ q.letters → p.root ≡ q.root
-    → p.after ≡ q.after → p.mode ≡ q.mode → p.method ≡ q.method → p.counts ≡ q.counts → p ≡ q
-same_plan p q agent community size letters root after mode method counts =
-    ap (λ (x : Address). record p { agent = x }) agent
-    ∙ ap (λ (x : List ℕ). record p { agent = q.agent; community = x }) community
-    ∙ ap (λ (x : ℕ). record p { agent = q.agent; community = q.community; max_size = x }) size
-    ∙ ap (λ (x : Letters). record p { agent = q.agent; community = q.community; max_size = q.max_size; letters = x }) letters
-    ∙ ap (λ (x : List ℕ). record q { root = x; after = p.after; mode = p.mode; method = p.method; counts = p.counts }) root
-    ∙ ap (λ (x : Option (List ℕ)). record q { after = x; mode = p.mode; method = p.method; counts = p.counts }) after
-    ∙ ap (λ (x : Mode). record q { mode = x; method = p.method; counts = p.counts }) mode
-    ∙ ap (λ (x : Method). record q { method = x; counts = p.counts }) method
-    ∙ ap (λ (x : Bool). record q { counts = x }) counts
 
 one_choice : (read : Result Choices ℕ) (a b : Choices) → read ≡ Ok a → read ≡ Ok b → a ≡ b
 one_choice read a b e f = cc
@@ -113,15 +101,56 @@ one_after : (mib : Mib) (text a b : Option (List ℕ)) → IsNameIfGiven mib tex
 one_after mib None a b e f = e ∙ sym f
 one_after mib (Some text) a b e f = e.2 ∙ ap Some (one_name (meaning mib.naming text) e.0 f.0 e.1 f.1) ∙ sym f.2
 
-pub one_plan : (bulk : Bool) (words : WalkWords) (mib : Mib) (p q : Plan) → AskFor bulk words mib p → AskFor bulk words mib q
-    → HasAgent words.asking.agent q.agent → p ≡ q
-one_plan bulk words mib p q a b only =
-    let choice : a.choices ≡ b.choices = one_choice (choices_of bulk words.letters) a.choices b.choices a.chosen b.chosen in
+-- texts state just one list of names
+pub one_names : (mib : Mib) (texts a b : List (List ℕ)) → AreNames mib texts a → AreNames mib texts b → a ≡ b
+one_names mib [] [] [] e f = refl
+one_names mib [] [] (y ∷ b) e f = let no : ⊥ = cc in absurd no
+one_names mib [] (x ∷ a) b e f = let no : ⊥ = cc in absurd no
+one_names mib (text ∷ texts) [] b e f = let no : ⊥ = cc in absurd no
+one_names mib (text ∷ texts) (x ∷ a) [] e f = let no : ⊥ = cc in absurd no
+one_names mib (text ∷ texts) (x ∷ a) (y ∷ b) e f =
+    let first : meaning mib.naming text ≡ Ok x = cc in
+    let other : meaning mib.naming text ≡ Ok y = cc in
+    let more : AreNames mib texts a = cc in
+    let others : AreNames mib texts b = cc in
+    ap (λ (n : List ℕ). n ∷ a) (one_name (meaning mib.naming text) x y first other) ∙ ap (λ (ns : List (List ℕ)). y ∷ ns) (one_names mib texts a b more others)
+
+-- walks of the same parts are the same, and plans
+same_walk : (v w : Walk) → v.root ≡ w.root → v.after ≡ w.after → v.mode ≡ w.mode → v.method ≡ w.method → v.counts ≡ w.counts → v ≡ w
+same_walk v w root after mode method counts =
+    ap (λ (x : List ℕ). record v { root = x }) root
+    ∙ ap (λ (x : Option (List ℕ)). record v { root = w.root; after = x }) after
+    ∙ ap (λ (x : Mode). record w { mode = x; method = v.method; counts = v.counts }) mode
+    ∙ ap (λ (x : Method). record w { method = x; counts = v.counts }) method
+    ∙ ap (λ (x : Bool). record w { counts = x }) counts
+
+same_plan : (p q : Plan) → p.agent ≡ q.agent → p.community ≡ q.community → p.max_size ≡ q.max_size → p.letters ≡ q.letters → p.question ≡ q.question → p ≡ q
+same_plan p q agent community size letters question =
+    ap (λ (x : Address). record p { agent = x }) agent
+    ∙ ap (λ (x : List ℕ). record p { agent = q.agent; community = x }) community
+    ∙ ap (λ (x : ℕ). record p { agent = q.agent; community = q.community; max_size = x }) size
+    ∙ ap (λ (x : Letters). record q { letters = x; question = p.question }) letters
+    ∙ ap (λ (x : Question). record q { question = x }) question
+
+-- a request asks for one question
+one_question : (request : Request) (choices : Choices) (mib : Mib) (a b : Question) → IsQuestionOf request choices mib a → IsQuestionOf request choices mib b
+    → a ≡ b
+one_question (get texts) choices mib (names a) (names b) p q = ap names (one_names mib texts a b p q)
+one_question (get texts) choices mib (names a) (subtree w) p q = absurd q
+one_question (get texts) choices mib (subtree v) b p q = absurd p
+one_question (walk bulk letters after name) choices mib (names a) b p q = absurd p
+one_question (walk bulk letters after name) choices mib (subtree v) (names b) p q = absurd q
+one_question (walk bulk letters after name) choices mib (subtree v) (subtree w) p q =
+    ap subtree (same_walk v w (one_name (meaning mib.naming (root_text name)) v.root w.root p.root q.root)
+    (one_after mib after v.after w.after p.goes_on q.goes_on) (p.mode ∙ sym q.mode) (p.method ∙ sym q.method) (p.counts ∙ sym q.counts))
+
+pub one_plan : (words : AskWords) (mib : Mib) (p q : Plan) → AskFor words mib p → AskFor words mib q → HasAgent words.asking.agent q.agent → p ≡ q
+one_plan words mib p q a b only =
+    let choice : a.choices ≡ b.choices = one_choice (choices_in words.request) a.choices b.choices a.chosen b.chosen in
     same_plan p q (only.1 p.agent a.agent) (a.community ∙ sym b.community) (a.max_size ∙ sym b.max_size)
     (one_reading words.asking.letters p.letters q.letters a.letters b.letters)
-    (one_name (meaning mib.naming (root_text words)) p.root q.root a.root b.root) (one_after mib words.after p.after q.after a.after b.after)
-    (a.mode ∙ ap mode_of choice ∙ sym b.mode) (a.method ∙ ap (method_of bulk) choice ∙ sym b.method)
-    (a.counts ∙ ap (λ (c : Choices). c.counts) choice ∙ sym b.counts)
+    (one_question words.request b.choices mib p.question q.question
+    (subst (λ (c : Choices). IsQuestionOf words.request c mib p.question) choice a.question) b.question)
 
 -- a fault whose message says that memory ran out
 pub data IsWant (why : Fault) : Type 0 where
@@ -131,91 +160,142 @@ pub data IsWant (why : Fault) : Type 0 where
 pub other_way : (n m : ℕ) → n < m → m ≤ n → ⊥
 other_way n m low high = omega (arith, low, high)
 
-name_stands : (mib : Mib) (text o : List ℕ) (why : Fault) → meaning mib.naming text ≡ Ok o → NameFails mib text why → ⊥
-name_stands mib text o why h f = no_name (meaning mib.naming text) o f.0 h f.1
+-- a step among others is as they are
+picked : {S : Type 0} (P : S → Type 0) (before : List S) (step : S) (after : List S) → AreDone P (before ++ step ∷ after) → P step
+picked P [] step after h = h.0
+picked P (s ∷ before) step after h = picked P before step after h.1
 
-after_stands : (mib : Mib) (given after : Option (List ℕ)) (text : List ℕ) (why : Fault) → IsNameIfGiven mib given after → given ≡ Some text
-    → NameFails mib text why → ⊥
-after_stands mib None after text why h e f = let no : ⊥ = cc in no
-after_stands mib (Some other) after text why h e f =
-    let same : other ≡ text = cc in
-    name_stands mib text h.0 why (subst (λ (t : List ℕ). meaning mib.naming t ≡ Ok h.0) same h.1) f
-
--- the name after which the walk goes on, where the words give one
-goes_after : (mib : Mib) (given after : Option (List ℕ)) (text root o : List ℕ) → IsNameIfGiven mib given after → given ≡ Some text
-    → meaning mib.naming text ≡ Ok o → CanGoOn root after → ((o ≡ root) ⊎ IsBelow o root) × IsWire (wire o)
-goes_after mib None after text root o h e means can = let no : ⊥ = cc in absurd no
-goes_after mib (Some other) after text root o h e means can =
-    let same : other ≡ text = cc in
-    let is : h.0 ≡ o = one_name (meaning mib.naming text) h.0 o (subst (λ (t : List ℕ). meaning mib.naming t ≡ Ok h.0) same h.1) means in
-    subst (CanGoOn root) (h.2 ∙ ap Some is) can
+both : {S : Type 0} (P : S → Type 0) (a b : List S) → AreDone P a → AreDone P b → AreDone P (a ++ b)
+both P [] b h k = k
+both P (s ∷ a) b h k = (h.0, both P a b h.1 k)
 
 module _ (one_list : OneList) (one_tree : OneTree)
     (no_fault : (names : Names) (ls : List (List ℕ)) (view : MibView) (fault : TableError) → IsTableOf names ls view → IsFirstFault names ls fault → fault ≡ table_error.Memory)
-    (bulk : Bool) (words : WalkWords) (files : Holdings) (rows : List VarBind) (walk : IsWalk bulk words files rows)
-    (can : IsFeasible walk.plan walk.view) where
-  agent_is : (agent : Address) → HasAgent words.asking.agent agent → agent ≡ table walk.path
-  agent_is agent has = sym (has.1 walk.plan.agent walk.asked.agent) ∙ walk.over
+    (words : AskWords) (files : Holdings) (rows : List VarBind) (ask : IsAsk words files rows) (why : Fault) where
+  agent_is : (agent : Address) → HasAgent words.asking.agent agent → agent ≡ table ask.path
+  agent_is agent has = sym (has.1 ask.plan.agent ask.asked.agent) ∙ ask.over
 
-  table_want_only : (why : Fault) → TableFails unreadable bad_table files (names_in walk.mib.naming) walk.path why → IsWant why
-  table_want_only why (inl f) = absurd (is_readable walk.text (files walk.path) walk.held f.0)
-  table_want_only why (inr f) =
-      let same : f.0 ≡ walk.text = held_is (files walk.path) f.0 walk.text f.2 walk.held in
+  table_want_only : TableFails unreadable bad_table files (names_in ask.mib.naming) ask.path why → IsWant why
+  table_want_only (inl f) = absurd (is_readable ask.text (files ask.path) ask.held f.0)
+  table_want_only (inr f) =
+      let same : f.0 ≡ ask.text = held_is (files ask.path) f.0 ask.text f.2 ask.held in
       let memory : f.1 ≡ table_error.Memory =
-      no_fault (names_in walk.mib.naming) (lines walk.text) walk.view f.1 walk.table (subst (λ (t : List ℕ). IsFirstFault (names_in walk.mib.naming) (lines t) f.1) same f.3) in
-      table_want walk.path (f.4 ∙ ap (bad_table walk.path) memory)
+      no_fault (names_in ask.mib.naming) (lines ask.text) ask.view f.1 ask.table
+      (subst (λ (t : List ℕ). IsFirstFault (names_in ask.mib.naming) (lines t) f.1) same f.3) in
+      table_want ask.path (f.4 ∙ ap (bad_table ask.path) memory)
 
-  known_as : (mib : Mib) → IsMibOf (MayHold files) words.asking mib → mib ≡ walk.mib
-  known_as mib is = sym (one_load one_list one_tree files words.asking.mibs walk.mib mib walk.warnings is.0 walk.known is.1).0
+  known_as : (mib : Mib) → IsMibOf (MayHold files) words.asking mib → mib ≡ ask.mib
+  known_as mib is = sym (one_load one_list one_tree files words.asking.mibs ask.mib mib ask.warnings is.0 ask.known is.1).0
 
-  -- names mean what they mean to the walk
-  root_is : (root : List ℕ) → IsRootOf words files root → root ≡ walk.plan.root
-  root_is root is =
-      one_name (meaning walk.mib.naming (root_text words)) root walk.plan.root
-      (subst (λ (m : Mib). meaning m.naming (root_text words) ≡ Ok root) (known_as is.mib is.known) is.means) walk.asked.root
+  -- why it wouldn't be asked is that memory ran out
+  abbrev Wants : Step → Type 0
+  Wants step = FailsFor words files step why → IsWant why
 
-  root_by : (mib : Mib) → IsMibOf (MayHold files) words.asking mib → IsRootOf words files walk.plan.root
-  root_by mib known = record {
-    mib = mib;
-    known = known;
-    means = subst (λ (m : Mib). meaning m.naming (root_text words) ≡ Ok walk.plan.root) (sym (known_as mib known)) walk.asked.root;
-  }
+  asking_want : (step : AskingStep) → AskingFails words.asking step why → ⊥
+  asking_want version_step f = f.0 ask.asked.version
+  asking_want letters_step f = let e = ask.asked.letters.known in let g = f.1 in cc
+  asking_want community_step f = other_way 255 (length words.asking.community) f.0 ask.asked.short_community
+  asking_want agent_step f = f.0 ask.plan.agent ask.asked.agent
 
-  after_goes : (root text after : List ℕ) → IsRootOf words files root → IsAfterOf words files text after
-      → ((after ≡ root) ⊎ IsBelow after root) × IsWire (wire after)
-  after_goes root text after is goes =
-      let means = subst (λ (m : Mib). meaning m.naming text ≡ Ok after) (known_as goes.mib goes.known) goes.means in
-      let go = goes_after walk.mib words.after walk.plan.after text walk.plan.root after walk.asked.after goes.given means can.after in
-      (subst (λ (r : List ℕ). (after ≡ r) ⊎ IsBelow after r) (sym (root_is root is)) go.0, go.1)
+  loading_want : AreDone Wants loading_steps
+  loading_want = (
+    (λ f. absurd (asking_want version_step f)),
+    (
+      (λ f. absurd (asking_want letters_step f)),
+      (
+        (λ f. absurd (no_choice (choices_in words.request) ask.asked.choices f.0 ask.asked.chosen f.1)),
+        (
+          (λ f. absurd (asking_want community_step f)),
+          ((λ f. absurd (asking_want agent_step f)), ((λ f. absurd (f.3 ask.known.modules ask.known.read)), tt)),
+        ),
+      ),
+    ),
+  )
 
-  asking_want : (step : AskingStep) (why : Fault) → AskingFails words.asking step why → ⊥
-  asking_want version_step why f = f.0 walk.asked.version
-  asking_want letters_step why f = let e = walk.asked.letters.known in let g = f.1 in cc
-  asking_want community_step why f = other_way 255 (length words.asking.community) f.0 walk.asked.short_community
-  asking_want agent_step why f = f.0 walk.plan.agent walk.asked.agent
+  -- names mean what they mean to the question
+  name_want : (text o : List ℕ) → meaning ask.mib.naming text ≡ Ok o → Wants (name_step text)
+  name_want text o means f =
+      let g = subst (λ (m : Mib). NameFails m text why) (known_as f.0 f.1) f.2 in
+      absurd (no_name (meaning ask.mib.naming text) o g.0 means g.1)
 
-  step_want : (step : WalkStep) (why : Fault) → FailsForWalk bulk words files step why → IsWant why
-  step_want (asking step) why f = absurd (asking_want step why f)
-  step_want choices_step why f = absurd (no_choice (choices_of bulk words.letters) walk.asked.choices f.0 walk.asked.chosen f.1)
-  step_want mibs_step why f = absurd (f.3 walk.known.modules walk.known.read)
-  step_want root_step why f =
-      absurd (name_stands walk.mib (root_text words) walk.plan.root why walk.asked.root
-      (subst (λ (m : Mib). NameFails m (root_text words) why) (known_as f.0 f.1) f.2))
-  step_want after_step why f =
-      absurd (after_stands walk.mib words.after walk.plan.after f.1 why walk.asked.after f.3
-      (subst (λ (m : Mib). NameFails m f.1 why) (known_as f.0 f.2) f.4))
-  step_want reach_step why f =
-      table_want_only why (subst (λ (m : Mib). ReachFails files m (table walk.path) why) (known_as f.0 f.2)
-      (subst (λ (a : Address). ReachFails files f.0 a why) (agent_is f.1 f.3) f.4))
-  step_want root_sent_step why f = absurd (f.2 (subst (λ (r : List ℕ). IsWire (wire r)) (sym (root_is f.0 f.1)) can.root))
-  step_want after_below_step why f = absurd (f.5 (after_goes f.0 f.1 f.2 f.3 f.4).0)
-  step_want after_sent_step why f =
-      absurd (f.3 (after_goes walk.plan.root f.0 f.1 (root_by f.2.mib f.2.known) f.2).1)
+  sent_want : (text o : List ℕ) → meaning ask.mib.naming text ≡ Ok o → IsWire (wire o) → Wants (sent_step text)
+  sent_want text o means sent f =
+      let g = subst (λ (m : Mib). HasUnsendable m text why) (known_as f.0 f.1) f.2 in
+      absurd (g.2 (subst (λ (n : List ℕ). IsWire (wire n)) (one_name (meaning ask.mib.naming text) o g.0 means g.1) sent))
 
-  pub wants_early : (why : Fault) → IsEarlyRefusal bulk words files why → IsWant why
-  wants_early why (inl e) = plain_want e
-  wants_early why (inr first) = step_want first.failed why first.fails
+  below_want : (root_text text root o : List ℕ) → meaning ask.mib.naming root_text ≡ Ok root → meaning ask.mib.naming text ≡ Ok o → IsAtOrBelow o root
+      → Wants (below_step root_text text)
+  below_want root_text text root o root_means means at f =
+      let P : Mib → Type 0 = λ m. HaveNames m root_text text (λ r a. (IsAtOrBelow a r → ⊥) × (why ≡ outside_root text)) in
+      let g = subst P (known_as f.0 f.1) f.2 in
+      absurd (g.4.0 (subst (λ (a : List ℕ). IsAtOrBelow a g.0) (one_name (meaning ask.mib.naming text) o g.1 means g.3)
+      (subst (IsAtOrBelow o) (one_name (meaning ask.mib.naming root_text) root g.0 root_means g.2) at)))
 
-  pub wants_late : (why : Fault) → IsLateRefusal bulk words files why → IsWant why
-  wants_late why (inl e) = plain_want e
-  wants_late why (inr both) = step_want both.1.failed why both.1.fails
+  all_named : (texts os : List (List ℕ)) → AreNames ask.mib texts os → AreDone Wants (map name_step texts)
+  all_named [] os e = tt
+  all_named (text ∷ texts) [] e = let no : ⊥ = cc in absurd no
+  all_named (text ∷ texts) (o ∷ os) e =
+      let here : meaning ask.mib.naming text ≡ Ok o = cc in
+      let more : AreNames ask.mib texts os = cc in
+      (name_want text o here, all_named texts os more)
+
+  all_sent : (texts os : List (List ℕ)) → AreNames ask.mib texts os → All (λ o. IsWire (wire o)) os → AreDone Wants (map sent_step texts)
+  all_sent [] os e sent = tt
+  all_sent (text ∷ texts) [] e sent = let no : ⊥ = cc in absurd no
+  all_sent (text ∷ texts) (o ∷ os) e sent =
+      let here : meaning ask.mib.naming text ≡ Ok o = cc in
+      let more : AreNames ask.mib texts os = cc in (
+        sent_want text o here (All-head (λ n. IsWire (wire n)) o os sent),
+        all_sent texts os more (All-tail (λ n. IsWire (wire n)) o os sent),
+      )
+
+  after_named : (given planned : Option (List ℕ)) → IsNameIfGiven ask.mib given planned → AreDone Wants (goes_on_after (λ text. name_step text ∷ []) given)
+  after_named None planned h = tt
+  after_named (Some text) planned h = (name_want text h.0 h.1, tt)
+
+  after_sent : (text root : List ℕ) (given planned : Option (List ℕ)) → meaning ask.mib.naming text ≡ Ok root → IsNameIfGiven ask.mib given planned
+      → CanGoOn root planned → AreDone Wants (goes_on_after (λ t. below_step text t ∷ sent_step t ∷ []) given)
+  after_sent text root None planned means h can = tt
+  after_sent text root (Some t) planned means h can =
+      let go = subst (CanGoOn root) h.2 can in
+      (below_want text t root h.0 means h.1 go.0, (sent_want t h.0 h.1 go.1, tt))
+
+  named_want : (request : Request) (choices : Choices) (question : Question) → IsQuestionOf request choices ask.mib question
+      → AreDone Wants (name_steps request)
+  named_want (get texts) choices (names os) q = all_named texts os q
+  named_want (get texts) choices (subtree w) q = absurd q
+  named_want (walk bulk letters after name) choices (names os) q = absurd q
+  named_want (walk bulk letters after name) choices (subtree w) q = (name_want (root_text name) w.root q.root, after_named after w.after q.goes_on)
+
+  sending_want : (request : Request) (choices : Choices) (question : Question) → IsQuestionOf request choices ask.mib question → CanBeSent question
+      → AreDone Wants (sent_steps request)
+  sending_want (get texts) choices (names os) q can = all_sent texts os q can
+  sending_want (get texts) choices (subtree w) q can = absurd q
+  sending_want (walk bulk letters after name) choices (names os) q can = absurd q
+  sending_want (walk bulk letters after name) choices (subtree w) q can =
+      (sent_want (root_text name) w.root q.root can.0, after_sent (root_text name) w.root after w.after q.root q.goes_on can.1)
+
+  reaching_want : AreDone Wants (reaching_steps words.request)
+  reaching_want =
+      both Wants (name_steps words.request) (reach_step ∷ [])
+      (named_want words.request ask.asked.choices ask.plan.question ask.asked.question) (
+        (λ f. table_want_only (subst (λ (m : Mib). ReachFails files m (table ask.path) why) (known_as f.0 f.1)
+            (subst (λ (a : Address). ReachFails files f.0 a why) (agent_is f.2.0 f.2.1) f.2.2))),
+        tt,
+      )
+
+  pub wants_early : IsEarlyRefusal words files why → IsWant why
+  wants_early (inl e) = plain_want e
+  wants_early (inr h) = picked Wants h.done h.failed h.left (subst (AreDone Wants) h.order loading_want) h.fails
+
+  pub wants_late : IsLateRefusal words files why → IsWant why
+  wants_late (inl e) = plain_want e
+  wants_late (inr late) =
+      let h = late.1 in
+      picked Wants h.done h.failed h.left (subst (AreDone Wants) h.order reaching_want) h.fails
+
+  pub wants_last : CanBeSent ask.plan.question → IsLastRefusal words files why → IsWant why
+  wants_last can last =
+      let h = last.fails in
+      picked Wants h.done h.failed h.left
+      (subst (AreDone Wants) h.order (sending_want words.request ask.asked.choices ask.plan.question ask.asked.question can)) h.fails

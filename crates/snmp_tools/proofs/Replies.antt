@@ -9,7 +9,7 @@ use Rattle.snmp_walk.specs.Sink.{Given}
 use Rattle.snmp_io.specs.Count.{HasRisen}
 use Rattle.snmp_io.specs.Output.{FailsWithin, Stream, appended, extended}
 use Rattle.snmp_io.specs.Streams.{appended-twice, extended-twice}
-use Rattle.snmp_tools.specs.Lines.{AreLines, IsLineOf, TakesLine}
+use Rattle.snmp_tools.specs.Lines.{AreLines, IsLineOf}
 use Rattle.snmp_tools.specs.Mib.{Mib}
 use Rattle.snmp_tools.proofs.Printed.{prints}
 

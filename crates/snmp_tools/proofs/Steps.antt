@@ -1,13 +1,26 @@
 -- The first step that fails, after those that are done.
-use Rattle.std.proofs.Common.{◌≡◌, inl, inr, ℕ, Bool, List, [], ◌∷◌, Bor, Option, Some, None, option_map, unwrap_or, refl, ap}
-use Rattle.snmp_words.specs.Words.{WalkWords}
-use Rattle.snmp_tools.specs.Asking.{agent_step, community_step, letters_step, version_step}
-use Rattle.snmp_tools.specs.Message.{Fault}
-use Rattle.snmp_io.specs.Files.{Holdings}
-use Rattle.snmp_tools.specs.Plan.{FailsForWalk, IsDoneForWalk, IsEarlyRefusal, IsLateRefusal, WalkStep, asking, choices_step, mibs_step}
-use Rattle.snmp_tools.specs.Plan.{root_step, after_step, reach_step, after_below_step, after_sent_step, root_sent_step}
-use Rattle.snmp_tools.specs.Planned.{AgentFails, ShowingFails}
-use Rattle.snmp_io.specs.Steps.{IsFirstToFail}
+use Rattle.std.proofs.Common.{◌≡◌, ◌⊎◌, inl, inr, ◌++◌, ◌<◌, ℕ, zero, suc, List, [], ◌∷◌, All, Bor, Option, Some, None, Ok, length, map, take, drop, get_or}
+use Rattle.std.proofs.Common.{option_map, unwrap_or, refl, sym, ◌∙◌, ap, subst, append_assoc, arith, drop-cons}
+use Rattle.std.proofs.lemmas.List.{map-append, take-append-drop}
+use Rattle.std.proofs.lemmas.List.Elements.{All-head, All-tail}
+use Rattle.smi_show.specs.name.Meaning.{meaning}
+use Rattle.snmp_oid.specs.Identifier.{IsWire, wire}
+use Rattle.snmp_io.specs.Files.{Holdings, MayHold}
+use Rattle.snmp_io.specs.Steps.{AreDone, IsFirstToFail}
+use Rattle.snmp_net.specs.Address.{Address, address_of}
+use Rattle.snmp_words.specs.Words.{texts_at}
+use Rattle.snmp_tools.specs.Asking.{HasAgent, IsNameIfGiven, IsReached, MibsFail, NameFails, ReachFails, agent_step, community_step, letters_step, version_step}
+use Rattle.snmp_tools.specs.Chosen.{chosen}
+use Rattle.snmp_tools.specs.Letters.{Choices}
+use Rattle.snmp_tools.specs.Message.{Fault, out_of_memory, unsendable}
+use Rattle.snmp_tools.specs.Mib.{IsMibOf, Mib}
+use Rattle.snmp_tools.specs.Planned.{AgentFails, AreOrdersOf, NamesFail, ShowingFails}
+use Rattle.snmp_tools.specs.Question.{AreNames, AskFor, AskWords, FailsFor, HasMeaning, HasSendable, HasUnsendable, IsDoneFor, IsEarlyRefusal, IsLastRefusal, IsLateRefusal}
+use Rattle.snmp_tools.specs.Question.{IsQuestionOf, Plan, Question, Request, Step, get, names, subtree, walk}
+use Rattle.snmp_tools.specs.Question.{asking, below_step, choices_step, goes_on_after, loading_steps, mibs_step, name_step, name_steps, reach_step, reaching_steps, root_text, sent_step}
+use Rattle.snmp_tools.specs.Question.{sent_steps}
+use Rattle.snmp_tools.specs.Start.{BeginFails, ResumeFails}
+use Rattle.snmp_tools.specs.declared.plan.Orders.{Orders}
 
 -- the text of a reference that may be there, or another's
 pub text_or : (o : Option (Bor (List ℕ))) (d : Bor (List ℕ)) → (unwrap_or o d).now ≡ unwrap_or (option_map (λ s. s.now) o) d.now
@@ -28,78 +41,218 @@ module _ {S : Type 0} (IsDone : S → Type 0) (Fails : S → Fault → Type 0) (
     fails = h.fails;
   }
 
-module _ (bulk : Bool) (words : WalkWords) (files : Holdings) (why : Fault) where
-  abbrev Done : WalkStep → Type 0
-  Done step = IsDoneForWalk bulk words files step
+-- steps that are all done, before others
+after_all : {S : Type 0} (IsDone : S → Type 0) (Fails : S → Fault → Type 0) (why : Fault) (done steps : List S) → AreDone IsDone done
+    → IsFirstToFail steps IsDone Fails why → IsFirstToFail (done ++ steps) IsDone Fails why
+after_all IsDone Fails why [] steps d h = h
+after_all IsDone Fails why (step ∷ done) steps d h = later IsDone Fails why step (done ++ steps) d.0 (after_all IsDone Fails why done steps d.1 h)
 
-  abbrev Fails : WalkStep → Type 0
-  Fails step = FailsForWalk bulk words files step why
+-- the first step that fails, with more after
+before_more : {S : Type 0} (IsDone : S → Type 0) (Fails : S → Fault → Type 0) (why : Fault) (steps more : List S) → IsFirstToFail steps IsDone Fails why
+    → IsFirstToFail (steps ++ more) IsDone Fails why
+before_more {S} IsDone Fails why steps more h = record {
+  done = h.done;
+  failed = h.failed;
+  left = h.left ++ more;
+  order = ap (λ (s : List S). s ++ more) h.order ∙ append_assoc h.done (h.failed ∷ h.left) more;
+  are_done = h.are_done;
+  fails = h.fails;
+}
 
-  abbrev Refused : List WalkStep → Type 0
-  Refused steps = IsFirstToFail steps (IsDoneForWalk bulk words files) (FailsForWalk bulk words files) why
+-- steps that stand for others
+module _ {S T : Type 0} (f : S → T) where
+  map_parts : (done : List S) (failed : S) (left : List S) → map f (done ++ failed ∷ left) ≡ map f done ++ f failed ∷ map f left
+  map_parts [] failed left = refl
+  map_parts (step ∷ done) failed left = ap (λ (s : List T). f step ∷ s) (map_parts done failed left)
 
-  fails : (step : WalkStep) (left : List WalkStep) → Fails step → Refused (step ∷ left)
-  fails step left f = first (IsDoneForWalk bulk words files) (FailsForWalk bulk words files) why step left f
+  module _ (IsDone : S → Type 0) (Is : T → Type 0) (follows : (step : S) → IsDone step → Is (f step)) where
+    pub map_done : (steps : List S) → AreDone IsDone steps → AreDone Is (map f steps)
+    map_done [] d = tt
+    map_done (step ∷ steps) d = (follows step d.0, map_done steps d.1)
 
-  goes_on : (step : WalkStep) (steps : List WalkStep) → Done step → Refused steps → Refused (step ∷ steps)
-  goes_on step steps d h = later (IsDoneForWalk bulk words files) (FailsForWalk bulk words files) why step steps d h
+    pub mapped : (Fails : S → Fault → Type 0) (Does : T → Fault → Type 0) (why : Fault) → ((step : S) → Fails step why → Does (f step) why)
+        → (steps : List S) → IsFirstToFail steps IsDone Fails why → IsFirstToFail (map f steps) Is Does why
+    mapped Fails Does why fail steps h = record {
+      done = map f h.done;
+      failed = f h.failed;
+      left = map f h.left;
+      order = ap (map f) h.order ∙ map_parts h.done h.failed h.left;
+      are_done = map_done h.done h.are_done;
+      fails = fail h.failed h.fails;
+    }
 
-  abbrev sent_steps : List WalkStep
-  sent_steps = root_sent_step ∷ after_below_step ∷ after_sent_step ∷ []
+-- texts that state names are done
+pub are_named : (mib : Mib) (texts os : List (List ℕ)) → AreNames mib texts os → AreDone (HasMeaning mib) texts
+are_named mib [] os e = tt
+are_named mib (text ∷ texts) [] e = let no : ⊥ = cc in absurd no
+are_named mib (text ∷ texts) (name ∷ os) e =
+    let here : meaning mib.naming text ≡ Ok name = cc in
+    let more : AreNames mib texts os = cc in
+    ((name, here), are_named mib texts os more)
 
-  abbrev name_steps : List WalkStep
-  name_steps = root_step ∷ after_step ∷ reach_step ∷ sent_steps
+module _ (mib : Mib) (texts : List (Bor (List ℕ))) (i : ℕ) (text d : Bor (List ℕ)) (inside : i < length texts) (is : text ≡ get_or texts i d)
+    (os : List (List ℕ)) (are : AreNames mib (texts_at (take i texts)) os) where
+  pub first_unnamed : (why : Fault) → NameFails mib text.now why → IsFirstToFail (texts_at texts) (HasMeaning mib) (NameFails mib) why
+  first_unnamed why fails =
+      let parts : texts ≡ take i texts ++ text ∷ drop (suc i) texts =
+      sym (take-append-drop i texts) ∙ ap (λ (s : List (Bor (List ℕ))). take i texts ++ s) (drop-cons texts i d inside
+      ∙ ap (λ (t : Bor (List ℕ)). t ∷ drop (suc i) texts) (sym is)) in record {
+        done = texts_at (take i texts);
+        failed = text.now;
+        left = texts_at (drop (suc i) texts);
+        order = ap texts_at parts ∙ map-append (λ t. t.now) (take i texts) (text ∷ drop (suc i) texts);
+        are_done = are_named mib (texts_at (take i texts)) os are;
+        fails = fails;
+      }
+
+-- the name that can't be sent is the first
+pub first_unsent : (mib : Mib) (texts : List (Bor (List ℕ))) (os : List (List ℕ)) (i : ℕ) (text d : Bor (List ℕ)) (o e : List ℕ)
+    → AreNames mib (texts_at texts) os → i < length os → text ≡ get_or texts i d → o ≡ get_or os i e
+    → All (λ n. IsWire (wire n)) (take i os) → (IsWire (wire o) → ⊥)
+    → IsFirstToFail (texts_at texts) (HasSendable mib) (HasUnsendable mib) (unsendable text.now)
+first_unsent mib texts [] i text d o e are inside is_text is_name sent unsent = absurd (omega arith)
+first_unsent mib [] (n ∷ os) i text d o e are inside is_text is_name sent unsent = let no : ⊥ = cc in absurd no
+first_unsent mib (t ∷ texts) (n ∷ os) zero text d o e are inside is_text is_name sent unsent =
+    let here : meaning mib.naming t.now ≡ Ok n = cc in
+    let means : meaning mib.naming text.now ≡ Ok o = ap (λ (x : Bor (List ℕ)). meaning mib.naming x.now) is_text ∙ here ∙ ap Ok (sym is_name) in
+    let fails : HasUnsendable mib text.now (unsendable text.now) = (o, means, unsent, refl) in
+    subst (λ (x : Bor (List ℕ)). IsFirstToFail (x.now ∷ texts_at texts) (HasSendable mib) (HasUnsendable mib) (unsendable text.now)) is_text
+    (first (HasSendable mib) (HasUnsendable mib) (unsendable text.now) text.now (texts_at texts) fails)
+first_unsent mib (t ∷ texts) (n ∷ os) (suc i) text d o e are inside is_text is_name sent unsent =
+    let here : meaning mib.naming t.now ≡ Ok n = cc in
+    let more : AreNames mib (texts_at texts) os = cc in
+    later (HasSendable mib) (HasUnsendable mib) (unsendable text.now) t.now (texts_at texts) (n, here, All-head (λ n. IsWire (wire n)) n (take i os) sent)
+    (first_unsent mib texts os i text d o e more (omega arith) is_text is_name (All-tail (λ n. IsWire (wire n)) n (take i os) sent) unsent)
+
+module _ (words : AskWords) (files : Holdings) (why : Fault) where
+  abbrev Done : Step → Type 0
+  Done = IsDoneFor words files
+
+  abbrev Fails : Step → Fault → Type 0
+  Fails = FailsFor words files
+
+  abbrev Refused : List Step → Type 0
+  Refused steps = IsFirstToFail steps Done Fails why
+
+  fails : (step : Step) (left : List Step) → Fails step why → Refused (step ∷ left)
+  fails step left f = first Done Fails why step left f
+
+  goes_on : (step : Step) (steps : List Step) → Done step → Refused steps → Refused (step ∷ steps)
+  goes_on step steps d h = later Done Fails why step steps d h
 
   -- before any module file is read
-  pub at_showing : ShowingFails words.asking why → IsEarlyRefusal bulk words files why
+  pub at_showing : ShowingFails words.asking why → IsEarlyRefusal words files why
   at_showing (inl f) = inr (fails (asking version_step) _ f)
   at_showing (inr f) = inr (goes_on (asking version_step) _ f.0 (fails (asking letters_step) _ f.1))
 
   module _ (v : Done (asking version_step)) (l : Done (asking letters_step)) where
-    shown : (steps : List WalkStep) → Refused steps → Refused (asking version_step ∷ asking letters_step ∷ steps)
+    shown : (steps : List Step) → Refused steps → Refused (asking version_step ∷ asking letters_step ∷ steps)
     shown steps h = goes_on (asking version_step) _ v (goes_on (asking letters_step) _ l h)
 
-    pub at_choices : Fails choices_step → IsEarlyRefusal bulk words files why
+    pub at_choices : Fails choices_step why → IsEarlyRefusal words files why
     at_choices f = inr (shown _ (fails choices_step _ f))
 
     module _ (c : Done choices_step) where
-      chosen : (steps : List WalkStep) → Refused steps → Refused (asking version_step ∷ asking letters_step ∷ choices_step ∷ steps)
-      chosen steps h = shown _ (goes_on choices_step _ c h)
+      pub at_agent : AgentFails words.asking why → IsEarlyRefusal words files why
+      at_agent (inl f) = inr (shown _ (goes_on choices_step _ c (fails (asking community_step) _ f)))
+      at_agent (inr f) = inr (shown _ (goes_on choices_step _ c (goes_on (asking community_step) _ f.0 (fails (asking agent_step) _ f.1))))
 
-      pub at_agent : AgentFails words.asking why → IsEarlyRefusal bulk words files why
-      at_agent (inl f) = inr (chosen _ (fails (asking community_step) _ f))
-      at_agent (inr f) = inr (chosen _ (goes_on (asking community_step) _ f.0 (fails (asking agent_step) _ f.1)))
+  module _ (orders : Orders) (are : AreOrdersOf words orders) where
+    pub at_mibs : (why ≡ out_of_memory) ⊎ MibsFail files words.asking.mibs why → IsEarlyRefusal words files why
+    at_mibs (inl e) = inl e
+    at_mibs (inr f) =
+        inr (shown are.version (orders.letters, are.letters) _ (goes_on choices_step _ (chosen orders.choices, are.chosen)
+        (goes_on (asking community_step) _ are.short_community (goes_on (asking agent_step) _ (address_of orders.agent, are.agent) (fails mibs_step _ f)))))
 
-      module _ (s : Done (asking community_step)) (a : Done (asking agent_step)) where
-        pub at_mibs : Fails mibs_step → IsEarlyRefusal bulk words files why
-        at_mibs f = inr (chosen _ (goes_on (asking community_step) _ s (goes_on (asking agent_step) _ a (fails mibs_step _ f))))
+    module _ (mib : Mib) (known : IsMibOf (MayHold files) words.asking mib) where
+      loading_done : AreDone Done loading_steps
+      loading_done = (
+        are.version,
+        (
+          (orders.letters, are.letters),
+          (
+            (chosen orders.choices, are.chosen),
+            (
+              are.short_community,
+              ((address_of orders.agent, are.agent), ((mib, known), tt)),
+            ),
+          ),
+        ),
+      )
 
-        module _ (m : Done mibs_step) where
-          reached : Refused name_steps → IsLateRefusal bulk words files why
-          reached h = inr ((v, (l, (c, (s, (a, (m, tt)))))), h)
+      loaded : Refused (reaching_steps words.request) → IsLateRefusal words files why
+      loaded h = inr (loading_done, h)
 
-          pub at_root : Fails root_step → IsLateRefusal bulk words files why
-          at_root f = reached (fails root_step _ f)
+      -- a name has no meaning
+      at_names : (request : Request) → NamesFail request mib why → (why ≡ out_of_memory) ⊎ Refused (name_steps request)
+      at_names (get texts) (inl e) = inl e
+      at_names (get texts) (inr h) =
+          inr (mapped name_step (HasMeaning mib) Done (λ text d. (mib, known, d)) (NameFails mib) Fails why (λ text f. (mib, known, f)) texts h)
+      at_names (walk bulk letters after name) (inl f) = inr (fails (name_step (root_text name)) _ (mib, known, f))
+      at_names (walk bulk letters after name) (inr f) =
+          let rest : Refused (name_step f.1.0 ∷ []) = fails (name_step f.1.0) [] (mib, known, f.1.2) in
+          let P : Option (List ℕ) → Type 0 = λ given. Refused (goes_on_after (λ text. name_step text ∷ []) given) in
+          inr (goes_on (name_step (root_text name)) _ (mib, known, f.0) (subst P (sym f.1.1) rest))
 
-          module _ (r : Done root_step) where
-            pub at_after : Fails after_step → IsLateRefusal bulk words files why
-            at_after f = reached (goes_on root_step _ r (fails after_step _ f))
+      pub names_refused : NamesFail words.request mib why → IsLateRefusal words files why
+      names_refused f = by_names (at_names words.request f)
+        where
+          by_names : (why ≡ out_of_memory) ⊎ Refused (name_steps words.request) → IsLateRefusal words files why
+          by_names (inl e) = inl e
+          by_names (inr h) = loaded (before_more Done Fails why (name_steps words.request) (reach_step ∷ []) h)
 
-            module _ (p : Done after_step) where
-              named : Refused (reach_step ∷ sent_steps) → IsLateRefusal bulk words files why
-              named h = reached (goes_on root_step _ r (goes_on after_step _ p h))
+      after_named : (given planned : Option (List ℕ)) → IsNameIfGiven mib given planned
+          → AreDone Done (goes_on_after (λ text. name_step text ∷ []) given)
+      after_named None planned h = tt
+      after_named (Some text) planned h = ((mib, known, (h.0, h.1)), tt)
 
-              pub at_reach : Fails reach_step → IsLateRefusal bulk words files why
-              at_reach f = named (fails reach_step _ f)
+      names_done : (request : Request) (choices : Choices) (question : Question) → IsQuestionOf request choices mib question
+          → AreDone Done (name_steps request)
+      names_done (get texts) choices (names os) q = map_done name_step (HasMeaning mib) Done (λ text d. (mib, known, d)) texts (are_named mib texts os q)
+      names_done (get texts) choices (subtree w) q = absurd q
+      names_done (walk bulk letters after name) choices (names os) q = absurd q
+      names_done (walk bulk letters after name) choices (subtree w) q = ((mib, known, (w.root, q.root)), after_named after w.after q.goes_on)
 
-              module _ (t : Done reach_step) where
-                pub at_root_sent : Fails root_sent_step → IsLateRefusal bulk words files why
-                at_root_sent f = named (goes_on reach_step _ t (fails root_sent_step _ f))
+      -- the name to go on after isn't below the root, or can't be sent
+      resumed : (root after : List ℕ) (text : List ℕ) (given planned : Option (List ℕ)) → IsNameIfGiven mib given planned → planned ≡ Some after
+          → meaning mib.naming text ≡ Ok root → ResumeFails root after (unwrap_or given []) why
+          → Refused (goes_on_after (λ t. below_step text t ∷ sent_step t ∷ []) given)
+      resumed root after text None planned h e means f = let no : ⊥ = cc in absurd no
+      resumed root after text (Some t) planned h e means (inl f) =
+          let same : h.0 ≡ after = cc in
+          fails (below_step text t) _ (mib, known, (root, after, means, h.1 ∙ ap Ok same, (f.0, f.1)))
+      resumed root after text (Some t) planned h e means (inr f) =
+          let same : h.0 ≡ after = cc in
+          goes_on (below_step text t) _ (mib, known, (root, after, means, h.1 ∙ ap Ok same, f.0))
+          (fails (sent_step t) [] (mib, known, (after, h.1 ∙ ap Ok same, f.1, f.2)))
 
-                module _ (o : Done root_sent_step) where
-                  pub at_after_below : Fails after_below_step → IsLateRefusal bulk words files why
-                  at_after_below f = named (goes_on reach_step _ t (goes_on root_sent_step _ o (fails after_below_step _ f)))
+      at_sent : (request : Request) (choices : Choices) (question : Question) → IsQuestionOf request choices mib question
+          → BeginFails request question why → Refused (sent_steps request)
+      at_sent (get texts) choices (names os) q f =
+          mapped sent_step (HasSendable mib) Done (λ text d. (mib, known, d)) (HasUnsendable mib) Fails why (λ text f. (mib, known, f)) texts (f mib q)
+      at_sent (get texts) choices (subtree w) q f = absurd q
+      at_sent (walk bulk letters after name) choices (names os) q f = absurd q
+      at_sent (walk bulk letters after name) choices (subtree w) q (inl f) =
+          fails (sent_step (root_text name)) _ (mib, known, (w.root, q.root, f.0, f.1))
+      at_sent (walk bulk letters after name) choices (subtree w) q (inr f) =
+          goes_on (sent_step (root_text name)) _ (mib, known, (w.root, q.root, f.0))
+          (resumed w.root f.1.0 (root_text name) after w.after q.goes_on f.1.1 q.root f.1.2)
 
-                  pub at_after_sent : Done after_below_step → Fails after_sent_step → IsLateRefusal bulk words files why
-                  at_after_sent b f =
-                      named (goes_on reach_step _ t (goes_on root_sent_step _ o (goes_on after_below_step _ b (fails after_sent_step _ f))))
+      module _ (plan : Plan) (asked : AskFor words mib plan) where
+        -- the agent isn't reached
+        pub unreached : (agent : Address) → HasAgent words.asking.agent agent → (why ≡ out_of_memory) ⊎ ReachFails files mib agent why
+            → IsLateRefusal words files why
+        unreached agent only (inl e) = inl e
+        unreached agent only (inr f) =
+            loaded (after_all Done Fails why (name_steps words.request) (reach_step ∷ [])
+            (names_done words.request asked.choices plan.question asked.question) (fails reach_step [] (mib, known, (agent, only, f))))
+
+        -- a name can't be sent, or the walk can't go on after it
+        pub unsent : (agent : Address) → HasAgent words.asking.agent agent → IsReached files mib agent → BeginFails words.request plan.question why
+            → IsLastRefusal words files why
+        unsent agent only reached f = record {
+          loaded = loading_done;
+          named = names_done words.request asked.choices plan.question asked.question;
+          reached = (mib, known, (agent, only, reached));
+          fails = at_sent words.request asked.choices plan.question asked.question f;
+        }

@@ -36,11 +36,11 @@ use Rattle.snmp_io.specs.Streams.{extended-nil}
 use Rattle.snmp_net.specs.Address as address
 use Rattle.snmp_words.specs.Words.{walk_line}
 use Rattle.snmp_tools.specs.agent.TableFile.{names_in}
-use Rattle.snmp_tools.specs.Headline.{EndsAtStatus0, IsFeasible, IsMishap, IsWalk, WritesAllAtStatus0, WritesFront}
+use Rattle.snmp_tools.specs.Answer.{IsFeasible, agent_over, first_of}
+use Rattle.snmp_tools.specs.Headline.{EndsAtStatus0, IsAsk, IsMishap, WritesAllAtStatus0, WritesFront}
 use Rattle.snmp_tools.specs.Lines.{AreLines}
 use Rattle.snmp_tools.specs.Mib.{Mib}
-use Rattle.snmp_tools.specs.Outcome.{agent_over, first_of}
-use Rattle.snmp_tools.specs.Plan.{AskFor, Plan}
+use Rattle.snmp_tools.specs.Question.{AskFor, Plan, Walk, of_walk, subtree}
 use Rattle.snmp_tools.specs.Planned.{numeric_walk}
 use Rattle.snmp_tools.specs.RowText.{row_line}
 use Rattle.snmp_tools.specs.TableWalk as page
@@ -60,38 +60,39 @@ pub words_are : (path root : List ℕ) → table_walk path root ≡ walk_line (c
 words_are path root =
     ap (λ (t : List ℕ). codes "snmp" ∷ codes "snmpwalk" ∷ codes "-On" ∷ (codes "table:" ++ path) ∷ t ∷ []) (sym (begins_with_dot root))
 
+abbrev plain_walk : (root : List ℕ) → Walk
+plain_walk root = record { root = root; after = None; mode = mode.Plain; method = method.Next; counts = false }
+
 abbrev walk_plan : (path root : List ℕ) → Plan
 walk_plan path root = record {
   agent = address.table path;
   community = codes "public";
   max_size = 1472;
   letters = numeric_letters;
-  root = root;
-  after = None;
-  mode = mode.Plain;
-  method = method.Next;
-  counts = false;
+  question = subtree (plain_walk root);
 }
 
 -- an identifier in numbers means itself
 abbrev pub NumbersAreRead : Type 0
 NumbersAreRead = (naming : Naming) (o : List ℕ) → IsIdentifier o → meaning naming (numeric_text o) ≡ Ok o
 
-words_ask : NumbersAreRead → (path root : List ℕ) → path ≢ [] → IsIdentifier root → AskFor false (numeric_walk path root) bare_mib (walk_plan path root)
+words_ask : NumbersAreRead → (path root : List ℕ) → path ≢ [] → IsIdentifier root → AskFor (of_walk false (numeric_walk path root)) bare_mib (walk_plan path root)
 words_ask read path root named identifier = record {
   version = refl;
   letters = record { known = refl; read = numeric_are };
   choices = no_choices;
   chosen = refl;
-  mode = refl;
-  method = refl;
-  counts = refl;
   short_community = omega arith;
   community = refl;
   max_size = refl;
   agent = (named, refl);
-  root = ap (meaning bare_mib.naming) (begins_with_dot root) ∙ read bare_mib.naming root identifier;
-  after = refl;
+  question = record {
+    mode = refl;
+    method = refl;
+    counts = refl;
+    root = ap (meaning bare_mib.naming) (begins_with_dot root) ∙ read bare_mib.naming root identifier;
+    goes_on = refl;
+  };
 }
 
 -- ---- the rows
@@ -245,19 +246,19 @@ feasible : (ls : List (List ℕ)) (path root : List ℕ) (view : MibView) (got :
     → IsMibView view → ShortHaveRoom → ((row : VarBind) → HasRow first_format ls row → IsShort row.value)
     → length (or_only got (rows_below root (variables view))) ≤ 2147483644 → IsFeasible (walk_plan path root) view
 feasible ls path root view got identifier sendable is is_view room short few = record {
-  root = subst IsWire (sym (wire_is root sendable)) sendable;
-  after = tt;
-  room =
-      room (agent_over (walk_plan path root) view) view (first_of (walk_plan path root)) refl (omega arith) (omega arith)
-      (asked_short root identifier sendable) is_view (λ p row. short p ((is.rows p).0 row));
-  ids = ids_are root got (variables view) few;
+  sendable = (subst IsWire (sym (wire_is root sendable)) sendable, tt);
+  room = (
+    room (agent_over (walk_plan path root) view) view (first_of (codes "public") (plain_walk root)) refl (omega arith) (omega arith)
+        (asked_short root identifier sendable) is_view (λ p row. short p ((is.rows p).0 row)),
+    ids_are root got (variables view) few,
+  );
 }
 
 -- ---- the walk
 
 abbrev walk_over : (files : Holdings) (path root text : List ℕ) → HoldsTableFile files path root text → IsTree [] bare [] → NumbersAreRead
     → (view : MibView) → IsTableOf (names_in bare_mib.naming) (lines text) view → (got : VarBind) → IsGet view (wire root) got
-    → IsWalk false (numeric_walk path root) files (or_only got (rows_below root (variables view)))
+    → IsAsk (of_walk false (numeric_walk path root)) files (or_only got (rows_below root (variables view)))
 walk_over files path root text holds loads read view is got is_got = record {
   mib = bare_mib;
   warnings = [];
@@ -279,9 +280,9 @@ pub prints_rows : IsTree [] bare [] → NumbersAreRead → BelowAreRows
     → ((ls : List (List ℕ)) → AreTableBy (names_in bare_mib.naming) ls → (view : MibView) × IsTableOf (names_in bare_mib.naming) ls view × IsMibView view)
     → ((ls : List (List ℕ)) (view : MibView) → (IsMarked ls → ⊥) → (IsTableOf (names_in bare_mib.naming) ls view ↔ IsTableIn first_format ls view))
     → (files : Holdings) (path root text : List ℕ) (before after err_before err_after : Stream) (status : ℕ)
-    → HoldsTableFile files path root text → WritesFront false (numeric_walk path root) files before after
-    → WritesAllAtStatus0 false (numeric_walk path root) files before after status
-    → EndsAtStatus0 false (numeric_walk path root) files before after err_before err_after status
+    → HoldsTableFile files path root text → WritesFront (of_walk false (numeric_walk path root)) files before after
+    → WritesAllAtStatus0 (of_walk false (numeric_walk path root)) files before after status
+    → EndsAtStatus0 (of_walk false (numeric_walk path root)) files before after err_before err_after status
     → PrintsRows (lines text) root before after err_before err_after status
 prints_rows loads read law ordered one_get room tables plain files path root text before after err_before err_after status holds front all ends =
     let stated = tables (lines text) (first_format, holds.unmarked, holds.table) in
@@ -294,7 +295,7 @@ prints_rows loads read law ordered one_get room tables plain files path root tex
     let is_got : IsGet view (wire root) got = one.1 in
     let got_root : IsGet view root got = subst (λ (o : List ℕ). IsGet view o got) (wire_is root holds.sendable) is_got in
     let rows : List VarBind = or_only got (rows_below root (variables view)) in
-    let walk : IsWalk false (numeric_walk path root) files rows = walk_over files path root text holds loads read view by got is_got in
+    let walk : IsAsk (of_walk false (numeric_walk path root)) files rows = walk_over files path root text holds loads read view by got is_got in
     let first = front rows walk in
     record {
       rows = rows;

@@ -1,23 +1,44 @@
--- What was written of a walk over a table file or over the network, as the outcome of its job.
-use Rattle.std.proofs.Common.{inl, inr, ℕ, Bool, List, Option}
-use Rattle.snmp_io.specs.Output.{Stream}
-use Rattle.snmp_tools.specs.agent.Outcome.{Faults}
-use Rattle.snmp_wire.specs.Message.{VarBind}
-use Rattle.snmp_walk.specs.Walker.{Walker}
-use Rattle.snmp_walk.specs.declared.end.WalkEnd.{WalkEnd}
-use Rattle.snmp_words.specs.Words.{WalkWords}
-use Rattle.snmp_tools.specs.Message.{Fault}
-use Rattle.snmp_io.specs.Files.{Holdings}
-use Rattle.snmp_tools.specs.Mib.{Mib}
-use Rattle.snmp_tools.specs.Outcome.{IsWalkOutcomeBy, IsPrinted, IsTableOutcome, refused, walked}
-use Rattle.snmp_tools.specs.Plan.{Plan}
+-- What a job that asks an agent was told, and what it wrote.
+use Rattle.std.proofs.Common.{◌≡◌, ◌∙◌, ap, ℕ, Bool, List, Option, Some, Result, Ok, Err, subst, sym}
+use Rattle.std.specs.Prelude.{IfErr}
+use Rattle.std.specs.Result.{IsErrAnd}
+use Rattle.smi_text.specs.declared.trees.tree.Def.{Def}
+use Rattle.smi_show.specs.name.Naming.{Naming}
+use Rattle.smi_tree.specs.Naming.{naming_of}
+use Rattle.smi_value.specs.Syntax.{ObjectSyntax}
 use Rattle.smi_value.specs.declared.letters.letters.Letters.{Letters}
+use Rattle.snmp_io.specs.Files.{Holdings, MayHold}
+use Rattle.snmp_io.specs.Output.{Stream}
+use Rattle.snmp_wire.specs.Message.{VarBind}
+use Rattle.snmp_walk.specs.declared.end.WalkEnd.{WalkEnd}
+use Rattle.snmp_tools.specs.loading.Loaded.{AreLoadedAs}
+use Rattle.snmp_tools.specs.Message.{Fault, fault_of, outcome_of}
+use Rattle.snmp_tools.specs.Mib.{AreLoaded, Mib}
+use Rattle.snmp_tools.specs.Outcome.{IsPrinted}
+use Rattle.snmp_tools.specs.Planned.{mib_in}
+use Rattle.snmp_tools.specs.declared.failure.Failure.{Failure}
 
-pub of_table : (Facts : List ℕ → ℕ → ℕ → ℕ → Walker → List VarBind → List VarBind → WalkEnd → Type 0) (faults : Faults) (bulk : Bool) (words : WalkWords)
-    (files : Holdings) (mib : Mib) (plan : Plan) (before after : Stream) (fault : Option Fault) → IsTableOutcome bulk words files mib plan before after fault
-    → IsWalkOutcomeBy Facts faults bulk words files mib before after fault
-of_table Facts faults bulk words files mib plan before after fault (inl r) = refused r.0 r.1 r.2 r.3
-of_table Facts faults bulk words files mib plan before after fault (inr w) = walked plan w.0 w.1 w.2
+-- what the exit of a `?` returns
+pub outcome_err : {T : Type 0} (r : Result T Failure) (f : Failure) → IsErrAnd r (λ e. e ≡ f) → outcome_of r ≡ Some (fault_of f)
+outcome_err (Ok x) f h = absurd h
+outcome_err (Err e) f h = ap (λ (x : Failure). Some (fault_of x)) h
+
+pub if_err : {T : Type 0} (P : Failure → Type 0) (r : Result T Failure) (f : Failure) → IsErrAnd r (λ e. e ≡ f) → P f → IfErr r P
+if_err P (Ok x) f h p = absurd h
+if_err P (Err e) f h p = subst P (sym h) p
+
+-- what a load tells of its names and types
+pub are_loaded : (files : Holdings) (paths : List (List ℕ)) (naming : Naming) (definition_at : List ℕ → Option Def)
+    (syntax_at : List ℕ → Option ObjectSyntax) (before after : Stream)
+    (is : AreLoadedAs (MayHold files) paths naming definition_at syntax_at before after)
+    → AreLoaded (MayHold files) paths (mib_in naming syntax_at) is.loaded.warnings
+are_loaded files paths naming definition_at syntax_at before after is = record {
+  modules = is.loaded.modules;
+  read = is.loaded.read;
+  tree = is.tree;
+  loads = is.loaded.loads;
+  is = ap (λ n. mib_in n syntax_at) is.names ∙ ap (mib_in (naming_of is.tree)) is.syntaxes;
+}
 
 -- other facts that follow
 pub with_facts : (F G : List VarBind → List VarBind → WalkEnd → Type 0) (mib : Mib) (letters : Letters) (counts : Bool) (agent : List ℕ)

@@ -1,7 +1,9 @@
 -- What the letters of -C choose.
 use Rattle.std.specs.Prelude.{ℕ, Bool, true, false, not, ◌&&◌, ◌==◌, nat_le, if◌then◌else◌}
 use Rattle.std.specs.Prelude.{List, [], ◌∷◌, Option, Some, None, Result, Ok, Err, pos}
+use Rattle.std.proofs.Props.{props}
 use Rattle.std.specs.Str.Parse.{digits_value}
+use Rattle.snmp_walk.specs.Walker.{IsMethod}
 use Rattle.snmp_walk.specs.declared.mode.Method.{Method}
 use Rattle.snmp_walk.specs.declared.mode.Method.TheVariants as method
 use Rattle.snmp_walk.specs.declared.mode.Mode.{Mode}
@@ -88,3 +90,8 @@ mode_of choices = if choices.includes_root then mode.Include
 
 abbrev pub method_of : Bool → Choices → Method
 method_of bulk choices = if bulk then method.Bulk (pos choices.repetitions) else method.Next
+
+-- a fact of a method has one proof at most
+pub IsMethod-prop : (m : Method) → IsProp (IsMethod m)
+IsMethod-prop method.Next = hlevel
+IsMethod-prop (method.Bulk repetitions) = hlevel props

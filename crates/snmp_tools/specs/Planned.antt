@@ -1,40 +1,47 @@
--- The plan that the program keeps, and what it has read of the words before.
-use Rattle.std.specs.Prelude.{◌≡◌, ◌≤◌, ◌⊎◌, Bool, length, Ok, Some, codes, ℕ, List}
-use Rattle.std.specs.Prelude.{Option, drop}
+-- The request and the plan that the program keeps, and what it has read of the words before.
+use Rattle.std.specs.Prelude.{◌≡◌, ◌≤◌, ◌⊎◌, length, Ok, Some, codes, ℕ, List}
+use Rattle.std.specs.Prelude.{Option, drop, option_map}
 use Rattle.snmp_oid.specs.Numeric.{numeric_text}
-use Rattle.smi_show.specs.name.Meaning.{meaning}
 use Rattle.smi_show.specs.name.Naming.{Naming}
 use Rattle.smi_value.specs.Syntax.{ObjectSyntax}
-use Rattle.snmp_words.specs.Words.{AskingWords, WalkWords, words_of_walk}
+use Rattle.snmp_words.specs.Words.{AskingWords, WalkWords, asking_words, texts_at, words_of_walk}
 use Rattle.snmp_net.specs.Address.{address_of}
 use Rattle.snmp_tools.specs.Asking.{AreShown, AskingFails, HasAgent, IsAskingDone, NameFails}
 use Rattle.snmp_tools.specs.Asking.{agent_step, community_step, letters_step, version_step}
 use Rattle.snmp_tools.specs.Chosen.{chosen}
-use Rattle.snmp_tools.specs.Letters.{choices_of}
-use Rattle.snmp_tools.specs.Message.{Fault}
-use Rattle.snmp_io.specs.Files.{Holdings, MayHold}
-use Rattle.snmp_tools.specs.Mib.{IsMibOf, Mib}
-use Rattle.snmp_tools.specs.Plan as plan
-use Rattle.snmp_tools.specs.Plan.{AskFor, root_text}
+use Rattle.snmp_tools.specs.Message.{Fault, out_of_memory}
+use Rattle.snmp_tools.specs.Mib.{Mib}
+use Rattle.snmp_tools.specs.Question as question
+use Rattle.snmp_tools.specs.Question.{AskWords, HasMeaning, choices_in, root_text}
+use Rattle.snmp_io.specs.Steps.{IsFirstToFail}
+use Rattle.snmp_tools.specs.declared.request.AskJob.{AskJob}
 use Rattle.snmp_tools.specs.declared.plan.Orders.{Orders}
 use Rattle.snmp_tools.specs.declared.plan.Plan.{Plan}
+use Rattle.snmp_tools.specs.declared.plan.Question.{Question}
+use Rattle.snmp_tools.specs.declared.plan.Question.TheVariants as planned
+use Rattle.snmp_tools.specs.declared.request.Request.{Request}
+use Rattle.snmp_tools.specs.declared.request.Request.TheVariants as request
+use Rattle.snmp_tools.specs.declared.plan.Walk.{Walk}
 
--- the words of a walk, before names are looked up, say this
-pub record AreOrdersOf (bulk : Bool) (words : WalkWords) (orders : Orders) : Type 0 where
+-- ---- what is asked for
+
+abbrev pub request_of : Request → question.Request
+request_of (request.Get names) = question.get (texts_at names.now)
+request_of (request.Walk bulk letters after name) = question.walk bulk letters.now
+    (option_map (λ text. text.now) after) (option_map (λ text. text.now) name)
+
+abbrev pub ask_words : AskJob → AskWords
+ask_words job = record { asking = asking_words job.asking.now; request = request_of job.request }
+
+-- the words, before names are looked up, say this
+pub record AreOrdersOf (words : AskWords) (orders : Orders) : Type 0 where
   pub version : words.asking.protocol ≡ codes "2c"
   pub letters : AreShown words.asking.letters orders.letters
-  pub chosen : choices_of bulk words.letters ≡ Ok (chosen orders.choices)
+  pub chosen : choices_in words.request ≡ Ok (chosen orders.choices)
   pub short_community : length words.asking.community ≤ 255
   pub community : orders.community.now ≡ words.asking.community
   pub max_size : orders.max_size ≡ words.asking.max_size
   pub agent : HasAgent words.asking.agent (address_of orders.agent)
-
--- the words ask for this plan, by names that the job knows
-pub record IsPlanFor (bulk : Bool) (words : WalkWords) (files : Holdings) (mib : Mib)
-    (p : plan.Plan) : Type 0 where
-  pub known : IsMibOf (MayHold files) words.asking mib
-  pub asked : AskFor bulk words mib p
-  pub only : HasAgent words.asking.agent p.agent
 
 -- the version or the letters of -O have no meaning
 abbrev pub ShowingFails : AskingWords → Fault → Type 0
@@ -48,24 +55,33 @@ AgentFails words why =
     AskingFails words community_step why
     ⊎ (IsAskingDone words community_step × AskingFails words agent_step why)
 
--- the root's name has no meaning, or that of the name to go on after hasn't
-abbrev pub NamesFail : WalkWords → Mib → Fault → Type 0
-NamesFail words mib why =
-    NameFails mib (root_text words) why
-    ⊎ ((root : List ℕ) × (meaning mib.naming (root_text words) ≡ Ok root)
-    × ((text : List ℕ) × (words.after ≡ Some text) × NameFails mib text why))
+-- memory ran out, or a name has no meaning: of a walk the root's, or that of the name to go on
+-- after
+abbrev pub NamesFail : question.Request → Mib → Fault → Type 0
+NamesFail (question.get texts) mib why =
+    (why ≡ out_of_memory) ⊎ IsFirstToFail texts (HasMeaning mib) (NameFails mib) why
+NamesFail (question.walk bulk letters after name) mib why =
+    NameFails mib (root_text name) why
+    ⊎ (HasMeaning mib (root_text name)
+    × ((text : List ℕ) × (after ≡ Some text) × NameFails mib text why))
 
-abbrev pub plan_of : Plan → plan.Plan
+-- ---- the plan
+
+abbrev pub walk_of : Walk → question.Walk
+walk_of w =
+    record { root = w.root; after = w.after; mode = w.mode; method = w.method; counts = w.counts }
+
+abbrev pub question_of : Question → question.Question
+question_of (planned.Get os) = question.names os.items
+question_of (planned.Walk w) = question.subtree (walk_of w)
+
+abbrev pub plan_of : Plan → question.Plan
 plan_of p = record {
   agent = address_of p.agent;
   community = p.community.now;
   max_size = p.max_size;
   letters = p.letters;
-  root = p.root;
-  after = p.after;
-  mode = p.mode;
-  method = p.method;
-  counts = p.counts;
+  question = question_of p.question;
 }
 
 -- the names and types of a tree

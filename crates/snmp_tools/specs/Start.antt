@@ -1,37 +1,73 @@
--- How a walk begins, and why it can't.
-use Rattle.std.specs.Prelude.{◌≡◌, ◌⊎◌, ℕ, List, Option, Some, None}
-use Rattle.snmp_oid.specs.Identifier.{IsBelow, IsWire, wire}
+-- How a question begins, and why it can't.
+use Rattle.std.specs.Prelude.{◌≡◌, ◌⊎◌, ℕ, List, [], All, Option, Some, None, unwrap_or}
+use Rattle.snmp_oid.specs.Identifier.{IsWire, wire}
 use Rattle.snmp_agent.specs.table.Listing.{variables}
 use Rattle.snmp_agent.specs.table.Table.{IsMibView, MibView}
 use Rattle.snmp_wire.specs.Message.{VarBind}
 use Rattle.snmp_walk.specs.Facts.{IsFresh, walk_at}
+use Rattle.snmp_walk.specs.Ran.{IsGotOver, IsWalkedOver}
 use Rattle.snmp_walk.specs.Walk.{rest_of, walk_of}
 use Rattle.snmp_walk.specs.Walker.{Walker}
+use Rattle.snmp_walk.specs.declared.end.WalkEnd.{WalkEnd}
+use Rattle.snmp_walk.specs.declared.link.Link.{Ghosts as LinkFacts}
+use Rattle.snmp_io.specs.Steps.{IsFirstToFail}
+use Rattle.snmp_tools.specs.Answer.{first_of}
 use Rattle.snmp_tools.specs.Message.{Fault, outside_root, unsendable}
-use Rattle.snmp_tools.specs.Outcome.{first_of}
-use Rattle.snmp_tools.specs.Plan.{Plan}
+use Rattle.snmp_tools.specs.Mib.{Mib}
+use Rattle.snmp_tools.specs.Question.{AreNames, HasSendable, HasUnsendable, IsAtOrBelow, Question}
+use Rattle.snmp_tools.specs.Question.{Request, Walk, get, names, root_text, subtree, walk}
+use Rattle.snmp_tools.specs.declared.start.Begun.{Begun}
+use Rattle.snmp_tools.specs.declared.start.Begun.TheVariants as begun
 
 -- the rows that the walk gives, `got` being what a Get of the root gives
-abbrev pub rows_given : Option (List ℕ) → Plan → VarBind → List VarBind → List VarBind
-rows_given None plan got rows = walk_of plan.mode plan.root got rows
-rows_given (Some after) plan got rows = rest_of plan.root (wire after) rows
+abbrev pub rows_given : Option (List ℕ) → Walk → VarBind → List VarBind → List VarBind
+rows_given None w got rows = walk_of w.mode w.root got rows
+rows_given (Some after) w got rows = rest_of w.root (wire after) rows
 
--- the core is that of the plan's walk, before its first request
-pub record IsStartOf (core : Walker) (plan : Plan) : Type 0 where
-  pub is : core ≡ first_of plan
+-- the core is that of the walk, before its first request
+pub record IsStartOf (core : Walker) (community : List ℕ) (w : Walk) : Type 0 where
+  pub is : core ≡ first_of community w
   pub fresh : IsFresh core
   pub gives : (view : MibView) (got : VarBind) → IsMibView view
-      → walk_at core view got ≡ rows_given plan.after plan got (variables view)
+      → walk_at core view got ≡ rows_given w.after w got (variables view)
+
+-- it is the question, whose names can be sent
+abbrev pub IsBegun : (community : List ℕ) → Question → Begun → Type 0
+IsBegun community (names os) (begun.Get sent) =
+    (sent.now ≡ os) × All (λ o. IsWire (wire o)) sent.now
+IsBegun community (subtree w) (begun.Walk core) = IsStartOf core community w
+IsBegun community _ _ = ⊥
+
+-- what a run of it needs
+abbrev pub CanRun : Begun → Type 0
+CanRun (begun.Get sent) = All (λ o. IsWire (wire o)) sent.now
+CanRun (begun.Walk core) = IsFresh core
+
+-- what is known of a run of it over a link
+abbrev pub IsRunOver : {W : Type 0} → LinkFacts W → (link after : W) → (tries : ℕ)
+    → (community : List ℕ) → Begun → (given refused : List VarBind) → WalkEnd → Type 0
+IsRunOver {W} facts link after tries community (begun.Get sent) given refused end =
+    IsGotOver facts link after tries community 1 sent.now given refused end
+IsRunOver {W} facts link after tries community (begun.Walk core) given refused end =
+    IsWalkedOver facts link after tries core given refused end
 
 -- a walk can't go on after the name: it isn't below the root, or can't be sent
 abbrev pub ResumeFails : (root after text : List ℕ) → Fault → Type 0
 ResumeFails root after text why =
-    (((after ≡ root) ⊎ IsBelow after root → ⊥) × (why ≡ outside_root text))
-    ⊎ (((after ≡ root) ⊎ IsBelow after root) × (IsWire (wire after) → ⊥) × (why ≡ unsendable text))
+    ((IsAtOrBelow after root → ⊥) × (why ≡ outside_root text))
+    ⊎ (IsAtOrBelow after root × (IsWire (wire after) → ⊥) × (why ≡ unsendable text))
 
 -- why a walk can't begin, the texts being those of its names
-abbrev pub StartFails : Plan → (root_text after_text : List ℕ) → Fault → Type 0
-StartFails plan root_text after_text why =
-    ((IsWire (wire plan.root) → ⊥) × (why ≡ unsendable root_text))
-    ⊎ (IsWire (wire plan.root) × ((after : List ℕ) × (plan.after ≡ Some after)
-    × ResumeFails plan.root after after_text why))
+abbrev pub StartFails : Walk → (root_text after_text : List ℕ) → Fault → Type 0
+StartFails w root_text after_text why =
+    ((IsWire (wire w.root) → ⊥) × (why ≡ unsendable root_text))
+    ⊎ (IsWire (wire w.root) × ((after : List ℕ) × (w.after ≡ Some after)
+    × ResumeFails w.root after after_text why))
+
+-- why a question can't begin
+abbrev pub BeginFails : Request → Question → Fault → Type 0
+BeginFails (get texts) (names os) why = (mib : Mib) → AreNames mib texts os
+    → IsFirstToFail texts (HasSendable mib) (HasUnsendable mib) why
+BeginFails (walk bulk letters after name) (subtree w) why =
+    StartFails w (root_text name) (unwrap_or after []) why
+BeginFails _ _ why = ⊥

@@ -3,7 +3,6 @@ ghost use Rattle.std.specs.Prelude.{◌≡◌, ℕ, List, Some, true};
 ghost use Rattle.std.specs.Str.Lines.{lines};
 ghost use Rattle.snmp_words.specs.Command.{is_taken};
 ghost use Rattle.snmp_words.specs.Words.{AreFaulty, Stated, stated_job, texts_at};
-ghost use Rattle.snmp_tools.specs.agent.Outcome.{AtDoor};
 ghost use Rattle.snmp_tools.specs.Done.{IsJobDone};
 ghost use Rattle.snmp_tools.specs.Seen.{seen};
 ghost use Rattle.snmp_tools.specs.TableWalk.{HoldsTableFile, PrintsRows, table_walk};
@@ -38,10 +37,9 @@ pub fn tool<F: ModuleFiles, L: Links, O: Output, E: Output>(
         (E.stream err.old) (E.stream err.new) result }
     ensures done { (job : Stated) → is_taken (texts_at words.now) ≡ true
         → stated_job (texts_at words.now) ≡ Some job
-        → IsJobDone (L.opens links.old) L.Wire.Link (AtDoor (L.binds links.old) L.serves) job
-        (seen (F.text_at files.now) (L.fault_count links.old) (O.stream out.old) (E.stream err.old))
-        (seen (F.text_at files.now) (L.fault_count links.new) (O.stream out.new) (E.stream err.new))
-        result }
+        → IsJobDone L.Links L.Wire.Link job
+        (seen (F.text_at files.now) links.old (O.stream out.old) (E.stream err.old))
+        (seen (F.text_at files.now) links.new (O.stream out.new) (E.stream err.new)) result }
     ensures help_or_mistake { AreFaulty (texts_at words.now)
         → IsHelpOrMistake (texts_at words.now) (O.stream out.old) (O.stream out.new)
         (E.stream err.old) (E.stream err.new) result }

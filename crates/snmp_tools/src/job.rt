@@ -1,25 +1,23 @@
 //! A job: it is done, and what failed is reported.
 ghost use Rattle.std.specs.Prelude.{◌≡◌, ◌++◌, codes, IfOk, Some};
 ghost use Rattle.snmp_io.specs.Output.{IsWritten};
-ghost use Rattle.snmp_tools.specs.agent.Outcome.{AtDoor};
-ghost use Rattle.snmp_words.specs.Words.{job_words, walk_words};
+ghost use Rattle.snmp_words.specs.Words.{job_words};
 ghost use Rattle.snmp_tools.specs.Done.{IsJobDone};
 ghost use Rattle.snmp_tools.specs.Message.{fault_of, fault_message};
-ghost use Rattle.snmp_tools.specs.Outcome.{HasLinkFacts, IsReported, IsWalkRun};
+ghost use Rattle.snmp_tools.specs.Outcome.{IsReported};
 ghost use Rattle.snmp_tools.specs.Seen.{seen};
-ghost use Rattle.snmp_tools.specs.Serving.{risen};
 
+use crate::ask::do_ask;
 use crate::failure::Failure;
-use crate::get::do_get;
 use crate::loading::{ModuleFiles, one_list_of_modules};
+use crate::request::AskJob;
 use crate::serve::do_serve;
 use crate::translate::do_translate;
-use crate::walk::walk_lines;
 use smi_tree::one_tree;
 use snmp_agent::{no_fault, one_table};
 use snmp_io::{Output, write_all};
 use snmp_net::Links;
-use snmp_words::{Job, WalkJob};
+use snmp_words::Job;
 use std::alloc::{AllocError, Global};
 
 /// Does a job, and returns the exit status: 0 where it was done, 2 where an agent replied with an
@@ -35,11 +33,9 @@ pub fn run_job<F: ModuleFiles, L: Links, O: Output, E: Output>(
     out: &mut O,
     err: &mut E,
 ) -> u8
-    ensures { IsJobDone (L.opens links.old) L.Wire.Link (AtDoor (L.binds links.old) L.serves)
-        (job_words job.now)
-        (seen (F.text_at files.now) (L.fault_count links.old) (O.stream out.old) (E.stream err.old))
-        (seen (F.text_at files.now) (L.fault_count links.new) (O.stream out.new) (E.stream err.new))
-        result }
+    ensures { IsJobDone L.Links L.Wire.Link (job_words job.now)
+        (seen (F.text_at files.now) links.old (O.stream out.old) (E.stream err.old))
+        (seen (F.text_at files.now) links.new (O.stream out.new) (E.stream err.new)) result }
 {
     one_table();
     no_fault();
@@ -47,32 +43,10 @@ pub fn run_job<F: ModuleFiles, L: Links, O: Output, E: Output>(
     one_tree();
     match job {
         Job::Translate(translate) => do_translate(alloc, translate, files, out, err),
-        Job::Get(get) => do_get(alloc, get, files, links, out, err),
-        Job::Walk(walk) => do_walk(alloc, walk, false, files, links, out, err),
-        Job::BulkWalk(walk) => do_walk(alloc, walk, true, files, links, out, err),
+        Job::Get(get) => do_ask(alloc, AskJob::of_get(get), files, links, out, err),
+        Job::Walk(walk) => do_ask(alloc, AskJob::of_walk(false, walk), files, links, out, err),
+        Job::BulkWalk(walk) => do_ask(alloc, AskJob::of_walk(true, walk), files, links, out, err),
         Job::Serve(serve) => do_serve(alloc, serve, files, links, out, err),
-    }
-}
-
-// Does the job of a walk.
-fn do_walk<F: ModuleFiles, L: Links, O: Output, E: Output>(
-    alloc: Global,
-    walk: &WalkJob<'_>,
-    bulk: bool,
-    files: &F,
-    links: &mut L,
-    out: &mut O,
-    err: &mut E,
-) -> u8
-    ensures { IsWalkRun
-        (HasLinkFacts (L.opens links.old) L.Wire.Link)
-        (risen (L.fault_count links.old) (L.fault_count links.new))
-        bulk (walk_words walk.now) (F.text_at files.now)
-        (O.stream out.old) (O.stream out.new) (E.stream err.old) (E.stream err.new) result }
-{
-    match walk_lines(alloc, walk, bulk, files, links, out, err) {
-        Ok(()) => 0,
-        Err(failure) => report(alloc, &failure, err),
     }
 }
 

@@ -1,59 +1,55 @@
-//! Judges the words of a walk: the plan that they ask for, or the first of them that has no
-//! meaning.
+//! Judges the words of a job that asks an agent: the plan that they ask for, or the first of them
+//! that has no meaning.
 ghost use Rattle.std.specs.Prelude.{◌≡◌, ◌↔◌, ◌≤◌, ℕ, List, Some, Ok, codes, length};
 ghost use Rattle.std.specs.Prelude.{IfErr, IfNone, IfOk, IfSome, IsTrue, option_map, string_bytes};
 ghost use Rattle.smi_show.specs.name.Meaning.{meaning};
-ghost use Rattle.smi_show.specs.name.Naming.{Naming};
-ghost use Rattle.snmp_walk.specs.Walker.{IsMethod};
-ghost use Rattle.snmp_words.specs.Words.{asking_words, walk_words};
+ghost use Rattle.snmp_words.specs.Words.{asking_words};
 ghost use Rattle.snmp_net.specs.Address.{address_of};
 ghost use Rattle.snmp_tools.specs.Asking.{AreShown, HasAgent, IsNameIfGiven, NameFails};
+ghost use Rattle.snmp_tools.specs.Chosen.{chosen};
 ghost use Rattle.snmp_tools.specs.Message.{fault_of};
 ghost use Rattle.snmp_io.specs.Files.{Holdings};
 ghost use Rattle.snmp_tools.specs.Mib.{Mib};
-ghost use Rattle.snmp_tools.specs.Plan.{AskFor, IsEarlyRefusal, root_text};
 ghost use Rattle.snmp_tools.specs.Planned.{AgentFails, AreOrdersOf, NamesFail, ShowingFails};
-ghost use Rattle.snmp_tools.specs.Planned.{plan_of};
+ghost use Rattle.snmp_tools.specs.Planned.{ask_words, mib_in, plan_of, question_of, request_of};
+ghost use Rattle.snmp_tools.specs.Question.{AskFor, IsEarlyRefusal, IsQuestionOf, choices_in};
+ghost use Rattle.snmp_tools.specs.Question.{counts_in};
 
 use crate::choices::Choices;
 use crate::failure::Failure;
-use crate::plan::{Orders, Plan};
-use smi_show::{Letters, NameTree, resolve};
+use crate::names::read_names;
+use crate::plan::{Orders, Plan, Question, Walk};
+use crate::request::{AskJob, Request};
+use smi_show::{Letters, NameTree, ShowTree, resolve};
 use snmp_net::AgentAddress;
 use snmp_oid::Oid;
-use snmp_words::{Asking, WalkJob};
+use snmp_words::Asking;
+use std::alloc::Global;
 
 impl<'a> Orders<'a> {
     ghost use Rattle.std.specs.Prelude.{IfErr, IfOk};
-    ghost use Rattle.snmp_words.specs.Words.{walk_words};
     ghost use Rattle.snmp_tools.specs.Message.{fault_of};
     ghost use Rattle.snmp_io.specs.Files.{Holdings};
-    ghost use Rattle.snmp_tools.specs.Plan.{IsEarlyRefusal};
-    ghost use Rattle.snmp_tools.specs.Planned.{AreOrdersOf};
+    ghost use Rattle.snmp_tools.specs.Planned.{AreOrdersOf, ask_words};
+    ghost use Rattle.snmp_tools.specs.Question.{IsEarlyRefusal};
 
-    /// What the words of snmpwalk, or of snmpbulkwalk, say before names are looked up.
-    pub(crate) fn read(walk: &WalkJob<'a>, bulk: bool) -> Result<Orders<'a>, Failure<'a>>
-        ensures orders { IfOk result (AreOrdersOf bulk (walk_words walk.now)) }
+    /// What the words say before names are looked up.
+    pub(crate) fn read(job: AskJob<'_, 'a>) -> Result<Orders<'a>, Failure<'a>>
+        ensures orders { IfOk result (AreOrdersOf (ask_words job.entry)) }
         ensures refused { (files : Holdings)
-            → IfErr result (λ e. IsEarlyRefusal bulk (walk_words walk.now) files (fault_of e)) }
+            → IfErr result (λ e. IsEarlyRefusal (ask_words job.entry) files (fault_of e)) }
     {
-        let letters = match read_shown(&walk.asking) {
-            Ok(letters) => letters,
-            Err(failure) => return Err(failure),
-        };
-        let choices = match Choices::read(&walk.letters, bulk) {
+        let letters = read_shown(job.asking)?;
+        let choices = match Choices::of(job.request) {
             Ok(choices) => choices,
             Err(letter) => return Err(Failure::Letter(letter)),
         };
-        let agent = match read_agent(&walk.asking) {
-            Ok(agent) => agent,
-            Err(failure) => return Err(failure),
-        };
+        let agent = read_agent(job.asking)?;
         Ok(Orders {
             letters,
             choices,
-            community: walk.asking.community.as_bytes(),
-            max_size: walk.asking.max_size as usize,
+            community: job.asking.community.as_bytes(),
+            max_size: job.asking.max_size as usize,
             agent,
         })
     }
@@ -61,49 +57,83 @@ impl<'a> Orders<'a> {
 
 impl<'a> Plan<'a> {
     ghost use Rattle.std.specs.Prelude.{IfErr, IfOk};
-    ghost use Rattle.snmp_walk.specs.Walker.{IsMethod};
-    ghost use Rattle.snmp_words.specs.Words.{WalkWords, walk_words};
     ghost use Rattle.snmp_tools.specs.Asking.{HasAgent};
     ghost use Rattle.snmp_tools.specs.Message.{fault_of};
-    ghost use Rattle.snmp_tools.specs.Mib.{Mib};
-    ghost use Rattle.snmp_tools.specs.Plan.{AskFor};
-    ghost use Rattle.snmp_tools.specs.Planned.{AreOrdersOf, NamesFail, plan_of};
+    ghost use Rattle.snmp_tools.specs.Planned.{AreOrdersOf, NamesFail, ask_words, mib_in, plan_of};
+    ghost use Rattle.snmp_tools.specs.Question.{AskFor};
 
     /// What the words ask for, by the names of a tree.
-    pub(crate) fn read<T: NameTree>(
-        walk: &WalkJob<'a>,
-        bulk: bool,
+    pub(crate) fn read<T: ShowTree>(
+        alloc: Global,
+        job: AskJob<'_, 'a>,
         orders: Orders<'a>,
         tree: &T,
     ) -> Result<Plan<'a>, Failure<'a>>
-        requires { AreOrdersOf bulk (walk_words walk.now) orders }
-        ensures asked { (mib : Mib) → mib.naming ≡ T.naming tree.now
-            → IfOk result (λ plan. AskFor bulk (walk_words walk.now) mib (plan_of plan)) }
+        requires { AreOrdersOf (ask_words job) orders }
+        ensures asked { IfOk result (λ plan. AskFor (ask_words job.entry)
+            (mib_in (T.naming tree.now) (T.syntax_at tree.now)) (plan_of plan)) }
         ensures only { IfOk result (λ plan.
-            HasAgent (walk_words walk.now).asking.agent (plan_of plan).agent) }
-        ensures method { IfOk result (λ plan. IsMethod plan.method) }
-        ensures refused { (mib : Mib) → mib.naming ≡ T.naming tree.now
-            → IfErr result (λ e. NamesFail (walk_words walk.now) mib (fault_of e)) }
+            HasAgent (ask_words job.entry).asking.agent (plan_of plan).agent) }
+        ensures refused { IfErr result (λ e. NamesFail (ask_words job.entry).request
+            (mib_in (T.naming tree.now) (T.syntax_at tree.now)) (fault_of e)) }
     {
-        let root = match name(tree, walk.name.unwrap_or(MIB_2)) {
-            Ok(root) => root,
-            Err(failure) => return Err(failure),
-        };
-        let after = match name_if_given(tree, walk.after) {
-            Ok(after) => after,
-            Err(failure) => return Err(failure),
-        };
+        let question = Question::read(alloc, job.request, orders.choices, tree)?;
         Ok(Plan {
             agent: orders.agent,
             community: orders.community,
             max_size: orders.max_size,
             letters: orders.letters,
-            root,
-            after,
-            mode: orders.choices.mode(),
-            method: orders.choices.method(bulk),
-            counts: orders.choices.counts,
+            question,
         })
+    }
+}
+
+impl Question {
+    ghost use Rattle.std.specs.Prelude.{◌≡◌, IfErr, IfOk, Ok};
+    ghost use Rattle.snmp_tools.specs.Chosen.{chosen};
+    ghost use Rattle.snmp_tools.specs.Message.{fault_of};
+    ghost use Rattle.snmp_tools.specs.Planned.{NamesFail, mib_in, question_of, request_of};
+    ghost use Rattle.snmp_tools.specs.Question.{IsQuestionOf, choices_in, counts_in};
+
+    /// Whether the number of bindings is printed after them.
+    pub(crate) fn counts(&self) -> bool
+        ensures { result ≡ counts_in (question_of self.now) }
+    {
+        match self {
+            Question::Get(_) => false,
+            Question::Walk(walk) => walk.counts,
+        }
+    }
+
+    // What a request asks for, by the names of a tree.
+    fn read<'a, T: ShowTree>(
+        alloc: Global,
+        request: Request<'_, 'a>,
+        choices: Choices,
+        tree: &T,
+    ) -> Result<Question, Failure<'a>>
+        requires { choices_in (request_of request) ≡ Ok (chosen choices) }
+        ensures stated { IfOk result (λ question. IsQuestionOf (request_of request.entry)
+            (chosen choices) (mib_in (T.naming tree.now) (T.syntax_at tree.now))
+            (question_of question)) }
+        ensures refused { IfErr result (λ e. NamesFail (request_of request.entry)
+            (mib_in (T.naming tree.now) (T.syntax_at tree.now)) (fault_of e)) }
+    {
+        match request {
+            Request::Get(texts) => Ok(Question::Get(read_names(alloc, tree, texts)?)),
+            Request::Walk {
+                bulk,
+                after,
+                name: root,
+                ..
+            } => Ok(Question::Walk(Walk {
+                root: name(tree, root.unwrap_or(MIB_2))?,
+                after: name_if_given(tree, after)?,
+                mode: choices.mode(),
+                method: choices.method(bulk),
+                counts: choices.counts,
+            })),
+        }
     }
 }
 

@@ -7,6 +7,7 @@ ghost use Rattle.snmp_words.specs.Command.{is_taken};
 ghost use Rattle.snmp_words.specs.Words.{snmpwalk, stated_job};
 ghost use Rattle.snmp_tools.specs.Headline.{EndsAtStatus0, WritesAllAtStatus0, WritesFront};
 ghost use Rattle.snmp_tools.specs.Planned.{numeric_walk};
+ghost use Rattle.snmp_tools.specs.Question.{of_walk};
 ghost use Rattle.snmp_tools.specs.TableWalk.{HoldsTableFile, PrintsRows, table_walk};
 
 use smi_show::numbers_are_read;
@@ -25,9 +26,9 @@ pub(crate) fn table_walks()
     ensures printed { (files : Holdings) (path root text : List ℕ)
         (before after err_before err_after : Stream) (status : ℕ)
         → HoldsTableFile files path root text
-        → WritesFront false (numeric_walk path root) files before after
-        → WritesAllAtStatus0 false (numeric_walk path root) files before after status
-        → EndsAtStatus0 false (numeric_walk path root) files before after
+        → WritesFront (of_walk false (numeric_walk path root)) files before after
+        → WritesAllAtStatus0 (of_walk false (numeric_walk path root)) files before after status
+        → EndsAtStatus0 (of_walk false (numeric_walk path root)) files before after
         err_before err_after status
         → PrintsRows (lines text) root before after err_before err_after status }
 {

@@ -7,8 +7,11 @@ ghost use Rattle.snmp_walk.specs.Walker.{IsMethod};
 ghost use Rattle.snmp_tools.specs.Chosen.{chosen};
 ghost use Rattle.snmp_tools.specs.Letters.{after_part, choices_of, is_digit, method_of, mode_of};
 ghost use Rattle.snmp_tools.specs.Letters.{no_choices, repetitions_in};
+ghost use Rattle.snmp_tools.specs.Planned.{request_of};
+ghost use Rattle.snmp_tools.specs.Question.{choices_in};
 
 use crate::choices::Choices;
+use crate::request::Request;
 use snmp_walk::{Method, Mode};
 
 impl Choices {
@@ -17,6 +20,20 @@ impl Choices {
     ghost use Rattle.snmp_tools.specs.Chosen.{chosen};
     ghost use Rattle.snmp_tools.specs.Letters.{after_part, choices_of, method_of, mode_of};
     ghost use Rattle.snmp_tools.specs.Letters.{no_choices};
+    ghost use Rattle.snmp_tools.specs.Planned.{request_of};
+    ghost use Rattle.snmp_tools.specs.Question.{choices_in};
+
+    /// What the letters of `-C` choose, where a request has any. The error is the first octet that
+    /// has no meaning.
+    pub(crate) fn of(request: Request<'_, '_>) -> Result<Choices, u8>
+        ensures { MatchResult result (λ c. choices_in (request_of request.entry) ≡ Ok (chosen c))
+            (λ octet. choices_in (request_of request.entry) ≡ Err octet) }
+    {
+        match request {
+            Request::Get(_) => Ok(Choices::none()),
+            Request::Walk { bulk, letters, .. } => Choices::read(letters, bulk),
+        }
+    }
 
     /// The choices before any letter.
     fn none() -> Choices
@@ -30,9 +47,9 @@ impl Choices {
         }
     }
 
-    /// Reads the letters of `-C`, for snmpbulkwalk or for snmpwalk. The error is the first octet
-    /// that has no meaning.
-    pub(crate) fn read(letters: &str, bulk: bool) -> Result<Choices, u8>
+    // Reads the letters of `-C`, for snmpbulkwalk or for snmpwalk. The error is the first octet
+    // that has no meaning.
+    fn read(letters: &str, bulk: bool) -> Result<Choices, u8>
         ensures { MatchResult result (λ c. choices_of bulk letters.now ≡ Ok (chosen c))
             (λ octet. choices_of bulk letters.now ≡ Err octet) }
     {

@@ -21,10 +21,10 @@
 #![tactic(auto)]
 
 mod agent;
+mod ask;
 mod choices;
 mod entry;
 mod failure;
-mod get;
 mod job;
 mod judge;
 mod laws;
@@ -33,12 +33,12 @@ mod lines;
 mod loading;
 mod names;
 mod plan;
+mod request;
 mod serve;
 mod start;
 mod table_names;
 mod translate;
 pub mod translation;
-mod walk;
 
 pub use crate::loading::{FilesError, ModuleFiles, WithoutModules, load_tree};
 pub use entry::tool;

@@ -1,18 +1,16 @@
 //! Lines on an output: one for each binding of a walk or a Get, as its reply comes, and the count
 //! after them.
-ghost use Rattle.std.specs.Prelude.{◌≡◌, ◌≤◌, ◌+◌, ◌++◌, All, IfErr, OnOk, length};
-ghost use Rattle.snmp_oid.specs.Identifier.{IsWire, wire};
-ghost use Rattle.snmp_walk.specs.Facts.{IsFresh};
-ghost use Rattle.snmp_walk.specs.Ran.{IsGotOver, IsWalkedOver};
+ghost use Rattle.std.specs.Prelude.{◌≡◌, ◌≤◌, ◌+◌, ◌++◌, IfErr, OnOk, length};
 ghost use Rattle.snmp_io.specs.Output.{FailsWithin, extended};
 ghost use Rattle.snmp_tools.specs.Lines.{ArePrinted, TakesText, count_line};
 ghost use Rattle.snmp_tools.specs.Planned.{mib_in};
+ghost use Rattle.snmp_tools.specs.Start.{CanRun, IsRunOver};
 
-use crate::start::FIRST_ID;
+use crate::start::{Begun, FIRST_ID};
 use smi_show::{Letters, ShowTree, line};
 use snmp_io::{Draft, Output, OutputFault, write_all};
 use snmp_oid::Oid;
-use snmp_walk::{Link, Rows, Sink, SinkFault, WalkCore, WalkEnd, run_get, run_walk};
+use snmp_walk::{Link, Rows, Sink, SinkFault, WalkEnd, run_get, run_walk};
 use snmp_wire::{Binding, ValueRef};
 use std::alloc::AllocError;
 
@@ -86,77 +84,40 @@ impl<T: ShowTree, O: Output> Sink for Printer<'_, T, O> {
 }
 
 impl<T: ShowTree, O: Output> Printer<'_, T, O> {
-    ghost use Rattle.std.specs.Prelude.{◌≡◌, ◌≤◌, ◌+◌, All, length};
-    ghost use Rattle.snmp_oid.specs.Identifier.{IsWire, wire};
-    ghost use Rattle.snmp_walk.specs.Facts.{IsFresh};
-    ghost use Rattle.snmp_walk.specs.Ran.{IsGotOver, IsWalkedOver};
+    ghost use Rattle.std.specs.Prelude.{◌≡◌, ◌≤◌, ◌+◌, length};
     ghost use Rattle.snmp_tools.specs.Lines.{ArePrinted};
     ghost use Rattle.snmp_tools.specs.Planned.{mib_in};
+    ghost use Rattle.snmp_tools.specs.Start.{CanRun, IsRunOver};
 
-    // Runs a walk whose bindings become lines.
-    fn print<L: Link>(&mut self, link: &mut L, core: WalkCore, retries: u32) -> WalkEnd
-        requires { IsFresh core }
-        ensures same_output { self.new.out.ghost_name ≡ self.old.out.ghost_name }
-        ensures printed { ArePrinted
-            (mib_in (T.naming self.old.tree.now) (T.syntax_at self.old.tree.now)) self.old.letters
-            (O.stream self.old.out.now) (O.stream self.new.out.now) result
-            (λ rows refused.
-            IsWalkedOver L.Link link.old link.new (retries + 1) core rows refused result) }
-    {
-        run_walk(link, core, retries, self)
-    }
-
-    // Runs a Get of names whose bindings become lines. Where there are no names, nothing is asked.
-    fn print_got<L: Link>(
+    // Asks a question, whose bindings become lines. Where it has no names, nothing is asked.
+    fn print<L: Link>(
         &mut self,
         link: &mut L,
-        names: &[Oid],
+        begun: Begun<'_>,
         community: &[u8],
         retries: u32,
     ) -> WalkEnd
-        requires wire { All (λ o. IsWire (wire o)) names.now }
+        requires sendable { CanRun begun }
         requires community { length community.now ≤ 255 }
         ensures same_output { self.new.out.ghost_name ≡ self.old.out.ghost_name }
         ensures printed { ArePrinted
             (mib_in (T.naming self.old.tree.now) (T.syntax_at self.old.tree.now)) self.old.letters
             (O.stream self.old.out.now) (O.stream self.new.out.now) result
-            (λ given refused. IsGotOver L.Link link.old link.new (retries + 1)
-            community.now 1 names.now given refused result) }
+            (λ given refused. IsRunOver L.Link link.old link.new (retries + 1)
+            community.now begun.entry given refused result) }
     {
-        run_get(link, names, community, FIRST_ID, retries, self)
+        match begun {
+            Begun::Get(names) => run_get(link, names, community, FIRST_ID, retries, self),
+            Begun::Walk(core) => run_walk(link, core, retries, self),
+        }
     }
 }
 
-/// Runs a walk whose bindings become lines on the output. `text` is the memory for a line.
-pub(crate) fn print_walk<T: ShowTree, L: Link, O: Output>(
+/// Asks a question, whose bindings become lines on the output. `text` is the memory for a line.
+/// Where it has no names, nothing is asked.
+pub(crate) fn print_lines<T: ShowTree, L: Link, O: Output>(
     link: &mut L,
-    core: WalkCore,
-    retries: u32,
-    tree: &T,
-    letters: Letters,
-    text: &mut Vec<u8>,
-    out: &mut O,
-) -> WalkEnd
-    requires { IsFresh core }
-    ensures printed { ArePrinted (mib_in (T.naming tree.now) (T.syntax_at tree.now)) letters
-        (O.stream out.old) (O.stream out.new) result
-        (λ rows refused.
-        IsWalkedOver L.Link link.old link.new (retries + 1) core rows refused result) }
-{
-    let mut printer = Printer {
-        tree,
-        letters,
-        text,
-        out,
-    };
-    printer.print(link, core, retries)
-}
-
-/// Runs a Get of names whose bindings become lines on the output. `text` is the memory for a line.
-/// Where there are no names, nothing is asked.
-pub(crate) fn print_get<T: ShowTree, L: Link, O: Output>(
-    link: &mut L,
-    names: &[Oid],
+    begun: Begun<'_>,
     community: &[u8],
     retries: u32,
     tree: &T,
@@ -164,12 +125,12 @@ pub(crate) fn print_get<T: ShowTree, L: Link, O: Output>(
     text: &mut Vec<u8>,
     out: &mut O,
 ) -> WalkEnd
-    requires wire { All (λ o. IsWire (wire o)) names.now }
+    requires sendable { CanRun begun }
     requires community { length community.now ≤ 255 }
     ensures printed { ArePrinted (mib_in (T.naming tree.now) (T.syntax_at tree.now)) letters
         (O.stream out.old) (O.stream out.new) result
-        (λ given refused. IsGotOver L.Link link.old link.new (retries + 1)
-        community.now 1 names.now given refused result) }
+        (λ given refused. IsRunOver L.Link link.old link.new (retries + 1)
+        community.now begun.entry given refused result) }
 {
     let mut printer = Printer {
         tree,
@@ -177,7 +138,7 @@ pub(crate) fn print_get<T: ShowTree, L: Link, O: Output>(
         text,
         out,
     };
-    printer.print_got(link, names, community, retries)
+    printer.print(link, begun, community, retries)
 }
 
 /// Prints the number of bindings that were found. `text` is the memory for the line.

@@ -3,7 +3,7 @@ ghost use Rattle.std.specs.Prelude.{◌≡◌, ◌⊎◌, List, ℕ, All, IfErr,
 ghost use Rattle.snmp_oid.specs.Identifier.{IsWire, wire};
 ghost use Rattle.snmp_words.specs.Words.{texts_at};
 ghost use Rattle.snmp_tools.specs.Asking.{NameFails};
-ghost use Rattle.snmp_tools.specs.Get.{AreNames, HasMeaning, HasSendable, HasUnsendable};
+ghost use Rattle.snmp_tools.specs.Question.{AreNames, HasMeaning, HasSendable, HasUnsendable};
 ghost use Rattle.snmp_tools.specs.Message.{fault_of, out_of_memory};
 ghost use Rattle.snmp_tools.specs.Mib.{Mib};
 ghost use Rattle.snmp_tools.specs.Planned.{mib_in};

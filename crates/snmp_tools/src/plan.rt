@@ -1,5 +1,7 @@
-//! The plan of a walk, or of a Get: what its words ask for.
+//! The plan that is made of the words of a job that asks an agent.
 ghost use Rattle.std.specs.Prelude.{◌≤◌, length};
+ghost use Rattle.snmp_walk.specs.Walker.{IsMethod};
+ghost use Rattle.snmp_tools.specs.Letters.{IsMethod-prop};
 
 use crate::choices::Choices;
 use smi_show::Letters;
@@ -7,7 +9,7 @@ use snmp_net::AgentAddress;
 use snmp_oid::Oid;
 use snmp_walk::{Method, Mode};
 
-/// What the words of a walk say, before any file is read and names are looked up.
+/// What the words say, before any file is read and names are looked up.
 #[derive(Clone, Copy, Debug)]
 pub(crate) struct Orders<'a> {
     /// How lines are shown.
@@ -27,15 +29,7 @@ pub(crate) struct Orders<'a> {
 
 /// A walk.
 #[derive(Debug, Drop)]
-pub(crate) struct Plan<'a> {
-    /// Where the agent is.
-    pub(crate) agent: AgentAddress<'a>,
-    /// The community of requests and of the agent.
-    pub(crate) community: &'a [u8],
-    /// The greatest size of the agent's messages, in octets.
-    pub(crate) max_size: usize,
-    /// How its lines are shown.
-    pub(crate) letters: Letters,
+pub(crate) struct Walk {
     /// The root of the subtree.
     pub(crate) root: Oid,
     /// The name after which the walk goes on, if one is given.
@@ -46,24 +40,31 @@ pub(crate) struct Plan<'a> {
     pub(crate) method: Method,
     /// Whether the number of bindings is printed after them.
     pub(crate) counts: bool,
-    ghost short_community: { length community.now ≤ 255 },
-    ghost some_size: { 1 ≤ max_size },
-    ghost datagram_size: { max_size ≤ 65507 },
+    ghost good_method: { IsMethod method } by { IsMethod-prop method },
 }
 
-/// A Get.
+/// A Get of names, or a walk.
 #[derive(Debug, Drop)]
-pub(crate) struct GetPlan<'a> {
+pub(crate) enum Question {
+    /// The names, in order.
+    Get(Vec<Oid>),
+    /// The walk.
+    Walk(Walk),
+}
+
+/// A question, to whom, and how the answer is shown.
+#[derive(Debug, Drop)]
+pub(crate) struct Plan<'a> {
     /// Where the agent is.
     pub(crate) agent: AgentAddress<'a>,
-    /// The community of the request and of the agent.
+    /// The community of requests and of the agent.
     pub(crate) community: &'a [u8],
     /// The greatest size of the agent's messages, in octets.
     pub(crate) max_size: usize,
     /// How its lines are shown.
     pub(crate) letters: Letters,
-    /// The names, in order.
-    pub(crate) names: Vec<Oid>,
+    /// What is asked.
+    pub(crate) question: Question,
     ghost short_community: { length community.now ≤ 255 },
     ghost some_size: { 1 ≤ max_size },
     ghost datagram_size: { max_size ≤ 65507 },

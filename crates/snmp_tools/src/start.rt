@@ -1,6 +1,5 @@
-//! How a walk begins: its names must have an encoding.
-ghost use Rattle.std.specs.Prelude.{◌≡◌, ◌⊎◌, IfErr, IfOk, unwrap_or, option_map, [], List, ℕ};
-ghost use Rattle.std.specs.Prelude.{length, ◌≤◌};
+//! How a question begins: its names must have an encoding.
+ghost use Rattle.std.specs.Prelude.{◌≡◌, ◌⊎◌, ◌≤◌, IfErr, IfOk, List, ℕ, length};
 ghost use Rattle.snmp_oid.specs.Identifier.{IsWire, wire};
 ghost use Rattle.snmp_agent.specs.table.Listing.{variables};
 ghost use Rattle.snmp_agent.specs.table.Table.{MibView};
@@ -8,61 +7,110 @@ ghost use Rattle.snmp_wire.specs.Message.{VarBind};
 ghost use Rattle.snmp_walk.specs.Facts.{IsFresh, walk_at};
 ghost use Rattle.snmp_walk.specs.Request.{resumed};
 ghost use Rattle.snmp_walk.specs.Walk.{rest_of};
-ghost use Rattle.snmp_walk.specs.Walker.{IsMethod};
+ghost use Rattle.snmp_tools.specs.Letters.{Choices};
 ghost use Rattle.snmp_tools.specs.Message.{fault_of};
-ghost use Rattle.snmp_tools.specs.Planned.{plan_of};
-ghost use Rattle.snmp_tools.specs.Start.{IsStartOf, ResumeFails, StartFails};
+ghost use Rattle.snmp_tools.specs.Mib.{Mib};
+ghost use Rattle.snmp_tools.specs.Planned.{question_of, request_of, walk_of};
+ghost use Rattle.snmp_tools.specs.Question.{IsQuestionOf};
+ghost use Rattle.snmp_tools.specs.Start.{BeginFails, IsBegun, IsStartOf, ResumeFails, StartFails};
 
 use crate::failure::Failure;
-use crate::plan::Plan;
+use crate::judge::MIB_2;
+use crate::names::check_names;
+use crate::plan::{Plan, Question, Walk};
+use crate::request::Request;
 use snmp_oid::Oid;
 use snmp_walk::WalkCore;
 
 /// The id of the first request.
 pub(crate) const FIRST_ID: u32 = 1;
 
-/// The walk of a plan before its first request. The texts are those of its root and of the name to
-/// go on after.
-pub(crate) fn start<'a>(
-    plan: &Plan<'a>,
+/// A question before its first request. Its names can be sent.
+#[derive(Drop)]
+pub(crate) enum Begun<'p> {
+    /// The names of a Get.
+    Get(&'p [Oid]),
+    /// A walk.
+    Walk(WalkCore),
+}
+
+/// The question of a plan before its first request, whose names a failure has by their texts.
+pub(crate) fn begin<'p, 'a>(
+    plan: &'p Plan<'a>,
+    request: Request<'_, 'a>,
+) -> Result<Begun<'p>, Failure<'a>>
+    requires { (choices : Choices) × (mib : Mib)
+        × IsQuestionOf (request_of request) choices mib (question_of plan.now.question) }
+    ensures ok { IfOk result
+        (IsBegun plan.now.community.now (question_of plan.now.question)) }
+    ensures err { IfErr result (λ e. BeginFails (request_of request.entry)
+        (question_of plan.now.question) (fault_of e)) }
+{
+    match &plan.question {
+        Question::Get(names) => match request {
+            Request::Get(texts) => {
+                check_names(texts, names)?;
+                Ok(Begun::Get(names))
+            }
+            Request::Walk { .. } => unreachable!(),
+        },
+        Question::Walk(walk) => match request {
+            Request::Get(_) => unreachable!(),
+            Request::Walk { after, name, .. } => {
+                let (root_text, after_text) = (name.unwrap_or(MIB_2), after.unwrap_or(""));
+                Ok(Begun::Walk(start(walk, plan.community, root_text, after_text)?))
+            }
+        },
+    }
+}
+
+// A walk before its first request. The texts are those of its root and of the name to go on after.
+fn start<'a>(
+    walk: &Walk,
+    community: &[u8],
     root_text: &'a str,
     after_text: &'a str,
 ) -> Result<WalkCore, Failure<'a>>
-    requires { IsMethod plan.now.method }
-    ensures ok { IfOk result (λ core. IsStartOf core (plan_of plan.now)) }
+    requires { length community.now ≤ 255 }
+    ensures ok { IfOk result (λ core. IsStartOf core community.now (walk_of walk.now)) }
     ensures err { IfErr result (λ e.
-        StartFails (plan_of plan.now) root_text.now after_text.now (fault_of e)) }
+        StartFails (walk_of walk.now) root_text.now after_text.now (fault_of e)) }
 {
-    if plan.root.to_wire().is_err() {
+    if walk.root.to_wire().is_err() {
         return Err(Failure::NotWire(root_text));
     }
-    if let Some(after) = &plan.after {
-        return resume(plan, after, after_text);
+    if let Some(after) = &walk.after {
+        return resume(walk, community, after, after_text);
     }
-    let root = copied(&plan.root);
-    match WalkCore::start(root, plan.mode, plan.method, plan.community, FIRST_ID) {
+    let root = copied(&walk.root);
+    match WalkCore::start(root, walk.mode, walk.method, community, FIRST_ID) {
         Ok(core) => Ok(core),
         Err(_) => Err(Failure::NotWire(root_text)),
     }
 }
 
 // The walk that goes on after a name.
-fn resume<'a>(plan: &Plan<'a>, after: &Oid, text: &'a str) -> Result<WalkCore, Failure<'a>>
-    requires sendable { IsWire (wire plan.now.root) }
-    requires method { IsMethod plan.now.method }
+fn resume<'a>(
+    walk: &Walk,
+    community: &[u8],
+    after: &Oid,
+    text: &'a str,
+) -> Result<WalkCore, Failure<'a>>
+    requires sendable { IsWire (wire walk.now.root) }
+    requires community { length community.now ≤ 255 }
     ensures resumed { IfOk result (λ core.
-        core ≡ resumed plan.now.root after.now plan.now.method plan.now.community.now 1) }
+        core ≡ resumed walk.now.root after.now walk.now.method community.now 1) }
     ensures fresh { IfOk result IsFresh }
     ensures gives { IfOk result (λ core. (view : MibView) (got : VarBind)
-        → walk_at core view got ≡ rest_of plan.now.root (wire after.now) (variables view)) }
+        → walk_at core view got ≡ rest_of walk.now.root (wire after.now) (variables view)) }
     ensures err { IfErr result (λ e.
-        ResumeFails plan.now.root after.now text.now (fault_of e)) }
+        ResumeFails walk.now.root after.now text.now (fault_of e)) }
 {
-    if *after != plan.root && !after.is_below(&plan.root) {
+    if *after != walk.root && !after.is_below(&walk.root) {
         return Err(Failure::AfterOutsideRoot(text));
     }
-    let root = copied(&plan.root);
-    match WalkCore::resume(root, after, plan.method, plan.community, FIRST_ID) {
+    let root = copied(&walk.root);
+    match WalkCore::resume(root, after, walk.method, community, FIRST_ID) {
         Ok(core) => Ok(core),
         Err(_) => Err(Failure::NotWire(text)),
     }

@@ -15,6 +15,8 @@ mod mibs;
 #[cfg(test)]
 mod network;
 #[cfg(test)]
+mod opened;
+#[cfg(test)]
 mod options;
 #[cfg(test)]
 mod run;

@@ -72,7 +72,7 @@ pub(crate) fn snmp_command<'a>(alloc: Global) -> Made<'a>
     with_command(with_bulk_walk, serve_command(alloc))
 }
 
-// The command with one more subcommand.
+/// The command with one more subcommand.
 fn with_command<'a>(command: Made<'a>, subcommand: Made<'a>) -> Made<'a>
     ensures { (app sub : App) → IsMade command.entry app → IsMade subcommand.entry sub
         → sub.top.is_plain ≡ true → IsMade result (with_subcommand app sub.top) }
@@ -86,6 +86,7 @@ fn with_command<'a>(command: Made<'a>, subcommand: Made<'a>) -> Made<'a>
     }
 }
 
+/// The command with one more subcommand, if that was made.
 fn extended<'a>(command: Command<'a>, subcommand: Made<'a>) -> Made<'a>
     ensures { (app sub : App) → app_of command.entry ≡ app → IsMade subcommand.entry sub
         → sub.top.is_plain ≡ true → IsMade result (with_subcommand app sub.top) }
@@ -99,7 +100,7 @@ fn extended<'a>(command: Command<'a>, subcommand: Made<'a>) -> Made<'a>
     }
 }
 
-// The command with one more option or word.
+/// The command with one more option or word.
 fn with_arg<'a>(command: Made<'a>, arg: Arg<'a>) -> Made<'a>
     ensures { (app : App) (rule : Rule) → IsMade command.entry app → rule_of arg.entry ≡ rule
         → arg.entry.global ≡ false → IsMade result (with_rule app rule) }
@@ -113,6 +114,7 @@ fn with_arg<'a>(command: Made<'a>, arg: Arg<'a>) -> Made<'a>
     }
 }
 
+/// The program's own command, without subcommands.
 fn top_command<'a>(alloc: Global) -> Command<'a>
     ensures { app_of result ≡ top_app }
 {
@@ -127,13 +129,14 @@ fn top_command<'a>(alloc: Global) -> Command<'a>
         .disable_help_subcommand(true)
 }
 
-// A command with no words as yet, the line that help has on it, and what stands after its help.
+/// A command with no words as yet, the line that help has on it, and what stands after its help.
 fn described<'a>(alloc: Global, name: &'a str, about: &'a str, end: &'a str) -> Command<'a>
     ensures { app_of result ≡ new_app name.now }
 {
     Command::new(alloc, name).about(about).after_help(end)
 }
 
+/// The command snmptranslate.
 fn translate_command<'a>(alloc: Global) -> Made<'a>
     ensures { IsMade result translate_app }
 {
@@ -142,6 +145,7 @@ fn translate_command<'a>(alloc: Global) -> Made<'a>
     with_translating(alloc, Ok(command))
 }
 
+/// The command snmpget.
 fn get_command<'a>(alloc: Global) -> Made<'a>
     ensures { IsMade result get_app }
 {
@@ -150,6 +154,7 @@ fn get_command<'a>(alloc: Global) -> Made<'a>
     with_getting(alloc, with_asking(alloc, Ok(command)))
 }
 
+/// The command snmpwalk.
 fn walk_command<'a>(alloc: Global) -> Made<'a>
     ensures { IsMade result (walk_app (codes "snmpwalk")) }
 {
@@ -158,6 +163,7 @@ fn walk_command<'a>(alloc: Global) -> Made<'a>
     with_walking(alloc, with_asking(alloc, Ok(command)))
 }
 
+/// The command snmpbulkwalk.
 fn bulk_walk_command<'a>(alloc: Global) -> Made<'a>
     ensures { IsMade result (walk_app (codes "snmpbulkwalk")) }
 {
@@ -166,6 +172,7 @@ fn bulk_walk_command<'a>(alloc: Global) -> Made<'a>
     with_walking(alloc, with_asking(alloc, Ok(command)))
 }
 
+/// The command snmpd.
 fn serve_command<'a>(alloc: Global) -> Made<'a>
     ensures { IsMade result serve_app }
 {
@@ -174,7 +181,7 @@ fn serve_command<'a>(alloc: Global) -> Made<'a>
     with_serving(alloc, Ok(command))
 }
 
-// The options and words of a translation.
+/// The options and words of a translation.
 fn with_translating<'a>(alloc: Global, command: Made<'a>) -> Made<'a>
     ensures { (app : App) → IsMade command.entry app
         → IsMade result (with_rules app translating_rules) }
@@ -185,7 +192,7 @@ fn with_translating<'a>(alloc: Global, command: Made<'a>) -> Made<'a>
     with_arg(detailed, options::names_word(alloc))
 }
 
-// The options that say how an agent is asked, and how the replies are shown.
+/// The options that say how an agent is asked, and how the replies are shown.
 fn with_asking<'a>(alloc: Global, command: Made<'a>) -> Made<'a>
     ensures { (app : App) → IsMade command.entry app
         → IsMade result (with_rules app asking_rules) }
@@ -193,6 +200,7 @@ fn with_asking<'a>(alloc: Global, command: Made<'a>) -> Made<'a>
     with_sending(alloc, with_showing(alloc, command))
 }
 
+/// The options that say how names and values are shown, with the version and the community.
 fn with_showing<'a>(alloc: Global, command: Made<'a>) -> Made<'a>
     ensures { (app : App) → IsMade command.entry app
         → IsMade result (with_rules app showing_rules) }
@@ -203,6 +211,8 @@ fn with_showing<'a>(alloc: Global, command: Made<'a>) -> Made<'a>
     with_arg(versioned, options::community_option(alloc))
 }
 
+/// The options that say how often a request is sent, how long each reply is waited for, and how
+/// long one may be.
 fn with_sending<'a>(alloc: Global, command: Made<'a>) -> Made<'a>
     ensures { (app : App) → IsMade command.entry app
         → IsMade result (with_rules app sending_rules) }
@@ -212,7 +222,7 @@ fn with_sending<'a>(alloc: Global, command: Made<'a>) -> Made<'a>
     with_arg(timed, options::size_option(alloc))
 }
 
-// The words of a get.
+/// The words of a get.
 fn with_getting<'a>(alloc: Global, command: Made<'a>) -> Made<'a>
     ensures { (app : App) → IsMade command.entry app
         → IsMade result (with_rules app getting_rules) }
@@ -221,7 +231,7 @@ fn with_getting<'a>(alloc: Global, command: Made<'a>) -> Made<'a>
     with_arg(placed, options::names_word(alloc))
 }
 
-// The options and words of a walk.
+/// The options and words of a walk.
 fn with_walking<'a>(alloc: Global, command: Made<'a>) -> Made<'a>
     ensures { (app : App) → IsMade command.entry app
         → IsMade result (with_rules app walking_rules) }
@@ -232,7 +242,7 @@ fn with_walking<'a>(alloc: Global, command: Made<'a>) -> Made<'a>
     with_arg(placed, options::name_word(alloc))
 }
 
-// The options of an agent.
+/// The options of an agent.
 fn with_serving<'a>(alloc: Global, command: Made<'a>) -> Made<'a>
     ensures { (app : App) → IsMade command.entry app
         → IsMade result (with_rules app serving_rules) }
@@ -243,6 +253,7 @@ fn with_serving<'a>(alloc: Global, command: Made<'a>) -> Made<'a>
     with_arg(bounded, options::turns_option(alloc))
 }
 
+/// The options that say where an agent listens, and how long it serves.
 fn with_place<'a>(alloc: Global, command: Made<'a>) -> Made<'a>
     ensures { (app : App) → IsMade command.entry app
         → IsMade result (with_rules app place_rules) }

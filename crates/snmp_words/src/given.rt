@@ -32,6 +32,7 @@ pub(crate) fn job_of<'a>(alloc: Global, matches: &ArgMatches<'a>) -> Result<Job<
     }
 }
 
+/// The job of snmptranslate.
 fn translate_job<'a>(alloc: Global, given: &ArgMatches<'a>) -> Result<TranslateJob<'a>, AllocError>
     ensures { IfOk result (λ job.
         translate_words job ≡ translate_of_rows (rows_of (found_of given.now))) }
@@ -47,6 +48,7 @@ fn translate_job<'a>(alloc: Global, given: &ArgMatches<'a>) -> Result<TranslateJ
     })
 }
 
+/// The job of snmpget.
 fn get_job<'a>(alloc: Global, given: &ArgMatches<'a>) -> Result<GetJob<'a>, AllocError>
     ensures { IfOk result (λ job. get_words job ≡ get_of_rows (rows_of (found_of given.now))) }
 {
@@ -55,6 +57,7 @@ fn get_job<'a>(alloc: Global, given: &ArgMatches<'a>) -> Result<GetJob<'a>, Allo
     Ok(GetJob { asking, names })
 }
 
+/// The job of snmpwalk or snmpbulkwalk.
 fn walk_job<'a>(alloc: Global, given: &ArgMatches<'a>) -> Result<WalkJob<'a>, AllocError>
     ensures { IfOk result (λ job. walk_words job ≡ walk_of_rows (rows_of (found_of given.now))) }
 {
@@ -68,6 +71,7 @@ fn walk_job<'a>(alloc: Global, given: &ArgMatches<'a>) -> Result<WalkJob<'a>, Al
     })
 }
 
+/// The job of snmpd.
 fn serve_job<'a>(alloc: Global, given: &ArgMatches<'a>) -> Result<ServeJob<'a>, AllocError>
     ensures { IfOk result (λ job. serve_words job ≡ serve_of_rows (rows_of (found_of given.now))) }
 {
@@ -82,6 +86,7 @@ fn serve_job<'a>(alloc: Global, given: &ArgMatches<'a>) -> Result<ServeJob<'a>, 
     })
 }
 
+/// How an agent is asked.
 fn asking_of<'a>(alloc: Global, given: &ArgMatches<'a>) -> Result<Asking<'a>, AllocError>
     ensures { IfOk result (λ asking.
         asking_words asking ≡ asking_of_rows (rows_of (found_of given.now))) }
@@ -100,7 +105,7 @@ fn asking_of<'a>(alloc: Global, given: &ArgMatches<'a>) -> Result<Asking<'a>, Al
     })
 }
 
-// The first text given for an id.
+/// The first text given for an id.
 fn first_text<'a>(given: &ArgMatches<'a>, id: &str) -> Option<&'a str>
     ensures { option_map (λ text. text.now) result
         ≡ first_of id.now (rows_of (found_of given.now)) }
@@ -108,7 +113,7 @@ fn first_text<'a>(given: &ArgMatches<'a>, id: &str) -> Option<&'a str>
     given.get_str(id)
 }
 
-// The texts given for an id, in order.
+/// The texts given for an id, in order.
 fn all_texts<'a>(
     alloc: Global,
     given: &ArgMatches<'a>,
@@ -123,7 +128,7 @@ fn all_texts<'a>(
     }
 }
 
-// The texts given for an id, one after the other.
+/// The texts given for an id, one after the other.
 fn joined(alloc: Global, given: &ArgMatches<'_>, id: &str) -> Result<String, AllocError>
     ensures { IfOk result (λ text.
         string_bytes text ≡ joined_of id.now (rows_of (found_of given.now))) }
@@ -134,7 +139,7 @@ fn joined(alloc: Global, given: &ArgMatches<'_>, id: &str) -> Result<String, All
     }
 }
 
-// The number given for an id, or the default where none of the range was.
+/// The number given for an id, or the default where none of the range was.
 fn number(given: &ArgMatches<'_>, id: &str, default: u64, low: u64, high: u64) -> u64
     requires from { low ≤ default }
     requires to { default ≤ high }
@@ -148,7 +153,7 @@ fn number(given: &ArgMatches<'_>, id: &str, default: u64, low: u64, high: u64) -
     }
 }
 
-// The number that a text of decimal digits states, where it is in the range.
+/// The number that a text of decimal digits states, where it is in the range.
 fn number_in(text: &str, low: u64, high: u64) -> Option<u64>
     ensures value { result ≡ number_in low high text.now }
     ensures range { IfSome result (λ n. (low ≤ n) × (n ≤ high)) }

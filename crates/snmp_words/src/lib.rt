@@ -112,7 +112,7 @@ pub fn gets_are_taken()
         ≡ Some (snmpget (words_of_get modules host first second)) }
 {}
 
-// Help and the version are what was asked for.
+/// What the parser's refusal is to the user: help and the version are what was asked for.
 fn usage_error(alloc: Global, error: &clap::Error, words: &[&str]) -> UsageError
     ensures memory { kind_of error.now ≡ ErrorKind.OutOfMemory → IsMemory result }
     ensures refusal { StandsFor result (kind_of error.now) }

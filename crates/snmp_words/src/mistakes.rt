@@ -144,7 +144,7 @@ pub(crate) fn text_of(
     }
 }
 
-// The command that the words begin with, if they begin with one.
+/// The command that the words begin with, if they begin with one.
 fn command_of<'a>(words: &[&'a str]) -> Option<&'a str> {
     match words.get(1) {
         Some(word) if is_command(word) => Some(*word),
@@ -152,6 +152,7 @@ fn command_of<'a>(words: &[&'a str]) -> Option<&'a str> {
     }
 }
 
+/// Whether the word names a command.
 fn is_command(word: &str) -> bool {
     matches!(
         word,
@@ -159,8 +160,10 @@ fn is_command(word: &str) -> bool {
     )
 }
 
-// The parser's text has parts with an empty line between: the mistake; tips, or none; the usage, or
-// none; and the help to read.
+/// The parser's text with the tips of this program in place of its own.
+///
+/// That text has parts with an empty line between: the mistake; tips, or none; the usage, or none;
+/// and the help to read.
 fn explained(alloc: Global, text: &str, command: Option<&str>) -> Result<String, AllocError> {
     let (mistake, rest) = text.split_once("\n\n").unwrap_or((text, ""));
     let (tips, rest) = tips_before(rest);
@@ -180,7 +183,7 @@ fn explained(alloc: Global, text: &str, command: Option<&str>) -> Result<String,
     Ok(explained)
 }
 
-// The tips that a text begins with, and what follows them.
+/// The tips that a text begins with, and what follows them.
 fn tips_before(text: &str) -> (&str, &str) {
     if text.starts_with("  tip: ") {
         text.split_once("\n\n").unwrap_or((text, ""))
@@ -189,8 +192,8 @@ fn tips_before(text: &str) -> (&str, &str) {
     }
 }
 
-// The first of the parser's tips. One to pass a word that begins with a hyphen as a value doesn't
-// count: no agent and no name begins with one.
+/// The first of the parser's tips. One to pass a word that begins with a hyphen as a value doesn't
+/// count: no agent and no name begins with one.
 fn tip_among_parsers(tips: &str) -> Option<&str> {
     let (first, _) = tips.split_once('\n').unwrap_or((tips, ""));
     let tip = first.strip_prefix("  tip: ")?;
@@ -201,7 +204,7 @@ fn tip_among_parsers(tips: &str) -> Option<&str> {
     }
 }
 
-// What to write in place of what a mistake names.
+/// What to write in place of what a mistake names.
 fn tip_on(mistake: &str, command: Option<&str>) -> Option<&'static str> {
     if let Some(name) = between("error: unrecognized subcommand '", mistake, "'") {
         return tip_among(COMMANDS, name);
@@ -215,6 +218,7 @@ fn tip_on(mistake: &str, command: Option<&str>) -> Option<&'static str> {
     tip_among(VALUES, option_of(mistake)?)
 }
 
+/// What to write in place of a word that isn't known.
 fn tip_on_word(word: &str, command: Option<&str>) -> Option<&'static str> {
     match command {
         None => Some("the command comes first, as in snmp snmpwalk -On AGENT"),
@@ -226,7 +230,7 @@ fn tip_on_word(word: &str, command: Option<&str>) -> Option<&'static str> {
     }
 }
 
-// The option whose value a mistake is about.
+/// The option whose value a mistake is about.
 fn option_of(mistake: &str) -> Option<&str> {
     if let Some(rest) = mistake.strip_prefix("error: a value is required for '") {
         let (option, _) = rest.split_once("' but")?;
@@ -238,10 +242,12 @@ fn option_of(mistake: &str) -> Option<&str> {
     Some(option)
 }
 
+/// What stands between the beginning and the end of a text, where these are such.
 fn between<'t>(before: &str, text: &'t str, after: &str) -> Option<&'t str> {
     text.strip_prefix(before)?.strip_suffix(after)
 }
 
+/// The tip on a word, if there is one among these.
 fn tip_among(tips: Tips, word: &str) -> Option<&'static str> {
     for (name, tip) in tips {
         if *name == word {

@@ -3,18 +3,17 @@ use Rattle.snmp_words.specs.Command.{faults_of}
 use Rattle.snmp_words.specs.Words.{HasFaultOf, snmpwalk, stated_job, texts_at}
 use Rattle.snmp_words.specs.declared.UsageError.{UsageError}
 use Rattle.snmp_words.specs.declared.UsageError.TheVariants.{Parse}
-use Rattle.snmp_tools.specs.agent.Outcome.{AtDoor}
 use Rattle.snmp_tools.specs.Planned.{numeric_walk}
 use Rattle.snmp_tools.proofs.Jobs.{of_words, undone}
 use Rattle.snmp_tools.proofs.entry.tool.Goals as goal
 
 pub returns-in-Ok-clause-done : goal.returns-in-Ok-clause-done
 returns-in-Ok-clause-done g c = λ job taken stated.
-    of_words (g.L.Links.opens c.args.links.now) g.L.Wire.Link _ _ _ _ _ job _ c.in-Ok.ensures.job stated c.run_job.ensures
+    of_words g.L.Links g.L.Wire.Link _ _ _ _ job _ c.in-Ok.ensures.job stated c.run_job.ensures
 
 pub returns-in-Err-Memory-clause-done : goal.returns-in-Err-Memory-clause-done
 returns-in-Err-Memory-clause-done g c = λ job taken stated.
-    undone (g.L.Links.opens c.args.links.now) g.L.Wire.Link _ (g.F.Files.text_at c.args.files.now) (g.L.Links.fault_count c.args.links.now)
+    undone g.L.Links g.L.Wire.Link (g.F.Files.text_at c.args.files.now) c.args.links.now
     (g.O.Output.stream c.args.out.now) (g.E.Output.stream c.args.err.now) _ c.tell-in-Err-Memory.ensures job
 
 pub returns-in-Err-Parse-default-false-clause-help_or_mistake : goal.returns-in-Err-Parse-default-false-clause-help_or_mistake
@@ -30,13 +29,13 @@ returns-in-Err-Parse-default-false-clause-help_or_mistake g c = λ faulty.
 
 pub returns-in-Ok-clause-rows_printed : goal.returns-in-Ok-clause-rows_printed
 returns-in-Ok-clause-rows_printed g c = λ path root text words holds.
-    let done = of_words (g.L.Links.opens c.args.links.now) g.L.Wire.Link _ _ _ _ _ (snmpwalk (numeric_walk path root)) _ c.in-Ok.ensures.job
+    let done = of_words g.L.Links g.L.Wire.Link _ _ _ _ (snmpwalk (numeric_walk path root)) _ c.in-Ok.ensures.job
     (ap stated_job words ∙ c.table_walks.ensures.stated path root) c.run_job.ensures in
     c.table_walks.ensures.printed _ path root text _ _ _ _ _ holds done.front_written done.all_written_at_status_0 done.ends_at_status_0
 
 pub returns-in-Err-Memory-clause-rows_printed : goal.returns-in-Err-Memory-clause-rows_printed
 returns-in-Err-Memory-clause-rows_printed g c = λ path root text words holds.
-    let done = undone (g.L.Links.opens c.args.links.now) g.L.Wire.Link (AtDoor (g.L.Links.binds c.args.links.now) g.L.Links.serves)
-    (g.F.Files.text_at c.args.files.now) (g.L.Links.fault_count c.args.links.now) (g.O.Output.stream c.args.out.now) (g.E.Output.stream c.args.err.now) _
+    let done = undone g.L.Links g.L.Wire.Link
+    (g.F.Files.text_at c.args.files.now) c.args.links.now (g.O.Output.stream c.args.out.now) (g.E.Output.stream c.args.err.now) _
     c.tell-in-Err-Memory.ensures (snmpwalk (numeric_walk path root)) in
     c.table_walks.ensures.printed _ path root text _ _ _ _ _ holds done.front_written done.all_written_at_status_0 done.ends_at_status_0

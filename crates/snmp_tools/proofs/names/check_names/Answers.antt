@@ -4,7 +4,7 @@ use Rattle.std.proofs.lemmas.List.Elements.{All-more, All-same}
 use Rattle.std.specs.Prelude.{◌↔◌, IsOk}
 use Rattle.std.specs.Result.{is_err}
 use Rattle.snmp_oid.specs.Identifier.{IsWire, wire}
-use Rattle.snmp_tools.proofs.GetNames.{first_unsent}
+use Rattle.snmp_tools.proofs.Steps.{first_unsent}
 use Rattle.snmp_tools.proofs.names.check_names.Goals as goal
 
 no_error : {A E : Type 0} (r : Result A E) (b : Bool) (P : Type 0) → b ≡ is_err r → b ≡ false → IsOk r ↔ P → P

@@ -1,7 +1,7 @@
 use Rattle.std.proofs.Common.{inr, refl}
 use Rattle.snmp_tools.specs.Planned.{mib_in}
 use Rattle.snmp_tools.specs.Message.{fault_of}
-use Rattle.snmp_tools.proofs.GetNames.{first_unnamed}
+use Rattle.snmp_tools.proofs.Steps.{first_unnamed}
 use Rattle.snmp_tools.proofs.names.read_names.Goals as goal
 
 pub returns-in-Err-clause-err : goal.returns-in-Err-clause-err

@@ -1,26 +1,21 @@
-use Rattle.std.proofs.Common.{◌≡◌, ℕ, List, Ok, Err, refl, subst}
-use Rattle.snmp_words.specs.Words.{walk_words}
+use Rattle.std.proofs.Common.{refl}
 use Rattle.snmp_tools.specs.Chosen.{chosen}
-use Rattle.snmp_tools.specs.Letters.{choices_of}
-use Rattle.snmp_tools.specs.Message.{fault_of}
+use Rattle.snmp_tools.specs.Planned.{ask_words}
 use Rattle.snmp_tools.proofs.Steps.{at_agent, at_choices, at_showing}
+use Rattle.snmp_tools.proofs.Wholes.{if_err}
 use Rattle.snmp_tools.proofs.plan.Orders.read.Goals as goal
 
+pub returns-in_err-letters-clause-refused : goal.returns-in_err-letters-clause-refused
+returns-in_err-letters-clause-refused c = λ files.
+    if_err _ c.from_residual.result _ c.from_residual.ensures.1 (at_showing (ask_words c.args.job) files _ c.in_err-letters.ensures.err)
+
 pub returns-in-Err-clause-refused : goal.returns-in-Err-clause-refused
-returns-in-Err-clause-refused c = λ files. at_showing c.args.bulk (walk_words c.args.walk.now) files (fault_of c.in-Err.failure) c.in-Err.ensures.err
+returns-in-Err-clause-refused c = λ files.
+    at_choices (ask_words c.args.job) files _ c.in_ok-letters.ensures.version (_, c.in_ok-letters.ensures.letters)
+    (c.in-Err.letter, c.in-Err.ensures, refl)
 
-pub returns-in-Err-read-clause-refused : goal.returns-in-Err-read-clause-refused
-returns-in-Err-read-clause-refused c = λ files.
-    at_choices c.args.bulk (walk_words c.args.walk.now) files _ c.in-Ok.ensures.version (c.in-Ok.letters, c.in-Ok.ensures.letters) (
-      c.in-Err-read.letter,
-      subst (λ (t : List ℕ). choices_of c.args.bulk t ≡ Err c.in-Err-read.letter) c.deref.ensures c.in-Err-read.ensures,
-      refl,
-    )
-
-pub returns-in-Err-read_agent-clause-refused : goal.returns-in-Err-read_agent-clause-refused
-returns-in-Err-read_agent-clause-refused c = λ files.
-    at_agent c.args.bulk (walk_words c.args.walk.now) files (fault_of c.in-Err-read_agent.failure) c.in-Ok.ensures.version
-    (c.in-Ok.letters, c.in-Ok.ensures.letters) (
-      chosen c.in-Ok-read.choices,
-      subst (λ (t : List ℕ). choices_of c.args.bulk t ≡ Ok (chosen c.in-Ok-read.choices)) c.deref.ensures c.in-Ok-read.ensures,
-    ) c.in-Err-read_agent.ensures.err
+pub returns-in_err-agent-clause-refused : goal.returns-in_err-agent-clause-refused
+returns-in_err-agent-clause-refused c = λ files.
+    if_err _ c.from_residual-in_err-agent.result _ c.from_residual-in_err-agent.ensures.1
+    (at_agent (ask_words c.args.job) files _ c.in_ok-letters.ensures.version (_, c.in_ok-letters.ensures.letters)
+    (chosen c.in-Ok.choices, c.in-Ok.ensures) c.in_err-agent.ensures.err)

@@ -1,0 +1,227 @@
+-- What a run over the agent in memory gave.
+use Rattle.std.proofs.Common.{◌≡◌, ◌⊎◌, inl, inr, ◌++◌, ◌<◌, ℕ, true, List, [], ◌∷◌, length, Option, Some, None, refl, sym, ◌∙◌, ap, subst, arith}
+use Rattle.smi_value.specs.declared.letters.letters.Letters.{Letters}
+use Rattle.snmp_io.specs.Output.{Stream}
+use Rattle.snmp_wire.specs.Canon.{canon}
+use Rattle.snmp_wire.specs.Message.{VarBind}
+use Rattle.snmp_agent.specs.table.Exact.{HasOne}
+use Rattle.snmp_agent.specs.table.Listing.{variables}
+use Rattle.snmp_agent.specs.table.Table.{MibView, IsMibView, IsGet}
+use Rattle.snmp_walk.specs.Facts.{WalkFacts, IsLawfulEnd, HasNone, IsDone, IsDoneOrStopped}
+use Rattle.snmp_walk.specs.Get.{GetFacts, IsEndOfGet, IsLostGet, IsTooBig}
+use Rattle.snmp_walk.specs.Link.{Agents, IsUnanswered}
+use Rattle.snmp_walk.specs.Ran.{IsFreshAndHonest}
+use Rattle.snmp_walk.specs.Room.{HasRoomForEach, HasIds}
+use Rattle.snmp_walk.specs.Traffic.{Lost, Traffic}
+use Rattle.snmp_walk.specs.Walker.{Walker}
+use Rattle.snmp_walk.specs.declared.end.WalkEnd.{WalkEnd}
+use Rattle.snmp_walk.specs.declared.end.WalkEnd.TheVariants as ending
+use Rattle.snmp_walk.specs.declared.link.Link.{Ghosts as LinkFacts}
+use Rattle.snmp_tools.specs.Answer.{AreRowsAfter, Counts, HasReason, IsAsked, IsAskedOver, IsOwnEnd, agent_over, end_in_memory, first_after, first_of, request_for}
+use Rattle.snmp_tools.specs.Lines.{IsPrintedUpTo}
+use Rattle.snmp_tools.specs.Mib.{Mib}
+use Rattle.snmp_tools.specs.Question.{Plan, Question, Walk, counts_in, names, subtree}
+use Rattle.snmp_tools.specs.Start.{CanRun, IsBegun, IsRunOver, IsStartOf, rows_given}
+use Rattle.snmp_tools.specs.declared.start.Begun.{Begun}
+use Rattle.snmp_tools.specs.declared.start.Begun.TheVariants as begun
+
+own_end : (end : WalkEnd) → IsDoneOrStopped end → IsOwnEnd (end_in_memory end)
+own_end (ending.Done n) s = tt
+own_end (ending.Sink fault) s = tt
+own_end ending.Link s = tt
+own_end (ending.Fault status index) s = absurd s
+own_end (ending.NoProgress asked) s = absurd s
+own_end ending.BadReply s = absurd s
+own_end (ending.NotIncreasing last got) s = absurd s
+own_end ending.TooManyRequests s = absurd s
+own_end ending.RequestTooLong s = absurd s
+own_end ending.NoResponse s = absurd s
+
+-- the same of the end that is reported
+lawful_in : (plan : Plan) (view : MibView) (core : Walker) (rows : List VarBind) (end : WalkEnd)
+    → IsLawfulEnd (agent_over plan view) (HasNone (agent_over plan view)) core rows end
+    → IsLawfulEnd (agent_over plan view) (HasNone (agent_over plan view)) core rows (end_in_memory end)
+lawful_in plan view core rows (ending.Done n) h = h
+lawful_in plan view core rows (ending.Sink fault) h = h
+lawful_in plan view core rows ending.Link h = h
+lawful_in plan view core rows (ending.Fault status index) h = h
+lawful_in plan view core rows (ending.NoProgress asked) h = h
+lawful_in plan view core rows ending.BadReply h = h
+lawful_in plan view core rows (ending.NotIncreasing last got) h = h
+lawful_in plan view core rows ending.TooManyRequests h = h
+lawful_in plan view core rows ending.RequestTooLong h = h
+lawful_in plan view core rows ending.NoResponse h = h
+
+pub printed_in : (mib : Mib) (letters : Letters) (before after : Stream) (rows refused : List VarBind) (end : WalkEnd)
+    → IsPrintedUpTo mib letters before rows refused end after → IsPrintedUpTo mib letters before rows refused (end_in_memory end) after
+printed_in mib letters before after rows refused (ending.Done n) h = h
+printed_in mib letters before after rows refused (ending.Sink fault) h = h
+printed_in mib letters before after rows refused ending.Link h = h
+printed_in mib letters before after rows refused (ending.Fault status index) h = h
+printed_in mib letters before after rows refused (ending.NoProgress asked) h = h
+printed_in mib letters before after rows refused ending.BadReply h = h
+printed_in mib letters before after rows refused (ending.NotIncreasing last got) h = h
+printed_in mib letters before after rows refused ending.TooManyRequests h = h
+printed_in mib letters before after rows refused ending.RequestTooLong h = h
+printed_in mib letters before after rows refused ending.NoResponse h = h
+
+done_in : (end : WalkEnd) → IsDone (end_in_memory end) → IsDone end
+done_in (ending.Done n) h = h
+done_in (ending.Sink fault) h = h
+done_in ending.Link h = h
+done_in (ending.Fault status index) h = h
+done_in (ending.NoProgress asked) h = h
+done_in ending.BadReply h = h
+done_in (ending.NotIncreasing last got) h = h
+done_in ending.TooManyRequests h = h
+done_in ending.RequestTooLong h = h
+done_in ending.NoResponse h = h
+
+no_link : (end : WalkEnd) → end_in_memory end ≡ ending.Link → ⊥
+no_link (ending.Done n) h = cc
+no_link (ending.Sink fault) h = cc
+no_link ending.Link h = cc
+no_link (ending.Fault status index) h = cc
+no_link (ending.NoProgress asked) h = cc
+no_link ending.BadReply h = cc
+no_link (ending.NotIncreasing last got) h = cc
+no_link ending.TooManyRequests h = cc
+no_link ending.RequestTooLong h = cc
+no_link ending.NoResponse h = cc
+
+-- an end tells of the number of rows given
+counts_rows : (plan : Plan) (view : MibView) (first : Walker) (rows : List VarBind) (end : WalkEnd)
+    → IsLawfulEnd (agent_over plan view) (HasNone (agent_over plan view)) first rows end → Counts end (length rows)
+counts_rows plan view first rows (ending.Done n) h = h.5.0
+counts_rows plan view first rows (ending.Sink fault) h = tt
+counts_rows plan view first rows ending.Link h = tt
+counts_rows plan view first rows (ending.Fault status index) h = tt
+counts_rows plan view first rows (ending.NoProgress asked) h = tt
+counts_rows plan view first rows ending.BadReply h = tt
+counts_rows plan view first rows (ending.NotIncreasing last got) h = tt
+counts_rows plan view first rows ending.TooManyRequests h = tt
+counts_rows plan view first rows ending.RequestTooLong h = tt
+counts_rows plan view first rows ending.NoResponse h = tt
+
+-- no deliveries lose nothing
+none_used : (used left : List (Option ℕ)) (ahead : List (Option ℕ)) → ahead ≡ used ++ left → ahead ≡ [] → used ≡ []
+none_used [] left ahead e none = refl
+none_used (d ∷ used) left ahead e none = let no : ⊥ = cc in absurd no
+
+-- where a question counts, its end tells of the number of rows given
+pub counted : (question : Question) (plan : Plan) (view : MibView) (given : List VarBind) (end : WalkEnd) → HasReason question plan view given end
+    → counts_in question ≡ true → Counts end (length given)
+counted (names os) plan view given end reason e = let no : ⊥ = cc in absurd no
+counted (subtree w) plan view given end reason e = reason.1
+
+-- the rows of a walk, with the answer to a Get of the name that it begins from
+begun_rows : (after : Option (List ℕ)) (community : List ℕ) (w : Walk) (view : MibView) (rows : List VarBind) (asked : List ℕ) → AreRowsAfter after w view rows
+    → asked ≡ (first_after after community w).asked → HasOne (IsGet view asked)
+    → (got : VarBind) × IsGet view asked got × (rows ≡ rows_given after w got (variables view))
+begun_rows None community w view rows asked are e one = (are.0, subst (λ (o : List ℕ). IsGet view o are.0) (sym e) are.1, are.2)
+begun_rows (Some after) community w view rows asked are e one = (one.0, one.1, are)
+
+module _ (plan : Plan) (view : MibView) (tries : ℕ) (old new : Traffic) (rows refused : List VarBind) (end : WalkEnd) (none : old.ahead ≡ []) where
+  module _ (some : 0 < tries) (os : List (List ℕ))
+      (facts : GetFacts (agent_over plan view) tries old (request_for plan os) os rows refused end new) where
+    abbrev Unanswered : Type 0
+    Unanswered = IsUnanswered (agent_over plan view) (canon (request_for plan os))
+
+    abbrev Loses : List (Option ℕ) → Type 0
+    Loses used = Lost (agent_over plan view) (old.sent ++ canon (request_for plan os) ∷ []) (canon (request_for plan os)) used tries 0
+
+    unanswered : IsLostGet (agent_over plan view) tries old (canon (request_for plan os)) new → Unanswered
+    unanswered lost = by_cause lost.lost
+      where
+        by_cause : Unanswered ⊎ ((used : List (Option ℕ)) × (old.ahead ≡ used ++ new.ahead) × Loses used) → Unanswered
+        by_cause (inl u) = u
+        by_cause (inr h) =
+            let lost_none : Loses [] = subst Loses (none_used h.0 new.ahead old.ahead h.1 none) h.2 in
+            absurd (omega (arith, some, lost_none))
+
+    ends_in : (why : WalkEnd) → end ≡ why
+        → IsEndOfGet (IsTooBig (agent_over plan view) (request_for plan os) os) ⊥ (Unit {0}) (request_for plan os) os why
+        → HasReason (names os) plan view rows (end_in_memory why)
+    ends_in (ending.Done n) e h = h
+    ends_in (ending.Fault status index) e h = h
+    ends_in (ending.NoProgress asked) e h = absurd h
+    ends_in ending.BadReply e h = absurd h
+    ends_in (ending.NotIncreasing last next) e h = absurd h
+    ends_in ending.TooManyRequests e h = absurd h
+    ends_in ending.RequestTooLong e h = h
+    ends_in ending.NoResponse e h = unanswered (facts.lost_without_response e)
+    ends_in ending.Link e h = tt
+    ends_in (ending.Sink fault) e h = tt
+
+    is_got : IsAsked plan (names os) view rows refused (end_in_memory end)
+    is_got = record {
+      front = λ all are. facts.beginning view all refl are;
+      whole = λ all are done. facts.all_at_done view all refl are (done_in end done);
+      linked = no_link end;
+      reason = ends_in end refl facts.ends;
+      complete = λ room. own_end end (facts.done_unless_stopped room none);
+    }
+
+  module _ (good : IsMibView view) (one : (o : List ℕ) → HasOne (IsGet view o)) (w : Walk) (core : Walker) (from : IsStartOf core plan.community w)
+      (facts : WalkFacts (agent_over plan view) tries old core rows refused end new) where
+    lawful : IsLawfulEnd (agent_over plan view) (HasNone (agent_over plan view)) (first_of plan.community w) rows (end_in_memory end)
+    lawful = subst (λ (c : Walker). IsLawfulEnd (agent_over plan view) (HasNone (agent_over plan view)) c rows (end_in_memory end)) from.is
+        (lawful_in plan view core rows end (facts.replied none))
+
+    begins : (whole : List VarBind) → AreRowsAfter w.after w view whole
+        → (got : VarBind) × IsGet view core.asked got × (whole ≡ rows_given w.after w got (variables view))
+    begins whole are =
+        begun_rows w.after plan.community w view whole core.asked are (ap (λ (c : Walker). c.asked) from.is) (one core.asked)
+
+    is_walked : IsAsked plan (subtree w) view rows refused (end_in_memory end)
+    is_walked = record {
+      front = λ whole are.
+          let b = begins whole are in
+          let left = facts.beginning view b.0 refl b.1 in
+          (left.0, b.2 ∙ sym (from.gives view b.0 good) ∙ left.1);
+      whole = λ whole are done.
+          let b = begins whole are in
+          facts.all_at_done view b.0 refl b.1 (done_in end done) ∙ from.gives view b.0 good ∙ sym b.2;
+      linked = no_link end;
+      reason = (lawful, counts_rows plan view (first_of plan.community w) rows (end_in_memory end) lawful);
+      complete = λ room.
+          let b = one core.asked in
+          own_end end (facts.done_unless_stopped view b.0 refl b.1
+          (subst (λ (c : Walker). HasRoomForEach (agent_over plan view) view c) (sym from.is) room.0)
+          (subst (λ (c : Walker). HasIds c view) (sym from.is) room.1) none);
+    }
+
+-- the run of a question over a link in memory
+module _ {W : Type 0} (facts : LinkFacts W) (link after : W) (tries : ℕ) (some : 0 < tries) (plan : Plan) (view : MibView) (good : IsMibView view)
+    (one : (o : List ℕ) → HasOne (IsGet view o)) (honest : IsFreshAndHonest facts link) (agents : facts.agents link ≡ agent_over plan view)
+    (none : (facts.traffic link).ahead ≡ []) (given refused : List VarBind) (end : WalkEnd) where
+  pub is_asked : (question : Question) (begun : Begun) → IsBegun plan.community question begun
+      → IsRunOver facts link after tries plan.community begun given refused end → IsAsked plan question view given refused (end_in_memory end)
+  is_asked (names os) (begun.Get sent) (same, sendable) run =
+      let P : Agents → List (List ℕ) → Type 0 = λ a ns. GetFacts a tries (facts.traffic link) (request_for plan ns) ns given refused end (facts.traffic after) in
+      is_got plan view tries (facts.traffic link) (facts.traffic after) given refused end none some os
+      (subst (λ (a : Agents). P a os) agents (subst (P (facts.agents link)) same (run.judged honest)))
+  is_asked (names os) (begun.Walk core) is run = absurd is
+  is_asked (subtree w) (begun.Get sent) is run = absurd is
+  is_asked (subtree w) (begun.Walk core) is run =
+      is_walked plan view tries (facts.traffic link) (facts.traffic after) given refused end none good one w core is
+      (subst (λ (a : Agents). WalkFacts a tries (facts.traffic link) core given refused end (facts.traffic after)) agents (run.judged honest))
+
+-- the same of the run of a question over any link
+pub asked_over : {W : Type 0} (facts : LinkFacts W) (link after : W) (tries : ℕ) (plan : Plan) (question : Question) (begun : Begun)
+    → IsBegun plan.community question begun → (given refused : List VarBind) (end : WalkEnd)
+    → IsRunOver facts link after tries plan.community begun given refused end → IsAskedOver facts link after tries plan question given refused end
+asked_over {W} facts link after tries plan (names os) (begun.Get sent) (same, sendable) given refused end run =
+    subst (λ (ns : List (List ℕ)). IsAskedOver facts link after tries plan (names ns) given refused end) same run
+asked_over {W} facts link after tries plan (names os) (begun.Walk core) is given refused end run = absurd is
+asked_over {W} facts link after tries plan (subtree w) (begun.Get sent) is given refused end run = absurd is
+asked_over {W} facts link after tries plan (subtree w) (begun.Walk core) is given refused end run =
+    let P : Walker → Type 0 = λ c. IsRunOver facts link after tries plan.community (begun.Walk c) given refused end in
+    subst P is.is run
+
+-- what a run of it needs
+pub can_run : (community : List ℕ) (question : Question) (begun : Begun) → IsBegun community question begun → CanRun begun
+can_run community (names os) (begun.Get sent) is = is.1
+can_run community (names os) (begun.Walk core) is = absurd is
+can_run community (subtree w) (begun.Get sent) is = absurd is
+can_run community (subtree w) (begun.Walk core) is = is.fresh

@@ -1,0 +1,29 @@
+use Rattle.std.proofs.Common.{ap, refl}
+use Rattle.snmp_tools.specs.Message.{fault_of}
+use Rattle.snmp_tools.specs.Outcome.{loaded, not_loaded}
+use Rattle.snmp_tools.specs.Planned.{ask_words}
+use Rattle.snmp_tools.specs.Seen.{seen}
+use Rattle.snmp_tools.proofs.Steps.{at_mibs}
+use Rattle.snmp_tools.proofs.Wholes.{are_loaded, outcome_err}
+use Rattle.snmp_tools.proofs.ask.ask.Goals as goal
+
+pub returns-in_err-orders : goal.returns-in_err-orders
+returns-in_err-orders g c =
+    not_loaded (fault_of c.in_err-orders.field-0.0) (c.in_err-orders.ensures.refused (g.F.Files.text_at c.args.files.now)) refl
+    (outcome_err _ _ c.from_residual.ensures.1)
+
+pub returns-in_err-tree : goal.returns-in_err-tree
+returns-in_err-tree g c =
+    not_loaded (fault_of c.in_err-tree.field-0.0)
+    (at_mibs (ask_words c.args.job) (g.F.Files.text_at c.args.files.now) (fault_of c.in_err-tree.field-0.0) c.in_ok-orders.orders
+    c.in_ok-orders.ensures.orders c.in_err-tree.ensures.failed)
+    (ap (seen (g.F.Files.text_at c.args.files.now) c.args.links.now (g.O.Output.stream c.args.out.now)) c.in_err-tree.ensures.untold)
+    (outcome_err _ _ c.from_residual-in_err-tree.ensures.1)
+
+pub ask_by-requires-clause-known : goal.ask_by-requires-clause-known
+ask_by-requires-clause-known g c = (_, are_loaded (g.F.Files.text_at c.args.files.now) _ _ _ _ _ _ c.in_ok-tree.ensures.loaded)
+
+pub returns : goal.returns
+returns g c =
+    let is = c.in_ok-tree.ensures.loaded in
+    loaded _ is.loaded.warnings (are_loaded (g.F.Files.text_at c.args.files.now) _ _ _ _ _ _ is) is.loaded.told (c.ask_by.ensures _)

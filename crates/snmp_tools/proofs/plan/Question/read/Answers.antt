@@ -1,0 +1,60 @@
+use Rattle.std.proofs.Common.{◌≡◌, ◌∙◌, ℕ, List, Bor, Ok, inl, inr, refl, sym, ap, option_map, subst}
+use Rattle.smi_show.specs.name.Meaning.{meaning}
+use Rattle.snmp_tools.specs.Asking.{NameFails}
+use Rattle.snmp_tools.specs.Chosen.{chosen}
+use Rattle.snmp_tools.specs.Message.{fault_of}
+use Rattle.snmp_tools.specs.Planned.{NamesFail, mib_in, request_of}
+use Rattle.snmp_tools.specs.Question.{IsQuestionOf, IsWalkOf, Walk, root_text, subtree}
+use Rattle.snmp_tools.specs.declared.failure.Failure.{Failure}
+use Rattle.snmp_tools.specs.declared.request.Request.{Request}
+use Rattle.snmp_tools.proofs.Steps.{text_or}
+use Rattle.snmp_tools.proofs.Wholes.{if_err}
+use Rattle.snmp_tools.proofs.plan.Question.read.Goals as goal
+
+pub returns-in_err-name-in-Walk-clause-refused : goal.returns-in_err-name-in-Walk-clause-refused
+returns-in_err-name-in-Walk-clause-refused g c =
+    let mib = mib_in (g.T.NameTree.naming c.args.tree.now) (g.T.ShowTree.syntax_at c.args.tree.now) in
+    let f = c.in_err-name-in-Walk.field-0.0 in
+    let text : c.unwrap_or.result.now ≡ root_text (option_map (λ (t : Bor (List ℕ)). t.now) c.in-Walk.root) =
+    ap (λ (s : Bor (List ℕ)). s.now) c.unwrap_or.ensures ∙ text_or c.in-Walk.root _ in
+    let P : Request → Failure → Type 0 = λ r e. NamesFail (request_of r) mib (fault_of e) in
+    if_err (P c.args.request) c.from_residual-in_err-name-in-Walk.result f c.from_residual-in_err-name-in-Walk.ensures.1
+    (subst (λ (r : Request). P r f) (sym c.in-Walk.is)
+    (inl (subst (λ (t : List ℕ). NameFails mib t (fault_of f)) text (c.in_err-name-in-Walk.ensures.err mib refl))))
+
+pub returns-in_err-name_if_given-in-Walk-clause-refused : goal.returns-in_err-name_if_given-in-Walk-clause-refused
+returns-in_err-name_if_given-in-Walk-clause-refused g c =
+    let mib = mib_in (g.T.NameTree.naming c.args.tree.now) (g.T.ShowTree.syntax_at c.args.tree.now) in
+    let f = c.in_err-name_if_given-in-Walk.field-0.0 in
+    let root = c.in_ok-name-in-Walk.field-0 in
+    let text : c.unwrap_or.result.now ≡ root_text (option_map (λ (t : Bor (List ℕ)). t.now) c.in-Walk.root) =
+    ap (λ (s : Bor (List ℕ)). s.now) c.unwrap_or.ensures ∙ text_or c.in-Walk.root _ in
+    let P : Request → Failure → Type 0 = λ r e. NamesFail (request_of r) mib (fault_of e) in
+    if_err (P c.args.request) c.from_residual-in_err-name_if_given-in-Walk.result f c.from_residual-in_err-name_if_given-in-Walk.ensures.1
+    (subst (λ (r : Request). P r f) (sym c.in-Walk.is)
+    (inr (
+      (root, subst (λ (t : List ℕ). meaning mib.naming t ≡ Ok root) text c.in_ok-name-in-Walk.ensures.ok),
+      c.in_err-name_if_given-in-Walk.ensures.err mib refl,
+    )))
+
+pub returns-in_ok-name_if_given-in-Walk-clause-stated : goal.returns-in_ok-name_if_given-in-Walk-clause-stated
+returns-in_ok-name_if_given-in-Walk-clause-stated g c =
+    let mib = mib_in (g.T.NameTree.naming c.args.tree.now) (g.T.ShowTree.syntax_at c.args.tree.now) in
+    let text : c.unwrap_or.result.now ≡ root_text (option_map (λ (t : Bor (List ℕ)). t.now) c.in-Walk.root) =
+    ap (λ (s : Bor (List ℕ)). s.now) c.unwrap_or.ensures ∙ text_or c.in-Walk.root _ in
+    let w : Walk = record {
+      root = c.in_ok-name-in-Walk.field-0;
+      after = c.in_ok-name_if_given-in-Walk.field-0;
+      mode = c.mode.result;
+      method = c.method.result;
+      counts = c.args.choices.counts;
+    } in
+    let is : IsWalkOf c.in-Walk.bulk (chosen c.args.choices) (option_map (λ (t : Bor (List ℕ)). t.now) c.in-Walk.after)
+    (option_map (λ (t : Bor (List ℕ)). t.now) c.in-Walk.root) mib w = record {
+      mode = c.mode.ensures;
+      method = c.method.ensures.method;
+      counts = refl;
+      root = subst (λ (t : List ℕ). meaning mib.naming t ≡ Ok c.in_ok-name-in-Walk.field-0) text c.in_ok-name-in-Walk.ensures.ok;
+      goes_on = c.in_ok-name_if_given-in-Walk.ensures.ok mib refl;
+    } in
+    subst (λ (r : Request). IsQuestionOf (request_of r) (chosen c.args.choices) mib (subtree w)) (sym c.in-Walk.is) is

@@ -1,0 +1,136 @@
+-- What a question gives: its rows over a table, and what is known of a run that asks it.
+use Rattle.std.specs.Prelude.{◌≡◌, ◌≢◌, ◌++◌, ℕ, List, [], ◌∷◌, length}
+use Rattle.std.specs.Prelude.{Option, Some, None, All}
+use Rattle.snmp_oid.specs.Identifier.{IsWire, wire}
+use Rattle.snmp_agent.specs.table.Listing.{variables}
+use Rattle.snmp_agent.specs.table.Table.{IsGet, MibView}
+use Rattle.snmp_wire.specs.Canon.{canon}
+use Rattle.snmp_wire.specs.Message.{Message, VarBind}
+use Rattle.snmp_walk.specs.Facts.{HasNone, IsDone, IsLawfulEnd}
+use Rattle.snmp_walk.specs.Get.{AreGot, HasRoomForGet, IsEndOfGet, IsTooBig, get_request}
+use Rattle.snmp_walk.specs.Link.{Agents, IsUnanswered}
+use Rattle.snmp_walk.specs.Ran.{IsGotOver, IsWalkedOver}
+use Rattle.snmp_walk.specs.Request.{resumed, started}
+use Rattle.snmp_walk.specs.Room.{HasIds, HasRoomForEach}
+use Rattle.snmp_walk.specs.Walk.{rest_of, walk_of}
+use Rattle.snmp_walk.specs.Walker.{Walker}
+use Rattle.snmp_walk.specs.declared.end.SinkFault.TheVariants as sink
+use Rattle.snmp_walk.specs.declared.end.WalkEnd.{WalkEnd}
+use Rattle.snmp_walk.specs.declared.end.WalkEnd.TheVariants as ending
+use Rattle.snmp_walk.specs.declared.link.Link.{Ghosts as LinkFacts}
+use Rattle.snmp_tools.specs.Question.{IsAtOrBelow, Plan, Question, Walk, names, subtree}
+
+-- ---- over a table
+
+-- the agent in memory that serves a table
+abbrev pub agent_over : Plan → MibView → Agents
+agent_over plan view =
+    record { tables = view ∷ []; community = plan.community; max_size = plan.max_size }
+
+-- the request of a Get, whose id is 1
+abbrev pub request_for : Plan → List (List ℕ) → Message
+request_for plan os = get_request plan.community 1 os
+
+abbrev pub first_after : Option (List ℕ) → (community : List ℕ) → Walk → Walker
+first_after None community w = started w.root w.mode w.method community 1
+first_after (Some after) community w = resumed w.root after w.method community 1
+
+-- the walk before its first request, whose id is 1
+abbrev pub first_of : (community : List ℕ) → Walk → Walker
+first_of community w = first_after w.after community w
+
+abbrev pub AreRowsAfter : Option (List ℕ) → Walk → MibView → List VarBind → Type 0
+AreRowsAfter None w view rows = (got : VarBind) × IsGet view (wire w.root) got
+    × (rows ≡ walk_of w.mode w.root got (variables view))
+AreRowsAfter (Some after) w view rows = rows ≡ rest_of w.root (wire after) (variables view)
+
+-- The rows that a question gives of a table. Of a Get: what a Get of each name gives, at its name's
+-- place. Of a walk: those below the root by rising names, where there are none what a Get of the
+-- root gives, and before them the root's own, as the mode says; of one that goes on after a name,
+-- those below the root and above that name.
+abbrev pub AreRowsOf : Question → MibView → List VarBind → Type 0
+AreRowsOf (names os) view rows = AreGot view os rows
+AreRowsOf (subtree w) view rows = AreRowsAfter w.after w view rows
+
+-- the name to go on after is the root or below it, and can be sent
+abbrev pub CanGoOn : List ℕ → Option (List ℕ) → Type 0
+CanGoOn root None = Unit {0}
+CanGoOn root (Some after) = IsAtOrBelow after root × IsWire (wire after)
+
+-- its names can be sent
+abbrev pub CanBeSent : Question → Type 0
+CanBeSent (names os) = All (λ o. IsWire (wire o)) os
+CanBeSent (subtree w) = IsWire (wire w.root) × CanGoOn w.root w.after
+
+-- There is room: of a Get for the request and the Response, of a walk for each single binding, and
+-- there are enough ids.
+abbrev pub HasRoomFor : Question → Plan → MibView → Type 0
+HasRoomFor (names os) plan view = HasRoomForGet (agent_over plan view) (request_for plan os) os
+HasRoomFor (subtree w) plan view =
+    HasRoomForEach (agent_over plan view) view (first_of plan.community w)
+    × HasIds (first_of plan.community w) view
+
+-- what a question needs besides memory and an output that takes its lines
+pub record IsFeasible (plan : Plan) (view : MibView) : Type 0 where
+  pub sendable : CanBeSent plan.question
+  pub room : HasRoomFor plan.question plan view
+
+-- ---- over the agent in memory
+
+-- all was given, or the output failed, or memory ran out
+abbrev pub IsOwnEnd : WalkEnd → Type 0
+IsOwnEnd (ending.Done count) = Unit {0}
+IsOwnEnd (ending.Sink fault) = Unit {0}
+IsOwnEnd _ = ⊥
+
+-- How a run over a link in memory ended: such a link fails only where memory runs out.
+abbrev pub end_in_memory : WalkEnd → WalkEnd
+end_in_memory ending.Link = ending.Sink sink.Memory
+end_in_memory end = end
+
+-- where it is done, the number of bindings that its end states
+abbrev pub Counts : WalkEnd → ℕ → Type 0
+Counts (ending.Done count) n = count ≡ n
+Counts _ n = Unit {0}
+
+-- why it ended: with an error only where there is no room, or where there are no more ids or no
+-- reply
+abbrev pub HasReason : Question → Plan → MibView → (given : List VarBind) → WalkEnd → Type 0
+HasReason (names os) plan view given end =
+    IsEndOfGet (IsTooBig (agent_over plan view) (request_for plan os) os) ⊥
+    (IsUnanswered (agent_over plan view) (canon (request_for plan os))) (request_for plan os) os end
+HasReason (subtree w) plan view given end =
+    IsLawfulEnd (agent_over plan view) (HasNone (agent_over plan view)) (first_of plan.community w)
+    given end × Counts end (length given)
+
+-- The question of the plan was asked: it gave these rows, was refused the next one or none, and
+-- ended in this way.
+pub record IsAsked (plan : Plan) (question : Question) (view : MibView)
+    (given refused : List VarBind) (end : WalkEnd) : Type 0 where
+  pub front : (rows : List VarBind) → AreRowsOf question view rows
+      → (more : List VarBind) × (rows ≡ (given ++ refused) ++ more)
+  pub whole : (rows : List VarBind) → AreRowsOf question view rows → IsDone end → given ≡ rows
+  pub linked : end ≢ ending.Link
+  pub reason : HasReason question plan view given end
+  -- where there is room it ends early only where the output fails or memory runs out
+  pub complete : HasRoomFor question plan view → IsOwnEnd end
+
+-- ---- over any link
+
+-- what is known of a run that asks the question over a link
+abbrev pub IsAskedOver : {W : Type 0} → LinkFacts W → (link after : W) → (tries : ℕ) → Plan
+    → Question → (given refused : List VarBind) → WalkEnd → Type 0
+IsAskedOver {W} facts link after tries plan (names os) given refused end =
+    IsGotOver facts link after tries plan.community 1 os given refused end
+IsAskedOver {W} facts link after tries plan (subtree w) given refused end =
+    IsWalkedOver facts link after tries (first_of plan.community w) given refused end
+
+-- What is known of the link that was opened, over which nothing was sent before, and of the run
+-- over it.
+pub record HasFacts {W : Type 0} (Opens : W → Type 0) (facts : LinkFacts W) (tries : ℕ)
+    (plan : Plan) (given refused : List VarBind) (end : WalkEnd) : Type 0 where
+  pub link : W
+  pub after : W
+  pub opened : Opens link
+  pub fresh : (facts.traffic link).sent ≡ []
+  pub run : IsAskedOver facts link after tries plan plan.question given refused end

@@ -1,0 +1,236 @@
+-- What the words of a job that asks an agent ask for, and why they may be refused.
+use Rattle.std.specs.Prelude.{◌≡◌, ◌≤◌, ◌⊎◌, ◌++◌, ℕ, Bool, false, List, [], ◌∷◌, length, map}
+use Rattle.std.specs.Prelude.{Option, Some, None, Result, Ok, Err, codes, unwrap_or}
+use Rattle.smi_value.specs.declared.letters.letters.Letters.{Letters}
+use Rattle.smi_show.specs.name.Meaning.{meaning}
+use Rattle.snmp_oid.specs.Identifier.{IsBelow, IsWire, wire}
+use Rattle.snmp_walk.specs.declared.mode.Method.{Method}
+use Rattle.snmp_walk.specs.declared.mode.Mode.{Mode}
+use Rattle.snmp_words.specs.Words.{AskingWords, GetWords, WalkWords}
+use Rattle.snmp_net.specs.Address.{Address, IsAgent}
+use Rattle.snmp_tools.specs.Asking.{AreShown, AskingFails, AskingStep, HasAgent, IsAskingDone}
+use Rattle.snmp_tools.specs.Asking.{IsNameIfGiven, IsReached, MibsFail, NameFails, ReachFails}
+use Rattle.snmp_tools.specs.Asking.{agent_step, community_step, letters_step, version_step}
+use Rattle.snmp_tools.specs.Letters.{Choices, choices_of, method_of, mode_of, no_choices}
+use Rattle.snmp_tools.specs.Message.{Fault, bad_letter, out_of_memory, outside_root, unsendable}
+use Rattle.snmp_io.specs.Files.{Holdings, MayHold}
+use Rattle.snmp_tools.specs.Mib.{IsMibOf, Mib}
+use Rattle.snmp_io.specs.Steps.{AreDone, IsFirstToFail}
+
+-- ---- the words
+
+-- what is to be asked of the agent: the instances of names, or a walk
+pub data Request : Type 0 where
+  get : (texts : List (List ℕ)) → Request
+  -- by GetBulk or not: its letters of -C, and the texts of its names
+  walk : (bulk : Bool) → (letters : List ℕ) → (after name : Option (List ℕ)) → Request
+
+-- the words of a job that asks an agent
+pub record AskWords : Type 0 where
+  pub asking : AskingWords
+  pub request : Request
+
+abbrev pub of_get : GetWords → AskWords
+of_get words = record { asking = words.asking; request = get words.names }
+
+-- of snmpwalk, or of snmpbulkwalk
+abbrev pub of_walk : (bulk : Bool) → WalkWords → AskWords
+of_walk bulk words =
+    record { asking = words.asking; request = walk bulk words.letters words.after words.name }
+
+-- the text of the root's name
+abbrev pub root_text : Option (List ℕ) → List ℕ
+root_text name = unwrap_or name (codes "1.3.6.1.2.1")
+
+-- what the letters of -C choose, where there are any
+abbrev pub choices_in : Request → Result Choices ℕ
+choices_in (get texts) = Ok no_choices
+choices_in (walk bulk letters after name) = choices_of bulk letters
+
+-- ---- what is asked for
+
+-- a walk
+pub record Walk : Type 0 where
+  pub root : List ℕ
+  -- the name after which it goes on, if one is given
+  pub after : Option (List ℕ)
+  pub mode : Mode
+  pub method : Method
+  -- the number of bindings is printed after them
+  pub counts : Bool
+
+-- a Get of these names, or a walk
+pub data Question : Type 0 where
+  names : List (List ℕ) → Question
+  subtree : Walk → Question
+
+-- a question, to whom, and how the answer is shown
+pub record Plan : Type 0 where
+  pub agent : Address
+  pub community : List ℕ
+  pub max_size : ℕ
+  -- how its lines are shown
+  pub letters : Letters
+  pub question : Question
+
+abbrev pub counts_in : Question → Bool
+counts_in (names os) = false
+counts_in (subtree w) = w.counts
+
+-- the names that texts state, each at its text's place
+abbrev pub AreNames : Mib → (texts os : List (List ℕ)) → Type 0
+AreNames mib texts os = map (meaning mib.naming) texts ≡ map Ok os
+
+-- the words of snmpwalk, or of snmpbulkwalk, state this walk
+pub record IsWalkOf (bulk : Bool) (choices : Choices) (after name : Option (List ℕ)) (mib : Mib)
+    (w : Walk) : Type 0 where
+  pub mode : w.mode ≡ mode_of choices
+  pub method : w.method ≡ method_of bulk choices
+  pub counts : w.counts ≡ choices.counts
+  pub root : meaning mib.naming (root_text name) ≡ Ok w.root
+  pub goes_on : IsNameIfGiven mib after w.after
+
+-- the words state this question
+abbrev pub IsQuestionOf : Request → Choices → Mib → Question → Type 0
+IsQuestionOf (get texts) choices mib (names os) = AreNames mib texts os
+IsQuestionOf (walk bulk letters after name) choices mib (subtree w) =
+    IsWalkOf bulk choices after name mib w
+IsQuestionOf request choices mib _ = ⊥
+
+-- the words ask for this, by these names
+pub record AskFor (words : AskWords) (mib : Mib) (plan : Plan) : Type 0 where
+  pub version : words.asking.protocol ≡ codes "2c"
+  pub letters : AreShown words.asking.letters plan.letters
+  pub choices : Choices
+  pub chosen : choices_in words.request ≡ Ok choices
+  pub short_community : length words.asking.community ≤ 255
+  pub community : plan.community ≡ words.asking.community
+  pub max_size : plan.max_size ≡ words.asking.max_size
+  pub agent : IsAgent words.asking.agent plan.agent
+  pub question : IsQuestionOf words.request choices mib plan.question
+
+-- the words ask for this plan, by names that the job knows, and for no other agent
+pub record IsPlanFor (words : AskWords) (files : Holdings) (mib : Mib) (plan : Plan) : Type 0 where
+  pub known : IsMibOf (MayHold files) words.asking mib
+  pub asked : AskFor words mib plan
+  pub only : HasAgent words.asking.agent plan.agent
+
+-- ---- why not
+
+-- the work before the first request
+pub data Step : Type 0 where
+  asking : AskingStep → Step
+  choices_step : Step
+  mibs_step : Step
+  name_step : (text : List ℕ) → Step
+  reach_step : Step
+  sent_step : (text : List ℕ) → Step
+  below_step : (root_text text : List ℕ) → Step
+
+-- in its order up to the modules
+abbrev pub loading_steps : List Step
+loading_steps = asking version_step ∷ asking letters_step ∷ choices_step ∷ asking community_step
+    ∷ asking agent_step ∷ mibs_step ∷ []
+
+abbrev pub goes_on_after : {T : Type 0} → (List ℕ → List T) → Option (List ℕ) → List T
+goes_on_after {T} steps None = []
+goes_on_after {T} steps (Some text) = steps text
+
+-- each name is looked up
+abbrev pub name_steps : Request → List Step
+name_steps (get texts) = map name_step texts
+name_steps (walk bulk letters after name) =
+    name_step (root_text name) ∷ goes_on_after (λ text. name_step text ∷ []) after
+
+-- each is to have an encoding, and that to go on after is to be the root or below it
+abbrev pub sent_steps : Request → List Step
+sent_steps (get texts) = map sent_step texts
+sent_steps (walk bulk letters after name) = sent_step (root_text name)
+    ∷ goes_on_after (λ text. below_step (root_text name) text ∷ sent_step text ∷ []) after
+
+-- by the names of the modules, up to the agent
+abbrev pub reaching_steps : Request → List Step
+reaching_steps request = name_steps request ++ (reach_step ∷ [])
+
+-- the text states a name
+abbrev pub HasMeaning : Mib → (text : List ℕ) → Type 0
+HasMeaning mib text = (name : List ℕ) × (meaning mib.naming text ≡ Ok name)
+
+-- the text states a name that can be sent
+abbrev pub HasSendable : Mib → (text : List ℕ) → Type 0
+HasSendable mib text =
+    (name : List ℕ) × (meaning mib.naming text ≡ Ok name) × IsWire (wire name)
+
+-- the text states a name that can't be sent
+abbrev pub HasUnsendable : Mib → (text : List ℕ) → Fault → Type 0
+HasUnsendable mib text why = (name : List ℕ) × (meaning mib.naming text ≡ Ok name)
+    × (IsWire (wire name) → ⊥) × (why ≡ unsendable text)
+
+-- a walk below the root can go on after the name
+abbrev pub IsAtOrBelow : (after root : List ℕ) → Type 0
+IsAtOrBelow after root = (after ≡ root) ⊎ IsBelow after root
+
+-- the texts state a root and a name of which this is true
+abbrev pub HaveNames : Mib → (root_text text : List ℕ) → (List ℕ → List ℕ → Type 0) → Type 0
+HaveNames mib root_text text Is =
+    (root : List ℕ) × (after : List ℕ) × (meaning mib.naming root_text ≡ Ok root)
+    × (meaning mib.naming text ≡ Ok after) × Is root after
+
+-- by names that the job knows
+abbrev pub ByNames : AskWords → Holdings → (Mib → Type 0) → Type 0
+ByNames words files Is = (mib : Mib) × IsMibOf (MayHold files) words.asking mib × Is mib
+
+-- by names that the job knows, of the agent of the words
+abbrev pub OfAgent : AskWords → Holdings → (Mib → Address → Type 0) → Type 0
+OfAgent words files Is = ByNames words files
+    (λ mib. (agent : Address) × HasAgent words.asking.agent agent × Is mib agent)
+
+-- the step is done: what it looks for is there
+abbrev pub IsDoneFor : AskWords → Holdings → Step → Type 0
+IsDoneFor words files (asking step) = IsAskingDone words.asking step
+IsDoneFor words files choices_step =
+    (choices : Choices) × (choices_in words.request ≡ Ok choices)
+IsDoneFor words files mibs_step = (mib : Mib) × IsMibOf (MayHold files) words.asking mib
+IsDoneFor words files (name_step text) = ByNames words files (λ mib. HasMeaning mib text)
+IsDoneFor words files reach_step = OfAgent words files (IsReached files)
+IsDoneFor words files (sent_step text) = ByNames words files (λ mib. HasSendable mib text)
+IsDoneFor words files (below_step root_text text) = ByNames words files
+    (λ mib. HaveNames mib root_text text (λ root after. IsAtOrBelow after root))
+
+-- the step fails for this reason
+abbrev pub FailsFor : AskWords → Holdings → Step → Fault → Type 0
+FailsFor words files (asking step) why = AskingFails words.asking step why
+FailsFor words files choices_step why =
+    (letter : ℕ) × (choices_in words.request ≡ Err letter) × (why ≡ bad_letter letter)
+FailsFor words files mibs_step why = MibsFail files words.asking.mibs why
+FailsFor words files (name_step text) why = ByNames words files (λ mib. NameFails mib text why)
+FailsFor words files reach_step why =
+    OfAgent words files (λ mib agent. ReachFails files mib agent why)
+FailsFor words files (sent_step text) why =
+    ByNames words files (λ mib. HasUnsendable mib text why)
+FailsFor words files (below_step root_text text) why = ByNames words files
+    (λ mib. HaveNames mib root_text text
+    (λ root after. (IsAtOrBelow after root → ⊥) × (why ≡ outside_root text)))
+
+-- why no modules were loaded: memory ran out, or a step up to them failed
+abbrev pub IsEarlyRefusal : AskWords → Holdings → Fault → Type 0
+IsEarlyRefusal words files why =
+    (why ≡ out_of_memory)
+    ⊎ IsFirstToFail loading_steps (IsDoneFor words files) (FailsFor words files) why
+
+-- why no agent is reached by the modules that were loaded: memory ran out, or a later step up to
+-- the agent failed
+abbrev pub IsLateRefusal : AskWords → Holdings → Fault → Type 0
+IsLateRefusal words files why =
+    (why ≡ out_of_memory)
+    ⊎ (AreDone (IsDoneFor words files) loading_steps
+    × IsFirstToFail (reaching_steps words.request) (IsDoneFor words files)
+    (FailsFor words files) why)
+
+-- why the agent that was reached isn't asked: the first of the last steps that fails
+pub record IsLastRefusal (words : AskWords) (files : Holdings) (why : Fault) : Type 0 where
+  pub loaded : AreDone (IsDoneFor words files) loading_steps
+  pub named : AreDone (IsDoneFor words files) (name_steps words.request)
+  pub reached : IsDoneFor words files reach_step
+  pub fails : IsFirstToFail (sent_steps words.request) (IsDoneFor words files)
+      (FailsFor words files) why

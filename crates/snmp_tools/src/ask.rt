@@ -1,0 +1,250 @@
+//! A job that asks an agent: its words are judged, its names looked up, its agent reached, and its
+//! lines printed.
+ghost use Rattle.std.specs.Prelude.{◌≡◌, ◌⊎◌, ◌+◌, IfErr, IfOk, OnErr};
+ghost use Rattle.snmp_io.specs.Files.{MayHold};
+ghost use Rattle.snmp_io.specs.Output.{Stream};
+ghost use Rattle.snmp_words.specs.Words.{asking_words};
+ghost use Rattle.snmp_tools.specs.agent.TableFile.{HasTable, TableFails, names_in};
+ghost use Rattle.snmp_tools.specs.loading.Loaded.{AreLoadedAs};
+ghost use Rattle.snmp_tools.specs.Answer.{IsAsked, IsAskedOver, end_in_memory};
+ghost use Rattle.snmp_tools.specs.Asking.{MibsFail};
+ghost use Rattle.snmp_tools.specs.Message.{bad_table, fault_of, out_of_memory, outcome_of};
+ghost use Rattle.snmp_tools.specs.Message.{unreadable};
+ghost use Rattle.snmp_tools.specs.Mib.{IsMibOf};
+ghost use Rattle.snmp_tools.specs.Outcome.{IsFinished, IsOutcome, IsOutcomeBy, IsRun, IsShown};
+ghost use Rattle.snmp_tools.specs.Planned.{AreOrdersOf, ask_words, mib_in, plan_of, question_of};
+ghost use Rattle.snmp_tools.specs.Seen.{seen};
+ghost use Rattle.snmp_tools.specs.Start.{IsBegun};
+
+use crate::failure::Failure;
+use crate::job::report;
+use crate::lines::{print_count, print_lines};
+use crate::loading::{FilesError, ModuleFiles};
+use crate::plan::{Orders, Plan};
+use crate::request::AskJob;
+use crate::start::{Begun, begin};
+use crate::table_names::TreeNames;
+use smi_show::{NameTree, ShowTree};
+use snmp_agent::{Config, Table, one_answer};
+use snmp_io::{FileFault, Files, Output};
+use snmp_net::{AgentAddress, Links};
+use snmp_walk::{Link, MemoryLink, SinkFault, WalkEnd};
+use snmp_words::Asking;
+use std::alloc::Global;
+
+/// Does a job that asks an agent, and returns the exit status.
+pub(crate) fn do_ask<F: ModuleFiles, L: Links, O: Output, E: Output>(
+    alloc: Global,
+    job: AskJob<'_, '_>,
+    files: &F,
+    links: &mut L,
+    out: &mut O,
+    err: &mut E,
+) -> u8
+    ensures { IsRun L.Links L.Wire.Link (ask_words job.entry)
+        (seen (F.text_at files.now) links.old (O.stream out.old) (E.stream err.old))
+        (seen (F.text_at files.now) links.new (O.stream out.new) (E.stream err.new)) result }
+{
+    match ask(alloc, job, files, links, out, err) {
+        Ok(()) => 0,
+        Err(failure) => report(alloc, &failure, err),
+    }
+}
+
+// Writes the lines of what is asked, and before them, on `err`, those of its modules' warnings.
+fn ask<'a, F: ModuleFiles, L: Links, O: Output, E: Output>(
+    alloc: Global,
+    job: AskJob<'_, 'a>,
+    files: &F,
+    links: &mut L,
+    out: &mut O,
+    err: &mut E,
+) -> Result<(), Failure<'a>>
+    ensures { IsOutcome L.Links L.Wire.Link (ask_words job.entry)
+        (seen (F.text_at files.now) links.old (O.stream out.old) (E.stream err.old))
+        (seen (F.text_at files.now) links.new (O.stream out.new) (E.stream err.new))
+        (outcome_of result) }
+{
+    let orders = Orders::read(job)?;
+    let tree = load(alloc, job.asking, files, err)?;
+    ask_by(alloc, job, orders, &tree, files, links, out)
+}
+
+// The tree of the names and types of a job's modules. The lines of its warnings are written.
+fn load<'a, F: ModuleFiles, E: Output>(
+    alloc: Global,
+    asking: &Asking<'a>,
+    files: &F,
+    err: &mut E,
+) -> Result<F::Names, Failure<'a>>
+    ensures loaded { IfOk result (λ tree. AreLoadedAs (MayHold (F.text_at files.now))
+        (asking_words asking.now).mibs (F.Names.naming tree) (F.Names.definition_at tree)
+        (F.Names.syntax_at tree) (E.stream err.old) (E.stream err.new)) }
+    ensures failed { IfErr result (λ e. (fault_of e ≡ out_of_memory)
+        ⊎ MibsFail (F.text_at files.now) (asking_words asking.now).mibs (fault_of e)) }
+    ensures untold { OnErr result (E.stream err.new ≡ E.stream err.old) }
+{
+    match files.load(alloc, &asking.mibs, err) {
+        Ok(tree) => Ok(tree),
+        Err(FilesError::Unreadable(path)) => Err(Failure::Modules(FilesError::Unreadable(path))),
+        Err(FilesError::Text(path, why)) => Err(Failure::Modules(FilesError::Text(path, why))),
+        Err(FilesError::Memory) => Err(Failure::Memory),
+    }
+}
+
+// Writes the lines of what is asked, by the names and types of a tree.
+fn ask_by<'a, T: ShowTree, F: Files, L: Links, O: Output>(
+    alloc: Global,
+    job: AskJob<'_, 'a>,
+    orders: Orders<'a>,
+    tree: &T,
+    files: &F,
+    links: &mut L,
+    out: &mut O,
+) -> Result<(), Failure<'a>>
+    requires orders { AreOrdersOf (ask_words job) orders }
+    requires known { IsMibOf (MayHold (F.text_at files.now)) (ask_words job).asking
+        (mib_in (T.naming tree.now) (T.syntax_at tree.now)) }
+    ensures { (err : Stream) → IsOutcomeBy L.Links L.Wire.Link (ask_words job.entry)
+        (mib_in (T.naming tree.now) (T.syntax_at tree.now))
+        (seen (F.text_at files.now) links.old (O.stream out.old) err)
+        (seen (F.text_at files.now) links.new (O.stream out.new) err) (outcome_of result) }
+{
+    let asking = job.asking;
+    let plan = Plan::read(alloc, job, orders, tree)?;
+    match plan.agent {
+        AgentAddress::Table(path) => {
+            let table = table_at(alloc, tree, files, path)?;
+            let begun = begin(&plan, job.request)?;
+            print_in_memory(alloc, &plan, begun, tree, &table, asking, out)
+        }
+        AgentAddress::Udp(at) => {
+            let mut link = match links.open(at.host, at.port, asking.seconds) {
+                Ok(link) => link,
+                Err(_) => return Err(Failure::Ended(asking.agent, WalkEnd::Link)),
+            };
+            let begun = begin(&plan, job.request)?;
+            print_over(alloc, &plan, begun, tree, &mut link, asking, out)
+        }
+    }
+}
+
+// Prints what is asked over a link, and after it the number of its bindings where that is asked
+// for.
+fn print_over<'a, T: ShowTree, L: Link, O: Output>(
+    alloc: Global,
+    plan: &Plan<'a>,
+    begun: Begun<'_>,
+    tree: &T,
+    link: &mut L,
+    asking: &Asking<'a>,
+    out: &mut O,
+) -> Result<(), Failure<'a>>
+    requires { IsBegun plan.now.community.now (question_of plan.now.question) begun }
+    ensures { IsShown (IsAskedOver L.Link link.old link.new (asking.now.retries + 1)
+        (plan_of plan.now) (plan_of plan.now).question)
+        (mib_in (T.naming tree.now) (T.syntax_at tree.now)) (plan_of plan.now)
+        asking.now.agent.now (O.stream out.old) (O.stream out.new) (outcome_of result) }
+{
+    let retries = asking.retries as u32;
+    let (community, letters) = (plan.community, plan.letters);
+    let mut text = Vec::new(alloc);
+    let end = print_lines(
+        link, begun, community, retries, tree, letters, &mut text, out,
+    );
+    finish(end, plan.question.counts(), asking.agent, &mut text, out)
+}
+
+// Prints what is asked of the agent that serves a table, and after it the number of its bindings
+// where that is asked for.
+fn print_in_memory<'a, T: ShowTree, O: Output>(
+    alloc: Global,
+    plan: &Plan<'a>,
+    begun: Begun<'_>,
+    tree: &T,
+    table: &Table,
+    asking: &Asking<'a>,
+    out: &mut O,
+) -> Result<(), Failure<'a>>
+    requires { IsBegun plan.now.community.now (question_of plan.now.question) begun }
+    ensures { IsShown (IsAsked (plan_of plan.now) (plan_of plan.now).question table.now)
+        (mib_in (T.naming tree.now) (T.syntax_at tree.now)) (plan_of plan.now)
+        asking.now.agent.now (O.stream out.old) (O.stream out.new) (outcome_of result) }
+{
+    let config = Config {
+        community: plan.community,
+        max_size: plan.max_size,
+    };
+    table.is_mib_view();
+    one_answer();
+    let mut link = MemoryLink::new(alloc, table, config, &[]);
+    let retries = asking.retries as u32;
+    let (community, letters) = (plan.community, plan.letters);
+    let mut text = Vec::new(alloc);
+    let end = print_lines(
+        &mut link, begun, community, retries, tree, letters, &mut text, out,
+    );
+    finish(
+        end_in_memory(end),
+        plan.question.counts(),
+        asking.agent,
+        &mut text,
+        out,
+    )
+}
+
+// How a run over a link in memory ended: such a link fails only where memory runs out.
+fn end_in_memory(end: WalkEnd) -> WalkEnd
+    ensures { result ≡ end_in_memory end }
+{
+    match end {
+        WalkEnd::Link => WalkEnd::Sink(SinkFault::Memory),
+        end => end,
+    }
+}
+
+// Prints what follows the lines of a run that ended in this way.
+fn finish<'a, O: Output>(
+    end: WalkEnd,
+    counts: bool,
+    agent: &'a str,
+    text: &mut Vec<u8>,
+    out: &mut O,
+) -> Result<(), Failure<'a>>
+    ensures { IsFinished agent.now end counts (O.stream out.old) (O.stream out.new)
+        (outcome_of result) }
+{
+    match end {
+        WalkEnd::Done(count) if counts => match print_count(count, text, out) {
+            Ok(()) => Ok(()),
+            Err(SinkFault::Memory) => Err(Failure::Memory),
+            Err(SinkFault::Output) => Err(Failure::Ended(agent, WalkEnd::Sink(SinkFault::Output))),
+        },
+        WalkEnd::Done(_) => Ok(()),
+        end => Err(Failure::Ended(agent, end)),
+    }
+}
+
+// The table that the file at this path states, by the names of a tree.
+fn table_at<'a, T: NameTree, F: Files>(
+    alloc: Global,
+    tree: &T,
+    files: &F,
+    path: &'a str,
+) -> Result<Table, Failure<'a>>
+    ensures table { IfOk result
+        (HasTable (F.text_at files.now) (names_in (T.naming tree.now)) path.now) }
+    ensures err { IfErr result (λ e. (fault_of e ≡ out_of_memory)
+        ⊎ TableFails unreadable bad_table (F.text_at files.now) (names_in (T.naming tree.now))
+        path.now (fault_of e)) }
+{
+    let text = match files.read(alloc, path) {
+        Ok(text) => text,
+        Err(FileFault::Unreadable) => return Err(Failure::Unreadable(path)),
+        Err(FileFault::Memory) => return Err(Failure::Memory),
+    };
+    match Table::read_with(alloc, &text, &TreeNames { tree }) {
+        Ok(table) => Ok(table),
+        Err(fault) => Err(Failure::Table(path, fault)),
+    }
+}

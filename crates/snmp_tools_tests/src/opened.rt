@@ -1,0 +1,314 @@
+//! Which links the tools open, and all that they send over each.
+
+use crate::run::{OF_THREE, THREE, THREE_LINES};
+use snmp_agent::{Config, Served, Table};
+use snmp_io::memory::{MemoryFiles, MemoryOutput};
+use snmp_net::Links;
+use snmp_tools::tool;
+use snmp_walk::{Link, LinkFault, MemoryLink};
+use std::alloc::{AllocError, Global};
+use std::process::Abort;
+use std::test::Fail;
+
+/// A link in memory that takes the datagrams that these octets are, one after another, and no other.
+#[derive(Drop)]
+struct Expecting<'a> {
+    link: MemoryLink<'a>,
+    expected: &'a [u8],
+    sent: usize,
+    fault_count: u64,
+}
+
+impl<'a> Link for Expecting<'a> {
+    ghost use Rattle.std.specs.Prelude.{[]};
+    ghost use Rattle.snmp_walk.specs.Link.{Agents};
+    ghost use Rattle.snmp_walk.specs.Traffic.{Traffic};
+
+    ghost keeps = { λ _. ⊥ };
+
+    ghost honest = { λ _. ⊥ };
+
+    ghost agents = { λ _. record { tables = []; community = []; max_size = 0 } };
+
+    ghost traffic = { λ _. record { sent = []; ahead = [] } };
+
+    ghost fault_count = { λ link. link.fault_count };
+
+    ghost ready = { λ _ _ _. ⊥ };
+
+    ghost brings = { λ _ _ _. Unit {0} };
+
+    ghost keeping = { λ _ h. h };
+
+    ghost lawful = { λ _ h. absurd h };
+
+    fn send(&mut self, datagram: &[u8]) -> Result<(), LinkFault> {
+        let (_, ahead) = self.expected.split_at(self.sent.min(self.expected.len()));
+        if ahead.starts_with(datagram) && self.link.send(datagram).is_ok() {
+            self.sent = self.sent.saturating_add(datagram.len());
+            return Ok(());
+        }
+        self.fault_count = self.fault_count.saturating_add(1);
+        Err(LinkFault)
+    }
+
+    fn receive(&mut self, buffer: &mut [u8]) -> Result<Option<usize>, LinkFault> {
+        if let Ok(got) = self.link.receive(buffer) {
+            return Ok(got);
+        }
+        self.fault_count = self.fault_count.saturating_add(1);
+        Err(LinkFault)
+    }
+
+    fn faults(&self) -> u64 {
+        self.fault_count
+    }
+}
+
+/// A door that isn't opened.
+#[derive(Drop)]
+struct NoDoor;
+
+/// Links to an agent in memory, which take these datagrams, and the count of those that were asked
+/// for.
+#[derive(Drop)]
+struct Counting<'a> {
+    alloc: Global,
+    table: &'a Table,
+    expected: &'a [u8],
+    deliveries: &'a [Option<usize>],
+    asked: u64,
+    fault_count: u64,
+}
+
+impl<'a> Links for Counting<'a> {
+    type Wire = Expecting<'a>;
+
+    type Door = NoDoor;
+
+    ghost opens = { λ _ _ _ _ _. Unit {0} };
+
+    ghost binds = { λ _ _ _ _. Unit {0} };
+
+    ghost serves = { λ _ _ _ _. Unit {0} };
+
+    ghost fault_count = { λ links. links.fault_count };
+
+    fn open(&mut self, _host: &str, _port: u16, _seconds: u64) -> Result<Expecting<'a>, LinkFault> {
+        self.asked = self.asked.saturating_add(1);
+        let config = Config {
+            community: b"secret",
+            max_size: 1472,
+        };
+        Ok(Expecting {
+            link: MemoryLink::new(self.alloc, self.table, config, self.deliveries),
+            expected: self.expected,
+            sent: 0,
+            fault_count: 0,
+        })
+    }
+
+    fn bind(&mut self, _host: &str, _port: u16) -> Result<NoDoor, LinkFault> {
+        self.asked = self.asked.saturating_add(1);
+        self.fault_count = self.fault_count.saturating_add(1);
+        Err(LinkFault)
+    }
+
+    fn serve(
+        &mut self,
+        _door: &mut NoDoor,
+        _table: &Table,
+        _config: &Config<'_>,
+        turns: u64,
+    ) -> Served {
+        Served {
+            idle: turns,
+            ..Served::default()
+        }
+    }
+
+    fn faults(&self) -> u64 {
+        self.fault_count
+    }
+}
+
+/// A command line, what it prints on standard output and on standard error, its status, how many
+/// links it opens, and what it sends.
+type Asking<'a> = ((&'a str, &'a str, &'a str, u8), u64, &'a [u8]);
+
+/// Whether the command line prints its texts, opens so many links, and sends these datagrams.
+fn asks(
+    alloc: Global,
+    table: &Table,
+    deliveries: &[Option<usize>],
+    asking: Asking<'_>,
+) -> Result<bool, AllocError> {
+    let ((line, lines, messages, status), opened, expected) = asking;
+    let words: Vec<&str> = line.split(' ').collect(alloc)?;
+    let files = MemoryFiles { files: OF_THREE };
+    let mut links = Counting {
+        alloc,
+        table,
+        expected,
+        deliveries,
+        asked: 0,
+        fault_count: 0,
+    };
+    let mut out = MemoryOutput::new(alloc);
+    let mut err = MemoryOutput::new(alloc);
+    let ended = tool(alloc, &words, &files, &mut links, &mut out, &mut err);
+    Ok(
+        ended == status
+            && out.octets() == lines.as_bytes()
+            && err.octets() == messages.as_bytes()
+            && links.asked == opened,
+    )
+}
+
+/// Asserts of each of the command lines that it prints its texts, opens so many links, and sends
+/// these datagrams.
+fn assert_asks(
+    rt: &impl Abort,
+    alloc: Global,
+    deliveries: &[Option<usize>],
+    lines: &[Asking<'_>],
+) -> Result<(), Fail> {
+    let table = Table::read(alloc, THREE)?;
+    for asking in lines {
+        let asks = asks(alloc, &table, deliveries, *asking);
+        assert!(rt; matches!(asks, Ok(true)), "{}", asking.0.0);
+    }
+    Ok(())
+}
+
+/// A datagram so many times.
+fn repeated(alloc: Global, datagram: &[u8], times: u32) -> Result<Vec<u8>, AllocError> {
+    let mut octets = Vec::new(alloc);
+    for _ in 0..times {
+        octets.extend_from_slice(datagram)?;
+    }
+    Ok(octets)
+}
+
+/// The GetNext of 1.3.6.1.4.1.32473.1, in community `secret` with id 1.
+const FROM_ROOT: &[u8] = &[
+    0x30, 0x27, 0x02, 0x01, 0x01, 0x04, 0x06, 0x73, 0x65, 0x63, 0x72, 0x65, 0x74, 0xA1, 0x1A, 0x02,
+    0x01, 0x01, 0x02, 0x01, 0x00, 0x02, 0x01, 0x00, 0x30, 0x0F, 0x30, 0x0D, 0x06, 0x09, 0x2B, 0x06,
+    0x01, 0x04, 0x01, 0x81, 0xFD, 0x59, 0x01, 0x05, 0x00,
+];
+
+/// Those of the three rows, with ids 2 to 4.
+const FROM_FIRST: &[u8] = &[
+    0x30, 0x29, 0x02, 0x01, 0x01, 0x04, 0x06, 0x73, 0x65, 0x63, 0x72, 0x65, 0x74, 0xA1, 0x1C, 0x02,
+    0x01, 0x02, 0x02, 0x01, 0x00, 0x02, 0x01, 0x00, 0x30, 0x11, 0x30, 0x0F, 0x06, 0x0B, 0x2B, 0x06,
+    0x01, 0x04, 0x01, 0x81, 0xFD, 0x59, 0x01, 0x01, 0x00, 0x05, 0x00,
+];
+
+const FROM_SECOND: &[u8] = &[
+    0x30, 0x29, 0x02, 0x01, 0x01, 0x04, 0x06, 0x73, 0x65, 0x63, 0x72, 0x65, 0x74, 0xA1, 0x1C, 0x02,
+    0x01, 0x03, 0x02, 0x01, 0x00, 0x02, 0x01, 0x00, 0x30, 0x11, 0x30, 0x0F, 0x06, 0x0B, 0x2B, 0x06,
+    0x01, 0x04, 0x01, 0x81, 0xFD, 0x59, 0x01, 0x02, 0x00, 0x05, 0x00,
+];
+
+const FROM_LAST: &[u8] = &[
+    0x30, 0x29, 0x02, 0x01, 0x01, 0x04, 0x06, 0x73, 0x65, 0x63, 0x72, 0x65, 0x74, 0xA1, 0x1C, 0x02,
+    0x01, 0x04, 0x02, 0x01, 0x00, 0x02, 0x01, 0x00, 0x30, 0x11, 0x30, 0x0F, 0x06, 0x0B, 0x2B, 0x06,
+    0x01, 0x04, 0x01, 0x81, 0xFD, 0x59, 0x01, 0x0A, 0x00, 0x05, 0x00,
+];
+
+/// The GetBulk of ten repetitions from 1.3.6.1.4.1.32473.1.
+const BULK: &[u8] = &[
+    0x30, 0x27, 0x02, 0x01, 0x01, 0x04, 0x06, 0x73, 0x65, 0x63, 0x72, 0x65, 0x74, 0xA5, 0x1A, 0x02,
+    0x01, 0x01, 0x02, 0x01, 0x00, 0x02, 0x01, 0x0A, 0x30, 0x0F, 0x30, 0x0D, 0x06, 0x09, 0x2B, 0x06,
+    0x01, 0x04, 0x01, 0x81, 0xFD, 0x59, 0x01, 0x05, 0x00,
+];
+
+/// The Get of the last row and the first.
+const GET: &[u8] = &[
+    0x30, 0x3A, 0x02, 0x01, 0x01, 0x04, 0x06, 0x73, 0x65, 0x63, 0x72, 0x65, 0x74, 0xA0, 0x2D, 0x02,
+    0x01, 0x01, 0x02, 0x01, 0x00, 0x02, 0x01, 0x00, 0x30, 0x22, 0x30, 0x0F, 0x06, 0x0B, 0x2B, 0x06,
+    0x01, 0x04, 0x01, 0x81, 0xFD, 0x59, 0x01, 0x0A, 0x00, 0x05, 0x00, 0x30, 0x0F, 0x06, 0x0B, 0x2B,
+    0x06, 0x01, 0x04, 0x01, 0x81, 0xFD, 0x59, 0x01, 0x01, 0x00, 0x05, 0x00,
+];
+
+const WALK: &str = "snmp snmpwalk -On -csecret device .1.3.6.1.4.1.32473.1";
+
+const BULK_WALK: &str = "snmp snmpbulkwalk -On -csecret device .1.3.6.1.4.1.32473.1";
+
+const TWO: &str = "snmp snmpget -On -csecret device .1.3.6.1.4.1.32473.1.10.0 \
+.1.3.6.1.4.1.32473.1.1.0";
+
+const TWO_LINES: &str = ".1.3.6.1.4.1.32473.1.10.0 = INTEGER: 3\n\
+.1.3.6.1.4.1.32473.1.1.0 = INTEGER: 1\n";
+
+const SILENT: &str = "Timeout: No Response from device.\n";
+
+#[test]
+fn one_link_is_opened_and_the_stated_requests_are_sent(rt: HostRuntime) -> Result<(), Fail> {
+    let mut steps = Vec::from_slice(rt.alloc(), FROM_ROOT)?;
+    steps.extend_from_slice(FROM_FIRST)?;
+    steps.extend_from_slice(FROM_SECOND)?;
+    steps.extend_from_slice(FROM_LAST)?;
+    assert_asks(
+        &rt,
+        rt.alloc(),
+        &[],
+        &[
+            ((WALK, THREE_LINES, "", 0), 1, &steps),
+            ((BULK_WALK, THREE_LINES, "", 0), 1, BULK),
+            ((TWO, TWO_LINES, "", 0), 1, GET),
+        ],
+    )
+}
+
+#[test]
+fn a_request_is_sent_again_over_the_same_link(rt: HostRuntime) -> Result<(), Fail> {
+    let tries = repeated(rt.alloc(), BULK, 6)?;
+    let gets = repeated(rt.alloc(), GET, 6)?;
+    assert_asks(
+        &rt,
+        rt.alloc(),
+        &[None, None, None, None, None, None],
+        &[
+            ((BULK_WALK, "", SILENT, 1), 1, &tries),
+            ((TWO, "", SILENT, 1), 1, &gets),
+        ],
+    )
+}
+
+#[test]
+fn without_an_agent_no_link_is_opened(rt: HostRuntime) -> Result<(), Fail> {
+    assert_asks(
+        &rt,
+        rt.alloc(),
+        &[],
+        &[
+            (
+                (
+                    "snmp snmpwalk -On table:t.tab .1.3.6.1.4.1.32473.1",
+                    THREE_LINES,
+                    "",
+                    0,
+                ),
+                0,
+                &[],
+            ),
+            (("snmp snmptranslate -On iso", ".1\n", "", 0), 0, &[]),
+            (
+                ("snmp snmpwalk device x", "", "Unknown name: x\n", 1),
+                0,
+                &[],
+            ),
+            (
+                (
+                    "snmp snmpwalk device .3",
+                    "",
+                    "Name cannot be sent: .3\n",
+                    1,
+                ),
+                1,
+                &[],
+            ),
+        ],
+    )
+}
