@@ -22,6 +22,7 @@ build() {
 }
 
 # driver SOURCE: links the C program with the library, as $work/driver.
+driver=$work/driver
 driver() {
     local kit
     kit=$(cd "$(dirname "$(readlink -f "$(command -v rt)")")/.." && pwd)
@@ -29,9 +30,32 @@ driver() {
     cc -O2 -o "$work/driver" "$top/bench/$1" "$library" "$kit/c/liblibc_c.a"
 }
 
+# has_net_snmp: whether Net-SNMP's library is installed to be compared with (Debian's package libsnmp-dev).
+has_net_snmp() { command -v net-snmp-config >/dev/null; }
+
+# net_snmp COUNT WORD..: a count of the driver of Net-SNMP's library, which it links at the first call; COUNT is
+# one of the functions below, with its own first words.
+net_snmp() {
+    [ -x "$work/net-snmp" ] || cc -O2 -o "$work/net-snmp" "$top/bench/net-snmp.c" $(net-snmp-config --libs)
+    local driver=$work/net-snmp
+    "$@"
+}
+
+# compared NAME OURS COUNT WORD..: a line with our count, and Net-SNMP's by that call where it is installed.
+compared() {
+    local name=$1 ours=$2 theirs
+    shift 2
+    printf '%s: %d instructions' "$name" "$ours"
+    if has_net_snmp; then
+        theirs=$(net_snmp "$@")
+        awk -v n="$ours" -v m="$theirs" "BEGIN { printf \"; Net-SNMP's takes %d, %.1f times as many\", m, m / n }"
+    fi
+    echo
+}
+
 # instructions WORD..: how many instructions the driver takes with these words.
 instructions() {
-    valgrind --tool=callgrind --callgrind-out-file=/dev/null "$work/driver" "$@" 2>&1 >/dev/null |
+    valgrind --tool=callgrind --callgrind-out-file=/dev/null "$driver" "$@" 2>&1 >/dev/null |
         sed -n 's/.*Collected : \([0-9]*\).*/\1/p'
 }
 
@@ -47,6 +71,6 @@ each() {
 within() {
     local function=$1
     shift
-    valgrind --tool=callgrind --callgrind-out-file=/dev/null --toggle-collect="$function" "$work/driver" "$@" \
+    valgrind --tool=callgrind --callgrind-out-file=/dev/null --toggle-collect="$function" "$driver" "$@" \
         2>&1 >/dev/null | sed -n 's/.*Collected : \([0-9]*\).*/\1/p'
 }

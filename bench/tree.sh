@@ -1,16 +1,16 @@
 #!/usr/bin/env bash
 # Counts the instructions of reading and loading modules: for each octet of a text of 1 MB with every
 # production, at n and 2n for many definitions, for chains of parents and of types, and of one look-up and of
-# one line in a tree of 20,000 nodes.
+# one line in a tree of 20,000 nodes; and what Net-SNMP's library takes of these, where it is installed.
 source "$(dirname "${BASH_SOURCE[0]}")/common.sh"
 driver tree.c
 
 echo 'SNMPv2-SMI DEFINITIONS ::= BEGIN enterprises OBJECT IDENTIFIER ::= { iso 3 6 1 4 1 } END' >"$work/text"
 python3 "$top/bench/modules_text.py" 1000000 >>"$work/text"
-octets=$(stat -c %s "$work/text")
-n=$(within tree_nodes_in nodes "$work/text" 1)
-awk -v found="$("$work/driver" nodes "$work/text" 1)" -v n="$n" -v octets="$octets" \
-    'BEGIN { printf "%s: %d instructions, %.1f for each octet\n", found, n, n / octets }'
+for text in "$work/text" "$top/modules/all.txt"; do
+    "$work/driver" nodes "$text" 1
+    compared "  ${text##*/}" "$(within tree_nodes_in nodes "$text" 1)" within net_snmp_modules modules "$text" 1
+done
 
 for kind in definitions:5000 parents:5000 types:5000; do
     name=${kind%:*}
@@ -26,7 +26,7 @@ done
 python3 "$top/bench/modules_text.py" definitions 20000 >"$work/many"
 python3 "$top/bench/modules_text.py" objects 20000 >"$work/objects"
 python3 "$top/bench/modules_text.py" types 10000 >"$work/chain"
-printf 'a name: %d instructions\n' "$(each 1000 names "$work/many")"
+compared 'a name' "$(each 1000 names "$work/many")" each 1000 names "$work/many"
 printf 'an identifier: %d instructions\n' "$(each 1000 identifiers "$work/many")"
 printf 'a syntax after 10,000 types: %d instructions\n' "$(each 1000 syntaxes "$work/chain")"
-printf 'a line with a name and a syntax: %d instructions\n' "$(each 1000 lines "$work/objects")"
+compared 'a line with a name and a syntax' "$(each 1000 lines "$work/objects")" each 1000 lines "$work/objects"

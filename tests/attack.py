@@ -8,13 +8,14 @@ By default 200,000 datagrams and 600 runs of the walkers. The seed is printed, a
 is 0. Its last line is 'N passed, M failed'.
 """
 import argparse
+import itertools
 import random
 import socket
 import sys
 import time
 
 from network import (BULK, E, END, GET, INSTANCE, NEXT, NULL, OBJECT, R, RESPONSE, ROOT, SET, Elsewhere, Server,
-                     answered, dotted, element, identifier, integer, message, mutated, read, reply, run, text)
+                     answered, dotted, element, elements, identifier, integer, message, mutated, read, reply, run, text)
 
 # -- a served table of each type
 
@@ -135,13 +136,26 @@ def good(asked):
     return reply(asked, answered(ROWS, asked))
 
 
+# Numbers from here on are marks, by which it is known from which datagram a line is.
+MARKS = 1000000
+
+
+def marked(asked, mark):
+    """A good reply but for its values, which no other datagram has."""
+    return reply(asked, [(name, value if value in (OBJECT, INSTANCE, END) else integer(mark))
+                         for name, value in answered(ROWS, asked)])
+
+
 def attacking(rng, sent):
     """An agent that sends a few mutated replies, and then perhaps a good one. It notes all that it sent."""
+    marks = itertools.count(MARKS)
+
     def agent(seen):
         asked = seen[-1]
-        datagrams = [attacked(rng, good(asked)) for _ in range(rng.randint(0, 3))]
+        datagrams = [attacked(rng, rng.choice([good(asked), marked(asked, next(marks))]))
+                     for _ in range(rng.randint(0, 3))]
         wrong_id = asked._replace(id=asked.id + rng.choice([-1, 1, 256]))
-        datagrams += rng.choice([[], [good(wrong_id)], [Elsewhere(good(asked))]])
+        datagrams += rng.choice([[], [marked(wrong_id, next(marks))], [Elsewhere(marked(asked, next(marks)))]])
         datagrams = [it for it in datagrams if isinstance(it, Elsewhere) or len(it) > 0]
         if rng.randrange(20):
             datagrams.append(good(asked))
@@ -150,9 +164,9 @@ def attacking(rng, sent):
     return agent
 
 
-def names_in(sent):
-    """The names of all replies to the request that was waiting when they were sent."""
-    names = set()
+def stated_in(sent):
+    """The names and the numbers of all replies to the request that was waiting when they were sent."""
+    names, numbers = set(), set()
     for asked, datagram in sent:
         try:
             it = read(datagram)
@@ -160,7 +174,9 @@ def names_in(sent):
             continue
         if (it.version, it.community, it.kind, it.id) == (1, b"public", RESPONSE, asked.id):
             names.update(name for name, _ in it.bindings)
-    return names
+            numbers.update(int.from_bytes(content, "big", signed=True) for _, value in it.bindings
+                           for _, content in elements(value))
+    return names, numbers
 
 
 def faults_of(words, ran, sent):
@@ -178,10 +194,12 @@ def faults_of(words, ran, sent):
     for line in ran.output.splitlines():
         if " = " in line and line.startswith("."):
             names.append(tuple(int(number) for number in line.split(" = ")[0].split(".")[1:]))
-    stated = names_in(sent)
+    stated, numbers = stated_in(sent)
     strange = [dotted(name) for name in names if name not in stated]
+    strange += [line for line in ran.output.splitlines() if " = INTEGER: " in line and
+                MARKS <= int(line.rpartition(" ")[2]) not in numbers]
     if strange:
-        yield f"names that no reply has: {strange}"
+        yield f"what no reply has: {strange}"
     if words[0] != "snmpget":
         below = [name for name in names if name != R]
         if any(name[:len(R)] != R for name in names) or any(a >= b for a, b in zip(below, below[1:])):

@@ -22,9 +22,9 @@ import termios
 import time
 
 import network
-from network import (Agent, FIRST, LINES, NAMES, PROGRAM, R, ROOT, ROWS, SECOND, SILENT, Server, differs, dotted,
-                     failing, get, integer, message, nexts, saying, served, serving, silent, sockets_of, stopping,
-                     test, text, walks)
+from network import (Agent, FIRST, LINES, NAMES, PROGRAM, R, ROOT, ROWS, SECOND, SILENT, Server, answered, differs,
+                     dotted, failing, get, integer, message, nexts, reply, saying, served, serving, silent, sockets_of,
+                     stopping, test, text, walks)
 
 # Its own tests are run by itself.
 network.tests.clear()
@@ -257,6 +257,65 @@ for walker in "snmpwalk", "snmpbulkwalk -Cr1":
 walks("a Get, stopped thrice in its one wait, takes the reply", f"snmpget -On -r 0 -t 5 AGENT {ROOT}.1.0",
       lambda seen: [0.1, stopping, 0.05, stopping, 0.05, stopping, served(ROWS, seen[-1])], FIRST,
       asked=get(NAMES[1]))
+
+
+# -- calls of the system that fail, or do a part
+
+def tampering(tampered, *words, **where):
+    """Runs the program, while strace answers some of its calls of the system in the system's place."""
+    with file() as log:
+        return run(*words, before=["strace", "-f", "-o", log, "-e", f"trace={tampered.partition(':')[0]}",
+                                   "-e", f"inject={tampered}"], **where)
+
+
+# Catches: a receive that failed as one that brought nothing, which sends the request again and ends as a timeout;
+# a send that failed, or that took a part of the datagram, as one that took it.
+@where(traces, "a receive or a send that fails ends a walk and a Get, and what was printed stays", "no strace here")
+def failing_calls():
+    wrong = []
+    for command, name, printed, asked in (("snmpwalk", ROOT, FIRST, nexts(*NAMES[:2])),
+                                          ("snmpget", f"{ROOT}.1.0", "", get(NAMES[1]))):
+        last = len(asked)
+        for call, reached in (("recvfrom:error=EIO", last), ("recvfrom:error=ENOMEM", last),
+                              ("sendto:error=ENETUNREACH", last - 1), ("sendto:retval=1", last - 1)):
+            with Agent(serving(ROWS)) as agent:
+                ran = tampering(f"{call}:when={last}", command, "-On", agent.place, name)
+            wrong += [differs((call, ran), (call, (1, printed, NO_LINK))), differs(agent.seen, asked[:reached]),
+                      *agent.faults]
+    return wrongs(*wrong)
+
+
+# Catches: a server that ends at such a call, or counts its turn under replies or dropped datagrams.
+@where(traces, "a receive or a send of snmpd that fails is a turn of its own, and the next follows", "no strace here")
+def failing_server():
+    wrong = []
+    for call in "recvfrom:error=EIO", "sendto:error=EPERM", "sendto:retval=1":
+        with file(stated(SOME)) as table, file() as log:
+            place = f"127.0.0.1:{next(network.ports)}"
+            server = start("snmpd", "--table", table, "--listen", place, "--turns", "8",
+                           before=["strace", "-f", "-o", log, "-e", "trace=sendto,recvfrom", "-e",
+                                   f"inject={call}:when=1"])
+            said = server.stdout.readline()
+            # The datagram waits where the receive failed, and is sent again where its reply's send did.
+            ran = run("snmpget", "-On", "-t", "3", "-r", "1", place, f"{ROOT}.7")
+            status, rest, messages = ended(server)
+        turns = "1 replies, 0 dropped\n"
+        wrong += [differs((call, ran), (call, (0, f"{ROOT}.7 = INTEGER: 7\n", ""))),
+                  differs((said.decode(), status, rest, messages), (f"listening on {place}\n", 0, turns, ""))]
+    return wrongs(*wrong)
+
+
+# A write is tried 100 times. Catches: a second interruption in a row as a write that failed, and a write that is
+# tried for ever.
+@where(traces, "a write that signals interrupt several times in a row is made, and one that they always do fails",
+       "no strace here")
+def interrupted_thrice():
+    wrong = []
+    with file(stated(SOME)) as table:
+        for times, expected in ((2, (0, SOME_TEXT, "")), (99, (0, SOME_TEXT, "")), (100, (1, "", FAILED))):
+            ran = tampering(f"write:error=EINTR:when=1..{times}", "snmpwalk", "-On", f"table:{table}", ROOT)
+            wrong.append(differs((times, ran), (times, expected)))
+    return wrongs(*wrong)
 
 
 # -- outputs
@@ -705,7 +764,7 @@ def with_descriptors(count, *words):
         return ended(program)
 
 
-# Catches: a link or a file that is said to be there, or want of memory.
+# Catches: a file that is said to be there, and want of memory in the place of a link or a file.
 @test("where no descriptor is left, a link or a file is refused")
 def no_descriptors():
     with file(stated(SOME)) as table, Server(table=stated(SOME).decode()) as server:
@@ -743,13 +802,81 @@ networks = subprocess.run(["unshare", "-rn", "sh", "-c", "echo 40000 40001 >/pro
                           capture_output=True, check=False).returncode == 0
 
 
-# Catches: a link that is said to be open where it couldn't be bound, and then waits for replies that can't come.
+# Catches: a link that couldn't be bound and over which nothing could be sent, which then waits for replies; want of
+# memory in its place.
 @where(networks, "where no port is free the link fails, and once one is the walk is whole", "no network to itself")
 def no_ports():
     with file(stated(SOME)) as table:
         ran = subprocess.run(["unshare", "-rn", sys.executable, "-c", NO_PORTS, table, PROGRAM, ROOT],
                              capture_output=True, text=True, timeout=300, check=False)
         return differs((ran.stdout, ran.stderr), (f"{[1, '', NO_LINK]}\n{[0, SOME_TEXT, '']}\n", ""))
+
+
+# -- ids that are used up
+
+def places_of(pid, number):
+    """Where a process has this number in its memory, by four octets; but not in areas beyond what a stack takes."""
+    wanted, found = struct.pack("<I", number), set()
+    with open(f"/proc/{pid}/maps", encoding="ascii") as maps, open(f"/proc/{pid}/mem", "rb", buffering=0) as memory:
+        for line in maps:
+            places, rights = line.split()[:2]
+            begin, end = (int(place, 16) for place in places.split("-"))
+            if rights.startswith("rw") and end - begin < 1 << 24:
+                memory.seek(begin)
+                octets, at = memory.read(end - begin), -1
+                while (at := octets.find(wanted, at + 1)) >= 0:
+                    found |= {begin + at} if at % 4 == 0 else set()
+    return found
+
+
+def set_number(pid, places, number):
+    with open(f"/proc/{pid}/mem", "r+b", buffering=0) as memory:
+        for place in places:
+            memory.seek(place)
+            memory.write(struct.pack("<I", number))
+
+
+def changes_others():
+    """Whether this script may change the memory of what it starts."""
+    with subprocess.Popen(["sleep", "60"]) as other:
+        try:
+            set_number(other.pid, [], 0)
+        except OSError:
+            return False
+        finally:
+            other.kill()
+    return True
+
+
+LAST_ID = 2147483647
+
+
+# As 2147483647 requests take hours, the id of the waiting one is raised where the program has it: at each place that
+# held the ids of five requests, one after the other. Catches: an id beyond the greatest, or one again; another message
+# in the place of this one, or none; the status 0.
+@where(changes_others(), "a walk whose ids are used up ends with the lines before it", "no memory is changed here")
+def used_ids():
+    wrong = []
+    for command, ahead in ("snmpwalk", 0), ("snmpwalk", 2), ("snmpbulkwalk -Cr1", 1):
+        places, rows = [], {R + (i,): integer(i) for i in range(100)}
+
+        def raising(seen):
+            pid, id = agent.pid.result(), seen[-1].id
+            if 4 <= id <= 8:
+                places.append(places_of(pid, id))
+            if id == 8:
+                set_number(pid, set.intersection(*places), LAST_ID - ahead)
+                return [reply(seen[-1]._replace(id=LAST_ID - ahead), answered(rows, seen[-1]))]
+            return [served(rows, seen[-1])]
+        with Agent(raising) as agent:
+            program = start(*command.split(), "-On", "-r", "0", agent.place, ROOT)
+            agent.pid.set_result(program.pid)
+            ran = ended(program)
+        ids = [network.read(request).id for request in agent.seen]
+        wanted = [*range(1, 9), *range(LAST_ID - ahead + 1, LAST_ID + 1)]
+        text = "".join(f"{dotted(name)} = INTEGER: {i}\n" for i, name in enumerate(list(rows)[:len(wanted)]))
+        wrong += [differs((ids, ran), (wanted, (1, text, "Too many requests.\n"))), *agent.faults]
+    return wrongs(*wrong)
 
 
 if __name__ == "__main__":

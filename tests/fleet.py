@@ -6,6 +6,9 @@ usage: fleet.py
 
 The page's commands are the blocks that it marks as `sh`; they run in order, in one folder. Its last line is
 'N passed, M failed'.
+
+Catches, in wrong programs that would prove as well: a run that fails with status 0, without its message or with that of
+another fault; lines that are left out or cut, where all is there and where descriptors or memory are not.
 """
 import collections
 import contextlib

@@ -80,6 +80,11 @@ same 'the example of snmpwalk' "$row" "$(shown snmpwalk)"
 same 'the example of snmpbulkwalk' "$row"$'\nVariables found: 1' "$(shown snmpbulkwalk)"
 same 'the example of snmpd' "listening on 127.0.0.1:$port"$'\n0 replies, 0 dropped' "$(shown snmpd)"
 
+# -- the first command of README
+
+command=$(sed -n 's/^    \(\.\/snmp snmpwalk .*\)/\1/p' README.md)
+same 'the first command of README' "$(sed -n 's/^    \(\.1\..* = .*\)/\1/p' README.md)" "$($command 2>&1)"
+
 # -- the manual
 
 # The same by the synopsis of the manual.
@@ -114,11 +119,6 @@ while read -r message; do
     count "$(grep -qxF ".It Li \"$message\"" docs/snmp.1 || echo "the manual lacks the message $message")"
 done < <(sed -n '/^| what | message |/,/^$/s/.*| \(.*\) |$/\1/p; /^Warnings change no status/p' docs/PROFILE.md |
     grep -o '`[^`]*`' | tr -d '`' | grep -E '^([A-Z][a-z]|snmp: )')
-# A walk that has used up its ids takes hours, so of this message the definition is compared, which the program is
-# proved to print.
-same 'the message of ids used up' 'walk_end.TooManyRequests = codes "Too many requests."' \
-    "$(sed -n 's/^end_message agent \(walk_end.TooManyRequests .*\)/\1/p' crates/snmp_tools/specs/Message.antt)"
-same 'the page of ids used up' '| ids used up | `Too many requests.` |' "$(grep -F 'ids used up' docs/PROFILE.md)"
 if command -v mandoc >/dev/null; then
     same 'mandoc -Tlint' '' "$(mandoc -Tlint -W warning docs/snmp.1 2>&1)"
 fi

@@ -289,6 +289,23 @@ refuses 'error: the following required arguments were not provided:
   --table <FILE>...' snmpd --turns 0
 refuses 'error: invalid UTF-8 was detected in one or more arguments' snmptranslate $'\xFF'
 
+# words of Net-SNMP: those that are taken joined to their values, and what is used in place of the others
+prints "$three" snmpbulkwalk -v2c -cpublic -r1 -t2 -On -Cr50 table:three.tab $e.1
+prints "$three" snmpwalk table:three.tab $e.1 -v2c -cpublic -r1 -t2 -On
+prints "$first" snmpget -v2c -cpublic -r1 -t2 -On table:three.tab $e.1.1.0
+tips() { refuses "error: unexpected argument '$1' found
+
+  tip: $2..." "${@:3}"; }
+tips -m '--mib FILE names a file of modules, and may be repeated' snmpwalk -m ALL table:three.tab
+tips -m '--mib FILE names a file of modules, and may be repeated' snmptranslate -mALL .1.3
+tips -M 'no folder is searched for modules: --mib FILE names each file' snmpbulkwalk -M dir table:three.tab
+tips -P 'files of modules (--mib FILE) are read in one way alone' snmpget -Pu table:three.tab .1.3
+tips -d 'messages are shown by tcpdump -vv -s0 udp port 161' snmpwalk -d table:three.tab
+tips -u 'there is SNMPv2c alone: a community (-c), and neither users nor keys' snmpget -u me table:three.tab .1.3
+refuses "error: unrecognized subcommand 'snmpset'
+
+  tip: agents are read here and never written..." snmpset
+
 # numbers at their ends and past them
 place=127.0.0.1:$((20000 + RANDOM % 10000))
 accepts() { prints "$first" snmpwalk "$@" -On table:three.tab $e.1.1.0; }
@@ -439,6 +456,8 @@ expect 0 "listening on $place
 0 replies, 0 dropped" "$warnings" snmpd --mib tiny.txt --table two.tab --listen "$place" --turns 0
 tail -n +2 two.tab >"$got/t.tab"
 refuses "$got/t.tab:1: bad name" snmpwalk -On "table:$got/t.tab" $e
+expect 1 '' "$warnings
+$got/t.tab:1: bad name" snmpwalk --mib tiny.txt "table:$got/t.tab" tiny
 printf '#snmptab 2\r\ntinyState.0|2|1\r\n' >"$got/t.tab"
 expect 0 'TINY-MIB::tinyState.0 = INTEGER: up(1)' "$warnings" snmpwalk --mib tiny.txt "table:$got/t.tab" tiny
 table '#snmptab 2' "tinyKeyUse.'a|b'|66|5" "$e.3.1.1.99|66|6"

@@ -1,0 +1,265 @@
+// What makes the built program wrong at the machine's edge, for tests/wrong.py: each name that -D defines stands for one
+// wrong program. HEAP stands for the file heap.c, where it says which requests for memory are refused.
+#define _GNU_SOURCE
+#include <arpa/inet.h>
+#include <dlfcn.h>
+#include <errno.h>
+#include <netdb.h>
+#include <netinet/in.h>
+#include <poll.h>
+#include <signal.h>
+#include <stdio.h>
+#include <stdlib.h>
+#include <string.h>
+#include <sys/socket.h>
+#include <sys/syscall.h>
+#include <unistd.h>
+#ifdef HEAP
+#include HEAP
+#define IS_REFUSED (run != NULL && run->refused)
+#else
+#define IS_REFUSED 1
+#endif
+static __attribute__((unused)) void *volatile block;
+// The function of the same name that comes next.
+#define NEXT(name) __typeof__(&name) next = dlsym(RTLD_NEXT, #name)
+
+// -- sockets
+
+#ifdef BOUND_TO_LOOPBACK
+int bind(int s, const struct sockaddr *a, socklen_t n) {
+    NEXT(bind);
+    struct sockaddr_in it;
+    if (a->sa_family != AF_INET) return next(s, a, n);
+    memcpy(&it, a, sizeof it);
+    if (it.sin_addr.s_addr == 0) it.sin_addr.s_addr = htonl(INADDR_LOOPBACK);
+    return next(s, (struct sockaddr *)&it, sizeof it);
+}
+#endif
+#ifdef NO_PORT_IS_NO_FAULT
+int bind(int s, const struct sockaddr *a, socklen_t n) {
+    NEXT(bind);
+    next(s, a, n);
+    return 0;
+}
+ssize_t sendto(int s, const void *b, size_t n, int f, const struct sockaddr *a, socklen_t an) {
+    NEXT(sendto);
+    next(s, b, n, f, a, an);
+    return (ssize_t)n;
+}
+#endif
+#ifdef ANY_FAMILY
+int getaddrinfo(const char *restrict h, const char *restrict p, const struct addrinfo *restrict hints,
+                struct addrinfo **restrict r) {
+    NEXT(getaddrinfo);
+    struct addrinfo any = *hints;
+    any.ai_family = AF_UNSPEC;
+    any.ai_flags = 0;
+    int e = next(h, p, &any, r);
+    if (!e && *r && (*r)->ai_family != AF_INET) {
+        freeaddrinfo(*r);
+        return EAI_NONAME;
+    }
+    return e;
+}
+#endif
+
+// What is sent: `tampered` does it in the place of a send.
+#if defined SECOND_SOCKET || defined LAST_OCTET_WRONG || defined A_REPLY_IS_LOST || defined ANY_ID || defined ANY_SENDER
+static struct sockaddr_in asked;
+static unsigned char sent[65536];
+static unsigned long sends;
+ssize_t sendto(int s, const void *b, size_t n, int f, const struct sockaddr *a, socklen_t an) {
+    NEXT(sendto);
+    memcpy(&asked, a, sizeof asked);
+    memcpy(sent, b, n);
+    sends++;
+#ifdef SECOND_SOCKET
+    if (sends == 1) {
+        int other = socket(AF_INET, SOCK_DGRAM, 0);
+        struct sockaddr_in to = {.sin_family = AF_INET, .sin_port = htons(9), .sin_addr.s_addr = htonl(INADDR_LOOPBACK)};
+        syscall(SYS_sendto, other, b, n, 0, &to, sizeof to);
+        close(other);
+    }
+#endif
+#ifdef LAST_OCTET_WRONG
+    if (sends % 97 == 0) sent[n - 1] ^= 1;
+#endif
+#ifdef A_REPLY_IS_LOST
+    if (sends % 97 == 0) return (ssize_t)n;
+#endif
+    return next(s, sent, n, f, a, an);
+}
+#endif
+#if defined ANY_ID || defined ANY_SENDER || defined INTERRUPTED_IS_SILENCE || defined INTERRUPTED_IS_FAULT || \
+    defined KEEPS_MEMORY || defined DIES_OF_A_DATAGRAM
+// Where the id of a message stands: behind its length, its version, its community, and the PDU's tag and length.
+static __attribute__((unused)) unsigned char *id_of(unsigned char *it, size_t n) {
+    size_t at = 0;
+    for (int step = 0; step < 4; step++) {
+        if (at + 6 > n) return NULL;
+        size_t size = it[at + 1], more = size > 128 && size < 131 ? size - 128 : 0;
+        if (more == 1) size = it[at + 2];
+        at += 2 + more + (step == 1 || step == 2 ? size : 0);
+    }
+    return at + 3 <= n && it[at] == 2 ? it + at : NULL;
+}
+ssize_t recvfrom(int s, void *restrict b, size_t n, int f, struct sockaddr *restrict a, socklen_t *restrict an) {
+    NEXT(recvfrom);
+    ssize_t r = next(s, b, n, f, a, an);
+#ifdef INTERRUPTED_IS_SILENCE
+    if (r < 0 && errno == EINTR) errno = EAGAIN;
+#endif
+#ifdef INTERRUPTED_IS_FAULT
+    if (r < 0 && errno == EINTR) errno = EIO;
+#endif
+#ifdef ANY_SENDER
+    if (r > 0) memcpy(a, &asked, sizeof asked);
+#endif
+#ifdef ANY_ID
+    unsigned char *of = r > 0 ? id_of(b, (size_t)r) : NULL, *wanted = id_of(sent, 64);
+    if (of && wanted && of[1] == 1 && wanted[1] == 1) of[2] = wanted[2];
+#endif
+#ifdef KEEPS_MEMORY
+    if (r >= 0) memset(block = malloc(64), 1, 64);
+#endif
+#ifdef DIES_OF_A_DATAGRAM
+    if (r > 2 && ((unsigned char *)b)[1] == 0x84) abort();
+#endif
+    return r;
+}
+#endif
+
+// -- outputs
+
+#ifdef NOTHING_IS_SAID
+#define WRITES if (d == 2 && IS_REFUSED) return (ssize_t)n;
+#endif
+#ifdef PART_IS_WHOLE
+#define WROTE if (d == 1 && r > 0) return (ssize_t)n;
+#endif
+#ifdef REFUSED_IS_WHOLE
+#define WROTE if (d == 1 && r < 0 && errno == EAGAIN) return (ssize_t)n;
+#endif
+#ifdef FULL_IS_WHOLE
+#define WROTE if (d == 1 && r < 0 && (errno == ENOSPC || errno == EFBIG)) return (ssize_t)n;
+#endif
+#ifdef GONE_IS_TAKEN
+#define WROTE if (d == 1 && r < 0 && errno == EPIPE) return (ssize_t)n;
+#endif
+#ifdef WRITE_INTERRUPTED_IS_FAULT
+#define WROTE if (r < 0 && errno == EINTR) errno = EIO;
+#endif
+#ifdef WRITE_IS_MADE_AGAIN_ONCE
+static int interrupted;
+#define WROTE if (r < 0 && errno == EINTR) { if (interrupted++) errno = EIO; } else interrupted = 0;
+#endif
+#ifdef PIECES
+#define WRITES if (d == 1 && n > 10) n = 10;
+#endif
+#ifdef HALF_A_LINE
+#define WRITES if (d == 1 && n > 5 && IS_REFUSED) { next(d, b, n - 5); return (ssize_t)n; }
+#endif
+#ifdef LINES_ARE_LEFT_OUT
+static int writes;
+#define WRITES if (d == 1 && writes++ == 0 && IS_REFUSED) return (ssize_t)n;
+#endif
+#ifdef LINES_COME_TWICE
+#define WRITES if (d == 1) next(d, b, n);
+#endif
+#ifdef OUTSIDE_OF_THE_ROOT
+#define WRITES \
+    char *at = d == 1 ? memmem(b, n, ".32473.1.", 9) : NULL; \
+    if (at) { next(d, b, (size_t)(at - (char *)b)); next(d, ".32473.2.", 9); \
+        next(d, at + 9, n - 9 - (size_t)(at - (char *)b)); return (ssize_t)n; }
+#endif
+#ifdef ANOTHER_MESSAGE
+#define WRITES if (d == 2) { next(d, "No.\n", 4); return (ssize_t)n; }
+#endif
+#ifdef ANOTHER_ANSWER
+#define WRITES if (d == 1 && n > 1) { next(d, b, n / 2); return (ssize_t)n; }
+#endif
+#ifdef LONG_IS_MEMORY
+#define WRITES if (d == 2 && n > 80) { next(2, "Out of memory.\n", 15); return (ssize_t)n; }
+#endif
+#ifdef LINK_IS_MEMORY
+#define WRITES if (d == 2 && memmem(b, n, "link", 4)) { next(2, "Out of memory.\n", 15); return (ssize_t)n; }
+#endif
+#ifdef UNREADABLE_IS_MEMORY
+#define WRITES if (d == 2 && memmem(b, n, "cannot be read", 14)) { next(2, "Out of memory.\n", 15); return (ssize_t)n; }
+#endif
+#ifdef A_BLOCK_IS_KEPT
+#define WRITES block = malloc(1);
+#endif
+#if defined WRITES || defined WROTE
+#ifndef WRITES
+#define WRITES
+#endif
+#ifndef WROTE
+#define WROTE
+#endif
+ssize_t write(int d, const void *b, size_t n) {
+    NEXT(write);
+    WRITES
+    ssize_t r = next(d, b, n);
+    WROTE
+    return r;
+}
+#endif
+#ifdef HELD_BACK
+static char held[1 << 24];
+static size_t used;
+__attribute__((destructor)) static void flush(void) {
+    size_t at = 0;
+    while (at < used) {
+        ssize_t r = syscall(SYS_write, 1, held + at, used - at);
+        if (r <= 0) break;
+        at += (size_t)r;
+    }
+}
+ssize_t write(int d, const void *b, size_t n) {
+    NEXT(write);
+    if (d != 1 || used + n > sizeof held) return next(d, b, n);
+    memcpy(held + used, b, n);
+    used += n;
+    return (ssize_t)n;
+}
+#endif
+
+// -- files
+
+#ifdef READ_ONCE
+ssize_t read(int d, void *b, size_t n) {
+    NEXT(read);
+    static char done[1024];
+    if (d > 2 && d < 1024 && done[d]++) return 0;
+    return next(d, b, n);
+}
+#endif
+#ifdef CUT_AT_LIMIT
+ssize_t read(int d, void *b, size_t n) {
+    NEXT(read);
+    static size_t got;
+    if (got >= 268435456) return 0;
+    if (n > 268435456 - got) n = 268435456 - got;
+    ssize_t r = next(d, b, n);
+    if (r > 0) got += (size_t)r;
+    return r;
+}
+#endif
+
+// -- ends
+
+#ifdef TERM_IGNORED
+__attribute__((constructor)) static void ignore(void) { signal(SIGTERM, SIG_IGN); }
+#endif
+#ifdef TERM_ENDS_BY_ITSELF
+static void end(int s) { (void)s; _exit(1); }
+__attribute__((constructor)) static void handle(void) { signal(SIGTERM, end); signal(SIGINT, end); }
+#endif
+#ifdef NEVER_ENDS
+__attribute__((destructor)) static void wait_on(void) { for (;;) pause(); }
+#endif
+#ifdef STATUS_0
+__attribute__((destructor)) static void end_well(void) { if (IS_REFUSED) _exit(0); }
+#endif
