@@ -6,7 +6,6 @@ use Rattle.std.proofs.Common.{
   suc,
   ◌+◌,
   ◌-◌,
-  Bool,
   true,
   false,
   not,
@@ -24,6 +23,7 @@ use Rattle.std.proofs.Common.{
   append-nil,
 }
 use Rattle.std.specs.Prelude.{◌==◌, ◌≢◌}
+use Rattle.std.proofs.lemmas.Bool.{not-true}
 use Rattle.smi_text.specs.declared.lexer.token.TokenKind.{TokenKind}
 use Rattle.smi_text.specs.declared.lexer.token.TokenKind.TheVariants as K
 use Rattle.smi_text.specs.trees.Mark.{same_kind}
@@ -91,10 +91,6 @@ closes-opening (suc d) x xs k (inner, last, rest, e, l, b, (more, end, after, f,
 at_end : (d : ℕ) → (d == 0) ≡ true → Closes d []
 at_end zero h = none
 at_end (suc d) h = absurd (let no : (suc d == 0) ≡ false = grind arith in cc (h, no))
-
-not-true : (b : Bool) → not b ≡ true → b ≡ false
-not-true true h = absurd (cc)
-not-true false h = refl
 
 closes-closing : (d : ℕ) (x : TokenText) (xs : List TokenText) → x.kind ≡ K.CloseBrace → (d == 0) ≡ false → Closes (d - 1) xs → Closes d (x ∷ xs)
 closes-closing zero x xs k h c = absurd (let yes : (zero == 0) ≡ true = refl in cc (h, yes))

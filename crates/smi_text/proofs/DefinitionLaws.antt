@@ -1,5 +1,6 @@
 -- Definitions are lawful.
 use Rattle.std.proofs.Common.{◌≡◌, ℕ, Bool, true, false, not, List, [], ◌∷◌, Some, None, Ok, Err, if◌then◌else◌, refl, sym, ◌∙◌, ap, subst, inl, inr, ◌⊎◌}
+use Rattle.std.proofs.lemmas.Bool.{not-true}
 use Rattle.smi_text.specs.declared.lexer.token.TokenKind.{TokenKind}
 use Rattle.smi_text.specs.declared.lexer.token.TokenKind.TheVariants as K
 use Rattle.smi_text.specs.lexer.Token.{Item}
@@ -21,7 +22,6 @@ use Rattle.smi_text.proofs.Laws.{some-inj, never-stands, lower-law, name-law, pa
 use Rattle.smi_text.specs.declared.trees.tree.Def.{Def}
 use Rattle.smi_text.specs.declared.trees.tree.DefKind.{DefKind}
 use Rattle.smi_text.specs.declared.trees.tree.DefKind.TheVariants as D
-use Rattle.smi_text.proofs.RawLaws.{not-true}
 use Rattle.smi_text.proofs.LowerLaws.{lower_definition-law}
 use Rattle.smi_text.proofs.UpperLaws.{assignment, macro_definition-law, no-pieces, macro-pieces, upper_definition-law, macro_name-law, macro-reserved}
 

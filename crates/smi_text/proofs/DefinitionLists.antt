@@ -161,7 +161,7 @@ no-doubles-more ms m h k = all-more (λ (n : Module). are_distinct (labels n.def
 pub module-stands : (m : Module) (ts rest : List Item) → module_text.read ts ≡ Some (m, rest) → StandsAhead (of_module m) ts rest
 module-stands m ts rest h = let P : List Mark → Type 0 = λ ms. StandsAhead ms ts rest in subst P (module-spells m) (module_text-law.takes ts rest m h)
 
-nothing-begins : (cs : List Ahead) → begins cs [] ≡ false
+pub nothing-begins : (cs : List Ahead) → begins cs [] ≡ false
 unfolding begins
 nothing-begins cs = refl
 

@@ -81,6 +81,3 @@ below v most h = grind arith
 
 pub value-within : (v most : ℕ) → v ≤ most → Some v ≡ up_to most v
 value-within v most h = rw (below v most h) refl
-
-pub value-beyond : (v most : ℕ) → most < v → None ≡ up_to most v
-value-beyond v most h = rw (above v most h) refl

@@ -2,6 +2,7 @@
 use Rattle.std.proofs.Common.{◌≡◌, ℕ, true, false, not, List, [], ◌∷◌, ◌++◌, Some, None, refl, sym, ◌∙◌, ap, subst, inl, inr}
 use Rattle.std.specs.Prelude.{codes}
 use Rattle.std.specs.List.{flat_map, list_any, list_all}
+use Rattle.std.proofs.lemmas.Bool.{or_cases}
 use Rattle.smi_text.specs.lexer.Token.{Item}
 use Rattle.smi_text.specs.trees.Mark.{Mark, same_text}
 use Rattle.smi_text.specs.Format.{StandsAhead}
@@ -101,7 +102,7 @@ use Rattle.smi_text.specs.declared.modules.Head.{Head}
 use Rattle.smi_text.specs.declared.trees.tree.Def.{Def}
 use Rattle.smi_text.specs.declared.trees.tree.Module.{Module}
 use Rattle.smi_text.proofs.Lawful.{Lawful}
-use Rattle.smi_text.proofs.Marks.{and-left, and-right, or-cases, or-left, or-right, same_text-eq, same_text-same, StandsAhead-split, apart-false}
+use Rattle.smi_text.proofs.Marks.{and-left, and-right, or-left, or-right, same_text-eq, same_text-same, StandsAhead-split, apart-false}
 use Rattle.smi_text.proofs.Many.{many-fails, many-goes_on, with_front-append, with_front-nil}
 use Rattle.smi_text.proofs.Laws.{starts-with, some-inj}
 use Rattle.smi_text.proofs.DefinitionLaws.{definition-law}
@@ -162,7 +163,7 @@ any-middle x y (z ∷ zs) ys h = or-right (same_text x z) (list_any (same_text x
 twice : (xs ys : List (List ℕ)) (y : List ℕ) → list_any (same_text y) xs ≡ true → are_distinct (xs ++ y ∷ ys) ≡ true → ⊥
 twice [] ys y h k = cc
 twice (x ∷ xs) ys y h k =
-    elim (or-cases (same_text y x) (list_any (same_text y) xs) h) [
+    elim (or_cases (same_text y x) (list_any (same_text y) xs) h) [
       | inl e ↦
           let same : y ≡ x = same_text-eq y x e in
           let there = any-middle x y xs ys (let P : List ℕ → Type 0 = λ z. same_text z y ≡ true in subst P same (same_text-same y)) in

@@ -7,7 +7,7 @@ use Rattle.smi_text.specs.lexer.Token.{Item}
 use Rattle.smi_text.specs.trees.Mark.{Mark, same_text}
 use Rattle.smi_text.specs.Format.{StandsAhead}
 use Rattle.smi_text.specs.Names.{has}
-use Rattle.smi_text.specs.Format.{Ahead, begins, read_many, many, with_front, shaped, pair, before, word, lower}
+use Rattle.smi_text.specs.Format.{begins, read_many, many, with_front, shaped, pair, before, word, lower}
 use Rattle.smi_text.specs.Grammar.{definition, head, module_text, file}
 use Rattle.smi_text.specs.trees.Spelling.{of_def, of_head, of_module, spelling}
 use Rattle.smi_text.specs.Text.{HasNoDoubles}
@@ -49,7 +49,7 @@ use Rattle.smi_text.proofs.DefinitionLaws.{definition-law}
 use Rattle.smi_text.proofs.ModuleLaws.{head-law, module_text-law}
 use Rattle.smi_text.proofs.Shorter.{definition-solid, module_text-solid}
 use Rattle.smi_text.proofs.Spells.{head-spells}
-use Rattle.smi_text.proofs.DefinitionLists.{read-stands, read-label, stands-more, distinct-more, among-more, no-doubles-more, module-stands}
+use Rattle.smi_text.proofs.DefinitionLists.{read-stands, read-label, stands-more, distinct-more, among-more, no-doubles-more, nothing-begins, module-stands}
 
 -- definitions
 
@@ -128,28 +128,11 @@ definitions-fault names defs from now have x ahead label (E.DoubleName line) f =
     subst P f.1.on_line (has_read-second names defs from now have x f.1.def f.1.rest ahead label f.1.read f.0)
 definitions-fault names defs from now have x ahead label E.Memory f = tt
 
--- a stop is a fault of a new definition
-
-pub new_definition-stop : (stop : Stop) (defined : Bool) (ts : List Item) → (is_memory stop ≡ false → definition.read ts ≡ None)
-    → NewDefinitionFault (error_of stop) defined ts
-new_definition-stop (S.Syntax line) defined ts h = h refl
-new_definition-stop (S.Lex fault) defined ts h = h refl
-new_definition-stop S.Memory defined ts h = tt
-
--- a stop is a fault of the definitions
-
-pub definitions-stop : (stop : Stop) (ts : List Item) → (is_memory stop ≡ false → (many definition).read ts ≡ None) → DefinitionsFault (error_of stop) ts
-definitions-stop (S.Syntax line) ts h = h refl
-definitions-stop (S.Lex fault) ts h = h refl
-definitions-stop S.Memory ts h = tt
-
+-- a stop is a fault of the module
 pub module-stop : (stop : Stop) (ts : List Item) → (is_memory stop ≡ false → module_text.read ts ≡ None) → ModuleFault (error_of stop) ts
 module-stop (S.Syntax line) ts h = h refl
 module-stop (S.Lex fault) ts h = h refl
 module-stop S.Memory ts h = tt
-
-pub modules-stop : (ts : List Item) → ModulesFault (error_of S.Memory) ts
-modules-stop ts = tt
 
 -- one module
 
@@ -184,10 +167,6 @@ module-no_head ts e = rw e refl
 
 -- modules
 
-none-begin : (cs : List Ahead) → begins cs [] ≡ false
-unfolding begins
-none-begin cs = refl
-
 pub record HasModules (ms : List Module) (from now : List Item) : Type 0 where
   pub bound : ℕ
   pub enough : length now ≤ bound
@@ -210,7 +189,7 @@ has_modules-start ms ts e =
 module _ (ms : List Module) (from now : List Item) (have : HasModules ms from now) where
   pub has_modules-done : now ≡ [] → ReadsModules ms from
   has_modules-done e = record {
-    read = sym have.left ∙ ap (with_front ms) (end-many module_text have.bound now (rw e (none-begin module_text.first))) ∙ with_front-end ms now
+    read = sym have.left ∙ ap (with_front ms) (end-many module_text have.bound now (rw e (nothing-begins module_text.first))) ∙ with_front-end ms now
         ∙ ap (λ (us : List Item). Some (ms, us)) e;
     distinct = have.distinct;
   }

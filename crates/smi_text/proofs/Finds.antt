@@ -1,7 +1,7 @@
 -- The first element that passes a test, found from the front.
 use Rattle.std.proofs.Common.{◌≡◌, ℕ, ◌+◌, ◌<◌, ◌≤◌, Bool, true, false, List, length, get_or, drop, refl, drop-cons, add-one}
 use Rattle.std.specs.Prelude.{Some, None, cond}
-use Rattle.std.specs.List.{find, list_any}
+use Rattle.std.specs.List.{find}
 use Rattle.std.proofs.lemmas.List.{drop_all}
 
 pub find-step : {A : Type 0} (test : A → Bool) (xs : List A) (i : ℕ) (d : A) → i < length xs
@@ -19,14 +19,3 @@ find-on test xs i x h e n = rw (find-step test xs i x h, ← e, n) refl
 pub find-here : {A : Type 0} (test : A → Bool) (xs : List A) (i : ℕ) (x : A) → i < length xs → x ≡ get_or xs i x → test x ≡ true
     → find test (drop i xs) ≡ Some x
 find-here test xs i x h e y = rw (find-step test xs i x h, ← e, y) refl
-
-pub any-end : {A : Type 0} (test : A → Bool) (xs : List A) (i : ℕ) → length xs ≤ i → list_any test (drop i xs) ≡ false
-any-end test xs i h = rw (drop_all i xs h) refl
-
-pub any-on : {A : Type 0} (test : A → Bool) (xs : List A) (i : ℕ) (x : A) → i < length xs → x ≡ get_or xs i x → test x ≡ false
-    → list_any test (drop i xs) ≡ list_any test (drop (i + 1) xs)
-any-on test xs i x h e n = rw (add-one, drop-cons xs i x, ← e, n) refl
-
-pub any-here : {A : Type 0} (test : A → Bool) (xs : List A) (i : ℕ) (x : A) → i < length xs → x ≡ get_or xs i x → test x ≡ true
-    → list_any test (drop i xs) ≡ true
-any-here test xs i x h e y = rw (drop-cons xs i x, ← e, y) refl

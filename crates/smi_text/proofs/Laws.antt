@@ -81,6 +81,7 @@ use Rattle.smi_text.specs.trees.Spelling.{put_line}
 use Rattle.smi_text.specs.declared.trees.names.Name.{Name}
 use Rattle.smi_text.proofs.Lawful.{Lawful}
 use Rattle.smi_text.proofs.NameLaws.{name_of-octets, name_of-is}
+pub use Rattle.smi_text.proofs.NameLaws.{some-inj}
 use Rattle.smi_text.proofs.Marks.{
   and-left,
   and-right,
@@ -101,9 +102,6 @@ use Rattle.smi_text.proofs.Marks.{
   apart-false,
 }
 use Rattle.smi_text.proofs.Many.{shorter, many-goes_on, many-done}
-
-pub some-inj : {A : Type 0} (x y : A) → Some x ≡ Some y → x ≡ y
-some-inj x y h = cc
 
 abbrev put_left : {A B : Type 0} → A × List Item → (A ⊎ B) × List Item
 put_left p = (inl p.0, p.1)

@@ -50,9 +50,6 @@ rest_of_two text n here =
     rest_at text n first ∙ ap (λ s. get_or text n 0 ∷ s) (rest_at text (n + 1) here ∙ ap (λ m. get_or text (n + 1) 0 ∷ drop m text) place)
 
 module _ (test : List ℕ → Bool) (text : List ℕ) where
-  pub scan_start : GoesOn test text 0
-  scan_start = record { within = omega arith; same = λ k. ap (λ m. test (take m text)) (let e : 0 + k ≡ k = omega arith in e) }
-
   -- an octet that makes no difference to the test
   pub scan_step : (n : ℕ) → n < length text → ((k : ℕ) → test (get_or text n 0 ∷ take k (drop (n + 1) text)) ≡ test (take k (drop (n + 1) text)))
       → GoesOn test text n → GoesOn test text (n + 1)
@@ -82,10 +79,6 @@ module _ (test : List ℕ → Bool) (text : List ℕ) where
         let place : m ≡ n + suc (m - (n + 1)) = omega arith in
         ap (λ j. test (take j text)) place ∙ before.same (suc (m - (n + 1))) ∙ stop (m - (n + 1)) (omega arith);
   }
-
-  -- the text ends
-  pub scan_all : (n : ℕ) → test [] ≡ true → length text ≤ n → GoesOn test text n → IsLongestPassing test text n
-  scan_all n empty all before = scan_end n empty (λ k h. absurd (omega arith)) before
 
   -- an octet with which nothing passes
   pub scan_stop : (n : ℕ) → n < length text → test [] ≡ true → ((k : ℕ) → test (get_or text n 0 ∷ take k (drop (n + 1) text)) ≡ false)

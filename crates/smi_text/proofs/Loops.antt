@@ -130,10 +130,6 @@ module _ (names : List Name) (n : ℕ) (ts : List Item) (enough : length ts ≤ 
             (read_index m after))),
       )
 
-pub next-shorter : (x : Name) (ts rest after : List Item) → lower.read ts ≡ Some (x, rest) → (token K.Comma).read rest ≡ Some (tt, after)
-    → length after < length ts
-next-shorter x ts rest after e t = omega (arith, name-shorter x ts rest e, comma-shorter rest after t)
-
 pub index_names-starts : (ts : List Item) → index_names.read ts ≡ read_index (length ts) ts
 unfolding index_names
 index_names-starts ts = refl

@@ -25,12 +25,12 @@ use Rattle.std.proofs.Common.{
   arith,
   inl,
   inr,
-  ◌⊎◌,
   get_or,
   eq-eqb,
 }
 use Rattle.std.specs.Prelude.{option_map, option_and_then, ◌==◌}
 use Rattle.std.specs.List.{list_any, list_all}
+use Rattle.std.proofs.lemmas.Bool.{or_cases}
 use Rattle.smi_text.specs.declared.lexer.token.TokenKind.{TokenKind}
 use Rattle.smi_text.specs.declared.lexer.token.TokenKind.TheVariants.{
   Lower,
@@ -74,10 +74,6 @@ and-right false b h = absurd (cc)
 
 pub and-both : (a b : Bool) → a ≡ true → b ≡ true → (a && b) ≡ true
 and-both a b h k = rw (h, k) refl
-
-pub or-cases : (a b : Bool) → (a || b) ≡ true → (a ≡ true) ⊎ (b ≡ true)
-or-cases true b h = inl refl
-or-cases false b h = inr h
 
 pub or-left : (a b : Bool) → a ≡ true → (a || b) ≡ true
 or-left a b h = rw h refl
@@ -242,8 +238,8 @@ module _ (t : Lexeme) where
   list-sound : (c : Ahead) (ds : List Ahead) → list_all (λ d. half_apart c d || half_apart d c) ds ≡ true → meets t c ≡ true → list_any (meets t) ds ≡ true → ⊥
   list-sound c [] a h k = cc
   list-sound c (d ∷ ds) a h k =
-      elim (or-cases (meets t d) (list_any (meets t) ds) k) [
-        | inl e ↦ elim (or-cases (half_apart c d) (half_apart d c) (and-left (half_apart c d || half_apart d c) (list_all
+      elim (or_cases (meets t d) (list_any (meets t) ds) k) [
+        | inl e ↦ elim (or_cases (half_apart c d) (half_apart d c) (and-left (half_apart c d || half_apart d c) (list_all
             (λ x. half_apart c x || half_apart x c) ds) a)) [
               | inl p ↦ half-sound c d p h e
               | inr p ↦ half-sound d c p e h
@@ -254,7 +250,7 @@ module _ (t : Lexeme) where
   lists-sound : (cs ds : List Ahead) → apart cs ds ≡ true → list_any (meets t) cs ≡ true → list_any (meets t) ds ≡ true → ⊥
   lists-sound [] ds a h k = cc
   lists-sound (c ∷ cs) ds a h k =
-      elim (or-cases (meets t c) (list_any (meets t) cs) h) [
+      elim (or_cases (meets t c) (list_any (meets t) cs) h) [
         | inl e ↦ list-sound c ds (and-left (list_all (λ x. half_apart c x || half_apart x c) ds) (apart cs ds) a) e k
         | inr e ↦ lists-sound cs ds (and-right (list_all (λ x. half_apart c x || half_apart x c) ds) (apart cs ds) a) e k
       ]

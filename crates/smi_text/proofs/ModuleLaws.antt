@@ -2,6 +2,7 @@
 use Rattle.std.proofs.Common.{◌≡◌, true, ◌&&◌, ◌||◌, not, List, ◌∷◌, refl, sym, ap, inl, inr}
 use Rattle.std.specs.Prelude.{codes}
 use Rattle.std.specs.List.{list_any}
+use Rattle.std.proofs.lemmas.Bool.{or_cases}
 use Rattle.smi_text.specs.declared.lexer.token.TokenKind.TheVariants as K
 use Rattle.smi_text.specs.lexer.Token.{Lexeme}
 use Rattle.smi_text.specs.trees.Mark.{same_kind}
@@ -17,7 +18,7 @@ use Rattle.smi_text.specs.Grammar.{object_identifier_words, object_identity, obj
 use Rattle.smi_text.specs.Grammar.{range, ranges, raw_definition, refinement, revision, sequence, simple_type, size, status, imported_symbol, syntax_clause}
 use Rattle.smi_text.specs.Grammar.{syntax_type, tag, tagged, textual_convention, upper_definition, value}
 use Rattle.smi_text.proofs.Lawful.{Lawful}
-use Rattle.smi_text.proofs.Marks.{and-left, and-right, and-both, or-cases, or-left, or-right}
+use Rattle.smi_text.proofs.Marks.{and-left, and-right, and-both, or-left, or-right}
 use Rattle.smi_text.proofs.Laws.{some-inj, word-law, token-law, name-law, pair-law, behind-law, before-law, maybe-law, many-law, shaped-law, lined-law}
 use Rattle.smi_text.specs.declared.trees.tree.TokenText.{TokenText}
 use Rattle.smi_text.specs.declared.trees.names.Name.{Name}
@@ -31,12 +32,12 @@ use Rattle.smi_text.proofs.DefinitionLaws.{definition-law}
 symbol-ahead : (t : Lexeme) → is_symbol t.kind t.text ≡ true → list_any (meets t) (a_kind K.Lower ∷ a_name ∷ macro_words) ≡ true
 unfolding is_symbol
 symbol-ahead t h =
-    elim (or-cases (same_kind t.kind K.Lower) (same_kind t.kind K.Upper && (not (is_reserved t.text) || is_macro t.text)) h) [
+    elim (or_cases (same_kind t.kind K.Lower) (same_kind t.kind K.Upper && (not (is_reserved t.text) || is_macro t.text)) h) [
       | inl e ↦ or-left (same_kind t.kind K.Lower) _ e
       | inr e ↦
           let upper = and-left (same_kind t.kind K.Upper) (not (is_reserved t.text) || is_macro t.text) e in
           or-right (same_kind t.kind K.Lower) (meets t a_name || list_any (meets t) macro_words)
-          (elim (or-cases (not (is_reserved t.text)) (is_macro t.text) (and-right (same_kind t.kind K.Upper) (not (is_reserved t.text) || is_macro t.text) e)) [
+          (elim (or_cases (not (is_reserved t.text)) (is_macro t.text) (and-right (same_kind t.kind K.Upper) (not (is_reserved t.text) || is_macro t.text) e)) [
             | inl p ↦ or-left (meets t a_name) (list_any (meets t) macro_words) (and-both (same_kind t.kind K.Upper) (not (is_reserved t.text)) upper p)
             | inr p ↦ or-right (meets t a_name) (list_any (meets t) macro_words) (macro-ahead t upper p)
           ])

@@ -6,7 +6,7 @@ use Rattle.smi_text.specs.trees.Word.{is_word}
 use Rattle.smi_text.specs.declared.trees.names.Name.{Name}
 use Rattle.smi_text.specs.Format.{name_when, name_of}
 
-some-inj : {A : Type 0} (x y : A) → Some x ≡ Some y → x ≡ y
+pub some-inj : {A : Type 0} (x y : A) → Some x ≡ Some y → x ≡ y
 some-inj x y h = cc
 
 named : (x : List ℕ) → is_word x ≡ true → Name
@@ -29,7 +29,3 @@ octets-when x false e n h = absurd (cc)
 -- a name that octets give has those octets
 pub name_of-is : (x : List ℕ) (n : Name) → name_of x ≡ Some n → n.octets ≡ x
 name_of-is x n h = octets-when x (is_word x) refl n h
-
--- names of the same octets are the same
-pub same-name : (m n : Name) → m.octets ≡ n.octets → m ≡ n
-same-name m n e = some-inj m n (sym (name_of-octets m) ∙ ap name_of e ∙ name_of-octets n)

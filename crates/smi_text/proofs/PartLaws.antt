@@ -38,7 +38,7 @@ use Rattle.std.specs.Bool.{then_some}
 use Rattle.std.specs.Char.{is_ascii_digit, is_ascii_hexdigit, is_ascii_lowercase, is_ascii_uppercase}
 use Rattle.std.proofs.Math.Bool.{and-false}
 use Rattle.std.proofs.lemmas.Bool.Decides.{nat_tests}
-use Rattle.std.proofs.lemmas.Bool.{eqb-true, false≢true}
+use Rattle.std.proofs.lemmas.Bool.{eqb-true, false≢true, not-true, or_cases}
 use Rattle.smi_text.specs.declared.lexer.class.Class.{Class}
 use Rattle.smi_text.specs.declared.lexer.class.Class.TheVariants.{Blank, Lowercase, Uppercase, Digit, Hyphen, Quote, Apostrophe, Symbol, Other}
 use Rattle.smi_text.specs.declared.lexer.token.TokenKind.{TokenKind}
@@ -127,10 +127,6 @@ sole_is test (c ∷ cs) h =
     let both = and_true (test c) (is_nothing cs) h in
     (c, ap (λ s. c ∷ s) (nothing_is cs both.1), both.0)
 
-or_either : (a b : Bool) → (a || b) ≡ true → (a ≡ true) ⊎ (b ≡ true)
-or_either true b h = inl refl
-or_either false b h = inr h
-
 -- strings
 string_body : (s : List ℕ) → is_string_rest s ≡ true → (body : List ℕ) × (s ≡ body ++ 34 ∷ []) × (list_all (is_other 34) body ≡ true)
 string_body [] h = absurd (false≢true h)
@@ -172,7 +168,7 @@ literal_is is_digit upper lower s h =
       ap (λ t. 39 ∷ t) r.2
           ∙ sym (append_assoc (39 ∷ r.0) (39 ∷ []) (r.1 ∷ [])),
       r.3,
-      ⊎_elim (λ e. inl (eqb-true r.1 upper e)) (λ e. inr (eqb-true r.1 lower e)) (or_either
+      ⊎_elim (λ e. inl (eqb-true r.1 upper e)) (λ e. inr (eqb-true r.1 lower e)) (or_cases
           (eqb r.1 upper) (eqb r.1 lower) r.4),
     )
 
@@ -452,17 +448,13 @@ remark_octet_reads c cs closing false is alone run rest = rest
 remark_octet_reads c [] closing true is alone run rest = run
 remark_octet_reads c (d ∷ ds) closing true is alone run rest = absurd (false≢true (sym (ap not is) ∙ alone))
 
-not_true : (b : Bool) → not b ≡ true → b ≡ false
-not_true false h = refl
-not_true true h = absurd (false≢true h)
-
 remark_reads : (remark closing : List ℕ) → is_remark remark ≡ true → list_all is_hyphen closing ≡ true → is_remark_rest (remark ++ closing) ≡ true
 remark_reads [] closing remark_is run = hyphens_read closing run
 remark_reads (c ∷ cs) closing remark_is run =
     let both = and_true (not (is_newline c) && not (is_hyphen c && begins is_hyphen cs)) (is_remark cs) remark_is in
     let here = and_true (not (is_newline c)) (not (is_hyphen c && begins is_hyphen cs)) both.0 in
     ap (λ b. cond b false (cond (is_hyphen c && begins is_hyphen (cs ++ closing)) (list_all is_hyphen (cs ++ closing)) (is_remark_rest (cs ++ closing))))
-    (not_true (is_newline c) here.0)
+    (not-true (is_newline c) here.0)
     ∙ remark_octet_reads c cs closing (is_hyphen c && begins is_hyphen (cs ++ closing)) refl here.1 run (remark_reads cs closing both.1 run)
 
 hyphens_before : (front rest : List ℕ) → list_all is_hyphen front ≡ true → is_comment_rest rest ≡ true → is_comment_rest (front ++ rest) ≡ true
@@ -509,7 +501,7 @@ others_one_line : (s : List ℕ) → list_all (is_other 10) s ≡ true → newli
 others_one_line [] h = refl
 others_one_line (c ∷ cs) h =
     let both = and_true (is_other 10 c) (list_all (is_other 10) cs) h in
-    newlines-cons c cs ∙ ap (λ n. n + newlines cs) (newlines-one c) ∙ ap (λ b. cond b 1 0 + newlines cs) (not_true (is_newline c) both.0)
+    newlines-cons c cs ∙ ap (λ n. n + newlines cs) (newlines-one c) ∙ ap (λ b. cond b 1 0 + newlines cs) (not-true (is_newline c) both.0)
     ∙ ap (λ n. 0 + n) (others_one_line cs both.1)
 
 word_octet_other : (c : ℕ) → (is_word_octet c || is_hyphen c) ≡ true → is_other 10 c ≡ true

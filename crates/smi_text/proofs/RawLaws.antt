@@ -1,6 +1,7 @@
 -- Raw runs of tokens are lawful.
 use Rattle.std.proofs.Common.{◌≡◌, ℕ, Bool, true, false, ◌&&◌, not, List, [], ◌∷◌, ◌++◌, Some, None, Ok, Err, if◌then◌else◌, refl, subst, inl, inr, ◌⊎◌}
 use Rattle.std.specs.Prelude.{◌==◌, codes}
+use Rattle.std.proofs.lemmas.Bool.{not-true}
 use Rattle.smi_text.specs.declared.lexer.token.TokenKind.TheVariants as K
 use Rattle.smi_text.specs.lexer.Token.{Lexeme, Item}
 use Rattle.smi_text.specs.trees.Mark.{same_kind, same_text}
@@ -65,10 +66,6 @@ balanced-takes depth (Ok t ∷ ts) rest xs h =
 not-close : (b : Bool) → not (b && true) ≡ true → not b ≡ true
 not-close true h = h
 not-close false h = h
-
-pub not-true : (b : Bool) → not b ≡ true → b ≡ false
-not-true true h = absurd (cc)
-not-true false h = refl
 
 not-false : (b : Bool) → not b ≡ false → b ≡ true
 not-false true h = refl

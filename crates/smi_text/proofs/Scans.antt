@@ -38,7 +38,7 @@ use Rattle.std.proofs.lemmas.List.Folds.{list_all_more}
 use Rattle.std.proofs.lemmas.List.{drop_all}
 use Rattle.smi_text.specs.lexer.Lexeme.{begins, is_hyphen, is_word_octet, is_word_rest}
 use Rattle.smi_text.specs.lexer.Reading.{GoesOn, IsLongestPassing, IsRemarkEnd, is_comment_rest, is_remark_rest}
-use Rattle.smi_text.proofs.LexerFronts.{rest_at, rest_of_two, scan_step, scan_two, scan_stop, longest_behind, goes_on_past}
+use Rattle.smi_text.proofs.LexerFronts.{rest_at, scan_step, scan_two, scan_stop, longest_behind, goes_on_past}
 
 -- ---- small facts
 
@@ -121,19 +121,6 @@ remark_step text n here plain alone = scan_step is_remark_rest text n here (λ k
         ap (λ b. cond b false (cond (is_hyphen c && begins is_hyphen (take k s)) (list_all is_hyphen (take k s)) (is_remark_rest (take k s))))
         (ne_eqb c 10 plain)
         ∙ ap (λ b. cond b (list_all is_hyphen (take k s)) (is_remark_rest (take k s))) (hyphen_alone is_hyphen c k s alone)
-
-pub line_ends : (text : List ℕ) (n : ℕ) → n < length text → get_or text n 0 ≡ 10 → IsRemarkEnd (drop n text)
-line_ends text n here newline = subst IsRemarkEnd (sym (rest_at text n here)) (at_newline (get_or text n 0) (drop (n + 1) text) newline)
-  where
-    at_newline : (c : ℕ) (s : List ℕ) → c ≡ 10 → IsRemarkEnd (c ∷ s)
-    at_newline c [] h = h
-    at_newline c (d ∷ ds) h = inl h
-
-pub run_begins : (text : List ℕ) (n : ℕ) → n + 1 < length text → get_or text n 0 ≡ 45 → get_or text (n + 1) 0 ≡ 45 → IsRemarkEnd (drop n text)
-run_begins text n here first second = subst IsRemarkEnd (sym (rest_of_two text n here)) (inr (first, second))
-
-pub text_ends : (text : List ℕ) (n : ℕ) → length text ≤ n → IsRemarkEnd (drop n text)
-text_ends text n past = subst IsRemarkEnd (sym (drop_all n text past)) tt
 
 -- where a remark has ended, a closing run is all that may follow
 pub closing_run : (k : ℕ) (s : List ℕ) → IsRemarkEnd s → is_remark_rest (take k s) ≡ list_all is_hyphen (take k s)

@@ -2,6 +2,7 @@
 use Rattle.std.proofs.Common.{◌≡◌, true, ◌&&◌, ◌||◌, List, [], ◌∷◌, Some, refl, sym, ap, inl, inr, ◌⊎◌}
 use Rattle.std.specs.Prelude.{codes}
 use Rattle.std.specs.List.{list_any}
+use Rattle.std.proofs.lemmas.Bool.{or_cases}
 use Rattle.smi_text.specs.declared.lexer.token.TokenKind.TheVariants as K
 use Rattle.smi_text.specs.lexer.Token.{Lexeme}
 use Rattle.smi_text.specs.trees.Mark.{same_kind}
@@ -14,7 +15,7 @@ use Rattle.smi_text.specs.Grammar.{to_simple_type, from_simple_type, to_syntax, 
 use Rattle.smi_text.specs.Grammar.{object_identifier_words, octet_string_words, of_row, parenthesized, range, ranges, refinement, simple_type, size}
 use Rattle.smi_text.specs.Grammar.{syntax_type}
 use Rattle.smi_text.proofs.Lawful.{Lawful}
-use Rattle.smi_text.proofs.Marks.{and-left, or-cases, or-right}
+use Rattle.smi_text.proofs.Marks.{and-left, or-right}
 use Rattle.smi_text.proofs.Laws.{some-inj, word-law, token-law, text_where-law, lower-law, name-law, pair-law, behind-law, maybe-law, either-law, shaped-law}
 use Rattle.smi_text.specs.declared.trees.names.Name.{Name}
 use Rattle.smi_text.specs.declared.trees.tree.NamedNumber.{NamedNumber}
@@ -33,9 +34,9 @@ use Rattle.smi_text.proofs.PieceLaws.{braced-law, parenthesized-law, separated-l
 bound-ahead : (t : Lexeme) → is_bound t.kind t.text ≡ true → list_any (meets t) (a_kind K.Number ∷ a_kind K.Hex ∷ a_kind K.Binary ∷ []) ≡ true
 unfolding is_bound
 bound-ahead t h =
-    elim (or-cases (same_kind t.kind K.Number && is_number t.text || same_kind t.kind K.Hex && is_literal 16 t.text)
+    elim (or_cases (same_kind t.kind K.Number && is_number t.text || same_kind t.kind K.Hex && is_literal 16 t.text)
     (same_kind t.kind K.Binary && is_literal 2 t.text) h) [
-      | inl e ↦ elim (or-cases (same_kind t.kind K.Number && is_number t.text) (same_kind t.kind K.Hex && is_literal 16 t.text) e) [
+      | inl e ↦ elim (or_cases (same_kind t.kind K.Number && is_number t.text) (same_kind t.kind K.Hex && is_literal 16 t.text) e) [
         | inl p ↦ rw (and-left (same_kind t.kind K.Number) (is_number t.text) p) refl
         | inr p ↦ or-right (same_kind t.kind K.Number) _ (rw (and-left (same_kind t.kind K.Hex) (is_literal 16 t.text) p) refl)
       ]

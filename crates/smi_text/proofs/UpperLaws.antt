@@ -2,6 +2,7 @@
 use Rattle.std.proofs.Common.{◌≡◌, ℕ, Bool, true, ◌||◌, List, [], ◌∷◌, Option, Some, None, Ok, Err, refl, sym, ◌∙◌, ap, subst, inl, inr, ◌⊎◌}
 use Rattle.std.specs.Prelude.{codes, map}
 use Rattle.std.specs.List.{list_any, list_all}
+use Rattle.std.proofs.lemmas.Bool.{or_cases}
 use Rattle.smi_text.specs.declared.lexer.token.TokenKind.TheVariants as K
 use Rattle.smi_text.specs.lexer.Token.{Lexeme, Item}
 use Rattle.smi_text.specs.trees.Mark.{same_kind, same_text}
@@ -15,7 +16,7 @@ use Rattle.smi_text.specs.Grammar.{balanced, base, before_end, bound, braced, ch
 use Rattle.smi_text.specs.Grammar.{object_identifier_words, octet_string_words, of_row, parenthesized, range, ranges, refinement, sequence, simple_type, size}
 use Rattle.smi_text.specs.Grammar.{status, syntax_clause, syntax_type, tag, tagged, textual_convention, upper_definition}
 use Rattle.smi_text.proofs.Lawful.{Lawful}
-use Rattle.smi_text.proofs.Marks.{and-left, and-right, and-both, or-cases, or-left, or-right, same_text-eq}
+use Rattle.smi_text.proofs.Marks.{and-left, and-right, and-both, or-left, or-right, same_text-eq}
 use Rattle.smi_text.proofs.Laws.{some-inj, never-stands, word-law, token-law, text_where-law, name_where-law, pair-law, behind-law, before-law, either-law}
 use Rattle.smi_text.proofs.Laws.{many-law, shaped-law}
 use Rattle.smi_text.specs.declared.trees.tree.TokenText.{TokenText}
@@ -221,7 +222,7 @@ macro-words : (t : Lexeme) (ws : List (List ℕ)) → same_kind t.kind K.Upper �
     → list_any (meets t) (map a_word ws) ≡ true
 macro-words t [] k h = h
 macro-words t (w ∷ ws) k h =
-    elim (or-cases (same_text t.text w) (list_any (same_text t.text) ws) h) [
+    elim (or_cases (same_text t.text w) (list_any (same_text t.text) ws) h) [
       | inl e ↦ or-left (meets t (a_word w)) (list_any (meets t) (map a_word ws)) (and-both (same_kind t.kind K.Upper) (same_text t.text w) k e)
       | inr e ↦ or-right (meets t (a_word w)) (list_any (meets t) (map a_word ws)) (macro-words t ws k e)
     ]
@@ -239,7 +240,7 @@ any-among : (x : List ℕ) (vs ws : List (List ℕ)) → list_all (λ v. list_an
     → list_any (same_text x) ws ≡ true
 any-among x [] ws a h = absurd (cc)
 any-among x (v ∷ vs) ws a h =
-    elim (or-cases (same_text x v) (list_any (same_text x) vs) h) [
+    elim (or_cases (same_text x v) (list_any (same_text x) vs) h) [
       | inl e ↦ rw (same_text-eq x v e) (and-left (list_any (same_text v) ws) (list_all (λ u. list_any (same_text u) ws) vs) a)
       | inr e ↦ any-among x vs ws (and-right (list_any (same_text v) ws) (list_all (λ u. list_any (same_text u) ws) vs) a) e
     ]
