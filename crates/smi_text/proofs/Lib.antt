@@ -1,3 +1,4 @@
+pub mod Productions
 pub mod Lawful
 pub mod Many
 pub mod Marks

@@ -1,5 +1,5 @@
 //! Clauses that several definitions have, and raw runs of tokens (RFC 2578, sections 7 and 8).
-#![tactic(auto, unfolding(crate::specs::Format::begins, crate::specs::Format::pair, crate::specs::Format::behind, crate::specs::Format::before, crate::specs::Format::maybe, crate::specs::Format::either, crate::specs::Format::shaped, crate::specs::Format::some_of, crate::specs::Format::separated, crate::specs::Format::lined, crate::specs::Format::lower, crate::specs::Format::word, crate::specs::Format::token, crate::specs::Format::text, crate::specs::Format::text_where, crate::specs::Format::name, crate::specs::Grammar::clause, crate::specs::Grammar::braced, crate::specs::Grammar::names, crate::specs::Grammar::status, crate::specs::Grammar::implied_name, crate::specs::Grammar::index_names, crate::specs::Grammar::index, crate::specs::Grammar::before_assign, crate::specs::Grammar::before_end, crate::specs::Grammar::balanced, crate::specs::Grammar::default_value, crate::specs::Grammar::revision, crate::specs::Grammar::objects))]
+#![tactic(auto, unfolding(crate::proofs::Productions::of_clauses))]
 
 ghost use Rattle.std.specs.Prelude.{◌≡◌, ◌+◌, ◌<◌, ◌^◌, List, [], ◌∷◌, codes};
 ghost use Rattle.smi_text.specs.Format.{begins, a_word, a_kind, no_word, no_kind};

@@ -1,5 +1,5 @@
 //! Modules, with what they import (RFC 2578, section 3).
-#![tactic(auto, unfolding(crate::specs::Format::begins, crate::specs::Format::pair, crate::specs::Format::behind, crate::specs::Format::before, crate::specs::Format::maybe, crate::specs::Format::either, crate::specs::Format::shaped, crate::specs::Format::some_of, crate::specs::Format::separated, crate::specs::Format::lined, crate::specs::Format::lower, crate::specs::Format::word, crate::specs::Format::token, crate::specs::Format::text, crate::specs::Format::text_where, crate::specs::Format::name, crate::specs::Grammar::braced, crate::specs::Grammar::imported_symbol, crate::specs::Grammar::import_clause, crate::specs::Grammar::imports, crate::specs::Grammar::heading, crate::specs::Grammar::opening, crate::specs::Grammar::head, crate::specs::Grammar::module_text, crate::specs::trees::Number::is_symbol))]
+#![tactic(auto, unfolding(crate::proofs::Productions::of_modules))]
 
 ghost use Rattle.std.specs.Prelude.{◌≡◌, List, [], ◌∷◌, codes};
 ghost use Rattle.smi_text.specs.Format.{begins, a_word, a_kind, a_name};
@@ -18,8 +18,11 @@ use crate::trees::{Import, Items, Name, Part, TokenText, is_macro, is_reserved};
 /// A module up to its definitions.
 #[derive(Debug, Drop)]
 pub(crate) struct Head {
+    /// The name of the module.
     pub(crate) name: Name,
+    /// The identifier value between the name and DEFINITIONS, if there is one.
     pub(crate) heading: Option<Items<Part>>,
+    /// The FROM clauses, if there is an IMPORTS.
     pub(crate) imports: Option<Items<Import>>,
 }
 

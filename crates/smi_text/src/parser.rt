@@ -1,5 +1,5 @@
 //! The tokens that are left of a text, and the steps in which every production is read.
-#![tactic(auto, unfolding(crate::specs::Format::lower, crate::specs::Format::word, crate::specs::Format::token, crate::specs::Format::text, crate::specs::Format::text_where, crate::specs::Format::name, crate::specs::Format::begins, crate::specs::Format::maybe, crate::specs::Format::behind, crate::specs::Grammar::clause))]
+#![tactic(auto, unfolding(crate::proofs::Productions::of_parser))]
 
 ghost use Rattle.std.specs.Prelude.{◌≡◌, ℕ, true, false, MatchBool, List, [], ◌∷◌, codes, map};
 ghost use Rattle.std.specs.Prelude.{drop, IfNone, IfSome, IfOk, IfErr, OnOk, ◌++◌, ◌<◌, length};
@@ -24,10 +24,13 @@ use std::marker::Model;
 /// read.
 #[derive(Drop)]
 pub(crate) struct Parser<'a> {
+    /// Where the trees get their memory.
     alloc: Global,
+    /// The tokens after the one that comes next.
     lexer: Lexer<'a>,
     /// The token that comes next, or the fault where the text breaks off.
     ahead: Option<Result<Token<'a>, LexError>>,
+    /// The whole text.
     text: &'a [u8],
 }
 

@@ -1,0 +1,43 @@
+-- What the functions of a file unfold, each list under one name: the formats, and the productions that the file reads.
+use Rattle.std.proofs.Common.{ℕ}
+use Rattle.smi_text.specs.trees.Number.{is_symbol}
+use Rattle.smi_text.specs.Format.{begins, maybe, behind, lower, word, token, text, text_where, name, pair, before, either, shaped, some_of, separated, lined}
+use Rattle.smi_text.specs.Grammar.{arc, assigned, balanced, base, before_assign, before_end, bound, braced, choice, clause, default_value, definition}
+use Rattle.smi_text.specs.Grammar.{field, group, head, heading, identifier, implied_name, import_clause, imported_symbol, imports, index, index_names}
+use Rattle.smi_text.specs.Grammar.{later_part, lower_definition, macro_body, macro_definition, macro_name, module_identity, module_text, named_number}
+use Rattle.smi_text.specs.Grammar.{names, notification_type, object_identifier, object_identifier_words, object_identity, object_type, objects}
+use Rattle.smi_text.specs.Grammar.{octet_string_words, of_row, opening, parenthesized, part, range, ranges, raw_definition, refinement, revision}
+use Rattle.smi_text.specs.Grammar.{sequence, simple_type, size, status, syntax_clause, syntax_type, tag, tagged, textual_convention, upper_definition}
+use Rattle.smi_text.specs.Grammar.{value}
+
+-- one token, or none
+unfoldable pub tokens : ℕ
+unfolding begins maybe behind lower word token text text_where name
+tokens = 0
+
+unfoldable pub formats : ℕ
+unfolding tokens pair before either shaped some_of separated lined
+formats = 0
+
+unfoldable pub of_parser : ℕ
+unfolding tokens clause
+of_parser = 0
+
+unfoldable pub of_types : ℕ
+unfolding formats braced parenthesized arc part later_part identifier value bound range ranges named_number size refinement object_identifier_words
+    octet_string_words base simple_type of_row syntax_type field
+of_types = 0
+
+unfoldable pub of_clauses : ℕ
+unfolding formats clause braced names status implied_name index_names index before_assign before_end balanced default_value revision objects
+of_clauses = 0
+
+unfoldable pub of_definitions : ℕ
+unfolding formats braced module_identity object_identity object_type notification_type group raw_definition object_identifier textual_convention syntax_clause
+    lower_definition tag choice tagged sequence assigned macro_body macro_definition upper_definition macro_name definition objects object_identifier_words
+    default_value
+of_definitions = 0
+
+unfoldable pub of_modules : ℕ
+unfolding formats braced imported_symbol import_clause imports heading opening head module_text is_symbol
+of_modules = 0
