@@ -27,6 +27,7 @@ pub enum Class {
     Other,
 }
 
+/// The class of an octet.
 pub fn class_of_octet(octet: u8) -> Class
     ensures { result ≡ class_of octet }
 {

@@ -15,12 +15,14 @@ use crate::lexer::class::{Class, class_of_octet};
 use crate::lexer::token::TokenKind;
 use memchr::{memchr, memchr_iter};
 
+/// Whether an octet is a gap by itself: tab, LF, VT, FF, CR or space.
 fn is_blank(octet: u8) -> bool
     ensures { result ≡ is_blank octet }
 {
     octet == b' ' || (octet >= b'\t' && octet <= b'\r')
 }
 
+/// Whether an octet may stand in a word after its first letter, but for a hyphen.
 fn is_word_octet(octet: u8) -> bool
     ensures { result ≡ is_word_octet octet }
 {
@@ -109,12 +111,14 @@ fn string_rest(text: &[u8]) -> Option<(TokenKind, usize)>
     Some((TokenKind::Text, end + 1))
 }
 
+/// Whether all of the octets are hexadecimal digits.
 fn is_hexadecimal(digits: &[u8]) -> bool
     ensures { result ≡ list_all is_ascii_hexdigit digits.now }
 {
     digits.iter().all(|digit| digit.is_ascii_hexdigit())
 }
 
+/// Whether each of the octets is a 0 or a 1.
 fn is_binary(digits: &[u8]) -> bool
     ensures { result ≡ list_all is_binary_digit digits.now }
 {
@@ -229,6 +233,7 @@ pub fn lines_in(kind: TokenKind, octets: &[u8]) -> usize
     }
 }
 
+/// How many newlines a text has.
 fn newlines_in(text: &[u8]) -> usize
     ensures count { result ≡ newlines text.now }
     ensures within { result ≤ length text.now }

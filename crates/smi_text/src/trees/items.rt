@@ -8,7 +8,9 @@ use std::marker::Model;
 /// The octets of a text. Up to 24, as most names and numbers have, stand in place.
 #[derive(Drop, Debug)]
 enum Octets {
+    /// Up to 24, in place.
     Few(ArrayVec<u8, 24>),
+    /// Any number, elsewhere.
     Many(Vec<u8>),
 }
 
