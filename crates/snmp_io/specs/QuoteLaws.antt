@@ -1,8 +1,8 @@
 -- A text is cut outside quotes in one way, and has one front: laws, for proofs here and of the crates
 -- above.
 use Rattle.std.specs.Prelude.{◌≡◌, ◌≢◌, ℕ, List, [], ◌∷◌, ◌++◌, Option, None}
-use Rattle.std.proofs.Common.{◌∙◌, inl, inr, ap, refl, sym, subst}
-use Rattle.snmp_io.specs.Quotes.{open_after, quote_after, IsCut, IsFrontOf}
+use Rattle.std.proofs.Common.{◌∙◌, ap, refl, sym, subst}
+use Rattle.snmp_io.specs.Quotes.{open_after, quote_after, IsCut}
 
 -- wherever the octet stands in the text, a quote is open before it, if this one is before the text
 abbrev pub HasNoneAfter : (stop : ℕ) → Option ℕ → List ℕ → Type 0
@@ -47,12 +47,3 @@ pub cut_once : (stop : ℕ) (text front rest other behind : List ℕ) → IsCut 
 cut_once stop text front rest other behind h k =
     same_cut stop None front rest other behind (sym h.parts ∙ k.parts) h.outside k.outside
     h.first k.first
-
--- one front
-pub front_once : (stop : ℕ) (text front other : List ℕ) → IsFrontOf stop text front
-    → IsFrontOf stop text other → other ≡ front
-front_once stop text front other (inl h) (inl k) = k.1 ∙ sym h.1
-front_once stop text front other (inl h) (inr k) = absurd (h.0 other k.0 k.1.parts k.1.outside)
-front_once stop text front other (inr h) (inl k) = absurd (k.0 front h.0 h.1.parts h.1.outside)
-front_once stop text front other (inr h) (inr k) =
-    (cut_once stop text front h.0 other k.0 h.1 k.1).0

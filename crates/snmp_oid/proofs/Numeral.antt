@@ -69,13 +69,6 @@ read_more_at part count number low is_digit small h =
     read_more part (drop (count + 1) part) (get_or part count 0) number is_digit small
     (let P : List ℕ → Type 0 = λ left. IsReadTo part left number in subst P (front_at part count low) h)
 
-pub read_other_at : (part : List ℕ) (count number : ℕ) → count < length part → is_ascii_digit (get_or part count 0) ≡ false
-    → IsReadTo part (drop count part) number
-    → (n : ℕ) → IsNumeral part n → ⊥
-read_other_at part count number low other h =
-    read_other part (drop (count + 1) part) (get_or part count 0) number other
-    (let P : List ℕ → Type 0 = λ left. IsReadTo part left number in subst P (front_at part count low) h)
-
 pub read_large_at : (part : List ℕ) (count number : ℕ) → count < length part → 2 ^ 32 ≤ number * 10 + (get_or part count 0 - 48)
     → IsReadTo part (drop count part) number
     → (n : ℕ) → IsNumeral part n → ⊥

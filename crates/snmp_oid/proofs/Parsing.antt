@@ -267,14 +267,5 @@ parsed_only text kept too_long h o name =
     same_numerals h.done o h.numbers (subst P (h.whole ∙ append-nil h.done)
     (numerals_from_dotted o h.dotted (dotted_from_name text h.dotted o h.more h.front name))) h.are
 
--- no part is bad
-pub parsed_no_bad : (text kept : List ℕ) (too_long : Bool) → IsParsedTo text None kept too_long → (at : ℕ) → IsFirstBadPart text at → ⊥
-parsed_no_bad text kept too_long h at bad =
-    let one = h.before at (omega (arith, h.stands, place_below text at bad.part)) bad.part in bad.bad one.0 one.1
-  where
-    place_below : (text : List ℕ) (at : ℕ) → BeginsPart text at → at ≤ length text
-    place_below text at (inl begins) = omega arith
-    place_below text at (inr begins) = begins.0
-
 pub parsed_short : (text kept : List ℕ) → (h : IsParsedTo text None kept false) → (length h.numbers ≤ 128) × (kept ≡ h.numbers)
 parsed_short text kept h = (h.short refl, h.first ∙ take_all 128 h.numbers (h.short refl))
