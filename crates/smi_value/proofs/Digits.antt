@@ -101,9 +101,6 @@ written_last at base left n digit text some within h is_digit no_more =
     ∙ (rw (add-one, is_digit) refl) in
     last ∙ last_written k base left n (drop (suc k) text) (subst P e h) no_more
 
-pub all_written : (base left n : ℕ) (text : List ℕ) → AreLeft 0 base left (drop 0 text) n → drop 0 text ≡ digits base false n
-all_written base left n text h = h.same
-
 -- one digit more
 pub value_more : (digits : List ℕ) (i n d : ℕ) → i < length digits → IsInRange 48 57 (get_or digits i 0) → n ≡ digits_value 10 (take i digits)
     → d ≡ get_or digits i 0 - 48

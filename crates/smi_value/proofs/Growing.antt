@@ -19,6 +19,10 @@ grows_both first middle last front back h k = record {
 pub adds_from : (old new : Written) (text : List ℕ) → Grows old text new → Adds old text new
 adds_from old new text h = record { grows = h; goes_on = λ first front k. grows_both first old new front text k h }
 
+-- nothing is appended
+pub adds_none : (old : Written) → Adds old [] old
+adds_none old = adds_from old old [] (grows_none old)
+
 -- what a test for emptiness says
 pub none_left : (b : Bool) (xs : List ℕ) → b ≡ (length xs == 0) → b ≡ true → xs ≡ []
 none_left b [] e f = refl

@@ -19,13 +19,12 @@ use smi_text::NamedNumber;
 use snmp_io::Draft;
 
 /// Appends the word of a type, with its colon and blank, unless `q` or `Q` is given.
+#[tactic(auto, using(crate::proofs::Growing::adds_none))]
 pub(crate) fn append_word(draft: &mut Draft, letters: &Letters, word: &[u8])
     ensures { Adds draft.old (type_word letters.now word.now) draft.new }
 {
     if is_typed(letters.types) {
         draft.octets(word);
-    } else {
-        draft.octets(b"");
     }
 }
 
@@ -40,6 +39,7 @@ fn is_typed(form: TypeForm) -> bool
 }
 
 /// Appends a blank and the units, unless there are none or `U` is given.
+#[tactic(auto, using(crate::proofs::Growing::adds_none))]
 pub(crate) fn append_units(draft: &mut Draft, letters: &Letters, units: Option<&[u8]>)
     ensures { Adds draft.old (units_text letters.now (option_copied units.entry)) draft.new }
 {
@@ -48,7 +48,7 @@ pub(crate) fn append_units(draft: &mut Draft, letters: &Letters, units: Option<&
             draft.octet(b' ');
             draft.octets(units);
         }
-        _ => draft.octets(b""),
+        _ => {}
     }
 }
 
@@ -191,11 +191,12 @@ fn append_ticks_and_time(draft: &mut Draft, ticks: u32)
 }
 
 /// Appends a number of days, if there are any.
+#[tactic(auto, using(crate::proofs::Growing::adds_none))]
 fn append_days(draft: &mut Draft, days: u32)
     ensures { Adds draft.old (days_text days) draft.new }
 {
     match days {
-        0 => draft.octets(b""),
+        0 => {}
         1 => draft.octets(b"1 day, "),
         _ => {
             draft.number(u64::from(days));
@@ -286,14 +287,13 @@ fn append_octet_bits(
 }
 
 /// Appends a bit, if it is set.
+#[tactic(auto, using(crate::proofs::Growing::adds_none))]
 fn append_if_set(draft: &mut Draft, letters: &Letters, names: &[NamedNumber], bit: u128, set: u8)
     requires { bit < 2 ^ 68 }
     ensures { Adds draft.old (bit_text letters.now names.now bit set) draft.new }
 {
     if set == 1 {
         append_bit(draft, letters, names, bit);
-    } else {
-        draft.octets(b"");
     }
 }
 

@@ -108,22 +108,24 @@ fn append_piece<'a>(draft: &mut Draft, spec: &Spec, is_last: bool, octets: &'a [
 }
 
 /// Appends a mark, if there is one and octets remain.
+#[tactic(auto, using(crate::proofs::Growing::adds_none))]
 fn append_mark(draft: &mut Draft, mark: Option<u8>, rest: &[u8])
     ensures { Adds draft.old (mark_before mark rest.now) draft.new }
 {
     match mark {
         Some(octet) if !rest.is_empty() => draft.octet(octet),
-        _ => draft.octets(b""),
+        _ => {}
     }
 }
 
 /// Appends the octets of one application.
+#[tactic(auto, using(crate::proofs::Growing::adds_none))]
 fn append_formatted(draft: &mut Draft, format: OctetFormat, piece: &[u8])
     requires { length piece.now ≤ most_octets format }
     ensures { Adds draft.old (piece_text format piece.now) draft.new }
 {
     if piece.is_empty() {
-        return draft.octets(b"");
+        return;
     }
     match format {
         OctetFormat::Hexadecimal => append_digits(draft, 16, number_of(piece)),

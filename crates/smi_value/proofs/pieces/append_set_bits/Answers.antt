@@ -1,6 +1,7 @@
 use Rattle.std.proofs.Common.{arith}
 use Rattle.smi_value.specs.Pieces.{octet_bits}
-use Rattle.smi_value.proofs.Lists.{adds_from, enumerated_more, enumerated_all}
+use Rattle.smi_value.proofs.Growing.{adds_from}
+use Rattle.smi_value.proofs.Lists.{enumerated_more, enumerated_all}
 use Rattle.smi_value.proofs.pieces.append_set_bits.Goals as goal
 
 pub octets-preserved : goal.octets-preserved

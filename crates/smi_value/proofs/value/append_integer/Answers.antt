@@ -8,7 +8,7 @@ use Rattle.smi_value.specs.declared.base.ValueBase.TheVariants as base
 use Rattle.smi_value.specs.Syntax.{syntax_at, name_of_number}
 use Rattle.smi_value.specs.Pieces.{type_word, named_text}
 use Rattle.smi_value.specs.Value.{IsIntegerText}
-use Rattle.smi_value.proofs.Lists.{adds_from}
+use Rattle.smi_value.proofs.Growing.{adds_from}
 use Rattle.smi_value.proofs.value.append_integer.Goals as goal
 
 pub returns-in-Some : goal.returns-in-Some

@@ -1,6 +1,6 @@
 use Rattle.std.proofs.Common.{refl, w64}
 use Rattle.std.proofs.lemmas.Int.{to_z-of_z}
-use Rattle.smi_value.proofs.Lists.{adds_from}
+use Rattle.smi_value.proofs.Growing.{adds_from}
 use Rattle.smi_value.proofs.value.append_typed_number.Goals as goal
 
 pub returns : goal.returns
