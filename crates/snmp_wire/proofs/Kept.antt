@@ -8,14 +8,13 @@ use Rattle.snmp_wire.specs.Encoded.{IsKept, binding_in}
 use Rattle.snmp_wire.specs.Message.{VarBind, Datum, integer_value, octet_string, null_value, object_id, ip_address, counter32, gauge32, time_ticks}
 use Rattle.snmp_wire.specs.Message.{opaque_octets, counter64, no_such_object, no_such_instance, end_of_mib_view}
 use Rattle.snmp_wire.specs.Range.{IsBindingInRange, IsInRange}
-use Rattle.snmp_wire.specs.Reading.{Fields, binding_of, bindings_in, bindings_of}
+use Rattle.snmp_wire.specs.Reading.{bindings_in, bindings_of}
 use Rattle.snmp_wire.specs.Spelling.{SpellsBinding}
 use Rattle.snmp_wire.specs.ber.Laws.{ContentReading, ShortestEncodings}
 use Rattle.snmp_wire.specs.ber.LengthLaws.{inner_again}
 use Rattle.snmp_wire.specs.ber.Number.{lenient}
-use Rattle.snmp_wire.specs.ber.Reading.{identifier_of, inner_at, typed_value}
-use Rattle.snmp_wire.specs.ber.ReadingLaws.{is_ok_at, ok_is, ok_value}
-use Rattle.snmp_wire.proofs.BindingLemmas.{binding_made, parts_of}
+use Rattle.snmp_wire.specs.ber.Reading.{identifier_of, inner_at}
+use Rattle.snmp_wire.specs.ber.ReadingLaws.{is_ok_at, ok_is}
 use Rattle.snmp_wire.proofs.Lenient.{binding_is_read}
 use Rattle.snmp_wire.proofs.MessageLaws.{binding_again, bindings_again}
 use Rattle.snmp_wire.proofs.StrictMessages.{spells_binding}
