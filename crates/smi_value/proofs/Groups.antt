@@ -1,43 +1,6 @@
 -- The pieces and groups that octets are still to be cut into, and those that they were cut into.
-use Rattle.std.proofs.Common.{
-  ◌≡◌,
-  ◌≢◌,
-  ℕ,
-  zero,
-  suc,
-  ◌+◌,
-  ◌-◌,
-  ◌<◌,
-  ◌≤◌,
-  Bool,
-  true,
-  false,
-  List,
-  [],
-  ◌∷◌,
-  ◌++◌,
-  length,
-  take,
-  drop,
-  replicate,
-  refl,
-  sym,
-  ◌∙◌,
-  ap,
-  subst,
-  arith,
-  rules,
-  tests,
-  inl,
-  inr,
-  ◌⊎◌,
-  append-nil,
-  Option,
-  None,
-  option_to_list,
-  if◌then◌else◌,
-  length-drop,
-}
+use Rattle.std.proofs.Common.{◌≡◌, ◌≢◌, ℕ, zero, suc, ◌+◌, ◌-◌, ◌<◌, ◌≤◌, Bool, true, false, List, [], ◌∷◌, ◌++◌, length, take, drop, replicate, refl, sym}
+use Rattle.std.proofs.Common.{◌∙◌, ap, subst, arith, rules, tests, inl, inr, ◌⊎◌, append-nil, Option, None, option_to_list, if◌then◌else◌, length-drop}
 use Rattle.std.specs.Bool.{◌==◌, nat_lt}
 use Rattle.std.proofs.lemmas.List.{length-replicate}
 use Rattle.snmp_io.specs.draft.Draft.{Written, Grows, Adds}

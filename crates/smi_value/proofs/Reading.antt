@@ -1,34 +1,6 @@
 -- Letters that are read one after the other.
-use Rattle.std.proofs.Common.{
-  ◌≡◌,
-  ℕ,
-  ◌+◌,
-  ◌<◌,
-  Bool,
-  true,
-  false,
-  not,
-  List,
-  [],
-  ◌∷◌,
-  ◌++◌,
-  Option,
-  Some,
-  None,
-  refl,
-  sym,
-  ◌∙◌,
-  ap,
-  take,
-  drop,
-  length,
-  get_or,
-  codes,
-  if◌then◌else◌,
-  suc,
-  drop-cons,
-  take-append-drop,
-}
+use Rattle.std.proofs.Common.{◌≡◌, ℕ, ◌+◌, ◌<◌, Bool, true, false, not, List, [], ◌∷◌, ◌++◌, Option, Some, None, refl, sym, ◌∙◌, ap, take, drop, length}
+use Rattle.std.proofs.Common.{get_or, codes, if◌then◌else◌, suc, drop-cons, take-append-drop}
 use Rattle.std.specs.Bool.{◌==◌}
 use Rattle.std.proofs.Common.{◌||◌}
 use Rattle.std.specs.List.{find}
