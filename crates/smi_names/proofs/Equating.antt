@@ -1,7 +1,6 @@
 -- A name's place has what decides the name, so the chain of places is that of names.
 use Rattle.std.proofs.Common.{
   ◌≡◌,
-  ◌≢◌,
   ℕ,
   zero,
   suc,
@@ -21,7 +20,6 @@ use Rattle.std.proofs.Common.{
   ◌++◌,
   length,
   map,
-  get_or,
   unwrap_or,
   is_some,
   MatchOption,
@@ -36,6 +34,7 @@ use Rattle.std.proofs.Common.{
 }
 use Rattle.std.proofs.lemmas.List.{get_or_past, length-map, length_push}
 use Rattle.std.proofs.lemmas.Bool.{cases_eq, cases_lt}
+use Rattle.std.proofs.lemmas.Option.{slice_get_past, slice_get_within, slice_get_read, get_or_from_slice_get}
 use Rattle.std.specs.List.{slice_get, find, position_from, HoldsAt}
 use Rattle.std.specs.Option.{option_and_then, option_map}
 use Rattle.std.specs.Borrow.{Bor}
@@ -53,37 +52,11 @@ use Rattle.smi_names.specs.meaning.Resolved.{IsDirectory, AreResolutions}
 use Rattle.smi_names.specs.declared.meaning.entry.Entry.{Entry}
 use Rattle.smi_names.specs.declared.meaning.directory.Directory.{Directory}
 use Rattle.smi_names.proofs.Bridging.{ComesTo-back, from_nowhere}
-use Rattle.smi_names.proofs.Knowing.{same}
-use Rattle.smi_names.proofs.Placing.{module_found, module_missing}
-
-pub get_past : {X : Type 0} (xs : List X) (j : ℕ) → length xs ≤ j → slice_get xs j ≡ None
-get_past [] j l = refl
-get_past (x ∷ xs) zero l = absurd (omega arith)
-get_past (x ∷ xs) (suc j) l = get_past xs j (omega arith)
-
-get_within : {X : Type 0} (xs : List X) (i : ℕ) → i < length xs → (x : X) × (slice_get xs i ≡ Some x)
-get_within [] i l = absurd (omega arith)
-get_within (x ∷ xs) zero l = (x, refl)
-get_within (x ∷ xs) (suc i) l = get_within xs i (omega arith)
-
-within_get : {X : Type 0} (xs : List X) (i : ℕ) (x : X) → slice_get xs i ≡ Some x → i < length xs
-within_get [] i x e = absurd (cc)
-within_get (y ∷ xs) zero x e = omega arith
-within_get (y ∷ xs) (suc i) x e = omega (arith, within_get xs i x e)
+use Rattle.smi_names.proofs.Knowing.{get-push_at, get_within, same}
+use Rattle.smi_names.proofs.Placing.{get-push, module_found, module_missing}
 
 past_get : {X : Type 0} (xs : List X) (i : ℕ) → slice_get xs i ≡ None → length xs ≤ i
 past_get xs i e = elim (cases_lt i (length xs)) [ inl l ↦ let r = get_within xs i l in let h = r.1 in absurd (cc) | inr l ↦ l ]
-
--- one entry more
-get-push : {X : Type 0} (xs : List X) (j : ℕ) (y : X) → j ≢ length xs → slice_get (xs ++ y ∷ []) j ≡ slice_get xs j
-get-push [] zero y f = absurd (f refl)
-get-push [] (suc j) y f = refl
-get-push (x ∷ xs) zero y f = refl
-get-push (x ∷ xs) (suc j) y f = get-push xs j y (λ e. f (ap suc e))
-
-get-push_at : {X : Type 0} (xs : List X) (y : X) → slice_get (xs ++ y ∷ []) (length xs) ≡ Some y
-get-push_at [] y = refl
-get-push_at (x ∷ xs) y = get-push_at xs y
 
 pub AreBases-more : (d : Directory) (es : List Entry) (bs : List Basis) (e : Entry) (b : Basis) → AreBases d es bs
     → origin_of b ≡ map_origin (place_by d) (origin_by (place_of_entry e) (Some (content_of e).decided))
@@ -124,7 +97,7 @@ entry_at ms d dir a = by (place_in d.homes a.home) refl
     inner : (m : Module) (scope : NamePlaces) → known d.entries.items scope a.name ≡ decided_as m a.name (decision m a.name)
         → (r : Option ℕ) → place_in scope a.name ≡ r
         → option_map content_of (slice_get d.entries.items (unwrap_or r (length d.entries.items))) ≡ decided_as m a.name (decision m a.name)
-    inner m scope k None e = rw (get_past d.entries.items (length d.entries.items) (omega arith)) (rw e at k)
+    inner m scope k None e = rw (slice_get_past d.entries.items (length d.entries.items) (omega arith)) (rw e at k)
     inner m scope k (Some p) e = rw e at k
 
     by : (r : Option ℕ) → place_in d.homes a.home ≡ r
@@ -133,13 +106,13 @@ entry_at ms d dir a = by (place_in d.homes a.home) refl
         ≡ option_and_then (λ m. decided_as m a.name (decision m a.name)) (module_named ms a.home)
     by None e =
         let none = module_missing (λ m. same_text m.name.octets a.home) 0 ms (sym (dir.placed a.home) ∙ e) in
-        rw (get_past d.entries.items (length d.entries.items) (omega arith), none) refl
+        rw (slice_get_past d.entries.items (length d.entries.items) (omega arith), none) refl
     by (Some i) e =
         let found = module_found (λ m. same_text m.name.octets a.home) 0 ms i (sym (dir.placed a.home) ∙ e) in
         let m = found.0 in
         let all : i - 0 ≡ i = omega arith in
         let at : slice_get ms i ≡ Some found.0 = rw all at found.1 in
-        let s = get_within d.scopes.items i (omega (arith, within_get ms i found.0 at, dir.named.long)) in
+        let s = get_within d.scopes.items i (omega (arith, slice_get_within ms i found.0 at, dir.named.long)) in
         rw (s.1, found.2) (inner m s.0 (dir.named.each i m s.0 at s.1 a.name) (place_in s.0 a.name) refl)
 
 -- the origin of a place is that of its name
@@ -183,7 +156,7 @@ origins ms d dir bs are a = by (slice_get d.entries.items (place_by d a)) refl
         let none = undecided (module_named ms a.home) (rw e at (entry_at ms d dir a)) in
         rw (origin_past (place_by d a) (omega (arith, past_get d.entries.items (place_by d a) e, are.long)), none) refl
     by (Some x) e =
-        let b = get_within bs (place_by d a) (omega (arith, within_get d.entries.items (place_by d a) x e, are.long)) in
+        let b = get_within bs (place_by d a) (omega (arith, slice_get_within d.entries.items (place_by d a) x e, are.long)) in
         let says = decides x (module_named ms a.home) (λ m h. same m.name.octets a.home (find_true (λ n. same_text n.name.octets a.home) ms m h))
         (rw e at (entry_at ms d dir a)) in
         origin_there bs (place_by d a) b.0 b.1 ∙ are.each (place_by d a) x b.0 e b.1 ∙ ap (map_origin (place_by d)) says
@@ -193,27 +166,17 @@ pub AreResolutions-all : (ms : List Module) (d : Directory) → IsDirectory ms d
 AreResolutions-all ms d dir bs are rs long each = record {
   directory = dir;
   comes = λ a r e. ComesTo-back (place_by d) (origin ms) (origin_at bs) (origins ms d dir bs are) a r
-      (rw (read rs (place_by d a) r e) at (each (place_by d a) r (within_get rs (place_by d a) r e)));
+      (rw (get_or_from_slice_get rs (place_by d a) r r e) at (each (place_by d a) r (slice_get_within rs (place_by d a) r e)));
   leads_nowhere = λ a e. from_nowhere (place_by d) (origin ms a)
       (sym (origins ms d dir bs are a)
       ∙ get_or_past (map origin_of bs) (place_by d a) nowhere (omega (arith, length-map bs origin_of, past_get rs (place_by d a) e)));
 }
-  where
-    read : (xs : List Resolution) (p : ℕ) (r : Resolution) → slice_get xs p ≡ Some r → get_or xs p r ≡ r
-    read [] p r e = refl
-    read (x ∷ xs) zero r e = cc
-    read (x ∷ xs) (suc p) r e = read xs p r e
 
 -- what `get` gives
 pub looked_up : {X : Type 0} (xs : List X) (i : ℕ) (r : Option (Bor X))
     → MatchOption r (length xs ≤ i) (λ x. (i < length xs) × HoldsAt (λ y. x.now ≡ y) xs i) → slice_get xs i ≡ option_map (λ x. x.now) r
-looked_up xs i None l = get_past xs i l
-looked_up xs i (Some x) h = read xs i x.now h.0 (h.1 x.now)
-  where
-    read : {X : Type 0} (xs : List X) (i : ℕ) (x : X) → i < length xs → x ≡ get_or xs i x → slice_get xs i ≡ Some x
-    read [] i x l e = absurd (omega arith)
-    read (y ∷ ys) zero x l e = ap (λ z. Some z) (sym e)
-    read (y ∷ ys) (suc i) x l e = read ys i x (omega arith) e
+looked_up xs i None l = slice_get_past xs i l
+looked_up xs i (Some x) h = slice_get_read xs (length xs) i x.now refl h.0 (h.1 x.now)
 
 pub resolved : (ms : List Module) (d : Directory) (rs : List Resolution) → AreResolutions ms d rs → (a : QualifiedName) (r : Option (Bor Resolution))
     → slice_get rs (place_by d a) ≡ option_map (λ x. x.now) r → MatchOption r (origin ms a ≡ nowhere) (λ x. ComesTo (origin ms) a x.now)

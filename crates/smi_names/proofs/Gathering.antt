@@ -1,5 +1,5 @@
 -- Nodes and warnings are added at the end.
-use Rattle.std.proofs.Common.{◌≡◌, ℕ, zero, suc, ◌<◌, true, false, List, [], ◌∷◌, ◌++◌, length, get_or, Some, None, refl, sym, ap, ◌∙◌, arith, append_assoc}
+use Rattle.std.proofs.Common.{◌≡◌, ℕ, true, false, List, [], ◌∷◌, ◌++◌, length, Some, None, refl, sym, ap, ◌∙◌, arith, append_assoc}
 use Rattle.std.proofs.lemmas.List.{append-nil, length_push}
 use Rattle.std.specs.List.{slice_get}
 use Rattle.smi_names.specs.links.Basis.{ComesTo}
@@ -138,12 +138,6 @@ AddsModule-loaded ms a b c before m long first s o w f = record {
   brings = loaded f.ns f.ws first f.gathers;
   adds = AddsNodes-then ms a b c [] f.ns (import_warnings ms m) f.ws (AddsNodes-warnings ms a b (import_warnings ms m) long s o w) f.adds;
 }
-
--- an element of a list by its place
-pub get_read : {X : Type 0} (xs : List X) (i : ℕ) (x : X) → i < length xs → x ≡ get_or xs i x → slice_get xs i ≡ Some x
-get_read [] i x l e = absurd (omega arith)
-get_read (y ∷ ys) zero x l e = ap (λ z. Some z) (sym e)
-get_read (y ∷ ys) (suc i) x l e = get_read ys i x (omega arith) e
 
 -- the definition at its place
 pub IsSourceOf-definition : (ms : List Module) (i k : ℕ) (m : Module) (d : Def) → slice_get ms i ≡ Some m → slice_get m.defs k ≡ Some d

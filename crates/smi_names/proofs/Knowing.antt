@@ -41,9 +41,6 @@ use Rattle.smi_names.specs.declared.meaning.entry.Entry.{Entry}
 pub same : (xs ys : List ℕ) → same_text xs ys ≡ true → xs ≡ ys
 same xs ys e = (bytes_eq-Decides xs ys).0 e
 
-pub same_itself : (xs : List ℕ) → same_text xs xs ≡ true
-same_itself xs = (bytes_eq-Decides xs xs).1 refl
-
 pub find-append : {A : Type 0} (p : A → Bool) (xs ys : List A) → find p (xs ++ ys) ≡ or_else (find p xs) (find p ys)
 find-append p [] ys = refl
 find-append p (x ∷ xs) ys = by (p x) (find-append p xs ys)
@@ -70,11 +67,11 @@ get-append [] ys i l = absurd (omega arith)
 get-append (x ∷ xs) ys zero l = refl
 get-append (x ∷ xs) ys (suc i) l = get-append xs ys i (omega arith)
 
-get-append_at : {X : Type 0} (xs : List X) (y : X) → slice_get (xs ++ y ∷ []) (length xs) ≡ Some y
-get-append_at [] y = refl
-get-append_at (x ∷ xs) y = get-append_at xs y
+pub get-push_at : {X : Type 0} (xs : List X) (y : X) → slice_get (xs ++ y ∷ []) (length xs) ≡ Some y
+get-push_at [] y = refl
+get-push_at (x ∷ xs) y = get-push_at xs y
 
-get_within : {X : Type 0} (xs : List X) (i : ℕ) → i < length xs → (x : X) × (slice_get xs i ≡ Some x)
+pub get_within : {X : Type 0} (xs : List X) (i : ℕ) → i < length xs → (x : X) × (slice_get xs i ≡ Some x)
 get_within [] i l = absurd (omega arith)
 get_within (x ∷ xs) zero l = (x, refl)
 get_within (x ∷ xs) (suc i) l = get_within xs i (omega arith)
@@ -161,20 +158,11 @@ module _ (old : List Entry) (scope : NamePlaces) (m : Module) (i : ℕ) (within 
           let at : place_in new x ≡ Some (length old) = places x ∙ rw t refl in
           let before : place_in scope x ≡ None = rw is at none in
           let says : content_of e ≡ record { home = m; name = x; decided = (content_of e).decided } = rw (sym home, sym is, sym named) refl in
-          rw (at, before, get-append_at old e) (ap (λ v. Some v) says)
+          rw (at, before, get-push_at old e) (ap (λ v. Some v) says)
 
       inside : (x : List ℕ) (p : ℕ) (b : Bool) → cond b (Some (length old)) (place_in scope x) ≡ Some p → p < length (old ++ e ∷ [])
       inside x p true at = let is : length old ≡ p = cc in omega (arith, length_push old e)
       inside x p false at = omega (arith, within x p at, length_push old e)
-
-  pub KnowsMore-start : KnowsMore old scope old scope m i (λ x. None)
-  KnowsMore-start = record {
-    knows = λ x. sym (or_else_none (known old scope x));
-    added = [];
-    grown = sym (append-nil old);
-    of = All-nil (IsEntryOf m i);
-    within = within;
-  }
 
 pub KnowsMore-then : (e0 e1 e2 : List Entry) (s0 s1 s2 : NamePlaces) (m : Module) (i : ℕ) (f g : List ℕ → Option Decision)
     → KnowsMore e0 s0 e1 s1 m i f → KnowsMore e1 s1 e2 s2 m i g → KnowsMore e0 s0 e2 s2 m i (λ x. or_else (f x) (g x))

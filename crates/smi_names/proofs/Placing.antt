@@ -45,7 +45,7 @@ use Rattle.smi_names.specs.meaning.Meaning.{or_else, both, arcs, decision}
 use Rattle.smi_names.specs.meaning.Scopes.{NamePlaces, known, decided_as, IsWithin, IsEntryOf}
 use Rattle.smi_names.specs.meaning.Names.{module_place, IsSourced, AreEach}
 use Rattle.smi_names.specs.declared.meaning.entry.Entry.{Entry}
-use Rattle.smi_names.proofs.Knowing.{known-append}
+use Rattle.smi_names.proofs.Knowing.{get-push_at, known-append}
 
 position-push : {A : Type 0} (t : A → Bool) (j : ℕ) (xs : List A) (y : A)
     → position_from t j (xs ++ y ∷ []) ≡ or_else (position_from t j xs) (cond (t y) (Some (j + length xs)) None)
@@ -86,21 +86,11 @@ module_missing t j (m ∷ ms) e = by (t m) e (λ h. module_missing t (j + 1) ms 
     by true e ih = cc
     by false e ih = ih e
 
-get-push : {X : Type 0} (xs : List X) (j : ℕ) (y : X) → j ≢ length xs → slice_get (xs ++ y ∷ []) j ≡ slice_get xs j
+pub get-push : {X : Type 0} (xs : List X) (j : ℕ) (y : X) → j ≢ length xs → slice_get (xs ++ y ∷ []) j ≡ slice_get xs j
 get-push [] zero y f = absurd (f refl)
 get-push [] (suc j) y f = refl
 get-push (x ∷ xs) zero y f = refl
 get-push (x ∷ xs) (suc j) y f = get-push xs j y (λ e. f (ap suc e))
-
-get-push_at : {X : Type 0} (xs : List X) (y : X) → slice_get (xs ++ y ∷ []) (length xs) ≡ Some y
-get-push_at [] y = refl
-get-push_at (x ∷ xs) y = get-push_at xs y
-
--- what is read at a place
-pub get_read : {X : Type 0} (xs : List X) (j : ℕ) (x : X) → j < length xs → x ≡ get_or xs j x → slice_get xs j ≡ Some x
-get_read [] j x l e = absurd (omega arith)
-get_read (y ∷ xs) zero x l e = ap (λ z. Some z) (sym e)
-get_read (y ∷ xs) (suc j) x l e = get_read xs j x (omega arith) e
 
 get-more : {X : Type 0} (xs : List X) (j : ℕ) (x y : X) → slice_get xs j ≡ Some x → slice_get (xs ++ y ∷ []) j ≡ Some x
 get-more [] j x y e = absurd (cc)

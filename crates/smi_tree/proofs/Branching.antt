@@ -1,42 +1,15 @@
 -- Branches stay those of a list as it grows.
-use Rattle.std.proofs.Common.{
-  ◌≡◌,
-  ◌≢◌,
-  ℕ,
-  zero,
-  suc,
-  ◌+◌,
-  ◌<◌,
-  ◌≤◌,
-  ◌⊎◌,
-  inl,
-  inr,
-  List,
-  [],
-  ◌∷◌,
-  ◌++◌,
-  length,
-  take,
-  drop,
-  get_or,
-  MatchOption,
-  Option,
-  Some,
-  None,
-  refl,
-  sym,
-  ap,
-  ◌∙◌,
-  arith,
-}
+use Rattle.std.proofs.Common.{◌≡◌, ◌≢◌, ℕ, zero, suc, ◌+◌, ◌<◌, ◌≤◌, ◌⊎◌, inl, inr, List, [], ◌∷◌, ◌++◌, length, take, drop, get_or, MatchOption, Option}
+use Rattle.std.proofs.Common.{Some, None, refl, sym, ap, ◌∙◌, arith}
 use Rattle.std.proofs.lemmas.List.{length_push, get_or_append_left, get_or_push, take-append-drop, take_more, take-take}
 use Rattle.std.proofs.lemmas.Bool.{cases_eq, cases_lt}
+use Rattle.std.proofs.lemmas.Option.{slice_get_past}
 use Rattle.std.specs.Option.{option_and_then}
 use Rattle.smi_tree.specs.branches.Standing.{place_of, oid_at, HasNoBeginning, IsDeepestAt}
 use Rattle.smi_tree.specs.branches.Branches.{follower, standing_at, walk, branch_of, IsBeginning, AreBranches, AreBranchesOf, deeper_of, GrowsBranch, there, made}
 use Rattle.smi_tree.specs.declared.branches.branch.Branch.{Branch}
 use Rattle.smi_tree.specs.declared.branches.identifiers.Deepest.{Deepest}
-use Rattle.smi_tree.proofs.Growing.{get_past, follower_past}
+use Rattle.smi_tree.proofs.Growing.{follower_past}
 use Rattle.smi_tree.proofs.PlacesLemmas.{place_found, place_push_itself, place_push_other, or_else}
 use Rattle.smi_tree.proofs.Walking.{same_or_not, walk-push, walk_front, walk_within, walk_made, walk_kept, none_there, by_last}
 
@@ -95,7 +68,7 @@ module _ (known oids : List (List ℕ)) (bs new : List Branch) (q : List ℕ) (a
           ];
           standing = λ o b e. elim (same_or_not o (q ++ n ∷ [])) [
             | inl s ↦ let is : length bs ≡ b = let w = rw s at e in cc in
-                stands b ∙ rw (sym is, get_past bs (length bs) (omega arith)) (sym (rw s (place_off known oids bs are (q ++ n ∷ []) off)))
+                stands b ∙ rw (sym is, slice_get_past bs (length bs) (omega arith)) (sym (rw s (place_off known oids bs are (q ++ n ∷ []) off)))
             | inr s ↦ stands b ∙ are.standing o b (sym (kept o s) ∙ e)
           ];
           each = λ k l. let b = are.each k l in elim (same_or_not (oid_at oids k) (q ++ n ∷ [])) [
@@ -268,7 +241,3 @@ pub SoFar-deeper : (oids : List (List ℕ)) (o : List ℕ) (i : ℕ) (r : Option
     → SoFar oids o (i + 1) (deeper_of s (i + 1) r)
 SoFar-deeper oids o i r None f e = SoFar-none oids o i r f (sym e)
 SoFar-deeper oids o i r (Some k) f e = SoFar-some oids o i k (sym e)
-
-pub SoFar-first : (oids : List (List ℕ)) (o : List ℕ) (s : Option ℕ) → s ≡ place_of oids (take 0 o) → SoFar oids o 0 (deeper_of s 0 None)
-SoFar-first oids o None e = λ j l. let is : j ≡ 0 = omega arith in rw is (sym e)
-SoFar-first oids o (Some k) e = (omega arith, sym e, λ j l m. absurd (omega arith))

@@ -14,7 +14,7 @@ use Rattle.smi_names.specs.nodes.Gathered.{node_from, node_from_def, def_of_modu
 use Rattle.smi_names.specs.declared.nodes.source.Source.{Source}
 use Rattle.smi_names.specs.declared.nodes.source.Source.TheVariants as S
 use Rattle.smi_tree.specs.Nodes.{has_label, is_named, is_of, is_labelled, place_in_module, place_anywhere, oids_of}
-use Rattle.smi_tree.specs.Places.{Places, kept_place, place_at, home_from, label_from, definition_from, label_in, is_this, place_of_home, is_in, AreScopes}
+use Rattle.smi_tree.specs.Places.{Places, place_at, home_from, label_from, definition_from, label_in, is_this, place_of_home, is_in, AreScopes}
 use Rattle.smi_tree.specs.Places as places
 use Rattle.smi_tree.proofs.Listing.{same, same_itself}
 use Rattle.smi_tree.proofs.Scoping.{position_within}

@@ -1,7 +1,8 @@
 -- A branch is made.
-use Rattle.std.proofs.Common.{◌≡◌, ◌≢◌, ℕ, zero, suc, ◌<◌, ◌≤◌, inl, inr, List, [], ◌∷◌, ◌++◌, length, set, get_or, Some, None, refl, sym, ap, ◌∙◌, arith}
+use Rattle.std.proofs.Common.{◌≡◌, ◌≢◌, ℕ, zero, suc, ◌<◌, ◌≤◌, inl, inr, List, [], ◌∷◌, ◌++◌, length, set, get_or, Some, None, refl, ap, ◌∙◌, arith}
 use Rattle.std.proofs.lemmas.List.{length_push, length-set, get_or_append_left}
 use Rattle.std.proofs.lemmas.Bool.{cases_eq}
+use Rattle.std.proofs.lemmas.Option.{slice_get_past, slice_get_read}
 use Rattle.std.specs.List.{slice_get}
 use Rattle.std.specs.Ordering.{nat_cmp}
 use Rattle.std.specs.BTreeMap.{get}
@@ -20,28 +21,18 @@ get-set_other (x ∷ xs) zero (suc j) y f = refl
 get-set_other (x ∷ xs) (suc i) zero y f = refl
 get-set_other (x ∷ xs) (suc i) (suc j) y f = get-set_other xs i j y (λ e. f (ap suc e))
 
-get-push : {X : Type 0} (xs : List X) (j : ℕ) (y : X) → j ≢ length xs → slice_get (xs ++ y ∷ []) j ≡ slice_get xs j
+pub get-push : {X : Type 0} (xs : List X) (j : ℕ) (y : X) → j ≢ length xs → slice_get (xs ++ y ∷ []) j ≡ slice_get xs j
 get-push [] zero y f = absurd (f refl)
 get-push [] (suc j) y f = refl
 get-push (x ∷ xs) zero y f = refl
 get-push (x ∷ xs) (suc j) y f = get-push xs j y (λ e. f (ap suc e))
 
-get-push_at : {X : Type 0} (xs : List X) (y : X) → slice_get (xs ++ y ∷ []) (length xs) ≡ Some y
+pub get-push_at : {X : Type 0} (xs : List X) (y : X) → slice_get (xs ++ y ∷ []) (length xs) ≡ Some y
 get-push_at [] y = refl
 get-push_at (x ∷ xs) y = get-push_at xs y
 
-pub get_past : {X : Type 0} (xs : List X) (j : ℕ) → length xs ≤ j → slice_get xs j ≡ None
-get_past [] j l = refl
-get_past (x ∷ xs) zero l = absurd (omega arith)
-get_past (x ∷ xs) (suc j) l = get_past xs j (omega arith)
-
-pub get_read : {X : Type 0} (xs : List X) (i : ℕ) (x : X) → i < length xs → x ≡ get_or xs i x → slice_get xs i ≡ Some x
-get_read [] i x l e = absurd (omega arith)
-get_read (y ∷ ys) zero x l e = ap (λ z. Some z) (sym e)
-get_read (y ∷ ys) (suc i) x l e = get_read ys i x (omega arith) e
-
 pub follower_past : (bs : List Branch) (c m : ℕ) → length bs ≤ c → follower bs c m ≡ None
-follower_past bs c m l = rw (get_past bs c l)
+follower_past bs c m l = rw (slice_get_past bs c l)
 
 pub GrowsBranch-made : (old : List Branch) (e a b : Branch) (at n : ℕ) → at < length old → a ≡ get_or (old ++ e ∷ []) at a
     → e.standing ≡ None → ((q : ℕ) → get nat_cmp e.after q ≡ None) → b.standing ≡ a.standing
@@ -50,7 +41,7 @@ pub GrowsBranch-made : (old : List Branch) (e a b : Branch) (at n : ℕ) → at 
     → GrowsBranch old (set (old ++ e ∷ []) at b) at n (length old)
 GrowsBranch-made old e a b at n inside read stands empty standing found others none =
     let long = length_push old e in
-    let is_a = get_read old at a inside (read ∙ get_or_append_left old (e ∷ []) a at inside) in
+    let is_a = slice_get_read old (length old) at a refl inside (read ∙ get_or_append_left old (e ∷ []) a at inside) in
     let here : slice_get (set (old ++ e ∷ []) at b) at ≡ Some b = get-set_same (old ++ e ∷ []) at b (omega arith) in
     made refl (length-set (old ++ e ∷ []) at b ∙ long) none (rw here found)
     (λ c m apart. elim (cases_eq c at) [
@@ -59,14 +50,14 @@ GrowsBranch-made old e a b at n inside read stands empty standing found others n
         | inr number ↦ rw (same, here, is_a) (others m number)
       ]
       | inr other ↦ rw (get-set_other (old ++ e ∷ []) at c b other) (elim (cases_eq c (length old)) [
-        | inl end ↦ rw (end, get-push_at old e, get_past old (length old) (omega arith)) (empty m)
+        | inl end ↦ rw (end, get-push_at old e, slice_get_past old (length old) (omega arith)) (empty m)
         | inr before ↦ rw (get-push old c e before)
       ])
     ])
     (λ c. elim (cases_eq c at) [
       | inl same ↦ rw (same, here, is_a) standing
       | inr other ↦ rw (get-set_other (old ++ e ∷ []) at c b other) (elim (cases_eq c (length old)) [
-        | inl end ↦ rw (end, get-push_at old e, get_past old (length old) (omega arith)) stands
+        | inl end ↦ rw (end, get-push_at old e, slice_get_past old (length old) (omega arith)) stands
         | inr before ↦ rw (get-push old c e before)
       ])
     ])
@@ -75,7 +66,7 @@ GrowsBranch-made old e a b at n inside read stands empty standing found others n
 pub follower-set : (bs : List Branch) (at : ℕ) (a b : Branch) → at < length bs → a ≡ get_or bs at a → b.after ≡ a.after
     → (c m : ℕ) → follower (set bs at b) c m ≡ follower bs c m
 follower-set bs at a b inside read same c m = elim (cases_eq c at) [
-  | inl s ↦ rw (s, get-set_same bs at b inside, get_read bs at a inside read, same) refl
+  | inl s ↦ rw (s, get-set_same bs at b inside, slice_get_read bs (length bs) at a refl inside read, same) refl
   | inr s ↦ rw (get-set_other bs at c b s) refl
 ]
 
@@ -86,4 +77,4 @@ pub standing-set_other : (bs : List Branch) (at : ℕ) (b : Branch) (c : ℕ) �
 standing-set_other bs at b c f = rw (get-set_other bs at c b f) refl
 
 pub standing_read : (bs : List Branch) (at : ℕ) (a : Branch) → at < length bs → a ≡ get_or bs at a → standing_at bs at ≡ a.standing
-standing_read bs at a inside read = rw (get_read bs at a inside read) refl
+standing_read bs at a inside read = rw (slice_get_read bs (length bs) at a refl inside read) refl

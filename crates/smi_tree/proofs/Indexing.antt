@@ -1,5 +1,5 @@
 -- The index of each node, by its row and by the parts of the INDEX clause that the row uses.
-use Rattle.std.proofs.Common.{◌≡◌, ℕ, zero, suc, ◌≤◌, List, [], ◌∷◌, length, Option, Some, None, refl, sym, ap, ◌∙◌, arith}
+use Rattle.std.proofs.Common.{◌≡◌, ℕ, zero, suc, List, [], ◌∷◌, length, Option, Some, None, refl, sym, ap, ◌∙◌, arith}
 use Rattle.std.proofs.lemmas.List.{same_from_push}
 use Rattle.std.specs.List.{slice_get}
 use Rattle.std.specs.Option.{option_and_then}
@@ -59,11 +59,6 @@ index-at kept (x ∷ rows) zero at e = ap (λ y. option_and_then (λ p. parts_at
     same_some : (x y : Option (ℕ × ℕ)) → Some x ≡ Some y → x ≡ y
     same_some x y e = cc
 index-at kept (x ∷ rows) (suc k) at e = index-at kept rows k at e
-
-pub index-past : (kept : List KeptOfModule) (rows : List (Option (ℕ × ℕ))) (k : ℕ) → length rows ≤ k → index_at (indexes_of kept rows) k ≡ None
-index-past kept [] k l = refl
-index-past kept (x ∷ rows) zero l = absurd (omega arith)
-index-past kept (x ∷ rows) (suc k) l = index-past kept rows k (omega arith)
 
 indexes-length : (kept : List KeptOfModule) (rows : List (Option (ℕ × ℕ))) → length (indexes_of kept rows) ≡ length rows
 indexes-length kept [] = refl

@@ -1,9 +1,11 @@
 -- What holds of each name, as the names are gone through.
-use Rattle.std.proofs.Common.{◌≡◌, ◌≢◌, ℕ, zero, suc, ◌+◌, ◌<◌, inl, inr, List, [], ◌∷◌, ◌++◌, length, get_or, Option, Some, None, refl, sym, ap, ◌∙◌, arith}
+use Rattle.std.proofs.Common.{◌≡◌, ℕ, ◌+◌, ◌<◌, inl, inr, List, [], ◌∷◌, ◌++◌, length, Option, Some, None, refl, sym, ap, ◌∙◌, arith}
 use Rattle.std.proofs.lemmas.List.{length_push, get_or_append_left, get_or_push}
 use Rattle.std.proofs.lemmas.Bool.{cases_eq}
+use Rattle.std.proofs.lemmas.Option.{slice_get_within}
 use Rattle.std.specs.List.{slice_get}
 use Rattle.smi_tree.specs.types.Leads.{at_place}
+use Rattle.smi_tree.proofs.Growing.{get-push, get-push_at}
 
 -- this holds of each of the first names, and of what the list has at its place
 pub record HoldUpTo {A X : Type 0} (R : A → ℕ → Option X → Type 0) (names : List A) (i : ℕ) (xs : List (Option X)) : Type 0 where
@@ -23,33 +25,13 @@ HoldUpTo-more R names i xs x hold new = record {
   ];
 }
 
-within_get : {X : Type 0} (xs : List X) (i : ℕ) (x : X) → slice_get xs i ≡ Some x → i < length xs
-within_get [] i x e = absurd (cc)
-within_get (y ∷ xs) zero x e = omega arith
-within_get (y ∷ xs) (suc i) x e = omega (arith, within_get xs i x e)
-
 pub HoldUpTo-all : {A X : Type 0} (R : A → ℕ → Option X → Type 0) (names : List A) (i : ℕ) (xs : List (Option X))
     → HoldUpTo R names i xs → i ≡ length names → (p : ℕ) (c : A) → slice_get names p ≡ Some c → R c p (at_place xs p)
-HoldUpTo-all R names i xs hold all p c e = hold.each p c (omega (arith, all, within_get names p c e)) e
+HoldUpTo-all R names i xs hold all p c e = hold.each p c (omega (arith, all, slice_get_within names p c e)) e
 
 -- this holds of what two lists have at a place, up to the end of the second
 pub record AllAt {A X : Type 0} (R : A → X → Type 0) (ts : List A) (xs : List X) : Type 0 where
   pub each : (p : ℕ) (t : A) (x : X) → slice_get ts p ≡ Some t → slice_get xs p ≡ Some x → R t x
-
-get-push : {X : Type 0} (xs : List X) (j : ℕ) (y : X) → j ≢ length xs → slice_get (xs ++ y ∷ []) j ≡ slice_get xs j
-get-push [] zero y f = absurd (f refl)
-get-push [] (suc j) y f = refl
-get-push (x ∷ xs) zero y f = refl
-get-push (x ∷ xs) (suc j) y f = get-push xs j y (λ e. f (ap suc e))
-
-get-push_at : {X : Type 0} (xs : List X) (y : X) → slice_get (xs ++ y ∷ []) (length xs) ≡ Some y
-get-push_at [] y = refl
-get-push_at (x ∷ xs) y = get-push_at xs y
-
-pub get_read : {X : Type 0} (xs : List X) (j : ℕ) (x : X) → j < length xs → x ≡ get_or xs j x → slice_get xs j ≡ Some x
-get_read [] j x l e = absurd (omega (arith, l))
-get_read (y ∷ xs) zero x l e = ap (λ z. Some z) (sym e)
-get_read (y ∷ xs) (suc j) x l e = get_read xs j x (omega (arith, l)) e
 
 pub AllAt-none : {A X : Type 0} (R : A → X → Type 0) (ts : List A) → AllAt R ts []
 AllAt-none R ts = record { each = λ p t x e f. absurd (cc) }

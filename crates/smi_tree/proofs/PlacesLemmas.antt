@@ -1,32 +1,6 @@
 -- The first place of an identifier in a list that grows.
-use Rattle.std.proofs.Common.{
-  ◌≡◌,
-  ◌≢◌,
-  ℕ,
-  zero,
-  suc,
-  ◌+◌,
-  ◌-◌,
-  ◌<◌,
-  ◌≤◌,
-  Bool,
-  true,
-  false,
-  cond,
-  List,
-  [],
-  ◌∷◌,
-  ◌++◌,
-  length,
-  Option,
-  Some,
-  None,
-  refl,
-  sym,
-  ◌∙◌,
-  arith,
-  nat_eq,
-}
+use Rattle.std.proofs.Common.{◌≡◌, ◌≢◌, ℕ, suc, ◌+◌, ◌-◌, ◌<◌, ◌≤◌, Bool, true, false, cond, List, [], ◌∷◌, ◌++◌, length, Option, Some, None, refl, ◌∙◌}
+use Rattle.std.proofs.Common.{arith, nat_eq}
 use Rattle.std.specs.List.{position_from}
 use Rattle.std.specs.Cmp.Lexicographic.{pointwise, bytes_decides}
 use Rattle.smi_tree.specs.branches.Standing.{place_of, oid_at}
@@ -51,21 +25,6 @@ found_from i (x ∷ xs) o k e = by (pointwise nat_eq x o) refl e (λ h. found_fr
 pub place_found : (oids : List (List ℕ)) (o : List ℕ) (k : ℕ) → place_of oids o ≡ Some k → (k < length oids) × (oid_at oids k ≡ o)
 place_found oids o k e =
     let r = found_from 0 oids o k e in let all : k - 0 ≡ k = omega arith in (omega (arith, r.1), rw all at r.2)
-
-none_from : (i : ℕ) (oids : List (List ℕ)) (o : List ℕ) → position_from (λ x. pointwise nat_eq x o) i oids ≡ None
-    → (k : ℕ) → k < length oids → oid_at oids k ≡ o → ⊥
-none_from i [] o e k l h = omega arith
-none_from i (x ∷ xs) o e k l h = by (pointwise nat_eq x o) refl e k l h (λ f j m g. none_from (i + 1) xs o f j m g)
-  where
-    by : (b : Bool) → pointwise nat_eq x o ≡ b → cond b (Some i) (position_from (λ y. pointwise nat_eq y o) (i + 1) xs) ≡ None
-        → (k : ℕ) → k < length (x ∷ xs) → oid_at (x ∷ xs) k ≡ o
-        → (position_from (λ y. pointwise nat_eq y o) (i + 1) xs ≡ None → (j : ℕ) → j < length xs → oid_at xs j ≡ o → ⊥) → ⊥
-    by true t e k l h ih = cc
-    by false t e zero l h ih = let own : pointwise nat_eq x o ≡ true = rw (sym h) (same_itself x) in cc
-    by false t e (suc k) l h ih = ih e k (omega arith) h
-
-pub place_none : (oids : List (List ℕ)) (o : List ℕ) → place_of oids o ≡ None → (k : ℕ) → k < length oids → oid_at oids k ≡ o → ⊥
-place_none oids o e = none_from 0 oids o e
 
 abbrev pub or_else : Option ℕ → Option ℕ → Option ℕ
 or_else None d = d

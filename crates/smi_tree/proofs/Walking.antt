@@ -73,9 +73,6 @@ module _ (f g : ℕ → ℕ → Option ℕ) (q : List ℕ) (at n count : ℕ)
   made_empty : (m : ℕ) → g count m ≡ None
   made_empty m = old count m (λ e h. omega (arith, at_inside)) ∙ empty m
 
-  made_walk : walk g 0 q ≡ Some at → walk g 0 (q ++ n ∷ []) ≡ Some count
-  made_walk e = walk-push g 0 q n ∙ rw e new
-
   abbrev Claim : List ℕ → Type 0
   Claim o = ((o ≡ q ++ n ∷ []) × (walk g 0 o ≡ Some count)) ⊎ ((o ≢ q ++ n ∷ []) × (walk g 0 o ≡ walk f 0 o))
 

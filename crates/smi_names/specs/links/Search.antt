@@ -1,7 +1,6 @@
 -- The state of the search for places whose chains end.
 use Rattle.std.specs.Prelude.{
   ◌≡◌,
-  ◌≢◌,
   ℕ,
   ◌<◌,
   List,
@@ -21,10 +20,6 @@ use Rattle.smi_names.specs.declared.links.order.Mark.TheVariants as M
 
 abbrev pub mark_at : List Mark → ℕ → Mark
 mark_at marks p = slice_index_or marks p M.New
-
--- a place that is reached stays reached
-abbrev pub StayReached : List Mark → List Mark → Type 0
-StayReached old new = (p : ℕ) → mark_at old p ≢ M.New → mark_at new p ≢ M.New
 
 -- the path goes from one place to the next, and its last place leads to `to`
 abbrev pub Leads : List (Option ℕ) → List ℕ → Option ℕ → Option ℕ → Type 0

@@ -3,7 +3,7 @@ ghost use Rattle.std.specs.Prelude.{◌≡◌, ◌≢◌, ◌⊎◌, ℕ, ◌<�
 ghost use Rattle.std.specs.Prelude.{Contains, Option, IfOk, IsTrue, Some, true, false, vec_len};
 ghost use Rattle.smi_names.specs.links.Chain.{HasEnd};
 ghost use Rattle.smi_names.specs.links.Order.{next_at, ComeAfterNext};
-ghost use Rattle.smi_names.specs.links.Search.{Keeps, Leads, StayReached, mark_at};
+ghost use Rattle.smi_names.specs.links.Search.{Keeps, Leads, mark_at};
 
 use std::alloc::{AllocError, Global};
 
@@ -21,8 +21,11 @@ enum Mark {
 /// The search for the places whose chains end.
 #[derive(Drop)]
 struct Search {
+    /// How far the search is with each place.
     marks: Vec<Mark>,
+    /// The places whose chains end, so far, each after the one that it leads to.
     order: Vec<usize>,
+    /// The places of a climb, from its start on.
     path: Vec<usize>,
 }
 

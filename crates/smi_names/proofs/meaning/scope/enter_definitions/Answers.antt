@@ -1,13 +1,13 @@
 -- One definition more.
 use Rattle.std.proofs.Common.{◌≡◌, ℕ, ◌+◌, ◌<◌, Bool, true, false, cond, length, List, [], ◌∷◌, Option, Some, None, get_or, take, refl, sym, ap, ◌∙◌}
 use Rattle.std.proofs.lemmas.List.{take_more, take_all}
+use Rattle.std.proofs.lemmas.Option.{slice_get_read}
 use Rattle.std.specs.Option.{option_map}
 use Rattle.smi_text.specs.trees.Mark.{same_text}
 use Rattle.smi_text.specs.trees.Lookup.{first_definition, defines}
 use Rattle.smi_text.specs.declared.trees.tree.Def.{Def}
 use Rattle.smi_names.specs.meaning.Meaning.{defined, or_else}
 use Rattle.smi_names.proofs.Knowing.{KnowsMore-then, KnowsMore-same, find-append}
-use Rattle.smi_names.proofs.Placing.{get_read}
 use Rattle.smi_names.proofs.meaning.scope.enter_definitions.Goals as goal
 
 merged : (a : Option Def) (b : Bool) (d : Def)
@@ -26,7 +26,7 @@ more ds k d x l e =
 pub enter-requires-clause-found : goal.enter-requires-clause-found
 enter-requires-clause-found c = λ d h.
     let same : c.index-defs-k.result ≡ d = cc in
-    let read = get_read c.as_slice-defs.result.now c.defs.k c.index-defs-k.result c.defs-test.true c.index-defs-k.is in
+    let read = slice_get_read c.as_slice-defs.result.now (length c.as_slice-defs.result.now) c.defs.k c.index-defs-k.result refl c.defs-test.true c.index-defs-k.is in
     rw (sym c.as_slice-defs.ensures, sym same) read
 
 pub defs-preserved : goal.defs-preserved

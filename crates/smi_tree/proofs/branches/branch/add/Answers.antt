@@ -1,29 +1,6 @@
 -- The numbers of the identifier are gone along, and it stands at the end, if none did.
-use Rattle.std.proofs.Common.{
-  rules,
-  ◌≡◌,
-  ℕ,
-  ◌+◌,
-  ◌<◌,
-  ◌≤◌,
-  true,
-  is_some,
-  Option,
-  List,
-  [],
-  ◌∷◌,
-  ◌++◌,
-  Some,
-  None,
-  get_or,
-  set,
-  take,
-  length,
-  refl,
-  sym,
-  ◌∙◌,
-  arith,
-}
+use Rattle.std.proofs.Common.{rules, ◌≡◌, ℕ, ◌+◌, ◌<◌, ◌≤◌, true, is_some, Option, List, [], ◌∷◌, ◌++◌, Some, None, get_or, set, take, length, refl, sym}
+use Rattle.std.proofs.Common.{◌∙◌, arith}
 use Rattle.std.proofs.lemmas.List.{take_more, take_all, length-set, length-take-le, get_or_default}
 use Rattle.smi_tree.specs.branches.Branches.{AreBranches, branch_of, IsBeginning}
 use Rattle.smi_tree.specs.declared.branches.branch.Branch.{Branch}

@@ -1,6 +1,7 @@
 -- One definition more.
-use Rattle.std.proofs.Common.{rules, ◌≡◌, None, [], ◌∷◌, ◌++◌, length, sym, ap, ◌∙◌, arith}
-use Rattle.smi_tree.proofs.Leading.{HoldUpTo-none, HoldUpTo-more, HoldUpTo-all, get_read}
+use Rattle.std.proofs.Common.{rules, ◌≡◌, None, [], ◌∷◌, ◌++◌, length, refl, sym, ap, ◌∙◌, arith}
+use Rattle.std.proofs.lemmas.Option.{slice_get_read}
+use Rattle.smi_tree.proofs.Leading.{HoldUpTo-none, HoldUpTo-more, HoldUpTo-all}
 use Rattle.smi_tree.proofs.types.types.module_leads.Goals as goal
 
 pub defs-init : goal.defs-init
@@ -10,7 +11,7 @@ pub defs-preserved : goal.defs-preserved
 defs-preserved c =
     let ds = c.as_slice-defs.result.now in
     let pushed : c.push.new.self.items ≡ c.defs.leads.items ++ c.lead_of_type.result ∷ [] = search rules in
-    let read = get_read ds c.defs.def-index c.def-item.result c.defs-test.true c.def-item.is in
+    let read = slice_get_read ds (length ds) c.defs.def-index c.def-item.result refl c.defs-test.true c.def-item.is in
     let led = c.lead_of_type.ensures None in
     let led' = rw (c.as_bytes-home.ensures.octets, c.object_type_of.ensures) at led in
     rw pushed (HoldUpTo-more _ _ c.defs.def-index c.defs.leads.items c.lead_of_type.result c.defs.invariant
