@@ -34,15 +34,6 @@ pub(crate) fn text(alloc: Global, octets: &[u8]) -> Result<Text, AllocError>
     Text::copied(alloc, octets)
 }
 
-/// A copy of an identifier.
-fn copied(oid: &Oid) -> Oid
-    ensures { result ≡ oid.now }
-{
-    let mut copy = Oid::new();
-    let _fits = copy.extend_from_slice(oid.as_slice());
-    copy
-}
-
 /// The identifier of one number.
 fn single(number: u32) -> Oid
     ensures { result ≡ number ∷ [] }
@@ -78,7 +69,7 @@ impl Gathered {
         let warning = match resolution {
             Resolution::Numbers(oid) => {
                 self.sources.push(source)?;
-                self.oids.push(copied(oid))?;
+                self.oids.push(oid.copy())?;
                 return Ok(());
             }
             Resolution::Cycle => Warning::Cycle(
