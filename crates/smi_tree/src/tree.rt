@@ -72,10 +72,15 @@ impl Model for Tree {
 
 /// What modules define, resolved.
 struct Resolved {
+    /// Where each node comes from.
     sources: Vec<Source>,
+    /// The identifier of each node.
     identifiers: Identifiers,
+    /// The syntax of types and objects.
     types: Types,
+    /// The index of each row.
     indexes: Indexes,
+    /// The warnings, in order of loading.
     warnings: Vec<Warning>,
 }
 

@@ -18,8 +18,11 @@ use std::alloc::{AllocError, Global};
 /// The modules and their names, each with its place.
 #[derive(Drop)]
 pub(crate) struct Directory<'a> {
+    /// The place of each module, by its name.
     pub(crate) homes: NamePlaces<'a>,
+    /// For each module, the place of the entry of each of its names.
     pub(crate) scopes: Vec<NamePlaces<'a>>,
+    /// What decides each name of each module.
     pub(crate) entries: Vec<Entry<'a>>,
 }
 

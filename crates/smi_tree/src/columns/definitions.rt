@@ -12,6 +12,7 @@ use std::marker::Model;
 /// The definitions that names lead to.
 #[derive(Drop)]
 pub(crate) struct Definitions<'n, 'a> {
+    /// What decides each name.
     entries: Entries<'n, 'a>,
     /// For each name, the place of the name at which its imports end, if they do.
     ends: Vec<Option<usize>>,

@@ -20,9 +20,13 @@ use std::marker::Model;
 /// What the objects of INDEX clauses are read by.
 #[derive(Drop)]
 pub(crate) struct Objects<'n, 'a> {
+    /// The loaded modules.
     pub(crate) modules: &'a [Module],
+    /// The definitions that names lead to.
     pub(crate) definitions: Definitions<'n, 'a>,
+    /// What names resolve to.
     names: &'n Names<'a>,
+    /// The syntax of types and objects.
     types: &'n Types,
 }
 
